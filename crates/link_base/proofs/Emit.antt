@@ -1,0 +1,106 @@
+-- A frame is written in three parts, and a list one frame after another.
+use Rattle.std.proofs.Common.{◌≡◌, ℕ, ◌+◌, ◌-◌, ◌*◌, ◌/◌, ◌≤◌, ◌<◌, List, [], ◌∷◌, ◌++◌, length, take, drop, get_or, map, zero, suc, refl, sym, ap, subst, ◌∙◌, append_assoc, arith}
+use Rattle.std.specs.Prelude.{replicate}
+use Rattle.std.specs.List.{flat_map, AllByRecursion}
+use borrow.Rule.Slice.PartMut.{put_mid}
+use Rattle.std.proofs.lemmas.List.{length-append, length-replicate, length-drop, length-take, take_at, drop_at, append-nil, nil_from_length, drop-drop, take_more, map-append, length-map, take-append-drop}
+use Rattle.std.proofs.Math.Seq.{take-length}
+use Rattle.std.proofs.lemmas.Grind.{flat_map-append}
+use Rattle.std.proofs.lemmas.Slice.{take-put_mid, drop-put_mid, drop-append-drop}
+use Rattle.link_base.specs.Number.{bytes_of}
+use Rattle.link_base.specs.Frame.{frame_bytes, gap, pad}
+use Rattle.link_base.specs.Wire.{whole}
+use Rattle.link_base.specs.Table.{AttrValue, written_kind, written_payload, written_frame, written_list, Fits}
+use Rattle.link_base.specs.Answers.{StartsWith, IsFirstUnfit}
+
+-- a written frame has the length of its header and payload, rounded up to four
+pub length-whole_bytes : (f : ℕ) (p : List ℕ) → length (frame_bytes (whole f p)) ≡ pad (4 + length p)
+length-whole_bytes f p = omega (arith, length-append p (replicate (gap p) 0), length-replicate {A = ℕ} (gap p) 0)
+
+-- header, payload and zeros, written one after another, are the frame
+pub put_frame : (b0 b1 b2 b3 : List ℕ) (f : ℕ) (p : List ℕ) (n end : ℕ) → n ≡ length p → end ≡ pad (4 + length p) → end ≤ length b0 → b1 ≡ (bytes_of 2 (4 + n) ++ bytes_of 2 f) ++ drop 4 b0
+    → b2 ≡ put_mid 4 n b1 p → b3 ≡ take (4 + n) b2 ++ (replicate (end - (4 + n)) 0 ++ drop end b2) → StartsWith b0 b3 (frame_bytes (whole f p))
+put_frame b0 b1 b2 b3 f p n end e-n e-end room e1 e2 e3 =
+    let head = bytes_of 2 (4 + n) ++ bytes_of 2 f in
+    let len1 : length b1 ≡ length b0 = omega (arith, ap length e1, length-append head (drop 4 b0), length-drop 4 b0) in
+    let front2 : take (4 + n) b2 ≡ take 4 b1 ++ p = ap (take (4 + n)) e2 ∙ take-put_mid 4 n b1 p (4 + n) (omega arith) (omega arith) in
+    let head1 : take 4 b1 ≡ head = ap (take 4) e1 ∙ take_at head (drop 4 b0) 4 refl in
+    let back2 : drop end b2 ≡ drop end b1 = ap (drop end) e2 ∙ drop-put_mid 4 n b1 p end (omega arith) (omega arith) (sym e-n) in
+    let back1 : drop end b1 ≡ drop end b0 = ap (drop end) e1 ∙ drop-append-drop 4 b0 head end (omega arith) refl in
+    let zeros : end - (4 + n) ≡ gap p = omega arith in
+    let len : end ≡ length (frame_bytes (whole f p)) = e-end ∙ sym (length-whole_bytes f p) in
+    e3 ∙ rw (front2, head1, back2, back1, zeros, len, e-n) (simp append_assoc)
+
+-- ---- one frame after another
+
+module _ {X : Type 0} (means : X → AttrValue) where
+  -- one more element of a list
+  one_more : (xs : List X) (i : ℕ) (x : X) → i < length xs → x ≡ get_or xs i x → map means (take (i + 1) xs) ≡ map means (take i xs) ++ means x ∷ []
+  one_more xs i x lt is =
+      ap (map means) (take_more xs i x lt ∙ ap (λ y. take i xs ++ y ∷ []) (sym is)) ∙ map-append means (take i xs) (x ∷ [])
+
+  -- one more frame of the written list
+  pub written_more : (xs : List X) (i : ℕ) (x : X) → i < length xs → x ≡ get_or xs i x → written_list (map means (take (i + 1) xs)) ≡ written_list (map means (take i xs)) ++ written_frame (means x)
+  written_more xs i x lt is =
+      ap written_list (one_more xs i x lt is) ∙ flat_map-append written_frame (map means (take i xs)) (means x ∷ [])
+      ∙ ap (λ (t : List ℕ). written_list (map means (take i xs)) ++ t) (append-nil (written_frame (means x)))
+
+  -- what is written so far and the next frame are no longer than the whole
+  pub written_room : (xs : List X) (i : ℕ) (x : X) → i < length xs → x ≡ get_or xs i x → length (written_list (map means (take i xs))) + length (written_frame (means x)) ≤ length (written_list (map means xs))
+  written_room xs i x lt is =
+      let front = take (i + 1) xs in
+      let back = drop (i + 1) xs in
+      let split : written_list (map means xs) ≡ written_list (map means front) ++ written_list (map means back) =
+      ap (λ ys. written_list (map means ys)) (sym (take-append-drop (i + 1) xs)) ∙ ap written_list (map-append means front back) ∙ flat_map-append written_frame (map means front) (map means back) in
+      let more = written_more xs i x lt is in
+      omega (arith, ap length split, length-append (written_list (map means front)) (written_list (map means back)), ap length more, length-append (written_list (map means (take i xs))) (written_frame (means x)))
+
+  -- a fact of the values so far and of the next
+  pub all_more : (P : AttrValue → Type 0) (xs : List X) (i : ℕ) (x : X) → i < length xs → x ≡ get_or xs i x → AllByRecursion P (map means (take i xs)) → P (means x) → AllByRecursion P (map means (take (i + 1) xs))
+  all_more P xs i x lt is all here = subst (AllByRecursion P) (sym (one_more xs i x lt is)) (push (map means (take i xs)) all)
+    where
+      push : (vs : List AttrValue) → AllByRecursion P vs → AllByRecursion P (vs ++ means x ∷ [])
+      push [] h = (here, tt)
+      push (v ∷ vs) h = (h.0, push vs h.1)
+
+  -- each element's own fact
+  pub all_at : (P : AttrValue → Type 0) (xs : List X) (i : ℕ) (d : X) → AllByRecursion P (map means xs) → i < length xs → P (means (get_or xs i d))
+  all_at P [] i d all lt = absurd (omega arith)
+  all_at P (x ∷ xs) zero d all lt = all.0
+  all_at P (x ∷ xs) (suc i) d all lt = all_at P xs i d all.1 (omega arith)
+
+  -- the first value that does not fit, where all before it do
+  pub first_unfit_at : (xs : List X) (i : ℕ) (x : X) → i < length xs → x ≡ get_or xs i x → AllByRecursion Fits (map means (take i xs)) → 65531 < length (written_payload (means x)) → IsFirstUnfit (map means xs) i
+  first_unfit_at xs i x lt is all long =
+      let front = take (i + 1) xs in
+      let back = drop (i + 1) xs in
+      let before = map means (take i xs) in
+      record {
+        before = before;
+        value = means x;
+        after = map means back;
+        values = ap (map means) (sym (take-append-drop (i + 1) xs)) ∙ map-append means front back ∙ ap (λ vs. vs ++ map means back) (one_more xs i x lt is) ∙ append_assoc before (means x ∷ []) (map means back);
+        place = omega (arith, length-map (take i xs) means, length-take i xs);
+        fit = all;
+        unfit = long;
+      }
+
+-- the buffer after one more frame
+pub frame_after : (b0 b b' text frame sub : List ℕ) (at : ℕ) → StartsWith b0 b text → at ≡ length text → length text + length frame ≤ length b0 → sub ≡ frame ++ drop (length frame) (take (length b - at) (drop at b)) → b' ≡ put_mid at (length b - at) b sub → StartsWith b0 b' (text ++ frame)
+frame_after b0 b b' text frame sub at so_far e-at room e-sub e-b' =
+    let len-b : length b ≡ length b0 = omega (arith, ap length so_far, length-append text (drop (length text) b0), length-drop (length text) b0) in
+    let front : take at b ≡ text = ap (take at) so_far ∙ take_at text (drop (length text) b0) at (sym e-at) in
+    let back : drop at b ≡ drop (length text) b0 = ap (drop at) so_far ∙ drop_at text (drop (length text) b0) at (sym e-at) in
+    let all : take (length b - at) (drop at b) ≡ drop (length text) b0 = ap (λ (n : ℕ). take n (drop at b)) (sym (length-drop at b)) ∙ take-length (drop at b) ∙ back in
+    let past : drop (length b - at) (drop at b) ≡ [] = nil_from_length (drop (length b - at) (drop at b)) (omega (arith, length-drop (length b - at) (drop at b), length-drop at b)) in
+    let far : drop (length frame) (drop (length text) b0) ≡ drop (length (text ++ frame)) b0 = drop-drop (length frame) (length text) b0 ∙ ap (λ (n : ℕ). drop n b0) (sym (length-append text frame)) in
+    let part : sub ≡ frame ++ drop (length (text ++ frame)) b0 = e-sub ∙ ap (λ (t : List ℕ). frame ++ drop (length frame) t) all ∙ ap (λ (t : List ℕ). frame ++ t) far in
+    e-b' ∙ rw (front, past, part) (simp (append_assoc, append-nil))
+
+-- where a value does not fit, not all do
+pub not_all_fit : (vs : List AttrValue) (i : ℕ) → IsFirstUnfit vs i → AllByRecursion Fits vs → ⊥
+not_all_fit vs i u all = past u.before (subst (AllByRecursion Fits) u.values all)
+  where
+    past : (before : List AttrValue) → AllByRecursion Fits (before ++ u.value ∷ u.after) → ⊥
+    past [] h = omega (arith, h.0, u.unfit)
+    past (v ∷ before) h = past before h.1

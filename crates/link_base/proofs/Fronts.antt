@@ -1,0 +1,110 @@
+-- The frame at the front of some bytes.
+use Rattle.std.proofs.Common.{◌≡◌, ◌⊎◌, ℕ, ◌+◌, ◌-◌, ◌*◌, ◌/◌, ◌%◌, ◌<◌, ◌≤◌, Bool, true, false, cond, List, [], ◌∷◌, ◌++◌, length, take, drop, Some, None, refl, sym, ap, ◌∙◌, arith, inl, inr, ⊎_elim, append_assoc, length-append, length-take, length-drop, take-append-drop}
+use Rattle.std.specs.Prelude.{nat_lt}
+use Rattle.std.proofs.lemmas.Bool.{cases_lt, cond-false, ltb-false, le-ltb}
+use Rattle.link_base.specs.Number.{IsBytes, number}
+use Rattle.link_base.specs.Frame.{Frame, IsFrame, IsComplete, frame_bytes, gap, pad, frame_fault}
+use Rattle.link_base.specs.declared.fault.Cause.{Cause}
+
+-- bytes and bytes are bytes
+pub bytes-append : (xs ys : List ℕ) → IsBytes xs → IsBytes ys → IsBytes (xs ++ ys)
+bytes-append [] ys h k = k
+bytes-append (x ∷ xs) ys h k = (h.0, bytes-append xs ys h.1 k)
+
+-- the front of bytes is bytes
+pub bytes-front : (xs ys : List ℕ) → IsBytes (xs ++ ys) → IsBytes xs
+bytes-front [] ys h = tt
+bytes-front (x ∷ xs) ys h = (h.0, bytes-front xs ys h.1)
+
+-- what follows in bytes is bytes
+pub bytes-back : (xs ys : List ℕ) → IsBytes (xs ++ ys) → IsBytes ys
+bytes-back [] ys h = h
+bytes-back (x ∷ xs) ys h = bytes-back xs ys h.1
+
+-- the payload of a frame of bytes is bytes
+pub bytes-payload : (x : Frame) (s : List ℕ) → IsBytes (frame_bytes x ++ s) → IsBytes x.payload
+bytes-payload x s h = bytes-front x.payload x.padding (bytes-front (x.payload ++ x.padding) s h.1.1.1.1)
+
+-- what follows a frame of bytes is bytes
+pub bytes-rest : (x : Frame) (s : List ℕ) → IsBytes (frame_bytes x ++ s) → IsBytes s
+bytes-rest x s h = bytes-back (frame_bytes x) s h
+
+-- how long a frame is
+pub length-frame_bytes : (x : Frame) → length (frame_bytes x) ≡ 4 + (length x.payload + length x.padding)
+length-frame_bytes x = omega (arith, length-append x.payload x.padding)
+
+-- how long a complete frame is
+pub length-complete : (x : Frame) → IsComplete x → length (frame_bytes x) ≡ pad (4 + length x.payload)
+length-complete x h = omega (arith, length-frame_bytes x, h.padding)
+
+-- three tests that fail
+no_cause : (a b c : Bool) (x y z : Cause) → a ≡ false → b ≡ false → c ≡ false → cond a (Some x) (cond b (Some y) (cond c (Some z) None)) ≡ None
+no_cause a b c x y z ha hb hc = cond-false a _ _ ha ∙ cond-false b _ _ hb ∙ cond-false c _ _ hc
+
+-- a frame has no fault
+pub frame_fault-frame : (x : Frame) (s : List ℕ) → IsFrame x → frame_fault (frame_bytes x ++ s) ≡ None
+frame_fault-frame x s h =
+    let r = frame_bytes x ++ s in
+    let m = 4 + length x.payload in
+    let n = number (take 2 r) in
+    let n_is : n ≡ m = omega (arith, h.payload) in
+    let len : length r ≡ 4 + (length x.payload + length x.padding) + length s = omega (arith, length-append (x.payload ++ x.padding) s, length-append x.payload x.padding) in
+    no_cause (nat_lt (length r) 4) (nat_lt n 4) (nat_lt (length r) n) _ _ _
+    (le-ltb (length r) 4 (omega arith)) (le-ltb n 4 (omega arith)) (le-ltb (length r) n (omega arith))
+
+-- where there is no fault, none of the tests holds
+causes : (a b c : Bool) (x y z : Cause) → cond a (Some x) (cond b (Some y) (cond c (Some z) None)) ≡ None → (a ≡ false) × (b ≡ false) × (c ≡ false)
+causes true b c x y z e = absurd cc
+causes false true c x y z e = absurd cc
+causes false false true x y z e = absurd cc
+causes false false false x y z e = (refl, refl, refl)
+
+-- the frame at the front, with all the padding that there is
+pub record Front (s : List ℕ) : Type 0 where
+  pub frame : Frame
+  pub rest : List ℕ
+  pub string : s ≡ frame_bytes frame ++ rest
+  pub is : IsFrame frame
+  pub last : (length rest ≡ 0) ⊎ IsComplete frame
+
+-- the frame at the front, from four bytes and what follows
+front_by : (a b c d : ℕ) (body : List ℕ) → a < 256 → b < 256 → c < 256 → d < 256 → 4 ≤ a + 256 * b → a + 256 * b ≤ 4 + length body → Front (a ∷ b ∷ c ∷ d ∷ body)
+front_by a b c d body ha hb hc hd low high =
+    let n = a + 256 * b in
+    let f = c + 256 * d in
+    let p = take (n - 4) body in
+    let after = drop (n - 4) body in
+    let z = take (gap p) after in
+    let rest = drop (gap p) after in
+    let len : length p ≡ n - 4 = omega (arith, length-take (n - 4) body) in
+    let e0 : a ≡ (4 + length p) % 256 = omega arith in
+    let e1 : b ≡ (4 + length p) / 256 % 256 = omega arith in
+    let e2 : c ≡ f % 256 = omega arith in
+    let e3 : d ≡ f / 256 % 256 = omega arith in
+    let e4 : body ≡ (p ++ z) ++ rest =
+    sym (take-append-drop (n - 4) body) ∙ ap (λ t. p ++ t) (sym (take-append-drop (gap p) after)) ∙ sym (append_assoc p z rest) in
+    record {
+      frame = record { kind_field = f; payload = p; padding = z };
+      rest = rest;
+      string = λ i. e0 i ∷ e1 i ∷ e2 i ∷ e3 i ∷ e4 i;
+      is = record { kind_field = omega arith; payload = omega arith; padding = omega (arith, length-take (gap p) after) };
+      last = ⊎_elim
+          (λ (short : length after < gap p). inl (omega (arith, length-drop (gap p) after)))
+          (λ (long : gap p ≤ length after). inr (record { kind_field = omega arith; payload = omega arith; padding = omega (arith, length-take (gap p) after) }))
+          (cases_lt (length after) (gap p));
+    }
+
+-- the frame at the front, where its length is possible
+front_from : (s : List ℕ) → IsBytes s → 4 ≤ length s → 4 ≤ number (take 2 s) → number (take 2 s) ≤ length s → Front s
+front_from [] h four low high = absurd (omega arith)
+front_from (a ∷ []) h four low high = absurd (omega arith)
+front_from (a ∷ b ∷ []) h four low high = absurd (omega arith)
+front_from (a ∷ b ∷ c ∷ []) h four low high = absurd (omega arith)
+front_from (a ∷ b ∷ c ∷ d ∷ body) h four low high = front_by a b c d body h.0 h.1.0 h.1.1.0 h.1.1.1.0 (omega arith) (omega arith)
+
+-- bytes without a frame fault begin with a frame
+pub Front-no_fault : (s : List ℕ) → IsBytes s → frame_fault s ≡ None → Front s
+Front-no_fault s h e =
+    let n = number (take 2 s) in
+    let tests = causes (nat_lt (length s) 4) (nat_lt n 4) (nat_lt (length s) n) _ _ _ e in
+    front_from s h (ltb-false (length s) 4 tests.0) (ltb-false n 4 tests.1) (ltb-false (length s) n tests.2)

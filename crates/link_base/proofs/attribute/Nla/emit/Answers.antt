@@ -1,0 +1,22 @@
+use Rattle.std.proofs.Common.{arith, length, ap, sym, ◌∙◌, ℕ, ◌≡◌, ◌+◌, ◌-◌, ◌*◌, ◌/◌, List, refl, subst}
+use borrow.Rule.Slice.PartMut.{put_mid}
+use Rattle.link_base.specs.Frame.{frame_bytes}
+use Rattle.link_base.specs.Wire.{whole}
+use Rattle.link_base.specs.Table.{written_payload, written_kind}
+use Rattle.link_base.specs.Answers.{StartsWith}
+use Rattle.link_base.proofs.Emit.{put_frame, length-whole_bytes}
+use Rattle.link_base.proofs.attribute.Nla.emit.Goals as goal
+
+pub returns-clause-written : goal.returns-clause-written
+returns-clause-written g c =
+    let v = g.Self.Meaning.means c.args.self.now in
+    let p = written_payload v in
+    let f = c.kind.result in
+    let n = c.value_len-size.result in
+    let size : n ≡ length p = omega (arith, c.value_len-size.ensures, c.requires.fits) in
+    let len = length-whole_bytes (written_kind v) p in
+    let k : 4 + n - 4 ≡ n = omega arith in
+    let end = (n + 7) / 4 * 4 in
+    let done = put_frame c.args.buffer.now c.put_header.new.buffer (put_mid 4 (4 + n - 4) c.put_header.new.buffer c.emit_value.new.buffer) c.put_zeros.new.buffer f p n end size (omega (arith, size)) (omega (arith, size, len, c.requires.room))
+    c.put_header.ensures (rw (k, c.emit_value.ensures.written) refl) c.put_zeros.ensures in
+    subst (λ (m : ℕ). StartsWith c.args.buffer.now c.put_zeros.new.buffer (frame_bytes (whole m p))) c.kind.ensures done

@@ -1,0 +1,106 @@
+-- What calls answer.
+use Rattle.std.specs.Prelude.{◌≡◌, ℕ, ◌+◌, ◌-◌, ◌<◌, ◌≤◌, ◌^◌, min, List, [], ◌∷◌, ◌++◌, length, drop, Result, Ok, Err}
+use Rattle.std.specs.List.{AllByRecursion}
+use Rattle.std.specs.Global.{Vec}
+use Rattle.link_base.specs.declared.fault.Cause.{Cause}
+use Rattle.link_base.specs.declared.fault.DecodeFault.{DecodeFault}
+use Rattle.link_base.specs.declared.fault.DecodeFault.TheVariants as faults
+use Rattle.link_base.specs.declared.fault.DecodeError.{DecodeError}
+use Rattle.link_base.specs.declared.fault.DecodeError.TheVariants as errors
+use Rattle.link_base.specs.declared.fault.ListError.{ListError}
+use Rattle.link_base.specs.declared.fault.ListError.TheVariants as list_errors
+use Rattle.link_base.specs.declared.fault.WriteError.{WriteError}
+use Rattle.link_base.specs.declared.fault.WriteError.TheVariants as write_errors
+use Rattle.link_base.specs.Wire.{Reading, Wire, FirstFault}
+use Rattle.link_base.specs.Table.{AttrValue, written_payload, written_list, Fits, nested_fault}
+
+-- ---- reading one value
+
+-- the error of a payload with this cause
+abbrev pub refused : Cause → DecodeError
+refused c = errors.Fault (faults.Payload c)
+
+-- what a reader of one payload answers
+abbrev pub payload_result : {A : Type 0} → Result A Cause → Result A DecodeError
+payload_result (Ok a) = Ok a
+payload_result (Err c) = Err (refused c)
+
+-- the fault, unless memory ran out
+abbrev pub Fails : {V : Type 0} → DecodeError → (Result V DecodeFault → Type 0) → Type 0
+Fails (errors.Fault f) given = given (Err f)
+Fails (errors.Memory e) given = Unit {0}
+
+-- what was read, or its fault, unless memory ran out
+abbrev pub Answers : {X V : Type 0} → (X → V) → Result X DecodeError → (Result V DecodeFault → Type 0) → Type 0
+Answers view (Ok x) given = given (Ok (view x))
+Answers view (Err e) given = Fails e given
+
+-- the fact holds where memory ran out
+abbrev pub OnMemory : {X : Type 0} → Result X DecodeError → Type 0 → Type 0
+OnMemory (Ok x) P = Unit {0}
+OnMemory (Err (errors.Fault f)) P = Unit {0}
+OnMemory (Err (errors.Memory e)) P = P
+
+-- the fault of a payload under its kind
+abbrev pub value_fault : ℕ → DecodeFault → DecodeFault
+value_fault kind (faults.Payload c) = faults.Value kind c
+value_fault kind f = f
+
+-- the error of a payload under its kind
+abbrev pub value_error : ℕ → DecodeError → DecodeError
+value_error kind (errors.Memory e) = errors.Memory e
+value_error kind (errors.Fault f) = errors.Fault (value_fault kind f)
+
+-- ---- reading a list
+
+-- the first fault, unless memory ran out
+abbrev pub ListFails : {V : Type 0} → ListError → Reading V → List ℕ → Type 0
+ListFails (list_errors.Fault at f) gives s = FirstFault gives s at f
+ListFails (list_errors.Memory e) gives s = Unit {0}
+
+-- the values of the grammar, or the first fault, unless memory ran out
+abbrev pub ListAnswers : {X V : Type 0} → (X → List V) → Result X ListError → Reading V → List ℕ → Type 0
+ListAnswers view (Ok x) gives s = Wire gives s (view x)
+ListAnswers view (Err e) gives s = ListFails e gives s
+
+-- the fact holds where memory ran out
+abbrev pub OnListMemory : {X : Type 0} → Result X ListError → Type 0 → Type 0
+OnListMemory (Ok x) P = Unit {0}
+OnListMemory (Err (list_errors.Fault at f)) P = Unit {0}
+OnListMemory (Err (list_errors.Memory e)) P = P
+
+-- the error of a list whose frame at this offset has this error
+abbrev pub list_error : ℕ → DecodeError → ListError
+list_error at (errors.Memory e) = list_errors.Memory e
+list_error at (errors.Fault f) = list_errors.Fault at f
+
+-- the error of a kind whose list has this error
+abbrev pub nested_error : ℕ → ListError → DecodeError
+nested_error kind (list_errors.Memory e) = errors.Memory e
+nested_error kind (list_errors.Fault at f) = errors.Fault (nested_fault kind f)
+
+-- ---- writing
+
+-- at most the greatest `usize`
+abbrev pub capped : ℕ → ℕ
+capped n = min n (2 ^ 64 - 1)
+
+-- the new bytes begin with the text, and are the old ones behind it
+abbrev pub StartsWith : List ℕ → List ℕ → List ℕ → Type 0
+StartsWith old new text = new ≡ text ++ drop (length text) old
+
+-- the values before place i fit, and the one at i does not
+pub record IsFirstUnfit (vs : List AttrValue) (i : ℕ) : Type 0 where
+  pub before : List AttrValue
+  pub value : AttrValue
+  pub after : List AttrValue
+  pub values : vs ≡ before ++ value ∷ after
+  pub place : i ≡ length before
+  pub fit : AllByRecursion Fits before
+  pub unfit : 65531 < length (written_payload value)
+
+-- the written list of values that all fit; or the first that does not; or no memory, for some values that all fit
+abbrev pub WriteAnswers : List AttrValue → Result (Vec ℕ) WriteError → Type 0
+WriteAnswers vs (Ok out) = AllByRecursion Fits vs × (out.items ≡ written_list vs)
+WriteAnswers vs (Err (write_errors.TooLong i)) = IsFirstUnfit vs i
+WriteAnswers vs (Err (write_errors.Memory e)) = AllByRecursion Fits vs × (0 < length vs)

@@ -1,0 +1,203 @@
+-- Classes of payload: which payloads they accept, what these mean, and how a value is written.
+use Rattle.std.specs.Prelude.{◌≡◌, ◌⊎◌, ℕ, ℤ, FitsSigned, ◌%◌, ◌<◌, ◌≤◌, ◌==◌, Bool, true, List, [], ◌∷◌, ◌++◌, length, take, drop, reverse, slice_index, Option, Some, None, Result, Ok, Err, nat_lt, if◌then◌else◌}
+use Rattle.std.specs.Int.{w32, cast_signed, cast_unsigned}
+use Rattle.std.specs.List.{list_any}
+use Rattle.std.specs.Str.{IsUtf8}
+use Rattle.link_base.specs.Number.{IsBytes, number, bytes_of, bound}
+use Rattle.link_base.specs.Name.{name_of, name_field, cut_name, HasNoNul, IsNameField}
+use Rattle.link_base.specs.declared.fault.Cause.{Cause}
+use Rattle.link_base.specs.declared.fault.Cause.TheVariants.{WrongLength, TooShort}
+
+-- ---- lengths
+
+-- how long a payload may be: so many bytes and no others; so many, and any that follow are ignored;
+-- so many, where too few and too many have causes of their own; a multiple of so many
+pub data Extent : Type 0 where
+  Exactly AtLeast Whole Multiple : ℕ → Extent
+
+-- how many bytes have a meaning
+abbrev pub size_of : Extent → ℕ
+size_of (Exactly n) = n
+size_of (AtLeast n) = n
+size_of (Whole n) = n
+size_of (Multiple n) = 0
+
+-- why a payload of this length is refused
+abbrev pub length_cause : Extent → ℕ → Option Cause
+length_cause (Exactly n) got = if got == n then None else Some (WrongLength n got)
+length_cause (AtLeast n) got = if nat_lt got n then Some (TooShort n got) else None
+length_cause (Whole n) got = if nat_lt got n then Some (TooShort n got) else (if nat_lt n got then Some (WrongLength n got) else None)
+length_cause (Multiple n) got = if got % n == 0 then None else Some (WrongLength n got)
+
+-- a value, unless there is a cause
+abbrev pub unless : {A : Type 0} → Option Cause → A → Result A Cause
+unless None x = Ok x
+unless (Some c) x = Err c
+
+-- what a payload of this extent means, or the cause of its refusal
+abbrev pub accepted : {A : Type 0} → Extent → (List ℕ → A) → List ℕ → Result A Cause
+accepted e meaning p = unless (length_cause e (length p)) (meaning p)
+
+-- ---- classes and their values
+
+pub data Class : Type 0 where
+  -- a number of so many bytes, or a set of flags
+  Unsigned : ℕ → Class
+  -- a signed number of four bytes
+  Signed : Class
+  -- false for a zero byte, true for any other
+  Truth : Class
+  -- octets as they stand: hardware and IP addresses, and records
+  Octets : Extent → Class
+  -- bytes of any number
+  Bytes : Class
+  -- numbers of so many bytes, one after another
+  Many : ℕ → Class
+  -- a number of so many bytes, some of which have names
+  Named : ℕ → List ℕ → Class
+  -- a VLAN protocol: an EtherType of two bytes, the highest first
+  Protocol : Class
+  -- the first of two bytes, as a set of flags
+  Low : Class
+  -- nothing, whatever the payload holds
+  Empty : Class
+  -- the limits of a CAN controller: a name field, and eight numbers of four bytes
+  Limits : Class
+
+pub data Value : Type 0 where
+  -- so many bytes, and the number
+  Number : ℕ → ℕ → Value
+  Integer : ℤ → Value
+  Boolean : Bool → Value
+  Raw : List ℕ → Value
+  -- a number that has a name, and how many bytes it takes
+  Name : ℕ → ℕ → Value
+  -- a number in `Other`, how many bytes it takes, and the numbers that have names
+  Unlisted : ℕ → List ℕ → ℕ → Value
+  EtherType : ℕ → Value
+  LowByte : ℕ → Value
+  Nothing : Value
+  -- a name, and the 32 bytes of the numbers
+  Limited : List ℕ → List ℕ → Value
+
+-- how long the payloads of a class are
+abbrev pub extent : Class → Extent
+extent (Unsigned n) = Exactly n
+extent Signed = Exactly 4
+extent Truth = Exactly 1
+extent (Octets e) = e
+extent Bytes = AtLeast 0
+extent (Many n) = Multiple n
+extent (Named n listed) = Exactly n
+extent Protocol = Exactly 2
+extent Low = Exactly 2
+extent Empty = AtLeast 0
+extent Limits = AtLeast 48
+
+-- the number has a name
+abbrev pub is_listed : List ℕ → ℕ → Bool
+is_listed listed d = list_any (λ l. l == d) listed
+
+-- a number that may have a name
+abbrev pub named : ℕ → List ℕ → ℕ → Value
+named n listed d = if is_listed listed d then Name n d else Unlisted n listed d
+
+-- 802.1ad is 0x88A8, and every other number is 802.1Q, 0x8100
+abbrev pub ether_type : ℕ → ℕ
+ether_type n = if n == 0x88A8 then 0x88A8 else 0x8100
+
+-- a signed number of four bytes
+abbrev pub integer : List ℕ → ℤ
+integer p = cast_signed w32 (number p)
+
+-- what an accepted payload means
+abbrev pub meant : Class → List ℕ → Value
+meant (Unsigned n) p = Number n (number p)
+meant Signed p = Integer (integer p)
+meant Truth p = Boolean (nat_lt 0 (number p))
+meant (Octets e) p = Raw (take (size_of e) p)
+meant Bytes p = Raw p
+meant (Many n) p = Raw p
+meant (Named n listed) p = named n listed (number p)
+meant Protocol p = EtherType (ether_type (number (reverse p)))
+meant Low p = LowByte (slice_index p 0)
+meant Empty p = Nothing
+meant Limits p = Limited (name_of (take 16 p)) (take 32 (drop 16 p))
+
+-- the class value of a payload, or the cause of its refusal
+abbrev pub class_value : Class → List ℕ → Result Value Cause
+class_value c p = accepted (extent c) (meant c) p
+
+-- the written payload of a value
+abbrev pub written : Value → List ℕ
+written (Number n x) = bytes_of n x
+written (Integer z) = bytes_of 4 (cast_unsigned w32 z)
+written (Boolean b) = (if b then 1 else 0) ∷ []
+written (Raw bytes) = bytes
+written (Name n d) = bytes_of n d
+written (Unlisted n listed d) = bytes_of n d
+written (EtherType d) = reverse (bytes_of 2 d)
+written (LowByte b) = b ∷ 0 ∷ []
+written Nothing = []
+written (Limited name rest) = name_field name ++ rest
+
+-- ---- canon and cut
+
+-- `Other` of a number that has a name becomes the name
+abbrev pub canon : Value → Value
+canon (Unlisted n listed d) = named n listed d
+canon v = v
+
+-- a name becomes what is read back of it
+abbrev pub cut : Value → Value
+cut (Limited name rest) = Limited (cut_name name) rest
+cut v = v
+
+-- a name is written whole
+abbrev pub IsUncut : Value → Type 0
+IsUncut (Limited name rest) = HasNoNul name × (length name ≤ 15)
+IsUncut v = Unit {0}
+
+-- ---- what a program can hold
+
+-- the value is one of the class, and its numbers and texts are those of their types
+abbrev pub IsInRange : Class → Value → Type 0
+IsInRange (Unsigned n) (Number m x) = (m ≡ n) × (x < bound n)
+IsInRange Signed (Integer z) = FitsSigned w32 z
+IsInRange Truth (Boolean b) = Unit {0}
+IsInRange (Octets e) (Raw bytes) = (length bytes ≡ size_of e) × IsBytes bytes
+IsInRange Bytes (Raw bytes) = IsBytes bytes
+IsInRange (Many n) (Raw bytes) = (length bytes % n ≡ 0) × IsBytes bytes
+IsInRange (Named n listed) (Name m d) = (m ≡ n) × (d < bound n) × (is_listed listed d ≡ true)
+IsInRange (Named n listed) (Unlisted m names d) = (m ≡ n) × (d < bound n) × (names ≡ listed)
+IsInRange Protocol (EtherType d) = (d ≡ 0x8100) ⊎ (d ≡ 0x88A8)
+IsInRange Low (LowByte b) = b < 256
+IsInRange Empty Nothing = Unit {0}
+IsInRange Limits (Limited name rest) = IsUtf8 name × (length rest ≡ 32) × IsBytes rest
+IsInRange c v = ⊥
+
+-- ---- canonical payloads
+
+-- an accepted payload is the one form of its value
+abbrev pub IsTidy : Class → List ℕ → Type 0
+IsTidy Truth p = (p ≡ 0 ∷ []) ⊎ (p ≡ 1 ∷ [])
+IsTidy (Octets e) p = length p ≡ size_of e
+IsTidy Protocol p = (p ≡ 0x81 ∷ 0x00 ∷ []) ⊎ (p ≡ 0x88 ∷ 0xA8 ∷ [])
+IsTidy Low p = slice_index p 1 ≡ 0
+IsTidy Empty p = p ≡ []
+IsTidy Limits p = (length p ≡ 48) × IsNameField (take 16 p)
+IsTidy c p = Unit {0}
+
+-- a payload that is accepted, and tidy
+pub record IsCanonicalPayload (c : Class) (p : List ℕ) : Type 0 where
+  pub is_accepted : length_cause (extent c) (length p) ≡ None
+  pub is_tidy : IsTidy c p
+
+-- ---- memory
+
+-- a value of the class is held in memory of its own
+abbrev pub TakesMemory : Class → Type 0
+TakesMemory Bytes = Unit {0}
+TakesMemory (Many n) = Unit {0}
+TakesMemory Limits = Unit {0}
+TakesMemory c = ⊥

@@ -1,0 +1,15 @@
+pub mod Number
+pub mod Frame
+pub mod Name
+pub mod Class
+pub mod Wire
+pub mod Table
+pub mod Held
+pub mod WellFormed
+pub mod Lawful
+pub mod Texts
+pub mod Buffer
+pub mod Answers
+pub mod Default
+pub mod Items
+pub mod Lift

@@ -1,0 +1,15 @@
+-- A table without lists, as a table.
+use Rattle.std.specs.Prelude.{List, map}
+use Rattle.link_base.specs.Class.{Class}
+use Rattle.link_base.specs.Table.{Row, Rows, row, Leaf, Case, Other, Shape, One, Single, Table, AttrValue}
+
+abbrev pub lift_row : Row Class → Row Shape
+lift_row r = row r.kind (One r.class)
+
+abbrev pub lift_table : Rows → Table
+lift_table rows = map lift_row rows
+
+-- an attribute of such a table
+abbrev pub lift : Leaf → AttrValue
+lift (Case k v) = Case k (Single v)
+lift (Other f p) = Other f p

@@ -1,0 +1,255 @@
+-- Tables of attributes: what a kind field and a payload read as, and how a value is written.
+use Rattle.std.specs.Prelude.{◌≡◌, ℕ, ◌+◌, ◌<◌, ◌≤◌, ◌==◌, Bool, List, [], ◌∷◌, length, map, Option, Some, None, Result, Ok, Err, if◌then◌else◌}
+use Rattle.std.specs.List.{filter, AllByRecursion}
+use Rattle.link_base.specs.declared.fault.Cause.{Cause}
+use Rattle.link_base.specs.declared.fault.DecodeFault.{DecodeFault}
+use Rattle.link_base.specs.declared.fault.DecodeFault.TheVariants as faults
+use Rattle.link_base.specs.Frame.{Frame, IsComplete, kind_of, frame_bytes, spelled}
+use Rattle.link_base.specs.Class
+use Rattle.link_base.specs.Class.{Class, Value, class_value, written, IsCanonicalPayload}
+use Rattle.link_base.specs.Wire.{Reading, Reads, Wire, CanonicalBy, RewritingBy, written_by, FitsBy, whole}
+
+-- ---- rows, and attributes of a table
+
+-- a kind, and what its payloads are
+pub record Row (C : Type 0) : Type 0 where
+  pub kind : ℕ
+  pub class : C
+
+-- the row of this kind
+abbrev pub row : {C : Type 0} → ℕ → C → Row C
+row k c = record { kind = k; class = c }
+
+-- what the payloads of a kind are, where a row has it
+abbrev pub class_at : {C : Type 0} → List (Row C) → ℕ → Option C
+class_at [] k = None
+class_at (r ∷ rows) k = if r.kind == k then Some r.class else class_at rows k
+
+-- an attribute: the case of a kind that has a row, or any other kind field and payload
+pub data Attr (V : Type 0) : Type 0 where
+  Case : ℕ → V → Attr V
+  Other : ℕ → List ℕ → Attr V
+
+-- ---- tables without lists
+
+abbrev pub Rows : Type 0
+Rows = List (Row Class)
+
+abbrev pub Leaf : Type 0
+Leaf = Attr Value
+
+-- the case of a kind, or the fault of its payload
+abbrev pub leaf_case : ℕ → Result Value Cause → Result Leaf DecodeFault
+leaf_case k (Ok v) = Ok (Case k v)
+leaf_case k (Err c) = Err (faults.Value k c)
+
+abbrev pub leaf_by : Option Class → ℕ → List ℕ → Result Leaf DecodeFault
+leaf_by None f p = Ok (Other f p)
+leaf_by (Some c) f p = leaf_case (kind_of f) (class_value c p)
+
+-- what a kind field and a payload read as in a table without lists
+abbrev pub LeafGives : Rows → Reading Leaf
+LeafGives rows f p r = r ≡ leaf_by (class_at rows (kind_of f)) f p
+
+-- the written kind field: a case has no flags, and `Other` keeps its own
+abbrev pub leaf_field : Leaf → ℕ
+leaf_field (Case k v) = k
+leaf_field (Other f p) = f
+
+abbrev pub leaf_payload : Leaf → List ℕ
+leaf_payload (Case k v) = written v
+leaf_payload (Other f p) = p
+
+-- the bytes of a nested list
+abbrev pub written_leaves : List Leaf → List ℕ
+written_leaves vs = written_by leaf_field leaf_payload vs
+
+-- ---- tables with lists
+
+-- what the payloads of a kind are
+pub data Shape : Type 0 where
+  One : Class → Shape
+  -- a list of a table, and whether its kind is written with the nested flag
+  Nested : Bool → Rows → Shape
+  -- addresses of so many bytes
+  Addresses : ℕ → Shape
+
+pub data Content : Type 0 where
+  Single : Value → Content
+  Inner : Bool → List Leaf → Content
+  Listed : List (List ℕ) → Content
+
+abbrev pub Table : Type 0
+Table = List (Row Shape)
+
+abbrev pub AttrValue : Type 0
+AttrValue = Attr Content
+
+-- the case of a kind of one class, or the fault of its payload
+abbrev pub single_case : ℕ → Result Value Cause → Result AttrValue DecodeFault
+single_case k (Ok v) = Ok (Case k (Single v))
+single_case k (Err c) = Err (faults.Value k c)
+
+-- the fault of a list under a kind
+abbrev pub nested_fault : ℕ → DecodeFault → DecodeFault
+nested_fault k (faults.Frame c) = faults.NestedFrame k c
+nested_fault k (faults.Value inner c) = faults.NestedValue k inner c
+nested_fault k fault = fault
+
+-- the case of a kind whose list reads so, or its fault
+abbrev pub list_case : {V : Type 0} → (List V → Content) → ℕ → Result (List V) (ℕ × DecodeFault) → Result AttrValue DecodeFault
+list_case content k (Ok vs) = Ok (Case k (content vs))
+list_case content k (Err e) = Err (nested_fault k e.1)
+
+-- what a payload reads as that is a list
+abbrev pub ListGives : {V : Type 0} → Reading V → (List V → Content) → ℕ → List ℕ → Result AttrValue DecodeFault → Type 0
+ListGives {V} gives content k p r = (q : Result (List V) (ℕ × DecodeFault)) × Reads gives p q × (r ≡ list_case content k q)
+
+-- an element of an address list reads as its payload, whatever its kind
+abbrev pub PayloadGives : Reading (List ℕ)
+PayloadGives f p r = r ≡ Ok p
+
+-- the payloads of so many bytes
+abbrev pub of_length : ℕ → List (List ℕ) → List (List ℕ)
+of_length n payloads = filter (λ p. length p == n) payloads
+
+abbrev pub ShapeGives : Shape → ℕ → List ℕ → Result AttrValue DecodeFault → Type 0
+ShapeGives (One c) k p r = r ≡ single_case k (class_value c p)
+ShapeGives (Nested flagged rows) k p r = ListGives (LeafGives rows) (Inner flagged) k p r
+ShapeGives (Addresses n) k p r = ListGives PayloadGives (λ payloads. Listed (of_length n payloads)) k p r
+
+abbrev pub GivesBy : Option Shape → Reading AttrValue
+GivesBy None f p r = r ≡ Ok (Other f p)
+GivesBy (Some shape) f p r = ShapeGives shape (kind_of f) p r
+
+-- what a kind field and a payload read as in a table
+abbrev pub Gives : Table → Reading AttrValue
+Gives table f p r = GivesBy (class_at table (kind_of f)) f p r
+
+-- ---- what is written
+
+-- addresses as elements of the kinds 0, 1, 2 and on
+abbrev pub addresses_from : ℕ → List (List ℕ) → List Frame
+addresses_from i [] = []
+addresses_from i (a ∷ others) = whole i a ∷ addresses_from (i + 1) others
+
+abbrev pub nested_flag : Bool → ℕ
+nested_flag flagged = if flagged then 0x8000 else 0
+
+abbrev pub content_flag : Content → ℕ
+content_flag (Inner flagged vs) = nested_flag flagged
+content_flag content = 0
+
+abbrev pub content_payload : Content → List ℕ
+content_payload (Single v) = written v
+content_payload (Inner flagged vs) = written_leaves vs
+content_payload (Listed octets) = spelled (addresses_from 0 octets)
+
+-- the written kind field
+abbrev pub written_kind : AttrValue → ℕ
+written_kind (Case k content) = k + content_flag content
+written_kind (Other f p) = f
+
+-- the written payload
+abbrev pub written_payload : AttrValue → List ℕ
+written_payload (Case k content) = content_payload content
+written_payload (Other f p) = p
+
+-- the written frame: complete, padded with zeros
+abbrev pub written_frame : AttrValue → List ℕ
+written_frame v = frame_bytes (whole (written_kind v) (written_payload v))
+
+-- the written list: the frames, one after another
+abbrev pub written_list : List AttrValue → List ℕ
+written_list vs = written_by written_kind written_payload vs
+
+-- a frame holds the written payload
+abbrev pub Fits : AttrValue → Type 0
+Fits v = FitsBy written_payload v
+
+-- ---- canon and cut
+
+abbrev pub leaf_canon : Leaf → Leaf
+leaf_canon (Case k v) = Case k (Class.canon v)
+leaf_canon (Other f p) = Other f p
+
+abbrev pub leaf_cut : Leaf → Leaf
+leaf_cut (Case k v) = Case k (Class.cut v)
+leaf_cut (Other f p) = Other f p
+
+abbrev pub content_canon : Content → Content
+content_canon (Single v) = Single (Class.canon v)
+content_canon (Inner flagged vs) = Inner flagged (map leaf_canon vs)
+content_canon (Listed octets) = Listed octets
+
+-- `Other` of each number that has a name becomes the name
+abbrev pub canon : AttrValue → AttrValue
+canon (Case k content) = Case k (content_canon content)
+canon (Other f p) = Other f p
+
+abbrev pub content_cut : Content → Content
+content_cut (Single v) = Single (Class.cut v)
+content_cut (Inner flagged vs) = Inner flagged (map leaf_cut vs)
+content_cut (Listed octets) = Listed octets
+
+-- each name becomes what is read back of it
+abbrev pub cut : AttrValue → AttrValue
+cut (Case k content) = Case k (content_cut content)
+cut (Other f p) = Other f p
+
+-- ---- canonical kind fields and payloads
+
+abbrev pub leaf_allows_by : Option Class → ℕ → List ℕ → Type 0
+leaf_allows_by None f p = Unit {0}
+leaf_allows_by (Some c) f p = (f < 16384) × IsCanonicalPayload c p
+
+abbrev pub LeafAllows : Rows → ℕ → List ℕ → Type 0
+LeafAllows rows f p = leaf_allows_by (class_at rows (kind_of f)) f p
+
+-- complete elements of the kinds 0, 1, 2 and on, each of so many bytes
+pub record AreAddresses (n : ℕ) (p : List ℕ) : Type 0 where
+  pub addresses : List (List ℕ)
+  pub each : AllByRecursion (λ a. length a ≡ n) addresses
+  pub complete : AllByRecursion IsComplete (addresses_from 0 addresses)
+  pub string : p ≡ spelled (addresses_from 0 addresses)
+
+abbrev pub IsCanonicalContent : Shape → List ℕ → Type 0
+IsCanonicalContent (One c) p = IsCanonicalPayload c p
+IsCanonicalContent (Nested flagged rows) p = CanonicalBy (LeafAllows rows) p
+IsCanonicalContent (Addresses n) p = AreAddresses n p
+
+abbrev pub shape_flag : Shape → ℕ
+shape_flag (Nested flagged rows) = nested_flag flagged
+shape_flag shape = 0
+
+abbrev pub allows_by : Option Shape → ℕ → List ℕ → Type 0
+allows_by None f p = Unit {0}
+allows_by (Some shape) f p = (f ≡ kind_of f + shape_flag shape) × IsCanonicalContent shape p
+
+-- the kind field is the row's, with its flag, and the payload is canonical; or no row has the kind
+abbrev pub Allows : Table → ℕ → List ℕ → Type 0
+Allows table f p = allows_by (class_at table (kind_of f)) f p
+
+-- ---- lists of a table
+
+-- the canonical grammar
+abbrev pub Canonical : Table → List ℕ → Type 0
+Canonical table s = CanonicalBy (Allows table) s
+
+-- t is what is written for the values of s, which all fit
+abbrev pub Rewriting : Table → List ℕ → List ℕ → Type 0
+Rewriting table s t = RewritingBy (Gives table) written_kind written_payload s t
+
+-- ---- memory
+
+abbrev pub ShapeTakesMemory : Shape → Type 0
+ShapeTakesMemory (One c) = Class.TakesMemory c
+ShapeTakesMemory shape = Unit {0}
+
+abbrev pub TakesMemoryBy : Option Shape → Type 0
+TakesMemoryBy None = Unit {0}
+TakesMemoryBy (Some shape) = ShapeTakesMemory shape
+
+-- a value of this kind field is held in memory of its own
+abbrev pub TakesMemory : Table → ℕ → Type 0
+TakesMemory table f = TakesMemoryBy (class_at table (kind_of f))

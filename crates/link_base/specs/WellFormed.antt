@@ -1,0 +1,50 @@
+-- Tests that each table passes: they compute.
+use Rattle.std.specs.Prelude.{ℕ, ◌+◌, ◌≤◌, ◌==◌, ◌&&◌, ◌||◌, Bool, true, false, List, [], ◌∷◌, length, Option, Some, None, nat_lt, nat_le}
+use Rattle.std.specs.List.{list_all}
+use Rattle.link_base.specs.Number.{bound}
+use Rattle.link_base.specs.Class.{Extent, Exactly, AtLeast, Whole, Multiple, Class, Octets, Many, Named, Empty, Limits}
+use Rattle.link_base.specs.Table.{Row, Rows, Shape, One, Nested, Addresses, Table}
+
+-- octets are so many
+abbrev pub is_record : Extent → Bool
+is_record (Multiple n) = false
+is_record e = true
+
+-- octets are so many, numbers have two or four bytes, and the numbers with names are small enough
+abbrev pub is_class : Class → Bool
+is_class (Octets e) = is_record e
+is_class (Many n) = n == 2 || n == 4
+is_class (Named n listed) = list_all (λ d. nat_lt d (bound n)) listed
+is_class c = true
+
+-- what is written is as long as the payload
+abbrev pub is_kept : Class → Bool
+is_kept (Octets (AtLeast n)) = false
+is_kept (Octets (Multiple n)) = false
+is_kept Empty = false
+is_kept Limits = false
+is_kept c = true
+
+-- rows of rising kinds below 16384, each of which passes a test
+abbrev pub are_rows : {C : Type 0} → (C → Bool) → ℕ → List (Row C) → Bool
+are_rows test least [] = true
+are_rows test least (r ∷ rows) = nat_le least r.kind && (nat_lt r.kind 16384 && (test r.class && are_rows test (r.kind + 1) rows))
+
+-- a row of a nested list is of one length
+abbrev pub is_nested_class : Class → Bool
+is_nested_class c = is_class c && is_kept c
+
+-- addresses have 4 or 16 bytes
+abbrev pub is_shape : Shape → Bool
+is_shape (One c) = is_class c
+is_shape (Nested flagged rows) = are_rows is_nested_class 0 rows
+is_shape (Addresses n) = n == 4 || n == 16
+
+-- the table is well formed
+abbrev pub is_table : Table → Bool
+is_table table = are_rows is_shape 0 table
+
+-- a list whose last element lacks padding at the end of the longest payloads
+abbrev pub IsOverfull : Option Shape → List ℕ → Type 0
+IsOverfull (Some (Nested flagged rows)) p = 65529 ≤ length p
+IsOverfull shape p = ⊥

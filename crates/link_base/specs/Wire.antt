@@ -1,0 +1,82 @@
+-- The grammars of lists, over any reading of one attribute.
+use Rattle.std.specs.Prelude.{◌≡◌, ◌⊎◌, ℕ, ◌<◌, ◌≤◌, List, ◌++◌, length, replicate, Some, Result, Ok, Err}
+use Rattle.std.specs.List.{flat_map, AllZip, AllByRecursion}
+use Rattle.link_base.specs.declared.fault.Cause.{Cause}
+use Rattle.link_base.specs.declared.fault.DecodeFault.{DecodeFault}
+use Rattle.link_base.specs.declared.fault.DecodeFault.TheVariants as faults
+use Rattle.link_base.specs.Frame.{Frame, Frames, IsComplete, BeginsWith, frame_bytes, spelled, gap, frame_fault}
+
+-- What a kind field and a payload read as: a value, or a fault.
+abbrev pub Reading : Type 0 → Type 1
+Reading V = ℕ → List ℕ → Result V DecodeFault → Type 0
+
+-- the frame reads as this value, or as this fault
+abbrev pub FrameGives : {V : Type 0} → Reading V → Frame → Result V DecodeFault → Type 0
+FrameGives gives x r = gives x.kind_field x.payload r
+
+-- ---- reading
+
+-- the wire grammar: the string is frames that read as these values
+pub record Wire {V : Type 0} (gives : Reading V) (s : List ℕ) (vs : List V) : Type 0 where
+  pub frames : List Frame
+  pub string : Frames s frames
+  pub values : AllZip (λ x v. FrameGives gives x (Ok v)) frames vs
+
+-- some bytes begin with no frame, or with a frame that reads as a fault
+abbrev pub FaultsHere : {V : Type 0} → Reading V → List ℕ → DecodeFault → Type 0
+FaultsHere gives r fault =
+    ((c : Cause) × (frame_fault r ≡ Some c) × (fault ≡ faults.Frame c))
+    ⊎ ((x : Frame) × BeginsWith r x × FrameGives gives x (Err fault))
+
+-- the first fault: complete frames that read as values, and then the fault
+pub record FirstFault {V : Type 0} (gives : Reading V) (s : List ℕ) (at : ℕ) (fault : DecodeFault) : Type 0 where
+  pub front : List Frame
+  pub rest : List ℕ
+  pub string : s ≡ spelled front ++ rest
+  pub complete : AllByRecursion IsComplete front
+  pub values : AllByRecursion (λ x. (v : V) × FrameGives gives x (Ok v)) front
+  pub some : 0 < length rest
+  pub offset : at ≡ length (spelled front)
+  pub here : FaultsHere gives rest fault
+
+-- what a string reads as: its values, or its first fault and where it stands
+abbrev pub Reads : {V : Type 0} → Reading V → List ℕ → Result (List V) (ℕ × DecodeFault) → Type 0
+Reads gives s (Ok vs) = Wire gives s vs
+Reads gives s (Err e) = FirstFault gives s e.0 e.1
+
+-- ---- writing
+
+-- the frame that is written for a kind field and a payload, with zeros for padding
+abbrev pub whole : ℕ → List ℕ → Frame
+whole f p = record { kind_field = f; payload = p; padding = replicate (gap p) 0 }
+
+-- the frames of values, one after another
+abbrev pub written_by : {V : Type 0} → (V → ℕ) → (V → List ℕ) → List V → List ℕ
+written_by field payload vs = flat_map (λ v. frame_bytes (whole (field v) (payload v))) vs
+
+-- a frame holds the written payload
+abbrev pub FitsBy : {V : Type 0} → (V → List ℕ) → V → Type 0
+FitsBy payload v = length (payload v) ≤ 65531
+
+-- ---- the canonical grammar
+
+-- complete, padded with zeros, and allowed
+pub record IsCanonicalFrame (allows : ℕ → List ℕ → Type 0) (x : Frame) : Type 0 where
+  pub complete : IsComplete x
+  pub zeros : x.padding ≡ replicate (gap x.payload) 0
+  pub allowed : allows x.kind_field x.payload
+
+-- a string of such frames
+pub record CanonicalBy (allows : ℕ → List ℕ → Type 0) (s : List ℕ) : Type 0 where
+  pub frames : List Frame
+  pub string : s ≡ spelled frames
+  pub each : AllByRecursion (IsCanonicalFrame allows) frames
+
+-- ---- rewriting
+
+-- t is what is written for the values of s, which all fit
+pub record RewritingBy {V : Type 0} (gives : Reading V) (field : V → ℕ) (payload : V → List ℕ) (s t : List ℕ) : Type 0 where
+  pub values : List V
+  pub wire : Wire gives s values
+  pub fit : AllByRecursion (FitsBy payload) values
+  pub string : t ≡ written_by field payload values

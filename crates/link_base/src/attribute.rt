@@ -1,0 +1,116 @@
+//! What a family of attributes promises: the traits, and the laws that come with them.
+
+ghost use Rattle.std.specs.Prelude.{◌≡◌, ◌≤◌, ◌-◌, ◌++◌, ◌↔◌, IsTrue, length, take, drop, replicate};
+ghost use Rattle.link_base.specs.Number.{bytes_of};
+ghost use Rattle.link_base.specs.Table.{Table, AttrValue, Gives, TakesMemory, Fits, written_kind, written_payload, written_frame};
+ghost use Rattle.link_base.specs.Held.{IsInRange};
+ghost use Rattle.link_base.specs.WellFormed.{is_table};
+ghost use Rattle.link_base.specs.Lawful.{IsLawful};
+ghost use Rattle.link_base.specs.Buffer.{kind_field_of, payload_of};
+ghost use Rattle.link_base.specs.Answers.{Answers, OnMemory, StartsWith, capped};
+
+use crate::buffer::NlaBuffer;
+use crate::fault::DecodeError;
+use std::alloc::Global;
+
+/// The most bytes of a payload: the greatest `nla_len`, 65535, without the four of the header.
+pub(crate) const MOST: usize = 65531;
+
+/// What the values of a type stand for. It has no calls.
+pub trait Meaning {
+    /// The rows of the type: kinds, and what their payloads are.
+    ghost table: { Table };
+
+    /// The attribute that a value stands for.
+    ghost means: { Self → AttrValue };
+}
+
+/// A value that can be written as an attribute.
+pub trait Nla: Meaning {
+    /// The kind field (`nla_type`) as it is written, its two flags included.
+    fn kind(&self) -> u16
+        ensures { result ≡ written_kind (Self.means self.now) };
+
+    /// The bytes of the written payload; the greatest `usize` where it has that many or more.
+    fn value_len(&self) -> usize
+        ensures { result ≡ capped (length (written_payload (Self.means self.now))) };
+
+    /// Writes the payload into a buffer of exactly `value_len` bytes. The value `fits`.
+    fn emit_value(&self, buffer: &mut [u8])
+        requires fits { Fits (Self.means self.now) }
+        requires exact { length buffer.old ≡ length (written_payload (Self.means self.now)) }
+        ensures written { buffer.new ≡ written_payload (Self.means self.now) }
+        ensures in_range { IsInRange Self.table (Self.means self.now) };
+
+    /// Whether a frame can hold the written payload: at most 65531 bytes.
+    fn fits(&self) -> bool
+        ensures { IsTrue result ↔ Fits (Self.means self.now) }
+    {
+        self.value_len() <= MOST
+    }
+
+    /// The bytes of the written frame: header, payload, and padding up to a multiple of four; the greatest `usize`
+    /// where it has that many or more.
+    fn buffer_len(&self) -> usize
+        ensures { result ≡ capped (length (written_frame (Self.means self.now))) }
+    {
+        let size = self.value_len();
+        if size > usize::MAX - 7 {
+            usize::MAX
+        } else {
+            (size + 7) / 4 * 4
+        }
+    }
+
+    /// Writes the frame to the front of a buffer of at least `buffer_len` bytes, with zeros for padding, and leaves
+    /// the bytes behind it as they are. The value `fits`.
+    fn emit(&self, buffer: &mut [u8])
+        requires fits { Fits (Self.means self.now) }
+        requires room { length (written_frame (Self.means self.now)) ≤ length buffer.old }
+        ensures written { StartsWith buffer.old buffer.new (written_frame (Self.means self.now)) }
+        ensures in_range { IsInRange Self.table (Self.means self.now) }
+    {
+        let size = self.value_len();
+        let end = (size + 7) / 4 * 4;
+        put_header(buffer, self.kind(), 4 + size as u16);
+        self.emit_value(&mut buffer[4..4 + size]);
+        put_zeros(buffer, 4 + size, end);
+    }
+}
+
+fn put_header(buffer: &mut [u8], kind_field: u16, stated: u16)
+    requires { 4 ≤ length buffer.old }
+    ensures { buffer.new ≡ (bytes_of 2 stated ++ bytes_of 2 kind_field) ++ drop 4 buffer.old }
+{
+    let [a, b] = stated.to_le_bytes();
+    let [c, d] = kind_field.to_le_bytes();
+    buffer[..4].copy_from_slice(&[a, b, c, d]);
+}
+
+fn put_zeros(buffer: &mut [u8], start: usize, end: usize)
+    requires ordered { start ≤ end }
+    requires room { end ≤ length buffer.old }
+    ensures { buffer.new ≡ take start buffer.old ++ (replicate (end - start) 0 ++ drop end buffer.old) }
+{
+    buffer[start..end].fill(0);
+}
+
+/// A value that can be read from an attribute.
+pub trait Parseable: Meaning {
+    /// The value of a frame.
+    ///
+    /// Fails with `Value`, `NestedFrame` or `NestedValue` where the kind has a case and the payload is not one of
+    /// it, and with `Memory` only where the case, or `Other`, holds memory of its own.
+    fn parse(alloc: Global, buffer: &NlaBuffer<'_>) -> Result<Self, DecodeError>
+        ensures answer { Answers Self.means result (Gives Self.table (kind_field_of buffer.now) (payload_of buffer.now)) }
+        ensures memory { OnMemory result (TakesMemory Self.table (kind_field_of buffer.now)) };
+}
+
+/// An attribute of one family: what is read and what is written agree, by these laws.
+pub trait Attribute: Nla + Parseable + Drop {
+    /// The laws of one attribute hold of the type's table.
+    ghost lawful: { IsLawful Self.table };
+
+    /// The table is well formed.
+    ghost well_formed: { IsTrue (is_table Self.table) };
+}

@@ -1,0 +1,104 @@
+//! One frame of a list.
+
+ghost use Rattle.std.specs.Prelude.{◌≡◌, ◌+◌, ◌≤◌, ◌↔◌, IsTrue, IsBitSet, length, slice_range, MatchResult, IfOk};
+ghost use Rattle.link_base.specs.Frame.{BeginsWith, kind_of};
+
+use crate::fault::{Cause, DecodeError, DecodeFault};
+
+/// The frame at the front of some bytes, without its padding: a `struct nlattr` and its payload
+/// (`include/uapi/linux/netlink.h`). It borrows the bytes and copies none.
+#[derive(Clone, Copy, Debug, PartialEq, Eq)]
+pub struct NlaBuffer<'a> {
+    kind_field: u16,
+    payload: &'a [u8],
+    ghost short: { length payload.now ≤ 65531 },
+}
+
+impl<'a> NlaBuffer<'a> {
+    ghost use Rattle.link_base.specs.Buffer.{kind_field_of, payload_of, frame_of, IsFrameFault};
+
+    /// The frame at the front of the bytes; more bytes may follow.
+    ///
+    /// Fails with `Frame` of `ShortFrame`, `SmallLength` or `Overrun`, in this order, where no frame stands there.
+    pub fn new_checked(bytes: &'a [u8]) -> Result<NlaBuffer<'a>, DecodeError>
+        ensures { MatchResult result (λ b. BeginsWith bytes.now (frame_of b)) (IsFrameFault bytes.now) }
+    {
+        if bytes.len() < 4 {
+            return Err(DecodeError::Fault(DecodeFault::Frame(Cause::ShortFrame {
+                left: bytes.len(),
+            })));
+        }
+        let length = u16::from_le_bytes([bytes[0], bytes[1]]);
+        if length < 4 {
+            return Err(DecodeError::Fault(DecodeFault::Frame(Cause::SmallLength { length })));
+        }
+        if usize::from(length) > bytes.len() {
+            return Err(DecodeError::Fault(DecodeFault::Frame(Cause::Overrun {
+                length,
+                left: bytes.len(),
+            })));
+        }
+        let kind_field = u16::from_le_bytes([bytes[2], bytes[3]]);
+        let payload = &bytes[4..usize::from(length)];
+        Ok(NlaBuffer {
+            kind_field,
+            payload,
+        })
+    }
+
+    /// `nla_len`: the bytes of the header and the payload, 4 to 65535.
+    #[inline]
+    pub fn length(&self) -> u16
+        ensures { result ≡ 4 + length (payload_of self.now) }
+    {
+        4 + self.payload.len() as u16
+    }
+
+    /// The bytes of the payload: `length` without the header.
+    #[inline]
+    pub fn value_length(&self) -> usize
+        ensures { result ≡ length (payload_of self.now) }
+    {
+        self.payload.len()
+    }
+
+    /// `nla_type` as it stands, its two flags included.
+    #[inline]
+    pub fn raw_kind(&self) -> u16
+        ensures { result ≡ kind_field_of self.now }
+    {
+        self.kind_field
+    }
+
+    /// The kind: the lower 14 bits of `nla_type` (`NLA_TYPE_MASK`).
+    #[inline]
+    pub fn kind(&self) -> u16
+        ensures { result ≡ kind_of (kind_field_of self.now) }
+    {
+        self.kind_field % 0x4000
+    }
+
+    /// Whether `nla_type` has the flag of nested attributes (`NLA_F_NESTED`, 0x8000).
+    #[inline]
+    pub fn nested_flag(&self) -> bool
+        ensures { IsTrue result ↔ IsBitSet (kind_field_of self.now) 15 }
+    {
+        self.kind_field & 0x8000 != 0
+    }
+
+    /// Whether `nla_type` has the flag of network byte order (`NLA_F_NET_BYTEORDER`, 0x4000).
+    #[inline]
+    pub fn network_byte_order_flag(&self) -> bool
+        ensures { IsTrue result ↔ IsBitSet (kind_field_of self.now) 14 }
+    {
+        self.kind_field & 0x4000 != 0
+    }
+
+    /// The payload, a part of the bytes that the frame was taken from.
+    #[inline]
+    pub fn value(&self) -> &'a [u8]
+        ensures { result.now ≡ payload_of self.now }
+    {
+        self.payload
+    }
+}

@@ -1,0 +1,54 @@
+//! The frames of a list, one after another.
+
+use crate::buffer::NlaBuffer;
+use crate::fault::DecodeError;
+use crate::list::step_over;
+
+/// The frames of some bytes, and then their first frame fault, if they have one, as the last item. It borrows the
+/// bytes, copies none, and takes no memory.
+#[derive(Clone, Copy, Debug, PartialEq, Eq)]
+pub struct NlasIterator<'a> {
+    rest: &'a [u8],
+}
+
+impl<'a> NlasIterator<'a> {
+    ghost use Rattle.std.specs.Prelude.{◌≡◌};
+    ghost use Rattle.link_base.specs.Items.{bytes_left};
+
+    /// The frames of these bytes.
+    pub fn new(bytes: &'a [u8]) -> Self
+        ensures { bytes_left result ≡ bytes.now }
+    {
+        NlasIterator { rest: bytes }
+    }
+}
+
+impl<'a> Iterator for NlasIterator<'a> {
+    ghost use Rattle.std.specs.Prelude.{length, ◌+◌, ◌/◌};
+    ghost use Rattle.std.specs.Iterator.{at_most};
+    ghost use Rattle.link_base.specs.Items.{bytes_left, NextFrame};
+
+    type Item = Result<NlaBuffer<'a>, DecodeError>;
+
+    ghost next_gives = { λ s r t. NextFrame (bytes_left s) r (bytes_left t) };
+
+    ghost remaining = { λ s. at_most ((length (bytes_left s) + 3) / 4) };
+
+    fn next(&mut self) -> Option<Result<NlaBuffer<'a>, DecodeError>> {
+        if self.rest.is_empty() {
+            return None;
+        }
+        match NlaBuffer::new_checked(self.rest) {
+            Ok(buffer) => {
+                let step = step_over(buffer.length(), self.rest.len());
+                let (_, after) = self.rest.split_at(step);
+                self.rest = after;
+                Some(Ok(buffer))
+            }
+            Err(error) => {
+                self.rest = &[];
+                Some(Err(error))
+            }
+        }
+    }
+}

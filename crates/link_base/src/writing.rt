@@ -1,0 +1,78 @@
+//! Lists of attributes, written.
+
+ghost use Rattle.std.specs.Prelude.{◌≡◌, ◌≤◌, ◌<◌, ◌^◌, ◌↔◌, IsTrue, OnOk, length, map, MatchOption};
+ghost use Rattle.std.specs.List.{AllByRecursion};
+ghost use Rattle.link_base.specs.Table.{Fits, written_list};
+ghost use Rattle.link_base.specs.Held.{IsInRange};
+ghost use Rattle.link_base.specs.Answers.{capped, StartsWith, IsFirstUnfit, WriteAnswers};
+
+use crate::attribute::Attribute;
+use crate::fault::WriteError;
+use std::alloc::{AllocError, Global};
+
+/// The bytes of the written list, the sum of `buffer_len`; the greatest `usize` where there are that many or more.
+pub fn list_len<F: Attribute>(values: &[F]) -> usize
+    ensures { result ≡ capped (length (written_list (map F.means values.now))) }
+{
+    let mut len = 0usize;
+    for value in values {
+        len = len.saturating_add(value.buffer_len());
+    }
+    len
+}
+
+/// Whether every value fits: true where there is none.
+pub fn list_fits<F: Attribute>(values: &[F]) -> bool
+    ensures { IsTrue result ↔ AllByRecursion Fits (map F.means values.now) }
+{
+    match first_unfit(values) {
+        Some(_) => false,
+        None => true,
+    }
+}
+
+fn first_unfit<F: Attribute>(values: &[F]) -> Option<usize>
+    ensures { MatchOption result (AllByRecursion Fits (map F.means values.now)) (IsFirstUnfit (map F.means values.now)) }
+{
+    for (i, value) in values.iter().enumerate() {
+        if !value.fits() {
+            return Some(i);
+        }
+    }
+    None
+}
+
+/// Writes the list to the front of a buffer of at least `list_len` bytes, and leaves the bytes behind it as they
+/// are. Every value fits.
+pub fn emit_list<F: Attribute>(values: &[F], buffer: &mut [u8])
+    requires fits { AllByRecursion Fits (map F.means values.now) }
+    requires room { length (written_list (map F.means values.now)) ≤ length buffer.old }
+    ensures written { StartsWith buffer.old buffer.new (written_list (map F.means values.now)) }
+    ensures in_range { AllByRecursion (IsInRange F.table) (map F.means values.now) }
+{
+    let mut at = 0usize;
+    for value in values {
+        value.emit(&mut buffer[at..]);
+        at += value.buffer_len();
+    }
+}
+
+/// The written list. Fails with `TooLong` of the first value that does not fit, before any growth.
+pub fn write_list<F: Attribute>(alloc: Global, values: &[F]) -> Result<Vec<u8>, WriteError>
+    ensures answer { WriteAnswers (map F.means values.now) result }
+    ensures in_range { OnOk result (AllByRecursion (IsInRange F.table) (map F.means values.now)) }
+{
+    if let Some(index) = first_unfit(values) {
+        return Err(WriteError::TooLong { index });
+    }
+    if values.is_empty() {
+        return Ok(Vec::new(alloc));
+    }
+    let len = list_len(values);
+    if len == usize::MAX {
+        return Err(WriteError::Memory(AllocError));
+    }
+    let mut out = vec![in alloc; 0u8; len].map_err(WriteError::Memory)?;
+    emit_list(values, &mut out);
+    Ok(out)
+}
