@@ -13,3 +13,5 @@ pub mod Answers
 pub mod Default
 pub mod Items
 pub mod Lift
+pub mod OneForm
+pub mod DefaultLawful

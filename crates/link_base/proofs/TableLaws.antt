@@ -1,0 +1,212 @@
+-- The laws of tables with lists: every table is lawful.
+use Rattle.std.proofs.Common.{◌≡◌, ◌↔◌, ℕ, ◌+◌, ◌<◌, ◌≤◌, Bool, true, false, List, length, Option, Some, None, Result, Ok, refl, sym, ap, subst, ◌∙◌, arith}
+use Rattle.link_base.specs.OneForm.{attr_form}
+use Rattle.link_base.specs.Number.{IsBytes}
+use Rattle.link_base.specs.declared.fault.DecodeFault.{DecodeFault}
+use Rattle.link_base.specs.Frame.{kind_of, pad}
+use Rattle.link_base.specs.Wire.{FitsBy}
+use Rattle.link_base.specs.Table.{Case, Other, class_at, Shape, One, Nested, Addresses, Content, Table, AttrValue, ShapeGives, GivesBy, Gives, content_flag, content_payload, written_kind, written_payload, Fits, content_canon, canon, content_cut, cut, IsCanonicalContent, shape_flag, allows_by, Allows}
+use Rattle.link_base.specs.Held.{ContentInRange, ContentHidesNone, InRangeBy, IsInRange, HidesNoneBy, HidesNone, AttrIsUncut}
+use Rattle.link_base.specs.Lawful.{IsReading, IsHolding, IsWriting, IsLawful}
+use Rattle.link_base.proofs.Readings.{ok, same_ok}
+use Rattle.link_base.proofs.Leaves.{kind_below}
+use Rattle.link_base.proofs.Contents.{shape_decided, shape_one, Means, content_of, content_given, content_bytes, content_flagged, content_back, content_uncut_stays, read_content, content_fixed, content_reads, content_length, content_cut_allowed, content_cut_flag, length-content_cut, content_cut_once}
+
+-- ---- readings
+
+-- an attribute reads as something
+decided_by : (o : Option Shape) (f : ℕ) (p : List ℕ) → IsBytes p → (r : Result AttrValue DecodeFault) × GivesBy o f p r
+decided_by None f p hp = (Ok (Other f p), refl)
+decided_by (Some s) f p hp = shape_decided s (kind_of f) p hp
+
+-- and as one thing only
+one_by : (o : Option Shape) (f : ℕ) (p : List ℕ) (r q : Result AttrValue DecodeFault) → GivesBy o f p r → GivesBy o f p q → r ≡ q
+one_by None f p r q a b = a ∙ sym b
+one_by (Some s) f p r q a b = shape_one s (kind_of f) p r q a b
+
+-- a kind field and a payload read as one thing
+table_reading : (table : Table) → IsReading (Gives table)
+table_reading table = record {
+  decided = λ f p hf hp. decided_by (class_at table (kind_of f)) f p hp;
+  one = λ f p r q a b. one_by (class_at table (kind_of f)) f p r q a b;
+}
+
+-- the two ways that a value is read: of a kind without a row, or of a row
+pub data AttrRead (o : Option Shape) (f : ℕ) (p : List ℕ) (v : AttrValue) : Type 0 where
+  no_row : o ≡ None → v ≡ Other f p → AttrRead o f p v
+  a_row : (s : Shape) (c : Content) → o ≡ Some s → Means s p c → v ≡ Case (kind_of f) c → AttrRead o f p v
+
+-- a value was read in one of these ways
+pub attr_read : (o : Option Shape) (f : ℕ) (p : List ℕ) (v : AttrValue) → GivesBy o f p (Ok v) → AttrRead o f p v
+attr_read None f p v h = no_row refl (same_ok v (Other f p) h)
+attr_read (Some s) f p v h = let all = content_of s (kind_of f) p v h in a_row s all.0 refl all.1 all.2
+
+-- ---- kind fields
+
+-- a kind with its flag names itself
+kind-flagged : (f : ℕ) (s : Shape) → kind_of (kind_of f + shape_flag s) ≡ kind_of f
+kind-flagged f (One k) = omega arith
+kind-flagged f (Nested true rows) = omega arith
+kind-flagged f (Nested false rows) = omega arith
+kind-flagged f (Addresses n) = omega arith
+
+-- a kind with its flag is a kind field
+flagged_below : (f : ℕ) (s : Shape) → kind_of f + shape_flag s < 65536
+flagged_below f (One k) = omega arith
+flagged_below f (Nested true rows) = omega arith
+flagged_below f (Nested false rows) = omega arith
+flagged_below f (Addresses n) = omega arith
+
+-- ---- values in range
+
+-- the row of a case in range
+in_row : (o : Option Shape) (c : Content) → InRangeBy o c → (s : Shape) × (o ≡ Some s) × ContentInRange s c
+in_row None c h = absurd h
+in_row (Some s) c h = (s, refl, h)
+
+-- the kind field is one
+attr_field_below : (table : Table) (v : AttrValue) → IsInRange table v → written_kind v < 65536
+attr_field_below table (Case k c) h =
+    let row = in_row (class_at table k) c h.1 in
+    subst (λ n. n < 65536) (ap (λ n. n + shape_flag row.0) (kind_below k h.0) ∙ ap (λ n. k + n) (sym (content_flagged row.0 c row.2))) (flagged_below k row.0)
+attr_field_below table (Other f p) h = h.0
+
+-- the payload is bytes
+attr_payload_bytes : (table : Table) (v : AttrValue) → IsInRange table v → IsBytes (written_payload v)
+attr_payload_bytes table (Case k c) h = let row = in_row (class_at table k) c h.1 in content_bytes row.0 c row.2
+attr_payload_bytes table (Other f p) h = h.1
+
+-- a written kind field names the kind
+kind-written : (k : ℕ) (s : Shape) (c : Content) → k < 16384 → content_flag c ≡ shape_flag s → kind_of (k + content_flag c) ≡ k
+kind-written k s c h flag =
+    ap (λ n. kind_of (k + n)) flag ∙ ap (λ n. kind_of (n + shape_flag s)) (sym (kind_below k h)) ∙ kind-flagged k s ∙ kind_below k h
+
+-- what is written reads as the canon, cut
+attr_back : (table : Table) (v : AttrValue) → IsInRange table v → HidesNone table v → Fits v → Gives table (written_kind v) (written_payload v) (Ok (cut (canon v)))
+attr_back table (Case k c) h none fit =
+    let row = in_row (class_at table k) c h.1 in
+    let s = row.0 in
+    let f = k + content_flag c in
+    let d = content_cut (content_canon c) in
+    let kind : kind_of f ≡ k = kind-written k s c h.0 (content_flagged s c row.2) in
+    let hides : ContentHidesNone s c = subst (λ o. HidesNoneBy o c) row.1 none in
+    subst (λ o. GivesBy o f (content_payload c) (Ok (Case k d))) (sym (ap (class_at table) kind ∙ row.1))
+    (subst (λ n. ShapeGives s (kind_of f) (content_payload c) (Ok (Case n d))) kind
+    (content_given s (kind_of f) (content_payload c) d (content_back s c row.2 hides fit)))
+attr_back table (Other f p) h none fit = subst (λ o. GivesBy o f p (Ok (Other f p))) (sym none) refl
+
+-- cutting leaves an uncut value and its canon as they are
+attr_uncut_stays : (table : Table) (v : AttrValue) → IsInRange table v → AttrIsUncut v → (cut v ≡ v) × (cut (canon v) ≡ canon v)
+attr_uncut_stays table (Case k c) h u =
+    let row = in_row (class_at table k) c h.1 in
+    let stays = content_uncut_stays row.0 c row.2 u in
+    (ap (Case k) stays.0, ap (Case k) stays.1)
+attr_uncut_stays table (Other f p) h u = (refl, refl)
+
+-- ---- values that were read
+
+module _ (table : Table) (f : ℕ) (p : List ℕ) (v : AttrValue) (hf : f < 65536) (hp : IsBytes p) (h : Gives table f p (Ok v)) where
+  -- what holds of an `Other` and of a case that were read holds of the value
+  by_case : (P : AttrValue → Type 0) → (class_at table (kind_of f) ≡ None → P (Other f p))
+      → ((s : Shape) (c : Content) → class_at table (kind_of f) ≡ Some s → Means s p c → P (Case (kind_of f) c)) → P v
+  by_case P other row = go (attr_read (class_at table (kind_of f)) f p v h)
+    where
+      -- by the way that it was read
+      go : AttrRead (class_at table (kind_of f)) f p v → P v
+      go (no_row e is) = subst P (sym is) (other e)
+      go (a_row s c e m is) = subst P (sym is) (row s c e m)
+
+  -- it is in range
+  attr_in_range : IsInRange table v
+  attr_in_range = by_case (IsInRange table) (λ e. (hf, hp))
+      (λ s c e m. (omega arith, subst (λ o. InRangeBy o c) (sym e) (read_content s p c hp m).in_range))
+
+  -- it hides none
+  attr_hides_none : HidesNone table v
+  attr_hides_none = by_case (HidesNone table) (λ e. e)
+      (λ s c e m. subst (λ o. HidesNoneBy o c) (sym e) (read_content s p c hp m).hides_none)
+
+  -- it is its own canon
+  attr_own : canon v ≡ v
+  attr_own = by_case (λ w. canon w ≡ w) (λ e. refl) (λ s c e m. ap (Case (kind_of f)) (read_content s p c hp m).own)
+
+  -- the flag is that of the row
+  flag_is : (s : Shape) (c : Content) → Means s p c → content_flag c ≡ shape_flag s
+  flag_is s c m = content_flagged s c (read_content s p c hp m).in_range
+
+  -- it is written as it was read where that is allowed
+  attr_fixed : length p ≤ 65531 → ((written_kind v ≡ f) × (written_payload v ≡ p)) ↔ Allows table f p
+  attr_fixed hl = by_case (λ w. ((written_kind w ≡ f) × (written_payload w ≡ p)) ↔ Allows table f p)
+      (λ e. (λ same. subst (λ o. allows_by o f p) (sym e) tt, λ allowed. (refl, refl)))
+      (λ s c e m.
+      let iff = content_fixed s p c hp hl m in
+      let flag : kind_of f + content_flag c ≡ kind_of f + shape_flag s = ap (λ n. kind_of f + n) (flag_is s c m) in (
+        λ same. subst (λ o. allows_by o f p) (sym e) (sym same.0 ∙ flag, iff.0 same.1),
+        λ allowed.
+            let is : (f ≡ kind_of f + shape_flag s) × IsCanonicalContent s p = subst (λ o. allows_by o f p) e allowed in
+            (flag ∙ sym is.0, iff.1 is.1),
+      ))
+
+  -- it is written no longer than it was read, rounded up to four
+  attr_length : length (written_payload v) ≤ pad (length p)
+  attr_length = by_case (λ w. length (written_payload w) ≤ pad (length p)) (λ e. omega arith) (λ s c e m. content_length s p c hp m)
+
+  -- cut, it is written as it is allowed
+  attr_cut_allowed : length (written_payload v) ≤ 65531 → Allows table (written_kind (cut v)) (written_payload (cut v))
+  attr_cut_allowed = by_case (λ w. length (written_payload w) ≤ 65531 → Allows table (written_kind (cut w)) (written_payload (cut w)))
+      (λ e fit. subst (λ o. allows_by o f p) (sym e) tt)
+      (λ s c e m fit.
+      let d = content_cut c in
+      let flag : content_flag d ≡ shape_flag s = content_cut_flag c ∙ flag_is s c m in
+      let k = kind_of f in
+      let kind : kind_of (k + content_flag d) ≡ k = kind-written k s d (omega arith) flag in
+      subst (λ o. allows_by o (k + content_flag d) (content_payload d)) (sym (ap (class_at table) kind ∙ e)) (
+        ap (λ n. k + n) flag ∙ ap (λ n. n + shape_flag s) (sym kind),
+        content_cut_allowed s p c hp m fit,
+      ))
+
+  -- cutting it again changes nothing
+  attr_cut_once : cut (cut v) ≡ cut v
+  attr_cut_once = by_case (λ w. cut (cut w) ≡ cut w) (λ e. refl) (λ s c e m. ap (Case (kind_of f)) (content_cut_once s p c hp m))
+
+-- cutting changes no length
+length-attr_cut : (v : AttrValue) → length (written_payload (cut v)) ≡ length (written_payload v)
+length-attr_cut (Case k c) = length-content_cut c
+length-attr_cut (Other f p) = refl
+
+-- what is allowed is read
+allowed_by : (o : Option Shape) (f : ℕ) (p : List ℕ) → IsBytes p → allows_by o f p → (v : AttrValue) × GivesBy o f p (Ok v)
+allowed_by None f p hp a = (Other f p, refl)
+allowed_by (Some s) f p hp a =
+    let all = content_reads s p hp a.1 in
+    (Case (kind_of f) all.0, content_given s (kind_of f) p all.0 all.1)
+
+-- ---- the laws
+
+-- what holds of each value in range
+table_holding : (table : Table) → IsHolding (Gives table) written_kind written_payload canon cut (IsInRange table) (HidesNone table) AttrIsUncut
+table_holding table = record {
+  field_below = attr_field_below table;
+  payload_bytes = attr_payload_bytes table;
+  back = attr_back table;
+  one_form = attr_form;
+  uncut_stays = attr_uncut_stays table;
+  read_in_range = attr_in_range table;
+  read_hides_none = attr_hides_none table;
+  read_own = attr_own table;
+}
+
+-- what holds of each value that was read, and of what is allowed
+table_writing : (table : Table) → IsWriting (Gives table) written_kind written_payload cut (Allows table)
+table_writing table = record {
+  allowed_reads = λ f p hf hp hl a. allowed_by (class_at table (kind_of f)) f p hp a;
+  fixed = λ f p v hf hp h hl. attr_fixed table f p v hf hp h hl;
+  length_bound = attr_length table;
+  cut_allowed = attr_cut_allowed table;
+  cut_fits = λ f p v hf hp h fit. omega (arith, fit, length-attr_cut v);
+  cut_once = λ f p v hf hp h fit. attr_cut_once table f p v hf hp h;
+}
+
+-- every table is lawful
+pub lawful : (table : Table) → IsLawful table
+lawful table = record { reading = table_reading table; holding = table_holding table; writing = table_writing table }

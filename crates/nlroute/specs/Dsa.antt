@@ -1,0 +1,20 @@
+-- The attributes of a DSA port.
+use Rattle.std.specs.Prelude.{[], ◌∷◌}
+use Rattle.link_base.specs.Class.{Unsigned, Number}
+use Rattle.link_base.specs.Table.{Table, AttrValue, Case, row, One, Single}
+use Rattle.link_base.specs.Default.{default_means}
+use Rattle.nlroute.specs.declared.dsa.InfoDsa.{InfoDsa}
+use Rattle.nlroute.specs.declared.dsa.InfoDsa.TheVariants.{Conduit, Other}
+
+-- IFLA_DSA_CONDUIT
+abbrev pub dsa_table : Table
+dsa_table = row 1 (One (Unsigned 4)) ∷ []
+
+abbrev pub dsa_means : InfoDsa → AttrValue
+dsa_means (Conduit conduit) = Case 1 (Single (Number 4 conduit))
+dsa_means (Other other) = default_means other
+
+-- the fact holds of a conduit
+abbrev pub OnConduit : InfoDsa → Type 0 → Type 0
+OnConduit (Conduit conduit) P = P
+OnConduit (Other other) P = Unit {0}

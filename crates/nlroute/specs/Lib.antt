@@ -1,0 +1,5 @@
+pub mod Dsa
+pub mod Family
+pub mod Rewrite
+pub mod Report
+pub mod Run

@@ -1,0 +1,66 @@
+-- What the program prints for a family and a text, and its status.
+use Rattle.std.specs.Prelude.{◌≡◌, ◌≢◌, ◌⊎◌, ◌==◌, ◌||◌, ℕ, ◌<◌, ◌≤◌, Bool, not, List, [], ◌∷◌, ◌++◌, length, Result, Ok, Err, codes, Option, Some, None}
+use Rattle.std.specs.List.{filter, flat_map, AllByRecursion}
+use Rattle.std.specs.Fmt.{decimal}
+use Rattle.hex.specs.Hex.{decode_of, encode_lower}
+use Rattle.hex.specs.declared.error.FromHexError.{FromHexError}
+use Rattle.link_base.specs.declared.fault.DecodeFault.{DecodeFault}
+use Rattle.link_base.specs.Wire.{Wire, FirstFault}
+use Rattle.link_base.specs.Table.{Table, AttrValue, Gives, Fits, written_kind, written_payload, written_list}
+use Rattle.link_base.specs.Texts.{fault_text}
+use Rattle.link_base.specs.Answers.{IsFirstUnfit}
+
+-- ---- lines
+
+-- a line ends with LF
+abbrev pub line : List ℕ → List ℕ
+line text = text ++ 10 ∷ []
+
+-- where reading found the fault
+abbrev pub fault_line : ℕ → DecodeFault → List ℕ
+fault_line at fault = line (codes "fault at " ++ (decimal at ++ (codes ": " ++ fault_text fault)))
+
+-- which value is too long
+abbrev pub too_long_line : ℕ → List ℕ
+too_long_line i = line (codes "too long at " ++ decimal i)
+
+-- a value: its written kind field, and the length of its written payload
+abbrev pub attr_line : AttrValue → List ℕ
+attr_line v = line (codes "attr " ++ (decimal (written_kind v) ++ (codes " len " ++ decimal (length (written_payload v)))))
+
+-- the written bytes
+abbrev pub out_line : List ℕ → List ℕ
+out_line [] = line (codes "out")
+out_line (b ∷ bytes) = line (codes "out " ++ encode_lower (b ∷ bytes))
+
+-- the lines of values, and then of what is written for them
+abbrev pub value_lines : List AttrValue → List ℕ
+value_lines vs = flat_map attr_line vs ++ out_line (written_list vs)
+
+-- ---- what is printed, and the status
+
+pub data Prints (table : Table) (s : List ℕ) : List ℕ → ℕ → Type 0 where
+  -- all values fit, and are written as they were read
+  Same : (vs : List AttrValue) → Wire (Gives table) s vs → AllByRecursion Fits vs → written_list vs ≡ s → Prints table s (value_lines vs ++ line (codes "same")) 0
+  -- all values fit, and are written as other bytes
+  Changed : (vs : List AttrValue) → Wire (Gives table) s vs → AllByRecursion Fits vs → written_list vs ≢ s → Prints table s (value_lines vs ++ line (codes "changed")) 0
+  Fault : (at : ℕ) (fault : DecodeFault) → FirstFault (Gives table) s at fault → Prints table s (fault_line at fault) 1
+  TooLong : (vs : List AttrValue) (i : ℕ) → Wire (Gives table) s vs → IsFirstUnfit vs i → Prints table s (too_long_line i) 3
+
+-- space, tab, CR and LF
+abbrev pub is_space : ℕ → Bool
+is_space b = b == 32 || (b == 9 || (b == 13 || b == 10))
+
+-- what is left of a text without these
+abbrev pub digits_of : List ℕ → List ℕ
+digits_of text = filter (λ b. not (is_space b)) text
+
+-- a text of digits: that of its bytes, or that it is no hex text
+abbrev pub PrintsDigits : Table → Result (List ℕ) FromHexError → List ℕ → ℕ → Type 0
+PrintsDigits table (Ok s) out status = Prints table s out status
+PrintsDigits table (Err e) out status = (out ≡ line (codes "bad hex")) × (status ≡ 2)
+
+-- a text of at most 262,144 bytes: that of its digits; a longer one: that it is too long
+pub data Reports (table : Table) (text : List ℕ) (out : List ℕ) (status : ℕ) : Type 0 where
+  Short : length text ≤ 262144 → PrintsDigits table (decode_of (digits_of text)) out status → Reports table text out status
+  Long : 262144 < length text → out ≡ line (codes "input too long") → status ≡ 2 → Reports table text out status

@@ -1,0 +1,34 @@
+-- What a run of the program reads, writes and answers.
+use Rattle.std.specs.Prelude.{◌≡◌, ◌≢◌, ◌⊎◌, ℕ, ◌<◌, List, length, codes, Option, Some}
+use Rattle.std.specs.Io.KnownBytes.{Appends, Consumes, IsAtEnd}
+use Rattle.link_base.specs.Table.{Table}
+use Rattle.nlroute.specs.declared.family.Family.{Family}
+use Rattle.nlroute.specs.Family.{name_of}
+use Rattle.nlroute.specs.Report.{Reports, line}
+
+-- 262,145 bytes were read, one more than a text may have, or the reader is at its end
+abbrev pub IsAllRead : List ℕ → Option (List ℕ) → Type 0
+IsAllRead text left = (length text ≡ 262145) ⊎ IsAtEnd left
+
+-- what was read of the reader, whose report is what was written
+pub record RunsFor (table : Table) (left_before left_after held_before held_after : Option (List ℕ)) (status : ℕ) : Type 0 where
+  pub text : List ℕ
+  pub out : List ℕ
+  pub read : Consumes left_before left_after text
+  pub all : IsAllRead text left_after
+  pub report : Reports table text out status
+  pub written : Appends held_before held_after out
+
+-- the name is no family's
+abbrev pub IsNoFamily : Option (List ℕ) → Type 0
+IsNoFamily name = (family : Family) → name ≢ Some (name_of family)
+
+abbrev pub usage_line : List ℕ
+usage_line = line (codes "usage: nlroute FAMILY")
+
+abbrev pub no_memory_line : List ℕ
+no_memory_line = line (codes "no memory")
+
+-- the line was written and this status answered, or the writer failed
+abbrev pub PrintsOrFails : Option (List ℕ) → Option (List ℕ) → List ℕ → ℕ → ℕ → Type 0
+PrintsOrFails held_before held_after text status result = ((result ≡ status) × Appends held_before held_after text) ⊎ (result ≡ 5)

@@ -1,0 +1,91 @@
+//! The attributes of a DSA port (`IFLA_INFO_DATA` of a link of kind `dsa`).
+
+use link_base::{
+    Attribute, DecodeError, DefaultNla, Meaning, Nla, NlaBuffer, Parseable, emit_u32, parse_u32,
+};
+use std::alloc::{AllocError, Global};
+
+/// `IFLA_DSA_CONDUIT`, `include/uapi/linux/if_link.h`.
+const IFLA_DSA_CONDUIT: u16 = 1;
+
+/// An attribute of a DSA port (`include/uapi/linux/if_link.h`, `IFLA_DSA_*`).
+#[derive(Debug, PartialEq, Eq, Drop)]
+pub enum InfoDsa {
+    /// The index of the conduit, the network device that carries the port's frames to the processor
+    /// (`IFLA_DSA_CONDUIT`, four bytes).
+    Conduit(u32),
+    /// An attribute of any other kind.
+    Other(DefaultNla),
+}
+
+impl InfoDsa {
+    ghost use Rattle.std.specs.Prelude.{◌≡◌, IfOk, IsOk};
+    ghost use Rattle.nlroute.specs.Dsa.{OnConduit};
+
+    /// An equal value, or `AllocError` where a growth was refused; `Conduit` takes no memory.
+    pub fn try_clone(&self, alloc: Global) -> Result<Self, AllocError>
+        ensures copy { IfOk result (λ copy. copy ≡ self.now) }
+        ensures memory { OnConduit self.now (IsOk result) }
+    {
+        match self {
+            InfoDsa::Conduit(conduit) => Ok(InfoDsa::Conduit(*conduit)),
+            InfoDsa::Other(other) => Ok(InfoDsa::Other(other.try_clone(alloc)?)),
+        }
+    }
+}
+
+impl Meaning for InfoDsa {
+    ghost use Rattle.nlroute.specs.Dsa.{dsa_table, dsa_means};
+
+    ghost table = { dsa_table };
+
+    ghost means = { dsa_means };
+}
+
+impl Nla for InfoDsa {
+    fn kind(&self) -> u16 {
+        match self {
+            InfoDsa::Conduit(_) => IFLA_DSA_CONDUIT,
+            InfoDsa::Other(other) => other.kind(),
+        }
+    }
+
+    fn value_len(&self) -> usize {
+        match self {
+            InfoDsa::Conduit(_) => 4,
+            InfoDsa::Other(other) => other.value_len(),
+        }
+    }
+
+    fn emit_value(&self, buffer: &mut [u8]) {
+        match self {
+            InfoDsa::Conduit(conduit) => emit_u32(buffer, *conduit),
+            InfoDsa::Other(other) => other.emit_value(buffer),
+        }
+    }
+}
+
+impl Parseable for InfoDsa {
+    fn parse(alloc: Global, buffer: &NlaBuffer<'_>) -> Result<Self, DecodeError> {
+        match buffer.kind() {
+            IFLA_DSA_CONDUIT => match parse_u32(buffer.value()) {
+                Ok(conduit) => Ok(InfoDsa::Conduit(conduit)),
+                Err(error) => Err(error.of_kind(IFLA_DSA_CONDUIT)),
+            },
+            _ => match DefaultNla::parse(alloc, buffer) {
+                Ok(other) => Ok(InfoDsa::Other(other)),
+                Err(error) => Err(error),
+            },
+        }
+    }
+}
+
+impl Attribute for InfoDsa {
+    ghost use Rattle.std.specs.Prelude.{refl};
+    ghost use Rattle.link_base.proofs.TableLaws.{lawful};
+    ghost use Rattle.nlroute.specs.Dsa.{dsa_table};
+
+    ghost lawful = { lawful dsa_table };
+
+    ghost well_formed = { refl };
+}

@@ -1,0 +1,96 @@
+//! A run of the program, over any reader and writer.
+
+ghost use Rattle.std.specs.Prelude.{◌≡◌, ◌<◌, ◌≤◌, IfOk, IfSome, IfNone, Some};
+ghost use Rattle.std.specs.Option.{option_copied};
+ghost use Rattle.std.specs.Io.KnownBytes.{Appends, Consumes};
+ghost use Rattle.nlroute.specs.declared.family.Family.{Family};
+ghost use Rattle.nlroute.specs.Family.{name_of, table_of};
+ghost use Rattle.nlroute.specs.Run.{RunsFor, IsNoFamily, IsAllRead, PrintsOrFails, usage_line, no_memory_line};
+
+use crate::family::Family;
+use crate::reporting::{MOST_TEXT, report};
+use std::alloc::Global;
+use std::io::{Read, Write};
+
+/// Reads a text and writes the report of it for the family of this name; without a family writes the usage line
+/// and reads nothing. The answer is the exit status.
+///
+/// Status 0 is success, 1 a fault, 2 a text that is no input or a name that is no family's, 3 a value that does not
+/// fit, 4 a refused growth, and 5 a reader or a writer that failed. The text ends where a read gives no bytes, and
+/// no more than 262,145 bytes of it are read.
+pub fn run<R: Read, W: Write>(
+    alloc: Global,
+    name: Option<&str>,
+    reader: &mut R,
+    writer: &mut W,
+) -> u8
+    ensures report { (family : Family) → option_copied name.entry ≡ Some (name_of family) → result < 4
+        → RunsFor (table_of family) (R.remaining reader.old) (R.remaining reader.new) (W.contents writer.old) (W.contents writer.new) result }
+    // Without a family nothing is read.
+    ensures unread { IsNoFamily (option_copied name.entry) → reader.new ≡ reader.old }
+    ensures usage { IsNoFamily (option_copied name.entry) → PrintsOrFails (W.contents writer.old) (W.contents writer.new) usage_line 2 result }
+    ensures memory { result ≡ 4 → Appends (W.contents writer.old) (W.contents writer.new) no_memory_line }
+    ensures known { result ≤ 5 }
+{
+    let Some(family) = family_of(name) else {
+        return print(writer, "usage: nlroute FAMILY\n", 2);
+    };
+    let text = match read_text(alloc, reader) {
+        Ok(text) => text,
+        Err(InputError::Memory) => return print(writer, "no memory\n", 4),
+        Err(InputError::Reader) => return print(writer, "read fault\n", 5),
+    };
+    match report(alloc, family, &text) {
+        Ok((out, status)) => print(writer, out.as_str(), status),
+        Err(_) => print(writer, "no memory\n", 4),
+    }
+}
+
+/// Why a text could not be read.
+#[derive(Debug, Drop)]
+enum InputError {
+    Memory,
+    Reader,
+}
+
+/// The bytes of the reader up to its end, or the first 262,145 of them.
+fn read_text<R: Read>(alloc: Global, reader: &mut R) -> Result<Vec<u8>, InputError>
+    ensures read { IfOk result (λ text. Consumes (R.remaining reader.old) (R.remaining reader.new) text.items) }
+    ensures all { IfOk result (λ text. IsAllRead text.items (R.remaining reader.new)) }
+{
+    let mut text = Vec::new(alloc);
+    let mut chunk = [0u8; 4096];
+    while text.len() <= MOST_TEXT {
+        let room = (MOST_TEXT + 1 - text.len()).min(chunk.len());
+        let count = match reader.read(&mut chunk[..room]) {
+            Ok(0) => return Ok(text),
+            Ok(count) => count,
+            Err(_) => return Err(InputError::Reader),
+        };
+        match text.extend_from_slice(&chunk[..count]) {
+            Ok(()) => {}
+            Err(_) => return Err(InputError::Memory),
+        }
+    }
+    Ok(text)
+}
+
+/// Writes the text, and answers the status, or 5 where that failed.
+fn print<W: Write>(writer: &mut W, text: &str, status: u8) -> u8
+    ensures { PrintsOrFails (W.contents writer.old) (W.contents writer.new) text.now status result }
+{
+    match writer.write_all(text.as_bytes()) {
+        Ok(()) => status,
+        Err(_) => 5,
+    }
+}
+
+fn family_of(name: Option<&str>) -> Option<Family>
+    ensures found { IfSome result (λ family. option_copied name.entry ≡ Some (name_of family)) }
+    ensures none { IfNone result (IsNoFamily (option_copied name.entry)) }
+{
+    match name {
+        Some(name) => Family::from_name(name),
+        None => None,
+    }
+}
