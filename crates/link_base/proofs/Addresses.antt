@@ -29,7 +29,7 @@ pub read_payloads : (xs : List Frame) → ReadEach PayloadGives xs (payloads xs)
 read_payloads [] = tt
 read_payloads (x ∷ xs) = (refl, read_payloads xs)
 
--- and as nothing else
+-- frames read as nothing but their payloads
 pub payloads_are : (xs : List Frame) (ps : List (List ℕ)) → ReadEach PayloadGives xs ps → ps ≡ payloads xs
 payloads_are [] [] h = refl
 payloads_are [] (p ∷ ps) h = absurd h

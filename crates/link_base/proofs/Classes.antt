@@ -38,7 +38,7 @@ none_then : (b : Bool) (c : Cause) → cond b None (Some c) ≡ None → b ≡ t
 none_then true c e = refl
 none_then false c e = absurd cc
 
--- so many bytes and no others
+-- an accepted payload of exactly so many bytes has them
 pub exactly : (n got : ℕ) → length_cause (Exactly n) got ≡ None → got ≡ n
 exactly n got e = eqb-true got n (none_then (got == n) (WrongLength n got) e)
 

@@ -1,5 +1,5 @@
 -- The laws of what the payloads of a row mean: of one class, a nested list, or addresses.
-use Rattle.std.proofs.Common.{◌≡◌, ◌↔◌, ℕ, ◌+◌, ◌≤◌, Bool, List, [], ◌∷◌, length, map, None, Result, Ok, Err, refl, sym, ap, subst, ◌∙◌, arith, length-append}
+use Rattle.std.proofs.Common.{◌≡◌, ◌↔◌, ℕ, ◌≤◌, List, [], ◌∷◌, length, map, None, Result, Ok, Err, refl, sym, ap, subst, ◌∙◌, arith, length-append}
 use Rattle.std.specs.List.{AllByRecursion}
 use Rattle.link_base.specs.Number.{IsBytes}
 use Rattle.link_base.specs.declared.fault.Cause.{Cause}
@@ -39,7 +39,7 @@ shape_decided (One c) k p hp = (single_case k (class_value c p), refl)
 shape_decided (Nested flagged rows) k p hp = list_decided (LeafGives rows) (Inner flagged) k p (leaf_reading rows) hp
 shape_decided (Addresses n) k p hp = list_decided PayloadGives (λ ps. Listed (of_length n ps)) k p payload_reading hp
 
--- and as one thing only
+-- a payload reads as one thing only
 pub shape_one : (s : Shape) (k : ℕ) (p : List ℕ) (r q : Result AttrValue DecodeFault) → ShapeGives s k p r → ShapeGives s k p q → r ≡ q
 shape_one (One c) k p r q a b = a ∙ sym b
 shape_one (Nested flagged rows) k p r q a b = list_reading (LeafGives rows) (Inner flagged) k p r q (leaf_reading rows) a b
@@ -87,14 +87,14 @@ content_given (Addresses n) k p c m =
 
 -- ---- contents in range
 
--- what is written is bytes
+-- what is written for a content in range is bytes
 pub content_bytes : (s : Shape) (c : Content) → ContentInRange s c → IsBytes (content_payload c)
 content_bytes (One k) (Single v) h = written_bytes k v h
 content_bytes (Nested flagged rows) (Inner flag vs) h = bytes-written (leaf_holding rows) vs h.1
 content_bytes (Addresses n) (Listed octets) h = bytes-addresses n 0 octets h
 content_bytes s c h = absurd h
 
--- the flag is that of the row
+-- the flag of a content in range is that of the row
 pub content_flagged : (s : Shape) (c : Content) → ContentInRange s c → content_flag c ≡ shape_flag s
 content_flagged (One k) (Single v) h = refl
 content_flagged (Nested flagged rows) (Inner flag vs) h = ap nested_flag h.0
@@ -124,7 +124,7 @@ addresses_mean n octets h fit =
       ap Listed (sym (of_length-addresses n 0 octets (sizes n octets h))),
     )
 
--- what is written means the canon, cut
+-- what is written for a content in range means its canon, cut
 pub content_back : (s : Shape) (c : Content) → ContentInRange s c → ContentHidesNone s c → length (content_payload c) ≤ 65531 → Means s (content_payload c) (content_cut (content_canon c))
 content_back (One k) (Single v) h none fit =
     let is = accepted_meaning k (written v) (Class.cut (Class.canon v)) (back k v h) in
@@ -145,13 +145,13 @@ content_uncut_stays s c h u = absurd h
 
 -- ---- contents that were read
 
--- what is known of the content of a payload
+-- a content that was read is in range, hides none, and is its own canon
 pub record IsReadContent (s : Shape) (c : Content) : Type 0 where
   pub in_range : ContentInRange s c
   pub hides_none : ContentHidesNone s c
   pub own : content_canon c ≡ c
 
--- it is in range, hides none, and is its own canon
+-- the content of a payload of bytes is so
 pub read_content : (s : Shape) (p : List ℕ) (c : Content) → IsBytes p → Means s p c → IsReadContent s c
 read_content (One k) p c hp m =
     subst (IsReadContent (One k)) (sym m.1) (record { in_range = meant_in_range k p hp m.0; hides_none = tt; own = ap Single (meant_canon k p) })
@@ -172,7 +172,7 @@ leaves_short rows (x ∷ xs) (v ∷ vs) k r =
     let short = leaf_short rows x.kind_field x.payload v k.0.kind_field k.0.bytes r.0 in
     (omega (arith, k.0.payload), leaves_short rows xs vs k.1 r.1)
 
--- so each nested list has a rewriting
+-- each nested list that was read has a rewriting
 abbrev rewritten : (rows : Rows) (p : List ℕ) (vs : List Leaf) → IsBytes p → Wire (LeafGives rows) p vs → RewritingBy (LeafGives rows) leaf_field leaf_payload p (written_leaves vs)
 rewritten rows p vs hp w =
     record { values = vs; wire = w; string = refl; fit = leaves_short rows w.frames vs (known_of p w.frames hp w.string) w.values }
@@ -185,12 +185,17 @@ length-leaves_cut (v ∷ vs) =
     let same = length-leaf_cut v in
     let a = whole (leaf_field (leaf_cut v)) (leaf_payload (leaf_cut v)) in
     let b = whole (leaf_field v) (leaf_payload v) in
-    omega (arith, length-append (frame_bytes a) (written_leaves (map leaf_cut vs)), length-append (frame_bytes b) (written_leaves vs),
-    length-whole (leaf_field (leaf_cut v)) (leaf_payload (leaf_cut v)), length-whole (leaf_field v) (leaf_payload v))
+    omega (
+      arith,
+      length-append (frame_bytes a) (written_leaves (map leaf_cut vs)),
+      length-append (frame_bytes b) (written_leaves vs),
+      length-whole (leaf_field (leaf_cut v)) (leaf_payload (leaf_cut v)),
+      length-whole (leaf_field v) (leaf_payload v),
+    )
 
 -- ---- what is written for a content that was read
 
--- it is the payload exactly where this is canonical
+-- what is written for a content that was read is the payload exactly where this is canonical
 pub content_fixed : (s : Shape) (p : List ℕ) (c : Content) → IsBytes p → length p ≤ 65531 → Means s p c → (content_payload c ≡ p) ↔ IsCanonicalContent s p
 content_fixed (One k) p c hp hl m =
     let tidy = tidy_iff k p hp m.0 in
@@ -221,7 +226,7 @@ content_reads (Addresses n) p hp a =
     let own = addresses_from 0 a.addresses in
     (Listed (of_length n (payloads own)), (own, record { frames = AreFrames-complete own a.complete; string = a.string }, refl))
 
--- it is no longer than the payload, padded
+-- what is written for a content that was read is no longer than the payload, padded
 pub content_length : (s : Shape) (p : List ℕ) (c : Content) → IsBytes p → Means s p c → length (content_payload c) ≤ pad (length p)
 content_length (One k) p c hp m = let short = written_short k p m.0 in omega (arith, ap (λ d. length (content_payload d)) m.1)
 content_length (Nested flagged rows) p c hp m =
@@ -230,7 +235,7 @@ content_length (Nested flagged rows) p c hp m =
 content_length (Addresses n) p c hp m =
     omega (arith, ap (λ d. length (content_payload d)) m.2, short-addresses n 0 m.0 m.1.frames, ap length m.1.string)
 
--- what is written for it, cut, is canonical
+-- what is written for a content that was read, cut, is canonical
 pub content_cut_allowed : (s : Shape) (p : List ℕ) (c : Content) → IsBytes p → Means s p c → length (content_payload c) ≤ 65531
     → IsCanonicalContent s (content_payload (content_cut c))
 content_cut_allowed (One k) p c hp m fit =

@@ -1,6 +1,6 @@
 -- A string behind another: where the first is read and is a multiple of four bytes, its values come first.
 use Rattle.std.proofs.Common.{◌≡◌, ℕ, ◌+◌, ◌-◌, ◌%◌, ◌≤◌, List, [], ◌∷◌, ◌++◌, length, Ok, sym, ap, ap₂, ◌∙◌, arith, append_assoc, length-append}
-use Rattle.std.specs.List.{AllZip, AllByRecursion}
+use Rattle.std.specs.List.{AllByRecursion}
 use Rattle.link_base.specs.declared.fault.DecodeFault.{DecodeFault}
 use Rattle.link_base.specs.Frame.{Frame, IsComplete, AreFrames, frame_bytes, spelled, pad}
 use Rattle.link_base.specs.Wire.{Reading, FrameGives, Wire, FirstFault}

@@ -1,13 +1,11 @@
 -- The laws of tables without lists.
-use Rattle.std.proofs.Common.{◌≡◌, ◌⊎◌, ◌↔◌, ℕ, ◌<◌, ◌≤◌, List, length, Option, Some, None, Result, Ok, Err, refl, sym, ap, subst, ◌∙◌, arith, inl, inr}
+use Rattle.std.proofs.Common.{◌≡◌, ◌↔◌, ℕ, ◌<◌, ◌≤◌, List, length, Option, Some, None, Result, Ok, Err, refl, sym, ap, subst, ◌∙◌, arith}
 use Rattle.link_base.specs.OneForm.{leaf_form}
 use Rattle.link_base.specs.Number.{IsBytes}
 use Rattle.link_base.specs.declared.fault.Cause.{Cause}
-use Rattle.link_base.specs.declared.fault.DecodeFault.{DecodeFault}
 use Rattle.link_base.specs.Frame.{kind_of}
 use Rattle.link_base.specs.Class
 use Rattle.link_base.specs.Class.{Class, Value, class_value, written, extent, length_cause, meant, IsCanonicalPayload}
-use Rattle.link_base.specs.Wire.{FitsBy}
 use Rattle.link_base.specs.Table.{Case, Other, class_at, Rows, Leaf, leaf_case, leaf_by, LeafGives, leaf_field, leaf_payload, leaf_canon, leaf_cut, leaf_allows_by, LeafAllows}
 use Rattle.link_base.specs.Held.{LeafInRangeBy, LeafInRange, LeafHidesNone, LeafIsUncut}
 use Rattle.link_base.specs.Lawful.{IsReading, IsHolding, IsWriting}
@@ -63,17 +61,17 @@ in_row : (o : Option Class) (v : Value) → LeafInRangeBy o v → (c : Class) ×
 in_row None v h = absurd h
 in_row (Some c) v h = (c, refl, h)
 
--- the kind field is one
+-- a value in range is written with a kind field
 leaf_field_below : (rows : Rows) (v : Leaf) → LeafInRange rows v → leaf_field v < 65536
 leaf_field_below rows (Case k v) h = omega (arith, h.0)
 leaf_field_below rows (Other f p) h = h.0
 
--- the payload is bytes
+-- a value in range is written with bytes
 leaf_payload_bytes : (rows : Rows) (v : Leaf) → LeafInRange rows v → IsBytes (leaf_payload v)
 leaf_payload_bytes rows (Case k v) h = let row = in_row (class_at rows k) v h.1 in written_bytes row.0 v row.2
 leaf_payload_bytes rows (Other f p) h = h.1
 
--- what is written reads as the canon, cut
+-- what is written for a value in range reads as its canon, cut
 leaf_back : (rows : Rows) (v : Leaf) → LeafInRange rows v → LeafHidesNone rows v → LeafGives rows (leaf_field v) (leaf_payload v) (Ok (leaf_cut (leaf_canon v)))
 leaf_back rows (Case k v) h none =
     let row = in_row (class_at rows k) v h.1 in
@@ -103,16 +101,16 @@ module _ (rows : Rows) (f : ℕ) (p : List ℕ) (v : Leaf) (hf : f < 65536) (hp 
       go (no_row e is) = subst P (sym is) (other e)
       go (a_row c e a is) = subst P (sym is) (row c e a)
 
-  -- it is in range
+  -- a value that was read is in range
   leaf_in_range : LeafInRange rows v
   leaf_in_range = by_case (LeafInRange rows) (λ e. (hf, hp))
       (λ c e a. (omega arith, subst (λ o. LeafInRangeBy o (meant c p)) (sym e) (meant_in_range c p hp a)))
 
-  -- it hides none
+  -- a value that was read hides none
   leaf_hides_none : LeafHidesNone rows v
   leaf_hides_none = by_case (LeafHidesNone rows) (λ e. e) (λ c e a. tt)
 
-  -- it is its own canon
+  -- a value that was read is its own canon
   leaf_own : leaf_canon v ≡ v
   leaf_own = by_case (λ w. leaf_canon w ≡ w) (λ e. refl) (λ c e a. ap (Case (kind_of f)) (meant_canon c p))
 
@@ -120,7 +118,7 @@ module _ (rows : Rows) (f : ℕ) (p : List ℕ) (v : Leaf) (hf : f < 65536) (hp 
   same_class : (c : Class) → class_at rows (kind_of f) ≡ Some c → class_at rows (kind_of (kind_of f)) ≡ Some c
   same_class c e = ap (class_at rows) (kind-kind f) ∙ e
 
-  -- it is written as it was read where that is allowed
+  -- a value that was read is written as it was read exactly where that is allowed
   leaf_fixed : ((leaf_field v ≡ f) × (leaf_payload v ≡ p)) ↔ LeafAllows rows f p
   leaf_fixed = by_case (λ w. ((leaf_field w ≡ f) × (leaf_payload w ≡ p)) ↔ LeafAllows rows f p)
       (λ e. (λ same. subst (λ q. leaf_allows_by q f p) (sym e) tt, λ allowed. (refl, refl)))
@@ -132,17 +130,17 @@ module _ (rows : Rows) (f : ℕ) (p : List ℕ) (v : Leaf) (hf : f < 65536) (hp 
             (omega (arith, is.0), tidy.1 is.1.is_tidy),
       ))
 
-  -- it is written no longer than it was read
+  -- a value that was read is written no longer than it was read
   pub leaf_short : length (leaf_payload v) ≤ length p
   leaf_short = by_case (λ w. length (leaf_payload w) ≤ length p) (λ e. omega arith) (λ c e a. written_short c p a)
 
-  -- cut, it is written as it is allowed
+  -- a value that was read, cut, is written as it is allowed
   leaf_cut_allowed : LeafAllows rows (leaf_field (leaf_cut v)) (leaf_payload (leaf_cut v))
   leaf_cut_allowed = by_case (λ w. LeafAllows rows (leaf_field (leaf_cut w)) (leaf_payload (leaf_cut w)))
       (λ e. subst (λ q. leaf_allows_by q f p) (sym e) tt)
       (λ c e a. subst (λ q. leaf_allows_by q (kind_of f) (written (Class.cut (meant c p)))) (sym (same_class c e)) (omega arith, cut_canonical c p hp a))
 
-  -- cutting it again changes nothing
+  -- cutting a value that was read twice is cutting it once
   leaf_cut_once : leaf_cut (leaf_cut v) ≡ leaf_cut v
   leaf_cut_once = by_case (λ w. leaf_cut (leaf_cut w) ≡ leaf_cut w) (λ e. refl) (λ c e a. ap (Case (kind_of f)) (cut_again c p))
 

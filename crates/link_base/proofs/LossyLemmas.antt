@@ -105,6 +105,7 @@ utf8_lossy-front text rest u = ⊎_elim
 no_front : (c k m : ℕ) → scalar c ≡ true → k < length (encode_utf8 c) → 0 < m → IsUtf8 (take m (take k (encode_utf8 c))) → length (take m (take k (encode_utf8 c))) ≡ 0
 no_front c k m is less some u = go u.0 u.1.0 u.1.1
   where
+    -- by the characters of the front
     go : (cs : List ℕ) → scalars cs ≡ true → encode_utf8_all cs ≡ take m (take k (encode_utf8 c)) → length (take m (take k (encode_utf8 c))) ≡ 0
     go [] all e = sym (ap length e)
     go (d ∷ cs) all e =

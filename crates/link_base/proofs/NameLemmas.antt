@@ -353,6 +353,7 @@ bytes-encode : (c : ℕ) → scalar c ≡ true → IsBytes (encode_utf8 c)
 unfolding encode_utf8
 bytes-encode c is = ⊎_elim (λ low. of_char c (omega arith)) (λ high. of_char c high.1) (scalar_cases c is)
   where
+    -- below the last scalar value
     of_char : (c : ℕ) → c < 1114112 → IsBytes (encode_utf8 c)
     of_char c top =
         cond_both (nat_lt c 128) _ _ IsBytes (λ e. (omega (arith, ltb-true c 128 e), tt)) (λ e1.

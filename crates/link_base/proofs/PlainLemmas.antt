@@ -1,17 +1,13 @@
 -- The laws of values that a program holds, from the laws of their table.
-use Rattle.std.proofs.Common.{◌≡◌, ◌↔◌, ℕ, List, map}
+use Rattle.std.proofs.Common.{◌≡◌, ◌↔◌, List, map}
 use Rattle.std.specs.List.{AllByRecursion}
 use Rattle.link_base.specs.Wire.{Wire}
-use Rattle.link_base.specs.Table.{Table, AttrValue, Gives, written_list, Fits, canon, cut}
+use Rattle.link_base.specs.Table.{Table, AttrValue, Gives, written_list, Fits, canon}
 use Rattle.link_base.specs.Held.{IsInRange, HidesNone, AttrIsUncut, IsPlain}
 use Rattle.link_base.specs.Lawful.{IsLawful}
 use Rattle.link_base.proofs.Written.{all_each, plain_wire, same_bytes_iff}
 
 module _ {table : Table} (law : IsLawful table) where
-  -- cutting leaves a plain value and its canon as they are
-  pub plain_uncut : (v : AttrValue) → IsPlain table v → (cut v ≡ v) × (cut (canon v) ≡ canon v)
-  plain_uncut v h = law.holding.uncut_stays v h.in_range h.uncut
-
   -- what is written for plain values that fit reads as their canons
   pub plain_back : (vs : List AttrValue) → AllByRecursion (IsPlain table) vs → AllByRecursion Fits vs → Wire (Gives table) (written_list vs) (map canon vs)
   plain_back vs h fit =

@@ -1,5 +1,5 @@
 -- Rewriting: what is written for the values that were read.
-use Rattle.std.proofs.Common.{◌≡◌, ◌↔◌, ℕ, ◌<◌, ◌≤◌, List, [], ◌∷◌, ◌++◌, length, map, replicate, Ok, refl, sym, ap, ap₂, subst, ◌∙◌, arith, length-append}
+use Rattle.std.proofs.Common.{◌≡◌, ◌↔◌, ℕ, ◌≤◌, List, [], ◌∷◌, ◌++◌, length, map, replicate, Ok, refl, sym, ap, ap₂, subst, ◌∙◌, arith, length-append}
 use Rattle.std.specs.List.{AllByRecursion}
 use Rattle.std.proofs.lemmas.List.{length-replicate}
 use Rattle.link_base.specs.Number.{IsBytes}
@@ -9,7 +9,7 @@ use Rattle.link_base.specs.Lawful.{IsReading, IsHolding, IsWriting}
 use Rattle.link_base.proofs.Cuts.{same_frame, one_cut_lem}
 use Rattle.link_base.proofs.Fronts.{length-frame_bytes, length-complete}
 use Rattle.link_base.proofs.Readings.{ReadEach, one_values}
-use Rattle.link_base.proofs.Written.{AreFrames-complete, spelled-append, IsComplete-whole, IsKnown, known_of, all_each, all_append, frame_for, spelled-frames, complete_frames, bytes-written, are_read, read_written}
+use Rattle.link_base.proofs.Written.{AreFrames-complete, spelled-append, IsKnown, known_of, all_each, all_append, frame_for, spelled-frames, complete_frames, bytes-written, are_read, read_written}
 
 -- ---- canonical strings
 
@@ -166,13 +166,13 @@ module _ {V : Type 0} {gives : Reading V} {field : V → ℕ} {payload : V → L
   pub reads_back : (s t : List ℕ) → IsBytes s → (r : RewritingBy gives field payload s t) → Wire gives t (map cut r.values)
   reads_back s t hs r = subst (λ u. Wire gives u (map cut r.values)) (sym r.string) (read_written holding s r.values hs r.wire r.fit)
 
-  -- what is known of values that were read, cut
+  -- values that fit, are allowed, and stay when they are cut again, once they are cut
   pub record AreCut (vs : List V) : Type 0 where
     pub fit : FitEach (map cut vs)
     pub once : map cut (map cut vs) ≡ map cut vs
     pub allowed : AllByRecursion (λ v. allows (field v) (payload v)) (map cut vs)
 
-  -- it is known one by one
+  -- each value that was read, cut, fits, is allowed, and stays when it is cut again
   cut_each : (xs : List Frame) (vs : List V) → AllByRecursion IsKnown xs → ReadEach gives xs vs → FitEach vs → AreCut vs
   cut_each [] [] k h fit = record { fit = tt; once = refl; allowed = tt }
   cut_each [] (v ∷ vs) k h fit = absurd h
@@ -185,7 +185,7 @@ module _ {V : Type 0} {gives : Reading V} {field : V → ℕ} {payload : V → L
         allowed = (writing.cut_allowed x.kind_field x.payload v k.0.kind_field k.0.bytes h.0 fit.0, later.allowed);
       }
 
-  -- the values of a string that has a rewriting, cut
+  -- the values of a string that has a rewriting are so
   pub are_cut : (s t : List ℕ) → IsBytes s → (r : RewritingBy gives field payload s t) → AreCut r.values
   are_cut s t hs r = cut_each r.wire.frames r.values (known_of s r.wire.frames hs r.wire.string) r.wire.values r.fit
 
@@ -199,7 +199,7 @@ module _ {V : Type 0} {gives : Reading V} {field : V → ℕ} {payload : V → L
   canonical_frames_of [] done h = tt
   canonical_frames_of (v ∷ vs) done h = (record { complete = done.0; zeros = refl; allowed = h.0 }, canonical_frames_of vs done.1 h.1)
 
-  -- it is canonical
+  -- the second rewriting is canonical
   pub second_canonical : (s t : List ℕ) → IsBytes s → (r : RewritingBy gives field payload s t) → CanonicalBy allows (written (map cut r.values))
   second_canonical s t hs r =
       let vs = map cut r.values in
@@ -207,7 +207,7 @@ module _ {V : Type 0} {gives : Reading V} {field : V → ℕ} {payload : V → L
       let done = complete_frames holding vs (are_read holding t vs (rewriting_bytes s t hs r) (reads_back s t hs r)).all_in known.fit in
       record { frames = map (frame_for field payload) vs; string = sym (spelled-frames field payload vs); each = canonical_frames_of vs done known.allowed }
 
-  -- so it is its own rewriting
+  -- the second rewriting is its own rewriting
   pub third : (s t : List ℕ) → IsBytes s → (r : RewritingBy gives field payload s t)
       → RewritingBy gives field payload (written (map cut r.values)) (written (map cut r.values))
   third s t hs r =

@@ -1,14 +1,13 @@
 -- The laws of tables with lists: every table is lawful.
-use Rattle.std.proofs.Common.{◌≡◌, ◌↔◌, ℕ, ◌+◌, ◌<◌, ◌≤◌, Bool, true, false, List, length, Option, Some, None, Result, Ok, refl, sym, ap, subst, ◌∙◌, arith}
+use Rattle.std.proofs.Common.{◌≡◌, ◌↔◌, ℕ, ◌+◌, ◌<◌, ◌≤◌, true, false, List, length, Option, Some, None, Result, Ok, refl, sym, ap, subst, ◌∙◌, arith}
 use Rattle.link_base.specs.OneForm.{attr_form}
 use Rattle.link_base.specs.Number.{IsBytes}
 use Rattle.link_base.specs.declared.fault.DecodeFault.{DecodeFault}
 use Rattle.link_base.specs.Frame.{kind_of, pad}
-use Rattle.link_base.specs.Wire.{FitsBy}
 use Rattle.link_base.specs.Table.{Case, Other, class_at, Shape, One, Nested, Addresses, Content, Table, AttrValue, ShapeGives, GivesBy, Gives, content_flag, content_payload, written_kind, written_payload, Fits, content_canon, canon, content_cut, cut, IsCanonicalContent, shape_flag, allows_by, Allows}
 use Rattle.link_base.specs.Held.{ContentInRange, ContentHidesNone, InRangeBy, IsInRange, HidesNoneBy, HidesNone, AttrIsUncut}
 use Rattle.link_base.specs.Lawful.{IsReading, IsHolding, IsWriting, IsLawful}
-use Rattle.link_base.proofs.Readings.{ok, same_ok}
+use Rattle.link_base.proofs.Readings.{same_ok}
 use Rattle.link_base.proofs.Leaves.{kind_below}
 use Rattle.link_base.proofs.Contents.{shape_decided, shape_one, Means, content_of, content_given, content_bytes, content_flagged, content_back, content_uncut_stays, read_content, content_fixed, content_reads, content_length, content_cut_allowed, content_cut_flag, length-content_cut, content_cut_once}
 
@@ -19,7 +18,7 @@ decided_by : (o : Option Shape) (f : ℕ) (p : List ℕ) → IsBytes p → (r : 
 decided_by None f p hp = (Ok (Other f p), refl)
 decided_by (Some s) f p hp = shape_decided s (kind_of f) p hp
 
--- and as one thing only
+-- an attribute reads as one thing only
 one_by : (o : Option Shape) (f : ℕ) (p : List ℕ) (r q : Result AttrValue DecodeFault) → GivesBy o f p r → GivesBy o f p q → r ≡ q
 one_by None f p r q a b = a ∙ sym b
 one_by (Some s) f p r q a b = shape_one s (kind_of f) p r q a b
@@ -64,14 +63,14 @@ in_row : (o : Option Shape) (c : Content) → InRangeBy o c → (s : Shape) × (
 in_row None c h = absurd h
 in_row (Some s) c h = (s, refl, h)
 
--- the kind field is one
+-- a value in range is written with a kind field
 attr_field_below : (table : Table) (v : AttrValue) → IsInRange table v → written_kind v < 65536
 attr_field_below table (Case k c) h =
     let row = in_row (class_at table k) c h.1 in
     subst (λ n. n < 65536) (ap (λ n. n + shape_flag row.0) (kind_below k h.0) ∙ ap (λ n. k + n) (sym (content_flagged row.0 c row.2))) (flagged_below k row.0)
 attr_field_below table (Other f p) h = h.0
 
--- the payload is bytes
+-- a value in range is written with bytes
 attr_payload_bytes : (table : Table) (v : AttrValue) → IsInRange table v → IsBytes (written_payload v)
 attr_payload_bytes table (Case k c) h = let row = in_row (class_at table k) c h.1 in content_bytes row.0 c row.2
 attr_payload_bytes table (Other f p) h = h.1
@@ -81,7 +80,7 @@ kind-written : (k : ℕ) (s : Shape) (c : Content) → k < 16384 → content_fla
 kind-written k s c h flag =
     ap (λ n. kind_of (k + n)) flag ∙ ap (λ n. kind_of (n + shape_flag s)) (sym (kind_below k h)) ∙ kind-flagged k s ∙ kind_below k h
 
--- what is written reads as the canon, cut
+-- what is written for a value in range reads as its canon, cut
 attr_back : (table : Table) (v : AttrValue) → IsInRange table v → HidesNone table v → Fits v → Gives table (written_kind v) (written_payload v) (Ok (cut (canon v)))
 attr_back table (Case k c) h none fit =
     let row = in_row (class_at table k) c h.1 in
@@ -116,25 +115,25 @@ module _ (table : Table) (f : ℕ) (p : List ℕ) (v : AttrValue) (hf : f < 6553
       go (no_row e is) = subst P (sym is) (other e)
       go (a_row s c e m is) = subst P (sym is) (row s c e m)
 
-  -- it is in range
+  -- a value that was read is in range
   attr_in_range : IsInRange table v
   attr_in_range = by_case (IsInRange table) (λ e. (hf, hp))
       (λ s c e m. (omega arith, subst (λ o. InRangeBy o c) (sym e) (read_content s p c hp m).in_range))
 
-  -- it hides none
+  -- a value that was read hides none
   attr_hides_none : HidesNone table v
   attr_hides_none = by_case (HidesNone table) (λ e. e)
       (λ s c e m. subst (λ o. HidesNoneBy o c) (sym e) (read_content s p c hp m).hides_none)
 
-  -- it is its own canon
+  -- a value that was read is its own canon
   attr_own : canon v ≡ v
   attr_own = by_case (λ w. canon w ≡ w) (λ e. refl) (λ s c e m. ap (Case (kind_of f)) (read_content s p c hp m).own)
 
-  -- the flag is that of the row
+  -- the flag of a content that was read is that of the row
   flag_is : (s : Shape) (c : Content) → Means s p c → content_flag c ≡ shape_flag s
   flag_is s c m = content_flagged s c (read_content s p c hp m).in_range
 
-  -- it is written as it was read where that is allowed
+  -- a value that was read is written as it was read exactly where that is allowed
   attr_fixed : length p ≤ 65531 → ((written_kind v ≡ f) × (written_payload v ≡ p)) ↔ Allows table f p
   attr_fixed hl = by_case (λ w. ((written_kind w ≡ f) × (written_payload w ≡ p)) ↔ Allows table f p)
       (λ e. (λ same. subst (λ o. allows_by o f p) (sym e) tt, λ allowed. (refl, refl)))
@@ -147,11 +146,11 @@ module _ (table : Table) (f : ℕ) (p : List ℕ) (v : AttrValue) (hf : f < 6553
             (flag ∙ sym is.0, iff.1 is.1),
       ))
 
-  -- it is written no longer than it was read, rounded up to four
+  -- a value that was read is written no longer than it was read, rounded up to four
   attr_length : length (written_payload v) ≤ pad (length p)
   attr_length = by_case (λ w. length (written_payload w) ≤ pad (length p)) (λ e. omega arith) (λ s c e m. content_length s p c hp m)
 
-  -- cut, it is written as it is allowed
+  -- a value that was read, cut, is written as it is allowed
   attr_cut_allowed : length (written_payload v) ≤ 65531 → Allows table (written_kind (cut v)) (written_payload (cut v))
   attr_cut_allowed = by_case (λ w. length (written_payload w) ≤ 65531 → Allows table (written_kind (cut w)) (written_payload (cut w)))
       (λ e fit. subst (λ o. allows_by o f p) (sym e) tt)
@@ -165,7 +164,7 @@ module _ (table : Table) (f : ℕ) (p : List ℕ) (v : AttrValue) (hf : f < 6553
         content_cut_allowed s p c hp m fit,
       ))
 
-  -- cutting it again changes nothing
+  -- cutting a value that was read twice is cutting it once
   attr_cut_once : cut (cut v) ≡ cut v
   attr_cut_once = by_case (λ w. cut (cut w) ≡ cut w) (λ e. refl) (λ s c e m. ap (Case (kind_of f)) (content_cut_once s p c hp m))
 

@@ -1,5 +1,5 @@
 -- Values of the classes: what is read is in range, and what is in range is written and read again.
-use Rattle.std.proofs.Common.{◌≡◌, ◌⊎◌, ℕ, ℤ, zero, suc, ◌-◌, ◌<◌, ◌≤◌, Bool, true, false, List, [], ◌∷◌, ◌++◌, length, take, drop, reverse, replicate, slice_index, None, Ok, refl, sym, ap, ap₂, subst, ◌∙◌, arith, inl, inr, ⊎_elim, length-append, length-take, length-drop, take_all, IsUtf8}
+use Rattle.std.proofs.Common.{◌≡◌, ◌⊎◌, ℕ, ℤ, zero, suc, ◌-◌, ◌<◌, ◌≤◌, true, false, List, [], ◌∷◌, ◌++◌, length, take, drop, reverse, replicate, slice_index, None, Ok, refl, sym, ap, ap₂, subst, ◌∙◌, arith, inl, inr, ⊎_elim, length-append, length-take, length-drop, take_all, IsUtf8}
 use Rattle.std.specs.Prelude.{◌==◌, nat_lt, FitsSigned}
 use Rattle.std.specs.Int.{w32, cast_signed, cast_unsigned}
 use Rattle.std.specs.Str.Lossy.{utf8_lossy}
@@ -133,6 +133,7 @@ back Protocol (EtherType d) h = ⊎_elim
     (λ (ad : d ≡ 0x88A8). subst Same (sym ad) refl)
     h
   where
+    -- a written EtherType reads as it is
     Same : ℕ → Type 0
     Same x = class_value Protocol (written (EtherType x)) ≡ Ok (EtherType x)
 back Low (LowByte b) h = refl
@@ -168,6 +169,7 @@ written_bytes c v h = absurd h
 cut_uncut : (name : List ℕ) → IsUtf8 name → HasNoNul name → length name ≤ 15 → cut_name name ≡ name
 cut_uncut name u clean short = ap cut_of (take_all 15 name short) ∙ ap utf8_lossy (before_nul-clean name clean) ∙ utf8_lossy-IsUtf8 name u
   where
+    -- the text that is read from bytes
     cut_of : List ℕ → List ℕ
     cut_of t = utf8_lossy (before_nul t)
 
@@ -182,7 +184,7 @@ uncut_stays c v h k = (refl, refl)
 
 -- ---- what is written for a value that was read, cut
 
--- it is canonical
+-- what is written for a value that was read, cut, is canonical
 pub cut_canonical : (c : Class) (p : List ℕ) → IsBytes p → length_cause (extent c) (length p) ≡ None → IsCanonicalPayload c (written (cut (meant c p)))
 cut_canonical (Unsigned n) p h e = record { is_accepted = at_size (Exactly n) _ (length-bytes_of n (number p)); is_tidy = tt }
 cut_canonical Signed p h e = record { is_accepted = refl; is_tidy = tt }
@@ -215,7 +217,7 @@ cut_canonical Limits p h e =
       is_tidy = (total, subst IsNameField (sym (take_at f rest 16 len)) (cut_is_canonical_lem name (IsUtf8-lossy (before_nul (take 16 p)))));
     }
 
--- cutting it again changes nothing
+-- cutting a value that was read twice is cutting it once
 pub cut_again : (c : Class) (p : List ℕ) → cut (cut (meant c p)) ≡ cut (meant c p)
 cut_again (Unsigned n) p = refl
 cut_again Signed p = refl

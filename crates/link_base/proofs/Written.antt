@@ -1,12 +1,11 @@
 -- What is written for values that a program holds, and what that reads as.
-use Rattle.std.proofs.Common.{◌≡◌, ◌↔◌, ℕ, ◌<◌, ◌≤◌, List, [], ◌∷◌, ◌++◌, length, map, replicate, Ok, refl, sym, ap, ap₂, subst, ◌∙◌, arith, append_assoc}
-use Rattle.std.specs.List.{AllZip, AllByRecursion}
+use Rattle.std.proofs.Common.{◌≡◌, ◌↔◌, ℕ, ◌<◌, ◌≤◌, List, [], ◌∷◌, ◌++◌, length, map, replicate, refl, sym, ap, ap₂, subst, ◌∙◌, arith, append_assoc}
+use Rattle.std.specs.List.{AllByRecursion}
 use Rattle.std.proofs.lemmas.List.{length-replicate}
 use Rattle.link_base.specs.Number.{IsBytes}
-use Rattle.link_base.specs.Frame.{Frame, Frames, IsFrame, IsComplete, AreFrames, frame_bytes, spelled, gap}
-use Rattle.link_base.specs.Wire.{Reading, FrameGives, Wire, whole, written_by, FitsBy}
+use Rattle.link_base.specs.Frame.{Frame, Frames, IsComplete, AreFrames, frame_bytes, spelled, gap}
+use Rattle.link_base.specs.Wire.{Reading, Wire, whole, written_by, FitsBy}
 use Rattle.link_base.specs.Lawful.{IsReading, IsHolding}
-use Rattle.link_base.proofs.Cuts.{IsFrame-complete}
 use Rattle.link_base.proofs.Fronts.{bytes-append, bytes-back, bytes-payload}
 use Rattle.link_base.proofs.Values.{bytes-zeros}
 use Rattle.link_base.proofs.Readings.{AreFrames-cons, ReadEach, one_values}
@@ -31,13 +30,13 @@ IsComplete-whole f p hf hp = record { kind_field = hf; payload = hp; padding = l
 pub bytes-whole : (f : ℕ) (p : List ℕ) → IsBytes p → IsBytes (frame_bytes (whole f p))
 bytes-whole f p h = (omega arith, (omega arith, (omega arith, (omega arith, bytes-append p (replicate (gap p) 0) h (bytes-zeros (gap p))))))
 
--- what is known of a frame of a string of bytes
+-- a frame of a string of bytes has a kind field, a payload that fits, and bytes in it
 pub record IsKnown (x : Frame) : Type 0 where
   pub kind_field : x.kind_field < 65536
   pub payload : length x.payload ≤ 65531
   pub bytes : IsBytes x.payload
 
--- it is known of each of them
+-- each frame of a string of bytes is so
 known : (xs : List Frame) → AreFrames xs → IsBytes (spelled xs) → AllByRecursion IsKnown xs
 known [] h k = tt
 known (x ∷ []) h k = (record { kind_field = h.kind_field; payload = h.payload; bytes = bytes-payload x [] k }, tt)
@@ -46,7 +45,7 @@ known (x ∷ y ∷ xs) h k = (
   known (y ∷ xs) h.1 (bytes-back (frame_bytes x) (spelled (y ∷ xs)) k),
 )
 
--- the frames of a string of bytes
+-- the frames that a string of bytes is cut into are so
 pub known_of : (s : List ℕ) (xs : List Frame) → IsBytes s → Frames s xs → AllByRecursion IsKnown xs
 known_of s xs h w = known xs w.frames (subst IsBytes w.string h)
 
@@ -145,7 +144,7 @@ module _ {V : Type 0} {gives : Reading V} {field : V → ℕ} {payload : V → L
     pub hide_none : AllByRecursion hides_none vs
     pub own : map canon vs ≡ vs
 
-  -- they are so one by one
+  -- the values of frames are in range, hide none, and are their own canons
   read_each : (xs : List Frame) (vs : List V) → AllByRecursion IsKnown xs → ReadEach gives xs vs → AreRead vs
   read_each [] [] k h = record { all_in = tt; hide_none = tt; own = refl }
   read_each [] (v ∷ vs) k h = absurd h
@@ -158,7 +157,7 @@ module _ {V : Type 0} {gives : Reading V} {field : V → ℕ} {payload : V → L
         own = ap₂ (λ a b. a ∷ b) (holding.read_own x.kind_field x.payload v k.0.kind_field k.0.bytes h.0) later.own;
       }
 
-  -- the values of a string of bytes
+  -- the values of a string of bytes are in range, hide none, and are their own canons
   pub are_read : (s : List ℕ) (vs : List V) → IsBytes s → Wire gives s vs → AreRead vs
   are_read s vs hs w = read_each w.frames vs (known_of s w.frames hs w.string) w.values
 

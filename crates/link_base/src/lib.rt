@@ -6,6 +6,7 @@ mod buffer;
 mod default_nla;
 mod fault;
 mod iterator;
+pub mod laws;
 mod list;
 mod nested;
 mod octets;

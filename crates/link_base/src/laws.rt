@@ -1,0 +1,125 @@
+//! The laws of lists: what is proved of every family, and of every table. Nothing here runs.
+
+ghost use Rattle.std.specs.Prelude.{◌≡◌, ◌↔◌, ℕ, ◌+◌, ◌%◌, ◌<◌, ◌≤◌, true, List, ◌++◌, length, map, None, Result, Ok};
+ghost use Rattle.std.specs.List.{AllByRecursion};
+ghost use Rattle.link_base.specs.declared.fault.DecodeFault.{DecodeFault};
+ghost use Rattle.link_base.specs.Number.{IsBytes};
+ghost use Rattle.link_base.specs.Frame.{Frame, Frames, kind_of};
+ghost use Rattle.link_base.specs.Wire.{Wire, FirstFault, Reads};
+ghost use Rattle.link_base.specs.Table.{Table, AttrValue, Other, class_at, Gives, written_kind, written_payload, written_list, Fits, canon, cut, Canonical, Rewriting};
+ghost use Rattle.link_base.specs.Held.{IsInRange, HidesNone, IsPlain};
+ghost use Rattle.link_base.specs.WellFormed.{is_table, IsOverfull};
+ghost use Rattle.link_base.specs.Lawful.{IsLawful};
+
+use crate::attribute::Attribute;
+
+// ---- tables
+
+/// Each table is lawful: this is what a family answers for its law `lawful`.
+pub fn lawful()
+    ensures { (table : Table) → IsLawful table }
+{}
+
+/// In each table each string of bytes reads as its values or as its first fault, and as one of these only.
+pub fn one_reading()
+    ensures either { (table : Table) (s : List ℕ) → IsBytes s → (q : Result (List AttrValue) (ℕ × DecodeFault)) × Reads (Gives table) s q }
+    ensures only { (table : Table) (s : List ℕ) (q r : Result (List AttrValue) (ℕ × DecodeFault))
+        → Reads (Gives table) s q → Reads (Gives table) s r → q ≡ r }
+{}
+
+/// A string is cut into frames in one way only.
+pub fn one_cut()
+    ensures { (s : List ℕ) (xs ys : List Frame) → Frames s xs → Frames s ys → xs ≡ ys }
+{}
+
+/// In a well-formed table a value that was read fits into a frame, but for a nested list that fills the last bytes of
+/// the longest payload.
+pub fn limit()
+    ensures { (table : Table) (f : ℕ) (p : List ℕ) (v : AttrValue) → is_table table ≡ true → IsBytes p → length p ≤ 65531
+        → Gives table f p (Ok v) → (¬ (Fits v)) ↔ IsOverfull (class_at table (kind_of f)) p }
+{}
+
+// ---- families: values that were read
+
+/// What is written for values that were read and fit reads as these values, cut.
+pub fn reads_back<F: Attribute>()
+    ensures { (s : List ℕ) (vs : List F) → IsBytes s → Wire (Gives F.table) s (map F.means vs) → AllByRecursion Fits (map F.means vs)
+        → Wire (Gives F.table) (written_list (map F.means vs)) (map cut (map F.means vs)) }
+{}
+
+/// A value that was read is in range, hides no kind that has a row, and is its own canon.
+pub fn read_values<F: Attribute>()
+    ensures in_range { (f : ℕ) (p : List ℕ) (v : F) → f < 65536 → IsBytes p → Gives F.table f p (Ok (F.means v)) → IsInRange F.table (F.means v) }
+    ensures hides_none { (f : ℕ) (p : List ℕ) (v : F) → f < 65536 → IsBytes p → Gives F.table f p (Ok (F.means v)) → HidesNone F.table (F.means v) }
+    ensures own { (f : ℕ) (p : List ℕ) (v : F) → f < 65536 → IsBytes p → Gives F.table f p (Ok (F.means v)) → canon (F.means v) ≡ F.means v }
+{}
+
+/// Where no row has the kind, the value that is read is `Other` of the kind field and the payload, and is written with both.
+pub fn other_kept<F: Attribute>()
+    ensures { (f : ℕ) (p : List ℕ) (v : F) → class_at F.table (kind_of f) ≡ None → Gives F.table f p (Ok (F.means v))
+        → (F.means v ≡ Other f p) × (written_kind (F.means v) ≡ f) × (written_payload (F.means v) ≡ p) }
+{}
+
+/// A string behind another of whole frames: its values come after those of the first, or its first fault does.
+pub fn joined<F: Attribute>()
+    ensures values { (a b : List ℕ) (vs ws : List F) → length a % 4 ≡ 0 → Wire (Gives F.table) a (map F.means vs) → Wire (Gives F.table) b (map F.means ws)
+        → Wire (Gives F.table) (a ++ b) (map F.means (vs ++ ws)) }
+    ensures fault { (a b : List ℕ) (vs : List F) (at : ℕ) (fault : DecodeFault) → length a % 4 ≡ 0 → Wire (Gives F.table) a (map F.means vs)
+        → FirstFault (Gives F.table) b at fault → FirstFault (Gives F.table) (a ++ b) (length a + at) fault }
+{}
+
+// ---- families: values that a program holds
+
+/// What is written for plain values that fit reads as their canons.
+pub fn plain_back<F: Attribute>()
+    ensures { (vs : List F) → AllByRecursion (IsPlain F.table) (map F.means vs) → AllByRecursion Fits (map F.means vs)
+        → Wire (Gives F.table) (written_list (map F.means vs)) (map canon (map F.means vs)) }
+{}
+
+/// Plain values that fit are written as equal bytes exactly where their canons are equal.
+pub fn plain_bytes<F: Attribute>()
+    ensures { (vs ws : List F) → AllByRecursion (IsPlain F.table) (map F.means vs) → AllByRecursion Fits (map F.means vs)
+        → AllByRecursion (IsPlain F.table) (map F.means ws) → AllByRecursion Fits (map F.means ws)
+        → (written_list (map F.means vs) ≡ written_list (map F.means ws)) ↔ (map canon (map F.means vs) ≡ map canon (map F.means ws)) }
+{}
+
+/// Cutting leaves a plain value and its canon as they are.
+pub fn plain_uncut<F: Attribute>()
+    ensures { (v : F) → IsPlain F.table (F.means v) → (cut (F.means v) ≡ F.means v) × (cut (canon (F.means v)) ≡ canon (F.means v)) }
+{}
+
+/// A value and its canon are written with one kind field and one payload.
+pub fn one_form<F: Attribute>()
+    ensures { (v : F) → (written_kind (canon (F.means v)) ≡ written_kind (F.means v)) × (written_payload (canon (F.means v)) ≡ written_payload (F.means v)) }
+{}
+
+// ---- families: rewritings and canonical strings
+
+/// A string has at most one rewriting, and a second rewriting is its own rewriting, and its only one.
+pub fn one_rewriting<F: Attribute>()
+    ensures at_most_one { (s t u : List ℕ) → Rewriting F.table s t → Rewriting F.table s u → t ≡ u }
+    ensures second { (s t u : List ℕ) → IsBytes s → Rewriting F.table s t → Rewriting F.table t u → Rewriting F.table u u }
+    ensures third { (s t u w : List ℕ) → IsBytes s → Rewriting F.table s t → Rewriting F.table t u → Rewriting F.table u w → w ≡ u }
+{}
+
+/// Two strings have one second rewriting exactly where their values are equal, cut.
+pub fn second_equal<F: Attribute>()
+    ensures { (s t u s2 t2 u2 : List ℕ) (vs ws : List F) → IsBytes s → IsBytes s2
+        → Wire (Gives F.table) s (map F.means vs) → Rewriting F.table s t → Rewriting F.table t u
+        → Wire (Gives F.table) s2 (map F.means ws) → Rewriting F.table s2 t2 → Rewriting F.table t2 u2
+        → (u ≡ u2) ↔ (map cut (map F.means vs) ≡ map cut (map F.means ws)) }
+{}
+
+/// Every canonical string of bytes is read, and its values fit and are written as it stands.
+pub fn canonical_reads<F: Attribute>()
+    ensures read { (s : List ℕ) → IsBytes s → Canonical F.table s → (vs : List AttrValue) × Wire (Gives F.table) s vs }
+    ensures fit { (s : List ℕ) (vs : List AttrValue) → IsBytes s → Canonical F.table s → Wire (Gives F.table) s vs → AllByRecursion Fits vs }
+    ensures stays { (s : List ℕ) (vs : List AttrValue) → IsBytes s → Canonical F.table s → Wire (Gives F.table) s vs → written_list vs ≡ s }
+{}
+
+/// Canonical strings with equal values are equal, and two canonical strings, joined, are canonical.
+pub fn canonical_once<F: Attribute>()
+    ensures once { (s t : List ℕ) (vs : List F) → IsBytes s → IsBytes t → Canonical F.table s → Canonical F.table t
+        → Wire (Gives F.table) s (map F.means vs) → Wire (Gives F.table) t (map F.means vs) → s ≡ t }
+    ensures joined { (s t : List ℕ) → Canonical F.table s → Canonical F.table t → Canonical F.table (s ++ t) }
+{}

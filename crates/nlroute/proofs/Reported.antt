@@ -1,0 +1,2 @@
+-- Lines of a report.
+use Rattle.std.proofs.Common.{◌≡◌}
