@@ -18,15 +18,19 @@ line text = text ++ 10 ∷ []
 
 -- where reading found the fault
 abbrev pub fault_line : ℕ → DecodeFault → List ℕ
-fault_line at fault = line (codes "fault at " ++ (decimal at ++ (codes ": " ++ fault_text fault)))
+fault_line at fault = codes "fault at " ++ (decimal at ++ (codes ": " ++ line (fault_text fault)))
 
 -- which value is too long
 abbrev pub too_long_line : ℕ → List ℕ
 too_long_line i = line (codes "too long at " ++ decimal i)
 
+-- a kind field and a length
+abbrev pub attr_line_of : ℕ → ℕ → List ℕ
+attr_line_of kind_field size = line (codes "attr " ++ (decimal kind_field ++ (codes " len " ++ decimal size)))
+
 -- a value: its written kind field, and the length of its written payload
 abbrev pub attr_line : AttrValue → List ℕ
-attr_line v = line (codes "attr " ++ (decimal (written_kind v) ++ (codes " len " ++ decimal (length (written_payload v)))))
+attr_line v = attr_line_of (written_kind v) (length (written_payload v))
 
 -- the written bytes
 abbrev pub out_line : List ℕ → List ℕ
@@ -37,15 +41,21 @@ out_line (b ∷ bytes) = line (codes "out " ++ encode_lower (b ∷ bytes))
 abbrev pub value_lines : List AttrValue → List ℕ
 value_lines vs = flat_map attr_line vs ++ out_line (written_list vs)
 
+-- whether the written bytes are those that were read
+pub data Verdict (written read text : List ℕ) : Type 0 where
+  Same : written ≡ read → text ≡ line (codes "same") → Verdict written read text
+  Changed : written ≢ read → text ≡ line (codes "changed") → Verdict written read text
+
 -- ---- what is printed, and the status
 
-pub data Prints (table : Table) (s : List ℕ) : List ℕ → ℕ → Type 0 where
-  -- all values fit, and are written as they were read
-  Same : (vs : List AttrValue) → Wire (Gives table) s vs → AllByRecursion Fits vs → written_list vs ≡ s → Prints table s (value_lines vs ++ line (codes "same")) 0
-  -- all values fit, and are written as other bytes
-  Changed : (vs : List AttrValue) → Wire (Gives table) s vs → AllByRecursion Fits vs → written_list vs ≢ s → Prints table s (value_lines vs ++ line (codes "changed")) 0
-  Fault : (at : ℕ) (fault : DecodeFault) → FirstFault (Gives table) s at fault → Prints table s (fault_line at fault) 1
-  TooLong : (vs : List AttrValue) (i : ℕ) → Wire (Gives table) s vs → IsFirstUnfit vs i → Prints table s (too_long_line i) 3
+pub data Prints (table : Table) (s out : List ℕ) (status : ℕ) : Type 0 where
+  -- all values fit
+  Success : (vs : List AttrValue) (verdict : List ℕ) → Wire (Gives table) s vs → AllByRecursion Fits vs → Verdict (written_list vs) s verdict
+      → out ≡ value_lines vs ++ verdict → status ≡ 0 → Prints table s out status
+  -- the string has a fault
+  Fault : (at : ℕ) (fault : DecodeFault) → FirstFault (Gives table) s at fault → out ≡ fault_line at fault → status ≡ 1 → Prints table s out status
+  -- a value does not fit
+  TooLong : (vs : List AttrValue) (i : ℕ) → Wire (Gives table) s vs → IsFirstUnfit vs i → out ≡ too_long_line i → status ≡ 3 → Prints table s out status
 
 -- space, tab, CR and LF
 abbrev pub is_space : ℕ → Bool

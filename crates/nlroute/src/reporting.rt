@@ -1,16 +1,15 @@
 //! The program's output for a text.
 
-ghost use Rattle.std.specs.Prelude.{◌≡◌, ◌≤◌, ◌++◌, IfOk, map, not, flat_map, string_bytes};
+ghost use Rattle.std.specs.Prelude.{◌≡◌, ◌++◌, IfOk, OnOk, map, flat_map, string_bytes};
 ghost use Rattle.std.specs.List.{AllByRecursion};
-ghost use Rattle.hex.specs.Hex.{encode_lower};
 ghost use Rattle.link_base.specs.Table.{Fits};
 ghost use Rattle.nlroute.specs.Family.{table_of};
-ghost use Rattle.nlroute.specs.Report.{Reports, Prints, digits_of, is_space, attr_line, out_line, value_lines};
+ghost use Rattle.nlroute.specs.Report.{Reports, Prints, digits_of, fault_line, too_long_line, attr_line, attr_line_of, out_line, Verdict};
 
 use crate::dsa::InfoDsa;
 use crate::family::Family;
 use hex::FromHexError;
-use link_base::{Attribute, ListError, WriteError, read_list, write_list};
+use link_base::{Attribute, DecodeFault, ListError, WriteError, read_list, write_list};
 use std::alloc::{AllocError, Global};
 
 /// The most bytes of a text.
@@ -55,24 +54,28 @@ fn report_bytes<F: Attribute>(alloc: Global, bytes: &[u8]) -> Result<(String, u8
     let values: Vec<F> = match read_list(alloc, bytes) {
         Ok(values) => values,
         Err(ListError::Memory(error)) => return Err(error),
-        Err(ListError::Fault { at, fault }) => {
-            return Ok((format!(in alloc; "fault at {at}: {fault}\n")?, 1));
-        }
+        Err(ListError::Fault { at, fault }) => return Ok((fault_text(alloc, at, fault)?, 1)),
     };
     let out = match write_list(alloc, &values) {
         Ok(out) => out,
         Err(WriteError::Memory(error)) => return Err(error),
-        Err(WriteError::TooLong { index }) => {
-            return Ok((format!(in alloc; "too long at {index}\n")?, 3));
-        }
+        Err(WriteError::TooLong { index }) => return Ok((too_long_text(alloc, index)?, 3)),
     };
     let mut text = value_text(alloc, &values, &out)?;
-    if out.as_slice() == bytes {
-        text.push_str("same\n")?;
-    } else {
-        text.push_str("changed\n")?;
-    }
+    text.push_str(verdict(&out, bytes))?;
     Ok((text, 0))
+}
+
+fn fault_text(alloc: Global, at: usize, fault: DecodeFault) -> Result<String, AllocError>
+    ensures { IfOk result (λ text. string_bytes text ≡ fault_line at fault) }
+{
+    format!(in alloc; "fault at {at}: {fault}\n")
+}
+
+fn too_long_text(alloc: Global, index: usize) -> Result<String, AllocError>
+    ensures { IfOk result (λ text. string_bytes text ≡ too_long_line index) }
+{
+    format!(in alloc; "too long at {index}\n")
 }
 
 fn value_text<F: Attribute>(alloc: Global, values: &[F], out: &[u8]) -> Result<String, AllocError>
@@ -81,15 +84,30 @@ fn value_text<F: Attribute>(alloc: Global, values: &[F], out: &[u8]) -> Result<S
 {
     let mut text = String::new(alloc);
     for value in values {
-        let kind = value.kind();
-        let len = value.value_len();
-        writeln!(text, "attr {kind} len {len}")?;
+        push_attr(&mut text, value.kind(), value.value_len())?;
     }
-    if out.is_empty() {
-        text.push_str("out\n")?;
-    } else {
-        let digits = hex::encode(alloc, out)?;
-        writeln!(text, "out {digits}")?;
-    }
+    push_out(alloc, &mut text, out)?;
     Ok(text)
+}
+
+fn verdict(out: &[u8], bytes: &[u8]) -> &'static str
+    ensures { Verdict out.now bytes.now result.now }
+{
+    if out == bytes { "same\n" } else { "changed\n" }
+}
+
+fn push_attr(text: &mut String, kind: u16, len: usize) -> Result<(), AllocError>
+    ensures { OnOk result (string_bytes text.new ≡ string_bytes text.old ++ attr_line_of kind len) }
+{
+    writeln!(text, "attr {kind} len {len}")
+}
+
+fn push_out(alloc: Global, text: &mut String, out: &[u8]) -> Result<(), AllocError>
+    ensures { OnOk result (string_bytes text.new ≡ string_bytes text.old ++ out_line out.now) }
+{
+    if out.is_empty() {
+        return text.push_str("out\n");
+    }
+    let digits = hex::encode(alloc, out)?;
+    writeln!(text, "out {digits}")
 }

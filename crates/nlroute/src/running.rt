@@ -76,7 +76,7 @@ fn read_text<R: Read>(alloc: Global, reader: &mut R) -> Result<Vec<u8>, InputErr
 }
 
 /// Writes the text, and answers the status, or 5 where that failed.
-fn print<W: Write>(writer: &mut W, text: &str, status: u8) -> u8
+pub(crate) fn print<W: Write>(writer: &mut W, text: &str, status: u8) -> u8
     ensures { PrintsOrFails (W.contents writer.old) (W.contents writer.new) text.now status result }
 {
     match writer.write_all(text.as_bytes()) {
