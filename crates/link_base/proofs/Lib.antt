@@ -19,3 +19,4 @@ pub mod Lifted
 pub mod JoinedLemmas
 pub mod LimitLemmas
 pub mod PlainLemmas
+pub mod ItemLemmas

@@ -66,16 +66,16 @@ pub record Continues {V : Type 0} (gives : Reading V) (s : List ℕ) (vs : List 
   pub values : (ws : List V) → Wire gives rest ws → Wire gives s (vs ++ ws)
   pub fault : (i : ℕ) (c : DecodeFault) → FirstFault gives rest i c → FirstFault gives s (at + i) c
 
-are_more : (x : Frame) (xs : List Frame) → IsFrame x → (spelled xs ≡ []) ⊎ IsComplete x → AreFrames xs → AreFrames (x ∷ xs)
+pub are_more : (x : Frame) (xs : List Frame) → IsFrame x → (spelled xs ≡ []) ⊎ IsComplete x → AreFrames xs → AreFrames (x ∷ xs)
 are_more x [] hx h k = hx
 are_more x (y ∷ xs) hx (inl e) k = absurd cc
 are_more x (y ∷ xs) hx (inr c) k = (c, k)
 
-end_or : (next : List ℕ) (xs : List Frame) (x : Frame) → next ≡ spelled xs → (next ≡ []) ⊎ IsComplete x → (spelled xs ≡ []) ⊎ IsComplete x
+pub end_or : (next : List ℕ) (xs : List Frame) (x : Frame) → next ≡ spelled xs → (next ≡ []) ⊎ IsComplete x → (spelled xs ≡ []) ⊎ IsComplete x
 end_or next xs x e (inl n) = inl (sym e ∙ n)
 end_or next xs x e (inr c) = inr c
 
-complete_of : (next : List ℕ) (front : List Frame) (rest : List ℕ) (x : Frame) → next ≡ spelled front ++ rest → 0 < length rest → (next ≡ []) ⊎ IsComplete x → IsComplete x
+pub complete_of : (next : List ℕ) (front : List Frame) (rest : List ℕ) (x : Frame) → next ≡ spelled front ++ rest → 0 < length rest → (next ≡ []) ⊎ IsComplete x → IsComplete x
 complete_of next front rest x e some (inl n) = absurd (omega (arith, ap length e, ap length n, length-append (spelled front) rest))
 complete_of next front rest x e some (inr c) = c
 

@@ -1,8 +1,13 @@
 //! The laws of lists: what is proved of every family, and of every table. Nothing here runs.
 
-ghost use Rattle.std.specs.Prelude.{◌≡◌, ◌↔◌, ℕ, ◌+◌, ◌%◌, ◌<◌, ◌≤◌, true, List, ◌++◌, length, map, None, Result, Ok};
+ghost use Rattle.std.specs.Prelude.{◌≡◌, ◌↔◌, ℕ, ◌+◌, ◌/◌, ◌%◌, ◌<◌, ◌≤◌, true, List, ◌++◌, length, map, None, Result, Ok};
 ghost use Rattle.std.specs.List.{AllByRecursion};
 ghost use Rattle.link_base.specs.declared.fault.DecodeFault.{DecodeFault};
+ghost use Rattle.std.specs.Iterator.{Drains};
+ghost use Rattle.link_base.specs.declared.buffer.NlaBuffer.{NlaBuffer};
+ghost use Rattle.link_base.specs.declared.iterator.NlasIterator.{NlasIterator};
+ghost use Rattle.link_base.specs.declared.fault.DecodeError.{DecodeError};
+ghost use Rattle.link_base.specs.Items.{AreItems, bytes_left};
 ghost use Rattle.link_base.specs.Number.{IsBytes};
 ghost use Rattle.link_base.specs.Frame.{Frame, Frames, kind_of};
 ghost use Rattle.link_base.specs.Wire.{Wire, FirstFault, Reads};
@@ -12,6 +17,7 @@ ghost use Rattle.link_base.specs.WellFormed.{is_table, IsOverfull};
 ghost use Rattle.link_base.specs.Lawful.{IsLawful};
 
 use crate::attribute::Attribute;
+use crate::iterator::NlasIterator;
 
 // ---- tables
 
@@ -37,6 +43,13 @@ pub fn one_cut()
 pub fn limit()
     ensures { (table : Table) (f : ℕ) (p : List ℕ) (v : AttrValue) → is_table table ≡ true → IsBytes p → length p ≤ 65531
         → Gives table f p (Ok v) → (¬ (Fits v)) ↔ IsOverfull (class_at table (kind_of f)) p }
+{}
+
+/// In a whole run an iterator gives the frames of its bytes, or those before the first frame fault and then the fault,
+/// and at most one item for each four bytes and one more.
+pub fn items()
+    ensures { (it : NlasIterator) (items : List (Result NlaBuffer DecodeError)) → Drains (⟦<NlasIterator<'static> as Iterator>⟧.next_gives) it items
+        → AreItems (bytes_left it) items × (length items ≤ length (bytes_left it) / 4 + 1) }
 {}
 
 // ---- families: values that were read

@@ -1,12 +1,17 @@
 -- What a run of the program reads, writes and answers.
-use Rattle.std.specs.Prelude.{◌≡◌, ◌≢◌, ◌⊎◌, ℕ, ◌<◌, List, length, codes, Option, Some}
+use Rattle.std.specs.Prelude.{◌≡◌, ◌≢◌, ◌⊎◌, ℕ, ◌≤◌, List, length, codes, Option, Some}
 use Rattle.std.specs.Io.KnownBytes.{Appends, Consumes, IsAtEnd}
 use Rattle.link_base.specs.Table.{Table}
 use Rattle.nlroute.specs.declared.family.Family.{Family}
 use Rattle.nlroute.specs.Family.{name_of}
 use Rattle.nlroute.specs.Report.{Reports, line}
 
--- 262,145 bytes were read, one more than a text may have, or the reader is at its end
+-- this was read of a reader: at most 262,145 bytes, one more than a text may have
+pub record IsRead (left_before left_after : Option (List ℕ)) (text : List ℕ) : Type 0 where
+  pub bytes : Consumes left_before left_after text
+  pub most : length text ≤ 262145
+
+-- so many bytes were read, or the reader is at its end
 abbrev pub IsAllRead : List ℕ → Option (List ℕ) → Type 0
 IsAllRead text left = (length text ≡ 262145) ⊎ IsAtEnd left
 
@@ -14,7 +19,7 @@ IsAllRead text left = (length text ≡ 262145) ⊎ IsAtEnd left
 pub record RunsFor (table : Table) (left_before left_after held_before held_after : Option (List ℕ)) (status : ℕ) : Type 0 where
   pub text : List ℕ
   pub out : List ℕ
-  pub read : Consumes left_before left_after text
+  pub read : IsRead left_before left_after text
   pub all : IsAllRead text left_after
   pub report : Reports table text out status
   pub written : Appends held_before held_after out

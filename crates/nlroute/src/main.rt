@@ -8,6 +8,8 @@ mod family;
 mod reporting;
 mod rewriting;
 mod running;
+#[cfg(test)]
+mod tests;
 
 use std::alloc::AllocError;
 use std::process::ExitCode;

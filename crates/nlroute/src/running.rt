@@ -1,11 +1,11 @@
 //! A run of the program, over any reader and writer.
 
-ghost use Rattle.std.specs.Prelude.{◌≡◌, ◌<◌, ◌≤◌, IfOk, IfSome, IfNone, Some};
+ghost use Rattle.std.specs.Prelude.{◌≡◌, ◌<◌, ◌≤◌, ℕ, List, IfOk, IfSome, IfNone, Some};
 ghost use Rattle.std.specs.Option.{option_copied};
-ghost use Rattle.std.specs.Io.KnownBytes.{Appends, Consumes};
+ghost use Rattle.std.specs.Io.KnownBytes.{Appends};
 ghost use Rattle.nlroute.specs.declared.family.Family.{Family};
 ghost use Rattle.nlroute.specs.Family.{name_of, table_of};
-ghost use Rattle.nlroute.specs.Run.{RunsFor, IsNoFamily, IsAllRead, PrintsOrFails, usage_line, no_memory_line};
+ghost use Rattle.nlroute.specs.Run.{RunsFor, IsNoFamily, IsRead, IsAllRead, PrintsOrFails, usage_line, no_memory_line};
 
 use crate::family::Family;
 use crate::reporting::{MOST_TEXT, report};
@@ -26,6 +26,7 @@ pub fn run<R: Read, W: Write>(
 ) -> u8
     ensures report { (family : Family) → option_copied name.entry ≡ Some (name_of family) → result < 4
         → RunsFor (table_of family) (R.remaining reader.old) (R.remaining reader.new) (W.contents writer.old) (W.contents writer.new) result }
+    ensures bounded { (text : List ℕ) × IsRead (R.remaining reader.old) (R.remaining reader.new) text }
     // Without a family nothing is read.
     ensures unread { IsNoFamily (option_copied name.entry) → reader.new ≡ reader.old }
     ensures usage { IsNoFamily (option_copied name.entry) → PrintsOrFails (W.contents writer.old) (W.contents writer.new) usage_line 2 result }
@@ -55,7 +56,8 @@ enum InputError {
 
 /// The bytes of the reader up to its end, or the first 262,145 of them.
 fn read_text<R: Read>(alloc: Global, reader: &mut R) -> Result<Vec<u8>, InputError>
-    ensures read { IfOk result (λ text. Consumes (R.remaining reader.old) (R.remaining reader.new) text.items) }
+    ensures read { IfOk result (λ text. IsRead (R.remaining reader.old) (R.remaining reader.new) text.items) }
+    ensures bounded { (text : List ℕ) × IsRead (R.remaining reader.old) (R.remaining reader.new) text }
     ensures all { IfOk result (λ text. IsAllRead text.items (R.remaining reader.new)) }
 {
     let mut text = Vec::new(alloc);

@@ -1,0 +1,96 @@
+-- What an iterator over frames gives in a whole run.
+use Rattle.std.proofs.Common.{◌≡◌, ◌≢◌, ◌⊎◌, ℕ, ◌+◌, ◌-◌, ◌*◌, ◌/◌, ◌<◌, ◌≤◌, min, List, [], ◌∷◌, ◌++◌, length, drop, map, Option, Some, None, Result, Ok, Err, refl, sym, ap, ap₂, subst, ◌∙◌, arith, inl, inr, append_assoc}
+use Rattle.std.specs.List.{AllByRecursion}
+use Rattle.std.specs.Iterator.{Yields, Drains}
+use Rattle.std.proofs.lemmas.List.{length-append, length-drop}
+use Rattle.link_base.specs.declared.buffer.NlaBuffer.{NlaBuffer}
+use Rattle.link_base.specs.declared.iterator.NlasIterator.{NlasIterator}
+use Rattle.link_base.specs.declared.fault.DecodeError.{DecodeError}
+use Rattle.link_base.specs.declared.fault.Cause.{Cause}
+use Rattle.link_base.specs.Frame.{Frame, Frames, BeginsWith, bare, IsComplete, frame_bytes, spelled, pad, frame_fault}
+use Rattle.link_base.specs.Buffer.{kind_field_of, payload_of, frame_of}
+use Rattle.link_base.specs.Items.{NextFrame, AreItems, seen, item_of, bytes_left}
+use Rattle.link_base.proofs.Steps.{Splits, splits, step_of, are_more, end_or, complete_of}
+
+-- an item of the iterator
+abbrev Item : Type 0
+Item = Result NlaBuffer DecodeError
+
+-- one call of the iterator
+abbrev Step : NlasIterator → Option Item → NlasIterator → Type 0
+Step a r b = NextFrame (bytes_left a) r (bytes_left b)
+
+long_enough : (s : List ℕ) (x : Frame) → BeginsWith s x → 4 + length x.payload ≤ length s
+long_enough s x b = omega (arith, ap length b.string, length-append (frame_bytes x) b.rest, length-append x.payload x.padding)
+
+-- nothing is given where nothing is left
+none_left : (a b : NlasIterator) (r : Item) → bytes_left a ≡ [] → Step a (Some r) b → ⊥
+none_left a b (Ok buffer) e h = omega (arith, long_enough (bytes_left a) (frame_of buffer) h.0, ap length e)
+none_left a b (Err error) e h = h.0 e
+
+no_more : (a b : NlasIterator) (items : List Item) → bytes_left a ≡ [] → Yields Step a items b → items ≡ []
+no_more a b [] e h = refl
+no_more a b (r ∷ items) e h = absurd (none_left a h.0 r e h.1)
+
+some_bytes : (s : List ℕ) → s ≢ [] → 0 < length s
+some_bytes [] e = absurd (e refl)
+some_bytes (b ∷ s) e = omega arith
+
+-- a frame, and then the items of the rest
+after_frame : (s next : List ℕ) (b : NlaBuffer) (items : List Item) → Splits s (kind_field_of b) (payload_of b) next → AreItems next items → AreItems s (Ok b ∷ items)
+after_frame s next b items split (inl (xs, frames, same)) =
+    let x : Frame = record { kind_field = kind_field_of b; payload = payload_of b; padding = split.padding } in
+    inl (
+      x ∷ xs,
+      record { frames = are_more x xs split.is (end_or next xs x frames.string split.last) frames.frames; string = split.string ∙ ap (λ t. frame_bytes x ++ t) frames.string },
+      ap (λ t. Ok (kind_field_of b, payload_of b) ∷ t) same,
+    )
+after_frame s next b items split (inr (xs, rest, c, complete, string, some, fault, same)) =
+    let x : Frame = record { kind_field = kind_field_of b; payload = payload_of b; padding = split.padding } in
+    inr (
+      x ∷ xs,
+      rest,
+      c,
+      (complete_of next xs rest x string some split.last, complete),
+      split.string ∙ ap (λ t. frame_bytes x ++ t) string ∙ sym (append_assoc (frame_bytes x) (spelled xs) rest),
+      some,
+      fault,
+      ap (λ t. Ok (kind_field_of b, payload_of b) ∷ t) same,
+    )
+
+run_items : (a b c : NlasIterator) (items : List Item) → Yields Step a items b → Step b None c → AreItems (bytes_left a) items
+run_items a b c [] h end = inl ([], record { frames = tt; string = ap bytes_left h ∙ end.0 }, refl)
+run_items a b c (Ok buffer ∷ items) h end =
+    let j = h.0 in
+    let s = bytes_left a in
+    let split = splits s (kind_field_of buffer) (payload_of buffer) h.1.0 in
+    after_frame s (bytes_left j) buffer items (subst (Splits s (kind_field_of buffer) (payload_of buffer)) (sym h.1.1) split) (run_items j b c items h.2 end)
+run_items a b c (Err e ∷ items) h end =
+    let s = bytes_left a in
+    let here = h.1 in
+    let none : items ≡ [] = no_more h.0 b items here.2 h.2 in
+    inr (
+      [],
+      s,
+      here.1.0,
+      tt,
+      refl,
+      some_bytes s here.0,
+      here.1.1,
+      ap (λ t. map seen (Err e ∷ t)) none ∙ ap (λ t. Err t ∷ []) here.1.2,
+    )
+
+run_short : (a b : NlasIterator) (items : List Item) → Yields Step a items b → length items ≤ (length (bytes_left a) + 3) / 4
+run_short a b [] h = omega arith
+run_short a b (Ok buffer ∷ items) h =
+    let long = long_enough (bytes_left a) (frame_of buffer) h.1.0 in
+    let rest = run_short h.0 b items h.2 in
+    omega (arith, ap length h.1.1, length-drop (step_of (bytes_left a) (payload_of buffer)) (bytes_left a))
+run_short a b (Err e ∷ items) h =
+    let some = some_bytes (bytes_left a) h.1.0 in
+    let none = no_more h.0 b items h.1.2 h.2 in
+    omega (arith, ap length none)
+
+-- a whole run gives the frames before the first frame fault, and then the fault, and no more items than frames can be
+pub whole_run : (it : NlasIterator) (items : List Item) → Drains Step it items → AreItems (bytes_left it) items × (length items ≤ length (bytes_left it) / 4 + 1)
+whole_run it items (u, (t, run, end)) = let short = run_short it t items run in (run_items it t u items run end, omega arith)
