@@ -9,7 +9,7 @@ use Rattle.link_base.specs.Number.{IsBytes, number, bytes_of, bound}
 use Rattle.link_base.specs.declared.fault.Cause.{Cause}
 use Rattle.link_base.specs.declared.fault.Cause.TheVariants.{WrongLength, TooShort}
 use Rattle.link_base.specs.Name.{name_of, name_field, IsNameField}
-use Rattle.link_base.specs.Class.{Extent, Exactly, AtLeast, Whole, Multiple, size_of, length_cause, Class, Unsigned, Signed, Truth, Octets, Bytes, Many, Named, Protocol, Low, Empty, Limits, Value, Name, Unlisted, extent, is_listed, named, meant, unless, class_value, written, canon, cut, IsTidy}
+use Rattle.link_base.specs.Class.{Extent, Exactly, AtLeast, Fixed, Multiple, size_of, length_cause, Class, Unsigned, Signed, Truth, Octets, Bytes, Many, Named, Protocol, Low, Empty, Limits, Value, Name, Unlisted, extent, is_listed, named, meant, unless, class_value, written, canon, cut, IsTidy}
 use Rattle.link_base.proofs.NameLemmas.{fixed_iff}
 use Rattle.link_base.proofs.Numbers.{number_below, bytes_of-number, length-bytes_of}
 
@@ -46,7 +46,7 @@ exactly n got e = eqb-true got n (none_then (got == n) (WrongLength n got) e)
 pub size_reached : (e : Extent) (got : ℕ) → length_cause e got ≡ None → size_of e ≤ got
 size_reached (Exactly n) got h = let is = exactly n got h in omega arith
 size_reached (AtLeast n) got h = ltb-false got n (none_else (nat_lt got n) None (TooShort n got) h).0
-size_reached (Whole n) got h = ltb-false got n (none_else (nat_lt got n) _ (TooShort n got) h).0
+size_reached (Fixed n) got h = ltb-false got n (none_else (nat_lt got n) _ (TooShort n got) h).0
 size_reached (Multiple n) got h = omega arith
 
 -- an accepted payload has a multiple of so many bytes
@@ -66,7 +66,7 @@ pub at_size : (e : Extent) (got : ℕ) → got ≡ size_of e → length_cause e 
 at_size (Exactly n) got h = cond-true (got == n) None _ (eq-eqb got n h)
 at_size (AtLeast n) got h = cond-false (nat_lt got n) _ None (le-ltb got n (omega arith))
 at_size (Multiple n) got h = at_multiple n got (ap (λ g. g % n) h ∙ zero_mod n)
-at_size (Whole n) got h = cond-false (nat_lt got n) _ _ (le-ltb got n (omega arith)) ∙ cond-false (nat_lt n got) _ None (le-ltb n got (omega arith))
+at_size (Fixed n) got h = cond-false (nat_lt got n) _ _ (le-ltb got n (omega arith)) ∙ cond-false (nat_lt n got) _ None (le-ltb n got (omega arith))
 
 -- ---- lists of a known length
 

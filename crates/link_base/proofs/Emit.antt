@@ -11,7 +11,7 @@ use Rattle.link_base.specs.Number.{bytes_of}
 use Rattle.link_base.specs.Frame.{frame_bytes, gap, pad}
 use Rattle.link_base.specs.Wire.{whole}
 use Rattle.link_base.specs.Table.{AttrValue, written_kind, written_payload, written_frame, written_list, Fits}
-use Rattle.link_base.specs.Answers.{StartsWith, IsFirstUnfit}
+use Rattle.link_base.specs.Answers.{OverwritesFront, IsFirstUnfit}
 
 -- a written frame has the length of its header and payload, rounded up to four
 pub length-whole_bytes : (f : ℕ) (p : List ℕ) → length (frame_bytes (whole f p)) ≡ pad (4 + length p)
@@ -19,7 +19,7 @@ length-whole_bytes f p = omega (arith, length-append p (replicate (gap p) 0), le
 
 -- header, payload and zeros, written one after another, are the frame
 pub put_frame : (b0 b1 b2 b3 : List ℕ) (f : ℕ) (p : List ℕ) (n end : ℕ) → n ≡ length p → end ≡ pad (4 + length p) → end ≤ length b0 → b1 ≡ (bytes_of 2 (4 + n) ++ bytes_of 2 f) ++ drop 4 b0
-    → b2 ≡ put_mid 4 n b1 p → b3 ≡ take (4 + n) b2 ++ (replicate (end - (4 + n)) 0 ++ drop end b2) → StartsWith b0 b3 (frame_bytes (whole f p))
+    → b2 ≡ put_mid 4 n b1 p → b3 ≡ take (4 + n) b2 ++ (replicate (end - (4 + n)) 0 ++ drop end b2) → OverwritesFront b0 b3 (frame_bytes (whole f p))
 put_frame b0 b1 b2 b3 f p n end e-n e-end room e1 e2 e3 =
     let head = bytes_of 2 (4 + n) ++ bytes_of 2 f in
     let len1 : length b1 ≡ length b0 = omega (arith, ap length e1, length-append head (drop 4 b0), length-drop 4 b0) in
@@ -86,7 +86,7 @@ module _ {X : Type 0} (means : X → AttrValue) where
       }
 
 -- the buffer after one more frame
-pub frame_after : (b0 b b' text frame sub : List ℕ) (at : ℕ) → StartsWith b0 b text → at ≡ length text → length text + length frame ≤ length b0 → sub ≡ frame ++ drop (length frame) (take (length b - at) (drop at b)) → b' ≡ put_mid at (length b - at) b sub → StartsWith b0 b' (text ++ frame)
+pub frame_after : (b0 b b' text frame sub : List ℕ) (at : ℕ) → OverwritesFront b0 b text → at ≡ length text → length text + length frame ≤ length b0 → sub ≡ frame ++ drop (length frame) (take (length b - at) (drop at b)) → b' ≡ put_mid at (length b - at) b sub → OverwritesFront b0 b' (text ++ frame)
 frame_after b0 b b' text frame sub at so_far e-at room e-sub e-b' =
     let len-b : length b ≡ length b0 = omega (arith, ap length so_far, length-append text (drop (length text) b0), length-drop (length text) b0) in
     let front : take at b ≡ text = ap (take at) so_far ∙ take_at text (drop (length text) b0) at (sym e-at) in

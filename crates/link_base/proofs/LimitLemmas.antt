@@ -7,7 +7,7 @@ use Rattle.link_base.specs.Number.{IsBytes, number}
 use Rattle.link_base.specs.declared.fault.Cause.TheVariants.{TooShort, WrongLength}
 use Rattle.link_base.specs.Frame.{Frame, Frames, AreFrames, kind_of, pad, frame_bytes, spelled}
 use Rattle.link_base.specs.Wire.{whole}
-use Rattle.link_base.specs.Class.{Exactly, AtLeast, Whole, Multiple, Class, Unsigned, Signed, Truth, Octets, Bytes, Many, Named, Protocol, Low, Empty, Limits, extent, length_cause, meant, written}
+use Rattle.link_base.specs.Class.{Exactly, AtLeast, Fixed, Multiple, Class, Unsigned, Signed, Truth, Octets, Bytes, Many, Named, Protocol, Low, Empty, Limits, extent, length_cause, meant, written}
 use Rattle.link_base.specs.Table.{Row, class_at, Rows, Leaf, LeafGives, leaf_field, leaf_payload, written_leaves, Shape, One, Nested, Addresses, Content, Table, AttrValue, of_length, Gives, addresses_from, content_payload, Fits}
 use Rattle.link_base.specs.Held.{IsOctets}
 use Rattle.link_base.specs.WellFormed.{is_class, is_kept, are_rows, is_nested_class, is_shape, is_table, IsOverfull}
@@ -25,7 +25,7 @@ use Rattle.link_base.proofs.TableLaws.{AttrRead, attr_read}
 -- ---- what is kept has its length
 
 -- a payload of so many bytes, neither fewer nor more
-whole_is : (n got : ℕ) → length_cause (Whole n) got ≡ None → got ≡ n
+whole_is : (n got : ℕ) → length_cause (Fixed n) got ≡ None → got ≡ n
 whole_is n got e =
     let low = none_else (nat_lt got n) _ (TooShort n got) e in
     let high = none_else (nat_lt n got) None (WrongLength n got) low.1 in
@@ -38,7 +38,7 @@ kept_length Signed p k e = omega (arith, exactly 4 (length p) e)
 kept_length Truth p k e = omega (arith, exactly 1 (length p) e)
 kept_length (Octets (Exactly n)) p k e = omega (arith, exactly n (length p) e, length-take n p)
 kept_length (Octets (AtLeast n)) p k e = absurd (false≢true k)
-kept_length (Octets (Whole n)) p k e = omega (arith, whole_is n (length p) e, length-take n p)
+kept_length (Octets (Fixed n)) p k e = omega (arith, whole_is n (length p) e, length-take n p)
 kept_length (Octets (Multiple n)) p k e = absurd (false≢true k)
 kept_length Bytes p k e = refl
 kept_length (Many n) p k e = refl

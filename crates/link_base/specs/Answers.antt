@@ -86,8 +86,8 @@ abbrev pub capped : ℕ → ℕ
 capped n = min n (2 ^ 64 - 1)
 
 -- the new bytes begin with the text, and are the old ones behind it
-abbrev pub StartsWith : List ℕ → List ℕ → List ℕ → Type 0
-StartsWith old new text = new ≡ text ++ drop (length text) old
+abbrev pub OverwritesFront : List ℕ → List ℕ → List ℕ → Type 0
+OverwritesFront old new text = new ≡ text ++ drop (length text) old
 
 -- the values before place i fit, and the one at i does not
 pub record IsFirstUnfit (vs : List AttrValue) (i : ℕ) : Type 0 where

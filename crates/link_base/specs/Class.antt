@@ -13,20 +13,20 @@ use Rattle.link_base.specs.declared.fault.Cause.TheVariants.{WrongLength, TooSho
 -- how long a payload may be: so many bytes and no others; so many, and any that follow are ignored;
 -- so many, where too few and too many have causes of their own; a multiple of so many
 pub data Extent : Type 0 where
-  Exactly AtLeast Whole Multiple : ℕ → Extent
+  Exactly AtLeast Fixed Multiple : ℕ → Extent
 
--- how many bytes have a meaning
+-- how many bytes of a record are kept: a record is no multiple
 abbrev pub size_of : Extent → ℕ
 size_of (Exactly n) = n
 size_of (AtLeast n) = n
-size_of (Whole n) = n
+size_of (Fixed n) = n
 size_of (Multiple n) = 0
 
 -- why a payload of this length is refused
 abbrev pub length_cause : Extent → ℕ → Option Cause
 length_cause (Exactly n) got = if got == n then None else Some (WrongLength n got)
 length_cause (AtLeast n) got = if nat_lt got n then Some (TooShort n got) else None
-length_cause (Whole n) got = if nat_lt got n then Some (TooShort n got) else (if nat_lt n got then Some (WrongLength n got) else None)
+length_cause (Fixed n) got = if nat_lt got n then Some (TooShort n got) else (if nat_lt n got then Some (WrongLength n got) else None)
 length_cause (Multiple n) got = if got % n == 0 then None else Some (WrongLength n got)
 
 -- a value, unless there is a cause
@@ -67,15 +67,21 @@ pub data Class : Type 0 where
 pub data Value : Type 0 where
   -- so many bytes, and the number
   Number : ℕ → ℕ → Value
+  -- a signed number
   Integer : ℤ → Value
+  -- a truth
   Boolean : Bool → Value
+  -- bytes as they stand
   Raw : List ℕ → Value
   -- a number that has a name, and how many bytes it takes
   Name : ℕ → ℕ → Value
-  -- a number in `Other`, how many bytes it takes, and the numbers that have names
+  -- a number that the code keeps in a case `Other`, how many bytes it takes, and the numbers that have names
   Unlisted : ℕ → List ℕ → ℕ → Value
+  -- 0x8100 or 0x88A8
   EtherType : ℕ → Value
+  -- the first of two bytes
   LowByte : ℕ → Value
+  -- no value
   Nothing : Value
   -- a name, and the 32 bytes of the numbers
   Limited : List ℕ → List ℕ → Value
@@ -143,7 +149,7 @@ written (Limited name rest) = name_field name ++ rest
 
 -- ---- canon and cut
 
--- `Other` of a number that has a name becomes the name
+-- `Other` of a number that has a name becomes the name; all else stays
 abbrev pub canon : Value → Value
 canon (Unlisted n listed d) = named n listed d
 canon v = v

@@ -43,7 +43,7 @@ pub record IsComplete (x : Frame) : Type 0 where
   pub payload : length x.payload ≤ 65531
   pub padding : length x.padding ≡ gap x.payload
 
--- every frame but the last is complete
+-- these are frames, and every one but the last is complete
 abbrev pub AreFrames : List Frame → Type 0
 AreFrames [] = Unit {0}
 AreFrames (x ∷ []) = IsFrame x

@@ -12,7 +12,7 @@ pub record IsReading {V : Type 0} (gives : Reading V) : Type 0 where
   pub decided : (f : ℕ) (p : List ℕ) → f < 65536 → IsBytes p → (r : Result V DecodeFault) × gives f p r
   pub one : (f : ℕ) (p : List ℕ) (r q : Result V DecodeFault) → gives f p r → gives f p q → r ≡ q
 
--- what holds of each value in range
+-- what holds of values that a program holds
 pub record IsHolding {V : Type 0} (gives : Reading V) (field : V → ℕ) (payload : V → List ℕ) (canon cut : V → V) (in_range hides_none uncut : V → Type 0) : Type 0 where
   -- what is written is a kind field and bytes
   pub field_below : (v : V) → in_range v → field v < 65536
@@ -28,15 +28,15 @@ pub record IsHolding {V : Type 0} (gives : Reading V) (field : V → ℕ) (paylo
   pub read_hides_none : (f : ℕ) (p : List ℕ) (v : V) → f < 65536 → IsBytes p → gives f p (Ok v) → hides_none v
   pub read_own : (f : ℕ) (p : List ℕ) (v : V) → f < 65536 → IsBytes p → gives f p (Ok v) → canon v ≡ v
 
--- what holds of each value that was read, and of what is allowed
+-- what holds of each value that was read, and of what is canonical
 pub record IsWriting {V : Type 0} (gives : Reading V) (field : V → ℕ) (payload : V → List ℕ) (cut : V → V) (allows : ℕ → List ℕ → Type 0) : Type 0 where
-  -- what is allowed is read
+  -- what is canonical is read
   pub allowed_reads : (f : ℕ) (p : List ℕ) → f < 65536 → IsBytes p → length p ≤ 65531 → allows f p → (v : V) × gives f p (Ok v)
-  -- it is written as it was read, exactly where that is allowed
+  -- it is written as the kind field and the payload that were read, exactly where these are canonical
   pub fixed : (f : ℕ) (p : List ℕ) (v : V) → f < 65536 → IsBytes p → gives f p (Ok v) → length p ≤ 65531 → ((field v ≡ f) × (payload v ≡ p)) ↔ allows f p
   -- it is written no longer than it was read, rounded up to four
   pub length_bound : (f : ℕ) (p : List ℕ) (v : V) → f < 65536 → IsBytes p → gives f p (Ok v) → length (payload v) ≤ pad (length p)
-  -- cut, it is written as it is allowed, it fits, and cutting it again changes nothing
+  -- cut, it is written in canonical form, it fits, and cutting it again changes nothing
   pub cut_allowed : (f : ℕ) (p : List ℕ) (v : V) → f < 65536 → IsBytes p → gives f p (Ok v) → FitsBy payload v → allows (field (cut v)) (payload (cut v))
   pub cut_fits : (f : ℕ) (p : List ℕ) (v : V) → f < 65536 → IsBytes p → gives f p (Ok v) → FitsBy payload v → FitsBy payload (cut v)
   pub cut_once : (f : ℕ) (p : List ℕ) (v : V) → f < 65536 → IsBytes p → gives f p (Ok v) → FitsBy payload v → cut (cut v) ≡ cut v

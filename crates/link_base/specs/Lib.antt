@@ -15,3 +15,4 @@ pub mod Items
 pub mod Lift
 pub mod OneForm
 pub mod DefaultLawful
+pub mod Examples

@@ -32,9 +32,11 @@ pub data Attr (V : Type 0) : Type 0 where
 
 -- ---- tables without lists
 
+-- a table without lists
 abbrev pub Rows : Type 0
 Rows = List (Row Class)
 
+-- an attribute of such a table
 abbrev pub Leaf : Type 0
 Leaf = Attr Value
 
@@ -43,6 +45,7 @@ abbrev pub leaf_case : ℕ → Result Value Cause → Result Leaf DecodeFault
 leaf_case k (Ok v) = Ok (Case k v)
 leaf_case k (Err c) = Err (faults.Value k c)
 
+-- what a payload of a kind with this class, or with none, reads as
 abbrev pub leaf_by : Option Class → ℕ → List ℕ → Result Leaf DecodeFault
 leaf_by None f p = Ok (Other f p)
 leaf_by (Some c) f p = leaf_case (kind_of f) (class_value c p)
@@ -56,6 +59,7 @@ abbrev pub leaf_field : Leaf → ℕ
 leaf_field (Case k v) = k
 leaf_field (Other f p) = f
 
+-- the written payload
 abbrev pub leaf_payload : Leaf → List ℕ
 leaf_payload (Case k v) = written v
 leaf_payload (Other f p) = p
@@ -74,14 +78,19 @@ pub data Shape : Type 0 where
   -- addresses of so many bytes
   Addresses : ℕ → Shape
 
+-- the content of an attribute
 pub data Content : Type 0 where
   Single : Value → Content
+  -- the values of a nested list, and whether its kind is written with the nested flag
   Inner : Bool → List Leaf → Content
+  -- addresses
   Listed : List (List ℕ) → Content
 
+-- a table of a family
 abbrev pub Table : Type 0
 Table = List (Row Shape)
 
+-- an attribute of a family, as a value
 abbrev pub AttrValue : Type 0
 AttrValue = Attr Content
 
@@ -90,7 +99,7 @@ abbrev pub single_case : ℕ → Result Value Cause → Result AttrValue DecodeF
 single_case k (Ok v) = Ok (Case k (Single v))
 single_case k (Err c) = Err (faults.Value k c)
 
--- the fault of a list under a kind
+-- the fault of a list under a kind: an element has only the first two
 abbrev pub nested_fault : ℕ → DecodeFault → DecodeFault
 nested_fault k (faults.Frame c) = faults.NestedFrame k c
 nested_fault k (faults.Value inner c) = faults.NestedValue k inner c
@@ -113,11 +122,13 @@ PayloadGives f p r = r ≡ Ok p
 abbrev pub of_length : ℕ → List (List ℕ) → List (List ℕ)
 of_length n payloads = filter (λ p. length p == n) payloads
 
+-- what a payload of this shape reads as under a kind
 abbrev pub ShapeGives : Shape → ℕ → List ℕ → Result AttrValue DecodeFault → Type 0
 ShapeGives (One c) k p r = r ≡ single_case k (class_value c p)
 ShapeGives (Nested flagged rows) k p r = ListGives (LeafGives rows) (Inner flagged) k p r
 ShapeGives (Addresses n) k p r = ListGives PayloadGives (λ payloads. Listed (of_length n payloads)) k p r
 
+-- the same for a kind field whose kind has this row, or none
 abbrev pub GivesBy : Option Shape → Reading AttrValue
 GivesBy None f p r = r ≡ Ok (Other f p)
 GivesBy (Some shape) f p r = ShapeGives shape (kind_of f) p r
@@ -133,13 +144,16 @@ abbrev pub addresses_from : ℕ → List (List ℕ) → List Frame
 addresses_from i [] = []
 addresses_from i (a ∷ others) = whole i a ∷ addresses_from (i + 1) others
 
+-- NLA_F_NESTED, where a list has it
 abbrev pub nested_flag : Bool → ℕ
 nested_flag flagged = if flagged then 0x8000 else 0
 
+-- the flag that a content is written with
 abbrev pub content_flag : Content → ℕ
 content_flag (Inner flagged vs) = nested_flag flagged
 content_flag content = 0
 
+-- the written payload of a content
 abbrev pub content_payload : Content → List ℕ
 content_payload (Single v) = written v
 content_payload (Inner flagged vs) = written_leaves vs
@@ -169,6 +183,7 @@ Fits v = FitsBy written_payload v
 
 -- ---- canon and cut
 
+-- canon and cut of an element of a nested list
 abbrev pub leaf_canon : Leaf → Leaf
 leaf_canon (Case k v) = Case k (Class.canon v)
 leaf_canon (Other f p) = Other f p
@@ -177,6 +192,7 @@ abbrev pub leaf_cut : Leaf → Leaf
 leaf_cut (Case k v) = Case k (Class.cut v)
 leaf_cut (Other f p) = Other f p
 
+-- canon of a content, value by value
 abbrev pub content_canon : Content → Content
 content_canon (Single v) = Single (Class.canon v)
 content_canon (Inner flagged vs) = Inner flagged (map leaf_canon vs)
@@ -187,6 +203,7 @@ abbrev pub canon : AttrValue → AttrValue
 canon (Case k content) = Case k (content_canon content)
 canon (Other f p) = Other f p
 
+-- cut of a content, value by value
 abbrev pub content_cut : Content → Content
 content_cut (Single v) = Single (Class.cut v)
 content_cut (Inner flagged vs) = Inner flagged (map leaf_cut vs)
@@ -199,10 +216,12 @@ cut (Other f p) = Other f p
 
 -- ---- canonical kind fields and payloads
 
+-- an element's kind field has no flags and its payload is canonical; or no row has its kind
 abbrev pub leaf_allows_by : Option Class → ℕ → List ℕ → Type 0
 leaf_allows_by None f p = Unit {0}
 leaf_allows_by (Some c) f p = (f < 16384) × IsCanonicalPayload c p
 
+-- the kind field and the payload of an element are canonical
 abbrev pub LeafAllows : Rows → ℕ → List ℕ → Type 0
 LeafAllows rows f p = leaf_allows_by (class_at rows (kind_of f)) f p
 
@@ -213,20 +232,23 @@ pub record AreAddresses (n : ℕ) (p : List ℕ) : Type 0 where
   pub complete : AllByRecursion IsComplete (addresses_from 0 addresses)
   pub string : p ≡ spelled (addresses_from 0 addresses)
 
+-- the payload of an attribute of this shape is canonical
 abbrev pub IsCanonicalContent : Shape → List ℕ → Type 0
 IsCanonicalContent (One c) p = IsCanonicalPayload c p
 IsCanonicalContent (Nested flagged rows) p = CanonicalBy (LeafAllows rows) p
 IsCanonicalContent (Addresses n) p = AreAddresses n p
 
+-- the flag that a shape is written with
 abbrev pub shape_flag : Shape → ℕ
 shape_flag (Nested flagged rows) = nested_flag flagged
 shape_flag shape = 0
 
+-- the kind field is the row's kind with its flag, and the payload is canonical; or no row has the kind
 abbrev pub allows_by : Option Shape → ℕ → List ℕ → Type 0
 allows_by None f p = Unit {0}
 allows_by (Some shape) f p = (f ≡ kind_of f + shape_flag shape) × IsCanonicalContent shape p
 
--- the kind field is the row's, with its flag, and the payload is canonical; or no row has the kind
+-- the kind field and the payload are canonical
 abbrev pub Allows : Table → ℕ → List ℕ → Type 0
 Allows table f p = allows_by (class_at table (kind_of f)) f p
 
@@ -242,10 +264,12 @@ Rewriting table s t = RewritingBy (Gives table) written_kind written_payload s t
 
 -- ---- memory
 
+-- a value of this shape is held in memory of its own
 abbrev pub ShapeTakesMemory : Shape → Type 0
 ShapeTakesMemory (One c) = Class.TakesMemory c
 ShapeTakesMemory shape = Unit {0}
 
+-- the same for a kind with this row, or with none
 abbrev pub TakesMemoryBy : Option Shape → Type 0
 TakesMemoryBy None = Unit {0}
 TakesMemoryBy (Some shape) = ShapeTakesMemory shape

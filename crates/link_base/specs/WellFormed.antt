@@ -2,15 +2,15 @@
 use Rattle.std.specs.Prelude.{ℕ, ◌+◌, ◌≤◌, ◌==◌, ◌&&◌, ◌||◌, Bool, true, false, List, [], ◌∷◌, length, Option, Some, None, nat_lt, nat_le}
 use Rattle.std.specs.List.{list_all}
 use Rattle.link_base.specs.Number.{bound}
-use Rattle.link_base.specs.Class.{Extent, Exactly, AtLeast, Whole, Multiple, Class, Octets, Many, Named, Empty, Limits}
+use Rattle.link_base.specs.Class.{Extent, Exactly, AtLeast, Fixed, Multiple, Class, Octets, Many, Named, Empty, Limits}
 use Rattle.link_base.specs.Table.{Row, Rows, Shape, One, Nested, Addresses, Table}
 
--- octets are so many
+-- a number of bytes, and not a multiple of one
 abbrev pub is_record : Extent → Bool
 is_record (Multiple n) = false
 is_record e = true
 
--- octets are so many, numbers have two or four bytes, and the numbers with names are small enough
+-- octets are no multiple, the numbers of a list have two or four bytes, and each number with a name fits its bytes
 abbrev pub is_class : Class → Bool
 is_class (Octets e) = is_record e
 is_class (Many n) = n == 2 || n == 4
@@ -34,7 +34,7 @@ are_rows test least (r ∷ rows) = nat_le least r.kind && (nat_lt r.kind 16384 &
 abbrev pub is_nested_class : Class → Bool
 is_nested_class c = is_class c && is_kept c
 
--- addresses have 4 or 16 bytes
+-- one value, a nested list of rows that keep their length, or addresses of 4 or 16 bytes
 abbrev pub is_shape : Shape → Bool
 is_shape (One c) = is_class c
 is_shape (Nested flagged rows) = are_rows is_nested_class 0 rows
@@ -44,7 +44,7 @@ is_shape (Addresses n) = n == 4 || n == 16
 abbrev pub is_table : Table → Bool
 is_table table = are_rows is_shape 0 table
 
--- a list whose last element lacks padding at the end of the longest payloads
+-- a nested list in a payload of 65529 bytes or more: its last element lacks padding, with which it would have 65532
 abbrev pub IsOverfull : Option Shape → List ℕ → Type 0
 IsOverfull (Some (Nested flagged rows)) p = 65529 ≤ length p
 IsOverfull shape p = ⊥

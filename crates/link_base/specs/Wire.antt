@@ -6,7 +6,7 @@ use Rattle.link_base.specs.declared.fault.DecodeFault.{DecodeFault}
 use Rattle.link_base.specs.declared.fault.DecodeFault.TheVariants as faults
 use Rattle.link_base.specs.Frame.{Frame, Frames, IsComplete, BeginsWith, frame_bytes, spelled, gap, frame_fault}
 
--- What a kind field and a payload read as: a value, or a fault.
+-- What attributes read as: a kind field and a payload as a value, or as a fault.
 abbrev pub Reading : Type 0 → Type 1
 Reading V = ℕ → List ℕ → Result V DecodeFault → Type 0
 

@@ -7,7 +7,7 @@ ghost use Rattle.link_base.specs.Held.{IsInRange};
 ghost use Rattle.link_base.specs.WellFormed.{is_table};
 ghost use Rattle.link_base.specs.Lawful.{IsLawful};
 ghost use Rattle.link_base.specs.Buffer.{kind_field_of, payload_of};
-ghost use Rattle.link_base.specs.Answers.{Answers, OnMemory, StartsWith, capped};
+ghost use Rattle.link_base.specs.Answers.{Answers, OnMemory, OverwritesFront, capped};
 
 use crate::buffer::NlaBuffer;
 use crate::fault::DecodeError;
@@ -67,7 +67,7 @@ pub trait Nla: Meaning {
     fn emit(&self, buffer: &mut [u8])
         requires fits { Fits (Self.means self.now) }
         requires room { length (written_frame (Self.means self.now)) ≤ length buffer.old }
-        ensures written { StartsWith buffer.old buffer.new (written_frame (Self.means self.now)) }
+        ensures written { OverwritesFront buffer.old buffer.new (written_frame (Self.means self.now)) }
         ensures in_range { IsInRange Self.table (Self.means self.now) }
     {
         let size = self.value_len();

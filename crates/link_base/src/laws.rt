@@ -9,7 +9,7 @@ ghost use Rattle.link_base.specs.declared.iterator.NlasIterator.{NlasIterator};
 ghost use Rattle.link_base.specs.declared.fault.DecodeError.{DecodeError};
 ghost use Rattle.link_base.specs.Items.{AreItems, bytes_left};
 ghost use Rattle.link_base.specs.Number.{IsBytes};
-ghost use Rattle.link_base.specs.Frame.{Frame, Frames, kind_of};
+ghost use Rattle.link_base.specs.Frame.{Frame, Frames, kind_of, pad};
 ghost use Rattle.link_base.specs.Wire.{Wire, FirstFault, Reads};
 ghost use Rattle.link_base.specs.Table.{Table, AttrValue, Other, class_at, Gives, written_kind, written_payload, written_list, Fits, canon, cut, Canonical, Rewriting};
 ghost use Rattle.link_base.specs.Held.{IsInRange, HidesNone, IsPlain};
@@ -21,7 +21,7 @@ use crate::iterator::NlasIterator;
 
 // ---- tables
 
-/// Each table is lawful: this is what a family answers for its law `lawful`.
+/// Each table is lawful. A family's `impl` of `Attribute` cites this theorem for its law `lawful`.
 pub fn lawful()
     ensures { (table : Table) → IsLawful table }
 {}
@@ -73,7 +73,8 @@ pub fn other_kept<F: Attribute>()
         → (F.means v ≡ Other f p) × (written_kind (F.means v) ≡ f) × (written_payload (F.means v) ≡ p) }
 {}
 
-/// A string behind another of whole frames: its values come after those of the first, or its first fault does.
+/// A string behind another that is read and whose length is a multiple of four: its values come after those of the
+/// first, or its first fault stands as much further on.
 pub fn joined<F: Attribute>()
     ensures values { (a b : List ℕ) (vs ws : List F) → length a % 4 ≡ 0 → Wire (Gives F.table) a (map F.means vs) → Wire (Gives F.table) b (map F.means ws)
         → Wire (Gives F.table) (a ++ b) (map F.means (vs ++ ws)) }
@@ -108,6 +109,14 @@ pub fn one_form<F: Attribute>()
 
 // ---- families: rewritings and canonical strings
 
+/// A rewriting is the string exactly where the string is canonical, and is never longer than it, rounded up to four. It
+/// has a rewriting, which is canonical and its own rewriting.
+pub fn rewriting<F: Attribute>()
+    ensures same { (s t : List ℕ) → IsBytes s → Rewriting F.table s t → (t ≡ s) ↔ Canonical F.table s }
+    ensures no_longer { (s t : List ℕ) → IsBytes s → Rewriting F.table s t → length t ≤ pad (length s) }
+    ensures second { (s t : List ℕ) → IsBytes s → Rewriting F.table s t → (u : List ℕ) × Rewriting F.table t u × Canonical F.table u × Rewriting F.table u u }
+{}
+
 /// A string has at most one rewriting, and a second rewriting is its own rewriting, and its only one.
 pub fn one_rewriting<F: Attribute>()
     ensures at_most_one { (s t u : List ℕ) → Rewriting F.table s t → Rewriting F.table s u → t ≡ u }
@@ -115,7 +124,7 @@ pub fn one_rewriting<F: Attribute>()
     ensures third { (s t u w : List ℕ) → IsBytes s → Rewriting F.table s t → Rewriting F.table t u → Rewriting F.table u w → w ≡ u }
 {}
 
-/// Two strings have one second rewriting exactly where their values are equal, cut.
+/// Two strings that have second rewritings have the same one exactly where their values are equal, cut.
 pub fn second_equal<F: Attribute>()
     ensures { (s t u s2 t2 u2 : List ℕ) (vs ws : List F) → IsBytes s → IsBytes s2
         → Wire (Gives F.table) s (map F.means vs) → Rewriting F.table s t → Rewriting F.table t u

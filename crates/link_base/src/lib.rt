@@ -4,6 +4,7 @@
 mod attribute;
 mod buffer;
 mod default_nla;
+pub mod examples;
 mod fault;
 mod iterator;
 pub mod laws;

@@ -19,7 +19,7 @@ pub(crate) fn step_over(length: u16, left: usize) -> usize
 }
 
 /// The values of a list, or its first fault with the byte offset of its frame. A fault comes before every later
-/// one, whether of a frame or of a value. No memory is taken where the bytes do not begin with a frame.
+/// one, whether of a frame or of a value. `Memory` is answered only where the bytes begin with a frame.
 pub fn read_list<F: Attribute>(alloc: Global, bytes: &[u8]) -> Result<Vec<F>, ListError>
     ensures answer { ListAnswers (λ vs. map F.means vs.items) result (Gives F.table) bytes.now }
     ensures memory { OnListMemory result (frame_fault bytes.now ≡ None) }

@@ -2,7 +2,7 @@
 
 ghost use Rattle.std.specs.Prelude.{◌≡◌, ◌≤◌, length, map, Bool};
 ghost use Rattle.std.specs.List.{AllByRecursion};
-ghost use Rattle.link_base.specs.Table.{Rows, Leaf, Case, Inner, LeafGives, ListGives, written_leaves};
+ghost use Rattle.link_base.specs.Table.{Rows, Leaf, Case, Nested, Inner, ShapeGives, written_leaves};
 ghost use Rattle.link_base.specs.Lift.{lift, lift_table};
 ghost use Rattle.link_base.specs.Held.{LeafInRange};
 ghost use Rattle.link_base.specs.Answers.{Answers, OnMemory, capped};
@@ -17,6 +17,9 @@ use std::alloc::Global;
 pub trait NestedAttribute: Attribute {
     /// The rows of the type.
     ghost rows: { Rows };
+
+    /// Whether the kind of its lists is written with the nested flag (`NLA_F_NESTED`).
+    ghost flagged: { Bool };
 
     /// The attribute that a value stands for.
     ghost leaf: { Self → Leaf };
@@ -34,7 +37,7 @@ pub fn read_nested<E: NestedAttribute>(
     kind: u16,
     payload: &[u8],
 ) -> Result<Vec<E>, DecodeError>
-    ensures { (flagged : Bool) → Answers (λ vs. Case kind (Inner flagged (map E.leaf vs.items))) result (ListGives (LeafGives E.rows) (Inner flagged) kind payload.now) }
+    ensures { Answers (λ vs. Case kind (Inner E.flagged (map E.leaf vs.items))) result (ShapeGives (Nested E.flagged E.rows) kind payload.now) }
 {
     match read_list(alloc, payload) {
         Ok(values) => Ok(values),

@@ -4,7 +4,7 @@ ghost use Rattle.std.specs.Prelude.{◌≡◌, ◌≤◌, length};
 ghost use Rattle.link_base.specs.declared.fault.Cause.TheVariants.{WrongLength};
 ghost use Rattle.link_base.specs.Number.{number, bytes_of};
 ghost use Rattle.link_base.specs.Class.{accepted, Exactly};
-ghost use Rattle.link_base.specs.Answers.{payload_result, refused, StartsWith};
+ghost use Rattle.link_base.specs.Answers.{payload_result, refused, OverwritesFront};
 
 use crate::fault::{Cause, DecodeError, DecodeFault};
 
@@ -29,7 +29,7 @@ pub fn parse_u32(payload: &[u8]) -> Result<u32, DecodeError>
 #[inline]
 pub fn emit_u32(buffer: &mut [u8], value: u32)
     requires { 4 ≤ length buffer.old }
-    ensures { StartsWith buffer.old buffer.new (bytes_of 4 value) }
+    ensures { OverwritesFront buffer.old buffer.new (bytes_of 4 value) }
 {
     buffer[..4].copy_from_slice(&value.to_le_bytes());
 }

@@ -4,7 +4,7 @@ ghost use Rattle.std.specs.Prelude.{◌≡◌, ◌≤◌, ◌<◌, ◌^◌, ◌�
 ghost use Rattle.std.specs.List.{AllByRecursion};
 ghost use Rattle.link_base.specs.Table.{Fits, written_list};
 ghost use Rattle.link_base.specs.Held.{IsInRange};
-ghost use Rattle.link_base.specs.Answers.{capped, StartsWith, IsFirstUnfit, WriteAnswers};
+ghost use Rattle.link_base.specs.Answers.{capped, OverwritesFront, IsFirstUnfit, WriteAnswers};
 
 use crate::attribute::Attribute;
 use crate::fault::WriteError;
@@ -47,7 +47,7 @@ fn first_unfit<F: Attribute>(values: &[F]) -> Option<usize>
 pub fn emit_list<F: Attribute>(values: &[F], buffer: &mut [u8])
     requires fits { AllByRecursion Fits (map F.means values.now) }
     requires room { length (written_list (map F.means values.now)) ≤ length buffer.old }
-    ensures written { StartsWith buffer.old buffer.new (written_list (map F.means values.now)) }
+    ensures written { OverwritesFront buffer.old buffer.new (written_list (map F.means values.now)) }
     ensures in_range { AllByRecursion (IsInRange F.table) (map F.means values.now) }
 {
     let mut at = 0usize;
@@ -57,7 +57,8 @@ pub fn emit_list<F: Attribute>(values: &[F], buffer: &mut [u8])
     }
 }
 
-/// The written list. Fails with `TooLong` of the first value that does not fit, before any growth.
+/// The written list. Fails with `TooLong` of the first value that does not fit; with `Memory` only where every value
+/// fits and there is one.
 pub fn write_list<F: Attribute>(alloc: Global, values: &[F]) -> Result<Vec<u8>, WriteError>
     ensures answer { WriteAnswers (map F.means values.now) result }
     ensures in_range { OnOk result (AllByRecursion (IsInRange F.table) (map F.means values.now)) }

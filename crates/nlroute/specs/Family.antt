@@ -6,8 +6,8 @@ use Rattle.nlroute.specs.declared.family.Family.TheVariants.{Dsa}
 use Rattle.nlroute.specs.Dsa.{dsa_table}
 
 -- the name of a family, as the program takes it
-abbrev pub name_of : Family → List ℕ
-name_of Dsa = codes "dsa"
+abbrev pub family_name : Family → List ℕ
+family_name Dsa = codes "dsa"
 
 -- the table that a family is read by
 abbrev pub table_of : Family → Table

@@ -65,12 +65,12 @@ is_space b = b == 32 || (b == 9 || (b == 13 || b == 10))
 abbrev pub digits_of : List ℕ → List ℕ
 digits_of text = filter (λ b. not (is_space b)) text
 
--- a text of digits: that of its bytes, or that it is no hex text
+-- what is printed for digits: that of their bytes, or that they are no hex text
 abbrev pub PrintsDigits : Table → Result (List ℕ) FromHexError → List ℕ → ℕ → Type 0
 PrintsDigits table (Ok s) out status = Prints table s out status
 PrintsDigits table (Err e) out status = (out ≡ line (codes "bad hex")) × (status ≡ 2)
 
--- a text of at most 262,144 bytes: that of its digits; a longer one: that it is too long
+-- what is printed for a text: up to 262,144 bytes that of its digits, and beyond that it is too long
 pub data Reports (table : Table) (text : List ℕ) (out : List ℕ) (status : ℕ) : Type 0 where
   Short : length text ≤ 262144 → PrintsDigits table (decode_of (digits_of text)) out status → Reports table text out status
   Long : 262144 < length text → out ≡ line (codes "input too long") → status ≡ 2 → Reports table text out status

@@ -3,7 +3,7 @@ use Rattle.std.specs.Prelude.{◌≡◌, ◌≢◌, ◌⊎◌, ℕ, ◌≤◌, L
 use Rattle.std.specs.Io.KnownBytes.{Appends, Consumes, IsAtEnd}
 use Rattle.link_base.specs.Table.{Table}
 use Rattle.nlroute.specs.declared.family.Family.{Family}
-use Rattle.nlroute.specs.Family.{name_of}
+use Rattle.nlroute.specs.Family.{family_name}
 use Rattle.nlroute.specs.Report.{Reports, line}
 
 -- this was read of a reader: at most 262,145 bytes, one more than a text may have
@@ -11,7 +11,7 @@ pub record IsRead (left_before left_after : Option (List ℕ)) (text : List ℕ)
   pub bytes : Consumes left_before left_after text
   pub most : length text ≤ 262145
 
--- so many bytes were read, or the reader is at its end
+-- 262,145 bytes were read, or the reader is at its end
 abbrev pub IsAllRead : List ℕ → Option (List ℕ) → Type 0
 IsAllRead text left = (length text ≡ 262145) ⊎ IsAtEnd left
 
@@ -26,7 +26,7 @@ pub record RunsFor (table : Table) (left_before left_after held_before held_afte
 
 -- the name is no family's
 abbrev pub IsNoFamily : Option (List ℕ) → Type 0
-IsNoFamily name = (family : Family) → name ≢ Some (name_of family)
+IsNoFamily name = (family : Family) → name ≢ Some (family_name family)
 
 abbrev pub usage_line : List ℕ
 usage_line = line (codes "usage: nlroute FAMILY")

@@ -10,12 +10,12 @@ pub enum Family {
 }
 
 impl Family {
-    ghost use Rattle.nlroute.specs.Family.{name_of};
+    ghost use Rattle.nlroute.specs.Family.{family_name};
 
     /// The family of this name, in exact case, or `None` where there is none.
     pub fn from_name(name: &str) -> Option<Self>
-        ensures found { IfSome result (λ family. name.now ≡ name_of family) }
-        ensures none { IfNone result ((family : Family) → name.now ≢ name_of family) }
+        ensures found { IfSome result (λ family. name.now ≡ family_name family) }
+        ensures none { IfNone result ((family : Family) → name.now ≢ family_name family) }
     {
         match name {
             "dsa" => Some(Family::Dsa),

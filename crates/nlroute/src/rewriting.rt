@@ -33,7 +33,7 @@ pub enum RewriteError {
 pub fn rewrite(alloc: Global, family: Family, bytes: &[u8]) -> Result<Vec<u8>, RewriteError>
     ensures answer { RewriteAnswers (table_of family) bytes.now result }
     ensures memory { OnRewriteMemory result (frame_fault bytes.now ≡ None) }
-    // Equal to the input exactly where that is canonical, and never longer than it, rounded up to four.
+    // Equal to the input exactly where the input is canonical, and never longer than it, rounded up to four.
     ensures same { IfOk result (λ out. (out.items ≡ bytes.now) ↔ Canonical (table_of family) bytes.now) }
     ensures no_longer { IfOk result (λ out. length out.items ≤ pad (length bytes.now)) }
     // It reads as the values, with names cut.

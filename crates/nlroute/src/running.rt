@@ -4,7 +4,7 @@ ghost use Rattle.std.specs.Prelude.{◌≡◌, ◌<◌, ◌≤◌, ℕ, List, If
 ghost use Rattle.std.specs.Option.{option_copied};
 ghost use Rattle.std.specs.Io.KnownBytes.{Appends};
 ghost use Rattle.nlroute.specs.declared.family.Family.{Family};
-ghost use Rattle.nlroute.specs.Family.{name_of, table_of};
+ghost use Rattle.nlroute.specs.Family.{family_name, table_of};
 ghost use Rattle.nlroute.specs.Run.{RunsFor, IsNoFamily, IsRead, IsAllRead, PrintsOrFails, usage_line, no_memory_line};
 
 use crate::family::Family;
@@ -15,7 +15,7 @@ use std::io::{Read, Write};
 /// Reads a text and writes the report of it for the family of this name; without a family writes the usage line
 /// and reads nothing. The answer is the exit status.
 ///
-/// Status 0 is success, 1 a fault, 2 a text that is no input or a name that is no family's, 3 a value that does not
+/// Status 0 is success, 1 a fault, 2 a text that is too long or no hex text, or a name that is no family's, 3 a value that does not
 /// fit, 4 a refused growth, and 5 a reader or a writer that failed. The text ends where a read gives no bytes, and
 /// no more than 262,145 bytes of it are read.
 pub fn run<R: Read, W: Write>(
@@ -24,7 +24,7 @@ pub fn run<R: Read, W: Write>(
     reader: &mut R,
     writer: &mut W,
 ) -> u8
-    ensures report { (family : Family) → option_copied name.entry ≡ Some (name_of family) → result < 4
+    ensures report { (family : Family) → option_copied name.entry ≡ Some (family_name family) → result < 4
         → RunsFor (table_of family) (R.remaining reader.old) (R.remaining reader.new) (W.contents writer.old) (W.contents writer.new) result }
     ensures bounded { (text : List ℕ) × IsRead (R.remaining reader.old) (R.remaining reader.new) text }
     // Without a family nothing is read.
@@ -88,7 +88,7 @@ pub(crate) fn print<W: Write>(writer: &mut W, text: &str, status: u8) -> u8
 }
 
 fn family_of(name: Option<&str>) -> Option<Family>
-    ensures found { IfSome result (λ family. option_copied name.entry ≡ Some (name_of family)) }
+    ensures found { IfSome result (λ family. option_copied name.entry ≡ Some (family_name family)) }
     ensures none { IfNone result (IsNoFamily (option_copied name.entry)) }
 {
     match name {

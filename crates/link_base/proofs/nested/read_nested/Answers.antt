@@ -3,12 +3,12 @@ use Rattle.link_base.proofs.Lifted.{nested_values, nested_fails, map-lift}
 use Rattle.link_base.proofs.nested.read_nested.Goals as goal
 
 pub returns-in-Ok : goal.returns-in-Ok
-returns-in-Ok g c = λ flagged.
+returns-in-Ok g c =
     let means = g.E.Meaning.means in
     let leaf = g.E.NestedAttribute.leaf in
     let xs = c.in-Ok.values.items in
-    nested_values g.E.Meaning.table g.E.NestedAttribute.rows flagged c.args.kind c.args.payload.now (map means xs) (map leaf xs) g.met.E.NestedAttribute.same_table (map-lift means leaf g.met.E.NestedAttribute.same_means xs) c.in-Ok.ensures.answer
+    nested_values g.E.Meaning.table g.E.NestedAttribute.rows g.E.NestedAttribute.flagged c.args.kind c.args.payload.now (map means xs) (map leaf xs) g.met.E.NestedAttribute.same_table (map-lift means leaf g.met.E.NestedAttribute.same_means xs) c.in-Ok.ensures.answer
 
 pub returns-in-Err : goal.returns-in-Err
-returns-in-Err g c = λ flagged.
-    rw c.nested.ensures (nested_fails g.E.Meaning.table g.E.NestedAttribute.rows flagged c.args.kind c.args.payload.now c.in-Err.error g.met.E.NestedAttribute.same_table c.in-Err.ensures.answer)
+returns-in-Err g c =
+    rw c.nested.ensures (nested_fails g.E.Meaning.table g.E.NestedAttribute.rows g.E.NestedAttribute.flagged c.args.kind c.args.payload.now c.in-Err.error g.met.E.NestedAttribute.same_table c.in-Err.ensures.answer)

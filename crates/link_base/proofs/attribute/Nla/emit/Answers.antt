@@ -3,7 +3,7 @@ use borrow.Rule.Slice.PartMut.{put_mid}
 use Rattle.link_base.specs.Frame.{frame_bytes}
 use Rattle.link_base.specs.Wire.{whole}
 use Rattle.link_base.specs.Table.{written_payload, written_kind}
-use Rattle.link_base.specs.Answers.{StartsWith}
+use Rattle.link_base.specs.Answers.{OverwritesFront}
 use Rattle.link_base.proofs.Emit.{put_frame, length-whole_bytes}
 use Rattle.link_base.proofs.attribute.Nla.emit.Goals as goal
 
@@ -19,4 +19,4 @@ returns-clause-written g c =
     let end = (n + 7) / 4 * 4 in
     let done = put_frame c.args.buffer.now c.put_header.new.buffer (put_mid 4 (4 + n - 4) c.put_header.new.buffer c.emit_value.new.buffer) c.put_zeros.new.buffer f p n end size (omega (arith, size)) (omega (arith, size, len, c.requires.room))
     c.put_header.ensures (rw (k, c.emit_value.ensures.written) refl) c.put_zeros.ensures in
-    subst (λ (m : ℕ). StartsWith c.args.buffer.now c.put_zeros.new.buffer (frame_bytes (whole m p))) c.kind.ensures done
+    subst (λ (m : ℕ). OverwritesFront c.args.buffer.now c.put_zeros.new.buffer (frame_bytes (whole m p))) c.kind.ensures done

@@ -1,0 +1,15 @@
+use Rattle.std.proofs.Common.{true, [], ◌∷◌, refl, arith, inl, inr}
+use Rattle.link_base.specs.declared.fault.Cause.TheVariants.{SmallLength}
+use Rattle.link_base.proofs.examples.small_length.Goals as goal
+
+pub returns : goal.returns
+returns c = record {
+  front = [];
+  rest = 0 ∷ 0 ∷ 1 ∷ 0 ∷ [];
+  string = refl;
+  complete = tt;
+  values = tt;
+  some = omega arith;
+  offset = refl;
+  here = inl (SmallLength 0, refl, refl);
+}
