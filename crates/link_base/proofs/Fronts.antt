@@ -2,6 +2,7 @@
 use Rattle.std.proofs.Common.{◌≡◌, ◌⊎◌, ℕ, ◌+◌, ◌-◌, ◌*◌, ◌/◌, ◌%◌, ◌<◌, ◌≤◌, Bool, true, false, cond, List, [], ◌∷◌, ◌++◌, length, take, drop, Some, None, refl, sym, ap, ◌∙◌, arith, inl, inr, ⊎_elim, append_assoc, length-append, length-take, length-drop, take-append-drop}
 use Rattle.std.specs.Prelude.{nat_lt}
 use Rattle.std.proofs.lemmas.Bool.{cases_lt, cond-false, ltb-false, le-ltb}
+use Rattle.link_base.proofs.Begins.{begins_by, splits, step_of}
 use Rattle.link_base.specs.Number.{IsBytes, number}
 use Rattle.link_base.specs.Frame.{Frame, IsFrame, IsComplete, frame_bytes, gap, pad, frame_fault}
 use Rattle.link_base.specs.declared.fault.Cause.{Cause}
@@ -70,28 +71,16 @@ pub record Front (s : List ℕ) : Type 0 where
 -- the frame at the front, from four bytes and what follows
 front_by : (a b c d : ℕ) (body : List ℕ) → a < 256 → b < 256 → c < 256 → d < 256 → 4 ≤ a + 256 * b → a + 256 * b ≤ 4 + length body → Front (a ∷ b ∷ c ∷ d ∷ body)
 front_by a b c d body ha hb hc hd low high =
-    let n = a + 256 * b in
-    let f = c + 256 * d in
-    let p = take (n - 4) body in
-    let after = drop (n - 4) body in
-    let z = take (gap p) after in
-    let rest = drop (gap p) after in
-    let len : length p ≡ n - 4 = omega (arith, length-take (n - 4) body) in
-    let e0 : a ≡ (4 + length p) % 256 = omega arith in
-    let e1 : b ≡ (4 + length p) / 256 % 256 = omega arith in
-    let e2 : c ≡ f % 256 = omega arith in
-    let e3 : d ≡ f / 256 % 256 = omega arith in
-    let e4 : body ≡ (p ++ z) ++ rest =
-    sym (take-append-drop (n - 4) body) ∙ ap (λ t. p ++ t) (sym (take-append-drop (gap p) after)) ∙ sym (append_assoc p z rest) in
+    let s = a ∷ b ∷ c ∷ d ∷ body in
+    let f = c + d * 256 in
+    let p = take (a + b * 256 - 4) body in
+    let at = splits s f p (begins_by a b c d body (a + b * 256) f ha hb hc hd refl (omega arith) (omega arith) refl) in
     record {
-      frame = record { kind_field = f; payload = p; padding = z };
-      rest = rest;
-      string = λ i. e0 i ∷ e1 i ∷ e2 i ∷ e3 i ∷ e4 i;
-      is = record { kind_field = omega arith; payload = omega arith; padding = omega (arith, length-take (gap p) after) };
-      last = ⊎_elim
-          (λ (short : length after < gap p). inl (omega (arith, length-drop (gap p) after)))
-          (λ (long : gap p ≤ length after). inr (record { kind_field = omega arith; payload = omega arith; padding = omega (arith, length-take (gap p) after) }))
-          (cases_lt (length after) (gap p));
+      frame = record { kind_field = f; payload = p; padding = at.padding };
+      rest = drop (step_of s p) s;
+      string = at.string;
+      is = at.is;
+      last = elim at.last [ inl e ↦ inl (ap length e) | inr complete ↦ inr complete ];
     }
 
 -- the frame at the front, where its length is possible

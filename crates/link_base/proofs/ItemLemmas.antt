@@ -10,7 +10,8 @@ use Rattle.link_base.specs.declared.fault.Cause.{Cause}
 use Rattle.link_base.specs.Frame.{Frame, Frames, BeginsWith, bare, IsComplete, frame_bytes, spelled, pad, frame_fault}
 use Rattle.link_base.specs.Buffer.{kind_field_of, payload_of, frame_of}
 use Rattle.link_base.specs.Items.{NextFrame, AreItems, seen, item_of, bytes_left}
-use Rattle.link_base.proofs.Steps.{Splits, splits, step_of, are_more, end_or, complete_of}
+use Rattle.link_base.proofs.Begins.{Splits, splits, step_of}
+use Rattle.link_base.proofs.Steps.{are_more, end_or, complete_of}
 
 -- an item of the iterator
 abbrev Item : Type 0

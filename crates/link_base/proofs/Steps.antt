@@ -15,49 +15,8 @@ use Rattle.link_base.specs.Frame.{Frame, BeginsWith, bare, IsFrame, IsComplete, 
 use Rattle.link_base.specs.Wire.{Reading, Wire, FirstFault, FaultsHere}
 use Rattle.link_base.specs.Buffer.{IsFrameFault}
 use Rattle.link_base.specs.Answers.{Fails, ListFails, list_error}
-use Rattle.link_base.proofs.Cuts.{IsFrame-complete}
+use Rattle.link_base.proofs.Begins.{Splits}
 use Rattle.link_base.proofs.Fronts.{frame_fault-frame}
-
--- ---- the frame at the front, with all its padding
-
--- a frame at the front, and what the next one is read from
-pub record Splits (s : List ℕ) (f : ℕ) (p next : List ℕ) : Type 0 where
-  pub padding : List ℕ
-  pub is : IsFrame (record { kind_field = f; payload = p; padding = padding })
-  pub string : s ≡ frame_bytes (record { kind_field = f; payload = p; padding = padding }) ++ next
-  pub last : (next ≡ []) ⊎ IsComplete (record { kind_field = f; payload = p; padding = padding })
-
--- how far the next frame is
-abbrev pub step_of : List ℕ → List ℕ → ℕ
-step_of s p = min (pad (4 + length p)) (length s)
-
-length-frame : (f : ℕ) (p z : List ℕ) → length (frame_bytes (record { kind_field = f; payload = p; padding = z })) ≡ 4 + (length p + length z)
-length-frame f p z = omega (arith, length-append p z)
-
--- bytes that begin with a frame are that frame with its padding, and the rest
-pub splits : (s : List ℕ) (f : ℕ) (p : List ℕ) → BeginsWith s (bare f p) → Splits s f p (drop (step_of s p) s)
-splits s f p b =
-    let n = 4 + length p in
-    let tail = b.rest in
-    let k = step_of s p - n in
-    let z = take k tail in
-    let front = frame_bytes (bare f p) in
-    let len : length front ≡ n = omega (arith, length-frame f p []) in
-    let room : length s ≡ n + length tail = ap length b.string ∙ length-append front tail ∙ ap (λ m. m + length tail) len in
-    let size : length z ≡ k = omega (arith, room, length-take k tail) in
-    let drops : drop n s ≡ tail = ap (drop n) b.string ∙ ap (λ m. drop m (front ++ tail)) (sym len) ∙ drop-append_seam front tail in
-    let next : drop k tail ≡ drop (step_of s p) s = ap (drop k) (sym drops) ∙ drop-drop k n s ∙ ap (λ m. drop m s) (omega (arith, room)) in
-    let shift : front ++ (z ++ drop k tail) ≡ frame_bytes (record { kind_field = f; payload = p; padding = z }) ++ drop k tail = simp append_assoc in
-    let x : Frame = record { kind_field = f; payload = p; padding = z } in
-    record {
-      padding = z;
-      is = record { kind_field = b.is.kind_field; payload = b.is.payload; padding = omega (arith, room, size) };
-      string = b.string ∙ ap (λ t. front ++ t) (sym (take-append-drop k tail)) ∙ shift ∙ ap (λ t. frame_bytes x ++ t) next;
-      last = elim (cases_lt (pad n) (length s)) [
-        | inl lt ↦ inr (record { kind_field = b.is.kind_field; payload = b.is.payload; padding = omega (arith, size, room) })
-        | inr le ↦ inl (nil_from_length (drop (step_of s p) s) (omega (arith, length-drop (step_of s p) s)))
-      ];
-    }
 
 -- ---- how what was read goes on
 

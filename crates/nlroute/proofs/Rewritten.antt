@@ -1,10 +1,10 @@
 -- What holds of a rewriting in a lawful table.
-use Rattle.std.proofs.Common.{◌≡◌, ◌↔◌, ℕ, ◌<◌, ◌≤◌, List, [], ◌∷◌, ◌++◌, length, map, get_or, Some, None, Ok, sym, ap, subst, ◌∙◌, arith}
-use Rattle.std.specs.List.{AllZip, AllByRecursion}
+use Rattle.std.proofs.Common.{◌≡◌, ◌↔◌, ℕ, ◌<◌, ◌≤◌, List, [], ◌∷◌, length, map, None, Ok, ap, subst, ◌∙◌, arith}
+use Rattle.std.specs.List.{AllZip}
 use Rattle.link_base.specs.Number.{IsBytes}
 use Rattle.link_base.specs.Frame.{Frame, AreFrames, pad, spelled, frame_fault}
 use Rattle.link_base.specs.Wire.{Reading, FrameGives, Wire}
-use Rattle.link_base.specs.Table.{Table, AttrValue, Gives, Canonical, Rewriting, cut, written_list, Fits}
+use Rattle.link_base.specs.Table.{Table, Gives, Canonical, Rewriting, cut, written_list}
 use Rattle.link_base.specs.Lawful.{IsLawful}
 use Rattle.link_base.proofs.Cuts.{AreFrames-head}
 use Rattle.link_base.proofs.Fronts.{frame_fault-frame}

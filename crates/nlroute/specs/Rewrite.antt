@@ -1,7 +1,6 @@
 -- What a rewriting answers.
-use Rattle.std.specs.Prelude.{◌≡◌, ◌≤◌, ◌↔◌, ℕ, List, length, map, Result, Ok, Err}
+use Rattle.std.specs.Prelude.{◌≡◌, ℕ, List, map, Result, Ok, Err}
 use Rattle.std.specs.Global.{Vec}
-use Rattle.link_base.specs.Frame.{pad}
 use Rattle.link_base.specs.Wire.{Wire, FirstFault}
 use Rattle.link_base.specs.Table.{Table, AttrValue, Gives, Canonical, Rewriting, cut}
 use Rattle.link_base.specs.Answers.{IsFirstUnfit}

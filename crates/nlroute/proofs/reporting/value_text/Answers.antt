@@ -1,4 +1,3 @@
-use Rattle.std.proofs.Common.{arith}
 use Rattle.nlroute.proofs.Reported.{attr_more}
 use Rattle.nlroute.proofs.reporting.value_text.Goals as goal
 
