@@ -1,7 +1,7 @@
 -- A frame is written in three parts, and a list one frame after another.
-use Rattle.std.proofs.Common.{◌≡◌, ℕ, ◌+◌, ◌-◌, ◌*◌, ◌/◌, ◌≤◌, ◌<◌, List, [], ◌∷◌, ◌++◌, length, take, drop, get_or, map, zero, suc, refl, sym, ap, subst, ◌∙◌, append_assoc, arith}
+use Rattle.std.proofs.Common.{◌≡◌, ℕ, ◌+◌, ◌-◌, ◌≤◌, ◌<◌, List, [], ◌∷◌, ◌++◌, length, take, drop, get_or, map, zero, suc, refl, sym, ap, subst, ◌∙◌, append_assoc, arith}
 use Rattle.std.specs.Prelude.{replicate}
-use Rattle.std.specs.List.{flat_map, AllByRecursion}
+use Rattle.std.specs.List.{AllByRecursion}
 use borrow.Rule.Slice.PartMut.{put_mid}
 use Rattle.std.proofs.lemmas.List.{length-append, length-replicate, length-drop, length-take, take_at, drop_at, append-nil, nil_from_length, drop-drop, take_more, map-append, length-map, take-append-drop}
 use Rattle.std.proofs.Math.Seq.{take-length}
@@ -10,7 +10,7 @@ use Rattle.std.proofs.lemmas.Slice.{take-put_mid, drop-put_mid, drop-append-drop
 use Rattle.link_base.specs.Number.{bytes_of}
 use Rattle.link_base.specs.Frame.{frame_bytes, gap, pad}
 use Rattle.link_base.specs.Wire.{whole}
-use Rattle.link_base.specs.Table.{AttrValue, written_kind, written_payload, written_frame, written_list, Fits}
+use Rattle.link_base.specs.Table.{AttrValue, written_payload, written_frame, written_list, Fits}
 use Rattle.link_base.specs.Answers.{OverwritesFront, IsFirstUnfit}
 
 -- a written frame has the length of its header and payload, rounded up to four

@@ -1,10 +1,10 @@
 -- The frame at the front of some bytes.
-use Rattle.std.proofs.Common.{◌≡◌, ◌⊎◌, ℕ, ◌+◌, ◌-◌, ◌*◌, ◌/◌, ◌%◌, ◌<◌, ◌≤◌, Bool, true, false, cond, List, [], ◌∷◌, ◌++◌, length, take, drop, Some, None, refl, sym, ap, ◌∙◌, arith, inl, inr, ⊎_elim, append_assoc, length-append, length-take, length-drop, take-append-drop}
+use Rattle.std.proofs.Common.{◌≡◌, ◌⊎◌, ℕ, ◌+◌, ◌-◌, ◌*◌, ◌<◌, ◌≤◌, Bool, true, false, cond, List, [], ◌∷◌, ◌++◌, length, take, drop, Some, None, refl, ap, ◌∙◌, arith, inl, inr, length-append}
 use Rattle.std.specs.Prelude.{nat_lt}
-use Rattle.std.proofs.lemmas.Bool.{cases_lt, cond-false, ltb-false, le-ltb}
+use Rattle.std.proofs.lemmas.Bool.{cond-false, ltb-false, le-ltb}
 use Rattle.link_base.proofs.Begins.{begins_by, splits, step_of}
 use Rattle.link_base.specs.Number.{IsBytes, number}
-use Rattle.link_base.specs.Frame.{Frame, IsFrame, IsComplete, frame_bytes, gap, pad, frame_fault}
+use Rattle.link_base.specs.Frame.{Frame, IsFrame, IsComplete, frame_bytes, pad, frame_fault}
 use Rattle.link_base.specs.declared.fault.Cause.{Cause}
 
 -- bytes and bytes are bytes

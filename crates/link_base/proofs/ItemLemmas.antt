@@ -1,15 +1,13 @@
 -- What an iterator over frames gives in a whole run.
-use Rattle.std.proofs.Common.{◌≡◌, ◌≢◌, ◌⊎◌, ℕ, ◌+◌, ◌-◌, ◌*◌, ◌/◌, ◌<◌, ◌≤◌, min, List, [], ◌∷◌, ◌++◌, length, drop, map, Option, Some, None, Result, Ok, Err, refl, sym, ap, ap₂, subst, ◌∙◌, arith, inl, inr, append_assoc}
-use Rattle.std.specs.List.{AllByRecursion}
+use Rattle.std.proofs.Common.{◌≡◌, ◌≢◌, ℕ, ◌+◌, ◌/◌, ◌<◌, ◌≤◌, List, [], ◌∷◌, ◌++◌, length, map, Option, Some, None, Result, Ok, Err, refl, sym, ap, subst, ◌∙◌, arith, inl, inr, append_assoc}
 use Rattle.std.specs.Iterator.{Yields, Drains}
 use Rattle.std.proofs.lemmas.List.{length-append, length-drop}
 use Rattle.link_base.specs.declared.buffer.NlaBuffer.{NlaBuffer}
 use Rattle.link_base.specs.declared.iterator.NlasIterator.{NlasIterator}
 use Rattle.link_base.specs.declared.fault.DecodeError.{DecodeError}
-use Rattle.link_base.specs.declared.fault.Cause.{Cause}
-use Rattle.link_base.specs.Frame.{Frame, Frames, BeginsWith, bare, IsComplete, frame_bytes, spelled, pad, frame_fault}
+use Rattle.link_base.specs.Frame.{Frame, BeginsWith, frame_bytes, spelled}
 use Rattle.link_base.specs.Buffer.{kind_field_of, payload_of, frame_of}
-use Rattle.link_base.specs.Items.{NextFrame, AreItems, seen, item_of, bytes_left}
+use Rattle.link_base.specs.Items.{NextFrame, AreItems, seen, bytes_left}
 use Rattle.link_base.proofs.Begins.{Splits, splits, step_of}
 use Rattle.link_base.proofs.Steps.{are_more, end_or, complete_of}
 

@@ -1,18 +1,18 @@
 -- A table without lists reads and writes as the table that it is.
-use Rattle.std.proofs.Common.{◌≡◌, ℕ, ◌+◌, ◌≤◌, Bool, true, false, cond, eqb, List, [], ◌∷◌, ◌++◌, length, map, Option, Some, None, Result, Ok, Err, refl, sym, ap, ap₂, subst, ◌∙◌, arith, inl, inr}
+use Rattle.std.proofs.Common.{◌≡◌, ℕ, ◌≤◌, Bool, true, false, cond, List, [], ◌∷◌, ◌++◌, length, map, Option, Some, None, Result, Ok, Err, refl, ap, ap₂, subst, ◌∙◌, arith, inl, inr}
 use Rattle.std.specs.Prelude.{◌==◌}
-use Rattle.std.specs.List.{flat_map, AllZip, AllByRecursion}
+use Rattle.std.specs.List.{AllZip, AllByRecursion}
 use Rattle.std.proofs.lemmas.List.{length-append}
 use Rattle.link_base.specs.declared.fault.Cause.{Cause}
 use Rattle.link_base.specs.declared.fault.DecodeFault.{DecodeFault}
 use Rattle.link_base.specs.declared.fault.ListError.{ListError}
 use Rattle.link_base.specs.declared.fault.ListError.TheVariants as list_errors
-use Rattle.link_base.specs.Frame.{Frame, BeginsWith, kind_of, frame_bytes}
+use Rattle.link_base.specs.Frame.{Frame, kind_of, frame_bytes}
 use Rattle.link_base.specs.Class.{Class, Value, class_value}
-use Rattle.link_base.specs.Wire.{Reading, Wire, FirstFault, FaultsHere, whole}
-use Rattle.link_base.specs.Table.{Row, Rows, class_at, Leaf, Attr, Case, Other, LeafGives, leaf_by, leaf_case, leaf_field, leaf_payload, written_leaves, Shape, One, Content, Single, Inner, Table, AttrValue, Gives, GivesBy, single_case, ListGives, list_case, written_list, written_kind, written_payload, Fits}
+use Rattle.link_base.specs.Wire.{Wire, FirstFault, FaultsHere, whole}
+use Rattle.link_base.specs.Table.{Rows, class_at, Leaf, Case, Other, LeafGives, leaf_by, leaf_case, leaf_field, leaf_payload, written_leaves, Shape, One, Single, Inner, Table, AttrValue, Gives, GivesBy, single_case, ListGives, written_list, written_kind, written_payload, Fits}
 use Rattle.link_base.specs.Held.{LeafInRange, LeafInRangeBy, IsInRange, InRangeBy}
-use Rattle.link_base.specs.Lift.{lift, lift_row, lift_table}
+use Rattle.link_base.specs.Lift.{lift, lift_table}
 use Rattle.link_base.specs.Answers.{Fails, ListFails, nested_error}
 use Rattle.link_base.proofs.Emit.{length-whole_bytes}
 

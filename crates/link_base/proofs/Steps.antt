@@ -1,17 +1,11 @@
 -- A step of the loop over a list: the frame at the front of the rest is read.
-use Rattle.std.proofs.Common.{◌≡◌, ◌≢◌, ◌⊎◌, ℕ, ◌+◌, ◌-◌, ◌*◌, ◌/◌, ◌<◌, ◌≤◌, List, [], ◌∷◌, ◌++◌, length, take, drop, min, Some, None, Ok, Err, refl, sym, ap, subst, ◌∙◌, arith, inl, inr, append_assoc}
-use Rattle.std.specs.List.{AllByRecursion}
-use Rattle.std.proofs.lemmas.List.{append-nil, length-append, length-take, length-drop, take-append-drop, drop-drop, nil_from_length}
-use Rattle.std.proofs.lemmas.Bool.{cases_lt}
-use Rattle.link_base.specs.declared.fault.Cause.{Cause}
+use Rattle.std.proofs.Common.{◌≡◌, ◌≢◌, ◌⊎◌, ℕ, ◌+◌, ◌-◌, ◌<◌, List, [], ◌∷◌, ◌++◌, length, None, Ok, refl, sym, ap, subst, ◌∙◌, arith, inl, inr, append_assoc}
+use Rattle.std.proofs.lemmas.List.{append-nil, length-append}
 use Rattle.link_base.specs.declared.fault.DecodeFault.{DecodeFault}
 use Rattle.link_base.specs.declared.fault.DecodeFault.TheVariants as faults
 use Rattle.link_base.specs.declared.fault.DecodeError.{DecodeError}
 use Rattle.link_base.specs.declared.fault.DecodeError.TheVariants as errors
-use Rattle.link_base.specs.declared.fault.ListError.{ListError}
-use Rattle.link_base.specs.declared.fault.ListError.TheVariants as list_errors
-use Rattle.std.proofs.Math.Seq.{drop-append_seam}
-use Rattle.link_base.specs.Frame.{Frame, BeginsWith, bare, IsFrame, IsComplete, AreFrames, frame_bytes, spelled, gap, pad, frame_fault}
+use Rattle.link_base.specs.Frame.{Frame, BeginsWith, bare, IsFrame, IsComplete, AreFrames, frame_bytes, spelled, frame_fault}
 use Rattle.link_base.specs.Wire.{Reading, Wire, FirstFault, FaultsHere}
 use Rattle.link_base.specs.Buffer.{IsFrameFault}
 use Rattle.link_base.specs.Answers.{Fails, ListFails, list_error}

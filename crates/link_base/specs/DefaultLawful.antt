@@ -1,7 +1,6 @@
 -- The laws of one attribute hold of the table without rows: every kind field and payload read as `Other`.
-use Rattle.std.specs.Prelude.{◌≡◌, ◌↔◌, ℕ, ◌<◌, ◌≤◌, List, [], length, Result, Ok, Err, refl}
-use Rattle.std.proofs.Common.{sym, ap, subst, ◌∙◌, arith}
-use Rattle.link_base.specs.declared.fault.DecodeFault.{DecodeFault}
+use Rattle.std.specs.Prelude.{◌≡◌, ◌↔◌, ℕ, ◌<◌, ◌≤◌, List, length, Ok, refl}
+use Rattle.std.proofs.Common.{sym, subst, ◌∙◌, arith}
 use Rattle.link_base.specs.Number.{IsBytes}
 use Rattle.link_base.specs.Frame.{pad}
 use Rattle.link_base.specs.Table.{AttrValue, Case, Other, Gives, written_kind, written_payload, canon, cut, Allows, Fits}

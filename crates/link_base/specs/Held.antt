@@ -1,11 +1,11 @@
 -- Values that a program can hold, and plain values.
-use Rattle.std.specs.Prelude.{◌≡◌, ℕ, ◌<◌, List, Option, Some, None, Bool, length, map}
+use Rattle.std.specs.Prelude.{◌≡◌, ℕ, ◌<◌, List, Option, Some, None, length}
 use Rattle.std.specs.List.{AllByRecursion}
 use Rattle.link_base.specs.Number.{IsBytes}
 use Rattle.link_base.specs.Frame.{kind_of}
 use Rattle.link_base.specs.Class
 use Rattle.link_base.specs.Class.{Class, Value, IsUncut}
-use Rattle.link_base.specs.Table.{Row, Rows, class_at, Leaf, Case, Other, Shape, One, Nested, Addresses, Content, Single, Inner, Listed, Table, AttrValue}
+use Rattle.link_base.specs.Table.{Rows, class_at, Leaf, Case, Other, Shape, One, Nested, Addresses, Content, Single, Inner, Listed, Table, AttrValue}
 
 -- ---- in range: of the table, with numbers and texts of their types
 

@@ -1,5 +1,5 @@
 -- A table without lists, as a table.
-use Rattle.std.specs.Prelude.{List, map}
+use Rattle.std.specs.Prelude.{map}
 use Rattle.link_base.specs.Class.{Class}
 use Rattle.link_base.specs.Table.{Row, Rows, row, Leaf, Case, Other, Shape, One, Single, Table, AttrValue}
 

@@ -1,5 +1,5 @@
 -- A value and its canon have one written form.
-use Rattle.std.specs.Prelude.{◌≡◌, ℕ, ◌+◌, List, [], ◌∷◌, ◌++◌, map, refl}
+use Rattle.std.specs.Prelude.{◌≡◌, ◌+◌, List, [], ◌∷◌, ◌++◌, map, refl}
 use Rattle.std.proofs.Common.{ap, ap₂}
 use Rattle.std.proofs.lemmas.Bool.{cond_both}
 use Rattle.link_base.specs.Number.{bytes_of}

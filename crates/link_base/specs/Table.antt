@@ -1,5 +1,5 @@
 -- Tables of attributes: what a kind field and a payload read as, and how a value is written.
-use Rattle.std.specs.Prelude.{◌≡◌, ℕ, ◌+◌, ◌<◌, ◌≤◌, ◌==◌, Bool, List, [], ◌∷◌, length, map, Option, Some, None, Result, Ok, Err, if◌then◌else◌}
+use Rattle.std.specs.Prelude.{◌≡◌, ℕ, ◌+◌, ◌<◌, ◌==◌, Bool, List, [], ◌∷◌, length, map, Option, Some, None, Result, Ok, Err, if◌then◌else◌}
 use Rattle.std.specs.List.{filter, AllByRecursion}
 use Rattle.link_base.specs.declared.fault.Cause.{Cause}
 use Rattle.link_base.specs.declared.fault.DecodeFault.{DecodeFault}
@@ -7,7 +7,7 @@ use Rattle.link_base.specs.declared.fault.DecodeFault.TheVariants as faults
 use Rattle.link_base.specs.Frame.{Frame, IsComplete, kind_of, frame_bytes, spelled}
 use Rattle.link_base.specs.Class
 use Rattle.link_base.specs.Class.{Class, Value, class_value, written, IsCanonicalPayload}
-use Rattle.link_base.specs.Wire.{Reading, Reads, Wire, CanonicalBy, RewritingBy, written_by, FitsBy, whole}
+use Rattle.link_base.specs.Wire.{Reading, Reads, CanonicalBy, RewritingBy, written_by, FitsBy, whole}
 
 -- ---- rows, and attributes of a table
 

@@ -1,9 +1,9 @@
 -- Tests that each table passes: they compute.
-use Rattle.std.specs.Prelude.{ℕ, ◌+◌, ◌≤◌, ◌==◌, ◌&&◌, ◌||◌, Bool, true, false, List, [], ◌∷◌, length, Option, Some, None, nat_lt, nat_le}
+use Rattle.std.specs.Prelude.{ℕ, ◌+◌, ◌≤◌, ◌==◌, ◌&&◌, ◌||◌, Bool, true, false, List, [], ◌∷◌, length, Option, Some, nat_lt, nat_le}
 use Rattle.std.specs.List.{list_all}
 use Rattle.link_base.specs.Number.{bound}
-use Rattle.link_base.specs.Class.{Extent, Exactly, AtLeast, Fixed, Multiple, Class, Octets, Many, Named, Empty, Limits}
-use Rattle.link_base.specs.Table.{Row, Rows, Shape, One, Nested, Addresses, Table}
+use Rattle.link_base.specs.Class.{Extent, AtLeast, Multiple, Class, Octets, Many, Named, Empty, Limits}
+use Rattle.link_base.specs.Table.{Row, Shape, One, Nested, Addresses, Table}
 
 -- a number of bytes, and not a multiple of one
 abbrev pub is_record : Extent → Bool

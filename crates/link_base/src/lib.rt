@@ -12,6 +12,8 @@ mod list;
 mod nested;
 mod octets;
 mod scalars;
+#[cfg(test)]
+mod tests;
 mod writing;
 
 pub use attribute::{Attribute, Meaning, Nla, Parseable};

@@ -55,7 +55,7 @@ impl Octets {
 
 impl fmt::Debug for Octets {
     fn fmt<W: fmt::Write>(&self, f: &mut fmt::Formatter<W>) -> fmt::Result {
-        write!(f, "{:?}", self.bytes)
+        self.bytes.fmt(f)
     }
 }
 

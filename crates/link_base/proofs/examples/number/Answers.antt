@@ -1,4 +1,4 @@
-use Rattle.std.proofs.Common.{true, [], ◌∷◌, refl, arith, inl, inr}
+use Rattle.std.proofs.Common.{[], ◌∷◌, refl, arith}
 use Rattle.link_base.proofs.examples.number.Goals as goal
 
 pub returns : goal.returns

@@ -1,4 +1,4 @@
-use Rattle.std.proofs.Common.{true, [], ◌∷◌, refl, arith, inl, inr}
+use Rattle.std.proofs.Common.{[], ◌∷◌, refl, arith, inl}
 use Rattle.link_base.specs.declared.fault.Cause.TheVariants.{Overrun}
 use Rattle.link_base.proofs.examples.overrun.Goals as goal
 

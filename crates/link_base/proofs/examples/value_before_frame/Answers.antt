@@ -1,4 +1,4 @@
-use Rattle.std.proofs.Common.{true, [], ◌∷◌, refl, arith, inl, inr}
+use Rattle.std.proofs.Common.{[], ◌∷◌, refl, arith, inr}
 use Rattle.link_base.proofs.examples.value_before_frame.Goals as goal
 
 pub returns : goal.returns

@@ -1,11 +1,11 @@
-use Rattle.std.proofs.Common.{◌≡◌, ◌≢◌, ◌+◌, ◌-◌, map, [], ◌∷◌, ◌++◌, inr, arith, ap, length, drop, subst, ◌∙◌, ℕ, min, sym}
+use Rattle.std.proofs.Common.{◌≡◌, ◌≢◌, ◌-◌, map, [], ◌∷◌, ◌++◌, inr, arith, ap, length, drop, subst, ◌∙◌, ℕ, min, sym}
 use Rattle.std.proofs.lemmas.Grind.{common_steps}
 use Rattle.std.proofs.lemmas.List.{map-append, length-drop}
 use Rattle.link_base.specs.Frame.{pad}
 use Rattle.link_base.specs.Table.{Gives}
 use Rattle.link_base.specs.Buffer.{kind_field_of, payload_of, frame_of}
 use Rattle.link_base.proofs.Begins.{Splits, splits, step_of}
-use Rattle.link_base.proofs.Steps.{Continues, continues_all, continues_more, ends_at_frame, ends_at_value, begun}
+use Rattle.link_base.proofs.Steps.{continues_all, continues_more, ends_at_frame, ends_at_value, begun}
 use Rattle.link_base.proofs.list.read_list.Goals as goal
 
 pub returns-in-Err-clause-answer : goal.returns-in-Err-clause-answer

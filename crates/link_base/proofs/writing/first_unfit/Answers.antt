@@ -1,4 +1,4 @@
-use Rattle.std.proofs.Common.{ℕ, length, ◌<◌, ◌≤◌, inl, inr}
+use Rattle.std.proofs.Common.{length, ◌<◌, inl, inr}
 use Rattle.std.proofs.lemmas.Bool.{cases_lt, false≢true}
 use Rattle.link_base.specs.Table.{written_payload}
 use Rattle.link_base.proofs.Emit.{first_unfit_at}

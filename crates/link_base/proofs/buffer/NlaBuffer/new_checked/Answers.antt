@@ -1,4 +1,4 @@
-use Rattle.std.proofs.Common.{arith, ap, ◌∙◌, ℕ, take, drop, ◌-◌}
+use Rattle.std.proofs.Common.{arith, ap, ℕ, take, drop, ◌-◌}
 use Rattle.link_base.proofs.Begins.{begins_with}
 use Rattle.link_base.proofs.buffer.NlaBuffer.new_checked.Goals as goal
 

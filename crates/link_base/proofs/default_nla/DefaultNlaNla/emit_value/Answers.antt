@@ -1,5 +1,4 @@
-use Rattle.std.proofs.Common.{arith, subst}
-use Rattle.link_base.specs.Number.{IsBytes}
+use Rattle.std.proofs.Common.{arith}
 use Rattle.link_base.proofs.Numbers.{IsBytes-index}
 use Rattle.link_base.proofs.default_nla.DefaultNlaNla.emit_value.Goals as goal
 
