@@ -20,3 +20,5 @@ pub mod JoinedLemmas
 pub mod LimitLemmas
 pub mod PlainLemmas
 pub mod ItemLemmas
+pub mod Naming
+pub mod FlagLemmas

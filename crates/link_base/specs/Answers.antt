@@ -51,6 +51,11 @@ abbrev pub value_error : ℕ → DecodeError → DecodeError
 value_error kind (errors.Memory e) = errors.Memory e
 value_error kind (errors.Fault f) = errors.Fault (value_fault kind f)
 
+-- what was read of a payload, under its kind
+abbrev pub under_kind : {A : Type 0} → ℕ → Result A DecodeError → Result A DecodeError
+under_kind kind (Ok a) = Ok a
+under_kind kind (Err e) = Err (value_error kind e)
+
 -- ---- reading a list
 
 -- the first fault, unless memory ran out

@@ -5,7 +5,7 @@ use Rattle.link_base.specs.Number.{IsBytes}
 use Rattle.link_base.specs.Frame.{kind_of}
 use Rattle.link_base.specs.Class
 use Rattle.link_base.specs.Class.{Class, Value, IsUncut}
-use Rattle.link_base.specs.Table.{Rows, class_at, Leaf, Case, Other, Shape, One, Nested, Addresses, Content, Single, Inner, Listed, Table, AttrValue}
+use Rattle.link_base.specs.Table.{Rows, class_at, Leaf, Case, Other, Shape, One, Nested, Addresses, Content, Single, Inner, Listed, Table, AttrValue, TakesMemoryBy}
 
 -- ---- in range: of the table, with numbers and texts of their types
 
@@ -85,3 +85,10 @@ pub record IsPlain (table : Table) (v : AttrValue) : Type 0 where
   pub in_range : IsInRange table v
   pub hides_none : HidesNone table v
   pub uncut : AttrIsUncut v
+
+-- ---- memory
+
+-- a value of this case, or an `Other`, may be held in memory of its own
+abbrev pub HoldsMemory : Table → AttrValue → Type 0
+HoldsMemory table (Case k content) = TakesMemoryBy (class_at table k)
+HoldsMemory table (Other f p) = Unit {0}

@@ -10,6 +10,10 @@ pub mod Lawful
 pub mod Texts
 pub mod Buffer
 pub mod Answers
+pub mod Address
+pub mod Pair
+pub mod Named
+pub mod Protocol
 pub mod Default
 pub mod Items
 pub mod Lift

@@ -2,15 +2,16 @@
 
 ghost use Rattle.std.specs.Prelude.{◌≡◌, ◌≤◌, ◌-◌, ◌++◌, ◌↔◌, IsTrue, length, take, drop, replicate};
 ghost use Rattle.link_base.specs.Number.{bytes_of};
+ghost use Rattle.link_base.specs.Frame.{kind_of};
 ghost use Rattle.link_base.specs.Table.{Table, AttrValue, Gives, TakesMemory, Fits, written_kind, written_payload, written_frame};
 ghost use Rattle.link_base.specs.Held.{IsInRange};
 ghost use Rattle.link_base.specs.WellFormed.{is_table};
 ghost use Rattle.link_base.specs.Lawful.{IsLawful};
 ghost use Rattle.link_base.specs.Buffer.{kind_field_of, payload_of};
-ghost use Rattle.link_base.specs.Answers.{Answers, OnMemory, OverwritesFront, capped};
+ghost use Rattle.link_base.specs.Answers.{Answers, OnMemory, OverwritesFront, capped, under_kind};
 
 use crate::buffer::NlaBuffer;
-use crate::fault::DecodeError;
+use crate::fault::{DecodeError, of_kind};
 use std::alloc::Global;
 
 /// The most bytes of a payload: the greatest `nla_len`, 65535, without the four of the header.
@@ -95,19 +96,28 @@ fn put_zeros(buffer: &mut [u8], start: usize, end: usize)
     buffer[start..end].fill(0);
 }
 
-/// A value that can be read from an attribute.
-pub trait Parseable: Meaning {
+/// A value that can be read from an attribute. A type gives `parse_payload`, a `match` on the kind.
+pub trait Parseable: Meaning + Drop {
+    /// The value of a frame, as `parse` reads it, but that a fault of a bad payload may lack the kind (`Payload`):
+    /// `parse` puts it in.
+    fn parse_payload(alloc: Global, buffer: &NlaBuffer<'_>) -> Result<Self, DecodeError>
+        ensures answer { Answers Self.means (under_kind (kind_of (kind_field_of buffer.now)) result) (Gives Self.table (kind_field_of buffer.now) (payload_of buffer.now)) }
+        ensures memory { OnMemory result (TakesMemory Self.table (kind_field_of buffer.now)) };
+
     /// The value of a frame.
     ///
     /// Fails with `Value`, `NestedFrame` or `NestedValue` where the kind has a case and the payload is not one of
     /// it, and with `Memory` only where the case, or `Other`, holds memory of its own.
     fn parse(alloc: Global, buffer: &NlaBuffer<'_>) -> Result<Self, DecodeError>
         ensures answer { Answers Self.means result (Gives Self.table (kind_field_of buffer.now) (payload_of buffer.now)) }
-        ensures memory { OnMemory result (TakesMemory Self.table (kind_field_of buffer.now)) };
+        ensures memory { OnMemory result (TakesMemory Self.table (kind_field_of buffer.now)) }
+    {
+        of_kind(buffer.kind(), Self::parse_payload(alloc, buffer))
+    }
 }
 
 /// An attribute of one family: what is read and what is written agree, by these laws.
-pub trait Attribute: Nla + Parseable + Drop {
+pub trait Attribute: Nla + Parseable {
     /// The laws of one attribute hold of the type's table.
     ghost lawful: { IsLawful Self.table };
 

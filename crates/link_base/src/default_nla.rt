@@ -1,11 +1,12 @@
 //! An attribute of any kind.
 
-ghost use Rattle.std.specs.Prelude.{◌≡◌, ◌<◌, ◌^◌, IfOk};
+ghost use Rattle.std.specs.Prelude.{◌≡◌, ◌<◌, ◌^◌};
 
 use crate::attribute::{Attribute, Meaning, Nla, Parseable};
 use crate::buffer::NlaBuffer;
 use crate::fault::DecodeError;
 use crate::octets::Octets;
+use crate::try_clone::TryClone;
 use std::alloc::{AllocError, Global};
 
 /// A kind field, its two flags included, and a payload: an attribute whose kind has no case of its own. It is
@@ -30,11 +31,10 @@ impl DefaultNla {
             value: Octets::new(value),
         }
     }
+}
 
-    /// An equal value, or `AllocError` where a growth was refused.
-    pub fn try_clone(&self, alloc: Global) -> Result<Self, AllocError>
-        ensures { IfOk result (λ copy. copy ≡ self.now) }
-    {
+impl TryClone for DefaultNla {
+    fn try_clone(&self, alloc: Global) -> Result<Self, AllocError> {
         let value = self.value.try_clone(alloc)?;
         Ok(DefaultNla {
             kind: self.kind,
@@ -66,7 +66,7 @@ impl Nla for DefaultNla {
 }
 
 impl Parseable for DefaultNla {
-    fn parse(alloc: Global, buffer: &NlaBuffer<'_>) -> Result<Self, DecodeError> {
+    fn parse_payload(alloc: Global, buffer: &NlaBuffer<'_>) -> Result<Self, DecodeError> {
         match Octets::from_slice(alloc, buffer.value()) {
             Ok(value) => Ok(DefaultNla {
                 kind: buffer.raw_kind(),

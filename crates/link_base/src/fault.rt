@@ -1,5 +1,8 @@
 //! Why bytes could not be read, or values not written.
 
+ghost use Rattle.std.specs.Prelude.{◌≡◌};
+ghost use Rattle.link_base.specs.Answers.{under_kind};
+
 use std::alloc::AllocError;
 use std::fmt;
 use thiserror::Error;
@@ -137,6 +140,17 @@ impl DecodeError {
             DecodeError::Memory(error) => ListError::Memory(error),
             DecodeError::Fault(fault) => ListError::Fault { at, fault },
         }
+    }
+}
+
+/// What was read of the payload of the attribute of this kind: the value, or its error under the kind.
+#[inline]
+pub(crate) fn of_kind<T: Drop>(kind: u16, read: Result<T, DecodeError>) -> Result<T, DecodeError>
+    ensures { result ≡ under_kind kind read }
+{
+    match read {
+        Ok(value) => Ok(value),
+        Err(error) => Err(error.of_kind(kind)),
     }
 }
 

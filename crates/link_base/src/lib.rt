@@ -3,25 +3,39 @@
 
 mod attribute;
 mod buffer;
+mod buffer_tool;
 mod default_nla;
 pub mod examples;
 mod fault;
+pub mod flag_laws;
 mod iterator;
 pub mod laws;
 mod list;
+mod named;
+pub mod named_laws;
 mod nested;
 mod octets;
 mod scalars;
 #[cfg(test)]
 mod tests;
+mod try_clone;
+mod vlan_protocol;
 mod writing;
 
 pub use attribute::{Attribute, Meaning, Nla, Parseable};
 pub use buffer::NlaBuffer;
+pub use buffer_tool::expand_buffer_if_small;
 pub use default_nla::DefaultNla;
 pub use fault::{Cause, DecodeError, DecodeFault, ListError, WriteError};
 pub use iterator::NlasIterator;
 pub use list::read_list;
+pub use named::NamedNumber;
 pub use nested::{NestedAttribute, emit_nested, nested_len, read_nested};
-pub use scalars::{emit_u32, parse_u32};
+pub use scalars::{
+    emit_i32, emit_mac, emit_u8, emit_u16, emit_u16_be, emit_u32, emit_u32_pair, emit_u64,
+    parse_i32, parse_ip, parse_mac, parse_u8, parse_u16, parse_u16_be, parse_u32, parse_u32_pair,
+    parse_u64,
+};
+pub use try_clone::{TryClone, try_clone_list};
+pub use vlan_protocol::VlanProtocol;
 pub use writing::{emit_list, list_fits, list_len, write_list};

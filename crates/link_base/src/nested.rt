@@ -1,7 +1,8 @@
 //! Lists of attributes as the payload of an attribute.
 
-ghost use Rattle.std.specs.Prelude.{◌≡◌, ◌≤◌, length, map, Bool};
+ghost use Rattle.std.specs.Prelude.{◌≡◌, ◌≤◌, length, map, Bool, None};
 ghost use Rattle.std.specs.List.{AllByRecursion};
+ghost use Rattle.link_base.specs.Frame.{frame_fault};
 ghost use Rattle.link_base.specs.Table.{Rows, Leaf, Case, Nested, Inner, ShapeGives, written_leaves};
 ghost use Rattle.link_base.specs.Lift.{lift, lift_table};
 ghost use Rattle.link_base.specs.Held.{LeafInRange};
@@ -24,20 +25,22 @@ pub trait NestedAttribute: Attribute {
     /// The attribute that a value stands for.
     ghost leaf: { Self → Leaf };
 
-    /// These are the rows and the attribute of the type, as of one without lists.
+    /// These are the rows of the type, as of one without lists.
     ghost same_table: { Self.table ≡ lift_table rows };
 
+    /// And this is what its values stand for.
     ghost same_means: { (x : Self) → Self.means x ≡ lift (leaf x) };
 }
 
 /// The values of the nested list that is the payload of the attribute of this kind. Fails with `NestedFrame` or
-/// `NestedValue`, or with `Memory`.
+/// `NestedValue`, or with `Memory`, but not where the payload begins with no frame.
 pub fn read_nested<E: NestedAttribute>(
     alloc: Global,
     kind: u16,
     payload: &[u8],
 ) -> Result<Vec<E>, DecodeError>
-    ensures { Answers (λ vs. Case kind (Inner E.flagged (map E.leaf vs.items))) result (ShapeGives (Nested E.flagged E.rows) kind payload.now) }
+    ensures answer { Answers (λ vs. Case kind (Inner E.flagged (map E.leaf vs.items))) result (ShapeGives (Nested E.flagged E.rows) kind payload.now) }
+    ensures memory { OnMemory result (frame_fault payload.now ≡ None) }
 {
     match read_list(alloc, payload) {
         Ok(values) => Ok(values),

@@ -1,12 +1,20 @@
-//! Numbers as payloads.
+//! Numbers and addresses as payloads.
+//!
+//! A reader takes a whole payload and fails with `Payload`; a writer fills the front of a buffer and leaves the bytes
+//! behind it as they are. Types of numbers are those of `include/uapi/linux/netlink.h`, `NL_ATTR_TYPE_*`.
 
-ghost use Rattle.std.specs.Prelude.{◌≡◌, ◌≤◌, length};
+ghost use Rattle.std.specs.Prelude.{◌≡◌, ◌≤◌, length, reverse, IfOk};
+ghost use Rattle.std.specs.Int.{w32, cast_unsigned};
 ghost use Rattle.link_base.specs.declared.fault.Cause.TheVariants.{WrongLength};
 ghost use Rattle.link_base.specs.Number.{number, bytes_of};
-ghost use Rattle.link_base.specs.Class.{accepted, Exactly};
+ghost use Rattle.link_base.specs.Class.{accepted, integer, Exactly};
+ghost use Rattle.link_base.specs.Pair.{first_number, second_number, pair_octets};
+ghost use Rattle.link_base.specs.Address.{IsAddress};
+ghost use Rattle.link_base.specs.Held.{IsOctets};
 ghost use Rattle.link_base.specs.Answers.{payload_result, refused, OverwritesFront};
 
 use crate::fault::{Cause, DecodeError, DecodeFault};
+use std::net::{IpAddr, Ipv4Addr, Ipv6Addr};
 
 fn wrong_length(want: usize, got: usize) -> DecodeError
     ensures { result ≡ refused (WrongLength want got) }
@@ -14,7 +22,29 @@ fn wrong_length(want: usize, got: usize) -> DecodeError
     DecodeError::Fault(DecodeFault::Payload(Cause::WrongLength { want, got }))
 }
 
-/// The number of four bytes, the lowest first (`NLA_U32`). Fails with `Payload` of `WrongLength`.
+/// The number of one byte (`NL_ATTR_TYPE_U8`). Fails with `Payload` of `WrongLength`.
+#[inline]
+pub fn parse_u8(payload: &[u8]) -> Result<u8, DecodeError>
+    ensures { result ≡ payload_result (accepted (Exactly 1) number payload.now) }
+{
+    match payload {
+        [a] => Ok(*a),
+        _ => Err(wrong_length(1, payload.len())),
+    }
+}
+
+/// The number of two bytes, the lowest first (`NL_ATTR_TYPE_U16`). Fails with `Payload` of `WrongLength`.
+#[inline]
+pub fn parse_u16(payload: &[u8]) -> Result<u16, DecodeError>
+    ensures { result ≡ payload_result (accepted (Exactly 2) number payload.now) }
+{
+    match payload {
+        [a, b] => Ok(u16::from_le_bytes([*a, *b])),
+        _ => Err(wrong_length(2, payload.len())),
+    }
+}
+
+/// The number of four bytes, the lowest first (`NL_ATTR_TYPE_U32`). Fails with `Payload` of `WrongLength`.
 #[inline]
 pub fn parse_u32(payload: &[u8]) -> Result<u32, DecodeError>
     ensures { result ≡ payload_result (accepted (Exactly 4) number payload.now) }
@@ -25,6 +55,106 @@ pub fn parse_u32(payload: &[u8]) -> Result<u32, DecodeError>
     }
 }
 
+/// The number of eight bytes, the lowest first (`NL_ATTR_TYPE_U64`). Fails with `Payload` of `WrongLength`.
+#[inline]
+pub fn parse_u64(payload: &[u8]) -> Result<u64, DecodeError>
+    ensures { result ≡ payload_result (accepted (Exactly 8) number payload.now) }
+{
+    match payload.try_into() {
+        Ok(octets) => Ok(u64::from_le_bytes(octets)),
+        Err(_) => Err(wrong_length(8, payload.len())),
+    }
+}
+
+/// The signed number of four bytes, in two's complement, the lowest first (`NL_ATTR_TYPE_S32`). Fails with `Payload` of
+/// `WrongLength`.
+#[inline]
+pub fn parse_i32(payload: &[u8]) -> Result<i32, DecodeError>
+    ensures { result ≡ payload_result (accepted (Exactly 4) integer payload.now) }
+{
+    match payload {
+        [a, b, c, d] => Ok(i32::from_le_bytes([*a, *b, *c, *d])),
+        _ => Err(wrong_length(4, payload.len())),
+    }
+}
+
+/// The number of two bytes, the highest first (`__be16`). Fails with `Payload` of `WrongLength`.
+#[inline]
+pub fn parse_u16_be(payload: &[u8]) -> Result<u16, DecodeError>
+    ensures { result ≡ payload_result (accepted (Exactly 2) (λ p. number (reverse p)) payload.now) }
+{
+    match payload {
+        [a, b] => Ok(u16::from_be_bytes([*a, *b])),
+        _ => Err(wrong_length(2, payload.len())),
+    }
+}
+
+/// The two numbers of eight bytes, the first before the second, the lowest byte first in each. Fails with `Payload` of
+/// `WrongLength`.
+#[inline]
+pub fn parse_u32_pair(payload: &[u8]) -> Result<(u32, u32), DecodeError>
+    ensures value { result ≡ payload_result (accepted (Exactly 8) (λ p. (first_number p, second_number p)) payload.now) }
+    ensures octets { IfOk result (λ pair. pair_octets pair.0 pair.1 ≡ payload.now) }
+{
+    match payload {
+        [a, b, c, d, e, f, g, h] => Ok((
+            u32::from_le_bytes([*a, *b, *c, *d]),
+            u32::from_le_bytes([*e, *f, *g, *h]),
+        )),
+        _ => Err(wrong_length(8, payload.len())),
+    }
+}
+
+/// The six octets of a hardware address (`ETH_ALEN`, `include/uapi/linux/if_ether.h`), in order. Fails with `Payload`
+/// of `WrongLength`.
+#[inline]
+pub fn parse_mac(payload: &[u8]) -> Result<[u8; 6], DecodeError>
+    ensures { result ≡ payload_result (accepted (Exactly 6) (λ p. p) payload.now) }
+{
+    match payload.try_into() {
+        Ok(octets) => Ok(octets),
+        Err(_) => Err(wrong_length(6, payload.len())),
+    }
+}
+
+/// The IPv4 address of four bytes or the IPv6 address of sixteen, octets in order. Fails with `Payload` of
+/// `AddressLength`.
+#[inline]
+pub fn parse_ip(payload: &[u8]) -> Result<IpAddr, DecodeError>
+    ensures { IsAddress payload.now result }
+{
+    match payload {
+        [a, b, c, d] => Ok(IpAddr::V4(Ipv4Addr::new(*a, *b, *c, *d))),
+        [a, b, c, d, e, f, g, h, i, j, k, l, m, n, o, p] => Ok(IpAddr::V6(Ipv6Addr::from_octets(
+            [
+                *a, *b, *c, *d, *e, *f, *g, *h, *i, *j, *k, *l, *m, *n, *o, *p,
+            ],
+        ))),
+        _ => {
+            let got = payload.len();
+            Err(DecodeError::Fault(DecodeFault::Payload(Cause::AddressLength { got })))
+        }
+    }
+}
+
+/// Writes a number to the first byte of a buffer that has one, and leaves the rest.
+#[inline]
+pub fn emit_u8(buffer: &mut [u8], value: u8)
+    requires { 1 ≤ length buffer.old }
+    ensures { OverwritesFront buffer.old buffer.new (bytes_of 1 value) }
+{
+    buffer[..1].copy_from_slice(&value.to_le_bytes());
+}
+
+/// Writes a number to the first two bytes of a buffer that has as many, the lowest first, and leaves the rest.
+#[inline]
+pub fn emit_u16(buffer: &mut [u8], value: u16)
+    requires { 2 ≤ length buffer.old }
+    ensures { OverwritesFront buffer.old buffer.new (bytes_of 2 value) }
+{
+    buffer[..2].copy_from_slice(&value.to_le_bytes());
+}
+
 /// Writes a number to the first four bytes of a buffer that has as many, the lowest first, and leaves the rest.
 #[inline]
 pub fn emit_u32(buffer: &mut [u8], value: u32)
@@ -32,4 +162,57 @@ pub fn emit_u32(buffer: &mut [u8], value: u32)
     ensures { OverwritesFront buffer.old buffer.new (bytes_of 4 value) }
 {
     buffer[..4].copy_from_slice(&value.to_le_bytes());
+}
+
+/// Writes a number to the first eight bytes of a buffer that has as many, the lowest first, and leaves the rest.
+#[inline]
+pub fn emit_u64(buffer: &mut [u8], value: u64)
+    requires { 8 ≤ length buffer.old }
+    ensures { OverwritesFront buffer.old buffer.new (bytes_of 8 value) }
+{
+    buffer[..8].copy_from_slice(&value.to_le_bytes());
+}
+
+/// Writes a signed number, in two's complement, to the first four bytes of a buffer that has as many, the lowest first,
+/// and leaves the rest.
+#[inline]
+pub fn emit_i32(buffer: &mut [u8], value: i32)
+    requires { 4 ≤ length buffer.old }
+    ensures { OverwritesFront buffer.old buffer.new (bytes_of 4 (cast_unsigned w32 value)) }
+{
+    let octets = value.to_le_bytes();
+    buffer[..4].copy_from_slice(&octets);
+}
+
+/// Writes a number to the first two bytes of a buffer that has as many, the highest first, and leaves the rest.
+#[inline]
+pub fn emit_u16_be(buffer: &mut [u8], value: u16)
+    requires { 2 ≤ length buffer.old }
+    ensures { OverwritesFront buffer.old buffer.new (reverse (bytes_of 2 value)) }
+{
+    buffer[..2].copy_from_slice(&value.to_be_bytes());
+}
+
+/// Writes two numbers to the first eight bytes of a buffer that has as many, the first before the second, the lowest
+/// byte first in each, and leaves the rest.
+#[inline]
+pub fn emit_u32_pair(buffer: &mut [u8], first: u32, second: u32)
+    requires { 8 ≤ length buffer.old }
+    ensures written { OverwritesFront buffer.old buffer.new (pair_octets first second) }
+    ensures octets { IsOctets 8 (pair_octets first second) }
+{
+    let [a, b, c, d] = first.to_le_bytes();
+    let [e, f, g, h] = second.to_le_bytes();
+    buffer[..8].copy_from_slice(&[a, b, c, d, e, f, g, h]);
+}
+
+/// Writes the octets of a hardware address to the first six bytes of a buffer that has as many, in order, and leaves the
+/// rest.
+#[inline]
+pub fn emit_mac(buffer: &mut [u8], address: &[u8; 6])
+    requires { length address.now ≤ length buffer.old }
+    ensures written { OverwritesFront buffer.old buffer.new address.now }
+    ensures octets { IsOctets 6 address.now }
+{
+    buffer[..6].copy_from_slice(address.as_slice());
 }

@@ -1,4 +1,3 @@
-pub mod Dsa
 pub mod Family
 pub mod Rewrite
 pub mod Report

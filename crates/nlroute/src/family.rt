@@ -5,8 +5,12 @@ ghost use Rattle.std.specs.Prelude.{◌≡◌, ◌≢◌, IfSome, IfNone};
 /// A family of link attributes: which kinds it knows, and what their payloads are.
 #[derive(Clone, Copy, Debug, PartialEq, Eq)]
 pub enum Family {
-    /// `dsa`: the attributes of DSA ports, [`InfoDsa`](crate::dsa::InfoDsa).
+    /// `vlan`: the attributes of VLAN devices, [`InfoVlan`](link_vlan_can::InfoVlan).
+    Vlan,
+    /// `dsa`: the attributes of DSA ports, [`InfoDsa`](link_vlan_can::InfoDsa).
     Dsa,
+    /// `hsr`: the attributes of HSR and PRP devices, [`InfoHsr`](link_vlan_can::InfoHsr).
+    Hsr,
 }
 
 impl Family {
@@ -18,7 +22,9 @@ impl Family {
         ensures none { IfNone result ((family : Family) → name.now ≢ family_name family) }
     {
         match name {
+            "vlan" => Some(Family::Vlan),
             "dsa" => Some(Family::Dsa),
+            "hsr" => Some(Family::Hsr),
             _ => None,
         }
     }

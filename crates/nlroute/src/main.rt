@@ -1,9 +1,8 @@
 //! Reads a list of link attributes as hex text, and prints its values and the bytes that are written for them.
 //!
-//! `nlroute FAMILY`, where FAMILY is `dsa`; the text comes from the standard input.
+//! `nlroute FAMILY`, where FAMILY is `vlan`, `dsa` or `hsr`; the text comes from the standard input.
 #![tactic(auto)]
 
-mod dsa;
 mod family;
 mod reporting;
 mod rewriting;

@@ -6,10 +6,10 @@ ghost use Rattle.link_base.specs.Table.{Fits};
 ghost use Rattle.nlroute.specs.Family.{table_of};
 ghost use Rattle.nlroute.specs.Report.{Reports, Prints, digits_of, fault_line, too_long_line, attr_line, attr_line_of, out_line, Verdict};
 
-use crate::dsa::InfoDsa;
 use crate::family::Family;
 use hex::FromHexError;
 use link_base::{Attribute, DecodeFault, ListError, WriteError, read_list, write_list};
+use link_vlan_can::{InfoDsa, InfoHsr, InfoVlan};
 use std::alloc::{AllocError, Global};
 
 /// The most bytes of a text.
@@ -35,7 +35,9 @@ pub fn report(alloc: Global, family: Family, text: &[u8]) -> Result<(String, u8)
         Err(_) => return Ok((String::from_str(alloc, "bad hex\n")?, 2)),
     };
     match family {
+        Family::Vlan => report_bytes::<InfoVlan>(alloc, &bytes),
         Family::Dsa => report_bytes::<InfoDsa>(alloc, &bytes),
+        Family::Hsr => report_bytes::<InfoHsr>(alloc, &bytes),
     }
 }
 

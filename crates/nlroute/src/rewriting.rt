@@ -6,9 +6,9 @@ ghost use Rattle.link_base.specs.Table.{Canonical};
 ghost use Rattle.nlroute.specs.Family.{table_of};
 ghost use Rattle.nlroute.specs.Rewrite.{RewriteAnswers, OnRewriteMemory, ReadsBack, Settles};
 
-use crate::dsa::InfoDsa;
 use crate::family::Family;
 use link_base::{Attribute, DecodeFault, ListError, WriteError, read_list, write_list};
+use link_vlan_can::{InfoDsa, InfoHsr, InfoVlan};
 use std::alloc::{AllocError, Global};
 use thiserror::Error;
 
@@ -42,7 +42,9 @@ pub fn rewrite(alloc: Global, family: Family, bytes: &[u8]) -> Result<Vec<u8>, R
     ensures settles { IfOk result (λ out. Settles (table_of family) out.items) }
 {
     match family {
+        Family::Vlan => rewrite_as::<InfoVlan>(alloc, bytes),
         Family::Dsa => rewrite_as::<InfoDsa>(alloc, bytes),
+        Family::Hsr => rewrite_as::<InfoHsr>(alloc, bytes),
     }
 }
 

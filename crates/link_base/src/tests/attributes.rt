@@ -1,6 +1,6 @@
 //! One attribute of any kind: read, measured, copied, compared and written.
 
-use crate::{Attribute, DefaultNla, Nla, NlaBuffer, Parseable};
+use crate::{Attribute, DefaultNla, Nla, NlaBuffer, Parseable, TryClone};
 use std::alloc::{AllocError, Global};
 use std::process::Abort;
 use std::test::Fail;

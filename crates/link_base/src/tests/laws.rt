@@ -1,6 +1,6 @@
 //! Each law, once at an attribute of any kind.
 
-use crate::{DefaultNla, laws};
+use crate::{DefaultNla, flag_laws, laws};
 
 #[test]
 fn laws_of_tables() {
@@ -26,4 +26,9 @@ fn laws_of_families() {
     laws::second_equal::<DefaultNla>();
     laws::canonical_reads::<DefaultNla>();
     laws::canonical_once::<DefaultNla>();
+}
+
+#[test]
+fn laws_of_flags() {
+    flag_laws::bit_by_bit();
 }

@@ -52,16 +52,10 @@ impl Nla for Element {
 }
 
 impl Parseable for Element {
-    fn parse(alloc: Global, buffer: &NlaBuffer<'_>) -> Result<Self, DecodeError> {
+    fn parse_payload(alloc: Global, buffer: &NlaBuffer<'_>) -> Result<Self, DecodeError> {
         match buffer.kind() {
-            1 => match parse_u32(buffer.value()) {
-                Ok(number) => Ok(Element::Number(number)),
-                Err(error) => Err(error.of_kind(1)),
-            },
-            _ => match DefaultNla::parse(alloc, buffer) {
-                Ok(other) => Ok(Element::Other(other)),
-                Err(error) => Err(error),
-            },
+            1 => parse_u32(buffer.value()).map(Self::Number),
+            _ => DefaultNla::parse(alloc, buffer).map(Self::Other),
         }
     }
 }
@@ -148,20 +142,11 @@ impl Nla for Lists {
 }
 
 impl Parseable for Lists {
-    fn parse(alloc: Global, buffer: &NlaBuffer<'_>) -> Result<Self, DecodeError> {
+    fn parse_payload(alloc: Global, buffer: &NlaBuffer<'_>) -> Result<Self, DecodeError> {
         match buffer.kind() {
-            3 => match read_nested(alloc, 3, buffer.value()) {
-                Ok(values) => Ok(Lists::Plain(values)),
-                Err(error) => Err(error),
-            },
-            47 => match read_nested(alloc, 47, buffer.value()) {
-                Ok(values) => Ok(Lists::Flagged(values)),
-                Err(error) => Err(error),
-            },
-            _ => match DefaultNla::parse(alloc, buffer) {
-                Ok(other) => Ok(Lists::Other(other)),
-                Err(error) => Err(error),
-            },
+            3 => read_nested(alloc, 3, buffer.value()).map(Self::Plain),
+            47 => read_nested(alloc, 47, buffer.value()).map(Self::Flagged),
+            _ => DefaultNla::parse(alloc, buffer).map(Self::Other),
         }
     }
 }

@@ -3,8 +3,8 @@ use Rattle.std.specs.Prelude.{[], ◌∷◌}
 use Rattle.link_base.specs.Class.{Unsigned, Number}
 use Rattle.link_base.specs.Table.{Table, AttrValue, Case, row, One, Single}
 use Rattle.link_base.specs.Default.{default_means}
-use Rattle.nlroute.specs.declared.dsa.InfoDsa.{InfoDsa}
-use Rattle.nlroute.specs.declared.dsa.InfoDsa.TheVariants.{Conduit, Other}
+use Rattle.link_vlan_can.specs.declared.dsa.InfoDsa.{InfoDsa}
+use Rattle.link_vlan_can.specs.declared.dsa.InfoDsa.TheVariants.{Conduit, Other}
 
 -- IFLA_DSA_CONDUIT, four bytes
 abbrev pub dsa_table : Table
@@ -14,8 +14,3 @@ dsa_table = row 1 (One (Unsigned 4)) ∷ []
 abbrev pub dsa_means : InfoDsa → AttrValue
 dsa_means (Conduit conduit) = Case 1 (Single (Number 4 conduit))
 dsa_means (Other other) = default_means other
-
--- the fact holds where the value is a conduit
-abbrev pub OnConduit : InfoDsa → Type 0 → Type 0
-OnConduit (Conduit conduit) P = P
-OnConduit (Other other) P = Unit {0}

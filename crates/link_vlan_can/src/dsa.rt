@@ -1,7 +1,8 @@
 //! The attributes of a DSA port (`IFLA_INFO_DATA` of a link of kind `dsa`).
 
 use link_base::{
-    Attribute, DecodeError, DefaultNla, Meaning, Nla, NlaBuffer, Parseable, emit_u32, parse_u32,
+    Attribute, DecodeError, DefaultNla, Meaning, Nla, NlaBuffer, Parseable, TryClone, emit_u32,
+    parse_u32,
 };
 use std::alloc::{AllocError, Global};
 
@@ -18,15 +19,8 @@ pub enum InfoDsa {
     Other(DefaultNla),
 }
 
-impl InfoDsa {
-    ghost use Rattle.std.specs.Prelude.{◌≡◌, IfOk, IsOk};
-    ghost use Rattle.nlroute.specs.Dsa.{OnConduit};
-
-    /// An equal value, or `AllocError` where a growth was refused; `Conduit` takes no memory.
-    pub fn try_clone(&self, alloc: Global) -> Result<Self, AllocError>
-        ensures copy { IfOk result (λ copy. copy ≡ self.now) }
-        ensures memory { OnConduit self.now (IsOk result) }
-    {
+impl TryClone for InfoDsa {
+    fn try_clone(&self, alloc: Global) -> Result<Self, AllocError> {
         match self {
             InfoDsa::Conduit(conduit) => Ok(InfoDsa::Conduit(*conduit)),
             InfoDsa::Other(other) => Ok(InfoDsa::Other(other.try_clone(alloc)?)),
@@ -35,7 +29,7 @@ impl InfoDsa {
 }
 
 impl Meaning for InfoDsa {
-    ghost use Rattle.nlroute.specs.Dsa.{dsa_table, dsa_means};
+    ghost use Rattle.link_vlan_can.specs.Dsa.{dsa_table, dsa_means};
 
     ghost table = { dsa_table };
 
@@ -66,16 +60,11 @@ impl Nla for InfoDsa {
 }
 
 impl Parseable for InfoDsa {
-    fn parse(alloc: Global, buffer: &NlaBuffer<'_>) -> Result<Self, DecodeError> {
+    fn parse_payload(alloc: Global, buffer: &NlaBuffer<'_>) -> Result<Self, DecodeError> {
+        let payload = buffer.value();
         match buffer.kind() {
-            IFLA_DSA_CONDUIT => match parse_u32(buffer.value()) {
-                Ok(conduit) => Ok(InfoDsa::Conduit(conduit)),
-                Err(error) => Err(error.of_kind(IFLA_DSA_CONDUIT)),
-            },
-            _ => match DefaultNla::parse(alloc, buffer) {
-                Ok(other) => Ok(InfoDsa::Other(other)),
-                Err(error) => Err(error),
-            },
+            IFLA_DSA_CONDUIT => parse_u32(payload).map(Self::Conduit),
+            _ => DefaultNla::parse(alloc, buffer).map(Self::Other),
         }
     }
 }
@@ -83,7 +72,7 @@ impl Parseable for InfoDsa {
 impl Attribute for InfoDsa {
     ghost use Rattle.std.specs.Prelude.{refl};
     ghost use Rattle.link_base.proofs.TableLaws.{lawful};
-    ghost use Rattle.nlroute.specs.Dsa.{dsa_table};
+    ghost use Rattle.link_vlan_can.specs.Dsa.{dsa_table};
 
     ghost lawful = { lawful dsa_table };
 

@@ -1,0 +1,7 @@
+use Rattle.link_base.proofs.Naming as naming
+use Rattle.link_base.proofs.named_laws.different.Goals as goal
+
+pub returns : goal.returns
+returns g c =
+    let t = g.T.NamedNumber in
+    λ a b e. naming.different t.names t.seen a b (t.no_more a) (t.no_more b) e

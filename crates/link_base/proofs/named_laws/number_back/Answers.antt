@@ -1,0 +1,10 @@
+use Rattle.link_base.proofs.Naming as naming
+use Rattle.link_base.proofs.named_laws.number_back.Goals as goal
+
+pub returns : goal.returns
+returns g c =
+    let t = g.T.NamedNumber in
+    record {
+      number = naming.number_back t.names t.seen t.cases_hold t.other_holds;
+      seen = naming.seen_back t.names t.seen t.cases_hold t.other_holds;
+    }

@@ -1,0 +1,7 @@
+use Rattle.link_base.proofs.Naming as naming
+use Rattle.link_base.proofs.named_laws.one_text.Goals as goal
+
+pub returns : goal.returns
+returns g c =
+    let t = g.T.NamedNumber in
+    λ text v w a b. naming.one_text t.names t.well_named text v w a b

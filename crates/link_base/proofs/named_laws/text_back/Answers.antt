@@ -1,0 +1,11 @@
+use Rattle.link_base.proofs.Naming as naming
+use Rattle.link_base.proofs.named_laws.text_back.Goals as goal
+
+pub returns : goal.returns
+returns g c =
+    let t = g.T.NamedNumber in
+    record {
+      name = λ v d r some e read. naming.reads_as t.names t.well_named _ v r (naming.name_back t.names v (t.seen v) d (t.no_more v) some e) read;
+      number = λ v bits r rule bare fits below read.
+          naming.reads_as t.names t.well_named _ _ r (naming.number_accepted t.names v (t.seen v) bits (t.no_more v) rule bare fits below) read;
+    }

@@ -1,0 +1,26 @@
+//! Numbers some of which have names.
+
+ghost use Rattle.std.specs.Prelude.{◌≡◌, ℕ, IsTrue};
+ghost use Rattle.std.specs.List.{AllByRecursion};
+ghost use Rattle.link_base.specs.Named.{Naming, Seen, Listed, Free, IsSeen, is_naming};
+
+/// A type with a case for each name, and a case `Other` for every other number. It has no calls.
+pub trait NamedNumber {
+    /// The cases, their texts and their numbers.
+    ghost names: { Naming Self };
+
+    /// What a value holds.
+    ghost seen: { Self → Seen };
+
+    /// Each case of the list holds its number.
+    ghost cases_hold: { AllByRecursion (λ l. seen l.case ≡ Listed l.number) names.labels };
+
+    /// `Other` of a number holds it.
+    ghost other_holds: { (d : ℕ) → seen (names.other d) ≡ Free d };
+
+    /// There are no further cases.
+    ghost no_more: { (v : Self) → IsSeen names v (seen v) };
+
+    /// The numbers differ, the texts differ in more than the case of their letters, and no text is read as a number too.
+    ghost well_named: { IsTrue (is_naming names) };
+}

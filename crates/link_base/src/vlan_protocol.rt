@@ -1,0 +1,99 @@
+//! The protocols of VLAN tags.
+
+use crate::fault::{DecodeError, DecodeFault};
+use std::fmt;
+use std::str::FromStr;
+
+/// `ETH_P_8021Q`, `include/uapi/linux/if_ether.h`.
+const ETH_P_8021Q: u16 = 0x8100;
+
+/// `ETH_P_8021AD`.
+const ETH_P_8021AD: u16 = 0x88A8;
+
+/// The protocol of a VLAN tag, by its EtherType (`include/uapi/linux/if_ether.h`).
+#[derive(Clone, Copy, Debug, PartialEq, Eq)]
+pub enum VlanProtocol {
+    /// The tag of a customer, `802.1Q` (`ETH_P_8021Q`, 0x8100).
+    Ieee8021Q,
+    /// The tag of a service provider, `802.1ad` (`ETH_P_8021AD`, 0x88A8).
+    Ieee8021Ad,
+}
+
+/// `Ieee8021Q`.
+impl Default for VlanProtocol {
+    ghost use Rattle.std.specs.Prelude.{◌≡◌};
+    ghost use Rattle.link_base.specs.declared.vlan_protocol.VlanProtocol.TheVariants.{Ieee8021Q};
+
+    ghost is_default = { λ p. p ≡ Ieee8021Q };
+
+    fn default() -> Self {
+        VlanProtocol::Ieee8021Q
+    }
+}
+
+/// The protocol of an EtherType; `Ieee8021Q` for every number but 0x88A8.
+impl From<u16> for VlanProtocol {
+    ghost use Rattle.std.specs.Prelude.{◌≡◌};
+    ghost use Rattle.link_base.specs.Named.{value_of};
+    ghost use Rattle.link_base.specs.Protocol.{vlan_protocols};
+
+    ghost from_gives = { λ d p. p ≡ value_of vlan_protocols d };
+
+    fn from(number: u16) -> Self {
+        match number {
+            ETH_P_8021AD => VlanProtocol::Ieee8021Ad,
+            _ => VlanProtocol::Ieee8021Q,
+        }
+    }
+}
+
+/// The EtherType.
+impl From<VlanProtocol> for u16 {
+    ghost use Rattle.std.specs.Prelude.{◌≡◌};
+    ghost use Rattle.link_base.specs.Protocol.{protocol_number};
+
+    ghost from_gives = { λ p d. d ≡ protocol_number p };
+
+    fn from(protocol: VlanProtocol) -> u16 {
+        match protocol {
+            VlanProtocol::Ieee8021Q => ETH_P_8021Q,
+            VlanProtocol::Ieee8021Ad => ETH_P_8021AD,
+        }
+    }
+}
+
+/// `802.1Q` or `802.1ad`.
+impl fmt::Display for VlanProtocol {
+    ghost use Rattle.std.specs.Prelude.{Some};
+    ghost use Rattle.link_base.specs.Named.{text_of};
+    ghost use Rattle.link_base.specs.Protocol.{vlan_protocols, protocol_number};
+
+    ghost output = { λ p. Some (text_of vlan_protocols.labels (protocol_number p)) };
+
+    fn fmt<W: fmt::Write>(&self, f: &mut fmt::Formatter<W>) -> fmt::Result {
+        f.write_str(match self {
+            VlanProtocol::Ieee8021Q => "802.1Q",
+            VlanProtocol::Ieee8021Ad => "802.1ad",
+        })
+    }
+}
+
+/// Reads a displayed name, its letters in either case. Fails with `Text` for every other text.
+impl FromStr for VlanProtocol {
+    type Err = DecodeError;
+
+    ghost use Rattle.link_base.specs.Named.{ReadsText};
+    ghost use Rattle.link_base.specs.Protocol.{vlan_protocols};
+
+    ghost from_str_gives = { λ text result. ReadsText vlan_protocols text result };
+
+    fn from_str(text: &str) -> Result<Self, DecodeError> {
+        if text.eq_ignore_ascii_case("802.1Q") {
+            Ok(VlanProtocol::Ieee8021Q)
+        } else if text.eq_ignore_ascii_case("802.1ad") {
+            Ok(VlanProtocol::Ieee8021Ad)
+        } else {
+            Err(DecodeError::Fault(DecodeFault::Text))
+        }
+    }
+}

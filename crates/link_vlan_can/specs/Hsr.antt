@@ -1,0 +1,56 @@
+-- The attributes of an HSR device.
+use Rattle.std.specs.Prelude.{[], ◌∷◌, codes, refl}
+use Rattle.link_base.specs.Class.{Unsigned, Octets, Exactly, Named, Number, Raw}
+use Rattle.link_base.specs.Named.{Naming, Seen, Listed, Free, IsSeen, label, Bare, NoText, numbers_of, seen_value}
+use Rattle.link_base.specs.Table.{Table, AttrValue, Case, row, One, Single}
+use Rattle.link_base.specs.Default.{default_means}
+use Rattle.link_vlan_can.specs.declared.hsr.HsrProtocol.{HsrProtocol}
+use Rattle.link_vlan_can.specs.declared.hsr.HsrProtocol.TheVariants as protocols
+use Rattle.link_vlan_can.specs.declared.hsr.InfoHsr.{InfoHsr}
+use Rattle.link_vlan_can.specs.declared.hsr.InfoHsr.TheVariants.{Port1, Port2, MulticastSpec, SupervisionAddr, SeqNr, Version, Protocol, Interlink, Other}
+
+-- HSR_PROTOCOL_HSR and HSR_PROTOCOL_PRP; any other number is `Other`, and no text is read
+abbrev pub hsr_protocols : Naming HsrProtocol
+hsr_protocols = record {
+  labels = label protocols.Hsr (codes "hsr") 0 ∷ label protocols.Prp (codes "prp") 1 ∷ [];
+  other = protocols.Other;
+  other_text = Bare;
+  accepted = NoText;
+}
+
+-- the number that a protocol holds
+abbrev pub hsr_protocol : HsrProtocol → Seen
+hsr_protocol protocols.Hsr = Listed 0
+hsr_protocol protocols.Prp = Listed 1
+hsr_protocol (protocols.Other d) = Free d
+
+-- it has no further cases
+pub hsr_protocol_seen : (p : HsrProtocol) → IsSeen hsr_protocols p (hsr_protocol p)
+hsr_protocol_seen protocols.Hsr = (refl, refl)
+hsr_protocol_seen protocols.Prp = (refl, refl)
+hsr_protocol_seen (protocols.Other d) = refl
+
+-- IFLA_HSR_SLAVE1, IFLA_HSR_SLAVE2, IFLA_HSR_MULTICAST_SPEC, IFLA_HSR_SUPERVISION_ADDR, IFLA_HSR_SEQ_NR,
+-- IFLA_HSR_VERSION, IFLA_HSR_PROTOCOL, IFLA_HSR_INTERLINK
+abbrev pub hsr_table : Table
+hsr_table =
+    row 1 (One (Unsigned 4)) ∷
+    row 2 (One (Unsigned 4)) ∷
+    row 3 (One (Unsigned 1)) ∷
+    row 4 (One (Octets (Exactly 6))) ∷
+    row 5 (One (Unsigned 2)) ∷
+    row 6 (One (Unsigned 1)) ∷
+    row 7 (One (Named 1 (numbers_of hsr_protocols))) ∷
+    row 8 (One (Unsigned 4)) ∷ []
+
+-- the attribute that a value stands for
+abbrev pub hsr_means : InfoHsr → AttrValue
+hsr_means (Port1 index) = Case 1 (Single (Number 4 index))
+hsr_means (Port2 index) = Case 2 (Single (Number 4 index))
+hsr_means (MulticastSpec octet) = Case 3 (Single (Number 1 octet))
+hsr_means (SupervisionAddr address) = Case 4 (Single (Raw address))
+hsr_means (SeqNr number) = Case 5 (Single (Number 2 number))
+hsr_means (Version version) = Case 6 (Single (Number 1 version))
+hsr_means (Protocol p) = Case 7 (Single (seen_value 1 (numbers_of hsr_protocols) (hsr_protocol p)))
+hsr_means (Interlink index) = Case 8 (Single (Number 4 index))
+hsr_means (Other other) = default_means other

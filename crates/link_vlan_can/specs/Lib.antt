@@ -1,0 +1,4 @@
+pub mod VlanFlags
+pub mod Vlan
+pub mod Dsa
+pub mod Hsr

@@ -1,0 +1,40 @@
+-- The attributes of a VLAN device.
+use Rattle.std.specs.Prelude.{[], ◌∷◌, map, false}
+use Rattle.link_base.specs.Pair.{pair_octets}
+use Rattle.link_base.specs.Class.{Unsigned, Octets, Exactly, Protocol, Number, Raw, EtherType}
+use Rattle.link_base.specs.Table.{Rows, Leaf, Table, AttrValue, Case, row, One, Nested, Single, Inner}
+use Rattle.link_base.specs.Default.{default_means}
+use Rattle.link_base.specs.Protocol.{protocol_number}
+use Rattle.link_vlan_can.specs.VlanFlags.{vlan_bits}
+use Rattle.link_vlan_can.specs.declared.vlan.VlanQosMapping.{VlanQosMapping}
+use Rattle.link_vlan_can.specs.declared.vlan.VlanQosMapping.TheVariants as mappings
+use Rattle.link_vlan_can.specs.declared.vlan.InfoVlan.{InfoVlan}
+use Rattle.link_vlan_can.specs.declared.vlan.InfoVlan.TheVariants as infos
+
+-- IFLA_VLAN_QOS_MAPPING: two numbers of four bytes
+abbrev pub mapping_rows : Rows
+mapping_rows = row 1 (Octets (Exactly 8)) ∷ []
+
+-- the attribute that a mapping stands for
+abbrev pub mapping_leaf : VlanQosMapping → Leaf
+mapping_leaf (mappings.Mapping first second) = Case 1 (Raw (pair_octets first second))
+mapping_leaf (mappings.Other other) = default_means other
+
+-- IFLA_VLAN_ID, IFLA_VLAN_FLAGS (the active flags, and the mask of flags), IFLA_VLAN_EGRESS_QOS, IFLA_VLAN_INGRESS_QOS,
+-- IFLA_VLAN_PROTOCOL
+abbrev pub vlan_table : Table
+vlan_table =
+    row 1 (One (Unsigned 2)) ∷
+    row 2 (One (Octets (Exactly 8))) ∷
+    row 3 (Nested false mapping_rows) ∷
+    row 4 (Nested false mapping_rows) ∷
+    row 5 (One Protocol) ∷ []
+
+-- the attribute that a value stands for
+abbrev pub vlan_means : InfoVlan → AttrValue
+vlan_means (infos.Id id) = Case 1 (Single (Number 2 id))
+vlan_means (infos.Flags flags) = Case 2 (Single (Raw (pair_octets (vlan_bits flags.0) (vlan_bits flags.1))))
+vlan_means (infos.EgressQos maps) = Case 3 (Inner false (map mapping_leaf maps.items))
+vlan_means (infos.IngressQos maps) = Case 4 (Inner false (map mapping_leaf maps.items))
+vlan_means (infos.Protocol p) = Case 5 (Single (EtherType (protocol_number p)))
+vlan_means (infos.Other other) = default_means other

@@ -1,0 +1,220 @@
+//! The attributes of an HSR or PRP device (`IFLA_INFO_DATA` of a link of kind `hsr`).
+
+use link_base::{
+    Attribute, DecodeError, DefaultNla, Meaning, NamedNumber, Nla, NlaBuffer, Parseable, TryClone,
+    emit_mac, emit_u8, emit_u16, emit_u32, parse_mac, parse_u8, parse_u16, parse_u32,
+};
+use std::alloc::{AllocError, Global};
+use std::fmt;
+
+// `include/uapi/linux/if_link.h`
+const IFLA_HSR_SLAVE1: u16 = 1;
+
+const IFLA_HSR_SLAVE2: u16 = 2;
+
+const IFLA_HSR_MULTICAST_SPEC: u16 = 3;
+
+const IFLA_HSR_SUPERVISION_ADDR: u16 = 4;
+
+const IFLA_HSR_SEQ_NR: u16 = 5;
+
+const IFLA_HSR_VERSION: u16 = 6;
+
+const IFLA_HSR_PROTOCOL: u16 = 7;
+
+const IFLA_HSR_INTERLINK: u16 = 8;
+
+// `HSR_PROTOCOL_*` of the same header
+const HSR_PROTOCOL_HSR: u8 = 0;
+
+const HSR_PROTOCOL_PRP: u8 = 1;
+
+/// A protocol that sends each frame twice (`HSR_PROTOCOL_*`, `include/uapi/linux/if_link.h`).
+#[derive(Clone, Copy, Debug, PartialEq, Eq)]
+pub enum HsrProtocol {
+    /// High-availability Seamless Redundancy: both ways round a ring (`HSR_PROTOCOL_HSR`, 0).
+    Hsr,
+    /// Parallel Redundancy Protocol: over two networks (`HSR_PROTOCOL_PRP`, 1).
+    Prp,
+    /// Any other number.
+    Other(u8),
+}
+
+impl NamedNumber for HsrProtocol {
+    ghost use Rattle.std.specs.Prelude.{refl};
+    ghost use Rattle.link_vlan_can.specs.Hsr.{hsr_protocols, hsr_protocol, hsr_protocol_seen};
+
+    ghost names = { hsr_protocols };
+
+    ghost seen = { hsr_protocol };
+
+    ghost cases_hold = { (refl, (refl, tt)) };
+
+    ghost other_holds = { λ _. refl };
+
+    ghost no_more = { hsr_protocol_seen };
+
+    ghost well_named = { refl };
+}
+
+/// The case of a number, `Other` where it has no name.
+impl From<u8> for HsrProtocol {
+    ghost use Rattle.std.specs.Prelude.{◌≡◌};
+    ghost use Rattle.link_base.specs.Named.{value_of};
+
+    ghost from_gives = { λ d p. p ≡ value_of ⟦<HsrProtocol as NamedNumber>⟧.names d };
+
+    fn from(number: u8) -> Self {
+        match number {
+            HSR_PROTOCOL_HSR => HsrProtocol::Hsr,
+            HSR_PROTOCOL_PRP => HsrProtocol::Prp,
+            _ => HsrProtocol::Other(number),
+        }
+    }
+}
+
+/// The number of a case.
+impl From<HsrProtocol> for u8 {
+    ghost use Rattle.std.specs.Prelude.{◌≡◌};
+    ghost use Rattle.link_base.specs.Named.{number_of};
+
+    ghost from_gives = { λ p d. d ≡ number_of (⟦<HsrProtocol as NamedNumber>⟧.seen p) };
+
+    fn from(protocol: HsrProtocol) -> u8 {
+        match protocol {
+            HsrProtocol::Hsr => HSR_PROTOCOL_HSR,
+            HsrProtocol::Prp => HSR_PROTOCOL_PRP,
+            HsrProtocol::Other(number) => number,
+        }
+    }
+}
+
+/// `hsr`, `prp`, or the number.
+impl fmt::Display for HsrProtocol {
+    ghost use Rattle.std.specs.Prelude.{Some};
+    ghost use Rattle.link_base.specs.Named.{displayed};
+
+    ghost output = { λ p. Some (displayed ⟦<HsrProtocol as NamedNumber>⟧.names (⟦<HsrProtocol as NamedNumber>⟧.seen p)) };
+
+    fn fmt<W: fmt::Write>(&self, f: &mut fmt::Formatter<W>) -> fmt::Result {
+        match self {
+            HsrProtocol::Hsr => f.write_str("hsr"),
+            HsrProtocol::Prp => f.write_str("prp"),
+            HsrProtocol::Other(number) => write!(f, "{number}"),
+        }
+    }
+}
+
+/// An attribute of an HSR or PRP device (`IFLA_HSR_*`, `include/uapi/linux/if_link.h`).
+#[derive(Debug, PartialEq, Eq, Drop)]
+pub enum InfoHsr {
+    /// The index of the first port, a network device (`IFLA_HSR_SLAVE1`, four bytes).
+    Port1(u32),
+    /// The index of the second port (`IFLA_HSR_SLAVE2`, four bytes).
+    Port2(u32),
+    /// The last octet of the multicast address of supervision frames (`IFLA_HSR_MULTICAST_SPEC`, one byte).
+    MulticastSpec(u8),
+    /// The hardware address that supervision frames go to (`IFLA_HSR_SUPERVISION_ADDR`, six octets).
+    SupervisionAddr([u8; 6]),
+    /// The sequence number of the next frame (`IFLA_HSR_SEQ_NR`, two bytes).
+    SeqNr(u16),
+    /// The version of HSR: 0 for that of 2010, 1 for that of 2012 (`IFLA_HSR_VERSION`, one byte).
+    Version(u8),
+    /// The protocol, HSR or PRP (`IFLA_HSR_PROTOCOL`, one byte).
+    Protocol(HsrProtocol),
+    /// The index of the port that joins the ring to another network (`IFLA_HSR_INTERLINK`, four bytes).
+    Interlink(u32),
+    /// An attribute of any other kind.
+    Other(DefaultNla),
+}
+
+impl TryClone for InfoHsr {
+    fn try_clone(&self, alloc: Global) -> Result<Self, AllocError> {
+        match self {
+            InfoHsr::Port1(index) => Ok(InfoHsr::Port1(*index)),
+            InfoHsr::Port2(index) => Ok(InfoHsr::Port2(*index)),
+            InfoHsr::MulticastSpec(octet) => Ok(InfoHsr::MulticastSpec(*octet)),
+            InfoHsr::SupervisionAddr(address) => Ok(InfoHsr::SupervisionAddr(*address)),
+            InfoHsr::SeqNr(number) => Ok(InfoHsr::SeqNr(*number)),
+            InfoHsr::Version(version) => Ok(InfoHsr::Version(*version)),
+            InfoHsr::Protocol(protocol) => Ok(InfoHsr::Protocol(*protocol)),
+            InfoHsr::Interlink(index) => Ok(InfoHsr::Interlink(*index)),
+            InfoHsr::Other(other) => Ok(InfoHsr::Other(other.try_clone(alloc)?)),
+        }
+    }
+}
+
+impl Meaning for InfoHsr {
+    ghost use Rattle.link_vlan_can.specs.Hsr.{hsr_table, hsr_means};
+
+    ghost table = { hsr_table };
+
+    ghost means = { hsr_means };
+}
+
+impl Nla for InfoHsr {
+    fn kind(&self) -> u16 {
+        match self {
+            InfoHsr::Port1(_) => IFLA_HSR_SLAVE1,
+            InfoHsr::Port2(_) => IFLA_HSR_SLAVE2,
+            InfoHsr::MulticastSpec(_) => IFLA_HSR_MULTICAST_SPEC,
+            InfoHsr::SupervisionAddr(_) => IFLA_HSR_SUPERVISION_ADDR,
+            InfoHsr::SeqNr(_) => IFLA_HSR_SEQ_NR,
+            InfoHsr::Version(_) => IFLA_HSR_VERSION,
+            InfoHsr::Protocol(_) => IFLA_HSR_PROTOCOL,
+            InfoHsr::Interlink(_) => IFLA_HSR_INTERLINK,
+            InfoHsr::Other(other) => other.kind(),
+        }
+    }
+
+    fn value_len(&self) -> usize {
+        match self {
+            InfoHsr::MulticastSpec(_) | InfoHsr::Version(_) | InfoHsr::Protocol(_) => 1,
+            InfoHsr::SeqNr(_) => 2,
+            InfoHsr::Port1(_) | InfoHsr::Port2(_) | InfoHsr::Interlink(_) => 4,
+            InfoHsr::SupervisionAddr(address) => address.as_slice().len(),
+            InfoHsr::Other(other) => other.value_len(),
+        }
+    }
+
+    fn emit_value(&self, buffer: &mut [u8]) {
+        match self {
+            InfoHsr::Port1(index) => emit_u32(buffer, *index),
+            InfoHsr::Port2(index) => emit_u32(buffer, *index),
+            InfoHsr::MulticastSpec(octet) => emit_u8(buffer, *octet),
+            InfoHsr::SupervisionAddr(address) => emit_mac(buffer, address),
+            InfoHsr::SeqNr(number) => emit_u16(buffer, *number),
+            InfoHsr::Version(version) => emit_u8(buffer, *version),
+            InfoHsr::Protocol(protocol) => emit_u8(buffer, u8::from(*protocol)),
+            InfoHsr::Interlink(index) => emit_u32(buffer, *index),
+            InfoHsr::Other(other) => other.emit_value(buffer),
+        }
+    }
+}
+
+impl Parseable for InfoHsr {
+    fn parse_payload(alloc: Global, buffer: &NlaBuffer<'_>) -> Result<Self, DecodeError> {
+        let payload = buffer.value();
+        match buffer.kind() {
+            IFLA_HSR_SLAVE1 => parse_u32(payload).map(Self::Port1),
+            IFLA_HSR_SLAVE2 => parse_u32(payload).map(Self::Port2),
+            IFLA_HSR_MULTICAST_SPEC => parse_u8(payload).map(Self::MulticastSpec),
+            IFLA_HSR_SUPERVISION_ADDR => parse_mac(payload).map(Self::SupervisionAddr),
+            IFLA_HSR_SEQ_NR => parse_u16(payload).map(Self::SeqNr),
+            IFLA_HSR_VERSION => parse_u8(payload).map(Self::Version),
+            IFLA_HSR_PROTOCOL => parse_u8(payload).map(|number| Self::Protocol(number.into())),
+            IFLA_HSR_INTERLINK => parse_u32(payload).map(Self::Interlink),
+            _ => DefaultNla::parse(alloc, buffer).map(Self::Other),
+        }
+    }
+}
+
+impl Attribute for InfoHsr {
+    ghost use Rattle.std.specs.Prelude.{refl};
+    ghost use Rattle.link_base.proofs.TableLaws.{lawful};
+    ghost use Rattle.link_vlan_can.specs.Hsr.{hsr_table};
+
+    ghost lawful = { lawful hsr_table };
+
+    ghost well_formed = { refl };
+}

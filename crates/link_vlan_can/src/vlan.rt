@@ -1,0 +1,216 @@
+//! The attributes of a VLAN device (`IFLA_INFO_DATA` of a link of kind `vlan`).
+
+use crate::vlan_flags::VlanFlags;
+use bitflags::Flags;
+use link_base::{
+    Attribute, DecodeError, DefaultNla, Meaning, NestedAttribute, Nla, NlaBuffer, Parseable,
+    TryClone, VlanProtocol, emit_nested, emit_u16, emit_u16_be, emit_u32_pair, nested_len,
+    parse_u16, parse_u16_be, parse_u32_pair, read_nested, try_clone_list,
+};
+use std::alloc::{AllocError, Global};
+
+// `include/uapi/linux/if_link.h`
+const IFLA_VLAN_ID: u16 = 1;
+
+const IFLA_VLAN_FLAGS: u16 = 2;
+
+const IFLA_VLAN_EGRESS_QOS: u16 = 3;
+
+const IFLA_VLAN_INGRESS_QOS: u16 = 4;
+
+const IFLA_VLAN_PROTOCOL: u16 = 5;
+
+const IFLA_VLAN_QOS_MAPPING: u16 = 1;
+
+/// An element of a list of priority mappings (`IFLA_VLAN_QOS_MAPPING`, `include/uapi/linux/if_link.h`).
+#[derive(Debug, PartialEq, Eq, Drop)]
+pub enum VlanQosMapping {
+    /// From one priority to another: from that of a packet to that of its tag in `EgressQos`, and the other way in
+    /// `IngressQos` (`struct ifla_vlan_qos_mapping`, two numbers of four bytes).
+    Mapping(u32, u32),
+    /// An element of any other kind.
+    Other(DefaultNla),
+}
+
+impl TryClone for VlanQosMapping {
+    fn try_clone(&self, alloc: Global) -> Result<Self, AllocError> {
+        match self {
+            VlanQosMapping::Mapping(from, to) => Ok(VlanQosMapping::Mapping(*from, *to)),
+            VlanQosMapping::Other(other) => Ok(VlanQosMapping::Other(other.try_clone(alloc)?)),
+        }
+    }
+}
+
+impl Meaning for VlanQosMapping {
+    ghost use Rattle.link_base.specs.Lift.{lift, lift_table};
+    ghost use Rattle.link_vlan_can.specs.Vlan.{mapping_rows, mapping_leaf};
+
+    ghost table = { lift_table mapping_rows };
+
+    ghost means = { λ mapping. lift (mapping_leaf mapping) };
+}
+
+impl Nla for VlanQosMapping {
+    fn kind(&self) -> u16 {
+        match self {
+            VlanQosMapping::Mapping(_, _) => IFLA_VLAN_QOS_MAPPING,
+            VlanQosMapping::Other(other) => other.kind(),
+        }
+    }
+
+    fn value_len(&self) -> usize {
+        match self {
+            VlanQosMapping::Mapping(_, _) => 8,
+            VlanQosMapping::Other(other) => other.value_len(),
+        }
+    }
+
+    fn emit_value(&self, buffer: &mut [u8]) {
+        match self {
+            VlanQosMapping::Mapping(from, to) => emit_u32_pair(buffer, *from, *to),
+            VlanQosMapping::Other(other) => other.emit_value(buffer),
+        }
+    }
+}
+
+impl Parseable for VlanQosMapping {
+    fn parse_payload(alloc: Global, buffer: &NlaBuffer<'_>) -> Result<Self, DecodeError> {
+        let payload = buffer.value();
+        match buffer.kind() {
+            IFLA_VLAN_QOS_MAPPING => {
+                parse_u32_pair(payload).map(|(from, to)| Self::Mapping(from, to))
+            }
+            _ => DefaultNla::parse(alloc, buffer).map(Self::Other),
+        }
+    }
+}
+
+impl Attribute for VlanQosMapping {
+    ghost use Rattle.std.specs.Prelude.{refl};
+    ghost use Rattle.link_base.proofs.TableLaws.{lawful};
+    ghost use Rattle.link_base.specs.Lift.{lift_table};
+    ghost use Rattle.link_vlan_can.specs.Vlan.{mapping_rows};
+
+    ghost lawful = { lawful (lift_table mapping_rows) };
+
+    ghost well_formed = { refl };
+}
+
+impl NestedAttribute for VlanQosMapping {
+    ghost use Rattle.std.specs.Prelude.{false, refl};
+    ghost use Rattle.link_vlan_can.specs.Vlan.{mapping_rows, mapping_leaf};
+
+    ghost rows = { mapping_rows };
+
+    ghost flagged = { false };
+
+    ghost leaf = { mapping_leaf };
+
+    ghost same_table = { refl };
+
+    ghost same_means = { λ _. refl };
+}
+
+/// An attribute of a VLAN device (`IFLA_VLAN_*`, `include/uapi/linux/if_link.h`).
+#[derive(Debug, PartialEq, Eq, Drop)]
+pub enum InfoVlan {
+    /// The VLAN identifier, 0 to 4094 where it is valid (`IFLA_VLAN_ID`, two bytes).
+    Id(u16),
+    /// The active flags, and the mask of the flags that are meant (`IFLA_VLAN_FLAGS`, `struct ifla_vlan_flags`, two
+    /// numbers of four bytes).
+    Flags((VlanFlags, VlanFlags)),
+    /// From priorities of packets that are sent to those of their tags (`IFLA_VLAN_EGRESS_QOS`, a list).
+    EgressQos(Vec<VlanQosMapping>),
+    /// From priorities of tags to those of the packets that are received (`IFLA_VLAN_INGRESS_QOS`, a list).
+    IngressQos(Vec<VlanQosMapping>),
+    /// The protocol of the tag (`IFLA_VLAN_PROTOCOL`, two bytes, the highest first).
+    Protocol(VlanProtocol),
+    /// An attribute of any other kind.
+    Other(DefaultNla),
+}
+
+impl TryClone for InfoVlan {
+    fn try_clone(&self, alloc: Global) -> Result<Self, AllocError> {
+        match self {
+            InfoVlan::Id(id) => Ok(InfoVlan::Id(*id)),
+            InfoVlan::Flags(flags) => Ok(InfoVlan::Flags(*flags)),
+            InfoVlan::EgressQos(maps) => Ok(InfoVlan::EgressQos(try_clone_list(alloc, maps)?)),
+            InfoVlan::IngressQos(maps) => Ok(InfoVlan::IngressQos(try_clone_list(alloc, maps)?)),
+            InfoVlan::Protocol(protocol) => Ok(InfoVlan::Protocol(*protocol)),
+            InfoVlan::Other(other) => Ok(InfoVlan::Other(other.try_clone(alloc)?)),
+        }
+    }
+}
+
+impl Meaning for InfoVlan {
+    ghost use Rattle.link_vlan_can.specs.Vlan.{vlan_table, vlan_means};
+
+    ghost table = { vlan_table };
+
+    ghost means = { vlan_means };
+}
+
+impl Nla for InfoVlan {
+    fn kind(&self) -> u16 {
+        match self {
+            InfoVlan::Id(_) => IFLA_VLAN_ID,
+            InfoVlan::Flags(_) => IFLA_VLAN_FLAGS,
+            InfoVlan::EgressQos(_) => IFLA_VLAN_EGRESS_QOS,
+            InfoVlan::IngressQos(_) => IFLA_VLAN_INGRESS_QOS,
+            InfoVlan::Protocol(_) => IFLA_VLAN_PROTOCOL,
+            InfoVlan::Other(other) => other.kind(),
+        }
+    }
+
+    fn value_len(&self) -> usize {
+        match self {
+            InfoVlan::Id(_) => 2,
+            InfoVlan::Flags(_) => 8,
+            InfoVlan::EgressQos(maps) => nested_len(maps),
+            InfoVlan::IngressQos(maps) => nested_len(maps),
+            InfoVlan::Protocol(_) => 2,
+            InfoVlan::Other(other) => other.value_len(),
+        }
+    }
+
+    fn emit_value(&self, buffer: &mut [u8]) {
+        match self {
+            InfoVlan::Id(id) => emit_u16(buffer, *id),
+            InfoVlan::Flags((active, mask)) => emit_u32_pair(buffer, active.bits(), mask.bits()),
+            InfoVlan::EgressQos(maps) => emit_nested(maps, buffer),
+            InfoVlan::IngressQos(maps) => emit_nested(maps, buffer),
+            InfoVlan::Protocol(protocol) => emit_u16_be(buffer, u16::from(*protocol)),
+            InfoVlan::Other(other) => other.emit_value(buffer),
+        }
+    }
+}
+
+impl Parseable for InfoVlan {
+    fn parse_payload(alloc: Global, buffer: &NlaBuffer<'_>) -> Result<Self, DecodeError> {
+        let kind = buffer.kind();
+        let payload = buffer.value();
+        match kind {
+            IFLA_VLAN_ID => parse_u16(payload).map(Self::Id),
+            IFLA_VLAN_FLAGS => parse_u32_pair(payload).map(|(active, mask)| {
+                Self::Flags((
+                    VlanFlags::from_bits_retain(active),
+                    VlanFlags::from_bits_retain(mask),
+                ))
+            }),
+            IFLA_VLAN_EGRESS_QOS => read_nested(alloc, kind, payload).map(Self::EgressQos),
+            IFLA_VLAN_INGRESS_QOS => read_nested(alloc, kind, payload).map(Self::IngressQos),
+            IFLA_VLAN_PROTOCOL => parse_u16_be(payload).map(|number| Self::Protocol(number.into())),
+            _ => DefaultNla::parse(alloc, buffer).map(Self::Other),
+        }
+    }
+}
+
+impl Attribute for InfoVlan {
+    ghost use Rattle.std.specs.Prelude.{refl};
+    ghost use Rattle.link_base.proofs.TableLaws.{lawful};
+    ghost use Rattle.link_vlan_can.specs.Vlan.{vlan_table};
+
+    ghost lawful = { lawful vlan_table };
+
+    ghost well_formed = { refl };
+}

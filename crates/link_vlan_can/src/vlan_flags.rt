@@ -1,0 +1,93 @@
+//! The flags of a VLAN link.
+
+use bitflags::{Flag, Flags};
+use link_base::flag_laws::{FlagSet, KnownBits};
+
+/// Flags of a VLAN link (`include/uapi/linux/if_vlan.h`). Bits without a name are kept.
+#[derive(Clone, Copy, Debug, PartialEq, Eq, Hash)]
+pub struct VlanFlags(u32);
+
+impl VlanFlags {
+    /// Headers of received frames are reordered, so that they look like those of a device without VLANs
+    /// (`VLAN_FLAG_REORDER_HDR`).
+    pub const ReorderHdr: VlanFlags = VlanFlags(0x1);
+
+    /// The VLAN is registered by the GARP VLAN Registration Protocol (`VLAN_FLAG_GVRP`).
+    pub const Gvrp: VlanFlags = VlanFlags(0x2);
+
+    /// The state of the link does not follow that of the device under it (`VLAN_FLAG_LOOSE_BINDING`).
+    pub const LooseBinding: VlanFlags = VlanFlags(0x4);
+
+    /// The VLAN is registered by the Multiple VLAN Registration Protocol (`VLAN_FLAG_MVRP`).
+    pub const Mvrp: VlanFlags = VlanFlags(0x8);
+
+    /// The state of the link follows that of the bridge ports in the VLAN (`VLAN_FLAG_BRIDGE_BINDING`).
+    pub const BridgeBinding: VlanFlags = VlanFlags(0x10);
+}
+
+/// The named flags, and one without a name that has every bit, so that every bit is known.
+const FLAGS: [Flag<VlanFlags>; 6] = [
+    Flag {
+        name: "ReorderHdr",
+        value: VlanFlags::ReorderHdr,
+    },
+    Flag {
+        name: "Gvrp",
+        value: VlanFlags::Gvrp,
+    },
+    Flag {
+        name: "LooseBinding",
+        value: VlanFlags::LooseBinding,
+    },
+    Flag {
+        name: "Mvrp",
+        value: VlanFlags::Mvrp,
+    },
+    Flag {
+        name: "BridgeBinding",
+        value: VlanFlags::BridgeBinding,
+    },
+    Flag {
+        name: "",
+        value: VlanFlags(u32::MAX),
+    },
+];
+
+impl Flags for VlanFlags {
+    type Bits = u32;
+
+    ghost use Rattle.std.specs.Prelude.{⊤};
+    ghost use Rattle.link_vlan_can.specs.VlanFlags.{vlan_bits, vlan_flags};
+
+    ghost exact = { ⊤ };
+
+    ghost table = { vlan_flags };
+
+    ghost set_of = { vlan_bits };
+
+    fn flags<'a>() -> &'a [Flag<VlanFlags>] {
+        &FLAGS
+    }
+
+    fn bits(&self) -> u32 {
+        self.0
+    }
+
+    fn from_bits_retain(bits: u32) -> VlanFlags {
+        VlanFlags(bits)
+    }
+}
+
+impl FlagSet for VlanFlags {
+    ghost use Rattle.std.specs.Prelude.{refl};
+
+    ghost is_exact = { tt };
+
+    ghost equal_by_bits = { λ a b. refl };
+}
+
+impl KnownBits for VlanFlags {
+    ghost use Rattle.link_vlan_can.specs.VlanFlags.{every_vlan_bit};
+
+    ghost every_bit = { every_vlan_bit };
+}
