@@ -17,6 +17,7 @@ pub mod Protocol
 pub mod Default
 pub mod Items
 pub mod Lift
+pub mod Equality
 pub mod OneForm
 pub mod DefaultLawful
 pub mod Examples

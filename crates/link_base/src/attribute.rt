@@ -7,6 +7,7 @@ ghost use Rattle.link_base.specs.Table.{Table, AttrValue, Gives, TakesMemory, Fi
 ghost use Rattle.link_base.specs.Held.{IsInRange};
 ghost use Rattle.link_base.specs.WellFormed.{is_table};
 ghost use Rattle.link_base.specs.Lawful.{IsLawful};
+ghost use Rattle.link_base.specs.Equality.{IsThorough};
 ghost use Rattle.link_base.specs.Buffer.{kind_field_of, payload_of};
 ghost use Rattle.link_base.specs.Answers.{Answers, OnMemory, OverwritesFront, capped, under_kind};
 
@@ -117,10 +118,13 @@ pub trait Parseable: Meaning + Drop {
 }
 
 /// An attribute of one family: what is read and what is written agree, by these laws.
-pub trait Attribute: Nla + Parseable {
+pub trait Attribute: Nla + Parseable + PartialEq {
     /// The laws of one attribute hold of the type's table.
     ghost lawful: { IsLawful Self.table };
 
     /// The table is well formed.
     ghost well_formed: { IsTrue (is_table Self.table) };
+
+    /// `==` looks at every field: equal values stand for the same attribute.
+    ghost thorough: { IsThorough Self.PartialEq.eq Self.means };
 }

@@ -80,8 +80,11 @@ impl Parseable for DefaultNla {
 impl Attribute for DefaultNla {
     ghost use Rattle.std.specs.Prelude.{refl};
     ghost use Rattle.link_base.specs.DefaultLawful.{default_lawful};
+    ghost use Rattle.link_base.specs.Equality.{defaults};
 
     ghost lawful = { default_lawful };
 
     ghost well_formed = { refl };
+
+    ghost thorough = { defaults };
 }

@@ -1,10 +1,11 @@
 //! What the calls of `Flags` answer for a set whose every bit is known, what equal sets have in common, and what the
 //! words of the contracts of `Flags` say bit by bit. Nothing here runs.
 
-ghost use Rattle.std.specs.Prelude.{◌≡◌, ◌≢◌, ◌↔◌, ◌⊎◌, ◌==◌, ◌-◌, ◌^◌, ◌<◌, ℕ, not, false};
+ghost use Rattle.std.specs.Prelude.{◌≡◌, ◌≢◌, ◌↔◌, ◌⊎◌, ◌==◌, ◌-◌, ◌^◌, ◌<◌, ℕ, not, false, IsTrue};
 ghost use Rattle.std.specs.Int.{bit_at};
 ghost use Rattle.std.specs.Int.RustNames.{bit_and, bit_or, bit_xor};
 ghost use Rattle.bitflags.specs.Sets.{known_bits, without};
+ghost use Rattle.link_base.specs.Equality.{IsThorough};
 
 use bitflags::Flags;
 use std::hash::Hash;
@@ -16,6 +17,9 @@ pub trait FlagSet: Flags + PartialEq {
 
     /// `==` is equality of bits.
     ghost equal_by_bits: { (a b : Self) → Self.PartialEq.eq a b ≡ (Self.set_of a == Self.set_of b) };
+
+    /// Equal sets are the same set.
+    ghost thorough: { IsThorough Self.PartialEq.eq (λ (a : Self). a) };
 }
 
 /// A set of flags whose every bit is known, named or not. It has no calls.
@@ -24,10 +28,11 @@ pub trait KnownBits: FlagSet {
     ghost every_bit: { known_bits Self.table ≡ 2 ^ Self.Bits.size - 1 };
 }
 
-/// The contracts of `Flags` hold. Two sets are equal exactly where their bits are.
+/// The contracts of `Flags` hold. Two sets are equal exactly where their bits are, and then they are the same set.
 pub fn equality<F: FlagSet>()
     ensures contracts { F.exact }
     ensures equal { (a b : F) → F.PartialEq.eq a b ≡ (F.set_of a == F.set_of b) }
+    ensures same { (a b : F) → IsTrue (F.PartialEq.eq a b) → a ≡ b }
 {}
 
 /// Equal sets hash equally.

@@ -1,6 +1,6 @@
 //! The laws of lists: what is proved of every family, and of every table. Nothing here runs.
 
-ghost use Rattle.std.specs.Prelude.{◌≡◌, ◌↔◌, ℕ, ◌+◌, ◌/◌, ◌%◌, ◌<◌, ◌≤◌, true, List, ◌++◌, length, map, None, Result, Ok};
+ghost use Rattle.std.specs.Prelude.{◌≡◌, ◌↔◌, ℕ, ◌+◌, ◌/◌, ◌%◌, ◌<◌, ◌≤◌, true, List, ◌++◌, length, map, None, Result, Ok, IsTrue};
 ghost use Rattle.std.specs.List.{AllByRecursion};
 ghost use Rattle.link_base.specs.declared.fault.DecodeFault.{DecodeFault};
 ghost use Rattle.std.specs.Iterator.{Drains};
@@ -50,6 +50,16 @@ pub fn limit()
 pub fn items()
     ensures { (it : NlasIterator) (items : List (Result NlaBuffer DecodeError)) → Drains (⟦<NlasIterator<'static> as Iterator>⟧.next_gives) it items
         → AreItems (bytes_left it) items × (length items ≤ length (bytes_left it) / 4 + 1) }
+{}
+
+// ---- families: equality
+
+/// `==` looks at every field: equal values stand for the same attribute, each value equals itself, and the order of two
+/// values does not matter.
+pub fn equality<F: Attribute + Eq>()
+    ensures same { (a b : F) → IsTrue (F.PartialEq.eq a b) → F.means a ≡ F.means b }
+    ensures itself { (a : F) → IsTrue (F.PartialEq.eq a a) }
+    ensures either_way { (a b : F) → F.PartialEq.eq a b ≡ F.PartialEq.eq b a }
 {}
 
 // ---- families: values that were read

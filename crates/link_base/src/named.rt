@@ -2,10 +2,11 @@
 
 ghost use Rattle.std.specs.Prelude.{◌≡◌, ℕ, IsTrue};
 ghost use Rattle.std.specs.List.{AllByRecursion};
+ghost use Rattle.link_base.specs.Equality.{IsThorough};
 ghost use Rattle.link_base.specs.Named.{Naming, Seen, Listed, Free, IsSeen, is_naming};
 
 /// A type with a case for each name, and a case `Other` for every other number. It has no calls.
-pub trait NamedNumber {
+pub trait NamedNumber: PartialEq {
     /// The cases, their texts and their numbers.
     ghost names: { Naming Self };
 
@@ -23,4 +24,7 @@ pub trait NamedNumber {
 
     /// The numbers differ, the texts differ in more than the case of their letters, and no text is read as a number too.
     ghost well_named: { IsTrue (is_naming names) };
+
+    /// Equal values are the same value.
+    ghost thorough: { IsThorough Self.PartialEq.eq (λ (v : Self). v) };
 }

@@ -1,6 +1,6 @@
 //! The laws of named numbers, and of the protocols of VLAN tags. Nothing here runs.
 
-ghost use Rattle.std.specs.Prelude.{◌≡◌, ◌≢◌, ℕ, ◌<◌, ◌^◌, List, Result, Ok};
+ghost use Rattle.std.specs.Prelude.{◌≡◌, ◌≢◌, ℕ, ◌<◌, ◌^◌, ◌↔◌, IsTrue, List, Result, Ok};
 ghost use Rattle.link_base.specs.Class as class;
 ghost use Rattle.link_base.specs.Named.{Listed, Bare, NoText, TextOrNumber, numbers_of, value_of, number_of, seen_of, seen_value, seen_canon, text_of, displayed, Accepts, ReadsText};
 ghost use Rattle.link_base.specs.declared.fault.DecodeError.{DecodeError};
@@ -9,6 +9,7 @@ ghost use Rattle.link_base.specs.declared.vlan_protocol.VlanProtocol.{VlanProtoc
 ghost use Rattle.link_base.specs.declared.vlan_protocol.VlanProtocol.TheVariants.{Ieee8021Q};
 
 use crate::named::NamedNumber;
+use crate::vlan_protocol::VlanProtocol;
 
 // ---- numbers
 
@@ -28,6 +29,11 @@ pub fn value_back<T: NamedNumber>()
 /// Two values that hold the same are the same value.
 pub fn different<T: NamedNumber>()
     ensures { (a b : T) → T.seen a ≡ T.seen b → a ≡ b }
+{}
+
+/// Two values are equal exactly where they are the same value.
+pub fn equality<T: NamedNumber + Eq>()
+    ensures { (a b : T) → IsTrue (T.PartialEq.eq a b) ↔ (a ≡ b) }
 {}
 
 // ---- texts
@@ -51,10 +57,12 @@ pub fn one_text<T: NamedNumber>()
 // ---- protocols
 
 /// The EtherType of a protocol is read as the protocol, and every number but 0x88A8 as 802.1Q. The displayed text of a
-/// protocol reads as it, and a text is accepted for at most one protocol.
+/// protocol reads as it, and a text is accepted for at most one protocol. Two protocols are equal exactly where they are
+/// the same.
 pub fn vlan_protocol()
     ensures number { (p : VlanProtocol) → value_of vlan_protocols (protocol_number p) ≡ p }
     ensures other { (d : ℕ) → d ≢ 0x88A8 → value_of vlan_protocols d ≡ Ieee8021Q }
+    ensures equal { (p q : VlanProtocol) → IsTrue (⟦<VlanProtocol as PartialEq>⟧.eq p q) ↔ (p ≡ q) }
     ensures text { (p : VlanProtocol) (r : Result VlanProtocol DecodeError) → ReadsText vlan_protocols (text_of vlan_protocols.labels (protocol_number p)) r → r ≡ Ok p }
     ensures one { (text : List ℕ) (p q : VlanProtocol) → Accepts vlan_protocols text p → Accepts vlan_protocols text q → p ≡ q }
 {}

@@ -72,9 +72,13 @@ impl Parseable for InfoDsa {
 impl Attribute for InfoDsa {
     ghost use Rattle.std.specs.Prelude.{refl};
     ghost use Rattle.link_base.proofs.TableLaws.{lawful};
+    ghost use Rattle.link_base.specs.Equality.{of_cases, thorough_fields};
+    ghost use Rattle.link_vlan_can.specs.contracts.dsa.InfoDsa.{enum};
     ghost use Rattle.link_vlan_can.specs.Dsa.{dsa_table};
 
     ghost lawful = { lawful dsa_table };
 
     ghost well_formed = { refl };
+
+    ghost thorough = { of_cases enum _ _ (Prim.search (thorough_fields)) };
 }

@@ -42,6 +42,8 @@ pub enum HsrProtocol {
 
 impl NamedNumber for HsrProtocol {
     ghost use Rattle.std.specs.Prelude.{refl};
+    ghost use Rattle.link_base.specs.Equality.{of_cases, thorough_fields};
+    ghost use Rattle.link_vlan_can.specs.contracts.hsr.HsrProtocol.{enum};
     ghost use Rattle.link_vlan_can.specs.Hsr.{hsr_protocols, hsr_protocol, hsr_protocol_seen};
 
     ghost names = { hsr_protocols };
@@ -55,6 +57,8 @@ impl NamedNumber for HsrProtocol {
     ghost no_more = { hsr_protocol_seen };
 
     ghost well_named = { refl };
+
+    ghost thorough = { of_cases enum _ _ (Prim.search (thorough_fields)) };
 }
 
 /// The case of a number, `Other` where it has no name.
@@ -212,9 +216,14 @@ impl Parseable for InfoHsr {
 impl Attribute for InfoHsr {
     ghost use Rattle.std.specs.Prelude.{refl};
     ghost use Rattle.link_base.proofs.TableLaws.{lawful};
+    ghost use Rattle.link_base.specs.Equality.{of_cases, thorough_fields};
+    ghost use Rattle.link_vlan_can.specs.contracts.hsr.HsrProtocolNamedNumber.TheImpl.Laws.{thorough-law};
+    ghost use Rattle.link_vlan_can.specs.contracts.hsr.InfoHsr.{enum};
     ghost use Rattle.link_vlan_can.specs.Hsr.{hsr_table};
 
     ghost lawful = { lawful hsr_table };
 
     ghost well_formed = { refl };
+
+    ghost thorough = { of_cases enum _ _ (Prim.search (thorough_fields, thorough-law)) };
 }

@@ -4,6 +4,7 @@ mod dsa;
 mod flags;
 mod hsr;
 mod hsr_protocol;
+mod laws;
 mod vlan;
 mod vlan_list_faults;
 mod vlan_lists;
@@ -68,11 +69,6 @@ fn is_case<F: Attribute + TryClone + PartialEq>(
         reads_as(rt, alloc, &flagged, &value)?;
     }
     is_written_as(rt, alloc, bytes, value)
-}
-
-/// The values are not equal.
-fn differ<T: PartialEq + Drop>(rt: &impl Abort, value: &T, other: T) {
-    assert!(rt; *value != other);
 }
 
 /// A value is written under this kind field, with so many bytes of payload and so many in all.

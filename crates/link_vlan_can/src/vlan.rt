@@ -88,12 +88,16 @@ impl Parseable for VlanQosMapping {
 impl Attribute for VlanQosMapping {
     ghost use Rattle.std.specs.Prelude.{refl};
     ghost use Rattle.link_base.proofs.TableLaws.{lawful};
+    ghost use Rattle.link_base.specs.Equality.{of_cases, anything, pairs, numbers, defaults};
+    ghost use Rattle.link_vlan_can.specs.contracts.vlan.VlanQosMapping.{enum};
     ghost use Rattle.link_base.specs.Lift.{lift_table};
     ghost use Rattle.link_vlan_can.specs.Vlan.{mapping_rows};
 
     ghost lawful = { lawful (lift_table mapping_rows) };
 
     ghost well_formed = { refl };
+
+    ghost thorough = { of_cases enum _ _ (anything (pairs numbers numbers), (defaults, tt)) };
 }
 
 impl NestedAttribute for VlanQosMapping {
@@ -208,9 +212,15 @@ impl Parseable for InfoVlan {
 impl Attribute for InfoVlan {
     ghost use Rattle.std.specs.Prelude.{refl};
     ghost use Rattle.link_base.proofs.TableLaws.{lawful};
+    ghost use Rattle.link_base.specs.Equality.{of_cases, anything, pairs, numbers, lists, protocols, defaults};
+    ghost use Rattle.link_vlan_can.specs.contracts.vlan.VlanQosMappingAttribute.TheImpl.Laws.{thorough-law};
+    ghost use Rattle.link_vlan_can.specs.contracts.vlan_flags.VlanFlagsFlagSet.TheImpl.Laws.{thorough-law as flags_thorough};
+    ghost use Rattle.link_vlan_can.specs.contracts.vlan.InfoVlan.{enum};
     ghost use Rattle.link_vlan_can.specs.Vlan.{vlan_table};
 
     ghost lawful = { lawful vlan_table };
 
     ghost well_formed = { refl };
+
+    ghost thorough = { of_cases enum _ _ (anything numbers, (anything (pairs flags_thorough flags_thorough), (lists thorough-law, (lists thorough-law, (anything protocols, (defaults, tt)))))) };
 }

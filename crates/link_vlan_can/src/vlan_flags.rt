@@ -80,10 +80,13 @@ impl Flags for VlanFlags {
 
 impl FlagSet for VlanFlags {
     ghost use Rattle.std.specs.Prelude.{refl};
+    ghost use Rattle.link_base.specs.Equality.{wrapped, numbers};
 
     ghost is_exact = { tt };
 
     ghost equal_by_bits = { λ a b. refl };
+
+    ghost thorough = { wrapped (λ flags. flags.0) (λ bits. record { 0 = bits }) (λ _. refl) numbers };
 }
 
 impl KnownBits for VlanFlags {

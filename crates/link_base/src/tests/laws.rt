@@ -13,6 +13,7 @@ fn laws_of_tables() {
 
 #[test]
 fn laws_of_families() {
+    laws::equality::<DefaultNla>();
     laws::reads_back::<DefaultNla>();
     laws::read_values::<DefaultNla>();
     laws::other_kept::<DefaultNla>();

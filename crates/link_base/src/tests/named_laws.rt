@@ -16,6 +16,8 @@ enum Lamp {
 impl NamedNumber for Lamp {
     ghost use Rattle.std.specs.Prelude.{[], ◌∷◌, codes, refl};
     ghost use Rattle.link_base.specs.Named.{label, Unknown, TextOrDigit, Listed, Free};
+    ghost use Rattle.link_base.specs.Equality.{of_cases, anything, numbers};
+    ghost use Rattle.link_base.specs.contracts.tests.named_laws.Lamp.{enum};
     ghost use Rattle.link_base.specs.declared.tests.named_laws.Lamp.TheVariants.{Red, Amber, Green, Other};
 
     ghost names = { record {
@@ -34,6 +36,8 @@ impl NamedNumber for Lamp {
     ghost no_more = { elim [ Red ↦ (refl, refl) | Amber ↦ (refl, refl) | Green ↦ (refl, refl) | Other d ↦ refl ] };
 
     ghost well_named = { refl };
+
+    ghost thorough = { of_cases enum _ _ (tt, (tt, (tt, (anything numbers, tt)))) };
 }
 
 impl From<u8> for Lamp {
@@ -107,6 +111,7 @@ fn laws_of_names() {
     named_laws::number_back::<Lamp>();
     named_laws::value_back::<Lamp>();
     named_laws::different::<Lamp>();
+    named_laws::equality::<Lamp>();
     named_laws::text_back::<Lamp>();
     named_laws::one_text::<Lamp>();
     named_laws::vlan_protocol();

@@ -1,7 +1,7 @@
 //! Values of DSA, case by case.
 
 use crate::InfoDsa;
-use crate::tests::{any, differ, is_case, is_refused, is_written_as, measures};
+use crate::tests::{any, is_case, is_refused, is_written_as, measures};
 use link_base::{Cause, DecodeFault, DefaultNla};
 use std::test::Fail;
 
@@ -25,19 +25,6 @@ fn other_kinds(rt: HostRuntime) -> Result<(), Fail> {
     let flagged = InfoDsa::Other(any(alloc, 0xC002, &[1, 2])?);
     measures(&rt, &flagged, 0xC002, 2, 8);
     is_written_as(&rt, alloc, &[6, 0, 2, 0xC0, 1, 2, 0, 0], flagged)?;
-    Ok(())
-}
-
-#[test]
-fn different_values(rt: HostRuntime) -> Result<(), Fail> {
-    let alloc = rt.alloc();
-    let conduit = InfoDsa::Conduit(1);
-    measures(&rt, &conduit, 1, 4, 8);
-    differ(&rt, &conduit, InfoDsa::Conduit(2));
-    differ(&rt, &conduit, InfoDsa::Other(any(alloc, 1, &[1, 0, 0, 0])?));
-    let other = InfoDsa::Other(any(alloc, 3, &[5])?);
-    differ(&rt, &other, InfoDsa::Other(any(alloc, 4, &[5])?));
-    differ(&rt, &other, InfoDsa::Other(any(alloc, 3, &[6])?));
     Ok(())
 }
 

@@ -1,6 +1,6 @@
 //! Values of HSR, case by case.
 
-use crate::tests::{any, differ, is_case, is_refused, is_written_as, measures, reads_as};
+use crate::tests::{any, is_case, is_refused, is_written_as, measures, reads_as};
 use crate::{HsrProtocol, InfoHsr};
 use link_base::{Cause, DecodeFault, read_list, write_list};
 use std::alloc::Global;
@@ -135,46 +135,6 @@ fn more_wrong_lengths(rt: HostRuntime) -> Result<(), Fail> {
     // the fault names the kind without its flags
     is_wrong(&rt, alloc, &[5, 0, 1, 0xC0, 10], 1, 4, 1)?;
     Ok(())
-}
-
-#[test]
-fn different_values(rt: HostRuntime) -> Result<(), Fail> {
-    let alloc = rt.alloc();
-    differ(&rt, &InfoHsr::Port1(1), InfoHsr::Port1(2));
-    differ(&rt, &InfoHsr::Port1(1), InfoHsr::Port2(1));
-    differ(&rt, &InfoHsr::Port2(1), InfoHsr::Port2(2));
-    differ(&rt, &InfoHsr::Port2(1), InfoHsr::Interlink(1));
-    differ(&rt, &InfoHsr::Interlink(1), InfoHsr::Interlink(2));
-    differ(&rt, &InfoHsr::MulticastSpec(1), InfoHsr::MulticastSpec(2));
-    differ(&rt, &InfoHsr::MulticastSpec(1), InfoHsr::Version(1));
-    differ(&rt, &InfoHsr::Version(1), InfoHsr::Version(2));
-    differ(&rt, &InfoHsr::SeqNr(1), InfoHsr::SeqNr(0x101));
-    differ(
-        &rt,
-        &InfoHsr::Other(any(alloc, 9, &[1])?),
-        InfoHsr::Other(any(alloc, 10, &[1])?),
-    );
-    differ(
-        &rt,
-        &InfoHsr::Other(any(alloc, 9, &[1])?),
-        InfoHsr::Other(any(alloc, 9, &[2])?),
-    );
-    Ok(())
-}
-
-#[test]
-fn different_addresses_and_protocols(rt: HostRuntime) {
-    let address = InfoHsr::SupervisionAddr([1, 2, 3, 4, 5, 6]);
-    differ(&rt, &address, InfoHsr::SupervisionAddr([0, 2, 3, 4, 5, 6]));
-    differ(&rt, &address, InfoHsr::SupervisionAddr([1, 0, 3, 4, 5, 6]));
-    differ(&rt, &address, InfoHsr::SupervisionAddr([1, 2, 0, 4, 5, 6]));
-    differ(&rt, &address, InfoHsr::SupervisionAddr([1, 2, 3, 0, 5, 6]));
-    differ(&rt, &address, InfoHsr::SupervisionAddr([1, 2, 3, 4, 0, 6]));
-    differ(&rt, &address, InfoHsr::SupervisionAddr([1, 2, 3, 4, 5, 0]));
-    let hsr = InfoHsr::Protocol(HsrProtocol::Hsr);
-    differ(&rt, &hsr, InfoHsr::Protocol(HsrProtocol::Prp));
-    differ(&rt, &hsr, InfoHsr::Protocol(HsrProtocol::Other(0)));
-    differ(&rt, &hsr, InfoHsr::Version(0));
 }
 
 #[test]

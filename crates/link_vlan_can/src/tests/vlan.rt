@@ -1,6 +1,6 @@
 //! Values of VLAN, case by case; those with lists aside.
 
-use crate::tests::{any, differ, is_case, is_refused, is_written_as, measures, reads_as};
+use crate::tests::{any, is_case, is_refused, is_written_as, measures, reads_as};
 use crate::{InfoVlan, VlanFlags, VlanQosMapping};
 use bitflags::Flags;
 use link_base::{Cause, DecodeFault, VlanProtocol, read_list, write_list};
@@ -133,27 +133,6 @@ fn wrong_lengths(rt: HostRuntime) -> Result<(), Fail> {
     is_wrong(&rt, alloc, &[4, 0, 5, 0], 5, 2, 0)?;
     // the fault names the kind without its flags
     is_wrong(&rt, alloc, &[7, 0, 5, 0xC0, 0x88, 0xA8, 0], 5, 2, 3)?;
-    Ok(())
-}
-
-#[test]
-fn different_values(rt: HostRuntime) -> Result<(), Fail> {
-    let alloc = rt.alloc();
-    differ(&rt, &InfoVlan::Id(1), InfoVlan::Id(2));
-    differ(&rt, &flags(1, 2), flags(3, 2));
-    differ(&rt, &flags(1, 2), flags(1, 3));
-    differ(&rt, &flags(1, 2), flags(2, 1));
-    let provider = InfoVlan::Protocol(VlanProtocol::Ieee8021Ad);
-    differ(&rt, &provider, InfoVlan::Protocol(VlanProtocol::Ieee8021Q));
-    differ(&rt, &provider, InfoVlan::Id(0x88A8));
-    let other = InfoVlan::Other(any(alloc, 9, &[1])?);
-    differ(&rt, &other, InfoVlan::Other(any(alloc, 10, &[1])?));
-    differ(&rt, &other, InfoVlan::Other(any(alloc, 9, &[2])?));
-    differ(
-        &rt,
-        &InfoVlan::Other(any(alloc, 1, &[1, 0])?),
-        InfoVlan::Id(1),
-    );
     Ok(())
 }
 

@@ -1,6 +1,6 @@
 //! Lists of priority mappings, and their elements.
 
-use crate::tests::{any, differ, is_case, is_refused, is_written_as, reads_as};
+use crate::tests::{any, is_case, is_refused, is_written_as, reads_as};
 use crate::{InfoVlan, VlanQosMapping};
 use link_base::{Cause, DecodeFault, TryClone, write_list};
 use std::alloc::{AllocError, Global};
@@ -134,25 +134,5 @@ fn flags_of_mappings(rt: HostRuntime) -> Result<(), Fail> {
     let out = write_list(alloc, &vec![in alloc; egress]?)?;
     let wanted = [16, 0, 3, 0, 12, 0, 1, 0, 1, 0, 0, 0, 2, 0, 0, 0];
     assert_eq!(rt; out.as_slice(), wanted.as_slice());
-    Ok(())
-}
-
-#[test]
-fn different_lists(rt: HostRuntime) -> Result<(), Fail> {
-    let alloc = rt.alloc();
-    let mapping = VlanQosMapping::Mapping(1, 2);
-    differ(&rt, &mapping, VlanQosMapping::Mapping(3, 2));
-    differ(&rt, &mapping, VlanQosMapping::Mapping(1, 3));
-    let other = one_other(alloc, 9, &[1])?;
-    differ(&rt, &other, one_other(alloc, 0x8009, &[1])?);
-    differ(&rt, &other, one_other(alloc, 9, &[2])?);
-    let two = InfoVlan::EgressQos(mappings(alloc)?);
-    assert!(rt; two == two.try_clone(alloc)?);
-    differ(&rt, &two, InfoVlan::IngressQos(mappings(alloc)?));
-    let one = InfoVlan::EgressQos(vec![in alloc; mapping]?);
-    differ(&rt, &two, one);
-    differ(&rt, &two, InfoVlan::EgressQos(Vec::new(alloc)));
-    let ingress = InfoVlan::IngressQos(mappings(alloc)?);
-    differ(&rt, &ingress, InfoVlan::IngressQos(Vec::new(alloc)));
     Ok(())
 }

@@ -77,7 +77,7 @@ fn a_list_that_grows_behind_a_value(rt: HostRuntime) -> Result<(), Fail> {
     let alloc = rt.alloc();
     let text = with_zeros(
         alloc,
-        "06 00 01 00 0a 00 00 00 fd ff 04 00 f9 ff 63 00",
+        "06 00 01 00 0a 00 00 00 fd ff 03 00 f9 ff 63 00",
         65525,
     )?;
     let (out, status) = report(alloc, Family::Vlan, &text)?;

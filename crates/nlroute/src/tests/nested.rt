@@ -66,10 +66,14 @@ impl Attribute for Element {
     ghost use Rattle.link_base.specs.Table.{row};
     ghost use Rattle.link_base.specs.Lift.{lift_table};
     ghost use Rattle.link_base.proofs.TableLaws.{lawful};
+    ghost use Rattle.link_base.specs.Equality.{of_cases, anything, numbers, defaults};
+    ghost use Rattle.nlroute.specs.contracts.tests.nested.Element.{enum};
 
     ghost lawful = { lawful (lift_table (row 1 (Unsigned 4) ∷ [])) };
 
     ghost well_formed = { refl };
+
+    ghost thorough = { of_cases enum _ _ (anything numbers, (defaults, tt)) };
 }
 
 impl NestedAttribute for Element {
@@ -156,10 +160,15 @@ impl Attribute for Lists {
     ghost use Rattle.link_base.specs.Class.{Unsigned};
     ghost use Rattle.link_base.specs.Table.{Nested, row};
     ghost use Rattle.link_base.proofs.TableLaws.{lawful};
+    ghost use Rattle.link_base.specs.Equality.{of_cases, lists, defaults};
+    ghost use Rattle.nlroute.specs.contracts.tests.nested.ElementAttribute.TheImpl.Laws.{thorough-law};
+    ghost use Rattle.nlroute.specs.contracts.tests.nested.Lists.{enum};
 
     ghost lawful = { lawful (row 3 (Nested false (row 1 (Unsigned 4) ∷ [])) ∷ row 47 (Nested true (row 1 (Unsigned 4) ∷ [])) ∷ []) };
 
     ghost well_formed = { refl };
+
+    ghost thorough = { of_cases enum _ _ (lists thorough-law, (lists thorough-law, (defaults, tt))) };
 }
 
 #[test]

@@ -1,0 +1,138 @@
+-- Tests of equality that look at all that a value means: what a derived `==` compares, case by case and field by field.
+use Rattle.std.specs.Prelude.{◌≡◌, ℕ, ℤ, nat_eq, ◌==◌, ◌&&◌, ◌⊎◌, Bool, true, false, List, [], ◌∷◌, map}
+use Rattle.std.specs.Bool.{beq}
+use Rattle.std.specs.Ordering.{int_eq}
+use Rattle.std.specs.Cmp.{first_so, second_so, unsigned_Decides, signed_Decides, booleans_Decides}
+use Rattle.std.specs.Cmp.Derive.{of_values}
+use Rattle.std.specs.Cmp.Lexicographic.{pointwise, pointwise_decides}
+use Rattle.std.proofs.Common.{refl, sym, ap, ap₂, ◌∙◌, true≢false, inl, inr, Vec}
+use Rattle.std.specs.Global.{Global}
+use denote.Struct.Field.{Field}
+use denote.Struct.Values.{Values}
+use denote.Enum.Declared.{Record, Choice, declared}
+use denote.Enum.Bare.{sameb}
+use denote.Enum.Compared.{Each, by}
+use Rattle.link_base.specs.declared.default_nla.DefaultNla.{DefaultNla}
+use Rattle.link_base.specs.declared.vlan_protocol.VlanProtocol.{VlanProtocol}
+use Rattle.link_base.specs.declared.vlan_protocol.VlanProtocol.TheVariants.{Ieee8021Q, Ieee8021Ad}
+use Rattle.link_base.specs.contracts.vlan_protocol.VlanProtocol.{enum}
+use Rattle.link_base.specs.Table.{Leaf, AttrValue, Case, Other, Single, Inner}
+use Rattle.link_base.specs.Lift.{lift}
+use Rattle.link_base.specs.Default.{default_means}
+
+-- values that pass the test mean the same
+pub record IsThorough {K M : Type 0} (eq : K → K → Bool) (means : K → M) : Type 0 where
+  pub same : (a b : K) → eq a b ≡ true → means a ≡ means b
+
+-- ---- enums
+
+-- so of the fields of one case
+abbrev pub CaseThorough : {M : Type 0} (Fs : List Field) → (Values Fs → Values Fs → Bool) → (Values Fs → M) → Type 0
+CaseThorough [] eq means = Unit {0}
+CaseThorough (F ∷ []) eq means = IsThorough (λ x y. eq (x, tt) (y, tt)) (λ x. means (x, tt))
+CaseThorough (F ∷ G ∷ []) eq means = IsThorough {K = F.Value × G.Value} (λ x y. eq (x.0, (x.1, tt)) (y.0, (y.1, tt))) (λ x. means (x.0, (x.1, tt)))
+CaseThorough (F ∷ G ∷ H ∷ Fs) eq means = IsThorough eq means
+
+fields : {M : Type 0} (Fs : List Field) (eq : Values Fs → Values Fs → Bool) (means : Values Fs → M) → CaseThorough Fs eq means
+    → (a b : Values Fs) → eq a b ≡ true → means a ≡ means b
+fields [] eq means h a b e = refl
+fields (F ∷ []) eq means h a b e = h.same a.0 b.0 e
+fields (F ∷ G ∷ []) eq means h a b e = h.same (a.0, a.1.0) (b.0, b.1.0) e
+fields (F ∷ G ∷ H ∷ Fs) eq means h a b e = h.same a b e
+
+-- so of each case
+abbrev pub EachThorough : {M : Type 0} (Fss : List (List Field)) → Each Bool Fss → (Choice Fss → M) → Type 0
+EachThorough [] eqs means = Unit {0}
+EachThorough (Fs ∷ Fss) eqs means = CaseThorough Fs eqs.0 (λ x. means (inl x)) × EachThorough Fss eqs.1 (λ c. means (inr c))
+
+choices : {M : Type 0} (Fss : List (List Field)) (eqs : Each Bool Fss) (means : Choice Fss → M) → EachThorough Fss eqs means
+    → (c d : Choice Fss) → by false false Fss eqs c d ≡ true → means c ≡ means d
+choices [] eqs means h c d e = absurd c
+choices (Fs ∷ Fss) eqs means h (inl x) (inl y) e = fields Fs eqs.0 (λ z. means (inl z)) h.0 x y e
+choices (Fs ∷ Fss) eqs means h (inr c) (inr d) e = choices Fss eqs.1 (λ z. means (inr z)) h.1 c d e
+choices (Fs ∷ Fss) eqs means h (inl x) (inr d) e = absurd (true≢false (sym e))
+choices (Fs ∷ Fss) eqs means h (inr c) (inl y) e = absurd (true≢false (sym e))
+
+-- a derived test of an enum is thorough where it is so of each case
+pub of_cases : (N : Record) (eqs : Each Bool N.parts) {M : Type 0} (means : N.D → M) → EachThorough N.parts eqs (λ c. means (N.make c))
+    → IsThorough (of_values N false false eqs) means
+of_cases N eqs means h = record {
+  same = λ a b e. ap means (sym (N.eta a)) ∙ choices N.parts eqs (λ c. means (N.make c)) h (N.as_values a) (N.as_values b) e ∙ ap means (N.eta b);
+}
+
+-- ---- fields
+
+-- values that pass the test are the same value, and so mean the same
+pub anything : {K M : Type 0} {eq : K → K → Bool} {means : K → M} → IsThorough eq (λ (a : K). a) → IsThorough eq means
+anything {means = means} h = record { same = λ a b e. ap means (h.same a b e) }
+
+pub numbers : IsThorough ◌==◌ (λ (n : ℕ). n)
+numbers = record { same = λ a b. (unsigned_Decides a b).0 }
+
+pub integers : IsThorough int_eq (λ (z : ℤ). z)
+integers = record { same = λ a b. (signed_Decides a b).0 }
+
+pub truths : IsThorough beq (λ (b : Bool). b)
+truths = record { same = λ a b. (booleans_Decides a b).0 }
+
+pub octets : IsThorough (pointwise nat_eq) (λ (bytes : List ℕ). bytes)
+octets = record { same = λ a b. (pointwise_decides unsigned_Decides a b).0 }
+
+-- a kind field and a payload
+pub defaults : {V : Type 0} → IsThorough (λ (a b : DefaultNla). a.kind == b.kind && pointwise nat_eq a.value b.value) (default_means {V = V})
+defaults = record {
+  same = λ a b e. ap₂ (λ f p. Other f p) (numbers.same a.kind b.kind (first_so (a.kind == b.kind) (pointwise nat_eq a.value b.value) e))
+      (octets.same a.value b.value (second_so (a.kind == b.kind) (pointwise nat_eq a.value b.value) e));
+}
+
+-- two values, each with its test
+pub pairs : {A B : Type 0} {E : A → A → Bool} {F : B → B → Bool} → IsThorough E (λ (a : A). a) → IsThorough F (λ (b : B). b)
+    → IsThorough (λ (x y : A × B). E x.0 y.0 && F x.1 y.1) (λ (x : A × B). x)
+pairs {E = E} {F} h k = record {
+  same = λ x y e. ap₂ (λ a b. (a, b)) (h.same x.0 y.0 (first_so (E x.0 y.0) (F x.1 y.1) e)) (k.same x.1 y.1 (second_so (E x.0 y.0) (F x.1 y.1) e));
+}
+
+-- a struct of one part
+pub wrapped : {K J : Type 0} {eq : J → J → Bool} (part : K → J) (wrap : J → K) → ((a : K) → wrap (part a) ≡ a) → IsThorough eq (λ (x : J). x)
+    → IsThorough (λ a b. eq (part a) (part b)) (λ (a : K). a)
+wrapped part wrap back h = record { same = λ a b e. sym (back a) ∙ ap wrap (h.same (part a) (part b) e) ∙ back b }
+
+-- lists, element by element
+each : {K M : Type 0} {eq : K → K → Bool} {means : K → M} → IsThorough eq means → (xs ys : List K) → pointwise eq xs ys ≡ true → map means xs ≡ map means ys
+each h [] [] e = refl
+each h [] (y ∷ ys) e = absurd (true≢false (sym e))
+each h (x ∷ xs) [] e = absurd (true≢false (sym e))
+each {eq = eq} h (x ∷ xs) (y ∷ ys) e = ap₂ (λ v vs. v ∷ vs) (h.same x y (first_so (eq x y) (pointwise eq xs ys) e)) (each h xs ys (second_so (eq x y) (pointwise eq xs ys) e))
+
+-- the attribute that was lifted
+abbrev lowered : AttrValue → Leaf
+lowered (Case k (Single v)) = Case k v
+lowered (Case k content) = Other k []
+lowered (Other f p) = Other f p
+
+lowered_back : (l : Leaf) → lowered (lift l) ≡ l
+lowered_back (Case k v) = refl
+lowered_back (Other f p) = refl
+
+unlifted : {E : Type 0} {eq : E → E → Bool} {leaf : E → Leaf} → IsThorough eq (λ x. lift (leaf x)) → IsThorough eq leaf
+unlifted {leaf = leaf} h = record { same = λ a b e. sym (lowered_back (leaf a)) ∙ ap lowered (h.same a b e) ∙ lowered_back (leaf b) }
+
+-- the values of a nested list
+pub lists : {E : Type 0} {eq : E → E → Bool} {leaf : E → Leaf} {k : ℕ} {flagged : Bool} → IsThorough eq (λ x. lift (leaf x))
+    → IsThorough (λ (xs ys : Vec E Global). pointwise eq xs.items ys.items) (λ xs. Case k (Inner flagged (map leaf xs.items)))
+lists {leaf = leaf} {k} {flagged} h = record {
+  same = λ xs ys e. ap (λ vs. Case k (Inner flagged vs)) (each (unlifted h) xs.items ys.items e);
+}
+
+-- 802.1Q and 802.1ad
+two_protocols : (p q : VlanProtocol) → sameb (declared enum) p q ≡ true → p ≡ q
+two_protocols Ieee8021Q Ieee8021Q e = refl
+two_protocols Ieee8021Ad Ieee8021Ad e = refl
+two_protocols Ieee8021Q Ieee8021Ad e = absurd (true≢false (sym e))
+two_protocols Ieee8021Ad Ieee8021Q e = absurd (true≢false (sym e))
+
+pub protocols : IsThorough (sameb (declared enum)) (λ (p : VlanProtocol). p)
+protocols = record { same = two_protocols }
+
+-- what `search` finds the tests of fields by
+pub ruleset thorough_fields = (defaults, numbers, integers, truths, octets, protocols, lists, anything)

@@ -1,0 +1,13 @@
+//! The law of equality, once at each type.
+
+use crate::{HsrProtocol, InfoDsa, InfoHsr, InfoVlan, VlanQosMapping};
+use link_base::{laws, named_laws};
+
+#[test]
+fn equality() {
+    laws::equality::<VlanQosMapping>();
+    laws::equality::<InfoVlan>();
+    laws::equality::<InfoDsa>();
+    laws::equality::<InfoHsr>();
+    named_laws::equality::<HsrProtocol>();
+}
