@@ -33,16 +33,31 @@ put_frame b0 b1 b2 b3 f p n end e-n e-end room e1 e2 e3 =
 
 -- ---- one frame after another
 
-module _ {X : Type 0} (means : X → AttrValue) where
+module _ {X V : Type 0} (means : X → V) where
   -- one more element of a list
-  one_more : (xs : List X) (i : ℕ) (x : X) → i < length xs → x ≡ get_or xs i x → map means (take (i + 1) xs) ≡ map means (take i xs) ++ means x ∷ []
+  pub one_more : (xs : List X) (i : ℕ) (x : X) → i < length xs → x ≡ get_or xs i x → map means (take (i + 1) xs) ≡ map means (take i xs) ++ means x ∷ []
   one_more xs i x lt is =
       ap (map means) (take_more xs i x lt ∙ ap (λ y. take i xs ++ y ∷ []) (sym is)) ∙ map-append means (take i xs) (x ∷ [])
 
+  -- a fact of the values so far and of the next
+  pub all_more : (P : V → Type 0) (xs : List X) (i : ℕ) (x : X) → i < length xs → x ≡ get_or xs i x → AllByRecursion P (map means (take i xs)) → P (means x) → AllByRecursion P (map means (take (i + 1) xs))
+  all_more P xs i x lt is all here = subst (AllByRecursion P) (sym (one_more xs i x lt is)) (push (map means (take i xs)) all)
+    where
+      push : (vs : List V) → AllByRecursion P vs → AllByRecursion P (vs ++ means x ∷ [])
+      push [] h = (here, tt)
+      push (v ∷ vs) h = (h.0, push vs h.1)
+
+  -- each element's own fact
+  pub all_at : (P : V → Type 0) (xs : List X) (i : ℕ) (d : X) → AllByRecursion P (map means xs) → i < length xs → P (means (get_or xs i d))
+  all_at P [] i d all lt = absurd (omega arith)
+  all_at P (x ∷ xs) zero d all lt = all.0
+  all_at P (x ∷ xs) (suc i) d all lt = all_at P xs i d all.1 (omega arith)
+
+module _ {X : Type 0} (means : X → AttrValue) where
   -- one more frame of the written list
   pub written_more : (xs : List X) (i : ℕ) (x : X) → i < length xs → x ≡ get_or xs i x → written_list (map means (take (i + 1) xs)) ≡ written_list (map means (take i xs)) ++ written_frame (means x)
   written_more xs i x lt is =
-      ap written_list (one_more xs i x lt is) ∙ flat_map-append written_frame (map means (take i xs)) (means x ∷ [])
+      ap written_list (one_more means xs i x lt is) ∙ flat_map-append written_frame (map means (take i xs)) (means x ∷ [])
       ∙ ap (λ (t : List ℕ). written_list (map means (take i xs)) ++ t) (append-nil (written_frame (means x)))
 
   -- what is written so far and the next frame are no longer than the whole
@@ -55,20 +70,6 @@ module _ {X : Type 0} (means : X → AttrValue) where
       let more = written_more xs i x lt is in
       omega (arith, ap length split, length-append (written_list (map means front)) (written_list (map means back)), ap length more, length-append (written_list (map means (take i xs))) (written_frame (means x)))
 
-  -- a fact of the values so far and of the next
-  pub all_more : (P : AttrValue → Type 0) (xs : List X) (i : ℕ) (x : X) → i < length xs → x ≡ get_or xs i x → AllByRecursion P (map means (take i xs)) → P (means x) → AllByRecursion P (map means (take (i + 1) xs))
-  all_more P xs i x lt is all here = subst (AllByRecursion P) (sym (one_more xs i x lt is)) (push (map means (take i xs)) all)
-    where
-      push : (vs : List AttrValue) → AllByRecursion P vs → AllByRecursion P (vs ++ means x ∷ [])
-      push [] h = (here, tt)
-      push (v ∷ vs) h = (h.0, push vs h.1)
-
-  -- each element's own fact
-  pub all_at : (P : AttrValue → Type 0) (xs : List X) (i : ℕ) (d : X) → AllByRecursion P (map means xs) → i < length xs → P (means (get_or xs i d))
-  all_at P [] i d all lt = absurd (omega arith)
-  all_at P (x ∷ xs) zero d all lt = all.0
-  all_at P (x ∷ xs) (suc i) d all lt = all_at P xs i d all.1 (omega arith)
-
   -- the first value that does not fit, where all before it do
   pub first_unfit_at : (xs : List X) (i : ℕ) (x : X) → i < length xs → x ≡ get_or xs i x → AllByRecursion Fits (map means (take i xs)) → 65531 < length (written_payload (means x)) → IsFirstUnfit (map means xs) i
   first_unfit_at xs i x lt is all long =
@@ -79,7 +80,7 @@ module _ {X : Type 0} (means : X → AttrValue) where
         before = before;
         value = means x;
         after = map means back;
-        values = ap (map means) (sym (take-append-drop (i + 1) xs)) ∙ map-append means front back ∙ ap (λ vs. vs ++ map means back) (one_more xs i x lt is) ∙ append_assoc before (means x ∷ []) (map means back);
+        values = ap (map means) (sym (take-append-drop (i + 1) xs)) ∙ map-append means front back ∙ ap (λ vs. vs ++ map means back) (one_more means xs i x lt is) ∙ append_assoc before (means x ∷ []) (map means back);
         place = omega (arith, length-map (take i xs) means, length-take i xs);
         fit = all;
         unfit = long;

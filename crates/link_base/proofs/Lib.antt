@@ -9,6 +9,7 @@ pub mod Values
 pub mod Written
 pub mod Rewritings
 pub mod Addresses
+pub mod AddressLists
 pub mod Leaves
 pub mod Contents
 pub mod TableLaws
@@ -16,9 +17,11 @@ pub mod Begins
 pub mod Emit
 pub mod Steps
 pub mod Lifted
+pub mod KindFaults
 pub mod JoinedLemmas
 pub mod LimitLemmas
 pub mod PlainLemmas
 pub mod ItemLemmas
 pub mod Naming
 pub mod FlagLemmas
+pub mod Layouts

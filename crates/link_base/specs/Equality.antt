@@ -1,5 +1,5 @@
 -- Tests of equality that look at all that a value means: what a derived `==` compares, case by case and field by field.
-use Rattle.std.specs.Prelude.{◌≡◌, ℕ, ℤ, nat_eq, ◌==◌, ◌&&◌, ◌⊎◌, Bool, true, false, List, [], ◌∷◌, map}
+use Rattle.std.specs.Prelude.{◌≡◌, ℕ, ℤ, nat_eq, string_eq, string_bytes, ◌==◌, ◌&&◌, ◌⊎◌, Bool, true, false, List, [], ◌∷◌, map}
 use Rattle.std.specs.Bool.{beq}
 use Rattle.std.specs.Ordering.{int_eq}
 use Rattle.std.specs.Cmp.{first_so, second_so, unsigned_Decides, signed_Decides, booleans_Decides}
@@ -7,6 +7,7 @@ use Rattle.std.specs.Cmp.Derive.{of_values}
 use Rattle.std.specs.Cmp.Lexicographic.{pointwise, pointwise_decides}
 use Rattle.std.proofs.Common.{refl, sym, ap, ap₂, ◌∙◌, true≢false, inl, inr, Vec}
 use Rattle.std.specs.Global.{Global}
+use Rattle.std.specs.declared.string.String.{String}
 use denote.Struct.Field.{Field}
 use denote.Struct.Values.{Values}
 use denote.Enum.Declared.{Record, Choice, declared}
@@ -16,8 +17,13 @@ use Rattle.link_base.specs.declared.default_nla.DefaultNla.{DefaultNla}
 use Rattle.link_base.specs.declared.vlan_protocol.VlanProtocol.{VlanProtocol}
 use Rattle.link_base.specs.declared.vlan_protocol.VlanProtocol.TheVariants.{Ieee8021Q, Ieee8021Ad}
 use Rattle.link_base.specs.contracts.vlan_protocol.VlanProtocol.{enum}
-use Rattle.link_base.specs.Table.{Leaf, AttrValue, Case, Other, Single, Inner}
+use Rattle.link_base.specs.Table.{Leaf, AttrValue, Case, Other, Single, Inner, Listed}
+use Rattle.std.specs.declared.net.ipv4_addr.Ipv4Addr.{Ipv4Addr}
+use Rattle.std.specs.declared.net.ipv6_addr.Ipv6Addr.{Ipv6Addr}
+use Rattle.std.specs.Net.Addr.{octets_of}
+use Rattle.link_base.specs.Addresses.{sized, four_octets, sixteen_octets}
 use Rattle.link_base.specs.Lift.{lift}
+use Rattle.link_base.specs.Class.{Raw}
 use Rattle.link_base.specs.Default.{default_means}
 
 -- values that pass the test mean the same
@@ -85,6 +91,10 @@ defaults = record {
       (octets.same a.value b.value (second_so (a.kind == b.kind) (pointwise nat_eq a.value b.value) e));
 }
 
+-- texts
+pub texts : IsThorough string_eq (λ (t : String Global). string_bytes t)
+texts = record { same = λ a b e. octets.same (string_bytes a) (string_bytes b) e }
+
 -- two values, each with its test
 pub pairs : {A B : Type 0} {E : A → A → Bool} {F : B → B → Bool} → IsThorough E (λ (a : A). a) → IsThorough F (λ (b : B). b)
     → IsThorough (λ (x y : A × B). E x.0 y.0 && F x.1 y.1) (λ (x : A × B). x)
@@ -92,10 +102,22 @@ pairs {E = E} {F} h k = record {
   same = λ x y e. ap₂ (λ a b. (a, b)) (h.same x.0 y.0 (first_so (E x.0 y.0) (F x.1 y.1) e)) (k.same x.1 y.1 (second_so (E x.0 y.0) (F x.1 y.1) e));
 }
 
+-- two values, of each a meaning
+pub pairs_by : {A B M L : Type 0} {E : A → A → Bool} {F : B → B → Bool} {means : A → M} {others : B → L} → IsThorough E means → IsThorough F others
+    → IsThorough {M = M × L} (λ (x y : A × B). E x.0 y.0 && F x.1 y.1) (λ (x : A × B). (means x.0, others x.1))
+pairs_by {E = E} {F} h k = record {
+  same = λ x y e. ap₂ (λ a b. (a, b)) (h.same x.0 y.0 (first_so (E x.0 y.0) (F x.1 y.1) e)) (k.same x.1 y.1 (second_so (E x.0 y.0) (F x.1 y.1) e));
+}
+
 -- a struct of one part
 pub wrapped : {K J : Type 0} {eq : J → J → Bool} (part : K → J) (wrap : J → K) → ((a : K) → wrap (part a) ≡ a) → IsThorough eq (λ (x : J). x)
     → IsThorough (λ a b. eq (part a) (part b)) (λ (a : K). a)
 wrapped part wrap back h = record { same = λ a b e. sym (back a) ∙ ap wrap (h.same (part a) (part b) e) ∙ back b }
+
+-- the parts of a value, and what their meanings make
+pub through : {K J M L : Type 0} {eq : J → J → Bool} {means : J → M} (part : K → J) (make : M → L) → IsThorough eq means
+    → IsThorough (λ a b. eq (part a) (part b)) (λ (a : K). make (means (part a)))
+through part make h = record { same = λ a b e. ap make (h.same (part a) (part b) e) }
 
 -- lists, element by element
 each : {K M : Type 0} {eq : K → K → Bool} {means : K → M} → IsThorough eq means → (xs ys : List K) → pointwise eq xs ys ≡ true → map means xs ≡ map means ys
@@ -124,6 +146,21 @@ lists {leaf = leaf} {k} {flagged} h = record {
   same = λ xs ys e. ap (λ vs. Case k (Inner flagged vs)) (each (unlifted h) xs.items ys.items e);
 }
 
+-- bytes in a vector
+pub byte_vectors : {k : ℕ} → IsThorough (λ (xs ys : Vec ℕ Global). pointwise nat_eq xs.items ys.items) (λ xs. Case k (Single (Raw xs.items)))
+byte_vectors {k} = record { same = λ xs ys e. ap (λ bytes. Case k (Single (Raw bytes))) (octets.same xs.items ys.items e) }
+
+-- IP addresses in a vector
+addresses : {A : Type 0} {eq : A → A → Bool} {octets : A → List ℕ} {k : ℕ} → IsThorough eq octets
+    → IsThorough (λ (xs ys : Vec A Global). pointwise eq xs.items ys.items) (λ xs. Case k (Listed (map octets xs.items)))
+addresses {k = k} h = record { same = λ xs ys e. ap (λ all. Case k (Listed all)) (each h xs.items ys.items e) }
+
+pub four : {k : ℕ} → IsThorough (λ (xs ys : Vec Ipv4Addr Global). pointwise (λ a b. pointwise nat_eq a.octets b.octets) xs.items ys.items) (λ xs. Case k (Listed (map four_octets xs.items)))
+four = addresses (record { same = λ a b e. ap (sized 4) (octets.same a.octets b.octets e) })
+
+pub sixteen : {k : ℕ} → IsThorough (λ (xs ys : Vec Ipv6Addr Global). pointwise (λ a b. pointwise nat_eq a.segments b.segments) xs.items ys.items) (λ xs. Case k (Listed (map sixteen_octets xs.items)))
+sixteen = addresses (record { same = λ a b e. ap (λ segments. sized 16 (octets_of segments)) (octets.same a.segments b.segments e) })
+
 -- 802.1Q and 802.1ad
 two_protocols : (p q : VlanProtocol) → sameb (declared enum) p q ≡ true → p ≡ q
 two_protocols Ieee8021Q Ieee8021Q e = refl
@@ -135,4 +172,4 @@ pub protocols : IsThorough (sameb (declared enum)) (λ (p : VlanProtocol). p)
 protocols = record { same = two_protocols }
 
 -- what `search` finds the tests of fields by
-pub ruleset thorough_fields = (defaults, numbers, integers, truths, octets, protocols, lists, anything)
+pub ruleset thorough_fields = (defaults, byte_vectors, four, sixteen, numbers, integers, truths, octets, protocols, lists, anything)

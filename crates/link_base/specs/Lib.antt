@@ -11,7 +11,9 @@ pub mod Texts
 pub mod Buffer
 pub mod Answers
 pub mod Address
+pub mod Addresses
 pub mod Pair
+pub mod Layout
 pub mod Named
 pub mod Protocol
 pub mod Default

@@ -1,6 +1,7 @@
 //! Lists of netlink attributes: their framing, what they read as, and how they are written.
 #![tactic(auto)]
 
+mod address_list;
 mod attribute;
 mod buffer;
 mod buffer_tool;
@@ -15,6 +16,7 @@ mod named;
 pub mod named_laws;
 mod nested;
 mod octets;
+mod records;
 mod scalars;
 #[cfg(test)]
 mod tests;
@@ -22,6 +24,7 @@ mod try_clone;
 mod vlan_protocol;
 mod writing;
 
+pub use address_list::{Address, addresses_len, emit_addresses, read_addresses};
 pub use attribute::{Attribute, Meaning, Nla, Parseable};
 pub use buffer::NlaBuffer;
 pub use buffer_tool::expand_buffer_if_small;
@@ -31,6 +34,7 @@ pub use iterator::NlasIterator;
 pub use list::read_list;
 pub use named::NamedNumber;
 pub use nested::{NestedAttribute, emit_nested, nested_len, read_nested};
+pub use records::{at_least, emit_u32s, fixed, u16_at, u32_at};
 pub use scalars::{
     emit_i32, emit_mac, emit_u8, emit_u16, emit_u16_be, emit_u32, emit_u32_pair, emit_u64,
     parse_i32, parse_ip, parse_mac, parse_u8, parse_u16, parse_u16_be, parse_u32, parse_u32_pair,

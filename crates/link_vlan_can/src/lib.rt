@@ -1,6 +1,12 @@
-//! The link attributes of VLANs, CAN controllers, and DSA and HSR devices: so far those of VLAN, DSA and HSR.
+//! The link attributes of VLANs, CAN controllers, and DSA and HSR devices.
 #![tactic(auto)]
 
+mod can;
+mod can_flags;
+mod can_limits;
+mod can_modes;
+mod can_records;
+mod can_tdc;
 mod dsa;
 mod hsr;
 #[cfg(test)]
@@ -8,6 +14,12 @@ mod tests;
 mod vlan;
 mod vlan_flags;
 
+pub use can::InfoCan;
+pub use can_flags::CanCtrlModeFlags;
+pub use can_limits::CanBitTimingConst;
+pub use can_modes::CanCtrlModeExt;
+pub use can_records::{CanBerrCounter, CanBitTiming, CanClock, CanCtrlMode};
+pub use can_tdc::CanTdc;
 pub use dsa::InfoDsa;
 pub use hsr::{HsrProtocol, InfoHsr};
 pub use vlan::{InfoVlan, VlanQosMapping};

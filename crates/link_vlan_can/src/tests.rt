@@ -1,5 +1,9 @@
 //! What no clause says: worked bytes, displayed texts, and calls that succeed.
 
+mod can;
+mod can_flags;
+mod can_lists;
+mod can_names;
 mod dsa;
 mod flags;
 mod hsr;

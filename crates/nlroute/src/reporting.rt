@@ -9,7 +9,8 @@ ghost use Rattle.nlroute.specs.Report.{Reports, Prints, digits_of, fault_line, t
 use crate::family::Family;
 use hex::FromHexError;
 use link_base::{Attribute, DecodeFault, ListError, WriteError, read_list, write_list};
-use link_vlan_can::{InfoDsa, InfoHsr, InfoVlan};
+use link_bond::{InfoBond, InfoBondPort};
+use link_vlan_can::{InfoCan, InfoDsa, InfoHsr, InfoVlan};
 use std::alloc::{AllocError, Global};
 
 /// The most bytes of a text.
@@ -35,7 +36,10 @@ pub fn report(alloc: Global, family: Family, text: &[u8]) -> Result<(String, u8)
         Err(_) => return Ok((String::from_str(alloc, "bad hex\n")?, 2)),
     };
     match family {
+        Family::Bond => report_bytes::<InfoBond>(alloc, &bytes),
+        Family::BondPort => report_bytes::<InfoBondPort>(alloc, &bytes),
         Family::Vlan => report_bytes::<InfoVlan>(alloc, &bytes),
+        Family::Can => report_bytes::<InfoCan>(alloc, &bytes),
         Family::Dsa => report_bytes::<InfoDsa>(alloc, &bytes),
         Family::Hsr => report_bytes::<InfoHsr>(alloc, &bytes),
     }

@@ -8,7 +8,8 @@ ghost use Rattle.nlroute.specs.Rewrite.{RewriteAnswers, OnRewriteMemory, ReadsBa
 
 use crate::family::Family;
 use link_base::{Attribute, DecodeFault, ListError, WriteError, read_list, write_list};
-use link_vlan_can::{InfoDsa, InfoHsr, InfoVlan};
+use link_bond::{InfoBond, InfoBondPort};
+use link_vlan_can::{InfoCan, InfoDsa, InfoHsr, InfoVlan};
 use std::alloc::{AllocError, Global};
 use thiserror::Error;
 
@@ -42,7 +43,10 @@ pub fn rewrite(alloc: Global, family: Family, bytes: &[u8]) -> Result<Vec<u8>, R
     ensures settles { IfOk result (λ out. Settles (table_of family) out.items) }
 {
     match family {
+        Family::Bond => rewrite_as::<InfoBond>(alloc, bytes),
+        Family::BondPort => rewrite_as::<InfoBondPort>(alloc, bytes),
         Family::Vlan => rewrite_as::<InfoVlan>(alloc, bytes),
+        Family::Can => rewrite_as::<InfoCan>(alloc, bytes),
         Family::Dsa => rewrite_as::<InfoDsa>(alloc, bytes),
         Family::Hsr => rewrite_as::<InfoHsr>(alloc, bytes),
     }

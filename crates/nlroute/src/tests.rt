@@ -1,5 +1,7 @@
 //! What no clause says: worked texts, refused devices, printed texts, and that memory suffices.
 
+mod bonds;
+mod controllers;
 mod devices;
 mod families;
 mod long_values;

@@ -1,12 +1,17 @@
 //! The law of equality, once at each type.
 
-use crate::{HsrProtocol, InfoDsa, InfoHsr, InfoVlan, VlanQosMapping};
+use crate::{
+    CanCtrlModeExt, CanTdc, HsrProtocol, InfoCan, InfoDsa, InfoHsr, InfoVlan, VlanQosMapping,
+};
 use link_base::{laws, named_laws};
 
 #[test]
 fn equality() {
     laws::equality::<VlanQosMapping>();
     laws::equality::<InfoVlan>();
+    laws::equality::<CanTdc>();
+    laws::equality::<CanCtrlModeExt>();
+    laws::equality::<InfoCan>();
     laws::equality::<InfoDsa>();
     laws::equality::<InfoHsr>();
     named_laws::equality::<HsrProtocol>();

@@ -26,7 +26,7 @@ fn rewriting_line(alloc: Global, family: Family, text: &str) -> Result<String, F
     }
 }
 
-fn reports(
+pub(crate) fn reports(
     rt: &impl Abort,
     alloc: Global,
     family: Family,
@@ -44,7 +44,14 @@ fn reports(
 
 #[test]
 fn no_bytes(rt: HostRuntime) -> Result<(), Fail> {
-    for family in [Family::Vlan, Family::Dsa, Family::Hsr] {
+    for family in [
+        Family::Bond,
+        Family::BondPort,
+        Family::Vlan,
+        Family::Can,
+        Family::Dsa,
+        Family::Hsr,
+    ] {
         reports(&rt, rt.alloc(), family, "", "out\nsame\n", 0)?;
     }
     Ok(())
@@ -54,8 +61,16 @@ fn no_bytes(rt: HostRuntime) -> Result<(), Fail> {
 fn one_text_by_each_family(rt: HostRuntime) -> Result<(), Fail> {
     let number = "attr 1 len 4\nout 080001002a000000\nsame\n";
     let fault = "fault at 0: kind 1: wrong length 2 4\n";
+    let short = "fault at 0: kind 1: too short 32 4\n";
     for (family, wanted, status) in [
+        (Family::Bond, "fault at 0: kind 1: wrong length 1 4\n", 1),
+        (
+            Family::BondPort,
+            "fault at 0: kind 1: wrong length 1 4\n",
+            1,
+        ),
         (Family::Vlan, fault, 1),
+        (Family::Can, short, 1),
         (Family::Dsa, number, 0),
         (Family::Hsr, number, 0),
     ] {
@@ -263,11 +278,14 @@ fn rewritings(rt: HostRuntime) -> Result<(), Fail> {
 
 #[test]
 fn names(rt: HostRuntime) {
+    assert_eq!(rt; Family::from_name("bond"), Some(Family::Bond));
+    assert_eq!(rt; Family::from_name("bond_port"), Some(Family::BondPort));
     assert_eq!(rt; Family::from_name("vlan"), Some(Family::Vlan));
+    assert_eq!(rt; Family::from_name("can"), Some(Family::Can));
     assert_eq!(rt; Family::from_name("dsa"), Some(Family::Dsa));
     assert_eq!(rt; Family::from_name("hsr"), Some(Family::Hsr));
     for name in [
-        "VLAN", "Vlan", "vlan ", " vlan", "vla", "vlans", "HSR", "hsr ", "hs", "hsr\0",
+        "VLAN", "Vlan", "vlan ", " vlan", "vla", "vlans", "HSR", "hsr ", "hs", "hsr\0", "CAN", "ca",
     ] {
         assert_eq!(rt; Family::from_name(name), None, "in {name:?}");
     }

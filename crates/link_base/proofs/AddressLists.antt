@@ -1,0 +1,112 @@
+-- Lists of addresses, read and written in a loop.
+use Rattle.std.proofs.Common.{◌≡◌, ℕ, ◌+◌, ◌*◌, ◌-◌, ◌≤◌, ◌<◌, zero, suc, List, [], ◌∷◌, ◌++◌, length, take, drop, get_or, map, Ok, Err, refl, sym, ap, subst, ◌∙◌, arith, append_assoc, length-append}
+use Rattle.std.specs.Prelude.{slice_index, ◌==◌, IsTrue, nat_lt}
+use Rattle.std.proofs.lemmas.Bool.{ltb-true}
+use Rattle.std.proofs.lemmas.List.{length-map, length-take, append-nil}
+use Rattle.std.proofs.lemmas.Grind.{flat_map-append}
+use Rattle.std.proofs.lemmas.List.Elements.{filter-append}
+use Rattle.std.proofs.Math.Nat.{suc-mul, mul-le-mul, mul-le-mul_right}
+use Rattle.link_base.specs.declared.fault.ListError.{ListError}
+use Rattle.link_base.specs.declared.fault.ListError.TheVariants as list_errors
+use Rattle.link_base.specs.Frame.{Frame, frame_bytes, spelled, pad}
+use Rattle.link_base.specs.Wire.{Reading, whole}
+use Rattle.link_base.specs.Table.{AttrValue, Case, Content, Listed, Addresses, ListGives, PayloadGives, ShapeGives, of_length, addresses_from}
+use Rattle.link_base.specs.Addresses.{sized}
+use Rattle.link_base.specs.Answers.{Fails, ListFails, nested_error}
+use Rattle.link_base.proofs.Addresses.{length-whole}
+use Rattle.link_base.proofs.Begins.{Splits}
+use Rattle.link_base.proofs.Emit.{one_more}
+use Rattle.link_base.proofs.Steps.{Continues, continues_none, continues_all, continues_more}
+
+-- ---- octets
+
+-- so many octets of as many are all of them
+pub sized_all : (n : ℕ) (octets : List ℕ) → length octets ≡ n → sized n octets ≡ octets
+sized_all zero [] e = refl
+sized_all zero (b ∷ octets) e = absurd (omega (arith, e))
+sized_all (suc n) [] e = absurd (omega (arith, e))
+sized_all (suc n) (b ∷ octets) e = ap (λ t. b ∷ t) (sized_all n octets (omega (arith, e)))
+
+-- ---- reading
+
+-- what was read so far: payloads, of which those of so many bytes are kept
+pub record Kept (n : ℕ) (s : List ℕ) (octets : List (List ℕ)) (rest : List ℕ) (at : ℕ) : Type 0 where
+  pub payloads : List (List ℕ)
+  pub reads : Continues PayloadGives s payloads rest at
+  pub kept : octets ≡ of_length n payloads
+
+pub kept_none : (n : ℕ) (s : List ℕ) → Kept n s [] s 0
+kept_none n s = record { payloads = []; reads = continues_none PayloadGives s; kept = refl }
+
+-- one element more
+pub kept_more : (n : ℕ) (s : List ℕ) (octets more : List (List ℕ)) (rest next : List ℕ) (at step f : ℕ) (p : List ℕ) → Kept n s octets rest at → Splits rest f p next
+    → step ≡ length rest - length next → more ≡ octets ++ of_length n (p ∷ []) → Kept n s more next (at + step)
+kept_more n s octets more rest next at step f p h split stepped e = record {
+  payloads = h.payloads ++ p ∷ [];
+  reads = continues_more PayloadGives s h.payloads rest next at step f p p h.reads split refl stepped;
+  kept = e ∙ ap (λ t. t ++ of_length n (p ∷ [])) h.kept ∙ sym (filter-append (λ q. length q == n) h.payloads (p ∷ []));
+}
+
+-- at the end
+pub kept_all : (n k : ℕ) (s : List ℕ) (octets : List (List ℕ)) (rest : List ℕ) (at : ℕ) → Kept n s octets rest at → rest ≡ [] → ShapeGives (Addresses n) k s (Ok (Case k (Listed octets)))
+kept_all n k s octets rest at h e =
+    (Ok h.payloads, continues_all PayloadGives s h.payloads rest at h.reads e, ap (λ o. Ok (Case k (Listed o))) h.kept)
+
+-- the first fault of a list is the fault of its attribute
+pub list_fails : {V : Type 0} (gives : Reading V) (content : List V → Content) (k : ℕ) (s : List ℕ) (e : ListError) → ListFails e gives s → Fails (nested_error k e) (ListGives gives content k s)
+list_fails gives content k s (list_errors.Memory e) h = tt
+list_fails gives content k s (list_errors.Fault at f) h = (Err (at, f), h, refl)
+
+-- ---- writing
+
+-- the frames of some addresses, and then those of others
+addresses-append : (i : ℕ) (first others : List (List ℕ)) → addresses_from i (first ++ others) ≡ addresses_from i first ++ addresses_from (i + length first) others
+addresses-append i [] others = ap (λ j. addresses_from j others) (omega arith)
+addresses-append i (a ∷ first) others =
+    ap (λ xs. whole i a ∷ xs) (addresses-append (i + 1) first others ∙ ap (λ j. addresses_from (i + 1) first ++ addresses_from j others) (omega arith))
+
+-- more of them are no fewer in all
+more_times : (i m k : ℕ) → i < m → i * k + k ≤ m * k
+more_times i m k lt = subst (λ t. t ≤ m * k) (suc-mul i k) (mul-le-mul_right k lt)
+
+-- an address has at most 16 octets
+pub few : (n : ℕ) → IsTrue (nat_lt n 17) → n ≤ 16
+few n h = omega (arith, ltb-true n 17 h)
+
+module _ {X : Type 0} (octets : X → List ℕ) (n : ℕ) (same : (x : X) → length (octets x) ≡ n) where
+  -- how long a list is
+  pub length-addresses : (i : ℕ) (xs : List X) → length (spelled (addresses_from i (map octets xs))) ≡ length xs * pad (4 + n)
+  length-addresses i [] = omega arith
+  length-addresses i (x ∷ xs) =
+      let frame = frame_bytes (whole i (octets x)) in
+      let others = spelled (addresses_from (i + 1) (map octets xs)) in
+      let own : length frame ≡ pad (4 + n) = length-whole i (octets x) ∙ ap (λ m. pad (4 + m)) (same x) in
+      omega (arith, length-append frame others, own, length-addresses (i + 1) xs, suc-mul (length xs) (pad (4 + n)))
+
+  -- one more element
+  pub addresses_more : (xs : List X) (i : ℕ) (x : X) → i < length xs → x ≡ get_or xs i x
+      → spelled (addresses_from 0 (map octets (take (i + 1) xs))) ≡ spelled (addresses_from 0 (map octets (take i xs))) ++ frame_bytes (whole i (octets x))
+  addresses_more xs i x lt is =
+      let first = map octets (take i xs) in
+      let place : 0 + length first ≡ i = omega (arith, length-map (take i xs) octets, length-take i xs) in
+      ap (λ t. spelled (addresses_from 0 t)) (one_more octets xs i x lt is)
+      ∙ ap spelled (addresses-append 0 first (octets x ∷ []))
+      ∙ flat_map-append frame_bytes (addresses_from 0 first) (addresses_from (0 + length first) (octets x ∷ []))
+      ∙ ap (λ j. spelled (addresses_from 0 first) ++ spelled (addresses_from j (octets x ∷ []))) place
+      ∙ ap (λ t. spelled (addresses_from 0 first) ++ t) (append-nil (frame_bytes (whole i (octets x))))
+
+  -- what is written so far and the next element are no longer than the whole
+  pub addresses_room : (xs : List X) (i : ℕ) (x : X) → i < length xs
+      → length (spelled (addresses_from 0 (map octets (take i xs)))) + length (frame_bytes (whole i (octets x))) ≤ length (spelled (addresses_from 0 (map octets xs)))
+  addresses_room xs i x lt =
+      let k = pad (4 + n) in
+      let own : length (frame_bytes (whole i (octets x))) ≡ k = length-whole i (octets x) ∙ ap (λ m. pad (4 + m)) (same x) in
+      let before : length (spelled (addresses_from 0 (map octets (take i xs)))) ≡ i * k = length-addresses 0 (take i xs) ∙ ap (λ m. m * k) (omega (arith, length-take i xs)) in
+      omega (arith, own, before, length-addresses 0 xs, more_times i (length xs) k lt)
+
+  -- an element kind is no greater than the length of the list
+  pub kind_short : (xs : List X) (i : ℕ) → i < length xs → i ≤ length (spelled (addresses_from 0 (map octets xs)))
+  kind_short xs i lt =
+      let k = pad (4 + n) in
+      let each : i * 1 ≤ length xs * k = mul-le-mul (omega (arith, lt)) (omega arith) in
+      omega (arith, each, length-addresses 0 xs)

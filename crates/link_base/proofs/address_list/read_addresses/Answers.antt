@@ -1,0 +1,41 @@
+use Rattle.std.proofs.Common.{◌≡◌, ◌≢◌, ◌-◌, map, [], ◌∷◌, ◌++◌, inr, arith, ap, length, drop, subst, ◌∙◌, ℕ, min, sym}
+use Rattle.std.proofs.lemmas.Grind.{common_steps}
+use Rattle.std.proofs.lemmas.List.{length-drop}
+use Rattle.link_base.specs.Frame.{pad}
+use Rattle.link_base.specs.Table.{PayloadGives, Listed, of_length}
+use Rattle.link_base.specs.Buffer.{kind_field_of, payload_of, frame_of}
+use Rattle.link_base.proofs.AddressLists.{kept_more, kept_all, list_fails}
+use Rattle.link_base.proofs.Begins.{Splits, splits, step_of}
+use Rattle.link_base.proofs.Steps.{ends_at_frame, begun}
+use Rattle.link_base.proofs.address_list.read_addresses.Goals as goal
+
+pub returns-in-Err-clause-answer : goal.returns-in-Err-clause-answer
+returns-in-Err-clause-answer g c =
+    let some : c.loop-rest.rest.now ≢ [] = λ e. grind (arith, common_steps) in
+    let n = g.A.Address.SIZE in
+    let s = c.args.payload.now in
+    let ends = ends_at_frame PayloadGives s c.loop-rest.invariant.reads.payloads c.loop-rest.rest.now c.loop-rest.at c.in-Err.error c.loop-rest.invariant.reads.reads some c.in-Err.ensures in
+    rw (c.nested.ensures, c.at.ensures) (list_fails PayloadGives (λ ps. Listed (of_length n ps)) c.args.kind s _ ends)
+
+pub loop-rest-preserved : goal.loop-rest-preserved
+loop-rest-preserved g c =
+    let n = g.A.Address.SIZE in
+    let b = c.in-Ok.element in
+    let s = c.args.payload.now in
+    let rest = c.loop-rest.rest.now in
+    let step = c.step_over-step.result in
+    let stepped : step ≡ step_of rest (payload_of b) = c.step_over-step.ensures ∙ ap (λ (m : ℕ). min (pad m) (length rest)) c.length.ensures in
+    let next = c.split_at.ensures.back in
+    let pushed : map g.A.Address.octets c.keep.new.addresses.items ≡ map g.A.Address.octets c.loop-rest.addresses.items ++ of_length n (payload_of b ∷ []) = grind (arith, common_steps) in
+    let split = subst (λ m. Splits rest (kind_field_of b) (payload_of b) (drop m rest)) (sym stepped) (splits rest (kind_field_of b) (payload_of b) c.in-Ok.ensures) in
+    let far : step ≡ length rest - length (drop step rest) = omega (arith, c.step_over-step.ensures, length-drop step rest) in
+    record {
+      reads = rw next (kept_more n s _ _ rest (drop step rest) c.loop-rest.at step (kind_field_of b) (payload_of b) c.loop-rest.invariant.reads split far pushed);
+      size = omega (arith, c.loop-rest.invariant.size, ap length next, length-drop step rest, c.step_over-step.ensures);
+      begun = inr (begun s rest (frame_of b) c.loop-rest.invariant.begun c.in-Ok.ensures);
+    }
+
+pub returns-clause-answer : goal.returns-clause-answer
+returns-clause-answer g c =
+    let none : c.loop-rest.rest.now ≡ [] = grind (arith, common_steps) in
+    kept_all g.A.Address.SIZE c.args.kind c.args.payload.now _ c.loop-rest.rest.now c.loop-rest.at c.loop-rest.invariant.reads none

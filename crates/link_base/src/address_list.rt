@@ -1,0 +1,188 @@
+//! Lists of IP addresses as the payload of an attribute.
+
+ghost use Rattle.std.specs.Prelude.{◌≡◌, ◌≢◌, ◌≤◌, ◌<◌, ◌^◌, ◌++◌, ◌∷◌, [], ℕ, List, length, map, None, IsTrue, nat_lt, MatchOption, OnOk};
+ghost use Rattle.std.specs.List.{AllByRecursion};
+ghost use Rattle.link_base.specs.Frame.{frame_fault, spelled};
+ghost use Rattle.link_base.specs.Table.{Case, Listed, Addresses, ShapeGives, addresses_from, of_length};
+ghost use Rattle.link_base.specs.Held.{IsOctets};
+ghost use Rattle.link_base.specs.Answers.{Answers, OnMemory, capped};
+
+use crate::attribute::{Meaning, Nla};
+use crate::buffer::NlaBuffer;
+use crate::fault::DecodeError;
+use crate::list::step_over;
+use std::alloc::{AllocError, Global};
+use std::net::{Ipv4Addr, Ipv6Addr};
+
+/// An IP address, as the payload of an element.
+pub trait Address: Copy {
+    /// How many octets an address has.
+    const SIZE: usize;
+
+    ghost SIZE: { ℕ };
+
+    /// The octets of an address, in order.
+    ghost octets: { Self → List ℕ };
+
+    /// There are as many.
+    ghost sized: { (a : Self) → length (octets a) ≡ SIZE };
+
+    /// They are few.
+    ghost few: { IsTrue (nat_lt SIZE 17) };
+
+    /// The address of these octets; `None` where there are more or fewer.
+    fn from_payload(payload: &[u8]) -> Option<Self>
+        ensures { MatchOption result (length payload.now ≢ SIZE) (λ a. (length payload.now ≡ SIZE) × (octets a ≡ payload.now)) };
+
+    /// Writes the octets into a buffer of as many bytes.
+    fn put(&self, buffer: &mut [u8])
+        requires { length buffer.old ≡ SIZE }
+        ensures written { buffer.new ≡ octets self.now }
+        ensures in_range { IsOctets SIZE (octets self.now) };
+}
+
+impl Address for Ipv4Addr {
+    ghost use Rattle.std.specs.Prelude.{refl};
+    ghost use Rattle.link_base.specs.Addresses.{four_octets};
+
+    const SIZE: usize = 4;
+
+    ghost SIZE = { 4 };
+
+    ghost octets = { four_octets };
+
+    ghost sized = { λ a. refl };
+
+    ghost few = { refl };
+
+    fn from_payload(payload: &[u8]) -> Option<Self> {
+        match payload.try_into() {
+            Ok(octets) => Some(Ipv4Addr::from_octets(octets)),
+            Err(_) => None,
+        }
+    }
+
+    fn put(&self, buffer: &mut [u8]) {
+        buffer.copy_from_slice(&self.octets());
+    }
+}
+
+impl Address for Ipv6Addr {
+    ghost use Rattle.std.specs.Prelude.{refl};
+    ghost use Rattle.link_base.specs.Addresses.{sixteen_octets};
+
+    const SIZE: usize = 16;
+
+    ghost SIZE = { 16 };
+
+    ghost octets = { sixteen_octets };
+
+    ghost sized = { λ a. refl };
+
+    ghost few = { refl };
+
+    fn from_payload(payload: &[u8]) -> Option<Self> {
+        match payload.try_into() {
+            Ok(octets) => Some(Ipv6Addr::from_octets(octets)),
+            Err(_) => None,
+        }
+    }
+
+    fn put(&self, buffer: &mut [u8]) {
+        buffer.copy_from_slice(&self.octets());
+    }
+}
+
+/// An element of a list of addresses, as it is written.
+#[derive(Drop)]
+struct Element<A: Address> {
+    kind: u16,
+    address: A,
+    ghost kind_in_range: { kind < 2 ^ 16 },
+}
+
+impl<A: Address> Meaning for Element<A> {
+    ghost use Rattle.link_base.specs.Default.{default_table};
+    ghost use Rattle.link_base.specs.Table.{Other};
+
+    ghost table = { default_table };
+
+    ghost means = { λ e. Other e.kind (A.octets e.address) };
+}
+
+impl<A: Address> Nla for Element<A> {
+    fn kind(&self) -> u16 {
+        self.kind
+    }
+
+    fn value_len(&self) -> usize {
+        A::SIZE
+    }
+
+    fn emit_value(&self, buffer: &mut [u8]) {
+        self.address.put(buffer);
+    }
+}
+
+/// The addresses of the list that is the payload of the attribute of this kind: the elements of as many bytes as an
+/// address has octets, in order. The others are skipped, and the kinds of all are ignored. Fails with `NestedFrame`, or
+/// with `Memory`, but not where the payload begins with no frame.
+pub fn read_addresses<A: Address>(
+    alloc: Global,
+    kind: u16,
+    payload: &[u8],
+) -> Result<Vec<A>, DecodeError>
+    ensures answer { Answers (λ vs. Case kind (Listed (map A.octets vs.items))) result (ShapeGives (Addresses A.SIZE) kind payload.now) }
+    ensures memory { OnMemory result (frame_fault payload.now ≡ None) }
+{
+    let mut addresses = Vec::new(alloc);
+    let mut rest = payload;
+    let mut at = 0usize;
+    while !rest.is_empty() {
+        let element = match NlaBuffer::new_checked(rest) {
+            Ok(element) => element,
+            Err(error) => return Err(error.at(at).nested(kind)),
+        };
+        keep(&mut addresses, element.value()).map_err(DecodeError::Memory)?;
+        let step = step_over(element.length(), rest.len());
+        let (_, after) = rest.split_at(step);
+        rest = after;
+        at += step;
+    }
+    Ok(addresses)
+}
+
+fn keep<A: Address>(addresses: &mut Vec<A>, payload: &[u8]) -> Result<(), AllocError>
+    ensures { OnOk result (map A.octets addresses.new.items ≡ map A.octets addresses.old.items ++ of_length A.SIZE (payload.now ∷ [])) }
+{
+    if let Some(address) = A::from_payload(payload) {
+        addresses.push(address)?;
+    }
+    Ok(())
+}
+
+/// The bytes of a written list of addresses; the greatest `usize` where there are that many or more.
+pub fn addresses_len<A: Address>(addresses: &[A]) -> usize
+    ensures { result ≡ capped (length (spelled (addresses_from 0 (map A.octets addresses.now)))) }
+{
+    addresses.len().saturating_mul((A::SIZE + 7) / 4 * 4)
+}
+
+/// Writes addresses as elements of the kinds 0, 1, 2 and on into a buffer of exactly `addresses_len` bytes, at most
+/// 65531.
+pub fn emit_addresses<A: Address>(addresses: &[A], buffer: &mut [u8])
+    requires fits { length (spelled (addresses_from 0 (map A.octets addresses.now))) ≤ 65531 }
+    requires exact { length buffer.old ≡ length (spelled (addresses_from 0 (map A.octets addresses.now))) }
+    ensures written { buffer.new ≡ spelled (addresses_from 0 (map A.octets addresses.now)) }
+    ensures in_range { AllByRecursion (IsOctets A.SIZE) (map A.octets addresses.now) }
+{
+    let mut at = 0usize;
+    for (i, address) in addresses.iter().enumerate() {
+        let element = Element {
+            kind: i as u16,
+            address: *address,
+        };
+        element.emit(&mut buffer[at..]);
+        at += element.buffer_len();
+    }
+}

@@ -1,0 +1,76 @@
+//! Records: payloads of fields at fixed offsets.
+
+ghost use Rattle.std.specs.Prelude.{◌≡◌, ◌≤◌, ◌+◌, ◌*◌, length, take, drop};
+ghost use Rattle.link_base.specs.Number.{bytes_of};
+ghost use Rattle.link_base.specs.Class.{accepted, AtLeast, Fixed};
+ghost use Rattle.link_base.specs.Layout.{number_at, octets_of};
+ghost use Rattle.link_base.specs.Held.{IsOctets};
+ghost use Rattle.link_base.specs.Answers.{payload_result, OverwritesFront};
+
+use crate::fault::{Cause, DecodeError, DecodeFault};
+use crate::scalars::emit_u32;
+
+/// Whether a payload has so many bytes or more. Fails with `Payload` of `TooShort`.
+pub fn at_least(payload: &[u8], want: usize) -> Result<(), DecodeError>
+    ensures { result ≡ payload_result (accepted (AtLeast want) (λ _. tt) payload.now) }
+{
+    let got = payload.len();
+    if got < want {
+        let cause = Cause::TooShort { want, got };
+        return Err(DecodeError::Fault(DecodeFault::Payload(cause)));
+    }
+    Ok(())
+}
+
+/// Whether a payload has just so many bytes. Fails with `Payload`, of `TooShort` where it has fewer and of
+/// `WrongLength` where it has more.
+pub fn fixed(payload: &[u8], want: usize) -> Result<(), DecodeError>
+    ensures { result ≡ payload_result (accepted (Fixed want) (λ _. tt) payload.now) }
+{
+    at_least(payload, want)?;
+    let got = payload.len();
+    if got > want {
+        let cause = Cause::WrongLength { want, got };
+        return Err(DecodeError::Fault(DecodeFault::Payload(cause)));
+    }
+    Ok(())
+}
+
+/// The number of the two bytes at an offset, the lowest first. They lie within the bytes.
+#[inline]
+pub fn u16_at(bytes: &[u8], offset: usize) -> u16
+    requires { offset + 2 ≤ length bytes.now }
+    ensures value { result ≡ number_at 2 offset bytes.now }
+    ensures octets { bytes_of 2 result ≡ take 2 (drop offset bytes.now) }
+{
+    u16::from_le_bytes([bytes[offset], bytes[offset + 1]])
+}
+
+/// The number of the four bytes at an offset, the lowest first. They lie within the bytes.
+#[inline]
+pub fn u32_at(bytes: &[u8], offset: usize) -> u32
+    requires { offset + 4 ≤ length bytes.now }
+    ensures value { result ≡ number_at 4 offset bytes.now }
+    ensures octets { bytes_of 4 result ≡ take 4 (drop offset bytes.now) }
+{
+    u32::from_le_bytes([
+        bytes[offset],
+        bytes[offset + 1],
+        bytes[offset + 2],
+        bytes[offset + 3],
+    ])
+}
+
+/// Writes numbers to the front of a buffer that has four bytes for each, one after another, the lowest byte first in
+/// each, and leaves the rest.
+pub fn emit_u32s(buffer: &mut [u8], numbers: &[u32])
+    requires { 4 * length numbers.now ≤ length buffer.old }
+    ensures written { OverwritesFront buffer.old buffer.new (octets_of 4 numbers.now) }
+    ensures octets { IsOctets (4 * length numbers.now) (octets_of 4 numbers.now) }
+{
+    let mut at = 0usize;
+    for number in numbers {
+        emit_u32(&mut buffer[at..], *number);
+        at += 4;
+    }
+}

@@ -1,0 +1,47 @@
+-- The attributes of a port of a bond.
+use Rattle.std.specs.Prelude.{[], ◌∷◌}
+use Rattle.link_base.specs.Class.{Unsigned, Signed, Bytes, Named, Low, Number, Integer, Raw, LowByte}
+use Rattle.link_base.specs.Named.{numbers_of, seen_value}
+use Rattle.link_base.specs.Table.{Table, AttrValue, Case, row, One, Single}
+use Rattle.link_base.specs.Default.{default_means}
+use Rattle.link_bond.specs.PortState.{port_state_names, port_state_seen}
+use Rattle.link_bond.specs.MiiStatus.{mii_status_names, mii_status_seen}
+use Rattle.link_bond.specs.ChurnState.{churn_state_names, churn_state_seen}
+use Rattle.link_bond.specs.LacpState.{lacp_bits}
+use Rattle.link_bond.specs.declared.bond_port.InfoBondPort.{InfoBondPort}
+use Rattle.link_bond.specs.declared.bond_port.InfoBondPort.TheVariants as infos
+
+-- IFLA_BOND_SLAVE_STATE, IFLA_BOND_SLAVE_MII_STATUS, IFLA_BOND_SLAVE_LINK_FAILURE_COUNT, IFLA_BOND_SLAVE_PERM_HWADDR,
+-- IFLA_BOND_SLAVE_QUEUE_ID, IFLA_BOND_SLAVE_AD_AGGREGATOR_ID, IFLA_BOND_SLAVE_AD_ACTOR_OPER_PORT_STATE,
+-- IFLA_BOND_SLAVE_AD_PARTNER_OPER_PORT_STATE, IFLA_BOND_SLAVE_PRIO, IFLA_BOND_SLAVE_ACTOR_PORT_PRIO,
+-- IFLA_BOND_SLAVE_AD_CHURN_ACTOR_STATE, IFLA_BOND_SLAVE_AD_CHURN_PARTNER_STATE
+abbrev pub bond_port_table : Table
+bond_port_table =
+    row 1 (One (Named 1 (numbers_of port_state_names))) ∷
+    row 2 (One (Named 1 (numbers_of mii_status_names))) ∷
+    row 3 (One (Unsigned 4)) ∷
+    row 4 (One Bytes) ∷
+    row 5 (One (Unsigned 2)) ∷
+    row 6 (One (Unsigned 2)) ∷
+    row 7 (One (Unsigned 1)) ∷
+    row 8 (One Low) ∷
+    row 9 (One Signed) ∷
+    row 10 (One (Unsigned 2)) ∷
+    row 11 (One (Named 1 (numbers_of churn_state_names))) ∷
+    row 12 (One (Named 1 (numbers_of churn_state_names))) ∷ []
+
+-- the attribute that a value stands for
+abbrev pub bond_port_means : InfoBondPort → AttrValue
+bond_port_means (infos.BondPortState state) = Case 1 (Single (seen_value 1 (numbers_of port_state_names) (port_state_seen state)))
+bond_port_means (infos.MiiStatus status) = Case 2 (Single (seen_value 1 (numbers_of mii_status_names) (mii_status_seen status)))
+bond_port_means (infos.LinkFailureCount count) = Case 3 (Single (Number 4 count))
+bond_port_means (infos.PermHwaddr address) = Case 4 (Single (Raw address.items))
+bond_port_means (infos.QueueId id) = Case 5 (Single (Number 2 id))
+bond_port_means (infos.AdAggregatorId id) = Case 6 (Single (Number 2 id))
+bond_port_means (infos.AdActorOperPortState state) = Case 7 (Single (Number 1 (lacp_bits state)))
+bond_port_means (infos.AdPartnerOperPortState state) = Case 8 (Single (LowByte (lacp_bits state)))
+bond_port_means (infos.Prio priority) = Case 9 (Single (Integer priority))
+bond_port_means (infos.ActorPortPrio priority) = Case 10 (Single (Number 2 priority))
+bond_port_means (infos.AdChurnActorState state) = Case 11 (Single (seen_value 1 (numbers_of churn_state_names) (churn_state_seen state)))
+bond_port_means (infos.AdChurnPartnerState state) = Case 12 (Single (seen_value 1 (numbers_of churn_state_names) (churn_state_seen state)))
+bond_port_means (infos.Other other) = default_means other

@@ -1,0 +1,25 @@
+-- The state of one side of a LACP link: its flags and their bits.
+use Rattle.std.specs.Prelude.{◌≡◌, ◌-◌, ◌^◌, ℕ, List, [], ◌∷◌, codes, refl}
+use Rattle.bitflags.specs.Sets.{Row, known_from, known_bits}
+use Rattle.link_bond.specs.declared.bond_port.lacp_state.LacpState.{LacpState}
+
+-- the bits of a set
+abbrev pub lacp_bits : LacpState → ℕ
+lacp_bits state = state.0
+
+-- LACP_STATE_LACP_ACTIVITY and the others
+abbrev pub lacp_flags : List Row
+lacp_flags =
+    (codes "LACP_ACTIVITY", 1) ∷
+    (codes "LACP_TIMEOUT", 2) ∷
+    (codes "AGGREGATION", 4) ∷
+    (codes "SYNCHRONIZATION", 8) ∷
+    (codes "COLLECTING", 16) ∷
+    (codes "DISTRIBUTING", 32) ∷
+    (codes "DEFAULTED", 64) ∷
+    (codes "EXPIRED", 128) ∷ []
+
+-- every bit has a name
+pub every_lacp_bit : known_bits lacp_flags ≡ 2 ^ 8 - 1
+unfolding known_from
+every_lacp_bit = refl

@@ -1,0 +1,137 @@
+//! The active aggregate of a bond.
+
+use link_base::{
+    Attribute, DecodeError, DefaultNla, Meaning, NestedAttribute, Nla, NlaBuffer, Parseable,
+    TryClone, emit_mac, emit_u16, parse_mac, parse_u16,
+};
+use std::alloc::{AllocError, Global};
+
+// `include/uapi/linux/if_link.h`
+const IFLA_BOND_AD_INFO_AGGREGATOR: u16 = 1;
+
+const IFLA_BOND_AD_INFO_NUM_PORTS: u16 = 2;
+
+const IFLA_BOND_AD_INFO_ACTOR_KEY: u16 = 3;
+
+const IFLA_BOND_AD_INFO_PARTNER_KEY: u16 = 4;
+
+const IFLA_BOND_AD_INFO_PARTNER_MAC: u16 = 5;
+
+/// What the kernel tells of the active aggregate of a bond in the mode `Ieee8023Ad` (`IFLA_BOND_AD_INFO_*`,
+/// `include/uapi/linux/if_link.h`).
+#[derive(Debug, PartialEq, Eq, Drop)]
+pub enum BondAdInfo {
+    /// The identifier of the aggregate (`IFLA_BOND_AD_INFO_AGGREGATOR`, two bytes).
+    Aggregator(u16),
+    /// The number of its ports (`IFLA_BOND_AD_INFO_NUM_PORTS`, two bytes).
+    NumPorts(u16),
+    /// The key of this side in LACP (`IFLA_BOND_AD_INFO_ACTOR_KEY`, two bytes).
+    ActorKey(u16),
+    /// The key of the peer (`IFLA_BOND_AD_INFO_PARTNER_KEY`, two bytes).
+    PartnerKey(u16),
+    /// The hardware address of the peer's system (`IFLA_BOND_AD_INFO_PARTNER_MAC`, six octets).
+    PartnerMac([u8; 6]),
+    /// An element of any other kind.
+    Other(DefaultNla),
+}
+
+impl TryClone for BondAdInfo {
+    fn try_clone(&self, alloc: Global) -> Result<Self, AllocError> {
+        match self {
+            BondAdInfo::Aggregator(number) => Ok(BondAdInfo::Aggregator(*number)),
+            BondAdInfo::NumPorts(count) => Ok(BondAdInfo::NumPorts(*count)),
+            BondAdInfo::ActorKey(key) => Ok(BondAdInfo::ActorKey(*key)),
+            BondAdInfo::PartnerKey(key) => Ok(BondAdInfo::PartnerKey(*key)),
+            BondAdInfo::PartnerMac(address) => Ok(BondAdInfo::PartnerMac(*address)),
+            BondAdInfo::Other(other) => Ok(BondAdInfo::Other(other.try_clone(alloc)?)),
+        }
+    }
+}
+
+impl Meaning for BondAdInfo {
+    ghost use Rattle.link_base.specs.Lift.{lift, lift_table};
+    ghost use Rattle.link_bond.specs.AdInfo.{ad_info_rows, ad_info_leaf};
+
+    ghost table = { lift_table ad_info_rows };
+
+    ghost means = { λ info. lift (ad_info_leaf info) };
+}
+
+impl Nla for BondAdInfo {
+    fn kind(&self) -> u16 {
+        match self {
+            BondAdInfo::Aggregator(_) => IFLA_BOND_AD_INFO_AGGREGATOR,
+            BondAdInfo::NumPorts(_) => IFLA_BOND_AD_INFO_NUM_PORTS,
+            BondAdInfo::ActorKey(_) => IFLA_BOND_AD_INFO_ACTOR_KEY,
+            BondAdInfo::PartnerKey(_) => IFLA_BOND_AD_INFO_PARTNER_KEY,
+            BondAdInfo::PartnerMac(_) => IFLA_BOND_AD_INFO_PARTNER_MAC,
+            BondAdInfo::Other(other) => other.kind(),
+        }
+    }
+
+    fn value_len(&self) -> usize {
+        match self {
+            BondAdInfo::Aggregator(_)
+            | BondAdInfo::NumPorts(_)
+            | BondAdInfo::ActorKey(_)
+            | BondAdInfo::PartnerKey(_) => 2,
+            BondAdInfo::PartnerMac(address) => address.as_slice().len(),
+            BondAdInfo::Other(other) => other.value_len(),
+        }
+    }
+
+    fn emit_value(&self, buffer: &mut [u8]) {
+        match self {
+            BondAdInfo::Aggregator(number) => emit_u16(buffer, *number),
+            BondAdInfo::NumPorts(count) => emit_u16(buffer, *count),
+            BondAdInfo::ActorKey(key) => emit_u16(buffer, *key),
+            BondAdInfo::PartnerKey(key) => emit_u16(buffer, *key),
+            BondAdInfo::PartnerMac(address) => emit_mac(buffer, address),
+            BondAdInfo::Other(other) => other.emit_value(buffer),
+        }
+    }
+}
+
+impl Parseable for BondAdInfo {
+    fn parse_payload(alloc: Global, buffer: &NlaBuffer<'_>) -> Result<Self, DecodeError> {
+        let payload = buffer.value();
+        match buffer.kind() {
+            IFLA_BOND_AD_INFO_AGGREGATOR => parse_u16(payload).map(Self::Aggregator),
+            IFLA_BOND_AD_INFO_NUM_PORTS => parse_u16(payload).map(Self::NumPorts),
+            IFLA_BOND_AD_INFO_ACTOR_KEY => parse_u16(payload).map(Self::ActorKey),
+            IFLA_BOND_AD_INFO_PARTNER_KEY => parse_u16(payload).map(Self::PartnerKey),
+            IFLA_BOND_AD_INFO_PARTNER_MAC => parse_mac(payload).map(Self::PartnerMac),
+            _ => DefaultNla::parse(alloc, buffer).map(Self::Other),
+        }
+    }
+}
+
+impl Attribute for BondAdInfo {
+    ghost use Rattle.std.specs.Prelude.{refl};
+    ghost use Rattle.link_base.proofs.TableLaws.{lawful};
+    ghost use Rattle.link_base.specs.Lift.{lift_table};
+    ghost use Rattle.link_bond.specs.AdInfo.{ad_info_rows};
+    ghost use Rattle.link_base.specs.Equality.{of_cases, thorough_fields};
+    ghost use Rattle.link_bond.specs.contracts.bond.ad_info.BondAdInfo.{enum};
+
+    ghost lawful = { lawful (lift_table ad_info_rows) };
+
+    ghost well_formed = { refl };
+
+    ghost thorough = { of_cases enum _ _ (Prim.search (thorough_fields)) };
+}
+
+impl NestedAttribute for BondAdInfo {
+    ghost use Rattle.std.specs.Prelude.{false, refl};
+    ghost use Rattle.link_bond.specs.AdInfo.{ad_info_rows, ad_info_leaf};
+
+    ghost rows = { ad_info_rows };
+
+    ghost flagged = { false };
+
+    ghost leaf = { ad_info_leaf };
+
+    ghost same_table = { refl };
+
+    ghost same_means = { λ _. refl };
+}

@@ -1,0 +1,126 @@
+//! How a bond chooses its aggregate.
+
+use link_base::{DecodeError, DecodeFault, NamedNumber};
+use std::fmt;
+use std::str::FromStr;
+
+// `include/net/bond_3ad.h`
+const BOND_AD_STABLE: u8 = 0;
+
+const BOND_AD_BANDWIDTH: u8 = 1;
+
+const BOND_AD_COUNT: u8 = 2;
+
+const BOND_AD_PRIO: u8 = 3;
+
+/// How the active aggregate is chosen in the mode `Ieee8023Ad` (`BOND_AD_*`, `include/net/bond_3ad.h`).
+#[derive(Clone, Copy, Debug, PartialEq, Eq)]
+pub enum BondAdSelect {
+    /// That of the largest bandwidth; chosen anew only when all its ports are down, or it has none (`BOND_AD_STABLE`,
+    /// 0).
+    Stable,
+    /// That of the largest bandwidth; chosen anew whenever a port or a link changes (`BOND_AD_BANDWIDTH`, 1).
+    Bandwidth,
+    /// That of the most ports; chosen anew whenever a port or a link changes (`BOND_AD_COUNT`, 2).
+    Count,
+    /// That of the highest total of its ports' priorities; chosen anew whenever a port or a link changes
+    /// (`BOND_AD_PRIO`, 3).
+    ActorPortPrio,
+    /// Any other number.
+    Other(u8),
+}
+
+impl NamedNumber for BondAdSelect {
+    ghost use Rattle.std.specs.Prelude.{refl};
+    ghost use Rattle.link_base.specs.Equality.{of_cases, thorough_fields};
+    ghost use Rattle.link_bond.specs.contracts.bond.ad_select.BondAdSelect.{enum};
+    ghost use Rattle.link_bond.specs.AdSelect.{ad_select_names, ad_select_seen, ad_select_cases};
+
+    ghost names = { ad_select_names };
+
+    ghost seen = { ad_select_seen };
+
+    ghost cases_hold = { (refl, (refl, (refl, (refl, tt)))) };
+
+    ghost other_holds = { λ _. refl };
+
+    ghost no_more = { ad_select_cases };
+
+    ghost well_named = { refl };
+
+    ghost thorough = { of_cases enum _ _ (Prim.search (thorough_fields)) };
+}
+
+/// The case of a number, `Other` where it has no name.
+impl From<u8> for BondAdSelect {
+    ghost use Rattle.std.specs.Prelude.{◌≡◌};
+    ghost use Rattle.link_base.specs.Named.{value_of};
+
+    ghost from_gives = { λ d v. v ≡ value_of ⟦<BondAdSelect as NamedNumber>⟧.names d };
+
+    fn from(number: u8) -> Self {
+        match number {
+            BOND_AD_STABLE => BondAdSelect::Stable,
+            BOND_AD_BANDWIDTH => BondAdSelect::Bandwidth,
+            BOND_AD_COUNT => BondAdSelect::Count,
+            BOND_AD_PRIO => BondAdSelect::ActorPortPrio,
+            _ => BondAdSelect::Other(number),
+        }
+    }
+}
+
+/// The number of a case.
+impl From<BondAdSelect> for u8 {
+    ghost use Rattle.std.specs.Prelude.{◌≡◌};
+    ghost use Rattle.link_base.specs.Named.{number_of};
+
+    ghost from_gives = { λ v d. d ≡ number_of (⟦<BondAdSelect as NamedNumber>⟧.seen v) };
+
+    fn from(value: BondAdSelect) -> u8 {
+        match value {
+            BondAdSelect::Stable => BOND_AD_STABLE,
+            BondAdSelect::Bandwidth => BOND_AD_BANDWIDTH,
+            BondAdSelect::Count => BOND_AD_COUNT,
+            BondAdSelect::ActorPortPrio => BOND_AD_PRIO,
+            BondAdSelect::Other(number) => number,
+        }
+    }
+}
+
+/// The name, as `stable`; `unknown-variant (9)` for a number without one.
+impl fmt::Display for BondAdSelect {
+    ghost use Rattle.std.specs.Prelude.{Some};
+    ghost use Rattle.link_base.specs.Named.{displayed};
+
+    ghost output = { λ v. Some (displayed ⟦<BondAdSelect as NamedNumber>⟧.names (⟦<BondAdSelect as NamedNumber>⟧.seen v)) };
+
+    fn fmt<W: fmt::Write>(&self, f: &mut fmt::Formatter<W>) -> fmt::Result {
+        match self {
+            BondAdSelect::Stable => f.write_str("stable"),
+            BondAdSelect::Bandwidth => f.write_str("bandwidth"),
+            BondAdSelect::Count => f.write_str("count"),
+            BondAdSelect::ActorPortPrio => f.write_str("actor_port_prio"),
+            BondAdSelect::Other(number) => write!(f, "unknown-variant ({number})"),
+        }
+    }
+}
+
+/// Reads a displayed name, or the number of one as a digit. Fails with `Text` for every other text.
+impl FromStr for BondAdSelect {
+    type Err = DecodeError;
+
+    ghost use Rattle.link_base.specs.Named.{ReadsText};
+
+    ghost from_str_gives = { λ text result. ReadsText ⟦<BondAdSelect as NamedNumber>⟧.names text result };
+
+    #[tactic(auto, using(std::proofs::lemmas::Fmt::decimal_digit))]
+    fn from_str(text: &str) -> Result<Self, DecodeError> {
+        match text {
+            "stable" | "0" => Ok(BondAdSelect::Stable),
+            "bandwidth" | "1" => Ok(BondAdSelect::Bandwidth),
+            "count" | "2" => Ok(BondAdSelect::Count),
+            "actor_port_prio" | "3" => Ok(BondAdSelect::ActorPortPrio),
+            _ => Err(DecodeError::Fault(DecodeFault::Text)),
+        }
+    }
+}

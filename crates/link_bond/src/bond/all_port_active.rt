@@ -1,0 +1,109 @@
+//! What becomes of frames that arrive at inactive ports of a bond.
+
+use link_base::{DecodeError, DecodeFault, NamedNumber};
+use std::fmt;
+use std::str::FromStr;
+
+// the kernel has no names for these numbers
+const DROPPED: u8 = 0;
+
+const DELIVERED: u8 = 1;
+
+/// What becomes of duplicate frames, those that arrive at an inactive port (`IFLA_BOND_ALL_SLAVES_ACTIVE`,
+/// `include/uapi/linux/if_link.h`).
+#[derive(Clone, Copy, Debug, PartialEq, Eq)]
+pub enum BondAllPortActive {
+    /// They are dropped (0).
+    Dropped,
+    /// They are delivered (1).
+    Delivered,
+    /// Any other number.
+    Other(u8),
+}
+
+impl NamedNumber for BondAllPortActive {
+    ghost use Rattle.std.specs.Prelude.{refl};
+    ghost use Rattle.link_base.specs.Equality.{of_cases, thorough_fields};
+    ghost use Rattle.link_bond.specs.contracts.bond.all_port_active.BondAllPortActive.{enum};
+    ghost use Rattle.link_bond.specs.AllPortActive.{all_port_active_names, all_port_active_seen, all_port_active_cases};
+
+    ghost names = { all_port_active_names };
+
+    ghost seen = { all_port_active_seen };
+
+    ghost cases_hold = { (refl, (refl, tt)) };
+
+    ghost other_holds = { λ _. refl };
+
+    ghost no_more = { all_port_active_cases };
+
+    ghost well_named = { refl };
+
+    ghost thorough = { of_cases enum _ _ (Prim.search (thorough_fields)) };
+}
+
+/// The case of a number, `Other` where it has no name.
+impl From<u8> for BondAllPortActive {
+    ghost use Rattle.std.specs.Prelude.{◌≡◌};
+    ghost use Rattle.link_base.specs.Named.{value_of};
+
+    ghost from_gives = { λ d v. v ≡ value_of ⟦<BondAllPortActive as NamedNumber>⟧.names d };
+
+    fn from(number: u8) -> Self {
+        match number {
+            DROPPED => BondAllPortActive::Dropped,
+            DELIVERED => BondAllPortActive::Delivered,
+            _ => BondAllPortActive::Other(number),
+        }
+    }
+}
+
+/// The number of a case.
+impl From<BondAllPortActive> for u8 {
+    ghost use Rattle.std.specs.Prelude.{◌≡◌};
+    ghost use Rattle.link_base.specs.Named.{number_of};
+
+    ghost from_gives = { λ v d. d ≡ number_of (⟦<BondAllPortActive as NamedNumber>⟧.seen v) };
+
+    fn from(value: BondAllPortActive) -> u8 {
+        match value {
+            BondAllPortActive::Dropped => DROPPED,
+            BondAllPortActive::Delivered => DELIVERED,
+            BondAllPortActive::Other(number) => number,
+        }
+    }
+}
+
+/// The name, as `dropped`; the number where it has none.
+impl fmt::Display for BondAllPortActive {
+    ghost use Rattle.std.specs.Prelude.{Some};
+    ghost use Rattle.link_base.specs.Named.{displayed};
+
+    ghost output = { λ v. Some (displayed ⟦<BondAllPortActive as NamedNumber>⟧.names (⟦<BondAllPortActive as NamedNumber>⟧.seen v)) };
+
+    fn fmt<W: fmt::Write>(&self, f: &mut fmt::Formatter<W>) -> fmt::Result {
+        match self {
+            BondAllPortActive::Dropped => f.write_str("dropped"),
+            BondAllPortActive::Delivered => f.write_str("delivered"),
+            BondAllPortActive::Other(number) => write!(f, "{number}"),
+        }
+    }
+}
+
+/// Reads a displayed name, or the number of one as a digit. Fails with `Text` for every other text.
+impl FromStr for BondAllPortActive {
+    type Err = DecodeError;
+
+    ghost use Rattle.link_base.specs.Named.{ReadsText};
+
+    ghost from_str_gives = { λ text result. ReadsText ⟦<BondAllPortActive as NamedNumber>⟧.names text result };
+
+    #[tactic(auto, using(std::proofs::lemmas::Fmt::decimal_digit))]
+    fn from_str(text: &str) -> Result<Self, DecodeError> {
+        match text {
+            "dropped" | "0" => Ok(BondAllPortActive::Dropped),
+            "delivered" | "1" => Ok(BondAllPortActive::Delivered),
+            _ => Err(DecodeError::Fault(DecodeFault::Text)),
+        }
+    }
+}

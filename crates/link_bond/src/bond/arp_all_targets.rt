@@ -1,0 +1,120 @@
+//! How many of the ARP targets of a bond have to be reached.
+
+use link_base::{DecodeError, DecodeFault, NamedNumber};
+use std::fmt;
+use std::str::FromStr;
+
+// `include/net/bonding.h`
+const BOND_ARP_TARGETS_ANY: u32 = 0;
+
+const BOND_ARP_TARGETS_ALL: u32 = 1;
+
+/// How many of the ARP targets a port has to reach to count as up (`BOND_ARP_TARGETS_*`, `include/net/bonding.h`).
+#[derive(Clone, Copy, Debug, PartialEq, Eq)]
+pub enum BondArpAllTargets {
+    /// One is enough (`BOND_ARP_TARGETS_ANY`, 0).
+    Any,
+    /// All of them (`BOND_ARP_TARGETS_ALL`, 1).
+    All,
+    /// Any other number.
+    Other(u32),
+}
+
+impl NamedNumber for BondArpAllTargets {
+    ghost use Rattle.std.specs.Prelude.{refl};
+    ghost use Rattle.link_base.specs.Equality.{of_cases, thorough_fields};
+    ghost use Rattle.link_bond.specs.contracts.bond.arp_all_targets.BondArpAllTargets.{enum};
+    ghost use Rattle.link_bond.specs.ArpAllTargets.{arp_all_targets_names, arp_all_targets_seen, arp_all_targets_cases};
+
+    ghost names = { arp_all_targets_names };
+
+    ghost seen = { arp_all_targets_seen };
+
+    ghost cases_hold = { (refl, (refl, tt)) };
+
+    ghost other_holds = { λ _. refl };
+
+    ghost no_more = { arp_all_targets_cases };
+
+    ghost well_named = { refl };
+
+    ghost thorough = { of_cases enum _ _ (Prim.search (thorough_fields)) };
+}
+
+/// `Any`.
+impl Default for BondArpAllTargets {
+    ghost use Rattle.std.specs.Prelude.{◌≡◌};
+    ghost use Rattle.link_base.specs.Named.{value_of};
+
+    ghost is_default = { λ v. v ≡ value_of ⟦<BondArpAllTargets as NamedNumber>⟧.names 0 };
+
+    fn default() -> Self {
+        BondArpAllTargets::Any
+    }
+}
+
+/// The case of a number, `Other` where it has no name.
+impl From<u32> for BondArpAllTargets {
+    ghost use Rattle.std.specs.Prelude.{◌≡◌};
+    ghost use Rattle.link_base.specs.Named.{value_of};
+
+    ghost from_gives = { λ d v. v ≡ value_of ⟦<BondArpAllTargets as NamedNumber>⟧.names d };
+
+    fn from(number: u32) -> Self {
+        match number {
+            BOND_ARP_TARGETS_ANY => BondArpAllTargets::Any,
+            BOND_ARP_TARGETS_ALL => BondArpAllTargets::All,
+            _ => BondArpAllTargets::Other(number),
+        }
+    }
+}
+
+/// The number of a case.
+impl From<BondArpAllTargets> for u32 {
+    ghost use Rattle.std.specs.Prelude.{◌≡◌};
+    ghost use Rattle.link_base.specs.Named.{number_of};
+
+    ghost from_gives = { λ v d. d ≡ number_of (⟦<BondArpAllTargets as NamedNumber>⟧.seen v) };
+
+    fn from(value: BondArpAllTargets) -> u32 {
+        match value {
+            BondArpAllTargets::Any => BOND_ARP_TARGETS_ANY,
+            BondArpAllTargets::All => BOND_ARP_TARGETS_ALL,
+            BondArpAllTargets::Other(number) => number,
+        }
+    }
+}
+
+/// The name, as `any`; `unknown-variant (9)` for a number without one.
+impl fmt::Display for BondArpAllTargets {
+    ghost use Rattle.std.specs.Prelude.{Some};
+    ghost use Rattle.link_base.specs.Named.{displayed};
+
+    ghost output = { λ v. Some (displayed ⟦<BondArpAllTargets as NamedNumber>⟧.names (⟦<BondArpAllTargets as NamedNumber>⟧.seen v)) };
+
+    fn fmt<W: fmt::Write>(&self, f: &mut fmt::Formatter<W>) -> fmt::Result {
+        match self {
+            BondArpAllTargets::Any => f.write_str("any"),
+            BondArpAllTargets::All => f.write_str("all"),
+            BondArpAllTargets::Other(number) => write!(f, "unknown-variant ({number})"),
+        }
+    }
+}
+
+/// Reads a displayed name, or the number of one as a digit. Fails with `Text` for every other text.
+impl FromStr for BondArpAllTargets {
+    type Err = DecodeError;
+
+    ghost use Rattle.link_base.specs.Named.{ReadsText};
+
+    ghost from_str_gives = { λ text result. ReadsText ⟦<BondArpAllTargets as NamedNumber>⟧.names text result };
+
+    #[tactic(auto, using(std::proofs::lemmas::Fmt::decimal_digit))]
+    fn from_str(text: &str) -> Result<Self, DecodeError> {
+        match text {
+            "any" | "0" => Ok(BondArpAllTargets::Any),
+            "all" | "1" => Ok(BondArpAllTargets::All),
+            _ => Err(DecodeError::Fault(DecodeFault::Text)),
+        }
+    }
+}

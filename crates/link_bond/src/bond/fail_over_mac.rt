@@ -1,0 +1,128 @@
+//! Which hardware addresses the ports of a bond have.
+
+use link_base::{DecodeError, DecodeFault, NamedNumber};
+use std::fmt;
+use std::str::FromStr;
+
+// `include/net/bonding.h`
+const BOND_FOM_NONE: u8 = 0;
+
+const BOND_FOM_ACTIVE: u8 = 1;
+
+const BOND_FOM_FOLLOW: u8 = 2;
+
+/// Which hardware addresses bond and ports have in the mode `ActiveBackup` (`BOND_FOM_*`, `include/net/bonding.h`).
+#[derive(Clone, Copy, Debug, PartialEq, Eq)]
+pub enum BondFailOverMac {
+    /// All ports have the address of the bond (`BOND_FOM_NONE`, 0).
+    None,
+    /// Ports keep their own, and the bond takes that of the active port (`BOND_FOM_ACTIVE`, 1).
+    Active,
+    /// A port takes the address of the bond when it becomes active (`BOND_FOM_FOLLOW`, 2).
+    Follow,
+    /// Any other number.
+    Other(u8),
+}
+
+impl NamedNumber for BondFailOverMac {
+    ghost use Rattle.std.specs.Prelude.{refl};
+    ghost use Rattle.link_base.specs.Equality.{of_cases, thorough_fields};
+    ghost use Rattle.link_bond.specs.contracts.bond.fail_over_mac.BondFailOverMac.{enum};
+    ghost use Rattle.link_bond.specs.FailOverMac.{fail_over_mac_names, fail_over_mac_seen, fail_over_mac_cases};
+
+    ghost names = { fail_over_mac_names };
+
+    ghost seen = { fail_over_mac_seen };
+
+    ghost cases_hold = { (refl, (refl, (refl, tt))) };
+
+    ghost other_holds = { λ _. refl };
+
+    ghost no_more = { fail_over_mac_cases };
+
+    ghost well_named = { refl };
+
+    ghost thorough = { of_cases enum _ _ (Prim.search (thorough_fields)) };
+}
+
+/// `None`.
+impl Default for BondFailOverMac {
+    ghost use Rattle.std.specs.Prelude.{◌≡◌};
+    ghost use Rattle.link_base.specs.Named.{value_of};
+
+    ghost is_default = { λ v. v ≡ value_of ⟦<BondFailOverMac as NamedNumber>⟧.names 0 };
+
+    fn default() -> Self {
+        BondFailOverMac::None
+    }
+}
+
+/// The case of a number, `Other` where it has no name.
+impl From<u8> for BondFailOverMac {
+    ghost use Rattle.std.specs.Prelude.{◌≡◌};
+    ghost use Rattle.link_base.specs.Named.{value_of};
+
+    ghost from_gives = { λ d v. v ≡ value_of ⟦<BondFailOverMac as NamedNumber>⟧.names d };
+
+    fn from(number: u8) -> Self {
+        match number {
+            BOND_FOM_NONE => BondFailOverMac::None,
+            BOND_FOM_ACTIVE => BondFailOverMac::Active,
+            BOND_FOM_FOLLOW => BondFailOverMac::Follow,
+            _ => BondFailOverMac::Other(number),
+        }
+    }
+}
+
+/// The number of a case.
+impl From<BondFailOverMac> for u8 {
+    ghost use Rattle.std.specs.Prelude.{◌≡◌};
+    ghost use Rattle.link_base.specs.Named.{number_of};
+
+    ghost from_gives = { λ v d. d ≡ number_of (⟦<BondFailOverMac as NamedNumber>⟧.seen v) };
+
+    fn from(value: BondFailOverMac) -> u8 {
+        match value {
+            BondFailOverMac::None => BOND_FOM_NONE,
+            BondFailOverMac::Active => BOND_FOM_ACTIVE,
+            BondFailOverMac::Follow => BOND_FOM_FOLLOW,
+            BondFailOverMac::Other(number) => number,
+        }
+    }
+}
+
+/// The name, as `none`; `unknown-variant (9)` for a number without one.
+impl fmt::Display for BondFailOverMac {
+    ghost use Rattle.std.specs.Prelude.{Some};
+    ghost use Rattle.link_base.specs.Named.{displayed};
+
+    ghost output = { λ v. Some (displayed ⟦<BondFailOverMac as NamedNumber>⟧.names (⟦<BondFailOverMac as NamedNumber>⟧.seen v)) };
+
+    fn fmt<W: fmt::Write>(&self, f: &mut fmt::Formatter<W>) -> fmt::Result {
+        match self {
+            BondFailOverMac::None => f.write_str("none"),
+            BondFailOverMac::Active => f.write_str("active"),
+            BondFailOverMac::Follow => f.write_str("follow"),
+            BondFailOverMac::Other(number) => write!(f, "unknown-variant ({number})"),
+        }
+    }
+}
+
+/// Reads a displayed name, or the number of one as a digit. Fails with `Text` for every other text.
+impl FromStr for BondFailOverMac {
+    type Err = DecodeError;
+
+    ghost use Rattle.link_base.specs.Named.{ReadsText};
+
+    ghost from_str_gives = { λ text result. ReadsText ⟦<BondFailOverMac as NamedNumber>⟧.names text result };
+
+    #[tactic(auto, using(std::proofs::lemmas::Fmt::decimal_digit))]
+    fn from_str(text: &str) -> Result<Self, DecodeError> {
+        match text {
+            "none" | "0" => Ok(BondFailOverMac::None),
+            "active" | "1" => Ok(BondFailOverMac::Active),
+            "follow" | "2" => Ok(BondFailOverMac::Follow),
+            _ => Err(DecodeError::Fault(DecodeFault::Text)),
+        }
+    }
+}

@@ -1,0 +1,108 @@
+//! How often the peer of a bond is asked to send its LACPDUs.
+
+use link_base::{DecodeError, DecodeFault, NamedNumber};
+use std::fmt;
+use std::str::FromStr;
+
+// `include/net/bond_3ad.h`
+const AD_LACP_SLOW: u8 = 0;
+
+const AD_LACP_FAST: u8 = 1;
+
+/// How often the peer is asked to send its LACPDUs in the mode `Ieee8023Ad` (`AD_LACP_*`, `include/net/bond_3ad.h`).
+#[derive(Clone, Copy, Debug, PartialEq, Eq)]
+pub enum BondLacpRate {
+    /// Every 30 seconds (`AD_LACP_SLOW`, 0).
+    Slow,
+    /// Every second (`AD_LACP_FAST`, 1).
+    Fast,
+    /// Any other number.
+    Other(u8),
+}
+
+impl NamedNumber for BondLacpRate {
+    ghost use Rattle.std.specs.Prelude.{refl};
+    ghost use Rattle.link_base.specs.Equality.{of_cases, thorough_fields};
+    ghost use Rattle.link_bond.specs.contracts.bond.lacp_rate.BondLacpRate.{enum};
+    ghost use Rattle.link_bond.specs.LacpRate.{lacp_rate_names, lacp_rate_seen, lacp_rate_cases};
+
+    ghost names = { lacp_rate_names };
+
+    ghost seen = { lacp_rate_seen };
+
+    ghost cases_hold = { (refl, (refl, tt)) };
+
+    ghost other_holds = { λ _. refl };
+
+    ghost no_more = { lacp_rate_cases };
+
+    ghost well_named = { refl };
+
+    ghost thorough = { of_cases enum _ _ (Prim.search (thorough_fields)) };
+}
+
+/// The case of a number, `Other` where it has no name.
+impl From<u8> for BondLacpRate {
+    ghost use Rattle.std.specs.Prelude.{◌≡◌};
+    ghost use Rattle.link_base.specs.Named.{value_of};
+
+    ghost from_gives = { λ d v. v ≡ value_of ⟦<BondLacpRate as NamedNumber>⟧.names d };
+
+    fn from(number: u8) -> Self {
+        match number {
+            AD_LACP_SLOW => BondLacpRate::Slow,
+            AD_LACP_FAST => BondLacpRate::Fast,
+            _ => BondLacpRate::Other(number),
+        }
+    }
+}
+
+/// The number of a case.
+impl From<BondLacpRate> for u8 {
+    ghost use Rattle.std.specs.Prelude.{◌≡◌};
+    ghost use Rattle.link_base.specs.Named.{number_of};
+
+    ghost from_gives = { λ v d. d ≡ number_of (⟦<BondLacpRate as NamedNumber>⟧.seen v) };
+
+    fn from(value: BondLacpRate) -> u8 {
+        match value {
+            BondLacpRate::Slow => AD_LACP_SLOW,
+            BondLacpRate::Fast => AD_LACP_FAST,
+            BondLacpRate::Other(number) => number,
+        }
+    }
+}
+
+/// The name, as `slow`; the number where it has none.
+impl fmt::Display for BondLacpRate {
+    ghost use Rattle.std.specs.Prelude.{Some};
+    ghost use Rattle.link_base.specs.Named.{displayed};
+
+    ghost output = { λ v. Some (displayed ⟦<BondLacpRate as NamedNumber>⟧.names (⟦<BondLacpRate as NamedNumber>⟧.seen v)) };
+
+    fn fmt<W: fmt::Write>(&self, f: &mut fmt::Formatter<W>) -> fmt::Result {
+        match self {
+            BondLacpRate::Slow => f.write_str("slow"),
+            BondLacpRate::Fast => f.write_str("fast"),
+            BondLacpRate::Other(number) => write!(f, "{number}"),
+        }
+    }
+}
+
+/// Reads a displayed name, or the number of one as a digit. Fails with `Text` for every other text.
+impl FromStr for BondLacpRate {
+    type Err = DecodeError;
+
+    ghost use Rattle.link_base.specs.Named.{ReadsText};
+
+    ghost from_str_gives = { λ text result. ReadsText ⟦<BondLacpRate as NamedNumber>⟧.names text result };
+
+    #[tactic(auto, using(std::proofs::lemmas::Fmt::decimal_digit))]
+    fn from_str(text: &str) -> Result<Self, DecodeError> {
+        match text {
+            "slow" | "0" => Ok(BondLacpRate::Slow),
+            "fast" | "1" => Ok(BondLacpRate::Fast),
+            _ => Err(DecodeError::Fault(DecodeFault::Text)),
+        }
+    }
+}

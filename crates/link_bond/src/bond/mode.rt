@@ -1,0 +1,160 @@
+//! The modes of a bond.
+
+use link_base::{DecodeError, DecodeFault, NamedNumber};
+use std::fmt;
+use std::str::FromStr;
+
+// `include/uapi/linux/if_bonding.h`
+const BOND_MODE_ROUNDROBIN: u8 = 0;
+
+const BOND_MODE_ACTIVEBACKUP: u8 = 1;
+
+const BOND_MODE_XOR: u8 = 2;
+
+const BOND_MODE_BROADCAST: u8 = 3;
+
+const BOND_MODE_8023AD: u8 = 4;
+
+const BOND_MODE_TLB: u8 = 5;
+
+const BOND_MODE_ALB: u8 = 6;
+
+/// How a bond spreads traffic over its ports (`BOND_MODE_*`, `include/uapi/linux/if_bonding.h`).
+#[derive(Clone, Copy, Debug, PartialEq, Eq)]
+pub enum BondMode {
+    /// Each packet is sent from the next port in turn (`BOND_MODE_ROUNDROBIN`, 0).
+    BalanceRr,
+    /// One port carries all traffic; another takes over when it fails (`BOND_MODE_ACTIVEBACKUP`, 1).
+    ActiveBackup,
+    /// A hash of the packet chooses the port (`BOND_MODE_XOR`, 2).
+    BalanceXor,
+    /// Every packet is sent from every port (`BOND_MODE_BROADCAST`, 3).
+    Broadcast,
+    /// Ports form aggregates that are agreed with the peer by LACP (IEEE 802.3ad) (`BOND_MODE_8023AD`, 4).
+    Ieee8023Ad,
+    /// What is sent is shared among the ports by their load; one port receives (`BOND_MODE_TLB`, 5).
+    BalanceTlb,
+    /// As `BalanceTlb`, and what is received over IPv4 is shared too, by answers to ARP requests (`BOND_MODE_ALB`, 6).
+    BalanceAlb,
+    /// Any other number.
+    Other(u8),
+}
+
+impl NamedNumber for BondMode {
+    ghost use Rattle.std.specs.Prelude.{refl};
+    ghost use Rattle.link_base.specs.Equality.{of_cases, thorough_fields};
+    ghost use Rattle.link_bond.specs.contracts.bond.mode.BondMode.{enum};
+    ghost use Rattle.link_bond.specs.Mode.{mode_names, mode_seen, mode_cases};
+
+    ghost names = { mode_names };
+
+    ghost seen = { mode_seen };
+
+    ghost cases_hold = { (refl, (refl, (refl, (refl, (refl, (refl, (refl, tt))))))) };
+
+    ghost other_holds = { λ _. refl };
+
+    ghost no_more = { mode_cases };
+
+    ghost well_named = { refl };
+
+    ghost thorough = { of_cases enum _ _ (Prim.search (thorough_fields)) };
+}
+
+/// `BalanceRr`.
+impl Default for BondMode {
+    ghost use Rattle.std.specs.Prelude.{◌≡◌};
+    ghost use Rattle.link_base.specs.Named.{value_of};
+
+    ghost is_default = { λ v. v ≡ value_of ⟦<BondMode as NamedNumber>⟧.names 0 };
+
+    fn default() -> Self {
+        BondMode::BalanceRr
+    }
+}
+
+/// The case of a number, `Other` where it has no name.
+impl From<u8> for BondMode {
+    ghost use Rattle.std.specs.Prelude.{◌≡◌};
+    ghost use Rattle.link_base.specs.Named.{value_of};
+
+    ghost from_gives = { λ d v. v ≡ value_of ⟦<BondMode as NamedNumber>⟧.names d };
+
+    fn from(number: u8) -> Self {
+        match number {
+            BOND_MODE_ROUNDROBIN => BondMode::BalanceRr,
+            BOND_MODE_ACTIVEBACKUP => BondMode::ActiveBackup,
+            BOND_MODE_XOR => BondMode::BalanceXor,
+            BOND_MODE_BROADCAST => BondMode::Broadcast,
+            BOND_MODE_8023AD => BondMode::Ieee8023Ad,
+            BOND_MODE_TLB => BondMode::BalanceTlb,
+            BOND_MODE_ALB => BondMode::BalanceAlb,
+            _ => BondMode::Other(number),
+        }
+    }
+}
+
+/// The number of a case.
+impl From<BondMode> for u8 {
+    ghost use Rattle.std.specs.Prelude.{◌≡◌};
+    ghost use Rattle.link_base.specs.Named.{number_of};
+
+    ghost from_gives = { λ v d. d ≡ number_of (⟦<BondMode as NamedNumber>⟧.seen v) };
+
+    fn from(value: BondMode) -> u8 {
+        match value {
+            BondMode::BalanceRr => BOND_MODE_ROUNDROBIN,
+            BondMode::ActiveBackup => BOND_MODE_ACTIVEBACKUP,
+            BondMode::BalanceXor => BOND_MODE_XOR,
+            BondMode::Broadcast => BOND_MODE_BROADCAST,
+            BondMode::Ieee8023Ad => BOND_MODE_8023AD,
+            BondMode::BalanceTlb => BOND_MODE_TLB,
+            BondMode::BalanceAlb => BOND_MODE_ALB,
+            BondMode::Other(number) => number,
+        }
+    }
+}
+
+/// The name, as `balance-rr`; `unknown-variant (9)` for a number without one.
+impl fmt::Display for BondMode {
+    ghost use Rattle.std.specs.Prelude.{Some};
+    ghost use Rattle.link_base.specs.Named.{displayed};
+
+    ghost output = { λ v. Some (displayed ⟦<BondMode as NamedNumber>⟧.names (⟦<BondMode as NamedNumber>⟧.seen v)) };
+
+    fn fmt<W: fmt::Write>(&self, f: &mut fmt::Formatter<W>) -> fmt::Result {
+        match self {
+            BondMode::BalanceRr => f.write_str("balance-rr"),
+            BondMode::ActiveBackup => f.write_str("active-backup"),
+            BondMode::BalanceXor => f.write_str("balance-xor"),
+            BondMode::Broadcast => f.write_str("broadcast"),
+            BondMode::Ieee8023Ad => f.write_str("802.3ad"),
+            BondMode::BalanceTlb => f.write_str("balance-tlb"),
+            BondMode::BalanceAlb => f.write_str("balance-alb"),
+            BondMode::Other(number) => write!(f, "unknown-variant ({number})"),
+        }
+    }
+}
+
+/// Reads a displayed name, or the number of one as a digit. Fails with `Text` for every other text.
+impl FromStr for BondMode {
+    type Err = DecodeError;
+
+    ghost use Rattle.link_base.specs.Named.{ReadsText};
+
+    ghost from_str_gives = { λ text result. ReadsText ⟦<BondMode as NamedNumber>⟧.names text result };
+
+    #[tactic(auto, using(std::proofs::lemmas::Fmt::decimal_digit))]
+    fn from_str(text: &str) -> Result<Self, DecodeError> {
+        match text {
+            "balance-rr" | "0" => Ok(BondMode::BalanceRr),
+            "active-backup" | "1" => Ok(BondMode::ActiveBackup),
+            "balance-xor" | "2" => Ok(BondMode::BalanceXor),
+            "broadcast" | "3" => Ok(BondMode::Broadcast),
+            "802.3ad" | "4" => Ok(BondMode::Ieee8023Ad),
+            "balance-tlb" | "5" => Ok(BondMode::BalanceTlb),
+            "balance-alb" | "6" => Ok(BondMode::BalanceAlb),
+            _ => Err(DecodeError::Fault(DecodeFault::Text)),
+        }
+    }
+}

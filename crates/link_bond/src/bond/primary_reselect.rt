@@ -1,0 +1,130 @@
+//! When the primary port of a bond becomes active again.
+
+use link_base::{DecodeError, DecodeFault, NamedNumber};
+use std::fmt;
+use std::str::FromStr;
+
+// `include/net/bonding.h`
+const BOND_PRI_RESELECT_ALWAYS: u8 = 0;
+
+const BOND_PRI_RESELECT_BETTER: u8 = 1;
+
+const BOND_PRI_RESELECT_FAILURE: u8 = 2;
+
+/// When the primary port becomes the active one again after it recovers (`BOND_PRI_RESELECT_*`,
+/// `include/net/bonding.h`).
+#[derive(Clone, Copy, Debug, PartialEq, Eq)]
+pub enum BondPrimaryReselect {
+    /// As soon as its link is up (`BOND_PRI_RESELECT_ALWAYS`, 0).
+    Always,
+    /// When its link is up and better, in speed and duplex, than that of the active port (`BOND_PRI_RESELECT_BETTER`,
+    /// 1).
+    Better,
+    /// Only when the active port fails (`BOND_PRI_RESELECT_FAILURE`, 2).
+    Failure,
+    /// Any other number.
+    Other(u8),
+}
+
+impl NamedNumber for BondPrimaryReselect {
+    ghost use Rattle.std.specs.Prelude.{refl};
+    ghost use Rattle.link_base.specs.Equality.{of_cases, thorough_fields};
+    ghost use Rattle.link_bond.specs.contracts.bond.primary_reselect.BondPrimaryReselect.{enum};
+    ghost use Rattle.link_bond.specs.PrimaryReselect.{primary_reselect_names, primary_reselect_seen, primary_reselect_cases};
+
+    ghost names = { primary_reselect_names };
+
+    ghost seen = { primary_reselect_seen };
+
+    ghost cases_hold = { (refl, (refl, (refl, tt))) };
+
+    ghost other_holds = { λ _. refl };
+
+    ghost no_more = { primary_reselect_cases };
+
+    ghost well_named = { refl };
+
+    ghost thorough = { of_cases enum _ _ (Prim.search (thorough_fields)) };
+}
+
+/// `Always`.
+impl Default for BondPrimaryReselect {
+    ghost use Rattle.std.specs.Prelude.{◌≡◌};
+    ghost use Rattle.link_base.specs.Named.{value_of};
+
+    ghost is_default = { λ v. v ≡ value_of ⟦<BondPrimaryReselect as NamedNumber>⟧.names 0 };
+
+    fn default() -> Self {
+        BondPrimaryReselect::Always
+    }
+}
+
+/// The case of a number, `Other` where it has no name.
+impl From<u8> for BondPrimaryReselect {
+    ghost use Rattle.std.specs.Prelude.{◌≡◌};
+    ghost use Rattle.link_base.specs.Named.{value_of};
+
+    ghost from_gives = { λ d v. v ≡ value_of ⟦<BondPrimaryReselect as NamedNumber>⟧.names d };
+
+    fn from(number: u8) -> Self {
+        match number {
+            BOND_PRI_RESELECT_ALWAYS => BondPrimaryReselect::Always,
+            BOND_PRI_RESELECT_BETTER => BondPrimaryReselect::Better,
+            BOND_PRI_RESELECT_FAILURE => BondPrimaryReselect::Failure,
+            _ => BondPrimaryReselect::Other(number),
+        }
+    }
+}
+
+/// The number of a case.
+impl From<BondPrimaryReselect> for u8 {
+    ghost use Rattle.std.specs.Prelude.{◌≡◌};
+    ghost use Rattle.link_base.specs.Named.{number_of};
+
+    ghost from_gives = { λ v d. d ≡ number_of (⟦<BondPrimaryReselect as NamedNumber>⟧.seen v) };
+
+    fn from(value: BondPrimaryReselect) -> u8 {
+        match value {
+            BondPrimaryReselect::Always => BOND_PRI_RESELECT_ALWAYS,
+            BondPrimaryReselect::Better => BOND_PRI_RESELECT_BETTER,
+            BondPrimaryReselect::Failure => BOND_PRI_RESELECT_FAILURE,
+            BondPrimaryReselect::Other(number) => number,
+        }
+    }
+}
+
+/// The name, as `always`; `unknown-variant (9)` for a number without one.
+impl fmt::Display for BondPrimaryReselect {
+    ghost use Rattle.std.specs.Prelude.{Some};
+    ghost use Rattle.link_base.specs.Named.{displayed};
+
+    ghost output = { λ v. Some (displayed ⟦<BondPrimaryReselect as NamedNumber>⟧.names (⟦<BondPrimaryReselect as NamedNumber>⟧.seen v)) };
+
+    fn fmt<W: fmt::Write>(&self, f: &mut fmt::Formatter<W>) -> fmt::Result {
+        match self {
+            BondPrimaryReselect::Always => f.write_str("always"),
+            BondPrimaryReselect::Better => f.write_str("better"),
+            BondPrimaryReselect::Failure => f.write_str("failure"),
+            BondPrimaryReselect::Other(number) => write!(f, "unknown-variant ({number})"),
+        }
+    }
+}
+
+/// Reads a displayed name, or the number of one as a digit. Fails with `Text` for every other text.
+impl FromStr for BondPrimaryReselect {
+    type Err = DecodeError;
+
+    ghost use Rattle.link_base.specs.Named.{ReadsText};
+
+    ghost from_str_gives = { λ text result. ReadsText ⟦<BondPrimaryReselect as NamedNumber>⟧.names text result };
+
+    #[tactic(auto, using(std::proofs::lemmas::Fmt::decimal_digit))]
+    fn from_str(text: &str) -> Result<Self, DecodeError> {
+        match text {
+            "always" | "0" => Ok(BondPrimaryReselect::Always),
+            "better" | "1" => Ok(BondPrimaryReselect::Better),
+            "failure" | "2" => Ok(BondPrimaryReselect::Failure),
+            _ => Err(DecodeError::Fault(DecodeFault::Text)),
+        }
+    }
+}

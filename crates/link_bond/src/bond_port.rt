@@ -1,0 +1,240 @@
+//! The attributes of a port of a bond (`IFLA_INFO_SLAVE_DATA` of a link whose `IFLA_INFO_SLAVE_KIND` is `bond`).
+
+ghost use Rattle.std.specs.Prelude.{◌≡◌, ◌≤◌, ◌<◌, ◌∷◌, [], length, slice_index};
+ghost use Rattle.link_base.specs.Class.{accepted, Exactly};
+ghost use Rattle.link_base.specs.Answers.{payload_result, OverwritesFront};
+
+mod churn_state;
+mod lacp_state;
+mod mii_status;
+mod port_state;
+
+use bitflags::Flags;
+pub use churn_state::ChurnState;
+pub use lacp_state::LacpState;
+use link_base::{
+    Attribute, Cause, DecodeError, DecodeFault, DefaultNla, Meaning, Nla, NlaBuffer, Parseable,
+    TryClone, emit_i32, emit_u8, emit_u16, emit_u32, parse_i32, parse_u8, parse_u16, parse_u32,
+};
+pub use mii_status::MiiStatus;
+pub use port_state::BondPortState;
+use std::alloc::{AllocError, Global};
+
+// `include/uapi/linux/if_link.h`
+const IFLA_BOND_SLAVE_STATE: u16 = 1;
+
+const IFLA_BOND_SLAVE_MII_STATUS: u16 = 2;
+
+const IFLA_BOND_SLAVE_LINK_FAILURE_COUNT: u16 = 3;
+
+const IFLA_BOND_SLAVE_PERM_HWADDR: u16 = 4;
+
+const IFLA_BOND_SLAVE_QUEUE_ID: u16 = 5;
+
+const IFLA_BOND_SLAVE_AD_AGGREGATOR_ID: u16 = 6;
+
+const IFLA_BOND_SLAVE_AD_ACTOR_OPER_PORT_STATE: u16 = 7;
+
+const IFLA_BOND_SLAVE_AD_PARTNER_OPER_PORT_STATE: u16 = 8;
+
+const IFLA_BOND_SLAVE_PRIO: u16 = 9;
+
+const IFLA_BOND_SLAVE_ACTOR_PORT_PRIO: u16 = 10;
+
+const IFLA_BOND_SLAVE_AD_CHURN_ACTOR_STATE: u16 = 11;
+
+const IFLA_BOND_SLAVE_AD_CHURN_PARTNER_STATE: u16 = 12;
+
+/// An attribute of a port of a bond (`IFLA_BOND_SLAVE_*`, `include/uapi/linux/if_link.h`).
+#[derive(Debug, PartialEq, Eq, Drop)]
+pub enum InfoBondPort {
+    /// Whether the port carries the traffic of the bond (`IFLA_BOND_SLAVE_STATE`, one byte).
+    BondPortState(BondPortState),
+    /// The link of the port, as the bond sees it (`IFLA_BOND_SLAVE_MII_STATUS`, one byte).
+    MiiStatus(MiiStatus),
+    /// How often the link failed (`IFLA_BOND_SLAVE_LINK_FAILURE_COUNT`, four bytes).
+    LinkFailureCount(u32),
+    /// The hardware address that the port has of its own (`IFLA_BOND_SLAVE_PERM_HWADDR`, bytes of any number).
+    PermHwaddr(Vec<u8>),
+    /// The queue whose packets are sent from the port, 0 where none is (`IFLA_BOND_SLAVE_QUEUE_ID`, two bytes).
+    QueueId(u16),
+    /// The identifier of the aggregate of the port (`IFLA_BOND_SLAVE_AD_AGGREGATOR_ID`, two bytes).
+    AdAggregatorId(u16),
+    /// The state of this side in LACP (`IFLA_BOND_SLAVE_AD_ACTOR_OPER_PORT_STATE`, one byte).
+    AdActorOperPortState(LacpState),
+    /// The state of the peer in LACP (`IFLA_BOND_SLAVE_AD_PARTNER_OPER_PORT_STATE`, two bytes: the first is the state,
+    /// and the second is written as 0).
+    AdPartnerOperPortState(LacpState),
+    /// The priority of the port when an active one is chosen, the highest first (`IFLA_BOND_SLAVE_PRIO`, four bytes,
+    /// signed).
+    Prio(i32),
+    /// The priority of the port in LACP (`IFLA_BOND_SLAVE_ACTOR_PORT_PRIO`, two bytes).
+    ActorPortPrio(u16),
+    /// Whether this side gets in synchronization (`IFLA_BOND_SLAVE_AD_CHURN_ACTOR_STATE`, one byte).
+    AdChurnActorState(ChurnState),
+    /// Whether the peer does (`IFLA_BOND_SLAVE_AD_CHURN_PARTNER_STATE`, one byte).
+    AdChurnPartnerState(ChurnState),
+    /// An attribute of any other kind.
+    Other(DefaultNla),
+}
+
+fn parse_low(payload: &[u8]) -> Result<u8, DecodeError>
+    ensures { result ≡ payload_result (accepted (Exactly 2) (λ p. slice_index p 0) payload.now) }
+{
+    match payload {
+        [low, _] => Ok(*low),
+        _ => Err(DecodeError::Fault(DecodeFault::Payload(Cause::WrongLength {
+            want: 2,
+            got: payload.len(),
+        }))),
+    }
+}
+
+fn emit_low(buffer: &mut [u8], low: u8)
+    requires { length buffer.old ≡ 2 }
+    ensures written { buffer.new ≡ low ∷ 0 ∷ [] }
+    ensures in_range { low < 256 }
+{
+    buffer.copy_from_slice(&[low, 0]);
+}
+
+impl TryClone for InfoBondPort {
+    fn try_clone(&self, alloc: Global) -> Result<Self, AllocError> {
+        match self {
+            InfoBondPort::BondPortState(state) => Ok(InfoBondPort::BondPortState(*state)),
+            InfoBondPort::MiiStatus(status) => Ok(InfoBondPort::MiiStatus(*status)),
+            InfoBondPort::LinkFailureCount(count) => Ok(InfoBondPort::LinkFailureCount(*count)),
+            InfoBondPort::PermHwaddr(address) => {
+                Ok(InfoBondPort::PermHwaddr(Vec::from_slice(alloc, address)?))
+            }
+            InfoBondPort::QueueId(id) => Ok(InfoBondPort::QueueId(*id)),
+            InfoBondPort::AdAggregatorId(id) => Ok(InfoBondPort::AdAggregatorId(*id)),
+            InfoBondPort::AdActorOperPortState(state) => {
+                Ok(InfoBondPort::AdActorOperPortState(*state))
+            }
+            InfoBondPort::AdPartnerOperPortState(state) => {
+                Ok(InfoBondPort::AdPartnerOperPortState(*state))
+            }
+            InfoBondPort::Prio(priority) => Ok(InfoBondPort::Prio(*priority)),
+            InfoBondPort::ActorPortPrio(priority) => Ok(InfoBondPort::ActorPortPrio(*priority)),
+            InfoBondPort::AdChurnActorState(state) => Ok(InfoBondPort::AdChurnActorState(*state)),
+            InfoBondPort::AdChurnPartnerState(state) => {
+                Ok(InfoBondPort::AdChurnPartnerState(*state))
+            }
+            InfoBondPort::Other(other) => Ok(InfoBondPort::Other(other.try_clone(alloc)?)),
+        }
+    }
+}
+
+impl Meaning for InfoBondPort {
+    ghost use Rattle.link_bond.specs.BondPort.{bond_port_table, bond_port_means};
+
+    ghost table = { bond_port_table };
+
+    ghost means = { bond_port_means };
+}
+
+impl Nla for InfoBondPort {
+    fn kind(&self) -> u16 {
+        match self {
+            InfoBondPort::BondPortState(_) => IFLA_BOND_SLAVE_STATE,
+            InfoBondPort::MiiStatus(_) => IFLA_BOND_SLAVE_MII_STATUS,
+            InfoBondPort::LinkFailureCount(_) => IFLA_BOND_SLAVE_LINK_FAILURE_COUNT,
+            InfoBondPort::PermHwaddr(_) => IFLA_BOND_SLAVE_PERM_HWADDR,
+            InfoBondPort::QueueId(_) => IFLA_BOND_SLAVE_QUEUE_ID,
+            InfoBondPort::AdAggregatorId(_) => IFLA_BOND_SLAVE_AD_AGGREGATOR_ID,
+            InfoBondPort::AdActorOperPortState(_) => IFLA_BOND_SLAVE_AD_ACTOR_OPER_PORT_STATE,
+            InfoBondPort::AdPartnerOperPortState(_) => IFLA_BOND_SLAVE_AD_PARTNER_OPER_PORT_STATE,
+            InfoBondPort::Prio(_) => IFLA_BOND_SLAVE_PRIO,
+            InfoBondPort::ActorPortPrio(_) => IFLA_BOND_SLAVE_ACTOR_PORT_PRIO,
+            InfoBondPort::AdChurnActorState(_) => IFLA_BOND_SLAVE_AD_CHURN_ACTOR_STATE,
+            InfoBondPort::AdChurnPartnerState(_) => IFLA_BOND_SLAVE_AD_CHURN_PARTNER_STATE,
+            InfoBondPort::Other(other) => other.kind(),
+        }
+    }
+
+    fn value_len(&self) -> usize {
+        match self {
+            InfoBondPort::BondPortState(_)
+            | InfoBondPort::MiiStatus(_)
+            | InfoBondPort::AdActorOperPortState(_)
+            | InfoBondPort::AdChurnActorState(_)
+            | InfoBondPort::AdChurnPartnerState(_) => 1,
+            InfoBondPort::QueueId(_)
+            | InfoBondPort::AdAggregatorId(_)
+            | InfoBondPort::AdPartnerOperPortState(_)
+            | InfoBondPort::ActorPortPrio(_) => 2,
+            InfoBondPort::LinkFailureCount(_) | InfoBondPort::Prio(_) => 4,
+            InfoBondPort::PermHwaddr(address) => address.len(),
+            InfoBondPort::Other(other) => other.value_len(),
+        }
+    }
+
+    fn emit_value(&self, buffer: &mut [u8]) {
+        match self {
+            InfoBondPort::BondPortState(state) => emit_u8(buffer, u8::from(*state)),
+            InfoBondPort::MiiStatus(status) => emit_u8(buffer, u8::from(*status)),
+            InfoBondPort::LinkFailureCount(count) => emit_u32(buffer, *count),
+            InfoBondPort::PermHwaddr(address) => buffer.copy_from_slice(address),
+            InfoBondPort::QueueId(id) => emit_u16(buffer, *id),
+            InfoBondPort::AdAggregatorId(id) => emit_u16(buffer, *id),
+            InfoBondPort::AdActorOperPortState(state) => emit_u8(buffer, state.bits()),
+            InfoBondPort::AdPartnerOperPortState(state) => emit_low(buffer, state.bits()),
+            InfoBondPort::Prio(priority) => emit_i32(buffer, *priority),
+            InfoBondPort::ActorPortPrio(priority) => emit_u16(buffer, *priority),
+            InfoBondPort::AdChurnActorState(state) => emit_u8(buffer, u8::from(*state)),
+            InfoBondPort::AdChurnPartnerState(state) => emit_u8(buffer, u8::from(*state)),
+            InfoBondPort::Other(other) => other.emit_value(buffer),
+        }
+    }
+}
+
+impl Parseable for InfoBondPort {
+    fn parse_payload(alloc: Global, buffer: &NlaBuffer<'_>) -> Result<Self, DecodeError> {
+        let payload = buffer.value();
+        match buffer.kind() {
+            IFLA_BOND_SLAVE_STATE => parse_u8(payload).map(|n| Self::BondPortState(n.into())),
+            IFLA_BOND_SLAVE_MII_STATUS => parse_u8(payload).map(|n| Self::MiiStatus(n.into())),
+            IFLA_BOND_SLAVE_LINK_FAILURE_COUNT => parse_u32(payload).map(Self::LinkFailureCount),
+            IFLA_BOND_SLAVE_PERM_HWADDR => match Vec::from_slice(alloc, payload) {
+                Ok(address) => Ok(Self::PermHwaddr(address)),
+                Err(error) => Err(DecodeError::Memory(error)),
+            },
+            IFLA_BOND_SLAVE_QUEUE_ID => parse_u16(payload).map(Self::QueueId),
+            IFLA_BOND_SLAVE_AD_AGGREGATOR_ID => parse_u16(payload).map(Self::AdAggregatorId),
+            IFLA_BOND_SLAVE_AD_ACTOR_OPER_PORT_STATE => parse_u8(payload).map(
+                |bits| Self::AdActorOperPortState(LacpState::from_bits_retain(bits)),
+            ),
+            IFLA_BOND_SLAVE_AD_PARTNER_OPER_PORT_STATE => parse_low(payload).map(
+                |bits| Self::AdPartnerOperPortState(LacpState::from_bits_retain(bits)),
+            ),
+            IFLA_BOND_SLAVE_PRIO => parse_i32(payload).map(Self::Prio),
+            IFLA_BOND_SLAVE_ACTOR_PORT_PRIO => parse_u16(payload).map(Self::ActorPortPrio),
+            IFLA_BOND_SLAVE_AD_CHURN_ACTOR_STATE => {
+                parse_u8(payload).map(|n| Self::AdChurnActorState(n.into()))
+            }
+            IFLA_BOND_SLAVE_AD_CHURN_PARTNER_STATE => {
+                parse_u8(payload).map(|n| Self::AdChurnPartnerState(n.into()))
+            }
+            _ => DefaultNla::parse(alloc, buffer).map(Self::Other),
+        }
+    }
+}
+
+impl Attribute for InfoBondPort {
+    ghost use Rattle.std.specs.Prelude.{refl};
+    ghost use Rattle.link_base.proofs.TableLaws.{lawful};
+    ghost use Rattle.link_bond.specs.BondPort.{bond_port_table};
+    ghost use Rattle.link_base.specs.Equality.{of_cases, thorough_fields};
+    ghost use Rattle.link_bond.specs.contracts.bond_port.port_state.BondPortStateNamedNumber.TheImpl.Laws.{thorough-law as states};
+    ghost use Rattle.link_bond.specs.contracts.bond_port.mii_status.MiiStatusNamedNumber.TheImpl.Laws.{thorough-law as statuses};
+    ghost use Rattle.link_bond.specs.contracts.bond_port.churn_state.ChurnStateNamedNumber.TheImpl.Laws.{thorough-law as churn_states};
+    ghost use Rattle.link_bond.specs.contracts.bond_port.lacp_state.LacpStateFlagSet.TheImpl.Laws.{thorough-law as flags};
+    ghost use Rattle.link_bond.specs.contracts.bond_port.InfoBondPort.{enum};
+
+    ghost lawful = { lawful bond_port_table };
+
+    ghost well_formed = { refl };
+
+    ghost thorough = { of_cases enum _ _ (Prim.search (thorough_fields, states, statuses, churn_states, flags)) };
+}

@@ -1,0 +1,119 @@
+//! Whether a port of a bond and its peer reach agreement.
+
+use link_base::{DecodeError, DecodeFault, NamedNumber};
+use std::fmt;
+use std::str::FromStr;
+
+// `include/net/bond_3ad.h`
+const AD_CHURN_MONITOR: u8 = 0;
+
+const AD_CHURN: u8 = 1;
+
+const AD_NO_CHURN: u8 = 2;
+
+/// Whether one side of a link, this one or the peer, gets in synchronization in due time, as IEEE 802.3ad watches it
+/// (`churn_state_t`, `include/net/bond_3ad.h`).
+#[derive(Clone, Copy, Debug, PartialEq, Eq)]
+pub enum ChurnState {
+    /// It is watched, and time is left (`AD_CHURN_MONITOR`, 0).
+    Monitor,
+    /// It is not in synchronization, and time is up (`AD_CHURN`, 1).
+    Churn,
+    /// It is in synchronization (`AD_NO_CHURN`, 2).
+    NoChurn,
+    /// Any other number.
+    Other(u8),
+}
+
+impl NamedNumber for ChurnState {
+    ghost use Rattle.std.specs.Prelude.{refl};
+    ghost use Rattle.link_base.specs.Equality.{of_cases, thorough_fields};
+    ghost use Rattle.link_bond.specs.contracts.bond_port.churn_state.ChurnState.{enum};
+    ghost use Rattle.link_bond.specs.ChurnState.{churn_state_names, churn_state_seen, churn_state_cases};
+
+    ghost names = { churn_state_names };
+
+    ghost seen = { churn_state_seen };
+
+    ghost cases_hold = { (refl, (refl, (refl, tt))) };
+
+    ghost other_holds = { λ _. refl };
+
+    ghost no_more = { churn_state_cases };
+
+    ghost well_named = { refl };
+
+    ghost thorough = { of_cases enum _ _ (Prim.search (thorough_fields)) };
+}
+
+/// The case of a number, `Other` where it has no name.
+impl From<u8> for ChurnState {
+    ghost use Rattle.std.specs.Prelude.{◌≡◌};
+    ghost use Rattle.link_base.specs.Named.{value_of};
+
+    ghost from_gives = { λ d v. v ≡ value_of ⟦<ChurnState as NamedNumber>⟧.names d };
+
+    fn from(number: u8) -> Self {
+        match number {
+            AD_CHURN_MONITOR => ChurnState::Monitor,
+            AD_CHURN => ChurnState::Churn,
+            AD_NO_CHURN => ChurnState::NoChurn,
+            _ => ChurnState::Other(number),
+        }
+    }
+}
+
+/// The number of a case.
+impl From<ChurnState> for u8 {
+    ghost use Rattle.std.specs.Prelude.{◌≡◌};
+    ghost use Rattle.link_base.specs.Named.{number_of};
+
+    ghost from_gives = { λ v d. d ≡ number_of (⟦<ChurnState as NamedNumber>⟧.seen v) };
+
+    fn from(value: ChurnState) -> u8 {
+        match value {
+            ChurnState::Monitor => AD_CHURN_MONITOR,
+            ChurnState::Churn => AD_CHURN,
+            ChurnState::NoChurn => AD_NO_CHURN,
+            ChurnState::Other(number) => number,
+        }
+    }
+}
+
+/// The name, as `monitor`; the number where it has none.
+impl fmt::Display for ChurnState {
+    ghost use Rattle.std.specs.Prelude.{Some};
+    ghost use Rattle.link_base.specs.Named.{displayed};
+
+    ghost output = { λ v. Some (displayed ⟦<ChurnState as NamedNumber>⟧.names (⟦<ChurnState as NamedNumber>⟧.seen v)) };
+
+    fn fmt<W: fmt::Write>(&self, f: &mut fmt::Formatter<W>) -> fmt::Result {
+        match self {
+            ChurnState::Monitor => f.write_str("monitor"),
+            ChurnState::Churn => f.write_str("churn"),
+            ChurnState::NoChurn => f.write_str("no_churn"),
+            ChurnState::Other(number) => write!(f, "{number}"),
+        }
+    }
+}
+
+/// Reads a displayed name, its letters in either case. Fails with `Text` for every other text.
+impl FromStr for ChurnState {
+    type Err = DecodeError;
+
+    ghost use Rattle.link_base.specs.Named.{ReadsText};
+
+    ghost from_str_gives = { λ text result. ReadsText ⟦<ChurnState as NamedNumber>⟧.names text result };
+
+    fn from_str(text: &str) -> Result<Self, DecodeError> {
+        if text.eq_ignore_ascii_case("monitor") {
+            Ok(ChurnState::Monitor)
+        } else if text.eq_ignore_ascii_case("churn") {
+            Ok(ChurnState::Churn)
+        } else if text.eq_ignore_ascii_case("no_churn") {
+            Ok(ChurnState::NoChurn)
+        } else {
+            Err(DecodeError::Fault(DecodeFault::Text))
+        }
+    }
+}

@@ -1,0 +1,112 @@
+//! The state of one side of a LACP link.
+
+use bitflags::{Flag, Flags};
+use link_base::flag_laws::{FlagSet, KnownBits};
+
+/// The state of one side of a link in LACP, this one or the peer (`LACP_STATE_*`, `include/uapi/linux/if_bonding.h`).
+/// Each of the eight bits has a name.
+#[derive(Clone, Copy, Debug, PartialEq, Eq)]
+pub struct LacpState(u8);
+
+impl LacpState {
+    /// The side sends LACPDUs whether or not the other does (`LACP_STATE_LACP_ACTIVITY`).
+    pub const LACP_ACTIVITY: LacpState = LacpState(0x1);
+
+    /// The side times out after three seconds without a LACPDU, not after 90 (`LACP_STATE_LACP_TIMEOUT`).
+    pub const LACP_TIMEOUT: LacpState = LacpState(0x2);
+
+    /// The link may be part of an aggregate (`LACP_STATE_AGGREGATION`).
+    pub const AGGREGATION: LacpState = LacpState(0x4);
+
+    /// The link is in the right aggregate (`LACP_STATE_SYNCHRONIZATION`).
+    pub const SYNCHRONIZATION: LacpState = LacpState(0x8);
+
+    /// Frames that arrive are taken (`LACP_STATE_COLLECTING`).
+    pub const COLLECTING: LacpState = LacpState(0x10);
+
+    /// Frames are sent (`LACP_STATE_DISTRIBUTING`).
+    pub const DISTRIBUTING: LacpState = LacpState(0x20);
+
+    /// What is known of the other side is the default, since no LACPDU came (`LACP_STATE_DEFAULTED`).
+    pub const DEFAULTED: LacpState = LacpState(0x40);
+
+    /// What is known of the other side is out of date (`LACP_STATE_EXPIRED`).
+    pub const EXPIRED: LacpState = LacpState(0x80);
+}
+
+const FLAGS: [Flag<LacpState>; 8] = [
+    Flag {
+        name: "LACP_ACTIVITY",
+        value: LacpState::LACP_ACTIVITY,
+    },
+    Flag {
+        name: "LACP_TIMEOUT",
+        value: LacpState::LACP_TIMEOUT,
+    },
+    Flag {
+        name: "AGGREGATION",
+        value: LacpState::AGGREGATION,
+    },
+    Flag {
+        name: "SYNCHRONIZATION",
+        value: LacpState::SYNCHRONIZATION,
+    },
+    Flag {
+        name: "COLLECTING",
+        value: LacpState::COLLECTING,
+    },
+    Flag {
+        name: "DISTRIBUTING",
+        value: LacpState::DISTRIBUTING,
+    },
+    Flag {
+        name: "DEFAULTED",
+        value: LacpState::DEFAULTED,
+    },
+    Flag {
+        name: "EXPIRED",
+        value: LacpState::EXPIRED,
+    },
+];
+
+impl Flags for LacpState {
+    type Bits = u8;
+
+    ghost use Rattle.std.specs.Prelude.{⊤};
+    ghost use Rattle.link_bond.specs.LacpState.{lacp_bits, lacp_flags};
+
+    ghost exact = { ⊤ };
+
+    ghost table = { lacp_flags };
+
+    ghost set_of = { lacp_bits };
+
+    fn flags<'a>() -> &'a [Flag<LacpState>] {
+        &FLAGS
+    }
+
+    fn bits(&self) -> u8 {
+        self.0
+    }
+
+    fn from_bits_retain(bits: u8) -> LacpState {
+        LacpState(bits)
+    }
+}
+
+impl FlagSet for LacpState {
+    ghost use Rattle.std.specs.Prelude.{refl};
+    ghost use Rattle.link_base.specs.Equality.{wrapped, numbers};
+
+    ghost is_exact = { tt };
+
+    ghost equal_by_bits = { λ a b. refl };
+
+    ghost thorough = { wrapped (λ flags. flags.0) (λ bits. record { 0 = bits }) (λ _. refl) numbers };
+}
+
+impl KnownBits for LacpState {
+    ghost use Rattle.link_bond.specs.LacpState.{every_lacp_bit};
+
+    ghost every_bit = { every_lacp_bit };
+}

@@ -1,0 +1,127 @@
+//! The states of the link of a port of a bond.
+
+use link_base::{DecodeError, DecodeFault, NamedNumber};
+use std::fmt;
+use std::str::FromStr;
+
+// `include/uapi/linux/if_bonding.h`
+const BOND_LINK_UP: u8 = 0;
+
+const BOND_LINK_FAIL: u8 = 1;
+
+const BOND_LINK_DOWN: u8 = 2;
+
+const BOND_LINK_BACK: u8 = 3;
+
+/// The link of a port, as its bond sees it (`BOND_LINK_*`, `include/uapi/linux/if_bonding.h`).
+#[derive(Clone, Copy, Debug, PartialEq, Eq)]
+pub enum MiiStatus {
+    /// It is up (`BOND_LINK_UP`, 0).
+    Up,
+    /// It went down, and the delay before it counts as down still runs (`BOND_LINK_FAIL`, 1).
+    GoingDown,
+    /// It is down (`BOND_LINK_DOWN`, 2).
+    Down,
+    /// It came up, and the delay before it counts as up still runs (`BOND_LINK_BACK`, 3).
+    GoingBack,
+    /// Any other number.
+    Other(u8),
+}
+
+impl NamedNumber for MiiStatus {
+    ghost use Rattle.std.specs.Prelude.{refl};
+    ghost use Rattle.link_base.specs.Equality.{of_cases, thorough_fields};
+    ghost use Rattle.link_bond.specs.contracts.bond_port.mii_status.MiiStatus.{enum};
+    ghost use Rattle.link_bond.specs.MiiStatus.{mii_status_names, mii_status_seen, mii_status_cases};
+
+    ghost names = { mii_status_names };
+
+    ghost seen = { mii_status_seen };
+
+    ghost cases_hold = { (refl, (refl, (refl, (refl, tt)))) };
+
+    ghost other_holds = { λ _. refl };
+
+    ghost no_more = { mii_status_cases };
+
+    ghost well_named = { refl };
+
+    ghost thorough = { of_cases enum _ _ (Prim.search (thorough_fields)) };
+}
+
+/// The case of a number, `Other` where it has no name.
+impl From<u8> for MiiStatus {
+    ghost use Rattle.std.specs.Prelude.{◌≡◌};
+    ghost use Rattle.link_base.specs.Named.{value_of};
+
+    ghost from_gives = { λ d v. v ≡ value_of ⟦<MiiStatus as NamedNumber>⟧.names d };
+
+    fn from(number: u8) -> Self {
+        match number {
+            BOND_LINK_UP => MiiStatus::Up,
+            BOND_LINK_FAIL => MiiStatus::GoingDown,
+            BOND_LINK_DOWN => MiiStatus::Down,
+            BOND_LINK_BACK => MiiStatus::GoingBack,
+            _ => MiiStatus::Other(number),
+        }
+    }
+}
+
+/// The number of a case.
+impl From<MiiStatus> for u8 {
+    ghost use Rattle.std.specs.Prelude.{◌≡◌};
+    ghost use Rattle.link_base.specs.Named.{number_of};
+
+    ghost from_gives = { λ v d. d ≡ number_of (⟦<MiiStatus as NamedNumber>⟧.seen v) };
+
+    fn from(value: MiiStatus) -> u8 {
+        match value {
+            MiiStatus::Up => BOND_LINK_UP,
+            MiiStatus::GoingDown => BOND_LINK_FAIL,
+            MiiStatus::Down => BOND_LINK_DOWN,
+            MiiStatus::GoingBack => BOND_LINK_BACK,
+            MiiStatus::Other(number) => number,
+        }
+    }
+}
+
+/// The name, as `up`; the number where it has none.
+impl fmt::Display for MiiStatus {
+    ghost use Rattle.std.specs.Prelude.{Some};
+    ghost use Rattle.link_base.specs.Named.{displayed};
+
+    ghost output = { λ v. Some (displayed ⟦<MiiStatus as NamedNumber>⟧.names (⟦<MiiStatus as NamedNumber>⟧.seen v)) };
+
+    fn fmt<W: fmt::Write>(&self, f: &mut fmt::Formatter<W>) -> fmt::Result {
+        match self {
+            MiiStatus::Up => f.write_str("up"),
+            MiiStatus::GoingDown => f.write_str("going_down"),
+            MiiStatus::Down => f.write_str("down"),
+            MiiStatus::GoingBack => f.write_str("going_back"),
+            MiiStatus::Other(number) => write!(f, "{number}"),
+        }
+    }
+}
+
+/// Reads a displayed name, its letters in either case. Fails with `Text` for every other text.
+impl FromStr for MiiStatus {
+    type Err = DecodeError;
+
+    ghost use Rattle.link_base.specs.Named.{ReadsText};
+
+    ghost from_str_gives = { λ text result. ReadsText ⟦<MiiStatus as NamedNumber>⟧.names text result };
+
+    fn from_str(text: &str) -> Result<Self, DecodeError> {
+        if text.eq_ignore_ascii_case("up") {
+            Ok(MiiStatus::Up)
+        } else if text.eq_ignore_ascii_case("going_down") {
+            Ok(MiiStatus::GoingDown)
+        } else if text.eq_ignore_ascii_case("down") {
+            Ok(MiiStatus::Down)
+        } else if text.eq_ignore_ascii_case("going_back") {
+            Ok(MiiStatus::GoingBack)
+        } else {
+            Err(DecodeError::Fault(DecodeFault::Text))
+        }
+    }
+}

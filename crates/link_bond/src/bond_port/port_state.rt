@@ -1,0 +1,109 @@
+//! The states of a port of a bond.
+
+use link_base::{DecodeError, DecodeFault, NamedNumber};
+use std::fmt;
+use std::str::FromStr;
+
+// `include/uapi/linux/if_bonding.h`
+const BOND_STATE_ACTIVE: u8 = 0;
+
+const BOND_STATE_BACKUP: u8 = 1;
+
+/// Whether a port carries the traffic of its bond (`BOND_STATE_*`, `include/uapi/linux/if_bonding.h`).
+#[derive(Clone, Copy, Debug, PartialEq, Eq)]
+pub enum BondPortState {
+    /// It carries traffic (`BOND_STATE_ACTIVE`, 0).
+    Active,
+    /// It stands by (`BOND_STATE_BACKUP`, 1).
+    Backup,
+    /// Any other number.
+    Other(u8),
+}
+
+impl NamedNumber for BondPortState {
+    ghost use Rattle.std.specs.Prelude.{refl};
+    ghost use Rattle.link_base.specs.Equality.{of_cases, thorough_fields};
+    ghost use Rattle.link_bond.specs.contracts.bond_port.port_state.BondPortState.{enum};
+    ghost use Rattle.link_bond.specs.PortState.{port_state_names, port_state_seen, port_state_cases};
+
+    ghost names = { port_state_names };
+
+    ghost seen = { port_state_seen };
+
+    ghost cases_hold = { (refl, (refl, tt)) };
+
+    ghost other_holds = { λ _. refl };
+
+    ghost no_more = { port_state_cases };
+
+    ghost well_named = { refl };
+
+    ghost thorough = { of_cases enum _ _ (Prim.search (thorough_fields)) };
+}
+
+/// The case of a number, `Other` where it has no name.
+impl From<u8> for BondPortState {
+    ghost use Rattle.std.specs.Prelude.{◌≡◌};
+    ghost use Rattle.link_base.specs.Named.{value_of};
+
+    ghost from_gives = { λ d v. v ≡ value_of ⟦<BondPortState as NamedNumber>⟧.names d };
+
+    fn from(number: u8) -> Self {
+        match number {
+            BOND_STATE_ACTIVE => BondPortState::Active,
+            BOND_STATE_BACKUP => BondPortState::Backup,
+            _ => BondPortState::Other(number),
+        }
+    }
+}
+
+/// The number of a case.
+impl From<BondPortState> for u8 {
+    ghost use Rattle.std.specs.Prelude.{◌≡◌};
+    ghost use Rattle.link_base.specs.Named.{number_of};
+
+    ghost from_gives = { λ v d. d ≡ number_of (⟦<BondPortState as NamedNumber>⟧.seen v) };
+
+    fn from(value: BondPortState) -> u8 {
+        match value {
+            BondPortState::Active => BOND_STATE_ACTIVE,
+            BondPortState::Backup => BOND_STATE_BACKUP,
+            BondPortState::Other(number) => number,
+        }
+    }
+}
+
+/// The name, as `active`; the number where it has none.
+impl fmt::Display for BondPortState {
+    ghost use Rattle.std.specs.Prelude.{Some};
+    ghost use Rattle.link_base.specs.Named.{displayed};
+
+    ghost output = { λ v. Some (displayed ⟦<BondPortState as NamedNumber>⟧.names (⟦<BondPortState as NamedNumber>⟧.seen v)) };
+
+    fn fmt<W: fmt::Write>(&self, f: &mut fmt::Formatter<W>) -> fmt::Result {
+        match self {
+            BondPortState::Active => f.write_str("active"),
+            BondPortState::Backup => f.write_str("backup"),
+            BondPortState::Other(number) => write!(f, "{number}"),
+        }
+    }
+}
+
+/// Reads a displayed name, its letters in either case. Fails with `Text` for every other text.
+impl FromStr for BondPortState {
+    type Err = DecodeError;
+
+    ghost use Rattle.link_base.specs.Named.{ReadsText};
+
+    ghost from_str_gives = { λ text result. ReadsText ⟦<BondPortState as NamedNumber>⟧.names text result };
+
+    fn from_str(text: &str) -> Result<Self, DecodeError> {
+        if text.eq_ignore_ascii_case("active") {
+            Ok(BondPortState::Active)
+        } else if text.eq_ignore_ascii_case("backup") {
+            Ok(BondPortState::Backup)
+        } else {
+            Err(DecodeError::Fault(DecodeFault::Text))
+        }
+    }
+}

@@ -1,0 +1,13 @@
+//! The link attributes of bonds and of their ports.
+#![tactic(auto)]
+
+mod bond;
+mod bond_port;
+#[cfg(test)]
+mod tests;
+
+pub use bond::{
+    BondAdInfo, BondAdSelect, BondAllPortActive, BondArpAllTargets, BondArpValidate,
+    BondFailOverMac, BondLacpRate, BondMode, BondPrimaryReselect, BondXmitHashPolicy, InfoBond,
+};
+pub use bond_port::{BondPortState, ChurnState, InfoBondPort, LacpState, MiiStatus};

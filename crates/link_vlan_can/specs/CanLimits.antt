@@ -1,0 +1,49 @@
+-- The limits of a CAN controller's bit timing.
+use Rattle.std.specs.Prelude.{◌≡◌, ℕ, List, [], ◌∷◌, take, map, replicate, string_bytes, Result, Ok, Err}
+use Rattle.link_base.specs.declared.fault.DecodeError.{DecodeError}
+use Rattle.link_base.specs.declared.fault.Cause.{Cause}
+use Rattle.link_base.specs.declared.fault.DecodeFault.{DecodeFault}
+use Rattle.link_base.specs.declared.fault.DecodeFault.TheVariants as faults
+use Rattle.link_base.specs.Name.{name_of}
+use Rattle.link_base.specs.Class.{Value, Limited, AtLeast, accepted}
+use Rattle.link_base.specs.Layout.{number_at, octets_of}
+use Rattle.link_base.specs.Answers.{Answers}
+use Rattle.link_vlan_can.specs.declared.can_limits.CanBitTimingConst.{CanBitTimingConst}
+
+-- the name, and the eight numbers in their order
+pub record LimitsView : Type 0 where
+  pub name : List ℕ
+  pub numbers : List ℕ
+
+-- a name and numbers
+abbrev pub limits : List ℕ → List ℕ → LimitsView
+limits text xs = record { name = text; numbers = xs }
+
+-- the limits that a value holds
+abbrev pub limits_view : CanBitTimingConst → LimitsView
+limits_view c = limits (string_bytes c.name) (c.tseg1_min ∷ c.tseg1_max ∷ c.tseg2_min ∷ c.tseg2_max ∷ c.sjw_max ∷ c.brp_min ∷ c.brp_max ∷ c.brp_inc ∷ [])
+
+-- a name, and numbers that are all zero
+abbrev pub limits_with : List ℕ → LimitsView
+limits_with text = limits text (replicate 8 0)
+
+-- the limits of a payload: the name before the numbers
+abbrev pub limits_of : List ℕ → LimitsView
+limits_of p = limits (name_of (take 16 p)) (map (λ offset. number_at 4 offset p) (16 ∷ 20 ∷ 24 ∷ 28 ∷ 32 ∷ 36 ∷ 40 ∷ 44 ∷ []))
+
+-- the octets of the numbers
+abbrev pub limits_octets : CanBitTimingConst → List ℕ
+limits_octets c = octets_of 4 (limits_view c).numbers
+
+-- the value of the class
+abbrev pub limits_value : CanBitTimingConst → Value
+limits_value c = Limited (string_bytes c.name) (limits_octets c)
+
+-- a cause, as a fault that names no kind
+abbrev pub bare : {A : Type 0} → Result A Cause → Result A DecodeFault
+bare (Ok a) = Ok a
+bare (Err c) = Err (faults.Payload c)
+
+-- the limits of a payload or the cause of its refusal, unless memory ran out
+abbrev pub LimitsAnswer : List ℕ → Result CanBitTimingConst DecodeError → Type 0
+LimitsAnswer p result = Answers limits_view result (λ r. r ≡ bare (accepted (AtLeast 48) limits_of p))

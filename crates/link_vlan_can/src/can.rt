@@ -1,0 +1,215 @@
+//! The attributes of a CAN controller (`IFLA_INFO_DATA` of a link of kind `can`).
+
+use crate::can_limits::CanBitTimingConst;
+use crate::can_modes::CanCtrlModeExt;
+use crate::can_records::{CanBerrCounter, CanBitTiming, CanClock, CanCtrlMode};
+use crate::can_tdc::CanTdc;
+use link_base::{
+    Attribute, DecodeError, DefaultNla, Meaning, Nla, NlaBuffer, Parseable, TryClone, emit_nested,
+    emit_u16, emit_u32, nested_len, parse_u16, parse_u32, read_nested, try_clone_list,
+};
+use std::alloc::{AllocError, Global};
+
+// `include/uapi/linux/can/netlink.h`
+const IFLA_CAN_BITTIMING: u16 = 1;
+
+const IFLA_CAN_BITTIMING_CONST: u16 = 2;
+
+const IFLA_CAN_CLOCK: u16 = 3;
+
+const IFLA_CAN_STATE: u16 = 4;
+
+const IFLA_CAN_CTRLMODE: u16 = 5;
+
+const IFLA_CAN_RESTART_MS: u16 = 6;
+
+const IFLA_CAN_RESTART: u16 = 7;
+
+const IFLA_CAN_BERR_COUNTER: u16 = 8;
+
+const IFLA_CAN_DATA_BITTIMING: u16 = 9;
+
+const IFLA_CAN_DATA_BITTIMING_CONST: u16 = 10;
+
+const IFLA_CAN_TERMINATION: u16 = 11;
+
+const IFLA_CAN_BITRATE_MAX: u16 = 15;
+
+const IFLA_CAN_TDC: u16 = 16;
+
+const IFLA_CAN_CTRLMODE_EXT: u16 = 17;
+
+/// `include/uapi/linux/netlink.h`: the payload is a list.
+const NLA_F_NESTED: u16 = 0x8000;
+
+/// An attribute of a CAN controller (`IFLA_CAN_*`, `include/uapi/linux/can/netlink.h`).
+#[derive(Debug, PartialEq, Eq, Drop)]
+pub enum InfoCan {
+    /// The bit timing; of the arbitration phase where the controller has CAN FD (`IFLA_CAN_BITTIMING`, 32 bytes).
+    BitTiming(CanBitTiming),
+    /// The limits of the bit timing, and the controller's name (`IFLA_CAN_BITTIMING_CONST`, 48 bytes).
+    BitTimingConst(CanBitTimingConst),
+    /// The clock (`IFLA_CAN_CLOCK`, four bytes).
+    Clock(CanClock),
+    /// The state: 0 error active, 1 error warning, 2 error passive, 3 off the bus, 4 stopped, 5 sleeping
+    /// (`IFLA_CAN_STATE`, `enum can_state`, four bytes).
+    State(u32),
+    /// The modes (`IFLA_CAN_CTRLMODE`, eight bytes).
+    CtrlMode(CanCtrlMode),
+    /// How long after it went off the bus the controller is restarted, in milliseconds; 0 for never
+    /// (`IFLA_CAN_RESTART_MS`, four bytes).
+    RestartMs(u32),
+    /// A request to restart the controller now (`IFLA_CAN_RESTART`, four bytes).
+    Restart(u32),
+    /// How many errors were counted (`IFLA_CAN_BERR_COUNTER`, four bytes).
+    BerrCounter(CanBerrCounter),
+    /// The bit timing of the data phase of CAN FD (`IFLA_CAN_DATA_BITTIMING`, 32 bytes).
+    DataBitTiming(CanBitTiming),
+    /// The limits of that timing, and the controller's name (`IFLA_CAN_DATA_BITTIMING_CONST`, 48 bytes).
+    DataBitTimingConst(CanBitTimingConst),
+    /// The resistance of the bus termination, in ohms; 0 for none (`IFLA_CAN_TERMINATION`, two bytes).
+    Termination(u16),
+    /// The greatest bit rate of the transceiver, in bits per second (`IFLA_CAN_BITRATE_MAX`, four bytes).
+    BitrateMax(u32),
+    /// The transmitter delay compensation of CAN FD (`IFLA_CAN_TDC`, a list that is written with `NLA_F_NESTED`).
+    Tdc(Vec<CanTdc>),
+    /// What the controller says of its modes (`IFLA_CAN_CTRLMODE_EXT`, a list that is written with `NLA_F_NESTED`).
+    CtrlModeExt(Vec<CanCtrlModeExt>),
+    /// An attribute of any other kind.
+    Other(DefaultNla),
+}
+
+impl TryClone for InfoCan {
+    fn try_clone(&self, alloc: Global) -> Result<Self, AllocError> {
+        match self {
+            InfoCan::BitTiming(timing) => Ok(InfoCan::BitTiming(*timing)),
+            InfoCan::BitTimingConst(limits) => Ok(InfoCan::BitTimingConst(limits.try_clone(
+                alloc,
+            )?)),
+            InfoCan::Clock(clock) => Ok(InfoCan::Clock(*clock)),
+            InfoCan::State(state) => Ok(InfoCan::State(*state)),
+            InfoCan::CtrlMode(modes) => Ok(InfoCan::CtrlMode(*modes)),
+            InfoCan::RestartMs(delay) => Ok(InfoCan::RestartMs(*delay)),
+            InfoCan::Restart(restart) => Ok(InfoCan::Restart(*restart)),
+            InfoCan::BerrCounter(errors) => Ok(InfoCan::BerrCounter(*errors)),
+            InfoCan::DataBitTiming(timing) => Ok(InfoCan::DataBitTiming(*timing)),
+            InfoCan::DataBitTimingConst(limits) => Ok(InfoCan::DataBitTimingConst(limits.try_clone(
+                alloc,
+            )?)),
+            InfoCan::Termination(resistance) => Ok(InfoCan::Termination(*resistance)),
+            InfoCan::BitrateMax(rate) => Ok(InfoCan::BitrateMax(*rate)),
+            InfoCan::Tdc(tdcs) => Ok(InfoCan::Tdc(try_clone_list(alloc, tdcs)?)),
+            InfoCan::CtrlModeExt(exts) => Ok(InfoCan::CtrlModeExt(try_clone_list(alloc, exts)?)),
+            InfoCan::Other(other) => Ok(InfoCan::Other(other.try_clone(alloc)?)),
+        }
+    }
+}
+
+impl Meaning for InfoCan {
+    ghost use Rattle.link_vlan_can.specs.Can.{can_table, can_means};
+
+    ghost table = { can_table };
+
+    ghost means = { can_means };
+}
+
+impl Nla for InfoCan {
+    fn kind(&self) -> u16 {
+        match self {
+            InfoCan::BitTiming(_) => IFLA_CAN_BITTIMING,
+            InfoCan::BitTimingConst(_) => IFLA_CAN_BITTIMING_CONST,
+            InfoCan::Clock(_) => IFLA_CAN_CLOCK,
+            InfoCan::State(_) => IFLA_CAN_STATE,
+            InfoCan::CtrlMode(_) => IFLA_CAN_CTRLMODE,
+            InfoCan::RestartMs(_) => IFLA_CAN_RESTART_MS,
+            InfoCan::Restart(_) => IFLA_CAN_RESTART,
+            InfoCan::BerrCounter(_) => IFLA_CAN_BERR_COUNTER,
+            InfoCan::DataBitTiming(_) => IFLA_CAN_DATA_BITTIMING,
+            InfoCan::DataBitTimingConst(_) => IFLA_CAN_DATA_BITTIMING_CONST,
+            InfoCan::Termination(_) => IFLA_CAN_TERMINATION,
+            InfoCan::BitrateMax(_) => IFLA_CAN_BITRATE_MAX,
+            InfoCan::Tdc(_) => IFLA_CAN_TDC | NLA_F_NESTED,
+            InfoCan::CtrlModeExt(_) => IFLA_CAN_CTRLMODE_EXT | NLA_F_NESTED,
+            InfoCan::Other(other) => other.kind(),
+        }
+    }
+
+    fn value_len(&self) -> usize {
+        match self {
+            InfoCan::BitTiming(_) | InfoCan::DataBitTiming(_) => 32,
+            InfoCan::BitTimingConst(_) | InfoCan::DataBitTimingConst(_) => 48,
+            InfoCan::CtrlMode(_) => 8,
+            InfoCan::Clock(_) | InfoCan::BerrCounter(_) | InfoCan::BitrateMax(_) => 4,
+            InfoCan::State(_) | InfoCan::RestartMs(_) | InfoCan::Restart(_) => 4,
+            InfoCan::Termination(_) => 2,
+            InfoCan::Tdc(tdcs) => nested_len(tdcs),
+            InfoCan::CtrlModeExt(exts) => nested_len(exts),
+            InfoCan::Other(other) => other.value_len(),
+        }
+    }
+
+    fn emit_value(&self, buffer: &mut [u8]) {
+        match self {
+            InfoCan::BitTiming(timing) => timing.emit(buffer),
+            InfoCan::BitTimingConst(limits) => limits.emit(buffer),
+            InfoCan::Clock(clock) => clock.emit(buffer),
+            InfoCan::State(state) => emit_u32(buffer, *state),
+            InfoCan::CtrlMode(modes) => modes.emit(buffer),
+            InfoCan::RestartMs(delay) => emit_u32(buffer, *delay),
+            InfoCan::Restart(restart) => emit_u32(buffer, *restart),
+            InfoCan::BerrCounter(errors) => errors.emit(buffer),
+            InfoCan::DataBitTiming(timing) => timing.emit(buffer),
+            InfoCan::DataBitTimingConst(limits) => limits.emit(buffer),
+            InfoCan::Termination(resistance) => emit_u16(buffer, *resistance),
+            InfoCan::BitrateMax(rate) => emit_u32(buffer, *rate),
+            InfoCan::Tdc(tdcs) => emit_nested(tdcs, buffer),
+            InfoCan::CtrlModeExt(exts) => emit_nested(exts, buffer),
+            InfoCan::Other(other) => other.emit_value(buffer),
+        }
+    }
+}
+
+impl Parseable for InfoCan {
+    fn parse_payload(alloc: Global, buffer: &NlaBuffer<'_>) -> Result<Self, DecodeError> {
+        let kind = buffer.kind();
+        let payload = buffer.value();
+        match kind {
+            IFLA_CAN_BITTIMING => CanBitTiming::parse(payload).map(Self::BitTiming),
+            IFLA_CAN_BITTIMING_CONST => CanBitTimingConst::parse(alloc, payload).map(
+                Self::BitTimingConst,
+            ),
+            IFLA_CAN_CLOCK => CanClock::parse(payload).map(Self::Clock),
+            IFLA_CAN_STATE => parse_u32(payload).map(Self::State),
+            IFLA_CAN_CTRLMODE => CanCtrlMode::parse(payload).map(Self::CtrlMode),
+            IFLA_CAN_RESTART_MS => parse_u32(payload).map(Self::RestartMs),
+            IFLA_CAN_RESTART => parse_u32(payload).map(Self::Restart),
+            IFLA_CAN_BERR_COUNTER => CanBerrCounter::parse(payload).map(Self::BerrCounter),
+            IFLA_CAN_DATA_BITTIMING => CanBitTiming::parse(payload).map(Self::DataBitTiming),
+            IFLA_CAN_DATA_BITTIMING_CONST => CanBitTimingConst::parse(alloc, payload).map(
+                Self::DataBitTimingConst,
+            ),
+            IFLA_CAN_TERMINATION => parse_u16(payload).map(Self::Termination),
+            IFLA_CAN_BITRATE_MAX => parse_u32(payload).map(Self::BitrateMax),
+            IFLA_CAN_TDC => read_nested(alloc, kind, payload).map(Self::Tdc),
+            IFLA_CAN_CTRLMODE_EXT => read_nested(alloc, kind, payload).map(Self::CtrlModeExt),
+            _ => DefaultNla::parse(alloc, buffer).map(Self::Other),
+        }
+    }
+}
+
+impl Attribute for InfoCan {
+    ghost use Rattle.std.specs.Prelude.{refl};
+    ghost use Rattle.link_base.proofs.TableLaws.{lawful};
+    ghost use Rattle.link_vlan_can.specs.Can.{can_table};
+    ghost use Rattle.link_base.specs.Equality.{of_cases, anything, numbers, lists, defaults};
+    ghost use Rattle.link_vlan_can.specs.CanEquality.{timings, limits, clocks, modes, counters};
+    ghost use Rattle.link_vlan_can.specs.contracts.can_tdc.CanTdcAttribute.TheImpl.Laws.{thorough-law as tdcs};
+    ghost use Rattle.link_vlan_can.specs.contracts.can_modes.CanCtrlModeExtAttribute.TheImpl.Laws.{thorough-law as exts};
+    ghost use Rattle.link_vlan_can.specs.contracts.can.InfoCan.{enum};
+
+    ghost lawful = { lawful can_table };
+
+    ghost well_formed = { refl };
+
+    ghost thorough = { of_cases enum _ _ (anything timings, (limits, (anything clocks, (anything numbers, (anything modes, (anything numbers, (anything numbers, (anything counters, (anything timings, (limits, (anything numbers, (anything numbers, (lists tdcs, (lists exts, (defaults, tt))))))))))))))) };
+}

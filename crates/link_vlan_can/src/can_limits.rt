@@ -1,0 +1,148 @@
+//! The limits of a CAN controller's bit timing, with the controller's name.
+
+ghost use Rattle.std.specs.Prelude.{◌≡◌, ◌≤◌, [], length, take, drop, IfOk, string_bytes};
+ghost use Rattle.link_base.specs.Name.{name_of, name_field};
+ghost use Rattle.link_base.specs.Class.{Limits, IsInRange, written};
+ghost use Rattle.link_base.specs.Answers.{OnMemory, OverwritesFront};
+ghost use Rattle.link_vlan_can.specs.CanLimits.{limits_view, limits_with, limits_octets, limits_value, LimitsAnswer};
+
+use bstr::ByteSlice;
+use link_base::{DecodeError, at_least, emit_u32s, u32_at};
+use std::alloc::{AllocError, Global};
+
+/// The bytes of a name field.
+const NAME: usize = 16;
+
+/// The limits of a CAN controller's bit timing (`struct can_bittiming_const`, `include/uapi/linux/can/netlink.h`): a
+/// name field of 16 bytes, and eight numbers of four bytes.
+#[derive(Debug, PartialEq, Eq, Drop)]
+pub struct CanBitTimingConst {
+    /// The name of the controller. It is written as its first 15 bytes, and zeros up to 16.
+    pub name: String,
+    /// The least sum of the propagation segment and the first phase buffer segment, in time quanta.
+    pub tseg1_min: u32,
+    /// The greatest such sum, in time quanta.
+    pub tseg1_max: u32,
+    /// The least second phase buffer segment, in time quanta.
+    pub tseg2_min: u32,
+    /// The greatest second phase buffer segment, in time quanta.
+    pub tseg2_max: u32,
+    /// The greatest synchronisation jump width, in time quanta.
+    pub sjw_max: u32,
+    /// The least prescaler of the bit rate.
+    pub brp_min: u32,
+    /// The greatest prescaler of the bit rate.
+    pub brp_max: u32,
+    /// The step from one prescaler to the next.
+    pub brp_inc: u32,
+}
+
+impl CanBitTimingConst {
+    /// The limits of this name, all numbers zero. Fails where a growth was refused.
+    pub fn new(alloc: Global, name: &str) -> Result<Self, AllocError>
+        ensures { IfOk result (λ limits. limits_view limits ≡ limits_with name.now) }
+    {
+        Ok(Self::named(String::from_str(alloc, name)?))
+    }
+
+    /// The limits of no name, all numbers zero. It takes no memory.
+    pub fn empty(alloc: Global) -> Self
+        ensures { limits_view result ≡ limits_with [] }
+    {
+        Self::named(String::new(alloc))
+    }
+
+    fn named(name: String) -> Self
+        ensures { limits_view result ≡ limits_with (string_bytes name) }
+    {
+        CanBitTimingConst {
+            name,
+            tseg1_min: 0,
+            tseg1_max: 0,
+            tseg2_min: 0,
+            tseg2_max: 0,
+            sjw_max: 0,
+            brp_min: 0,
+            brp_max: 0,
+            brp_inc: 0,
+        }
+    }
+
+    /// An equal value. Fails where a growth was refused.
+    pub fn try_clone(&self, alloc: Global) -> Result<Self, AllocError>
+        ensures { IfOk result (λ limits. limits_view limits ≡ limits_view self.now) }
+    {
+        Ok(CanBitTimingConst {
+            name: String::from_str(alloc, &self.name)?,
+            tseg1_min: self.tseg1_min,
+            tseg1_max: self.tseg1_max,
+            tseg2_min: self.tseg2_min,
+            tseg2_max: self.tseg2_max,
+            sjw_max: self.sjw_max,
+            brp_min: self.brp_min,
+            brp_max: self.brp_max,
+            brp_inc: self.brp_inc,
+        })
+    }
+
+    pub(crate) fn parse(alloc: Global, payload: &[u8]) -> Result<Self, DecodeError>
+        ensures value { LimitsAnswer payload.now result }
+        ensures octets { IfOk result (λ limits. limits_octets limits ≡ take 32 (drop 16 payload.now)) }
+        ensures memory { OnMemory result (48 ≤ length payload.now) }
+    {
+        at_least(payload, 48)?;
+        Ok(CanBitTimingConst {
+            name: read_name(alloc, &payload[..NAME]).map_err(DecodeError::Memory)?,
+            tseg1_min: u32_at(payload, 16),
+            tseg1_max: u32_at(payload, 20),
+            tseg2_min: u32_at(payload, 24),
+            tseg2_max: u32_at(payload, 28),
+            sjw_max: u32_at(payload, 32),
+            brp_min: u32_at(payload, 36),
+            brp_max: u32_at(payload, 40),
+            brp_inc: u32_at(payload, 44),
+        })
+    }
+
+    pub(crate) fn emit(&self, buffer: &mut [u8])
+        requires { 48 ≤ length buffer.old }
+        ensures written { OverwritesFront buffer.old buffer.new (written (limits_value self.now)) }
+        ensures in_range { IsInRange Limits (limits_value self.now) }
+    {
+        emit_name(buffer, &self.name);
+        emit_u32s(
+            &mut buffer[NAME..],
+            &[
+                self.tseg1_min,
+                self.tseg1_max,
+                self.tseg2_min,
+                self.tseg2_max,
+                self.sjw_max,
+                self.brp_min,
+                self.brp_max,
+                self.brp_inc,
+            ],
+        );
+    }
+}
+
+/// The text before the first NUL, or all of it.
+fn read_name(alloc: Global, field: &[u8]) -> Result<String, AllocError>
+    ensures { IfOk result (λ name. string_bytes name ≡ name_of field.now) }
+{
+    let end = field.find_byte(0).unwrap_or(field.len());
+    let text = &field[..end];
+    let mut name = String::new(alloc);
+    text.to_str_lossy_into(&mut name)?;
+    Ok(name)
+}
+
+fn emit_name(buffer: &mut [u8], name: &str)
+    requires { 16 ≤ length buffer.old }
+    ensures { OverwritesFront buffer.old buffer.new (name_field name.now) }
+{
+    let bytes = name.as_bytes();
+    let end = bytes.len().min(NAME - 1);
+    buffer[..end].copy_from_slice(&bytes[..end]);
+    buffer[end..NAME].fill(0);
+}

@@ -1,0 +1,105 @@
+//! What a CAN controller says of its modes.
+
+use crate::can_flags::CanCtrlModeFlags;
+use bitflags::Flags;
+use link_base::{
+    Attribute, DecodeError, DefaultNla, Meaning, NestedAttribute, Nla, NlaBuffer, Parseable,
+    TryClone, emit_u32, parse_u32,
+};
+use std::alloc::{AllocError, Global};
+
+/// `IFLA_CAN_CTRLMODE_SUPPORTED`, `include/uapi/linux/can/netlink.h`.
+const IFLA_CAN_CTRLMODE_SUPPORTED: u16 = 1;
+
+/// An attribute of the modes of a CAN controller (`IFLA_CAN_CTRLMODE_*`, `include/uapi/linux/can/netlink.h`).
+#[derive(Debug, PartialEq, Eq, Drop)]
+pub enum CanCtrlModeExt {
+    /// The modes that the controller supports (`IFLA_CAN_CTRLMODE_SUPPORTED`, four bytes).
+    Supported(CanCtrlModeFlags),
+    /// An attribute of any other kind.
+    Other(DefaultNla),
+}
+
+impl TryClone for CanCtrlModeExt {
+    fn try_clone(&self, alloc: Global) -> Result<Self, AllocError> {
+        match self {
+            CanCtrlModeExt::Supported(modes) => Ok(CanCtrlModeExt::Supported(*modes)),
+            CanCtrlModeExt::Other(other) => Ok(CanCtrlModeExt::Other(other.try_clone(alloc)?)),
+        }
+    }
+}
+
+impl Meaning for CanCtrlModeExt {
+    ghost use Rattle.link_base.specs.Lift.{lift, lift_table};
+    ghost use Rattle.link_vlan_can.specs.Can.{mode_rows, mode_leaf};
+
+    ghost table = { lift_table mode_rows };
+
+    ghost means = { λ mode. lift (mode_leaf mode) };
+}
+
+impl Nla for CanCtrlModeExt {
+    fn kind(&self) -> u16 {
+        match self {
+            CanCtrlModeExt::Supported(_) => IFLA_CAN_CTRLMODE_SUPPORTED,
+            CanCtrlModeExt::Other(other) => other.kind(),
+        }
+    }
+
+    fn value_len(&self) -> usize {
+        match self {
+            CanCtrlModeExt::Supported(_) => 4,
+            CanCtrlModeExt::Other(other) => other.value_len(),
+        }
+    }
+
+    fn emit_value(&self, buffer: &mut [u8]) {
+        match self {
+            CanCtrlModeExt::Supported(modes) => emit_u32(buffer, modes.bits()),
+            CanCtrlModeExt::Other(other) => other.emit_value(buffer),
+        }
+    }
+}
+
+impl Parseable for CanCtrlModeExt {
+    fn parse_payload(alloc: Global, buffer: &NlaBuffer<'_>) -> Result<Self, DecodeError> {
+        let payload = buffer.value();
+        match buffer.kind() {
+            IFLA_CAN_CTRLMODE_SUPPORTED => parse_u32(payload).map(|bits| Self::Supported(
+                CanCtrlModeFlags::from_bits_retain(bits),
+            )),
+            _ => DefaultNla::parse(alloc, buffer).map(Self::Other),
+        }
+    }
+}
+
+impl Attribute for CanCtrlModeExt {
+    ghost use Rattle.std.specs.Prelude.{refl};
+    ghost use Rattle.link_base.proofs.TableLaws.{lawful};
+    ghost use Rattle.link_base.specs.Lift.{lift_table};
+    ghost use Rattle.link_vlan_can.specs.Can.{mode_rows};
+    ghost use Rattle.link_base.specs.Equality.{of_cases, thorough_fields};
+    ghost use Rattle.link_vlan_can.specs.contracts.can_flags.CanCtrlModeFlagsFlagSet.TheImpl.Laws.{thorough-law as modes_thorough};
+    ghost use Rattle.link_vlan_can.specs.contracts.can_modes.CanCtrlModeExt.{enum};
+
+    ghost lawful = { lawful (lift_table mode_rows) };
+
+    ghost well_formed = { refl };
+
+    ghost thorough = { of_cases enum _ _ (Prim.search (thorough_fields, modes_thorough)) };
+}
+
+impl NestedAttribute for CanCtrlModeExt {
+    ghost use Rattle.std.specs.Prelude.{true, refl};
+    ghost use Rattle.link_vlan_can.specs.Can.{mode_rows, mode_leaf};
+
+    ghost rows = { mode_rows };
+
+    ghost flagged = { true };
+
+    ghost leaf = { mode_leaf };
+
+    ghost same_table = { refl };
+
+    ghost same_means = { λ _. refl };
+}

@@ -1,0 +1,167 @@
+//! Transmitter delay compensation of a CAN controller.
+
+use link_base::{
+    Attribute, DecodeError, DefaultNla, Meaning, NestedAttribute, Nla, NlaBuffer, Parseable,
+    TryClone, emit_u32, parse_u32,
+};
+use std::alloc::{AllocError, Global};
+
+// `include/uapi/linux/can/netlink.h`
+const IFLA_CAN_TDC_TDCV_MIN: u16 = 1;
+
+const IFLA_CAN_TDC_TDCV_MAX: u16 = 2;
+
+const IFLA_CAN_TDC_TDCO_MIN: u16 = 3;
+
+const IFLA_CAN_TDC_TDCO_MAX: u16 = 4;
+
+const IFLA_CAN_TDC_TDCF_MIN: u16 = 5;
+
+const IFLA_CAN_TDC_TDCF_MAX: u16 = 6;
+
+const IFLA_CAN_TDC_TDCV: u16 = 7;
+
+const IFLA_CAN_TDC_TDCO: u16 = 8;
+
+const IFLA_CAN_TDC_TDCF: u16 = 9;
+
+/// An attribute of transmitter delay compensation (`IFLA_CAN_TDC_*`, `include/uapi/linux/can/netlink.h`). Each is a
+/// number of four bytes, in periods of the controller's clock.
+#[derive(Debug, PartialEq, Eq, Drop)]
+pub enum CanTdc {
+    /// The least value (`IFLA_CAN_TDC_TDCV_MIN`).
+    TdcvMin(u32),
+    /// The greatest value (`IFLA_CAN_TDC_TDCV_MAX`).
+    TdcvMax(u32),
+    /// The least offset (`IFLA_CAN_TDC_TDCO_MIN`).
+    TdcoMin(u32),
+    /// The greatest offset (`IFLA_CAN_TDC_TDCO_MAX`).
+    TdcoMax(u32),
+    /// The least filter window (`IFLA_CAN_TDC_TDCF_MIN`).
+    TdcfMin(u32),
+    /// The greatest filter window (`IFLA_CAN_TDC_TDCF_MAX`).
+    TdcfMax(u32),
+    /// The value: the delay from the start of a bit as it is sent until its start is received (`IFLA_CAN_TDC_TDCV`).
+    Tdcv(u32),
+    /// The offset: from the start of a received bit to the place where it is sampled (`IFLA_CAN_TDC_TDCO`).
+    Tdco(u32),
+    /// The filter window: the least sum of value and offset at which the delay is compensated (`IFLA_CAN_TDC_TDCF`).
+    Tdcf(u32),
+    /// An attribute of any other kind.
+    Other(DefaultNla),
+}
+
+impl TryClone for CanTdc {
+    fn try_clone(&self, alloc: Global) -> Result<Self, AllocError> {
+        match self {
+            CanTdc::TdcvMin(periods) => Ok(CanTdc::TdcvMin(*periods)),
+            CanTdc::TdcvMax(periods) => Ok(CanTdc::TdcvMax(*periods)),
+            CanTdc::TdcoMin(periods) => Ok(CanTdc::TdcoMin(*periods)),
+            CanTdc::TdcoMax(periods) => Ok(CanTdc::TdcoMax(*periods)),
+            CanTdc::TdcfMin(periods) => Ok(CanTdc::TdcfMin(*periods)),
+            CanTdc::TdcfMax(periods) => Ok(CanTdc::TdcfMax(*periods)),
+            CanTdc::Tdcv(periods) => Ok(CanTdc::Tdcv(*periods)),
+            CanTdc::Tdco(periods) => Ok(CanTdc::Tdco(*periods)),
+            CanTdc::Tdcf(periods) => Ok(CanTdc::Tdcf(*periods)),
+            CanTdc::Other(other) => Ok(CanTdc::Other(other.try_clone(alloc)?)),
+        }
+    }
+}
+
+impl Meaning for CanTdc {
+    ghost use Rattle.link_base.specs.Lift.{lift, lift_table};
+    ghost use Rattle.link_vlan_can.specs.Can.{tdc_rows, tdc_leaf};
+
+    ghost table = { lift_table tdc_rows };
+
+    ghost means = { λ tdc. lift (tdc_leaf tdc) };
+}
+
+impl Nla for CanTdc {
+    fn kind(&self) -> u16 {
+        match self {
+            CanTdc::TdcvMin(_) => IFLA_CAN_TDC_TDCV_MIN,
+            CanTdc::TdcvMax(_) => IFLA_CAN_TDC_TDCV_MAX,
+            CanTdc::TdcoMin(_) => IFLA_CAN_TDC_TDCO_MIN,
+            CanTdc::TdcoMax(_) => IFLA_CAN_TDC_TDCO_MAX,
+            CanTdc::TdcfMin(_) => IFLA_CAN_TDC_TDCF_MIN,
+            CanTdc::TdcfMax(_) => IFLA_CAN_TDC_TDCF_MAX,
+            CanTdc::Tdcv(_) => IFLA_CAN_TDC_TDCV,
+            CanTdc::Tdco(_) => IFLA_CAN_TDC_TDCO,
+            CanTdc::Tdcf(_) => IFLA_CAN_TDC_TDCF,
+            CanTdc::Other(other) => other.kind(),
+        }
+    }
+
+    fn value_len(&self) -> usize {
+        match self {
+            CanTdc::TdcvMin(_) | CanTdc::TdcvMax(_) | CanTdc::Tdcv(_) => 4,
+            CanTdc::TdcoMin(_) | CanTdc::TdcoMax(_) | CanTdc::Tdco(_) => 4,
+            CanTdc::TdcfMin(_) | CanTdc::TdcfMax(_) | CanTdc::Tdcf(_) => 4,
+            CanTdc::Other(other) => other.value_len(),
+        }
+    }
+
+    fn emit_value(&self, buffer: &mut [u8]) {
+        match self {
+            CanTdc::TdcvMin(periods) => emit_u32(buffer, *periods),
+            CanTdc::TdcvMax(periods) => emit_u32(buffer, *periods),
+            CanTdc::TdcoMin(periods) => emit_u32(buffer, *periods),
+            CanTdc::TdcoMax(periods) => emit_u32(buffer, *periods),
+            CanTdc::TdcfMin(periods) => emit_u32(buffer, *periods),
+            CanTdc::TdcfMax(periods) => emit_u32(buffer, *periods),
+            CanTdc::Tdcv(periods) => emit_u32(buffer, *periods),
+            CanTdc::Tdco(periods) => emit_u32(buffer, *periods),
+            CanTdc::Tdcf(periods) => emit_u32(buffer, *periods),
+            CanTdc::Other(other) => other.emit_value(buffer),
+        }
+    }
+}
+
+impl Parseable for CanTdc {
+    fn parse_payload(alloc: Global, buffer: &NlaBuffer<'_>) -> Result<Self, DecodeError> {
+        let payload = buffer.value();
+        match buffer.kind() {
+            IFLA_CAN_TDC_TDCV_MIN => parse_u32(payload).map(Self::TdcvMin),
+            IFLA_CAN_TDC_TDCV_MAX => parse_u32(payload).map(Self::TdcvMax),
+            IFLA_CAN_TDC_TDCO_MIN => parse_u32(payload).map(Self::TdcoMin),
+            IFLA_CAN_TDC_TDCO_MAX => parse_u32(payload).map(Self::TdcoMax),
+            IFLA_CAN_TDC_TDCF_MIN => parse_u32(payload).map(Self::TdcfMin),
+            IFLA_CAN_TDC_TDCF_MAX => parse_u32(payload).map(Self::TdcfMax),
+            IFLA_CAN_TDC_TDCV => parse_u32(payload).map(Self::Tdcv),
+            IFLA_CAN_TDC_TDCO => parse_u32(payload).map(Self::Tdco),
+            IFLA_CAN_TDC_TDCF => parse_u32(payload).map(Self::Tdcf),
+            _ => DefaultNla::parse(alloc, buffer).map(Self::Other),
+        }
+    }
+}
+
+impl Attribute for CanTdc {
+    ghost use Rattle.std.specs.Prelude.{refl};
+    ghost use Rattle.link_base.proofs.TableLaws.{lawful};
+    ghost use Rattle.link_base.specs.Lift.{lift_table};
+    ghost use Rattle.link_vlan_can.specs.Can.{tdc_rows};
+    ghost use Rattle.link_base.specs.Equality.{of_cases, thorough_fields};
+    ghost use Rattle.link_vlan_can.specs.contracts.can_tdc.CanTdc.{enum};
+
+    ghost lawful = { lawful (lift_table tdc_rows) };
+
+    ghost well_formed = { refl };
+
+    ghost thorough = { of_cases enum _ _ (Prim.search (thorough_fields)) };
+}
+
+impl NestedAttribute for CanTdc {
+    ghost use Rattle.std.specs.Prelude.{true, refl};
+    ghost use Rattle.link_vlan_can.specs.Can.{tdc_rows, tdc_leaf};
+
+    ghost rows = { tdc_rows };
+
+    ghost flagged = { true };
+
+    ghost leaf = { tdc_leaf };
+
+    ghost same_table = { refl };
+
+    ghost same_means = { λ _. refl };
+}
