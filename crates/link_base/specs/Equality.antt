@@ -95,19 +95,17 @@ defaults = record {
 pub texts : IsThorough string_eq (λ (t : String Global). string_bytes t)
 texts = record { same = λ a b e. octets.same (string_bytes a) (string_bytes b) e }
 
--- two values, each with its test
-pub pairs : {A B : Type 0} {E : A → A → Bool} {F : B → B → Bool} → IsThorough E (λ (a : A). a) → IsThorough F (λ (b : B). b)
-    → IsThorough (λ (x y : A × B). E x.0 y.0 && F x.1 y.1) (λ (x : A × B). x)
-pairs {E = E} {F} h k = record {
-  same = λ x y e. ap₂ (λ a b. (a, b)) (h.same x.0 y.0 (first_so (E x.0 y.0) (F x.1 y.1) e)) (k.same x.1 y.1 (second_so (E x.0 y.0) (F x.1 y.1) e));
-}
-
 -- two values, of each a meaning
 pub pairs_by : {A B M L : Type 0} {E : A → A → Bool} {F : B → B → Bool} {means : A → M} {others : B → L} → IsThorough E means → IsThorough F others
     → IsThorough {M = M × L} (λ (x y : A × B). E x.0 y.0 && F x.1 y.1) (λ (x : A × B). (means x.0, others x.1))
 pairs_by {E = E} {F} h k = record {
   same = λ x y e. ap₂ (λ a b. (a, b)) (h.same x.0 y.0 (first_so (E x.0 y.0) (F x.1 y.1) e)) (k.same x.1 y.1 (second_so (E x.0 y.0) (F x.1 y.1) e));
 }
+
+-- two values, each with its test
+pub pairs : {A B : Type 0} {E : A → A → Bool} {F : B → B → Bool} → IsThorough E (λ (a : A). a) → IsThorough F (λ (b : B). b)
+    → IsThorough (λ (x y : A × B). E x.0 y.0 && F x.1 y.1) (λ (x : A × B). x)
+pairs h k = pairs_by h k
 
 -- a struct of one part
 pub wrapped : {K J : Type 0} {eq : J → J → Bool} (part : K → J) (wrap : J → K) → ((a : K) → wrap (part a) ≡ a) → IsThorough eq (λ (x : J). x)
