@@ -15,7 +15,7 @@ use Rattle.link_base.specs.declared.fault.Cause.TheVariants.{WrongLength, TooSho
 pub data Extent : Type 0 where
   Exactly AtLeast Fixed Multiple : ℕ → Extent
 
--- how many bytes of a record are kept: a record is no multiple
+-- how many bytes of a record are kept; in a well-formed table `Octets` never has the extent `Multiple`
 abbrev pub size_of : Extent → ℕ
 size_of (Exactly n) = n
 size_of (AtLeast n) = n

@@ -32,7 +32,7 @@ pub record IsThorough {K M : Type 0} (eq : K → K → Bool) (means : K → M) :
 
 -- ---- enums
 
--- so of the fields of one case
+-- the same, of the fields of one case
 abbrev pub CaseThorough : {M : Type 0} (Fs : List Field) → (Values Fs → Values Fs → Bool) → (Values Fs → M) → Type 0
 CaseThorough [] eq means = Unit {0}
 CaseThorough (F ∷ []) eq means = IsThorough (λ x y. eq (x, tt) (y, tt)) (λ x. means (x, tt))
@@ -46,7 +46,7 @@ fields (F ∷ []) eq means h a b e = h.same a.0 b.0 e
 fields (F ∷ G ∷ []) eq means h a b e = h.same (a.0, a.1.0) (b.0, b.1.0) e
 fields (F ∷ G ∷ H ∷ Fs) eq means h a b e = h.same a b e
 
--- so of each case
+-- the same, of each case
 abbrev pub EachThorough : {M : Type 0} (Fss : List (List Field)) → Each Bool Fss → (Choice Fss → M) → Type 0
 EachThorough [] eqs means = Unit {0}
 EachThorough (Fs ∷ Fss) eqs means = CaseThorough Fs eqs.0 (λ x. means (inl x)) × EachThorough Fss eqs.1 (λ c. means (inr c))

@@ -12,7 +12,6 @@ pub mod Buffer
 pub mod Answers
 pub mod Address
 pub mod Addresses
-pub mod Pair
 pub mod Layout
 pub mod Named
 pub mod Protocol

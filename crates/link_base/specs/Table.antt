@@ -110,7 +110,7 @@ abbrev pub list_case : {V : Type 0} → (List V → Content) → ℕ → Result 
 list_case content k (Ok vs) = Ok (Case k (content vs))
 list_case content k (Err e) = Err (nested_fault k e.1)
 
--- what a payload reads as that is a list
+-- what a payload that is a list reads as
 abbrev pub ListGives : {V : Type 0} → Reading V → (List V → Content) → ℕ → List ℕ → Result AttrValue DecodeFault → Type 0
 ListGives {V} gives content k p r = (q : Result (List V) (ℕ × DecodeFault)) × Reads gives p q × (r ≡ list_case content k q)
 

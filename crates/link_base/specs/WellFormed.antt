@@ -10,7 +10,8 @@ abbrev pub is_record : Extent → Bool
 is_record (Multiple n) = false
 is_record e = true
 
--- octets are no multiple, the numbers of a list have two or four bytes, and each number with a name fits its bytes
+-- `Octets` never has the extent `Multiple`, the numbers of a list have two or four bytes, and each number with a name
+-- fits its bytes
 abbrev pub is_class : Class → Bool
 is_class (Octets e) = is_record e
 is_class (Many n) = n == 2 || n == 4

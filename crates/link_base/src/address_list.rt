@@ -24,17 +24,17 @@ pub trait Address: Copy {
     /// The octets of an address, in order.
     ghost octets: { Self → List ℕ };
 
-    /// There are as many.
+    /// Every address has `SIZE` octets.
     ghost sized: { (a : Self) → length (octets a) ≡ SIZE };
 
-    /// They are few.
+    /// `SIZE` is at most 16.
     ghost few: { IsTrue (nat_lt SIZE 17) };
 
     /// The address of these octets; `None` where there are more or fewer.
     fn from_payload(payload: &[u8]) -> Option<Self>
         ensures { MatchOption result (length payload.now ≢ SIZE) (λ a. (length payload.now ≡ SIZE) × (octets a ≡ payload.now)) };
 
-    /// Writes the octets into a buffer of as many bytes.
+    /// Writes the octets into a buffer of `SIZE` bytes.
     fn put(&self, buffer: &mut [u8])
         requires { length buffer.old ≡ SIZE }
         ensures written { buffer.new ≡ octets self.now }

@@ -16,9 +16,9 @@ use crate::fault::{DecodeError, of_kind};
 use std::alloc::Global;
 
 /// The most bytes of a payload: the greatest `nla_len`, 65535, without the four of the header.
-pub(crate) const MOST: usize = 65531;
+pub(crate) const MAX_PAYLOAD: usize = 65531;
 
-/// What the values of a type stand for. It has no calls.
+/// What the values of a type stand for. It has no methods, and carries laws alone.
 pub trait Meaning {
     /// The rows of the type: kinds, and what their payloads are.
     ghost table: { Table };
@@ -37,7 +37,7 @@ pub trait Nla: Meaning {
     fn value_len(&self) -> usize
         ensures { result ≡ capped (length (written_payload (Self.means self.now))) };
 
-    /// Writes the payload into a buffer of exactly `value_len` bytes. The value `fits`.
+    /// Writes the payload into a buffer of exactly `value_len` bytes. Requires that the value `fits`.
     fn emit_value(&self, buffer: &mut [u8])
         requires fits { Fits (Self.means self.now) }
         requires exact { length buffer.old ≡ length (written_payload (Self.means self.now)) }
@@ -48,7 +48,7 @@ pub trait Nla: Meaning {
     fn fits(&self) -> bool
         ensures { IsTrue result ↔ Fits (Self.means self.now) }
     {
-        self.value_len() <= MOST
+        self.value_len() <= MAX_PAYLOAD
     }
 
     /// The bytes of the written frame: header, payload, and padding up to a multiple of four; the greatest `usize`
@@ -65,7 +65,7 @@ pub trait Nla: Meaning {
     }
 
     /// Writes the frame to the front of a buffer of at least `buffer_len` bytes, with zeros for padding, and leaves
-    /// the bytes behind it as they are. The value `fits`.
+    /// the bytes behind it as they are. Requires that the value `fits`.
     fn emit(&self, buffer: &mut [u8])
         requires fits { Fits (Self.means self.now) }
         requires room { length (written_frame (Self.means self.now)) ≤ length buffer.old }
@@ -99,8 +99,8 @@ fn put_zeros(buffer: &mut [u8], start: usize, end: usize)
 
 /// A value that can be read from an attribute. A type gives `parse_payload`, a `match` on the kind.
 pub trait Parseable: Meaning + Drop {
-    /// The value of a frame, as `parse` reads it, but that a fault of a bad payload may lack the kind (`Payload`):
-    /// `parse` puts it in.
+    /// What a type gives for `parse`, which is the call to use: the same answer, except that the fault of a bad payload may
+    /// come without its kind (`Payload`).
     fn parse_payload(alloc: Global, buffer: &NlaBuffer<'_>) -> Result<Self, DecodeError>
         ensures answer { Answers Self.means (under_kind (kind_of (kind_field_of buffer.now)) result) (Gives Self.table (kind_field_of buffer.now) (payload_of buffer.now)) }
         ensures memory { OnMemory result (TakesMemory Self.table (kind_field_of buffer.now)) };
@@ -118,7 +118,7 @@ pub trait Parseable: Meaning + Drop {
 }
 
 /// An attribute of one family: what is read and what is written agree, by these laws.
-pub trait Attribute: Nla + Parseable + PartialEq {
+pub trait Attribute: Nla + Parseable + Eq {
     /// The laws of one attribute hold of the type's table.
     ghost lawful: { IsLawful Self.table };
 

@@ -5,6 +5,12 @@ ghost use Rattle.link_base.specs.Frame.{BeginsWith, kind_of};
 
 use crate::fault::{Cause, DecodeError, DecodeFault};
 
+const NLA_F_NESTED: u16 = 0x8000;
+
+const NLA_F_NET_BYTEORDER: u16 = 0x4000;
+
+const NLA_TYPE_MASK: u16 = 0x3FFF;
+
 /// The frame at the front of some bytes, without its padding: a `struct nlattr` and its payload
 /// (`include/uapi/linux/netlink.h`). It borrows the bytes and copies none.
 #[derive(Clone, Copy, Debug, PartialEq, Eq)]
@@ -75,7 +81,7 @@ impl<'a> NlaBuffer<'a> {
     pub fn kind(&self) -> u16
         ensures { result ≡ kind_of (kind_field_of self.now) }
     {
-        self.kind_field % 0x4000
+        self.kind_field & NLA_TYPE_MASK
     }
 
     /// Whether `nla_type` has the flag of nested attributes (`NLA_F_NESTED`, 0x8000).
@@ -83,7 +89,7 @@ impl<'a> NlaBuffer<'a> {
     pub fn nested_flag(&self) -> bool
         ensures { IsTrue result ↔ IsBitSet (kind_field_of self.now) 15 }
     {
-        self.kind_field & 0x8000 != 0
+        self.kind_field & NLA_F_NESTED != 0
     }
 
     /// Whether `nla_type` has the flag of network byte order (`NLA_F_NET_BYTEORDER`, 0x4000).
@@ -91,7 +97,7 @@ impl<'a> NlaBuffer<'a> {
     pub fn network_byte_order_flag(&self) -> bool
         ensures { IsTrue result ↔ IsBitSet (kind_field_of self.now) 14 }
     {
-        self.kind_field & 0x4000 != 0
+        self.kind_field & NLA_F_NET_BYTEORDER != 0
     }
 
     /// The payload, a part of the bytes that the frame was taken from.

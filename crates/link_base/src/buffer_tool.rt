@@ -1,4 +1,4 @@
-//! Buffers of a least size.
+//! Padding a buffer with zeros up to a size.
 
 ghost use Rattle.std.specs.Prelude.{◌≡◌, ◌++◌, ◌-◌, length, replicate, IfOk};
 

@@ -14,7 +14,7 @@ pub fn number()
     ensures { ReadsAndWrites numbers (0x08 ∷ 0 ∷ 1 ∷ 0 ∷ 0x2a ∷ 0 ∷ 0 ∷ 0 ∷ []) (Case 1 (Single (Number 4 42)) ∷ []) (0x08 ∷ 0 ∷ 1 ∷ 0 ∷ 0x2a ∷ 0 ∷ 0 ∷ 0 ∷ []) }
 {}
 
-/// A kind without a row keeps its flags and its payload, and the padding that lacked is written.
+/// A kind without a row keeps its flags and its payload, and the missing padding is written.
 pub fn unknown_kind()
     ensures { ReadsAndWrites pairs (0x06 ∷ 0 ∷ 0x63 ∷ 0xc0 ∷ 0xde ∷ 0xad ∷ []) (Other 0xC063 (0xde ∷ 0xad ∷ []) ∷ []) (0x06 ∷ 0 ∷ 0x63 ∷ 0xc0 ∷ 0xde ∷ 0xad ∷ 0 ∷ 0 ∷ []) }
 {}

@@ -143,7 +143,7 @@ impl DecodeError {
     }
 }
 
-/// What was read of the payload of the attribute of this kind: the value, or its error under the kind.
+/// Puts the kind of the attribute to the error of its payload.
 #[inline]
 pub(crate) fn of_kind<T: Drop>(kind: u16, read: Result<T, DecodeError>) -> Result<T, DecodeError>
     ensures { result ≡ under_kind kind read }

@@ -10,7 +10,7 @@ ghost use Rattle.link_base.specs.Equality.{IsThorough};
 use bitflags::Flags;
 use std::hash::Hash;
 
-/// A set of flags that is its bits and nothing else. It has no calls.
+/// A set of flags that is its bits and nothing else. It has no methods, and carries laws alone.
 pub trait FlagSet: Flags + PartialEq {
     /// The contracts of `Flags` speak of it.
     ghost is_exact: { Self.exact };
@@ -22,7 +22,7 @@ pub trait FlagSet: Flags + PartialEq {
     ghost thorough: { IsThorough Self.PartialEq.eq (λ (a : Self). a) };
 }
 
-/// A set of flags whose every bit is known, named or not. It has no calls.
+/// A set of flags whose every bit is known, named or not. It has no methods, and carries laws alone.
 pub trait KnownBits: FlagSet {
     /// The bits of its flags are all bits.
     ghost every_bit: { known_bits Self.table ≡ 2 ^ Self.Bits.size - 1 };

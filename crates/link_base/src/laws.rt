@@ -2,6 +2,7 @@
 
 ghost use Rattle.std.specs.Prelude.{◌≡◌, ◌↔◌, ℕ, ◌+◌, ◌/◌, ◌%◌, ◌<◌, ◌≤◌, true, List, ◌++◌, length, map, None, Result, Ok, IsTrue};
 ghost use Rattle.std.specs.List.{AllByRecursion};
+ghost use Rattle.link_base.specs.declared.fault.Cause.{Cause};
 ghost use Rattle.link_base.specs.declared.fault.DecodeFault.{DecodeFault};
 ghost use Rattle.std.specs.Iterator.{Drains};
 ghost use Rattle.link_base.specs.declared.buffer.NlaBuffer.{NlaBuffer};
@@ -17,6 +18,7 @@ ghost use Rattle.link_base.specs.WellFormed.{is_table, IsOverfull};
 ghost use Rattle.link_base.specs.Lawful.{IsLawful};
 
 use crate::attribute::Attribute;
+use crate::fault::{Cause, DecodeFault};
 use crate::iterator::NlasIterator;
 
 // ---- tables
@@ -52,43 +54,50 @@ pub fn items()
         → AreItems (bytes_left it) items × (length items ≤ length (bytes_left it) / 4 + 1) }
 {}
 
-// ---- families: equality
+// ---- equality
 
-/// `==` looks at every field: equal values stand for the same attribute, each value equals itself, and the order of two
-/// values does not matter.
-pub fn equality<F: Attribute + Eq>()
+/// `==` looks at every field, and is an equivalence: equal values stand for the same attribute; it is reflexive, symmetric and
+/// transitive.
+pub fn equality<F: Attribute>()
     ensures same { (a b : F) → IsTrue (F.PartialEq.eq a b) → F.means a ≡ F.means b }
     ensures itself { (a : F) → IsTrue (F.PartialEq.eq a a) }
     ensures either_way { (a b : F) → F.PartialEq.eq a b ≡ F.PartialEq.eq b a }
+    ensures chained { (a b c : F) → IsTrue (F.PartialEq.eq a b) → IsTrue (F.PartialEq.eq b c) → IsTrue (F.PartialEq.eq a c) }
+{}
+
+/// Two causes, or two faults, are equal exactly where they are the same.
+pub fn fault_equality()
+    ensures cause { (a b : Cause) → IsTrue (⟦<Cause as PartialEq>⟧.eq a b) ↔ (a ≡ b) }
+    ensures fault { (a b : DecodeFault) → IsTrue (⟦<DecodeFault as PartialEq>⟧.eq a b) ↔ (a ≡ b) }
 {}
 
 // ---- families: values that were read
 
 /// What is written for values that were read and fit reads as these values, cut.
 pub fn reads_back<F: Attribute>()
-    ensures { (s : List ℕ) (vs : List F) → IsBytes s → Wire (Gives F.table) s (map F.means vs) → AllByRecursion Fits (map F.means vs)
-        → Wire (Gives F.table) (written_list (map F.means vs)) (map cut (map F.means vs)) }
+    ensures { (s : List ℕ) (vs : List AttrValue) → IsBytes s → Wire (Gives F.table) s vs → AllByRecursion Fits vs
+        → Wire (Gives F.table) (written_list vs) (map cut vs) }
 {}
 
 /// A value that was read is in range, hides no kind that has a row, and is its own canon.
 pub fn read_values<F: Attribute>()
-    ensures in_range { (f : ℕ) (p : List ℕ) (v : F) → f < 65536 → IsBytes p → Gives F.table f p (Ok (F.means v)) → IsInRange F.table (F.means v) }
-    ensures hides_none { (f : ℕ) (p : List ℕ) (v : F) → f < 65536 → IsBytes p → Gives F.table f p (Ok (F.means v)) → HidesNone F.table (F.means v) }
-    ensures own { (f : ℕ) (p : List ℕ) (v : F) → f < 65536 → IsBytes p → Gives F.table f p (Ok (F.means v)) → canon (F.means v) ≡ F.means v }
+    ensures in_range { (f : ℕ) (p : List ℕ) (v : AttrValue) → f < 65536 → IsBytes p → Gives F.table f p (Ok v) → IsInRange F.table v }
+    ensures hides_none { (f : ℕ) (p : List ℕ) (v : AttrValue) → f < 65536 → IsBytes p → Gives F.table f p (Ok v) → HidesNone F.table v }
+    ensures own { (f : ℕ) (p : List ℕ) (v : AttrValue) → f < 65536 → IsBytes p → Gives F.table f p (Ok v) → canon v ≡ v }
 {}
 
 /// Where no row has the kind, the value that is read is `Other` of the kind field and the payload, and is written with both.
 pub fn other_kept<F: Attribute>()
-    ensures { (f : ℕ) (p : List ℕ) (v : F) → class_at F.table (kind_of f) ≡ None → Gives F.table f p (Ok (F.means v))
-        → (F.means v ≡ Other f p) × (written_kind (F.means v) ≡ f) × (written_payload (F.means v) ≡ p) }
+    ensures { (f : ℕ) (p : List ℕ) (v : AttrValue) → class_at F.table (kind_of f) ≡ None → Gives F.table f p (Ok v)
+        → (v ≡ Other f p) × (written_kind v ≡ f) × (written_payload v ≡ p) }
 {}
 
 /// A string behind another that is read and whose length is a multiple of four: its values come after those of the
 /// first, or its first fault stands as much further on.
 pub fn joined<F: Attribute>()
-    ensures values { (a b : List ℕ) (vs ws : List F) → length a % 4 ≡ 0 → Wire (Gives F.table) a (map F.means vs) → Wire (Gives F.table) b (map F.means ws)
-        → Wire (Gives F.table) (a ++ b) (map F.means (vs ++ ws)) }
-    ensures fault { (a b : List ℕ) (vs : List F) (at : ℕ) (fault : DecodeFault) → length a % 4 ≡ 0 → Wire (Gives F.table) a (map F.means vs)
+    ensures values { (a b : List ℕ) (vs ws : List AttrValue) → length a % 4 ≡ 0 → Wire (Gives F.table) a vs → Wire (Gives F.table) b ws
+        → Wire (Gives F.table) (a ++ b) (vs ++ ws) }
+    ensures fault { (a b : List ℕ) (vs : List AttrValue) (at : ℕ) (fault : DecodeFault) → length a % 4 ≡ 0 → Wire (Gives F.table) a vs
         → FirstFault (Gives F.table) b at fault → FirstFault (Gives F.table) (a ++ b) (length a + at) fault }
 {}
 
@@ -96,25 +105,25 @@ pub fn joined<F: Attribute>()
 
 /// What is written for plain values that fit reads as their canons.
 pub fn plain_back<F: Attribute>()
-    ensures { (vs : List F) → AllByRecursion (IsPlain F.table) (map F.means vs) → AllByRecursion Fits (map F.means vs)
-        → Wire (Gives F.table) (written_list (map F.means vs)) (map canon (map F.means vs)) }
+    ensures { (vs : List AttrValue) → AllByRecursion (IsPlain F.table) vs → AllByRecursion Fits vs
+        → Wire (Gives F.table) (written_list vs) (map canon vs) }
 {}
 
 /// Plain values that fit are written as equal bytes exactly where their canons are equal.
 pub fn plain_bytes<F: Attribute>()
-    ensures { (vs ws : List F) → AllByRecursion (IsPlain F.table) (map F.means vs) → AllByRecursion Fits (map F.means vs)
-        → AllByRecursion (IsPlain F.table) (map F.means ws) → AllByRecursion Fits (map F.means ws)
-        → (written_list (map F.means vs) ≡ written_list (map F.means ws)) ↔ (map canon (map F.means vs) ≡ map canon (map F.means ws)) }
+    ensures { (vs ws : List AttrValue) → AllByRecursion (IsPlain F.table) vs → AllByRecursion Fits vs
+        → AllByRecursion (IsPlain F.table) ws → AllByRecursion Fits ws
+        → (written_list vs ≡ written_list ws) ↔ (map canon vs ≡ map canon ws) }
 {}
 
 /// Cutting leaves a plain value and its canon as they are.
 pub fn plain_uncut<F: Attribute>()
-    ensures { (v : F) → IsPlain F.table (F.means v) → (cut (F.means v) ≡ F.means v) × (cut (canon (F.means v)) ≡ canon (F.means v)) }
+    ensures { (v : AttrValue) → IsPlain F.table v → (cut v ≡ v) × (cut (canon v) ≡ canon v) }
 {}
 
 /// A value and its canon are written with one kind field and one payload.
-pub fn one_form<F: Attribute>()
-    ensures { (v : F) → (written_kind (canon (F.means v)) ≡ written_kind (F.means v)) × (written_payload (canon (F.means v)) ≡ written_payload (F.means v)) }
+pub fn one_form()
+    ensures { (v : AttrValue) → (written_kind (canon v) ≡ written_kind v) × (written_payload (canon v) ≡ written_payload v) }
 {}
 
 // ---- families: rewritings and canonical strings
@@ -136,10 +145,10 @@ pub fn one_rewriting<F: Attribute>()
 
 /// Two strings that have second rewritings have the same one exactly where their values are equal, cut.
 pub fn second_equal<F: Attribute>()
-    ensures { (s t u s2 t2 u2 : List ℕ) (vs ws : List F) → IsBytes s → IsBytes s2
-        → Wire (Gives F.table) s (map F.means vs) → Rewriting F.table s t → Rewriting F.table t u
-        → Wire (Gives F.table) s2 (map F.means ws) → Rewriting F.table s2 t2 → Rewriting F.table t2 u2
-        → (u ≡ u2) ↔ (map cut (map F.means vs) ≡ map cut (map F.means ws)) }
+    ensures { (s t u s2 t2 u2 : List ℕ) (vs ws : List AttrValue) → IsBytes s → IsBytes s2
+        → Wire (Gives F.table) s vs → Rewriting F.table s t → Rewriting F.table t u
+        → Wire (Gives F.table) s2 ws → Rewriting F.table s2 t2 → Rewriting F.table t2 u2
+        → (u ≡ u2) ↔ (map cut vs ≡ map cut ws) }
 {}
 
 /// Every canonical string of bytes is read, and its values fit and are written as it stands.
@@ -151,7 +160,7 @@ pub fn canonical_reads<F: Attribute>()
 
 /// Canonical strings with equal values are equal, and two canonical strings, joined, are canonical.
 pub fn canonical_once<F: Attribute>()
-    ensures once { (s t : List ℕ) (vs : List F) → IsBytes s → IsBytes t → Canonical F.table s → Canonical F.table t
-        → Wire (Gives F.table) s (map F.means vs) → Wire (Gives F.table) t (map F.means vs) → s ≡ t }
+    ensures once { (s t : List ℕ) (vs : List AttrValue) → IsBytes s → IsBytes t → Canonical F.table s → Canonical F.table t
+        → Wire (Gives F.table) s vs → Wire (Gives F.table) t vs → s ≡ t }
     ensures joined { (s t : List ℕ) → Canonical F.table s → Canonical F.table t → Canonical F.table (s ++ t) }
 {}

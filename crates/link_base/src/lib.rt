@@ -34,11 +34,11 @@ pub use iterator::NlasIterator;
 pub use list::read_list;
 pub use named::NamedNumber;
 pub use nested::{NestedAttribute, emit_nested, nested_len, read_nested};
-pub use records::{at_least, emit_u32s, fixed, u16_at, u32_at};
+pub use records::{check_at_least, check_length, emit_u32s, u16_at, u32_at};
 pub use scalars::{
     emit_i32, emit_mac, emit_u8, emit_u16, emit_u16_be, emit_u32, emit_u32_pair, emit_u64,
-    parse_i32, parse_ip, parse_mac, parse_u8, parse_u16, parse_u16_be, parse_u32, parse_u32_pair,
-    parse_u64,
+    parse_bool, parse_i32, parse_ip, parse_mac, parse_u8, parse_u16, parse_u16_be, parse_u32,
+    parse_u32_pair, parse_u64,
 };
 pub use try_clone::{TryClone, try_clone_list};
 pub use vlan_protocol::VlanProtocol;

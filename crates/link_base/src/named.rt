@@ -5,8 +5,8 @@ ghost use Rattle.std.specs.List.{AllByRecursion};
 ghost use Rattle.link_base.specs.Equality.{IsThorough};
 ghost use Rattle.link_base.specs.Named.{Naming, Seen, Listed, Free, IsSeen, is_naming};
 
-/// A type with a case for each name, and a case `Other` for every other number. It has no calls.
-pub trait NamedNumber: PartialEq {
+/// A type with a case for each name, and a case `Other` for every other number. It has no methods, and carries laws alone.
+pub trait NamedNumber: Eq {
     /// The cases, their texts and their numbers.
     ghost names: { Naming Self };
 

@@ -32,7 +32,7 @@ pub fn different<T: NamedNumber>()
 {}
 
 /// Two values are equal exactly where they are the same value.
-pub fn equality<T: NamedNumber + Eq>()
+pub fn equality<T: NamedNumber>()
     ensures { (a b : T) → IsTrue (T.PartialEq.eq a b) ↔ (a ≡ b) }
 {}
 

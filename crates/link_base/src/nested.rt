@@ -25,10 +25,10 @@ pub trait NestedAttribute: Attribute {
     /// The attribute that a value stands for.
     ghost leaf: { Self → Leaf };
 
-    /// These are the rows of the type, as of one without lists.
+    /// The table of the type is these rows.
     ghost same_table: { Self.table ≡ lift_table rows };
 
-    /// And this is what its values stand for.
+    /// `means` is `leaf`, as an attribute of that table.
     ghost same_means: { (x : Self) → Self.means x ≡ lift (leaf x) };
 }
 

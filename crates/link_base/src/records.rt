@@ -10,8 +10,8 @@ ghost use Rattle.link_base.specs.Answers.{payload_result, OverwritesFront};
 use crate::fault::{Cause, DecodeError, DecodeFault};
 use crate::scalars::emit_u32;
 
-/// Whether a payload has so many bytes or more. Fails with `Payload` of `TooShort`.
-pub fn at_least(payload: &[u8], want: usize) -> Result<(), DecodeError>
+/// Checks that a payload has at least `want` bytes. Fails with `Payload` of `TooShort`.
+pub fn check_at_least(payload: &[u8], want: usize) -> Result<(), DecodeError>
     ensures { result ≡ payload_result (accepted (AtLeast want) (λ _. tt) payload.now) }
 {
     let got = payload.len();
@@ -22,12 +22,12 @@ pub fn at_least(payload: &[u8], want: usize) -> Result<(), DecodeError>
     Ok(())
 }
 
-/// Whether a payload has just so many bytes. Fails with `Payload`, of `TooShort` where it has fewer and of
+/// Checks that a payload has exactly `want` bytes. Fails with `Payload`, of `TooShort` where it has fewer and of
 /// `WrongLength` where it has more.
-pub fn fixed(payload: &[u8], want: usize) -> Result<(), DecodeError>
+pub fn check_length(payload: &[u8], want: usize) -> Result<(), DecodeError>
     ensures { result ≡ payload_result (accepted (Fixed want) (λ _. tt) payload.now) }
 {
-    at_least(payload, want)?;
+    check_at_least(payload, want)?;
     let got = payload.len();
     if got > want {
         let cause = Cause::WrongLength { want, got };
@@ -36,7 +36,7 @@ pub fn fixed(payload: &[u8], want: usize) -> Result<(), DecodeError>
     Ok(())
 }
 
-/// The number of the two bytes at an offset, the lowest first. They lie within the bytes.
+/// The number of the two bytes at an offset, the lowest first. Requires that they lie within the bytes.
 #[inline]
 pub fn u16_at(bytes: &[u8], offset: usize) -> u16
     requires { offset + 2 ≤ length bytes.now }
@@ -46,7 +46,7 @@ pub fn u16_at(bytes: &[u8], offset: usize) -> u16
     u16::from_le_bytes([bytes[offset], bytes[offset + 1]])
 }
 
-/// The number of the four bytes at an offset, the lowest first. They lie within the bytes.
+/// The number of the four bytes at an offset, the lowest first. Requires that they lie within the bytes.
 #[inline]
 pub fn u32_at(bytes: &[u8], offset: usize) -> u32
     requires { offset + 4 ≤ length bytes.now }

@@ -3,12 +3,12 @@
 //! A reader takes a whole payload and fails with `Payload`; a writer fills the front of a buffer and leaves the bytes
 //! behind it as they are. Types of numbers are those of `include/uapi/linux/netlink.h`, `NL_ATTR_TYPE_*`.
 
-ghost use Rattle.std.specs.Prelude.{◌≡◌, ◌≤◌, length, reverse, IfOk};
+ghost use Rattle.std.specs.Prelude.{◌≡◌, ◌≤◌, ◌∷◌, [], length, reverse, nat_lt, IfOk};
 ghost use Rattle.std.specs.Int.{w32, cast_unsigned};
 ghost use Rattle.link_base.specs.declared.fault.Cause.TheVariants.{WrongLength};
 ghost use Rattle.link_base.specs.Number.{number, bytes_of};
 ghost use Rattle.link_base.specs.Class.{accepted, integer, Exactly};
-ghost use Rattle.link_base.specs.Pair.{first_number, second_number, pair_octets};
+ghost use Rattle.link_base.specs.Layout.{number_at, octets_of};
 ghost use Rattle.link_base.specs.Address.{IsAddress};
 ghost use Rattle.link_base.specs.Held.{IsOctets};
 ghost use Rattle.link_base.specs.Answers.{payload_result, refused, OverwritesFront};
@@ -29,6 +29,17 @@ pub fn parse_u8(payload: &[u8]) -> Result<u8, DecodeError>
 {
     match payload {
         [a] => Ok(*a),
+        _ => Err(wrong_length(1, payload.len())),
+    }
+}
+
+/// Whether the number of one byte is not 0 (`NL_ATTR_TYPE_U8`). Fails with `Payload` of `WrongLength`.
+#[inline]
+pub fn parse_bool(payload: &[u8]) -> Result<bool, DecodeError>
+    ensures { result ≡ payload_result (accepted (Exactly 1) (λ p. nat_lt 0 (number p)) payload.now) }
+{
+    match payload {
+        [a] => Ok(*a > 0),
         _ => Err(wrong_length(1, payload.len())),
     }
 }
@@ -93,8 +104,8 @@ pub fn parse_u16_be(payload: &[u8]) -> Result<u16, DecodeError>
 /// `WrongLength`.
 #[inline]
 pub fn parse_u32_pair(payload: &[u8]) -> Result<(u32, u32), DecodeError>
-    ensures value { result ≡ payload_result (accepted (Exactly 8) (λ p. (first_number p, second_number p)) payload.now) }
-    ensures octets { IfOk result (λ pair. pair_octets pair.0 pair.1 ≡ payload.now) }
+    ensures value { result ≡ payload_result (accepted (Exactly 8) (λ p. (number_at 4 0 p, number_at 4 4 p)) payload.now) }
+    ensures octets { IfOk result (λ pair. octets_of 4 (pair.0 ∷ pair.1 ∷ []) ≡ payload.now) }
 {
     match payload {
         [a, b, c, d, e, f, g, h] => Ok((
@@ -137,7 +148,7 @@ pub fn parse_ip(payload: &[u8]) -> Result<IpAddr, DecodeError>
     }
 }
 
-/// Writes a number to the first byte of a buffer that has one, and leaves the rest.
+/// Writes a number to the first byte of a buffer that is not empty, and leaves the rest.
 #[inline]
 pub fn emit_u8(buffer: &mut [u8], value: u8)
     requires { 1 ≤ length buffer.old }
@@ -146,7 +157,7 @@ pub fn emit_u8(buffer: &mut [u8], value: u8)
     buffer[..1].copy_from_slice(&value.to_le_bytes());
 }
 
-/// Writes a number to the first two bytes of a buffer that has as many, the lowest first, and leaves the rest.
+/// Writes a number to the first two bytes of a buffer at least that long, the lowest first, and leaves the rest.
 #[inline]
 pub fn emit_u16(buffer: &mut [u8], value: u16)
     requires { 2 ≤ length buffer.old }
@@ -155,7 +166,7 @@ pub fn emit_u16(buffer: &mut [u8], value: u16)
     buffer[..2].copy_from_slice(&value.to_le_bytes());
 }
 
-/// Writes a number to the first four bytes of a buffer that has as many, the lowest first, and leaves the rest.
+/// Writes a number to the first four bytes of a buffer at least that long, the lowest first, and leaves the rest.
 #[inline]
 pub fn emit_u32(buffer: &mut [u8], value: u32)
     requires { 4 ≤ length buffer.old }
@@ -164,7 +175,7 @@ pub fn emit_u32(buffer: &mut [u8], value: u32)
     buffer[..4].copy_from_slice(&value.to_le_bytes());
 }
 
-/// Writes a number to the first eight bytes of a buffer that has as many, the lowest first, and leaves the rest.
+/// Writes a number to the first eight bytes of a buffer at least that long, the lowest first, and leaves the rest.
 #[inline]
 pub fn emit_u64(buffer: &mut [u8], value: u64)
     requires { 8 ≤ length buffer.old }
@@ -173,7 +184,7 @@ pub fn emit_u64(buffer: &mut [u8], value: u64)
     buffer[..8].copy_from_slice(&value.to_le_bytes());
 }
 
-/// Writes a signed number, in two's complement, to the first four bytes of a buffer that has as many, the lowest first,
+/// Writes a signed number, in two's complement, to the first four bytes of a buffer at least that long, the lowest first,
 /// and leaves the rest.
 #[inline]
 pub fn emit_i32(buffer: &mut [u8], value: i32)
@@ -184,7 +195,7 @@ pub fn emit_i32(buffer: &mut [u8], value: i32)
     buffer[..4].copy_from_slice(&octets);
 }
 
-/// Writes a number to the first two bytes of a buffer that has as many, the highest first, and leaves the rest.
+/// Writes a number to the first two bytes of a buffer at least that long, the highest first, and leaves the rest.
 #[inline]
 pub fn emit_u16_be(buffer: &mut [u8], value: u16)
     requires { 2 ≤ length buffer.old }
@@ -193,20 +204,20 @@ pub fn emit_u16_be(buffer: &mut [u8], value: u16)
     buffer[..2].copy_from_slice(&value.to_be_bytes());
 }
 
-/// Writes two numbers to the first eight bytes of a buffer that has as many, the first before the second, the lowest
+/// Writes two numbers to the first eight bytes of a buffer at least that long, the first before the second, the lowest
 /// byte first in each, and leaves the rest.
 #[inline]
 pub fn emit_u32_pair(buffer: &mut [u8], first: u32, second: u32)
     requires { 8 ≤ length buffer.old }
-    ensures written { OverwritesFront buffer.old buffer.new (pair_octets first second) }
-    ensures octets { IsOctets 8 (pair_octets first second) }
+    ensures written { OverwritesFront buffer.old buffer.new (octets_of 4 (first ∷ second ∷ [])) }
+    ensures octets { IsOctets 8 (octets_of 4 (first ∷ second ∷ [])) }
 {
     let [a, b, c, d] = first.to_le_bytes();
     let [e, f, g, h] = second.to_le_bytes();
     buffer[..8].copy_from_slice(&[a, b, c, d, e, f, g, h]);
 }
 
-/// Writes the octets of a hardware address to the first six bytes of a buffer that has as many, in order, and leaves the
+/// Writes the octets of a hardware address to the first six bytes of a buffer at least that long, in order, and leaves the
 /// rest.
 #[inline]
 pub fn emit_mac(buffer: &mut [u8], address: &[u8; 6])

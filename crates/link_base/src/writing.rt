@@ -43,7 +43,7 @@ fn first_unfit<F: Attribute>(values: &[F]) -> Option<usize>
 }
 
 /// Writes the list to the front of a buffer of at least `list_len` bytes, and leaves the bytes behind it as they
-/// are. Every value fits.
+/// are. Requires that every value fits.
 pub fn emit_list<F: Attribute>(values: &[F], buffer: &mut [u8])
     requires fits { AllByRecursion Fits (map F.means values.now) }
     requires room { length (written_list (map F.means values.now)) ≤ length buffer.old }

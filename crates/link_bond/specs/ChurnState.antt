@@ -1,4 +1,4 @@
--- Whether a side gets in synchronization: the names.
+-- Whether a side comes into synchronization in time: the names.
 use Rattle.std.specs.Prelude.{[], ◌∷◌, codes, refl}
 use Rattle.link_base.specs.Named.{Naming, Seen, Listed, Free, IsSeen, label, Bare, AnyCase}
 use Rattle.link_bond.specs.declared.bond_port.churn_state.ChurnState.{ChurnState}

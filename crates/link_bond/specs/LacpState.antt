@@ -1,4 +1,4 @@
--- The state of one side of a LACP link: its flags and their bits.
+-- The state of one side of an LACP link: its flags and their bits.
 use Rattle.std.specs.Prelude.{◌≡◌, ◌-◌, ◌^◌, ℕ, List, [], ◌∷◌, codes, refl}
 use Rattle.bitflags.specs.Sets.{Row, known_from, known_bits}
 use Rattle.link_bond.specs.declared.bond_port.lacp_state.LacpState.{LacpState}

@@ -21,7 +21,8 @@ pub use lacp_rate::BondLacpRate;
 use link_base::{
     Attribute, DecodeError, DefaultNla, Meaning, Nla, NlaBuffer, Parseable, TryClone,
     addresses_len, emit_addresses, emit_mac, emit_nested, emit_u8, emit_u16, emit_u32, nested_len,
-    parse_mac, parse_u8, parse_u16, parse_u32, read_addresses, read_nested, try_clone_list,
+    parse_bool, parse_mac, parse_u8, parse_u16, parse_u32, read_addresses, read_nested,
+    try_clone_list,
 };
 pub use mode::BondMode;
 pub use primary_reselect::BondPrimaryReselect;
@@ -111,8 +112,8 @@ pub enum InfoBond {
     UpDelay(u32),
     /// How long a link is down before its port is given up, in milliseconds (`IFLA_BOND_DOWNDELAY`, four bytes).
     DownDelay(u32),
-    /// Whether the state of a link is the carrier that its driver reports, and not asked for by MII or ethtool
-    /// (`IFLA_BOND_USE_CARRIER`, one byte).
+    /// Whether the state of a link is taken from the carrier that its driver reports, and not asked for by MII or
+    /// ethtool (`IFLA_BOND_USE_CARRIER`, one byte).
     UseCarrier(bool),
     /// How often ports are watched by ARP and neighbour messages, in milliseconds; 0 for never
     /// (`IFLA_BOND_ARP_INTERVAL`, four bytes).
@@ -126,7 +127,7 @@ pub enum InfoBond {
     ArpAllTargets(BondArpAllTargets),
     /// The index of the port that is preferred, a network device (`IFLA_BOND_PRIMARY`, four bytes).
     Primary(u32),
-    /// When that port becomes active again (`IFLA_BOND_PRIMARY_RESELECT`, one byte).
+    /// When the primary port becomes the active one again (`IFLA_BOND_PRIMARY_RESELECT`, one byte).
     PrimaryReselect(BondPrimaryReselect),
     /// Which hardware addresses the ports have (`IFLA_BOND_FAIL_OVER_MAC`, one byte).
     FailOverMac(BondFailOverMac),
@@ -139,10 +140,11 @@ pub enum InfoBond {
     NumPeerNotif(u8),
     /// What becomes of duplicate frames, those that arrive at inactive ports (`IFLA_BOND_ALL_SLAVES_ACTIVE`, one byte).
     AllPortsActive(BondAllPortActive),
-    /// How many links have to be up for the bond to be (`IFLA_BOND_MIN_LINKS`, four bytes).
-    MinLinks(u32),
-    /// How often learning packets are sent to the switch of each port, in seconds (`IFLA_BOND_LP_INTERVAL`, four
+    /// How many ports have to be up before the bond is up, in the mode `Ieee8023Ad` (`IFLA_BOND_MIN_LINKS`, four
     /// bytes).
+    MinLinks(u32),
+    /// The seconds between learning packets to the switch of each port, in the modes `BalanceTlb` and `BalanceAlb`
+    /// (`IFLA_BOND_LP_INTERVAL`, four bytes).
     LpInterval(u32),
     /// How many packets a port sends before the next one's turn in the mode `BalanceRr`; 0 for a port at random
     /// (`IFLA_BOND_PACKETS_PER_SLAVE`, four bytes).
@@ -159,16 +161,16 @@ pub enum InfoBond {
     AdUserPortKey(u16),
     /// The hardware address of this system in LACP (`IFLA_BOND_AD_ACTOR_SYSTEM`, six octets).
     AdActorSystem([u8; 6]),
-    /// Whether flows are moved among ports by their load in the mode `BalanceTlb` (`IFLA_BOND_TLB_DYNAMIC_LB`, one
-    /// byte).
+    /// Whether flows are moved among ports by their load, in the modes `BalanceTlb` and `BalanceAlb`
+    /// (`IFLA_BOND_TLB_DYNAMIC_LB`, one byte).
     TlbDynamicLb(bool),
     /// The time between two of the messages of `NumPeerNotif`, in milliseconds (`IFLA_BOND_PEER_NOTIF_DELAY`, four
     /// bytes).
     PeerNotifDelay(u32),
     /// Whether LACPDUs are sent even if the peer sends none (`IFLA_BOND_AD_LACP_ACTIVE`, one byte).
     AdLacpActive(bool),
-    /// How many intervals of ARP without an answer a port may have before it counts as down (`IFLA_BOND_MISSED_MAX`,
-    /// one byte).
+    /// How many ARP intervals in a row pass without an answer until a port counts as down (`IFLA_BOND_MISSED_MAX`, one
+    /// byte).
     MissedMax(u8),
     /// The addresses that neighbour solicitations ask for (`IFLA_BOND_NS_IP6_TARGET`, a list of elements of sixteen
     /// octets; at most 3276 fit).
@@ -176,7 +178,7 @@ pub enum InfoBond {
     /// Whether a port starts to collect and to distribute at the same time in LACP (`IFLA_BOND_COUPLED_CONTROL`, one
     /// byte).
     CoupledControl(bool),
-    /// Whether ARP and neighbour messages are sent from every port in the mode `Ieee8023Ad`
+    /// Whether ARP and neighbour messages are sent from every active port, in the mode `Ieee8023Ad`
     /// (`IFLA_BOND_BROADCAST_NEIGH`, one byte).
     BroadcastNeigh(bool),
     /// Whether the bond is up only with ports on which LACP has reached agreement (`IFLA_BOND_LACP_STRICT`, one byte).
@@ -371,7 +373,7 @@ impl Parseable for InfoBond {
             IFLA_BOND_MIIMON => parse_u32(payload).map(Self::MiiMon),
             IFLA_BOND_UPDELAY => parse_u32(payload).map(Self::UpDelay),
             IFLA_BOND_DOWNDELAY => parse_u32(payload).map(Self::DownDelay),
-            IFLA_BOND_USE_CARRIER => parse_u8(payload).map(|n| Self::UseCarrier(n > 0)),
+            IFLA_BOND_USE_CARRIER => parse_bool(payload).map(Self::UseCarrier),
             IFLA_BOND_ARP_INTERVAL => parse_u32(payload).map(Self::ArpInterval),
             IFLA_BOND_ARP_IP_TARGET => read_addresses(alloc, kind, payload).map(Self::ArpIpTarget),
             IFLA_BOND_ARP_VALIDATE => parse_u32(payload).map(|n| Self::ArpValidate(n.into())),
@@ -396,14 +398,14 @@ impl Parseable for InfoBond {
             IFLA_BOND_AD_ACTOR_SYS_PRIO => parse_u16(payload).map(Self::AdActorSysPrio),
             IFLA_BOND_AD_USER_PORT_KEY => parse_u16(payload).map(Self::AdUserPortKey),
             IFLA_BOND_AD_ACTOR_SYSTEM => parse_mac(payload).map(Self::AdActorSystem),
-            IFLA_BOND_TLB_DYNAMIC_LB => parse_u8(payload).map(|n| Self::TlbDynamicLb(n > 0)),
+            IFLA_BOND_TLB_DYNAMIC_LB => parse_bool(payload).map(Self::TlbDynamicLb),
             IFLA_BOND_PEER_NOTIF_DELAY => parse_u32(payload).map(Self::PeerNotifDelay),
-            IFLA_BOND_AD_LACP_ACTIVE => parse_u8(payload).map(|n| Self::AdLacpActive(n > 0)),
+            IFLA_BOND_AD_LACP_ACTIVE => parse_bool(payload).map(Self::AdLacpActive),
             IFLA_BOND_MISSED_MAX => parse_u8(payload).map(Self::MissedMax),
             IFLA_BOND_NS_IP6_TARGET => read_addresses(alloc, kind, payload).map(Self::NsIp6Target),
-            IFLA_BOND_COUPLED_CONTROL => parse_u8(payload).map(|n| Self::CoupledControl(n > 0)),
-            IFLA_BOND_BROADCAST_NEIGH => parse_u8(payload).map(|n| Self::BroadcastNeigh(n > 0)),
-            IFLA_BOND_LACP_STRICT => parse_u8(payload).map(|n| Self::LacpStrict(n > 0)),
+            IFLA_BOND_COUPLED_CONTROL => parse_bool(payload).map(Self::CoupledControl),
+            IFLA_BOND_BROADCAST_NEIGH => parse_bool(payload).map(Self::BroadcastNeigh),
+            IFLA_BOND_LACP_STRICT => parse_bool(payload).map(Self::LacpStrict),
             _ => DefaultNla::parse(alloc, buffer).map(Self::Other),
         }
     }

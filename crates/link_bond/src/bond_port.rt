@@ -54,9 +54,9 @@ pub enum InfoBondPort {
     MiiStatus(MiiStatus),
     /// How often the link failed (`IFLA_BOND_SLAVE_LINK_FAILURE_COUNT`, four bytes).
     LinkFailureCount(u32),
-    /// The hardware address that the port has of its own (`IFLA_BOND_SLAVE_PERM_HWADDR`, bytes of any number).
+    /// The port's own, permanent hardware address (`IFLA_BOND_SLAVE_PERM_HWADDR`, any number of bytes).
     PermHwaddr(Vec<u8>),
-    /// The queue whose packets are sent from the port, 0 where none is (`IFLA_BOND_SLAVE_QUEUE_ID`, two bytes).
+    /// The queue whose packets are sent from the port, 0 for none (`IFLA_BOND_SLAVE_QUEUE_ID`, two bytes).
     QueueId(u16),
     /// The identifier of the aggregate of the port (`IFLA_BOND_SLAVE_AD_AGGREGATOR_ID`, two bytes).
     AdAggregatorId(u16),
@@ -70,7 +70,7 @@ pub enum InfoBondPort {
     Prio(i32),
     /// The priority of the port in LACP (`IFLA_BOND_SLAVE_ACTOR_PORT_PRIO`, two bytes).
     ActorPortPrio(u16),
-    /// Whether this side gets in synchronization (`IFLA_BOND_SLAVE_AD_CHURN_ACTOR_STATE`, one byte).
+    /// Whether this side comes into synchronization in time (`IFLA_BOND_SLAVE_AD_CHURN_ACTOR_STATE`, one byte).
     AdChurnActorState(ChurnState),
     /// Whether the peer does (`IFLA_BOND_SLAVE_AD_CHURN_PARTNER_STATE`, one byte).
     AdChurnPartnerState(ChurnState),

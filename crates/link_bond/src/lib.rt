@@ -3,6 +3,7 @@
 
 mod bond;
 mod bond_port;
+pub mod laws;
 #[cfg(test)]
 mod tests;
 

@@ -58,7 +58,7 @@ clock_of p = record { freq = number_at 4 0 p }
 abbrev pub clock_octets : CanClock → List ℕ
 clock_octets c = octets_of 4 (c.freq ∷ [])
 
--- the error counts of a payload
+-- the error counters of a payload
 abbrev pub errors_of : List ℕ → CanBerrCounter
 errors_of p = record { txerr = number_at 2 0 p; rxerr = number_at 2 2 p }
 

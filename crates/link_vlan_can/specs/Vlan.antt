@@ -1,6 +1,6 @@
 -- The attributes of a VLAN device.
 use Rattle.std.specs.Prelude.{[], ◌∷◌, map, false}
-use Rattle.link_base.specs.Pair.{pair_octets}
+use Rattle.link_base.specs.Layout.{octets_of}
 use Rattle.link_base.specs.Class.{Unsigned, Octets, Exactly, Protocol, Number, Raw, EtherType}
 use Rattle.link_base.specs.Table.{Rows, Leaf, Table, AttrValue, Case, row, One, Nested, Single, Inner}
 use Rattle.link_base.specs.Default.{default_means}
@@ -17,7 +17,7 @@ mapping_rows = row 1 (Octets (Exactly 8)) ∷ []
 
 -- the attribute that a mapping stands for
 abbrev pub mapping_leaf : VlanQosMapping → Leaf
-mapping_leaf (mappings.Mapping first second) = Case 1 (Raw (pair_octets first second))
+mapping_leaf (mappings.Mapping first second) = Case 1 (Raw (octets_of 4 (first ∷ second ∷ [])))
 mapping_leaf (mappings.Other other) = default_means other
 
 -- IFLA_VLAN_ID, IFLA_VLAN_FLAGS (the active flags, and the mask of flags), IFLA_VLAN_EGRESS_QOS, IFLA_VLAN_INGRESS_QOS,
@@ -33,7 +33,7 @@ vlan_table =
 -- the attribute that a value stands for
 abbrev pub vlan_means : InfoVlan → AttrValue
 vlan_means (infos.Id id) = Case 1 (Single (Number 2 id))
-vlan_means (infos.Flags flags) = Case 2 (Single (Raw (pair_octets (vlan_bits flags.0) (vlan_bits flags.1))))
+vlan_means (infos.Flags flags) = Case 2 (Single (Raw (octets_of 4 (vlan_bits flags.0 ∷ vlan_bits flags.1 ∷ []))))
 vlan_means (infos.EgressQos maps) = Case 3 (Inner false (map mapping_leaf maps.items))
 vlan_means (infos.IngressQos maps) = Case 4 (Inner false (map mapping_leaf maps.items))
 vlan_means (infos.Protocol p) = Case 5 (Single (EtherType (protocol_number p)))

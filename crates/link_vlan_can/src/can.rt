@@ -61,7 +61,7 @@ pub enum InfoCan {
     RestartMs(u32),
     /// A request to restart the controller now (`IFLA_CAN_RESTART`, four bytes).
     Restart(u32),
-    /// How many errors were counted (`IFLA_CAN_BERR_COUNTER`, four bytes).
+    /// The error counters (`IFLA_CAN_BERR_COUNTER`, four bytes).
     BerrCounter(CanBerrCounter),
     /// The bit timing of the data phase of CAN FD (`IFLA_CAN_DATA_BITTIMING`, 32 bytes).
     DataBitTiming(CanBitTiming),

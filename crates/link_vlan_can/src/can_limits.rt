@@ -7,17 +7,18 @@ ghost use Rattle.link_base.specs.Answers.{OnMemory, OverwritesFront};
 ghost use Rattle.link_vlan_can.specs.CanLimits.{limits_view, limits_with, limits_octets, limits_value, LimitsAnswer};
 
 use bstr::ByteSlice;
-use link_base::{DecodeError, at_least, emit_u32s, u32_at};
+use link_base::{DecodeError, check_at_least, emit_u32s, u32_at};
 use std::alloc::{AllocError, Global};
 
 /// The bytes of a name field.
 const NAME: usize = 16;
 
 /// The limits of a CAN controller's bit timing (`struct can_bittiming_const`, `include/uapi/linux/can/netlink.h`): a
-/// name field of 16 bytes, and eight numbers of four bytes.
+/// name field of 16 bytes, and eight numbers of four bytes. A longer payload is read too, and what follows is ignored.
 #[derive(Debug, PartialEq, Eq, Drop)]
 pub struct CanBitTimingConst {
-    /// The name of the controller. It is written as its first 15 bytes, and zeros up to 16.
+    /// The name of the controller. It is read as the text of the bytes before the first NUL, or of all 16, with U+FFFD
+    /// for each maximal part that is no UTF-8, and written as its first 15 bytes, and zeros up to 16.
     pub name: String,
     /// The least sum of the propagation segment and the first phase buffer segment, in time quanta.
     pub tseg1_min: u32,
@@ -38,14 +39,14 @@ pub struct CanBitTimingConst {
 }
 
 impl CanBitTimingConst {
-    /// The limits of this name, all numbers zero. Fails where a growth was refused.
+    /// Limits with this name, all numbers zero. Fails where a growth was refused.
     pub fn new(alloc: Global, name: &str) -> Result<Self, AllocError>
         ensures { IfOk result (λ limits. limits_view limits ≡ limits_with name.now) }
     {
         Ok(Self::named(String::from_str(alloc, name)?))
     }
 
-    /// The limits of no name, all numbers zero. It takes no memory.
+    /// Limits with no name, all numbers zero. It takes no memory.
     pub fn empty(alloc: Global) -> Self
         ensures { limits_view result ≡ limits_with [] }
     {
@@ -90,7 +91,7 @@ impl CanBitTimingConst {
         ensures octets { IfOk result (λ limits. limits_octets limits ≡ take 32 (drop 16 payload.now)) }
         ensures memory { OnMemory result (48 ≤ length payload.now) }
     {
-        at_least(payload, 48)?;
+        check_at_least(payload, 48)?;
         Ok(CanBitTimingConst {
             name: read_name(alloc, &payload[..NAME]).map_err(DecodeError::Memory)?,
             tseg1_min: u32_at(payload, 16),

@@ -8,10 +8,10 @@ ghost use Rattle.link_vlan_can.specs.CanRecords.{timing_of, timing_with, timing_
 
 use crate::can_flags::CanCtrlModeFlags;
 use bitflags::Flags;
-use link_base::{DecodeError, at_least, emit_u16, emit_u32s, fixed, u16_at, u32_at};
+use link_base::{DecodeError, check_at_least, check_length, emit_u16, emit_u32s, u16_at, u32_at};
 
 /// The bit timing of a CAN controller (`struct can_bittiming`, `include/uapi/linux/can/netlink.h`): eight numbers of
-/// four bytes.
+/// four bytes. A longer payload is read too, and what follows is ignored.
 #[derive(Clone, Copy, Debug, Default, PartialEq, Eq)]
 pub struct CanBitTiming {
     /// The bit rate, in bits per second.
@@ -47,7 +47,7 @@ impl CanBitTiming {
         ensures value { result ≡ payload_result (accepted (AtLeast 32) timing_of payload.now) }
         ensures octets { IfOk result (λ timing. timing_octets timing ≡ take 32 payload.now) }
     {
-        at_least(payload, 32)?;
+        check_at_least(payload, 32)?;
         Ok(CanBitTiming {
             bitrate: u32_at(payload, 0),
             sample_point: u32_at(payload, 4),
@@ -82,9 +82,10 @@ impl CanBitTiming {
 }
 
 /// The modes of a CAN controller (`struct can_ctrlmode`, `include/uapi/linux/can/netlink.h`): two sets of four bytes.
+/// A longer payload is read too, and what follows is ignored.
 #[derive(Clone, Copy, Debug, PartialEq, Eq)]
 pub struct CanCtrlMode {
-    /// The modes that are meant: those that are turned on or off.
+    /// The modes that a request changes.
     pub mask: CanCtrlModeFlags,
     /// The modes that are on.
     pub flags: CanCtrlModeFlags,
@@ -95,7 +96,7 @@ impl CanCtrlMode {
         ensures value { result ≡ payload_result (accepted (AtLeast 8) modes_of payload.now) }
         ensures octets { IfOk result (λ modes. modes_octets modes ≡ take 8 payload.now) }
     {
-        at_least(payload, 8)?;
+        check_at_least(payload, 8)?;
         Ok(CanCtrlMode {
             mask: CanCtrlModeFlags::from_bits_retain(u32_at(payload, 0)),
             flags: CanCtrlModeFlags::from_bits_retain(u32_at(payload, 4)),
@@ -112,6 +113,7 @@ impl CanCtrlMode {
 }
 
 /// The clock of a CAN controller (`struct can_clock`, `include/uapi/linux/can/netlink.h`): a number of four bytes.
+/// Any other length is refused.
 #[derive(Clone, Copy, Debug, Default, PartialEq, Eq)]
 pub struct CanClock {
     /// The frequency, in hertz.
@@ -130,7 +132,7 @@ impl CanClock {
         ensures value { result ≡ payload_result (accepted (Fixed 4) clock_of payload.now) }
         ensures octets { IfOk result (λ clock. clock_octets clock ≡ take 4 payload.now) }
     {
-        fixed(payload, 4)?;
+        check_length(payload, 4)?;
         Ok(CanClock {
             freq: u32_at(payload, 0),
         })
@@ -145,13 +147,14 @@ impl CanClock {
     }
 }
 
-/// How many errors a CAN controller has counted (`struct can_berr_counter`, `include/uapi/linux/can/netlink.h`): two
-/// numbers of two bytes.
+/// The error counters of a CAN controller (`struct can_berr_counter`, `include/uapi/linux/can/netlink.h`): an error
+/// raises them, and a frame without error lowers them. Two numbers of two bytes. A longer payload is read too, and what
+/// follows is ignored.
 #[derive(Clone, Copy, Debug, PartialEq, Eq)]
 pub struct CanBerrCounter {
-    /// The count of errors in sending.
+    /// The transmit error counter.
     pub txerr: u16,
-    /// The count of errors in receiving.
+    /// The receive error counter.
     pub rxerr: u16,
 }
 
@@ -160,7 +163,7 @@ impl CanBerrCounter {
         ensures value { result ≡ payload_result (accepted (AtLeast 4) errors_of payload.now) }
         ensures octets { IfOk result (λ errors. errors_octets errors ≡ take 4 payload.now) }
     {
-        at_least(payload, 4)?;
+        check_at_least(payload, 4)?;
         Ok(CanBerrCounter {
             txerr: u16_at(payload, 0),
             rxerr: u16_at(payload, 2),

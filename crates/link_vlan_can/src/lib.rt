@@ -9,6 +9,7 @@ mod can_records;
 mod can_tdc;
 mod dsa;
 mod hsr;
+pub mod laws;
 #[cfg(test)]
 mod tests;
 mod vlan;

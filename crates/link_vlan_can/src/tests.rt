@@ -5,19 +5,22 @@ mod can_flags;
 mod can_lists;
 mod can_names;
 mod dsa;
-mod flags;
 mod hsr;
 mod hsr_protocol;
 mod laws;
 mod vlan;
+mod vlan_flags;
 mod vlan_list_faults;
 mod vlan_lists;
 
+use bitflags::Flags;
 use link_base::{
-    Attribute, DecodeError, DecodeFault, DefaultNla, ListError, NlaBuffer, TryClone, read_list,
-    write_list,
+    Attribute, Cause, DecodeError, DecodeFault, DefaultNla, ListError, NlaBuffer, TryClone,
+    read_list, write_list,
 };
 use std::alloc::{AllocError, Global};
+use std::fmt;
+use std::hash::{DefaultHasher, Hash, Hasher};
 use std::process::Abort;
 use std::test::Fail;
 
@@ -34,12 +37,13 @@ fn reads_as<F: Attribute + TryClone + PartialEq>(
     wanted: &F,
 ) -> Result<(), Fail> {
     let value = F::parse(alloc, &NlaBuffer::new_checked(bytes)?)?;
-    assert!(rt; value == *wanted, "from {bytes:?}");
     let copy = value.try_clone(alloc)?;
-    assert!(rt; copy == *wanted, "from {bytes:?}");
     let values: Vec<F> = read_list(alloc, bytes)?;
-    assert_eq!(rt; values.len(), 1, "from {bytes:?}");
-    assert!(rt; values[0] == *wanted, "from {bytes:?}");
+    let is_one = values.len() == 1 && values[0] == *wanted;
+    assert!(rt;
+        value == *wanted && copy == *wanted && is_one,
+        "from {bytes:?}"
+    );
     Ok(())
 }
 
@@ -75,11 +79,68 @@ fn is_case<F: Attribute + TryClone + PartialEq>(
     is_written_as(rt, alloc, bytes, value)
 }
 
+/// The first bytes read as this value, and it is written as the second, which read as it too.
+fn is_rewritten<F: Attribute + TryClone + PartialEq>(
+    rt: &impl Abort,
+    alloc: Global,
+    bytes: &[u8],
+    wanted: &[u8],
+    value: F,
+) -> Result<(), Fail> {
+    reads_as(rt, alloc, bytes, &value)?;
+    is_written_as(rt, alloc, wanted, value)
+}
+
+/// The bytes read as these values, and the values are written as the bytes.
+fn is_list<F: Attribute>(
+    rt: &impl Abort,
+    alloc: Global,
+    bytes: &[u8],
+    values: Vec<F>,
+) -> Result<(), Fail> {
+    let read: Vec<F> = read_list(alloc, bytes)?;
+    assert!(rt; read == values);
+    let out = write_list(alloc, &values)?;
+    assert_eq!(rt; out.as_slice(), bytes);
+    Ok(())
+}
+
+/// The value has this debug text.
+fn is_debugged<T: fmt::Debug + Drop>(
+    rt: &impl Abort,
+    alloc: Global,
+    value: T,
+    wanted: &str,
+) -> Result<(), Fail> {
+    let text = format!(in alloc; "{value:?}")?;
+    assert_eq!(rt; text.as_str(), wanted);
+    Ok(())
+}
+
 /// A value is written under this kind field, with so many bytes of payload and so many in all.
 fn measures<F: Attribute>(rt: &impl Abort, value: &F, kind: u16, payload: usize, frame: usize) {
-    assert_eq!(rt; value.kind(), kind);
-    assert_eq!(rt; value.value_len(), payload);
-    assert_eq!(rt; value.buffer_len(), frame);
+    let lens = value.value_len() == payload && value.buffer_len() == frame;
+    assert!(rt; value.kind() == kind && lens, "of the kind {kind}");
+}
+
+/// The value fits, and is written as these bytes whatever the buffer held; nothing behind them is written.
+fn is_emitted<F: Attribute>(
+    rt: &impl Abort,
+    alloc: Global,
+    value: &F,
+    wanted: &[u8],
+) -> Result<(), Fail> {
+    let mut whole = wanted.to_vec(alloc)?;
+    whole.extend_from_slice(&[0xFF, 0xFF])?;
+    let mut buffer = vec![in alloc; 0xFF; whole.len()]?;
+    let len = value.buffer_len();
+    assert!(rt;
+        value.fits() && len == wanted.len() && len <= buffer.len(),
+        "for {wanted:?}"
+    );
+    value.emit(&mut buffer);
+    assert!(rt; buffer == whole, "for {wanted:?}");
+    Ok(())
 }
 
 /// The bytes are one frame, which has this fault.
@@ -89,19 +150,66 @@ fn is_refused<F: Attribute>(
     bytes: &[u8],
     wanted: DecodeFault,
 ) -> Result<(), Fail> {
-    match F::parse(alloc, &NlaBuffer::new_checked(bytes)?) {
-        Ok(_) => return Err(Fail::from("a bad frame was read")),
-        Err(DecodeError::Memory(error)) => return Err(Fail::from(error)),
-        Err(DecodeError::Fault(fault)) => assert_eq!(rt; fault, wanted, "from {bytes:?}"),
-    }
-    let answer: Result<Vec<F>, ListError> = read_list(alloc, bytes);
-    match answer {
-        Ok(_) => return Err(Fail::from("a bad list was read")),
-        Err(ListError::Memory(error)) => return Err(Fail::from(error)),
-        Err(ListError::Fault { at, fault }) => {
-            assert_eq!(rt; at, 0, "from {bytes:?}");
-            assert_eq!(rt; fault, wanted, "from {bytes:?}");
-        }
-    }
+    let value = F::parse(alloc, &NlaBuffer::new_checked(bytes)?);
+    let is_refused = value == Err(DecodeError::Fault(wanted));
+    let values: Result<Vec<F>, ListError> = read_list(alloc, bytes);
+    let fault = ListError::Fault {
+        at: 0,
+        fault: wanted,
+    };
+    assert!(rt; is_refused && values == Err(fault), "from {bytes:?}");
     Ok(())
+}
+
+/// The bytes are one frame, whose payload has not as many bytes as its kind wants.
+fn is_wrong<F: Attribute>(
+    rt: &impl Abort,
+    alloc: Global,
+    bytes: &[u8],
+    kind: u16,
+    want: usize,
+    got: usize,
+) -> Result<(), Fail> {
+    let cause = Cause::WrongLength { want, got };
+    is_refused::<F>(rt, alloc, bytes, DecodeFault::Value { kind, cause })
+}
+
+/// The bytes are one frame, whose payload has fewer bytes than its kind wants.
+fn is_short<F: Attribute>(
+    rt: &impl Abort,
+    alloc: Global,
+    bytes: &[u8],
+    kind: u16,
+    want: usize,
+    got: usize,
+) -> Result<(), Fail> {
+    let cause = Cause::TooShort { want, got };
+    is_refused::<F>(rt, alloc, bytes, DecodeFault::Value { kind, cause })
+}
+
+/// Each set has the bits beside it.
+fn are_bits<F: Flags<Bits = u32> + Copy>(rt: &impl Abort, rows: &[(F, u32)]) {
+    for (set, bits) in rows {
+        assert_eq!(rt; set.bits(), *bits);
+    }
+}
+
+/// `a` with the bits of `b` set or cleared.
+fn with<F: Flags<Bits = u32>>(a: u32, b: u32, value: bool) -> F {
+    let mut set = F::from_bits_retain(a);
+    set.set(F::from_bits_retain(b), value);
+    set
+}
+
+/// `a` with the bits of `b` flipped.
+fn toggled<F: Flags<Bits = u32>>(a: u32, b: u32) -> F {
+    let mut set = F::from_bits_retain(a);
+    set.toggle(F::from_bits_retain(b));
+    set
+}
+
+fn hash_of<T: Hash>(value: &T) -> u64 {
+    let mut state = DefaultHasher::new();
+    value.hash(&mut state);
+    state.finish()
 }

@@ -25,8 +25,9 @@ const IFLA_VLAN_QOS_MAPPING: u16 = 1;
 /// An element of a list of priority mappings (`IFLA_VLAN_QOS_MAPPING`, `include/uapi/linux/if_link.h`).
 #[derive(Debug, PartialEq, Eq, Drop)]
 pub enum VlanQosMapping {
-    /// From one priority to another: from that of a packet to that of its tag in `EgressQos`, and the other way in
-    /// `IngressQos` (`struct ifla_vlan_qos_mapping`, two numbers of four bytes).
+    /// From one priority to another: in `EgressQos` from that of a packet to that of its tag, in `IngressQos` from that
+    /// of a tag to that of its packet (`struct ifla_vlan_qos_mapping`, two numbers of four bytes). A tag's priority is
+    /// 0 to 7.
     Mapping(u32, u32),
     /// An element of any other kind.
     Other(DefaultNla),
@@ -120,12 +121,12 @@ impl NestedAttribute for VlanQosMapping {
 pub enum InfoVlan {
     /// The VLAN identifier, 0 to 4094 where it is valid (`IFLA_VLAN_ID`, two bytes).
     Id(u16),
-    /// The active flags, and the mask of the flags that are meant (`IFLA_VLAN_FLAGS`, `struct ifla_vlan_flags`, two
-    /// numbers of four bytes).
+    /// The flags that are on, and the mask: those that a request changes, all where the kernel reports
+    /// (`IFLA_VLAN_FLAGS`, `struct ifla_vlan_flags`, two numbers of four bytes).
     Flags((VlanFlags, VlanFlags)),
-    /// From priorities of packets that are sent to those of their tags (`IFLA_VLAN_EGRESS_QOS`, a list).
+    /// How the priority of a packet becomes that of its tag when it is sent (`IFLA_VLAN_EGRESS_QOS`, a list).
     EgressQos(Vec<VlanQosMapping>),
-    /// From priorities of tags to those of the packets that are received (`IFLA_VLAN_INGRESS_QOS`, a list).
+    /// How the priority of a tag becomes that of its packet when it is received (`IFLA_VLAN_INGRESS_QOS`, a list).
     IngressQos(Vec<VlanQosMapping>),
     /// The protocol of the tag (`IFLA_VLAN_PROTOCOL`, two bytes, the highest first).
     Protocol(VlanProtocol),

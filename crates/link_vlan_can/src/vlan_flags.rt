@@ -12,13 +12,13 @@ impl VlanFlags {
     /// (`VLAN_FLAG_REORDER_HDR`).
     pub const ReorderHdr: VlanFlags = VlanFlags(0x1);
 
-    /// The VLAN is registered by the GARP VLAN Registration Protocol (`VLAN_FLAG_GVRP`).
+    /// The device announces its VLAN to switches by GVRP (`VLAN_FLAG_GVRP`).
     pub const Gvrp: VlanFlags = VlanFlags(0x2);
 
     /// The state of the link does not follow that of the device under it (`VLAN_FLAG_LOOSE_BINDING`).
     pub const LooseBinding: VlanFlags = VlanFlags(0x4);
 
-    /// The VLAN is registered by the Multiple VLAN Registration Protocol (`VLAN_FLAG_MVRP`).
+    /// The device announces its VLAN to switches by MVRP (`VLAN_FLAG_MVRP`).
     pub const Mvrp: VlanFlags = VlanFlags(0x8);
 
     /// The state of the link follows that of the bridge ports in the VLAN (`VLAN_FLAG_BRIDGE_BINDING`).

@@ -15,9 +15,9 @@ use std::io::{Read, Write};
 /// Reads a text and writes the report of it for the family of this name; without a family writes the usage line
 /// and reads nothing. The answer is the exit status.
 ///
-/// Status 0 is success, 1 a fault, 2 a text that is too long or no hex text, or a name that is no family's, 3 a value that does not
-/// fit, 4 a refused growth, and 5 a reader or a writer that failed. The text ends where a read gives no bytes, and
-/// no more than 262,145 bytes of it are read.
+/// Status 0 is success, 1 a fault, 2 a text that is too long or not hex, or an unknown name, 3 a value that does not
+/// fit, 4 a refused growth, 5 a failed reader or writer. The text ends where a read gives no bytes, and no more than
+/// 262,145 bytes of it are read.
 pub fn run<R: Read, W: Write>(
     alloc: Global,
     name: Option<&str>,

@@ -4,6 +4,7 @@ mod bonds;
 mod controllers;
 mod devices;
 mod families;
+mod lists;
 mod long_values;
 mod nested;
 mod texts;

@@ -9,6 +9,8 @@ fn laws_of_tables() {
     laws::one_cut();
     laws::limit();
     laws::items();
+    laws::one_form();
+    laws::fault_equality();
 }
 
 #[test]
@@ -21,7 +23,6 @@ fn laws_of_families() {
     laws::plain_back::<DefaultNla>();
     laws::plain_bytes::<DefaultNla>();
     laws::plain_uncut::<DefaultNla>();
-    laws::one_form::<DefaultNla>();
     laws::rewriting::<DefaultNla>();
     laws::one_rewriting::<DefaultNla>();
     laws::second_equal::<DefaultNla>();

@@ -2,7 +2,7 @@
 
 use crate::{
     Cause, DecodeError, DecodeFault, emit_i32, emit_u8, emit_u16, emit_u16_be, emit_u32,
-    emit_u32_pair, emit_u64, parse_i32, parse_u8, parse_u16, parse_u16_be, parse_u32,
+    emit_u32_pair, emit_u64, parse_bool, parse_i32, parse_u8, parse_u16, parse_u16_be, parse_u32,
     parse_u32_pair, parse_u64,
 };
 use std::process::Abort;
@@ -23,6 +23,14 @@ fn one_byte(rt: HostRuntime) {
     one_byte_is(&rt, 0x7F);
     one_byte_is(&rt, 0x80);
     one_byte_is(&rt, 0xFF);
+}
+
+#[test]
+fn truths(rt: HostRuntime) {
+    assert_eq!(rt; parse_bool(&[0]), Ok(false));
+    assert_eq!(rt; parse_bool(&[1]), Ok(true));
+    assert_eq!(rt; parse_bool(&[2]), Ok(true));
+    assert_eq!(rt; parse_bool(&[0x80]), Ok(true));
 }
 
 fn two_bytes_are(rt: &impl Abort, bytes: [u8; 2], number: u16) {
@@ -147,6 +155,7 @@ fn refused<T: Drop>(rt: &impl Abort, answer: Result<T, DecodeError>, want: usize
 fn wrong_lengths(rt: HostRuntime) {
     for got in [0, 2, 3, 4] {
         refused(&rt, parse_u8(&BYTES[..got]), 1, got);
+        refused(&rt, parse_bool(&BYTES[..got]), 1, got);
     }
     for got in [0, 1, 3, 4] {
         refused(&rt, parse_u16(&BYTES[..got]), 2, got);

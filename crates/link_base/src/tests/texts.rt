@@ -5,6 +5,7 @@ use crate::{
 };
 use std::alloc::{AllocError, Global};
 use std::fmt::{Debug, Display};
+use std::process::Abort;
 use std::test::Fail;
 
 fn shown<T: Display>(alloc: Global, value: &T) -> Result<String, AllocError> {
@@ -94,47 +95,51 @@ fn errors(rt: HostRuntime) -> Result<(), Fail> {
     Ok(())
 }
 
+/// The value has this debug text.
+fn is_debugged<T: Debug>(
+    rt: &impl Abort,
+    alloc: Global,
+    value: &T,
+    wanted: &str,
+) -> Result<(), Fail> {
+    assert_eq!(rt; debugged(alloc, value)?.as_str(), wanted);
+    Ok(())
+}
+
 #[test]
-fn debug_texts(rt: HostRuntime) -> Result<(), Fail> {
+fn debug_texts_of_faults(rt: HostRuntime) -> Result<(), Fail> {
     let alloc = rt.alloc();
     let cause = Cause::TooShort { want: 8, got: 7 };
+    is_debugged(&rt, alloc, &cause, "TooShort { want: 8, got: 7 }")?;
     let fault = DecodeFault::Value { kind: 46, cause };
+    let wanted = "Value { kind: 46, cause: TooShort { want: 8, got: 7 } }";
+    is_debugged(&rt, alloc, &fault, wanted)
+}
+
+#[test]
+fn debug_texts_of_errors(rt: HostRuntime) -> Result<(), Fail> {
+    let alloc = rt.alloc();
+    let text = DecodeError::Fault(DecodeFault::Text);
+    is_debugged(&rt, alloc, &text, "Fault(Text)")?;
+    let memory = DecodeError::Memory(AllocError);
+    is_debugged(&rt, alloc, &memory, "Memory(AllocError)")?;
     let list = ListError::Fault {
         at: 8,
         fault: DecodeFault::Text,
     };
+    is_debugged(&rt, alloc, &list, "Fault { at: 8, fault: Text }")?;
     let write = WriteError::TooLong { index: 2 };
+    is_debugged(&rt, alloc, &write, "TooLong { index: 2 }")
+}
+
+#[test]
+fn debug_texts_of_frames(rt: HostRuntime) -> Result<(), Fail> {
+    let alloc = rt.alloc();
     let frame = NlaBuffer::new_checked(&[6, 0, 99, 0, 222, 173])?;
+    let wanted = "NlaBuffer { kind_field: 99, payload: [222, 173] }";
+    is_debugged(&rt, alloc, &frame, wanted)?;
     let frames = NlasIterator::new(&[4, 0, 9, 0]);
-    let texts = [
-        (debugged(alloc, &cause)?, "TooShort { want: 8, got: 7 }"),
-        (
-            debugged(alloc, &fault)?,
-            "Value { kind: 46, cause: TooShort { want: 8, got: 7 } }",
-        ),
-        (
-            debugged(alloc, &DecodeError::Fault(DecodeFault::Text))?,
-            "Fault(Text)",
-        ),
-        (
-            debugged(alloc, &DecodeError::Memory(AllocError))?,
-            "Memory(AllocError)",
-        ),
-        (debugged(alloc, &list)?, "Fault { at: 8, fault: Text }"),
-        (debugged(alloc, &write)?, "TooLong { index: 2 }"),
-        (
-            debugged(alloc, &frame)?,
-            "NlaBuffer { kind_field: 99, payload: [222, 173] }",
-        ),
-        (
-            debugged(alloc, &frames)?,
-            "NlasIterator { rest: [4, 0, 9, 0] }",
-        ),
-    ];
-    for (text, wanted) in &texts {
-        assert_eq!(rt; text.as_str(), *wanted);
-    }
-    Ok(())
+    is_debugged(&rt, alloc, &frames, "NlasIterator { rest: [4, 0, 9, 0] }")
 }
 
 mod plain {

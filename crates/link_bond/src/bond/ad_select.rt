@@ -23,8 +23,8 @@ pub enum BondAdSelect {
     Bandwidth,
     /// That of the most ports; chosen anew whenever a port or a link changes (`BOND_AD_COUNT`, 2).
     Count,
-    /// That of the highest total of its ports' priorities; chosen anew whenever a port or a link changes
-    /// (`BOND_AD_PRIO`, 3).
+    /// That of the highest total of the priorities (`ActorPortPrio`) of its active ports; chosen anew whenever a port
+    /// or a link changes (`BOND_AD_PRIO`, 3).
     ActorPortPrio,
     /// Any other number.
     Other(u8),

@@ -23,7 +23,8 @@ const BOND_XMIT_POLICY_VLAN_SRCMAC: u8 = 5;
 pub enum BondXmitHashPolicy {
     /// Hardware addresses and packet type (`BOND_XMIT_POLICY_LAYER2`, 0).
     Layer2,
-    /// IP addresses, and ports where the packet has them (`BOND_XMIT_POLICY_LAYER34`, 1).
+    /// IP addresses, and the port numbers, as those of TCP or UDP, where the packet has them
+    /// (`BOND_XMIT_POLICY_LAYER34`, 1).
     Layer34,
     /// Hardware addresses, packet type and IP addresses (`BOND_XMIT_POLICY_LAYER23`, 2).
     Layer23,

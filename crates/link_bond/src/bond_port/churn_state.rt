@@ -11,7 +11,7 @@ const AD_CHURN: u8 = 1;
 
 const AD_NO_CHURN: u8 = 2;
 
-/// Whether one side of a link, this one or the peer, gets in synchronization in due time, as IEEE 802.3ad watches it
+/// Whether one side of a link, this one or the peer, comes into synchronization in time, as IEEE 802.3ad watches it
 /// (`churn_state_t`, `include/net/bond_3ad.h`).
 #[derive(Clone, Copy, Debug, PartialEq, Eq)]
 pub enum ChurnState {

@@ -1,4 +1,4 @@
-//! The state of one side of a LACP link.
+//! The state of one side of an LACP link.
 
 use bitflags::{Flag, Flags};
 use link_base::flag_laws::{FlagSet, KnownBits};
@@ -12,7 +12,7 @@ impl LacpState {
     /// The side sends LACPDUs whether or not the other does (`LACP_STATE_LACP_ACTIVITY`).
     pub const LACP_ACTIVITY: LacpState = LacpState(0x1);
 
-    /// The side times out after three seconds without a LACPDU, not after 90 (`LACP_STATE_LACP_TIMEOUT`).
+    /// The side times out after three seconds without an LACPDU, not after 90 (`LACP_STATE_LACP_TIMEOUT`).
     pub const LACP_TIMEOUT: LacpState = LacpState(0x2);
 
     /// The link may be part of an aggregate (`LACP_STATE_AGGREGATION`).

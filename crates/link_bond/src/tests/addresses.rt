@@ -1,17 +1,38 @@
 //! Lists of addresses, and how many fit.
 
 use crate::InfoBond;
-use crate::tests::{differ, is_case, is_refused, is_written_as, reads_as};
-use link_base::{Cause, DecodeFault, Nla, TryClone, WriteError, list_fits, read_list, write_list};
+use crate::tests::{differ, is_case, is_copied, is_emitted, is_refused, is_rewritten, reads_as};
+use link_base::{Cause, DecodeFault, Nla, WriteError, list_fits, read_list, write_list};
 use std::alloc::{AllocError, Global};
 use std::net::{Ipv4Addr, Ipv6Addr};
+use std::process::Abort;
 use std::test::Fail;
 
+/// 10.0.0.1 and 10.0.0.2.
+const TWO: [u8; 20] = [
+    20, 0, 8, 0, 8, 0, 0, 0, 10, 0, 0, 1, 8, 0, 1, 0, 10, 0, 0, 2,
+];
+
 fn of_two(alloc: Global) -> Result<InfoBond, AllocError> {
-    Ok(InfoBond::ArpIpTarget(vec![in alloc;
-        Ipv4Addr::new(10, 0, 0, 1),
-        Ipv4Addr::new(10, 0, 0, 2),
-    ]?))
+    let first = Ipv4Addr::new(10, 0, 0, 1);
+    let second = Ipv4Addr::new(10, 0, 0, 2);
+    Ok(InfoBond::ArpIpTarget(vec![in alloc; first, second]?))
+}
+
+/// 10.0.0.1.
+const ONE: [u8; 12] = [12, 0, 8, 0, 8, 0, 0, 0, 10, 0, 0, 1];
+
+fn of_one(alloc: Global) -> Result<InfoBond, AllocError> {
+    Ok(InfoBond::ArpIpTarget(vec![in alloc; Ipv4Addr::new(10, 0, 0, 1)]?))
+}
+
+/// ::1.
+const LOCAL: [u8; 24] = [
+    24, 0, 31, 0, 20, 0, 0, 0, 0, 0, 0, 0, 0, 0, 0, 0, 0, 0, 0, 0, 0, 0, 0, 1,
+];
+
+fn of_local(alloc: Global) -> Result<InfoBond, AllocError> {
+    Ok(InfoBond::NsIp6Target(vec![in alloc; Ipv6Addr::new(0, 0, 0, 0, 0, 0, 0, 1)]?))
 }
 
 #[test]
@@ -19,28 +40,19 @@ fn targets_of_four_octets(rt: HostRuntime) -> Result<(), Fail> {
     let alloc = rt.alloc();
     let none = InfoBond::ArpIpTarget(Vec::new(alloc));
     is_case(&rt, alloc, &[4, 0, 8, 0], none)?;
-    let two = [
-        20, 0, 8, 0, 8, 0, 0, 0, 10, 0, 0, 1, 8, 0, 1, 0, 10, 0, 0, 2,
-    ];
-    is_case(&rt, alloc, &two, of_two(alloc)?)?;
-    Ok(())
+    is_case(&rt, alloc, &TWO, of_two(alloc)?)
 }
 
 #[test]
 fn kinds_of_elements(rt: HostRuntime) -> Result<(), Fail> {
     let alloc = rt.alloc();
-    let two = of_two(alloc)?;
     // whatever they are, with flags
-    let bytes = [
+    let two = [
         20, 0, 8, 0, 8, 0, 5, 0x80, 10, 0, 0, 1, 8, 0, 5, 0x40, 10, 0, 0, 2,
     ];
-    reads_as(&rt, alloc, &bytes, &two)?;
-    let out = write_list(alloc, &vec![in alloc; two]?)?;
-    let wanted = [
-        20, 0, 8, 0, 8, 0, 0, 0, 10, 0, 0, 1, 8, 0, 1, 0, 10, 0, 0, 2,
-    ];
-    assert_eq!(rt; out.as_slice(), wanted.as_slice());
-    Ok(())
+    is_rewritten(&rt, alloc, &two, &TWO, of_two(alloc)?)?;
+    let one = [12, 0, 8, 0, 8, 0, 5, 0x80, 10, 0, 0, 1];
+    is_rewritten(&rt, alloc, &one, &ONE, of_one(alloc)?)
 }
 
 #[test]
@@ -48,14 +60,11 @@ fn elements_of_other_lengths(rt: HostRuntime) -> Result<(), Fail> {
     let alloc = rt.alloc();
     let none = InfoBond::ArpIpTarget(Vec::new(alloc));
     reads_as(&rt, alloc, &[12, 0, 8, 0, 6, 0, 0, 0, 10, 0, 0, 0], &none)?;
-    let one = InfoBond::ArpIpTarget(vec![in alloc; Ipv4Addr::new(10, 0, 0, 1)]?);
     let bytes = [
         29, 0, 8, 0, 9, 0, 0, 0, 1, 2, 3, 4, 5, 0, 0, 0, 8, 0, 9, 0, 10, 0, 0, 1, 5, 0, 1, 0, 7, 0,
         0, 0,
     ];
-    reads_as(&rt, alloc, &bytes, &one)?;
-    is_written_as(&rt, alloc, &[12, 0, 8, 0, 8, 0, 0, 0, 10, 0, 0, 1], one)?;
-    Ok(())
+    is_rewritten(&rt, alloc, &bytes, &ONE, of_one(alloc)?)
 }
 
 #[test]
@@ -63,11 +72,12 @@ fn targets_of_sixteen_octets(rt: HostRuntime) -> Result<(), Fail> {
     let alloc = rt.alloc();
     let none = InfoBond::NsIp6Target(Vec::new(alloc));
     is_case(&rt, alloc, &[4, 0, 31, 0], none)?;
-    let one = InfoBond::NsIp6Target(vec![in alloc; Ipv6Addr::new(0, 0, 0, 0, 0, 0, 0, 1)]?);
-    let bytes = [
-        24, 0, 31, 0, 20, 0, 0, 0, 0, 0, 0, 0, 0, 0, 0, 0, 0, 0, 0, 0, 0, 0, 0, 1,
-    ];
-    is_case(&rt, alloc, &bytes, one)?;
+    is_case(&rt, alloc, &LOCAL, of_local(alloc)?)
+}
+
+#[test]
+fn four_octets_among_sixteen(rt: HostRuntime) -> Result<(), Fail> {
+    let alloc = rt.alloc();
     // an address of four octets is none of them
     let address = Ipv6Addr::new(0xFE80, 0, 0, 0, 0x0102, 0x0304, 0x0506, 0x0708);
     let one = InfoBond::NsIp6Target(vec![in alloc; address]?);
@@ -75,8 +85,16 @@ fn targets_of_sixteen_octets(rt: HostRuntime) -> Result<(), Fail> {
         32, 0, 31, 0, 8, 0, 0, 0, 10, 0, 0, 1, 20, 0, 1, 0, 0xFE, 0x80, 0, 0, 0, 0, 0, 0, 1, 2, 3,
         4, 5, 6, 7, 8,
     ];
-    reads_as(&rt, alloc, &bytes, &one)?;
-    Ok(())
+    reads_as(&rt, alloc, &bytes, &one)
+}
+
+#[test]
+fn in_a_longer_buffer(rt: HostRuntime) -> Result<(), Fail> {
+    let alloc = rt.alloc();
+    let two = of_two(alloc)?;
+    is_emitted(&rt, alloc, &two, &TWO)?;
+    let local = of_local(alloc)?;
+    is_emitted(&rt, alloc, &local, &LOCAL)
 }
 
 #[test]
@@ -100,11 +118,17 @@ fn bad_frames(rt: HostRuntime) -> Result<(), Fail> {
 fn different_lists(rt: HostRuntime) -> Result<(), Fail> {
     let alloc = rt.alloc();
     let two = of_two(alloc)?;
-    assert!(rt; two == two.try_clone(alloc)?);
-    differ(&rt, &two, InfoBond::ArpIpTarget(Vec::new(alloc)));
+    is_copied(&rt, alloc, &two)?;
     let turned = vec![in alloc; Ipv4Addr::new(10, 0, 0, 2), Ipv4Addr::new(10, 0, 0, 1)]?;
     differ(&rt, &two, InfoBond::ArpIpTarget(turned));
-    differ(&rt, &two, InfoBond::NsIp6Target(Vec::new(alloc)));
+    Ok(())
+}
+
+#[test]
+fn no_addresses(rt: HostRuntime) -> Result<(), Fail> {
+    let two = of_two(rt.alloc())?;
+    differ(&rt, &two, InfoBond::ArpIpTarget(Vec::new(rt.alloc())));
+    differ(&rt, &two, InfoBond::NsIp6Target(Vec::new(rt.alloc())));
     Ok(())
 }
 
@@ -118,46 +142,48 @@ fn many_of_sixteen(alloc: Global, count: usize) -> Result<InfoBond, AllocError> 
     Ok(InfoBond::NsIp6Target(vec![in alloc; address; count]?))
 }
 
-#[test]
-fn as_many_of_four_octets_as_fit(rt: HostRuntime) -> Result<(), Fail> {
-    let alloc = rt.alloc();
-    let values = vec![in alloc; many_of_four(alloc, 8191)?]?;
-    assert!(rt; values[0].fits());
-    assert_eq!(rt; values[0].value_len(), 65528);
+/// The value fits and has so many bytes of payload. The bytes that are written for it, which read as it.
+fn written(rt: &impl Abort, alloc: Global, value: InfoBond, len: usize) -> Result<Vec<u8>, Fail> {
+    assert!(rt; value.fits());
+    assert_eq!(rt; value.value_len(), len);
+    let mut values = Vec::new(alloc);
+    values.push(value)?;
     let out = write_list(alloc, &values)?;
-    assert_eq!(rt; out.len(), 65532);
-    assert_eq!(rt; &out[..8], [0xFC, 0xFF, 8, 0, 8, 0, 0, 0].as_slice());
-    // the last element has kind 8190
-    assert_eq!(rt; &out[65524..], [8, 0, 0xFE, 0x1F, 10, 0, 0, 1].as_slice());
     let read: Vec<InfoBond> = read_list(alloc, &out)?;
     assert!(rt; read == values);
+    Ok(out)
+}
+
+/// The value, of so many bytes of payload, does not fit, and is not written.
+fn is_too_long(rt: &impl Abort, alloc: Global, value: InfoBond, len: usize) -> Result<(), Fail> {
+    assert!(rt; !value.fits());
+    assert_eq!(rt; value.value_len(), len);
+    let mut values = Vec::new(alloc);
+    values.push(value)?;
+    assert!(rt; !list_fits(&values));
+    assert!(rt; write_list(alloc, &values) == Err(WriteError::TooLong { index: 0 }));
     Ok(())
 }
 
 #[test]
-fn one_more_of_four_octets(rt: HostRuntime) -> Result<(), Fail> {
-    let alloc = rt.alloc();
-    let values = vec![in alloc; many_of_four(alloc, 8192)?]?;
-    assert!(rt; !values[0].fits());
-    assert!(rt; !list_fits(&values));
-    assert_eq!(rt; values[0].value_len(), 65536);
-    match write_list(alloc, &values) {
-        Ok(_) => return Err(Fail::from("a long list was written")),
-        Err(error) => assert_eq!(rt; error, WriteError::TooLong { index: 0 }),
-    }
+fn as_many_of_four_octets_as_fit(rt: HostRuntime) -> Result<(), Fail> {
+    let out = written(&rt, rt.alloc(), many_of_four(rt.alloc(), 8191)?, 65528)?;
+    assert_eq!(rt; out.len(), 65532);
+    assert_eq!(rt; &out[..8], [0xFC, 0xFF, 8, 0, 8, 0, 0, 0].as_slice());
+    // the last element has kind 8190
+    assert_eq!(rt; &out[65524..], [8, 0, 0xFE, 0x1F, 10, 0, 0, 1].as_slice());
     Ok(())
 }
 
 #[test]
 fn as_many_of_sixteen_octets_as_fit(rt: HostRuntime) -> Result<(), Fail> {
-    let alloc = rt.alloc();
-    let values = vec![in alloc; many_of_sixteen(alloc, 3276)?]?;
-    assert!(rt; values[0].fits());
-    assert_eq!(rt; values[0].value_len(), 65520);
-    let read: Vec<InfoBond> = read_list(alloc, &write_list(alloc, &values)?)?;
-    assert!(rt; read == values);
-    let more = many_of_sixteen(alloc, 3277)?;
-    assert!(rt; !more.fits());
-    assert_eq!(rt; more.value_len(), 65540);
+    let out = written(&rt, rt.alloc(), many_of_sixteen(rt.alloc(), 3276)?, 65520)?;
+    assert_eq!(rt; out.len(), 65524);
     Ok(())
+}
+
+#[test]
+fn one_more(rt: HostRuntime) -> Result<(), Fail> {
+    is_too_long(&rt, rt.alloc(), many_of_four(rt.alloc(), 8192)?, 65536)?;
+    is_too_long(&rt, rt.alloc(), many_of_sixteen(rt.alloc(), 3277)?, 65540)
 }

@@ -1,8 +1,9 @@
 //! Values of bonds that are numbers, truths and hardware addresses, case by case.
 
-use crate::tests::{any, differ, is_case, is_refused, is_written_as, reads_as};
+use crate::tests::{
+    any, differ, is_case, is_list, is_rewritten, is_written_as, is_wrong, reads_as,
+};
 use crate::{BondMode, InfoBond};
-use link_base::{Cause, DecodeFault, read_list, write_list};
 use std::alloc::Global;
 use std::process::Abort;
 use std::test::Fail;
@@ -117,52 +118,39 @@ fn other_kinds(rt: HostRuntime) -> Result<(), Fail> {
     is_written_as(&rt, alloc, &[4, 0, 0, 0], none)?;
     let next = InfoBond::Other(any(alloc, 35, &[1, 2, 3, 4])?);
     is_written_as(&rt, alloc, &[8, 0, 35, 0, 1, 2, 3, 4], next)?;
-    let flagged = InfoBond::Other(any(alloc, 0xC063, &[0xDE, 0xAD])?);
-    reads_as(&rt, alloc, &[6, 0, 0x63, 0xC0, 0xDE, 0xAD], &flagged)?;
-    differ(
-        &rt,
-        &flagged,
-        InfoBond::Other(any(alloc, 0x63, &[0xDE, 0xAD])?),
-    );
-    is_written_as(&rt, alloc, &[6, 0, 0x63, 0xC0, 0xDE, 0xAD, 0, 0], flagged)?;
     Ok(())
 }
 
 #[test]
-fn a_list_of_values(rt: HostRuntime) -> Result<(), Fail> {
+fn flags_of_other_kinds(rt: HostRuntime) -> Result<(), Fail> {
+    let alloc = rt.alloc();
+    let flagged = InfoBond::Other(any(alloc, 0xC063, &[0xDE, 0xAD])?);
+    let plain = InfoBond::Other(any(alloc, 0x63, &[0xDE, 0xAD])?);
+    differ(&rt, &flagged, plain);
+    let padded = [6, 0, 0x63, 0xC0, 0xDE, 0xAD, 0, 0];
+    is_rewritten(&rt, alloc, &padded[..6], &padded, flagged)
+}
+
+#[test]
+fn lists_of_values(rt: HostRuntime) -> Result<(), Fail> {
     let alloc = rt.alloc();
     let bytes = [5, 0, 1, 0, 4, 0, 0, 0, 8, 0, 3, 0, 100, 0, 0, 0];
     let values = vec![in alloc; InfoBond::Mode(BondMode::Ieee8023Ad), InfoBond::MiiMon(100)]?;
-    let read: Vec<InfoBond> = read_list(alloc, &bytes)?;
-    assert!(rt; read == values);
-    assert_eq!(rt; write_list(alloc, &values)?.as_slice(), bytes.as_slice());
-    let none: Vec<InfoBond> = read_list(alloc, &[])?;
-    assert!(rt; none.is_empty());
-    Ok(())
-}
-
-fn is_wrong(
-    rt: &impl Abort,
-    alloc: Global,
-    bytes: &[u8],
-    kind: u16,
-    want: usize,
-    got: usize,
-) -> Result<(), Fail> {
-    let cause = Cause::WrongLength { want, got };
-    is_refused::<InfoBond>(rt, alloc, bytes, DecodeFault::Value { kind, cause })
+    is_list(&rt, alloc, &bytes, values)?;
+    let none: Vec<InfoBond> = Vec::new(alloc);
+    is_list(&rt, alloc, &[], none)
 }
 
 #[test]
 fn wrong_lengths(rt: HostRuntime) -> Result<(), Fail> {
     let alloc = rt.alloc();
-    is_wrong(&rt, alloc, &[8, 0, 1, 0, 1, 0, 0, 0], 1, 1, 4)?;
-    is_wrong(&rt, alloc, &[5, 0, 2, 0, 1], 2, 4, 1)?;
-    is_wrong(&rt, alloc, &[4, 0, 6, 0], 6, 1, 0)?;
-    is_wrong(&rt, alloc, &[5, 0, 9, 0x80, 4], 9, 4, 1)?;
-    is_wrong(&rt, alloc, &[6, 0, 16, 0, 1, 0], 16, 1, 2)?;
-    is_wrong(&rt, alloc, &[5, 0, 24, 0, 1], 24, 2, 1)?;
-    is_wrong(&rt, alloc, &[9, 0, 26, 0, 2, 0, 0, 0, 0], 26, 6, 5)?;
-    is_wrong(&rt, alloc, &[6, 0, 34, 0, 1, 0], 34, 1, 2)?;
+    is_wrong::<InfoBond>(&rt, alloc, &[8, 0, 1, 0, 1, 0, 0, 0], 1, 1, 4)?;
+    is_wrong::<InfoBond>(&rt, alloc, &[5, 0, 2, 0, 1], 2, 4, 1)?;
+    is_wrong::<InfoBond>(&rt, alloc, &[4, 0, 6, 0], 6, 1, 0)?;
+    is_wrong::<InfoBond>(&rt, alloc, &[5, 0, 9, 0x80, 4], 9, 4, 1)?;
+    is_wrong::<InfoBond>(&rt, alloc, &[6, 0, 16, 0, 1, 0], 16, 1, 2)?;
+    is_wrong::<InfoBond>(&rt, alloc, &[5, 0, 24, 0, 1], 24, 2, 1)?;
+    is_wrong::<InfoBond>(&rt, alloc, &[9, 0, 26, 0, 2, 0, 0, 0, 0], 26, 6, 5)?;
+    is_wrong::<InfoBond>(&rt, alloc, &[6, 0, 34, 0, 1, 0], 34, 1, 2)?;
     Ok(())
 }

@@ -1,11 +1,10 @@
 //! Values of bonds that are named numbers, case by case.
 
-use crate::tests::{differ, is_case, is_written_as, reads_as};
+use crate::tests::{differ, is_case, is_written, is_written_as, reads_as};
 use crate::{
     BondAdSelect, BondAllPortActive, BondArpAllTargets, BondArpValidate, BondFailOverMac,
     BondLacpRate, BondMode, BondPrimaryReselect, BondXmitHashPolicy, InfoBond,
 };
-use link_base::write_list;
 use std::test::Fail;
 
 #[test]
@@ -26,9 +25,7 @@ fn a_hidden_mode(rt: HostRuntime) -> Result<(), Fail> {
     let alloc = rt.alloc();
     let hidden = InfoBond::Mode(BondMode::Other(1));
     differ(&rt, &hidden, InfoBond::Mode(BondMode::ActiveBackup));
-    let out = write_list(alloc, &vec![in alloc; hidden]?)?;
-    assert_eq!(rt; out.as_slice(), [5, 0, 1, 0, 1, 0, 0, 0].as_slice());
-    Ok(())
+    is_written(&rt, alloc, &[5, 0, 1, 0, 1, 0, 0, 0], hidden)
 }
 
 #[test]

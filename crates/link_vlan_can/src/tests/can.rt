@@ -1,11 +1,12 @@
 //! Values of a CAN controller, case by case; lists and names aside.
 
-use crate::tests::{any, is_case, is_refused, is_written_as, measures, reads_as};
+use crate::tests::{
+    any, is_case, is_debugged, is_emitted, is_list, is_rewritten, is_short, is_written_as,
+    is_wrong, measures, reads_as,
+};
 use crate::{CanBerrCounter, CanBitTiming, CanClock, CanCtrlMode, CanCtrlModeFlags, InfoCan};
 use bitflags::Flags;
-use link_base::{Cause, DecodeFault, Nla, read_list, write_list};
-use std::alloc::Global;
-use std::process::Abort;
+use std::alloc::{AllocError, Global};
 use std::test::Fail;
 
 /// 500 kbit/s, and a different number in each other field.
@@ -48,13 +49,13 @@ fn timings(rt: HostRuntime) -> Result<(), Fail> {
 #[test]
 fn longer_timings(rt: HostRuntime) -> Result<(), Fail> {
     let alloc = rt.alloc();
-    let mut longer = TIMING.to_vec(alloc)?;
-    longer.extend_from_slice(&[9, 9, 9, 9])?;
-    longer[0] = 40;
+    let mut longer = [
+        40, 0, 1, 0, 0x20, 0xA1, 7, 0, 0x6B, 3, 0, 0, 125, 0, 0, 0, 6, 0, 0, 0, 7, 0, 0, 0, 2, 0,
+        0, 0, 1, 0, 0, 0, 1, 2, 3, 4, 9, 9, 9, 9,
+    ];
     reads_as(&rt, alloc, &longer, &InfoCan::BitTiming(timing()))?;
     longer[2] = 9;
-    reads_as(&rt, alloc, &longer, &InfoCan::DataBitTiming(timing()))?;
-    Ok(())
+    reads_as(&rt, alloc, &longer, &InfoCan::DataBitTiming(timing()))
 }
 
 #[test]
@@ -68,11 +69,9 @@ fn clocks(rt: HostRuntime) -> Result<(), Fail> {
 }
 
 #[test]
-fn a_clock_in_a_longer_buffer(rt: HostRuntime) {
-    let mut buffer = [0xFF; 10];
-    InfoCan::Clock(CanClock::new(8_000_000)).emit(&mut buffer);
-    let wanted = [8, 0, 3, 0, 0, 0x12, 0x7A, 0, 0xFF, 0xFF];
-    assert_eq!(rt; buffer.as_slice(), wanted.as_slice());
+fn a_clock_in_a_longer_buffer(rt: HostRuntime) -> Result<(), Fail> {
+    let clock = InfoCan::Clock(CanClock::new(8_000_000));
+    is_emitted(&rt, rt.alloc(), &clock, &[8, 0, 3, 0, 0, 0x12, 0x7A, 0])
 }
 
 #[test]
@@ -96,17 +95,19 @@ fn modes(rt: HostRuntime) -> Result<(), Fail> {
 
 #[test]
 fn error_counts(rt: HostRuntime) -> Result<(), Fail> {
-    let alloc = rt.alloc();
     let counts = InfoCan::BerrCounter(CanBerrCounter {
         txerr: 0x0201,
         rxerr: 0x0403,
     });
-    is_case(&rt, alloc, &[8, 0, 8, 0, 1, 2, 3, 4], counts)?;
+    is_case(&rt, rt.alloc(), &[8, 0, 8, 0, 1, 2, 3, 4], counts)
+}
+
+#[test]
+fn longer_error_counts(rt: HostRuntime) -> Result<(), Fail> {
     let counts = InfoCan::BerrCounter(CanBerrCounter { txerr: 1, rxerr: 2 });
     let longer = [10, 0, 8, 0, 1, 0, 2, 0, 0xFF, 0xFF, 0, 0];
-    reads_as(&rt, alloc, &longer, &counts)?;
-    is_written_as(&rt, alloc, &[8, 0, 8, 0, 1, 0, 2, 0], counts)?;
-    Ok(())
+    let wanted = [8, 0, 8, 0, 1, 0, 2, 0];
+    is_rewritten(&rt, rt.alloc(), &longer, &wanted, counts)
 }
 
 #[test]
@@ -132,31 +133,37 @@ fn other_kinds(rt: HostRuntime) -> Result<(), Fail> {
     is_written_as(&rt, alloc, &[6, 0, 12, 0, 1, 0, 0, 0], twelfth)?;
     let thirteenth = InfoCan::Other(any(alloc, 13, &[1, 2, 3, 4])?);
     is_written_as(&rt, alloc, &[8, 0, 13, 0, 1, 2, 3, 4], thirteenth)?;
-    let fourteenth = InfoCan::Other(any(alloc, 14, &[5])?);
-    is_written_as(&rt, alloc, &[5, 0, 14, 0, 5, 0, 0, 0], fourteenth)?;
-    let eighteenth = InfoCan::Other(any(alloc, 0xC012, &[0xDE, 0xAD])?);
-    reads_as(&rt, alloc, &[6, 0, 18, 0xC0, 0xDE, 0xAD], &eighteenth)?;
-    is_written_as(&rt, alloc, &[6, 0, 18, 0xC0, 0xDE, 0xAD, 0, 0], eighteenth)?;
     Ok(())
 }
 
 #[test]
-fn a_list_of_values(rt: HostRuntime) -> Result<(), Fail> {
+fn more_other_kinds(rt: HostRuntime) -> Result<(), Fail> {
     let alloc = rt.alloc();
+    let fourteenth = InfoCan::Other(any(alloc, 14, &[5])?);
+    is_written_as(&rt, alloc, &[5, 0, 14, 0, 5, 0, 0, 0], fourteenth)?;
+    let eighteenth = InfoCan::Other(any(alloc, 0xC012, &[0xDE, 0xAD])?);
+    let padded = [6, 0, 18, 0xC0, 0xDE, 0xAD, 0, 0];
+    is_rewritten(&rt, alloc, &padded[..6], &padded, eighteenth)
+}
+
+fn four_values(alloc: Global) -> Result<Vec<InfoCan>, AllocError> {
+    let other = InfoCan::Other(any(alloc, 0x400C, &[7])?);
+    let counts = CanBerrCounter { txerr: 1, rxerr: 2 };
+    Ok(vec![in alloc;
+        InfoCan::Clock(CanClock::new(8_000_000)),
+        InfoCan::Termination(120),
+        InfoCan::BerrCounter(counts),
+        other,
+    ]?)
+}
+
+#[test]
+fn a_list_of_values(rt: HostRuntime) -> Result<(), Fail> {
     let bytes = [
         8, 0, 3, 0, 0, 0x12, 0x7A, 0, 6, 0, 11, 0, 120, 0, 0, 0, 8, 0, 8, 0, 1, 0, 2, 0, 5, 0, 12,
         0x40, 7, 0, 0, 0,
     ];
-    let values = vec![in alloc;
-        InfoCan::Clock(CanClock::new(8_000_000)),
-        InfoCan::Termination(120),
-        InfoCan::BerrCounter(CanBerrCounter { txerr: 1, rxerr: 2 }),
-        InfoCan::Other(any(alloc, 0x400C, &[7])?),
-    ]?;
-    let read: Vec<InfoCan> = read_list(alloc, &bytes)?;
-    assert!(rt; read == values);
-    assert_eq!(rt; write_list(alloc, &values)?.as_slice(), bytes.as_slice());
-    Ok(())
+    is_list(&rt, rt.alloc(), &bytes, four_values(rt.alloc())?)
 }
 
 #[test]
@@ -173,52 +180,35 @@ fn made_values(rt: HostRuntime) -> Result<(), Fail> {
     };
     assert!(rt; CanBitTiming::new(250_000) == made);
     assert!(rt; CanBitTiming::default() == CanBitTiming::new(0));
-    assert!(rt; CanClock::new(5) == CanClock { freq: 5 });
-    assert!(rt; CanClock::default() == CanClock { freq: 0 });
-    assert!(rt; timing().clone()? == timing());
-    assert!(rt; mode(1, 2).clone()? == mode(1, 2));
+    let clock = CanClock { freq: 5 };
+    assert!(rt; CanClock::new(5) == clock && CanClock::default() == CanClock { freq: 0 });
+    let is_copied = timing().clone()? == timing();
+    assert!(rt; is_copied && mode(1, 2).clone()? == mode(1, 2));
     Ok(())
-}
-
-fn is_wrong(
-    rt: &impl Abort,
-    alloc: Global,
-    bytes: &[u8],
-    kind: u16,
-    cause: Cause,
-) -> Result<(), Fail> {
-    is_refused::<InfoCan>(rt, alloc, bytes, DecodeFault::Value { kind, cause })
 }
 
 #[test]
 fn wrong_lengths(rt: HostRuntime) -> Result<(), Fail> {
     let alloc = rt.alloc();
-    let short = Cause::TooShort { want: 4, got: 3 };
-    is_wrong(&rt, alloc, &[7, 0, 3, 0, 1, 2, 3, 0], 3, short)?;
-    is_wrong(&rt, alloc, &[7, 0, 8, 0, 1, 2, 3, 0], 8, short)?;
-    let long = Cause::WrongLength { want: 4, got: 5 };
-    is_wrong(&rt, alloc, &[9, 0, 3, 0, 0, 0x12, 0x7A, 0, 0xFF], 3, long)?;
-    is_wrong(&rt, alloc, &[9, 0, 4, 0, 1, 2, 3, 4, 5], 4, long)?;
-    is_wrong(&rt, alloc, &[9, 0, 6, 0, 1, 2, 3, 4, 5], 6, long)?;
-    is_wrong(&rt, alloc, &[9, 0, 7, 0xC0, 1, 2, 3, 4, 5], 7, long)?;
-    is_wrong(&rt, alloc, &[9, 0, 15, 0, 1, 2, 3, 4, 5], 15, long)?;
-    Ok(())
+    is_wrong::<InfoCan>(&rt, alloc, &[9, 0, 3, 0, 0, 0x12, 0x7A, 0, 0xFF], 3, 4, 5)?;
+    is_wrong::<InfoCan>(&rt, alloc, &[9, 0, 4, 0, 1, 2, 3, 4, 5], 4, 4, 5)?;
+    is_wrong::<InfoCan>(&rt, alloc, &[9, 0, 6, 0, 1, 2, 3, 4, 5], 6, 4, 5)?;
+    is_wrong::<InfoCan>(&rt, alloc, &[9, 0, 7, 0xC0, 1, 2, 3, 4, 5], 7, 4, 5)?;
+    is_wrong::<InfoCan>(&rt, alloc, &[9, 0, 15, 0, 1, 2, 3, 4, 5], 15, 4, 5)?;
+    is_wrong::<InfoCan>(&rt, alloc, &[8, 0, 11, 0, 120, 0, 0, 0], 11, 2, 4)
 }
 
 #[test]
-fn more_wrong_lengths(rt: HostRuntime) -> Result<(), Fail> {
+fn records_that_are_short(rt: HostRuntime) -> Result<(), Fail> {
     let alloc = rt.alloc();
-    let short = Cause::TooShort { want: 8, got: 7 };
-    is_wrong(&rt, alloc, &[11, 0, 5, 0, 1, 2, 3, 4, 5, 6, 7], 5, short)?;
-    let long = Cause::WrongLength { want: 2, got: 4 };
-    is_wrong(&rt, alloc, &[8, 0, 11, 0, 120, 0, 0, 0], 11, long)?;
-    let mut cut = TIMING.to_vec(alloc)?;
+    is_short::<InfoCan>(&rt, alloc, &[7, 0, 3, 0, 1, 2, 3, 0], 3, 4, 3)?;
+    is_short::<InfoCan>(&rt, alloc, &[7, 0, 8, 0, 1, 2, 3, 0], 8, 4, 3)?;
+    is_short::<InfoCan>(&rt, alloc, &[11, 0, 5, 0, 1, 2, 3, 4, 5, 6, 7], 5, 8, 7)?;
+    let mut cut = TIMING;
     cut[0] = 35;
-    let short = Cause::TooShort { want: 32, got: 31 };
-    is_wrong(&rt, alloc, &cut, 1, short)?;
+    is_short::<InfoCan>(&rt, alloc, &cut, 1, 32, 31)?;
     cut[2] = 9;
-    is_wrong(&rt, alloc, &cut, 9, short)?;
-    Ok(())
+    is_short::<InfoCan>(&rt, alloc, &cut, 9, 32, 31)
 }
 
 #[test]
@@ -230,27 +220,23 @@ fn lengths_and_kinds(rt: HostRuntime) {
 #[test]
 fn debug_texts(rt: HostRuntime) -> Result<(), Fail> {
     let alloc = rt.alloc();
-    for (value, wanted) in [
-        (InfoCan::State(2), "State(2)"),
-        (
-            InfoCan::Clock(CanClock::new(8_000_000)),
-            "Clock(CanClock { freq: 8000000 })",
-        ),
-        (
-            InfoCan::CtrlMode(mode(33, 32)),
-            "CtrlMode(CanCtrlMode { mask: CanCtrlModeFlags(33), flags: CanCtrlModeFlags(32) })",
-        ),
-        (
-            InfoCan::BerrCounter(CanBerrCounter { txerr: 1, rxerr: 2 }),
-            "BerrCounter(CanBerrCounter { txerr: 1, rxerr: 2 })",
-        ),
-        (
-            InfoCan::BitTiming(CanBitTiming::new(5)),
-            "BitTiming(CanBitTiming { bitrate: 5, sample_point: 0, tq: 0, prop_seg: 0, phase_seg1: 0, phase_seg2: 0, sjw: 0, brp: 0 })",
-        ),
-    ] {
-        let text = format!(in alloc; "{value:?}")?;
-        assert_eq!(rt; text.as_str(), wanted);
-    }
-    Ok(())
+    is_debugged(&rt, alloc, InfoCan::State(2), "State(2)")?;
+    let clock = InfoCan::Clock(CanClock::new(8_000_000));
+    is_debugged(&rt, alloc, clock, "Clock(CanClock { freq: 8000000 })")?;
+    let modes = InfoCan::CtrlMode(mode(33, 32));
+    let wanted =
+        "CtrlMode(CanCtrlMode { mask: CanCtrlModeFlags(33), flags: CanCtrlModeFlags(32) })";
+    is_debugged(&rt, alloc, modes, wanted)
+}
+
+#[test]
+fn debug_texts_of_records(rt: HostRuntime) -> Result<(), Fail> {
+    let alloc = rt.alloc();
+    let counts = InfoCan::BerrCounter(CanBerrCounter { txerr: 1, rxerr: 2 });
+    let wanted = "BerrCounter(CanBerrCounter { txerr: 1, rxerr: 2 })";
+    is_debugged(&rt, alloc, counts, wanted)?;
+    let timing = InfoCan::BitTiming(CanBitTiming::new(5));
+    let wanted =
+        "BitTiming(CanBitTiming { bitrate: 5, sample_point: 0, tq: 0, prop_seg: 0, phase_seg1: 0, phase_seg2: 0, sjw: 0, brp: 0 })";
+    is_debugged(&rt, alloc, timing, wanted)
 }

@@ -1,8 +1,8 @@
 //! Limits of a CAN controller, and what becomes of names.
 
-use crate::tests::{is_refused, is_written_as, measures, reads_as};
+use crate::tests::{is_case, is_debugged, is_emitted, is_rewritten, is_short, measures, reads_as};
 use crate::{CanBitTimingConst, InfoCan};
-use link_base::{Cause, DecodeFault, Nla, TryClone};
+use link_base::TryClone;
 use std::alloc::{AllocError, Global};
 use std::process::Abort;
 use std::test::Fail;
@@ -26,12 +26,17 @@ fn limits(alloc: Global, name: &str) -> Result<CanBitTimingConst, AllocError> {
     })
 }
 
-/// The attribute of this kind with this name field, and the numbers above.
-fn frame(alloc: Global, kind: u8, field: &[u8; 16]) -> Result<Vec<u8>, AllocError> {
-    let mut bytes = [52, 0, kind, 0].to_vec(alloc)?;
+/// An attribute with this header and name field, and with the numbers above.
+fn with_header(alloc: Global, header: [u8; 4], field: &[u8; 16]) -> Result<Vec<u8>, AllocError> {
+    let mut bytes = header.to_vec(alloc)?;
     bytes.extend_from_slice(field)?;
     bytes.extend_from_slice(&NUMBERS)?;
     Ok(bytes)
+}
+
+/// The attribute of this kind with this name field, and the numbers above.
+fn frame(alloc: Global, kind: u8, field: &[u8; 16]) -> Result<Vec<u8>, AllocError> {
+    with_header(alloc, [52, 0, kind, 0], field)
 }
 
 /// The field is read as this name, under both kinds.
@@ -46,12 +51,7 @@ fn is_name(rt: &impl Abort, alloc: Global, field: &[u8; 16], name: &str) -> Resu
 /// The name is written as this field, whatever the buffer held; and nothing behind the attribute is written.
 fn is_field(rt: &impl Abort, alloc: Global, name: &str, field: &[u8; 16]) -> Result<(), Fail> {
     let value = InfoCan::BitTimingConst(limits(alloc, name)?);
-    let mut buffer = [0xFF; 54];
-    value.emit(&mut buffer);
-    let mut wanted = frame(alloc, 2, field)?;
-    wanted.extend_from_slice(&[0xFF, 0xFF])?;
-    assert_eq!(rt; buffer.as_slice(), wanted.as_slice(), "of {name}");
-    Ok(())
+    is_emitted(rt, alloc, &value, &frame(alloc, 2, field)?)
 }
 
 /// The field is read as this name, and the name is written as this field.
@@ -60,33 +60,52 @@ fn is_kept(rt: &impl Abort, alloc: Global, field: &[u8; 16], name: &str) -> Resu
     is_field(rt, alloc, name, field)
 }
 
+/// A name, and zeros up to the length of the field.
+const NAME: [u8; 16] = *b"mcp251xfd\0\0\0\0\0\0\0";
+
 #[test]
 fn both_kinds(rt: HostRuntime) -> Result<(), Fail> {
     let alloc = rt.alloc();
-    let bytes = frame(alloc, 2, b"mcp251xfd\0\0\0\0\0\0\0")?;
     let value = InfoCan::BitTimingConst(limits(alloc, "mcp251xfd")?);
-    is_written_as(&rt, alloc, &bytes, value)?;
-    let bytes = frame(alloc, 10, b"mcp251xfd\0\0\0\0\0\0\0")?;
+    is_case(&rt, alloc, &frame(alloc, 2, &NAME)?, value)?;
     let value = InfoCan::DataBitTimingConst(limits(alloc, "mcp251xfd")?);
-    is_written_as(&rt, alloc, &bytes, value)?;
-    Ok(())
+    is_case(&rt, alloc, &frame(alloc, 10, &NAME)?, value)
 }
 
+/// The same of a shorter name.
+const SHORT: [u8; 16] = *b"a\0\0\0\0\0\0\0\0\0\0\0\0\0\0\0";
+
 #[test]
-fn flags_and_longer_payloads(rt: HostRuntime) -> Result<(), Fail> {
+fn longer_payloads(rt: HostRuntime) -> Result<(), Fail> {
     let alloc = rt.alloc();
-    let value = InfoCan::BitTimingConst(limits(alloc, "a")?);
-    let mut bytes = frame(alloc, 2, b"a\0\0\0\0\0\0\0\0\0\0\0\0\0\0\0")?;
-    for flags in [0x40, 0x80, 0xC0] {
-        assert!(rt; bytes.len() > 3);
-        bytes[3] = flags;
-        reads_as(&rt, alloc, &bytes, &value)?;
-    }
+    let mut bytes = with_header(alloc, [55, 0, 2, 0xC0], &SHORT)?;
     bytes.extend_from_slice(&[9, 9, 9])?;
-    assert!(rt; bytes.len() > 3);
-    bytes[0] = 55;
-    reads_as(&rt, alloc, &bytes, &value)?;
-    Ok(())
+    let value = InfoCan::BitTimingConst(limits(alloc, "a")?);
+    is_rewritten(&rt, alloc, &bytes, &frame(alloc, 2, &SHORT)?, value)
+}
+
+/// Sixteen times U+FFFD, which is what is read for a byte that begins no character.
+const REPLACED: &str =
+    "\u{FFFD}\u{FFFD}\u{FFFD}\u{FFFD}\u{FFFD}\u{FFFD}\u{FFFD}\u{FFFD}\u{FFFD}\u{FFFD}\u{FFFD}\u{FFFD}\u{FFFD}\u{FFFD}\u{FFFD}\u{FFFD}";
+
+#[test]
+fn numbers_that_are_zero(rt: HostRuntime) -> Result<(), Fail> {
+    let alloc = rt.alloc();
+    let mut bytes = [52, 0, 2, 0].to_vec(alloc)?;
+    bytes.extend_from_slice(&[0xFF; 16])?;
+    bytes.extend_from_slice(&[0; 32])?;
+    let limits = CanBitTimingConst {
+        name: String::from_str(alloc, REPLACED)?,
+        tseg1_min: 0,
+        tseg1_max: 0,
+        tseg2_min: 0,
+        tseg2_max: 0,
+        sjw_max: 0,
+        brp_min: 0,
+        brp_max: 0,
+        brp_inc: 0,
+    };
+    reads_as(&rt, alloc, &bytes, &InfoCan::BitTimingConst(limits))
 }
 
 #[test]
@@ -128,41 +147,19 @@ fn names_before_a_nul(rt: HostRuntime) -> Result<(), Fail> {
 }
 
 #[test]
-fn bytes_that_are_no_text(rt: HostRuntime) -> Result<(), Fail> {
+fn characters_that_break_off(rt: HostRuntime) -> Result<(), Fail> {
     let alloc = rt.alloc();
     // one U+FFFD for each byte that begins no character
-    is_name(
-        &rt,
-        alloc,
-        &[0xFF; 16],
-        "\u{FFFD}\u{FFFD}\u{FFFD}\u{FFFD}\u{FFFD}\u{FFFD}\u{FFFD}\u{FFFD}\u{FFFD}\u{FFFD}\u{FFFD}\u{FFFD}\u{FFFD}\u{FFFD}\u{FFFD}\u{FFFD}",
-    )?;
+    is_name(&rt, alloc, &[0xFF; 16], REPLACED)?;
     // one for the front of a character that breaks off, whatever its length
-    is_name(
-        &rt,
-        alloc,
-        b"\xc3(\0\0\0\0\0\0\0\0\0\0\0\0\0\0",
-        "\u{FFFD}(",
-    )?;
-    is_name(
-        &rt,
-        alloc,
-        b"\xe4\xbda\0\0\0\0\0\0\0\0\0\0\0\0\0",
-        "\u{FFFD}a",
-    )?;
-    is_name(
-        &rt,
-        alloc,
-        b"\xf0\x9f\x98\0\0\0\0\0\0\0\0\0\0\0\0\0",
-        "\u{FFFD}",
-    )?;
-    is_name(
-        &rt,
-        alloc,
-        b"abcdefghijklmno\xc3",
-        "abcdefghijklmno\u{FFFD}",
-    )?;
-    Ok(())
+    let field = b"\xc3(\0\0\0\0\0\0\0\0\0\0\0\0\0\0";
+    is_name(&rt, alloc, field, "\u{FFFD}(")?;
+    let field = b"\xe4\xbda\0\0\0\0\0\0\0\0\0\0\0\0\0";
+    is_name(&rt, alloc, field, "\u{FFFD}a")?;
+    let field = b"\xf0\x9f\x98\0\0\0\0\0\0\0\0\0\0\0\0\0";
+    is_name(&rt, alloc, field, "\u{FFFD}")?;
+    let field = b"abcdefghijklmno\xc3";
+    is_name(&rt, alloc, field, "abcdefghijklmno\u{FFFD}")
 }
 
 #[test]
@@ -237,22 +234,11 @@ fn names_that_are_cut(rt: HostRuntime) -> Result<(), Fail> {
 #[test]
 fn wrong_lengths(rt: HostRuntime) -> Result<(), Fail> {
     let alloc = rt.alloc();
-    let mut bytes = frame(alloc, 2, b"a\0\0\0\0\0\0\0\0\0\0\0\0\0\0\0")?;
-    assert!(rt; bytes.len() > 3);
-    bytes[0] = 51;
-    let cause = Cause::TooShort { want: 48, got: 47 };
-    is_refused::<InfoCan>(&rt, alloc, &bytes, DecodeFault::Value { kind: 2, cause })?;
-    assert!(rt; bytes.len() > 3);
-    bytes[2] = 10;
-    is_refused::<InfoCan>(&rt, alloc, &bytes, DecodeFault::Value { kind: 10, cause })?;
-    let cause = Cause::TooShort { want: 48, got: 0 };
-    is_refused::<InfoCan>(
-        &rt,
-        alloc,
-        &[4, 0, 2, 0xC0],
-        DecodeFault::Value { kind: 2, cause },
-    )?;
-    Ok(())
+    let bytes = with_header(alloc, [51, 0, 2, 0], &SHORT)?;
+    is_short::<InfoCan>(&rt, alloc, &bytes, 2, 48, 47)?;
+    let bytes = with_header(alloc, [51, 0, 10, 0], &SHORT)?;
+    is_short::<InfoCan>(&rt, alloc, &bytes, 10, 48, 47)?;
+    is_short::<InfoCan>(&rt, alloc, &[4, 0, 2, 0xC0], 2, 48, 0)
 }
 
 #[test]
@@ -271,6 +257,12 @@ fn made_limits(rt: HostRuntime) -> Result<(), Fail> {
     };
     assert!(rt; CanBitTimingConst::new(alloc, "a\0b")? == made);
     assert!(rt; CanBitTimingConst::new(alloc, "")? == CanBitTimingConst::empty(alloc));
+    Ok(())
+}
+
+#[test]
+fn copies(rt: HostRuntime) -> Result<(), Fail> {
+    let alloc = rt.alloc();
     let full = limits(alloc, "mcp251xfd")?;
     assert!(rt; full.try_clone(alloc)? == full);
     Ok(())
@@ -281,10 +273,7 @@ fn lengths_and_texts(rt: HostRuntime) -> Result<(), Fail> {
     let alloc = rt.alloc();
     let value = InfoCan::BitTimingConst(CanBitTimingConst::new(alloc, "a")?);
     measures(&rt, &value, 2, 48, 52);
-    let text = format!(in alloc; "{value:?}")?;
-    assert_eq!(rt;
-        text.as_str(),
-        "BitTimingConst(CanBitTimingConst { name: \"a\", tseg1_min: 0, tseg1_max: 0, tseg2_min: 0, tseg2_max: 0, sjw_max: 0, brp_min: 0, brp_max: 0, brp_inc: 0 })"
-    );
-    Ok(())
+    let wanted =
+        "BitTimingConst(CanBitTimingConst { name: \"a\", tseg1_min: 0, tseg1_max: 0, tseg2_min: 0, tseg2_max: 0, sjw_max: 0, brp_min: 0, brp_max: 0, brp_inc: 0 })";
+    is_debugged(&rt, alloc, value, wanted)
 }

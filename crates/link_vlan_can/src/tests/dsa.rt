@@ -1,8 +1,7 @@
 //! Values of DSA, case by case.
 
 use crate::InfoDsa;
-use crate::tests::{any, is_case, is_refused, is_written_as, measures};
-use link_base::{Cause, DecodeFault, DefaultNla};
+use crate::tests::{any, is_case, is_debugged, is_written_as, is_wrong, measures};
 use std::test::Fail;
 
 #[test]
@@ -11,10 +10,7 @@ fn conduits(rt: HostRuntime) -> Result<(), Fail> {
     is_case(&rt, alloc, &[8, 0, 1, 0, 42, 0, 0, 0], InfoDsa::Conduit(42))?;
     let highest = InfoDsa::Conduit(0x0102_0304);
     is_case(&rt, alloc, &[8, 0, 1, 0, 4, 3, 2, 1], highest)?;
-    let cause = Cause::WrongLength { want: 4, got: 1 };
-    let fault = DecodeFault::Value { kind: 1, cause };
-    is_refused::<InfoDsa>(&rt, alloc, &[5, 0, 1, 0xC0, 42], fault)?;
-    Ok(())
+    is_wrong::<InfoDsa>(&rt, alloc, &[5, 0, 1, 0xC0, 42], 1, 4, 1)
 }
 
 #[test]
@@ -30,13 +26,9 @@ fn other_kinds(rt: HostRuntime) -> Result<(), Fail> {
 
 #[test]
 fn debug_texts(rt: HostRuntime) -> Result<(), Fail> {
-    let conduit = format!(in rt.alloc(); "{:?}", InfoDsa::Conduit(42))?;
-    assert_eq!(rt; conduit.as_str(), "Conduit(42)");
-    let other = InfoDsa::Other(DefaultNla::new(99, vec![in rt.alloc(); 1, 2]?));
-    let other = format!(in rt.alloc(); "{other:?}")?;
-    assert_eq!(rt;
-        other.as_str(),
-        "Other(DefaultNla { kind: 99, value: [1, 2] })"
-    );
-    Ok(())
+    let alloc = rt.alloc();
+    is_debugged(&rt, alloc, InfoDsa::Conduit(42), "Conduit(42)")?;
+    let other = InfoDsa::Other(any(alloc, 99, &[1, 2])?);
+    let wanted = "Other(DefaultNla { kind: 99, value: [1, 2] })";
+    is_debugged(&rt, alloc, other, wanted)
 }

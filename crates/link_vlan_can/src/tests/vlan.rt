@@ -1,11 +1,12 @@
 //! Values of VLAN, case by case; those with lists aside.
 
-use crate::tests::{any, is_case, is_refused, is_written_as, measures, reads_as};
+use crate::tests::{
+    any, is_case, is_debugged, is_list, is_rewritten, is_written_as, is_wrong, measures, reads_as,
+};
 use crate::{InfoVlan, VlanFlags, VlanQosMapping};
 use bitflags::Flags;
-use link_base::{Cause, DecodeFault, VlanProtocol, read_list, write_list};
-use std::alloc::Global;
-use std::process::Abort;
+use link_base::VlanProtocol;
+use std::alloc::{AllocError, Global};
 use std::test::Fail;
 
 fn flags(active: u32, mask: u32) -> InfoVlan {
@@ -73,56 +74,48 @@ fn other_kinds(rt: HostRuntime) -> Result<(), Fail> {
     is_written_as(&rt, alloc, &[4, 0, 0, 0], none)?;
     let sixth = InfoVlan::Other(any(alloc, 6, &[1, 2, 3, 4])?);
     is_written_as(&rt, alloc, &[8, 0, 6, 0, 1, 2, 3, 4], sixth)?;
-    let flagged = InfoVlan::Other(any(alloc, 0xC063, &[0xDE, 0xAD])?);
-    reads_as(&rt, alloc, &[6, 0, 0x63, 0xC0, 0xDE, 0xAD], &flagged)?;
-    is_written_as(&rt, alloc, &[6, 0, 0x63, 0xC0, 0xDE, 0xAD, 0, 0], flagged)?;
     let plain = InfoVlan::Other(any(alloc, 99, &[0xDE, 0xAD])?);
-    is_written_as(&rt, alloc, &[6, 0, 99, 0, 0xDE, 0xAD, 0, 0], plain)?;
+    is_written_as(&rt, alloc, &[6, 0, 99, 0, 0xDE, 0xAD, 0, 0], plain)
+}
+
+#[test]
+fn flags_of_other_kinds(rt: HostRuntime) -> Result<(), Fail> {
+    let alloc = rt.alloc();
+    let flagged = InfoVlan::Other(any(alloc, 0xC063, &[0xDE, 0xAD])?);
+    let padded = [6, 0, 0x63, 0xC0, 0xDE, 0xAD, 0, 0];
+    is_rewritten(&rt, alloc, &padded[..6], &padded, flagged)?;
     // the padding lacks, and is not zero
     let flagged = InfoVlan::Other(any(alloc, 0x8009, &[7])?);
     reads_as(&rt, alloc, &[5, 0, 9, 0x80, 7], &flagged)?;
-    reads_as(&rt, alloc, &[5, 0, 9, 0x80, 7, 1, 2, 3], &flagged)?;
-    Ok(())
+    reads_as(&rt, alloc, &[5, 0, 9, 0x80, 7, 1, 2, 3], &flagged)
+}
+
+fn four_values(alloc: Global) -> Result<Vec<InfoVlan>, AllocError> {
+    let other = InfoVlan::Other(any(alloc, 0x4009, &[7])?);
+    Ok(vec![in alloc;
+        InfoVlan::Id(10),
+        InfoVlan::Protocol(VlanProtocol::Ieee8021Ad),
+        InfoVlan::IngressQos(Vec::new(alloc)),
+        other,
+    ]?)
 }
 
 #[test]
 fn a_list_of_values(rt: HostRuntime) -> Result<(), Fail> {
-    let alloc = rt.alloc();
     let bytes = [
         6, 0, 1, 0, 10, 0, 0, 0, 6, 0, 5, 0, 0x88, 0xA8, 0, 0, 4, 0, 4, 0, 5, 0, 9, 0x40, 7, 0, 0,
         0,
     ];
-    let values = vec![in alloc;
-        InfoVlan::Id(10),
-        InfoVlan::Protocol(VlanProtocol::Ieee8021Ad),
-        InfoVlan::IngressQos(Vec::new(alloc)),
-        InfoVlan::Other(any(alloc, 0x4009, &[7])?),
-    ]?;
-    let read: Vec<InfoVlan> = read_list(alloc, &bytes)?;
-    assert!(rt; read == values);
-    assert_eq!(rt; write_list(alloc, &values)?.as_slice(), bytes.as_slice());
-    Ok(())
-}
-
-fn is_wrong(
-    rt: &impl Abort,
-    alloc: Global,
-    bytes: &[u8],
-    kind: u16,
-    want: usize,
-    got: usize,
-) -> Result<(), Fail> {
-    let cause = Cause::WrongLength { want, got };
-    is_refused::<InfoVlan>(rt, alloc, bytes, DecodeFault::Value { kind, cause })
+    is_list(&rt, rt.alloc(), &bytes, four_values(rt.alloc())?)
 }
 
 #[test]
 fn wrong_lengths(rt: HostRuntime) -> Result<(), Fail> {
     let alloc = rt.alloc();
-    is_wrong(&rt, alloc, &[5, 0, 1, 0, 10], 1, 2, 1)?;
-    is_wrong(&rt, alloc, &[8, 0, 1, 0, 10, 0, 0, 0], 1, 2, 4)?;
-    is_wrong(&rt, alloc, &[8, 0, 2, 0, 1, 0, 0, 0], 2, 8, 4)?;
-    is_wrong(
+    is_wrong::<InfoVlan>(&rt, alloc, &[5, 0, 1, 0, 10], 1, 2, 1)?;
+    is_wrong::<InfoVlan>(&rt, alloc, &[8, 0, 1, 0, 10, 0, 0, 0], 1, 2, 4)?;
+    is_wrong::<InfoVlan>(&rt, alloc, &[8, 0, 2, 0, 1, 0, 0, 0], 2, 8, 4)?;
+    is_wrong::<InfoVlan>(
         &rt,
         alloc,
         &[13, 0, 2, 0, 1, 0, 0, 0, 2, 0, 0, 0, 3],
@@ -130,9 +123,9 @@ fn wrong_lengths(rt: HostRuntime) -> Result<(), Fail> {
         8,
         9,
     )?;
-    is_wrong(&rt, alloc, &[4, 0, 5, 0], 5, 2, 0)?;
+    is_wrong::<InfoVlan>(&rt, alloc, &[4, 0, 5, 0], 5, 2, 0)?;
     // the fault names the kind without its flags
-    is_wrong(&rt, alloc, &[7, 0, 5, 0xC0, 0x88, 0xA8, 0], 5, 2, 3)?;
+    is_wrong::<InfoVlan>(&rt, alloc, &[7, 0, 5, 0xC0, 0x88, 0xA8, 0], 5, 2, 3)?;
     Ok(())
 }
 
@@ -149,24 +142,19 @@ fn lengths_and_kinds(rt: HostRuntime) -> Result<(), Fail> {
 #[test]
 fn debug_texts(rt: HostRuntime) -> Result<(), Fail> {
     let alloc = rt.alloc();
-    for (value, wanted) in [
-        (InfoVlan::Id(10), "Id(10)"),
-        (flags(1, 31), "Flags((VlanFlags(1), VlanFlags(31)))"),
-        (
-            InfoVlan::EgressQos(vec![in alloc; VlanQosMapping::Mapping(1, 2)]?),
-            "EgressQos([Mapping(1, 2)])",
-        ),
-        (
-            InfoVlan::Protocol(VlanProtocol::Ieee8021Ad),
-            "Protocol(Ieee8021Ad)",
-        ),
-        (
-            InfoVlan::Other(any(alloc, 99, &[1, 2])?),
-            "Other(DefaultNla { kind: 99, value: [1, 2] })",
-        ),
-    ] {
-        let text = format!(in alloc; "{value:?}")?;
-        assert_eq!(rt; text.as_str(), wanted);
-    }
-    Ok(())
+    is_debugged(&rt, alloc, InfoVlan::Id(10), "Id(10)")?;
+    let wanted = "Flags((VlanFlags(1), VlanFlags(31)))";
+    is_debugged(&rt, alloc, flags(1, 31), wanted)?;
+    let protocol = InfoVlan::Protocol(VlanProtocol::Ieee8021Ad);
+    is_debugged(&rt, alloc, protocol, "Protocol(Ieee8021Ad)")
+}
+
+#[test]
+fn debug_texts_of_lists(rt: HostRuntime) -> Result<(), Fail> {
+    let alloc = rt.alloc();
+    let list = InfoVlan::EgressQos(vec![in alloc; VlanQosMapping::Mapping(1, 2)]?);
+    is_debugged(&rt, alloc, list, "EgressQos([Mapping(1, 2)])")?;
+    let other = InfoVlan::Other(any(alloc, 99, &[1, 2])?);
+    let wanted = "Other(DefaultNla { kind: 99, value: [1, 2] })";
+    is_debugged(&rt, alloc, other, wanted)
 }

@@ -1,9 +1,9 @@
 //! Lists of priority mappings, and their elements.
 
-use crate::tests::{any, is_case, is_refused, is_written_as, reads_as};
+use crate::tests::{any, is_case, is_debugged, is_rewritten, is_written_as, is_wrong};
 use crate::{InfoVlan, VlanQosMapping};
-use link_base::{Cause, DecodeFault, TryClone, write_list};
 use std::alloc::{AllocError, Global};
+use std::process::Abort;
 use std::test::Fail;
 
 /// A list of one element of another kind.
@@ -37,14 +37,8 @@ fn elements(rt: HostRuntime) -> Result<(), Fail> {
         &[6, 0, 9, 0xC0, 0xDE, 0xAD, 0, 0],
         VlanQosMapping::Other(any(alloc, 0xC009, &[0xDE, 0xAD])?),
     )?;
-    let fault = DecodeFault::Value {
-        kind: 1,
-        cause: Cause::WrongLength { want: 8, got: 4 },
-    };
-    is_refused::<VlanQosMapping>(&rt, alloc, &[8, 0, 1, 0x40, 1, 0, 0, 0], fault)?;
-    let text = format!(in alloc; "{:?}", VlanQosMapping::Mapping(1, 2))?;
-    assert_eq!(rt; text.as_str(), "Mapping(1, 2)");
-    Ok(())
+    is_wrong::<VlanQosMapping>(&rt, alloc, &[8, 0, 1, 0x40, 1, 0, 0, 0], 1, 8, 4)?;
+    is_debugged(&rt, alloc, VlanQosMapping::Mapping(1, 2), "Mapping(1, 2)")
 }
 
 #[test]
@@ -106,33 +100,29 @@ fn elements_of_other_kinds(rt: HostRuntime) -> Result<(), Fail> {
     )?;
     let ingress = InfoVlan::IngressQos(one_other(alloc, 0x8000, &[])?);
     is_case(&rt, alloc, &[8, 0, 4, 0, 4, 0, 0, 0x80], ingress)?;
-    // the last element lacks its padding
-    let egress = InfoVlan::EgressQos(one_other(alloc, 0x4009, &[7])?);
-    reads_as(
-        &rt,
-        alloc,
-        &[9, 0, 3, 0, 5, 0, 9, 0x40, 7, 0, 0, 0],
-        &egress,
-    )?;
-    is_written_as(
-        &rt,
-        alloc,
-        &[12, 0, 3, 0, 5, 0, 9, 0x40, 7, 0, 0, 0],
-        egress,
-    )?;
     Ok(())
 }
 
 #[test]
-fn flags_of_mappings(rt: HostRuntime) -> Result<(), Fail> {
+fn padding_of_the_last_element(rt: HostRuntime) -> Result<(), Fail> {
     let alloc = rt.alloc();
+    let egress = InfoVlan::EgressQos(one_other(alloc, 0x4009, &[7])?);
+    let lacking = [9, 0, 3, 0, 5, 0, 9, 0x40, 7, 0, 0, 0];
+    let padded = [12, 0, 3, 0, 5, 0, 9, 0x40, 7, 0, 0, 0];
+    is_rewritten(&rt, alloc, &lacking, &padded, egress)
+}
+
+/// These flags of a mapping are not kept.
+fn are_dropped(rt: &impl Abort, alloc: Global, flags: u8) -> Result<(), Fail> {
     let egress = InfoVlan::EgressQos(vec![in alloc; VlanQosMapping::Mapping(1, 2)]?);
-    for flags in [0x40, 0x80, 0xC0] {
-        let bytes = [16, 0, 3, 0, 12, 0, 1, flags, 1, 0, 0, 0, 2, 0, 0, 0];
-        reads_as(&rt, alloc, &bytes, &egress)?;
-    }
-    let out = write_list(alloc, &vec![in alloc; egress]?)?;
+    let bytes = [16, 0, 3, 0, 12, 0, 1, flags, 1, 0, 0, 0, 2, 0, 0, 0];
     let wanted = [16, 0, 3, 0, 12, 0, 1, 0, 1, 0, 0, 0, 2, 0, 0, 0];
-    assert_eq!(rt; out.as_slice(), wanted.as_slice());
-    Ok(())
+    is_rewritten(rt, alloc, &bytes, &wanted, egress)
+}
+
+#[test]
+fn flags_of_mappings(rt: HostRuntime) -> Result<(), Fail> {
+    are_dropped(&rt, rt.alloc(), 0x40)?;
+    are_dropped(&rt, rt.alloc(), 0x80)?;
+    are_dropped(&rt, rt.alloc(), 0xC0)
 }

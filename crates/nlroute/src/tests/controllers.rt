@@ -164,7 +164,7 @@ fn longer_names(rt: HostRuntime) -> Result<(), Fail> {
 }
 
 #[test]
-fn names_that_are_cut(rt: HostRuntime) -> Result<(), Fail> {
+fn characters_that_are_cut(rt: HostRuntime) -> Result<(), Fail> {
     let alloc = rt.alloc();
     becomes(
         &rt,
@@ -173,6 +173,18 @@ fn names_that_are_cut(rt: HostRuntime) -> Result<(), Fail> {
         b"aaaaaaaaaaaa\xf0\x9f\x98\0",
         b"aaaaaaaaaaaa\xef\xbf\xbd\0",
     )?;
+    becomes(
+        &rt,
+        alloc,
+        b"aaaaaaaaaaaaa\xe4\xbd\xa0",
+        b"aaaaaaaaaaaaa\xe4\xbd\0",
+        b"aaaaaaaaaaaaa\xef\xbf\0",
+    )
+}
+
+#[test]
+fn fronts_of_characters(rt: HostRuntime) -> Result<(), Fail> {
+    let alloc = rt.alloc();
     becomes(
         &rt,
         alloc,
@@ -193,14 +205,12 @@ fn names_that_are_cut(rt: HostRuntime) -> Result<(), Fail> {
         b"aaaaaaaaaaaaaaa\xf0",
         b"aaaaaaaaaaaaaaa\0",
         b"aaaaaaaaaaaaaaa\0",
-    )?;
-    becomes(
-        &rt,
-        alloc,
-        b"aaaaaaaaaaaaa\xe4\xbd\xa0",
-        b"aaaaaaaaaaaaa\xe4\xbd\0",
-        b"aaaaaaaaaaaaa\xef\xbf\0",
-    )?;
+    )
+}
+
+#[test]
+fn names_of_other_bytes(rt: HostRuntime) -> Result<(), Fail> {
+    let alloc = rt.alloc();
     becomes(
         &rt,
         alloc,
@@ -214,6 +224,5 @@ fn names_that_are_cut(rt: HostRuntime) -> Result<(), Fail> {
         b"a\0b\0\0\0\0\0\0\0\0\0\0\0\0\0",
         b"a\0\0\0\0\0\0\0\0\0\0\0\0\0\0\0",
         b"a\0\0\0\0\0\0\0\0\0\0\0\0\0\0\0",
-    )?;
-    Ok(())
+    )
 }

@@ -10,7 +10,7 @@ use std::test::Fail;
 /// The line of a report that says how the bytes of the text are rewritten, or why not.
 fn rewriting_line(alloc: Global, family: Family, text: &str) -> Result<String, Fail> {
     let mut digits = String::new(alloc);
-    for part in text.split(' ') {
+    for part in text.split_ascii_whitespace() {
         digits.push_str(part)?;
     }
     let Ok(bytes) = hex::decode(alloc, digits.as_bytes()) else {
@@ -287,6 +287,13 @@ fn names(rt: HostRuntime) {
     for name in [
         "VLAN", "Vlan", "vlan ", " vlan", "vla", "vlans", "HSR", "hsr ", "hs", "hsr\0", "CAN", "ca",
     ] {
+        assert_eq!(rt; Family::from_name(name), None, "in {name:?}");
+    }
+}
+
+#[test]
+fn names_near_those_of_bonds(rt: HostRuntime) {
+    for name in ["BOND", "bonds", "bond_por", "bondport", "bond port"] {
         assert_eq!(rt; Family::from_name(name), None, "in {name:?}");
     }
 }

@@ -1,4 +1,4 @@
-//! A small family with a nested list, for the helpers that families with lists use.
+//! A small family with a nested list, for the functions that families with lists call.
 
 use link_base::{
     Attribute, Cause, DecodeError, DecodeFault, DefaultNla, ListError, Meaning, NestedAttribute,

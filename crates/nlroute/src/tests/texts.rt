@@ -3,12 +3,14 @@
 use crate::family::Family;
 use crate::reporting::{MOST_TEXT, report};
 use crate::rewriting::{RewriteError, rewrite};
+use crate::tests::families::reports;
 use link_base::{Cause, DecodeFault};
 use std::alloc::{AllocError, Global};
 use std::process::Abort;
 use std::test::Fail;
 
-fn reports(
+/// The report of a text, whatever bytes it has.
+fn answers(
     rt: &impl Abort,
     alloc: Global,
     text: &[u8],
@@ -54,7 +56,7 @@ fn values_and_their_bytes(rt: HostRuntime) -> Result<(), Fail> {
         ),
     ] {
         let wanted = format!(in rt.alloc(); "{lines}{verdict}")?;
-        reports(&rt, rt.alloc(), text.as_bytes(), wanted.as_str(), 0)?;
+        reports(&rt, rt.alloc(), Family::Dsa, text, wanted.as_str(), 0)?;
     }
     Ok(())
 }
@@ -88,7 +90,7 @@ fn first_faults(rt: HostRuntime) -> Result<(), Fail> {
             "fault at 8: kind 1: wrong length 4 0\n",
         ),
     ] {
-        reports(&rt, rt.alloc(), text.as_bytes(), wanted, 1)?;
+        reports(&rt, rt.alloc(), Family::Dsa, text, wanted, 1)?;
     }
     Ok(())
 }
@@ -98,14 +100,14 @@ fn texts_that_are_no_input(rt: HostRuntime) -> Result<(), Fail> {
     for text in [
         "0", "zz", "0g", "08 0", "\u{b}", "\u{c}", "00\u{b}", "0x08", "é",
     ] {
-        reports(&rt, rt.alloc(), text.as_bytes(), "bad hex\n", 2)?;
+        answers(&rt, rt.alloc(), text.as_bytes(), "bad hex\n", 2)?;
     }
     let mut spaces = vec![in rt.alloc(); b' '; MOST_TEXT]?;
-    reports(&rt, rt.alloc(), &spaces, "out\nsame\n", 0)?;
+    answers(&rt, rt.alloc(), &spaces, "out\nsame\n", 0)?;
     spaces.push(b' ')?;
-    reports(&rt, rt.alloc(), &spaces, "input too long\n", 2)?;
+    answers(&rt, rt.alloc(), &spaces, "input too long\n", 2)?;
     let bad = vec![in rt.alloc(); b'z'; MOST_TEXT + 1]?;
-    reports(&rt, rt.alloc(), &bad, "input too long\n", 2)?;
+    answers(&rt, rt.alloc(), &bad, "input too long\n", 2)?;
     Ok(())
 }
 

@@ -1,8 +1,7 @@
-use Rattle.std.proofs.Common.{map}
 use Rattle.link_base.proofs.PlainLemmas as plain
 use Rattle.link_base.proofs.laws.plain_back.Goals as goal
 
 pub returns : goal.returns
 returns g c =
     let law = g.met.F.Attribute.lawful in
-    λ vs h fit. plain.plain_back law (map g.F.Meaning.means vs) h fit
+    λ vs h fit. plain.plain_back law vs h fit

@@ -1,9 +1,7 @@
-use Rattle.std.proofs.Common.{map}
 use Rattle.link_base.proofs.PlainLemmas as plain
 use Rattle.link_base.proofs.laws.plain_bytes.Goals as goal
 
 pub returns : goal.returns
 returns g c =
     let law = g.met.F.Attribute.lawful in
-    let means = g.F.Meaning.means in
-    λ vs ws h fit k fits. plain.plain_bytes law (map means vs) (map means ws) h fit k fits
+    λ vs ws h fit k fits. plain.plain_bytes law vs ws h fit k fits

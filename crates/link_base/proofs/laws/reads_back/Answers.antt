@@ -1,8 +1,7 @@
-use Rattle.std.proofs.Common.{map}
 use Rattle.link_base.proofs.Written.{read_written}
 use Rattle.link_base.proofs.laws.reads_back.Goals as goal
 
 pub returns : goal.returns
 returns g c =
     let law = g.met.F.Attribute.lawful in
-    λ s vs hs w fit. read_written law.holding s (map g.F.Meaning.means vs) hs w fit
+    λ s vs hs w fit. read_written law.holding s vs hs w fit

@@ -1,0 +1,7 @@
+use Rattle.std.specs.Prelude.{[]}
+use Rattle.link_base.proofs.TableLaws.{lawful}
+use Rattle.link_base.proofs.laws.one_form.Goals as goal
+
+-- the written form takes no table, so any serves
+pub returns : goal.returns
+returns c = (lawful []).holding.one_form
