@@ -18,7 +18,7 @@ use std::alloc::Global;
 /// The most bytes of a payload: the greatest `nla_len`, 65535, without the four of the header.
 pub(crate) const MAX_PAYLOAD: usize = 65531;
 
-/// What the values of a type stand for. It has no methods, and carries laws alone.
+/// What the values of a type stand for. It has no methods: contracts cite it.
 pub trait Meaning {
     /// The rows of the type: kinds, and what their payloads are.
     ghost table: { Table };

@@ -5,7 +5,7 @@ ghost use Rattle.link_bond.specs.LacpState.{lacp_bits};
 
 use crate::bond_port::LacpState;
 
-/// The bits of the state of one side of a link in LACP.
+/// The bits of the state of one side of a link in LACP (`LACP_STATE_*`, `include/uapi/linux/if_bonding.h`).
 pub fn lacp_state_bits()
     ensures lacp_activity { lacp_bits LacpState.LACP_ACTIVITY ≡ 0x1 }
     ensures lacp_timeout { lacp_bits LacpState.LACP_TIMEOUT ≡ 0x2 }

@@ -7,7 +7,7 @@ ghost use Rattle.link_vlan_can.specs.CanFlags.{mode_bits};
 use crate::can_flags::CanCtrlModeFlags;
 use crate::vlan_flags::VlanFlags;
 
-/// The bits of the flags of a VLAN link.
+/// The bits of the flags of a VLAN link (`VLAN_FLAG_*`, `include/uapi/linux/if_vlan.h`).
 pub fn vlan_flag_bits()
     ensures reorder_hdr { vlan_bits VlanFlags.ReorderHdr ≡ 0x1 }
     ensures gvrp { vlan_bits VlanFlags.Gvrp ≡ 0x2 }
@@ -16,7 +16,7 @@ pub fn vlan_flag_bits()
     ensures bridge_binding { vlan_bits VlanFlags.BridgeBinding ≡ 0x10 }
 {}
 
-/// The bits of the modes of a CAN controller.
+/// The bits of the modes of a CAN controller (`CAN_CTRLMODE_*`, `include/uapi/linux/can/netlink.h`).
 pub fn can_mode_bits()
     ensures loopback { mode_bits CanCtrlModeFlags.Loopback ≡ 0x1 }
     ensures listen_only { mode_bits CanCtrlModeFlags.ListenOnly ≡ 0x2 }
