@@ -191,7 +191,10 @@ class Answer:
         first = next((it for it in told if not (PROOF_ERROR.match(it) and LOST_NAME.search(it))), None)
         if told and not first:
             return f"only by a proof that names what the edit took away, which says little of the contract: {told[0]}"
-        return first or self.lines[-1]
+        unproved = next((it for it in self.lines if re.match(r"fn \S+: no(t proved| proof)", it)), self.lines[-1])
+        if not first and "the borrow checker does not cover this function" in unproved:
+            return f"only since the borrow checker does not cover it, which says nothing of the contract: {unproved}"
+        return first or unproved
 
 
 class Trial:
