@@ -10,7 +10,6 @@ ghost use Rattle.link_base.specs.Answers.{Answers, OnMemory, capped};
 use crate::attribute::{Meaning, Nla};
 use crate::buffer::NlaBuffer;
 use crate::fault::DecodeError;
-use crate::list::step_over;
 use std::alloc::{AllocError, Global};
 use std::net::{Ipv4Addr, Ipv6Addr};
 
@@ -144,10 +143,9 @@ pub fn read_addresses<A: Address>(
             Err(error) => return Err(error.at(at).nested(kind)),
         };
         keep(&mut addresses, element.value()).map_err(DecodeError::Memory)?;
-        let step = step_over(element.length(), rest.len());
-        let (_, after) = rest.split_at(step);
+        let after = element.step_over(rest);
+        at += rest.len() - after.len();
         rest = after;
-        at += step;
     }
     Ok(addresses)
 }

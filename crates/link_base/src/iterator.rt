@@ -2,7 +2,6 @@
 
 use crate::buffer::NlaBuffer;
 use crate::fault::DecodeError;
-use crate::list::step_over;
 
 /// The frames of some bytes, and then their first frame fault, if they have one, as the last item. It borrows the
 /// bytes, copies none, and takes no memory.
@@ -40,9 +39,7 @@ impl<'a> Iterator for NlasIterator<'a> {
         }
         match NlaBuffer::new_checked(self.rest) {
             Ok(buffer) => {
-                let step = step_over(buffer.length(), self.rest.len());
-                let (_, after) = self.rest.split_at(step);
-                self.rest = after;
+                self.rest = buffer.step_over(self.rest);
                 Some(Ok(buffer))
             }
             Err(error) => {

@@ -8,6 +8,9 @@ ghost use Rattle.std.specs.Iterator.{Drains};
 ghost use Rattle.link_base.specs.declared.buffer.NlaBuffer.{NlaBuffer};
 ghost use Rattle.link_base.specs.declared.iterator.NlasIterator.{NlasIterator};
 ghost use Rattle.link_base.specs.declared.fault.DecodeError.{DecodeError};
+ghost use Rattle.link_base.specs.declared.fault.ListError.{ListError};
+ghost use Rattle.link_base.specs.declared.fault.WriteError.{WriteError};
+ghost use Rattle.link_base.specs.Buffer.{kind_field_of, payload_of};
 ghost use Rattle.link_base.specs.Items.{AreItems, bytes_left};
 ghost use Rattle.link_base.specs.Number.{IsBytes};
 ghost use Rattle.link_base.specs.Frame.{Frame, Frames, kind_of, pad};
@@ -18,7 +21,8 @@ ghost use Rattle.link_base.specs.WellFormed.{is_table, IsOverfull};
 ghost use Rattle.link_base.specs.Lawful.{IsLawful};
 
 use crate::attribute::Attribute;
-use crate::fault::{Cause, DecodeFault};
+use crate::buffer::NlaBuffer;
+use crate::fault::{Cause, DecodeError, DecodeFault, ListError, WriteError};
 use crate::iterator::NlasIterator;
 
 // ---- tables
@@ -69,6 +73,21 @@ pub fn equality<F: Attribute>()
 pub fn fault_equality()
     ensures cause { (a b : Cause) → IsTrue (⟦<Cause as PartialEq>⟧.eq a b) ↔ (a ≡ b) }
     ensures fault { (a b : DecodeFault) → IsTrue (⟦<DecodeFault as PartialEq>⟧.eq a b) ↔ (a ≡ b) }
+{}
+
+/// Two errors of a payload, of a list, or of writing, are equal exactly where they are the same.
+pub fn error_equality()
+    ensures decode { (a b : DecodeError) → IsTrue (⟦<DecodeError as PartialEq>⟧.eq a b) ↔ (a ≡ b) }
+    ensures list { (a b : ListError) → IsTrue (⟦<ListError as PartialEq>⟧.eq a b) ↔ (a ≡ b) }
+    ensures write { (a b : WriteError) → IsTrue (⟦<WriteError as PartialEq>⟧.eq a b) ↔ (a ≡ b) }
+{}
+
+/// Two frames are equal exactly where they have the same kind field and the same payload, and two iterators exactly
+/// where they have the same bytes left.
+pub fn frame_equality()
+    ensures frame { (a b : NlaBuffer) → IsTrue (⟦<NlaBuffer<'static> as PartialEq>⟧.eq a b)
+        ↔ ((kind_field_of a ≡ kind_field_of b) × (payload_of a ≡ payload_of b)) }
+    ensures iterator { (a b : NlasIterator) → IsTrue (⟦<NlasIterator<'static> as PartialEq>⟧.eq a b) ↔ (bytes_left a ≡ bytes_left b) }
 {}
 
 // ---- families: values that were read

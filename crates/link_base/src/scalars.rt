@@ -3,7 +3,7 @@
 //! A reader takes a whole payload and fails with `Payload`; a writer fills the front of a buffer and leaves the bytes
 //! behind it as they are. Types of numbers are those of `include/uapi/linux/netlink.h`, `NL_ATTR_TYPE_*`.
 
-ghost use Rattle.std.specs.Prelude.{◌≡◌, ◌≤◌, ◌∷◌, [], length, reverse, nat_lt, IfOk};
+ghost use Rattle.std.specs.Prelude.{◌≡◌, ◌≤◌, ◌<◌, ◌∷◌, [], length, reverse, slice_index, nat_lt, IfOk};
 ghost use Rattle.std.specs.Int.{w32, cast_unsigned};
 ghost use Rattle.link_base.specs.declared.fault.Cause.TheVariants.{WrongLength};
 ghost use Rattle.link_base.specs.Number.{number, bytes_of};
@@ -96,6 +96,18 @@ pub fn parse_u16_be(payload: &[u8]) -> Result<u16, DecodeError>
 {
     match payload {
         [a, b] => Ok(u16::from_be_bytes([*a, *b])),
+        _ => Err(wrong_length(2, payload.len())),
+    }
+}
+
+/// The first byte of two: a number of two bytes, the lowest first, of which only the lowest counts. Fails with `Payload`
+/// of `WrongLength`.
+#[inline]
+pub fn parse_low(payload: &[u8]) -> Result<u8, DecodeError>
+    ensures { result ≡ payload_result (accepted (Exactly 2) (λ p. slice_index p 0) payload.now) }
+{
+    match payload {
+        [low, _] => Ok(*low),
         _ => Err(wrong_length(2, payload.len())),
     }
 }
@@ -202,6 +214,16 @@ pub fn emit_u16_be(buffer: &mut [u8], value: u16)
     ensures { OverwritesFront buffer.old buffer.new (reverse (bytes_of 2 value)) }
 {
     buffer[..2].copy_from_slice(&value.to_be_bytes());
+}
+
+/// Fills a buffer of two bytes with a byte and a zero behind it.
+#[inline]
+pub fn emit_low(buffer: &mut [u8], low: u8)
+    requires { length buffer.old ≡ 2 }
+    ensures written { buffer.new ≡ low ∷ 0 ∷ [] }
+    ensures in_range { low < 256 }
+{
+    buffer.copy_from_slice(&[low, 0]);
 }
 
 /// Writes two numbers to the first eight bytes of a buffer at least that long, the first before the second, the lowest
