@@ -1,6 +1,7 @@
 //! Lists of IP addresses as the payload of an attribute.
 
-ghost use Rattle.std.specs.Prelude.{◌≡◌, ◌≢◌, ◌≤◌, ◌<◌, ◌^◌, ◌++◌, ◌∷◌, [], ℕ, List, length, map, None, IsTrue, nat_lt, MatchOption, OnOk};
+ghost use Rattle.std.specs.Prelude.{◌≡◌, ◌≢◌, ◌≤◌, ◌<◌, ◌^◌, ◌++◌, ◌∷◌, [], ℕ, List, length, map, None, IsTrue, refl};
+ghost use Rattle.std.specs.Prelude.{nat_lt, MatchOption, OnOk};
 ghost use Rattle.std.specs.List.{AllByRecursion};
 ghost use Rattle.link_base.specs.Frame.{frame_fault, spelled};
 ghost use Rattle.link_base.specs.Table.{Case, Listed, Addresses, ShapeGives, addresses_from, of_length};
@@ -31,7 +32,8 @@ pub trait Address: Copy {
 
     /// The address of these octets; `None` where there are more or fewer.
     fn from_payload(payload: &[u8]) -> Option<Self>
-        ensures { MatchOption result (length payload.now ≢ SIZE) (λ a. (length payload.now ≡ SIZE) × (octets a ≡ payload.now)) };
+        ensures { MatchOption result (length payload.now ≢ SIZE)
+            (λ a. (length payload.now ≡ SIZE) × (octets a ≡ payload.now)) };
 
     /// Writes the octets into a buffer of `SIZE` bytes.
     fn put(&self, buffer: &mut [u8])
@@ -41,7 +43,6 @@ pub trait Address: Copy {
 }
 
 impl Address for Ipv4Addr {
-    ghost use Rattle.std.specs.Prelude.{refl};
     ghost use Rattle.link_base.specs.Addresses.{four_octets};
 
     const SIZE: usize = 4;
@@ -67,7 +68,6 @@ impl Address for Ipv4Addr {
 }
 
 impl Address for Ipv6Addr {
-    ghost use Rattle.std.specs.Prelude.{refl};
     ghost use Rattle.link_base.specs.Addresses.{sixteen_octets};
 
     const SIZE: usize = 16;
@@ -131,7 +131,8 @@ pub fn read_addresses<A: Address>(
     kind: u16,
     payload: &[u8],
 ) -> Result<Vec<A>, DecodeError>
-    ensures answer { Answers (λ vs. Case kind (Listed (map A.octets vs.items))) result (ShapeGives (Addresses A.SIZE) kind payload.now) }
+    ensures answer { Answers (λ vs. Case kind (Listed (map A.octets vs.items))) result
+        (ShapeGives (Addresses A.SIZE) kind payload.now) }
     ensures memory { OnMemory result (frame_fault payload.now ≡ None) }
 {
     let mut addresses = Vec::new(alloc);
@@ -151,7 +152,8 @@ pub fn read_addresses<A: Address>(
 }
 
 fn keep<A: Address>(addresses: &mut Vec<A>, payload: &[u8]) -> Result<(), AllocError>
-    ensures { OnOk result (map A.octets addresses.new.items ≡ map A.octets addresses.old.items ++ of_length A.SIZE (payload.now ∷ [])) }
+    ensures { OnOk result
+        (map A.octets addresses.new.items ≡ map A.octets addresses.old.items ++ of_length A.SIZE (payload.now ∷ [])) }
 {
     if let Some(address) = A::from_payload(payload) {
         addresses.push(address)?;

@@ -1,6 +1,6 @@
 //! One frame of a list.
 
-ghost use Rattle.std.specs.Prelude.{◌≡◌, ◌+◌, ◌≤◌, ◌↔◌, IsTrue, IsBitSet, length, drop, min, slice_range, MatchResult, IfOk};
+ghost use Rattle.std.specs.Prelude.{◌≡◌, ◌+◌, ◌≤◌, ◌↔◌, IsTrue, IsBitSet, length, drop, min, MatchResult};
 ghost use Rattle.link_base.specs.Frame.{BeginsWith, kind_of, pad};
 
 use crate::fault::{Cause, DecodeError, DecodeFault};

@@ -39,7 +39,8 @@ pub fn read_nested<E: NestedAttribute>(
     kind: u16,
     payload: &[u8],
 ) -> Result<Vec<E>, DecodeError>
-    ensures answer { Answers (λ vs. Case kind (Inner E.flagged (map E.leaf vs.items))) result (ShapeGives (Nested E.flagged E.rows) kind payload.now) }
+    ensures answer { Answers (λ vs. Case kind (Inner E.flagged (map E.leaf vs.items))) result
+        (ShapeGives (Nested E.flagged E.rows) kind payload.now) }
     ensures memory { OnMemory result (frame_fault payload.now ≡ None) }
 {
     match read_list(alloc, payload) {

@@ -10,7 +10,7 @@ use std::alloc::{AllocError, Global};
 
 /// A value that can be copied.
 pub trait TryClone: Meaning + PartialEq {
-    /// An equal value, or `AllocError` where a growth was refused: only for an `Other`, or for a case that holds bytes, a
+    /// An equal value, or `AllocError` where allocation failed: only for an `Other`, or for a case that holds bytes, a
     /// text or a list.
     fn try_clone(&self, alloc: Global) -> Result<Self, AllocError>
         ensures copy { IfOk result (λ copy. Self.means copy ≡ Self.means self.now) }
@@ -18,7 +18,7 @@ pub trait TryClone: Meaning + PartialEq {
         ensures memory { OnErr result (HoldsMemory Self.table (Self.means self.now)) };
 }
 
-/// The equal list, for a copy of an attribute that holds it. Fails where a growth was refused.
+/// The equal list, for a copy of an attribute that holds it. Fails where allocation failed.
 pub fn try_clone_list<E: NestedAttribute + TryClone>(
     alloc: Global,
     values: &[E],

@@ -32,7 +32,8 @@ pub fn list_fits<F: Attribute>(values: &[F]) -> bool
 }
 
 fn first_unfit<F: Attribute>(values: &[F]) -> Option<usize>
-    ensures { MatchOption result (AllByRecursion Fits (map F.means values.now)) (IsFirstUnfit (map F.means values.now)) }
+    ensures { MatchOption result (AllByRecursion Fits (map F.means values.now))
+        (IsFirstUnfit (map F.means values.now)) }
 {
     for (i, value) in values.iter().enumerate() {
         if !value.fits() {
