@@ -1,5 +1,9 @@
 //! The frames of a list, one after another.
 
+ghost use Rattle.std.specs.Prelude.{◌≡◌, length, ◌+◌, ◌/◌};
+ghost use Rattle.std.specs.Iterator.{at_most};
+ghost use Rattle.link_base.specs.Items.{bytes_left, NextFrame};
+
 use crate::buffer::NlaBuffer;
 use crate::fault::DecodeError;
 
@@ -11,9 +15,6 @@ pub struct NlasIterator<'a> {
 }
 
 impl<'a> NlasIterator<'a> {
-    ghost use Rattle.std.specs.Prelude.{◌≡◌};
-    ghost use Rattle.link_base.specs.Items.{bytes_left};
-
     /// The frames of these bytes.
     pub fn new(bytes: &'a [u8]) -> Self
         ensures { bytes_left result ≡ bytes.now }
@@ -23,10 +24,6 @@ impl<'a> NlasIterator<'a> {
 }
 
 impl<'a> Iterator for NlasIterator<'a> {
-    ghost use Rattle.std.specs.Prelude.{length, ◌+◌, ◌/◌};
-    ghost use Rattle.std.specs.Iterator.{at_most};
-    ghost use Rattle.link_base.specs.Items.{bytes_left, NextFrame};
-
     type Item = Result<NlaBuffer<'a>, DecodeError>;
 
     ghost next_gives = { λ s r t. NextFrame (bytes_left s) r (bytes_left t) };

@@ -60,11 +60,12 @@ pub fn one_text<T: NamedNumber>()
 
 /// The EtherType of a protocol is read as the protocol, and every number but 0x88A8 as 802.1Q. The displayed text of a
 /// protocol reads as it, and a text is accepted for at most one protocol. Two protocols are equal exactly where they
-/// are the same.
+/// are the same. The default is 802.1Q.
 pub fn vlan_protocol()
     ensures number { (p : VlanProtocol) → value_of vlan_protocols (protocol_number p) ≡ p }
     ensures other { (d : ℕ) → d ≢ 0x88A8 → value_of vlan_protocols d ≡ Ieee8021Q }
     ensures equal { (p q : VlanProtocol) → IsTrue (⟦<VlanProtocol as PartialEq>⟧.eq p q) ↔ (p ≡ q) }
+    ensures default { (p : VlanProtocol) → ⟦<VlanProtocol as Default>⟧.is_default p ↔ (p ≡ Ieee8021Q) }
     ensures text { (p : VlanProtocol) (r : Result VlanProtocol DecodeError)
         → ReadsText vlan_protocols (text_of vlan_protocols.labels (protocol_number p)) r → r ≡ Ok p }
     ensures one { (text : List ℕ) (p q : VlanProtocol)

@@ -15,23 +15,13 @@ const ETH_P_8021Q: u16 = 0x8100;
 const ETH_P_8021AD: u16 = 0x88A8;
 
 /// The protocol of a VLAN tag, by its EtherType (`include/uapi/linux/if_ether.h`).
-#[derive(Clone, Copy, Debug, PartialEq, Eq)]
+#[derive(Clone, Copy, Debug, PartialEq, Eq, Default)]
 pub enum VlanProtocol {
     /// The tag of a customer, `802.1Q` (`ETH_P_8021Q`, 0x8100).
+    #[default]
     Ieee8021Q,
     /// The tag of a service provider, `802.1ad` (`ETH_P_8021AD`, 0x88A8).
     Ieee8021Ad,
-}
-
-/// `Ieee8021Q`.
-impl Default for VlanProtocol {
-    ghost use Rattle.link_base.specs.declared.vlan_protocol.VlanProtocol.TheVariants.{Ieee8021Q};
-
-    ghost is_default = { λ p. p ≡ Ieee8021Q };
-
-    fn default() -> Self {
-        VlanProtocol::Ieee8021Q
-    }
 }
 
 /// The protocol of an EtherType; `Ieee8021Q` for every number but 0x88A8.
