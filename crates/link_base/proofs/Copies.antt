@@ -1,9 +1,11 @@
 -- Lists that are copied element by element.
-use Rattle.std.proofs.Common.{◌≡◌, Bool, true, List, [], ◌∷◌, ◌++◌, map, true≢false, refl, sym, ap₂, ◌∙◌}
+use Rattle.std.proofs.Common.{◌≡◌, Bool, true, nat_eq, List, [], ◌∷◌, ◌++◌, map, true≢false, refl, sym, subst, ap₂, ◌∙◌}
 use Rattle.std.proofs.lemmas.List.{map-append}
-use Rattle.std.specs.Cmp.{first_so, second_so}
+use Rattle.std.specs.Cmp.{IsEquivalence, nat_eq_equiv, on_equiv, first_so, second_so}
 use Rattle.std.specs.Cmp.Derive.{both_true}
-use Rattle.std.specs.Cmp.Lexicographic.{pointwise}
+use Rattle.std.specs.Cmp.Lexicographic.{pointwise, lists_equiv}
+use Rattle.std.specs.declared.net.ipv4_addr.Ipv4Addr.{Ipv4Addr}
+use Rattle.std.specs.declared.net.ipv6_addr.Ipv6Addr.{Ipv6Addr}
 use Rattle.link_base.specs.Table.{Leaf, Case, Other}
 use Rattle.link_base.specs.Lift.{lift}
 
@@ -28,3 +30,16 @@ equal_more E [] (b ∷ ys) x y h e = absurd (true≢false (sym h))
 equal_more E (a ∷ xs) [] x y h e = absurd (true≢false (sym h))
 equal_more E (a ∷ xs) (b ∷ ys) x y h e =
     both_true (first_so (E a b) (pointwise E xs ys) h) (equal_more E xs ys x y (second_so (E a b) (pointwise E xs ys) h) e)
+
+-- ---- lists that are copied whole
+
+itself : {A : Type 0} {E : A → A → Bool} → IsEquivalence E → (xs ys : List A) → xs ≡ ys → pointwise E xs ys ≡ true
+itself {E = E} law xs ys e = subst (λ zs. pointwise E xs zs ≡ true) e ((lists_equiv law).refl xs)
+
+-- IPv4 addresses
+pub same_four : (xs ys : List Ipv4Addr) → xs ≡ ys → pointwise (λ a b. pointwise nat_eq a.octets b.octets) xs ys ≡ true
+same_four = itself (on_equiv (λ a. a.octets) (lists_equiv nat_eq_equiv))
+
+-- IPv6 addresses
+pub same_sixteen : (xs ys : List Ipv6Addr) → xs ≡ ys → pointwise (λ a b. pointwise nat_eq a.segments b.segments) xs ys ≡ true
+same_sixteen = itself (on_equiv (λ a. a.segments) (lists_equiv nat_eq_equiv))

@@ -161,7 +161,7 @@ fn keep<A: Address>(addresses: &mut Vec<A>, payload: &[u8]) -> Result<(), AllocE
     Ok(())
 }
 
-/// The bytes of a written list of addresses; the greatest `usize` where there are that many or more.
+/// The bytes of a written list of addresses; `usize::MAX` where there are that many or more.
 pub fn addresses_len<A: Address>(addresses: &[A]) -> usize
     ensures { result ≡ capped (length (spelled (addresses_from 0 (map A.octets addresses.now)))) }
 {

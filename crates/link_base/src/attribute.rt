@@ -16,7 +16,7 @@ use crate::buffer::NlaBuffer;
 use crate::fault::{DecodeError, of_kind};
 use std::alloc::Global;
 
-/// The most bytes of a payload: the greatest `nla_len`, 65535, without the four of the header.
+/// The maximum length of a payload: the maximum `nla_len`, 65535, without the four bytes of the header.
 pub(crate) const MAX_PAYLOAD: usize = 65531;
 
 /// What the values of a type stand for. It has no methods: contracts cite it.
@@ -34,7 +34,7 @@ pub trait Nla: Meaning {
     fn kind(&self) -> u16
         ensures { result ≡ written_kind (Self.means self.now) };
 
-    /// The bytes of the written payload; the greatest `usize` where it has that many or more.
+    /// The bytes of the written payload; `usize::MAX` where it has that many or more.
     fn value_len(&self) -> usize
         ensures { result ≡ capped (length (written_payload (Self.means self.now))) };
 
@@ -52,8 +52,8 @@ pub trait Nla: Meaning {
         self.value_len() <= MAX_PAYLOAD
     }
 
-    /// The bytes of the written frame: header, payload, and padding up to a multiple of four; the greatest `usize`
-    /// where it has that many or more.
+    /// The bytes of the written frame: header, payload, and padding up to a multiple of four; `usize::MAX` where it has
+    /// that many or more.
     fn buffer_len(&self) -> usize
         ensures { result ≡ capped (length (written_frame (Self.means self.now))) }
     {

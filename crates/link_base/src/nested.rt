@@ -49,7 +49,7 @@ pub fn read_nested<E: NestedAttribute>(
     }
 }
 
-/// The bytes of a written nested list; the greatest `usize` where there are that many or more.
+/// The bytes of a written nested list; `usize::MAX` where there are that many or more.
 pub fn nested_len<E: NestedAttribute>(values: &[E]) -> usize
     ensures { result ≡ capped (length (written_leaves (map E.leaf values.now))) }
 {
