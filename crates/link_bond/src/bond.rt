@@ -188,6 +188,7 @@ pub enum InfoBond {
 }
 
 impl TryClone for InfoBond {
+    #[tactic(auto, using(link_base::proofs::Copies::same_four, link_base::proofs::Copies::same_sixteen))]
     fn try_clone(&self, alloc: Global) -> Result<Self, AllocError> {
         match self {
             InfoBond::Mode(mode) => Ok(InfoBond::Mode(*mode)),

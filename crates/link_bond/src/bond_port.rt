@@ -1,9 +1,5 @@
 //! The attributes of a port of a bond (`IFLA_INFO_SLAVE_DATA` of a link whose `IFLA_INFO_SLAVE_KIND` is `bond`).
 
-ghost use Rattle.std.specs.Prelude.{◌≡◌, ◌≤◌, ◌<◌, ◌∷◌, [], length, slice_index};
-ghost use Rattle.link_base.specs.Class.{accepted, Exactly};
-ghost use Rattle.link_base.specs.Answers.{payload_result, OverwritesFront};
-
 mod churn_state;
 mod lacp_state;
 mod mii_status;
@@ -13,8 +9,8 @@ use bitflags::Flags;
 pub use churn_state::ChurnState;
 pub use lacp_state::LacpState;
 use link_base::{
-    Attribute, Cause, DecodeError, DecodeFault, DefaultNla, Meaning, Nla, NlaBuffer, Parseable,
-    TryClone, emit_i32, emit_u8, emit_u16, emit_u32, parse_i32, parse_u8, parse_u16, parse_u32,
+    Attribute, DecodeError, DefaultNla, Meaning, Nla, NlaBuffer, Parseable, TryClone, emit_i32,
+    emit_low, emit_u8, emit_u16, emit_u32, parse_i32, parse_low, parse_u8, parse_u16, parse_u32,
 };
 pub use mii_status::MiiStatus;
 pub use port_state::BondPortState;
@@ -76,26 +72,6 @@ pub enum InfoBondPort {
     AdChurnPartnerState(ChurnState),
     /// An attribute of any other kind.
     Other(DefaultNla),
-}
-
-fn parse_low(payload: &[u8]) -> Result<u8, DecodeError>
-    ensures { result ≡ payload_result (accepted (Exactly 2) (λ p. slice_index p 0) payload.now) }
-{
-    match payload {
-        [low, _] => Ok(*low),
-        _ => Err(DecodeError::Fault(DecodeFault::Payload(Cause::WrongLength {
-            want: 2,
-            got: payload.len(),
-        }))),
-    }
-}
-
-fn emit_low(buffer: &mut [u8], low: u8)
-    requires { length buffer.old ≡ 2 }
-    ensures written { buffer.new ≡ low ∷ 0 ∷ [] }
-    ensures in_range { low < 256 }
-{
-    buffer.copy_from_slice(&[low, 0]);
 }
 
 impl TryClone for InfoBondPort {
