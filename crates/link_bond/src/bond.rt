@@ -106,7 +106,8 @@ pub enum InfoBond {
     Mode(BondMode),
     /// The index of the active port, a network device (`IFLA_BOND_ACTIVE_SLAVE`, four bytes).
     ActivePort(u32),
-    /// How often the links of the ports are looked at, in milliseconds; 0 for never (`IFLA_BOND_MIIMON`, four bytes).
+    /// The MII monitoring interval, at which the links of the ports are checked, in milliseconds; 0 for never
+    /// (`IFLA_BOND_MIIMON`, four bytes).
     MiiMon(u32),
     /// How long a link is up before its port is used, in milliseconds (`IFLA_BOND_UPDELAY`, four bytes).
     UpDelay(u32),
@@ -115,8 +116,8 @@ pub enum InfoBond {
     /// Whether the state of a link is taken from the carrier that its driver reports, and not asked for by MII or
     /// ethtool (`IFLA_BOND_USE_CARRIER`, one byte).
     UseCarrier(bool),
-    /// How often ports are watched by ARP and neighbour messages, in milliseconds; 0 for never
-    /// (`IFLA_BOND_ARP_INTERVAL`, four bytes).
+    /// The ARP monitoring interval, at which the ports are checked by ARP and neighbour messages, in milliseconds; 0 for
+    /// never (`IFLA_BOND_ARP_INTERVAL`, four bytes).
     ArpInterval(u32),
     /// The addresses that ARP requests ask for (`IFLA_BOND_ARP_IP_TARGET`, a list of elements of four octets; at most
     /// 8191 fit).
@@ -140,8 +141,8 @@ pub enum InfoBond {
     NumPeerNotif(u8),
     /// What becomes of duplicate frames, those that arrive at inactive ports (`IFLA_BOND_ALL_SLAVES_ACTIVE`, one byte).
     AllPortsActive(BondAllPortActive),
-    /// How many ports have to be up before the bond is up, in the mode `Ieee8023Ad` (`IFLA_BOND_MIN_LINKS`, four
-    /// bytes).
+    /// The minimum number of ports that have to be up before the bond is up, in the mode `Ieee8023Ad`
+    /// (`IFLA_BOND_MIN_LINKS`, four bytes).
     MinLinks(u32),
     /// The seconds between learning packets to the switch of each port, in the modes `BalanceTlb` and `BalanceAlb`
     /// (`IFLA_BOND_LP_INTERVAL`, four bytes).
@@ -149,11 +150,11 @@ pub enum InfoBond {
     /// How many packets a port sends before the next one's turn in the mode `BalanceRr`; 0 for a port at random
     /// (`IFLA_BOND_PACKETS_PER_SLAVE`, four bytes).
     PacketsPerPort(u32),
-    /// How often the peer is asked to send its LACPDUs (`IFLA_BOND_AD_LACP_RATE`, one byte).
+    /// How often the LACP partner is asked to send its LACPDUs (`IFLA_BOND_AD_LACP_RATE`, one byte).
     AdLacpRate(BondLacpRate),
-    /// How the active aggregate is chosen (`IFLA_BOND_AD_SELECT`, one byte).
+    /// How the active aggregator is chosen (`IFLA_BOND_AD_SELECT`, one byte).
     AdSelect(BondAdSelect),
-    /// The active aggregate (`IFLA_BOND_AD_INFO`, a list).
+    /// The active aggregator (`IFLA_BOND_AD_INFO`, a list).
     AdInfo(Vec<BondAdInfo>),
     /// The priority of this system in LACP (`IFLA_BOND_AD_ACTOR_SYS_PRIO`, two bytes).
     AdActorSysPrio(u16),
@@ -167,10 +168,10 @@ pub enum InfoBond {
     /// The time between two of the messages of `NumPeerNotif`, in milliseconds (`IFLA_BOND_PEER_NOTIF_DELAY`, four
     /// bytes).
     PeerNotifDelay(u32),
-    /// Whether LACPDUs are sent even if the peer sends none (`IFLA_BOND_AD_LACP_ACTIVE`, one byte).
+    /// Whether LACPDUs are sent even if the LACP partner sends none (`IFLA_BOND_AD_LACP_ACTIVE`, one byte).
     AdLacpActive(bool),
-    /// How many ARP intervals in a row pass without an answer until a port counts as down (`IFLA_BOND_MISSED_MAX`, one
-    /// byte).
+    /// The maximum number of ARP monitoring intervals in a row without an answer, until a port counts as down
+    /// (`IFLA_BOND_MISSED_MAX`, one byte).
     MissedMax(u8),
     /// The addresses that neighbour solicitations ask for (`IFLA_BOND_NS_IP6_TARGET`, a list of elements of sixteen
     /// octets; at most 3276 fit).
@@ -188,7 +189,6 @@ pub enum InfoBond {
 }
 
 impl TryClone for InfoBond {
-    #[tactic(auto, using(link_base::proofs::Copies::same_four, link_base::proofs::Copies::same_sixteen))]
     fn try_clone(&self, alloc: Global) -> Result<Self, AllocError> {
         match self {
             InfoBond::Mode(mode) => Ok(InfoBond::Mode(*mode)),

@@ -54,11 +54,11 @@ pub enum InfoBondPort {
     PermHwaddr(Vec<u8>),
     /// The queue whose packets are sent from the port, 0 for none (`IFLA_BOND_SLAVE_QUEUE_ID`, two bytes).
     QueueId(u16),
-    /// The identifier of the aggregate of the port (`IFLA_BOND_SLAVE_AD_AGGREGATOR_ID`, two bytes).
+    /// The identifier of the aggregator of the port (`IFLA_BOND_SLAVE_AD_AGGREGATOR_ID`, two bytes).
     AdAggregatorId(u16),
-    /// The state of this side in LACP (`IFLA_BOND_SLAVE_AD_ACTOR_OPER_PORT_STATE`, one byte).
+    /// The state of the LACP actor, which is this side (`IFLA_BOND_SLAVE_AD_ACTOR_OPER_PORT_STATE`, one byte).
     AdActorOperPortState(LacpState),
-    /// The state of the peer in LACP (`IFLA_BOND_SLAVE_AD_PARTNER_OPER_PORT_STATE`, two bytes: the first is the state,
+    /// The state of the LACP partner (`IFLA_BOND_SLAVE_AD_PARTNER_OPER_PORT_STATE`, two bytes: the first is the state,
     /// and the second is written as 0).
     AdPartnerOperPortState(LacpState),
     /// The priority of the port when an active one is chosen, the highest first (`IFLA_BOND_SLAVE_PRIO`, four bytes,
@@ -66,9 +66,9 @@ pub enum InfoBondPort {
     Prio(i32),
     /// The priority of the port in LACP (`IFLA_BOND_SLAVE_ACTOR_PORT_PRIO`, two bytes).
     ActorPortPrio(u16),
-    /// Whether this side comes into synchronization in time (`IFLA_BOND_SLAVE_AD_CHURN_ACTOR_STATE`, one byte).
+    /// Whether the LACP actor comes into synchronization in time (`IFLA_BOND_SLAVE_AD_CHURN_ACTOR_STATE`, one byte).
     AdChurnActorState(ChurnState),
-    /// Whether the peer does (`IFLA_BOND_SLAVE_AD_CHURN_PARTNER_STATE`, one byte).
+    /// Whether the LACP partner does (`IFLA_BOND_SLAVE_AD_CHURN_PARTNER_STATE`, one byte).
     AdChurnPartnerState(ChurnState),
     /// An attribute of any other kind.
     Other(DefaultNla),

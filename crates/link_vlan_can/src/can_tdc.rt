@@ -29,23 +29,23 @@ const IFLA_CAN_TDC_TDCF: u16 = 9;
 /// number of four bytes, in periods of the controller's clock.
 #[derive(Debug, PartialEq, Eq, Drop)]
 pub enum CanTdc {
-    /// The least value (`IFLA_CAN_TDC_TDCV_MIN`).
+    /// The minimum value (`IFLA_CAN_TDC_TDCV_MIN`).
     TdcvMin(u32),
-    /// The greatest value (`IFLA_CAN_TDC_TDCV_MAX`).
+    /// The maximum value (`IFLA_CAN_TDC_TDCV_MAX`).
     TdcvMax(u32),
-    /// The least offset (`IFLA_CAN_TDC_TDCO_MIN`).
+    /// The minimum offset (`IFLA_CAN_TDC_TDCO_MIN`).
     TdcoMin(u32),
-    /// The greatest offset (`IFLA_CAN_TDC_TDCO_MAX`).
+    /// The maximum offset (`IFLA_CAN_TDC_TDCO_MAX`).
     TdcoMax(u32),
-    /// The least filter window (`IFLA_CAN_TDC_TDCF_MIN`).
+    /// The minimum filter window (`IFLA_CAN_TDC_TDCF_MIN`).
     TdcfMin(u32),
-    /// The greatest filter window (`IFLA_CAN_TDC_TDCF_MAX`).
+    /// The maximum filter window (`IFLA_CAN_TDC_TDCF_MAX`).
     TdcfMax(u32),
     /// The value: the delay from the start of a bit as it is sent until its start is received (`IFLA_CAN_TDC_TDCV`).
     Tdcv(u32),
     /// The offset: from the start of a received bit to the place where it is sampled (`IFLA_CAN_TDC_TDCO`).
     Tdco(u32),
-    /// The filter window: the least sum of value and offset at which the delay is compensated (`IFLA_CAN_TDC_TDCF`).
+    /// The filter window: the minimum sum of value and offset at which the delay is compensated (`IFLA_CAN_TDC_TDCF`).
     Tdcf(u32),
     /// An attribute of any other kind.
     Other(DefaultNla),

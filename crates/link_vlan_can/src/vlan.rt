@@ -128,7 +128,7 @@ pub enum InfoVlan {
     EgressQos(Vec<VlanQosMapping>),
     /// How the priority of a tag becomes that of its packet when it is received (`IFLA_VLAN_INGRESS_QOS`, a list).
     IngressQos(Vec<VlanQosMapping>),
-    /// The protocol of the tag (`IFLA_VLAN_PROTOCOL`, two bytes, the highest first).
+    /// The protocol of the tag (`IFLA_VLAN_PROTOCOL`, two bytes in network byte order).
     Protocol(VlanProtocol),
     /// An attribute of any other kind.
     Other(DefaultNla),

@@ -1,4 +1,4 @@
-//! How a bond chooses its aggregate.
+//! How a bond chooses its active aggregator.
 
 use link_base::{DecodeError, DecodeFault, NamedNumber};
 use std::fmt;
@@ -13,13 +13,13 @@ const BOND_AD_COUNT: u8 = 2;
 
 const BOND_AD_PRIO: u8 = 3;
 
-/// How the active aggregate is chosen in the mode `Ieee8023Ad` (`BOND_AD_*`, `include/net/bond_3ad.h`).
+/// How the active aggregator is chosen in the mode `Ieee8023Ad` (`BOND_AD_*`, `include/net/bond_3ad.h`).
 #[derive(Clone, Copy, Debug, PartialEq, Eq)]
 pub enum BondAdSelect {
-    /// That of the largest bandwidth; chosen anew only when all its ports are down, or it has none (`BOND_AD_STABLE`,
+    /// That of the maximum bandwidth; chosen anew only when all its ports are down, or it has none (`BOND_AD_STABLE`,
     /// 0).
     Stable,
-    /// That of the largest bandwidth; chosen anew whenever a port or a link changes (`BOND_AD_BANDWIDTH`, 1).
+    /// That of the maximum bandwidth; chosen anew whenever a port or a link changes (`BOND_AD_BANDWIDTH`, 1).
     Bandwidth,
     /// That of the most ports; chosen anew whenever a port or a link changes (`BOND_AD_COUNT`, 2).
     Count,

@@ -1,4 +1,4 @@
-//! How often the peer of a bond is asked to send its LACPDUs.
+//! How often the LACP partner of a bond is asked to send its LACPDUs.
 
 use link_base::{DecodeError, DecodeFault, NamedNumber};
 use std::fmt;
@@ -9,7 +9,8 @@ const AD_LACP_SLOW: u8 = 0;
 
 const AD_LACP_FAST: u8 = 1;
 
-/// How often the peer is asked to send its LACPDUs in the mode `Ieee8023Ad` (`AD_LACP_*`, `include/net/bond_3ad.h`).
+/// How often the LACP partner is asked to send its LACPDUs in the mode `Ieee8023Ad` (`AD_LACP_*`,
+/// `include/net/bond_3ad.h`).
 #[derive(Clone, Copy, Debug, PartialEq, Eq)]
 pub enum BondLacpRate {
     /// Every 30 seconds (`AD_LACP_SLOW`, 0).

@@ -30,7 +30,7 @@ pub enum BondMode {
     BalanceXor,
     /// Every packet is sent from every port (`BOND_MODE_BROADCAST`, 3).
     Broadcast,
-    /// Ports form aggregates that are agreed with the peer by LACP (IEEE 802.3ad) (`BOND_MODE_8023AD`, 4).
+    /// Ports are aggregated, as agreed with the LACP partner (IEEE 802.3ad) (`BOND_MODE_8023AD`, 4).
     Ieee8023Ad,
     /// What is sent is shared among the ports by their load; one port receives (`BOND_MODE_TLB`, 5).
     BalanceTlb,

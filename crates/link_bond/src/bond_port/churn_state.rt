@@ -1,4 +1,4 @@
-//! Whether a port of a bond and its peer reach agreement.
+//! Whether a port of a bond and its LACP partner reach agreement.
 
 use link_base::{DecodeError, DecodeFault, NamedNumber};
 use std::fmt;
@@ -11,8 +11,8 @@ const AD_CHURN: u8 = 1;
 
 const AD_NO_CHURN: u8 = 2;
 
-/// Whether one side of a link, this one or the peer, comes into synchronization in time, as IEEE 802.3ad watches it
-/// (`churn_state_t`, `include/net/bond_3ad.h`).
+/// Whether one side of a link, the LACP actor or the partner, comes into synchronization in time, as IEEE 802.3ad
+/// watches it (`churn_state_t`, `include/net/bond_3ad.h`).
 #[derive(Clone, Copy, Debug, PartialEq, Eq)]
 pub enum ChurnState {
     /// It is watched, and time is left (`AD_CHURN_MONITOR`, 0).
