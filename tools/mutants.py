@@ -143,7 +143,7 @@ class Answer:
         unproved = next((it for it in self.lines if re.match(r"fn \S+: no(t proved| proof)", it)), self.lines[-1])
         if not first and "the borrow checker does not cover this function" in unproved:
             return f"only since the borrow checker does not cover it, which says nothing of the contract: {unproved}"
-        return first or unproved
+        return re.sub(r"\Anote: ", "", first or unproved)
 
 
 class Trial:
