@@ -1,7 +1,7 @@
 """Edits of source files, and the functions that they turn.
 
-A source file is read by its layout, which `rt fmt` gives it: a function's body stands between a line that ends in `{` and
-a line that is `}`, both indented as the line of its `fn`.
+A source file is read by its layout, which `rt fmt` gives it: a function's body stands between a line that ends in `{`
+and a line that is `}`, both indented as the line of its `fn`.
 """
 import os
 import re
@@ -15,7 +15,7 @@ class EditError(Exception):
 
 
 class Function:
-    """A function with a body. Its lines are counted from 0: where its attributes begin, and those that open and end its body."""
+    """A function with a body: the lines where its attributes begin and its body opens and ends, counted from 0."""
 
     def __init__(self, blocks, name, head, opening, end, lines):
         self.blocks, self.name = blocks, name
@@ -28,9 +28,13 @@ class Function:
 
     def path(self, file):
         """Its name as a check prints it, below the crate: module, type and trait, function."""
-        inside = re.sub(r"(/mod)?\.rt$", "", file).split("/")[1:]
-        modules = [] if inside in (["lib"], ["main"]) else inside
-        return "::".join([*modules, *self.blocks, self.name])
+        return "::".join(it for it in [module_of(file), *self.blocks, self.name] if it)
+
+
+def module_of(file):
+    """The module of a source file, or '' for the root and for what is no source file."""
+    inside = re.fullmatch(r"src/(.*?)(/mod)?\.rt", file)
+    return "" if not inside or inside[1] in ("lib", "main") else inside[1].replace("/", "::")
 
 
 def edited_texts(edit, folder):
@@ -126,7 +130,7 @@ def with_bodies(text, bodies):
 
 
 def block_name(kind, header):
-    """How a check names an impl, a trait or a module: an impl of a trait by its type and its trait, as in U16FromLength."""
+    """How a check names an impl, a trait or a module: an impl of a trait by type and trait, as in U16FromLength."""
     head = re.split(r"\bwhere\b|\{", header, maxsplit=1)[0]
     head = head[re.search(rf"\b{kind}\b", head).end() :]
     if kind != "impl":
@@ -154,5 +158,6 @@ def type_name(written, with_arguments):
     last = base.split("::")[-1].strip()
     name = last[:1].upper() + last[1:]
     if with_arguments:
-        name += "".join(type_name(it, True) for it in arguments.rstrip("> ").split(",") if it.strip() and "'" not in it)
+        listed = [it for it in arguments.rstrip("> ").split(",") if it.strip() and "'" not in it]
+        name += "".join(type_name(it, True) for it in listed)
     return name

@@ -13,10 +13,9 @@ an error in that function's folder of proofs/. That a function calls a refused o
 A mutant that turns something else than the body of a function, and one that was not refused in its place, is tried
 alone, and then any refusal is its own. A mutant that does not apply, or does not reach the prover, is a failure.
 
-The crates as they stand have to be proved, as by `rt ci` or `rt all check`: this is not tried again. Their libraries and
-their kept work are taken from crates/NAME/out/ where they are there and newer than the sources, and nothing is
-written to the repository. Crates are tried side by side, one check at a time each, at most N (one a processor, if left
-out, and as many as memory holds).
+The crates as they stand have to be proved, as by `rt ci` or `rt all check`: this is not tried again. Libraries that are
+newer than their sources, and kept work, are taken from crates/NAME/out/, and nothing is written to the repository.
+Crates are tried side by side, at most N checks at once (if left out, one a processor, and as many as memory holds).
 The last line is 'N passed, M failed', and the status 0 only if all mutants are refused.
 """
 import argparse
@@ -24,7 +23,6 @@ import os
 import re
 import shutil
 import signal
-import subprocess
 import sys
 import tempfile
 import threading
@@ -33,12 +31,10 @@ from concurrent.futures import ThreadPoolExecutor
 
 sys.dont_write_bytecode = True
 sys.path.insert(0, os.path.dirname(os.path.realpath(__file__)))
-from edits import EditError, edited_texts, functions_of, skeleton, with_bodies  # noqa: E402
+from crates import PARTS, Runner, build_libraries, crates_of, kit_folder, lanes  # noqa: E402
+from edits import EditError, edited_texts, functions_of, module_of, skeleton, with_bodies  # noqa: E402
 
-PARTS = ("src", "specs", "proofs")
 EDIT_NAME = re.compile(r"[A-Za-z0-9_-][A-Za-z0-9_.-]*\.edit")
-# What a check of a large family takes, in bytes.
-MEMORY_OF_A_CHECK = 2_500_000_000
 OWN_NOTE = re.compile(r"note: (?:\./)?(src/[^:]+):(\d+):\d+: (it is not proved that .*)")
 ONLY_A_CALLEE = re.compile(r"\b(it calls|it passes|a call of)\b")
 CODE_ERROR = re.compile(r"(?:\./)?(src/[^:]+):(\d+):\d+: error")
@@ -50,57 +46,9 @@ UNREADABLE = re.compile(r"is not in scope|has no field|is no name|operand is mis
 STALE = re.compile(r"module .Rattle-(\w+)-.*Run the lower steps again")
 
 
-class Crate:
-    def __init__(self, root, name, uses, crates, kit):
-        self.name, self.folder, self.kit = name, f"{root}/crates/{name}", kit
-        self.deps = [crates[it] for it in uses if it in crates]
-        self.of_kit = ["std", *(it for it in uses if it not in crates)]
-        self.rlib = f"{self.folder}/out/rlib/{name}.rlib"
-        self.is_program = os.path.isfile(f"{self.folder}/src/main.rt")
-
-    def below(self):
-        """The repository's libraries below this crate, each after those that it uses."""
-        found = []
-        for dep in self.deps:
-            found += [it for it in [*dep.below(), dep] if it not in found]
-        return found
-
-    def newest_source(self):
-        found = [os.path.getmtime(f"{at}/{it}") for part in PARTS for at, _, files in os.walk(f"{self.folder}/{part}") for it in files]
-        return max(found, default=0)
-
-    def is_built(self):
-        """Whether the library that a check left is newer than its sources and than the libraries below it."""
-        marker = f"{self.rlib}/format"
-        if not os.path.isfile(marker):
-            return False
-        made = os.path.getmtime(marker)
-        return made > self.newest_source() and all(it.is_built() and made > os.path.getmtime(f"{it.rlib}/format") for it in self.below())
-
-    def words(self):
-        """The words of a check or a build of this crate, over its libraries."""
-        words = ["--crate-name", self.name, f"src/{'main' if self.is_program else 'lib'}.rt"]
-        for name in self.of_kit:
-            words += ["--extern", f"{name}={self.kit}/rlibs/{name}.rlib"]
-        words += ["-L", f"dependency={self.kit}/rlibs"]
-        for dep in self.deps:
-            words += ["--extern", f"{dep.name}={dep.rlib}"]
-        for dep in self.below():
-            words += ["-L", f"dependency={os.path.dirname(dep.rlib)}"]
-        words += ["--antt-project", f"{self.kit}/rattle/logic/antt-project.json"]
-        return [*words, "--logic-built", f"{self.kit}/logic_built", "--links", f"{self.name}="]
-
-    def sources(self):
-        texts = {}
-        for at, _, files in os.walk(f"{self.folder}/src"):
-            for it in files:
-                with open(f"{at}/{it}", encoding="utf-8") as file:
-                    texts[os.path.relpath(f"{at}/{it}", self.folder)] = file.read()
-        return texts
-
-
 class Mutant:
-    """An edit with the functions that it turns: {(file, number of the function): its new lines}, or None for other edits."""
+    """An edit. Its bodies are those of the functions that it turns, {(file, number of the function): lines}, or None
+    where it turns something else."""
 
     def __init__(self, crate, path):
         self.crate, self.name = crate, f"{crate.name}/{os.path.basename(path)}"
@@ -118,17 +66,18 @@ class Mutant:
         self.bodies = self.bodies or None
 
     def targets(self):
-        """What to look at when it is tried alone: its functions, else the modules of its files, or [] for the whole crate."""
+        """What to look at: its functions, else the modules that name what it changes, or [] for the whole crate."""
         if self.bodies:
             return [functions_of(self.crate.texts[file])[number].path(file) for file, number in self.bodies]
-        modules = [module_of(file) for file in self.texts]
+        files = {*self.texts}
+        for file in self.texts:
+            was = self.crate.texts.get(file, "").split("\n")
+            changed = "\n".join(it for it in self.texts[file].split("\n") if it not in was)
+            names = re.findall(r"\b(?:const|static|type|struct|enum) (\w+)", changed)
+            named = re.compile(rf"\b({'|'.join(names)})\b" if names else r"(?!)")
+            files |= {it for it, text in self.crate.texts.items() if module_of(it) and named.search(text)}
+        modules = [module_of(it) for it in sorted(files) if not it.startswith("src/tests")]
         return modules if all(modules) else []
-
-
-def module_of(file):
-    """The module of a source file, or '' for the root and for what is no source file."""
-    inside = re.fullmatch(r"src/(.*?)(/mod)?\.rt", file)
-    return "" if not inside or inside[1] in ("lib", "main") else inside[1].replace("/", "::")
 
 
 def packed(mutants):
@@ -187,14 +136,14 @@ class Answer:
 
     def first_error(self):
         """What refuses an edit that is tried alone."""
-        told = [it for it in self.lines if re.match(r"(note: )?\S+:\d+:\d+: ", it) and (": error" in it or OWN_NOTE.match(it))]
+        told = [it for it in self.lines if OWN_NOTE.match(it) or re.match(r"\S+:\d+:\d+: error", it)]
         first = next((it for it in told if not (PROOF_ERROR.match(it) and LOST_NAME.search(it))), None)
         if told and not first:
             return f"only by a proof that names what the edit took away, which says little of the contract: {told[0]}"
         unproved = next((it for it in self.lines if re.match(r"fn \S+: no(t proved| proof)", it)), self.lines[-1])
         if not first and "the borrow checker does not cover this function" in unproved:
             return f"only since the borrow checker does not cover it, which says nothing of the contract: {unproved}"
-        return first or unproved
+        return re.sub(r"\Anote: ", "", first or unproved)
 
 
 class Trial:
@@ -208,7 +157,7 @@ class Trial:
         crate.texts = crate.sources()
 
     def check(self, texts, only):
-        """Checks the crate with these texts in the place of its own; only these functions and modules where some are given."""
+        """Checks the crate with these texts in the place of its own, or only these of its functions and modules."""
         with tempfile.TemporaryDirectory(prefix="check-", dir=self.room) as copy:
             for part in PARTS:
                 if os.path.isdir(f"{self.crate.folder}/{part}"):
@@ -251,8 +200,9 @@ class Trial:
             left += self.try_together(batch)
         for mutant in left:
             self.try_alone(mutant)
-        minutes = (time.time() - self.started) / 60
-        self.say(f"== {self.crate.name}: {self.passed + self.failed} mutants, {self.together} checks of several, {self.alone} of one; {self.work / 60:.1f} processor minutes, {minutes:.1f} of the clock, {self.peak / 1e9:.1f} GB")
+        checks = f"{self.together} checks of several, {self.alone} of one"
+        minutes = f"{self.work / 60:.1f} processor minutes, {(time.time() - self.started) / 60:.1f} of the clock"
+        self.say(f"== {self.crate.name}: {len(mutants)} mutants, {checks}; {minutes}, {self.peak / 1e9:.1f} GB")
 
     def judge(self, name, is_refused, text):
         self.passed, self.failed = self.passed + is_refused, self.failed + (not is_refused)
@@ -264,7 +214,8 @@ class Trial:
             return batch
         bodies = {key: lines for it in batch for key, lines in it.bodies.items()}
         files = {file for file, _ in bodies}
-        texts = {file: with_bodies(self.crate.texts[file], {number: it for (at, number), it in bodies.items() if at == file}) for file in files}
+        of = {file: {number: it for (at, number), it in bodies.items() if at == file} for file in files}
+        texts = {file: with_bodies(self.crate.texts[file], of[file]) for file in files}
         self.together += 1
         answer = self.check(texts, [path for it in batch for path in it.targets()])
         if not answer.is_refused and not answer.is_proved:
@@ -295,80 +246,6 @@ class Trial:
         return self.judge(mutant.name, False, "NOT REFUSED: the crate is still proved with this edit")
 
 
-class Runner:
-    """Runs rattle, and ends what runs when this script is ended."""
-
-    def __init__(self, kit):
-        self.rattle, self.running, self.has_ended, self.lock = f"{kit}/bin/rattle", set(), False, threading.Lock()
-
-    def __call__(self, words, folder):
-        with tempfile.TemporaryFile("w+", errors="replace") as said:
-            with self.lock:
-                if self.has_ended:
-                    raise SystemExit(1)
-                ran = subprocess.Popen([self.rattle, *words], cwd=folder, stdin=subprocess.DEVNULL, stdout=said, stderr=subprocess.STDOUT)
-                self.running.add(ran)
-            _, status, usage = os.wait4(ran.pid, 0)
-            with self.lock:
-                self.running.discard(ran)
-                if self.has_ended:
-                    raise SystemExit(1)
-            ran.returncode = os.waitstatus_to_exitcode(status)
-            said.seek(0)
-            return ran.returncode, said.read(), usage.ru_utime + usage.ru_stime, 1024 * usage.ru_maxrss
-
-    def end(self, *_):
-        self.has_ended = True
-        for it in [*self.running]:
-            it.kill()
-        sys.exit(1)
-
-
-def crates_of(root, kit):
-    """The crates of crates.txt, by name, each after those that it uses."""
-    with open(f"{root}/crates.txt", encoding="utf-8") as file:
-        lines = [it.partition("#")[0].strip() for it in file]
-    listed = {it.partition(":")[0].split()[0]: it.partition(":")[2].split() for it in lines if it}
-    crates = {}
-    while len(crates) < len(listed):
-        ready = [it for it in listed if it not in crates and all(use in crates for use in listed[it] if use in listed)]
-        if not ready:
-            sys.exit("mutants: crates of crates.txt stand on one another in a ring")
-        for name in ready:
-            crates[name] = Crate(root, name, listed[name], crates, kit)
-    return crates
-
-
-def build_libraries(crates, room, run, jobs):
-    """Builds the libraries below these crates that no earlier check left built and new."""
-    below = []
-    for crate in crates:
-        below += [it for it in crate.below() if it not in below]
-    if len({os.path.isfile(f"{it.folder}/out/rlib/stamp") for it in below}) == 1 and all(it.is_built() for it in below):
-        return
-    for crate in below:
-        kept = f"{room}/{crate.name}-kept"
-        if os.path.isdir(f"{crate.folder}/out/incremental"):
-            shutil.copytree(f"{crate.folder}/out/incremental", kept)
-        print(f"mutants: building the library {crate.name}", flush=True)
-        rlib = f"{room}/rlib/{crate.name}/{crate.name}.rlib"
-        os.makedirs(os.path.dirname(rlib))
-        words = ["build", *crate.words(), "--incremental", kept, "--jobs", str(jobs), "-o", rlib]
-        status, said, _, _ = run(words, crate.folder)
-        if status:
-            print(said, end="")
-            sys.exit(f"mutants: the library {crate.name} is not proved, so nothing can be tried")
-        crate.rlib = rlib
-
-
-def lanes(jobs):
-    """How many checks run at once: one a processor, as many as memory holds, and at most as many as asked for."""
-    with open("/proc/meminfo", encoding="ascii") as file:
-        free = 1024 * int(re.search(r"MemAvailable:\s+(\d+)", file.read())[1])
-    found = min(len(os.sched_getaffinity(0)), max(free // MEMORY_OF_A_CHECK, 1))
-    return max(1, min(found, jobs or found))
-
-
 def try_mutants(root, names, jobs, kit):
     crates = crates_of(root, kit)
     unknown = [it for it in names if it not in crates]
@@ -396,12 +273,6 @@ def try_mutants(root, names, jobs, kit):
     passed, failed = sum(it.passed for it in trials), sum(it.failed for it in trials)
     print(f"{passed} passed, {failed} failed", flush=True)
     return 1 if failed else 0
-
-
-def kit_folder():
-    """The folder of the toolchain, which `rt doc` names."""
-    page = subprocess.run(["rt", "doc"], stdout=subprocess.PIPE, text=True, check=True).stdout.strip()
-    return os.path.dirname(page)
 
 
 def main():

@@ -111,7 +111,7 @@ class Reading(unittest.TestCase):
 
     def test_a_file_names_its_module(self):
         files = ["src/lib.rt", "src/a.rt", "src/a/mod.rt", "src/a/b.rt", "specs/A.antt"]
-        self.assertEqual(["", "a", "a", "a::b", ""], [mutants.module_of(it) for it in files])
+        self.assertEqual(["", "a", "a", "a::b", ""], [edits.module_of(it) for it in files])
 
 
 class Answers(unittest.TestCase):
