@@ -1,5 +1,7 @@
 //! The attributes of a bond (`IFLA_INFO_DATA` of a link of kind `bond`).
 
+ghost use Rattle.link_bond.specs.Bond.{bond_table, bond_means};
+
 mod ad_info;
 mod ad_select;
 mod all_port_active;
@@ -116,8 +118,8 @@ pub enum InfoBond {
     /// Whether the state of a link is taken from the carrier that its driver reports, and not asked for by MII or
     /// ethtool (`IFLA_BOND_USE_CARRIER`, one byte).
     UseCarrier(bool),
-    /// The ARP monitoring interval, at which the ports are checked by ARP and neighbour messages, in milliseconds; 0 for
-    /// never (`IFLA_BOND_ARP_INTERVAL`, four bytes).
+    /// The ARP monitoring interval, at which the ports are checked by ARP and neighbour messages, in milliseconds; 0
+    /// for never (`IFLA_BOND_ARP_INTERVAL`, four bytes).
     ArpInterval(u32),
     /// The addresses that ARP requests ask for (`IFLA_BOND_ARP_IP_TARGET`, a list of elements of four octets; at most
     /// 8191 fit).
@@ -235,8 +237,6 @@ impl TryClone for InfoBond {
 }
 
 impl Meaning for InfoBond {
-    ghost use Rattle.link_bond.specs.Bond.{bond_table, bond_means};
-
     ghost table = { bond_table };
 
     ghost means = { bond_means };
@@ -415,17 +415,32 @@ impl Parseable for InfoBond {
 impl Attribute for InfoBond {
     ghost use Rattle.std.specs.Prelude.{refl};
     ghost use Rattle.link_base.proofs.TableLaws.{lawful};
-    ghost use Rattle.link_bond.specs.Bond.{bond_table};
     ghost use Rattle.link_base.specs.Equality.{of_cases, thorough_fields};
     ghost use Rattle.link_bond.specs.contracts.bond.mode.BondModeNamedNumber.TheImpl.Laws.{thorough-law as modes};
-    ghost use Rattle.link_bond.specs.contracts.bond.arp_validate.BondArpValidateNamedNumber.TheImpl.Laws.{thorough-law as validations};
-    ghost use Rattle.link_bond.specs.contracts.bond.arp_all_targets.BondArpAllTargetsNamedNumber.TheImpl.Laws.{thorough-law as target_rules};
-    ghost use Rattle.link_bond.specs.contracts.bond.primary_reselect.BondPrimaryReselectNamedNumber.TheImpl.Laws.{thorough-law as reselections};
-    ghost use Rattle.link_bond.specs.contracts.bond.fail_over_mac.BondFailOverMacNamedNumber.TheImpl.Laws.{thorough-law as fail_overs};
-    ghost use Rattle.link_bond.specs.contracts.bond.xmit_hash_policy.BondXmitHashPolicyNamedNumber.TheImpl.Laws.{thorough-law as policies};
-    ghost use Rattle.link_bond.specs.contracts.bond.all_port_active.BondAllPortActiveNamedNumber.TheImpl.Laws.{thorough-law as port_rules};
-    ghost use Rattle.link_bond.specs.contracts.bond.lacp_rate.BondLacpRateNamedNumber.TheImpl.Laws.{thorough-law as rates};
-    ghost use Rattle.link_bond.specs.contracts.bond.ad_select.BondAdSelectNamedNumber.TheImpl.Laws.{thorough-law as selections};
+    ghost use Rattle.link_bond.specs.contracts.bond.arp_validate.BondArpValidateNamedNumber.TheImpl.Laws.{
+      thorough-law as validations,
+    };
+    ghost use Rattle.link_bond.specs.contracts.bond.arp_all_targets.BondArpAllTargetsNamedNumber.TheImpl.Laws.{
+      thorough-law as target_rules,
+    };
+    ghost use Rattle.link_bond.specs.contracts.bond.primary_reselect.BondPrimaryReselectNamedNumber.TheImpl.Laws.{
+      thorough-law as reselections,
+    };
+    ghost use Rattle.link_bond.specs.contracts.bond.fail_over_mac.BondFailOverMacNamedNumber.TheImpl.Laws.{
+      thorough-law as fail_overs,
+    };
+    ghost use Rattle.link_bond.specs.contracts.bond.xmit_hash_policy.BondXmitHashPolicyNamedNumber.TheImpl.Laws.{
+      thorough-law as policies,
+    };
+    ghost use Rattle.link_bond.specs.contracts.bond.all_port_active.BondAllPortActiveNamedNumber.TheImpl.Laws.{
+      thorough-law as port_rules,
+    };
+    ghost use Rattle.link_bond.specs.contracts.bond.lacp_rate.BondLacpRateNamedNumber.TheImpl.Laws.{
+      thorough-law as rates,
+    };
+    ghost use Rattle.link_bond.specs.contracts.bond.ad_select.BondAdSelectNamedNumber.TheImpl.Laws.{
+      thorough-law as selections,
+    };
     ghost use Rattle.link_bond.specs.contracts.bond.ad_info.BondAdInfoAttribute.TheImpl.Laws.{thorough-law as infos};
     ghost use Rattle.link_bond.specs.contracts.bond.InfoBond.{enum};
 
@@ -433,5 +448,18 @@ impl Attribute for InfoBond {
 
     ghost well_formed = { refl };
 
-    ghost thorough = { of_cases enum _ _ (Prim.search (thorough_fields, modes, validations, target_rules, reselections, fail_overs, policies, port_rules, rates, selections, infos)) };
+    ghost thorough = { of_cases enum _ _
+        (Prim.search (
+          thorough_fields,
+          modes,
+          validations,
+          target_rules,
+          reselections,
+          fail_overs,
+          policies,
+          port_rules,
+          rates,
+          selections,
+          infos,
+        )) };
 }

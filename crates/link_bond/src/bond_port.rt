@@ -1,5 +1,7 @@
 //! The attributes of a port of a bond (`IFLA_INFO_SLAVE_DATA` of a link whose `IFLA_INFO_SLAVE_KIND` is `bond`).
 
+ghost use Rattle.link_bond.specs.BondPort.{bond_port_table, bond_port_means};
+
 mod churn_state;
 mod lacp_state;
 mod mii_status;
@@ -103,8 +105,6 @@ impl TryClone for InfoBondPort {
 }
 
 impl Meaning for InfoBondPort {
-    ghost use Rattle.link_bond.specs.BondPort.{bond_port_table, bond_port_means};
-
     ghost table = { bond_port_table };
 
     ghost means = { bond_port_means };
@@ -200,12 +200,19 @@ impl Parseable for InfoBondPort {
 impl Attribute for InfoBondPort {
     ghost use Rattle.std.specs.Prelude.{refl};
     ghost use Rattle.link_base.proofs.TableLaws.{lawful};
-    ghost use Rattle.link_bond.specs.BondPort.{bond_port_table};
     ghost use Rattle.link_base.specs.Equality.{of_cases, thorough_fields};
-    ghost use Rattle.link_bond.specs.contracts.bond_port.port_state.BondPortStateNamedNumber.TheImpl.Laws.{thorough-law as states};
-    ghost use Rattle.link_bond.specs.contracts.bond_port.mii_status.MiiStatusNamedNumber.TheImpl.Laws.{thorough-law as statuses};
-    ghost use Rattle.link_bond.specs.contracts.bond_port.churn_state.ChurnStateNamedNumber.TheImpl.Laws.{thorough-law as churn_states};
-    ghost use Rattle.link_bond.specs.contracts.bond_port.lacp_state.LacpStateFlagSet.TheImpl.Laws.{thorough-law as flags};
+    ghost use Rattle.link_bond.specs.contracts.bond_port.port_state.BondPortStateNamedNumber.TheImpl.Laws.{
+      thorough-law as states,
+    };
+    ghost use Rattle.link_bond.specs.contracts.bond_port.mii_status.MiiStatusNamedNumber.TheImpl.Laws.{
+      thorough-law as statuses,
+    };
+    ghost use Rattle.link_bond.specs.contracts.bond_port.churn_state.ChurnStateNamedNumber.TheImpl.Laws.{
+      thorough-law as churn_states,
+    };
+    ghost use Rattle.link_bond.specs.contracts.bond_port.lacp_state.LacpStateFlagSet.TheImpl.Laws.{
+      thorough-law as flags,
+    };
     ghost use Rattle.link_bond.specs.contracts.bond_port.InfoBondPort.{enum};
 
     ghost lawful = { lawful bond_port_table };

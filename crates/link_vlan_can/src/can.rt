@@ -1,5 +1,7 @@
 //! The attributes of a CAN controller (`IFLA_INFO_DATA` of a link of kind `can`).
 
+ghost use Rattle.link_vlan_can.specs.Can.{can_table, can_means};
+
 use crate::can_limits::CanBitTimingConst;
 use crate::can_modes::CanCtrlModeExt;
 use crate::can_records::{CanBerrCounter, CanBitTiming, CanClock, CanCtrlMode};
@@ -103,8 +105,6 @@ impl TryClone for InfoCan {
 }
 
 impl Meaning for InfoCan {
-    ghost use Rattle.link_vlan_can.specs.Can.{can_table, can_means};
-
     ghost table = { can_table };
 
     ghost means = { can_means };
@@ -197,16 +197,47 @@ impl Parseable for InfoCan {
 impl Attribute for InfoCan {
     ghost use Rattle.std.specs.Prelude.{refl};
     ghost use Rattle.link_base.proofs.TableLaws.{lawful};
-    ghost use Rattle.link_vlan_can.specs.Can.{can_table};
     ghost use Rattle.link_base.specs.Equality.{of_cases, anything, numbers, lists, defaults};
     ghost use Rattle.link_vlan_can.specs.CanEquality.{timings, limits, clocks, modes, counters};
     ghost use Rattle.link_vlan_can.specs.contracts.can_tdc.CanTdcAttribute.TheImpl.Laws.{thorough-law as tdcs};
-    ghost use Rattle.link_vlan_can.specs.contracts.can_modes.CanCtrlModeExtAttribute.TheImpl.Laws.{thorough-law as exts};
+    ghost use Rattle.link_vlan_can.specs.contracts.can_modes.CanCtrlModeExtAttribute.TheImpl.Laws.{
+      thorough-law as exts,
+    };
     ghost use Rattle.link_vlan_can.specs.contracts.can.InfoCan.{enum};
 
     ghost lawful = { lawful can_table };
 
     ghost well_formed = { refl };
 
-    ghost thorough = { of_cases enum _ _ (anything timings, (limits, (anything clocks, (anything numbers, (anything modes, (anything numbers, (anything numbers, (anything counters, (anything timings, (limits, (anything numbers, (anything numbers, (lists tdcs, (lists exts, (defaults, tt))))))))))))))) };
+    ghost thorough = { of_cases enum _ _ (
+      anything timings,
+      (
+        limits,
+        (
+          anything clocks,
+          (
+            anything numbers,
+            (
+              anything modes,
+              (
+                anything numbers,
+                (
+                  anything numbers,
+                  (
+                    anything counters,
+                    (
+                      anything timings,
+                      (
+                        limits,
+                        (anything numbers, (anything numbers, (lists tdcs, (lists exts, (defaults, tt))))),
+                      ),
+                    ),
+                  ),
+                ),
+              ),
+            ),
+          ),
+        ),
+      ),
+    ) };
 }

@@ -1,5 +1,9 @@
 //! Transmitter delay compensation of a CAN controller.
 
+ghost use Rattle.std.specs.Prelude.{refl, true};
+ghost use Rattle.link_base.specs.Lift.{lift, lift_table};
+ghost use Rattle.link_vlan_can.specs.Can.{tdc_rows, tdc_leaf};
+
 use link_base::{
     Attribute, DecodeError, DefaultNla, Meaning, NestedAttribute, Nla, NlaBuffer, Parseable,
     TryClone, emit_u32, parse_u32,
@@ -69,9 +73,6 @@ impl TryClone for CanTdc {
 }
 
 impl Meaning for CanTdc {
-    ghost use Rattle.link_base.specs.Lift.{lift, lift_table};
-    ghost use Rattle.link_vlan_can.specs.Can.{tdc_rows, tdc_leaf};
-
     ghost table = { lift_table tdc_rows };
 
     ghost means = { λ tdc. lift (tdc_leaf tdc) };
@@ -137,10 +138,7 @@ impl Parseable for CanTdc {
 }
 
 impl Attribute for CanTdc {
-    ghost use Rattle.std.specs.Prelude.{refl};
     ghost use Rattle.link_base.proofs.TableLaws.{lawful};
-    ghost use Rattle.link_base.specs.Lift.{lift_table};
-    ghost use Rattle.link_vlan_can.specs.Can.{tdc_rows};
     ghost use Rattle.link_base.specs.Equality.{of_cases, thorough_fields};
     ghost use Rattle.link_vlan_can.specs.contracts.can_tdc.CanTdc.{enum};
 
@@ -152,9 +150,6 @@ impl Attribute for CanTdc {
 }
 
 impl NestedAttribute for CanTdc {
-    ghost use Rattle.std.specs.Prelude.{true, refl};
-    ghost use Rattle.link_vlan_can.specs.Can.{tdc_rows, tdc_leaf};
-
     ghost rows = { tdc_rows };
 
     ghost flagged = { true };

@@ -1,5 +1,9 @@
 //! The active aggregator of a bond.
 
+ghost use Rattle.std.specs.Prelude.{refl, false};
+ghost use Rattle.link_base.specs.Lift.{lift, lift_table};
+ghost use Rattle.link_bond.specs.AdInfo.{ad_info_rows, ad_info_leaf};
+
 use link_base::{
     Attribute, DecodeError, DefaultNla, Meaning, NestedAttribute, Nla, NlaBuffer, Parseable,
     TryClone, emit_mac, emit_u16, parse_mac, parse_u16,
@@ -49,9 +53,6 @@ impl TryClone for BondAdInfo {
 }
 
 impl Meaning for BondAdInfo {
-    ghost use Rattle.link_base.specs.Lift.{lift, lift_table};
-    ghost use Rattle.link_bond.specs.AdInfo.{ad_info_rows, ad_info_leaf};
-
     ghost table = { lift_table ad_info_rows };
 
     ghost means = { λ info. lift (ad_info_leaf info) };
@@ -107,10 +108,7 @@ impl Parseable for BondAdInfo {
 }
 
 impl Attribute for BondAdInfo {
-    ghost use Rattle.std.specs.Prelude.{refl};
     ghost use Rattle.link_base.proofs.TableLaws.{lawful};
-    ghost use Rattle.link_base.specs.Lift.{lift_table};
-    ghost use Rattle.link_bond.specs.AdInfo.{ad_info_rows};
     ghost use Rattle.link_base.specs.Equality.{of_cases, thorough_fields};
     ghost use Rattle.link_bond.specs.contracts.bond.ad_info.BondAdInfo.{enum};
 
@@ -122,9 +120,6 @@ impl Attribute for BondAdInfo {
 }
 
 impl NestedAttribute for BondAdInfo {
-    ghost use Rattle.std.specs.Prelude.{false, refl};
-    ghost use Rattle.link_bond.specs.AdInfo.{ad_info_rows, ad_info_leaf};
-
     ghost rows = { ad_info_rows };
 
     ghost flagged = { false };

@@ -1,5 +1,8 @@
 //! How a bond chooses its active aggregator.
 
+ghost use Rattle.std.specs.Prelude.{refl, ◌≡◌, Some};
+ghost use Rattle.link_base.specs.Named.{value_of, number_of, displayed, ReadsText};
+
 use link_base::{DecodeError, DecodeFault, NamedNumber};
 use std::fmt;
 use std::str::FromStr;
@@ -31,7 +34,6 @@ pub enum BondAdSelect {
 }
 
 impl NamedNumber for BondAdSelect {
-    ghost use Rattle.std.specs.Prelude.{refl};
     ghost use Rattle.link_base.specs.Equality.{of_cases, thorough_fields};
     ghost use Rattle.link_bond.specs.contracts.bond.ad_select.BondAdSelect.{enum};
     ghost use Rattle.link_bond.specs.AdSelect.{ad_select_names, ad_select_seen, ad_select_cases};
@@ -53,9 +55,6 @@ impl NamedNumber for BondAdSelect {
 
 /// The case of a number, `Other` where it has no name.
 impl From<u8> for BondAdSelect {
-    ghost use Rattle.std.specs.Prelude.{◌≡◌};
-    ghost use Rattle.link_base.specs.Named.{value_of};
-
     ghost from_gives = { λ d v. v ≡ value_of ⟦<BondAdSelect as NamedNumber>⟧.names d };
 
     fn from(number: u8) -> Self {
@@ -71,9 +70,6 @@ impl From<u8> for BondAdSelect {
 
 /// The number of a case.
 impl From<BondAdSelect> for u8 {
-    ghost use Rattle.std.specs.Prelude.{◌≡◌};
-    ghost use Rattle.link_base.specs.Named.{number_of};
-
     ghost from_gives = { λ v d. d ≡ number_of (⟦<BondAdSelect as NamedNumber>⟧.seen v) };
 
     fn from(value: BondAdSelect) -> u8 {
@@ -89,10 +85,8 @@ impl From<BondAdSelect> for u8 {
 
 /// The name, as `stable`; `unknown-variant (9)` for a number without one.
 impl fmt::Display for BondAdSelect {
-    ghost use Rattle.std.specs.Prelude.{Some};
-    ghost use Rattle.link_base.specs.Named.{displayed};
-
-    ghost output = { λ v. Some (displayed ⟦<BondAdSelect as NamedNumber>⟧.names (⟦<BondAdSelect as NamedNumber>⟧.seen v)) };
+    ghost output = { λ v. Some (displayed ⟦<BondAdSelect as NamedNumber>⟧.names
+        (⟦<BondAdSelect as NamedNumber>⟧.seen v)) };
 
     fn fmt<W: fmt::Write>(&self, f: &mut fmt::Formatter<W>) -> fmt::Result {
         match self {
@@ -108,8 +102,6 @@ impl fmt::Display for BondAdSelect {
 /// Reads a displayed name, or the number of one as a digit. Fails with `Text` for every other text.
 impl FromStr for BondAdSelect {
     type Err = DecodeError;
-
-    ghost use Rattle.link_base.specs.Named.{ReadsText};
 
     ghost from_str_gives = { λ text result. ReadsText ⟦<BondAdSelect as NamedNumber>⟧.names text result };
 
