@@ -12,6 +12,7 @@ pub mod Addresses
 pub mod AddressLists
 pub mod Leaves
 pub mod Contents
+pub mod Copies
 pub mod TableLaws
 pub mod Begins
 pub mod Emit

@@ -86,7 +86,7 @@ nested_error kind (list_errors.Fault at f) = errors.Fault (nested_fault kind f)
 
 -- ---- writing
 
--- at most the greatest `usize`
+-- at most `usize::MAX`
 abbrev pub capped : ℕ → ℕ
 capped n = min n (2 ^ 64 - 1)
 

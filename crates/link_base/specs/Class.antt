@@ -55,7 +55,7 @@ pub data Class : Type 0 where
   Many : ℕ → Class
   -- a number of so many bytes, some of which have names
   Named : ℕ → List ℕ → Class
-  -- a VLAN protocol: an EtherType of two bytes, the highest first
+  -- a VLAN protocol: an EtherType of two bytes, in network byte order
   Protocol : Class
   -- the first of two bytes, as a set of flags
   Low : Class

@@ -1,6 +1,7 @@
 //! Lists of IP addresses as the payload of an attribute.
 
-ghost use Rattle.std.specs.Prelude.{◌≡◌, ◌≢◌, ◌≤◌, ◌<◌, ◌^◌, ◌++◌, ◌∷◌, [], ℕ, List, length, map, None, IsTrue, nat_lt, MatchOption, OnOk};
+ghost use Rattle.std.specs.Prelude.{◌≡◌, ◌≢◌, ◌≤◌, ◌<◌, ◌^◌, ◌++◌, ◌∷◌, [], ℕ, List, length, map, None, IsTrue, refl};
+ghost use Rattle.std.specs.Prelude.{nat_lt, MatchOption, OnOk};
 ghost use Rattle.std.specs.List.{AllByRecursion};
 ghost use Rattle.link_base.specs.Frame.{frame_fault, spelled};
 ghost use Rattle.link_base.specs.Table.{Case, Listed, Addresses, ShapeGives, addresses_from, of_length};
@@ -10,7 +11,6 @@ ghost use Rattle.link_base.specs.Answers.{Answers, OnMemory, capped};
 use crate::attribute::{Meaning, Nla};
 use crate::buffer::NlaBuffer;
 use crate::fault::DecodeError;
-use crate::list::step_over;
 use std::alloc::{AllocError, Global};
 use std::net::{Ipv4Addr, Ipv6Addr};
 
@@ -32,7 +32,8 @@ pub trait Address: Copy {
 
     /// The address of these octets; `None` where there are more or fewer.
     fn from_payload(payload: &[u8]) -> Option<Self>
-        ensures { MatchOption result (length payload.now ≢ SIZE) (λ a. (length payload.now ≡ SIZE) × (octets a ≡ payload.now)) };
+        ensures { MatchOption result (length payload.now ≢ SIZE)
+            (λ a. (length payload.now ≡ SIZE) × (octets a ≡ payload.now)) };
 
     /// Writes the octets into a buffer of `SIZE` bytes.
     fn put(&self, buffer: &mut [u8])
@@ -42,7 +43,6 @@ pub trait Address: Copy {
 }
 
 impl Address for Ipv4Addr {
-    ghost use Rattle.std.specs.Prelude.{refl};
     ghost use Rattle.link_base.specs.Addresses.{four_octets};
 
     const SIZE: usize = 4;
@@ -68,7 +68,6 @@ impl Address for Ipv4Addr {
 }
 
 impl Address for Ipv6Addr {
-    ghost use Rattle.std.specs.Prelude.{refl};
     ghost use Rattle.link_base.specs.Addresses.{sixteen_octets};
 
     const SIZE: usize = 16;
@@ -132,7 +131,8 @@ pub fn read_addresses<A: Address>(
     kind: u16,
     payload: &[u8],
 ) -> Result<Vec<A>, DecodeError>
-    ensures answer { Answers (λ vs. Case kind (Listed (map A.octets vs.items))) result (ShapeGives (Addresses A.SIZE) kind payload.now) }
+    ensures answer { Answers (λ vs. Case kind (Listed (map A.octets vs.items))) result
+        (ShapeGives (Addresses A.SIZE) kind payload.now) }
     ensures memory { OnMemory result (frame_fault payload.now ≡ None) }
 {
     let mut addresses = Vec::new(alloc);
@@ -144,16 +144,16 @@ pub fn read_addresses<A: Address>(
             Err(error) => return Err(error.at(at).nested(kind)),
         };
         keep(&mut addresses, element.value()).map_err(DecodeError::Memory)?;
-        let step = step_over(element.length(), rest.len());
-        let (_, after) = rest.split_at(step);
+        let after = element.step_over(rest);
+        at += rest.len() - after.len();
         rest = after;
-        at += step;
     }
     Ok(addresses)
 }
 
 fn keep<A: Address>(addresses: &mut Vec<A>, payload: &[u8]) -> Result<(), AllocError>
-    ensures { OnOk result (map A.octets addresses.new.items ≡ map A.octets addresses.old.items ++ of_length A.SIZE (payload.now ∷ [])) }
+    ensures { OnOk result
+        (map A.octets addresses.new.items ≡ map A.octets addresses.old.items ++ of_length A.SIZE (payload.now ∷ [])) }
 {
     if let Some(address) = A::from_payload(payload) {
         addresses.push(address)?;
@@ -161,7 +161,7 @@ fn keep<A: Address>(addresses: &mut Vec<A>, payload: &[u8]) -> Result<(), AllocE
     Ok(())
 }
 
-/// The bytes of a written list of addresses; the greatest `usize` where there are that many or more.
+/// The bytes of a written list of addresses; `usize::MAX` where there are that many or more.
 pub fn addresses_len<A: Address>(addresses: &[A]) -> usize
     ensures { result ≡ capped (length (spelled (addresses_from 0 (map A.octets addresses.now)))) }
 {

@@ -3,7 +3,8 @@
 ghost use Rattle.std.specs.Prelude.{◌≡◌, ◌≤◌, ◌-◌, ◌++◌, ◌↔◌, IsTrue, length, take, drop, replicate};
 ghost use Rattle.link_base.specs.Number.{bytes_of};
 ghost use Rattle.link_base.specs.Frame.{kind_of};
-ghost use Rattle.link_base.specs.Table.{Table, AttrValue, Gives, TakesMemory, Fits, written_kind, written_payload, written_frame};
+ghost use Rattle.link_base.specs.Table.{Table, AttrValue, Gives, TakesMemory, Fits};
+ghost use Rattle.link_base.specs.Table.{written_kind, written_payload, written_frame};
 ghost use Rattle.link_base.specs.Held.{IsInRange};
 ghost use Rattle.link_base.specs.WellFormed.{is_table};
 ghost use Rattle.link_base.specs.Lawful.{IsLawful};
@@ -15,7 +16,7 @@ use crate::buffer::NlaBuffer;
 use crate::fault::{DecodeError, of_kind};
 use std::alloc::Global;
 
-/// The most bytes of a payload: the greatest `nla_len`, 65535, without the four of the header.
+/// The maximum length of a payload: the maximum `nla_len`, 65535, without the four bytes of the header.
 pub(crate) const MAX_PAYLOAD: usize = 65531;
 
 /// What the values of a type stand for. It has no methods: contracts cite it.
@@ -33,7 +34,7 @@ pub trait Nla: Meaning {
     fn kind(&self) -> u16
         ensures { result ≡ written_kind (Self.means self.now) };
 
-    /// The bytes of the written payload; the greatest `usize` where it has that many or more.
+    /// The bytes of the written payload; `usize::MAX` where it has that many or more.
     fn value_len(&self) -> usize
         ensures { result ≡ capped (length (written_payload (Self.means self.now))) };
 
@@ -51,8 +52,8 @@ pub trait Nla: Meaning {
         self.value_len() <= MAX_PAYLOAD
     }
 
-    /// The bytes of the written frame: header, payload, and padding up to a multiple of four; the greatest `usize`
-    /// where it has that many or more.
+    /// The bytes of the written frame: header, payload, and padding up to a multiple of four; `usize::MAX` where it has
+    /// that many or more.
     fn buffer_len(&self) -> usize
         ensures { result ≡ capped (length (written_frame (Self.means self.now))) }
     {
@@ -99,10 +100,11 @@ fn put_zeros(buffer: &mut [u8], start: usize, end: usize)
 
 /// A value that can be read from an attribute. A type gives `parse_payload`, a `match` on the kind.
 pub trait Parseable: Meaning + Drop {
-    /// What a type gives for `parse`, which is the call to use: the same answer, except that the fault of a bad payload may
-    /// come without its kind (`Payload`).
+    /// What a type gives for `parse`, which is the call to use: the same answer, except that the fault of a bad payload
+    /// may come without its kind (`Payload`).
     fn parse_payload(alloc: Global, buffer: &NlaBuffer<'_>) -> Result<Self, DecodeError>
-        ensures answer { Answers Self.means (under_kind (kind_of (kind_field_of buffer.now)) result) (Gives Self.table (kind_field_of buffer.now) (payload_of buffer.now)) }
+        ensures answer { Answers Self.means (under_kind (kind_of (kind_field_of buffer.now)) result)
+            (Gives Self.table (kind_field_of buffer.now) (payload_of buffer.now)) }
         ensures memory { OnMemory result (TakesMemory Self.table (kind_field_of buffer.now)) };
 
     /// The value of a frame.
@@ -110,7 +112,8 @@ pub trait Parseable: Meaning + Drop {
     /// Fails with `Value`, `NestedFrame` or `NestedValue` where the kind has a case and the payload is not one of
     /// it, and with `Memory` only where the case, or `Other`, holds memory of its own.
     fn parse(alloc: Global, buffer: &NlaBuffer<'_>) -> Result<Self, DecodeError>
-        ensures answer { Answers Self.means result (Gives Self.table (kind_field_of buffer.now) (payload_of buffer.now)) }
+        ensures answer { Answers Self.means result
+            (Gives Self.table (kind_field_of buffer.now) (payload_of buffer.now)) }
         ensures memory { OnMemory result (TakesMemory Self.table (kind_field_of buffer.now)) }
     {
         of_kind(buffer.kind(), Self::parse_payload(alloc, buffer))

@@ -1,15 +1,18 @@
 //! One frame of a list.
 
-ghost use Rattle.std.specs.Prelude.{◌≡◌, ◌+◌, ◌≤◌, ◌↔◌, IsTrue, IsBitSet, length, slice_range, MatchResult, IfOk};
-ghost use Rattle.link_base.specs.Frame.{BeginsWith, kind_of};
+ghost use Rattle.std.specs.Prelude.{◌≡◌, ◌+◌, ◌≤◌, ◌↔◌, IsTrue, IsBitSet, length, drop, min, MatchResult};
+ghost use Rattle.link_base.specs.Frame.{BeginsWith, kind_of, pad};
 
 use crate::fault::{Cause, DecodeError, DecodeFault};
 
-const NLA_F_NESTED: u16 = 0x8000;
+/// The flag of `nla_type` that says that the payload is a list of attributes (`include/uapi/linux/netlink.h`).
+pub const NLA_F_NESTED: u16 = 0x8000;
 
-const NLA_F_NET_BYTEORDER: u16 = 0x4000;
+/// The flag of `nla_type` that says that the payload is in network byte order (`include/uapi/linux/netlink.h`).
+pub const NLA_F_NET_BYTEORDER: u16 = 0x4000;
 
-const NLA_TYPE_MASK: u16 = 0x3FFF;
+/// The bits of `nla_type` that are the kind: all but the two flags (`include/uapi/linux/netlink.h`).
+pub const NLA_TYPE_MASK: u16 = 0x3FFF;
 
 /// The frame at the front of some bytes, without its padding: a `struct nlattr` and its payload
 /// (`include/uapi/linux/netlink.h`). It borrows the bytes and copies none.
@@ -106,5 +109,14 @@ impl<'a> NlaBuffer<'a> {
         ensures { result.now ≡ payload_of self.now }
     {
         self.payload
+    }
+
+    /// What follows this frame and its padding in the bytes that begin with it.
+    #[inline]
+    pub(crate) fn step_over<'b>(&self, bytes: &'b [u8]) -> &'b [u8]
+        ensures { result.now ≡ drop (min (pad (4 + length (payload_of self.now))) (length bytes.now)) bytes.now }
+    {
+        let step = ((usize::from(self.length()) + 3) / 4 * 4).min(bytes.len());
+        &bytes[step..]
     }
 }

@@ -5,7 +5,7 @@ ghost use Rattle.std.specs.Prelude.{◌≡◌, ◌++◌, ◌-◌, length, replic
 use std::alloc::{AllocError, Global};
 
 /// The bytes of `got`, and zeros behind them up to `size` bytes where they are fewer: how a structure of a kernel
-/// older than the reader is made whole. Fails where a growth was refused.
+/// older than the reader is made whole. Fails where allocation failed.
 pub fn expand_buffer_if_small(alloc: Global, got: &[u8], size: usize) -> Result<Vec<u8>, AllocError>
     ensures { IfOk result (λ bytes. bytes.items ≡ got.now ++ replicate (size - length got.now) 0) }
 {

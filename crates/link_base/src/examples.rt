@@ -11,37 +11,44 @@ ghost use Rattle.link_base.specs.Examples.{ReadsAndWrites, numbers, addresses, l
 
 /// A number is written as it was read.
 pub fn number()
-    ensures { ReadsAndWrites numbers (0x08 ∷ 0 ∷ 1 ∷ 0 ∷ 0x2a ∷ 0 ∷ 0 ∷ 0 ∷ []) (Case 1 (Single (Number 4 42)) ∷ []) (0x08 ∷ 0 ∷ 1 ∷ 0 ∷ 0x2a ∷ 0 ∷ 0 ∷ 0 ∷ []) }
+    ensures { ReadsAndWrites numbers (0x08 ∷ 0 ∷ 1 ∷ 0 ∷ 0x2a ∷ 0 ∷ 0 ∷ 0 ∷ []) (Case 1 (Single (Number 4 42)) ∷ [])
+        (0x08 ∷ 0 ∷ 1 ∷ 0 ∷ 0x2a ∷ 0 ∷ 0 ∷ 0 ∷ []) }
 {}
 
 /// A kind without a row keeps its flags and its payload, and the missing padding is written.
 pub fn unknown_kind()
-    ensures { ReadsAndWrites pairs (0x06 ∷ 0 ∷ 0x63 ∷ 0xc0 ∷ 0xde ∷ 0xad ∷ []) (Other 0xC063 (0xde ∷ 0xad ∷ []) ∷ []) (0x06 ∷ 0 ∷ 0x63 ∷ 0xc0 ∷ 0xde ∷ 0xad ∷ 0 ∷ 0 ∷ []) }
+    ensures { ReadsAndWrites pairs (0x06 ∷ 0 ∷ 0x63 ∷ 0xc0 ∷ 0xde ∷ 0xad ∷ []) (Other 0xC063 (0xde ∷ 0xad ∷ []) ∷ [])
+        (0x06 ∷ 0 ∷ 0x63 ∷ 0xc0 ∷ 0xde ∷ 0xad ∷ 0 ∷ 0 ∷ []) }
 {}
 
 /// A payload that means nothing is dropped.
 pub fn ignored_payload()
-    ensures { ReadsAndWrites lists (0x07 ∷ 0 ∷ 0x15 ∷ 0 ∷ 1 ∷ 2 ∷ 3 ∷ 0 ∷ []) (Case 21 (Single Nothing) ∷ []) (0x04 ∷ 0 ∷ 0x15 ∷ 0 ∷ []) }
+    ensures { ReadsAndWrites lists (0x07 ∷ 0 ∷ 0x15 ∷ 0 ∷ 1 ∷ 2 ∷ 3 ∷ 0 ∷ []) (Case 21 (Single Nothing) ∷ [])
+        (0x04 ∷ 0 ∷ 0x15 ∷ 0 ∷ []) }
 {}
 
 /// An empty list is read without the nested flag, and written with it.
 pub fn empty_list()
-    ensures { ReadsAndWrites lists (0x04 ∷ 0 ∷ 0x2f ∷ 0 ∷ []) (Case 47 (Inner true []) ∷ []) (0x04 ∷ 0 ∷ 0x2f ∷ 0x80 ∷ []) }
+    ensures { ReadsAndWrites lists (0x04 ∷ 0 ∷ 0x2f ∷ 0 ∷ []) (Case 47 (Inner true []) ∷ [])
+        (0x04 ∷ 0 ∷ 0x2f ∷ 0x80 ∷ []) }
 {}
 
 /// A frame of an address list reaches past the end of the list.
 pub fn address_overrun()
-    ensures { FirstFault (Gives addresses) (0x0a ∷ 0 ∷ 8 ∷ 0 ∷ 9 ∷ 0 ∷ 0 ∷ 0 ∷ 0x0a ∷ 0 ∷ 0 ∷ 0 ∷ []) 0 (faults.NestedFrame 8 (Overrun 9 6)) }
+    ensures { FirstFault (Gives addresses) (0x0a ∷ 0 ∷ 8 ∷ 0 ∷ 9 ∷ 0 ∷ 0 ∷ 0 ∷ 0x0a ∷ 0 ∷ 0 ∷ 0 ∷ []) 0
+        (faults.NestedFrame 8 (Overrun 9 6)) }
 {}
 
 /// A bad value is named before a later bad frame.
 pub fn value_before_frame()
-    ensures { FirstFault (Gives numbers) (0x05 ∷ 0 ∷ 1 ∷ 0 ∷ 0x2a ∷ 0 ∷ 0 ∷ 0 ∷ 3 ∷ 0 ∷ []) 0 (faults.Value 1 (WrongLength 4 1)) }
+    ensures { FirstFault (Gives numbers) (0x05 ∷ 0 ∷ 1 ∷ 0 ∷ 0x2a ∷ 0 ∷ 0 ∷ 0 ∷ 3 ∷ 0 ∷ []) 0
+        (faults.Value 1 (WrongLength 4 1)) }
 {}
 
 /// A byte behind a complete frame is no padding.
 pub fn short_frame()
-    ensures { FirstFault (Gives numbers) (0x08 ∷ 0 ∷ 1 ∷ 0 ∷ 0x2a ∷ 0 ∷ 0 ∷ 0 ∷ 0 ∷ []) 8 (faults.Frame (ShortFrame 1)) }
+    ensures { FirstFault (Gives numbers) (0x08 ∷ 0 ∷ 1 ∷ 0 ∷ 0x2a ∷ 0 ∷ 0 ∷ 0 ∷ 0 ∷ []) 8
+        (faults.Frame (ShortFrame 1)) }
 {}
 
 /// A length is below that of the header.
@@ -56,13 +63,17 @@ pub fn overrun()
 
 /// An element of a nested list has a bad payload.
 pub fn nested_value()
-    ensures { FirstFault (Gives pairs) (0x0f ∷ 0 ∷ 3 ∷ 0 ∷ 0x0b ∷ 0 ∷ 1 ∷ 0 ∷ 1 ∷ 0 ∷ 0 ∷ 0 ∷ 2 ∷ 0 ∷ 0 ∷ 0 ∷ []) 0 (faults.NestedValue 3 1 (WrongLength 8 7)) }
+    ensures { FirstFault (Gives pairs) (0x0f ∷ 0 ∷ 3 ∷ 0 ∷ 0x0b ∷ 0 ∷ 1 ∷ 0 ∷ 1 ∷ 0 ∷ 0 ∷ 0 ∷ 2 ∷ 0 ∷ 0 ∷ 0 ∷ []) 0
+        (faults.NestedValue 3 1 (WrongLength 8 7)) }
 {}
 
 /// A name field of 16 bytes loses its last byte; what is left of a character becomes U+FFFD, itself cut short; and then
 /// the field stays.
 pub fn cut_names()
-    ensures first { name_field (name_of (after_letters (0xe4 ∷ 0xbd ∷ 0xa0 ∷ []))) ≡ after_letters (0xe4 ∷ 0xbd ∷ 0x00 ∷ []) }
-    ensures second { name_field (name_of (after_letters (0xe4 ∷ 0xbd ∷ 0x00 ∷ []))) ≡ after_letters (0xef ∷ 0xbf ∷ 0x00 ∷ []) }
-    ensures third { name_field (name_of (after_letters (0xef ∷ 0xbf ∷ 0x00 ∷ []))) ≡ after_letters (0xef ∷ 0xbf ∷ 0x00 ∷ []) }
+    ensures first { name_field (name_of (after_letters (0xe4 ∷ 0xbd ∷ 0xa0 ∷ [])))
+        ≡ after_letters (0xe4 ∷ 0xbd ∷ 0x00 ∷ []) }
+    ensures second { name_field (name_of (after_letters (0xe4 ∷ 0xbd ∷ 0x00 ∷ [])))
+        ≡ after_letters (0xef ∷ 0xbf ∷ 0x00 ∷ []) }
+    ensures third { name_field (name_of (after_letters (0xef ∷ 0xbf ∷ 0x00 ∷ [])))
+        ≡ after_letters (0xef ∷ 0xbf ∷ 0x00 ∷ []) }
 {}

@@ -1,7 +1,9 @@
 //! Why bytes could not be read, or values not written.
 
-ghost use Rattle.std.specs.Prelude.{◌≡◌};
-ghost use Rattle.link_base.specs.Answers.{under_kind};
+ghost use Rattle.std.specs.Prelude.{◌≡◌, Some};
+ghost use Rattle.link_base.specs.Table.{nested_fault};
+ghost use Rattle.link_base.specs.Answers.{under_kind, value_error, list_error, nested_error};
+ghost use Rattle.link_base.specs.Texts.{cause_text, value_text, fault_text};
 
 use std::alloc::AllocError;
 use std::fmt;
@@ -27,9 +29,6 @@ pub enum Cause {
 }
 
 impl fmt::Display for Cause {
-    ghost use Rattle.link_base.specs.Texts.{cause_text};
-    ghost use Rattle.std.specs.Prelude.{Some};
-
     ghost output = { λ c. Some (cause_text c) };
 
     fn fmt<W: fmt::Write>(&self, f: &mut fmt::Formatter<W>) -> fmt::Result {
@@ -69,9 +68,6 @@ struct ValueFault {
 }
 
 impl fmt::Display for ValueFault {
-    ghost use Rattle.link_base.specs.Texts.{value_text};
-    ghost use Rattle.std.specs.Prelude.{Some};
-
     ghost output = { λ v. Some (value_text v.kind v.cause) };
 
     fn fmt<W: fmt::Write>(&self, f: &mut fmt::Formatter<W>) -> fmt::Result {
@@ -82,9 +78,6 @@ impl fmt::Display for ValueFault {
 }
 
 impl fmt::Display for DecodeFault {
-    ghost use Rattle.link_base.specs.Texts.{fault_text};
-    ghost use Rattle.std.specs.Prelude.{Some};
-
     ghost output = { λ fault. Some (fault_text fault) };
 
     fn fmt<W: fmt::Write>(&self, f: &mut fmt::Formatter<W>) -> fmt::Result {
@@ -108,7 +101,7 @@ impl fmt::Display for DecodeFault {
 /// Why one value could not be read.
 #[derive(Debug, Drop, PartialEq, Eq, Error)]
 pub enum DecodeError {
-    /// A growth was refused.
+    /// Allocation failed.
     #[error("no memory")]
     Memory(#[from(alloc)] AllocError),
     /// The bytes are at fault.
@@ -117,9 +110,6 @@ pub enum DecodeError {
 }
 
 impl DecodeError {
-    ghost use Rattle.std.specs.Prelude.{◌≡◌};
-    ghost use Rattle.link_base.specs.Answers.{list_error, value_error};
-
     /// The error of the attribute of this kind whose payload has this error.
     pub fn of_kind(self, kind: u16) -> DecodeError
         ensures { result ≡ value_error kind self }
@@ -157,7 +147,7 @@ pub(crate) fn of_kind<T: Drop>(kind: u16, read: Result<T, DecodeError>) -> Resul
 /// Why a list could not be read.
 #[derive(Debug, Drop, PartialEq, Eq, Error)]
 pub enum ListError {
-    /// A growth was refused.
+    /// Allocation failed.
     #[error("no memory")]
     Memory(#[from(alloc)] AllocError),
     /// The first fault, and the byte offset of the frame that has it.
@@ -166,9 +156,6 @@ pub enum ListError {
 }
 
 impl ListError {
-    ghost use Rattle.std.specs.Prelude.{◌≡◌};
-    ghost use Rattle.link_base.specs.Answers.{nested_error};
-
     /// The error of the attribute of this kind whose nested list has this error: the offset is dropped.
     pub fn nested(self, kind: u16) -> DecodeError
         ensures { result ≡ nested_error kind self }
@@ -181,9 +168,6 @@ impl ListError {
 }
 
 impl DecodeFault {
-    ghost use Rattle.std.specs.Prelude.{◌≡◌};
-    ghost use Rattle.link_base.specs.Table.{nested_fault};
-
     fn nested(self, kind: u16) -> DecodeFault
         ensures { result ≡ nested_fault kind self }
     {
@@ -200,7 +184,7 @@ impl DecodeFault {
 /// Why values could not be written.
 #[derive(Debug, Drop, PartialEq, Eq, Error)]
 pub enum WriteError {
-    /// A growth was refused.
+    /// Allocation failed.
     #[error("no memory")]
     Memory(#[from(alloc)] AllocError),
     /// The first value, counted from 0, whose written payload has more than 65531 bytes.

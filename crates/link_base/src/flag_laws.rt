@@ -50,7 +50,8 @@ pub fn every_bit_known<F: KnownBits>()
     // `is_all` asks whether every bit is set
     ensures is_all { (n : ℕ) → n < 2 ^ F.Bits.size → (bit_or (known_bits F.table) n == n) ≡ (n == 2 ^ F.Bits.size - 1) }
     // `complement` has the bits that are not set
-    ensures complement { (n : ℕ) → n < 2 ^ F.Bits.size → bit_and (2 ^ F.Bits.size - 1 - n) (known_bits F.table) ≡ 2 ^ F.Bits.size - 1 - n }
+    ensures complement { (n : ℕ) → n < 2 ^ F.Bits.size
+        → bit_and (2 ^ F.Bits.size - 1 - n) (known_bits F.table) ≡ 2 ^ F.Bits.size - 1 - n }
     // `contains_unknown_bits` answers `false`
     ensures none_unknown { (n : ℕ) → n < 2 ^ F.Bits.size → not (bit_and (known_bits F.table) n == n) ≡ false }
 {}

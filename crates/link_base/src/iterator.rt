@@ -1,8 +1,11 @@
 //! The frames of a list, one after another.
 
+ghost use Rattle.std.specs.Prelude.{◌≡◌, length, ◌+◌, ◌/◌};
+ghost use Rattle.std.specs.Iterator.{at_most};
+ghost use Rattle.link_base.specs.Items.{bytes_left, NextFrame};
+
 use crate::buffer::NlaBuffer;
 use crate::fault::DecodeError;
-use crate::list::step_over;
 
 /// The frames of some bytes, and then their first frame fault, if they have one, as the last item. It borrows the
 /// bytes, copies none, and takes no memory.
@@ -12,9 +15,6 @@ pub struct NlasIterator<'a> {
 }
 
 impl<'a> NlasIterator<'a> {
-    ghost use Rattle.std.specs.Prelude.{◌≡◌};
-    ghost use Rattle.link_base.specs.Items.{bytes_left};
-
     /// The frames of these bytes.
     pub fn new(bytes: &'a [u8]) -> Self
         ensures { bytes_left result ≡ bytes.now }
@@ -24,10 +24,6 @@ impl<'a> NlasIterator<'a> {
 }
 
 impl<'a> Iterator for NlasIterator<'a> {
-    ghost use Rattle.std.specs.Prelude.{length, ◌+◌, ◌/◌};
-    ghost use Rattle.std.specs.Iterator.{at_most};
-    ghost use Rattle.link_base.specs.Items.{bytes_left, NextFrame};
-
     type Item = Result<NlaBuffer<'a>, DecodeError>;
 
     ghost next_gives = { λ s r t. NextFrame (bytes_left s) r (bytes_left t) };
@@ -40,9 +36,7 @@ impl<'a> Iterator for NlasIterator<'a> {
         }
         match NlaBuffer::new_checked(self.rest) {
             Ok(buffer) => {
-                let step = step_over(buffer.length(), self.rest.len());
-                let (_, after) = self.rest.split_at(step);
-                self.rest = after;
+                self.rest = buffer.step_over(self.rest);
                 Some(Ok(buffer))
             }
             Err(error) => {

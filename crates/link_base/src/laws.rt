@@ -1,6 +1,7 @@
 //! The laws of lists: what is proved of every family, and of every table. Nothing here runs.
 
-ghost use Rattle.std.specs.Prelude.{◌≡◌, ◌↔◌, ℕ, ◌+◌, ◌/◌, ◌%◌, ◌<◌, ◌≤◌, true, List, ◌++◌, length, map, None, Result, Ok, IsTrue};
+ghost use Rattle.std.specs.Prelude.{◌≡◌, ◌↔◌, ℕ, ◌+◌, ◌/◌, ◌%◌, ◌<◌, ◌≤◌, true, List, ◌++◌, length, map};
+ghost use Rattle.std.specs.Prelude.{None, Result, Ok, IsTrue};
 ghost use Rattle.std.specs.List.{AllByRecursion};
 ghost use Rattle.link_base.specs.declared.fault.Cause.{Cause};
 ghost use Rattle.link_base.specs.declared.fault.DecodeFault.{DecodeFault};
@@ -8,17 +9,22 @@ ghost use Rattle.std.specs.Iterator.{Drains};
 ghost use Rattle.link_base.specs.declared.buffer.NlaBuffer.{NlaBuffer};
 ghost use Rattle.link_base.specs.declared.iterator.NlasIterator.{NlasIterator};
 ghost use Rattle.link_base.specs.declared.fault.DecodeError.{DecodeError};
+ghost use Rattle.link_base.specs.declared.fault.ListError.{ListError};
+ghost use Rattle.link_base.specs.declared.fault.WriteError.{WriteError};
+ghost use Rattle.link_base.specs.Buffer.{kind_field_of, payload_of};
 ghost use Rattle.link_base.specs.Items.{AreItems, bytes_left};
 ghost use Rattle.link_base.specs.Number.{IsBytes};
 ghost use Rattle.link_base.specs.Frame.{Frame, Frames, kind_of, pad};
 ghost use Rattle.link_base.specs.Wire.{Wire, FirstFault, Reads};
-ghost use Rattle.link_base.specs.Table.{Table, AttrValue, Other, class_at, Gives, written_kind, written_payload, written_list, Fits, canon, cut, Canonical, Rewriting};
+ghost use Rattle.link_base.specs.Table.{Table, AttrValue, Other, class_at, Gives, Fits, canon, cut};
+ghost use Rattle.link_base.specs.Table.{Canonical, Rewriting, written_kind, written_payload, written_list};
 ghost use Rattle.link_base.specs.Held.{IsInRange, HidesNone, IsPlain};
 ghost use Rattle.link_base.specs.WellFormed.{is_table, IsOverfull};
 ghost use Rattle.link_base.specs.Lawful.{IsLawful};
 
 use crate::attribute::Attribute;
-use crate::fault::{Cause, DecodeFault};
+use crate::buffer::NlaBuffer;
+use crate::fault::{Cause, DecodeError, DecodeFault, ListError, WriteError};
 use crate::iterator::NlasIterator;
 
 // ---- tables
@@ -30,7 +36,8 @@ pub fn lawful()
 
 /// In each table each string of bytes reads as its values or as its first fault, and as one of these only.
 pub fn one_reading()
-    ensures either { (table : Table) (s : List ℕ) → IsBytes s → (q : Result (List AttrValue) (ℕ × DecodeFault)) × Reads (Gives table) s q }
+    ensures either { (table : Table) (s : List ℕ) → IsBytes s
+        → (q : Result (List AttrValue) (ℕ × DecodeFault)) × Reads (Gives table) s q }
     ensures only { (table : Table) (s : List ℕ) (q r : Result (List AttrValue) (ℕ × DecodeFault))
         → Reads (Gives table) s q → Reads (Gives table) s r → q ≡ r }
 {}
@@ -43,32 +50,50 @@ pub fn one_cut()
 /// In a well-formed table a value that was read fits into a frame, but for a nested list that fills the last bytes of
 /// the longest payload.
 pub fn limit()
-    ensures { (table : Table) (f : ℕ) (p : List ℕ) (v : AttrValue) → is_table table ≡ true → IsBytes p → length p ≤ 65531
-        → Gives table f p (Ok v) → (¬ (Fits v)) ↔ IsOverfull (class_at table (kind_of f)) p }
+    ensures { (table : Table) (f : ℕ) (p : List ℕ) (v : AttrValue) → is_table table ≡ true → IsBytes p
+        → length p ≤ 65531 → Gives table f p (Ok v) → (¬ (Fits v)) ↔ IsOverfull (class_at table (kind_of f)) p }
 {}
 
 /// In a whole run an iterator gives the frames of its bytes, or those before the first frame fault and then the fault,
 /// and at most one item for each four bytes and one more.
 pub fn items()
-    ensures { (it : NlasIterator) (items : List (Result NlaBuffer DecodeError)) → Drains (⟦<NlasIterator<'static> as Iterator>⟧.next_gives) it items
+    ensures { (it : NlasIterator) (items : List (Result NlaBuffer DecodeError))
+        → Drains (⟦<NlasIterator<'static> as Iterator>⟧.next_gives) it items
         → AreItems (bytes_left it) items × (length items ≤ length (bytes_left it) / 4 + 1) }
 {}
 
 // ---- equality
 
-/// `==` looks at every field, and is an equivalence: equal values stand for the same attribute; it is reflexive, symmetric and
-/// transitive.
+/// `==` looks at every field, and is an equivalence: equal values stand for the same attribute; it is reflexive,
+/// symmetric and transitive.
 pub fn equality<F: Attribute>()
     ensures same { (a b : F) → IsTrue (F.PartialEq.eq a b) → F.means a ≡ F.means b }
     ensures itself { (a : F) → IsTrue (F.PartialEq.eq a a) }
     ensures either_way { (a b : F) → F.PartialEq.eq a b ≡ F.PartialEq.eq b a }
-    ensures chained { (a b c : F) → IsTrue (F.PartialEq.eq a b) → IsTrue (F.PartialEq.eq b c) → IsTrue (F.PartialEq.eq a c) }
+    ensures chained { (a b c : F) → IsTrue (F.PartialEq.eq a b) → IsTrue (F.PartialEq.eq b c)
+        → IsTrue (F.PartialEq.eq a c) }
 {}
 
 /// Two causes, or two faults, are equal exactly where they are the same.
 pub fn fault_equality()
     ensures cause { (a b : Cause) → IsTrue (⟦<Cause as PartialEq>⟧.eq a b) ↔ (a ≡ b) }
     ensures fault { (a b : DecodeFault) → IsTrue (⟦<DecodeFault as PartialEq>⟧.eq a b) ↔ (a ≡ b) }
+{}
+
+/// Two errors of a payload, of a list, or of writing, are equal exactly where they are the same.
+pub fn error_equality()
+    ensures decode { (a b : DecodeError) → IsTrue (⟦<DecodeError as PartialEq>⟧.eq a b) ↔ (a ≡ b) }
+    ensures list { (a b : ListError) → IsTrue (⟦<ListError as PartialEq>⟧.eq a b) ↔ (a ≡ b) }
+    ensures write { (a b : WriteError) → IsTrue (⟦<WriteError as PartialEq>⟧.eq a b) ↔ (a ≡ b) }
+{}
+
+/// Two frames are equal exactly where they have the same kind field and the same payload, and two iterators exactly
+/// where they have the same bytes left.
+pub fn frame_equality()
+    ensures frame { (a b : NlaBuffer) → IsTrue (⟦<NlaBuffer<'static> as PartialEq>⟧.eq a b)
+        ↔ ((kind_field_of a ≡ kind_field_of b) × (payload_of a ≡ payload_of b)) }
+    ensures iterator { (a b : NlasIterator) → IsTrue (⟦<NlasIterator<'static> as PartialEq>⟧.eq a b)
+        ↔ (bytes_left a ≡ bytes_left b) }
 {}
 
 // ---- families: values that were read
@@ -81,12 +106,16 @@ pub fn reads_back<F: Attribute>()
 
 /// A value that was read is in range, hides no kind that has a row, and is its own canon.
 pub fn read_values<F: Attribute>()
-    ensures in_range { (f : ℕ) (p : List ℕ) (v : AttrValue) → f < 65536 → IsBytes p → Gives F.table f p (Ok v) → IsInRange F.table v }
-    ensures hides_none { (f : ℕ) (p : List ℕ) (v : AttrValue) → f < 65536 → IsBytes p → Gives F.table f p (Ok v) → HidesNone F.table v }
-    ensures own { (f : ℕ) (p : List ℕ) (v : AttrValue) → f < 65536 → IsBytes p → Gives F.table f p (Ok v) → canon v ≡ v }
+    ensures in_range { (f : ℕ) (p : List ℕ) (v : AttrValue) → f < 65536 → IsBytes p → Gives F.table f p (Ok v)
+        → IsInRange F.table v }
+    ensures hides_none { (f : ℕ) (p : List ℕ) (v : AttrValue) → f < 65536 → IsBytes p → Gives F.table f p (Ok v)
+        → HidesNone F.table v }
+    ensures own { (f : ℕ) (p : List ℕ) (v : AttrValue) → f < 65536 → IsBytes p → Gives F.table f p (Ok v)
+        → canon v ≡ v }
 {}
 
-/// Where no row has the kind, the value that is read is `Other` of the kind field and the payload, and is written with both.
+/// Where no row has the kind, the value that is read is `Other` of the kind field and the payload, and is written with
+/// both.
 pub fn other_kept<F: Attribute>()
     ensures { (f : ℕ) (p : List ℕ) (v : AttrValue) → class_at F.table (kind_of f) ≡ None → Gives F.table f p (Ok v)
         → (v ≡ Other f p) × (written_kind v ≡ f) × (written_payload v ≡ p) }
@@ -95,10 +124,11 @@ pub fn other_kept<F: Attribute>()
 /// A string behind another that is read and whose length is a multiple of four: its values come after those of the
 /// first, or its first fault stands as much further on.
 pub fn joined<F: Attribute>()
-    ensures values { (a b : List ℕ) (vs ws : List AttrValue) → length a % 4 ≡ 0 → Wire (Gives F.table) a vs → Wire (Gives F.table) b ws
-        → Wire (Gives F.table) (a ++ b) (vs ++ ws) }
-    ensures fault { (a b : List ℕ) (vs : List AttrValue) (at : ℕ) (fault : DecodeFault) → length a % 4 ≡ 0 → Wire (Gives F.table) a vs
-        → FirstFault (Gives F.table) b at fault → FirstFault (Gives F.table) (a ++ b) (length a + at) fault }
+    ensures values { (a b : List ℕ) (vs ws : List AttrValue) → length a % 4 ≡ 0
+        → Wire (Gives F.table) a vs → Wire (Gives F.table) b ws → Wire (Gives F.table) (a ++ b) (vs ++ ws) }
+    ensures fault { (a b : List ℕ) (vs : List AttrValue) (at : ℕ) (fault : DecodeFault) → length a % 4 ≡ 0
+        → Wire (Gives F.table) a vs → FirstFault (Gives F.table) b at fault
+        → FirstFault (Gives F.table) (a ++ b) (length a + at) fault }
 {}
 
 // ---- families: values that a program holds
@@ -123,7 +153,8 @@ pub fn plain_uncut<F: Attribute>()
 
 /// A value and its canon are written with one kind field and one payload.
 pub fn one_form()
-    ensures { (v : AttrValue) → (written_kind (canon v) ≡ written_kind v) × (written_payload (canon v) ≡ written_payload v) }
+    ensures { (v : AttrValue) → (written_kind (canon v) ≡ written_kind v)
+        × (written_payload (canon v) ≡ written_payload v) }
 {}
 
 // ---- families: rewritings and canonical strings
@@ -133,14 +164,17 @@ pub fn one_form()
 pub fn rewriting<F: Attribute>()
     ensures same { (s t : List ℕ) → IsBytes s → Rewriting F.table s t → (t ≡ s) ↔ Canonical F.table s }
     ensures no_longer { (s t : List ℕ) → IsBytes s → Rewriting F.table s t → length t ≤ pad (length s) }
-    ensures second { (s t : List ℕ) → IsBytes s → Rewriting F.table s t → (u : List ℕ) × Rewriting F.table t u × Canonical F.table u × Rewriting F.table u u }
+    ensures second { (s t : List ℕ) → IsBytes s → Rewriting F.table s t
+        → (u : List ℕ) × Rewriting F.table t u × Canonical F.table u × Rewriting F.table u u }
 {}
 
 /// A string has at most one rewriting, and a second rewriting is its own rewriting, and its only one.
 pub fn one_rewriting<F: Attribute>()
     ensures at_most_one { (s t u : List ℕ) → Rewriting F.table s t → Rewriting F.table s u → t ≡ u }
-    ensures second { (s t u : List ℕ) → IsBytes s → Rewriting F.table s t → Rewriting F.table t u → Rewriting F.table u u }
-    ensures third { (s t u w : List ℕ) → IsBytes s → Rewriting F.table s t → Rewriting F.table t u → Rewriting F.table u w → w ≡ u }
+    ensures second { (s t u : List ℕ) → IsBytes s → Rewriting F.table s t → Rewriting F.table t u
+        → Rewriting F.table u u }
+    ensures third { (s t u w : List ℕ) → IsBytes s → Rewriting F.table s t → Rewriting F.table t u
+        → Rewriting F.table u w → w ≡ u }
 {}
 
 /// Two strings that have second rewritings have the same one exactly where their values are equal, cut.
@@ -154,13 +188,15 @@ pub fn second_equal<F: Attribute>()
 /// Every canonical string of bytes is read, and its values fit and are written as it stands.
 pub fn canonical_reads<F: Attribute>()
     ensures read { (s : List ℕ) → IsBytes s → Canonical F.table s → (vs : List AttrValue) × Wire (Gives F.table) s vs }
-    ensures fit { (s : List ℕ) (vs : List AttrValue) → IsBytes s → Canonical F.table s → Wire (Gives F.table) s vs → AllByRecursion Fits vs }
-    ensures stays { (s : List ℕ) (vs : List AttrValue) → IsBytes s → Canonical F.table s → Wire (Gives F.table) s vs → written_list vs ≡ s }
+    ensures fit { (s : List ℕ) (vs : List AttrValue) → IsBytes s → Canonical F.table s → Wire (Gives F.table) s vs
+        → AllByRecursion Fits vs }
+    ensures stays { (s : List ℕ) (vs : List AttrValue) → IsBytes s → Canonical F.table s → Wire (Gives F.table) s vs
+        → written_list vs ≡ s }
 {}
 
 /// Canonical strings with equal values are equal, and two canonical strings, joined, are canonical.
 pub fn canonical_once<F: Attribute>()
-    ensures once { (s t : List ℕ) (vs : List AttrValue) → IsBytes s → IsBytes t → Canonical F.table s → Canonical F.table t
-        → Wire (Gives F.table) s vs → Wire (Gives F.table) t vs → s ≡ t }
+    ensures once { (s t : List ℕ) (vs : List AttrValue) → IsBytes s → IsBytes t
+        → Canonical F.table s → Canonical F.table t → Wire (Gives F.table) s vs → Wire (Gives F.table) t vs → s ≡ t }
     ensures joined { (s t : List ℕ) → Canonical F.table s → Canonical F.table t → Canonical F.table (s ++ t) }
 {}

@@ -26,7 +26,7 @@ mod writing;
 
 pub use address_list::{Address, addresses_len, emit_addresses, read_addresses};
 pub use attribute::{Attribute, Meaning, Nla, Parseable};
-pub use buffer::NlaBuffer;
+pub use buffer::{NLA_F_NESTED, NLA_F_NET_BYTEORDER, NLA_TYPE_MASK, NlaBuffer};
 pub use buffer_tool::expand_buffer_if_small;
 pub use default_nla::DefaultNla;
 pub use fault::{Cause, DecodeError, DecodeFault, ListError, WriteError};
@@ -36,9 +36,9 @@ pub use named::NamedNumber;
 pub use nested::{NestedAttribute, emit_nested, nested_len, read_nested};
 pub use records::{check_at_least, check_length, emit_u32s, u16_at, u32_at};
 pub use scalars::{
-    emit_i32, emit_mac, emit_u8, emit_u16, emit_u16_be, emit_u32, emit_u32_pair, emit_u64,
-    parse_bool, parse_i32, parse_ip, parse_mac, parse_u8, parse_u16, parse_u16_be, parse_u32,
-    parse_u32_pair, parse_u64,
+    emit_i32, emit_low, emit_mac, emit_u8, emit_u16, emit_u16_be, emit_u32, emit_u32_pair,
+    emit_u64, parse_bool, parse_i32, parse_ip, parse_low, parse_mac, parse_u8, parse_u16,
+    parse_u16_be, parse_u32, parse_u32_pair, parse_u64,
 };
 pub use try_clone::{TryClone, try_clone_list};
 pub use vlan_protocol::VlanProtocol;

@@ -1,7 +1,7 @@
 //! Lists of attributes, read.
 
-ghost use Rattle.std.specs.Prelude.{◌≡◌, ◌+◌, length, map, min, None};
-ghost use Rattle.link_base.specs.Frame.{pad, frame_fault};
+ghost use Rattle.std.specs.Prelude.{◌≡◌, map, None};
+ghost use Rattle.link_base.specs.Frame.{frame_fault};
 ghost use Rattle.link_base.specs.Table.{Gives};
 ghost use Rattle.link_base.specs.Answers.{ListAnswers, OnListMemory};
 
@@ -9,14 +9,6 @@ use crate::attribute::Attribute;
 use crate::buffer::NlaBuffer;
 use crate::fault::ListError;
 use std::alloc::{AllocError, Global};
-
-/// How far the next frame is: the length of this one rounded up to four, or all that is left.
-#[inline]
-pub(crate) fn step_over(length: u16, left: usize) -> usize
-    ensures { result ≡ min (pad length) left }
-{
-    ((usize::from(length) + 3) / 4 * 4).min(left)
-}
 
 /// The values of a list, or its first fault with the byte offset of its frame. A fault comes before every later
 /// one, whether of a frame or of a value. `Memory` is answered only where the bytes begin with a frame.
@@ -39,10 +31,9 @@ pub fn read_list<F: Attribute>(alloc: Global, bytes: &[u8]) -> Result<Vec<F>, Li
         values
             .push(value)
             .map_err(|_| ListError::Memory(AllocError))?;
-        let step = step_over(buffer.length(), rest.len());
-        let (_, after) = rest.split_at(step);
+        let after = buffer.step_over(rest);
+        at += rest.len() - after.len();
         rest = after;
-        at += step;
     }
     Ok(values)
 }

@@ -2,7 +2,8 @@
 
 ghost use Rattle.std.specs.Prelude.{◌≡◌, ◌≢◌, ℕ, ◌<◌, ◌^◌, ◌↔◌, IsTrue, List, Result, Ok};
 ghost use Rattle.link_base.specs.Class as class;
-ghost use Rattle.link_base.specs.Named.{Listed, Bare, NoText, TextOrNumber, numbers_of, value_of, number_of, seen_of, seen_value, seen_canon, text_of, displayed, Accepts, ReadsText};
+ghost use Rattle.link_base.specs.Named.{Listed, Bare, NoText, TextOrNumber, numbers_of, value_of, number_of, seen_of};
+ghost use Rattle.link_base.specs.Named.{seen_value, seen_canon, text_of, displayed, Accepts, ReadsText};
 ghost use Rattle.link_base.specs.declared.fault.DecodeError.{DecodeError};
 ghost use Rattle.link_base.specs.Protocol.{vlan_protocols, protocol_number};
 ghost use Rattle.link_base.specs.declared.vlan_protocol.VlanProtocol.{VlanProtocol};
@@ -21,7 +22,8 @@ pub fn number_back<T: NamedNumber>()
 
 /// The value of the number of a value is its canon: `Other` of a number that has a name becomes the name.
 pub fn value_back<T: NamedNumber>()
-    ensures seen { (v : T) → T.seen (value_of T.names (number_of (T.seen v))) ≡ seen_canon (numbers_of T.names) (T.seen v) }
+    ensures seen { (v : T) → T.seen (value_of T.names (number_of (T.seen v)))
+        ≡ seen_canon (numbers_of T.names) (T.seen v) }
     ensures canon { (v : T) (n : ℕ) → class.canon (seen_value n (numbers_of T.names) (T.seen v))
         ≡ seen_value n (numbers_of T.names) (T.seen (value_of T.names (number_of (T.seen v)))) }
 {}
@@ -44,8 +46,8 @@ pub fn equality<T: NamedNumber>()
 pub fn text_back<T: NamedNumber>()
     ensures name { (v : T) (d : ℕ) (r : Result T DecodeError) → T.names.accepted ≢ NoText → T.seen v ≡ Listed d
         → ReadsText T.names (displayed T.names (T.seen v)) r → r ≡ Ok v }
-    ensures number { (v : T) (bits : ℕ) (r : Result T DecodeError) → T.names.accepted ≡ TextOrNumber bits → T.names.other_text ≡ Bare
-        → number_of (T.seen v) < 2 ^ bits → number_of (T.seen v) < 2 ^ 64
+    ensures number { (v : T) (bits : ℕ) (r : Result T DecodeError) → T.names.accepted ≡ TextOrNumber bits
+        → T.names.other_text ≡ Bare → number_of (T.seen v) < 2 ^ bits → number_of (T.seen v) < 2 ^ 64
         → ReadsText T.names (displayed T.names (T.seen v)) r → r ≡ Ok (value_of T.names (number_of (T.seen v))) }
 {}
 
@@ -57,12 +59,15 @@ pub fn one_text<T: NamedNumber>()
 // ---- protocols
 
 /// The EtherType of a protocol is read as the protocol, and every number but 0x88A8 as 802.1Q. The displayed text of a
-/// protocol reads as it, and a text is accepted for at most one protocol. Two protocols are equal exactly where they are
-/// the same.
+/// protocol reads as it, and a text is accepted for at most one protocol. Two protocols are equal exactly where they
+/// are the same. The default is 802.1Q.
 pub fn vlan_protocol()
     ensures number { (p : VlanProtocol) → value_of vlan_protocols (protocol_number p) ≡ p }
     ensures other { (d : ℕ) → d ≢ 0x88A8 → value_of vlan_protocols d ≡ Ieee8021Q }
     ensures equal { (p q : VlanProtocol) → IsTrue (⟦<VlanProtocol as PartialEq>⟧.eq p q) ↔ (p ≡ q) }
-    ensures text { (p : VlanProtocol) (r : Result VlanProtocol DecodeError) → ReadsText vlan_protocols (text_of vlan_protocols.labels (protocol_number p)) r → r ≡ Ok p }
-    ensures one { (text : List ℕ) (p q : VlanProtocol) → Accepts vlan_protocols text p → Accepts vlan_protocols text q → p ≡ q }
+    ensures default { (p : VlanProtocol) → ⟦<VlanProtocol as Default>⟧.is_default p ↔ (p ≡ Ieee8021Q) }
+    ensures text { (p : VlanProtocol) (r : Result VlanProtocol DecodeError)
+        → ReadsText vlan_protocols (text_of vlan_protocols.labels (protocol_number p)) r → r ≡ Ok p }
+    ensures one { (text : List ℕ) (p q : VlanProtocol)
+        → Accepts vlan_protocols text p → Accepts vlan_protocols text q → p ≡ q }
 {}

@@ -39,7 +39,8 @@ pub fn read_nested<E: NestedAttribute>(
     kind: u16,
     payload: &[u8],
 ) -> Result<Vec<E>, DecodeError>
-    ensures answer { Answers (λ vs. Case kind (Inner E.flagged (map E.leaf vs.items))) result (ShapeGives (Nested E.flagged E.rows) kind payload.now) }
+    ensures answer { Answers (λ vs. Case kind (Inner E.flagged (map E.leaf vs.items))) result
+        (ShapeGives (Nested E.flagged E.rows) kind payload.now) }
     ensures memory { OnMemory result (frame_fault payload.now ≡ None) }
 {
     match read_list(alloc, payload) {
@@ -48,7 +49,7 @@ pub fn read_nested<E: NestedAttribute>(
     }
 }
 
-/// The bytes of a written nested list; the greatest `usize` where there are that many or more.
+/// The bytes of a written nested list; `usize::MAX` where there are that many or more.
 pub fn nested_len<E: NestedAttribute>(values: &[E]) -> usize
     ensures { result ≡ capped (length (written_leaves (map E.leaf values.now))) }
 {

@@ -1,6 +1,8 @@
 //! Bytes that contracts see as a list.
 
 ghost use Rattle.std.specs.Prelude.{◌≡◌, List, ℕ, length, IfOk};
+ghost use Rattle.std.specs.Cmp.Rules.{comparing};
+ghost use Rattle.std.proofs.Common.{rules};
 
 use std::alloc::{AllocError, Global};
 use std::fmt;
@@ -62,8 +64,6 @@ impl fmt::Debug for Octets {
 impl PartialEq for Octets {
     ghost use Rattle.std.specs.Prelude.{nat_eq};
     ghost use Rattle.std.specs.Cmp.Lexicographic.{pointwise};
-    ghost use Rattle.std.specs.Cmp.Rules.{comparing};
-    ghost use Rattle.std.proofs.Common.{rules};
 
     ghost eq = { pointwise nat_eq };
 
@@ -75,8 +75,5 @@ impl PartialEq for Octets {
 }
 
 impl Eq for Octets {
-    ghost use Rattle.std.specs.Cmp.Rules.{comparing};
-    ghost use Rattle.std.proofs.Common.{rules};
-
     ghost laws = { Prim.search (comparing, rules) };
 }

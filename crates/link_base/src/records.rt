@@ -36,7 +36,7 @@ pub fn check_length(payload: &[u8], want: usize) -> Result<(), DecodeError>
     Ok(())
 }
 
-/// The number of the two bytes at an offset, the lowest first. Requires that they lie within the bytes.
+/// The number of the two bytes at an offset, little-endian. Requires that they lie within the bytes.
 #[inline]
 pub fn u16_at(bytes: &[u8], offset: usize) -> u16
     requires { offset + 2 ≤ length bytes.now }
@@ -46,7 +46,7 @@ pub fn u16_at(bytes: &[u8], offset: usize) -> u16
     u16::from_le_bytes([bytes[offset], bytes[offset + 1]])
 }
 
-/// The number of the four bytes at an offset, the lowest first. Requires that they lie within the bytes.
+/// The number of the four bytes at an offset, little-endian. Requires that they lie within the bytes.
 #[inline]
 pub fn u32_at(bytes: &[u8], offset: usize) -> u32
     requires { offset + 4 ≤ length bytes.now }
@@ -61,8 +61,8 @@ pub fn u32_at(bytes: &[u8], offset: usize) -> u32
     ])
 }
 
-/// Writes numbers to the front of a buffer that has four bytes for each, one after another, the lowest byte first in
-/// each, and leaves the rest.
+/// Writes numbers to the front of a buffer that has four bytes for each, one after another, each little-endian, and
+/// leaves the rest.
 pub fn emit_u32s(buffer: &mut [u8], numbers: &[u32])
     requires { 4 * length numbers.now ≤ length buffer.old }
     ensures written { OverwritesFront buffer.old buffer.new (octets_of 4 numbers.now) }

@@ -1,9 +1,10 @@
 //! Numbers and addresses as payloads.
 //!
 //! A reader takes a whole payload and fails with `Payload`; a writer fills the front of a buffer and leaves the bytes
-//! behind it as they are. Types of numbers are those of `include/uapi/linux/netlink.h`, `NL_ATTR_TYPE_*`.
+//! behind it as they are. Numbers are little-endian unless they are said to be in network byte order. Types of numbers
+//! are those of `include/uapi/linux/netlink.h`, `NL_ATTR_TYPE_*`.
 
-ghost use Rattle.std.specs.Prelude.{◌≡◌, ◌≤◌, ◌∷◌, [], length, reverse, nat_lt, IfOk};
+ghost use Rattle.std.specs.Prelude.{◌≡◌, ◌≤◌, ◌<◌, ◌∷◌, [], length, reverse, slice_index, nat_lt, IfOk};
 ghost use Rattle.std.specs.Int.{w32, cast_unsigned};
 ghost use Rattle.link_base.specs.declared.fault.Cause.TheVariants.{WrongLength};
 ghost use Rattle.link_base.specs.Number.{number, bytes_of};
@@ -44,7 +45,7 @@ pub fn parse_bool(payload: &[u8]) -> Result<bool, DecodeError>
     }
 }
 
-/// The number of two bytes, the lowest first (`NL_ATTR_TYPE_U16`). Fails with `Payload` of `WrongLength`.
+/// The number of two bytes, little-endian (`NL_ATTR_TYPE_U16`). Fails with `Payload` of `WrongLength`.
 #[inline]
 pub fn parse_u16(payload: &[u8]) -> Result<u16, DecodeError>
     ensures { result ≡ payload_result (accepted (Exactly 2) number payload.now) }
@@ -55,7 +56,7 @@ pub fn parse_u16(payload: &[u8]) -> Result<u16, DecodeError>
     }
 }
 
-/// The number of four bytes, the lowest first (`NL_ATTR_TYPE_U32`). Fails with `Payload` of `WrongLength`.
+/// The number of four bytes, little-endian (`NL_ATTR_TYPE_U32`). Fails with `Payload` of `WrongLength`.
 #[inline]
 pub fn parse_u32(payload: &[u8]) -> Result<u32, DecodeError>
     ensures { result ≡ payload_result (accepted (Exactly 4) number payload.now) }
@@ -66,7 +67,7 @@ pub fn parse_u32(payload: &[u8]) -> Result<u32, DecodeError>
     }
 }
 
-/// The number of eight bytes, the lowest first (`NL_ATTR_TYPE_U64`). Fails with `Payload` of `WrongLength`.
+/// The number of eight bytes, little-endian (`NL_ATTR_TYPE_U64`). Fails with `Payload` of `WrongLength`.
 #[inline]
 pub fn parse_u64(payload: &[u8]) -> Result<u64, DecodeError>
     ensures { result ≡ payload_result (accepted (Exactly 8) number payload.now) }
@@ -77,7 +78,7 @@ pub fn parse_u64(payload: &[u8]) -> Result<u64, DecodeError>
     }
 }
 
-/// The signed number of four bytes, in two's complement, the lowest first (`NL_ATTR_TYPE_S32`). Fails with `Payload` of
+/// The signed number of four bytes, in two's complement, little-endian (`NL_ATTR_TYPE_S32`). Fails with `Payload` of
 /// `WrongLength`.
 #[inline]
 pub fn parse_i32(payload: &[u8]) -> Result<i32, DecodeError>
@@ -89,7 +90,7 @@ pub fn parse_i32(payload: &[u8]) -> Result<i32, DecodeError>
     }
 }
 
-/// The number of two bytes, the highest first (`__be16`). Fails with `Payload` of `WrongLength`.
+/// The number of two bytes in network byte order (`__be16`). Fails with `Payload` of `WrongLength`.
 #[inline]
 pub fn parse_u16_be(payload: &[u8]) -> Result<u16, DecodeError>
     ensures { result ≡ payload_result (accepted (Exactly 2) (λ p. number (reverse p)) payload.now) }
@@ -100,11 +101,22 @@ pub fn parse_u16_be(payload: &[u8]) -> Result<u16, DecodeError>
     }
 }
 
-/// The two numbers of eight bytes, the first before the second, the lowest byte first in each. Fails with `Payload` of
-/// `WrongLength`.
+/// The low byte of a number of two bytes, little-endian: the first of them. Fails with `Payload` of `WrongLength`.
+#[inline]
+pub fn parse_low(payload: &[u8]) -> Result<u8, DecodeError>
+    ensures { result ≡ payload_result (accepted (Exactly 2) (λ p. slice_index p 0) payload.now) }
+{
+    match payload {
+        [low, _] => Ok(*low),
+        _ => Err(wrong_length(2, payload.len())),
+    }
+}
+
+/// The two numbers of eight bytes, one after the other, each little-endian. Fails with `Payload` of `WrongLength`.
 #[inline]
 pub fn parse_u32_pair(payload: &[u8]) -> Result<(u32, u32), DecodeError>
-    ensures value { result ≡ payload_result (accepted (Exactly 8) (λ p. (number_at 4 0 p, number_at 4 4 p)) payload.now) }
+    ensures value { result
+        ≡ payload_result (accepted (Exactly 8) (λ p. (number_at 4 0 p, number_at 4 4 p)) payload.now) }
     ensures octets { IfOk result (λ pair. octets_of 4 (pair.0 ∷ pair.1 ∷ []) ≡ payload.now) }
 {
     match payload {
@@ -157,7 +169,7 @@ pub fn emit_u8(buffer: &mut [u8], value: u8)
     buffer[..1].copy_from_slice(&value.to_le_bytes());
 }
 
-/// Writes a number to the first two bytes of a buffer at least that long, the lowest first, and leaves the rest.
+/// Writes a number to the first two bytes of a buffer at least that long, little-endian, and leaves the rest.
 #[inline]
 pub fn emit_u16(buffer: &mut [u8], value: u16)
     requires { 2 ≤ length buffer.old }
@@ -166,7 +178,7 @@ pub fn emit_u16(buffer: &mut [u8], value: u16)
     buffer[..2].copy_from_slice(&value.to_le_bytes());
 }
 
-/// Writes a number to the first four bytes of a buffer at least that long, the lowest first, and leaves the rest.
+/// Writes a number to the first four bytes of a buffer at least that long, little-endian, and leaves the rest.
 #[inline]
 pub fn emit_u32(buffer: &mut [u8], value: u32)
     requires { 4 ≤ length buffer.old }
@@ -175,7 +187,7 @@ pub fn emit_u32(buffer: &mut [u8], value: u32)
     buffer[..4].copy_from_slice(&value.to_le_bytes());
 }
 
-/// Writes a number to the first eight bytes of a buffer at least that long, the lowest first, and leaves the rest.
+/// Writes a number to the first eight bytes of a buffer at least that long, little-endian, and leaves the rest.
 #[inline]
 pub fn emit_u64(buffer: &mut [u8], value: u64)
     requires { 8 ≤ length buffer.old }
@@ -184,7 +196,7 @@ pub fn emit_u64(buffer: &mut [u8], value: u64)
     buffer[..8].copy_from_slice(&value.to_le_bytes());
 }
 
-/// Writes a signed number, in two's complement, to the first four bytes of a buffer at least that long, the lowest first,
+/// Writes a signed number, in two's complement, to the first four bytes of a buffer at least that long, little-endian,
 /// and leaves the rest.
 #[inline]
 pub fn emit_i32(buffer: &mut [u8], value: i32)
@@ -195,7 +207,7 @@ pub fn emit_i32(buffer: &mut [u8], value: i32)
     buffer[..4].copy_from_slice(&octets);
 }
 
-/// Writes a number to the first two bytes of a buffer at least that long, the highest first, and leaves the rest.
+/// Writes a number to the first two bytes of a buffer at least that long, in network byte order, and leaves the rest.
 #[inline]
 pub fn emit_u16_be(buffer: &mut [u8], value: u16)
     requires { 2 ≤ length buffer.old }
@@ -204,8 +216,18 @@ pub fn emit_u16_be(buffer: &mut [u8], value: u16)
     buffer[..2].copy_from_slice(&value.to_be_bytes());
 }
 
-/// Writes two numbers to the first eight bytes of a buffer at least that long, the first before the second, the lowest
-/// byte first in each, and leaves the rest.
+/// Fills a buffer of two bytes with a number of one byte, little-endian: the byte, and a zero.
+#[inline]
+pub fn emit_low(buffer: &mut [u8], low: u8)
+    requires { length buffer.old ≡ 2 }
+    ensures written { buffer.new ≡ low ∷ 0 ∷ [] }
+    ensures in_range { low < 256 }
+{
+    buffer.copy_from_slice(&[low, 0]);
+}
+
+/// Writes two numbers to the first eight bytes of a buffer at least that long, one after the other, each little-endian,
+/// and leaves the rest.
 #[inline]
 pub fn emit_u32_pair(buffer: &mut [u8], first: u32, second: u32)
     requires { 8 ≤ length buffer.old }
@@ -217,8 +239,8 @@ pub fn emit_u32_pair(buffer: &mut [u8], first: u32, second: u32)
     buffer[..8].copy_from_slice(&[a, b, c, d, e, f, g, h]);
 }
 
-/// Writes the octets of a hardware address to the first six bytes of a buffer at least that long, in order, and leaves the
-/// rest.
+/// Writes the octets of a hardware address to the first six bytes of a buffer at least that long, in order, and leaves
+/// the rest.
 #[inline]
 pub fn emit_mac(buffer: &mut [u8], address: &[u8; 6])
     requires { length address.now ≤ length buffer.old }

@@ -1,6 +1,7 @@
 //! Copies, where memory allows.
 
-ghost use Rattle.std.specs.Prelude.{◌≡◌, IfOk, OnErr, map};
+ghost use Rattle.std.specs.Prelude.{◌≡◌, IsTrue, IfOk, OnErr, map};
+ghost use Rattle.std.specs.Cmp.Lexicographic.{pointwise};
 ghost use Rattle.link_base.specs.Held.{HoldsMemory};
 
 use crate::attribute::Meaning;
@@ -8,20 +9,22 @@ use crate::nested::NestedAttribute;
 use std::alloc::{AllocError, Global};
 
 /// A value that can be copied.
-pub trait TryClone: Meaning {
-    /// An equal value, or `AllocError` where a growth was refused: only for an `Other`, or for a case that holds bytes, a
+pub trait TryClone: Meaning + PartialEq {
+    /// An equal value, or `AllocError` where allocation failed: only for an `Other`, or for a case that holds bytes, a
     /// text or a list.
     fn try_clone(&self, alloc: Global) -> Result<Self, AllocError>
         ensures copy { IfOk result (λ copy. Self.means copy ≡ Self.means self.now) }
+        ensures equal { IfOk result (λ copy. IsTrue (Self.PartialEq.eq copy self.now)) }
         ensures memory { OnErr result (HoldsMemory Self.table (Self.means self.now)) };
 }
 
-/// The equal list, for a copy of an attribute that holds it. Fails where a growth was refused.
+/// The equal list, for a copy of an attribute that holds it. Fails where allocation failed.
 pub fn try_clone_list<E: NestedAttribute + TryClone>(
     alloc: Global,
     values: &[E],
 ) -> Result<Vec<E>, AllocError>
-    ensures { IfOk result (λ copies. map E.leaf copies.items ≡ map E.leaf values.now) }
+    ensures copies { IfOk result (λ copies. map E.leaf copies.items ≡ map E.leaf values.now) }
+    ensures equal { IfOk result (λ copies. IsTrue (pointwise E.PartialEq.eq copies.items values.now)) }
 {
     let mut copies = Vec::with_capacity(alloc, values.len())?;
     for value in values {

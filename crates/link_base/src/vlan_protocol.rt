@@ -1,5 +1,9 @@
 //! The protocols of VLAN tags.
 
+ghost use Rattle.std.specs.Prelude.{◌≡◌, Some};
+ghost use Rattle.link_base.specs.Named.{value_of, text_of, ReadsText};
+ghost use Rattle.link_base.specs.Protocol.{vlan_protocols, protocol_number};
+
 use crate::fault::{DecodeError, DecodeFault};
 use std::fmt;
 use std::str::FromStr;
@@ -11,32 +15,17 @@ const ETH_P_8021Q: u16 = 0x8100;
 const ETH_P_8021AD: u16 = 0x88A8;
 
 /// The protocol of a VLAN tag, by its EtherType (`include/uapi/linux/if_ether.h`).
-#[derive(Clone, Copy, Debug, PartialEq, Eq)]
+#[derive(Clone, Copy, Debug, PartialEq, Eq, Default)]
 pub enum VlanProtocol {
     /// The tag of a customer, `802.1Q` (`ETH_P_8021Q`, 0x8100).
+    #[default]
     Ieee8021Q,
     /// The tag of a service provider, `802.1ad` (`ETH_P_8021AD`, 0x88A8).
     Ieee8021Ad,
 }
 
-/// `Ieee8021Q`.
-impl Default for VlanProtocol {
-    ghost use Rattle.std.specs.Prelude.{◌≡◌};
-    ghost use Rattle.link_base.specs.declared.vlan_protocol.VlanProtocol.TheVariants.{Ieee8021Q};
-
-    ghost is_default = { λ p. p ≡ Ieee8021Q };
-
-    fn default() -> Self {
-        VlanProtocol::Ieee8021Q
-    }
-}
-
 /// The protocol of an EtherType; `Ieee8021Q` for every number but 0x88A8.
 impl From<u16> for VlanProtocol {
-    ghost use Rattle.std.specs.Prelude.{◌≡◌};
-    ghost use Rattle.link_base.specs.Named.{value_of};
-    ghost use Rattle.link_base.specs.Protocol.{vlan_protocols};
-
     ghost from_gives = { λ d p. p ≡ value_of vlan_protocols d };
 
     fn from(number: u16) -> Self {
@@ -49,9 +38,6 @@ impl From<u16> for VlanProtocol {
 
 /// The EtherType.
 impl From<VlanProtocol> for u16 {
-    ghost use Rattle.std.specs.Prelude.{◌≡◌};
-    ghost use Rattle.link_base.specs.Protocol.{protocol_number};
-
     ghost from_gives = { λ p d. d ≡ protocol_number p };
 
     fn from(protocol: VlanProtocol) -> u16 {
@@ -64,10 +50,6 @@ impl From<VlanProtocol> for u16 {
 
 /// `802.1Q` or `802.1ad`.
 impl fmt::Display for VlanProtocol {
-    ghost use Rattle.std.specs.Prelude.{Some};
-    ghost use Rattle.link_base.specs.Named.{text_of};
-    ghost use Rattle.link_base.specs.Protocol.{vlan_protocols, protocol_number};
-
     ghost output = { λ p. Some (text_of vlan_protocols.labels (protocol_number p)) };
 
     fn fmt<W: fmt::Write>(&self, f: &mut fmt::Formatter<W>) -> fmt::Result {
@@ -81,9 +63,6 @@ impl fmt::Display for VlanProtocol {
 /// Reads a displayed name, its letters in either case. Fails with `Text` for every other text.
 impl FromStr for VlanProtocol {
     type Err = DecodeError;
-
-    ghost use Rattle.link_base.specs.Named.{ReadsText};
-    ghost use Rattle.link_base.specs.Protocol.{vlan_protocols};
 
     ghost from_str_gives = { λ text result. ReadsText vlan_protocols text result };
 

@@ -10,7 +10,7 @@ use crate::attribute::Attribute;
 use crate::fault::WriteError;
 use std::alloc::{AllocError, Global};
 
-/// The bytes of the written list, the sum of `buffer_len`; the greatest `usize` where there are that many or more.
+/// The bytes of the written list, the sum of `buffer_len`; `usize::MAX` where there are that many or more.
 pub fn list_len<F: Attribute>(values: &[F]) -> usize
     ensures { result ≡ capped (length (written_list (map F.means values.now))) }
 {
@@ -32,7 +32,8 @@ pub fn list_fits<F: Attribute>(values: &[F]) -> bool
 }
 
 fn first_unfit<F: Attribute>(values: &[F]) -> Option<usize>
-    ensures { MatchOption result (AllByRecursion Fits (map F.means values.now)) (IsFirstUnfit (map F.means values.now)) }
+    ensures { MatchOption result (AllByRecursion Fits (map F.means values.now))
+        (IsFirstUnfit (map F.means values.now)) }
 {
     for (i, value) in values.iter().enumerate() {
         if !value.fits() {

@@ -1,7 +1,6 @@
-use Rattle.std.proofs.Common.{◌≡◌, ◌≢◌, ◌-◌, map, [], ◌∷◌, ◌++◌, inr, arith, ap, length, drop, subst, ◌∙◌, ℕ, min, sym}
+use Rattle.std.proofs.Common.{◌≡◌, ◌≢◌, ◌-◌, map, [], ◌∷◌, ◌++◌, inr, arith, ap, length, subst, sym, refl}
 use Rattle.std.proofs.lemmas.Grind.{common_steps}
 use Rattle.std.proofs.lemmas.List.{length-drop}
-use Rattle.link_base.specs.Frame.{pad}
 use Rattle.link_base.specs.Table.{PayloadGives, Listed, of_length}
 use Rattle.link_base.specs.Buffer.{kind_field_of, payload_of, frame_of}
 use Rattle.link_base.proofs.AddressLists.{kept_more, kept_all, list_fails}
@@ -23,15 +22,13 @@ loop-rest-preserved g c =
     let b = c.in-Ok.element in
     let s = c.args.payload.now in
     let rest = c.loop-rest.rest.now in
-    let step = c.step_over-step.result in
-    let stepped : step ≡ step_of rest (payload_of b) = c.step_over-step.ensures ∙ ap (λ (m : ℕ). min (pad m) (length rest)) c.length.ensures in
-    let next = c.split_at.ensures.back in
+    let after = c.step_over-after.result.now in
+    let next = c.step_over-after.ensures in
     let pushed : map g.A.Address.octets c.keep.new.addresses.items ≡ map g.A.Address.octets c.loop-rest.addresses.items ++ of_length n (payload_of b ∷ []) = grind (arith, common_steps) in
-    let split = subst (λ m. Splits rest (kind_field_of b) (payload_of b) (drop m rest)) (sym stepped) (splits rest (kind_field_of b) (payload_of b) c.in-Ok.ensures) in
-    let far : step ≡ length rest - length (drop step rest) = omega (arith, c.step_over-step.ensures, length-drop step rest) in
+    let split = subst (Splits rest (kind_field_of b) (payload_of b)) (sym next) (splits rest (kind_field_of b) (payload_of b) c.in-Ok.ensures) in
     record {
-      reads = rw next (kept_more n s _ _ rest (drop step rest) c.loop-rest.at step (kind_field_of b) (payload_of b) c.loop-rest.invariant.reads split far pushed);
-      size = omega (arith, c.loop-rest.invariant.size, ap length next, length-drop step rest, c.step_over-step.ensures);
+      reads = kept_more n s _ _ rest after c.loop-rest.at (length rest - length after) (kind_field_of b) (payload_of b) c.loop-rest.invariant.reads split refl pushed;
+      size = omega (arith, c.loop-rest.invariant.size, ap length next, length-drop (step_of rest (payload_of b)) rest);
       begun = inr (begun s rest (frame_of b) c.loop-rest.invariant.begun c.in-Ok.ensures);
     }
 

@@ -1,7 +1,6 @@
-use Rattle.std.proofs.Common.{◌≡◌, ◌≢◌, ◌-◌, map, [], ◌∷◌, ◌++◌, inr, arith, ap, length, drop, subst, ◌∙◌, ℕ, min, sym}
+use Rattle.std.proofs.Common.{◌≡◌, ◌≢◌, ◌-◌, map, [], ◌∷◌, ◌++◌, inr, arith, ap, length, subst, ◌∙◌, sym, refl}
 use Rattle.std.proofs.lemmas.Grind.{common_steps}
 use Rattle.std.proofs.lemmas.List.{map-append, length-drop}
-use Rattle.link_base.specs.Frame.{pad}
 use Rattle.link_base.specs.Table.{Gives}
 use Rattle.link_base.specs.Buffer.{kind_field_of, payload_of, frame_of}
 use Rattle.link_base.proofs.Begins.{Splits, splits, step_of}
@@ -21,23 +20,21 @@ returns-in-Err-parse-clause-answer g c =
     c.loop-rest.invariant.reads some c.in-Ok.ensures c.in-Err-parse.ensures.answer)
 
 pub overflow_add-at : goal.overflow_add-at
-overflow_add-at g c = omega (arith, c.loop-rest.invariant.size, c.step_over-step.ensures)
+overflow_add-at g c = omega (arith, c.loop-rest.invariant.size)
 
 pub loop-rest-preserved : goal.loop-rest-preserved
 loop-rest-preserved g c =
     let means = g.F.Meaning.means in
     let b = c.in-Ok.buffer in
     let rest = c.loop-rest.rest.now in
-    let step = c.step_over-step.result in
-    let stepped : step ≡ step_of rest (payload_of b) = c.step_over-step.ensures ∙ ap (λ (n : ℕ). min (pad n) (length rest)) c.length.ensures in
-    let next = c.split_at.ensures.back in
+    let after = c.step_over-after.result.now in
+    let next = c.step_over-after.ensures in
     let pushed : c.push.new.self.items ≡ c.loop-rest.values.items ++ c.in-Ok-parse.value ∷ [] = grind (arith, common_steps) in
     let meant : map means c.push.new.self.items ≡ map means c.loop-rest.values.items ++ means c.in-Ok-parse.value ∷ [] = ap (map means) pushed ∙ map-append means c.loop-rest.values.items (c.in-Ok-parse.value ∷ []) in
-    let split = subst (λ n. Splits rest (kind_field_of b) (payload_of b) (drop n rest)) (sym stepped) (splits rest (kind_field_of b) (payload_of b) c.in-Ok.ensures) in
-    let far : step ≡ length rest - length (drop step rest) = omega (arith, c.step_over-step.ensures, length-drop step rest) in
+    let split = subst (Splits rest (kind_field_of b) (payload_of b)) (sym next) (splits rest (kind_field_of b) (payload_of b) c.in-Ok.ensures) in
     record {
-      reads = rw (meant, next) (continues_more (Gives g.F.Meaning.table) c.args.bytes.now _ rest (drop step rest) c.loop-rest.at step (kind_field_of b) (payload_of b) (means c.in-Ok-parse.value) c.loop-rest.invariant.reads split c.in-Ok-parse.ensures.answer far);
-      size = omega (arith, c.loop-rest.invariant.size, ap length next, length-drop step rest, c.step_over-step.ensures);
+      reads = rw meant (continues_more (Gives g.F.Meaning.table) c.args.bytes.now _ rest after c.loop-rest.at (length rest - length after) (kind_field_of b) (payload_of b) (means c.in-Ok-parse.value) c.loop-rest.invariant.reads split c.in-Ok-parse.ensures.answer refl);
+      size = omega (arith, c.loop-rest.invariant.size, ap length next, length-drop (step_of rest (payload_of b)) rest);
       begun = inr (begun c.args.bytes.now rest (frame_of b) c.loop-rest.invariant.begun c.in-Ok.ensures);
     }
 

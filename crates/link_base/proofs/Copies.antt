@@ -1,0 +1,45 @@
+-- Lists that are copied element by element.
+use Rattle.std.proofs.Common.{◌≡◌, Bool, true, nat_eq, List, [], ◌∷◌, ◌++◌, map, true≢false, refl, sym, subst, ap₂, ◌∙◌}
+use Rattle.std.proofs.lemmas.List.{map-append}
+use Rattle.std.specs.Cmp.{IsEquivalence, nat_eq_equiv, on_equiv, first_so, second_so}
+use Rattle.std.specs.Cmp.Derive.{both_true}
+use Rattle.std.specs.Cmp.Lexicographic.{pointwise, lists_equiv}
+use Rattle.std.specs.declared.net.ipv4_addr.Ipv4Addr.{Ipv4Addr}
+use Rattle.std.specs.declared.net.ipv6_addr.Ipv6Addr.{Ipv6Addr}
+use Rattle.link_base.specs.Table.{Leaf, Case, Other}
+use Rattle.link_base.specs.Lift.{lift}
+
+-- two elements of a nested list are one where they are one attribute
+pub one_leaf : (a b : Leaf) → lift a ≡ lift b → a ≡ b
+one_leaf (Case k v) (Case l w) e = cc
+one_leaf (Case k v) (Other g q) e = cc
+one_leaf (Other f p) (Case l w) e = cc
+one_leaf (Other f p) (Other g q) e = cc
+
+-- one element more that means the same
+pub same_more : {A M : Type 0} (means : A → M) (xs ys : List A) (x y : A) → map means xs ≡ map means ys → means x ≡ means y
+    → map means (xs ++ x ∷ []) ≡ map means (ys ++ y ∷ [])
+same_more means xs ys x y h e =
+    map-append means xs (x ∷ []) ∙ ap₂ (λ ms m. ms ++ m ∷ []) h e ∙ sym (map-append means ys (y ∷ []))
+
+-- one equal element more
+pub equal_more : {A : Type 0} (E : A → A → Bool) (xs ys : List A) (x y : A) → pointwise E xs ys ≡ true → E x y ≡ true
+    → pointwise E (xs ++ x ∷ []) (ys ++ y ∷ []) ≡ true
+equal_more E [] [] x y h e = both_true e refl
+equal_more E [] (b ∷ ys) x y h e = absurd (true≢false (sym h))
+equal_more E (a ∷ xs) [] x y h e = absurd (true≢false (sym h))
+equal_more E (a ∷ xs) (b ∷ ys) x y h e =
+    both_true (first_so (E a b) (pointwise E xs ys) h) (equal_more E xs ys x y (second_so (E a b) (pointwise E xs ys) h) e)
+
+-- ---- lists that are copied whole
+
+itself : {A : Type 0} {E : A → A → Bool} → IsEquivalence E → (xs ys : List A) → xs ≡ ys → pointwise E xs ys ≡ true
+itself {E = E} law xs ys e = subst (λ zs. pointwise E xs zs ≡ true) e ((lists_equiv law).refl xs)
+
+-- IPv4 addresses
+pub same_four : (xs ys : List Ipv4Addr) → xs ≡ ys → pointwise (λ a b. pointwise nat_eq a.octets b.octets) xs ys ≡ true
+same_four = itself (on_equiv (λ a. a.octets) (lists_equiv nat_eq_equiv))
+
+-- IPv6 addresses
+pub same_sixteen : (xs ys : List Ipv6Addr) → xs ≡ ys → pointwise (λ a b. pointwise nat_eq a.segments b.segments) xs ys ≡ true
+same_sixteen = itself (on_equiv (λ a. a.segments) (lists_equiv nat_eq_equiv))
