@@ -163,7 +163,7 @@ fn end_text<W: Write>(alloc: Global, held: &Held, whole: bool, writer: &mut W) -
         Err(stop) => return Err(stop),
     };
     match writer.flush() {
-        Ok(()) => Ok(whole && read),
+        Ok(()) => Ok(whole & read),
         Err(_) => Err(Stop::Writer),
     }
 }
