@@ -7,8 +7,8 @@ use Rattle.netlink_packet_route.specs.Report.{line}
 use Rattle.nlshow.specs.declared.running.Stop.{Stop}
 use Rattle.nlshow.specs.declared.running.Stop.TheVariants.{Memory, Reader, Writer}
 use Rattle.nlshow.specs.Show.{ShowsAll, IsUnbroken}
-use Rattle.nlshow.specs.Progress.{Shown, Goes, held_of}
-use Rattle.nlshow.specs.Run.{Runs, Grows, WritesLine, WritesPiece, WritesRest, OnMemory}
+use Rattle.nlshow.specs.Progress.{Shown, Goes, held_of, Grows, WritesLine, WritesPiece, WritesRest, OnMemory}
+use Rattle.nlshow.specs.Run.{Runs}
 use Rattle.nlshow.proofs.Texts.{none, goes_none, goes_both, goes_on, goes_over, ends_here, ends_open, and_true}
 
 -- ---- the lines of a piece

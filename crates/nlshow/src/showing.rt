@@ -5,8 +5,8 @@ ghost use Rattle.std.specs.Io.KnownBytes.{Appends, Keeps};
 ghost use Rattle.hex.specs.Hex.{decode_of};
 ghost use Rattle.netlink_packet_route.specs.Family.{family_name, table_of};
 ghost use Rattle.netlink_packet_route.specs.Report.{is_space, digits_of, line, fault_line};
-ghost use Rattle.nlshow.specs.Show.{IsPassedOver, IsNamed, IsNoFamily, AreIndented, ShowsList, ShowsDigits, Answers};
-ghost use Rattle.nlshow.specs.Run.{WritesLine, OnMemory};
+ghost use Rattle.nlshow.specs.Show.{IsPassedOver, IsNamed, IsNoFamily, AreIndented, ShowsList, ShowsDigits, ShowsBelow};
+ghost use Rattle.nlshow.specs.Progress.{WritesLine, OnMemory};
 
 use crate::running::Stop;
 use hex::FromHexError;
@@ -66,7 +66,7 @@ fn write_below<W: Write>(writer: &mut W, text: &[u8], below: &str) -> io::Result
 
 /// What stands below a line, and whether its list was read.
 fn answer(alloc: Global, text: &[u8]) -> Result<(String, bool), AllocError>
-    ensures { IfOk result (λ below. Answers text.now (string_bytes below.0) below.1) }
+    ensures { IfOk result (λ below. ShowsBelow text.now (string_bytes below.0) below.1) }
 {
     let (name, rest) = cut_name(text);
     match family_of(name) {
@@ -77,7 +77,8 @@ fn answer(alloc: Global, text: &[u8]) -> Result<(String, bool), AllocError>
 
 /// What stands below the line of a family's list in hex digits, and whether it was read.
 fn digits_text(alloc: Global, family: Family, text: &[u8]) -> Result<(String, bool), AllocError>
-    ensures { IfOk result (λ below. ShowsDigits (table_of family) (decode_of (digits_of text.now)) (string_bytes below.0) below.1) }
+    ensures { IfOk result (λ below. ShowsDigits (table_of family) (decode_of (digits_of text.now))
+        (string_bytes below.0) below.1) }
 {
     let digits = digits(alloc, text)?;
     let bytes = match hex::decode(alloc, digits.as_slice()) {
