@@ -4,7 +4,8 @@ ghost use Rattle.std.specs.Prelude.{◌≡◌, ◌++◌, IfOk, OnOk, map, flat_m
 ghost use Rattle.std.specs.List.{AllByRecursion};
 ghost use Rattle.link_base.specs.Table.{Fits};
 ghost use Rattle.netlink_packet_route.specs.Family.{table_of};
-ghost use Rattle.netlink_packet_route.specs.Report.{Reports, Prints, digits_of, fault_line, too_long_line, attr_line, attr_line_of, out_line, Verdict};
+ghost use Rattle.netlink_packet_route.specs.Report.{Reports, Prints, Verdict, digits_of, fault_line, too_long_line};
+ghost use Rattle.netlink_packet_route.specs.Report.{attr_line, attr_line_of, out_line};
 
 use crate::by_family;
 use crate::family::Family;
@@ -75,7 +76,8 @@ fn too_long_text(alloc: Global, index: usize) -> Result<String, AllocError>
 
 fn value_text<F: Attribute>(alloc: Global, values: &[F], out: &[u8]) -> Result<String, AllocError>
     requires { AllByRecursion Fits (map F.means values.now) }
-    ensures { IfOk result (λ text. string_bytes text ≡ flat_map attr_line (map F.means values.now) ++ out_line out.now) }
+    ensures { IfOk result
+        (λ text. string_bytes text ≡ flat_map attr_line (map F.means values.now) ++ out_line out.now) }
 {
     let mut text = String::new(alloc);
     for value in values {

@@ -4,7 +4,8 @@ ghost use Rattle.std.specs.Prelude.{◌≡◌, ◌≤◌, ◌↔◌, None, lengt
 ghost use Rattle.link_base.specs.Frame.{pad, frame_fault};
 ghost use Rattle.link_base.specs.Table.{Canonical};
 ghost use Rattle.netlink_packet_route.specs.Family.{table_of};
-ghost use Rattle.netlink_packet_route.specs.Rewrite.{ReadAndWritten, RewriteAnswers, OnRewriteMemory, ReadsBack, Settles};
+ghost use Rattle.netlink_packet_route.specs.Rewrite.{ReadAndWritten, RewriteAnswers, OnRewriteMemory};
+ghost use Rattle.netlink_packet_route.specs.Rewrite.{ReadsBack, Settles};
 
 use crate::by_family;
 use crate::family::Family;

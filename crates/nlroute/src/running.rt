@@ -24,11 +24,13 @@ pub fn run<R: Read, W: Write>(
     writer: &mut W,
 ) -> u8
     ensures report { (family : Family) → option_copied name.entry ≡ Some (family_name family) → result < 4
-        → RunsFor (table_of family) (R.remaining reader.old) (R.remaining reader.new) (W.contents writer.old) (W.contents writer.new) result }
+        → RunsFor (table_of family) (R.remaining reader.old) (R.remaining reader.new)
+        (W.contents writer.old) (W.contents writer.new) result }
     ensures bounded { (text : List ℕ) × IsRead (R.remaining reader.old) (R.remaining reader.new) text }
     // Without a family nothing is read.
     ensures unread { IsNoFamily (option_copied name.entry) → reader.new ≡ reader.old }
-    ensures usage { IsNoFamily (option_copied name.entry) → PrintsOrFails (W.contents writer.old) (W.contents writer.new) usage_line 2 result }
+    ensures usage { IsNoFamily (option_copied name.entry)
+        → PrintsOrFails (W.contents writer.old) (W.contents writer.new) usage_line 2 result }
     ensures memory { result ≡ 4 → Appends (W.contents writer.old) (W.contents writer.new) no_memory_line }
     ensures known { result ≤ 5 }
 {

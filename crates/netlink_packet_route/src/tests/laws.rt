@@ -1,4 +1,5 @@
-//! Each law, called once: those of families at an attribute of any kind and at families with lists and names, the others
+//! Each law, called once: those of families at an attribute of any kind and at families with lists and names, the
+//! others
 //! at one type at least.
 
 use crate::link::{
