@@ -22,6 +22,7 @@ impl NamedNumber for Lamp {
 
     ghost names = { record {
       labels = label Red (codes "red") 1 ∷ label Amber (codes "amber") 2 ∷ label Green (codes "green") 4 ∷ [];
+      further = [];
       other = Other;
       other_text = Unknown;
       accepted = TextOrDigit;
