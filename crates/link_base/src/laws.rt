@@ -16,8 +16,8 @@ ghost use Rattle.link_base.specs.Items.{AreItems, bytes_left};
 ghost use Rattle.link_base.specs.Number.{IsBytes};
 ghost use Rattle.link_base.specs.Frame.{Frame, Frames, kind_of, pad};
 ghost use Rattle.link_base.specs.Wire.{Wire, FirstFault, Reads};
-ghost use Rattle.link_base.specs.Table.{Table, AttrValue, Other, class_at, Gives, Fits, canon, cut, Canonical, Rewriting};
-ghost use Rattle.link_base.specs.Table.{written_kind, written_payload, written_list};
+ghost use Rattle.link_base.specs.Table.{Table, AttrValue, Other, class_at, Gives, Fits, canon, cut};
+ghost use Rattle.link_base.specs.Table.{Canonical, Rewriting, written_kind, written_payload, written_list};
 ghost use Rattle.link_base.specs.Held.{IsInRange, HidesNone, IsPlain};
 ghost use Rattle.link_base.specs.WellFormed.{is_table, IsOverfull};
 ghost use Rattle.link_base.specs.Lawful.{IsLawful};
@@ -127,7 +127,8 @@ pub fn joined<F: Attribute>()
     ensures values { (a b : List ℕ) (vs ws : List AttrValue) → length a % 4 ≡ 0
         → Wire (Gives F.table) a vs → Wire (Gives F.table) b ws → Wire (Gives F.table) (a ++ b) (vs ++ ws) }
     ensures fault { (a b : List ℕ) (vs : List AttrValue) (at : ℕ) (fault : DecodeFault) → length a % 4 ≡ 0
-        → Wire (Gives F.table) a vs → FirstFault (Gives F.table) b at fault → FirstFault (Gives F.table) (a ++ b) (length a + at) fault }
+        → Wire (Gives F.table) a vs → FirstFault (Gives F.table) b at fault
+        → FirstFault (Gives F.table) (a ++ b) (length a + at) fault }
 {}
 
 // ---- families: values that a program holds

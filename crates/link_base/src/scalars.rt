@@ -1,7 +1,8 @@
 //! Numbers and addresses as payloads.
 //!
 //! A reader takes a whole payload and fails with `Payload`; a writer fills the front of a buffer and leaves the bytes
-//! behind it as they are. Numbers are little-endian unless they are said to be in network byte order. Types of numbers are those of `include/uapi/linux/netlink.h`, `NL_ATTR_TYPE_*`.
+//! behind it as they are. Numbers are little-endian unless they are said to be in network byte order. Types of numbers
+//! are those of `include/uapi/linux/netlink.h`, `NL_ATTR_TYPE_*`.
 
 ghost use Rattle.std.specs.Prelude.{◌≡◌, ◌≤◌, ◌<◌, ◌∷◌, [], length, reverse, slice_index, nat_lt, IfOk};
 ghost use Rattle.std.specs.Int.{w32, cast_unsigned};

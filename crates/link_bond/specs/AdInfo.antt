@@ -1,4 +1,4 @@
--- The active aggregate of a bond.
+-- The active aggregator of a bond.
 use Rattle.std.specs.Prelude.{[], ◌∷◌}
 use Rattle.link_base.specs.Class.{Unsigned, Octets, Exactly, Number, Raw}
 use Rattle.link_base.specs.Table.{Rows, Leaf, Case, row}

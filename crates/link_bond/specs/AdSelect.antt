@@ -1,4 +1,4 @@
--- How the active aggregate is chosen: the names.
+-- How the active aggregator is chosen: the names.
 use Rattle.std.specs.Prelude.{[], ◌∷◌, codes, refl}
 use Rattle.link_base.specs.Named.{Naming, Seen, Listed, Free, IsSeen, label, Unknown, TextOrDigit}
 use Rattle.link_bond.specs.declared.bond.ad_select.BondAdSelect.{BondAdSelect}

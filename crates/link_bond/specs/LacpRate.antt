@@ -1,4 +1,4 @@
--- How often the peer is asked to send: the names.
+-- How often the LACP partner is asked to send: the names.
 use Rattle.std.specs.Prelude.{[], ◌∷◌, codes, refl}
 use Rattle.link_base.specs.Named.{Naming, Seen, Listed, Free, IsSeen, label, Bare, TextOrDigit}
 use Rattle.link_bond.specs.declared.bond.lacp_rate.BondLacpRate.{BondLacpRate}

@@ -1,5 +1,7 @@
 //! The attributes of a bond (`IFLA_INFO_DATA` of a link of kind `bond`).
 
+ghost use Rattle.link_bond.specs.Bond.{bond_table, bond_means};
+
 mod ad_info;
 mod ad_select;
 mod all_port_active;
@@ -106,7 +108,8 @@ pub enum InfoBond {
     Mode(BondMode),
     /// The index of the active port, a network device (`IFLA_BOND_ACTIVE_SLAVE`, four bytes).
     ActivePort(u32),
-    /// How often the links of the ports are looked at, in milliseconds; 0 for never (`IFLA_BOND_MIIMON`, four bytes).
+    /// The MII monitoring interval, at which the links of the ports are checked, in milliseconds; 0 for never
+    /// (`IFLA_BOND_MIIMON`, four bytes).
     MiiMon(u32),
     /// How long a link is up before its port is used, in milliseconds (`IFLA_BOND_UPDELAY`, four bytes).
     UpDelay(u32),
@@ -115,8 +118,8 @@ pub enum InfoBond {
     /// Whether the state of a link is taken from the carrier that its driver reports, and not asked for by MII or
     /// ethtool (`IFLA_BOND_USE_CARRIER`, one byte).
     UseCarrier(bool),
-    /// How often ports are watched by ARP and neighbour messages, in milliseconds; 0 for never
-    /// (`IFLA_BOND_ARP_INTERVAL`, four bytes).
+    /// The ARP monitoring interval, at which the ports are checked by ARP and neighbour messages, in milliseconds; 0
+    /// for never (`IFLA_BOND_ARP_INTERVAL`, four bytes).
     ArpInterval(u32),
     /// The addresses that ARP requests ask for (`IFLA_BOND_ARP_IP_TARGET`, a list of elements of four octets; at most
     /// 8191 fit).
@@ -140,8 +143,8 @@ pub enum InfoBond {
     NumPeerNotif(u8),
     /// What becomes of duplicate frames, those that arrive at inactive ports (`IFLA_BOND_ALL_SLAVES_ACTIVE`, one byte).
     AllPortsActive(BondAllPortActive),
-    /// How many ports have to be up before the bond is up, in the mode `Ieee8023Ad` (`IFLA_BOND_MIN_LINKS`, four
-    /// bytes).
+    /// The minimum number of ports that have to be up before the bond is up, in the mode `Ieee8023Ad`
+    /// (`IFLA_BOND_MIN_LINKS`, four bytes).
     MinLinks(u32),
     /// The seconds between learning packets to the switch of each port, in the modes `BalanceTlb` and `BalanceAlb`
     /// (`IFLA_BOND_LP_INTERVAL`, four bytes).
@@ -149,11 +152,11 @@ pub enum InfoBond {
     /// How many packets a port sends before the next one's turn in the mode `BalanceRr`; 0 for a port at random
     /// (`IFLA_BOND_PACKETS_PER_SLAVE`, four bytes).
     PacketsPerPort(u32),
-    /// How often the peer is asked to send its LACPDUs (`IFLA_BOND_AD_LACP_RATE`, one byte).
+    /// How often the LACP partner is asked to send its LACPDUs (`IFLA_BOND_AD_LACP_RATE`, one byte).
     AdLacpRate(BondLacpRate),
-    /// How the active aggregate is chosen (`IFLA_BOND_AD_SELECT`, one byte).
+    /// How the active aggregator is chosen (`IFLA_BOND_AD_SELECT`, one byte).
     AdSelect(BondAdSelect),
-    /// The active aggregate (`IFLA_BOND_AD_INFO`, a list).
+    /// The active aggregator (`IFLA_BOND_AD_INFO`, a list).
     AdInfo(Vec<BondAdInfo>),
     /// The priority of this system in LACP (`IFLA_BOND_AD_ACTOR_SYS_PRIO`, two bytes).
     AdActorSysPrio(u16),
@@ -167,10 +170,10 @@ pub enum InfoBond {
     /// The time between two of the messages of `NumPeerNotif`, in milliseconds (`IFLA_BOND_PEER_NOTIF_DELAY`, four
     /// bytes).
     PeerNotifDelay(u32),
-    /// Whether LACPDUs are sent even if the peer sends none (`IFLA_BOND_AD_LACP_ACTIVE`, one byte).
+    /// Whether LACPDUs are sent even if the LACP partner sends none (`IFLA_BOND_AD_LACP_ACTIVE`, one byte).
     AdLacpActive(bool),
-    /// How many ARP intervals in a row pass without an answer until a port counts as down (`IFLA_BOND_MISSED_MAX`, one
-    /// byte).
+    /// The maximum number of ARP monitoring intervals in a row without an answer, until a port counts as down
+    /// (`IFLA_BOND_MISSED_MAX`, one byte).
     MissedMax(u8),
     /// The addresses that neighbour solicitations ask for (`IFLA_BOND_NS_IP6_TARGET`, a list of elements of sixteen
     /// octets; at most 3276 fit).
@@ -188,7 +191,6 @@ pub enum InfoBond {
 }
 
 impl TryClone for InfoBond {
-    #[tactic(auto, using(link_base::proofs::Copies::same_four, link_base::proofs::Copies::same_sixteen))]
     fn try_clone(&self, alloc: Global) -> Result<Self, AllocError> {
         match self {
             InfoBond::Mode(mode) => Ok(InfoBond::Mode(*mode)),
@@ -235,8 +237,6 @@ impl TryClone for InfoBond {
 }
 
 impl Meaning for InfoBond {
-    ghost use Rattle.link_bond.specs.Bond.{bond_table, bond_means};
-
     ghost table = { bond_table };
 
     ghost means = { bond_means };
@@ -415,17 +415,32 @@ impl Parseable for InfoBond {
 impl Attribute for InfoBond {
     ghost use Rattle.std.specs.Prelude.{refl};
     ghost use Rattle.link_base.proofs.TableLaws.{lawful};
-    ghost use Rattle.link_bond.specs.Bond.{bond_table};
     ghost use Rattle.link_base.specs.Equality.{of_cases, thorough_fields};
     ghost use Rattle.link_bond.specs.contracts.bond.mode.BondModeNamedNumber.TheImpl.Laws.{thorough-law as modes};
-    ghost use Rattle.link_bond.specs.contracts.bond.arp_validate.BondArpValidateNamedNumber.TheImpl.Laws.{thorough-law as validations};
-    ghost use Rattle.link_bond.specs.contracts.bond.arp_all_targets.BondArpAllTargetsNamedNumber.TheImpl.Laws.{thorough-law as target_rules};
-    ghost use Rattle.link_bond.specs.contracts.bond.primary_reselect.BondPrimaryReselectNamedNumber.TheImpl.Laws.{thorough-law as reselections};
-    ghost use Rattle.link_bond.specs.contracts.bond.fail_over_mac.BondFailOverMacNamedNumber.TheImpl.Laws.{thorough-law as fail_overs};
-    ghost use Rattle.link_bond.specs.contracts.bond.xmit_hash_policy.BondXmitHashPolicyNamedNumber.TheImpl.Laws.{thorough-law as policies};
-    ghost use Rattle.link_bond.specs.contracts.bond.all_port_active.BondAllPortActiveNamedNumber.TheImpl.Laws.{thorough-law as port_rules};
-    ghost use Rattle.link_bond.specs.contracts.bond.lacp_rate.BondLacpRateNamedNumber.TheImpl.Laws.{thorough-law as rates};
-    ghost use Rattle.link_bond.specs.contracts.bond.ad_select.BondAdSelectNamedNumber.TheImpl.Laws.{thorough-law as selections};
+    ghost use Rattle.link_bond.specs.contracts.bond.arp_validate.BondArpValidateNamedNumber.TheImpl.Laws.{
+      thorough-law as validations,
+    };
+    ghost use Rattle.link_bond.specs.contracts.bond.arp_all_targets.BondArpAllTargetsNamedNumber.TheImpl.Laws.{
+      thorough-law as target_rules,
+    };
+    ghost use Rattle.link_bond.specs.contracts.bond.primary_reselect.BondPrimaryReselectNamedNumber.TheImpl.Laws.{
+      thorough-law as reselections,
+    };
+    ghost use Rattle.link_bond.specs.contracts.bond.fail_over_mac.BondFailOverMacNamedNumber.TheImpl.Laws.{
+      thorough-law as fail_overs,
+    };
+    ghost use Rattle.link_bond.specs.contracts.bond.xmit_hash_policy.BondXmitHashPolicyNamedNumber.TheImpl.Laws.{
+      thorough-law as policies,
+    };
+    ghost use Rattle.link_bond.specs.contracts.bond.all_port_active.BondAllPortActiveNamedNumber.TheImpl.Laws.{
+      thorough-law as port_rules,
+    };
+    ghost use Rattle.link_bond.specs.contracts.bond.lacp_rate.BondLacpRateNamedNumber.TheImpl.Laws.{
+      thorough-law as rates,
+    };
+    ghost use Rattle.link_bond.specs.contracts.bond.ad_select.BondAdSelectNamedNumber.TheImpl.Laws.{
+      thorough-law as selections,
+    };
     ghost use Rattle.link_bond.specs.contracts.bond.ad_info.BondAdInfoAttribute.TheImpl.Laws.{thorough-law as infos};
     ghost use Rattle.link_bond.specs.contracts.bond.InfoBond.{enum};
 
@@ -433,5 +448,18 @@ impl Attribute for InfoBond {
 
     ghost well_formed = { refl };
 
-    ghost thorough = { of_cases enum _ _ (Prim.search (thorough_fields, modes, validations, target_rules, reselections, fail_overs, policies, port_rules, rates, selections, infos)) };
+    ghost thorough = { of_cases enum _ _
+        (Prim.search (
+          thorough_fields,
+          modes,
+          validations,
+          target_rules,
+          reselections,
+          fail_overs,
+          policies,
+          port_rules,
+          rates,
+          selections,
+          infos,
+        )) };
 }

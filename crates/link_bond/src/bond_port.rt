@@ -1,5 +1,7 @@
 //! The attributes of a port of a bond (`IFLA_INFO_SLAVE_DATA` of a link whose `IFLA_INFO_SLAVE_KIND` is `bond`).
 
+ghost use Rattle.link_bond.specs.BondPort.{bond_port_table, bond_port_means};
+
 mod churn_state;
 mod lacp_state;
 mod mii_status;
@@ -54,11 +56,11 @@ pub enum InfoBondPort {
     PermHwaddr(Vec<u8>),
     /// The queue whose packets are sent from the port, 0 for none (`IFLA_BOND_SLAVE_QUEUE_ID`, two bytes).
     QueueId(u16),
-    /// The identifier of the aggregate of the port (`IFLA_BOND_SLAVE_AD_AGGREGATOR_ID`, two bytes).
+    /// The identifier of the aggregator of the port (`IFLA_BOND_SLAVE_AD_AGGREGATOR_ID`, two bytes).
     AdAggregatorId(u16),
-    /// The state of this side in LACP (`IFLA_BOND_SLAVE_AD_ACTOR_OPER_PORT_STATE`, one byte).
+    /// The state of the LACP actor, which is this side (`IFLA_BOND_SLAVE_AD_ACTOR_OPER_PORT_STATE`, one byte).
     AdActorOperPortState(LacpState),
-    /// The state of the peer in LACP (`IFLA_BOND_SLAVE_AD_PARTNER_OPER_PORT_STATE`, two bytes: the first is the state,
+    /// The state of the LACP partner (`IFLA_BOND_SLAVE_AD_PARTNER_OPER_PORT_STATE`, two bytes: the first is the state,
     /// and the second is written as 0).
     AdPartnerOperPortState(LacpState),
     /// The priority of the port when an active one is chosen, the highest first (`IFLA_BOND_SLAVE_PRIO`, four bytes,
@@ -66,9 +68,9 @@ pub enum InfoBondPort {
     Prio(i32),
     /// The priority of the port in LACP (`IFLA_BOND_SLAVE_ACTOR_PORT_PRIO`, two bytes).
     ActorPortPrio(u16),
-    /// Whether this side comes into synchronization in time (`IFLA_BOND_SLAVE_AD_CHURN_ACTOR_STATE`, one byte).
+    /// Whether the LACP actor comes into synchronization in time (`IFLA_BOND_SLAVE_AD_CHURN_ACTOR_STATE`, one byte).
     AdChurnActorState(ChurnState),
-    /// Whether the peer does (`IFLA_BOND_SLAVE_AD_CHURN_PARTNER_STATE`, one byte).
+    /// Whether the LACP partner does (`IFLA_BOND_SLAVE_AD_CHURN_PARTNER_STATE`, one byte).
     AdChurnPartnerState(ChurnState),
     /// An attribute of any other kind.
     Other(DefaultNla),
@@ -103,8 +105,6 @@ impl TryClone for InfoBondPort {
 }
 
 impl Meaning for InfoBondPort {
-    ghost use Rattle.link_bond.specs.BondPort.{bond_port_table, bond_port_means};
-
     ghost table = { bond_port_table };
 
     ghost means = { bond_port_means };
@@ -200,12 +200,19 @@ impl Parseable for InfoBondPort {
 impl Attribute for InfoBondPort {
     ghost use Rattle.std.specs.Prelude.{refl};
     ghost use Rattle.link_base.proofs.TableLaws.{lawful};
-    ghost use Rattle.link_bond.specs.BondPort.{bond_port_table};
     ghost use Rattle.link_base.specs.Equality.{of_cases, thorough_fields};
-    ghost use Rattle.link_bond.specs.contracts.bond_port.port_state.BondPortStateNamedNumber.TheImpl.Laws.{thorough-law as states};
-    ghost use Rattle.link_bond.specs.contracts.bond_port.mii_status.MiiStatusNamedNumber.TheImpl.Laws.{thorough-law as statuses};
-    ghost use Rattle.link_bond.specs.contracts.bond_port.churn_state.ChurnStateNamedNumber.TheImpl.Laws.{thorough-law as churn_states};
-    ghost use Rattle.link_bond.specs.contracts.bond_port.lacp_state.LacpStateFlagSet.TheImpl.Laws.{thorough-law as flags};
+    ghost use Rattle.link_bond.specs.contracts.bond_port.port_state.BondPortStateNamedNumber.TheImpl.Laws.{
+      thorough-law as states,
+    };
+    ghost use Rattle.link_bond.specs.contracts.bond_port.mii_status.MiiStatusNamedNumber.TheImpl.Laws.{
+      thorough-law as statuses,
+    };
+    ghost use Rattle.link_bond.specs.contracts.bond_port.churn_state.ChurnStateNamedNumber.TheImpl.Laws.{
+      thorough-law as churn_states,
+    };
+    ghost use Rattle.link_bond.specs.contracts.bond_port.lacp_state.LacpStateFlagSet.TheImpl.Laws.{
+      thorough-law as flags,
+    };
     ghost use Rattle.link_bond.specs.contracts.bond_port.InfoBondPort.{enum};
 
     ghost lawful = { lawful bond_port_table };

@@ -1,12 +1,14 @@
 //! The attributes of a CAN controller (`IFLA_INFO_DATA` of a link of kind `can`).
 
+ghost use Rattle.link_vlan_can.specs.Can.{can_table, can_means};
+
 use crate::can_limits::CanBitTimingConst;
 use crate::can_modes::CanCtrlModeExt;
 use crate::can_records::{CanBerrCounter, CanBitTiming, CanClock, CanCtrlMode};
 use crate::can_tdc::CanTdc;
 use link_base::{
-    Attribute, DecodeError, DefaultNla, Meaning, Nla, NlaBuffer, Parseable, TryClone, emit_nested,
-    emit_u16, emit_u32, nested_len, parse_u16, parse_u32, read_nested, try_clone_list,
+    Attribute, DecodeError, DefaultNla, Meaning, NLA_F_NESTED, Nla, NlaBuffer, Parseable, TryClone,
+    emit_nested, emit_u16, emit_u32, nested_len, parse_u16, parse_u32, read_nested, try_clone_list,
 };
 use std::alloc::{AllocError, Global};
 
@@ -39,9 +41,6 @@ const IFLA_CAN_TDC: u16 = 16;
 
 const IFLA_CAN_CTRLMODE_EXT: u16 = 17;
 
-/// `include/uapi/linux/netlink.h`: the payload is a list.
-const NLA_F_NESTED: u16 = 0x8000;
-
 /// An attribute of a CAN controller (`IFLA_CAN_*`, `include/uapi/linux/can/netlink.h`).
 #[derive(Debug, PartialEq, Eq, Drop)]
 pub enum InfoCan {
@@ -51,12 +50,12 @@ pub enum InfoCan {
     BitTimingConst(CanBitTimingConst),
     /// The clock (`IFLA_CAN_CLOCK`, four bytes).
     Clock(CanClock),
-    /// The state: 0 error active, 1 error warning, 2 error passive, 3 off the bus, 4 stopped, 5 sleeping
+    /// The state: 0 error active, 1 error warning, 2 error passive, 3 bus-off, 4 stopped, 5 sleeping
     /// (`IFLA_CAN_STATE`, `enum can_state`, four bytes).
     State(u32),
     /// The modes (`IFLA_CAN_CTRLMODE`, eight bytes).
     CtrlMode(CanCtrlMode),
-    /// How long after it went off the bus the controller is restarted, in milliseconds; 0 for never
+    /// How long after bus-off the controller is restarted, in milliseconds; 0 for never
     /// (`IFLA_CAN_RESTART_MS`, four bytes).
     RestartMs(u32),
     /// A request to restart the controller now (`IFLA_CAN_RESTART`, four bytes).
@@ -69,7 +68,7 @@ pub enum InfoCan {
     DataBitTimingConst(CanBitTimingConst),
     /// The resistance of the bus termination, in ohms; 0 for none (`IFLA_CAN_TERMINATION`, two bytes).
     Termination(u16),
-    /// The greatest bit rate of the transceiver, in bits per second (`IFLA_CAN_BITRATE_MAX`, four bytes).
+    /// The maximum bit rate of the transceiver, in bits per second (`IFLA_CAN_BITRATE_MAX`, four bytes).
     BitrateMax(u32),
     /// The transmitter delay compensation of CAN FD (`IFLA_CAN_TDC`, a list that is written with `NLA_F_NESTED`).
     Tdc(Vec<CanTdc>),
@@ -106,8 +105,6 @@ impl TryClone for InfoCan {
 }
 
 impl Meaning for InfoCan {
-    ghost use Rattle.link_vlan_can.specs.Can.{can_table, can_means};
-
     ghost table = { can_table };
 
     ghost means = { can_means };
@@ -200,16 +197,47 @@ impl Parseable for InfoCan {
 impl Attribute for InfoCan {
     ghost use Rattle.std.specs.Prelude.{refl};
     ghost use Rattle.link_base.proofs.TableLaws.{lawful};
-    ghost use Rattle.link_vlan_can.specs.Can.{can_table};
     ghost use Rattle.link_base.specs.Equality.{of_cases, anything, numbers, lists, defaults};
     ghost use Rattle.link_vlan_can.specs.CanEquality.{timings, limits, clocks, modes, counters};
     ghost use Rattle.link_vlan_can.specs.contracts.can_tdc.CanTdcAttribute.TheImpl.Laws.{thorough-law as tdcs};
-    ghost use Rattle.link_vlan_can.specs.contracts.can_modes.CanCtrlModeExtAttribute.TheImpl.Laws.{thorough-law as exts};
+    ghost use Rattle.link_vlan_can.specs.contracts.can_modes.CanCtrlModeExtAttribute.TheImpl.Laws.{
+      thorough-law as exts,
+    };
     ghost use Rattle.link_vlan_can.specs.contracts.can.InfoCan.{enum};
 
     ghost lawful = { lawful can_table };
 
     ghost well_formed = { refl };
 
-    ghost thorough = { of_cases enum _ _ (anything timings, (limits, (anything clocks, (anything numbers, (anything modes, (anything numbers, (anything numbers, (anything counters, (anything timings, (limits, (anything numbers, (anything numbers, (lists tdcs, (lists exts, (defaults, tt))))))))))))))) };
+    ghost thorough = { of_cases enum _ _ (
+      anything timings,
+      (
+        limits,
+        (
+          anything clocks,
+          (
+            anything numbers,
+            (
+              anything modes,
+              (
+                anything numbers,
+                (
+                  anything numbers,
+                  (
+                    anything counters,
+                    (
+                      anything timings,
+                      (
+                        limits,
+                        (anything numbers, (anything numbers, (lists tdcs, (lists exts, (defaults, tt))))),
+                      ),
+                    ),
+                  ),
+                ),
+              ),
+            ),
+          ),
+        ),
+      ),
+    ) };
 }

@@ -20,26 +20,26 @@ pub struct CanBitTimingConst {
     /// The name of the controller. It is read as the text of the bytes before the first NUL, or of all 16, with U+FFFD
     /// for each maximal part that is no UTF-8, and written as its first 15 bytes, and zeros up to 16.
     pub name: String,
-    /// The least sum of the propagation segment and the first phase buffer segment, in time quanta.
+    /// The minimum sum of the propagation segment and the first phase buffer segment, in time quanta.
     pub tseg1_min: u32,
-    /// The greatest such sum, in time quanta.
+    /// The maximum such sum, in time quanta.
     pub tseg1_max: u32,
-    /// The least second phase buffer segment, in time quanta.
+    /// The minimum second phase buffer segment, in time quanta.
     pub tseg2_min: u32,
-    /// The greatest second phase buffer segment, in time quanta.
+    /// The maximum second phase buffer segment, in time quanta.
     pub tseg2_max: u32,
-    /// The greatest synchronisation jump width, in time quanta.
+    /// The maximum synchronisation jump width, in time quanta.
     pub sjw_max: u32,
-    /// The least prescaler of the bit rate.
+    /// The minimum prescaler of the bit rate.
     pub brp_min: u32,
-    /// The greatest prescaler of the bit rate.
+    /// The maximum prescaler of the bit rate.
     pub brp_max: u32,
     /// The step from one prescaler to the next.
     pub brp_inc: u32,
 }
 
 impl CanBitTimingConst {
-    /// Limits with this name, all numbers zero. Fails where a growth was refused.
+    /// Limits with this name, all numbers zero. Fails where allocation failed.
     pub fn new(alloc: Global, name: &str) -> Result<Self, AllocError>
         ensures { IfOk result (λ limits. limits_view limits ≡ limits_with name.now) }
     {
@@ -69,7 +69,7 @@ impl CanBitTimingConst {
         }
     }
 
-    /// An equal value. Fails where a growth was refused.
+    /// An equal value. Fails where allocation failed.
     pub fn try_clone(&self, alloc: Global) -> Result<Self, AllocError>
         ensures { IfOk result (λ limits. limits_view limits ≡ limits_view self.now) }
     {

@@ -1,5 +1,9 @@
 //! What a CAN controller says of its modes.
 
+ghost use Rattle.std.specs.Prelude.{refl, true};
+ghost use Rattle.link_base.specs.Lift.{lift, lift_table};
+ghost use Rattle.link_vlan_can.specs.Can.{mode_rows, mode_leaf};
+
 use crate::can_flags::CanCtrlModeFlags;
 use bitflags::Flags;
 use link_base::{
@@ -30,9 +34,6 @@ impl TryClone for CanCtrlModeExt {
 }
 
 impl Meaning for CanCtrlModeExt {
-    ghost use Rattle.link_base.specs.Lift.{lift, lift_table};
-    ghost use Rattle.link_vlan_can.specs.Can.{mode_rows, mode_leaf};
-
     ghost table = { lift_table mode_rows };
 
     ghost means = { λ mode. lift (mode_leaf mode) };
@@ -74,12 +75,11 @@ impl Parseable for CanCtrlModeExt {
 }
 
 impl Attribute for CanCtrlModeExt {
-    ghost use Rattle.std.specs.Prelude.{refl};
     ghost use Rattle.link_base.proofs.TableLaws.{lawful};
-    ghost use Rattle.link_base.specs.Lift.{lift_table};
-    ghost use Rattle.link_vlan_can.specs.Can.{mode_rows};
     ghost use Rattle.link_base.specs.Equality.{of_cases, thorough_fields};
-    ghost use Rattle.link_vlan_can.specs.contracts.can_flags.CanCtrlModeFlagsFlagSet.TheImpl.Laws.{thorough-law as modes_thorough};
+    ghost use Rattle.link_vlan_can.specs.contracts.can_flags.CanCtrlModeFlagsFlagSet.TheImpl.Laws.{
+      thorough-law as modes_thorough,
+    };
     ghost use Rattle.link_vlan_can.specs.contracts.can_modes.CanCtrlModeExt.{enum};
 
     ghost lawful = { lawful (lift_table mode_rows) };
@@ -90,9 +90,6 @@ impl Attribute for CanCtrlModeExt {
 }
 
 impl NestedAttribute for CanCtrlModeExt {
-    ghost use Rattle.std.specs.Prelude.{true, refl};
-    ghost use Rattle.link_vlan_can.specs.Can.{mode_rows, mode_leaf};
-
     ghost rows = { mode_rows };
 
     ghost flagged = { true };

@@ -4,7 +4,8 @@ ghost use Rattle.std.specs.Prelude.{◌≡◌, ◌≤◌, length, take, IfOk};
 ghost use Rattle.link_base.specs.Class.{accepted, AtLeast, Fixed};
 ghost use Rattle.link_base.specs.Held.{IsOctets};
 ghost use Rattle.link_base.specs.Answers.{payload_result, OverwritesFront};
-ghost use Rattle.link_vlan_can.specs.CanRecords.{timing_of, timing_with, timing_octets, modes_of, modes_octets, clock_of, clock_octets, errors_of, errors_octets};
+ghost use Rattle.link_vlan_can.specs.CanRecords.{timing_of, timing_with, timing_octets, modes_of, modes_octets};
+ghost use Rattle.link_vlan_can.specs.CanRecords.{clock_of, clock_octets, errors_of, errors_octets};
 
 use crate::can_flags::CanCtrlModeFlags;
 use bitflags::Flags;

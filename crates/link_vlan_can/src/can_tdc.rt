@@ -1,5 +1,9 @@
 //! Transmitter delay compensation of a CAN controller.
 
+ghost use Rattle.std.specs.Prelude.{refl, true};
+ghost use Rattle.link_base.specs.Lift.{lift, lift_table};
+ghost use Rattle.link_vlan_can.specs.Can.{tdc_rows, tdc_leaf};
+
 use link_base::{
     Attribute, DecodeError, DefaultNla, Meaning, NestedAttribute, Nla, NlaBuffer, Parseable,
     TryClone, emit_u32, parse_u32,
@@ -29,23 +33,23 @@ const IFLA_CAN_TDC_TDCF: u16 = 9;
 /// number of four bytes, in periods of the controller's clock.
 #[derive(Debug, PartialEq, Eq, Drop)]
 pub enum CanTdc {
-    /// The least value (`IFLA_CAN_TDC_TDCV_MIN`).
+    /// The minimum value (`IFLA_CAN_TDC_TDCV_MIN`).
     TdcvMin(u32),
-    /// The greatest value (`IFLA_CAN_TDC_TDCV_MAX`).
+    /// The maximum value (`IFLA_CAN_TDC_TDCV_MAX`).
     TdcvMax(u32),
-    /// The least offset (`IFLA_CAN_TDC_TDCO_MIN`).
+    /// The minimum offset (`IFLA_CAN_TDC_TDCO_MIN`).
     TdcoMin(u32),
-    /// The greatest offset (`IFLA_CAN_TDC_TDCO_MAX`).
+    /// The maximum offset (`IFLA_CAN_TDC_TDCO_MAX`).
     TdcoMax(u32),
-    /// The least filter window (`IFLA_CAN_TDC_TDCF_MIN`).
+    /// The minimum filter window (`IFLA_CAN_TDC_TDCF_MIN`).
     TdcfMin(u32),
-    /// The greatest filter window (`IFLA_CAN_TDC_TDCF_MAX`).
+    /// The maximum filter window (`IFLA_CAN_TDC_TDCF_MAX`).
     TdcfMax(u32),
     /// The value: the delay from the start of a bit as it is sent until its start is received (`IFLA_CAN_TDC_TDCV`).
     Tdcv(u32),
     /// The offset: from the start of a received bit to the place where it is sampled (`IFLA_CAN_TDC_TDCO`).
     Tdco(u32),
-    /// The filter window: the least sum of value and offset at which the delay is compensated (`IFLA_CAN_TDC_TDCF`).
+    /// The filter window: the minimum sum of value and offset at which the delay is compensated (`IFLA_CAN_TDC_TDCF`).
     Tdcf(u32),
     /// An attribute of any other kind.
     Other(DefaultNla),
@@ -69,9 +73,6 @@ impl TryClone for CanTdc {
 }
 
 impl Meaning for CanTdc {
-    ghost use Rattle.link_base.specs.Lift.{lift, lift_table};
-    ghost use Rattle.link_vlan_can.specs.Can.{tdc_rows, tdc_leaf};
-
     ghost table = { lift_table tdc_rows };
 
     ghost means = { λ tdc. lift (tdc_leaf tdc) };
@@ -137,10 +138,7 @@ impl Parseable for CanTdc {
 }
 
 impl Attribute for CanTdc {
-    ghost use Rattle.std.specs.Prelude.{refl};
     ghost use Rattle.link_base.proofs.TableLaws.{lawful};
-    ghost use Rattle.link_base.specs.Lift.{lift_table};
-    ghost use Rattle.link_vlan_can.specs.Can.{tdc_rows};
     ghost use Rattle.link_base.specs.Equality.{of_cases, thorough_fields};
     ghost use Rattle.link_vlan_can.specs.contracts.can_tdc.CanTdc.{enum};
 
@@ -152,9 +150,6 @@ impl Attribute for CanTdc {
 }
 
 impl NestedAttribute for CanTdc {
-    ghost use Rattle.std.specs.Prelude.{true, refl};
-    ghost use Rattle.link_vlan_can.specs.Can.{tdc_rows, tdc_leaf};
-
     ghost rows = { tdc_rows };
 
     ghost flagged = { true };

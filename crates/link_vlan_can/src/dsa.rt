@@ -1,5 +1,7 @@
 //! The attributes of a DSA port (`IFLA_INFO_DATA` of a link of kind `dsa`).
 
+ghost use Rattle.link_vlan_can.specs.Dsa.{dsa_table, dsa_means};
+
 use link_base::{
     Attribute, DecodeError, DefaultNla, Meaning, Nla, NlaBuffer, Parseable, TryClone, emit_u32,
     parse_u32,
@@ -29,8 +31,6 @@ impl TryClone for InfoDsa {
 }
 
 impl Meaning for InfoDsa {
-    ghost use Rattle.link_vlan_can.specs.Dsa.{dsa_table, dsa_means};
-
     ghost table = { dsa_table };
 
     ghost means = { dsa_means };
@@ -74,7 +74,6 @@ impl Attribute for InfoDsa {
     ghost use Rattle.link_base.proofs.TableLaws.{lawful};
     ghost use Rattle.link_base.specs.Equality.{of_cases, thorough_fields};
     ghost use Rattle.link_vlan_can.specs.contracts.dsa.InfoDsa.{enum};
-    ghost use Rattle.link_vlan_can.specs.Dsa.{dsa_table};
 
     ghost lawful = { lawful dsa_table };
 

@@ -1,5 +1,10 @@
 //! The attributes of an HSR or PRP device (`IFLA_INFO_DATA` of a link of kind `hsr`).
 
+ghost use Rattle.std.specs.Prelude.{refl, ◌≡◌, Some};
+ghost use Rattle.link_base.specs.Named.{value_of, number_of, displayed};
+ghost use Rattle.link_base.specs.Equality.{of_cases, thorough_fields};
+ghost use Rattle.link_vlan_can.specs.Hsr.{hsr_protocols, hsr_protocol, hsr_protocol_seen, hsr_table, hsr_means};
+
 use link_base::{
     Attribute, DecodeError, DefaultNla, Meaning, NamedNumber, Nla, NlaBuffer, Parseable, TryClone,
     emit_mac, emit_u8, emit_u16, emit_u32, parse_mac, parse_u8, parse_u16, parse_u32,
@@ -41,10 +46,7 @@ pub enum HsrProtocol {
 }
 
 impl NamedNumber for HsrProtocol {
-    ghost use Rattle.std.specs.Prelude.{refl};
-    ghost use Rattle.link_base.specs.Equality.{of_cases, thorough_fields};
     ghost use Rattle.link_vlan_can.specs.contracts.hsr.HsrProtocol.{enum};
-    ghost use Rattle.link_vlan_can.specs.Hsr.{hsr_protocols, hsr_protocol, hsr_protocol_seen};
 
     ghost names = { hsr_protocols };
 
@@ -63,9 +65,6 @@ impl NamedNumber for HsrProtocol {
 
 /// The case of a number, `Other` where it has no name.
 impl From<u8> for HsrProtocol {
-    ghost use Rattle.std.specs.Prelude.{◌≡◌};
-    ghost use Rattle.link_base.specs.Named.{value_of};
-
     ghost from_gives = { λ d p. p ≡ value_of ⟦<HsrProtocol as NamedNumber>⟧.names d };
 
     fn from(number: u8) -> Self {
@@ -79,9 +78,6 @@ impl From<u8> for HsrProtocol {
 
 /// The number of a case.
 impl From<HsrProtocol> for u8 {
-    ghost use Rattle.std.specs.Prelude.{◌≡◌};
-    ghost use Rattle.link_base.specs.Named.{number_of};
-
     ghost from_gives = { λ p d. d ≡ number_of (⟦<HsrProtocol as NamedNumber>⟧.seen p) };
 
     fn from(protocol: HsrProtocol) -> u8 {
@@ -95,10 +91,8 @@ impl From<HsrProtocol> for u8 {
 
 /// `hsr`, `prp`, or the number.
 impl fmt::Display for HsrProtocol {
-    ghost use Rattle.std.specs.Prelude.{Some};
-    ghost use Rattle.link_base.specs.Named.{displayed};
-
-    ghost output = { λ p. Some (displayed ⟦<HsrProtocol as NamedNumber>⟧.names (⟦<HsrProtocol as NamedNumber>⟧.seen p)) };
+    ghost output = { λ p. Some (displayed ⟦<HsrProtocol as NamedNumber>⟧.names
+        (⟦<HsrProtocol as NamedNumber>⟧.seen p)) };
 
     fn fmt<W: fmt::Write>(&self, f: &mut fmt::Formatter<W>) -> fmt::Result {
         match self {
@@ -149,8 +143,6 @@ impl TryClone for InfoHsr {
 }
 
 impl Meaning for InfoHsr {
-    ghost use Rattle.link_vlan_can.specs.Hsr.{hsr_table, hsr_means};
-
     ghost table = { hsr_table };
 
     ghost means = { hsr_means };
@@ -214,12 +206,9 @@ impl Parseable for InfoHsr {
 }
 
 impl Attribute for InfoHsr {
-    ghost use Rattle.std.specs.Prelude.{refl};
     ghost use Rattle.link_base.proofs.TableLaws.{lawful};
-    ghost use Rattle.link_base.specs.Equality.{of_cases, thorough_fields};
     ghost use Rattle.link_vlan_can.specs.contracts.hsr.HsrProtocolNamedNumber.TheImpl.Laws.{thorough-law};
     ghost use Rattle.link_vlan_can.specs.contracts.hsr.InfoHsr.{enum};
-    ghost use Rattle.link_vlan_can.specs.Hsr.{hsr_table};
 
     ghost lawful = { lawful hsr_table };
 

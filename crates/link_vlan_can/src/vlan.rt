@@ -1,5 +1,11 @@
 //! The attributes of a VLAN device (`IFLA_INFO_DATA` of a link of kind `vlan`).
 
+ghost use Rattle.std.specs.Prelude.{refl, false};
+ghost use Rattle.link_base.proofs.TableLaws.{lawful};
+ghost use Rattle.link_base.specs.Lift.{lift, lift_table};
+ghost use Rattle.link_base.specs.Equality.{of_cases, anything, pairs, numbers, defaults, lists, protocols};
+ghost use Rattle.link_vlan_can.specs.Vlan.{mapping_rows, mapping_leaf, vlan_table, vlan_means};
+
 use crate::vlan_flags::VlanFlags;
 use bitflags::Flags;
 use link_base::{
@@ -43,9 +49,6 @@ impl TryClone for VlanQosMapping {
 }
 
 impl Meaning for VlanQosMapping {
-    ghost use Rattle.link_base.specs.Lift.{lift, lift_table};
-    ghost use Rattle.link_vlan_can.specs.Vlan.{mapping_rows, mapping_leaf};
-
     ghost table = { lift_table mapping_rows };
 
     ghost means = { λ mapping. lift (mapping_leaf mapping) };
@@ -87,12 +90,7 @@ impl Parseable for VlanQosMapping {
 }
 
 impl Attribute for VlanQosMapping {
-    ghost use Rattle.std.specs.Prelude.{refl};
-    ghost use Rattle.link_base.proofs.TableLaws.{lawful};
-    ghost use Rattle.link_base.specs.Equality.{of_cases, anything, pairs, numbers, defaults};
     ghost use Rattle.link_vlan_can.specs.contracts.vlan.VlanQosMapping.{enum};
-    ghost use Rattle.link_base.specs.Lift.{lift_table};
-    ghost use Rattle.link_vlan_can.specs.Vlan.{mapping_rows};
 
     ghost lawful = { lawful (lift_table mapping_rows) };
 
@@ -102,9 +100,6 @@ impl Attribute for VlanQosMapping {
 }
 
 impl NestedAttribute for VlanQosMapping {
-    ghost use Rattle.std.specs.Prelude.{false, refl};
-    ghost use Rattle.link_vlan_can.specs.Vlan.{mapping_rows, mapping_leaf};
-
     ghost rows = { mapping_rows };
 
     ghost flagged = { false };
@@ -128,7 +123,7 @@ pub enum InfoVlan {
     EgressQos(Vec<VlanQosMapping>),
     /// How the priority of a tag becomes that of its packet when it is received (`IFLA_VLAN_INGRESS_QOS`, a list).
     IngressQos(Vec<VlanQosMapping>),
-    /// The protocol of the tag (`IFLA_VLAN_PROTOCOL`, two bytes, the highest first).
+    /// The protocol of the tag (`IFLA_VLAN_PROTOCOL`, two bytes in network byte order).
     Protocol(VlanProtocol),
     /// An attribute of any other kind.
     Other(DefaultNla),
@@ -148,8 +143,6 @@ impl TryClone for InfoVlan {
 }
 
 impl Meaning for InfoVlan {
-    ghost use Rattle.link_vlan_can.specs.Vlan.{vlan_table, vlan_means};
-
     ghost table = { vlan_table };
 
     ghost means = { vlan_means };
@@ -211,17 +204,21 @@ impl Parseable for InfoVlan {
 }
 
 impl Attribute for InfoVlan {
-    ghost use Rattle.std.specs.Prelude.{refl};
-    ghost use Rattle.link_base.proofs.TableLaws.{lawful};
-    ghost use Rattle.link_base.specs.Equality.{of_cases, anything, pairs, numbers, lists, protocols, defaults};
     ghost use Rattle.link_vlan_can.specs.contracts.vlan.VlanQosMappingAttribute.TheImpl.Laws.{thorough-law};
-    ghost use Rattle.link_vlan_can.specs.contracts.vlan_flags.VlanFlagsFlagSet.TheImpl.Laws.{thorough-law as flags_thorough};
+    ghost use Rattle.link_vlan_can.specs.contracts.vlan_flags.VlanFlagsFlagSet.TheImpl.Laws.{
+      thorough-law as flags_thorough,
+    };
     ghost use Rattle.link_vlan_can.specs.contracts.vlan.InfoVlan.{enum};
-    ghost use Rattle.link_vlan_can.specs.Vlan.{vlan_table};
 
     ghost lawful = { lawful vlan_table };
 
     ghost well_formed = { refl };
 
-    ghost thorough = { of_cases enum _ _ (anything numbers, (anything (pairs flags_thorough flags_thorough), (lists thorough-law, (lists thorough-law, (anything protocols, (defaults, tt)))))) };
+    ghost thorough = { of_cases enum _ _ (
+      anything numbers,
+      (
+        anything (pairs flags_thorough flags_thorough),
+        (lists thorough-law, (lists thorough-law, (anything protocols, (defaults, tt)))),
+      ),
+    ) };
 }

@@ -1,4 +1,2 @@
-pub mod Family
-pub mod Rewrite
-pub mod Report
+pub mod Arguments
 pub mod Run

@@ -1,10 +1,10 @@
 -- What a run of the program reads, writes and answers.
 use Rattle.std.specs.Prelude.{◌≡◌, ◌≢◌, ◌⊎◌, ℕ, ◌≤◌, List, length, codes, Option, Some}
 use Rattle.std.specs.Io.KnownBytes.{Appends, Consumes, IsAtEnd}
-use Rattle.link_base.specs.Table.{Table}
-use Rattle.nlroute.specs.declared.family.Family.{Family}
-use Rattle.nlroute.specs.Family.{family_name}
-use Rattle.nlroute.specs.Report.{Reports, line}
+use Rattle.netlink_packet_route.specs.Table.{Table}
+use Rattle.netlink_packet_route.specs.declared.family.Family.{Family}
+use Rattle.netlink_packet_route.specs.Family.{family_name}
+use Rattle.netlink_packet_route.specs.Report.{Reports, line}
 
 -- this was read of a reader: at most 262,145 bytes, one more than a text may have
 pub record IsRead (left_before left_after : Option (List ℕ)) (text : List ℕ) : Type 0 where

@@ -4,9 +4,7 @@
 //! input.
 #![tactic(auto)]
 
-mod family;
-mod reporting;
-mod rewriting;
+mod arguments;
 mod running;
 #[cfg(test)]
 mod tests;
@@ -17,7 +15,7 @@ use std::rt::Env;
 use std::{env, io};
 
 fn main(rt: HostRuntime) -> ExitCode {
-    let name = match only_argument(&rt) {
+    let name = match name_of_family(&rt) {
         Ok(name) => name,
         Err(_) => return ExitCode::from(running::print(&mut io::writer(&rt), "no memory\n", 4)),
     };
@@ -26,17 +24,11 @@ fn main(rt: HostRuntime) -> ExitCode {
     ExitCode::from(status)
 }
 
-/// The argument, where there is exactly one and it is UTF-8.
-fn only_argument<R: Env + AllocGlobal>(rt: &R) -> Result<Option<String>, AllocError> {
-    let mut arguments = match env::args(rt) {
-        Ok(arguments) => arguments,
-        Err(error) if error.kind() == io::ErrorKind::OutOfMemory => return Err(AllocError),
-        Err(_) => return Ok(None),
-    };
-    let _program = arguments.next();
-    let name = arguments.next();
-    match arguments.next() {
-        Some(_) => Ok(None),
-        None => Ok(name),
+/// The only argument. One that is not UTF-8 is no family's name.
+fn name_of_family<R: Env + AllocGlobal>(rt: &R) -> Result<Option<String>, AllocError> {
+    match env::args(rt) {
+        Ok(arguments) => Ok(arguments::only(arguments.collect(rt.alloc())?)),
+        Err(error) if error.kind() == io::ErrorKind::OutOfMemory => Err(AllocError),
+        Err(_) => Ok(None),
     }
 }

@@ -3,12 +3,11 @@
 ghost use Rattle.std.specs.Prelude.{◌≡◌, ◌<◌, ◌≤◌, ℕ, List, IfOk, IfSome, IfNone, Some};
 ghost use Rattle.std.specs.Option.{option_copied};
 ghost use Rattle.std.specs.Io.KnownBytes.{Appends};
-ghost use Rattle.nlroute.specs.declared.family.Family.{Family};
-ghost use Rattle.nlroute.specs.Family.{family_name, table_of};
+ghost use Rattle.netlink_packet_route.specs.declared.family.Family.{Family};
+ghost use Rattle.netlink_packet_route.specs.Family.{family_name, table_of};
 ghost use Rattle.nlroute.specs.Run.{RunsFor, IsNoFamily, IsRead, IsAllRead, PrintsOrFails, usage_line, no_memory_line};
 
-use crate::family::Family;
-use crate::reporting::{MOST_TEXT, report};
+use netlink_packet_route::{Family, MOST_TEXT, report};
 use std::alloc::Global;
 use std::io::{Read, Write};
 
@@ -16,7 +15,7 @@ use std::io::{Read, Write};
 /// and reads nothing. The answer is the exit status.
 ///
 /// Status 0 is success, 1 a fault, 2 a text that is too long or not hex, or an unknown name, 3 a value that does not
-/// fit, 4 a refused growth, 5 a failed reader or writer. The text ends where a read gives no bytes, and no more than
+/// fit, 4 a failed allocation, 5 a failed reader or writer. The text ends where a read gives no bytes, and no more than
 /// 262,145 bytes of it are read.
 pub fn run<R: Read, W: Write>(
     alloc: Global,

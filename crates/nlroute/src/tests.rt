@@ -1,10 +1,4 @@
-//! What no clause says: worked texts, refused devices, printed texts, and that memory suffices.
+//! What no clause says of a run: readers and writers that give little or fail, and that memory suffices.
 
-mod bonds;
-mod controllers;
 mod devices;
-mod families;
-mod lists;
-mod long_values;
-mod nested;
-mod texts;
+mod names;

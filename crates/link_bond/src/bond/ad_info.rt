@@ -1,4 +1,8 @@
-//! The active aggregate of a bond.
+//! The active aggregator of a bond.
+
+ghost use Rattle.std.specs.Prelude.{refl, false};
+ghost use Rattle.link_base.specs.Lift.{lift, lift_table};
+ghost use Rattle.link_bond.specs.AdInfo.{ad_info_rows, ad_info_leaf};
 
 use link_base::{
     Attribute, DecodeError, DefaultNla, Meaning, NestedAttribute, Nla, NlaBuffer, Parseable,
@@ -17,19 +21,19 @@ const IFLA_BOND_AD_INFO_PARTNER_KEY: u16 = 4;
 
 const IFLA_BOND_AD_INFO_PARTNER_MAC: u16 = 5;
 
-/// What the kernel tells of the active aggregate of a bond in the mode `Ieee8023Ad` (`IFLA_BOND_AD_INFO_*`,
+/// What the kernel tells of the active aggregator of a bond in the mode `Ieee8023Ad` (`IFLA_BOND_AD_INFO_*`,
 /// `include/uapi/linux/if_link.h`).
 #[derive(Debug, PartialEq, Eq, Drop)]
 pub enum BondAdInfo {
-    /// The identifier of the aggregate (`IFLA_BOND_AD_INFO_AGGREGATOR`, two bytes).
+    /// The identifier of the aggregator (`IFLA_BOND_AD_INFO_AGGREGATOR`, two bytes).
     Aggregator(u16),
     /// The number of its ports (`IFLA_BOND_AD_INFO_NUM_PORTS`, two bytes).
     NumPorts(u16),
-    /// The key of this side in LACP (`IFLA_BOND_AD_INFO_ACTOR_KEY`, two bytes).
+    /// The key of the LACP actor, which is this side (`IFLA_BOND_AD_INFO_ACTOR_KEY`, two bytes).
     ActorKey(u16),
-    /// The key of the peer (`IFLA_BOND_AD_INFO_PARTNER_KEY`, two bytes).
+    /// The key of the LACP partner (`IFLA_BOND_AD_INFO_PARTNER_KEY`, two bytes).
     PartnerKey(u16),
-    /// The hardware address of the peer's system (`IFLA_BOND_AD_INFO_PARTNER_MAC`, six octets).
+    /// The hardware address of the LACP partner's system (`IFLA_BOND_AD_INFO_PARTNER_MAC`, six octets).
     PartnerMac([u8; 6]),
     /// An element of any other kind.
     Other(DefaultNla),
@@ -49,9 +53,6 @@ impl TryClone for BondAdInfo {
 }
 
 impl Meaning for BondAdInfo {
-    ghost use Rattle.link_base.specs.Lift.{lift, lift_table};
-    ghost use Rattle.link_bond.specs.AdInfo.{ad_info_rows, ad_info_leaf};
-
     ghost table = { lift_table ad_info_rows };
 
     ghost means = { λ info. lift (ad_info_leaf info) };
@@ -107,10 +108,7 @@ impl Parseable for BondAdInfo {
 }
 
 impl Attribute for BondAdInfo {
-    ghost use Rattle.std.specs.Prelude.{refl};
     ghost use Rattle.link_base.proofs.TableLaws.{lawful};
-    ghost use Rattle.link_base.specs.Lift.{lift_table};
-    ghost use Rattle.link_bond.specs.AdInfo.{ad_info_rows};
     ghost use Rattle.link_base.specs.Equality.{of_cases, thorough_fields};
     ghost use Rattle.link_bond.specs.contracts.bond.ad_info.BondAdInfo.{enum};
 
@@ -122,9 +120,6 @@ impl Attribute for BondAdInfo {
 }
 
 impl NestedAttribute for BondAdInfo {
-    ghost use Rattle.std.specs.Prelude.{false, refl};
-    ghost use Rattle.link_bond.specs.AdInfo.{ad_info_rows, ad_info_leaf};
-
     ghost rows = { ad_info_rows };
 
     ghost flagged = { false };

@@ -1,4 +1,7 @@
-//! How a bond chooses its aggregate.
+//! How a bond chooses its active aggregator.
+
+ghost use Rattle.std.specs.Prelude.{refl, ◌≡◌, Some};
+ghost use Rattle.link_base.specs.Named.{value_of, number_of, displayed, ReadsText};
 
 use link_base::{DecodeError, DecodeFault, NamedNumber};
 use std::fmt;
@@ -13,13 +16,13 @@ const BOND_AD_COUNT: u8 = 2;
 
 const BOND_AD_PRIO: u8 = 3;
 
-/// How the active aggregate is chosen in the mode `Ieee8023Ad` (`BOND_AD_*`, `include/net/bond_3ad.h`).
+/// How the active aggregator is chosen in the mode `Ieee8023Ad` (`BOND_AD_*`, `include/net/bond_3ad.h`).
 #[derive(Clone, Copy, Debug, PartialEq, Eq)]
 pub enum BondAdSelect {
-    /// That of the largest bandwidth; chosen anew only when all its ports are down, or it has none (`BOND_AD_STABLE`,
+    /// That of the maximum bandwidth; chosen anew only when all its ports are down, or it has none (`BOND_AD_STABLE`,
     /// 0).
     Stable,
-    /// That of the largest bandwidth; chosen anew whenever a port or a link changes (`BOND_AD_BANDWIDTH`, 1).
+    /// That of the maximum bandwidth; chosen anew whenever a port or a link changes (`BOND_AD_BANDWIDTH`, 1).
     Bandwidth,
     /// That of the most ports; chosen anew whenever a port or a link changes (`BOND_AD_COUNT`, 2).
     Count,
@@ -31,7 +34,6 @@ pub enum BondAdSelect {
 }
 
 impl NamedNumber for BondAdSelect {
-    ghost use Rattle.std.specs.Prelude.{refl};
     ghost use Rattle.link_base.specs.Equality.{of_cases, thorough_fields};
     ghost use Rattle.link_bond.specs.contracts.bond.ad_select.BondAdSelect.{enum};
     ghost use Rattle.link_bond.specs.AdSelect.{ad_select_names, ad_select_seen, ad_select_cases};
@@ -53,9 +55,6 @@ impl NamedNumber for BondAdSelect {
 
 /// The case of a number, `Other` where it has no name.
 impl From<u8> for BondAdSelect {
-    ghost use Rattle.std.specs.Prelude.{◌≡◌};
-    ghost use Rattle.link_base.specs.Named.{value_of};
-
     ghost from_gives = { λ d v. v ≡ value_of ⟦<BondAdSelect as NamedNumber>⟧.names d };
 
     fn from(number: u8) -> Self {
@@ -71,9 +70,6 @@ impl From<u8> for BondAdSelect {
 
 /// The number of a case.
 impl From<BondAdSelect> for u8 {
-    ghost use Rattle.std.specs.Prelude.{◌≡◌};
-    ghost use Rattle.link_base.specs.Named.{number_of};
-
     ghost from_gives = { λ v d. d ≡ number_of (⟦<BondAdSelect as NamedNumber>⟧.seen v) };
 
     fn from(value: BondAdSelect) -> u8 {
@@ -89,10 +85,8 @@ impl From<BondAdSelect> for u8 {
 
 /// The name, as `stable`; `unknown-variant (9)` for a number without one.
 impl fmt::Display for BondAdSelect {
-    ghost use Rattle.std.specs.Prelude.{Some};
-    ghost use Rattle.link_base.specs.Named.{displayed};
-
-    ghost output = { λ v. Some (displayed ⟦<BondAdSelect as NamedNumber>⟧.names (⟦<BondAdSelect as NamedNumber>⟧.seen v)) };
+    ghost output = { λ v. Some (displayed ⟦<BondAdSelect as NamedNumber>⟧.names
+        (⟦<BondAdSelect as NamedNumber>⟧.seen v)) };
 
     fn fmt<W: fmt::Write>(&self, f: &mut fmt::Formatter<W>) -> fmt::Result {
         match self {
@@ -108,8 +102,6 @@ impl fmt::Display for BondAdSelect {
 /// Reads a displayed name, or the number of one as a digit. Fails with `Text` for every other text.
 impl FromStr for BondAdSelect {
     type Err = DecodeError;
-
-    ghost use Rattle.link_base.specs.Named.{ReadsText};
 
     ghost from_str_gives = { λ text result. ReadsText ⟦<BondAdSelect as NamedNumber>⟧.names text result };
 

@@ -1,5 +1,8 @@
 //! What becomes of frames that arrive at inactive ports of a bond.
 
+ghost use Rattle.std.specs.Prelude.{refl, ◌≡◌, Some};
+ghost use Rattle.link_base.specs.Named.{value_of, number_of, displayed, ReadsText};
+
 use link_base::{DecodeError, DecodeFault, NamedNumber};
 use std::fmt;
 use std::str::FromStr;
@@ -22,7 +25,6 @@ pub enum BondAllPortActive {
 }
 
 impl NamedNumber for BondAllPortActive {
-    ghost use Rattle.std.specs.Prelude.{refl};
     ghost use Rattle.link_base.specs.Equality.{of_cases, thorough_fields};
     ghost use Rattle.link_bond.specs.contracts.bond.all_port_active.BondAllPortActive.{enum};
     ghost use Rattle.link_bond.specs.AllPortActive.{all_port_active_names, all_port_active_seen, all_port_active_cases};
@@ -44,9 +46,6 @@ impl NamedNumber for BondAllPortActive {
 
 /// The case of a number, `Other` where it has no name.
 impl From<u8> for BondAllPortActive {
-    ghost use Rattle.std.specs.Prelude.{◌≡◌};
-    ghost use Rattle.link_base.specs.Named.{value_of};
-
     ghost from_gives = { λ d v. v ≡ value_of ⟦<BondAllPortActive as NamedNumber>⟧.names d };
 
     fn from(number: u8) -> Self {
@@ -60,9 +59,6 @@ impl From<u8> for BondAllPortActive {
 
 /// The number of a case.
 impl From<BondAllPortActive> for u8 {
-    ghost use Rattle.std.specs.Prelude.{◌≡◌};
-    ghost use Rattle.link_base.specs.Named.{number_of};
-
     ghost from_gives = { λ v d. d ≡ number_of (⟦<BondAllPortActive as NamedNumber>⟧.seen v) };
 
     fn from(value: BondAllPortActive) -> u8 {
@@ -76,10 +72,8 @@ impl From<BondAllPortActive> for u8 {
 
 /// The name, as `dropped`; the number where it has none.
 impl fmt::Display for BondAllPortActive {
-    ghost use Rattle.std.specs.Prelude.{Some};
-    ghost use Rattle.link_base.specs.Named.{displayed};
-
-    ghost output = { λ v. Some (displayed ⟦<BondAllPortActive as NamedNumber>⟧.names (⟦<BondAllPortActive as NamedNumber>⟧.seen v)) };
+    ghost output = { λ v. Some (displayed ⟦<BondAllPortActive as NamedNumber>⟧.names
+        (⟦<BondAllPortActive as NamedNumber>⟧.seen v)) };
 
     fn fmt<W: fmt::Write>(&self, f: &mut fmt::Formatter<W>) -> fmt::Result {
         match self {
@@ -93,8 +87,6 @@ impl fmt::Display for BondAllPortActive {
 /// Reads a displayed name, or the number of one as a digit. Fails with `Text` for every other text.
 impl FromStr for BondAllPortActive {
     type Err = DecodeError;
-
-    ghost use Rattle.link_base.specs.Named.{ReadsText};
 
     ghost from_str_gives = { λ text result. ReadsText ⟦<BondAllPortActive as NamedNumber>⟧.names text result };
 

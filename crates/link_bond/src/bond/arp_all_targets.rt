@@ -1,5 +1,8 @@
 //! How many of the ARP targets of a bond have to be reached.
 
+ghost use Rattle.std.specs.Prelude.{refl, ◌≡◌, Some};
+ghost use Rattle.link_base.specs.Named.{value_of, number_of, displayed, ReadsText};
+
 use link_base::{DecodeError, DecodeFault, NamedNumber};
 use std::fmt;
 use std::str::FromStr;
@@ -21,7 +24,6 @@ pub enum BondArpAllTargets {
 }
 
 impl NamedNumber for BondArpAllTargets {
-    ghost use Rattle.std.specs.Prelude.{refl};
     ghost use Rattle.link_base.specs.Equality.{of_cases, thorough_fields};
     ghost use Rattle.link_bond.specs.contracts.bond.arp_all_targets.BondArpAllTargets.{enum};
     ghost use Rattle.link_bond.specs.ArpAllTargets.{arp_all_targets_names, arp_all_targets_seen, arp_all_targets_cases};
@@ -43,9 +45,6 @@ impl NamedNumber for BondArpAllTargets {
 
 /// `Any`.
 impl Default for BondArpAllTargets {
-    ghost use Rattle.std.specs.Prelude.{◌≡◌};
-    ghost use Rattle.link_base.specs.Named.{value_of};
-
     ghost is_default = { λ v. v ≡ value_of ⟦<BondArpAllTargets as NamedNumber>⟧.names 0 };
 
     fn default() -> Self {
@@ -55,9 +54,6 @@ impl Default for BondArpAllTargets {
 
 /// The case of a number, `Other` where it has no name.
 impl From<u32> for BondArpAllTargets {
-    ghost use Rattle.std.specs.Prelude.{◌≡◌};
-    ghost use Rattle.link_base.specs.Named.{value_of};
-
     ghost from_gives = { λ d v. v ≡ value_of ⟦<BondArpAllTargets as NamedNumber>⟧.names d };
 
     fn from(number: u32) -> Self {
@@ -71,9 +67,6 @@ impl From<u32> for BondArpAllTargets {
 
 /// The number of a case.
 impl From<BondArpAllTargets> for u32 {
-    ghost use Rattle.std.specs.Prelude.{◌≡◌};
-    ghost use Rattle.link_base.specs.Named.{number_of};
-
     ghost from_gives = { λ v d. d ≡ number_of (⟦<BondArpAllTargets as NamedNumber>⟧.seen v) };
 
     fn from(value: BondArpAllTargets) -> u32 {
@@ -87,10 +80,8 @@ impl From<BondArpAllTargets> for u32 {
 
 /// The name, as `any`; `unknown-variant (9)` for a number without one.
 impl fmt::Display for BondArpAllTargets {
-    ghost use Rattle.std.specs.Prelude.{Some};
-    ghost use Rattle.link_base.specs.Named.{displayed};
-
-    ghost output = { λ v. Some (displayed ⟦<BondArpAllTargets as NamedNumber>⟧.names (⟦<BondArpAllTargets as NamedNumber>⟧.seen v)) };
+    ghost output = { λ v. Some (displayed ⟦<BondArpAllTargets as NamedNumber>⟧.names
+        (⟦<BondArpAllTargets as NamedNumber>⟧.seen v)) };
 
     fn fmt<W: fmt::Write>(&self, f: &mut fmt::Formatter<W>) -> fmt::Result {
         match self {
@@ -104,8 +95,6 @@ impl fmt::Display for BondArpAllTargets {
 /// Reads a displayed name, or the number of one as a digit. Fails with `Text` for every other text.
 impl FromStr for BondArpAllTargets {
     type Err = DecodeError;
-
-    ghost use Rattle.link_base.specs.Named.{ReadsText};
 
     ghost from_str_gives = { λ text result. ReadsText ⟦<BondArpAllTargets as NamedNumber>⟧.names text result };
 

@@ -1,5 +1,8 @@
 //! Which ports of a bond check the ARP and neighbour messages that they receive.
 
+ghost use Rattle.std.specs.Prelude.{refl, ◌≡◌, Some};
+ghost use Rattle.link_base.specs.Named.{value_of, number_of, displayed, ReadsText};
+
 use link_base::{DecodeError, DecodeFault, NamedNumber};
 use std::fmt;
 use std::str::FromStr;
@@ -42,7 +45,6 @@ pub enum BondArpValidate {
 }
 
 impl NamedNumber for BondArpValidate {
-    ghost use Rattle.std.specs.Prelude.{refl};
     ghost use Rattle.link_base.specs.Equality.{of_cases, thorough_fields};
     ghost use Rattle.link_bond.specs.contracts.bond.arp_validate.BondArpValidate.{enum};
     ghost use Rattle.link_bond.specs.ArpValidate.{arp_validate_names, arp_validate_seen, arp_validate_cases};
@@ -64,9 +66,6 @@ impl NamedNumber for BondArpValidate {
 
 /// `None`.
 impl Default for BondArpValidate {
-    ghost use Rattle.std.specs.Prelude.{◌≡◌};
-    ghost use Rattle.link_base.specs.Named.{value_of};
-
     ghost is_default = { λ v. v ≡ value_of ⟦<BondArpValidate as NamedNumber>⟧.names 0 };
 
     fn default() -> Self {
@@ -76,9 +75,6 @@ impl Default for BondArpValidate {
 
 /// The case of a number, `Other` where it has no name.
 impl From<u32> for BondArpValidate {
-    ghost use Rattle.std.specs.Prelude.{◌≡◌};
-    ghost use Rattle.link_base.specs.Named.{value_of};
-
     ghost from_gives = { λ d v. v ≡ value_of ⟦<BondArpValidate as NamedNumber>⟧.names d };
 
     fn from(number: u32) -> Self {
@@ -97,9 +93,6 @@ impl From<u32> for BondArpValidate {
 
 /// The number of a case.
 impl From<BondArpValidate> for u32 {
-    ghost use Rattle.std.specs.Prelude.{◌≡◌};
-    ghost use Rattle.link_base.specs.Named.{number_of};
-
     ghost from_gives = { λ v d. d ≡ number_of (⟦<BondArpValidate as NamedNumber>⟧.seen v) };
 
     fn from(value: BondArpValidate) -> u32 {
@@ -118,10 +111,8 @@ impl From<BondArpValidate> for u32 {
 
 /// The name, as `none`; `unknown-variant (9)` for a number without one.
 impl fmt::Display for BondArpValidate {
-    ghost use Rattle.std.specs.Prelude.{Some};
-    ghost use Rattle.link_base.specs.Named.{displayed};
-
-    ghost output = { λ v. Some (displayed ⟦<BondArpValidate as NamedNumber>⟧.names (⟦<BondArpValidate as NamedNumber>⟧.seen v)) };
+    ghost output = { λ v. Some (displayed ⟦<BondArpValidate as NamedNumber>⟧.names
+        (⟦<BondArpValidate as NamedNumber>⟧.seen v)) };
 
     fn fmt<W: fmt::Write>(&self, f: &mut fmt::Formatter<W>) -> fmt::Result {
         match self {
@@ -140,8 +131,6 @@ impl fmt::Display for BondArpValidate {
 /// Reads a displayed name, or the number of one as a digit. Fails with `Text` for every other text.
 impl FromStr for BondArpValidate {
     type Err = DecodeError;
-
-    ghost use Rattle.link_base.specs.Named.{ReadsText};
 
     ghost from_str_gives = { λ text result. ReadsText ⟦<BondArpValidate as NamedNumber>⟧.names text result };
 

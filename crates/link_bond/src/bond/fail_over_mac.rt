@@ -1,5 +1,8 @@
 //! Which hardware addresses the ports of a bond have.
 
+ghost use Rattle.std.specs.Prelude.{refl, ◌≡◌, Some};
+ghost use Rattle.link_base.specs.Named.{value_of, number_of, displayed, ReadsText};
+
 use link_base::{DecodeError, DecodeFault, NamedNumber};
 use std::fmt;
 use std::str::FromStr;
@@ -25,7 +28,6 @@ pub enum BondFailOverMac {
 }
 
 impl NamedNumber for BondFailOverMac {
-    ghost use Rattle.std.specs.Prelude.{refl};
     ghost use Rattle.link_base.specs.Equality.{of_cases, thorough_fields};
     ghost use Rattle.link_bond.specs.contracts.bond.fail_over_mac.BondFailOverMac.{enum};
     ghost use Rattle.link_bond.specs.FailOverMac.{fail_over_mac_names, fail_over_mac_seen, fail_over_mac_cases};
@@ -47,9 +49,6 @@ impl NamedNumber for BondFailOverMac {
 
 /// `None`.
 impl Default for BondFailOverMac {
-    ghost use Rattle.std.specs.Prelude.{◌≡◌};
-    ghost use Rattle.link_base.specs.Named.{value_of};
-
     ghost is_default = { λ v. v ≡ value_of ⟦<BondFailOverMac as NamedNumber>⟧.names 0 };
 
     fn default() -> Self {
@@ -59,9 +58,6 @@ impl Default for BondFailOverMac {
 
 /// The case of a number, `Other` where it has no name.
 impl From<u8> for BondFailOverMac {
-    ghost use Rattle.std.specs.Prelude.{◌≡◌};
-    ghost use Rattle.link_base.specs.Named.{value_of};
-
     ghost from_gives = { λ d v. v ≡ value_of ⟦<BondFailOverMac as NamedNumber>⟧.names d };
 
     fn from(number: u8) -> Self {
@@ -76,9 +72,6 @@ impl From<u8> for BondFailOverMac {
 
 /// The number of a case.
 impl From<BondFailOverMac> for u8 {
-    ghost use Rattle.std.specs.Prelude.{◌≡◌};
-    ghost use Rattle.link_base.specs.Named.{number_of};
-
     ghost from_gives = { λ v d. d ≡ number_of (⟦<BondFailOverMac as NamedNumber>⟧.seen v) };
 
     fn from(value: BondFailOverMac) -> u8 {
@@ -93,10 +86,8 @@ impl From<BondFailOverMac> for u8 {
 
 /// The name, as `none`; `unknown-variant (9)` for a number without one.
 impl fmt::Display for BondFailOverMac {
-    ghost use Rattle.std.specs.Prelude.{Some};
-    ghost use Rattle.link_base.specs.Named.{displayed};
-
-    ghost output = { λ v. Some (displayed ⟦<BondFailOverMac as NamedNumber>⟧.names (⟦<BondFailOverMac as NamedNumber>⟧.seen v)) };
+    ghost output = { λ v. Some (displayed ⟦<BondFailOverMac as NamedNumber>⟧.names
+        (⟦<BondFailOverMac as NamedNumber>⟧.seen v)) };
 
     fn fmt<W: fmt::Write>(&self, f: &mut fmt::Formatter<W>) -> fmt::Result {
         match self {
@@ -111,8 +102,6 @@ impl fmt::Display for BondFailOverMac {
 /// Reads a displayed name, or the number of one as a digit. Fails with `Text` for every other text.
 impl FromStr for BondFailOverMac {
     type Err = DecodeError;
-
-    ghost use Rattle.link_base.specs.Named.{ReadsText};
 
     ghost from_str_gives = { λ text result. ReadsText ⟦<BondFailOverMac as NamedNumber>⟧.names text result };
 

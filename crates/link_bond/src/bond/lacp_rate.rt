@@ -1,4 +1,7 @@
-//! How often the peer of a bond is asked to send its LACPDUs.
+//! How often the LACP partner of a bond is asked to send its LACPDUs.
+
+ghost use Rattle.std.specs.Prelude.{refl, ◌≡◌, Some};
+ghost use Rattle.link_base.specs.Named.{value_of, number_of, displayed, ReadsText};
 
 use link_base::{DecodeError, DecodeFault, NamedNumber};
 use std::fmt;
@@ -9,7 +12,8 @@ const AD_LACP_SLOW: u8 = 0;
 
 const AD_LACP_FAST: u8 = 1;
 
-/// How often the peer is asked to send its LACPDUs in the mode `Ieee8023Ad` (`AD_LACP_*`, `include/net/bond_3ad.h`).
+/// How often the LACP partner is asked to send its LACPDUs in the mode `Ieee8023Ad` (`AD_LACP_*`,
+/// `include/net/bond_3ad.h`).
 #[derive(Clone, Copy, Debug, PartialEq, Eq)]
 pub enum BondLacpRate {
     /// Every 30 seconds (`AD_LACP_SLOW`, 0).
@@ -21,7 +25,6 @@ pub enum BondLacpRate {
 }
 
 impl NamedNumber for BondLacpRate {
-    ghost use Rattle.std.specs.Prelude.{refl};
     ghost use Rattle.link_base.specs.Equality.{of_cases, thorough_fields};
     ghost use Rattle.link_bond.specs.contracts.bond.lacp_rate.BondLacpRate.{enum};
     ghost use Rattle.link_bond.specs.LacpRate.{lacp_rate_names, lacp_rate_seen, lacp_rate_cases};
@@ -43,9 +46,6 @@ impl NamedNumber for BondLacpRate {
 
 /// The case of a number, `Other` where it has no name.
 impl From<u8> for BondLacpRate {
-    ghost use Rattle.std.specs.Prelude.{◌≡◌};
-    ghost use Rattle.link_base.specs.Named.{value_of};
-
     ghost from_gives = { λ d v. v ≡ value_of ⟦<BondLacpRate as NamedNumber>⟧.names d };
 
     fn from(number: u8) -> Self {
@@ -59,9 +59,6 @@ impl From<u8> for BondLacpRate {
 
 /// The number of a case.
 impl From<BondLacpRate> for u8 {
-    ghost use Rattle.std.specs.Prelude.{◌≡◌};
-    ghost use Rattle.link_base.specs.Named.{number_of};
-
     ghost from_gives = { λ v d. d ≡ number_of (⟦<BondLacpRate as NamedNumber>⟧.seen v) };
 
     fn from(value: BondLacpRate) -> u8 {
@@ -75,10 +72,8 @@ impl From<BondLacpRate> for u8 {
 
 /// The name, as `slow`; the number where it has none.
 impl fmt::Display for BondLacpRate {
-    ghost use Rattle.std.specs.Prelude.{Some};
-    ghost use Rattle.link_base.specs.Named.{displayed};
-
-    ghost output = { λ v. Some (displayed ⟦<BondLacpRate as NamedNumber>⟧.names (⟦<BondLacpRate as NamedNumber>⟧.seen v)) };
+    ghost output = { λ v. Some (displayed ⟦<BondLacpRate as NamedNumber>⟧.names
+        (⟦<BondLacpRate as NamedNumber>⟧.seen v)) };
 
     fn fmt<W: fmt::Write>(&self, f: &mut fmt::Formatter<W>) -> fmt::Result {
         match self {
@@ -92,8 +87,6 @@ impl fmt::Display for BondLacpRate {
 /// Reads a displayed name, or the number of one as a digit. Fails with `Text` for every other text.
 impl FromStr for BondLacpRate {
     type Err = DecodeError;
-
-    ghost use Rattle.link_base.specs.Named.{ReadsText};
 
     ghost from_str_gives = { λ text result. ReadsText ⟦<BondLacpRate as NamedNumber>⟧.names text result };
 

@@ -1,5 +1,8 @@
 //! The modes of a bond.
 
+ghost use Rattle.std.specs.Prelude.{refl, ◌≡◌, Some};
+ghost use Rattle.link_base.specs.Named.{value_of, number_of, displayed, ReadsText};
+
 use link_base::{DecodeError, DecodeFault, NamedNumber};
 use std::fmt;
 use std::str::FromStr;
@@ -30,7 +33,7 @@ pub enum BondMode {
     BalanceXor,
     /// Every packet is sent from every port (`BOND_MODE_BROADCAST`, 3).
     Broadcast,
-    /// Ports form aggregates that are agreed with the peer by LACP (IEEE 802.3ad) (`BOND_MODE_8023AD`, 4).
+    /// Ports are aggregated, as agreed with the LACP partner (IEEE 802.3ad) (`BOND_MODE_8023AD`, 4).
     Ieee8023Ad,
     /// What is sent is shared among the ports by their load; one port receives (`BOND_MODE_TLB`, 5).
     BalanceTlb,
@@ -41,7 +44,6 @@ pub enum BondMode {
 }
 
 impl NamedNumber for BondMode {
-    ghost use Rattle.std.specs.Prelude.{refl};
     ghost use Rattle.link_base.specs.Equality.{of_cases, thorough_fields};
     ghost use Rattle.link_bond.specs.contracts.bond.mode.BondMode.{enum};
     ghost use Rattle.link_bond.specs.Mode.{mode_names, mode_seen, mode_cases};
@@ -63,9 +65,6 @@ impl NamedNumber for BondMode {
 
 /// `BalanceRr`.
 impl Default for BondMode {
-    ghost use Rattle.std.specs.Prelude.{◌≡◌};
-    ghost use Rattle.link_base.specs.Named.{value_of};
-
     ghost is_default = { λ v. v ≡ value_of ⟦<BondMode as NamedNumber>⟧.names 0 };
 
     fn default() -> Self {
@@ -75,9 +74,6 @@ impl Default for BondMode {
 
 /// The case of a number, `Other` where it has no name.
 impl From<u8> for BondMode {
-    ghost use Rattle.std.specs.Prelude.{◌≡◌};
-    ghost use Rattle.link_base.specs.Named.{value_of};
-
     ghost from_gives = { λ d v. v ≡ value_of ⟦<BondMode as NamedNumber>⟧.names d };
 
     fn from(number: u8) -> Self {
@@ -96,9 +92,6 @@ impl From<u8> for BondMode {
 
 /// The number of a case.
 impl From<BondMode> for u8 {
-    ghost use Rattle.std.specs.Prelude.{◌≡◌};
-    ghost use Rattle.link_base.specs.Named.{number_of};
-
     ghost from_gives = { λ v d. d ≡ number_of (⟦<BondMode as NamedNumber>⟧.seen v) };
 
     fn from(value: BondMode) -> u8 {
@@ -117,9 +110,6 @@ impl From<BondMode> for u8 {
 
 /// The name, as `balance-rr`; `unknown-variant (9)` for a number without one.
 impl fmt::Display for BondMode {
-    ghost use Rattle.std.specs.Prelude.{Some};
-    ghost use Rattle.link_base.specs.Named.{displayed};
-
     ghost output = { λ v. Some (displayed ⟦<BondMode as NamedNumber>⟧.names (⟦<BondMode as NamedNumber>⟧.seen v)) };
 
     fn fmt<W: fmt::Write>(&self, f: &mut fmt::Formatter<W>) -> fmt::Result {
@@ -139,8 +129,6 @@ impl fmt::Display for BondMode {
 /// Reads a displayed name, or the number of one as a digit. Fails with `Text` for every other text.
 impl FromStr for BondMode {
     type Err = DecodeError;
-
-    ghost use Rattle.link_base.specs.Named.{ReadsText};
 
     ghost from_str_gives = { λ text result. ReadsText ⟦<BondMode as NamedNumber>⟧.names text result };
 

@@ -1,5 +1,8 @@
 //! When the primary port of a bond becomes active again.
 
+ghost use Rattle.std.specs.Prelude.{refl, ◌≡◌, Some};
+ghost use Rattle.link_base.specs.Named.{value_of, number_of, displayed, ReadsText};
+
 use link_base::{DecodeError, DecodeFault, NamedNumber};
 use std::fmt;
 use std::str::FromStr;
@@ -27,10 +30,13 @@ pub enum BondPrimaryReselect {
 }
 
 impl NamedNumber for BondPrimaryReselect {
-    ghost use Rattle.std.specs.Prelude.{refl};
     ghost use Rattle.link_base.specs.Equality.{of_cases, thorough_fields};
     ghost use Rattle.link_bond.specs.contracts.bond.primary_reselect.BondPrimaryReselect.{enum};
-    ghost use Rattle.link_bond.specs.PrimaryReselect.{primary_reselect_names, primary_reselect_seen, primary_reselect_cases};
+    ghost use Rattle.link_bond.specs.PrimaryReselect.{
+      primary_reselect_names,
+      primary_reselect_seen,
+      primary_reselect_cases,
+    };
 
     ghost names = { primary_reselect_names };
 
@@ -49,9 +55,6 @@ impl NamedNumber for BondPrimaryReselect {
 
 /// `Always`.
 impl Default for BondPrimaryReselect {
-    ghost use Rattle.std.specs.Prelude.{◌≡◌};
-    ghost use Rattle.link_base.specs.Named.{value_of};
-
     ghost is_default = { λ v. v ≡ value_of ⟦<BondPrimaryReselect as NamedNumber>⟧.names 0 };
 
     fn default() -> Self {
@@ -61,9 +64,6 @@ impl Default for BondPrimaryReselect {
 
 /// The case of a number, `Other` where it has no name.
 impl From<u8> for BondPrimaryReselect {
-    ghost use Rattle.std.specs.Prelude.{◌≡◌};
-    ghost use Rattle.link_base.specs.Named.{value_of};
-
     ghost from_gives = { λ d v. v ≡ value_of ⟦<BondPrimaryReselect as NamedNumber>⟧.names d };
 
     fn from(number: u8) -> Self {
@@ -78,9 +78,6 @@ impl From<u8> for BondPrimaryReselect {
 
 /// The number of a case.
 impl From<BondPrimaryReselect> for u8 {
-    ghost use Rattle.std.specs.Prelude.{◌≡◌};
-    ghost use Rattle.link_base.specs.Named.{number_of};
-
     ghost from_gives = { λ v d. d ≡ number_of (⟦<BondPrimaryReselect as NamedNumber>⟧.seen v) };
 
     fn from(value: BondPrimaryReselect) -> u8 {
@@ -95,10 +92,8 @@ impl From<BondPrimaryReselect> for u8 {
 
 /// The name, as `always`; `unknown-variant (9)` for a number without one.
 impl fmt::Display for BondPrimaryReselect {
-    ghost use Rattle.std.specs.Prelude.{Some};
-    ghost use Rattle.link_base.specs.Named.{displayed};
-
-    ghost output = { λ v. Some (displayed ⟦<BondPrimaryReselect as NamedNumber>⟧.names (⟦<BondPrimaryReselect as NamedNumber>⟧.seen v)) };
+    ghost output = { λ v. Some (displayed ⟦<BondPrimaryReselect as NamedNumber>⟧.names
+        (⟦<BondPrimaryReselect as NamedNumber>⟧.seen v)) };
 
     fn fmt<W: fmt::Write>(&self, f: &mut fmt::Formatter<W>) -> fmt::Result {
         match self {
@@ -113,8 +108,6 @@ impl fmt::Display for BondPrimaryReselect {
 /// Reads a displayed name, or the number of one as a digit. Fails with `Text` for every other text.
 impl FromStr for BondPrimaryReselect {
     type Err = DecodeError;
-
-    ghost use Rattle.link_base.specs.Named.{ReadsText};
 
     ghost from_str_gives = { λ text result. ReadsText ⟦<BondPrimaryReselect as NamedNumber>⟧.names text result };
 

@@ -1,5 +1,8 @@
 //! What a bond chooses the port of a packet by.
 
+ghost use Rattle.std.specs.Prelude.{refl, ◌≡◌, Some};
+ghost use Rattle.link_base.specs.Named.{value_of, number_of, displayed, ReadsText};
+
 use link_base::{DecodeError, DecodeFault, NamedNumber};
 use std::fmt;
 use std::str::FromStr;
@@ -39,10 +42,13 @@ pub enum BondXmitHashPolicy {
 }
 
 impl NamedNumber for BondXmitHashPolicy {
-    ghost use Rattle.std.specs.Prelude.{refl};
     ghost use Rattle.link_base.specs.Equality.{of_cases, thorough_fields};
     ghost use Rattle.link_bond.specs.contracts.bond.xmit_hash_policy.BondXmitHashPolicy.{enum};
-    ghost use Rattle.link_bond.specs.XmitHashPolicy.{xmit_hash_policy_names, xmit_hash_policy_seen, xmit_hash_policy_cases};
+    ghost use Rattle.link_bond.specs.XmitHashPolicy.{
+      xmit_hash_policy_names,
+      xmit_hash_policy_seen,
+      xmit_hash_policy_cases,
+    };
 
     ghost names = { xmit_hash_policy_names };
 
@@ -61,9 +67,6 @@ impl NamedNumber for BondXmitHashPolicy {
 
 /// `Layer2`.
 impl Default for BondXmitHashPolicy {
-    ghost use Rattle.std.specs.Prelude.{◌≡◌};
-    ghost use Rattle.link_base.specs.Named.{value_of};
-
     ghost is_default = { λ v. v ≡ value_of ⟦<BondXmitHashPolicy as NamedNumber>⟧.names 0 };
 
     fn default() -> Self {
@@ -73,9 +76,6 @@ impl Default for BondXmitHashPolicy {
 
 /// The case of a number, `Other` where it has no name.
 impl From<u8> for BondXmitHashPolicy {
-    ghost use Rattle.std.specs.Prelude.{◌≡◌};
-    ghost use Rattle.link_base.specs.Named.{value_of};
-
     ghost from_gives = { λ d v. v ≡ value_of ⟦<BondXmitHashPolicy as NamedNumber>⟧.names d };
 
     fn from(number: u8) -> Self {
@@ -93,9 +93,6 @@ impl From<u8> for BondXmitHashPolicy {
 
 /// The number of a case.
 impl From<BondXmitHashPolicy> for u8 {
-    ghost use Rattle.std.specs.Prelude.{◌≡◌};
-    ghost use Rattle.link_base.specs.Named.{number_of};
-
     ghost from_gives = { λ v d. d ≡ number_of (⟦<BondXmitHashPolicy as NamedNumber>⟧.seen v) };
 
     fn from(value: BondXmitHashPolicy) -> u8 {
@@ -113,10 +110,8 @@ impl From<BondXmitHashPolicy> for u8 {
 
 /// The name, as `layer2`; `unknown-variant (9)` for a number without one.
 impl fmt::Display for BondXmitHashPolicy {
-    ghost use Rattle.std.specs.Prelude.{Some};
-    ghost use Rattle.link_base.specs.Named.{displayed};
-
-    ghost output = { λ v. Some (displayed ⟦<BondXmitHashPolicy as NamedNumber>⟧.names (⟦<BondXmitHashPolicy as NamedNumber>⟧.seen v)) };
+    ghost output = { λ v. Some (displayed ⟦<BondXmitHashPolicy as NamedNumber>⟧.names
+        (⟦<BondXmitHashPolicy as NamedNumber>⟧.seen v)) };
 
     fn fmt<W: fmt::Write>(&self, f: &mut fmt::Formatter<W>) -> fmt::Result {
         match self {
@@ -134,8 +129,6 @@ impl fmt::Display for BondXmitHashPolicy {
 /// Reads a displayed name, or the number of one as a digit. Fails with `Text` for every other text.
 impl FromStr for BondXmitHashPolicy {
     type Err = DecodeError;
-
-    ghost use Rattle.link_base.specs.Named.{ReadsText};
 
     ghost from_str_gives = { λ text result. ReadsText ⟦<BondXmitHashPolicy as NamedNumber>⟧.names text result };
 

@@ -1,4 +1,7 @@
-//! Whether a port of a bond and its peer reach agreement.
+//! Whether a port of a bond and its LACP partner reach agreement.
+
+ghost use Rattle.std.specs.Prelude.{refl, ◌≡◌, Some};
+ghost use Rattle.link_base.specs.Named.{value_of, number_of, displayed, ReadsText};
 
 use link_base::{DecodeError, DecodeFault, NamedNumber};
 use std::fmt;
@@ -11,8 +14,8 @@ const AD_CHURN: u8 = 1;
 
 const AD_NO_CHURN: u8 = 2;
 
-/// Whether one side of a link, this one or the peer, comes into synchronization in time, as IEEE 802.3ad watches it
-/// (`churn_state_t`, `include/net/bond_3ad.h`).
+/// Whether one side of a link, the LACP actor or the partner, comes into synchronization in time, as IEEE 802.3ad
+/// watches it (`churn_state_t`, `include/net/bond_3ad.h`).
 #[derive(Clone, Copy, Debug, PartialEq, Eq)]
 pub enum ChurnState {
     /// It is watched, and time is left (`AD_CHURN_MONITOR`, 0).
@@ -26,7 +29,6 @@ pub enum ChurnState {
 }
 
 impl NamedNumber for ChurnState {
-    ghost use Rattle.std.specs.Prelude.{refl};
     ghost use Rattle.link_base.specs.Equality.{of_cases, thorough_fields};
     ghost use Rattle.link_bond.specs.contracts.bond_port.churn_state.ChurnState.{enum};
     ghost use Rattle.link_bond.specs.ChurnState.{churn_state_names, churn_state_seen, churn_state_cases};
@@ -48,9 +50,6 @@ impl NamedNumber for ChurnState {
 
 /// The case of a number, `Other` where it has no name.
 impl From<u8> for ChurnState {
-    ghost use Rattle.std.specs.Prelude.{◌≡◌};
-    ghost use Rattle.link_base.specs.Named.{value_of};
-
     ghost from_gives = { λ d v. v ≡ value_of ⟦<ChurnState as NamedNumber>⟧.names d };
 
     fn from(number: u8) -> Self {
@@ -65,9 +64,6 @@ impl From<u8> for ChurnState {
 
 /// The number of a case.
 impl From<ChurnState> for u8 {
-    ghost use Rattle.std.specs.Prelude.{◌≡◌};
-    ghost use Rattle.link_base.specs.Named.{number_of};
-
     ghost from_gives = { λ v d. d ≡ number_of (⟦<ChurnState as NamedNumber>⟧.seen v) };
 
     fn from(value: ChurnState) -> u8 {
@@ -82,9 +78,6 @@ impl From<ChurnState> for u8 {
 
 /// The name, as `monitor`; the number where it has none.
 impl fmt::Display for ChurnState {
-    ghost use Rattle.std.specs.Prelude.{Some};
-    ghost use Rattle.link_base.specs.Named.{displayed};
-
     ghost output = { λ v. Some (displayed ⟦<ChurnState as NamedNumber>⟧.names (⟦<ChurnState as NamedNumber>⟧.seen v)) };
 
     fn fmt<W: fmt::Write>(&self, f: &mut fmt::Formatter<W>) -> fmt::Result {
@@ -100,8 +93,6 @@ impl fmt::Display for ChurnState {
 /// Reads a displayed name, its letters in either case. Fails with `Text` for every other text.
 impl FromStr for ChurnState {
     type Err = DecodeError;
-
-    ghost use Rattle.link_base.specs.Named.{ReadsText};
 
     ghost from_str_gives = { λ text result. ReadsText ⟦<ChurnState as NamedNumber>⟧.names text result };
 

@@ -3,8 +3,8 @@
 use bitflags::{Flag, Flags};
 use link_base::flag_laws::{FlagSet, KnownBits};
 
-/// The state of one side of a link in LACP, this one or the peer (`LACP_STATE_*`, `include/uapi/linux/if_bonding.h`).
-/// Each of the eight bits has a name.
+/// The state of one side of a link in LACP, the actor or the partner (`LACP_STATE_*`,
+/// `include/uapi/linux/if_bonding.h`). Each of the eight bits has a name.
 #[derive(Clone, Copy, Debug, PartialEq, Eq)]
 pub struct LacpState(u8);
 
@@ -15,16 +15,16 @@ impl LacpState {
     /// The side times out after three seconds without an LACPDU, not after 90 (`LACP_STATE_LACP_TIMEOUT`).
     pub const LACP_TIMEOUT: LacpState = LacpState(0x2);
 
-    /// The link may be part of an aggregate (`LACP_STATE_AGGREGATION`).
+    /// The link may be aggregated with others (`LACP_STATE_AGGREGATION`).
     pub const AGGREGATION: LacpState = LacpState(0x4);
 
-    /// The link is in the right aggregate (`LACP_STATE_SYNCHRONIZATION`).
+    /// The link is in the right aggregator (`LACP_STATE_SYNCHRONIZATION`).
     pub const SYNCHRONIZATION: LacpState = LacpState(0x8);
 
-    /// Frames that arrive are taken (`LACP_STATE_COLLECTING`).
+    /// Frames that arrive are collected (`LACP_STATE_COLLECTING`).
     pub const COLLECTING: LacpState = LacpState(0x10);
 
-    /// Frames are sent (`LACP_STATE_DISTRIBUTING`).
+    /// Frames are distributed to the link (`LACP_STATE_DISTRIBUTING`).
     pub const DISTRIBUTING: LacpState = LacpState(0x20);
 
     /// What is known of the other side is the default, since no LACPDU came (`LACP_STATE_DEFAULTED`).

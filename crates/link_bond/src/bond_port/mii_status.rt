@@ -1,5 +1,8 @@
 //! The states of the link of a port of a bond.
 
+ghost use Rattle.std.specs.Prelude.{refl, ◌≡◌, Some};
+ghost use Rattle.link_base.specs.Named.{value_of, number_of, displayed, ReadsText};
+
 use link_base::{DecodeError, DecodeFault, NamedNumber};
 use std::fmt;
 use std::str::FromStr;
@@ -29,7 +32,6 @@ pub enum MiiStatus {
 }
 
 impl NamedNumber for MiiStatus {
-    ghost use Rattle.std.specs.Prelude.{refl};
     ghost use Rattle.link_base.specs.Equality.{of_cases, thorough_fields};
     ghost use Rattle.link_bond.specs.contracts.bond_port.mii_status.MiiStatus.{enum};
     ghost use Rattle.link_bond.specs.MiiStatus.{mii_status_names, mii_status_seen, mii_status_cases};
@@ -51,9 +53,6 @@ impl NamedNumber for MiiStatus {
 
 /// The case of a number, `Other` where it has no name.
 impl From<u8> for MiiStatus {
-    ghost use Rattle.std.specs.Prelude.{◌≡◌};
-    ghost use Rattle.link_base.specs.Named.{value_of};
-
     ghost from_gives = { λ d v. v ≡ value_of ⟦<MiiStatus as NamedNumber>⟧.names d };
 
     fn from(number: u8) -> Self {
@@ -69,9 +68,6 @@ impl From<u8> for MiiStatus {
 
 /// The number of a case.
 impl From<MiiStatus> for u8 {
-    ghost use Rattle.std.specs.Prelude.{◌≡◌};
-    ghost use Rattle.link_base.specs.Named.{number_of};
-
     ghost from_gives = { λ v d. d ≡ number_of (⟦<MiiStatus as NamedNumber>⟧.seen v) };
 
     fn from(value: MiiStatus) -> u8 {
@@ -87,9 +83,6 @@ impl From<MiiStatus> for u8 {
 
 /// The name, as `up`; the number where it has none.
 impl fmt::Display for MiiStatus {
-    ghost use Rattle.std.specs.Prelude.{Some};
-    ghost use Rattle.link_base.specs.Named.{displayed};
-
     ghost output = { λ v. Some (displayed ⟦<MiiStatus as NamedNumber>⟧.names (⟦<MiiStatus as NamedNumber>⟧.seen v)) };
 
     fn fmt<W: fmt::Write>(&self, f: &mut fmt::Formatter<W>) -> fmt::Result {
@@ -106,8 +99,6 @@ impl fmt::Display for MiiStatus {
 /// Reads a displayed name, its letters in either case. Fails with `Text` for every other text.
 impl FromStr for MiiStatus {
     type Err = DecodeError;
-
-    ghost use Rattle.link_base.specs.Named.{ReadsText};
 
     ghost from_str_gives = { λ text result. ReadsText ⟦<MiiStatus as NamedNumber>⟧.names text result };
 

@@ -1,5 +1,8 @@
 //! The states of a port of a bond.
 
+ghost use Rattle.std.specs.Prelude.{refl, ◌≡◌, Some};
+ghost use Rattle.link_base.specs.Named.{value_of, number_of, displayed, ReadsText};
+
 use link_base::{DecodeError, DecodeFault, NamedNumber};
 use std::fmt;
 use std::str::FromStr;
@@ -21,7 +24,6 @@ pub enum BondPortState {
 }
 
 impl NamedNumber for BondPortState {
-    ghost use Rattle.std.specs.Prelude.{refl};
     ghost use Rattle.link_base.specs.Equality.{of_cases, thorough_fields};
     ghost use Rattle.link_bond.specs.contracts.bond_port.port_state.BondPortState.{enum};
     ghost use Rattle.link_bond.specs.PortState.{port_state_names, port_state_seen, port_state_cases};
@@ -43,9 +45,6 @@ impl NamedNumber for BondPortState {
 
 /// The case of a number, `Other` where it has no name.
 impl From<u8> for BondPortState {
-    ghost use Rattle.std.specs.Prelude.{◌≡◌};
-    ghost use Rattle.link_base.specs.Named.{value_of};
-
     ghost from_gives = { λ d v. v ≡ value_of ⟦<BondPortState as NamedNumber>⟧.names d };
 
     fn from(number: u8) -> Self {
@@ -59,9 +58,6 @@ impl From<u8> for BondPortState {
 
 /// The number of a case.
 impl From<BondPortState> for u8 {
-    ghost use Rattle.std.specs.Prelude.{◌≡◌};
-    ghost use Rattle.link_base.specs.Named.{number_of};
-
     ghost from_gives = { λ v d. d ≡ number_of (⟦<BondPortState as NamedNumber>⟧.seen v) };
 
     fn from(value: BondPortState) -> u8 {
@@ -75,10 +71,8 @@ impl From<BondPortState> for u8 {
 
 /// The name, as `active`; the number where it has none.
 impl fmt::Display for BondPortState {
-    ghost use Rattle.std.specs.Prelude.{Some};
-    ghost use Rattle.link_base.specs.Named.{displayed};
-
-    ghost output = { λ v. Some (displayed ⟦<BondPortState as NamedNumber>⟧.names (⟦<BondPortState as NamedNumber>⟧.seen v)) };
+    ghost output = { λ v. Some (displayed ⟦<BondPortState as NamedNumber>⟧.names
+        (⟦<BondPortState as NamedNumber>⟧.seen v)) };
 
     fn fmt<W: fmt::Write>(&self, f: &mut fmt::Formatter<W>) -> fmt::Result {
         match self {
@@ -92,8 +86,6 @@ impl fmt::Display for BondPortState {
 /// Reads a displayed name, its letters in either case. Fails with `Text` for every other text.
 impl FromStr for BondPortState {
     type Err = DecodeError;
-
-    ghost use Rattle.link_base.specs.Named.{ReadsText};
 
     ghost from_str_gives = { λ text result. ReadsText ⟦<BondPortState as NamedNumber>⟧.names text result };
 

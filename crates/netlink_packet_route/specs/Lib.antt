@@ -1,0 +1,26 @@
+pub mod Family
+pub mod Rewrite
+pub mod Report
+-- what the contracts of `link` speak of
+pub use Rattle.link_base.specs.Number
+pub use Rattle.link_base.specs.Frame
+pub use Rattle.link_base.specs.Class
+pub use Rattle.link_base.specs.Wire
+pub use Rattle.link_base.specs.Table
+pub use Rattle.link_base.specs.Held
+pub use Rattle.link_base.specs.WellFormed
+pub use Rattle.link_base.specs.Lawful
+pub use Rattle.link_base.specs.Equality
+pub use Rattle.link_base.specs.Default
+pub use Rattle.link_base.specs.Answers
+pub use Rattle.link_base.specs.Buffer
+pub use Rattle.link_base.specs.Items
+pub use Rattle.link_base.specs.Named
+pub use Rattle.link_base.specs.Protocol
+pub use Rattle.link_base.specs.Texts
+pub use Rattle.link_bond.specs.Bond
+pub use Rattle.link_bond.specs.BondPort
+pub use Rattle.link_vlan_can.specs.Vlan
+pub use Rattle.link_vlan_can.specs.Can
+pub use Rattle.link_vlan_can.specs.Dsa
+pub use Rattle.link_vlan_can.specs.Hsr

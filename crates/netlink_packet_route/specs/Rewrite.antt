@@ -1,0 +1,52 @@
+-- What a rewriting answers.
+use Rattle.std.specs.Prelude.{◌≡◌, ℕ, List, map, Result, Ok, Err}
+use Rattle.std.specs.Global.{Vec}
+use Rattle.std.specs.List.{AllByRecursion}
+use Rattle.link_base.specs.Wire.{Wire, FirstFault}
+use Rattle.link_base.specs.Table.{Table, AttrValue, Gives, Canonical, Rewriting, Fits, written_list, cut}
+use Rattle.link_base.specs.Answers.{IsFirstUnfit}
+use Rattle.netlink_packet_route.specs.declared.rewriting.RewriteError.{RewriteError}
+use Rattle.netlink_packet_route.specs.declared.rewriting.RewriteError.TheVariants as errors
+
+-- the fact holds where memory ran out
+abbrev pub OnRewriteMemory : {X : Type 0} → Result X RewriteError → Type 0 → Type 0
+OnRewriteMemory (Ok x) P = Unit {0}
+OnRewriteMemory (Err (errors.Fault at fault)) P = Unit {0}
+OnRewriteMemory (Err (errors.TooLong i)) P = Unit {0}
+OnRewriteMemory (Err (errors.Memory e)) P = P
+
+-- the first value that does not fit
+abbrev pub IsUnfitAt : Table → List ℕ → ℕ → Type 0
+IsUnfitAt table s i = (vs : List AttrValue) × Wire (Gives table) s vs × IsFirstUnfit vs i
+
+-- the rewriting; or the first fault; or the first value that does not fit
+abbrev pub RewriteAnswers : Table → List ℕ → Result (Vec ℕ) RewriteError → Type 0
+RewriteAnswers table s (Ok out) = Rewriting table s out.items
+RewriteAnswers table s (Err (errors.Fault at fault)) = FirstFault (Gives table) s at fault
+RewriteAnswers table s (Err (errors.TooLong i)) = IsUnfitAt table s i
+RewriteAnswers table s (Err (errors.Memory e)) = Unit {0}
+
+-- these values were read, and all of them written
+pub record WritesValues (table : Table) (s : List ℕ) (vs : List AttrValue) (out : List ℕ) : Type 0 where
+  pub wire : Wire (Gives table) s vs
+  pub fit : AllByRecursion Fits vs
+  pub written : out ≡ written_list vs
+
+-- the values and what is written for them; or the first fault; or the first value that does not fit
+abbrev pub ReadAndWritten : {X : Type 0} → (X → List AttrValue) → Table → List ℕ → Result (X × Vec ℕ) RewriteError → Type 0
+ReadAndWritten view table s (Ok read) = WritesValues table s (view read.0) read.1.items
+ReadAndWritten view table s (Err (errors.Fault at fault)) = FirstFault (Gives table) s at fault
+ReadAndWritten view table s (Err (errors.TooLong i)) = IsUnfitAt table s i
+ReadAndWritten view table s (Err (errors.Memory e)) = Unit {0}
+
+-- t reads as the values of s, with their names cut
+abbrev pub ReadsBack : Table → List ℕ → List ℕ → Type 0
+ReadsBack table s t = (vs : List AttrValue) → Wire (Gives table) s vs → Wire (Gives table) t (map cut vs)
+
+-- t has a rewriting u, which is canonical; u is its own rewriting, and has no other
+pub record Settles (table : Table) (t : List ℕ) : Type 0 where
+  pub second : List ℕ
+  pub is : Rewriting table t second
+  pub canonical : Canonical table second
+  pub own : Rewriting table second second
+  pub only : (w : List ℕ) → Rewriting table second w → w ≡ second

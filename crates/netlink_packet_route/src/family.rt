@@ -1,0 +1,56 @@
+//! The families of attributes, by name.
+
+ghost use Rattle.std.specs.Prelude.{◌≡◌, ◌≢◌, ◌↔◌, IfSome, IfNone, IsTrue};
+
+/// A family of link attributes: which kinds it knows, and what their payloads are.
+#[derive(Clone, Copy, Debug, PartialEq, Eq)]
+pub enum Family {
+    /// `bond`: the attributes of bonds, [`InfoBond`](crate::link::InfoBond).
+    Bond,
+    /// `bond_port`: the attributes of ports of bonds, [`InfoBondPort`](crate::link::InfoBondPort).
+    BondPort,
+    /// `vlan`: the attributes of VLAN devices, [`InfoVlan`](crate::link::InfoVlan).
+    Vlan,
+    /// `can`: the attributes of CAN controllers, [`InfoCan`](crate::link::InfoCan).
+    Can,
+    /// `dsa`: the attributes of DSA ports, [`InfoDsa`](crate::link::InfoDsa).
+    Dsa,
+    /// `hsr`: the attributes of HSR and PRP devices, [`InfoHsr`](crate::link::InfoHsr).
+    Hsr,
+}
+
+impl Family {
+    ghost use Rattle.netlink_packet_route.specs.Family.{family_name};
+
+    /// The family of this name, in exact case, or `None` where there is none.
+    pub fn from_name(name: &str) -> Option<Self>
+        ensures found { IfSome result (λ family. name.now ≡ family_name family) }
+        ensures none { IfNone result ((family : Family) → name.now ≢ family_name family) }
+    {
+        match name {
+            "bond" => Some(Family::Bond),
+            "bond_port" => Some(Family::BondPort),
+            "vlan" => Some(Family::Vlan),
+            "can" => Some(Family::Can),
+            "dsa" => Some(Family::Dsa),
+            "hsr" => Some(Family::Hsr),
+            _ => None,
+        }
+    }
+}
+
+/// Calls a function that is generic over an `Attribute`, at the type of a family, as
+/// `by_family!(family, read_list(alloc, bytes))`.
+#[macro_export]
+macro_rules! by_family {
+    ($family:expr, $call:ident($($argument:expr),*)) => {
+        match $family {
+            $crate::Family::Bond => $call::<$crate::link::InfoBond>($($argument),*),
+            $crate::Family::BondPort => $call::<$crate::link::InfoBondPort>($($argument),*),
+            $crate::Family::Vlan => $call::<$crate::link::InfoVlan>($($argument),*),
+            $crate::Family::Can => $call::<$crate::link::InfoCan>($($argument),*),
+            $crate::Family::Dsa => $call::<$crate::link::InfoDsa>($($argument),*),
+            $crate::Family::Hsr => $call::<$crate::link::InfoHsr>($($argument),*),
+        }
+    };
+}

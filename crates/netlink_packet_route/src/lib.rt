@@ -1,0 +1,13 @@
+//! Netlink's attributes of network links, for users: a family by its name, a list rewritten, the report of a text. The
+//! types and the calls for one attribute or a list are in [`link`].
+#![tactic(auto)]
+
+mod family;
+pub mod laws;
+pub mod link;
+mod reporting;
+mod rewriting;
+
+pub use family::Family;
+pub use reporting::{MOST_TEXT, report};
+pub use rewriting::{RewriteError, rewrite};

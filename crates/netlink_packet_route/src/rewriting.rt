@@ -1,0 +1,79 @@
+//! A list, read and written again.
+
+ghost use Rattle.std.specs.Prelude.{◌≡◌, ◌≤◌, ◌↔◌, None, length, map, IfOk};
+ghost use Rattle.link_base.specs.Frame.{pad, frame_fault};
+ghost use Rattle.link_base.specs.Table.{Canonical};
+ghost use Rattle.netlink_packet_route.specs.Family.{table_of};
+ghost use Rattle.netlink_packet_route.specs.Rewrite.{ReadAndWritten, RewriteAnswers, OnRewriteMemory, ReadsBack, Settles};
+
+use crate::by_family;
+use crate::family::Family;
+use link_base::{Attribute, DecodeFault, ListError, WriteError, read_list, write_list};
+use std::alloc::{AllocError, Global};
+use thiserror::Error;
+
+/// Why a list could not be rewritten.
+#[derive(Debug, Drop, PartialEq, Eq, Error)]
+pub enum RewriteError {
+    /// An allocation failed.
+    #[error("no memory")]
+    Memory(#[from(alloc)] AllocError),
+    /// The first fault of the bytes, and the byte offset of the frame that has it.
+    #[error("fault at {at}: {fault}")]
+    Fault { at: usize, fault: DecodeFault },
+    /// The first value, counted from 0, whose written payload has more than 65531 bytes.
+    #[error("too long at {index}")]
+    TooLong { index: usize },
+}
+
+/// Reads the list in the bytes and writes its values.
+///
+/// Fails with `Fault` where the bytes are no list of the family, with `TooLong` where they are and a value does not
+/// fit, and with `Memory`, but not where the bytes begin with no frame.
+pub fn rewrite(alloc: Global, family: Family, bytes: &[u8]) -> Result<Vec<u8>, RewriteError>
+    ensures answer { RewriteAnswers (table_of family) bytes.now result }
+    ensures memory { OnRewriteMemory result (frame_fault bytes.now ≡ None) }
+    // Equal to the input exactly where the input is canonical, and never longer than it, rounded up to four.
+    ensures same { IfOk result (λ out. (out.items ≡ bytes.now) ↔ Canonical (table_of family) bytes.now) }
+    ensures no_longer { IfOk result (λ out. length out.items ≤ pad (length bytes.now)) }
+    // It reads as the values, with names cut.
+    ensures back { IfOk result (λ out. ReadsBack (table_of family) bytes.now out.items) }
+    // The second rewriting is canonical, and every later one equals it.
+    ensures settles { IfOk result (λ out. Settles (table_of family) out.items) }
+{
+    by_family!(family, rewrite_as(alloc, bytes))
+}
+
+fn rewrite_as<F: Attribute>(alloc: Global, bytes: &[u8]) -> Result<Vec<u8>, RewriteError>
+    ensures answer { RewriteAnswers F.table bytes.now result }
+    ensures memory { OnRewriteMemory result (frame_fault bytes.now ≡ None) }
+    ensures same { IfOk result (λ out. (out.items ≡ bytes.now) ↔ Canonical F.table bytes.now) }
+    ensures no_longer { IfOk result (λ out. length out.items ≤ pad (length bytes.now)) }
+    ensures back { IfOk result (λ out. ReadsBack F.table bytes.now out.items) }
+    ensures settles { IfOk result (λ out. Settles F.table out.items) }
+{
+    match read_and_write::<F>(alloc, bytes) {
+        Ok((_values, out)) => Ok(out),
+        Err(error) => Err(error),
+    }
+}
+
+/// The values of a list, and the bytes that are written for them.
+pub(crate) fn read_and_write<F: Attribute>(
+    alloc: Global,
+    bytes: &[u8],
+) -> Result<(Vec<F>, Vec<u8>), RewriteError>
+    ensures answer { ReadAndWritten (λ vs. map F.means vs.items) F.table bytes.now result }
+    ensures memory { OnRewriteMemory result (frame_fault bytes.now ≡ None) }
+{
+    let values: Vec<F> = match read_list(alloc, bytes) {
+        Ok(values) => values,
+        Err(ListError::Memory(error)) => return Err(RewriteError::Memory(error)),
+        Err(ListError::Fault { at, fault }) => return Err(RewriteError::Fault { at, fault }),
+    };
+    match write_list(alloc, &values) {
+        Ok(out) => Ok((values, out)),
+        Err(WriteError::Memory(error)) => Err(RewriteError::Memory(error)),
+        Err(WriteError::TooLong { index }) => Err(RewriteError::TooLong { index }),
+    }
+}

@@ -1,0 +1,4 @@
+pub mod Cuts
+pub mod Names
+pub mod Texts
+pub mod Steps

@@ -1,0 +1,140 @@
+-- Lines, shown one after another.
+use Rattle.std.proofs.Common.{◌≡◌, ◌≢◌, ◌⊎◌, inl, inr, ℕ, ◌+◌, ◌<◌, ◌≤◌, Bool, true, false, ◌&&◌, List, [], ◌∷◌, ◌++◌, length, take, None, Some, refl, sym, ap, ap₂, subst, ◌∙◌, arith, append_assoc, length-take, length-append, codes}
+use Rattle.std.specs.List.{AllByRecursion, AllZip, flat_map, list_all}
+use Rattle.std.proofs.lemmas.List.{take_all, append-nil, nil_from_length}
+use Rattle.std.proofs.lemmas.List.Folds.{list_all-append}
+use Rattle.std.proofs.lemmas.Grind.{flat_map-append}
+use Rattle.netlink_packet_route.specs.Report.{line}
+use Rattle.nlshow.specs.Show.{Shows, TooLong, PassedOver, Answered, ShowsLines, ShowsAll, AreIndented, AreLines, Ended, Open, IsUnbroken}
+use Rattle.nlshow.specs.Progress.{Shown, Goes, held_of}
+use Rattle.nlshow.proofs.Cuts.{all_append, take_twice}
+
+-- ---- what is held of a line tells what is shown for it
+
+short : (text : List ℕ) → length (held_of text) ≤ 262144 → held_of text ≡ text
+short text le = take_all 262145 text (omega (arith, length-take 262145 text))
+
+pub from_held : (text out : List ℕ) (read : Bool) → Shows (held_of text) out read → Shows text out read
+from_held text out read (TooLong lt o r) = TooLong (omega (arith, length-take 262145 text)) o r
+from_held text out read (PassedOver le h o r) = subst (λ t. Shows t out read) (short text le) (PassedOver le h o r)
+from_held text out read (Answered le h below a o) = subst (λ t. Shows t out read) (short text le) (Answered le h below a o)
+
+-- ---- one more line
+
+pub and_true : (b : Bool) → (b && true) ≡ b
+and_true true = refl
+and_true false = refl
+
+pub and_assoc : (a b c : Bool) → ((a && b) && c) ≡ (a && (b && c))
+and_assoc true b c = refl
+and_assoc false b c = refl
+
+zip_append : {A B : Type 0} (R : A → B → Type 0) (xs : List A) (ys : List B) (x : A) (y : B) → AllZip R xs ys → R x y → AllZip R (xs ++ x ∷ []) (ys ++ y ∷ [])
+zip_append R [] [] x y h r = (r, tt)
+zip_append R [] (z ∷ ys) x y h r = absurd h
+zip_append R (z ∷ xs) [] x y h r = absurd h
+zip_append R (z ∷ xs) (w ∷ ys) x y h r = (h.0, zip_append R xs ys x y h.1 r)
+
+pub lines_more : (lines : List (List ℕ)) (out text written : List ℕ) (whole read : Bool) → ShowsLines lines out whole → Shows text written read → ShowsLines (lines ++ text ∷ []) (out ++ written) (whole && read)
+lines_more lines out text written whole read s h =
+    record {
+      answers = s.answers ++ (written, read) ∷ [];
+      each = zip_append (λ t a. Shows t a.0 a.1) lines s.answers text (written, read) s.each h;
+      joined = ap₂ (λ a b. a ++ b) s.joined (sym (append-nil written)) ∙ sym (flat_map-append (λ a. a.0) s.answers ((written, read) ∷ []));
+      all = ap₂ (λ a b. a && b) s.all (sym (and_true read)) ∙ sym (list_all-append (λ a. a.1) s.answers ((written, read) ∷ []));
+    }
+
+spelled_more : (lines : List (List ℕ)) (text : List ℕ) → flat_map line (lines ++ text ∷ []) ≡ flat_map line lines ++ line text
+spelled_more lines text = flat_map-append line lines (text ∷ []) ∙ ap (λ l. flat_map line lines ++ l) (append-nil (line text))
+
+-- one more indented line
+pub indented_more : (n : ℕ) (a b c d words : List ℕ) → AreIndented a n → b ≡ a ++ codes "  " → c ≡ b ++ words → d ≡ c ++ 10 ∷ [] → AreIndented d (n + 1)
+indented_more n a b c d words s eb ec ed =
+    let one = codes "  " ++ words in (
+      s.0 ++ words ∷ [],
+      omega (arith, length-append s.0 (words ∷ []), s.1),
+      ed ∙ ap (λ l. l ++ 10 ∷ []) (ec ∙ ap (λ l. l ++ words) eb ∙ append_assoc a (codes "  ") words) ∙ append_assoc a one (10 ∷ []) ∙ ap (λ l. l ++ line one) s.2
+          ∙ sym (flat_map-append (λ w. line (codes "  " ++ w)) s.0 (words ∷ []) ∙ ap (λ l. flat_map (λ w. line (codes "  " ++ w)) s.0 ++ l) (append-nil (line one))),
+    )
+
+-- ---- a piece of a text
+
+pub none : Shown [] [] [] true
+none = record {
+  lines = [];
+  current = [];
+  cut = refl;
+  unbroken = tt;
+  open_end = tt;
+  is_held = refl;
+  shown = record { answers = []; each = tt; joined = refl; all = refl };
+}
+
+-- no bytes
+pub goes_none : (held : List ℕ) → Goes held held [] [] true
+goes_none held text out whole s =
+    subst (λ t. Shown t (out ++ []) held (whole && true)) (sym (append-nil text))
+    (subst (λ o. Shown text o held (whole && true)) (sym (append-nil out)) (subst (λ w. Shown text out held w) (sym (and_true whole)) s))
+
+-- two pieces
+pub goes_both : (a b c p q u v : List ℕ) (x y : Bool) → Goes a b p u x → Goes b c q v y → Goes a c (p ++ q) (u ++ v) (x && y)
+goes_both a b c p q u v x y g h text out whole s =
+    subst (λ t. Shown t (out ++ (u ++ v)) c (whole && (x && y))) (append_assoc text p q)
+    (subst (λ o. Shown ((text ++ p) ++ q) o c (whole && (x && y))) (append_assoc out u v)
+    (subst (λ w. Shown ((text ++ p) ++ q) ((out ++ u) ++ v) c w) (and_assoc whole x y) (h (text ++ p) (out ++ u) (whole && x) (g text out whole s))))
+
+-- bytes without LF
+pub goes_on : (before after piece : List ℕ) → IsUnbroken piece → after ≡ held_of (before ++ piece) → Goes before after piece [] true
+goes_on before after piece solid e text out whole s =
+    record {
+      lines = s.lines;
+      current = s.current ++ piece;
+      cut = ap (λ t. t ++ piece) s.cut ∙ append_assoc (flat_map line s.lines) s.current piece;
+      unbroken = s.unbroken;
+      open_end = all_append (λ b. b ≢ 10) s.current piece s.open_end solid;
+      is_held = e ∙ ap (λ t. held_of (t ++ piece)) s.is_held ∙ take_twice 262145 s.current piece;
+      shown = subst (λ o. ShowsLines s.lines o (whole && true)) (sym (append-nil out)) (subst (λ w. ShowsLines s.lines out w) (sym (and_true whole)) s.shown);
+    }
+
+-- bytes without LF, and then LF
+pub goes_over : (before piece written : List ℕ) (read : Bool) → IsUnbroken piece → Shows (held_of (before ++ piece)) written read → Goes before [] (line piece) written read
+goes_over before piece written read solid h text out whole s =
+    let joined : held_of (before ++ piece) ≡ held_of (s.current ++ piece) = ap (λ t. held_of (t ++ piece)) s.is_held ∙ take_twice 262145 s.current piece in
+    let whole_line = s.current ++ piece in
+    let full = from_held whole_line written read (subst (λ t. Shows t written read) joined h) in
+    record {
+      lines = s.lines ++ whole_line ∷ [];
+      current = [];
+      cut = ap (λ t. t ++ line piece) s.cut ∙ append_assoc (flat_map line s.lines) s.current (line piece) ∙ ap (λ t. flat_map line s.lines ++ t) (sym (append_assoc s.current piece (10 ∷ [])))
+          ∙ sym (append-nil (flat_map line (s.lines ++ whole_line ∷ [])) ∙ spelled_more s.lines whole_line);
+      unbroken = all_append IsUnbroken s.lines (whole_line ∷ []) s.unbroken (all_append (λ b. b ≢ 10) s.current piece s.open_end solid, tt);
+      open_end = tt;
+      is_held = refl;
+      shown = lines_more s.lines out whole_line written whole read s.shown full;
+    }
+
+-- ---- the end of a text
+
+-- nothing is held
+pub ends_here : (text out : List ℕ) (whole : Bool) → Shown text out [] whole → ShowsAll text out whole
+ends_here text out whole s =
+    let len : length s.current ≡ 0 = omega (arith, ap length s.is_held, length-take 262145 s.current) in
+    record {
+      lines = s.lines;
+      cut = Ended s.unbroken (s.cut ∙ ap (λ t. flat_map line s.lines ++ t) (nil_from_length s.current len) ∙ append-nil (flat_map line s.lines));
+      shown = s.shown;
+    }
+
+some_bytes : (text : List ℕ) → text ≢ [] → 0 < length text
+some_bytes [] h = absurd (h refl)
+some_bytes (b ∷ text) h = omega arith
+
+-- the last line lacks its LF
+pub ends_open : (text out held written : List ℕ) (whole read : Bool) → Shown text out held whole → held ≢ [] → Shows held written read → ShowsAll text (out ++ written) (whole && read)
+ends_open text out held written whole read s some h =
+    let len : 0 < length s.current = omega (arith, some_bytes held some, ap length s.is_held, length-take 262145 s.current) in
+    record {
+      lines = s.lines ++ s.current ∷ [];
+      cut = Open s.lines s.current s.unbroken s.open_end len refl s.cut;
+      shown = lines_more s.lines out s.current written whole read s.shown (from_held s.current written read (subst (λ t. Shows t written read) s.is_held h));
+    }

@@ -1,0 +1,4 @@
+pub mod Arguments
+pub mod Show
+pub mod Progress
+pub mod Run

@@ -1,0 +1,40 @@
+//! Prints the values of lists of link attributes.
+//!
+//! `nlshow`, without an argument. Each line of standard input is a family's name (`bond`, `bond_port`, `vlan`, `can`,
+//! `dsa` or `hsr`), white space, and the bytes of a list as hex digits.
+#![tactic(auto)]
+
+mod arguments;
+mod held;
+mod running;
+mod showing;
+#[cfg(test)]
+mod tests;
+
+use std::alloc::AllocError;
+use std::io::BufWriter;
+use std::process::ExitCode;
+use std::rt::Env;
+use std::{env, io};
+
+fn main(rt: HostRuntime) -> ExitCode {
+    let mut plain = io::writer(&rt);
+    let status = match is_called_alone(&rt) {
+        Ok(true) => match BufWriter::new(rt.alloc(), io::writer(&rt)) {
+            Ok(mut writer) => running::run(rt.alloc(), &mut rt.reader(), &mut writer),
+            Err(_) => running::print(&mut plain, "no memory\n", 4),
+        },
+        Ok(false) => running::print(&mut plain, "usage: nlshow\n", 2),
+        Err(_) => running::print(&mut plain, "no memory\n", 4),
+    };
+    ExitCode::from(status)
+}
+
+/// Whether the program was started without an argument.
+fn is_called_alone<R: Env + AllocGlobal>(rt: &R) -> Result<bool, AllocError> {
+    match env::args(rt) {
+        Ok(arguments) => Ok(arguments::are_none(&arguments.collect(rt.alloc())?)),
+        Err(error) if error.kind() == io::ErrorKind::OutOfMemory => Err(AllocError),
+        Err(_) => Ok(false),
+    }
+}

@@ -1,0 +1,163 @@
+"""Edits of source files, and the functions that they turn.
+
+A source file is read by its layout, which `rt fmt` gives it: a function's body stands between a line that ends in `{`
+and a line that is `}`, both indented as the line of its `fn`.
+"""
+import os
+import re
+
+FN = re.compile(r'( *)(?:pub(?:\([^)]*\))? |const |unsafe |extern "C" )*fn (\w+)')
+BLOCK = re.compile(r"( *)(?:pub(?:\([^)]*\))? |unsafe )*(impl|trait|mod)\b(.*)")
+
+
+class EditError(Exception):
+    """Why an edit cannot be applied."""
+
+
+class Function:
+    """A function with a body: the lines where its attributes begin and its body opens and ends, counted from 0."""
+
+    def __init__(self, blocks, name, head, opening, end, lines):
+        self.blocks, self.name = blocks, name
+        self.head, self.opening, self.end = head, opening, end
+        self.lines = lines[opening + 1 : end]
+
+    def has_line(self, number):
+        """Whether a line, counted from 1, is one of its own."""
+        return self.head < number <= self.end + 1
+
+    def path(self, file):
+        """Its name as a check prints it, below the crate: module, type and trait, function."""
+        return "::".join(it for it in [module_of(file), *self.blocks, self.name] if it)
+
+
+def module_of(file):
+    """The module of a source file, or '' for the root and for what is no source file."""
+    inside = re.fullmatch(r"src/(.*?)(/mod)?\.rt", file)
+    return "" if not inside or inside[1] in ("lib", "main") else inside[1].replace("/", "::")
+
+
+def edited_texts(edit, folder):
+    """The texts of the files that the edit changes, by their path in the folder of the crate."""
+    path, old, texts = "", None, {}
+    for line in edit.split("\n"):
+        if line.startswith("file: "):
+            path = line[len("file: ") :].strip()
+            if os.path.normpath(path) != path or not path.startswith(("src/", "specs/", "proofs/")):
+                raise EditError("a 'file:' line names no file below src/, specs/ or proofs/")
+        elif line.startswith("old: "):
+            old = line[len("old: ") :]
+        elif line.startswith("new:"):
+            new = re.sub(r"\A ", "", line[len("new:") :])
+            if not path or not old:
+                raise EditError("a 'new:' line stands before any 'file:' or 'old:' line")
+            if path not in texts:
+                if not os.path.isfile(f"{folder}/{path}"):
+                    raise EditError(f"there is no file {path}")
+                with open(f"{folder}/{path}", encoding="utf-8") as file:
+                    texts[path] = file.read()
+            found = texts[path].count(old)
+            if found != 1:
+                raise EditError(f"an 'old:' text is in {path} {found} times, and not once")
+            if old.endswith("{") and new.startswith(old):
+                # what stands first in a body takes a line of its own
+                new = old + "\n" + new[len(old) :]
+            texts[path], old = texts[path].replace(old, new), None
+    if not texts:
+        raise EditError("it has no 'old:' and 'new:' pair")
+    return texts
+
+
+def functions_of(text):
+    """The functions with a body, in their order. A function inside another one belongs to its body."""
+    lines, found, blocks, at = text.split("\n"), [], [], 0
+    while at < len(lines):
+        line = lines[at]
+        fn, block = FN.match(line), BLOCK.match(line)
+        if blocks and line == blocks[-1][0] + "}":
+            blocks.pop()
+        elif fn:
+            opening = opening_of(lines, at, fn[1])
+            end = end_of(lines, opening, fn[1]) if opening is not None else None
+            if end is not None:
+                found.append(Function([it for _, it in blocks], fn[2], top_of(lines, at), opening, end, lines))
+                at = end
+        elif block:
+            opening = opening_of(lines, at, block[1])
+            if opening is not None:
+                header = " ".join(lines[at : opening + 1]).strip()
+                blocks.append((block[1], block_name(block[2], header)))
+                at = opening
+        at += 1
+    return found
+
+
+def opening_of(lines, at, indent):
+    """The first line from there, indented so, that ends an item's head, if that opens a body."""
+    for number in range(at, len(lines)):
+        line = lines[number]
+        is_deeper = line.startswith(indent + " ")
+        if line.endswith(";") or line.endswith(("{", "}")) and not is_deeper:
+            return number if line.endswith("{") else None
+    return None
+
+
+def top_of(lines, at):
+    """The first line of the comments and attributes above an item: a refusal is told at the first attribute."""
+    while at and lines[at - 1].strip() and not lines[at - 1].endswith(("{", "}", ";")):
+        at -= 1
+    return at
+
+
+def end_of(lines, opening, indent):
+    return next((it for it in range(opening + 1, len(lines)) if lines[it] == indent + "}"), None)
+
+
+def skeleton(text):
+    """The text without the bodies of functions."""
+    lines = text.split("\n")
+    for it in reversed(functions_of(text)):
+        del lines[it.opening + 1 : it.end]
+    return "\n".join(lines)
+
+
+def with_bodies(text, bodies):
+    """The text with these bodies, by the number of their function, in the place of its own."""
+    lines, functions = text.split("\n"), functions_of(text)
+    for number in sorted(bodies, reverse=True):
+        lines[functions[number].opening + 1 : functions[number].end] = bodies[number]
+    return "\n".join(lines)
+
+
+def block_name(kind, header):
+    """How a check names an impl, a trait or a module: an impl of a trait by type and trait, as in U16FromLength."""
+    head = re.split(r"\bwhere\b|\{", header, maxsplit=1)[0]
+    head = head[re.search(rf"\b{kind}\b", head).end() :]
+    if kind != "impl":
+        return re.match(r"\s*(\w+)", head)[1]
+    head = without_parameters(head)
+    trait, is_of_trait, of = head.rpartition(" for ")
+    return type_name(of, False) + (type_name(trait, True) if is_of_trait else "")
+
+
+def without_parameters(head):
+    """The head of an impl without its own type parameters, as `<A: Trait>`."""
+    if not head.startswith("<"):
+        return head
+    depth = 0
+    for at, letter in enumerate(head):
+        depth += (letter == "<") - (letter == ">" and head[at - 1] != "-")
+        if not depth:
+            return head[at + 1 :]
+    return head
+
+
+def type_name(written, with_arguments):
+    """A type's last name, with a capital, and the names of a trait's arguments."""
+    base, _, arguments = written.strip().partition("<")
+    last = base.split("::")[-1].strip()
+    name = last[:1].upper() + last[1:]
+    if with_arguments:
+        listed = [it for it in arguments.rstrip("> ").split(",") if it.strip() and "'" not in it]
+        name += "".join(type_name(it, True) for it in listed)
+    return name

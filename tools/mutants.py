@@ -1,0 +1,288 @@
+#!/usr/bin/env python3
+"""Tries the mutants of the crates: edits of the code that the prover has to refuse.
+
+usage: tools/mutants.py [--jobs N] [CRATE..]
+
+A mutant is a file crates/NAME/mutants/*.edit, of the form of the edits of must-fail/: a line 'file: src/FILE.rt', and
+then pairs of lines 'old: TEXT' and 'new: TEXT'. Each old text stands once in that file; further pairs apply to what the
+earlier ones made. With no CRATE named, the mutants of all crates of crates.txt are tried.
+
+Mutants that turn different functions are tried in one check of a copy of the crate, which looks at those functions and
+at what they call. Each mutant has to be refused in its place: by a note at a line of the function that it turns, or by
+an error in that function's folder of proofs/. That a function calls a refused one is no refusal of its own.
+A mutant that turns something else than the body of a function, and one that was not refused in its place, is tried
+alone, and then any refusal is its own. A mutant that does not apply, or does not reach the prover, is a failure.
+
+The crates as they stand have to be proved, as by `rt ci` or `rt all check`: this is not tried again. Libraries that are
+newer than their sources, and kept work, are taken from crates/NAME/out/, and nothing is written to the repository.
+Crates are tried side by side, at most N checks at once (if left out, one a processor, and as many as memory holds).
+The last line is 'N passed, M failed', and the status 0 only if all mutants are refused.
+"""
+import argparse
+import os
+import re
+import shutil
+import signal
+import sys
+import tempfile
+import threading
+import time
+from concurrent.futures import ThreadPoolExecutor
+
+sys.dont_write_bytecode = True
+sys.path.insert(0, os.path.dirname(os.path.realpath(__file__)))
+from crates import PARTS, Runner, build_libraries, crates_of, kit_folder, lanes  # noqa: E402
+from edits import EditError, edited_texts, functions_of, module_of, skeleton, with_bodies  # noqa: E402
+
+EDIT_NAME = re.compile(r"[A-Za-z0-9_-][A-Za-z0-9_.-]*\.edit")
+OWN_NOTE = re.compile(r"note: (?:\./)?(src/[^:]+):(\d+):\d+: (it is not proved that .*)")
+ONLY_A_CALLEE = re.compile(r"\b(it calls|it passes|a call of)\b")
+CODE_ERROR = re.compile(r"(?:\./)?(src/[^:]+):(\d+):\d+: error")
+PROOF_ERROR = re.compile(r"(?:\./)?proofs/(\S+)/[^/]+\.antt:\d+:\d+: error: (.*)")
+# A proof that names what an edit took away says little of the contract.
+LOST_NAME = re.compile(r"has no field|is not in scope|has no `|was not admitted")
+TEXT_ERROR = re.compile(r"(?:\./)?((?:src|specs|proofs)/[^:]+):\d+:\d+: error: (?:(`[^`]*`): )?(.*)")
+UNREADABLE = re.compile(r"is not in scope|has no field|is no name|operand is missing|expected the end|cannot continue")
+STALE = re.compile(r"module .Rattle-(\w+)-.*Run the lower steps again")
+
+
+class Mutant:
+    """An edit. Its bodies are those of the functions that it turns, {(file, number of the function): lines}, or None
+    where it turns something else."""
+
+    def __init__(self, crate, path):
+        self.crate, self.name = crate, f"{crate.name}/{os.path.basename(path)}"
+        with open(path, encoding="utf-8") as file:
+            self.texts = edited_texts(file.read(), crate.folder)
+        self.bodies = {}
+        for file, text in self.texts.items():
+            was = crate.texts.get(file)
+            if was is None or skeleton(was) != skeleton(text):
+                self.bodies = None
+                return
+            for number, (old, new) in enumerate(zip(functions_of(was), functions_of(text))):
+                if old.lines != new.lines:
+                    self.bodies[file, number] = new.lines
+        self.bodies = self.bodies or None
+
+    def targets(self):
+        """What to look at: its functions, else the modules that name what it changes, or [] for the whole crate."""
+        if self.bodies:
+            return [functions_of(self.crate.texts[file])[number].path(file) for file, number in self.bodies]
+        files = {*self.texts}
+        for file in self.texts:
+            was = self.crate.texts.get(file, "").split("\n")
+            changed = "\n".join(it for it in self.texts[file].split("\n") if it not in was)
+            names = re.findall(r"\b(?:const|static|type|struct|enum) (\w+)", changed)
+            named = re.compile(rf"\b({'|'.join(names)})\b" if names else r"(?!)")
+            files |= {it for it, text in self.crate.texts.items() if module_of(it) and named.search(text)}
+        modules = [module_of(it) for it in sorted(files) if not it.startswith("src/tests")]
+        return modules if all(modules) else []
+
+
+def packed(mutants):
+    """Batches of mutants that turn different functions: each in the first batch where its functions are free."""
+    batches = []
+    for mutant in mutants:
+        free = next((it for it in batches if not any(mutant.bodies.keys() & other.bodies.keys() for other in it)), None)
+        if free is None:
+            batches.append(free := [])
+        free.append(mutant)
+    return batches
+
+
+class Answer:
+    """What a check said."""
+
+    def __init__(self, status, said, files):
+        self.status, self.lines = status, said.rstrip("\n").split("\n")
+        last = self.lines[-1]
+        unread = next((it for it in self.lines if self.is_unread(it, files)), "")
+        stale = STALE.search(said)
+        self.is_proved = status == 0 and last.startswith(("logic=proved ", "only="))
+        self.is_refused = status == 1 and last.startswith(("logic=not-proved", "only=")) and not unread and not stale
+        self.why = f"the prover cannot read the edited text: {unread[:200]}" if unread else ""
+        if not unread and not (self.is_proved or self.is_refused):
+            errors = [it for it in self.lines if "error" in it] or self.lines[-3:]
+            self.why = f"it did not reach the prover: {' | '.join(errors[:3])[:400]}"
+        if stale:
+            self.why = f"the kept work of {stale[1]} cannot be used: remove crates/*/out, and run this again"
+
+    @staticmethod
+    def is_unread(line, files):
+        found = TEXT_ERROR.match(line)
+        if not found or found[1] not in files and not found[1].startswith(("src/", "specs/")):
+            return False
+        return not found[2] or bool(UNREADABLE.search(re.sub(r"`[^`]*`", "", found[3])))
+
+    def in_place(self, mutant, texts):
+        """What refuses one of the functions that the mutant turns, or None."""
+        for file, number in mutant.bodies:
+            turned = functions_of(texts[file])[number]
+            folder = turned.path(file).replace("::", "/")
+            for line in self.lines:
+                note, error = OWN_NOTE.match(line), PROOF_ERROR.match(line)
+                if note and note[1] == file and turned.has_line(int(note[2])) and not ONLY_A_CALLEE.search(note[3]):
+                    return line[len("note: ") :]
+                if error and error[1] == folder and not LOST_NAME.search(error[2]):
+                    return line
+        return None
+
+    def does_not_compile(self, mutant, texts):
+        """Whether an error stands in one of the functions that the mutant turns."""
+        places = [(it[1], int(it[2])) for it in map(CODE_ERROR.match, self.lines) if it]
+        turned = [(file, functions_of(texts[file])[number]) for file, number in mutant.bodies]
+        return any(at == file and function.has_line(line) for at, line in places for file, function in turned)
+
+    def first_error(self):
+        """What refuses an edit that is tried alone."""
+        told = [it for it in self.lines if OWN_NOTE.match(it) or re.match(r"\S+:\d+:\d+: error", it)]
+        first = next((it for it in told if not (PROOF_ERROR.match(it) and LOST_NAME.search(it))), None)
+        if told and not first:
+            return f"only by a proof that names what the edit took away, which says little of the contract: {told[0]}"
+        unproved = next((it for it in self.lines if re.match(r"fn \S+: no(t proved| proof)", it)), self.lines[-1])
+        if not first and "the borrow checker does not cover this function" in unproved:
+            return f"only since the borrow checker does not cover it, which says nothing of the contract: {unproved}"
+        return re.sub(r"\Anote: ", "", first or unproved)
+
+
+class Trial:
+    """Tries the mutants of one crate in a folder of its own."""
+
+    def __init__(self, crate, room, run, say):
+        self.crate, self.room, self.run, self.say = crate, room, run, say
+        self.passed = self.failed = self.together = self.alone = 0
+        self.work, self.peak, self.started = 0.0, 0, time.time()
+        self.kept = f"{room}/kept"
+        crate.texts = crate.sources()
+
+    def check(self, texts, only):
+        """Checks the crate with these texts in the place of its own, or only these of its functions and modules."""
+        with tempfile.TemporaryDirectory(prefix="check-", dir=self.room) as copy:
+            for part in PARTS:
+                if os.path.isdir(f"{self.crate.folder}/{part}"):
+                    shutil.copytree(f"{self.crate.folder}/{part}", f"{copy}/{part}")
+            for path, text in texts.items():
+                with open(f"{copy}/{path}", "w", encoding="utf-8") as file:
+                    file.write(text)
+            words = ["check", *self.crate.words(), "--incremental", self.kept, "--jobs", "1"]
+            while True:
+                looks = [it for path in only for it in ("--only", path)]
+                status, said, seconds, peak = self.run([*words, *looks], copy)
+                self.work, self.peak = self.work + seconds, max(self.peak, peak)
+                unknown = [it for it in only if status == 2 and f"`{it}`" in said.split("rattle: error: ")[-1]]
+                if not unknown:
+                    return Answer(status, said, texts)
+                # a name that the prover does not know: its module, or with none the whole crate
+                modules = {it: self.module_above(it) for it in unknown}
+                only = [] if "" in modules.values() else [*dict.fromkeys(modules.get(it, it) for it in only)]
+
+    def module_above(self, path):
+        modules = [module_of(it) for it in self.crate.texts]
+        return max((it for it in modules if it and path.startswith(f"{it}::")), key=len, default="")
+
+    def all(self):
+        mutants = []
+        folder = f"{self.crate.folder}/mutants"
+        for name in sorted(os.listdir(folder)):
+            if name.endswith(".md"):
+                continue
+            try:
+                if not EDIT_NAME.fullmatch(name) or not os.path.isfile(f"{folder}/{name}"):
+                    raise EditError("its name is not of letters, digits, _, - and ., with .edit at its end")
+                mutants.append(Mutant(self.crate, f"{folder}/{name}"))
+            except (EditError, OSError, UnicodeDecodeError) as error:
+                self.judge(f"{self.crate.name}/{name}", False, f"BAD EDIT: {error}")
+        if mutants and os.path.isdir(f"{self.crate.folder}/out/incremental"):
+            shutil.copytree(f"{self.crate.folder}/out/incremental", self.kept)
+        left = [it for it in mutants if not it.bodies]
+        for batch in packed([it for it in mutants if it.bodies]):
+            left += self.try_together(batch)
+        for mutant in left:
+            self.try_alone(mutant)
+        checks = f"{self.together} checks of several, {self.alone} of one"
+        minutes = f"{self.work / 60:.1f} processor minutes, {(time.time() - self.started) / 60:.1f} of the clock"
+        self.say(f"== {self.crate.name}: {len(mutants)} mutants, {checks}; {minutes}, {self.peak / 1e9:.1f} GB")
+
+    def judge(self, name, is_refused, text):
+        self.passed, self.failed = self.passed + is_refused, self.failed + (not is_refused)
+        self.say(f"{name}: {text}")
+
+    def try_together(self, batch):
+        """Tries mutants that turn different functions in one check, and returns those that are to be tried alone."""
+        if len(batch) == 1:
+            return batch
+        bodies = {key: lines for it in batch for key, lines in it.bodies.items()}
+        files = {file for file, _ in bodies}
+        of = {file: {number: it for (at, number), it in bodies.items() if at == file} for file in files}
+        texts = {file: with_bodies(self.crate.texts[file], of[file]) for file in files}
+        self.together += 1
+        answer = self.check(texts, [path for it in batch for path in it.targets()])
+        if not answer.is_refused and not answer.is_proved:
+            # one of them does not compile, or is not read: it is tried without the others
+            broken = [it for it in batch if answer.does_not_compile(it, texts)]
+            if len(broken) in (0, len(batch)):
+                broken = batch[: len(batch) // 2]
+            self.say(f"   {self.crate.name}: {len(batch)} mutants are tried in two parts: {answer.why}")
+            return [*self.try_together(broken), *self.try_together([it for it in batch if it not in broken])]
+        left = []
+        for mutant in batch:
+            refused = answer.in_place(mutant, texts)
+            if refused:
+                self.judge(mutant.name, True, f"refused: {refused[:160]}")
+            else:
+                left.append(mutant)
+        return left
+
+    def try_alone(self, mutant):
+        only = mutant.targets()
+        for looks in [only, []] if only else [[]]:
+            self.alone += 1
+            answer = self.check(mutant.texts, looks)
+            if answer.is_refused:
+                return self.judge(mutant.name, True, f"refused alone: {answer.first_error()[:160]}")
+            if not answer.is_proved:
+                return self.judge(mutant.name, False, f"BAD EDIT: {answer.why}")
+        return self.judge(mutant.name, False, "NOT REFUSED: the crate is still proved with this edit")
+
+
+def try_mutants(root, names, jobs, kit):
+    crates = crates_of(root, kit)
+    unknown = [it for it in names if it not in crates]
+    if unknown:
+        sys.exit(f"mutants: crates.txt names no crate {unknown[0]}")
+    chosen = [it for it in crates.values() if (not names or it.name in names) and os.path.isdir(f"{it.folder}/mutants")]
+    size = lambda crate: sum(len(it) for it in crate.sources().values())
+    run, lock = Runner(kit), threading.Lock()
+
+    def say(text):
+        with lock:
+            print(text, flush=True)
+
+    for it in (signal.SIGTERM, signal.SIGINT):
+        signal.signal(it, run.end)
+    with tempfile.TemporaryDirectory(prefix="mutants-") as room:
+        build_libraries(chosen, room, run, lanes(jobs))
+        trials = []
+        for crate in sorted(chosen, key=size, reverse=True):
+            os.mkdir(f"{room}/{crate.name}")
+            trials.append(Trial(crate, f"{room}/{crate.name}", run, say))
+        with ThreadPoolExecutor(lanes(jobs)) as pool:
+            for it in [pool.submit(trial.all) for trial in trials]:
+                it.result()
+    passed, failed = sum(it.passed for it in trials), sum(it.failed for it in trials)
+    print(f"{passed} passed, {failed} failed", flush=True)
+    return 1 if failed else 0
+
+
+def main():
+    reader = argparse.ArgumentParser(description=__doc__, formatter_class=argparse.RawDescriptionHelpFormatter)
+    reader.add_argument("--jobs", type=int, default=0, help="how many checks run at once")
+    reader.add_argument("crates", nargs="*")
+    given = reader.parse_args()
+    root = os.path.dirname(os.path.dirname(os.path.realpath(__file__)))
+    return try_mutants(root, given.crates, given.jobs, kit_folder())
+
+
+if __name__ == "__main__":
+    sys.exit(main())

@@ -1,0 +1,173 @@
+#!/usr/bin/env python3
+"""Tests of tools/mutants.py: how it reads sources and edits, and what it says of a small crate's mutants.
+
+Its last line is 'N passed, M failed', and its status 0 only if nothing failed.
+"""
+import contextlib
+import io
+import os
+import sys
+import tempfile
+import unittest
+
+sys.dont_write_bytecode = True
+sys.path.insert(0, os.path.dirname(os.path.realpath(__file__)))
+import edits  # noqa: E402
+import mutants  # noqa: E402
+
+SOURCE = """\
+/// A trait with one method that has a body, and one that has none.
+pub trait Size: Sized {
+    fn bytes(&self) -> usize
+        ensures { result ≤ 8 };
+
+    #[inline]
+    fn words(&self) -> usize
+        ensures { result ≤ 4 }
+    {
+        self.bytes() / 2
+    }
+}
+
+impl<A: Size> From<Pair<A>> for u16 {
+    fn from(
+        pair: Pair<A>,
+    ) -> Self {
+        if pair.is_empty() {
+            return 0;
+        }
+        2
+    }
+}
+
+impl fmt::Display for Pair<'_> {}
+
+impl<'a> Pair<'a> {
+    pub(crate) fn is_empty(&self) -> bool {
+        true
+    }
+}
+"""
+
+STEPS = """\
+//! Numbers that follow one another.
+#![tactic(auto)]
+
+ghost use Rattle.std.specs.Prelude.{◌≡◌, ◌+◌, ◌≤◌};
+
+const STEP: u16 = 2;
+
+pub fn next(number: u8) -> u16
+    ensures { result ≡ number + 2 }
+{
+    u16::from(number) + STEP
+}
+
+pub fn after_next(number: u8) -> u16
+    ensures { result ≡ number + 3 }
+{
+    next(number) + 1
+}
+
+pub fn half(number: u8) -> u8
+    ensures { result ≤ number }
+{
+    number / 2
+}
+"""
+
+# Each edit of the crate `steps`, with how the line of its verdict begins. Two are proved: the contract of `half` lets a
+# third through, and `after_next` stays as it was, but calls a function that is refused in the same check.
+EDITS = {
+    "adds_in_another_order": ("next(number) + 1", "1 + next(number)", "NOT REFUSED"),
+    "does_not_apply": ("number / 4", "number / 5", "BAD EDIT: an 'old:' text"),
+    "does_not_compile": ("number / 2", "numeral / 2", "BAD EDIT: it did not reach the prover"),
+    "steps_by_one": ("u16::from(number) + STEP", "u16::from(number) + 1", "refused: src/lib.rt"),
+    "takes_a_third": ("number / 2", "number / 3", "NOT REFUSED"),
+    "takes_another_step": ("STEP: u16 = 2", "STEP: u16 = 1", "refused alone: src/lib.rt"),
+}
+
+
+class Reading(unittest.TestCase):
+    def test_functions_are_named_as_a_check_names_them(self):
+        found = [it.path("src/pairs/size.rt") for it in edits.functions_of(SOURCE)]
+        wanted = ["Size::words", "U16FromPairA::from", "Pair::is_empty"]
+        self.assertEqual([f"pairs::size::{it}" for it in wanted], found)
+
+    def test_a_function_begins_at_its_attributes(self):
+        words = edits.functions_of(SOURCE)[0]
+        self.assertEqual("    #[inline]", SOURCE.split("\n")[words.head])
+        self.assertEqual(["        self.bytes() / 2"], words.lines)
+
+    def test_a_body_takes_the_place_of_another(self):
+        turned = SOURCE.replace("/ 2", "/ 3")
+        bodies = {0: edits.functions_of(turned)[0].lines}
+        self.assertEqual(turned, edits.with_bodies(SOURCE, bodies))
+        self.assertEqual(edits.skeleton(SOURCE), edits.skeleton(turned))
+
+    def test_a_clause_is_no_body(self):
+        turned = SOURCE.replace("result ≤ 4", "result ≤ 5")
+        self.assertNotEqual(edits.skeleton(SOURCE), edits.skeleton(turned))
+
+    def test_a_file_names_its_module(self):
+        files = ["src/lib.rt", "src/a.rt", "src/a/mod.rt", "src/a/b.rt", "specs/A.antt"]
+        self.assertEqual(["", "a", "a", "a::b", ""], [edits.module_of(it) for it in files])
+
+
+class Answers(unittest.TestCase):
+    def answer(self, status, last, *lines):
+        return mutants.Answer(status, "\n".join([*lines, last, ""]), {"src/lib.rt"})
+
+    def test_a_check_that_stops_early_refuses_nothing(self):
+        self.assertFalse(self.answer(1, "rattle: error: the crate cannot be read").is_refused)
+        self.assertFalse(self.answer(3, "logic=not-proved").is_refused)
+        self.assertFalse(self.answer(1, "only=2 proved=1", "src/lib.rt:4:5: error: expected the end").is_refused)
+        self.assertTrue(self.answer(1, "only=2 proved=1").is_refused)
+
+    def test_only_a_note_of_its_own_refuses_a_function(self):
+        mutant = mutants.Mutant.__new__(mutants.Mutant)
+        mutant.bodies = {("src/lib.rt", 1): []}
+        texts = {"src/lib.rt": STEPS}
+        for line, refuses in {
+            "note: src/lib.rt:14:1: it is not proved that what the function ensures holds when it returns": True,
+            "./proofs/after_next/Answers.antt:3:5: error: `returns`: the two types differ": True,
+            "note: src/lib.rt:8:1: it is not proved that what the function ensures holds when it returns": False,
+            "note: src/lib.rt:14:1: it calls `steps::next`, which is not proved": False,
+            "fn steps::after_next: no proof: it calls `steps::next`, which is not proved": False,
+            "./proofs/after_next/Answers.antt:3:5: error: `returns`: `c.from` is not in scope": False,
+            "./proofs/next/Answers.antt:3:5: error: `returns`: the two types differ": False,
+        }.items():
+            found = self.answer(1, "only=2 proved=0", line).in_place(mutant, texts)
+            self.assertEqual(refuses, found is not None, line)
+
+
+class Trying(unittest.TestCase):
+    def test_mutants_of_a_small_crate(self):
+        with tempfile.TemporaryDirectory(prefix="mutants-test-") as root:
+            folder = f"{root}/crates/steps"
+            for part in ("src", "mutants"):
+                os.makedirs(f"{folder}/{part}")
+            self.write(f"{root}/crates.txt", "steps:  # no library but std\n")
+            self.write(f"{folder}/src/lib.rt", STEPS)
+            for name, (old, new, _) in EDITS.items():
+                self.write(f"{folder}/mutants/{name}.edit", f"file: src/lib.rt\nold: {old}\nnew: {new}\n")
+            with contextlib.redirect_stdout(io.StringIO()) as said:
+                status = mutants.try_mutants(root, [], 1, mutants.kit_folder())
+        lines = said.getvalue().splitlines()
+        verdicts = dict(it[len("steps/") :].split(".edit: ") for it in lines if it.startswith("steps/"))
+        for name, (_, _, wanted) in EDITS.items():
+            self.assertTrue(verdicts[name].startswith(wanted), f"{name}: {verdicts[name]}")
+        self.assertEqual("2 passed, 4 failed", lines[-1])
+        self.assertEqual(1, status)
+
+    @staticmethod
+    def write(path, text):
+        with open(path, "w", encoding="utf-8") as file:
+            file.write(text)
+
+
+if __name__ == "__main__":
+    ran = unittest.main(exit=False).result
+    failed = len(ran.failures) + len(ran.errors)
+    print(f"{ran.testsRun - failed} passed, {failed} failed")
+    sys.exit(1 if failed else 0)
