@@ -13,3 +13,8 @@ options = wrapped
     (λ (o : BridgeBooleanOptions). (o.value.0, o.mask.0))
     (λ (x : ℕ × ℕ). record { value = record { 0 = x.0 }; mask = record { 0 = x.1 } })
     (λ _. refl) (pairs numbers numbers)
+
+-- the reason of one case of an enum, and those of the cases after it
+infixr 30 ◌also◌
+abbrev pub ◌also◌ : {A B : Type 0} → A → B → A × B
+◌also◌ reason others = (reason, others)

@@ -590,9 +590,9 @@ impl Parseable for InfoBridge {
 impl Attribute for InfoBridge {
     ghost use Rattle.std.specs.Prelude.{refl};
     ghost use Rattle.link_base.proofs.TableLaws.{lawful};
-    ghost use Rattle.link_base.specs.Equality.{of_cases, thorough_fields};
+    ghost use Rattle.link_base.specs.Equality.{of_cases, anything, numbers, truths, octets, protocols, lists, defaults};
     ghost use Rattle.link_bridge.specs.Bridge.{bridge_table};
-    ghost use Rattle.link_bridge.specs.BridgeEquality.{ids, options};
+    ghost use Rattle.link_bridge.specs.BridgeEquality.{◌also◌, ids, options};
     ghost use Rattle.link_bridge.specs.contracts.bridge.stp_state.BridgeStpStateNamedNumber.TheImpl.Laws.{thorough-law as states};
     ghost use Rattle.link_bridge.specs.contracts.bridge.stp_mode.BridgeStpModeNamedNumber.TheImpl.Laws.{thorough-law as modes};
     ghost use Rattle.link_bridge.specs.contracts.bridge.router_type.BridgeMulticastRouterTypeNamedNumber.TheImpl.Laws.{thorough-law as routers};
@@ -603,5 +603,18 @@ impl Attribute for InfoBridge {
 
     ghost well_formed = { refl };
 
-    ghost thorough = { of_cases enum _ _ (Prim.search (thorough_fields, ids, options, states, modes, routers, queriers)) };
+    ghost thorough = { of_cases enum _ _ (
+        anything octets also tt also anything numbers also anything numbers also anything numbers also
+        anything numbers also anything numbers also anything numbers also anything numbers also
+        anything numbers also anything numbers also anything numbers also anything numbers also
+        anything numbers also anything numbers also anything numbers also anything states also
+        anything numbers also anything numbers also anything numbers also anything numbers also
+        anything numbers also anything numbers also anything protocols also anything numbers also
+        anything ids also anything ids also anything numbers also anything numbers also anything truths also
+        anything numbers also anything numbers also anything routers also anything truths also
+        anything truths also anything truths also anything truths also anything truths also anything truths also
+        anything truths also anything truths also anything numbers also anything numbers also
+        anything truths also anything options also lists queriers also anything numbers also
+        anything numbers also anything modes also defaults also tt
+        ) };
 }

@@ -80,9 +80,11 @@ impl From<BridgeIdBuffer> for BridgeId {
     ghost from_gives = { λ buffer id. id ≡ id_of_buffer buffer };
 
     fn from(buffer: BridgeIdBuffer) -> Self {
+        let priority = buffer.priority;
+        let address = buffer.address;
         BridgeId {
-            priority: u16::from_be_bytes(buffer.priority),
-            address: buffer.address,
+            priority: u16::from_be_bytes(priority),
+            address,
         }
     }
 }
