@@ -1,6 +1,6 @@
 -- Lists of addresses, read and written in a loop.
-use Rattle.std.proofs.Common.{◌≡◌, ℕ, ◌+◌, ◌*◌, ◌-◌, ◌≤◌, ◌<◌, zero, suc, List, [], ◌∷◌, ◌++◌, length, take, drop, get_or, map, Ok, Err, refl, sym, ap, subst, ◌∙◌, arith, append_assoc, length-append}
-use Rattle.std.specs.Prelude.{slice_index, ◌==◌, IsTrue, nat_lt}
+use Rattle.std.proofs.Common.{◌≡◌, ℕ, ◌+◌, ◌*◌, ◌-◌, ◌≤◌, ◌<◌, zero, suc, List, [], ◌∷◌, ◌++◌, length, take, get_or, map, Ok, Err, refl, sym, ap, subst, ◌∙◌, arith, length-append}
+use Rattle.std.specs.Prelude.{◌==◌, IsTrue, nat_lt}
 use Rattle.std.proofs.lemmas.Bool.{ltb-true}
 use Rattle.std.proofs.lemmas.List.{length-map, length-take, append-nil}
 use Rattle.std.proofs.lemmas.Grind.{flat_map-append}
@@ -8,9 +8,9 @@ use Rattle.std.proofs.lemmas.List.Elements.{filter-append}
 use Rattle.std.proofs.Math.Nat.{suc-mul, mul-le-mul, mul-le-mul_right}
 use Rattle.link_base.specs.declared.fault.ListError.{ListError}
 use Rattle.link_base.specs.declared.fault.ListError.TheVariants as list_errors
-use Rattle.link_base.specs.Frame.{Frame, frame_bytes, spelled, pad}
+use Rattle.link_base.specs.Frame.{frame_bytes, spelled, pad}
 use Rattle.link_base.specs.Wire.{Reading, whole}
-use Rattle.link_base.specs.Table.{AttrValue, Case, Content, Listed, Addresses, ListGives, PayloadGives, ShapeGives, of_length, addresses_from}
+use Rattle.link_base.specs.Table.{Case, Content, Listed, Addresses, ListGives, PayloadGives, ShapeGives, of_length, addresses_from}
 use Rattle.link_base.specs.Addresses.{sized}
 use Rattle.link_base.specs.Answers.{Fails, ListFails, nested_error}
 use Rattle.link_base.proofs.Addresses.{length-whole}

@@ -1,5 +1,5 @@
 -- Tests of equality that look at all that a value means: what a derived `==` compares, case by case and field by field.
-use Rattle.std.specs.Prelude.{◌≡◌, ℕ, ℤ, nat_eq, string_eq, string_bytes, ◌==◌, ◌&&◌, ◌⊎◌, Bool, true, false, List, [], ◌∷◌, map}
+use Rattle.std.specs.Prelude.{◌≡◌, ℕ, ℤ, nat_eq, string_eq, string_bytes, ◌==◌, ◌&&◌, Bool, true, false, List, [], ◌∷◌, map}
 use Rattle.std.specs.Bool.{beq}
 use Rattle.std.specs.Ordering.{int_eq}
 use Rattle.std.specs.Cmp.{first_so, second_so, unsigned_Decides, signed_Decides, booleans_Decides}

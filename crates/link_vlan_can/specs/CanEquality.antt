@@ -1,11 +1,10 @@
 -- What `==` looks at in the records of a CAN controller: every field.
-use Rattle.std.specs.Prelude.{ℕ, ◌==◌, ◌&&◌, [], ◌∷◌, refl, string_bytes, string_eq}
-use Rattle.link_base.specs.Class.{Value, Limited}
-use Rattle.link_base.specs.Table.{AttrValue, Case, Single}
+use Rattle.std.specs.Prelude.{ℕ, ◌==◌, ◌&&◌, [], ◌∷◌, refl, string_eq}
+use Rattle.link_base.specs.Class.{Limited}
+use Rattle.link_base.specs.Table.{Case, Single}
 use Rattle.link_base.specs.Layout.{octets_of}
 use Rattle.link_base.specs.Equality.{IsThorough, through, wrapped, pairs, pairs_by, texts, numbers}
 use Rattle.link_vlan_can.specs.CanLimits.{limits_value}
-use Rattle.link_vlan_can.specs.declared.can_flags.CanCtrlModeFlags.{CanCtrlModeFlags}
 use Rattle.link_vlan_can.specs.declared.can_records.CanBitTiming.{CanBitTiming}
 use Rattle.link_vlan_can.specs.declared.can_records.CanCtrlMode.{CanCtrlMode}
 use Rattle.link_vlan_can.specs.declared.can_records.CanClock.{CanClock}

@@ -197,7 +197,7 @@ impl Parseable for InfoCan {
 impl Attribute for InfoCan {
     ghost use Rattle.std.specs.Prelude.{refl};
     ghost use Rattle.link_base.proofs.TableLaws.{lawful};
-    ghost use Rattle.link_base.specs.Equality.{of_cases, anything, numbers, lists, defaults};
+    ghost use Rattle.link_base.specs.Equality.{of_cases, thorough_fields};
     ghost use Rattle.link_vlan_can.specs.CanEquality.{timings, limits, clocks, modes, counters};
     ghost use Rattle.link_vlan_can.specs.contracts.can_tdc.CanTdcAttribute.TheImpl.Laws.{thorough-law as tdcs};
     ghost use Rattle.link_vlan_can.specs.contracts.can_modes.CanCtrlModeExtAttribute.TheImpl.Laws.{
@@ -209,35 +209,6 @@ impl Attribute for InfoCan {
 
     ghost well_formed = { refl };
 
-    ghost thorough = { of_cases enum _ _ (
-      anything timings,
-      (
-        limits,
-        (
-          anything clocks,
-          (
-            anything numbers,
-            (
-              anything modes,
-              (
-                anything numbers,
-                (
-                  anything numbers,
-                  (
-                    anything counters,
-                    (
-                      anything timings,
-                      (
-                        limits,
-                        (anything numbers, (anything numbers, (lists tdcs, (lists exts, (defaults, tt))))),
-                      ),
-                    ),
-                  ),
-                ),
-              ),
-            ),
-          ),
-        ),
-      ),
-    ) };
+    ghost thorough = { of_cases enum _ _
+        (Prim.search (thorough_fields, timings, limits, clocks, modes, counters, tdcs, exts)) };
 }

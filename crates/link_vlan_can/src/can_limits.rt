@@ -1,6 +1,6 @@
 //! The limits of a CAN controller's bit timing, with the controller's name.
 
-ghost use Rattle.std.specs.Prelude.{◌≡◌, ◌≤◌, [], length, take, drop, IfOk, string_bytes};
+ghost use Rattle.std.specs.Prelude.{◌≡◌, ◌≤◌, [], length, take, drop, IfOk, IsTrue, string_bytes};
 ghost use Rattle.link_base.specs.Name.{name_of, name_field};
 ghost use Rattle.link_base.specs.Class.{Limits, IsInRange, written};
 ghost use Rattle.link_base.specs.Answers.{OnMemory, OverwritesFront};
@@ -71,7 +71,8 @@ impl CanBitTimingConst {
 
     /// An equal value. Fails where allocation failed.
     pub fn try_clone(&self, alloc: Global) -> Result<Self, AllocError>
-        ensures { IfOk result (λ limits. limits_view limits ≡ limits_view self.now) }
+        ensures copy { IfOk result (λ limits. limits_view limits ≡ limits_view self.now) }
+        ensures equal { IfOk result (λ limits. IsTrue (⟦<CanBitTimingConst as PartialEq>⟧.eq limits self.now)) }
     {
         Ok(CanBitTimingConst {
             name: String::from_str(alloc, &self.name)?,

@@ -3,7 +3,8 @@
 ghost use Rattle.std.specs.Prelude.{refl, false};
 ghost use Rattle.link_base.proofs.TableLaws.{lawful};
 ghost use Rattle.link_base.specs.Lift.{lift, lift_table};
-ghost use Rattle.link_base.specs.Equality.{of_cases, anything, pairs, numbers, defaults, lists, protocols};
+ghost use Rattle.link_base.specs.Equality.{of_cases, thorough_fields, anything, defaults};
+ghost use Rattle.link_base.specs.Equality.{pairs, numbers, lists, protocols};
 ghost use Rattle.link_vlan_can.specs.Vlan.{mapping_rows, mapping_leaf, vlan_table, vlan_means};
 
 use crate::vlan_flags::VlanFlags;
@@ -96,7 +97,7 @@ impl Attribute for VlanQosMapping {
 
     ghost well_formed = { refl };
 
-    ghost thorough = { of_cases enum _ _ (anything (pairs numbers numbers), (defaults, tt)) };
+    ghost thorough = { of_cases enum _ _ (Prim.search (thorough_fields, pairs numbers numbers)) };
 }
 
 impl NestedAttribute for VlanQosMapping {

@@ -1,4 +1,4 @@
-use Rattle.std.proofs.Common.{◌≡◌, ◌≤◌, ◌<◌, ◌-◌, ◌+◌, length, map, take, drop, arith, ap, sym, refl, subst}
+use Rattle.std.proofs.Common.{◌≡◌, ◌-◌, length, map, take, drop, arith, ap, refl}
 use Rattle.std.proofs.lemmas.List.{length-take, length-drop, length-append}
 use Rattle.link_base.specs.Frame.{frame_bytes, spelled}
 use Rattle.link_base.specs.Wire.{whole}

@@ -1,4 +1,4 @@
-use Rattle.std.proofs.Common.{◌≡◌, ◌+◌, ◌*◌, ◌++◌, length, take, get_or, refl, ap, ◌∙◌, arith, [], ◌∷◌}
+use Rattle.std.proofs.Common.{◌≡◌, ◌+◌, ◌++◌, length, take, get_or, refl, ap, ◌∙◌, arith, [], ◌∷◌}
 use Rattle.std.proofs.lemmas.List.{take_more, append-nil, length-take}
 use Rattle.std.proofs.lemmas.Grind.{flat_map-append}
 use Rattle.link_base.specs.Number.{bytes_of}

@@ -1,7 +1,6 @@
-use Rattle.std.proofs.Common.{◌≡◌, ◌∙◌, ℕ, List, length, refl, sym, subst, ap, arith}
+use Rattle.std.proofs.Common.{◌≡◌, ◌∙◌, length, refl, sym, subst, ap, arith}
 use Rattle.std.specs.Net.Addr.{ipv6_octets}
 use Rattle.link_base.specs.Number.{IsBytes}
-use Rattle.link_base.specs.Addresses.{sixteen_octets}
 use Rattle.link_base.proofs.AddressLists.{sized_all}
 use Rattle.link_base.proofs.Numbers.{IsBytes-index}
 use Rattle.link_base.proofs.address_list.Ipv6AddrAddress.put.Goals as goal
