@@ -19,8 +19,6 @@ mod nested;
 mod octets;
 mod records;
 mod scalars;
-#[cfg(test)]
-mod tests;
 mod try_clone;
 mod vlan_protocol;
 mod writing;

@@ -4,8 +4,6 @@
 mod bond;
 mod bond_port;
 pub mod laws;
-#[cfg(test)]
-mod tests;
 
 pub use bond::{
     BondAdInfo, BondAdSelect, BondAllPortActive, BondArpAllTargets, BondArpValidate,

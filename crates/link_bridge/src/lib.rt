@@ -4,8 +4,6 @@
 mod bridge;
 mod bridge_boolopt;
 pub mod laws;
-#[cfg(test)]
-mod tests;
 
 pub use bridge::{
     BridgeId, BridgeIdBuffer, BridgeMulticastRouterType, BridgeQuerierState, BridgeStpMode,

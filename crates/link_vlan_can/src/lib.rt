@@ -10,8 +10,6 @@ mod can_tdc;
 mod dsa;
 mod hsr;
 pub mod laws;
-#[cfg(test)]
-mod tests;
 mod vlan;
 mod vlan_flags;
 

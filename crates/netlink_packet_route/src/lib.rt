@@ -7,6 +7,8 @@ pub mod laws;
 pub mod link;
 mod reporting;
 mod rewriting;
+#[cfg(test)]
+mod tests;
 
 pub use family::Family;
 pub use reporting::{MOST_TEXT, report};

@@ -1,7 +1,7 @@
 -- Lists, cut at the first element that passes a test, or at a length.
-use Rattle.std.proofs.Common.{◌≡◌, ◌⊎◌, inl, inr, ℕ, suc, zero, ◌+◌, ◌-◌, ◌<◌, ◌≤◌, min, Bool, true, false, not, List, [], ◌∷◌, ◌++◌, length, get_or, take, drop, None, Some, Option, Result, Ok, Err, OnOk, is_ok, cond, refl, sym, ap, subst, ◌∙◌, arith, append_assoc, take-append-drop}
+use Rattle.std.proofs.Common.{◌≡◌, inl, inr, ℕ, suc, zero, ◌+◌, ◌-◌, ◌<◌, ◌≤◌, min, Bool, true, false, List, [], ◌∷◌, ◌++◌, length, get_or, take, drop, None, Some, Result, Ok, Err, IfOk, OnOk, is_ok, cond, sym, ap, subst, ◌∙◌, arith}
 use Rattle.std.specs.List.{AllByRecursion, position, position_or_len}
-use Rattle.std.proofs.lemmas.List.{take_all, take_at, take-append-le, length-take-le, take_min, drop_more, drop_all}
+use Rattle.std.proofs.lemmas.List.{take_all, take_at, take-append-le, length-take-le, take_min, drop_more}
 use Rattle.std.proofs.lemmas.List.Quantifiers.{position-Some}
 use Rattle.std.proofs.lemmas.List.Sums.{fails_before_first}
 use Rattle.std.proofs.lemmas.Bool.{cases_lt, cond_below}
@@ -61,3 +61,8 @@ pub kept : {E : Type 0} (r : Result (Unit {0}) E) (n room k : ℕ) (before insid
 kept (Ok x) n room k before inside piece front new i le e m f h =
     h ∙ ap (λ l. inside ++ l) (f ∙ ap (λ j. take j piece) m) ∙ sym (take_room n room inside piece le e) ∙ ap (λ l. take n (l ++ piece)) i
 kept (Err x) n room k before inside piece front new i le e m f h = tt
+
+-- what follows from a fact of the value
+pub if_ok : {X E : Type 0} (P Q : X → Type 0) (r : Result X E) → ((x : X) → P x → Q x) → IfOk r P → IfOk r Q
+if_ok P Q (Ok x) f h = f x h
+if_ok P Q (Err e) f h = tt

@@ -10,7 +10,7 @@ use Rattle.netlink_packet_route.specs.declared.family.Family.TheVariants.{Bond}
 use Rattle.netlink_packet_route.specs.Family.{family_name}
 use Rattle.netlink_packet_route.specs.Report.{is_space, line}
 use Rattle.nlshow.specs.Show.{IsUnbroken, IsApart, IsNamed}
-use Rattle.nlshow.proofs.Cuts.{CutAt, cut_at, no_cut, all_each}
+use Rattle.nlshow.proofs.Cuts.{cut_at, no_cut, all_each}
 
 -- ---- the names of families are text
 

@@ -1,12 +1,14 @@
 -- The loops of a run.
-use Rattle.std.proofs.Common.{◌≡◌, ◌≢◌, ◌⊎◌, inl, inr, ℕ, ◌<◌, Bool, true, ◌&&◌, List, [], ◌∷◌, ◌++◌, length, take, None, Some, Option, refl, sym, ap, ap₂, subst, ◌∙◌, arith, append_assoc}
+use Rattle.std.proofs.Common.{◌≡◌, inl, inr, ℕ, ◌<◌, Bool, true, ◌&&◌, List, [], ◌++◌, length, take, Option, Result, Ok, Err, refl, sym, ap, subst, ◌∙◌, append_assoc}
 use Rattle.std.proofs.lemmas.List.{append-nil}
 use Rattle.std.specs.Io.KnownBytes.{Appends, Consumes, Keeps, IsAtEnd}
 use Rattle.std.proofs.KnownBytes.{Appends-nil, Appends-trans, Appends-kept, Consumes-nil, Consumes-trans}
 use Rattle.netlink_packet_route.specs.Report.{line}
+use Rattle.nlshow.specs.declared.running.Stop.{Stop}
+use Rattle.nlshow.specs.declared.running.Stop.TheVariants.{Memory, Reader, Writer}
 use Rattle.nlshow.specs.Show.{ShowsAll, IsUnbroken}
-use Rattle.nlshow.specs.Progress.{Shown, Goes, held_of}
-use Rattle.nlshow.specs.Run.{Runs, Grows, WritesLine, WritesPiece, WritesRest}
+use Rattle.nlshow.specs.Progress.{Shown, Goes, held_of, Grows, WritesLine, WritesPiece, WritesRest, OnMemory}
+use Rattle.nlshow.specs.Run.{Runs}
 use Rattle.nlshow.proofs.Texts.{none, goes_none, goes_both, goes_on, goes_over, ends_here, ends_open, and_true}
 
 -- ---- the lines of a piece
@@ -69,6 +71,10 @@ went_on held after piece r s t w v u whole all g c h =
       written = Appends-trans w v u g.out h.0 g.written h.2;
     }
 
+-- a read of no bytes
+pub read_end : (s t : Option (List ℕ)) (n : ℕ) (buf : List ℕ) → n ≡ 0 → Consumes s t (take n buf) × (n ≡ 0 → 0 < length buf → IsAtEnd t) → 0 < length buf → Consumes s t [] × IsAtEnd t
+read_end s t n buf e h some = (subst (λ k. Consumes s t (take k buf)) e h.0, h.1 e some)
+
 -- the end
 pub went_all : (held : List ℕ) (r s t w v u : Option (List ℕ)) (whole all : Bool) → Went held r s w v whole → Consumes s t [] → IsAtEnd t → WritesRest held whole v u all → Runs r t w u all
 went_all held r s t w v u whole all g c end (inl h) =
@@ -101,3 +107,9 @@ went_keeps held r s w v u whole g h = (g.out, Appends-kept w v u g.out g.written
 
 pub fed_keeps : (before held piece rest : List ℕ) (w v u : Option (List ℕ)) (all : Bool) → Fed before held piece rest w v all → Keeps v u → Grows w u
 fed_keeps before held piece rest w v u all s h = (s.out, Appends-kept w v u s.out s.written h)
+
+pub on_memory : {X : Type 0} (P Q : Type 0) (r : Result X Stop) → (P → Q) → OnMemory r P → OnMemory r Q
+on_memory P Q (Ok x) f h = tt
+on_memory P Q (Err Memory) f h = f h
+on_memory P Q (Err Reader) f h = tt
+on_memory P Q (Err Writer) f h = tt

@@ -1,11 +1,11 @@
 -- Lines, shown one after another.
-use Rattle.std.proofs.Common.{◌≡◌, ◌≢◌, ◌⊎◌, inl, inr, ℕ, ◌+◌, ◌<◌, ◌≤◌, Bool, true, false, ◌&&◌, List, [], ◌∷◌, ◌++◌, length, take, None, Some, refl, sym, ap, ap₂, subst, ◌∙◌, arith, append_assoc, length-take, length-append, codes}
-use Rattle.std.specs.List.{AllByRecursion, AllZip, flat_map, list_all}
+use Rattle.std.proofs.Common.{◌≡◌, ◌≢◌, ℕ, ◌+◌, ◌<◌, ◌≤◌, Bool, true, false, ◌&&◌, List, [], ◌∷◌, ◌++◌, length, refl, sym, ap, ap₂, subst, ◌∙◌, arith, append_assoc, length-take, length-append, codes}
+use Rattle.std.specs.List.{AllZip, flat_map}
 use Rattle.std.proofs.lemmas.List.{take_all, append-nil, nil_from_length}
 use Rattle.std.proofs.lemmas.List.Folds.{list_all-append}
 use Rattle.std.proofs.lemmas.Grind.{flat_map-append}
 use Rattle.netlink_packet_route.specs.Report.{line}
-use Rattle.nlshow.specs.Show.{Shows, TooLong, PassedOver, Answered, ShowsLines, ShowsAll, AreIndented, AreLines, Ended, Open, IsUnbroken}
+use Rattle.nlshow.specs.Show.{Shows, TooLong, PassedOver, Answered, ShowsLines, ShowsAll, AreIndented, Ended, Open, IsUnbroken}
 use Rattle.nlshow.specs.Progress.{Shown, Goes, held_of}
 use Rattle.nlshow.proofs.Cuts.{all_append, take_twice}
 

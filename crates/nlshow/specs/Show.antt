@@ -1,5 +1,5 @@
 -- What is written for a line, and for a text of lines.
-use Rattle.std.specs.Prelude.{◌≡◌, ◌≢◌, ◌⊎◌, ℕ, ◌<◌, ◌≤◌, Bool, true, false, not, List, [], ◌∷◌, ◌++◌, length, Result, Ok, Err, codes}
+use Rattle.std.specs.Prelude.{◌≡◌, ◌≢◌, ◌⊎◌, ℕ, ◌<◌, ◌≤◌, Bool, true, false, List, [], ◌∷◌, ◌++◌, length, Result, Ok, Err, codes}
 use Rattle.std.specs.List.{flat_map, list_all, AllZip, AllByRecursion}
 use Rattle.hex.specs.Hex.{decode_of}
 use Rattle.hex.specs.declared.error.FromHexError.{FromHexError}
@@ -52,15 +52,15 @@ ShowsDigits table (Ok s) out read = ShowsList table s out read
 ShowsDigits table (Err e) out read = (out ≡ line (codes "bad hex")) × (read ≡ false)
 
 -- the same for a line
-pub data Answers (text out : List ℕ) (read : Bool) : Type 0 where
-  Known : (family : Family) (rest : List ℕ) → IsNamed text (family_name family) rest → ShowsDigits (table_of family) (decode_of (digits_of rest)) out read → Answers text out read
-  Unknown : (name rest : List ℕ) → IsNamed text name rest → IsNoFamily name → out ≡ line (codes "no such family") → read ≡ false → Answers text out read
+pub data ShowsBelow (text out : List ℕ) (read : Bool) : Type 0 where
+  Known : (family : Family) (rest : List ℕ) → IsNamed text (family_name family) rest → ShowsDigits (table_of family) (decode_of (digits_of rest)) out read → ShowsBelow text out read
+  Unknown : (name rest : List ℕ) → IsNamed text name rest → IsNoFamily name → out ≡ line (codes "no such family") → read ≡ false → ShowsBelow text out read
 
 -- what is written for a line, and whether its list was read
 pub data Shows (text out : List ℕ) (read : Bool) : Type 0 where
   TooLong : 262144 < length text → out ≡ line (codes "input too long") → read ≡ false → Shows text out read
   PassedOver : length text ≤ 262144 → IsPassedOver text → out ≡ [] → read ≡ true → Shows text out read
-  Answered : length text ≤ 262144 → ¬ IsPassedOver text → (below : List ℕ) → Answers text below read → out ≡ line text ++ below → Shows text out read
+  Answered : length text ≤ 262144 → ¬ IsPassedOver text → (below : List ℕ) → ShowsBelow text below read → out ≡ line text ++ below → Shows text out read
 
 -- ---- a text
 

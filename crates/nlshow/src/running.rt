@@ -4,8 +4,8 @@ ghost use Rattle.std.specs.Prelude.{◌≡◌, ◌⊎◌, ◌<◌, ◌++◌, [],
 ghost use Rattle.std.specs.Io.KnownBytes.{Keeps};
 ghost use Rattle.netlink_packet_route.specs.Report.{line};
 ghost use Rattle.nlshow.specs.Show.{IsUnbroken};
-ghost use Rattle.nlshow.specs.Progress.{held_of};
-ghost use Rattle.nlshow.specs.Run.{RunsFor, Runs, Grows, EndsWith, WritesLine, WritesPiece, WritesRest, OnMemory, PrintsOrFails, no_memory_line};
+ghost use Rattle.nlshow.specs.Progress.{held_of, Grows, WritesLine, WritesPiece, WritesRest, OnMemory};
+ghost use Rattle.nlshow.specs.Run.{RunsFor, Runs, EndsWith, PrintsOrFails, no_memory_line};
 
 use crate::held::Held;
 use crate::showing::show;
@@ -28,8 +28,8 @@ pub(crate) enum Stop {
 /// Status 0 says that every list was read, 1 that one was not, 4 that an allocation failed, 5 that the reader or the
 /// writer did.
 pub fn run<R: Read, W: Write>(alloc: Global, reader: &mut R, writer: &mut W) -> u8
-    ensures report { result < 2
-        → RunsFor (R.remaining reader.old) (R.remaining reader.new) (W.contents writer.old) (W.contents writer.new) result }
+    ensures report { result < 2 → RunsFor (R.remaining reader.old) (R.remaining reader.new)
+        (W.contents writer.old) (W.contents writer.new) result }
     // Behind what was written, `no memory` stands alone.
     ensures memory { result ≡ 4 → EndsWith (W.contents writer.old) (W.contents writer.new) no_memory_line }
     ensures known { (result < 2) ⊎ ((result ≡ 4) ⊎ (result ≡ 5)) }
@@ -64,7 +64,8 @@ fn flushed<W: Write>(writer: &mut W, status: u8) -> u8
 
 /// Shows each line of the reader, the last one with or without its LF. The answer is whether every list was read.
 fn show_all<R: Read, W: Write>(alloc: Global, reader: &mut R, writer: &mut W) -> Result<bool, Stop>
-    ensures shown { IfOk result (Runs (R.remaining reader.old) (R.remaining reader.new) (W.contents writer.old) (W.contents writer.new)) }
+    ensures shown { IfOk result (Runs (R.remaining reader.old) (R.remaining reader.new)
+        (W.contents writer.old) (W.contents writer.new)) }
     ensures memory { OnMemory result (Grows (W.contents writer.old) (W.contents writer.new)) }
 {
     let mut buffer = match vec![in alloc; 0u8; CHUNK] {
@@ -97,7 +98,8 @@ fn feed<W: Write>(
     chunk: &[u8],
     writer: &mut W,
 ) -> Result<bool, Stop>
-    ensures shown { IfOk result (WritesPiece held.old held.new chunk.now (W.contents writer.old) (W.contents writer.new)) }
+    ensures shown { IfOk result (WritesPiece held.old held.new chunk.now
+        (W.contents writer.old) (W.contents writer.new)) }
     ensures memory { OnMemory result (Grows (W.contents writer.old) (W.contents writer.new)) }
 {
     let mut whole = true;
@@ -121,7 +123,8 @@ fn feed<W: Write>(
 
 /// The bytes before the first LF, and those behind it.
 fn split_line(bytes: &[u8]) -> Option<(&[u8], &[u8])>
-    ensures { MatchOption result (IsUnbroken bytes.now) (λ parts. IsUnbroken parts.0.now × (bytes.now ≡ line parts.0.now ++ parts.1.now)) }
+    ensures { MatchOption result (IsUnbroken bytes.now)
+        (λ parts. IsUnbroken parts.0.now × (bytes.now ≡ line parts.0.now ++ parts.1.now)) }
 {
     let end = bytes.iter().position(|b| *b == b'\n')?;
     let (line, rest) = bytes.split_at(end);
@@ -136,7 +139,8 @@ fn end_line<W: Write>(
     piece: &[u8],
     writer: &mut W,
 ) -> Result<bool, Stop>
-    ensures shown { IfOk result (WritesLine (held_of (held.old ++ piece.now)) (W.contents writer.old) (W.contents writer.new)) }
+    ensures shown { IfOk result (WritesLine (held_of (held.old ++ piece.now))
+        (W.contents writer.old) (W.contents writer.new)) }
     ensures forgotten { IfOk result (λ _. held.new ≡ []) }
     ensures memory { OnMemory result (Keeps (W.contents writer.old) (W.contents writer.new)) }
 {
@@ -163,7 +167,7 @@ fn end_text<W: Write>(alloc: Global, held: &Held, whole: bool, writer: &mut W) -
         Err(stop) => return Err(stop),
     };
     match writer.flush() {
-        Ok(()) => Ok(whole && read),
+        Ok(()) => Ok(whole & read),
         Err(_) => Err(Stop::Writer),
     }
 }

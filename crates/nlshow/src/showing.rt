@@ -1,12 +1,12 @@
 //! What is written for a line.
 
-ghost use Rattle.std.specs.Prelude.{◌≡◌, ◌++◌, ◌↔◌, length, map, codes, IsTrue, IfOk, OnOk, IfSome, IfNone, string_bytes};
-ghost use Rattle.std.specs.List.{flat_map};
+ghost use Rattle.std.specs.Prelude.{◌≡◌, ◌++◌, ◌↔◌, length, IsTrue, IfOk, OnOk, IfSome, IfNone, string_bytes};
 ghost use Rattle.std.specs.Io.KnownBytes.{Appends, Keeps};
-ghost use Rattle.netlink_packet_route.specs.Family.{family_name};
+ghost use Rattle.hex.specs.Hex.{decode_of};
+ghost use Rattle.netlink_packet_route.specs.Family.{family_name, table_of};
 ghost use Rattle.netlink_packet_route.specs.Report.{is_space, digits_of, line, fault_line};
-ghost use Rattle.nlshow.specs.Show.{IsPassedOver, IsNamed, IsNoFamily, AreIndented, ShowsList, Answers};
-ghost use Rattle.nlshow.specs.Run.{WritesLine, OnMemory};
+ghost use Rattle.nlshow.specs.Show.{IsPassedOver, IsNamed, IsNoFamily, AreIndented, ShowsList, ShowsDigits, ShowsBelow};
+ghost use Rattle.nlshow.specs.Progress.{WritesLine, OnMemory};
 
 use crate::running::Stop;
 use hex::FromHexError;
@@ -66,18 +66,27 @@ fn write_below<W: Write>(writer: &mut W, text: &[u8], below: &str) -> io::Result
 
 /// What stands below a line, and whether its list was read.
 fn answer(alloc: Global, text: &[u8]) -> Result<(String, bool), AllocError>
-    ensures { IfOk result (λ answer. Answers text.now (string_bytes answer.0) answer.1) }
+    ensures { IfOk result (λ below. ShowsBelow text.now (string_bytes below.0) below.1) }
 {
     let (name, rest) = cut_name(text);
-    let Some(family) = family_of(name) else {
-        return Ok((String::from_str(alloc, "no such family\n")?, false));
-    };
-    let digits = digits(alloc, rest)?;
-    match hex::decode(alloc, digits.as_slice()) {
-        Ok(bytes) => by_family!(family, list_text(alloc, &bytes)),
-        Err(FromHexError::OutOfMemory) => Err(AllocError),
-        Err(_) => Ok((String::from_str(alloc, "bad hex\n")?, false)),
+    match family_of(name) {
+        Some(family) => digits_text(alloc, family, rest),
+        None => Ok((String::from_str(alloc, "no such family\n")?, false)),
     }
+}
+
+/// What stands below the line of a family's list in hex digits, and whether it was read.
+fn digits_text(alloc: Global, family: Family, text: &[u8]) -> Result<(String, bool), AllocError>
+    ensures { IfOk result (λ below. ShowsDigits (table_of family) (decode_of (digits_of text.now))
+        (string_bytes below.0) below.1) }
+{
+    let digits = digits(alloc, text)?;
+    let bytes = match hex::decode(alloc, digits.as_slice()) {
+        Ok(bytes) => bytes,
+        Err(FromHexError::OutOfMemory) => return Err(AllocError),
+        Err(_) => return Ok((String::from_str(alloc, "bad hex\n")?, false)),
+    };
+    by_family!(family, list_text(alloc, &bytes))
 }
 
 /// What stands before the first white space, and the rest.
@@ -114,7 +123,7 @@ fn list_text<F: Attribute + Debug>(
     alloc: Global,
     bytes: &[u8],
 ) -> Result<(String, bool), AllocError>
-    ensures { IfOk result (λ answer. ShowsList F.table bytes.now (string_bytes answer.0) answer.1) }
+    ensures { IfOk result (λ below. ShowsList F.table bytes.now (string_bytes below.0) below.1) }
 {
     let values: Vec<F> = match read_list(alloc, bytes) {
         Ok(values) => values,

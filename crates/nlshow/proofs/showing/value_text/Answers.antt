@@ -1,4 +1,4 @@
-use Rattle.std.proofs.Common.{string_bytes, ap, ◌∙◌, ◌++◌}
+use Rattle.std.proofs.Common.{string_bytes}
 use Rattle.nlshow.proofs.Texts.{indented_more}
 use Rattle.nlshow.proofs.showing.value_text.Goals as goal
 

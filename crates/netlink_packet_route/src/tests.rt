@@ -1,0 +1,95 @@
+//! What no clause says: worked bytes and texts, and calls that succeed.
+
+mod flags;
+mod frames;
+mod laws;
+mod limits;
+mod names;
+mod payloads;
+mod records;
+mod reports;
+mod rewritings;
+mod texts;
+mod values;
+
+use crate::link::{
+    Attribute, DecodeError, DecodeFault, ListError, NlaBuffer, TryClone, read_list, write_list,
+};
+use std::alloc::Global;
+use std::process::Abort;
+
+/// What is said of a row is so.
+fn holds(rt: &impl Abort, is_so: bool, row: &str) {
+    assert!(rt; is_so, "in {row}");
+}
+
+/// The bytes of hex digits, with spaces among them.
+fn bytes(rt: &impl Abort, alloc: Global, digits: &str) -> Vec<u8> {
+    let digits: Vec<u8> = digits
+        .bytes()
+        .filter(|b| *b != b' ')
+        .collect(alloc)
+        .expect(rt, digits);
+    hex::decode(alloc, &digits).expect(rt, "hex digits")
+}
+
+/// The digits of a header, of the name field of a CAN controller, and of eight numbers that are zero.
+fn can_limits(rt: &impl Abort, alloc: Global, header: &str, field: &str) -> String {
+    let mut digits = String::from_str(alloc, header).expect(rt, field);
+    digits.push_str(field).expect(rt, field);
+    for _ in 0..8 {
+        digits.push_str("00000000").expect(rt, field);
+    }
+    digits
+}
+
+/// A list with these items.
+fn list<T: Drop, const N: usize>(rt: &impl Abort, alloc: Global, items: [T; N]) -> Vec<T> {
+    Vec::from_array(alloc, items).expect(rt, "a list")
+}
+
+/// The bytes are one frame, which reads as this value, alone and as a list; and the value has an equal copy.
+fn reads_as<F: Attribute + TryClone>(rt: &impl Abort, alloc: Global, digits: &str, wanted: F) {
+    let bytes = bytes(rt, alloc, digits);
+    let frame = NlaBuffer::new_checked(&bytes).expect(rt, digits);
+    let value = F::parse(alloc, &frame).expect(rt, digits);
+    let copy = value.try_clone(alloc).expect(rt, digits);
+    let values: Vec<F> = read_list(alloc, &bytes).expect(rt, digits);
+    let is_one = values.len() == 1 && values[0] == wanted;
+    holds(rt, value == wanted && copy == wanted && is_one, digits);
+}
+
+/// The value is written as these bytes, in a list and alone, whatever the buffer held; nothing behind them is written.
+fn is_written<F: Attribute>(rt: &impl Abort, alloc: Global, digits: &str, value: F) {
+    let mut wanted = bytes(rt, alloc, digits);
+    let mut buffer = [0xFF; 100];
+    assert!(rt; value.fits() && value.buffer_len() <= 100);
+    value.emit(&mut buffer);
+    let values = list(rt, alloc, [value]);
+    let out = write_list(alloc, &values).expect(rt, digits);
+    holds(rt, out == wanted, digits);
+    wanted.resize(100, 0xFF).expect(rt, digits);
+    holds(rt, buffer.as_slice() == wanted.as_slice(), digits);
+}
+
+/// The bytes read as this value, and the value is written as these bytes.
+fn is_kept<F: Attribute + TryClone>(rt: &impl Abort, alloc: Global, digits: &str, value: F) {
+    let copy = value.try_clone(alloc).expect(rt, digits);
+    reads_as(rt, alloc, digits, value);
+    is_written(rt, alloc, digits, copy);
+}
+
+/// The bytes are one frame, which has this fault, alone and as a list.
+fn are_refused<F: Attribute>(rt: &impl Abort, alloc: Global, rows: &[(&str, DecodeFault)]) {
+    for (digits, fault) in rows {
+        let bytes = bytes(rt, alloc, digits);
+        let frame = NlaBuffer::new_checked(&bytes).expect(rt, digits);
+        let alone = F::parse(alloc, &frame) == Err(DecodeError::Fault(*fault));
+        let values: Result<Vec<F>, ListError> = read_list(alloc, &bytes);
+        let wanted = ListError::Fault {
+            at: 0,
+            fault: *fault,
+        };
+        holds(rt, alone && values == Err(wanted), digits);
+    }
+}

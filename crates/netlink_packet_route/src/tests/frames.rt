@@ -1,0 +1,137 @@
+//! Frames: their fields, their faults, and how they follow one another.
+
+use crate::link::{Cause, DecodeError, DecodeFault, NlaBuffer, NlasIterator};
+use crate::tests::{bytes, holds};
+use std::alloc::Global;
+use std::process::Abort;
+
+/// A frame, and what its calls answer.
+#[derive(Clone, Copy)]
+struct Row<'a> {
+    digits: &'a str,
+    raw_kind: u16,
+    kind: u16,
+    is_nested: bool,
+    is_network_byte_order: bool,
+    value: &'a [u8],
+}
+
+#[test]
+fn fields(rt: HostRuntime) {
+    for row in [
+        Row {
+            digits: "08000100 2a000000",
+            raw_kind: 1,
+            kind: 1,
+            is_nested: false,
+            is_network_byte_order: false,
+            value: &[42, 0, 0, 0],
+        },
+        // both flags, and no padding
+        Row {
+            digits: "060063c0 dead",
+            raw_kind: 0xC063,
+            kind: 99,
+            is_nested: true,
+            is_network_byte_order: true,
+            value: &[0xDE, 0xAD],
+        },
+        // padding that is not zero
+        Row {
+            digits: "06002f80 0102ffff",
+            raw_kind: 0x802F,
+            kind: 47,
+            is_nested: true,
+            is_network_byte_order: false,
+            value: &[1, 2],
+        },
+        // the greatest kind, no payload, and another frame behind
+        Row {
+            digits: "0400ff7f 04000100",
+            raw_kind: 0x7FFF,
+            kind: 0x3FFF,
+            is_nested: false,
+            is_network_byte_order: true,
+            value: &[],
+        },
+    ] {
+        let bytes = bytes(&rt, rt.alloc(), row.digits);
+        let frame = NlaBuffer::new_checked(&bytes).expect(&rt, row.digits);
+        let kinds = frame.raw_kind() == row.raw_kind && frame.kind() == row.kind;
+        let flags = frame.nested_flag() == row.is_nested
+            && frame.network_byte_order_flag() == row.is_network_byte_order;
+        let length = usize::from(frame.length()) == row.value.len().saturating_add(4)
+            && frame.value_length() == row.value.len();
+        let is_so = kinds && flags && length && frame.value() == row.value;
+        holds(&rt, is_so, row.digits);
+    }
+}
+
+#[test]
+fn faults(rt: HostRuntime) {
+    for (digits, cause) in [
+        ("", Cause::ShortFrame { left: 0 }),
+        ("04", Cause::ShortFrame { left: 1 }),
+        ("0400", Cause::ShortFrame { left: 2 }),
+        ("040009", Cause::ShortFrame { left: 3 }),
+        ("00000100", Cause::SmallLength { length: 0 }),
+        ("03000100 2a", Cause::SmallLength { length: 3 }),
+        ("09000100 2a000000", Cause::Overrun { length: 9, left: 8 }),
+        (
+            "ffff0100",
+            Cause::Overrun {
+                length: 65535,
+                left: 4,
+            },
+        ),
+    ] {
+        let bytes = bytes(&rt, rt.alloc(), digits);
+        let fault = DecodeError::Fault(DecodeFault::Frame(cause));
+        holds(&rt, NlaBuffer::new_checked(&bytes) == Err(fault), digits);
+    }
+}
+
+#[test]
+fn as_many_items_as_frames(rt: HostRuntime) {
+    let mut bytes = Vec::new(rt.alloc());
+    for wanted in 0..101usize {
+        let count = NlasIterator::new(&bytes).count();
+        assert_eq!(rt; count, wanted);
+        bytes
+            .extend_from_slice(&[4, 0, 9, 0])
+            .expect(&rt, "one frame more");
+    }
+}
+
+/// The bytes give frames of these kinds, then this fault, if any, and then nothing more.
+fn gives(rt: &impl Abort, alloc: Global, digits: &str, kinds: &[u16], last: Option<Cause>) {
+    let bytes = bytes(rt, alloc, digits);
+    let mut frames = NlasIterator::new(&bytes);
+    for kind in kinds {
+        match frames.next() {
+            Some(Ok(frame)) => holds(rt, frame.kind() == *kind, digits),
+            _ => holds(rt, false, digits),
+        }
+    }
+    if let Some(cause) = last {
+        let fault = DecodeError::Fault(DecodeFault::Frame(cause));
+        holds(rt, frames.next() == Some(Err(fault)), digits);
+    }
+    let is_end = frames.next().is_none() && frames.next().is_none();
+    holds(rt, is_end, digits);
+}
+
+#[test]
+fn runs(rt: HostRuntime) {
+    let alloc = rt.alloc();
+    gives(&rt, alloc, "", &[], None);
+    // the last frame lacks its padding
+    gives(&rt, alloc, "05000100 2affffff 05000200 2b", &[1, 2], None);
+    let short = Some(Cause::ShortFrame { left: 3 });
+    gives(&rt, alloc, "04000100 000000", &[1], short);
+    // a good frame behind a fault is not given
+    let small = Some(Cause::SmallLength { length: 3 });
+    gives(&rt, alloc, "04000100 03000200 04000300", &[1], small);
+    let overrun = Some(Cause::Overrun { length: 9, left: 8 });
+    gives(&rt, alloc, "04000100 09000200 04000300", &[1], overrun);
+}

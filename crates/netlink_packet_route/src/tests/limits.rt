@@ -1,0 +1,199 @@
+//! Payloads as long as can be, and values that do not fit.
+
+use crate::link::{
+    Attribute, DefaultNla, InfoBond, InfoVlan, Nla, VlanQosMapping, WriteError, emit_list,
+    list_fits, list_len, read_list, write_list,
+};
+use crate::tests::{bytes, holds, list};
+use crate::{Family, RewriteError, report, rewrite};
+use std::alloc::Global;
+use std::net::{Ipv4Addr, Ipv6Addr};
+use std::process::Abort;
+
+fn zeros(rt: &impl Abort, alloc: Global, size: usize) -> Vec<u8> {
+    vec![in alloc; 0u8; size].expect(rt, "zeros")
+}
+
+#[test]
+fn lengths(rt: HostRuntime) {
+    for (payload, frame, fits) in [
+        (0, 4, true),
+        (1, 8, true),
+        (65531, 65536, true),
+        (65532, 65536, false),
+        (65533, 65540, false),
+        (131_072, 131_076, false),
+    ] {
+        let value = DefaultNla::new(99, zeros(&rt, rt.alloc(), payload));
+        let lens = value.value_len() == payload && value.buffer_len() == frame;
+        assert!(rt; lens && value.fits() == fits, "at {payload}");
+    }
+}
+
+#[test]
+fn the_longest_payload(rt: HostRuntime) {
+    let alloc = rt.alloc();
+    let longest = DefaultNla::new(99, zeros(&rt, alloc, 65531));
+    let out = write_list(alloc, &[longest]).expect(&rt, "its bytes");
+    assert!(rt; out.len() == 65536 && out.starts_with(&[0xFF, 0xFF, 0x63, 0]));
+}
+
+#[test]
+fn values_that_are_too_long(rt: HostRuntime) {
+    let alloc = rt.alloc();
+    let longer = [DefaultNla::new(99, zeros(&rt, alloc, 65532))];
+    assert!(rt; !list_fits(&longer));
+    assert!(rt; write_list(alloc, &longer) == Err(WriteError::TooLong { index: 0 }));
+    let third = [
+        DefaultNla::new(1, zeros(&rt, alloc, 4)),
+        DefaultNla::new(1, zeros(&rt, alloc, 65531)),
+        DefaultNla::new(1, zeros(&rt, alloc, 65533)),
+    ];
+    assert!(rt; write_list(alloc, &third) == Err(WriteError::TooLong { index: 2 }));
+}
+
+/// No values: no bytes.
+fn is_empty<F: Attribute>(rt: &impl Abort, alloc: Global) {
+    let none: Vec<F> = read_list(alloc, &[]).expect(rt, "no values");
+    let out = write_list(alloc, &none).expect(rt, "no bytes");
+    let is_none = none.is_empty() && out.is_empty();
+    assert!(rt; is_none && list_fits(&none) && list_len(&none) == 0);
+}
+
+#[test]
+fn no_values(rt: HostRuntime) {
+    is_empty::<DefaultNla>(&rt, rt.alloc());
+    is_empty::<InfoBond>(&rt, rt.alloc());
+}
+
+#[test]
+fn a_list_in_a_longer_buffer(rt: HostRuntime) {
+    let alloc = rt.alloc();
+    let first = DefaultNla::new(0x8063, list(&rt, alloc, [0xDE, 0xAD]));
+    let second = DefaultNla::new(1, list(&rt, alloc, [42]));
+    let values = [first, second];
+    let mut buffer = [0xFF; 18];
+    assert!(rt; list_fits(&values) && list_len(&values) == 16);
+    emit_list(&values, &mut buffer);
+    let wanted = bytes(&rt, alloc, "06006380 dead0000 05000100 2a000000 ffff");
+    assert!(rt; buffer.as_slice() == wanted.as_slice());
+}
+
+fn many_of_four(rt: &impl Abort, alloc: Global, count: usize) -> InfoBond {
+    let address = Ipv4Addr::new(10, 0, 0, 1);
+    InfoBond::ArpIpTarget(vec![in alloc; address; count].expect(rt, "addresses"))
+}
+
+fn many_of_sixteen(rt: &impl Abort, alloc: Global, count: usize) -> InfoBond {
+    let address = Ipv6Addr::new(0, 0, 0, 0, 0, 0, 0, 1);
+    InfoBond::NsIp6Target(vec![in alloc; address; count].expect(rt, "addresses"))
+}
+
+/// The value fits and has so many bytes of payload. The bytes that are written for it, which read as it.
+fn written(rt: &impl Abort, alloc: Global, value: InfoBond, len: usize) -> Vec<u8> {
+    assert!(rt; value.fits() && value.value_len() == len);
+    let values = list(rt, alloc, [value]);
+    let out = write_list(alloc, &values).expect(rt, "its bytes");
+    let read: Vec<InfoBond> = read_list(alloc, &out).expect(rt, "the value");
+    assert!(rt; read == values);
+    out
+}
+
+#[test]
+fn as_many_addresses_as_fit(rt: HostRuntime) {
+    let alloc = rt.alloc();
+    let out = written(&rt, alloc, many_of_four(&rt, alloc, 8191), 65528);
+    assert!(rt; out.len() == 65532 && out.starts_with(&[0xFC, 0xFF, 8, 0, 8, 0, 0, 0]));
+    // the last element has the kind 8190
+    assert!(rt; out.ends_with(&[8, 0, 0xFE, 0x1F, 10, 0, 0, 1]));
+    let out = written(&rt, alloc, many_of_sixteen(&rt, alloc, 3276), 65520);
+    assert!(rt; out.len() == 65524);
+}
+
+/// The value, of so many bytes of payload, does not fit, and is not written.
+fn is_too_long(rt: &impl Abort, alloc: Global, value: InfoBond, len: usize) {
+    assert!(rt; !value.fits() && value.value_len() == len);
+    let values = list(rt, alloc, [value]);
+    assert!(rt; write_list(alloc, &values) == Err(WriteError::TooLong { index: 0 }));
+}
+
+#[test]
+fn one_address_more(rt: HostRuntime) {
+    let alloc = rt.alloc();
+    is_too_long(&rt, alloc, many_of_four(&rt, alloc, 8192), 65536);
+    is_too_long(&rt, alloc, many_of_sixteen(&rt, alloc, 3277), 65540);
+}
+
+/// The digits, and those of so many zero bytes behind them.
+fn with_zeros(rt: &impl Abort, alloc: Global, digits: &str, count: usize) -> Vec<u8> {
+    let mut text = digits.as_bytes().to_vec(alloc).expect(rt, digits);
+    for _ in 0..count {
+        text.extend_from_slice(b"00").expect(rt, digits);
+    }
+    text
+}
+
+#[test]
+fn the_report_of_the_longest_payload(rt: HostRuntime) {
+    let alloc = rt.alloc();
+    let text = with_zeros(&rt, alloc, "ff ff 63 00", 65531);
+    let (out, status) = report(alloc, Family::Vlan, &text).expect(&rt, "a report");
+    let mut wanted = with_zeros(&rt, alloc, "attr 99 len 65531\nout ffff6300", 65532);
+    wanted
+        .extend_from_slice(b"\nchanged\n")
+        .expect(&rt, "the verdict");
+    assert!(rt; out.as_bytes() == wanted.as_slice() && status == 0);
+}
+
+/// What is reported where these digits stand before a list of 65529 bytes, whose element is written as 65532, and
+/// those behind it.
+fn long_list_is(
+    rt: &impl Abort,
+    alloc: Global,
+    before: &str,
+    behind: &str,
+    wanted: &str,
+    status: u8,
+) {
+    let digits = format!(in alloc; "{before} fdff0300 f9ff6300").expect(rt, wanted);
+    let mut text = with_zeros(rt, alloc, &digits, 65525);
+    text.extend_from_slice(behind.as_bytes()).expect(rt, wanted);
+    let (out, answer) = report(alloc, Family::Vlan, &text).expect(rt, wanted);
+    holds(rt, out.as_str() == wanted && answer == status, wanted);
+}
+
+#[test]
+fn lists_that_grow(rt: HostRuntime) {
+    for (before, behind, wanted, status) in [
+        ("", "", "too long at 0\n", 3),
+        // two of the three bytes of padding, whatever they are
+        ("", "0300", "too long at 0\n", 3),
+        ("", "000000", "too long at 0\n", 3),
+        ("", "000000 04000900", "too long at 0\n", 3),
+        ("06000100 0a000000", "", "too long at 1\n", 3),
+        // a fault is told before a length
+        ("", "000000 0300", "fault at 65536: short frame 2\n", 1),
+        ("", "030003 00", "fault at 65536: short frame 1\n", 1),
+        (
+            "",
+            "000000 04000100",
+            "fault at 65536: kind 1: wrong length 2 0\n",
+            1,
+        ),
+    ] {
+        long_list_is(&rt, rt.alloc(), before, behind, wanted, status);
+    }
+}
+
+#[test]
+fn the_value_of_a_list_that_grows(rt: HostRuntime) {
+    let alloc = rt.alloc();
+    let mut bytes = bytes(&rt, alloc, "fdff0300 f9ff6300");
+    bytes.resize(65533, 0).expect(&rt, "its bytes");
+    let values: Vec<InfoVlan> = read_list(alloc, &bytes).expect(&rt, "a value");
+    let other = VlanQosMapping::Other(DefaultNla::new(0x63, zeros(&rt, alloc, 65525)));
+    let value = InfoVlan::EgressQos(list(&rt, alloc, [other]));
+    assert!(rt; values == list(&rt, alloc, [value]));
+    let long = RewriteError::TooLong { index: 0 };
+    assert!(rt; rewrite(alloc, Family::Vlan, &bytes) == Err(long));
+}

@@ -1,0 +1,184 @@
+//! What becomes of bytes that are rewritten, and rewritten again.
+
+use crate::link::{Cause, DecodeFault};
+use crate::tests::{bytes, can_limits, holds};
+use crate::{Family, RewriteError, rewrite};
+use std::alloc::Global;
+use std::process::Abort;
+
+/// The first bytes are rewritten to the second, those to the third, and these to themselves.
+fn becomes(rt: &impl Abort, alloc: Global, family: Family, digits: [&str; 3]) {
+    let [first, second, third] = digits;
+    let once = rewrite(alloc, family, &bytes(rt, alloc, first)).expect(rt, first);
+    let twice = rewrite(alloc, family, &once).expect(rt, first);
+    let thrice = rewrite(alloc, family, &twice).expect(rt, first);
+    holds(rt, once == bytes(rt, alloc, second), first);
+    let wanted = bytes(rt, alloc, third);
+    holds(rt, twice == wanted && thrice == wanted, first);
+}
+
+/// The bytes beside a family's name stay as they are.
+#[test]
+fn bytes_that_stay(rt: HostRuntime) {
+    for (family, digits) in [
+        (Family::Dsa, ""),
+        (Family::Dsa, "08000100 2a000000"),
+        (Family::Hsr, "0a000400 01154e00 01000000"),
+        (Family::Vlan, "060063c0 dead0000"),
+        (Family::Vlan, "0c000300 080009c0 01020304"),
+        (Family::Vlan, "06006300 dead0000"),
+        (Family::Vlan, "10000300 0c000100 01000000 02000000"),
+        (
+            Family::Vlan,
+            "06006300 dead0000 10000300 0c000100 01000000 02000000",
+        ),
+        (Family::Bond, "04000800"),
+        (Family::Bond, "0c000800 08000000 0a000001"),
+        (Family::Bond, "0c001700 06000100 07000000"),
+        (Family::Bond, "05000100 09000000"),
+        (Family::BondPort, "06000800 3f000000"),
+        (Family::Bridge, "04001500"),
+        (Family::Bridge, "04002f80"),
+        (Family::Bridge, "06000800 81000000"),
+        (Family::Bridge, "0c000b00 80000200 00000001"),
+        (Family::Can, "08000800 01000200"),
+        (Family::Can, "0c001080 08000700 03000000"),
+    ] {
+        becomes(&rt, rt.alloc(), family, [digits, digits, digits]);
+    }
+}
+
+#[test]
+fn bytes_that_change_once(rt: HostRuntime) {
+    for (family, first, second) in [
+        (Family::Dsa, "080001c0 2a000000", "08000100 2a000000"),
+        (Family::Dsa, "07006340 01020304", "07006340 01020300"),
+        (
+            Family::Hsr,
+            "0a000400 01154e00 0100",
+            "0a000400 01154e00 01000000",
+        ),
+        (
+            Family::Vlan,
+            "0c000380 080009c0 01020304",
+            "0c000300 080009c0 01020304",
+        ),
+        (Family::Vlan, "060063c0 dead", "060063c0 dead0000"),
+        (Family::Bond, "0c000800 06000000 0a000000", "04000800"),
+        (
+            Family::Bond,
+            "0a001700 06000100 07000000",
+            "0c001700 06000100 07000000",
+        ),
+        (Family::BondPort, "06000800 3f010000", "06000800 3f000000"),
+        (Family::Bridge, "07001500 01020300", "04001500"),
+        (Family::Bridge, "04002f00", "04002f80"),
+        (Family::Bridge, "06000800 12340000", "06000800 81000000"),
+        (
+            Family::Bridge,
+            "0e000b00 80000200 00000001 ffff0000",
+            "0c000b00 80000200 00000001",
+        ),
+        (
+            Family::Can,
+            "0c001000 08000700 03000000",
+            "0c001080 08000700 03000000",
+        ),
+    ] {
+        becomes(&rt, rt.alloc(), family, [first, second, second]);
+    }
+}
+
+/// The same of the name fields of a CAN controller, whose numbers are zero.
+fn names_become(rt: &impl Abort, alloc: Global, fields: [&str; 3]) {
+    let [first, second, third] = fields;
+    let first = can_limits(rt, alloc, "34000200", first);
+    let second = can_limits(rt, alloc, "34000200", second);
+    let third = can_limits(rt, alloc, "34000200", third);
+    becomes(rt, alloc, Family::Can, [&first, &second, &third]);
+}
+
+#[test]
+fn names_that_stay(rt: HostRuntime) {
+    for field in [
+        "f09f9880 00000000 00000000 00000000",
+        "61f09f98 80000000 00000000 00000000",
+        "6161f09f 98800000 00000000 00000000",
+        "616161f0 9f988000 00000000 00000000",
+        "61616161 f09f9880 00000000 00000000",
+        "61616161 61f09f98 80000000 00000000",
+        "61616161 6161f09f 98800000 00000000",
+        "61616161 616161f0 9f988000 00000000",
+        "61616161 61616161 f09f9880 00000000",
+        "61616161 61616161 61f09f98 80000000",
+        "61616161 61616161 6161f09f 98800000",
+        "61616161 61616161 616161f0 9f988000",
+        // the front of U+FFFD at the end of the field
+        "61616161 61616161 61616161 61efbf00",
+        "61616161 61616161 61616161 6161ef00",
+    ] {
+        names_become(&rt, rt.alloc(), [field, field, field]);
+    }
+}
+
+#[test]
+fn names_that_change(rt: HostRuntime) {
+    for fields in [
+        // a character that is cut, once and again
+        [
+            "61616161 61616161 61616161 f09f9880",
+            "61616161 61616161 61616161 f09f9800",
+            "61616161 61616161 61616161 efbfbd00",
+        ],
+        [
+            "61616161 61616161 61616161 61e4bda0",
+            "61616161 61616161 61616161 61e4bd00",
+            "61616161 61616161 61616161 61efbf00",
+        ],
+        // the front of a character is read as U+FFFD
+        [
+            "61616161 61616161 61616161 61f09f98",
+            "61616161 61616161 61616161 61efbf00",
+            "61616161 61616161 61616161 61efbf00",
+        ],
+        [
+            "61616161 61616161 61616161 6161f09f",
+            "61616161 61616161 61616161 6161ef00",
+            "61616161 61616161 61616161 6161ef00",
+        ],
+        [
+            "61616161 61616161 61616161 6161e400",
+            "61616161 61616161 61616161 6161ef00",
+            "61616161 61616161 61616161 6161ef00",
+        ],
+        [
+            "61616161 61616161 61616161 616161f0",
+            "61616161 61616161 61616161 61616100",
+            "61616161 61616161 61616161 61616100",
+        ],
+        // bytes that begin no character
+        [
+            "ffffffff ffffffff ffffffff ffffffff",
+            "efbfbdef bfbdefbf bdefbfbd efbfbd00",
+            "efbfbdef bfbdefbf bdefbfbd efbfbd00",
+        ],
+        // what stands behind the first NUL
+        [
+            "61006200 00000000 00000000 00000000",
+            "61000000 00000000 00000000 00000000",
+            "61000000 00000000 00000000 00000000",
+        ],
+    ] {
+        names_become(&rt, rt.alloc(), fields);
+    }
+}
+
+#[test]
+fn a_fault(rt: HostRuntime) {
+    let bytes = bytes(&rt, rt.alloc(), "08000100 2a000000 00");
+    let fault = RewriteError::Fault {
+        at: 8,
+        fault: DecodeFault::Frame(Cause::ShortFrame { left: 1 }),
+    };
+    assert!(rt; rewrite(rt.alloc(), Family::Dsa, &bytes) == Err(fault));
+}
