@@ -41,8 +41,8 @@ pub fn equality<T: NamedNumber>()
 // ---- texts
 
 /// The displayed text of a name reads as its value, and so does a further text, where the type accepts texts. Where it
-/// accepts numbers of so many bits, at most 64, and displays a number without a name bare, the displayed text of a value
-/// reads as the value of its number.
+/// accepts numbers of so many bits, at most 64, and displays a number without a name bare, the displayed text of a
+/// value reads as the value of its number.
 pub fn text_back<T: NamedNumber>()
     ensures name { (v : T) (d : ℕ) (r : Result T DecodeError) → T.names.accepted ≢ NoText → T.seen v ≡ Listed d
         → ReadsText T.names (displayed T.names (T.seen v)) r → r ≡ Ok v }

@@ -61,8 +61,8 @@ pub fn u32_at(bytes: &[u8], offset: usize) -> u32
     ])
 }
 
-/// The numbers of four bytes each, one after another from an offset on, each little-endian. Requires that they lie within
-/// the bytes.
+/// The numbers of four bytes each, one after another from an offset on, each little-endian. Requires that they lie
+/// within the bytes.
 pub fn u32s_at<const N: usize>(bytes: &[u8], offset: usize) -> [u32; N]
     requires { offset + 4 * N ≤ length bytes.now }
     ensures value { result ≡ numbers_at 4 N offset bytes.now }

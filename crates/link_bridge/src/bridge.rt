@@ -119,8 +119,8 @@ const IFLA_BR_FDB_MAX_LEARNED: u16 = 49;
 
 const IFLA_BR_STP_MODE: u16 = 50;
 
-/// An attribute of a bridge (`IFLA_BR_*`, `include/uapi/linux/if_link.h`). A clock tick is 1/100 second (`USER_HZ`). What
-/// is only shown cannot be set.
+/// An attribute of a bridge (`IFLA_BR_*`, `include/uapi/linux/if_link.h`). A clock tick is 1/100 second (`USER_HZ`).
+/// What is only shown cannot be set.
 #[derive(Debug, PartialEq, Eq, Drop)]
 pub enum InfoBridge {
     /// The address of the group that the spanning tree protocol sends to, 01:80:c2:00:00:00 if not set;
@@ -593,10 +593,18 @@ impl Attribute for InfoBridge {
     ghost use Rattle.link_base.specs.Equality.{of_cases, anything, numbers, truths, octets, protocols, lists, defaults};
     ghost use Rattle.link_bridge.specs.Bridge.{bridge_table};
     ghost use Rattle.link_bridge.specs.BridgeEquality.{◌also◌, ids, options};
-    ghost use Rattle.link_bridge.specs.contracts.bridge.stp_state.BridgeStpStateNamedNumber.TheImpl.Laws.{thorough-law as states};
-    ghost use Rattle.link_bridge.specs.contracts.bridge.stp_mode.BridgeStpModeNamedNumber.TheImpl.Laws.{thorough-law as modes};
-    ghost use Rattle.link_bridge.specs.contracts.bridge.router_type.BridgeMulticastRouterTypeNamedNumber.TheImpl.Laws.{thorough-law as routers};
-    ghost use Rattle.link_bridge.specs.contracts.bridge.querier.BridgeQuerierStateAttribute.TheImpl.Laws.{thorough-law as queriers};
+    ghost use Rattle.link_bridge.specs.contracts.bridge.stp_state.BridgeStpStateNamedNumber.TheImpl.Laws.{
+      thorough-law as states,
+    };
+    ghost use Rattle.link_bridge.specs.contracts.bridge.stp_mode.BridgeStpModeNamedNumber.TheImpl.Laws.{
+      thorough-law as modes,
+    };
+    ghost use Rattle.link_bridge.specs.contracts.bridge.router_type.BridgeMulticastRouterTypeNamedNumber.TheImpl.Laws.{
+      thorough-law as routers,
+    };
+    ghost use Rattle.link_bridge.specs.contracts.bridge.querier.BridgeQuerierStateAttribute.TheImpl.Laws.{
+      thorough-law as queriers,
+    };
     ghost use Rattle.link_bridge.specs.contracts.bridge.InfoBridge.{enum};
 
     ghost lawful = { lawful bridge_table };

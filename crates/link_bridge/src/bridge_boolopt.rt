@@ -14,8 +14,8 @@ use link_base::{DecodeError, Emitable, check_length, emit_u32s, u32s_at};
 /// The bytes of written options.
 const SIZE: usize = 8;
 
-/// Boolean options of a bridge, many at a time (`struct br_boolopt_multi`, `include/uapi/linux/if_bridge.h`): two sets of
-/// four bytes. Any other length is refused.
+/// Boolean options of a bridge, many at a time (`struct br_boolopt_multi`, `include/uapi/linux/if_bridge.h`): two sets
+/// of four bytes. Any other length is refused.
 #[derive(Clone, Copy, Debug, PartialEq, Eq)]
 pub struct BridgeBooleanOptions {
     /// The options that are on (`optval`).

@@ -96,7 +96,8 @@ impl fmt::Display for BridgeMulticastRouterType {
     ghost use Rattle.std.specs.Prelude.{Some};
     ghost use Rattle.link_base.specs.Named.{displayed};
 
-    ghost output = { λ v. Some (displayed ⟦<BridgeMulticastRouterType as NamedNumber>⟧.names (⟦<BridgeMulticastRouterType as NamedNumber>⟧.seen v)) };
+    ghost output = { λ v. Some (displayed ⟦<BridgeMulticastRouterType as NamedNumber>⟧.names
+        (⟦<BridgeMulticastRouterType as NamedNumber>⟧.seen v)) };
 
     fn fmt<W: fmt::Write>(&self, f: &mut fmt::Formatter<W>) -> fmt::Result {
         match self {

@@ -15,7 +15,8 @@ const BR_STP_MODE_KERNEL: u32 = 2;
 /// `include/uapi/linux/if_link.h`).
 #[derive(Clone, Copy, Debug, PartialEq, Eq)]
 pub enum BridgeStpMode {
-    /// A program in user space where the helper `/sbin/bridge-stp` starts one, and else the kernel (`BR_STP_MODE_AUTO`, 0).
+    /// A program in user space where the helper `/sbin/bridge-stp` starts one, and else the kernel
+    /// (`BR_STP_MODE_AUTO`, 0).
     Auto,
     /// A program in user space; no helper is asked (`BR_STP_MODE_USER`, 1).
     User,
@@ -85,7 +86,8 @@ impl fmt::Display for BridgeStpMode {
     ghost use Rattle.std.specs.Prelude.{Some};
     ghost use Rattle.link_base.specs.Named.{displayed};
 
-    ghost output = { λ v. Some (displayed ⟦<BridgeStpMode as NamedNumber>⟧.names (⟦<BridgeStpMode as NamedNumber>⟧.seen v)) };
+    ghost output = { λ v. Some (displayed ⟦<BridgeStpMode as NamedNumber>⟧.names
+        (⟦<BridgeStpMode as NamedNumber>⟧.seen v)) };
 
     fn fmt<W: fmt::Write>(&self, f: &mut fmt::Formatter<W>) -> fmt::Result {
         match self {

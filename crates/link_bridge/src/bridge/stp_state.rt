@@ -84,7 +84,8 @@ impl fmt::Display for BridgeStpState {
     ghost use Rattle.std.specs.Prelude.{Some};
     ghost use Rattle.link_base.specs.Named.{displayed};
 
-    ghost output = { λ v. Some (displayed ⟦<BridgeStpState as NamedNumber>⟧.names (⟦<BridgeStpState as NamedNumber>⟧.seen v)) };
+    ghost output = { λ v. Some (displayed ⟦<BridgeStpState as NamedNumber>⟧.names
+        (⟦<BridgeStpState as NamedNumber>⟧.seen v)) };
 
     fn fmt<W: fmt::Write>(&self, f: &mut fmt::Formatter<W>) -> fmt::Result {
         match self {
