@@ -37,9 +37,17 @@ itself : {A : Type 0} {E : A → A → Bool} → IsEquivalence E → (xs ys : Li
 itself {E = E} law xs ys e = subst (λ zs. pointwise E xs zs ≡ true) e ((lists_equiv law).refl xs)
 
 -- IPv4 addresses
+pub same_one_four : (a b : Ipv4Addr) → a ≡ b → pointwise nat_eq a.octets b.octets ≡ true
+same_one_four a b e = subst (λ c. pointwise nat_eq a.octets c.octets ≡ true) e ((lists_equiv nat_eq_equiv).refl a.octets)
+
+-- IPv6 addresses
+pub same_one_sixteen : (a b : Ipv6Addr) → a ≡ b → pointwise nat_eq a.segments b.segments ≡ true
+same_one_sixteen a b e = subst (λ c. pointwise nat_eq a.segments c.segments ≡ true) e ((lists_equiv nat_eq_equiv).refl a.segments)
+
+-- lists of IPv4 addresses
 pub same_four : (xs ys : List Ipv4Addr) → xs ≡ ys → pointwise (λ a b. pointwise nat_eq a.octets b.octets) xs ys ≡ true
 same_four = itself (on_equiv (λ a. a.octets) (lists_equiv nat_eq_equiv))
 
--- IPv6 addresses
+-- lists of IPv6 addresses
 pub same_sixteen : (xs ys : List Ipv6Addr) → xs ≡ ys → pointwise (λ a b. pointwise nat_eq a.segments b.segments) xs ys ≡ true
 same_sixteen = itself (on_equiv (λ a. a.segments) (lists_equiv nat_eq_equiv))

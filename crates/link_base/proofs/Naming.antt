@@ -1,11 +1,11 @@
 -- The laws of numbers some of which have names.
-use Rattle.std.proofs.Common.{◌≡◌, ◌≢◌, ◌⊎◌, ℕ, ◌+◌, ◌-◌, ◌<◌, ◌^◌, Bool, true, false, cond, List, [], ◌∷◌, map, slice_index, drop, Result, Ok, Err, refl, sym, ap, subst, ◌∙◌, arith, inl, inr, ⊎_elim}
+use Rattle.std.proofs.Common.{◌≡◌, ◌≢◌, ◌⊎◌, ℕ, ◌+◌, ◌-◌, ◌<◌, ◌^◌, Bool, true, false, cond, List, [], ◌∷◌, map, slice_index, drop, ◌++◌, Result, Ok, Err, refl, sym, ap, subst, ◌∙◌, arith, inl, inr, ⊎_elim}
 use Rattle.std.specs.Prelude.{◌==◌, ◌||◌, not, nat_lt}
 use Rattle.std.specs.List.{AllByRecursion, list_any, list_all}
 use Rattle.std.specs.Fmt.{decimal}
 use Rattle.std.specs.Char.{is_ascii_digit}
 use Rattle.std.specs.Str.{bytes_eq}
-use Rattle.std.specs.Str.Parse.{IsNumeral, AllDigits, digits_value, without_leading_plus}
+use Rattle.std.specs.Str.Parse.{IsNumeral, AllDigits, digits_value, without_leading_plus, ParsesUnsigned}
 use Rattle.std.proofs.lemmas.Bool.{both_ways, cond-true, cond-false, cond_both, and_parts, and_from, or_left, or_right, not-true, false≢true, cases_Bool, eqb-true, eq-eqb, ltb-true, le-leb}
 use Rattle.std.proofs.lemmas.Slice.Eq.{bytes_eq-Decides}
 use Rattle.std.proofs.lemmas.Fmt.{decimal_digit, decimal_is_IsNumeral}
@@ -13,7 +13,7 @@ use Rattle.std.proofs.lemmas.Str.Parse.{digit_from_value, without_leading_plus_n
 use Rattle.link_base.specs.declared.fault.DecodeError.{DecodeError}
 use Rattle.link_base.specs.Class as class
 use Rattle.link_base.specs.Class.{is_listed}
-use Rattle.link_base.specs.Named.{Label, Naming, Bare, Accepted, NoText, TextOrDigit, TextOrNumber, AnyCase, numbers_of, case_of, value_of, Seen, Listed, Free, number_of, seen_of, IsSeen, seen_value, seen_canon, text_of, free_text, displayed, lower, WritesNumber, HasLabel, AcceptsBy, Accepts, ReadsText, are_distinct, begins_number, is_told_apart, is_naming}
+use Rattle.link_base.specs.Named.{Label, Naming, Bare, Accepted, NoText, TextOrDigit, TextOrNumber, AnyCase, numbers_of, case_of, value_of, Seen, Listed, Free, number_of, seen_of, IsSeen, seen_value, seen_canon, text_of, free_text, displayed, lower, WritesNumber, HasLabel, AcceptsBy, Accepts, ReadsText, all_labels, are_distinct, begins_number, are_told_apart, is_naming}
 
 -- ---- numbers
 
@@ -101,19 +101,37 @@ weaker : {T : Type 0} (labels : List (Label T)) (v : T) (P Q : Label T → Type 
 weaker [] v P Q f h = h
 weaker (l ∷ labels) v P Q f h = ⊎_elim (λ a. inl (a.0, f l a.1)) (λ a. inr (weaker labels v P Q f a)) h
 
--- the text of a name is accepted
-text_by : {T : Type 0} (rule : Accepted) (names : Naming T) (text : List ℕ) (v : T) → rule ≢ NoText → HasLabel names.labels v (λ l. text ≡ l.text) → AcceptsBy rule names text v
+-- a label of the first of two lists is one of both
+in_first : {T : Type 0} (labels further : List (Label T)) (v : T) (P : Label T → Type 0) → HasLabel labels v P → HasLabel (labels ++ further) v P
+in_first [] further v P h = absurd h
+in_first (l ∷ labels) further v P h = ⊎_elim (λ a. inl a) (λ a. inr (in_first labels further v P a)) h
+
+-- and so is one of the second
+in_second : {T : Type 0} (labels further : List (Label T)) (v : T) (P : Label T → Type 0) → HasLabel further v P → HasLabel (labels ++ further) v P
+in_second [] further v P h = h
+in_second (l ∷ labels) further v P h = inr (in_second labels further v P h)
+
+-- a text is accepted
+text_by : {T : Type 0} (rule : Accepted) (names : Naming T) (text : List ℕ) (v : T) → rule ≢ NoText → HasLabel (all_labels names) v (λ l. text ≡ l.text) → AcceptsBy rule names text v
 text_by NoText names text v some h = absurd (some refl)
-text_by TextOrDigit names text v some h = weaker names.labels v _ _ (λ l e. inl e) h
+text_by TextOrDigit names text v some h = inl h
 text_by (TextOrNumber bits) names text v some h = inl h
-text_by AnyCase names text v some h = weaker names.labels v _ _ (λ l e. ap lower e) h
+text_by AnyCase names text v some h = weaker (all_labels names) v _ _ (λ l e. ap lower e) h
+
+-- the text of a name
+name_text : {T : Type 0} (names : Naming T) (v : T) (d : ℕ) → IsSeen names v (Listed d) → HasLabel (all_labels names) v (λ l. text_of names.labels d ≡ l.text)
+name_text names v d h =
+    in_first names.labels names.further v _
+    (subst (λ w. HasLabel names.labels w (λ l. text_of names.labels d ≡ l.text)) (sym h.1) (has_text names.labels names.other d h.0))
 
 -- the displayed text of a number that has a name is accepted
 pub name_back : {T : Type 0} (names : Naming T) (v : T) (s : Seen) (d : ℕ) → IsSeen names v s → names.accepted ≢ NoText → s ≡ Listed d → Accepts names (displayed names s) v
-name_back names v (Listed n) d h some e =
-    text_by names.accepted names (text_of names.labels n) v some
-    (subst (λ w. HasLabel names.labels w (λ l. text_of names.labels n ≡ l.text)) (sym h.1) (has_text names.labels names.other n h.0))
+name_back names v (Listed n) d h some e = text_by names.accepted names (text_of names.labels n) v some (name_text names v n h)
 name_back names v (Free n) d h some e = absurd cc
+
+-- a further text is accepted
+pub further_read : {T : Type 0} (names : Naming T) (text : List ℕ) (v : T) → names.accepted ≢ NoText → HasLabel names.further v (λ l. text ≡ l.text) → Accepts names text v
+further_read names text v some h = text_by names.accepted names text v some (in_second names.labels names.further v _ h)
 
 -- a list of digits has no plus in front
 no_plus : (ds : List ℕ) → IsNumeral 10 ds → without_leading_plus ds ≡ ds
@@ -130,7 +148,8 @@ decimal_writes bits d fits below =
 pub number_accepted : {T : Type 0} (names : Naming T) (v : T) (s : Seen) (bits : ℕ) → IsSeen names v s → names.accepted ≡ TextOrNumber bits → names.other_text ≡ Bare
     → number_of s < 2 ^ bits → number_of s < 2 ^ 64 → Accepts names (displayed names s) (value_of names (number_of s))
 number_accepted names v (Listed d) bits h rule bare fits below =
-    subst (λ a. AcceptsBy a names (text_of names.labels d) (value_of names d)) (sym rule) (inl (has_text names.labels names.other d h.0))
+    subst (λ a. AcceptsBy a names (text_of names.labels d) (value_of names d)) (sym rule)
+    (inl (in_first names.labels names.further _ _ (has_text names.labels names.other d h.0)))
 number_accepted names v (Free d) bits h rule bare fits below =
     subst (λ a. AcceptsBy a names (free_text names.other_text d) (value_of names d)) (sym rule)
     (inr (d, subst (λ t. WritesNumber bits (free_text t d) d) (sym bare) (decimal_writes bits d fits below), refl))
@@ -144,14 +163,6 @@ with_test test [] v P Q all f h = h
 with_test test (l ∷ labels) v P Q all f h =
     let t = and_parts (test l) (list_all test labels) all in
     ⊎_elim (λ a. inl (a.0, f l t.0 a.1)) (λ a. inr (with_test test labels v P Q t.1 f a)) h
-
--- a label passes the one rule or the other
-either_rule : {T : Type 0} (labels : List (Label T)) (v : T) (P Q : Label T → Type 0) → HasLabel labels v (λ l. P l ⊎ Q l) → HasLabel labels v P ⊎ HasLabel labels v Q
-either_rule [] v P Q h = absurd h
-either_rule (l ∷ labels) v P Q h =
-    ⊎_elim
-    (λ a. ⊎_elim (λ p. inl (inl (a.0, p))) (λ q. inr (inl (a.0, q))) a.1)
-    (λ a. ⊎_elim (λ p. inl (inr p)) (λ q. inr (inr q)) (either_rule labels v P Q a)) h
 
 -- no label passes a rule that cannot be passed
 nowhere : {T : Type 0} (labels : List (Label T)) (v : T) → HasLabel labels v (λ l. ⊥) → ⊥
@@ -203,32 +214,32 @@ numeral_begins bits (c ∷ text) d h =
     (λ e digits. let digit = digit_from_value c digits.0 in or_left (is_ascii_digit c) (c == 43) (and_from _ _ (le-leb 48 c digit.0) (le-leb c 57 digit.1))) h.0.1
 
 module _ {T : Type 0} (names : Naming T) (is : is_naming names ≡ true) where
-  parts : (are_distinct (λ a b. a == b) (numbers_of names) ≡ true) × (are_distinct bytes_eq (map (λ l. lower l.text) names.labels) ≡ true)
-      × (list_all (is_told_apart names.accepted names.labels) names.labels ≡ true)
+  parts : (are_distinct (λ a b. a == b) (numbers_of names) ≡ true) × (are_distinct bytes_eq (map (λ l. lower l.text) (all_labels names)) ≡ true)
+      × (are_told_apart names.accepted names ≡ true)
   parts =
       let a = and_parts _ _ is in
       let b = and_parts _ _ a.1 in
       (a.0, b.0, b.1)
 
   -- labels of one text, in any case of its letters, are of one value
-  by_lower : (text : List ℕ) (v w : T) → HasLabel names.labels v (λ l. lower text ≡ lower l.text) → HasLabel names.labels w (λ l. lower text ≡ lower l.text) → v ≡ w
+  by_lower : (text : List ℕ) (v w : T) → HasLabel (all_labels names) v (λ l. lower text ≡ lower l.text) → HasLabel (all_labels names) w (λ l. lower text ≡ lower l.text) → v ≡ w
   by_lower text v w h i =
-      one_label bytes_eq same_bytes (λ l. lower l.text) (lower text) names.labels v w parts.1
-      (weaker names.labels v _ _ (λ l e. sym e) h) (weaker names.labels w _ _ (λ l e. sym e) i)
+      one_label bytes_eq same_bytes (λ l. lower l.text) (lower text) (all_labels names) v w parts.1
+      (weaker (all_labels names) v _ _ (λ l e. sym e) h) (weaker (all_labels names) w _ _ (λ l e. sym e) i)
 
   -- labels of one text are of one value
-  by_text : (text : List ℕ) (v w : T) → HasLabel names.labels v (λ l. text ≡ l.text) → HasLabel names.labels w (λ l. text ≡ l.text) → v ≡ w
+  by_text : (text : List ℕ) (v w : T) → HasLabel (all_labels names) v (λ l. text ≡ l.text) → HasLabel (all_labels names) w (λ l. text ≡ l.text) → v ≡ w
   by_text text v w h i =
-      by_lower text v w (weaker names.labels v _ _ (λ l e. ap lower e) h) (weaker names.labels w _ _ (λ l e. ap lower e) i)
+      by_lower text v w (weaker (all_labels names) v _ _ (λ l e. ap lower e) h) (weaker (all_labels names) w _ _ (λ l e. ap lower e) i)
 
   -- a text of a label is no digit of one
-  text_or_digit : (text : List ℕ) (v w : T) → names.accepted ≡ TextOrDigit → HasLabel names.labels v (λ l. text ≡ l.text) → HasLabel names.labels w (λ l. text ≡ decimal l.number) → ⊥
+  text_or_digit : (text : List ℕ) (v w : T) → names.accepted ≡ TextOrDigit → HasLabel (all_labels names) v (λ l. text ≡ l.text) → HasLabel names.labels w (λ l. text ≡ decimal l.number) → ⊥
   text_or_digit text v w rule h i =
-      let texts = map (λ l. l.text) names.labels in
-      let all = subst (λ a. list_all (is_told_apart a names.labels) names.labels ≡ true) rule parts.2 in
-      let found = among bytes_eq same_bytes (λ l. l.text) text names.labels v (weaker names.labels v _ _ (λ l e. sym e) h) in
+      let texts = map (λ l. l.text) (all_labels names) in
+      let all = subst (λ a. are_told_apart a names ≡ true) rule parts.2 in
+      let found = among bytes_eq same_bytes (λ l. l.text) text (all_labels names) v (weaker (all_labels names) v _ _ (λ l e. sym e) h) in
       nowhere names.labels w
-      (with_test (is_told_apart TextOrDigit names.labels) names.labels w _ _ all
+      (with_test _ names.labels w _ _ all
       (λ l test e.
       let t = and_parts _ _ test in
       both_ways (list_any (λ x. bytes_eq x text) texts)
@@ -237,18 +248,18 @@ module _ {T : Type 0} (names : Naming T) (is : is_naming names ≡ true) where
   -- labels of one digit are of one value
   by_digit : (text : List ℕ) (v w : T) → names.accepted ≡ TextOrDigit → HasLabel names.labels v (λ l. text ≡ decimal l.number) → HasLabel names.labels w (λ l. text ≡ decimal l.number) → v ≡ w
   by_digit text v w rule h i =
-      let all = subst (λ a. list_all (is_told_apart a names.labels) names.labels ≡ true) rule parts.2 in
+      let all = subst (λ a. are_told_apart a names ≡ true) rule parts.2 in
       let number : (u : T) → HasLabel names.labels u (λ l. text ≡ decimal l.number) → HasLabel names.labels u (λ l. l.number ≡ slice_index text 0 - 48) =
-      λ u j. with_test (is_told_apart TextOrDigit names.labels) names.labels u _ _ all
+      λ u j. with_test _ names.labels u _ _ all
       (λ l test e. digit_number l.number text (digit_text l.number text (and_parts _ _ test).0 e)) j in
       one_label (λ a b. a == b) same_number (λ l. l.number) (slice_index text 0 - 48) names.labels v w parts.0 (number v h) (number w i)
 
   -- a text of a label is no numeral
-  text_or_number : (text : List ℕ) (v : T) (bits d : ℕ) → names.accepted ≡ TextOrNumber bits → HasLabel names.labels v (λ l. text ≡ l.text) → WritesNumber bits text d → ⊥
+  text_or_number : (text : List ℕ) (v : T) (bits d : ℕ) → names.accepted ≡ TextOrNumber bits → HasLabel (all_labels names) v (λ l. text ≡ l.text) → WritesNumber bits text d → ⊥
   text_or_number text v bits d rule h i =
-      let all = subst (λ a. list_all (is_told_apart a names.labels) names.labels ≡ true) rule parts.2 in
-      nowhere names.labels v
-      (with_test (is_told_apart (TextOrNumber bits) names.labels) names.labels v _ _ all
+      let all = subst (λ a. are_told_apart a names ≡ true) rule parts.2 in
+      nowhere (all_labels names) v
+      (with_test _ (all_labels names) v _ _ all
       (λ l test e.
       both_ways (begins_number (slice_index l.text 0)) (not-true _ test)
       (subst (λ t. begins_number (slice_index t 0) ≡ true) e (numeral_begins bits text d i))) h)
@@ -258,9 +269,8 @@ module _ {T : Type 0} (names : Naming T) (is : is_naming names ≡ true) where
   one_by NoText text v w e h i = absurd h
   one_by TextOrDigit text v w e h i =
       ⊎_elim
-      (λ a. ⊎_elim (λ b. by_text text v w a b) (λ b. absurd (text_or_digit text v w e a b)) (either_rule names.labels w _ _ i))
-      (λ a. ⊎_elim (λ b. absurd (text_or_digit text w v e b a)) (λ b. by_digit text v w e a b) (either_rule names.labels w _ _ i))
-      (either_rule names.labels v _ _ h)
+      (λ a. ⊎_elim (λ b. by_text text v w a b) (λ b. absurd (text_or_digit text v w e a b)) i)
+      (λ a. ⊎_elim (λ b. absurd (text_or_digit text w v e b a)) (λ b. by_digit text v w e a b) i) h
   one_by (TextOrNumber bits) text v w e h i =
       ⊎_elim
       (λ a. ⊎_elim (λ b. by_text text v w a b) (λ b. absurd (text_or_number text v bits b.0 e a b.1)) i)
@@ -275,3 +285,15 @@ module _ {T : Type 0} (names : Naming T) (is : is_naming names ≡ true) where
   pub reads_as : (text : List ℕ) (v : T) (r : Result T DecodeError) → Accepts names text v → ReadsText names text r → r ≡ Ok v
   reads_as text v (Ok w) a h = ap Ok (one_text text w v h a)
   reads_as text v (Err e) a h = absurd (h.1 v a)
+
+-- ---- numbers that `parse` reads
+
+-- what was read is the number that the text writes
+pub parsed_number : {E : Type 0} (bits : ℕ) (text : List ℕ) (r : Result ℕ E) (d : ℕ) → ParsesUnsigned bits 10 text r → r ≡ Ok d → WritesNumber bits text d
+parsed_number bits text (Ok n) d h e = let same : n ≡ d = cc in (h.0.0, sym h.1 ∙ same, subst (λ m. m < 2 ^ bits) (sym h.1 ∙ same) h.0.1)
+parsed_number bits text (Err x) d h e = absurd cc
+
+-- a text that is refused writes no number
+pub parsed_none : {E : Type 0} (bits : ℕ) (text : List ℕ) (r : Result ℕ E) (x : E) (d : ℕ) → ParsesUnsigned bits 10 text r → r ≡ Err x → ¬ (WritesNumber bits text d)
+parsed_none bits text (Ok n) x d h e = absurd cc
+parsed_none bits text (Err y) x d h e = λ w. h (w.0, subst (λ m. m < 2 ^ bits) (sym w.1) w.2)

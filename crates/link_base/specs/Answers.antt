@@ -25,6 +25,11 @@ abbrev pub payload_result : {A : Type 0} → Result A Cause → Result A DecodeE
 payload_result (Ok a) = Ok a
 payload_result (Err c) = Err (refused c)
 
+-- what was read, seen as what it stands for
+abbrev pub read_as : {X A : Type 0} → (X → A) → Result X DecodeError → Result A DecodeError
+read_as view (Ok x) = Ok (view x)
+read_as view (Err e) = Err e
+
 -- the fault, unless memory ran out
 abbrev pub Fails : {V : Type 0} → DecodeError → (Result V DecodeFault → Type 0) → Type 0
 Fails (errors.Fault f) given = given (Err f)

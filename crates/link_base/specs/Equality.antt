@@ -153,11 +153,25 @@ addresses : {A : Type 0} {eq : A → A → Bool} {octets : A → List ℕ} {k : 
     → IsThorough (λ (xs ys : Vec A Global). pointwise eq xs.items ys.items) (λ xs. Case k (Listed (map octets xs.items)))
 addresses {k = k} h = record { same = λ xs ys e. ap (λ all. Case k (Listed all)) (each h xs.items ys.items e) }
 
+-- the octets of an IPv4 address, and of an IPv6 address
+by_four : IsThorough (λ a b. pointwise nat_eq a.octets b.octets) four_octets
+by_four = record { same = λ a b e. ap (sized 4) (octets.same a.octets b.octets e) }
+
+by_sixteen : IsThorough (λ a b. pointwise nat_eq a.segments b.segments) sixteen_octets
+by_sixteen = record { same = λ a b e. ap (λ segments. sized 16 (octets_of segments)) (octets.same a.segments b.segments e) }
+
 pub four : {k : ℕ} → IsThorough (λ (xs ys : Vec Ipv4Addr Global). pointwise (λ a b. pointwise nat_eq a.octets b.octets) xs.items ys.items) (λ xs. Case k (Listed (map four_octets xs.items)))
-four = addresses (record { same = λ a b e. ap (sized 4) (octets.same a.octets b.octets e) })
+four = addresses by_four
 
 pub sixteen : {k : ℕ} → IsThorough (λ (xs ys : Vec Ipv6Addr Global). pointwise (λ a b. pointwise nat_eq a.segments b.segments) xs.items ys.items) (λ xs. Case k (Listed (map sixteen_octets xs.items)))
-sixteen = addresses (record { same = λ a b e. ap (λ segments. sized 16 (octets_of segments)) (octets.same a.segments b.segments e) })
+sixteen = addresses by_sixteen
+
+-- one IP address
+pub one_four : {k : ℕ} → IsThorough (λ (a b : Ipv4Addr). pointwise nat_eq a.octets b.octets) (λ a. Case k (Single (Raw (four_octets a))))
+one_four {k} = through (λ a. a) (λ octets. Case k (Single (Raw octets))) by_four
+
+pub one_sixteen : {k : ℕ} → IsThorough (λ (a b : Ipv6Addr). pointwise nat_eq a.segments b.segments) (λ a. Case k (Single (Raw (sixteen_octets a))))
+one_sixteen {k} = through (λ a. a) (λ octets. Case k (Single (Raw octets))) by_sixteen
 
 -- 802.1Q and 802.1ad
 two_protocols : (p q : VlanProtocol) → sameb (declared enum) p q ≡ true → p ≡ q
@@ -170,4 +184,4 @@ pub protocols : IsThorough (sameb (declared enum)) (λ (p : VlanProtocol). p)
 protocols = record { same = two_protocols }
 
 -- what `search` finds the tests of fields by
-pub ruleset thorough_fields = (defaults, byte_vectors, four, sixteen, numbers, integers, truths, octets, protocols, lists, anything)
+pub ruleset thorough_fields = (defaults, byte_vectors, four, sixteen, one_four, one_sixteen, numbers, integers, truths, octets, protocols, lists, anything)

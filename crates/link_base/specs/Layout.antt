@@ -1,11 +1,16 @@
 -- Records: fields at offsets of a payload, one after another.
-use Rattle.std.specs.Prelude.{ℕ, List, take, drop}
+use Rattle.std.specs.Prelude.{ℕ, zero, suc, ◌+◌, List, [], ◌∷◌, take, drop}
 use Rattle.std.specs.List.{flat_map}
 use Rattle.link_base.specs.Number.{number, bytes_of}
 
 -- the number of so many bytes at an offset, the lowest byte first
 abbrev pub number_at : ℕ → ℕ → List ℕ → ℕ
 number_at width offset p = number (take width (drop offset p))
+
+-- so many numbers of so many bytes each, one after another from an offset on
+abbrev pub numbers_at : ℕ → ℕ → ℕ → List ℕ → List ℕ
+numbers_at width zero offset p = []
+numbers_at width (suc n) offset p = number_at width offset p ∷ numbers_at width n (offset + width) p
 
 -- the octets of numbers, so many bytes for each, one after another
 abbrev pub octets_of : ℕ → List ℕ → List ℕ

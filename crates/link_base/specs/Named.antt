@@ -28,16 +28,18 @@ pub data OtherText : Type 0 where
 pub data Accepted : Type 0 where
   -- none
   NoText : Accepted
-  -- a displayed text in exact case, or the number of a name as one digit
+  -- a text in exact case, or the number of a name as one digit
   TextOrDigit : Accepted
-  -- a displayed text in exact case, or any number of so many bits
+  -- a text in exact case, or any number of so many bits
   TextOrNumber : ℕ → Accepted
-  -- a displayed text in any case of its ASCII letters
+  -- a text in any case of its ASCII letters
   AnyCase : Accepted
 
--- the names of a type, what it makes of a number without a name, and its texts
+-- the names of a type, what it makes of a number without a name, and its texts; further texts are read as displayed ones
+-- are, and no value is displayed by them
 pub record Naming (T : Type 0) : Type 0 where
   pub labels : List (Label T)
+  pub further : List (Label T)
   pub other : ℕ → T
   pub other_text : OtherText
   pub accepted : Accepted
@@ -45,6 +47,10 @@ pub record Naming (T : Type 0) : Type 0 where
 -- the numbers that have names
 abbrev pub numbers_of : {T : Type 0} → Naming T → List ℕ
 numbers_of names = map (λ l. l.number) names.labels
+
+-- the displayed texts and the further ones
+abbrev pub all_labels : {T : Type 0} → Naming T → List (Label T)
+all_labels names = names.labels ++ names.further
 
 -- ---- numbers
 
@@ -120,9 +126,9 @@ HasLabel (l ∷ labels) v rule = ((l.case ≡ v) × rule l) ⊎ HasLabel labels 
 -- the text is accepted, for this value
 abbrev pub AcceptsBy : {T : Type 0} → Accepted → Naming T → List ℕ → T → Type 0
 AcceptsBy NoText names text v = ⊥
-AcceptsBy TextOrDigit names text v = HasLabel names.labels v (λ l. (text ≡ l.text) ⊎ (text ≡ decimal l.number))
-AcceptsBy (TextOrNumber bits) names text v = HasLabel names.labels v (λ l. text ≡ l.text) ⊎ ((d : ℕ) × WritesNumber bits text d × (v ≡ value_of names d))
-AcceptsBy AnyCase names text v = HasLabel names.labels v (λ l. lower text ≡ lower l.text)
+AcceptsBy TextOrDigit names text v = HasLabel (all_labels names) v (λ l. text ≡ l.text) ⊎ HasLabel names.labels v (λ l. text ≡ decimal l.number)
+AcceptsBy (TextOrNumber bits) names text v = HasLabel (all_labels names) v (λ l. text ≡ l.text) ⊎ ((d : ℕ) × WritesNumber bits text d × (v ≡ value_of names d))
+AcceptsBy AnyCase names text v = HasLabel (all_labels names) v (λ l. lower text ≡ lower l.text)
 
 -- the text is accepted for this value by the rule of the type
 abbrev pub Accepts : {T : Type 0} → Naming T → List ℕ → T → Type 0
@@ -145,14 +151,15 @@ abbrev pub begins_number : ℕ → Bool
 begins_number c = is_ascii_digit c || c == 43
 
 -- no text is read as a number too
-abbrev pub is_told_apart : {T : Type 0} → Accepted → List (Label T) → Label T → Bool
-is_told_apart NoText labels l = true
-is_told_apart TextOrDigit labels l = nat_lt l.number 10 && not (list_any (λ text. bytes_eq text ((48 + l.number) ∷ [])) (map (λ m. m.text) labels))
-is_told_apart (TextOrNumber bits) labels l = not (begins_number (slice_index l.text 0))
-is_told_apart AnyCase labels l = true
+abbrev pub are_told_apart : {T : Type 0} → Accepted → Naming T → Bool
+are_told_apart NoText names = true
+are_told_apart TextOrDigit names =
+    list_all (λ l. nat_lt l.number 10 && not (list_any (λ text. bytes_eq text ((48 + l.number) ∷ [])) (map (λ m. m.text) (all_labels names)))) names.labels
+are_told_apart (TextOrNumber bits) names = list_all (λ l. not (begins_number (slice_index l.text 0))) (all_labels names)
+are_told_apart AnyCase names = true
 
--- the numbers differ, the texts differ in more than the case of their letters, and no text is read as a number too
+-- the numbers differ, all texts differ in more than the case of their letters, and none is read as a number too
 abbrev pub is_naming : {T : Type 0} → Naming T → Bool
 is_naming names =
     are_distinct (λ a b. a == b) (numbers_of names)
-    && (are_distinct bytes_eq (map (λ l. lower l.text) names.labels) && list_all (is_told_apart names.accepted names.labels) names.labels)
+    && (are_distinct bytes_eq (map (λ l. lower l.text) (all_labels names)) && are_told_apart names.accepted names)

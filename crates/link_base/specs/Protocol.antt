@@ -8,6 +8,7 @@ use Rattle.link_base.specs.Named.{Naming, label, Bare, AnyCase}
 abbrev pub vlan_protocols : Naming VlanProtocol
 vlan_protocols = record {
   labels = label Ieee8021Q (codes "802.1Q") 0x8100 ∷ label Ieee8021Ad (codes "802.1ad") 0x88A8 ∷ [];
+  further = [];
   other = λ d. Ieee8021Q;
   other_text = Bare;
   accepted = AnyCase;

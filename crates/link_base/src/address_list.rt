@@ -1,4 +1,4 @@
-//! Lists of IP addresses as the payload of an attribute.
+//! IP addresses as the payload of an attribute, and lists of them.
 
 ghost use Rattle.std.specs.Prelude.{◌≡◌, ◌≢◌, ◌≤◌, ◌<◌, ◌^◌, ◌++◌, ◌∷◌, [], ℕ, List, length, map, None, IsTrue, refl};
 ghost use Rattle.std.specs.Prelude.{nat_lt, MatchOption, OnOk};
@@ -6,15 +6,16 @@ ghost use Rattle.std.specs.List.{AllByRecursion};
 ghost use Rattle.link_base.specs.Frame.{frame_fault, spelled};
 ghost use Rattle.link_base.specs.Table.{Case, Listed, Addresses, ShapeGives, addresses_from, of_length};
 ghost use Rattle.link_base.specs.Held.{IsOctets};
-ghost use Rattle.link_base.specs.Answers.{Answers, OnMemory, capped};
+ghost use Rattle.link_base.specs.Class.{accepted, Exactly};
+ghost use Rattle.link_base.specs.Answers.{Answers, OnMemory, capped, payload_result, read_as};
 
 use crate::attribute::{Meaning, Nla};
 use crate::buffer::NlaBuffer;
-use crate::fault::DecodeError;
+use crate::fault::{Cause, DecodeError, DecodeFault};
 use std::alloc::{AllocError, Global};
 use std::net::{Ipv4Addr, Ipv6Addr};
 
-/// An IP address, as the payload of an element.
+/// An IP address, as the payload of an attribute or of an element.
 pub trait Address: Copy {
     /// How many octets an address has.
     const SIZE: usize;
@@ -89,6 +90,22 @@ impl Address for Ipv6Addr {
 
     fn put(&self, buffer: &mut [u8]) {
         buffer.copy_from_slice(&self.octets());
+    }
+}
+
+/// The address whose octets are a payload, in order. Fails with `Payload` of `WrongLength`.
+pub fn parse_address<A: Address>(payload: &[u8]) -> Result<A, DecodeError>
+    ensures { read_as A.octets result ≡ payload_result (accepted (Exactly A.SIZE) (λ p. p) payload.now) }
+{
+    match A::from_payload(payload) {
+        Some(address) => Ok(address),
+        None => {
+            let cause = Cause::WrongLength {
+                want: A::SIZE,
+                got: payload.len(),
+            };
+            Err(DecodeError::Fault(DecodeFault::Payload(cause)))
+        }
     }
 }
 

@@ -6,6 +6,7 @@ mod attribute;
 mod buffer;
 mod buffer_tool;
 mod default_nla;
+mod emitable;
 pub mod examples;
 mod fault;
 pub mod flag_laws;
@@ -22,17 +23,18 @@ mod try_clone;
 mod vlan_protocol;
 mod writing;
 
-pub use address_list::{Address, addresses_len, emit_addresses, read_addresses};
+pub use address_list::{Address, addresses_len, emit_addresses, parse_address, read_addresses};
 pub use attribute::{Attribute, Meaning, Nla, Parseable};
 pub use buffer::{NLA_F_NESTED, NLA_F_NET_BYTEORDER, NLA_TYPE_MASK, NlaBuffer};
 pub use buffer_tool::expand_buffer_if_small;
 pub use default_nla::DefaultNla;
+pub use emitable::Emitable;
 pub use fault::{Cause, DecodeError, DecodeFault, ListError, WriteError};
 pub use iterator::NlasIterator;
 pub use list::read_list;
 pub use named::NamedNumber;
 pub use nested::{NestedAttribute, emit_nested, nested_len, read_nested};
-pub use records::{check_at_least, check_length, emit_u32s, u16_at, u32_at};
+pub use records::{check_at_least, check_length, emit_u32s, u16_at, u32_at, u32s_at};
 pub use scalars::{
     emit_i32, emit_low, emit_mac, emit_u8, emit_u16, emit_u16_be, emit_u32, emit_u32_pair,
     emit_u64, parse_bool, parse_i32, parse_ip, parse_low, parse_mac, parse_u8, parse_u16,

@@ -8,7 +8,7 @@ ghost use Rattle.link_base.specs.Named.{Naming, Seen, Listed, Free, IsSeen, is_n
 /// A type with a case for each name, and a case `Other` for every other number. It has no methods, and carries laws
 /// alone.
 pub trait NamedNumber: Eq {
-    /// The cases, their texts and their numbers.
+    /// The cases, their texts and their numbers, and further texts that are read.
     ghost names: { Naming Self };
 
     /// What a value holds.
@@ -23,8 +23,8 @@ pub trait NamedNumber: Eq {
     /// There are no further cases.
     ghost no_more: { (v : Self) → IsSeen names v (seen v) };
 
-    /// The numbers differ, the texts differ in more than the case of their letters, and no text is read as a number
-    /// too.
+    /// The numbers differ, all texts, displayed and further ones, differ in more than the case of their letters, and
+    /// none is read as a number too.
     ghost well_named: { IsTrue (is_naming names) };
 
     /// Equal values are the same value.

@@ -3,7 +3,7 @@
 ghost use Rattle.std.specs.Prelude.{◌≡◌, ◌≢◌, ℕ, ◌<◌, ◌^◌, ◌↔◌, IsTrue, List, Result, Ok};
 ghost use Rattle.link_base.specs.Class as class;
 ghost use Rattle.link_base.specs.Named.{Listed, Bare, NoText, TextOrNumber, numbers_of, value_of, number_of, seen_of};
-ghost use Rattle.link_base.specs.Named.{seen_value, seen_canon, text_of, displayed, Accepts, ReadsText};
+ghost use Rattle.link_base.specs.Named.{seen_value, seen_canon, text_of, displayed, HasLabel, Accepts, ReadsText};
 ghost use Rattle.link_base.specs.declared.fault.DecodeError.{DecodeError};
 ghost use Rattle.link_base.specs.Protocol.{vlan_protocols, protocol_number};
 ghost use Rattle.link_base.specs.declared.vlan_protocol.VlanProtocol.{VlanProtocol};
@@ -40,12 +40,14 @@ pub fn equality<T: NamedNumber>()
 
 // ---- texts
 
-/// The displayed text of a name reads as its value, where the type accepts texts. Where it accepts numbers of so many
-/// bits, at most 64, and displays a number without a name bare, the displayed text of a value reads as the value of its
-/// number.
+/// The displayed text of a name reads as its value, and so does a further text, where the type accepts texts. Where it
+/// accepts numbers of so many bits, at most 64, and displays a number without a name bare, the displayed text of a
+/// value reads as the value of its number.
 pub fn text_back<T: NamedNumber>()
     ensures name { (v : T) (d : ℕ) (r : Result T DecodeError) → T.names.accepted ≢ NoText → T.seen v ≡ Listed d
         → ReadsText T.names (displayed T.names (T.seen v)) r → r ≡ Ok v }
+    ensures further { (v : T) (text : List ℕ) (r : Result T DecodeError) → T.names.accepted ≢ NoText
+        → HasLabel T.names.further v (λ l. text ≡ l.text) → ReadsText T.names text r → r ≡ Ok v }
     ensures number { (v : T) (bits : ℕ) (r : Result T DecodeError) → T.names.accepted ≡ TextOrNumber bits
         → T.names.other_text ≡ Bare → number_of (T.seen v) < 2 ^ bits → number_of (T.seen v) < 2 ^ 64
         → ReadsText T.names (displayed T.names (T.seen v)) r → r ≡ Ok (value_of T.names (number_of (T.seen v))) }

@@ -3,7 +3,7 @@
 ghost use Rattle.std.specs.Prelude.{◌≡◌, ◌≤◌, ◌+◌, ◌*◌, length, take, drop};
 ghost use Rattle.link_base.specs.Number.{bytes_of};
 ghost use Rattle.link_base.specs.Class.{accepted, AtLeast, Fixed};
-ghost use Rattle.link_base.specs.Layout.{number_at, octets_of};
+ghost use Rattle.link_base.specs.Layout.{number_at, numbers_at, octets_of};
 ghost use Rattle.link_base.specs.Held.{IsOctets};
 ghost use Rattle.link_base.specs.Answers.{payload_result, OverwritesFront};
 
@@ -59,6 +59,20 @@ pub fn u32_at(bytes: &[u8], offset: usize) -> u32
         bytes[offset + 2],
         bytes[offset + 3],
     ])
+}
+
+/// The numbers of four bytes each, one after another from an offset on, each little-endian. Requires that they lie
+/// within the bytes.
+pub fn u32s_at<const N: usize>(bytes: &[u8], offset: usize) -> [u32; N]
+    requires { offset + 4 * N ≤ length bytes.now }
+    ensures value { result ≡ numbers_at 4 N offset bytes.now }
+    ensures octets { octets_of 4 result ≡ take (4 * N) (drop offset bytes.now) }
+{
+    let mut numbers = [0; N];
+    for i in 0..N {
+        numbers[i] = u32_at(bytes, offset + 4 * i);
+    }
+    numbers
 }
 
 /// Writes numbers to the front of a buffer that has four bytes for each, one after another, each little-endian, and

@@ -12,6 +12,7 @@ ad_select_names = record {
       label cases.Bandwidth (codes "bandwidth") 1 ∷
       label cases.Count (codes "count") 2 ∷
       label cases.ActorPortPrio (codes "actor_port_prio") 3 ∷ [];
+  further = [];
   other = cases.Other;
   other_text = Unknown;
   accepted = TextOrDigit;

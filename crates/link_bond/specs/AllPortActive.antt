@@ -10,6 +10,7 @@ all_port_active_names = record {
   labels =
       label cases.Dropped (codes "dropped") 0 ∷
       label cases.Delivered (codes "delivered") 1 ∷ [];
+  further = [];
   other = cases.Other;
   other_text = Bare;
   accepted = TextOrDigit;

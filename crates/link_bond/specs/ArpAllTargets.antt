@@ -10,6 +10,7 @@ arp_all_targets_names = record {
   labels =
       label cases.Any (codes "any") 0 ∷
       label cases.All (codes "all") 1 ∷ [];
+  further = [];
   other = cases.Other;
   other_text = Unknown;
   accepted = TextOrDigit;

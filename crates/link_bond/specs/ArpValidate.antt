@@ -15,6 +15,7 @@ arp_validate_names = record {
       label cases.Filter (codes "filter") 4 ∷
       label cases.FilterActive (codes "filter_active") 5 ∷
       label cases.FilterBackup (codes "filter_backup") 6 ∷ [];
+  further = [];
   other = cases.Other;
   other_text = Unknown;
   accepted = TextOrDigit;

@@ -11,6 +11,7 @@ churn_state_names = record {
       label cases.Monitor (codes "monitor") 0 ∷
       label cases.Churn (codes "churn") 1 ∷
       label cases.NoChurn (codes "no_churn") 2 ∷ [];
+  further = [];
   other = cases.Other;
   other_text = Bare;
   accepted = AnyCase;

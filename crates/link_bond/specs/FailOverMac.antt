@@ -11,6 +11,7 @@ fail_over_mac_names = record {
       label cases.None (codes "none") 0 ∷
       label cases.Active (codes "active") 1 ∷
       label cases.Follow (codes "follow") 2 ∷ [];
+  further = [];
   other = cases.Other;
   other_text = Unknown;
   accepted = TextOrDigit;

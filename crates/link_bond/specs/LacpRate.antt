@@ -10,6 +10,7 @@ lacp_rate_names = record {
   labels =
       label cases.Slow (codes "slow") 0 ∷
       label cases.Fast (codes "fast") 1 ∷ [];
+  further = [];
   other = cases.Other;
   other_text = Bare;
   accepted = TextOrDigit;

@@ -12,6 +12,7 @@ mii_status_names = record {
       label cases.GoingDown (codes "going_down") 1 ∷
       label cases.Down (codes "down") 2 ∷
       label cases.GoingBack (codes "going_back") 3 ∷ [];
+  further = [];
   other = cases.Other;
   other_text = Bare;
   accepted = AnyCase;

@@ -15,6 +15,7 @@ mode_names = record {
       label cases.Ieee8023Ad (codes "802.3ad") 4 ∷
       label cases.BalanceTlb (codes "balance-tlb") 5 ∷
       label cases.BalanceAlb (codes "balance-alb") 6 ∷ [];
+  further = [];
   other = cases.Other;
   other_text = Unknown;
   accepted = TextOrDigit;

@@ -10,6 +10,7 @@ port_state_names = record {
   labels =
       label cases.Active (codes "active") 0 ∷
       label cases.Backup (codes "backup") 1 ∷ [];
+  further = [];
   other = cases.Other;
   other_text = Bare;
   accepted = AnyCase;

@@ -11,6 +11,7 @@ primary_reselect_names = record {
       label cases.Always (codes "always") 0 ∷
       label cases.Better (codes "better") 1 ∷
       label cases.Failure (codes "failure") 2 ∷ [];
+  further = [];
   other = cases.Other;
   other_text = Unknown;
   accepted = TextOrDigit;

@@ -14,6 +14,7 @@ xmit_hash_policy_names = record {
       label cases.Encap23 (codes "encap2+3") 3 ∷
       label cases.Encap34 (codes "encap3+4") 4 ∷
       label cases.VlanSrcMac (codes "vlan+srcmac") 5 ∷ [];
+  further = [];
   other = cases.Other;
   other_text = Unknown;
   accepted = TextOrDigit;

@@ -1,12 +1,12 @@
 -- The limits of a CAN controller's bit timing.
-use Rattle.std.specs.Prelude.{◌≡◌, ℕ, List, [], ◌∷◌, take, map, replicate, string_bytes, Result, Ok, Err}
+use Rattle.std.specs.Prelude.{◌≡◌, ℕ, List, [], ◌∷◌, take, replicate, string_bytes, Result, Ok, Err}
 use Rattle.link_base.specs.declared.fault.DecodeError.{DecodeError}
 use Rattle.link_base.specs.declared.fault.Cause.{Cause}
 use Rattle.link_base.specs.declared.fault.DecodeFault.{DecodeFault}
 use Rattle.link_base.specs.declared.fault.DecodeFault.TheVariants as faults
 use Rattle.link_base.specs.Name.{name_of}
 use Rattle.link_base.specs.Class.{Value, Limited, AtLeast, accepted}
-use Rattle.link_base.specs.Layout.{number_at, octets_of}
+use Rattle.link_base.specs.Layout.{numbers_at, octets_of}
 use Rattle.link_base.specs.Answers.{Answers}
 use Rattle.link_vlan_can.specs.declared.can_limits.CanBitTimingConst.{CanBitTimingConst}
 
@@ -29,7 +29,7 @@ limits_with text = limits text (replicate 8 0)
 
 -- the limits of a payload: the name before the numbers
 abbrev pub limits_of : List ℕ → LimitsView
-limits_of p = limits (name_of (take 16 p)) (map (λ offset. number_at 4 offset p) (16 ∷ 20 ∷ 24 ∷ 28 ∷ 32 ∷ 36 ∷ 40 ∷ 44 ∷ []))
+limits_of p = limits (name_of (take 16 p)) (numbers_at 4 8 16 p)
 
 -- the octets of the numbers
 abbrev pub limits_octets : CanBitTimingConst → List ℕ

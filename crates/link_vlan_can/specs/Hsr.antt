@@ -13,6 +13,7 @@ use Rattle.link_vlan_can.specs.declared.hsr.InfoHsr.TheVariants.{Port1, Port2, M
 abbrev pub hsr_protocols : Naming HsrProtocol
 hsr_protocols = record {
   labels = label protocols.Hsr (codes "hsr") 0 ∷ label protocols.Prp (codes "prp") 1 ∷ [];
+  further = [];
   other = protocols.Other;
   other_text = Bare;
   accepted = NoText;

@@ -7,7 +7,7 @@ ghost use Rattle.link_base.specs.Answers.{OnMemory, OverwritesFront};
 ghost use Rattle.link_vlan_can.specs.CanLimits.{limits_view, limits_with, limits_octets, limits_value, LimitsAnswer};
 
 use bstr::ByteSlice;
-use link_base::{DecodeError, check_at_least, emit_u32s, u32_at};
+use link_base::{DecodeError, check_at_least, emit_u32s, u32s_at};
 use std::alloc::{AllocError, Global};
 
 /// The bytes of a name field.
@@ -93,16 +93,27 @@ impl CanBitTimingConst {
         ensures memory { OnMemory result (48 ≤ length payload.now) }
     {
         check_at_least(payload, 48)?;
+        let name = read_name(alloc, &payload[..NAME]).map_err(DecodeError::Memory)?;
+        let [
+            tseg1_min,
+            tseg1_max,
+            tseg2_min,
+            tseg2_max,
+            sjw_max,
+            brp_min,
+            brp_max,
+            brp_inc,
+        ] = u32s_at::<8>(payload, NAME);
         Ok(CanBitTimingConst {
-            name: read_name(alloc, &payload[..NAME]).map_err(DecodeError::Memory)?,
-            tseg1_min: u32_at(payload, 16),
-            tseg1_max: u32_at(payload, 20),
-            tseg2_min: u32_at(payload, 24),
-            tseg2_max: u32_at(payload, 28),
-            sjw_max: u32_at(payload, 32),
-            brp_min: u32_at(payload, 36),
-            brp_max: u32_at(payload, 40),
-            brp_inc: u32_at(payload, 44),
+            name,
+            tseg1_min,
+            tseg1_max,
+            tseg2_min,
+            tseg2_max,
+            sjw_max,
+            brp_min,
+            brp_max,
+            brp_inc,
         })
     }
 

@@ -9,7 +9,9 @@ ghost use Rattle.link_vlan_can.specs.CanRecords.{clock_of, clock_octets, errors_
 
 use crate::can_flags::CanCtrlModeFlags;
 use bitflags::Flags;
-use link_base::{DecodeError, check_at_least, check_length, emit_u16, emit_u32s, u16_at, u32_at};
+use link_base::{
+    DecodeError, check_at_least, check_length, emit_u16, emit_u32s, u16_at, u32_at, u32s_at,
+};
 
 /// The bit timing of a CAN controller (`struct can_bittiming`, `include/uapi/linux/can/netlink.h`): eight numbers of
 /// four bytes. A longer payload is read too, and what follows is ignored.
@@ -49,15 +51,25 @@ impl CanBitTiming {
         ensures octets { IfOk result (λ timing. timing_octets timing ≡ take 32 payload.now) }
     {
         check_at_least(payload, 32)?;
+        let [
+            bitrate,
+            sample_point,
+            tq,
+            prop_seg,
+            phase_seg1,
+            phase_seg2,
+            sjw,
+            brp,
+        ] = u32s_at::<8>(payload, 0);
         Ok(CanBitTiming {
-            bitrate: u32_at(payload, 0),
-            sample_point: u32_at(payload, 4),
-            tq: u32_at(payload, 8),
-            prop_seg: u32_at(payload, 12),
-            phase_seg1: u32_at(payload, 16),
-            phase_seg2: u32_at(payload, 20),
-            sjw: u32_at(payload, 24),
-            brp: u32_at(payload, 28),
+            bitrate,
+            sample_point,
+            tq,
+            prop_seg,
+            phase_seg1,
+            phase_seg2,
+            sjw,
+            brp,
         })
     }
 

@@ -2,9 +2,10 @@
 use Rattle.std.specs.Prelude.{ℕ, List, codes}
 use Rattle.link_base.specs.Table.{Table}
 use Rattle.netlink_packet_route.specs.declared.family.Family.{Family}
-use Rattle.netlink_packet_route.specs.declared.family.Family.TheVariants.{Bond, BondPort, Vlan, Can, Dsa, Hsr}
+use Rattle.netlink_packet_route.specs.declared.family.Family.TheVariants.{Bond, BondPort, Bridge, Vlan, Can, Dsa, Hsr}
 use Rattle.link_bond.specs.Bond.{bond_table}
 use Rattle.link_bond.specs.BondPort.{bond_port_table}
+use Rattle.link_bridge.specs.Bridge.{bridge_table}
 use Rattle.link_vlan_can.specs.Vlan.{vlan_table}
 use Rattle.link_vlan_can.specs.Can.{can_table}
 use Rattle.link_vlan_can.specs.Dsa.{dsa_table}
@@ -14,6 +15,7 @@ use Rattle.link_vlan_can.specs.Hsr.{hsr_table}
 abbrev pub family_name : Family → List ℕ
 family_name Bond = codes "bond"
 family_name BondPort = codes "bond_port"
+family_name Bridge = codes "bridge"
 family_name Vlan = codes "vlan"
 family_name Can = codes "can"
 family_name Dsa = codes "dsa"
@@ -23,6 +25,7 @@ family_name Hsr = codes "hsr"
 abbrev pub table_of : Family → Table
 table_of Bond = bond_table
 table_of BondPort = bond_port_table
+table_of Bridge = bridge_table
 table_of Vlan = vlan_table
 table_of Can = can_table
 table_of Dsa = dsa_table

@@ -15,11 +15,15 @@ pub use Rattle.link_base.specs.Default
 pub use Rattle.link_base.specs.Answers
 pub use Rattle.link_base.specs.Buffer
 pub use Rattle.link_base.specs.Items
+pub use Rattle.link_base.specs.Layout
 pub use Rattle.link_base.specs.Named
 pub use Rattle.link_base.specs.Protocol
 pub use Rattle.link_base.specs.Texts
 pub use Rattle.link_bond.specs.Bond
 pub use Rattle.link_bond.specs.BondPort
+pub use Rattle.link_bridge.specs.Bridge
+pub use Rattle.link_bridge.specs.Id
+pub use Rattle.link_bridge.specs.BooleanOptions
 pub use Rattle.link_vlan_can.specs.Vlan
 pub use Rattle.link_vlan_can.specs.Can
 pub use Rattle.link_vlan_can.specs.Dsa

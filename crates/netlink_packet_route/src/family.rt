@@ -9,6 +9,8 @@ pub enum Family {
     Bond,
     /// `bond_port`: the attributes of ports of bonds, [`InfoBondPort`](crate::link::InfoBondPort).
     BondPort,
+    /// `bridge`: the attributes of bridges, [`InfoBridge`](crate::link::InfoBridge).
+    Bridge,
     /// `vlan`: the attributes of VLAN devices, [`InfoVlan`](crate::link::InfoVlan).
     Vlan,
     /// `can`: the attributes of CAN controllers, [`InfoCan`](crate::link::InfoCan).
@@ -30,6 +32,7 @@ impl Family {
         match name {
             "bond" => Some(Family::Bond),
             "bond_port" => Some(Family::BondPort),
+            "bridge" => Some(Family::Bridge),
             "vlan" => Some(Family::Vlan),
             "can" => Some(Family::Can),
             "dsa" => Some(Family::Dsa),
@@ -47,6 +50,7 @@ macro_rules! by_family {
         match $family {
             $crate::Family::Bond => $call::<$crate::link::InfoBond>($($argument),*),
             $crate::Family::BondPort => $call::<$crate::link::InfoBondPort>($($argument),*),
+            $crate::Family::Bridge => $call::<$crate::link::InfoBridge>($($argument),*),
             $crate::Family::Vlan => $call::<$crate::link::InfoVlan>($($argument),*),
             $crate::Family::Can => $call::<$crate::link::InfoCan>($($argument),*),
             $crate::Family::Dsa => $call::<$crate::link::InfoDsa>($($argument),*),

@@ -1,7 +1,7 @@
 //! The attributes of links: frames, lists, and the families of attributes with all that their values hold.
 
 pub use link_base::{
-    Attribute, Cause, DecodeError, DecodeFault, DefaultNla, ListError, NLA_F_NESTED,
+    Attribute, Cause, DecodeError, DecodeFault, DefaultNla, Emitable, ListError, NLA_F_NESTED,
     NLA_F_NET_BYTEORDER, NLA_TYPE_MASK, Nla, NlaBuffer, NlasIterator, Parseable, TryClone,
     VlanProtocol, WriteError, emit_i32, emit_list, emit_u16, emit_u16_be, emit_u32, emit_u64,
     expand_buffer_if_small, laws, list_fits, list_len, parse_i32, parse_ip, parse_mac, parse_u8,
@@ -11,6 +11,10 @@ pub use link_bond::{
     BondAdInfo, BondAdSelect, BondAllPortActive, BondArpAllTargets, BondArpValidate,
     BondFailOverMac, BondLacpRate, BondMode, BondPortState, BondPrimaryReselect,
     BondXmitHashPolicy, ChurnState, InfoBond, InfoBondPort, LacpState, MiiStatus,
+};
+pub use link_bridge::{
+    BridgeBooleanOptionFlags, BridgeBooleanOptions, BridgeId, BridgeIdBuffer,
+    BridgeMulticastRouterType, BridgeQuerierState, BridgeStpMode, BridgeStpState, InfoBridge,
 };
 pub use link_vlan_can::{
     CanBerrCounter, CanBitTiming, CanBitTimingConst, CanClock, CanCtrlMode, CanCtrlModeExt,

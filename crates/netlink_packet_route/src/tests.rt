@@ -6,6 +6,7 @@ mod laws;
 mod limits;
 mod names;
 mod payloads;
+mod records;
 mod reports;
 mod rewritings;
 mod texts;

@@ -1,7 +1,7 @@
 //! Prints the values of lists of link attributes.
 //!
-//! `nlshow`, without an argument. Each line of standard input is a family's name (`bond`, `bond_port`, `vlan`, `can`,
-//! `dsa` or `hsr`), white space, and the bytes of a list as hex digits.
+//! `nlshow`, without an argument. Each line of standard input is a family's name (`bond`, `bond_port`, `bridge`,
+//! `vlan`, `can`, `dsa` or `hsr`), white space, and the bytes of a list as hex digits.
 #![tactic(auto)]
 
 mod arguments;

@@ -1,6 +1,6 @@
 //! Sets of flags: their constants, and the calls of `Flags`.
 
-use crate::link::{CanCtrlModeFlags, LacpState, VlanFlags};
+use crate::link::{BridgeBooleanOptionFlags, CanCtrlModeFlags, LacpState, VlanFlags};
 use bitflags::Flags;
 use std::fmt::Debug;
 use std::hash::{DefaultHasher, Hash, Hasher};
@@ -52,6 +52,26 @@ fn vlan_flags(rt: HostRuntime) {
             (VlanFlags::from_bits_truncate(0x8000_0001), 0x8000_0001),
             (VlanFlags::Gvrp.union(VlanFlags::Mvrp), 0xA),
             (VlanFlags::ReorderHdr.complement(), 0xFFFF_FFFE),
+        ],
+    );
+}
+
+#[test]
+fn boolean_options(rt: HostRuntime) {
+    are_bits(
+        &rt,
+        &[
+            (BridgeBooleanOptionFlags::NoLinkLocalLearn, 0x1),
+            (BridgeBooleanOptionFlags::VlanMulticastSnooping, 0x2),
+            (BridgeBooleanOptionFlags::MstEnable, 0x4),
+            (BridgeBooleanOptionFlags::MdbOffloadFailNotif, 0x8),
+            (BridgeBooleanOptionFlags::FdbLocalVlan0, 0x10),
+            (BridgeBooleanOptionFlags::all(), 0xFFFF_FFFF),
+            (BridgeBooleanOptionFlags::default(), 0),
+            (
+                BridgeBooleanOptionFlags::MstEnable.complement(),
+                0xFFFF_FFFB,
+            ),
         ],
     );
 }

@@ -5,9 +5,10 @@
 use crate::link::{
     BondAdInfo, BondAdSelect, BondAllPortActive, BondArpAllTargets, BondArpValidate,
     BondFailOverMac, BondLacpRate, BondMode, BondPortState, BondPrimaryReselect,
-    BondXmitHashPolicy, CanCtrlModeExt, CanCtrlModeFlags, CanTdc, ChurnState, DefaultNla,
-    HsrProtocol, InfoBond, InfoBondPort, InfoCan, InfoDsa, InfoHsr, InfoVlan, LacpState, MiiStatus,
-    VlanFlags, VlanQosMapping, laws,
+    BondXmitHashPolicy, BridgeBooleanOptionFlags, BridgeMulticastRouterType, BridgeQuerierState,
+    BridgeStpMode, BridgeStpState, CanCtrlModeExt, CanCtrlModeFlags, CanTdc, ChurnState,
+    DefaultNla, HsrProtocol, InfoBond, InfoBondPort, InfoBridge, InfoCan, InfoDsa, InfoHsr,
+    InfoVlan, LacpState, MiiStatus, VlanFlags, VlanQosMapping, laws,
 };
 use link_base::{flag_laws, named_laws};
 
@@ -76,6 +77,8 @@ fn equality_of_attributes() {
     laws::equality::<InfoBond>();
     laws::equality::<BondAdInfo>();
     laws::equality::<InfoBondPort>();
+    laws::equality::<InfoBridge>();
+    laws::equality::<BridgeQuerierState>();
     laws::equality::<InfoVlan>();
     laws::equality::<VlanQosMapping>();
     laws::equality::<InfoCan>();
@@ -99,6 +102,9 @@ fn equality_of_named_numbers() {
     named_laws::equality::<BondPortState>();
     named_laws::equality::<MiiStatus>();
     named_laws::equality::<ChurnState>();
+    named_laws::equality::<BridgeStpState>();
+    named_laws::equality::<BridgeStpMode>();
+    named_laws::equality::<BridgeMulticastRouterType>();
     named_laws::equality::<HsrProtocol>();
 }
 
@@ -109,6 +115,8 @@ fn laws_of_named_numbers() {
     named_laws::different::<BondMode>();
     named_laws::text_back::<BondMode>();
     named_laws::one_text::<BondMode>();
+    named_laws::text_back::<BridgeMulticastRouterType>();
+    named_laws::one_text::<BridgeMulticastRouterType>();
     named_laws::vlan_protocol();
 }
 
@@ -122,8 +130,18 @@ fn laws_of_flags() {
     flag_laws::equality::<CanCtrlModeFlags>();
     flag_laws::hashing::<CanCtrlModeFlags>();
     flag_laws::every_bit_known::<CanCtrlModeFlags>();
+    flag_laws::equality::<BridgeBooleanOptionFlags>();
+    flag_laws::every_bit_known::<BridgeBooleanOptionFlags>();
     flag_laws::bit_by_bit();
     link_bond::laws::lacp_state_bits();
+    link_bridge::laws::boolean_option_bits();
+    link_bridge::laws::default_options();
     link_vlan_can::laws::vlan_flag_bits();
     link_vlan_can::laws::can_mode_bits();
+}
+
+#[test]
+fn laws_of_bridges() {
+    link_bridge::laws::bridge_id_back();
+    link_bridge::laws::auto_router();
 }

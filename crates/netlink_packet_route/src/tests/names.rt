@@ -2,8 +2,9 @@
 
 use crate::link::{
     BondAdSelect, BondAllPortActive, BondArpAllTargets, BondArpValidate, BondFailOverMac,
-    BondLacpRate, BondMode, BondPortState, BondPrimaryReselect, BondXmitHashPolicy, ChurnState,
-    DecodeError, DecodeFault, HsrProtocol, MiiStatus, VlanProtocol,
+    BondLacpRate, BondMode, BondPortState, BondPrimaryReselect, BondXmitHashPolicy,
+    BridgeMulticastRouterType, BridgeStpMode, BridgeStpState, ChurnState, DecodeError, DecodeFault,
+    HsrProtocol, MiiStatus, VlanProtocol,
 };
 use crate::tests::holds;
 use std::alloc::Global;
@@ -34,6 +35,13 @@ fn are_named<
         are_shown(rt, alloc, &[(*number, *value, *text)]);
         let is_read = T::from_str(text) == Ok(*value) && T::from_str(other) == Ok(*value);
         holds(rt, is_read, text);
+    }
+}
+
+/// Each text is read as the value beside it.
+fn are_read<T: Copy + PartialEq + FromStr<Err = DecodeError>>(rt: &impl Abort, rows: &[(&str, T)]) {
+    for (text, value) in rows {
+        holds(rt, T::from_str(text) == Ok(*value), text);
     }
 }
 
@@ -312,6 +320,148 @@ fn vlan_protocols(rt: HostRuntime) {
             " 802.1Q",
             "802.1a",
             "Ieee8021Q",
+        ],
+    );
+}
+
+/// Each number is the value beside it, which is displayed as the text and read from it.
+fn are_told<
+    N: Copy + PartialEq,
+    T: Copy + PartialEq + From<N> + Into<N> + Display + FromStr<Err = DecodeError>,
+>(rt: &impl Abort, alloc: Global, rows: &[(N, T, &str)]) {
+    are_shown(rt, alloc, rows);
+    for (_, value, text) in rows {
+        are_read(rt, &[(*text, *value)]);
+    }
+}
+
+/// Texts that are read by no type that reads numbers.
+const NO_NUMBERS: [&str; 14] = [
+    "", "+", "-", "-0", "-1", "++1", "+-1", "+ 1", " 1", "1 ", "1_0", "0x1", "1.", "one",
+];
+
+#[test]
+fn stp_states(rt: HostRuntime) {
+    are_told(
+        &rt,
+        rt.alloc(),
+        &[
+            (0u32, BridgeStpState::Disabled, "no"),
+            (1, BridgeStpState::KernelStp, "kernel_stp"),
+            (2, BridgeStpState::UserStp, "user_stp"),
+            (3, BridgeStpState::Other(3), "3"),
+            (u32::MAX, BridgeStpState::Other(u32::MAX), "4294967295"),
+        ],
+    );
+    are_read(
+        &rt,
+        &[
+            ("0", BridgeStpState::Disabled),
+            ("+1", BridgeStpState::KernelStp),
+            ("2", BridgeStpState::UserStp),
+            ("+07", BridgeStpState::Other(7)),
+            ("00000000000000000002", BridgeStpState::UserStp),
+            ("+004294967295", BridgeStpState::Other(u32::MAX)),
+        ],
+    );
+    are_no_texts::<BridgeStpState>(&rt, &NO_NUMBERS);
+    are_no_texts::<BridgeStpState>(
+        &rt,
+        &[
+            "4294967296",
+            "10000000000",
+            "No",
+            "no ",
+            " no",
+            "n",
+            "none",
+            "kernel",
+            "kernel-stp",
+            "KERNEL_STP",
+            "user",
+            "user_st",
+            "user_stp2",
+        ],
+    );
+}
+
+#[test]
+fn stp_modes(rt: HostRuntime) {
+    are_told(
+        &rt,
+        rt.alloc(),
+        &[
+            (0u32, BridgeStpMode::Auto, "auto"),
+            (1, BridgeStpMode::User, "user"),
+            (2, BridgeStpMode::Kernel, "kernel"),
+            (3, BridgeStpMode::Other(3), "3"),
+            (u32::MAX, BridgeStpMode::Other(u32::MAX), "4294967295"),
+        ],
+    );
+    are_read(
+        &rt,
+        &[
+            ("+0", BridgeStpMode::Auto),
+            ("01", BridgeStpMode::User),
+            ("2", BridgeStpMode::Kernel),
+            ("4294967294", BridgeStpMode::Other(4294967294)),
+        ],
+    );
+    are_no_texts::<BridgeStpMode>(&rt, &NO_NUMBERS);
+    are_no_texts::<BridgeStpMode>(
+        &rt,
+        &[
+            "4294967296",
+            "Auto",
+            "auto ",
+            "aut",
+            "automatic",
+            "USER",
+            "user_stp",
+            "kernel_stp",
+        ],
+    );
+}
+
+#[test]
+fn router_types(rt: HostRuntime) {
+    are_told(
+        &rt,
+        rt.alloc(),
+        &[
+            (0u8, BridgeMulticastRouterType::Disabled, "disabled"),
+            (1, BridgeMulticastRouterType::TempQuery, "auto"),
+            (1, BridgeMulticastRouterType::Auto, "auto"),
+            (2, BridgeMulticastRouterType::Permanent, "permanent"),
+            (3, BridgeMulticastRouterType::Temp, "temp"),
+            (4, BridgeMulticastRouterType::Other(4), "4"),
+            (u8::MAX, BridgeMulticastRouterType::Other(u8::MAX), "255"),
+        ],
+    );
+    are_read(
+        &rt,
+        &[
+            ("temp_query", BridgeMulticastRouterType::TempQuery),
+            ("1", BridgeMulticastRouterType::TempQuery),
+            ("+0255", BridgeMulticastRouterType::Other(255)),
+        ],
+    );
+    are_no_texts::<BridgeMulticastRouterType>(&rt, &NO_NUMBERS);
+    are_no_texts::<BridgeMulticastRouterType>(
+        &rt,
+        &[
+            "256",
+            "1000",
+            "Temp_query",
+            "TEMP_QUERY",
+            "temp-query",
+            "temp_quer",
+            "temp_query ",
+            "temp_",
+            "tempquery",
+            "Auto",
+            "perm",
+            "disable",
         ],
     );
 }

@@ -412,6 +412,73 @@ fn faults_of_ports(rt: HostRuntime) {
 }
 
 #[test]
+fn values_of_bridges(rt: HostRuntime) {
+    are_reported(
+        &rt,
+        rt.alloc(),
+        "bridge",
+        0,
+        &[
+            ("", "out\nsame\n"),
+            (
+                "07001500 01020300",
+                "attr 21 len 0\nout 04001500\nchanged\n",
+            ),
+            ("04001500", "attr 21 len 0\nout 04001500\nsame\n"),
+            // the list is written with the nested flag
+            ("04002f00", "attr 32815 len 0\nout 04002f80\nchanged\n"),
+            ("04002f80", "attr 32815 len 0\nout 04002f80\nsame\n"),
+            (
+                "0c002f80 08000100 c0a80001",
+                "attr 32815 len 8\nout 0c002f8008000100c0a80001\nsame\n",
+            ),
+            (
+                "06000800 12340000",
+                "attr 8 len 2\nout 0600080081000000\nchanged\n",
+            ),
+            // what stands behind an identifier is not written
+            (
+                "0e000b00 80000200 00000001 ffff0000",
+                "attr 11 len 8\nout 0c000b008000020000000001\nchanged\n",
+            ),
+            (
+                "0c002e00 01000000 03000000",
+                "attr 46 len 8\nout 0c002e000100000003000000\nsame\n",
+            ),
+            ("04002800", "attr 40 len 0\nout 04002800\nsame\n"),
+        ],
+    );
+}
+
+#[test]
+fn faults_of_bridges(rt: HostRuntime) {
+    are_reported(
+        &rt,
+        rt.alloc(),
+        "bridge",
+        1,
+        &[
+            (
+                "0d002e00 00000000 00000000 00000000",
+                "fault at 0: kind 46: wrong length 8 9\n",
+            ),
+            (
+                "0b002e00 00000000 00000000",
+                "fault at 0: kind 46: too short 8 7\n",
+            ),
+            (
+                "09002f80 05000100 c0000000",
+                "fault at 0: kind 47: list: kind 1: wrong length 4 1\n",
+            ),
+            (
+                "05000700 01000000 0b000b00 80000200 00000000",
+                "fault at 8: kind 11: too short 8 7\n",
+            ),
+        ],
+    );
+}
+
+#[test]
 fn values_of_can(rt: HostRuntime) {
     are_reported(
         &rt,
@@ -568,6 +635,7 @@ fn names(rt: HostRuntime) {
     for (name, family) in [
         ("bond", Some(Family::Bond)),
         ("bond_port", Some(Family::BondPort)),
+        ("bridge", Some(Family::Bridge)),
         ("vlan", Some(Family::Vlan)),
         ("can", Some(Family::Can)),
         ("dsa", Some(Family::Dsa)),
@@ -583,6 +651,7 @@ fn names(rt: HostRuntime) {
         ("VLAN", None),
         ("vlans", None),
         ("bond_por", None),
+        ("bridges", None),
         ("bondport", None),
         ("bond port", None),
     ] {

@@ -37,6 +37,10 @@ fn bytes_that_stay(rt: HostRuntime) {
         (Family::Bond, "0c001700 06000100 07000000"),
         (Family::Bond, "05000100 09000000"),
         (Family::BondPort, "06000800 3f000000"),
+        (Family::Bridge, "04001500"),
+        (Family::Bridge, "04002f80"),
+        (Family::Bridge, "06000800 81000000"),
+        (Family::Bridge, "0c000b00 80000200 00000001"),
         (Family::Can, "08000800 01000200"),
         (Family::Can, "0c001080 08000700 03000000"),
     ] {
@@ -67,6 +71,14 @@ fn bytes_that_change_once(rt: HostRuntime) {
             "0c001700 06000100 07000000",
         ),
         (Family::BondPort, "06000800 3f010000", "06000800 3f000000"),
+        (Family::Bridge, "07001500 01020300", "04001500"),
+        (Family::Bridge, "04002f00", "04002f80"),
+        (Family::Bridge, "06000800 12340000", "06000800 81000000"),
+        (
+            Family::Bridge,
+            "0e000b00 80000200 00000001 ffff0000",
+            "0c000b00 80000200 00000001",
+        ),
         (
             Family::Can,
             "0c001000 08000700 03000000",

@@ -1,10 +1,10 @@
 //! Values of worked bytes, and of each case that holds memory: read, copied and written.
 
 use crate::link::{
-    BondAdInfo, BondArpValidate, BondMode, CanBerrCounter, CanBitTiming, CanBitTimingConst,
-    CanClock, CanCtrlMode, CanCtrlModeExt, CanCtrlModeFlags, CanTdc, Cause, DecodeFault,
-    DefaultNla, HsrProtocol, InfoBond, InfoBondPort, InfoCan, InfoDsa, InfoHsr, InfoVlan,
-    LacpState, VlanFlags, VlanProtocol, VlanQosMapping, read_list, write_list,
+    BondAdInfo, BondArpValidate, BondMode, BridgeQuerierState, CanBerrCounter, CanBitTiming,
+    CanBitTimingConst, CanClock, CanCtrlMode, CanCtrlModeExt, CanCtrlModeFlags, CanTdc, Cause,
+    DecodeFault, DefaultNla, HsrProtocol, InfoBond, InfoBondPort, InfoBridge, InfoCan, InfoDsa,
+    InfoHsr, InfoVlan, LacpState, VlanFlags, VlanProtocol, VlanQosMapping, read_list, write_list,
 };
 use crate::tests::{are_refused, bytes, can_limits, is_kept, is_written, list, reads_as};
 use bitflags::Flags;
@@ -309,6 +309,30 @@ fn bond_port(rt: HostRuntime) {
     reads_as(&rt, alloc, "06000800 3f010000", partner);
     let other = InfoBondPort::Other(any(&rt, alloc, 13, [1, 2, 3, 4]));
     is_kept(&rt, alloc, "08000d00 01020304", other);
+}
+
+#[test]
+fn bridge(rt: HostRuntime) {
+    let alloc = rt.alloc();
+    is_kept(&rt, alloc, "04001500", InfoBridge::FdbFlush);
+    reads_as(&rt, alloc, "07001500 01020300", InfoBridge::FdbFlush);
+    let other = InfoBridge::Other(any(&rt, alloc, 0xC028, [1, 2]));
+    is_kept(&rt, alloc, "060028c0 01020000", other);
+}
+
+#[test]
+fn queriers_of_bridges(rt: HostRuntime) {
+    let alloc = rt.alloc();
+    let address = BridgeQuerierState::Ipv4Address(Ipv4Addr::new(192, 168, 0, 1));
+    let one = InfoBridge::MulticastQuerierState(list(&rt, alloc, [address]));
+    is_kept(&rt, alloc, "0c002f80 08000100 c0a80001", one);
+    let none = InfoBridge::MulticastQuerierState(Vec::new(alloc));
+    reads_as(&rt, alloc, "04002f00", none);
+    let local = BridgeQuerierState::Ipv6Address(Ipv6Addr::new(0, 0, 0, 0, 0, 0, 0, 1));
+    let digits = "14000500 00000000 00000000 00000000 00000001";
+    is_kept(&rt, alloc, digits, local);
+    let other = BridgeQuerierState::Other(any(&rt, alloc, 0x4004, [7]));
+    is_kept(&rt, alloc, "05000440 07000000", other);
 }
 
 #[test]

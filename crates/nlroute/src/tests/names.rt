@@ -17,6 +17,11 @@ fn each_family_by_its_name(rt: HostRuntime) {
             "attr 8 len 2\nout 060008003f000000\nchanged\n",
         ),
         (
+            "bridge",
+            "07 00 15 00 01 02 03 00",
+            "attr 21 len 0\nout 04001500\nchanged\n",
+        ),
+        (
             "vlan",
             "06 00 05 00 91 00 00 00",
             "attr 5 len 2\nout 0600050081000000\nchanged\n",

@@ -1,0 +1,20 @@
+-- What `==` looks at in the records of a bridge: every field.
+use Rattle.std.specs.Prelude.{ℕ, List, nat_eq, ◌==◌, ◌&&◌, refl}
+use Rattle.std.specs.Cmp.Lexicographic.{pointwise}
+use Rattle.link_base.specs.Equality.{IsThorough, wrapped, pairs, numbers, octets}
+use Rattle.link_bridge.specs.declared.bridge.id.BridgeId.{BridgeId}
+use Rattle.link_bridge.specs.declared.bridge_boolopt.BridgeBooleanOptions.{BridgeBooleanOptions}
+
+pub ids : IsThorough (λ (a b : BridgeId). a.priority == b.priority && pointwise nat_eq a.address b.address) (λ (a : BridgeId). a)
+ids = wrapped (λ (id : BridgeId). (id.priority, id.address)) (λ (x : ℕ × List ℕ). record { priority = x.0; address = x.1 }) (λ _. refl) (pairs numbers octets)
+
+pub options : IsThorough (λ (a b : BridgeBooleanOptions). a.value.0 == b.value.0 && a.mask.0 == b.mask.0) (λ (a : BridgeBooleanOptions). a)
+options = wrapped
+    (λ (o : BridgeBooleanOptions). (o.value.0, o.mask.0))
+    (λ (x : ℕ × ℕ). record { value = record { 0 = x.0 }; mask = record { 0 = x.1 } })
+    (λ _. refl) (pairs numbers numbers)
+
+-- the reason of one case of an enum, and those of the cases after it
+infixr 30 ◌also◌
+abbrev pub ◌also◌ : {A B : Type 0} → A → B → A × B
+◌also◌ reason others = (reason, others)

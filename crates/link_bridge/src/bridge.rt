@@ -1,0 +1,628 @@
+//! The attributes of a bridge (`IFLA_INFO_DATA` of a link of kind `bridge`).
+
+mod id;
+mod querier;
+mod router_type;
+mod stp_mode;
+mod stp_state;
+
+use crate::bridge_boolopt::BridgeBooleanOptions;
+pub use id::{BridgeId, BridgeIdBuffer};
+use link_base::{
+    Attribute, DecodeError, DefaultNla, Emitable, Meaning, NLA_F_NESTED, Nla, NlaBuffer, Parseable,
+    TryClone, VlanProtocol, emit_mac, emit_nested, emit_u8, emit_u16, emit_u16_be, emit_u32,
+    emit_u64, nested_len, parse_bool, parse_mac, parse_u8, parse_u16, parse_u16_be, parse_u32,
+    parse_u64, read_nested, try_clone_list,
+};
+pub use querier::BridgeQuerierState;
+pub use router_type::BridgeMulticastRouterType;
+use std::alloc::{AllocError, Global};
+pub use stp_mode::BridgeStpMode;
+pub use stp_state::BridgeStpState;
+
+// `include/uapi/linux/if_link.h`
+const IFLA_BR_FORWARD_DELAY: u16 = 1;
+
+const IFLA_BR_HELLO_TIME: u16 = 2;
+
+const IFLA_BR_MAX_AGE: u16 = 3;
+
+const IFLA_BR_AGEING_TIME: u16 = 4;
+
+const IFLA_BR_STP_STATE: u16 = 5;
+
+const IFLA_BR_PRIORITY: u16 = 6;
+
+const IFLA_BR_VLAN_FILTERING: u16 = 7;
+
+const IFLA_BR_VLAN_PROTOCOL: u16 = 8;
+
+const IFLA_BR_GROUP_FWD_MASK: u16 = 9;
+
+const IFLA_BR_ROOT_ID: u16 = 10;
+
+const IFLA_BR_BRIDGE_ID: u16 = 11;
+
+const IFLA_BR_ROOT_PORT: u16 = 12;
+
+const IFLA_BR_ROOT_PATH_COST: u16 = 13;
+
+const IFLA_BR_TOPOLOGY_CHANGE: u16 = 14;
+
+const IFLA_BR_TOPOLOGY_CHANGE_DETECTED: u16 = 15;
+
+const IFLA_BR_HELLO_TIMER: u16 = 16;
+
+const IFLA_BR_TCN_TIMER: u16 = 17;
+
+const IFLA_BR_TOPOLOGY_CHANGE_TIMER: u16 = 18;
+
+const IFLA_BR_GC_TIMER: u16 = 19;
+
+const IFLA_BR_GROUP_ADDR: u16 = 20;
+
+const IFLA_BR_FDB_FLUSH: u16 = 21;
+
+const IFLA_BR_MCAST_ROUTER: u16 = 22;
+
+const IFLA_BR_MCAST_SNOOPING: u16 = 23;
+
+const IFLA_BR_MCAST_QUERY_USE_IFADDR: u16 = 24;
+
+const IFLA_BR_MCAST_QUERIER: u16 = 25;
+
+const IFLA_BR_MCAST_HASH_ELASTICITY: u16 = 26;
+
+const IFLA_BR_MCAST_HASH_MAX: u16 = 27;
+
+const IFLA_BR_MCAST_LAST_MEMBER_CNT: u16 = 28;
+
+const IFLA_BR_MCAST_STARTUP_QUERY_CNT: u16 = 29;
+
+const IFLA_BR_MCAST_LAST_MEMBER_INTVL: u16 = 30;
+
+const IFLA_BR_MCAST_MEMBERSHIP_INTVL: u16 = 31;
+
+const IFLA_BR_MCAST_QUERIER_INTVL: u16 = 32;
+
+const IFLA_BR_MCAST_QUERY_INTVL: u16 = 33;
+
+const IFLA_BR_MCAST_QUERY_RESPONSE_INTVL: u16 = 34;
+
+const IFLA_BR_MCAST_STARTUP_QUERY_INTVL: u16 = 35;
+
+const IFLA_BR_NF_CALL_IPTABLES: u16 = 36;
+
+const IFLA_BR_NF_CALL_IP6TABLES: u16 = 37;
+
+const IFLA_BR_NF_CALL_ARPTABLES: u16 = 38;
+
+const IFLA_BR_VLAN_DEFAULT_PVID: u16 = 39;
+
+const IFLA_BR_VLAN_STATS_ENABLED: u16 = 41;
+
+const IFLA_BR_MCAST_STATS_ENABLED: u16 = 42;
+
+const IFLA_BR_MCAST_IGMP_VERSION: u16 = 43;
+
+const IFLA_BR_MCAST_MLD_VERSION: u16 = 44;
+
+const IFLA_BR_VLAN_STATS_PER_PORT: u16 = 45;
+
+const IFLA_BR_MULTI_BOOLOPT: u16 = 46;
+
+const IFLA_BR_MCAST_QUERIER_STATE: u16 = 47;
+
+const IFLA_BR_FDB_N_LEARNED: u16 = 48;
+
+const IFLA_BR_FDB_MAX_LEARNED: u16 = 49;
+
+const IFLA_BR_STP_MODE: u16 = 50;
+
+/// An attribute of a bridge (`IFLA_BR_*`, `include/uapi/linux/if_link.h`). A clock tick is 1/100 second (`USER_HZ`).
+/// What is only shown cannot be set.
+#[derive(Debug, PartialEq, Eq, Drop)]
+pub enum InfoBridge {
+    /// The address of the group that the spanning tree protocol sends to, 01:80:c2:00:00:00 if not set;
+    /// 01:80:c2:00:00:01 to 03 are refused (`IFLA_BR_GROUP_ADDR`, six octets).
+    GroupAddr([u8; 6]),
+    /// A request to drop the learned entries of the forwarding database; it has no payload (`IFLA_BR_FDB_FLUSH`; it is
+    /// only set).
+    FdbFlush,
+    /// The time until the bridge, as the root, sends its next hello, in clock ticks (`IFLA_BR_HELLO_TIMER`, eight
+    /// bytes; it is only shown).
+    HelloTimer(u64),
+    /// The time until the bridge tells the root of a change of topology once more, in clock ticks (`IFLA_BR_TCN_TIMER`,
+    /// eight bytes; it is only shown).
+    TcnTimer(u64),
+    /// The time for which the bridge, as the root, goes on to tell of a change of topology, in clock ticks
+    /// (`IFLA_BR_TOPOLOGY_CHANGE_TIMER`, eight bytes; it is only shown).
+    TopologyChangeTimer(u64),
+    /// The time until entries of the forwarding database that are too old are dropped, in clock ticks
+    /// (`IFLA_BR_GC_TIMER`, eight bytes; it is only shown).
+    GcTimer(u64),
+    /// How long after the last report of its members a multicast group is kept, in clock ticks
+    /// (`IFLA_BR_MCAST_MEMBERSHIP_INTVL`, eight bytes).
+    MulticastMembershipInterval(u64),
+    /// How long after the last query of another querier the bridge sends queries of its own, in clock ticks
+    /// (`IFLA_BR_MCAST_QUERIER_INTVL`, eight bytes).
+    MulticastQuerierInterval(u64),
+    /// The time from one query to the next, once those of the start are sent, in clock ticks
+    /// (`IFLA_BR_MCAST_QUERY_INTVL`, eight bytes).
+    MulticastQueryInterval(u64),
+    /// The time in which a query is to be answered, in clock ticks (`IFLA_BR_MCAST_QUERY_RESPONSE_INTVL`, eight bytes).
+    MulticastQueryResponseInterval(u64),
+    /// The time from one query for the members that a group still has to the next, after one has left it, in clock
+    /// ticks (`IFLA_BR_MCAST_LAST_MEMBER_INTVL`, eight bytes).
+    MulticastLastMemberInterval(u64),
+    /// The time from one query to the next at the start, in clock ticks (`IFLA_BR_MCAST_STARTUP_QUERY_INTVL`, eight
+    /// bytes).
+    MulticastStartupQueryInterval(u64),
+    /// How long a port listens, and then learns, before it forwards, in clock ticks (`IFLA_BR_FORWARD_DELAY`, four
+    /// bytes).
+    ForwardDelay(u32),
+    /// The time from one hello of the root to the next, in clock ticks (`IFLA_BR_HELLO_TIME`, four bytes).
+    HelloTime(u32),
+    /// How long after its last hello another bridge is taken to be gone, in clock ticks (`IFLA_BR_MAX_AGE`, four
+    /// bytes).
+    MaxAge(u32),
+    /// How long after its last frame an address is kept in the forwarding database, in clock ticks
+    /// (`IFLA_BR_AGEING_TIME`, four bytes).
+    AgeingTime(u32),
+    /// Who runs the spanning tree protocol; a request turns it off by 0 and on by any other number
+    /// (`IFLA_BR_STP_STATE`, four bytes).
+    StpState(BridgeStpState),
+    /// The greatest length of a chain in the hash table of multicast groups; the kernel shows 16 and ignores what is
+    /// set (`IFLA_BR_MCAST_HASH_ELASTICITY`, four bytes).
+    MulticastHashElasticity(u32),
+    /// The greatest number of multicast groups in their hash table, a power of two (`IFLA_BR_MCAST_HASH_MAX`, four
+    /// bytes).
+    MulticastHashMax(u32),
+    /// How many queries are sent for the members that a group still has, after one has left it
+    /// (`IFLA_BR_MCAST_LAST_MEMBER_CNT`, four bytes).
+    MulticastLastMemberCount(u32),
+    /// How many queries are sent at the start (`IFLA_BR_MCAST_STARTUP_QUERY_CNT`, four bytes).
+    MulticastStartupQueryCount(u32),
+    /// The cost of the path to the root (`IFLA_BR_ROOT_PATH_COST`, four bytes; it is only shown).
+    RootPathCost(u32),
+    /// The priority of the bridge: the lower, the sooner it becomes the root (`IFLA_BR_PRIORITY`, two bytes).
+    Priority(u16),
+    /// The protocol of the tags that VLAN filtering goes by (`IFLA_BR_VLAN_PROTOCOL`, two bytes, the highest first).
+    VlanProtocol(VlanProtocol),
+    /// Which frames to link-local addresses are forwarded: bit n for those to 01:80:c2:00:00:0n
+    /// (`IFLA_BR_GROUP_FWD_MASK`, two bytes).
+    GroupFwdMask(u16),
+    /// The identifier of the root (`IFLA_BR_ROOT_ID`, eight bytes; it is only shown).
+    RootId(BridgeId),
+    /// The identifier of this bridge (`IFLA_BR_BRIDGE_ID`, eight bytes; it is only shown).
+    BridgeId(BridgeId),
+    /// The number of the port towards the root; 0 where this bridge is the root (`IFLA_BR_ROOT_PORT`, two bytes; it is
+    /// only shown).
+    RootPort(u16),
+    /// The VLAN of frames without a tag at a new port; 0 for none (`IFLA_BR_VLAN_DEFAULT_PVID`, two bytes).
+    VlanDefaultPvid(u16),
+    /// Whether frames are forwarded by their VLAN too (`IFLA_BR_VLAN_FILTERING`, one byte).
+    VlanFiltering(bool),
+    /// Whether the bridge, as the root, tells of a change of topology: 1 or 0 (`IFLA_BR_TOPOLOGY_CHANGE`, one byte; it
+    /// is only shown).
+    TopologyChange(u8),
+    /// Whether the bridge has seen a change of topology: 1 or 0 (`IFLA_BR_TOPOLOGY_CHANGE_DETECTED`, one byte; it is
+    /// only shown).
+    TopologyChangeDetected(u8),
+    /// Whether a multicast router is taken to be at the bridge itself, which then gets all multicast
+    /// (`IFLA_BR_MCAST_ROUTER`, one byte).
+    MulticastRouter(BridgeMulticastRouterType),
+    /// Whether multicast goes only to ports that have members of its group (`IFLA_BR_MCAST_SNOOPING`, one byte).
+    MulticastSnooping(bool),
+    /// Whether IGMP queries come from the bridge's own IP address, and not from 0.0.0.0
+    /// (`IFLA_BR_MCAST_QUERY_USE_IFADDR`, one byte).
+    MulticastQueryUseIfaddr(bool),
+    /// Whether the bridge sends queries for the members of multicast groups (`IFLA_BR_MCAST_QUERIER`, one byte).
+    MulticastQuerier(bool),
+    /// Whether bridged IPv4 packets pass through iptables (`IFLA_BR_NF_CALL_IPTABLES`, one byte).
+    NfCallIpTables(bool),
+    /// Whether bridged IPv6 packets pass through ip6tables (`IFLA_BR_NF_CALL_IP6TABLES`, one byte).
+    NfCallIp6Tables(bool),
+    /// Whether bridged ARP packets pass through arptables (`IFLA_BR_NF_CALL_ARPTABLES`, one byte).
+    NfCallArpTables(bool),
+    /// Whether packets are counted for each VLAN (`IFLA_BR_VLAN_STATS_ENABLED`, one byte).
+    VlanStatsEnabled(bool),
+    /// Whether IGMP and MLD messages are counted (`IFLA_BR_MCAST_STATS_ENABLED`, one byte).
+    MulticastStatsEnabled(bool),
+    /// The version of IGMP, 2 or 3 (`IFLA_BR_MCAST_IGMP_VERSION`, one byte).
+    MulticastIgmpVersion(u8),
+    /// The version of MLD, 1 or 2 (`IFLA_BR_MCAST_MLD_VERSION`, one byte).
+    MulticastMldVersion(u8),
+    /// Whether packets are counted for each VLAN of each port; it is set before ports have VLANs
+    /// (`IFLA_BR_VLAN_STATS_PER_PORT`, one byte).
+    VlanStatsPerPort(bool),
+    /// Boolean options, many at a time (`IFLA_BR_MULTI_BOOLOPT`, eight bytes).
+    MultiBoolOpt(BridgeBooleanOptions),
+    /// The multicast queriers that the bridge knows of (`IFLA_BR_MCAST_QUERIER_STATE`, a list that is written with
+    /// `NLA_F_NESTED`; it is only shown).
+    MulticastQuerierState(Vec<BridgeQuerierState>),
+    /// How many learned entries the forwarding database has (`IFLA_BR_FDB_N_LEARNED`, four bytes; it is only shown).
+    FdbNLearned(u32),
+    /// How many learned entries it has at most; 0 for no limit (`IFLA_BR_FDB_MAX_LEARNED`, four bytes).
+    FdbMaxLearned(u32),
+    /// Who is to run the spanning tree protocol once it is turned on (`IFLA_BR_STP_MODE`, four bytes).
+    StpMode(BridgeStpMode),
+    /// An attribute of any other kind.
+    Other(DefaultNla),
+}
+
+impl TryClone for InfoBridge {
+    fn try_clone(&self, alloc: Global) -> Result<Self, AllocError> {
+        match self {
+            InfoBridge::GroupAddr(address) => Ok(InfoBridge::GroupAddr(*address)),
+            InfoBridge::FdbFlush => Ok(InfoBridge::FdbFlush),
+            InfoBridge::HelloTimer(left) => Ok(InfoBridge::HelloTimer(*left)),
+            InfoBridge::TcnTimer(left) => Ok(InfoBridge::TcnTimer(*left)),
+            InfoBridge::TopologyChangeTimer(left) => Ok(InfoBridge::TopologyChangeTimer(*left)),
+            InfoBridge::GcTimer(left) => Ok(InfoBridge::GcTimer(*left)),
+            InfoBridge::MulticastMembershipInterval(interval) => Ok(
+                InfoBridge::MulticastMembershipInterval(*interval),
+            ),
+            InfoBridge::MulticastQuerierInterval(interval) => Ok(
+                InfoBridge::MulticastQuerierInterval(*interval),
+            ),
+            InfoBridge::MulticastQueryInterval(interval) => Ok(InfoBridge::MulticastQueryInterval(
+                *interval,
+            )),
+            InfoBridge::MulticastQueryResponseInterval(interval) => Ok(
+                InfoBridge::MulticastQueryResponseInterval(*interval),
+            ),
+            InfoBridge::MulticastLastMemberInterval(interval) => Ok(
+                InfoBridge::MulticastLastMemberInterval(*interval),
+            ),
+            InfoBridge::MulticastStartupQueryInterval(interval) => Ok(
+                InfoBridge::MulticastStartupQueryInterval(*interval),
+            ),
+            InfoBridge::ForwardDelay(delay) => Ok(InfoBridge::ForwardDelay(*delay)),
+            InfoBridge::HelloTime(time) => Ok(InfoBridge::HelloTime(*time)),
+            InfoBridge::MaxAge(time) => Ok(InfoBridge::MaxAge(*time)),
+            InfoBridge::AgeingTime(time) => Ok(InfoBridge::AgeingTime(*time)),
+            InfoBridge::StpState(state) => Ok(InfoBridge::StpState(*state)),
+            InfoBridge::MulticastHashElasticity(elasticity) => Ok(
+                InfoBridge::MulticastHashElasticity(*elasticity),
+            ),
+            InfoBridge::MulticastHashMax(size) => Ok(InfoBridge::MulticastHashMax(*size)),
+            InfoBridge::MulticastLastMemberCount(count) => Ok(InfoBridge::MulticastLastMemberCount(
+                *count,
+            )),
+            InfoBridge::MulticastStartupQueryCount(count) => Ok(
+                InfoBridge::MulticastStartupQueryCount(*count),
+            ),
+            InfoBridge::RootPathCost(cost) => Ok(InfoBridge::RootPathCost(*cost)),
+            InfoBridge::Priority(priority) => Ok(InfoBridge::Priority(*priority)),
+            InfoBridge::VlanProtocol(protocol) => Ok(InfoBridge::VlanProtocol(*protocol)),
+            InfoBridge::GroupFwdMask(mask) => Ok(InfoBridge::GroupFwdMask(*mask)),
+            InfoBridge::RootId(id) => Ok(InfoBridge::RootId(*id)),
+            InfoBridge::BridgeId(id) => Ok(InfoBridge::BridgeId(*id)),
+            InfoBridge::RootPort(number) => Ok(InfoBridge::RootPort(*number)),
+            InfoBridge::VlanDefaultPvid(id) => Ok(InfoBridge::VlanDefaultPvid(*id)),
+            InfoBridge::VlanFiltering(filtering) => Ok(InfoBridge::VlanFiltering(*filtering)),
+            InfoBridge::TopologyChange(change) => Ok(InfoBridge::TopologyChange(*change)),
+            InfoBridge::TopologyChangeDetected(change) => Ok(InfoBridge::TopologyChangeDetected(
+                *change,
+            )),
+            InfoBridge::MulticastRouter(router) => Ok(InfoBridge::MulticastRouter(*router)),
+            InfoBridge::MulticastSnooping(snooping) => Ok(InfoBridge::MulticastSnooping(*snooping)),
+            InfoBridge::MulticastQueryUseIfaddr(used) => Ok(InfoBridge::MulticastQueryUseIfaddr(
+                *used,
+            )),
+            InfoBridge::MulticastQuerier(querier) => Ok(InfoBridge::MulticastQuerier(*querier)),
+            InfoBridge::NfCallIpTables(called) => Ok(InfoBridge::NfCallIpTables(*called)),
+            InfoBridge::NfCallIp6Tables(called) => Ok(InfoBridge::NfCallIp6Tables(*called)),
+            InfoBridge::NfCallArpTables(called) => Ok(InfoBridge::NfCallArpTables(*called)),
+            InfoBridge::VlanStatsEnabled(enabled) => Ok(InfoBridge::VlanStatsEnabled(*enabled)),
+            InfoBridge::MulticastStatsEnabled(enabled) => Ok(InfoBridge::MulticastStatsEnabled(
+                *enabled,
+            )),
+            InfoBridge::MulticastIgmpVersion(version) => Ok(InfoBridge::MulticastIgmpVersion(
+                *version,
+            )),
+            InfoBridge::MulticastMldVersion(version) => Ok(InfoBridge::MulticastMldVersion(
+                *version,
+            )),
+            InfoBridge::VlanStatsPerPort(enabled) => Ok(InfoBridge::VlanStatsPerPort(*enabled)),
+            InfoBridge::MultiBoolOpt(options) => Ok(InfoBridge::MultiBoolOpt(*options)),
+            InfoBridge::MulticastQuerierState(queriers) => Ok(InfoBridge::MulticastQuerierState(
+                try_clone_list(alloc, queriers)?,
+            )),
+            InfoBridge::FdbNLearned(count) => Ok(InfoBridge::FdbNLearned(*count)),
+            InfoBridge::FdbMaxLearned(count) => Ok(InfoBridge::FdbMaxLearned(*count)),
+            InfoBridge::StpMode(mode) => Ok(InfoBridge::StpMode(*mode)),
+            InfoBridge::Other(other) => Ok(InfoBridge::Other(other.try_clone(alloc)?)),
+        }
+    }
+}
+
+impl Meaning for InfoBridge {
+    ghost use Rattle.link_bridge.specs.Bridge.{bridge_table, bridge_means};
+
+    ghost table = { bridge_table };
+
+    ghost means = { bridge_means };
+}
+
+impl Nla for InfoBridge {
+    fn kind(&self) -> u16 {
+        match self {
+            InfoBridge::GroupAddr(_) => IFLA_BR_GROUP_ADDR,
+            InfoBridge::FdbFlush => IFLA_BR_FDB_FLUSH,
+            InfoBridge::HelloTimer(_) => IFLA_BR_HELLO_TIMER,
+            InfoBridge::TcnTimer(_) => IFLA_BR_TCN_TIMER,
+            InfoBridge::TopologyChangeTimer(_) => IFLA_BR_TOPOLOGY_CHANGE_TIMER,
+            InfoBridge::GcTimer(_) => IFLA_BR_GC_TIMER,
+            InfoBridge::MulticastMembershipInterval(_) => IFLA_BR_MCAST_MEMBERSHIP_INTVL,
+            InfoBridge::MulticastQuerierInterval(_) => IFLA_BR_MCAST_QUERIER_INTVL,
+            InfoBridge::MulticastQueryInterval(_) => IFLA_BR_MCAST_QUERY_INTVL,
+            InfoBridge::MulticastQueryResponseInterval(_) => IFLA_BR_MCAST_QUERY_RESPONSE_INTVL,
+            InfoBridge::MulticastLastMemberInterval(_) => IFLA_BR_MCAST_LAST_MEMBER_INTVL,
+            InfoBridge::MulticastStartupQueryInterval(_) => IFLA_BR_MCAST_STARTUP_QUERY_INTVL,
+            InfoBridge::ForwardDelay(_) => IFLA_BR_FORWARD_DELAY,
+            InfoBridge::HelloTime(_) => IFLA_BR_HELLO_TIME,
+            InfoBridge::MaxAge(_) => IFLA_BR_MAX_AGE,
+            InfoBridge::AgeingTime(_) => IFLA_BR_AGEING_TIME,
+            InfoBridge::StpState(_) => IFLA_BR_STP_STATE,
+            InfoBridge::MulticastHashElasticity(_) => IFLA_BR_MCAST_HASH_ELASTICITY,
+            InfoBridge::MulticastHashMax(_) => IFLA_BR_MCAST_HASH_MAX,
+            InfoBridge::MulticastLastMemberCount(_) => IFLA_BR_MCAST_LAST_MEMBER_CNT,
+            InfoBridge::MulticastStartupQueryCount(_) => IFLA_BR_MCAST_STARTUP_QUERY_CNT,
+            InfoBridge::RootPathCost(_) => IFLA_BR_ROOT_PATH_COST,
+            InfoBridge::Priority(_) => IFLA_BR_PRIORITY,
+            InfoBridge::VlanProtocol(_) => IFLA_BR_VLAN_PROTOCOL,
+            InfoBridge::GroupFwdMask(_) => IFLA_BR_GROUP_FWD_MASK,
+            InfoBridge::RootId(_) => IFLA_BR_ROOT_ID,
+            InfoBridge::BridgeId(_) => IFLA_BR_BRIDGE_ID,
+            InfoBridge::RootPort(_) => IFLA_BR_ROOT_PORT,
+            InfoBridge::VlanDefaultPvid(_) => IFLA_BR_VLAN_DEFAULT_PVID,
+            InfoBridge::VlanFiltering(_) => IFLA_BR_VLAN_FILTERING,
+            InfoBridge::TopologyChange(_) => IFLA_BR_TOPOLOGY_CHANGE,
+            InfoBridge::TopologyChangeDetected(_) => IFLA_BR_TOPOLOGY_CHANGE_DETECTED,
+            InfoBridge::MulticastRouter(_) => IFLA_BR_MCAST_ROUTER,
+            InfoBridge::MulticastSnooping(_) => IFLA_BR_MCAST_SNOOPING,
+            InfoBridge::MulticastQueryUseIfaddr(_) => IFLA_BR_MCAST_QUERY_USE_IFADDR,
+            InfoBridge::MulticastQuerier(_) => IFLA_BR_MCAST_QUERIER,
+            InfoBridge::NfCallIpTables(_) => IFLA_BR_NF_CALL_IPTABLES,
+            InfoBridge::NfCallIp6Tables(_) => IFLA_BR_NF_CALL_IP6TABLES,
+            InfoBridge::NfCallArpTables(_) => IFLA_BR_NF_CALL_ARPTABLES,
+            InfoBridge::VlanStatsEnabled(_) => IFLA_BR_VLAN_STATS_ENABLED,
+            InfoBridge::MulticastStatsEnabled(_) => IFLA_BR_MCAST_STATS_ENABLED,
+            InfoBridge::MulticastIgmpVersion(_) => IFLA_BR_MCAST_IGMP_VERSION,
+            InfoBridge::MulticastMldVersion(_) => IFLA_BR_MCAST_MLD_VERSION,
+            InfoBridge::VlanStatsPerPort(_) => IFLA_BR_VLAN_STATS_PER_PORT,
+            InfoBridge::MultiBoolOpt(_) => IFLA_BR_MULTI_BOOLOPT,
+            InfoBridge::MulticastQuerierState(_) => IFLA_BR_MCAST_QUERIER_STATE | NLA_F_NESTED,
+            InfoBridge::FdbNLearned(_) => IFLA_BR_FDB_N_LEARNED,
+            InfoBridge::FdbMaxLearned(_) => IFLA_BR_FDB_MAX_LEARNED,
+            InfoBridge::StpMode(_) => IFLA_BR_STP_MODE,
+            InfoBridge::Other(other) => other.kind(),
+        }
+    }
+
+    fn value_len(&self) -> usize {
+        match self {
+            InfoBridge::FdbFlush => 0,
+            InfoBridge::VlanFiltering(_)
+            | InfoBridge::TopologyChange(_)
+            | InfoBridge::TopologyChangeDetected(_)
+            | InfoBridge::MulticastRouter(_)
+            | InfoBridge::MulticastSnooping(_)
+            | InfoBridge::MulticastQueryUseIfaddr(_)
+            | InfoBridge::MulticastQuerier(_)
+            | InfoBridge::NfCallIpTables(_)
+            | InfoBridge::NfCallIp6Tables(_)
+            | InfoBridge::NfCallArpTables(_)
+            | InfoBridge::VlanStatsEnabled(_)
+            | InfoBridge::MulticastStatsEnabled(_)
+            | InfoBridge::MulticastIgmpVersion(_)
+            | InfoBridge::MulticastMldVersion(_)
+            | InfoBridge::VlanStatsPerPort(_) => 1,
+            InfoBridge::Priority(_)
+            | InfoBridge::VlanProtocol(_)
+            | InfoBridge::GroupFwdMask(_)
+            | InfoBridge::RootPort(_)
+            | InfoBridge::VlanDefaultPvid(_) => 2,
+            InfoBridge::ForwardDelay(_)
+            | InfoBridge::HelloTime(_)
+            | InfoBridge::MaxAge(_)
+            | InfoBridge::AgeingTime(_)
+            | InfoBridge::StpState(_)
+            | InfoBridge::MulticastHashElasticity(_)
+            | InfoBridge::MulticastHashMax(_)
+            | InfoBridge::MulticastLastMemberCount(_)
+            | InfoBridge::MulticastStartupQueryCount(_)
+            | InfoBridge::RootPathCost(_)
+            | InfoBridge::FdbNLearned(_)
+            | InfoBridge::FdbMaxLearned(_)
+            | InfoBridge::StpMode(_) => 4,
+            InfoBridge::HelloTimer(_)
+            | InfoBridge::TcnTimer(_)
+            | InfoBridge::TopologyChangeTimer(_)
+            | InfoBridge::GcTimer(_)
+            | InfoBridge::MulticastMembershipInterval(_)
+            | InfoBridge::MulticastQuerierInterval(_)
+            | InfoBridge::MulticastQueryInterval(_)
+            | InfoBridge::MulticastQueryResponseInterval(_)
+            | InfoBridge::MulticastLastMemberInterval(_)
+            | InfoBridge::MulticastStartupQueryInterval(_) => 8,
+            InfoBridge::GroupAddr(address) => address.as_slice().len(),
+            InfoBridge::RootId(id) => id.buffer_len(),
+            InfoBridge::BridgeId(id) => id.buffer_len(),
+            InfoBridge::MultiBoolOpt(options) => options.buffer_len(),
+            InfoBridge::MulticastQuerierState(queriers) => nested_len(queriers),
+            InfoBridge::Other(other) => other.value_len(),
+        }
+    }
+
+    fn emit_value(&self, buffer: &mut [u8]) {
+        match self {
+            InfoBridge::GroupAddr(address) => emit_mac(buffer, address),
+            InfoBridge::FdbFlush => {}
+            InfoBridge::HelloTimer(left) => emit_u64(buffer, *left),
+            InfoBridge::TcnTimer(left) => emit_u64(buffer, *left),
+            InfoBridge::TopologyChangeTimer(left) => emit_u64(buffer, *left),
+            InfoBridge::GcTimer(left) => emit_u64(buffer, *left),
+            InfoBridge::MulticastMembershipInterval(interval) => emit_u64(buffer, *interval),
+            InfoBridge::MulticastQuerierInterval(interval) => emit_u64(buffer, *interval),
+            InfoBridge::MulticastQueryInterval(interval) => emit_u64(buffer, *interval),
+            InfoBridge::MulticastQueryResponseInterval(interval) => emit_u64(buffer, *interval),
+            InfoBridge::MulticastLastMemberInterval(interval) => emit_u64(buffer, *interval),
+            InfoBridge::MulticastStartupQueryInterval(interval) => emit_u64(buffer, *interval),
+            InfoBridge::ForwardDelay(delay) => emit_u32(buffer, *delay),
+            InfoBridge::HelloTime(time) => emit_u32(buffer, *time),
+            InfoBridge::MaxAge(time) => emit_u32(buffer, *time),
+            InfoBridge::AgeingTime(time) => emit_u32(buffer, *time),
+            InfoBridge::StpState(state) => emit_u32(buffer, u32::from(*state)),
+            InfoBridge::MulticastHashElasticity(elasticity) => emit_u32(buffer, *elasticity),
+            InfoBridge::MulticastHashMax(size) => emit_u32(buffer, *size),
+            InfoBridge::MulticastLastMemberCount(count) => emit_u32(buffer, *count),
+            InfoBridge::MulticastStartupQueryCount(count) => emit_u32(buffer, *count),
+            InfoBridge::RootPathCost(cost) => emit_u32(buffer, *cost),
+            InfoBridge::Priority(priority) => emit_u16(buffer, *priority),
+            InfoBridge::VlanProtocol(protocol) => emit_u16_be(buffer, u16::from(*protocol)),
+            InfoBridge::GroupFwdMask(mask) => emit_u16(buffer, *mask),
+            InfoBridge::RootId(id) => id.emit(buffer),
+            InfoBridge::BridgeId(id) => id.emit(buffer),
+            InfoBridge::RootPort(number) => emit_u16(buffer, *number),
+            InfoBridge::VlanDefaultPvid(id) => emit_u16(buffer, *id),
+            InfoBridge::VlanFiltering(filtering) => emit_u8(buffer, u8::from(*filtering)),
+            InfoBridge::TopologyChange(change) => emit_u8(buffer, *change),
+            InfoBridge::TopologyChangeDetected(change) => emit_u8(buffer, *change),
+            InfoBridge::MulticastRouter(router) => emit_u8(buffer, u8::from(*router)),
+            InfoBridge::MulticastSnooping(snooping) => emit_u8(buffer, u8::from(*snooping)),
+            InfoBridge::MulticastQueryUseIfaddr(used) => emit_u8(buffer, u8::from(*used)),
+            InfoBridge::MulticastQuerier(querier) => emit_u8(buffer, u8::from(*querier)),
+            InfoBridge::NfCallIpTables(called) => emit_u8(buffer, u8::from(*called)),
+            InfoBridge::NfCallIp6Tables(called) => emit_u8(buffer, u8::from(*called)),
+            InfoBridge::NfCallArpTables(called) => emit_u8(buffer, u8::from(*called)),
+            InfoBridge::VlanStatsEnabled(enabled) => emit_u8(buffer, u8::from(*enabled)),
+            InfoBridge::MulticastStatsEnabled(enabled) => emit_u8(buffer, u8::from(*enabled)),
+            InfoBridge::MulticastIgmpVersion(version) => emit_u8(buffer, *version),
+            InfoBridge::MulticastMldVersion(version) => emit_u8(buffer, *version),
+            InfoBridge::VlanStatsPerPort(enabled) => emit_u8(buffer, u8::from(*enabled)),
+            InfoBridge::MultiBoolOpt(options) => options.emit(buffer),
+            InfoBridge::MulticastQuerierState(queriers) => emit_nested(queriers, buffer),
+            InfoBridge::FdbNLearned(count) => emit_u32(buffer, *count),
+            InfoBridge::FdbMaxLearned(count) => emit_u32(buffer, *count),
+            InfoBridge::StpMode(mode) => emit_u32(buffer, u32::from(*mode)),
+            InfoBridge::Other(other) => other.emit_value(buffer),
+        }
+    }
+}
+
+impl Parseable for InfoBridge {
+    #[tactic(auto, using(link_base::proofs::KindFaults::under_nested))]
+    fn parse_payload(alloc: Global, buffer: &NlaBuffer<'_>) -> Result<Self, DecodeError> {
+        let kind = buffer.kind();
+        let payload = buffer.value();
+        match kind {
+            IFLA_BR_FORWARD_DELAY => parse_u32(payload).map(Self::ForwardDelay),
+            IFLA_BR_HELLO_TIME => parse_u32(payload).map(Self::HelloTime),
+            IFLA_BR_MAX_AGE => parse_u32(payload).map(Self::MaxAge),
+            IFLA_BR_AGEING_TIME => parse_u32(payload).map(Self::AgeingTime),
+            IFLA_BR_STP_STATE => parse_u32(payload).map(|n| Self::StpState(n.into())),
+            IFLA_BR_PRIORITY => parse_u16(payload).map(Self::Priority),
+            IFLA_BR_VLAN_FILTERING => parse_bool(payload).map(Self::VlanFiltering),
+            IFLA_BR_VLAN_PROTOCOL => parse_u16_be(payload).map(|n| Self::VlanProtocol(n.into())),
+            IFLA_BR_GROUP_FWD_MASK => parse_u16(payload).map(Self::GroupFwdMask),
+            IFLA_BR_ROOT_ID => BridgeId::parse(payload).map(Self::RootId),
+            IFLA_BR_BRIDGE_ID => BridgeId::parse(payload).map(Self::BridgeId),
+            IFLA_BR_ROOT_PORT => parse_u16(payload).map(Self::RootPort),
+            IFLA_BR_ROOT_PATH_COST => parse_u32(payload).map(Self::RootPathCost),
+            IFLA_BR_TOPOLOGY_CHANGE => parse_u8(payload).map(Self::TopologyChange),
+            IFLA_BR_TOPOLOGY_CHANGE_DETECTED => parse_u8(payload).map(Self::TopologyChangeDetected),
+            IFLA_BR_HELLO_TIMER => parse_u64(payload).map(Self::HelloTimer),
+            IFLA_BR_TCN_TIMER => parse_u64(payload).map(Self::TcnTimer),
+            IFLA_BR_TOPOLOGY_CHANGE_TIMER => parse_u64(payload).map(Self::TopologyChangeTimer),
+            IFLA_BR_GC_TIMER => parse_u64(payload).map(Self::GcTimer),
+            IFLA_BR_GROUP_ADDR => parse_mac(payload).map(Self::GroupAddr),
+            IFLA_BR_FDB_FLUSH => Ok(Self::FdbFlush),
+            IFLA_BR_MCAST_ROUTER => parse_u8(payload).map(|n| Self::MulticastRouter(n.into())),
+            IFLA_BR_MCAST_SNOOPING => parse_bool(payload).map(Self::MulticastSnooping),
+            IFLA_BR_MCAST_QUERY_USE_IFADDR => parse_bool(payload).map(
+                Self::MulticastQueryUseIfaddr,
+            ),
+            IFLA_BR_MCAST_QUERIER => parse_bool(payload).map(Self::MulticastQuerier),
+            IFLA_BR_MCAST_HASH_ELASTICITY => parse_u32(payload).map(Self::MulticastHashElasticity),
+            IFLA_BR_MCAST_HASH_MAX => parse_u32(payload).map(Self::MulticastHashMax),
+            IFLA_BR_MCAST_LAST_MEMBER_CNT => parse_u32(payload).map(Self::MulticastLastMemberCount),
+            IFLA_BR_MCAST_STARTUP_QUERY_CNT => parse_u32(payload).map(
+                Self::MulticastStartupQueryCount,
+            ),
+            IFLA_BR_MCAST_LAST_MEMBER_INTVL => parse_u64(payload).map(
+                Self::MulticastLastMemberInterval,
+            ),
+            IFLA_BR_MCAST_MEMBERSHIP_INTVL => parse_u64(payload).map(
+                Self::MulticastMembershipInterval,
+            ),
+            IFLA_BR_MCAST_QUERIER_INTVL => parse_u64(payload).map(Self::MulticastQuerierInterval),
+            IFLA_BR_MCAST_QUERY_INTVL => parse_u64(payload).map(Self::MulticastQueryInterval),
+            IFLA_BR_MCAST_QUERY_RESPONSE_INTVL => parse_u64(payload).map(
+                Self::MulticastQueryResponseInterval,
+            ),
+            IFLA_BR_MCAST_STARTUP_QUERY_INTVL => parse_u64(payload).map(
+                Self::MulticastStartupQueryInterval,
+            ),
+            IFLA_BR_NF_CALL_IPTABLES => parse_bool(payload).map(Self::NfCallIpTables),
+            IFLA_BR_NF_CALL_IP6TABLES => parse_bool(payload).map(Self::NfCallIp6Tables),
+            IFLA_BR_NF_CALL_ARPTABLES => parse_bool(payload).map(Self::NfCallArpTables),
+            IFLA_BR_VLAN_DEFAULT_PVID => parse_u16(payload).map(Self::VlanDefaultPvid),
+            IFLA_BR_VLAN_STATS_ENABLED => parse_bool(payload).map(Self::VlanStatsEnabled),
+            IFLA_BR_MCAST_STATS_ENABLED => parse_bool(payload).map(Self::MulticastStatsEnabled),
+            IFLA_BR_MCAST_IGMP_VERSION => parse_u8(payload).map(Self::MulticastIgmpVersion),
+            IFLA_BR_MCAST_MLD_VERSION => parse_u8(payload).map(Self::MulticastMldVersion),
+            IFLA_BR_VLAN_STATS_PER_PORT => parse_bool(payload).map(Self::VlanStatsPerPort),
+            IFLA_BR_MULTI_BOOLOPT => BridgeBooleanOptions::parse(payload).map(Self::MultiBoolOpt),
+            IFLA_BR_MCAST_QUERIER_STATE => read_nested(alloc, kind, payload).map(
+                Self::MulticastQuerierState,
+            ),
+            IFLA_BR_FDB_N_LEARNED => parse_u32(payload).map(Self::FdbNLearned),
+            IFLA_BR_FDB_MAX_LEARNED => parse_u32(payload).map(Self::FdbMaxLearned),
+            IFLA_BR_STP_MODE => parse_u32(payload).map(|n| Self::StpMode(n.into())),
+            _ => DefaultNla::parse(alloc, buffer).map(Self::Other),
+        }
+    }
+}
+
+impl Attribute for InfoBridge {
+    ghost use Rattle.std.specs.Prelude.{refl};
+    ghost use Rattle.link_base.proofs.TableLaws.{lawful};
+    ghost use Rattle.link_base.specs.Equality.{of_cases, anything, numbers, truths, octets, protocols, lists, defaults};
+    ghost use Rattle.link_bridge.specs.Bridge.{bridge_table};
+    ghost use Rattle.link_bridge.specs.BridgeEquality.{◌also◌, ids, options};
+    ghost use Rattle.link_bridge.specs.contracts.bridge.stp_state.BridgeStpStateNamedNumber.TheImpl.Laws.{
+      thorough-law as states,
+    };
+    ghost use Rattle.link_bridge.specs.contracts.bridge.stp_mode.BridgeStpModeNamedNumber.TheImpl.Laws.{
+      thorough-law as modes,
+    };
+    ghost use Rattle.link_bridge.specs.contracts.bridge.router_type.BridgeMulticastRouterTypeNamedNumber.TheImpl.Laws.{
+      thorough-law as routers,
+    };
+    ghost use Rattle.link_bridge.specs.contracts.bridge.querier.BridgeQuerierStateAttribute.TheImpl.Laws.{
+      thorough-law as queriers,
+    };
+    ghost use Rattle.link_bridge.specs.contracts.bridge.InfoBridge.{enum};
+
+    ghost lawful = { lawful bridge_table };
+
+    ghost well_formed = { refl };
+
+    ghost thorough = { of_cases enum _ _ (
+        anything octets also tt also anything numbers also anything numbers also anything numbers also
+        anything numbers also anything numbers also anything numbers also anything numbers also
+        anything numbers also anything numbers also anything numbers also anything numbers also
+        anything numbers also anything numbers also anything numbers also anything states also
+        anything numbers also anything numbers also anything numbers also anything numbers also
+        anything numbers also anything numbers also anything protocols also anything numbers also
+        anything ids also anything ids also anything numbers also anything numbers also anything truths also
+        anything numbers also anything numbers also anything routers also anything truths also
+        anything truths also anything truths also anything truths also anything truths also anything truths also
+        anything truths also anything truths also anything numbers also anything numbers also
+        anything truths also anything options also lists queriers also anything numbers also
+        anything numbers also anything modes also defaults also tt
+        ) };
+}

@@ -1,0 +1,90 @@
+//! The identifier of a bridge.
+
+ghost use Rattle.std.specs.Prelude.{◌≡◌, take, IfOk};
+ghost use Rattle.link_base.specs.Class.{accepted, AtLeast};
+ghost use Rattle.link_base.specs.Answers.{payload_result};
+ghost use Rattle.link_bridge.specs.Id.{id_of, id_octets};
+
+use link_base::{DecodeError, Emitable, check_at_least, emit_mac, emit_u16_be};
+
+/// The bytes of a written identifier.
+const SIZE: usize = 8;
+
+/// The identifier of a bridge in the spanning tree protocol (`struct ifla_bridge_id`, `include/uapi/linux/if_link.h`):
+/// a priority of two bytes, the highest first, and an address of six octets. A longer payload is read too, and what
+/// follows is ignored.
+#[derive(Clone, Copy, Debug, PartialEq, Eq)]
+pub struct BridgeId {
+    /// The priority: the lower, the sooner the bridge becomes the root.
+    pub priority: u16,
+    /// The hardware address of the bridge.
+    pub address: [u8; 6],
+}
+
+impl BridgeId {
+    /// The identifier at the front of a payload of at least eight bytes. Fails with `Payload` of `TooShort`.
+    pub fn parse(payload: &[u8]) -> Result<Self, DecodeError>
+        ensures value { result ≡ payload_result (accepted (AtLeast 8) id_of payload.now) }
+        ensures octets { IfOk result (λ id. id_octets id ≡ take 8 payload.now) }
+    {
+        check_at_least(payload, SIZE)?;
+        Ok(BridgeId {
+            priority: u16::from_be_bytes([payload[0], payload[1]]),
+            address: [
+                payload[2], payload[3], payload[4], payload[5], payload[6], payload[7],
+            ],
+        })
+    }
+}
+
+impl Emitable for BridgeId {
+    ghost octets = { id_octets };
+
+    ghost size = { 8 };
+
+    fn buffer_len(&self) -> usize {
+        2 + self.address.as_slice().len()
+    }
+
+    fn emit(&self, buffer: &mut [u8]) {
+        emit_u16_be(buffer, self.priority);
+        emit_mac(&mut buffer[2..], &self.address);
+    }
+}
+
+/// The octets of an identifier, as they are written.
+#[derive(Clone, Copy, Debug, PartialEq, Eq)]
+pub struct BridgeIdBuffer {
+    priority: [u8; 2],
+    address: [u8; 6],
+}
+
+/// The octets of the identifier.
+impl From<&BridgeId> for BridgeIdBuffer {
+    ghost use Rattle.link_bridge.specs.Id.{buffer_of};
+
+    ghost from_gives = { λ id buffer. buffer ≡ buffer_of id.now };
+
+    fn from(id: &BridgeId) -> Self {
+        BridgeIdBuffer {
+            priority: id.priority.to_be_bytes(),
+            address: id.address,
+        }
+    }
+}
+
+/// The identifier that has these octets.
+impl From<BridgeIdBuffer> for BridgeId {
+    ghost use Rattle.link_bridge.specs.Id.{id_of_buffer};
+
+    ghost from_gives = { λ buffer id. id ≡ id_of_buffer buffer };
+
+    fn from(buffer: BridgeIdBuffer) -> Self {
+        let priority = buffer.priority;
+        let address = buffer.address;
+        BridgeId {
+            priority: u16::from_be_bytes(priority),
+            address,
+        }
+    }
+}

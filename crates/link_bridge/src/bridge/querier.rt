@@ -1,0 +1,157 @@
+//! The multicast queriers that a bridge knows of.
+
+use link_base::{
+    Address, Attribute, DecodeError, DefaultNla, Meaning, NestedAttribute, Nla, NlaBuffer,
+    Parseable, TryClone, emit_u32, emit_u64, parse_address, parse_u32, parse_u64,
+};
+use std::alloc::{AllocError, Global};
+use std::net::{Ipv4Addr, Ipv6Addr};
+
+// `include/uapi/linux/if_bridge.h`
+const BRIDGE_QUERIER_IP_ADDRESS: u16 = 1;
+
+const BRIDGE_QUERIER_IP_PORT: u16 = 2;
+
+const BRIDGE_QUERIER_IP_OTHER_TIMER: u16 = 3;
+
+const BRIDGE_QUERIER_IPV6_ADDRESS: u16 = 5;
+
+const BRIDGE_QUERIER_IPV6_PORT: u16 = 6;
+
+const BRIDGE_QUERIER_IPV6_OTHER_TIMER: u16 = 7;
+
+/// What the kernel tells of the multicast queriers that a bridge knows of, one for IPv4 and one for IPv6
+/// (`BRIDGE_QUERIER_*`, `include/uapi/linux/if_bridge.h`). A clock tick is 1/100 second (`USER_HZ`).
+#[derive(Debug, PartialEq, Eq, Drop)]
+pub enum BridgeQuerierState {
+    /// The address of the querier of IGMP (`BRIDGE_QUERIER_IP_ADDRESS`, four octets).
+    Ipv4Address(Ipv4Addr),
+    /// The index of the port towards it, a network device (`BRIDGE_QUERIER_IP_PORT`, four bytes).
+    Ipv4Port(u32),
+    /// The time until it is taken to be gone, in clock ticks (`BRIDGE_QUERIER_IP_OTHER_TIMER`, eight bytes).
+    Ipv4OtherTimer(u64),
+    /// The address of the querier of MLD (`BRIDGE_QUERIER_IPV6_ADDRESS`, sixteen octets).
+    Ipv6Address(Ipv6Addr),
+    /// The index of the port towards it, a network device (`BRIDGE_QUERIER_IPV6_PORT`, four bytes).
+    Ipv6Port(u32),
+    /// The time until it is taken to be gone, in clock ticks (`BRIDGE_QUERIER_IPV6_OTHER_TIMER`, eight bytes).
+    Ipv6OtherTimer(u64),
+    /// An element of any other kind.
+    Other(DefaultNla),
+}
+
+impl TryClone for BridgeQuerierState {
+    #[tactic(auto, using(link_base::proofs::Copies::same_one_four, link_base::proofs::Copies::same_one_sixteen))]
+    fn try_clone(&self, alloc: Global) -> Result<Self, AllocError> {
+        match self {
+            BridgeQuerierState::Ipv4Address(address) => {
+                Ok(BridgeQuerierState::Ipv4Address(*address))
+            }
+            BridgeQuerierState::Ipv4Port(index) => Ok(BridgeQuerierState::Ipv4Port(*index)),
+            BridgeQuerierState::Ipv4OtherTimer(left) => Ok(BridgeQuerierState::Ipv4OtherTimer(
+                *left,
+            )),
+            BridgeQuerierState::Ipv6Address(address) => {
+                Ok(BridgeQuerierState::Ipv6Address(*address))
+            }
+            BridgeQuerierState::Ipv6Port(index) => Ok(BridgeQuerierState::Ipv6Port(*index)),
+            BridgeQuerierState::Ipv6OtherTimer(left) => Ok(BridgeQuerierState::Ipv6OtherTimer(
+                *left,
+            )),
+            BridgeQuerierState::Other(other) => Ok(BridgeQuerierState::Other(other.try_clone(
+                alloc,
+            )?)),
+        }
+    }
+}
+
+impl Meaning for BridgeQuerierState {
+    ghost use Rattle.link_base.specs.Lift.{lift, lift_table};
+    ghost use Rattle.link_bridge.specs.Querier.{querier_rows, querier_leaf};
+
+    ghost table = { lift_table querier_rows };
+
+    ghost means = { λ querier. lift (querier_leaf querier) };
+}
+
+impl Nla for BridgeQuerierState {
+    fn kind(&self) -> u16 {
+        match self {
+            BridgeQuerierState::Ipv4Address(_) => BRIDGE_QUERIER_IP_ADDRESS,
+            BridgeQuerierState::Ipv4Port(_) => BRIDGE_QUERIER_IP_PORT,
+            BridgeQuerierState::Ipv4OtherTimer(_) => BRIDGE_QUERIER_IP_OTHER_TIMER,
+            BridgeQuerierState::Ipv6Address(_) => BRIDGE_QUERIER_IPV6_ADDRESS,
+            BridgeQuerierState::Ipv6Port(_) => BRIDGE_QUERIER_IPV6_PORT,
+            BridgeQuerierState::Ipv6OtherTimer(_) => BRIDGE_QUERIER_IPV6_OTHER_TIMER,
+            BridgeQuerierState::Other(other) => other.kind(),
+        }
+    }
+
+    fn value_len(&self) -> usize {
+        match self {
+            BridgeQuerierState::Ipv4Address(_)
+            | BridgeQuerierState::Ipv4Port(_)
+            | BridgeQuerierState::Ipv6Port(_) => 4,
+            BridgeQuerierState::Ipv4OtherTimer(_) | BridgeQuerierState::Ipv6OtherTimer(_) => 8,
+            BridgeQuerierState::Ipv6Address(_) => 16,
+            BridgeQuerierState::Other(other) => other.value_len(),
+        }
+    }
+
+    fn emit_value(&self, buffer: &mut [u8]) {
+        match self {
+            BridgeQuerierState::Ipv4Address(address) => address.put(buffer),
+            BridgeQuerierState::Ipv4Port(index) => emit_u32(buffer, *index),
+            BridgeQuerierState::Ipv4OtherTimer(left) => emit_u64(buffer, *left),
+            BridgeQuerierState::Ipv6Address(address) => address.put(buffer),
+            BridgeQuerierState::Ipv6Port(index) => emit_u32(buffer, *index),
+            BridgeQuerierState::Ipv6OtherTimer(left) => emit_u64(buffer, *left),
+            BridgeQuerierState::Other(other) => other.emit_value(buffer),
+        }
+    }
+}
+
+impl Parseable for BridgeQuerierState {
+    fn parse_payload(alloc: Global, buffer: &NlaBuffer<'_>) -> Result<Self, DecodeError> {
+        let payload = buffer.value();
+        match buffer.kind() {
+            BRIDGE_QUERIER_IP_ADDRESS => parse_address(payload).map(Self::Ipv4Address),
+            BRIDGE_QUERIER_IP_PORT => parse_u32(payload).map(Self::Ipv4Port),
+            BRIDGE_QUERIER_IP_OTHER_TIMER => parse_u64(payload).map(Self::Ipv4OtherTimer),
+            BRIDGE_QUERIER_IPV6_ADDRESS => parse_address(payload).map(Self::Ipv6Address),
+            BRIDGE_QUERIER_IPV6_PORT => parse_u32(payload).map(Self::Ipv6Port),
+            BRIDGE_QUERIER_IPV6_OTHER_TIMER => parse_u64(payload).map(Self::Ipv6OtherTimer),
+            _ => DefaultNla::parse(alloc, buffer).map(Self::Other),
+        }
+    }
+}
+
+impl Attribute for BridgeQuerierState {
+    ghost use Rattle.std.specs.Prelude.{refl};
+    ghost use Rattle.link_base.proofs.TableLaws.{lawful};
+    ghost use Rattle.link_base.specs.Lift.{lift_table};
+    ghost use Rattle.link_bridge.specs.Querier.{querier_rows};
+    ghost use Rattle.link_base.specs.Equality.{of_cases, thorough_fields};
+    ghost use Rattle.link_bridge.specs.contracts.bridge.querier.BridgeQuerierState.{enum};
+
+    ghost lawful = { lawful (lift_table querier_rows) };
+
+    ghost well_formed = { refl };
+
+    ghost thorough = { of_cases enum _ _ (Prim.search (thorough_fields)) };
+}
+
+impl NestedAttribute for BridgeQuerierState {
+    ghost use Rattle.std.specs.Prelude.{true, refl};
+    ghost use Rattle.link_bridge.specs.Querier.{querier_rows, querier_leaf};
+
+    ghost rows = { querier_rows };
+
+    ghost flagged = { true };
+
+    ghost leaf = { querier_leaf };
+
+    ghost same_table = { refl };
+
+    ghost same_means = { λ _. refl };
+}

@@ -1,0 +1,135 @@
+//! Whether a multicast router is taken to be at a port.
+
+use link_base::{DecodeError, DecodeFault, NamedNumber};
+use std::fmt;
+use std::str::FromStr;
+
+// `include/uapi/linux/if_bridge.h`
+const MDB_RTR_TYPE_DISABLED: u8 = 0;
+
+const MDB_RTR_TYPE_TEMP_QUERY: u8 = 1;
+
+const MDB_RTR_TYPE_PERM: u8 = 2;
+
+const MDB_RTR_TYPE_TEMP: u8 = 3;
+
+/// Whether a multicast router is taken to be at a port or at the bridge itself, which then gets all multicast
+/// (`MDB_RTR_TYPE_*`, `include/uapi/linux/if_bridge.h`).
+#[derive(Clone, Copy, Debug, PartialEq, Eq)]
+pub enum BridgeMulticastRouterType {
+    /// Never (`MDB_RTR_TYPE_DISABLED`, 0).
+    Disabled,
+    /// For some time after each query of a router (`MDB_RTR_TYPE_TEMP_QUERY`, 1).
+    TempQuery,
+    /// Always (`MDB_RTR_TYPE_PERM`, 2).
+    Permanent,
+    /// For some time, which each setting begins anew (`MDB_RTR_TYPE_TEMP`, 3).
+    Temp,
+    /// Any other number.
+    Other(u8),
+}
+
+impl BridgeMulticastRouterType {
+    /// `TempQuery`, by the name that is displayed.
+    pub const Auto: BridgeMulticastRouterType = BridgeMulticastRouterType::TempQuery;
+}
+
+impl NamedNumber for BridgeMulticastRouterType {
+    ghost use Rattle.std.specs.Prelude.{refl};
+    ghost use Rattle.link_base.specs.Equality.{of_cases, thorough_fields};
+    ghost use Rattle.link_bridge.specs.contracts.bridge.router_type.BridgeMulticastRouterType.{enum};
+    ghost use Rattle.link_bridge.specs.RouterType.{router_type_names, router_type_seen, router_type_cases};
+
+    ghost names = { router_type_names };
+
+    ghost seen = { router_type_seen };
+
+    ghost cases_hold = { (refl, (refl, (refl, (refl, tt)))) };
+
+    ghost other_holds = { λ _. refl };
+
+    ghost no_more = { router_type_cases };
+
+    ghost well_named = { refl };
+
+    ghost thorough = { of_cases enum _ _ (Prim.search (thorough_fields)) };
+}
+
+/// The case of a number, `Other` where it has no name.
+impl From<u8> for BridgeMulticastRouterType {
+    ghost use Rattle.std.specs.Prelude.{◌≡◌};
+    ghost use Rattle.link_base.specs.Named.{value_of};
+
+    ghost from_gives = { λ d v. v ≡ value_of ⟦<BridgeMulticastRouterType as NamedNumber>⟧.names d };
+
+    fn from(number: u8) -> Self {
+        match number {
+            MDB_RTR_TYPE_DISABLED => BridgeMulticastRouterType::Disabled,
+            MDB_RTR_TYPE_TEMP_QUERY => BridgeMulticastRouterType::TempQuery,
+            MDB_RTR_TYPE_PERM => BridgeMulticastRouterType::Permanent,
+            MDB_RTR_TYPE_TEMP => BridgeMulticastRouterType::Temp,
+            _ => BridgeMulticastRouterType::Other(number),
+        }
+    }
+}
+
+/// The number of a case.
+impl From<BridgeMulticastRouterType> for u8 {
+    ghost use Rattle.std.specs.Prelude.{◌≡◌};
+    ghost use Rattle.link_base.specs.Named.{number_of};
+
+    ghost from_gives = { λ v d. d ≡ number_of (⟦<BridgeMulticastRouterType as NamedNumber>⟧.seen v) };
+
+    fn from(value: BridgeMulticastRouterType) -> u8 {
+        match value {
+            BridgeMulticastRouterType::Disabled => MDB_RTR_TYPE_DISABLED,
+            BridgeMulticastRouterType::TempQuery => MDB_RTR_TYPE_TEMP_QUERY,
+            BridgeMulticastRouterType::Permanent => MDB_RTR_TYPE_PERM,
+            BridgeMulticastRouterType::Temp => MDB_RTR_TYPE_TEMP,
+            BridgeMulticastRouterType::Other(number) => number,
+        }
+    }
+}
+
+/// The name, as `permanent`, and `auto` for `TempQuery`; the number where it has none.
+impl fmt::Display for BridgeMulticastRouterType {
+    ghost use Rattle.std.specs.Prelude.{Some};
+    ghost use Rattle.link_base.specs.Named.{displayed};
+
+    ghost output = { λ v. Some (displayed ⟦<BridgeMulticastRouterType as NamedNumber>⟧.names
+        (⟦<BridgeMulticastRouterType as NamedNumber>⟧.seen v)) };
+
+    fn fmt<W: fmt::Write>(&self, f: &mut fmt::Formatter<W>) -> fmt::Result {
+        match self {
+            BridgeMulticastRouterType::Disabled => f.write_str("disabled"),
+            BridgeMulticastRouterType::TempQuery => f.write_str("auto"),
+            BridgeMulticastRouterType::Permanent => f.write_str("permanent"),
+            BridgeMulticastRouterType::Temp => f.write_str("temp"),
+            BridgeMulticastRouterType::Other(number) => write!(f, "{number}"),
+        }
+    }
+}
+
+/// Reads a displayed name, `temp_query` for `TempQuery`, or any number of 8 bits: digits, with zeros in front or none,
+/// and at most one `+` before them. Fails with `Text` for every other text.
+impl FromStr for BridgeMulticastRouterType {
+    type Err = DecodeError;
+
+    ghost use Rattle.link_base.specs.Named.{ReadsText};
+
+    ghost from_str_gives = { λ text result. ReadsText ⟦<BridgeMulticastRouterType as NamedNumber>⟧.names text result };
+
+    #[tactic(auto, using(link_base::proofs::Naming::parsed_number, link_base::proofs::Naming::parsed_none))]
+    fn from_str(text: &str) -> Result<Self, DecodeError> {
+        match text {
+            "disabled" => Ok(BridgeMulticastRouterType::Disabled),
+            "auto" | "temp_query" => Ok(BridgeMulticastRouterType::TempQuery),
+            "permanent" => Ok(BridgeMulticastRouterType::Permanent),
+            "temp" => Ok(BridgeMulticastRouterType::Temp),
+            _ => match text.parse::<u8>() {
+                Ok(number) => Ok(number.into()),
+                Err(_) => Err(DecodeError::Fault(DecodeFault::Text)),
+            },
+        }
+    }
+}

@@ -1,0 +1,123 @@
+//! Who is to run the spanning tree protocol of a bridge.
+
+use link_base::{DecodeError, DecodeFault, NamedNumber};
+use std::fmt;
+use std::str::FromStr;
+
+// `include/uapi/linux/if_link.h`
+const BR_STP_MODE_AUTO: u32 = 0;
+
+const BR_STP_MODE_USER: u32 = 1;
+
+const BR_STP_MODE_KERNEL: u32 = 2;
+
+/// Who is to run the spanning tree protocol of a bridge once it is turned on (`BR_STP_MODE_*`,
+/// `include/uapi/linux/if_link.h`).
+#[derive(Clone, Copy, Debug, PartialEq, Eq)]
+pub enum BridgeStpMode {
+    /// A program in user space where the helper `/sbin/bridge-stp` starts one, and else the kernel
+    /// (`BR_STP_MODE_AUTO`, 0).
+    Auto,
+    /// A program in user space; no helper is asked (`BR_STP_MODE_USER`, 1).
+    User,
+    /// The kernel; no helper is asked (`BR_STP_MODE_KERNEL`, 2).
+    Kernel,
+    /// Any other number.
+    Other(u32),
+}
+
+impl NamedNumber for BridgeStpMode {
+    ghost use Rattle.std.specs.Prelude.{refl};
+    ghost use Rattle.link_base.specs.Equality.{of_cases, thorough_fields};
+    ghost use Rattle.link_bridge.specs.contracts.bridge.stp_mode.BridgeStpMode.{enum};
+    ghost use Rattle.link_bridge.specs.StpMode.{stp_mode_names, stp_mode_seen, stp_mode_cases};
+
+    ghost names = { stp_mode_names };
+
+    ghost seen = { stp_mode_seen };
+
+    ghost cases_hold = { (refl, (refl, (refl, tt))) };
+
+    ghost other_holds = { λ _. refl };
+
+    ghost no_more = { stp_mode_cases };
+
+    ghost well_named = { refl };
+
+    ghost thorough = { of_cases enum _ _ (Prim.search (thorough_fields)) };
+}
+
+/// The case of a number, `Other` where it has no name.
+impl From<u32> for BridgeStpMode {
+    ghost use Rattle.std.specs.Prelude.{◌≡◌};
+    ghost use Rattle.link_base.specs.Named.{value_of};
+
+    ghost from_gives = { λ d v. v ≡ value_of ⟦<BridgeStpMode as NamedNumber>⟧.names d };
+
+    fn from(number: u32) -> Self {
+        match number {
+            BR_STP_MODE_AUTO => BridgeStpMode::Auto,
+            BR_STP_MODE_USER => BridgeStpMode::User,
+            BR_STP_MODE_KERNEL => BridgeStpMode::Kernel,
+            _ => BridgeStpMode::Other(number),
+        }
+    }
+}
+
+/// The number of a case.
+impl From<BridgeStpMode> for u32 {
+    ghost use Rattle.std.specs.Prelude.{◌≡◌};
+    ghost use Rattle.link_base.specs.Named.{number_of};
+
+    ghost from_gives = { λ v d. d ≡ number_of (⟦<BridgeStpMode as NamedNumber>⟧.seen v) };
+
+    fn from(value: BridgeStpMode) -> u32 {
+        match value {
+            BridgeStpMode::Auto => BR_STP_MODE_AUTO,
+            BridgeStpMode::User => BR_STP_MODE_USER,
+            BridgeStpMode::Kernel => BR_STP_MODE_KERNEL,
+            BridgeStpMode::Other(number) => number,
+        }
+    }
+}
+
+/// The name, as `kernel`; the number where it has none.
+impl fmt::Display for BridgeStpMode {
+    ghost use Rattle.std.specs.Prelude.{Some};
+    ghost use Rattle.link_base.specs.Named.{displayed};
+
+    ghost output = { λ v. Some (displayed ⟦<BridgeStpMode as NamedNumber>⟧.names
+        (⟦<BridgeStpMode as NamedNumber>⟧.seen v)) };
+
+    fn fmt<W: fmt::Write>(&self, f: &mut fmt::Formatter<W>) -> fmt::Result {
+        match self {
+            BridgeStpMode::Auto => f.write_str("auto"),
+            BridgeStpMode::User => f.write_str("user"),
+            BridgeStpMode::Kernel => f.write_str("kernel"),
+            BridgeStpMode::Other(number) => write!(f, "{number}"),
+        }
+    }
+}
+
+/// Reads a displayed name, or any number of 32 bits: digits, with zeros in front or none, and at most one `+` before
+/// them. Fails with `Text` for every other text.
+impl FromStr for BridgeStpMode {
+    type Err = DecodeError;
+
+    ghost use Rattle.link_base.specs.Named.{ReadsText};
+
+    ghost from_str_gives = { λ text result. ReadsText ⟦<BridgeStpMode as NamedNumber>⟧.names text result };
+
+    #[tactic(auto, using(link_base::proofs::Naming::parsed_number, link_base::proofs::Naming::parsed_none))]
+    fn from_str(text: &str) -> Result<Self, DecodeError> {
+        match text {
+            "auto" => Ok(BridgeStpMode::Auto),
+            "user" => Ok(BridgeStpMode::User),
+            "kernel" => Ok(BridgeStpMode::Kernel),
+            _ => match text.parse::<u32>() {
+                Ok(number) => Ok(number.into()),
+                Err(_) => Err(DecodeError::Fault(DecodeFault::Text)),
+            },
+        }
+    }
+}

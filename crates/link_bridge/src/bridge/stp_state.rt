@@ -1,0 +1,121 @@
+//! Who runs the spanning tree protocol of a bridge.
+
+use link_base::{DecodeError, DecodeFault, NamedNumber};
+use std::fmt;
+use std::str::FromStr;
+
+// `net/bridge/br_private.h`
+const BR_NO_STP: u32 = 0;
+
+const BR_KERNEL_STP: u32 = 1;
+
+const BR_USER_STP: u32 = 2;
+
+/// Who runs the spanning tree protocol of a bridge (`BR_NO_STP` and the others, `net/bridge/br_private.h`).
+#[derive(Clone, Copy, Debug, PartialEq, Eq)]
+pub enum BridgeStpState {
+    /// Nobody: the protocol is off (`BR_NO_STP`, 0).
+    Disabled,
+    /// The kernel (`BR_KERNEL_STP`, 1).
+    KernelStp,
+    /// A program in user space (`BR_USER_STP`, 2).
+    UserStp,
+    /// Any other number.
+    Other(u32),
+}
+
+impl NamedNumber for BridgeStpState {
+    ghost use Rattle.std.specs.Prelude.{refl};
+    ghost use Rattle.link_base.specs.Equality.{of_cases, thorough_fields};
+    ghost use Rattle.link_bridge.specs.contracts.bridge.stp_state.BridgeStpState.{enum};
+    ghost use Rattle.link_bridge.specs.StpState.{stp_state_names, stp_state_seen, stp_state_cases};
+
+    ghost names = { stp_state_names };
+
+    ghost seen = { stp_state_seen };
+
+    ghost cases_hold = { (refl, (refl, (refl, tt))) };
+
+    ghost other_holds = { λ _. refl };
+
+    ghost no_more = { stp_state_cases };
+
+    ghost well_named = { refl };
+
+    ghost thorough = { of_cases enum _ _ (Prim.search (thorough_fields)) };
+}
+
+/// The case of a number, `Other` where it has no name.
+impl From<u32> for BridgeStpState {
+    ghost use Rattle.std.specs.Prelude.{◌≡◌};
+    ghost use Rattle.link_base.specs.Named.{value_of};
+
+    ghost from_gives = { λ d v. v ≡ value_of ⟦<BridgeStpState as NamedNumber>⟧.names d };
+
+    fn from(number: u32) -> Self {
+        match number {
+            BR_NO_STP => BridgeStpState::Disabled,
+            BR_KERNEL_STP => BridgeStpState::KernelStp,
+            BR_USER_STP => BridgeStpState::UserStp,
+            _ => BridgeStpState::Other(number),
+        }
+    }
+}
+
+/// The number of a case.
+impl From<BridgeStpState> for u32 {
+    ghost use Rattle.std.specs.Prelude.{◌≡◌};
+    ghost use Rattle.link_base.specs.Named.{number_of};
+
+    ghost from_gives = { λ v d. d ≡ number_of (⟦<BridgeStpState as NamedNumber>⟧.seen v) };
+
+    fn from(value: BridgeStpState) -> u32 {
+        match value {
+            BridgeStpState::Disabled => BR_NO_STP,
+            BridgeStpState::KernelStp => BR_KERNEL_STP,
+            BridgeStpState::UserStp => BR_USER_STP,
+            BridgeStpState::Other(number) => number,
+        }
+    }
+}
+
+/// The name, as `kernel_stp`; the number where it has none.
+impl fmt::Display for BridgeStpState {
+    ghost use Rattle.std.specs.Prelude.{Some};
+    ghost use Rattle.link_base.specs.Named.{displayed};
+
+    ghost output = { λ v. Some (displayed ⟦<BridgeStpState as NamedNumber>⟧.names
+        (⟦<BridgeStpState as NamedNumber>⟧.seen v)) };
+
+    fn fmt<W: fmt::Write>(&self, f: &mut fmt::Formatter<W>) -> fmt::Result {
+        match self {
+            BridgeStpState::Disabled => f.write_str("no"),
+            BridgeStpState::KernelStp => f.write_str("kernel_stp"),
+            BridgeStpState::UserStp => f.write_str("user_stp"),
+            BridgeStpState::Other(number) => write!(f, "{number}"),
+        }
+    }
+}
+
+/// Reads a displayed name, or any number of 32 bits: digits, with zeros in front or none, and at most one `+` before
+/// them. Fails with `Text` for every other text.
+impl FromStr for BridgeStpState {
+    type Err = DecodeError;
+
+    ghost use Rattle.link_base.specs.Named.{ReadsText};
+
+    ghost from_str_gives = { λ text result. ReadsText ⟦<BridgeStpState as NamedNumber>⟧.names text result };
+
+    #[tactic(auto, using(link_base::proofs::Naming::parsed_number, link_base::proofs::Naming::parsed_none))]
+    fn from_str(text: &str) -> Result<Self, DecodeError> {
+        match text {
+            "no" => Ok(BridgeStpState::Disabled),
+            "kernel_stp" => Ok(BridgeStpState::KernelStp),
+            "user_stp" => Ok(BridgeStpState::UserStp),
+            _ => match text.parse::<u32>() {
+                Ok(number) => Ok(number.into()),
+                Err(_) => Err(DecodeError::Fault(DecodeFault::Text)),
+            },
+        }
+    }
+}

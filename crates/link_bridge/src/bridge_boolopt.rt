@@ -1,0 +1,55 @@
+//! The boolean options of a bridge.
+
+ghost use Rattle.std.specs.Prelude.{◌≡◌, take, IfOk};
+ghost use Rattle.link_base.specs.Class.{accepted, Fixed};
+ghost use Rattle.link_base.specs.Answers.{payload_result};
+ghost use Rattle.link_bridge.specs.BooleanOptions.{options_of, options_octets};
+
+mod flags;
+
+use bitflags::Flags;
+pub use flags::BridgeBooleanOptionFlags;
+use link_base::{DecodeError, Emitable, check_length, emit_u32s, u32s_at};
+
+/// The bytes of written options.
+const SIZE: usize = 8;
+
+/// Boolean options of a bridge, many at a time (`struct br_boolopt_multi`, `include/uapi/linux/if_bridge.h`): two sets
+/// of four bytes. Any other length is refused.
+#[derive(Clone, Copy, Debug, PartialEq, Eq)]
+pub struct BridgeBooleanOptions {
+    /// The options that are on (`optval`).
+    pub value: BridgeBooleanOptionFlags,
+    /// The options that a request changes (`optmask`); where the kernel reports, those that it knows.
+    pub mask: BridgeBooleanOptionFlags,
+}
+
+impl BridgeBooleanOptions {
+    /// The options of a payload of eight bytes. Fails with `Payload`, of `TooShort` where it has fewer and of
+    /// `WrongLength` where it has more.
+    pub fn parse(payload: &[u8]) -> Result<Self, DecodeError>
+        ensures value { result ≡ payload_result (accepted (Fixed 8) options_of payload.now) }
+        ensures octets { IfOk result (λ options. options_octets options ≡ take 8 payload.now) }
+    {
+        check_length(payload, SIZE)?;
+        let [value, mask] = u32s_at::<2>(payload, 0);
+        Ok(BridgeBooleanOptions {
+            value: BridgeBooleanOptionFlags::from_bits_retain(value),
+            mask: BridgeBooleanOptionFlags::from_bits_retain(mask),
+        })
+    }
+}
+
+impl Emitable for BridgeBooleanOptions {
+    ghost octets = { options_octets };
+
+    ghost size = { 8 };
+
+    fn buffer_len(&self) -> usize {
+        SIZE
+    }
+
+    fn emit(&self, buffer: &mut [u8]) {
+        emit_u32s(buffer, &[self.value.bits(), self.mask.bits()]);
+    }
+}
