@@ -111,16 +111,10 @@ fn can_modes(rt: HostRuntime) {
 fn calls<F: Flags<Bits = u32> + Copy + PartialEq>(rt: &impl Abort) {
     let a = F::from_bits_retain(0x8000_0003);
     let b = F::from_bits_retain(0x5);
-    are_bits(
-        rt,
-        &[
-            (a.union(b), 0x8000_0007),
-            (a.intersection(b), 0x1),
-            (a.difference(b), 0x8000_0002),
-            (a.symmetric_difference(b), 0x8000_0006),
-            (a.complement(), 0x7FFF_FFFC),
-        ],
-    );
+    assert!(rt; a.union(b).bits() == 0x8000_0007 && a.intersection(b).bits() == 0x1);
+    assert!(rt; a.difference(b).bits() == 0x8000_0002);
+    assert!(rt; a.symmetric_difference(b).bits() == 0x8000_0006);
+    assert!(rt; a.complement().bits() == 0x7FFF_FFFC);
     let mut set = a;
     set.insert(b);
     assert!(rt; set == a.union(b) && set.contains(b) && !a.contains(b));

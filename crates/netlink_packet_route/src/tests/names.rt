@@ -19,11 +19,22 @@ fn are_shown<N: Copy + PartialEq, T: Copy + PartialEq + From<N> + Into<N> + Disp
     rows: &[(N, T, &str)],
 ) {
     for (number, value, text) in rows {
-        let back: N = (*value).into();
-        let shown = format!(in alloc; "{value}").expect(rt, text);
-        let is_number = T::from(*number) == *value && back == *number;
-        holds(rt, is_number && shown.as_str() == *text, text);
+        is_shown(rt, alloc, *number, *value, text);
     }
+}
+
+/// The number is this value, which is displayed so.
+fn is_shown<N: Copy + PartialEq, T: Copy + PartialEq + From<N> + Into<N> + Display>(
+    rt: &impl Abort,
+    alloc: Global,
+    number: N,
+    value: T,
+    text: &str,
+) {
+    let back: N = value.into();
+    let shown = format!(in alloc; "{value}").expect(rt, text);
+    let is_number = T::from(number) == value && back == number;
+    holds(rt, is_number && shown.as_str() == text, text);
 }
 
 /// Each number is the value beside it, which is displayed as the first text and read from both.
@@ -32,7 +43,7 @@ fn are_named<
     T: Copy + PartialEq + From<N> + Into<N> + Display + FromStr<Err = DecodeError>,
 >(rt: &impl Abort, alloc: Global, rows: &[(N, T, &str, &str)]) {
     for (number, value, text, other) in rows {
-        are_shown(rt, alloc, &[(*number, *value, *text)]);
+        is_shown(rt, alloc, *number, *value, text);
         let is_read = T::from_str(text) == Ok(*value) && T::from_str(other) == Ok(*value);
         holds(rt, is_read, text);
     }
@@ -331,7 +342,7 @@ fn are_told<
 >(rt: &impl Abort, alloc: Global, rows: &[(N, T, &str)]) {
     are_shown(rt, alloc, rows);
     for (_, value, text) in rows {
-        are_read(rt, &[(*text, *value)]);
+        holds(rt, T::from_str(text) == Ok(*value), text);
     }
 }
 
