@@ -11,14 +11,16 @@ use Rattle.netlink_packet_route.specs.Report.{line, fault_line, is_space, digits
 
 -- ---- a line
 
--- a line that is passed over: nothing but white space, or a comment
+-- nothing but white space
 abbrev pub IsBlank : List ℕ → Type 0
 IsBlank text = AllByRecursion (λ b. is_space b ≡ true) text
 
+-- `#` stands first
 abbrev pub IsComment : List ℕ → Type 0
 IsComment [] = ⊥
 IsComment (b ∷ text) = b ≡ 35
 
+-- no list is asked for
 abbrev pub IsPassedOver : List ℕ → Type 0
 IsPassedOver text = IsComment text ⊎ IsBlank text
 
@@ -41,17 +43,18 @@ IsNoFamily name = (family : Family) → name ≢ family_name family
 abbrev pub AreIndented : List ℕ → ℕ → Type 0
 AreIndented out n = (words : List (List ℕ)) × (length words ≡ n) × (out ≡ flat_map (λ w. line (codes "  " ++ w)) words)
 
--- what stands below the line of a list, and whether the list was read: an indented line for each value, or the first fault
+-- what is written below the line of a list, and whether the list was read: an indented line for each value, or a line for
+-- the first fault
 pub data ShowsList (table : Table) (s out : List ℕ) (read : Bool) : Type 0 where
   Values : (vs : List AttrValue) → Wire (Gives table) s vs → AreIndented out (length vs) → read ≡ true → ShowsList table s out read
   Fault : (at : ℕ) (fault : _) → FirstFault (Gives table) s at fault → out ≡ fault_line at fault → read ≡ false → ShowsList table s out read
 
--- the same for digits: that of their bytes, or that they are no hex text
+-- the same for the text of a list: that of the bytes that its digits are, or that they are no hex text
 abbrev pub ShowsDigits : Table → Result (List ℕ) FromHexError → List ℕ → Bool → Type 0
 ShowsDigits table (Ok s) out read = ShowsList table s out read
 ShowsDigits table (Err e) out read = (out ≡ line (codes "bad hex")) × (read ≡ false)
 
--- the same for a line
+-- the same for a line: a family's name and the text of a list, or a name that is no family's
 pub data ShowsBelow (text out : List ℕ) (read : Bool) : Type 0 where
   Known : (family : Family) (rest : List ℕ) → IsNamed text (family_name family) rest → ShowsDigits (table_of family) (decode_of (digits_of rest)) out read → ShowsBelow text out read
   Unknown : (name rest : List ℕ) → IsNamed text name rest → IsNoFamily name → out ≡ line (codes "no such family") → read ≡ false → ShowsBelow text out read
