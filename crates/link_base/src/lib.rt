@@ -34,7 +34,9 @@ pub use iterator::NlasIterator;
 pub use list::read_list;
 pub use named::NamedNumber;
 pub use nested::{NestedAttribute, emit_nested, nested_len, read_nested};
-pub use records::{check_at_least, check_length, emit_u32s, u16_at, u32_at, u32s_at};
+pub use records::{
+    check_at_least, check_exactly, check_length, emit_u32s, u16_at, u32_at, u32s_at,
+};
 pub use scalars::{
     emit_i32, emit_low, emit_mac, emit_u8, emit_u16, emit_u16_be, emit_u32, emit_u32_pair,
     emit_u64, parse_bool, parse_i32, parse_ip, parse_low, parse_mac, parse_u8, parse_u16,

@@ -2,13 +2,13 @@
 
 ghost use Rattle.std.specs.Prelude.{◌≡◌, ◌≤◌, ◌+◌, ◌*◌, length, take, drop};
 ghost use Rattle.link_base.specs.Number.{bytes_of};
-ghost use Rattle.link_base.specs.Class.{accepted, AtLeast, Fixed};
+ghost use Rattle.link_base.specs.Class.{accepted, AtLeast, Exactly, Fixed};
 ghost use Rattle.link_base.specs.Layout.{number_at, numbers_at, octets_of};
 ghost use Rattle.link_base.specs.Held.{IsOctets};
 ghost use Rattle.link_base.specs.Answers.{payload_result, OverwritesFront};
 
 use crate::fault::{Cause, DecodeError, DecodeFault};
-use crate::scalars::emit_u32;
+use crate::scalars::{emit_u32, wrong_length};
 
 /// Checks that a payload has at least `want` bytes. Fails with `Payload` of `TooShort`.
 pub fn check_at_least(payload: &[u8], want: usize) -> Result<(), DecodeError>
@@ -28,10 +28,16 @@ pub fn check_length(payload: &[u8], want: usize) -> Result<(), DecodeError>
     ensures { result ≡ payload_result (accepted (Fixed want) (λ _. tt) payload.now) }
 {
     check_at_least(payload, want)?;
+    check_exactly(payload, want)
+}
+
+/// Checks that a payload has exactly `want` bytes. Fails with `Payload` of `WrongLength`, for fewer bytes too.
+pub fn check_exactly(payload: &[u8], want: usize) -> Result<(), DecodeError>
+    ensures { result ≡ payload_result (accepted (Exactly want) (λ _. tt) payload.now) }
+{
     let got = payload.len();
-    if got > want {
-        let cause = Cause::WrongLength { want, got };
-        return Err(DecodeError::Fault(DecodeFault::Payload(cause)));
+    if got != want {
+        return Err(wrong_length(want, got));
     }
     Ok(())
 }

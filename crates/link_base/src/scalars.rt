@@ -17,7 +17,7 @@ ghost use Rattle.link_base.specs.Answers.{payload_result, refused, OverwritesFro
 use crate::fault::{Cause, DecodeError, DecodeFault};
 use std::net::{IpAddr, Ipv4Addr, Ipv6Addr};
 
-fn wrong_length(want: usize, got: usize) -> DecodeError
+pub(crate) fn wrong_length(want: usize, got: usize) -> DecodeError
     ensures { result ≡ refused (WrongLength want got) }
 {
     DecodeError::Fault(DecodeFault::Payload(Cause::WrongLength { want, got }))

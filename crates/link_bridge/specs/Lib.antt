@@ -4,5 +4,13 @@ pub mod RouterType
 pub mod Id
 pub mod BooleanOptions
 pub mod Querier
+pub mod PortState
+pub mod Flag
+pub mod Mode
+pub mod VlanInfo
+pub mod TunnelInfo
 pub mod BridgeEquality
 pub mod Bridge
+pub mod BridgePort
+pub mod AfSpec
+pub mod ProtoInfo

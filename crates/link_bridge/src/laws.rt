@@ -1,17 +1,27 @@
-//! The bits of the named flags, the default set, a constant by another name, and the conversions of an identifier.
+//! The bits of the named flags, constants, conversions that are inverse, and what `==` of the two list types says.
 //! Nothing here runs.
 
-ghost use Rattle.std.specs.Prelude.{◌≡◌, ◌<◌, ◌^◌, ◌↔◌};
+ghost use Rattle.std.specs.Prelude.{◌≡◌, ◌<◌, ◌^◌, ◌↔◌, ℕ, List, map, IsTrue};
 ghost use Rattle.link_base.specs.Held.{IsOctets};
 ghost use Rattle.link_bridge.specs.BooleanOptions.{option_bits};
 ghost use Rattle.link_bridge.specs.Id.{buffer_of, id_of_buffer, priority_octets};
+ghost use Rattle.link_bridge.specs.VlanInfo.{vlan_info_bits, vlan_info_of, vlan_info_octets};
+ghost use Rattle.link_bridge.specs.AfSpec.{af_spec_means};
+ghost use Rattle.link_bridge.specs.ProtoInfo.{proto_info_means};
+ghost use Rattle.link_bridge.specs.declared.af_spec.VecAfSpecBridge.{VecAfSpecBridge};
+ghost use Rattle.link_bridge.specs.declared.af_spec.vlan_info.BridgeVlanInfo.{BridgeVlanInfo};
+ghost use Rattle.link_bridge.specs.declared.proto_info.VecLinkProtoInfoBridge.{VecLinkProtoInfoBridge};
 ghost use Rattle.link_bridge.specs.declared.bridge.id.BridgeId.{BridgeId};
 ghost use Rattle.link_bridge.specs.declared.bridge.id.BridgeIdBuffer.{BridgeIdBuffer};
 ghost use Rattle.link_bridge.specs.declared.bridge.router_type.BridgeMulticastRouterType.TheVariants.{TempQuery};
 ghost use Rattle.link_bridge.specs.declared.bridge_boolopt.flags.BridgeBooleanOptionFlags.{BridgeBooleanOptionFlags};
 
+use crate::af_spec::{
+    BridgeFlag, BridgeMode, BridgeVlanInfo, BridgeVlanInfoFlags, VecAfSpecBridge,
+};
 use crate::bridge::BridgeMulticastRouterType;
 use crate::bridge_boolopt::BridgeBooleanOptionFlags;
+use crate::proto_info::VecLinkProtoInfoBridge;
 
 /// The bits of the boolean options of a bridge (`BR_BOOLOPT_*`, `include/uapi/linux/if_bridge.h`).
 pub fn boolean_option_bits()
@@ -20,6 +30,17 @@ pub fn boolean_option_bits()
     ensures mst_enable { option_bits BridgeBooleanOptionFlags.MstEnable ≡ 0x4 }
     ensures mdb_offload_fail_notif { option_bits BridgeBooleanOptionFlags.MdbOffloadFailNotif ≡ 0x8 }
     ensures fdb_local_vlan_0 { option_bits BridgeBooleanOptionFlags.FdbLocalVlan0 ≡ 0x10 }
+{}
+
+/// The bits of the flags of a VLAN of a bridge (`BRIDGE_VLAN_INFO_*`, `include/uapi/linux/if_bridge.h`).
+pub fn vlan_info_flag_bits()
+    ensures controller { vlan_info_bits BridgeVlanInfoFlags.Controller ≡ 0x1 }
+    ensures pvid { vlan_info_bits BridgeVlanInfoFlags.Pvid ≡ 0x2 }
+    ensures untagged { vlan_info_bits BridgeVlanInfoFlags.Untagged ≡ 0x4 }
+    ensures range_begin { vlan_info_bits BridgeVlanInfoFlags.RangeBegin ≡ 0x8 }
+    ensures range_end { vlan_info_bits BridgeVlanInfoFlags.RangeEnd ≡ 0x10 }
+    ensures brentry { vlan_info_bits BridgeVlanInfoFlags.Brentry ≡ 0x20 }
+    ensures only_opts { vlan_info_bits BridgeVlanInfoFlags.OnlyOpts ≡ 0x40 }
 {}
 
 /// The default set of boolean options has no bits.
@@ -33,10 +54,34 @@ pub fn auto_router()
     ensures { BridgeMulticastRouterType.Auto ≡ TempQuery }
 {}
 
+/// How many bytes the payloads of these types have.
+pub fn payload_lengths()
+    ensures flag { BridgeFlag.LENGTH ≡ 2 }
+    ensures mode { BridgeMode.LENGTH ≡ 2 }
+    ensures vlan_info_flags { BridgeVlanInfoFlags.LENGTH ≡ 2 }
+    ensures vlan_info { BridgeVlanInfo.LENGTH ≡ 4 }
+{}
+
 /// The two conversions of the identifier of a bridge are inverse: for every priority of 16 bits, and for any two octets
 /// of a priority.
 pub fn bridge_id_back()
     ensures id { (id : BridgeId) → id.priority < 2 ^ 16 → id_of_buffer (buffer_of id) ≡ id }
     ensures buffer { (buffer : BridgeIdBuffer) → IsOctets 2 (priority_octets buffer)
         → buffer_of (id_of_buffer buffer) ≡ buffer }
+{}
+
+/// The two conversions of a VLAN are inverse: for every set of flags and every identifier of 16 bits, and for any four
+/// bytes.
+pub fn vlan_info_back()
+    ensures info { (info : BridgeVlanInfo) → vlan_info_bits info.flags < 2 ^ 16 → info.vid < 2 ^ 16
+        → vlan_info_of (vlan_info_octets info) ≡ info }
+    ensures bytes { (bytes : List ℕ) → IsOctets 4 bytes → vlan_info_octets (vlan_info_of bytes) ≡ bytes }
+{}
+
+/// Lists that are equal by `==` stand for the same attributes, one by one.
+pub fn equality_of_lists()
+    ensures af_spec { (a b : VecAfSpecBridge) → IsTrue (⟦<VecAfSpecBridge as PartialEq>⟧.eq a b)
+        → map af_spec_means a.0.items ≡ map af_spec_means b.0.items }
+    ensures proto_info { (a b : VecLinkProtoInfoBridge) → IsTrue (⟦<VecLinkProtoInfoBridge as PartialEq>⟧.eq a b)
+        → map proto_info_means a.0.items ≡ map proto_info_means b.0.items }
 {}

@@ -24,6 +24,10 @@ pub use Rattle.link_bond.specs.BondPort
 pub use Rattle.link_bridge.specs.Bridge
 pub use Rattle.link_bridge.specs.Id
 pub use Rattle.link_bridge.specs.BooleanOptions
+pub use Rattle.link_bridge.specs.BridgePort
+pub use Rattle.link_bridge.specs.VlanInfo
+pub use Rattle.link_bridge.specs.AfSpec
+pub use Rattle.link_bridge.specs.ProtoInfo
 pub use Rattle.link_vlan_can.specs.Vlan
 pub use Rattle.link_vlan_can.specs.Can
 pub use Rattle.link_vlan_can.specs.Dsa

@@ -5,12 +5,17 @@ ghost use Rattle.std.specs.Prelude.{◌≡◌, ◌≢◌, ◌↔◌, IfSome, IfN
 /// A family of link attributes: which kinds it knows, and what their payloads are.
 #[derive(Clone, Copy, Debug, PartialEq, Eq)]
 pub enum Family {
+    /// `af_spec_bridge`: the attributes of `IFLA_AF_SPEC` in messages of AF_BRIDGE,
+    /// [`AfSpecBridge`](crate::link::AfSpecBridge).
+    AfSpecBridge,
     /// `bond`: the attributes of bonds, [`InfoBond`](crate::link::InfoBond).
     Bond,
     /// `bond_port`: the attributes of ports of bonds, [`InfoBondPort`](crate::link::InfoBondPort).
     BondPort,
     /// `bridge`: the attributes of bridges, [`InfoBridge`](crate::link::InfoBridge).
     Bridge,
+    /// `bridge_port`: the attributes of ports of bridges, [`InfoBridgePort`](crate::link::InfoBridgePort).
+    BridgePort,
     /// `vlan`: the attributes of VLAN devices, [`InfoVlan`](crate::link::InfoVlan).
     Vlan,
     /// `can`: the attributes of CAN controllers, [`InfoCan`](crate::link::InfoCan).
@@ -19,6 +24,9 @@ pub enum Family {
     Dsa,
     /// `hsr`: the attributes of HSR and PRP devices, [`InfoHsr`](crate::link::InfoHsr).
     Hsr,
+    /// `proto_bridge`: the attributes of `IFLA_PROTINFO` in messages of AF_BRIDGE,
+    /// [`LinkProtoInfoBridge`](crate::link::LinkProtoInfoBridge).
+    ProtoBridge,
 }
 
 impl Family {
@@ -30,13 +38,16 @@ impl Family {
         ensures none { IfNone result ((family : Family) → name.now ≢ family_name family) }
     {
         match name {
+            "af_spec_bridge" => Some(Family::AfSpecBridge),
             "bond" => Some(Family::Bond),
             "bond_port" => Some(Family::BondPort),
             "bridge" => Some(Family::Bridge),
+            "bridge_port" => Some(Family::BridgePort),
             "vlan" => Some(Family::Vlan),
             "can" => Some(Family::Can),
             "dsa" => Some(Family::Dsa),
             "hsr" => Some(Family::Hsr),
+            "proto_bridge" => Some(Family::ProtoBridge),
             _ => None,
         }
     }
@@ -48,13 +59,16 @@ impl Family {
 macro_rules! by_family {
     ($family:expr, $call:ident($($argument:expr),*)) => {
         match $family {
+            $crate::Family::AfSpecBridge => $call::<$crate::link::AfSpecBridge>($($argument),*),
             $crate::Family::Bond => $call::<$crate::link::InfoBond>($($argument),*),
             $crate::Family::BondPort => $call::<$crate::link::InfoBondPort>($($argument),*),
             $crate::Family::Bridge => $call::<$crate::link::InfoBridge>($($argument),*),
+            $crate::Family::BridgePort => $call::<$crate::link::InfoBridgePort>($($argument),*),
             $crate::Family::Vlan => $call::<$crate::link::InfoVlan>($($argument),*),
             $crate::Family::Can => $call::<$crate::link::InfoCan>($($argument),*),
             $crate::Family::Dsa => $call::<$crate::link::InfoDsa>($($argument),*),
             $crate::Family::Hsr => $call::<$crate::link::InfoHsr>($($argument),*),
+            $crate::Family::ProtoBridge => $call::<$crate::link::LinkProtoInfoBridge>($($argument),*),
         }
     };
 }

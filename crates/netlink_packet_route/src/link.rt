@@ -13,8 +13,10 @@ pub use link_bond::{
     BondXmitHashPolicy, ChurnState, InfoBond, InfoBondPort, LacpState, MiiStatus,
 };
 pub use link_bridge::{
-    BridgeBooleanOptionFlags, BridgeBooleanOptions, BridgeId, BridgeIdBuffer,
-    BridgeMulticastRouterType, BridgeQuerierState, BridgeStpMode, BridgeStpState, InfoBridge,
+    AfSpecBridge, BridgeBooleanOptionFlags, BridgeBooleanOptions, BridgeFlag, BridgeId,
+    BridgeIdBuffer, BridgeMode, BridgeMulticastRouterType, BridgePortState, BridgeQuerierState,
+    BridgeStpMode, BridgeStpState, BridgeVlanInfo, BridgeVlanInfoFlags, BridgeVlanTunnelInfo,
+    InfoBridge, InfoBridgePort, LinkProtoInfoBridge, VecAfSpecBridge, VecLinkProtoInfoBridge,
 };
 pub use link_vlan_can::{
     CanBerrCounter, CanBitTiming, CanBitTimingConst, CanClock, CanCtrlMode, CanCtrlModeExt,

@@ -7,6 +7,11 @@ fn each_family_by_its_name(rt: HostRuntime) {
     // of each family a text that no other family answers so
     for (name, text, wanted) in [
         (
+            "af_spec_bridge",
+            "06 00 00 80 02 00 00 00",
+            "attr 0 len 2\nout 0600000002000000\nchanged\n",
+        ),
+        (
             "bond",
             "05 00 06 00 02 00 00 00",
             "attr 6 len 1\nout 0500060001000000\nchanged\n",
@@ -20,6 +25,11 @@ fn each_family_by_its_name(rt: HostRuntime) {
             "bridge",
             "07 00 15 00 01 02 03 00",
             "attr 21 len 0\nout 04001500\nchanged\n",
+        ),
+        (
+            "bridge_port",
+            "06 00 18 00 01 02 00 00",
+            "attr 24 len 0\nout 04001800\nchanged\n",
         ),
         (
             "vlan",
@@ -40,6 +50,11 @@ fn each_family_by_its_name(rt: HostRuntime) {
             "hsr",
             "05 00 07 40 01 00 00 00",
             "attr 7 len 1\nout 0500070001000000\nchanged\n",
+        ),
+        (
+            "proto_bridge",
+            "05 00 2d 00 02 00 00 00 06 00 18 00 01 02 00 00",
+            "attr 45 len 1\nattr 24 len 2\nout 05002d00010000000600180001020000\nchanged\n",
         ),
     ] {
         let mut written = Vec::new(rt.alloc());

@@ -1,0 +1,28 @@
+-- The attributes of IFLA_AF_SPEC in a message of AF_BRIDGE.
+use Rattle.std.specs.Prelude.{[], ◌∷◌, map, false}
+use Rattle.link_base.specs.Class.{Octets, Exactly, Named, Raw}
+use Rattle.link_base.specs.Named.{numbers_of, seen_value}
+use Rattle.link_base.specs.Table.{Table, AttrValue, Case, row, One, Nested, Single, Inner}
+use Rattle.link_base.specs.Default.{default_means}
+use Rattle.link_bridge.specs.Flag.{flag_names, flag_seen}
+use Rattle.link_bridge.specs.Mode.{mode_names, mode_seen}
+use Rattle.link_bridge.specs.VlanInfo.{vlan_info_octets}
+use Rattle.link_bridge.specs.TunnelInfo.{tunnel_rows, tunnel_leaf}
+use Rattle.link_bridge.specs.declared.af_spec.AfSpecBridge.{AfSpecBridge}
+use Rattle.link_bridge.specs.declared.af_spec.AfSpecBridge.TheVariants.{Flags, Mode, VlanInfo, VlanTunnelInfo, Other}
+
+-- IFLA_BRIDGE_FLAGS, IFLA_BRIDGE_MODE, IFLA_BRIDGE_VLAN_INFO, IFLA_BRIDGE_VLAN_TUNNEL_INFO
+abbrev pub af_spec_table : Table
+af_spec_table =
+    row 0 (One (Named 2 (numbers_of flag_names))) ∷
+    row 1 (One (Named 2 (numbers_of mode_names))) ∷
+    row 2 (One (Octets (Exactly 4))) ∷
+    row 3 (Nested false tunnel_rows) ∷ []
+
+-- the attribute that a value stands for
+abbrev pub af_spec_means : AfSpecBridge → AttrValue
+af_spec_means (Flags flag) = Case 0 (Single (seen_value 2 (numbers_of flag_names) (flag_seen flag)))
+af_spec_means (Mode mode) = Case 1 (Single (seen_value 2 (numbers_of mode_names) (mode_seen mode)))
+af_spec_means (VlanInfo info) = Case 2 (Single (Raw (vlan_info_octets info)))
+af_spec_means (VlanTunnelInfo tunnel) = Case 3 (Inner false (map tunnel_leaf tunnel.items))
+af_spec_means (Other other) = default_means other

@@ -1,0 +1,16 @@
+-- The attributes of IFLA_PROTINFO in a message of AF_BRIDGE.
+use Rattle.std.specs.Prelude.{[], ◌∷◌}
+use Rattle.link_base.specs.Class.{Truth, Boolean}
+use Rattle.link_base.specs.Table.{Table, AttrValue, Case, row, One, Single}
+use Rattle.link_base.specs.Default.{default_means}
+use Rattle.link_bridge.specs.declared.proto_info.LinkProtoInfoBridge.{LinkProtoInfoBridge}
+use Rattle.link_bridge.specs.declared.proto_info.LinkProtoInfoBridge.TheVariants.{NeighForwardGrat, Other}
+
+-- IFLA_BRPORT_NEIGH_FORWARD_GRAT
+abbrev pub proto_info_table : Table
+proto_info_table = row 45 (One Truth) ∷ []
+
+-- the attribute that a value stands for
+abbrev pub proto_info_means : LinkProtoInfoBridge → AttrValue
+proto_info_means (NeighForwardGrat enabled) = Case 45 (Single (Boolean enabled))
+proto_info_means (Other other) = default_means other

@@ -1,0 +1,22 @@
+-- A VLAN that is mapped to a tunnel.
+use Rattle.std.specs.Prelude.{[], ◌∷◌}
+use Rattle.link_base.specs.Class.{Unsigned, Number}
+use Rattle.link_base.specs.Table.{Rows, Leaf, Case, row}
+use Rattle.link_base.specs.Default.{default_means}
+use Rattle.link_bridge.specs.VlanInfo.{vlan_info_bits}
+use Rattle.link_bridge.specs.declared.af_spec.tunnel.BridgeVlanTunnelInfo.{BridgeVlanTunnelInfo}
+use Rattle.link_bridge.specs.declared.af_spec.tunnel.BridgeVlanTunnelInfo.TheVariants.{Id, Vid, Flags, Other}
+
+-- IFLA_BRIDGE_VLAN_TUNNEL_ID, IFLA_BRIDGE_VLAN_TUNNEL_VID, IFLA_BRIDGE_VLAN_TUNNEL_FLAGS
+abbrev pub tunnel_rows : Rows
+tunnel_rows =
+    row 1 (Unsigned 4) ∷
+    row 2 (Unsigned 2) ∷
+    row 3 (Unsigned 2) ∷ []
+
+-- the attribute that a value stands for
+abbrev pub tunnel_leaf : BridgeVlanTunnelInfo → Leaf
+tunnel_leaf (Id id) = Case 1 (Number 4 id)
+tunnel_leaf (Vid vid) = Case 2 (Number 2 vid)
+tunnel_leaf (Flags flags) = Case 3 (Number 2 (vlan_info_bits flags))
+tunnel_leaf (Other other) = default_means other

@@ -1,0 +1,119 @@
+//! Whose settings of a port of a bridge a message sets or shows.
+
+use link_base::{DecodeError, DecodeFault, NamedNumber};
+use std::fmt;
+use std::str::FromStr;
+
+// `include/uapi/linux/if_bridge.h`
+const BRIDGE_FLAGS_MASTER: u16 = 1;
+
+const BRIDGE_FLAGS_SELF: u16 = 2;
+
+/// Whose settings of a port of a bridge a message sets or shows: those of the bridge, or those of the device that is the
+/// port (`BRIDGE_FLAGS_*`, `include/uapi/linux/if_bridge.h`). The kernel takes them for bits: both are `Other(3)`.
+#[derive(Clone, Copy, Debug, PartialEq, Eq)]
+pub enum BridgeFlag {
+    /// Those of the bridge (`BRIDGE_FLAGS_MASTER`, 1).
+    Controller,
+    /// Those of the device (`BRIDGE_FLAGS_SELF`, 2).
+    LowerDev,
+    /// Any other number.
+    Other(u16),
+}
+
+impl BridgeFlag {
+    /// The bytes of the payload of a flag.
+    pub const LENGTH: usize = 2;
+}
+
+impl NamedNumber for BridgeFlag {
+    ghost use Rattle.std.specs.Prelude.{refl};
+    ghost use Rattle.link_base.specs.Equality.{of_cases, thorough_fields};
+    ghost use Rattle.link_bridge.specs.contracts.af_spec.flag.BridgeFlag.{enum};
+    ghost use Rattle.link_bridge.specs.Flag.{flag_names, flag_seen, flag_cases};
+
+    ghost names = { flag_names };
+
+    ghost seen = { flag_seen };
+
+    ghost cases_hold = { (refl, (refl, tt)) };
+
+    ghost other_holds = { λ _. refl };
+
+    ghost no_more = { flag_cases };
+
+    ghost well_named = { refl };
+
+    ghost thorough = { of_cases enum _ _ (Prim.search (thorough_fields)) };
+}
+
+/// The case of a number, `Other` where it has no name.
+impl From<u16> for BridgeFlag {
+    ghost use Rattle.std.specs.Prelude.{◌≡◌};
+    ghost use Rattle.link_base.specs.Named.{value_of};
+
+    ghost from_gives = { λ d v. v ≡ value_of ⟦<BridgeFlag as NamedNumber>⟧.names d };
+
+    fn from(number: u16) -> Self {
+        match number {
+            BRIDGE_FLAGS_MASTER => BridgeFlag::Controller,
+            BRIDGE_FLAGS_SELF => BridgeFlag::LowerDev,
+            _ => BridgeFlag::Other(number),
+        }
+    }
+}
+
+/// The number of a case.
+impl From<BridgeFlag> for u16 {
+    ghost use Rattle.std.specs.Prelude.{◌≡◌};
+    ghost use Rattle.link_base.specs.Named.{number_of};
+
+    ghost from_gives = { λ v d. d ≡ number_of (⟦<BridgeFlag as NamedNumber>⟧.seen v) };
+
+    fn from(value: BridgeFlag) -> u16 {
+        match value {
+            BridgeFlag::Controller => BRIDGE_FLAGS_MASTER,
+            BridgeFlag::LowerDev => BRIDGE_FLAGS_SELF,
+            BridgeFlag::Other(number) => number,
+        }
+    }
+}
+
+/// The name, as `master`; the number where it has none.
+impl fmt::Display for BridgeFlag {
+    ghost use Rattle.std.specs.Prelude.{Some};
+    ghost use Rattle.link_base.specs.Named.{displayed};
+
+    ghost output = { λ v. Some (displayed ⟦<BridgeFlag as NamedNumber>⟧.names
+        (⟦<BridgeFlag as NamedNumber>⟧.seen v)) };
+
+    fn fmt<W: fmt::Write>(&self, f: &mut fmt::Formatter<W>) -> fmt::Result {
+        match self {
+            BridgeFlag::Controller => f.write_str("master"),
+            BridgeFlag::LowerDev => f.write_str("self"),
+            BridgeFlag::Other(number) => write!(f, "{number}"),
+        }
+    }
+}
+
+/// Reads a displayed name, or any number of 16 bits: digits, with zeros in front or none, and at most one `+` before
+/// them. Fails with `Text` for every other text.
+impl FromStr for BridgeFlag {
+    type Err = DecodeError;
+
+    ghost use Rattle.link_base.specs.Named.{ReadsText};
+
+    ghost from_str_gives = { λ text result. ReadsText ⟦<BridgeFlag as NamedNumber>⟧.names text result };
+
+    #[tactic(auto, using(link_base::proofs::Naming::parsed_number, link_base::proofs::Naming::parsed_none))]
+    fn from_str(text: &str) -> Result<Self, DecodeError> {
+        match text {
+            "master" => Ok(BridgeFlag::Controller),
+            "self" => Ok(BridgeFlag::LowerDev),
+            _ => match text.parse::<u16>() {
+                Ok(number) => Ok(number.into()),
+                Err(_) => Err(DecodeError::Fault(DecodeFault::Text)),
+            },
+        }
+    }
+}

@@ -1,0 +1,119 @@
+//! How a device that bridges in hardware handles frames between its own ports.
+
+use link_base::{DecodeError, DecodeFault, NamedNumber};
+use std::fmt;
+use std::str::FromStr;
+
+// `include/uapi/linux/if_bridge.h`
+const BRIDGE_MODE_VEB: u16 = 0;
+
+const BRIDGE_MODE_VEPA: u16 = 1;
+
+/// How a device that bridges in hardware handles frames between its own ports, by IEEE 802.1Qbg (`BRIDGE_MODE_*`,
+/// `include/uapi/linux/if_bridge.h`). `BRIDGE_MODE_UNDEF` is `Other(65535)`.
+#[derive(Clone, Copy, Debug, PartialEq, Eq)]
+pub enum BridgeMode {
+    /// It forwards them itself, as a virtual Ethernet bridge (`BRIDGE_MODE_VEB`, 0).
+    Veb,
+    /// It sends them to the switch beside it, as a virtual Ethernet port aggregator (`BRIDGE_MODE_VEPA`, 1).
+    Vepa,
+    /// Any other number.
+    Other(u16),
+}
+
+impl BridgeMode {
+    /// The bytes of the payload of a mode.
+    pub const LENGTH: usize = 2;
+}
+
+impl NamedNumber for BridgeMode {
+    ghost use Rattle.std.specs.Prelude.{refl};
+    ghost use Rattle.link_base.specs.Equality.{of_cases, thorough_fields};
+    ghost use Rattle.link_bridge.specs.contracts.af_spec.mode.BridgeMode.{enum};
+    ghost use Rattle.link_bridge.specs.Mode.{mode_names, mode_seen, mode_cases};
+
+    ghost names = { mode_names };
+
+    ghost seen = { mode_seen };
+
+    ghost cases_hold = { (refl, (refl, tt)) };
+
+    ghost other_holds = { λ _. refl };
+
+    ghost no_more = { mode_cases };
+
+    ghost well_named = { refl };
+
+    ghost thorough = { of_cases enum _ _ (Prim.search (thorough_fields)) };
+}
+
+/// The case of a number, `Other` where it has no name.
+impl From<u16> for BridgeMode {
+    ghost use Rattle.std.specs.Prelude.{◌≡◌};
+    ghost use Rattle.link_base.specs.Named.{value_of};
+
+    ghost from_gives = { λ d v. v ≡ value_of ⟦<BridgeMode as NamedNumber>⟧.names d };
+
+    fn from(number: u16) -> Self {
+        match number {
+            BRIDGE_MODE_VEB => BridgeMode::Veb,
+            BRIDGE_MODE_VEPA => BridgeMode::Vepa,
+            _ => BridgeMode::Other(number),
+        }
+    }
+}
+
+/// The number of a case.
+impl From<BridgeMode> for u16 {
+    ghost use Rattle.std.specs.Prelude.{◌≡◌};
+    ghost use Rattle.link_base.specs.Named.{number_of};
+
+    ghost from_gives = { λ v d. d ≡ number_of (⟦<BridgeMode as NamedNumber>⟧.seen v) };
+
+    fn from(value: BridgeMode) -> u16 {
+        match value {
+            BridgeMode::Veb => BRIDGE_MODE_VEB,
+            BridgeMode::Vepa => BRIDGE_MODE_VEPA,
+            BridgeMode::Other(number) => number,
+        }
+    }
+}
+
+/// The name, as `vepa`; the number where it has none.
+impl fmt::Display for BridgeMode {
+    ghost use Rattle.std.specs.Prelude.{Some};
+    ghost use Rattle.link_base.specs.Named.{displayed};
+
+    ghost output = { λ v. Some (displayed ⟦<BridgeMode as NamedNumber>⟧.names
+        (⟦<BridgeMode as NamedNumber>⟧.seen v)) };
+
+    fn fmt<W: fmt::Write>(&self, f: &mut fmt::Formatter<W>) -> fmt::Result {
+        match self {
+            BridgeMode::Veb => f.write_str("veb"),
+            BridgeMode::Vepa => f.write_str("vepa"),
+            BridgeMode::Other(number) => write!(f, "{number}"),
+        }
+    }
+}
+
+/// Reads a displayed name, or any number of 16 bits: digits, with zeros in front or none, and at most one `+` before
+/// them. Fails with `Text` for every other text.
+impl FromStr for BridgeMode {
+    type Err = DecodeError;
+
+    ghost use Rattle.link_base.specs.Named.{ReadsText};
+
+    ghost from_str_gives = { λ text result. ReadsText ⟦<BridgeMode as NamedNumber>⟧.names text result };
+
+    #[tactic(auto, using(link_base::proofs::Naming::parsed_number, link_base::proofs::Naming::parsed_none))]
+    fn from_str(text: &str) -> Result<Self, DecodeError> {
+        match text {
+            "veb" => Ok(BridgeMode::Veb),
+            "vepa" => Ok(BridgeMode::Vepa),
+            _ => match text.parse::<u16>() {
+                Ok(number) => Ok(number.into()),
+                Err(_) => Err(DecodeError::Fault(DecodeFault::Text)),
+            },
+        }
+    }
+}

@@ -1,0 +1,529 @@
+//! The attributes of a port of a bridge (`IFLA_INFO_SLAVE_DATA` of a link whose `IFLA_INFO_SLAVE_KIND` is `bridge`).
+
+mod state;
+
+use crate::bridge::{BridgeId, BridgeMulticastRouterType};
+use link_base::{
+    Attribute, DecodeError, DefaultNla, Emitable, Meaning, Nla, NlaBuffer, Parseable, TryClone,
+    emit_u8, emit_u16, emit_u32, emit_u64, parse_bool, parse_u8, parse_u16, parse_u32, parse_u64,
+};
+pub use state::BridgePortState;
+use std::alloc::{AllocError, Global};
+
+// `include/uapi/linux/if_link.h`
+const IFLA_BRPORT_STATE: u16 = 1;
+
+const IFLA_BRPORT_PRIORITY: u16 = 2;
+
+const IFLA_BRPORT_COST: u16 = 3;
+
+const IFLA_BRPORT_MODE: u16 = 4;
+
+const IFLA_BRPORT_GUARD: u16 = 5;
+
+const IFLA_BRPORT_PROTECT: u16 = 6;
+
+const IFLA_BRPORT_FAST_LEAVE: u16 = 7;
+
+const IFLA_BRPORT_LEARNING: u16 = 8;
+
+const IFLA_BRPORT_UNICAST_FLOOD: u16 = 9;
+
+const IFLA_BRPORT_PROXYARP: u16 = 10;
+
+const IFLA_BRPORT_PROXYARP_WIFI: u16 = 12;
+
+const IFLA_BRPORT_ROOT_ID: u16 = 13;
+
+const IFLA_BRPORT_BRIDGE_ID: u16 = 14;
+
+const IFLA_BRPORT_DESIGNATED_PORT: u16 = 15;
+
+const IFLA_BRPORT_DESIGNATED_COST: u16 = 16;
+
+const IFLA_BRPORT_ID: u16 = 17;
+
+const IFLA_BRPORT_NO: u16 = 18;
+
+const IFLA_BRPORT_TOPOLOGY_CHANGE_ACK: u16 = 19;
+
+const IFLA_BRPORT_CONFIG_PENDING: u16 = 20;
+
+const IFLA_BRPORT_MESSAGE_AGE_TIMER: u16 = 21;
+
+const IFLA_BRPORT_FORWARD_DELAY_TIMER: u16 = 22;
+
+const IFLA_BRPORT_HOLD_TIMER: u16 = 23;
+
+const IFLA_BRPORT_FLUSH: u16 = 24;
+
+const IFLA_BRPORT_MULTICAST_ROUTER: u16 = 25;
+
+const IFLA_BRPORT_MCAST_FLOOD: u16 = 27;
+
+const IFLA_BRPORT_MCAST_TO_UCAST: u16 = 28;
+
+const IFLA_BRPORT_VLAN_TUNNEL: u16 = 29;
+
+const IFLA_BRPORT_BCAST_FLOOD: u16 = 30;
+
+const IFLA_BRPORT_GROUP_FWD_MASK: u16 = 31;
+
+const IFLA_BRPORT_NEIGH_SUPPRESS: u16 = 32;
+
+const IFLA_BRPORT_ISOLATED: u16 = 33;
+
+const IFLA_BRPORT_BACKUP_PORT: u16 = 34;
+
+const IFLA_BRPORT_MRP_RING_OPEN: u16 = 35;
+
+const IFLA_BRPORT_MRP_IN_OPEN: u16 = 36;
+
+const IFLA_BRPORT_MCAST_EHT_HOSTS_LIMIT: u16 = 37;
+
+const IFLA_BRPORT_MCAST_EHT_HOSTS_CNT: u16 = 38;
+
+const IFLA_BRPORT_LOCKED: u16 = 39;
+
+const IFLA_BRPORT_MAB: u16 = 40;
+
+const IFLA_BRPORT_MCAST_N_GROUPS: u16 = 41;
+
+const IFLA_BRPORT_MCAST_MAX_GROUPS: u16 = 42;
+
+const IFLA_BRPORT_NEIGH_VLAN_SUPPRESS: u16 = 43;
+
+const IFLA_BRPORT_BACKUP_NHID: u16 = 44;
+
+const IFLA_BRPORT_NEIGH_FORWARD_GRAT: u16 = 45;
+
+/// An attribute of a port of a bridge (`IFLA_BRPORT_*`, `include/uapi/linux/if_link.h`). A clock tick is 1/100 second
+/// (`USER_HZ`). What is only shown cannot be set.
+#[derive(Debug, PartialEq, Eq, Drop)]
+pub enum InfoBridgePort {
+    /// The state of the port in the spanning tree protocol (`IFLA_BRPORT_STATE`, one byte).
+    State(BridgePortState),
+    /// The priority of the port in the spanning tree protocol, at most 63: the lower, the sooner it becomes the root
+    /// port or a designated one (`IFLA_BRPORT_PRIORITY`, two bytes).
+    Priority(u16),
+    /// The cost of the path through the port, from 1 to 65535 (`IFLA_BRPORT_COST`, four bytes).
+    Cost(u32),
+    /// Whether frames may leave by the port that they came in by: hairpin mode (`IFLA_BRPORT_MODE`, one byte).
+    HairpinMode(bool),
+    /// Whether the port is turned off when a BPDU comes in (`IFLA_BRPORT_GUARD`, one byte).
+    Guard(bool),
+    /// Whether the port is kept from becoming the root port (`IFLA_BRPORT_PROTECT`, one byte).
+    Protect(bool),
+    /// Whether multicast of a group stops at the port at once when a host there leaves the group
+    /// (`IFLA_BRPORT_FAST_LEAVE`, one byte).
+    FastLeave(bool),
+    /// Whether the source addresses of frames that come in are learned (`IFLA_BRPORT_LEARNING`, one byte).
+    Learning(bool),
+    /// Whether unicast to addresses that are not in the forwarding database is flooded to the port
+    /// (`IFLA_BRPORT_UNICAST_FLOOD`, one byte).
+    UnicastFlood(bool),
+    /// Whether the bridge answers ARP requests on behalf of the hosts behind the port: proxy ARP
+    /// (`IFLA_BRPORT_PROXYARP`, one byte).
+    ProxyARP(bool),
+    /// Whether it does so by the further rules of IEEE 802.11 and Hotspot 2.0 (`IFLA_BRPORT_PROXYARP_WIFI`, one byte).
+    ProxyARPWifi(bool),
+    /// The identifier of the root (`IFLA_BRPORT_ROOT_ID`, eight bytes; it is only shown).
+    RootId(BridgeId),
+    /// The identifier of the designated bridge of the segment (`IFLA_BRPORT_BRIDGE_ID`, eight bytes; it is only shown).
+    BridgeId(BridgeId),
+    /// The identifier of the designated port of the segment (`IFLA_BRPORT_DESIGNATED_PORT`, two bytes; it is only
+    /// shown).
+    DesignatedPort(u16),
+    /// The cost of the path from the designated bridge to the root (`IFLA_BRPORT_DESIGNATED_COST`, two bytes; it is
+    /// only shown).
+    DesignatedCost(u16),
+    /// The identifier of the port in the spanning tree protocol, its priority and its number (`IFLA_BRPORT_ID`, two
+    /// bytes; it is only shown).
+    PortId(u16),
+    /// The number of the port (`IFLA_BRPORT_NO`, two bytes; it is only shown).
+    PortNumber(u16),
+    /// Whether the next BPDU that is sent acknowledges a change of topology (`IFLA_BRPORT_TOPOLOGY_CHANGE_ACK`, one
+    /// byte; it is only shown).
+    TopologyChangeAck(bool),
+    /// Whether a configuration BPDU waits for the hold timer (`IFLA_BRPORT_CONFIG_PENDING`, one byte; it is only
+    /// shown).
+    ConfigPending(bool),
+    /// The time until what was heard from the designated bridge is too old, in clock ticks
+    /// (`IFLA_BRPORT_MESSAGE_AGE_TIMER`, eight bytes; it is only shown).
+    MessageAgeTimer(u64),
+    /// The time until the port goes on to its next state, in clock ticks (`IFLA_BRPORT_FORWARD_DELAY_TIMER`, eight
+    /// bytes; it is only shown).
+    ForwardDelayTimer(u64),
+    /// The time until the next configuration BPDU may be sent, in clock ticks (`IFLA_BRPORT_HOLD_TIMER`, eight bytes;
+    /// it is only shown).
+    HoldTimer(u64),
+    /// A request to drop the learned entries of the port from the forwarding database; it has no payload
+    /// (`IFLA_BRPORT_FLUSH`; it is only set).
+    Flush,
+    /// Whether a multicast router is taken to be behind the port, which then gets all multicast
+    /// (`IFLA_BRPORT_MULTICAST_ROUTER`, one byte).
+    MulticastRouter(BridgeMulticastRouterType),
+    /// Whether multicast of groups that are not in the multicast database is flooded to the port
+    /// (`IFLA_BRPORT_MCAST_FLOOD`, one byte).
+    MulticastFlood(bool),
+    /// Whether multicast is sent to each member of its group as unicast (`IFLA_BRPORT_MCAST_TO_UCAST`, one byte).
+    MulticastToUnicast(bool),
+    /// Whether VLANs are mapped to tunnels at the port (`IFLA_BRPORT_VLAN_TUNNEL`, one byte).
+    VlanTunnel(bool),
+    /// Whether broadcast is flooded to the port (`IFLA_BRPORT_BCAST_FLOOD`, one byte).
+    BroadcastFlood(bool),
+    /// Which frames to link-local addresses are forwarded: bit n for those to 01:80:c2:00:00:0n
+    /// (`IFLA_BRPORT_GROUP_FWD_MASK`, two bytes).
+    GroupFwdMask(u16),
+    /// Whether the bridge answers ARP requests and neighbor solicitations itself where it can, and does not flood them
+    /// to the port (`IFLA_BRPORT_NEIGH_SUPPRESS`, one byte).
+    NeighSupress(bool),
+    /// Whether the port exchanges frames only with ports that are not isolated (`IFLA_BRPORT_ISOLATED`, one byte).
+    Isolated(bool),
+    /// The index of the port that gets the frames while this one has no carrier, a network device; 0 for none
+    /// (`IFLA_BRPORT_BACKUP_PORT`, four bytes).
+    BackupPort(u32),
+    /// Whether the ring of the Media Redundancy Protocol that the port is in is open (`IFLA_BRPORT_MRP_RING_OPEN`, one
+    /// byte; it is only shown).
+    MrpRingOpen(bool),
+    /// Whether the interconnection of such rings that the port is in is open (`IFLA_BRPORT_MRP_IN_OPEN`, one byte; it
+    /// is only shown).
+    MrpInOpen(bool),
+    /// How many hosts are tracked at the port at most, by their reports of IGMPv3 and MLDv2
+    /// (`IFLA_BRPORT_MCAST_EHT_HOSTS_LIMIT`, four bytes).
+    MulticastEhtHostsLimit(u32),
+    /// How many hosts are tracked at the port (`IFLA_BRPORT_MCAST_EHT_HOSTS_CNT`, four bytes; it is only shown).
+    MulticastEhtHostsCnt(u32),
+    /// Whether frames come in only from addresses that are in the forwarding database at this port
+    /// (`IFLA_BRPORT_LOCKED`, one byte).
+    Locked(bool),
+    /// Whether addresses that a locked port keeps out are noted, so that they can be let in by MAC Authentication
+    /// Bypass (`IFLA_BRPORT_MAB`, one byte).
+    Mab(bool),
+    /// How many entries of the multicast database the port has (`IFLA_BRPORT_MCAST_N_GROUPS`, four bytes; it is only
+    /// shown).
+    MulticastNGroups(u32),
+    /// How many entries of the multicast database the port has at most; 0 for no limit (`IFLA_BRPORT_MCAST_MAX_GROUPS`,
+    /// four bytes).
+    MulticastMaxGroups(u32),
+    /// Whether neighbor suppression is set for each VLAN of the port apart (`IFLA_BRPORT_NEIGH_VLAN_SUPPRESS`, one
+    /// byte).
+    NeighVlanSuppress(bool),
+    /// The next hop of the frames that the backup port gets, by its identifier, where that port maps VLANs to tunnels;
+    /// 0 for none (`IFLA_BRPORT_BACKUP_NHID`, four bytes).
+    BackupNextHopId(u32),
+    /// Whether gratuitous ARP and unsolicited neighbor advertisements are flooded to the port even where neighbor
+    /// suppression is on (`IFLA_BRPORT_NEIGH_FORWARD_GRAT`, one byte).
+    NeighForwardGrat(bool),
+    /// An attribute of any other kind.
+    Other(DefaultNla),
+}
+
+impl TryClone for InfoBridgePort {
+    fn try_clone(&self, alloc: Global) -> Result<Self, AllocError> {
+        match self {
+            InfoBridgePort::State(state) => Ok(InfoBridgePort::State(*state)),
+            InfoBridgePort::Priority(priority) => Ok(InfoBridgePort::Priority(*priority)),
+            InfoBridgePort::Cost(cost) => Ok(InfoBridgePort::Cost(*cost)),
+            InfoBridgePort::HairpinMode(enabled) => Ok(InfoBridgePort::HairpinMode(*enabled)),
+            InfoBridgePort::Guard(enabled) => Ok(InfoBridgePort::Guard(*enabled)),
+            InfoBridgePort::Protect(enabled) => Ok(InfoBridgePort::Protect(*enabled)),
+            InfoBridgePort::FastLeave(enabled) => Ok(InfoBridgePort::FastLeave(*enabled)),
+            InfoBridgePort::Learning(enabled) => Ok(InfoBridgePort::Learning(*enabled)),
+            InfoBridgePort::UnicastFlood(enabled) => Ok(InfoBridgePort::UnicastFlood(*enabled)),
+            InfoBridgePort::ProxyARP(enabled) => Ok(InfoBridgePort::ProxyARP(*enabled)),
+            InfoBridgePort::ProxyARPWifi(enabled) => Ok(InfoBridgePort::ProxyARPWifi(*enabled)),
+            InfoBridgePort::RootId(id) => Ok(InfoBridgePort::RootId(*id)),
+            InfoBridgePort::BridgeId(id) => Ok(InfoBridgePort::BridgeId(*id)),
+            InfoBridgePort::DesignatedPort(id) => Ok(InfoBridgePort::DesignatedPort(*id)),
+            InfoBridgePort::DesignatedCost(cost) => Ok(InfoBridgePort::DesignatedCost(*cost)),
+            InfoBridgePort::PortId(id) => Ok(InfoBridgePort::PortId(*id)),
+            InfoBridgePort::PortNumber(number) => Ok(InfoBridgePort::PortNumber(*number)),
+            InfoBridgePort::TopologyChangeAck(pending) => Ok(InfoBridgePort::TopologyChangeAck(
+                *pending,
+            )),
+            InfoBridgePort::ConfigPending(pending) => Ok(InfoBridgePort::ConfigPending(*pending)),
+            InfoBridgePort::MessageAgeTimer(left) => Ok(InfoBridgePort::MessageAgeTimer(*left)),
+            InfoBridgePort::ForwardDelayTimer(left) => Ok(InfoBridgePort::ForwardDelayTimer(*left)),
+            InfoBridgePort::HoldTimer(left) => Ok(InfoBridgePort::HoldTimer(*left)),
+            InfoBridgePort::Flush => Ok(InfoBridgePort::Flush),
+            InfoBridgePort::MulticastRouter(router) => Ok(InfoBridgePort::MulticastRouter(*router)),
+            InfoBridgePort::MulticastFlood(enabled) => Ok(InfoBridgePort::MulticastFlood(*enabled)),
+            InfoBridgePort::MulticastToUnicast(enabled) => Ok(InfoBridgePort::MulticastToUnicast(
+                *enabled,
+            )),
+            InfoBridgePort::VlanTunnel(enabled) => Ok(InfoBridgePort::VlanTunnel(*enabled)),
+            InfoBridgePort::BroadcastFlood(enabled) => Ok(InfoBridgePort::BroadcastFlood(*enabled)),
+            InfoBridgePort::GroupFwdMask(mask) => Ok(InfoBridgePort::GroupFwdMask(*mask)),
+            InfoBridgePort::NeighSupress(enabled) => Ok(InfoBridgePort::NeighSupress(*enabled)),
+            InfoBridgePort::Isolated(enabled) => Ok(InfoBridgePort::Isolated(*enabled)),
+            InfoBridgePort::BackupPort(index) => Ok(InfoBridgePort::BackupPort(*index)),
+            InfoBridgePort::MrpRingOpen(open) => Ok(InfoBridgePort::MrpRingOpen(*open)),
+            InfoBridgePort::MrpInOpen(open) => Ok(InfoBridgePort::MrpInOpen(*open)),
+            InfoBridgePort::MulticastEhtHostsLimit(limit) => Ok(
+                InfoBridgePort::MulticastEhtHostsLimit(*limit),
+            ),
+            InfoBridgePort::MulticastEhtHostsCnt(count) => Ok(InfoBridgePort::MulticastEhtHostsCnt(
+                *count,
+            )),
+            InfoBridgePort::Locked(enabled) => Ok(InfoBridgePort::Locked(*enabled)),
+            InfoBridgePort::Mab(enabled) => Ok(InfoBridgePort::Mab(*enabled)),
+            InfoBridgePort::MulticastNGroups(count) => Ok(InfoBridgePort::MulticastNGroups(*count)),
+            InfoBridgePort::MulticastMaxGroups(limit) => Ok(InfoBridgePort::MulticastMaxGroups(
+                *limit,
+            )),
+            InfoBridgePort::NeighVlanSuppress(enabled) => Ok(InfoBridgePort::NeighVlanSuppress(
+                *enabled,
+            )),
+            InfoBridgePort::BackupNextHopId(id) => Ok(InfoBridgePort::BackupNextHopId(*id)),
+            InfoBridgePort::NeighForwardGrat(enabled) => Ok(InfoBridgePort::NeighForwardGrat(
+                *enabled,
+            )),
+            InfoBridgePort::Other(other) => Ok(InfoBridgePort::Other(other.try_clone(alloc)?)),
+        }
+    }
+}
+
+impl Meaning for InfoBridgePort {
+    ghost use Rattle.link_bridge.specs.BridgePort.{bridge_port_table, bridge_port_means};
+
+    ghost table = { bridge_port_table };
+
+    ghost means = { bridge_port_means };
+}
+
+impl Nla for InfoBridgePort {
+    fn kind(&self) -> u16 {
+        match self {
+            InfoBridgePort::State(_) => IFLA_BRPORT_STATE,
+            InfoBridgePort::Priority(_) => IFLA_BRPORT_PRIORITY,
+            InfoBridgePort::Cost(_) => IFLA_BRPORT_COST,
+            InfoBridgePort::HairpinMode(_) => IFLA_BRPORT_MODE,
+            InfoBridgePort::Guard(_) => IFLA_BRPORT_GUARD,
+            InfoBridgePort::Protect(_) => IFLA_BRPORT_PROTECT,
+            InfoBridgePort::FastLeave(_) => IFLA_BRPORT_FAST_LEAVE,
+            InfoBridgePort::Learning(_) => IFLA_BRPORT_LEARNING,
+            InfoBridgePort::UnicastFlood(_) => IFLA_BRPORT_UNICAST_FLOOD,
+            InfoBridgePort::ProxyARP(_) => IFLA_BRPORT_PROXYARP,
+            InfoBridgePort::ProxyARPWifi(_) => IFLA_BRPORT_PROXYARP_WIFI,
+            InfoBridgePort::RootId(_) => IFLA_BRPORT_ROOT_ID,
+            InfoBridgePort::BridgeId(_) => IFLA_BRPORT_BRIDGE_ID,
+            InfoBridgePort::DesignatedPort(_) => IFLA_BRPORT_DESIGNATED_PORT,
+            InfoBridgePort::DesignatedCost(_) => IFLA_BRPORT_DESIGNATED_COST,
+            InfoBridgePort::PortId(_) => IFLA_BRPORT_ID,
+            InfoBridgePort::PortNumber(_) => IFLA_BRPORT_NO,
+            InfoBridgePort::TopologyChangeAck(_) => IFLA_BRPORT_TOPOLOGY_CHANGE_ACK,
+            InfoBridgePort::ConfigPending(_) => IFLA_BRPORT_CONFIG_PENDING,
+            InfoBridgePort::MessageAgeTimer(_) => IFLA_BRPORT_MESSAGE_AGE_TIMER,
+            InfoBridgePort::ForwardDelayTimer(_) => IFLA_BRPORT_FORWARD_DELAY_TIMER,
+            InfoBridgePort::HoldTimer(_) => IFLA_BRPORT_HOLD_TIMER,
+            InfoBridgePort::Flush => IFLA_BRPORT_FLUSH,
+            InfoBridgePort::MulticastRouter(_) => IFLA_BRPORT_MULTICAST_ROUTER,
+            InfoBridgePort::MulticastFlood(_) => IFLA_BRPORT_MCAST_FLOOD,
+            InfoBridgePort::MulticastToUnicast(_) => IFLA_BRPORT_MCAST_TO_UCAST,
+            InfoBridgePort::VlanTunnel(_) => IFLA_BRPORT_VLAN_TUNNEL,
+            InfoBridgePort::BroadcastFlood(_) => IFLA_BRPORT_BCAST_FLOOD,
+            InfoBridgePort::GroupFwdMask(_) => IFLA_BRPORT_GROUP_FWD_MASK,
+            InfoBridgePort::NeighSupress(_) => IFLA_BRPORT_NEIGH_SUPPRESS,
+            InfoBridgePort::Isolated(_) => IFLA_BRPORT_ISOLATED,
+            InfoBridgePort::BackupPort(_) => IFLA_BRPORT_BACKUP_PORT,
+            InfoBridgePort::MrpRingOpen(_) => IFLA_BRPORT_MRP_RING_OPEN,
+            InfoBridgePort::MrpInOpen(_) => IFLA_BRPORT_MRP_IN_OPEN,
+            InfoBridgePort::MulticastEhtHostsLimit(_) => IFLA_BRPORT_MCAST_EHT_HOSTS_LIMIT,
+            InfoBridgePort::MulticastEhtHostsCnt(_) => IFLA_BRPORT_MCAST_EHT_HOSTS_CNT,
+            InfoBridgePort::Locked(_) => IFLA_BRPORT_LOCKED,
+            InfoBridgePort::Mab(_) => IFLA_BRPORT_MAB,
+            InfoBridgePort::MulticastNGroups(_) => IFLA_BRPORT_MCAST_N_GROUPS,
+            InfoBridgePort::MulticastMaxGroups(_) => IFLA_BRPORT_MCAST_MAX_GROUPS,
+            InfoBridgePort::NeighVlanSuppress(_) => IFLA_BRPORT_NEIGH_VLAN_SUPPRESS,
+            InfoBridgePort::BackupNextHopId(_) => IFLA_BRPORT_BACKUP_NHID,
+            InfoBridgePort::NeighForwardGrat(_) => IFLA_BRPORT_NEIGH_FORWARD_GRAT,
+            InfoBridgePort::Other(other) => other.kind(),
+        }
+    }
+
+    fn value_len(&self) -> usize {
+        match self {
+            InfoBridgePort::Flush => 0,
+            InfoBridgePort::State(_)
+            | InfoBridgePort::HairpinMode(_)
+            | InfoBridgePort::Guard(_)
+            | InfoBridgePort::Protect(_)
+            | InfoBridgePort::FastLeave(_)
+            | InfoBridgePort::Learning(_)
+            | InfoBridgePort::UnicastFlood(_)
+            | InfoBridgePort::ProxyARP(_)
+            | InfoBridgePort::ProxyARPWifi(_)
+            | InfoBridgePort::TopologyChangeAck(_)
+            | InfoBridgePort::ConfigPending(_)
+            | InfoBridgePort::MulticastRouter(_)
+            | InfoBridgePort::MulticastFlood(_)
+            | InfoBridgePort::MulticastToUnicast(_)
+            | InfoBridgePort::VlanTunnel(_)
+            | InfoBridgePort::BroadcastFlood(_)
+            | InfoBridgePort::NeighSupress(_)
+            | InfoBridgePort::Isolated(_)
+            | InfoBridgePort::MrpRingOpen(_)
+            | InfoBridgePort::MrpInOpen(_)
+            | InfoBridgePort::Locked(_)
+            | InfoBridgePort::Mab(_)
+            | InfoBridgePort::NeighVlanSuppress(_)
+            | InfoBridgePort::NeighForwardGrat(_) => 1,
+            InfoBridgePort::Priority(_)
+            | InfoBridgePort::DesignatedPort(_)
+            | InfoBridgePort::DesignatedCost(_)
+            | InfoBridgePort::PortId(_)
+            | InfoBridgePort::PortNumber(_)
+            | InfoBridgePort::GroupFwdMask(_) => 2,
+            InfoBridgePort::Cost(_)
+            | InfoBridgePort::BackupPort(_)
+            | InfoBridgePort::MulticastEhtHostsLimit(_)
+            | InfoBridgePort::MulticastEhtHostsCnt(_)
+            | InfoBridgePort::MulticastNGroups(_)
+            | InfoBridgePort::MulticastMaxGroups(_)
+            | InfoBridgePort::BackupNextHopId(_) => 4,
+            InfoBridgePort::MessageAgeTimer(_)
+            | InfoBridgePort::ForwardDelayTimer(_)
+            | InfoBridgePort::HoldTimer(_) => 8,
+            InfoBridgePort::RootId(id) => id.buffer_len(),
+            InfoBridgePort::BridgeId(id) => id.buffer_len(),
+            InfoBridgePort::Other(other) => other.value_len(),
+        }
+    }
+
+    fn emit_value(&self, buffer: &mut [u8]) {
+        match self {
+            InfoBridgePort::State(state) => emit_u8(buffer, u8::from(*state)),
+            InfoBridgePort::Priority(priority) => emit_u16(buffer, *priority),
+            InfoBridgePort::Cost(cost) => emit_u32(buffer, *cost),
+            InfoBridgePort::HairpinMode(enabled) => emit_u8(buffer, u8::from(*enabled)),
+            InfoBridgePort::Guard(enabled) => emit_u8(buffer, u8::from(*enabled)),
+            InfoBridgePort::Protect(enabled) => emit_u8(buffer, u8::from(*enabled)),
+            InfoBridgePort::FastLeave(enabled) => emit_u8(buffer, u8::from(*enabled)),
+            InfoBridgePort::Learning(enabled) => emit_u8(buffer, u8::from(*enabled)),
+            InfoBridgePort::UnicastFlood(enabled) => emit_u8(buffer, u8::from(*enabled)),
+            InfoBridgePort::ProxyARP(enabled) => emit_u8(buffer, u8::from(*enabled)),
+            InfoBridgePort::ProxyARPWifi(enabled) => emit_u8(buffer, u8::from(*enabled)),
+            InfoBridgePort::RootId(id) => id.emit(buffer),
+            InfoBridgePort::BridgeId(id) => id.emit(buffer),
+            InfoBridgePort::DesignatedPort(id) => emit_u16(buffer, *id),
+            InfoBridgePort::DesignatedCost(cost) => emit_u16(buffer, *cost),
+            InfoBridgePort::PortId(id) => emit_u16(buffer, *id),
+            InfoBridgePort::PortNumber(number) => emit_u16(buffer, *number),
+            InfoBridgePort::TopologyChangeAck(pending) => emit_u8(buffer, u8::from(*pending)),
+            InfoBridgePort::ConfigPending(pending) => emit_u8(buffer, u8::from(*pending)),
+            InfoBridgePort::MessageAgeTimer(left) => emit_u64(buffer, *left),
+            InfoBridgePort::ForwardDelayTimer(left) => emit_u64(buffer, *left),
+            InfoBridgePort::HoldTimer(left) => emit_u64(buffer, *left),
+            InfoBridgePort::Flush => {}
+            InfoBridgePort::MulticastRouter(router) => emit_u8(buffer, u8::from(*router)),
+            InfoBridgePort::MulticastFlood(enabled) => emit_u8(buffer, u8::from(*enabled)),
+            InfoBridgePort::MulticastToUnicast(enabled) => emit_u8(buffer, u8::from(*enabled)),
+            InfoBridgePort::VlanTunnel(enabled) => emit_u8(buffer, u8::from(*enabled)),
+            InfoBridgePort::BroadcastFlood(enabled) => emit_u8(buffer, u8::from(*enabled)),
+            InfoBridgePort::GroupFwdMask(mask) => emit_u16(buffer, *mask),
+            InfoBridgePort::NeighSupress(enabled) => emit_u8(buffer, u8::from(*enabled)),
+            InfoBridgePort::Isolated(enabled) => emit_u8(buffer, u8::from(*enabled)),
+            InfoBridgePort::BackupPort(index) => emit_u32(buffer, *index),
+            InfoBridgePort::MrpRingOpen(open) => emit_u8(buffer, u8::from(*open)),
+            InfoBridgePort::MrpInOpen(open) => emit_u8(buffer, u8::from(*open)),
+            InfoBridgePort::MulticastEhtHostsLimit(limit) => emit_u32(buffer, *limit),
+            InfoBridgePort::MulticastEhtHostsCnt(count) => emit_u32(buffer, *count),
+            InfoBridgePort::Locked(enabled) => emit_u8(buffer, u8::from(*enabled)),
+            InfoBridgePort::Mab(enabled) => emit_u8(buffer, u8::from(*enabled)),
+            InfoBridgePort::MulticastNGroups(count) => emit_u32(buffer, *count),
+            InfoBridgePort::MulticastMaxGroups(limit) => emit_u32(buffer, *limit),
+            InfoBridgePort::NeighVlanSuppress(enabled) => emit_u8(buffer, u8::from(*enabled)),
+            InfoBridgePort::BackupNextHopId(id) => emit_u32(buffer, *id),
+            InfoBridgePort::NeighForwardGrat(enabled) => emit_u8(buffer, u8::from(*enabled)),
+            InfoBridgePort::Other(other) => other.emit_value(buffer),
+        }
+    }
+}
+
+impl Parseable for InfoBridgePort {
+    fn parse_payload(alloc: Global, buffer: &NlaBuffer<'_>) -> Result<Self, DecodeError> {
+        let payload = buffer.value();
+        match buffer.kind() {
+            IFLA_BRPORT_STATE => parse_u8(payload).map(|n| Self::State(n.into())),
+            IFLA_BRPORT_PRIORITY => parse_u16(payload).map(Self::Priority),
+            IFLA_BRPORT_COST => parse_u32(payload).map(Self::Cost),
+            IFLA_BRPORT_MODE => parse_bool(payload).map(Self::HairpinMode),
+            IFLA_BRPORT_GUARD => parse_bool(payload).map(Self::Guard),
+            IFLA_BRPORT_PROTECT => parse_bool(payload).map(Self::Protect),
+            IFLA_BRPORT_FAST_LEAVE => parse_bool(payload).map(Self::FastLeave),
+            IFLA_BRPORT_LEARNING => parse_bool(payload).map(Self::Learning),
+            IFLA_BRPORT_UNICAST_FLOOD => parse_bool(payload).map(Self::UnicastFlood),
+            IFLA_BRPORT_PROXYARP => parse_bool(payload).map(Self::ProxyARP),
+            IFLA_BRPORT_PROXYARP_WIFI => parse_bool(payload).map(Self::ProxyARPWifi),
+            IFLA_BRPORT_ROOT_ID => BridgeId::parse(payload).map(Self::RootId),
+            IFLA_BRPORT_BRIDGE_ID => BridgeId::parse(payload).map(Self::BridgeId),
+            IFLA_BRPORT_DESIGNATED_PORT => parse_u16(payload).map(Self::DesignatedPort),
+            IFLA_BRPORT_DESIGNATED_COST => parse_u16(payload).map(Self::DesignatedCost),
+            IFLA_BRPORT_ID => parse_u16(payload).map(Self::PortId),
+            IFLA_BRPORT_NO => parse_u16(payload).map(Self::PortNumber),
+            IFLA_BRPORT_TOPOLOGY_CHANGE_ACK => parse_bool(payload).map(Self::TopologyChangeAck),
+            IFLA_BRPORT_CONFIG_PENDING => parse_bool(payload).map(Self::ConfigPending),
+            IFLA_BRPORT_MESSAGE_AGE_TIMER => parse_u64(payload).map(Self::MessageAgeTimer),
+            IFLA_BRPORT_FORWARD_DELAY_TIMER => parse_u64(payload).map(Self::ForwardDelayTimer),
+            IFLA_BRPORT_HOLD_TIMER => parse_u64(payload).map(Self::HoldTimer),
+            IFLA_BRPORT_FLUSH => Ok(Self::Flush),
+            IFLA_BRPORT_MULTICAST_ROUTER => parse_u8(payload).map(|n| Self::MulticastRouter(
+                n.into(),
+            )),
+            IFLA_BRPORT_MCAST_FLOOD => parse_bool(payload).map(Self::MulticastFlood),
+            IFLA_BRPORT_MCAST_TO_UCAST => parse_bool(payload).map(Self::MulticastToUnicast),
+            IFLA_BRPORT_VLAN_TUNNEL => parse_bool(payload).map(Self::VlanTunnel),
+            IFLA_BRPORT_BCAST_FLOOD => parse_bool(payload).map(Self::BroadcastFlood),
+            IFLA_BRPORT_GROUP_FWD_MASK => parse_u16(payload).map(Self::GroupFwdMask),
+            IFLA_BRPORT_NEIGH_SUPPRESS => parse_bool(payload).map(Self::NeighSupress),
+            IFLA_BRPORT_ISOLATED => parse_bool(payload).map(Self::Isolated),
+            IFLA_BRPORT_BACKUP_PORT => parse_u32(payload).map(Self::BackupPort),
+            IFLA_BRPORT_MRP_RING_OPEN => parse_bool(payload).map(Self::MrpRingOpen),
+            IFLA_BRPORT_MRP_IN_OPEN => parse_bool(payload).map(Self::MrpInOpen),
+            IFLA_BRPORT_MCAST_EHT_HOSTS_LIMIT => parse_u32(payload).map(
+                Self::MulticastEhtHostsLimit,
+            ),
+            IFLA_BRPORT_MCAST_EHT_HOSTS_CNT => parse_u32(payload).map(Self::MulticastEhtHostsCnt),
+            IFLA_BRPORT_LOCKED => parse_bool(payload).map(Self::Locked),
+            IFLA_BRPORT_MAB => parse_bool(payload).map(Self::Mab),
+            IFLA_BRPORT_MCAST_N_GROUPS => parse_u32(payload).map(Self::MulticastNGroups),
+            IFLA_BRPORT_MCAST_MAX_GROUPS => parse_u32(payload).map(Self::MulticastMaxGroups),
+            IFLA_BRPORT_NEIGH_VLAN_SUPPRESS => parse_bool(payload).map(Self::NeighVlanSuppress),
+            IFLA_BRPORT_BACKUP_NHID => parse_u32(payload).map(Self::BackupNextHopId),
+            IFLA_BRPORT_NEIGH_FORWARD_GRAT => parse_bool(payload).map(Self::NeighForwardGrat),
+            _ => DefaultNla::parse(alloc, buffer).map(Self::Other),
+        }
+    }
+}
+
+impl Attribute for InfoBridgePort {
+    ghost use Rattle.std.specs.Prelude.{refl};
+    ghost use Rattle.link_base.proofs.TableLaws.{lawful};
+    ghost use Rattle.link_base.specs.Equality.{of_cases, anything, numbers, truths, defaults};
+    ghost use Rattle.link_bridge.specs.BridgePort.{bridge_port_table};
+    ghost use Rattle.link_bridge.specs.BridgeEquality.{◌also◌, ids};
+    ghost use Rattle.link_bridge.specs.contracts.bridge_port.state.BridgePortStateNamedNumber.TheImpl.Laws.{
+      thorough-law as states,
+    };
+    ghost use Rattle.link_bridge.specs.contracts.bridge.router_type.BridgeMulticastRouterTypeNamedNumber.TheImpl.Laws.{
+      thorough-law as routers,
+    };
+    ghost use Rattle.link_bridge.specs.contracts.bridge_port.InfoBridgePort.{enum};
+
+    ghost lawful = { lawful bridge_port_table };
+
+    ghost well_formed = { refl };
+
+    ghost thorough = { of_cases enum _ _ (
+        anything states also anything numbers also anything numbers also anything truths also anything truths also
+        anything truths also anything truths also anything truths also anything truths also anything truths also
+        anything truths also anything ids also anything ids also anything numbers also anything numbers also
+        anything numbers also anything numbers also anything truths also anything truths also anything numbers also
+        anything numbers also anything numbers also tt also anything routers also anything truths also
+        anything truths also anything truths also anything truths also anything numbers also anything truths also
+        anything truths also anything numbers also anything truths also anything truths also anything numbers also
+        anything numbers also anything truths also anything truths also anything numbers also anything numbers also
+        anything truths also anything numbers also anything truths also defaults also tt
+        ) };
+}

@@ -1,0 +1,137 @@
+//! The state of a port of a bridge in the spanning tree protocol.
+
+use link_base::{DecodeError, DecodeFault, NamedNumber};
+use std::fmt;
+use std::str::FromStr;
+
+// `include/uapi/linux/if_bridge.h`
+const BR_STATE_DISABLED: u8 = 0;
+
+const BR_STATE_LISTENING: u8 = 1;
+
+const BR_STATE_LEARNING: u8 = 2;
+
+const BR_STATE_FORWARDING: u8 = 3;
+
+const BR_STATE_BLOCKING: u8 = 4;
+
+/// The state of a port of a bridge in the spanning tree protocol (`BR_STATE_*`, `include/uapi/linux/if_bridge.h`).
+#[derive(Clone, Copy, Debug, PartialEq, Eq)]
+pub enum BridgePortState {
+    /// It takes no part in the protocol, and forwards nothing (`BR_STATE_DISABLED`, 0).
+    Disabled,
+    /// It takes part in the protocol; it learns nothing yet, and forwards nothing (`BR_STATE_LISTENING`, 1).
+    Listening,
+    /// It learns addresses, and forwards nothing yet (`BR_STATE_LEARNING`, 2).
+    Learning,
+    /// It learns and forwards (`BR_STATE_FORWARDING`, 3).
+    Forwarding,
+    /// It is kept out of the tree: it hears BPDUs, and forwards nothing (`BR_STATE_BLOCKING`, 4).
+    Blocking,
+    /// Any other number.
+    Other(u8),
+}
+
+impl NamedNumber for BridgePortState {
+    ghost use Rattle.std.specs.Prelude.{refl};
+    ghost use Rattle.link_base.specs.Equality.{of_cases, thorough_fields};
+    ghost use Rattle.link_bridge.specs.contracts.bridge_port.state.BridgePortState.{enum};
+    ghost use Rattle.link_bridge.specs.PortState.{port_state_names, port_state_seen, port_state_cases};
+
+    ghost names = { port_state_names };
+
+    ghost seen = { port_state_seen };
+
+    ghost cases_hold = { (refl, (refl, (refl, (refl, (refl, tt))))) };
+
+    ghost other_holds = { λ _. refl };
+
+    ghost no_more = { port_state_cases };
+
+    ghost well_named = { refl };
+
+    ghost thorough = { of_cases enum _ _ (Prim.search (thorough_fields)) };
+}
+
+/// The case of a number, `Other` where it has no name.
+impl From<u8> for BridgePortState {
+    ghost use Rattle.std.specs.Prelude.{◌≡◌};
+    ghost use Rattle.link_base.specs.Named.{value_of};
+
+    ghost from_gives = { λ d v. v ≡ value_of ⟦<BridgePortState as NamedNumber>⟧.names d };
+
+    fn from(number: u8) -> Self {
+        match number {
+            BR_STATE_DISABLED => BridgePortState::Disabled,
+            BR_STATE_LISTENING => BridgePortState::Listening,
+            BR_STATE_LEARNING => BridgePortState::Learning,
+            BR_STATE_FORWARDING => BridgePortState::Forwarding,
+            BR_STATE_BLOCKING => BridgePortState::Blocking,
+            _ => BridgePortState::Other(number),
+        }
+    }
+}
+
+/// The number of a case.
+impl From<BridgePortState> for u8 {
+    ghost use Rattle.std.specs.Prelude.{◌≡◌};
+    ghost use Rattle.link_base.specs.Named.{number_of};
+
+    ghost from_gives = { λ v d. d ≡ number_of (⟦<BridgePortState as NamedNumber>⟧.seen v) };
+
+    fn from(value: BridgePortState) -> u8 {
+        match value {
+            BridgePortState::Disabled => BR_STATE_DISABLED,
+            BridgePortState::Listening => BR_STATE_LISTENING,
+            BridgePortState::Learning => BR_STATE_LEARNING,
+            BridgePortState::Forwarding => BR_STATE_FORWARDING,
+            BridgePortState::Blocking => BR_STATE_BLOCKING,
+            BridgePortState::Other(number) => number,
+        }
+    }
+}
+
+/// The name, as `forwarding`; the number where it has none.
+impl fmt::Display for BridgePortState {
+    ghost use Rattle.std.specs.Prelude.{Some};
+    ghost use Rattle.link_base.specs.Named.{displayed};
+
+    ghost output = { λ v. Some (displayed ⟦<BridgePortState as NamedNumber>⟧.names
+        (⟦<BridgePortState as NamedNumber>⟧.seen v)) };
+
+    fn fmt<W: fmt::Write>(&self, f: &mut fmt::Formatter<W>) -> fmt::Result {
+        match self {
+            BridgePortState::Disabled => f.write_str("disabled"),
+            BridgePortState::Listening => f.write_str("listening"),
+            BridgePortState::Learning => f.write_str("learning"),
+            BridgePortState::Forwarding => f.write_str("forwarding"),
+            BridgePortState::Blocking => f.write_str("blocking"),
+            BridgePortState::Other(number) => write!(f, "{number}"),
+        }
+    }
+}
+
+/// Reads a displayed name, or any number of 8 bits: digits, with zeros in front or none, and at most one `+` before
+/// them. Fails with `Text` for every other text.
+impl FromStr for BridgePortState {
+    type Err = DecodeError;
+
+    ghost use Rattle.link_base.specs.Named.{ReadsText};
+
+    ghost from_str_gives = { λ text result. ReadsText ⟦<BridgePortState as NamedNumber>⟧.names text result };
+
+    #[tactic(auto, using(link_base::proofs::Naming::parsed_number, link_base::proofs::Naming::parsed_none))]
+    fn from_str(text: &str) -> Result<Self, DecodeError> {
+        match text {
+            "disabled" => Ok(BridgePortState::Disabled),
+            "listening" => Ok(BridgePortState::Listening),
+            "learning" => Ok(BridgePortState::Learning),
+            "forwarding" => Ok(BridgePortState::Forwarding),
+            "blocking" => Ok(BridgePortState::Blocking),
+            _ => match text.parse::<u8>() {
+                Ok(number) => Ok(number.into()),
+                Err(_) => Err(DecodeError::Fault(DecodeFault::Text)),
+            },
+        }
+    }
+}

@@ -1,0 +1,108 @@
+//! The attributes of `IFLA_PROTINFO` in a message of AF_BRIDGE.
+
+ghost use Rattle.std.specs.Prelude.{◌≡◌, map, None};
+ghost use Rattle.link_base.specs.Frame.{frame_fault};
+ghost use Rattle.link_base.specs.Table.{Gives};
+ghost use Rattle.link_base.specs.Answers.{ListAnswers, OnListMemory};
+ghost use Rattle.link_bridge.specs.ProtoInfo.{proto_info_table, proto_info_means};
+
+use link_base::{
+    Attribute, DecodeError, DefaultNla, ListError, Meaning, Nla, NlaBuffer, Parseable, TryClone,
+    emit_u8, parse_bool, read_list,
+};
+use std::alloc::{AllocError, Global};
+
+/// `IFLA_BRPORT_NEIGH_FORWARD_GRAT`, `include/uapi/linux/if_link.h`.
+const IFLA_BRPORT_NEIGH_FORWARD_GRAT: u16 = 45;
+
+/// An attribute of a port of a bridge, of those that stand in `IFLA_PROTINFO` of a message of AF_BRIDGE
+/// (`IFLA_BRPORT_*`, `include/uapi/linux/if_link.h`).
+#[derive(Debug, PartialEq, Eq, Drop)]
+pub enum LinkProtoInfoBridge {
+    /// Whether gratuitous ARP and unsolicited neighbor advertisements are flooded to the port even where neighbor
+    /// suppression is on (`IFLA_BRPORT_NEIGH_FORWARD_GRAT`, one byte).
+    NeighForwardGrat(bool),
+    /// An attribute of any other kind.
+    Other(DefaultNla),
+}
+
+/// The attributes of `IFLA_PROTINFO` in a message of AF_BRIDGE.
+#[derive(Debug, PartialEq, Eq, Drop)]
+pub struct VecLinkProtoInfoBridge(pub Vec<LinkProtoInfoBridge>);
+
+impl VecLinkProtoInfoBridge {
+    /// The attributes in the payload of an `IFLA_PROTINFO`, or their first fault with the byte offset of its frame, as
+    /// [`read_list`] answers. `Memory` is answered only where the bytes begin with a frame.
+    pub fn parse(alloc: Global, bytes: &[u8]) -> Result<Self, ListError>
+        ensures answer { ListAnswers (λ list. map proto_info_means list.0.items) result (Gives proto_info_table) bytes.now }
+        ensures memory { OnListMemory result (frame_fault bytes.now ≡ None) }
+    {
+        read_list(alloc, bytes).map(Self)
+    }
+}
+
+impl TryClone for LinkProtoInfoBridge {
+    fn try_clone(&self, alloc: Global) -> Result<Self, AllocError> {
+        match self {
+            LinkProtoInfoBridge::NeighForwardGrat(enabled) => {
+                Ok(LinkProtoInfoBridge::NeighForwardGrat(*enabled))
+            }
+            LinkProtoInfoBridge::Other(other) => Ok(LinkProtoInfoBridge::Other(other.try_clone(
+                alloc,
+            )?)),
+        }
+    }
+}
+
+impl Meaning for LinkProtoInfoBridge {
+    ghost table = { proto_info_table };
+
+    ghost means = { proto_info_means };
+}
+
+impl Nla for LinkProtoInfoBridge {
+    fn kind(&self) -> u16 {
+        match self {
+            LinkProtoInfoBridge::NeighForwardGrat(_) => IFLA_BRPORT_NEIGH_FORWARD_GRAT,
+            LinkProtoInfoBridge::Other(other) => other.kind(),
+        }
+    }
+
+    fn value_len(&self) -> usize {
+        match self {
+            LinkProtoInfoBridge::NeighForwardGrat(_) => 1,
+            LinkProtoInfoBridge::Other(other) => other.value_len(),
+        }
+    }
+
+    fn emit_value(&self, buffer: &mut [u8]) {
+        match self {
+            LinkProtoInfoBridge::NeighForwardGrat(enabled) => emit_u8(buffer, u8::from(*enabled)),
+            LinkProtoInfoBridge::Other(other) => other.emit_value(buffer),
+        }
+    }
+}
+
+impl Parseable for LinkProtoInfoBridge {
+    fn parse_payload(alloc: Global, buffer: &NlaBuffer<'_>) -> Result<Self, DecodeError> {
+        match buffer.kind() {
+            IFLA_BRPORT_NEIGH_FORWARD_GRAT => parse_bool(buffer.value()).map(
+                Self::NeighForwardGrat,
+            ),
+            _ => DefaultNla::parse(alloc, buffer).map(Self::Other),
+        }
+    }
+}
+
+impl Attribute for LinkProtoInfoBridge {
+    ghost use Rattle.std.specs.Prelude.{refl};
+    ghost use Rattle.link_base.proofs.TableLaws.{lawful};
+    ghost use Rattle.link_base.specs.Equality.{of_cases, thorough_fields};
+    ghost use Rattle.link_bridge.specs.contracts.proto_info.LinkProtoInfoBridge.{enum};
+
+    ghost lawful = { lawful proto_info_table };
+
+    ghost well_formed = { refl };
+
+    ghost thorough = { of_cases enum _ _ (Prim.search (thorough_fields)) };
+}
