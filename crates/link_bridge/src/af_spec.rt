@@ -69,9 +69,10 @@ impl TryClone for AfSpecBridge {
             AfSpecBridge::Flags(flag) => Ok(AfSpecBridge::Flags(*flag)),
             AfSpecBridge::Mode(mode) => Ok(AfSpecBridge::Mode(*mode)),
             AfSpecBridge::VlanInfo(info) => Ok(AfSpecBridge::VlanInfo(*info)),
-            AfSpecBridge::VlanTunnelInfo(tunnel) => Ok(AfSpecBridge::VlanTunnelInfo(try_clone_list(
-                alloc, tunnel,
-            )?)),
+            AfSpecBridge::VlanTunnelInfo(tunnels) => {
+                let tunnels = try_clone_list(alloc, tunnels)?;
+                Ok(AfSpecBridge::VlanTunnelInfo(tunnels))
+            }
             AfSpecBridge::Other(other) => Ok(AfSpecBridge::Other(other.try_clone(alloc)?)),
         }
     }
