@@ -118,7 +118,7 @@ pub through : {K J M L : Type 0} {eq : J → J → Bool} {means : J → M} (part
 through part make h = record { same = λ a b e. ap make (h.same (part a) (part b) e) }
 
 -- lists, element by element
-each : {K M : Type 0} {eq : K → K → Bool} {means : K → M} → IsThorough eq means → (xs ys : List K) → pointwise eq xs ys ≡ true → map means xs ≡ map means ys
+pub each : {K M : Type 0} {eq : K → K → Bool} {means : K → M} → IsThorough eq means → (xs ys : List K) → pointwise eq xs ys ≡ true → map means xs ≡ map means ys
 each h [] [] e = refl
 each h [] (y ∷ ys) e = absurd (true≢false (sym e))
 each h (x ∷ xs) [] e = absurd (true≢false (sym e))
