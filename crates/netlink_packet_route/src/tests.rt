@@ -4,6 +4,7 @@ mod flags;
 mod frames;
 mod laws;
 mod limits;
+mod lists;
 mod names;
 mod payloads;
 mod records;

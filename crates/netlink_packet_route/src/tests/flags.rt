@@ -1,6 +1,8 @@
 //! Sets of flags: their constants, and the calls of `Flags`.
 
-use crate::link::{BridgeBooleanOptionFlags, CanCtrlModeFlags, LacpState, VlanFlags};
+use crate::link::{
+    BridgeBooleanOptionFlags, BridgeVlanInfoFlags, CanCtrlModeFlags, LacpState, VlanFlags,
+};
 use bitflags::Flags;
 use std::fmt::Debug;
 use std::hash::{DefaultHasher, Hash, Hasher};
@@ -72,6 +74,30 @@ fn boolean_options(rt: HostRuntime) {
                 BridgeBooleanOptionFlags::MstEnable.complement(),
                 0xFFFF_FFFB,
             ),
+        ],
+    );
+}
+
+#[test]
+fn vlan_info_flags(rt: HostRuntime) {
+    are_bits(
+        &rt,
+        &[
+            (BridgeVlanInfoFlags::Controller, 0x1),
+            (BridgeVlanInfoFlags::Pvid, 0x2),
+            (BridgeVlanInfoFlags::Untagged, 0x4),
+            (BridgeVlanInfoFlags::RangeBegin, 0x8),
+            (BridgeVlanInfoFlags::RangeEnd, 0x10),
+            (BridgeVlanInfoFlags::Brentry, 0x20),
+            (BridgeVlanInfoFlags::OnlyOpts, 0x40),
+            (BridgeVlanInfoFlags::all(), 0xFFFF),
+            (BridgeVlanInfoFlags::empty(), 0),
+            (BridgeVlanInfoFlags::from_bits_truncate(0x8001), 0x8001),
+            (
+                BridgeVlanInfoFlags::Pvid.union(BridgeVlanInfoFlags::Untagged),
+                0x6,
+            ),
+            (BridgeVlanInfoFlags::OnlyOpts.complement(), 0xFFBF),
         ],
     );
 }
@@ -152,4 +178,6 @@ fn hashes(rt: HostRuntime) {
     assert!(rt; hash_of(joined) == hash_of(VlanFlags::from_bits_retain(3)));
     let joined = CanCtrlModeFlags::Loopback.union(CanCtrlModeFlags::Fd);
     assert!(rt; hash_of(joined) == hash_of(CanCtrlModeFlags::from_bits_retain(0x21)));
+    let joined = BridgeVlanInfoFlags::Pvid.union(BridgeVlanInfoFlags::Untagged);
+    assert!(rt; hash_of(joined) == hash_of(BridgeVlanInfoFlags::from_bits_retain(6)));
 }

@@ -3,12 +3,14 @@
 //! at one type at least.
 
 use crate::link::{
-    BondAdInfo, BondAdSelect, BondAllPortActive, BondArpAllTargets, BondArpValidate,
+    AfSpecBridge, BondAdInfo, BondAdSelect, BondAllPortActive, BondArpAllTargets, BondArpValidate,
     BondFailOverMac, BondLacpRate, BondMode, BondPortState, BondPrimaryReselect,
-    BondXmitHashPolicy, BridgeBooleanOptionFlags, BridgeMulticastRouterType, BridgeQuerierState,
-    BridgeStpMode, BridgeStpState, CanCtrlModeExt, CanCtrlModeFlags, CanTdc, ChurnState,
-    DefaultNla, HsrProtocol, InfoBond, InfoBondPort, InfoBridge, InfoCan, InfoDsa, InfoHsr,
-    InfoVlan, LacpState, MiiStatus, VlanFlags, VlanQosMapping, laws,
+    BondXmitHashPolicy, BridgeBooleanOptionFlags, BridgeFlag, BridgeMode,
+    BridgeMulticastRouterType, BridgePortState, BridgeQuerierState, BridgeStpMode, BridgeStpState,
+    BridgeVlanInfoFlags, BridgeVlanTunnelInfo, CanCtrlModeExt, CanCtrlModeFlags, CanTdc,
+    ChurnState, DefaultNla, HsrProtocol, InfoBond, InfoBondPort, InfoBridge, InfoBridgePort,
+    InfoCan, InfoDsa, InfoHsr, InfoVlan, LacpState, LinkProtoInfoBridge, MiiStatus, VlanFlags,
+    VlanQosMapping, laws,
 };
 use link_base::{flag_laws, named_laws};
 
@@ -79,6 +81,10 @@ fn equality_of_attributes() {
     laws::equality::<InfoBondPort>();
     laws::equality::<InfoBridge>();
     laws::equality::<BridgeQuerierState>();
+    laws::equality::<InfoBridgePort>();
+    laws::equality::<AfSpecBridge>();
+    laws::equality::<BridgeVlanTunnelInfo>();
+    laws::equality::<LinkProtoInfoBridge>();
     laws::equality::<InfoVlan>();
     laws::equality::<VlanQosMapping>();
     laws::equality::<InfoCan>();
@@ -105,6 +111,9 @@ fn equality_of_named_numbers() {
     named_laws::equality::<BridgeStpState>();
     named_laws::equality::<BridgeStpMode>();
     named_laws::equality::<BridgeMulticastRouterType>();
+    named_laws::equality::<BridgePortState>();
+    named_laws::equality::<BridgeFlag>();
+    named_laws::equality::<BridgeMode>();
     named_laws::equality::<HsrProtocol>();
 }
 
@@ -132,10 +141,14 @@ fn laws_of_flags() {
     flag_laws::every_bit_known::<CanCtrlModeFlags>();
     flag_laws::equality::<BridgeBooleanOptionFlags>();
     flag_laws::every_bit_known::<BridgeBooleanOptionFlags>();
+    flag_laws::equality::<BridgeVlanInfoFlags>();
+    flag_laws::hashing::<BridgeVlanInfoFlags>();
+    flag_laws::every_bit_known::<BridgeVlanInfoFlags>();
     flag_laws::bit_by_bit();
     link_bond::laws::lacp_state_bits();
     link_bridge::laws::boolean_option_bits();
     link_bridge::laws::default_options();
+    link_bridge::laws::vlan_info_flag_bits();
     link_vlan_can::laws::vlan_flag_bits();
     link_vlan_can::laws::can_mode_bits();
 }
@@ -144,4 +157,7 @@ fn laws_of_flags() {
 fn laws_of_bridges() {
     link_bridge::laws::bridge_id_back();
     link_bridge::laws::auto_router();
+    link_bridge::laws::payload_lengths();
+    link_bridge::laws::vlan_info_back();
+    link_bridge::laws::equality_of_lists();
 }

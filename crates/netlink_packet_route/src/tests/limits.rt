@@ -1,8 +1,8 @@
 //! Payloads as long as can be, and values that do not fit.
 
 use crate::link::{
-    Attribute, DefaultNla, InfoBond, InfoVlan, Nla, VlanQosMapping, WriteError, emit_list,
-    list_fits, list_len, read_list, write_list,
+    AfSpecBridge, Attribute, BridgeVlanInfo, BridgeVlanInfoFlags, DefaultNla, InfoBond, InfoVlan,
+    Nla, VlanQosMapping, WriteError, emit_list, list_fits, list_len, read_list, write_list,
 };
 use crate::tests::{bytes, holds, list};
 use crate::{Family, RewriteError, report, rewrite};
@@ -196,4 +196,37 @@ fn the_value_of_a_list_that_grows(rt: HostRuntime) {
     assert!(rt; values == list(&rt, alloc, [value]));
     let long = RewriteError::TooLong { index: 0 };
     assert!(rt; rewrite(alloc, Family::Vlan, &bytes) == Err(long));
+}
+
+/// Every VLAN that there can be, 1 to 4094, each in an attribute of its own.
+#[test]
+fn every_vlan_of_a_bridge(rt: HostRuntime) {
+    let alloc = rt.alloc();
+    let mut bytes = Vec::new(alloc);
+    let mut vlans = Vec::new(alloc);
+    let mut wanted = String::new(alloc);
+    for vid in 1..4095u16 {
+        let info = BridgeVlanInfo {
+            flags: BridgeVlanInfoFlags::Untagged,
+            vid,
+        };
+        let [low, high] = vid.to_le_bytes();
+        bytes
+            .extend_from_slice(&[8, 0, 2, 0, 4, 0, low, high])
+            .expect(&rt, "a frame");
+        vlans
+            .push(AfSpecBridge::VlanInfo(info))
+            .expect(&rt, "a VLAN");
+        wanted.push_str("attr 2 len 4\n").expect(&rt, "a line");
+    }
+    assert!(rt; bytes.len() == 32_752);
+    let values: Vec<AfSpecBridge> = read_list(alloc, &bytes).expect(&rt, "every VLAN");
+    assert!(rt; values == vlans);
+    let digits = hex::encode(alloc, &bytes).expect(&rt, "digits");
+    wanted.push_str("out ").expect(&rt, "the bytes");
+    wanted.push_str(&digits).expect(&rt, "the bytes");
+    wanted.push_str("\nsame\n").expect(&rt, "the verdict");
+    let answer = report(alloc, Family::AfSpecBridge, digits.as_bytes());
+    let (out, status) = answer.expect(&rt, "a report");
+    assert!(rt; out == wanted && status == 0);
 }

@@ -2,9 +2,9 @@
 
 use crate::link::{
     BondAdSelect, BondAllPortActive, BondArpAllTargets, BondArpValidate, BondFailOverMac,
-    BondLacpRate, BondMode, BondPortState, BondPrimaryReselect, BondXmitHashPolicy,
-    BridgeMulticastRouterType, BridgeStpMode, BridgeStpState, ChurnState, DecodeError, DecodeFault,
-    HsrProtocol, MiiStatus, VlanProtocol,
+    BondLacpRate, BondMode, BondPortState, BondPrimaryReselect, BondXmitHashPolicy, BridgeFlag,
+    BridgeMode, BridgeMulticastRouterType, BridgePortState, BridgeStpMode, BridgeStpState,
+    ChurnState, DecodeError, DecodeFault, HsrProtocol, MiiStatus, VlanProtocol,
 };
 use crate::tests::holds;
 use std::alloc::Global;
@@ -473,6 +473,119 @@ fn router_types(rt: HostRuntime) {
             "Auto",
             "perm",
             "disable",
+        ],
+    );
+}
+
+#[test]
+fn bridge_port_states(rt: HostRuntime) {
+    are_told(
+        &rt,
+        rt.alloc(),
+        &[
+            (0u8, BridgePortState::Disabled, "disabled"),
+            (1, BridgePortState::Listening, "listening"),
+            (2, BridgePortState::Learning, "learning"),
+            (3, BridgePortState::Forwarding, "forwarding"),
+            (4, BridgePortState::Blocking, "blocking"),
+            (5, BridgePortState::Other(5), "5"),
+            (u8::MAX, BridgePortState::Other(u8::MAX), "255"),
+        ],
+    );
+    are_read(
+        &rt,
+        &[
+            ("0", BridgePortState::Disabled),
+            ("+1", BridgePortState::Listening),
+            ("02", BridgePortState::Learning),
+            ("3", BridgePortState::Forwarding),
+            ("+004", BridgePortState::Blocking),
+            ("0255", BridgePortState::Other(255)),
+        ],
+    );
+    are_no_texts::<BridgePortState>(&rt, &NO_NUMBERS);
+    are_no_texts::<BridgePortState>(
+        &rt,
+        &[
+            "256",
+            "1000",
+            "Disabled",
+            "disable",
+            "listening ",
+            " learning",
+            "LEARNING",
+            "forward",
+            "blocked",
+            "blocking4",
+        ],
+    );
+}
+
+#[test]
+fn bridge_flags(rt: HostRuntime) {
+    are_told(
+        &rt,
+        rt.alloc(),
+        &[
+            (1u16, BridgeFlag::Controller, "master"),
+            (2, BridgeFlag::LowerDev, "self"),
+            (0, BridgeFlag::Other(0), "0"),
+            (3, BridgeFlag::Other(3), "3"),
+            (u16::MAX, BridgeFlag::Other(u16::MAX), "65535"),
+        ],
+    );
+    are_read(
+        &rt,
+        &[
+            ("1", BridgeFlag::Controller),
+            ("+2", BridgeFlag::LowerDev),
+            ("00000002", BridgeFlag::LowerDev),
+            ("+065535", BridgeFlag::Other(65535)),
+        ],
+    );
+    are_no_texts::<BridgeFlag>(&rt, &NO_NUMBERS);
+    are_no_texts::<BridgeFlag>(
+        &rt,
+        &[
+            "65536",
+            "100000",
+            "Master",
+            "maste",
+            "masters",
+            "self ",
+            "SELF",
+            "controller",
+            "lower_dev",
+        ],
+    );
+}
+
+#[test]
+fn bridge_modes(rt: HostRuntime) {
+    are_told(
+        &rt,
+        rt.alloc(),
+        &[
+            (0u16, BridgeMode::Veb, "veb"),
+            (1, BridgeMode::Vepa, "vepa"),
+            (2, BridgeMode::Other(2), "2"),
+            (u16::MAX, BridgeMode::Other(u16::MAX), "65535"),
+        ],
+    );
+    are_read(
+        &rt,
+        &[
+            ("+0", BridgeMode::Veb),
+            ("1", BridgeMode::Vepa),
+            ("000001", BridgeMode::Vepa),
+            ("65534", BridgeMode::Other(65534)),
+        ],
+    );
+    are_no_texts::<BridgeMode>(&rt, &NO_NUMBERS);
+    are_no_texts::<BridgeMode>(
+        &rt,
+        &[
+            "65536", "65540", "Veb", "VEPA", "veb ", "ve", "vepas", "undef", "none",
         ],
     );
 }

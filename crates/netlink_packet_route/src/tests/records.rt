@@ -1,8 +1,8 @@
 //! Records that are no attributes: worked bytes, and refusals.
 
 use crate::link::{
-    BridgeBooleanOptionFlags, BridgeBooleanOptions, BridgeId, BridgeIdBuffer, Cause, DecodeError,
-    DecodeFault, Emitable,
+    BridgeBooleanOptionFlags, BridgeBooleanOptions, BridgeId, BridgeIdBuffer, BridgeVlanInfo,
+    BridgeVlanInfoFlags, Cause, DecodeError, DecodeFault, Emitable,
 };
 use bitflags::Flags;
 
@@ -61,4 +61,23 @@ fn options(rt: HostRuntime) {
     assert!(rt; BridgeBooleanOptions::parse(&buffer) == Err(long));
     let short = refusal(Cause::TooShort { want: 8, got: 7 });
     assert!(rt; BridgeBooleanOptions::parse(&buffer[..7]) == Err(short));
+}
+
+#[test]
+fn vlans(rt: HostRuntime) {
+    let info = BridgeVlanInfo {
+        flags: BridgeVlanInfoFlags::from_bits_retain(0x8006),
+        vid: 0x0102,
+    };
+    let payload = [0x06, 0x80, 0x02, 0x01, 0xFF];
+    let octets = <[u8; 4]>::from(&info);
+    assert!(rt; octets == [0x06, 0x80, 0x02, 0x01]);
+    assert!(rt; BridgeVlanInfo::try_from(&payload[..4]) == Ok(info));
+    for got in [0, 3, 5] {
+        let refused = refusal(Cause::WrongLength { want: 4, got });
+        assert!(rt;
+            BridgeVlanInfo::try_from(&payload[..got]) == Err(refused),
+            "of {got}"
+        );
+    }
 }

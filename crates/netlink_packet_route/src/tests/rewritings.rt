@@ -41,6 +41,14 @@ fn bytes_that_stay(rt: HostRuntime) {
         (Family::Bridge, "04002f80"),
         (Family::Bridge, "06000800 81000000"),
         (Family::Bridge, "0c000b00 80000200 00000001"),
+        (Family::BridgePort, "05000b00 01000000"),
+        (Family::BridgePort, "06001ac0 dead0000 05002d00 01000000"),
+        (Family::AfSpecBridge, "06000000 02000000 08000200 06000100"),
+        (
+            Family::AfSpecBridge,
+            "1c000300 08000100 64000000 06000200 0a000000 06000300 00000000",
+        ),
+        (Family::ProtoBridge, "05000400 07000000 05002d00 00000000"),
         (Family::Can, "08000800 01000200"),
         (Family::Can, "0c001080 08000700 03000000"),
     ] {
@@ -78,6 +86,18 @@ fn bytes_that_change_once(rt: HostRuntime) {
             Family::Bridge,
             "0e000b00 80000200 00000001 ffff0000",
             "0c000b00 80000200 00000001",
+        ),
+        (Family::BridgePort, "05000400 07000000", "05000400 01000000"),
+        (Family::BridgePort, "06001800 01020000", "04001800"),
+        (
+            Family::AfSpecBridge,
+            "0a000380 06000240 0a000000",
+            "0c000300 06000200 0a000000",
+        ),
+        (
+            Family::ProtoBridge,
+            "05002d80 ff000000 060004c0 dead",
+            "05002d00 01000000 060004c0 dead0000",
         ),
         (
             Family::Can,

@@ -1,8 +1,10 @@
 //! Displayed texts of faults and errors, and debug texts.
 
 use crate::link::{
-    BondAdInfo, BondMode, CanCtrlModeFlags, Cause, DecodeError, DecodeFault, DefaultNla, InfoBond,
-    InfoDsa, LacpState, ListError, NlaBuffer, NlasIterator, VlanFlags, VlanProtocol, WriteError,
+    AfSpecBridge, BondAdInfo, BondMode, BridgeMode, CanCtrlModeFlags, Cause, DecodeError,
+    DecodeFault, DefaultNla, InfoBond, InfoDsa, LacpState, LinkProtoInfoBridge, ListError,
+    NlaBuffer, NlasIterator, VecAfSpecBridge, VecLinkProtoInfoBridge, VlanFlags, VlanProtocol,
+    WriteError,
 };
 use crate::tests::{holds, list};
 use crate::{Family, RewriteError};
@@ -157,6 +159,18 @@ fn debug_texts_of_values(rt: HostRuntime) {
     let state = LacpState::from_bits_retain(5);
     is_debugged(&rt, alloc, state, "LacpState(5)");
     is_debugged(&rt, alloc, Family::BondPort, "BondPort");
+}
+
+#[test]
+fn debug_texts_of_lists(rt: HostRuntime) {
+    let alloc = rt.alloc();
+    let mode = AfSpecBridge::Mode(BridgeMode::Vepa);
+    let af_spec = VecAfSpecBridge(list(&rt, alloc, [mode]));
+    is_debugged(&rt, alloc, af_spec, "VecAfSpecBridge([Mode(Vepa)])");
+    let neighbors = LinkProtoInfoBridge::NeighForwardGrat(false);
+    let information = VecLinkProtoInfoBridge(list(&rt, alloc, [neighbors]));
+    let wanted = "VecLinkProtoInfoBridge([NeighForwardGrat(false)])";
+    is_debugged(&rt, alloc, information, wanted);
 }
 
 #[test]

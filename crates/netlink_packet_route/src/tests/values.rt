@@ -1,10 +1,12 @@
 //! Values of worked bytes, and of each case that holds memory: read, copied and written.
 
 use crate::link::{
-    BondAdInfo, BondArpValidate, BondMode, BridgeQuerierState, CanBerrCounter, CanBitTiming,
-    CanBitTimingConst, CanClock, CanCtrlMode, CanCtrlModeExt, CanCtrlModeFlags, CanTdc, Cause,
-    DecodeFault, DefaultNla, HsrProtocol, InfoBond, InfoBondPort, InfoBridge, InfoCan, InfoDsa,
-    InfoHsr, InfoVlan, LacpState, VlanFlags, VlanProtocol, VlanQosMapping, read_list, write_list,
+    AfSpecBridge, BondAdInfo, BondArpValidate, BondMode, BridgeFlag, BridgeId, BridgePortState,
+    BridgeQuerierState, BridgeVlanInfo, BridgeVlanInfoFlags, BridgeVlanTunnelInfo, CanBerrCounter,
+    CanBitTiming, CanBitTimingConst, CanClock, CanCtrlMode, CanCtrlModeExt, CanCtrlModeFlags,
+    CanTdc, Cause, DecodeFault, DefaultNla, HsrProtocol, InfoBond, InfoBondPort, InfoBridge,
+    InfoBridgePort, InfoCan, InfoDsa, InfoHsr, InfoVlan, LacpState, LinkProtoInfoBridge, VlanFlags,
+    VlanProtocol, VlanQosMapping, read_list, write_list,
 };
 use crate::tests::{are_refused, bytes, can_limits, is_kept, is_written, list, reads_as};
 use bitflags::Flags;
@@ -333,6 +335,67 @@ fn queriers_of_bridges(rt: HostRuntime) {
     is_kept(&rt, alloc, digits, local);
     let other = BridgeQuerierState::Other(any(&rt, alloc, 0x4004, [7]));
     is_kept(&rt, alloc, "05000440 07000000", other);
+}
+
+#[test]
+fn ports_of_bridges(rt: HostRuntime) {
+    let alloc = rt.alloc();
+    let hairpin = InfoBridgePort::HairpinMode(true);
+    reads_as(&rt, alloc, "05000400 07000000", hairpin);
+    is_kept(&rt, alloc, "04001800", InfoBridgePort::Flush);
+    reads_as(&rt, alloc, "06001800 01020000", InfoBridgePort::Flush);
+    let state = InfoBridgePort::State(BridgePortState::Blocking);
+    is_kept(&rt, alloc, "05000100 04000000", state);
+    // what stands behind an identifier is passed over
+    let root = InfoBridgePort::RootId(BridgeId {
+        priority: 32768,
+        address: [2, 0, 0, 0, 0, 1],
+    });
+    reads_as(&rt, alloc, "0e000d00 80000200 00000001 ffff", root);
+    let sync = InfoBridgePort::Other(any(&rt, alloc, 11, [1]));
+    is_kept(&rt, alloc, "05000b00 01000000", sync);
+    let padding = InfoBridgePort::Other(any(&rt, alloc, 0xC01A, [1, 2]));
+    is_kept(&rt, alloc, "06001ac0 01020000", padding);
+    let neighbors = LinkProtoInfoBridge::NeighForwardGrat(true);
+    is_kept(&rt, alloc, "05002d00 01000000", neighbors);
+    // any other kind of a port is kept as it is
+    let hairpin = LinkProtoInfoBridge::Other(any(&rt, alloc, 4, [7]));
+    is_kept(&rt, alloc, "05000400 07000000", hairpin);
+}
+
+#[test]
+fn af_spec(rt: HostRuntime) {
+    let alloc = rt.alloc();
+    let flags = AfSpecBridge::Flags(BridgeFlag::LowerDev);
+    is_kept(&rt, alloc, "06000000 02000000", flags);
+    let info = AfSpecBridge::VlanInfo(BridgeVlanInfo {
+        flags: BridgeVlanInfoFlags::Pvid.union(BridgeVlanInfoFlags::Untagged),
+        vid: 1,
+    });
+    is_kept(&rt, alloc, "08000200 06000100", info);
+    let other = AfSpecBridge::Other(any(&rt, alloc, 0x8004, [1, 2, 3, 4]));
+    is_kept(&rt, alloc, "08000480 01020304", other);
+}
+
+#[test]
+fn tunnels_of_bridges(rt: HostRuntime) {
+    let alloc = rt.alloc();
+    let id = BridgeVlanTunnelInfo::Id(100);
+    let vid = BridgeVlanTunnelInfo::Vid(10);
+    let flags = BridgeVlanTunnelInfo::Flags(BridgeVlanInfoFlags::empty());
+    let tunnel = AfSpecBridge::VlanTunnelInfo(list(&rt, alloc, [id, vid, flags]));
+    let digits = "1c000300 08000100 64000000 06000200 0a000000 06000300 00000000";
+    is_kept(&rt, alloc, digits, tunnel);
+    // the last element has no padding
+    let vid = BridgeVlanTunnelInfo::Vid(10);
+    let tunnel = AfSpecBridge::VlanTunnelInfo(list(&rt, alloc, [vid]));
+    reads_as(&rt, alloc, "0a000380 06000240 0a00", tunnel);
+    let none = AfSpecBridge::VlanTunnelInfo(Vec::new(alloc));
+    is_kept(&rt, alloc, "04000300", none);
+    let end = BridgeVlanTunnelInfo::Flags(BridgeVlanInfoFlags::RangeEnd);
+    is_kept(&rt, alloc, "06000300 10000000", end);
+    let other = BridgeVlanTunnelInfo::Other(any(&rt, alloc, 0xC000, [7]));
+    is_kept(&rt, alloc, "050000c0 07000000", other);
 }
 
 #[test]
