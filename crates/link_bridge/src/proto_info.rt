@@ -34,7 +34,8 @@ impl VecLinkProtoInfoBridge {
     /// The attributes in the payload of an `IFLA_PROTINFO`, or their first fault with the byte offset of its frame, as
     /// [`read_list`] answers. `Memory` is answered only where the bytes begin with a frame.
     pub fn parse(alloc: Global, bytes: &[u8]) -> Result<Self, ListError>
-        ensures answer { ListAnswers (λ list. map proto_info_means list.0.items) result (Gives proto_info_table) bytes.now }
+        ensures answer { ListAnswers (λ list. map proto_info_means list.0.items) result
+            (Gives proto_info_table) bytes.now }
         ensures memory { OnListMemory result (frame_fault bytes.now ≡ None) }
     {
         read_list(alloc, bytes).map(Self)

@@ -1,7 +1,7 @@
 //! Reads a list of link attributes as hex text, and prints its values and the bytes that are written for them.
 //!
-//! `nlroute FAMILY`, where FAMILY is `af_spec_bridge`, `bond`, `bond_port`, `bridge`, `bridge_port`, `vlan`, `can`, `dsa`,
-//! `hsr` or `proto_bridge`; the text comes from standard input.
+//! `nlroute FAMILY`, where FAMILY is `af_spec_bridge`, `bond`, `bond_port`, `bridge`, `bridge_port`, `vlan`, `can`,
+//! `dsa`, `hsr` or `proto_bridge`; the text comes from standard input.
 #![tactic(auto)]
 
 mod arguments;

@@ -9,8 +9,8 @@ const BRIDGE_FLAGS_MASTER: u16 = 1;
 
 const BRIDGE_FLAGS_SELF: u16 = 2;
 
-/// Whose settings of a port of a bridge a message sets or shows: those of the bridge, or those of the device that is the
-/// port (`BRIDGE_FLAGS_*`, `include/uapi/linux/if_bridge.h`). The kernel takes them for bits: both are `Other(3)`.
+/// Whose settings of a port of a bridge a message sets or shows: those of the bridge, or those of the device that is
+/// the port (`BRIDGE_FLAGS_*`, `include/uapi/linux/if_bridge.h`). The kernel takes them for bits: both are `Other(3)`.
 #[derive(Clone, Copy, Debug, PartialEq, Eq)]
 pub enum BridgeFlag {
     /// Those of the bridge (`BRIDGE_FLAGS_MASTER`, 1).

@@ -3,8 +3,8 @@
 use bitflags::{Flag, Flags};
 use link_base::flag_laws::{FlagSet, KnownBits};
 
-/// Flags of a VLAN of a bridge or of a port of one (`BRIDGE_VLAN_INFO_*`, `include/uapi/linux/if_bridge.h`). Bits without
-/// a name are kept.
+/// Flags of a VLAN of a bridge or of a port of one (`BRIDGE_VLAN_INFO_*`, `include/uapi/linux/if_bridge.h`). Bits
+/// without a name are kept.
 #[derive(Clone, Copy, Debug, PartialEq, Eq, Hash)]
 pub struct BridgeVlanInfoFlags(u16);
 
@@ -27,7 +27,8 @@ impl BridgeVlanInfoFlags {
     /// The VLAN is used by the bridge itself, and not by its ports alone (`BRIDGE_VLAN_INFO_BRENTRY`).
     pub const Brentry: BridgeVlanInfoFlags = BridgeVlanInfoFlags(0x20);
 
-    /// Only options of the VLAN are set; it is neither made nor dropped, and its flags stay (`BRIDGE_VLAN_INFO_ONLY_OPTS`).
+    /// Only options of the VLAN are set; it is neither made nor dropped, and its flags stay
+    /// (`BRIDGE_VLAN_INFO_ONLY_OPTS`).
     pub const OnlyOpts: BridgeVlanInfoFlags = BridgeVlanInfoFlags(0x40);
 
     /// The bytes of the payload of such flags.
