@@ -10,6 +10,7 @@ mod payloads;
 mod records;
 mod reports;
 mod rewritings;
+mod surface;
 mod texts;
 mod values;
 
