@@ -1,10 +1,8 @@
-//! Each law, called once: those of families at an attribute of any kind and at families with lists and names, the
-//! others
-//! at one type at least.
+//! Each law, called: those of attributes at each type of attributes, the others at one type at least.
 
 use crate::link::{
-    AfSpecBridge, BondAdInfo, BondAdSelect, BondAllPortActive, BondArpAllTargets, BondArpValidate,
-    BondFailOverMac, BondLacpRate, BondMode, BondPortState, BondPrimaryReselect,
+    AfSpecBridge, Attribute, BondAdInfo, BondAdSelect, BondAllPortActive, BondArpAllTargets,
+    BondArpValidate, BondFailOverMac, BondLacpRate, BondMode, BondPortState, BondPrimaryReselect,
     BondXmitHashPolicy, BridgeBooleanOptionFlags, BridgeFlag, BridgeMode,
     BridgeMulticastRouterType, BridgePortState, BridgeQuerierState, BridgeStpMode, BridgeStpState,
     BridgeVlanInfoFlags, BridgeVlanTunnelInfo, CanCtrlModeExt, CanCtrlModeFlags, CanTdc,
@@ -23,75 +21,46 @@ fn laws_of_tables() {
     laws::items();
     laws::one_form();
     laws::fault_equality();
+    laws::error_equality();
+    laws::frame_equality();
 }
 
 #[test]
-fn laws_of_any_kind() {
-    laws::reads_back::<DefaultNla>();
-    laws::read_values::<DefaultNla>();
-    laws::other_kept::<DefaultNla>();
-    laws::joined::<DefaultNla>();
-    laws::plain_back::<DefaultNla>();
-    laws::plain_bytes::<DefaultNla>();
-    laws::plain_uncut::<DefaultNla>();
-    laws::rewriting::<DefaultNla>();
-    laws::one_rewriting::<DefaultNla>();
-    laws::second_equal::<DefaultNla>();
-    laws::canonical_reads::<DefaultNla>();
-    laws::canonical_once::<DefaultNla>();
+fn laws_of_attributes() {
+    laws_of::<DefaultNla>();
+    laws_of::<InfoBond>();
+    laws_of::<BondAdInfo>();
+    laws_of::<InfoBondPort>();
+    laws_of::<InfoBridge>();
+    laws_of::<BridgeQuerierState>();
+    laws_of::<InfoBridgePort>();
+    laws_of::<AfSpecBridge>();
+    laws_of::<BridgeVlanTunnelInfo>();
+    laws_of::<LinkProtoInfoBridge>();
+    laws_of::<InfoVlan>();
+    laws_of::<VlanQosMapping>();
+    laws_of::<InfoCan>();
+    laws_of::<CanTdc>();
+    laws_of::<CanCtrlModeExt>();
+    laws_of::<InfoDsa>();
+    laws_of::<InfoHsr>();
 }
 
-#[test]
-fn laws_of_can() {
-    laws::reads_back::<InfoCan>();
-    laws::read_values::<InfoCan>();
-    laws::other_kept::<InfoCan>();
-    laws::joined::<InfoCan>();
-    laws::plain_back::<InfoCan>();
-    laws::plain_bytes::<InfoCan>();
-    laws::plain_uncut::<InfoCan>();
-    laws::rewriting::<InfoCan>();
-    laws::one_rewriting::<InfoCan>();
-    laws::second_equal::<InfoCan>();
-    laws::canonical_reads::<InfoCan>();
-    laws::canonical_once::<InfoCan>();
-}
-
-#[test]
-fn laws_of_vlan() {
-    laws::reads_back::<InfoVlan>();
-    laws::read_values::<InfoVlan>();
-    laws::other_kept::<InfoVlan>();
-    laws::joined::<InfoVlan>();
-    laws::plain_back::<InfoVlan>();
-    laws::plain_bytes::<InfoVlan>();
-    laws::plain_uncut::<InfoVlan>();
-    laws::rewriting::<InfoVlan>();
-    laws::one_rewriting::<InfoVlan>();
-    laws::second_equal::<InfoVlan>();
-    laws::canonical_reads::<InfoVlan>();
-    laws::canonical_once::<InfoVlan>();
-}
-
-#[test]
-fn equality_of_attributes() {
-    laws::equality::<DefaultNla>();
-    laws::equality::<InfoBond>();
-    laws::equality::<BondAdInfo>();
-    laws::equality::<InfoBondPort>();
-    laws::equality::<InfoBridge>();
-    laws::equality::<BridgeQuerierState>();
-    laws::equality::<InfoBridgePort>();
-    laws::equality::<AfSpecBridge>();
-    laws::equality::<BridgeVlanTunnelInfo>();
-    laws::equality::<LinkProtoInfoBridge>();
-    laws::equality::<InfoVlan>();
-    laws::equality::<VlanQosMapping>();
-    laws::equality::<InfoCan>();
-    laws::equality::<CanTdc>();
-    laws::equality::<CanCtrlModeExt>();
-    laws::equality::<InfoDsa>();
-    laws::equality::<InfoHsr>();
+/// Calls each law of attributes at a type.
+fn laws_of<F: Attribute>() {
+    laws::reads_back::<F>();
+    laws::read_values::<F>();
+    laws::other_kept::<F>();
+    laws::joined::<F>();
+    laws::plain_back::<F>();
+    laws::plain_bytes::<F>();
+    laws::plain_uncut::<F>();
+    laws::rewriting::<F>();
+    laws::one_rewriting::<F>();
+    laws::second_equal::<F>();
+    laws::canonical_reads::<F>();
+    laws::canonical_once::<F>();
+    laws::equality::<F>();
 }
 
 #[test]
