@@ -15,10 +15,12 @@ alone, and then any refusal is its own. A mutant that does not apply, or does no
 
 The crates as they stand have to be proved, as by `rt ci` or `rt all check`: this is not tried again. Libraries that are
 newer than their sources, and kept work, are taken from crates/NAME/out/, and nothing is written to the repository.
-Crates are tried side by side, at most N checks at once (if left out, one a processor, and as many as memory holds).
+Checks go side by side, at most N at once (if left out, one a processor, and as many as memory holds).
 The last line is 'N passed, M failed', and the status 0 only if all mutants are refused.
 """
 import argparse
+import contextlib
+import functools
 import os
 import re
 import shutil
@@ -27,7 +29,7 @@ import sys
 import tempfile
 import threading
 import time
-from concurrent.futures import ThreadPoolExecutor
+from concurrent.futures import FIRST_COMPLETED, ThreadPoolExecutor, wait
 
 sys.dont_write_bytecode = True
 sys.path.insert(0, os.path.dirname(os.path.realpath(__file__)))
@@ -151,25 +153,39 @@ class Trial:
 
     def __init__(self, crate, room, run, say):
         self.crate, self.room, self.run, self.say = crate, room, run, say
-        self.passed = self.failed = self.together = self.alone = 0
+        self.passed = self.failed = self.together = self.alone = self.open = 0
         self.work, self.peak, self.started = 0.0, 0, time.time()
-        self.kept = f"{room}/kept"
+        self.spare, self.lock = [], threading.Lock()
         crate.texts = crate.sources()
+
+    @contextlib.contextmanager
+    def kept(self):
+        """A copy of the crate's kept work that no other check uses meanwhile."""
+        with self.lock:
+            folder = self.spare.pop() if self.spare else ""
+        if not folder:
+            folder = tempfile.mkdtemp(prefix="kept-", dir=self.room)
+            if os.path.isdir(f"{self.crate.folder}/out/incremental"):
+                shutil.copytree(f"{self.crate.folder}/out/incremental", folder, dirs_exist_ok=True)
+        yield folder
+        with self.lock:
+            self.spare.append(folder)
 
     def check(self, texts, only):
         """Checks the crate with these texts in the place of its own, or only these of its functions and modules."""
-        with tempfile.TemporaryDirectory(prefix="check-", dir=self.room) as copy:
+        with tempfile.TemporaryDirectory(prefix="check-", dir=self.room) as copy, self.kept() as kept:
             for part in PARTS:
                 if os.path.isdir(f"{self.crate.folder}/{part}"):
                     shutil.copytree(f"{self.crate.folder}/{part}", f"{copy}/{part}")
             for path, text in texts.items():
                 with open(f"{copy}/{path}", "w", encoding="utf-8") as file:
                     file.write(text)
-            words = ["check", *self.crate.words(), "--incremental", self.kept, "--jobs", "1"]
+            words = ["check", *self.crate.words(), "--incremental", kept, "--jobs", "1"]
             while True:
                 looks = [it for path in only for it in ("--only", path)]
                 status, said, seconds, peak = self.run([*words, *looks], copy)
-                self.work, self.peak = self.work + seconds, max(self.peak, peak)
+                with self.lock:
+                    self.work, self.peak = self.work + seconds, max(self.peak, peak)
                 unknown = [it for it in only if status == 2 and f"`{it}`" in said.split("rattle: error: ")[-1]]
                 if not unknown:
                     return Answer(status, said, texts)
@@ -181,7 +197,8 @@ class Trial:
         modules = [module_of(it) for it in self.crate.texts]
         return max((it for it in modules if it and path.startswith(f"{it}::")), key=len, default="")
 
-    def all(self):
+    def tasks(self):
+        """Its first tasks. A task is a call that answers further tasks, and no two of them wait for one another."""
         mutants = []
         folder = f"{self.crate.folder}/mutants"
         for name in sorted(os.listdir(folder)):
@@ -193,30 +210,47 @@ class Trial:
                 mutants.append(Mutant(self.crate, f"{folder}/{name}"))
             except (EditError, OSError, UnicodeDecodeError) as error:
                 self.judge(f"{self.crate.name}/{name}", False, f"BAD EDIT: {error}")
-        if mutants and os.path.isdir(f"{self.crate.folder}/out/incremental"):
-            shutil.copytree(f"{self.crate.folder}/out/incremental", self.kept)
-        left = [it for it in mutants if not it.bodies]
-        for batch in packed([it for it in mutants if it.bodies]):
-            left += self.try_together(batch)
-        for mutant in left:
-            self.try_alone(mutant)
+        self.count = len(mutants)
+        batches = packed([it for it in mutants if it.bodies])
+        return self.further(batches, [it for it in mutants if not it.bodies])
+
+    def further(self, batches, alone):
+        """The tasks of batches that are tried together, and of mutants that are tried alone."""
+        tasks = [functools.partial(self.do, self.try_together, it) for it in batches]
+        tasks += [functools.partial(self.do, self.try_alone, it) for it in alone]
+        with self.lock:
+            self.open += len(tasks)
+        return tasks
+
+    def do(self, tried, what):
+        tasks = tried(what)
+        with self.lock:
+            self.open -= 1
+            is_last = not self.open
+        if is_last:
+            self.tell()
+        return tasks
+
+    def tell(self):
         checks = f"{self.together} checks of several, {self.alone} of one"
         minutes = f"{self.work / 60:.1f} processor minutes, {(time.time() - self.started) / 60:.1f} of the clock"
-        self.say(f"== {self.crate.name}: {len(mutants)} mutants, {checks}; {minutes}, {self.peak / 1e9:.1f} GB")
+        self.say(f"== {self.crate.name}: {self.count} mutants, {checks}; {minutes}, {self.peak / 1e9:.1f} GB")
 
     def judge(self, name, is_refused, text):
-        self.passed, self.failed = self.passed + is_refused, self.failed + (not is_refused)
+        with self.lock:
+            self.passed, self.failed = self.passed + is_refused, self.failed + (not is_refused)
         self.say(f"{name}: {text}")
 
     def try_together(self, batch):
-        """Tries mutants that turn different functions in one check, and returns those that are to be tried alone."""
+        """Tries mutants that turn different functions in one check. Those that it does not settle are to be tried alone."""
         if len(batch) == 1:
-            return batch
+            return self.further([], batch)
         bodies = {key: lines for it in batch for key, lines in it.bodies.items()}
         files = {file for file, _ in bodies}
         of = {file: {number: it for (at, number), it in bodies.items() if at == file} for file in files}
         texts = {file: with_bodies(self.crate.texts[file], of[file]) for file in files}
-        self.together += 1
+        with self.lock:
+            self.together += 1
         answer = self.check(texts, [path for it in batch for path in it.targets()])
         if not answer.is_refused and not answer.is_proved:
             # one of them does not compile, or is not read: it is tried without the others
@@ -224,7 +258,7 @@ class Trial:
             if len(broken) in (0, len(batch)):
                 broken = batch[: len(batch) // 2]
             self.say(f"   {self.crate.name}: {len(batch)} mutants are tried in two parts: {answer.why}")
-            return [*self.try_together(broken), *self.try_together([it for it in batch if it not in broken])]
+            return self.further([broken, [it for it in batch if it not in broken]], [])
         left = []
         for mutant in batch:
             refused = answer.in_place(mutant, texts)
@@ -232,18 +266,24 @@ class Trial:
                 self.judge(mutant.name, True, f"refused: {refused[:160]}")
             else:
                 left.append(mutant)
-        return left
+        return self.further([], left)
 
     def try_alone(self, mutant):
+        self.judge(mutant.name, *self.alone_answer(mutant))
+        return []
+
+    def alone_answer(self, mutant):
+        """Whether the mutant is refused, and by what."""
         only = mutant.targets()
         for looks in [only, []] if only else [[]]:
-            self.alone += 1
+            with self.lock:
+                self.alone += 1
             answer = self.check(mutant.texts, looks)
             if answer.is_refused:
-                return self.judge(mutant.name, True, f"refused alone: {answer.first_error()[:160]}")
+                return True, f"refused alone: {answer.first_error()[:160]}"
             if not answer.is_proved:
-                return self.judge(mutant.name, False, f"BAD EDIT: {answer.why}")
-        return self.judge(mutant.name, False, "NOT REFUSED: the crate is still proved with this edit")
+                return False, f"BAD EDIT: {answer.why}"
+        return False, "NOT REFUSED: the crate is still proved with this edit"
 
 
 def try_mutants(root, names, jobs, kit):
@@ -268,8 +308,10 @@ def try_mutants(root, names, jobs, kit):
             os.mkdir(f"{room}/{crate.name}")
             trials.append(Trial(crate, f"{room}/{crate.name}", run, say))
         with ThreadPoolExecutor(lanes(jobs)) as pool:
-            for it in [pool.submit(trial.all) for trial in trials]:
-                it.result()
+            running = {pool.submit(task) for trial in trials for task in trial.tasks()}
+            while running:
+                done, running = wait(running, return_when=FIRST_COMPLETED)
+                running |= {pool.submit(task) for it in done for task in it.result()}
     passed, failed = sum(it.passed for it in trials), sum(it.failed for it in trials)
     print(f"{passed} passed, {failed} failed", flush=True)
     return 1 if failed else 0
