@@ -1,8 +1,11 @@
-//! The calls on real requests: what `ip link add` of iproute2 6.1 sends for a bond and for a VLAN.
+//! The calls on real requests, what `ip link add` of iproute2 6.1 sends for a bond and for a VLAN, and on others.
 
-use crate::{canonical, first_fault, monitoring, vlan_request};
+use crate::{
+    BufferError, bond_request, bridge_request, canonical, first_fault, forward_delay, monitoring,
+    normalised, print_list, read_front, vlan_request, with_attribute, with_vlan_id, write_into,
+};
 use netlink_packet_route::Family;
-use netlink_packet_route::link::{BondMode, InfoVlan};
+use netlink_packet_route::link::{BondMode, InfoBond, InfoBridge, InfoVlan, VlanProtocol};
 
 /// `ip link add bond0 type bond mode 802.3ad miimon 100`
 const BOND: [u8; 16] = [5, 0, 1, 0, 4, 0, 0, 0, 8, 0, 3, 0, 100, 0, 0, 0];
@@ -13,9 +16,16 @@ const VLAN: [u8; 32] = [
     0, 0, 0,
 ];
 
+/// A forward delay of 1500 clock ticks (`IFLA_BR_FORWARD_DELAY`), VLAN filtering (`IFLA_BR_VLAN_FILTERING`), and the
+/// spanning tree protocol of the kernel (`IFLA_BR_STP_STATE`).
+const BRIDGE: [u8; 24] = [
+    8, 0, 1, 0, 0xDC, 5, 0, 0, 5, 0, 7, 0, 1, 0, 0, 0, 8, 0, 5, 0, 1, 0, 0, 0,
+];
+
 #[test]
-fn each_call(rt: HostRuntime) {
+fn reading(rt: HostRuntime) {
     let alloc = rt.alloc();
+    assert!(rt; matches!(forward_delay(alloc, &BRIDGE), Ok(Some(1500))));
     assert!(rt;
         matches!(
             monitoring(alloc, &BOND),
@@ -23,14 +33,80 @@ fn each_call(rt: HostRuntime) {
         )
     );
     assert!(rt; matches!(monitoring(alloc, &BOND[..8]), Ok((Some(_), None))));
+    assert!(rt; matches!(first_fault::<InfoVlan>(alloc, &VLAN), Ok(None)));
+    assert!(rt; matches!(first_fault::<InfoVlan>(alloc, &VLAN[..30]), Ok(Some(16))));
+    assert!(rt;
+        matches!(
+            read_front::<InfoVlan>(alloc, &VLAN[..30]),
+            Ok((values, Some((16, _)))) if matches!(
+                values.as_slice(),
+                [InfoVlan::Protocol(VlanProtocol::Ieee8021Ad), InfoVlan::Id(5)]
+            )
+        )
+    );
+    let mut out = Vec::new(alloc);
+    assert!(rt; print_list::<InfoBond, Vec<u8>>(alloc, &BOND[..14], &mut out).is_ok());
+    let printed = b"Mode(Ieee8023Ad)\nfault at 8: overrun 8 6\n".as_slice();
+    assert!(rt; out.as_slice() == printed);
+}
+
+#[test]
+fn building(rt: HostRuntime) {
+    let alloc = rt.alloc();
     assert!(rt;
         matches!(vlan_request(alloc, 5, 1, 2), Ok(out) if out.as_slice() == VLAN.as_slice())
     );
-    assert!(rt; matches!(first_fault::<InfoVlan>(alloc, &VLAN), Ok(None)));
-    assert!(rt; matches!(first_fault::<InfoVlan>(alloc, &VLAN[..30]), Ok(Some(16))));
+    assert!(rt;
+        matches!(bridge_request(alloc, 1500), Ok(out) if out.as_slice() == BRIDGE.as_slice())
+    );
+    let mut buffer = [0xFF; 26];
+    assert!(rt; matches!(bond_request(100, &mut buffer), Ok(24)));
+    assert!(rt; buffer[..16] == BOND[..]);
+    assert!(rt; buffer[16..] == [5, 0, 21, 0, 1, 0, 0, 0, 0xFF, 0xFF][..]);
+    assert!(rt;
+        matches!(
+            bond_request(100, &mut buffer[..23]),
+            Err(BufferError::TooSmall { needed: 24 })
+        )
+    );
+    assert!(rt; matches!(write_into(&[InfoVlan::Id(5)], &mut buffer), Ok(8)));
+    assert!(rt; buffer[..8] == VLAN[8..16]);
+}
+
+#[test]
+fn changing(rt: HostRuntime) {
+    let alloc = rt.alloc();
+    // The second identifier has a nested flag, and nothing has the kind 99.
+    let many = [
+        6, 0, 1, 0, 5, 0, 0, 0, 6, 0, 99, 0, 0xDE, 0xAD, 0, 0, 6, 0, 1, 0x80, 6, 0,
+    ];
+    let set = [
+        6, 0, 1, 0, 7, 0, 0, 0, 6, 0, 99, 0, 0xDE, 0xAD, 0, 0, 6, 0, 1, 0, 7, 0, 0, 0,
+    ];
+    assert!(rt;
+        matches!(with_vlan_id(alloc, &many, 7), Ok(out) if out.as_slice() == set.as_slice())
+    );
+    assert!(rt;
+        matches!(with_vlan_id(alloc, &many[8..16], 7), Ok(out) if out.as_slice() == &set[8..])
+    );
+    let aged = [8, 0, 4, 0, 0x30, 0x75, 0, 0, 6, 0, 99, 0, 0xDE, 0xAD, 0, 0];
+    let now = [6, 0, 99, 0, 0xDE, 0xAD, 0, 0, 8, 0, 4, 0, 0, 0, 0, 0];
+    assert!(rt;
+        matches!(
+            with_attribute(alloc, &aged, InfoBridge::AgeingTime(0)),
+            Ok(out) if out.as_slice() == now.as_slice()
+        )
+    );
     let loose = [6, 0, 1, 0x80, 5, 0];
     let tidy = [6, 0, 1, 0, 5, 0, 0, 0].as_slice();
     assert!(rt;
         matches!(canonical(alloc, Family::Vlan, &loose), Ok(out) if out.as_slice() == tidy)
     );
+    assert!(rt;
+        matches!(
+            normalised(alloc, Family::Vlan, &loose),
+            Ok((out, false)) if out.as_slice() == tidy
+        )
+    );
+    assert!(rt; matches!(normalised(alloc, Family::Vlan, tidy), Ok((_, true))));
 }

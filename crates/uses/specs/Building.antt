@@ -1,0 +1,12 @@
+-- Why a list is not written into a buffer.
+use Rattle.std.specs.Prelude.{◌≡◌, ℕ, ◌<◌, List, length}
+use Rattle.std.specs.List.{AllByRecursion}
+use Rattle.netlink_packet_route.specs.Answers.{capped}
+use Rattle.netlink_packet_route.specs.Table.{AttrValue, Fits, written_list}
+use Rattle.uses.specs.declared.building.BufferError.{BufferError}
+use Rattle.uses.specs.declared.building.BufferError.TheVariants.{TooLong, TooSmall}
+
+-- a value does not fit; or the list takes so many bytes, and there are fewer
+abbrev pub BufferFails : BufferError → List AttrValue → ℕ → Type 0
+BufferFails TooLong vs room = ¬ AllByRecursion Fits vs
+BufferFails (TooSmall needed) vs room = (needed ≡ capped (length (written_list vs))) × (room < needed)

@@ -1,0 +1,100 @@
+//! A request, built: into memory of its own, or into a lent buffer.
+
+ghost use Rattle.std.specs.Prelude.{◌≡◌, ◌↔◌, ◌<◌, [], ◌∷◌, true, false, length, map, IfOk, IfErr, OnErr, IsErr};
+ghost use Rattle.std.specs.List.{AllByRecursion};
+ghost use Rattle.netlink_packet_route.specs.Answers.{OverwritesFront};
+ghost use Rattle.netlink_packet_route.specs.Class.{Number, Name, Boolean, EtherType};
+ghost use Rattle.netlink_packet_route.specs.Table.{Case, Single, Inner, Fits, written_list};
+ghost use Rattle.netlink_packet_route.specs.Vlan.{mapping_leaf};
+ghost use Rattle.uses.specs.Building.{BufferFails};
+
+use netlink_packet_route::link::{
+    Attribute, BondLacpRate, BondMode, BridgeStpState, InfoBond, InfoBridge, InfoVlan,
+    VlanProtocol, VlanQosMapping, WriteError, emit_list, list_fits, list_len, write_list,
+};
+use std::alloc::{AllocError, Global};
+use thiserror::Error;
+
+/// Why a list was not written into a buffer.
+#[derive(Clone, Copy, Debug, PartialEq, Eq, Error)]
+pub enum BufferError {
+    /// A value does not fit into an attribute.
+    #[error("a value is too long")]
+    TooLong,
+    /// The list takes more bytes than the buffer has.
+    #[error("the list takes {needed} bytes")]
+    TooSmall { needed: usize },
+}
+
+/// Writes a list to the front of a buffer, and answers how many bytes it takes. The buffer stays as it is behind them,
+/// and on an error.
+pub fn write_into<F: Attribute>(values: &[F], buffer: &mut [u8]) -> Result<usize, BufferError>
+    ensures written { IfOk result (λ count. let list = written_list (map F.means values.now) in
+        AllByRecursion Fits (map F.means values.now) × (count ≡ length list)
+        × OverwritesFront buffer.old buffer.new list) }
+    ensures failed { IfErr result (λ error. BufferFails error (map F.means values.now) (length buffer.old)) }
+    ensures unchanged { OnErr result (buffer.new ≡ buffer.old) }
+{
+    if !list_fits(values) {
+        return Err(BufferError::TooLong);
+    }
+    let needed = list_len(values);
+    if needed > buffer.len() {
+        return Err(BufferError::TooSmall { needed });
+    }
+    emit_list(values, buffer);
+    Ok(needed)
+}
+
+/// Writes a request for a bond of the mode 802.3ad, whose partner is to send every second: its MII monitoring interval
+/// in milliseconds. Answers how many bytes it takes.
+pub fn bond_request(interval: u32, buffer: &mut [u8]) -> Result<usize, BufferError>
+    ensures written { IfOk result (λ count. let list = written_list (Case 1 (Single (Name 1 4))
+        ∷ Case 3 (Single (Number 4 interval)) ∷ Case 21 (Single (Name 1 1)) ∷ []) in
+        (count ≡ length list) × OverwritesFront buffer.old buffer.new list) }
+    ensures too_small { IsErr result ↔ (length buffer.old < 24) }
+    ensures needed { IfErr result (λ error. error ≡ BufferError.TooSmall 24) }
+    ensures unchanged { OnErr result (buffer.new ≡ buffer.old) }
+{
+    let request = [
+        InfoBond::Mode(BondMode::Ieee8023Ad),
+        InfoBond::MiiMon(interval),
+        InfoBond::AdLacpRate(BondLacpRate::Fast),
+    ];
+    write_into(&request, buffer)
+}
+
+/// A request for a bridge that filters by VLAN and runs the spanning tree protocol: its forward delay in clock ticks.
+#[tactic(auto, using(crate::proofs::Fitting::none_unfit))]
+pub fn bridge_request(alloc: Global, forward_delay: u32) -> Result<Vec<u8>, AllocError>
+    ensures { IfOk result (λ out. out.items ≡ written_list (
+        Case 1 (Single (Number 4 forward_delay)) ∷ Case 7 (Single (Boolean true))
+        ∷ Case 5 (Single (Name 4 1)) ∷ [])) }
+{
+    let request = [
+        InfoBridge::ForwardDelay(forward_delay),
+        InfoBridge::VlanFiltering(true),
+        InfoBridge::StpState(BridgeStpState::KernelStp),
+    ];
+    match write_list(alloc, &request) {
+        Ok(out) => Ok(out),
+        Err(WriteError::Memory(error)) => Err(error),
+        // Numbers fit.
+        Err(WriteError::TooLong { .. }) => unreachable!(),
+    }
+}
+
+/// A request for an 802.1ad VLAN: its identifier, and the priority `to` in the tags of packets of priority `from`.
+pub fn vlan_request(alloc: Global, id: u16, from: u32, to: u32) -> Result<Vec<u8>, WriteError>
+    ensures { IfOk result (λ out. out.items ≡ written_list (
+        Case 5 (Single (EtherType 0x88A8)) ∷ Case 1 (Single (Number 2 id))
+        ∷ Case 3 (Inner false (mapping_leaf (VlanQosMapping.Mapping from to) ∷ [])) ∷ [])) }
+{
+    let egress = vec![in alloc; VlanQosMapping::Mapping(from, to)]?;
+    let request = [
+        InfoVlan::Protocol(VlanProtocol::Ieee8021Ad),
+        InfoVlan::Id(id),
+        InfoVlan::EgressQos(egress),
+    ];
+    write_list(alloc, &request)
+}

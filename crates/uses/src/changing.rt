@@ -1,0 +1,88 @@
+//! A list with one attribute changed: every other one stays, and those of unknown kinds do too.
+
+ghost use Rattle.std.specs.Prelude.{◌≡◌, ◌==◌, List, not, map, filter, IfOk, IfErr};
+ghost use Rattle.std.specs.List.{list_any};
+ghost use Rattle.netlink_packet_route.specs.Table.{Gives, written_kind, written_list};
+ghost use Rattle.netlink_packet_route.specs.Vlan.{vlan_table, vlan_means};
+ghost use Rattle.netlink_packet_route.specs.Wire.{Wire};
+ghost use Rattle.uses.specs.Changing.{is_id, with_id, in_place_of, ChangeFails};
+
+use netlink_packet_route::link::{
+    Attribute, InfoVlan, ListError, WriteError, read_list, write_list,
+};
+use std::alloc::{AllocError, Global};
+use thiserror::Error;
+
+/// Why a list was not changed.
+#[derive(Debug, Drop, Error)]
+pub enum ChangeError {
+    /// An allocation failed.
+    #[error("no memory")]
+    Memory(AllocError),
+    /// It was not read.
+    #[error("{0}")]
+    Read(ListError),
+    /// It was not written.
+    #[error("{0}")]
+    Write(WriteError),
+}
+
+/// The list of a VLAN device with this identifier in place of each that it has, or behind all others if it has none.
+pub fn with_vlan_id(alloc: Global, bytes: &[u8], id: u16) -> Result<Vec<u8>, ChangeError>
+    ensures changed { IfOk result (λ out. (vs : List InfoVlan) × Wire (Gives vlan_table) bytes.now (map vlan_means vs)
+        × (out.items ≡ written_list (map vlan_means (with_id id vs)))) }
+    ensures failed { IfErr result (ChangeFails vlan_table vlan_means (with_id id) bytes.now) }
+{
+    let values: Vec<InfoVlan> = read_list(alloc, bytes).map_err(ChangeError::Read)?;
+    let changed = with_id(alloc, values, id).map_err(ChangeError::Memory)?;
+    write_list(alloc, &changed).map_err(ChangeError::Write)
+}
+
+/// The values with this identifier in place of each, or behind the others if there is none.
+fn with_id(alloc: Global, mut values: Vec<InfoVlan>, id: u16) -> Result<Vec<InfoVlan>, AllocError>
+    ensures { IfOk result (λ changed. changed.items ≡ with_id id values.items) }
+{
+    if !has_id(&values) {
+        values.push(InfoVlan::Id(id))?;
+        return Ok(values);
+    }
+    values
+        .into_iter()
+        .map(|value| match value {
+            InfoVlan::Id(_) => InfoVlan::Id(id),
+            other => other,
+        })
+        .collect(alloc)
+}
+
+/// Whether an identifier is among the values.
+fn has_id(values: &[InfoVlan]) -> bool
+    ensures { result ≡ list_any is_id values.now }
+{
+    values.iter().any(|value| matches!(value, InfoVlan::Id(_)))
+}
+
+/// The list with this attribute behind all others, in place of those of its kind.
+pub fn with_attribute<F: Attribute>(
+    alloc: Global,
+    bytes: &[u8],
+    new: F,
+) -> Result<Vec<u8>, ChangeError>
+    ensures changed { IfOk result (λ out. (vs : List F) × Wire (Gives F.table) bytes.now (map F.means vs)
+        × (out.items ≡ written_list (map F.means (in_place_of F.means new vs)))) }
+    ensures failed { IfErr result (ChangeFails F.table F.means (in_place_of F.means new) bytes.now) }
+{
+    let mut values: Vec<F> = read_list(alloc, bytes).map_err(ChangeError::Read)?;
+    remove(&mut values, new.kind());
+    values
+        .push(new)
+        .map_err(|_| ChangeError::Memory(AllocError))?;
+    write_list(alloc, &values).map_err(ChangeError::Write)
+}
+
+/// Keeps the values of other kinds.
+fn remove<F: Attribute>(values: &mut Vec<F>, kind: u16)
+    ensures { values.new.items ≡ filter (λ v. not (written_kind (F.means v) == kind)) values.old.items }
+{
+    values.retain(|value| value.kind() != kind);
+}

@@ -1,0 +1,45 @@
+//! What is wrong with a list: its first fault, and where it stands.
+
+ghost use Rattle.std.specs.Prelude.{List, map, take, IfOk, MatchOption};
+ghost use Rattle.netlink_packet_route.specs.Table.{AttrValue, Gives};
+ghost use Rattle.netlink_packet_route.specs.Wire.{Wire, FirstFault};
+
+use netlink_packet_route::link::{Attribute, DecodeFault, ListError, read_list};
+use std::alloc::{AllocError, Global};
+
+/// The offset of the first fault of a list of any family, or `None` if it has none.
+pub fn first_fault<F: Attribute>(alloc: Global, bytes: &[u8]) -> Result<Option<usize>, AllocError>
+    ensures { IfOk result (λ found. MatchOption found
+        ((vs : List AttrValue) × Wire (Gives F.table) bytes.now vs)
+        (λ at. (fault : DecodeFault) × FirstFault (Gives F.table) bytes.now at fault)) }
+{
+    match read_list::<F>(alloc, bytes) {
+        Ok(_) => Ok(None),
+        Err(ListError::Fault { at, .. }) => Ok(Some(at)),
+        Err(ListError::Memory(error)) => Err(error),
+    }
+}
+
+/// The values of a list up to its first fault, and this with its offset, if there is one.
+pub fn read_front<F: Attribute>(
+    alloc: Global,
+    bytes: &[u8],
+) -> Result<(Vec<F>, Option<(usize, DecodeFault)>), AllocError>
+    ensures { IfOk result (λ read. MatchOption read.1
+        (Wire (Gives F.table) bytes.now (map F.means read.0.items))
+        (λ fault. FirstFault (Gives F.table) bytes.now fault.0 fault.1
+        × Wire (Gives F.table) (take fault.0 bytes.now) (map F.means read.0.items))) }
+{
+    match read_list(alloc, bytes) {
+        Ok(values) => Ok((values, None)),
+        Err(ListError::Memory(error)) => Err(error),
+        Err(ListError::Fault { at, fault }) => {
+            let (front, _) = bytes.split_at(at);
+            match read_list(alloc, front) {
+                Ok(values) => Ok((values, Some((at, fault)))),
+                // What stands before the first fault has none, so memory failed.
+                Err(_) => Err(AllocError),
+            }
+        }
+    }
+}

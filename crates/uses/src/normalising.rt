@@ -1,0 +1,33 @@
+//! A captured list, in canonical form.
+
+ghost use Rattle.std.specs.Prelude.{◌↔◌, IfOk, IfErr, IsTrue};
+ghost use Rattle.netlink_packet_route.specs.Family.{table_of};
+ghost use Rattle.netlink_packet_route.specs.Rewrite.{RewriteAnswers};
+ghost use Rattle.netlink_packet_route.specs.Table.{Canonical, Rewriting};
+
+use netlink_packet_route::{Family, RewriteError, laws, rewrite};
+use std::alloc::Global;
+
+/// The list, read and written again, and whether it was canonical: exactly then it is the same.
+pub fn normalised(
+    alloc: Global,
+    family: Family,
+    bytes: &[u8],
+) -> Result<(Vec<u8>, bool), RewriteError>
+    ensures normal { IfOk result (λ done. Rewriting (table_of family) bytes.now done.0.items
+        × (IsTrue done.1 ↔ Canonical (table_of family) bytes.now)) }
+    ensures refused { IfErr result (λ error. RewriteAnswers (table_of family) bytes.now (Err error)) }
+{
+    let out = rewrite(alloc, family, bytes)?;
+    let was_canonical = out.as_slice() == bytes;
+    Ok((out, was_canonical))
+}
+
+/// The list in canonical form.
+pub fn canonical(alloc: Global, family: Family, bytes: &[u8]) -> Result<Vec<u8>, RewriteError>
+    ensures { IfOk result (λ out. Canonical (table_of family) out.items) }
+{
+    laws::second_rewriting();
+    let once = rewrite(alloc, family, bytes)?;
+    rewrite(alloc, family, &once)
+}

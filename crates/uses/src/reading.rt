@@ -1,0 +1,46 @@
+//! What a list says: an attribute, looked up.
+
+ghost use Rattle.std.specs.Prelude.{ℕ, List, map, Contains, IfOk, IfErr, MatchOption};
+ghost use Rattle.netlink_packet_route.specs.Answers.{ListFails};
+ghost use Rattle.netlink_packet_route.specs.Bond.{bond_table, bond_means};
+ghost use Rattle.netlink_packet_route.specs.Bridge.{bridge_table, bridge_means};
+ghost use Rattle.netlink_packet_route.specs.Table.{Gives};
+ghost use Rattle.netlink_packet_route.specs.Wire.{Wire};
+
+use netlink_packet_route::link::{BondMode, InfoBond, InfoBridge, ListError, read_list};
+use std::alloc::Global;
+
+/// The forward delay of a bridge in clock ticks, if it is there.
+pub fn forward_delay(alloc: Global, bytes: &[u8]) -> Result<Option<u32>, ListError>
+    ensures found { IfOk result (λ found. (vs : List InfoBridge)
+        × Wire (Gives bridge_table) bytes.now (map bridge_means vs)
+        × MatchOption found ((d : ℕ) → ¬ Contains vs (InfoBridge.ForwardDelay d))
+        (λ d. Contains vs (InfoBridge.ForwardDelay d))) }
+    ensures fault { IfErr result (λ error. ListFails error (Gives bridge_table) bytes.now) }
+{
+    let bridge: Vec<InfoBridge> = read_list(alloc, bytes)?;
+    let delay = bridge.iter().find_map(|value| match value {
+        InfoBridge::ForwardDelay(delay) => Some(*delay),
+        _ => None,
+    });
+    Ok(delay)
+}
+
+/// The mode of a bond and its MII monitoring interval in milliseconds, each if it is there.
+pub fn monitoring(alloc: Global, bytes: &[u8]) -> Result<(Option<BondMode>, Option<u32>), ListError>
+    ensures found { IfOk result (λ found. (vs : List InfoBond) × Wire (Gives bond_table) bytes.now (map bond_means vs)
+        × MatchOption found.0 ((m : BondMode) → ¬ Contains vs (InfoBond.Mode m)) (λ m. Contains vs (InfoBond.Mode m))
+        × MatchOption found.1 ((n : ℕ) → ¬ Contains vs (InfoBond.MiiMon n)) (λ n. Contains vs (InfoBond.MiiMon n))) }
+    ensures fault { IfErr result (λ error. ListFails error (Gives bond_table) bytes.now) }
+{
+    let bond: Vec<InfoBond> = read_list(alloc, bytes)?;
+    let mode = bond.iter().find_map(|value| match value {
+        InfoBond::Mode(mode) => Some(*mode),
+        _ => None,
+    });
+    let interval = bond.iter().find_map(|value| match value {
+        InfoBond::MiiMon(interval) => Some(*interval),
+        _ => None,
+    });
+    Ok((mode, interval))
+}
