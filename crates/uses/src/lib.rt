@@ -73,5 +73,6 @@ pub fn canonical(alloc: Global, family: Family, bytes: &[u8]) -> Result<Vec<u8>,
     rewrite(alloc, family, &once)
 }
 
+pub mod messages;
 #[cfg(test)]
 mod tests;

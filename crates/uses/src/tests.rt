@@ -1,5 +1,7 @@
 //! The calls on real requests: what `ip link add` of iproute2 6.1 sends for a bond and for a VLAN.
 
+mod messages;
+
 use crate::{canonical, first_fault, monitoring, vlan_request};
 use netlink_packet_route::Family;
 use netlink_packet_route::link::{BondMode, InfoVlan};
