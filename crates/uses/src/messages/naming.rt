@@ -9,10 +9,7 @@ use netlink_packet_route::Family;
 pub(crate) fn without_nul(bytes: &[u8]) -> &[u8]
     ensures { result.now ≡ without_nul bytes.now }
 {
-    match bytes {
-        [name @ .., 0] => name,
-        _ => bytes,
-    }
+    bytes.strip_suffix(&[0]).unwrap_or(bytes)
 }
 
 /// The family of the data of a link of this kind.

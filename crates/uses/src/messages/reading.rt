@@ -1,10 +1,12 @@
 //! The link that a message is about.
 
-ghost use Rattle.std.specs.Prelude.{◌≡◌, Some, None, MatchResult, if◌then◌else◌, ◌==◌};
-ghost use Rattle.std.specs.Option.{option_map, option_and_then, option_zip};
+ghost use Rattle.std.specs.Prelude.{◌≡◌, ◌≤◌, ◌↔◌, length, take, drop, IsTrue, MatchResult};
+ghost use Rattle.std.specs.Option.{option_map, option_zip};
+ghost use Rattle.netlink_packet_route.specs.Class.{integer};
 ghost use Rattle.uses.specs.Found.{IsFrameFault, IsFaultIn, stretch_of};
 ghost use Rattle.uses.specs.Message.{packet_of};
-ghost use Rattle.uses.specs.LinkMessage.{IsInfoPart, IsBridgePart, IsLink, IsLinkFault, IsAbout, IsAboutNone};
+ghost use Rattle.uses.specs.LinkMessage.{IsInfoPart, IsBridgePart, IsLink, IsLinkFault, IsLinkType};
+ghost use Rattle.uses.specs.LinkMessage.{IsAbout, IsAboutNone};
 ghost use Rattle.uses.specs.LinkMessage.{link_kinds, port_kinds, part_of};
 
 use crate::messages::fault::MessageError;
@@ -50,7 +52,7 @@ pub fn read_link<'a>(message: &Message<'a>) -> Result<Link<'a>, MessageError>
 {
     let at = message.at;
     let kind = message.kind;
-    if !matches!(kind, RTM_NEWLINK | RTM_DELLINK | RTM_SETLINK) {
+    if !is_link_type(kind) {
         return Err(MessageError::OtherType { at, kind });
     }
     let body = message.payload;
@@ -58,10 +60,24 @@ pub fn read_link<'a>(message: &Message<'a>) -> Result<Link<'a>, MessageError>
         let length = 16 + body.len();
         return Err(MessageError::ShortLink { at, length });
     }
-    let index = i32::from_le_bytes([body[4], body[5], body[6], body[7]]);
     let bytes = &body[16..];
     let list = Payload { at: at + 32, bytes };
-    link_of(list, body[0], index)
+    link_of(list, body[0], index_of(body))
+}
+
+/// Whether messages of this type are about links.
+fn is_link_type(kind: u16) -> bool
+    ensures { IsTrue result ↔ IsLinkType kind }
+{
+    kind == RTM_NEWLINK || kind == RTM_DELLINK || kind == RTM_SETLINK
+}
+
+/// `ifi_index`, of a `struct ifinfomsg` and what follows it.
+fn index_of(body: &[u8]) -> i32
+    requires { 16 ≤ length body.now }
+    ensures { result ≡ integer (take 4 (drop 4 body.now)) }
+{
+    i32::from_le_bytes([body[4], body[5], body[6], body[7]])
 }
 
 /// The link of this index that a list of attributes is about.

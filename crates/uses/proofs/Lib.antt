@@ -1,0 +1,4 @@
+pub mod Walks
+pub mod Strings
+pub mod Headers
+pub mod Parts
