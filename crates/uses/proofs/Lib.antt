@@ -1,2 +1,6 @@
 pub mod Fitting
 pub mod Lines
+pub mod Walks
+pub mod Strings
+pub mod Headers
+pub mod Parts

@@ -26,5 +26,6 @@ pub use changing::{ChangeError, with_attribute, with_vlan_id};
 // A list in canonical form.
 pub use normalising::{canonical, normalised};
 
+pub mod messages;
 #[cfg(test)]
 mod tests;

@@ -1,5 +1,7 @@
 //! The calls on real requests, what `ip link add` of iproute2 6.1 sends for a bond and for a VLAN, and on others.
 
+mod messages;
+
 use crate::{
     BufferError, bond_request, bridge_request, canonical, first_fault, forward_delay, monitoring,
     normalised, print_list, read_front, vlan_request, with_attribute, with_vlan_id, write_into,

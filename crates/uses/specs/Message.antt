@@ -1,0 +1,66 @@
+-- The messages of a buffer (`include/uapi/linux/netlink.h`).
+use Rattle.std.specs.Prelude.{◌≡◌, ◌≢◌, ◌⊎◌, ℕ, ◌+◌, ◌-◌, ◌<◌, ◌≤◌, ◌^◌, min, List, [], ◌∷◌, ◌++◌, length, take, drop, Option, Some, None, Result, Ok, Err, nat_lt, if◌then◌else◌}
+use Rattle.netlink_packet_route.specs.Number.{number, bytes_of}
+use Rattle.netlink_packet_route.specs.Frame.{pad}
+use Rattle.uses.specs.declared.messages.header.Message.{Message}
+use Rattle.uses.specs.declared.messages.fault.MessageError.{MessageError}
+use Rattle.uses.specs.declared.messages.fault.MessageError.TheVariants as errors
+
+-- a message: its type, the other fields of its header, its payload, and the padding behind it
+pub record Packet : Type 0 where
+  pub kind : ℕ
+  pub flags : ℕ
+  pub sequence : ℕ
+  pub port : ℕ
+  pub payload : List ℕ
+  pub padding : List ℕ
+
+-- how many bytes complete a message with this payload
+abbrev pub packet_gap : List ℕ → ℕ
+packet_gap payload = pad (16 + length payload) - (16 + length payload)
+
+-- a message's bytes: `struct nlmsghdr`, whose length leaves out the padding; the payload; the padding
+abbrev pub packet_bytes : Packet → List ℕ
+packet_bytes m = bytes_of 4 (16 + length m.payload) ++ (bytes_of 2 m.kind ++ (bytes_of 2 m.flags ++ (bytes_of 4 m.sequence ++ (bytes_of 4 m.port ++ (m.payload ++ m.padding)))))
+
+-- the header holds its numbers, and the padding is no longer than it may be
+pub record IsPacket (m : Packet) : Type 0 where
+  pub kind : m.kind < 2 ^ 16
+  pub flags : m.flags < 2 ^ 16
+  pub sequence : m.sequence < 2 ^ 32
+  pub port : m.port < 2 ^ 32
+  pub payload : 16 + length m.payload < 2 ^ 32
+  pub padding : length m.padding ≤ packet_gap m.payload
+
+-- some bytes begin with this message
+pub record BeginsWithPacket (s : List ℕ) (m : Packet) : Type 0 where
+  pub rest : List ℕ
+  pub is : IsPacket m
+  pub string : s ≡ packet_bytes m ++ rest
+
+-- why no message stands at an offset where these bytes are left
+abbrev pub header_fault : ℕ → List ℕ → Option MessageError
+header_fault at r =
+    let stated = number (take 4 r) in
+    if nat_lt (length r) 16 then Some (errors.ShortHeader at (length r))
+    else (if nat_lt stated 16 then Some (errors.SmallLength at stated)
+    else (if nat_lt (length r) stated then Some (errors.Overrun at stated (length r))
+    else None))
+
+-- ---- one step
+
+-- a message without the padding behind it
+abbrev pub packet_of : Message → Packet
+packet_of m = record { kind = m.kind; flags = m.flags; sequence = m.sequence; port = m.port; payload = m.payload.now; padding = [] }
+
+-- a message at an offset where these bytes are left, and where the next one begins
+pub record IsMessageAt (at : ℕ) (r : List ℕ) (m : Message) : Type 0 where
+  pub begins : BeginsWithPacket r (packet_of m)
+  pub offset : m.at ≡ at
+  pub next : m.next ≡ at + min (pad (16 + length m.payload.now)) (length r)
+
+-- what stands at an offset where these bytes are left: nothing, or an NLMSG_DONE; a message of another type; or none
+abbrev pub NextMessage : ℕ → List ℕ → Result (Option Message) MessageError → Type 0
+NextMessage at r (Ok None) = (r ≡ []) ⊎ ((m : Packet) × BeginsWithPacket r m × (m.kind ≡ 3))
+NextMessage at r (Ok (Some m)) = IsMessageAt at r m × (m.kind ≢ 3)
+NextMessage at r (Err e) = (r ≢ []) × (header_fault at r ≡ Some e)

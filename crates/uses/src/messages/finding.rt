@@ -1,0 +1,82 @@
+//! The last attribute of a kind.
+
+ghost use Rattle.std.specs.Prelude.{◌≡◌, ◌+◌, ◌<◌, ◌^◌, ◌==◌, length, drop, min, Some, MatchResult, if◌then◌else◌};
+ghost use Rattle.std.specs.Option.{option_map};
+ghost use Rattle.netlink_packet_route.specs.Frame.{BeginsWith, frame_fault, kind_of, pad};
+ghost use Rattle.netlink_packet_route.specs.Buffer.{frame_of, kind_field_of, payload_of};
+ghost use Rattle.uses.specs.Found.{Finds, FindsIn, IsFrameFault, IsFaultIn, stretch_of};
+
+use crate::messages::fault::MessageError;
+use crate::messages::payload::Payload;
+use netlink_packet_route::link::{DecodeError, DecodeFault, NlaBuffer};
+
+/// The payload of the last attribute of a kind in a list, or `None` where there is none.
+///
+/// Fails with `Frame` where the list has a bad frame, whichever kind is asked for.
+pub fn last_of_kind(list: Payload<'_>, kind: u16) -> Result<Option<Payload<'_>>, MessageError>
+    ensures { MatchResult result (λ found. Finds (stretch_of list.entry) kind (option_map stretch_of found))
+        (IsFrameFault (stretch_of list.entry)) }
+{
+    let mut found = None;
+    let mut rest = list.bytes;
+    while !rest.is_empty() {
+        let at = list.at + (list.bytes.len() - rest.len());
+        let frame = frame_at(rest, at)?;
+        found = later(found, &frame, at, kind);
+        rest = behind(&frame, rest);
+    }
+    Ok(found)
+}
+
+/// The same in a list that may be missing, and then has no attributes.
+pub fn find_in(list: Option<Payload<'_>>, kind: u16) -> Result<Option<Payload<'_>>, MessageError>
+    ensures { MatchResult result
+        (λ found. FindsIn (option_map stretch_of list.entry) kind (option_map stretch_of found))
+        (IsFaultIn (option_map stretch_of list.entry)) }
+{
+    match list {
+        Some(list) => last_of_kind(list, kind),
+        None => Ok(None),
+    }
+}
+
+/// The frame at the front of bytes that stand at an offset.
+fn frame_at(bytes: &[u8], at: usize) -> Result<NlaBuffer<'_>, MessageError>
+    ensures { MatchResult result (λ frame. BeginsWith bytes.now (frame_of frame))
+        (λ error. (cause : _) × (frame_fault bytes.now ≡ Some cause) × (error ≡ MessageError.Frame at cause)) }
+{
+    match NlaBuffer::new_checked(bytes) {
+        Ok(frame) => Ok(frame),
+        Err(error) => match error {
+            DecodeError::Fault(DecodeFault::Frame(cause)) => Err(MessageError::Frame { at, cause }),
+            _ => unreachable!(),
+        },
+    }
+}
+
+/// The payload of a frame at an offset, if that is of the kind, and else what was found before.
+fn later<'a>(
+    found: Option<Payload<'a>>,
+    frame: &NlaBuffer<'a>,
+    at: usize,
+    kind: u16,
+) -> Option<Payload<'a>>
+    requires { at + 4 + length (payload_of frame.now) < 2 ^ 64 }
+    ensures { option_map stretch_of result ≡ (if kind_of (kind_field_of frame.now) == kind
+        then Some (at + 4, payload_of frame.now) else option_map stretch_of found.entry) }
+{
+    if frame.kind() == kind {
+        let bytes = frame.value();
+        Some(Payload { at: at + 4, bytes })
+    } else {
+        found
+    }
+}
+
+/// What follows a frame and its padding in the bytes that begin with it.
+fn behind<'a>(frame: &NlaBuffer<'_>, bytes: &'a [u8]) -> &'a [u8]
+    ensures { result.now ≡ drop (min (pad (4 + length (payload_of frame.now))) (length bytes.now)) bytes.now }
+{
+    let step = ((usize::from(frame.length()) + 3) / 4 * 4).min(bytes.len());
+    &bytes[step..]
+}

@@ -1,0 +1,23 @@
+//! A message.
+
+ghost use Rattle.std.specs.Prelude.{◌+◌, ◌<◌, ◌^◌, length};
+
+/// A message: the fields of its `struct nlmsghdr` (`include/uapi/linux/netlink.h`), its payload, and where it stands.
+#[derive(Clone, Copy, Debug, PartialEq, Eq)]
+pub struct Message<'a> {
+    /// The offset of its first byte in the buffer.
+    pub at: usize,
+    /// `nlmsg_type`.
+    pub kind: u16,
+    /// `nlmsg_flags`.
+    pub flags: u16,
+    /// `nlmsg_seq`.
+    pub sequence: u32,
+    /// `nlmsg_pid`, the port of the sender.
+    pub port: u32,
+    /// What follows the header, without padding. It is borrowed from the buffer.
+    pub payload: &'a [u8],
+    /// The offset of what follows the message and its padding.
+    pub next: usize,
+    ghost within: { at + 16 + length payload.now < 2 ^ 64 },
+}

@@ -1,0 +1,47 @@
+//! Names of links, and the families of the kinds of links.
+
+ghost use Rattle.std.specs.Prelude.{◌≡◌};
+ghost use Rattle.uses.specs.LinkMessage.{without_nul, link_kinds, port_kinds, family_of};
+
+use netlink_packet_route::Family;
+
+/// The bytes without the NUL at their end, if they have one.
+pub(crate) fn without_nul(bytes: &[u8]) -> &[u8]
+    ensures { result.now ≡ without_nul bytes.now }
+{
+    bytes.strip_suffix(&[0]).unwrap_or(bytes)
+}
+
+/// The family of the data of a link of this kind.
+pub(crate) fn link_family(name: &[u8]) -> Option<Family>
+    ensures { result ≡ family_of link_kinds name.now }
+{
+    if name == b"bond".as_slice() {
+        Some(Family::Bond)
+    } else if name == b"bridge".as_slice() {
+        Some(Family::Bridge)
+    } else if name == b"vlan".as_slice() {
+        Some(Family::Vlan)
+    } else if name == b"can".as_slice() {
+        Some(Family::Can)
+    } else if name == b"dsa".as_slice() {
+        Some(Family::Dsa)
+    } else if name == b"hsr".as_slice() {
+        Some(Family::Hsr)
+    } else {
+        None
+    }
+}
+
+/// The family of the data of a port of a link of this kind.
+pub(crate) fn port_family(name: &[u8]) -> Option<Family>
+    ensures { result ≡ family_of port_kinds name.now }
+{
+    if name == b"bond".as_slice() {
+        Some(Family::BondPort)
+    } else if name == b"bridge".as_slice() {
+        Some(Family::BridgePort)
+    } else {
+        None
+    }
+}
