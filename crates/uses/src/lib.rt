@@ -4,9 +4,12 @@
 mod building;
 mod changing;
 mod faults;
+pub mod messages;
 mod normalising;
 mod printing;
 mod reading;
+
+// From a message to the lists in it: the module `messages`.
 
 // What a list says.
 pub use reading::{forward_delay, monitoring};
@@ -26,6 +29,5 @@ pub use changing::{ChangeError, with_attribute, with_vlan_id};
 // A list in canonical form.
 pub use normalising::{canonical, normalised};
 
-pub mod messages;
 #[cfg(test)]
 mod tests;
