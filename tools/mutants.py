@@ -188,7 +188,9 @@ class Trial:
                     self.work, self.peak = self.work + seconds, max(self.peak, peak)
                 unknown = [it for it in only if status == 2 and f"`{it}`" in said.split("rattle: error: ")[-1]]
                 if not unknown:
-                    return Answer(status, said, texts)
+                    answer = Answer(status, said, texts)
+                    answer.seconds = round(seconds)
+                    return answer
                 # a name that the prover does not know: its module, or with none the whole crate
                 modules = {it: self.module_above(it) for it in unknown}
                 only = [] if "" in modules.values() else [*dict.fromkeys(modules.get(it, it) for it in only)]
@@ -280,7 +282,7 @@ class Trial:
                 self.alone += 1
             answer = self.check(mutant.texts, looks)
             if answer.is_refused:
-                return True, f"refused alone: {answer.first_error()[:160]}"
+                return True, f"refused alone in {answer.seconds} s: {answer.first_error()[:160]}"
             if not answer.is_proved:
                 return False, f"BAD EDIT: {answer.why}"
         return False, "NOT REFUSED: the crate is still proved with this edit"

@@ -1,6 +1,6 @@
 //! A captured list, in canonical form.
 
-ghost use Rattle.std.specs.Prelude.{◌↔◌, IfOk, IfErr, IsTrue};
+ghost use Rattle.std.specs.Prelude.{◌↔◌, ℕ, List, IfOk, IfErr, IsTrue};
 ghost use Rattle.netlink_packet_route.specs.Family.{table_of};
 ghost use Rattle.netlink_packet_route.specs.Rewrite.{RewriteAnswers};
 ghost use Rattle.netlink_packet_route.specs.Table.{Canonical, Rewriting};
@@ -23,11 +23,14 @@ pub fn normalised(
     Ok((out, was_canonical))
 }
 
-/// The list in canonical form.
+/// The list in canonical form: read and written again, twice.
 pub fn canonical(alloc: Global, family: Family, bytes: &[u8]) -> Result<Vec<u8>, RewriteError>
-    ensures { IfOk result (λ out. Canonical (table_of family) out.items) }
+    ensures canonical { IfOk result (λ out. Canonical (table_of family) out.items) }
+    ensures second { IfOk result (λ out. (once : List ℕ)
+        × Rewriting (table_of family) bytes.now once × Rewriting (table_of family) once out.items) }
 {
     laws::second_rewriting();
     let once = rewrite(alloc, family, bytes)?;
-    rewrite(alloc, family, &once)
+    let twice = rewrite(alloc, family, &once)?;
+    Ok(twice)
 }
