@@ -84,7 +84,7 @@ EDITS = {
     "does_not_compile": ("number / 2", "numeral / 2", "BAD EDIT: it did not reach the prover"),
     "steps_by_one": ("u16::from(number) + STEP", "u16::from(number) + 1", "refused: src/lib.rt"),
     "takes_a_third": ("number / 2", "number / 3", "NOT REFUSED"),
-    "takes_another_step": ("STEP: u16 = 2", "STEP: u16 = 1", "refused alone: src/lib.rt"),
+    "takes_another_step": ("STEP: u16 = 2", "STEP: u16 = 1", "refused alone in "),
 }
 
 
