@@ -11,7 +11,8 @@ Mutants that turn different functions are tried in one check of a copy of the cr
 at what they call. Each mutant has to be refused in its place: by a note at a line of the function that it turns, or by
 an error in that function's folder of proofs/. That a function calls a refused one is no refusal of its own.
 A mutant that turns something else than the body of a function, and one that was not refused in its place, is tried
-alone, and then any refusal is its own. A mutant that does not apply, or does not reach the prover, is a failure.
+alone, and then any refusal is its own. Lines 'at: PATH' in it name functions, or modules, to look at first. A mutant that
+does not apply, or does not reach the prover, is a failure.
 
 The crates as they stand have to be proved, as by `rt ci` or `rt all check`: this is not tried again. Libraries that are
 newer than their sources, and kept work, are taken from crates/NAME/out/, and nothing is written to the repository.
@@ -55,7 +56,9 @@ class Mutant:
     def __init__(self, crate, path):
         self.crate, self.name = crate, f"{crate.name}/{os.path.basename(path)}"
         with open(path, encoding="utf-8") as file:
-            self.texts = edited_texts(file.read(), crate.folder)
+            edit = file.read()
+        self.texts = edited_texts(edit, crate.folder)
+        self.places = re.findall(r"^at: (\S+)$", edit, re.MULTILINE)
         self.bodies = {}
         for file, text in self.texts.items():
             was = crate.texts.get(file)
@@ -68,7 +71,10 @@ class Mutant:
         self.bodies = self.bodies or None
 
     def targets(self):
-        """What to look at: its functions, else the modules that name what it changes, or [] for the whole crate."""
+        """What to look at: the places that it names, else its functions, else the modules that name what it changes, or
+        [] for the whole crate."""
+        if self.places:
+            return self.places
         if self.bodies:
             return [functions_of(self.crate.texts[file])[number].path(file) for file, number in self.bodies]
         files = {*self.texts}
@@ -200,7 +206,7 @@ class Trial:
         return max((it for it in modules if it and path.startswith(f"{it}::")), key=len, default="")
 
     def tasks(self):
-        """Its first tasks. A task is a call that answers further tasks, and no two of them wait for one another."""
+        """Its first tasks. A task is a number of mutants and a call, which answers further tasks. None waits for another."""
         mutants = []
         folder = f"{self.crate.folder}/mutants"
         for name in sorted(os.listdir(folder)):
@@ -218,8 +224,8 @@ class Trial:
 
     def further(self, batches, alone):
         """The tasks of batches that are tried together, and of mutants that are tried alone."""
-        tasks = [functools.partial(self.do, self.try_together, it) for it in batches]
-        tasks += [functools.partial(self.do, self.try_alone, it) for it in alone]
+        tasks = [(len(it), functools.partial(self.do, self.try_together, it)) for it in batches]
+        tasks += [(1, functools.partial(self.do, self.try_alone, it)) for it in alone]
         with self.lock:
             self.open += len(tasks)
         return tasks
@@ -309,11 +315,13 @@ def try_mutants(root, names, jobs, kit):
         for crate in sorted(chosen, key=size, reverse=True):
             os.mkdir(f"{room}/{crate.name}")
             trials.append(Trial(crate, f"{room}/{crate.name}", run, say))
+        # the longest first, so that none of them is alone at the end
+        first = sorted((it for trial in trials for it in trial.tasks()), key=lambda it: it[0], reverse=True)
         with ThreadPoolExecutor(lanes(jobs)) as pool:
-            running = {pool.submit(task) for trial in trials for task in trial.tasks()}
+            running = {pool.submit(task) for _, task in first}
             while running:
                 done, running = wait(running, return_when=FIRST_COMPLETED)
-                running |= {pool.submit(task) for it in done for task in it.result()}
+                running |= {pool.submit(task) for it in done for _, task in it.result()}
     passed, failed = sum(it.passed for it in trials), sum(it.failed for it in trials)
     print(f"{passed} passed, {failed} failed", flush=True)
     return 1 if failed else 0

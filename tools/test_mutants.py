@@ -85,7 +85,10 @@ EDITS = {
     "steps_by_one": ("u16::from(number) + STEP", "u16::from(number) + 1", "refused: src/lib.rt"),
     "takes_a_third": ("number / 2", "number / 3", "NOT REFUSED"),
     "takes_another_step": ("STEP: u16 = 2", "STEP: u16 = 1", "refused alone in "),
+    "takes_longer_steps": ("STEP: u16 = 2", "STEP: u16 = 3", "refused alone in "),
 }
+# The function to look at, where an edit names it.
+PLACES = {"takes_longer_steps": "at: next\n"}
 
 
 class Reading(unittest.TestCase):
@@ -150,14 +153,15 @@ class Trying(unittest.TestCase):
             self.write(f"{root}/crates.txt", "steps:  # no library but std\n")
             self.write(f"{folder}/src/lib.rt", STEPS)
             for name, (old, new, _) in EDITS.items():
-                self.write(f"{folder}/mutants/{name}.edit", f"file: src/lib.rt\nold: {old}\nnew: {new}\n")
+                edit = f"file: src/lib.rt\n{PLACES.get(name, '')}old: {old}\nnew: {new}\n"
+                self.write(f"{folder}/mutants/{name}.edit", edit)
             with contextlib.redirect_stdout(io.StringIO()) as said:
                 status = mutants.try_mutants(root, [], 1, mutants.kit_folder())
         lines = said.getvalue().splitlines()
         verdicts = dict(it[len("steps/") :].split(".edit: ") for it in lines if it.startswith("steps/"))
         for name, (_, _, wanted) in EDITS.items():
             self.assertTrue(verdicts[name].startswith(wanted), f"{name}: {verdicts[name]}")
-        self.assertEqual("2 passed, 4 failed", lines[-1])
+        self.assertEqual("3 passed, 4 failed", lines[-1])
         self.assertEqual(1, status)
 
     @staticmethod

@@ -51,6 +51,24 @@ impl Family {
             _ => None,
         }
     }
+
+    /// The name of the family, which `from_name` takes.
+    pub fn name(self) -> &'static str
+        ensures { result.now ≡ family_name self }
+    {
+        match self {
+            Family::AfSpecBridge => "af_spec_bridge",
+            Family::Bond => "bond",
+            Family::BondPort => "bond_port",
+            Family::Bridge => "bridge",
+            Family::BridgePort => "bridge_port",
+            Family::Vlan => "vlan",
+            Family::Can => "can",
+            Family::Dsa => "dsa",
+            Family::Hsr => "hsr",
+            Family::ProtoBridge => "proto_bridge",
+        }
+    }
 }
 
 /// Calls a function that is generic over an `Attribute`, at the type of a family, as

@@ -9,7 +9,7 @@ use Rattle.netlink_packet_route.specs.declared.family.Family.{Family}
 use Rattle.netlink_packet_route.specs.declared.family.Family.TheVariants.{Bond}
 use Rattle.netlink_packet_route.specs.Family.{family_name}
 use Rattle.netlink_packet_route.specs.Report.{is_space, line}
-use Rattle.nlshow.specs.Show.{IsUnbroken, IsApart, IsNamed}
+use Rattle.nlshow.specs.Show.{IsUnbroken, IsApart, IsCut}
 use Rattle.nlshow.proofs.Cuts.{cut_at, no_cut, all_each}
 
 -- ---- the names of families are text
@@ -49,7 +49,7 @@ first_line xs front rest behind i e f r b =
 
 -- ---- white space
 
-named_at : (xs : List ℕ) (r : Option ℕ) → r ≡ position is_space xs → IsNamed xs (take (unwrap_or r (length xs)) xs) (drop (unwrap_or r (length xs)) xs)
+named_at : (xs : List ℕ) (r : Option ℕ) → r ≡ position is_space xs → IsCut xs (take (unwrap_or r (length xs)) xs) (drop (unwrap_or r (length xs)) xs)
 named_at xs None e =
     record {
       whole = sym (take-append-drop (length xs) xs);
@@ -60,6 +60,6 @@ named_at xs (Some i) e =
     let c = cut_at is_space xs i e in
     record { whole = sym (take-append-drop i xs); solid = c.before; apart = subst IsApart (sym c.rest) c.passes }
 
-pub named : (xs front rest : List ℕ) (r : Option ℕ) (i : ℕ) → r ≡ position is_space xs → i ≡ unwrap_or r (length xs) → front ≡ take i xs → rest ≡ drop i xs → IsNamed xs front rest
+pub named : (xs front rest : List ℕ) (r : Option ℕ) (i : ℕ) → r ≡ position is_space xs → i ≡ unwrap_or r (length xs) → front ≡ take i xs → rest ≡ drop i xs → IsCut xs front rest
 named xs front rest r i e n f b =
-    subst (λ t. IsNamed xs t rest) (sym (f ∙ ap (λ k. take k xs) n)) (subst (λ t. IsNamed xs (take (unwrap_or r (length xs)) xs) t) (sym (b ∙ ap (λ k. drop k xs) n)) (named_at xs r e))
+    subst (λ t. IsCut xs t rest) (sym (f ∙ ap (λ k. take k xs) n)) (subst (λ t. IsCut xs (take (unwrap_or r (length xs)) xs) t) (sym (b ∙ ap (λ k. drop k xs) n)) (named_at xs r e))

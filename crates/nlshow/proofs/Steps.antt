@@ -9,7 +9,8 @@ use Rattle.nlshow.specs.declared.running.Stop.TheVariants.{Memory, Reader, Write
 use Rattle.nlshow.specs.Show.{ShowsAll, IsUnbroken}
 use Rattle.nlshow.specs.Progress.{Shown, Goes, held_of, Grows, WritesLine, WritesPiece, WritesRest, OnMemory}
 use Rattle.nlshow.specs.Run.{Runs}
-use Rattle.nlshow.proofs.Texts.{none, goes_none, goes_both, goes_on, goes_over, ends_here, ends_open, and_true}
+use Rattle.nlshow.proofs.Each.{and_true}
+use Rattle.nlshow.proofs.Texts.{none, goes_none, goes_both, goes_on, goes_over, ends_here, ends_open}
 
 -- ---- the lines of a piece
 

@@ -1,13 +1,14 @@
 -- Lines, shown one after another.
-use Rattle.std.proofs.Common.{◌≡◌, ◌≢◌, ℕ, ◌+◌, ◌<◌, ◌≤◌, Bool, true, false, ◌&&◌, List, [], ◌∷◌, ◌++◌, length, refl, sym, ap, ap₂, subst, ◌∙◌, arith, append_assoc, length-take, length-append, codes}
-use Rattle.std.specs.List.{AllZip, flat_map}
+use Rattle.std.proofs.Common.{◌≡◌, ◌≢◌, ℕ, ◌+◌, ◌<◌, ◌≤◌, Bool, true, ◌&&◌, List, [], ◌∷◌, ◌++◌, length, refl, sym, ap, subst, ◌∙◌, arith, append_assoc, length-take, length-append}
+use Rattle.std.specs.List.{flat_map}
 use Rattle.std.proofs.lemmas.List.{take_all, append-nil, nil_from_length}
-use Rattle.std.proofs.lemmas.List.Folds.{list_all-append}
 use Rattle.std.proofs.lemmas.Grind.{flat_map-append}
 use Rattle.netlink_packet_route.specs.Report.{line}
-use Rattle.nlshow.specs.Show.{Shows, TooLong, PassedOver, Answered, ShowsLines, ShowsAll, AreIndented, Ended, Open, IsUnbroken}
+use Rattle.nlshow.specs.List.{ShowsEach}
+use Rattle.nlshow.specs.Show.{Shows, TooLong, PassedOver, Answered, ShowsAll, Ended, Open, IsUnbroken}
 use Rattle.nlshow.specs.Progress.{Shown, Goes, held_of}
 use Rattle.nlshow.proofs.Cuts.{all_append, take_twice}
+use Rattle.nlshow.proofs.Each.{and_true, and_assoc, each_more}
 
 -- ---- what is held of a line tells what is shown for it
 
@@ -21,41 +22,8 @@ from_held text out read (Answered le h below a o) = subst (λ t. Shows t out rea
 
 -- ---- one more line
 
-pub and_true : (b : Bool) → (b && true) ≡ b
-and_true true = refl
-and_true false = refl
-
-pub and_assoc : (a b c : Bool) → ((a && b) && c) ≡ (a && (b && c))
-and_assoc true b c = refl
-and_assoc false b c = refl
-
-zip_append : {A B : Type 0} (R : A → B → Type 0) (xs : List A) (ys : List B) (x : A) (y : B) → AllZip R xs ys → R x y → AllZip R (xs ++ x ∷ []) (ys ++ y ∷ [])
-zip_append R [] [] x y h r = (r, tt)
-zip_append R [] (z ∷ ys) x y h r = absurd h
-zip_append R (z ∷ xs) [] x y h r = absurd h
-zip_append R (z ∷ xs) (w ∷ ys) x y h r = (h.0, zip_append R xs ys x y h.1 r)
-
-pub lines_more : (lines : List (List ℕ)) (out text written : List ℕ) (whole read : Bool) → ShowsLines lines out whole → Shows text written read → ShowsLines (lines ++ text ∷ []) (out ++ written) (whole && read)
-lines_more lines out text written whole read s h =
-    record {
-      answers = s.answers ++ (written, read) ∷ [];
-      each = zip_append (λ t a. Shows t a.0 a.1) lines s.answers text (written, read) s.each h;
-      joined = ap₂ (λ a b. a ++ b) s.joined (sym (append-nil written)) ∙ sym (flat_map-append (λ a. a.0) s.answers ((written, read) ∷ []));
-      all = ap₂ (λ a b. a && b) s.all (sym (and_true read)) ∙ sym (list_all-append (λ a. a.1) s.answers ((written, read) ∷ []));
-    }
-
 spelled_more : (lines : List (List ℕ)) (text : List ℕ) → flat_map line (lines ++ text ∷ []) ≡ flat_map line lines ++ line text
 spelled_more lines text = flat_map-append line lines (text ∷ []) ∙ ap (λ l. flat_map line lines ++ l) (append-nil (line text))
-
--- one more indented line
-pub indented_more : (n : ℕ) (a b c d words : List ℕ) → AreIndented a n → b ≡ a ++ codes "  " → c ≡ b ++ words → d ≡ c ++ 10 ∷ [] → AreIndented d (n + 1)
-indented_more n a b c d words s eb ec ed =
-    let one = codes "  " ++ words in (
-      s.0 ++ words ∷ [],
-      omega (arith, length-append s.0 (words ∷ []), s.1),
-      ed ∙ ap (λ l. l ++ 10 ∷ []) (ec ∙ ap (λ l. l ++ words) eb ∙ append_assoc a (codes "  ") words) ∙ append_assoc a one (10 ∷ []) ∙ ap (λ l. l ++ line one) s.2
-          ∙ sym (flat_map-append (λ w. line (codes "  " ++ w)) s.0 (words ∷ []) ∙ ap (λ l. flat_map (λ w. line (codes "  " ++ w)) s.0 ++ l) (append-nil (line one))),
-    )
 
 -- ---- a piece of a text
 
@@ -93,7 +61,7 @@ goes_on before after piece solid e text out whole s =
       unbroken = s.unbroken;
       open_end = all_append (λ b. b ≢ 10) s.current piece s.open_end solid;
       is_held = e ∙ ap (λ t. held_of (t ++ piece)) s.is_held ∙ take_twice 262145 s.current piece;
-      shown = subst (λ o. ShowsLines s.lines o (whole && true)) (sym (append-nil out)) (subst (λ w. ShowsLines s.lines out w) (sym (and_true whole)) s.shown);
+      shown = subst (λ o. ShowsEach Shows s.lines o (whole && true)) (sym (append-nil out)) (subst (λ w. ShowsEach Shows s.lines out w) (sym (and_true whole)) s.shown);
     }
 
 -- bytes without LF, and then LF
@@ -110,7 +78,7 @@ goes_over before piece written read solid h text out whole s =
       unbroken = all_append IsUnbroken s.lines (whole_line ∷ []) s.unbroken (all_append (λ b. b ≢ 10) s.current piece s.open_end solid, tt);
       open_end = tt;
       is_held = refl;
-      shown = lines_more s.lines out whole_line written whole read s.shown full;
+      shown = each_more Shows s.lines out whole_line written whole read s.shown full;
     }
 
 -- ---- the end of a text
@@ -136,5 +104,5 @@ ends_open text out held written whole read s some h =
     record {
       lines = s.lines ++ s.current ∷ [];
       cut = Open s.lines s.current s.unbroken s.open_end len refl s.cut;
-      shown = lines_more s.lines out s.current written whole read s.shown (from_held s.current written read (subst (λ t. Shows t written read) s.is_held h));
+      shown = each_more Shows s.lines out s.current written whole read s.shown (from_held s.current written read (subst (λ t. Shows t written read) s.is_held h));
     }

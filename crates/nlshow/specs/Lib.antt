@@ -1,4 +1,6 @@
 pub mod Arguments
+pub mod List
+pub mod Messages
 pub mod Show
 pub mod Progress
 pub mod Run

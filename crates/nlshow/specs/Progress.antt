@@ -5,7 +5,8 @@ use Rattle.std.specs.Io.KnownBytes.{Appends, Keeps}
 use Rattle.netlink_packet_route.specs.Report.{line}
 use Rattle.nlshow.specs.declared.running.Stop.{Stop}
 use Rattle.nlshow.specs.declared.running.Stop.TheVariants.{Memory, Reader, Writer}
-use Rattle.nlshow.specs.Show.{Shows, IsUnbroken, ShowsLines}
+use Rattle.nlshow.specs.List.{ShowsEach}
+use Rattle.nlshow.specs.Show.{Shows, IsUnbroken}
 
 -- as much of a line is held as tells what is written for it
 abbrev pub held_of : List ℕ → List ℕ
@@ -19,7 +20,7 @@ pub record Shown (text out held : List ℕ) (whole : Bool) : Type 0 where
   pub unbroken : AllByRecursion IsUnbroken lines
   pub open_end : IsUnbroken current
   pub is_held : held ≡ held_of current
-  pub shown : ShowsLines lines out whole
+  pub shown : ShowsEach Shows lines out whole
 
 -- the next piece of a text, whatever stood before it: what is held then, what is written, and whether every list of the
 -- lines that end in it was read

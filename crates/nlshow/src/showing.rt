@@ -1,23 +1,25 @@
 //! What is written for a line.
 
-ghost use Rattle.std.specs.Prelude.{◌≡◌, ◌++◌, ◌↔◌, length, IsTrue, IfOk, OnOk, IfSome, IfNone, string_bytes};
+ghost use Rattle.std.specs.Prelude.{◌≡◌, ◌++◌, ◌↔◌, IsTrue, IfOk, OnOk, string_bytes};
 ghost use Rattle.std.specs.Io.KnownBytes.{Appends, Keeps};
 ghost use Rattle.hex.specs.Hex.{decode_of};
-ghost use Rattle.netlink_packet_route.specs.Family.{family_name, table_of};
-ghost use Rattle.netlink_packet_route.specs.Report.{is_space, digits_of, line, fault_line};
-ghost use Rattle.nlshow.specs.Show.{IsPassedOver, IsNamed, IsNoFamily, AreIndented, ShowsList, ShowsDigits, ShowsBelow};
+ghost use Rattle.netlink_packet_route.specs.Report.{is_space, digits_of, line};
+ghost use Rattle.nlshow.specs.List.{Adds};
+ghost use Rattle.nlshow.specs.Show.{IsPassedOver, IsCut, ShowsAsked, ShowsDigits, ShowsBelow};
 ghost use Rattle.nlshow.specs.Progress.{WritesLine, OnMemory};
 
+use crate::asking::{Asked, asked};
+use crate::lists::push_list;
+use crate::messages::push_messages;
 use crate::running::Stop;
 use hex::FromHexError;
-use netlink_packet_route::link::{Attribute, DecodeFault, ListError, read_list};
-use netlink_packet_route::{Family, MOST_TEXT, by_family};
+use netlink_packet_route::MOST_TEXT;
 use std::alloc::{AllocError, Global};
-use std::fmt::Debug;
+use std::io;
 use std::io::Write;
-use std::{io, str};
+use uses::messages::{Part, Payload};
 
-/// Writes what is to be shown for a line, and answers whether its list was read.
+/// Writes what is to be shown for a line, and answers whether what it asks for was read.
 pub(crate) fn show<W: Write>(alloc: Global, text: &[u8], writer: &mut W) -> Result<bool, Stop>
     ensures shown { IfOk result (WritesLine text.now (W.contents writer.old) (W.contents writer.new)) }
     ensures memory { OnMemory result (Keeps (W.contents writer.old) (W.contents writer.new)) }
@@ -64,21 +66,20 @@ fn write_below<W: Write>(writer: &mut W, text: &[u8], below: &str) -> io::Result
     writer.write_all(below.as_bytes())
 }
 
-/// What stands below a line, and whether its list was read.
+/// What stands below a line, and whether what it asks for was read.
 fn answer(alloc: Global, text: &[u8]) -> Result<(String, bool), AllocError>
     ensures { IfOk result (λ below. ShowsBelow text.now (string_bytes below.0) below.1) }
 {
-    let (name, rest) = cut_name(text);
-    match family_of(name) {
-        Some(family) => digits_text(alloc, family, rest),
+    let (word, rest) = cut_word(text);
+    match asked(word) {
+        Some(asked) => digits_text(alloc, asked, rest),
         None => Ok((String::from_str(alloc, "no such family\n")?, false)),
     }
 }
 
-/// What stands below the line of a family's list in hex digits, and whether it was read.
-fn digits_text(alloc: Global, family: Family, text: &[u8]) -> Result<(String, bool), AllocError>
-    ensures { IfOk result (λ below. ShowsDigits (table_of family) (decode_of (digits_of text.now))
-        (string_bytes below.0) below.1) }
+/// What stands below a line with these hex digits, and whether they were read.
+fn digits_text(alloc: Global, asked: Asked, text: &[u8]) -> Result<(String, bool), AllocError>
+    ensures { IfOk result (λ below. ShowsDigits asked (decode_of (digits_of text.now)) (string_bytes below.0) below.1) }
 {
     let digits = digits(alloc, text)?;
     let bytes = match hex::decode(alloc, digits.as_slice()) {
@@ -86,26 +87,35 @@ fn digits_text(alloc: Global, family: Family, text: &[u8]) -> Result<(String, bo
         Err(FromHexError::OutOfMemory) => return Err(AllocError),
         Err(_) => return Ok((String::from_str(alloc, "bad hex\n")?, false)),
     };
-    by_family!(family, list_text(alloc, &bytes))
+    let mut text = String::new(alloc);
+    let read = push_answer(alloc, &mut text, asked, &bytes)?;
+    Ok((text, read))
+}
+
+/// Adds what is asked of the bytes, and answers whether they were read.
+fn push_answer(
+    alloc: Global,
+    text: &mut String,
+    asked: Asked,
+    bytes: &[u8],
+) -> Result<bool, AllocError>
+    ensures { IfOk result (Adds (ShowsAsked asked bytes.now) text.old text.new) }
+{
+    match asked {
+        Asked::Messages => push_messages(alloc, text, bytes),
+        Asked::Attributes(family) => {
+            let payload = Payload { at: 0, bytes };
+            push_list(alloc, text, "", Part { family, payload })
+        }
+    }
 }
 
 /// What stands before the first white space, and the rest.
-fn cut_name(text: &[u8]) -> (&[u8], &[u8])
-    ensures { IsNamed text.now result.0.now result.1.now }
+fn cut_word(text: &[u8]) -> (&[u8], &[u8])
+    ensures { IsCut text.now result.0.now result.1.now }
 {
     let end = text.iter().position(|b| is_space(*b)).unwrap_or(text.len());
     text.split_at(end)
-}
-
-/// The family of this name. One that is not UTF-8 is no family's.
-fn family_of(name: &[u8]) -> Option<Family>
-    ensures found { IfSome result (λ family. name.now ≡ family_name family) }
-    ensures none { IfNone result (IsNoFamily name.now) }
-{
-    match str::from_utf8(name) {
-        Ok(name) => Family::from_name(name),
-        Err(_) => None,
-    }
 }
 
 /// What is left without white space.
@@ -116,41 +126,4 @@ fn digits(alloc: Global, text: &[u8]) -> Result<Vec<u8>, AllocError>
         .copied()
         .filter(|b| !is_space(*b))
         .collect(alloc)
-}
-
-/// The lines of the values of a list, or of its first fault, and whether it was read.
-fn list_text<F: Attribute + Debug>(
-    alloc: Global,
-    bytes: &[u8],
-) -> Result<(String, bool), AllocError>
-    ensures { IfOk result (λ below. ShowsList F.table bytes.now (string_bytes below.0) below.1) }
-{
-    let values: Vec<F> = match read_list(alloc, bytes) {
-        Ok(values) => values,
-        Err(ListError::Memory(error)) => return Err(error),
-        Err(ListError::Fault { at, fault }) => return Ok((fault_text(alloc, at, fault)?, false)),
-    };
-    Ok((value_text(alloc, &values)?, true))
-}
-
-fn fault_text(alloc: Global, at: usize, fault: DecodeFault) -> Result<String, AllocError>
-    ensures { IfOk result (λ text. string_bytes text ≡ fault_line at fault) }
-{
-    format!(in alloc; "fault at {at}: {fault}\n")
-}
-
-/// A line for each value.
-fn value_text<F: Debug>(alloc: Global, values: &[F]) -> Result<String, AllocError>
-    ensures { IfOk result (λ text. AreIndented (string_bytes text) (length values.now)) }
-{
-    let mut text = String::new(alloc);
-    let mut one = String::new(alloc);
-    for value in values {
-        one.clear();
-        write!(one, "{value:?}")?;
-        text.push_str("  ")?;
-        text.push_str(one.as_str())?;
-        text.push_str("\n")?;
-    }
-    Ok(text)
 }

@@ -4,3 +4,4 @@ pub mod Walks
 pub mod Strings
 pub mod Headers
 pub mod Parts
+pub mod Dumps

@@ -4,3 +4,4 @@ pub mod Printing
 pub mod Found
 pub mod Message
 pub mod LinkMessage
+pub mod Dump

@@ -1,7 +1,9 @@
 -- The messages of a buffer (`include/uapi/linux/netlink.h`).
-use Rattle.std.specs.Prelude.{◌≡◌, ◌≢◌, ◌⊎◌, ℕ, ◌+◌, ◌-◌, ◌<◌, ◌≤◌, ◌^◌, min, List, [], ◌∷◌, ◌++◌, length, take, drop, Option, Some, None, Result, Ok, Err, nat_lt, if◌then◌else◌}
+use Rattle.std.specs.Prelude.{◌≡◌, ◌≢◌, ◌⊎◌, ℕ, ◌+◌, ◌-◌, ◌<◌, ◌≤◌, ◌^◌, min, List, [], ◌∷◌, ◌++◌, length, take, drop, Option, Some, None, Result, Ok, Err, nat_lt, codes, if◌then◌else◌}
+use Rattle.std.specs.Fmt.{decimal}
 use Rattle.netlink_packet_route.specs.Number.{number, bytes_of}
 use Rattle.netlink_packet_route.specs.Frame.{pad}
+use Rattle.netlink_packet_route.specs.Texts.{cause_text}
 use Rattle.uses.specs.declared.messages.header.Message.{Message}
 use Rattle.uses.specs.declared.messages.fault.MessageError.{MessageError}
 use Rattle.uses.specs.declared.messages.fault.MessageError.TheVariants as errors
@@ -47,6 +49,15 @@ header_fault at r =
     else (if nat_lt (length r) stated then Some (errors.Overrun at stated (length r))
     else None))
 
+-- what is said of an error
+abbrev pub error_text : MessageError → List ℕ
+error_text (errors.ShortHeader at left) = codes "short header at " ++ (decimal at ++ (codes ": " ++ (decimal left ++ codes " bytes")))
+error_text (errors.SmallLength at stated) = codes "small length at " ++ (decimal at ++ (codes ": " ++ decimal stated))
+error_text (errors.Overrun at stated left) = codes "overrun at " ++ (decimal at ++ (codes ": " ++ (decimal stated ++ (codes " of " ++ (decimal left ++ codes " bytes")))))
+error_text (errors.OtherType at kind) = codes "other type at " ++ (decimal at ++ (codes ": " ++ decimal kind))
+error_text (errors.ShortLink at size) = codes "short link at " ++ (decimal at ++ (codes ": " ++ (decimal size ++ codes " bytes")))
+error_text (errors.Frame at cause) = codes "bad attribute at " ++ (decimal at ++ (codes ": " ++ cause_text cause))
+
 -- ---- one step
 
 -- a message without the padding behind it
@@ -64,3 +75,8 @@ abbrev pub NextMessage : ℕ → List ℕ → Result (Option Message) MessageErr
 NextMessage at r (Ok None) = (r ≡ []) ⊎ ((m : Packet) × BeginsWithPacket r m × (m.kind ≡ 3))
 NextMessage at r (Ok (Some m)) = IsMessageAt at r m × (m.kind ≢ 3)
 NextMessage at r (Err e) = (r ≢ []) × (header_fault at r ≡ Some e)
+
+-- messages that stand one after another in a buffer, from an offset to another
+abbrev pub Stand : List ℕ → ℕ → List Message → ℕ → Type 0
+Stand s at [] end = at ≡ end
+Stand s at (m ∷ ms) end = NextMessage at (drop at s) (Ok (Some m)) × Stand s m.next ms end

@@ -1,5 +1,6 @@
-//! Messages about links, down to the lists that the families read. Nothing here takes memory.
+//! Messages about links, down to the lists that the families read. Only `read_links` takes memory.
 
+mod dumping;
 mod fault;
 mod finding;
 mod header;
@@ -9,6 +10,7 @@ mod payload;
 mod reading;
 mod stepping;
 
+pub use dumping::{DumpError, read_links};
 pub use fault::MessageError;
 pub use finding::{find_in, last_of_kind};
 pub use header::Message;

@@ -1,0 +1,86 @@
+-- What is written of messages.
+use Rattle.std.specs.Prelude.{◌≡◌, ℕ, ℤ, Bool, true, false, ◌&&◌, List, [], ◌∷◌, ◌++◌, drop, Option, Some, None, Ok, Err, IfSome, codes, String, string_bytes}
+use Rattle.std.specs.Fmt.{signed_decimal}
+use Rattle.std.specs.Option.{option_copied}
+use Rattle.bstr.specs.Show.{debug_text}
+use Rattle.netlink_packet_route.specs.declared.family.Family.{Family}
+use Rattle.netlink_packet_route.specs.Family.{family_name, table_of}
+use Rattle.netlink_packet_route.specs.Report.{line}
+use Rattle.uses.specs.declared.messages.header.Message.{Message}
+use Rattle.uses.specs.declared.messages.link.Link.{Link}
+use Rattle.uses.specs.declared.messages.link.Part.{Part}
+use Rattle.uses.specs.declared.messages.fault.MessageError.{MessageError}
+use Rattle.uses.specs.Message.{NextMessage, Stand, packet_of, error_text}
+use Rattle.uses.specs.LinkMessage.{IsAbout, IsAboutNone}
+use Rattle.nlshow.specs.List.{ShowsList, ShowsEach}
+
+-- ---- lines
+
+abbrev pub error_line : MessageError → List ℕ
+error_line error = line (codes "  " ++ error_text error)
+
+-- where a list stands, and the family that reads it
+abbrev pub path_line : List ℕ → Family → List ℕ
+path_line place family = line (codes "  " ++ (place ++ (codes " " ++ family_name family)))
+
+-- a link's index
+abbrev pub index_text : ℤ → List ℕ
+index_text index = codes "  link " ++ signed_decimal index
+
+-- the index, and the name in quotes, if there is one
+abbrev pub IsHead : ℤ → Option (List ℕ) → List ℕ → Type 0
+IsHead index None out = out ≡ line (index_text index)
+IsHead index (Some name) out =
+    (words : List ℕ) × IfSome (debug_text name) (λ t. words ≡ t) × (out ≡ line (index_text index ++ (codes " " ++ words)))
+
+-- ---- a message
+
+-- what is written of a list of a message, and whether it was read: its path, and what is written of a list; or nothing
+abbrev pub ShowsPart : List ℕ → Option Part → List ℕ → Bool → Type 0
+ShowsPart place None out read = (out ≡ []) × (read ≡ true)
+ShowsPart place (Some p) out read =
+    (below : List ℕ) × ShowsList (codes "  ") p.payload.at (table_of p.family) p.payload.bytes.now below read × (out ≡ path_line place p.family ++ below)
+
+-- the lists of a link, and where they stand
+abbrev pub parts_of : Link → List (List ℕ × Option Part)
+parts_of link =
+    (codes "IFLA_LINKINFO", link.info_data) ∷ (codes "IFLA_LINKINFO", link.port_data) ∷ (codes "IFLA_AF_SPEC", link.af_spec) ∷ (codes "IFLA_PROTINFO", link.protinfo) ∷ []
+
+-- what is written of a link, and whether its lists were read
+pub record ShowsLink (link : Link) (out : List ℕ) (read : Bool) : Type 0 where
+  pub head : List ℕ
+  pub parts : List ℕ
+  pub is_head : IsHead link.index (option_copied link.name) head
+  pub each : ShowsEach (λ p. ShowsPart p.0 p.1) (parts_of link) parts read
+  pub joined : out ≡ head ++ parts
+
+-- what is written of a message, and whether it and its lists were read
+pub data ShowsMessage (m : Message) (out : List ℕ) (read : Bool) : Type 0 where
+  About : (link : Link) → IsAbout m.at (packet_of m) link → ShowsLink link out read → ShowsMessage m out read
+  AboutNone : (error : MessageError) → IsAboutNone m.at (packet_of m) error → out ≡ error_line error → read ≡ false → ShowsMessage m out read
+
+-- ---- a buffer
+
+-- what is written where the messages end, and whether nothing is left to be read
+pub data ShowsEnd (s : List ℕ) (at : ℕ) (out : List ℕ) (read : Bool) : Type 0 where
+  Ended : NextMessage at (drop at s) (Ok None) → out ≡ [] → read ≡ true → ShowsEnd s at out read
+  Broken : (error : MessageError) → NextMessage at (drop at s) (Err error) → out ≡ error_line error → read ≡ false → ShowsEnd s at out read
+
+-- what is written of the messages of a buffer, and whether each, and each of their lists, was read
+pub record ShowsMessages (s out : List ℕ) (whole : Bool) : Type 0 where
+  pub messages : List Message
+  pub end : ℕ
+  pub stand : Stand s 0 messages end
+  pub front : List ℕ
+  pub front_read : Bool
+  pub each : ShowsEach ShowsMessage messages front front_read
+  pub last : List ℕ
+  pub last_read : Bool
+  pub at_end : ShowsEnd s end last last_read
+  pub joined : out ≡ front ++ last
+  pub all : whole ≡ (front_read && last_read)
+
+-- ---- what calls add to a text
+
+abbrev pub AddsHead : ℤ → Option (List ℕ) → String → String → Type 0
+AddsHead index name old new = (out : List ℕ) × IsHead index name out × (string_bytes new ≡ string_bytes old ++ out)

@@ -1,0 +1,80 @@
+//! What is written of a list.
+
+ghost use Rattle.std.specs.Prelude.{◌≡◌, ◌++◌, length, IfOk, OnOk, string_bytes};
+ghost use Rattle.netlink_packet_route.specs.Family.{table_of};
+ghost use Rattle.netlink_packet_route.specs.Report.{fault_line};
+ghost use Rattle.nlshow.specs.List.{Adds, AddsLines, ShowsList};
+
+use netlink_packet_route::by_family;
+use netlink_packet_route::link::{Attribute, DecodeFault, ListError, read_list};
+use std::alloc::{AllocError, Global};
+use std::fmt::{Debug, Write};
+use uses::messages::{Part, Payload};
+
+/// Adds the lines of a list that a family reads, and answers whether it was read.
+///
+/// They are indented by this, and those of values by two spaces more.
+pub(crate) fn push_list(
+    alloc: Global,
+    text: &mut String,
+    indent: &str,
+    part: Part<'_>,
+) -> Result<bool, AllocError>
+    ensures { IfOk result (Adds
+        (ShowsList indent.now part.payload.at (table_of part.family) part.payload.bytes.now) text.old text.new) }
+{
+    by_family!(part.family, push_attributes(alloc, text, indent, part.payload))
+}
+
+/// Adds a line for each value of a list, or one for its first fault, and answers whether it was read.
+fn push_attributes<F: Attribute + Debug>(
+    alloc: Global,
+    text: &mut String,
+    indent: &str,
+    list: Payload<'_>,
+) -> Result<bool, AllocError>
+    ensures { IfOk result (Adds (ShowsList indent.now list.at F.table list.bytes.now) text.old text.new) }
+{
+    let values: Vec<F> = match read_list(alloc, list.bytes) {
+        Ok(values) => values,
+        Err(ListError::Memory(error)) => return Err(error),
+        Err(ListError::Fault { at, fault }) => {
+            push_fault(text, indent, list.at + at, fault)?;
+            return Ok(false);
+        }
+    };
+    push_values(alloc, text, indent, &values)?;
+    Ok(true)
+}
+
+fn push_fault(
+    text: &mut String,
+    indent: &str,
+    at: usize,
+    fault: DecodeFault,
+) -> Result<(), AllocError>
+    ensures { OnOk result (string_bytes text.new ≡ string_bytes text.old ++ (indent.now ++ fault_line at fault)) }
+{
+    writeln!(text, "{indent}fault at {at}: {fault}")
+}
+
+/// Adds a line for each value.
+fn push_values<F: Debug>(
+    alloc: Global,
+    text: &mut String,
+    indent: &str,
+    values: &[F],
+) -> Result<(), AllocError>
+    ensures { OnOk result (AddsLines indent.now (length values.now) text.old text.new) }
+{
+    let mut one = String::new(alloc);
+    for value in values {
+        one.clear();
+        write!(one, "{value:?}")?;
+        text.push_str(indent)?;
+        text.push_str("  ")?;
+        text.push_str(one.as_str())?;
+        text.push_str("\n")?;
+    }
+    Ok(())
+}

@@ -1,0 +1,116 @@
+//! What is written of messages.
+
+ghost use Rattle.std.specs.Prelude.{◌≡◌, ◌++◌, IfOk, OnOk, string_bytes};
+ghost use Rattle.std.specs.Option.{option_copied};
+ghost use Rattle.nlshow.specs.List.{Adds};
+ghost use Rattle.nlshow.specs.Messages.{ShowsMessages, ShowsMessage, ShowsLink, ShowsPart, AddsHead};
+ghost use Rattle.nlshow.specs.Messages.{error_line, path_line};
+
+use crate::lists::push_list;
+use bstr::ByteSlice;
+use netlink_packet_route::Family;
+use std::alloc::{AllocError, Global};
+use std::fmt::Write;
+use uses::messages::{Link, Message, MessageError, Part, next_message, read_link};
+
+/// Adds the lines of the messages of a buffer, and answers whether all of them, and the lists in them, were read.
+pub(crate) fn push_messages(
+    alloc: Global,
+    text: &mut String,
+    buffer: &[u8],
+) -> Result<bool, AllocError>
+    ensures { IfOk result (Adds (ShowsMessages buffer.now) text.old text.new) }
+{
+    let mut whole = true;
+    let mut at = 0;
+    loop {
+        let message = match next_message(buffer, at) {
+            Ok(Some(message)) => message,
+            Ok(None) => return Ok(whole),
+            Err(error) => {
+                push_error(text, error)?;
+                return Ok(false);
+            }
+        };
+        whole &= push_message(alloc, text, &message)?;
+        at = message.next;
+    }
+}
+
+/// Adds the lines of a message, and answers whether it and its lists were read.
+fn push_message(
+    alloc: Global,
+    text: &mut String,
+    message: &Message<'_>,
+) -> Result<bool, AllocError>
+    ensures { IfOk result (Adds (ShowsMessage message.now) text.old text.new) }
+{
+    match read_link(message) {
+        Ok(link) => push_link(alloc, text, &link),
+        Err(error) => {
+            push_error(text, error)?;
+            Ok(false)
+        }
+    }
+}
+
+fn push_error(text: &mut String, error: MessageError) -> Result<(), AllocError>
+    ensures { OnOk result (string_bytes text.new ≡ string_bytes text.old ++ error_line error) }
+{
+    writeln!(text, "  {error}")
+}
+
+/// Adds the lines of a link, and answers whether its lists were read.
+fn push_link(alloc: Global, text: &mut String, link: &Link<'_>) -> Result<bool, AllocError>
+    ensures { IfOk result (Adds (ShowsLink link.now) text.old text.new) }
+{
+    push_head(alloc, text, link.index, link.name)?;
+    let info = push_part(alloc, text, "IFLA_LINKINFO", link.info_data)?;
+    let port = push_part(alloc, text, "IFLA_LINKINFO", link.port_data)?;
+    let spec = push_part(alloc, text, "IFLA_AF_SPEC", link.af_spec)?;
+    let protinfo = push_part(alloc, text, "IFLA_PROTINFO", link.protinfo)?;
+    Ok(info & port & spec & protinfo)
+}
+
+/// Adds the line of a link: its index, and its name in quotes.
+fn push_head(
+    alloc: Global,
+    text: &mut String,
+    index: i32,
+    name: Option<&[u8]>,
+) -> Result<(), AllocError>
+    ensures { OnOk result (AddsHead index (option_copied name) text.old text.new) }
+{
+    match name {
+        Some(name) => {
+            let words = format!(in alloc; "{:?}", name.as_bstr())?;
+            writeln!(text, "  link {index} {words}")
+        }
+        None => writeln!(text, "  link {index}"),
+    }
+}
+
+/// Adds the path and the lines of a list, if it is there, and answers whether it was read.
+fn push_part(
+    alloc: Global,
+    text: &mut String,
+    place: &str,
+    part: Option<Part<'_>>,
+) -> Result<bool, AllocError>
+    ensures { IfOk result (Adds (ShowsPart place.now part) text.old text.new) }
+{
+    match part {
+        Some(part) => {
+            push_path(text, place, part.family)?;
+            push_list(alloc, text, "  ", part)
+        }
+        None => Ok(true),
+    }
+}
+
+fn push_path(text: &mut String, place: &str, family: Family) -> Result<(), AllocError>
+    ensures { OnOk result (string_bytes text.new ≡ string_bytes text.old ++ path_line place.now family) }
+{
+    let name = family.name();
+    writeln!(text, "  {place} {name}")
+}

@@ -1,0 +1,44 @@
+//! The links of a whole buffer.
+
+ghost use Rattle.std.specs.Prelude.{MatchResult};
+ghost use Rattle.uses.specs.Dump.{HasLinks, DumpFails};
+
+use crate::messages::fault::MessageError;
+use crate::messages::link::Link;
+use crate::messages::reading::read_link;
+use crate::messages::stepping::next_message;
+use std::alloc::{AllocError, Global};
+use thiserror::Error;
+
+/// Why the links of a buffer could not be read.
+#[derive(Debug, Drop, PartialEq, Eq, Error)]
+pub enum DumpError {
+    /// Allocation failed.
+    #[error("no memory")]
+    Memory(#[from(alloc)] AllocError),
+    /// The first message that is none, is not about a link, or has a bad attribute.
+    #[error("{0}")]
+    Message(MessageError),
+}
+
+/// What the messages of a buffer say of links, up to its end or to an NLMSG_DONE.
+///
+/// Fails with `Message` for the first error of `next_message` or `read_link`.
+pub fn read_links(alloc: Global, buffer: &[u8]) -> Result<Vec<Link<'_>>, DumpError>
+    ensures { MatchResult result (λ links. HasLinks buffer.now links.items) (DumpFails buffer.now) }
+{
+    let mut links = Vec::new(alloc);
+    let mut at = 0;
+    loop {
+        let message = match next_message(buffer, at) {
+            Ok(Some(message)) => message,
+            Ok(None) => return Ok(links),
+            Err(error) => return Err(DumpError::Message(error)),
+        };
+        match read_link(&message) {
+            Ok(link) => links.push(link).map_err(|_| DumpError::Memory(AllocError))?,
+            Err(error) => return Err(DumpError::Message(error)),
+        }
+        at = message.next;
+    }
+}
