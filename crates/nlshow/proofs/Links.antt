@@ -1,5 +1,5 @@
 -- Messages, shown one after another.
-use Rattle.std.proofs.Common.{◌≡◌, ℕ, ◌+◌, ◌-◌, ◌<◌, Bool, true, false, ◌&&◌, List, [], ◌∷◌, ◌++◌, length, drop, Option, None, Some, Ok, Err, refl, sym, ap, ap₂, subst, ◌∙◌, arith, append_assoc, codes, String, string_bytes}
+use Rattle.std.proofs.Common.{◌≡◌, ℕ, ◌+◌, ◌-◌, ◌<◌, Bool, true, false, ◌&&◌, List, [], ◌∷◌, ◌++◌, length, drop, Option, None, Some, Ok, Err, refl, sym, ap, ap₂, subst, ◌∙◌, arith, append_assoc, codes}
 use Rattle.std.specs.List.{flat_map}
 use Rattle.std.specs.Option.{option_copied}
 use Rattle.std.proofs.lemmas.List.{append-nil, length-append, length-drop}
@@ -14,14 +14,14 @@ use Rattle.nlshow.proofs.Each.{and_true, and_false, and_assoc, each_none, each_m
 -- ---- the lists of a link
 
 -- the line of a link, and then its lists
-pub link_shown : (link : Link) (t a b c d e : String) (p q r s : Bool) → AddsHead link.index (option_copied link.name) t a → Adds (ShowsPart (codes "IFLA_LINKINFO") link.info_data) a b p
+pub link_shown : (link : Link) (t a b c d e : List ℕ) (p q r s : Bool) → AddsHead link.index (option_copied link.name) t a → Adds (ShowsPart (codes "IFLA_LINKINFO") link.info_data) a b p
     → Adds (ShowsPart (codes "IFLA_LINKINFO") link.port_data) b c q → Adds (ShowsPart (codes "IFLA_AF_SPEC") link.af_spec) c d r → Adds (ShowsPart (codes "IFLA_PROTINFO") link.protinfo) d e s
     → Adds (ShowsLink link) t e (((p && q) && r) && s)
 link_shown link t a b c d e p q r s h i j k l =
     let parts = i.0 ++ (j.0 ++ (k.0 ++ (l.0 ++ []))) in
-    let long : string_bytes e ≡ (((((string_bytes t ++ h.0) ++ i.0) ++ j.0) ++ k.0) ++ l.0) =
+    let long : e ≡ (((((t ++ h.0) ++ i.0) ++ j.0) ++ k.0) ++ l.0) =
     l.2 ∙ ap (λ x. x ++ l.0) (k.2 ∙ ap (λ x. x ++ k.0) (j.2 ∙ ap (λ x. x ++ j.0) (i.2 ∙ ap (λ x. x ++ i.0) h.2))) in
-    let shift : (((((string_bytes t ++ h.0) ++ i.0) ++ j.0) ++ k.0) ++ l.0) ≡ string_bytes t ++ (h.0 ++ parts) = simp (append_assoc, append-nil) in (
+    let shift : (((((t ++ h.0) ++ i.0) ++ j.0) ++ k.0) ++ l.0) ≡ t ++ (h.0 ++ parts) = simp (append_assoc, append-nil) in (
       h.0 ++ parts,
       record {
         head = h.0;
@@ -29,7 +29,7 @@ link_shown link t a b c d e p q r s h i j k l =
         is_head = h.1;
         each = record {
           answers = (i.0, p) ∷ (j.0, q) ∷ (k.0, r) ∷ (l.0, s) ∷ [];
-          each = (i.1, j.1, k.1, l.1, tt);
+          each = (i.1, (j.1, (k.1, (l.1, tt))));
           joined = refl;
           all = and_assoc (p && q) r s ∙ and_assoc p q (r && s) ∙ ap (λ x. p && (q && (r && x))) (sym (and_true s));
         };
@@ -46,15 +46,15 @@ pub record ShownTo (s : List ℕ) (at : ℕ) (out : List ℕ) (whole : Bool) : T
   pub stand : Stand s 0 messages at
   pub each : ShowsEach ShowsMessage messages out whole
 
-pub none_shown : (s : List ℕ) (t : String) → Adds (ShownTo s 0) t t true
-none_shown s t = ([], record { messages = []; stand = refl; each = each_none ShowsMessage }, sym (append-nil (string_bytes t)))
+pub none_shown : (s : List ℕ) (t : List ℕ) → Adds (ShownTo s 0) t t true
+none_shown s t = ([], record { messages = []; stand = refl; each = each_none ShowsMessage }, sym (append-nil t))
 
 stand_more : (s : List ℕ) (from at : ℕ) (ms : List Message) (m : Message) → Stand s from ms at → NextMessage at (drop at s) (Ok (Some m)) → Stand s from (ms ++ m ∷ []) m.next
 stand_more s from at [] m h next = (subst (λ i. NextMessage i (drop i s) (Ok (Some m))) (sym h) next, refl)
 stand_more s from at (n ∷ ms) m h next = (h.0, stand_more s n.next at ms m h.1 next)
 
 -- one message more
-pub one_shown : (s : List ℕ) (at : ℕ) (m : Message) (t u v : String) (whole read : Bool) → Adds (ShownTo s at) t u whole → NextMessage at (drop at s) (Ok (Some m)) → Adds (ShowsMessage m) u v read
+pub one_shown : (s : List ℕ) (at : ℕ) (m : Message) (t u v : List ℕ) (whole read : Bool) → Adds (ShownTo s at) t u whole → NextMessage at (drop at s) (Ok (Some m)) → Adds (ShowsMessage m) u v read
     → Adds (ShownTo s m.next) t v (whole && read)
 one_shown s at m t u v whole read h next k = (
   h.0 ++ k.0,
@@ -63,11 +63,11 @@ one_shown s at m t u v whole read h next k = (
     stand = stand_more s 0 at h.1.messages m h.1.stand next;
     each = each_more ShowsMessage h.1.messages h.0 m k.0 whole read h.1.each k.1;
   },
-  k.2 ∙ ap (λ x. x ++ k.0) h.2 ∙ append_assoc (string_bytes t) h.0 k.0,
+  k.2 ∙ ap (λ x. x ++ k.0) h.2 ∙ append_assoc (t) h.0 k.0,
 )
 
 -- the end of the buffer
-pub all_shown : (s : List ℕ) (at : ℕ) (t u : String) (whole : Bool) → Adds (ShownTo s at) t u whole → NextMessage at (drop at s) (Ok None) → Adds (ShowsMessages s) t u whole
+pub all_shown : (s : List ℕ) (at : ℕ) (t u : List ℕ) (whole : Bool) → Adds (ShownTo s at) t u whole → NextMessage at (drop at s) (Ok None) → Adds (ShowsMessages s) t u whole
 all_shown s at t u whole h end = (
   h.0,
   record {
@@ -87,8 +87,8 @@ all_shown s at t u whole h end = (
 )
 
 -- a bad header
-pub broken_shown : (s : List ℕ) (at : ℕ) (t u v : String) (whole : Bool) (error : MessageError) → Adds (ShownTo s at) t u whole → NextMessage at (drop at s) (Err error)
-    → string_bytes v ≡ string_bytes u ++ error_line error → Adds (ShowsMessages s) t v false
+pub broken_shown : (s : List ℕ) (at : ℕ) (t u v : List ℕ) (whole : Bool) (error : MessageError) → Adds (ShownTo s at) t u whole → NextMessage at (drop at s) (Err error)
+    → v ≡ u ++ error_line error → Adds (ShowsMessages s) t v false
 broken_shown s at t u v whole error h bad e = (
   h.0 ++ error_line error,
   record {
@@ -104,7 +104,7 @@ broken_shown s at t u v whole error h bad e = (
     joined = refl;
     all = sym (and_false whole);
   },
-  e ∙ ap (λ x. x ++ error_line error) h.2 ∙ append_assoc (string_bytes t) h.0 (error_line error),
+  e ∙ ap (λ x. x ++ error_line error) h.2 ∙ append_assoc (t) h.0 (error_line error),
 )
 
 -- each message takes some bytes

@@ -1,5 +1,5 @@
 -- What is written of a list.
-use Rattle.std.specs.Prelude.{◌≡◌, ℕ, ◌+◌, Bool, true, false, List, ◌++◌, length, codes, String, string_bytes}
+use Rattle.std.specs.Prelude.{◌≡◌, ℕ, ◌+◌, Bool, true, false, List, ◌++◌, length, codes}
 use Rattle.std.specs.List.{flat_map, list_all, AllZip}
 use Rattle.netlink_packet_route.specs.Wire.{Wire, FirstFault}
 use Rattle.netlink_packet_route.specs.Table.{Table, AttrValue, Gives}
@@ -25,9 +25,9 @@ pub record ShowsEach {X : Type 0} (shows : X → List ℕ → Bool → Type 0) (
 -- ---- what calls add to a text
 
 -- what is written of something
-abbrev pub Adds : (List ℕ → Bool → Type 0) → String → String → Bool → Type 0
-Adds shows old new read = (out : List ℕ) × shows out read × (string_bytes new ≡ string_bytes old ++ out)
+abbrev pub Adds : (List ℕ → Bool → Type 0) → List ℕ → List ℕ → Bool → Type 0
+Adds shows old new read = (out : List ℕ) × shows out read × (new ≡ old ++ out)
 
 -- so many lines
-abbrev pub AddsLines : List ℕ → ℕ → String → String → Type 0
-AddsLines indent n old new = (out : List ℕ) × AreIndented indent out n × (string_bytes new ≡ string_bytes old ++ out)
+abbrev pub AddsLines : List ℕ → ℕ → List ℕ → List ℕ → Type 0
+AddsLines indent n old new = (out : List ℕ) × AreIndented indent out n × (new ≡ old ++ out)

@@ -1,5 +1,5 @@
 -- What is written of messages.
-use Rattle.std.specs.Prelude.{◌≡◌, ℕ, ℤ, Bool, true, false, ◌&&◌, List, [], ◌∷◌, ◌++◌, drop, Option, Some, None, Ok, Err, IfSome, codes, String, string_bytes}
+use Rattle.std.specs.Prelude.{◌≡◌, ℕ, ℤ, Bool, true, false, ◌&&◌, List, [], ◌∷◌, ◌++◌, drop, Option, Some, None, Ok, Err, IfSome, codes}
 use Rattle.std.specs.Fmt.{signed_decimal}
 use Rattle.std.specs.Option.{option_copied}
 use Rattle.bstr.specs.Show.{debug_text}
@@ -82,5 +82,5 @@ pub record ShowsMessages (s out : List ℕ) (whole : Bool) : Type 0 where
 
 -- ---- what calls add to a text
 
-abbrev pub AddsHead : ℤ → Option (List ℕ) → String → String → Type 0
-AddsHead index name old new = (out : List ℕ) × IsHead index name out × (string_bytes new ≡ string_bytes old ++ out)
+abbrev pub AddsHead : ℤ → Option (List ℕ) → List ℕ → List ℕ → Type 0
+AddsHead index name old new = (out : List ℕ) × IsHead index name out × (new ≡ old ++ out)

@@ -17,15 +17,19 @@ pub(crate) enum Asked {
     Attributes(Family),
 }
 
-/// What this word asks for, or `None` where it is none.
-pub(crate) fn asked(word: &[u8]) -> Option<Asked>
-    ensures found { IfSome result (λ asked. word.now ≡ word_of asked) }
-    ensures none { IfNone result ((asked : Asked) → word.now ≢ word_of asked) }
-{
-    if word == b"message".as_slice() {
-        Some(Asked::Messages)
-    } else {
-        family_of(word).map(Asked::Attributes)
+impl Asked {
+    /// What this word asks for, or `None` where that is nothing.
+    pub(crate) fn from_word(word: &[u8]) -> Option<Self>
+        ensures found { IfSome result (λ asked. word.now ≡ word_of asked) }
+        ensures none { IfNone result ((asked : Asked) → word.now ≢ word_of asked) }
+    {
+        if word == b"message".as_slice() {
+            return Some(Asked::Messages);
+        }
+        match family_of(word) {
+            Some(family) => Some(Asked::Attributes(family)),
+            None => None,
+        }
     }
 }
 

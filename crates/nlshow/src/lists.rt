@@ -20,8 +20,9 @@ pub(crate) fn push_list(
     indent: &str,
     part: Part<'_>,
 ) -> Result<bool, AllocError>
-    ensures { IfOk result (Adds
-        (ShowsList indent.now part.payload.at (table_of part.family) part.payload.bytes.now) text.old text.new) }
+    ensures { IfOk result (Adds (ShowsList
+        indent.now part.entry.payload.at (table_of part.entry.family) part.entry.payload.bytes.now)
+        (string_bytes text.old) (string_bytes text.new)) }
 {
     by_family!(part.family, push_attributes(alloc, text, indent, part.payload))
 }
@@ -33,7 +34,8 @@ fn push_attributes<F: Attribute + Debug>(
     indent: &str,
     list: Payload<'_>,
 ) -> Result<bool, AllocError>
-    ensures { IfOk result (Adds (ShowsList indent.now list.at F.table list.bytes.now) text.old text.new) }
+    ensures { IfOk result (Adds
+        (ShowsList indent.now list.entry.at F.table list.entry.bytes.now) (string_bytes text.old) (string_bytes text.new)) }
 {
     let values: Vec<F> = match read_list(alloc, list.bytes) {
         Ok(values) => values,
@@ -65,7 +67,7 @@ fn push_values<F: Debug>(
     indent: &str,
     values: &[F],
 ) -> Result<(), AllocError>
-    ensures { OnOk result (AddsLines indent.now (length values.now) text.old text.new) }
+    ensures { OnOk result (AddsLines indent.now (length values.now) (string_bytes text.old) (string_bytes text.new)) }
 {
     let mut one = String::new(alloc);
     for value in values {

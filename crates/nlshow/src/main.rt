@@ -1,8 +1,8 @@
 //! Prints the values of lists of link attributes, and of those in link messages.
 //!
-//! `nlshow`, without an argument. Each line of standard input is a family's name (`af_spec_bridge`, `bond`, `bond_port`,
-//! `bridge`, `bridge_port`, `vlan`, `can`, `dsa`, `hsr` or `proto_bridge`), white space, and the bytes of a list as hex
-//! digits; or `message`, white space, and the bytes of messages.
+//! `nlshow`, without an argument. Each line of standard input is a family's name (`af_spec_bridge`, `bond`,
+//! `bond_port`, `bridge`, `bridge_port`, `vlan`, `can`, `dsa`, `hsr` or `proto_bridge`), white space, and the bytes of
+//! a list as hex digits; or `message`, white space, and the bytes of messages.
 #![tactic(auto)]
 
 mod arguments;

@@ -19,7 +19,7 @@ pub(crate) fn push_messages(
     text: &mut String,
     buffer: &[u8],
 ) -> Result<bool, AllocError>
-    ensures { IfOk result (Adds (ShowsMessages buffer.now) text.old text.new) }
+    ensures { IfOk result (Adds (ShowsMessages buffer.now) (string_bytes text.old) (string_bytes text.new)) }
 {
     let mut whole = true;
     let mut at = 0;
@@ -32,7 +32,8 @@ pub(crate) fn push_messages(
                 return Ok(false);
             }
         };
-        whole &= push_message(alloc, text, &message)?;
+        let read = push_message(alloc, text, &message)?;
+        whole &= read;
         at = message.next;
     }
 }
@@ -43,7 +44,7 @@ fn push_message(
     text: &mut String,
     message: &Message<'_>,
 ) -> Result<bool, AllocError>
-    ensures { IfOk result (Adds (ShowsMessage message.now) text.old text.new) }
+    ensures { IfOk result (Adds (ShowsMessage message.now) (string_bytes text.old) (string_bytes text.new)) }
 {
     match read_link(message) {
         Ok(link) => push_link(alloc, text, &link),
@@ -62,9 +63,9 @@ fn push_error(text: &mut String, error: MessageError) -> Result<(), AllocError>
 
 /// Adds the lines of a link, and answers whether its lists were read.
 fn push_link(alloc: Global, text: &mut String, link: &Link<'_>) -> Result<bool, AllocError>
-    ensures { IfOk result (Adds (ShowsLink link.now) text.old text.new) }
+    ensures { IfOk result (Adds (ShowsLink link.now) (string_bytes text.old) (string_bytes text.new)) }
 {
-    push_head(alloc, text, link.index, link.name)?;
+    push_head(alloc, text, link)?;
     let info = push_part(alloc, text, "IFLA_LINKINFO", link.info_data)?;
     let port = push_part(alloc, text, "IFLA_LINKINFO", link.port_data)?;
     let spec = push_part(alloc, text, "IFLA_AF_SPEC", link.af_spec)?;
@@ -73,15 +74,12 @@ fn push_link(alloc: Global, text: &mut String, link: &Link<'_>) -> Result<bool, 
 }
 
 /// Adds the line of a link: its index, and its name in quotes.
-fn push_head(
-    alloc: Global,
-    text: &mut String,
-    index: i32,
-    name: Option<&[u8]>,
-) -> Result<(), AllocError>
-    ensures { OnOk result (AddsHead index (option_copied name) text.old text.new) }
+fn push_head(alloc: Global, text: &mut String, link: &Link<'_>) -> Result<(), AllocError>
+    ensures { OnOk result
+        (AddsHead link.now.index (option_copied link.now.name) (string_bytes text.old) (string_bytes text.new)) }
 {
-    match name {
+    let index = link.index;
+    match link.name {
         Some(name) => {
             let words = format!(in alloc; "{:?}", name.as_bstr())?;
             writeln!(text, "  link {index} {words}")
@@ -97,7 +95,7 @@ fn push_part(
     place: &str,
     part: Option<Part<'_>>,
 ) -> Result<bool, AllocError>
-    ensures { IfOk result (Adds (ShowsPart place.now part) text.old text.new) }
+    ensures { IfOk result (Adds (ShowsPart place.now part.entry) (string_bytes text.old) (string_bytes text.new)) }
 {
     match part {
         Some(part) => {

@@ -8,7 +8,7 @@ ghost use Rattle.nlshow.specs.List.{Adds};
 ghost use Rattle.nlshow.specs.Show.{IsPassedOver, IsCut, ShowsAsked, ShowsDigits, ShowsBelow};
 ghost use Rattle.nlshow.specs.Progress.{WritesLine, OnMemory};
 
-use crate::asking::{Asked, asked};
+use crate::asking::Asked;
 use crate::lists::push_list;
 use crate::messages::push_messages;
 use crate::running::Stop;
@@ -71,7 +71,7 @@ fn answer(alloc: Global, text: &[u8]) -> Result<(String, bool), AllocError>
     ensures { IfOk result (λ below. ShowsBelow text.now (string_bytes below.0) below.1) }
 {
     let (word, rest) = cut_word(text);
-    match asked(word) {
+    match Asked::from_word(word) {
         Some(asked) => digits_text(alloc, asked, rest),
         None => Ok((String::from_str(alloc, "no such family\n")?, false)),
     }
@@ -79,7 +79,8 @@ fn answer(alloc: Global, text: &[u8]) -> Result<(String, bool), AllocError>
 
 /// What stands below a line with these hex digits, and whether they were read.
 fn digits_text(alloc: Global, asked: Asked, text: &[u8]) -> Result<(String, bool), AllocError>
-    ensures { IfOk result (λ below. ShowsDigits asked (decode_of (digits_of text.now)) (string_bytes below.0) below.1) }
+    ensures { IfOk result
+        (λ below. ShowsDigits asked (decode_of (digits_of text.now)) (string_bytes below.0) below.1) }
 {
     let digits = digits(alloc, text)?;
     let bytes = match hex::decode(alloc, digits.as_slice()) {
@@ -99,7 +100,7 @@ fn push_answer(
     asked: Asked,
     bytes: &[u8],
 ) -> Result<bool, AllocError>
-    ensures { IfOk result (Adds (ShowsAsked asked bytes.now) text.old text.new) }
+    ensures { IfOk result (Adds (ShowsAsked asked bytes.now) (string_bytes text.old) (string_bytes text.new)) }
 {
     match asked {
         Asked::Messages => push_messages(alloc, text, bytes),

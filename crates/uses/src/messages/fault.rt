@@ -1,27 +1,48 @@
 //! Why a message, or a link in one, could not be read.
 
+ghost use Rattle.std.specs.Prelude.{Some};
+ghost use Rattle.uses.specs.Message.{error_text};
+
 use netlink_packet_route::link::Cause;
-use thiserror::Error;
+use std::error::Error;
+use std::fmt;
 
 /// Why a message, or the link that it is about, could not be read. Offsets are those of the buffer.
-#[derive(Clone, Copy, Debug, PartialEq, Eq, Error)]
+#[derive(Clone, Copy, Debug, PartialEq, Eq)]
 pub enum MessageError {
     /// `left` bytes are left where a message should start: fewer than the 16 of a `struct nlmsghdr`.
-    #[error("short header at {at}: {left} bytes")]
     ShortHeader { at: usize, left: usize },
     /// The length of the message is below the 16 bytes of its own header.
-    #[error("small length at {at}: {length}")]
     SmallLength { at: usize, length: u32 },
     /// The length of the message is greater than what is left.
-    #[error("overrun at {at}: {length} of {left} bytes")]
     Overrun { at: usize, length: u32, left: usize },
     /// The message is not about a link: its type is none of RTM_NEWLINK, RTM_DELLINK and RTM_SETLINK.
-    #[error("other type at {at}: {kind}")]
     OtherType { at: usize, kind: u16 },
     /// A message about a link has `length` bytes: fewer than the 32 of `struct nlmsghdr` and `struct ifinfomsg`.
-    #[error("short link at {at}: {length} bytes")]
     ShortLink { at: usize, length: usize },
     /// No attribute begins at this offset, in the message's list or in that of its `IFLA_LINKINFO`.
-    #[error("bad attribute at {at}: {cause}")]
     Frame { at: usize, cause: Cause },
 }
+
+impl fmt::Display for MessageError {
+    ghost output = { λ error. Some (error_text error) };
+
+    fn fmt<W: fmt::Write>(&self, f: &mut fmt::Formatter<W>) -> fmt::Result {
+        match *self {
+            MessageError::ShortHeader { at, left } => {
+                write!(f, "short header at {at}: {left} bytes")
+            }
+            MessageError::SmallLength { at, length } => write!(f, "small length at {at}: {length}"),
+            MessageError::Overrun { at, length, left } => {
+                write!(f, "overrun at {at}: {length} of {left} bytes")
+            }
+            MessageError::OtherType { at, kind } => write!(f, "other type at {at}: {kind}"),
+            MessageError::ShortLink { at, length } => {
+                write!(f, "short link at {at}: {length} bytes")
+            }
+            MessageError::Frame { at, cause } => write!(f, "bad attribute at {at}: {cause}"),
+        }
+    }
+}
+
+impl Error for MessageError {}

@@ -1,11 +1,16 @@
-use Rattle.std.proofs.Common.{map, length, ap, sym, ◌∙◌, refl, subst}
+use Rattle.std.proofs.Common.{◌+◌, ◌++◌, map, length, ap, sym, ◌∙◌, refl, subst}
 use Rattle.std.proofs.lemmas.List.{length-map}
+use Rattle.netlink_packet_route.specs.Report.{fault_line}
 use Rattle.nlshow.specs.List.{AreIndented, Values, Fault}
 use Rattle.nlshow.proofs.lists.push_attributes.Goals as goal
 
 pub returns-in-Err-Fault : goal.returns-in-Err-Fault
 returns-in-Err-Fault g c =
-    (_, Fault c.in-Err-Fault.at c.in-Err-Fault.fault (rw c.in-Err-Fault.field-0-is at c.in-Err-Fault.ensures.answer) refl refl, c.in_ok-push_fault-in-Err-Fault.ensures)
+    (
+      c.args.indent.now ++ fault_line (c.args.list.at + c.in-Err-Fault.at) c.in-Err-Fault.fault,
+      Fault c.in-Err-Fault.at c.in-Err-Fault.fault (rw c.in-Err-Fault.field-0-is at c.in-Err-Fault.ensures.answer) refl refl,
+      rw c.in-Err-Fault.field-0-is at c.in_ok-push_fault-in-Err-Fault.ensures,
+    )
 
 pub returns : goal.returns
 returns g c =

@@ -9,6 +9,3 @@ pub loop-value-preserved : goal.loop-value-preserved
 loop-value-preserved g c =
     lines_more c.args.indent.now (string_bytes c.args.text.now) (string_bytes c.loop-value.text) _ _ _ _ c.as_str.result.now c.loop-value.value-index c.loop-value.invariant c.in_ok-push_str.ensures.bytes c.in_ok-push_str-2.ensures.bytes
     c.in_ok-push_str-3.ensures.bytes c.in_ok-push_str-4.ensures.bytes
-
-pub returns : goal.returns
-returns g c = let h = c.loop-value.invariant in (h.out, h.is, h.added)

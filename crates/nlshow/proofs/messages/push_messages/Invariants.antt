@@ -1,10 +1,10 @@
-use Rattle.std.proofs.Common.{◌-◌, length}
+use Rattle.std.proofs.Common.{◌-◌, length, string_bytes}
 use Rattle.nlshow.specs.List.{Adds}
 use Rattle.nlshow.proofs.Links.{ShownTo}
 use Rattle.nlshow.proofs.messages.push_messages.Given as goal
 
 abbrev pub invariant-loop-message : goal.invariant-loop-message
-invariant-loop-message l = Adds (ShownTo l.buffer l.at) l.initial.text l.text l.whole
+invariant-loop-message l = Adds (ShownTo l.buffer l.at) (string_bytes l.initial.text) (string_bytes l.text) l.whole
 
 abbrev pub decreases-loop-message : goal.decreases-loop-message
 decreases-loop-message l = length l.buffer - l.at
