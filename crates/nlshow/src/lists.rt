@@ -24,7 +24,10 @@ pub(crate) fn push_list(
         indent.now part.entry.payload.at (table_of part.entry.family) part.entry.payload.bytes.now)
         (string_bytes text.old) (string_bytes text.new)) }
 {
-    by_family!(part.family, push_attributes(alloc, text, indent, part.payload))
+    by_family!(
+        part.family,
+        push_attributes(alloc, text, indent, part.payload)
+    )
 }
 
 /// Adds a line for each value of a list, or one for its first fault, and answers whether it was read.

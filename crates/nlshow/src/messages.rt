@@ -39,11 +39,7 @@ pub(crate) fn push_messages(
 }
 
 /// Adds the lines of a message, and answers whether it and its lists were read.
-fn push_message(
-    alloc: Global,
-    text: &mut String,
-    message: &Message<'_>,
-) -> Result<bool, AllocError>
+fn push_message(alloc: Global, text: &mut String, message: &Message<'_>) -> Result<bool, AllocError>
     ensures { IfOk result (Adds (ShowsMessage message.now) (string_bytes text.old) (string_bytes text.new)) }
 {
     match read_link(message) {

@@ -33,7 +33,7 @@ fn messages(rt: HostRuntime) {
     let Part { family, payload } = link.info_data.expect(&rt, "data");
     assert!(rt; family == Family::Dsa && payload.at == 112 && payload.bytes == &buffer[112..120]);
     let conduit = last_of_kind(payload, 1).expect(&rt, "frames");
-    assert!(rt; conduit.is_some_and(|it| it.at == 116 && it.bytes == [1, 0, 0, 0].as_slice()));
+    assert!(rt; conduit.is_some_and(|it| it.at == 116 && it.bytes == [1].as_slice()));
     assert!(rt; find_in(None, 1) == Ok(None));
     let links = read_links(alloc, &buffer).expect(&rt, "links");
     assert!(rt; links.len() == 2 && links[0].index == 8 && links[1] == link);

@@ -5,12 +5,11 @@ use Rattle.nlshow.specs.List.{AreIndented, Values, Fault}
 use Rattle.nlshow.proofs.lists.push_attributes.Goals as goal
 
 pub returns-in-Err-Fault : goal.returns-in-Err-Fault
-returns-in-Err-Fault g c =
-    (
-      c.args.indent.now ++ fault_line (c.args.list.at + c.in-Err-Fault.at) c.in-Err-Fault.fault,
-      Fault c.in-Err-Fault.at c.in-Err-Fault.fault (rw c.in-Err-Fault.field-0-is at c.in-Err-Fault.ensures.answer) refl refl,
-      rw c.in-Err-Fault.field-0-is at c.in_ok-push_fault-in-Err-Fault.ensures,
-    )
+returns-in-Err-Fault g c = (
+  c.args.indent.now ++ fault_line (c.args.list.at + c.in-Err-Fault.at) c.in-Err-Fault.fault,
+  Fault c.in-Err-Fault.at c.in-Err-Fault.fault (rw c.in-Err-Fault.field-0-is at c.in-Err-Fault.ensures.answer) refl refl,
+  rw c.in-Err-Fault.field-0-is at c.in_ok-push_fault-in-Err-Fault.ensures,
+)
 
 pub returns : goal.returns
 returns g c =
