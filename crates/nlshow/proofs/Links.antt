@@ -1,12 +1,11 @@
 -- Messages, shown one after another.
-use Rattle.std.proofs.Common.{◌≡◌, ℕ, ◌+◌, ◌-◌, ◌<◌, Bool, true, false, ◌&&◌, List, [], ◌∷◌, ◌++◌, length, drop, Option, None, Some, Ok, Err, refl, sym, ap, ap₂, subst, ◌∙◌, arith, append_assoc, codes}
-use Rattle.std.specs.List.{flat_map}
+use Rattle.std.proofs.Common.{◌≡◌, ℕ, Bool, true, false, ◌&&◌, List, [], ◌∷◌, ◌++◌, drop, None, Ok, Err, refl, sym, ap, ◌∙◌, append_assoc, codes}
 use Rattle.std.specs.Option.{option_copied}
-use Rattle.std.proofs.lemmas.List.{append-nil, length-append, length-drop}
+use Rattle.std.proofs.lemmas.List.{append-nil}
 use Rattle.uses.specs.declared.messages.header.Message.{Message}
 use Rattle.uses.specs.declared.messages.link.Link.{Link}
 use Rattle.uses.specs.declared.messages.fault.MessageError.{MessageError}
-use Rattle.uses.specs.Message.{packet_bytes, packet_of, NextMessage, Stand}
+use Rattle.uses.specs.Message.{NextMessage, Stand}
 use Rattle.nlshow.specs.List.{Adds, ShowsEach}
 use Rattle.nlshow.specs.Messages.{error_line, IsHead, AddsHead, ShowsPart, parts_of, ShowsLink, ShowsMessage, ShowsMessages, Ended, Broken}
 use Rattle.nlshow.proofs.Each.{and_true, and_false, and_assoc, each_none, each_more}
@@ -49,18 +48,14 @@ pub record ShownTo (s : List ℕ) (at : ℕ) (out : List ℕ) (whole : Bool) : T
 pub none_shown : (s : List ℕ) (t : List ℕ) → Adds (ShownTo s 0) t t true
 none_shown s t = ([], record { messages = []; stand = refl; each = each_none ShowsMessage }, sym (append-nil t))
 
-stand_more : (s : List ℕ) (from at : ℕ) (ms : List Message) (m : Message) → Stand s from ms at → NextMessage at (drop at s) (Ok (Some m)) → Stand s from (ms ++ m ∷ []) m.next
-stand_more s from at [] m h next = (subst (λ i. NextMessage i (drop i s) (Ok (Some m))) (sym h) next, refl)
-stand_more s from at (n ∷ ms) m h next = (h.0, stand_more s n.next at ms m h.1 next)
-
 -- one message more
-pub one_shown : (s : List ℕ) (at : ℕ) (m : Message) (t u v : List ℕ) (whole read : Bool) → Adds (ShownTo s at) t u whole → NextMessage at (drop at s) (Ok (Some m)) → Adds (ShowsMessage m) u v read
+pub one_shown : (s : List ℕ) (at : ℕ) (m : Message) (t u v : List ℕ) (whole read : Bool) → ((ms : List Message) → Stand s 0 ms at → Stand s 0 (ms ++ m ∷ []) m.next) → Adds (ShownTo s at) t u whole → Adds (ShowsMessage m) u v read
     → Adds (ShownTo s m.next) t v (whole && read)
-one_shown s at m t u v whole read h next k = (
+one_shown s at m t u v whole read more h k = (
   h.0 ++ k.0,
   record {
     messages = h.1.messages ++ m ∷ [];
-    stand = stand_more s 0 at h.1.messages m h.1.stand next;
+    stand = more h.1.messages h.1.stand;
     each = each_more ShowsMessage h.1.messages h.0 m k.0 whole read h.1.each k.1;
   },
   k.2 ∙ ap (λ x. x ++ k.0) h.2 ∙ append_assoc (t) h.0 k.0,
@@ -106,9 +101,3 @@ broken_shown s at t u v whole error h bad e = (
   },
   e ∙ ap (λ x. x ++ error_line error) h.2 ∙ append_assoc (t) h.0 (error_line error),
 )
-
--- each message takes some bytes
-pub goes_on : (s : List ℕ) (at : ℕ) (m : Message) → NextMessage at (drop at s) (Ok (Some m)) → length s - m.next < length s - at
-goes_on s at m h =
-    let front = packet_bytes (packet_of m) in
-    omega (arith, h.0.next, length-drop at s, ap length h.0.begins.string, length-append front h.0.begins.rest, length-append m.payload.now [])

@@ -11,7 +11,7 @@ use bstr::ByteSlice;
 use netlink_packet_route::Family;
 use std::alloc::{AllocError, Global};
 use std::fmt::Write;
-use uses::messages::{Link, Message, MessageError, Part, next_message, read_link};
+use uses::messages::{Link, Message, MessageError, Part, laws, next_message, read_link};
 
 /// Adds the lines of the messages of a buffer, and answers whether all of them, and the lists in them, were read.
 pub(crate) fn push_messages(
@@ -21,6 +21,7 @@ pub(crate) fn push_messages(
 ) -> Result<bool, AllocError>
     ensures { IfOk result (Adds (ShowsMessages buffer.now) (string_bytes text.old) (string_bytes text.new)) }
 {
+    laws::one_more();
     let mut whole = true;
     let mut at = 0;
     loop {

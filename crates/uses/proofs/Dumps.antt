@@ -1,15 +1,14 @@
 -- The loop over the messages of a buffer.
-use Rattle.std.proofs.Common.{◌≡◌, ℕ, ◌+◌, ◌-◌, ◌<◌, List, [], ◌∷◌, ◌++◌, length, drop, Some, Ok, refl, sym, ap, subst, arith}
+use Rattle.std.proofs.Common.{ℕ, List, [], ◌∷◌, ◌++◌, drop, Some, Ok, refl, sym, subst}
 use Rattle.std.specs.List.{AllZip}
-use Rattle.std.proofs.lemmas.List.{length-append, length-drop}
 use Rattle.uses.specs.declared.messages.header.Message.{Message}
 use Rattle.uses.specs.declared.messages.link.Link.{Link}
-use Rattle.uses.specs.Message.{packet_bytes, packet_of, NextMessage, Stand}
+use Rattle.uses.specs.Message.{packet_of, NextMessage, Stand}
 use Rattle.uses.specs.LinkMessage.{IsAbout}
 use Rattle.uses.specs.Dump.{LinksTo}
 
 -- one message more
-stand_more : (s : List ℕ) (from at : ℕ) (ms : List Message) (m : Message) → Stand s from ms at → NextMessage at (drop at s) (Ok (Some m)) → Stand s from (ms ++ m ∷ []) m.next
+pub stand_more : (s : List ℕ) (from at : ℕ) (ms : List Message) (m : Message) → Stand s from ms at → NextMessage at (drop at s) (Ok (Some m)) → Stand s from (ms ++ m ∷ []) m.next
 stand_more s from at [] m h next = (subst (λ i. NextMessage i (drop i s) (Ok (Some m))) (sym h) next, refl)
 stand_more s from at (n ∷ ms) m h next = (h.0, stand_more s n.next at ms m h.1 next)
 
@@ -28,9 +27,3 @@ links_more s at links m link h next about = record {
   stand = stand_more s 0 at h.messages m h.stand next;
   each = zip_push (λ n l. IsAbout n.at (packet_of n) l) h.messages links m link h.each about;
 }
-
--- each message takes some bytes
-pub goes_on : (s : List ℕ) (at : ℕ) (m : Message) → NextMessage at (drop at s) (Ok (Some m)) → length s - m.next < length s - at
-goes_on s at m h =
-    let front = packet_bytes (packet_of m) in
-    omega (arith, h.0.next, length-drop at s, ap length h.0.begins.string, length-append front h.0.begins.rest, length-append m.payload.now [])

@@ -4,6 +4,7 @@ mod dumping;
 mod fault;
 mod finding;
 mod header;
+pub mod laws;
 mod link;
 mod naming;
 mod payload;

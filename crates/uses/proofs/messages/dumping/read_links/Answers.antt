@@ -1,7 +1,7 @@
-use Rattle.std.proofs.Common.{◌≡◌, ◌-◌, ◌<◌, [], ◌∷◌, ◌++◌, inl, inr, length, subst, sym, arith}
+use Rattle.std.proofs.Common.{◌≡◌, [], ◌∷◌, ◌++◌, inl, inr, subst, sym, arith}
 use Rattle.std.proofs.lemmas.Grind.{common_steps}
 use Rattle.uses.specs.Dump.{LinksTo}
-use Rattle.uses.proofs.Dumps.{links_none, links_more, goes_on}
+use Rattle.uses.proofs.Dumps.{links_none, links_more}
 use Rattle.uses.proofs.messages.dumping.read_links.Goals as goal
 
 pub loop-message-init : goal.loop-message-init

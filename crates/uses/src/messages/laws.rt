@@ -1,0 +1,13 @@
+//! What is proved of messages. Nothing here runs.
+
+ghost use Rattle.std.specs.Prelude.{ℕ, List, [], ◌∷◌, ◌++◌, drop, Some, Ok};
+ghost use Rattle.uses.specs.declared.messages.header.Message.{Message};
+ghost use Rattle.uses.specs.Message.{NextMessage, Stand};
+
+use crate::messages::header::Message;
+
+/// The message behind others stands with them, for a loop over a buffer.
+pub fn one_more()
+    ensures { (s : List ℕ) (from at : ℕ) (ms : List Message) (m : Message) → Stand s from ms at
+        → NextMessage at (drop at s) (Ok (Some m)) → Stand s from (ms ++ m ∷ []) m.next }
+{}
