@@ -13,6 +13,9 @@ const TWO: &str = "\
     43100000 00000000 18001200 08000100 64736100 0c000200 05000100 01000000 14000000 03000200 01000000 \
     00000000 00000000";
 
+/// The data of the second: an `IFLA_DSA_CONDUIT` of one byte, with its padding.
+const PAYLOAD: [u8; 8] = [5, 0, 1, 0, 1, 0, 0, 0];
+
 #[test]
 fn messages(rt: HostRuntime) {
     let alloc = rt.alloc();
@@ -21,7 +24,7 @@ fn messages(rt: HostRuntime) {
         .filter(|b| *b != b' ')
         .collect(alloc)
         .expect(&rt, "digits");
-    let buffer = hex::decode(alloc, &digits).expect(&rt, "bytes");
+    let mut buffer = hex::decode(alloc, &digits).expect(&rt, "bytes");
     let found = next_message(&buffer, 64).expect(&rt, "a header");
     let message = found.expect(&rt, "a message");
     assert!(rt; message.at == 64 && message.kind == 17 && message.flags == 2);
@@ -31,13 +34,14 @@ fn messages(rt: HostRuntime) {
     let link = read_link(&message).expect(&rt, "a link");
     assert!(rt; link.index == 9 && link.name.is_none() && link.port_data.is_none());
     let Part { family, payload } = link.info_data.expect(&rt, "data");
-    assert!(rt; family == Family::Dsa && payload.at == 112 && payload.bytes == &buffer[112..120]);
+    assert!(rt; family == Family::Dsa && payload.at == 112 && payload.bytes == PAYLOAD.as_slice());
     let conduit = last_of_kind(payload, 1).expect(&rt, "frames");
     assert!(rt; conduit.is_some_and(|it| it.at == 116 && it.bytes == [1].as_slice()));
     assert!(rt; find_in(None, 1) == Ok(None));
     let links = read_links(alloc, &buffer).expect(&rt, "links");
     assert!(rt; links.len() == 2 && links[0].index == 8 && links[1] == link);
-    let cut = read_links(alloc, &buffer[..119]);
+    buffer.truncate(119);
+    let cut = read_links(alloc, &buffer);
     let overrun = MessageError::Overrun {
         at: 64,
         length: 56,
