@@ -24,7 +24,7 @@ fn messages(rt: HostRuntime) {
         .filter(|b| *b != b' ')
         .collect(alloc)
         .expect(&rt, "digits");
-    let mut buffer = hex::decode(alloc, &digits).expect(&rt, "bytes");
+    let buffer = hex::decode(alloc, &digits).expect(&rt, "bytes");
     let found = next_message(&buffer, 64).expect(&rt, "a header");
     let message = found.expect(&rt, "a message");
     assert!(rt; message.at == 64 && message.kind == 17 && message.flags == 2);
@@ -40,8 +40,8 @@ fn messages(rt: HostRuntime) {
     assert!(rt; find_in(None, 1) == Ok(None));
     let links = read_links(alloc, &buffer).expect(&rt, "links");
     assert!(rt; links.len() == 2 && links[0].index == 8 && links[1] == link);
-    buffer.truncate(119);
-    let cut = read_links(alloc, &buffer);
+    let (front, _) = buffer.split_at(buffer.len().min(119));
+    let cut = read_links(alloc, front);
     let overrun = MessageError::Overrun {
         at: 64,
         length: 56,
