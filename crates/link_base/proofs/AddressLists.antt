@@ -1,5 +1,5 @@
 -- Lists of addresses, read and written in a loop.
-use Rattle.std.proofs.Common.{◌≡◌, ℕ, ◌+◌, ◌*◌, ◌-◌, ◌≤◌, ◌<◌, zero, suc, List, [], ◌∷◌, ◌++◌, length, take, get_or, map, Ok, Err, refl, sym, ap, subst, ◌∙◌, arith, length-append}
+use Rattle.std.proofs.Common.{◌≡◌, ℕ, ◌+◌, ◌*◌, ◌-◌, ◌≤◌, ◌<◌, zero, suc, List, [], ◌∷◌, ◌++◌, length, take, drop, get_or, map, Option, None, Ok, Err, refl, sym, ap, subst, ◌∙◌, arith, length-append}
 use Rattle.std.specs.Prelude.{◌==◌, IsTrue, nat_lt}
 use Rattle.std.proofs.lemmas.Bool.{ltb-true}
 use Rattle.std.proofs.lemmas.List.{length-map, length-take, append-nil}
@@ -8,15 +8,16 @@ use Rattle.std.proofs.lemmas.List.Elements.{filter-append}
 use Rattle.std.proofs.Math.Nat.{suc-mul, mul-le-mul, mul-le-mul_right}
 use Rattle.link_base.specs.declared.fault.ListError.{ListError}
 use Rattle.link_base.specs.declared.fault.ListError.TheVariants as list_errors
-use Rattle.link_base.specs.Frame.{frame_bytes, spelled, pad}
+use Rattle.link_base.specs.declared.fault.Cause.{Cause}
+use Rattle.link_base.specs.Frame.{BeginsWith, bare, frame_bytes, spelled, pad}
+use Rattle.link_base.specs.Walk.{Finds}
 use Rattle.link_base.specs.Wire.{Reading, whole}
 use Rattle.link_base.specs.Table.{Case, Content, Listed, Addresses, ListGives, PayloadGives, ShapeGives, of_length, addresses_from}
 use Rattle.link_base.specs.Addresses.{sized}
 use Rattle.link_base.specs.Answers.{Fails, ListFails, nested_error}
 use Rattle.link_base.proofs.Addresses.{length-whole}
-use Rattle.link_base.proofs.Begins.{Splits}
 use Rattle.link_base.proofs.Emit.{one_more}
-use Rattle.link_base.proofs.Steps.{Continues, continues_none, continues_all, continues_more}
+use Rattle.link_base.proofs.TableReads.{ReadsTo, reads_none, reads_more, reads_all}
 
 -- ---- octets
 
@@ -30,27 +31,28 @@ sized_all (suc n) (b ∷ octets) e = ap (λ t. b ∷ t) (sized_all n octets (ome
 -- ---- reading
 
 -- what was read so far: payloads, of which those of so many bytes are kept
-pub record Kept (n : ℕ) (s : List ℕ) (octets : List (List ℕ)) (rest : List ℕ) (at : ℕ) : Type 0 where
+pub record Kept (n : ℕ) (s offsets : List ℕ) (fault : Option (ℕ × Cause)) (i : ℕ) (octets : List (List ℕ)) : Type 0 where
   pub payloads : List (List ℕ)
-  pub reads : Continues PayloadGives s payloads rest at
+  pub reads : ReadsTo PayloadGives s offsets fault i payloads
   pub kept : octets ≡ of_length n payloads
 
-pub kept_none : (n : ℕ) (s : List ℕ) → Kept n s [] s 0
-kept_none n s = record { payloads = []; reads = continues_none PayloadGives s; kept = refl }
+pub kept_none : (n : ℕ) (s offsets : List ℕ) (fault : Option (ℕ × Cause)) (octets : List (List ℕ)) → Finds s offsets fault → octets ≡ [] → Kept n s offsets fault 0 octets
+kept_none n s offsets fault octets found none = record { payloads = []; reads = reads_none PayloadGives s offsets fault 0 [] found refl refl; kept = none }
 
 -- one element more
-pub kept_more : (n : ℕ) (s : List ℕ) (octets more : List (List ℕ)) (rest next : List ℕ) (at step f : ℕ) (p : List ℕ) → Kept n s octets rest at → Splits rest f p next
-    → step ≡ length rest - length next → more ≡ octets ++ of_length n (p ∷ []) → Kept n s more next (at + step)
-kept_more n s octets more rest next at step f p h split stepped e = record {
+pub kept_more : (n : ℕ) (s offsets : List ℕ) (fault : Option (ℕ × Cause)) (i : ℕ) (octets more : List (List ℕ)) (f : ℕ) (p : List ℕ) → Kept n s offsets fault i octets → i < length offsets
+    → BeginsWith (drop (get_or offsets i 0) s) (bare f p) → more ≡ octets ++ of_length n (p ∷ []) → Kept n s offsets fault (i + 1) more
+kept_more n s offsets fault i octets more f p h lt begins e = record {
   payloads = h.payloads ++ p ∷ [];
-  reads = continues_more PayloadGives s h.payloads rest next at step f p p h.reads split refl stepped;
+  reads = reads_more PayloadGives s offsets fault i h.payloads f p p h.reads lt begins refl;
   kept = e ∙ ap (λ t. t ++ of_length n (p ∷ [])) h.kept ∙ sym (filter-append (λ q. length q == n) h.payloads (p ∷ []));
 }
 
 -- at the end
-pub kept_all : (n k : ℕ) (s : List ℕ) (octets : List (List ℕ)) (rest : List ℕ) (at : ℕ) → Kept n s octets rest at → rest ≡ [] → ShapeGives (Addresses n) k s (Ok (Case k (Listed octets)))
-kept_all n k s octets rest at h e =
-    (Ok h.payloads, continues_all PayloadGives s h.payloads rest at h.reads e, ap (λ o. Ok (Case k (Listed o))) h.kept)
+pub kept_all : (n k : ℕ) (s offsets : List ℕ) (fault : Option (ℕ × Cause)) (i : ℕ) (octets : List (List ℕ)) → fault ≡ None → Kept n s offsets fault i octets → length offsets ≤ i
+    → ShapeGives (Addresses n) k s (Ok (Case k (Listed octets)))
+kept_all n k s offsets fault i octets none h end =
+    (Ok h.payloads, reads_all PayloadGives s offsets fault i h.payloads none h.reads end, ap (λ o. Ok (Case k (Listed o))) h.kept)
 
 -- the first fault of a list is the fault of its attribute
 pub list_fails : {V : Type 0} (gives : Reading V) (content : List V → Content) (k : ℕ) (s : List ℕ) (e : ListError) → ListFails e gives s → Fails (nested_error k e) (ListGives gives content k s)

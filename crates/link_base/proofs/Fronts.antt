@@ -1,10 +1,10 @@
 -- The frame at the front of some bytes.
-use Rattle.std.proofs.Common.{◌≡◌, ◌⊎◌, ℕ, ◌+◌, ◌-◌, ◌*◌, ◌<◌, ◌≤◌, Bool, true, false, cond, List, [], ◌∷◌, ◌++◌, length, take, drop, Some, None, refl, ap, ◌∙◌, arith, inl, inr, length-append}
+use Rattle.std.proofs.Common.{◌≡◌, ◌⊎◌, ℕ, ◌+◌, ◌-◌, ◌*◌, ◌<◌, ◌≤◌, Bool, true, false, cond, List, [], ◌∷◌, ◌++◌, length, take, drop, get_or, Some, None, refl, ap, ◌∙◌, arith, inl, inr, length-append}
 use Rattle.std.specs.Prelude.{nat_lt}
 use Rattle.std.proofs.lemmas.Bool.{cond-false, ltb-false, le-ltb}
-use Rattle.link_base.proofs.Begins.{begins_by, splits, step_of}
+use Rattle.link_base.proofs.Begins.{begins_by, begins_with, splits, step_of}
 use Rattle.link_base.specs.Number.{IsBytes, number}
-use Rattle.link_base.specs.Frame.{Frame, IsFrame, IsComplete, frame_bytes, pad, frame_fault}
+use Rattle.link_base.specs.Frame.{Frame, BeginsWith, bare, IsFrame, IsComplete, frame_bytes, pad, frame_fault}
 use Rattle.link_base.specs.declared.fault.Cause.{Cause}
 
 -- bytes and bytes are bytes
@@ -59,6 +59,21 @@ causes true b c x y z e = absurd cc
 causes false true c x y z e = absurd cc
 causes false false true x y z e = absurd cc
 causes false false false x y z e = (refl, refl, refl)
+
+-- the length that bytes without a frame fault state
+stated_length : (s : List ℕ) → frame_fault s ≡ None → (4 ≤ get_or s 0 0 + get_or s 1 0 * 256) × (get_or s 0 0 + get_or s 1 0 * 256 ≤ length s)
+stated_length [] e = absurd cc
+stated_length (a ∷ []) e = absurd cc
+stated_length (a ∷ b ∷ s) e =
+    let r = a ∷ b ∷ s in
+    let n = number (take 2 r) in
+    let tests = causes (nat_lt (length r) 4) (nat_lt n 4) (nat_lt (length r) n) _ _ _ e in
+    (omega (arith, ltb-false n 4 tests.1), omega (arith, ltb-false (length r) n tests.2))
+
+-- bytes without a frame fault begin with the frame whose header they have
+pub begins-no_fault : (s : List ℕ) (n f : ℕ) (p : List ℕ) → ((i : ℕ) → get_or s i 0 < 256) → frame_fault s ≡ None → n ≡ get_or s 0 0 + get_or s 1 0 * 256 → f ≡ get_or s 2 0 + get_or s 3 0 * 256
+    → p ≡ take (n - 4) (drop 4 s) → BeginsWith s (bare f p)
+begins-no_fault s n f p h e stated field is = let bounds = stated_length s e in begins_with s n f p h stated (omega (arith, stated, bounds.0)) (omega (arith, stated, bounds.1)) field is
 
 -- the frame at the front, with all the padding that there is
 pub record Front (s : List ℕ) : Type 0 where

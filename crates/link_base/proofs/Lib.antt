@@ -17,6 +17,8 @@ pub mod TableLaws
 pub mod Begins
 pub mod Emit
 pub mod Steps
+pub mod Walking
+pub mod TableReads
 pub mod Lifted
 pub mod KindFaults
 pub mod JoinedLemmas

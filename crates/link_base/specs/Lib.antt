@@ -17,6 +17,8 @@ pub mod Named
 pub mod Protocol
 pub mod Default
 pub mod Items
+pub mod Walk
+pub mod Walked
 pub mod Lift
 pub mod Equality
 pub mod OneForm

@@ -1,7 +1,7 @@
 //! IP addresses as the payload of an attribute, and lists of them.
 
 ghost use Rattle.std.specs.Prelude.{◌≡◌, ◌≢◌, ◌≤◌, ◌<◌, ◌^◌, ◌++◌, ◌∷◌, [], ℕ, List, length, map, None, IsTrue, refl};
-ghost use Rattle.std.specs.Prelude.{nat_lt, MatchOption, OnOk};
+ghost use Rattle.std.specs.Prelude.{◌+◌, nat_lt, MatchOption, vec_len, vec_capacity};
 ghost use Rattle.std.specs.List.{AllByRecursion};
 ghost use Rattle.link_base.specs.Frame.{frame_fault, spelled};
 ghost use Rattle.link_base.specs.Table.{Case, Listed, Addresses, ShapeGives, addresses_from, of_length};
@@ -10,9 +10,9 @@ ghost use Rattle.link_base.specs.Class.{accepted, Exactly};
 ghost use Rattle.link_base.specs.Answers.{Answers, OnMemory, capped, payload_result, read_as};
 
 use crate::attribute::{Meaning, Nla};
-use crate::buffer::NlaBuffer;
 use crate::fault::{Cause, DecodeError, DecodeFault};
-use std::alloc::{AllocError, Global};
+use crate::frame_table::FrameTable;
+use std::alloc::Global;
 use std::net::{Ipv4Addr, Ipv6Addr};
 
 /// An IP address, as the payload of an attribute or of an element.
@@ -152,30 +152,36 @@ pub fn read_addresses<A: Address>(
         (ShapeGives (Addresses A.SIZE) kind payload.now) }
     ensures memory { OnMemory result (frame_fault payload.now ≡ None) }
 {
-    let mut addresses = Vec::new(alloc);
-    let mut rest = payload;
-    let mut at = 0usize;
-    while !rest.is_empty() {
-        let element = match NlaBuffer::new_checked(rest) {
-            Ok(element) => element,
-            Err(error) => return Err(error.at(at).nested(kind)),
-        };
-        keep(&mut addresses, element.value()).map_err(DecodeError::Memory)?;
-        let after = element.step_over(rest);
-        at += rest.len() - after.len();
-        rest = after;
+    let table = match FrameTable::walk(alloc, payload) {
+        Ok(table) => table,
+        Err(error) => return Err(DecodeError::Memory(error)),
+    };
+    let mut addresses = match Vec::with_capacity(alloc, table.len()) {
+        Ok(addresses) => addresses,
+        Err(error) => return Err(DecodeError::Memory(error)),
+    };
+    for i in 0..table.len() {
+        keep(&mut addresses, table.frame(i).value());
     }
-    Ok(addresses)
+    match table.fault() {
+        Some((at, cause)) => {
+            let error = DecodeError::Fault(DecodeFault::Frame(cause));
+            Err(error.at(at).nested(kind))
+        }
+        None => Ok(addresses),
+    }
 }
 
-fn keep<A: Address>(addresses: &mut Vec<A>, payload: &[u8]) -> Result<(), AllocError>
-    ensures { OnOk result
-        (map A.octets addresses.new.items ≡ map A.octets addresses.old.items ++ of_length A.SIZE (payload.now ∷ [])) }
+fn keep<A: Address>(addresses: &mut Vec<A>, payload: &[u8])
+    requires { vec_len addresses.old < vec_capacity addresses.old }
+    ensures kept { map A.octets addresses.new.items
+        ≡ map A.octets addresses.old.items ++ of_length A.SIZE (payload.now ∷ []) }
+    ensures len { vec_len addresses.new ≤ vec_len addresses.old + 1 }
+    ensures room { vec_capacity addresses.new ≡ vec_capacity addresses.old }
 {
     if let Some(address) = A::from_payload(payload) {
-        addresses.push(address)?;
+        addresses.push_reserved(address);
     }
-    Ok(())
 }
 
 /// The bytes of a written list of addresses; `usize::MAX` where there are that many or more.

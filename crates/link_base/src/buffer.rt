@@ -1,7 +1,7 @@
 //! One frame of a list.
 
-ghost use Rattle.std.specs.Prelude.{◌≡◌, ◌+◌, ◌≤◌, ◌↔◌, IsTrue, IsBitSet, length, drop, min, MatchResult};
-ghost use Rattle.link_base.specs.Frame.{BeginsWith, kind_of, pad};
+ghost use Rattle.std.specs.Prelude.{◌≡◌, ◌+◌, ◌≤◌, ◌↔◌, IsTrue, IsBitSet, None, length, drop, min, MatchResult};
+ghost use Rattle.link_base.specs.Frame.{BeginsWith, kind_of, pad, frame_fault};
 
 use crate::fault::{Cause, DecodeError, DecodeFault};
 
@@ -23,6 +23,27 @@ pub struct NlaBuffer<'a> {
     ghost short: { length payload.now ≤ 65531 },
 }
 
+/// Why no frame stands at the front of the bytes; `None` where one does.
+#[inline]
+pub(crate) fn cause_at_front(bytes: &[u8]) -> Option<Cause>
+    ensures { result ≡ frame_fault bytes.now }
+{
+    if bytes.len() < 4 {
+        return Some(Cause::ShortFrame { left: bytes.len() });
+    }
+    let length = u16::from_le_bytes([bytes[0], bytes[1]]);
+    if length < 4 {
+        return Some(Cause::SmallLength { length });
+    }
+    if usize::from(length) > bytes.len() {
+        return Some(Cause::Overrun {
+            length,
+            left: bytes.len(),
+        });
+    }
+    None
+}
+
 impl<'a> NlaBuffer<'a> {
     ghost use Rattle.link_base.specs.Buffer.{kind_field_of, payload_of, frame_of, IsFrameFault};
 
@@ -32,27 +53,25 @@ impl<'a> NlaBuffer<'a> {
     pub fn new_checked(bytes: &'a [u8]) -> Result<NlaBuffer<'a>, DecodeError>
         ensures { MatchResult result (λ b. BeginsWith bytes.now (frame_of b)) (IsFrameFault bytes.now) }
     {
-        if bytes.len() < 4 {
-            return Err(DecodeError::Fault(DecodeFault::Frame(Cause::ShortFrame {
-                left: bytes.len(),
-            })));
+        match cause_at_front(bytes) {
+            Some(cause) => Err(DecodeError::Fault(DecodeFault::Frame(cause))),
+            None => Ok(NlaBuffer::at_front(bytes)),
         }
+    }
+
+    /// The frame at the front of bytes that have no frame fault.
+    #[inline]
+    pub(crate) fn at_front(bytes: &'a [u8]) -> NlaBuffer<'a>
+        requires { frame_fault bytes.now ≡ None }
+        ensures { BeginsWith bytes.now (frame_of result) }
+    {
         let length = u16::from_le_bytes([bytes[0], bytes[1]]);
-        if length < 4 {
-            return Err(DecodeError::Fault(DecodeFault::Frame(Cause::SmallLength { length })));
-        }
-        if usize::from(length) > bytes.len() {
-            return Err(DecodeError::Fault(DecodeFault::Frame(Cause::Overrun {
-                length,
-                left: bytes.len(),
-            })));
-        }
         let kind_field = u16::from_le_bytes([bytes[2], bytes[3]]);
         let payload = &bytes[4..usize::from(length)];
-        Ok(NlaBuffer {
+        NlaBuffer {
             kind_field,
             payload,
-        })
+        }
     }
 
     /// `nla_len`: the bytes of the header and the payload, 4 to 65535.

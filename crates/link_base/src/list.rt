@@ -6,9 +6,9 @@ ghost use Rattle.link_base.specs.Table.{Gives};
 ghost use Rattle.link_base.specs.Answers.{ListAnswers, OnListMemory};
 
 use crate::attribute::Attribute;
-use crate::buffer::NlaBuffer;
-use crate::fault::ListError;
-use std::alloc::{AllocError, Global};
+use crate::fault::{DecodeError, DecodeFault, ListError};
+use crate::frame_table::FrameTable;
+use std::alloc::Global;
 
 /// The values of a list, or its first fault with the byte offset of its frame. A fault comes before every later
 /// one, whether of a frame or of a value. `Memory` is answered only where the bytes begin with a frame.
@@ -16,24 +16,23 @@ pub fn read_list<F: Attribute>(alloc: Global, bytes: &[u8]) -> Result<Vec<F>, Li
     ensures answer { ListAnswers (λ vs. map F.means vs.items) result (Gives F.table) bytes.now }
     ensures memory { OnListMemory result (frame_fault bytes.now ≡ None) }
 {
-    let mut values = Vec::new(alloc);
-    let mut rest = bytes;
-    let mut at = 0usize;
-    while !rest.is_empty() {
-        let buffer = match NlaBuffer::new_checked(rest) {
-            Ok(buffer) => buffer,
-            Err(error) => return Err(error.at(at)),
-        };
-        let value: F = match F::parse(alloc, &buffer) {
+    let table = match FrameTable::walk(alloc, bytes) {
+        Ok(table) => table,
+        Err(error) => return Err(ListError::Memory(error)),
+    };
+    let mut values = match Vec::with_capacity(alloc, table.len()) {
+        Ok(values) => values,
+        Err(error) => return Err(ListError::Memory(error)),
+    };
+    for i in 0..table.len() {
+        let value: F = match F::parse(alloc, &table.frame(i)) {
             Ok(value) => value,
-            Err(error) => return Err(error.at(at)),
+            Err(error) => return Err(error.at(table.offset(i))),
         };
-        values
-            .push(value)
-            .map_err(|_| ListError::Memory(AllocError))?;
-        let after = buffer.step_over(rest);
-        at += rest.len() - after.len();
-        rest = after;
+        values.push_reserved(value);
     }
-    Ok(values)
+    match table.fault() {
+        Some((at, cause)) => Err(DecodeError::Fault(DecodeFault::Frame(cause)).at(at)),
+        None => Ok(values),
+    }
 }

@@ -15,6 +15,8 @@ pub use Rattle.link_base.specs.Default
 pub use Rattle.link_base.specs.Answers
 pub use Rattle.link_base.specs.Buffer
 pub use Rattle.link_base.specs.Items
+pub use Rattle.link_base.specs.Walk
+pub use Rattle.link_base.specs.Walked
 pub use Rattle.link_base.specs.Layout
 pub use Rattle.link_base.specs.Named
 pub use Rattle.link_base.specs.Protocol

@@ -11,6 +11,7 @@ mod records;
 mod reports;
 mod rewritings;
 mod surface;
+mod tables;
 mod texts;
 mod values;
 

@@ -1,38 +1,54 @@
-use Rattle.std.proofs.Common.{◌≡◌, ◌≢◌, ◌-◌, map, [], ◌∷◌, ◌++◌, inr, arith, ap, length, subst, sym, refl}
-use Rattle.std.proofs.lemmas.Grind.{common_steps}
-use Rattle.std.proofs.lemmas.List.{length-drop}
+use Rattle.std.proofs.Common.{◌≡◌, ◌<◌, ◌+◌, ◌++◌, ◌∷◌, [], drop, get_or, map, length, sym, ap, subst, ◌∙◌, arith}
+use Rattle.link_base.specs.declared.fault.DecodeFault.TheVariants as faults
+use Rattle.link_base.specs.declared.fault.ListError.TheVariants as list_errors
 use Rattle.link_base.specs.Table.{PayloadGives, Listed, of_length}
+use Rattle.link_base.specs.Frame.{BeginsWith}
 use Rattle.link_base.specs.Buffer.{kind_field_of, payload_of, frame_of}
-use Rattle.link_base.proofs.AddressLists.{kept_more, kept_all, list_fails}
-use Rattle.link_base.proofs.Begins.{Splits, splits, step_of}
-use Rattle.link_base.proofs.Steps.{ends_at_frame, begun}
+use Rattle.link_base.specs.Walked.{offsets_of, fault_of}
+use Rattle.link_base.proofs.AddressLists.{kept_none, kept_more, kept_all, list_fails}
+use Rattle.link_base.proofs.TableReads.{first_frame-room, ends_at_frame}
 use Rattle.link_base.proofs.address_list.read_addresses.Goals as goal
 
-pub returns-in-Err-clause-answer : goal.returns-in-Err-clause-answer
-returns-in-Err-clause-answer g c =
-    let some : c.loop-rest.rest.now ≢ [] = λ e. grind (arith, common_steps) in
-    let n = g.A.Address.SIZE in
-    let s = c.args.payload.now in
-    let ends = ends_at_frame PayloadGives s c.loop-rest.invariant.reads.payloads c.loop-rest.rest.now c.loop-rest.at c.in-Err.error c.loop-rest.invariant.reads.reads some c.in-Err.ensures in
-    rw (c.nested.ensures, c.at.ensures) (list_fails PayloadGives (λ ps. Listed (of_length n ps)) c.args.kind s _ ends)
+pub returns-in-Err-with_capacity-clause-memory : goal.returns-in-Err-with_capacity-clause-memory
+returns-in-Err-with_capacity-clause-memory g c =
+    let table = c.in-Ok.table in
+    first_frame-room c.args.payload.now (offsets_of table) (fault_of table) c.len.result c.in-Ok.ensures.finds c.len.ensures c.in-Err-with_capacity.ensures.succeeds
 
-pub loop-rest-preserved : goal.loop-rest-preserved
-loop-rest-preserved g c =
-    let n = g.A.Address.SIZE in
-    let b = c.in-Ok.element in
-    let s = c.args.payload.now in
-    let rest = c.loop-rest.rest.now in
-    let after = c.step_over-after.result.now in
-    let next = c.step_over-after.ensures in
-    let pushed : map g.A.Address.octets c.keep.new.addresses.items ≡ map g.A.Address.octets c.loop-rest.addresses.items ++ of_length n (payload_of b ∷ []) = grind (arith, common_steps) in
-    let split = subst (Splits rest (kind_field_of b) (payload_of b)) (sym next) (splits rest (kind_field_of b) (payload_of b) c.in-Ok.ensures) in
+pub loop-i-init : goal.loop-i-init
+loop-i-init g c =
+    let table = c.in-Ok.table in
     record {
-      reads = kept_more n s _ _ rest after c.loop-rest.at (length rest - length after) (kind_field_of b) (payload_of b) c.loop-rest.invariant.reads split refl pushed;
-      size = omega (arith, c.loop-rest.invariant.size, ap length next, length-drop (step_of rest (payload_of b)) rest);
-      begun = inr (begun s rest (frame_of b) c.loop-rest.invariant.begun c.in-Ok.ensures);
+      reads = kept_none g.A.Address.SIZE c.args.payload.now (offsets_of table) (fault_of table) _ c.in-Ok.ensures.finds (ap (map g.A.Address.octets) c.in-Ok-with_capacity.ensures.items);
+      len = omega (arith, c.in-Ok-with_capacity.ensures.len);
+      room = c.in-Ok-with_capacity.ensures.exact ∙ c.len.ensures;
     }
+
+pub loop-i-preserved : goal.loop-i-preserved
+loop-i-preserved g c =
+    let n = g.A.Address.SIZE in
+    let table = c.in-Ok.table in
+    let offsets = offsets_of table in
+    let b = c.frame.result in
+    let i = c.loop-i.i in
+    let lt : i < length offsets = omega (arith, c.loop-i-test.true, c.loop-i.auto.i-end, c.len-i-end.ensures) in
+    let begins : BeginsWith (drop (get_or offsets i 0) c.args.payload.now) (frame_of b) = subst (λ s. BeginsWith (drop (get_or offsets i 0) s) (frame_of b)) c.in-Ok.ensures.bytes c.frame.ensures in
+    let more = c.keep.ensures.kept ∙ ap (λ p. map g.A.Address.octets c.loop-i.addresses.items ++ of_length n (p ∷ [])) c.value.ensures in
+    record {
+      reads = kept_more n c.args.payload.now offsets (fault_of table) i _ _ (kind_field_of b) (payload_of b) c.loop-i.invariant.reads lt begins more;
+      len = omega (arith, c.keep.ensures.len, c.loop-i.invariant.len);
+      room = c.keep.ensures.room ∙ c.loop-i.invariant.room;
+    }
+
+pub returns-in-Some-clause-answer : goal.returns-in-Some-clause-answer
+returns-in-Some-clause-answer g c =
+    let table = c.in-Ok.table in
+    let read = c.loop-i.invariant.reads in
+    let ends = ends_at_frame PayloadGives c.args.payload.now (offsets_of table) (fault_of table) c.loop-i.i read.payloads c.in-Some.at c.in-Some.cause (sym c.fault.ensures ∙ c.in-Some.is) read.reads
+    (omega (arith, c.loop-i-test.false, c.len-i-end.ensures)) in
+    rw (c.nested.ensures, c.at.ensures) (list_fails PayloadGives (λ ps. Listed (of_length g.A.Address.SIZE ps)) c.args.kind c.args.payload.now (list_errors.Fault c.in-Some.at (faults.Frame c.in-Some.cause)) ends)
 
 pub returns-clause-answer : goal.returns-clause-answer
 returns-clause-answer g c =
-    let none : c.loop-rest.rest.now ≡ [] = grind (arith, common_steps) in
-    kept_all g.A.Address.SIZE c.args.kind c.args.payload.now _ c.loop-rest.rest.now c.loop-rest.at c.loop-rest.invariant.reads none
+    let table = c.in-Ok.table in
+    kept_all g.A.Address.SIZE c.args.kind c.args.payload.now (offsets_of table) (fault_of table) c.loop-i.i _ (sym c.fault.ensures ∙ c.in-None.is) c.loop-i.invariant.reads
+    (omega (arith, c.loop-i-test.false, c.len-i-end.ensures))

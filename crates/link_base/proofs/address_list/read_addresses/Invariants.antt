@@ -1,14 +1,12 @@
-use Rattle.std.proofs.Common.{◌≡◌, ◌+◌, length, map}
+use Rattle.std.proofs.Common.{◌≡◌, ◌≤◌, length, map}
+use Rattle.std.specs.Prelude.{vec_len, vec_capacity}
+use Rattle.link_base.specs.Walked.{offsets_of, fault_of}
 use Rattle.link_base.proofs.AddressLists.{Kept}
-use Rattle.link_base.proofs.Steps.{Begun}
 use Rattle.link_base.proofs.address_list.read_addresses.Given as goal
 
-abbrev pub invariant-loop-rest : goal.invariant-loop-rest
-invariant-loop-rest g l = record {
-  reads : Kept g.A.Address.SIZE l.payload (map g.A.Address.octets l.addresses.items) l.rest l.at;
-  size : l.at + length l.rest ≡ length l.payload;
-  begun : Begun l.payload l.rest;
+abbrev pub invariant-loop-i : goal.invariant-loop-i
+invariant-loop-i g l = record {
+  reads : Kept g.A.Address.SIZE l.payload (offsets_of l.table) (fault_of l.table) l.i (map g.A.Address.octets l.addresses.items);
+  len : vec_len l.addresses ≤ l.i;
+  room : vec_capacity l.addresses ≡ length (offsets_of l.table);
 }
-
-abbrev pub decreases-loop-rest : goal.decreases-loop-rest
-decreases-loop-rest g l = length l.rest

@@ -1,44 +1,66 @@
-use Rattle.std.proofs.Common.{◌≡◌, ◌≢◌, ◌-◌, map, [], ◌∷◌, ◌++◌, inr, arith, ap, length, subst, ◌∙◌, sym, refl}
+use Rattle.std.proofs.Common.{◌≡◌, ◌<◌, ◌+◌, ◌++◌, ℕ, Err, ◌∷◌, [], drop, get_or, map, None, length, refl, sym, ap, subst, ◌∙◌, arith}
 use Rattle.std.proofs.lemmas.Grind.{common_steps}
-use Rattle.std.proofs.lemmas.List.{map-append, length-drop}
+use Rattle.std.proofs.lemmas.List.{map-append}
 use Rattle.link_base.specs.Table.{Gives}
+use Rattle.link_base.specs.Frame.{BeginsWith}
 use Rattle.link_base.specs.Buffer.{kind_field_of, payload_of, frame_of}
-use Rattle.link_base.proofs.Begins.{Splits, splits, step_of}
-use Rattle.link_base.proofs.Steps.{continues_all, continues_more, ends_at_frame, ends_at_value, begun}
+use Rattle.link_base.specs.Walked.{offsets_of, fault_of}
+use Rattle.link_base.proofs.TableReads.{on_list_memory, first_frame, first_frame-room, reads_none, reads_more, ends_at_value, ends_at_frame, reads_all}
 use Rattle.link_base.proofs.list.read_list.Goals as goal
 
-pub returns-in-Err-clause-answer : goal.returns-in-Err-clause-answer
-returns-in-Err-clause-answer g c =
-    let some : c.loop-rest.rest.now ≢ [] = λ e. grind (arith, common_steps) in
-    rw c.at.ensures (ends_at_frame (Gives g.F.Meaning.table) c.args.bytes.now _ c.loop-rest.rest.now c.loop-rest.at c.in-Err.error c.loop-rest.invariant.reads some c.in-Err.ensures)
+pub returns-in-Err-with_capacity-clause-memory : goal.returns-in-Err-with_capacity-clause-memory
+returns-in-Err-with_capacity-clause-memory g c =
+    let table = c.in-Ok.table in
+    first_frame-room c.args.bytes.now (offsets_of table) (fault_of table) c.len.result c.in-Ok.ensures.finds c.len.ensures c.in-Err-with_capacity.ensures.succeeds
+
+pub loop-i-init : goal.loop-i-init
+loop-i-init g c = record {
+  reads = reads_none (Gives g.F.Meaning.table) c.args.bytes.now (offsets_of c.in-Ok.table) (fault_of c.in-Ok.table) 0 _ c.in-Ok.ensures.finds refl (ap (map g.F.Meaning.means) c.in-Ok-with_capacity.ensures.items);
+  len = c.in-Ok-with_capacity.ensures.len;
+  room = c.in-Ok-with_capacity.ensures.exact ∙ c.len.ensures;
+}
 
 pub returns-in-Err-parse-clause-answer : goal.returns-in-Err-parse-clause-answer
 returns-in-Err-parse-clause-answer g c =
-    let b = c.in-Ok.buffer in
-    let some : c.loop-rest.rest.now ≢ [] = λ e. grind (arith, common_steps) in
-    rw c.at-in-Err-parse.ensures (ends_at_value (Gives g.F.Meaning.table) c.args.bytes.now _ c.loop-rest.rest.now c.loop-rest.at (kind_field_of b) (payload_of b) c.in-Err-parse.error
-    c.loop-rest.invariant.reads some c.in-Ok.ensures c.in-Err-parse.ensures.answer)
+    let offsets = offsets_of c.in-Ok.table in
+    let b = c.frame.result in
+    let i = c.loop-i.i in
+    let lt : i < length offsets = omega (arith, c.loop-i-test.true, c.loop-i.auto.i-end, c.len-i-end.ensures) in
+    let begins : BeginsWith (drop (get_or offsets i 0) c.args.bytes.now) (frame_of b) = subst (λ s. BeginsWith (drop (get_or offsets i 0) s) (frame_of b)) c.in-Ok.ensures.bytes c.frame.ensures in
+    rw c.at.ensures (rw c.offset.ensures (ends_at_value (Gives g.F.Meaning.table) c.args.bytes.now offsets (fault_of c.in-Ok.table) i _ (kind_field_of b) (payload_of b) c.in-Err-parse.error
+    c.loop-i.invariant.reads lt begins c.in-Err-parse.ensures.answer))
 
-pub overflow_add-at : goal.overflow_add-at
-overflow_add-at g c = omega (arith, c.loop-rest.invariant.size)
+pub returns-in-Err-parse-clause-memory : goal.returns-in-Err-parse-clause-memory
+returns-in-Err-parse-clause-memory g c =
+    let offsets = offsets_of c.in-Ok.table in
+    let some : 0 < length offsets = omega (arith, c.loop-i-test.true, c.loop-i.auto.i-end, c.len-i-end.ensures) in
+    on_list_memory {X = ℕ} (Err c.at.result) _ (first_frame c.args.bytes.now offsets (fault_of c.in-Ok.table) c.in-Ok.ensures.finds some)
 
-pub loop-rest-preserved : goal.loop-rest-preserved
-loop-rest-preserved g c =
+pub loop-i-preserved : goal.loop-i-preserved
+loop-i-preserved g c =
     let means = g.F.Meaning.means in
-    let b = c.in-Ok.buffer in
-    let rest = c.loop-rest.rest.now in
-    let after = c.step_over-after.result.now in
-    let next = c.step_over-after.ensures in
-    let pushed : c.push.new.self.items ≡ c.loop-rest.values.items ++ c.in-Ok-parse.value ∷ [] = grind (arith, common_steps) in
-    let meant : map means c.push.new.self.items ≡ map means c.loop-rest.values.items ++ means c.in-Ok-parse.value ∷ [] = ap (map means) pushed ∙ map-append means c.loop-rest.values.items (c.in-Ok-parse.value ∷ []) in
-    let split = subst (Splits rest (kind_field_of b) (payload_of b)) (sym next) (splits rest (kind_field_of b) (payload_of b) c.in-Ok.ensures) in
+    let offsets = offsets_of c.in-Ok.table in
+    let b = c.frame.result in
+    let i = c.loop-i.i in
+    let lt : i < length offsets = omega (arith, c.loop-i-test.true, c.loop-i.auto.i-end, c.len-i-end.ensures) in
+    let begins : BeginsWith (drop (get_or offsets i 0) c.args.bytes.now) (frame_of b) = subst (λ s. BeginsWith (drop (get_or offsets i 0) s) (frame_of b)) c.in-Ok.ensures.bytes c.frame.ensures in
+    let pushed = c.push_reserved.ensures in
+    let value = c.in-Ok-parse.value in
+    let meant : map means c.push_reserved.new.self.items ≡ map means c.loop-i.values.items ++ means value ∷ [] = ap (map means) pushed.items ∙ map-append means c.loop-i.values.items (value ∷ []) in
     record {
-      reads = rw meant (continues_more (Gives g.F.Meaning.table) c.args.bytes.now _ rest after c.loop-rest.at (length rest - length after) (kind_field_of b) (payload_of b) (means c.in-Ok-parse.value) c.loop-rest.invariant.reads split c.in-Ok-parse.ensures.answer refl);
-      size = omega (arith, c.loop-rest.invariant.size, ap length next, length-drop (step_of rest (payload_of b)) rest);
-      begun = inr (begun c.args.bytes.now rest (frame_of b) c.loop-rest.invariant.begun c.in-Ok.ensures);
+      reads = rw meant (reads_more (Gives g.F.Meaning.table) c.args.bytes.now offsets (fault_of c.in-Ok.table) i _ (kind_field_of b) (payload_of b) (means value) c.loop-i.invariant.reads lt begins c.in-Ok-parse.ensures.answer);
+      len = pushed.len ∙ ap (λ n. n + 1) c.loop-i.invariant.len;
+      room = pushed.capacity ∙ c.loop-i.invariant.room;
     }
+
+pub returns-in-Some-clause-answer : goal.returns-in-Some-clause-answer
+returns-in-Some-clause-answer g c =
+    let table = c.in-Ok.table in
+    rw c.at-in-Some.ensures (ends_at_frame (Gives g.F.Meaning.table) c.args.bytes.now (offsets_of table) (fault_of table) c.loop-i.i _ c.in-Some.at c.in-Some.cause (sym c.fault.ensures ∙ c.in-Some.is)
+    c.loop-i.invariant.reads (omega (arith, c.loop-i-test.false, c.len-i-end.ensures)))
 
 pub returns-clause-answer : goal.returns-clause-answer
 returns-clause-answer g c =
-    let none : c.loop-rest.rest.now ≡ [] = grind (arith, common_steps) in
-    continues_all (Gives g.F.Meaning.table) c.args.bytes.now (map g.F.Meaning.means c.loop-rest.values.items) c.loop-rest.rest.now c.loop-rest.at c.loop-rest.invariant.reads none
+    let table = c.in-Ok.table in
+    reads_all (Gives g.F.Meaning.table) c.args.bytes.now (offsets_of table) (fault_of table) c.loop-i.i _ (sym c.fault.ensures ∙ c.in-None.is) c.loop-i.invariant.reads
+    (omega (arith, c.loop-i-test.false, c.len-i-end.ensures))

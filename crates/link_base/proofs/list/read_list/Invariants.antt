@@ -1,14 +1,13 @@
-use Rattle.std.proofs.Common.{◌≡◌, ◌+◌, length, map}
+use Rattle.std.proofs.Common.{◌≡◌, map, length}
+use Rattle.std.specs.Prelude.{vec_len, vec_capacity}
 use Rattle.link_base.specs.Table.{Gives}
-use Rattle.link_base.proofs.Steps.{Continues, Begun}
+use Rattle.link_base.specs.Walked.{offsets_of, fault_of}
+use Rattle.link_base.proofs.TableReads.{ReadsTo}
 use Rattle.link_base.proofs.list.read_list.Given as goal
 
-abbrev pub invariant-loop-rest : goal.invariant-loop-rest
-invariant-loop-rest g l = record {
-  reads : Continues (Gives g.F.Meaning.table) l.bytes (map g.F.Meaning.means l.values.items) l.rest l.at;
-  size : l.at + length l.rest ≡ length l.bytes;
-  begun : Begun l.bytes l.rest;
+abbrev pub invariant-loop-i : goal.invariant-loop-i
+invariant-loop-i g l = record {
+  reads : ReadsTo (Gives g.F.Meaning.table) l.bytes (offsets_of l.table) (fault_of l.table) l.i (map g.F.Meaning.means l.values.items);
+  len : vec_len l.values ≡ l.i;
+  room : vec_capacity l.values ≡ length (offsets_of l.table);
 }
-
-abbrev pub decreases-loop-rest : goal.decreases-loop-rest
-decreases-loop-rest g l = length l.rest

@@ -1,0 +1,98 @@
+//! The frames of a list, found before any of them is read.
+
+ghost use Rattle.std.specs.Prelude.{◌≡◌, ◌<◌, IfOk, OnErr, IsTrue, ◌↔◌, None, length, slice_index_or};
+ghost use Rattle.link_base.specs.Frame.{frame_fault};
+ghost use Rattle.link_base.specs.Walk.{BeginFrames, Finds};
+
+use crate::buffer::{NlaBuffer, cause_at_front};
+use crate::fault::Cause;
+use smallvec::SmallVec;
+use std::alloc::{AllocError, Global};
+
+/// How many frames a table holds without memory of its own.
+const INLINE: usize = 32;
+
+/// Where the frames of some bytes start, and the first frame fault if they have one. It borrows the bytes and copies
+/// none, and takes memory only for more than 32 frames.
+#[derive(Drop)]
+pub struct FrameTable<'a> {
+    bytes: &'a [u8],
+    offsets: SmallVec<usize, INLINE>,
+    fault: Option<(usize, Cause)>,
+    ghost frames: { BeginFrames bytes.now offsets.items },
+}
+
+impl<'a> FrameTable<'a> {
+    ghost use Rattle.link_base.specs.Walked.{walked_bytes, offsets_of, fault_of, IsFrameAt};
+
+    /// The frames of these bytes, in one walk. Fails only where the bytes begin with a frame.
+    pub fn walk(alloc: Global, bytes: &'a [u8]) -> Result<FrameTable<'a>, AllocError>
+        ensures bytes { IfOk result (λ t. walked_bytes t ≡ bytes.now) }
+        ensures finds { IfOk result (λ t. Finds bytes.now (offsets_of t) (fault_of t)) }
+        ensures memory { OnErr result (frame_fault bytes.now ≡ None) }
+    {
+        let mut offsets = SmallVec::new(alloc);
+        let mut rest = bytes;
+        while !rest.is_empty() {
+            let at = bytes.len() - rest.len();
+            if let Some(cause) = cause_at_front(rest) {
+                return Ok(FrameTable {
+                    bytes,
+                    offsets,
+                    fault: Some((at, cause)),
+                });
+            }
+            if offsets.push(at).is_err() {
+                return Err(AllocError);
+            }
+            rest = NlaBuffer::at_front(rest).step_over(rest);
+        }
+        Ok(FrameTable {
+            bytes,
+            offsets,
+            fault: None,
+        })
+    }
+
+    /// How many frames there are.
+    #[inline]
+    pub fn len(&self) -> usize
+        ensures { result ≡ length (offsets_of self.now) }
+    {
+        self.offsets.len()
+    }
+
+    /// Whether there is no frame.
+    #[inline]
+    pub fn is_empty(&self) -> bool
+        ensures { IsTrue result ↔ (length (offsets_of self.now) ≡ 0) }
+    {
+        self.offsets.is_empty()
+    }
+
+    /// The byte offset of the frame at this place, counted from 0. Requires that there is one.
+    #[inline]
+    pub fn offset(&self, i: usize) -> usize
+        requires { i < length (offsets_of self.now) }
+        ensures { result ≡ slice_index_or (offsets_of self.now) i 0 }
+    {
+        self.offsets[i]
+    }
+
+    /// The frame at this place, counted from 0: the part of the bytes at its offset. Requires that there is one.
+    #[inline]
+    pub fn frame(&self, i: usize) -> NlaBuffer<'a>
+        requires { i < length (offsets_of self.now) }
+        ensures { IsFrameAt self.now i result }
+    {
+        NlaBuffer::at_front(&self.bytes[self.offset(i)..])
+    }
+
+    /// The first frame fault, and its byte offset.
+    #[inline]
+    pub fn fault(&self) -> Option<(usize, Cause)>
+        ensures { result ≡ fault_of self.now }
+    {
+        self.fault
+    }
+}
