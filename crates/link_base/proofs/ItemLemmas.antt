@@ -1,15 +1,14 @@
 -- What an iterator over frames gives in a whole run.
-use Rattle.std.proofs.Common.{◌≡◌, ◌≢◌, ℕ, ◌+◌, ◌/◌, ◌<◌, ◌≤◌, List, [], ◌∷◌, ◌++◌, length, map, Option, Some, None, Result, Ok, Err, refl, sym, ap, subst, ◌∙◌, arith, inl, inr, append_assoc}
+use Rattle.std.proofs.Common.{◌≡◌, ◌≢◌, ◌⊎◌, ℕ, ◌+◌, ◌/◌, ◌<◌, ◌≤◌, List, [], ◌∷◌, ◌++◌, length, map, Option, Some, None, Result, Ok, Err, refl, sym, ap, subst, ◌∙◌, arith, inl, inr, append_assoc}
 use Rattle.std.specs.Iterator.{Yields, Drains}
 use Rattle.std.proofs.lemmas.List.{length-append, length-drop}
 use Rattle.link_base.specs.declared.buffer.NlaBuffer.{NlaBuffer}
 use Rattle.link_base.specs.declared.iterator.NlasIterator.{NlasIterator}
 use Rattle.link_base.specs.declared.fault.DecodeError.{DecodeError}
-use Rattle.link_base.specs.Frame.{Frame, BeginsWith, frame_bytes, spelled}
+use Rattle.link_base.specs.Frame.{Frame, BeginsWith, IsFrame, IsComplete, AreFrames, frame_bytes, spelled}
 use Rattle.link_base.specs.Buffer.{kind_field_of, payload_of, frame_of}
 use Rattle.link_base.specs.Items.{NextFrame, AreItems, seen, bytes_left}
 use Rattle.link_base.proofs.Begins.{Splits, splits, step_of}
-use Rattle.link_base.proofs.Steps.{are_more, end_or, complete_of}
 
 -- an item of the iterator
 abbrev Item : Type 0
@@ -34,6 +33,21 @@ no_more a b (r ∷ items) e h = absurd (none_left a h.0 r e h.1)
 some_bytes : (s : List ℕ) → s ≢ [] → 0 < length s
 some_bytes [] e = absurd (e refl)
 some_bytes (b ∷ s) e = omega arith
+
+-- ---- one frame more
+
+are_more : (x : Frame) (xs : List Frame) → IsFrame x → (spelled xs ≡ []) ⊎ IsComplete x → AreFrames xs → AreFrames (x ∷ xs)
+are_more x [] hx h k = hx
+are_more x (y ∷ xs) hx (inl e) k = absurd cc
+are_more x (y ∷ xs) hx (inr c) k = (c, k)
+
+end_or : (next : List ℕ) (xs : List Frame) (x : Frame) → next ≡ spelled xs → (next ≡ []) ⊎ IsComplete x → (spelled xs ≡ []) ⊎ IsComplete x
+end_or next xs x e (inl n) = inl (sym e ∙ n)
+end_or next xs x e (inr c) = inr c
+
+complete_of : (next : List ℕ) (front : List Frame) (rest : List ℕ) (x : Frame) → next ≡ spelled front ++ rest → 0 < length rest → (next ≡ []) ⊎ IsComplete x → IsComplete x
+complete_of next front rest x e some (inl n) = absurd (omega (arith, ap length e, ap length n, length-append (spelled front) rest))
+complete_of next front rest x e some (inr c) = c
 
 -- a frame, and then the items of the rest
 after_frame : (s next : List ℕ) (b : NlaBuffer) (items : List Item) → Splits s (kind_field_of b) (payload_of b) next → AreItems next items → AreItems s (Ok b ∷ items)

@@ -16,7 +16,6 @@ pub mod Copies
 pub mod TableLaws
 pub mod Begins
 pub mod Emit
-pub mod Steps
 pub mod Walking
 pub mod TableReads
 pub mod Lifted

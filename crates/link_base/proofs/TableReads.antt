@@ -1,5 +1,5 @@
 -- What is read from a table of frames, one after another.
-use Rattle.std.proofs.Common.{◌≡◌, ℕ, suc, false, true, ◌+◌, ◌<◌, ◌≤◌, List, [], ◌∷◌, ◌++◌, length, drop, get_or, Option, Some, None, Result, Ok, Err, refl, sym, ap, subst, ◌∙◌, arith, inl, inr, append_assoc}
+use Rattle.std.proofs.Common.{◌≡◌, ℕ, false, true, ◌+◌, ◌<◌, ◌≤◌, List, [], ◌∷◌, ◌++◌, length, drop, get_or, Option, Some, None, Result, Ok, Err, refl, sym, ap, subst, ◌∙◌, arith, inl, inr, append_assoc}
 use Rattle.std.specs.List.{AllByRecursion, AllZip}
 use Rattle.std.proofs.lemmas.Bool.{cases_lt}
 use Rattle.std.proofs.lemmas.List.{append-nil, length-append}
@@ -10,7 +10,7 @@ use Rattle.link_base.specs.declared.fault.DecodeFault.{DecodeFault}
 use Rattle.link_base.specs.declared.fault.DecodeFault.TheVariants as faults
 use Rattle.link_base.specs.declared.fault.DecodeError.{DecodeError}
 use Rattle.link_base.specs.declared.fault.DecodeError.TheVariants as errors
-use Rattle.link_base.specs.Frame.{Frame, Frames, BeginsWith, bare, IsFrame, IsComplete, AreFrames, frame_bytes, spelled, frame_fault}
+use Rattle.link_base.specs.Frame.{Frame, BeginsWith, bare, IsComplete, AreFrames, frame_bytes, spelled, frame_fault}
 use Rattle.link_base.specs.Walk.{starts, FramesOrFault, Finds}
 use Rattle.link_base.specs.Wire.{Reading, Wire, FirstFault, FrameGives}
 use Rattle.link_base.specs.Answers.{Fails, ListFails, OnListMemory, list_error}
@@ -18,7 +18,7 @@ use Rattle.link_base.specs.declared.fault.ListError.{ListError}
 use Rattle.link_base.specs.declared.fault.ListError.TheVariants as list_errors
 use Rattle.link_base.proofs.Cuts.{AreFrames-head, SameFront-frames}
 use Rattle.link_base.proofs.Fronts.{frame_fault-frame}
-use Rattle.link_base.proofs.Walking.{complete_frames}
+use Rattle.link_base.proofs.Walking.{cut_of, length-starts}
 
 -- a fact that holds wherever memory ran out
 pub on_list_memory : {X : Type 0} (r : Result X ListError) (P : Type 0) → P → OnListMemory r P
@@ -30,10 +30,6 @@ on_list_memory (Err (list_errors.Memory e)) P p = p
 
 spelled-append : (xs ys : List Frame) → spelled (xs ++ ys) ≡ spelled xs ++ spelled ys
 spelled-append xs ys = flat_map-append frame_bytes xs ys
-
-length-starts : (at : ℕ) (xs : List Frame) → length (starts at xs) ≡ length xs
-length-starts at [] = refl
-length-starts at (x ∷ xs) = ap suc (length-starts (at + length (frame_bytes x)) xs)
 
 -- where the frame behind some others starts
 starts-at : (at : ℕ) (xs : List Frame) (y : Frame) (ys : List Frame) → get_or (starts at (xs ++ y ∷ ys)) (length xs) 0 ≡ at + length (spelled xs)
@@ -51,11 +47,6 @@ frames_behind : (xs : List Frame) (y : Frame) (ys : List Frame) → AreFrames (x
 frames_behind [] y ys h = h
 frames_behind (x ∷ []) y ys h = h.1
 frames_behind (x ∷ z ∷ xs) y ys h = frames_behind (z ∷ xs) y ys h.1
-
--- the frames that a walk finds are frames, and some bytes may follow them
-cut_of : (s : List ℕ) (xs : List Frame) (fault : Option (ℕ × Cause)) → FramesOrFault s xs fault → (rest : List ℕ) × AreFrames xs × (s ≡ spelled xs ++ rest)
-cut_of s xs None h = ([], h.frames, h.string ∙ sym (append-nil (spelled xs)))
-cut_of s xs (Some fault) (rest, complete, string, left, bad, place) = (rest, complete_frames xs complete, string)
 
 -- bytes in which a frame is found begin with one
 pub first_frame : (s offsets : List ℕ) (fault : Option (ℕ × Cause)) → Finds s offsets fault → 0 < length offsets → frame_fault s ≡ None
@@ -134,10 +125,10 @@ module _ {V : Type 0} (gives : Reading V) (s offsets : List ℕ) (fault : Option
       by_after before (x ∷ after) all places count values (rest, frames, string) =
           let tail = spelled after ++ rest in
           let whole : s ≡ spelled before ++ (frame_bytes x ++ tail) =
-              string ∙ ap (λ t. t ++ rest) (spelled-append before (x ∷ after)) ∙ append_assoc (spelled before) (frame_bytes x ++ spelled after) rest ∙ ap (λ t. spelled before ++ t) (append_assoc (frame_bytes x) (spelled after) rest) in
+          string ∙ ap (λ t. t ++ rest) (spelled-append before (x ∷ after)) ∙ append_assoc (spelled before) (frame_bytes x ++ spelled after) rest ∙ ap (λ t. spelled before ++ t) (append_assoc (frame_bytes x) (spelled after) rest) in
           let offset : get_or offsets i 0 ≡ length (spelled before) = ap (λ o. get_or o i 0) places ∙ ap (λ k. get_or (starts 0 (before ++ x ∷ after)) k 0) count ∙ starts-at 0 before x after ∙ omega arith in
           let behind : drop (get_or offsets i 0) s ≡ frame_bytes x ++ tail =
-              ap (λ k. drop k s) offset ∙ ap (drop (length (spelled before))) whole ∙ drop-append_seam (spelled before) (frame_bytes x ++ tail) in
+          ap (λ k. drop k s) offset ∙ ap (drop (length (spelled before))) whole ∙ drop-append_seam (spelled before) (frame_bytes x ++ tail) in
           let same = SameFront-frames (bare f p) x b.rest tail b.is (AreFrames-head x after (frames_behind before x after frames)) (sym b.string ∙ behind) in
           record {
             before = before;

@@ -15,6 +15,12 @@ FramesOrFault s xs None = Frames s xs
 FramesOrFault s xs (Some fault) =
     (rest : List ℕ) × AllByRecursion IsComplete xs × (s ≡ spelled xs ++ rest) × (0 < length rest) × (frame_fault rest ≡ Some fault.1) × (fault.0 ≡ length (spelled xs))
 
+-- how many frames some bytes have, before their first frame fault
+pub record Counts (s : List ℕ) (count : ℕ) (fault : Option (ℕ × Cause)) : Type 0 where
+  pub frames : List Frame
+  pub all : FramesOrFault s frames fault
+  pub many : count ≡ length frames
+
 -- the offsets of the frames of some bytes, and their first frame fault
 pub record Finds (s : List ℕ) (offsets : List ℕ) (fault : Option (ℕ × Cause)) : Type 0 where
   pub frames : List Frame

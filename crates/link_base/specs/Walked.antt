@@ -1,5 +1,5 @@
 -- What is seen of a table of frames.
-use Rattle.std.specs.Prelude.{◌≡◌, ℕ, List, drop, Option, slice_index_or}
+use Rattle.std.specs.Prelude.{ℕ, List, drop, Option, slice_index_or}
 use Rattle.link_base.specs.declared.fault.Cause.{Cause}
 use Rattle.link_base.specs.declared.buffer.NlaBuffer.{NlaBuffer}
 use Rattle.link_base.specs.declared.frame_table.FrameTable.{FrameTable}

@@ -152,10 +152,10 @@ pub fn read_addresses<A: Address>(
         (ShapeGives (Addresses A.SIZE) kind payload.now) }
     ensures memory { OnMemory result (frame_fault payload.now ≡ None) }
 {
-    let table = match FrameTable::walk(alloc, payload) {
-        Ok(table) => table,
-        Err(error) => return Err(DecodeError::Memory(error)),
-    };
+    let mut table = FrameTable::before_walk(alloc, payload);
+    if let Err(error) = table.find_frames() {
+        return Err(DecodeError::Memory(error));
+    }
     let mut addresses = match Vec::with_capacity(alloc, table.len()) {
         Ok(addresses) => addresses,
         Err(error) => return Err(DecodeError::Memory(error)),

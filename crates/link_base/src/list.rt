@@ -16,10 +16,10 @@ pub fn read_list<F: Attribute>(alloc: Global, bytes: &[u8]) -> Result<Vec<F>, Li
     ensures answer { ListAnswers (λ vs. map F.means vs.items) result (Gives F.table) bytes.now }
     ensures memory { OnListMemory result (frame_fault bytes.now ≡ None) }
 {
-    let table = match FrameTable::walk(alloc, bytes) {
-        Ok(table) => table,
-        Err(error) => return Err(ListError::Memory(error)),
-    };
+    let mut table = FrameTable::before_walk(alloc, bytes);
+    if let Err(error) = table.find_frames() {
+        return Err(ListError::Memory(error));
+    }
     let mut values = match Vec::with_capacity(alloc, table.len()) {
         Ok(values) => values,
         Err(error) => return Err(ListError::Memory(error)),

@@ -1,66 +1,66 @@
-use Rattle.std.proofs.Common.{◌≡◌, ◌<◌, ◌+◌, ◌++◌, ℕ, Err, ◌∷◌, [], drop, get_or, map, None, length, refl, sym, ap, subst, ◌∙◌, arith}
-use Rattle.std.proofs.lemmas.Grind.{common_steps}
+use Rattle.std.proofs.Common.{◌≡◌, ◌<◌, ◌+◌, ◌++◌, ℕ, Err, ◌∷◌, [], drop, get_or, map, length, refl, sym, ap, subst, ◌∙◌, arith}
 use Rattle.std.proofs.lemmas.List.{map-append}
 use Rattle.link_base.specs.Table.{Gives}
 use Rattle.link_base.specs.Frame.{BeginsWith}
 use Rattle.link_base.specs.Buffer.{kind_field_of, payload_of, frame_of}
+use Rattle.link_base.specs.Walk.{Finds}
 use Rattle.link_base.specs.Walked.{offsets_of, fault_of}
 use Rattle.link_base.proofs.TableReads.{on_list_memory, first_frame, first_frame-room, reads_none, reads_more, ends_at_value, ends_at_frame, reads_all}
 use Rattle.link_base.proofs.list.read_list.Goals as goal
 
 pub returns-in-Err-with_capacity-clause-memory : goal.returns-in-Err-with_capacity-clause-memory
 returns-in-Err-with_capacity-clause-memory g c =
-    let table = c.in-Ok.table in
-    first_frame-room c.args.bytes.now (offsets_of table) (fault_of table) c.len.result c.in-Ok.ensures.finds c.len.ensures c.in-Err-with_capacity.ensures.succeeds
+    let table = c.find_frames.new.self in
+    first_frame-room c.args.bytes.now (offsets_of table) (fault_of table) c.len.result (subst (λ s. Finds s (offsets_of c.find_frames.new.self) (fault_of c.find_frames.new.self)) c.before_walk-table.ensures.bytes c.in_default.ensures.finds) c.len.ensures c.in-Err-with_capacity.ensures.succeeds
 
 pub loop-i-init : goal.loop-i-init
 loop-i-init g c = record {
-  reads = reads_none (Gives g.F.Meaning.table) c.args.bytes.now (offsets_of c.in-Ok.table) (fault_of c.in-Ok.table) 0 _ c.in-Ok.ensures.finds refl (ap (map g.F.Meaning.means) c.in-Ok-with_capacity.ensures.items);
-  len = c.in-Ok-with_capacity.ensures.len;
-  room = c.in-Ok-with_capacity.ensures.exact ∙ c.len.ensures;
+  reads = reads_none (Gives g.F.Meaning.table) c.args.bytes.now (offsets_of c.find_frames.new.self) (fault_of c.find_frames.new.self) 0 _ (subst (λ s. Finds s (offsets_of c.find_frames.new.self) (fault_of c.find_frames.new.self)) c.before_walk-table.ensures.bytes c.in_default.ensures.finds) refl (ap (map g.F.Meaning.means) c.in-Ok.ensures.items);
+  len = c.in-Ok.ensures.len;
+  room = c.in-Ok.ensures.exact ∙ c.len.ensures;
 }
 
 pub returns-in-Err-parse-clause-answer : goal.returns-in-Err-parse-clause-answer
 returns-in-Err-parse-clause-answer g c =
-    let offsets = offsets_of c.in-Ok.table in
+    let offsets = offsets_of c.find_frames.new.self in
     let b = c.frame.result in
     let i = c.loop-i.i in
     let lt : i < length offsets = omega (arith, c.loop-i-test.true, c.loop-i.auto.i-end, c.len-i-end.ensures) in
-    let begins : BeginsWith (drop (get_or offsets i 0) c.args.bytes.now) (frame_of b) = subst (λ s. BeginsWith (drop (get_or offsets i 0) s) (frame_of b)) c.in-Ok.ensures.bytes c.frame.ensures in
-    rw c.at.ensures (rw c.offset.ensures (ends_at_value (Gives g.F.Meaning.table) c.args.bytes.now offsets (fault_of c.in-Ok.table) i _ (kind_field_of b) (payload_of b) c.in-Err-parse.error
+    let begins : BeginsWith (drop (get_or offsets i 0) c.args.bytes.now) (frame_of b) = subst (λ s. BeginsWith (drop (get_or offsets i 0) s) (frame_of b)) (c.in_default.ensures.bytes ∙ c.before_walk-table.ensures.bytes) c.frame.ensures in
+    rw c.at.ensures (rw c.offset.ensures (ends_at_value (Gives g.F.Meaning.table) c.args.bytes.now offsets (fault_of c.find_frames.new.self) i _ (kind_field_of b) (payload_of b) c.in-Err-parse.error
     c.loop-i.invariant.reads lt begins c.in-Err-parse.ensures.answer))
 
 pub returns-in-Err-parse-clause-memory : goal.returns-in-Err-parse-clause-memory
 returns-in-Err-parse-clause-memory g c =
-    let offsets = offsets_of c.in-Ok.table in
+    let offsets = offsets_of c.find_frames.new.self in
     let some : 0 < length offsets = omega (arith, c.loop-i-test.true, c.loop-i.auto.i-end, c.len-i-end.ensures) in
-    on_list_memory {X = ℕ} (Err c.at.result) _ (first_frame c.args.bytes.now offsets (fault_of c.in-Ok.table) c.in-Ok.ensures.finds some)
+    on_list_memory {X = ℕ} (Err c.at.result) _ (first_frame c.args.bytes.now offsets (fault_of c.find_frames.new.self) (subst (λ s. Finds s (offsets_of c.find_frames.new.self) (fault_of c.find_frames.new.self)) c.before_walk-table.ensures.bytes c.in_default.ensures.finds) some)
 
 pub loop-i-preserved : goal.loop-i-preserved
 loop-i-preserved g c =
     let means = g.F.Meaning.means in
-    let offsets = offsets_of c.in-Ok.table in
+    let offsets = offsets_of c.find_frames.new.self in
     let b = c.frame.result in
     let i = c.loop-i.i in
     let lt : i < length offsets = omega (arith, c.loop-i-test.true, c.loop-i.auto.i-end, c.len-i-end.ensures) in
-    let begins : BeginsWith (drop (get_or offsets i 0) c.args.bytes.now) (frame_of b) = subst (λ s. BeginsWith (drop (get_or offsets i 0) s) (frame_of b)) c.in-Ok.ensures.bytes c.frame.ensures in
+    let begins : BeginsWith (drop (get_or offsets i 0) c.args.bytes.now) (frame_of b) = subst (λ s. BeginsWith (drop (get_or offsets i 0) s) (frame_of b)) (c.in_default.ensures.bytes ∙ c.before_walk-table.ensures.bytes) c.frame.ensures in
     let pushed = c.push_reserved.ensures in
     let value = c.in-Ok-parse.value in
     let meant : map means c.push_reserved.new.self.items ≡ map means c.loop-i.values.items ++ means value ∷ [] = ap (map means) pushed.items ∙ map-append means c.loop-i.values.items (value ∷ []) in
     record {
-      reads = rw meant (reads_more (Gives g.F.Meaning.table) c.args.bytes.now offsets (fault_of c.in-Ok.table) i _ (kind_field_of b) (payload_of b) (means value) c.loop-i.invariant.reads lt begins c.in-Ok-parse.ensures.answer);
+      reads = rw meant (reads_more (Gives g.F.Meaning.table) c.args.bytes.now offsets (fault_of c.find_frames.new.self) i _ (kind_field_of b) (payload_of b) (means value) c.loop-i.invariant.reads lt begins c.in-Ok-parse.ensures.answer);
       len = pushed.len ∙ ap (λ n. n + 1) c.loop-i.invariant.len;
       room = pushed.capacity ∙ c.loop-i.invariant.room;
     }
 
 pub returns-in-Some-clause-answer : goal.returns-in-Some-clause-answer
 returns-in-Some-clause-answer g c =
-    let table = c.in-Ok.table in
+    let table = c.find_frames.new.self in
     rw c.at-in-Some.ensures (ends_at_frame (Gives g.F.Meaning.table) c.args.bytes.now (offsets_of table) (fault_of table) c.loop-i.i _ c.in-Some.at c.in-Some.cause (sym c.fault.ensures ∙ c.in-Some.is)
     c.loop-i.invariant.reads (omega (arith, c.loop-i-test.false, c.len-i-end.ensures)))
 
 pub returns-clause-answer : goal.returns-clause-answer
 returns-clause-answer g c =
-    let table = c.in-Ok.table in
+    let table = c.find_frames.new.self in
     reads_all (Gives g.F.Meaning.table) c.args.bytes.now (offsets_of table) (fault_of table) c.loop-i.i _ (sym c.fault.ensures ∙ c.in-None.is) c.loop-i.invariant.reads
     (omega (arith, c.loop-i-test.false, c.len-i-end.ensures))

@@ -1,4 +1,4 @@
-use Rattle.std.proofs.Common.{◌≡◌, suc, ◌+◌, ◌++◌, ◌*◌, ◌∷◌, [], length, take, drop, refl, sym, ap, ap₂, subst, ◌∙◌, arith, length-set}
+use Rattle.std.proofs.Common.{◌≡◌, suc, ◌+◌, ◌++◌, ◌*◌, ◌∷◌, [], take, drop, refl, sym, ap, ap₂, subst, ◌∙◌, arith, length-set}
 use Rattle.std.proofs.lemmas.List.{take_more_set, take_all, length-replicate}
 use Rattle.link_base.specs.Layout.{numbers_at, octets_of}
 use Rattle.link_base.proofs.Layouts.{numbers_more, octets_more}
