@@ -65,7 +65,11 @@ fn forty_frames(rt: HostRuntime) {
         }
     }
     let table = FrameTable::walk(rt.alloc(), &bytes).expect(&rt, "a table");
-    holds(&rt, table.len() == 40 && table.fault().is_none(), "40 frames");
+    holds(
+        &rt,
+        table.len() == 40 && table.fault().is_none(),
+        "40 frames",
+    );
     for i in 0..table.len() {
         let frame = table.frame(i);
         let is_so = usize::from(frame.kind()) == i && frame.value() == [0x2A];
