@@ -5,6 +5,8 @@ mod family;
 mod fault;
 mod lists;
 mod refusal;
+#[cfg(test)]
+mod tests;
 mod text;
 
 ghost use Rattle.std.specs.Prelude.{◌≡◌, pos, ◌<ℤ◌};
