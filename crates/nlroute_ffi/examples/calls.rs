@@ -1,5 +1,5 @@
-//! The calls of nlroute.h, as a program in Rust makes them: behind safe functions over slices. It prints a line for each
-//! thing that is said of them and holds, `ok ..`, or does not, `FAILED ..`.
+//! The calls of nlroute.h, as a program in Rust makes them: behind safe functions over slices. It prints a line for
+//! each thing that is said of them and holds, `ok ..`, or does not, `FAILED ..`.
 
 /// The families, by their numbers.
 #[derive(Clone, Copy, Debug, PartialEq, Eq)]
@@ -29,9 +29,21 @@ pub enum Refusal {
 
 mod sys {
     extern "C" {
-        pub fn nlroute_rewrite(family: u32, bytes: *const u8, len: usize, out: *mut u8, room: usize) -> isize;
+        pub fn nlroute_rewrite(
+            family: u32,
+            bytes: *const u8,
+            len: usize,
+            out: *mut u8,
+            room: usize,
+        ) -> isize;
         pub fn nlroute_read(family: u32, bytes: *const u8, len: usize) -> isize;
-        pub fn nlroute_fault(family: u32, bytes: *const u8, len: usize, fault: *mut u64, places: usize) -> isize;
+        pub fn nlroute_fault(
+            family: u32,
+            bytes: *const u8,
+            len: usize,
+            fault: *mut u64,
+            places: usize,
+        ) -> isize;
         pub fn nlroute_report(
             family: u32,
             text: *const u8,
@@ -71,14 +83,25 @@ pub fn read(family: Family, bytes: &[u8]) -> Result<usize, Refusal> {
 pub fn fault(family: Family, bytes: &[u8]) -> Result<Option<[u64; 7]>, Refusal> {
     let mut numbers = [0; 7];
     let (at, places) = (numbers.as_mut_ptr(), numbers.len());
-    let count = answer(unsafe { sys::nlroute_fault(family as u32, bytes.as_ptr(), bytes.len(), at, places) })?;
+    let count = answer(unsafe {
+        sys::nlroute_fault(family as u32, bytes.as_ptr(), bytes.len(), at, places)
+    })?;
     Ok((count > 0).then_some(numbers))
 }
 
 /// Writes the report of a text to the front of a buffer, and answers its length and the status.
 pub fn report(family: Family, text: &str, out: &mut [u8]) -> Result<(usize, u8), Refusal> {
     let (at, room, mut status) = (out.as_mut_ptr(), out.len(), 0);
-    let code = unsafe { sys::nlroute_report(family as u32, text.as_ptr(), text.len(), at, room, &mut status) };
+    let code = unsafe {
+        sys::nlroute_report(
+            family as u32,
+            text.as_ptr(),
+            text.len(),
+            at,
+            room,
+            &mut status,
+        )
+    };
     Ok((answer(code)?, status))
 }
 
@@ -93,19 +116,37 @@ fn main() {
     let mut wanted = request;
     wanted[11] = 0;
     let mut out = [0xFF; 24];
-    let mut holds = check(rewrite(Family::Bond, &request, &mut out[..15]) == Err(Refusal::NoRoom), "no room");
+    let mut holds = check(
+        rewrite(Family::Bond, &request, &mut out[..15]) == Err(Refusal::NoRoom),
+        "no room",
+    );
     holds &= check(out == [0xFF; 24], "and nothing written");
-    holds &= check(rewrite(Family::Bond, &request, &mut out) == Ok(16), "a request is rewritten");
-    holds &= check(out[..16] == wanted && out[16..] == [0xFF; 8], "without its flag");
+    holds &= check(
+        rewrite(Family::Bond, &request, &mut out) == Ok(16),
+        "a request is rewritten",
+    );
+    holds &= check(
+        out[..16] == wanted && out[16..] == [0xFF; 8],
+        "without its flag",
+    );
     holds &= check(read(Family::Bond, &request) == Ok(2), "it has two values");
     holds &= check(read(Family::Bond, &[]) == Ok(0), "an empty slice has none");
-    holds &= check(read(Family::Dsa, &request) == Err(Refusal::HasFault), "it is none of DSA");
+    holds &= check(
+        read(Family::Dsa, &request) == Err(Refusal::HasFault),
+        "it is none of DSA",
+    );
     holds &= check(fault(Family::Bond, &request) == Ok(None), "it has no fault");
     let told = Ok(Some([0, 1, 1, 0, 4, 4, 1]));
-    holds &= check(fault(Family::Dsa, &request) == told, "of DSA it has one, at 0: kind 1: wrong length 4 1");
+    holds &= check(
+        fault(Family::Dsa, &request) == told,
+        "of DSA it has one, at 0: kind 1: wrong length 4 1",
+    );
     let mut text = [0; 64];
     let reported = report(Family::Dsa, "05000100 04000000", &mut text);
     holds &= check(reported == Ok((37, 1)), "which is reported with status 1");
-    holds &= check(text.starts_with(b"fault at 0: kind 1: wrong length 4 1\n"), "in these words");
+    holds &= check(
+        text.starts_with(b"fault at 0: kind 1: wrong length 4 1\n"),
+        "in these words",
+    );
     std::process::exit(!holds as i32);
 }

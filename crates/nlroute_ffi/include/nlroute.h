@@ -1,14 +1,14 @@
 /*
  * Lists of netlink's attributes of network links: read, counted, rewritten and reported.
  *
- * A list is the payload of an IFLA_INFO_DATA, IFLA_INFO_SLAVE_DATA, IFLA_AF_SPEC or IFLA_PROTINFO. What is said below of
- * answers and of what is written is proved of each call, for all bytes; the contracts stand in src/lib.rt.
+ * A list is the payload of an IFLA_INFO_DATA, IFLA_INFO_SLAVE_DATA, IFLA_AF_SPEC or IFLA_PROTINFO. What is said below
+ * of answers and of what is written is proved of each call, for all bytes; the contracts stand in src/lib.rt.
  *
  * What a caller owes:
  * - No pointer is null, also where its length is 0. It points to so many elements, aligned as their type, and these
  *   have values: a buffer that is written to is set before it is lent.
- * - What is written to (out, fault, status) overlaps nothing else that is passed, and no other thread touches what is
- *   passed during the call.
+ * - What is written to (out, fault, status) overlaps nothing else that is passed. During the call no other thread
+ *   writes to what is passed, or reads what is written to.
  * - No length is above PTRDIFF_MAX bytes.
  * - No call is made from a signal handler, nor in the forked child of a process with threads.
  *
@@ -45,7 +45,7 @@ enum nlroute_family {
 
 /* Why a call answers no length and no count. After any of these all that was lent is as it was. */
 enum nlroute_refusal {
-    NLROUTE_HAS_FAULT = -1, /* the bytes are no list of the family: they have a fault, and nlroute_fault tells the first */
+    NLROUTE_HAS_FAULT = -1, /* the bytes are no list of the family, but have a fault: nlroute_fault tells the first */
     NLROUTE_TOO_LONG = -2,  /* they are a list, one of whose values takes more than the 65531 bytes of an attribute */
     NLROUTE_NO_MEMORY = -3, /* an allocation failed */
     NLROUTE_NO_ROOM = -4,   /* what would be written is longer than the lent buffer */
