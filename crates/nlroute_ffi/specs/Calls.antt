@@ -1,5 +1,5 @@
 -- What the calls answer, and what they leave in the lent buffers.
-use Rattle.std.specs.Prelude.{◌≡◌, ◌≢◌, ◌↔◌, ◌⊎◌, ℕ, ℤ, ◌<◌, ◌≤◌, List, length, None, Result, Ok, Err}
+use Rattle.std.specs.Prelude.{◌≡◌, ◌≢◌, ◌↔◌, ℕ, ℤ, ◌<◌, ◌≤◌, List, length, None, Result, Ok, Err}
 use Rattle.std.specs.List.{AllByRecursion}
 use Rattle.netlink_packet_route.specs.declared.link.DecodeFault.{DecodeFault}
 use Rattle.netlink_packet_route.specs.Frame.{pad, frame_fault}

@@ -49,8 +49,8 @@ fn put_fault(at: usize, fault: DecodeFault, numbers: &mut [u64]) -> Result<usize
     if numbers.len() < told.len() {
         return Err(Refusal::NoRoom);
     }
-    numbers[..7].copy_from_slice(&told);
-    Ok(7)
+    numbers[..told.len()].copy_from_slice(&told);
+    Ok(told.len())
 }
 
 fn numbers_of(at: u64, fault: DecodeFault) -> [u64; 7]

@@ -1,4 +1,7 @@
 //! Lists of link attributes, read and rewritten for callers in C. `include/nlroute.h` declares the calls.
+//!
+//! A family is named by its number, from 0 to 9 in the order of [`Family`](netlink_packet_route::Family). A slice is two
+//! arguments of a caller in C, a pointer and how many elements it points to, and the allocator is none.
 #![tactic(auto)]
 
 mod family;

@@ -1,4 +1,4 @@
-use Rattle.std.proofs.Common.{map, refl}
+use Rattle.std.proofs.Common.{refl}
 use Rattle.nlroute_ffi.specs.Calls.{NoFault}
 use Rattle.nlroute_ffi.proofs.Answered.{told}
 use Rattle.nlroute_ffi.proofs.fault.first_fault_as.Goals as goal

@@ -1,4 +1,4 @@
-use Rattle.std.proofs.Common.{◌≡◌, map, length, subst, ap, arith}
+use Rattle.std.proofs.Common.{map, length, subst, ap, arith}
 use Rattle.std.specs.List.{AllByRecursion}
 use Rattle.link_base.specs.Table.{Fits, written_list}
 use Rattle.link_base.specs.Answers.{OverwritesFront}
