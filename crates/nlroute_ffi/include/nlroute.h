@@ -47,7 +47,7 @@ enum nlroute_family {
 enum nlroute_refusal {
     NLROUTE_HAS_FAULT = -1, /* the bytes are no list of the family, but have a fault: nlroute_fault tells the first */
     NLROUTE_TOO_LONG = -2,  /* they are a list, one of whose values takes more than the 65531 bytes of an attribute */
-    NLROUTE_NO_MEMORY = -3, /* an allocation failed */
+    NLROUTE_NO_MEMORY = -3, /* an allocation failed (that this alone is answered so is not proved) */
     NLROUTE_NO_ROOM = -4,   /* what would be written is longer than the lent buffer */
     NLROUTE_NO_FAMILY = -5  /* the number is none of the families' */
 };
