@@ -13,8 +13,10 @@ MEMORY_OF_A_CHECK = 2_500_000_000
 
 
 class Crate:
-    def __init__(self, root, name, uses, crates, kit):
+    def __init__(self, root, head, uses, crates, kit):
+        name, *kind = head
         self.name, self.folder, self.kit = name, f"{root}/crates/{name}", kit
+        self.kind = ["--crate-type", *kind] if kind else []
         self.deps = [crates[it] for it in uses if it in crates]
         self.of_kit = ["std", *(it for it in uses if it not in crates)]
         self.rlib = f"{self.folder}/out/rlib/{name}.rlib"
@@ -51,7 +53,7 @@ class Crate:
         for dep in self.below():
             words += ["-L", f"dependency={os.path.dirname(dep.rlib)}"]
         words += ["--antt-project", f"{self.kit}/rattle/logic/antt-project.json"]
-        return [*words, "--logic-built", f"{self.kit}/logic_built", "--links", f"{self.name}="]
+        return [*words, "--logic-built", f"{self.kit}/logic_built", "--links", f"{self.name}=", *self.kind]
 
     def sources(self):
         texts = {}
@@ -96,14 +98,15 @@ def crates_of(root, kit):
     """The crates of crates.txt, by name, each after those that it uses."""
     with open(f"{root}/crates.txt", encoding="utf-8") as file:
         lines = [it.partition("#")[0].strip() for it in file]
-    listed = {it.partition(":")[0].split()[0]: it.partition(":")[2].split() for it in lines if it}
+    rows = [(it.partition(":")[0].split(), it.partition(":")[2].split()) for it in lines if it]
+    heads, listed = {head[0]: head for head, _ in rows}, {head[0]: uses for head, uses in rows}
     crates = {}
     while len(crates) < len(listed):
         ready = [it for it in listed if it not in crates and all(use in crates for use in listed[it] if use in listed)]
         if not ready:
             sys.exit("mutants: crates of crates.txt stand on one another in a ring")
         for name in ready:
-            crates[name] = Crate(root, name, listed[name], crates, kit)
+            crates[name] = Crate(root, heads[name], listed[name], crates, kit)
     return crates
 
 

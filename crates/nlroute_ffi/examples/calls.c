@@ -1,0 +1,158 @@
+/*
+ * The calls of nlroute.h, as a program in C makes them. It prints a line for each thing that is said of them and holds,
+ * `ok ..`, or does not, `FAILED ..`. What no contract says is among them: which number is whose, and that each answer
+ * comes. With --wrap=malloc and --wrap=realloc of the linker, allocations fail here on demand.
+ */
+#include "nlroute.h"
+
+#include <stdbool.h>
+#include <stdio.h>
+#include <string.h>
+
+static bool memory_is_out;
+void *__real_malloc(size_t size);
+void *__real_realloc(void *old, size_t size);
+void *__wrap_malloc(size_t size) { return memory_is_out ? NULL : __real_malloc(size); }
+void *__wrap_realloc(void *old, size_t size) { return memory_is_out ? NULL : __real_realloc(old, size); }
+
+static int failed;
+
+static void check(bool holds, const char *what) {
+    printf("%s %s\n", holds ? "ok" : "FAILED", what);
+    failed |= !holds;
+}
+
+/* All so many bytes are 0xFF. */
+static bool are_lent(const void *bytes, size_t len) {
+    for (size_t i = 0; i < len; i++)
+        if (((const uint8_t *)bytes)[i] != 0xFF) return false;
+    return true;
+}
+
+/* What `ip link add link eth0 name v5 type vlan proto 802.1ad id 5 egress-qos-map 1:2` sends of the VLAN. */
+static const uint8_t vlan[32] = {6, 0, 5, 0, 0x88, 0xA8, 0, 0, 6,  0, 1, 0, 5, 0, 0, 0,
+                                 16, 0, 3, 0, 12,   0,    1, 0, 1, 0, 0, 0, 2, 0, 0, 0};
+
+/* Bytes that one family alone rewrites so. The first of each is its length. */
+static const struct {
+    uint32_t family;
+    const char *name;
+    uint8_t bytes[17], wanted[17];
+} rows[] = {
+    {NLROUTE_AF_SPEC_BRIDGE, "af_spec_bridge", {6, 6, 0, 0, 0x80, 2, 0}, {8, 6, 0, 0, 0, 2, 0, 0, 0}},
+    {NLROUTE_BOND, "bond", {8, 5, 0, 34, 0, 2, 0, 0, 0}, {8, 5, 0, 34, 0, 1, 0, 0, 0}},
+    {NLROUTE_BOND_PORT, "bond_port", {8, 6, 0, 8, 0, 63, 1, 0, 0}, {8, 6, 0, 8, 0, 63, 0, 0, 0}},
+    {NLROUTE_BRIDGE, "bridge", {8, 7, 0, 21, 0, 1, 2, 3, 0}, {4, 4, 0, 21, 0}},
+    {NLROUTE_BRIDGE_PORT, "bridge_port", {8, 6, 0, 24, 0, 1, 2, 0, 0}, {4, 4, 0, 24, 0}},
+    {NLROUTE_VLAN, "vlan", {8, 6, 0, 5, 0, 145, 0, 0, 0}, {8, 6, 0, 5, 0, 129, 0, 0, 0}},
+    {NLROUTE_CAN, "can", {10, 10, 0, 8, 0, 1, 0, 2, 0, 9, 9}, {8, 8, 0, 8, 0, 1, 0, 2, 0}},
+    {NLROUTE_DSA, "dsa", {12, 8, 0, 1, 0x80, 42, 0, 0, 0, 4, 0, 2, 0x80}, {12, 8, 0, 1, 0, 42, 0, 0, 0, 4, 0, 2, 0x80}},
+    {NLROUTE_HSR, "hsr", {8, 5, 0, 3, 0x40, 9, 0, 0, 0}, {8, 5, 0, 3, 0, 9, 0, 0, 0}},
+    {NLROUTE_PROTO_BRIDGE,
+     "proto_bridge",
+     {12, 5, 0, 45, 0, 2, 0, 0, 0, 4, 0, 24, 0x80},
+     {12, 5, 0, 45, 0, 1, 0, 0, 0, 4, 0, 24, 0x80}},
+};
+
+/* The number of the only family that rewrites the first bytes to the second, or 10. */
+static uint32_t only_family(const uint8_t *bytes, const uint8_t *wanted) {
+    uint32_t found = 10;
+    for (uint32_t family = 0; family < 10; family++) {
+        uint8_t out[16];
+        memset(out, 0xFF, sizeof out);
+        ptrdiff_t answer = nlroute_rewrite(family, bytes + 1, bytes[0], out, sizeof out);
+        if (answer != wanted[0] || memcmp(out, wanted + 1, wanted[0])) continue;
+        if (found != 10) return 10;
+        found = family;
+    }
+    return found;
+}
+
+static void families(void) {
+    for (size_t i = 0; i < sizeof rows / sizeof rows[0]; i++)
+        check(rows[i].family == i && only_family(rows[i].bytes, rows[i].wanted) == i, rows[i].name);
+}
+
+static void rewriting(void) {
+    uint8_t out[40];
+    memset(out, 0xFF, sizeof out);
+    ptrdiff_t answer = nlroute_rewrite(NLROUTE_VLAN, vlan, 32, out, 40);
+    check(answer == 32 && !memcmp(out, vlan, 32), "a request is rewritten as it is");
+    check(are_lent(out + 32, 8), "what stands behind it is left");
+    check(nlroute_rewrite(NLROUTE_VLAN, vlan, 32, out, 32) == 32, "there is room for it alone");
+    check(nlroute_rewrite(NLROUTE_VLAN, vlan, 0, out, 0) == 0, "no values take no bytes");
+    check(nlroute_read(NLROUTE_VLAN, vlan, 32) == 3, "a request has three values");
+    check(nlroute_read(NLROUTE_VLAN, vlan, 0) == 0, "no bytes have no values");
+}
+
+static void refusals(void) {
+    static uint8_t grows[65533] = {0xFD, 0xFF, 3, 0, 0xF9, 0xFF, 99}, out[65540];
+    memset(out, 0xFF, sizeof out);
+    check(nlroute_rewrite(NLROUTE_VLAN, vlan, 30, out, 40) == NLROUTE_HAS_FAULT, "-1 for a fault");
+    ptrdiff_t grown = nlroute_rewrite(NLROUTE_VLAN, grows, sizeof grows, out, sizeof out);
+    check(grown == NLROUTE_TOO_LONG, "-2 for a list that grows");
+    check(nlroute_rewrite(NLROUTE_VLAN, vlan, 32, out, 31) == NLROUTE_NO_ROOM, "-4 with room for all but a byte");
+    check(nlroute_rewrite(10, vlan, 32, out, 40) == NLROUTE_NO_FAMILY, "-5 for number 10");
+    check(nlroute_rewrite(UINT32_MAX, vlan, 32, out, 40) == NLROUTE_NO_FAMILY, "-5 for the greatest number");
+    memory_is_out = true;
+    ptrdiff_t rewritten = nlroute_rewrite(NLROUTE_VLAN, vlan, 32, out, 40), read = nlroute_read(NLROUTE_VLAN, vlan, 32);
+    ptrdiff_t empty = nlroute_rewrite(NLROUTE_VLAN, vlan, 0, out, 0);
+    memory_is_out = false;
+    check(rewritten == NLROUTE_NO_MEMORY && read == NLROUTE_NO_MEMORY, "-3 without memory");
+    check(empty == 0, "no memory for no values");
+    check(are_lent(out, sizeof out), "nothing was written");
+    check(nlroute_read(NLROUTE_VLAN, vlan, 30) == -1 && nlroute_read(10, vlan, 32) == -5, "-1 and -5 of a count");
+}
+
+static void faults(void) {
+    uint64_t fault[8], wanted[7] = {16, NLROUTE_FRAME, 0, 0, NLROUTE_OVERRUN, 16, 14};
+    memset(fault, 0xFF, sizeof fault);
+    check(nlroute_fault(NLROUTE_VLAN, vlan, 32, fault, 8) == 0, "a request has no fault");
+    check(nlroute_fault(NLROUTE_VLAN, vlan, 30, fault, 6) == NLROUTE_NO_ROOM, "-4 with six places");
+    memory_is_out = true;
+    ptrdiff_t answer = nlroute_fault(NLROUTE_VLAN, vlan, 30, fault, 8);
+    memory_is_out = false;
+    check(answer == NLROUTE_NO_MEMORY, "-3 of a fault");
+    check(nlroute_fault(10, vlan, 30, fault, 8) == NLROUTE_NO_FAMILY, "-5 of a fault");
+    check(are_lent(fault, sizeof fault), "no number was put");
+    check(nlroute_fault(NLROUTE_VLAN, vlan, 30, fault, 8) == NLROUTE_FAULT_NUMBERS, "a fault has seven numbers");
+    check(!memcmp(fault, wanted, sizeof wanted) && are_lent(fault + 7, 8), "they tell an overrun at 16");
+    /* IFLA_VLAN_EGRESS_QOS with a mapping of seven bytes */
+    const uint8_t nested[16] = {15, 0, 3, 0, 11, 0, 1, 0};
+    const uint64_t inner[7] = {0, NLROUTE_ELEMENT_PAYLOAD, 3, 1, NLROUTE_WRONG_LENGTH, 8, 7};
+    answer = nlroute_fault(NLROUTE_VLAN, nested, 16, fault, 7);
+    check(answer == 7 && !memcmp(fault, inner, sizeof inner), "of a mapping, both kinds");
+}
+
+static bool is_reported(const char *text, const char *wanted, uint8_t status) {
+    uint8_t out[128], code = 0xFF;
+    size_t len = strlen(wanted);
+    memset(out, 0xFF, sizeof out);
+    ptrdiff_t short_of = nlroute_report(NLROUTE_DSA, (const uint8_t *)text, strlen(text), out, len - 1, &code);
+    if (short_of != NLROUTE_NO_ROOM || !are_lent(out, sizeof out) || code != 0xFF) return false;
+    ptrdiff_t answer = nlroute_report(NLROUTE_DSA, (const uint8_t *)text, strlen(text), out, sizeof out, &code);
+    bool is_put = !memcmp(out, wanted, len) && are_lent(out + len, sizeof out - len);
+    return answer == (ptrdiff_t)len && is_put && code == status;
+}
+
+static void reports(void) {
+    check(is_reported("08000100 2a000000", "attr 1 len 4\nout 080001002a000000\nsame\n", 0), "status 0");
+    check(is_reported("08000100 2a0000", "fault at 0: overrun 8 7\n", 1), "status 1");
+    check(is_reported("08000100 2a00000", "bad hex\n", 2), "status 2");
+    uint8_t out[4] = {0xFF, 0xFF, 0xFF, 0xFF}, code = 0xFF;
+    memory_is_out = true;
+    ptrdiff_t answer = nlroute_report(NLROUTE_DSA, (const uint8_t *)"00", 2, out, 4, &code);
+    memory_is_out = false;
+    check(answer == NLROUTE_NO_MEMORY, "-3 of a report");
+    check(nlroute_report(10, vlan, 0, out, 4, &code) == NLROUTE_NO_FAMILY, "-5 of a report");
+    check(are_lent(out, sizeof out) && code == 0xFF, "neither text nor status was put");
+}
+
+int main(void) {
+    families();
+    rewriting();
+    refusals();
+    faults();
+    reports();
+    return failed;
+}

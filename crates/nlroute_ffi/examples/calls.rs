@@ -1,0 +1,152 @@
+//! The calls of nlroute.h, as a program in Rust makes them: behind safe functions over slices. It prints a line for
+//! each thing that is said of them and holds, `ok ..`, or does not, `FAILED ..`.
+
+/// The families, by their numbers.
+#[derive(Clone, Copy, Debug, PartialEq, Eq)]
+#[repr(u32)]
+#[allow(dead_code)]
+pub enum Family {
+    AfSpecBridge = 0,
+    Bond = 1,
+    BondPort = 2,
+    Bridge = 3,
+    BridgePort = 4,
+    Vlan = 5,
+    Can = 6,
+    Dsa = 7,
+    Hsr = 8,
+    ProtoBridge = 9,
+}
+
+/// Why a call answers no length and no count.
+#[derive(Clone, Copy, Debug, PartialEq, Eq)]
+pub enum Refusal {
+    HasFault,
+    TooLong,
+    NoMemory,
+    NoRoom,
+}
+
+mod sys {
+    extern "C" {
+        pub fn nlroute_rewrite(
+            family: u32,
+            bytes: *const u8,
+            len: usize,
+            out: *mut u8,
+            room: usize,
+        ) -> isize;
+        pub fn nlroute_read(family: u32, bytes: *const u8, len: usize) -> isize;
+        pub fn nlroute_fault(
+            family: u32,
+            bytes: *const u8,
+            len: usize,
+            fault: *mut u64,
+            places: usize,
+        ) -> isize;
+        pub fn nlroute_report(
+            family: u32,
+            text: *const u8,
+            len: usize,
+            out: *mut u8,
+            room: usize,
+            status: *mut u8,
+        ) -> isize;
+    }
+}
+
+fn answer(code: isize) -> Result<usize, Refusal> {
+    match code {
+        0.. => Ok(code as usize),
+        -1 => Err(Refusal::HasFault),
+        -2 => Err(Refusal::TooLong),
+        -3 => Err(Refusal::NoMemory),
+        -4 => Err(Refusal::NoRoom),
+        _ => unreachable!("a `Family` has a number"),
+    }
+}
+
+// A slice is never null and holds its elements, and a mutable one overlaps nothing: this is what the header asks for.
+
+/// Rewrites a list to the front of a buffer, and answers how many bytes that took.
+pub fn rewrite(family: Family, bytes: &[u8], out: &mut [u8]) -> Result<usize, Refusal> {
+    let (at, room) = (out.as_mut_ptr(), out.len());
+    answer(unsafe { sys::nlroute_rewrite(family as u32, bytes.as_ptr(), bytes.len(), at, room) })
+}
+
+/// How many values a list has.
+pub fn read(family: Family, bytes: &[u8]) -> Result<usize, Refusal> {
+    answer(unsafe { sys::nlroute_read(family as u32, bytes.as_ptr(), bytes.len()) })
+}
+
+/// The numbers of the first fault of a list, if it has one.
+pub fn fault(family: Family, bytes: &[u8]) -> Result<Option<[u64; 7]>, Refusal> {
+    let mut numbers = [0; 7];
+    let (at, places) = (numbers.as_mut_ptr(), numbers.len());
+    let count = answer(unsafe {
+        sys::nlroute_fault(family as u32, bytes.as_ptr(), bytes.len(), at, places)
+    })?;
+    Ok((count > 0).then_some(numbers))
+}
+
+/// Writes the report of a text to the front of a buffer, and answers its length and the status.
+pub fn report(family: Family, text: &str, out: &mut [u8]) -> Result<(usize, u8), Refusal> {
+    let (at, room, mut status) = (out.as_mut_ptr(), out.len(), 0);
+    let code = unsafe {
+        sys::nlroute_report(
+            family as u32,
+            text.as_ptr(),
+            text.len(),
+            at,
+            room,
+            &mut status,
+        )
+    };
+    Ok((answer(code)?, status))
+}
+
+fn check(holds: bool, what: &str) -> bool {
+    println!("{} {what}", if holds { "ok" } else { "FAILED" });
+    holds
+}
+
+fn main() {
+    // `ip link add bond0 type bond mode 802.3ad miimon 100`, with the nested flag at the second kind
+    let request = [5, 0, 1, 0, 4, 0, 0, 0, 8, 0, 3, 0x80, 100, 0, 0, 0];
+    let mut wanted = request;
+    wanted[11] = 0;
+    let mut out = [0xFF; 24];
+    let mut holds = check(
+        rewrite(Family::Bond, &request, &mut out[..15]) == Err(Refusal::NoRoom),
+        "no room",
+    );
+    holds &= check(out == [0xFF; 24], "and nothing written");
+    holds &= check(
+        rewrite(Family::Bond, &request, &mut out) == Ok(16),
+        "a request is rewritten",
+    );
+    holds &= check(
+        out[..16] == wanted && out[16..] == [0xFF; 8],
+        "without its flag",
+    );
+    holds &= check(read(Family::Bond, &request) == Ok(2), "it has two values");
+    holds &= check(read(Family::Bond, &[]) == Ok(0), "an empty slice has none");
+    holds &= check(
+        read(Family::Dsa, &request) == Err(Refusal::HasFault),
+        "it is none of DSA",
+    );
+    holds &= check(fault(Family::Bond, &request) == Ok(None), "it has no fault");
+    let told = Ok(Some([0, 1, 1, 0, 4, 4, 1]));
+    holds &= check(
+        fault(Family::Dsa, &request) == told,
+        "of DSA it has one, at 0: kind 1: wrong length 4 1",
+    );
+    let mut text = [0; 64];
+    let reported = report(Family::Dsa, "05000100 04000000", &mut text);
+    holds &= check(reported == Ok((37, 1)), "which is reported with status 1");
+    holds &= check(
+        text.starts_with(b"fault at 0: kind 1: wrong length 4 1\n"),
+        "in these words",
+    );
+    std::process::exit(!holds as i32);
+}

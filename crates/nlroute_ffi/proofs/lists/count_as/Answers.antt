@@ -1,0 +1,10 @@
+use Rattle.std.proofs.Common.{map, arith}
+use Rattle.std.proofs.lemmas.List.{length-map}
+use Rattle.link_base.specs.Table.{Gives}
+use Rattle.nlroute_ffi.proofs.Answered.{no_more_values}
+use Rattle.nlroute_ffi.proofs.lists.count_as.Goals as goal
+
+pub returns-in-Ok-clause-bounded : goal.returns-in-Ok-clause-bounded
+returns-in-Ok-clause-bounded g c =
+    let values = c.in-Ok.values.items in
+    omega (arith, c.len.ensures, length-map values g.F.Meaning.means, no_more_values (Gives g.F.Meaning.table) c.args.bytes.now (map g.F.Meaning.means values) c.in-Ok.ensures.answer)

@@ -1,0 +1,103 @@
+-- What the calls answer, and what they leave in the lent buffers.
+use Rattle.std.specs.Prelude.{◌≡◌, ◌≢◌, ◌↔◌, ℕ, ℤ, ◌<◌, ◌≤◌, List, length, None, Result, Ok, Err}
+use Rattle.std.specs.List.{AllByRecursion}
+use Rattle.netlink_packet_route.specs.declared.link.DecodeFault.{DecodeFault}
+use Rattle.netlink_packet_route.specs.Frame.{pad, frame_fault}
+use Rattle.netlink_packet_route.specs.Wire.{Wire, FirstFault}
+use Rattle.netlink_packet_route.specs.Table.{Table, AttrValue, Gives, Fits, Canonical, Rewriting}
+use Rattle.netlink_packet_route.specs.Answers.{OverwritesFront}
+use Rattle.netlink_packet_route.specs.declared.family.Family.{Family}
+use Rattle.netlink_packet_route.specs.Family.{table_of}
+use Rattle.netlink_packet_route.specs.Rewrite.{ReadsBack, Settles}
+use Rattle.netlink_packet_route.specs.Report.{Reports}
+use Rattle.nlroute_ffi.specs.declared.refusal.Refusal.{Refusal}
+use Rattle.nlroute_ffi.specs.declared.refusal.Refusal.TheVariants.{Fault, TooLong, Memory, NoRoom, NoFamily}
+use Rattle.nlroute_ffi.specs.Numbers.{family_number, code_of, fault_numbers}
+
+-- what is answered for a number: for that of a family what its table says, and -5 for any other
+pub data AnswersFor (number : ℕ) (says : Table → Result ℕ Refusal → Type 0) (answer : ℤ) : Type 0 where
+  Known : (family : Family) (result : Result ℕ Refusal) → number ≡ family_number family → says (table_of family) result → answer ≡ code_of result → AnswersFor number says answer
+  Unknown : ((family : Family) → number ≢ family_number family) → answer ≡ code_of (Err NoFamily) → AnswersFor number says answer
+
+-- ---- reading
+
+-- the bytes have a first fault
+abbrev pub HasFault : Table → List ℕ → Type 0
+HasFault table s = (at : ℕ) × (fault : DecodeFault) × FirstFault (Gives table) s at fault
+
+-- how many values; or why none were read. Memory runs out only behind the front of a first frame
+abbrev pub ReadAnswers : List ℕ → Table → Result ℕ Refusal → Type 0
+ReadAnswers s table (Ok n) = (vs : List AttrValue) × Wire (Gives table) s vs × (n ≡ length vs)
+ReadAnswers s table (Err Fault) = HasFault table s
+ReadAnswers s table (Err TooLong) = ⊥
+ReadAnswers s table (Err Memory) = frame_fault s ≡ None
+ReadAnswers s table (Err NoRoom) = ⊥
+ReadAnswers s table (Err NoFamily) = ⊥
+
+-- ---- rewriting
+
+-- t is what `rewrite` answers for s: the rewriting, and what holds of every rewriting
+pub record IsRewritten (table : Table) (s t : List ℕ) : Type 0 where
+  pub rewriting : Rewriting table s t
+  pub same : (t ≡ s) ↔ Canonical table s
+  pub no_longer : length t ≤ pad (length s)
+  pub back : ReadsBack table s t
+  pub settles : Settles table t
+
+-- these bytes stand in front of a lent buffer, which holds them and is as before behind them; there are so many
+pub record StandsInFront (old new text : List ℕ) (n : ℕ) : Type 0 where
+  pub count : n ≡ length text
+  pub room : length text ≤ length old
+  pub written : OverwritesFront old new text
+
+-- the values were read, and one of them does not fit
+abbrev pub IsUnfit : Table → List ℕ → Type 0
+IsUnfit table s = (vs : List AttrValue) × Wire (Gives table) s vs × ¬ AllByRecursion Fits vs
+
+-- the rewriting stands in front
+pub record Rewrites (table : Table) (s old new : List ℕ) (n : ℕ) : Type 0 where
+  pub text : List ℕ
+  pub is : IsRewritten table s text
+  pub put : StandsInFront old new text n
+
+-- the rewriting has more bytes than there is room for
+pub record HasNoRoom (table : Table) (s : List ℕ) (room : ℕ) : Type 0 where
+  pub text : List ℕ
+  pub is : IsRewritten table s text
+  pub more : room < length text
+
+-- the rewriting stands in front; or why it does not
+abbrev pub RewriteAnswers : List ℕ → List ℕ → List ℕ → Table → Result ℕ Refusal → Type 0
+RewriteAnswers s old new table (Ok n) = Rewrites table s old new n
+RewriteAnswers s old new table (Err Fault) = HasFault table s
+RewriteAnswers s old new table (Err TooLong) = IsUnfit table s
+RewriteAnswers s old new table (Err Memory) = frame_fault s ≡ None
+RewriteAnswers s old new table (Err NoRoom) = HasNoRoom table s (length old)
+RewriteAnswers s old new table (Err NoFamily) = ⊥
+
+-- ---- the first fault
+
+-- the bytes read as values, and the buffer is as before; or the numbers of their first fault stand in front
+pub data TellsFault (s old new : List ℕ) (table : Table) (n : ℕ) : Type 0 where
+  NoFault : (vs : List AttrValue) → Wire (Gives table) s vs → new ≡ old → n ≡ 0 → TellsFault s old new table n
+  First : (at : ℕ) (fault : DecodeFault) → FirstFault (Gives table) s at fault → StandsInFront old new (fault_numbers at fault) n → TellsFault s old new table n
+
+-- no fault, or its numbers; or why they are not told
+abbrev pub FaultAnswers : List ℕ → List ℕ → List ℕ → Table → Result ℕ Refusal → Type 0
+FaultAnswers s old new table (Ok n) = TellsFault s old new table n
+FaultAnswers s old new table (Err Fault) = ⊥
+FaultAnswers s old new table (Err TooLong) = ⊥
+FaultAnswers s old new table (Err Memory) = frame_fault s ≡ None
+FaultAnswers s old new table (Err NoRoom) = HasFault table s × (length old < 7)
+FaultAnswers s old new table (Err NoFamily) = ⊥
+
+-- ---- the report
+
+-- the output of the program for the text stands in front, and this is its status; or why not
+abbrev pub ReportAnswers : List ℕ → List ℕ → List ℕ → ℕ → Table → Result ℕ Refusal → Type 0
+ReportAnswers text old new status table (Ok n) = (out : List ℕ) × Reports table text out status × StandsInFront old new out n
+ReportAnswers text old new status table (Err Fault) = ⊥
+ReportAnswers text old new status table (Err TooLong) = ⊥
+ReportAnswers text old new status table (Err Memory) = Unit {0}
+ReportAnswers text old new status table (Err NoRoom) = (out : List ℕ) × (code : ℕ) × Reports table text out code × (length old < length out)
+ReportAnswers text old new status table (Err NoFamily) = ⊥

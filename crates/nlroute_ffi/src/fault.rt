@@ -1,0 +1,88 @@
+//! The first fault of a list, as numbers.
+
+ghost use Rattle.std.specs.Prelude.{◌≡◌, [], ◌∷◌, ◌<◌, length, IfOk, IfErr, OnErr};
+ghost use Rattle.netlink_packet_route.specs.Family.{table_of};
+ghost use Rattle.nlroute_ffi.specs.Numbers.{cause_numbers, fault_numbers};
+ghost use Rattle.nlroute_ffi.specs.Calls.{FaultAnswers, StandsInFront};
+
+use crate::refusal::Refusal;
+use netlink_packet_route::link::{Attribute, Cause, DecodeFault, ListError, read_list};
+use netlink_packet_route::{Family, by_family};
+use std::alloc::Global;
+
+/// Puts the numbers of the first fault of a list to the front of a lent array. Answers how many: 0 where there is no
+/// fault.
+pub(crate) fn first_fault(
+    alloc: Global,
+    family: Family,
+    bytes: &[u8],
+    numbers: &mut [u64],
+) -> Result<usize, Refusal>
+    ensures answer { FaultAnswers bytes.now numbers.old numbers.new (table_of family) result }
+    ensures unchanged { OnErr result (numbers.new ≡ numbers.old) }
+{
+    by_family!(family, first_fault_as(alloc, bytes, numbers))
+}
+
+fn first_fault_as<F: Attribute>(
+    alloc: Global,
+    bytes: &[u8],
+    numbers: &mut [u64],
+) -> Result<usize, Refusal>
+    ensures answer { FaultAnswers bytes.now numbers.old numbers.new F.table result }
+    ensures unchanged { OnErr result (numbers.new ≡ numbers.old) }
+{
+    let (at, fault) = match read_list::<F>(alloc, bytes) {
+        Ok(_) => return Ok(0),
+        Err(ListError::Fault { at, fault }) => (at, fault),
+        Err(ListError::Memory(_)) => return Err(Refusal::Memory),
+    };
+    put_fault(at, fault, numbers)
+}
+
+fn put_fault(at: usize, fault: DecodeFault, numbers: &mut [u64]) -> Result<usize, Refusal>
+    ensures put { IfOk result (λ n. StandsInFront numbers.old numbers.new (fault_numbers at fault) n) }
+    ensures no_room { IfErr result (λ refusal. (refusal ≡ Refusal.NoRoom) × (length numbers.old < 7)) }
+    ensures unchanged { OnErr result (numbers.new ≡ numbers.old) }
+{
+    let told = numbers_of(at as u64, fault);
+    if numbers.len() < told.len() {
+        return Err(Refusal::NoRoom);
+    }
+    numbers[..told.len()].copy_from_slice(&told);
+    Ok(told.len())
+}
+
+fn numbers_of(at: u64, fault: DecodeFault) -> [u64; 7]
+    ensures { result ≡ fault_numbers at fault }
+{
+    match fault {
+        DecodeFault::Frame(cause) => with_cause(at, 0, 0, 0, cause),
+        DecodeFault::Value { kind, cause } => with_cause(at, 1, kind, 0, cause),
+        DecodeFault::NestedFrame { kind, cause } => with_cause(at, 2, kind, 0, cause),
+        DecodeFault::NestedValue { kind, inner, cause } => with_cause(at, 3, kind, inner, cause),
+        // A list has neither of these.
+        DecodeFault::Payload(cause) => with_cause(at, 4, 0, 0, cause),
+        DecodeFault::Text => [at, 5, 0, 0, 0, 0, 0],
+    }
+}
+
+fn with_cause(at: u64, place: u64, kind: u16, inner: u16, cause: Cause) -> [u64; 7]
+    ensures { result ≡ at ∷ place ∷ kind ∷ inner ∷ cause_numbers cause }
+{
+    let (number, first, second) = numbers_of_cause(cause);
+    [at, place, kind as u64, inner as u64, number, first, second]
+}
+
+fn numbers_of_cause(cause: Cause) -> (u64, u64, u64)
+    ensures { result.0 ∷ result.1 ∷ result.2 ∷ [] ≡ cause_numbers cause }
+{
+    match cause {
+        Cause::ShortFrame { left } => (1, left as u64, 0),
+        Cause::SmallLength { length } => (2, length as u64, 0),
+        Cause::Overrun { length, left } => (3, length as u64, left as u64),
+        Cause::WrongLength { want, got } => (4, want as u64, got as u64),
+        Cause::TooShort { want, got } => (5, want as u64, got as u64),
+        Cause::AddressLength { got } => (6, got as u64, 0),
+    }
+}

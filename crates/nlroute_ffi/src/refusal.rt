@@ -1,0 +1,35 @@
+//! Why a call answers no length and no count, as a number.
+
+ghost use Rattle.std.specs.Prelude.{◌≡◌, ◌<◌, ◌^◌};
+ghost use Rattle.std.specs.Result.{ForOk};
+ghost use Rattle.nlroute_ffi.specs.Numbers.{code_of};
+
+/// Why a call answers no length and no count.
+#[derive(Clone, Copy)]
+pub enum Refusal {
+    /// The bytes are no list of the family.
+    Fault,
+    /// A value does not fit into an attribute.
+    TooLong,
+    /// An allocation failed.
+    Memory,
+    /// The lent buffer is too small.
+    NoRoom,
+    /// No family has the number.
+    NoFamily,
+}
+
+/// The answer to a caller: a length or a count, or a number below zero.
+pub(crate) fn answer_of(outcome: Result<usize, Refusal>) -> isize
+    requires { ForOk outcome (λ n. n < 2 ^ 63) }
+    ensures { result ≡ code_of outcome }
+{
+    match outcome {
+        Ok(count) => count as isize,
+        Err(Refusal::Fault) => -1,
+        Err(Refusal::TooLong) => -2,
+        Err(Refusal::Memory) => -3,
+        Err(Refusal::NoRoom) => -4,
+        Err(Refusal::NoFamily) => -5,
+    }
+}

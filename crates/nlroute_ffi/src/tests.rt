@@ -1,0 +1,165 @@
+//! What no clause says: that memory suffices, and each answer on bytes that were worked out by hand.
+
+use crate::{nlroute_fault, nlroute_read, nlroute_report, nlroute_rewrite};
+
+/// `IFLA_DSA_CONDUIT` 42, and an attribute of kind 2, which is none of DSA. Of the nested flags that of the second is
+/// kept.
+const TWO: [u8; 12] = [8, 0, 1, 0x80, 42, 0, 0, 0, 4, 0, 2, 0x80];
+
+/// A lent buffer, as it is before a call.
+const LENT: [u8; 12] = [0xFF; 12];
+
+#[test]
+fn families_by_number(rt: HostRuntime) {
+    // of each family bytes that no other family rewrites so
+    let rows: [(u32, &[u8], &[u8]); 10] = [
+        (0, &[6, 0, 0, 0x80, 2, 0], &[6, 0, 0, 0, 2, 0, 0, 0]),
+        (1, &[5, 0, 34, 0, 2, 0, 0, 0], &[5, 0, 34, 0, 1, 0, 0, 0]),
+        (2, &[6, 0, 8, 0, 63, 1, 0, 0], &[6, 0, 8, 0, 63, 0, 0, 0]),
+        (3, &[7, 0, 21, 0, 1, 2, 3, 0], &[4, 0, 21, 0]),
+        (4, &[6, 0, 24, 0, 1, 2, 0, 0], &[4, 0, 24, 0]),
+        (5, &[6, 0, 5, 0, 145, 0, 0, 0], &[6, 0, 5, 0, 129, 0, 0, 0]),
+        (
+            6,
+            &[10, 0, 8, 0, 1, 0, 2, 0, 9, 9],
+            &[8, 0, 8, 0, 1, 0, 2, 0],
+        ),
+        (7, &TWO, &[8, 0, 1, 0, 42, 0, 0, 0, 4, 0, 2, 0x80]),
+        (8, &[5, 0, 3, 0x40, 9, 0, 0, 0], &[5, 0, 3, 0, 9, 0, 0, 0]),
+        (
+            9,
+            &[5, 0, 45, 0, 2, 0, 0, 0, 4, 0, 24, 0x80],
+            &[5, 0, 45, 0, 1, 0, 0, 0, 4, 0, 24, 0x80],
+        ),
+    ];
+    for (family, bytes, wanted) in rows {
+        let mut out = LENT;
+        let answer = nlroute_rewrite(rt.alloc(), family, bytes, &mut out);
+        assert!(rt; usize::try_from(answer) == Ok(wanted.len()) && wanted.len() <= 12);
+        let (front, rest) = out.split_at(wanted.len());
+        let is_so = front == wanted && rest == &LENT[wanted.len()..];
+        assert!(rt; is_so, "of family {family}");
+    }
+}
+
+#[test]
+fn refusals(rt: HostRuntime) {
+    let mut long = vec![in rt.alloc(); 0u8; 65533].expect(&rt, "a long list");
+    // priorities in an attribute of 65533 bytes, which is written as more than an attribute holds
+    long[..8].copy_from_slice(&[0xFD, 0xFF, 3, 0, 0xF9, 0xFF, 99, 0]);
+    let rows: [(u32, &[u8], usize, isize); 9] = [
+        (7, &TWO, 12, 12),
+        (7, &TWO, 11, -4),
+        (7, &TWO, 0, -4),
+        (7, &[], 0, 0),
+        (7, &TWO[..7], 0, -1),
+        (5, &long, 0, -2),
+        (10, &TWO, 12, -5),
+        (256, &TWO, 12, -5),
+        (u32::MAX, &[], 0, -5),
+    ];
+    for (family, bytes, room, answer) in rows {
+        let mut out = LENT;
+        assert!(rt; room <= 12);
+        let is_so = nlroute_rewrite(rt.alloc(), family, bytes, &mut out[..room]) == answer;
+        assert!(rt;
+            is_so && (answer > 0 || out == LENT),
+            "for {answer} of family {family}"
+        );
+    }
+}
+
+#[test]
+fn counts(rt: HostRuntime) {
+    let rows: [(u32, &[u8], isize); 5] = [
+        (7, &[], 0),
+        (7, &TWO, 2),
+        (7, &[5, 0, 1, 0, 42, 0, 0, 0], -1),
+        (
+            8,
+            &[
+                5, 0, 6, 0, 1, 0, 0, 0, 5, 0, 6, 0, 2, 0, 0, 0, 5, 0, 6, 0, 3,
+            ],
+            3,
+        ),
+        (10, &[], -5),
+    ];
+    for (family, bytes, answer) in rows {
+        let is_so = nlroute_read(rt.alloc(), family, bytes) == answer;
+        assert!(rt; is_so, "for {answer} of family {family}");
+    }
+}
+
+#[test]
+fn faults(rt: HostRuntime) {
+    let rows: [(u32, &[u8], [u64; 7]); 9] = [
+        (7, &[8, 0, 1, 0, 42, 0, 0, 0, 0], [8, 0, 0, 0, 1, 1, 0]),
+        (7, &[4, 0, 9, 0, 3, 0, 1, 0], [4, 0, 0, 0, 2, 3, 0]),
+        (7, &[9, 0, 1, 0, 42, 0, 0, 0], [0, 0, 0, 0, 3, 9, 8]),
+        (7, &[5, 0, 1, 0, 42, 0, 0, 0], [0, 1, 1, 0, 4, 4, 1]),
+        (6, &[7, 0, 3, 0, 1, 2, 3, 0], [0, 1, 3, 0, 5, 4, 3]),
+        (
+            1,
+            &[10, 0, 8, 0, 9, 0, 0, 0, 10, 0, 0, 0],
+            [0, 2, 8, 0, 3, 9, 6],
+        ),
+        (5, &[4, 0, 99, 0, 6, 0, 3, 0, 8, 0], [4, 2, 3, 0, 1, 2, 0]),
+        (6, &[8, 0, 16, 0x80, 4, 0, 7, 0], [0, 3, 16, 7, 4, 4, 0]),
+        (0, &[9, 0, 3, 0, 5, 0, 2, 0, 1], [0, 3, 3, 2, 4, 2, 1]),
+    ];
+    let lent = [u64::MAX; 7];
+    for (family, bytes, wanted) in rows {
+        let mut fault = lent;
+        let is_refused = nlroute_fault(rt.alloc(), family, bytes, &mut fault[..6]) == -4;
+        assert!(rt; is_refused && fault == lent, "of family {family}");
+        let is_told = nlroute_fault(rt.alloc(), family, bytes, &mut fault) == 7;
+        assert!(rt; is_told && fault == wanted, "of family {family}");
+    }
+    let mut fault = lent;
+    assert!(rt; nlroute_fault(rt.alloc(), 7, &TWO, &mut fault) == 0 && fault == lent);
+    assert!(rt; nlroute_fault(rt.alloc(), 10, &[], &mut fault) == -5 && fault == lent);
+}
+
+#[test]
+fn reports(rt: HostRuntime) {
+    let rows: [(u32, &str, &str, u8); 4] = [
+        (
+            7,
+            "08 00 01 80\n2A 00 00 00",
+            "attr 1 len 4\nout 080001002a000000\nchanged\n",
+            0,
+        ),
+        (8, "", "out\nsame\n", 0),
+        (
+            1,
+            "08000100 2a000000",
+            "fault at 0: kind 1: wrong length 1 4\n",
+            1,
+        ),
+        (9, "0", "bad hex\n", 2),
+    ];
+    for (family, text, wanted, status) in rows {
+        assert!(rt; 0 < wanted.len() && wanted.len() <= 64);
+        let text = text.as_bytes();
+        let (mut out, mut code) = ([0xFF; 64], 9);
+        let short = &mut out[..wanted.len() - 1];
+        let is_refused = nlroute_report(rt.alloc(), family, text, short, &mut code) == -4;
+        assert!(rt;
+            is_refused && out == [0xFF; 64] && code == 9,
+            "for {wanted}"
+        );
+        let answer = nlroute_report(rt.alloc(), family, text, &mut out, &mut code);
+        let is_said = out.starts_with(wanted.as_bytes()) && code == status;
+        assert!(rt;
+            is_said && usize::try_from(answer) == Ok(wanted.len()),
+            "for {wanted}"
+        );
+    }
+}
+
+#[test]
+fn a_report_of_no_family(rt: HostRuntime) {
+    let (mut out, mut code) = (LENT, 9);
+    let answer = nlroute_report(rt.alloc(), 10, b"zz", &mut out, &mut code);
+    assert!(rt; answer == -5 && out == LENT && code == 9);
+}
