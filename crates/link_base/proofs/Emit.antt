@@ -1,35 +1,48 @@
 -- A frame is written in three parts, and a list one frame after another.
-use Rattle.std.proofs.Common.{◌≡◌, ℕ, ◌+◌, ◌-◌, ◌≤◌, ◌<◌, List, [], ◌∷◌, ◌++◌, length, take, drop, get_or, map, zero, suc, refl, sym, ap, subst, ◌∙◌, append_assoc, arith}
+use Rattle.std.proofs.Common.{◌≡◌, ℕ, ◌+◌, ◌-◌, ◌*◌, ◌/◌, ◌^◌, ◌≤◌, ◌<◌, min, List, [], ◌∷◌, ◌++◌, length, take, drop, get_or, map, zero, suc, refl, sym, ap, subst, ◌∙◌, append_assoc, arith}
 use Rattle.std.specs.Prelude.{replicate}
 use Rattle.std.specs.List.{AllByRecursion}
 use borrow.Rule.Slice.PartMut.{put_mid}
-use Rattle.std.proofs.lemmas.List.{length-append, length-replicate, length-drop, length-take, take_at, drop_at, append-nil, nil_from_length, drop-drop, take_more, map-append, length-map, take-append-drop}
-use Rattle.std.proofs.Math.Seq.{take-length}
+use Rattle.std.proofs.lemmas.List.{length-append, length-replicate, length-drop, length-take, take_at, drop_at, append-nil, nil_from_length, drop-drop, drop-replicate, drop-append-le, take_more, map-append, length-map, take-append-drop}
+use Rattle.std.proofs.Math.Seq.{take-length, drop-append-add}
 use Rattle.std.proofs.lemmas.Grind.{flat_map-append}
 use Rattle.std.proofs.lemmas.Slice.{take-put_mid, drop-put_mid, drop-append-drop}
 use Rattle.link_base.specs.Number.{bytes_of}
 use Rattle.link_base.specs.Frame.{frame_bytes, gap, pad}
 use Rattle.link_base.specs.Wire.{whole}
 use Rattle.link_base.specs.Table.{AttrValue, written_payload, written_frame, written_list, Fits}
-use Rattle.link_base.specs.Answers.{OverwritesFront, IsFirstUnfit}
+use Rattle.link_base.specs.Answers.{OverwritesFront, IsFirstUnfit, capped}
 
 -- a written frame has the length of its header and payload, rounded up to four
 pub length-whole_bytes : (f : ℕ) (p : List ℕ) → length (frame_bytes (whole f p)) ≡ pad (4 + length p)
 length-whole_bytes f p = omega (arith, length-append p (replicate (gap p) 0), length-replicate {A = ℕ} (gap p) 0)
 
--- header, payload and zeros, written one after another, are the frame
-pub put_frame : (b0 b1 b2 b3 : List ℕ) (f : ℕ) (p : List ℕ) (n end : ℕ) → n ≡ length p → end ≡ pad (4 + length p) → end ≤ length b0 → b1 ≡ (bytes_of 2 (4 + n) ++ bytes_of 2 f) ++ drop 4 b0
-    → b2 ≡ put_mid 4 n b1 p → b3 ≡ take (4 + n) b2 ++ (replicate (end - (4 + n)) 0 ++ drop end b2) → OverwritesFront b0 b3 (frame_bytes (whole f p))
+-- zeros over its last four bytes, then header and payload, are the frame
+pub put_frame : (b0 b1 b2 b3 : List ℕ) (f : ℕ) (p : List ℕ) (n end : ℕ) → n ≡ length p → end ≡ pad (4 + length p) → end ≤ length b0
+    → b1 ≡ take (end - 4) b0 ++ (replicate 4 0 ++ drop (end - 4 + 4) b0) → b2 ≡ (bytes_of 2 (4 + n) ++ bytes_of 2 f) ++ drop 4 b1 → b3 ≡ put_mid 4 n b2 p → OverwritesFront b0 b3 (frame_bytes (whole f p))
 put_frame b0 b1 b2 b3 f p n end e-n e-end room e1 e2 e3 =
     let head = bytes_of 2 (4 + n) ++ bytes_of 2 f in
-    let len1 : length b1 ≡ length b0 = omega (arith, ap length e1, length-append head (drop 4 b0), length-drop 4 b0) in
-    let front2 : take (4 + n) b2 ≡ take 4 b1 ++ p = ap (take (4 + n)) e2 ∙ take-put_mid 4 n b1 p (4 + n) (omega arith) (omega arith) in
-    let head1 : take 4 b1 ≡ head = ap (take 4) e1 ∙ take_at head (drop 4 b0) 4 refl in
-    let back2 : drop end b2 ≡ drop end b1 = ap (drop end) e2 ∙ drop-put_mid 4 n b1 p end (omega arith) (omega arith) (sym e-n) in
-    let back1 : drop end b1 ≡ drop end b0 = ap (drop end) e1 ∙ drop-append-drop 4 b0 head end (omega arith) refl in
-    let zeros : end - (4 + n) ≡ gap p = omega arith in
-    let len : end ≡ length (frame_bytes (whole f p)) = e-end ∙ sym (length-whole_bytes f p) in
-    e3 ∙ rw (front2, head1, back2, back1, zeros, len, e-n) (simp append_assoc)
+    let front = take (end - 4) b0 in
+    let tail = drop (end - 4 + 4) b0 in
+    let k = 4 + n - (end - 4) in
+    let zeros : List ℕ = replicate 4 0 in
+    let size : length front ≡ end - 4 = omega (arith, length-take (end - 4) b0) in
+    let len1 : length b1 ≡ length b0 = omega (arith, ap length e1, length-append front (zeros ++ tail), length-append zeros tail, length-drop (end - 4 + 4) b0, size) in
+    let len2 : length b2 ≡ length b0 = omega (arith, ap length e2, length-append head (drop 4 b1), length-drop 4 b1, len1) in
+    let front3 : take (4 + n) b3 ≡ head ++ p = ap (take (4 + n)) e3 ∙ take-put_mid 4 n b2 p (4 + n) (omega arith) (omega arith) ∙ ap (λ t. t ++ p) (ap (take 4) e2 ∙ take_at head (drop 4 b1) 4 refl) in
+    let back3 : drop (4 + n) b3 ≡ drop (4 + n) b2 = ap (drop (4 + n)) e3 ∙ drop-put_mid 4 n b2 p (4 + n) (omega arith) (omega arith) (sym e-n) in
+    let back2 : drop (4 + n) b2 ≡ drop (4 + n) b1 = ap (drop (4 + n)) e2 ∙ drop-append-drop 4 b1 head (4 + n) (omega arith) refl in
+    let place : length front + k ≡ 4 + n = omega arith in
+    let back1 : drop (4 + n) b1 ≡ replicate (4 - k) 0 ++ tail =
+    ap (λ i. drop i b1) (sym place) ∙ ap (drop (length front + k)) e1 ∙ drop-append-add front (zeros ++ tail) k ∙ drop-append-le k zeros tail (omega arith) ∙ ap (λ t. t ++ tail) (drop-replicate k 4 0) in
+    let gaps : 4 - k ≡ gap p = omega arith in
+    let long : end - 4 + 4 ≡ length (frame_bytes (whole f p)) = omega (arith, e-end, length-whole_bytes f p) in
+    let behind = drop (length (frame_bytes (whole f p))) b0 in
+    let header = bytes_of 2 (4 + length p) ++ bytes_of 2 f in
+    let whole_frame : (header ++ p) ++ (replicate (gap p) 0 ++ behind) ≡ frame_bytes (whole f p) ++ behind = simp append_assoc in
+    sym (take-append-drop (4 + n) b3) ∙ ap (λ t. t ++ drop (4 + n) b3) front3 ∙ ap (λ t. (head ++ p) ++ t) (back3 ∙ back2 ∙ back1)
+    ∙ ap (λ m. (head ++ p) ++ (replicate m 0 ++ tail)) gaps ∙ ap (λ i. (head ++ p) ++ (replicate (gap p) 0 ++ drop i b0)) long
+    ∙ ap (λ m. ((bytes_of 2 (4 + m) ++ bytes_of 2 f) ++ p) ++ (replicate (gap p) 0 ++ behind)) e-n ∙ whole_frame
 
 -- ---- one frame after another
 
@@ -97,6 +110,10 @@ frame_after b0 b b' text frame sub at so_far e-at room e-sub e-b' =
     let far : drop (length frame) (drop (length text) b0) ≡ drop (length (text ++ frame)) b0 = drop-drop (length frame) (length text) b0 ∙ ap (λ (n : ℕ). drop n b0) (sym (length-append text frame)) in
     let part : sub ≡ frame ++ drop (length (text ++ frame)) b0 = e-sub ∙ ap (λ (t : List ℕ). frame ++ drop (length frame) t) all ∙ ap (λ (t : List ℕ). frame ++ t) far in
     e-b' ∙ rw (front, past, part) (simp (append_assoc, append-nil))
+
+-- so many bytes, and a frame more
+pub measured_more : (n size : ℕ) (text frame : List ℕ) → n ≡ capped (length text) → length frame ≡ (size + 7) / 4 * 4 → min (n + (size + 7) / 4 * 4) (2 ^ 64 - 1) ≡ capped (length (text ++ frame))
+measured_more n size text frame e len = omega (arith, e, len, length-append text frame)
 
 -- where a value does not fit, not all do
 pub not_all_fit : (vs : List AttrValue) (i : ℕ) → IsFirstUnfit vs i → AllByRecursion Fits vs → ⊥

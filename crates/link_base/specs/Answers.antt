@@ -99,6 +99,10 @@ capped n = min n (2 ^ 64 - 1)
 abbrev pub OverwritesFront : List ℕ → List ℕ → List ℕ → Type 0
 OverwritesFront old new text = new ≡ text ++ drop (length text) old
 
+-- all values fit, and the written list has so many bytes
+abbrev pub IsMeasured : List AttrValue → ℕ → Type 0
+IsMeasured vs n = AllByRecursion Fits vs × (n ≡ capped (length (written_list vs)))
+
 -- the values before place i fit, and the one at i does not
 pub record IsFirstUnfit (vs : List AttrValue) (i : ℕ) : Type 0 where
   pub before : List AttrValue

@@ -1,6 +1,6 @@
 //! What a family of attributes promises: the traits, and the laws that come with them.
 
-ghost use Rattle.std.specs.Prelude.{◌≡◌, ◌≤◌, ◌-◌, ◌++◌, ◌↔◌, IsTrue, length, take, drop, replicate};
+ghost use Rattle.std.specs.Prelude.{◌≡◌, ◌≤◌, ◌+◌, ◌++◌, ◌↔◌, IsTrue, length, take, drop, replicate};
 ghost use Rattle.link_base.specs.Number.{bytes_of};
 ghost use Rattle.link_base.specs.Frame.{kind_of};
 ghost use Rattle.link_base.specs.Table.{Table, AttrValue, Gives, TakesMemory, Fits};
@@ -73,11 +73,22 @@ pub trait Nla: Meaning {
         ensures written { OverwritesFront buffer.old buffer.new (written_frame (Self.means self.now)) }
         ensures in_range { IsInRange Self.table (Self.means self.now) }
     {
-        let size = self.value_len();
-        let end = (size + 7) / 4 * 4;
-        put_header(buffer, self.kind(), 4 + size as u16);
+        self.emit_sized(self.value_len(), buffer);
+    }
+
+    /// What `emit` does, for a caller that has asked for `value_len` already. Requires that `size` is that.
+    fn emit_sized(&self, size: usize, buffer: &mut [u8])
+        requires size { size ≡ length (written_payload (Self.means self.now)) }
+        requires fits { Fits (Self.means self.now) }
+        requires room { length (written_frame (Self.means self.now)) ≤ length buffer.old }
+        ensures written { OverwritesFront buffer.old buffer.new (written_frame (Self.means self.now)) }
+        ensures in_range { IsInRange Self.table (Self.means self.now) }
+    {
+        let kind_field = self.kind();
+        // the last four bytes of the frame, which all padding is among
+        put_zeros(buffer, (size + 7) / 4 * 4 - 4);
+        put_header(buffer, kind_field, 4 + size as u16);
         self.emit_value(&mut buffer[4..4 + size]);
-        put_zeros(buffer, 4 + size, end);
     }
 }
 
@@ -90,12 +101,11 @@ fn put_header(buffer: &mut [u8], kind_field: u16, stated: u16)
     buffer[..4].copy_from_slice(&[a, b, c, d]);
 }
 
-fn put_zeros(buffer: &mut [u8], start: usize, end: usize)
-    requires ordered { start ≤ end }
-    requires room { end ≤ length buffer.old }
-    ensures { buffer.new ≡ take start buffer.old ++ (replicate (end - start) 0 ++ drop end buffer.old) }
+fn put_zeros(buffer: &mut [u8], start: usize)
+    requires { start + 4 ≤ length buffer.old }
+    ensures { buffer.new ≡ take start buffer.old ++ (replicate 4 0 ++ drop (start + 4) buffer.old) }
 {
-    buffer[start..end].fill(0);
+    buffer[start..start + 4].copy_from_slice(&[0; 4]);
 }
 
 /// A value that can be read from an attribute. A type gives `parse_payload`, a `match` on the kind.

@@ -1,12 +1,12 @@
 //! Lists of attributes, written.
 
-ghost use Rattle.std.specs.Prelude.{◌≡◌, ◌≤◌, ◌<◌, ◌^◌, ◌↔◌, IsTrue, OnOk, length, map, MatchOption};
+ghost use Rattle.std.specs.Prelude.{◌≡◌, ◌≤◌, ◌<◌, ◌^◌, ◌↔◌, IsTrue, OnOk, length, map, MatchResult};
 ghost use Rattle.std.specs.List.{AllByRecursion};
 ghost use Rattle.link_base.specs.Table.{Fits, written_list};
 ghost use Rattle.link_base.specs.Held.{IsInRange};
-ghost use Rattle.link_base.specs.Answers.{capped, OverwritesFront, IsFirstUnfit, WriteAnswers};
+ghost use Rattle.link_base.specs.Answers.{capped, OverwritesFront, IsMeasured, IsFirstUnfit, WriteAnswers};
 
-use crate::attribute::Attribute;
+use crate::attribute::{Attribute, MAX_PAYLOAD};
 use crate::fault::WriteError;
 use std::alloc::{AllocError, Global};
 
@@ -25,22 +25,25 @@ pub fn list_len<F: Attribute>(values: &[F]) -> usize
 pub fn list_fits<F: Attribute>(values: &[F]) -> bool
     ensures { IsTrue result ↔ AllByRecursion Fits (map F.means values.now) }
 {
-    match first_unfit(values) {
-        Some(_) => false,
-        None => true,
+    match measured(values) {
+        Ok(_) => true,
+        Err(_) => false,
     }
 }
 
-fn first_unfit<F: Attribute>(values: &[F]) -> Option<usize>
-    ensures { MatchOption result (AllByRecursion Fits (map F.means values.now))
-        (IsFirstUnfit (map F.means values.now)) }
+/// The bytes of the written list, as `list_len` has them; or the place of the first value that does not fit.
+fn measured<F: Attribute>(values: &[F]) -> Result<usize, usize>
+    ensures { MatchResult result (IsMeasured (map F.means values.now)) (IsFirstUnfit (map F.means values.now)) }
 {
+    let mut len = 0usize;
     for (i, value) in values.iter().enumerate() {
-        if !value.fits() {
-            return Some(i);
+        let size = value.value_len();
+        if size > MAX_PAYLOAD {
+            return Err(i);
         }
+        len = len.saturating_add((size + 7) / 4 * 4);
     }
-    None
+    Ok(len)
 }
 
 /// Writes the list to the front of a buffer of at least `list_len` bytes, and leaves the bytes behind it as they
@@ -53,8 +56,9 @@ pub fn emit_list<F: Attribute>(values: &[F], buffer: &mut [u8])
 {
     let mut at = 0usize;
     for value in values {
-        value.emit(&mut buffer[at..]);
-        at += value.buffer_len();
+        let size = value.value_len();
+        value.emit_sized(size, &mut buffer[at..]);
+        at += (size + 7) / 4 * 4;
     }
 }
 
@@ -64,13 +68,13 @@ pub fn write_list<F: Attribute>(alloc: Global, values: &[F]) -> Result<Vec<u8>, 
     ensures answer { WriteAnswers (map F.means values.now) result }
     ensures in_range { OnOk result (AllByRecursion (IsInRange F.table) (map F.means values.now)) }
 {
-    if let Some(index) = first_unfit(values) {
-        return Err(WriteError::TooLong { index });
-    }
+    let len = match measured(values) {
+        Ok(len) => len,
+        Err(index) => return Err(WriteError::TooLong { index }),
+    };
     if values.is_empty() {
         return Ok(Vec::new(alloc));
     }
-    let len = list_len(values);
     if len == usize::MAX {
         return Err(WriteError::Memory(AllocError));
     }
