@@ -6,7 +6,7 @@ ghost use Rattle.netlink_packet_route.specs.Answers.{OverwritesFront};
 ghost use Rattle.netlink_packet_route.specs.Class.{Number, Name, Boolean, EtherType};
 ghost use Rattle.netlink_packet_route.specs.Table.{Case, Single, Inner, Fits, written_list};
 ghost use Rattle.netlink_packet_route.specs.Vlan.{mapping_leaf};
-ghost use Rattle.uses.specs.Building.{BufferFails};
+ghost use Rattle.uses.specs.Building.{BufferFails, IsMemory};
 
 use netlink_packet_route::link::{
     Attribute, BondLacpRate, BondMode, BridgeStpState, InfoBond, InfoBridge, InfoVlan,
@@ -85,12 +85,16 @@ pub fn bridge_request(alloc: Global, forward_delay: u32) -> Result<Vec<u8>, Allo
 }
 
 /// A request for an 802.1ad VLAN: its identifier, and the priority `to` in the tags of packets of priority `from`.
+/// Fails only where an allocation failed.
+#[tactic(auto, using(crate::proofs::Fitting::none_unfit))]
 pub fn vlan_request(alloc: Global, id: u16, from: u32, to: u32) -> Result<Vec<u8>, WriteError>
-    ensures { IfOk result (λ out. out.items ≡ written_list (
+    ensures written { IfOk result (λ out. out.items ≡ written_list (
         Case 5 (Single (EtherType 0x88A8)) ∷ Case 1 (Single (Number 2 id))
         ∷ Case 3 (Inner false (mapping_leaf (VlanQosMapping.Mapping from to) ∷ [])) ∷ [])) }
+    ensures memory { IfErr result IsMemory }
 {
-    let egress = vec![in alloc; VlanQosMapping::Mapping(from, to)]?;
+    let mapping = VlanQosMapping::Mapping(from, to);
+    let egress = vec![in alloc; mapping].map_err(|_| WriteError::Memory(AllocError))?;
     let request = [
         InfoVlan::Protocol(VlanProtocol::Ieee8021Ad),
         InfoVlan::Id(id),

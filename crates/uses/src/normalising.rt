@@ -5,7 +5,7 @@ ghost use Rattle.netlink_packet_route.specs.Family.{table_of};
 ghost use Rattle.netlink_packet_route.specs.Rewrite.{RewriteAnswers};
 ghost use Rattle.netlink_packet_route.specs.Table.{Canonical, Rewriting};
 
-use netlink_packet_route::{Family, RewriteError, laws, rewrite};
+use netlink_packet_route::{Family, RewriteError, laws, link, rewrite};
 use std::alloc::Global;
 
 /// The list, read and written again, and whether it was canonical: exactly then it is the same.
@@ -24,12 +24,15 @@ pub fn normalised(
 }
 
 /// The list in canonical form: read and written again, twice.
+#[tactic(auto, using(crate::proofs::Fitting::settled))]
 pub fn canonical(alloc: Global, family: Family, bytes: &[u8]) -> Result<Vec<u8>, RewriteError>
     ensures canonical { IfOk result (λ out. Canonical (table_of family) out.items) }
     ensures second { IfOk result (λ out. (once : List ℕ)
         × Rewriting (table_of family) bytes.now once × Rewriting (table_of family) once out.items) }
+    ensures refused { IfErr result (λ error. RewriteAnswers (table_of family) bytes.now (Err error)) }
 {
     laws::second_rewriting();
+    link::laws::one_reading();
     let once = rewrite(alloc, family, bytes)?;
     let twice = rewrite(alloc, family, &once)?;
     Ok(twice)
