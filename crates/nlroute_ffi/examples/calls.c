@@ -104,6 +104,16 @@ static void refusals(void) {
     check(nlroute_read(NLROUTE_VLAN, vlan, 30) == -1 && nlroute_read(10, vlan, 32) == -5, "-1 and -5 of a count");
 }
 
+/* A payload of one byte where four are wanted, and a short frame behind it. */
+static void room_first(void) {
+    const uint8_t short_value[10] = {5, 0, 1, 0, 42, 0, 0, 0, 3, 0};
+    memory_is_out = true;
+    ptrdiff_t answer = nlroute_read(NLROUTE_DSA, short_value, 10);
+    memory_is_out = false;
+    check(answer == NLROUTE_NO_MEMORY, "room for all values is asked for before the first one is read");
+    check(nlroute_read(NLROUTE_DSA, short_value, 10) == NLROUTE_HAS_FAULT, "with memory its fault is found");
+}
+
 static void faults(void) {
     uint64_t fault[8], wanted[7] = {16, NLROUTE_FRAME, 0, 0, NLROUTE_OVERRUN, 16, 14};
     memset(fault, 0xFF, sizeof fault);
@@ -152,6 +162,7 @@ int main(void) {
     families();
     rewriting();
     refusals();
+    room_first();
     faults();
     reports();
     return failed;

@@ -72,7 +72,7 @@ fn forty_frames(rt: HostRuntime) {
     );
     for i in 0..table.len() {
         let frame = table.frame(i);
-        let is_so = usize::from(frame.kind()) == i && frame.value() == [0x2A];
+        let is_so = usize::from(frame.kind()) == i && frame.value() == [0x2A].as_slice();
         holds(&rt, is_so && table.offset(i) / 8 == i, "a frame");
     }
 }
