@@ -10,6 +10,8 @@ pub mod Written
 pub mod Rewritings
 pub mod Addresses
 pub mod AddressLists
+pub mod CanonicalLists
+pub mod NameFields
 pub mod Leaves
 pub mod Contents
 pub mod Copies
@@ -18,6 +20,7 @@ pub mod Begins
 pub mod Emit
 pub mod Walking
 pub mod TableReads
+pub mod Relays
 pub mod Lifted
 pub mod KindFaults
 pub mod JoinedLemmas

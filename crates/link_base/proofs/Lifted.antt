@@ -1,6 +1,6 @@
 -- A table without lists reads and writes as the table that it is.
-use Rattle.std.proofs.Common.{◌≡◌, ℕ, ◌≤◌, Bool, true, false, cond, List, [], ◌∷◌, ◌++◌, length, map, Option, Some, None, Result, Ok, Err, refl, ap, ap₂, subst, ◌∙◌, arith, inl, inr}
-use Rattle.std.specs.Prelude.{◌==◌}
+use Rattle.std.proofs.Common.{◌≡◌, ℕ, ◌≤◌, Bool, true, false, cond, List, [], ◌∷◌, ◌++◌, length, map, Option, Some, None, Result, Ok, Err, refl, sym, ap, ap₂, subst, ◌∙◌, arith, inl, inr}
+use Rattle.std.specs.Prelude.{◌==◌, ◌↔◌}
 use Rattle.std.specs.List.{AllZip, AllByRecursion}
 use Rattle.std.proofs.lemmas.List.{length-append}
 use Rattle.link_base.specs.declared.fault.Cause.{Cause}
@@ -9,8 +9,8 @@ use Rattle.link_base.specs.declared.fault.ListError.{ListError}
 use Rattle.link_base.specs.declared.fault.ListError.TheVariants as list_errors
 use Rattle.link_base.specs.Frame.{Frame, kind_of, frame_bytes}
 use Rattle.link_base.specs.Class.{Class, Value, class_value}
-use Rattle.link_base.specs.Wire.{Wire, FirstFault, FaultsHere, whole}
-use Rattle.link_base.specs.Table.{Rows, class_at, Leaf, Case, Other, LeafGives, leaf_by, leaf_case, leaf_field, leaf_payload, written_leaves, Shape, One, Single, Inner, Table, AttrValue, Gives, GivesBy, single_case, ListGives, written_list, written_kind, written_payload, Fits}
+use Rattle.link_base.specs.Wire.{Wire, FirstFault, FaultsHere, IsCanonicalFrame, CanonicalBy, whole}
+use Rattle.link_base.specs.Table.{Rows, class_at, Leaf, Case, Other, LeafGives, leaf_by, leaf_case, leaf_field, leaf_payload, written_leaves, Shape, One, Single, Inner, Table, AttrValue, Gives, GivesBy, single_case, ListGives, written_list, written_kind, written_payload, Fits, leaf_allows_by, LeafAllows, allows_by, Allows, Canonical}
 use Rattle.link_base.specs.Held.{LeafInRange, LeafInRangeBy, IsInRange, InRangeBy}
 use Rattle.link_base.specs.Lift.{lift, lift_table}
 use Rattle.link_base.specs.Answers.{Fails, ListFails, nested_error}
@@ -158,3 +158,32 @@ all_by rows (v ∷ vs) h = (in_range rows v h.0, all_by rows vs h.1)
 pub all_in_range : (table : Table) (rows : Rows) (ms : List AttrValue) (vs : List Leaf) → table ≡ lift_table rows → ms ≡ map lift vs → AllByRecursion (IsInRange table) ms → AllByRecursion (LeafInRange rows) vs
 all_in_range table rows ms vs e-table e-ms h =
     all_by rows vs (subst (λ (t : Table). AllByRecursion (IsInRange t) (map lift vs)) e-table (subst (λ (us : List AttrValue). AllByRecursion (IsInRange table) us) e-ms h))
+
+-- ---- canonical
+
+-- an element without a list is canonical in a table of the same rows
+allowed_by : (o : Option Class) (f : ℕ) (p : List ℕ) → allows_by (lift_option o) f p ↔ leaf_allows_by o f p
+allowed_by None f p = (λ h. h, λ h. h)
+allowed_by (Some c) f p = (λ h. (omega (arith, h.0), h.1), λ h. (omega (arith, h.0), h.1))
+
+allowed : (rows : Rows) (f : ℕ) (p : List ℕ) → Allows (lift_table rows) f p ↔ LeafAllows rows f p
+allowed rows f p =
+    let k = kind_of f in
+    let same = class_at-lift rows k in
+    let by = allowed_by (class_at rows k) f p in
+    (λ h. by.0 (subst (λ (o : Option Shape). allows_by o f p) same h), λ h. subst (λ (o : Option Shape). allows_by o f p) (sym same) (by.1 h))
+
+-- frames that are canonical by one rule are so by another
+canonical_each : (P Q : ℕ → List ℕ → Type 0) → ((f : ℕ) (p : List ℕ) → P f p → Q f p) → (xs : List Frame) → AllByRecursion (IsCanonicalFrame P) xs → AllByRecursion (IsCanonicalFrame Q) xs
+canonical_each P Q to [] h = tt
+canonical_each P Q to (x ∷ xs) h = (record { complete = h.0.complete; zeros = h.0.zeros; allowed = to x.kind_field x.payload h.0.allowed }, canonical_each P Q to xs h.1)
+
+canonical_by : (P Q : ℕ → List ℕ → Type 0) → ((f : ℕ) (p : List ℕ) → P f p → Q f p) → (s : List ℕ) → CanonicalBy P s → CanonicalBy Q s
+canonical_by P Q to s c = record { frames = c.frames; string = c.string; each = canonical_each P Q to c.frames c.each }
+
+-- a nested list is canonical where it is so in the table of its type
+pub nested_canonical : (table : Table) (rows : Rows) (s : List ℕ) → table ≡ lift_table rows → Canonical table s ↔ CanonicalBy (LeafAllows rows) s
+nested_canonical table rows s e = (
+  λ h. canonical_by (Allows (lift_table rows)) (LeafAllows rows) (λ f p. (allowed rows f p).0) s (subst (λ (t : Table). Canonical t s) e h),
+  λ h. subst (λ (t : Table). Canonical t s) (sym e) (canonical_by (LeafAllows rows) (Allows (lift_table rows)) (λ f p. (allowed rows f p).1) s h),
+)

@@ -68,13 +68,13 @@ first_frame-room s offsets fault n found same refused = elim (cases_lt 0 (length
 
 -- ---- values, one more each time
 
-all_zip-push : {A B : Type 0} (P : A → B → Type 0) (xs : List A) (ys : List B) (x : A) (y : B) → AllZip P xs ys → P x y → AllZip P (xs ++ x ∷ []) (ys ++ y ∷ [])
+pub all_zip-push : {A B : Type 0} (P : A → B → Type 0) (xs : List A) (ys : List B) (x : A) (y : B) → AllZip P xs ys → P x y → AllZip P (xs ++ x ∷ []) (ys ++ y ∷ [])
 all_zip-push P [] [] x y h p = (p, tt)
 all_zip-push P [] (b ∷ ys) x y h p = absurd h
 all_zip-push P (a ∷ xs) [] x y h p = absurd h
 all_zip-push P (a ∷ xs) (b ∷ ys) x y h p = (h.0, all_zip-push P xs ys x y h.1 p)
 
-all_zip-all : {A B : Type 0} (P : A → B → Type 0) (xs : List A) (ys : List B) → AllZip P xs ys → AllByRecursion (λ x. (y : B) × P x y) xs
+pub all_zip-all : {A B : Type 0} (P : A → B → Type 0) (xs : List A) (ys : List B) → AllZip P xs ys → AllByRecursion (λ x. (y : B) × P x y) xs
 all_zip-all P [] ys h = tt
 all_zip-all P (x ∷ xs) [] h = absurd h
 all_zip-all P (x ∷ xs) (y ∷ ys) h = ((y, h.0), all_zip-all P xs ys h.1)

@@ -15,7 +15,7 @@ use Rattle.link_base.proofs.Fronts.{frame_fault-frame, length-frame_bytes, lengt
 
 -- ---- frames and one more
 
-spelled-push : (xs : List Frame) (x : Frame) → spelled (xs ++ x ∷ []) ≡ spelled xs ++ frame_bytes x
+pub spelled-push : (xs : List Frame) (x : Frame) → spelled (xs ++ x ∷ []) ≡ spelled xs ++ frame_bytes x
 spelled-push xs x = flat_map-append frame_bytes xs (x ∷ []) ∙ ap (λ t. spelled xs ++ t) (append-nil (frame_bytes x))
 
 starts-push : (at : ℕ) (xs : List Frame) (x : Frame) → starts at (xs ++ x ∷ []) ≡ starts at xs ++ (at + length (spelled xs)) ∷ []
@@ -34,7 +34,7 @@ complete_frames [] h = tt
 complete_frames (x ∷ []) h = record { kind_field = h.0.kind_field; payload = h.0.payload; padding = omega (arith, h.0.padding) }
 complete_frames (x ∷ y ∷ xs) h = (h.0, complete_frames (y ∷ xs) h.1)
 
-frames_push : (xs : List Frame) (x : Frame) → AllByRecursion IsComplete xs → IsFrame x → AreFrames (xs ++ x ∷ [])
+pub frames_push : (xs : List Frame) (x : Frame) → AllByRecursion IsComplete xs → IsFrame x → AreFrames (xs ++ x ∷ [])
 frames_push [] x h is = is
 frames_push (y ∷ []) x h is = (h.0, is)
 frames_push (y ∷ z ∷ xs) x h is = (h.0, frames_push (z ∷ xs) x h.1 is)
@@ -55,7 +55,11 @@ pub record Counted (s : List ℕ) (count : ℕ) (rest : List ℕ) : Type 0 where
 pub counted_none : (s : List ℕ) → Counted s 0 s
 counted_none s = record { front = []; string = refl; frames = inr tt; many = refl }
 
-all_complete : (rest : List ℕ) (front : List Frame) → ((rest ≡ []) × AreFrames front) ⊎ AllByRecursion IsComplete front → rest ≢ [] → AllByRecursion IsComplete front
+pub front_none : (s : List ℕ) → (counted_none s).front ≡ []
+unfolding counted_none
+front_none s = refl
+
+pub all_complete : (rest : List ℕ) (front : List Frame) → ((rest ≡ []) × AreFrames front) ⊎ AllByRecursion IsComplete front → rest ≢ [] → AllByRecursion IsComplete front
 all_complete rest front (inl h) some = absurd (some h.0)
 all_complete rest front (inr h) some = h
 
@@ -64,11 +68,11 @@ still_frames : (next : List ℕ) (front : List Frame) (x : Frame) → AllByRecur
 still_frames next front x h is (inl e) = inl (e, frames_push front x h is)
 still_frames next front x h is (inr complete) = inr (complete_push front x h complete)
 
-are_frames : (rest : List ℕ) (front : List Frame) → ((rest ≡ []) × AreFrames front) ⊎ AllByRecursion IsComplete front → AreFrames front
+pub are_frames : (rest : List ℕ) (front : List Frame) → ((rest ≡ []) × AreFrames front) ⊎ AllByRecursion IsComplete front → AreFrames front
 are_frames rest front (inl h) = h.1
 are_frames rest front (inr h) = complete_frames front h
 
-some_bytes : (s : List ℕ) → s ≢ [] → 0 < length s
+pub some_bytes : (s : List ℕ) → s ≢ [] → 0 < length s
 some_bytes [] e = absurd (e refl)
 some_bytes (b ∷ s) e = omega arith
 
@@ -83,6 +87,11 @@ counted_more s count rest next f p w some split =
       frames = still_frames next w.front x (all_complete rest w.front w.frames some) split.is split.last;
       many = omega (arith, w.many, length-append w.front (x ∷ []));
     }
+
+pub front_more : (s : List ℕ) (count : ℕ) (rest next : List ℕ) (f : ℕ) (p : List ℕ) (w : Counted s count rest) (some : rest ≢ []) (split : Splits rest f p next)
+    → (counted_more s count rest next f p w some split).front ≡ w.front ++ record { kind_field = f; payload = p; padding = split.padding } ∷ []
+unfolding counted_more
+front_more s count rest next f p w some split = refl
 
 -- as many frames as bytes at most
 pub few_frames : (xs : List Frame) → length xs ≤ length (spelled xs)

@@ -10,6 +10,7 @@ pub mod Lawful
 pub mod Texts
 pub mod Buffer
 pub mod Answers
+pub mod Rewritten
 pub mod Address
 pub mod Addresses
 pub mod Layout

@@ -7,7 +7,7 @@ use Rattle.link_base.specs.declared.fault.DecodeFault.TheVariants as faults
 use Rattle.link_base.specs.Frame.{Frame, IsComplete, kind_of, frame_bytes, spelled}
 use Rattle.link_base.specs.Class
 use Rattle.link_base.specs.Class.{Class, Value, class_value, written, IsCanonicalPayload}
-use Rattle.link_base.specs.Wire.{Reading, Reads, CanonicalBy, RewritingBy, written_by, FitsBy, whole}
+use Rattle.link_base.specs.Wire.{Reading, Reads, CanonicalBy, FirstOtherBy, RewritingBy, written_by, FitsBy, whole}
 
 -- ---- rows, and attributes of a table
 
@@ -257,6 +257,10 @@ Allows table f p = allows_by (class_at table (kind_of f)) f p
 -- the canonical grammar
 abbrev pub Canonical : Table → List ℕ → Type 0
 Canonical table s = CanonicalBy (Allows table) s
+
+-- the first attribute that is not canonical, or the bytes that are none, stand at this offset
+abbrev pub FirstNotCanonical : Table → List ℕ → ℕ → Type 0
+FirstNotCanonical table s at = FirstOtherBy (Allows table) s at
 
 -- t is what is written for the values of s, which all fit
 abbrev pub Rewriting : Table → List ℕ → List ℕ → Type 0

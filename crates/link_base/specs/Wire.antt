@@ -72,6 +72,20 @@ pub record CanonicalBy (allows : ℕ → List ℕ → Type 0) (s : List ℕ) : T
   pub string : s ≡ spelled frames
   pub each : AllByRecursion (IsCanonicalFrame allows) frames
 
+-- some bytes begin with this kind field and payload, complete and padded with zeros, and these bytes follow
+abbrev pub SplitsWhole : List ℕ → ℕ → List ℕ → List ℕ → Type 0
+SplitsWhole s f p rest = IsComplete (whole f p) × (s ≡ frame_bytes (whole f p) ++ rest)
+
+-- canonical frames, and then some bytes that no canonical frame begins
+pub record FirstOtherBy (allows : ℕ → List ℕ → Type 0) (s : List ℕ) (at : ℕ) : Type 0 where
+  pub front : List Frame
+  pub rest : List ℕ
+  pub string : s ≡ spelled front ++ rest
+  pub each : AllByRecursion (IsCanonicalFrame allows) front
+  pub some : 0 < length rest
+  pub offset : at ≡ length (spelled front)
+  pub here : (x : Frame) (after : List ℕ) → rest ≡ frame_bytes x ++ after → ¬ (IsCanonicalFrame allows x)
+
 -- ---- rewriting
 
 -- t is what is written for the values of s, which all fit

@@ -3,7 +3,7 @@
 ghost use Rattle.std.specs.Prelude.{◌≡◌, ◌≤◌, ◌+◌, ◌++◌, ◌↔◌, IsTrue, length, take, drop, replicate};
 ghost use Rattle.link_base.specs.Number.{bytes_of};
 ghost use Rattle.link_base.specs.Frame.{kind_of};
-ghost use Rattle.link_base.specs.Table.{Table, AttrValue, Gives, TakesMemory, Fits};
+ghost use Rattle.link_base.specs.Table.{Table, AttrValue, Gives, TakesMemory, Fits, Allows};
 ghost use Rattle.link_base.specs.Table.{written_kind, written_payload, written_frame};
 ghost use Rattle.link_base.specs.Held.{IsInRange};
 ghost use Rattle.link_base.specs.WellFormed.{is_table};
@@ -132,6 +132,11 @@ pub trait Parseable: Meaning + Drop {
 
 /// An attribute of one family: what is read and what is written agree, by these laws.
 pub trait Attribute: Nla + Parseable + Eq {
+    /// Whether the kind field and the payload of a frame are canonical: those that are written for the value that they
+    /// read as. No value is built. Padding is judged with the list, by `list_is_canonical`.
+    fn canonical(buffer: &NlaBuffer<'_>) -> bool
+        ensures { IsTrue result ↔ Allows Self.table (kind_field_of buffer.now) (payload_of buffer.now) };
+
     /// The laws of one attribute hold of the type's table.
     ghost lawful: { IsLawful Self.table };
 

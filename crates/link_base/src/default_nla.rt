@@ -82,6 +82,11 @@ impl Attribute for DefaultNla {
     ghost use Rattle.link_base.specs.DefaultLawful.{default_lawful};
     ghost use Rattle.link_base.specs.Equality.{defaults};
 
+    /// True of each: every kind field and payload is written as it was read.
+    fn canonical(_frame: &NlaBuffer<'_>) -> bool {
+        true
+    }
+
     ghost lawful = { default_lawful };
 
     ghost well_formed = { refl };

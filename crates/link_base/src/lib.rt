@@ -5,6 +5,7 @@ mod address_list;
 mod attribute;
 mod buffer;
 mod buffer_tool;
+mod canonical;
 mod default_nla;
 mod emitable;
 pub mod examples;
@@ -19,6 +20,7 @@ pub mod named_laws;
 mod nested;
 mod octets;
 mod records;
+mod rewriting;
 mod scalars;
 mod try_clone;
 mod vlan_protocol;
@@ -28,6 +30,10 @@ pub use address_list::{Address, addresses_len, emit_addresses, parse_address, re
 pub use attribute::{Attribute, Meaning, Nla, Parseable};
 pub use buffer::{NLA_F_NESTED, NLA_F_NET_BYTEORDER, NLA_TYPE_MASK, NlaBuffer};
 pub use buffer_tool::expand_buffer_if_small;
+pub use canonical::{
+    first_not_canonical, has_size, is_address_list, is_bytes, is_limits, is_low, is_nested,
+    is_protocol, is_truth, is_void, list_is_canonical,
+};
 pub use default_nla::DefaultNla;
 pub use emitable::Emitable;
 pub use fault::{Cause, DecodeError, DecodeFault, ListError, WriteError};
@@ -39,6 +45,7 @@ pub use nested::{NestedAttribute, emit_nested, nested_len, read_nested};
 pub use records::{
     check_at_least, check_exactly, check_length, emit_u32s, u16_at, u32_at, u32s_at,
 };
+pub use rewriting::rewrite_list;
 pub use scalars::{
     emit_i32, emit_low, emit_mac, emit_u8, emit_u16, emit_u16_be, emit_u32, emit_u32_pair,
     emit_u64, parse_bool, parse_i32, parse_ip, parse_low, parse_mac, parse_u8, parse_u16,
@@ -46,4 +53,4 @@ pub use scalars::{
 };
 pub use try_clone::{TryClone, try_clone_list};
 pub use vlan_protocol::VlanProtocol;
-pub use writing::{emit_list, list_fits, list_len, write_list};
+pub use writing::{emit_list, list_fits, list_len, measure_list, write_list};

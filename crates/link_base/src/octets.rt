@@ -4,14 +4,18 @@ ghost use Rattle.std.specs.Prelude.{◌≡◌, List, ℕ, length, IfOk};
 ghost use Rattle.std.specs.Cmp.Rules.{comparing};
 ghost use Rattle.std.proofs.Common.{rules};
 
+use smallvec::SmallVec;
 use std::alloc::{AllocError, Global};
 use std::fmt;
 use std::marker::Model;
 
+/// How many bytes take no memory of their own.
+const INLINE: usize = 24;
+
 /// Some bytes. Two are equal where they have the same bytes in the same order.
 #[derive(Drop)]
 pub(crate) struct Octets {
-    bytes: Vec<u8>,
+    bytes: SmallVec<u8, INLINE>,
 }
 
 impl Model for Octets {
@@ -24,13 +28,15 @@ impl Octets {
     pub(crate) fn new(bytes: Vec<u8>) -> Self
         ensures { result ≡ bytes.items }
     {
-        Octets { bytes }
+        Octets {
+            bytes: SmallVec::from_vec(bytes),
+        }
     }
 
     pub(crate) fn from_slice(alloc: Global, bytes: &[u8]) -> Result<Self, AllocError>
         ensures { IfOk result (λ o. o ≡ bytes.now) }
     {
-        let bytes = Vec::from_slice(alloc, bytes)?;
+        let bytes = SmallVec::from_slice(alloc, bytes)?;
         Ok(Octets { bytes })
     }
 
@@ -57,7 +63,7 @@ impl Octets {
 
 impl fmt::Debug for Octets {
     fn fmt<W: fmt::Write>(&self, f: &mut fmt::Formatter<W>) -> fmt::Result {
-        self.bytes.fmt(f)
+        self.bytes.as_slice().fmt(f)
     }
 }
 
@@ -70,7 +76,7 @@ impl PartialEq for Octets {
     ghost laws = { Prim.search (comparing, rules) };
 
     fn eq(&self, other: &Self) -> bool {
-        self.bytes == other.bytes
+        self.bytes.as_slice() == other.bytes.as_slice()
     }
 }
 

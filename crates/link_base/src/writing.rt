@@ -25,14 +25,15 @@ pub fn list_len<F: Attribute>(values: &[F]) -> usize
 pub fn list_fits<F: Attribute>(values: &[F]) -> bool
     ensures { IsTrue result ↔ AllByRecursion Fits (map F.means values.now) }
 {
-    match measured(values) {
+    match measure_list(values) {
         Ok(_) => true,
         Err(_) => false,
     }
 }
 
-/// The bytes of the written list, as `list_len` has them; or the place of the first value that does not fit.
-fn measured<F: Attribute>(values: &[F]) -> Result<usize, usize>
+/// How many bytes the written list has, as `list_len` answers; or the place of the first value, counted from 0, that
+/// does not fit.
+pub fn measure_list<F: Attribute>(values: &[F]) -> Result<usize, usize>
     ensures { MatchResult result (IsMeasured (map F.means values.now)) (IsFirstUnfit (map F.means values.now)) }
 {
     let mut len = 0usize;
@@ -68,7 +69,7 @@ pub fn write_list<F: Attribute>(alloc: Global, values: &[F]) -> Result<Vec<u8>, 
     ensures answer { WriteAnswers (map F.means values.now) result }
     ensures in_range { OnOk result (AllByRecursion (IsInRange F.table) (map F.means values.now)) }
 {
-    let len = match measured(values) {
+    let len = match measure_list(values) {
         Ok(len) => len,
         Err(index) => return Err(WriteError::TooLong { index }),
     };

@@ -22,9 +22,9 @@ pub use fail_over_mac::BondFailOverMac;
 pub use lacp_rate::BondLacpRate;
 use link_base::{
     Attribute, DecodeError, DefaultNla, Meaning, Nla, NlaBuffer, Parseable, TryClone,
-    addresses_len, emit_addresses, emit_mac, emit_nested, emit_u8, emit_u16, emit_u32, nested_len,
-    parse_bool, parse_mac, parse_u8, parse_u16, parse_u32, read_addresses, read_nested,
-    try_clone_list,
+    addresses_len, emit_addresses, emit_mac, emit_nested, emit_u8, emit_u16, emit_u32, has_size,
+    is_address_list, is_nested, is_truth, nested_len, parse_bool, parse_mac, parse_u8, parse_u16,
+    parse_u32, read_addresses, read_nested, try_clone_list,
 };
 pub use mode::BondMode;
 pub use primary_reselect::BondPrimaryReselect;
@@ -443,6 +443,45 @@ impl Attribute for InfoBond {
     };
     ghost use Rattle.link_bond.specs.contracts.bond.ad_info.BondAdInfoAttribute.TheImpl.Laws.{thorough-law as infos};
     ghost use Rattle.link_bond.specs.contracts.bond.InfoBond.{enum};
+
+    fn canonical(buffer: &NlaBuffer<'_>) -> bool {
+        match buffer.kind() {
+            IFLA_BOND_MODE
+            | IFLA_BOND_PRIMARY_RESELECT
+            | IFLA_BOND_FAIL_OVER_MAC
+            | IFLA_BOND_XMIT_HASH_POLICY
+            | IFLA_BOND_NUM_PEER_NOTIF
+            | IFLA_BOND_ALL_SLAVES_ACTIVE
+            | IFLA_BOND_AD_LACP_RATE
+            | IFLA_BOND_AD_SELECT
+            | IFLA_BOND_MISSED_MAX => has_size(buffer, 1),
+            IFLA_BOND_ACTIVE_SLAVE
+            | IFLA_BOND_MIIMON
+            | IFLA_BOND_UPDELAY
+            | IFLA_BOND_DOWNDELAY
+            | IFLA_BOND_ARP_INTERVAL
+            | IFLA_BOND_ARP_VALIDATE
+            | IFLA_BOND_ARP_ALL_TARGETS
+            | IFLA_BOND_PRIMARY
+            | IFLA_BOND_RESEND_IGMP
+            | IFLA_BOND_MIN_LINKS
+            | IFLA_BOND_LP_INTERVAL
+            | IFLA_BOND_PACKETS_PER_SLAVE
+            | IFLA_BOND_PEER_NOTIF_DELAY => has_size(buffer, 4),
+            IFLA_BOND_USE_CARRIER
+            | IFLA_BOND_TLB_DYNAMIC_LB
+            | IFLA_BOND_AD_LACP_ACTIVE
+            | IFLA_BOND_COUPLED_CONTROL
+            | IFLA_BOND_BROADCAST_NEIGH
+            | IFLA_BOND_LACP_STRICT => is_truth(buffer),
+            IFLA_BOND_ARP_IP_TARGET => is_address_list(buffer, 4),
+            IFLA_BOND_AD_INFO => is_nested::<BondAdInfo>(buffer, 0),
+            IFLA_BOND_AD_ACTOR_SYS_PRIO | IFLA_BOND_AD_USER_PORT_KEY => has_size(buffer, 2),
+            IFLA_BOND_AD_ACTOR_SYSTEM => has_size(buffer, 6),
+            IFLA_BOND_NS_IP6_TARGET => is_address_list(buffer, 16),
+            _ => true,
+        }
+    }
 
     ghost lawful = { lawful bond_table };
 

@@ -12,7 +12,8 @@ pub use churn_state::ChurnState;
 pub use lacp_state::LacpState;
 use link_base::{
     Attribute, DecodeError, DefaultNla, Meaning, Nla, NlaBuffer, Parseable, TryClone, emit_i32,
-    emit_low, emit_u8, emit_u16, emit_u32, parse_i32, parse_low, parse_u8, parse_u16, parse_u32,
+    emit_low, emit_u8, emit_u16, emit_u32, has_size, is_bytes, is_low, parse_i32, parse_low,
+    parse_u8, parse_u16, parse_u32,
 };
 pub use mii_status::MiiStatus;
 pub use port_state::BondPortState;
@@ -214,6 +215,23 @@ impl Attribute for InfoBondPort {
       thorough-law as flags,
     };
     ghost use Rattle.link_bond.specs.contracts.bond_port.InfoBondPort.{enum};
+
+    fn canonical(buffer: &NlaBuffer<'_>) -> bool {
+        match buffer.kind() {
+            IFLA_BOND_SLAVE_STATE
+            | IFLA_BOND_SLAVE_MII_STATUS
+            | IFLA_BOND_SLAVE_AD_ACTOR_OPER_PORT_STATE
+            | IFLA_BOND_SLAVE_AD_CHURN_ACTOR_STATE
+            | IFLA_BOND_SLAVE_AD_CHURN_PARTNER_STATE => has_size(buffer, 1),
+            IFLA_BOND_SLAVE_LINK_FAILURE_COUNT | IFLA_BOND_SLAVE_PRIO => has_size(buffer, 4),
+            IFLA_BOND_SLAVE_PERM_HWADDR => is_bytes(buffer),
+            IFLA_BOND_SLAVE_QUEUE_ID
+            | IFLA_BOND_SLAVE_AD_AGGREGATOR_ID
+            | IFLA_BOND_SLAVE_ACTOR_PORT_PRIO => has_size(buffer, 2),
+            IFLA_BOND_SLAVE_AD_PARTNER_OPER_PORT_STATE => is_low(buffer),
+            _ => true,
+        }
+    }
 
     ghost lawful = { lawful bond_port_table };
 

@@ -15,7 +15,8 @@ mod vlan_info_flags;
 pub use flag::BridgeFlag;
 use link_base::{
     Attribute, DecodeError, DefaultNla, ListError, Meaning, Nla, NlaBuffer, Parseable, TryClone,
-    emit_nested, emit_u16, nested_len, parse_u16, read_list, read_nested, try_clone_list,
+    emit_nested, emit_u16, has_size, is_nested, nested_len, parse_u16, read_list, read_nested,
+    try_clone_list,
 };
 pub use mode::BridgeMode;
 use std::alloc::{AllocError, Global};
@@ -147,6 +148,15 @@ impl Attribute for AfSpecBridge {
       thorough-law as tunnels,
     };
     ghost use Rattle.link_bridge.specs.contracts.af_spec.AfSpecBridge.{enum};
+
+    fn canonical(buffer: &NlaBuffer<'_>) -> bool {
+        match buffer.kind() {
+            IFLA_BRIDGE_FLAGS | IFLA_BRIDGE_MODE => has_size(buffer, 2),
+            IFLA_BRIDGE_VLAN_INFO => has_size(buffer, 4),
+            IFLA_BRIDGE_VLAN_TUNNEL_INFO => is_nested::<BridgeVlanTunnelInfo>(buffer, 0),
+            _ => true,
+        }
+    }
 
     ghost lawful = { lawful af_spec_table };
 

@@ -11,8 +11,9 @@ pub use id::{BridgeId, BridgeIdBuffer};
 use link_base::{
     Attribute, DecodeError, DefaultNla, Emitable, Meaning, NLA_F_NESTED, Nla, NlaBuffer, Parseable,
     TryClone, VlanProtocol, emit_mac, emit_nested, emit_u8, emit_u16, emit_u16_be, emit_u32,
-    emit_u64, nested_len, parse_bool, parse_mac, parse_u8, parse_u16, parse_u16_be, parse_u32,
-    parse_u64, read_nested, try_clone_list,
+    emit_u64, has_size, is_nested, is_protocol, is_truth, is_void, nested_len, parse_bool,
+    parse_mac, parse_u8, parse_u16, parse_u16_be, parse_u32, parse_u64, read_nested,
+    try_clone_list,
 };
 pub use querier::BridgeQuerierState;
 pub use router_type::BridgeMulticastRouterType;
@@ -606,6 +607,61 @@ impl Attribute for InfoBridge {
       thorough-law as queriers,
     };
     ghost use Rattle.link_bridge.specs.contracts.bridge.InfoBridge.{enum};
+
+    fn canonical(buffer: &NlaBuffer<'_>) -> bool {
+        match buffer.kind() {
+            IFLA_BR_FORWARD_DELAY
+            | IFLA_BR_HELLO_TIME
+            | IFLA_BR_MAX_AGE
+            | IFLA_BR_AGEING_TIME
+            | IFLA_BR_STP_STATE
+            | IFLA_BR_ROOT_PATH_COST
+            | IFLA_BR_MCAST_HASH_ELASTICITY
+            | IFLA_BR_MCAST_HASH_MAX
+            | IFLA_BR_MCAST_LAST_MEMBER_CNT
+            | IFLA_BR_MCAST_STARTUP_QUERY_CNT
+            | IFLA_BR_FDB_N_LEARNED
+            | IFLA_BR_FDB_MAX_LEARNED
+            | IFLA_BR_STP_MODE => has_size(buffer, 4),
+            IFLA_BR_PRIORITY
+            | IFLA_BR_GROUP_FWD_MASK
+            | IFLA_BR_ROOT_PORT
+            | IFLA_BR_VLAN_DEFAULT_PVID => has_size(buffer, 2),
+            IFLA_BR_VLAN_FILTERING
+            | IFLA_BR_MCAST_SNOOPING
+            | IFLA_BR_MCAST_QUERY_USE_IFADDR
+            | IFLA_BR_MCAST_QUERIER
+            | IFLA_BR_NF_CALL_IPTABLES
+            | IFLA_BR_NF_CALL_IP6TABLES
+            | IFLA_BR_NF_CALL_ARPTABLES
+            | IFLA_BR_VLAN_STATS_ENABLED
+            | IFLA_BR_MCAST_STATS_ENABLED
+            | IFLA_BR_VLAN_STATS_PER_PORT => is_truth(buffer),
+            IFLA_BR_VLAN_PROTOCOL => is_protocol(buffer),
+            IFLA_BR_ROOT_ID
+            | IFLA_BR_BRIDGE_ID
+            | IFLA_BR_HELLO_TIMER
+            | IFLA_BR_TCN_TIMER
+            | IFLA_BR_TOPOLOGY_CHANGE_TIMER
+            | IFLA_BR_GC_TIMER
+            | IFLA_BR_MCAST_LAST_MEMBER_INTVL
+            | IFLA_BR_MCAST_MEMBERSHIP_INTVL
+            | IFLA_BR_MCAST_QUERIER_INTVL
+            | IFLA_BR_MCAST_QUERY_INTVL
+            | IFLA_BR_MCAST_QUERY_RESPONSE_INTVL
+            | IFLA_BR_MCAST_STARTUP_QUERY_INTVL
+            | IFLA_BR_MULTI_BOOLOPT => has_size(buffer, 8),
+            IFLA_BR_TOPOLOGY_CHANGE
+            | IFLA_BR_TOPOLOGY_CHANGE_DETECTED
+            | IFLA_BR_MCAST_ROUTER
+            | IFLA_BR_MCAST_IGMP_VERSION
+            | IFLA_BR_MCAST_MLD_VERSION => has_size(buffer, 1),
+            IFLA_BR_GROUP_ADDR => has_size(buffer, 6),
+            IFLA_BR_FDB_FLUSH => is_void(buffer),
+            IFLA_BR_MCAST_QUERIER_STATE => is_nested::<BridgeQuerierState>(buffer, NLA_F_NESTED),
+            _ => true,
+        }
+    }
 
     ghost lawful = { lawful bridge_table };
 

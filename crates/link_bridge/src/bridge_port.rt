@@ -5,7 +5,8 @@ mod state;
 use crate::bridge::{BridgeId, BridgeMulticastRouterType};
 use link_base::{
     Attribute, DecodeError, DefaultNla, Emitable, Meaning, Nla, NlaBuffer, Parseable, TryClone,
-    emit_u8, emit_u16, emit_u32, emit_u64, parse_bool, parse_u8, parse_u16, parse_u32, parse_u64,
+    emit_u8, emit_u16, emit_u32, emit_u64, has_size, is_truth, is_void, parse_bool, parse_u8,
+    parse_u16, parse_u32, parse_u64,
 };
 pub use state::BridgePortState;
 use std::alloc::{AllocError, Global};
@@ -510,6 +511,54 @@ impl Attribute for InfoBridgePort {
       thorough-law as routers,
     };
     ghost use Rattle.link_bridge.specs.contracts.bridge_port.InfoBridgePort.{enum};
+
+    fn canonical(buffer: &NlaBuffer<'_>) -> bool {
+        match buffer.kind() {
+            IFLA_BRPORT_STATE | IFLA_BRPORT_MULTICAST_ROUTER => has_size(buffer, 1),
+            IFLA_BRPORT_PRIORITY
+            | IFLA_BRPORT_DESIGNATED_PORT
+            | IFLA_BRPORT_DESIGNATED_COST
+            | IFLA_BRPORT_ID
+            | IFLA_BRPORT_NO
+            | IFLA_BRPORT_GROUP_FWD_MASK => has_size(buffer, 2),
+            IFLA_BRPORT_COST
+            | IFLA_BRPORT_BACKUP_PORT
+            | IFLA_BRPORT_MCAST_EHT_HOSTS_LIMIT
+            | IFLA_BRPORT_MCAST_EHT_HOSTS_CNT
+            | IFLA_BRPORT_MCAST_N_GROUPS
+            | IFLA_BRPORT_MCAST_MAX_GROUPS
+            | IFLA_BRPORT_BACKUP_NHID => has_size(buffer, 4),
+            IFLA_BRPORT_MODE
+            | IFLA_BRPORT_GUARD
+            | IFLA_BRPORT_PROTECT
+            | IFLA_BRPORT_FAST_LEAVE
+            | IFLA_BRPORT_LEARNING
+            | IFLA_BRPORT_UNICAST_FLOOD
+            | IFLA_BRPORT_PROXYARP
+            | IFLA_BRPORT_PROXYARP_WIFI
+            | IFLA_BRPORT_TOPOLOGY_CHANGE_ACK
+            | IFLA_BRPORT_CONFIG_PENDING
+            | IFLA_BRPORT_MCAST_FLOOD
+            | IFLA_BRPORT_MCAST_TO_UCAST
+            | IFLA_BRPORT_VLAN_TUNNEL
+            | IFLA_BRPORT_BCAST_FLOOD
+            | IFLA_BRPORT_NEIGH_SUPPRESS
+            | IFLA_BRPORT_ISOLATED
+            | IFLA_BRPORT_MRP_RING_OPEN
+            | IFLA_BRPORT_MRP_IN_OPEN
+            | IFLA_BRPORT_LOCKED
+            | IFLA_BRPORT_MAB
+            | IFLA_BRPORT_NEIGH_VLAN_SUPPRESS
+            | IFLA_BRPORT_NEIGH_FORWARD_GRAT => is_truth(buffer),
+            IFLA_BRPORT_ROOT_ID
+            | IFLA_BRPORT_BRIDGE_ID
+            | IFLA_BRPORT_MESSAGE_AGE_TIMER
+            | IFLA_BRPORT_FORWARD_DELAY_TIMER
+            | IFLA_BRPORT_HOLD_TIMER => has_size(buffer, 8),
+            IFLA_BRPORT_FLUSH => is_void(buffer),
+            _ => true,
+        }
+    }
 
     ghost lawful = { lawful bridge_port_table };
 

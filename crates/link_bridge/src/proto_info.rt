@@ -8,7 +8,7 @@ ghost use Rattle.link_bridge.specs.ProtoInfo.{proto_info_table, proto_info_means
 
 use link_base::{
     Attribute, DecodeError, DefaultNla, ListError, Meaning, Nla, NlaBuffer, Parseable, TryClone,
-    emit_u8, parse_bool, read_list,
+    emit_u8, is_truth, parse_bool, read_list,
 };
 use std::alloc::{AllocError, Global};
 
@@ -100,6 +100,13 @@ impl Attribute for LinkProtoInfoBridge {
     ghost use Rattle.link_base.proofs.TableLaws.{lawful};
     ghost use Rattle.link_base.specs.Equality.{of_cases, thorough_fields};
     ghost use Rattle.link_bridge.specs.contracts.proto_info.LinkProtoInfoBridge.{enum};
+
+    fn canonical(buffer: &NlaBuffer<'_>) -> bool {
+        match buffer.kind() {
+            IFLA_BRPORT_NEIGH_FORWARD_GRAT => is_truth(buffer),
+            _ => true,
+        }
+    }
 
     ghost lawful = { lawful proto_info_table };
 

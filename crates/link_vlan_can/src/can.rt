@@ -8,7 +8,8 @@ use crate::can_records::{CanBerrCounter, CanBitTiming, CanClock, CanCtrlMode};
 use crate::can_tdc::CanTdc;
 use link_base::{
     Attribute, DecodeError, DefaultNla, Meaning, NLA_F_NESTED, Nla, NlaBuffer, Parseable, TryClone,
-    emit_nested, emit_u16, emit_u32, nested_len, parse_u16, parse_u32, read_nested, try_clone_list,
+    emit_nested, emit_u16, emit_u32, has_size, is_limits, is_nested, nested_len, parse_u16,
+    parse_u32, read_nested, try_clone_list,
 };
 use std::alloc::{AllocError, Global};
 
@@ -204,6 +205,24 @@ impl Attribute for InfoCan {
       thorough-law as exts,
     };
     ghost use Rattle.link_vlan_can.specs.contracts.can.InfoCan.{enum};
+
+    fn canonical(buffer: &NlaBuffer<'_>) -> bool {
+        match buffer.kind() {
+            IFLA_CAN_BITTIMING | IFLA_CAN_DATA_BITTIMING => has_size(buffer, 32),
+            IFLA_CAN_BITTIMING_CONST | IFLA_CAN_DATA_BITTIMING_CONST => is_limits(buffer),
+            IFLA_CAN_CLOCK
+            | IFLA_CAN_STATE
+            | IFLA_CAN_RESTART_MS
+            | IFLA_CAN_RESTART
+            | IFLA_CAN_BERR_COUNTER
+            | IFLA_CAN_BITRATE_MAX => has_size(buffer, 4),
+            IFLA_CAN_CTRLMODE => has_size(buffer, 8),
+            IFLA_CAN_TERMINATION => has_size(buffer, 2),
+            IFLA_CAN_TDC => is_nested::<CanTdc>(buffer, NLA_F_NESTED),
+            IFLA_CAN_CTRLMODE_EXT => is_nested::<CanCtrlModeExt>(buffer, NLA_F_NESTED),
+            _ => true,
+        }
+    }
 
     ghost lawful = { lawful can_table };
 

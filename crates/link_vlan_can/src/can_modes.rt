@@ -8,7 +8,7 @@ use crate::can_flags::CanCtrlModeFlags;
 use bitflags::Flags;
 use link_base::{
     Attribute, DecodeError, DefaultNla, Meaning, NestedAttribute, Nla, NlaBuffer, Parseable,
-    TryClone, emit_u32, parse_u32,
+    TryClone, emit_u32, has_size, parse_u32,
 };
 use std::alloc::{AllocError, Global};
 
@@ -81,6 +81,13 @@ impl Attribute for CanCtrlModeExt {
       thorough-law as modes_thorough,
     };
     ghost use Rattle.link_vlan_can.specs.contracts.can_modes.CanCtrlModeExt.{enum};
+
+    fn canonical(buffer: &NlaBuffer<'_>) -> bool {
+        match buffer.kind() {
+            IFLA_CAN_CTRLMODE_SUPPORTED => has_size(buffer, 4),
+            _ => true,
+        }
+    }
 
     ghost lawful = { lawful (lift_table mode_rows) };
 

@@ -6,7 +6,7 @@ ghost use Rattle.link_vlan_can.specs.Can.{tdc_rows, tdc_leaf};
 
 use link_base::{
     Attribute, DecodeError, DefaultNla, Meaning, NestedAttribute, Nla, NlaBuffer, Parseable,
-    TryClone, emit_u32, parse_u32,
+    TryClone, emit_u32, has_size, parse_u32,
 };
 use std::alloc::{AllocError, Global};
 
@@ -141,6 +141,21 @@ impl Attribute for CanTdc {
     ghost use Rattle.link_base.proofs.TableLaws.{lawful};
     ghost use Rattle.link_base.specs.Equality.{of_cases, thorough_fields};
     ghost use Rattle.link_vlan_can.specs.contracts.can_tdc.CanTdc.{enum};
+
+    fn canonical(buffer: &NlaBuffer<'_>) -> bool {
+        match buffer.kind() {
+            IFLA_CAN_TDC_TDCV_MIN
+            | IFLA_CAN_TDC_TDCV_MAX
+            | IFLA_CAN_TDC_TDCO_MIN
+            | IFLA_CAN_TDC_TDCO_MAX
+            | IFLA_CAN_TDC_TDCF_MIN
+            | IFLA_CAN_TDC_TDCF_MAX
+            | IFLA_CAN_TDC_TDCV
+            | IFLA_CAN_TDC_TDCO
+            | IFLA_CAN_TDC_TDCF => has_size(buffer, 4),
+            _ => true,
+        }
+    }
 
     ghost lawful = { lawful (lift_table tdc_rows) };
 

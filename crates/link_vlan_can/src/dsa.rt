@@ -4,7 +4,7 @@ ghost use Rattle.link_vlan_can.specs.Dsa.{dsa_table, dsa_means};
 
 use link_base::{
     Attribute, DecodeError, DefaultNla, Meaning, Nla, NlaBuffer, Parseable, TryClone, emit_u32,
-    parse_u32,
+    has_size, parse_u32,
 };
 use std::alloc::{AllocError, Global};
 
@@ -74,6 +74,13 @@ impl Attribute for InfoDsa {
     ghost use Rattle.link_base.proofs.TableLaws.{lawful};
     ghost use Rattle.link_base.specs.Equality.{of_cases, thorough_fields};
     ghost use Rattle.link_vlan_can.specs.contracts.dsa.InfoDsa.{enum};
+
+    fn canonical(buffer: &NlaBuffer<'_>) -> bool {
+        match buffer.kind() {
+            IFLA_DSA_CONDUIT => has_size(buffer, 4),
+            _ => true,
+        }
+    }
 
     ghost lawful = { lawful dsa_table };
 

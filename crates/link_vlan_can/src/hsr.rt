@@ -7,7 +7,7 @@ ghost use Rattle.link_vlan_can.specs.Hsr.{hsr_protocols, hsr_protocol, hsr_proto
 
 use link_base::{
     Attribute, DecodeError, DefaultNla, Meaning, NamedNumber, Nla, NlaBuffer, Parseable, TryClone,
-    emit_mac, emit_u8, emit_u16, emit_u32, parse_mac, parse_u8, parse_u16, parse_u32,
+    emit_mac, emit_u8, emit_u16, emit_u32, has_size, parse_mac, parse_u8, parse_u16, parse_u32,
 };
 use std::alloc::{AllocError, Global};
 use std::fmt;
@@ -209,6 +209,16 @@ impl Attribute for InfoHsr {
     ghost use Rattle.link_base.proofs.TableLaws.{lawful};
     ghost use Rattle.link_vlan_can.specs.contracts.hsr.HsrProtocolNamedNumber.TheImpl.Laws.{thorough-law};
     ghost use Rattle.link_vlan_can.specs.contracts.hsr.InfoHsr.{enum};
+
+    fn canonical(buffer: &NlaBuffer<'_>) -> bool {
+        match buffer.kind() {
+            IFLA_HSR_SLAVE1 | IFLA_HSR_SLAVE2 | IFLA_HSR_INTERLINK => has_size(buffer, 4),
+            IFLA_HSR_MULTICAST_SPEC | IFLA_HSR_VERSION | IFLA_HSR_PROTOCOL => has_size(buffer, 1),
+            IFLA_HSR_SUPERVISION_ADDR => has_size(buffer, 6),
+            IFLA_HSR_SEQ_NR => has_size(buffer, 2),
+            _ => true,
+        }
+    }
 
     ghost lawful = { lawful hsr_table };
 

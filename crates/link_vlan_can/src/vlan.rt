@@ -11,8 +11,8 @@ use crate::vlan_flags::VlanFlags;
 use bitflags::Flags;
 use link_base::{
     Attribute, DecodeError, DefaultNla, Meaning, NestedAttribute, Nla, NlaBuffer, Parseable,
-    TryClone, VlanProtocol, emit_nested, emit_u16, emit_u16_be, emit_u32_pair, nested_len,
-    parse_u16, parse_u16_be, parse_u32_pair, read_nested, try_clone_list,
+    TryClone, VlanProtocol, emit_nested, emit_u16, emit_u16_be, emit_u32_pair, has_size, is_nested,
+    is_protocol, nested_len, parse_u16, parse_u16_be, parse_u32_pair, read_nested, try_clone_list,
 };
 use std::alloc::{AllocError, Global};
 
@@ -92,6 +92,13 @@ impl Parseable for VlanQosMapping {
 
 impl Attribute for VlanQosMapping {
     ghost use Rattle.link_vlan_can.specs.contracts.vlan.VlanQosMapping.{enum};
+
+    fn canonical(buffer: &NlaBuffer<'_>) -> bool {
+        match buffer.kind() {
+            IFLA_VLAN_QOS_MAPPING => has_size(buffer, 8),
+            _ => true,
+        }
+    }
 
     ghost lawful = { lawful (lift_table mapping_rows) };
 
@@ -210,6 +217,16 @@ impl Attribute for InfoVlan {
       thorough-law as flags_thorough,
     };
     ghost use Rattle.link_vlan_can.specs.contracts.vlan.InfoVlan.{enum};
+
+    fn canonical(buffer: &NlaBuffer<'_>) -> bool {
+        match buffer.kind() {
+            IFLA_VLAN_ID => has_size(buffer, 2),
+            IFLA_VLAN_FLAGS => has_size(buffer, 8),
+            IFLA_VLAN_EGRESS_QOS | IFLA_VLAN_INGRESS_QOS => is_nested::<VlanQosMapping>(buffer, 0),
+            IFLA_VLAN_PROTOCOL => is_protocol(buffer),
+            _ => true,
+        }
+    }
 
     ghost lawful = { lawful vlan_table };
 

@@ -1,11 +1,13 @@
 -- What holds of a rewriting in a lawful table.
-use Rattle.std.proofs.Common.{◌≡◌, ◌↔◌, ℕ, ◌<◌, ◌≤◌, List, [], ◌∷◌, length, map, None, Ok, ap, subst, ◌∙◌, arith}
+use Rattle.std.proofs.Common.{◌≡◌, ◌↔◌, ℕ, ◌<◌, ◌≤◌, List, [], ◌∷◌, length, take, drop, map, None, Ok, sym, ap, subst, ◌∙◌, arith}
 use Rattle.std.specs.List.{AllZip}
+use Rattle.std.proofs.lemmas.List.{take_at}
 use Rattle.link_base.specs.Number.{IsBytes}
 use Rattle.link_base.specs.Frame.{Frame, AreFrames, pad, spelled, frame_fault}
 use Rattle.link_base.specs.Wire.{Reading, FrameGives, Wire}
 use Rattle.link_base.specs.Table.{Table, AttrValue, Gives, Canonical, Rewriting, cut, written_list}
 use Rattle.link_base.specs.Lawful.{IsLawful}
+use Rattle.link_base.specs.Rewritten.{RewrittenInto}
 use Rattle.link_base.proofs.Cuts.{AreFrames-head}
 use Rattle.link_base.proofs.Fronts.{frame_fault-frame}
 use Rattle.link_base.proofs.Readings.{one_values}
@@ -29,6 +31,10 @@ rewriting {vs} w = record {
   fit = w.fit;
   string = w.written;
 }
+
+-- what stands in front of a buffer is the rewriting
+pub front_rewriting : {table : Table} {s old new : List ℕ} {n : ℕ} → RewrittenInto table s old new n → Rewriting table s (take n new)
+front_rewriting {table} {s} {old} {new} {n} r = subst (Rewriting table s) (sym (ap (take n) r.written ∙ take_at r.out (drop (length r.out) old) n (sym r.len))) r.is
 
 module _ {table : Table} (law : IsLawful table) (s : List ℕ) (hs : IsBytes s) (t : List ℕ) (r : Rewriting table s t) where
   pub same_iff : (t ≡ s) ↔ Canonical table s

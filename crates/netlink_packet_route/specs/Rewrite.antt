@@ -4,7 +4,7 @@ use Rattle.std.specs.Global.{Vec}
 use Rattle.std.specs.List.{AllByRecursion}
 use Rattle.link_base.specs.Wire.{Wire, FirstFault}
 use Rattle.link_base.specs.Table.{Table, AttrValue, Gives, Canonical, Rewriting, Fits, written_list, cut}
-use Rattle.link_base.specs.Answers.{IsFirstUnfit}
+use Rattle.link_base.specs.Rewritten.{IsUnfitAt, RewrittenInto}
 use Rattle.netlink_packet_route.specs.declared.rewriting.RewriteError.{RewriteError}
 use Rattle.netlink_packet_route.specs.declared.rewriting.RewriteError.TheVariants as errors
 
@@ -15,16 +15,19 @@ OnRewriteMemory (Err (errors.Fault at fault)) P = Unit {0}
 OnRewriteMemory (Err (errors.TooLong i)) P = Unit {0}
 OnRewriteMemory (Err (errors.Memory e)) P = P
 
--- the first value that does not fit
-abbrev pub IsUnfitAt : Table → List ℕ → ℕ → Type 0
-IsUnfitAt table s i = (vs : List AttrValue) × Wire (Gives table) s vs × IsFirstUnfit vs i
-
 -- the rewriting; or the first fault; or the first value that does not fit
 abbrev pub RewriteAnswers : Table → List ℕ → Result (Vec ℕ) RewriteError → Type 0
 RewriteAnswers table s (Ok out) = Rewriting table s out.items
 RewriteAnswers table s (Err (errors.Fault at fault)) = FirstFault (Gives table) s at fault
 RewriteAnswers table s (Err (errors.TooLong i)) = IsUnfitAt table s i
 RewriteAnswers table s (Err (errors.Memory e)) = Unit {0}
+
+-- the rewriting, in a lent buffer; or the first fault; or the first value that does not fit
+abbrev pub RewriteIntoAnswers : Table → List ℕ → List ℕ → List ℕ → Result ℕ RewriteError → Type 0
+RewriteIntoAnswers table s old new (Ok n) = RewrittenInto table s old new n
+RewriteIntoAnswers table s old new (Err (errors.Fault at fault)) = FirstFault (Gives table) s at fault
+RewriteIntoAnswers table s old new (Err (errors.TooLong i)) = IsUnfitAt table s i
+RewriteIntoAnswers table s old new (Err (errors.Memory e)) = Unit {0}
 
 -- these values were read, and all of them written
 pub record WritesValues (table : Table) (s : List ℕ) (vs : List AttrValue) (out : List ℕ) : Type 0 where

@@ -3,13 +3,17 @@
 #![tactic(auto)]
 
 mod family;
+mod judging;
 pub mod laws;
 pub mod link;
 mod reporting;
 mod rewriting;
+mod rewriting_into;
 #[cfg(test)]
 mod tests;
 
 pub use family::Family;
+pub use judging::{first_not_canonical, is_canonical};
 pub use reporting::{MOST_TEXT, report};
 pub use rewriting::{RewriteError, rewrite};
+pub use rewriting_into::rewrite_into;

@@ -1,5 +1,6 @@
 //! What no clause says: worked bytes and texts, and calls that succeed.
 
+mod canonical;
 mod flags;
 mod frames;
 mod laws;
@@ -7,6 +8,7 @@ mod limits;
 mod lists;
 mod names;
 mod payloads;
+mod prefixes;
 mod records;
 mod reports;
 mod rewritings;

@@ -85,6 +85,20 @@ static void rewriting(void) {
     check(nlroute_read(NLROUTE_VLAN, vlan, 0) == 0, "no bytes have no values");
 }
 
+static void judging(void) {
+    memory_is_out = true;
+    bool is_so = nlroute_is_canonical(NLROUTE_VLAN, vlan, 32) == 1, empty = nlroute_is_canonical(NLROUTE_VLAN, vlan, 0) == 1;
+    memory_is_out = false;
+    check(is_so, "a request is canonical, and no memory is taken to tell");
+    check(empty, "no bytes are canonical");
+    check(nlroute_is_canonical(NLROUTE_VLAN, vlan, 30) == 0, "with a fault it is not");
+    for (size_t i = 0; i < sizeof rows / sizeof rows[0]; i++) {
+        bool first = nlroute_is_canonical(rows[i].family, rows[i].bytes + 1, rows[i].bytes[0]) == 0;
+        check(first && nlroute_is_canonical(rows[i].family, rows[i].wanted + 1, rows[i].wanted[0]) == 1, rows[i].name);
+    }
+    check(nlroute_is_canonical(10, vlan, 32) == NLROUTE_NO_FAMILY, "-5 of number 10");
+}
+
 static void refusals(void) {
     static uint8_t grows[65533] = {0xFD, 0xFF, 3, 0, 0xF9, 0xFF, 99}, out[65540];
     memset(out, 0xFF, sizeof out);
@@ -102,6 +116,30 @@ static void refusals(void) {
     check(empty == 0, "no memory for no values");
     check(are_lent(out, sizeof out), "nothing was written");
     check(nlroute_read(NLROUTE_VLAN, vlan, 30) == -1 && nlroute_read(10, vlan, 32) == -5, "-1 and -5 of a count");
+}
+
+/* Each value before the next: no list is held, so that only a value of its own size takes memory. */
+static void value_by_value(void) {
+    const uint8_t plain[20] = {8, 0, 1, 0x80, 42, 0, 0, 0, 8, 0, 1, 0, 43, 0, 0, 0, 5, 0, 1, 0};
+    uint8_t out[40];
+    memset(out, 0xFF, sizeof out);
+    ptrdiff_t small = nlroute_rewrite_into(NLROUTE_VLAN, vlan, 32, out, 31);
+    check(small == NLROUTE_NO_ROOM, "-4 with room for all but a byte, value by value");
+    check(nlroute_rewrite_into(10, vlan, 32, out, 40) == NLROUTE_NO_FAMILY, "-5 value by value");
+    check(are_lent(out, sizeof out), "nothing was written then");
+    ptrdiff_t answer = nlroute_rewrite_into(NLROUTE_VLAN, vlan, 32, out, 40);
+    check(answer == 32 && !memcmp(out, vlan, 32) && are_lent(out + 32, 8), "a request is rewritten value by value");
+    memory_is_out = true;
+    ptrdiff_t nested = nlroute_rewrite_into(NLROUTE_VLAN, vlan, 32, out, 40);
+    memset(out, 0xFF, sizeof out);
+    ptrdiff_t numbers = nlroute_rewrite_into(NLROUTE_DSA, plain, 16, out, 40);
+    memory_is_out = false;
+    check(nested == NLROUTE_NO_MEMORY, "-3 for a list of mappings without memory");
+    check(numbers == 16 && out[3] == 0 && are_lent(out + 16, 24), "numbers take no memory");
+    memset(out, 0xFF, sizeof out);
+    answer = nlroute_rewrite_into(NLROUTE_DSA, plain, 18, out, 40);
+    check(answer == NLROUTE_HAS_FAULT, "-1 for a fault, value by value");
+    check(are_lent(out + 20, 20), "what stands behind the room is left");
 }
 
 /* A payload of one byte where four are wanted, and a short frame behind it. */
@@ -161,7 +199,9 @@ static void reports(void) {
 int main(void) {
     families();
     rewriting();
+    judging();
     refusals();
+    value_by_value();
     room_first();
     faults();
     reports();

@@ -36,7 +36,15 @@ mod sys {
             out: *mut u8,
             room: usize,
         ) -> isize;
+        pub fn nlroute_rewrite_into(
+            family: u32,
+            bytes: *const u8,
+            len: usize,
+            out: *mut u8,
+            room: usize,
+        ) -> isize;
         pub fn nlroute_read(family: u32, bytes: *const u8, len: usize) -> isize;
+        pub fn nlroute_is_canonical(family: u32, bytes: *const u8, len: usize) -> isize;
         pub fn nlroute_fault(
             family: u32,
             bytes: *const u8,
@@ -74,9 +82,23 @@ pub fn rewrite(family: Family, bytes: &[u8], out: &mut [u8]) -> Result<usize, Re
     answer(unsafe { sys::nlroute_rewrite(family as u32, bytes.as_ptr(), bytes.len(), at, room) })
 }
 
+/// Rewrites a list to the front of a buffer that has room for its bytes, rounded up to four: each value before the next
+/// is read. After a fault the buffer may have changed.
+pub fn rewrite_into(family: Family, bytes: &[u8], out: &mut [u8]) -> Result<usize, Refusal> {
+    let (at, room) = (out.as_mut_ptr(), out.len());
+    answer(unsafe {
+        sys::nlroute_rewrite_into(family as u32, bytes.as_ptr(), bytes.len(), at, room)
+    })
+}
+
 /// How many values a list has.
 pub fn read(family: Family, bytes: &[u8]) -> Result<usize, Refusal> {
     answer(unsafe { sys::nlroute_read(family as u32, bytes.as_ptr(), bytes.len()) })
+}
+
+/// Whether a list is canonical.
+pub fn is_canonical(family: Family, bytes: &[u8]) -> bool {
+    1 == unsafe { sys::nlroute_is_canonical(family as u32, bytes.as_ptr(), bytes.len()) }
 }
 
 /// The numbers of the first fault of a list, if it has one.
@@ -128,6 +150,15 @@ fn main() {
     holds &= check(
         out[..16] == wanted && out[16..] == [0xFF; 8],
         "without its flag",
+    );
+    let mut lent = [0xFF; 24];
+    holds &= check(
+        rewrite_into(Family::Bond, &request, &mut lent) == Ok(16) && lent == out,
+        "value by value likewise",
+    );
+    holds &= check(
+        !is_canonical(Family::Bond, &request) && is_canonical(Family::Bond, &wanted),
+        "what is written is canonical",
     );
     holds &= check(read(Family::Bond, &request) == Ok(2), "it has two values");
     holds &= check(read(Family::Bond, &[]) == Ok(0), "an empty slice has none");

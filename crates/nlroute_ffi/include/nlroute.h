@@ -1,5 +1,5 @@
 /*
- * Lists of netlink's attributes of network links: read, counted, rewritten and reported.
+ * Lists of netlink's attributes of network links: read, counted, judged, rewritten and reported.
  *
  * A list is the payload of an IFLA_INFO_DATA, IFLA_INFO_SLAVE_DATA, IFLA_AF_SPEC or IFLA_PROTINFO. What is said below
  * of answers and of what is written is proved of each call, for all bytes; the contracts stand in src/lib.rt.
@@ -43,7 +43,7 @@ enum nlroute_family {
     NLROUTE_PROTO_BRIDGE = 9 /* IFLA_PROTINFO in messages of AF_BRIDGE */
 };
 
-/* Why a call answers no length and no count. After any of these all that was lent is as it was. */
+/* Why a call answers no length and no count. Then all that was lent is as it was; nlroute_rewrite_into says more. */
 enum nlroute_refusal {
     NLROUTE_HAS_FAULT = -1, /* the bytes are no list of the family, but have a fault: nlroute_fault tells the first */
     NLROUTE_TOO_LONG = -2,  /* they are a list, one of whose values takes more than the 65531 bytes of an attribute */
@@ -67,11 +67,29 @@ enum nlroute_refusal {
 ptrdiff_t nlroute_rewrite(uint32_t family, const uint8_t *bytes, size_t len, uint8_t *out, size_t room);
 
 /*
+ * Rewrites a list as nlroute_rewrite does, but writes each value before it reads the next one: it holds no list of
+ * them, and takes memory only inside a value that holds some. Answers how many bytes it wrote; behind them out is as it
+ * was.
+ *
+ * NLROUTE_NO_ROOM exactly if room is less than len rounded up to a multiple of four, whatever the bytes are; then, and
+ * after NLROUTE_NO_FAMILY, nothing was written. NLROUTE_HAS_FAULT and NLROUTE_TOO_LONG as above, and NLROUTE_NO_MEMORY
+ * only if one of the attributes is held in memory of its own; after these the first bytes of out may have changed, as
+ * many as len rounded up to a multiple of four, and none behind them.
+ */
+ptrdiff_t nlroute_rewrite_into(uint32_t family, const uint8_t *bytes, size_t len, uint8_t *out, size_t room);
+
+/*
  * How many values a list has, of which each is one attribute.
  *
  * NLROUTE_HAS_FAULT exactly if the bytes have a fault, unless memory ran out. NLROUTE_NO_MEMORY as above.
  */
 ptrdiff_t nlroute_read(uint32_t family, const uint8_t *bytes, size_t len);
+
+/*
+ * Whether a list is canonical: 1 if nlroute_rewrite writes just these bytes, and 0 if it writes others or the bytes have
+ * a fault. It takes no memory, so that of the refusals only NLROUTE_NO_FAMILY is answered.
+ */
+ptrdiff_t nlroute_is_canonical(uint32_t family, const uint8_t *bytes, size_t len);
 
 /* How many numbers tell a fault. */
 #define NLROUTE_FAULT_NUMBERS 7

@@ -1,23 +1,27 @@
 -- What the answers of the calls rest on.
-use Rattle.std.proofs.Common.{◌≡◌, ℕ, ℤ, ◌<◌, ◌≤◌, List, [], ◌∷◌, length, Result, Ok, Err, refl, ap, ◌∙◌, arith, to_z, of_z, w64, SFits}
+use Rattle.std.proofs.Common.{◌≡◌, ◌↔◌, ℕ, ℤ, ◌<◌, ◌≤◌, List, [], ◌∷◌, length, take, drop, Result, Ok, Err, refl, sym, ap, subst, ◌∙◌, arith, to_z, of_z, w64, SFits}
 use Rattle.std.specs.Prelude.{IfOk, IfErr}
 use Rattle.std.specs.List.{AllZip, AllByRecursion}
-use Rattle.std.proofs.lemmas.List.{length-append}
+use Rattle.std.proofs.lemmas.List.{length-append, take_at}
 use Rattle.std.proofs.lemmas.Int.{to_z-of_z}
 use Rattle.link_base.specs.Number.{IsBytes}
-use Rattle.link_base.specs.Frame.{Frame, frame_bytes, spelled}
+use Rattle.link_base.specs.Frame.{Frame, frame_bytes, spelled, pad}
 use Rattle.link_base.specs.declared.fault.DecodeFault.{DecodeFault}
 use Rattle.link_base.specs.Wire.{Reading, FrameGives, Wire, FirstFault}
-use Rattle.link_base.specs.Table.{Table, AttrValue, Gives, Fits, written_list}
+use Rattle.link_base.specs.Table.{Table, AttrValue, Gives, Fits, Canonical, written_list}
+use Rattle.link_base.specs.Answers.{OverwritesFront}
+use Rattle.link_base.specs.Rewritten.{RewrittenInto, IsUnfitAt}
+use Rattle.link_base.proofs.Emit.{not_all_fit}
 use Rattle.link_base.specs.Lawful.{IsLawful}
 use Rattle.link_base.proofs.Fronts.{length-frame_bytes}
 use Rattle.netlink_packet_route.specs.declared.family.Family.{Family}
 use Rattle.netlink_packet_route.specs.Family.{table_of}
+use Rattle.netlink_packet_route.specs.Rewrite.{ReadsBack, Settles}
 use Rattle.netlink_packet_route.proofs.Rewritten as facade
 use Rattle.nlroute_ffi.specs.declared.refusal.Refusal.{Refusal}
 use Rattle.nlroute_ffi.specs.declared.refusal.Refusal.TheVariants.{Fault, TooLong, Memory, NoRoom, NoFamily}
 use Rattle.nlroute_ffi.specs.Numbers.{family_number, code_of, fault_numbers}
-use Rattle.nlroute_ffi.specs.Calls.{AnswersFor, Known, IsRewritten, StandsInFront, First, FaultAnswers}
+use Rattle.nlroute_ffi.specs.Calls.{AnswersFor, Known, IsRewritten, IsUnfit, Rewrites, StandsInFront, First, FaultAnswers}
 
 -- a string has no more values than bytes
 no_more : {V : Type 0} (gives : Reading V) (xs : List Frame) (vs : List V) → AllZip (λ x v. FrameGives gives x (Ok v)) xs vs → length vs ≤ length (spelled xs)
@@ -41,6 +45,22 @@ rewritten law s hs vs w fit =
       back = facade.back law s hs t r;
       settles = facade.settles law s hs t r;
     }
+
+-- what `rewrite_into` says of what it wrote
+pub in_front : {table : Table} (s old new : List ℕ) (n : ℕ) → RewrittenInto table s old new n → ((take n new ≡ s) ↔ Canonical table s) → n ≤ pad (length s) → ReadsBack table s (take n new) → Settles table (take n new)
+    → pad (length s) ≤ length old → Rewrites table s old new n
+in_front s old new n r same few back settles room =
+    let front : take n new ≡ r.out = ap (take n) r.written ∙ take_at r.out (drop (length r.out) old) n (sym r.len) in
+    let len : n ≡ length (take n new) = r.len ∙ ap length (sym front) in
+    record {
+      text = take n new;
+      is = record { rewriting = facade.front_rewriting r; same = same; no_longer = omega (arith, few, len); back = back; settles = settles };
+      put = record { count = len; room = omega (arith, few, len, room); written = subst (OverwritesFront old new) (sym front) r.written };
+    }
+
+-- a value does not fit
+pub is_unfit : (table : Table) (s : List ℕ) (i : ℕ) → IsUnfitAt table s i → IsUnfit table s
+is_unfit table s i (vs, wire, unfit) = (vs, wire, not_all_fit vs _ unfit)
 
 -- the answer to a family's number
 pub known : (number : ℕ) (says : Table → Result ℕ Refusal → Type 0) (family : Family) (result : Result ℕ Refusal) (answer : ℤ) → number ≡ family_number family → says (table_of family) result → SFits w64 answer

@@ -6,6 +6,7 @@ use Rattle.netlink_packet_route.specs.Frame.{pad, frame_fault}
 use Rattle.netlink_packet_route.specs.Wire.{Wire, FirstFault}
 use Rattle.netlink_packet_route.specs.Table.{Table, AttrValue, Gives, Fits, Canonical, Rewriting}
 use Rattle.netlink_packet_route.specs.Answers.{OverwritesFront}
+use Rattle.netlink_packet_route.specs.Rewritten.{NeedsMemory}
 use Rattle.netlink_packet_route.specs.declared.family.Family.{Family}
 use Rattle.netlink_packet_route.specs.Family.{table_of}
 use Rattle.netlink_packet_route.specs.Rewrite.{ReadsBack, Settles}
@@ -33,6 +34,13 @@ ReadAnswers s table (Err TooLong) = ⊥
 ReadAnswers s table (Err Memory) = frame_fault s ≡ None
 ReadAnswers s table (Err NoRoom) = ⊥
 ReadAnswers s table (Err NoFamily) = ⊥
+
+-- ---- judging
+
+-- 1 where the bytes are canonical, and else 0
+abbrev pub CanonicalAnswers : List ℕ → Table → Result ℕ Refusal → Type 0
+CanonicalAnswers s table (Ok n) = (n ≤ 1) × ((n ≡ 1) ↔ Canonical table s)
+CanonicalAnswers s table (Err refusal) = ⊥
 
 -- ---- rewriting
 
@@ -74,6 +82,16 @@ RewriteAnswers s old new table (Err TooLong) = IsUnfit table s
 RewriteAnswers s old new table (Err Memory) = frame_fault s ≡ None
 RewriteAnswers s old new table (Err NoRoom) = HasNoRoom table s (length old)
 RewriteAnswers s old new table (Err NoFamily) = ⊥
+
+-- the rewriting stands in front; or why it does not. There is room where as many bytes are lent as were read, rounded up
+-- to four. Memory runs out only for a value that is held in memory of its own
+abbrev pub IntoAnswers : List ℕ → List ℕ → List ℕ → Table → Result ℕ Refusal → Type 0
+IntoAnswers s old new table (Ok n) = Rewrites table s old new n
+IntoAnswers s old new table (Err Fault) = HasFault table s
+IntoAnswers s old new table (Err TooLong) = IsUnfit table s
+IntoAnswers s old new table (Err Memory) = NeedsMemory table s
+IntoAnswers s old new table (Err NoRoom) = length old < pad (length s)
+IntoAnswers s old new table (Err NoFamily) = ⊥
 
 -- ---- the first fault
 

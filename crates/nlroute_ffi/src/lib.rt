@@ -12,12 +12,14 @@ mod refusal;
 mod tests;
 mod text;
 
-ghost use Rattle.std.specs.Prelude.{◌≡◌, pos, ◌<ℤ◌};
-ghost use Rattle.nlroute_ffi.specs.Calls.{AnswersFor, ReadAnswers, RewriteAnswers, FaultAnswers, ReportAnswers};
+ghost use Rattle.std.specs.Prelude.{◌≡◌, ◌<◌, pos, negsuc, ◌<ℤ◌, length, drop};
+ghost use Rattle.netlink_packet_route.specs.Frame.{pad};
+ghost use Rattle.nlroute_ffi.specs.Calls.{AnswersFor, ReadAnswers, RewriteAnswers, IntoAnswers};
+ghost use Rattle.nlroute_ffi.specs.Calls.{CanonicalAnswers, FaultAnswers, ReportAnswers};
 
 use crate::family::family_of;
 use crate::fault::first_fault;
-use crate::lists::{count, rewrite};
+use crate::lists::{count, judge, rewrite, rewrite_each};
 use crate::refusal::{Refusal, answer_of};
 use crate::text::report_into;
 use std::alloc::Global;
@@ -38,6 +40,30 @@ pub extern "C" fn nlroute_rewrite(alloc: Global, family: u32, bytes: &[u8], out:
     }
 }
 
+/// Reads the list in the bytes and writes its values to the front of a lent buffer, each before the next is read, as
+/// `rewrite_into` does. The answer is how many bytes were written.
+///
+/// -4 where the buffer has fewer bytes than were read, rounded up to four, and -5 for a number of no family: then
+/// nothing was written. -1 for bytes with a fault, -2 where a value does not fit, -3 where an allocation failed: then the
+/// front of the buffer, as far as the bytes reach, rounded up to four, may have changed.
+#[unsafe(no_mangle)]
+pub extern "C" fn nlroute_rewrite_into(
+    alloc: Global,
+    family: u32,
+    bytes: &[u8],
+    out: &mut [u8],
+) -> isize
+    ensures answer { AnswersFor family (IntoAnswers bytes.now out.old out.new) result }
+    ensures behind { drop (pad (length bytes.now)) out.new ≡ drop (pad (length bytes.now)) out.old }
+    ensures room { length out.old < pad (length bytes.now) → (result <ℤ negsuc 2) × (out.new ≡ out.old) }
+    ensures unchanged { result ≡ negsuc 4 → out.new ≡ out.old }
+{
+    match family_of(family) {
+        Some(family) => answer_of(rewrite_each(alloc, family, bytes, out)),
+        None => answer_of(Err(Refusal::NoFamily)),
+    }
+}
+
 /// How many values the list in the bytes has.
 ///
 /// -1 for bytes with a fault, -3 where an allocation failed, -5 for a number of no family.
@@ -47,6 +73,20 @@ pub extern "C" fn nlroute_read(alloc: Global, family: u32, bytes: &[u8]) -> isiz
 {
     match family_of(family) {
         Some(family) => answer_of(count(alloc, family, bytes)),
+        None => answer_of(Err(Refusal::NoFamily)),
+    }
+}
+
+/// Whether the list in the bytes is canonical, so that `nlroute_rewrite` writes just these bytes: 1 where it is, and 0
+/// where it is not, also for bytes with a fault. No memory is taken.
+///
+/// -5 for a number of no family.
+#[unsafe(no_mangle)]
+pub extern "C" fn nlroute_is_canonical(family: u32, bytes: &[u8]) -> isize
+    ensures { AnswersFor family (CanonicalAnswers bytes.now) result }
+{
+    match family_of(family) {
+        Some(family) => answer_of(Ok(judge(family, bytes))),
         None => answer_of(Err(Refusal::NoFamily)),
     }
 }

@@ -1,12 +1,16 @@
 //! Lists of a family, read and rewritten.
 
-ghost use Rattle.std.specs.Prelude.{◌≡◌, ◌≤◌, length, IfOk, OnErr};
+ghost use Rattle.std.specs.Prelude.{◌≡◌, ◌≤◌, ◌<◌, ◌↔◌, length, drop, Err, IfOk, OnErr};
+ghost use Rattle.netlink_packet_route.specs.Frame.{pad};
+ghost use Rattle.netlink_packet_route.specs.Table.{Canonical};
 ghost use Rattle.netlink_packet_route.specs.Family.{table_of};
-ghost use Rattle.nlroute_ffi.specs.Calls.{ReadAnswers, RewriteAnswers};
+ghost use Rattle.nlroute_ffi.specs.Calls.{ReadAnswers, RewriteAnswers, IntoAnswers};
+ghost use Rattle.nlroute_ffi.specs.declared.refusal.Refusal.TheVariants.{NoRoom};
 
 use crate::refusal::Refusal;
-use netlink_packet_route::link::{Attribute, ListError, emit_list, list_fits, list_len, read_list};
-use netlink_packet_route::{Family, by_family};
+use link_base::measure_list;
+use netlink_packet_route::link::{Attribute, ListError, emit_list, read_list};
+use netlink_packet_route::{Family, RewriteError, by_family, is_canonical, rewrite_into};
 use std::alloc::Global;
 
 /// How many values a list has.
@@ -26,6 +30,13 @@ fn count_as<F: Attribute>(alloc: Global, bytes: &[u8]) -> Result<usize, Refusal>
         Err(ListError::Fault { .. }) => Err(Refusal::Fault),
         Err(ListError::Memory(_)) => Err(Refusal::Memory),
     }
+}
+
+/// 1 for a canonical list, and 0 for any other bytes.
+pub(crate) fn judge(family: Family, bytes: &[u8]) -> usize
+    ensures { (result ≤ 1) × ((result ≡ 1) ↔ Canonical (table_of family) bytes.now) }
+{
+    if is_canonical(family, bytes) { 1 } else { 0 }
 }
 
 /// Reads a list and writes its values to the front of a lent buffer. Answers how many bytes are written.
@@ -50,13 +61,36 @@ fn rewrite_as<F: Attribute>(alloc: Global, bytes: &[u8], out: &mut [u8]) -> Resu
         Err(ListError::Fault { .. }) => return Err(Refusal::Fault),
         Err(ListError::Memory(_)) => return Err(Refusal::Memory),
     };
-    if !list_fits(&values) {
-        return Err(Refusal::TooLong);
-    }
-    let count = list_len(&values);
+    let count = match measure_list(&values) {
+        Ok(count) => count,
+        Err(_) => return Err(Refusal::TooLong),
+    };
     if count > out.len() {
         return Err(Refusal::NoRoom);
     }
     emit_list(&values, out);
     Ok(count)
+}
+
+/// Reads a list and writes each of its values to the front of a lent buffer before it reads the next. Answers how many
+/// bytes are written.
+pub(crate) fn rewrite_each(
+    alloc: Global,
+    family: Family,
+    bytes: &[u8],
+    out: &mut [u8],
+) -> Result<usize, Refusal>
+    ensures answer { IntoAnswers bytes.now out.old out.new (table_of family) result }
+    ensures behind { drop (pad (length bytes.now)) out.new ≡ drop (pad (length bytes.now)) out.old }
+    ensures room { length out.old < pad (length bytes.now) → (result ≡ Err NoRoom) × (out.new ≡ out.old) }
+{
+    if out.len() < (bytes.len() + 3) / 4 * 4 {
+        return Err(Refusal::NoRoom);
+    }
+    match rewrite_into(alloc, family, bytes, out) {
+        Ok(count) => Ok(count),
+        Err(RewriteError::Fault { .. }) => Err(Refusal::Fault),
+        Err(RewriteError::TooLong { .. }) => Err(Refusal::TooLong),
+        Err(RewriteError::Memory(_)) => Err(Refusal::Memory),
+    }
 }

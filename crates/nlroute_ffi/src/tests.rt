@@ -1,6 +1,9 @@
 //! What no clause says: that memory suffices, and each answer on bytes that were worked out by hand.
 
-use crate::{nlroute_fault, nlroute_read, nlroute_report, nlroute_rewrite};
+use crate::{
+    nlroute_fault, nlroute_is_canonical, nlroute_read, nlroute_report, nlroute_rewrite,
+    nlroute_rewrite_into,
+};
 
 /// `IFLA_DSA_CONDUIT` 42, and an attribute of kind 2, which is none of DSA. Of the nested flags that of the second is
 /// kept.
@@ -11,7 +14,7 @@ const LENT: [u8; 12] = [0xFF; 12];
 
 #[test]
 fn families_by_number(rt: HostRuntime) {
-    // of each family bytes that no other family rewrites so
+    // of each family bytes, and what it makes of them
     let rows: [(u32, &[u8], &[u8]); 10] = [
         (0, &[6, 0, 0, 0x80, 2, 0], &[6, 0, 0, 0, 2, 0, 0, 0]),
         (1, &[5, 0, 34, 0, 2, 0, 0, 0], &[5, 0, 34, 0, 1, 0, 0, 0]),
@@ -39,7 +42,17 @@ fn families_by_number(rt: HostRuntime) {
         let (front, rest) = out.split_at(wanted.len());
         let is_so = front == wanted && rest == &LENT[wanted.len()..];
         assert!(rt; is_so, "of family {family}");
+        let mut lent = LENT;
+        let answer = nlroute_rewrite_into(rt.alloc(), family, bytes, &mut lent);
+        let is_equal = usize::try_from(answer) == Ok(wanted.len()) && lent == out;
+        assert!(rt; is_equal, "of family {family}");
+        let is_judged = nlroute_is_canonical(family, bytes) == 0;
+        assert!(rt;
+            is_judged && nlroute_is_canonical(family, wanted) == 1,
+            "of family {family}"
+        );
     }
+    assert!(rt; nlroute_is_canonical(7, &[]) == 1 && nlroute_is_canonical(10, &[]) == -5);
 }
 
 #[test]
@@ -66,6 +79,28 @@ fn refusals(rt: HostRuntime) {
             is_so && (answer > 0 || out == LENT),
             "for {answer} of family {family}"
         );
+    }
+}
+
+#[test]
+fn value_by_value(rt: HostRuntime) {
+    let rows: [(u32, &[u8], usize, isize); 8] = [
+        (7, &TWO, 12, 12),
+        (7, &TWO[..8], 11, 8),
+        (7, &TWO, 11, -4),
+        // there is no room for what a fault would leave either
+        (7, &TWO[..7], 7, -4),
+        (7, &TWO[..7], 8, -1),
+        (7, &[], 0, 0),
+        (10, &TWO, 12, -5),
+        (10, &TWO, 0, -5),
+    ];
+    for (family, bytes, room, answer) in rows {
+        let mut out = LENT;
+        assert!(rt; room <= 12);
+        let is_so = nlroute_rewrite_into(rt.alloc(), family, bytes, &mut out[..room]) == answer;
+        let is_kept = answer > 0 || out == LENT;
+        assert!(rt; is_so && is_kept, "for {answer} of family {family}");
     }
 }
 

@@ -1,5 +1,5 @@
 -- Names, and what stands before a byte.
-use Rattle.std.proofs.Common.{◌≡◌, ◌≢◌, ℕ, zero, suc, ◌+◌, ◌<◌, Bool, true, false, nat_eq, nat_lt, slice_index, List, [], ◌∷◌, ◌++◌, length, get_or, take, drop, Option, Some, None, unwrap_or, refl, sym, ap, ap₂, subst, ◌∙◌, arith, append_assoc, take-append-drop}
+use Rattle.std.proofs.Common.{◌≡◌, ◌≢◌, ℕ, zero, suc, ◌+◌, ◌<◌, Bool, true, false, not, nat_eq, nat_lt, slice_index, List, [], ◌∷◌, ◌++◌, length, get_or, take, drop, Option, Some, None, unwrap_or, refl, sym, ap, ap₂, subst, ◌∙◌, arith, append_assoc, take-append-drop}
 use Rattle.std.specs.List.{AllByRecursion, list_all, position}
 use Rattle.std.specs.Str.{IsUtf8}
 use Rattle.std.proofs.lemmas.Bool.{eqb-true, eqb-false, ltb-true, and_parts}
@@ -9,7 +9,7 @@ use Rattle.netlink_packet_route.specs.declared.family.Family.{Family}
 use Rattle.netlink_packet_route.specs.declared.family.Family.TheVariants.{Bond}
 use Rattle.netlink_packet_route.specs.Family.{family_name}
 use Rattle.netlink_packet_route.specs.Report.{is_space, line}
-use Rattle.nlshow.specs.Show.{IsUnbroken, IsApart, IsCut}
+use Rattle.nlshow.specs.Show.{IsUnbroken, IsBlank, IsApart, IsCut, IsSolidFirst}
 use Rattle.nlshow.proofs.Cuts.{cut_at, no_cut, all_each}
 
 -- ---- the names of families are text
@@ -63,3 +63,35 @@ named_at xs (Some i) e =
 pub named : (xs front rest : List ℕ) (r : Option ℕ) (i : ℕ) → r ≡ position is_space xs → i ≡ unwrap_or r (length xs) → front ≡ take i xs → rest ≡ drop i xs → IsCut xs front rest
 named xs front rest r i e n f b =
     subst (λ t. IsCut xs t rest) (sym (f ∙ ap (λ k. take k xs) n)) (subst (λ t. IsCut xs (take (unwrap_or r (length xs)) xs) t) (sym (b ∙ ap (λ k. drop k xs) n)) (named_at xs r e))
+
+not-not : (b : Bool) → not (not b) ≡ b
+not-not true = refl
+not-not false = refl
+
+spaces : (xs : List ℕ) → AllByRecursion (λ b. not (is_space b) ≡ false) xs → IsBlank xs
+spaces xs h = all_each (λ b. not (is_space b) ≡ false) (λ b. is_space b ≡ true) (λ b e. sym (not-not (is_space b)) ∙ ap not e) xs h
+
+solid_at : (xs : List ℕ) (r : Option ℕ) → r ≡ position (λ b. not (is_space b)) xs → IsSolidFirst xs (drop (unwrap_or r (length xs)) xs)
+solid_at xs None e =
+    record {
+      space = take (length xs) xs;
+      whole = sym (take-append-drop (length xs) xs);
+      blank = subst IsBlank (sym (take_all (length xs) xs (omega arith))) (spaces xs (no_cut (λ b. not (is_space b)) xs e));
+      solid = λ b behind h. absurd (nothing b behind (sym (drop_all (length xs) xs (omega arith)) ∙ h));
+    }
+  where
+    nothing : (b : ℕ) (behind : List ℕ) → [] ≡ b ∷ behind → ⊥
+    nothing b behind h = absurd cc
+solid_at xs (Some i) e =
+    let c = cut_at (λ b. not (is_space b)) xs i e in
+    record {
+      space = take i xs;
+      whole = sym (take-append-drop i xs);
+      blank = spaces (take i xs) c.before;
+      solid = λ b behind h.
+          let same : get_or xs i 0 ≡ b = ap (λ (t : List ℕ). get_or t 0 0) (sym c.rest ∙ h) in
+          subst (λ x. is_space x ≡ false) same (sym (not-not (is_space (get_or xs i 0))) ∙ ap not c.passes);
+    }
+
+pub solid_first : (xs rest : List ℕ) (r : Option ℕ) (i : ℕ) → r ≡ position (λ b. not (is_space b)) xs → i ≡ unwrap_or r (length xs) → rest ≡ drop i xs → IsSolidFirst xs rest
+solid_first xs rest r i e n b = subst (IsSolidFirst xs) (sym (b ∙ ap (λ k. drop k xs) n)) (solid_at xs r e)

@@ -3,12 +3,14 @@ use Rattle.std.specs.Prelude.{◌≡◌, ◌≢◌, ◌⊎◌, ℕ, ◌<◌, ◌
 use Rattle.std.specs.List.{flat_map, AllByRecursion}
 use Rattle.hex.specs.Hex.{decode_of}
 use Rattle.hex.specs.declared.error.FromHexError.{FromHexError}
+use Rattle.netlink_packet_route.specs.declared.family.Family.{Family}
 use Rattle.netlink_packet_route.specs.Family.{family_name, table_of}
 use Rattle.netlink_packet_route.specs.Report.{line, is_space, digits_of}
 use Rattle.nlshow.specs.declared.asking.Asked.{Asked}
-use Rattle.nlshow.specs.declared.asking.Asked.TheVariants.{Messages, Attributes}
+use Rattle.nlshow.specs.declared.asking.Asked.TheVariants.{Messages, Attributes, Verdict}
 use Rattle.nlshow.specs.List.{ShowsList, ShowsEach}
 use Rattle.nlshow.specs.Messages.{ShowsMessages}
+use Rattle.nlshow.specs.Verdict.{ShowsVerdict}
 
 -- ---- a line
 
@@ -36,25 +38,51 @@ pub record IsCut (text word rest : List ℕ) : Type 0 where
   pub solid : AllByRecursion (λ b. is_space b ≡ false) word
   pub apart : IsApart rest
 
--- the word that asks for it
-abbrev pub word_of : Asked → List ℕ
-word_of Messages = codes "message"
-word_of (Attributes family) = family_name family
+-- what follows the white space in front of a text
+pub record IsSolidFirst (text rest : List ℕ) : Type 0 where
+  pub space : List ℕ
+  pub whole : text ≡ space ++ rest
+  pub blank : IsBlank space
+  pub solid : (b : ℕ) (behind : List ℕ) → rest ≡ b ∷ behind → is_space b ≡ false
 
--- what is written of bytes, as it is asked, and whether they were read
+-- the second word of a text whose first word is `check`, and the rest
+pub record IsChecked (text word rest : List ℕ) : Type 0 where
+  pub behind : List ℕ
+  pub second : List ℕ
+  pub first : IsCut text (codes "check") behind
+  pub apart : IsSolidFirst behind second
+  pub cut : IsCut second word rest
+
+-- a text asks for this, and the rest is that of its digits
+abbrev pub Asks : List ℕ → Asked → List ℕ → Type 0
+Asks text Messages rest = IsCut text (codes "message") rest
+Asks text (Attributes family) rest = IsCut text (family_name family) rest
+Asks text (Verdict family) rest = IsChecked text (family_name family) rest
+
+-- no family has this name
+abbrev pub IsNoFamily : List ℕ → Type 0
+IsNoFamily word = (family : Family) → word ≢ family_name family
+
+-- a text asks for nothing: its first word does not, or its second one behind `check`
+pub data AsksNothing (text : List ℕ) : Type 0 where
+  First : (word rest : List ℕ) → IsCut text word rest → word ≢ codes "message" → word ≢ codes "check" → IsNoFamily word → AsksNothing text
+  Second : (word rest : List ℕ) → IsChecked text word rest → IsNoFamily word → AsksNothing text
+
+-- what is written of bytes, as it is asked, and whether all is well with them
 abbrev pub ShowsAsked : Asked → List ℕ → List ℕ → Bool → Type 0
 ShowsAsked Messages = ShowsMessages
 ShowsAsked (Attributes family) = ShowsList [] 0 (table_of family)
+ShowsAsked (Verdict family) = ShowsVerdict (table_of family)
 
 -- the same of a text of digits: that of the bytes that they are, or that they are no hex text
 abbrev pub ShowsDigits : Asked → Result (List ℕ) FromHexError → List ℕ → Bool → Type 0
 ShowsDigits asked (Ok s) out read = ShowsAsked asked s out read
 ShowsDigits asked (Err e) out read = (out ≡ line (codes "bad hex")) × (read ≡ false)
 
--- what is written below a line: of a word that asks, and a text of digits; or of another word
+-- what is written below a line: what it asks for of a text of digits; or that it asks for nothing
 pub data ShowsBelow (text out : List ℕ) (read : Bool) : Type 0 where
-  Known : (asked : Asked) (rest : List ℕ) → IsCut text (word_of asked) rest → ShowsDigits asked (decode_of (digits_of rest)) out read → ShowsBelow text out read
-  Unknown : (word rest : List ℕ) → IsCut text word rest → ((asked : Asked) → word ≢ word_of asked) → out ≡ line (codes "no such family") → read ≡ false → ShowsBelow text out read
+  Known : (asked : Asked) (rest : List ℕ) → Asks text asked rest → ShowsDigits asked (decode_of (digits_of rest)) out read → ShowsBelow text out read
+  Unknown : AsksNothing text → out ≡ line (codes "no such family") → read ≡ false → ShowsBelow text out read
 
 -- what is written for a line, and whether what it asks for was read
 pub data Shows (text out : List ℕ) (read : Bool) : Type 0 where

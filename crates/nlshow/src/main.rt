@@ -2,7 +2,7 @@
 //!
 //! `nlshow`, without an argument. Each line of standard input is a family's name (`af_spec_bridge`, `bond`,
 //! `bond_port`, `bridge`, `bridge_port`, `vlan`, `can`, `dsa`, `hsr` or `proto_bridge`), white space, and the bytes of
-//! a list as hex digits; or `message`, white space, and the bytes of messages.
+//! a list as hex digits; the same behind `check` and white space; or `message`, white space, and the bytes of messages.
 #![tactic(auto)]
 
 mod arguments;
@@ -14,6 +14,7 @@ mod running;
 mod showing;
 #[cfg(test)]
 mod tests;
+mod verdicts;
 
 use std::alloc::AllocError;
 use std::io::BufWriter;

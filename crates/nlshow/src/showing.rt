@@ -3,15 +3,16 @@
 ghost use Rattle.std.specs.Prelude.{◌≡◌, ◌++◌, ◌↔◌, IsTrue, IfOk, OnOk, string_bytes};
 ghost use Rattle.std.specs.Io.KnownBytes.{Appends, Keeps};
 ghost use Rattle.hex.specs.Hex.{decode_of};
-ghost use Rattle.netlink_packet_route.specs.Report.{is_space, digits_of, line};
+ghost use Rattle.netlink_packet_route.specs.Report.{digits_of, line};
 ghost use Rattle.nlshow.specs.List.{Adds};
-ghost use Rattle.nlshow.specs.Show.{IsPassedOver, IsCut, ShowsAsked, ShowsDigits, ShowsBelow};
+ghost use Rattle.nlshow.specs.Show.{IsPassedOver, ShowsAsked, ShowsDigits, ShowsBelow};
 ghost use Rattle.nlshow.specs.Progress.{WritesLine, OnMemory};
 
-use crate::asking::Asked;
+use crate::asking::{Asked, is_space};
 use crate::lists::push_list;
 use crate::messages::push_messages;
 use crate::running::Stop;
+use crate::verdicts::push_verdict;
 use hex::FromHexError;
 use netlink_packet_route::MOST_TEXT;
 use std::alloc::{AllocError, Global};
@@ -51,12 +52,6 @@ fn is_passed_over(text: &[u8]) -> bool
     }
 }
 
-fn is_space(b: u8) -> bool
-    ensures { result ≡ is_space b }
-{
-    matches!(b, b' ' | b'\t' | b'\r' | b'\n')
-}
-
 /// Writes the line, LF, and the text.
 fn write_below<W: Write>(writer: &mut W, text: &[u8], below: &str) -> io::Result<()>
     ensures { OnOk result (Appends (W.contents writer.old) (W.contents writer.new) (line text.now ++ below.now)) }
@@ -70,9 +65,8 @@ fn write_below<W: Write>(writer: &mut W, text: &[u8], below: &str) -> io::Result
 fn answer(alloc: Global, text: &[u8]) -> Result<(String, bool), AllocError>
     ensures { IfOk result (λ below. ShowsBelow text.now (string_bytes below.0) below.1) }
 {
-    let (word, rest) = cut_word(text);
-    match Asked::from_word(word) {
-        Some(asked) => digits_text(alloc, asked, rest),
+    match Asked::from_line(text) {
+        Some((asked, rest)) => digits_text(alloc, asked, rest),
         None => Ok((String::from_str(alloc, "no such family\n")?, false)),
     }
 }
@@ -108,15 +102,8 @@ fn push_answer(
             let payload = Payload { at: 0, bytes };
             push_list(alloc, text, "", Part { family, payload })
         }
+        Asked::Verdict(family) => push_verdict(text, family, bytes),
     }
-}
-
-/// What stands before the first white space, and the rest.
-fn cut_word(text: &[u8]) -> (&[u8], &[u8])
-    ensures { IsCut text.now result.0.now result.1.now }
-{
-    let end = text.iter().position(|b| is_space(*b)).unwrap_or(text.len());
-    text.split_at(end)
 }
 
 /// What is left without white space.

@@ -8,27 +8,49 @@ use std::process::Abort;
 
 const SHOWN: &str = "dsa 0800 0100 2a00 0000\n  Conduit(42)\n";
 
-/// Gives one byte a read, and fails behind the last where it is broken.
+/// Gives at most so many bytes a read, and fails behind the last where it is broken.
 #[derive(Drop)]
 struct Trickle<'a> {
     rest: &'a [u8],
+    most: usize,
     is_broken: bool,
 }
 
 impl Read for Trickle<'_> {
     fn read(&mut self, buf: &mut [u8]) -> io::Result<usize> {
-        if buf.is_empty() {
-            return Ok(0);
+        if self.rest.is_empty() && self.is_broken {
+            return Err(io::Error::from(io::ErrorKind::Interrupted));
         }
-        match self.rest.split_first() {
-            Some((first, rest)) => {
-                buf[0] = *first;
-                self.rest = rest;
-                Ok(1)
-            }
-            None if self.is_broken => Err(io::Error::from(io::ErrorKind::Interrupted)),
-            None => Ok(0),
+        let room = buf.len().min(self.most);
+        self.rest.read(&mut buf[..room])
+    }
+}
+
+/// Takes at most so many bytes a call, and this many in all; then it fails.
+#[derive(Drop)]
+struct Narrow {
+    taken: Vec<u8>,
+    most: usize,
+    room: usize,
+    failures: usize,
+}
+
+impl Write for Narrow {
+    fn write(&mut self, buf: &[u8]) -> io::Result<usize> {
+        let room = self.room.saturating_sub(self.taken.len());
+        let count = buf.len().min(self.most).min(room);
+        if count == 0 {
+            self.failures = self.failures.saturating_add(1);
+            return Err(io::Error::from(io::ErrorKind::BrokenPipe));
         }
+        match self.taken.extend_from_slice(&buf[..count]) {
+            Ok(()) => Ok(count),
+            Err(_) => Err(io::Error::from(io::ErrorKind::OutOfMemory)),
+        }
+    }
+
+    fn flush(&mut self) -> io::Result<()> {
+        Ok(())
     }
 }
 
@@ -60,6 +82,7 @@ fn shows(rt: &impl Abort, alloc: Global, text: &[u8], shown: &[u8], status: u8) 
     assert!(rt; answer == status && written.as_slice() == shown);
     let mut trickle = Trickle {
         rest: text,
+        most: 1,
         is_broken: false,
     };
     let mut written = Vec::new(alloc);
@@ -106,6 +129,7 @@ fn readers_and_writers_that_fail(rt: HostRuntime) {
     ] {
         let mut reader = Trickle {
             rest: text.as_bytes(),
+            most: 1,
             is_broken: true,
         };
         let mut written = Vec::new(rt.alloc());
@@ -116,5 +140,75 @@ fn readers_and_writers_that_fail(rt: HostRuntime) {
         let mut text = b"dsa\n".as_slice();
         let status = run(rt.alloc(), &mut text, &mut Broken { takes });
         assert_eq!(&rt; status, 5);
+    }
+}
+
+/// Lines, and what is printed for each.
+const ROWS: [(&str, &str); 6] = [
+    ("dsa\n", "dsa\n"),
+    ("# dsa 0\n", ""),
+    ("dsa 0800 0100 2a00 0000\n", SHOWN),
+    ("tap\n", "tap\nno such family\n"),
+    ("\n", ""),
+    ("hsr 03\n", "hsr 03\nfault at 0: short frame 1\n"),
+];
+
+/// The text, read by 1, 2, 3, 7 and 4096 bytes, is answered by these lines and a status; and by a reader that fails
+/// behind it, by `read fault` and 5 behind the lines of its whole lines.
+fn is_read(rt: &impl Abort, alloc: Global, text: &[u8], lines: &[u8], end: (bool, u8)) {
+    let (is_broken, status) = end;
+    for most in [1, 2, 3, 7, 4096] {
+        let mut reader = Trickle {
+            rest: text,
+            most,
+            is_broken,
+        };
+        let mut written = Vec::new(alloc);
+        let answer = run(alloc, &mut reader, &mut written);
+        assert!(rt; answer == status && written.as_slice() == lines);
+    }
+}
+
+/// A reader that fails behind each byte of several lines. What was printed before are whole lines.
+#[test]
+fn readers_that_fail_anywhere(rt: HostRuntime) {
+    let alloc = rt.alloc();
+    let mut text = Vec::new(alloc);
+    let mut lines = Vec::new(alloc);
+    for (line, shown) in ROWS {
+        for byte in line.as_bytes() {
+            let mut wanted = lines.clone().expect(&rt, line);
+            wanted.extend_from_slice(b"read fault\n").expect(&rt, line);
+            is_read(&rt, alloc, &text, &wanted, (true, 5));
+            text.push(*byte).expect(&rt, line);
+        }
+        lines.extend_from_slice(shown.as_bytes()).expect(&rt, line);
+    }
+    is_read(&rt, alloc, &text, &lines, (false, 1));
+}
+
+/// A writer that fails at each place of the output. Before it all is printed, and after it nothing is tried.
+#[test]
+fn writers_that_fail_anywhere(rt: HostRuntime) {
+    let alloc = rt.alloc();
+    let mut text = Vec::new(alloc);
+    let mut lines = Vec::new(alloc);
+    for (line, shown) in ROWS {
+        text.extend_from_slice(line.as_bytes()).expect(&rt, line);
+        lines.extend_from_slice(shown.as_bytes()).expect(&rt, line);
+    }
+    for most in [1, 4096] {
+        for room in 0..lines.len() + 1 {
+            let mut writer = Narrow {
+                taken: Vec::new(alloc),
+                most,
+                room,
+                failures: 0,
+            };
+            let answer = run(alloc, &mut text.as_slice(), &mut writer);
+            let (wanted, failures) = if room < lines.len() { (5, 1) } else { (1, 0) };
+            assert!(&rt; answer == wanted && writer.failures == failures);
+            assert!(&rt; writer.taken.len() == room && lines.starts_with(&writer.taken));
+        }
     }
 }

@@ -6,7 +6,7 @@ ghost use Rattle.link_bond.specs.AdInfo.{ad_info_rows, ad_info_leaf};
 
 use link_base::{
     Attribute, DecodeError, DefaultNla, Meaning, NestedAttribute, Nla, NlaBuffer, Parseable,
-    TryClone, emit_mac, emit_u16, parse_mac, parse_u16,
+    TryClone, emit_mac, emit_u16, has_size, parse_mac, parse_u16,
 };
 use std::alloc::{AllocError, Global};
 
@@ -111,6 +111,17 @@ impl Attribute for BondAdInfo {
     ghost use Rattle.link_base.proofs.TableLaws.{lawful};
     ghost use Rattle.link_base.specs.Equality.{of_cases, thorough_fields};
     ghost use Rattle.link_bond.specs.contracts.bond.ad_info.BondAdInfo.{enum};
+
+    fn canonical(buffer: &NlaBuffer<'_>) -> bool {
+        match buffer.kind() {
+            IFLA_BOND_AD_INFO_AGGREGATOR
+            | IFLA_BOND_AD_INFO_NUM_PORTS
+            | IFLA_BOND_AD_INFO_ACTOR_KEY
+            | IFLA_BOND_AD_INFO_PARTNER_KEY => has_size(buffer, 2),
+            IFLA_BOND_AD_INFO_PARTNER_MAC => has_size(buffer, 6),
+            _ => true,
+        }
+    }
 
     ghost lawful = { lawful (lift_table ad_info_rows) };
 

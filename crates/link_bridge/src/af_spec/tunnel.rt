@@ -8,7 +8,7 @@ use crate::af_spec::vlan_info_flags::BridgeVlanInfoFlags;
 use bitflags::Flags;
 use link_base::{
     Attribute, DecodeError, DefaultNla, Meaning, NestedAttribute, Nla, NlaBuffer, Parseable,
-    TryClone, emit_u16, emit_u32, parse_u16, parse_u32,
+    TryClone, emit_u16, emit_u32, has_size, parse_u16, parse_u32,
 };
 use std::alloc::{AllocError, Global};
 
@@ -102,6 +102,14 @@ impl Attribute for BridgeVlanTunnelInfo {
       thorough-law as flags_thorough,
     };
     ghost use Rattle.link_bridge.specs.contracts.af_spec.tunnel.BridgeVlanTunnelInfo.{enum};
+
+    fn canonical(buffer: &NlaBuffer<'_>) -> bool {
+        match buffer.kind() {
+            IFLA_BRIDGE_VLAN_TUNNEL_ID => has_size(buffer, 4),
+            IFLA_BRIDGE_VLAN_TUNNEL_VID | IFLA_BRIDGE_VLAN_TUNNEL_FLAGS => has_size(buffer, 2),
+            _ => true,
+        }
+    }
 
     ghost lawful = { lawful (lift_table tunnel_rows) };
 

@@ -2,7 +2,7 @@
 
 use link_base::{
     Address, Attribute, DecodeError, DefaultNla, Meaning, NestedAttribute, Nla, NlaBuffer,
-    Parseable, TryClone, emit_u32, emit_u64, parse_address, parse_u32, parse_u64,
+    Parseable, TryClone, emit_u32, emit_u64, has_size, parse_address, parse_u32, parse_u64,
 };
 use std::alloc::{AllocError, Global};
 use std::net::{Ipv4Addr, Ipv6Addr};
@@ -133,6 +133,16 @@ impl Attribute for BridgeQuerierState {
     ghost use Rattle.link_bridge.specs.Querier.{querier_rows};
     ghost use Rattle.link_base.specs.Equality.{of_cases, thorough_fields};
     ghost use Rattle.link_bridge.specs.contracts.bridge.querier.BridgeQuerierState.{enum};
+
+    fn canonical(buffer: &NlaBuffer<'_>) -> bool {
+        match buffer.kind() {
+            BRIDGE_QUERIER_IP_ADDRESS | BRIDGE_QUERIER_IP_PORT | BRIDGE_QUERIER_IPV6_PORT =>
+                has_size(buffer, 4),
+            BRIDGE_QUERIER_IP_OTHER_TIMER | BRIDGE_QUERIER_IPV6_OTHER_TIMER => has_size(buffer, 8),
+            BRIDGE_QUERIER_IPV6_ADDRESS => has_size(buffer, 16),
+            _ => true,
+        }
+    }
 
     ghost lawful = { lawful (lift_table querier_rows) };
 

@@ -133,56 +133,116 @@ fn with_zeros(rt: &impl Abort, alloc: Global, digits: &str, count: usize) -> Vec
     text
 }
 
-#[test]
-fn the_report_of_the_longest_payload(rt: HostRuntime) {
-    let alloc = rt.alloc();
-    let text = with_zeros(&rt, alloc, "ff ff 63 00", 65531);
-    let (out, status) = report(alloc, Family::Vlan, &text).expect(&rt, "a report");
-    let mut wanted = with_zeros(&rt, alloc, "attr 99 len 65531\nout ffff6300", 65532);
+/// What is reported for these digits and so many zero bytes behind them: the line of one value, and bytes that begin so
+/// and end in so many zeros.
+fn is_written_out(rt: &impl Abort, alloc: Global, input: (&str, usize), out: (&str, usize, &str)) {
+    let (digits, count) = input;
+    let (lines, zeros, verdict) = out;
+    let text = with_zeros(rt, alloc, digits, count);
+    let (shown, status) = report(alloc, Family::Vlan, &text).expect(rt, digits);
+    let mut wanted = with_zeros(rt, alloc, lines, zeros);
     wanted
-        .extend_from_slice(b"\nchanged\n")
-        .expect(&rt, "the verdict");
-    assert!(rt; out.as_bytes() == wanted.as_slice() && status == 0);
+        .extend_from_slice(verdict.as_bytes())
+        .expect(rt, digits);
+    let is_so = shown.as_bytes() == wanted.as_slice() && status == 0;
+    holds(rt, is_so, digits);
 }
 
-/// What is reported where these digits stand before a list of 65529 bytes, whose element is written as 65532, and
-/// those behind it.
+#[test]
+fn reports_of_the_longest_payloads(rt: HostRuntime) {
+    for (input, out) in [
+        (
+            ("ff ff 63 00", 65531),
+            ("attr 99 len 65531\nout ffff6300", 65532, "\nchanged\n"),
+        ),
+        // the longest list whose last element is whole
+        (
+            ("fcff0300 f8ff6300", 65524),
+            ("attr 3 len 65528\nout fcff0300f8ff6300", 65524, "\nsame\n"),
+        ),
+    ] {
+        is_written_out(&rt, rt.alloc(), input, out);
+    }
+}
+
+/// What is reported for these digits, so many zero bytes behind them, and the digits behind these.
 fn long_list_is(
     rt: &impl Abort,
     alloc: Global,
-    before: &str,
-    behind: &str,
+    list: (&str, usize, &str),
     wanted: &str,
     status: u8,
 ) {
-    let digits = format!(in alloc; "{before} fdff0300 f9ff6300").expect(rt, wanted);
-    let mut text = with_zeros(rt, alloc, &digits, 65525);
+    let (digits, count, behind) = list;
+    let mut text = with_zeros(rt, alloc, digits, count);
     text.extend_from_slice(behind.as_bytes()).expect(rt, wanted);
     let (out, answer) = report(alloc, Family::Vlan, &text).expect(rt, wanted);
     holds(rt, out.as_str() == wanted && answer == status, wanted);
 }
 
+/// Lists of mappings whose last element lacks one to three bytes of padding, with which they have more bytes than an
+/// attribute takes.
 #[test]
 fn lists_that_grow(rt: HostRuntime) {
-    for (before, behind, wanted, status) in [
-        ("", "", "too long at 0\n", 3),
+    for (list, wanted, status) in [
+        (("fdff0300 f9ff6300", 65525, ""), "too long at 0\n", 3),
+        (("feff0300 faff6300", 65526, ""), "too long at 0\n", 3),
+        (("ffff0300 fbff6300", 65527, ""), "too long at 0\n", 3),
         // two of the three bytes of padding, whatever they are
-        ("", "0300", "too long at 0\n", 3),
-        ("", "000000", "too long at 0\n", 3),
-        ("", "000000 04000900", "too long at 0\n", 3),
-        ("06000100 0a000000", "", "too long at 1\n", 3),
-        // a fault is told before a length
-        ("", "000000 0300", "fault at 65536: short frame 2\n", 1),
-        ("", "030003 00", "fault at 65536: short frame 1\n", 1),
+        (("fdff0300 f9ff6300", 65525, "0300"), "too long at 0\n", 3),
+        (("fdff0300 f9ff6300", 65525, "000000"), "too long at 0\n", 3),
         (
-            "",
-            "000000 04000100",
+            ("fdff0300 f9ff6300", 65528, "04000900"),
+            "too long at 0\n",
+            3,
+        ),
+        (
+            ("06000100 0a000000 fdff0300 f9ff6300", 65525, ""),
+            "too long at 1\n",
+            3,
+        ),
+        // a fault is told before a length
+        (
+            ("fdff0300 f9ff6300", 65528, "0300"),
+            "fault at 65536: short frame 2\n",
+            1,
+        ),
+        (
+            ("fdff0300 f9ff6300", 65525, "030003 00"),
+            "fault at 65536: short frame 1\n",
+            1,
+        ),
+        (
+            ("fdff0300 f9ff6300", 65528, "04000100"),
             "fault at 65536: kind 1: wrong length 2 0\n",
             1,
         ),
     ] {
-        long_list_is(&rt, rt.alloc(), before, behind, wanted, status);
+        long_list_is(&rt, rt.alloc(), list, wanted, status);
     }
+}
+
+/// A VLAN with so many mappings, which take twelve bytes each.
+fn with_mappings(rt: &impl Abort, alloc: Global, count: u32) -> Result<Vec<u8>, WriteError> {
+    let mut mappings = Vec::new(alloc);
+    for from in 0..count {
+        mappings
+            .push(VlanQosMapping::Mapping(from, 7))
+            .expect(rt, "a mapping");
+    }
+    write_list(alloc, &[InfoVlan::Id(1), InfoVlan::EgressQos(mappings)])
+}
+
+#[test]
+fn as_many_mappings_as_fit(rt: HostRuntime) {
+    let alloc = rt.alloc();
+    let out = with_mappings(&rt, alloc, 5460).expect(&rt, "its bytes");
+    let front = [6, 0, 1, 0, 1, 0, 0, 0, 0xF4, 0xFF, 3, 0, 12, 0, 1, 0];
+    // the last one maps 5459
+    let is_whole = out.ends_with(&[12, 0, 1, 0, 0x53, 0x15, 0, 0, 7, 0, 0, 0]);
+    assert!(rt; out.len() == 65532 && out.starts_with(&front) && is_whole);
+    let one_more = with_mappings(&rt, alloc, 5461);
+    assert!(rt; one_more == Err(WriteError::TooLong { index: 1 }));
 }
 
 #[test]

@@ -3,7 +3,7 @@
 mod bridges;
 
 use crate::tests::{bytes, holds};
-use crate::{Family, MOST_TEXT, report, rewrite};
+use crate::{Family, MOST_TEXT, is_canonical, report, rewrite};
 use std::alloc::Global;
 use std::process::Abort;
 
@@ -20,7 +20,8 @@ fn rewriting_line(rt: &impl Abort, alloc: Global, family: Family, text: &str) ->
     line.expect(rt, text)
 }
 
-/// Each text is answered by the output beside it and this status, and its bytes are rewritten as the output says.
+/// Each text is answered by the output beside it and this status, and its bytes are rewritten as the output says. They are
+/// canonical where it says that they stay the same.
 fn are_reported(rt: &impl Abort, alloc: Global, name: &str, status: u8, rows: &[(&str, &str)]) {
     let family = Family::from_name(name).expect(rt, name);
     for (text, wanted) in rows {
@@ -28,6 +29,8 @@ fn are_reported(rt: &impl Abort, alloc: Global, name: &str, status: u8, rows: &[
         holds(rt, out.as_str() == *wanted && answer == status, text);
         let line = rewriting_line(rt, alloc, family, text);
         holds(rt, wanted.contains(line.as_str()), text);
+        let is_same = is_canonical(family, &bytes(rt, alloc, text));
+        holds(rt, is_same == wanted.ends_with("\nsame\n"), text);
     }
 }
 
@@ -563,6 +566,24 @@ fn texts_that_are_too_long(rt: HostRuntime) {
     // its length is looked at before its digits
     let letters = vec![in alloc; b'z'; MOST_TEXT + 1].expect(&rt, "letters");
     is_answered(&rt, alloc, &letters, "input too long\n", 2);
+}
+
+/// 16,384 attributes in as many digits as a text has at most.
+#[test]
+fn the_longest_text(rt: HostRuntime) {
+    let alloc = rt.alloc();
+    let mut text = String::new(alloc);
+    let mut wanted = String::new(alloc);
+    for _ in 0..16_384 {
+        text.push_str("080001002a000000").expect(&rt, "digits");
+        wanted.push_str("attr 1 len 4\n").expect(&rt, "a line");
+    }
+    wanted.push_str("out ").expect(&rt, "the bytes");
+    wanted.push_str(text.as_str()).expect(&rt, "the bytes");
+    wanted.push_str("\nsame\n").expect(&rt, "the verdict");
+    is_answered(&rt, alloc, text.as_bytes(), wanted.as_str(), 0);
+    text.push_str(" ").expect(&rt, "a space");
+    is_answered(&rt, alloc, text.as_bytes(), "input too long\n", 2);
 }
 
 #[test]

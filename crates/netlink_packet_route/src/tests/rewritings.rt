@@ -1,20 +1,40 @@
 //! What becomes of bytes that are rewritten, and rewritten again.
 
+ghost use Rattle.std.specs.Prelude.{◌≡◌, ◌+◌, length};
+ghost use Rattle.link_base.specs.Frame.{pad};
+
 use crate::link::{Cause, DecodeFault};
 use crate::tests::{bytes, can_limits, holds};
-use crate::{Family, RewriteError, rewrite};
+use crate::{Family, RewriteError, is_canonical, rewrite, rewrite_into};
 use std::alloc::Global;
 use std::process::Abort;
 
-/// The first bytes are rewritten to the second, those to the third, and these to themselves.
+/// The first bytes are rewritten to the second, those to the third, and these to themselves. Those that stay are
+/// canonical.
 fn becomes(rt: &impl Abort, alloc: Global, family: Family, digits: [&str; 3]) {
     let [first, second, third] = digits;
-    let once = rewrite(alloc, family, &bytes(rt, alloc, first)).expect(rt, first);
+    let before = bytes(rt, alloc, first);
+    let once = rewrite(alloc, family, &before).expect(rt, first);
+    let is_judged = is_canonical(family, &before) == (once == before);
     let twice = rewrite(alloc, family, &once).expect(rt, first);
     let thrice = rewrite(alloc, family, &twice).expect(rt, first);
-    holds(rt, once == bytes(rt, alloc, second), first);
+    holds(rt, is_judged && once == bytes(rt, alloc, second), first);
     let wanted = bytes(rt, alloc, third);
     holds(rt, twice == wanted && thrice == wanted, first);
+    let is_settled = is_canonical(family, &once) == (twice == once);
+    holds(rt, is_settled && is_canonical(family, &wanted), first);
+    let mut buffer = lent(rt, alloc, &before);
+    let len = rewrite_into(alloc, family, &before, &mut buffer).expect(rt, first);
+    holds(rt, len == once.len() && buffer.starts_with(&once), first);
+    let is_kept = buffer.iter().skip(len).all(|b| *b == 0xFF);
+    holds(rt, is_kept, first);
+}
+
+/// A buffer with room for the rewriting of a list, and for four bytes more.
+fn lent(rt: &impl Abort, alloc: Global, list: &[u8]) -> Vec<u8>
+    ensures { length result.items ≡ pad (length list.now) + 4 }
+{
+    vec![in alloc; 0xFFu8; (list.len() + 3) / 4 * 4 + 4].expect(rt, "a buffer")
 }
 
 /// The bytes beside a family's name stay as they are.
@@ -193,12 +213,39 @@ fn names_that_change(rt: HostRuntime) {
     }
 }
 
+/// The bytes are refused so, and behind the room for a rewriting the buffer is as it was.
+fn is_refused(rt: &impl Abort, alloc: Global, family: Family, list: &[u8], why: RewriteError) {
+    let mut buffer = lent(rt, alloc, list);
+    let is_so = rewrite_into(alloc, family, list, &mut buffer).is_err_and(|error| error == why);
+    assert!(rt; is_so && buffer.ends_with(&[0xFF; 4]));
+    assert!(rt; rewrite(alloc, family, list) == Err(why));
+}
+
 #[test]
 fn a_fault(rt: HostRuntime) {
-    let bytes = bytes(&rt, rt.alloc(), "08000100 2a000000 00");
-    let fault = RewriteError::Fault {
+    let alloc = rt.alloc();
+    let why = RewriteError::Fault {
         at: 8,
         fault: DecodeFault::Frame(Cause::ShortFrame { left: 1 }),
     };
-    assert!(rt; rewrite(rt.alloc(), Family::Dsa, &bytes) == Err(fault));
+    let list = bytes(&rt, alloc, "08000100 2a000000 00");
+    is_refused(&rt, alloc, Family::Dsa, &list, why);
+}
+
+#[test]
+fn a_value_that_does_not_fit(rt: HostRuntime) {
+    let alloc = rt.alloc();
+    // mappings of 65529 bytes, the last of which takes three bytes more when it is written
+    let mut list = bytes(&rt, alloc, "06000100 0a000000 fdff0300 f9ff6300");
+    list.resize(65541, 0).expect(&rt, "its bytes");
+    let long = RewriteError::TooLong { index: 1 };
+    is_refused(&rt, alloc, Family::Vlan, &list, long);
+    // a fault behind it comes first
+    list.resize(65546, 0)
+        .expect(&rt, "three bytes of padding, and two more");
+    let why = RewriteError::Fault {
+        at: 65544,
+        fault: DecodeFault::Frame(Cause::ShortFrame { left: 2 }),
+    };
+    is_refused(&rt, alloc, Family::Vlan, &list, why);
 }

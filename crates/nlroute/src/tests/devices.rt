@@ -1,18 +1,25 @@
 //! Runs over readers and writers that count, that give little, and that fail.
 
 use crate::running::run;
+use std::alloc::Global;
 use std::io;
 use std::io::{Read, Write};
+use std::process::Abort;
 use std::test::Fail;
 
 const TEXT: &[u8] = b"08 00 01 00 2a 00 00 00\n";
 
+/// 72 bytes.
+const LONG_TEXT: &[u8] =
+    b"08 00 01 00 2a 00 00 00 08 00 01 00 2a 00 00 00 08 00 01 00 2a 00 00 00\n";
+
 const LINES: &[u8] = b"attr 1 len 4\nout 080001002a000000\nsame\n";
 
-/// Gives one byte a read, and fails after the last where it is broken.
+/// Gives at most so many bytes a read, and fails behind the last where it is broken.
 #[derive(Drop)]
 struct Trickle<'a> {
     rest: &'a [u8],
+    most: usize,
     is_broken: bool,
     reads: usize,
 }
@@ -20,18 +27,11 @@ struct Trickle<'a> {
 impl Read for Trickle<'_> {
     fn read(&mut self, buf: &mut [u8]) -> io::Result<usize> {
         self.reads = self.reads.saturating_add(1);
-        if buf.is_empty() {
-            return Ok(0);
+        if self.rest.is_empty() && self.is_broken {
+            return Err(io::Error::from(io::ErrorKind::Interrupted));
         }
-        match self.rest.split_first() {
-            Some((first, rest)) => {
-                buf[0] = *first;
-                self.rest = rest;
-                Ok(1)
-            }
-            None if self.is_broken => Err(io::Error::from(io::ErrorKind::Interrupted)),
-            None => Ok(0),
-        }
+        let room = buf.len().min(self.most);
+        self.rest.read(&mut buf[..room])
     }
 }
 
@@ -52,16 +52,31 @@ impl Read for Spaces {
     }
 }
 
-/// Fails at each write.
+/// Takes at most so many bytes a call, and this many in all; then it fails, or takes none where it is mute.
 #[derive(Drop)]
-struct Broken {
-    writes: usize,
+struct Narrow {
+    taken: Vec<u8>,
+    most: usize,
+    room: usize,
+    is_mute: bool,
+    failures: usize,
 }
 
-impl Write for Broken {
-    fn write(&mut self, _buf: &[u8]) -> io::Result<usize> {
-        self.writes = self.writes.saturating_add(1);
-        Err(io::Error::from(io::ErrorKind::BrokenPipe))
+impl Write for Narrow {
+    fn write(&mut self, buf: &[u8]) -> io::Result<usize> {
+        let room = self.room.saturating_sub(self.taken.len());
+        let count = buf.len().min(self.most).min(room);
+        if count == 0 {
+            self.failures = self.failures.saturating_add(1);
+            if self.is_mute {
+                return Ok(0);
+            }
+            return Err(io::Error::from(io::ErrorKind::BrokenPipe));
+        }
+        match self.taken.extend_from_slice(&buf[..count]) {
+            Ok(()) => Ok(count),
+            Err(_) => Err(io::Error::from(io::ErrorKind::OutOfMemory)),
+        }
     }
 
     fn flush(&mut self) -> io::Result<()> {
@@ -80,6 +95,7 @@ fn slices_and_trickles(rt: HostRuntime) -> Result<(), Fail> {
 
     let mut reader = Trickle {
         rest: TEXT,
+        most: 1,
         is_broken: false,
         reads: 0,
     };
@@ -95,6 +111,7 @@ fn names_that_are_no_family(rt: HostRuntime) -> Result<(), Fail> {
     for name in [None, Some("tap"), Some("DSA"), Some("")] {
         let mut reader = Trickle {
             rest: TEXT,
+            most: 1,
             is_broken: true,
             reads: 0,
         };
@@ -108,9 +125,11 @@ fn names_that_are_no_family(rt: HostRuntime) -> Result<(), Fail> {
 
 #[test]
 fn readers_that_fail(rt: HostRuntime) -> Result<(), Fail> {
-    for given in [0, 5] {
+    for given in 0..65 {
+        let (front, _) = LONG_TEXT.split_at(LONG_TEXT.len().min(given));
         let mut reader = Trickle {
-            rest: &TEXT[..given],
+            rest: front,
+            most: 1,
             is_broken: true,
             reads: 0,
         };
@@ -118,6 +137,34 @@ fn readers_that_fail(rt: HostRuntime) -> Result<(), Fail> {
         assert_eq!(rt; run(rt.alloc(), Some("dsa"), &mut reader, &mut written), 5);
         assert_eq!(rt; written.as_slice(), b"read fault\n".as_slice());
         assert_eq!(rt; reader.reads, given + 1);
+    }
+    Ok(())
+}
+
+/// 700 attributes in 16,800 bytes of text, read by a few bytes at a time.
+#[test]
+fn readers_that_give_little(rt: HostRuntime) -> Result<(), Fail> {
+    let mut text = Vec::new(rt.alloc());
+    let mut wanted = Vec::new(rt.alloc());
+    for _ in 0..700 {
+        text.extend_from_slice(TEXT)?;
+        wanted.extend_from_slice(b"attr 1 len 4\n")?;
+    }
+    wanted.extend_from_slice(b"out ")?;
+    for _ in 0..700 {
+        wanted.extend_from_slice(b"080001002a000000")?;
+    }
+    wanted.extend_from_slice(b"\nsame\n")?;
+    for (most, reads) in [(1, 16_801), (2, 8401), (3, 5601), (7, 2401), (4096, 6)] {
+        let mut reader = Trickle {
+            rest: &text,
+            most,
+            is_broken: false,
+            reads: 0,
+        };
+        let mut written = Vec::new(rt.alloc());
+        let status = run(rt.alloc(), Some("dsa"), &mut reader, &mut written);
+        assert!(rt; status == 0 && written == wanted && reader.reads == reads);
     }
     Ok(())
 }
@@ -132,11 +179,35 @@ fn a_reader_without_end(rt: HostRuntime) -> Result<(), Fail> {
     Ok(())
 }
 
+/// What is written to a writer that takes so many bytes a call: all of it, with this status, where there is room; else
+/// the front for which there is, and after the failure nothing more is tried.
+fn is_taken(rt: &impl Abort, alloc: Global, name: Option<&str>, most: usize, whole: (&[u8], u8)) {
+    let (lines, status) = whole;
+    for room in 0..lines.len() + 1 {
+        let mut writer = Narrow {
+            taken: Vec::new(alloc),
+            most,
+            room,
+            is_mute: most == 7,
+            failures: 0,
+        };
+        let answer = run(alloc, name, &mut &TEXT[..], &mut writer);
+        let (wanted, failures) = if room < lines.len() {
+            (5, 1)
+        } else {
+            (status, 0)
+        };
+        assert!(rt; answer == wanted && writer.failures == failures);
+        assert!(rt; writer.taken.len() == room && lines.starts_with(&writer.taken));
+    }
+}
+
 #[test]
 fn writers_that_fail(rt: HostRuntime) {
-    for name in [Some("dsa"), Some("tap"), None] {
-        let mut writer = Broken { writes: 0 };
-        assert_eq!(rt; run(rt.alloc(), name, &mut &TEXT[..], &mut writer), 5);
-        assert_eq!(rt; writer.writes, 1);
+    let usage = b"usage: nlroute FAMILY\n".as_slice();
+    for most in [1, 7, 4096] {
+        is_taken(&rt, rt.alloc(), Some("dsa"), most, (LINES, 0));
+        is_taken(&rt, rt.alloc(), Some("tap"), most, (usage, 2));
+        is_taken(&rt, rt.alloc(), None, most, (usage, 2));
     }
 }

@@ -4,7 +4,7 @@ use crate::running::run;
 
 #[test]
 fn each_family_by_its_name(rt: HostRuntime) {
-    // of each family a text that no other family answers so
+    // of each family a text that shows how it reads
     for (name, text, wanted) in [
         (
             "af_spec_bridge",

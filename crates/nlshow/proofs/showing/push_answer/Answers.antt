@@ -10,3 +10,7 @@ returns-in-Messages c =
 pub returns-in-Attributes : goal.returns-in-Attributes
 returns-in-Attributes c =
     subst (λ asked. IfOk c.push_list.result (Adds (ShowsAsked asked c.args.bytes.now) (string_bytes c.args.text.now) (string_bytes c.push_list.new.text))) (sym c.in-Attributes.is) c.push_list.ensures
+
+pub returns-in-Verdict : goal.returns-in-Verdict
+returns-in-Verdict c =
+    subst (λ asked. IfOk c.push_verdict.result (Adds (ShowsAsked asked c.args.bytes.now) (string_bytes c.args.text.now) (string_bytes c.push_verdict.new.text))) (sym c.in-Verdict.is) c.push_verdict.ensures

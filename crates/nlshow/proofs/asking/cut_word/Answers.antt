@@ -3,7 +3,7 @@ use Rattle.std.proofs.lemmas.Iterator.{YieldsList-from_slice}
 use Rattle.std.proofs.lemmas.Iterator.Search.{position_from_yields_List}
 use Rattle.netlink_packet_route.specs.Report.{is_space}
 use Rattle.nlshow.proofs.Names.{named}
-use Rattle.nlshow.proofs.showing.cut_word.Goals as goal
+use Rattle.nlshow.proofs.asking.cut_word.Goals as goal
 
 pub returns : goal.returns
 returns c =

@@ -1,7 +1,7 @@
 use Rattle.std.proofs.Common.{length, ◌<◌, arith}
 use Rattle.link_base.specs.Table.{written_payload}
 use Rattle.link_base.proofs.Emit.{first_unfit_at}
-use Rattle.link_base.proofs.writing.measured.Goals as goal
+use Rattle.link_base.proofs.writing.measure_list.Goals as goal
 
 pub returns-then-size-gt-MAX_PAYLOAD : goal.returns-then-size-gt-MAX_PAYLOAD
 returns-then-size-gt-MAX_PAYLOAD g c =

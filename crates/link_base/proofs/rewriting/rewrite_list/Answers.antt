@@ -1,0 +1,150 @@
+use Rattle.std.proofs.Common.{◌≡◌, ◌≢◌, length, drop, ◌+◌, ◌-◌, None, [], ◌∷◌, ◌++◌, refl, sym, ap, subst, ◌∙◌, arith}
+use Rattle.std.proofs.lemmas.Grind.{common_steps}
+use Rattle.std.proofs.lemmas.List.{length-append, length-take, length-drop}
+use Rattle.link_base.specs.Frame.{pad, frame_bytes}
+use Rattle.link_base.specs.Buffer.{kind_field_of, payload_of, frame_of}
+use Rattle.link_base.specs.Table.{Gives, Fits, written_kind, written_payload}
+use Rattle.link_base.proofs.Numbers.{IsBytes-index}
+use Rattle.link_base.proofs.Begins.{Splits, splits, step_of}
+use Rattle.link_base.proofs.Emit.{length-whole_bytes}
+use Rattle.link_base.proofs.Relays.{underway_none, underway_more, ends_at_rest, ends_at_next, needs_memory, wrote_before, wrote_last, wrote_more, none_of, some_of, room_next, into_all, into_unfit, Wrote, SoFar}
+use Rattle.link_base.proofs.rewriting.rewrite_list.Goals.{then-is_none+then-size-gt-MAX_PAYLOAD, then-is_none+else-size-gt-MAX_PAYLOAD, else-is_none}
+use Rattle.link_base.proofs.rewriting.rewrite_list.Goals as goal
+
+pub loop-rest-init : goal.loop-rest-init
+loop-rest-init g c = record {
+  vs = [];
+  underway = underway_none (Gives g.F.Meaning.table) c.args.bytes.now;
+  wrote = record { so_far = (tt, refl, refl); behind = refl; low = omega arith };
+  few = omega arith;
+  count = refl;
+}
+
+pub overflow_sub-bytes : goal.overflow_sub-bytes
+overflow_sub-bytes g c = omega (arith, c.loop-rest.invariant.few)
+
+pub returns-in-Some-clause-answer : goal.returns-in-Some-clause-answer
+returns-in-Some-clause-answer g c =
+    let i = c.loop-rest.invariant in
+    let some : c.loop-rest.rest.now ≢ [] = λ e. grind (arith, common_steps) in
+    rw c.at.ensures (ends_at_rest (Gives g.F.Meaning.table) c.args.bytes.now c.loop-rest.place c.loop-rest.rest.now i.vs _ c.in-Some.cause i.underway some refl (sym c.cause_at_front.ensures ∙ c.in-Some.is))
+
+pub returns-in-Some-clause-behind : goal.returns-in-Some-clause-behind
+returns-in-Some-clause-behind g c = c.loop-rest.invariant.wrote.behind
+
+pub overflow_sub-bytes-in-Err : goal.overflow_sub-bytes-in-Err
+overflow_sub-bytes-in-Err g c = omega (arith, c.loop-rest.invariant.few)
+
+pub returns-in-Err-clause-answer : goal.returns-in-Err-clause-answer
+returns-in-Err-clause-answer g c =
+    let i = c.loop-rest.invariant in
+    let b = c.at_front-frame.result in
+    let some : c.loop-rest.rest.now ≢ [] = λ e. grind (arith, common_steps) in
+    rw c.at-in-Err.ensures (ends_at_next (Gives g.F.Meaning.table) c.args.bytes.now c.loop-rest.place c.loop-rest.rest.now i.vs _ (kind_field_of b) (payload_of b) c.in-Err.error i.underway some refl c.at_front-frame.ensures
+    c.in-Err.ensures.answer)
+
+pub returns-in-Err-clause-behind : goal.returns-in-Err-clause-behind
+returns-in-Err-clause-behind g c = c.loop-rest.invariant.wrote.behind
+
+pub returns-in-Err-clause-memory : goal.returns-in-Err-clause-memory
+returns-in-Err-clause-memory g c =
+    let i = c.loop-rest.invariant in
+    let b = c.at_front-frame.result in
+    let some : c.loop-rest.rest.now ≢ [] = λ e. grind (arith, common_steps) in
+    rw c.at-in-Err.ensures (needs_memory (Gives g.F.Meaning.table) g.F.Meaning.table c.args.bytes.now c.loop-rest.rest.now c.loop-rest.place (kind_field_of b) _ (payload_of b) i.vs c.in-Err.error i.underway some
+    c.at_front-frame.ensures c.in-Err.ensures.memory)
+
+pub slice_bounds-emit_sized-count : goal.slice_bounds-emit_sized-count
+slice_bounds-emit_sized-count g c = omega (arith, c.loop-rest.invariant.wrote.low, c.requires, c.loop-rest.auto.buffer)
+
+pub emit_sized-requires-clause-room : goal.emit_sized-requires-clause-room
+emit_sized-requires-clause-room g c =
+    let i = c.loop-rest.invariant in
+    let s = c.args.bytes.now in
+    let rest = c.loop-rest.rest.now in
+    let b = c.at_front-frame in
+    let v = g.F.Meaning.means c.in-Ok.value in
+    let buffer = c.loop-rest.buffer in
+    let len = c.loop-rest.len in
+    let some : rest ≢ [] = λ e. grind (arith, common_steps) in
+    let none : c.loop-rest.unfit ≡ None = none_of c.loop-rest.unfit c.if-is_none.ensures in
+    let all = subst (SoFar i.vs c.args.buffer.now buffer len) none i.wrote.so_far in
+    let fits : Fits v = omega (arith, c.value_len-size.ensures, c.if-size-gt-MAX_PAYLOAD.false) in
+    let room = room_next g.met.F.Attribute.lawful s (IsBytes-index s (λ j. omega (arith, c.type_inv.bytes j))) c.loop-rest.place rest (drop (step_of rest (payload_of b.result)) rest) i.vs (kind_field_of b.result) (payload_of b.result) v
+    i.underway some (splits rest (kind_field_of b.result) (payload_of b.result) b.ensures) c.in-Ok.ensures.answer all.0 fits in
+    omega (arith, room, all.2, c.requires, c.loop-rest.auto.buffer, length-take (length buffer - len) (drop len buffer), length-drop len buffer)
+
+pub overflow_add-place : goal.overflow_add-place
+overflow_add-place g c =
+    let b = c.at_front-frame in
+    let x = frame_of b.result in
+    let whole = ap length b.ensures.string ∙ length-append (frame_bytes x) b.ensures.rest in
+    omega (arith, c.loop-rest.invariant.few, whole)
+
+pub loop-rest-smaller : goal.loop-rest-smaller
+loop-rest-smaller g c =
+    let rest = c.loop-rest.rest.now in
+    let x = frame_of c.at_front-frame.result in
+    let whole = ap length c.at_front-frame.ensures.string ∙ length-append (frame_bytes x) c.at_front-frame.ensures.rest in
+    omega (arith, ap length c.step_over-rest.ensures, length-drop (step_of rest (payload_of c.at_front-frame.result)) rest, whole, length-append x.payload x.padding)
+
+pub loop-rest-preserved : goal.loop-rest-preserved
+loop-rest-preserved g c =
+    let i = c.loop-rest.invariant in
+    let s = c.args.bytes.now in
+    let rest = c.loop-rest.rest.now in
+    let b = c.at_front-frame in
+    let f = kind_field_of b.result in
+    let p = payload_of b.result in
+    let x = frame_of b.result in
+    let v = g.F.Meaning.means c.in-Ok.value in
+    let old = c.args.buffer.now in
+    let n = pad (length s) in
+    let some : rest ≢ [] = λ e. grind (arith, common_steps) in
+    let split = splits rest f p b.ensures in
+    let next = c.step_over-rest.ensures in
+    let whole = ap length b.ensures.string ∙ length-append (frame_bytes x) b.ensures.rest in
+    record {
+      vs = i.vs ++ v ∷ [];
+      underway = underway_more (Gives g.F.Meaning.table) s c.loop-rest.place rest c.step_over-rest.result.now i.vs f p v i.underway some (subst (Splits rest f p) (sym next) split) c.in-Ok.ensures.answer;
+      wrote = elim c.if-is_none.branch [
+        | then-is_none+then-size-gt-MAX_PAYLOAD w ↦
+            let none : c.loop-rest.unfit ≡ None = none_of c.loop-rest.unfit w.if-is_none.ensures in
+            let so_far = subst (λ u. Wrote i.vs old c.loop-rest.buffer c.loop-rest.len u n) none i.wrote in
+            rw (w.buffer-is, w.len-is, w.unfit-is) (wrote_last i.vs v old c.loop-rest.buffer c.loop-rest.len n c.loop-rest.place so_far i.count (omega (arith, w.value_len-size.ensures, w.if-size-gt-MAX_PAYLOAD.true)))
+        | then-is_none+else-size-gt-MAX_PAYLOAD w ↦
+            let none : c.loop-rest.unfit ≡ None = none_of c.loop-rest.unfit w.if-is_none.ensures in
+            let so_far = subst (λ u. Wrote i.vs old c.loop-rest.buffer c.loop-rest.len u n) none i.wrote in
+            let fits : Fits v = omega (arith, w.value_len-size.ensures, w.if-size-gt-MAX_PAYLOAD.false) in
+            let room = room_next g.met.F.Attribute.lawful s (IsBytes-index s (λ j. omega (arith, c.type_inv.bytes j))) c.loop-rest.place rest (drop (step_of rest p) rest) i.vs f p v i.underway some split
+            c.in-Ok.ensures.answer so_far.so_far.0 fits in
+            let long = length-whole_bytes (written_kind v) (written_payload v) in
+            rw (w.unfit-is, none) (wrote_more i.vs v old c.loop-rest.buffer c.if-is_none.buffer w.emit_sized.new.buffer c.loop-rest.len n c.if-is_none.len so_far fits room c.requires w.emit_sized.ensures.written w.buffer-is
+            (w.len-is ∙ ap (λ m. c.loop-rest.len + m) (omega (arith, w.value_len-size.ensures, fits, long))))
+        | else-is_none w ↦
+            let is_some : c.loop-rest.unfit ≢ None = some_of c.loop-rest.unfit w.if-is_none.ensures in
+            rw (w.buffer-is, w.len-is, w.unfit-is) (wrote_before i.vs v old c.loop-rest.buffer c.loop-rest.len n c.loop-rest.unfit is_some i.wrote)
+      ];
+      few = omega (arith, i.few, ap length next, length-drop (step_of rest p) rest, whole, length-append x.payload x.padding);
+      count = omega (arith, i.count, length-append i.vs (v ∷ []));
+    }
+
+pub returns-in-Some-unfit-clause-answer : goal.returns-in-Some-unfit-clause-answer
+returns-in-Some-unfit-clause-answer g c =
+    let i = c.loop-rest.invariant in
+    let none : c.loop-rest.rest.now ≡ [] = grind (arith, common_steps) in
+    let unfit = subst (SoFar i.vs c.args.buffer.now c.loop-rest.buffer c.loop-rest.len) c.in-Some-unfit.is i.wrote.so_far in
+    into_unfit g.F.Meaning.table c.args.bytes.now c.loop-rest.rest.now c.loop-rest.place c.in-Some-unfit.place i.vs i.underway none unfit
+
+pub returns-in-Some-unfit-clause-behind : goal.returns-in-Some-unfit-clause-behind
+returns-in-Some-unfit-clause-behind g c = c.loop-rest.invariant.wrote.behind
+
+pub returns-in-None-clause-answer : goal.returns-in-None-clause-answer
+returns-in-None-clause-answer g c =
+    let i = c.loop-rest.invariant in
+    let none : c.loop-rest.rest.now ≡ [] = grind (arith, common_steps) in
+    let all = subst (SoFar i.vs c.args.buffer.now c.loop-rest.buffer c.loop-rest.len) c.in-None.is i.wrote.so_far in
+    into_all g.F.Meaning.table c.args.bytes.now c.args.buffer.now c.loop-rest.buffer c.loop-rest.rest.now c.loop-rest.place c.loop-rest.len i.vs i.underway none all
+
+pub returns-in-None-clause-behind : goal.returns-in-None-clause-behind
+returns-in-None-clause-behind g c = c.loop-rest.invariant.wrote.behind

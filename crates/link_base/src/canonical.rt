@@ -1,0 +1,220 @@
+//! Whether attributes and lists are canonical, judged from their bytes: no value is built, and no memory is taken.
+//!
+//! A judge of one attribute takes its frame, and answers whether the kind field and the payload are those that are
+//! written for the value that they read as. Padding is judged with the list.
+
+ghost use Rattle.std.specs.Prelude.{◌≡◌, ◌≢◌, ◌↔◌, ◌⊎◌, ℕ, ◌<◌, List, [], ◌∷◌, Some, IsTrue, MatchOption, EachIndex, length, slice_index};
+ghost use Rattle.link_base.specs.Wire.{SplitsWhole};
+ghost use Rattle.link_base.specs.Name.{IsCutText, IsNameField};
+ghost use Rattle.link_base.specs.Class.{Exactly, AtLeast, Fixed, Unsigned, Signed, Truth, Octets, Bytes, Named, Protocol, Low, Empty, Limits};
+ghost use Rattle.link_base.specs.Table.{One, Nested, Addresses, AreAddresses, nested_flag, allows_by};
+ghost use Rattle.link_base.specs.Table.{Canonical, FirstNotCanonical};
+ghost use Rattle.link_base.specs.Buffer.{kind_field_of, payload_of};
+
+use crate::attribute::Attribute;
+use crate::buffer::{NlaBuffer, cause_at_front};
+use crate::nested::NestedAttribute;
+
+/// Whether a list is canonical: what is written for the values that it reads as is the list itself.
+#[inline]
+pub fn list_is_canonical<F: Attribute>(bytes: &[u8]) -> bool
+    ensures { IsTrue result ↔ Canonical F.table bytes.now }
+{
+    first_not_canonical::<F>(bytes).is_none()
+}
+
+/// The byte offset of the first attribute of a list that is not canonical, or of the bytes that are none; `None` where
+/// the list is canonical.
+#[inline]
+pub fn first_not_canonical<F: Attribute>(bytes: &[u8]) -> Option<usize>
+    ensures { MatchOption result (Canonical F.table bytes.now) (λ at. FirstNotCanonical F.table bytes.now at) }
+{
+    let mut rest = bytes;
+    while let Some((buffer, after)) = split_whole(rest) {
+        if !F::canonical(&buffer) {
+            return Some(bytes.len() - rest.len());
+        }
+        rest = after;
+    }
+    if rest.is_empty() {
+        None
+    } else {
+        Some(bytes.len() - rest.len())
+    }
+}
+
+/// The frame at the front, where all its padding is there and is zeros, and what follows it.
+#[inline]
+fn split_whole<'a>(bytes: &'a [u8]) -> Option<(NlaBuffer<'a>, &'a [u8])>
+    ensures { MatchOption result ((f : ℕ) (p rest : List ℕ) → ¬ (SplitsWhole bytes.now f p rest))
+        (λ found. SplitsWhole bytes.now (kind_field_of found.0) (payload_of found.0) found.1.now) }
+{
+    if cause_at_front(bytes).is_some() {
+        return None;
+    }
+    let buffer = NlaBuffer::at_front(bytes);
+    let (_frame, after) = bytes.split_at(4 + buffer.value_length());
+    let over = buffer.value_length() % 4;
+    if over == 0 {
+        return Some((buffer, after));
+    }
+    let gap = 4 - over;
+    if gap > after.len() || !are_zeros(&after[..gap]) {
+        return None;
+    }
+    Some((buffer, &after[gap..]))
+}
+
+#[inline]
+fn are_zeros(bytes: &[u8]) -> bool
+    ensures { IsTrue result ↔ EachIndex bytes.now (λ k. slice_index bytes.now k ≡ 0) }
+{
+    bytes.iter().all(|b| *b == 0)
+}
+
+// ---- one attribute
+
+/// Whether a kind field has neither flag.
+#[inline]
+fn has_no_flag(buffer: &NlaBuffer<'_>) -> bool
+    ensures { IsTrue result ↔ (kind_field_of buffer.now < 16384) }
+{
+    buffer.kind() == buffer.raw_kind()
+}
+
+/// Judges a number, a set of flags, an address or a record of so many bytes.
+#[inline]
+pub fn has_size(buffer: &NlaBuffer<'_>, size: usize) -> bool
+    ensures unsigned { IsTrue result
+        ↔ allows_by (Some (One (Unsigned size))) (kind_field_of buffer.now) (payload_of buffer.now) }
+    ensures signed { size ≡ 4
+        → (IsTrue result ↔ allows_by (Some (One Signed)) (kind_field_of buffer.now) (payload_of buffer.now)) }
+    ensures exactly { IsTrue result
+        ↔ allows_by (Some (One (Octets (Exactly size)))) (kind_field_of buffer.now) (payload_of buffer.now) }
+    ensures at_least { IsTrue result
+        ↔ allows_by (Some (One (Octets (AtLeast size)))) (kind_field_of buffer.now) (payload_of buffer.now) }
+    ensures fixed { IsTrue result
+        ↔ allows_by (Some (One (Octets (Fixed size)))) (kind_field_of buffer.now) (payload_of buffer.now) }
+    ensures named { (listed : List ℕ) → (IsTrue result
+        ↔ allows_by (Some (One (Named size listed))) (kind_field_of buffer.now) (payload_of buffer.now)) }
+{
+    has_no_flag(buffer) && buffer.value().len() == size
+}
+
+/// Judges a truth: one byte, 0 or 1.
+#[inline]
+pub fn is_truth(buffer: &NlaBuffer<'_>) -> bool
+    ensures { IsTrue result ↔ allows_by (Some (One Truth)) (kind_field_of buffer.now) (payload_of buffer.now) }
+{
+    has_no_flag(buffer) && matches!(buffer.value(), [0 | 1])
+}
+
+/// Judges bytes of any number.
+#[inline]
+pub fn is_bytes(buffer: &NlaBuffer<'_>) -> bool
+    ensures { IsTrue result ↔ allows_by (Some (One Bytes)) (kind_field_of buffer.now) (payload_of buffer.now) }
+{
+    has_no_flag(buffer)
+}
+
+/// Judges a VLAN protocol: 0x8100 or 0x88A8, in network byte order.
+#[inline]
+pub fn is_protocol(buffer: &NlaBuffer<'_>) -> bool
+    ensures { IsTrue result ↔ allows_by (Some (One Protocol)) (kind_field_of buffer.now) (payload_of buffer.now) }
+{
+    has_no_flag(buffer) && matches!(buffer.value(), [0x81, 0x00] | [0x88, 0xA8])
+}
+
+/// Judges the low byte of a number of two bytes: the other is 0.
+#[inline]
+pub fn is_low(buffer: &NlaBuffer<'_>) -> bool
+    ensures { IsTrue result ↔ allows_by (Some (One Low)) (kind_field_of buffer.now) (payload_of buffer.now) }
+{
+    has_no_flag(buffer) && matches!(buffer.value(), [_, 0])
+}
+
+/// Judges an attribute without a value: its payload is empty.
+#[inline]
+pub fn is_void(buffer: &NlaBuffer<'_>) -> bool
+    ensures { IsTrue result ↔ allows_by (Some (One Empty)) (kind_field_of buffer.now) (payload_of buffer.now) }
+{
+    has_no_flag(buffer) && buffer.value().is_empty()
+}
+
+/// Judges the limits of a CAN controller: a name field of 16 bytes, and 32 bytes.
+pub fn is_limits(buffer: &NlaBuffer<'_>) -> bool
+    ensures { IsTrue result ↔ allows_by (Some (One Limits)) (kind_field_of buffer.now) (payload_of buffer.now) }
+{
+    let payload = buffer.value();
+    has_no_flag(buffer) && payload.len() == 48 && is_name_field(&payload[..16])
+}
+
+/// Whether a name field is that of a name: at most 15 bytes, and zeros.
+fn is_name_field(field: &[u8]) -> bool
+    requires { length field.now ≡ 16 }
+    ensures { IsTrue result ↔ IsNameField field.now }
+{
+    match first_zero(field) {
+        Some(end) => are_zeros(&field[end..]) && is_cut_text(&field[..end]),
+        None => false,
+    }
+}
+
+fn first_zero(bytes: &[u8]) -> Option<usize>
+    ensures { MatchOption result (EachIndex bytes.now (λ k. slice_index bytes.now k ≢ 0))
+        (λ end. (end < length bytes.now) × (slice_index bytes.now end ≡ 0)
+        × ((k : ℕ) → k < end → slice_index bytes.now k ≢ 0)) }
+{
+    bytes.iter().position(|b| *b == 0)
+}
+
+/// Whether some bytes are text, or are 15 and end in part of the U+FFFD that the last of them cut.
+fn is_cut_text(bytes: &[u8]) -> bool
+    ensures { IsTrue result ↔ IsCutText bytes.now }
+{
+    match str::from_utf8(bytes) {
+        Ok(_) => true,
+        Err(error) => bytes.len() == 15 && is_cut_replacement(&bytes[error.valid_up_to()..]),
+    }
+}
+
+/// Whether some bytes are the first or the first two of U+FFFD.
+fn is_cut_replacement(bytes: &[u8]) -> bool
+    ensures { IsTrue result ↔ ((bytes.now ≡ 0xEF ∷ []) ⊎ (bytes.now ≡ 0xEF ∷ 0xBF ∷ [])) }
+{
+    matches!(bytes, [0xEF] | [0xEF, 0xBF])
+}
+
+/// Judges a nested list. Requires the flag of its kind: `NLA_F_NESTED`, or 0 where it is written without.
+#[inline]
+pub fn is_nested<E: NestedAttribute>(buffer: &NlaBuffer<'_>, flag: u16) -> bool
+    requires { flag ≡ nested_flag E.flagged }
+    ensures { IsTrue result
+        ↔ allows_by (Some (Nested E.flagged E.rows)) (kind_field_of buffer.now) (payload_of buffer.now) }
+{
+    buffer.raw_kind() == buffer.kind() + flag && list_is_canonical::<E>(buffer.value())
+}
+
+/// Judges a list of addresses of so many bytes: elements of the kinds 0, 1, 2 and on.
+#[inline]
+pub fn is_address_list(buffer: &NlaBuffer<'_>, size: usize) -> bool
+    ensures { IsTrue result
+        ↔ allows_by (Some (Addresses size)) (kind_field_of buffer.now) (payload_of buffer.now) }
+{
+    has_no_flag(buffer) && are_addresses(buffer.value(), size)
+}
+
+fn are_addresses(payload: &[u8], size: usize) -> bool
+    ensures { IsTrue result ↔ AreAddresses size payload.now }
+{
+    let mut rest = payload;
+    let mut kind = 0usize;
+    while let Some((element, after)) = split_whole(rest) {
+        if usize::from(element.raw_kind()) != kind || element.value().len() != size {
+            return false;
+        }
+        rest = after;
+        kind += 1;
+    }
+    rest.is_empty()
+}

@@ -1,0 +1,32 @@
+//! Whether a list is canonical.
+
+ghost use Rattle.std.specs.Prelude.{IfOk, string_bytes};
+ghost use Rattle.netlink_packet_route.specs.Family.{table_of};
+ghost use Rattle.nlshow.specs.List.{Adds};
+ghost use Rattle.nlshow.specs.Verdict.{ShowsVerdict};
+
+use netlink_packet_route::{Family, first_not_canonical};
+use std::alloc::AllocError;
+use std::fmt::Write;
+
+/// Adds a line that says whether a list is canonical, or where its first attribute that is not stands, and answers
+/// whether it is.
+pub(crate) fn push_verdict(
+    text: &mut String,
+    family: Family,
+    bytes: &[u8],
+) -> Result<bool, AllocError>
+    ensures { IfOk result
+        (Adds (ShowsVerdict (table_of family) bytes.now) (string_bytes text.old) (string_bytes text.new)) }
+{
+    match first_not_canonical(family, bytes) {
+        Some(at) => {
+            writeln!(text, "not canonical at {at}")?;
+            Ok(false)
+        }
+        None => {
+            text.push_str("canonical\n")?;
+            Ok(true)
+        }
+    }
+}

@@ -1,0 +1,44 @@
+#!/usr/bin/env python3
+"""seeds.py DIR: the inputs that the fuzzer starts from, as files of DIR.
+
+They are the lists of bench, the payloads that Linux sent (docs/captured.txt) and the lists of nlshow's stored run, each
+behind a byte with the number of its family."""
+import os
+import re
+import subprocess
+import sys
+import tempfile
+
+TOP = os.path.dirname(os.path.dirname(os.path.dirname(os.path.abspath(__file__))))
+NAMES = "af_spec_bridge bond bond_port bridge bridge_port vlan can dsa hsr proto_bridge".split()
+
+
+def rows_of(path):
+    """The families and lists of a file that has one a line; other lines are passed over."""
+    for line in open(path, encoding="utf-8"):
+        name, _, digits = line.strip().partition(" ")
+        digits = re.sub(r"\s", "", digits)
+        if name in NAMES and re.fullmatch(r"([0-9a-fA-F]{2})*", digits):
+            yield name, bytes.fromhex(digits)
+
+
+def bench_rows():
+    with tempfile.TemporaryDirectory() as room:
+        subprocess.run([sys.executable, f"{TOP}/bench/make_lists.py", room], check=True)
+        for line in open(f"{TOP}/bench/original.tsv", encoding="utf-8").read().splitlines()[1:]:
+            name, family = line.split("\t")[:2]
+            yield family, bytes.fromhex(open(f"{room}/{name}.hex", encoding="utf-8").read())
+
+
+def main():
+    to = sys.argv[1]
+    os.makedirs(to, exist_ok=True)
+    rows = [*bench_rows(), *rows_of(f"{TOP}/docs/captured.txt"), *rows_of(f"{TOP}/crates/nlshow/stdin")]
+    for number, (name, data) in enumerate(rows):
+        with open(f"{to}/{number:04}_{name}", "wb") as file:
+            file.write(bytes([NAMES.index(name)]) + data)
+    print(f"{len(rows)} seeds")
+
+
+if __name__ == "__main__":
+    main()
