@@ -40,6 +40,15 @@ abbrev pub Answers : {X V : Type 0} → (X → V) → Result X DecodeError → (
 Answers view (Ok x) given = given (Ok (view x))
 Answers view (Err e) given = Fails e given
 
+-- what was told of a payload, with its cause as a fault that names no kind
+abbrev pub unkinded : {A : Type 0} → Result A Cause → Result A DecodeFault
+unkinded (Ok a) = Ok a
+unkinded (Err c) = Err (faults.Payload c)
+
+-- what a reader of one payload answers, unless memory ran out
+abbrev pub PayloadAnswers : {X A : Type 0} → (X → A) → Result X DecodeError → Result A Cause → Type 0
+PayloadAnswers view result told = Answers view result (λ r. r ≡ unkinded told)
+
 -- the fact holds where memory ran out
 abbrev pub OnMemory : {X : Type 0} → Result X DecodeError → Type 0 → Type 0
 OnMemory (Ok x) P = Unit {0}

@@ -4,6 +4,7 @@ pub mod Name
 pub mod Class
 pub mod Wire
 pub mod Table
+pub mod Editions
 pub mod Held
 pub mod WellFormed
 pub mod Lawful

@@ -1,5 +1,5 @@
 -- The attributes of a port of a bridge.
-use Rattle.std.specs.Prelude.{[], ◌∷◌}
+use Rattle.std.specs.Prelude.{ℕ, List, [], ◌∷◌}
 use Rattle.link_base.specs.Class.{Unsigned, Truth, Octets, AtLeast, Named, Empty, Number, Boolean, Raw, Nothing}
 use Rattle.link_base.specs.Named.{numbers_of, seen_value}
 use Rattle.link_base.specs.Table.{Table, AttrValue, Case, row, One, Single}
@@ -10,7 +10,7 @@ use Rattle.link_bridge.specs.Id.{id_octets}
 use Rattle.link_bridge.specs.declared.bridge_port.InfoBridgePort.{InfoBridgePort}
 use Rattle.link_bridge.specs.declared.bridge_port.InfoBridgePort.TheVariants as infos
 
--- each kind by its name in the kernel, without IFLA_BRPORT_; kind 11 is LEARNING_SYNC and kind 26 PAD
+-- each kind by its name in the kernel, without IFLA_BRPORT_; kind 26 is PAD
 abbrev pub bridge_port_table : Table
 bridge_port_table =
     -- STATE
@@ -33,6 +33,8 @@ bridge_port_table =
     row 9 (One Truth) ∷
     -- PROXYARP
     row 10 (One Truth) ∷
+    -- LEARNING_SYNC
+    row 11 (One Truth) ∷
     -- PROXYARP_WIFI
     row 12 (One Truth) ∷
     -- ROOT_ID
@@ -100,6 +102,57 @@ bridge_port_table =
     -- NEIGH_FORWARD_GRAT
     row 45 (One Truth) ∷ []
 
+-- the kinds that the second edition of the table adds
+abbrev pub bridge_port_added : List ℕ
+bridge_port_added = 11 ∷ []
+
+-- the first edition of the table
+abbrev pub bridge_port_table_first : Table
+bridge_port_table_first =
+    row 1 (One (Named 1 (numbers_of port_state_names))) ∷
+    row 2 (One (Unsigned 2)) ∷
+    row 3 (One (Unsigned 4)) ∷
+    row 4 (One Truth) ∷
+    row 5 (One Truth) ∷
+    row 6 (One Truth) ∷
+    row 7 (One Truth) ∷
+    row 8 (One Truth) ∷
+    row 9 (One Truth) ∷
+    row 10 (One Truth) ∷
+    row 12 (One Truth) ∷
+    row 13 (One (Octets (AtLeast 8))) ∷
+    row 14 (One (Octets (AtLeast 8))) ∷
+    row 15 (One (Unsigned 2)) ∷
+    row 16 (One (Unsigned 2)) ∷
+    row 17 (One (Unsigned 2)) ∷
+    row 18 (One (Unsigned 2)) ∷
+    row 19 (One Truth) ∷
+    row 20 (One Truth) ∷
+    row 21 (One (Unsigned 8)) ∷
+    row 22 (One (Unsigned 8)) ∷
+    row 23 (One (Unsigned 8)) ∷
+    row 24 (One Empty) ∷
+    row 25 (One (Named 1 (numbers_of router_type_names))) ∷
+    row 27 (One Truth) ∷
+    row 28 (One Truth) ∷
+    row 29 (One Truth) ∷
+    row 30 (One Truth) ∷
+    row 31 (One (Unsigned 2)) ∷
+    row 32 (One Truth) ∷
+    row 33 (One Truth) ∷
+    row 34 (One (Unsigned 4)) ∷
+    row 35 (One Truth) ∷
+    row 36 (One Truth) ∷
+    row 37 (One (Unsigned 4)) ∷
+    row 38 (One (Unsigned 4)) ∷
+    row 39 (One Truth) ∷
+    row 40 (One Truth) ∷
+    row 41 (One (Unsigned 4)) ∷
+    row 42 (One (Unsigned 4)) ∷
+    row 43 (One Truth) ∷
+    row 44 (One (Unsigned 4)) ∷
+    row 45 (One Truth) ∷ []
+
 -- the attribute that a value stands for
 abbrev pub bridge_port_means : InfoBridgePort → AttrValue
 bridge_port_means (infos.State state) =
@@ -113,6 +166,7 @@ bridge_port_means (infos.FastLeave enabled) = Case 7 (Single (Boolean enabled))
 bridge_port_means (infos.Learning enabled) = Case 8 (Single (Boolean enabled))
 bridge_port_means (infos.UnicastFlood enabled) = Case 9 (Single (Boolean enabled))
 bridge_port_means (infos.ProxyARP enabled) = Case 10 (Single (Boolean enabled))
+bridge_port_means (infos.LearningSync enabled) = Case 11 (Single (Boolean enabled))
 bridge_port_means (infos.ProxyARPWifi enabled) = Case 12 (Single (Boolean enabled))
 bridge_port_means (infos.RootId id) = Case 13 (Single (Raw (id_octets id)))
 bridge_port_means (infos.BridgeId id) = Case 14 (Single (Raw (id_octets id)))

@@ -1,6 +1,7 @@
 -- The attributes of a CAN controller.
-use Rattle.std.specs.Prelude.{[], ◌∷◌, map, true}
-use Rattle.link_base.specs.Class.{Unsigned, Octets, AtLeast, Fixed, Limits, Number, Raw}
+use Rattle.std.specs.Prelude.{ℕ, List, [], ◌∷◌, map, true}
+use Rattle.link_base.specs.Class.{Unsigned, Octets, AtLeast, Fixed, Many, Limits, Number, Raw}
+use Rattle.link_base.specs.Layout.{octets_of}
 use Rattle.link_base.specs.Table.{Rows, Leaf, Table, AttrValue, Case, row, One, Nested, Single, Inner}
 use Rattle.link_base.specs.Default.{default_means}
 use Rattle.link_vlan_can.specs.CanFlags.{mode_bits}
@@ -51,10 +52,36 @@ mode_leaf (modes.Other other) = default_means other
 
 -- IFLA_CAN_BITTIMING, IFLA_CAN_BITTIMING_CONST, IFLA_CAN_CLOCK, IFLA_CAN_STATE, IFLA_CAN_CTRLMODE,
 -- IFLA_CAN_RESTART_MS, IFLA_CAN_RESTART, IFLA_CAN_BERR_COUNTER, IFLA_CAN_DATA_BITTIMING,
--- IFLA_CAN_DATA_BITTIMING_CONST, IFLA_CAN_TERMINATION, IFLA_CAN_BITRATE_MAX, IFLA_CAN_TDC, IFLA_CAN_CTRLMODE_EXT; the
--- last two are lists that are written with the nested flag
+-- IFLA_CAN_DATA_BITTIMING_CONST, IFLA_CAN_TERMINATION, IFLA_CAN_TERMINATION_CONST, IFLA_CAN_BITRATE_CONST,
+-- IFLA_CAN_DATA_BITRATE_CONST, IFLA_CAN_BITRATE_MAX, IFLA_CAN_TDC, IFLA_CAN_CTRLMODE_EXT; the last two are lists that
+-- are written with the nested flag
 abbrev pub can_table : Table
 can_table =
+    row 1 (One (Octets (AtLeast 32))) ∷
+    row 2 (One Limits) ∷
+    row 3 (One (Octets (Fixed 4))) ∷
+    row 4 (One (Unsigned 4)) ∷
+    row 5 (One (Octets (AtLeast 8))) ∷
+    row 6 (One (Unsigned 4)) ∷
+    row 7 (One (Unsigned 4)) ∷
+    row 8 (One (Octets (AtLeast 4))) ∷
+    row 9 (One (Octets (AtLeast 32))) ∷
+    row 10 (One Limits) ∷
+    row 11 (One (Unsigned 2)) ∷
+    row 12 (One (Many 2)) ∷
+    row 13 (One (Many 4)) ∷
+    row 14 (One (Many 4)) ∷
+    row 15 (One (Unsigned 4)) ∷
+    row 16 (Nested true tdc_rows) ∷
+    row 17 (Nested true mode_rows) ∷ []
+
+-- the kinds that the second edition of the table adds
+abbrev pub can_added : List ℕ
+can_added = 12 ∷ 13 ∷ 14 ∷ []
+
+-- the first edition of the table
+abbrev pub can_table_first : Table
+can_table_first =
     row 1 (One (Octets (AtLeast 32))) ∷
     row 2 (One Limits) ∷
     row 3 (One (Octets (Fixed 4))) ∷
@@ -83,6 +110,9 @@ can_means (infos.BerrCounter errors) = Case 8 (Single (Raw (errors_octets errors
 can_means (infos.DataBitTiming timing) = Case 9 (Single (Raw (timing_octets timing)))
 can_means (infos.DataBitTimingConst limits) = Case 10 (Single (limits_value limits))
 can_means (infos.Termination resistance) = Case 11 (Single (Number 2 resistance))
+can_means (infos.TerminationConst resistances) = Case 12 (Single (Raw (octets_of 2 resistances.items)))
+can_means (infos.BitrateConst rates) = Case 13 (Single (Raw (octets_of 4 rates.items)))
+can_means (infos.DataBitrateConst rates) = Case 14 (Single (Raw (octets_of 4 rates.items)))
 can_means (infos.BitrateMax rate) = Case 15 (Single (Number 4 rate))
 can_means (infos.Tdc tdcs) = Case 16 (Inner true (map tdc_leaf tdcs.items))
 can_means (infos.CtrlModeExt exts) = Case 17 (Inner true (map mode_leaf exts.items))

@@ -1,13 +1,10 @@
 -- The limits of a CAN controller's bit timing.
-use Rattle.std.specs.Prelude.{◌≡◌, ℕ, List, [], ◌∷◌, take, replicate, string_bytes, Result, Ok, Err}
+use Rattle.std.specs.Prelude.{ℕ, List, [], ◌∷◌, take, replicate, string_bytes, Result}
 use Rattle.link_base.specs.declared.fault.DecodeError.{DecodeError}
-use Rattle.link_base.specs.declared.fault.Cause.{Cause}
-use Rattle.link_base.specs.declared.fault.DecodeFault.{DecodeFault}
-use Rattle.link_base.specs.declared.fault.DecodeFault.TheVariants as faults
 use Rattle.link_base.specs.Name.{name_of}
 use Rattle.link_base.specs.Class.{Value, Limited, AtLeast, accepted}
 use Rattle.link_base.specs.Layout.{numbers_at, octets_of}
-use Rattle.link_base.specs.Answers.{Answers}
+use Rattle.link_base.specs.Answers.{PayloadAnswers}
 use Rattle.link_vlan_can.specs.declared.can_limits.CanBitTimingConst.{CanBitTimingConst}
 
 -- the name, and the eight numbers in their order
@@ -39,11 +36,6 @@ limits_octets c = octets_of 4 (limits_view c).numbers
 abbrev pub limits_value : CanBitTimingConst → Value
 limits_value c = Limited (string_bytes c.name) (limits_octets c)
 
--- a cause, as a fault that names no kind
-abbrev pub bare : {A : Type 0} → Result A Cause → Result A DecodeFault
-bare (Ok a) = Ok a
-bare (Err c) = Err (faults.Payload c)
-
 -- the limits of a payload or the cause of its refusal, unless memory ran out
 abbrev pub LimitsAnswer : List ℕ → Result CanBitTimingConst DecodeError → Type 0
-LimitsAnswer p result = Answers limits_view result (λ r. r ≡ bare (accepted (AtLeast 48) limits_of p))
+LimitsAnswer p result = PayloadAnswers limits_view result (accepted (AtLeast 48) limits_of p)
