@@ -24,6 +24,7 @@ pub mod Relays
 pub mod Lifted
 pub mod KindFaults
 pub mod JoinedLemmas
+pub mod EditionLemmas
 pub mod LimitLemmas
 pub mod PlainLemmas
 pub mod ItemLemmas

@@ -22,6 +22,7 @@ use Rattle.std.specs.declared.net.ipv4_addr.Ipv4Addr.{Ipv4Addr}
 use Rattle.std.specs.declared.net.ipv6_addr.Ipv6Addr.{Ipv6Addr}
 use Rattle.std.specs.Net.Addr.{octets_of}
 use Rattle.link_base.specs.Addresses.{sized, four_octets, sixteen_octets}
+use Rattle.link_base.specs.Layout.{octets_of as written_numbers}
 use Rattle.link_base.specs.Lift.{lift}
 use Rattle.link_base.specs.Class.{Raw}
 use Rattle.link_base.specs.Default.{default_means}
@@ -148,6 +149,16 @@ lists {leaf = leaf} {k} {flagged} h = record {
 pub byte_vectors : {k : ℕ} → IsThorough (λ (xs ys : Vec ℕ Global). pointwise nat_eq xs.items ys.items) (λ xs. Case k (Single (Raw xs.items)))
 byte_vectors {k} = record { same = λ xs ys e. ap (λ bytes. Case k (Single (Raw bytes))) (octets.same xs.items ys.items e) }
 
+-- numbers in a vector, each written in so many bytes
+number_vectors : {k : ℕ} (width : ℕ) → IsThorough (λ (xs ys : Vec ℕ Global). pointwise nat_eq xs.items ys.items) (λ xs. Case k (Single (Raw (written_numbers width xs.items))))
+number_vectors {k} width = record { same = λ xs ys e. ap (λ numbers. Case k (Single (Raw (written_numbers width numbers)))) (octets.same xs.items ys.items e) }
+
+pub u16_vectors : {k : ℕ} → IsThorough (λ (xs ys : Vec ℕ Global). pointwise nat_eq xs.items ys.items) (λ xs. Case k (Single (Raw (written_numbers 2 xs.items))))
+u16_vectors = number_vectors 2
+
+pub u32_vectors : {k : ℕ} → IsThorough (λ (xs ys : Vec ℕ Global). pointwise nat_eq xs.items ys.items) (λ xs. Case k (Single (Raw (written_numbers 4 xs.items))))
+u32_vectors = number_vectors 4
+
 -- IP addresses in a vector
 addresses : {A : Type 0} {eq : A → A → Bool} {octets : A → List ℕ} {k : ℕ} → IsThorough eq octets
     → IsThorough (λ (xs ys : Vec A Global). pointwise eq xs.items ys.items) (λ xs. Case k (Listed (map octets xs.items)))
@@ -184,4 +195,4 @@ pub protocols : IsThorough (sameb (declared enum)) (λ (p : VlanProtocol). p)
 protocols = record { same = two_protocols }
 
 -- what `search` finds the tests of fields by
-pub ruleset thorough_fields = (defaults, byte_vectors, four, sixteen, one_four, one_sixteen, numbers, integers, truths, octets, protocols, lists, anything)
+pub ruleset thorough_fields = (defaults, byte_vectors, u16_vectors, u32_vectors, four, sixteen, one_four, one_sixteen, numbers, integers, truths, octets, protocols, lists, anything)

@@ -6,7 +6,7 @@
 ghost use Rattle.std.specs.Prelude.{◌≡◌, ◌≢◌, ◌↔◌, ◌⊎◌, ℕ, ◌<◌, List, [], ◌∷◌, Some, IsTrue, MatchOption, EachIndex, length, slice_index};
 ghost use Rattle.link_base.specs.Wire.{SplitsWhole};
 ghost use Rattle.link_base.specs.Name.{IsCutText, IsNameField};
-ghost use Rattle.link_base.specs.Class.{Exactly, AtLeast, Fixed, Unsigned, Signed, Truth, Octets, Bytes, Named, Protocol, Low, Empty, Limits};
+ghost use Rattle.link_base.specs.Class.{Exactly, AtLeast, Fixed, Unsigned, Signed, Truth, Octets, Bytes, Many, Named, Protocol, Low, Empty, Limits};
 ghost use Rattle.link_base.specs.Table.{One, Nested, Addresses, AreAddresses, nested_flag, allows_by};
 ghost use Rattle.link_base.specs.Table.{Canonical, FirstNotCanonical};
 ghost use Rattle.link_base.specs.Buffer.{kind_field_of, payload_of};
@@ -115,6 +115,16 @@ pub fn is_bytes(buffer: &NlaBuffer<'_>) -> bool
     ensures { IsTrue result ↔ allows_by (Some (One Bytes)) (kind_field_of buffer.now) (payload_of buffer.now) }
 {
     has_no_flag(buffer)
+}
+
+/// Judges numbers of so many bytes each, one after another. Requires that `width` is not 0.
+#[inline]
+pub fn are_numbers(buffer: &NlaBuffer<'_>, width: usize) -> bool
+    requires { 0 < width }
+    ensures { IsTrue result
+        ↔ allows_by (Some (One (Many width))) (kind_field_of buffer.now) (payload_of buffer.now) }
+{
+    has_no_flag(buffer) && buffer.value().len() % width == 0
 }
 
 /// Judges a VLAN protocol: 0x8100 or 0x88A8, in network byte order.

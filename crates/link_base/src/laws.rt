@@ -18,6 +18,7 @@ ghost use Rattle.link_base.specs.Frame.{Frame, Frames, kind_of, pad};
 ghost use Rattle.link_base.specs.Wire.{Wire, FirstFault, Reads};
 ghost use Rattle.link_base.specs.Table.{Table, AttrValue, Other, class_at, Gives, Fits, canon, cut};
 ghost use Rattle.link_base.specs.Table.{Canonical, Rewriting, written_kind, written_payload, written_list};
+ghost use Rattle.link_base.specs.Editions.{AreEditions, among, without, kinds_of};
 ghost use Rattle.link_base.specs.Held.{IsInRange, HidesNone, IsPlain};
 ghost use Rattle.link_base.specs.WellFormed.{is_table, IsOverfull};
 ghost use Rattle.link_base.specs.Lawful.{IsLawful};
@@ -52,6 +53,13 @@ pub fn one_cut()
 pub fn limit()
     ensures { (table : Table) (f : ℕ) (p : List ℕ) (v : AttrValue) → is_table table ≡ true → IsBytes p
         → length p ≤ 65531 → Gives table f p (Ok v) → (¬ (Fits v)) ↔ IsOverfull (class_at table (kind_of f)) p }
+{}
+
+/// A table without the rows of some of its kinds is an edition before it: what has no frame of these kinds reads alike
+/// in both, and is canonical in both or in neither.
+pub fn editions()
+    ensures { (added : List ℕ) (table : Table) → kinds_of (among added table) ≡ added
+        → AreEditions added (without added table) table }
 {}
 
 /// In a whole run an iterator gives the frames of its bytes, or those before the first frame fault and then the fault,

@@ -18,6 +18,7 @@ mod list;
 mod named;
 pub mod named_laws;
 mod nested;
+mod number_lists;
 mod octets;
 mod records;
 mod rewriting;
@@ -31,8 +32,8 @@ pub use attribute::{Attribute, Meaning, Nla, Parseable};
 pub use buffer::{NLA_F_NESTED, NLA_F_NET_BYTEORDER, NLA_TYPE_MASK, NlaBuffer};
 pub use buffer_tool::expand_buffer_if_small;
 pub use canonical::{
-    first_not_canonical, has_size, is_address_list, is_bytes, is_limits, is_low, is_nested,
-    is_protocol, is_truth, is_void, list_is_canonical,
+    are_numbers, first_not_canonical, has_size, is_address_list, is_bytes, is_limits, is_low,
+    is_nested, is_protocol, is_truth, is_void, list_is_canonical,
 };
 pub use default_nla::DefaultNla;
 pub use emitable::Emitable;
@@ -42,9 +43,8 @@ pub use iterator::NlasIterator;
 pub use list::read_list;
 pub use named::NamedNumber;
 pub use nested::{NestedAttribute, emit_nested, nested_len, read_nested};
-pub use records::{
-    check_at_least, check_exactly, check_length, emit_u32s, u16_at, u32_at, u32s_at,
-};
+pub use number_lists::{emit_u16s, emit_u32s, parse_u16s, parse_u32s, u16s_len, u32s_len};
+pub use records::{check_at_least, check_exactly, check_length, u16_at, u32_at, u32s_at};
 pub use rewriting::rewrite_list;
 pub use scalars::{
     emit_i32, emit_low, emit_mac, emit_u8, emit_u16, emit_u16_be, emit_u32, emit_u32_pair,

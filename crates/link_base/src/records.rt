@@ -1,14 +1,13 @@
 //! Records: payloads of fields at fixed offsets.
 
-ghost use Rattle.std.specs.Prelude.{◌≡◌, ◌≤◌, ◌+◌, ◌*◌, length, take, drop};
+ghost use Rattle.std.specs.Prelude.{◌≡◌, ◌<◌, ◌≤◌, ◌+◌, ◌*◌, length, take, drop};
 ghost use Rattle.link_base.specs.Number.{bytes_of};
-ghost use Rattle.link_base.specs.Class.{accepted, AtLeast, Exactly, Fixed};
+ghost use Rattle.link_base.specs.Class.{accepted, AtLeast, Exactly, Fixed, Multiple};
 ghost use Rattle.link_base.specs.Layout.{number_at, numbers_at, octets_of};
-ghost use Rattle.link_base.specs.Held.{IsOctets};
-ghost use Rattle.link_base.specs.Answers.{payload_result, OverwritesFront};
+ghost use Rattle.link_base.specs.Answers.{payload_result};
 
 use crate::fault::{Cause, DecodeError, DecodeFault};
-use crate::scalars::{emit_u32, wrong_length};
+use crate::scalars::wrong_length;
 
 /// Checks that a payload has at least `want` bytes. Fails with `Payload` of `TooShort`.
 pub fn check_at_least(payload: &[u8], want: usize) -> Result<(), DecodeError>
@@ -37,6 +36,18 @@ pub fn check_exactly(payload: &[u8], want: usize) -> Result<(), DecodeError>
 {
     let got = payload.len();
     if got != want {
+        return Err(wrong_length(want, got));
+    }
+    Ok(())
+}
+
+/// Checks that a payload has a multiple of `want` bytes, which is not 0. Fails with `Payload` of `WrongLength`.
+pub(crate) fn check_multiple(payload: &[u8], want: usize) -> Result<(), DecodeError>
+    requires { 0 < want }
+    ensures { result ≡ payload_result (accepted (Multiple want) (λ _. tt) payload.now) }
+{
+    let got = payload.len();
+    if got % want != 0 {
         return Err(wrong_length(want, got));
     }
     Ok(())
@@ -79,18 +90,4 @@ pub fn u32s_at<const N: usize>(bytes: &[u8], offset: usize) -> [u32; N]
         numbers[i] = u32_at(bytes, offset + 4 * i);
     }
     numbers
-}
-
-/// Writes numbers to the front of a buffer that has four bytes for each, one after another, each little-endian, and
-/// leaves the rest.
-pub fn emit_u32s(buffer: &mut [u8], numbers: &[u32])
-    requires { 4 * length numbers.now ≤ length buffer.old }
-    ensures written { OverwritesFront buffer.old buffer.new (octets_of 4 numbers.now) }
-    ensures octets { IsOctets (4 * length numbers.now) (octets_of 4 numbers.now) }
-{
-    let mut at = 0usize;
-    for number in numbers {
-        emit_u32(&mut buffer[at..], *number);
-        at += 4;
-    }
 }

@@ -1,7 +1,7 @@
 use Rattle.std.proofs.Common.{◌≡◌, ◌*◌, take}
 use Rattle.link_base.specs.Layout.{octets_of}
 use Rattle.link_base.specs.Answers.{OverwritesFront}
-use Rattle.link_base.proofs.records.emit_u32s.Given as goal
+use Rattle.link_base.proofs.number_lists.emit_u32s.Given as goal
 
 abbrev pub invariant-loop-number : goal.invariant-loop-number
 invariant-loop-number l = record {
