@@ -32,6 +32,8 @@ const IFLA_BRPORT_UNICAST_FLOOD: u16 = 9;
 
 const IFLA_BRPORT_PROXYARP: u16 = 10;
 
+const IFLA_BRPORT_LEARNING_SYNC: u16 = 11;
+
 const IFLA_BRPORT_PROXYARP_WIFI: u16 = 12;
 
 const IFLA_BRPORT_ROOT_ID: u16 = 13;
@@ -126,7 +128,11 @@ pub enum InfoBridgePort {
     /// Whether the bridge answers ARP requests on behalf of the hosts behind the port: proxy ARP
     /// (`IFLA_BRPORT_PROXYARP`, one byte).
     ProxyARP(bool),
-    /// Whether it does so by the further rules of IEEE 802.11 and Hotspot 2.0 (`IFLA_BRPORT_PROXYARP_WIFI`, one byte).
+    /// Whether the addresses that the device of the port learns are put into the forwarding database of the bridge too
+    /// (`IFLA_BRPORT_LEARNING_SYNC`, one byte).
+    LearningSync(bool),
+    /// Whether the bridge answers ARP requests by the further rules of IEEE 802.11 and Hotspot 2.0 as well
+    /// (`IFLA_BRPORT_PROXYARP_WIFI`, one byte).
     ProxyARPWifi(bool),
     /// The identifier of the root (`IFLA_BRPORT_ROOT_ID`, eight bytes; it is only shown).
     RootId(BridgeId),
@@ -233,6 +239,7 @@ impl TryClone for InfoBridgePort {
             InfoBridgePort::Learning(enabled) => Ok(InfoBridgePort::Learning(*enabled)),
             InfoBridgePort::UnicastFlood(enabled) => Ok(InfoBridgePort::UnicastFlood(*enabled)),
             InfoBridgePort::ProxyARP(enabled) => Ok(InfoBridgePort::ProxyARP(*enabled)),
+            InfoBridgePort::LearningSync(enabled) => Ok(InfoBridgePort::LearningSync(*enabled)),
             InfoBridgePort::ProxyARPWifi(enabled) => Ok(InfoBridgePort::ProxyARPWifi(*enabled)),
             InfoBridgePort::RootId(id) => Ok(InfoBridgePort::RootId(*id)),
             InfoBridgePort::BridgeId(id) => Ok(InfoBridgePort::BridgeId(*id)),
@@ -306,6 +313,7 @@ impl Nla for InfoBridgePort {
             InfoBridgePort::Learning(_) => IFLA_BRPORT_LEARNING,
             InfoBridgePort::UnicastFlood(_) => IFLA_BRPORT_UNICAST_FLOOD,
             InfoBridgePort::ProxyARP(_) => IFLA_BRPORT_PROXYARP,
+            InfoBridgePort::LearningSync(_) => IFLA_BRPORT_LEARNING_SYNC,
             InfoBridgePort::ProxyARPWifi(_) => IFLA_BRPORT_PROXYARP_WIFI,
             InfoBridgePort::RootId(_) => IFLA_BRPORT_ROOT_ID,
             InfoBridgePort::BridgeId(_) => IFLA_BRPORT_BRIDGE_ID,
@@ -354,6 +362,7 @@ impl Nla for InfoBridgePort {
             | InfoBridgePort::Learning(_)
             | InfoBridgePort::UnicastFlood(_)
             | InfoBridgePort::ProxyARP(_)
+            | InfoBridgePort::LearningSync(_)
             | InfoBridgePort::ProxyARPWifi(_)
             | InfoBridgePort::TopologyChangeAck(_)
             | InfoBridgePort::ConfigPending(_)
@@ -404,6 +413,7 @@ impl Nla for InfoBridgePort {
             InfoBridgePort::Learning(enabled) => emit_u8(buffer, u8::from(*enabled)),
             InfoBridgePort::UnicastFlood(enabled) => emit_u8(buffer, u8::from(*enabled)),
             InfoBridgePort::ProxyARP(enabled) => emit_u8(buffer, u8::from(*enabled)),
+            InfoBridgePort::LearningSync(enabled) => emit_u8(buffer, u8::from(*enabled)),
             InfoBridgePort::ProxyARPWifi(enabled) => emit_u8(buffer, u8::from(*enabled)),
             InfoBridgePort::RootId(id) => id.emit(buffer),
             InfoBridgePort::BridgeId(id) => id.emit(buffer),
@@ -456,6 +466,7 @@ impl Parseable for InfoBridgePort {
             IFLA_BRPORT_LEARNING => parse_bool(payload).map(Self::Learning),
             IFLA_BRPORT_UNICAST_FLOOD => parse_bool(payload).map(Self::UnicastFlood),
             IFLA_BRPORT_PROXYARP => parse_bool(payload).map(Self::ProxyARP),
+            IFLA_BRPORT_LEARNING_SYNC => parse_bool(payload).map(Self::LearningSync),
             IFLA_BRPORT_PROXYARP_WIFI => parse_bool(payload).map(Self::ProxyARPWifi),
             IFLA_BRPORT_ROOT_ID => BridgeId::parse(payload).map(Self::RootId),
             IFLA_BRPORT_BRIDGE_ID => BridgeId::parse(payload).map(Self::BridgeId),
@@ -535,6 +546,7 @@ impl Attribute for InfoBridgePort {
             | IFLA_BRPORT_LEARNING
             | IFLA_BRPORT_UNICAST_FLOOD
             | IFLA_BRPORT_PROXYARP
+            | IFLA_BRPORT_LEARNING_SYNC
             | IFLA_BRPORT_PROXYARP_WIFI
             | IFLA_BRPORT_TOPOLOGY_CHANGE_ACK
             | IFLA_BRPORT_CONFIG_PENDING
@@ -567,12 +579,12 @@ impl Attribute for InfoBridgePort {
     ghost thorough = { of_cases enum _ _ (
         anything states also anything numbers also anything numbers also anything truths also anything truths also
         anything truths also anything truths also anything truths also anything truths also anything truths also
-        anything truths also anything ids also anything ids also anything numbers also anything numbers also
+        anything truths also anything truths also anything ids also anything ids also anything numbers also
+        anything numbers also anything numbers also anything numbers also anything truths also anything truths also
+        anything numbers also anything numbers also anything numbers also tt also anything routers also
+        anything truths also anything truths also anything truths also anything truths also anything numbers also
+        anything truths also anything truths also anything numbers also anything truths also anything truths also
         anything numbers also anything numbers also anything truths also anything truths also anything numbers also
-        anything numbers also anything numbers also tt also anything routers also anything truths also
-        anything truths also anything truths also anything truths also anything numbers also anything truths also
-        anything truths also anything numbers also anything truths also anything truths also anything numbers also
-        anything numbers also anything truths also anything truths also anything numbers also anything numbers also
-        anything truths also anything numbers also anything truths also defaults also tt
+        anything numbers also anything truths also anything numbers also anything truths also defaults also tt
         ) };
 }

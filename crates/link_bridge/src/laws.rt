@@ -1,9 +1,11 @@
-//! The bits of the named flags, constants, conversions that are inverse, and what `==` of the two list types says.
-//! Nothing here runs.
+//! The bits of the named flags, constants, conversions that are inverse, what `==` of the two list types says, and the
+//! two editions of the table of bridge ports. Nothing here runs.
 
 ghost use Rattle.std.specs.Prelude.{◌≡◌, ◌<◌, ◌^◌, ◌↔◌, ℕ, List, map, IsTrue};
 ghost use Rattle.link_base.specs.Held.{IsOctets};
+ghost use Rattle.link_base.specs.Editions.{AreEditions};
 ghost use Rattle.link_bridge.specs.BooleanOptions.{option_bits};
+ghost use Rattle.link_bridge.specs.BridgePort.{bridge_port_added, bridge_port_table_first};
 ghost use Rattle.link_bridge.specs.Id.{buffer_of, id_of_buffer, priority_octets};
 ghost use Rattle.link_bridge.specs.VlanInfo.{vlan_info_bits, vlan_info_of, vlan_info_octets};
 ghost use Rattle.link_bridge.specs.AfSpec.{af_spec_means};
@@ -21,7 +23,9 @@ use crate::af_spec::{
 };
 use crate::bridge::BridgeMulticastRouterType;
 use crate::bridge_boolopt::BridgeBooleanOptionFlags;
+use crate::bridge_port::InfoBridgePort;
 use crate::proto_info::VecLinkProtoInfoBridge;
+use link_base::Meaning;
 
 /// The bits of the boolean options of a bridge (`BR_BOOLOPT_*`, `include/uapi/linux/if_bridge.h`).
 pub fn boolean_option_bits()
@@ -84,4 +88,11 @@ pub fn equality_of_lists()
         → map af_spec_means a.0.items ≡ map af_spec_means b.0.items }
     ensures proto_info { (a b : VecLinkProtoInfoBridge) → IsTrue (⟦<VecLinkProtoInfoBridge as PartialEq>⟧.eq a b)
         → map proto_info_means a.0.items ≡ map proto_info_means b.0.items }
+{}
+
+/// The two editions of the table of bridge ports: the second adds the kind 11, `IFLA_BRPORT_LEARNING_SYNC`. A string
+/// without a frame of this kind, before its first frame fault if it has one, has the same values or the same first fault
+/// in both, and is canonical in both or in neither.
+pub fn profiles()
+    ensures { AreEditions bridge_port_added bridge_port_table_first ⟦<InfoBridgePort as Meaning>⟧.table }
 {}

@@ -8,8 +8,9 @@ use crate::can_records::{CanBerrCounter, CanBitTiming, CanClock, CanCtrlMode};
 use crate::can_tdc::CanTdc;
 use link_base::{
     Attribute, DecodeError, DefaultNla, Meaning, NLA_F_NESTED, Nla, NlaBuffer, Parseable, TryClone,
-    emit_nested, emit_u16, emit_u32, has_size, is_limits, is_nested, nested_len, parse_u16,
-    parse_u32, read_nested, try_clone_list,
+    are_numbers, emit_nested, emit_u16, emit_u16s, emit_u32, emit_u32s, has_size, is_limits,
+    is_nested, nested_len, parse_u16, parse_u16s, parse_u32, parse_u32s, read_nested,
+    try_clone_list, u16s_len, u32s_len,
 };
 use std::alloc::{AllocError, Global};
 
@@ -35,6 +36,12 @@ const IFLA_CAN_DATA_BITTIMING: u16 = 9;
 const IFLA_CAN_DATA_BITTIMING_CONST: u16 = 10;
 
 const IFLA_CAN_TERMINATION: u16 = 11;
+
+const IFLA_CAN_TERMINATION_CONST: u16 = 12;
+
+const IFLA_CAN_BITRATE_CONST: u16 = 13;
+
+const IFLA_CAN_DATA_BITRATE_CONST: u16 = 14;
 
 const IFLA_CAN_BITRATE_MAX: u16 = 15;
 
@@ -69,6 +76,15 @@ pub enum InfoCan {
     DataBitTimingConst(CanBitTimingConst),
     /// The resistance of the bus termination, in ohms; 0 for none (`IFLA_CAN_TERMINATION`, two bytes).
     Termination(u16),
+    /// The resistances that the bus termination can be set to, in ohms; 0 for none (`IFLA_CAN_TERMINATION_CONST`, two
+    /// bytes each).
+    TerminationConst(Vec<u16>),
+    /// The bit rates that the controller can be set to, in bits per second; of the arbitration phase where it has CAN FD
+    /// (`IFLA_CAN_BITRATE_CONST`, four bytes each).
+    BitrateConst(Vec<u32>),
+    /// The bit rates that the data phase of CAN FD can be set to, in bits per second (`IFLA_CAN_DATA_BITRATE_CONST`, four
+    /// bytes each).
+    DataBitrateConst(Vec<u32>),
     /// The maximum bit rate of the transceiver, in bits per second (`IFLA_CAN_BITRATE_MAX`, four bytes).
     BitrateMax(u32),
     /// The transmitter delay compensation of CAN FD (`IFLA_CAN_TDC`, a list that is written with `NLA_F_NESTED`).
@@ -97,6 +113,15 @@ impl TryClone for InfoCan {
                 alloc,
             )?)),
             InfoCan::Termination(resistance) => Ok(InfoCan::Termination(*resistance)),
+            InfoCan::TerminationConst(resistances) => {
+                Ok(InfoCan::TerminationConst(Vec::from_slice(alloc, resistances)?))
+            }
+            InfoCan::BitrateConst(rates) => {
+                Ok(InfoCan::BitrateConst(Vec::from_slice(alloc, rates)?))
+            }
+            InfoCan::DataBitrateConst(rates) => {
+                Ok(InfoCan::DataBitrateConst(Vec::from_slice(alloc, rates)?))
+            }
             InfoCan::BitrateMax(rate) => Ok(InfoCan::BitrateMax(*rate)),
             InfoCan::Tdc(tdcs) => Ok(InfoCan::Tdc(try_clone_list(alloc, tdcs)?)),
             InfoCan::CtrlModeExt(exts) => Ok(InfoCan::CtrlModeExt(try_clone_list(alloc, exts)?)),
@@ -125,6 +150,9 @@ impl Nla for InfoCan {
             InfoCan::DataBitTiming(_) => IFLA_CAN_DATA_BITTIMING,
             InfoCan::DataBitTimingConst(_) => IFLA_CAN_DATA_BITTIMING_CONST,
             InfoCan::Termination(_) => IFLA_CAN_TERMINATION,
+            InfoCan::TerminationConst(_) => IFLA_CAN_TERMINATION_CONST,
+            InfoCan::BitrateConst(_) => IFLA_CAN_BITRATE_CONST,
+            InfoCan::DataBitrateConst(_) => IFLA_CAN_DATA_BITRATE_CONST,
             InfoCan::BitrateMax(_) => IFLA_CAN_BITRATE_MAX,
             InfoCan::Tdc(_) => IFLA_CAN_TDC | NLA_F_NESTED,
             InfoCan::CtrlModeExt(_) => IFLA_CAN_CTRLMODE_EXT | NLA_F_NESTED,
@@ -140,6 +168,9 @@ impl Nla for InfoCan {
             InfoCan::Clock(_) | InfoCan::BerrCounter(_) | InfoCan::BitrateMax(_) => 4,
             InfoCan::State(_) | InfoCan::RestartMs(_) | InfoCan::Restart(_) => 4,
             InfoCan::Termination(_) => 2,
+            InfoCan::TerminationConst(resistances) => u16s_len(resistances),
+            InfoCan::BitrateConst(rates) => u32s_len(rates),
+            InfoCan::DataBitrateConst(rates) => u32s_len(rates),
             InfoCan::Tdc(tdcs) => nested_len(tdcs),
             InfoCan::CtrlModeExt(exts) => nested_len(exts),
             InfoCan::Other(other) => other.value_len(),
@@ -159,6 +190,9 @@ impl Nla for InfoCan {
             InfoCan::DataBitTiming(timing) => timing.emit(buffer),
             InfoCan::DataBitTimingConst(limits) => limits.emit(buffer),
             InfoCan::Termination(resistance) => emit_u16(buffer, *resistance),
+            InfoCan::TerminationConst(resistances) => emit_u16s(buffer, resistances),
+            InfoCan::BitrateConst(rates) => emit_u32s(buffer, rates),
+            InfoCan::DataBitrateConst(rates) => emit_u32s(buffer, rates),
             InfoCan::BitrateMax(rate) => emit_u32(buffer, *rate),
             InfoCan::Tdc(tdcs) => emit_nested(tdcs, buffer),
             InfoCan::CtrlModeExt(exts) => emit_nested(exts, buffer),
@@ -187,6 +221,9 @@ impl Parseable for InfoCan {
                 Self::DataBitTimingConst,
             ),
             IFLA_CAN_TERMINATION => parse_u16(payload).map(Self::Termination),
+            IFLA_CAN_TERMINATION_CONST => parse_u16s(alloc, payload).map(Self::TerminationConst),
+            IFLA_CAN_BITRATE_CONST => parse_u32s(alloc, payload).map(Self::BitrateConst),
+            IFLA_CAN_DATA_BITRATE_CONST => parse_u32s(alloc, payload).map(Self::DataBitrateConst),
             IFLA_CAN_BITRATE_MAX => parse_u32(payload).map(Self::BitrateMax),
             IFLA_CAN_TDC => read_nested(alloc, kind, payload).map(Self::Tdc),
             IFLA_CAN_CTRLMODE_EXT => read_nested(alloc, kind, payload).map(Self::CtrlModeExt),
@@ -218,6 +255,8 @@ impl Attribute for InfoCan {
             | IFLA_CAN_BITRATE_MAX => has_size(buffer, 4),
             IFLA_CAN_CTRLMODE => has_size(buffer, 8),
             IFLA_CAN_TERMINATION => has_size(buffer, 2),
+            IFLA_CAN_TERMINATION_CONST => are_numbers(buffer, 2),
+            IFLA_CAN_BITRATE_CONST | IFLA_CAN_DATA_BITRATE_CONST => are_numbers(buffer, 4),
             IFLA_CAN_TDC => is_nested::<CanTdc>(buffer, NLA_F_NESTED),
             IFLA_CAN_CTRLMODE_EXT => is_nested::<CanCtrlModeExt>(buffer, NLA_F_NESTED),
             _ => true,

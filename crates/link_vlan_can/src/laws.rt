@@ -1,11 +1,15 @@
-//! The bits of the named flags. Nothing here runs.
+//! The bits of the named flags, and the two editions of the table of CAN controllers. Nothing here runs.
 
 ghost use Rattle.std.specs.Prelude.{◌≡◌};
+ghost use Rattle.link_base.specs.Editions.{AreEditions};
+ghost use Rattle.link_vlan_can.specs.Can.{can_added, can_table_first};
 ghost use Rattle.link_vlan_can.specs.VlanFlags.{vlan_bits};
 ghost use Rattle.link_vlan_can.specs.CanFlags.{mode_bits};
 
+use crate::can::InfoCan;
 use crate::can_flags::CanCtrlModeFlags;
 use crate::vlan_flags::VlanFlags;
+use link_base::Meaning;
 
 /// The bits of the flags of a VLAN link (`VLAN_FLAG_*`, `include/uapi/linux/if_vlan.h`).
 pub fn vlan_flag_bits()
@@ -34,4 +38,12 @@ pub fn can_mode_bits()
     ensures xl_tdc_auto { mode_bits CanCtrlModeFlags.XlTdcAuto ≡ 0x2000 }
     ensures xl_tdc_manual { mode_bits CanCtrlModeFlags.XlTdcManual ≡ 0x4000 }
     ensures xl_tms { mode_bits CanCtrlModeFlags.XlTms ≡ 0x8000 }
+{}
+
+/// The two editions of the table of CAN controllers: the second adds the kinds 12, 13 and 14,
+/// `IFLA_CAN_TERMINATION_CONST`, `IFLA_CAN_BITRATE_CONST` and `IFLA_CAN_DATA_BITRATE_CONST`. A string without a frame of
+/// these kinds, before its first frame fault if it has one, has the same values or the same first fault in both, and is
+/// canonical in both or in neither.
+pub fn profiles()
+    ensures { AreEditions can_added can_table_first ⟦<InfoCan as Meaning>⟧.table }
 {}
