@@ -59,7 +59,13 @@ fn one_attribute(rt: HostRuntime) {
                 "0d000b00 80000200 00000001 00000000",
                 Some(0),
             ),
+            (Family::BridgePort, "05000b00 01000000", None),
+            (Family::BridgePort, "05000b00 07000000", Some(0)),
+            (Family::BridgePort, "06000b00 01000000", Some(0)),
             (Family::BondPort, "06000800 3f010000", Some(0)),
+            (Family::Can, "06000c00 78000000 04000d00", None),
+            (Family::Can, "06000c00 78000000 04000d40", Some(8)),
+            (Family::Can, "07000c00 01020300", Some(0)),
             (Family::Can, "0c001080 08000100 03000000", None),
             // each by the kinds of its own elements: kind 2 is one of the first, and none of the second
             (Family::Can, "0c001080 06000200 03000000", Some(0)),
@@ -190,6 +196,7 @@ fn changes(rt: HostRuntime) {
             "10000300 0c000100 01000000 02000000 0c000200 01000000 1f000000",
         ),
         (Family::Can, "08000300 00127a00 08000800 01000200"),
+        (Family::Can, "06000c00 78000000 0c000d00 48e80100 a0860100"),
         (Family::Can, "0c001080 08000700 03000000"),
         (Family::Can, "0c001180 08000100 20000000 06000b00 78000000"),
         (Family::Bond, "05000100 04000000 05000600 01000000"),
@@ -223,7 +230,7 @@ fn changes(rt: HostRuntime) {
         ),
         (
             Family::BridgePort,
-            "05000100 03000000 0c000d00 80000200 00000001 04001800",
+            "05000100 03000000 0c000d00 80000200 00000001 04001800 05000b00 01000000",
         ),
         (
             Family::AfSpecBridge,

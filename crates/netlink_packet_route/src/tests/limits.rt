@@ -1,8 +1,9 @@
 //! Payloads as long as can be, and values that do not fit.
 
 use crate::link::{
-    AfSpecBridge, Attribute, BridgeVlanInfo, BridgeVlanInfoFlags, DefaultNla, InfoBond, InfoVlan,
-    Nla, VlanQosMapping, WriteError, emit_list, list_fits, list_len, read_list, write_list,
+    AfSpecBridge, Attribute, BridgeVlanInfo, BridgeVlanInfoFlags, DefaultNla, InfoBond, InfoCan,
+    InfoVlan, Nla, VlanQosMapping, WriteError, emit_list, list_fits, list_len, read_list,
+    write_list,
 };
 use crate::tests::{bytes, holds, list};
 use crate::{Family, RewriteError, report, rewrite};
@@ -90,11 +91,11 @@ fn many_of_sixteen(rt: &impl Abort, alloc: Global, count: usize) -> InfoBond {
 }
 
 /// The value fits and has so many bytes of payload. The bytes that are written for it, which read as it.
-fn written(rt: &impl Abort, alloc: Global, value: InfoBond, len: usize) -> Vec<u8> {
+fn written<F: Attribute>(rt: &impl Abort, alloc: Global, value: F, len: usize) -> Vec<u8> {
     assert!(rt; value.fits() && value.value_len() == len);
     let values = list(rt, alloc, [value]);
     let out = write_list(alloc, &values).expect(rt, "its bytes");
-    let read: Vec<InfoBond> = read_list(alloc, &out).expect(rt, "the value");
+    let read: Vec<F> = read_list(alloc, &out).expect(rt, "the value");
     assert!(rt; read == values);
     out
 }
@@ -111,7 +112,7 @@ fn as_many_addresses_as_fit(rt: HostRuntime) {
 }
 
 /// The value, of so many bytes of payload, does not fit, and is not written.
-fn is_too_long(rt: &impl Abort, alloc: Global, value: InfoBond, len: usize) {
+fn is_too_long<F: Attribute>(rt: &impl Abort, alloc: Global, value: F, len: usize) {
     assert!(rt; !value.fits() && value.value_len() == len);
     let values = list(rt, alloc, [value]);
     assert!(rt; write_list(alloc, &values) == Err(WriteError::TooLong { index: 0 }));
@@ -122,6 +123,31 @@ fn one_address_more(rt: HostRuntime) {
     let alloc = rt.alloc();
     is_too_long(&rt, alloc, many_of_four(&rt, alloc, 8192), 65536);
     is_too_long(&rt, alloc, many_of_sixteen(&rt, alloc, 3277), 65540);
+}
+
+fn many_of_two(rt: &impl Abort, alloc: Global, count: usize) -> InfoCan {
+    InfoCan::TerminationConst(vec![in alloc; 0x0102u16; count].expect(rt, "numbers"))
+}
+
+fn many_rates(rt: &impl Abort, alloc: Global, count: usize) -> InfoCan {
+    InfoCan::BitrateConst(vec![in alloc; 0x0102_0304u32; count].expect(rt, "numbers"))
+}
+
+#[test]
+fn as_many_numbers_as_fit(rt: HostRuntime) {
+    let alloc = rt.alloc();
+    let out = written(&rt, alloc, many_of_two(&rt, alloc, 32765), 65530);
+    assert!(rt; out.len() == 65536 && out.starts_with(&[0xFE, 0xFF, 12, 0, 2, 1, 2, 1]));
+    assert!(rt; out.ends_with(&[2, 1, 2, 1, 0, 0]));
+    let out = written(&rt, alloc, many_rates(&rt, alloc, 16382), 65528);
+    assert!(rt; out.len() == 65532 && out.starts_with(&[0xFC, 0xFF, 13, 0, 4, 3, 2, 1]));
+}
+
+#[test]
+fn one_number_more(rt: HostRuntime) {
+    let alloc = rt.alloc();
+    is_too_long(&rt, alloc, many_of_two(&rt, alloc, 32766), 65532);
+    is_too_long(&rt, alloc, many_rates(&rt, alloc, 16383), 65532);
 }
 
 /// The digits, and those of so many zero bytes behind them.

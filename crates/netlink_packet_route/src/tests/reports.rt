@@ -436,12 +436,26 @@ fn values_of_can(rt: HostRuntime) {
             ),
             (
                 "06000b00 78000000 06000c40 01000000",
-                "attr 11 len 2\nattr 16396 len 2\nout 06000b007800000006000c4001000000\nsame\n",
+                "attr 11 len 2\nattr 12 len 2\nout 06000b007800000006000c0001000000\nchanged\n",
+            ),
+            (
+                "06000b00 78000000 06001240 01000000",
+                "attr 11 len 2\nattr 16402 len 2\nout 06000b00780000000600124001000000\nsame\n",
             ),
             (
                 "0c000500 21000000 20000000",
                 "attr 5 len 8\nout 0c0005002100000020000000\nsame\n",
             ),
+            // numbers one after another
+            (
+                "08000c00 78000000",
+                "attr 12 len 4\nout 08000c0078000000\nsame\n",
+            ),
+            (
+                "0c000d00 48e80100 a0860100",
+                "attr 13 len 8\nout 0c000d0048e80100a0860100\nsame\n",
+            ),
+            ("04000d00", "attr 13 len 0\nout 04000d00\nsame\n"),
         ],
     );
 }
@@ -516,6 +530,14 @@ fn faults_of_can(rt: HostRuntime) {
             (
                 "08000300 00127a00 080002c0 61000000",
                 "fault at 8: kind 2: too short 48 4\n",
+            ),
+            (
+                "07000c00 01020300",
+                "fault at 0: kind 12: wrong length 2 3\n",
+            ),
+            (
+                "0a000e00 01000000 02000000",
+                "fault at 0: kind 14: wrong length 4 6\n",
             ),
             (
                 "08001080 04000700",

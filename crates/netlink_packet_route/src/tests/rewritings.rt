@@ -70,6 +70,10 @@ fn bytes_that_stay(rt: HostRuntime) {
         ),
         (Family::ProtoBridge, "05000400 07000000 05002d00 00000000"),
         (Family::Can, "08000800 01000200"),
+        (
+            Family::Can,
+            "08000c00 78000000 0c000d00 48e80100 a0860100 04000e00",
+        ),
         (Family::Can, "0c001080 08000700 03000000"),
     ] {
         becomes(&rt, rt.alloc(), family, [digits, digits, digits]);
@@ -108,6 +112,7 @@ fn bytes_that_change_once(rt: HostRuntime) {
             "0c000b00 80000200 00000001",
         ),
         (Family::BridgePort, "05000400 07000000", "05000400 01000000"),
+        (Family::BridgePort, "05000b80 07000000", "05000b00 01000000"),
         (Family::BridgePort, "06001800 01020000", "04001800"),
         (
             Family::AfSpecBridge,
@@ -119,6 +124,7 @@ fn bytes_that_change_once(rt: HostRuntime) {
             "05002d80 ff000000 060004c0 dead",
             "05002d00 01000000 060004c0 dead0000",
         ),
+        (Family::Can, "06000cc0 7800", "06000c00 78000000"),
         (
             Family::Can,
             "0c001000 08000700 03000000",

@@ -106,8 +106,24 @@ fn can(rt: HostRuntime) {
         flags: CanCtrlModeFlags::Fd,
     });
     is_kept(&rt, alloc, "0c000500 21000000 20000000", modes);
-    let other = InfoCan::Other(any(&rt, alloc, 12, [1, 0]));
-    is_kept(&rt, alloc, "06000c00 01000000", other);
+    let other = InfoCan::Other(any(&rt, alloc, 18, [1, 0]));
+    is_kept(&rt, alloc, "06001200 01000000", other);
+}
+
+#[test]
+fn numbers_of_can(rt: HostRuntime) {
+    let alloc = rt.alloc();
+    let resistances = InfoCan::TerminationConst(list(&rt, alloc, [120, 0]));
+    is_kept(&rt, alloc, "08000c00 78000000", resistances);
+    let rates = InfoCan::BitrateConst(list(&rt, alloc, [125_000, 100_000]));
+    is_kept(&rt, alloc, "0c000d00 48e80100 a0860100", rates);
+    let none = InfoCan::BitrateConst(Vec::new(alloc));
+    is_kept(&rt, alloc, "04000d00", none);
+    let rates = InfoCan::DataBitrateConst(list(&rt, alloc, [2_000_000]));
+    is_kept(&rt, alloc, "08000e00 80841e00", rates);
+    // each number by its lowest byte first, whatever the flags of the kind, and without padding
+    let numbers = InfoCan::TerminationConst(list(&rt, alloc, [0x0201, 0x0403, 0xFFFF]));
+    reads_as(&rt, alloc, "0a000cc0 01020304 ffff", numbers);
 }
 
 #[test]
@@ -352,8 +368,10 @@ fn ports_of_bridges(rt: HostRuntime) {
         address: [2, 0, 0, 0, 0, 1],
     });
     reads_as(&rt, alloc, "0e000d00 80000200 00000001 ffff", root);
-    let sync = InfoBridgePort::Other(any(&rt, alloc, 11, [1]));
+    let sync = InfoBridgePort::LearningSync(true);
     is_kept(&rt, alloc, "05000b00 01000000", sync);
+    let sync = InfoBridgePort::LearningSync(true);
+    reads_as(&rt, alloc, "05000b80 07000000", sync);
     let padding = InfoBridgePort::Other(any(&rt, alloc, 0xC01A, [1, 2]));
     is_kept(&rt, alloc, "06001ac0 01020000", padding);
     let neighbors = LinkProtoInfoBridge::NeighForwardGrat(true);

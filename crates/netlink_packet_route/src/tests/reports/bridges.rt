@@ -87,11 +87,19 @@ fn ports_of_bridges(rt: HostRuntime) {
                 "attr 24 len 0\nout 04001800\nchanged\n",
             ),
             ("04001800", "attr 24 len 0\nout 04001800\nsame\n"),
-            // kinds without a case
             (
                 "05000b00 01000000",
                 "attr 11 len 1\nout 05000b0001000000\nsame\n",
             ),
+            (
+                "05000b00 07000000",
+                "attr 11 len 1\nout 05000b0001000000\nchanged\n",
+            ),
+            (
+                "05000b80 01000000",
+                "attr 11 len 1\nout 05000b0001000000\nchanged\n",
+            ),
+            // kinds without a case
             (
                 "04001ac0 06002e40 dead",
                 "attr 49178 len 0\nattr 16430 len 2\nout 04001ac006002e40dead0000\nchanged\n",
@@ -116,6 +124,10 @@ fn ports_of_bridges(rt: HostRuntime) {
             (
                 "08000400 01000000",
                 "fault at 0: kind 4: wrong length 1 4\n",
+            ),
+            (
+                "06000b00 01000000",
+                "fault at 0: kind 11: wrong length 1 2\n",
             ),
             (
                 "05000400 01000000 0b000ec0 80000200 00000000",
