@@ -93,7 +93,8 @@ fn many_of_sixteen(rt: &impl Abort, alloc: Global, count: usize) -> InfoBond {
 /// The value fits and has so many bytes of payload. The bytes that are written for it, which read as it.
 fn written<F: Attribute>(rt: &impl Abort, alloc: Global, value: F, len: usize) -> Vec<u8> {
     assert!(rt; value.fits() && value.value_len() == len);
-    let values = list(rt, alloc, [value]);
+    let mut values = Vec::new(alloc);
+    values.push(value).expect(rt, "a value");
     let out = write_list(alloc, &values).expect(rt, "its bytes");
     let read: Vec<F> = read_list(alloc, &out).expect(rt, "the value");
     assert!(rt; read == values);
@@ -114,7 +115,8 @@ fn as_many_addresses_as_fit(rt: HostRuntime) {
 /// The value, of so many bytes of payload, does not fit, and is not written.
 fn is_too_long<F: Attribute>(rt: &impl Abort, alloc: Global, value: F, len: usize) {
     assert!(rt; !value.fits() && value.value_len() == len);
-    let values = list(rt, alloc, [value]);
+    let mut values = Vec::new(alloc);
+    values.push(value).expect(rt, "a value");
     assert!(rt; write_list(alloc, &values) == Err(WriteError::TooLong { index: 0 }));
 }
 
