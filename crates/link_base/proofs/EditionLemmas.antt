@@ -1,14 +1,14 @@
 -- Two editions of a table read alike what has no frame of the kinds that the second adds.
 use Rattle.std.proofs.Common.{◌≡◌, ℕ, Bool, true, false, not, cond, List, [], ◌∷◌, ◌++◌, Some, Result, Ok, Err, refl, sym, ap, subst, ◌∙◌, inl, inr, true≢false, append_assoc}
-use Rattle.std.specs.Prelude.{◌==◌, ◌↔◌}
-use Rattle.std.specs.List.{AllByRecursion, AllZip}
+use Rattle.std.specs.Prelude.{◌==◌}
+use Rattle.std.specs.List.{AllByRecursion}
 use Rattle.std.proofs.lemmas.Bool.{cond_both, cond-false, eqb-true}
 use Rattle.link_base.specs.declared.fault.DecodeFault.{DecodeFault}
 use Rattle.link_base.specs.Frame.{Frame, IsComplete, AreFrames, kind_of, frame_bytes, spelled}
 use Rattle.link_base.specs.Class.{is_listed}
-use Rattle.link_base.specs.Wire.{Reading, FrameGives, FaultsHere, Wire, FirstFault, Reads, IsCanonicalFrame, CanonicalBy}
-use Rattle.link_base.specs.Table.{Row, class_at, Table, AttrValue, GivesBy, Gives, allows_by, Allows, Canonical}
-use Rattle.link_base.specs.Editions.{among, without, kinds_of, StandsIn, HasNone, AreEditions}
+use Rattle.link_base.specs.Wire.{Reading, FaultsHere, Reads, IsCanonicalFrame, CanonicalBy}
+use Rattle.link_base.specs.Table.{Row, class_at, Table, AttrValue, GivesBy, Gives, allows_by, Allows}
+use Rattle.link_base.specs.Editions.{among, without, kinds_of, StandsIn, AreEditions}
 use Rattle.link_base.proofs.Cuts.{IsFrame-complete, AreFrames-head}
 use Rattle.link_base.proofs.Readings.{ReadEach, HaveValues}
 

@@ -1,14 +1,14 @@
 -- Numbers of one width, one after another: what is read number by number and what is written number by number.
-use Rattle.std.proofs.Common.{◌≡◌, ℕ, zero, suc, ◌+◌, ◌-◌, ◌*◌, ◌/◌, ◌≤◌, ◌<◌, List, [], ◌∷◌, ◌++◌, length, take, drop, get_or, refl, sym, ap, ap₂, subst, ◌∙◌, arith, length-append, drop-drop}
+use Rattle.std.proofs.Common.{◌≡◌, ℕ, zero, suc, ◌+◌, ◌-◌, ◌*◌, ◌≤◌, ◌<◌, List, [], ◌∷◌, ◌++◌, length, take, drop, get_or, sym, ap, ap₂, subst, ◌∙◌, arith, length-append, drop-drop}
 use Rattle.std.proofs.Math.Nat.{mul-suc}
 use Rattle.std.proofs.Math.Seq.{take-add}
-use Rattle.std.proofs.lemmas.List.{append-nil, take_more, take-append-drop, take_all, length-take}
+use Rattle.std.proofs.lemmas.List.{append-nil, take_more, take-append-drop, length-take}
 use Rattle.std.proofs.lemmas.Grind.{flat_map-append}
 use borrow.Rule.Slice.PartMut.{put_mid}
 use Rattle.link_base.specs.Number.{bytes_of}
 use Rattle.link_base.specs.Held.{IsOctets}
 use Rattle.link_base.specs.Answers.{OverwritesFront}
-use Rattle.link_base.specs.Layout.{number_at, numbers_at, numbers_of, octets_of}
+use Rattle.link_base.specs.Layout.{number_at, numbers_at, octets_of}
 use Rattle.link_base.proofs.Numbers.{length-bytes_of, IsBytes-bytes_of}
 use Rattle.link_base.proofs.Fronts.{bytes-append}
 use Rattle.link_base.proofs.Emit.{frame_after}

@@ -1,7 +1,7 @@
 use Rattle.std.proofs.Common.{◌≡◌, ◌+◌, ◌*◌, take, drop, refl, sym, ap, subst, ◌∙◌, arith, length-set}
 use Rattle.std.proofs.lemmas.List.{take_more_set, take_all, length-replicate}
 use Rattle.link_base.specs.Layout.{numbers_at, octets_of}
-use Rattle.link_base.proofs.Layouts.{AreRead, read_none, read_more}
+use Rattle.link_base.proofs.Layouts.{read_none, read_more}
 use Rattle.link_base.proofs.records.u32s_at.Goals as goal
 
 pub loop-i-init : goal.loop-i-init
