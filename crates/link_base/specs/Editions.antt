@@ -34,7 +34,8 @@ HasNone kinds s = (x : Frame) → StandsIn s x → is_listed kinds (kind_of x.ki
 
 -- the string has the same values in both tables, or the same first fault
 abbrev pub ReadsAlike : Table → Table → List ℕ → Type 0
-ReadsAlike first second s = (q : Result (List AttrValue) (ℕ × DecodeFault)) → Reads (Gives first) s q ↔ Reads (Gives second) s q
+ReadsAlike first second s =
+    (q : Result (List AttrValue) (ℕ × DecodeFault)) → Reads (Gives first) s q ↔ Reads (Gives second) s q
 
 -- The second table adds these kinds to the first: the first is the second without their rows, and each has a row in the
 -- second. A string without a frame of these kinds reads alike in both, and is canonical in both or in neither.

@@ -6,7 +6,8 @@
 ghost use Rattle.std.specs.Prelude.{◌≡◌, ◌≢◌, ◌↔◌, ◌⊎◌, ℕ, ◌<◌, List, [], ◌∷◌, Some, IsTrue, MatchOption, EachIndex, length, slice_index};
 ghost use Rattle.link_base.specs.Wire.{SplitsWhole};
 ghost use Rattle.link_base.specs.Name.{IsCutText, IsNameField};
-ghost use Rattle.link_base.specs.Class.{Exactly, AtLeast, Fixed, Unsigned, Signed, Truth, Octets, Bytes, Many, Named, Protocol, Low, Empty, Limits};
+ghost use Rattle.link_base.specs.Class.{Exactly, AtLeast, Fixed, Unsigned, Signed, Truth, Octets, Bytes, Many, Named};
+ghost use Rattle.link_base.specs.Class.{Protocol, Low, Empty, Limits};
 ghost use Rattle.link_base.specs.Table.{One, Nested, Addresses, AreAddresses, nested_flag, allows_by};
 ghost use Rattle.link_base.specs.Table.{Canonical, FirstNotCanonical};
 ghost use Rattle.link_base.specs.Buffer.{kind_field_of, payload_of};

@@ -91,8 +91,8 @@ pub fn equality_of_lists()
 {}
 
 /// The two editions of the table of bridge ports: the second adds the kind 11, `IFLA_BRPORT_LEARNING_SYNC`. A string
-/// without a frame of this kind, before its first frame fault if it has one, has the same values or the same first fault
-/// in both, and is canonical in both or in neither.
+/// without a frame of this kind, before its first frame fault if it has one, has the same values or the same first
+/// fault in both, and is canonical in both or in neither.
 pub fn profiles()
     ensures { AreEditions bridge_port_added bridge_port_table_first ⟦<InfoBridgePort as Meaning>⟧.table }
 {}

@@ -79,11 +79,11 @@ pub enum InfoCan {
     /// The resistances that the bus termination can be set to, in ohms; 0 for none (`IFLA_CAN_TERMINATION_CONST`, two
     /// bytes each).
     TerminationConst(Vec<u16>),
-    /// The bit rates that the controller can be set to, in bits per second; of the arbitration phase where it has CAN FD
-    /// (`IFLA_CAN_BITRATE_CONST`, four bytes each).
+    /// The bit rates that the controller can be set to, in bits per second; of the arbitration phase where it has CAN
+    /// FD (`IFLA_CAN_BITRATE_CONST`, four bytes each).
     BitrateConst(Vec<u32>),
-    /// The bit rates that the data phase of CAN FD can be set to, in bits per second (`IFLA_CAN_DATA_BITRATE_CONST`, four
-    /// bytes each).
+    /// The bit rates that the data phase of CAN FD can be set to, in bits per second (`IFLA_CAN_DATA_BITRATE_CONST`,
+    /// four bytes each).
     DataBitrateConst(Vec<u32>),
     /// The maximum bit rate of the transceiver, in bits per second (`IFLA_CAN_BITRATE_MAX`, four bytes).
     BitrateMax(u32),

@@ -41,9 +41,9 @@ pub fn can_mode_bits()
 {}
 
 /// The two editions of the table of CAN controllers: the second adds the kinds 12, 13 and 14,
-/// `IFLA_CAN_TERMINATION_CONST`, `IFLA_CAN_BITRATE_CONST` and `IFLA_CAN_DATA_BITRATE_CONST`. A string without a frame of
-/// these kinds, before its first frame fault if it has one, has the same values or the same first fault in both, and is
-/// canonical in both or in neither.
+/// `IFLA_CAN_TERMINATION_CONST`, `IFLA_CAN_BITRATE_CONST` and `IFLA_CAN_DATA_BITRATE_CONST`. A string without a frame
+/// of these kinds, before its first frame fault if it has one, has the same values or the same first fault in both, and
+/// is canonical in both or in neither.
 pub fn profiles()
     ensures { AreEditions can_added can_table_first ⟦<InfoCan as Meaning>⟧.table }
 {}
