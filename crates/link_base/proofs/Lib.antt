@@ -20,6 +20,7 @@ pub mod Begins
 pub mod Emit
 pub mod Walking
 pub mod TableReads
+pub mod Places
 pub mod Relays
 pub mod Lifted
 pub mod KindFaults

@@ -11,6 +11,7 @@ pub mod Lawful
 pub mod Texts
 pub mod Buffer
 pub mod Answers
+pub mod Place
 pub mod Rewritten
 pub mod Address
 pub mod Addresses

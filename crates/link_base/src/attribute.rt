@@ -10,10 +10,12 @@ ghost use Rattle.link_base.specs.WellFormed.{is_table};
 ghost use Rattle.link_base.specs.Lawful.{IsLawful};
 ghost use Rattle.link_base.specs.Equality.{IsThorough};
 ghost use Rattle.link_base.specs.Buffer.{kind_field_of, payload_of};
+ghost use Rattle.link_base.specs.Place.{Puts};
 ghost use Rattle.link_base.specs.Answers.{Answers, OnMemory, OverwritesFront, capped, under_kind};
 
 use crate::buffer::NlaBuffer;
 use crate::fault::{DecodeError, of_kind};
+use crate::place::Place;
 use std::alloc::Global;
 
 /// The maximum length of a payload: the maximum `nla_len`, 65535, without the four bytes of the header.
@@ -109,13 +111,34 @@ fn put_zeros(buffer: &mut [u8], start: usize)
 }
 
 /// A value that can be read from an attribute. A type gives `parse_payload`, a `match` on the kind.
-pub trait Parseable: Meaning + Drop {
-    /// What a type gives for `parse`, which is the call to use: the same answer, except that the fault of a bad payload
+pub trait Parseable: Meaning + Drop + Sized {
+    /// What a type gives for `parse_into`, which is the call to use: the same, except that the fault of a bad payload
     /// may come without its kind (`Payload`).
-    fn parse_payload(alloc: Global, buffer: &NlaBuffer<'_>) -> Result<Self, DecodeError>
-        ensures answer { Answers Self.means (under_kind (kind_of (kind_field_of buffer.now)) result)
+    fn parse_payload<P: Place<Self>>(
+        alloc: Global,
+        buffer: &NlaBuffer<'_>,
+        place: &mut P,
+    ) -> Result<(), DecodeError>
+        requires { P.is_free place.old }
+        ensures answer { Puts (λ value. P.takes place.old value place.new) Self.means
+            (under_kind (kind_of (kind_field_of buffer.now)) result)
             (Gives Self.table (kind_field_of buffer.now) (payload_of buffer.now)) }
         ensures memory { OnMemory result (TakesMemory Self.table (kind_field_of buffer.now)) };
+
+    /// Puts the value of a frame to its place. Fails as `parse` does.
+    #[inline(always)]
+    fn parse_into<P: Place<Self>>(
+        alloc: Global,
+        buffer: &NlaBuffer<'_>,
+        place: &mut P,
+    ) -> Result<(), DecodeError>
+        requires { P.is_free place.old }
+        ensures answer { Puts (λ value. P.takes place.old value place.new) Self.means result
+            (Gives Self.table (kind_field_of buffer.now) (payload_of buffer.now)) }
+        ensures memory { OnMemory result (TakesMemory Self.table (kind_field_of buffer.now)) }
+    {
+        of_kind(buffer.kind(), Self::parse_payload(alloc, buffer, place))
+    }
 
     /// The value of a frame.
     ///
@@ -126,7 +149,11 @@ pub trait Parseable: Meaning + Drop {
             (Gives Self.table (kind_field_of buffer.now) (payload_of buffer.now)) }
         ensures memory { OnMemory result (TakesMemory Self.table (kind_field_of buffer.now)) }
     {
-        of_kind(buffer.kind(), Self::parse_payload(alloc, buffer))
+        let mut place = None;
+        match Self::parse_into(alloc, buffer, &mut place) {
+            Ok(()) => Ok(place.unwrap()),
+            Err(error) => Err(error),
+        }
     }
 }
 

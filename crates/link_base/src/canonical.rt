@@ -3,7 +3,7 @@
 //! A judge of one attribute takes its frame, and answers whether the kind field and the payload are those that are
 //! written for the value that they read as. Padding is judged with the list.
 
-ghost use Rattle.std.specs.Prelude.{◌≡◌, ◌≢◌, ◌↔◌, ◌⊎◌, ℕ, ◌<◌, List, [], ◌∷◌, Some, IsTrue, MatchOption, EachIndex, length, slice_index};
+ghost use Rattle.std.specs.Prelude.{◌≡◌, ◌≢◌, ◌↔◌, ◌⊎◌, ℕ, ◌<◌, ◌≤◌, List, [], ◌∷◌, Some, IsTrue, MatchOption, EachIndex, length, slice_index};
 ghost use Rattle.link_base.specs.Wire.{SplitsWhole};
 ghost use Rattle.link_base.specs.Name.{IsCutText, IsNameField};
 ghost use Rattle.link_base.specs.Class.{Exactly, AtLeast, Fixed, Unsigned, Signed, Truth, Octets, Bytes, Many, Named};
@@ -60,10 +60,19 @@ fn split_whole<'a>(bytes: &'a [u8]) -> Option<(NlaBuffer<'a>, &'a [u8])>
         return Some((buffer, after));
     }
     let gap = 4 - over;
-    if gap > after.len() || !are_zeros(&after[..gap]) {
+    if gap > after.len() || !is_padding(&after[..gap]) {
         return None;
     }
     Some((buffer, &after[gap..]))
+}
+
+/// Whether at most three bytes are zeros.
+#[inline]
+fn is_padding(bytes: &[u8]) -> bool
+    requires { length bytes.now ≤ 3 }
+    ensures { IsTrue result ↔ EachIndex bytes.now (λ k. slice_index bytes.now k ≡ 0) }
+{
+    matches!(bytes, [] | [0] | [0, 0] | [0, 0, 0])
 }
 
 #[inline]

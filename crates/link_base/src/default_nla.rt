@@ -6,6 +6,7 @@ use crate::attribute::{Attribute, Meaning, Nla, Parseable};
 use crate::buffer::NlaBuffer;
 use crate::fault::DecodeError;
 use crate::octets::Octets;
+use crate::place::Place;
 use crate::try_clone::TryClone;
 use std::alloc::{AllocError, Global};
 
@@ -66,12 +67,19 @@ impl Nla for DefaultNla {
 }
 
 impl Parseable for DefaultNla {
-    fn parse_payload(alloc: Global, buffer: &NlaBuffer<'_>) -> Result<Self, DecodeError> {
+    fn parse_payload<P: Place<Self>>(
+        alloc: Global,
+        buffer: &NlaBuffer<'_>,
+        place: &mut P,
+    ) -> Result<(), DecodeError> {
         match Octets::from_slice(alloc, buffer.value()) {
-            Ok(value) => Ok(DefaultNla {
-                kind: buffer.raw_kind(),
-                value,
-            }),
+            Ok(value) => {
+                place.put(DefaultNla {
+                    kind: buffer.raw_kind(),
+                    value,
+                });
+                Ok(())
+            }
             Err(error) => Err(DecodeError::Memory(error)),
         }
     }

@@ -20,6 +20,7 @@ pub mod named_laws;
 mod nested;
 mod number_lists;
 mod octets;
+mod place;
 mod records;
 mod rewriting;
 mod scalars;
@@ -44,6 +45,7 @@ pub use list::read_list;
 pub use named::NamedNumber;
 pub use nested::{NestedAttribute, emit_nested, nested_len, read_nested};
 pub use number_lists::{emit_u16s, emit_u32s, parse_u16s, parse_u32s, u16s_len, u32s_len};
+pub use place::{Place, keep};
 pub use records::{check_at_least, check_exactly, check_length, u16_at, u32_at, u32s_at};
 pub use rewriting::rewrite_list;
 pub use scalars::{

@@ -25,11 +25,9 @@ pub fn read_list<F: Attribute>(alloc: Global, bytes: &[u8]) -> Result<Vec<F>, Li
         Err(error) => return Err(ListError::Memory(error)),
     };
     for i in 0..table.len() {
-        let value: F = match F::parse(alloc, &table.frame(i)) {
-            Ok(value) => value,
-            Err(error) => return Err(error.at(table.offset(i))),
-        };
-        values.push_reserved(value);
+        if let Err(error) = F::parse_into(alloc, &table.frame(i), &mut values) {
+            return Err(error.at(table.offset(i)));
+        }
     }
     match table.fault() {
         Some((at, cause)) => Err(DecodeError::Fault(DecodeFault::Frame(cause)).at(at)),

@@ -21,10 +21,10 @@ pub use arp_validate::BondArpValidate;
 pub use fail_over_mac::BondFailOverMac;
 pub use lacp_rate::BondLacpRate;
 use link_base::{
-    Attribute, DecodeError, DefaultNla, Meaning, Nla, NlaBuffer, Parseable, TryClone,
+    Attribute, DecodeError, DefaultNla, Meaning, Nla, NlaBuffer, Parseable, Place, TryClone,
     addresses_len, emit_addresses, emit_mac, emit_nested, emit_u8, emit_u16, emit_u32, has_size,
-    is_address_list, is_nested, is_truth, nested_len, parse_bool, parse_mac, parse_u8, parse_u16,
-    parse_u32, read_addresses, read_nested, try_clone_list,
+    is_address_list, is_nested, is_truth, keep, nested_len, parse_bool, parse_mac, parse_u8,
+    parse_u16, parse_u32, read_addresses, read_nested, try_clone_list,
 };
 pub use mode::BondMode;
 pub use primary_reselect::BondPrimaryReselect;
@@ -365,49 +365,82 @@ impl Nla for InfoBond {
 
 impl Parseable for InfoBond {
     #[tactic(auto, using(link_base::proofs::KindFaults::under_nested))]
-    fn parse_payload(alloc: Global, buffer: &NlaBuffer<'_>) -> Result<Self, DecodeError> {
+    fn parse_payload<P: Place<Self>>(
+        alloc: Global,
+        buffer: &NlaBuffer<'_>,
+        place: &mut P,
+    ) -> Result<(), DecodeError> {
         let kind = buffer.kind();
         let payload = buffer.value();
         match kind {
-            IFLA_BOND_MODE => parse_u8(payload).map(|n| Self::Mode(n.into())),
-            IFLA_BOND_ACTIVE_SLAVE => parse_u32(payload).map(Self::ActivePort),
-            IFLA_BOND_MIIMON => parse_u32(payload).map(Self::MiiMon),
-            IFLA_BOND_UPDELAY => parse_u32(payload).map(Self::UpDelay),
-            IFLA_BOND_DOWNDELAY => parse_u32(payload).map(Self::DownDelay),
-            IFLA_BOND_USE_CARRIER => parse_bool(payload).map(Self::UseCarrier),
-            IFLA_BOND_ARP_INTERVAL => parse_u32(payload).map(Self::ArpInterval),
-            IFLA_BOND_ARP_IP_TARGET => read_addresses(alloc, kind, payload).map(Self::ArpIpTarget),
-            IFLA_BOND_ARP_VALIDATE => parse_u32(payload).map(|n| Self::ArpValidate(n.into())),
-            IFLA_BOND_ARP_ALL_TARGETS => parse_u32(payload).map(|n| Self::ArpAllTargets(n.into())),
-            IFLA_BOND_PRIMARY => parse_u32(payload).map(Self::Primary),
-            IFLA_BOND_PRIMARY_RESELECT => parse_u8(payload).map(|n| Self::PrimaryReselect(
-                n.into(),
-            )),
-            IFLA_BOND_FAIL_OVER_MAC => parse_u8(payload).map(|n| Self::FailOverMac(n.into())),
-            IFLA_BOND_XMIT_HASH_POLICY => parse_u8(payload).map(|n| Self::XmitHashPolicy(n.into())),
-            IFLA_BOND_RESEND_IGMP => parse_u32(payload).map(Self::ResendIgmp),
-            IFLA_BOND_NUM_PEER_NOTIF => parse_u8(payload).map(Self::NumPeerNotif),
-            IFLA_BOND_ALL_SLAVES_ACTIVE => parse_u8(payload).map(|n| Self::AllPortsActive(
-                n.into(),
-            )),
-            IFLA_BOND_MIN_LINKS => parse_u32(payload).map(Self::MinLinks),
-            IFLA_BOND_LP_INTERVAL => parse_u32(payload).map(Self::LpInterval),
-            IFLA_BOND_PACKETS_PER_SLAVE => parse_u32(payload).map(Self::PacketsPerPort),
-            IFLA_BOND_AD_LACP_RATE => parse_u8(payload).map(|n| Self::AdLacpRate(n.into())),
-            IFLA_BOND_AD_SELECT => parse_u8(payload).map(|n| Self::AdSelect(n.into())),
-            IFLA_BOND_AD_INFO => read_nested(alloc, kind, payload).map(Self::AdInfo),
-            IFLA_BOND_AD_ACTOR_SYS_PRIO => parse_u16(payload).map(Self::AdActorSysPrio),
-            IFLA_BOND_AD_USER_PORT_KEY => parse_u16(payload).map(Self::AdUserPortKey),
-            IFLA_BOND_AD_ACTOR_SYSTEM => parse_mac(payload).map(Self::AdActorSystem),
-            IFLA_BOND_TLB_DYNAMIC_LB => parse_bool(payload).map(Self::TlbDynamicLb),
-            IFLA_BOND_PEER_NOTIF_DELAY => parse_u32(payload).map(Self::PeerNotifDelay),
-            IFLA_BOND_AD_LACP_ACTIVE => parse_bool(payload).map(Self::AdLacpActive),
-            IFLA_BOND_MISSED_MAX => parse_u8(payload).map(Self::MissedMax),
-            IFLA_BOND_NS_IP6_TARGET => read_addresses(alloc, kind, payload).map(Self::NsIp6Target),
-            IFLA_BOND_COUPLED_CONTROL => parse_bool(payload).map(Self::CoupledControl),
-            IFLA_BOND_BROADCAST_NEIGH => parse_bool(payload).map(Self::BroadcastNeigh),
-            IFLA_BOND_LACP_STRICT => parse_bool(payload).map(Self::LacpStrict),
-            _ => DefaultNla::parse(alloc, buffer).map(Self::Other),
+            IFLA_BOND_MODE => keep(place, parse_u8(payload).map(|n| Self::Mode(n.into()))),
+            IFLA_BOND_ACTIVE_SLAVE => keep(place, parse_u32(payload).map(Self::ActivePort)),
+            IFLA_BOND_MIIMON => keep(place, parse_u32(payload).map(Self::MiiMon)),
+            IFLA_BOND_UPDELAY => keep(place, parse_u32(payload).map(Self::UpDelay)),
+            IFLA_BOND_DOWNDELAY => keep(place, parse_u32(payload).map(Self::DownDelay)),
+            IFLA_BOND_USE_CARRIER => keep(place, parse_bool(payload).map(Self::UseCarrier)),
+            IFLA_BOND_ARP_INTERVAL => keep(place, parse_u32(payload).map(Self::ArpInterval)),
+            IFLA_BOND_ARP_IP_TARGET => keep(
+                place,
+                read_addresses(alloc, kind, payload).map(Self::ArpIpTarget),
+            ),
+            IFLA_BOND_ARP_VALIDATE => keep(
+                place,
+                parse_u32(payload).map(|n| Self::ArpValidate(n.into())),
+            ),
+            IFLA_BOND_ARP_ALL_TARGETS => keep(
+                place,
+                parse_u32(payload).map(|n| Self::ArpAllTargets(n.into())),
+            ),
+            IFLA_BOND_PRIMARY => keep(place, parse_u32(payload).map(Self::Primary)),
+            IFLA_BOND_PRIMARY_RESELECT => keep(
+                place,
+                parse_u8(payload).map(|n| Self::PrimaryReselect(n.into())),
+            ),
+            IFLA_BOND_FAIL_OVER_MAC => keep(
+                place,
+                parse_u8(payload).map(|n| Self::FailOverMac(n.into())),
+            ),
+            IFLA_BOND_XMIT_HASH_POLICY => keep(
+                place,
+                parse_u8(payload).map(|n| Self::XmitHashPolicy(n.into())),
+            ),
+            IFLA_BOND_RESEND_IGMP => keep(place, parse_u32(payload).map(Self::ResendIgmp)),
+            IFLA_BOND_NUM_PEER_NOTIF => keep(place, parse_u8(payload).map(Self::NumPeerNotif)),
+            IFLA_BOND_ALL_SLAVES_ACTIVE => keep(
+                place,
+                parse_u8(payload).map(|n| Self::AllPortsActive(n.into())),
+            ),
+            IFLA_BOND_MIN_LINKS => keep(place, parse_u32(payload).map(Self::MinLinks)),
+            IFLA_BOND_LP_INTERVAL => keep(place, parse_u32(payload).map(Self::LpInterval)),
+            IFLA_BOND_PACKETS_PER_SLAVE => keep(
+                place,
+                parse_u32(payload).map(Self::PacketsPerPort),
+            ),
+            IFLA_BOND_AD_LACP_RATE => keep(
+                place,
+                parse_u8(payload).map(|n| Self::AdLacpRate(n.into())),
+            ),
+            IFLA_BOND_AD_SELECT => keep(place, parse_u8(payload).map(|n| Self::AdSelect(n.into()))),
+            IFLA_BOND_AD_INFO => keep(place, read_nested(alloc, kind, payload).map(Self::AdInfo)),
+            IFLA_BOND_AD_ACTOR_SYS_PRIO => keep(
+                place,
+                parse_u16(payload).map(Self::AdActorSysPrio),
+            ),
+            IFLA_BOND_AD_USER_PORT_KEY => keep(place, parse_u16(payload).map(Self::AdUserPortKey)),
+            IFLA_BOND_AD_ACTOR_SYSTEM => keep(place, parse_mac(payload).map(Self::AdActorSystem)),
+            IFLA_BOND_TLB_DYNAMIC_LB => keep(place, parse_bool(payload).map(Self::TlbDynamicLb)),
+            IFLA_BOND_PEER_NOTIF_DELAY => keep(place, parse_u32(payload).map(Self::PeerNotifDelay)),
+            IFLA_BOND_AD_LACP_ACTIVE => keep(place, parse_bool(payload).map(Self::AdLacpActive)),
+            IFLA_BOND_MISSED_MAX => keep(place, parse_u8(payload).map(Self::MissedMax)),
+            IFLA_BOND_NS_IP6_TARGET => keep(
+                place,
+                read_addresses(alloc, kind, payload).map(Self::NsIp6Target),
+            ),
+            IFLA_BOND_COUPLED_CONTROL => keep(place, parse_bool(payload).map(Self::CoupledControl)),
+            IFLA_BOND_BROADCAST_NEIGH => keep(place, parse_bool(payload).map(Self::BroadcastNeigh)),
+            IFLA_BOND_LACP_STRICT => keep(place, parse_bool(payload).map(Self::LacpStrict)),
+            _ => keep(place, DefaultNla::parse(alloc, buffer).map(Self::Other)),
         }
     }
 }

@@ -11,9 +11,9 @@ use bitflags::Flags;
 pub use churn_state::ChurnState;
 pub use lacp_state::LacpState;
 use link_base::{
-    Attribute, DecodeError, DefaultNla, Meaning, Nla, NlaBuffer, Parseable, TryClone, emit_i32,
-    emit_low, emit_u8, emit_u16, emit_u32, has_size, is_bytes, is_low, parse_i32, parse_low,
-    parse_u8, parse_u16, parse_u32,
+    Attribute, DecodeError, DefaultNla, Meaning, Nla, NlaBuffer, Parseable, Place, TryClone,
+    emit_i32, emit_low, emit_u8, emit_u16, emit_u32, has_size, is_bytes, is_low, keep, parse_i32,
+    parse_low, parse_u8, parse_u16, parse_u32,
 };
 pub use mii_status::MiiStatus;
 pub use port_state::BondPortState;
@@ -167,33 +167,63 @@ impl Nla for InfoBondPort {
 }
 
 impl Parseable for InfoBondPort {
-    fn parse_payload(alloc: Global, buffer: &NlaBuffer<'_>) -> Result<Self, DecodeError> {
+    fn parse_payload<P: Place<Self>>(
+        alloc: Global,
+        buffer: &NlaBuffer<'_>,
+        place: &mut P,
+    ) -> Result<(), DecodeError> {
         let payload = buffer.value();
         match buffer.kind() {
-            IFLA_BOND_SLAVE_STATE => parse_u8(payload).map(|n| Self::BondPortState(n.into())),
-            IFLA_BOND_SLAVE_MII_STATUS => parse_u8(payload).map(|n| Self::MiiStatus(n.into())),
-            IFLA_BOND_SLAVE_LINK_FAILURE_COUNT => parse_u32(payload).map(Self::LinkFailureCount),
-            IFLA_BOND_SLAVE_PERM_HWADDR => match Vec::from_slice(alloc, payload) {
-                Ok(address) => Ok(Self::PermHwaddr(address)),
-                Err(error) => Err(DecodeError::Memory(error)),
-            },
-            IFLA_BOND_SLAVE_QUEUE_ID => parse_u16(payload).map(Self::QueueId),
-            IFLA_BOND_SLAVE_AD_AGGREGATOR_ID => parse_u16(payload).map(Self::AdAggregatorId),
-            IFLA_BOND_SLAVE_AD_ACTOR_OPER_PORT_STATE => parse_u8(payload).map(
-                |bits| Self::AdActorOperPortState(LacpState::from_bits_retain(bits)),
+            IFLA_BOND_SLAVE_STATE => keep(
+                place,
+                parse_u8(payload).map(|n| Self::BondPortState(n.into())),
             ),
-            IFLA_BOND_SLAVE_AD_PARTNER_OPER_PORT_STATE => parse_low(payload).map(
-                |bits| Self::AdPartnerOperPortState(LacpState::from_bits_retain(bits)),
+            IFLA_BOND_SLAVE_MII_STATUS => keep(
+                place,
+                parse_u8(payload).map(|n| Self::MiiStatus(n.into())),
             ),
-            IFLA_BOND_SLAVE_PRIO => parse_i32(payload).map(Self::Prio),
-            IFLA_BOND_SLAVE_ACTOR_PORT_PRIO => parse_u16(payload).map(Self::ActorPortPrio),
-            IFLA_BOND_SLAVE_AD_CHURN_ACTOR_STATE => {
-                parse_u8(payload).map(|n| Self::AdChurnActorState(n.into()))
-            }
-            IFLA_BOND_SLAVE_AD_CHURN_PARTNER_STATE => {
-                parse_u8(payload).map(|n| Self::AdChurnPartnerState(n.into()))
-            }
-            _ => DefaultNla::parse(alloc, buffer).map(Self::Other),
+            IFLA_BOND_SLAVE_LINK_FAILURE_COUNT => keep(
+                place,
+                parse_u32(payload).map(Self::LinkFailureCount),
+            ),
+            IFLA_BOND_SLAVE_PERM_HWADDR => keep(
+                place,
+                match Vec::from_slice(alloc, payload) {
+                    Ok(address) => Ok(Self::PermHwaddr(address)),
+                    Err(error) => Err(DecodeError::Memory(error)),
+                },
+            ),
+            IFLA_BOND_SLAVE_QUEUE_ID => keep(place, parse_u16(payload).map(Self::QueueId)),
+            IFLA_BOND_SLAVE_AD_AGGREGATOR_ID => keep(
+                place,
+                parse_u16(payload).map(Self::AdAggregatorId),
+            ),
+            IFLA_BOND_SLAVE_AD_ACTOR_OPER_PORT_STATE => keep(
+                place,
+                parse_u8(payload).map(|bits| Self::AdActorOperPortState(LacpState::from_bits_retain(
+                    bits,
+                ))),
+            ),
+            IFLA_BOND_SLAVE_AD_PARTNER_OPER_PORT_STATE => keep(
+                place,
+                parse_low(payload).map(|bits| Self::AdPartnerOperPortState(
+                    LacpState::from_bits_retain(bits),
+                )),
+            ),
+            IFLA_BOND_SLAVE_PRIO => keep(place, parse_i32(payload).map(Self::Prio)),
+            IFLA_BOND_SLAVE_ACTOR_PORT_PRIO => keep(
+                place,
+                parse_u16(payload).map(Self::ActorPortPrio),
+            ),
+            IFLA_BOND_SLAVE_AD_CHURN_ACTOR_STATE => keep(
+                place,
+                parse_u8(payload).map(|n| Self::AdChurnActorState(n.into())),
+            ),
+            IFLA_BOND_SLAVE_AD_CHURN_PARTNER_STATE => keep(
+                place,
+                parse_u8(payload).map(|n| Self::AdChurnPartnerState(n.into())),
+            ),
+            _ => keep(place, DefaultNla::parse(alloc, buffer).map(Self::Other)),
         }
     }
 }

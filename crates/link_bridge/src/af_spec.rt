@@ -14,9 +14,9 @@ mod vlan_info_flags;
 
 pub use flag::BridgeFlag;
 use link_base::{
-    Attribute, DecodeError, DefaultNla, ListError, Meaning, Nla, NlaBuffer, Parseable, TryClone,
-    emit_nested, emit_u16, has_size, is_nested, nested_len, parse_u16, read_list, read_nested,
-    try_clone_list,
+    Attribute, DecodeError, DefaultNla, ListError, Meaning, Nla, NlaBuffer, Parseable, Place,
+    TryClone, emit_nested, emit_u16, has_size, is_nested, keep, nested_len, parse_u16, read_list,
+    read_nested, try_clone_list,
 };
 pub use mode::BridgeMode;
 use std::alloc::{AllocError, Global};
@@ -118,17 +118,25 @@ impl Nla for AfSpecBridge {
 }
 
 impl Parseable for AfSpecBridge {
-    fn parse_payload(alloc: Global, buffer: &NlaBuffer<'_>) -> Result<Self, DecodeError> {
+    fn parse_payload<P: Place<Self>>(
+        alloc: Global,
+        buffer: &NlaBuffer<'_>,
+        place: &mut P,
+    ) -> Result<(), DecodeError> {
         let kind = buffer.kind();
         let payload = buffer.value();
         match kind {
-            IFLA_BRIDGE_FLAGS => parse_u16(payload).map(|n| Self::Flags(n.into())),
-            IFLA_BRIDGE_MODE => parse_u16(payload).map(|n| Self::Mode(n.into())),
-            IFLA_BRIDGE_VLAN_INFO => BridgeVlanInfo::try_from(payload).map(Self::VlanInfo),
-            IFLA_BRIDGE_VLAN_TUNNEL_INFO => read_nested(alloc, kind, payload).map(
-                Self::VlanTunnelInfo,
+            IFLA_BRIDGE_FLAGS => keep(place, parse_u16(payload).map(|n| Self::Flags(n.into()))),
+            IFLA_BRIDGE_MODE => keep(place, parse_u16(payload).map(|n| Self::Mode(n.into()))),
+            IFLA_BRIDGE_VLAN_INFO => keep(
+                place,
+                BridgeVlanInfo::try_from(payload).map(Self::VlanInfo),
             ),
-            _ => DefaultNla::parse(alloc, buffer).map(Self::Other),
+            IFLA_BRIDGE_VLAN_TUNNEL_INFO => keep(
+                place,
+                read_nested(alloc, kind, payload).map(Self::VlanTunnelInfo),
+            ),
+            _ => keep(place, DefaultNla::parse(alloc, buffer).map(Self::Other)),
         }
     }
 }

@@ -10,8 +10,8 @@ use crate::bridge_boolopt::BridgeBooleanOptions;
 pub use id::{BridgeId, BridgeIdBuffer};
 use link_base::{
     Attribute, DecodeError, DefaultNla, Emitable, Meaning, NLA_F_NESTED, Nla, NlaBuffer, Parseable,
-    TryClone, VlanProtocol, emit_mac, emit_nested, emit_u8, emit_u16, emit_u16_be, emit_u32,
-    emit_u64, has_size, is_nested, is_protocol, is_truth, is_void, nested_len, parse_bool,
+    Place, TryClone, VlanProtocol, emit_mac, emit_nested, emit_u8, emit_u16, emit_u16_be, emit_u32,
+    emit_u64, has_size, is_nested, is_protocol, is_truth, is_void, keep, nested_len, parse_bool,
     parse_mac, parse_u8, parse_u16, parse_u16_be, parse_u32, parse_u64, read_nested,
     try_clone_list,
 };
@@ -516,74 +516,133 @@ impl Nla for InfoBridge {
 
 impl Parseable for InfoBridge {
     #[tactic(auto, using(link_base::proofs::KindFaults::under_nested))]
-    fn parse_payload(alloc: Global, buffer: &NlaBuffer<'_>) -> Result<Self, DecodeError> {
+    fn parse_payload<P: Place<Self>>(
+        alloc: Global,
+        buffer: &NlaBuffer<'_>,
+        place: &mut P,
+    ) -> Result<(), DecodeError> {
         let kind = buffer.kind();
         let payload = buffer.value();
         match kind {
-            IFLA_BR_FORWARD_DELAY => parse_u32(payload).map(Self::ForwardDelay),
-            IFLA_BR_HELLO_TIME => parse_u32(payload).map(Self::HelloTime),
-            IFLA_BR_MAX_AGE => parse_u32(payload).map(Self::MaxAge),
-            IFLA_BR_AGEING_TIME => parse_u32(payload).map(Self::AgeingTime),
-            IFLA_BR_STP_STATE => parse_u32(payload).map(|n| Self::StpState(n.into())),
-            IFLA_BR_PRIORITY => parse_u16(payload).map(Self::Priority),
-            IFLA_BR_VLAN_FILTERING => parse_bool(payload).map(Self::VlanFiltering),
-            IFLA_BR_VLAN_PROTOCOL => parse_u16_be(payload).map(|n| Self::VlanProtocol(n.into())),
-            IFLA_BR_GROUP_FWD_MASK => parse_u16(payload).map(Self::GroupFwdMask),
-            IFLA_BR_ROOT_ID => BridgeId::parse(payload).map(Self::RootId),
-            IFLA_BR_BRIDGE_ID => BridgeId::parse(payload).map(Self::BridgeId),
-            IFLA_BR_ROOT_PORT => parse_u16(payload).map(Self::RootPort),
-            IFLA_BR_ROOT_PATH_COST => parse_u32(payload).map(Self::RootPathCost),
-            IFLA_BR_TOPOLOGY_CHANGE => parse_u8(payload).map(Self::TopologyChange),
-            IFLA_BR_TOPOLOGY_CHANGE_DETECTED => parse_u8(payload).map(Self::TopologyChangeDetected),
-            IFLA_BR_HELLO_TIMER => parse_u64(payload).map(Self::HelloTimer),
-            IFLA_BR_TCN_TIMER => parse_u64(payload).map(Self::TcnTimer),
-            IFLA_BR_TOPOLOGY_CHANGE_TIMER => parse_u64(payload).map(Self::TopologyChangeTimer),
-            IFLA_BR_GC_TIMER => parse_u64(payload).map(Self::GcTimer),
-            IFLA_BR_GROUP_ADDR => parse_mac(payload).map(Self::GroupAddr),
-            IFLA_BR_FDB_FLUSH => Ok(Self::FdbFlush),
-            IFLA_BR_MCAST_ROUTER => parse_u8(payload).map(|n| Self::MulticastRouter(n.into())),
-            IFLA_BR_MCAST_SNOOPING => parse_bool(payload).map(Self::MulticastSnooping),
-            IFLA_BR_MCAST_QUERY_USE_IFADDR => parse_bool(payload).map(
-                Self::MulticastQueryUseIfaddr,
+            IFLA_BR_FORWARD_DELAY => keep(place, parse_u32(payload).map(Self::ForwardDelay)),
+            IFLA_BR_HELLO_TIME => keep(place, parse_u32(payload).map(Self::HelloTime)),
+            IFLA_BR_MAX_AGE => keep(place, parse_u32(payload).map(Self::MaxAge)),
+            IFLA_BR_AGEING_TIME => keep(place, parse_u32(payload).map(Self::AgeingTime)),
+            IFLA_BR_STP_STATE => keep(place, parse_u32(payload).map(|n| Self::StpState(n.into()))),
+            IFLA_BR_PRIORITY => keep(place, parse_u16(payload).map(Self::Priority)),
+            IFLA_BR_VLAN_FILTERING => keep(place, parse_bool(payload).map(Self::VlanFiltering)),
+            IFLA_BR_VLAN_PROTOCOL => keep(
+                place,
+                parse_u16_be(payload).map(|n| Self::VlanProtocol(n.into())),
             ),
-            IFLA_BR_MCAST_QUERIER => parse_bool(payload).map(Self::MulticastQuerier),
-            IFLA_BR_MCAST_HASH_ELASTICITY => parse_u32(payload).map(Self::MulticastHashElasticity),
-            IFLA_BR_MCAST_HASH_MAX => parse_u32(payload).map(Self::MulticastHashMax),
-            IFLA_BR_MCAST_LAST_MEMBER_CNT => parse_u32(payload).map(Self::MulticastLastMemberCount),
-            IFLA_BR_MCAST_STARTUP_QUERY_CNT => parse_u32(payload).map(
-                Self::MulticastStartupQueryCount,
+            IFLA_BR_GROUP_FWD_MASK => keep(place, parse_u16(payload).map(Self::GroupFwdMask)),
+            IFLA_BR_ROOT_ID => keep(place, BridgeId::parse(payload).map(Self::RootId)),
+            IFLA_BR_BRIDGE_ID => keep(place, BridgeId::parse(payload).map(Self::BridgeId)),
+            IFLA_BR_ROOT_PORT => keep(place, parse_u16(payload).map(Self::RootPort)),
+            IFLA_BR_ROOT_PATH_COST => keep(place, parse_u32(payload).map(Self::RootPathCost)),
+            IFLA_BR_TOPOLOGY_CHANGE => keep(place, parse_u8(payload).map(Self::TopologyChange)),
+            IFLA_BR_TOPOLOGY_CHANGE_DETECTED => keep(
+                place,
+                parse_u8(payload).map(Self::TopologyChangeDetected),
             ),
-            IFLA_BR_MCAST_LAST_MEMBER_INTVL => parse_u64(payload).map(
-                Self::MulticastLastMemberInterval,
+            IFLA_BR_HELLO_TIMER => keep(place, parse_u64(payload).map(Self::HelloTimer)),
+            IFLA_BR_TCN_TIMER => keep(place, parse_u64(payload).map(Self::TcnTimer)),
+            IFLA_BR_TOPOLOGY_CHANGE_TIMER => keep(
+                place,
+                parse_u64(payload).map(Self::TopologyChangeTimer),
             ),
-            IFLA_BR_MCAST_MEMBERSHIP_INTVL => parse_u64(payload).map(
-                Self::MulticastMembershipInterval,
+            IFLA_BR_GC_TIMER => keep(place, parse_u64(payload).map(Self::GcTimer)),
+            IFLA_BR_GROUP_ADDR => keep(place, parse_mac(payload).map(Self::GroupAddr)),
+            IFLA_BR_FDB_FLUSH => keep(place, Ok(Self::FdbFlush)),
+            IFLA_BR_MCAST_ROUTER => keep(
+                place,
+                parse_u8(payload).map(|n| Self::MulticastRouter(n.into())),
             ),
-            IFLA_BR_MCAST_QUERIER_INTVL => parse_u64(payload).map(Self::MulticastQuerierInterval),
-            IFLA_BR_MCAST_QUERY_INTVL => parse_u64(payload).map(Self::MulticastQueryInterval),
-            IFLA_BR_MCAST_QUERY_RESPONSE_INTVL => parse_u64(payload).map(
-                Self::MulticastQueryResponseInterval,
+            IFLA_BR_MCAST_SNOOPING => keep(place, parse_bool(payload).map(Self::MulticastSnooping)),
+            IFLA_BR_MCAST_QUERY_USE_IFADDR => keep(
+                place,
+                parse_bool(payload).map(Self::MulticastQueryUseIfaddr),
             ),
-            IFLA_BR_MCAST_STARTUP_QUERY_INTVL => parse_u64(payload).map(
-                Self::MulticastStartupQueryInterval,
+            IFLA_BR_MCAST_QUERIER => keep(place, parse_bool(payload).map(Self::MulticastQuerier)),
+            IFLA_BR_MCAST_HASH_ELASTICITY => keep(
+                place,
+                parse_u32(payload).map(Self::MulticastHashElasticity),
             ),
-            IFLA_BR_NF_CALL_IPTABLES => parse_bool(payload).map(Self::NfCallIpTables),
-            IFLA_BR_NF_CALL_IP6TABLES => parse_bool(payload).map(Self::NfCallIp6Tables),
-            IFLA_BR_NF_CALL_ARPTABLES => parse_bool(payload).map(Self::NfCallArpTables),
-            IFLA_BR_VLAN_DEFAULT_PVID => parse_u16(payload).map(Self::VlanDefaultPvid),
-            IFLA_BR_VLAN_STATS_ENABLED => parse_bool(payload).map(Self::VlanStatsEnabled),
-            IFLA_BR_MCAST_STATS_ENABLED => parse_bool(payload).map(Self::MulticastStatsEnabled),
-            IFLA_BR_MCAST_IGMP_VERSION => parse_u8(payload).map(Self::MulticastIgmpVersion),
-            IFLA_BR_MCAST_MLD_VERSION => parse_u8(payload).map(Self::MulticastMldVersion),
-            IFLA_BR_VLAN_STATS_PER_PORT => parse_bool(payload).map(Self::VlanStatsPerPort),
-            IFLA_BR_MULTI_BOOLOPT => BridgeBooleanOptions::parse(payload).map(Self::MultiBoolOpt),
-            IFLA_BR_MCAST_QUERIER_STATE => read_nested(alloc, kind, payload).map(
-                Self::MulticastQuerierState,
+            IFLA_BR_MCAST_HASH_MAX => keep(place, parse_u32(payload).map(Self::MulticastHashMax)),
+            IFLA_BR_MCAST_LAST_MEMBER_CNT => keep(
+                place,
+                parse_u32(payload).map(Self::MulticastLastMemberCount),
             ),
-            IFLA_BR_FDB_N_LEARNED => parse_u32(payload).map(Self::FdbNLearned),
-            IFLA_BR_FDB_MAX_LEARNED => parse_u32(payload).map(Self::FdbMaxLearned),
-            IFLA_BR_STP_MODE => parse_u32(payload).map(|n| Self::StpMode(n.into())),
-            _ => DefaultNla::parse(alloc, buffer).map(Self::Other),
+            IFLA_BR_MCAST_STARTUP_QUERY_CNT => keep(
+                place,
+                parse_u32(payload).map(Self::MulticastStartupQueryCount),
+            ),
+            IFLA_BR_MCAST_LAST_MEMBER_INTVL => keep(
+                place,
+                parse_u64(payload).map(Self::MulticastLastMemberInterval),
+            ),
+            IFLA_BR_MCAST_MEMBERSHIP_INTVL => keep(
+                place,
+                parse_u64(payload).map(Self::MulticastMembershipInterval),
+            ),
+            IFLA_BR_MCAST_QUERIER_INTVL => keep(
+                place,
+                parse_u64(payload).map(Self::MulticastQuerierInterval),
+            ),
+            IFLA_BR_MCAST_QUERY_INTVL => keep(
+                place,
+                parse_u64(payload).map(Self::MulticastQueryInterval),
+            ),
+            IFLA_BR_MCAST_QUERY_RESPONSE_INTVL => keep(
+                place,
+                parse_u64(payload).map(Self::MulticastQueryResponseInterval),
+            ),
+            IFLA_BR_MCAST_STARTUP_QUERY_INTVL => keep(
+                place,
+                parse_u64(payload).map(Self::MulticastStartupQueryInterval),
+            ),
+            IFLA_BR_NF_CALL_IPTABLES => keep(place, parse_bool(payload).map(Self::NfCallIpTables)),
+            IFLA_BR_NF_CALL_IP6TABLES => keep(
+                place,
+                parse_bool(payload).map(Self::NfCallIp6Tables),
+            ),
+            IFLA_BR_NF_CALL_ARPTABLES => keep(
+                place,
+                parse_bool(payload).map(Self::NfCallArpTables),
+            ),
+            IFLA_BR_VLAN_DEFAULT_PVID => keep(place, parse_u16(payload).map(Self::VlanDefaultPvid)),
+            IFLA_BR_VLAN_STATS_ENABLED => keep(
+                place,
+                parse_bool(payload).map(Self::VlanStatsEnabled),
+            ),
+            IFLA_BR_MCAST_STATS_ENABLED => keep(
+                place,
+                parse_bool(payload).map(Self::MulticastStatsEnabled),
+            ),
+            IFLA_BR_MCAST_IGMP_VERSION => keep(
+                place,
+                parse_u8(payload).map(Self::MulticastIgmpVersion),
+            ),
+            IFLA_BR_MCAST_MLD_VERSION => keep(
+                place,
+                parse_u8(payload).map(Self::MulticastMldVersion),
+            ),
+            IFLA_BR_VLAN_STATS_PER_PORT => keep(
+                place,
+                parse_bool(payload).map(Self::VlanStatsPerPort),
+            ),
+            IFLA_BR_MULTI_BOOLOPT => keep(
+                place,
+                BridgeBooleanOptions::parse(payload).map(Self::MultiBoolOpt),
+            ),
+            IFLA_BR_MCAST_QUERIER_STATE => keep(
+                place,
+                read_nested(alloc, kind, payload).map(Self::MulticastQuerierState),
+            ),
+            IFLA_BR_FDB_N_LEARNED => keep(place, parse_u32(payload).map(Self::FdbNLearned)),
+            IFLA_BR_FDB_MAX_LEARNED => keep(place, parse_u32(payload).map(Self::FdbMaxLearned)),
+            IFLA_BR_STP_MODE => keep(place, parse_u32(payload).map(|n| Self::StpMode(n.into()))),
+            _ => keep(place, DefaultNla::parse(alloc, buffer).map(Self::Other)),
         }
     }
 }

@@ -4,9 +4,9 @@ mod state;
 
 use crate::bridge::{BridgeId, BridgeMulticastRouterType};
 use link_base::{
-    Attribute, DecodeError, DefaultNla, Emitable, Meaning, Nla, NlaBuffer, Parseable, TryClone,
-    emit_u8, emit_u16, emit_u32, emit_u64, has_size, is_truth, is_void, parse_bool, parse_u8,
-    parse_u16, parse_u32, parse_u64,
+    Attribute, DecodeError, DefaultNla, Emitable, Meaning, Nla, NlaBuffer, Parseable, Place,
+    TryClone, emit_u8, emit_u16, emit_u32, emit_u64, has_size, is_truth, is_void, keep, parse_bool,
+    parse_u8, parse_u16, parse_u32, parse_u64,
 };
 pub use state::BridgePortState;
 use std::alloc::{AllocError, Global};
@@ -453,58 +453,97 @@ impl Nla for InfoBridgePort {
 }
 
 impl Parseable for InfoBridgePort {
-    fn parse_payload(alloc: Global, buffer: &NlaBuffer<'_>) -> Result<Self, DecodeError> {
+    fn parse_payload<P: Place<Self>>(
+        alloc: Global,
+        buffer: &NlaBuffer<'_>,
+        place: &mut P,
+    ) -> Result<(), DecodeError> {
         let payload = buffer.value();
         match buffer.kind() {
-            IFLA_BRPORT_STATE => parse_u8(payload).map(|n| Self::State(n.into())),
-            IFLA_BRPORT_PRIORITY => parse_u16(payload).map(Self::Priority),
-            IFLA_BRPORT_COST => parse_u32(payload).map(Self::Cost),
-            IFLA_BRPORT_MODE => parse_bool(payload).map(Self::HairpinMode),
-            IFLA_BRPORT_GUARD => parse_bool(payload).map(Self::Guard),
-            IFLA_BRPORT_PROTECT => parse_bool(payload).map(Self::Protect),
-            IFLA_BRPORT_FAST_LEAVE => parse_bool(payload).map(Self::FastLeave),
-            IFLA_BRPORT_LEARNING => parse_bool(payload).map(Self::Learning),
-            IFLA_BRPORT_UNICAST_FLOOD => parse_bool(payload).map(Self::UnicastFlood),
-            IFLA_BRPORT_PROXYARP => parse_bool(payload).map(Self::ProxyARP),
-            IFLA_BRPORT_LEARNING_SYNC => parse_bool(payload).map(Self::LearningSync),
-            IFLA_BRPORT_PROXYARP_WIFI => parse_bool(payload).map(Self::ProxyARPWifi),
-            IFLA_BRPORT_ROOT_ID => BridgeId::parse(payload).map(Self::RootId),
-            IFLA_BRPORT_BRIDGE_ID => BridgeId::parse(payload).map(Self::BridgeId),
-            IFLA_BRPORT_DESIGNATED_PORT => parse_u16(payload).map(Self::DesignatedPort),
-            IFLA_BRPORT_DESIGNATED_COST => parse_u16(payload).map(Self::DesignatedCost),
-            IFLA_BRPORT_ID => parse_u16(payload).map(Self::PortId),
-            IFLA_BRPORT_NO => parse_u16(payload).map(Self::PortNumber),
-            IFLA_BRPORT_TOPOLOGY_CHANGE_ACK => parse_bool(payload).map(Self::TopologyChangeAck),
-            IFLA_BRPORT_CONFIG_PENDING => parse_bool(payload).map(Self::ConfigPending),
-            IFLA_BRPORT_MESSAGE_AGE_TIMER => parse_u64(payload).map(Self::MessageAgeTimer),
-            IFLA_BRPORT_FORWARD_DELAY_TIMER => parse_u64(payload).map(Self::ForwardDelayTimer),
-            IFLA_BRPORT_HOLD_TIMER => parse_u64(payload).map(Self::HoldTimer),
-            IFLA_BRPORT_FLUSH => Ok(Self::Flush),
-            IFLA_BRPORT_MULTICAST_ROUTER => parse_u8(payload).map(|n| Self::MulticastRouter(
-                n.into(),
-            )),
-            IFLA_BRPORT_MCAST_FLOOD => parse_bool(payload).map(Self::MulticastFlood),
-            IFLA_BRPORT_MCAST_TO_UCAST => parse_bool(payload).map(Self::MulticastToUnicast),
-            IFLA_BRPORT_VLAN_TUNNEL => parse_bool(payload).map(Self::VlanTunnel),
-            IFLA_BRPORT_BCAST_FLOOD => parse_bool(payload).map(Self::BroadcastFlood),
-            IFLA_BRPORT_GROUP_FWD_MASK => parse_u16(payload).map(Self::GroupFwdMask),
-            IFLA_BRPORT_NEIGH_SUPPRESS => parse_bool(payload).map(Self::NeighSupress),
-            IFLA_BRPORT_ISOLATED => parse_bool(payload).map(Self::Isolated),
-            IFLA_BRPORT_BACKUP_PORT => parse_u32(payload).map(Self::BackupPort),
-            IFLA_BRPORT_MRP_RING_OPEN => parse_bool(payload).map(Self::MrpRingOpen),
-            IFLA_BRPORT_MRP_IN_OPEN => parse_bool(payload).map(Self::MrpInOpen),
-            IFLA_BRPORT_MCAST_EHT_HOSTS_LIMIT => parse_u32(payload).map(
-                Self::MulticastEhtHostsLimit,
+            IFLA_BRPORT_STATE => keep(place, parse_u8(payload).map(|n| Self::State(n.into()))),
+            IFLA_BRPORT_PRIORITY => keep(place, parse_u16(payload).map(Self::Priority)),
+            IFLA_BRPORT_COST => keep(place, parse_u32(payload).map(Self::Cost)),
+            IFLA_BRPORT_MODE => keep(place, parse_bool(payload).map(Self::HairpinMode)),
+            IFLA_BRPORT_GUARD => keep(place, parse_bool(payload).map(Self::Guard)),
+            IFLA_BRPORT_PROTECT => keep(place, parse_bool(payload).map(Self::Protect)),
+            IFLA_BRPORT_FAST_LEAVE => keep(place, parse_bool(payload).map(Self::FastLeave)),
+            IFLA_BRPORT_LEARNING => keep(place, parse_bool(payload).map(Self::Learning)),
+            IFLA_BRPORT_UNICAST_FLOOD => keep(place, parse_bool(payload).map(Self::UnicastFlood)),
+            IFLA_BRPORT_PROXYARP => keep(place, parse_bool(payload).map(Self::ProxyARP)),
+            IFLA_BRPORT_LEARNING_SYNC => keep(place, parse_bool(payload).map(Self::LearningSync)),
+            IFLA_BRPORT_PROXYARP_WIFI => keep(place, parse_bool(payload).map(Self::ProxyARPWifi)),
+            IFLA_BRPORT_ROOT_ID => keep(place, BridgeId::parse(payload).map(Self::RootId)),
+            IFLA_BRPORT_BRIDGE_ID => keep(place, BridgeId::parse(payload).map(Self::BridgeId)),
+            IFLA_BRPORT_DESIGNATED_PORT => keep(
+                place,
+                parse_u16(payload).map(Self::DesignatedPort),
             ),
-            IFLA_BRPORT_MCAST_EHT_HOSTS_CNT => parse_u32(payload).map(Self::MulticastEhtHostsCnt),
-            IFLA_BRPORT_LOCKED => parse_bool(payload).map(Self::Locked),
-            IFLA_BRPORT_MAB => parse_bool(payload).map(Self::Mab),
-            IFLA_BRPORT_MCAST_N_GROUPS => parse_u32(payload).map(Self::MulticastNGroups),
-            IFLA_BRPORT_MCAST_MAX_GROUPS => parse_u32(payload).map(Self::MulticastMaxGroups),
-            IFLA_BRPORT_NEIGH_VLAN_SUPPRESS => parse_bool(payload).map(Self::NeighVlanSuppress),
-            IFLA_BRPORT_BACKUP_NHID => parse_u32(payload).map(Self::BackupNextHopId),
-            IFLA_BRPORT_NEIGH_FORWARD_GRAT => parse_bool(payload).map(Self::NeighForwardGrat),
-            _ => DefaultNla::parse(alloc, buffer).map(Self::Other),
+            IFLA_BRPORT_DESIGNATED_COST => keep(
+                place,
+                parse_u16(payload).map(Self::DesignatedCost),
+            ),
+            IFLA_BRPORT_ID => keep(place, parse_u16(payload).map(Self::PortId)),
+            IFLA_BRPORT_NO => keep(place, parse_u16(payload).map(Self::PortNumber)),
+            IFLA_BRPORT_TOPOLOGY_CHANGE_ACK => keep(
+                place,
+                parse_bool(payload).map(Self::TopologyChangeAck),
+            ),
+            IFLA_BRPORT_CONFIG_PENDING => keep(place, parse_bool(payload).map(Self::ConfigPending)),
+            IFLA_BRPORT_MESSAGE_AGE_TIMER => keep(
+                place,
+                parse_u64(payload).map(Self::MessageAgeTimer),
+            ),
+            IFLA_BRPORT_FORWARD_DELAY_TIMER => keep(
+                place,
+                parse_u64(payload).map(Self::ForwardDelayTimer),
+            ),
+            IFLA_BRPORT_HOLD_TIMER => keep(place, parse_u64(payload).map(Self::HoldTimer)),
+            IFLA_BRPORT_FLUSH => keep(place, Ok(Self::Flush)),
+            IFLA_BRPORT_MULTICAST_ROUTER => keep(
+                place,
+                parse_u8(payload).map(|n| Self::MulticastRouter(n.into())),
+            ),
+            IFLA_BRPORT_MCAST_FLOOD => keep(place, parse_bool(payload).map(Self::MulticastFlood)),
+            IFLA_BRPORT_MCAST_TO_UCAST => keep(
+                place,
+                parse_bool(payload).map(Self::MulticastToUnicast),
+            ),
+            IFLA_BRPORT_VLAN_TUNNEL => keep(place, parse_bool(payload).map(Self::VlanTunnel)),
+            IFLA_BRPORT_BCAST_FLOOD => keep(place, parse_bool(payload).map(Self::BroadcastFlood)),
+            IFLA_BRPORT_GROUP_FWD_MASK => keep(place, parse_u16(payload).map(Self::GroupFwdMask)),
+            IFLA_BRPORT_NEIGH_SUPPRESS => keep(place, parse_bool(payload).map(Self::NeighSupress)),
+            IFLA_BRPORT_ISOLATED => keep(place, parse_bool(payload).map(Self::Isolated)),
+            IFLA_BRPORT_BACKUP_PORT => keep(place, parse_u32(payload).map(Self::BackupPort)),
+            IFLA_BRPORT_MRP_RING_OPEN => keep(place, parse_bool(payload).map(Self::MrpRingOpen)),
+            IFLA_BRPORT_MRP_IN_OPEN => keep(place, parse_bool(payload).map(Self::MrpInOpen)),
+            IFLA_BRPORT_MCAST_EHT_HOSTS_LIMIT => keep(
+                place,
+                parse_u32(payload).map(Self::MulticastEhtHostsLimit),
+            ),
+            IFLA_BRPORT_MCAST_EHT_HOSTS_CNT => keep(
+                place,
+                parse_u32(payload).map(Self::MulticastEhtHostsCnt),
+            ),
+            IFLA_BRPORT_LOCKED => keep(place, parse_bool(payload).map(Self::Locked)),
+            IFLA_BRPORT_MAB => keep(place, parse_bool(payload).map(Self::Mab)),
+            IFLA_BRPORT_MCAST_N_GROUPS => keep(
+                place,
+                parse_u32(payload).map(Self::MulticastNGroups),
+            ),
+            IFLA_BRPORT_MCAST_MAX_GROUPS => keep(
+                place,
+                parse_u32(payload).map(Self::MulticastMaxGroups),
+            ),
+            IFLA_BRPORT_NEIGH_VLAN_SUPPRESS => keep(
+                place,
+                parse_bool(payload).map(Self::NeighVlanSuppress),
+            ),
+            IFLA_BRPORT_BACKUP_NHID => keep(place, parse_u32(payload).map(Self::BackupNextHopId)),
+            IFLA_BRPORT_NEIGH_FORWARD_GRAT => keep(
+                place,
+                parse_bool(payload).map(Self::NeighForwardGrat),
+            ),
+            _ => keep(place, DefaultNla::parse(alloc, buffer).map(Self::Other)),
         }
     }
 }

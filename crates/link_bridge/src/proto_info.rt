@@ -7,8 +7,8 @@ ghost use Rattle.link_base.specs.Answers.{ListAnswers, OnListMemory};
 ghost use Rattle.link_bridge.specs.ProtoInfo.{proto_info_table, proto_info_means};
 
 use link_base::{
-    Attribute, DecodeError, DefaultNla, ListError, Meaning, Nla, NlaBuffer, Parseable, TryClone,
-    emit_u8, is_truth, parse_bool, read_list,
+    Attribute, DecodeError, DefaultNla, ListError, Meaning, Nla, NlaBuffer, Parseable, Place,
+    TryClone, emit_u8, is_truth, keep, parse_bool, read_list,
 };
 use std::alloc::{AllocError, Global};
 
@@ -85,12 +85,17 @@ impl Nla for LinkProtoInfoBridge {
 }
 
 impl Parseable for LinkProtoInfoBridge {
-    fn parse_payload(alloc: Global, buffer: &NlaBuffer<'_>) -> Result<Self, DecodeError> {
+    fn parse_payload<P: Place<Self>>(
+        alloc: Global,
+        buffer: &NlaBuffer<'_>,
+        place: &mut P,
+    ) -> Result<(), DecodeError> {
         match buffer.kind() {
-            IFLA_BRPORT_NEIGH_FORWARD_GRAT => parse_bool(buffer.value()).map(
-                Self::NeighForwardGrat,
+            IFLA_BRPORT_NEIGH_FORWARD_GRAT => keep(
+                place,
+                parse_bool(buffer.value()).map(Self::NeighForwardGrat),
             ),
-            _ => DefaultNla::parse(alloc, buffer).map(Self::Other),
+            _ => keep(place, DefaultNla::parse(alloc, buffer).map(Self::Other)),
         }
     }
 }

@@ -7,10 +7,10 @@ use crate::can_modes::CanCtrlModeExt;
 use crate::can_records::{CanBerrCounter, CanBitTiming, CanClock, CanCtrlMode};
 use crate::can_tdc::CanTdc;
 use link_base::{
-    Attribute, DecodeError, DefaultNla, Meaning, NLA_F_NESTED, Nla, NlaBuffer, Parseable, TryClone,
-    are_numbers, emit_nested, emit_u16, emit_u16s, emit_u32, emit_u32s, has_size, is_limits,
-    is_nested, nested_len, parse_u16, parse_u16s, parse_u32, parse_u32s, read_nested,
-    try_clone_list, u16s_len, u32s_len,
+    Attribute, DecodeError, DefaultNla, Meaning, NLA_F_NESTED, Nla, NlaBuffer, Parseable, Place,
+    TryClone, are_numbers, emit_nested, emit_u16, emit_u16s, emit_u32, emit_u32s, has_size,
+    is_limits, is_nested, keep, nested_len, parse_u16, parse_u16s, parse_u32, parse_u32s,
+    read_nested, try_clone_list, u16s_len, u32s_len,
 };
 use std::alloc::{AllocError, Global};
 
@@ -202,32 +202,56 @@ impl Nla for InfoCan {
 }
 
 impl Parseable for InfoCan {
-    fn parse_payload(alloc: Global, buffer: &NlaBuffer<'_>) -> Result<Self, DecodeError> {
+    fn parse_payload<P: Place<Self>>(
+        alloc: Global,
+        buffer: &NlaBuffer<'_>,
+        place: &mut P,
+    ) -> Result<(), DecodeError> {
         let kind = buffer.kind();
         let payload = buffer.value();
         match kind {
-            IFLA_CAN_BITTIMING => CanBitTiming::parse(payload).map(Self::BitTiming),
-            IFLA_CAN_BITTIMING_CONST => CanBitTimingConst::parse(alloc, payload).map(
-                Self::BitTimingConst,
+            IFLA_CAN_BITTIMING => keep(place, CanBitTiming::parse(payload).map(Self::BitTiming)),
+            IFLA_CAN_BITTIMING_CONST => keep(
+                place,
+                CanBitTimingConst::parse(alloc, payload).map(Self::BitTimingConst),
             ),
-            IFLA_CAN_CLOCK => CanClock::parse(payload).map(Self::Clock),
-            IFLA_CAN_STATE => parse_u32(payload).map(Self::State),
-            IFLA_CAN_CTRLMODE => CanCtrlMode::parse(payload).map(Self::CtrlMode),
-            IFLA_CAN_RESTART_MS => parse_u32(payload).map(Self::RestartMs),
-            IFLA_CAN_RESTART => parse_u32(payload).map(Self::Restart),
-            IFLA_CAN_BERR_COUNTER => CanBerrCounter::parse(payload).map(Self::BerrCounter),
-            IFLA_CAN_DATA_BITTIMING => CanBitTiming::parse(payload).map(Self::DataBitTiming),
-            IFLA_CAN_DATA_BITTIMING_CONST => CanBitTimingConst::parse(alloc, payload).map(
-                Self::DataBitTimingConst,
+            IFLA_CAN_CLOCK => keep(place, CanClock::parse(payload).map(Self::Clock)),
+            IFLA_CAN_STATE => keep(place, parse_u32(payload).map(Self::State)),
+            IFLA_CAN_CTRLMODE => keep(place, CanCtrlMode::parse(payload).map(Self::CtrlMode)),
+            IFLA_CAN_RESTART_MS => keep(place, parse_u32(payload).map(Self::RestartMs)),
+            IFLA_CAN_RESTART => keep(place, parse_u32(payload).map(Self::Restart)),
+            IFLA_CAN_BERR_COUNTER => keep(
+                place,
+                CanBerrCounter::parse(payload).map(Self::BerrCounter),
             ),
-            IFLA_CAN_TERMINATION => parse_u16(payload).map(Self::Termination),
-            IFLA_CAN_TERMINATION_CONST => parse_u16s(alloc, payload).map(Self::TerminationConst),
-            IFLA_CAN_BITRATE_CONST => parse_u32s(alloc, payload).map(Self::BitrateConst),
-            IFLA_CAN_DATA_BITRATE_CONST => parse_u32s(alloc, payload).map(Self::DataBitrateConst),
-            IFLA_CAN_BITRATE_MAX => parse_u32(payload).map(Self::BitrateMax),
-            IFLA_CAN_TDC => read_nested(alloc, kind, payload).map(Self::Tdc),
-            IFLA_CAN_CTRLMODE_EXT => read_nested(alloc, kind, payload).map(Self::CtrlModeExt),
-            _ => DefaultNla::parse(alloc, buffer).map(Self::Other),
+            IFLA_CAN_DATA_BITTIMING => keep(
+                place,
+                CanBitTiming::parse(payload).map(Self::DataBitTiming),
+            ),
+            IFLA_CAN_DATA_BITTIMING_CONST => keep(
+                place,
+                CanBitTimingConst::parse(alloc, payload).map(Self::DataBitTimingConst),
+            ),
+            IFLA_CAN_TERMINATION => keep(place, parse_u16(payload).map(Self::Termination)),
+            IFLA_CAN_TERMINATION_CONST => keep(
+                place,
+                parse_u16s(alloc, payload).map(Self::TerminationConst),
+            ),
+            IFLA_CAN_BITRATE_CONST => keep(
+                place,
+                parse_u32s(alloc, payload).map(Self::BitrateConst),
+            ),
+            IFLA_CAN_DATA_BITRATE_CONST => keep(
+                place,
+                parse_u32s(alloc, payload).map(Self::DataBitrateConst),
+            ),
+            IFLA_CAN_BITRATE_MAX => keep(place, parse_u32(payload).map(Self::BitrateMax)),
+            IFLA_CAN_TDC => keep(place, read_nested(alloc, kind, payload).map(Self::Tdc)),
+            IFLA_CAN_CTRLMODE_EXT => keep(
+                place,
+                read_nested(alloc, kind, payload).map(Self::CtrlModeExt),
+            ),
+            _ => keep(place, DefaultNla::parse(alloc, buffer).map(Self::Other)),
         }
     }
 }

@@ -7,8 +7,8 @@ ghost use Rattle.link_vlan_can.specs.Can.{mode_rows, mode_leaf};
 use crate::can_flags::CanCtrlModeFlags;
 use bitflags::Flags;
 use link_base::{
-    Attribute, DecodeError, DefaultNla, Meaning, NestedAttribute, Nla, NlaBuffer, Parseable,
-    TryClone, emit_u32, has_size, parse_u32,
+    Attribute, DecodeError, DefaultNla, Meaning, NestedAttribute, Nla, NlaBuffer, Parseable, Place,
+    TryClone, emit_u32, has_size, keep, parse_u32,
 };
 use std::alloc::{AllocError, Global};
 
@@ -63,13 +63,20 @@ impl Nla for CanCtrlModeExt {
 }
 
 impl Parseable for CanCtrlModeExt {
-    fn parse_payload(alloc: Global, buffer: &NlaBuffer<'_>) -> Result<Self, DecodeError> {
+    fn parse_payload<P: Place<Self>>(
+        alloc: Global,
+        buffer: &NlaBuffer<'_>,
+        place: &mut P,
+    ) -> Result<(), DecodeError> {
         let payload = buffer.value();
         match buffer.kind() {
-            IFLA_CAN_CTRLMODE_SUPPORTED => parse_u32(payload).map(|bits| Self::Supported(
-                CanCtrlModeFlags::from_bits_retain(bits),
-            )),
-            _ => DefaultNla::parse(alloc, buffer).map(Self::Other),
+            IFLA_CAN_CTRLMODE_SUPPORTED => keep(
+                place,
+                parse_u32(payload).map(|bits| {
+                    Self::Supported(CanCtrlModeFlags::from_bits_retain(bits))
+                }),
+            ),
+            _ => keep(place, DefaultNla::parse(alloc, buffer).map(Self::Other)),
         }
     }
 }

@@ -5,8 +5,8 @@ ghost use Rattle.link_base.specs.Lift.{lift, lift_table};
 ghost use Rattle.link_vlan_can.specs.Can.{tdc_rows, tdc_leaf};
 
 use link_base::{
-    Attribute, DecodeError, DefaultNla, Meaning, NestedAttribute, Nla, NlaBuffer, Parseable,
-    TryClone, emit_u32, has_size, parse_u32,
+    Attribute, DecodeError, DefaultNla, Meaning, NestedAttribute, Nla, NlaBuffer, Parseable, Place,
+    TryClone, emit_u32, has_size, keep, parse_u32,
 };
 use std::alloc::{AllocError, Global};
 
@@ -120,19 +120,23 @@ impl Nla for CanTdc {
 }
 
 impl Parseable for CanTdc {
-    fn parse_payload(alloc: Global, buffer: &NlaBuffer<'_>) -> Result<Self, DecodeError> {
+    fn parse_payload<P: Place<Self>>(
+        alloc: Global,
+        buffer: &NlaBuffer<'_>,
+        place: &mut P,
+    ) -> Result<(), DecodeError> {
         let payload = buffer.value();
         match buffer.kind() {
-            IFLA_CAN_TDC_TDCV_MIN => parse_u32(payload).map(Self::TdcvMin),
-            IFLA_CAN_TDC_TDCV_MAX => parse_u32(payload).map(Self::TdcvMax),
-            IFLA_CAN_TDC_TDCO_MIN => parse_u32(payload).map(Self::TdcoMin),
-            IFLA_CAN_TDC_TDCO_MAX => parse_u32(payload).map(Self::TdcoMax),
-            IFLA_CAN_TDC_TDCF_MIN => parse_u32(payload).map(Self::TdcfMin),
-            IFLA_CAN_TDC_TDCF_MAX => parse_u32(payload).map(Self::TdcfMax),
-            IFLA_CAN_TDC_TDCV => parse_u32(payload).map(Self::Tdcv),
-            IFLA_CAN_TDC_TDCO => parse_u32(payload).map(Self::Tdco),
-            IFLA_CAN_TDC_TDCF => parse_u32(payload).map(Self::Tdcf),
-            _ => DefaultNla::parse(alloc, buffer).map(Self::Other),
+            IFLA_CAN_TDC_TDCV_MIN => keep(place, parse_u32(payload).map(Self::TdcvMin)),
+            IFLA_CAN_TDC_TDCV_MAX => keep(place, parse_u32(payload).map(Self::TdcvMax)),
+            IFLA_CAN_TDC_TDCO_MIN => keep(place, parse_u32(payload).map(Self::TdcoMin)),
+            IFLA_CAN_TDC_TDCO_MAX => keep(place, parse_u32(payload).map(Self::TdcoMax)),
+            IFLA_CAN_TDC_TDCF_MIN => keep(place, parse_u32(payload).map(Self::TdcfMin)),
+            IFLA_CAN_TDC_TDCF_MAX => keep(place, parse_u32(payload).map(Self::TdcfMax)),
+            IFLA_CAN_TDC_TDCV => keep(place, parse_u32(payload).map(Self::Tdcv)),
+            IFLA_CAN_TDC_TDCO => keep(place, parse_u32(payload).map(Self::Tdco)),
+            IFLA_CAN_TDC_TDCF => keep(place, parse_u32(payload).map(Self::Tdcf)),
+            _ => keep(place, DefaultNla::parse(alloc, buffer).map(Self::Other)),
         }
     }
 }

@@ -3,8 +3,8 @@
 ghost use Rattle.link_vlan_can.specs.Dsa.{dsa_table, dsa_means};
 
 use link_base::{
-    Attribute, DecodeError, DefaultNla, Meaning, Nla, NlaBuffer, Parseable, TryClone, emit_u32,
-    has_size, parse_u32,
+    Attribute, DecodeError, DefaultNla, Meaning, Nla, NlaBuffer, Parseable, Place, TryClone,
+    emit_u32, has_size, keep, parse_u32,
 };
 use std::alloc::{AllocError, Global};
 
@@ -60,11 +60,15 @@ impl Nla for InfoDsa {
 }
 
 impl Parseable for InfoDsa {
-    fn parse_payload(alloc: Global, buffer: &NlaBuffer<'_>) -> Result<Self, DecodeError> {
+    fn parse_payload<P: Place<Self>>(
+        alloc: Global,
+        buffer: &NlaBuffer<'_>,
+        place: &mut P,
+    ) -> Result<(), DecodeError> {
         let payload = buffer.value();
         match buffer.kind() {
-            IFLA_DSA_CONDUIT => parse_u32(payload).map(Self::Conduit),
-            _ => DefaultNla::parse(alloc, buffer).map(Self::Other),
+            IFLA_DSA_CONDUIT => keep(place, parse_u32(payload).map(Self::Conduit)),
+            _ => keep(place, DefaultNla::parse(alloc, buffer).map(Self::Other)),
         }
     }
 }

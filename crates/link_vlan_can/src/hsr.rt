@@ -6,8 +6,9 @@ ghost use Rattle.link_base.specs.Equality.{of_cases, thorough_fields};
 ghost use Rattle.link_vlan_can.specs.Hsr.{hsr_protocols, hsr_protocol, hsr_protocol_seen, hsr_table, hsr_means};
 
 use link_base::{
-    Attribute, DecodeError, DefaultNla, Meaning, NamedNumber, Nla, NlaBuffer, Parseable, TryClone,
-    emit_mac, emit_u8, emit_u16, emit_u32, has_size, parse_mac, parse_u8, parse_u16, parse_u32,
+    Attribute, DecodeError, DefaultNla, Meaning, NamedNumber, Nla, NlaBuffer, Parseable, Place,
+    TryClone, emit_mac, emit_u8, emit_u16, emit_u32, has_size, keep, parse_mac, parse_u8,
+    parse_u16, parse_u32,
 };
 use std::alloc::{AllocError, Global};
 use std::fmt;
@@ -189,18 +190,25 @@ impl Nla for InfoHsr {
 }
 
 impl Parseable for InfoHsr {
-    fn parse_payload(alloc: Global, buffer: &NlaBuffer<'_>) -> Result<Self, DecodeError> {
+    fn parse_payload<P: Place<Self>>(
+        alloc: Global,
+        buffer: &NlaBuffer<'_>,
+        place: &mut P,
+    ) -> Result<(), DecodeError> {
         let payload = buffer.value();
         match buffer.kind() {
-            IFLA_HSR_SLAVE1 => parse_u32(payload).map(Self::Port1),
-            IFLA_HSR_SLAVE2 => parse_u32(payload).map(Self::Port2),
-            IFLA_HSR_MULTICAST_SPEC => parse_u8(payload).map(Self::MulticastSpec),
-            IFLA_HSR_SUPERVISION_ADDR => parse_mac(payload).map(Self::SupervisionAddr),
-            IFLA_HSR_SEQ_NR => parse_u16(payload).map(Self::SeqNr),
-            IFLA_HSR_VERSION => parse_u8(payload).map(Self::Version),
-            IFLA_HSR_PROTOCOL => parse_u8(payload).map(|number| Self::Protocol(number.into())),
-            IFLA_HSR_INTERLINK => parse_u32(payload).map(Self::Interlink),
-            _ => DefaultNla::parse(alloc, buffer).map(Self::Other),
+            IFLA_HSR_SLAVE1 => keep(place, parse_u32(payload).map(Self::Port1)),
+            IFLA_HSR_SLAVE2 => keep(place, parse_u32(payload).map(Self::Port2)),
+            IFLA_HSR_MULTICAST_SPEC => keep(place, parse_u8(payload).map(Self::MulticastSpec)),
+            IFLA_HSR_SUPERVISION_ADDR => keep(place, parse_mac(payload).map(Self::SupervisionAddr)),
+            IFLA_HSR_SEQ_NR => keep(place, parse_u16(payload).map(Self::SeqNr)),
+            IFLA_HSR_VERSION => keep(place, parse_u8(payload).map(Self::Version)),
+            IFLA_HSR_PROTOCOL => keep(
+                place,
+                parse_u8(payload).map(|number| Self::Protocol(number.into())),
+            ),
+            IFLA_HSR_INTERLINK => keep(place, parse_u32(payload).map(Self::Interlink)),
+            _ => keep(place, DefaultNla::parse(alloc, buffer).map(Self::Other)),
         }
     }
 }

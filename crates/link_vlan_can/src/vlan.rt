@@ -10,9 +10,10 @@ ghost use Rattle.link_vlan_can.specs.Vlan.{mapping_rows, mapping_leaf, vlan_tabl
 use crate::vlan_flags::VlanFlags;
 use bitflags::Flags;
 use link_base::{
-    Attribute, DecodeError, DefaultNla, Meaning, NestedAttribute, Nla, NlaBuffer, Parseable,
+    Attribute, DecodeError, DefaultNla, Meaning, NestedAttribute, Nla, NlaBuffer, Parseable, Place,
     TryClone, VlanProtocol, emit_nested, emit_u16, emit_u16_be, emit_u32_pair, has_size, is_nested,
-    is_protocol, nested_len, parse_u16, parse_u16_be, parse_u32_pair, read_nested, try_clone_list,
+    is_protocol, keep, nested_len, parse_u16, parse_u16_be, parse_u32_pair, read_nested,
+    try_clone_list,
 };
 use std::alloc::{AllocError, Global};
 
@@ -79,13 +80,18 @@ impl Nla for VlanQosMapping {
 }
 
 impl Parseable for VlanQosMapping {
-    fn parse_payload(alloc: Global, buffer: &NlaBuffer<'_>) -> Result<Self, DecodeError> {
+    fn parse_payload<P: Place<Self>>(
+        alloc: Global,
+        buffer: &NlaBuffer<'_>,
+        place: &mut P,
+    ) -> Result<(), DecodeError> {
         let payload = buffer.value();
         match buffer.kind() {
-            IFLA_VLAN_QOS_MAPPING => {
-                parse_u32_pair(payload).map(|(from, to)| Self::Mapping(from, to))
-            }
-            _ => DefaultNla::parse(alloc, buffer).map(Self::Other),
+            IFLA_VLAN_QOS_MAPPING => keep(
+                place,
+                parse_u32_pair(payload).map(|(from, to)| Self::Mapping(from, to)),
+            ),
+            _ => keep(place, DefaultNla::parse(alloc, buffer).map(Self::Other)),
         }
     }
 }
@@ -192,21 +198,37 @@ impl Nla for InfoVlan {
 }
 
 impl Parseable for InfoVlan {
-    fn parse_payload(alloc: Global, buffer: &NlaBuffer<'_>) -> Result<Self, DecodeError> {
+    fn parse_payload<P: Place<Self>>(
+        alloc: Global,
+        buffer: &NlaBuffer<'_>,
+        place: &mut P,
+    ) -> Result<(), DecodeError> {
         let kind = buffer.kind();
         let payload = buffer.value();
         match kind {
-            IFLA_VLAN_ID => parse_u16(payload).map(Self::Id),
-            IFLA_VLAN_FLAGS => parse_u32_pair(payload).map(|(active, mask)| {
-                Self::Flags((
-                    VlanFlags::from_bits_retain(active),
-                    VlanFlags::from_bits_retain(mask),
-                ))
-            }),
-            IFLA_VLAN_EGRESS_QOS => read_nested(alloc, kind, payload).map(Self::EgressQos),
-            IFLA_VLAN_INGRESS_QOS => read_nested(alloc, kind, payload).map(Self::IngressQos),
-            IFLA_VLAN_PROTOCOL => parse_u16_be(payload).map(|number| Self::Protocol(number.into())),
-            _ => DefaultNla::parse(alloc, buffer).map(Self::Other),
+            IFLA_VLAN_ID => keep(place, parse_u16(payload).map(Self::Id)),
+            IFLA_VLAN_FLAGS => keep(
+                place,
+                parse_u32_pair(payload).map(|(active, mask)| {
+                    Self::Flags((
+                        VlanFlags::from_bits_retain(active),
+                        VlanFlags::from_bits_retain(mask),
+                    ))
+                }),
+            ),
+            IFLA_VLAN_EGRESS_QOS => keep(
+                place,
+                read_nested(alloc, kind, payload).map(Self::EgressQos),
+            ),
+            IFLA_VLAN_INGRESS_QOS => keep(
+                place,
+                read_nested(alloc, kind, payload).map(Self::IngressQos),
+            ),
+            IFLA_VLAN_PROTOCOL => keep(
+                place,
+                parse_u16_be(payload).map(|number| Self::Protocol(number.into())),
+            ),
+            _ => keep(place, DefaultNla::parse(alloc, buffer).map(Self::Other)),
         }
     }
 }

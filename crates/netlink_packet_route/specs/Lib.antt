@@ -13,6 +13,7 @@ pub use Rattle.link_base.specs.Lawful
 pub use Rattle.link_base.specs.Equality
 pub use Rattle.link_base.specs.Default
 pub use Rattle.link_base.specs.Answers
+pub use Rattle.link_base.specs.Place
 pub use Rattle.link_base.specs.Rewritten
 pub use Rattle.link_base.specs.Buffer
 pub use Rattle.link_base.specs.Items

@@ -5,8 +5,8 @@ ghost use Rattle.link_base.specs.Lift.{lift, lift_table};
 ghost use Rattle.link_bond.specs.AdInfo.{ad_info_rows, ad_info_leaf};
 
 use link_base::{
-    Attribute, DecodeError, DefaultNla, Meaning, NestedAttribute, Nla, NlaBuffer, Parseable,
-    TryClone, emit_mac, emit_u16, has_size, parse_mac, parse_u16,
+    Attribute, DecodeError, DefaultNla, Meaning, NestedAttribute, Nla, NlaBuffer, Parseable, Place,
+    TryClone, emit_mac, emit_u16, has_size, keep, parse_mac, parse_u16,
 };
 use std::alloc::{AllocError, Global};
 
@@ -94,15 +94,19 @@ impl Nla for BondAdInfo {
 }
 
 impl Parseable for BondAdInfo {
-    fn parse_payload(alloc: Global, buffer: &NlaBuffer<'_>) -> Result<Self, DecodeError> {
+    fn parse_payload<P: Place<Self>>(
+        alloc: Global,
+        buffer: &NlaBuffer<'_>,
+        place: &mut P,
+    ) -> Result<(), DecodeError> {
         let payload = buffer.value();
         match buffer.kind() {
-            IFLA_BOND_AD_INFO_AGGREGATOR => parse_u16(payload).map(Self::Aggregator),
-            IFLA_BOND_AD_INFO_NUM_PORTS => parse_u16(payload).map(Self::NumPorts),
-            IFLA_BOND_AD_INFO_ACTOR_KEY => parse_u16(payload).map(Self::ActorKey),
-            IFLA_BOND_AD_INFO_PARTNER_KEY => parse_u16(payload).map(Self::PartnerKey),
-            IFLA_BOND_AD_INFO_PARTNER_MAC => parse_mac(payload).map(Self::PartnerMac),
-            _ => DefaultNla::parse(alloc, buffer).map(Self::Other),
+            IFLA_BOND_AD_INFO_AGGREGATOR => keep(place, parse_u16(payload).map(Self::Aggregator)),
+            IFLA_BOND_AD_INFO_NUM_PORTS => keep(place, parse_u16(payload).map(Self::NumPorts)),
+            IFLA_BOND_AD_INFO_ACTOR_KEY => keep(place, parse_u16(payload).map(Self::ActorKey)),
+            IFLA_BOND_AD_INFO_PARTNER_KEY => keep(place, parse_u16(payload).map(Self::PartnerKey)),
+            IFLA_BOND_AD_INFO_PARTNER_MAC => keep(place, parse_mac(payload).map(Self::PartnerMac)),
+            _ => keep(place, DefaultNla::parse(alloc, buffer).map(Self::Other)),
         }
     }
 }

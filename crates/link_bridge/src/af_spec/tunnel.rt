@@ -7,8 +7,8 @@ ghost use Rattle.link_bridge.specs.TunnelInfo.{tunnel_rows, tunnel_leaf};
 use crate::af_spec::vlan_info_flags::BridgeVlanInfoFlags;
 use bitflags::Flags;
 use link_base::{
-    Attribute, DecodeError, DefaultNla, Meaning, NestedAttribute, Nla, NlaBuffer, Parseable,
-    TryClone, emit_u16, emit_u32, has_size, parse_u16, parse_u32,
+    Attribute, DecodeError, DefaultNla, Meaning, NestedAttribute, Nla, NlaBuffer, Parseable, Place,
+    TryClone, emit_u16, emit_u32, has_size, keep, parse_u16, parse_u32,
 };
 use std::alloc::{AllocError, Global};
 
@@ -82,15 +82,22 @@ impl Nla for BridgeVlanTunnelInfo {
 }
 
 impl Parseable for BridgeVlanTunnelInfo {
-    fn parse_payload(alloc: Global, buffer: &NlaBuffer<'_>) -> Result<Self, DecodeError> {
+    fn parse_payload<P: Place<Self>>(
+        alloc: Global,
+        buffer: &NlaBuffer<'_>,
+        place: &mut P,
+    ) -> Result<(), DecodeError> {
         let payload = buffer.value();
         match buffer.kind() {
-            IFLA_BRIDGE_VLAN_TUNNEL_ID => parse_u32(payload).map(Self::Id),
-            IFLA_BRIDGE_VLAN_TUNNEL_VID => parse_u16(payload).map(Self::Vid),
-            IFLA_BRIDGE_VLAN_TUNNEL_FLAGS => parse_u16(payload).map(|bits| Self::Flags(
-                BridgeVlanInfoFlags::from_bits_retain(bits),
-            )),
-            _ => DefaultNla::parse(alloc, buffer).map(Self::Other),
+            IFLA_BRIDGE_VLAN_TUNNEL_ID => keep(place, parse_u32(payload).map(Self::Id)),
+            IFLA_BRIDGE_VLAN_TUNNEL_VID => keep(place, parse_u16(payload).map(Self::Vid)),
+            IFLA_BRIDGE_VLAN_TUNNEL_FLAGS => keep(
+                place,
+                parse_u16(payload).map(|bits| {
+                    Self::Flags(BridgeVlanInfoFlags::from_bits_retain(bits))
+                }),
+            ),
+            _ => keep(place, DefaultNla::parse(alloc, buffer).map(Self::Other)),
         }
     }
 }

@@ -2,7 +2,8 @@
 
 use link_base::{
     Address, Attribute, DecodeError, DefaultNla, Meaning, NestedAttribute, Nla, NlaBuffer,
-    Parseable, TryClone, emit_u32, emit_u64, has_size, parse_address, parse_u32, parse_u64,
+    Parseable, Place, TryClone, emit_u32, emit_u64, has_size, keep, parse_address, parse_u32,
+    parse_u64,
 };
 use std::alloc::{AllocError, Global};
 use std::net::{Ipv4Addr, Ipv6Addr};
@@ -112,16 +113,29 @@ impl Nla for BridgeQuerierState {
 }
 
 impl Parseable for BridgeQuerierState {
-    fn parse_payload(alloc: Global, buffer: &NlaBuffer<'_>) -> Result<Self, DecodeError> {
+    fn parse_payload<P: Place<Self>>(
+        alloc: Global,
+        buffer: &NlaBuffer<'_>,
+        place: &mut P,
+    ) -> Result<(), DecodeError> {
         let payload = buffer.value();
         match buffer.kind() {
-            BRIDGE_QUERIER_IP_ADDRESS => parse_address(payload).map(Self::Ipv4Address),
-            BRIDGE_QUERIER_IP_PORT => parse_u32(payload).map(Self::Ipv4Port),
-            BRIDGE_QUERIER_IP_OTHER_TIMER => parse_u64(payload).map(Self::Ipv4OtherTimer),
-            BRIDGE_QUERIER_IPV6_ADDRESS => parse_address(payload).map(Self::Ipv6Address),
-            BRIDGE_QUERIER_IPV6_PORT => parse_u32(payload).map(Self::Ipv6Port),
-            BRIDGE_QUERIER_IPV6_OTHER_TIMER => parse_u64(payload).map(Self::Ipv6OtherTimer),
-            _ => DefaultNla::parse(alloc, buffer).map(Self::Other),
+            BRIDGE_QUERIER_IP_ADDRESS => keep(place, parse_address(payload).map(Self::Ipv4Address)),
+            BRIDGE_QUERIER_IP_PORT => keep(place, parse_u32(payload).map(Self::Ipv4Port)),
+            BRIDGE_QUERIER_IP_OTHER_TIMER => keep(
+                place,
+                parse_u64(payload).map(Self::Ipv4OtherTimer),
+            ),
+            BRIDGE_QUERIER_IPV6_ADDRESS => keep(
+                place,
+                parse_address(payload).map(Self::Ipv6Address),
+            ),
+            BRIDGE_QUERIER_IPV6_PORT => keep(place, parse_u32(payload).map(Self::Ipv6Port)),
+            BRIDGE_QUERIER_IPV6_OTHER_TIMER => keep(
+                place,
+                parse_u64(payload).map(Self::Ipv6OtherTimer),
+            ),
+            _ => keep(place, DefaultNla::parse(alloc, buffer).map(Self::Other)),
         }
     }
 }

@@ -20,18 +20,18 @@ loop-i-init g c = record {
   room = c.in-Ok.ensures.exact ∙ c.len.ensures;
 }
 
-pub returns-in-Err-parse-clause-answer : goal.returns-in-Err-parse-clause-answer
-returns-in-Err-parse-clause-answer g c =
+pub returns-in-Err-parse_into-clause-answer : goal.returns-in-Err-parse_into-clause-answer
+returns-in-Err-parse_into-clause-answer g c =
     let offsets = offsets_of c.find_frames.new.self in
     let b = c.frame.result in
     let i = c.loop-i.i in
     let lt : i < length offsets = omega (arith, c.loop-i-test.true, c.loop-i.auto.i-end, c.len-i-end.ensures) in
     let begins : BeginsWith (drop (get_or offsets i 0) c.args.bytes.now) (frame_of b) = subst (λ s. BeginsWith (drop (get_or offsets i 0) s) (frame_of b)) (c.in_default.ensures.bytes ∙ c.before_walk-table.ensures.bytes) c.frame.ensures in
-    rw c.at.ensures (rw c.offset.ensures (ends_at_value (Gives g.F.Meaning.table) c.args.bytes.now offsets (fault_of c.find_frames.new.self) i _ (kind_field_of b) (payload_of b) c.in-Err-parse.error
-    c.loop-i.invariant.reads lt begins c.in-Err-parse.ensures.answer))
+    rw c.at.ensures (rw c.offset.ensures (ends_at_value (Gives g.F.Meaning.table) c.args.bytes.now offsets (fault_of c.find_frames.new.self) i _ (kind_field_of b) (payload_of b) c.in-Err-parse_into.error
+    c.loop-i.invariant.reads lt begins c.in-Err-parse_into.ensures.answer))
 
-pub returns-in-Err-parse-clause-memory : goal.returns-in-Err-parse-clause-memory
-returns-in-Err-parse-clause-memory g c =
+pub returns-in-Err-parse_into-clause-memory : goal.returns-in-Err-parse_into-clause-memory
+returns-in-Err-parse_into-clause-memory g c =
     let offsets = offsets_of c.find_frames.new.self in
     let some : 0 < length offsets = omega (arith, c.loop-i-test.true, c.loop-i.auto.i-end, c.len-i-end.ensures) in
     on_list_memory {X = ℕ} (Err c.at.result) _ (first_frame c.args.bytes.now offsets (fault_of c.find_frames.new.self) (subst (λ s. Finds s (offsets_of c.find_frames.new.self) (fault_of c.find_frames.new.self)) c.before_walk-table.ensures.bytes c.in_default.ensures.finds) some)
@@ -44,13 +44,12 @@ loop-i-preserved g c =
     let i = c.loop-i.i in
     let lt : i < length offsets = omega (arith, c.loop-i-test.true, c.loop-i.auto.i-end, c.len-i-end.ensures) in
     let begins : BeginsWith (drop (get_or offsets i 0) c.args.bytes.now) (frame_of b) = subst (λ s. BeginsWith (drop (get_or offsets i 0) s) (frame_of b)) (c.in_default.ensures.bytes ∙ c.before_walk-table.ensures.bytes) c.frame.ensures in
-    let pushed = c.push_reserved.ensures in
-    let value = c.in-Ok-parse.value in
-    let meant : map means c.push_reserved.new.self.items ≡ map means c.loop-i.values.items ++ means value ∷ [] = ap (map means) pushed.items ∙ map-append means c.loop-i.values.items (value ∷ []) in
+    let (value, longer, given) = c.in_default-parse_into.ensures.answer in
+    let meant : map means c.parse_into.new.place.items ≡ map means c.loop-i.values.items ++ means value ∷ [] = ap (map means) longer.0 ∙ map-append means c.loop-i.values.items (value ∷ []) in
     record {
-      reads = rw meant (reads_more (Gives g.F.Meaning.table) c.args.bytes.now offsets (fault_of c.find_frames.new.self) i _ (kind_field_of b) (payload_of b) (means value) c.loop-i.invariant.reads lt begins c.in-Ok-parse.ensures.answer);
-      len = pushed.len ∙ ap (λ n. n + 1) c.loop-i.invariant.len;
-      room = pushed.capacity ∙ c.loop-i.invariant.room;
+      reads = rw meant (reads_more (Gives g.F.Meaning.table) c.args.bytes.now offsets (fault_of c.find_frames.new.self) i _ (kind_field_of b) (payload_of b) (means value) c.loop-i.invariant.reads lt begins given);
+      len = longer.1 ∙ ap (λ n. n + 1) c.loop-i.invariant.len;
+      room = longer.2 ∙ c.loop-i.invariant.room;
     }
 
 pub returns-in-Some-clause-answer : goal.returns-in-Some-clause-answer

@@ -1,0 +1,28 @@
+-- Values that were read, and handed on.
+use Rattle.std.proofs.Common.{◌≡◌, ℕ, Bool, List, Result, Ok, Err, Option, Some, MatchResult, IsOkAnd, ap, subst, sym, ◌∙◌}
+use Rattle.link_base.specs.declared.fault.DecodeFault.{DecodeFault}
+use Rattle.link_base.specs.declared.fault.DecodeError.{DecodeError}
+use Rattle.link_base.specs.Answers.{Answers, Fails, under_kind, value_error}
+use Rattle.link_base.specs.Frame.{kind_of}
+use Rattle.link_base.specs.Place.{Hands, Puts}
+use Rattle.link_base.specs.Table.{Table, Rows, Shape, Nested, AttrValue, class_at, Gives, GivesBy, ShapeGives}
+use Rattle.link_base.proofs.KindFaults.{under_nested}
+
+-- what was read as it should, and handed on, was put to its place
+pub put_under : {X V : Type 0} (takes : X → Type 0) (view : X → V) (kind : ℕ) (given : Result V DecodeFault → Type 0) (read : Result X DecodeError) (answered : Result (Unit {0}) DecodeError) → Hands takes read answered → Answers view (under_kind kind read) given → Puts takes view (under_kind kind answered) given
+put_under takes view kind given (Ok x) (Ok done) taken answer = (x, taken, answer)
+put_under takes view kind given (Err e) (Err a) same answer = subst (λ e. Fails (value_error kind e) given) (sym same) answer
+put_under takes view kind given (Ok x) (Err a) never answer = absurd never
+put_under takes view kind given (Err e) (Ok done) never answer = absurd never
+
+-- a nested list that was read is the value of its case
+case_of : {X Y : Type 0} (view : X → AttrValue) (means : Y → AttrValue) (made : X → Y) (kind : ℕ) (given : Result AttrValue DecodeFault → Type 0) (r : Result X DecodeError) (m : Result Y DecodeError) → ((x : X) → means (made x) ≡ view x) → MatchResult r (λ x. IsOkAnd m (λ y. y ≡ made x)) (λ e. m ≡ Err e) → under_kind kind r ≡ r → Answers view r given → Answers means (under_kind kind m) given
+case_of view means made kind given (Ok x) (Ok y) same is under answer = subst (λ v. given (Ok v)) (sym (ap means is ∙ same x)) answer
+case_of view means made kind given (Ok x) (Err e) same is under answer = absurd is
+case_of view means made kind given (Err e) m same is under answer =
+    let itself : e ≡ value_error kind e = cc in
+    subst (λ m. Answers means (under_kind kind m) given) (sym is) (subst (λ d. Fails d given) itself answer)
+
+-- the same under the kind of its row
+pub case_under : {X Y : Type 0} (table : Table) (flagged : Bool) (rows : Rows) (f : ℕ) (p : List ℕ) (view : X → AttrValue) (means : Y → AttrValue) (made : X → Y) (r : Result X DecodeError) (m : Result Y DecodeError) → class_at table (kind_of f) ≡ Some (Nested flagged rows) → ((x : X) → means (made x) ≡ view x) → MatchResult r (λ x. IsOkAnd m (λ y. y ≡ made x)) (λ e. m ≡ Err e) → Answers view r (ShapeGives (Nested flagged rows) (kind_of f) p) → Answers means (under_kind (kind_of f) m) (Gives table f p)
+case_under table flagged rows f p view means made r m at same is answer = subst (λ o. Answers means (under_kind (kind_of f) m) (GivesBy o f p)) (sym at) (case_of view means made (kind_of f) _ r m same is (under_nested view flagged rows (kind_of f) p r answer) answer)

@@ -1,0 +1,143 @@
+//! The calls, each between two marks, with the clauses of the call that it makes.
+
+ghost use Rattle.std.specs.Prelude.{◌≡◌, ◌++◌, ◌-◌, [], None, length, map, replicate, string_bytes};
+ghost use Rattle.std.specs.Prelude.{IfOk, OnErr, IsTrue};
+ghost use Rattle.link_vlan_can.specs.CanLimits.{limits_view, limits_with};
+ghost use Rattle.netlink_packet_route.specs.AfSpec.{af_spec_table, af_spec_means};
+ghost use Rattle.netlink_packet_route.specs.Answers.{Answers, ListAnswers, WriteAnswers, OnMemory, OnListMemory};
+ghost use Rattle.netlink_packet_route.specs.Buffer.{kind_field_of, payload_of};
+ghost use Rattle.netlink_packet_route.specs.Family.{table_of};
+ghost use Rattle.netlink_packet_route.specs.Frame.{frame_fault};
+ghost use Rattle.netlink_packet_route.specs.Held.{HoldsMemory};
+ghost use Rattle.netlink_packet_route.specs.ProtoInfo.{proto_info_table, proto_info_means};
+ghost use Rattle.netlink_packet_route.specs.Report.{Reports};
+ghost use Rattle.netlink_packet_route.specs.Rewrite.{RewriteAnswers, OnRewriteMemory};
+ghost use Rattle.netlink_packet_route.specs.Table.{Gives, TakesMemory};
+ghost use Rattle.netlink_packet_route.specs.Walk.{Finds};
+ghost use Rattle.netlink_packet_route.specs.Walked.{walked_bytes, offsets_of, fault_of};
+
+use netlink_packet_route::link::{
+    Attribute, CanBitTimingConst, DecodeError, FrameTable, ListError, NlaBuffer, TryClone,
+    VecAfSpecBridge, VecLinkProtoInfoBridge, WriteError,
+};
+use netlink_packet_route::{Family, RewriteError, link};
+use std::alloc::{AllocError, Global};
+
+/// A size that nothing else asks for, in bytes. By it a malloc knows where a call begins, and where it ends.
+const MARK: usize = 7_654_321;
+
+/// What a call answers, which is made between two requests for a block of `MARK` bytes.
+fn marked<A, C: FnOnce() -> A>(alloc: Global, call: C) -> A
+    requires { C.IsAlwaysCallable call }
+    ensures { C.post call result }
+{
+    mark(alloc);
+    let answer = call();
+    mark(alloc);
+    answer
+}
+
+/// Asks for the block, and frees it.
+#[inline(never)]
+fn mark(alloc: Global) {
+    let _block: Result<Vec<u8>, AllocError> = Vec::with_capacity(alloc, MARK);
+}
+
+/// The values of a list, or its first fault.
+pub(crate) fn read_list<F: Attribute>(alloc: Global, bytes: &[u8]) -> Result<Vec<F>, ListError>
+    ensures answer { ListAnswers (λ vs. map F.means vs.items) result (Gives F.table) bytes.now }
+    ensures memory { OnListMemory result (frame_fault bytes.now ≡ None) }
+{
+    marked(alloc, || link::read_list(alloc, bytes))
+}
+
+/// The value of a frame, or its fault.
+pub(crate) fn parse<F: Attribute>(alloc: Global, frame: &NlaBuffer<'_>) -> Result<F, DecodeError>
+    ensures answer { Answers F.means result (Gives F.table (kind_field_of frame.now) (payload_of frame.now)) }
+    ensures memory { OnMemory result (TakesMemory F.table (kind_field_of frame.now)) }
+{
+    marked(alloc, || F::parse(alloc, frame))
+}
+
+/// An equal value.
+pub(crate) fn try_clone<F: TryClone>(alloc: Global, value: &F) -> Result<F, AllocError>
+    ensures copy { IfOk result (λ copy. F.means copy ≡ F.means value.now) }
+    ensures equal { IfOk result (λ copy. IsTrue (F.PartialEq.eq copy value.now)) }
+    ensures memory { OnErr result (HoldsMemory F.table (F.means value.now)) }
+{
+    marked(alloc, || value.try_clone(alloc))
+}
+
+/// The written list, or the first value that does not fit.
+pub(crate) fn write_list<F: Attribute>(alloc: Global, values: &[F]) -> Result<Vec<u8>, WriteError>
+    ensures { WriteAnswers (map F.means values.now) result }
+{
+    marked(alloc, || link::write_list(alloc, values))
+}
+
+/// A list, read and written.
+pub(crate) fn rewrite(alloc: Global, family: Family, bytes: &[u8]) -> Result<Vec<u8>, RewriteError>
+    ensures answer { RewriteAnswers (table_of family) bytes.now result }
+    ensures memory { OnRewriteMemory result (frame_fault bytes.now ≡ None) }
+{
+    marked(
+        alloc,
+        || netlink_packet_route::rewrite(alloc, family, bytes),
+    )
+}
+
+/// The output of `nlroute` for a text, and its status.
+pub(crate) fn report(alloc: Global, family: Family, text: &[u8]) -> Result<(String, u8), AllocError>
+    ensures { IfOk result (λ report. Reports (table_of family) text.now (string_bytes report.0) report.1) }
+{
+    marked(alloc, || netlink_packet_route::report(alloc, family, text))
+}
+
+/// The frames of some bytes.
+pub(crate) fn walk(alloc: Global, bytes: &[u8]) -> Result<FrameTable<'_>, AllocError>
+    ensures bytes { IfOk result (λ t. walked_bytes t ≡ bytes.now) }
+    ensures finds { IfOk result (λ t. Finds bytes.now (offsets_of t) (fault_of t)) }
+    ensures memory { OnErr result (frame_fault bytes.now ≡ None) }
+{
+    marked(alloc, || FrameTable::walk(alloc, bytes))
+}
+
+/// A list of what `IFLA_AF_SPEC` holds.
+pub(crate) fn parse_af_spec(alloc: Global, bytes: &[u8]) -> Result<VecAfSpecBridge, ListError>
+    ensures answer { ListAnswers (λ list. map af_spec_means list.0.items) result (Gives af_spec_table) bytes.now }
+    ensures memory { OnListMemory result (frame_fault bytes.now ≡ None) }
+{
+    marked(alloc, || VecAfSpecBridge::parse(alloc, bytes))
+}
+
+/// A list of what `IFLA_PROTINFO` holds.
+pub(crate) fn parse_proto_info(
+    alloc: Global,
+    bytes: &[u8],
+) -> Result<VecLinkProtoInfoBridge, ListError>
+    ensures answer { ListAnswers (λ list. map proto_info_means list.0.items) result (Gives proto_info_table) bytes.now }
+    ensures memory { OnListMemory result (frame_fault bytes.now ≡ None) }
+{
+    marked(alloc, || VecLinkProtoInfoBridge::parse(alloc, bytes))
+}
+
+/// Bytes, and zeros behind them up to a size.
+pub(crate) fn expand(alloc: Global, got: &[u8], size: usize) -> Result<Vec<u8>, AllocError>
+    ensures { IfOk result (λ bytes. bytes.items ≡ got.now ++ replicate (size - length got.now) 0) }
+{
+    marked(alloc, || link::expand_buffer_if_small(alloc, got, size))
+}
+
+/// The limits of a CAN controller with this name.
+pub(crate) fn limits(alloc: Global, name: &str) -> Result<CanBitTimingConst, AllocError>
+    ensures { IfOk result (λ limits. limits_view limits ≡ limits_with name.now) }
+{
+    marked(alloc, || CanBitTimingConst::new(alloc, name))
+}
+
+/// Those of one without a name.
+pub(crate) fn no_limits(alloc: Global) -> CanBitTimingConst
+    ensures { limits_view result ≡ limits_with [] }
+{
+    marked(alloc, || CanBitTimingConst::empty(alloc))
+}
