@@ -1,23 +1,21 @@
 -- Lists of addresses, read and written in a loop.
-use Rattle.std.proofs.Common.{◌≡◌, ℕ, ◌+◌, ◌*◌, ◌≤◌, ◌<◌, zero, suc, List, [], ◌∷◌, ◌++◌, length, take, drop, get_or, map, Option, None, Ok, Err, refl, sym, ap, subst, ◌∙◌, arith, length-append}
+use Rattle.std.proofs.Common.{◌≡◌, ◌≢◌, ℕ, ◌+◌, ◌-◌, ◌*◌, ◌≤◌, ◌<◌, zero, suc, List, [], ◌∷◌, ◌++◌, length, take, drop, get_or, map, Some, Ok, Err, refl, sym, ap, subst, ◌∙◌, arith, length-append, length-drop}
 use Rattle.std.specs.Prelude.{◌==◌, IsTrue, nat_lt}
-use Rattle.std.proofs.lemmas.Bool.{ltb-true}
+use Rattle.std.proofs.lemmas.Bool.{ltb-true, eqb-true, cond_both}
 use Rattle.std.proofs.lemmas.List.{length-map, length-take, append-nil}
 use Rattle.std.proofs.lemmas.Grind.{flat_map-append}
 use Rattle.std.proofs.lemmas.List.Elements.{filter-append}
-use Rattle.std.proofs.Math.Nat.{suc-mul, mul-le-mul, mul-le-mul_right}
-use Rattle.link_base.specs.declared.fault.ListError.{ListError}
-use Rattle.link_base.specs.declared.fault.ListError.TheVariants as list_errors
+use Rattle.std.proofs.Math.Nat.{suc-mul, add-mul, mul-le-mul, mul-le-mul_right}
 use Rattle.link_base.specs.declared.fault.Cause.{Cause}
-use Rattle.link_base.specs.Frame.{BeginsWith, bare, frame_bytes, spelled, pad}
-use Rattle.link_base.specs.Walk.{Finds}
-use Rattle.link_base.specs.Wire.{Reading, whole}
-use Rattle.link_base.specs.Table.{Case, Content, Listed, Addresses, ListGives, PayloadGives, ShapeGives, of_length, addresses_from}
+use Rattle.link_base.specs.declared.fault.DecodeFault.TheVariants as faults
+use Rattle.link_base.specs.Frame.{BeginsWith, bare, frame_bytes, frame_fault, spelled, pad}
+use Rattle.link_base.specs.Wire.{whole}
+use Rattle.link_base.specs.Table.{Case, Listed, Addresses, PayloadGives, ShapeGives, of_length, addresses_from}
 use Rattle.link_base.specs.Addresses.{sized}
-use Rattle.link_base.specs.Answers.{Fails, ListFails, nested_error}
 use Rattle.link_base.proofs.Addresses.{length-whole}
+use Rattle.link_base.proofs.Begins.{Splits, splits, step_of}
 use Rattle.link_base.proofs.Emit.{one_more}
-use Rattle.link_base.proofs.TableReads.{ReadsTo, reads_none, reads_more, reads_all}
+use Rattle.link_base.proofs.Relays.{Underway, underway_none, underway_more, underway_all, ends_at_rest}
 
 -- ---- octets
 
@@ -30,34 +28,47 @@ sized_all (suc n) (b ∷ octets) e = ap (λ t. b ∷ t) (sized_all n octets (ome
 
 -- ---- reading
 
--- what was read so far: payloads, of which those of so many bytes are kept
-pub record Kept (n : ℕ) (s offsets : List ℕ) (fault : Option (ℕ × Cause)) (i : ℕ) (octets : List (List ℕ)) : Type 0 where
+-- what was read before the rest: payloads, of which those of so many bytes are kept
+pub record Kept (n : ℕ) (s rest : List ℕ) (octets : List (List ℕ)) : Type 0 where
+  pub count : ℕ
   pub payloads : List (List ℕ)
-  pub reads : ReadsTo PayloadGives s offsets fault i payloads
+  pub reads : Underway PayloadGives s count rest payloads
   pub kept : octets ≡ of_length n payloads
 
-pub kept_none : (n : ℕ) (s offsets : List ℕ) (fault : Option (ℕ × Cause)) (octets : List (List ℕ)) → Finds s offsets fault → octets ≡ [] → Kept n s offsets fault 0 octets
-kept_none n s offsets fault octets found none = record { payloads = []; reads = reads_none PayloadGives s offsets fault 0 [] found refl refl; kept = none }
+pub kept_none : (n : ℕ) (s : List ℕ) (octets : List (List ℕ)) → octets ≡ [] → Kept n s s octets
+kept_none n s octets none = record { count = 0; payloads = []; reads = underway_none PayloadGives s; kept = none }
 
 -- one element more
-pub kept_more : (n : ℕ) (s offsets : List ℕ) (fault : Option (ℕ × Cause)) (i : ℕ) (octets more : List (List ℕ)) (f : ℕ) (p : List ℕ) → Kept n s offsets fault i octets → i < length offsets
-    → BeginsWith (drop (get_or offsets i 0) s) (bare f p) → more ≡ octets ++ of_length n (p ∷ []) → Kept n s offsets fault (i + 1) more
-kept_more n s offsets fault i octets more f p h lt begins e = record {
+pub kept_more : (n : ℕ) (s rest next : List ℕ) (octets more : List (List ℕ)) (f : ℕ) (p : List ℕ) → Kept n s rest octets → rest ≢ [] → BeginsWith rest (bare f p) → next ≡ drop (step_of rest p) rest
+    → more ≡ octets ++ of_length n (p ∷ []) → Kept n s next more
+kept_more n s rest next octets more f p h some begins step e = record {
+  count = h.count + 1;
   payloads = h.payloads ++ p ∷ [];
-  reads = reads_more PayloadGives s offsets fault i h.payloads f p p h.reads lt begins refl;
+  reads = underway_more PayloadGives s h.count rest next h.payloads f p p h.reads some (subst (Splits rest f p) (sym step) (splits rest f p begins)) refl;
   kept = e ∙ ap (λ t. t ++ of_length n (p ∷ [])) h.kept ∙ sym (filter-append (λ q. length q == n) h.payloads (p ∷ []));
 }
 
 -- at the end
-pub kept_all : (n k : ℕ) (s offsets : List ℕ) (fault : Option (ℕ × Cause)) (i : ℕ) (octets : List (List ℕ)) → fault ≡ None → Kept n s offsets fault i octets → length offsets ≤ i
-    → ShapeGives (Addresses n) k s (Ok (Case k (Listed octets)))
-kept_all n k s offsets fault i octets none h end =
-    (Ok h.payloads, reads_all PayloadGives s offsets fault i h.payloads none h.reads end, ap (λ o. Ok (Case k (Listed o))) h.kept)
+pub kept_all : (n k : ℕ) (s rest : List ℕ) (octets : List (List ℕ)) → Kept n s rest octets → rest ≡ [] → ShapeGives (Addresses n) k s (Ok (Case k (Listed octets)))
+kept_all n k s rest octets h none = (Ok h.payloads, underway_all PayloadGives s h.count rest h.payloads h.reads none, ap (λ o. Ok (Case k (Listed o))) h.kept)
 
--- the first fault of a list is the fault of its attribute
-pub list_fails : {V : Type 0} (gives : Reading V) (content : List V → Content) (k : ℕ) (s : List ℕ) (e : ListError) → ListFails e gives s → Fails (nested_error k e) (ListGives gives content k s)
-list_fails gives content k s (list_errors.Memory e) h = tt
-list_fails gives content k s (list_errors.Fault at f) h = (Err (at, f), h, refl)
+-- the rest begins with no frame
+pub kept_fault : (n k : ℕ) (s rest : List ℕ) (octets : List (List ℕ)) (c : Cause) → Kept n s rest octets → rest ≢ [] → frame_fault rest ≡ Some c → ShapeGives (Addresses n) k s (Err (faults.NestedFrame k c))
+kept_fault n k s rest octets c h some bad =
+    let at = length s - length rest in
+    (Err (at, faults.Frame c), ends_at_rest PayloadGives s h.count rest h.payloads at c h.reads some refl bad, refl)
+
+-- an element that is kept has so many bytes and a header
+kept_size : (n : ℕ) (p : List ℕ) → length (of_length n (p ∷ [])) * (n + 4) ≤ 4 + length p
+kept_size n p = cond_both (length p == n) (p ∷ []) [] (λ t. length t * (n + 4) ≤ 4 + length p) (λ e. omega (arith, eqb-true (length p) n e)) (λ e. omega arith)
+
+-- so much of the bytes is left
+pub kept_low : (n len more : ℕ) (s rest next p : List ℕ) → len * (n + 4) + length rest ≤ length s → next ≡ drop (step_of rest p) rest → 4 + length p ≤ length rest
+    → more ≡ len + length (of_length n (p ∷ [])) → more * (n + 4) + length next ≤ length s
+kept_low n len more s rest next p low step front e =
+    let one = length (of_length n (p ∷ [])) in
+    let size : more * (n + 4) ≡ len * (n + 4) + one * (n + 4) = ap (λ m. m * (n + 4)) e ∙ add-mul len one (n + 4) in
+    omega (arith, size, kept_size n p, low, front, ap length step, length-drop (step_of rest p) rest)
 
 -- ---- writing
 

@@ -1,8 +1,8 @@
 -- A list that is written value by value, as it is read.
-use Rattle.std.proofs.Common.{◌≡◌, ◌≢◌, ℕ, false, true, ◌+◌, ◌-◌, ◌<◌, ◌≤◌, List, [], ◌∷◌, ◌++◌, length, take, drop, Option, Some, None, Ok, Err, refl, sym, ap, subst, ◌∙◌, arith, inl, inr, append_assoc}
+use Rattle.std.proofs.Common.{◌≡◌, ◌≢◌, ℕ, Bool, IsTrue, not, false, true, ◌+◌, ◌-◌, ◌<◌, ◌≤◌, List, [], ◌∷◌, ◌++◌, length, take, drop, Option, Some, None, Ok, Err, refl, sym, ap, subst, ◌∙◌, arith, inl, inr, append_assoc}
 use Rattle.std.specs.List.{AllByRecursion, AllZip}
-use Rattle.std.specs.Option.{is_some}
-use Rattle.std.proofs.lemmas.List.{append-nil, length-append, drop-drop}
+use Rattle.std.specs.Option.{is_some, option_or}
+use Rattle.std.proofs.lemmas.List.{append-nil, length-append, drop-drop, take-append-drop}
 use Rattle.std.proofs.lemmas.Grind.{flat_map-append}
 use Rattle.std.proofs.Math.Seq.{drop-append-add}
 use borrow.Rule.Slice.PartMut.{put_mid}
@@ -16,7 +16,7 @@ use Rattle.link_base.specs.Wire.{Reading, Wire, FirstFault, FrameGives}
 use Rattle.link_base.specs.Table.{Table, AttrValue, Gives, TakesMemory, Fits, written_payload, written_frame, written_list}
 use Rattle.link_base.specs.Lawful.{IsLawful}
 use Rattle.link_base.specs.Answers.{Fails, ListFails, OnMemory, OnListMemory, OverwritesFront, IsFirstUnfit, list_error}
-use Rattle.link_base.specs.Rewritten.{RewrittenInto, IsUnfitAt, NeedsMemory}
+use Rattle.link_base.specs.Rewritten.{RewrittenInto, IsUnfitAt, NeedsMemory, FrameWritten, FrameLeft}
 use Rattle.link_base.proofs.Fronts.{bytes-front}
 use Rattle.link_base.proofs.Begins.{Splits}
 use Rattle.link_base.proofs.Walking.{Counted, counted_none, front_none, counted_more, front_more, all_complete, are_frames, some_bytes}
@@ -126,13 +126,20 @@ behind_front old new text n e few =
     let place : length text + k ≡ n = omega (arith, few) in
     ap (λ i. drop i new) (sym place) ∙ ap (drop (length text + k)) e ∙ drop-append-add text (drop (length text) old) k ∙ drop-drop k (length text) old ∙ ap (λ i. drop i old) (omega (arith, few))
 
-pub none_of : (u : Option ℕ) → is_some u ≡ false → u ≡ None
-none_of None e = refl
-none_of (Some i) e = absurd cc
+-- a value is wanted where all before it fit, and only there
+pub none_of : (u : Option ℕ) (wanted : Bool) → is_some u ≡ not wanted → IsTrue wanted → u ≡ None
+none_of None wanted e want = refl
+none_of (Some i) wanted e want = absurd cc
 
-pub some_of : (u : Option ℕ) → is_some u ≡ true → u ≢ None
-some_of None e none = absurd cc
-some_of (Some i) e none = absurd cc
+is_wanted : (wanted : Bool) → false ≡ not wanted → IsTrue wanted
+is_wanted true e = refl
+is_wanted false e = absurd cc
+
+-- a part of a buffer that is as it was, put back
+pub put_back : (len : ℕ) (b sub : List ℕ) → sub ≡ take (length b - len) (drop len b) → put_mid len (length b - len) b sub ≡ b
+put_back len b sub same =
+    let n = length b - len in
+    ap (λ t. take len b ++ (t ++ drop n (drop len b))) same ∙ ap (λ t. take len b ++ t) (take-append-drop n (drop len b)) ∙ take-append-drop len b
 
 -- what is written so far, in the first bytes of a buffer
 pub record Wrote (vs : List AttrValue) (old new : List ℕ) (len : ℕ) (unfit : Option ℕ) (n : ℕ) : Type 0 where
@@ -140,12 +147,7 @@ pub record Wrote (vs : List AttrValue) (old new : List ℕ) (len : ℕ) (unfit :
   pub behind : drop n new ≡ drop n old
   pub low : len ≤ n
 
--- the next value is not written, since one before it does not fit
-pub wrote_before : (vs : List AttrValue) (v : AttrValue) (old new : List ℕ) (len n : ℕ) (unfit : Option ℕ) → unfit ≢ None → Wrote vs old new len unfit n → Wrote (vs ++ v ∷ []) old new len unfit n
-wrote_before vs v old new len n None some w = absurd (some refl)
-wrote_before vs v old new len n (Some i) some w = record { so_far = unfit_still vs v i w.so_far; behind = w.behind; low = w.low }
-
--- it does not fit
+-- the next value does not fit
 pub wrote_last : (vs : List AttrValue) (v : AttrValue) (old new : List ℕ) (len n i : ℕ) → Wrote vs old new len None n → i ≡ length vs → 65531 < length (written_payload v)
     → Wrote (vs ++ v ∷ []) old new len (Some i) n
 wrote_last vs v old new len n i w place long = record { so_far = unfit_next vs v i place w.so_far.0 long; behind = w.behind; low = w.low }
@@ -164,6 +166,38 @@ wrote_more vs v old b new sub len n more w fits room whole part put size =
       behind = behind_front old new (written_list (vs ++ v ∷ [])) n front (omega (arith, long, room));
       low = omega (arith, size, w.so_far.2, room);
     }
+
+-- ---- one more value
+
+-- one more value was read, and is written or left
+pub record Stepped (table : Table) (f : ℕ) (p : List ℕ) (vs : List AttrValue) (old new : List ℕ) (len : ℕ) (unfit : Option ℕ) (n : ℕ) : Type 0 where
+  pub value : AttrValue
+  pub given : Gives table f p (Ok value)
+  pub wrote : Wrote (vs ++ value ∷ []) old new len unfit n
+
+-- it is written behind those before
+pub step_written : (table : Table) (f : ℕ) (p : List ℕ) (wanted : Bool) (vs : List AttrValue) (old b out : List ℕ) (len n size : ℕ) (unfit : Option ℕ) → Wrote vs old b len unfit n → is_some unfit ≡ not wanted → n ≤ length old
+    → ((v : AttrValue) → Gives table f p (Ok v) → AllByRecursion Fits vs → Fits v → length (written_list vs) + length (written_frame v) ≤ n)
+    → FrameWritten table f p wanted (take (length b - len) (drop len b)) out size → Stepped table f p vs old (put_mid len (length b - len) b out) (len + size) unfit n
+step_written table f p wanted vs old b out len n size unfit w free whole room x =
+    let none : unfit ≡ None = none_of unfit wanted free x.is_wanted in
+    let before = subst (λ u. Wrote vs old b len u n) none w in
+    let wrote = wrote_more vs x.value old b (put_mid len (length b - len) b out) out len n (len + size) before x.fits (room x.value x.given before.so_far.0 x.fits) whole x.written refl (ap (λ m. len + m) x.len) in
+    record { value = x.value; given = x.given; wrote = subst (λ u. Wrote (vs ++ x.value ∷ []) old (put_mid len (length b - len) b out) (len + size) u n) (sym none) wrote }
+
+-- it is left: it is the first that does not fit, or one before it is
+pub step_left : (table : Table) (f : ℕ) (p : List ℕ) (wanted : Bool) (vs : List AttrValue) (old b out : List ℕ) (len n i : ℕ) (unfit : Option ℕ) → Wrote vs old b len unfit n → is_some unfit ≡ not wanted → i ≡ length vs
+    → FrameLeft table f p wanted (take (length b - len) (drop len b)) out → Stepped table f p vs old (put_mid len (length b - len) b out) len (option_or unfit (Some i)) n
+step_left table f p wanted vs old b out len n i None w free place x = record {
+  value = x.value;
+  given = x.given;
+  wrote = rw (put_back len b out x.same) (wrote_last vs x.value old b len n i w place (x.unfit (is_wanted wanted free)));
+}
+step_left table f p wanted vs old b out len n i (Some j) w free place x = record {
+  value = x.value;
+  given = x.given;
+  wrote = rw (put_back len b out x.same) record { so_far = unfit_still vs x.value j w.so_far; behind = w.behind; low = w.low };
+}
 
 -- ---- room
 

@@ -10,8 +10,8 @@ ghost use Rattle.link_base.specs.Class.{accepted, Exactly};
 ghost use Rattle.link_base.specs.Answers.{Answers, OnMemory, capped, payload_result, read_as};
 
 use crate::attribute::{Meaning, Nla};
+use crate::buffer::{NlaBuffer, cause_at_front};
 use crate::fault::{Cause, DecodeError, DecodeFault};
-use crate::frame_table::FrameTable;
 use std::alloc::Global;
 use std::net::{Ipv4Addr, Ipv6Addr};
 
@@ -152,31 +152,35 @@ pub fn read_addresses<A: Address>(
         (ShapeGives (Addresses A.SIZE) kind payload.now) }
     ensures memory { OnMemory result (frame_fault payload.now ≡ None) }
 {
-    let mut table = FrameTable::before_walk(alloc, payload);
-    if let Err(error) = table.find_frames() {
-        return Err(DecodeError::Memory(error));
+    if payload.is_empty() {
+        return Ok(Vec::new(alloc));
     }
-    let mut addresses = match Vec::with_capacity(alloc, table.len()) {
+    if let Some(cause) = cause_at_front(payload) {
+        return Err(DecodeError::Fault(DecodeFault::NestedFrame { kind, cause }));
+    }
+    let most = payload.len() / (A::SIZE + 4);
+    let mut addresses = match Vec::with_capacity(alloc, most) {
         Ok(addresses) => addresses,
         Err(error) => return Err(DecodeError::Memory(error)),
     };
-    for i in 0..table.len() {
-        keep(&mut addresses, table.frame(i).value());
-    }
-    match table.fault() {
-        Some((at, cause)) => {
-            let error = DecodeError::Fault(DecodeFault::Frame(cause));
-            Err(error.at(at).nested(kind))
+    let mut rest = payload;
+    while !rest.is_empty() {
+        if let Some(cause) = cause_at_front(rest) {
+            return Err(DecodeError::Fault(DecodeFault::NestedFrame { kind, cause }));
         }
-        None => Ok(addresses),
+        let frame = NlaBuffer::at_front(rest);
+        keep(&mut addresses, frame.value());
+        rest = frame.step_over(rest);
     }
+    Ok(addresses)
 }
 
+/// Pushes the address with this payload, where there is one.
 fn keep<A: Address>(addresses: &mut Vec<A>, payload: &[u8])
-    requires { vec_len addresses.old < vec_capacity addresses.old }
+    requires { vec_len addresses.old + length (of_length A.SIZE (payload.now ∷ [])) ≤ vec_capacity addresses.old }
     ensures kept { map A.octets addresses.new.items
         ≡ map A.octets addresses.old.items ++ of_length A.SIZE (payload.now ∷ []) }
-    ensures len { vec_len addresses.new ≤ vec_len addresses.old + 1 }
+    ensures len { vec_len addresses.new ≡ vec_len addresses.old + length (of_length A.SIZE (payload.now ∷ [])) }
     ensures room { vec_capacity addresses.new ≡ vec_capacity addresses.old }
 {
     if let Some(address) = A::from_payload(payload) {

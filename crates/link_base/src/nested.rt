@@ -50,6 +50,7 @@ pub fn read_nested<E: NestedAttribute>(
 }
 
 /// The bytes of a written nested list; `usize::MAX` where there are that many or more.
+#[inline(never)]
 pub fn nested_len<E: NestedAttribute>(values: &[E]) -> usize
     ensures { result ≡ capped (length (written_leaves (map E.leaf values.now))) }
 {
@@ -57,6 +58,7 @@ pub fn nested_len<E: NestedAttribute>(values: &[E]) -> usize
 }
 
 /// Writes a nested list of at most 65531 bytes into a buffer of exactly `nested_len` bytes.
+#[inline(never)]
 pub fn emit_nested<E: NestedAttribute>(values: &[E], buffer: &mut [u8])
     requires fits { length (written_leaves (map E.leaf values.now)) ≤ 65531 }
     requires exact { length buffer.old ≡ length (written_leaves (map E.leaf values.now)) }

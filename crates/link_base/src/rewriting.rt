@@ -2,8 +2,10 @@
 
 ghost use Rattle.std.specs.Prelude.{◌≡◌, ◌≤◌, length, drop};
 ghost use Rattle.link_base.specs.Frame.{pad};
-ghost use Rattle.link_base.specs.Answers.{OnListMemory};
-ghost use Rattle.link_base.specs.Rewritten.{RewritesInto, NeedsMemory};
+ghost use Rattle.link_base.specs.Table.{TakesMemory};
+ghost use Rattle.link_base.specs.Buffer.{kind_field_of, payload_of};
+ghost use Rattle.link_base.specs.Answers.{OnMemory, OnListMemory};
+ghost use Rattle.link_base.specs.Rewritten.{RewritesInto, NeedsMemory, HasRoom, PutsFrame};
 
 use crate::attribute::{Attribute, MAX_PAYLOAD};
 use crate::buffer::{NlaBuffer, cause_at_front};
@@ -36,18 +38,13 @@ pub fn rewrite_list<F: Attribute>(
             return Err(error.at(bytes.len() - rest.len()));
         }
         let frame = NlaBuffer::at_front(rest);
-        let value: F = match F::parse(alloc, &frame) {
-            Ok(value) => value,
+        let written = match rewrite_frame::<F>(alloc, &frame, unfit.is_none(), &mut buffer[len..]) {
+            Ok(written) => written,
             Err(error) => return Err(error.at(bytes.len() - rest.len())),
         };
-        if unfit.is_none() {
-            let size = value.value_len();
-            if size > MAX_PAYLOAD {
-                unfit = Some(place);
-            } else {
-                value.emit_sized(size, &mut buffer[len..]);
-                len += (size + 7) / 4 * 4;
-            }
+        match written {
+            Some(size) => len += size,
+            None => unfit = unfit.or(Some(place)),
         }
         place += 1;
         rest = frame.step_over(rest);
@@ -55,5 +52,36 @@ pub fn rewrite_list<F: Attribute>(
     match unfit {
         Some(place) => Ok(Err(place)),
         None => Ok(Ok(len)),
+    }
+}
+
+/// Reads the value of a frame and, where it is wanted and fits, writes it from its place to the front of the buffer.
+/// Answers how many bytes were written, or `None` where none were. Requires room for a value that is wanted and fits.
+///
+/// Fails as `Parseable::parse` does. Where nothing was written, the buffer is as it was.
+#[inline(always)]
+fn rewrite_frame<F: Attribute>(
+    alloc: Global,
+    frame: &NlaBuffer<'_>,
+    is_wanted: bool,
+    buffer: &mut [u8],
+) -> Result<Option<usize>, DecodeError>
+    requires { HasRoom F.table (kind_field_of frame.now) (payload_of frame.now) is_wanted buffer.old }
+    ensures answer { PutsFrame F.table (kind_field_of frame.now) (payload_of frame.now) is_wanted
+        buffer.old buffer.new result }
+    ensures memory { OnMemory result (TakesMemory F.table (kind_field_of frame.now)) }
+{
+    let mut place: Option<F> = None;
+    match F::parse_into(alloc, frame, &mut place) {
+        Ok(()) => {
+            let value = place.as_ref().unwrap();
+            let size = value.value_len();
+            if !is_wanted || size > MAX_PAYLOAD {
+                return Ok(None);
+            }
+            value.emit_sized(size, buffer);
+            Ok(Some((size + 7) / 4 * 4))
+        }
+        Err(error) => Err(error),
     }
 }

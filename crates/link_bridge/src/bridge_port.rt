@@ -564,49 +564,50 @@ impl Attribute for InfoBridgePort {
 
     fn canonical(buffer: &NlaBuffer<'_>) -> bool {
         match buffer.kind() {
-            IFLA_BRPORT_STATE | IFLA_BRPORT_MULTICAST_ROUTER => has_size(buffer, 1),
-            IFLA_BRPORT_PRIORITY
-            | IFLA_BRPORT_DESIGNATED_PORT
-            | IFLA_BRPORT_DESIGNATED_COST
-            | IFLA_BRPORT_ID
-            | IFLA_BRPORT_NO
-            | IFLA_BRPORT_GROUP_FWD_MASK => has_size(buffer, 2),
-            IFLA_BRPORT_COST
-            | IFLA_BRPORT_BACKUP_PORT
-            | IFLA_BRPORT_MCAST_EHT_HOSTS_LIMIT
-            | IFLA_BRPORT_MCAST_EHT_HOSTS_CNT
-            | IFLA_BRPORT_MCAST_N_GROUPS
-            | IFLA_BRPORT_MCAST_MAX_GROUPS
-            | IFLA_BRPORT_BACKUP_NHID => has_size(buffer, 4),
-            IFLA_BRPORT_MODE
-            | IFLA_BRPORT_GUARD
-            | IFLA_BRPORT_PROTECT
-            | IFLA_BRPORT_FAST_LEAVE
-            | IFLA_BRPORT_LEARNING
-            | IFLA_BRPORT_UNICAST_FLOOD
-            | IFLA_BRPORT_PROXYARP
-            | IFLA_BRPORT_LEARNING_SYNC
-            | IFLA_BRPORT_PROXYARP_WIFI
-            | IFLA_BRPORT_TOPOLOGY_CHANGE_ACK
-            | IFLA_BRPORT_CONFIG_PENDING
-            | IFLA_BRPORT_MCAST_FLOOD
-            | IFLA_BRPORT_MCAST_TO_UCAST
-            | IFLA_BRPORT_VLAN_TUNNEL
-            | IFLA_BRPORT_BCAST_FLOOD
-            | IFLA_BRPORT_NEIGH_SUPPRESS
-            | IFLA_BRPORT_ISOLATED
-            | IFLA_BRPORT_MRP_RING_OPEN
-            | IFLA_BRPORT_MRP_IN_OPEN
-            | IFLA_BRPORT_LOCKED
-            | IFLA_BRPORT_MAB
-            | IFLA_BRPORT_NEIGH_VLAN_SUPPRESS
-            | IFLA_BRPORT_NEIGH_FORWARD_GRAT => is_truth(buffer),
-            IFLA_BRPORT_ROOT_ID
-            | IFLA_BRPORT_BRIDGE_ID
-            | IFLA_BRPORT_MESSAGE_AGE_TIMER
-            | IFLA_BRPORT_FORWARD_DELAY_TIMER
-            | IFLA_BRPORT_HOLD_TIMER => has_size(buffer, 8),
+            IFLA_BRPORT_STATE => has_size(buffer, 1),
+            IFLA_BRPORT_PRIORITY => has_size(buffer, 2),
+            IFLA_BRPORT_COST => has_size(buffer, 4),
+            IFLA_BRPORT_MODE => is_truth(buffer),
+            IFLA_BRPORT_GUARD => is_truth(buffer),
+            IFLA_BRPORT_PROTECT => is_truth(buffer),
+            IFLA_BRPORT_FAST_LEAVE => is_truth(buffer),
+            IFLA_BRPORT_LEARNING => is_truth(buffer),
+            IFLA_BRPORT_UNICAST_FLOOD => is_truth(buffer),
+            IFLA_BRPORT_PROXYARP => is_truth(buffer),
+            IFLA_BRPORT_LEARNING_SYNC => is_truth(buffer),
+            IFLA_BRPORT_PROXYARP_WIFI => is_truth(buffer),
+            IFLA_BRPORT_ROOT_ID => has_size(buffer, 8),
+            IFLA_BRPORT_BRIDGE_ID => has_size(buffer, 8),
+            IFLA_BRPORT_DESIGNATED_PORT => has_size(buffer, 2),
+            IFLA_BRPORT_DESIGNATED_COST => has_size(buffer, 2),
+            IFLA_BRPORT_ID => has_size(buffer, 2),
+            IFLA_BRPORT_NO => has_size(buffer, 2),
+            IFLA_BRPORT_TOPOLOGY_CHANGE_ACK => is_truth(buffer),
+            IFLA_BRPORT_CONFIG_PENDING => is_truth(buffer),
+            IFLA_BRPORT_MESSAGE_AGE_TIMER => has_size(buffer, 8),
+            IFLA_BRPORT_FORWARD_DELAY_TIMER => has_size(buffer, 8),
+            IFLA_BRPORT_HOLD_TIMER => has_size(buffer, 8),
             IFLA_BRPORT_FLUSH => is_void(buffer),
+            IFLA_BRPORT_MULTICAST_ROUTER => has_size(buffer, 1),
+            IFLA_BRPORT_MCAST_FLOOD => is_truth(buffer),
+            IFLA_BRPORT_MCAST_TO_UCAST => is_truth(buffer),
+            IFLA_BRPORT_VLAN_TUNNEL => is_truth(buffer),
+            IFLA_BRPORT_BCAST_FLOOD => is_truth(buffer),
+            IFLA_BRPORT_GROUP_FWD_MASK => has_size(buffer, 2),
+            IFLA_BRPORT_NEIGH_SUPPRESS => is_truth(buffer),
+            IFLA_BRPORT_ISOLATED => is_truth(buffer),
+            IFLA_BRPORT_BACKUP_PORT => has_size(buffer, 4),
+            IFLA_BRPORT_MRP_RING_OPEN => is_truth(buffer),
+            IFLA_BRPORT_MRP_IN_OPEN => is_truth(buffer),
+            IFLA_BRPORT_MCAST_EHT_HOSTS_LIMIT => has_size(buffer, 4),
+            IFLA_BRPORT_MCAST_EHT_HOSTS_CNT => has_size(buffer, 4),
+            IFLA_BRPORT_LOCKED => is_truth(buffer),
+            IFLA_BRPORT_MAB => is_truth(buffer),
+            IFLA_BRPORT_MCAST_N_GROUPS => has_size(buffer, 4),
+            IFLA_BRPORT_MCAST_MAX_GROUPS => has_size(buffer, 4),
+            IFLA_BRPORT_NEIGH_VLAN_SUPPRESS => is_truth(buffer),
+            IFLA_BRPORT_BACKUP_NHID => has_size(buffer, 4),
+            IFLA_BRPORT_NEIGH_FORWARD_GRAT => is_truth(buffer),
             _ => true,
         }
     }

@@ -117,6 +117,7 @@ impl CanBitTimingConst {
         })
     }
 
+    #[inline(never)]
     pub(crate) fn emit(&self, buffer: &mut [u8])
         requires { 48 ≤ length buffer.old }
         ensures written { OverwritesFront buffer.old buffer.new (written (limits_value self.now)) }

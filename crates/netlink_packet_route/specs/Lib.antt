@@ -1,4 +1,5 @@
 pub mod Family
+pub mod Count
 pub mod Rewrite
 pub mod Report
 -- what the contracts of `link` speak of

@@ -1,9 +1,11 @@
 -- What a rewriting answers.
-use Rattle.std.specs.Prelude.{◌≡◌, ℕ, List, map, Result, Ok, Err}
+use Rattle.std.specs.Prelude.{◌≡◌, ◌↔◌, ℕ, ◌<◌, ◌≤◌, List, map, length, Option, Some, None, Result, Ok, Err}
 use Rattle.std.specs.Global.{Vec}
 use Rattle.std.specs.List.{AllByRecursion}
 use Rattle.link_base.specs.Wire.{Wire, FirstFault}
 use Rattle.link_base.specs.Table.{Table, AttrValue, Gives, Canonical, Rewriting, Fits, written_list, cut}
+use Rattle.link_base.specs.Answers.{OverwritesFront}
+use Rattle.link_base.specs.Frame.{pad}
 use Rattle.link_base.specs.Rewritten.{IsUnfitAt, RewrittenInto}
 use Rattle.netlink_packet_route.specs.declared.rewriting.RewriteError.{RewriteError}
 use Rattle.netlink_packet_route.specs.declared.rewriting.RewriteError.TheVariants as errors
@@ -53,3 +55,44 @@ pub record Settles (table : Table) (t : List ℕ) : Type 0 where
   pub canonical : Canonical table second
   pub own : Rewriting table second second
   pub only : (w : List ℕ) → Rewriting table second w → w ≡ second
+
+-- t is what `rewrite` answers for s: the rewriting, and what holds of every rewriting
+pub record IsRewritten (table : Table) (s t : List ℕ) : Type 0 where
+  pub rewriting : Rewriting table s t
+  pub same : (t ≡ s) ↔ Canonical table s
+  pub no_longer : length t ≤ pad (length s)
+  pub back : ReadsBack table s t
+  pub settles : Settles table t
+
+-- these bytes stand in front of a lent buffer, which holds them and is as before behind them; there are so many
+pub record StandsInFront (old new text : List ℕ) (n : ℕ) : Type 0 where
+  pub count : n ≡ length text
+  pub room : length text ≤ length old
+  pub written : OverwritesFront old new text
+
+-- the rewriting stands in front
+pub record Rewrites (table : Table) (s old new : List ℕ) (n : ℕ) : Type 0 where
+  pub text : List ℕ
+  pub is : IsRewritten table s text
+  pub put : StandsInFront old new text n
+
+-- the rewriting has more bytes than there is room for
+pub record HasNoRoom (table : Table) (s : List ℕ) (room : ℕ) : Type 0 where
+  pub text : List ℕ
+  pub is : IsRewritten table s text
+  pub more : room < length text
+
+-- the rewriting, in front of a lent buffer; or that there is no room for it; or the first fault; or the first value that
+-- does not fit
+abbrev pub RewriteToAnswers : Table → List ℕ → List ℕ → List ℕ → Result (Option ℕ) RewriteError → Type 0
+RewriteToAnswers table s old new (Ok (Some n)) = Rewrites table s old new n
+RewriteToAnswers table s old new (Ok None) = HasNoRoom table s (length old)
+RewriteToAnswers table s old new (Err (errors.Fault at fault)) = FirstFault (Gives table) s at fault
+RewriteToAnswers table s old new (Err (errors.TooLong i)) = IsUnfitAt table s i
+RewriteToAnswers table s old new (Err (errors.Memory e)) = Unit {0}
+
+-- the fact holds where nothing was written
+abbrev pub UnlessWritten : Result (Option ℕ) RewriteError → Type 0 → Type 0
+UnlessWritten (Ok (Some n)) P = Unit {0}
+UnlessWritten (Ok None) P = P
+UnlessWritten (Err e) P = P

@@ -2,6 +2,7 @@
 //! types and the calls for one attribute or a list are in [`link`].
 #![tactic(auto)]
 
+mod counting;
 mod family;
 mod judging;
 pub mod laws;
@@ -9,11 +10,14 @@ pub mod link;
 mod reporting;
 mod rewriting;
 mod rewriting_into;
+mod rewriting_to;
 #[cfg(test)]
 mod tests;
 
+pub use counting::count_values;
 pub use family::Family;
 pub use judging::{first_not_canonical, is_canonical};
 pub use reporting::{MOST_TEXT, report};
 pub use rewriting::{RewriteError, rewrite};
 pub use rewriting_into::rewrite_into;
+pub use rewriting_to::rewrite_to;

@@ -19,6 +19,7 @@ use std::alloc::Global;
 ///
 /// Fails as `rewrite` does, but with `Memory` only for a value that is held in memory of its own. Then the buffer's
 /// front, as far as the bytes reach, rounded up to four, may have changed.
+#[inline(always)]
 pub fn rewrite_into(
     alloc: Global,
     family: Family,
@@ -38,6 +39,7 @@ pub fn rewrite_into(
     by_family!(family, rewrite_into_as(alloc, bytes, buffer))
 }
 
+#[inline(never)]
 fn rewrite_into_as<F: Attribute>(
     alloc: Global,
     bytes: &[u8],

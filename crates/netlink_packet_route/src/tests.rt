@@ -1,6 +1,7 @@
 //! What no clause says: worked bytes and texts, and calls that succeed.
 
 mod canonical;
+mod counts;
 mod flags;
 mod frames;
 mod laws;
@@ -12,6 +13,7 @@ mod prefixes;
 mod records;
 mod reports;
 mod rewritings;
+mod room;
 mod surface;
 mod tables;
 mod texts;

@@ -1,50 +1,24 @@
 -- What the answers of the calls rest on.
-use Rattle.std.proofs.Common.{◌≡◌, ◌↔◌, ℕ, ℤ, ◌<◌, ◌≤◌, List, [], ◌∷◌, length, take, drop, Result, Ok, Err, refl, sym, ap, subst, ◌∙◌, arith, to_z, of_z, w64, SFits}
+use Rattle.std.proofs.Common.{◌≡◌, ◌↔◌, ℕ, ℤ, ◌<◌, ◌≤◌, List, length, take, drop, Option, None, Result, Ok, Err, refl, sym, ap, subst, ◌∙◌, arith, to_z, of_z, w64, SFits}
 use Rattle.std.specs.Prelude.{IfOk, IfErr}
-use Rattle.std.specs.List.{AllZip, AllByRecursion}
-use Rattle.std.proofs.lemmas.List.{length-append, take_at}
+use Rattle.std.proofs.lemmas.List.{take_at}
 use Rattle.std.proofs.lemmas.Int.{to_z-of_z}
-use Rattle.link_base.specs.Number.{IsBytes}
-use Rattle.link_base.specs.Frame.{Frame, frame_bytes, spelled, pad}
-use Rattle.link_base.specs.declared.fault.DecodeFault.{DecodeFault}
-use Rattle.link_base.specs.Wire.{Reading, FrameGives, Wire, FirstFault}
-use Rattle.link_base.specs.Table.{Table, AttrValue, Gives, Fits, Canonical, written_list}
-use Rattle.link_base.specs.Answers.{OverwritesFront}
-use Rattle.link_base.specs.Rewritten.{RewrittenInto, IsUnfitAt}
-use Rattle.link_base.proofs.Emit.{not_all_fit}
-use Rattle.link_base.specs.Lawful.{IsLawful}
-use Rattle.link_base.proofs.Fronts.{length-frame_bytes}
+use Rattle.netlink_packet_route.specs.Frame.{pad, frame_fault}
+use Rattle.netlink_packet_route.specs.declared.link.DecodeFault.{DecodeFault}
+use Rattle.netlink_packet_route.specs.Wire.{FirstFault}
+use Rattle.netlink_packet_route.specs.Table.{Table, Gives, Canonical}
+use Rattle.netlink_packet_route.specs.Answers.{OverwritesFront}
+use Rattle.netlink_packet_route.specs.Rewritten.{RewrittenInto, NeedsMemory}
 use Rattle.netlink_packet_route.specs.declared.family.Family.{Family}
 use Rattle.netlink_packet_route.specs.Family.{table_of}
-use Rattle.netlink_packet_route.specs.Rewrite.{ReadsBack, Settles}
+use Rattle.netlink_packet_route.specs.Rewrite.{ReadsBack, Settles, Rewrites, StandsInFront, OnRewriteMemory, RewriteToAnswers, RewriteIntoAnswers}
+use Rattle.netlink_packet_route.specs.declared.rewriting.RewriteError.{RewriteError}
+use Rattle.netlink_packet_route.specs.declared.rewriting.RewriteError.TheVariants as errors
 use Rattle.netlink_packet_route.proofs.Rewritten as facade
 use Rattle.nlroute_ffi.specs.declared.refusal.Refusal.{Refusal}
 use Rattle.nlroute_ffi.specs.declared.refusal.Refusal.TheVariants.{Fault, TooLong, Memory, NoRoom, NoFamily}
 use Rattle.nlroute_ffi.specs.Numbers.{family_number, code_of, fault_numbers}
-use Rattle.nlroute_ffi.specs.Calls.{AnswersFor, Known, IsRewritten, IsUnfit, Rewrites, StandsInFront, First, FaultAnswers}
-
--- a string has no more values than bytes
-no_more : {V : Type 0} (gives : Reading V) (xs : List Frame) (vs : List V) → AllZip (λ x v. FrameGives gives x (Ok v)) xs vs → length vs ≤ length (spelled xs)
-no_more gives [] [] read = omega arith
-no_more gives [] (v ∷ vs) read = absurd read
-no_more gives (x ∷ xs) [] read = absurd read
-no_more gives (x ∷ xs) (v ∷ vs) read = omega (arith, no_more gives xs vs read.1, length-append (frame_bytes x) (spelled xs), length-frame_bytes x)
-
-pub no_more_values : {V : Type 0} (gives : Reading V) (s : List ℕ) (vs : List V) → Wire gives s vs → length vs ≤ length s
-no_more_values gives s vs w = omega (arith, ap length w.string.string, no_more gives w.frames vs w.values)
-
--- what is written for values that were read and all fit
-pub rewritten : {table : Table} (law : IsLawful table) (s : List ℕ) (hs : IsBytes s) (vs : List AttrValue) → Wire (Gives table) s vs → AllByRecursion Fits vs → IsRewritten table s (written_list vs)
-rewritten law s hs vs w fit =
-    let t = written_list vs in
-    let r = facade.rewriting (record { wire = w; fit = fit; written = refl }) in
-    record {
-      rewriting = r;
-      same = facade.same_iff law s hs t r;
-      no_longer = facade.no_longer law s hs t r;
-      back = facade.back law s hs t r;
-      settles = facade.settles law s hs t r;
-    }
+use Rattle.nlroute_ffi.specs.Calls.{AnswersFor, Known, First, FaultAnswers, RewriteAnswers, IntoAnswers, refusal_of}
 
 -- what `rewrite_into` says of what it wrote
 pub in_front : {table : Table} (s old new : List ℕ) (n : ℕ) → RewrittenInto table s old new n → ((take n new ≡ s) ↔ Canonical table s) → n ≤ pad (length s) → ReadsBack table s (take n new) → Settles table (take n new)
@@ -58,9 +32,16 @@ in_front s old new n r same few back settles room =
       put = record { count = len; room = omega (arith, few, len, room); written = subst (OverwritesFront old new) (sym front) r.written };
     }
 
--- a value does not fit
-pub is_unfit : (table : Table) (s : List ℕ) (i : ℕ) → IsUnfitAt table s i → IsUnfit table s
-is_unfit table s i (vs, wire, unfit) = (vs, wire, not_all_fit vs _ unfit)
+-- why a list is not rewritten
+pub refused_to : (table : Table) (s old new : List ℕ) (e : RewriteError) → RewriteToAnswers table s old new (Err e) → OnRewriteMemory {X = Option ℕ} (Err e) (frame_fault s ≡ None) → RewriteAnswers s old new table (Err (refusal_of e))
+refused_to table s old new (errors.Fault at fault) why memory = (at, fault, why)
+refused_to table s old new (errors.TooLong i) why memory = (i, why)
+refused_to table s old new (errors.Memory e) why memory = memory
+
+pub refused_into : (table : Table) (s old new : List ℕ) (e : RewriteError) → RewriteIntoAnswers table s old new (Err e) → OnRewriteMemory {X = ℕ} (Err e) (NeedsMemory table s) → IntoAnswers s old new table (Err (refusal_of e))
+refused_into table s old new (errors.Fault at fault) why memory = (at, fault, why)
+refused_into table s old new (errors.TooLong i) why memory = (i, why)
+refused_into table s old new (errors.Memory e) why memory = memory
 
 -- the answer to a family's number
 pub known : (number : ℕ) (says : Table → Result ℕ Refusal → Type 0) (family : Family) (result : Result ℕ Refusal) (answer : ℤ) → number ≡ family_number family → says (table_of family) result → SFits w64 answer

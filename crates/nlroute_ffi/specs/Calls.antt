@@ -1,15 +1,15 @@
 -- What the calls answer, and what they leave in the lent buffers.
 use Rattle.std.specs.Prelude.{◌≡◌, ◌≢◌, ◌↔◌, ℕ, ℤ, ◌<◌, ◌≤◌, List, length, None, Result, Ok, Err}
-use Rattle.std.specs.List.{AllByRecursion}
 use Rattle.netlink_packet_route.specs.declared.link.DecodeFault.{DecodeFault}
 use Rattle.netlink_packet_route.specs.Frame.{pad, frame_fault}
 use Rattle.netlink_packet_route.specs.Wire.{Wire, FirstFault}
-use Rattle.netlink_packet_route.specs.Table.{Table, AttrValue, Gives, Fits, Canonical, Rewriting}
-use Rattle.netlink_packet_route.specs.Answers.{OverwritesFront}
-use Rattle.netlink_packet_route.specs.Rewritten.{NeedsMemory}
+use Rattle.netlink_packet_route.specs.Table.{Table, AttrValue, Gives, Canonical}
+use Rattle.netlink_packet_route.specs.Rewritten.{IsUnfitAt, NeedsMemory}
 use Rattle.netlink_packet_route.specs.declared.family.Family.{Family}
+use Rattle.netlink_packet_route.specs.declared.rewriting.RewriteError.{RewriteError}
+use Rattle.netlink_packet_route.specs.declared.rewriting.RewriteError.TheVariants as errors
 use Rattle.netlink_packet_route.specs.Family.{table_of}
-use Rattle.netlink_packet_route.specs.Rewrite.{ReadsBack, Settles}
+use Rattle.netlink_packet_route.specs.Rewrite.{StandsInFront, Rewrites, HasNoRoom}
 use Rattle.netlink_packet_route.specs.Report.{Reports}
 use Rattle.nlroute_ffi.specs.declared.refusal.Refusal.{Refusal}
 use Rattle.nlroute_ffi.specs.declared.refusal.Refusal.TheVariants.{Fault, TooLong, Memory, NoRoom, NoFamily}
@@ -44,35 +44,15 @@ CanonicalAnswers s table (Err refusal) = ⊥
 
 -- ---- rewriting
 
--- t is what `rewrite` answers for s: the rewriting, and what holds of every rewriting
-pub record IsRewritten (table : Table) (s t : List ℕ) : Type 0 where
-  pub rewriting : Rewriting table s t
-  pub same : (t ≡ s) ↔ Canonical table s
-  pub no_longer : length t ≤ pad (length s)
-  pub back : ReadsBack table s t
-  pub settles : Settles table t
-
--- these bytes stand in front of a lent buffer, which holds them and is as before behind them; there are so many
-pub record StandsInFront (old new text : List ℕ) (n : ℕ) : Type 0 where
-  pub count : n ≡ length text
-  pub room : length text ≤ length old
-  pub written : OverwritesFront old new text
-
 -- the values were read, and one of them does not fit
 abbrev pub IsUnfit : Table → List ℕ → Type 0
-IsUnfit table s = (vs : List AttrValue) × Wire (Gives table) s vs × ¬ AllByRecursion Fits vs
+IsUnfit table s = (i : ℕ) × IsUnfitAt table s i
 
--- the rewriting stands in front
-pub record Rewrites (table : Table) (s old new : List ℕ) (n : ℕ) : Type 0 where
-  pub text : List ℕ
-  pub is : IsRewritten table s text
-  pub put : StandsInFront old new text n
-
--- the rewriting has more bytes than there is room for
-pub record HasNoRoom (table : Table) (s : List ℕ) (room : ℕ) : Type 0 where
-  pub text : List ℕ
-  pub is : IsRewritten table s text
-  pub more : room < length text
+-- why a list is not rewritten
+abbrev pub refusal_of : RewriteError → Refusal
+refusal_of (errors.Fault at fault) = Fault
+refusal_of (errors.TooLong i) = TooLong
+refusal_of (errors.Memory e) = Memory
 
 -- the rewriting stands in front; or why it does not
 abbrev pub RewriteAnswers : List ℕ → List ℕ → List ℕ → Table → Result ℕ Refusal → Type 0

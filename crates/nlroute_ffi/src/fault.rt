@@ -2,12 +2,13 @@
 
 ghost use Rattle.std.specs.Prelude.{◌≡◌, [], ◌∷◌, ◌<◌, length, IfOk, IfErr, OnErr};
 ghost use Rattle.netlink_packet_route.specs.Family.{table_of};
+ghost use Rattle.netlink_packet_route.specs.Rewrite.{StandsInFront};
 ghost use Rattle.nlroute_ffi.specs.Numbers.{cause_numbers, fault_numbers};
-ghost use Rattle.nlroute_ffi.specs.Calls.{FaultAnswers, StandsInFront};
+ghost use Rattle.nlroute_ffi.specs.Calls.{FaultAnswers};
 
 use crate::refusal::Refusal;
-use netlink_packet_route::link::{Attribute, Cause, DecodeFault, ListError, read_list};
-use netlink_packet_route::{Family, by_family};
+use netlink_packet_route::link::{Cause, DecodeFault, ListError};
+use netlink_packet_route::{Family, count_values};
 use std::alloc::Global;
 
 /// Puts the numbers of the first fault of a list to the front of a lent array. Answers how many: 0 where there is no
@@ -21,18 +22,7 @@ pub(crate) fn first_fault(
     ensures answer { FaultAnswers bytes.now numbers.old numbers.new (table_of family) result }
     ensures unchanged { OnErr result (numbers.new ≡ numbers.old) }
 {
-    by_family!(family, first_fault_as(alloc, bytes, numbers))
-}
-
-fn first_fault_as<F: Attribute>(
-    alloc: Global,
-    bytes: &[u8],
-    numbers: &mut [u64],
-) -> Result<usize, Refusal>
-    ensures answer { FaultAnswers bytes.now numbers.old numbers.new F.table result }
-    ensures unchanged { OnErr result (numbers.new ≡ numbers.old) }
-{
-    let (at, fault) = match read_list::<F>(alloc, bytes) {
+    let (at, fault) = match count_values(alloc, family, bytes) {
         Ok(_) => return Ok(0),
         Err(ListError::Fault { at, fault }) => (at, fault),
         Err(ListError::Memory(_)) => return Err(Refusal::Memory),

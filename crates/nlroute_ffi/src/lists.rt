@@ -7,10 +7,9 @@ ghost use Rattle.netlink_packet_route.specs.Family.{table_of};
 ghost use Rattle.nlroute_ffi.specs.Calls.{ReadAnswers, RewriteAnswers, IntoAnswers};
 ghost use Rattle.nlroute_ffi.specs.declared.refusal.Refusal.TheVariants.{NoRoom};
 
-use crate::refusal::Refusal;
-use link_base::measure_list;
-use netlink_packet_route::link::{Attribute, ListError, emit_list, read_list};
-use netlink_packet_route::{Family, RewriteError, by_family, is_canonical, rewrite_into};
+use crate::refusal::{Refusal, refused_by};
+use netlink_packet_route::link::ListError;
+use netlink_packet_route::{Family, count_values, is_canonical, rewrite_into, rewrite_to};
 use std::alloc::Global;
 
 /// How many values a list has.
@@ -18,15 +17,8 @@ pub(crate) fn count(alloc: Global, family: Family, bytes: &[u8]) -> Result<usize
     ensures answer { ReadAnswers bytes.now (table_of family) result }
     ensures bounded { IfOk result (λ n. n ≤ length bytes.now) }
 {
-    by_family!(family, count_as(alloc, bytes))
-}
-
-fn count_as<F: Attribute>(alloc: Global, bytes: &[u8]) -> Result<usize, Refusal>
-    ensures answer { ReadAnswers bytes.now F.table result }
-    ensures bounded { IfOk result (λ n. n ≤ length bytes.now) }
-{
-    match read_list::<F>(alloc, bytes) {
-        Ok(values) => Ok(values.len()),
+    match count_values(alloc, family, bytes) {
+        Ok(count) => Ok(count),
         Err(ListError::Fault { .. }) => Err(Refusal::Fault),
         Err(ListError::Memory(_)) => Err(Refusal::Memory),
     }
@@ -49,27 +41,11 @@ pub(crate) fn rewrite(
     ensures answer { RewriteAnswers bytes.now out.old out.new (table_of family) result }
     ensures unchanged { OnErr result (out.new ≡ out.old) }
 {
-    by_family!(family, rewrite_as(alloc, bytes, out))
-}
-
-fn rewrite_as<F: Attribute>(alloc: Global, bytes: &[u8], out: &mut [u8]) -> Result<usize, Refusal>
-    ensures answer { RewriteAnswers bytes.now out.old out.new F.table result }
-    ensures unchanged { OnErr result (out.new ≡ out.old) }
-{
-    let values: Vec<F> = match read_list(alloc, bytes) {
-        Ok(values) => values,
-        Err(ListError::Fault { .. }) => return Err(Refusal::Fault),
-        Err(ListError::Memory(_)) => return Err(Refusal::Memory),
-    };
-    let count = match measure_list(&values) {
-        Ok(count) => count,
-        Err(_) => return Err(Refusal::TooLong),
-    };
-    if count > out.len() {
-        return Err(Refusal::NoRoom);
+    match rewrite_to(alloc, family, bytes, out) {
+        Ok(Some(count)) => Ok(count),
+        Ok(None) => Err(Refusal::NoRoom),
+        Err(error) => Err(refused_by(error)),
     }
-    emit_list(&values, out);
-    Ok(count)
 }
 
 /// Reads a list and writes each of its values to the front of a lent buffer before it reads the next. Answers how many
@@ -89,8 +65,6 @@ pub(crate) fn rewrite_each(
     }
     match rewrite_into(alloc, family, bytes, out) {
         Ok(count) => Ok(count),
-        Err(RewriteError::Fault { .. }) => Err(Refusal::Fault),
-        Err(RewriteError::TooLong { .. }) => Err(Refusal::TooLong),
-        Err(RewriteError::Memory(_)) => Err(Refusal::Memory),
+        Err(error) => Err(refused_by(error)),
     }
 }

@@ -3,6 +3,9 @@
 ghost use Rattle.std.specs.Prelude.{◌≡◌, ◌<◌, ◌^◌};
 ghost use Rattle.std.specs.Result.{ForOk};
 ghost use Rattle.nlroute_ffi.specs.Numbers.{code_of};
+ghost use Rattle.nlroute_ffi.specs.Calls.{refusal_of};
+
+use netlink_packet_route::RewriteError;
 
 /// Why a call answers no length and no count.
 #[derive(Clone, Copy)]
@@ -17,6 +20,17 @@ pub enum Refusal {
     NoRoom,
     /// No family has the number.
     NoFamily,
+}
+
+/// Why a list is not rewritten.
+pub(crate) fn refused_by(error: RewriteError) -> Refusal
+    ensures { result ≡ refusal_of error }
+{
+    match error {
+        RewriteError::Fault { .. } => Refusal::Fault,
+        RewriteError::TooLong { .. } => Refusal::TooLong,
+        RewriteError::Memory(_) => Refusal::Memory,
+    }
 }
 
 /// The answer to a caller: a length or a count, or a number below zero.

@@ -1,14 +1,16 @@
-use Rattle.std.proofs.Common.{◌≡◌, ◌≢◌, length, drop, ◌+◌, ◌-◌, None, [], ◌∷◌, ◌++◌, refl, sym, ap, subst, ◌∙◌, arith}
+use Rattle.std.proofs.Common.{◌≡◌, ◌≢◌, ◌≤◌, ℕ, length, take, drop, ◌+◌, ◌-◌, Option, Ok, [], ◌∷◌, ◌++◌, refl, sym, ap, subst, ◌∙◌, arith}
+use Rattle.std.specs.List.{AllByRecursion}
 use Rattle.std.proofs.lemmas.Grind.{common_steps}
 use Rattle.std.proofs.lemmas.List.{length-append, length-take, length-drop}
+use borrow.Rule.Slice.PartMut.{put_mid}
 use Rattle.link_base.specs.Frame.{pad, frame_bytes}
 use Rattle.link_base.specs.Buffer.{kind_field_of, payload_of, frame_of}
-use Rattle.link_base.specs.Table.{Gives, Fits, written_kind, written_payload}
+use Rattle.link_base.specs.Table.{AttrValue, Gives, Fits, written_frame, written_list}
+use Rattle.link_base.specs.Rewritten.{PutsFrame}
 use Rattle.link_base.proofs.Numbers.{IsBytes-index}
 use Rattle.link_base.proofs.Begins.{Splits, splits, step_of}
-use Rattle.link_base.proofs.Emit.{length-whole_bytes}
-use Rattle.link_base.proofs.Relays.{underway_none, underway_more, ends_at_rest, ends_at_next, needs_memory, wrote_before, wrote_last, wrote_more, none_of, some_of, room_next, into_all, into_unfit, Wrote, SoFar}
-use Rattle.link_base.proofs.rewriting.rewrite_list.Goals.{then-is_none+then-size-gt-MAX_PAYLOAD, then-is_none+else-size-gt-MAX_PAYLOAD, else-is_none}
+use Rattle.link_base.proofs.Relays.{underway_none, underway_more, ends_at_rest, ends_at_next, needs_memory, put_back, none_of, room_next, step_written, step_left, into_all, into_unfit, SoFar, Stepped}
+use Rattle.link_base.proofs.rewriting.rewrite_list.Goals.{in-None, in-Some-written}
 use Rattle.link_base.proofs.rewriting.rewrite_list.Goals as goal
 
 pub loop-rest-init : goal.loop-rest-init
@@ -41,10 +43,10 @@ returns-in-Err-clause-answer g c =
     let b = c.at_front-frame.result in
     let some : c.loop-rest.rest.now ≢ [] = λ e. grind (arith, common_steps) in
     rw c.at-in-Err.ensures (ends_at_next (Gives g.F.Meaning.table) c.args.bytes.now c.loop-rest.place c.loop-rest.rest.now i.vs _ (kind_field_of b) (payload_of b) c.in-Err.error i.underway some refl c.at_front-frame.ensures
-    c.in-Err.ensures.answer)
+    c.in-Err.ensures.answer.0)
 
 pub returns-in-Err-clause-behind : goal.returns-in-Err-clause-behind
-returns-in-Err-clause-behind g c = c.loop-rest.invariant.wrote.behind
+returns-in-Err-clause-behind g c = rw (put_back c.loop-rest.len c.loop-rest.buffer c.rewrite_frame.new.buffer c.in-Err.ensures.answer.1) c.loop-rest.invariant.wrote.behind
 
 pub returns-in-Err-clause-memory : goal.returns-in-Err-clause-memory
 returns-in-Err-clause-memory g c =
@@ -54,24 +56,22 @@ returns-in-Err-clause-memory g c =
     rw c.at-in-Err.ensures (needs_memory (Gives g.F.Meaning.table) g.F.Meaning.table c.args.bytes.now c.loop-rest.rest.now c.loop-rest.place (kind_field_of b) _ (payload_of b) i.vs c.in-Err.error i.underway some
     c.at_front-frame.ensures c.in-Err.ensures.memory)
 
-pub slice_bounds-emit_sized-count : goal.slice_bounds-emit_sized-count
-slice_bounds-emit_sized-count g c = omega (arith, c.loop-rest.invariant.wrote.low, c.requires, c.loop-rest.auto.buffer)
+pub slice_bounds-rewrite_frame-count : goal.slice_bounds-rewrite_frame-count
+slice_bounds-rewrite_frame-count g c = omega (arith, c.loop-rest.invariant.wrote.low, c.requires, c.loop-rest.auto.buffer)
 
-pub emit_sized-requires-clause-room : goal.emit_sized-requires-clause-room
-emit_sized-requires-clause-room g c =
+pub rewrite_frame-requires : goal.rewrite_frame-requires
+rewrite_frame-requires g c v given wanted fits =
     let i = c.loop-rest.invariant in
     let s = c.args.bytes.now in
     let rest = c.loop-rest.rest.now in
     let b = c.at_front-frame in
-    let v = g.F.Meaning.means c.in-Ok.value in
     let buffer = c.loop-rest.buffer in
     let len = c.loop-rest.len in
     let some : rest ≢ [] = λ e. grind (arith, common_steps) in
-    let none : c.loop-rest.unfit ≡ None = none_of c.loop-rest.unfit c.if-is_none.ensures in
+    let none = none_of c.loop-rest.unfit c.is_none.result c.is_none.ensures wanted in
     let all = subst (SoFar i.vs c.args.buffer.now buffer len) none i.wrote.so_far in
-    let fits : Fits v = omega (arith, c.value_len-size.ensures, c.if-size-gt-MAX_PAYLOAD.false) in
     let room = room_next g.met.F.Attribute.lawful s (IsBytes-index s (λ j. omega (arith, c.type_inv.bytes j))) c.loop-rest.place rest (drop (step_of rest (payload_of b.result)) rest) i.vs (kind_field_of b.result) (payload_of b.result) v
-    i.underway some (splits rest (kind_field_of b.result) (payload_of b.result) b.ensures) c.in-Ok.ensures.answer all.0 fits in
+    i.underway some (splits rest (kind_field_of b.result) (payload_of b.result) b.ensures) given all.0 fits in
     omega (arith, room, all.2, c.requires, c.loop-rest.auto.buffer, length-take (length buffer - len) (drop len buffer), length-drop len buffer)
 
 pub overflow_add-place : goal.overflow_add-place
@@ -97,36 +97,32 @@ loop-rest-preserved g c =
     let f = kind_field_of b.result in
     let p = payload_of b.result in
     let x = frame_of b.result in
-    let v = g.F.Meaning.means c.in-Ok.value in
+    let table = g.F.Meaning.table in
     let old = c.args.buffer.now in
+    let buffer = c.loop-rest.buffer in
+    let len = c.loop-rest.len in
+    let unfit = c.loop-rest.unfit in
+    let out = c.rewrite_frame.new.buffer in
     let n = pad (length s) in
     let some : rest ≢ [] = λ e. grind (arith, common_steps) in
     let split = splits rest f p b.ensures in
     let next = c.step_over-rest.ensures in
     let whole = ap length b.ensures.string ∙ length-append (frame_bytes x) b.ensures.rest in
+    let room : (v : AttrValue) → Gives table f p (Ok v) → AllByRecursion Fits i.vs → Fits v → length (written_list i.vs) + length (written_frame v) ≤ n = λ v given all fits. room_next g.met.F.Attribute.lawful s (IsBytes-index s (λ j. omega (arith, c.type_inv.bytes j))) c.loop-rest.place rest (drop (step_of rest p) rest) i.vs f p v i.underway some split given all fits in
+    let wanted = c.is_none.result in
+    let free = c.is_none.ensures in
+    let puts : Option ℕ → Type 0 = λ r. PutsFrame table f p wanted (take (length buffer - len) (drop len buffer)) out (Ok r) in
+    let answer = c.in-Ok.ensures.answer in
+    let step : Stepped table f p i.vs old (put_mid len (length buffer - len) buffer out) c.match-written.len c.match-written.unfit n = elim c.match-written.branch [
+      | in-Some-written w ↦ rw (w.len-is, w.unfit-is) (step_written table f p wanted i.vs old buffer out len n w.in-Some-written.size unfit i.wrote free c.requires room (subst puts w.in-Some-written.is answer))
+      | in-None w ↦ rw (w.len-is, w.unfit-is, w.or-unfit.ensures) (step_left table f p wanted i.vs old buffer out len n c.loop-rest.place unfit i.wrote free i.count (subst puts w.in-None.is answer))
+    ] in
     record {
-      vs = i.vs ++ v ∷ [];
-      underway = underway_more (Gives g.F.Meaning.table) s c.loop-rest.place rest c.step_over-rest.result.now i.vs f p v i.underway some (subst (Splits rest f p) (sym next) split) c.in-Ok.ensures.answer;
-      wrote = elim c.if-is_none.branch [
-        | then-is_none+then-size-gt-MAX_PAYLOAD w ↦
-            let none : c.loop-rest.unfit ≡ None = none_of c.loop-rest.unfit w.if-is_none.ensures in
-            let so_far = subst (λ u. Wrote i.vs old c.loop-rest.buffer c.loop-rest.len u n) none i.wrote in
-            rw (w.buffer-is, w.len-is, w.unfit-is) (wrote_last i.vs v old c.loop-rest.buffer c.loop-rest.len n c.loop-rest.place so_far i.count (omega (arith, w.value_len-size.ensures, w.if-size-gt-MAX_PAYLOAD.true)))
-        | then-is_none+else-size-gt-MAX_PAYLOAD w ↦
-            let none : c.loop-rest.unfit ≡ None = none_of c.loop-rest.unfit w.if-is_none.ensures in
-            let so_far = subst (λ u. Wrote i.vs old c.loop-rest.buffer c.loop-rest.len u n) none i.wrote in
-            let fits : Fits v = omega (arith, w.value_len-size.ensures, w.if-size-gt-MAX_PAYLOAD.false) in
-            let room = room_next g.met.F.Attribute.lawful s (IsBytes-index s (λ j. omega (arith, c.type_inv.bytes j))) c.loop-rest.place rest (drop (step_of rest p) rest) i.vs f p v i.underway some split
-            c.in-Ok.ensures.answer so_far.so_far.0 fits in
-            let long = length-whole_bytes (written_kind v) (written_payload v) in
-            rw (w.unfit-is, none) (wrote_more i.vs v old c.loop-rest.buffer c.if-is_none.buffer w.emit_sized.new.buffer c.loop-rest.len n c.if-is_none.len so_far fits room c.requires w.emit_sized.ensures.written w.buffer-is
-            (w.len-is ∙ ap (λ m. c.loop-rest.len + m) (omega (arith, w.value_len-size.ensures, fits, long))))
-        | else-is_none w ↦
-            let is_some : c.loop-rest.unfit ≢ None = some_of c.loop-rest.unfit w.if-is_none.ensures in
-            rw (w.buffer-is, w.len-is, w.unfit-is) (wrote_before i.vs v old c.loop-rest.buffer c.loop-rest.len n c.loop-rest.unfit is_some i.wrote)
-      ];
+      vs = i.vs ++ step.value ∷ [];
+      underway = underway_more (Gives table) s c.loop-rest.place rest c.step_over-rest.result.now i.vs f p step.value i.underway some (subst (Splits rest f p) (sym next) split) step.given;
+      wrote = step.wrote;
       few = omega (arith, i.few, ap length next, length-drop (step_of rest p) rest, whole, length-append x.payload x.padding);
-      count = omega (arith, i.count, length-append i.vs (v ∷ []));
+      count = omega (arith, i.count, length-append i.vs (step.value ∷ []));
     }
 
 pub returns-in-Some-unfit-clause-answer : goal.returns-in-Some-unfit-clause-answer
@@ -139,12 +135,12 @@ returns-in-Some-unfit-clause-answer g c =
 pub returns-in-Some-unfit-clause-behind : goal.returns-in-Some-unfit-clause-behind
 returns-in-Some-unfit-clause-behind g c = c.loop-rest.invariant.wrote.behind
 
-pub returns-in-None-clause-answer : goal.returns-in-None-clause-answer
-returns-in-None-clause-answer g c =
+pub returns-in-None-unfit-clause-answer : goal.returns-in-None-unfit-clause-answer
+returns-in-None-unfit-clause-answer g c =
     let i = c.loop-rest.invariant in
     let none : c.loop-rest.rest.now ≡ [] = grind (arith, common_steps) in
-    let all = subst (SoFar i.vs c.args.buffer.now c.loop-rest.buffer c.loop-rest.len) c.in-None.is i.wrote.so_far in
+    let all = subst (SoFar i.vs c.args.buffer.now c.loop-rest.buffer c.loop-rest.len) c.in-None-unfit.is i.wrote.so_far in
     into_all g.F.Meaning.table c.args.bytes.now c.args.buffer.now c.loop-rest.buffer c.loop-rest.rest.now c.loop-rest.place c.loop-rest.len i.vs i.underway none all
 
-pub returns-in-None-clause-behind : goal.returns-in-None-clause-behind
-returns-in-None-clause-behind g c = c.loop-rest.invariant.wrote.behind
+pub returns-in-None-unfit-clause-behind : goal.returns-in-None-unfit-clause-behind
+returns-in-None-unfit-clause-behind g c = c.loop-rest.invariant.wrote.behind

@@ -1,8 +1,8 @@
 use Rattle.std.proofs.Common.{map, arith}
 use Rattle.std.proofs.lemmas.List.{length-map}
 use Rattle.link_base.specs.Table.{Gives}
-use Rattle.nlroute_ffi.proofs.Answered.{no_more_values}
-use Rattle.nlroute_ffi.proofs.lists.count_as.Goals as goal
+use Rattle.netlink_packet_route.proofs.Rewritten.{no_more_values}
+use Rattle.netlink_packet_route.proofs.counting.count_values_as.Goals as goal
 
 pub returns-in-Ok-clause-bounded : goal.returns-in-Ok-clause-bounded
 returns-in-Ok-clause-bounded g c =

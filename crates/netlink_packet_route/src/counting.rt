@@ -1,0 +1,37 @@
+//! How many values a list has.
+
+ghost use Rattle.std.specs.Prelude.{◌≡◌, ◌≤◌, None, length, IfOk};
+ghost use Rattle.link_base.specs.Answers.{OnListMemory};
+ghost use Rattle.link_base.specs.Frame.{frame_fault};
+ghost use Rattle.netlink_packet_route.specs.Count.{CountAnswers};
+ghost use Rattle.netlink_packet_route.specs.Family.{table_of};
+
+use crate::by_family;
+use crate::family::Family;
+use link_base::{Attribute, ListError, read_list};
+use std::alloc::Global;
+
+/// How many values the list in the bytes has: as many as it has attributes.
+///
+/// Fails as `read_list` does: with `Fault` where the bytes are no list of the family, and with `Memory`, but not where
+/// they begin with no frame.
+#[inline(always)]
+pub fn count_values(alloc: Global, family: Family, bytes: &[u8]) -> Result<usize, ListError>
+    ensures answer { CountAnswers (table_of family) bytes.now result }
+    ensures memory { OnListMemory result (frame_fault bytes.now ≡ None) }
+    ensures bounded { IfOk result (λ n. n ≤ length bytes.now) }
+{
+    by_family!(family, count_values_as(alloc, bytes))
+}
+
+#[inline(always)]
+fn count_values_as<F: Attribute>(alloc: Global, bytes: &[u8]) -> Result<usize, ListError>
+    ensures answer { CountAnswers F.table bytes.now result }
+    ensures memory { OnListMemory result (frame_fault bytes.now ≡ None) }
+    ensures bounded { IfOk result (λ n. n ≤ length bytes.now) }
+{
+    match read_list::<F>(alloc, bytes) {
+        Ok(values) => Ok(values.len()),
+        Err(error) => Err(error),
+    }
+}

@@ -1,0 +1,52 @@
+//! How many values a list has, and which fault it has first.
+
+use crate::link::{Cause, DecodeFault, ListError};
+use crate::tests::{bytes, holds};
+use crate::{Family, count_values};
+use std::alloc::Global;
+use std::process::Abort;
+
+/// The bytes have so many values, or this fault.
+fn has(rt: &impl Abort, alloc: Global, row: (Family, &str), wanted: Result<usize, ListError>) {
+    let (family, digits) = row;
+    let list = bytes(rt, alloc, digits);
+    holds(rt, count_values(alloc, family, &list) == wanted, digits);
+}
+
+#[test]
+fn values(rt: HostRuntime) {
+    for (family, digits, wanted) in [
+        (Family::Dsa, "", 0),
+        (Family::Dsa, "08000100 2a000000", 1),
+        // kinds without a case are values too
+        (Family::Dsa, "08000100 2a000000 04000280", 2),
+        (Family::Hsr, "0a000400 01154e00 01000000", 1),
+        // a list within is one value
+        (
+            Family::Vlan,
+            "06006300 dead0000 10000300 0c000100 01000000 02000000",
+            2,
+        ),
+    ] {
+        has(&rt, rt.alloc(), (family, digits), Ok(wanted));
+    }
+}
+
+#[test]
+fn faults(rt: HostRuntime) {
+    let short = DecodeFault::Frame(Cause::ShortFrame { left: 1 });
+    let length = DecodeFault::Value {
+        kind: 1,
+        cause: Cause::WrongLength { want: 4, got: 1 },
+    };
+    for (digits, at, fault) in [
+        ("08000100 2a000000 00", 8, short),
+        ("00", 0, short),
+        ("08000100 2a000000 05000100 07000000", 8, length),
+        // a fault of a value before one of a frame
+        ("05000100 07000000 00", 0, length),
+    ] {
+        let wanted = Err(ListError::Fault { at, fault });
+        has(&rt, rt.alloc(), (Family::Dsa, digits), wanted);
+    }
+}
