@@ -1,7 +1,7 @@
 //! IP addresses as the payload of an attribute, and lists of them.
 
 ghost use Rattle.std.specs.Prelude.{◌≡◌, ◌≢◌, ◌≤◌, ◌<◌, ◌^◌, ◌++◌, ◌∷◌, [], ℕ, List, length, map, None, IsTrue, refl};
-ghost use Rattle.std.specs.Prelude.{◌+◌, nat_lt, MatchOption, vec_len, vec_capacity};
+ghost use Rattle.std.specs.Prelude.{◌+◌, ◌/◌, nat_lt, MatchOption, vec_len, vec_capacity};
 ghost use Rattle.std.specs.List.{AllByRecursion};
 ghost use Rattle.link_base.specs.Frame.{frame_fault, spelled};
 ghost use Rattle.link_base.specs.Table.{Case, Listed, Addresses, ShapeGives, addresses_from, of_length};
@@ -163,16 +163,37 @@ pub fn read_addresses<A: Address>(
         Ok(addresses) => addresses,
         Err(error) => return Err(DecodeError::Memory(error)),
     };
+    match push_addresses(kind, payload, &mut addresses) {
+        Ok(()) => Ok(addresses),
+        Err(error) => Err(error),
+    }
+}
+
+/// Pushes the addresses of a list to a `Vec` of none, with room for as many as there can be. It stands alone so that
+/// the `Vec` is not taken apart beside the error in the loop.
+#[inline(never)]
+fn push_addresses<A: Address>(
+    kind: u16,
+    payload: &[u8],
+    addresses: &mut Vec<A>,
+) -> Result<(), DecodeError>
+    requires none { addresses.old.items ≡ [] }
+    requires len { vec_len addresses.old ≡ 0 }
+    requires room { vec_capacity addresses.old ≡ length payload.now / (A.SIZE + 4) }
+    ensures answer { Answers (λ _. Case kind (Listed (map A.octets addresses.new.items))) result
+        (ShapeGives (Addresses A.SIZE) kind payload.now) }
+    ensures memory { OnMemory result ⊥ }
+{
     let mut rest = payload;
     while !rest.is_empty() {
         if let Some(cause) = cause_at_front(rest) {
             return Err(DecodeError::Fault(DecodeFault::NestedFrame { kind, cause }));
         }
         let frame = NlaBuffer::at_front(rest);
-        keep(&mut addresses, frame.value());
+        keep(addresses, frame.value());
         rest = frame.step_over(rest);
     }
-    Ok(addresses)
+    Ok(())
 }
 
 /// Pushes the address with this payload, where there is one.

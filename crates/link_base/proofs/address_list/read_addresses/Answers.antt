@@ -1,11 +1,6 @@
-use Rattle.std.proofs.Common.{◌≡◌, ◌≢◌, ◌≤◌, ◌+◌, ◌++◌, ◌∷◌, ◌/◌, [], length, map, refl, sym, ap, ◌∙◌, arith}
-use Rattle.std.specs.Prelude.{vec_len}
+use Rattle.std.proofs.Common.{◌≡◌, ◌≢◌, ◌+◌, ◌/◌, [], length, map, refl, sym, ap, ◌∙◌, arith}
 use Rattle.std.proofs.lemmas.Grind.{common_steps}
-use Rattle.std.proofs.lemmas.List.{length-append}
-use Rattle.link_base.specs.Frame.{frame_bytes}
-use Rattle.link_base.specs.Table.{of_length}
-use Rattle.link_base.specs.Buffer.{kind_field_of, payload_of, frame_of}
-use Rattle.link_base.proofs.AddressLists.{kept_none, kept_more, kept_all, kept_fault, kept_low}
+use Rattle.link_base.proofs.AddressLists.{kept_none, kept_all, kept_fault}
 use Rattle.link_base.proofs.address_list.read_addresses.Goals as goal
 
 pub returns-then-is_empty-clause-answer : goal.returns-then-is_empty-clause-answer
@@ -22,43 +17,5 @@ returns-in-Some-clause-answer g c =
     let some : s ≢ [] = λ e. grind (arith, common_steps) in
     kept_fault n c.args.kind s s [] c.in-Some.cause (kept_none n s [] refl) some (sym c.cause_at_front.ensures ∙ c.in-Some.is)
 
-pub loop-rest-init : goal.loop-rest-init
-loop-rest-init g c =
-    let n = g.A.Address.SIZE in
-    record {
-      reads = kept_none n c.args.payload.now _ (ap (map g.A.Address.octets) c.in-Ok.ensures.items);
-      low = rw c.in-Ok.ensures.len (omega arith);
-      room = c.in-Ok.ensures.exact ∙ ap (λ m. length c.args.payload.now / (m + 4)) c.SIZE.ensures;
-    }
-
-pub returns-in-Some-cause_at_front-clause-answer : goal.returns-in-Some-cause_at_front-clause-answer
-returns-in-Some-cause_at_front-clause-answer g c =
-    let rest = c.loop-rest.rest.now in
-    let some : rest ≢ [] = λ e. grind (arith, common_steps) in
-    kept_fault g.A.Address.SIZE c.args.kind c.args.payload.now rest _ c.in-Some-cause_at_front.cause c.loop-rest.invariant.reads some
-    (sym c.cause_at_front-in-loop-rest.ensures ∙ c.in-Some-cause_at_front.is)
-
-pub loop-rest-preserved : goal.loop-rest-preserved
-loop-rest-preserved g c =
-    let n = g.A.Address.SIZE in
-    let i = c.loop-rest.invariant in
-    let s = c.args.payload.now in
-    let rest = c.loop-rest.rest.now in
-    let b = c.at_front-frame in
-    let p = payload_of b.result in
-    let x = frame_of b.result in
-    let some : rest ≢ [] = λ e. grind (arith, common_steps) in
-    let front : 4 + length p ≤ length rest = omega (arith, ap length b.ensures.string, length-append (frame_bytes x) b.ensures.rest, length-append x.payload x.padding) in
-    let kept = c.keep.ensures.kept ∙ ap (λ q. map g.A.Address.octets c.loop-rest.addresses.items ++ of_length n (q ∷ [])) c.value.ensures in
-    let len = c.keep.ensures.len ∙ ap (λ q. vec_len c.loop-rest.addresses + length (of_length n (q ∷ []))) c.value.ensures in
-    record {
-      reads = kept_more n s rest _ _ _ (kind_field_of b.result) p i.reads some b.ensures c.step_over-rest.ensures kept;
-      low = kept_low n (vec_len c.loop-rest.addresses) _ s rest _ p i.low c.step_over-rest.ensures front len;
-      room = c.keep.ensures.room ∙ i.room;
-    }
-
-pub returns-clause-answer : goal.returns-clause-answer
-returns-clause-answer g c =
-    let rest = c.loop-rest.rest.now in
-    let none : rest ≡ [] = grind (arith, common_steps) in
-    kept_all g.A.Address.SIZE c.args.kind c.args.payload.now rest _ c.loop-rest.invariant.reads none
+pub push_addresses-requires-clause-room : goal.push_addresses-requires-clause-room
+push_addresses-requires-clause-room g c = c.in-Ok.ensures.exact ∙ ap (λ m. length c.args.payload.now / (m + 4)) c.SIZE.ensures

@@ -1,7 +1,7 @@
 use Rattle.std.proofs.Common.{◌≡◌, ◌≤◌, ◌+◌, ◌*◌, ◌/◌, length, map}
 use Rattle.std.specs.Prelude.{vec_len, vec_capacity}
 use Rattle.link_base.proofs.AddressLists.{Kept}
-use Rattle.link_base.proofs.address_list.read_addresses.Given as goal
+use Rattle.link_base.proofs.address_list.push_addresses.Given as goal
 
 abbrev pub invariant-loop-rest : goal.invariant-loop-rest
 invariant-loop-rest g l =
