@@ -2,9 +2,9 @@
 use Rattle.std.proofs.Common.{◌≡◌, ◌≢◌, ◌↔◌, ℕ, suc, ◌+◌, ◌-◌, ◌<◌, ◌≤◌, List, [], ◌∷◌, ◌++◌, length, take, drop, get_or, replicate, refl, sym, ap, ap₂, subst, ◌∙◌, arith, None, append_assoc, length-append}
 use Rattle.std.specs.Prelude.{Bool, true, false, not, Option, Some, is_some, IsTrue, MatchOption}
 use Rattle.std.specs.List.{AllByRecursion}
-use Rattle.std.proofs.lemmas.List.{append-nil, append_cancel_left, drop-drop, length-replicate, length-take, take-append-drop, take-append-le, get_or-replicate}
+use Rattle.std.proofs.lemmas.List.{append-nil, append_cancel_left, length-replicate, length-take, take-append-drop, get_or-replicate}
 use Rattle.std.proofs.Math.Seq.{drop-append_seam, take-append_seam}
-use Rattle.link_base.specs.Frame.{Frame, BeginsWith, bare, IsComplete, frame_bytes, spelled, gap, pad, frame_fault}
+use Rattle.link_base.specs.Frame.{Frame, BeginsWith, bare, IsComplete, frame_bytes, spelled, gap, frame_fault}
 use Rattle.link_base.specs.Wire.{whole, SplitsWhole, IsCanonicalFrame, CanonicalBy, FirstOtherBy}
 use Rattle.link_base.specs.Table.{AreAddresses, addresses_from}
 use Rattle.link_base.proofs.Fronts.{frame_fault-frame, length-frame_bytes}

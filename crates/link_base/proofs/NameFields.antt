@@ -1,12 +1,12 @@
 -- The name field, judged.
-use Rattle.std.proofs.Common.{◌≡◌, ◌≢◌, ◌⊎◌, ◌↔◌, ℕ, zero, suc, ◌+◌, ◌-◌, ◌<◌, ◌≤◌, true, false, List, [], ◌∷◌, ◌++◌, length, take, drop, get_or, replicate, Some, IsUtf8, refl, sym, ap, subst, ◌∙◌, arith, inl, inr, length-append, length-take, length-drop, take-append-drop}
+use Rattle.std.proofs.Common.{◌≡◌, ◌≢◌, ◌⊎◌, ◌↔◌, ℕ, zero, suc, ◌+◌, ◌-◌, ◌<◌, ◌≤◌, true, false, List, [], ◌∷◌, ◌++◌, length, take, drop, get_or, replicate, IsUtf8, refl, sym, ap, subst, ◌∙◌, arith, inl, inr, length-append, length-take, length-drop, take-append-drop}
 use Rattle.std.specs.Char.{encode_utf8}
 use Rattle.std.specs.Str.{IsValidUpTo, is_utf8, chars}
 use Rattle.std.proofs.lemmas.Bool.{cases_lt}
 use Rattle.std.proofs.lemmas.List.{length-replicate, get_or-replicate, get_or-take, get_or-drop}
 use Rattle.std.proofs.lemmas.Str.{is_utf8-from_IsUtf8, IsUtf8-drop, IsCharBoundary-from_take}
 use Rattle.std.proofs.Math.Seq.{drop-append_seam, take-append_seam, take-append-add}
-use Rattle.link_base.specs.Name.{zero_filled, HasNoNul, IsCutText, IsNameField}
+use Rattle.link_base.specs.Name.{HasNoNul, IsCutText, IsNameField}
 use Rattle.link_base.proofs.CanonicalLists.{zeros}
 
 -- ---- text that a U+FFFD follows in part

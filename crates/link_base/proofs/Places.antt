@@ -1,11 +1,11 @@
 -- Values that were read, and handed on.
-use Rattle.std.proofs.Common.{◌≡◌, ℕ, Bool, List, Result, Ok, Err, Option, Some, MatchResult, IsOkAnd, ap, subst, sym, ◌∙◌}
+use Rattle.std.proofs.Common.{◌≡◌, ℕ, Bool, List, Result, Ok, Err, Some, MatchResult, IsOkAnd, ap, subst, sym, ◌∙◌}
 use Rattle.link_base.specs.declared.fault.DecodeFault.{DecodeFault}
 use Rattle.link_base.specs.declared.fault.DecodeError.{DecodeError}
 use Rattle.link_base.specs.Answers.{Answers, Fails, under_kind, value_error}
 use Rattle.link_base.specs.Frame.{kind_of}
 use Rattle.link_base.specs.Place.{Hands, Puts}
-use Rattle.link_base.specs.Table.{Table, Rows, Shape, Nested, AttrValue, class_at, Gives, GivesBy, ShapeGives}
+use Rattle.link_base.specs.Table.{Table, Rows, Nested, AttrValue, class_at, Gives, GivesBy, ShapeGives}
 use Rattle.link_base.proofs.KindFaults.{under_nested}
 
 -- what was read as it should, and handed on, was put to its place

@@ -1,5 +1,5 @@
 -- A walk over the frames of some bytes, and what is read from the table that it makes.
-use Rattle.std.proofs.Common.{◌≡◌, ◌≢◌, ◌⊎◌, ℕ, suc, false, true, ◌+◌, ◌-◌, ◌<◌, ◌≤◌, List, [], ◌∷◌, ◌++◌, length, drop, get_or, Option, Some, None, refl, sym, ap, subst, ◌∙◌, arith, inl, inr, append_assoc}
+use Rattle.std.proofs.Common.{◌≡◌, ◌≢◌, ◌⊎◌, ℕ, suc, ◌+◌, ◌-◌, ◌<◌, ◌≤◌, List, [], ◌∷◌, ◌++◌, length, drop, get_or, Option, Some, None, refl, sym, ap, subst, ◌∙◌, arith, inl, inr, append_assoc}
 use Rattle.std.specs.List.{AllByRecursion}
 use Rattle.std.proofs.lemmas.List.{append-nil, length-append, length-drop, nil_from_length}
 use Rattle.std.proofs.lemmas.Bool.{cases_lt}
@@ -236,16 +236,6 @@ placed_all s fault count i offsets rest w end = by_after w.after w.all w.whole
 -- where some frames were counted, the bytes begin with one
 pub counts_some : (s : List ℕ) (count : ℕ) (fault : Option (ℕ × Cause)) → Counts s count fault → 0 < count → frame_fault s ≡ None
 counts_some s count fault h some = placed_frame s fault count 0 [] s (placed_none s fault count [] h refl) some
-
--- where room for so few frames could not be refused, the bytes begin with one
-pub counts_refused : (s : List ℕ) (count m : ℕ) (fault : Option (ℕ × Cause)) → Counts s count fault → (count ≤ m → false ≡ true) → frame_fault s ≡ None
-counts_refused s count m fault h refused = elim (cases_lt 0 count) [
-  | inl some ↦ counts_some s count fault h some
-  | inr none ↦ absurd (never (refused (omega (arith, none))))
-]
-  where
-    never : false ≡ true → ⊥
-    never e = absurd cc
 
 -- ---- where the bytes begin with a frame
 

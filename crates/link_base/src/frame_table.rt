@@ -1,6 +1,6 @@
 //! The frames of a list, found before any of them is read.
 
-ghost use Rattle.std.specs.Prelude.{◌≡◌, ◌<◌, IfOk, OnOk, OnErr, IsTrue, [], ◌↔◌, None, length, slice_index_or};
+ghost use Rattle.std.specs.Prelude.{◌≡◌, ◌<◌, ◌≤◌, IfOk, OnOk, OnErr, IsTrue, [], ◌↔◌, None, length, slice_index_or};
 ghost use Rattle.link_base.specs.Frame.{frame_fault};
 ghost use Rattle.link_base.specs.Walk.{BeginFrames, Counts, Finds};
 
@@ -61,7 +61,7 @@ impl<'a> FrameTable<'a> {
     {
         let bytes = self.bytes;
         let (count, fault) = count_frames(bytes);
-        if let Err(error) = self.offsets.reserve_exact(count) {
+        if let Err(error) = make_room(&mut self.offsets, count) {
             return Err(error);
         }
         let mut rest = bytes;
@@ -114,6 +114,19 @@ impl<'a> FrameTable<'a> {
     {
         self.fault
     }
+}
+
+/// Makes room for so many offsets in a list. Memory is asked for only where it has too little.
+#[inline(always)]
+fn make_room(offsets: &mut SmallVec<usize, INLINE>, count: usize) -> Result<(), AllocError>
+    ensures same { offsets.new.items ≡ offsets.old.items }
+    ensures room { OnOk result (count ≤ offsets.new.capacity) }
+    ensures refused { OnErr result (offsets.old.capacity < count) }
+{
+    if count <= offsets.capacity() {
+        return Ok(());
+    }
+    offsets.reserve_exact(count)
 }
 
 /// How many frames there are before the first frame fault, and the fault with its offset.

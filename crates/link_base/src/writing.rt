@@ -49,6 +49,7 @@ pub fn measure_list<F: Attribute>(values: &[F]) -> Result<usize, usize>
 
 /// Writes the list to the front of a buffer of at least `list_len` bytes, and leaves the bytes behind it as they
 /// are. Requires that every value fits.
+#[inline(always)]
 pub fn emit_list<F: Attribute>(values: &[F], buffer: &mut [u8])
     requires fits { AllByRecursion Fits (map F.means values.now) }
     requires room { length (written_list (map F.means values.now)) ≤ length buffer.old }

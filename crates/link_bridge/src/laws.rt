@@ -1,5 +1,5 @@
-//! The bits of the named flags, constants, conversions that are inverse, what `==` of the two list types says, and the
-//! two editions of the table of bridge ports. Nothing here runs.
+//! The bits of the named flags, constants, conversions that are inverse, what `==` says, and the two editions of the
+//! table of bridge ports. Nothing here runs.
 
 ghost use Rattle.std.specs.Prelude.{◌≡◌, ◌<◌, ◌^◌, ◌↔◌, ℕ, List, map, IsTrue};
 ghost use Rattle.link_base.specs.Held.{IsOctets};
@@ -16,13 +16,14 @@ ghost use Rattle.link_bridge.specs.declared.proto_info.VecLinkProtoInfoBridge.{V
 ghost use Rattle.link_bridge.specs.declared.bridge.id.BridgeId.{BridgeId};
 ghost use Rattle.link_bridge.specs.declared.bridge.id.BridgeIdBuffer.{BridgeIdBuffer};
 ghost use Rattle.link_bridge.specs.declared.bridge.router_type.BridgeMulticastRouterType.TheVariants.{TempQuery};
+ghost use Rattle.link_bridge.specs.declared.bridge_boolopt.BridgeBooleanOptions.{BridgeBooleanOptions};
 ghost use Rattle.link_bridge.specs.declared.bridge_boolopt.flags.BridgeBooleanOptionFlags.{BridgeBooleanOptionFlags};
 
 use crate::af_spec::{
     BridgeFlag, BridgeMode, BridgeVlanInfo, BridgeVlanInfoFlags, VecAfSpecBridge,
 };
 use crate::bridge::BridgeMulticastRouterType;
-use crate::bridge_boolopt::BridgeBooleanOptionFlags;
+use crate::bridge_boolopt::{BridgeBooleanOptionFlags, BridgeBooleanOptions};
 use crate::bridge_port::InfoBridgePort;
 use crate::proto_info::VecLinkProtoInfoBridge;
 use link_base::Meaning;
@@ -80,6 +81,12 @@ pub fn vlan_info_back()
     ensures info { (info : BridgeVlanInfo) → vlan_info_bits info.flags < 2 ^ 16 → info.vid < 2 ^ 16
         → vlan_info_of (vlan_info_octets info) ≡ info }
     ensures bytes { (bytes : List ℕ) → IsOctets 4 bytes → vlan_info_octets (vlan_info_of bytes) ≡ bytes }
+{}
+
+/// Two values of the boolean options of a bridge, or of a VLAN, are equal exactly where they are the same.
+pub fn equality_of_values()
+    ensures options { (a b : BridgeBooleanOptions) → IsTrue (⟦<BridgeBooleanOptions as PartialEq>⟧.eq a b) ↔ (a ≡ b) }
+    ensures vlan { (a b : BridgeVlanInfo) → IsTrue (⟦<BridgeVlanInfo as PartialEq>⟧.eq a b) ↔ (a ≡ b) }
 {}
 
 /// Lists that are equal by `==` stand for the same attributes, one by one.

@@ -39,7 +39,7 @@ pub fn rewrite_into(
     by_family!(family, rewrite_into_as(alloc, bytes, buffer))
 }
 
-#[inline(never)]
+#[inline(always)]
 fn rewrite_into_as<F: Attribute>(
     alloc: Global,
     bytes: &[u8],

@@ -50,6 +50,7 @@ pub(crate) fn rewrite(
 
 /// Reads a list and writes each of its values to the front of a lent buffer before it reads the next. Answers how many
 /// bytes are written.
+#[inline(always)]
 pub(crate) fn rewrite_each(
     alloc: Global,
     family: Family,

@@ -128,5 +128,6 @@ fn laws_of_bridges() {
     link_bridge::laws::auto_router();
     link_bridge::laws::payload_lengths();
     link_bridge::laws::vlan_info_back();
+    link_bridge::laws::equality_of_values();
     link_bridge::laws::equality_of_lists();
 }

@@ -1,4 +1,4 @@
-use Rattle.std.proofs.Common.{length, refl, arith, rules}
+use Rattle.std.proofs.Common.{refl, arith, rules}
 use Rattle.link_base.specs.Table.{Allows}
 use Rattle.link_base.specs.Buffer.{kind_field_of, payload_of}
 use Rattle.link_base.proofs.CanonicalLists.{passed_more, none_allowed, stops, whole_some, whole_not_nil}

@@ -1,6 +1,5 @@
-use Rattle.std.proofs.Common.{◌≡◌, ◌<◌, ◌-◌, ℕ, List, length, take, drop, get_or, sym, ap, subst, ◌∙◌, arith, rules, take_all}
+use Rattle.std.proofs.Common.{◌≡◌, ◌<◌, ◌-◌, ℕ, List, length, take, drop, get_or, sym, subst, arith, rules, take_all}
 use Rattle.std.proofs.lemmas.List.{length-drop}
-use Rattle.link_base.specs.Name.{IsCutText}
 use Rattle.link_base.proofs.NameFields.{zeros_behind, name_before, is_name, name_nul}
 use Rattle.link_base.proofs.canonical.is_name_field.Goals as goal
 

@@ -2,21 +2,21 @@ use Rattle.std.proofs.Common.{length, refl, arith, ap, ◌∙◌}
 use Rattle.std.proofs.lemmas.List.{length-append}
 use Rattle.link_base.specs.Frame.{spelled}
 use Rattle.link_base.specs.Buffer.{kind_field_of, payload_of}
-use Rattle.link_base.proofs.Walking.{placed_none, placed_frame, placed_more, placed_all, counts_refused, begin_frames, length-starts}
+use Rattle.link_base.proofs.Walking.{placed_none, placed_frame, placed_more, placed_all, counts_some, begin_frames, length-starts}
 use Rattle.link_base.proofs.frame_table.FrameTable.find_frames.Goals as goal
 
 pub returns-in-Err-clause-memory : goal.returns-in-Err-clause-memory
 returns-in-Err-clause-memory c =
     let counted = c.count_frames-count in
-    counts_refused c.args.self.now.bytes.now counted.result.0 c.args.self.now.offsets.capacity counted.result.1 counted.ensures (λ low. c.in-Err.ensures.succeeds (omega (arith, low, ap length c.requires)))
+    counts_some c.args.self.now.bytes.now counted.result.0 counted.result.1 counted.ensures (omega (arith, c.in-Err.ensures.refused))
 
 pub loop-place-init : goal.loop-place-init
 loop-place-init c =
     let counted = c.count_frames-count in
     record {
       same = refl;
-      placed = placed_none c.args.self.now.bytes.now counted.result.1 counted.result.0 c.reserve_exact.new.self.items counted.ensures (c.reserve_exact.ensures.items ∙ c.requires);
-      room = omega (arith, c.in_default.ensures.ok);
+      placed = placed_none c.args.self.now.bytes.now counted.result.1 counted.result.0 c.make_room.new.offsets.items counted.ensures (c.make_room.ensures.same ∙ c.requires);
+      room = c.in_default.ensures.room;
     }
 
 pub overflow_sub-bytes : goal.overflow_sub-bytes
