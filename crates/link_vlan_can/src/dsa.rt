@@ -8,7 +8,7 @@ use link_base::{
 };
 use std::alloc::{AllocError, Global};
 
-/// `IFLA_DSA_CONDUIT`, `include/uapi/linux/if_link.h`.
+/// `IFLA_DSA_CONDUIT`, before Linux 6.7 `IFLA_DSA_MASTER` (`include/uapi/linux/if_link.h`).
 const IFLA_DSA_CONDUIT: u16 = 1;
 
 /// An attribute of a DSA port (`include/uapi/linux/if_link.h`, `IFLA_DSA_*`).

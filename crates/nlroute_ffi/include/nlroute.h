@@ -48,9 +48,14 @@ enum nlroute_refusal {
     NLROUTE_HAS_FAULT = -1, /* the bytes are no list of the family, but have a fault: nlroute_fault tells the first */
     NLROUTE_TOO_LONG = -2,  /* they are a list, one of whose values takes more than the 65531 bytes of an attribute */
     NLROUTE_NO_MEMORY = -3, /* an allocation failed (that this alone is answered so is not proved) */
-    NLROUTE_NO_ROOM = -4,   /* what would be written is longer than the lent buffer */
+    NLROUTE_NO_ROOM = -4,   /* the lent buffer is too small; each call says for what */
     NLROUTE_NO_FAMILY = -5  /* the number is none of the families' */
 };
+
+/*
+ * What is said below of each call holds for the number of a family. For any other number each answers
+ * NLROUTE_NO_FAMILY, and nothing is written.
+ */
 
 /*
  * Rewrites a list: reads the len bytes and writes the values to out, which has room for `room` bytes. Answers how many
@@ -71,23 +76,24 @@ ptrdiff_t nlroute_rewrite(uint32_t family, const uint8_t *bytes, size_t len, uin
  * them, and takes memory only inside a value that holds some. Answers how many bytes it wrote; behind them out is as it
  * was.
  *
- * NLROUTE_NO_ROOM exactly if room is less than len rounded up to a multiple of four, whatever the bytes are; then, and
- * after NLROUTE_NO_FAMILY, nothing was written. NLROUTE_HAS_FAULT and NLROUTE_TOO_LONG as above, and NLROUTE_NO_MEMORY
- * only if one of the attributes is held in memory of its own; after these the first bytes of out may have changed, as
- * many as len rounded up to a multiple of four, and none behind them.
+ * NLROUTE_NO_ROOM exactly if room is less than len rounded up to a multiple of four, whatever the bytes are; then
+ * nothing was written. NLROUTE_HAS_FAULT and NLROUTE_TOO_LONG as above, and NLROUTE_NO_MEMORY only if one of the
+ * attributes is held in memory of its own; after these the first bytes of out may have changed, as many as len rounded
+ * up to a multiple of four, and none behind them.
  */
 ptrdiff_t nlroute_rewrite_into(uint32_t family, const uint8_t *bytes, size_t len, uint8_t *out, size_t room);
 
 /*
  * How many values a list has, of which each is one attribute.
  *
- * NLROUTE_HAS_FAULT exactly if the bytes have a fault, unless memory ran out. NLROUTE_NO_MEMORY as above.
+ * NLROUTE_HAS_FAULT exactly if the bytes have a fault, unless memory ran out. NLROUTE_NO_MEMORY only if the bytes begin
+ * with a whole attribute.
  */
 ptrdiff_t nlroute_read(uint32_t family, const uint8_t *bytes, size_t len);
 
 /*
- * Whether a list is canonical: 1 if nlroute_rewrite writes just these bytes, and 0 if it writes others or the bytes have
- * a fault. It takes no memory, so that of the refusals only NLROUTE_NO_FAMILY is answered.
+ * Whether a list is canonical: 1 if nlroute_rewrite writes just these bytes, and 0 if it writes others or the bytes
+ * have a fault. It takes no memory, so that of the refusals only NLROUTE_NO_FAMILY is answered.
  */
 ptrdiff_t nlroute_is_canonical(uint32_t family, const uint8_t *bytes, size_t len);
 
@@ -96,7 +102,7 @@ ptrdiff_t nlroute_is_canonical(uint32_t family, const uint8_t *bytes, size_t len
 
 /* Which number stands where in what nlroute_fault tells. */
 enum nlroute_fault_index {
-    NLROUTE_AT = 0,    /* where the frame that has the fault begins, in bytes from the first one of the list */
+    NLROUTE_AT = 0,    /* where the attribute with the fault begins, in bytes from the start of the list */
     NLROUTE_PLACE = 1, /* what is at fault: an nlroute_place */
     NLROUTE_KIND = 2,  /* the kind of the attribute, without flags; 0 for NLROUTE_FRAME */
     NLROUTE_INNER = 3, /* the kind of the element in its list, without flags; 0 but for NLROUTE_ELEMENT_PAYLOAD */
@@ -106,7 +112,7 @@ enum nlroute_fault_index {
 };
 
 enum nlroute_place {
-    NLROUTE_FRAME = 0,          /* a frame of the list */
+    NLROUTE_FRAME = 0,          /* a frame of the list, which is an attribute's header and payload */
     NLROUTE_PAYLOAD = 1,        /* the payload of an attribute */
     NLROUTE_ELEMENT_FRAME = 2,  /* a frame in the nested list, or in the list of addresses, of an attribute */
     NLROUTE_ELEMENT_PAYLOAD = 3 /* the payload of an element of a nested list */
@@ -127,7 +133,7 @@ enum nlroute_cause {
  * behind so many numbers the array is as it was; or 0 if the bytes have no fault, and then all of it is as it was.
  *
  * NLROUTE_NO_ROOM exactly if there is a fault and fewer than NLROUTE_FAULT_NUMBERS places, unless memory ran out.
- * NLROUTE_NO_MEMORY as above.
+ * NLROUTE_NO_MEMORY only if the bytes begin with a whole attribute.
  */
 ptrdiff_t nlroute_fault(uint32_t family, const uint8_t *bytes, size_t len, uint64_t *fault, size_t places);
 

@@ -25,8 +25,8 @@ pub(crate) enum Stop {
 
 /// Reads lines to the end of the reader, and writes for each what is to be shown. The answer is the exit status.
 ///
-/// Status 0 says that every list was read, 1 that one was not, 4 that an allocation failed, 5 that the reader or the
-/// writer did.
+/// Status 0 says that every list and every message was read and every list behind `check` is canonical, 1 that this is
+/// not so of some line, 4 that an allocation failed, 5 that the reader or the writer did.
 pub fn run<R: Read, W: Write>(alloc: Global, reader: &mut R, writer: &mut W) -> u8
     ensures report { result < 2 → RunsFor (R.remaining reader.old) (R.remaining reader.new)
         (W.contents writer.old) (W.contents writer.new) result }

@@ -64,7 +64,8 @@ pub fn bond_request(interval: u32, buffer: &mut [u8]) -> Result<usize, BufferErr
     write_into(&request, buffer)
 }
 
-/// A request for a bridge that filters by VLAN and runs the spanning tree protocol: its forward delay in clock ticks.
+/// A request for a bridge that filters by VLAN and runs the spanning tree protocol: its forward delay, in clock ticks
+/// of 1/100 second.
 #[tactic(auto, using(crate::proofs::Fitting::none_unfit))]
 pub fn bridge_request(alloc: Global, forward_delay: u32) -> Result<Vec<u8>, AllocError>
     ensures { IfOk result (λ out. out.items ≡ written_list (

@@ -10,7 +10,7 @@ ghost use Rattle.netlink_packet_route.specs.Wire.{Wire};
 use netlink_packet_route::link::{BondMode, InfoBond, InfoBridge, ListError, read_list};
 use std::alloc::Global;
 
-/// The forward delay of a bridge in clock ticks, if it is there.
+/// The forward delay of a bridge in clock ticks of 1/100 second, if it is there.
 pub fn forward_delay(alloc: Global, bytes: &[u8]) -> Result<Option<u32>, ListError>
     ensures found { IfOk result (λ found. (vs : List InfoBridge)
         × Wire (Gives bridge_table) bytes.now (map bridge_means vs)
