@@ -37,9 +37,10 @@ def module_of(file):
     return "" if not inside or inside[1] in ("lib", "main") else inside[1].replace("/", "::")
 
 
-def edited_texts(edit, folder):
-    """The texts of the files that the edit changes, by their path in the folder of the crate."""
-    path, old, texts = "", None, {}
+def edited_texts(edit, folder, before=None):
+    """The texts of the files that the edit changes, by their path in the folder of the crate, and of those that edits
+    before it changed."""
+    path, old, pairs, texts = "", None, 0, dict(before or {})
     for line in edit.split("\n"):
         if line.startswith("file: "):
             path = line[len("file: ") :].strip()
@@ -62,8 +63,8 @@ def edited_texts(edit, folder):
             if old.endswith("{") and new.startswith(old):
                 # what stands first in a body takes a line of its own
                 new = old + "\n" + new[len(old) :]
-            texts[path], old = texts[path].replace(old, new), None
-    if not texts:
+            texts[path], old, pairs = texts[path].replace(old, new), None, pairs + 1
+    if not pairs:
         raise EditError("it has no 'old:' and 'new:' pair")
     return texts
 
@@ -121,14 +122,6 @@ def skeleton(text):
     return "\n".join(lines)
 
 
-def with_bodies(text, bodies):
-    """The text with these bodies, by the number of their function, in the place of its own."""
-    lines, functions = text.split("\n"), functions_of(text)
-    for number in sorted(bodies, reverse=True):
-        lines[functions[number].opening + 1 : functions[number].end] = bodies[number]
-    return "\n".join(lines)
-
-
 def block_name(kind, header):
     """How a check names an impl, a trait or a module: an impl of a trait by type and trait, as in U16FromLength."""
     head = re.split(r"\bwhere\b|\{", header, maxsplit=1)[0]
@@ -153,8 +146,15 @@ def without_parameters(head):
 
 
 def type_name(written, with_arguments):
-    """A type's last name, with a capital, and the names of a trait's arguments."""
-    base, _, arguments = written.strip().partition("<")
+    """A type's last name, with a capital, and the names of a trait's arguments. `&[u8]` is RefSliceU8."""
+    written = written.strip()
+    reference = re.match(r"&\s*(?:'\w+\s+)?", written)
+    if reference:
+        return "Ref" + type_name(written[reference.end() :], with_arguments)
+    if written.startswith("["):
+        element, _, length = written.strip("[]").partition(";")
+        return ("Array" if length else "Slice") + type_name(element, with_arguments) + length.strip()
+    base, _, arguments = written.partition("<")
     last = base.split("::")[-1].strip()
     name = last[:1].upper() + last[1:]
     if with_arguments:

@@ -10,6 +10,8 @@ earlier ones made. With no CRATE named, the mutants of all crates of crates.txt 
 Mutants that turn different functions are tried in one check of a copy of the crate, which looks at those functions and
 at what they call. Each mutant has to be refused in its place: by a note at a line of the function that it turns, or by
 an error in that function's folder of proofs/. That a function calls a refused one is no refusal of its own.
+Lines 'goal: NAME' in mutants name what is not to be proved of their function. Mutants that turn one function at
+different places and name different goals are tried together too, and each has to be refused by a goal of its own.
 A mutant that turns something else than the body of a function, and one that was not refused in its place, is tried
 alone, and then any refusal is its own. Lines 'at: PATH' in it name functions, or modules, to look at first. A mutant that
 does not apply, or does not reach the prover, is a failure.
@@ -35,7 +37,7 @@ from concurrent.futures import FIRST_COMPLETED, ThreadPoolExecutor, wait
 sys.dont_write_bytecode = True
 sys.path.insert(0, os.path.dirname(os.path.realpath(__file__)))
 from crates import PARTS, Runner, build_libraries, crates_of, kit_folder, lanes  # noqa: E402
-from edits import EditError, edited_texts, functions_of, module_of, skeleton, with_bodies  # noqa: E402
+from edits import EditError, edited_texts, functions_of, module_of, skeleton  # noqa: E402
 
 EDIT_NAME = re.compile(r"[A-Za-z0-9_-][A-Za-z0-9_.-]*\.edit")
 OWN_NOTE = re.compile(r"note: (?:\./)?(src/[^:]+):(\d+):\d+: (it is not proved that .*)")
@@ -56,9 +58,10 @@ class Mutant:
     def __init__(self, crate, path):
         self.crate, self.name = crate, f"{crate.name}/{os.path.basename(path)}"
         with open(path, encoding="utf-8") as file:
-            edit = file.read()
-        self.texts = edited_texts(edit, crate.folder)
-        self.places = re.findall(r"^at: (\S+)$", edit, re.MULTILINE)
+            self.edit = file.read()
+        self.texts = edited_texts(self.edit, crate.folder)
+        self.places = re.findall(r"^at: (\S+)$", self.edit, re.MULTILINE)
+        self.goals = re.findall(r"^goal: (\S+)$", self.edit, re.MULTILINE)
         self.bodies = {}
         for file, text in self.texts.items():
             was = crate.texts.get(file)
@@ -87,12 +90,44 @@ class Mutant:
         modules = [module_of(it) for it in sorted(files) if not it.startswith("src/tests")]
         return modules if all(modules) else []
 
+    def is_told_from(self, other):
+        """Whether a check of both says which of them is refused: they turn different functions, or name different goals."""
+        if not self.bodies.keys() & other.bodies.keys():
+            return True
+        return self.goals and other.goals and not {*self.goals} & {*other.goals}
+
+    def is_named(self, refusal):
+        """Whether the refusal is of a goal that it names, if it names any."""
+        return not self.goals or any(f"`{it}`" in refusal for it in self.goals)
+
+
+def together(mutants):
+    """The texts of the files that the mutants change, one after another."""
+    texts = {}
+    for it in mutants:
+        texts = edited_texts(it.edit, it.crate.folder, texts)
+    return texts
+
+
+def goes_with(mutant, batch):
+    if not all(mutant.is_told_from(it) for it in batch):
+        return False
+    try:
+        return bool(together([*batch, mutant]))
+    except EditError:
+        return False
+
+
+def lines_of(mutants):
+    """How many lines the functions have that the mutants turn: the longer they are, the longer a check takes."""
+    return sum(len(lines) for it in mutants for lines in (it.bodies or {}).values())
+
 
 def packed(mutants):
-    """Batches of mutants that turn different functions: each in the first batch where its functions are free."""
+    """Batches of mutants that one check tells apart: each in the first batch that it goes with."""
     batches = []
     for mutant in mutants:
-        free = next((it for it in batches if not any(mutant.bodies.keys() & other.bodies.keys() for other in it)), None)
+        free = next((it for it in batches if goes_with(mutant, it)), None)
         if free is None:
             batches.append(free := [])
         free.append(mutant)
@@ -130,6 +165,8 @@ class Answer:
             folder = turned.path(file).replace("::", "/")
             for line in self.lines:
                 note, error = OWN_NOTE.match(line), PROOF_ERROR.match(line)
+                if not mutant.is_named(line):
+                    continue
                 if note and note[1] == file and turned.has_line(int(note[2])) and not ONLY_A_CALLEE.search(note[3]):
                     return line[len("note: ") :]
                 if error and error[1] == folder and not LOST_NAME.search(error[2]):
@@ -162,18 +199,27 @@ class Trial:
         self.passed = self.failed = self.together = self.alone = self.open = 0
         self.work, self.peak, self.started = 0.0, 0, time.time()
         self.spare, self.lock = [], threading.Lock()
+        self.first, self.has_first = f"{crate.folder}/out/incremental", False
         crate.texts = crate.sources()
 
     @contextlib.contextmanager
     def kept(self):
-        """A copy of the crate's kept work that no other check uses meanwhile."""
+        """Kept work that no other check uses meanwhile: what an earlier check left, else a copy of the crate's own, or of
+        what the first check left."""
         with self.lock:
             folder = self.spare.pop() if self.spare else ""
         if not folder:
             folder = tempfile.mkdtemp(prefix="kept-", dir=self.room)
-            if os.path.isdir(f"{self.crate.folder}/out/incremental"):
-                shutil.copytree(f"{self.crate.folder}/out/incremental", folder, dirs_exist_ok=True)
+            if os.path.isdir(self.first):
+                shutil.copytree(self.first, folder, dirs_exist_ok=True)
         yield folder
+        with self.lock:
+            is_first, self.has_first = not self.has_first, True
+        if is_first:
+            first = f"{self.room}/first"
+            shutil.copytree(folder, f"{first}.part")
+            os.rename(f"{first}.part", first)
+            self.first = first
         with self.lock:
             self.spare.append(folder)
 
@@ -206,7 +252,7 @@ class Trial:
         return max((it for it in modules if it and path.startswith(f"{it}::")), key=len, default="")
 
     def tasks(self):
-        """Its first tasks. A task is a number of mutants and a call, which answers further tasks. None waits for another."""
+        """Its first tasks. A task is a number of lines and a call, which answers further tasks. None waits for another."""
         mutants = []
         folder = f"{self.crate.folder}/mutants"
         for name in sorted(os.listdir(folder)):
@@ -223,12 +269,12 @@ class Trial:
         return self.further(batches, [it for it in mutants if not it.bodies])
 
     def further(self, batches, alone):
-        """The tasks of batches that are tried together, and of mutants that are tried alone."""
-        tasks = [(len(it), functools.partial(self.do, self.try_together, it)) for it in batches]
-        tasks += [(1, functools.partial(self.do, self.try_alone, it)) for it in alone]
+        """The tasks of batches that are tried together, and of mutants that are tried alone, the longest first."""
+        tasks = [(lines_of(it), functools.partial(self.do, self.try_together, it)) for it in batches]
+        tasks += [(lines_of([it]), functools.partial(self.do, self.try_alone, it)) for it in alone]
         with self.lock:
             self.open += len(tasks)
-        return tasks
+        return sorted(tasks, key=lambda it: it[0], reverse=True)
 
     def do(self, tried, what):
         tasks = tried(what)
@@ -250,16 +296,14 @@ class Trial:
         self.say(f"{name}: {text}")
 
     def try_together(self, batch):
-        """Tries mutants that turn different functions in one check. Those that it does not settle are to be tried alone."""
+        """Tries mutants in one check that tells them apart. Those that it does not settle are to be tried alone."""
         if len(batch) == 1:
             return self.further([], batch)
-        bodies = {key: lines for it in batch for key, lines in it.bodies.items()}
-        files = {file for file, _ in bodies}
-        of = {file: {number: it for (at, number), it in bodies.items() if at == file} for file in files}
-        texts = {file: with_bodies(self.crate.texts[file], of[file]) for file in files}
+        texts = together(batch)
         with self.lock:
             self.together += 1
-        answer = self.check(texts, [path for it in batch for path in it.targets()])
+        answer = self.check(texts, [*dict.fromkeys(path for it in batch for path in it.targets())])
+        self.say(f"   {self.crate.name}: {len(batch)} mutants in one check of {answer.seconds} s")
         if not answer.is_refused and not answer.is_proved:
             # one of them does not compile, or is not read: it is tried without the others
             broken = [it for it in batch if answer.does_not_compile(it, texts)]
@@ -315,10 +359,11 @@ def try_mutants(root, names, jobs, kit):
         for crate in sorted(chosen, key=size, reverse=True):
             os.mkdir(f"{room}/{crate.name}")
             trials.append(Trial(crate, f"{room}/{crate.name}", run, say))
-        # the longest first, so that none of them is alone at the end
-        first = sorted((it for trial in trials for it in trial.tasks()), key=lambda it: it[0], reverse=True)
+        # one of each crate, over whose kept work the others go, and then the longest, so that none is alone at the end
+        tasks = [(not place, *it) for trial in trials for place, it in enumerate(trial.tasks())]
+        tasks.sort(key=lambda it: it[:2], reverse=True)
         with ThreadPoolExecutor(lanes(jobs)) as pool:
-            running = {pool.submit(task) for _, task in first}
+            running = {pool.submit(task) for _, _, task in tasks}
             while running:
                 done, running = wait(running, return_when=FIRST_COMPLETED)
                 running |= {pool.submit(task) for it in done for _, task in it.result()}

@@ -8,6 +8,7 @@ import io
 import os
 import sys
 import tempfile
+import types
 import unittest
 
 sys.dont_write_bytecode = True
@@ -37,6 +38,12 @@ impl<A: Size> From<Pair<A>> for u16 {
             return 0;
         }
         2
+    }
+}
+
+impl TryFrom<&[u8]> for [u16; 4] {
+    fn try_from(bytes: &[u8]) -> Result<Self, Fault> {
+        Err(Fault)
     }
 }
 
@@ -94,7 +101,7 @@ PLACES = {"takes_longer_steps": "at: next\n"}
 class Reading(unittest.TestCase):
     def test_functions_are_named_as_a_check_names_them(self):
         found = [it.path("src/pairs/size.rt") for it in edits.functions_of(SOURCE)]
-        wanted = ["Size::words", "U16FromPairA::from", "Pair::is_empty"]
+        wanted = ["Size::words", "U16FromPairA::from", "ArrayU164TryFromRefSliceU8::try_from", "Pair::is_empty"]
         self.assertEqual([f"pairs::size::{it}" for it in wanted], found)
 
     def test_a_function_begins_at_its_attributes(self):
@@ -102,10 +109,8 @@ class Reading(unittest.TestCase):
         self.assertEqual("    #[inline]", SOURCE.split("\n")[words.head])
         self.assertEqual(["        self.bytes() / 2"], words.lines)
 
-    def test_a_body_takes_the_place_of_another(self):
+    def test_a_body_is_no_part_of_the_rest(self):
         turned = SOURCE.replace("/ 2", "/ 3")
-        bodies = {0: edits.functions_of(turned)[0].lines}
-        self.assertEqual(turned, edits.with_bodies(SOURCE, bodies))
         self.assertEqual(edits.skeleton(SOURCE), edits.skeleton(turned))
 
     def test_a_clause_is_no_body(self):
@@ -115,6 +120,33 @@ class Reading(unittest.TestCase):
     def test_a_file_names_its_module(self):
         files = ["src/lib.rt", "src/a.rt", "src/a/mod.rt", "src/a/b.rt", "specs/A.antt"]
         self.assertEqual(["", "a", "a", "a::b", ""], [edits.module_of(it) for it in files])
+
+
+class Packing(unittest.TestCase):
+    def batches(self, *turning):
+        with tempfile.TemporaryDirectory(prefix="mutants-test-") as folder:
+            crate = types.SimpleNamespace(name="sizes", folder=folder, texts={"src/lib.rt": SOURCE})
+            os.makedirs(f"{folder}/src")
+            Trying.write(f"{folder}/src/lib.rt", SOURCE)
+            found = []
+            for number, edit in enumerate(turning):
+                Trying.write(f"{folder}/{number}.edit", f"file: src/lib.rt\n{edit}\n")
+                found.append(mutants.Mutant(crate, f"{folder}/{number}.edit"))
+            return [[found.index(it) for it in batch] for batch in mutants.packed(found)]
+
+    def test_a_function_is_turned_twice_in_a_check_only_if_the_goals_differ(self):
+        empty = "old: if pair.is_empty()\nnew: if !pair.is_empty()"
+        zero = "old: return 0;\nnew: return 1;"
+        for first, second, batches in (
+            ("goal: a\n", "goal: b\n", [[0, 1]]),
+            ("goal: a\n", "goal: b\ngoal: a\n", [[0], [1]]),
+            ("goal: a\n", "", [[0], [1]]),
+            ("", "", [[0], [1]]),
+        ):
+            self.assertEqual(batches, self.batches(first + empty, second + zero))
+
+    def test_edits_of_one_place_are_apart(self):
+        self.assertEqual([[0], [1]], self.batches(*(f"goal: {it}\nold: return 0;\nnew: return {it};" for it in "34")))
 
 
 class Answers(unittest.TestCase):
@@ -129,7 +161,7 @@ class Answers(unittest.TestCase):
 
     def test_only_a_note_of_its_own_refuses_a_function(self):
         mutant = mutants.Mutant.__new__(mutants.Mutant)
-        mutant.bodies = {("src/lib.rt", 1): []}
+        mutant.bodies, mutant.goals = {("src/lib.rt", 1): []}, []
         texts = {"src/lib.rt": STEPS}
         for line, refuses in {
             "note: src/lib.rt:14:1: it is not proved that what the function ensures holds when it returns": True,
@@ -139,6 +171,21 @@ class Answers(unittest.TestCase):
             "fn steps::after_next: no proof: it calls `steps::next`, which is not proved": False,
             "./proofs/after_next/Answers.antt:3:5: error: `returns`: `c.from` is not in scope": False,
             "./proofs/next/Answers.antt:3:5: error: `returns`: the two types differ": False,
+        }.items():
+            found = self.answer(1, "only=2 proved=0", line).in_place(mutant, texts)
+            self.assertEqual(refuses, found is not None, line)
+
+    def test_only_a_goal_that_it_names_refuses_a_mutant(self):
+        mutant = mutants.Mutant.__new__(mutants.Mutant)
+        mutant.bodies, mutant.goals = {("src/lib.rt", 1): []}, ["returns-in-2", "returns-in-3"]
+        texts = {"src/lib.rt": STEPS}
+        note = "note: src/lib.rt:14:1: it is not proved that what the function ensures holds when it returns"
+        error = "./proofs/after_next/Answers.antt:3:5: error"
+        for line, refuses in {
+            f"{note} (`returns-in-2`)": True,
+            f"{error}: `returns-in-3`: the two types differ": True,
+            f"{note} (`returns-in-21`)": False,
+            f"{error}: `returns`: the two types differ": False,
         }.items():
             found = self.answer(1, "only=2 proved=0", line).in_place(mutant, texts)
             self.assertEqual(refuses, found is not None, line)
