@@ -110,6 +110,7 @@ def together(mutants):
 
 
 def goes_with(mutant, batch):
+    """Whether one check tells the mutant from those of the batch, and its edit applies behind theirs."""
     if not all(mutant.is_told_from(it) for it in batch):
         return False
     try:
