@@ -55,9 +55,10 @@ class Crate:
         words += ["--antt-project", f"{self.kit}/rattle/logic/antt-project.json"]
         return [*words, "--logic-built", f"{self.kit}/logic_built", "--links", f"{self.name}=", *self.kind]
 
-    def sources(self):
+    def texts_of(self, part):
+        """The texts of the files below a part of its folder, by their paths."""
         texts = {}
-        for at, _, files in os.walk(f"{self.folder}/src"):
+        for at, _, files in os.walk(f"{self.folder}/{part}"):
             for it in files:
                 with open(f"{at}/{it}", encoding="utf-8") as file:
                     texts[os.path.relpath(f"{at}/{it}", self.folder)] = file.read()

@@ -1,7 +1,7 @@
 """Edits of source files, and the functions that they turn.
 
 A source file is read by its layout, which `rt fmt` gives it: a function's body stands between a line that ends in `{`
-and a line that is `}`, both indented as the line of its `fn`.
+and a line that is `}`, both indented as the line of its `fn`, or is a line `{}` indented so.
 """
 import os
 import re
@@ -17,10 +17,10 @@ class EditError(Exception):
 class Function:
     """A function with a body: the lines where its attributes begin and its body opens and ends, counted from 0."""
 
-    def __init__(self, blocks, name, head, opening, end, lines):
-        self.blocks, self.name = blocks, name
+    def __init__(self, blocks, name, is_of_trait, head, opening, end, lines):
+        self.blocks, self.name, self.is_of_trait = blocks, name, is_of_trait
         self.head, self.opening, self.end = head, opening, end
-        self.lines = lines[opening + 1 : end]
+        self.top, self.lines = lines[head : opening + 1], lines[opening + 1 : end]
 
     def has_line(self, number):
         """Whether a line, counted from 1, is one of its own."""
@@ -29,6 +29,12 @@ class Function:
     def path(self, file):
         """Its name as a check prints it, below the crate: module, type and trait, function."""
         return "::".join(it for it in [module_of(file), *self.blocks, self.name] if it)
+
+    def renamed(self, name, body):
+        """The lines of a function with its contract, and with this name and body."""
+        at, fn = next((at, fn) for at, fn in enumerate(map(FN.match, self.top)) if fn)
+        head = self.top[at][: fn.start(2)] + name + self.top[at][fn.end(2) :]
+        return [*self.top[:at], head, *self.top[at + 1 :], *body, fn[1] + "}"]
 
 
 def module_of(file):
@@ -81,13 +87,14 @@ def functions_of(text):
             opening = opening_of(lines, at, fn[1])
             end = end_of(lines, opening, fn[1]) if opening is not None else None
             if end is not None:
-                found.append(Function([it for _, it in blocks], fn[2], top_of(lines, at), opening, end, lines))
+                names, of_trait = [it for _, it, _ in blocks], any(it for _, _, it in blocks)
+                found.append(Function(names, fn[2], of_trait, top_of(lines, at), opening, end, lines))
                 at = end
         elif block:
             opening = opening_of(lines, at, block[1])
             if opening is not None:
                 header = " ".join(lines[at : opening + 1]).strip()
-                blocks.append((block[1], block_name(block[2], header)))
+                blocks.append((block[1], block_name(block[2], header), is_of_trait(block[2], header)))
                 at = opening
         at += 1
     return found
@@ -99,7 +106,7 @@ def opening_of(lines, at, indent):
         line = lines[number]
         is_deeper = line.startswith(indent + " ")
         if line.endswith(";") or line.endswith(("{", "}")) and not is_deeper:
-            return number if line.endswith("{") else None
+            return number if line.endswith("{") or line == indent + "{}" else None
     return None
 
 
@@ -111,6 +118,8 @@ def top_of(lines, at):
 
 
 def end_of(lines, opening, indent):
+    if lines[opening] == indent + "{}":
+        return opening
     return next((it for it in range(opening + 1, len(lines)) if lines[it] == indent + "}"), None)
 
 
@@ -131,6 +140,14 @@ def block_name(kind, header):
     head = without_parameters(head)
     trait, is_of_trait, of = head.rpartition(" for ")
     return type_name(of, False) + (type_name(trait, True) if is_of_trait else "")
+
+
+def is_of_trait(kind, header):
+    """Whether a block is a trait, or an impl of one, which has no other functions than the trait says."""
+    if kind != "impl":
+        return kind == "trait"
+    head = re.split(r"\bwhere\b|\{", header, maxsplit=1)[0]
+    return " for " in without_parameters(head[re.search(r"\bimpl\b", head).end() :])
 
 
 def without_parameters(head):

@@ -7,14 +7,17 @@ A mutant is a file crates/NAME/mutants/*.edit, of the form of the edits of must-
 then pairs of lines 'old: TEXT' and 'new: TEXT'. Each old text stands once in that file; further pairs apply to what the
 earlier ones made. With no CRATE named, the mutants of all crates of crates.txt are tried.
 
-Mutants that turn different functions are tried in one check of a copy of the crate, which looks at those functions and
-at what they call. Each mutant has to be refused in its place: by a note at a line of the function that it turns, or by
-an error in that function's folder of proofs/. That a function calls a refused one is no refusal of its own.
-Lines 'goal: NAME' in mutants name what is not to be proved of their function. Mutants that turn one function at
-different places and name different goals are tried together too, and each has to be refused by a goal of its own.
-A mutant that turns something else than the body of a function, and one that was not refused in its place, is tried
-alone, and then any refusal is its own. Lines 'at: PATH' in it name functions, or modules, to look at first. A mutant that
-does not apply, or does not reach the prover, is a failure.
+Mutants are tried together in one check of a copy of the crate, which looks at the functions that they turn, and at
+what these call. Each has to be refused in its place: by a note at a line of its function, by an error in that function's
+folder of proofs/, or as a goal of it that no search proved. That a function calls a refused one is no refusal of its own.
+Where several turn one function, each after the first stands beside it as a function of a name of its own, with its
+contract and what is written of its proof. A function of a trait has no such place, nor has one whose code a proof
+elsewhere names. There, lines 'goal: NAME' in mutants name what is not to be proved of it: mutants that name different
+goals are tried together too, and each has to be refused by a goal of its own.
+A mutant that turns something else than bodies of functions names by lines 'at: PATH' the functions that are to be
+refused. Such mutants are tried together as above, apart from the others. One that names no function, and one that was
+not refused in its place, is tried alone, and then any refusal is its own. A mutant that does not apply, or does not reach
+the prover, is a failure.
 
 The crates as they stand have to be proved, as by `rt ci` or `rt all check`: this is not tried again. Libraries that are
 newer than their sources, and kept work, are taken from crates/NAME/out/, and nothing is written to the repository.
@@ -42,6 +45,7 @@ from edits import EditError, edited_texts, functions_of, module_of, skeleton  # 
 EDIT_NAME = re.compile(r"[A-Za-z0-9_-][A-Za-z0-9_.-]*\.edit")
 OWN_NOTE = re.compile(r"note: (?:\./)?(src/[^:]+):(\d+):\d+: (it is not proved that .*)")
 ONLY_A_CALLEE = re.compile(r"\b(it calls|it passes|a call of)\b")
+OWN_GOALS = re.compile(r"fn \w+::(\S+): no proof: .*`search` did not prove `")
 CODE_ERROR = re.compile(r"(?:\./)?(src/[^:]+):(\d+):\d+: error")
 PROOF_ERROR = re.compile(r"(?:\./)?proofs/(\S+)/[^/]+\.antt:\d+:\d+: error: (.*)")
 # A proof that names what an edit took away says little of the contract.
@@ -52,8 +56,9 @@ STALE = re.compile(r"module .Rattle-(\w+)-.*Run the lower steps again")
 
 
 class Mutant:
-    """An edit. Its bodies are those of the functions that it turns, {(file, number of the function): lines}, or None
-    where it turns something else."""
+    """An edit. Its bodies are those of the functions that it turns, {path: lines}, or None where it turns something
+    else. Its seats are the functions that are to be refused: those, or else the ones that it names, if it names no
+    other place."""
 
     def __init__(self, crate, path):
         self.crate, self.name = crate, f"{crate.name}/{os.path.basename(path)}"
@@ -62,24 +67,26 @@ class Mutant:
         self.texts = edited_texts(self.edit, crate.folder)
         self.places = re.findall(r"^at: (\S+)$", self.edit, re.MULTILINE)
         self.goals = re.findall(r"^goal: (\S+)$", self.edit, re.MULTILINE)
-        self.bodies = {}
+        self.bodies = self.turned_bodies()
+        self.seats = [*(self.bodies or self.places)]
+        if not all(it in crate.functions for it in self.seats):
+            self.seats = []
+
+    def turned_bodies(self):
+        bodies = {}
         for file, text in self.texts.items():
-            was = crate.texts.get(file)
+            was = self.crate.texts.get(file)
             if was is None or skeleton(was) != skeleton(text):
-                self.bodies = None
-                return
-            for number, (old, new) in enumerate(zip(functions_of(was), functions_of(text))):
-                if old.lines != new.lines:
-                    self.bodies[file, number] = new.lines
-        self.bodies = self.bodies or None
+                return None
+            turned = functions_in(file, text)
+            bodies |= {path: it.lines for path, it in turned.items() if it.lines != self.crate.functions[path][1].lines}
+        return bodies or None
 
     def targets(self):
         """What to look at: the places that it names, else its functions, else the modules that name what it changes, or
         [] for the whole crate."""
-        if self.places:
-            return self.places
-        if self.bodies:
-            return [functions_of(self.crate.texts[file])[number].path(file) for file, number in self.bodies]
+        if self.places or self.bodies:
+            return self.places or [*self.bodies]
         files = {*self.texts}
         for file in self.texts:
             was = self.crate.texts.get(file, "").split("\n")
@@ -91,8 +98,8 @@ class Mutant:
         return modules if all(modules) else []
 
     def is_told_from(self, other):
-        """Whether a check of both says which of them is refused: they turn different functions, or name different goals."""
-        if not self.bodies.keys() & other.bodies.keys():
+        """Whether a check of both says which of them is refused: other functions are to be, or other goals of one."""
+        if not {*self.seats} & {*other.seats}:
             return True
         return self.goals and other.goals and not {*self.goals} & {*other.goals}
 
@@ -100,38 +107,105 @@ class Mutant:
         """Whether the refusal is of a goal that it names, if it names any."""
         return not self.goals or any(f"`{it}`" in refusal for it in self.goals)
 
+    def stands_beside(self):
+        """Whether each function that it turns can stand beside the right one: it is none of a trait, and no proof but its
+        own names what is made of its code."""
+        for path in self.bodies or {}:
+            code = f"Rattle.{self.crate.name}.proofs.{path.replace('::', '.')}."
+            others = (text for file, text in self.crate.proofs.items() if os.path.dirname(file) != proofs_of(path))
+            if self.crate.functions[path][1].is_of_trait or any(code in it for it in others):
+                return False
+        return bool(self.bodies)
 
-def together(mutants):
-    """The texts of the files that the mutants change, one after another."""
-    texts = {}
-    for it in mutants:
-        texts = edited_texts(it.edit, it.crate.folder, texts)
-    return texts
+    def lines(self):
+        """How many lines the functions have that are to be refused: the longer they are, the longer a check takes."""
+        return sum(len(self.crate.functions[it][1].lines) for it in self.seats)
 
 
-def goes_with(mutant, batch):
-    """Whether one check tells the mutant from those of the batch, and its edit applies behind theirs."""
-    if not all(mutant.is_told_from(it) for it in batch):
+def proofs_of(path):
+    """The folder of what is written of the proof of a function."""
+    return "proofs/" + path.replace("::", "/")
+
+
+def functions_in(file, text):
+    """The functions of a source file by their paths."""
+    return {it.path(file): it for it in functions_of(text)}
+
+
+def read_in(crate):
+    """Reads the files of a crate that its mutants turn, or that stand beside these."""
+    crate.texts, crate.proofs = crate.texts_of("src"), crate.texts_of("proofs")
+    functions = {file: functions_in(file, text) for file, text in crate.texts.items()}
+    crate.functions = {path: (file, it) for file, found in functions.items() for path, it in found.items()}
+
+
+class Batch:
+    """Mutants that one check tells apart. Those of one function stand inside it, if they name different goals, or beside
+    it under names of their own."""
+
+    def __init__(self):
+        self.inside, self.beside, self.texts = [], [], {}
+
+    def takes(self, mutant):
+        """Takes the mutant in, if it goes with the others."""
+        if self.inside and bool(self.inside[0].bodies) != bool(mutant.bodies):
+            return False
+        if all(mutant.is_told_from(it) for it in self.inside):
+            with contextlib.suppress(EditError):
+                self.texts = edited_texts(mutant.edit, mutant.crate.folder, self.texts)
+                self.inside.append(mutant)
+                return True
+        if mutant.stands_beside():
+            self.beside.append(mutant)
+            return True
         return False
-    try:
-        return bool(together([*batch, mutant]))
-    except EditError:
-        return False
+
+    def mutants(self):
+        return [*self.inside, *self.beside]
+
+    def seats(self):
+        """The paths of the functions that are to be refused, by mutant."""
+        seats = {it: it.seats for it in self.inside}
+        for number, it in enumerate(self.beside):
+            seats[it] = [f"{path}_turned_{number}" for path in it.seats]
+        return seats
+
+    def lines(self):
+        return sum(it.lines() for it in self.mutants())
+
+    def whole(self):
+        """The texts of the files that the mutants change or add."""
+        texts = dict(self.texts)
+        for mutant, seats in self.seats().items():
+            for path, seat in zip(mutant.seats, seats):
+                if path != seat:
+                    self.put_beside(texts, mutant, path, seat)
+        return texts
+
+    @staticmethod
+    def put_beside(texts, mutant, path, seat):
+        """Puts a turned function behind the one that it turns, and what is written of its proof."""
+        crate = mutant.crate
+        file, right = crate.functions[path]
+        text = texts.get(file, crate.texts[file])
+        lines, end = text.split("\n"), functions_in(file, text)[path].end
+        lines[end + 1 : end + 1] = ["", *right.renamed(seat.split("::")[-1], mutant.bodies[path])]
+        texts[file] = "\n".join(lines)
+        was, now = (it.replace("::", ".") for it in (path, seat))
+        named = re.compile(rf"\bRattle\.{crate.name}\.(proofs|specs\.contracts)\.{re.escape(was)}\.")
+        for proof, text in crate.proofs.items():
+            if os.path.dirname(proof) == proofs_of(path):
+                text = named.sub(rf"Rattle.{crate.name}.\1.{now}.", text)
+                texts[f"{proofs_of(seat)}/{os.path.basename(proof)}"] = text
 
 
-def lines_of(mutants):
-    """How many lines the functions have that the mutants turn: the longer they are, the longer a check takes."""
-    return sum(len(lines) for it in mutants for lines in (it.bodies or {}).values())
-
-
-def packed(mutants):
+def batches_of(mutants):
     """Batches of mutants that one check tells apart: each in the first batch that it goes with."""
     batches = []
     for mutant in mutants:
-        free = next((it for it in batches if goes_with(mutant, it)), None)
-        if free is None:
-            batches.append(free := [])
-        free.append(mutant)
+        if not any(it.takes(mutant) for it in batches):
+            batches.append(Batch())
+            batches[-1].takes(mutant)
     return batches
 
 
@@ -159,26 +233,25 @@ class Answer:
             return False
         return not found[2] or bool(UNREADABLE.search(re.sub(r"`[^`]*`", "", found[3])))
 
-    def in_place(self, mutant, texts):
-        """What refuses one of the functions that the mutant turns, or None."""
-        for file, number in mutant.bodies:
-            turned = functions_of(texts[file])[number]
-            folder = turned.path(file).replace("::", "/")
+    def in_place(self, mutant, seats, functions):
+        """What refuses one of the functions that are to be refused, or None."""
+        for seat in seats:
+            file, turned = functions[seat]
+            folder = seat.replace("::", "/")
             for line in self.lines:
-                note, error = OWN_NOTE.match(line), PROOF_ERROR.match(line)
+                note, error, goals = (it.match(line) for it in (OWN_NOTE, PROOF_ERROR, OWN_GOALS))
                 if not mutant.is_named(line):
                     continue
                 if note and note[1] == file and turned.has_line(int(note[2])) and not ONLY_A_CALLEE.search(note[3]):
                     return line[len("note: ") :]
-                if error and error[1] == folder and not LOST_NAME.search(error[2]):
+                if error and error[1] == folder and not LOST_NAME.search(error[2]) or goals and goals[1] == seat:
                     return line
         return None
 
-    def does_not_compile(self, mutant, texts):
-        """Whether an error stands in one of the functions that the mutant turns."""
+    def does_not_compile(self, seats, functions):
+        """Whether an error stands in one of these functions."""
         places = [(it[1], int(it[2])) for it in map(CODE_ERROR.match, self.lines) if it]
-        turned = [(file, functions_of(texts[file])[number]) for file, number in mutant.bodies]
-        return any(at == file and function.has_line(line) for at, line in places for file, function in turned)
+        return any(at == functions[it][0] and functions[it][1].has_line(line) for at, line in places for it in seats)
 
     def first_error(self):
         """What refuses an edit that is tried alone."""
@@ -201,7 +274,7 @@ class Trial:
         self.work, self.peak, self.started = 0.0, 0, time.time()
         self.spare, self.lock = [], threading.Lock()
         self.first, self.has_first = f"{crate.folder}/out/incremental", False
-        crate.texts = crate.sources()
+        read_in(crate)
 
     @contextlib.contextmanager
     def kept(self):
@@ -231,6 +304,7 @@ class Trial:
                 if os.path.isdir(f"{self.crate.folder}/{part}"):
                     shutil.copytree(f"{self.crate.folder}/{part}", f"{copy}/{part}")
             for path, text in texts.items():
+                os.makedirs(os.path.dirname(f"{copy}/{path}"), exist_ok=True)
                 with open(f"{copy}/{path}", "w", encoding="utf-8") as file:
                     file.write(text)
             words = ["check", *self.crate.words(), "--incremental", kept, "--jobs", "1"]
@@ -241,7 +315,9 @@ class Trial:
                     self.work, self.peak = self.work + seconds, max(self.peak, peak)
                 unknown = [it for it in only if status == 2 and f"`{it}`" in said.split("rattle: error: ")[-1]]
                 if not unknown:
-                    answer = Answer(status, said, texts)
+                    # (a proof that stands beside another is no text of an edit)
+                    edited = [it for it in texts if os.path.isfile(f"{self.crate.folder}/{it}")]
+                    answer = Answer(status, said, edited)
                     answer.seconds = round(seconds)
                     return answer
                 # a name that the prover does not know: its module, or with none the whole crate
@@ -266,13 +342,15 @@ class Trial:
             except (EditError, OSError, UnicodeDecodeError) as error:
                 self.judge(f"{self.crate.name}/{name}", False, f"BAD EDIT: {error}")
         self.count = len(mutants)
-        batches = packed([it for it in mutants if it.bodies])
-        return self.further(batches, [it for it in mutants if not it.bodies])
+        return self.further([it for it in mutants if it.seats], [it for it in mutants if not it.seats])
 
-    def further(self, batches, alone):
-        """The tasks of batches that are tried together, and of mutants that are tried alone, the longest first."""
-        tasks = [(lines_of(it), functools.partial(self.do, self.try_together, it)) for it in batches]
-        tasks += [(lines_of([it]), functools.partial(self.do, self.try_alone, it)) for it in alone]
+    def further(self, together, alone):
+        """The tasks of mutants that are tried together, and of those that are tried alone, the longest first."""
+        batches = batches_of(together)
+        alone = [*alone, *(it for batch in batches if len(batch.mutants()) == 1 for it in batch.mutants())]
+        batches = [it for it in batches if len(it.mutants()) > 1]
+        tasks = [(it.lines(), functools.partial(self.do, self.try_together, it)) for it in batches]
+        tasks += [(it.lines(), functools.partial(self.do, self.try_alone, it)) for it in alone]
         with self.lock:
             self.open += len(tasks)
         return sorted(tasks, key=lambda it: it[0], reverse=True)
@@ -298,23 +376,23 @@ class Trial:
 
     def try_together(self, batch):
         """Tries mutants in one check that tells them apart. Those that it does not settle are to be tried alone."""
-        if len(batch) == 1:
-            return self.further([], batch)
-        texts = together(batch)
+        texts, seats, mutants = batch.whole(), batch.seats(), batch.mutants()
+        functions = {path: (file, it) for file, text in texts.items() for path, it in functions_in(file, text).items()}
+        functions = self.crate.functions | functions
         with self.lock:
             self.together += 1
-        answer = self.check(texts, [*dict.fromkeys(path for it in batch for path in it.targets())])
-        self.say(f"   {self.crate.name}: {len(batch)} mutants in one check of {answer.seconds} s")
+        answer = self.check(texts, [*dict.fromkeys(path for it in mutants for path in seats[it])])
+        self.say(f"   {self.crate.name}: {len(mutants)} mutants in one check of {answer.seconds} s")
         if not answer.is_refused and not answer.is_proved:
             # one of them does not compile, or is not read: it is tried without the others
-            broken = [it for it in batch if answer.does_not_compile(it, texts)]
-            if len(broken) in (0, len(batch)):
-                broken = batch[: len(batch) // 2]
-            self.say(f"   {self.crate.name}: {len(batch)} mutants are tried in two parts: {answer.why}")
-            return self.further([broken, [it for it in batch if it not in broken]], [])
+            broken = [it for it in mutants if answer.does_not_compile(seats[it], functions)]
+            if len(broken) in (0, len(mutants)):
+                broken = mutants[: len(mutants) // 2]
+            self.say(f"   {self.crate.name}: {len(mutants)} mutants are tried in two parts: {answer.why}")
+            return [*self.further(broken, []), *self.further([it for it in mutants if it not in broken], [])]
         left = []
-        for mutant in batch:
-            refused = answer.in_place(mutant, texts)
+        for mutant in mutants:
+            refused = answer.in_place(mutant, seats[mutant], functions)
             if refused:
                 self.judge(mutant.name, True, f"refused: {refused[:160]}")
             else:
@@ -345,7 +423,7 @@ def try_mutants(root, names, jobs, kit):
     if unknown:
         sys.exit(f"mutants: crates.txt names no crate {unknown[0]}")
     chosen = [it for it in crates.values() if (not names or it.name in names) and os.path.isdir(f"{it.folder}/mutants")]
-    size = lambda crate: sum(len(it) for it in crate.sources().values())
+    size = lambda crate: sum(len(it) for it in crate.texts_of("src").values())
     run, lock = Runner(kit), threading.Lock()
 
     def say(text):

@@ -53,8 +53,25 @@ impl<'a> Pair<'a> {
     pub(crate) fn is_empty(&self) -> bool {
         true
     }
+
+    /// Whether there is one.
+    pub fn is_single(&self) -> bool {
+        self.len() == 1
+    }
 }
+
+pub fn law()
+    ensures one { 1 ≡ 1 }
+    ensures two { 2 ≡ 2 }
+{}
 """
+
+# What is written of the proofs of two functions, one of which names what is made of the other's code.
+PROOFS = {
+    "proofs/Pair/is_empty/Answers.antt": "use Rattle.sizes.proofs.Pair.is_empty.Goals as goal\n",
+    "proofs/Pair/is_single/Answers.antt": "use Rattle.sizes.proofs.Pair.is_single.Goals as goal\n",
+    "proofs/Singles.antt": "use Rattle.sizes.proofs.Pair.is_single.Given\n",
+}
 
 STEPS = """\
 //! Numbers that follow one another.
@@ -84,8 +101,10 @@ pub fn half(number: u8) -> u8
 """
 
 # Each edit of the crate `steps`, with how the line of its verdict begins. Two are proved: the contract of `half` lets a
-# third through, and `after_next` stays as it was, but calls a function that is refused in the same check.
+# third through, and `after_next` stays as it was, but calls a function that is refused in the same check. Three turn
+# `half`: two of them stand beside it, and one of these does not compile.
 EDITS = {
+    "adds_a_number_to_half": ("number / 2", "number / 2 + number", "refused: src/lib.rt"),
     "adds_in_another_order": ("next(number) + 1", "1 + next(number)", "NOT REFUSED"),
     "does_not_apply": ("number / 4", "number / 5", "BAD EDIT: an 'old:' text"),
     "does_not_compile": ("number / 2", "numeral / 2", "BAD EDIT: it did not reach the prover"),
@@ -101,8 +120,13 @@ PLACES = {"takes_longer_steps": "at: next\n"}
 class Reading(unittest.TestCase):
     def test_functions_are_named_as_a_check_names_them(self):
         found = [it.path("src/pairs/size.rt") for it in edits.functions_of(SOURCE)]
-        wanted = ["Size::words", "U16FromPairA::from", "ArrayU164TryFromRefSliceU8::try_from", "Pair::is_empty"]
+        wanted = ["Size::words", "U16FromPairA::from", "ArrayU164TryFromRefSliceU8::try_from"]
+        wanted += ["Pair::is_empty", "Pair::is_single", "law"]
         self.assertEqual([f"pairs::size::{it}" for it in wanted], found)
+
+    def test_only_a_function_of_a_trait_is_one(self):
+        found = [it.is_of_trait for it in edits.functions_of(SOURCE)]
+        self.assertEqual([True, True, True, False, False, False], found)
 
     def test_a_function_begins_at_its_attributes(self):
         words = edits.functions_of(SOURCE)[0]
@@ -125,14 +149,19 @@ class Reading(unittest.TestCase):
 class Packing(unittest.TestCase):
     def batches(self, *turning):
         with tempfile.TemporaryDirectory(prefix="mutants-test-") as folder:
-            crate = types.SimpleNamespace(name="sizes", folder=folder, texts={"src/lib.rt": SOURCE})
-            os.makedirs(f"{folder}/src")
-            Trying.write(f"{folder}/src/lib.rt", SOURCE)
-            found = []
-            for number, edit in enumerate(turning):
-                Trying.write(f"{folder}/{number}.edit", f"file: src/lib.rt\n{edit}\n")
-                found.append(mutants.Mutant(crate, f"{folder}/{number}.edit"))
-            return [[found.index(it) for it in batch] for batch in mutants.packed(found)]
+            found = self.mutants(folder, *turning)
+            return [[found.index(it) for it in batch.mutants()] for batch in mutants.batches_of(found)]
+
+    @staticmethod
+    def mutants(folder, *turning):
+        texts = {"src": {"src/lib.rt": SOURCE}, "proofs": PROOFS}
+        crate = types.SimpleNamespace(name="sizes", folder=folder, texts_of=texts.get)
+        mutants.read_in(crate)
+        os.makedirs(f"{folder}/src")
+        Trying.write(f"{folder}/src/lib.rt", SOURCE)
+        for number, edit in enumerate(turning):
+            Trying.write(f"{folder}/{number}.edit", f"file: src/lib.rt\n{edit}\n")
+        return [mutants.Mutant(crate, f"{folder}/{number}.edit") for number in range(len(turning))]
 
     def test_a_function_is_turned_twice_in_a_check_only_if_the_goals_differ(self):
         empty = "old: if pair.is_empty()\nnew: if !pair.is_empty()"
@@ -148,8 +177,32 @@ class Packing(unittest.TestCase):
     def test_edits_of_one_place_are_apart(self):
         self.assertEqual([[0], [1]], self.batches(*(f"goal: {it}\nold: return 0;\nnew: return {it};" for it in "34")))
 
+    def test_a_turned_function_stands_beside_another(self):
+        with tempfile.TemporaryDirectory(prefix="mutants-test-") as folder:
+            turning = (f"old:         true\nnew:         {it}" for it in ("false", "!true"))
+            first, second = self.mutants(folder, *turning)
+            (batch,) = mutants.batches_of([first, second])
+            self.assertEqual({first: ["Pair::is_empty"], second: ["Pair::is_empty_turned_0"]}, batch.seats())
+            texts = batch.whole()
+        beside = "        false\n    }\n\n    pub(crate) fn is_empty_turned_0(&self) -> bool {\n        !true\n    }\n"
+        self.assertIn(beside, texts["src/lib.rt"])
+        answers = "use Rattle.sizes.proofs.Pair.is_empty_turned_0.Goals as goal\n"
+        self.assertEqual(answers, texts["proofs/Pair/is_empty_turned_0/Answers.antt"])
+
+    def test_none_stands_beside_one_whose_code_a_proof_elsewhere_names(self):
+        self.assertEqual([[0], [1]], self.batches(*(f"old: self.len() == 1\nnew: self.len() == {it}" for it in "23")))
+
+    def test_edits_of_something_else_stand_apart_from_those_of_bodies(self):
+        body = "old: self.len() == 1\nnew: self.len() == 2"
+        laws = [f"at: law\ngoal: {goal}\nold: {it} ≡ {it}\nnew: {it} ≡ 3" for it, goal in (("1", "one"), ("2", "two"))]
+        self.assertEqual([[0], [1, 2]], self.batches(body, *laws))
+
 
 class Answers(unittest.TestCase):
+    @staticmethod
+    def functions():
+        return {path: ("src/lib.rt", it) for path, it in mutants.functions_in("src/lib.rt", STEPS).items()}
+
     def answer(self, status, last, *lines):
         return mutants.Answer(status, "\n".join([*lines, last, ""]), {"src/lib.rt"})
 
@@ -161,24 +214,24 @@ class Answers(unittest.TestCase):
 
     def test_only_a_note_of_its_own_refuses_a_function(self):
         mutant = mutants.Mutant.__new__(mutants.Mutant)
-        mutant.bodies, mutant.goals = {("src/lib.rt", 1): []}, []
-        texts = {"src/lib.rt": STEPS}
+        mutant.goals, functions = [], self.functions()
         for line, refuses in {
             "note: src/lib.rt:14:1: it is not proved that what the function ensures holds when it returns": True,
             "./proofs/after_next/Answers.antt:3:5: error: `returns`: the two types differ": True,
             "note: src/lib.rt:8:1: it is not proved that what the function ensures holds when it returns": False,
             "note: src/lib.rt:14:1: it calls `steps::next`, which is not proved": False,
+            "fn steps::after_next: no proof: expected answers in ./proofs; `search` did not prove `returns`": True,
+            "fn steps::after_next_2: no proof: expected answers in ./proofs; `search` did not prove `returns`": False,
             "fn steps::after_next: no proof: it calls `steps::next`, which is not proved": False,
             "./proofs/after_next/Answers.antt:3:5: error: `returns`: `c.from` is not in scope": False,
             "./proofs/next/Answers.antt:3:5: error: `returns`: the two types differ": False,
         }.items():
-            found = self.answer(1, "only=2 proved=0", line).in_place(mutant, texts)
+            found = self.answer(1, "only=2 proved=0", line).in_place(mutant, ["after_next"], functions)
             self.assertEqual(refuses, found is not None, line)
 
     def test_only_a_goal_that_it_names_refuses_a_mutant(self):
         mutant = mutants.Mutant.__new__(mutants.Mutant)
-        mutant.bodies, mutant.goals = {("src/lib.rt", 1): []}, ["returns-in-2", "returns-in-3"]
-        texts = {"src/lib.rt": STEPS}
+        mutant.goals, functions = ["returns-in-2", "returns-in-3"], self.functions()
         note = "note: src/lib.rt:14:1: it is not proved that what the function ensures holds when it returns"
         error = "./proofs/after_next/Answers.antt:3:5: error"
         for line, refuses in {
@@ -187,7 +240,7 @@ class Answers(unittest.TestCase):
             f"{note} (`returns-in-21`)": False,
             f"{error}: `returns`: the two types differ": False,
         }.items():
-            found = self.answer(1, "only=2 proved=0", line).in_place(mutant, texts)
+            found = self.answer(1, "only=2 proved=0", line).in_place(mutant, ["after_next"], functions)
             self.assertEqual(refuses, found is not None, line)
 
 
@@ -208,7 +261,7 @@ class Trying(unittest.TestCase):
         verdicts = dict(it[len("steps/") :].split(".edit: ") for it in lines if it.startswith("steps/"))
         for name, (_, _, wanted) in EDITS.items():
             self.assertTrue(verdicts[name].startswith(wanted), f"{name}: {verdicts[name]}")
-        self.assertEqual("3 passed, 4 failed", lines[-1])
+        self.assertEqual("4 passed, 4 failed", lines[-1])
         self.assertEqual(1, status)
 
     @staticmethod

@@ -1,4 +1,8 @@
-//! What no clause says of a run: that memory suffices, and readers and writers that give little or fail.
+//! What no clause says of a run: that memory suffices, and readers and writers that give little or fail. And the calls of
+//! `uses`, which has no tests of its own, since a crate with tests is proved twice.
+
+mod callers;
+mod walks;
 
 use crate::running::run;
 use std::alloc::Global;

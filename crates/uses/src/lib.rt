@@ -28,6 +28,3 @@ pub use changing::{ChangeError, with_attribute, with_vlan_id};
 
 // A list in canonical form.
 pub use normalising::{canonical, normalised};
-
-#[cfg(test)]
-mod tests;

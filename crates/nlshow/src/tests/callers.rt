@@ -1,13 +1,11 @@
-//! The calls on real requests, what `ip link add` of iproute2 6.1 sends for a bond and for a VLAN, and on others.
+//! The calls of `uses` on real requests, what `ip link add` of iproute2 6.1 sends for a bond and for a VLAN, and on others.
 
-mod messages;
-
-use crate::{
+use netlink_packet_route::Family;
+use netlink_packet_route::link::{BondMode, InfoBond, InfoBridge, InfoVlan, VlanProtocol};
+use uses::{
     BufferError, bond_request, bridge_request, canonical, first_fault, forward_delay, monitoring,
     normalised, print_list, read_front, vlan_request, with_attribute, with_vlan_id, write_into,
 };
-use netlink_packet_route::Family;
-use netlink_packet_route::link::{BondMode, InfoBond, InfoBridge, InfoVlan, VlanProtocol};
 
 /// `ip link add bond0 type bond mode 802.3ad miimon 100`
 const BOND: [u8; 16] = [5, 0, 1, 0, 4, 0, 0, 0, 8, 0, 3, 0, 100, 0, 0, 0];

@@ -1,10 +1,10 @@
-//! The walk from a buffer down to the lists. What is said of messages is shown by the stored run of `nlshow`, line by
-//! line; here is what it does not print.
+//! The walk of `uses` from a buffer down to the lists. What is said of messages is shown by the stored run, line by line;
+//! here is what it does not print.
 
-use crate::messages::{
+use netlink_packet_route::Family;
+use uses::messages::{
     DumpError, MessageError, Part, find_in, last_of_kind, next_message, read_link, read_links,
 };
-use netlink_packet_route::Family;
 
 /// Two DSA ports, the second without a name, and NLMSG_DONE.
 const TWO: &str = "\
