@@ -11,8 +11,6 @@ mod reporting;
 mod rewriting;
 mod rewriting_into;
 mod rewriting_to;
-#[cfg(test)]
-mod tests;
 
 pub use counting::count_values;
 pub use family::Family;

@@ -7,6 +7,8 @@
 
 mod asking;
 mod calls;
+#[cfg(test)]
+mod tests;
 
 use anyhow::Result;
 

@@ -1,10 +1,10 @@
 //! Records that are no attributes: worked bytes, and refusals.
 
-use crate::link::{
+use bitflags::Flags;
+use netlink_packet_route::link::{
     BridgeBooleanOptionFlags, BridgeBooleanOptions, BridgeId, BridgeIdBuffer, BridgeVlanInfo,
     BridgeVlanInfoFlags, Cause, DecodeError, DecodeFault, Emitable,
 };
-use bitflags::Flags;
 
 fn refusal(cause: Cause) -> DecodeError {
     DecodeError::Fault(DecodeFault::Payload(cause))

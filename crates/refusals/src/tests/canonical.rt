@@ -1,8 +1,10 @@
 //! Which bytes are canonical, and where the first attribute stands that is not.
 
-use crate::link::{BridgeQuerierState, CanTdc, DefaultNla, InfoDsa, list_is_canonical};
 use crate::tests::{bytes, can_limits, holds};
-use crate::{Family, first_not_canonical, is_canonical, rewrite};
+use netlink_packet_route::link::{
+    BridgeQuerierState, CanTdc, DefaultNla, InfoDsa, list_is_canonical,
+};
+use netlink_packet_route::{Family, first_not_canonical, is_canonical, rewrite};
 use std::alloc::Global;
 use std::process::Abort;
 

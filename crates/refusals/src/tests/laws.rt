@@ -1,6 +1,7 @@
 //! Each law, called: those of attributes at each type of attributes, the others at one type at least.
 
-use crate::link::{
+use link_base::{flag_laws, named_laws};
+use netlink_packet_route::link::{
     AfSpecBridge, Attribute, BondAdInfo, BondAdSelect, BondAllPortActive, BondArpAllTargets,
     BondArpValidate, BondFailOverMac, BondLacpRate, BondMode, BondPortState, BondPrimaryReselect,
     BondXmitHashPolicy, BridgeBooleanOptionFlags, BridgeFlag, BridgeMode,
@@ -10,7 +11,6 @@ use crate::link::{
     InfoCan, InfoDsa, InfoHsr, InfoVlan, LacpState, LinkProtoInfoBridge, MiiStatus, VlanFlags,
     VlanQosMapping, laws,
 };
-use link_base::{flag_laws, named_laws};
 
 #[test]
 fn laws_of_tables() {

@@ -3,7 +3,7 @@
 mod bridges;
 
 use crate::tests::{bytes, holds};
-use crate::{Family, MOST_TEXT, is_canonical, report, rewrite};
+use netlink_packet_route::{Family, MOST_TEXT, is_canonical, report, rewrite};
 use std::alloc::Global;
 use std::process::Abort;
 

@@ -1,11 +1,11 @@
 //! Numbers and addresses as payloads, one of each form.
 
-use crate::link::{
+use crate::tests::holds;
+use netlink_packet_route::link::{
     Cause, DecodeError, DecodeFault, emit_i32, emit_u16, emit_u16_be, emit_u32, emit_u64,
     expand_buffer_if_small, parse_i32, parse_ip, parse_mac, parse_u8, parse_u16, parse_u16_be,
     parse_u32, parse_u64,
 };
-use crate::tests::holds;
 use std::alloc::Global;
 use std::net::{IpAddr, Ipv4Addr, Ipv6Addr};
 use std::process::Abort;

@@ -3,9 +3,9 @@
 ghost use Rattle.std.specs.Prelude.{◌≡◌, ◌+◌, length};
 ghost use Rattle.link_base.specs.Frame.{pad};
 
-use crate::link::{Cause, DecodeFault};
 use crate::tests::{bytes, can_limits, holds};
-use crate::{Family, RewriteError, is_canonical, rewrite, rewrite_into};
+use netlink_packet_route::link::{Cause, DecodeFault};
+use netlink_packet_route::{Family, RewriteError, is_canonical, rewrite, rewrite_into};
 use std::alloc::Global;
 use std::process::Abort;
 

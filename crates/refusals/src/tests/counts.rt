@@ -1,8 +1,8 @@
 //! How many values a list has, and which fault it has first.
 
-use crate::link::{Cause, DecodeFault, ListError};
 use crate::tests::{bytes, holds};
-use crate::{Family, count_values};
+use netlink_packet_route::link::{Cause, DecodeFault, ListError};
+use netlink_packet_route::{Family, count_values};
 use std::alloc::Global;
 use std::process::Abort;
 

@@ -1,14 +1,14 @@
 //! Displayed texts of faults and errors, and debug texts.
 
-use crate::link::{
+use crate::tests::{holds, list};
+use bitflags::Flags;
+use netlink_packet_route::link::{
     AfSpecBridge, BondAdInfo, BondMode, BridgeMode, CanCtrlModeFlags, Cause, DecodeError,
     DecodeFault, DefaultNla, InfoBond, InfoDsa, LacpState, LinkProtoInfoBridge, ListError,
     NlaBuffer, NlasIterator, VecAfSpecBridge, VecLinkProtoInfoBridge, VlanFlags, VlanProtocol,
     WriteError,
 };
-use crate::tests::{holds, list};
-use crate::{Family, RewriteError};
-use bitflags::Flags;
+use netlink_packet_route::{Family, RewriteError};
 use std::alloc::{AllocError, Global};
 use std::fmt::{Debug, Display};
 use std::process::Abort;

@@ -1,7 +1,7 @@
 //! Frames: their fields, their faults, and how they follow one another.
 
-use crate::link::{Cause, DecodeError, DecodeFault, NlaBuffer, NlasIterator};
 use crate::tests::{bytes, holds};
+use netlink_packet_route::link::{Cause, DecodeError, DecodeFault, NlaBuffer, NlasIterator};
 use std::alloc::Global;
 use std::process::Abort;
 

@@ -1,12 +1,12 @@
 //! Named numbers: their values, and the texts that are displayed and read.
 
-use crate::link::{
+use crate::tests::holds;
+use netlink_packet_route::link::{
     BondAdSelect, BondAllPortActive, BondArpAllTargets, BondArpValidate, BondFailOverMac,
     BondLacpRate, BondMode, BondPortState, BondPrimaryReselect, BondXmitHashPolicy, BridgeFlag,
     BridgeMode, BridgeMulticastRouterType, BridgePortState, BridgeStpMode, BridgeStpState,
     ChurnState, DecodeError, DecodeFault, HsrProtocol, MiiStatus, VlanProtocol,
 };
-use crate::tests::holds;
 use std::alloc::Global;
 use std::fmt::Display;
 use std::process::Abort;

@@ -1,7 +1,7 @@
 //! Every prefix of a canonical list of each family: the values of its whole frames, or the fault of one that is cut.
 
 use crate::tests::holds;
-use crate::{Family, report};
+use netlink_packet_route::{Family, report};
 use std::alloc::Global;
 use std::process::Abort;
 

@@ -1,6 +1,6 @@
 //! What a user takes from `link` and no other test does: the parts of a kind field, and `parse` of a named type.
 
-use crate::link::{
+use netlink_packet_route::link::{
     DefaultNla, NLA_F_NESTED, NLA_F_NET_BYTEORDER, NLA_TYPE_MASK, Nla, NlaBuffer, Parseable,
 };
 

@@ -1,7 +1,7 @@
 //! Tables of frames: where the frames of some bytes start, and what follows them.
 
-use crate::link::{Cause, FrameTable};
 use crate::tests::{bytes, holds};
+use netlink_packet_route::link::{Cause, FrameTable};
 use std::process::Abort;
 
 /// Where the frames of some bytes start, and their first frame fault.

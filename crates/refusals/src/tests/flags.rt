@@ -1,9 +1,9 @@
 //! Sets of flags: their constants, and the calls of `Flags`.
 
-use crate::link::{
+use bitflags::Flags;
+use netlink_packet_route::link::{
     BridgeBooleanOptionFlags, BridgeVlanInfoFlags, CanCtrlModeFlags, LacpState, VlanFlags,
 };
-use bitflags::Flags;
 use std::fmt::Debug;
 use std::hash::{DefaultHasher, Hash, Hasher};
 use std::process::Abort;
@@ -137,23 +137,46 @@ fn can_modes(rt: HostRuntime) {
 fn calls<F: Flags<Bits = u32> + Copy + PartialEq>(rt: &impl Abort) {
     let a = F::from_bits_retain(0x8000_0003);
     let b = F::from_bits_retain(0x5);
-    assert!(rt; a.union(b).bits() == 0x8000_0007 && a.intersection(b).bits() == 0x1);
-    assert!(rt; a.difference(b).bits() == 0x8000_0002);
-    assert!(rt; a.symmetric_difference(b).bits() == 0x8000_0006);
-    assert!(rt; a.complement().bits() == 0x7FFF_FFFC);
-    let mut set = a;
-    set.insert(b);
-    assert!(rt; set == a.union(b) && set.contains(b) && !a.contains(b));
-    set.remove(b);
-    assert!(rt; set == a.difference(b) && !set.intersects(b) && a.intersects(b));
-    set.toggle(b);
-    assert!(rt; set == a.union(b));
-    set.set(b, false);
-    assert!(rt; set == a.difference(b));
+    let mut inserted = a;
+    inserted.insert(b);
+    let mut removed = inserted;
+    removed.remove(b);
+    let mut toggled = removed;
+    toggled.toggle(b);
+    let mut unset = toggled;
+    unset.set(b, false);
+    let mut set = unset;
     set.set(b, true);
-    assert!(rt; set == a.union(b));
-    assert!(rt; F::all().is_all() && !a.is_all() && F::empty().is_empty() && !a.is_empty());
-    assert!(rt; F::from_bits(0x8000_0000) == Some(F::from_bits_retain(0x8000_0000)));
+    let retained = F::from_bits(0x8000_0000).map_or(0, |it| it.bits());
+    for (bits, wanted) in [
+        (a.union(b).bits(), 0x8000_0007),
+        (a.intersection(b).bits(), 0x1),
+        (a.difference(b).bits(), 0x8000_0002),
+        (a.symmetric_difference(b).bits(), 0x8000_0006),
+        (a.complement().bits(), 0x7FFF_FFFC),
+        (inserted.bits(), 0x8000_0007),
+        (removed.bits(), 0x8000_0002),
+        (toggled.bits(), 0x8000_0007),
+        (unset.bits(), 0x8000_0002),
+        (set.bits(), 0x8000_0007),
+        (retained, 0x8000_0000),
+    ] {
+        assert!(rt; bits == wanted);
+    }
+    for (is_so, wanted) in [
+        (inserted.contains(b), true),
+        (a.contains(b), false),
+        (a.intersects(b), true),
+        (removed.intersects(b), false),
+        (F::all().is_all(), true),
+        (a.is_all(), false),
+        (F::empty().is_empty(), true),
+        (a.is_empty(), false),
+        (set == a.union(b), true),
+        (set == a, false),
+    ] {
+        assert!(rt; is_so == wanted);
+    }
 }
 
 #[test]

@@ -1,10 +1,10 @@
 //! The lists of the payloads of `IFLA_AF_SPEC` and `IFLA_PROTINFO` as types of their own.
 
-use crate::link::{
+use crate::tests::{bytes, holds, list};
+use netlink_packet_route::link::{
     AfSpecBridge, BridgeFlag, BridgeVlanTunnelInfo, Cause, DecodeFault, LinkProtoInfoBridge,
     ListError, VecAfSpecBridge, VecLinkProtoInfoBridge,
 };
-use crate::tests::{bytes, holds, list};
 
 #[test]
 fn attributes(rt: HostRuntime) {

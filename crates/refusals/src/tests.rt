@@ -19,7 +19,7 @@ mod tables;
 mod texts;
 mod values;
 
-use crate::link::{
+use netlink_packet_route::link::{
     Attribute, DecodeError, DecodeFault, ListError, NlaBuffer, TryClone, read_list, write_list,
 };
 use std::alloc::Global;

@@ -1,12 +1,12 @@
 //! Payloads as long as can be, and values that do not fit.
 
-use crate::link::{
+use crate::tests::{bytes, holds, list};
+use netlink_packet_route::link::{
     AfSpecBridge, Attribute, BridgeVlanInfo, BridgeVlanInfoFlags, DefaultNla, InfoBond, InfoCan,
     InfoVlan, Nla, VlanQosMapping, WriteError, emit_list, list_fits, list_len, read_list,
     write_list,
 };
-use crate::tests::{bytes, holds, list};
-use crate::{Family, RewriteError, report, rewrite};
+use netlink_packet_route::{Family, RewriteError, report, rewrite};
 use std::alloc::Global;
 use std::net::{Ipv4Addr, Ipv6Addr};
 use std::process::Abort;

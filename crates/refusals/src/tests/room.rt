@@ -1,8 +1,8 @@
 //! Lists that are rewritten where there is room.
 
-use crate::link::{Cause, DecodeFault};
 use crate::tests::{bytes, holds};
-use crate::{Family, RewriteError, rewrite_to};
+use netlink_packet_route::link::{Cause, DecodeFault};
+use netlink_packet_route::{Family, RewriteError, rewrite_to};
 
 #[test]
 fn room(rt: HostRuntime) {

@@ -1,6 +1,8 @@
 //! Values of worked bytes, and of each case that holds memory: read, copied and written.
 
-use crate::link::{
+use crate::tests::{are_refused, bytes, can_limits, is_kept, is_written, list, reads_as};
+use bitflags::Flags;
+use netlink_packet_route::link::{
     AfSpecBridge, BondAdInfo, BondArpValidate, BondMode, BridgeFlag, BridgeId, BridgePortState,
     BridgeQuerierState, BridgeVlanInfo, BridgeVlanInfoFlags, BridgeVlanTunnelInfo, CanBerrCounter,
     CanBitTiming, CanBitTimingConst, CanClock, CanCtrlMode, CanCtrlModeExt, CanCtrlModeFlags,
@@ -8,8 +10,6 @@ use crate::link::{
     InfoBridgePort, InfoCan, InfoDsa, InfoHsr, InfoVlan, LacpState, LinkProtoInfoBridge, VlanFlags,
     VlanProtocol, VlanQosMapping, read_list, write_list,
 };
-use crate::tests::{are_refused, bytes, can_limits, is_kept, is_written, list, reads_as};
-use bitflags::Flags;
 use std::alloc::Global;
 use std::net::{Ipv4Addr, Ipv6Addr};
 use std::process::Abort;
