@@ -195,26 +195,26 @@ length-leaves_cut (v ∷ vs) =
 
 -- ---- what is written for a content that was read
 
--- what is written for a content that was read is the payload exactly where this is canonical
-pub content_fixed : (s : Shape) (p : List ℕ) (c : Content) → IsBytes p → length p ≤ 65531 → Means s p c → (content_payload c ≡ p) ↔ IsCanonicalContent s p
-content_fixed (One k) p c hp hl m =
-    let tidy = tidy_iff k p hp m.0 in
-    (λ e. record { is_accepted = m.0; is_tidy = tidy.0 (sym (ap content_payload m.1) ∙ e) }, λ a. ap content_payload m.1 ∙ tidy.1 a.is_tidy)
-content_fixed (Nested flagged rows) p c hp hl m =
-    let iff = fixed_iff_canonical (leaf_reading rows) (leaf_holding rows) (leaf_writing rows) p (written_leaves m.0) hp (rewritten rows p m.0 hp m.1) in
-    (λ e. iff.0 (sym (ap content_payload m.2) ∙ e), λ a. ap content_payload m.2 ∙ iff.1 a)
-content_fixed (Addresses n) p c hp hl m =
+-- what is written for a content that was read is the payload where this is canonical
+pub content_stays : (s : Shape) (p : List ℕ) (c : Content) → IsBytes p → Means s p c → IsCanonicalContent s p → content_payload c ≡ p
+content_stays (One k) p c hp m a = ap content_payload m.1 ∙ (tidy_iff k p hp m.0).1 a.is_tidy
+content_stays (Nested flagged rows) p c hp m a =
+    ap content_payload m.2 ∙ (fixed_iff_canonical (leaf_reading rows) (leaf_holding rows) (leaf_writing rows) p (written_leaves m.0) hp (rewritten rows p m.0 hp m.1)).1 a
+content_stays (Addresses n) p c hp m a =
+    let own = addresses_from 0 a.addresses in
+    let same : m.0 ≡ own = one_cut_lem p m.0 own m.1 (record { frames = AreFrames-complete own a.complete; string = a.string }) in
+    let are : of_length n (payloads m.0) ≡ a.addresses = ap (λ xs. of_length n (payloads xs)) same ∙ of_length-addresses n 0 a.addresses a.each in
+    ap content_payload m.2 ∙ ap (λ t. spelled (addresses_from 0 t)) are ∙ sym a.string
+
+-- and the payload is canonical where it is what is written
+pub content_allowed : (s : Shape) (p : List ℕ) (c : Content) → IsBytes p → length p ≤ 65531 → Means s p c → content_payload c ≡ p → IsCanonicalContent s p
+content_allowed (One k) p c hp hl m e = record { is_accepted = m.0; is_tidy = (tidy_iff k p hp m.0).0 (sym (ap content_payload m.1) ∙ e) }
+content_allowed (Nested flagged rows) p c hp hl m e =
+    (fixed_iff_canonical (leaf_reading rows) (leaf_holding rows) (leaf_writing rows) p (written_leaves m.0) hp (rewritten rows p m.0 hp m.1)).0 (sym (ap content_payload m.2) ∙ e)
+content_allowed (Addresses n) p c hp hl m e =
     let octets = of_length n (payloads m.0) in
-    let each = octets-frames n m.0 (known_of p m.0 hp m.1) in (
-      λ e.
-          let is : spelled (addresses_from 0 octets) ≡ p = sym (ap content_payload m.2) ∙ e in
-          record { addresses = octets; each = sizes n octets each; complete = complete_addresses 0 octets (omega (arith, ap length is)); string = sym is },
-      λ a.
-          let own = addresses_from 0 a.addresses in
-          let same : m.0 ≡ own = one_cut_lem p m.0 own m.1 (record { frames = AreFrames-complete own a.complete; string = a.string }) in
-          let are : octets ≡ a.addresses = ap (λ xs. of_length n (payloads xs)) same ∙ of_length-addresses n 0 a.addresses a.each in
-          ap content_payload m.2 ∙ ap (λ t. spelled (addresses_from 0 t)) are ∙ sym a.string,
-    )
+    let is : spelled (addresses_from 0 octets) ≡ p = sym (ap content_payload m.2) ∙ e in
+    record { addresses = octets; each = sizes n octets (octets-frames n m.0 (known_of p m.0 hp m.1)); complete = complete_addresses 0 octets (omega (arith, ap length is)); string = sym is }
 
 -- a canonical payload has a content
 pub content_reads : (s : Shape) (p : List ℕ) → IsBytes p → IsCanonicalContent s p → (c : Content) × Means s p c

@@ -172,8 +172,9 @@ leaf_holding rows = record {
 -- what holds of each value that was read, and of what is allowed
 pub leaf_writing : (rows : Rows) → IsWriting (LeafGives rows) leaf_field leaf_payload leaf_cut (LeafAllows rows)
 leaf_writing rows = record {
-  allowed_reads = λ f p hf hp hl a. allowed_value (class_at rows (kind_of f)) f p a;
-  fixed = λ f p v hf hp h hl. leaf_fixed rows f p v hf hp h;
+  allowed_reads = λ f p hf hp a. allowed_value (class_at rows (kind_of f)) f p a;
+  allowed_stays = λ f p v hf hp h a. (leaf_fixed rows f p v hf hp h).1 a;
+  stays_allowed = λ f p v hf hp hl h same. (leaf_fixed rows f p v hf hp h).0 same;
   length_bound = λ f p v hf hp h. let short = leaf_short rows f p v hf hp h in omega arith;
   cut_allowed = λ f p v hf hp h fit. leaf_cut_allowed rows f p v hf hp h;
   cut_fits = λ f p v hf hp h fit. omega (arith, fit, length-leaf_cut v);

@@ -11,11 +11,11 @@ use Rattle.link_base.specs.Table.{Table, Rows, One, Nested, AttrValue, Case, Sin
 use Rattle.link_base.proofs.KindFaults.{under_nested}
 
 -- what was read as it should, and handed on, was put to its place
-pub put_under : {X V : Type 0} (takes : X → Type 0) (view : X → V) (kind : ℕ) (given : Result V DecodeFault → Type 0) (read : Result X DecodeError) (answered : Result (Unit {0}) DecodeError) → Hands takes read answered → Answers view (under_kind kind read) given → Puts takes view (under_kind kind answered) given
-put_under takes view kind given (Ok x) (Ok done) taken answer = (x, taken, answer)
-put_under takes view kind given (Err e) (Err a) same answer = subst (λ e. Fails (value_error kind e) given) (sym same) answer
-put_under takes view kind given (Ok x) (Err a) never answer = absurd never
-put_under takes view kind given (Err e) (Ok done) never answer = absurd never
+pub put_under : {X V : Type 0} (takes : X → Type 0) (unchanged : Type 0) (view : X → V) (kind : ℕ) (given : Result V DecodeFault → Type 0) (read : Result X DecodeError) (answered : Result (Unit {0}) DecodeError) → Hands takes unchanged read answered → Answers view (under_kind kind read) given → Puts takes unchanged view (under_kind kind answered) given
+put_under takes unchanged view kind given (Ok x) (Ok done) taken answer = (x, taken, answer)
+put_under takes unchanged view kind given (Err e) (Err a) same answer = (subst (λ e. Fails (value_error kind e) given) (sym same.0) answer, same.1)
+put_under takes unchanged view kind given (Ok x) (Err a) never answer = absurd never
+put_under takes unchanged view kind given (Err e) (Ok done) never answer = absurd never
 
 -- a nested list that was read is the value of its case
 case_of : {X Y : Type 0} (view : X → AttrValue) (means : Y → AttrValue) (made : X → Y) (kind : ℕ) (given : Result AttrValue DecodeFault → Type 0) (r : Result X DecodeError) (m : Result Y DecodeError) → ((x : X) → means (made x) ≡ view x) → MatchResult r (λ x. IsOkAnd m (λ y. y ≡ made x)) (λ e. m ≡ Err e) → under_kind kind r ≡ r → Answers view r given → Answers means (under_kind kind m) given

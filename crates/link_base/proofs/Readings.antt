@@ -97,7 +97,7 @@ module _ {V : Type 0} {gives : Reading V} (laws : IsReading gives) where
       exclusive xs front vs rest fault next.frames hv.1 hy.1 some here next.rest
 
   -- a string does not have both values and a first fault
-  not_both : (s : List ℕ) (vs : List V) (at : ℕ) (fault : DecodeFault) → Wire gives s vs → FirstFault gives s at fault → ⊥
+  pub not_both : (s : List ℕ) (vs : List V) (at : ℕ) (fault : DecodeFault) → Wire gives s vs → FirstFault gives s at fault → ⊥
   not_both s vs at fault w h =
       exclusive w.frames h.front vs h.rest fault w.string.frames w.values h.complete h.some h.here (sym w.string.string ∙ h.string)
 

@@ -235,14 +235,15 @@ pub into_unfit : (table : Table) (s rest : List ℕ) (count i : ℕ) (vs : List 
 into_unfit table s rest count i vs w none u = (vs, underway_all (Gives table) s count rest vs w none, u)
 
 -- the next value is held in memory
-pub needs_memory : {V : Type 0} (gives : Reading V) (table : Table) (s rest : List ℕ) (count f at : ℕ) (p : List ℕ) (vs : List V) (e : DecodeError) → Underway gives s count rest vs → rest ≢ []
-    → BeginsWith rest (bare f p) → OnMemory {X = V} (Err e) (TakesMemory table f) → OnListMemory {X = V} (Err (list_error at e)) (NeedsMemory table s)
-needs_memory gives table s rest count f at p vs (errors.Fault c) w some b takes = tt
-needs_memory gives table s rest count f at p vs (errors.Memory e) w some b takes = record {
+pub needs_memory : (table : Table) (s rest : List ℕ) (count f at : ℕ) (p : List ℕ) (vs : List AttrValue) (e : DecodeError) → Underway (Gives table) s count rest vs → rest ≢ []
+    → BeginsWith rest (bare f p) → OnMemory {X = AttrValue} (Err e) (TakesMemory table f) → OnListMemory {X = AttrValue} (Err (list_error at e)) (NeedsMemory table s)
+needs_memory table s rest count f at p vs (errors.Fault c) w some b takes = tt
+needs_memory table s rest count f at p vs (errors.Memory e) w some b takes = record {
   front = w.counted.front;
   rest = rest;
   string = w.counted.string;
   complete = all_complete rest w.counted.front w.counted.frames some;
+  values = all_zip-all (λ x v. FrameGives (Gives table) x (Ok v)) w.counted.front vs w.values;
   frame = bare f p;
   here = b;
   takes = takes;

@@ -51,10 +51,8 @@ module _ {V : Type 0} {gives : Reading V} {field : V → ℕ} {payload : V → L
       let hp : x.payload ≡ payload v = ap (λ (y : Frame). y.payload) first in
       let hz : x.padding ≡ replicate (gap x.payload) 0 = ap (λ (y : Frame). y.padding) first ∙ ap (λ p. replicate (gap p) 0) (sym hp) in
       let complete : IsComplete x = record { kind_field = k.0.kind_field; payload = k.0.payload; padding = ap length hz ∙ length-replicate (gap x.payload) 0 } in
-      let same = writing.fixed x.kind_field x.payload v k.0.kind_field k.0.bytes h.0 k.0.payload in (
-        record { complete = complete; zeros = hz; allowed = same.0 (sym hf, sym hp) },
-        canonical_each xs vs k.1 h.1 later,
-      )
+      let allowed = writing.stays_allowed x.kind_field x.payload v k.0.kind_field k.0.bytes k.0.payload h.0 (sym hf, sym hp) in
+      (record { complete = complete; zeros = hz; allowed = allowed }, canonical_each xs vs k.1 h.1 later)
 
   -- a string that is its own rewriting is canonical
   pub canonical_from_fixed : (s t : List ℕ) → IsBytes s → RewritingBy gives field payload s t → t ≡ s → CanonicalBy allows s
@@ -72,7 +70,7 @@ module _ {V : Type 0} {gives : Reading V} {field : V → ℕ} {payload : V → L
   -- the value of a canonical frame is written as it stands, and fits
   frame_stays : (x : Frame) (v : V) → IsCanonicalFrame allows x → IsKnown x → FrameGives gives x (Ok v) → (frame_for field payload v ≡ x) × FitsBy payload v
   frame_stays x v h k hv =
-      let same = (writing.fixed x.kind_field x.payload v k.kind_field k.bytes hv k.payload).1 h.allowed in (
+      let same = writing.allowed_stays x.kind_field x.payload v k.kind_field k.bytes hv h.allowed in (
         same_frame (frame_for field payload v) x same.0 same.1 (ap (λ p. replicate (gap p) 0) same.1 ∙ sym h.zeros),
         subst (λ p. length p ≤ 65531) (sym same.1) k.payload,
       )
@@ -101,7 +99,7 @@ module _ {V : Type 0} {gives : Reading V} {field : V → ℕ} {payload : V → L
   values_each : (xs : List Frame) → AllByRecursion (IsCanonicalFrame allows) xs → AllByRecursion IsKnown xs → (vs : List V) × ReadEach gives xs vs
   values_each [] h k = ([], tt)
   values_each (x ∷ xs) h k =
-      let first = writing.allowed_reads x.kind_field x.payload k.0.kind_field k.0.bytes k.0.payload h.0.allowed in
+      let first = writing.allowed_reads x.kind_field x.payload k.0.kind_field k.0.bytes h.0.allowed in
       let later = values_each xs h.1 k.1 in
       (first.0 ∷ later.0, (first.1, later.1))
 

@@ -9,7 +9,7 @@ use Rattle.link_base.specs.Held.{ContentInRange, ContentHidesNone, InRangeBy, Is
 use Rattle.link_base.specs.Lawful.{IsReading, IsHolding, IsWriting, IsLawful}
 use Rattle.link_base.proofs.Readings.{same_ok}
 use Rattle.link_base.proofs.Leaves.{kind_below}
-use Rattle.link_base.proofs.Contents.{shape_decided, shape_one, Means, content_of, content_given, content_bytes, content_flagged, content_back, content_uncut_stays, read_content, content_fixed, content_reads, content_length, content_cut_allowed, content_cut_flag, length-content_cut, content_cut_once}
+use Rattle.link_base.proofs.Contents.{shape_decided, shape_one, Means, content_of, content_given, content_bytes, content_flagged, content_back, content_uncut_stays, read_content, content_stays, content_allowed, content_reads, content_length, content_cut_allowed, content_cut_flag, length-content_cut, content_cut_once}
 
 -- ---- readings
 
@@ -133,18 +133,19 @@ module _ (table : Table) (f : ℕ) (p : List ℕ) (v : AttrValue) (hf : f < 6553
   flag_is : (s : Shape) (c : Content) → Means s p c → content_flag c ≡ shape_flag s
   flag_is s c m = content_flagged s c (read_content s p c hp m).in_range
 
-  -- a value that was read is written as it was read exactly where that is allowed
-  attr_fixed : length p ≤ 65531 → ((written_kind v ≡ f) × (written_payload v ≡ p)) ↔ Allows table f p
-  attr_fixed hl = by_case (λ w. ((written_kind w ≡ f) × (written_payload w ≡ p)) ↔ Allows table f p)
-      (λ e. (λ same. subst (λ o. allows_by o f p) (sym e) tt, λ allowed. (refl, refl)))
-      (λ s c e m.
-      let iff = content_fixed s p c hp hl m in
-      let flag : kind_of f + content_flag c ≡ kind_of f + shape_flag s = ap (λ n. kind_of f + n) (flag_is s c m) in (
-        λ same. subst (λ o. allows_by o f p) (sym e) (sym same.0 ∙ flag, iff.0 same.1),
-        λ allowed.
-            let is : (f ≡ kind_of f + shape_flag s) × IsCanonicalContent s p = subst (λ o. allows_by o f p) e allowed in
-            (flag ∙ sym is.0, iff.1 is.1),
-      ))
+  -- a value that was read is written as it was read where that is allowed
+  attr_stays : Allows table f p → (written_kind v ≡ f) × (written_payload v ≡ p)
+  attr_stays = by_case (λ w. Allows table f p → (written_kind w ≡ f) × (written_payload w ≡ p))
+      (λ e allowed. (refl, refl))
+      (λ s c e m allowed.
+      let is : (f ≡ kind_of f + shape_flag s) × IsCanonicalContent s p = subst (λ o. allows_by o f p) e allowed in
+      (ap (λ n. kind_of f + n) (flag_is s c m) ∙ sym is.0, content_stays s p c hp m is.1))
+
+  -- and it is allowed where it is written as it was read
+  attr_allowed : length p ≤ 65531 → (written_kind v ≡ f) × (written_payload v ≡ p) → Allows table f p
+  attr_allowed hl = by_case (λ w. (written_kind w ≡ f) × (written_payload w ≡ p) → Allows table f p)
+      (λ e same. subst (λ o. allows_by o f p) (sym e) tt)
+      (λ s c e m same. subst (λ o. allows_by o f p) (sym e) (sym same.0 ∙ ap (λ n. kind_of f + n) (flag_is s c m), content_allowed s p c hp hl m same.1))
 
   -- a value that was read is written no longer than it was read, rounded up to four
   attr_length : length (written_payload v) ≤ pad (length p)
@@ -198,8 +199,9 @@ table_holding table = record {
 -- what holds of each value that was read, and of what is allowed
 table_writing : (table : Table) → IsWriting (Gives table) written_kind written_payload cut (Allows table)
 table_writing table = record {
-  allowed_reads = λ f p hf hp hl a. allowed_by (class_at table (kind_of f)) f p hp a;
-  fixed = λ f p v hf hp h hl. attr_fixed table f p v hf hp h hl;
+  allowed_reads = λ f p hf hp a. allowed_by (class_at table (kind_of f)) f p hp a;
+  allowed_stays = attr_stays table;
+  stays_allowed = λ f p v hf hp hl h same. attr_allowed table f p v hf hp h hl same;
   length_bound = attr_length table;
   cut_allowed = attr_cut_allowed table;
   cut_fits = λ f p v hf hp h fit. omega (arith, fit, length-attr_cut v);

@@ -13,18 +13,27 @@ use Rattle.link_base.specs.declared.fault.DecodeError.TheVariants as errors
 use Rattle.link_base.specs.Frame.{Frame, BeginsWith, bare, IsComplete, AreFrames, frame_bytes, spelled, frame_fault}
 use Rattle.link_base.specs.Walk.{starts, FramesOrFault, Finds}
 use Rattle.link_base.specs.Wire.{Reading, Wire, FirstFault, FrameGives}
-use Rattle.link_base.specs.Answers.{Fails, ListFails, OnListMemory, list_error}
+use Rattle.link_base.specs.Answers.{Fails, ListFails, ListAnswers, ListFaultUnless, OnListMemory, list_error}
+use Rattle.link_base.specs.Table.{Table, AttrValue, Gives, Decodes}
+use Rattle.link_base.specs.Lawful.{IsReading}
 use Rattle.link_base.specs.declared.fault.ListError.{ListError}
 use Rattle.link_base.specs.declared.fault.ListError.TheVariants as list_errors
 use Rattle.link_base.proofs.Cuts.{AreFrames-head, SameFront-frames}
 use Rattle.link_base.proofs.Fronts.{frame_fault-frame}
 use Rattle.link_base.proofs.Walking.{cut_of, length-starts}
+use Rattle.link_base.proofs.Readings.{not_both}
 
 -- a fact that holds wherever memory ran out
 pub on_list_memory : {X : Type 0} (r : Result X ListError) (P : Type 0) → P → OnListMemory r P
 on_list_memory (Ok x) P p = tt
 on_list_memory (Err (list_errors.Fault at c)) P p = tt
 on_list_memory (Err (list_errors.Memory e)) P p = p
+
+-- what a call answers says whether it fails
+pub fault_unless : {X : Type 0} (table : Table) → IsReading (Gives table) → (view : X → List AttrValue) (s : List ℕ) (r : Result X ListError) → ListAnswers view r (Gives table) s → ListFaultUnless r (Decodes table s)
+fault_unless table law view s (Ok x) w = record { values = view x; wire = w }
+fault_unless table law view s (Err (list_errors.Fault at c)) first = λ d. not_both law s d.values at c d.wire first
+fault_unless table law view s (Err (list_errors.Memory e)) any = tt
 
 -- ---- frames, some before others
 

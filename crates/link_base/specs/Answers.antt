@@ -49,7 +49,7 @@ unkinded (Err c) = Err (faults.Payload c)
 abbrev pub PayloadAnswers : {X A : Type 0} → (X → A) → Result X DecodeError → Result A Cause → Type 0
 PayloadAnswers view result told = Answers view result (λ r. r ≡ unkinded told)
 
--- the fact holds where memory ran out
+-- if the call failed with `Memory`, then P holds
 abbrev pub OnMemory : {X : Type 0} → Result X DecodeError → Type 0 → Type 0
 OnMemory (Ok x) P = Unit {0}
 OnMemory (Err (errors.Fault f)) P = Unit {0}
@@ -82,7 +82,13 @@ abbrev pub ListAnswers : {X V : Type 0} → (X → List V) → Result X ListErro
 ListAnswers view (Ok x) gives s = Wire gives s (view x)
 ListAnswers view (Err e) gives s = ListFails e gives s
 
--- the fact holds where memory ran out
+-- unless an allocation failed, the call fails with `Fault` if and only if P does not hold
+abbrev pub ListFaultUnless : {X : Type 0} → Result X ListError → Type 0 → Type 0
+ListFaultUnless (Ok x) P = P
+ListFaultUnless (Err (list_errors.Fault at f)) P = ¬ P
+ListFaultUnless (Err (list_errors.Memory e)) P = Unit {0}
+
+-- if the call failed with `Memory`, then P holds
 abbrev pub OnListMemory : {X : Type 0} → Result X ListError → Type 0 → Type 0
 OnListMemory (Ok x) P = Unit {0}
 OnListMemory (Err (list_errors.Fault at f)) P = Unit {0}

@@ -50,8 +50,9 @@ default_holding = record {
 
 default_writing : IsWriting (Gives default_table) written_kind written_payload cut (Allows default_table)
 default_writing = record {
-  allowed_reads = λ f p hf hp hl a. (Other f p, refl);
-  fixed = λ f p v hf hp h hl. of_read (λ w. ((written_kind w ≡ f) × (written_payload w ≡ p)) ↔ Allows default_table f p) f p v h (λ e. tt, λ a. (refl, refl));
+  allowed_reads = λ f p hf hp a. (Other f p, refl);
+  allowed_stays = λ f p v hf hp h a. of_read (λ w. (written_kind w ≡ f) × (written_payload w ≡ p)) f p v h (refl, refl);
+  stays_allowed = λ f p v hf hp hl h same. tt;
   length_bound = λ f p v hf hp h. of_read (λ w. length (written_payload w) ≤ pad (length p)) f p v h (omega arith);
   cut_allowed = λ f p v hf hp h fit. of_read (λ w. Allows default_table (written_kind (cut w)) (written_payload (cut w))) f p v h tt;
   cut_fits = λ f p v hf hp h fit. of_read (λ w. Fits w → Fits (cut w)) f p v h (λ g. g) fit;

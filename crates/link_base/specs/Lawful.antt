@@ -31,9 +31,11 @@ pub record IsHolding {V : Type 0} (gives : Reading V) (field : V → ℕ) (paylo
 -- what holds of each value that was read, and of what is canonical
 pub record IsWriting {V : Type 0} (gives : Reading V) (field : V → ℕ) (payload : V → List ℕ) (cut : V → V) (allows : ℕ → List ℕ → Type 0) : Type 0 where
   -- what is canonical is read
-  pub allowed_reads : (f : ℕ) (p : List ℕ) → f < 65536 → IsBytes p → length p ≤ 65531 → allows f p → (v : V) × gives f p (Ok v)
-  -- it is written as the kind field and the payload that were read, exactly where these are canonical
-  pub fixed : (f : ℕ) (p : List ℕ) (v : V) → f < 65536 → IsBytes p → gives f p (Ok v) → length p ≤ 65531 → ((field v ≡ f) × (payload v ≡ p)) ↔ allows f p
+  pub allowed_reads : (f : ℕ) (p : List ℕ) → f < 65536 → IsBytes p → allows f p → (v : V) × gives f p (Ok v)
+  -- it is written as the kind field and the payload that were read
+  pub allowed_stays : (f : ℕ) (p : List ℕ) (v : V) → f < 65536 → IsBytes p → gives f p (Ok v) → allows f p → (field v ≡ f) × (payload v ≡ p)
+  -- what is written as it was read is canonical; the bound is that of a payload, and an address list needs one
+  pub stays_allowed : (f : ℕ) (p : List ℕ) (v : V) → f < 65536 → IsBytes p → length p ≤ 65531 → gives f p (Ok v) → (field v ≡ f) × (payload v ≡ p) → allows f p
   -- it is written no longer than it was read, rounded up to four
   pub length_bound : (f : ℕ) (p : List ℕ) (v : V) → f < 65536 → IsBytes p → gives f p (Ok v) → length (payload v) ≤ pad (length p)
   -- cut, it is written in canonical form, it fits, and cutting it again changes nothing

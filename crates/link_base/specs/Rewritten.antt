@@ -4,7 +4,7 @@ use Rattle.std.specs.List.{AllByRecursion}
 use Rattle.link_base.specs.declared.fault.DecodeError.{DecodeError}
 use Rattle.link_base.specs.declared.fault.ListError.{ListError}
 use Rattle.link_base.specs.Frame.{Frame, IsComplete, BeginsWith, spelled}
-use Rattle.link_base.specs.Wire.{Wire}
+use Rattle.link_base.specs.Wire.{Wire, FrameGives}
 use Rattle.link_base.specs.Table.{Table, AttrValue, Gives, Rewriting, TakesMemory, Fits, written_payload, written_frame}
 use Rattle.link_base.specs.Answers.{Fails, ListFails, OverwritesFront, IsFirstUnfit}
 
@@ -19,18 +19,25 @@ pub record RewrittenInto (table : Table) (s old new : List ℕ) (n : ℕ) : Type
 abbrev pub IsUnfitAt : Table → List ℕ → ℕ → Type 0
 IsUnfitAt table s i = (vs : List AttrValue) × Wire (Gives table) s vs × IsFirstUnfit vs i
 
+-- s decodes, and one of its values does not fit
+pub record IsUnfit (table : Table) (s : List ℕ) : Type 0 where
+  pub first : ℕ
+  pub is : IsUnfitAt table s first
+
 -- the rewriting; or the first value that does not fit; or the first fault, unless memory ran out
 abbrev pub RewritesInto : Table → List ℕ → List ℕ → List ℕ → Result (Result ℕ ℕ) ListError → Type 0
 RewritesInto table s old new (Ok (Ok n)) = RewrittenInto table s old new n
 RewritesInto table s old new (Ok (Err i)) = IsUnfitAt table s i
 RewritesInto table s old new (Err e) = ListFails e (Gives table) s
 
--- one of the frames of s has a kind whose values are held in memory of their own
+-- one of the attributes of s has a type whose values are heap-allocated, and each attribute before it decodes: it is not
+-- behind the first fault
 pub record NeedsMemory (table : Table) (s : List ℕ) : Type 0 where
   pub front : List Frame
   pub rest : List ℕ
   pub string : s ≡ spelled front ++ rest
   pub complete : AllByRecursion IsComplete front
+  pub values : AllByRecursion (λ x. (v : AttrValue) × FrameGives (Gives table) x (Ok v)) front
   pub frame : Frame
   pub here : BeginsWith rest frame
   pub takes : TakesMemory table frame.kind_field

@@ -7,7 +7,7 @@ use Rattle.link_base.specs.declared.fault.DecodeFault.TheVariants as faults
 use Rattle.link_base.specs.Frame.{Frame, IsComplete, kind_of, frame_bytes, spelled}
 use Rattle.link_base.specs.Class
 use Rattle.link_base.specs.Class.{Class, Value, class_value, written, IsCanonicalPayload}
-use Rattle.link_base.specs.Wire.{Reading, Reads, CanonicalBy, FirstOtherBy, RewritingBy, written_by, FitsBy, whole}
+use Rattle.link_base.specs.Wire.{Reading, Reads, Wire, CanonicalBy, FirstOtherBy, RewritingBy, written_by, FitsBy, whole}
 
 -- ---- rows, and attributes of a table
 
@@ -253,6 +253,11 @@ abbrev pub Allows : Table → ℕ → List ℕ → Type 0
 Allows table f p = allows_by (class_at table (kind_of f)) f p
 
 -- ---- lists of a table
+
+-- s decodes: it is a list of attributes that read as values
+pub record Decodes (table : Table) (s : List ℕ) : Type 0 where
+  pub values : List AttrValue
+  pub wire : Wire (Gives table) s values
 
 -- the canonical grammar
 abbrev pub Canonical : Table → List ℕ → Type 0

@@ -120,7 +120,7 @@ pub trait Parseable: Meaning + Drop + Sized {
         place: &mut P,
     ) -> Result<(), DecodeError>
         requires { P.is_free place.old }
-        ensures answer { Puts (λ value. P.takes place.old value place.new) Self.means
+        ensures answer { Puts (λ value. P.takes place.old value place.new) (place.new ≡ place.old) Self.means
             (under_kind (kind_of (kind_field_of buffer.now)) result)
             (Gives Self.table (kind_field_of buffer.now) (payload_of buffer.now)) }
         ensures memory { OnMemory result (TakesMemory Self.table (kind_field_of buffer.now)) };
@@ -133,7 +133,7 @@ pub trait Parseable: Meaning + Drop + Sized {
         place: &mut P,
     ) -> Result<(), DecodeError>
         requires { P.is_free place.old }
-        ensures answer { Puts (λ value. P.takes place.old value place.new) Self.means result
+        ensures answer { Puts (λ value. P.takes place.old value place.new) (place.new ≡ place.old) Self.means result
             (Gives Self.table (kind_field_of buffer.now) (payload_of buffer.now)) }
         ensures memory { OnMemory result (TakesMemory Self.table (kind_field_of buffer.now)) }
     {

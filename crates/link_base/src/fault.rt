@@ -20,7 +20,8 @@ pub enum Cause {
     SmallLength { length: u16 },
     /// The length of a frame is greater than what is left.
     Overrun { length: u16, left: usize },
-    /// A payload has `got` bytes where exactly `want`, or a multiple of it, are wanted.
+    /// A payload of `got` bytes has to have exactly `want`. For an array of numbers `want` is the width of a number, and
+    /// `got` has to be a multiple of it.
     WrongLength { want: usize, got: usize },
     /// A payload has `got` bytes where at least `want` are wanted.
     TooShort { want: usize, got: usize },

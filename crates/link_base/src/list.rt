@@ -2,18 +2,24 @@
 
 ghost use Rattle.std.specs.Prelude.{◌≡◌, map, None};
 ghost use Rattle.link_base.specs.Frame.{frame_fault};
-ghost use Rattle.link_base.specs.Table.{Gives};
-ghost use Rattle.link_base.specs.Answers.{ListAnswers, OnListMemory};
+ghost use Rattle.link_base.specs.Table.{Gives, Decodes};
+ghost use Rattle.link_base.specs.Answers.{ListAnswers, ListFaultUnless, OnListMemory};
 
 use crate::attribute::Attribute;
 use crate::fault::{DecodeError, DecodeFault, ListError};
 use crate::frame_table::FrameTable;
 use std::alloc::Global;
 
-/// The values of a list, or its first fault with the byte offset of its frame. A fault comes before every later
-/// one, whether of a frame or of a value. `Memory` is answered only where the bytes begin with a frame.
+/// Parses an attribute list.
+///
+/// # Errors
+///
+/// `Fault` if and only if the input does not decode, unless an allocation fails: the first error in the list and the byte
+/// offset of its attribute. Errors are ordered by offset, whether the attribute itself or its payload is malformed.
+/// `Memory` if an allocation fails, which is possible only if the list starts with a whole attribute.
 pub fn read_list<F: Attribute>(alloc: Global, bytes: &[u8]) -> Result<Vec<F>, ListError>
     ensures answer { ListAnswers (λ vs. map F.means vs.items) result (Gives F.table) bytes.now }
+    ensures fault { ListFaultUnless result (Decodes F.table bytes.now) }
     ensures memory { OnListMemory result (frame_fault bytes.now ≡ None) }
 {
     let mut table = FrameTable::before_walk(alloc, bytes);

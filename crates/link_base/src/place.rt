@@ -50,14 +50,14 @@ impl<T: Drop> Place<T> for Option<T> {
     }
 }
 
-/// Puts the value that was read to its place, or answers the error.
+/// Stores the value that was read in its place. An error is returned, and the place is unchanged.
 #[inline(always)]
 pub fn keep<T: Drop, P: Place<T>>(
     place: &mut P,
     read: Result<T, DecodeError>,
 ) -> Result<(), DecodeError>
     requires { P.is_free place.old }
-    ensures { Hands (λ value. P.takes place.old value place.new) read result }
+    ensures { Hands (λ value. P.takes place.old value place.new) (place.new ≡ place.old) read result }
 {
     match read {
         Ok(value) => {

@@ -12,12 +12,15 @@ use crate::buffer::{NlaBuffer, cause_at_front};
 use crate::fault::{DecodeError, DecodeFault, ListError};
 use std::alloc::Global;
 
-/// Reads the list in the bytes, and writes each value to a lent buffer before the next is read, so that no list stands
-/// between. Answers how many bytes were written to the front of the buffer, or the place of the first value, counted
-/// from 0, that does not fit. Requires room for the bytes, rounded up to four.
+/// Re-encodes an attribute list into `buffer`, one attribute at a time and without a list of values. Returns the number of
+/// bytes written, and the rest of the buffer is unchanged; or the index of the first value that does not fit, counted
+/// from 0. `buffer` must be at least as long as `bytes`, rounded up to a multiple of four.
 ///
-/// Fails as `read_list` does, but with `Memory` only for a value that is held in memory of its own. Where the answer is
-/// no length, the buffer's front, as far as the bytes reach, rounded up to four, may have changed.
+/// # Errors
+///
+/// As for `read_list`, except that `Memory` is possible only for an attribute whose value is heap-allocated, and not for
+/// one behind the first error. On error, and if a value does not fit, the start of the buffer may have changed, up to the
+/// length of `bytes` rounded up to a multiple of four.
 pub fn rewrite_list<F: Attribute>(
     alloc: Global,
     bytes: &[u8],

@@ -1,6 +1,6 @@
 //! Copies, where memory allows.
 
-ghost use Rattle.std.specs.Prelude.{◌≡◌, IsTrue, IfOk, OnErr, map};
+ghost use Rattle.std.specs.Prelude.{◌≡◌, ◌<◌, IsTrue, IfOk, OnErr, length, map};
 ghost use Rattle.std.specs.Cmp.Lexicographic.{pointwise};
 ghost use Rattle.link_base.specs.Held.{HoldsMemory};
 
@@ -18,13 +18,18 @@ pub trait TryClone: Meaning + PartialEq {
         ensures memory { OnErr result (HoldsMemory Self.table (Self.means self.now)) };
 }
 
-/// The equal list, for a copy of an attribute that holds it. Fails where allocation failed.
+/// Copies a list, for a copy of the attribute that holds it.
+///
+/// # Errors
+///
+/// `AllocError` if an allocation fails, which is possible only if the list is not empty.
 pub fn try_clone_list<E: NestedAttribute + TryClone>(
     alloc: Global,
     values: &[E],
 ) -> Result<Vec<E>, AllocError>
     ensures copies { IfOk result (λ copies. map E.leaf copies.items ≡ map E.leaf values.now) }
     ensures equal { IfOk result (λ copies. IsTrue (pointwise E.PartialEq.eq copies.items values.now)) }
+    ensures memory { OnErr result (0 < length values.now) }
 {
     let mut copies = Vec::with_capacity(alloc, values.len())?;
     for value in values {

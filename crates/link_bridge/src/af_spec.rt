@@ -2,8 +2,8 @@
 
 ghost use Rattle.std.specs.Prelude.{◌≡◌, map, None};
 ghost use Rattle.link_base.specs.Frame.{frame_fault};
-ghost use Rattle.link_base.specs.Table.{Gives};
-ghost use Rattle.link_base.specs.Answers.{ListAnswers, OnListMemory};
+ghost use Rattle.link_base.specs.Table.{Gives, Decodes};
+ghost use Rattle.link_base.specs.Answers.{ListAnswers, ListFaultUnless, OnListMemory};
 ghost use Rattle.link_bridge.specs.AfSpec.{af_spec_table, af_spec_means};
 
 mod flag;
@@ -54,10 +54,10 @@ pub enum AfSpecBridge {
 pub struct VecAfSpecBridge(pub Vec<AfSpecBridge>);
 
 impl VecAfSpecBridge {
-    /// The attributes in the payload of an `IFLA_AF_SPEC`, or their first fault with the byte offset of its frame, as
-    /// [`read_list`] answers. `Memory` is answered only where the bytes begin with a frame.
+    /// Parses the payload of an `IFLA_AF_SPEC`, as [`read_list`] does, with the same errors.
     pub fn parse(alloc: Global, bytes: &[u8]) -> Result<Self, ListError>
         ensures answer { ListAnswers (λ list. map af_spec_means list.0.items) result (Gives af_spec_table) bytes.now }
+        ensures fault { ListFaultUnless result (Decodes af_spec_table bytes.now) }
         ensures memory { OnListMemory result (frame_fault bytes.now ≡ None) }
     {
         read_list(alloc, bytes).map(Self)

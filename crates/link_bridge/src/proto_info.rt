@@ -2,8 +2,8 @@
 
 ghost use Rattle.std.specs.Prelude.{◌≡◌, map, None};
 ghost use Rattle.link_base.specs.Frame.{frame_fault};
-ghost use Rattle.link_base.specs.Table.{Gives};
-ghost use Rattle.link_base.specs.Answers.{ListAnswers, OnListMemory};
+ghost use Rattle.link_base.specs.Table.{Gives, Decodes};
+ghost use Rattle.link_base.specs.Answers.{ListAnswers, ListFaultUnless, OnListMemory};
 ghost use Rattle.link_bridge.specs.ProtoInfo.{proto_info_table, proto_info_means};
 
 use link_base::{
@@ -31,11 +31,11 @@ pub enum LinkProtoInfoBridge {
 pub struct VecLinkProtoInfoBridge(pub Vec<LinkProtoInfoBridge>);
 
 impl VecLinkProtoInfoBridge {
-    /// The attributes in the payload of an `IFLA_PROTINFO`, or their first fault with the byte offset of its frame, as
-    /// [`read_list`] answers. `Memory` is answered only where the bytes begin with a frame.
+    /// Parses the payload of an `IFLA_PROTINFO`, as [`read_list`] does, with the same errors.
     pub fn parse(alloc: Global, bytes: &[u8]) -> Result<Self, ListError>
         ensures answer { ListAnswers (λ list. map proto_info_means list.0.items) result
             (Gives proto_info_table) bytes.now }
+        ensures fault { ListFaultUnless result (Decodes proto_info_table bytes.now) }
         ensures memory { OnListMemory result (frame_fault bytes.now ≡ None) }
     {
         read_list(alloc, bytes).map(Self)

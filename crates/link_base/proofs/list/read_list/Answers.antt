@@ -1,11 +1,13 @@
-use Rattle.std.proofs.Common.{◌≡◌, ◌<◌, ◌+◌, ◌++◌, ℕ, Err, ◌∷◌, [], drop, get_or, map, length, refl, sym, ap, subst, ◌∙◌, arith}
+use Rattle.std.proofs.Common.{◌≡◌, ◌<◌, ◌+◌, ◌++◌, ℕ, Err, Ok, ◌∷◌, [], drop, get_or, map, length, refl, sym, ap, subst, ◌∙◌, arith}
+use Rattle.std.proofs.Common.{Vec}
+use Rattle.std.specs.Global.{Global}
 use Rattle.std.proofs.lemmas.List.{map-append}
 use Rattle.link_base.specs.Table.{Gives}
 use Rattle.link_base.specs.Frame.{BeginsWith}
 use Rattle.link_base.specs.Buffer.{kind_field_of, payload_of, frame_of}
 use Rattle.link_base.specs.Walk.{Finds}
 use Rattle.link_base.specs.Walked.{offsets_of, fault_of}
-use Rattle.link_base.proofs.TableReads.{on_list_memory, first_frame, first_frame-room, reads_none, reads_more, ends_at_value, ends_at_frame, reads_all}
+use Rattle.link_base.proofs.TableReads.{on_list_memory, fault_unless, first_frame, first_frame-room, reads_none, reads_more, ends_at_value, ends_at_frame, reads_all}
 use Rattle.link_base.proofs.list.read_list.Goals as goal
 
 pub returns-in-Err-with_capacity-clause-memory : goal.returns-in-Err-with_capacity-clause-memory
@@ -28,7 +30,7 @@ returns-in-Err-parse_into-clause-answer g c =
     let lt : i < length offsets = omega (arith, c.loop-i-test.true, c.loop-i.auto.i-end, c.len-i-end.ensures) in
     let begins : BeginsWith (drop (get_or offsets i 0) c.args.bytes.now) (frame_of b) = subst (λ s. BeginsWith (drop (get_or offsets i 0) s) (frame_of b)) (c.in_default.ensures.bytes ∙ c.before_walk-table.ensures.bytes) c.frame.ensures in
     rw c.at.ensures (rw c.offset.ensures (ends_at_value (Gives g.F.Meaning.table) c.args.bytes.now offsets (fault_of c.find_frames.new.self) i _ (kind_field_of b) (payload_of b) c.in-Err-parse_into.error
-    c.loop-i.invariant.reads lt begins c.in-Err-parse_into.ensures.answer))
+    c.loop-i.invariant.reads lt begins c.in-Err-parse_into.ensures.answer.0))
 
 pub returns-in-Err-parse_into-clause-memory : goal.returns-in-Err-parse_into-clause-memory
 returns-in-Err-parse_into-clause-memory g c =
@@ -63,3 +65,12 @@ returns-clause-answer g c =
     let table = c.find_frames.new.self in
     reads_all (Gives g.F.Meaning.table) c.args.bytes.now (offsets_of table) (fault_of table) c.loop-i.i _ (sym c.fault.ensures ∙ c.in-None.is) c.loop-i.invariant.reads
     (omega (arith, c.loop-i-test.false, c.len-i-end.ensures))
+
+pub returns-in-Err-parse_into-clause-fault : goal.returns-in-Err-parse_into-clause-fault
+returns-in-Err-parse_into-clause-fault g c = fault_unless g.F.Meaning.table g.met.F.Attribute.lawful.reading (λ (vs : Vec g.row.F.Denot Global). map g.F.Meaning.means vs.items) c.args.bytes.now (Err c.at.result) (returns-in-Err-parse_into-clause-answer g c)
+
+pub returns-in-Some-clause-fault : goal.returns-in-Some-clause-fault
+returns-in-Some-clause-fault g c = fault_unless g.F.Meaning.table g.met.F.Attribute.lawful.reading (λ (vs : Vec g.row.F.Denot Global). map g.F.Meaning.means vs.items) c.args.bytes.now (Err c.at-in-Some.result) (returns-in-Some-clause-answer g c)
+
+pub returns-clause-fault : goal.returns-clause-fault
+returns-clause-fault g c = fault_unless g.F.Meaning.table g.met.F.Attribute.lawful.reading (λ (vs : Vec g.row.F.Denot Global). map g.F.Meaning.means vs.items) c.args.bytes.now (Ok c.loop-i.values) (returns-clause-answer g c)

@@ -53,7 +53,7 @@ returns-in-Err-clause-memory g c =
     let i = c.loop-rest.invariant in
     let b = c.at_front-frame.result in
     let some : c.loop-rest.rest.now ≢ [] = λ e. grind (arith, common_steps) in
-    rw c.at-in-Err.ensures (needs_memory (Gives g.F.Meaning.table) g.F.Meaning.table c.args.bytes.now c.loop-rest.rest.now c.loop-rest.place (kind_field_of b) _ (payload_of b) i.vs c.in-Err.error i.underway some
+    rw c.at-in-Err.ensures (needs_memory g.F.Meaning.table c.args.bytes.now c.loop-rest.rest.now c.loop-rest.place (kind_field_of b) _ (payload_of b) i.vs c.in-Err.error i.underway some
     c.at_front-frame.ensures c.in-Err.ensures.memory)
 
 pub slice_bounds-rewrite_frame-count : goal.slice_bounds-rewrite_frame-count
