@@ -1,18 +1,21 @@
 -- What holds of a rewriting in a lawful table.
-use Rattle.std.proofs.Common.{◌≡◌, ◌↔◌, ℕ, ◌<◌, ◌≤◌, List, [], ◌∷◌, length, take, drop, map, None, Ok, refl, sym, ap, subst, ◌∙◌, arith}
+use Rattle.std.proofs.Common.{◌≡◌, ◌↔◌, ℕ, ◌<◌, ◌≤◌, List, [], ◌∷◌, ◌++◌, length, take, drop, map, None, Result, Ok, Err, refl, sym, ap, subst, ◌∙◌, arith}
 use Rattle.std.specs.List.{AllZip, AllByRecursion}
 use Rattle.std.proofs.lemmas.List.{length-append, take_at}
 use Rattle.link_base.specs.Number.{IsBytes}
 use Rattle.link_base.specs.Frame.{Frame, AreFrames, frame_bytes, pad, spelled, frame_fault}
 use Rattle.link_base.specs.Wire.{Reading, FrameGives, Wire}
-use Rattle.link_base.specs.Table.{Table, AttrValue, Gives, Fits, Canonical, Rewriting, cut, written_list}
+use Rattle.link_base.specs.Table.{Table, AttrValue, Gives, Fits, Decodes, Canonical, Rewriting, cut, written_payload, written_list}
 use Rattle.link_base.specs.Lawful.{IsLawful}
-use Rattle.link_base.specs.Rewritten.{RewrittenInto}
+use Rattle.link_base.specs.Rewritten.{RewrittenInto, IsUnfit}
+use Rattle.link_base.specs.Answers.{IsFirstUnfit}
+use Rattle.netlink_packet_route.specs.declared.rewriting.RewriteError.{RewriteError}
+use Rattle.netlink_packet_route.specs.declared.rewriting.RewriteError.TheVariants as errors
 use Rattle.link_base.proofs.Cuts.{AreFrames-head}
 use Rattle.link_base.proofs.Fronts.{frame_fault-frame, length-frame_bytes}
-use Rattle.link_base.proofs.Readings.{one_values}
-use Rattle.link_base.proofs.Rewritings.{fixed_iff_canonical, never_longer, reads_back, second, second_canonical, third, one_rewriting}
-use Rattle.netlink_packet_route.specs.Rewrite.{WritesValues, ReadsBack, Settles, IsRewritten}
+use Rattle.link_base.proofs.Readings.{one_values, not_both}
+use Rattle.link_base.proofs.Rewritings.{fixed_iff_canonical, never_longer, reads_back, second, second_canonical, third, one_rewriting, canonical_reads, canonical_stays}
+use Rattle.netlink_packet_route.specs.Rewrite.{AnswersBy, RewriteFaultUnless, TooLongIff, SucceedsIf, WritesValues, ReadsBack, Settles, IsRewritten}
 
 -- a string that reads as some value begins with a frame
 begins_by : {V : Type 0} (gives : Reading V) (xs : List Frame) (vs : List V) → AreFrames xs → AllZip (λ x v. FrameGives gives x (Ok v)) xs vs → 0 < length vs → frame_fault (spelled xs) ≡ None
@@ -56,6 +59,52 @@ module _ {table : Table} (law : IsLawful table) (s : List ℕ) (hs : IsBytes s) 
         own = own;
         only = λ w q. one_rewriting law.reading law.holding law.writing (written_list (map cut r.values)) w (written_list (map cut r.values)) q own;
       }
+
+-- ---- which error, and when
+
+-- what holds of all elements holds of one in the middle
+middle : {X : Type 0} (P : X → Type 0) (before : List X) (x : X) (after : List X) → AllByRecursion P (before ++ x ∷ after) → P x
+middle P [] x after h = h.0
+middle P (y ∷ before) x after h = middle P before x after h.1
+
+-- where all values fit, none is the first that does not
+pub none_unfit : (vs : List AttrValue) (i : ℕ) → AllByRecursion Fits vs → IsFirstUnfit vs i → ⊥
+none_unfit vs i fit u =
+    let fits : length (written_payload u.value) ≤ 65531 = middle Fits u.before u.value u.after (subst (AllByRecursion Fits) u.values fit) in
+    omega (arith, u.unfit)
+
+-- the values of a string, which all fit
+pub record HasFitting (table : Table) (s : List ℕ) : Type 0 where
+  pub values : List AttrValue
+  pub wire : Wire (Gives table) s values
+  pub fit : AllByRecursion Fits values
+
+pub fitting : {table : Table} {s t : List ℕ} → Rewriting table s t → HasFitting table s
+fitting r = record { values = r.values; wire = r.wire; fit = r.fit }
+
+-- Which error there is does not depend on what a call returns if it succeeds, so these lemmas return the values.
+module _ {table : Table} (law : IsLawful table) (s : List ℕ) where
+  pub fault_unless : (r : Result (HasFitting table s) RewriteError) → AnswersBy table s (λ f. Unit {0}) r → RewriteFaultUnless r (Decodes table s)
+  fault_unless (Ok f) any = record { values = f.values; wire = f.wire }
+  fault_unless (Err (errors.Fault at fault)) first = λ d. not_both law.reading s d.values at fault d.wire first
+  fault_unless (Err (errors.TooLong i)) u = record { values = u.0; wire = u.1 }
+  fault_unless (Err (errors.Memory e)) any = tt
+
+  pub too_long_iff : (r : Result (HasFitting table s) RewriteError) → AnswersBy table s (λ f. Unit {0}) r → TooLongIff r (IsUnfit table s)
+  too_long_iff (Ok f) any = λ u. none_unfit u.is.0 u.first (subst (AllByRecursion Fits) (one_values law.reading s f.values u.is.0 f.wire u.is.1) f.fit) u.is.2
+  too_long_iff (Err (errors.Fault at fault)) first = λ u. not_both law.reading s u.is.0 at fault u.is.1 first
+  too_long_iff (Err (errors.TooLong i)) u = record { first = i; is = u }
+  too_long_iff (Err (errors.Memory e)) any = tt
+
+  -- a canonical string is not rejected
+  pub none_rejected : IsBytes s → (e : RewriteError) → AnswersBy {X = HasFitting table s} table s (λ f. Unit {0}) (Err e) → SucceedsIf {X = HasFitting table s} (Canonical table s) (λ f. Unit {0}) (Err e)
+  none_rejected hs (errors.Fault at fault) first = λ c.
+      let read = canonical_reads law.reading law.holding law.writing s hs c in
+      not_both law.reading s read.0 at fault read.1 first
+  none_rejected hs (errors.TooLong i) u = λ c. none_unfit u.0 i (canonical_stays law.reading law.holding law.writing s u.0 hs c u.1).1 u.2
+  none_rejected hs (errors.Memory e) any = tt
+
+-- ---- what was rewritten
 
 -- what is written for values that were read and all fit
 pub rewritten : {table : Table} (law : IsLawful table) (s : List ℕ) (hs : IsBytes s) (vs : List AttrValue) → Wire (Gives table) s vs → AllByRecursion Fits vs → IsRewritten table s (written_list vs)

@@ -1,5 +1,5 @@
 -- What a rewriting answers.
-use Rattle.std.specs.Prelude.{◌≡◌, ◌↔◌, ℕ, ◌<◌, ◌≤◌, List, map, length, Option, Some, None, Result, Ok, Err}
+use Rattle.std.specs.Prelude.{◌≡◌, ◌↔◌, ℕ, ◌<◌, ◌≤◌, List, map, length, take, Option, Some, None, Result, Ok, Err}
 use Rattle.std.specs.Global.{Vec}
 use Rattle.std.specs.List.{AllByRecursion}
 use Rattle.link_base.specs.Wire.{Wire, FirstFault}
@@ -10,26 +10,48 @@ use Rattle.link_base.specs.Rewritten.{IsUnfitAt, RewrittenInto}
 use Rattle.netlink_packet_route.specs.declared.rewriting.RewriteError.{RewriteError}
 use Rattle.netlink_packet_route.specs.declared.rewriting.RewriteError.TheVariants as errors
 
--- the fact holds where memory ran out
+-- if the call failed with `Memory`, then P holds
 abbrev pub OnRewriteMemory : {X : Type 0} → Result X RewriteError → Type 0 → Type 0
 OnRewriteMemory (Ok x) P = Unit {0}
 OnRewriteMemory (Err (errors.Fault at fault)) P = Unit {0}
 OnRewriteMemory (Err (errors.TooLong i)) P = Unit {0}
 OnRewriteMemory (Err (errors.Memory e)) P = P
 
--- the rewriting; or the first fault; or the first value that does not fit
-abbrev pub RewriteAnswers : Table → List ℕ → Result (Vec ℕ) RewriteError → Type 0
-RewriteAnswers table s (Ok out) = Rewriting table s out.items
-RewriteAnswers table s (Err (errors.Fault at fault)) = FirstFault (Gives table) s at fault
-RewriteAnswers table s (Err (errors.TooLong i)) = IsUnfitAt table s i
-RewriteAnswers table s (Err (errors.Memory e)) = Unit {0}
+-- unless an allocation failed, the call fails with `Fault` if and only if P does not hold
+abbrev pub RewriteFaultUnless : {X : Type 0} → Result X RewriteError → Type 0 → Type 0
+RewriteFaultUnless (Ok x) P = P
+RewriteFaultUnless (Err (errors.Fault at fault)) P = ¬ P
+RewriteFaultUnless (Err (errors.TooLong i)) P = P
+RewriteFaultUnless (Err (errors.Memory e)) P = Unit {0}
 
--- the rewriting, in a lent buffer; or the first fault; or the first value that does not fit
+-- unless an allocation failed, the call fails with `TooLong` if and only if P holds
+abbrev pub TooLongIff : {X : Type 0} → Result X RewriteError → Type 0 → Type 0
+TooLongIff (Ok x) P = ¬ P
+TooLongIff (Err (errors.Fault at fault)) P = ¬ P
+TooLongIff (Err (errors.TooLong i)) P = P
+TooLongIff (Err (errors.Memory e)) P = Unit {0}
+
+-- if P holds, the call succeeds, and Q holds of what it returned, unless an allocation failed
+abbrev pub SucceedsIf : {X : Type 0} → Type 0 → (X → Type 0) → Result X RewriteError → Type 0
+SucceedsIf P Q (Ok x) = P → Q x
+SucceedsIf P Q (Err (errors.Fault at fault)) = ¬ P
+SucceedsIf P Q (Err (errors.TooLong i)) = ¬ P
+SucceedsIf P Q (Err (errors.Memory e)) = Unit {0}
+
+-- P holds of what the call returned; or the first fault; or the first value that does not fit
+abbrev pub AnswersBy : {X : Type 0} → Table → List ℕ → (X → Type 0) → Result X RewriteError → Type 0
+AnswersBy table s P (Ok x) = P x
+AnswersBy table s P (Err (errors.Fault at fault)) = FirstFault (Gives table) s at fault
+AnswersBy table s P (Err (errors.TooLong i)) = IsUnfitAt table s i
+AnswersBy table s P (Err (errors.Memory e)) = Unit {0}
+
+-- the rewriting; or why there is none
+abbrev pub RewriteAnswers : Table → List ℕ → Result (Vec ℕ) RewriteError → Type 0
+RewriteAnswers table s result = AnswersBy table s (λ out. Rewriting table s out.items) result
+
+-- the rewriting, in the caller's buffer; or why there is none
 abbrev pub RewriteIntoAnswers : Table → List ℕ → List ℕ → List ℕ → Result ℕ RewriteError → Type 0
-RewriteIntoAnswers table s old new (Ok n) = RewrittenInto table s old new n
-RewriteIntoAnswers table s old new (Err (errors.Fault at fault)) = FirstFault (Gives table) s at fault
-RewriteIntoAnswers table s old new (Err (errors.TooLong i)) = IsUnfitAt table s i
-RewriteIntoAnswers table s old new (Err (errors.Memory e)) = Unit {0}
+RewriteIntoAnswers table s old new result = AnswersBy table s (RewrittenInto table s old new) result
 
 -- these values were read, and all of them written
 pub record WritesValues (table : Table) (s : List ℕ) (vs : List AttrValue) (out : List ℕ) : Type 0 where
@@ -37,12 +59,9 @@ pub record WritesValues (table : Table) (s : List ℕ) (vs : List AttrValue) (ou
   pub fit : AllByRecursion Fits vs
   pub written : out ≡ written_list vs
 
--- the values and what is written for them; or the first fault; or the first value that does not fit
+-- the values and what is written for them; or why they are not written
 abbrev pub ReadAndWritten : {X : Type 0} → (X → List AttrValue) → Table → List ℕ → Result (X × Vec ℕ) RewriteError → Type 0
-ReadAndWritten view table s (Ok read) = WritesValues table s (view read.0) read.1.items
-ReadAndWritten view table s (Err (errors.Fault at fault)) = FirstFault (Gives table) s at fault
-ReadAndWritten view table s (Err (errors.TooLong i)) = IsUnfitAt table s i
-ReadAndWritten view table s (Err (errors.Memory e)) = Unit {0}
+ReadAndWritten view table s result = AnswersBy table s (λ read. WritesValues table s (view read.0) read.1.items) result
 
 -- t reads as the values of s, with their names cut
 abbrev pub ReadsBack : Table → List ℕ → List ℕ → Type 0
@@ -82,16 +101,21 @@ pub record HasNoRoom (table : Table) (s : List ℕ) (room : ℕ) : Type 0 where
   pub is : IsRewritten table s text
   pub more : room < length text
 
--- the rewriting, in front of a lent buffer; or that there is no room for it; or the first fault; or the first value that
--- does not fit
-abbrev pub RewriteToAnswers : Table → List ℕ → List ℕ → List ℕ → Result (Option ℕ) RewriteError → Type 0
-RewriteToAnswers table s old new (Ok (Some n)) = Rewrites table s old new n
-RewriteToAnswers table s old new (Ok None) = HasNoRoom table s (length old)
-RewriteToAnswers table s old new (Err (errors.Fault at fault)) = FirstFault (Gives table) s at fault
-RewriteToAnswers table s old new (Err (errors.TooLong i)) = IsUnfitAt table s i
-RewriteToAnswers table s old new (Err (errors.Memory e)) = Unit {0}
+-- the rewriting, at the start of the caller's buffer, or that the buffer is too small for it
+abbrev pub WritesOrLacksRoom : Table → List ℕ → List ℕ → List ℕ → Option ℕ → Type 0
+WritesOrLacksRoom table s old new (Some n) = Rewrites table s old new n
+WritesOrLacksRoom table s old new None = HasNoRoom table s (length old)
 
--- the fact holds where nothing was written
+-- one of these; or why there is no rewriting
+abbrev pub RewriteToAnswers : Table → List ℕ → List ℕ → List ℕ → Result (Option ℕ) RewriteError → Type 0
+RewriteToAnswers table s old new result = AnswersBy table s (WritesOrLacksRoom table s old new) result
+
+-- the bytes of s are at the start of the new buffer, or the old one is shorter than s
+abbrev pub KeepsOrLacksRoom : List ℕ → List ℕ → List ℕ → Option ℕ → Type 0
+KeepsOrLacksRoom s old new (Some n) = take n new ≡ s
+KeepsOrLacksRoom s old new None = length old < length s
+
+-- if nothing was written, then P holds
 abbrev pub UnlessWritten : Result (Option ℕ) RewriteError → Type 0 → Type 0
 UnlessWritten (Ok (Some n)) P = Unit {0}
 UnlessWritten (Ok None) P = P

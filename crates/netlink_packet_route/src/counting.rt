@@ -1,8 +1,9 @@
 //! How many values a list has.
 
 ghost use Rattle.std.specs.Prelude.{◌≡◌, ◌≤◌, None, length, IfOk};
-ghost use Rattle.link_base.specs.Answers.{OnListMemory};
+ghost use Rattle.link_base.specs.Answers.{ListFaultUnless, OnListMemory};
 ghost use Rattle.link_base.specs.Frame.{frame_fault};
+ghost use Rattle.link_base.specs.Table.{Decodes};
 ghost use Rattle.netlink_packet_route.specs.Count.{CountAnswers};
 ghost use Rattle.netlink_packet_route.specs.Family.{table_of};
 
@@ -11,13 +12,16 @@ use crate::family::Family;
 use link_base::{Attribute, ListError, read_list};
 use std::alloc::Global;
 
-/// How many values the list in the bytes has: as many as it has attributes.
+/// Counts the values of an attribute list: as many as it has attributes.
 ///
-/// Fails as `read_list` does: with `Fault` where the bytes are no list of the family, and with `Memory`, but not where
-/// they begin with no frame.
+/// # Errors
+///
+/// As for `read_list`: `Fault` if and only if the input does not decode, unless an allocation fails; `Memory` if an
+/// allocation fails, which is possible only if the input starts with a whole attribute.
 #[inline(always)]
 pub fn count_values(alloc: Global, family: Family, bytes: &[u8]) -> Result<usize, ListError>
     ensures answer { CountAnswers (table_of family) bytes.now result }
+    ensures fault { ListFaultUnless result (Decodes (table_of family) bytes.now) }
     ensures memory { OnListMemory result (frame_fault bytes.now ≡ None) }
     ensures bounded { IfOk result (λ n. n ≤ length bytes.now) }
 {
@@ -27,6 +31,7 @@ pub fn count_values(alloc: Global, family: Family, bytes: &[u8]) -> Result<usize
 #[inline(always)]
 fn count_values_as<F: Attribute>(alloc: Global, bytes: &[u8]) -> Result<usize, ListError>
     ensures answer { CountAnswers F.table bytes.now result }
+    ensures fault { ListFaultUnless result (Decodes F.table bytes.now) }
     ensures memory { OnListMemory result (frame_fault bytes.now ≡ None) }
     ensures bounded { IfOk result (λ n. n ≤ length bytes.now) }
 {

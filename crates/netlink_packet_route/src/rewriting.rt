@@ -2,10 +2,11 @@
 
 ghost use Rattle.std.specs.Prelude.{◌≡◌, ◌≤◌, ◌↔◌, None, length, map, IfOk};
 ghost use Rattle.link_base.specs.Frame.{pad, frame_fault};
-ghost use Rattle.link_base.specs.Table.{Canonical};
+ghost use Rattle.link_base.specs.Table.{Canonical, Decodes};
+ghost use Rattle.link_base.specs.Rewritten.{IsUnfit};
 ghost use Rattle.netlink_packet_route.specs.Family.{table_of};
 ghost use Rattle.netlink_packet_route.specs.Rewrite.{ReadAndWritten, RewriteAnswers, OnRewriteMemory};
-ghost use Rattle.netlink_packet_route.specs.Rewrite.{ReadsBack, Settles};
+ghost use Rattle.netlink_packet_route.specs.Rewrite.{RewriteFaultUnless, TooLongIff, SucceedsIf, ReadsBack, Settles};
 
 use crate::by_family;
 use crate::family::Family;
@@ -27,14 +28,22 @@ pub enum RewriteError {
     TooLong { index: usize },
 }
 
-/// Reads the list in the bytes and writes its values.
+/// Re-encodes an attribute list: parses it and writes its values. A canonical list is returned unchanged, and never
+/// rejected.
 ///
-/// Fails with `Fault` where the bytes are no list of the family, with `TooLong` where they are and a value does not
-/// fit, and with `Memory`, but not where the bytes begin with no frame.
+/// # Errors
+///
+/// `Fault` if and only if the input does not decode, and `TooLong` if and only if it decodes and one of its values does
+/// not fit, each unless an allocation fails. `Memory` if an allocation fails, which is possible only if the input starts
+/// with a whole attribute.
 pub fn rewrite(alloc: Global, family: Family, bytes: &[u8]) -> Result<Vec<u8>, RewriteError>
     ensures answer { RewriteAnswers (table_of family) bytes.now result }
+    ensures fault { RewriteFaultUnless result (Decodes (table_of family) bytes.now) }
+    ensures too_long { TooLongIff result (IsUnfit (table_of family) bytes.now) }
     ensures memory { OnRewriteMemory result (frame_fault bytes.now ≡ None) }
-    // Equal to the input exactly where the input is canonical, and never longer than it, rounded up to four.
+    // A canonical input is never rejected.
+    ensures canonical { SucceedsIf (Canonical (table_of family) bytes.now) (λ out. out.items ≡ bytes.now) result }
+    // Equal to the input if and only if the input is canonical, and never longer than it, rounded up to four.
     ensures same { IfOk result (λ out. (out.items ≡ bytes.now) ↔ Canonical (table_of family) bytes.now) }
     ensures no_longer { IfOk result (λ out. length out.items ≤ pad (length bytes.now)) }
     // It reads as the values, with names cut.
@@ -47,7 +56,10 @@ pub fn rewrite(alloc: Global, family: Family, bytes: &[u8]) -> Result<Vec<u8>, R
 
 fn rewrite_as<F: Attribute>(alloc: Global, bytes: &[u8]) -> Result<Vec<u8>, RewriteError>
     ensures answer { RewriteAnswers F.table bytes.now result }
+    ensures fault { RewriteFaultUnless result (Decodes F.table bytes.now) }
+    ensures too_long { TooLongIff result (IsUnfit F.table bytes.now) }
     ensures memory { OnRewriteMemory result (frame_fault bytes.now ≡ None) }
+    ensures canonical { SucceedsIf (Canonical F.table bytes.now) (λ out. out.items ≡ bytes.now) result }
     ensures same { IfOk result (λ out. (out.items ≡ bytes.now) ↔ Canonical F.table bytes.now) }
     ensures no_longer { IfOk result (λ out. length out.items ≤ pad (length bytes.now)) }
     ensures back { IfOk result (λ out. ReadsBack F.table bytes.now out.items) }

@@ -2,10 +2,11 @@
 
 ghost use Rattle.std.specs.Prelude.{◌≡◌, ◌≤◌, ◌↔◌, length, take, drop, IfOk};
 ghost use Rattle.link_base.specs.Frame.{pad};
-ghost use Rattle.link_base.specs.Table.{Canonical};
-ghost use Rattle.link_base.specs.Rewritten.{NeedsMemory};
+ghost use Rattle.link_base.specs.Table.{Canonical, Decodes};
+ghost use Rattle.link_base.specs.Rewritten.{IsUnfit, NeedsMemory};
 ghost use Rattle.netlink_packet_route.specs.Family.{table_of};
 ghost use Rattle.netlink_packet_route.specs.Rewrite.{RewriteIntoAnswers, OnRewriteMemory, ReadsBack, Settles};
+ghost use Rattle.netlink_packet_route.specs.Rewrite.{RewriteFaultUnless, TooLongIff, SucceedsIf};
 
 use crate::by_family;
 use crate::family::Family;
@@ -13,12 +14,16 @@ use crate::rewriting::RewriteError;
 use link_base::{Attribute, ListError, rewrite_list};
 use std::alloc::Global;
 
-/// Reads the list in the bytes and writes its values to the front of a lent buffer, as [`rewrite`](crate::rewrite)
-/// does, but each value before the next is read, with no list between. Answers how many bytes it wrote; behind them the
-/// buffer is as it was. Requires room for the bytes, rounded up to four, which is always enough.
+/// Re-encodes an attribute list into `buffer`, as [`rewrite`](crate::rewrite) does, but one attribute at a time and
+/// without a list of values. Returns the number of bytes written; the rest of the buffer is unchanged.
 ///
-/// Fails as `rewrite` does, but with `Memory` only for a value that is held in memory of its own. Then the buffer's
-/// front, as far as the bytes reach, rounded up to four, may have changed.
+/// `buffer` must be at least as long as `bytes`, rounded up to a multiple of four. That is always enough.
+///
+/// # Errors
+///
+/// As for `rewrite`, except that `Memory` is possible only for an attribute whose value is heap-allocated, and not for one
+/// behind the first error. On error, the start of the buffer may have changed, up to the length of `bytes` rounded up to a
+/// multiple of four.
 #[inline(always)]
 pub fn rewrite_into(
     alloc: Global,
@@ -28,8 +33,12 @@ pub fn rewrite_into(
 ) -> Result<usize, RewriteError>
     requires { pad (length bytes.now) ≤ length buffer.old }
     ensures answer { RewriteIntoAnswers (table_of family) bytes.now buffer.old buffer.new result }
+    ensures fault { RewriteFaultUnless result (Decodes (table_of family) bytes.now) }
+    ensures too_long { TooLongIff result (IsUnfit (table_of family) bytes.now) }
     ensures behind { drop (pad (length bytes.now)) buffer.new ≡ drop (pad (length bytes.now)) buffer.old }
     ensures memory { OnRewriteMemory result (NeedsMemory (table_of family) bytes.now) }
+    // A canonical input is never rejected.
+    ensures canonical { SucceedsIf (Canonical (table_of family) bytes.now) (λ n. take n buffer.new ≡ bytes.now) result }
     // What holds of `rewrite` holds of what it wrote.
     ensures same { IfOk result (λ n. (take n buffer.new ≡ bytes.now) ↔ Canonical (table_of family) bytes.now) }
     ensures no_longer { IfOk result (λ n. n ≤ pad (length bytes.now)) }
@@ -47,8 +56,11 @@ fn rewrite_into_as<F: Attribute>(
 ) -> Result<usize, RewriteError>
     requires { pad (length bytes.now) ≤ length buffer.old }
     ensures answer { RewriteIntoAnswers F.table bytes.now buffer.old buffer.new result }
+    ensures fault { RewriteFaultUnless result (Decodes F.table bytes.now) }
+    ensures too_long { TooLongIff result (IsUnfit F.table bytes.now) }
     ensures behind { drop (pad (length bytes.now)) buffer.new ≡ drop (pad (length bytes.now)) buffer.old }
     ensures memory { OnRewriteMemory result (NeedsMemory F.table bytes.now) }
+    ensures canonical { SucceedsIf (Canonical F.table bytes.now) (λ n. take n buffer.new ≡ bytes.now) result }
     ensures same { IfOk result (λ n. (take n buffer.new ≡ bytes.now) ↔ Canonical F.table bytes.now) }
     ensures no_longer { IfOk result (λ n. n ≤ pad (length bytes.now)) }
     ensures back { IfOk result (λ n. ReadsBack F.table bytes.now (take n buffer.new)) }

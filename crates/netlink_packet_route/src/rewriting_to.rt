@@ -2,8 +2,11 @@
 
 ghost use Rattle.std.specs.Prelude.{◌≡◌, None};
 ghost use Rattle.link_base.specs.Frame.{frame_fault};
+ghost use Rattle.link_base.specs.Table.{Canonical, Decodes};
+ghost use Rattle.link_base.specs.Rewritten.{IsUnfit};
 ghost use Rattle.netlink_packet_route.specs.Family.{table_of};
 ghost use Rattle.netlink_packet_route.specs.Rewrite.{RewriteToAnswers, OnRewriteMemory, UnlessWritten};
+ghost use Rattle.netlink_packet_route.specs.Rewrite.{RewriteFaultUnless, TooLongIff, SucceedsIf, KeepsOrLacksRoom};
 
 use crate::by_family;
 use crate::family::Family;
@@ -11,11 +14,12 @@ use crate::rewriting::RewriteError;
 use link_base::{Attribute, ListError, emit_list, measure_list, read_list};
 use std::alloc::Global;
 
-/// Reads the list in the bytes and writes its values to the front of a lent buffer, as [`rewrite`](crate::rewrite)
-/// does. Answers how many bytes it wrote; behind them the buffer is as it was. `None` where they are more than the
-/// buffer has.
+/// Re-encodes an attribute list into `buffer`, as [`rewrite`](crate::rewrite) does. Returns the number of bytes written,
+/// and the rest of the buffer is unchanged; or `None` if the buffer is too small.
 ///
-/// Fails as `rewrite` does. Where the answer is no length, the buffer is as it was.
+/// # Errors
+///
+/// As for `rewrite`. The buffer is unchanged unless the result is a number of bytes.
 #[inline(always)]
 pub fn rewrite_to(
     alloc: Global,
@@ -24,7 +28,12 @@ pub fn rewrite_to(
     buffer: &mut [u8],
 ) -> Result<Option<usize>, RewriteError>
     ensures answer { RewriteToAnswers (table_of family) bytes.now buffer.old buffer.new result }
+    ensures fault { RewriteFaultUnless result (Decodes (table_of family) bytes.now) }
+    ensures too_long { TooLongIff result (IsUnfit (table_of family) bytes.now) }
     ensures memory { OnRewriteMemory result (frame_fault bytes.now ≡ None) }
+    // A canonical input is never rejected.
+    ensures canonical { SucceedsIf (Canonical (table_of family) bytes.now)
+        (KeepsOrLacksRoom bytes.now buffer.old buffer.new) result }
     ensures unchanged { UnlessWritten result (buffer.new ≡ buffer.old) }
 {
     by_family!(family, rewrite_to_as(alloc, bytes, buffer))
@@ -37,7 +46,11 @@ fn rewrite_to_as<F: Attribute>(
     buffer: &mut [u8],
 ) -> Result<Option<usize>, RewriteError>
     ensures answer { RewriteToAnswers F.table bytes.now buffer.old buffer.new result }
+    ensures fault { RewriteFaultUnless result (Decodes F.table bytes.now) }
+    ensures too_long { TooLongIff result (IsUnfit F.table bytes.now) }
     ensures memory { OnRewriteMemory result (frame_fault bytes.now ≡ None) }
+    ensures canonical { SucceedsIf (Canonical F.table bytes.now)
+        (KeepsOrLacksRoom bytes.now buffer.old buffer.new) result }
     ensures unchanged { UnlessWritten result (buffer.new ≡ buffer.old) }
 {
     let values: Vec<F> = match read_list(alloc, bytes) {

@@ -77,9 +77,9 @@ ptrdiff_t nlroute_rewrite(uint32_t family, const uint8_t *bytes, size_t len, uin
  * was.
  *
  * NLROUTE_NO_ROOM exactly if room is less than len rounded up to a multiple of four, whatever the bytes are; then
- * nothing was written. NLROUTE_HAS_FAULT and NLROUTE_TOO_LONG as above, and NLROUTE_NO_MEMORY only if one of the
- * attributes is held in memory of its own; after these the first bytes of out may have changed, as many as len rounded
- * up to a multiple of four, and none behind them.
+ * nothing was written. NLROUTE_HAS_FAULT and NLROUTE_TOO_LONG as above, and NLROUTE_NO_MEMORY only if the value of some
+ * attribute is heap-allocated, and that attribute is not behind the first fault; after these the first bytes of out may
+ * have changed, as many as len rounded up to a multiple of four, and none behind them.
  */
 ptrdiff_t nlroute_rewrite_into(uint32_t family, const uint8_t *bytes, size_t len, uint8_t *out, size_t room);
 
@@ -123,7 +123,8 @@ enum nlroute_cause {
     NLROUTE_SHORT_FRAME = 1,   /* fewer bytes are left than the four of a header (how many are left; 0) */
     NLROUTE_SMALL_LENGTH = 2,  /* nla_len is below four (nla_len; 0) */
     NLROUTE_OVERRUN = 3,       /* nla_len is greater than what is left (nla_len; how many are left) */
-    NLROUTE_WRONG_LENGTH = 4,  /* the payload has another length than it has to (the right length; its length) */
+    NLROUTE_WRONG_LENGTH = 4,  /* the payload has another length than it has to (the right length, or for an array of
+                                  numbers the width of one, of which the length has to be a multiple; its length) */
     NLROUTE_TOO_SHORT = 5,     /* the payload is too short (the least length; its length) */
     NLROUTE_ADDRESS_LENGTH = 6 /* an address has neither 4 nor 16 bytes (its length; 0); with none of the families */
 };

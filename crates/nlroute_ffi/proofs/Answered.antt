@@ -35,12 +35,12 @@ in_front s old new n r same few back settles room =
 -- why a list is not rewritten
 pub refused_to : (table : Table) (s old new : List ℕ) (e : RewriteError) → RewriteToAnswers table s old new (Err e) → OnRewriteMemory {X = Option ℕ} (Err e) (frame_fault s ≡ None) → RewriteAnswers s old new table (Err (refusal_of e))
 refused_to table s old new (errors.Fault at fault) why memory = (at, fault, why)
-refused_to table s old new (errors.TooLong i) why memory = (i, why)
+refused_to table s old new (errors.TooLong i) why memory = record { first = i; is = why }
 refused_to table s old new (errors.Memory e) why memory = memory
 
 pub refused_into : (table : Table) (s old new : List ℕ) (e : RewriteError) → RewriteIntoAnswers table s old new (Err e) → OnRewriteMemory {X = ℕ} (Err e) (NeedsMemory table s) → IntoAnswers s old new table (Err (refusal_of e))
 refused_into table s old new (errors.Fault at fault) why memory = (at, fault, why)
-refused_into table s old new (errors.TooLong i) why memory = (i, why)
+refused_into table s old new (errors.TooLong i) why memory = record { first = i; is = why }
 refused_into table s old new (errors.Memory e) why memory = memory
 
 -- the answer to a family's number

@@ -4,7 +4,7 @@ use Rattle.netlink_packet_route.specs.declared.link.DecodeFault.{DecodeFault}
 use Rattle.netlink_packet_route.specs.Frame.{pad, frame_fault}
 use Rattle.netlink_packet_route.specs.Wire.{Wire, FirstFault}
 use Rattle.netlink_packet_route.specs.Table.{Table, AttrValue, Gives, Canonical}
-use Rattle.netlink_packet_route.specs.Rewritten.{IsUnfitAt, NeedsMemory}
+use Rattle.netlink_packet_route.specs.Rewritten.{IsUnfit, NeedsMemory}
 use Rattle.netlink_packet_route.specs.declared.family.Family.{Family}
 use Rattle.netlink_packet_route.specs.declared.rewriting.RewriteError.{RewriteError}
 use Rattle.netlink_packet_route.specs.declared.rewriting.RewriteError.TheVariants as errors
@@ -43,10 +43,6 @@ CanonicalAnswers s table (Ok n) = (n ≤ 1) × ((n ≡ 1) ↔ Canonical table s)
 CanonicalAnswers s table (Err refusal) = ⊥
 
 -- ---- rewriting
-
--- the values were read, and one of them does not fit
-abbrev pub IsUnfit : Table → List ℕ → Type 0
-IsUnfit table s = (i : ℕ) × IsUnfitAt table s i
 
 -- why a list is not rewritten
 abbrev pub refusal_of : RewriteError → Refusal

@@ -66,7 +66,7 @@ pub fn bond_request(interval: u32, buffer: &mut [u8]) -> Result<usize, BufferErr
 
 /// A request for a bridge that filters by VLAN and runs the spanning tree protocol: its forward delay, in clock ticks
 /// of 1/100 second.
-#[tactic(auto, using(crate::proofs::Fitting::none_unfit))]
+#[tactic(auto, using(netlink_packet_route::proofs::Rewritten::none_unfit))]
 pub fn bridge_request(alloc: Global, forward_delay: u32) -> Result<Vec<u8>, AllocError>
     ensures { IfOk result (λ out. out.items ≡ written_list (
         Case 1 (Single (Number 4 forward_delay)) ∷ Case 7 (Single (Boolean true))
@@ -87,7 +87,7 @@ pub fn bridge_request(alloc: Global, forward_delay: u32) -> Result<Vec<u8>, Allo
 
 /// A request for an 802.1ad VLAN: its identifier, and the priority `to` in the tags of packets of priority `from`.
 /// Fails only where an allocation failed.
-#[tactic(auto, using(crate::proofs::Fitting::none_unfit))]
+#[tactic(auto, using(netlink_packet_route::proofs::Rewritten::none_unfit))]
 pub fn vlan_request(alloc: Global, id: u16, from: u32, to: u32) -> Result<Vec<u8>, WriteError>
     ensures written { IfOk result (λ out. out.items ≡ written_list (
         Case 5 (Single (EtherType 0x88A8)) ∷ Case 1 (Single (Number 2 id))

@@ -1,0 +1,34 @@
+-- In each arm the family's table is that of the type. The search finds this for the other clauses; for a long table it
+-- would take too many steps here.
+use Rattle.std.proofs.Common.{◌≡◌}
+use Rattle.netlink_packet_route.proofs.rewriting.rewrite.Goals as goal
+
+pub returns-in-AfSpecBridge-clause-answer : goal.returns-in-AfSpecBridge-clause-answer
+returns-in-AfSpecBridge-clause-answer c = rw c.in-AfSpecBridge.is c.rewrite_as.ensures.answer
+
+pub returns-in-Bond-clause-answer : goal.returns-in-Bond-clause-answer
+returns-in-Bond-clause-answer c = rw c.in-Bond.is c.rewrite_as-in-Bond.ensures.answer
+
+pub returns-in-BondPort-clause-answer : goal.returns-in-BondPort-clause-answer
+returns-in-BondPort-clause-answer c = rw c.in-BondPort.is c.rewrite_as-in-BondPort.ensures.answer
+
+pub returns-in-Bridge-clause-answer : goal.returns-in-Bridge-clause-answer
+returns-in-Bridge-clause-answer c = rw c.in-Bridge.is c.rewrite_as-in-Bridge.ensures.answer
+
+pub returns-in-BridgePort-clause-answer : goal.returns-in-BridgePort-clause-answer
+returns-in-BridgePort-clause-answer c = rw c.in-BridgePort.is c.rewrite_as-in-BridgePort.ensures.answer
+
+pub returns-in-Vlan-clause-answer : goal.returns-in-Vlan-clause-answer
+returns-in-Vlan-clause-answer c = rw c.in-Vlan.is c.rewrite_as-in-Vlan.ensures.answer
+
+pub returns-in-Can-clause-answer : goal.returns-in-Can-clause-answer
+returns-in-Can-clause-answer c = rw c.in-Can.is c.rewrite_as-in-Can.ensures.answer
+
+pub returns-in-Dsa-clause-answer : goal.returns-in-Dsa-clause-answer
+returns-in-Dsa-clause-answer c = rw c.in-Dsa.is c.rewrite_as-in-Dsa.ensures.answer
+
+pub returns-in-Hsr-clause-answer : goal.returns-in-Hsr-clause-answer
+returns-in-Hsr-clause-answer c = rw c.in-Hsr.is c.rewrite_as-in-Hsr.ensures.answer
+
+pub returns-in-ProtoBridge-clause-answer : goal.returns-in-ProtoBridge-clause-answer
+returns-in-ProtoBridge-clause-answer c = rw c.in-ProtoBridge.is c.rewrite_as-in-ProtoBridge.ensures.answer
