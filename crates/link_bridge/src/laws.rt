@@ -22,7 +22,7 @@ ghost use Rattle.link_bridge.specs.declared.bridge_boolopt.flags.BridgeBooleanOp
 use crate::af_spec::{
     BridgeFlag, BridgeMode, BridgeVlanInfo, BridgeVlanInfoFlags, VecAfSpecBridge,
 };
-use crate::bridge::BridgeMulticastRouterType;
+use crate::bridge::{BridgeIdBuffer, BridgeMulticastRouterType};
 use crate::bridge_boolopt::{BridgeBooleanOptionFlags, BridgeBooleanOptions};
 use crate::bridge_port::InfoBridgePort;
 use crate::proto_info::VecLinkProtoInfoBridge;
@@ -83,10 +83,12 @@ pub fn vlan_info_back()
     ensures bytes { (bytes : List ℕ) → IsOctets 4 bytes → vlan_info_octets (vlan_info_of bytes) ≡ bytes }
 {}
 
-/// Two values of the boolean options of a bridge, or of a VLAN, are equal exactly where they are the same.
+/// Two values of the boolean options of a bridge, of a VLAN, or of a `BridgeIdBuffer` are equal if and only if they are
+/// the same.
 pub fn equality_of_values()
     ensures options { (a b : BridgeBooleanOptions) → IsTrue (⟦<BridgeBooleanOptions as PartialEq>⟧.eq a b) ↔ (a ≡ b) }
     ensures vlan { (a b : BridgeVlanInfo) → IsTrue (⟦<BridgeVlanInfo as PartialEq>⟧.eq a b) ↔ (a ≡ b) }
+    ensures id_buffer { (a b : BridgeIdBuffer) → IsTrue (⟦<BridgeIdBuffer as PartialEq>⟧.eq a b) ↔ (a ≡ b) }
 {}
 
 /// Lists that are equal by `==` stand for the same attributes, one by one.
