@@ -14,7 +14,7 @@ const INLINE: usize = 8;
 
 /// Where the frames of some bytes start, and the first frame fault if they have one. It borrows the bytes and copies
 /// none, and takes memory only for more than eight frames.
-#[derive(Drop)]
+#[derive(Debug, PartialEq, Eq, Drop)]
 pub struct FrameTable<'a> {
     bytes: &'a [u8],
     offsets: SmallVec<usize, INLINE>,

@@ -7,6 +7,7 @@ ghost use Rattle.link_base.specs.declared.fault.Cause.{Cause};
 ghost use Rattle.link_base.specs.declared.fault.DecodeFault.{DecodeFault};
 ghost use Rattle.std.specs.Iterator.{Drains};
 ghost use Rattle.link_base.specs.declared.buffer.NlaBuffer.{NlaBuffer};
+ghost use Rattle.link_base.specs.declared.frame_table.FrameTable.{FrameTable};
 ghost use Rattle.link_base.specs.declared.iterator.NlasIterator.{NlasIterator};
 ghost use Rattle.link_base.specs.declared.fault.DecodeError.{DecodeError};
 ghost use Rattle.link_base.specs.declared.fault.ListError.{ListError};
@@ -22,10 +23,12 @@ ghost use Rattle.link_base.specs.Editions.{AreEditions, among, without, kinds_of
 ghost use Rattle.link_base.specs.Held.{IsInRange, HidesNone, IsPlain};
 ghost use Rattle.link_base.specs.WellFormed.{is_table, IsOverfull};
 ghost use Rattle.link_base.specs.Lawful.{IsLawful};
+ghost use Rattle.link_base.specs.Walked.{walked_bytes, offsets_of, fault_of};
 
 use crate::attribute::Attribute;
 use crate::buffer::NlaBuffer;
 use crate::fault::{Cause, DecodeError, DecodeFault, ListError, WriteError};
+use crate::frame_table::FrameTable;
 use crate::iterator::NlasIterator;
 
 // ---- tables
@@ -95,13 +98,16 @@ pub fn error_equality()
     ensures write { (a b : WriteError) → IsTrue (⟦<WriteError as PartialEq>⟧.eq a b) ↔ (a ≡ b) }
 {}
 
-/// Two frames are equal exactly where they have the same kind field and the same payload, and two iterators exactly
-/// where they have the same bytes left.
+/// Two frames are equal if and only if they have the same kind field and the same payload, two iterators if and only if
+/// they have the same bytes left, and two tables of frames if and only if they have the same bytes, the same offsets and
+/// the same fault.
 pub fn frame_equality()
     ensures frame { (a b : NlaBuffer) → IsTrue (⟦<NlaBuffer<'static> as PartialEq>⟧.eq a b)
         ↔ ((kind_field_of a ≡ kind_field_of b) × (payload_of a ≡ payload_of b)) }
     ensures iterator { (a b : NlasIterator) → IsTrue (⟦<NlasIterator<'static> as PartialEq>⟧.eq a b)
         ↔ (bytes_left a ≡ bytes_left b) }
+    ensures table { (a b : FrameTable) → IsTrue (⟦<FrameTable<'static> as PartialEq>⟧.eq a b)
+        ↔ ((walked_bytes a ≡ walked_bytes b) × (offsets_of a ≡ offsets_of b) × (fault_of a ≡ fault_of b)) }
 {}
 
 // ---- families: values that were read

@@ -1,7 +1,9 @@
 //! Frames: their fields, their faults, and how they follow one another.
 
 use crate::tests::{bytes, holds};
-use netlink_packet_route::link::{Cause, DecodeError, DecodeFault, NlaBuffer, NlasIterator};
+use netlink_packet_route::link::{
+    Cause, DecodeError, DecodeFault, FrameTable, NlaBuffer, NlasIterator,
+};
 use std::alloc::Global;
 use std::process::Abort;
 
@@ -134,4 +136,25 @@ fn runs(rt: HostRuntime) {
     gives(&rt, alloc, "04000100 03000200 04000300", &[1], small);
     let overrun = Some(Cause::Overrun { length: 9, left: 8 });
     gives(&rt, alloc, "04000100 09000200 04000300", &[1], overrun);
+}
+
+/// Tables are equal if and only if their bytes are: a table has the offsets and the fault of its bytes.
+#[test]
+fn equal_tables(rt: HostRuntime) {
+    let rows = [
+        "",
+        "04000100",
+        "04000200",
+        "04000100 04000200",
+        "04000100 0400",
+    ];
+    for (i, one) in rows.iter().enumerate() {
+        for (k, other) in rows.iter().enumerate() {
+            let one = bytes(&rt, rt.alloc(), one);
+            let second = bytes(&rt, rt.alloc(), other);
+            let table = FrameTable::walk(rt.alloc(), &one).expect(&rt, other);
+            let others = FrameTable::walk(rt.alloc(), &second).expect(&rt, other);
+            holds(&rt, (table == others) == (i == k), other);
+        }
+    }
 }

@@ -4,9 +4,9 @@ use crate::tests::{holds, list};
 use bitflags::Flags;
 use netlink_packet_route::link::{
     AfSpecBridge, BondAdInfo, BondMode, BridgeMode, CanCtrlModeFlags, Cause, DecodeError,
-    DecodeFault, DefaultNla, InfoBond, InfoDsa, LacpState, LinkProtoInfoBridge, ListError,
-    NlaBuffer, NlasIterator, VecAfSpecBridge, VecLinkProtoInfoBridge, VlanFlags, VlanProtocol,
-    WriteError,
+    DecodeFault, DefaultNla, FrameTable, InfoBond, InfoDsa, LacpState, LinkProtoInfoBridge,
+    ListError, NlaBuffer, NlasIterator, VecAfSpecBridge, VecLinkProtoInfoBridge, VlanFlags,
+    VlanProtocol, WriteError,
 };
 use netlink_packet_route::{Family, RewriteError};
 use std::alloc::{AllocError, Global};
@@ -181,6 +181,10 @@ fn debug_texts_of_frames(rt: HostRuntime) {
     is_debugged(&rt, alloc, frame, wanted);
     let frames = NlasIterator::new(&[4, 0, 9, 0]);
     is_debugged(&rt, alloc, frames, "NlasIterator { rest: [4, 0, 9, 0] }");
+    let table = FrameTable::walk(alloc, &[4, 0, 9, 0, 5, 0]).expect(&rt, "a table");
+    let wanted =
+        "FrameTable { bytes: [4, 0, 9, 0, 5, 0], offsets: [0], fault: Some((4, ShortFrame { left: 2 })) }";
+    is_debugged(&rt, alloc, table, wanted);
 }
 
 /// The payload is shown as the bytes that it is, on lines of their own too.
