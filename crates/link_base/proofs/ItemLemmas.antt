@@ -1,5 +1,5 @@
 -- What an iterator over frames gives in a whole run.
-use Rattle.std.proofs.Common.{◌≡◌, ◌≢◌, ◌⊎◌, ℕ, ◌+◌, ◌/◌, ◌<◌, ◌≤◌, List, [], ◌∷◌, ◌++◌, length, map, Option, Some, None, Result, Ok, Err, refl, sym, ap, subst, ◌∙◌, arith, inl, inr, append_assoc}
+use Rattle.std.proofs.Common.{◌≡◌, ◌≢◌, ◌⊎◌, ℕ, ◌+◌, ◌/◌, ◌<◌, ◌≤◌, min, List, [], ◌∷◌, ◌++◌, length, map, Option, Some, None, Result, Ok, Err, refl, sym, ap, subst, ◌∙◌, arith, inl, inr, append_assoc}
 use Rattle.std.specs.Iterator.{Yields, Drains}
 use Rattle.std.proofs.lemmas.List.{length-append, length-drop}
 use Rattle.link_base.specs.declared.buffer.NlaBuffer.{NlaBuffer}
@@ -104,6 +104,11 @@ run_short a b (Err e ∷ items) h =
     let none = no_more h.0 b items h.1.2 h.2 in
     omega (arith, ap length none)
 
--- a whole run gives the frames before the first frame fault, and then the fault, and no more items than frames can be
-pub whole_run : (it : NlasIterator) (items : List Item) → Drains Step it items → AreItems (bytes_left it) items × (length items ≤ length (bytes_left it) / 4 + 1)
-whole_run it items (u, (t, run, end)) = let short = run_short it t items run in (run_items it t u items run end, omega arith)
+run_some : (a b c : NlasIterator) (items : List Item) → Yields Step a items b → Step b None c → min (length (bytes_left a)) 1 ≤ length items
+run_some a b c [] h end = omega (arith, ap (λ it. length (bytes_left it)) h, ap length end.0)
+run_some a b c (r ∷ items) h end = omega arith
+
+-- a whole run gives the frames before the first frame fault, and then the fault; no more items than frames can be, and one at least where bytes are left
+pub whole_run : (it : NlasIterator) (items : List Item) → Drains Step it items
+    → AreItems (bytes_left it) items × (length items ≤ (length (bytes_left it) + 3) / 4) × (min (length (bytes_left it)) 1 ≤ length items)
+whole_run it items (u, (t, run, end)) = (run_items it t u items run end, run_short it t items run, run_some it t u items run end)

@@ -1,7 +1,8 @@
 //! The frames of a list, one after another.
 
-ghost use Rattle.std.specs.Prelude.{◌≡◌, length, ◌+◌, ◌/◌};
-ghost use Rattle.std.specs.Iterator.{at_most};
+ghost use Rattle.std.specs.Prelude.{◌≡◌, length, min, ◌+◌, ◌/◌, IfSome, Some};
+ghost use Rattle.std.specs.Iterator.{at_most, UpTo};
+ghost use Rattle.std.specs.Iterator.SizeHint.{IsWithinCount};
 ghost use Rattle.link_base.specs.Items.{bytes_left, NextFrame};
 
 use crate::buffer::NlaBuffer;
@@ -44,5 +45,18 @@ impl<'a> Iterator for NlasIterator<'a> {
                 Some(Err(error))
             }
         }
+    }
+
+    /// At least one item if bytes are left, and at most one for each four bytes, rounded up.
+    fn size_hint(&self) -> (usize, Option<usize>)
+        ensures lower { IsWithinCount result.0 (at_most ((length (bytes_left self.now) + 3) / 4)) }
+        ensures upper { IfSome result.1 (UpTo (at_most ((length (bytes_left self.now) + 3) / 4))) }
+        ensures least { result.0 ≡ min (length (bytes_left self.now)) 1 }
+        ensures most { result.1 ≡ Some ((length (bytes_left self.now) + 3) / 4) }
+    {
+        let left = self.rest.len();
+        let least = left.min(1);
+        let most = (left + 3) / 4;
+        (least, Some(most))
     }
 }

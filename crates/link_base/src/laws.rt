@@ -1,7 +1,7 @@
 //! The laws of lists: what is proved of every family, and of every table. Nothing here runs.
 
 ghost use Rattle.std.specs.Prelude.{◌≡◌, ◌↔◌, ℕ, ◌+◌, ◌/◌, ◌%◌, ◌<◌, ◌≤◌, true, List, ◌++◌, length, map};
-ghost use Rattle.std.specs.Prelude.{None, Result, Ok, IsTrue};
+ghost use Rattle.std.specs.Prelude.{None, Result, Ok, IsTrue, min};
 ghost use Rattle.std.specs.List.{AllByRecursion};
 ghost use Rattle.link_base.specs.declared.fault.Cause.{Cause};
 ghost use Rattle.link_base.specs.declared.fault.DecodeFault.{DecodeFault};
@@ -65,12 +65,14 @@ pub fn editions()
         → AreEditions added (without added table) table }
 {}
 
-/// In a whole run an iterator gives the frames of its bytes, or those before the first frame fault and then the fault,
-/// and at most one item for each four bytes and one more.
+/// In a whole run an iterator gives the frames of its bytes, or those before the first frame fault and then the fault:
+/// at most one item for each four bytes, rounded up, and at least one if bytes are left. `size_hint` returns these
+/// bounds.
 pub fn items()
     ensures { (it : NlasIterator) (items : List (Result NlaBuffer DecodeError))
         → Drains (⟦<NlasIterator<'static> as Iterator>⟧.next_gives) it items
-        → AreItems (bytes_left it) items × (length items ≤ length (bytes_left it) / 4 + 1) }
+        → AreItems (bytes_left it) items × (length items ≤ (length (bytes_left it) + 3) / 4)
+        × (min (length (bytes_left it)) 1 ≤ length items) }
 {}
 
 // ---- equality

@@ -138,6 +138,26 @@ fn runs(rt: HostRuntime) {
     gives(&rt, alloc, "04000100 09000200 04000300", &[1], overrun);
 }
 
+#[test]
+fn hints(rt: HostRuntime) {
+    for (digits, least, most) in [
+        ("", 0usize, 0usize),
+        ("040001", 1, 1),
+        ("04000100", 1, 1),
+        // one frame without its padding: as many bytes can be a frame and a rest
+        ("05000100 2a", 1, 2),
+        ("04000100 040002", 1, 2),
+        ("04000100 04000200", 1, 2),
+        ("0c000100 2a0000002b000000", 1, 3),
+    ] {
+        let bytes = bytes(&rt, rt.alloc(), digits);
+        let frames = NlasIterator::new(&bytes);
+        holds(&rt, frames.size_hint() == (least, Some(most)), digits);
+        let count = frames.count();
+        holds(&rt, least <= count && count <= most, digits);
+    }
+}
+
 /// Tables are equal if and only if their bytes are: a table has the offsets and the fault of its bytes.
 #[test]
 fn equal_tables(rt: HostRuntime) {
