@@ -42,10 +42,13 @@ pub fn report(alloc: Global, family: Family, text: &[u8]) -> Result<(String, u8)
 fn digits(alloc: Global, text: &[u8]) -> Result<Vec<u8>, AllocError>
     ensures { IfOk result (λ digits. digits.items ≡ digits_of text.now) }
 {
-    text.iter()
-        .copied()
-        .filter(|b| !matches!(*b, b' ' | b'\t' | b'\r' | b'\n'))
-        .collect(alloc)
+    let mut digits = Vec::with_capacity(alloc, text.len())?;
+    digits.extend(
+        text.iter()
+            .copied()
+            .filter(|b| !matches!(*b, b' ' | b'\t' | b'\r' | b'\n')),
+    )?;
+    Ok(digits)
 }
 
 fn report_bytes<F: Attribute>(alloc: Global, bytes: &[u8]) -> Result<(String, u8), AllocError>

@@ -27,7 +27,11 @@ fn main(rt: HostRuntime) -> ExitCode {
 /// The only argument. One that is not UTF-8 is no family's name.
 fn name_of_family<R: Env + AllocGlobal>(rt: &R) -> Result<Option<String>, AllocError> {
     match env::args(rt) {
-        Ok(arguments) => Ok(arguments::only(arguments.collect(rt.alloc())?)),
+        Ok(arguments) => {
+            let mut words = Vec::with_capacity(rt.alloc(), arguments.len())?;
+            words.extend(arguments)?;
+            Ok(arguments::only(words))
+        }
         Err(error) if error.kind() == io::ErrorKind::OutOfMemory => Err(AllocError),
         Err(_) => Ok(None),
     }
