@@ -101,6 +101,22 @@ fn lists(rt: HostRuntime) {
             // a frame that is cut off, a value of another length
             (Family::Dsa, "08000100 2a000000 0000", Some(8)),
             (Family::Vlan, "07000100 01000000 0000", Some(0)),
+            // behind others, and in front of one: an element of another length, in a nested list
+            (
+                Family::Vlan,
+                "06000100 05000000 10000300 0c000100 01000000 02000000 06000500 88a80000",
+                None,
+            ),
+            (
+                Family::Vlan,
+                "06000100 05000000 0f000300 0b000100 01000000 02000000 06000500 88a80000",
+                Some(8),
+            ),
+            (
+                Family::Vlan,
+                "06000100 05000000 14000300 10000100 01000000 02000000 03000000 06000500 88a80000",
+                Some(8),
+            ),
             // behind others
             (
                 Family::Hsr,
@@ -119,6 +135,19 @@ fn lists(rt: HostRuntime) {
             ),
         ],
     );
+}
+
+/// A nested list of one element that does not fit once the element is padded.
+#[test]
+fn overfull_list(rt: HostRuntime) {
+    for (digits, at) in [("", 0), ("06000100 0a000000", 8)] {
+        let mut list = bytes(&rt, rt.alloc(), digits);
+        let nested = bytes(&rt, rt.alloc(), "fdff0300 f9ff6300");
+        list.extend_from_slice(&nested).expect(&rt, digits);
+        list.resize(at + 65_533, 0).expect(&rt, digits);
+        let is_so = first_not_canonical(Family::Vlan, &list) == Some(at);
+        holds(&rt, is_so && !is_canonical(Family::Vlan, &list), digits);
+    }
 }
 
 #[test]

@@ -1,6 +1,7 @@
-//! Each law, called: those of attributes at each type of attributes, the others at one type at least.
+//! Each law and each worked example, called: the laws of attributes at each type of attributes, the other laws at one
+//! type at least.
 
-use link_base::{flag_laws, named_laws};
+use link_base::{examples, flag_laws, named_laws};
 use netlink_packet_route::link::{
     AfSpecBridge, Attribute, BondAdInfo, BondAdSelect, BondAllPortActive, BondArpAllTargets,
     BondArpValidate, BondFailOverMac, BondLacpRate, BondMode, BondPortState, BondPrimaryReselect,
@@ -18,11 +19,35 @@ fn laws_of_tables() {
     laws::one_reading();
     laws::one_cut();
     laws::limit();
+    laws::editions();
     laws::items();
     laws::one_form();
     laws::fault_equality();
     laws::error_equality();
     laws::frame_equality();
+}
+
+#[test]
+fn worked_examples() {
+    examples::number();
+    examples::unknown_kind();
+    examples::ignored_payload();
+    examples::empty_list();
+    examples::address_overrun();
+    examples::value_before_frame();
+    examples::short_frame();
+    examples::small_length();
+    examples::overrun();
+    examples::nested_value();
+    examples::cut_names();
+}
+
+#[test]
+fn laws_of_attribute_sets() {
+    netlink_packet_route::laws::equality();
+    netlink_packet_route::laws::second_rewriting();
+    link_bridge::laws::profiles();
+    link_vlan_can::laws::profiles();
 }
 
 #[test]
