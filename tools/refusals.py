@@ -35,7 +35,8 @@ MARK = "7654321"
 # What a call answers where memory is wanting.
 ERROR, ALLOC_ERROR = "Err(Memory(AllocError))", "Err(AllocError)"
 WANTING = {
-    **dict.fromkeys(["read_list", "rewrite", "write_list", "parse"], ERROR),
+    **dict.fromkeys(["read_list", "write_list", "parse", "count_values"], ERROR),
+    **dict.fromkeys(["rewrite", "rewrite_into", "rewrite_to", "rewrite_to_short"], ERROR),
     **dict.fromkeys(["VecAfSpecBridge::parse", "VecLinkProtoInfoBridge::parse"], ERROR),
     **dict.fromkeys(["report", "try_clone", "FrameTable::walk"], ALLOC_ERROR),
     **dict.fromkeys(["expand_buffer_if_small", "CanBitTimingConst::new"], ALLOC_ERROR),

@@ -1,6 +1,7 @@
 //! What a line asks for, and what is printed of the answer.
 
-ghost use Rattle.std.specs.Prelude.{◌≡◌, ◌↔◌, IfOk, IsTrue, string_bytes};
+ghost use Rattle.std.specs.Prelude.{◌≡◌, ◌≤◌, ◌^◌, ◌↔◌, IfOk, IsTrue, string_bytes};
+ghost use Rattle.netlink_packet_route.specs.Frame.{pad};
 
 use crate::calls;
 use anyhow::{Result, bail};
@@ -8,7 +9,7 @@ use netlink_packet_route::link::{
     Attribute, BondAdInfo, BridgeQuerierState, BridgeVlanTunnelInfo, CanCtrlModeExt, CanTdc,
     NlaBuffer, TryClone, VlanQosMapping, read_list,
 };
-use netlink_packet_route::{Family, by_family};
+use netlink_packet_route::{Family, RewriteError, by_family};
 use std::alloc::Global;
 use std::fmt::Debug;
 use std::str;
@@ -57,6 +58,10 @@ fn bytes_of(alloc: Global, words: &str) -> Result<Vec<u8>> {
 fn on_family(alloc: Global, call: &str, family: Family, bytes: &[u8]) -> Result<String> {
     match call {
         "rewrite" => said_bytes(alloc, calls::rewrite(alloc, family, bytes)),
+        "rewrite_into" => rewrite_into(alloc, family, bytes),
+        "rewrite_to" => rewrite_to(alloc, family, bytes, padded(bytes.len())),
+        "rewrite_to_short" => rewrite_to(alloc, family, bytes, 3),
+        "count_values" => said(alloc, &calls::count_values(alloc, family, bytes)),
         "report" => {
             let text = hex::encode(alloc, bytes)?;
             let answer = said(alloc, &calls::report(alloc, family, text.as_bytes()))?;
@@ -69,6 +74,57 @@ fn on_family(alloc: Global, call: &str, family: Family, bytes: &[u8]) -> Result<
         "CanBitTimingConst::empty" => said(alloc, &calls::no_limits(alloc)),
         _ => by_family!(family, on_attributes(alloc, call, bytes)),
     }
+}
+
+/// What the buffers of `rewrite_into` and `rewrite_to` hold before the call.
+const BEFORE: u8 = 0xA5;
+
+/// A length, rounded up to a multiple of four.
+fn padded(len: usize) -> usize
+    requires { len ≤ 2 ^ 63 }
+    ensures { result ≡ pad len }
+{
+    (len + 3) / 4 * 4
+}
+
+/// A rewriting into a buffer of the length of the bytes, rounded up to a multiple of four, and of four bytes more. These
+/// stay as they are, and so do those behind what was written.
+fn rewrite_into(alloc: Global, family: Family, bytes: &[u8]) -> Result<String> {
+    let size = padded(bytes.len());
+    let mut buffer = vec![in alloc; BEFORE; size + 4]?;
+    match calls::rewrite_into(alloc, family, bytes, &mut buffer) {
+        Ok(len) => said_front(alloc, &buffer, len),
+        Err(error) => kept(
+            said(alloc, &Err::<String, RewriteError>(error))?,
+            are_kept(&buffer[size..]),
+        ),
+    }
+}
+
+/// A rewriting into a buffer of this size. All of it stays as it is where nothing was written.
+fn rewrite_to(alloc: Global, family: Family, bytes: &[u8], size: usize) -> Result<String> {
+    let mut buffer = vec![in alloc; BEFORE; size]?;
+    match calls::rewrite_to(alloc, family, bytes, &mut buffer) {
+        Ok(Some(len)) => said_front(alloc, &buffer, len),
+        other => kept(said(alloc, &other)?, are_kept(&buffer)),
+    }
+}
+
+/// What was written to the front of a buffer.
+fn said_front(alloc: Global, buffer: &[u8], len: usize) -> Result<String> {
+    let Some((front, rest)) = buffer.split_at_checked(len) else {
+        bail!("more than the buffer has: {len}");
+    };
+    let answer = said(
+        alloc,
+        &Ok::<String, RewriteError>(hex::encode(alloc, front)?),
+    )?;
+    kept(answer, are_kept(rest))
+}
+
+/// Whether these bytes of a buffer are as they were before the call.
+fn are_kept(bytes: &[u8]) -> bool {
+    bytes.iter().all(|b| *b == BEFORE)
 }
 
 /// A call on bytes of a nested list, by the name of its type.

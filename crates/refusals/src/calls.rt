@@ -1,17 +1,20 @@
 //! The calls, each between two marks, with the clauses of the call that it makes.
 
-ghost use Rattle.std.specs.Prelude.{◌≡◌, ◌++◌, ◌-◌, [], None, length, map, replicate, string_bytes};
+ghost use Rattle.std.specs.Prelude.{◌≡◌, ◌≤◌, ◌++◌, ◌-◌, [], None, length, drop, map, replicate, string_bytes};
 ghost use Rattle.std.specs.Prelude.{IfOk, OnErr, IsTrue};
 ghost use Rattle.link_vlan_can.specs.CanLimits.{limits_view, limits_with};
 ghost use Rattle.netlink_packet_route.specs.AfSpec.{af_spec_table, af_spec_means};
 ghost use Rattle.netlink_packet_route.specs.Answers.{Answers, ListAnswers, WriteAnswers, OnMemory, OnListMemory};
 ghost use Rattle.netlink_packet_route.specs.Buffer.{kind_field_of, payload_of};
+ghost use Rattle.netlink_packet_route.specs.Count.{CountAnswers};
 ghost use Rattle.netlink_packet_route.specs.Family.{table_of};
-ghost use Rattle.netlink_packet_route.specs.Frame.{frame_fault};
+ghost use Rattle.netlink_packet_route.specs.Frame.{pad, frame_fault};
 ghost use Rattle.netlink_packet_route.specs.Held.{HoldsMemory};
 ghost use Rattle.netlink_packet_route.specs.ProtoInfo.{proto_info_table, proto_info_means};
 ghost use Rattle.netlink_packet_route.specs.Report.{Reports};
-ghost use Rattle.netlink_packet_route.specs.Rewrite.{RewriteAnswers, OnRewriteMemory};
+ghost use Rattle.netlink_packet_route.specs.Rewrite.{RewriteAnswers, RewriteIntoAnswers, RewriteToAnswers};
+ghost use Rattle.netlink_packet_route.specs.Rewrite.{OnRewriteMemory, UnlessWritten};
+ghost use Rattle.netlink_packet_route.specs.Rewritten.{NeedsMemory};
 ghost use Rattle.netlink_packet_route.specs.Table.{Gives, TakesMemory};
 ghost use Rattle.netlink_packet_route.specs.Walk.{Finds};
 ghost use Rattle.netlink_packet_route.specs.Walked.{walked_bytes, offsets_of, fault_of};
@@ -83,6 +86,52 @@ pub(crate) fn rewrite(alloc: Global, family: Family, bytes: &[u8]) -> Result<Vec
     marked(
         alloc,
         || netlink_packet_route::rewrite(alloc, family, bytes),
+    )
+}
+
+/// A list, read and written into a buffer one attribute at a time.
+pub(crate) fn rewrite_into(
+    alloc: Global,
+    family: Family,
+    bytes: &[u8],
+    buffer: &mut [u8],
+) -> Result<usize, RewriteError>
+    requires { pad (length bytes.now) ≤ length buffer.old }
+    ensures answer { RewriteIntoAnswers (table_of family) bytes.now buffer.old buffer.new result }
+    ensures behind { drop (pad (length bytes.now)) buffer.new ≡ drop (pad (length bytes.now)) buffer.old }
+    ensures memory { OnRewriteMemory result (NeedsMemory (table_of family) bytes.now) }
+{
+    mark(alloc);
+    let answer = netlink_packet_route::rewrite_into(alloc, family, bytes, buffer);
+    mark(alloc);
+    answer
+}
+
+/// A list, read and written into a buffer, or `None` if the buffer is too small.
+pub(crate) fn rewrite_to(
+    alloc: Global,
+    family: Family,
+    bytes: &[u8],
+    buffer: &mut [u8],
+) -> Result<Option<usize>, RewriteError>
+    ensures answer { RewriteToAnswers (table_of family) bytes.now buffer.old buffer.new result }
+    ensures memory { OnRewriteMemory result (frame_fault bytes.now ≡ None) }
+    ensures unchanged { UnlessWritten result (buffer.new ≡ buffer.old) }
+{
+    mark(alloc);
+    let answer = netlink_packet_route::rewrite_to(alloc, family, bytes, buffer);
+    mark(alloc);
+    answer
+}
+
+/// How many attributes a list has.
+pub(crate) fn count_values(alloc: Global, family: Family, bytes: &[u8]) -> Result<usize, ListError>
+    ensures answer { CountAnswers (table_of family) bytes.now result }
+    ensures memory { OnListMemory result (frame_fault bytes.now ≡ None) }
+{
+    marked(
+        alloc,
+        || netlink_packet_route::count_values(alloc, family, bytes),
     )
 }
 
