@@ -1,11 +1,10 @@
 /*
- * A malloc that refuses memory, to load before a program: `cc -shared -fPIC`, LD_PRELOAD.
+ * A malloc that fails, to load before a program: `cc -shared -fPIC`, LD_PRELOAD.
  *
- * It is told by the environment. REFUSE is the place of the first request to refuse, from 1 on, or 0 for none; with
- * REFUSE_ALONE set, those behind it are granted. With REFUSE_MARK set, requests count only between the first block of
- * so many bytes that is asked for and the second. At the end of the program a line goes to the file descriptor
- * REFUSE_TO: how many requests counted, how many of them were refused, how many blocks are held, and how many marks
- * were met.
+ * The environment says when. REFUSE is the place of the first allocation that fails, from 1 on, or 0 for none; all
+ * after it fail too. If REFUSE_MARK is set, allocations count only between the first block of so many bytes and the
+ * second. At the end of the program a line goes to the file descriptor REFUSE_TO: how many allocations counted, how
+ * many of them failed, how many blocks are held, and how many marks were met.
  */
 #define _POSIX_C_SOURCE 200809L
 
@@ -21,7 +20,6 @@ void __libc_free(void *block);
 
 static unsigned long requests, refused, marks, place, mark;
 static long held;
-static bool is_alone;
 
 static unsigned long number(const char *name) {
     const char *text = getenv(name);
@@ -31,7 +29,6 @@ static unsigned long number(const char *name) {
 __attribute__((constructor)) static void begin(void) {
     place = number("REFUSE");
     mark = number("REFUSE_MARK");
-    is_alone = getenv("REFUSE_ALONE") != NULL;
 }
 
 static bool is_refused(size_t size) {
@@ -41,7 +38,7 @@ static bool is_refused(size_t size) {
     }
     if (mark != 0 && marks != 1) return false;
     requests++;
-    bool is = place != 0 && (is_alone ? requests == place : requests >= place);
+    bool is = place != 0 && requests >= place;
     refused += is;
     return is;
 }

@@ -1,26 +1,23 @@
 #!/usr/bin/env python3
-"""Refuses memory to the calls of the libraries, and to `nlroute`, one request after another.
+"""Makes the allocations of calls of the libraries fail, one after another, and those of `nlroute`.
 
 usage: tools/refusals.py
 
-The calls are the lines of crates/refusals/stdin, and what they answer with memory is in stdout beside it. Each is made
-by the program `refusals`, alone, under the malloc of refusals.c, which refuses the first request for memory of the
-call, then the second, and so on, until a run meets no refusal: once so that all behind it are refused too, and once so
-that it is refused alone. In the first way each run answers that memory is wanting, in the word that the call has for
-it. In the second it answers that, or as with memory, since a buffer that may not grow to twice its size asks again for
-what it needs. The last run answers as with memory. A call of the second part of stdin answers so with its first
-request refused, and makes none.
+The calls are the lines of crates/refusals/stdin: each begins with the number of allocations that the call makes, and
+what the call returns is in stdout beside it. The program `refusals` makes each call in a run of its own, under the
+malloc of refusals.c. With memory a call makes as many allocations as its line says, and returns what stdout says. Then
+the first allocation and all after it fail, in the next run the second and all after it, and so on to the last. Each of
+these runs returns the error of the call for a failed allocation, and makes no other allocation after the one that
+failed.
 
-`nlroute` is refused memory for each `report` in the same way, from its start; and where it prints `usage` or `read
-fault`, for which it takes none but for its arguments.
+`nlroute` runs in the same way for each `report`, from its start, and for the lines that it prints without a report.
 
-In every run what was lent is as before, and as many blocks are freed as were given.
+In every run the caller's bytes, values and buffers are unchanged, and as many blocks are freed as were allocated.
 
 The programs are those that `rt ci` has built, or `rt run` in their folders. It takes `cc`. The last line is
 'N passed, M failed', counted in calls, and the status 0 only if all passed.
 """
 import os
-import re
 import shutil
 import subprocess
 import sys
@@ -28,11 +25,11 @@ import tempfile
 
 ROOT = os.path.dirname(os.path.dirname(os.path.realpath(__file__)))
 PROGRAMS = {it: f"{ROOT}/crates/{it}/out/{it}" for it in ("refusals", "nlroute")}
-# The heading of the second part of stdin.
-TAKE_NONE = "## Calls that take no memory"
 # The size of the block with which `refusals` marks where a call begins and ends.
 MARK = "7654321"
-# What a call answers where memory is wanting.
+# How many bytes of what a call returns `refusals` prints.
+MOST = 300
+# What a call returns if an allocation fails.
 ERROR, ALLOC_ERROR = "Err(Memory(AllocError))", "Err(AllocError)"
 WANTING = {
     **dict.fromkeys(["read_list", "write_list", "parse", "count_values"], ERROR),
@@ -41,74 +38,80 @@ WANTING = {
     **dict.fromkeys(["report", "try_clone", "FrameTable::walk"], ALLOC_ERROR),
     **dict.fromkeys(["expand_buffer_if_small", "CanBitTimingConst::new"], ALLOC_ERROR),
 }
-REPORTED = re.compile(r'  Ok\(\("(.*)", (\d)\)\)\n')
+
+
+def printed(text, status):
+    """A run of `nlroute`, as `refusals` prints what `report` returns."""
+    said = 'Ok(("' + text.replace("\n", "\\n") + f'", {status}))'
+    return f"  {said[:MOST]} and {len(said) - MOST} bytes more" if len(said) > MOST else f"  {said}"
+
+
+NO_MEMORY = printed("no memory\n", 4)
 
 
 class Refuser:
-    """Runs programs under the malloc, and counts what it refuses."""
+    """Runs programs under the malloc, and counts the allocations that it makes fail."""
 
     def __init__(self, malloc):
-        self.malloc, self.refusals, self.overcome = malloc, 0, 0
+        self.malloc, self.refusals = malloc, 0
 
-    def run(self, words, given, marks, place=0, is_alone=False):
-        """What a program answers, as (output, status), and what the malloc says: requests, refusals."""
+    def run(self, words, given, place=0):
+        """What a program prints for some bytes, or for a descriptor to read from, and how many allocations it makes. If a
+        place is given, the allocation at this place and all after it fail."""
         told, tells = os.pipe()
+        is_call = words[0] == "refusals"
         names = {"LD_PRELOAD": self.malloc, "REFUSE": str(place), "REFUSE_TO": str(tells)}
-        names |= {"REFUSE_MARK": MARK} if marks else {}
-        names |= {"REFUSE_ALONE": "1"} if is_alone else {}
-        how = {"stdin": given} if isinstance(given, int) else {"input": given}
-        ran = subprocess.run(words, **how, capture_output=True, env=names, pass_fds=[tells], timeout=60)
+        names |= {"REFUSE_MARK": MARK} if is_call else {}
+        how = {"executable": PROGRAMS[words[0]], "env": names, "pass_fds": [tells]}
+        # (a file and not a pipe: each read but the last gives as much as it asks for, so buffers grow alike in each run)
+        with tempfile.TemporaryFile() as file:
+            file.write(b"" if isinstance(given, int) else given)
+            file.seek(0)
+            source = given if isinstance(given, int) else file
+            ran = subprocess.run(words, stdin=source, **how, capture_output=True, timeout=60)
         os.close(tells)
         with open(told, encoding="ascii") as file:
             counts = [int(it) for it in file.read().split()]
-        answer = ((ran.stdout + ran.stderr).decode(errors="replace"), ran.returncode)
         if not counts:
-            return ("no counts", ran.returncode), 0, 0
-        requests, refused, held, met = counts
-        if held != 0 or met != marks:
-            answer = (f"blocks that are held: {held}, marks: {met}", ran.returncode)
+            return f"no counts, with status {ran.returncode}", 0
+        requests, refused, held, marks = counts
         self.refusals += refused != 0
-        return answer, requests, refused
+        if held != 0 or marks != 2 * is_call:
+            return f"blocks that are held: {held}, marks: {marks}", requests
+        text = (ran.stdout + ran.stderr).decode(errors="replace")
+        if not is_call:
+            text = printed(text, ran.returncode)
+        elif ran.returncode != 0:
+            text += f"status {ran.returncode}"
+        return text, requests
 
-    def refuse_each(self, words, given, marks, answer, wanting):
-        """Refuses each request in turn, and answers what does not hold, or None."""
-        said, requests, _ = self.run(words, given, marks)
+    def refuse_each(self, words, given, answer, wanting, allocations):
+        """Makes each allocation fail in turn, and returns what does not hold, or None."""
+        said, requests = self.run(words, given)
         if said != answer:
             return f"with memory it answers {said}"
-        if requests == 0:
-            return "it takes no memory"
-        for is_alone in (False, True):
-            for place in range(1, requests + 2):
-                said, _, refused = self.run(words, given, marks, place, is_alone)
-                self.overcome += refused == 1 and is_alone and said == answer
-                wanted = [answer] if refused == 0 else [wanting, answer] if is_alone else [wanting]
-                if said not in wanted or (refused == 0) != (place > requests):
-                    return f"with request {place}{' alone' * is_alone} refused it answers {said}"
+        if requests != allocations:
+            return f"it makes {requests} allocations, and not {allocations}"
+        for place in range(1, allocations + 1):
+            said, requests = self.run(words, given, place)
+            if said != wanting:
+                return f"if allocation {place} fails, it answers {said}"
+            if requests != place:
+                return f"if allocation {place} fails, it makes {requests - place} more"
         return None
-
-    def refuse_first(self, words, given, marks, answer):
-        """Refuses the first request, which is not to come, and answers what does not hold, or None."""
-        said, requests, _ = self.run(words, given, marks, 1)
-        if said != answer:
-            return f"with its first request refused it answers {said}"
-        return f"it makes {requests} requests" if requests else None
 
 
 def calls():
-    """The lines of calls, each with what is printed for it, and whether it is one that takes no memory."""
+    """The lines of calls: the number of allocations, the call, and what is printed for it."""
     with open(f"{ROOT}/crates/refusals/stdin", encoding="utf-8") as file:
-        lines = file.read().splitlines()
+        lines = [it for it in file.read().splitlines() if it and not it.startswith("#")]
     with open(f"{ROOT}/crates/refusals/stdout", encoding="utf-8") as file:
-        printed = file.read().splitlines(keepends=True)
-    takes_none, found = False, []
-    for line in lines:
-        takes_none |= line == TAKE_NONE
-        if line and not line.startswith("#"):
-            echo, answer = printed[2 * len(found) : 2 * len(found) + 2]
-            assert echo == f"{line}\n", f"stdout has another line than stdin: {line}"
-            found.append((line, answer, takes_none))
-    assert 2 * len(found) == len(printed), "stdout has more lines than stdin"
-    return found
+        shown = file.read().splitlines()
+    assert shown[::2] == lines, "stdout has other lines than stdin"
+    assert len(shown) == 2 * len(lines), "stdout has a line too many"
+    for line, answer in zip(lines, shown[1::2]):
+        allocations, call = line.split(" ", 1)
+        yield int(allocations), call, answer
 
 
 def digits(words):
@@ -117,49 +120,53 @@ def digits(words):
     return "".join(it[2] * int(it[0] or 1) for it in parts)
 
 
-def try_call(refuser, line, answer, takes_none):
-    words, given = [PROGRAMS["refusals"]], f"{line}\n".encode()
-    whole = (f"{line}\n{answer}", 0)
-    if takes_none:
-        return refuser.refuse_first(words, given, 2, whole)
-    return refuser.refuse_each(words, given, 2, whole, (f"{line}\n  {WANTING[line.split()[0]]}\n", 0))
+def try_call(refuser, allocations, call, answer):
+    line = f"{allocations} {call}\n"
+    # (there is no error for a call that never makes an allocation)
+    wanting = f"{line}  {WANTING.get(call.split()[0])}\n"
+    return refuser.refuse_each(["refusals"], line.encode(), f"{line}{answer}\n", wanting, allocations)
 
 
-def try_nlroute(refuser, line, answer):
-    """A run of `nlroute`, on what a line `report` names."""
-    _, family, *words = line.split()
-    text, status = REPORTED.fullmatch(answer).groups()
-    reported = (text.replace("\\n", "\n"), int(status))
-    given = digits(words).encode()
-    return refuser.refuse_each([PROGRAMS["nlroute"], family], given, 0, reported, ("no memory\n", 4))
+def arguments(words):
+    """How many allocations `nlroute` makes for its arguments, at most four with its own name, as the kit reads them:
+    one for each, one to see that none follows, and one for each of two lists."""
+    return len(words) + 3
+
+
+def reading(text):
+    """How many allocations `nlroute` makes to read a text, by 4,096 bytes at most: its buffer doubles."""
+    return ((len(text) - 1) // 4096).bit_length() + 1 if text else 0
+
+
+def try_nlroute(refuser, allocations, call, answer):
+    """A run of `nlroute`, on what a call of `report` names."""
+    _, family, *words = call.split()
+    text = digits(words).encode()
+    words = ["nlroute", family]
+    allocations += arguments(words) + reading(text)
+    return refuser.refuse_each(words, text, answer, NO_MEMORY, allocations)
 
 
 def try_lines(refuser):
-    """The lines that `nlroute` prints without a report. Where one of them is printed, memory is taken for the arguments
-    alone: without a family `run` never answers 4, so no refused request is one of its own; and where reading fails, no
-    more requests are made than without a family."""
+    """The lines that `nlroute` prints without a report. It makes no allocation but those for its arguments."""
     folder = os.open(ROOT, os.O_RDONLY)  # reading from it fails
-    counts = {}
     for words, given, answer in (
-        ([], b"", ("usage: nlroute FAMILY\n", 2)),
-        (["tap"], b"", ("usage: nlroute FAMILY\n", 2)),
-        (["tap", "dsa"], b"", ("usage: nlroute FAMILY\n", 2)),
-        (["dsa"], folder, ("read fault\n", 5)),
+        ([], b"", printed("usage: nlroute FAMILY\n", 2)),
+        (["tap"], b"", printed("usage: nlroute FAMILY\n", 2)),
+        (["tap", "dsa"], b"", printed("usage: nlroute FAMILY\n", 2)),
+        (["dsa"], folder, printed("read fault\n", 5)),
     ):
-        whole = [PROGRAMS["nlroute"], *words]
-        line = " ".join(["nlroute", *words])
-        _, counts[line], _ = refuser.run(whole, given, 0)
-        yield line, refuser.refuse_each(whole, given, 0, answer, ("no memory\n", 4))
+        words = ["nlroute", *words]
+        yield " ".join(words), refuser.refuse_each(words, given, answer, NO_MEMORY, arguments(words))
     os.close(folder)
-    yield "nlroute dsa", None if counts["nlroute dsa"] == counts["nlroute tap"] else f"its requests are {counts}"
 
 
 def try_all(refuser):
     """What was tried, each with what does not hold."""
-    for line, answer, takes_none in calls():
-        yield line, try_call(refuser, line, answer, takes_none)
-        if line.startswith("report"):
-            yield line.replace("report", "nlroute"), try_nlroute(refuser, line, answer)
+    for allocations, call, answer in calls():
+        yield call, try_call(refuser, allocations, call, answer)
+        if call.startswith("report"):
+            yield call.replace("report", "nlroute"), try_nlroute(refuser, allocations, call, answer)
     yield from try_lines(refuser)
 
 
@@ -180,7 +187,7 @@ def main():
             if wrong:
                 print(f"FAILED {line[:100]}: {wrong}")
             passed, failed = passed + (not wrong), failed + bool(wrong)
-    print(f"{refuser.refusals} runs with a refusal, {refuser.overcome} of them overcome")
+    print(f"{refuser.refusals} runs in which an allocation fails")
     print(f"{passed} passed, {failed} failed")
     return 1 if failed else 0
 

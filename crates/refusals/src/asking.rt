@@ -17,12 +17,14 @@ use std::str;
 /// How many bytes of an answer's text are printed.
 const MOST: usize = 300;
 
-/// Makes the call that a line names, on the bytes that it names. The answer is printed as `{:?}` prints it, with bytes
-/// as hex digits. Where what was lent to the call has changed, this is said behind it.
+/// Makes the call that a line names, on the bytes that it names. The line's number is passed over: it is how many
+/// allocations the call makes. The answer is printed as `{:?}` prints it, with bytes as hex digits. If the caller's
+/// bytes, values or buffer have changed, the answer ends in this.
 ///
 /// Fails for a line that names no call, no bytes or none that the call is made on, and where an allocation failed.
 pub(crate) fn answer(alloc: Global, line: &str) -> Result<String> {
-    let (call, rest) = cut_word(line);
+    let (_allocations, rest) = cut_word(line);
+    let (call, rest) = cut_word(rest);
     let (word, words) = cut_word(rest);
     let bytes = bytes_of(alloc, words)?;
     let lent = Vec::from_slice(alloc, &bytes)?;
@@ -87,8 +89,8 @@ fn padded(len: usize) -> usize
     (len + 3) / 4 * 4
 }
 
-/// A rewriting into a buffer of the length of the bytes, rounded up to a multiple of four, and of four bytes more. These
-/// stay as they are, and so do those behind what was written.
+/// Re-encodes a list into a buffer of its length, rounded up to a multiple of four, and four bytes more. These four are
+/// unchanged, and so is all that follows the written bytes.
 fn rewrite_into(alloc: Global, family: Family, bytes: &[u8]) -> Result<String> {
     let size = padded(bytes.len());
     let mut buffer = vec![in alloc; BEFORE; size + 4]?;
@@ -101,7 +103,7 @@ fn rewrite_into(alloc: Global, family: Family, bytes: &[u8]) -> Result<String> {
     }
 }
 
-/// A rewriting into a buffer of this size. All of it stays as it is where nothing was written.
+/// Re-encodes a list into a buffer of this size. If nothing was written, the whole buffer is unchanged.
 fn rewrite_to(alloc: Global, family: Family, bytes: &[u8], size: usize) -> Result<String> {
     let mut buffer = vec![in alloc; BEFORE; size]?;
     match calls::rewrite_to(alloc, family, bytes, &mut buffer) {
@@ -110,7 +112,7 @@ fn rewrite_to(alloc: Global, family: Family, bytes: &[u8], size: usize) -> Resul
     }
 }
 
-/// What was written to the front of a buffer.
+/// What was written to the front of a buffer, in the form of `rewrite`, and whether the rest is unchanged.
 fn said_front(alloc: Global, buffer: &[u8], len: usize) -> Result<String> {
     let Some((front, rest)) = buffer.split_at_checked(len) else {
         bail!("more than the buffer has: {len}");
@@ -122,7 +124,7 @@ fn said_front(alloc: Global, buffer: &[u8], len: usize) -> Result<String> {
     kept(answer, are_kept(rest))
 }
 
-/// Whether these bytes of a buffer are as they were before the call.
+/// Whether these bytes of a buffer are unchanged.
 fn are_kept(bytes: &[u8]) -> bool {
     bytes.iter().all(|b| *b == BEFORE)
 }
