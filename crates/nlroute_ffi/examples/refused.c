@@ -1,10 +1,11 @@
 /*
- * The calls of nlroute.h where memory is refused, and where a buffer is a little too short. Standard input has lists,
- * one a line: the name of a family, a space, and hex digits; a line that begins with # is passed over.
+ * The calls of nlroute.h if an allocation fails, and if a buffer is a little too short. Standard input has lists, one a
+ * line: the name of an attribute set, a space, and hex digits; a line that begins with # is passed over.
  *
- * For each list and call, the first request for memory is refused, then the second, and so on, until a run meets no
- * refusal; once so that only this request is refused, and once with all behind it. With --wrap=malloc, realloc and free
- * of the linker, requests are counted here. It prints a line for each thing that does not hold, and then the counts.
+ * For each list and call, the first allocation and all after it fail, then the second and all after it, and so on,
+ * until a run meets no failure. No call makes another allocation after one that failed. With --wrap=malloc, realloc and
+ * free of the linker, allocations are counted here. It prints a line for each thing that does not hold, and then the
+ * counts.
  */
 #include "nlroute.h"
 
@@ -23,12 +24,9 @@ void __real_free(void *block);
 /* Requests so far, how many of the first are granted, how many were refused, and blocks that are held. */
 static unsigned long requests, granted = ULONG_MAX, refused, held;
 
-/* Whether those behind the refused one are granted. */
-static bool only_one;
-
 static bool is_refused(void) {
     requests++;
-    bool is = only_one ? requests == granted + 1 : requests > granted;
+    bool is = requests > granted;
     refused += is;
     return is;
 }
@@ -57,7 +55,7 @@ static uint8_t list[MOST], out[ROOM], whole[ROOM];
 static char text[2 * MOST + 64];
 static uint32_t family;
 static size_t len;
-static unsigned long lists, refusals, overcome, shorts, failed;
+static unsigned long lists, refusals, shorts, failed;
 
 static void check(bool holds, const char *call, const char *what, unsigned long n) {
     if (holds) return;
@@ -111,10 +109,7 @@ static size_t reach_of(ptrdiff_t answer) {
     return (answer > 0 && (size_t)answer > room ? (size_t)answer : room) + 64;
 }
 
-/*
- * Refuses the request behind so many. Answers whether the run met it; one that did not has to do as with memory. A
- * buffer that may not grow to twice its size is tried with what it needs, so that one refusal alone may change nothing.
- */
+/* All allocations after the first n fail. Returns whether there was one; if not, the call has to do as with memory. */
 static bool refuse(size_t i, unsigned long n, ptrdiff_t answer) {
     size_t reach = reach_of(answer);
     memset(out, LENT, reach), out[ROOM - 1] = LENT;
@@ -123,13 +118,13 @@ static bool refuse(size_t i, unsigned long n, ptrdiff_t answer) {
     granted = ULONG_MAX;
     check(held == 0, calls[i].name, "a block is kept", n);
     size_t from = calls[i].is_by_value ? padded() : 0;
-    bool is_overcome = refused == 1 && only_one && answered != NLROUTE_NO_MEMORY;
-    refusals += refused != 0, overcome += is_overcome;
-    if (refused == 0 || is_overcome) {
+    refusals += refused != 0;
+    if (refused == 0) {
         bool is_same = answered == answer && !memcmp(out, whole, reach) && out[ROOM - 1] == whole[ROOM - 1];
         check(is_same, calls[i].name, "another answer than with memory", n);
-        return refused != 0;
+        return false;
     }
+    check(refused == 1, calls[i].name, "an allocation after one that failed", n);
     check(answered == NLROUTE_NO_MEMORY, calls[i].name, "not -3", n);
     check(are_lent(from, reach) && out[ROOM - 1] == LENT, calls[i].name, "what was lent has changed", n);
     return true;
@@ -152,12 +147,8 @@ static void try_call(size_t i) {
     ptrdiff_t answer = calls[i].call(room_of(calls[i].call));
     check(answer >= NLROUTE_TOO_LONG && held == 0, calls[i].name, "no answer with memory", 0);
     memcpy(whole, out, reach_of(answer)), whole[ROOM - 1] = out[ROOM - 1];
-    for (int one = 0; one < 2; one++) {
-        unsigned long n = 0;
-        only_one = one;
-        while (refuse(i, n, answer)) n++;
-    }
-    only_one = false;
+    unsigned long n = 0;
+    while (refuse(i, n, answer)) n++;
     if (answer <= 0 || calls[i].call == reading) return;
     for (size_t by = 1; by <= 4; by++)
         shorten(i, calls[i].is_by_value ? padded() : (size_t)answer, by);
@@ -189,6 +180,6 @@ int main(void) {
         lists++;
         for (size_t i = 0; i < sizeof calls / sizeof calls[0]; i++) try_call(i);
     }
-    printf("%lu lists, %lu refusals (%lu overcome), %lu short buffers\n", lists, refusals, overcome, shorts);
+    printf("%lu lists, %lu refusals, %lu short buffers\n", lists, refusals, shorts);
     return failed != 0 || lists == 0;
 }
