@@ -38,7 +38,11 @@ fn main(rt: HostRuntime) -> ExitCode {
 /// Whether the program was started without an argument.
 fn is_called_alone<R: Env + AllocGlobal>(rt: &R) -> Result<bool, AllocError> {
     match env::args(rt) {
-        Ok(arguments) => Ok(arguments::are_none(&arguments.collect(rt.alloc())?)),
+        Ok(arguments) => {
+            let mut words = Vec::with_capacity(rt.alloc(), arguments.len())?;
+            words.extend(arguments)?;
+            Ok(arguments::are_none(&words))
+        }
         Err(error) if error.kind() == io::ErrorKind::OutOfMemory => Err(AllocError),
         Err(_) => Ok(false),
     }

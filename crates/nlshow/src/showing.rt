@@ -110,8 +110,7 @@ fn push_answer(
 fn digits(alloc: Global, text: &[u8]) -> Result<Vec<u8>, AllocError>
     ensures { IfOk result (λ digits. digits.items ≡ digits_of text.now) }
 {
-    text.iter()
-        .copied()
-        .filter(|b| !is_space(*b))
-        .collect(alloc)
+    let mut digits = Vec::with_capacity(alloc, text.len())?;
+    digits.extend(text.iter().copied().filter(|b| !is_space(*b)))?;
+    Ok(digits)
 }
