@@ -12,7 +12,9 @@ failed.
 
 `nlroute` runs in the same way for each `report`, from its start, and for the lines that it prints without a report.
 
-In every run the caller's bytes, values and buffers are unchanged, and as many blocks are freed as were allocated.
+In every run the caller's bytes and values are unchanged. So are buffers, except where a call wrote to them: at the
+front, as much as it returns, or if `rewrite_into` fails, at most the length of the list, rounded up to a multiple of
+four. As many blocks are freed as were allocated.
 
 The programs are those that `rt ci` has built, or `rt run` in their folders. It takes `cc`. The last line is
 'N passed, M failed', counted in calls, and the status 0 only if all passed.
