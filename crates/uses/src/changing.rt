@@ -46,13 +46,14 @@ fn with_id(alloc: Global, mut values: Vec<InfoVlan>, id: u16) -> Result<Vec<Info
         values.push(InfoVlan::Id(id))?;
         return Ok(values);
     }
-    values
-        .into_iter()
-        .map(|value| match value {
+    let mut changed = Vec::with_capacity(alloc, values.len())?;
+    changed.extend(
+        values.into_iter().map(|value| match value {
             InfoVlan::Id(_) => InfoVlan::Id(id),
             other => other,
-        })
-        .collect(alloc)
+        }),
+    )?;
+    Ok(changed)
 }
 
 /// Whether an identifier is among the values.
