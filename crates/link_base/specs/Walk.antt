@@ -1,8 +1,8 @@
 -- What a walk over some bytes finds.
-use Rattle.std.specs.Prelude.{◌≡◌, ℕ, ◌+◌, ◌<◌, ◌≤◌, List, [], ◌∷◌, ◌++◌, length, drop, slice_index_or, Option, Some, None}
+use Rattle.std.specs.Prelude.{◌≡◌, ◌⊎◌, ℕ, ◌+◌, ◌<◌, ◌≤◌, List, [], ◌∷◌, ◌++◌, length, drop, slice_index_or, Option, Some, None}
 use Rattle.std.specs.List.{AllByRecursion}
 use Rattle.link_base.specs.declared.fault.Cause.{Cause}
-use Rattle.link_base.specs.Frame.{Frame, Frames, IsComplete, frame_bytes, spelled, frame_fault}
+use Rattle.link_base.specs.Frame.{Frame, Frames, AreFrames, IsComplete, frame_bytes, spelled, frame_fault}
 
 -- where frames start that stand one after another, the first of them at this offset
 abbrev pub starts : ℕ → List Frame → List ℕ
@@ -15,11 +15,12 @@ FramesOrFault s xs None = Frames s xs
 FramesOrFault s xs (Some fault) =
     (rest : List ℕ) × AllByRecursion IsComplete xs × (s ≡ spelled xs ++ rest) × (0 < length rest) × (frame_fault rest ≡ Some fault.1) × (fault.0 ≡ length (spelled xs))
 
--- how many frames some bytes have, before their first frame fault
-pub record Counts (s : List ℕ) (count : ℕ) (fault : Option (ℕ × Cause)) : Type 0 where
+-- the offsets of the frames in front of the rest of some bytes; all of them are complete where anything is left
+pub record FindsBefore (s : List ℕ) (offsets rest : List ℕ) : Type 0 where
   pub frames : List Frame
-  pub all : FramesOrFault s frames fault
-  pub many : count ≡ length frames
+  pub string : s ≡ spelled frames ++ rest
+  pub all : ((rest ≡ []) × AreFrames frames) ⊎ AllByRecursion IsComplete frames
+  pub places : offsets ≡ starts 0 frames
 
 -- the offsets of the frames of some bytes, and their first frame fault
 pub record Finds (s : List ℕ) (offsets : List ℕ) (fault : Option (ℕ × Cause)) : Type 0 where

@@ -1,8 +1,8 @@
 //! The frames of a list, found before any of them is read.
 
-ghost use Rattle.std.specs.Prelude.{◌≡◌, ◌<◌, ◌≤◌, IfOk, OnOk, OnErr, IsTrue, [], ◌↔◌, None, length, slice_index_or};
+ghost use Rattle.std.specs.Prelude.{◌≡◌, ◌+◌, ◌/◌, ◌<◌, ◌≤◌, IfOk, OnOk, OnErr, IsTrue, [], ◌↔◌, None, length, slice_index_or, vec_len, vec_capacity};
 ghost use Rattle.link_base.specs.Frame.{frame_fault};
-ghost use Rattle.link_base.specs.Walk.{BeginFrames, Counts, Finds};
+ghost use Rattle.link_base.specs.Walk.{BeginFrames, FindsBefore, Finds};
 
 use crate::buffer::{NlaBuffer, cause_at_front};
 use crate::fault::Cause;
@@ -13,7 +13,8 @@ use std::alloc::{AllocError, Global};
 const INLINE: usize = 8;
 
 /// Where the frames of some bytes start, and the first frame fault if they have one. It borrows the bytes and copies
-/// none, and takes memory only for more than eight frames.
+/// none. It allocates only for more than eight frames: once, space for a frame in each eight bytes after these, and once
+/// more if frames are shorter.
 #[derive(Debug, PartialEq, Eq, Drop)]
 pub struct FrameTable<'a> {
     bytes: &'a [u8],
@@ -60,17 +61,23 @@ impl<'a> FrameTable<'a> {
         ensures memory { OnErr result (frame_fault (walked_bytes self.old) ≡ None) }
     {
         let bytes = self.bytes;
-        let (count, fault) = count_frames(bytes);
-        if let Err(error) = make_room(&mut self.offsets, count) {
-            return Err(error);
-        }
+        self.fault = None;
         let mut rest = bytes;
-        for _place in 0..count {
+
+        // No table has less capacity.
+        prove!(INLINE <= self.offsets.capacity());
+        for _place in 0..INLINE {
+            if rest.is_empty() {
+                return Ok(());
+            }
+            if let Some(cause) = cause_at_front(rest) {
+                self.fault = Some((bytes.len() - rest.len(), cause));
+                return Ok(());
+            }
             self.offsets.push_reserved(bytes.len() - rest.len());
             rest = NlaBuffer::at_front(rest).step_over(rest);
         }
-        self.fault = fault;
-        Ok(())
+        find_others(&mut self.offsets, &mut self.fault, bytes, rest)
     }
 
     /// How many frames there are.
@@ -116,32 +123,79 @@ impl<'a> FrameTable<'a> {
     }
 }
 
-/// Makes room for so many offsets in a list. Memory is asked for only where it has too little.
-#[inline(always)]
-fn make_room(offsets: &mut SmallVec<usize, INLINE>, count: usize) -> Result<(), AllocError>
-    ensures same { offsets.new.items ≡ offsets.old.items }
-    ensures room { OnOk result (count ≤ offsets.new.capacity) }
-    ensures refused { OnErr result (offsets.old.capacity < count) }
+/// Finds the frames after the first eight, in one walk over the bytes.
+#[inline(never)]
+fn find_others(
+    offsets: &mut SmallVec<usize, INLINE>,
+    fault: &mut Option<(usize, Cause)>,
+    bytes: &[u8],
+    front: &[u8],
+) -> Result<(), AllocError>
+    requires before { FindsBefore bytes.now offsets.old.items front.now }
+    requires begin { BeginFrames bytes.now offsets.old.items }
+    requires no_fault { fault.old ≡ None }
+    ensures finds { OnOk result (Finds bytes.now offsets.new.items fault.new) }
+    ensures begin { BeginFrames bytes.now offsets.new.items }
 {
-    if count <= offsets.capacity() {
+    if front.is_empty() {
         return Ok(());
     }
-    offsets.reserve_exact(count)
+    if let Some(cause) = cause_at_front(front) {
+        *fault = Some((bytes.len() - front.len(), cause));
+        return Ok(());
+    }
+    // Most attributes have eight bytes or more.
+    let room = offsets.len() + front.len() / 8 + 1;
+    let mut all = match Vec::with_capacity(*offsets.allocator(), room) {
+        Ok(all) => all,
+        Err(error) => return Err(error),
+    };
+    if let Err(error) = all.extend_from_slice(offsets.as_slice()) {
+        return Err(error);
+    }
+    match put_down(&mut all, bytes, front) {
+        Ok(found) => *fault = found,
+        Err(error) => return Err(error),
+    }
+    *offsets = SmallVec::from_vec(all);
+    Ok(())
 }
 
-/// How many frames there are before the first frame fault, and the fault with its offset.
-#[inline]
-fn count_frames(bytes: &[u8]) -> (usize, Option<(usize, Cause)>)
-    ensures { Counts bytes.now result.0 result.1 }
+/// Stores the offsets of the frames in the rest of some bytes, and returns the first frame fault with its offset.
+#[inline(always)]
+fn put_down(
+    offsets: &mut Vec<usize>,
+    bytes: &[u8],
+    front: &[u8],
+) -> Result<Option<(usize, Cause)>, AllocError>
+    requires before { FindsBefore bytes.now offsets.old.items front.now }
+    requires begin { BeginFrames bytes.now offsets.old.items }
+    ensures finds { IfOk result (λ fault. Finds bytes.now offsets.new.items fault) }
+    ensures begin { IfOk result (λ fault. BeginFrames bytes.now offsets.new.items) }
 {
-    let mut count = 0usize;
-    let mut rest = bytes;
+    let mut rest = front;
     while !rest.is_empty() {
         if let Some(cause) = cause_at_front(rest) {
-            return (count, Some((bytes.len() - rest.len(), cause)));
+            return Ok(Some((bytes.len() - rest.len(), cause)));
         }
-        count += 1;
+        if let Err(error) = make_room(offsets, rest.len() / 4) {
+            return Err(error);
+        }
+        offsets.push_reserved(bytes.len() - rest.len());
         rest = NlaBuffer::at_front(rest).step_over(rest);
     }
-    (count, None)
+    Ok(None)
+}
+
+/// Makes room for so many offsets, at least one, if there is none for the next.
+#[inline(always)]
+fn make_room(offsets: &mut Vec<usize>, most: usize) -> Result<(), AllocError>
+    requires { 0 < most }
+    ensures same { OnOk result (offsets.new.items ≡ offsets.old.items) }
+    ensures room { OnOk result (vec_len offsets.new < vec_capacity offsets.new) }
+{
+    if offsets.len() < offsets.capacity() {
+        return Ok(());
+    }
+    offsets.reserve_exact(most)
 }
