@@ -6,8 +6,8 @@ use Rattle.link_base.specs.Default.{default_means}
 use Rattle.link_bond.specs.declared.bond.ad_info.BondAdInfo.{BondAdInfo}
 use Rattle.link_bond.specs.declared.bond.ad_info.BondAdInfo.TheVariants.{Aggregator, NumPorts, ActorKey, PartnerKey, PartnerMac, Other}
 
--- IFLA_BOND_AD_INFO_AGGREGATOR, IFLA_BOND_AD_INFO_NUM_PORTS, IFLA_BOND_AD_INFO_ACTOR_KEY, IFLA_BOND_AD_INFO_PARTNER_KEY,
--- IFLA_BOND_AD_INFO_PARTNER_MAC
+-- IFLA_BOND_AD_INFO_AGGREGATOR, IFLA_BOND_AD_INFO_NUM_PORTS, IFLA_BOND_AD_INFO_ACTOR_KEY,
+-- IFLA_BOND_AD_INFO_PARTNER_KEY, IFLA_BOND_AD_INFO_PARTNER_MAC
 abbrev pub ad_info_rows : Rows
 ad_info_rows =
     row 1 (Unsigned 2) ∷
@@ -16,7 +16,7 @@ ad_info_rows =
     row 4 (Unsigned 2) ∷
     row 5 (Octets (Exactly 6)) ∷ []
 
--- the attribute that a value stands for
+-- the attribute that a value represents
 abbrev pub ad_info_leaf : BondAdInfo → Leaf
 ad_info_leaf (Aggregator number) = Case 1 (Number 2 number)
 ad_info_leaf (NumPorts count) = Case 2 (Number 2 count)

@@ -18,7 +18,7 @@ ad_select_names = record {
   accepted = TextOrDigit;
 }
 
--- the number that a rule holds
+-- the number of a rule: `Listed` for a named variant, `Free` for `Other`
 abbrev pub ad_select_seen : BondAdSelect → Seen
 ad_select_seen cases.Stable = Listed 0
 ad_select_seen cases.Bandwidth = Listed 1
@@ -26,7 +26,7 @@ ad_select_seen cases.Count = Listed 2
 ad_select_seen cases.ActorPortPrio = Listed 3
 ad_select_seen (cases.Other d) = Free d
 
--- it has no further cases
+-- every value is a named variant or `Other`
 pub ad_select_cases : (v : BondAdSelect) → IsSeen ad_select_names v (ad_select_seen v)
 ad_select_cases cases.Stable = (refl, refl)
 ad_select_cases cases.Bandwidth = (refl, refl)

@@ -1,4 +1,4 @@
--- What becomes of frames at inactive ports: the names.
+-- What happens to frames received on inactive ports: the names.
 use Rattle.std.specs.Prelude.{[], ◌∷◌, codes, refl}
 use Rattle.link_base.specs.Named.{Naming, Seen, Listed, Free, IsSeen, label, Bare, TextOrDigit}
 use Rattle.link_bond.specs.declared.bond.all_port_active.BondAllPortActive.{BondAllPortActive}
@@ -16,13 +16,13 @@ all_port_active_names = record {
   accepted = TextOrDigit;
 }
 
--- the number that a choice holds
+-- the number of a choice: `Listed` for a named variant, `Free` for `Other`
 abbrev pub all_port_active_seen : BondAllPortActive → Seen
 all_port_active_seen cases.Dropped = Listed 0
 all_port_active_seen cases.Delivered = Listed 1
 all_port_active_seen (cases.Other d) = Free d
 
--- it has no further cases
+-- every value is a named variant or `Other`
 pub all_port_active_cases : (v : BondAllPortActive) → IsSeen all_port_active_names v (all_port_active_seen v)
 all_port_active_cases cases.Dropped = (refl, refl)
 all_port_active_cases cases.Delivered = (refl, refl)

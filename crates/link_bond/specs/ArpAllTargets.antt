@@ -1,4 +1,4 @@
--- How many ARP targets have to be reached: the names.
+-- How many ARP targets a bond port must reach: the names.
 use Rattle.std.specs.Prelude.{[], ◌∷◌, codes, refl}
 use Rattle.link_base.specs.Named.{Naming, Seen, Listed, Free, IsSeen, label, Unknown, TextOrDigit}
 use Rattle.link_bond.specs.declared.bond.arp_all_targets.BondArpAllTargets.{BondArpAllTargets}
@@ -16,13 +16,13 @@ arp_all_targets_names = record {
   accepted = TextOrDigit;
 }
 
--- the number that a choice holds
+-- the number of a choice: `Listed` for a named variant, `Free` for `Other`
 abbrev pub arp_all_targets_seen : BondArpAllTargets → Seen
 arp_all_targets_seen cases.Any = Listed 0
 arp_all_targets_seen cases.All = Listed 1
 arp_all_targets_seen (cases.Other d) = Free d
 
--- it has no further cases
+-- every value is a named variant or `Other`
 pub arp_all_targets_cases : (v : BondArpAllTargets) → IsSeen arp_all_targets_names v (arp_all_targets_seen v)
 arp_all_targets_cases cases.Any = (refl, refl)
 arp_all_targets_cases cases.All = (refl, refl)

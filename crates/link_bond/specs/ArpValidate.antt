@@ -1,4 +1,4 @@
--- Which ports check what they receive: the names.
+-- Which ports validate the ARP and neighbor messages that they receive: the names.
 use Rattle.std.specs.Prelude.{[], ◌∷◌, codes, refl}
 use Rattle.link_base.specs.Named.{Naming, Seen, Listed, Free, IsSeen, label, Unknown, TextOrDigit}
 use Rattle.link_bond.specs.declared.bond.arp_validate.BondArpValidate.{BondArpValidate}
@@ -21,7 +21,7 @@ arp_validate_names = record {
   accepted = TextOrDigit;
 }
 
--- the number that a choice holds
+-- the number of a choice: `Listed` for a named variant, `Free` for `Other`
 abbrev pub arp_validate_seen : BondArpValidate → Seen
 arp_validate_seen cases.None = Listed 0
 arp_validate_seen cases.Active = Listed 1
@@ -32,7 +32,7 @@ arp_validate_seen cases.FilterActive = Listed 5
 arp_validate_seen cases.FilterBackup = Listed 6
 arp_validate_seen (cases.Other d) = Free d
 
--- it has no further cases
+-- every value is a named variant or `Other`
 pub arp_validate_cases : (v : BondArpValidate) → IsSeen arp_validate_names v (arp_validate_seen v)
 arp_validate_cases cases.None = (refl, refl)
 arp_validate_cases cases.Active = (refl, refl)

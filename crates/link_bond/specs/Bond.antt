@@ -1,4 +1,4 @@
--- The attributes of a bond.
+-- Bond attributes.
 use Rattle.std.specs.Prelude.{[], ◌∷◌, map, false}
 use Rattle.link_base.specs.Class.{Unsigned, Truth, Octets, Exactly, Named, Number, Boolean, Raw}
 use Rattle.link_base.specs.Named.{numbers_of, seen_value}
@@ -18,7 +18,7 @@ use Rattle.link_bond.specs.AdInfo.{ad_info_rows, ad_info_leaf}
 use Rattle.link_bond.specs.declared.bond.InfoBond.{InfoBond}
 use Rattle.link_bond.specs.declared.bond.InfoBond.TheVariants as infos
 
--- each kind by its name in the kernel, without IFLA_BOND_
+-- one row for each attribute type; its comment is the kernel's name without IFLA_BOND_
 abbrev pub bond_table : Table
 bond_table =
     -- MODE
@@ -90,7 +90,7 @@ bond_table =
     -- LACP_STRICT
     row 34 (One Truth) ∷ []
 
--- the attribute that a value stands for
+-- the attribute that a value represents
 abbrev pub bond_means : InfoBond → AttrValue
 bond_means (infos.Mode mode) = Case 1 (Single (seen_value 1 (numbers_of mode_names) (mode_seen mode)))
 bond_means (infos.ActivePort index) = Case 2 (Single (Number 4 index))

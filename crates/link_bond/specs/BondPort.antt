@@ -1,4 +1,4 @@
--- The attributes of a port of a bond.
+-- Bond port attributes.
 use Rattle.std.specs.Prelude.{[], ◌∷◌}
 use Rattle.link_base.specs.Class.{Unsigned, Signed, Bytes, Named, Low, Number, Integer, Raw, LowByte}
 use Rattle.link_base.specs.Named.{numbers_of, seen_value}
@@ -30,7 +30,7 @@ bond_port_table =
     row 11 (One (Named 1 (numbers_of churn_state_names))) ∷
     row 12 (One (Named 1 (numbers_of churn_state_names))) ∷ []
 
--- the attribute that a value stands for
+-- the attribute that a value represents
 abbrev pub bond_port_means : InfoBondPort → AttrValue
 bond_port_means (infos.BondPortState state) = Case 1 (Single (seen_value 1 (numbers_of port_state_names) (port_state_seen state)))
 bond_port_means (infos.MiiStatus status) = Case 2 (Single (seen_value 1 (numbers_of mii_status_names) (mii_status_seen status)))

@@ -1,4 +1,4 @@
--- Whether a side comes into synchronization in time: the names.
+-- Whether one side of a link reaches synchronization in time: the names.
 use Rattle.std.specs.Prelude.{[], ◌∷◌, codes, refl}
 use Rattle.link_base.specs.Named.{Naming, Seen, Listed, Free, IsSeen, label, Bare, AnyCase}
 use Rattle.link_bond.specs.declared.bond_port.churn_state.ChurnState.{ChurnState}
@@ -17,14 +17,14 @@ churn_state_names = record {
   accepted = AnyCase;
 }
 
--- the number that a state holds
+-- the number of a state: `Listed` for a named variant, `Free` for `Other`
 abbrev pub churn_state_seen : ChurnState → Seen
 churn_state_seen cases.Monitor = Listed 0
 churn_state_seen cases.Churn = Listed 1
 churn_state_seen cases.NoChurn = Listed 2
 churn_state_seen (cases.Other d) = Free d
 
--- it has no further cases
+-- every value is a named variant or `Other`
 pub churn_state_cases : (v : ChurnState) → IsSeen churn_state_names v (churn_state_seen v)
 churn_state_cases cases.Monitor = (refl, refl)
 churn_state_cases cases.Churn = (refl, refl)

@@ -17,14 +17,14 @@ fail_over_mac_names = record {
   accepted = TextOrDigit;
 }
 
--- the number that a choice holds
+-- the number of a choice: `Listed` for a named variant, `Free` for `Other`
 abbrev pub fail_over_mac_seen : BondFailOverMac → Seen
 fail_over_mac_seen cases.None = Listed 0
 fail_over_mac_seen cases.Active = Listed 1
 fail_over_mac_seen cases.Follow = Listed 2
 fail_over_mac_seen (cases.Other d) = Free d
 
--- it has no further cases
+-- every value is a named variant or `Other`
 pub fail_over_mac_cases : (v : BondFailOverMac) → IsSeen fail_over_mac_names v (fail_over_mac_seen v)
 fail_over_mac_cases cases.None = (refl, refl)
 fail_over_mac_cases cases.Active = (refl, refl)

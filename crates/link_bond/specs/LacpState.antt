@@ -3,11 +3,11 @@ use Rattle.std.specs.Prelude.{◌≡◌, ◌-◌, ◌^◌, ℕ, List, [], ◌∷
 use Rattle.bitflags.specs.Sets.{Row, known_from, known_bits}
 use Rattle.link_bond.specs.declared.bond_port.lacp_state.LacpState.{LacpState}
 
--- the bits of a set
+-- the bits of a set of flags
 abbrev pub lacp_bits : LacpState → ℕ
 lacp_bits state = state.0
 
--- LACP_STATE_LACP_ACTIVITY and the others
+-- LACP_STATE_LACP_ACTIVITY and the other flags
 abbrev pub lacp_flags : List Row
 lacp_flags =
     (codes "LACP_ACTIVITY", 1) ∷

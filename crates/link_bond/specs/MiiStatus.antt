@@ -1,4 +1,4 @@
--- The states of a port's link: their names.
+-- The link states of a bond port: the names.
 use Rattle.std.specs.Prelude.{[], ◌∷◌, codes, refl}
 use Rattle.link_base.specs.Named.{Naming, Seen, Listed, Free, IsSeen, label, Bare, AnyCase}
 use Rattle.link_bond.specs.declared.bond_port.mii_status.MiiStatus.{MiiStatus}
@@ -18,7 +18,7 @@ mii_status_names = record {
   accepted = AnyCase;
 }
 
--- the number that a state holds
+-- the number of a state: `Listed` for a named variant, `Free` for `Other`
 abbrev pub mii_status_seen : MiiStatus → Seen
 mii_status_seen cases.Up = Listed 0
 mii_status_seen cases.GoingDown = Listed 1
@@ -26,7 +26,7 @@ mii_status_seen cases.Down = Listed 2
 mii_status_seen cases.GoingBack = Listed 3
 mii_status_seen (cases.Other d) = Free d
 
--- it has no further cases
+-- every value is a named variant or `Other`
 pub mii_status_cases : (v : MiiStatus) → IsSeen mii_status_names v (mii_status_seen v)
 mii_status_cases cases.Up = (refl, refl)
 mii_status_cases cases.GoingDown = (refl, refl)

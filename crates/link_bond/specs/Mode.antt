@@ -1,4 +1,4 @@
--- The modes of a bond: their names.
+-- The modes of a bond: the names.
 use Rattle.std.specs.Prelude.{[], ◌∷◌, codes, refl}
 use Rattle.link_base.specs.Named.{Naming, Seen, Listed, Free, IsSeen, label, Unknown, TextOrDigit}
 use Rattle.link_bond.specs.declared.bond.mode.BondMode.{BondMode}
@@ -21,7 +21,7 @@ mode_names = record {
   accepted = TextOrDigit;
 }
 
--- the number that a mode holds
+-- the number of a mode: `Listed` for a named variant, `Free` for `Other`
 abbrev pub mode_seen : BondMode → Seen
 mode_seen cases.BalanceRr = Listed 0
 mode_seen cases.ActiveBackup = Listed 1
@@ -32,7 +32,7 @@ mode_seen cases.BalanceTlb = Listed 5
 mode_seen cases.BalanceAlb = Listed 6
 mode_seen (cases.Other d) = Free d
 
--- it has no further cases
+-- every value is a named variant or `Other`
 pub mode_cases : (v : BondMode) → IsSeen mode_names v (mode_seen v)
 mode_cases cases.BalanceRr = (refl, refl)
 mode_cases cases.ActiveBackup = (refl, refl)

@@ -1,4 +1,4 @@
--- The states of a port: their names.
+-- The states of a bond port: the names.
 use Rattle.std.specs.Prelude.{[], ◌∷◌, codes, refl}
 use Rattle.link_base.specs.Named.{Naming, Seen, Listed, Free, IsSeen, label, Bare, AnyCase}
 use Rattle.link_bond.specs.declared.bond_port.port_state.BondPortState.{BondPortState}
@@ -16,13 +16,13 @@ port_state_names = record {
   accepted = AnyCase;
 }
 
--- the number that a state holds
+-- the number of a state: `Listed` for a named variant, `Free` for `Other`
 abbrev pub port_state_seen : BondPortState → Seen
 port_state_seen cases.Active = Listed 0
 port_state_seen cases.Backup = Listed 1
 port_state_seen (cases.Other d) = Free d
 
--- it has no further cases
+-- every value is a named variant or `Other`
 pub port_state_cases : (v : BondPortState) → IsSeen port_state_names v (port_state_seen v)
 port_state_cases cases.Active = (refl, refl)
 port_state_cases cases.Backup = (refl, refl)

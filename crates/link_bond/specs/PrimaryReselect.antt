@@ -17,14 +17,14 @@ primary_reselect_names = record {
   accepted = TextOrDigit;
 }
 
--- the number that a choice holds
+-- the number of a choice: `Listed` for a named variant, `Free` for `Other`
 abbrev pub primary_reselect_seen : BondPrimaryReselect → Seen
 primary_reselect_seen cases.Always = Listed 0
 primary_reselect_seen cases.Better = Listed 1
 primary_reselect_seen cases.Failure = Listed 2
 primary_reselect_seen (cases.Other d) = Free d
 
--- it has no further cases
+-- every value is a named variant or `Other`
 pub primary_reselect_cases : (v : BondPrimaryReselect) → IsSeen primary_reselect_names v (primary_reselect_seen v)
 primary_reselect_cases cases.Always = (refl, refl)
 primary_reselect_cases cases.Better = (refl, refl)

@@ -1,4 +1,4 @@
--- What a packet is hashed by: the names.
+-- Which fields of a packet are hashed: the names.
 use Rattle.std.specs.Prelude.{[], ◌∷◌, codes, refl}
 use Rattle.link_base.specs.Named.{Naming, Seen, Listed, Free, IsSeen, label, Unknown, TextOrDigit}
 use Rattle.link_bond.specs.declared.bond.xmit_hash_policy.BondXmitHashPolicy.{BondXmitHashPolicy}
@@ -20,7 +20,7 @@ xmit_hash_policy_names = record {
   accepted = TextOrDigit;
 }
 
--- the number that a policy holds
+-- the number of a policy: `Listed` for a named variant, `Free` for `Other`
 abbrev pub xmit_hash_policy_seen : BondXmitHashPolicy → Seen
 xmit_hash_policy_seen cases.Layer2 = Listed 0
 xmit_hash_policy_seen cases.Layer34 = Listed 1
@@ -30,7 +30,7 @@ xmit_hash_policy_seen cases.Encap34 = Listed 4
 xmit_hash_policy_seen cases.VlanSrcMac = Listed 5
 xmit_hash_policy_seen (cases.Other d) = Free d
 
--- it has no further cases
+-- every value is a named variant or `Other`
 pub xmit_hash_policy_cases : (v : BondXmitHashPolicy) → IsSeen xmit_hash_policy_names v (xmit_hash_policy_seen v)
 xmit_hash_policy_cases cases.Layer2 = (refl, refl)
 xmit_hash_policy_cases cases.Layer34 = (refl, refl)

@@ -1,4 +1,4 @@
-//! The attributes of a bond (`IFLA_INFO_DATA` of a link of kind `bond`).
+//! Bond attributes (`IFLA_INFO_DATA` of a link whose `IFLA_INFO_KIND` is `bond`).
 
 ghost use Rattle.link_bond.specs.Bond.{bond_table, bond_means};
 
@@ -101,92 +101,90 @@ const IFLA_BOND_BROADCAST_NEIGH: u16 = 33;
 
 const IFLA_BOND_LACP_STRICT: u16 = 34;
 
-/// An attribute of a bond (`IFLA_BOND_*`, `include/uapi/linux/if_link.h`).
+/// A bond attribute (`IFLA_BOND_*`, `include/uapi/linux/if_link.h`).
+///
+/// Attributes marked read-only are reported by the kernel and cannot be set.
 #[derive(Debug, PartialEq, Eq, Drop)]
 pub enum InfoBond {
-    /// How traffic is spread over the ports (`IFLA_BOND_MODE`, one byte).
+    /// How traffic is distributed over the ports (`IFLA_BOND_MODE`, `u8`).
     Mode(BondMode),
-    /// The index of the active port, a network device (`IFLA_BOND_ACTIVE_SLAVE`, four bytes).
+    /// Interface index of the active port (`IFLA_BOND_ACTIVE_SLAVE`, `u32`).
     ActivePort(u32),
-    /// The MII monitoring interval, at which the links of the ports are checked, in milliseconds; 0 for never
-    /// (`IFLA_BOND_MIIMON`, four bytes).
+    /// MII monitoring interval, at which the links of the ports are checked, in milliseconds; 0 disables monitoring
+    /// (`IFLA_BOND_MIIMON`, `u32`).
     MiiMon(u32),
-    /// How long a link is up before its port is used, in milliseconds (`IFLA_BOND_UPDELAY`, four bytes).
+    /// How long a link must be up before its port is used, in milliseconds (`IFLA_BOND_UPDELAY`, `u32`).
     UpDelay(u32),
-    /// How long a link is down before its port is given up, in milliseconds (`IFLA_BOND_DOWNDELAY`, four bytes).
+    /// How long a link must be down before its port is disabled, in milliseconds (`IFLA_BOND_DOWNDELAY`, `u32`).
     DownDelay(u32),
-    /// Whether the state of a link is taken from the carrier that its driver reports, and not asked for by MII or
-    /// ethtool (`IFLA_BOND_USE_CARRIER`, one byte).
+    /// Whether the link state is the carrier state that the driver reports; if not, it is queried by MII or ethtool
+    /// (`IFLA_BOND_USE_CARRIER`, `u8`).
     UseCarrier(bool),
-    /// The ARP monitoring interval, at which the ports are checked by ARP and neighbour messages, in milliseconds; 0
-    /// for never (`IFLA_BOND_ARP_INTERVAL`, four bytes).
+    /// ARP monitoring interval, at which the ports are checked by ARP and neighbor messages, in milliseconds; 0
+    /// disables monitoring (`IFLA_BOND_ARP_INTERVAL`, `u32`).
     ArpInterval(u32),
-    /// The addresses that ARP requests ask for (`IFLA_BOND_ARP_IP_TARGET`, a list of elements of four octets; at most
-    /// 8191 fit).
+    /// Target addresses of ARP requests (`IFLA_BOND_ARP_IP_TARGET`, a nested list of IPv4 addresses, at most 8191).
     ArpIpTarget(Vec<Ipv4Addr>),
-    /// Which ports check the ARP and neighbour messages that they receive (`IFLA_BOND_ARP_VALIDATE`, four bytes).
+    /// Which ports validate the ARP and neighbor messages that they receive (`IFLA_BOND_ARP_VALIDATE`, `u32`).
     ArpValidate(BondArpValidate),
-    /// How many targets a port has to reach (`IFLA_BOND_ARP_ALL_TARGETS`, four bytes).
+    /// How many targets a port must reach (`IFLA_BOND_ARP_ALL_TARGETS`, `u32`).
     ArpAllTargets(BondArpAllTargets),
-    /// The index of the port that is preferred, a network device (`IFLA_BOND_PRIMARY`, four bytes).
+    /// Interface index of the preferred port (`IFLA_BOND_PRIMARY`, `u32`).
     Primary(u32),
-    /// When the primary port becomes the active one again (`IFLA_BOND_PRIMARY_RESELECT`, one byte).
+    /// When the primary port becomes the active port again (`IFLA_BOND_PRIMARY_RESELECT`, `u8`).
     PrimaryReselect(BondPrimaryReselect),
-    /// Which hardware addresses the ports have (`IFLA_BOND_FAIL_OVER_MAC`, one byte).
+    /// Which hardware addresses the ports have (`IFLA_BOND_FAIL_OVER_MAC`, `u8`).
     FailOverMac(BondFailOverMac),
-    /// What a packet is hashed by (`IFLA_BOND_XMIT_HASH_POLICY`, one byte).
+    /// Which fields of a packet are hashed (`IFLA_BOND_XMIT_HASH_POLICY`, `u8`).
     XmitHashPolicy(BondXmitHashPolicy),
-    /// How many IGMP membership reports are sent after another port takes over (`IFLA_BOND_RESEND_IGMP`, four bytes).
+    /// Number of IGMP membership reports sent after a failover (`IFLA_BOND_RESEND_IGMP`, `u32`).
     ResendIgmp(u32),
-    /// How many gratuitous ARP and neighbour messages are sent after another port takes over
-    /// (`IFLA_BOND_NUM_PEER_NOTIF`, one byte).
+    /// Number of gratuitous ARP and neighbor messages sent after a failover (`IFLA_BOND_NUM_PEER_NOTIF`, `u8`).
     NumPeerNotif(u8),
-    /// What becomes of duplicate frames, those that arrive at inactive ports (`IFLA_BOND_ALL_SLAVES_ACTIVE`, one byte).
+    /// What happens to duplicate frames, those received on inactive ports (`IFLA_BOND_ALL_SLAVES_ACTIVE`, `u8`).
     AllPortsActive(BondAllPortActive),
-    /// The minimum number of ports that have to be up before the bond is up, in the mode `Ieee8023Ad`
-    /// (`IFLA_BOND_MIN_LINKS`, four bytes).
+    /// Minimum number of ports that must be up for the bond to be up, in mode `Ieee8023Ad` (`IFLA_BOND_MIN_LINKS`,
+    /// `u32`).
     MinLinks(u32),
-    /// The seconds between learning packets to the switch of each port, in the modes `BalanceTlb` and `BalanceAlb`
-    /// (`IFLA_BOND_LP_INTERVAL`, four bytes).
+    /// Interval between learning packets to the switch of each port, in seconds, in modes `BalanceTlb` and `BalanceAlb`
+    /// (`IFLA_BOND_LP_INTERVAL`, `u32`).
     LpInterval(u32),
-    /// How many packets a port sends before the next one's turn in the mode `BalanceRr`; 0 for a port at random
-    /// (`IFLA_BOND_PACKETS_PER_SLAVE`, four bytes).
+    /// Number of packets to send from a port before moving to the next, in mode `BalanceRr`; 0 selects ports at random
+    /// (`IFLA_BOND_PACKETS_PER_SLAVE`, `u32`).
     PacketsPerPort(u32),
-    /// How often the LACP partner is asked to send its LACPDUs (`IFLA_BOND_AD_LACP_RATE`, one byte).
+    /// How often the LACP partner is asked to send LACPDUs (`IFLA_BOND_AD_LACP_RATE`, `u8`).
     AdLacpRate(BondLacpRate),
-    /// How the active aggregator is chosen (`IFLA_BOND_AD_SELECT`, one byte).
+    /// How the active aggregator is chosen (`IFLA_BOND_AD_SELECT`, `u8`).
     AdSelect(BondAdSelect),
-    /// The active aggregator (`IFLA_BOND_AD_INFO`, a list).
+    /// The active aggregator (`IFLA_BOND_AD_INFO`, a nested list, read-only).
     AdInfo(Vec<BondAdInfo>),
-    /// The priority of this system in LACP (`IFLA_BOND_AD_ACTOR_SYS_PRIO`, two bytes).
+    /// LACP priority of this system (`IFLA_BOND_AD_ACTOR_SYS_PRIO`, `u16`).
     AdActorSysPrio(u16),
-    /// The upper ten bits of the keys of the ports in LACP (`IFLA_BOND_AD_USER_PORT_KEY`, two bytes).
+    /// Upper ten bits of the LACP port keys (`IFLA_BOND_AD_USER_PORT_KEY`, `u16`).
     AdUserPortKey(u16),
-    /// The hardware address of this system in LACP (`IFLA_BOND_AD_ACTOR_SYSTEM`, six octets).
+    /// Hardware address of this system in LACP (`IFLA_BOND_AD_ACTOR_SYSTEM`, `[u8; 6]`).
     AdActorSystem([u8; 6]),
-    /// Whether flows are moved among ports by their load, in the modes `BalanceTlb` and `BalanceAlb`
-    /// (`IFLA_BOND_TLB_DYNAMIC_LB`, one byte).
+    /// Whether flows are moved between ports according to load, in modes `BalanceTlb` and `BalanceAlb`
+    /// (`IFLA_BOND_TLB_DYNAMIC_LB`, `u8`).
     TlbDynamicLb(bool),
-    /// The time between two of the messages of `NumPeerNotif`, in milliseconds (`IFLA_BOND_PEER_NOTIF_DELAY`, four
-    /// bytes).
+    /// Delay between the messages counted by `NumPeerNotif`, in milliseconds (`IFLA_BOND_PEER_NOTIF_DELAY`, `u32`).
     PeerNotifDelay(u32),
-    /// Whether LACPDUs are sent even if the LACP partner sends none (`IFLA_BOND_AD_LACP_ACTIVE`, one byte).
+    /// Whether LACPDUs are sent even if the LACP partner sends none (`IFLA_BOND_AD_LACP_ACTIVE`, `u8`).
     AdLacpActive(bool),
-    /// The maximum number of ARP monitoring intervals in a row without an answer, until a port counts as down
-    /// (`IFLA_BOND_MISSED_MAX`, one byte).
+    /// Maximum number of consecutive ARP monitoring intervals without a reply before a port is considered down
+    /// (`IFLA_BOND_MISSED_MAX`, `u8`).
     MissedMax(u8),
-    /// The addresses that neighbour solicitations ask for (`IFLA_BOND_NS_IP6_TARGET`, a list of elements of sixteen
-    /// octets; at most 3276 fit).
+    /// Target addresses of neighbor solicitations (`IFLA_BOND_NS_IP6_TARGET`, a nested list of IPv6 addresses, at most
+    /// 3276).
     NsIp6Target(Vec<Ipv6Addr>),
-    /// Whether a port starts to collect and to distribute at the same time in LACP (`IFLA_BOND_COUPLED_CONTROL`, one
-    /// byte).
+    /// Whether a port starts collecting and distributing at the same time in LACP (`IFLA_BOND_COUPLED_CONTROL`, `u8`).
     CoupledControl(bool),
-    /// Whether ARP and neighbour messages are sent from every active port, in the mode `Ieee8023Ad`
-    /// (`IFLA_BOND_BROADCAST_NEIGH`, one byte).
+    /// Whether ARP and neighbor messages are sent from every active port, in mode `Ieee8023Ad`
+    /// (`IFLA_BOND_BROADCAST_NEIGH`, `u8`).
     BroadcastNeigh(bool),
-    /// Whether the bond is up only with ports on which LACP has reached agreement (`IFLA_BOND_LACP_STRICT`, one byte).
+    /// Whether the bond is up only if it has ports on which LACP has reached agreement (`IFLA_BOND_LACP_STRICT`, `u8`).
     LacpStrict(bool),
-    /// An attribute of any other kind.
+    /// An attribute of any other type.
     Other(DefaultNla),
 }
 

@@ -1,4 +1,4 @@
-//! The attributes of a port of a bond (`IFLA_INFO_SLAVE_DATA` of a link whose `IFLA_INFO_SLAVE_KIND` is `bond`).
+//! Bond port attributes (`IFLA_INFO_SLAVE_DATA` of a link whose `IFLA_INFO_SLAVE_KIND` is `bond`).
 
 ghost use Rattle.link_bond.specs.BondPort.{bond_port_table, bond_port_means};
 
@@ -44,36 +44,39 @@ const IFLA_BOND_SLAVE_AD_CHURN_ACTOR_STATE: u16 = 11;
 
 const IFLA_BOND_SLAVE_AD_CHURN_PARTNER_STATE: u16 = 12;
 
-/// An attribute of a port of a bond (`IFLA_BOND_SLAVE_*`, `include/uapi/linux/if_link.h`).
+/// A bond port attribute (`IFLA_BOND_SLAVE_*`, `include/uapi/linux/if_link.h`).
+///
+/// Attributes marked read-only are reported by the kernel and cannot be set.
 #[derive(Debug, PartialEq, Eq, Drop)]
 pub enum InfoBondPort {
-    /// Whether the port carries the traffic of the bond (`IFLA_BOND_SLAVE_STATE`, one byte).
+    /// Whether the port carries the traffic of the bond (`IFLA_BOND_SLAVE_STATE`, `u8`, read-only).
     BondPortState(BondPortState),
-    /// The link of the port, as the bond sees it (`IFLA_BOND_SLAVE_MII_STATUS`, one byte).
+    /// Link state of the port, as the bond sees it (`IFLA_BOND_SLAVE_MII_STATUS`, `u8`, read-only).
     MiiStatus(MiiStatus),
-    /// How often the link failed (`IFLA_BOND_SLAVE_LINK_FAILURE_COUNT`, four bytes).
+    /// Number of link failures (`IFLA_BOND_SLAVE_LINK_FAILURE_COUNT`, `u32`, read-only).
     LinkFailureCount(u32),
-    /// The port's own, permanent hardware address (`IFLA_BOND_SLAVE_PERM_HWADDR`, any number of bytes).
+    /// Permanent hardware address of the port (`IFLA_BOND_SLAVE_PERM_HWADDR`, any number of bytes, read-only).
     PermHwaddr(Vec<u8>),
-    /// The queue whose packets are sent from the port, 0 for none (`IFLA_BOND_SLAVE_QUEUE_ID`, two bytes).
+    /// ID of the queue whose packets are sent from the port; 0 for none (`IFLA_BOND_SLAVE_QUEUE_ID`, `u16`).
     QueueId(u16),
-    /// The identifier of the aggregator of the port (`IFLA_BOND_SLAVE_AD_AGGREGATOR_ID`, two bytes).
+    /// ID of the port's aggregator (`IFLA_BOND_SLAVE_AD_AGGREGATOR_ID`, `u16`, read-only).
     AdAggregatorId(u16),
-    /// The state of the LACP actor, which is this side (`IFLA_BOND_SLAVE_AD_ACTOR_OPER_PORT_STATE`, one byte).
+    /// State of the LACP actor, which is this side (`IFLA_BOND_SLAVE_AD_ACTOR_OPER_PORT_STATE`, `u8`, read-only).
     AdActorOperPortState(LacpState),
-    /// The state of the LACP partner (`IFLA_BOND_SLAVE_AD_PARTNER_OPER_PORT_STATE`, two bytes: the first is the state,
-    /// and the second is written as 0).
+    /// State of the LACP partner (`IFLA_BOND_SLAVE_AD_PARTNER_OPER_PORT_STATE`, two bytes, read-only). The first byte
+    /// is the state; the second is written as 0.
     AdPartnerOperPortState(LacpState),
-    /// The priority of the port when an active one is chosen, the highest first (`IFLA_BOND_SLAVE_PRIO`, four bytes,
-    /// signed).
+    /// Priority of the port when the active port is chosen; the highest wins (`IFLA_BOND_SLAVE_PRIO`, `i32`).
     Prio(i32),
-    /// The priority of the port in LACP (`IFLA_BOND_SLAVE_ACTOR_PORT_PRIO`, two bytes).
+    /// LACP priority of the port (`IFLA_BOND_SLAVE_ACTOR_PORT_PRIO`, `u16`).
     ActorPortPrio(u16),
-    /// Whether the LACP actor comes into synchronization in time (`IFLA_BOND_SLAVE_AD_CHURN_ACTOR_STATE`, one byte).
+    /// Whether the LACP actor reaches synchronization in time (`IFLA_BOND_SLAVE_AD_CHURN_ACTOR_STATE`, `u8`,
+    /// read-only).
     AdChurnActorState(ChurnState),
-    /// Whether the LACP partner does (`IFLA_BOND_SLAVE_AD_CHURN_PARTNER_STATE`, one byte).
+    /// Whether the LACP partner reaches synchronization in time (`IFLA_BOND_SLAVE_AD_CHURN_PARTNER_STATE`, `u8`,
+    /// read-only).
     AdChurnPartnerState(ChurnState),
-    /// An attribute of any other kind.
+    /// An attribute of any other type.
     Other(DefaultNla),
 }
 

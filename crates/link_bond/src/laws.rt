@@ -1,11 +1,11 @@
-//! The bits of the named flags. Nothing here runs.
+//! Theorems about the bits of the named flags. The functions have empty bodies.
 
 ghost use Rattle.std.specs.Prelude.{◌≡◌};
 ghost use Rattle.link_bond.specs.LacpState.{lacp_bits};
 
 use crate::bond_port::LacpState;
 
-/// The bits of the state of one side of a link in LACP (`LACP_STATE_*`, `include/uapi/linux/if_bonding.h`).
+/// Proves which bits the LACP state flags have (`LACP_STATE_*`, `include/uapi/linux/if_bonding.h`).
 pub fn lacp_state_bits()
     ensures lacp_activity { lacp_bits LacpState.LACP_ACTIVITY ≡ 0x1 }
     ensures lacp_timeout { lacp_bits LacpState.LACP_TIMEOUT ≡ 0x2 }

@@ -1,4 +1,4 @@
-//! The link attributes of bonds and of their ports.
+//! Link attributes of bonds and bond ports.
 #![tactic(auto)]
 
 mod bond;

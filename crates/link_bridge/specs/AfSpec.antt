@@ -1,4 +1,4 @@
--- The attributes of IFLA_AF_SPEC in a message of AF_BRIDGE.
+-- Attributes of IFLA_AF_SPEC in AF_BRIDGE messages.
 use Rattle.std.specs.Prelude.{[], ◌∷◌, map, false}
 use Rattle.link_base.specs.Class.{Octets, Exactly, Named, Raw}
 use Rattle.link_base.specs.Named.{numbers_of, seen_value}
@@ -19,7 +19,7 @@ af_spec_table =
     row 2 (One (Octets (Exactly 4))) ∷
     row 3 (Nested false tunnel_rows) ∷ []
 
--- the attribute that a value stands for
+-- the attribute that a value represents
 abbrev pub af_spec_means : AfSpecBridge → AttrValue
 af_spec_means (Flags flag) = Case 0 (Single (seen_value 2 (numbers_of flag_names) (flag_seen flag)))
 af_spec_means (Mode mode) = Case 1 (Single (seen_value 2 (numbers_of mode_names) (mode_seen mode)))

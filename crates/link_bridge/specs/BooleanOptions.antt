@@ -1,15 +1,15 @@
--- The boolean options of a bridge: their names and their bits, what payloads mean, and the octets of values.
+-- Boolean options of a bridge: their names and bits, what payloads mean, and the bytes of values.
 use Rattle.std.specs.Prelude.{◌≡◌, ◌-◌, ◌^◌, ℕ, List, [], ◌∷◌, codes, refl}
 use Rattle.bitflags.specs.Sets.{Row, known_from, known_bits}
 use Rattle.link_base.specs.Layout.{number_at, octets_of}
 use Rattle.link_bridge.specs.declared.bridge_boolopt.flags.BridgeBooleanOptionFlags.{BridgeBooleanOptionFlags}
 use Rattle.link_bridge.specs.declared.bridge_boolopt.BridgeBooleanOptions.{BridgeBooleanOptions}
 
--- the bits of a set
+-- the bits of a set of flags
 abbrev pub option_bits : BridgeBooleanOptionFlags → ℕ
 option_bits flags = flags.0
 
--- BR_BOOLOPT_NO_LL_LEARN and the others, and then all bits, under no name
+-- BR_BOOLOPT_NO_LL_LEARN and the other flags, then an unnamed flag with all bits
 abbrev pub option_flags : List Row
 option_flags =
     (codes "NoLinkLocalLearn", 1) ∷
@@ -19,7 +19,7 @@ option_flags =
     (codes "FdbLocalVlan0", 16) ∷
     ([], 2 ^ 32 - 1) ∷ []
 
--- so every bit is known
+-- every bit is known
 pub every_option_bit : known_bits option_flags ≡ 2 ^ 32 - 1
 unfolding known_from
 every_option_bit = refl
@@ -28,10 +28,10 @@ every_option_bit = refl
 abbrev pub options_at : ℕ → List ℕ → BridgeBooleanOptionFlags
 options_at offset p = record { 0 = number_at 4 offset p }
 
--- the options of a payload: the values before the mask
+-- the options in a payload: the values, then the mask
 abbrev pub options_of : List ℕ → BridgeBooleanOptions
 options_of p = record { value = options_at 0 p; mask = options_at 4 p }
 
--- their octets
+-- the bytes of options
 abbrev pub options_octets : BridgeBooleanOptions → List ℕ
 options_octets options = octets_of 4 (option_bits options.value ∷ option_bits options.mask ∷ [])

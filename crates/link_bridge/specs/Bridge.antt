@@ -1,4 +1,4 @@
--- The attributes of a bridge.
+-- Bridge attributes.
 use Rattle.std.specs.Prelude.{[], ◌∷◌, map, true}
 use Rattle.link_base.specs.Class.{Unsigned, Truth, Octets, Exactly, AtLeast, Fixed, Named, Protocol, Empty, Number, Boolean, Raw, EtherType, Nothing}
 use Rattle.link_base.specs.Named.{numbers_of, seen_value}
@@ -14,7 +14,7 @@ use Rattle.link_bridge.specs.Querier.{querier_rows, querier_leaf}
 use Rattle.link_bridge.specs.declared.bridge.InfoBridge.{InfoBridge}
 use Rattle.link_bridge.specs.declared.bridge.InfoBridge.TheVariants as infos
 
--- each kind by its name in the kernel, without IFLA_BR_; kind 40 is PAD
+-- one row for each attribute type; its comment is the kernel's name without IFLA_BR_. Type 40, PAD, has no row
 abbrev pub bridge_table : Table
 bridge_table =
     -- FORWARD_DELAY
@@ -116,7 +116,7 @@ bridge_table =
     -- STP_MODE
     row 50 (One (Named 4 (numbers_of stp_mode_names))) ∷ []
 
--- the attribute that a value stands for
+-- the attribute that a value represents
 abbrev pub bridge_means : InfoBridge → AttrValue
 bridge_means (infos.GroupAddr address) = Case 20 (Single (Raw address))
 bridge_means infos.FdbFlush = Case 21 (Single Nothing)

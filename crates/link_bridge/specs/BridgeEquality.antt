@@ -1,4 +1,4 @@
--- What `==` looks at in the records of a bridge: every field.
+-- `==` on the structs of a bridge compares every field.
 use Rattle.std.specs.Prelude.{ℕ, List, nat_eq, ◌==◌, ◌&&◌, refl}
 use Rattle.std.specs.Cmp.Lexicographic.{pointwise}
 use Rattle.link_base.specs.Equality.{IsThorough, wrapped, pairs, numbers, octets}
@@ -21,7 +21,7 @@ vlan_infos = wrapped
     (λ (x : ℕ × ℕ). record { flags = record { 0 = x.0 }; vid = x.1 })
     (λ _. refl) (pairs numbers numbers)
 
--- the reason of one case of an enum, and those of the cases after it
+-- the proof for one variant of an enum, with the proofs for the variants after it
 infixr 30 ◌also◌
 abbrev pub ◌also◌ : {A B : Type 0} → A → B → A × B
 ◌also◌ reason others = (reason, others)

@@ -1,4 +1,4 @@
--- The attributes of a port of a bridge.
+-- Bridge port attributes.
 use Rattle.std.specs.Prelude.{ℕ, List, [], ◌∷◌}
 use Rattle.link_base.specs.Class.{Unsigned, Truth, Octets, AtLeast, Named, Empty, Number, Boolean, Raw, Nothing}
 use Rattle.link_base.specs.Named.{numbers_of, seen_value}
@@ -10,7 +10,7 @@ use Rattle.link_bridge.specs.Id.{id_octets}
 use Rattle.link_bridge.specs.declared.bridge_port.InfoBridgePort.{InfoBridgePort}
 use Rattle.link_bridge.specs.declared.bridge_port.InfoBridgePort.TheVariants as infos
 
--- each kind by its name in the kernel, without IFLA_BRPORT_; kind 26 is PAD
+-- one row for each attribute type; its comment is the kernel's name without IFLA_BRPORT_. Type 26, PAD, has no row
 abbrev pub bridge_port_table : Table
 bridge_port_table =
     -- STATE
@@ -102,11 +102,11 @@ bridge_port_table =
     -- NEIGH_FORWARD_GRAT
     row 45 (One Truth) ∷ []
 
--- the kinds that the second edition of the table adds
+-- the attribute types that the second version of the table adds
 abbrev pub bridge_port_added : List ℕ
 bridge_port_added = 11 ∷ []
 
--- the first edition of the table
+-- the first version of the table
 abbrev pub bridge_port_table_first : Table
 bridge_port_table_first =
     row 1 (One (Named 1 (numbers_of port_state_names))) ∷
@@ -153,7 +153,7 @@ bridge_port_table_first =
     row 44 (One (Unsigned 4)) ∷
     row 45 (One Truth) ∷ []
 
--- the attribute that a value stands for
+-- the attribute that a value represents
 abbrev pub bridge_port_means : InfoBridgePort → AttrValue
 bridge_port_means (infos.State state) =
     Case 1 (Single (seen_value 1 (numbers_of port_state_names) (port_state_seen state)))

@@ -1,4 +1,4 @@
--- Whose settings of a port of a bridge a message is about: the names.
+-- Whose bridge port settings a message sets or reports: the names.
 use Rattle.std.specs.Prelude.{[], ◌∷◌, codes, refl}
 use Rattle.link_base.specs.Named.{Naming, Seen, Listed, Free, IsSeen, label, Bare, TextOrNumber}
 use Rattle.link_bridge.specs.declared.af_spec.flag.BridgeFlag.{BridgeFlag}
@@ -16,13 +16,13 @@ flag_names = record {
   accepted = TextOrNumber 16;
 }
 
--- the number that a flag holds
+-- the number of a flag: `Listed` for a named variant, `Free` for `Other`
 abbrev pub flag_seen : BridgeFlag → Seen
 flag_seen cases.Controller = Listed 1
 flag_seen cases.LowerDev = Listed 2
 flag_seen (cases.Other d) = Free d
 
--- it has no further cases
+-- every value is a named variant or `Other`
 pub flag_cases : (v : BridgeFlag) → IsSeen flag_names v (flag_seen v)
 flag_cases cases.Controller = (refl, refl)
 flag_cases cases.LowerDev = (refl, refl)

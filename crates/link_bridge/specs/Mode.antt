@@ -1,4 +1,4 @@
--- How a device handles frames between its own ports: the names.
+-- How a device with hardware bridging handles frames between its own ports: the names.
 use Rattle.std.specs.Prelude.{[], ◌∷◌, codes, refl}
 use Rattle.link_base.specs.Named.{Naming, Seen, Listed, Free, IsSeen, label, Bare, TextOrNumber}
 use Rattle.link_bridge.specs.declared.af_spec.mode.BridgeMode.{BridgeMode}
@@ -16,13 +16,13 @@ mode_names = record {
   accepted = TextOrNumber 16;
 }
 
--- the number that a mode holds
+-- the number of a mode: `Listed` for a named variant, `Free` for `Other`
 abbrev pub mode_seen : BridgeMode → Seen
 mode_seen cases.Veb = Listed 0
 mode_seen cases.Vepa = Listed 1
 mode_seen (cases.Other d) = Free d
 
--- it has no further cases
+-- every value is a named variant or `Other`
 pub mode_cases : (v : BridgeMode) → IsSeen mode_names v (mode_seen v)
 mode_cases cases.Veb = (refl, refl)
 mode_cases cases.Vepa = (refl, refl)

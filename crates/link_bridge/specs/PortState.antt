@@ -1,4 +1,4 @@
--- The state of a port of a bridge in the spanning tree protocol: the names.
+-- The state of a bridge port in the spanning tree protocol: the names.
 use Rattle.std.specs.Prelude.{[], ◌∷◌, codes, refl}
 use Rattle.link_base.specs.Named.{Naming, Seen, Listed, Free, IsSeen, label, Bare, TextOrNumber}
 use Rattle.link_bridge.specs.declared.bridge_port.state.BridgePortState.{BridgePortState}
@@ -19,7 +19,7 @@ port_state_names = record {
   accepted = TextOrNumber 8;
 }
 
--- the number that a state holds
+-- the number of a state: `Listed` for a named variant, `Free` for `Other`
 abbrev pub port_state_seen : BridgePortState → Seen
 port_state_seen cases.Disabled = Listed 0
 port_state_seen cases.Listening = Listed 1
@@ -28,7 +28,7 @@ port_state_seen cases.Forwarding = Listed 3
 port_state_seen cases.Blocking = Listed 4
 port_state_seen (cases.Other d) = Free d
 
--- it has no further cases
+-- every value is a named variant or `Other`
 pub port_state_cases : (v : BridgePortState) → IsSeen port_state_names v (port_state_seen v)
 port_state_cases cases.Disabled = (refl, refl)
 port_state_cases cases.Listening = (refl, refl)

@@ -1,4 +1,4 @@
--- The attributes of IFLA_PROTINFO in a message of AF_BRIDGE.
+-- Attributes of IFLA_PROTINFO in AF_BRIDGE messages.
 use Rattle.std.specs.Prelude.{[], ◌∷◌}
 use Rattle.link_base.specs.Class.{Truth, Boolean}
 use Rattle.link_base.specs.Table.{Table, AttrValue, Case, row, One, Single}
@@ -10,7 +10,7 @@ use Rattle.link_bridge.specs.declared.proto_info.LinkProtoInfoBridge.TheVariants
 abbrev pub proto_info_table : Table
 proto_info_table = row 45 (One Truth) ∷ []
 
--- the attribute that a value stands for
+-- the attribute that a value represents
 abbrev pub proto_info_means : LinkProtoInfoBridge → AttrValue
 proto_info_means (NeighForwardGrat enabled) = Case 45 (Single (Boolean enabled))
 proto_info_means (Other other) = default_means other

@@ -1,4 +1,4 @@
--- The multicast queriers that a bridge knows of.
+-- The multicast queriers known to a bridge.
 use Rattle.std.specs.Prelude.{[], ◌∷◌}
 use Rattle.link_base.specs.Class.{Unsigned, Octets, Exactly, Number, Raw}
 use Rattle.link_base.specs.Addresses.{four_octets, sixteen_octets}
@@ -7,8 +7,8 @@ use Rattle.link_base.specs.Default.{default_means}
 use Rattle.link_bridge.specs.declared.bridge.querier.BridgeQuerierState.{BridgeQuerierState}
 use Rattle.link_bridge.specs.declared.bridge.querier.BridgeQuerierState.TheVariants.{Ipv4Address, Ipv4Port, Ipv4OtherTimer, Ipv6Address, Ipv6Port, Ipv6OtherTimer, Other}
 
--- BRIDGE_QUERIER_IP_ADDRESS, BRIDGE_QUERIER_IP_PORT, BRIDGE_QUERIER_IP_OTHER_TIMER, and the same of BRIDGE_QUERIER_IPV6;
--- kind 4 is BRIDGE_QUERIER_PAD
+-- BRIDGE_QUERIER_IP_ADDRESS, BRIDGE_QUERIER_IP_PORT, BRIDGE_QUERIER_IP_OTHER_TIMER, BRIDGE_QUERIER_IPV6_ADDRESS,
+-- BRIDGE_QUERIER_IPV6_PORT, BRIDGE_QUERIER_IPV6_OTHER_TIMER. Type 4, BRIDGE_QUERIER_PAD, has no row
 abbrev pub querier_rows : Rows
 querier_rows =
     row 1 (Octets (Exactly 4)) ∷
@@ -18,7 +18,7 @@ querier_rows =
     row 6 (Unsigned 4) ∷
     row 7 (Unsigned 8) ∷ []
 
--- the attribute that a value stands for
+-- the attribute that a value represents
 abbrev pub querier_leaf : BridgeQuerierState → Leaf
 querier_leaf (Ipv4Address address) = Case 1 (Raw (four_octets address))
 querier_leaf (Ipv4Port index) = Case 2 (Number 4 index)

@@ -1,10 +1,10 @@
--- Whether multicast routers are taken to be behind a port or a bridge: the names.
+-- Whether a port is considered to lead to a multicast router, or a bridge to be one: the names.
 use Rattle.std.specs.Prelude.{[], ◌∷◌, codes, refl}
 use Rattle.link_base.specs.Named.{Naming, Seen, Listed, Free, IsSeen, label, Bare, TextOrNumber}
 use Rattle.link_bridge.specs.declared.bridge.router_type.BridgeMulticastRouterType.{BridgeMulticastRouterType}
 use Rattle.link_bridge.specs.declared.bridge.router_type.BridgeMulticastRouterType.TheVariants as cases
 
--- the names; MDB_RTR_TYPE_TEMP_QUERY is displayed as `auto`, and read as `temp_query` too
+-- the names; MDB_RTR_TYPE_TEMP_QUERY is written as `auto`, and parsed from `auto` or `temp_query`
 abbrev pub router_type_names : Naming BridgeMulticastRouterType
 router_type_names = record {
   labels =
@@ -18,7 +18,7 @@ router_type_names = record {
   accepted = TextOrNumber 8;
 }
 
--- the number that a type holds
+-- the number of a type: `Listed` for a named variant, `Free` for `Other`
 abbrev pub router_type_seen : BridgeMulticastRouterType → Seen
 router_type_seen cases.Disabled = Listed 0
 router_type_seen cases.TempQuery = Listed 1
@@ -26,7 +26,7 @@ router_type_seen cases.Permanent = Listed 2
 router_type_seen cases.Temp = Listed 3
 router_type_seen (cases.Other d) = Free d
 
--- it has no further cases
+-- every value is a named variant or `Other`
 pub router_type_cases : (v : BridgeMulticastRouterType) → IsSeen router_type_names v (router_type_seen v)
 router_type_cases cases.Disabled = (refl, refl)
 router_type_cases cases.TempQuery = (refl, refl)

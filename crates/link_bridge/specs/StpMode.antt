@@ -1,4 +1,4 @@
--- Who is to run the spanning tree protocol of a bridge: the names.
+-- What is to run the spanning tree protocol of a bridge: the names.
 use Rattle.std.specs.Prelude.{[], ◌∷◌, codes, refl}
 use Rattle.link_base.specs.Named.{Naming, Seen, Listed, Free, IsSeen, label, Bare, TextOrNumber}
 use Rattle.link_bridge.specs.declared.bridge.stp_mode.BridgeStpMode.{BridgeStpMode}
@@ -17,14 +17,14 @@ stp_mode_names = record {
   accepted = TextOrNumber 32;
 }
 
--- the number that a mode holds
+-- the number of a mode: `Listed` for a named variant, `Free` for `Other`
 abbrev pub stp_mode_seen : BridgeStpMode → Seen
 stp_mode_seen cases.Auto = Listed 0
 stp_mode_seen cases.User = Listed 1
 stp_mode_seen cases.Kernel = Listed 2
 stp_mode_seen (cases.Other d) = Free d
 
--- it has no further cases
+-- every value is a named variant or `Other`
 pub stp_mode_cases : (v : BridgeStpMode) → IsSeen stp_mode_names v (stp_mode_seen v)
 stp_mode_cases cases.Auto = (refl, refl)
 stp_mode_cases cases.User = (refl, refl)

@@ -1,4 +1,4 @@
--- Who runs the spanning tree protocol of a bridge: the names.
+-- What runs the spanning tree protocol of a bridge: the names.
 use Rattle.std.specs.Prelude.{[], ◌∷◌, codes, refl}
 use Rattle.link_base.specs.Named.{Naming, Seen, Listed, Free, IsSeen, label, Bare, TextOrNumber}
 use Rattle.link_bridge.specs.declared.bridge.stp_state.BridgeStpState.{BridgeStpState}
@@ -17,14 +17,14 @@ stp_state_names = record {
   accepted = TextOrNumber 32;
 }
 
--- the number that a state holds
+-- the number of a state: `Listed` for a named variant, `Free` for `Other`
 abbrev pub stp_state_seen : BridgeStpState → Seen
 stp_state_seen cases.Disabled = Listed 0
 stp_state_seen cases.KernelStp = Listed 1
 stp_state_seen cases.UserStp = Listed 2
 stp_state_seen (cases.Other d) = Free d
 
--- it has no further cases
+-- every value is a named variant or `Other`
 pub stp_state_cases : (v : BridgeStpState) → IsSeen stp_state_names v (stp_state_seen v)
 stp_state_cases cases.Disabled = (refl, refl)
 stp_state_cases cases.KernelStp = (refl, refl)

@@ -14,7 +14,7 @@ tunnel_rows =
     row 2 (Unsigned 2) ∷
     row 3 (Unsigned 2) ∷ []
 
--- the attribute that a value stands for
+-- the attribute that a value represents
 abbrev pub tunnel_leaf : BridgeVlanTunnelInfo → Leaf
 tunnel_leaf (Id id) = Case 1 (Number 4 id)
 tunnel_leaf (Vid vid) = Case 2 (Number 2 vid)

@@ -1,4 +1,4 @@
-//! The attributes of `IFLA_AF_SPEC` in a message of AF_BRIDGE.
+//! Attributes of `IFLA_AF_SPEC` in AF_BRIDGE messages.
 
 ghost use Rattle.std.specs.Prelude.{◌≡◌, map, None};
 ghost use Rattle.link_base.specs.Frame.{frame_fault};
@@ -33,28 +33,34 @@ const IFLA_BRIDGE_VLAN_INFO: u16 = 2;
 
 const IFLA_BRIDGE_VLAN_TUNNEL_INFO: u16 = 3;
 
-/// An attribute of a bridge or of a port of one, of those that stand in `IFLA_AF_SPEC` of a message of AF_BRIDGE
-/// (`IFLA_BRIDGE_*`, `include/uapi/linux/if_bridge.h`).
+/// An attribute of a bridge or bridge port in `IFLA_AF_SPEC` of an AF_BRIDGE message (`IFLA_BRIDGE_*`,
+/// `include/uapi/linux/if_bridge.h`).
 #[derive(Debug, PartialEq, Eq, Drop)]
 pub enum AfSpecBridge {
-    /// Whose settings the message sets or shows (`IFLA_BRIDGE_FLAGS`, two bytes). This is kind 0.
+    /// Whose settings the message sets or reports (`IFLA_BRIDGE_FLAGS`, attribute type 0, `u16`).
     Flags(BridgeFlag),
-    /// How the device handles frames between its own ports (`IFLA_BRIDGE_MODE`, two bytes).
+    /// How the device handles frames between its own ports (`IFLA_BRIDGE_MODE`, `u16`).
     Mode(BridgeMode),
-    /// A VLAN of the bridge or port, or an end of a range of VLANs (`IFLA_BRIDGE_VLAN_INFO`, four bytes).
+    /// A VLAN of the bridge or port, or one end of a range of VLANs (`IFLA_BRIDGE_VLAN_INFO`,
+    /// `struct bridge_vlan_info`).
     VlanInfo(BridgeVlanInfo),
-    /// A VLAN that is mapped to a tunnel, or an end of a range of such VLANs (`IFLA_BRIDGE_VLAN_TUNNEL_INFO`, a list).
+    /// A VLAN that is mapped to a tunnel, or one end of a range of such VLANs (`IFLA_BRIDGE_VLAN_TUNNEL_INFO`, a nested
+    /// list).
     VlanTunnelInfo(Vec<BridgeVlanTunnelInfo>),
-    /// An attribute of any other kind.
+    /// An attribute of any other type.
     Other(DefaultNla),
 }
 
-/// The attributes of `IFLA_AF_SPEC` in a message of AF_BRIDGE.
+/// The attributes of `IFLA_AF_SPEC` in an AF_BRIDGE message.
 #[derive(Debug, PartialEq, Eq, Drop)]
 pub struct VecAfSpecBridge(pub Vec<AfSpecBridge>);
 
 impl VecAfSpecBridge {
-    /// Parses the payload of an `IFLA_AF_SPEC`, as [`read_list`] does, with the same errors.
+    /// Parses the payload of an `IFLA_AF_SPEC`, as [`read_list`] does.
+    ///
+    /// # Errors
+    ///
+    /// As for [`read_list`].
     pub fn parse(alloc: Global, bytes: &[u8]) -> Result<Self, ListError>
         ensures answer { ListAnswers (λ list. map af_spec_means list.0.items) result (Gives af_spec_table) bytes.now }
         ensures fault { ListFaultUnless result (Decodes af_spec_table bytes.now) }

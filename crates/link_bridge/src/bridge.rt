@@ -1,4 +1,4 @@
-//! The attributes of a bridge (`IFLA_INFO_DATA` of a link of kind `bridge`).
+//! Bridge attributes (`IFLA_INFO_DATA` of a link whose `IFLA_INFO_KIND` is `bridge`).
 
 mod id;
 mod querier;
@@ -120,135 +120,131 @@ const IFLA_BR_FDB_MAX_LEARNED: u16 = 49;
 
 const IFLA_BR_STP_MODE: u16 = 50;
 
-/// An attribute of a bridge (`IFLA_BR_*`, `include/uapi/linux/if_link.h`). A clock tick is 1/100 second (`USER_HZ`).
-/// What is only shown cannot be set.
+/// A bridge attribute (`IFLA_BR_*`, `include/uapi/linux/if_link.h`). A clock tick is 1/100 second (`USER_HZ`).
+///
+/// Attributes marked read-only are reported by the kernel and cannot be set; those marked write-only can be set and are
+/// not reported.
 #[derive(Debug, PartialEq, Eq, Drop)]
 pub enum InfoBridge {
-    /// The address of the group that the spanning tree protocol sends to, 01:80:c2:00:00:00 if not set;
-    /// 01:80:c2:00:00:01 to 03 are refused (`IFLA_BR_GROUP_ADDR`, six octets).
+    /// Multicast address that the spanning tree protocol sends to; 01:80:c2:00:00:00 by default (`IFLA_BR_GROUP_ADDR`,
+    /// `[u8; 6]`). The kernel rejects 01:80:c2:00:00:01 to 01:80:c2:00:00:03.
     GroupAddr([u8; 6]),
-    /// A request to drop the learned entries of the forwarding database; it has no payload (`IFLA_BR_FDB_FLUSH`; it is
-    /// only set).
+    /// Request to remove the learned entries from the forwarding database (`IFLA_BR_FDB_FLUSH`, no payload,
+    /// write-only).
     FdbFlush,
-    /// The time until the bridge, as the root, sends its next hello, in clock ticks (`IFLA_BR_HELLO_TIMER`, eight
-    /// bytes; it is only shown).
+    /// Time until this bridge, if it is the root, sends its next hello, in clock ticks (`IFLA_BR_HELLO_TIMER`, `u64`,
+    /// read-only).
     HelloTimer(u64),
-    /// The time until the bridge tells the root of a change of topology once more, in clock ticks (`IFLA_BR_TCN_TIMER`,
-    /// eight bytes; it is only shown).
+    /// Time until the bridge notifies the root of a topology change again, in clock ticks (`IFLA_BR_TCN_TIMER`, `u64`,
+    /// read-only).
     TcnTimer(u64),
-    /// The time for which the bridge, as the root, goes on to tell of a change of topology, in clock ticks
-    /// (`IFLA_BR_TOPOLOGY_CHANGE_TIMER`, eight bytes; it is only shown).
+    /// Time for which this bridge, if it is the root, continues to announce a topology change, in clock ticks
+    /// (`IFLA_BR_TOPOLOGY_CHANGE_TIMER`, `u64`, read-only).
     TopologyChangeTimer(u64),
-    /// The time until entries of the forwarding database that are too old are dropped, in clock ticks
-    /// (`IFLA_BR_GC_TIMER`, eight bytes; it is only shown).
+    /// Time until expired entries are removed from the forwarding database, in clock ticks (`IFLA_BR_GC_TIMER`, `u64`,
+    /// read-only).
     GcTimer(u64),
-    /// How long after the last report of its members a multicast group is kept, in clock ticks
-    /// (`IFLA_BR_MCAST_MEMBERSHIP_INTVL`, eight bytes).
+    /// How long a multicast group is kept after the last report of its members, in clock ticks
+    /// (`IFLA_BR_MCAST_MEMBERSHIP_INTVL`, `u64`).
     MulticastMembershipInterval(u64),
-    /// How long after the last query of another querier the bridge sends queries of its own, in clock ticks
-    /// (`IFLA_BR_MCAST_QUERIER_INTVL`, eight bytes).
+    /// How long after the last query of another querier the bridge starts sending its own queries, in clock ticks
+    /// (`IFLA_BR_MCAST_QUERIER_INTVL`, `u64`).
     MulticastQuerierInterval(u64),
-    /// The time from one query to the next, once those of the start are sent, in clock ticks
-    /// (`IFLA_BR_MCAST_QUERY_INTVL`, eight bytes).
+    /// Interval between queries after the startup phase, in clock ticks (`IFLA_BR_MCAST_QUERY_INTVL`, `u64`).
     MulticastQueryInterval(u64),
-    /// The time in which a query is to be answered, in clock ticks (`IFLA_BR_MCAST_QUERY_RESPONSE_INTVL`, eight bytes).
+    /// Time within which a query must be answered, in clock ticks (`IFLA_BR_MCAST_QUERY_RESPONSE_INTVL`, `u64`).
     MulticastQueryResponseInterval(u64),
-    /// The time from one query for the members that a group still has to the next, after one has left it, in clock
-    /// ticks (`IFLA_BR_MCAST_LAST_MEMBER_INTVL`, eight bytes).
+    /// Interval between the queries for remaining members that are sent after a member has left a group, in clock ticks
+    /// (`IFLA_BR_MCAST_LAST_MEMBER_INTVL`, `u64`).
     MulticastLastMemberInterval(u64),
-    /// The time from one query to the next at the start, in clock ticks (`IFLA_BR_MCAST_STARTUP_QUERY_INTVL`, eight
-    /// bytes).
+    /// Interval between queries in the startup phase, in clock ticks (`IFLA_BR_MCAST_STARTUP_QUERY_INTVL`, `u64`).
     MulticastStartupQueryInterval(u64),
-    /// How long a port listens, and then learns, before it forwards, in clock ticks (`IFLA_BR_FORWARD_DELAY`, four
-    /// bytes).
+    /// How long a port listens, and then how long it learns, before it forwards, in clock ticks
+    /// (`IFLA_BR_FORWARD_DELAY`, `u32`).
     ForwardDelay(u32),
-    /// The time from one hello of the root to the next, in clock ticks (`IFLA_BR_HELLO_TIME`, four bytes).
+    /// Interval between hellos of the root, in clock ticks (`IFLA_BR_HELLO_TIME`, `u32`).
     HelloTime(u32),
-    /// How long after its last hello another bridge is taken to be gone, in clock ticks (`IFLA_BR_MAX_AGE`, four
-    /// bytes).
+    /// How long after its last hello another bridge is considered gone, in clock ticks (`IFLA_BR_MAX_AGE`, `u32`).
     MaxAge(u32),
-    /// How long after its last frame an address is kept in the forwarding database, in clock ticks
-    /// (`IFLA_BR_AGEING_TIME`, four bytes).
+    /// How long an address is kept in the forwarding database after its last frame, in clock ticks
+    /// (`IFLA_BR_AGEING_TIME`, `u32`).
     AgeingTime(u32),
-    /// Who runs the spanning tree protocol; a request turns it off by 0 and on by any other number
-    /// (`IFLA_BR_STP_STATE`, four bytes).
+    /// What runs the spanning tree protocol (`IFLA_BR_STP_STATE`, `u32`). In a request, 0 turns the protocol off and
+    /// any other number turns it on.
     StpState(BridgeStpState),
-    /// The greatest length of a chain in the hash table of multicast groups; the kernel shows 16 and ignores what is
-    /// set (`IFLA_BR_MCAST_HASH_ELASTICITY`, four bytes).
+    /// Maximum chain length in the hash table of multicast groups (`IFLA_BR_MCAST_HASH_ELASTICITY`, `u32`). The kernel
+    /// reports 16 and ignores the value in requests.
     MulticastHashElasticity(u32),
-    /// The greatest number of multicast groups in their hash table, a power of two (`IFLA_BR_MCAST_HASH_MAX`, four
-    /// bytes).
+    /// Maximum number of multicast groups in the hash table, a power of two (`IFLA_BR_MCAST_HASH_MAX`, `u32`).
     MulticastHashMax(u32),
-    /// How many queries are sent for the members that a group still has, after one has left it
-    /// (`IFLA_BR_MCAST_LAST_MEMBER_CNT`, four bytes).
+    /// Number of queries for remaining members that are sent after a member has left a group
+    /// (`IFLA_BR_MCAST_LAST_MEMBER_CNT`, `u32`).
     MulticastLastMemberCount(u32),
-    /// How many queries are sent at the start (`IFLA_BR_MCAST_STARTUP_QUERY_CNT`, four bytes).
+    /// Number of queries sent in the startup phase (`IFLA_BR_MCAST_STARTUP_QUERY_CNT`, `u32`).
     MulticastStartupQueryCount(u32),
-    /// The cost of the path to the root (`IFLA_BR_ROOT_PATH_COST`, four bytes; it is only shown).
+    /// Cost of the path to the root (`IFLA_BR_ROOT_PATH_COST`, `u32`, read-only).
     RootPathCost(u32),
-    /// The priority of the bridge: the lower, the sooner it becomes the root (`IFLA_BR_PRIORITY`, two bytes).
+    /// Priority of the bridge; the bridge with the lowest becomes the root (`IFLA_BR_PRIORITY`, `u16`).
     Priority(u16),
-    /// The protocol of the tags that VLAN filtering goes by (`IFLA_BR_VLAN_PROTOCOL`, two bytes, the highest first).
+    /// Tag protocol used for VLAN filtering (`IFLA_BR_VLAN_PROTOCOL`, `u16`, big-endian).
     VlanProtocol(VlanProtocol),
-    /// Which frames to link-local addresses are forwarded: bit n for those to 01:80:c2:00:00:0n
-    /// (`IFLA_BR_GROUP_FWD_MASK`, two bytes).
+    /// Which link-local frames are forwarded: bit n for those sent to 01:80:c2:00:00:0n (`IFLA_BR_GROUP_FWD_MASK`,
+    /// `u16`).
     GroupFwdMask(u16),
-    /// The identifier of the root (`IFLA_BR_ROOT_ID`, eight bytes; it is only shown).
+    /// ID of the root bridge (`IFLA_BR_ROOT_ID`, `struct ifla_bridge_id`, read-only).
     RootId(BridgeId),
-    /// The identifier of this bridge (`IFLA_BR_BRIDGE_ID`, eight bytes; it is only shown).
+    /// ID of this bridge (`IFLA_BR_BRIDGE_ID`, `struct ifla_bridge_id`, read-only).
     BridgeId(BridgeId),
-    /// The number of the port towards the root; 0 where this bridge is the root (`IFLA_BR_ROOT_PORT`, two bytes; it is
-    /// only shown).
+    /// Number of the port towards the root; 0 if this bridge is the root (`IFLA_BR_ROOT_PORT`, `u16`, read-only).
     RootPort(u16),
-    /// The VLAN of frames without a tag at a new port; 0 for none (`IFLA_BR_VLAN_DEFAULT_PVID`, two bytes).
+    /// VLAN of untagged frames on new ports; 0 for none (`IFLA_BR_VLAN_DEFAULT_PVID`, `u16`).
     VlanDefaultPvid(u16),
-    /// Whether frames are forwarded by their VLAN too (`IFLA_BR_VLAN_FILTERING`, one byte).
+    /// Whether frames are also forwarded according to their VLAN (`IFLA_BR_VLAN_FILTERING`, `u8`).
     VlanFiltering(bool),
-    /// Whether the bridge, as the root, tells of a change of topology: 1 or 0 (`IFLA_BR_TOPOLOGY_CHANGE`, one byte; it
-    /// is only shown).
+    /// Whether this bridge, if it is the root, announces a topology change: 1 or 0 (`IFLA_BR_TOPOLOGY_CHANGE`, `u8`,
+    /// read-only).
     TopologyChange(u8),
-    /// Whether the bridge has seen a change of topology: 1 or 0 (`IFLA_BR_TOPOLOGY_CHANGE_DETECTED`, one byte; it is
-    /// only shown).
+    /// Whether the bridge has detected a topology change: 1 or 0 (`IFLA_BR_TOPOLOGY_CHANGE_DETECTED`, `u8`, read-only).
     TopologyChangeDetected(u8),
-    /// Whether a multicast router is taken to be at the bridge itself, which then gets all multicast
-    /// (`IFLA_BR_MCAST_ROUTER`, one byte).
+    /// Whether the bridge itself is considered a multicast router and gets all multicast traffic
+    /// (`IFLA_BR_MCAST_ROUTER`, `u8`).
     MulticastRouter(BridgeMulticastRouterType),
-    /// Whether multicast goes only to ports that have members of its group (`IFLA_BR_MCAST_SNOOPING`, one byte).
+    /// Whether multicast is sent only to ports with members of its group (`IFLA_BR_MCAST_SNOOPING`, `u8`).
     MulticastSnooping(bool),
-    /// Whether IGMP queries come from the bridge's own IP address, and not from 0.0.0.0
-    /// (`IFLA_BR_MCAST_QUERY_USE_IFADDR`, one byte).
+    /// Whether the source of IGMP queries is the bridge's own IP address; if not, it is 0.0.0.0
+    /// (`IFLA_BR_MCAST_QUERY_USE_IFADDR`, `u8`).
     MulticastQueryUseIfaddr(bool),
-    /// Whether the bridge sends queries for the members of multicast groups (`IFLA_BR_MCAST_QUERIER`, one byte).
+    /// Whether the bridge queries for members of multicast groups (`IFLA_BR_MCAST_QUERIER`, `u8`).
     MulticastQuerier(bool),
-    /// Whether bridged IPv4 packets pass through iptables (`IFLA_BR_NF_CALL_IPTABLES`, one byte).
+    /// Whether bridged IPv4 packets are passed to iptables (`IFLA_BR_NF_CALL_IPTABLES`, `u8`).
     NfCallIpTables(bool),
-    /// Whether bridged IPv6 packets pass through ip6tables (`IFLA_BR_NF_CALL_IP6TABLES`, one byte).
+    /// Whether bridged IPv6 packets are passed to ip6tables (`IFLA_BR_NF_CALL_IP6TABLES`, `u8`).
     NfCallIp6Tables(bool),
-    /// Whether bridged ARP packets pass through arptables (`IFLA_BR_NF_CALL_ARPTABLES`, one byte).
+    /// Whether bridged ARP packets are passed to arptables (`IFLA_BR_NF_CALL_ARPTABLES`, `u8`).
     NfCallArpTables(bool),
-    /// Whether packets are counted for each VLAN (`IFLA_BR_VLAN_STATS_ENABLED`, one byte).
+    /// Whether packets are counted for each VLAN (`IFLA_BR_VLAN_STATS_ENABLED`, `u8`).
     VlanStatsEnabled(bool),
-    /// Whether IGMP and MLD messages are counted (`IFLA_BR_MCAST_STATS_ENABLED`, one byte).
+    /// Whether IGMP and MLD messages are counted (`IFLA_BR_MCAST_STATS_ENABLED`, `u8`).
     MulticastStatsEnabled(bool),
-    /// The version of IGMP, 2 or 3 (`IFLA_BR_MCAST_IGMP_VERSION`, one byte).
+    /// IGMP version, 2 or 3 (`IFLA_BR_MCAST_IGMP_VERSION`, `u8`).
     MulticastIgmpVersion(u8),
-    /// The version of MLD, 1 or 2 (`IFLA_BR_MCAST_MLD_VERSION`, one byte).
+    /// MLD version, 1 or 2 (`IFLA_BR_MCAST_MLD_VERSION`, `u8`).
     MulticastMldVersion(u8),
-    /// Whether packets are counted for each VLAN of each port; it is set before ports have VLANs
-    /// (`IFLA_BR_VLAN_STATS_PER_PORT`, one byte).
+    /// Whether packets are counted for each VLAN of each port; set before ports have VLANs
+    /// (`IFLA_BR_VLAN_STATS_PER_PORT`, `u8`).
     VlanStatsPerPort(bool),
-    /// Boolean options, many at a time (`IFLA_BR_MULTI_BOOLOPT`, eight bytes).
+    /// A set of boolean options (`IFLA_BR_MULTI_BOOLOPT`, `struct br_boolopt_multi`).
     MultiBoolOpt(BridgeBooleanOptions),
-    /// The multicast queriers that the bridge knows of (`IFLA_BR_MCAST_QUERIER_STATE`, a list that is written with
-    /// `NLA_F_NESTED`; it is only shown).
+    /// The multicast queriers known to the bridge (`IFLA_BR_MCAST_QUERIER_STATE`, a nested list, written with
+    /// `NLA_F_NESTED`, read-only).
     MulticastQuerierState(Vec<BridgeQuerierState>),
-    /// How many learned entries the forwarding database has (`IFLA_BR_FDB_N_LEARNED`, four bytes; it is only shown).
+    /// Number of learned entries in the forwarding database (`IFLA_BR_FDB_N_LEARNED`, `u32`, read-only).
     FdbNLearned(u32),
-    /// How many learned entries it has at most; 0 for no limit (`IFLA_BR_FDB_MAX_LEARNED`, four bytes).
+    /// Maximum number of learned entries in the forwarding database; 0 for no limit (`IFLA_BR_FDB_MAX_LEARNED`, `u32`).
     FdbMaxLearned(u32),
-    /// Who is to run the spanning tree protocol once it is turned on (`IFLA_BR_STP_MODE`, four bytes).
+    /// What is to run the spanning tree protocol when it is turned on (`IFLA_BR_STP_MODE`, `u32`).
     StpMode(BridgeStpMode),
-    /// An attribute of any other kind.
+    /// An attribute of any other type.
     Other(DefaultNla),
 }
 

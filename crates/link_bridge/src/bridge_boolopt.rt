@@ -1,4 +1,4 @@
-//! The boolean options of a bridge.
+//! Boolean options of a bridge.
 
 ghost use Rattle.std.specs.Prelude.{◌≡◌, take, IfOk};
 ghost use Rattle.link_base.specs.Class.{accepted, Fixed};
@@ -11,22 +11,25 @@ use bitflags::Flags;
 pub use flags::BridgeBooleanOptionFlags;
 use link_base::{DecodeError, Emitable, check_length, emit_u32s, u32s_at};
 
-/// The bytes of written options.
+/// Length of the options as a payload, in bytes.
 const SIZE: usize = 8;
 
-/// Boolean options of a bridge, many at a time (`struct br_boolopt_multi`, `include/uapi/linux/if_bridge.h`): two sets
-/// of four bytes. Any other length is refused.
+/// A set of boolean options of a bridge (`struct br_boolopt_multi`, `include/uapi/linux/if_bridge.h`): two `u32`s. A
+/// payload of any other length is rejected.
 #[derive(Clone, Copy, Debug, PartialEq, Eq)]
 pub struct BridgeBooleanOptions {
     /// The options that are on (`optval`).
     pub value: BridgeBooleanOptionFlags,
-    /// The options that a request changes (`optmask`); where the kernel reports, those that it knows.
+    /// In a request, the options to change; in a report, the options that the kernel knows (`optmask`).
     pub mask: BridgeBooleanOptionFlags,
 }
 
 impl BridgeBooleanOptions {
-    /// The options of a payload of eight bytes. Fails with `Payload`, of `TooShort` where it has fewer and of
-    /// `WrongLength` where it has more.
+    /// Parses a payload of 8 bytes.
+    ///
+    /// # Errors
+    ///
+    /// `Payload(TooShort)` if the payload is shorter, `Payload(WrongLength)` if it is longer.
     pub fn parse(payload: &[u8]) -> Result<Self, DecodeError>
         ensures value { result ≡ payload_result (accepted (Fixed 8) options_of payload.now) }
         ensures octets { IfOk result (λ options. options_octets options ≡ take 8 payload.now) }

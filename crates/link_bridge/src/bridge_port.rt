@@ -1,4 +1,4 @@
-//! The attributes of a port of a bridge (`IFLA_INFO_SLAVE_DATA` of a link whose `IFLA_INFO_SLAVE_KIND` is `bridge`).
+//! Bridge port attributes (`IFLA_INFO_SLAVE_DATA` of a link whose `IFLA_INFO_SLAVE_KIND` is `bridge`).
 
 mod state;
 
@@ -100,129 +100,123 @@ const IFLA_BRPORT_BACKUP_NHID: u16 = 44;
 
 const IFLA_BRPORT_NEIGH_FORWARD_GRAT: u16 = 45;
 
-/// An attribute of a port of a bridge (`IFLA_BRPORT_*`, `include/uapi/linux/if_link.h`). A clock tick is 1/100 second
-/// (`USER_HZ`). What is only shown cannot be set.
+/// A bridge port attribute (`IFLA_BRPORT_*`, `include/uapi/linux/if_link.h`). A clock tick is 1/100 second (`USER_HZ`).
+///
+/// Attributes marked read-only are reported by the kernel and cannot be set; those marked write-only can be set and are
+/// not reported.
 #[derive(Debug, PartialEq, Eq, Drop)]
 pub enum InfoBridgePort {
-    /// The state of the port in the spanning tree protocol (`IFLA_BRPORT_STATE`, one byte).
+    /// State of the port in the spanning tree protocol (`IFLA_BRPORT_STATE`, `u8`).
     State(BridgePortState),
-    /// The priority of the port in the spanning tree protocol, at most 63: the lower, the sooner it becomes the root
-    /// port or a designated one (`IFLA_BRPORT_PRIORITY`, two bytes).
+    /// Priority of the port in the spanning tree protocol, at most 63 (`IFLA_BRPORT_PRIORITY`, `u16`). Ports with lower
+    /// values are preferred as root port and as designated port.
     Priority(u16),
-    /// The cost of the path through the port, from 1 to 65535 (`IFLA_BRPORT_COST`, four bytes).
+    /// Path cost of the port, from 1 to 65535 (`IFLA_BRPORT_COST`, `u32`).
     Cost(u32),
-    /// Whether frames may leave by the port that they came in by: hairpin mode (`IFLA_BRPORT_MODE`, one byte).
+    /// Whether frames may be sent back out of the port on which they were received: hairpin mode (`IFLA_BRPORT_MODE`,
+    /// `u8`).
     HairpinMode(bool),
-    /// Whether the port is turned off when a BPDU comes in (`IFLA_BRPORT_GUARD`, one byte).
+    /// Whether the port is disabled if it receives a BPDU (`IFLA_BRPORT_GUARD`, `u8`).
     Guard(bool),
-    /// Whether the port is kept from becoming the root port (`IFLA_BRPORT_PROTECT`, one byte).
+    /// Whether the port is prevented from becoming the root port (`IFLA_BRPORT_PROTECT`, `u8`).
     Protect(bool),
-    /// Whether multicast of a group stops at the port at once when a host there leaves the group
-    /// (`IFLA_BRPORT_FAST_LEAVE`, one byte).
+    /// Whether multicast to a group stops on the port as soon as a host there leaves the group
+    /// (`IFLA_BRPORT_FAST_LEAVE`, `u8`).
     FastLeave(bool),
-    /// Whether the source addresses of frames that come in are learned (`IFLA_BRPORT_LEARNING`, one byte).
+    /// Whether source addresses of received frames are learned (`IFLA_BRPORT_LEARNING`, `u8`).
     Learning(bool),
     /// Whether unicast to addresses that are not in the forwarding database is flooded to the port
-    /// (`IFLA_BRPORT_UNICAST_FLOOD`, one byte).
+    /// (`IFLA_BRPORT_UNICAST_FLOOD`, `u8`).
     UnicastFlood(bool),
-    /// Whether the bridge answers ARP requests on behalf of the hosts behind the port: proxy ARP
-    /// (`IFLA_BRPORT_PROXYARP`, one byte).
+    /// Whether the bridge replies to ARP requests on behalf of the hosts on the port: proxy ARP
+    /// (`IFLA_BRPORT_PROXYARP`, `u8`).
     ProxyARP(bool),
-    /// Whether the addresses that the device of the port learns are put into the forwarding database of the bridge too
-    /// (`IFLA_BRPORT_LEARNING_SYNC`, one byte).
+    /// Whether addresses learned by the port's device are also added to the bridge's forwarding database
+    /// (`IFLA_BRPORT_LEARNING_SYNC`, `u8`).
     LearningSync(bool),
-    /// Whether the bridge answers ARP requests by the further rules of IEEE 802.11 and Hotspot 2.0 as well
-    /// (`IFLA_BRPORT_PROXYARP_WIFI`, one byte).
+    /// Whether the bridge also replies to ARP requests by the extended rules of IEEE 802.11 and Hotspot 2.0
+    /// (`IFLA_BRPORT_PROXYARP_WIFI`, `u8`).
     ProxyARPWifi(bool),
-    /// The identifier of the root (`IFLA_BRPORT_ROOT_ID`, eight bytes; it is only shown).
+    /// ID of the root bridge (`IFLA_BRPORT_ROOT_ID`, `struct ifla_bridge_id`, read-only).
     RootId(BridgeId),
-    /// The identifier of the designated bridge of the segment (`IFLA_BRPORT_BRIDGE_ID`, eight bytes; it is only shown).
+    /// ID of the designated bridge of the segment (`IFLA_BRPORT_BRIDGE_ID`, `struct ifla_bridge_id`, read-only).
     BridgeId(BridgeId),
-    /// The identifier of the designated port of the segment (`IFLA_BRPORT_DESIGNATED_PORT`, two bytes; it is only
-    /// shown).
+    /// ID of the designated port of the segment (`IFLA_BRPORT_DESIGNATED_PORT`, `u16`, read-only).
     DesignatedPort(u16),
-    /// The cost of the path from the designated bridge to the root (`IFLA_BRPORT_DESIGNATED_COST`, two bytes; it is
-    /// only shown).
+    /// Cost of the path from the designated bridge to the root (`IFLA_BRPORT_DESIGNATED_COST`, `u16`, read-only).
     DesignatedCost(u16),
-    /// The identifier of the port in the spanning tree protocol, its priority and its number (`IFLA_BRPORT_ID`, two
-    /// bytes; it is only shown).
+    /// ID of the port in the spanning tree protocol: its priority and its number (`IFLA_BRPORT_ID`, `u16`, read-only).
     PortId(u16),
-    /// The number of the port (`IFLA_BRPORT_NO`, two bytes; it is only shown).
+    /// Number of the port (`IFLA_BRPORT_NO`, `u16`, read-only).
     PortNumber(u16),
-    /// Whether the next BPDU that is sent acknowledges a change of topology (`IFLA_BRPORT_TOPOLOGY_CHANGE_ACK`, one
-    /// byte; it is only shown).
+    /// Whether the next BPDU acknowledges a topology change (`IFLA_BRPORT_TOPOLOGY_CHANGE_ACK`, `u8`, read-only).
     TopologyChangeAck(bool),
-    /// Whether a configuration BPDU waits for the hold timer (`IFLA_BRPORT_CONFIG_PENDING`, one byte; it is only
-    /// shown).
+    /// Whether a configuration BPDU is waiting for the hold timer (`IFLA_BRPORT_CONFIG_PENDING`, `u8`, read-only).
     ConfigPending(bool),
-    /// The time until what was heard from the designated bridge is too old, in clock ticks
-    /// (`IFLA_BRPORT_MESSAGE_AGE_TIMER`, eight bytes; it is only shown).
+    /// Time until the information from the designated bridge expires, in clock ticks (`IFLA_BRPORT_MESSAGE_AGE_TIMER`,
+    /// `u64`, read-only).
     MessageAgeTimer(u64),
-    /// The time until the port goes on to its next state, in clock ticks (`IFLA_BRPORT_FORWARD_DELAY_TIMER`, eight
-    /// bytes; it is only shown).
+    /// Time until the port enters its next state, in clock ticks (`IFLA_BRPORT_FORWARD_DELAY_TIMER`, `u64`, read-only).
     ForwardDelayTimer(u64),
-    /// The time until the next configuration BPDU may be sent, in clock ticks (`IFLA_BRPORT_HOLD_TIMER`, eight bytes;
-    /// it is only shown).
+    /// Time until the next configuration BPDU may be sent, in clock ticks (`IFLA_BRPORT_HOLD_TIMER`, `u64`, read-only).
     HoldTimer(u64),
-    /// A request to drop the learned entries of the port from the forwarding database; it has no payload
-    /// (`IFLA_BRPORT_FLUSH`; it is only set).
+    /// Request to remove the port's learned entries from the forwarding database (`IFLA_BRPORT_FLUSH`, no payload,
+    /// write-only).
     Flush,
-    /// Whether a multicast router is taken to be behind the port, which then gets all multicast
-    /// (`IFLA_BRPORT_MULTICAST_ROUTER`, one byte).
+    /// Whether the port is considered to lead to a multicast router and gets all multicast traffic
+    /// (`IFLA_BRPORT_MULTICAST_ROUTER`, `u8`).
     MulticastRouter(BridgeMulticastRouterType),
-    /// Whether multicast of groups that are not in the multicast database is flooded to the port
-    /// (`IFLA_BRPORT_MCAST_FLOOD`, one byte).
+    /// Whether multicast to groups that are not in the multicast database is flooded to the port
+    /// (`IFLA_BRPORT_MCAST_FLOOD`, `u8`).
     MulticastFlood(bool),
-    /// Whether multicast is sent to each member of its group as unicast (`IFLA_BRPORT_MCAST_TO_UCAST`, one byte).
+    /// Whether multicast is sent to each member of the group as unicast (`IFLA_BRPORT_MCAST_TO_UCAST`, `u8`).
     MulticastToUnicast(bool),
-    /// Whether VLANs are mapped to tunnels at the port (`IFLA_BRPORT_VLAN_TUNNEL`, one byte).
+    /// Whether VLANs are mapped to tunnels on the port (`IFLA_BRPORT_VLAN_TUNNEL`, `u8`).
     VlanTunnel(bool),
-    /// Whether broadcast is flooded to the port (`IFLA_BRPORT_BCAST_FLOOD`, one byte).
+    /// Whether broadcast is flooded to the port (`IFLA_BRPORT_BCAST_FLOOD`, `u8`).
     BroadcastFlood(bool),
-    /// Which frames to link-local addresses are forwarded: bit n for those to 01:80:c2:00:00:0n
-    /// (`IFLA_BRPORT_GROUP_FWD_MASK`, two bytes).
+    /// Which link-local frames are forwarded: bit n for those sent to 01:80:c2:00:00:0n (`IFLA_BRPORT_GROUP_FWD_MASK`,
+    /// `u16`).
     GroupFwdMask(u16),
-    /// Whether the bridge answers ARP requests and neighbor solicitations itself where it can, and does not flood them
-    /// to the port (`IFLA_BRPORT_NEIGH_SUPPRESS`, one byte).
+    /// Whether the bridge replies to ARP requests and neighbor solicitations itself if it can, and then does not flood
+    /// them to the port: neighbor suppression (`IFLA_BRPORT_NEIGH_SUPPRESS`, `u8`).
     NeighSupress(bool),
-    /// Whether the port exchanges frames only with ports that are not isolated (`IFLA_BRPORT_ISOLATED`, one byte).
+    /// Whether the port exchanges frames only with ports that are not isolated (`IFLA_BRPORT_ISOLATED`, `u8`).
     Isolated(bool),
-    /// The index of the port that gets the frames while this one has no carrier, a network device; 0 for none
-    /// (`IFLA_BRPORT_BACKUP_PORT`, four bytes).
+    /// Interface index of the port that gets the frames while this port has no carrier; 0 for none
+    /// (`IFLA_BRPORT_BACKUP_PORT`, `u32`).
     BackupPort(u32),
-    /// Whether the ring of the Media Redundancy Protocol that the port is in is open (`IFLA_BRPORT_MRP_RING_OPEN`, one
-    /// byte; it is only shown).
+    /// Whether the port's Media Redundancy Protocol ring is open (`IFLA_BRPORT_MRP_RING_OPEN`, `u8`, read-only).
     MrpRingOpen(bool),
-    /// Whether the interconnection of such rings that the port is in is open (`IFLA_BRPORT_MRP_IN_OPEN`, one byte; it
-    /// is only shown).
+    /// Whether the port's Media Redundancy Protocol interconnection ring is open (`IFLA_BRPORT_MRP_IN_OPEN`, `u8`,
+    /// read-only).
     MrpInOpen(bool),
-    /// How many hosts are tracked at the port at most, by their reports of IGMPv3 and MLDv2
-    /// (`IFLA_BRPORT_MCAST_EHT_HOSTS_LIMIT`, four bytes).
+    /// Maximum number of hosts tracked on the port from their IGMPv3 and MLDv2 reports
+    /// (`IFLA_BRPORT_MCAST_EHT_HOSTS_LIMIT`, `u32`).
     MulticastEhtHostsLimit(u32),
-    /// How many hosts are tracked at the port (`IFLA_BRPORT_MCAST_EHT_HOSTS_CNT`, four bytes; it is only shown).
+    /// Number of hosts tracked on the port (`IFLA_BRPORT_MCAST_EHT_HOSTS_CNT`, `u32`, read-only).
     MulticastEhtHostsCnt(u32),
-    /// Whether frames come in only from addresses that are in the forwarding database at this port
-    /// (`IFLA_BRPORT_LOCKED`, one byte).
+    /// Whether frames are accepted only from addresses that the forwarding database has for this port
+    /// (`IFLA_BRPORT_LOCKED`, `u8`).
     Locked(bool),
-    /// Whether addresses that a locked port keeps out are noted, so that they can be let in by MAC Authentication
-    /// Bypass (`IFLA_BRPORT_MAB`, one byte).
+    /// Whether addresses that a locked port rejects are recorded, so that they can be admitted by MAC Authentication
+    /// Bypass (`IFLA_BRPORT_MAB`, `u8`).
     Mab(bool),
-    /// How many entries of the multicast database the port has (`IFLA_BRPORT_MCAST_N_GROUPS`, four bytes; it is only
-    /// shown).
+    /// Number of the port's entries in the multicast database (`IFLA_BRPORT_MCAST_N_GROUPS`, `u32`, read-only).
     MulticastNGroups(u32),
-    /// How many entries of the multicast database the port has at most; 0 for no limit (`IFLA_BRPORT_MCAST_MAX_GROUPS`,
-    /// four bytes).
+    /// Maximum number of the port's entries in the multicast database; 0 for no limit (`IFLA_BRPORT_MCAST_MAX_GROUPS`,
+    /// `u32`).
     MulticastMaxGroups(u32),
-    /// Whether neighbor suppression is set for each VLAN of the port apart (`IFLA_BRPORT_NEIGH_VLAN_SUPPRESS`, one
-    /// byte).
+    /// Whether neighbor suppression is set for each VLAN of the port separately (`IFLA_BRPORT_NEIGH_VLAN_SUPPRESS`,
+    /// `u8`).
     NeighVlanSuppress(bool),
-    /// The next hop of the frames that the backup port gets, by its identifier, where that port maps VLANs to tunnels;
-    /// 0 for none (`IFLA_BRPORT_BACKUP_NHID`, four bytes).
+    /// Next hop ID for the frames redirected to the backup port, used if that port maps VLANs to tunnels; 0 for none
+    /// (`IFLA_BRPORT_BACKUP_NHID`, `u32`).
     BackupNextHopId(u32),
-    /// Whether gratuitous ARP and unsolicited neighbor advertisements are flooded to the port even where neighbor
-    /// suppression is on (`IFLA_BRPORT_NEIGH_FORWARD_GRAT`, one byte).
+    /// Whether gratuitous ARP and unsolicited neighbor advertisements are flooded to the port even if neighbor
+    /// suppression is on (`IFLA_BRPORT_NEIGH_FORWARD_GRAT`, `u8`).
     NeighForwardGrat(bool),
-    /// An attribute of any other kind.
+    /// An attribute of any other type.
     Other(DefaultNla),
 }
 

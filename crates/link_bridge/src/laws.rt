@@ -1,5 +1,5 @@
-//! The bits of the named flags, constants, conversions that are inverse, what `==` says, and the two editions of the
-//! table of bridge ports. Nothing here runs.
+//! Theorems about the bits of the named flags, constants, inverse conversions, `==`, and the two versions of the bridge
+//! port table. The functions have empty bodies.
 
 ghost use Rattle.std.specs.Prelude.{◌≡◌, ◌<◌, ◌^◌, ◌↔◌, ℕ, List, map, IsTrue};
 ghost use Rattle.link_base.specs.Held.{IsOctets};
@@ -28,7 +28,7 @@ use crate::bridge_port::InfoBridgePort;
 use crate::proto_info::VecLinkProtoInfoBridge;
 use link_base::Meaning;
 
-/// The bits of the boolean options of a bridge (`BR_BOOLOPT_*`, `include/uapi/linux/if_bridge.h`).
+/// Proves which bits the boolean options of a bridge have (`BR_BOOLOPT_*`, `include/uapi/linux/if_bridge.h`).
 pub fn boolean_option_bits()
     ensures no_link_local_learn { option_bits BridgeBooleanOptionFlags.NoLinkLocalLearn ≡ 0x1 }
     ensures vlan_multicast_snooping { option_bits BridgeBooleanOptionFlags.VlanMulticastSnooping ≡ 0x2 }
@@ -37,7 +37,7 @@ pub fn boolean_option_bits()
     ensures fdb_local_vlan_0 { option_bits BridgeBooleanOptionFlags.FdbLocalVlan0 ≡ 0x10 }
 {}
 
-/// The bits of the flags of a VLAN of a bridge (`BRIDGE_VLAN_INFO_*`, `include/uapi/linux/if_bridge.h`).
+/// Proves which bits the flags of a bridge VLAN have (`BRIDGE_VLAN_INFO_*`, `include/uapi/linux/if_bridge.h`).
 pub fn vlan_info_flag_bits()
     ensures controller { vlan_info_bits BridgeVlanInfoFlags.Controller ≡ 0x1 }
     ensures pvid { vlan_info_bits BridgeVlanInfoFlags.Pvid ≡ 0x2 }
@@ -48,18 +48,18 @@ pub fn vlan_info_flag_bits()
     ensures only_opts { vlan_info_bits BridgeVlanInfoFlags.OnlyOpts ≡ 0x40 }
 {}
 
-/// The default set of boolean options has no bits.
+/// Proves that a set of boolean options is the default one if and only if it has no bits.
 pub fn default_options()
     ensures { (options : BridgeBooleanOptionFlags)
         → ⟦<BridgeBooleanOptionFlags as Default>⟧.is_default options ↔ (option_bits options ≡ 0) }
 {}
 
-/// `Auto` is `TempQuery`.
+/// Proves that `Auto` is `TempQuery`.
 pub fn auto_router()
     ensures { BridgeMulticastRouterType.Auto ≡ TempQuery }
 {}
 
-/// How many bytes the payloads of these types have.
+/// Proves the payload lengths of these types, in bytes.
 pub fn payload_lengths()
     ensures flag { BridgeFlag.LENGTH ≡ 2 }
     ensures mode { BridgeMode.LENGTH ≡ 2 }
@@ -67,31 +67,31 @@ pub fn payload_lengths()
     ensures vlan_info { BridgeVlanInfo.LENGTH ≡ 4 }
 {}
 
-/// The two conversions of the identifier of a bridge are inverse: for every priority of 16 bits, and for any two octets
-/// of a priority.
+/// Proves that the two conversions of a bridge ID are inverse: for every ID whose priority is a `u16`, and for every
+/// buffer whose priority has two bytes.
 pub fn bridge_id_back()
     ensures id { (id : BridgeId) → id.priority < 2 ^ 16 → id_of_buffer (buffer_of id) ≡ id }
     ensures buffer { (buffer : BridgeIdBuffer) → IsOctets 2 (priority_octets buffer)
         → buffer_of (id_of_buffer buffer) ≡ buffer }
 {}
 
-/// The two conversions of a VLAN are inverse: for every set of flags and every identifier of 16 bits, and for any four
-/// bytes.
+/// Proves that the two conversions of a VLAN are inverse: for every VLAN whose flags and ID are `u16`s, and for any
+/// four bytes.
 pub fn vlan_info_back()
     ensures info { (info : BridgeVlanInfo) → vlan_info_bits info.flags < 2 ^ 16 → info.vid < 2 ^ 16
         → vlan_info_of (vlan_info_octets info) ≡ info }
     ensures bytes { (bytes : List ℕ) → IsOctets 4 bytes → vlan_info_octets (vlan_info_of bytes) ≡ bytes }
 {}
 
-/// Two values of the boolean options of a bridge, of a VLAN, or of a `BridgeIdBuffer` are equal if and only if they are
-/// the same.
+/// Proves that two values of `BridgeBooleanOptions`, `BridgeVlanInfo` or `BridgeIdBuffer` compare equal if and only if
+/// they are the same.
 pub fn equality_of_values()
     ensures options { (a b : BridgeBooleanOptions) → IsTrue (⟦<BridgeBooleanOptions as PartialEq>⟧.eq a b) ↔ (a ≡ b) }
     ensures vlan { (a b : BridgeVlanInfo) → IsTrue (⟦<BridgeVlanInfo as PartialEq>⟧.eq a b) ↔ (a ≡ b) }
     ensures id_buffer { (a b : BridgeIdBuffer) → IsTrue (⟦<BridgeIdBuffer as PartialEq>⟧.eq a b) ↔ (a ≡ b) }
 {}
 
-/// Lists that are equal by `==` stand for the same attributes, one by one.
+/// Proves that lists that compare equal represent the same attributes, in the same order.
 pub fn equality_of_lists()
     ensures af_spec { (a b : VecAfSpecBridge) → IsTrue (⟦<VecAfSpecBridge as PartialEq>⟧.eq a b)
         → map af_spec_means a.0.items ≡ map af_spec_means b.0.items }
@@ -99,9 +99,9 @@ pub fn equality_of_lists()
         → map proto_info_means a.0.items ≡ map proto_info_means b.0.items }
 {}
 
-/// The two editions of the table of bridge ports: the second adds the kind 11, `IFLA_BRPORT_LEARNING_SYNC`. A string
-/// without a frame of this kind, before its first frame fault if it has one, has the same values or the same first
-/// fault in both, and is canonical in both or in neither.
+/// Proves how the two versions of the bridge port table are related. The second adds attribute type 11,
+/// `IFLA_BRPORT_LEARNING_SYNC`. If the input has no attribute of this type before its first framing error, if any, then
+/// both versions give the same values or the same first error, and the input is canonical in both or in neither.
 pub fn profiles()
     ensures { AreEditions bridge_port_added bridge_port_table_first ⟦<InfoBridgePort as Meaning>⟧.table }
 {}

@@ -1,4 +1,4 @@
-//! The link attributes of bridges and of their ports.
+//! Link attributes of bridges and bridge ports.
 #![tactic(auto)]
 
 mod af_spec;

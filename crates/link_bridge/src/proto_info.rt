@@ -1,4 +1,4 @@
-//! The attributes of `IFLA_PROTINFO` in a message of AF_BRIDGE.
+//! Attributes of `IFLA_PROTINFO` in AF_BRIDGE messages.
 
 ghost use Rattle.std.specs.Prelude.{◌≡◌, map, None};
 ghost use Rattle.link_base.specs.Frame.{frame_fault};
@@ -15,14 +15,14 @@ use std::alloc::{AllocError, Global};
 /// `IFLA_BRPORT_NEIGH_FORWARD_GRAT`, `include/uapi/linux/if_link.h`.
 const IFLA_BRPORT_NEIGH_FORWARD_GRAT: u16 = 45;
 
-/// An attribute of a port of a bridge, of those that stand in `IFLA_PROTINFO` of a message of AF_BRIDGE
-/// (`IFLA_BRPORT_*`, `include/uapi/linux/if_link.h`).
+/// A bridge port attribute in `IFLA_PROTINFO` of an AF_BRIDGE message (`IFLA_BRPORT_*`,
+/// `include/uapi/linux/if_link.h`).
 #[derive(Debug, PartialEq, Eq, Drop)]
 pub enum LinkProtoInfoBridge {
-    /// Whether gratuitous ARP and unsolicited neighbor advertisements are flooded to the port even where neighbor
-    /// suppression is on (`IFLA_BRPORT_NEIGH_FORWARD_GRAT`, one byte).
+    /// Whether gratuitous ARP and unsolicited neighbor advertisements are flooded to the port even if neighbor
+    /// suppression is on (`IFLA_BRPORT_NEIGH_FORWARD_GRAT`, `u8`).
     NeighForwardGrat(bool),
-    /// An attribute of any other kind.
+    /// An attribute of any other type.
     Other(DefaultNla),
 }
 
@@ -31,7 +31,11 @@ pub enum LinkProtoInfoBridge {
 pub struct VecLinkProtoInfoBridge(pub Vec<LinkProtoInfoBridge>);
 
 impl VecLinkProtoInfoBridge {
-    /// Parses the payload of an `IFLA_PROTINFO`, as [`read_list`] does, with the same errors.
+    /// Parses the payload of an `IFLA_PROTINFO`, as [`read_list`] does.
+    ///
+    /// # Errors
+    ///
+    /// As for [`read_list`].
     pub fn parse(alloc: Global, bytes: &[u8]) -> Result<Self, ListError>
         ensures answer { ListAnswers (λ list. map proto_info_means list.0.items) result
             (Gives proto_info_table) bytes.now }

@@ -1,4 +1,4 @@
--- The attributes of a CAN controller.
+-- CAN controller attributes.
 use Rattle.std.specs.Prelude.{ℕ, List, [], ◌∷◌, map, true}
 use Rattle.link_base.specs.Class.{Unsigned, Octets, AtLeast, Fixed, Many, Limits, Number, Raw}
 use Rattle.link_base.specs.Layout.{octets_of}
@@ -15,7 +15,7 @@ use Rattle.link_vlan_can.specs.declared.can.InfoCan.{InfoCan}
 use Rattle.link_vlan_can.specs.declared.can.InfoCan.TheVariants as infos
 
 -- IFLA_CAN_TDC_TDCV_MIN, IFLA_CAN_TDC_TDCV_MAX, IFLA_CAN_TDC_TDCO_MIN, IFLA_CAN_TDC_TDCO_MAX, IFLA_CAN_TDC_TDCF_MIN,
--- IFLA_CAN_TDC_TDCF_MAX, IFLA_CAN_TDC_TDCV, IFLA_CAN_TDC_TDCO, IFLA_CAN_TDC_TDCF: four bytes each
+-- IFLA_CAN_TDC_TDCF_MAX, IFLA_CAN_TDC_TDCV, IFLA_CAN_TDC_TDCO, IFLA_CAN_TDC_TDCF: each a u32
 abbrev pub tdc_rows : Rows
 tdc_rows =
     row 1 (Unsigned 4) ∷
@@ -28,7 +28,7 @@ tdc_rows =
     row 8 (Unsigned 4) ∷
     row 9 (Unsigned 4) ∷ []
 
--- the attribute that one of transmitter delay compensation stands for
+-- the attribute that a value of transmitter delay compensation represents
 abbrev pub tdc_leaf : CanTdc → Leaf
 tdc_leaf (tdcs.TdcvMin periods) = Case 1 (Number 4 periods)
 tdc_leaf (tdcs.TdcvMax periods) = Case 2 (Number 4 periods)
@@ -45,7 +45,7 @@ tdc_leaf (tdcs.Other other) = default_means other
 abbrev pub mode_rows : Rows
 mode_rows = row 1 (Unsigned 4) ∷ []
 
--- the attribute that one of the modes stands for
+-- the attribute that a value of the modes represents
 abbrev pub mode_leaf : CanCtrlModeExt → Leaf
 mode_leaf (modes.Supported flags) = Case 1 (Number 4 (mode_bits flags))
 mode_leaf (modes.Other other) = default_means other
@@ -53,8 +53,8 @@ mode_leaf (modes.Other other) = default_means other
 -- IFLA_CAN_BITTIMING, IFLA_CAN_BITTIMING_CONST, IFLA_CAN_CLOCK, IFLA_CAN_STATE, IFLA_CAN_CTRLMODE,
 -- IFLA_CAN_RESTART_MS, IFLA_CAN_RESTART, IFLA_CAN_BERR_COUNTER, IFLA_CAN_DATA_BITTIMING,
 -- IFLA_CAN_DATA_BITTIMING_CONST, IFLA_CAN_TERMINATION, IFLA_CAN_TERMINATION_CONST, IFLA_CAN_BITRATE_CONST,
--- IFLA_CAN_DATA_BITRATE_CONST, IFLA_CAN_BITRATE_MAX, IFLA_CAN_TDC, IFLA_CAN_CTRLMODE_EXT; the last two are lists that
--- are written with the nested flag
+-- IFLA_CAN_DATA_BITRATE_CONST, IFLA_CAN_BITRATE_MAX, IFLA_CAN_TDC, IFLA_CAN_CTRLMODE_EXT; the last two are nested
+-- lists, written with NLA_F_NESTED
 abbrev pub can_table : Table
 can_table =
     row 1 (One (Octets (AtLeast 32))) ∷
@@ -75,11 +75,11 @@ can_table =
     row 16 (Nested true tdc_rows) ∷
     row 17 (Nested true mode_rows) ∷ []
 
--- the kinds that the second edition of the table adds
+-- the attribute types that the second version of the table adds
 abbrev pub can_added : List ℕ
 can_added = 12 ∷ 13 ∷ 14 ∷ []
 
--- the first edition of the table
+-- the first version of the table
 abbrev pub can_table_first : Table
 can_table_first =
     row 1 (One (Octets (AtLeast 32))) ∷
@@ -97,7 +97,7 @@ can_table_first =
     row 16 (Nested true tdc_rows) ∷
     row 17 (Nested true mode_rows) ∷ []
 
--- the attribute that a value stands for
+-- the attribute that a value represents
 abbrev pub can_means : InfoCan → AttrValue
 can_means (infos.BitTiming timing) = Case 1 (Single (Raw (timing_octets timing)))
 can_means (infos.BitTimingConst limits) = Case 2 (Single (limits_value limits))

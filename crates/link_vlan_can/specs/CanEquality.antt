@@ -1,4 +1,4 @@
--- What `==` looks at in the records of a CAN controller: every field.
+-- `==` on the structs of a CAN controller compares every field.
 use Rattle.std.specs.Prelude.{ℕ, ◌==◌, ◌&&◌, [], ◌∷◌, refl, string_eq}
 use Rattle.link_base.specs.Class.{Limited}
 use Rattle.link_base.specs.Table.{Case, Single}
@@ -15,7 +15,7 @@ use Rattle.link_vlan_can.specs.declared.can_limits.CanBitTimingConst.{CanBitTimi
 abbrev Eight : Type 0
 Eight = ℕ × (ℕ × (ℕ × (ℕ × (ℕ × (ℕ × (ℕ × ℕ))))))
 
--- each with its test
+-- eight numbers, each compared by `==`
 eight : IsThorough
     (λ (x y : Eight). x.0 == y.0 && (x.1.0 == y.1.0 && (x.1.1.0 == y.1.1.0 && (x.1.1.1.0 == y.1.1.1.0 && (x.1.1.1.1.0 == y.1.1.1.1.0
     && (x.1.1.1.1.1.0 == y.1.1.1.1.1.0 && (x.1.1.1.1.1.1.0 == y.1.1.1.1.1.1.0 && x.1.1.1.1.1.1.1 == y.1.1.1.1.1.1.1)))))))
@@ -49,7 +49,7 @@ counters = wrapped (λ (c : CanBerrCounter). (c.txerr, c.rxerr)) (λ (x : ℕ ×
 pub modes : IsThorough (λ (a b : CanCtrlMode). a.mask.0 == b.mask.0 && a.flags.0 == b.flags.0) (λ (a : CanCtrlMode). a)
 modes = wrapped (λ (m : CanCtrlMode). (m.mask.0, m.flags.0)) (λ (x : ℕ × ℕ). record { mask = record { 0 = x.0 }; flags = record { 0 = x.1 } }) (λ _. refl) (pairs numbers numbers)
 
--- the name, and the octets of the numbers
+-- limits that compare equal have the same name and the same bytes of the numbers
 pub limits : {k : ℕ} → IsThorough
     (λ (a b : CanBitTimingConst). string_eq a.name b.name && (a.tseg1_min == b.tseg1_min && (a.tseg1_max == b.tseg1_max && (a.tseg2_min == b.tseg2_min
     && (a.tseg2_max == b.tseg2_max && (a.sjw_max == b.sjw_max && (a.brp_min == b.brp_min && (a.brp_max == b.brp_max && a.brp_inc == b.brp_inc))))))))

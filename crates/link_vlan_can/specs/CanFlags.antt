@@ -1,13 +1,13 @@
--- The modes of a CAN controller: their names and their bits.
+-- The modes of a CAN controller: their names and bits.
 use Rattle.std.specs.Prelude.{◌≡◌, ◌-◌, ◌^◌, ℕ, List, [], ◌∷◌, codes, refl}
 use Rattle.bitflags.specs.Sets.{Row, known_from, known_bits}
 use Rattle.link_vlan_can.specs.declared.can_flags.CanCtrlModeFlags.{CanCtrlModeFlags}
 
--- the bits of a set
+-- the bits of a set of flags
 abbrev pub mode_bits : CanCtrlModeFlags → ℕ
 mode_bits flags = flags.0
 
--- CAN_CTRLMODE_LOOPBACK and the others, and then all bits, under no name
+-- CAN_CTRLMODE_LOOPBACK and the other flags, then an unnamed flag with all bits
 abbrev pub mode_flags : List Row
 mode_flags = (codes "Loopback", 1) ∷ (codes "ListenOnly", 2) ∷ (codes "TripleSampling", 4) ∷ (codes "OneShot", 8)
     ∷ (codes "BerrReporting", 16) ∷ (codes "Fd", 32) ∷ (codes "PresumeAck", 64) ∷ (codes "FdNonIso", 128)
@@ -15,7 +15,7 @@ mode_flags = (codes "Loopback", 1) ∷ (codes "ListenOnly", 2) ∷ (codes "Tripl
     ∷ (codes "Xl", 4096) ∷ (codes "XlTdcAuto", 8192) ∷ (codes "XlTdcManual", 16384) ∷ (codes "XlTms", 32768)
     ∷ ([], 2 ^ 32 - 1) ∷ []
 
--- so every bit is known
+-- every bit is known
 pub every_mode_bit : known_bits mode_flags ≡ 2 ^ 32 - 1
 unfolding known_from
 every_mode_bit = refl

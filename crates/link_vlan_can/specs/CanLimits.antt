@@ -1,4 +1,4 @@
--- The limits of a CAN controller's bit timing.
+-- The bit timing limits of a CAN controller.
 use Rattle.std.specs.Prelude.{ℕ, List, [], ◌∷◌, take, replicate, string_bytes, Result}
 use Rattle.link_base.specs.declared.fault.DecodeError.{DecodeError}
 use Rattle.link_base.specs.Name.{name_of}
@@ -7,35 +7,35 @@ use Rattle.link_base.specs.Layout.{numbers_at, octets_of}
 use Rattle.link_base.specs.Answers.{PayloadAnswers}
 use Rattle.link_vlan_can.specs.declared.can_limits.CanBitTimingConst.{CanBitTimingConst}
 
--- the name, and the eight numbers in their order
+-- the bytes of the name, and the eight numbers in order
 pub record LimitsView : Type 0 where
   pub name : List ℕ
   pub numbers : List ℕ
 
--- a name and numbers
+-- the limits with this name and these numbers
 abbrev pub limits : List ℕ → List ℕ → LimitsView
 limits text xs = record { name = text; numbers = xs }
 
--- the limits that a value holds
+-- the limits in a value
 abbrev pub limits_view : CanBitTimingConst → LimitsView
 limits_view c = limits (string_bytes c.name) (c.tseg1_min ∷ c.tseg1_max ∷ c.tseg2_min ∷ c.tseg2_max ∷ c.sjw_max ∷ c.brp_min ∷ c.brp_max ∷ c.brp_inc ∷ [])
 
--- a name, and numbers that are all zero
+-- the limits with this name and all numbers 0
 abbrev pub limits_with : List ℕ → LimitsView
 limits_with text = limits text (replicate 8 0)
 
--- the limits of a payload: the name before the numbers
+-- the limits in a payload: the name, then the numbers
 abbrev pub limits_of : List ℕ → LimitsView
 limits_of p = limits (name_of (take 16 p)) (numbers_at 4 8 16 p)
 
--- the octets of the numbers
+-- the bytes of the numbers
 abbrev pub limits_octets : CanBitTimingConst → List ℕ
 limits_octets c = octets_of 4 (limits_view c).numbers
 
--- the value of the class
+-- the limits as a value of the class `Limits`
 abbrev pub limits_value : CanBitTimingConst → Value
 limits_value c = Limited (string_bytes c.name) (limits_octets c)
 
--- the limits of a payload or the cause of its refusal, unless memory ran out
+-- the result is the limits in a payload, or why it was rejected, unless an allocation failed
 abbrev pub LimitsAnswer : List ℕ → Result CanBitTimingConst DecodeError → Type 0
 LimitsAnswer p result = PayloadAnswers limits_view result (accepted (AtLeast 48) limits_of p)

@@ -1,4 +1,4 @@
--- The records of a CAN controller: what payloads mean, and the octets of values.
+-- The structs of a CAN controller: what payloads mean, and the bytes of values.
 use Rattle.std.specs.Prelude.{ℕ, List, [], ◌∷◌}
 use Rattle.link_base.specs.Layout.{number_at, octets_of}
 use Rattle.link_vlan_can.specs.CanFlags.{mode_bits}
@@ -8,7 +8,7 @@ use Rattle.link_vlan_can.specs.declared.can_records.CanCtrlMode.{CanCtrlMode}
 use Rattle.link_vlan_can.specs.declared.can_records.CanClock.{CanClock}
 use Rattle.link_vlan_can.specs.declared.can_records.CanBerrCounter.{CanBerrCounter}
 
--- the timing of a payload, field by field
+-- the bit timing in a payload
 abbrev pub timing_of : List ℕ → CanBitTiming
 timing_of p = record {
   bitrate = number_at 4 0 p;
@@ -21,11 +21,11 @@ timing_of p = record {
   brp = number_at 4 28 p;
 }
 
--- its octets
+-- the bytes of a bit timing
 abbrev pub timing_octets : CanBitTiming → List ℕ
 timing_octets t = octets_of 4 (t.bitrate ∷ t.sample_point ∷ t.tq ∷ t.prop_seg ∷ t.phase_seg1 ∷ t.phase_seg2 ∷ t.sjw ∷ t.brp ∷ [])
 
--- a timing of which the bit rate alone is given
+-- a bit timing with only the bit rate set, and all other fields 0
 abbrev pub timing_with : ℕ → CanBitTiming
 timing_with rate = record {
   bitrate = rate;
@@ -42,26 +42,26 @@ timing_with rate = record {
 abbrev pub modes_at : ℕ → List ℕ → CanCtrlModeFlags
 modes_at offset p = record { 0 = number_at 4 offset p }
 
--- the modes of a payload: the mask before the flags
+-- the modes in a payload: the mask, then the flags
 abbrev pub modes_of : List ℕ → CanCtrlMode
 modes_of p = record { mask = modes_at 0 p; flags = modes_at 4 p }
 
--- their octets
+-- the bytes of modes
 abbrev pub modes_octets : CanCtrlMode → List ℕ
 modes_octets m = octets_of 4 (mode_bits m.mask ∷ mode_bits m.flags ∷ [])
 
--- the clock of a payload
+-- the clock in a payload
 abbrev pub clock_of : List ℕ → CanClock
 clock_of p = record { freq = number_at 4 0 p }
 
--- its octets
+-- the bytes of a clock
 abbrev pub clock_octets : CanClock → List ℕ
 clock_octets c = octets_of 4 (c.freq ∷ [])
 
--- the error counters of a payload
+-- the error counters in a payload
 abbrev pub errors_of : List ℕ → CanBerrCounter
 errors_of p = record { txerr = number_at 2 0 p; rxerr = number_at 2 2 p }
 
--- their octets
+-- the bytes of error counters
 abbrev pub errors_octets : CanBerrCounter → List ℕ
 errors_octets e = octets_of 2 (e.txerr ∷ e.rxerr ∷ [])

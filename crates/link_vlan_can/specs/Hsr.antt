@@ -1,4 +1,4 @@
--- The attributes of an HSR device.
+-- HSR and PRP device attributes.
 use Rattle.std.specs.Prelude.{[], ◌∷◌, codes, refl}
 use Rattle.link_base.specs.Class.{Unsigned, Octets, Exactly, Named, Number, Raw}
 use Rattle.link_base.specs.Named.{Naming, Seen, Listed, Free, IsSeen, label, Bare, NoText, numbers_of, seen_value}
@@ -9,7 +9,7 @@ use Rattle.link_vlan_can.specs.declared.hsr.HsrProtocol.TheVariants as protocols
 use Rattle.link_vlan_can.specs.declared.hsr.InfoHsr.{InfoHsr}
 use Rattle.link_vlan_can.specs.declared.hsr.InfoHsr.TheVariants.{Port1, Port2, MulticastSpec, SupervisionAddr, SeqNr, Version, Protocol, Interlink, Other}
 
--- HSR_PROTOCOL_HSR and HSR_PROTOCOL_PRP; any other number is `Other`, and no text is read
+-- HSR_PROTOCOL_HSR and HSR_PROTOCOL_PRP; any other number is `Other`. No name is parsed
 abbrev pub hsr_protocols : Naming HsrProtocol
 hsr_protocols = record {
   labels = label protocols.Hsr (codes "hsr") 0 ∷ label protocols.Prp (codes "prp") 1 ∷ [];
@@ -19,13 +19,13 @@ hsr_protocols = record {
   accepted = NoText;
 }
 
--- the number that a protocol holds
+-- the number of a protocol: `Listed` for a named variant, `Free` for `Other`
 abbrev pub hsr_protocol : HsrProtocol → Seen
 hsr_protocol protocols.Hsr = Listed 0
 hsr_protocol protocols.Prp = Listed 1
 hsr_protocol (protocols.Other d) = Free d
 
--- it has no further cases
+-- every value is a named variant or `Other`
 pub hsr_protocol_seen : (p : HsrProtocol) → IsSeen hsr_protocols p (hsr_protocol p)
 hsr_protocol_seen protocols.Hsr = (refl, refl)
 hsr_protocol_seen protocols.Prp = (refl, refl)
@@ -44,7 +44,7 @@ hsr_table =
     row 7 (One (Named 1 (numbers_of hsr_protocols))) ∷
     row 8 (One (Unsigned 4)) ∷ []
 
--- the attribute that a value stands for
+-- the attribute that a value represents
 abbrev pub hsr_means : InfoHsr → AttrValue
 hsr_means (Port1 index) = Case 1 (Single (Number 4 index))
 hsr_means (Port2 index) = Case 2 (Single (Number 4 index))

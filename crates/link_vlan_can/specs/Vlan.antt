@@ -1,4 +1,4 @@
--- The attributes of a VLAN device.
+-- VLAN device attributes.
 use Rattle.std.specs.Prelude.{[], ◌∷◌, map, false}
 use Rattle.link_base.specs.Layout.{octets_of}
 use Rattle.link_base.specs.Class.{Unsigned, Octets, Exactly, Protocol, Number, Raw, EtherType}
@@ -11,16 +11,16 @@ use Rattle.link_vlan_can.specs.declared.vlan.VlanQosMapping.TheVariants as mappi
 use Rattle.link_vlan_can.specs.declared.vlan.InfoVlan.{InfoVlan}
 use Rattle.link_vlan_can.specs.declared.vlan.InfoVlan.TheVariants as infos
 
--- IFLA_VLAN_QOS_MAPPING: two numbers of four bytes
+-- IFLA_VLAN_QOS_MAPPING: two u32s
 abbrev pub mapping_rows : Rows
 mapping_rows = row 1 (Octets (Exactly 8)) ∷ []
 
--- the attribute that a mapping stands for
+-- the attribute that a mapping represents
 abbrev pub mapping_leaf : VlanQosMapping → Leaf
 mapping_leaf (mappings.Mapping first second) = Case 1 (Raw (octets_of 4 (first ∷ second ∷ [])))
 mapping_leaf (mappings.Other other) = default_means other
 
--- IFLA_VLAN_ID, IFLA_VLAN_FLAGS (the active flags, and the mask of flags), IFLA_VLAN_EGRESS_QOS, IFLA_VLAN_INGRESS_QOS,
+-- IFLA_VLAN_ID, IFLA_VLAN_FLAGS (the active flags, then the mask), IFLA_VLAN_EGRESS_QOS, IFLA_VLAN_INGRESS_QOS,
 -- IFLA_VLAN_PROTOCOL
 abbrev pub vlan_table : Table
 vlan_table =
@@ -30,7 +30,7 @@ vlan_table =
     row 4 (Nested false mapping_rows) ∷
     row 5 (One Protocol) ∷ []
 
--- the attribute that a value stands for
+-- the attribute that a value represents
 abbrev pub vlan_means : InfoVlan → AttrValue
 vlan_means (infos.Id id) = Case 1 (Single (Number 2 id))
 vlan_means (infos.Flags flags) = Case 2 (Single (Raw (octets_of 4 (vlan_bits flags.0 ∷ vlan_bits flags.1 ∷ []))))

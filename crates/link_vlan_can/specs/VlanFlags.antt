@@ -1,18 +1,18 @@
--- The flags of a VLAN link: their names and their bits.
+-- The flags of a VLAN device: their names and bits.
 use Rattle.std.specs.Prelude.{◌≡◌, ◌-◌, ◌^◌, ℕ, List, [], ◌∷◌, codes, refl}
 use Rattle.bitflags.specs.Sets.{Row, known_from, known_bits}
 use Rattle.link_vlan_can.specs.declared.vlan_flags.VlanFlags.{VlanFlags}
 
--- the bits of a set
+-- the bits of a set of flags
 abbrev pub vlan_bits : VlanFlags → ℕ
 vlan_bits flags = flags.0
 
--- VLAN_FLAG_REORDER_HDR and the others, and then all bits, under no name
+-- VLAN_FLAG_REORDER_HDR and the other flags, then an unnamed flag with all bits
 abbrev pub vlan_flags : List Row
 vlan_flags = (codes "ReorderHdr", 1) ∷ (codes "Gvrp", 2) ∷ (codes "LooseBinding", 4) ∷ (codes "Mvrp", 8)
     ∷ (codes "BridgeBinding", 16) ∷ ([], 2 ^ 32 - 1) ∷ []
 
--- so every bit is known
+-- every bit is known
 pub every_vlan_bit : known_bits vlan_flags ≡ 2 ^ 32 - 1
 unfolding known_from
 every_vlan_bit = refl

@@ -1,4 +1,4 @@
-//! The attributes of a CAN controller (`IFLA_INFO_DATA` of a link of kind `can`).
+//! CAN controller attributes (`IFLA_INFO_DATA` of a link whose `IFLA_INFO_KIND` is `can`).
 
 ghost use Rattle.link_vlan_can.specs.Can.{can_table, can_means};
 
@@ -49,49 +49,55 @@ const IFLA_CAN_TDC: u16 = 16;
 
 const IFLA_CAN_CTRLMODE_EXT: u16 = 17;
 
-/// An attribute of a CAN controller (`IFLA_CAN_*`, `include/uapi/linux/can/netlink.h`).
+/// A CAN controller attribute (`IFLA_CAN_*`, `include/uapi/linux/can/netlink.h`).
+///
+/// Attributes marked read-only are reported by the kernel and cannot be set; those marked write-only can be set and are
+/// not reported.
 #[derive(Debug, PartialEq, Eq, Drop)]
 pub enum InfoCan {
-    /// The bit timing; of the arbitration phase where the controller has CAN FD (`IFLA_CAN_BITTIMING`, 32 bytes).
+    /// Bit timing; with CAN FD, that of the arbitration phase (`IFLA_CAN_BITTIMING`, `struct can_bittiming`).
     BitTiming(CanBitTiming),
-    /// The limits of the bit timing, and the controller's name (`IFLA_CAN_BITTIMING_CONST`, 48 bytes).
+    /// Limits of the bit timing, and the controller's name (`IFLA_CAN_BITTIMING_CONST`, `struct can_bittiming_const`,
+    /// read-only).
     BitTimingConst(CanBitTimingConst),
-    /// The clock (`IFLA_CAN_CLOCK`, four bytes).
+    /// Clock (`IFLA_CAN_CLOCK`, `struct can_clock`, read-only).
     Clock(CanClock),
-    /// The state: 0 error active, 1 error warning, 2 error passive, 3 bus-off, 4 stopped, 5 sleeping
-    /// (`IFLA_CAN_STATE`, `enum can_state`, four bytes).
+    /// State: 0 error active, 1 error warning, 2 error passive, 3 bus-off, 4 stopped, 5 sleeping (`IFLA_CAN_STATE`,
+    /// `enum can_state`, `u32`, read-only).
     State(u32),
-    /// The modes (`IFLA_CAN_CTRLMODE`, eight bytes).
+    /// Modes (`IFLA_CAN_CTRLMODE`, `struct can_ctrlmode`).
     CtrlMode(CanCtrlMode),
-    /// How long after bus-off the controller is restarted, in milliseconds; 0 for never
-    /// (`IFLA_CAN_RESTART_MS`, four bytes).
+    /// Delay between bus-off and the automatic restart of the controller, in milliseconds; 0 disables the restart
+    /// (`IFLA_CAN_RESTART_MS`, `u32`).
     RestartMs(u32),
-    /// A request to restart the controller now (`IFLA_CAN_RESTART`, four bytes).
+    /// Request to restart the controller now (`IFLA_CAN_RESTART`, `u32`, write-only).
     Restart(u32),
-    /// The error counters (`IFLA_CAN_BERR_COUNTER`, four bytes).
+    /// Error counters (`IFLA_CAN_BERR_COUNTER`, `struct can_berr_counter`, read-only).
     BerrCounter(CanBerrCounter),
-    /// The bit timing of the data phase of CAN FD (`IFLA_CAN_DATA_BITTIMING`, 32 bytes).
+    /// Bit timing of the CAN FD data phase (`IFLA_CAN_DATA_BITTIMING`, `struct can_bittiming`).
     DataBitTiming(CanBitTiming),
-    /// The limits of that timing, and the controller's name (`IFLA_CAN_DATA_BITTIMING_CONST`, 48 bytes).
+    /// Limits of the bit timing of the CAN FD data phase, and the controller's name (`IFLA_CAN_DATA_BITTIMING_CONST`,
+    /// `struct can_bittiming_const`, read-only).
     DataBitTimingConst(CanBitTimingConst),
-    /// The resistance of the bus termination, in ohms; 0 for none (`IFLA_CAN_TERMINATION`, two bytes).
+    /// Resistance of the bus termination, in ohms; 0 for none (`IFLA_CAN_TERMINATION`, `u16`).
     Termination(u16),
-    /// The resistances that the bus termination can be set to, in ohms; 0 for none (`IFLA_CAN_TERMINATION_CONST`, two
-    /// bytes each).
+    /// Supported resistances of the bus termination, in ohms; 0 for none (`IFLA_CAN_TERMINATION_CONST`, array of
+    /// `u16`s, read-only).
     TerminationConst(Vec<u16>),
-    /// The bit rates that the controller can be set to, in bits per second; of the arbitration phase where it has CAN
-    /// FD (`IFLA_CAN_BITRATE_CONST`, four bytes each).
+    /// Supported bit rates, in bits per second; with CAN FD, those of the arbitration phase (`IFLA_CAN_BITRATE_CONST`,
+    /// array of `u32`s, read-only).
     BitrateConst(Vec<u32>),
-    /// The bit rates that the data phase of CAN FD can be set to, in bits per second (`IFLA_CAN_DATA_BITRATE_CONST`,
-    /// four bytes each).
+    /// Supported bit rates of the CAN FD data phase, in bits per second (`IFLA_CAN_DATA_BITRATE_CONST`, array of
+    /// `u32`s, read-only).
     DataBitrateConst(Vec<u32>),
-    /// The maximum bit rate of the transceiver, in bits per second (`IFLA_CAN_BITRATE_MAX`, four bytes).
+    /// Maximum bit rate of the transceiver, in bits per second (`IFLA_CAN_BITRATE_MAX`, `u32`, read-only).
     BitrateMax(u32),
-    /// The transmitter delay compensation of CAN FD (`IFLA_CAN_TDC`, a list that is written with `NLA_F_NESTED`).
+    /// Transmitter delay compensation of CAN FD (`IFLA_CAN_TDC`, a nested list, written with `NLA_F_NESTED`).
     Tdc(Vec<CanTdc>),
-    /// What the controller says of its modes (`IFLA_CAN_CTRLMODE_EXT`, a list that is written with `NLA_F_NESTED`).
+    /// Information about the controller's modes (`IFLA_CAN_CTRLMODE_EXT`, a nested list, written with `NLA_F_NESTED`,
+    /// read-only).
     CtrlModeExt(Vec<CanCtrlModeExt>),
-    /// An attribute of any other kind.
+    /// An attribute of any other type.
     Other(DefaultNla),
 }
 

@@ -3,62 +3,62 @@
 use bitflags::{Flag, Flags};
 use link_base::flag_laws::{FlagSet, KnownBits};
 
-/// Modes of a CAN controller (`CAN_CTRLMODE_*`, `include/uapi/linux/can/netlink.h`). Bits without a name are kept.
+/// Modes of a CAN controller (`CAN_CTRLMODE_*`, `include/uapi/linux/can/netlink.h`). Unnamed bits are kept.
 #[derive(Clone, Copy, Debug, PartialEq, Eq, Hash)]
 pub struct CanCtrlModeFlags(u32);
 
 impl CanCtrlModeFlags {
-    /// Sent frames are received again by the controller itself (`CAN_CTRLMODE_LOOPBACK`).
+    /// The controller receives the frames that it sends (`CAN_CTRLMODE_LOOPBACK`).
     pub const Loopback: CanCtrlModeFlags = CanCtrlModeFlags(0x1);
 
-    /// The controller listens and sends nothing, not even acknowledgements (`CAN_CTRLMODE_LISTENONLY`).
+    /// The controller only listens; it sends nothing, not even acknowledgements (`CAN_CTRLMODE_LISTENONLY`).
     pub const ListenOnly: CanCtrlModeFlags = CanCtrlModeFlags(0x2);
 
     /// Each bit is sampled three times (`CAN_CTRLMODE_3_SAMPLES`).
     pub const TripleSampling: CanCtrlModeFlags = CanCtrlModeFlags(0x4);
 
-    /// A frame is sent once, and not again where sending fails (`CAN_CTRLMODE_ONE_SHOT`).
+    /// A frame is sent only once, even if sending fails (`CAN_CTRLMODE_ONE_SHOT`).
     pub const OneShot: CanCtrlModeFlags = CanCtrlModeFlags(0x8);
 
     /// Errors on the bus are reported (`CAN_CTRLMODE_BERR_REPORTING`).
     pub const BerrReporting: CanCtrlModeFlags = CanCtrlModeFlags(0x10);
 
-    /// CAN with flexible data rate, CAN FD, is on (`CAN_CTRLMODE_FD`).
+    /// CAN with flexible data rate (CAN FD) is on (`CAN_CTRLMODE_FD`).
     pub const Fd: CanCtrlModeFlags = CanCtrlModeFlags(0x20);
 
-    /// A frame counts as sent without an acknowledgement (`CAN_CTRLMODE_PRESUME_ACK`).
+    /// A frame is considered sent even if it is not acknowledged (`CAN_CTRLMODE_PRESUME_ACK`).
     pub const PresumeAck: CanCtrlModeFlags = CanCtrlModeFlags(0x40);
 
-    /// CAN FD has the form from before ISO 11898-1:2015 (`CAN_CTRLMODE_FD_NON_ISO`).
+    /// CAN FD uses the format that preceded ISO 11898-1:2015 (`CAN_CTRLMODE_FD_NON_ISO`).
     pub const FdNonIso: CanCtrlModeFlags = CanCtrlModeFlags(0x80);
 
     /// Classical CAN frames keep length codes above 8 (`CAN_CTRLMODE_CC_LEN8_DLC`).
     pub const CcLen8Dlc: CanCtrlModeFlags = CanCtrlModeFlags(0x100);
 
-    /// The delay that CAN FD compensates is measured by the transceiver (`CAN_CTRLMODE_TDC_AUTO`).
+    /// The CAN FD delay to compensate is measured by the transceiver (`CAN_CTRLMODE_TDC_AUTO`).
     pub const TdcAuto: CanCtrlModeFlags = CanCtrlModeFlags(0x200);
 
-    /// The delay that CAN FD compensates is set by the user (`CAN_CTRLMODE_TDC_MANUAL`).
+    /// The CAN FD delay to compensate is set by the user (`CAN_CTRLMODE_TDC_MANUAL`).
     pub const TdcManual: CanCtrlModeFlags = CanCtrlModeFlags(0x400);
 
-    /// The controller is in restricted operation mode: it acknowledges frames, and sends none of its own
+    /// The controller is in restricted operation mode: it acknowledges frames but does not send its own
     /// (`CAN_CTRLMODE_RESTRICTED`).
     pub const Restricted: CanCtrlModeFlags = CanCtrlModeFlags(0x800);
 
-    /// CAN with extended data field length, CAN XL, is on (`CAN_CTRLMODE_XL`).
+    /// CAN with extended data field length (CAN XL) is on (`CAN_CTRLMODE_XL`).
     pub const Xl: CanCtrlModeFlags = CanCtrlModeFlags(0x1000);
 
-    /// The delay that CAN XL compensates is measured by the transceiver (`CAN_CTRLMODE_XL_TDC_AUTO`).
+    /// The CAN XL delay to compensate is measured by the transceiver (`CAN_CTRLMODE_XL_TDC_AUTO`).
     pub const XlTdcAuto: CanCtrlModeFlags = CanCtrlModeFlags(0x2000);
 
-    /// The delay that CAN XL compensates is set by the user (`CAN_CTRLMODE_XL_TDC_MANUAL`).
+    /// The CAN XL delay to compensate is set by the user (`CAN_CTRLMODE_XL_TDC_MANUAL`).
     pub const XlTdcManual: CanCtrlModeFlags = CanCtrlModeFlags(0x4000);
 
-    /// The transceiver of CAN XL switches its mode (`CAN_CTRLMODE_XL_TMS`).
+    /// CAN XL transceiver mode switching is on (`CAN_CTRLMODE_XL_TMS`).
     pub const XlTms: CanCtrlModeFlags = CanCtrlModeFlags(0x8000);
 }
 
-/// The named flags, and one without a name that has every bit, so that every bit is known.
+/// The named flags, and an unnamed one with all bits, so that every bit is known.
 const FLAGS: [Flag<CanCtrlModeFlags>; 17] = [
     Flag {
         name: "Loopback",

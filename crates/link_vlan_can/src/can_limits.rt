@@ -1,4 +1,4 @@
-//! The limits of a CAN controller's bit timing, with the controller's name.
+//! The bit timing limits of a CAN controller, with the controller's name.
 
 ghost use Rattle.std.specs.Prelude.{◌≡◌, ◌≤◌, [], length, take, drop, IfOk, IsTrue, string_bytes};
 ghost use Rattle.link_base.specs.Name.{name_of, name_field};
@@ -10,43 +10,48 @@ use bstr::ByteSlice;
 use link_base::{DecodeError, check_at_least, emit_u32s, u32s_at};
 use std::alloc::{AllocError, Global};
 
-/// The bytes of a name field.
+/// Length of a name field, in bytes.
 const NAME: usize = 16;
 
-/// The limits of a CAN controller's bit timing (`struct can_bittiming_const`, `include/uapi/linux/can/netlink.h`): a
-/// name field of 16 bytes, and eight numbers of four bytes. A longer payload is read too, and what follows is ignored.
+/// The bit timing limits of a CAN controller (`struct can_bittiming_const`, `include/uapi/linux/can/netlink.h`): a name
+/// field of 16 bytes, then eight `u32`s. Payloads may be longer; the additional bytes are ignored.
 #[derive(Debug, PartialEq, Eq, Drop)]
 pub struct CanBitTimingConst {
-    /// The name of the controller. It is read as the text of the bytes before the first NUL, or of all 16, with U+FFFD
-    /// for each maximal part that is no UTF-8, and written as its first 15 bytes, and zeros up to 16.
+    /// Name of the controller. The bytes before the first NUL, or all 16 if there is none, are decoded as UTF-8 with
+    /// U+FFFD in place of each maximal invalid part. Writing truncates the name to 15 bytes and fills the field with
+    /// zeros.
     pub name: String,
-    /// The minimum sum of the propagation segment and the first phase buffer segment, in time quanta.
+    /// Minimum sum of the propagation segment and the first phase buffer segment, in time quanta.
     pub tseg1_min: u32,
-    /// The maximum such sum, in time quanta.
+    /// Maximum sum of the propagation segment and the first phase buffer segment, in time quanta.
     pub tseg1_max: u32,
-    /// The minimum second phase buffer segment, in time quanta.
+    /// Minimum second phase buffer segment, in time quanta.
     pub tseg2_min: u32,
-    /// The maximum second phase buffer segment, in time quanta.
+    /// Maximum second phase buffer segment, in time quanta.
     pub tseg2_max: u32,
-    /// The maximum synchronisation jump width, in time quanta.
+    /// Maximum synchronization jump width, in time quanta.
     pub sjw_max: u32,
-    /// The minimum prescaler of the bit rate.
+    /// Minimum bit rate prescaler.
     pub brp_min: u32,
-    /// The maximum prescaler of the bit rate.
+    /// Maximum bit rate prescaler.
     pub brp_max: u32,
-    /// The step from one prescaler to the next.
+    /// Increment between prescalers.
     pub brp_inc: u32,
 }
 
 impl CanBitTimingConst {
-    /// Limits with this name, all numbers zero. Fails where allocation failed.
+    /// Returns limits with this name and all numbers 0.
+    ///
+    /// # Errors
+    ///
+    /// `AllocError` if an allocation fails.
     pub fn new(alloc: Global, name: &str) -> Result<Self, AllocError>
         ensures { IfOk result (λ limits. limits_view limits ≡ limits_with name.now) }
     {
         Ok(Self::named(String::from_str(alloc, name)?))
     }
 
-    /// Limits with no name, all numbers zero. It takes no memory.
+    /// Returns limits with an empty name and all numbers 0. Does not allocate.
     pub fn empty(alloc: Global) -> Self
         ensures { limits_view result ≡ limits_with [] }
     {
@@ -69,7 +74,11 @@ impl CanBitTimingConst {
         }
     }
 
-    /// An equal value. Fails where allocation failed.
+    /// Returns an equal value.
+    ///
+    /// # Errors
+    ///
+    /// `AllocError` if an allocation fails.
     pub fn try_clone(&self, alloc: Global) -> Result<Self, AllocError>
         ensures copy { IfOk result (λ limits. limits_view limits ≡ limits_view self.now) }
         ensures equal { IfOk result (λ limits. IsTrue (⟦<CanBitTimingConst as PartialEq>⟧.eq limits self.now)) }
@@ -140,7 +149,11 @@ impl CanBitTimingConst {
     }
 }
 
-/// The text before the first NUL, or all of it.
+/// Decodes the bytes of a field before the first NUL, or all of them if there is none.
+///
+/// # Errors
+///
+/// `AllocError` if an allocation fails.
 fn read_name(alloc: Global, field: &[u8]) -> Result<String, AllocError>
     ensures { IfOk result (λ name. string_bytes name ≡ name_of field.now) }
 {

@@ -1,4 +1,4 @@
-//! What a CAN controller says of its modes.
+//! Information about the modes of a CAN controller.
 
 ghost use Rattle.std.specs.Prelude.{refl, true};
 ghost use Rattle.link_base.specs.Lift.{lift, lift_table};
@@ -18,9 +18,9 @@ const IFLA_CAN_CTRLMODE_SUPPORTED: u16 = 1;
 /// An attribute of the modes of a CAN controller (`IFLA_CAN_CTRLMODE_*`, `include/uapi/linux/can/netlink.h`).
 #[derive(Debug, PartialEq, Eq, Drop)]
 pub enum CanCtrlModeExt {
-    /// The modes that the controller supports (`IFLA_CAN_CTRLMODE_SUPPORTED`, four bytes).
+    /// The modes that the controller supports (`IFLA_CAN_CTRLMODE_SUPPORTED`, `u32`, read-only).
     Supported(CanCtrlModeFlags),
-    /// An attribute of any other kind.
+    /// An attribute of any other type.
     Other(DefaultNla),
 }
 

@@ -1,4 +1,4 @@
-//! The records of a CAN controller: structures of the kernel as payloads.
+//! Kernel structs in the payloads of CAN controller attributes.
 
 ghost use Rattle.std.specs.Prelude.{◌≡◌, ◌≤◌, length, take, IfOk};
 ghost use Rattle.link_base.specs.Class.{accepted, AtLeast, Fixed};
@@ -13,30 +13,30 @@ use link_base::{
     DecodeError, check_at_least, check_length, emit_u16, emit_u32s, u16_at, u32_at, u32s_at,
 };
 
-/// The bit timing of a CAN controller (`struct can_bittiming`, `include/uapi/linux/can/netlink.h`): eight numbers of
-/// four bytes. A longer payload is read too, and what follows is ignored.
+/// The bit timing of a CAN controller (`struct can_bittiming`, `include/uapi/linux/can/netlink.h`): eight `u32`s.
+/// Payloads may be longer; the additional bytes are ignored.
 #[derive(Clone, Copy, Debug, Default, PartialEq, Eq)]
 pub struct CanBitTiming {
-    /// The bit rate, in bits per second.
+    /// Bit rate, in bits per second.
     pub bitrate: u32,
-    /// The sample point, in tenths of a percent of a bit.
+    /// Sample point, in tenths of a percent of a bit.
     pub sample_point: u32,
-    /// The time quantum, in nanoseconds.
+    /// Time quantum, in nanoseconds.
     pub tq: u32,
-    /// The propagation segment, in time quanta.
+    /// Propagation segment, in time quanta.
     pub prop_seg: u32,
-    /// The first phase buffer segment, in time quanta.
+    /// First phase buffer segment, in time quanta.
     pub phase_seg1: u32,
-    /// The second phase buffer segment, in time quanta.
+    /// Second phase buffer segment, in time quanta.
     pub phase_seg2: u32,
-    /// The synchronisation jump width, in time quanta.
+    /// Synchronization jump width, in time quanta.
     pub sjw: u32,
-    /// The prescaler of the bit rate: the periods of the controller's clock in a time quantum.
+    /// Bit rate prescaler: the number of controller clock periods in a time quantum.
     pub brp: u32,
 }
 
 impl CanBitTiming {
-    /// The timing of this bit rate, all other numbers zero.
+    /// Returns a timing with this bit rate, in bits per second, and all other fields 0.
     pub fn new(bitrate: u32) -> Self
         ensures { result ≡ timing_with bitrate }
     {
@@ -94,8 +94,8 @@ impl CanBitTiming {
     }
 }
 
-/// The modes of a CAN controller (`struct can_ctrlmode`, `include/uapi/linux/can/netlink.h`): two sets of four bytes.
-/// A longer payload is read too, and what follows is ignored.
+/// The modes of a CAN controller (`struct can_ctrlmode`, `include/uapi/linux/can/netlink.h`): two `u32`s. Payloads may
+/// be longer; the additional bytes are ignored.
 #[derive(Clone, Copy, Debug, PartialEq, Eq)]
 pub struct CanCtrlMode {
     /// The modes that a request changes.
@@ -125,16 +125,16 @@ impl CanCtrlMode {
     }
 }
 
-/// The clock of a CAN controller (`struct can_clock`, `include/uapi/linux/can/netlink.h`): a number of four bytes.
-/// Any other length is refused.
+/// The clock of a CAN controller (`struct can_clock`, `include/uapi/linux/can/netlink.h`): a `u32`. A payload of any
+/// other length is rejected.
 #[derive(Clone, Copy, Debug, Default, PartialEq, Eq)]
 pub struct CanClock {
-    /// The frequency, in hertz.
+    /// Frequency, in hertz.
     pub freq: u32,
 }
 
 impl CanClock {
-    /// The clock of this frequency, in hertz.
+    /// Returns a clock with this frequency, in hertz.
     pub fn new(freq: u32) -> Self
         ensures { result.freq ≡ freq }
     {
@@ -160,14 +160,13 @@ impl CanClock {
     }
 }
 
-/// The error counters of a CAN controller (`struct can_berr_counter`, `include/uapi/linux/can/netlink.h`): an error
-/// raises them, and a frame without error lowers them. Two numbers of two bytes. A longer payload is read too, and what
-/// follows is ignored.
+/// The error counters of a CAN controller (`struct can_berr_counter`, `include/uapi/linux/can/netlink.h`): two `u16`s.
+/// Errors increase them; error-free frames decrease them. Payloads may be longer; the additional bytes are ignored.
 #[derive(Clone, Copy, Debug, PartialEq, Eq)]
 pub struct CanBerrCounter {
-    /// The transmit error counter.
+    /// Transmit error counter.
     pub txerr: u16,
-    /// The receive error counter.
+    /// Receive error counter.
     pub rxerr: u16,
 }
 

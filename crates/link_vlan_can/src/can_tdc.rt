@@ -30,28 +30,30 @@ const IFLA_CAN_TDC_TDCO: u16 = 8;
 const IFLA_CAN_TDC_TDCF: u16 = 9;
 
 /// An attribute of transmitter delay compensation (`IFLA_CAN_TDC_*`, `include/uapi/linux/can/netlink.h`). Each is a
-/// number of four bytes, in periods of the controller's clock.
+/// `u32`, in periods of the controller's clock.
+///
+/// Attributes marked read-only are reported by the kernel and cannot be set.
 #[derive(Debug, PartialEq, Eq, Drop)]
 pub enum CanTdc {
-    /// The minimum value (`IFLA_CAN_TDC_TDCV_MIN`).
+    /// Minimum value (`IFLA_CAN_TDC_TDCV_MIN`, read-only).
     TdcvMin(u32),
-    /// The maximum value (`IFLA_CAN_TDC_TDCV_MAX`).
+    /// Maximum value (`IFLA_CAN_TDC_TDCV_MAX`, read-only).
     TdcvMax(u32),
-    /// The minimum offset (`IFLA_CAN_TDC_TDCO_MIN`).
+    /// Minimum offset (`IFLA_CAN_TDC_TDCO_MIN`, read-only).
     TdcoMin(u32),
-    /// The maximum offset (`IFLA_CAN_TDC_TDCO_MAX`).
+    /// Maximum offset (`IFLA_CAN_TDC_TDCO_MAX`, read-only).
     TdcoMax(u32),
-    /// The minimum filter window (`IFLA_CAN_TDC_TDCF_MIN`).
+    /// Minimum filter window (`IFLA_CAN_TDC_TDCF_MIN`, read-only).
     TdcfMin(u32),
-    /// The maximum filter window (`IFLA_CAN_TDC_TDCF_MAX`).
+    /// Maximum filter window (`IFLA_CAN_TDC_TDCF_MAX`, read-only).
     TdcfMax(u32),
-    /// The value: the delay from the start of a bit as it is sent until its start is received (`IFLA_CAN_TDC_TDCV`).
+    /// Value: the delay between the start of a transmitted bit and the start of its reception (`IFLA_CAN_TDC_TDCV`).
     Tdcv(u32),
-    /// The offset: from the start of a received bit to the place where it is sampled (`IFLA_CAN_TDC_TDCO`).
+    /// Offset: the time from the start of a received bit to its sampling (`IFLA_CAN_TDC_TDCO`).
     Tdco(u32),
-    /// The filter window: the minimum sum of value and offset at which the delay is compensated (`IFLA_CAN_TDC_TDCF`).
+    /// Filter window: the minimum sum of value and offset for which the delay is compensated (`IFLA_CAN_TDC_TDCF`).
     Tdcf(u32),
-    /// An attribute of any other kind.
+    /// An attribute of any other type.
     Other(DefaultNla),
 }
 

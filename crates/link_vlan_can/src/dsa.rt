@@ -1,4 +1,4 @@
-//! The attributes of a DSA port (`IFLA_INFO_DATA` of a link of kind `dsa`).
+//! DSA port attributes (`IFLA_INFO_DATA` of a link whose `IFLA_INFO_KIND` is `dsa`).
 
 ghost use Rattle.link_vlan_can.specs.Dsa.{dsa_table, dsa_means};
 
@@ -11,13 +11,13 @@ use std::alloc::{AllocError, Global};
 /// `IFLA_DSA_CONDUIT`, before Linux 6.7 `IFLA_DSA_MASTER` (`include/uapi/linux/if_link.h`).
 const IFLA_DSA_CONDUIT: u16 = 1;
 
-/// An attribute of a DSA port (`include/uapi/linux/if_link.h`, `IFLA_DSA_*`).
+/// A DSA port attribute (`IFLA_DSA_*`, `include/uapi/linux/if_link.h`).
 #[derive(Debug, PartialEq, Eq, Drop)]
 pub enum InfoDsa {
-    /// The index of the conduit, the network device that carries the port's frames to the processor
-    /// (`IFLA_DSA_CONDUIT`, four bytes).
+    /// Interface index of the conduit, the network device that carries the port's frames to the processor
+    /// (`IFLA_DSA_CONDUIT`, `u32`).
     Conduit(u32),
-    /// An attribute of any other kind.
+    /// An attribute of any other type.
     Other(DefaultNla),
 }
 

@@ -1,4 +1,4 @@
-//! The attributes of an HSR or PRP device (`IFLA_INFO_DATA` of a link of kind `hsr`).
+//! HSR and PRP device attributes (`IFLA_INFO_DATA` of a link whose `IFLA_INFO_KIND` is `hsr`).
 
 ghost use Rattle.std.specs.Prelude.{refl, ◌≡◌, Some};
 ghost use Rattle.link_base.specs.Named.{value_of, number_of, displayed};
@@ -30,7 +30,7 @@ const IFLA_HSR_PROTOCOL: u16 = 7;
 
 const IFLA_HSR_INTERLINK: u16 = 8;
 
-// `HSR_PROTOCOL_*` of the same header
+// `HSR_PROTOCOL_*` from the same header
 const HSR_PROTOCOL_HSR: u8 = 0;
 
 const HSR_PROTOCOL_PRP: u8 = 1;
@@ -38,7 +38,7 @@ const HSR_PROTOCOL_PRP: u8 = 1;
 /// A protocol that sends each frame twice (`HSR_PROTOCOL_*`, `include/uapi/linux/if_link.h`).
 #[derive(Clone, Copy, Debug, PartialEq, Eq)]
 pub enum HsrProtocol {
-    /// High-availability Seamless Redundancy: both ways round a ring (`HSR_PROTOCOL_HSR`, 0).
+    /// High-availability Seamless Redundancy: in both directions around a ring (`HSR_PROTOCOL_HSR`, 0).
     Hsr,
     /// Parallel Redundancy Protocol: over two networks (`HSR_PROTOCOL_PRP`, 1).
     Prp,
@@ -64,7 +64,7 @@ impl NamedNumber for HsrProtocol {
     ghost thorough = { of_cases enum _ _ (Prim.search (thorough_fields)) };
 }
 
-/// The case of a number, `Other` where it has no name.
+/// Converts a number to its variant, or to `Other` if the number has no name.
 impl From<u8> for HsrProtocol {
     ghost from_gives = { λ d p. p ≡ value_of ⟦<HsrProtocol as NamedNumber>⟧.names d };
 
@@ -77,7 +77,7 @@ impl From<u8> for HsrProtocol {
     }
 }
 
-/// The number of a case.
+/// Converts a variant to its number.
 impl From<HsrProtocol> for u8 {
     ghost from_gives = { λ p d. d ≡ number_of (⟦<HsrProtocol as NamedNumber>⟧.seen p) };
 
@@ -90,7 +90,7 @@ impl From<HsrProtocol> for u8 {
     }
 }
 
-/// `hsr`, `prp`, or the number.
+/// Writes the variant's name, such as `hsr`, or the number in decimal for `Other`.
 impl fmt::Display for HsrProtocol {
     ghost output = { λ p. Some (displayed ⟦<HsrProtocol as NamedNumber>⟧.names
         (⟦<HsrProtocol as NamedNumber>⟧.seen p)) };
@@ -104,26 +104,28 @@ impl fmt::Display for HsrProtocol {
     }
 }
 
-/// An attribute of an HSR or PRP device (`IFLA_HSR_*`, `include/uapi/linux/if_link.h`).
+/// An HSR or PRP device attribute (`IFLA_HSR_*`, `include/uapi/linux/if_link.h`).
+///
+/// Attributes marked read-only are reported by the kernel and cannot be set.
 #[derive(Debug, PartialEq, Eq, Drop)]
 pub enum InfoHsr {
-    /// The index of the first port, a network device (`IFLA_HSR_SLAVE1`, four bytes).
+    /// Interface index of the first port (`IFLA_HSR_SLAVE1`, `u32`).
     Port1(u32),
-    /// The index of the second port (`IFLA_HSR_SLAVE2`, four bytes).
+    /// Interface index of the second port (`IFLA_HSR_SLAVE2`, `u32`).
     Port2(u32),
-    /// The last octet of the multicast address of supervision frames (`IFLA_HSR_MULTICAST_SPEC`, one byte).
+    /// Last octet of the multicast address of supervision frames (`IFLA_HSR_MULTICAST_SPEC`, `u8`).
     MulticastSpec(u8),
-    /// The hardware address that supervision frames go to (`IFLA_HSR_SUPERVISION_ADDR`, six octets).
+    /// Destination address of supervision frames (`IFLA_HSR_SUPERVISION_ADDR`, `[u8; 6]`, read-only).
     SupervisionAddr([u8; 6]),
-    /// The sequence number of the next frame (`IFLA_HSR_SEQ_NR`, two bytes).
+    /// Sequence number of the next frame (`IFLA_HSR_SEQ_NR`, `u16`, read-only).
     SeqNr(u16),
-    /// The version of HSR: 0 for that of 2010, 1 for that of 2012 (`IFLA_HSR_VERSION`, one byte).
+    /// HSR version: 0 for HSR of 2010, 1 for HSR of 2012 (`IFLA_HSR_VERSION`, `u8`).
     Version(u8),
-    /// The protocol, HSR or PRP (`IFLA_HSR_PROTOCOL`, one byte).
+    /// Protocol, HSR or PRP (`IFLA_HSR_PROTOCOL`, `u8`).
     Protocol(HsrProtocol),
-    /// The index of the port that joins the ring to another network (`IFLA_HSR_INTERLINK`, four bytes).
+    /// Interface index of the port that connects the ring to another network (`IFLA_HSR_INTERLINK`, `u32`).
     Interlink(u32),
-    /// An attribute of any other kind.
+    /// An attribute of any other type.
     Other(DefaultNla),
 }
 

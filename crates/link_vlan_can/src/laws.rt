@@ -1,4 +1,5 @@
-//! The bits of the named flags, and the two editions of the table of CAN controllers. Nothing here runs.
+//! Theorems about the bits of the named flags, and the two versions of the CAN controller table. The functions have
+//! empty bodies.
 
 ghost use Rattle.std.specs.Prelude.{◌≡◌};
 ghost use Rattle.link_base.specs.Editions.{AreEditions};
@@ -11,7 +12,7 @@ use crate::can_flags::CanCtrlModeFlags;
 use crate::vlan_flags::VlanFlags;
 use link_base::Meaning;
 
-/// The bits of the flags of a VLAN link (`VLAN_FLAG_*`, `include/uapi/linux/if_vlan.h`).
+/// Proves which bits the flags of a VLAN device have (`VLAN_FLAG_*`, `include/uapi/linux/if_vlan.h`).
 pub fn vlan_flag_bits()
     ensures reorder_hdr { vlan_bits VlanFlags.ReorderHdr ≡ 0x1 }
     ensures gvrp { vlan_bits VlanFlags.Gvrp ≡ 0x2 }
@@ -20,7 +21,7 @@ pub fn vlan_flag_bits()
     ensures bridge_binding { vlan_bits VlanFlags.BridgeBinding ≡ 0x10 }
 {}
 
-/// The bits of the modes of a CAN controller (`CAN_CTRLMODE_*`, `include/uapi/linux/can/netlink.h`).
+/// Proves which bits the modes of a CAN controller have (`CAN_CTRLMODE_*`, `include/uapi/linux/can/netlink.h`).
 pub fn can_mode_bits()
     ensures loopback { mode_bits CanCtrlModeFlags.Loopback ≡ 0x1 }
     ensures listen_only { mode_bits CanCtrlModeFlags.ListenOnly ≡ 0x2 }
@@ -40,10 +41,10 @@ pub fn can_mode_bits()
     ensures xl_tms { mode_bits CanCtrlModeFlags.XlTms ≡ 0x8000 }
 {}
 
-/// The two editions of the table of CAN controllers: the second adds the kinds 12, 13 and 14,
-/// `IFLA_CAN_TERMINATION_CONST`, `IFLA_CAN_BITRATE_CONST` and `IFLA_CAN_DATA_BITRATE_CONST`. A string without a frame
-/// of these kinds, before its first frame fault if it has one, has the same values or the same first fault in both, and
-/// is canonical in both or in neither.
+/// Proves how the two versions of the CAN controller table are related. The second adds attribute types 12, 13 and 14:
+/// `IFLA_CAN_TERMINATION_CONST`, `IFLA_CAN_BITRATE_CONST` and `IFLA_CAN_DATA_BITRATE_CONST`. If the input has no
+/// attribute of these types before its first framing error, if any, then both versions give the same values or the same
+/// first error, and the input is canonical in both or in neither.
 pub fn profiles()
     ensures { AreEditions can_added can_table_first ⟦<InfoCan as Meaning>⟧.table }
 {}

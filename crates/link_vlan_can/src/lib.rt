@@ -1,4 +1,4 @@
-//! The link attributes of VLANs, CAN controllers, and DSA and HSR devices.
+//! Link attributes of VLAN devices, CAN controllers, DSA ports, and HSR and PRP devices.
 #![tactic(auto)]
 
 mod can;

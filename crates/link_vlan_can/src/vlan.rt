@@ -1,4 +1,4 @@
-//! The attributes of a VLAN device (`IFLA_INFO_DATA` of a link of kind `vlan`).
+//! VLAN device attributes (`IFLA_INFO_DATA` of a link whose `IFLA_INFO_KIND` is `vlan`).
 
 ghost use Rattle.std.specs.Prelude.{refl, false};
 ghost use Rattle.link_base.proofs.TableLaws.{lawful};
@@ -33,11 +33,10 @@ const IFLA_VLAN_QOS_MAPPING: u16 = 1;
 /// An element of a list of priority mappings (`IFLA_VLAN_QOS_MAPPING`, `include/uapi/linux/if_link.h`).
 #[derive(Debug, PartialEq, Eq, Drop)]
 pub enum VlanQosMapping {
-    /// From one priority to another: in `EgressQos` from that of a packet to that of its tag, in `IngressQos` from that
-    /// of a tag to that of its packet (`struct ifla_vlan_qos_mapping`, two numbers of four bytes). A tag's priority is
-    /// 0 to 7.
+    /// Maps the first priority to the second: in `EgressQos` a packet priority to a tag priority, in `IngressQos` a tag
+    /// priority to a packet priority (`struct ifla_vlan_qos_mapping`, two `u32`s). Tag priorities are 0 to 7.
     Mapping(u32, u32),
-    /// An element of any other kind.
+    /// An element of any other type.
     Other(DefaultNla),
 }
 
@@ -125,21 +124,21 @@ impl NestedAttribute for VlanQosMapping {
     ghost same_means = { λ _. refl };
 }
 
-/// An attribute of a VLAN device (`IFLA_VLAN_*`, `include/uapi/linux/if_link.h`).
+/// A VLAN device attribute (`IFLA_VLAN_*`, `include/uapi/linux/if_link.h`).
 #[derive(Debug, PartialEq, Eq, Drop)]
 pub enum InfoVlan {
-    /// The VLAN identifier, 0 to 4094 where it is valid (`IFLA_VLAN_ID`, two bytes).
+    /// VLAN ID; valid ones are 0 to 4094 (`IFLA_VLAN_ID`, `u16`).
     Id(u16),
-    /// The flags that are on, and the mask: those that a request changes, all where the kernel reports
-    /// (`IFLA_VLAN_FLAGS`, `struct ifla_vlan_flags`, two numbers of four bytes).
+    /// The flags that are on, and the mask: in a request, the flags to change; in a report, all bits
+    /// (`IFLA_VLAN_FLAGS`, `struct ifla_vlan_flags`, two `u32`s).
     Flags((VlanFlags, VlanFlags)),
-    /// How the priority of a packet becomes that of its tag when it is sent (`IFLA_VLAN_EGRESS_QOS`, a list).
+    /// How packet priorities are mapped to tag priorities on transmission (`IFLA_VLAN_EGRESS_QOS`, a nested list).
     EgressQos(Vec<VlanQosMapping>),
-    /// How the priority of a tag becomes that of its packet when it is received (`IFLA_VLAN_INGRESS_QOS`, a list).
+    /// How tag priorities are mapped to packet priorities on reception (`IFLA_VLAN_INGRESS_QOS`, a nested list).
     IngressQos(Vec<VlanQosMapping>),
-    /// The protocol of the tag (`IFLA_VLAN_PROTOCOL`, two bytes in network byte order).
+    /// Tag protocol (`IFLA_VLAN_PROTOCOL`, `u16`, big-endian).
     Protocol(VlanProtocol),
-    /// An attribute of any other kind.
+    /// An attribute of any other type.
     Other(DefaultNla),
 }
 

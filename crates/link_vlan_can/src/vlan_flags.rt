@@ -1,31 +1,31 @@
-//! The flags of a VLAN link.
+//! The flags of a VLAN device.
 
 use bitflags::{Flag, Flags};
 use link_base::flag_laws::{FlagSet, KnownBits};
 
-/// Flags of a VLAN link (`include/uapi/linux/if_vlan.h`). Bits without a name are kept.
+/// Flags of a VLAN device (`VLAN_FLAG_*`, `include/uapi/linux/if_vlan.h`). Unnamed bits are kept.
 #[derive(Clone, Copy, Debug, PartialEq, Eq, Hash)]
 pub struct VlanFlags(u32);
 
 impl VlanFlags {
-    /// Headers of received frames are reordered, so that they look like those of a device without VLANs
+    /// Headers of received frames are reordered so that they look like those of a device without VLANs
     /// (`VLAN_FLAG_REORDER_HDR`).
     pub const ReorderHdr: VlanFlags = VlanFlags(0x1);
 
-    /// The device announces its VLAN to switches by GVRP (`VLAN_FLAG_GVRP`).
+    /// The device registers its VLAN with switches by GVRP (`VLAN_FLAG_GVRP`).
     pub const Gvrp: VlanFlags = VlanFlags(0x2);
 
-    /// The state of the link does not follow that of the device under it (`VLAN_FLAG_LOOSE_BINDING`).
+    /// The link state does not follow that of the underlying device (`VLAN_FLAG_LOOSE_BINDING`).
     pub const LooseBinding: VlanFlags = VlanFlags(0x4);
 
-    /// The device announces its VLAN to switches by MVRP (`VLAN_FLAG_MVRP`).
+    /// The device registers its VLAN with switches by MVRP (`VLAN_FLAG_MVRP`).
     pub const Mvrp: VlanFlags = VlanFlags(0x8);
 
-    /// The state of the link follows that of the bridge ports in the VLAN (`VLAN_FLAG_BRIDGE_BINDING`).
+    /// The link state follows that of the bridge ports in the VLAN (`VLAN_FLAG_BRIDGE_BINDING`).
     pub const BridgeBinding: VlanFlags = VlanFlags(0x10);
 }
 
-/// The named flags, and one without a name that has every bit, so that every bit is known.
+/// The named flags, and an unnamed one with all bits, so that every bit is known.
 const FLAGS: [Flag<VlanFlags>; 6] = [
     Flag {
         name: "ReorderHdr",

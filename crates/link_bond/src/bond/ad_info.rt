@@ -21,21 +21,21 @@ const IFLA_BOND_AD_INFO_PARTNER_KEY: u16 = 4;
 
 const IFLA_BOND_AD_INFO_PARTNER_MAC: u16 = 5;
 
-/// What the kernel tells of the active aggregator of a bond in the mode `Ieee8023Ad` (`IFLA_BOND_AD_INFO_*`,
-/// `include/uapi/linux/if_link.h`).
+/// An attribute of the active aggregator, which the kernel reports for a bond in mode `Ieee8023Ad`
+/// (`IFLA_BOND_AD_INFO_*`, `include/uapi/linux/if_link.h`). All are read-only.
 #[derive(Debug, PartialEq, Eq, Drop)]
 pub enum BondAdInfo {
-    /// The identifier of the aggregator (`IFLA_BOND_AD_INFO_AGGREGATOR`, two bytes).
+    /// ID of the aggregator (`IFLA_BOND_AD_INFO_AGGREGATOR`, `u16`).
     Aggregator(u16),
-    /// The number of its ports (`IFLA_BOND_AD_INFO_NUM_PORTS`, two bytes).
+    /// Number of ports of the aggregator (`IFLA_BOND_AD_INFO_NUM_PORTS`, `u16`).
     NumPorts(u16),
-    /// The key of the LACP actor, which is this side (`IFLA_BOND_AD_INFO_ACTOR_KEY`, two bytes).
+    /// Key of the LACP actor, which is this side (`IFLA_BOND_AD_INFO_ACTOR_KEY`, `u16`).
     ActorKey(u16),
-    /// The key of the LACP partner (`IFLA_BOND_AD_INFO_PARTNER_KEY`, two bytes).
+    /// Key of the LACP partner (`IFLA_BOND_AD_INFO_PARTNER_KEY`, `u16`).
     PartnerKey(u16),
-    /// The hardware address of the LACP partner's system (`IFLA_BOND_AD_INFO_PARTNER_MAC`, six octets).
+    /// Hardware address of the LACP partner's system (`IFLA_BOND_AD_INFO_PARTNER_MAC`, `[u8; 6]`).
     PartnerMac([u8; 6]),
-    /// An element of any other kind.
+    /// An element of any other type.
     Other(DefaultNla),
 }
 

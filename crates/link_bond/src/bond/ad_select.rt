@@ -16,17 +16,17 @@ const BOND_AD_COUNT: u8 = 2;
 
 const BOND_AD_PRIO: u8 = 3;
 
-/// How the active aggregator is chosen in the mode `Ieee8023Ad` (`BOND_AD_*`, `include/net/bond_3ad.h`).
+/// Which aggregator is chosen as the active one, in mode `Ieee8023Ad` (`BOND_AD_*`, `include/net/bond_3ad.h`).
 #[derive(Clone, Copy, Debug, PartialEq, Eq)]
 pub enum BondAdSelect {
-    /// That of the maximum bandwidth; chosen anew only when all its ports are down, or it has none (`BOND_AD_STABLE`,
-    /// 0).
+    /// The one with the highest bandwidth. It is reselected only if all its ports are down or it has no ports
+    /// (`BOND_AD_STABLE`, 0).
     Stable,
-    /// That of the maximum bandwidth; chosen anew whenever a port or a link changes (`BOND_AD_BANDWIDTH`, 1).
+    /// The one with the highest bandwidth. It is reselected whenever a port or a link changes (`BOND_AD_BANDWIDTH`, 1).
     Bandwidth,
-    /// That of the most ports; chosen anew whenever a port or a link changes (`BOND_AD_COUNT`, 2).
+    /// The one with the most ports. It is reselected whenever a port or a link changes (`BOND_AD_COUNT`, 2).
     Count,
-    /// That of the highest total of the priorities (`ActorPortPrio`) of its active ports; chosen anew whenever a port
+    /// The one with the highest sum of priorities (`ActorPortPrio`) of active ports. It is reselected whenever a port
     /// or a link changes (`BOND_AD_PRIO`, 3).
     ActorPortPrio,
     /// Any other number.
@@ -53,7 +53,7 @@ impl NamedNumber for BondAdSelect {
     ghost thorough = { of_cases enum _ _ (Prim.search (thorough_fields)) };
 }
 
-/// The case of a number, `Other` where it has no name.
+/// Converts a number to its variant, or to `Other` if the number has no name.
 impl From<u8> for BondAdSelect {
     ghost from_gives = { λ d v. v ≡ value_of ⟦<BondAdSelect as NamedNumber>⟧.names d };
 
@@ -68,7 +68,7 @@ impl From<u8> for BondAdSelect {
     }
 }
 
-/// The number of a case.
+/// Converts a variant to its number.
 impl From<BondAdSelect> for u8 {
     ghost from_gives = { λ v d. d ≡ number_of (⟦<BondAdSelect as NamedNumber>⟧.seen v) };
 
@@ -83,7 +83,7 @@ impl From<BondAdSelect> for u8 {
     }
 }
 
-/// The name, as `stable`; `unknown-variant (9)` for a number without one.
+/// Writes the variant's name, such as `stable`, or `unknown-variant (n)` for `Other(n)`.
 impl fmt::Display for BondAdSelect {
     ghost output = { λ v. Some (displayed ⟦<BondAdSelect as NamedNumber>⟧.names
         (⟦<BondAdSelect as NamedNumber>⟧.seen v)) };
@@ -99,7 +99,11 @@ impl fmt::Display for BondAdSelect {
     }
 }
 
-/// Reads a displayed name, or the number of one as a digit. Fails with `Text` for every other text.
+/// Parses a variant's name, as `Display` writes it, or its number, as one digit.
+///
+/// # Errors
+///
+/// `Text` for any other input.
 impl FromStr for BondAdSelect {
     type Err = DecodeError;
 

@@ -1,4 +1,4 @@
-//! What becomes of frames that arrive at inactive ports of a bond.
+//! What happens to frames received on inactive ports of a bond.
 
 ghost use Rattle.std.specs.Prelude.{refl, ◌≡◌, Some};
 ghost use Rattle.link_base.specs.Named.{value_of, number_of, displayed, ReadsText};
@@ -12,13 +12,13 @@ const DROPPED: u8 = 0;
 
 const DELIVERED: u8 = 1;
 
-/// What becomes of duplicate frames, those that arrive at an inactive port (`IFLA_BOND_ALL_SLAVES_ACTIVE`,
+/// What happens to duplicate frames, those received on an inactive port (`IFLA_BOND_ALL_SLAVES_ACTIVE`,
 /// `include/uapi/linux/if_link.h`).
 #[derive(Clone, Copy, Debug, PartialEq, Eq)]
 pub enum BondAllPortActive {
-    /// They are dropped (0).
+    /// Dropped (0).
     Dropped,
-    /// They are delivered (1).
+    /// Delivered (1).
     Delivered,
     /// Any other number.
     Other(u8),
@@ -44,7 +44,7 @@ impl NamedNumber for BondAllPortActive {
     ghost thorough = { of_cases enum _ _ (Prim.search (thorough_fields)) };
 }
 
-/// The case of a number, `Other` where it has no name.
+/// Converts a number to its variant, or to `Other` if the number has no name.
 impl From<u8> for BondAllPortActive {
     ghost from_gives = { λ d v. v ≡ value_of ⟦<BondAllPortActive as NamedNumber>⟧.names d };
 
@@ -57,7 +57,7 @@ impl From<u8> for BondAllPortActive {
     }
 }
 
-/// The number of a case.
+/// Converts a variant to its number.
 impl From<BondAllPortActive> for u8 {
     ghost from_gives = { λ v d. d ≡ number_of (⟦<BondAllPortActive as NamedNumber>⟧.seen v) };
 
@@ -70,7 +70,7 @@ impl From<BondAllPortActive> for u8 {
     }
 }
 
-/// The name, as `dropped`; the number where it has none.
+/// Writes the variant's name, such as `dropped`, or the number in decimal for `Other`.
 impl fmt::Display for BondAllPortActive {
     ghost output = { λ v. Some (displayed ⟦<BondAllPortActive as NamedNumber>⟧.names
         (⟦<BondAllPortActive as NamedNumber>⟧.seen v)) };
@@ -84,7 +84,11 @@ impl fmt::Display for BondAllPortActive {
     }
 }
 
-/// Reads a displayed name, or the number of one as a digit. Fails with `Text` for every other text.
+/// Parses a variant's name, as `Display` writes it, or its number, as one digit.
+///
+/// # Errors
+///
+/// `Text` for any other input.
 impl FromStr for BondAllPortActive {
     type Err = DecodeError;
 

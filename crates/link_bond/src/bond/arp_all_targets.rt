@@ -1,4 +1,4 @@
-//! How many of the ARP targets of a bond have to be reached.
+//! How many ARP targets a bond port must reach.
 
 ghost use Rattle.std.specs.Prelude.{refl, ◌≡◌, Some};
 ghost use Rattle.link_base.specs.Named.{value_of, number_of, displayed, ReadsText};
@@ -12,12 +12,12 @@ const BOND_ARP_TARGETS_ANY: u32 = 0;
 
 const BOND_ARP_TARGETS_ALL: u32 = 1;
 
-/// How many of the ARP targets a port has to reach to count as up (`BOND_ARP_TARGETS_*`, `include/net/bonding.h`).
+/// How many ARP targets a port must reach to be considered up (`BOND_ARP_TARGETS_*`, `include/net/bonding.h`).
 #[derive(Clone, Copy, Debug, PartialEq, Eq)]
 pub enum BondArpAllTargets {
-    /// One is enough (`BOND_ARP_TARGETS_ANY`, 0).
+    /// At least one (`BOND_ARP_TARGETS_ANY`, 0).
     Any,
-    /// All of them (`BOND_ARP_TARGETS_ALL`, 1).
+    /// All (`BOND_ARP_TARGETS_ALL`, 1).
     All,
     /// Any other number.
     Other(u32),
@@ -43,7 +43,7 @@ impl NamedNumber for BondArpAllTargets {
     ghost thorough = { of_cases enum _ _ (Prim.search (thorough_fields)) };
 }
 
-/// `Any`.
+/// Returns `Any`.
 impl Default for BondArpAllTargets {
     ghost is_default = { λ v. v ≡ value_of ⟦<BondArpAllTargets as NamedNumber>⟧.names 0 };
 
@@ -52,7 +52,7 @@ impl Default for BondArpAllTargets {
     }
 }
 
-/// The case of a number, `Other` where it has no name.
+/// Converts a number to its variant, or to `Other` if the number has no name.
 impl From<u32> for BondArpAllTargets {
     ghost from_gives = { λ d v. v ≡ value_of ⟦<BondArpAllTargets as NamedNumber>⟧.names d };
 
@@ -65,7 +65,7 @@ impl From<u32> for BondArpAllTargets {
     }
 }
 
-/// The number of a case.
+/// Converts a variant to its number.
 impl From<BondArpAllTargets> for u32 {
     ghost from_gives = { λ v d. d ≡ number_of (⟦<BondArpAllTargets as NamedNumber>⟧.seen v) };
 
@@ -78,7 +78,7 @@ impl From<BondArpAllTargets> for u32 {
     }
 }
 
-/// The name, as `any`; `unknown-variant (9)` for a number without one.
+/// Writes the variant's name, such as `any`, or `unknown-variant (n)` for `Other(n)`.
 impl fmt::Display for BondArpAllTargets {
     ghost output = { λ v. Some (displayed ⟦<BondArpAllTargets as NamedNumber>⟧.names
         (⟦<BondArpAllTargets as NamedNumber>⟧.seen v)) };
@@ -92,7 +92,11 @@ impl fmt::Display for BondArpAllTargets {
     }
 }
 
-/// Reads a displayed name, or the number of one as a digit. Fails with `Text` for every other text.
+/// Parses a variant's name, as `Display` writes it, or its number, as one digit.
+///
+/// # Errors
+///
+/// `Text` for any other input.
 impl FromStr for BondArpAllTargets {
     type Err = DecodeError;
 

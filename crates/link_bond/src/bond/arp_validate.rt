@@ -1,4 +1,4 @@
-//! Which ports of a bond check the ARP and neighbour messages that they receive.
+//! Which bond ports validate the ARP and neighbor messages that they receive.
 
 ghost use Rattle.std.specs.Prelude.{refl, ◌≡◌, Some};
 ghost use Rattle.link_base.specs.Named.{value_of, number_of, displayed, ReadsText};
@@ -22,23 +22,23 @@ const BOND_ARP_FILTER_ACTIVE: u32 = 5;
 
 const BOND_ARP_FILTER_BACKUP: u32 = 6;
 
-/// On which ports received ARP and neighbour messages are checked, and whether other traffic counts as a sign of life
+/// Which ports validate received ARP and neighbor messages, and whether other traffic counts as a sign of life
 /// (`BOND_ARP_VALIDATE_*` and `BOND_ARP_FILTER*`, `include/net/bonding.h`).
 #[derive(Clone, Copy, Debug, PartialEq, Eq)]
 pub enum BondArpValidate {
-    /// Nothing is checked, and all traffic counts (`BOND_ARP_VALIDATE_NONE`, 0).
+    /// No validation; all traffic counts (`BOND_ARP_VALIDATE_NONE`, 0).
     None,
-    /// The active port checks (`BOND_ARP_VALIDATE_ACTIVE`, 1).
+    /// The active port validates (`BOND_ARP_VALIDATE_ACTIVE`, 1).
     Active,
-    /// Backup ports check (`BOND_ARP_VALIDATE_BACKUP`, 2).
+    /// Backup ports validate (`BOND_ARP_VALIDATE_BACKUP`, 2).
     Backup,
-    /// All ports check (`BOND_ARP_VALIDATE_ALL`, 3).
+    /// All ports validate (`BOND_ARP_VALIDATE_ALL`, 3).
     All,
-    /// Nothing is checked, and only ARP and neighbour messages count (`BOND_ARP_FILTER`, 4).
+    /// No validation; only ARP and neighbor messages count (`BOND_ARP_FILTER`, 4).
     Filter,
-    /// As `Filter`, and the active port checks (`BOND_ARP_FILTER_ACTIVE`, 5).
+    /// As `Filter`, but the active port validates (`BOND_ARP_FILTER_ACTIVE`, 5).
     FilterActive,
-    /// As `Filter`, and backup ports check (`BOND_ARP_FILTER_BACKUP`, 6).
+    /// As `Filter`, but backup ports validate (`BOND_ARP_FILTER_BACKUP`, 6).
     FilterBackup,
     /// Any other number.
     Other(u32),
@@ -64,7 +64,7 @@ impl NamedNumber for BondArpValidate {
     ghost thorough = { of_cases enum _ _ (Prim.search (thorough_fields)) };
 }
 
-/// `None`.
+/// Returns `None`.
 impl Default for BondArpValidate {
     ghost is_default = { λ v. v ≡ value_of ⟦<BondArpValidate as NamedNumber>⟧.names 0 };
 
@@ -73,7 +73,7 @@ impl Default for BondArpValidate {
     }
 }
 
-/// The case of a number, `Other` where it has no name.
+/// Converts a number to its variant, or to `Other` if the number has no name.
 impl From<u32> for BondArpValidate {
     ghost from_gives = { λ d v. v ≡ value_of ⟦<BondArpValidate as NamedNumber>⟧.names d };
 
@@ -91,7 +91,7 @@ impl From<u32> for BondArpValidate {
     }
 }
 
-/// The number of a case.
+/// Converts a variant to its number.
 impl From<BondArpValidate> for u32 {
     ghost from_gives = { λ v d. d ≡ number_of (⟦<BondArpValidate as NamedNumber>⟧.seen v) };
 
@@ -109,7 +109,7 @@ impl From<BondArpValidate> for u32 {
     }
 }
 
-/// The name, as `none`; `unknown-variant (9)` for a number without one.
+/// Writes the variant's name, such as `none`, or `unknown-variant (n)` for `Other(n)`.
 impl fmt::Display for BondArpValidate {
     ghost output = { λ v. Some (displayed ⟦<BondArpValidate as NamedNumber>⟧.names
         (⟦<BondArpValidate as NamedNumber>⟧.seen v)) };
@@ -128,7 +128,11 @@ impl fmt::Display for BondArpValidate {
     }
 }
 
-/// Reads a displayed name, or the number of one as a digit. Fails with `Text` for every other text.
+/// Parses a variant's name, as `Display` writes it, or its number, as one digit.
+///
+/// # Errors
+///
+/// `Text` for any other input.
 impl FromStr for BondArpValidate {
     type Err = DecodeError;
 

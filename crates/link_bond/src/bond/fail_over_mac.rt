@@ -14,14 +14,15 @@ const BOND_FOM_ACTIVE: u8 = 1;
 
 const BOND_FOM_FOLLOW: u8 = 2;
 
-/// Which hardware addresses bond and ports have in the mode `ActiveBackup` (`BOND_FOM_*`, `include/net/bonding.h`).
+/// Which hardware addresses the bond and its ports have, in mode `ActiveBackup` (`BOND_FOM_*`,
+/// `include/net/bonding.h`).
 #[derive(Clone, Copy, Debug, PartialEq, Eq)]
 pub enum BondFailOverMac {
-    /// All ports have the address of the bond (`BOND_FOM_NONE`, 0).
+    /// All ports have the bond's address (`BOND_FOM_NONE`, 0).
     None,
-    /// Ports keep their own, and the bond takes that of the active port (`BOND_FOM_ACTIVE`, 1).
+    /// Ports keep their own addresses, and the bond has the address of the active port (`BOND_FOM_ACTIVE`, 1).
     Active,
-    /// A port takes the address of the bond when it becomes active (`BOND_FOM_FOLLOW`, 2).
+    /// A port gets the bond's address when it becomes active (`BOND_FOM_FOLLOW`, 2).
     Follow,
     /// Any other number.
     Other(u8),
@@ -47,7 +48,7 @@ impl NamedNumber for BondFailOverMac {
     ghost thorough = { of_cases enum _ _ (Prim.search (thorough_fields)) };
 }
 
-/// `None`.
+/// Returns `None`.
 impl Default for BondFailOverMac {
     ghost is_default = { λ v. v ≡ value_of ⟦<BondFailOverMac as NamedNumber>⟧.names 0 };
 
@@ -56,7 +57,7 @@ impl Default for BondFailOverMac {
     }
 }
 
-/// The case of a number, `Other` where it has no name.
+/// Converts a number to its variant, or to `Other` if the number has no name.
 impl From<u8> for BondFailOverMac {
     ghost from_gives = { λ d v. v ≡ value_of ⟦<BondFailOverMac as NamedNumber>⟧.names d };
 
@@ -70,7 +71,7 @@ impl From<u8> for BondFailOverMac {
     }
 }
 
-/// The number of a case.
+/// Converts a variant to its number.
 impl From<BondFailOverMac> for u8 {
     ghost from_gives = { λ v d. d ≡ number_of (⟦<BondFailOverMac as NamedNumber>⟧.seen v) };
 
@@ -84,7 +85,7 @@ impl From<BondFailOverMac> for u8 {
     }
 }
 
-/// The name, as `none`; `unknown-variant (9)` for a number without one.
+/// Writes the variant's name, such as `none`, or `unknown-variant (n)` for `Other(n)`.
 impl fmt::Display for BondFailOverMac {
     ghost output = { λ v. Some (displayed ⟦<BondFailOverMac as NamedNumber>⟧.names
         (⟦<BondFailOverMac as NamedNumber>⟧.seen v)) };
@@ -99,7 +100,11 @@ impl fmt::Display for BondFailOverMac {
     }
 }
 
-/// Reads a displayed name, or the number of one as a digit. Fails with `Text` for every other text.
+/// Parses a variant's name, as `Display` writes it, or its number, as one digit.
+///
+/// # Errors
+///
+/// `Text` for any other input.
 impl FromStr for BondFailOverMac {
     type Err = DecodeError;
 

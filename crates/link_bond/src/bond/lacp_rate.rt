@@ -1,4 +1,4 @@
-//! How often the LACP partner of a bond is asked to send its LACPDUs.
+//! How often the LACP partner of a bond is asked to send LACPDUs.
 
 ghost use Rattle.std.specs.Prelude.{refl, ◌≡◌, Some};
 ghost use Rattle.link_base.specs.Named.{value_of, number_of, displayed, ReadsText};
@@ -12,8 +12,7 @@ const AD_LACP_SLOW: u8 = 0;
 
 const AD_LACP_FAST: u8 = 1;
 
-/// How often the LACP partner is asked to send its LACPDUs in the mode `Ieee8023Ad` (`AD_LACP_*`,
-/// `include/net/bond_3ad.h`).
+/// How often the LACP partner is asked to send LACPDUs, in mode `Ieee8023Ad` (`AD_LACP_*`, `include/net/bond_3ad.h`).
 #[derive(Clone, Copy, Debug, PartialEq, Eq)]
 pub enum BondLacpRate {
     /// Every 30 seconds (`AD_LACP_SLOW`, 0).
@@ -44,7 +43,7 @@ impl NamedNumber for BondLacpRate {
     ghost thorough = { of_cases enum _ _ (Prim.search (thorough_fields)) };
 }
 
-/// The case of a number, `Other` where it has no name.
+/// Converts a number to its variant, or to `Other` if the number has no name.
 impl From<u8> for BondLacpRate {
     ghost from_gives = { λ d v. v ≡ value_of ⟦<BondLacpRate as NamedNumber>⟧.names d };
 
@@ -57,7 +56,7 @@ impl From<u8> for BondLacpRate {
     }
 }
 
-/// The number of a case.
+/// Converts a variant to its number.
 impl From<BondLacpRate> for u8 {
     ghost from_gives = { λ v d. d ≡ number_of (⟦<BondLacpRate as NamedNumber>⟧.seen v) };
 
@@ -70,7 +69,7 @@ impl From<BondLacpRate> for u8 {
     }
 }
 
-/// The name, as `slow`; the number where it has none.
+/// Writes the variant's name, such as `slow`, or the number in decimal for `Other`.
 impl fmt::Display for BondLacpRate {
     ghost output = { λ v. Some (displayed ⟦<BondLacpRate as NamedNumber>⟧.names
         (⟦<BondLacpRate as NamedNumber>⟧.seen v)) };
@@ -84,7 +83,11 @@ impl fmt::Display for BondLacpRate {
     }
 }
 
-/// Reads a displayed name, or the number of one as a digit. Fails with `Text` for every other text.
+/// Parses a variant's name, as `Display` writes it, or its number, as one digit.
+///
+/// # Errors
+///
+/// `Text` for any other input.
 impl FromStr for BondLacpRate {
     type Err = DecodeError;
 

@@ -22,22 +22,22 @@ const BOND_MODE_TLB: u8 = 5;
 
 const BOND_MODE_ALB: u8 = 6;
 
-/// How a bond spreads traffic over its ports (`BOND_MODE_*`, `include/uapi/linux/if_bonding.h`).
+/// How a bond distributes traffic over its ports (`BOND_MODE_*`, `include/uapi/linux/if_bonding.h`).
 #[derive(Clone, Copy, Debug, PartialEq, Eq)]
 pub enum BondMode {
-    /// Each packet is sent from the next port in turn (`BOND_MODE_ROUNDROBIN`, 0).
+    /// Packets are sent from the ports in turn: round-robin (`BOND_MODE_ROUNDROBIN`, 0).
     BalanceRr,
-    /// One port carries all traffic; another takes over when it fails (`BOND_MODE_ACTIVEBACKUP`, 1).
+    /// One port carries all traffic; if it fails, another takes over (`BOND_MODE_ACTIVEBACKUP`, 1).
     ActiveBackup,
-    /// A hash of the packet chooses the port (`BOND_MODE_XOR`, 2).
+    /// A hash of the packet selects the port (`BOND_MODE_XOR`, 2).
     BalanceXor,
     /// Every packet is sent from every port (`BOND_MODE_BROADCAST`, 3).
     Broadcast,
-    /// Ports are aggregated, as agreed with the LACP partner (IEEE 802.3ad) (`BOND_MODE_8023AD`, 4).
+    /// Ports are aggregated as negotiated with the LACP partner, by IEEE 802.3ad (`BOND_MODE_8023AD`, 4).
     Ieee8023Ad,
-    /// What is sent is shared among the ports by their load; one port receives (`BOND_MODE_TLB`, 5).
+    /// Transmitted traffic is distributed over the ports according to load; one port receives (`BOND_MODE_TLB`, 5).
     BalanceTlb,
-    /// As `BalanceTlb`, and what is received over IPv4 is shared too, by answers to ARP requests (`BOND_MODE_ALB`, 6).
+    /// As `BalanceTlb`, but received IPv4 traffic is distributed too, through ARP replies (`BOND_MODE_ALB`, 6).
     BalanceAlb,
     /// Any other number.
     Other(u8),
@@ -63,7 +63,7 @@ impl NamedNumber for BondMode {
     ghost thorough = { of_cases enum _ _ (Prim.search (thorough_fields)) };
 }
 
-/// `BalanceRr`.
+/// Returns `BalanceRr`.
 impl Default for BondMode {
     ghost is_default = { λ v. v ≡ value_of ⟦<BondMode as NamedNumber>⟧.names 0 };
 
@@ -72,7 +72,7 @@ impl Default for BondMode {
     }
 }
 
-/// The case of a number, `Other` where it has no name.
+/// Converts a number to its variant, or to `Other` if the number has no name.
 impl From<u8> for BondMode {
     ghost from_gives = { λ d v. v ≡ value_of ⟦<BondMode as NamedNumber>⟧.names d };
 
@@ -90,7 +90,7 @@ impl From<u8> for BondMode {
     }
 }
 
-/// The number of a case.
+/// Converts a variant to its number.
 impl From<BondMode> for u8 {
     ghost from_gives = { λ v d. d ≡ number_of (⟦<BondMode as NamedNumber>⟧.seen v) };
 
@@ -108,7 +108,7 @@ impl From<BondMode> for u8 {
     }
 }
 
-/// The name, as `balance-rr`; `unknown-variant (9)` for a number without one.
+/// Writes the variant's name, such as `balance-rr`, or `unknown-variant (n)` for `Other(n)`.
 impl fmt::Display for BondMode {
     ghost output = { λ v. Some (displayed ⟦<BondMode as NamedNumber>⟧.names (⟦<BondMode as NamedNumber>⟧.seen v)) };
 
@@ -126,7 +126,11 @@ impl fmt::Display for BondMode {
     }
 }
 
-/// Reads a displayed name, or the number of one as a digit. Fails with `Text` for every other text.
+/// Parses a variant's name, as `Display` writes it, or its number, as one digit.
+///
+/// # Errors
+///
+/// `Text` for any other input.
 impl FromStr for BondMode {
     type Err = DecodeError;
 

@@ -14,16 +14,16 @@ const BOND_PRI_RESELECT_BETTER: u8 = 1;
 
 const BOND_PRI_RESELECT_FAILURE: u8 = 2;
 
-/// When the primary port becomes the active one again after it recovers (`BOND_PRI_RESELECT_*`,
+/// When the primary port becomes the active port again after it has recovered (`BOND_PRI_RESELECT_*`,
 /// `include/net/bonding.h`).
 #[derive(Clone, Copy, Debug, PartialEq, Eq)]
 pub enum BondPrimaryReselect {
     /// As soon as its link is up (`BOND_PRI_RESELECT_ALWAYS`, 0).
     Always,
-    /// When its link is up and better, in speed and duplex, than that of the active port (`BOND_PRI_RESELECT_BETTER`,
+    /// When its link is up and has a better speed and duplex than the active port's link (`BOND_PRI_RESELECT_BETTER`,
     /// 1).
     Better,
-    /// Only when the active port fails (`BOND_PRI_RESELECT_FAILURE`, 2).
+    /// Only if the active port fails (`BOND_PRI_RESELECT_FAILURE`, 2).
     Failure,
     /// Any other number.
     Other(u8),
@@ -53,7 +53,7 @@ impl NamedNumber for BondPrimaryReselect {
     ghost thorough = { of_cases enum _ _ (Prim.search (thorough_fields)) };
 }
 
-/// `Always`.
+/// Returns `Always`.
 impl Default for BondPrimaryReselect {
     ghost is_default = { λ v. v ≡ value_of ⟦<BondPrimaryReselect as NamedNumber>⟧.names 0 };
 
@@ -62,7 +62,7 @@ impl Default for BondPrimaryReselect {
     }
 }
 
-/// The case of a number, `Other` where it has no name.
+/// Converts a number to its variant, or to `Other` if the number has no name.
 impl From<u8> for BondPrimaryReselect {
     ghost from_gives = { λ d v. v ≡ value_of ⟦<BondPrimaryReselect as NamedNumber>⟧.names d };
 
@@ -76,7 +76,7 @@ impl From<u8> for BondPrimaryReselect {
     }
 }
 
-/// The number of a case.
+/// Converts a variant to its number.
 impl From<BondPrimaryReselect> for u8 {
     ghost from_gives = { λ v d. d ≡ number_of (⟦<BondPrimaryReselect as NamedNumber>⟧.seen v) };
 
@@ -90,7 +90,7 @@ impl From<BondPrimaryReselect> for u8 {
     }
 }
 
-/// The name, as `always`; `unknown-variant (9)` for a number without one.
+/// Writes the variant's name, such as `always`, or `unknown-variant (n)` for `Other(n)`.
 impl fmt::Display for BondPrimaryReselect {
     ghost output = { λ v. Some (displayed ⟦<BondPrimaryReselect as NamedNumber>⟧.names
         (⟦<BondPrimaryReselect as NamedNumber>⟧.seen v)) };
@@ -105,7 +105,11 @@ impl fmt::Display for BondPrimaryReselect {
     }
 }
 
-/// Reads a displayed name, or the number of one as a digit. Fails with `Text` for every other text.
+/// Parses a variant's name, as `Display` writes it, or its number, as one digit.
+///
+/// # Errors
+///
+/// `Text` for any other input.
 impl FromStr for BondPrimaryReselect {
     type Err = DecodeError;
 

@@ -1,4 +1,4 @@
-//! What a bond chooses the port of a packet by.
+//! Which fields of a packet a bond hashes to select the port.
 
 ghost use Rattle.std.specs.Prelude.{refl, ◌≡◌, Some};
 ghost use Rattle.link_base.specs.Named.{value_of, number_of, displayed, ReadsText};
@@ -20,22 +20,24 @@ const BOND_XMIT_POLICY_ENCAP34: u8 = 4;
 
 const BOND_XMIT_POLICY_VLAN_SRCMAC: u8 = 5;
 
-/// Which fields of a packet are hashed to choose its port, in the modes that choose by a hash
-/// (`BOND_XMIT_POLICY_*`, `include/uapi/linux/if_bonding.h`).
+/// Which fields of a packet are hashed to select its port, in the modes that use a hash (`BOND_XMIT_POLICY_*`,
+/// `include/uapi/linux/if_bonding.h`).
 #[derive(Clone, Copy, Debug, PartialEq, Eq)]
 pub enum BondXmitHashPolicy {
     /// Hardware addresses and packet type (`BOND_XMIT_POLICY_LAYER2`, 0).
     Layer2,
-    /// IP addresses, and the port numbers, as those of TCP or UDP, where the packet has them
-    /// (`BOND_XMIT_POLICY_LAYER34`, 1).
+    /// IP addresses and, if the packet has them, port numbers such as those of TCP or UDP (`BOND_XMIT_POLICY_LAYER34`,
+    /// 1).
     Layer34,
     /// Hardware addresses, packet type and IP addresses (`BOND_XMIT_POLICY_LAYER23`, 2).
     Layer23,
-    /// As `Layer23`, of the inner headers where the packet is a tunnel's (`BOND_XMIT_POLICY_ENCAP23`, 3).
+    /// As `Layer23`, but of the inner headers if the packet is encapsulated in a tunnel (`BOND_XMIT_POLICY_ENCAP23`,
+    /// 3).
     Encap23,
-    /// As `Layer34`, of the inner headers where the packet is a tunnel's (`BOND_XMIT_POLICY_ENCAP34`, 4).
+    /// As `Layer34`, but of the inner headers if the packet is encapsulated in a tunnel (`BOND_XMIT_POLICY_ENCAP34`,
+    /// 4).
     Encap34,
-    /// VLAN identifier and source hardware address (`BOND_XMIT_POLICY_VLAN_SRCMAC`, 5).
+    /// VLAN ID and source hardware address (`BOND_XMIT_POLICY_VLAN_SRCMAC`, 5).
     VlanSrcMac,
     /// Any other number.
     Other(u8),
@@ -65,7 +67,7 @@ impl NamedNumber for BondXmitHashPolicy {
     ghost thorough = { of_cases enum _ _ (Prim.search (thorough_fields)) };
 }
 
-/// `Layer2`.
+/// Returns `Layer2`.
 impl Default for BondXmitHashPolicy {
     ghost is_default = { λ v. v ≡ value_of ⟦<BondXmitHashPolicy as NamedNumber>⟧.names 0 };
 
@@ -74,7 +76,7 @@ impl Default for BondXmitHashPolicy {
     }
 }
 
-/// The case of a number, `Other` where it has no name.
+/// Converts a number to its variant, or to `Other` if the number has no name.
 impl From<u8> for BondXmitHashPolicy {
     ghost from_gives = { λ d v. v ≡ value_of ⟦<BondXmitHashPolicy as NamedNumber>⟧.names d };
 
@@ -91,7 +93,7 @@ impl From<u8> for BondXmitHashPolicy {
     }
 }
 
-/// The number of a case.
+/// Converts a variant to its number.
 impl From<BondXmitHashPolicy> for u8 {
     ghost from_gives = { λ v d. d ≡ number_of (⟦<BondXmitHashPolicy as NamedNumber>⟧.seen v) };
 
@@ -108,7 +110,7 @@ impl From<BondXmitHashPolicy> for u8 {
     }
 }
 
-/// The name, as `layer2`; `unknown-variant (9)` for a number without one.
+/// Writes the variant's name, such as `layer2`, or `unknown-variant (n)` for `Other(n)`.
 impl fmt::Display for BondXmitHashPolicy {
     ghost output = { λ v. Some (displayed ⟦<BondXmitHashPolicy as NamedNumber>⟧.names
         (⟦<BondXmitHashPolicy as NamedNumber>⟧.seen v)) };
@@ -126,7 +128,11 @@ impl fmt::Display for BondXmitHashPolicy {
     }
 }
 
-/// Reads a displayed name, or the number of one as a digit. Fails with `Text` for every other text.
+/// Parses a variant's name, as `Display` writes it, or its number, as one digit.
+///
+/// # Errors
+///
+/// `Text` for any other input.
 impl FromStr for BondXmitHashPolicy {
     type Err = DecodeError;
 

@@ -1,4 +1,4 @@
-//! Whether a port of a bond and its LACP partner reach agreement.
+//! Whether a bond port and its LACP partner reach synchronization.
 
 ghost use Rattle.std.specs.Prelude.{refl, ◌≡◌, Some};
 ghost use Rattle.link_base.specs.Named.{value_of, number_of, displayed, ReadsText};
@@ -14,15 +14,15 @@ const AD_CHURN: u8 = 1;
 
 const AD_NO_CHURN: u8 = 2;
 
-/// Whether one side of a link, the LACP actor or the partner, comes into synchronization in time, as IEEE 802.3ad
-/// watches it (`churn_state_t`, `include/net/bond_3ad.h`).
+/// Whether one side of a link, the LACP actor or the partner, reaches synchronization in time, according to the churn
+/// detection of IEEE 802.3ad (`churn_state_t`, `include/net/bond_3ad.h`).
 #[derive(Clone, Copy, Debug, PartialEq, Eq)]
 pub enum ChurnState {
-    /// It is watched, and time is left (`AD_CHURN_MONITOR`, 0).
+    /// Being monitored: the time limit has not expired (`AD_CHURN_MONITOR`, 0).
     Monitor,
-    /// It is not in synchronization, and time is up (`AD_CHURN`, 1).
+    /// Not synchronized, and the time limit has expired (`AD_CHURN`, 1).
     Churn,
-    /// It is in synchronization (`AD_NO_CHURN`, 2).
+    /// Synchronized (`AD_NO_CHURN`, 2).
     NoChurn,
     /// Any other number.
     Other(u8),
@@ -48,7 +48,7 @@ impl NamedNumber for ChurnState {
     ghost thorough = { of_cases enum _ _ (Prim.search (thorough_fields)) };
 }
 
-/// The case of a number, `Other` where it has no name.
+/// Converts a number to its variant, or to `Other` if the number has no name.
 impl From<u8> for ChurnState {
     ghost from_gives = { λ d v. v ≡ value_of ⟦<ChurnState as NamedNumber>⟧.names d };
 
@@ -62,7 +62,7 @@ impl From<u8> for ChurnState {
     }
 }
 
-/// The number of a case.
+/// Converts a variant to its number.
 impl From<ChurnState> for u8 {
     ghost from_gives = { λ v d. d ≡ number_of (⟦<ChurnState as NamedNumber>⟧.seen v) };
 
@@ -76,7 +76,7 @@ impl From<ChurnState> for u8 {
     }
 }
 
-/// The name, as `monitor`; the number where it has none.
+/// Writes the variant's name, such as `monitor`, or the number in decimal for `Other`.
 impl fmt::Display for ChurnState {
     ghost output = { λ v. Some (displayed ⟦<ChurnState as NamedNumber>⟧.names (⟦<ChurnState as NamedNumber>⟧.seen v)) };
 
@@ -90,7 +90,11 @@ impl fmt::Display for ChurnState {
     }
 }
 
-/// Reads a displayed name, its letters in either case. Fails with `Text` for every other text.
+/// Parses a variant's name, as `Display` writes it; ASCII letters are case-insensitive.
+///
+/// # Errors
+///
+/// `Text` for any other input.
 impl FromStr for ChurnState {
     type Err = DecodeError;
 

@@ -9,28 +9,28 @@ use link_base::flag_laws::{FlagSet, KnownBits};
 pub struct LacpState(u8);
 
 impl LacpState {
-    /// The side sends LACPDUs whether or not the other does (`LACP_STATE_LACP_ACTIVITY`).
+    /// This side sends LACPDUs even if the other side sends none (`LACP_STATE_LACP_ACTIVITY`).
     pub const LACP_ACTIVITY: LacpState = LacpState(0x1);
 
-    /// The side times out after three seconds without an LACPDU, not after 90 (`LACP_STATE_LACP_TIMEOUT`).
+    /// This side times out after 3 seconds without an LACPDU; if unset, after 90 (`LACP_STATE_LACP_TIMEOUT`).
     pub const LACP_TIMEOUT: LacpState = LacpState(0x2);
 
-    /// The link may be aggregated with others (`LACP_STATE_AGGREGATION`).
+    /// The link can be aggregated with others (`LACP_STATE_AGGREGATION`).
     pub const AGGREGATION: LacpState = LacpState(0x4);
 
     /// The link is in the right aggregator (`LACP_STATE_SYNCHRONIZATION`).
     pub const SYNCHRONIZATION: LacpState = LacpState(0x8);
 
-    /// Frames that arrive are collected (`LACP_STATE_COLLECTING`).
+    /// Incoming frames are collected (`LACP_STATE_COLLECTING`).
     pub const COLLECTING: LacpState = LacpState(0x10);
 
-    /// Frames are distributed to the link (`LACP_STATE_DISTRIBUTING`).
+    /// Outgoing frames are distributed to the link (`LACP_STATE_DISTRIBUTING`).
     pub const DISTRIBUTING: LacpState = LacpState(0x20);
 
-    /// What is known of the other side is the default, since no LACPDU came (`LACP_STATE_DEFAULTED`).
+    /// Default values are used for the other side, since no LACPDU was received (`LACP_STATE_DEFAULTED`).
     pub const DEFAULTED: LacpState = LacpState(0x40);
 
-    /// What is known of the other side is out of date (`LACP_STATE_EXPIRED`).
+    /// The information about the other side has expired (`LACP_STATE_EXPIRED`).
     pub const EXPIRED: LacpState = LacpState(0x80);
 }
 

@@ -1,4 +1,4 @@
-//! The states of the link of a port of a bond.
+//! The link state of a bond port.
 
 ghost use Rattle.std.specs.Prelude.{refl, ◌≡◌, Some};
 ghost use Rattle.link_base.specs.Named.{value_of, number_of, displayed, ReadsText};
@@ -16,16 +16,16 @@ const BOND_LINK_DOWN: u8 = 2;
 
 const BOND_LINK_BACK: u8 = 3;
 
-/// The link of a port, as its bond sees it (`BOND_LINK_*`, `include/uapi/linux/if_bonding.h`).
+/// The link state of a port, as its bond sees it (`BOND_LINK_*`, `include/uapi/linux/if_bonding.h`).
 #[derive(Clone, Copy, Debug, PartialEq, Eq)]
 pub enum MiiStatus {
-    /// It is up (`BOND_LINK_UP`, 0).
+    /// The link is up (`BOND_LINK_UP`, 0).
     Up,
-    /// It went down, and the delay before it counts as down still runs (`BOND_LINK_FAIL`, 1).
+    /// The link went down, but `DownDelay` has not elapsed yet (`BOND_LINK_FAIL`, 1).
     GoingDown,
-    /// It is down (`BOND_LINK_DOWN`, 2).
+    /// The link is down (`BOND_LINK_DOWN`, 2).
     Down,
-    /// It came up, and the delay before it counts as up still runs (`BOND_LINK_BACK`, 3).
+    /// The link came up, but `UpDelay` has not elapsed yet (`BOND_LINK_BACK`, 3).
     GoingBack,
     /// Any other number.
     Other(u8),
@@ -51,7 +51,7 @@ impl NamedNumber for MiiStatus {
     ghost thorough = { of_cases enum _ _ (Prim.search (thorough_fields)) };
 }
 
-/// The case of a number, `Other` where it has no name.
+/// Converts a number to its variant, or to `Other` if the number has no name.
 impl From<u8> for MiiStatus {
     ghost from_gives = { λ d v. v ≡ value_of ⟦<MiiStatus as NamedNumber>⟧.names d };
 
@@ -66,7 +66,7 @@ impl From<u8> for MiiStatus {
     }
 }
 
-/// The number of a case.
+/// Converts a variant to its number.
 impl From<MiiStatus> for u8 {
     ghost from_gives = { λ v d. d ≡ number_of (⟦<MiiStatus as NamedNumber>⟧.seen v) };
 
@@ -81,7 +81,7 @@ impl From<MiiStatus> for u8 {
     }
 }
 
-/// The name, as `up`; the number where it has none.
+/// Writes the variant's name, such as `up`, or the number in decimal for `Other`.
 impl fmt::Display for MiiStatus {
     ghost output = { λ v. Some (displayed ⟦<MiiStatus as NamedNumber>⟧.names (⟦<MiiStatus as NamedNumber>⟧.seen v)) };
 
@@ -96,7 +96,11 @@ impl fmt::Display for MiiStatus {
     }
 }
 
-/// Reads a displayed name, its letters in either case. Fails with `Text` for every other text.
+/// Parses a variant's name, as `Display` writes it; ASCII letters are case-insensitive.
+///
+/// # Errors
+///
+/// `Text` for any other input.
 impl FromStr for MiiStatus {
     type Err = DecodeError;
 

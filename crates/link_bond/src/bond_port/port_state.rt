@@ -1,4 +1,4 @@
-//! The states of a port of a bond.
+//! The state of a bond port.
 
 ghost use Rattle.std.specs.Prelude.{refl, ◌≡◌, Some};
 ghost use Rattle.link_base.specs.Named.{value_of, number_of, displayed, ReadsText};
@@ -15,9 +15,9 @@ const BOND_STATE_BACKUP: u8 = 1;
 /// Whether a port carries the traffic of its bond (`BOND_STATE_*`, `include/uapi/linux/if_bonding.h`).
 #[derive(Clone, Copy, Debug, PartialEq, Eq)]
 pub enum BondPortState {
-    /// It carries traffic (`BOND_STATE_ACTIVE`, 0).
+    /// The port carries traffic (`BOND_STATE_ACTIVE`, 0).
     Active,
-    /// It stands by (`BOND_STATE_BACKUP`, 1).
+    /// The port is on standby (`BOND_STATE_BACKUP`, 1).
     Backup,
     /// Any other number.
     Other(u8),
@@ -43,7 +43,7 @@ impl NamedNumber for BondPortState {
     ghost thorough = { of_cases enum _ _ (Prim.search (thorough_fields)) };
 }
 
-/// The case of a number, `Other` where it has no name.
+/// Converts a number to its variant, or to `Other` if the number has no name.
 impl From<u8> for BondPortState {
     ghost from_gives = { λ d v. v ≡ value_of ⟦<BondPortState as NamedNumber>⟧.names d };
 
@@ -56,7 +56,7 @@ impl From<u8> for BondPortState {
     }
 }
 
-/// The number of a case.
+/// Converts a variant to its number.
 impl From<BondPortState> for u8 {
     ghost from_gives = { λ v d. d ≡ number_of (⟦<BondPortState as NamedNumber>⟧.seen v) };
 
@@ -69,7 +69,7 @@ impl From<BondPortState> for u8 {
     }
 }
 
-/// The name, as `active`; the number where it has none.
+/// Writes the variant's name, such as `active`, or the number in decimal for `Other`.
 impl fmt::Display for BondPortState {
     ghost output = { λ v. Some (displayed ⟦<BondPortState as NamedNumber>⟧.names
         (⟦<BondPortState as NamedNumber>⟧.seen v)) };
@@ -83,7 +83,11 @@ impl fmt::Display for BondPortState {
     }
 }
 
-/// Reads a displayed name, its letters in either case. Fails with `Text` for every other text.
+/// Parses a variant's name, as `Display` writes it; ASCII letters are case-insensitive.
+///
+/// # Errors
+///
+/// `Text` for any other input.
 impl FromStr for BondPortState {
     type Err = DecodeError;
 

@@ -1,4 +1,4 @@
-//! Whose settings of a port of a bridge a message sets or shows.
+//! Whose bridge port settings a message sets or reports.
 
 use link_base::{DecodeError, DecodeFault, NamedNumber};
 use std::fmt;
@@ -9,20 +9,21 @@ const BRIDGE_FLAGS_MASTER: u16 = 1;
 
 const BRIDGE_FLAGS_SELF: u16 = 2;
 
-/// Whose settings of a port of a bridge a message sets or shows: those of the bridge, or those of the device that is
-/// the port (`BRIDGE_FLAGS_*`, `include/uapi/linux/if_bridge.h`). The kernel takes them for bits: both are `Other(3)`.
+/// Whose bridge port settings a message sets or reports: those of the bridge, or those of the port's device
+/// (`BRIDGE_FLAGS_*`, `include/uapi/linux/if_bridge.h`). The kernel treats the numbers as bits: both together are
+/// `Other(3)`.
 #[derive(Clone, Copy, Debug, PartialEq, Eq)]
 pub enum BridgeFlag {
-    /// Those of the bridge (`BRIDGE_FLAGS_MASTER`, 1).
+    /// The settings of the bridge (`BRIDGE_FLAGS_MASTER`, 1).
     Controller,
-    /// Those of the device (`BRIDGE_FLAGS_SELF`, 2).
+    /// The settings of the device (`BRIDGE_FLAGS_SELF`, 2).
     LowerDev,
     /// Any other number.
     Other(u16),
 }
 
 impl BridgeFlag {
-    /// The bytes of the payload of a flag.
+    /// Length of a flag as a payload, in bytes.
     pub const LENGTH: usize = 2;
 }
 
@@ -47,7 +48,7 @@ impl NamedNumber for BridgeFlag {
     ghost thorough = { of_cases enum _ _ (Prim.search (thorough_fields)) };
 }
 
-/// The case of a number, `Other` where it has no name.
+/// Converts a number to its variant, or to `Other` if the number has no name.
 impl From<u16> for BridgeFlag {
     ghost use Rattle.std.specs.Prelude.{◌≡◌};
     ghost use Rattle.link_base.specs.Named.{value_of};
@@ -63,7 +64,7 @@ impl From<u16> for BridgeFlag {
     }
 }
 
-/// The number of a case.
+/// Converts a variant to its number.
 impl From<BridgeFlag> for u16 {
     ghost use Rattle.std.specs.Prelude.{◌≡◌};
     ghost use Rattle.link_base.specs.Named.{number_of};
@@ -79,7 +80,7 @@ impl From<BridgeFlag> for u16 {
     }
 }
 
-/// The name, as `master`; the number where it has none.
+/// Writes the variant's name, such as `master`, or the number in decimal for `Other`.
 impl fmt::Display for BridgeFlag {
     ghost use Rattle.std.specs.Prelude.{Some};
     ghost use Rattle.link_base.specs.Named.{displayed};
@@ -96,8 +97,12 @@ impl fmt::Display for BridgeFlag {
     }
 }
 
-/// Reads a displayed name, or any number of 16 bits: digits, with zeros in front or none, and at most one `+` before
-/// them. Fails with `Text` for every other text.
+/// Parses a variant's name, as `Display` writes it, or any `u16` in decimal, with an optional `+` and optional
+/// leading zeros.
+///
+/// # Errors
+///
+/// `Text` for any other input.
 impl FromStr for BridgeFlag {
     type Err = DecodeError;
 

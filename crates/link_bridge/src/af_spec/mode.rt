@@ -1,4 +1,4 @@
-//! How a device that bridges in hardware handles frames between its own ports.
+//! How a device with hardware bridging handles frames between its own ports.
 
 use link_base::{DecodeError, DecodeFault, NamedNumber};
 use std::fmt;
@@ -9,20 +9,20 @@ const BRIDGE_MODE_VEB: u16 = 0;
 
 const BRIDGE_MODE_VEPA: u16 = 1;
 
-/// How a device that bridges in hardware handles frames between its own ports, by IEEE 802.1Qbg (`BRIDGE_MODE_*`,
-/// `include/uapi/linux/if_bridge.h`). `BRIDGE_MODE_UNDEF` is `Other(65535)`.
+/// How a device with hardware bridging handles frames between its own ports, according to IEEE 802.1Qbg
+/// (`BRIDGE_MODE_*`, `include/uapi/linux/if_bridge.h`). `BRIDGE_MODE_UNDEF` is `Other(65535)`.
 #[derive(Clone, Copy, Debug, PartialEq, Eq)]
 pub enum BridgeMode {
     /// It forwards them itself, as a virtual Ethernet bridge (`BRIDGE_MODE_VEB`, 0).
     Veb,
-    /// It sends them to the switch beside it, as a virtual Ethernet port aggregator (`BRIDGE_MODE_VEPA`, 1).
+    /// It sends them to the adjacent switch, as a virtual Ethernet port aggregator (`BRIDGE_MODE_VEPA`, 1).
     Vepa,
     /// Any other number.
     Other(u16),
 }
 
 impl BridgeMode {
-    /// The bytes of the payload of a mode.
+    /// Length of a mode as a payload, in bytes.
     pub const LENGTH: usize = 2;
 }
 
@@ -47,7 +47,7 @@ impl NamedNumber for BridgeMode {
     ghost thorough = { of_cases enum _ _ (Prim.search (thorough_fields)) };
 }
 
-/// The case of a number, `Other` where it has no name.
+/// Converts a number to its variant, or to `Other` if the number has no name.
 impl From<u16> for BridgeMode {
     ghost use Rattle.std.specs.Prelude.{◌≡◌};
     ghost use Rattle.link_base.specs.Named.{value_of};
@@ -63,7 +63,7 @@ impl From<u16> for BridgeMode {
     }
 }
 
-/// The number of a case.
+/// Converts a variant to its number.
 impl From<BridgeMode> for u16 {
     ghost use Rattle.std.specs.Prelude.{◌≡◌};
     ghost use Rattle.link_base.specs.Named.{number_of};
@@ -79,7 +79,7 @@ impl From<BridgeMode> for u16 {
     }
 }
 
-/// The name, as `vepa`; the number where it has none.
+/// Writes the variant's name, such as `vepa`, or the number in decimal for `Other`.
 impl fmt::Display for BridgeMode {
     ghost use Rattle.std.specs.Prelude.{Some};
     ghost use Rattle.link_base.specs.Named.{displayed};
@@ -96,8 +96,12 @@ impl fmt::Display for BridgeMode {
     }
 }
 
-/// Reads a displayed name, or any number of 16 bits: digits, with zeros in front or none, and at most one `+` before
-/// them. Fails with `Text` for every other text.
+/// Parses a variant's name, as `Display` writes it, or any `u16` in decimal, with an optional `+` and optional
+/// leading zeros.
+///
+/// # Errors
+///
+/// `Text` for any other input.
 impl FromStr for BridgeMode {
     type Err = DecodeError;
 

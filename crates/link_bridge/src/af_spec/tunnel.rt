@@ -19,17 +19,17 @@ const IFLA_BRIDGE_VLAN_TUNNEL_VID: u16 = 2;
 
 const IFLA_BRIDGE_VLAN_TUNNEL_FLAGS: u16 = 3;
 
-/// An attribute of a VLAN that is mapped to a tunnel at a port of a bridge (`IFLA_BRIDGE_VLAN_TUNNEL_*`,
+/// An attribute of a VLAN that is mapped to a tunnel on a bridge port (`IFLA_BRIDGE_VLAN_TUNNEL_*`,
 /// `include/uapi/linux/if_bridge.h`).
 #[derive(Debug, PartialEq, Eq, Drop)]
 pub enum BridgeVlanTunnelInfo {
-    /// The identifier of the tunnel, as the VNI of VXLAN (`IFLA_BRIDGE_VLAN_TUNNEL_ID`, four bytes).
+    /// ID of the tunnel, such as the VNI for VXLAN (`IFLA_BRIDGE_VLAN_TUNNEL_ID`, `u32`).
     Id(u32),
-    /// The identifier of the VLAN, from 1 to 4094 (`IFLA_BRIDGE_VLAN_TUNNEL_VID`, two bytes).
+    /// VLAN ID, from 1 to 4094 (`IFLA_BRIDGE_VLAN_TUNNEL_VID`, `u16`).
     Vid(u16),
-    /// Whether this is an end of a range (`IFLA_BRIDGE_VLAN_TUNNEL_FLAGS`, two bytes).
+    /// Whether this VLAN is one end of a range (`IFLA_BRIDGE_VLAN_TUNNEL_FLAGS`, `u16`).
     Flags(BridgeVlanInfoFlags),
-    /// An attribute of any other kind.
+    /// An element of any other type.
     Other(DefaultNla),
 }
 

@@ -1,25 +1,25 @@
-//! A VLAN of a bridge or of a port of one.
+//! A VLAN of a bridge or bridge port.
 
 use crate::af_spec::vlan_info_flags::BridgeVlanInfoFlags;
 use bitflags::Flags;
 use link_base::{DecodeError, check_exactly, u16_at};
 
-/// A VLAN of a bridge or of a port of one, or an end of a range of them (`struct bridge_vlan_info`,
-/// `include/uapi/linux/if_bridge.h`): two numbers of two bytes.
+/// A VLAN of a bridge or bridge port, or one end of a range of VLANs (`struct bridge_vlan_info`,
+/// `include/uapi/linux/if_bridge.h`): two `u16`s.
 #[derive(Clone, Copy, Debug, PartialEq, Eq)]
 pub struct BridgeVlanInfo {
     /// How the VLAN is handled.
     pub flags: BridgeVlanInfoFlags,
-    /// The identifier of the VLAN, from 1 to 4094.
+    /// VLAN ID, from 1 to 4094.
     pub vid: u16,
 }
 
 impl BridgeVlanInfo {
-    /// The bytes of a written VLAN.
+    /// Length of a VLAN as a payload, in bytes.
     pub const LENGTH: usize = 4;
 }
 
-/// The bytes of a VLAN, as they are written: the flags before the identifier, each little-endian.
+/// Converts a VLAN to its payload: the flags, then the ID, each little-endian.
 impl From<&BridgeVlanInfo> for [u8; 4] {
     ghost use Rattle.std.specs.Prelude.{◌≡◌};
     ghost use Rattle.link_base.specs.Held.{IsOctets};
@@ -34,7 +34,11 @@ impl From<&BridgeVlanInfo> for [u8; 4] {
     }
 }
 
-/// The VLAN of a payload of four bytes. Fails with `Payload` of `WrongLength`.
+/// Parses a payload of 4 bytes.
+///
+/// # Errors
+///
+/// `Payload(WrongLength)` if the length is not 4.
 impl TryFrom<&[u8]> for BridgeVlanInfo {
     type Error = DecodeError;
 

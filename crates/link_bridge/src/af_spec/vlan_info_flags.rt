@@ -1,21 +1,21 @@
-//! The flags of a VLAN of a bridge.
+//! The flags of a bridge VLAN.
 
 use bitflags::{Flag, Flags};
 use link_base::flag_laws::{FlagSet, KnownBits};
 
-/// Flags of a VLAN of a bridge or of a port of one (`BRIDGE_VLAN_INFO_*`, `include/uapi/linux/if_bridge.h`). Bits
-/// without a name are kept.
+/// Flags of a VLAN of a bridge or bridge port (`BRIDGE_VLAN_INFO_*`, `include/uapi/linux/if_bridge.h`). Unnamed bits
+/// are kept.
 #[derive(Clone, Copy, Debug, PartialEq, Eq, Hash)]
 pub struct BridgeVlanInfoFlags(u16);
 
 impl BridgeVlanInfoFlags {
-    /// The VLAN is set on the bridge too, and not on the port alone (`BRIDGE_VLAN_INFO_MASTER`).
+    /// The VLAN is also set on the bridge, and not only on the port (`BRIDGE_VLAN_INFO_MASTER`).
     pub const Controller: BridgeVlanInfoFlags = BridgeVlanInfoFlags(0x1);
 
-    /// Frames that come in without a tag belong to the VLAN (`BRIDGE_VLAN_INFO_PVID`).
+    /// Received frames without a tag belong to the VLAN (`BRIDGE_VLAN_INFO_PVID`).
     pub const Pvid: BridgeVlanInfoFlags = BridgeVlanInfoFlags(0x2);
 
-    /// Frames of the VLAN leave without a tag (`BRIDGE_VLAN_INFO_UNTAGGED`).
+    /// Frames of the VLAN are sent without a tag (`BRIDGE_VLAN_INFO_UNTAGGED`).
     pub const Untagged: BridgeVlanInfoFlags = BridgeVlanInfoFlags(0x4);
 
     /// The VLAN is the first of a range (`BRIDGE_VLAN_INFO_RANGE_BEGIN`).
@@ -24,18 +24,18 @@ impl BridgeVlanInfoFlags {
     /// The VLAN is the last of a range (`BRIDGE_VLAN_INFO_RANGE_END`).
     pub const RangeEnd: BridgeVlanInfoFlags = BridgeVlanInfoFlags(0x10);
 
-    /// The VLAN is used by the bridge itself, and not by its ports alone (`BRIDGE_VLAN_INFO_BRENTRY`).
+    /// The VLAN is used by the bridge itself, and not only by its ports (`BRIDGE_VLAN_INFO_BRENTRY`).
     pub const Brentry: BridgeVlanInfoFlags = BridgeVlanInfoFlags(0x20);
 
-    /// Only options of the VLAN are set; it is neither made nor dropped, and its flags stay
+    /// Only options of the VLAN are set: the VLAN is neither added nor deleted, and its flags are unchanged
     /// (`BRIDGE_VLAN_INFO_ONLY_OPTS`).
     pub const OnlyOpts: BridgeVlanInfoFlags = BridgeVlanInfoFlags(0x40);
 
-    /// The bytes of the payload of such flags.
+    /// Length of the flags as a payload, in bytes.
     pub const LENGTH: usize = 2;
 }
 
-/// The named flags, and one without a name that has every bit, so that every bit is known.
+/// The named flags, and an unnamed one with all bits, so that every bit is known.
 const FLAGS: [Flag<BridgeVlanInfoFlags>; 8] = [
     Flag {
         name: "Controller",

@@ -1,4 +1,4 @@
-//! The identifier of a bridge.
+//! Bridge IDs.
 
 ghost use Rattle.std.specs.Prelude.{◌≡◌, take, IfOk};
 ghost use Rattle.link_base.specs.Class.{accepted, AtLeast};
@@ -7,22 +7,25 @@ ghost use Rattle.link_bridge.specs.Id.{id_of, id_octets};
 
 use link_base::{DecodeError, Emitable, check_at_least, emit_mac, emit_u16_be};
 
-/// The bytes of a written identifier.
+/// Length of a bridge ID as a payload, in bytes.
 const SIZE: usize = 8;
 
-/// The identifier of a bridge in the spanning tree protocol (`struct ifla_bridge_id`, `include/uapi/linux/if_link.h`):
-/// a priority of two bytes, the highest first, and an address of six octets. A longer payload is read too, and what
-/// follows is ignored.
+/// The ID of a bridge in the spanning tree protocol (`struct ifla_bridge_id`, `include/uapi/linux/if_link.h`): a
+/// big-endian `u16` priority and a `[u8; 6]` address. Payloads may be longer; the additional bytes are ignored.
 #[derive(Clone, Copy, Debug, PartialEq, Eq)]
 pub struct BridgeId {
-    /// The priority: the lower, the sooner the bridge becomes the root.
+    /// Priority; the bridge with the lowest becomes the root.
     pub priority: u16,
-    /// The hardware address of the bridge.
+    /// Hardware address of the bridge.
     pub address: [u8; 6],
 }
 
 impl BridgeId {
-    /// The identifier at the front of a payload of at least eight bytes. Fails with `Payload` of `TooShort`.
+    /// Parses the first 8 bytes of a payload.
+    ///
+    /// # Errors
+    ///
+    /// `Payload(TooShort)` if the payload is shorter.
     pub fn parse(payload: &[u8]) -> Result<Self, DecodeError>
         ensures value { result ≡ payload_result (accepted (AtLeast 8) id_of payload.now) }
         ensures octets { IfOk result (λ id. id_octets id ≡ take 8 payload.now) }
@@ -59,7 +62,7 @@ pub struct BridgeIdBuffer {
     address: [u8; 6],
 }
 
-/// The octets of the identifier.
+/// Converts an ID to its bytes.
 impl From<&BridgeId> for BridgeIdBuffer {
     ghost use Rattle.link_bridge.specs.Id.{buffer_of};
 
@@ -73,7 +76,7 @@ impl From<&BridgeId> for BridgeIdBuffer {
     }
 }
 
-/// The identifier that has these octets.
+/// Converts the bytes of an ID to the ID.
 impl From<BridgeIdBuffer> for BridgeId {
     ghost use Rattle.link_bridge.specs.Id.{id_of_buffer};
 

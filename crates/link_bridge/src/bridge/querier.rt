@@ -1,4 +1,4 @@
-//! The multicast queriers that a bridge knows of.
+//! The multicast queriers known to a bridge.
 
 use link_base::{
     Address, Attribute, DecodeError, DefaultNla, Meaning, NestedAttribute, Nla, NlaBuffer,
@@ -21,23 +21,23 @@ const BRIDGE_QUERIER_IPV6_PORT: u16 = 6;
 
 const BRIDGE_QUERIER_IPV6_OTHER_TIMER: u16 = 7;
 
-/// What the kernel tells of the multicast queriers that a bridge knows of, one for IPv4 and one for IPv6
-/// (`BRIDGE_QUERIER_*`, `include/uapi/linux/if_bridge.h`). A clock tick is 1/100 second (`USER_HZ`).
+/// An attribute of the multicast queriers known to a bridge, one for IPv4 and one for IPv6, which the kernel reports
+/// (`BRIDGE_QUERIER_*`, `include/uapi/linux/if_bridge.h`). All are read-only. A clock tick is 1/100 second (`USER_HZ`).
 #[derive(Debug, PartialEq, Eq, Drop)]
 pub enum BridgeQuerierState {
-    /// The address of the querier of IGMP (`BRIDGE_QUERIER_IP_ADDRESS`, four octets).
+    /// Address of the IGMP querier (`BRIDGE_QUERIER_IP_ADDRESS`, IPv4 address).
     Ipv4Address(Ipv4Addr),
-    /// The index of the port towards it, a network device (`BRIDGE_QUERIER_IP_PORT`, four bytes).
+    /// Interface index of the port towards the IGMP querier (`BRIDGE_QUERIER_IP_PORT`, `u32`).
     Ipv4Port(u32),
-    /// The time until it is taken to be gone, in clock ticks (`BRIDGE_QUERIER_IP_OTHER_TIMER`, eight bytes).
+    /// Time until the IGMP querier is considered gone, in clock ticks (`BRIDGE_QUERIER_IP_OTHER_TIMER`, `u64`).
     Ipv4OtherTimer(u64),
-    /// The address of the querier of MLD (`BRIDGE_QUERIER_IPV6_ADDRESS`, sixteen octets).
+    /// Address of the MLD querier (`BRIDGE_QUERIER_IPV6_ADDRESS`, IPv6 address).
     Ipv6Address(Ipv6Addr),
-    /// The index of the port towards it, a network device (`BRIDGE_QUERIER_IPV6_PORT`, four bytes).
+    /// Interface index of the port towards the MLD querier (`BRIDGE_QUERIER_IPV6_PORT`, `u32`).
     Ipv6Port(u32),
-    /// The time until it is taken to be gone, in clock ticks (`BRIDGE_QUERIER_IPV6_OTHER_TIMER`, eight bytes).
+    /// Time until the MLD querier is considered gone, in clock ticks (`BRIDGE_QUERIER_IPV6_OTHER_TIMER`, `u64`).
     Ipv6OtherTimer(u64),
-    /// An element of any other kind.
+    /// An element of any other type.
     Other(DefaultNla),
 }
 

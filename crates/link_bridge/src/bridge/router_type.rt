@@ -1,4 +1,4 @@
-//! Whether a multicast router is taken to be at a port.
+//! Whether a port is considered to lead to a multicast router.
 
 use link_base::{DecodeError, DecodeFault, NamedNumber};
 use std::fmt;
@@ -13,24 +13,24 @@ const MDB_RTR_TYPE_PERM: u8 = 2;
 
 const MDB_RTR_TYPE_TEMP: u8 = 3;
 
-/// Whether a multicast router is taken to be at a port or at the bridge itself, which then gets all multicast
-/// (`MDB_RTR_TYPE_*`, `include/uapi/linux/if_bridge.h`).
+/// Whether a port is considered to lead to a multicast router, or the bridge itself to be one, and gets all multicast
+/// traffic (`MDB_RTR_TYPE_*`, `include/uapi/linux/if_bridge.h`).
 #[derive(Clone, Copy, Debug, PartialEq, Eq)]
 pub enum BridgeMulticastRouterType {
     /// Never (`MDB_RTR_TYPE_DISABLED`, 0).
     Disabled,
-    /// For some time after each query of a router (`MDB_RTR_TYPE_TEMP_QUERY`, 1).
+    /// For some time after each query from a router (`MDB_RTR_TYPE_TEMP_QUERY`, 1).
     TempQuery,
     /// Always (`MDB_RTR_TYPE_PERM`, 2).
     Permanent,
-    /// For some time, which each setting begins anew (`MDB_RTR_TYPE_TEMP`, 3).
+    /// For some time, which restarts each time this value is set (`MDB_RTR_TYPE_TEMP`, 3).
     Temp,
     /// Any other number.
     Other(u8),
 }
 
 impl BridgeMulticastRouterType {
-    /// `TempQuery`, by the name that is displayed.
+    /// `TempQuery`, under the name that `Display` writes.
     pub const Auto: BridgeMulticastRouterType = BridgeMulticastRouterType::TempQuery;
 }
 
@@ -55,7 +55,7 @@ impl NamedNumber for BridgeMulticastRouterType {
     ghost thorough = { of_cases enum _ _ (Prim.search (thorough_fields)) };
 }
 
-/// The case of a number, `Other` where it has no name.
+/// Converts a number to its variant, or to `Other` if the number has no name.
 impl From<u8> for BridgeMulticastRouterType {
     ghost use Rattle.std.specs.Prelude.{◌≡◌};
     ghost use Rattle.link_base.specs.Named.{value_of};
@@ -73,7 +73,7 @@ impl From<u8> for BridgeMulticastRouterType {
     }
 }
 
-/// The number of a case.
+/// Converts a variant to its number.
 impl From<BridgeMulticastRouterType> for u8 {
     ghost use Rattle.std.specs.Prelude.{◌≡◌};
     ghost use Rattle.link_base.specs.Named.{number_of};
@@ -91,7 +91,7 @@ impl From<BridgeMulticastRouterType> for u8 {
     }
 }
 
-/// The name, as `permanent`, and `auto` for `TempQuery`; the number where it has none.
+/// Writes the variant's name, such as `permanent` (`auto` for `TempQuery`), or the number in decimal for `Other`.
 impl fmt::Display for BridgeMulticastRouterType {
     ghost use Rattle.std.specs.Prelude.{Some};
     ghost use Rattle.link_base.specs.Named.{displayed};
@@ -110,8 +110,12 @@ impl fmt::Display for BridgeMulticastRouterType {
     }
 }
 
-/// Reads a displayed name, `temp_query` for `TempQuery`, or any number of 8 bits: digits, with zeros in front or none,
-/// and at most one `+` before them. Fails with `Text` for every other text.
+/// Parses a variant's name, as `Display` writes it or `temp_query` for `TempQuery`, or any `u8` in decimal, with an
+/// optional `+` and optional leading zeros.
+///
+/// # Errors
+///
+/// `Text` for any other input.
 impl FromStr for BridgeMulticastRouterType {
     type Err = DecodeError;
 

@@ -1,4 +1,4 @@
-//! Who is to run the spanning tree protocol of a bridge.
+//! What is to run the spanning tree protocol of a bridge.
 
 use link_base::{DecodeError, DecodeFault, NamedNumber};
 use std::fmt;
@@ -11,16 +11,16 @@ const BR_STP_MODE_USER: u32 = 1;
 
 const BR_STP_MODE_KERNEL: u32 = 2;
 
-/// Who is to run the spanning tree protocol of a bridge once it is turned on (`BR_STP_MODE_*`,
+/// What is to run the spanning tree protocol of a bridge when it is turned on (`BR_STP_MODE_*`,
 /// `include/uapi/linux/if_link.h`).
 #[derive(Clone, Copy, Debug, PartialEq, Eq)]
 pub enum BridgeStpMode {
-    /// A program in user space where the helper `/sbin/bridge-stp` starts one, and else the kernel
-    /// (`BR_STP_MODE_AUTO`, 0).
+    /// A userspace program if the helper `/sbin/bridge-stp` starts one, and the kernel otherwise (`BR_STP_MODE_AUTO`,
+    /// 0).
     Auto,
-    /// A program in user space; no helper is asked (`BR_STP_MODE_USER`, 1).
+    /// A userspace program; the helper is not called (`BR_STP_MODE_USER`, 1).
     User,
-    /// The kernel; no helper is asked (`BR_STP_MODE_KERNEL`, 2).
+    /// The kernel; the helper is not called (`BR_STP_MODE_KERNEL`, 2).
     Kernel,
     /// Any other number.
     Other(u32),
@@ -47,7 +47,7 @@ impl NamedNumber for BridgeStpMode {
     ghost thorough = { of_cases enum _ _ (Prim.search (thorough_fields)) };
 }
 
-/// The case of a number, `Other` where it has no name.
+/// Converts a number to its variant, or to `Other` if the number has no name.
 impl From<u32> for BridgeStpMode {
     ghost use Rattle.std.specs.Prelude.{◌≡◌};
     ghost use Rattle.link_base.specs.Named.{value_of};
@@ -64,7 +64,7 @@ impl From<u32> for BridgeStpMode {
     }
 }
 
-/// The number of a case.
+/// Converts a variant to its number.
 impl From<BridgeStpMode> for u32 {
     ghost use Rattle.std.specs.Prelude.{◌≡◌};
     ghost use Rattle.link_base.specs.Named.{number_of};
@@ -81,7 +81,7 @@ impl From<BridgeStpMode> for u32 {
     }
 }
 
-/// The name, as `kernel`; the number where it has none.
+/// Writes the variant's name, such as `kernel`, or the number in decimal for `Other`.
 impl fmt::Display for BridgeStpMode {
     ghost use Rattle.std.specs.Prelude.{Some};
     ghost use Rattle.link_base.specs.Named.{displayed};
@@ -99,8 +99,12 @@ impl fmt::Display for BridgeStpMode {
     }
 }
 
-/// Reads a displayed name, or any number of 32 bits: digits, with zeros in front or none, and at most one `+` before
-/// them. Fails with `Text` for every other text.
+/// Parses a variant's name, as `Display` writes it, or any `u32` in decimal, with an optional `+` and optional
+/// leading zeros.
+///
+/// # Errors
+///
+/// `Text` for any other input.
 impl FromStr for BridgeStpMode {
     type Err = DecodeError;
 

@@ -1,4 +1,4 @@
-//! Who runs the spanning tree protocol of a bridge.
+//! What runs the spanning tree protocol of a bridge.
 
 use link_base::{DecodeError, DecodeFault, NamedNumber};
 use std::fmt;
@@ -11,14 +11,15 @@ const BR_KERNEL_STP: u32 = 1;
 
 const BR_USER_STP: u32 = 2;
 
-/// Who runs the spanning tree protocol of a bridge (`BR_NO_STP` and the others, `net/bridge/br_private.h`).
+/// What runs the spanning tree protocol of a bridge (`BR_NO_STP`, `BR_KERNEL_STP` and `BR_USER_STP`,
+/// `net/bridge/br_private.h`).
 #[derive(Clone, Copy, Debug, PartialEq, Eq)]
 pub enum BridgeStpState {
-    /// Nobody: the protocol is off (`BR_NO_STP`, 0).
+    /// Nothing: the protocol is off (`BR_NO_STP`, 0).
     Disabled,
     /// The kernel (`BR_KERNEL_STP`, 1).
     KernelStp,
-    /// A program in user space (`BR_USER_STP`, 2).
+    /// A userspace program (`BR_USER_STP`, 2).
     UserStp,
     /// Any other number.
     Other(u32),
@@ -45,7 +46,7 @@ impl NamedNumber for BridgeStpState {
     ghost thorough = { of_cases enum _ _ (Prim.search (thorough_fields)) };
 }
 
-/// The case of a number, `Other` where it has no name.
+/// Converts a number to its variant, or to `Other` if the number has no name.
 impl From<u32> for BridgeStpState {
     ghost use Rattle.std.specs.Prelude.{◌≡◌};
     ghost use Rattle.link_base.specs.Named.{value_of};
@@ -62,7 +63,7 @@ impl From<u32> for BridgeStpState {
     }
 }
 
-/// The number of a case.
+/// Converts a variant to its number.
 impl From<BridgeStpState> for u32 {
     ghost use Rattle.std.specs.Prelude.{◌≡◌};
     ghost use Rattle.link_base.specs.Named.{number_of};
@@ -79,7 +80,7 @@ impl From<BridgeStpState> for u32 {
     }
 }
 
-/// The name, as `kernel_stp`; the number where it has none.
+/// Writes the variant's name, such as `kernel_stp`, or the number in decimal for `Other`.
 impl fmt::Display for BridgeStpState {
     ghost use Rattle.std.specs.Prelude.{Some};
     ghost use Rattle.link_base.specs.Named.{displayed};
@@ -97,8 +98,12 @@ impl fmt::Display for BridgeStpState {
     }
 }
 
-/// Reads a displayed name, or any number of 32 bits: digits, with zeros in front or none, and at most one `+` before
-/// them. Fails with `Text` for every other text.
+/// Parses a variant's name, as `Display` writes it, or any `u32` in decimal, with an optional `+` and optional
+/// leading zeros.
+///
+/// # Errors
+///
+/// `Text` for any other input.
 impl FromStr for BridgeStpState {
     type Err = DecodeError;
 

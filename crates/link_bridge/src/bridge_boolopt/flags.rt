@@ -1,32 +1,32 @@
-//! The boolean options of a bridge, as flags.
+//! Boolean options of a bridge, as flags.
 
 use bitflags::{Flag, Flags};
 use link_base::flag_laws::{FlagSet, KnownBits};
 
-/// Boolean options of a bridge (`BR_BOOLOPT_*`, `include/uapi/linux/if_bridge.h`). Bits without a name are kept.
+/// Boolean options of a bridge (`BR_BOOLOPT_*`, `include/uapi/linux/if_bridge.h`). Unnamed bits are kept.
 #[derive(Clone, Copy, Debug, Default, PartialEq, Eq)]
 pub struct BridgeBooleanOptionFlags(u32);
 
 impl BridgeBooleanOptionFlags {
-    /// Nothing is learned from the source addresses of frames to link-local addresses (`BR_BOOLOPT_NO_LL_LEARN`).
+    /// Source addresses of link-local frames are not learned (`BR_BOOLOPT_NO_LL_LEARN`).
     pub const NoLinkLocalLearn: BridgeBooleanOptionFlags = BridgeBooleanOptionFlags(0x1);
 
-    /// Multicast is snooped in each VLAN apart (`BR_BOOLOPT_MCAST_VLAN_SNOOPING`).
+    /// Multicast snooping is done for each VLAN separately (`BR_BOOLOPT_MCAST_VLAN_SNOOPING`).
     pub const VlanMulticastSnooping: BridgeBooleanOptionFlags = BridgeBooleanOptionFlags(0x2);
 
-    /// There is a spanning tree for each group of VLANs: multiple spanning trees are on (`BR_BOOLOPT_MST_ENABLE`).
+    /// Multiple spanning trees are on: each group of VLANs has its own (`BR_BOOLOPT_MST_ENABLE`).
     pub const MstEnable: BridgeBooleanOptionFlags = BridgeBooleanOptionFlags(0x4);
 
-    /// The kernel tells of entries of the multicast database that a device could not take over
+    /// The kernel reports multicast database entries that could not be offloaded to a device
     /// (`BR_BOOLOPT_MDB_OFFLOAD_FAIL_NOTIFICATION`).
     pub const MdbOffloadFailNotif: BridgeBooleanOptionFlags = BridgeBooleanOptionFlags(0x8);
 
-    /// The bridge's own addresses stand in the forwarding database under VLAN 0 alone, and not under every VLAN
+    /// The forwarding database has the bridge's own addresses only under VLAN 0, and not under every VLAN
     /// (`BR_BOOLOPT_FDB_LOCAL_VLAN_0`).
     pub const FdbLocalVlan0: BridgeBooleanOptionFlags = BridgeBooleanOptionFlags(0x10);
 }
 
-/// The named flags, and one without a name that has every bit, so that every bit is known.
+/// The named flags, and an unnamed one with all bits, so that every bit is known.
 const FLAGS: [Flag<BridgeBooleanOptionFlags>; 6] = [
     Flag {
         name: "NoLinkLocalLearn",

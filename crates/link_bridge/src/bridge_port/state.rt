@@ -1,4 +1,4 @@
-//! The state of a port of a bridge in the spanning tree protocol.
+//! The state of a bridge port in the spanning tree protocol.
 
 use link_base::{DecodeError, DecodeFault, NamedNumber};
 use std::fmt;
@@ -15,18 +15,18 @@ const BR_STATE_FORWARDING: u8 = 3;
 
 const BR_STATE_BLOCKING: u8 = 4;
 
-/// The state of a port of a bridge in the spanning tree protocol (`BR_STATE_*`, `include/uapi/linux/if_bridge.h`).
+/// The state of a bridge port in the spanning tree protocol (`BR_STATE_*`, `include/uapi/linux/if_bridge.h`).
 #[derive(Clone, Copy, Debug, PartialEq, Eq)]
 pub enum BridgePortState {
-    /// It takes no part in the protocol, and forwards nothing (`BR_STATE_DISABLED`, 0).
+    /// The port does not participate in the protocol and forwards nothing (`BR_STATE_DISABLED`, 0).
     Disabled,
-    /// It takes part in the protocol; it learns nothing yet, and forwards nothing (`BR_STATE_LISTENING`, 1).
+    /// The port participates in the protocol; it does not learn or forward yet (`BR_STATE_LISTENING`, 1).
     Listening,
-    /// It learns addresses, and forwards nothing yet (`BR_STATE_LEARNING`, 2).
+    /// The port learns addresses and does not forward yet (`BR_STATE_LEARNING`, 2).
     Learning,
-    /// It learns and forwards (`BR_STATE_FORWARDING`, 3).
+    /// The port learns and forwards (`BR_STATE_FORWARDING`, 3).
     Forwarding,
-    /// It is kept out of the tree: it hears BPDUs, and forwards nothing (`BR_STATE_BLOCKING`, 4).
+    /// The port is kept out of the tree: it receives BPDUs and forwards nothing (`BR_STATE_BLOCKING`, 4).
     Blocking,
     /// Any other number.
     Other(u8),
@@ -53,7 +53,7 @@ impl NamedNumber for BridgePortState {
     ghost thorough = { of_cases enum _ _ (Prim.search (thorough_fields)) };
 }
 
-/// The case of a number, `Other` where it has no name.
+/// Converts a number to its variant, or to `Other` if the number has no name.
 impl From<u8> for BridgePortState {
     ghost use Rattle.std.specs.Prelude.{◌≡◌};
     ghost use Rattle.link_base.specs.Named.{value_of};
@@ -72,7 +72,7 @@ impl From<u8> for BridgePortState {
     }
 }
 
-/// The number of a case.
+/// Converts a variant to its number.
 impl From<BridgePortState> for u8 {
     ghost use Rattle.std.specs.Prelude.{◌≡◌};
     ghost use Rattle.link_base.specs.Named.{number_of};
@@ -91,7 +91,7 @@ impl From<BridgePortState> for u8 {
     }
 }
 
-/// The name, as `forwarding`; the number where it has none.
+/// Writes the variant's name, such as `forwarding`, or the number in decimal for `Other`.
 impl fmt::Display for BridgePortState {
     ghost use Rattle.std.specs.Prelude.{Some};
     ghost use Rattle.link_base.specs.Named.{displayed};
@@ -111,8 +111,12 @@ impl fmt::Display for BridgePortState {
     }
 }
 
-/// Reads a displayed name, or any number of 8 bits: digits, with zeros in front or none, and at most one `+` before
-/// them. Fails with `Text` for every other text.
+/// Parses a variant's name, as `Display` writes it, or any `u8` in decimal, with an optional `+` and optional
+/// leading zeros.
+///
+/// # Errors
+///
+/// `Text` for any other input.
 impl FromStr for BridgePortState {
     type Err = DecodeError;
 
