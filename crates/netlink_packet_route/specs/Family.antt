@@ -1,4 +1,4 @@
--- The families: their names and their tables.
+-- The attribute sets: their names and their tables.
 use Rattle.std.specs.Prelude.{ℕ, List, codes}
 use Rattle.link_base.specs.Table.{Table}
 use Rattle.netlink_packet_route.specs.declared.family.Family.{Family}
@@ -14,7 +14,7 @@ use Rattle.link_vlan_can.specs.Dsa.{dsa_table}
 use Rattle.link_vlan_can.specs.Hsr.{hsr_table}
 use Rattle.link_bridge.specs.ProtoInfo.{proto_info_table}
 
--- the name of a family, as the program takes it
+-- the name of an attribute set, as the program `nlroute` accepts it
 abbrev pub family_name : Family → List ℕ
 family_name AfSpecBridge = codes "af_spec_bridge"
 family_name Bond = codes "bond"
@@ -27,7 +27,7 @@ family_name Dsa = codes "dsa"
 family_name Hsr = codes "hsr"
 family_name ProtoBridge = codes "proto_bridge"
 
--- the table that a family is read by
+-- the table of an attribute set, which defines how its attributes decode
 abbrev pub table_of : Family → Table
 table_of AfSpecBridge = af_spec_table
 table_of Bond = bond_table

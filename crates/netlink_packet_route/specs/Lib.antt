@@ -2,7 +2,7 @@ pub mod Family
 pub mod Count
 pub mod Rewrite
 pub mod Report
--- what the contracts of `link` speak of
+-- definitions that the contracts of `link` use
 pub use Rattle.link_base.specs.Number
 pub use Rattle.link_base.specs.Frame
 pub use Rattle.link_base.specs.Class

@@ -1,4 +1,4 @@
--- What the program prints for a family and a text, and its status.
+-- The output and the exit status of the program `nlroute` for an attribute set and an input.
 use Rattle.std.specs.Prelude.{◌≡◌, ◌≢◌, ◌==◌, ◌||◌, ℕ, ◌<◌, ◌≤◌, Bool, not, List, [], ◌∷◌, ◌++◌, length, Result, Ok, Err, codes}
 use Rattle.std.specs.List.{filter, flat_map, AllByRecursion}
 use Rattle.std.specs.Fmt.{decimal}
@@ -12,65 +12,65 @@ use Rattle.link_base.specs.Answers.{IsFirstUnfit}
 
 -- ---- lines
 
--- a line ends with LF
+-- a line: the text and LF
 abbrev pub line : List ℕ → List ℕ
 line text = text ++ 10 ∷ []
 
--- where reading found the fault
+-- the line that reports a decode error and the byte offset of its attribute
 abbrev pub fault_line : ℕ → DecodeFault → List ℕ
 fault_line at fault = codes "fault at " ++ (decimal at ++ (codes ": " ++ line (fault_text fault)))
 
--- which value is too long
+-- the line that reports the index of the first value that does not fit
 abbrev pub too_long_line : ℕ → List ℕ
 too_long_line i = line (codes "too long at " ++ decimal i)
 
--- a kind field and a length
+-- the line of an attribute: its `nla_type` and the length of its payload
 abbrev pub attr_line_of : ℕ → ℕ → List ℕ
 attr_line_of kind_field size = line (codes "attr " ++ (decimal kind_field ++ (codes " len " ++ decimal size)))
 
--- a value: its written kind field, and the length of its written payload
+-- the line of a value: its encoded `nla_type`, and the length of its encoded payload
 abbrev pub attr_line : AttrValue → List ℕ
 attr_line v = attr_line_of (written_kind v) (length (written_payload v))
 
--- the written bytes
+-- the line with the output bytes in hex
 abbrev pub out_line : List ℕ → List ℕ
 out_line [] = line (codes "out")
 out_line (b ∷ bytes) = line (codes "out " ++ encode_lower (b ∷ bytes))
 
--- the lines of values, and then of what is written for them
+-- the lines of all values, then the line with their encoding in hex
 abbrev pub value_lines : List AttrValue → List ℕ
 value_lines vs = flat_map attr_line vs ++ out_line (written_list vs)
 
--- whether the written bytes are those that were read
+-- whether the output bytes equal the input bytes
 pub data Verdict (written read text : List ℕ) : Type 0 where
   Same : written ≡ read → text ≡ line (codes "same") → Verdict written read text
   Changed : written ≢ read → text ≡ line (codes "changed") → Verdict written read text
 
--- ---- what is printed, and the status
+-- ---- output and exit status
 
 pub data Prints (table : Table) (s out : List ℕ) (status : ℕ) : Type 0 where
   -- all values fit
   Success : (vs : List AttrValue) (verdict : List ℕ) → Wire (Gives table) s vs → AllByRecursion Fits vs → Verdict (written_list vs) s verdict
       → out ≡ value_lines vs ++ verdict → status ≡ 0 → Prints table s out status
-  -- the string has a fault
+  -- the input is malformed
   Fault : (at : ℕ) (fault : DecodeFault) → FirstFault (Gives table) s at fault → out ≡ fault_line at fault → status ≡ 1 → Prints table s out status
   -- a value does not fit
   TooLong : (vs : List AttrValue) (i : ℕ) → Wire (Gives table) s vs → IsFirstUnfit vs i → out ≡ too_long_line i → status ≡ 3 → Prints table s out status
 
--- space, tab, CR and LF
+-- true for space, tab, CR and LF
 abbrev pub is_space : ℕ → Bool
 is_space b = b == 32 || (b == 9 || (b == 13 || b == 10))
 
--- what is left of a text without these
+-- the input without its space, tab, CR and LF bytes
 abbrev pub digits_of : List ℕ → List ℕ
 digits_of text = filter (λ b. not (is_space b)) text
 
--- what is printed for digits: that of their bytes, or that they are no hex text
+-- the output for digits: the one for the bytes that they encode, or `bad hex` if they are not valid hex
 abbrev pub PrintsDigits : Table → Result (List ℕ) FromHexError → List ℕ → ℕ → Type 0
 PrintsDigits table (Ok s) out status = Prints table s out status
 PrintsDigits table (Err e) out status = (out ≡ line (codes "bad hex")) × (status ≡ 2)
 
--- what is printed for a text: up to 262,144 bytes that of its digits, and beyond that it is too long
+-- the output for an input: the one for its digits if it has at most 262,144 bytes, otherwise `input too long`
 pub data Reports (table : Table) (text : List ℕ) (out : List ℕ) (status : ℕ) : Type 0 where
   Short : length text ≤ 262144 → PrintsDigits table (decode_of (digits_of text)) out status → Reports table text out status
   Long : 262144 < length text → out ≡ line (codes "input too long") → status ≡ 2 → Reports table text out status

@@ -1,4 +1,4 @@
--- What a rewriting answers.
+-- Results of re-encoding a list.
 use Rattle.std.specs.Prelude.{◌≡◌, ◌↔◌, ℕ, ◌<◌, ◌≤◌, List, map, length, take, Option, Some, None, Result, Ok, Err}
 use Rattle.std.specs.Global.{Vec}
 use Rattle.std.specs.List.{AllByRecursion}
@@ -38,36 +38,36 @@ SucceedsIf P Q (Err (errors.Fault at fault)) = ¬ P
 SucceedsIf P Q (Err (errors.TooLong i)) = ¬ P
 SucceedsIf P Q (Err (errors.Memory e)) = Unit {0}
 
--- P holds of what the call returned; or the first fault; or the first value that does not fit
+-- P holds of what the call returned; or the first decode error; or the first value that does not fit
 abbrev pub AnswersBy : {X : Type 0} → Table → List ℕ → (X → Type 0) → Result X RewriteError → Type 0
 AnswersBy table s P (Ok x) = P x
 AnswersBy table s P (Err (errors.Fault at fault)) = FirstFault (Gives table) s at fault
 AnswersBy table s P (Err (errors.TooLong i)) = IsUnfitAt table s i
 AnswersBy table s P (Err (errors.Memory e)) = Unit {0}
 
--- the rewriting; or why there is none
+-- the re-encoded list; or why there is none
 abbrev pub RewriteAnswers : Table → List ℕ → Result (Vec ℕ) RewriteError → Type 0
 RewriteAnswers table s result = AnswersBy table s (λ out. Rewriting table s out.items) result
 
--- the rewriting, in the caller's buffer; or why there is none
+-- the re-encoded list, in the caller's buffer; or why there is none
 abbrev pub RewriteIntoAnswers : Table → List ℕ → List ℕ → List ℕ → Result ℕ RewriteError → Type 0
 RewriteIntoAnswers table s old new result = AnswersBy table s (RewrittenInto table s old new) result
 
--- these values were read, and all of them written
+-- s decodes to vs, all of them fit, and out is their encoding
 pub record WritesValues (table : Table) (s : List ℕ) (vs : List AttrValue) (out : List ℕ) : Type 0 where
   pub wire : Wire (Gives table) s vs
   pub fit : AllByRecursion Fits vs
   pub written : out ≡ written_list vs
 
--- the values and what is written for them; or why they are not written
+-- the decoded values and their encoding; or why there are none
 abbrev pub ReadAndWritten : {X : Type 0} → (X → List AttrValue) → Table → List ℕ → Result (X × Vec ℕ) RewriteError → Type 0
 ReadAndWritten view table s result = AnswersBy table s (λ read. WritesValues table s (view read.0) read.1.items) result
 
--- t reads as the values of s, with their names cut
+-- t decodes to the values of s, with CAN controller names truncated
 abbrev pub ReadsBack : Table → List ℕ → List ℕ → Type 0
 ReadsBack table s t = (vs : List AttrValue) → Wire (Gives table) s vs → Wire (Gives table) t (map cut vs)
 
--- t has a rewriting u, which is canonical; u is its own rewriting, and has no other
+-- re-encoding t gives a canonical list; re-encoding that list gives the same bytes, and only these
 pub record Settles (table : Table) (t : List ℕ) : Type 0 where
   pub second : List ℕ
   pub is : Rewriting table t second
@@ -75,7 +75,7 @@ pub record Settles (table : Table) (t : List ℕ) : Type 0 where
   pub own : Rewriting table second second
   pub only : (w : List ℕ) → Rewriting table second w → w ≡ second
 
--- t is what `rewrite` answers for s: the rewriting, and what holds of every rewriting
+-- t is what `rewrite` returns for s: the re-encoded list, with the properties that every re-encoded list has
 pub record IsRewritten (table : Table) (s t : List ℕ) : Type 0 where
   pub rewriting : Rewriting table s t
   pub same : (t ≡ s) ↔ Canonical table s
@@ -83,30 +83,30 @@ pub record IsRewritten (table : Table) (s t : List ℕ) : Type 0 where
   pub back : ReadsBack table s t
   pub settles : Settles table t
 
--- these bytes stand in front of a lent buffer, which holds them and is as before behind them; there are so many
+-- text is in the first n bytes of the new buffer, which is otherwise equal to the old buffer; n is its length
 pub record StandsInFront (old new text : List ℕ) (n : ℕ) : Type 0 where
   pub count : n ≡ length text
   pub room : length text ≤ length old
   pub written : OverwritesFront old new text
 
--- the rewriting stands in front
+-- the first n bytes of the new buffer are the re-encoded list, and the rest of the buffer is unchanged
 pub record Rewrites (table : Table) (s old new : List ℕ) (n : ℕ) : Type 0 where
   pub text : List ℕ
   pub is : IsRewritten table s text
   pub put : StandsInFront old new text n
 
--- the rewriting has more bytes than there is room for
+-- the re-encoded list has more than `room` bytes
 pub record HasNoRoom (table : Table) (s : List ℕ) (room : ℕ) : Type 0 where
   pub text : List ℕ
   pub is : IsRewritten table s text
   pub more : room < length text
 
--- the rewriting, at the start of the caller's buffer, or that the buffer is too small for it
+-- the re-encoded list, at the start of the caller's buffer, or that the buffer is too small for it
 abbrev pub WritesOrLacksRoom : Table → List ℕ → List ℕ → List ℕ → Option ℕ → Type 0
 WritesOrLacksRoom table s old new (Some n) = Rewrites table s old new n
 WritesOrLacksRoom table s old new None = HasNoRoom table s (length old)
 
--- one of these; or why there is no rewriting
+-- the re-encoded list in the caller's buffer, or that the buffer is too small; or why there is no re-encoded list
 abbrev pub RewriteToAnswers : Table → List ℕ → List ℕ → List ℕ → Result (Option ℕ) RewriteError → Type 0
 RewriteToAnswers table s old new result = AnswersBy table s (WritesOrLacksRoom table s old new) result
 

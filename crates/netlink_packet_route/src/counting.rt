@@ -1,4 +1,4 @@
-//! How many values a list has.
+//! Counts the attributes of a list.
 
 ghost use Rattle.std.specs.Prelude.{◌≡◌, ◌≤◌, None, length, IfOk};
 ghost use Rattle.link_base.specs.Answers.{ListFaultUnless, OnListMemory};
@@ -12,7 +12,7 @@ use crate::family::Family;
 use link_base::{Attribute, ListError, read_list};
 use std::alloc::Global;
 
-/// Counts the values of an attribute list: as many as it has attributes.
+/// Counts the values of an attribute list. Each attribute is one value.
 ///
 /// # Errors
 ///

@@ -1,30 +1,30 @@
-//! The families of attributes, by name.
+//! The attribute sets ([`Family`]) and their names.
 
 ghost use Rattle.std.specs.Prelude.{◌≡◌, ◌≢◌, ◌↔◌, IfSome, IfNone, IsTrue};
 
-/// A family of link attributes: which kinds it knows, and what their payloads are.
+/// A set of link attributes: it determines which attribute types are known and how their payloads are parsed.
 #[derive(Clone, Copy, Debug, PartialEq, Eq)]
 pub enum Family {
-    /// `af_spec_bridge`: the attributes of `IFLA_AF_SPEC` in messages of AF_BRIDGE,
+    /// `af_spec_bridge`: attributes of `IFLA_AF_SPEC` in AF_BRIDGE messages,
     /// [`AfSpecBridge`](crate::link::AfSpecBridge).
     AfSpecBridge,
-    /// `bond`: the attributes of bonds, [`InfoBond`](crate::link::InfoBond).
+    /// `bond`: attributes of bonds, [`InfoBond`](crate::link::InfoBond).
     Bond,
-    /// `bond_port`: the attributes of ports of bonds, [`InfoBondPort`](crate::link::InfoBondPort).
+    /// `bond_port`: attributes of bond ports, [`InfoBondPort`](crate::link::InfoBondPort).
     BondPort,
-    /// `bridge`: the attributes of bridges, [`InfoBridge`](crate::link::InfoBridge).
+    /// `bridge`: attributes of bridges, [`InfoBridge`](crate::link::InfoBridge).
     Bridge,
-    /// `bridge_port`: the attributes of ports of bridges, [`InfoBridgePort`](crate::link::InfoBridgePort).
+    /// `bridge_port`: attributes of bridge ports, [`InfoBridgePort`](crate::link::InfoBridgePort).
     BridgePort,
-    /// `vlan`: the attributes of VLAN devices, [`InfoVlan`](crate::link::InfoVlan).
+    /// `vlan`: attributes of VLAN devices, [`InfoVlan`](crate::link::InfoVlan).
     Vlan,
-    /// `can`: the attributes of CAN controllers, [`InfoCan`](crate::link::InfoCan).
+    /// `can`: attributes of CAN controllers, [`InfoCan`](crate::link::InfoCan).
     Can,
-    /// `dsa`: the attributes of DSA ports, [`InfoDsa`](crate::link::InfoDsa).
+    /// `dsa`: attributes of DSA ports, [`InfoDsa`](crate::link::InfoDsa).
     Dsa,
-    /// `hsr`: the attributes of HSR and PRP devices, [`InfoHsr`](crate::link::InfoHsr).
+    /// `hsr`: attributes of HSR and PRP devices, [`InfoHsr`](crate::link::InfoHsr).
     Hsr,
-    /// `proto_bridge`: the attributes of `IFLA_PROTINFO` in messages of AF_BRIDGE,
+    /// `proto_bridge`: attributes of `IFLA_PROTINFO` in AF_BRIDGE messages,
     /// [`LinkProtoInfoBridge`](crate::link::LinkProtoInfoBridge).
     ProtoBridge,
 }
@@ -32,7 +32,7 @@ pub enum Family {
 impl Family {
     ghost use Rattle.netlink_packet_route.specs.Family.{family_name};
 
-    /// The family of this name, in exact case, or `None` where there is none.
+    /// Returns the `Family` with this name, or `None` if there is no such name. The comparison is case-sensitive.
     pub fn from_name(name: &str) -> Option<Self>
         ensures found { IfSome result (λ family. name.now ≡ family_name family) }
         ensures none { IfNone result ((family : Family) → name.now ≢ family_name family) }
@@ -52,7 +52,7 @@ impl Family {
         }
     }
 
-    /// The name of the family, which `from_name` takes.
+    /// Returns the name that `from_name` accepts for this `Family`.
     pub fn name(self) -> &'static str
         ensures { result.now ≡ family_name self }
     {
@@ -71,7 +71,7 @@ impl Family {
     }
 }
 
-/// Calls a function that is generic over an `Attribute`, at the type of a family, as
+/// Calls a function that is generic over an `Attribute`, with the enum of attributes of a `Family`, for example
 /// `by_family!(family, read_list(alloc, bytes))`.
 #[macro_export]
 macro_rules! by_family {

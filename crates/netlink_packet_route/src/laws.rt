@@ -1,4 +1,4 @@
-//! What is proved of the types of this crate. Nothing here runs.
+//! Theorems about the types and functions of this crate. The functions have empty bodies.
 
 ghost use Rattle.std.specs.Prelude.{◌≡◌, ◌↔◌, ℕ, List, IsTrue};
 ghost use Rattle.link_base.specs.Table.{Canonical, Rewriting};
@@ -10,13 +10,14 @@ ghost use Rattle.netlink_packet_route.specs.declared.rewriting.RewriteError.{Rew
 use crate::family::Family;
 use crate::rewriting::RewriteError;
 
-/// Two families, or two errors of a rewriting, are equal exactly where they are the same.
+/// States that `==` on `Family` and on `RewriteError` returns true if and only if its arguments are the same value.
 pub fn equality()
     ensures family { (a b : Family) → IsTrue (⟦<Family as PartialEq>⟧.eq a b) ↔ (a ≡ b) }
     ensures error { (a b : RewriteError) → IsTrue (⟦<RewriteError as PartialEq>⟧.eq a b) ↔ (a ≡ b) }
 {}
 
-/// What is written for a rewriting, of which [`rewrite`](crate::rewrite) says that it settles, is canonical.
+/// States that re-encoding `t` gives a canonical list if `t` is the output of [`rewrite`](crate::rewrite) (or satisfies
+/// `Settles`, as that output does).
 pub fn second_rewriting()
     ensures { (family : Family) (t u : List ℕ) → Settles (table_of family) t → Rewriting (table_of family) t u
         → Canonical (table_of family) u }

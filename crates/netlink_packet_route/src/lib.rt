@@ -1,5 +1,6 @@
-//! Netlink's attributes of network links, for users: a family by its name, a list rewritten, the report of a text. The
-//! types and the calls for one attribute or a list are in [`link`].
+//! Netlink attributes of network links. This crate selects an attribute set by name ([`Family`]), re-encodes lists, and
+//! produces the output of the program `nlroute`. The enums of attributes, and the functions for single attributes and
+//! for lists, are in [`link`].
 #![tactic(auto)]
 
 mod counting;

@@ -1,4 +1,4 @@
-//! The attributes of links: frames, lists, and the families of attributes with all that their values hold.
+//! Link attributes: framing, lists, and the types of every attribute set with the types of their values.
 
 pub use link_base::{
     Attribute, Cause, DecodeError, DecodeFault, DefaultNla, Emitable, FrameTable, ListError,

@@ -1,4 +1,4 @@
-//! The program's output for a text.
+//! The output of the program `nlroute` for an input.
 
 ghost use Rattle.std.specs.Prelude.{◌≡◌, ◌++◌, IfOk, OnOk, map, flat_map, string_bytes};
 ghost use Rattle.std.specs.List.{AllByRecursion};
@@ -14,16 +14,22 @@ use hex::FromHexError;
 use link_base::{Attribute, DecodeFault};
 use std::alloc::{AllocError, Global};
 
-/// The most bytes of a text that `report` takes for input.
+/// The maximum input length of `report`, in bytes.
 pub const MOST_TEXT: usize = 262_144;
 
-/// The program's whole output for a text, and its exit status.
+/// Returns the complete output of the program `nlroute FAMILY` for an input, and its exit status.
 ///
-/// The text is hex digits of either case; space, tab, CR and LF are ignored wherever they stand. The output is one
-/// line `attr KIND len LENGTH` for each value, `out HEX`, and `same` or `changed` (status 0); or one line: the first
-/// fault (1), `input too long` or `bad hex` (2), or the first value that does not fit (3).
+/// `text` must consist of hex digits (case-insensitive); space, tab, CR and LF are ignored anywhere. The output is
 ///
-/// Fails where an allocation failed.
+/// - status 0: a line `attr KIND len LENGTH` for each value, then `out HEX`, then `same` or `changed`;
+/// - status 1: one line with the first decode error;
+/// - status 2: the line `input too long` if `text.len()` is greater than `MOST_TEXT`, or `bad hex` if the digits are
+///   not valid hex;
+/// - status 3: one line with the index of the first value that does not fit in an attribute.
+///
+/// # Errors
+///
+/// `AllocError` if an allocation fails.
 pub fn report(alloc: Global, family: Family, text: &[u8]) -> Result<(String, u8), AllocError>
     ensures { IfOk result (λ report. Reports (table_of family) text.now (string_bytes report.0) report.1) }
 {

@@ -1,4 +1,4 @@
-//! A list, read and written again.
+//! Re-encodes a list into a new vector.
 
 ghost use Rattle.std.specs.Prelude.{◌≡◌, ◌≤◌, ◌↔◌, None, length, map, IfOk};
 ghost use Rattle.link_base.specs.Frame.{pad, frame_fault};
@@ -14,28 +14,28 @@ use link_base::{Attribute, DecodeFault, ListError, WriteError, read_list, write_
 use std::alloc::{AllocError, Global};
 use thiserror::Error;
 
-/// Why a list could not be rewritten.
+/// Why a list could not be re-encoded.
 #[derive(Debug, Drop, PartialEq, Eq, Error)]
 pub enum RewriteError {
     /// An allocation failed.
     #[error("no memory")]
     Memory(#[from(alloc)] AllocError),
-    /// The first fault of the bytes, and the byte offset of the frame that has it.
+    /// The first decode error, and the byte offset of the attribute that has it.
     #[error("fault at {at}: {fault}")]
     Fault { at: usize, fault: DecodeFault },
-    /// The first value, counted from 0, whose written payload has more than 65531 bytes.
+    /// The zero-based index of the first value whose encoded payload has more than 65531 bytes.
     #[error("too long at {index}")]
     TooLong { index: usize },
 }
 
-/// Re-encodes an attribute list: parses it and writes its values. A canonical list is returned unchanged, and never
+/// Re-encodes an attribute list: parses it and serializes its values. A canonical list is returned unchanged and never
 /// rejected.
 ///
 /// # Errors
 ///
 /// `Fault` if and only if the input does not decode, and `TooLong` if and only if it decodes and one of its values does
-/// not fit, each unless an allocation fails. `Memory` if an allocation fails, which is possible only if the input starts
-/// with a whole attribute.
+/// not fit, each unless an allocation fails. `Memory` if an allocation fails, which is possible only if the input
+/// starts with a whole attribute.
 pub fn rewrite(alloc: Global, family: Family, bytes: &[u8]) -> Result<Vec<u8>, RewriteError>
     ensures answer { RewriteAnswers (table_of family) bytes.now result }
     ensures fault { RewriteFaultUnless result (Decodes (table_of family) bytes.now) }
@@ -43,12 +43,13 @@ pub fn rewrite(alloc: Global, family: Family, bytes: &[u8]) -> Result<Vec<u8>, R
     ensures memory { OnRewriteMemory result (frame_fault bytes.now ≡ None) }
     // A canonical input is never rejected.
     ensures canonical { SucceedsIf (Canonical (table_of family) bytes.now) (λ out. out.items ≡ bytes.now) result }
-    // Equal to the input if and only if the input is canonical, and never longer than it, rounded up to four.
+    // Equal to the input if and only if the input is canonical. Never longer than the input length, rounded up to a
+    // multiple of four.
     ensures same { IfOk result (λ out. (out.items ≡ bytes.now) ↔ Canonical (table_of family) bytes.now) }
     ensures no_longer { IfOk result (λ out. length out.items ≤ pad (length bytes.now)) }
-    // It reads as the values, with names cut.
+    // Decodes to the same values, except that CAN controller names are truncated.
     ensures back { IfOk result (λ out. ReadsBack (table_of family) bytes.now out.items) }
-    // The second rewriting is canonical, and every later one equals it.
+    // Re-encoding the output gives a canonical list, and re-encoding that list returns it unchanged.
     ensures settles { IfOk result (λ out. Settles (table_of family) out.items) }
 {
     by_family!(family, rewrite_as(alloc, bytes))
@@ -71,7 +72,7 @@ fn rewrite_as<F: Attribute>(alloc: Global, bytes: &[u8]) -> Result<Vec<u8>, Rewr
     }
 }
 
-/// The values of a list, and the bytes that are written for them.
+/// Parses a list and serializes its values. Returns the values and the serialized bytes.
 pub(crate) fn read_and_write<F: Attribute>(
     alloc: Global,
     bytes: &[u8],

@@ -1,4 +1,4 @@
-//! A list, read and written again into a lent buffer, value by value.
+//! Re-encodes a list into the caller's buffer, one attribute at a time.
 
 ghost use Rattle.std.specs.Prelude.{◌≡◌, ◌≤◌, ◌↔◌, length, take, drop, IfOk};
 ghost use Rattle.link_base.specs.Frame.{pad};
@@ -14,16 +14,16 @@ use crate::rewriting::RewriteError;
 use link_base::{Attribute, ListError, rewrite_list};
 use std::alloc::Global;
 
-/// Re-encodes an attribute list into `buffer`, as [`rewrite`](crate::rewrite) does, but one attribute at a time and
-/// without a list of values. Returns the number of bytes written; the rest of the buffer is unchanged.
+/// Re-encodes an attribute list into `buffer`, as [`rewrite`](crate::rewrite) does, but one attribute at a time. No
+/// list of values is built. Returns the number of bytes written; the rest of the buffer is unchanged.
 ///
-/// `buffer` must be at least as long as `bytes`, rounded up to a multiple of four. That is always enough.
+/// Let `m` be `bytes.len()` rounded up to a multiple of four. `buffer` must have at least `m` bytes, which is always
+/// enough.
 ///
 /// # Errors
 ///
-/// As for `rewrite`, except that `Memory` is possible only for an attribute whose value is heap-allocated, and not for one
-/// behind the first error. On error, the start of the buffer may have changed, up to the length of `bytes` rounded up to a
-/// multiple of four.
+/// As for `rewrite`, except that `Memory` is possible only for an attribute whose value is heap-allocated and that does
+/// not follow the first error. On error, `buffer[..m]` may have changed.
 #[inline(always)]
 pub fn rewrite_into(
     alloc: Global,
@@ -39,7 +39,7 @@ pub fn rewrite_into(
     ensures memory { OnRewriteMemory result (NeedsMemory (table_of family) bytes.now) }
     // A canonical input is never rejected.
     ensures canonical { SucceedsIf (Canonical (table_of family) bytes.now) (λ n. take n buffer.new ≡ bytes.now) result }
-    // What holds of `rewrite` holds of what it wrote.
+    // The guarantees of `rewrite` for its output hold for the `n` bytes that are written.
     ensures same { IfOk result (λ n. (take n buffer.new ≡ bytes.now) ↔ Canonical (table_of family) bytes.now) }
     ensures no_longer { IfOk result (λ n. n ≤ pad (length bytes.now)) }
     ensures back { IfOk result (λ n. ReadsBack (table_of family) bytes.now (take n buffer.new)) }

@@ -1,4 +1,4 @@
-//! A list, read and written again into a lent buffer, where there is room.
+//! Re-encodes a list into the caller's buffer, if the buffer is large enough.
 
 ghost use Rattle.std.specs.Prelude.{◌≡◌, None};
 ghost use Rattle.link_base.specs.Frame.{frame_fault};
@@ -14,12 +14,12 @@ use crate::rewriting::RewriteError;
 use link_base::{Attribute, ListError, emit_list, measure_list, read_list};
 use std::alloc::Global;
 
-/// Re-encodes an attribute list into `buffer`, as [`rewrite`](crate::rewrite) does. Returns the number of bytes written,
-/// and the rest of the buffer is unchanged; or `None` if the buffer is too small.
+/// Re-encodes an attribute list into `buffer`, as [`rewrite`](crate::rewrite) does. Returns `Some(n)`, where `n` is the
+/// number of bytes written, and leaves `buffer[n..]` unchanged; or returns `None` if the buffer is too small.
 ///
 /// # Errors
 ///
-/// As for `rewrite`. The buffer is unchanged unless the result is a number of bytes.
+/// As for `rewrite`. The buffer is unchanged unless the result is `Ok(Some(n))`.
 #[inline(always)]
 pub fn rewrite_to(
     alloc: Global,

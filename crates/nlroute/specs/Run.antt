@@ -1,4 +1,4 @@
--- What a run of the program reads, writes and answers.
+-- What a run of the program reads, writes and returns.
 use Rattle.std.specs.Prelude.{◌≡◌, ◌≢◌, ◌⊎◌, ℕ, ◌≤◌, List, length, codes, Option, Some}
 use Rattle.std.specs.Io.KnownBytes.{Appends, Consumes, IsAtEnd}
 use Rattle.netlink_packet_route.specs.Table.{Table}
@@ -6,7 +6,7 @@ use Rattle.netlink_packet_route.specs.declared.family.Family.{Family}
 use Rattle.netlink_packet_route.specs.Family.{family_name}
 use Rattle.netlink_packet_route.specs.Report.{Reports, line}
 
--- this was read of a reader: at most 262,145 bytes, one more than a text may have
+-- `text` was read from a reader: at most 262,145 bytes, one more than the maximum input length
 pub record IsRead (left_before left_after : Option (List ℕ)) (text : List ℕ) : Type 0 where
   pub bytes : Consumes left_before left_after text
   pub most : length text ≤ 262145
@@ -15,7 +15,7 @@ pub record IsRead (left_before left_after : Option (List ℕ)) (text : List ℕ)
 abbrev pub IsAllRead : List ℕ → Option (List ℕ) → Type 0
 IsAllRead text left = (length text ≡ 262145) ⊎ IsAtEnd left
 
--- what was read of the reader, whose report is what was written
+-- the input that was read, and its report, which was written
 pub record RunsFor (table : Table) (left_before left_after held_before held_after : Option (List ℕ)) (status : ℕ) : Type 0 where
   pub text : List ℕ
   pub out : List ℕ
@@ -24,7 +24,7 @@ pub record RunsFor (table : Table) (left_before left_after held_before held_afte
   pub report : Reports table text out status
   pub written : Appends held_before held_after out
 
--- the name is no family's
+-- the name is not that of a Family
 abbrev pub IsNoFamily : Option (List ℕ) → Type 0
 IsNoFamily name = (family : Family) → name ≢ Some (family_name family)
 
@@ -34,6 +34,6 @@ usage_line = line (codes "usage: nlroute FAMILY")
 abbrev pub no_memory_line : List ℕ
 no_memory_line = line (codes "no memory")
 
--- the line was written and this status answered, or the writer failed
+-- the text was written, and the result is `status`; or the writer failed
 abbrev pub PrintsOrFails : Option (List ℕ) → Option (List ℕ) → List ℕ → ℕ → ℕ → Type 0
 PrintsOrFails held_before held_after text status result = ((result ≡ status) × Appends held_before held_after text) ⊎ (result ≡ 5)

@@ -1,9 +1,9 @@
-//! The arguments that the program was started with.
+//! The command-line arguments.
 
 ghost use Rattle.std.specs.Prelude.{◌≡◌};
 ghost use Rattle.nlroute.specs.Arguments.{only_behind_program};
 
-/// The only argument behind the name of the program, or `None` where there is none, or more than one.
+/// Returns the argument after the program's name, or `None` if there is not exactly one.
 pub(crate) fn only(mut arguments: Vec<String>) -> Option<String>
     ensures { result ≡ only_behind_program arguments.items }
 {

@@ -1,7 +1,7 @@
-//! Reads a list of link attributes as hex text, and prints its values and the bytes that are written for them.
+//! Reads a list of link attributes in hex, and prints its attributes and the re-encoded list.
 //!
-//! `nlroute FAMILY`, where FAMILY is `af_spec_bridge`, `bond`, `bond_port`, `bridge`, `bridge_port`, `vlan`, `can`,
-//! `dsa`, `hsr` or `proto_bridge`; the text comes from standard input.
+//! Usage: `nlroute FAMILY`, where FAMILY is `af_spec_bridge`, `bond`, `bond_port`, `bridge`, `bridge_port`, `vlan`,
+//! `can`, `dsa`, `hsr` or `proto_bridge`. The input is read from standard input.
 #![tactic(auto)]
 
 mod arguments;
@@ -24,7 +24,7 @@ fn main(rt: HostRuntime) -> ExitCode {
     ExitCode::from(status)
 }
 
-/// The only argument. One that is not UTF-8 is no family's name.
+/// Returns the argument, if there is exactly one and it is UTF-8.
 fn name_of_family<R: Env + AllocGlobal>(rt: &R) -> Result<Option<String>, AllocError> {
     match env::args(rt) {
         Ok(arguments) => {

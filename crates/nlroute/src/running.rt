@@ -1,4 +1,4 @@
-//! A run of the program, over any reader and writer.
+//! Runs the program on any reader and writer.
 
 ghost use Rattle.std.specs.Prelude.{◌≡◌, ◌<◌, ◌≤◌, ℕ, List, IfOk, IfSome, IfNone, Some};
 ghost use Rattle.std.specs.Option.{option_copied};
@@ -11,12 +11,16 @@ use netlink_packet_route::{Family, MOST_TEXT, report};
 use std::alloc::Global;
 use std::io::{Read, Write};
 
-/// Reads a text and writes the report of it for the family of this name; without a family writes the usage line
-/// and reads nothing. The answer is the exit status.
+/// Reads the input from `reader` and writes its report for the `Family` called `name`. If there is no such `Family`,
+/// writes the usage line and reads nothing. The input ends when a read returns no bytes; at most 262,145 bytes are
+/// read. Returns the exit status:
 ///
-/// Status 0 is success, 1 a fault, 2 a text that is too long or not hex, or an unknown name, 3 a value that does not
-/// fit, 4 a failed allocation, 5 a failed reader or writer. The text ends where a read gives no bytes, and no more than
-/// 262,145 bytes of it are read.
+/// - 0 on success;
+/// - 1 if the list is malformed;
+/// - 2 if the input is too long or not hex, or the name is unknown;
+/// - 3 if a value does not fit;
+/// - 4 if an allocation fails;
+/// - 5 if the reader or the writer fails.
 pub fn run<R: Read, W: Write>(
     alloc: Global,
     name: Option<&str>,
@@ -27,7 +31,7 @@ pub fn run<R: Read, W: Write>(
         → RunsFor (table_of family) (R.remaining reader.old) (R.remaining reader.new)
         (W.contents writer.old) (W.contents writer.new) result }
     ensures bounded { (text : List ℕ) × IsRead (R.remaining reader.old) (R.remaining reader.new) text }
-    // Without a family nothing is read.
+    // Without a `Family`, nothing is read.
     ensures unread { IsNoFamily (option_copied name.entry) → reader.new ≡ reader.old }
     ensures usage { IsNoFamily (option_copied name.entry)
         → PrintsOrFails (W.contents writer.old) (W.contents writer.new) usage_line 2 result }
@@ -48,14 +52,14 @@ pub fn run<R: Read, W: Write>(
     }
 }
 
-/// Why a text could not be read.
+/// Why the input could not be read.
 #[derive(Debug, Drop)]
 enum InputError {
     Memory,
     Reader,
 }
 
-/// The bytes of the reader up to its end, or the first 262,145 of them.
+/// Reads `reader` up to its end, but at most 262,145 bytes.
 fn read_text<R: Read>(alloc: Global, reader: &mut R) -> Result<Vec<u8>, InputError>
     ensures read { IfOk result (λ text. IsRead (R.remaining reader.old) (R.remaining reader.new) text.items) }
     ensures bounded { (text : List ℕ) × IsRead (R.remaining reader.old) (R.remaining reader.new) text }
@@ -78,7 +82,7 @@ fn read_text<R: Read>(alloc: Global, reader: &mut R) -> Result<Vec<u8>, InputErr
     Ok(text)
 }
 
-/// Writes the text, and answers the status, or 5 where that failed.
+/// Writes `text`. Returns `status`, or 5 if the writer fails.
 pub(crate) fn print<W: Write>(writer: &mut W, text: &str, status: u8) -> u8
     ensures { PrintsOrFails (W.contents writer.old) (W.contents writer.new) text.now status result }
 {

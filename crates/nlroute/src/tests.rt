@@ -1,4 +1,5 @@
-//! What no clause says of a run: readers and writers that give little or fail, and that memory suffices.
+//! Tests of what no contract covers: that allocations succeed, and readers and writers that fail or transfer few bytes
+//! at a time.
 
 mod devices;
 mod names;

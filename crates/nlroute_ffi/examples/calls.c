@@ -1,7 +1,7 @@
 /*
- * The calls of nlroute.h, as a program in C makes them. It prints a line for each thing that is said of them and holds,
- * `ok ..`, or does not, `FAILED ..`. What no contract says is among them: which number is whose, and that each answer
- * comes. With --wrap=malloc and --wrap=realloc of the linker, allocations fail here on demand.
+ * Calls the functions of nlroute.h from C. Prints a line `ok ..` for each check that succeeds, and `FAILED ..` for each
+ * that fails. Some checks are of what no contract covers: which number belongs to which attribute set, and that each
+ * result occurs. The linker options --wrap=malloc and --wrap=realloc let this program make allocations fail.
  */
 #include "nlroute.h"
 
@@ -22,18 +22,18 @@ static void check(bool holds, const char *what) {
     failed |= !holds;
 }
 
-/* All so many bytes are 0xFF. */
+/* Checks whether all len bytes are 0xFF. */
 static bool are_lent(const void *bytes, size_t len) {
     for (size_t i = 0; i < len; i++)
         if (((const uint8_t *)bytes)[i] != 0xFF) return false;
     return true;
 }
 
-/* What `ip link add link eth0 name v5 type vlan proto 802.1ad id 5 egress-qos-map 1:2` sends of the VLAN. */
+/* What `ip link add link eth0 name v5 type vlan proto 802.1ad id 5 egress-qos-map 1:2` sends for the VLAN. */
 static const uint8_t vlan[32] = {6, 0, 5, 0, 0x88, 0xA8, 0, 0, 6,  0, 1, 0, 5, 0, 0, 0,
                                  16, 0, 3, 0, 12,   0,    1, 0, 1, 0, 0, 0, 2, 0, 0, 0};
 
-/* Bytes that one family alone rewrites so. The first of each is its length. */
+/* Input that only one attribute set re-encodes as this output. The first byte of each is its length. */
 static const struct {
     uint32_t family;
     const char *name;
@@ -54,7 +54,7 @@ static const struct {
      {12, 5, 0, 45, 0, 1, 0, 0, 0, 4, 0, 24, 0x80}},
 };
 
-/* The number of the only family that rewrites the first bytes to the second, or 10. */
+/* Returns the number of the only attribute set that re-encodes bytes as wanted, or 10 if there is not exactly one. */
 static uint32_t only_family(const uint8_t *bytes, const uint8_t *wanted) {
     uint32_t found = 10;
     for (uint32_t family = 0; family < 10; family++) {
@@ -118,7 +118,7 @@ static void refusals(void) {
     check(nlroute_read(NLROUTE_VLAN, vlan, 30) == -1 && nlroute_read(10, vlan, 32) == -5, "-1 and -5 of a count");
 }
 
-/* Each value before the next: no list is held, so that only a value of its own size takes memory. */
+/* Checks nlroute_rewrite_into(): it builds no list of values, so only values that own heap memory allocate. */
 static void value_by_value(void) {
     const uint8_t plain[20] = {8, 0, 1, 0x80, 42, 0, 0, 0, 8, 0, 1, 0, 43, 0, 0, 0, 5, 0, 1, 0};
     uint8_t out[40];
@@ -142,7 +142,7 @@ static void value_by_value(void) {
     check(are_lent(out + 20, 20), "what stands behind the room is left");
 }
 
-/* A payload of one byte where four are wanted, and a short frame behind it. */
+/* A payload of one byte where four are required, and a truncated header after it. */
 static void room_first(void) {
     const uint8_t short_value[10] = {5, 0, 1, 0, 42, 0, 0, 0, 3, 0};
     memory_is_out = true;

@@ -1,7 +1,7 @@
-//! The calls of nlroute.h, as a program in Rust makes them: behind safe functions over slices. It prints a line for
-//! each thing that is said of them and holds, `ok ..`, or does not, `FAILED ..`.
+//! Calls the functions of nlroute.h from Rust, through safe functions over slices. Prints a line `ok ..` for each check
+//! that succeeds, and `FAILED ..` for each that fails.
 
-/// The families, by their numbers.
+/// The attribute sets and their numbers.
 #[derive(Clone, Copy, Debug, PartialEq, Eq)]
 #[repr(u32)]
 #[allow(dead_code)]
@@ -18,7 +18,7 @@ pub enum Family {
     ProtoBridge = 9,
 }
 
-/// Why a call answers no length and no count.
+/// Why a function returns no length and no count.
 #[derive(Clone, Copy, Debug, PartialEq, Eq)]
 pub enum Refusal {
     HasFault,
@@ -74,16 +74,17 @@ fn answer(code: isize) -> Result<usize, Refusal> {
     }
 }
 
-// A slice is never null and holds its elements, and a mutable one overlaps nothing: this is what the header asks for.
+// A slice is never null and has initialized elements, and a mutable slice overlaps nothing: this satisfies the
+// requirements of the header.
 
-/// Rewrites a list to the front of a buffer, and answers how many bytes that took.
+/// Re-encodes a list into `out`. Returns the number of bytes written.
 pub fn rewrite(family: Family, bytes: &[u8], out: &mut [u8]) -> Result<usize, Refusal> {
     let (at, room) = (out.as_mut_ptr(), out.len());
     answer(unsafe { sys::nlroute_rewrite(family as u32, bytes.as_ptr(), bytes.len(), at, room) })
 }
 
-/// Rewrites a list to the front of a buffer that has room for its bytes, rounded up to four: each value before the next
-/// is read. After a fault the buffer may have changed.
+/// Re-encodes a list into `out`, one attribute at a time. `out` must be at least as long as `bytes`, rounded up to a
+/// multiple of four. On error, `out` may have changed.
 pub fn rewrite_into(family: Family, bytes: &[u8], out: &mut [u8]) -> Result<usize, Refusal> {
     let (at, room) = (out.as_mut_ptr(), out.len());
     answer(unsafe {
@@ -91,17 +92,17 @@ pub fn rewrite_into(family: Family, bytes: &[u8], out: &mut [u8]) -> Result<usiz
     })
 }
 
-/// How many values a list has.
+/// Returns the number of values of a list.
 pub fn read(family: Family, bytes: &[u8]) -> Result<usize, Refusal> {
     answer(unsafe { sys::nlroute_read(family as u32, bytes.as_ptr(), bytes.len()) })
 }
 
-/// Whether a list is canonical.
+/// Checks whether a list is canonical.
 pub fn is_canonical(family: Family, bytes: &[u8]) -> bool {
     1 == unsafe { sys::nlroute_is_canonical(family as u32, bytes.as_ptr(), bytes.len()) }
 }
 
-/// The numbers of the first fault of a list, if it has one.
+/// Returns the numbers of the first decode error of a list, if it has one.
 pub fn fault(family: Family, bytes: &[u8]) -> Result<Option<[u64; 7]>, Refusal> {
     let mut numbers = [0; 7];
     let (at, places) = (numbers.as_mut_ptr(), numbers.len());
@@ -111,7 +112,7 @@ pub fn fault(family: Family, bytes: &[u8]) -> Result<Option<[u64; 7]>, Refusal> 
     Ok((count > 0).then_some(numbers))
 }
 
-/// Writes the report of a text to the front of a buffer, and answers its length and the status.
+/// Writes the report for an input to the start of `out`. Returns its length and the exit status.
 pub fn report(family: Family, text: &str, out: &mut [u8]) -> Result<(usize, u8), Refusal> {
     let (at, room, mut status) = (out.as_mut_ptr(), out.len(), 0);
     let code = unsafe {
@@ -133,7 +134,7 @@ fn check(holds: bool, what: &str) -> bool {
 }
 
 fn main() {
-    // `ip link add bond0 type bond mode 802.3ad miimon 100`, with the nested flag at the second kind
+    // `ip link add bond0 type bond mode 802.3ad miimon 100`, with the nested flag in the second attribute's type
     let request = [5, 0, 1, 0, 4, 0, 0, 0, 8, 0, 3, 0x80, 100, 0, 0, 0];
     let mut wanted = request;
     wanted[11] = 0;

@@ -1,11 +1,11 @@
 /*
- * The calls of nlroute.h if an allocation fails, and if a buffer is a little too short. Standard input has lists, one a
- * line: the name of an attribute set, a space, and hex digits; a line that begins with # is passed over.
+ * Calls the functions of nlroute.h while allocations fail, and with buffers that are a little too short. Standard input
+ * has one list per line: the name of an attribute set, a space, and hex digits. Lines that begin with # are ignored.
  *
- * For each list and call, the first allocation and all after it fail, then the second and all after it, and so on,
- * until a run meets no failure. No call makes another allocation after one that failed. With --wrap=malloc, realloc and
- * free of the linker, allocations are counted here. It prints a line for each thing that does not hold, and then the
- * counts.
+ * For each list and function, the first allocation and all later ones fail, then the second and all later ones, and so
+ * on, until a run has no failed allocation. No function may allocate again after a failed allocation. The linker
+ * options --wrap=malloc, --wrap=realloc and --wrap=free let this program count allocations. It prints a line for each
+ * check that fails, and then the counts.
  */
 #include "nlroute.h"
 
@@ -21,7 +21,7 @@ void *__real_malloc(size_t size);
 void *__real_realloc(void *old, size_t size);
 void __real_free(void *block);
 
-/* Requests so far, how many of the first are granted, how many were refused, and blocks that are held. */
+/* Allocations requested so far; how many of them, at most, succeed; how many failed; blocks that are not freed. */
 static unsigned long requests, granted = ULONG_MAX, refused, held;
 
 static bool is_refused(void) {
@@ -71,7 +71,7 @@ static bool are_lent(size_t from, size_t to) {
 
 static size_t padded(void) { return (len + 3) / 4 * 4; }
 
-/* A call with so much room; behind the room, and behind what is written, the buffer is lent. */
+/* Makes a call with this much room. Whatever is past the room, or past what is written, must stay LENT. */
 typedef ptrdiff_t calling(size_t room);
 
 static ptrdiff_t rewriting(size_t room) { return nlroute_rewrite(family, list, len, out, room); }
@@ -86,7 +86,7 @@ static ptrdiff_t telling(size_t room) {
     return answer;
 }
 
-/* The status stands behind the greatest output. */
+/* The status is stored after the longest possible output. */
 static ptrdiff_t reporting(size_t room) {
     return nlroute_report(family, (const uint8_t *)text, 2 * len, out, room, &out[ROOM - 1]);
 }
@@ -103,13 +103,13 @@ static const struct {
 
 static size_t room_of(calling *call) { return call == telling ? NLROUTE_FAULT_NUMBERS : ROOM / 2; }
 
-/* How far a call that answers this, or a rewriting, may write; and some bytes behind. */
+/* Returns how many bytes a call with this result, or a failed one, may write, and some more to check. */
 static size_t reach_of(ptrdiff_t answer) {
     size_t room = padded();
     return (answer > 0 && (size_t)answer > room ? (size_t)answer : room) + 64;
 }
 
-/* All allocations after the first n fail. Returns whether there was one; if not, the call has to do as with memory. */
+/* Makes all allocations after the first n fail. Returns whether one did; if not, the result must be the usual one. */
 static bool refuse(size_t i, unsigned long n, ptrdiff_t answer) {
     size_t reach = reach_of(answer);
     memset(out, LENT, reach), out[ROOM - 1] = LENT;
@@ -130,7 +130,7 @@ static bool refuse(size_t i, unsigned long n, ptrdiff_t answer) {
     return true;
 }
 
-/* The buffer is too short by so many bytes, or places. */
+/* Calls with a buffer that is too short by this many bytes (of nlroute_fault(): elements). */
 static void shorten(size_t i, size_t need, size_t by) {
     if (by > need) return;
     memset(out, LENT, need + 64), out[ROOM - 1] = LENT;
@@ -156,7 +156,7 @@ static void try_call(size_t i) {
 
 static int value(char digit) { return digit <= '9' ? digit - '0' : digit - 'a' + 10; }
 
-/* The family and the list of a line; whether it has one. */
+/* Parses the attribute set and the list of a line. Returns whether the line has one. */
 static bool take(char *line) {
     char *digits = strchr(line, ' ');
     if (line[0] == '#' || digits == NULL) return false;

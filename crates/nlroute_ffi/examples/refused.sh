@@ -1,9 +1,9 @@
 #!/bin/sh
-# Builds and runs refused.c over the static library, with cc: on the lists of bench, and on the payloads that Linux
-# sent, memory is refused and buffers are too short. It is not part of the gate. python3 makes the long lists.
+# Builds and runs refused.c with the static library, using cc. On the lists of bench and on payloads that Linux sent, it
+# makes allocations fail and passes buffers that are too short. Not part of CI. python3 makes the long lists.
 # The library is out/libnlroute_ffi.a, as `rt lib` leaves it in this crate; with none there, `rt lib` is run first.
-# Another may be named. The last line counts lists, refusals and short buffers, and the status is 0 only if all was as
-# the header says.
+# An argument names another library. The last line counts lists, failed allocations and short buffers. The status is 0
+# only if all results are as the header describes.
 cd "$(dirname "$0")/.." || exit 1
 library=${1:-$PWD/out/libnlroute_ffi.a}
 kit=$(dirname "$(rt doc)")

@@ -1,5 +1,5 @@
 #!/bin/sh
-# Builds and runs the examples in C and in Rust over the static library, with cc and rustc. It is not part of the gate.
+# Builds and runs the examples in C and in Rust with the static library, using cc and rustc. Not part of CI.
 # The library is out/libnlroute_ffi.a, as `rt lib` leaves it in this crate; with none there, `rt lib` is run first.
 # The last line is 'N passed, M failed', and the status 0 only if nothing failed.
 cd "$(dirname "$0")/.." || exit 1

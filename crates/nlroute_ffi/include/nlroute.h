@@ -1,23 +1,23 @@
 /*
- * Lists of netlink's attributes of network links: read, counted, judged, rewritten and reported.
+ * Parses, counts, checks, re-encodes and reports lists of netlink link attributes.
  *
- * A list is the payload of an IFLA_INFO_DATA, IFLA_INFO_SLAVE_DATA, IFLA_AF_SPEC or IFLA_PROTINFO. What is said below
- * of answers and of what is written is proved of each call, for all bytes; the contracts stand in src/lib.rt.
+ * A list is the payload of an IFLA_INFO_DATA, IFLA_INFO_SLAVE_DATA, IFLA_AF_SPEC or IFLA_PROTINFO attribute. Return
+ * values and outputs are proved to be as described below, for every input; the contracts are in src/lib.rt.
  *
- * What a caller owes:
- * - No pointer is null, also where its length is 0. It points to so many elements, aligned as their type, and these
- *   have values: a buffer that is written to is set before it is lent.
- * - What is written to (out, fault, status) overlaps nothing else that is passed. During the call no other thread
- *   writes to what is passed, or reads what is written to.
- * - No length is above PTRDIFF_MAX bytes.
- * - No call is made from a signal handler, nor in the forked child of a process with threads.
+ * Requirements on the caller:
+ * - No pointer is NULL, even for a length of 0. Each is aligned for its type and points to at least as many initialized
+ *   elements as the length that goes with it. This includes output buffers: initialize them before the call.
+ * - The outputs (out, fault, status) overlap neither each other nor an input. During a call, no other thread writes to
+ *   the inputs, or reads or writes the outputs.
+ * - No buffer is larger than PTRDIFF_MAX bytes.
+ * - No function is called from a signal handler, or in the child after a fork() of a multithreaded process.
  *
- * The caller owns all that it passes, before and after. Nothing is kept of it, and nothing is handed out that would
- * have to be freed. Memory that a call takes by malloc and realloc it frees again before it returns. Calls on different
- * threads may go side by side.
+ * The caller keeps ownership of everything it passes. The library keeps no pointer to it and returns nothing that has
+ * to be freed. What a function allocates with malloc() and realloc(), it frees before it returns. Different threads may
+ * call the functions at the same time.
  *
- * A program is linked with libnlroute_ffi.a, and behind it with libos_c.a and liblibc_c.a, which stand in the folder c/
- * of the toolchain's kit: cc main.c libnlroute_ffi.a KIT/c/libos_c.a KIT/c/liblibc_c.a
+ * Link with libnlroute_ffi.a, followed by libos_c.a and liblibc_c.a from the folder c/ of the toolchain's kit:
+ * cc main.c libnlroute_ffi.a KIT/c/libos_c.a KIT/c/liblibc_c.a
  */
 #ifndef NLROUTE_H
 #define NLROUTE_H
@@ -29,9 +29,9 @@
 extern "C" {
 #endif
 
-/* The families, by number. */
+/* The attribute sets. */
 enum nlroute_family {
-    NLROUTE_AF_SPEC_BRIDGE = 0, /* IFLA_AF_SPEC in messages of AF_BRIDGE */
+    NLROUTE_AF_SPEC_BRIDGE = 0, /* IFLA_AF_SPEC in AF_BRIDGE messages */
     NLROUTE_BOND = 1,
     NLROUTE_BOND_PORT = 2,
     NLROUTE_BRIDGE = 3,
@@ -40,113 +40,128 @@ enum nlroute_family {
     NLROUTE_CAN = 6,
     NLROUTE_DSA = 7,
     NLROUTE_HSR = 8,
-    NLROUTE_PROTO_BRIDGE = 9 /* IFLA_PROTINFO in messages of AF_BRIDGE */
-};
-
-/* Why a call answers no length and no count. Then all that was lent is as it was; nlroute_rewrite_into says more. */
-enum nlroute_refusal {
-    NLROUTE_HAS_FAULT = -1, /* the bytes are no list of the family, but have a fault: nlroute_fault tells the first */
-    NLROUTE_TOO_LONG = -2,  /* they are a list, one of whose values takes more than the 65531 bytes of an attribute */
-    NLROUTE_NO_MEMORY = -3, /* an allocation failed (that this alone is answered so is not proved) */
-    NLROUTE_NO_ROOM = -4,   /* the lent buffer is too small; each call says for what */
-    NLROUTE_NO_FAMILY = -5  /* the number is none of the families' */
+    NLROUTE_PROTO_BRIDGE = 9 /* IFLA_PROTINFO in AF_BRIDGE messages */
 };
 
 /*
- * What is said below of each call holds for the number of a family. For any other number each answers
- * NLROUTE_NO_FAMILY, and nothing is written.
+ * Error codes, returned in place of a length or count. The outputs are unchanged on error, except as described at
+ * nlroute_rewrite_into().
+ */
+enum nlroute_refusal {
+    NLROUTE_HAS_FAULT = -1, /* the input is not a list of this attribute set; nlroute_fault() has the first error */
+    NLROUTE_TOO_LONG = -2,  /* the input decodes, but the payload of a value would have more than 65531 bytes */
+    NLROUTE_NO_MEMORY = -3, /* an allocation failed (it is not proved that this is the only reason for the code) */
+    NLROUTE_NO_ROOM = -4,   /* the output buffer is too small; each function specifies the size that it needs */
+    NLROUTE_NO_FAMILY = -5  /* family is not one of the numbers above */
+};
+
+/*
+ * The descriptions below apply if family is one of enum nlroute_family. For any other number, each function returns
+ * NLROUTE_NO_FAMILY and writes nothing.
  */
 
 /*
- * Rewrites a list: reads the len bytes and writes the values to out, which has room for `room` bytes. Answers how many
- * bytes it wrote; behind them out is as it was.
+ * Re-encodes a list: parses the len bytes of the input and serializes their values to out, a buffer of room bytes.
+ * Returns the number of bytes written; the rest of out is unchanged.
  *
- * What is written are the same bytes exactly if the list is canonical. It is at most len rounded up to a multiple of
- * four, so that with so much room the answer is never NLROUTE_NO_ROOM. It reads as the same values, but for names of
- * CAN controllers, which are cut to 15 bytes. A second rewriting is canonical, and all later ones change nothing.
+ * The output is the same as the input if and only if the input is canonical. It is never longer than len rounded up to
+ * a multiple of four, so NLROUTE_NO_ROOM cannot occur if room is at least that. It decodes to the same values, except
+ * that names of CAN controllers are truncated to 15 bytes. Re-encoding the output yields a canonical list, and
+ * re-encoding a canonical list does not change it.
  *
- * NLROUTE_HAS_FAULT exactly if the bytes have a fault, NLROUTE_TOO_LONG exactly if they have none and a value does not
- * fit, NLROUTE_NO_ROOM exactly if all values fit and take more than room bytes; each unless memory ran out.
- * NLROUTE_NO_MEMORY only if the bytes begin with a whole attribute.
+ * Returns, unless an allocation fails,
+ * - NLROUTE_HAS_FAULT if and only if the input is malformed;
+ * - NLROUTE_TOO_LONG if and only if the input decodes but a value does not fit;
+ * - NLROUTE_NO_ROOM if and only if all values fit but their encoding has more than room bytes.
+ *
+ * NLROUTE_NO_MEMORY is possible only if the input starts with a whole attribute.
  */
 ptrdiff_t nlroute_rewrite(uint32_t family, const uint8_t *bytes, size_t len, uint8_t *out, size_t room);
 
 /*
- * Rewrites a list as nlroute_rewrite does, but writes each value before it reads the next one: it holds no list of
- * them, and takes memory only inside a value that holds some. Answers how many bytes it wrote; behind them out is as it
- * was.
+ * Re-encodes a list as nlroute_rewrite() does, but one attribute at a time: it writes each value before it parses the
+ * next attribute. It builds no list of values, and allocates only for values that own heap memory. Returns the
+ * number of bytes written; the rest of out is unchanged.
  *
- * NLROUTE_NO_ROOM exactly if room is less than len rounded up to a multiple of four, whatever the bytes are; then
- * nothing was written. NLROUTE_HAS_FAULT and NLROUTE_TOO_LONG as above, and NLROUTE_NO_MEMORY only if the value of some
- * attribute is heap-allocated, and that attribute is not behind the first fault; after these the first bytes of out may
- * have changed, as many as len rounded up to a multiple of four, and none behind them.
+ * In the following, m is len rounded up to a multiple of four.
+ *
+ * Returns NLROUTE_NO_ROOM if and only if room is less than m, for any input; out is then unchanged. Otherwise
+ * NLROUTE_HAS_FAULT and NLROUTE_TOO_LONG are returned as by nlroute_rewrite(). NLROUTE_NO_MEMORY is possible only if
+ * the value of some attribute is heap-allocated and that attribute does not follow the first error. These
+ * three errors may leave changes in the first m bytes of out, but not after them.
  */
 ptrdiff_t nlroute_rewrite_into(uint32_t family, const uint8_t *bytes, size_t len, uint8_t *out, size_t room);
 
 /*
- * How many values a list has, of which each is one attribute.
+ * Returns the number of values in a list. Each attribute is one value.
  *
- * NLROUTE_HAS_FAULT exactly if the bytes have a fault, unless memory ran out. NLROUTE_NO_MEMORY only if the bytes begin
- * with a whole attribute.
+ * Unless an allocation fails, returns NLROUTE_HAS_FAULT if and only if the input is malformed. NLROUTE_NO_MEMORY is
+ * possible only if the input starts with a whole attribute.
  */
 ptrdiff_t nlroute_read(uint32_t family, const uint8_t *bytes, size_t len);
 
 /*
- * Whether a list is canonical: 1 if nlroute_rewrite writes just these bytes, and 0 if it writes others or the bytes
- * have a fault. It takes no memory, so that of the refusals only NLROUTE_NO_FAMILY is answered.
+ * Checks whether a list is canonical. Returns 1 if nlroute_rewrite() would output the same bytes, and 0 if it would
+ * output others or the input is malformed. Does not allocate; the only error is NLROUTE_NO_FAMILY.
  */
 ptrdiff_t nlroute_is_canonical(uint32_t family, const uint8_t *bytes, size_t len);
 
-/* How many numbers tell a fault. */
+/* Length of the array that nlroute_fault() writes. */
 #define NLROUTE_FAULT_NUMBERS 7
 
-/* Which number stands where in what nlroute_fault tells. */
+/* Indices into the array that nlroute_fault() writes. */
 enum nlroute_fault_index {
-    NLROUTE_AT = 0,    /* where the attribute with the fault begins, in bytes from the start of the list */
-    NLROUTE_PLACE = 1, /* what is at fault: an nlroute_place */
-    NLROUTE_KIND = 2,  /* the kind of the attribute, without flags; 0 for NLROUTE_FRAME */
-    NLROUTE_INNER = 3, /* the kind of the element in its list, without flags; 0 but for NLROUTE_ELEMENT_PAYLOAD */
+    NLROUTE_AT = 0,    /* byte offset, in the list, of the attribute that has the error */
+    NLROUTE_PLACE = 1, /* the part that is malformed: an nlroute_place */
+    NLROUTE_KIND = 2,  /* attribute type (nla_type) without flags; 0 for NLROUTE_FRAME */
+    NLROUTE_INNER = 3, /* type of the list element without flags; 0 unless NLROUTE_ELEMENT_PAYLOAD */
     NLROUTE_CAUSE = 4, /* an nlroute_cause */
-    NLROUTE_FIRST = 5, /* the first number of the cause */
-    NLROUTE_SECOND = 6 /* its second number, or 0 */
+    NLROUTE_FIRST = 5, /* the cause's first number */
+    NLROUTE_SECOND = 6 /* the cause's second number, or 0 */
 };
 
 enum nlroute_place {
-    NLROUTE_FRAME = 0,          /* a frame of the list, which is an attribute's header and payload */
+    NLROUTE_FRAME = 0,          /* the TLV framing of an attribute of the list: its header or its length */
     NLROUTE_PAYLOAD = 1,        /* the payload of an attribute */
-    NLROUTE_ELEMENT_FRAME = 2,  /* a frame in the nested list, or in the list of addresses, of an attribute */
+    NLROUTE_ELEMENT_FRAME = 2,  /* the TLV framing of an element of an attribute's nested list or address list */
     NLROUTE_ELEMENT_PAYLOAD = 3 /* the payload of an element of a nested list */
 };
 
-/* In brackets the first number and the second one, in bytes. */
+/* In parentheses: the first and the second number, in bytes. */
 enum nlroute_cause {
-    NLROUTE_SHORT_FRAME = 1,   /* fewer bytes are left than the four of a header (how many are left; 0) */
-    NLROUTE_SMALL_LENGTH = 2,  /* nla_len is below four (nla_len; 0) */
-    NLROUTE_OVERRUN = 3,       /* nla_len is greater than what is left (nla_len; how many are left) */
-    NLROUTE_WRONG_LENGTH = 4,  /* the payload has another length than it has to (the right length, or for an array of
-                                  numbers the width of one, of which the length has to be a multiple; its length) */
-    NLROUTE_TOO_SHORT = 5,     /* the payload is too short (the least length; its length) */
-    NLROUTE_ADDRESS_LENGTH = 6 /* an address has neither 4 nor 16 bytes (its length; 0); with none of the families */
+    NLROUTE_SHORT_FRAME = 1,   /* fewer than the four bytes of a header are left (bytes left; 0) */
+    NLROUTE_SMALL_LENGTH = 2,  /* nla_len is less than four (nla_len; 0) */
+    NLROUTE_OVERRUN = 3,       /* nla_len is greater than the number of bytes left (nla_len; bytes left) */
+    NLROUTE_WRONG_LENGTH = 4,  /* the payload's length is wrong (the correct length or, for an array of numbers, the
+                                  size of one element, which must divide the length; the payload's length) */
+    NLROUTE_TOO_SHORT = 5,     /* the payload is too short (the minimum length; the payload's length) */
+    NLROUTE_ADDRESS_LENGTH = 6 /* an address has neither 4 nor 16 bytes (its length; 0); not reported for lists */
 };
 
 /*
- * Puts the first fault of a list to the front of an array of `places` numbers. Answers NLROUTE_FAULT_NUMBERS, and
- * behind so many numbers the array is as it was; or 0 if the bytes have no fault, and then all of it is as it was.
+ * Reports the first decode error of a list in fault, an array of `places` elements. Returns NLROUTE_FAULT_NUMBERS, the
+ * number of elements written; the rest of the array is unchanged. Returns 0 if the list has no error; the whole array
+ * is then unchanged.
  *
- * NLROUTE_NO_ROOM exactly if there is a fault and fewer than NLROUTE_FAULT_NUMBERS places, unless memory ran out.
- * NLROUTE_NO_MEMORY only if the bytes begin with a whole attribute.
+ * Unless an allocation fails, returns NLROUTE_NO_ROOM if and only if there is an error and places is less than
+ * NLROUTE_FAULT_NUMBERS. NLROUTE_NO_MEMORY is possible only if the input starts with a whole attribute.
  */
 ptrdiff_t nlroute_fault(uint32_t family, const uint8_t *bytes, size_t len, uint64_t *fault, size_t places);
 
 /*
- * What the program `nlroute FAMILY` prints for a text of len bytes, and its exit status. The text is hex digits of
- * either case; space, tab, CR and LF among them are ignored. The output is written to out, which has room for `room`
- * bytes, without a NUL behind it; behind it out is as it was. Answers the length of the output.
+ * Writes the output of the program `nlroute FAMILY` to out, a buffer of room bytes, and its exit status to *status. The
+ * input is the len bytes at text: hex digits, case-insensitive; space, tab, CR and LF are ignored. Returns the length
+ * of the output; no NUL is appended, and the rest of out is unchanged.
  *
- * The status is 0 for a list that was rewritten, 1 for a fault, 2 for a text of more than 262144 bytes and for one that
- * is not hex, 3 for a value that does not fit. Of each the output is put, and its length is answered.
+ * The status is
+ * - 0 if the list was re-encoded;
+ * - 1 if it is malformed;
+ * - 2 if len is greater than 262144 or the input is not hex;
+ * - 3 if a value does not fit.
  *
- * NLROUTE_NO_ROOM exactly if the output is longer than room, unless memory ran out.
+ * With every status, the output is written and its length is returned.
+ *
+ * Unless an allocation fails, returns NLROUTE_NO_ROOM if and only if the output has more than room bytes.
  */
 ptrdiff_t nlroute_report(uint32_t family, const uint8_t *text, size_t len, uint8_t *out, size_t room, uint8_t *status);
 

@@ -1,4 +1,4 @@
--- What the calls answer, and what they leave in the lent buffers.
+-- Return values of the functions, and what they leave in the caller's buffers.
 use Rattle.std.specs.Prelude.{◌≡◌, ◌≢◌, ◌↔◌, ℕ, ℤ, ◌<◌, ◌≤◌, List, length, None, Result, Ok, Err}
 use Rattle.netlink_packet_route.specs.declared.link.DecodeFault.{DecodeFault}
 use Rattle.netlink_packet_route.specs.Frame.{pad, frame_fault}
@@ -15,18 +15,18 @@ use Rattle.nlroute_ffi.specs.declared.refusal.Refusal.{Refusal}
 use Rattle.nlroute_ffi.specs.declared.refusal.Refusal.TheVariants.{Fault, TooLong, Memory, NoRoom, NoFamily}
 use Rattle.nlroute_ffi.specs.Numbers.{family_number, code_of, fault_numbers}
 
--- what is answered for a number: for that of a family what its table says, and -5 for any other
+-- the return value: as `says` specifies for the table of the attribute set with this number; -5 if there is none
 pub data AnswersFor (number : ℕ) (says : Table → Result ℕ Refusal → Type 0) (answer : ℤ) : Type 0 where
   Known : (family : Family) (result : Result ℕ Refusal) → number ≡ family_number family → says (table_of family) result → answer ≡ code_of result → AnswersFor number says answer
   Unknown : ((family : Family) → number ≢ family_number family) → answer ≡ code_of (Err NoFamily) → AnswersFor number says answer
 
--- ---- reading
+-- ---- counting
 
--- the bytes have a first fault
+-- s has a first decode error
 abbrev pub HasFault : Table → List ℕ → Type 0
 HasFault table s = (at : ℕ) × (fault : DecodeFault) × FirstFault (Gives table) s at fault
 
--- how many values; or why none were read. Memory runs out only behind the front of a first frame
+-- the number of values; or why there is none. Memory only if s starts with a whole attribute
 abbrev pub ReadAnswers : List ℕ → Table → Result ℕ Refusal → Type 0
 ReadAnswers s table (Ok n) = (vs : List AttrValue) × Wire (Gives table) s vs × (n ≡ length vs)
 ReadAnswers s table (Err Fault) = HasFault table s
@@ -35,22 +35,22 @@ ReadAnswers s table (Err Memory) = frame_fault s ≡ None
 ReadAnswers s table (Err NoRoom) = ⊥
 ReadAnswers s table (Err NoFamily) = ⊥
 
--- ---- judging
+-- ---- checking
 
--- 1 where the bytes are canonical, and else 0
+-- 1 if s is canonical, otherwise 0
 abbrev pub CanonicalAnswers : List ℕ → Table → Result ℕ Refusal → Type 0
 CanonicalAnswers s table (Ok n) = (n ≤ 1) × ((n ≡ 1) ↔ Canonical table s)
 CanonicalAnswers s table (Err refusal) = ⊥
 
--- ---- rewriting
+-- ---- re-encoding
 
--- why a list is not rewritten
+-- the error code for an error of re-encoding a list
 abbrev pub refusal_of : RewriteError → Refusal
 refusal_of (errors.Fault at fault) = Fault
 refusal_of (errors.TooLong i) = TooLong
 refusal_of (errors.Memory e) = Memory
 
--- the rewriting stands in front; or why it does not
+-- the first n bytes of the buffer are the re-encoded list, the rest is unchanged; or why not
 abbrev pub RewriteAnswers : List ℕ → List ℕ → List ℕ → Table → Result ℕ Refusal → Type 0
 RewriteAnswers s old new table (Ok n) = Rewrites table s old new n
 RewriteAnswers s old new table (Err Fault) = HasFault table s
@@ -59,8 +59,8 @@ RewriteAnswers s old new table (Err Memory) = frame_fault s ≡ None
 RewriteAnswers s old new table (Err NoRoom) = HasNoRoom table s (length old)
 RewriteAnswers s old new table (Err NoFamily) = ⊥
 
--- the rewriting stands in front; or why it does not. There is room where as many bytes are lent as were read, rounded up
--- to four. Memory runs out only for a value that is held in memory of its own
+-- as RewriteAnswers, with two differences. NoRoom: the buffer is shorter than s, rounded up to a multiple of four.
+-- Memory: only if some attribute that does not follow the first error has a type whose values are heap-allocated
 abbrev pub IntoAnswers : List ℕ → List ℕ → List ℕ → Table → Result ℕ Refusal → Type 0
 IntoAnswers s old new table (Ok n) = Rewrites table s old new n
 IntoAnswers s old new table (Err Fault) = HasFault table s
@@ -69,14 +69,14 @@ IntoAnswers s old new table (Err Memory) = NeedsMemory table s
 IntoAnswers s old new table (Err NoRoom) = length old < pad (length s)
 IntoAnswers s old new table (Err NoFamily) = ⊥
 
--- ---- the first fault
+-- ---- the first decode error
 
--- the bytes read as values, and the buffer is as before; or the numbers of their first fault stand in front
+-- s decodes and the buffer is unchanged; or the buffer starts with the numbers of the first decode error
 pub data TellsFault (s old new : List ℕ) (table : Table) (n : ℕ) : Type 0 where
   NoFault : (vs : List AttrValue) → Wire (Gives table) s vs → new ≡ old → n ≡ 0 → TellsFault s old new table n
   First : (at : ℕ) (fault : DecodeFault) → FirstFault (Gives table) s at fault → StandsInFront old new (fault_numbers at fault) n → TellsFault s old new table n
 
--- no fault, or its numbers; or why they are not told
+-- no error, or the numbers of the first one; or why they are not reported
 abbrev pub FaultAnswers : List ℕ → List ℕ → List ℕ → Table → Result ℕ Refusal → Type 0
 FaultAnswers s old new table (Ok n) = TellsFault s old new table n
 FaultAnswers s old new table (Err Fault) = ⊥
@@ -87,7 +87,7 @@ FaultAnswers s old new table (Err NoFamily) = ⊥
 
 -- ---- the report
 
--- the output of the program for the text stands in front, and this is its status; or why not
+-- the first n bytes of the buffer are the program's output for the input, and `status` is its exit status; or why not
 abbrev pub ReportAnswers : List ℕ → List ℕ → List ℕ → ℕ → Table → Result ℕ Refusal → Type 0
 ReportAnswers text old new status table (Ok n) = (out : List ℕ) × Reports table text out status × StandsInFront old new out n
 ReportAnswers text old new status table (Err Fault) = ⊥

@@ -1,4 +1,4 @@
--- What stands for a family, for an answer and for a fault among numbers.
+-- The numbers that represent an attribute set, a result and a decode error.
 use Rattle.std.specs.Prelude.{ℕ, ℤ, pos, negsuc, List, [], ◌∷◌, Result, Ok, Err}
 use Rattle.netlink_packet_route.specs.declared.family.Family.{Family}
 use Rattle.netlink_packet_route.specs.declared.family.Family.TheVariants.{AfSpecBridge, Bond, BondPort, Bridge, BridgePort, Vlan, Can, Dsa, Hsr, ProtoBridge}
@@ -9,7 +9,7 @@ use Rattle.netlink_packet_route.specs.declared.link.DecodeFault.TheVariants.{Fra
 use Rattle.nlroute_ffi.specs.declared.refusal.Refusal.{Refusal}
 use Rattle.nlroute_ffi.specs.declared.refusal.Refusal.TheVariants.{Fault, TooLong, Memory, NoRoom, NoFamily}
 
--- the number of a family
+-- the number of an attribute set
 abbrev pub family_number : Family → ℕ
 family_number AfSpecBridge = 0
 family_number Bond = 1
@@ -22,7 +22,7 @@ family_number Dsa = 7
 family_number Hsr = 8
 family_number ProtoBridge = 9
 
--- the answer to a caller: a length or a count, or from -1 down to -5 why there is none (`negsuc n` is -1 - n)
+-- the result for the C caller: a length or a count, or an error code from -1 to -5 (`negsuc n` is -1 - n)
 abbrev pub code_of : Result ℕ Refusal → ℤ
 code_of (Ok n) = pos n
 code_of (Err Fault) = negsuc 0
@@ -31,7 +31,7 @@ code_of (Err Memory) = negsuc 2
 code_of (Err NoRoom) = negsuc 3
 code_of (Err NoFamily) = negsuc 4
 
--- a cause: its number, and its own numbers in the order of its text, with 0 where it has one alone
+-- a cause: its number, and its own numbers in the order of its `Display` output, with 0 if it has only one
 abbrev pub cause_numbers : Cause → List ℕ
 cause_numbers (ShortFrame left) = 1 ∷ left ∷ 0 ∷ []
 cause_numbers (SmallLength size) = 2 ∷ size ∷ 0 ∷ []
@@ -40,8 +40,8 @@ cause_numbers (WrongLength want got) = 4 ∷ want ∷ got ∷ []
 cause_numbers (TooShort want got) = 5 ∷ want ∷ got ∷ []
 cause_numbers (AddressLength got) = 6 ∷ got ∷ 0 ∷ []
 
--- a fault: where its frame begins, what is at fault, the kind of the attribute and of the element in its list (0 where
--- there is none), and the cause
+-- a decode error: the offset of its attribute, the part that is malformed, the type of the attribute, the type of the
+-- element in its list (each 0 if there is none), and the cause
 abbrev pub fault_numbers : ℕ → DecodeFault → List ℕ
 fault_numbers at (Frame c) = at ∷ 0 ∷ 0 ∷ 0 ∷ cause_numbers c
 fault_numbers at (Value kind c) = at ∷ 1 ∷ kind ∷ 0 ∷ cause_numbers c

@@ -1,4 +1,4 @@
-//! The families, by number.
+//! The numbers of the attribute sets.
 
 ghost use Rattle.std.specs.Prelude.{◌≡◌, ◌≢◌, IfSome, IfNone};
 ghost use Rattle.netlink_packet_route.specs.declared.family.Family.{Family};
@@ -6,7 +6,7 @@ ghost use Rattle.nlroute_ffi.specs.Numbers.{family_number};
 
 use netlink_packet_route::Family;
 
-/// The family of this number, or `None` where there is none. They are numbered from 0 in the order of `Family`.
+/// Returns the `Family` with this number, or `None` if there is none. Numbers start at 0, in the order of `Family`.
 pub(crate) fn family_of(number: u32) -> Option<Family>
     ensures found { IfSome result (λ family. number ≡ family_number family) }
     ensures none { IfNone result ((family : Family) → number ≢ family_number family) }

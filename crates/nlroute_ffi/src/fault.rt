@@ -1,4 +1,4 @@
-//! The first fault of a list, as numbers.
+//! Reports the first decode error of a list as numbers.
 
 ghost use Rattle.std.specs.Prelude.{◌≡◌, [], ◌∷◌, ◌<◌, length, IfOk, IfErr, OnErr};
 ghost use Rattle.netlink_packet_route.specs.Family.{table_of};
@@ -11,8 +11,13 @@ use netlink_packet_route::link::{Cause, DecodeFault, ListError};
 use netlink_packet_route::{Family, count_values};
 use std::alloc::Global;
 
-/// Puts the numbers of the first fault of a list to the front of a lent array. Answers how many: 0 where there is no
-/// fault.
+/// Writes the numbers of the first decode error of a list to the start of `numbers`. Returns how many were written,
+/// which is 0 if the list has no error; the rest of `numbers` is unchanged.
+///
+/// # Errors
+///
+/// `Memory` if an allocation fails, `NoRoom` if there is an error and `numbers` is too short. Then `numbers` is
+/// unchanged.
 pub(crate) fn first_fault(
     alloc: Global,
     family: Family,
@@ -51,7 +56,7 @@ fn numbers_of(at: u64, fault: DecodeFault) -> [u64; 7]
         DecodeFault::Value { kind, cause } => with_cause(at, 1, kind, 0, cause),
         DecodeFault::NestedFrame { kind, cause } => with_cause(at, 2, kind, 0, cause),
         DecodeFault::NestedValue { kind, inner, cause } => with_cause(at, 3, kind, inner, cause),
-        // A list has neither of these.
+        // These two are not errors of a list.
         DecodeFault::Payload(cause) => with_cause(at, 4, 0, 0, cause),
         DecodeFault::Text => [at, 5, 0, 0, 0, 0, 0],
     }

@@ -1,7 +1,7 @@
-//! Lists of link attributes, read and rewritten for callers in C. `include/nlroute.h` declares the calls.
+//! The C API: parses and re-encodes lists of link attributes. `include/nlroute.h` declares the functions.
 //!
-//! A family is named by its number, from 0 to 9 in the order of [`Family`](netlink_packet_route::Family). A slice is two
-//! arguments of a caller in C, a pointer and how many elements it points to, and the allocator is none.
+//! A `Family` is passed as its number, from 0 to 9 in the order of [`Family`](netlink_packet_route::Family). A slice is
+//! two arguments in C: a pointer, and the number of elements it points to. The allocator is not an argument in C.
 #![tactic(auto)]
 
 mod family;
@@ -24,11 +24,13 @@ use crate::refusal::{Refusal, answer_of};
 use crate::text::report_into;
 use std::alloc::Global;
 
-/// Reads the list in the bytes and writes its values to the front of a lent buffer, as `rewrite` does. The answer is how
-/// many bytes were written.
+/// Re-encodes the list in `bytes` into `out`, as `rewrite` does. Returns `n`, the number of bytes written; `out[n..]`
+/// is unchanged.
 ///
-/// -1 for bytes with a fault, -2 where a value does not fit, -3 where an allocation failed, -4 where the buffer is too
-/// small, -5 for a number of no family. Then nothing was written.
+/// # Errors
+///
+/// -1 if the input is malformed, -2 if a value does not fit, -3 if an allocation fails, -4 if `out` is too small, -5 if
+/// `family` is not the number of a `Family`. On error `out` is unchanged.
 #[unsafe(no_mangle)]
 pub extern "C" fn nlroute_rewrite(alloc: Global, family: u32, bytes: &[u8], out: &mut [u8]) -> isize
     ensures answer { AnswersFor family (RewriteAnswers bytes.now out.old out.new) result }
@@ -40,12 +42,17 @@ pub extern "C" fn nlroute_rewrite(alloc: Global, family: u32, bytes: &[u8], out:
     }
 }
 
-/// Reads the list in the bytes and writes its values to the front of a lent buffer, each before the next is read, as
-/// `rewrite_into` does. The answer is how many bytes were written.
+/// Re-encodes the list in `bytes` into `out`, one attribute at a time, as `rewrite_into` does. Returns `n`, the number
+/// of bytes written; `out[n..]` is unchanged.
 ///
-/// -4 where the buffer has fewer bytes than were read, rounded up to four, and -5 for a number of no family: then
-/// nothing was written. -1 for bytes with a fault, -2 where a value does not fit, -3 where an allocation failed: then the
-/// front of the buffer, as far as the bytes reach, rounded up to four, may have changed.
+/// # Errors
+///
+/// Let `m` be `bytes.len()` rounded up to a multiple of four.
+///
+/// -4 if `out` has fewer than `m` bytes, -5 if `family` is not the number of a `Family`; `out` is then unchanged.
+///
+/// -1 if the input is malformed, -2 if a value does not fit, -3 if an allocation fails; `out[..m]` may then have
+/// changed.
 #[unsafe(no_mangle)]
 pub extern "C" fn nlroute_rewrite_into(
     alloc: Global,
@@ -64,9 +71,11 @@ pub extern "C" fn nlroute_rewrite_into(
     }
 }
 
-/// How many values the list in the bytes has.
+/// Returns the number of values of the list in `bytes`.
 ///
-/// -1 for bytes with a fault, -3 where an allocation failed, -5 for a number of no family.
+/// # Errors
+///
+/// -1 if the input is malformed, -3 if an allocation fails, -5 if `family` is not the number of a `Family`.
 #[unsafe(no_mangle)]
 pub extern "C" fn nlroute_read(alloc: Global, family: u32, bytes: &[u8]) -> isize
     ensures { AnswersFor family (ReadAnswers bytes.now) result }
@@ -77,10 +86,12 @@ pub extern "C" fn nlroute_read(alloc: Global, family: u32, bytes: &[u8]) -> isiz
     }
 }
 
-/// Whether the list in the bytes is canonical, so that `nlroute_rewrite` writes just these bytes: 1 where it is, and 0
-/// where it is not, also for bytes with a fault. No memory is taken.
+/// Checks whether the list in `bytes` is canonical, so that `nlroute_rewrite` outputs the same bytes. Returns 1 if it
+/// is, and 0 otherwise, also if the input is malformed. Does not allocate.
 ///
-/// -5 for a number of no family.
+/// # Errors
+///
+/// -5 if `family` is not the number of a `Family`.
 #[unsafe(no_mangle)]
 pub extern "C" fn nlroute_is_canonical(family: u32, bytes: &[u8]) -> isize
     ensures { AnswersFor family (CanonicalAnswers bytes.now) result }
@@ -91,11 +102,13 @@ pub extern "C" fn nlroute_is_canonical(family: u32, bytes: &[u8]) -> isize
     }
 }
 
-/// Puts the first fault of the bytes to the front of a lent array: seven numbers, as the header says. The answer is how
-/// many, 7; or 0 where the bytes have no fault, and then the array is as it was.
+/// Writes the first decode error of the list in `bytes` to `fault[..7]`, as seven numbers that the header describes,
+/// and returns 7; `fault[7..]` is unchanged. Returns 0 if the list has no error; `fault` is then unchanged.
 ///
-/// -3 where an allocation failed, -4 where there is a fault and the array has fewer than seven places, -5 for a number
-/// of no family. Then the array is as it was.
+/// # Errors
+///
+/// -3 if an allocation fails, -4 if the list has an error and `fault` has fewer than seven elements, -5 if `family` is
+/// not the number of a `Family`. On error `fault` is unchanged.
 #[unsafe(no_mangle)]
 pub extern "C" fn nlroute_fault(
     alloc: Global,
@@ -112,11 +125,13 @@ pub extern "C" fn nlroute_fault(
     }
 }
 
-/// Writes what the program `nlroute FAMILY` prints for a text to the front of a lent buffer, and puts its status (0 to
-/// 3). The answer is the length of the output.
+/// Writes the output of the program `nlroute FAMILY` for the input `text` to the start of `out`, and its exit status (0
+/// to 3) to `status`. Returns the length of the output; the rest of `out` is unchanged.
 ///
-/// -3 where an allocation failed, -4 where the buffer is too small, -5 for a number of no family. Then buffer and status
-/// are as they were.
+/// # Errors
+///
+/// -3 if an allocation fails, -4 if `out` is too small, -5 if `family` is not the number of a `Family`. On error `out`
+/// and `status` are unchanged.
 #[unsafe(no_mangle)]
 pub extern "C" fn nlroute_report(
     alloc: Global,

@@ -1,4 +1,4 @@
-//! Lists of a family, read and rewritten.
+//! Parses and re-encodes lists.
 
 ghost use Rattle.std.specs.Prelude.{◌≡◌, ◌≤◌, ◌<◌, ◌↔◌, length, drop, Err, IfOk, OnErr};
 ghost use Rattle.netlink_packet_route.specs.Frame.{pad};
@@ -12,7 +12,11 @@ use netlink_packet_route::link::ListError;
 use netlink_packet_route::{Family, count_values, is_canonical, rewrite_into, rewrite_to};
 use std::alloc::Global;
 
-/// How many values a list has.
+/// Counts the values of a list.
+///
+/// # Errors
+///
+/// `Fault` if the input is malformed, `Memory` if an allocation fails.
 pub(crate) fn count(alloc: Global, family: Family, bytes: &[u8]) -> Result<usize, Refusal>
     ensures answer { ReadAnswers bytes.now (table_of family) result }
     ensures bounded { IfOk result (λ n. n ≤ length bytes.now) }
@@ -24,14 +28,18 @@ pub(crate) fn count(alloc: Global, family: Family, bytes: &[u8]) -> Result<usize
     }
 }
 
-/// 1 for a canonical list, and 0 for any other bytes.
+/// Returns 1 if the list is canonical, and 0 otherwise.
 pub(crate) fn judge(family: Family, bytes: &[u8]) -> usize
     ensures { (result ≤ 1) × ((result ≡ 1) ↔ Canonical (table_of family) bytes.now) }
 {
     if is_canonical(family, bytes) { 1 } else { 0 }
 }
 
-/// Reads a list and writes its values to the front of a lent buffer. Answers how many bytes are written.
+/// Re-encodes a list into `out`. Returns the number of bytes written; the rest of `out` is unchanged.
+///
+/// # Errors
+///
+/// `Fault`, `TooLong` or `Memory` as for `rewrite_to`, `NoRoom` if `out` is too small. On error `out` is unchanged.
 pub(crate) fn rewrite(
     alloc: Global,
     family: Family,
@@ -48,8 +56,15 @@ pub(crate) fn rewrite(
     }
 }
 
-/// Reads a list and writes each of its values to the front of a lent buffer before it reads the next. Answers how many
-/// bytes are written.
+/// Re-encodes a list into `out`, one attribute at a time. Returns the number of bytes written; the rest of `out` is
+/// unchanged.
+///
+/// # Errors
+///
+/// Let `m` be `bytes.len()` rounded up to a multiple of four.
+///
+/// `NoRoom` if `out` has fewer than `m` bytes, and then it is unchanged. Otherwise `Fault`, `TooLong` or `Memory` as
+/// for `rewrite_into`, and then `out[..m]` may have changed.
 #[inline(always)]
 pub(crate) fn rewrite_each(
     alloc: Global,

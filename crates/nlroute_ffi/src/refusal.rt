@@ -1,4 +1,4 @@
-//! Why a call answers no length and no count, as a number.
+//! The error codes.
 
 ghost use Rattle.std.specs.Prelude.{◌≡◌, ◌<◌, ◌^◌};
 ghost use Rattle.std.specs.Result.{ForOk};
@@ -7,22 +7,22 @@ ghost use Rattle.nlroute_ffi.specs.Calls.{refusal_of};
 
 use netlink_packet_route::RewriteError;
 
-/// Why a call answers no length and no count.
+/// Why a function returns no length and no count.
 #[derive(Clone, Copy)]
 pub enum Refusal {
-    /// The bytes are no list of the family.
+    /// The input is not a valid list of the attribute set.
     Fault,
-    /// A value does not fit into an attribute.
+    /// A value does not fit in an attribute.
     TooLong,
     /// An allocation failed.
     Memory,
-    /// The lent buffer is too small.
+    /// The output buffer is too small.
     NoRoom,
-    /// No family has the number.
+    /// The number is not that of a `Family`.
     NoFamily,
 }
 
-/// Why a list is not rewritten.
+/// Returns the `Refusal` for an error of re-encoding a list.
 pub(crate) fn refused_by(error: RewriteError) -> Refusal
     ensures { result ≡ refusal_of error }
 {
@@ -33,7 +33,7 @@ pub(crate) fn refused_by(error: RewriteError) -> Refusal
     }
 }
 
-/// The answer to a caller: a length or a count, or a number below zero.
+/// Returns the result for the C caller: a length or a count, or a negative error code.
 pub(crate) fn answer_of(outcome: Result<usize, Refusal>) -> isize
     requires { ForOk outcome (λ n. n < 2 ^ 63) }
     ensures { result ≡ code_of outcome }

@@ -1,20 +1,20 @@
-//! What no clause says: that memory suffices, and each answer on bytes that were worked out by hand.
+//! Tests of what no contract covers: that allocations succeed, and each result for inputs that were computed by hand.
 
 use crate::{
     nlroute_fault, nlroute_is_canonical, nlroute_read, nlroute_report, nlroute_rewrite,
     nlroute_rewrite_into,
 };
 
-/// `IFLA_DSA_CONDUIT` 42, and an attribute of kind 2, which is none of DSA. Of the nested flags that of the second is
-/// kept.
+/// `IFLA_DSA_CONDUIT` 42, and an attribute of type 2, which DSA does not have. Of the two nested flags, only that of
+/// the second attribute is kept.
 const TWO: [u8; 12] = [8, 0, 1, 0x80, 42, 0, 0, 0, 4, 0, 2, 0x80];
 
-/// A lent buffer, as it is before a call.
+/// An output buffer before a call.
 const LENT: [u8; 12] = [0xFF; 12];
 
 #[test]
 fn families_by_number(rt: HostRuntime) {
-    // of each family bytes, and what it makes of them
+    // for each attribute set an input, and its re-encoding
     let rows: [(u32, &[u8], &[u8]); 10] = [
         (0, &[6, 0, 0, 0x80, 2, 0], &[6, 0, 0, 0, 2, 0, 0, 0]),
         (1, &[5, 0, 34, 0, 2, 0, 0, 0], &[5, 0, 34, 0, 1, 0, 0, 0]),
@@ -58,7 +58,7 @@ fn families_by_number(rt: HostRuntime) {
 #[test]
 fn refusals(rt: HostRuntime) {
     let mut long = vec![in rt.alloc(); 0u8; 65533].expect(&rt, "a long list");
-    // priorities in an attribute of 65533 bytes, which is written as more than an attribute holds
+    // mappings in an attribute of 65533 bytes, whose encoding does not fit in an attribute
     long[..8].copy_from_slice(&[0xFD, 0xFF, 3, 0, 0xF9, 0xFF, 99, 0]);
     let rows: [(u32, &[u8], usize, isize); 9] = [
         (7, &TWO, 12, 12),
@@ -88,7 +88,7 @@ fn value_by_value(rt: HostRuntime) {
         (7, &TWO, 12, 12),
         (7, &TWO[..8], 11, 8),
         (7, &TWO, 11, -4),
-        // there is no room for what a fault would leave either
+        // -4 takes precedence: the buffer must be large enough even if the input is malformed
         (7, &TWO[..7], 7, -4),
         (7, &TWO[..7], 8, -1),
         (7, &[], 0, 0),

@@ -1,4 +1,4 @@
-//! The report of a text, in a lent buffer.
+//! The output of the program `nlroute`, in the caller's buffer.
 
 ghost use Rattle.std.specs.Prelude.{◌≡◌, OnErr};
 ghost use Rattle.netlink_packet_route.specs.Family.{table_of};
@@ -8,7 +8,12 @@ use crate::refusal::Refusal;
 use netlink_packet_route::{Family, report};
 use std::alloc::Global;
 
-/// Writes the report of a text to the front of a lent buffer, and puts its status. Answers how many bytes are written.
+/// Writes the report for an input to the start of `out`, and its exit status to `status`. Returns the number of bytes
+/// written; the rest of `out` is unchanged.
+///
+/// # Errors
+///
+/// `Memory` if an allocation fails, `NoRoom` if `out` is too small. On error `out` and `status` are unchanged.
 pub(crate) fn report_into(
     alloc: Global,
     family: Family,

@@ -1,7 +1,7 @@
--- The arguments that the program was started with.
+-- The command-line arguments.
 use Rattle.std.specs.Prelude.{List, [], ◌∷◌}
 
--- nothing stands behind the name of the program
+-- there is no argument after the program's name
 abbrev pub IsAlone : {A : Type 0} → List A → Type 0
 IsAlone [] = Unit {0}
 IsAlone (program ∷ []) = Unit {0}

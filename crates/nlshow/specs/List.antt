@@ -1,33 +1,33 @@
--- What is written of a list.
+-- The output for a list.
 use Rattle.std.specs.Prelude.{◌≡◌, ℕ, ◌+◌, Bool, true, false, List, ◌++◌, length, codes}
 use Rattle.std.specs.List.{flat_map, list_all, AllZip}
 use Rattle.netlink_packet_route.specs.Wire.{Wire, FirstFault}
 use Rattle.netlink_packet_route.specs.Table.{Table, AttrValue, Gives}
 use Rattle.netlink_packet_route.specs.Report.{line, fault_line}
 
--- so many lines, of any words, each behind two spaces more than this
+-- n lines, with any text, each indented by `indent` and two spaces
 abbrev pub AreIndented : List ℕ → List ℕ → ℕ → Type 0
 AreIndented indent out n = (words : List (List ℕ)) × (length words ≡ n) × (out ≡ flat_map (λ w. line (indent ++ (codes "  " ++ w))) words)
 
--- what is written of a list that stands at an offset, behind an indent, and whether it was read: a line for each value, or one
--- for the first fault
+-- the output, with an indent, for a list at offset `base`, and whether it decodes: a line for each value, or one for
+-- the first decode error
 pub data ShowsList (indent : List ℕ) (base : ℕ) (table : Table) (s out : List ℕ) (read : Bool) : Type 0 where
   Values : (vs : List AttrValue) → Wire (Gives table) s vs → AreIndented indent out (length vs) → read ≡ true → ShowsList indent base table s out read
   Fault : (at : ℕ) (fault : _) → FirstFault (Gives table) s at fault → out ≡ indent ++ fault_line (base + at) fault → read ≡ false → ShowsList indent base table s out read
 
--- what is written of several things, one after another, and whether each was read
+-- the outputs for several items, in order, and whether all of them decode
 pub record ShowsEach {X : Type 0} (shows : X → List ℕ → Bool → Type 0) (xs : List X) (out : List ℕ) (whole : Bool) : Type 0 where
   pub answers : List (List ℕ × Bool)
   pub each : AllZip (λ x answer. shows x answer.0 answer.1) xs answers
   pub joined : out ≡ flat_map (λ answer. answer.0) answers
   pub all : whole ≡ list_all (λ answer. answer.1) answers
 
--- ---- what calls add to a text
+-- ---- what functions append to a string
 
--- what is written of something
+-- the output for an item was appended
 abbrev pub Adds : (List ℕ → Bool → Type 0) → List ℕ → List ℕ → Bool → Type 0
 Adds shows old new read = (out : List ℕ) × shows out read × (new ≡ old ++ out)
 
--- so many lines
+-- n lines were appended
 abbrev pub AddsLines : List ℕ → ℕ → List ℕ → List ℕ → Type 0
 AddsLines indent n old new = (out : List ℕ) × AreIndented indent out n × (new ≡ old ++ out)

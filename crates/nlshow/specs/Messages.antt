@@ -1,4 +1,4 @@
--- What is written of messages.
+-- The output for messages.
 use Rattle.std.specs.Prelude.{◌≡◌, ℕ, ℤ, Bool, true, false, ◌&&◌, List, [], ◌∷◌, ◌++◌, drop, Option, Some, None, Ok, Err, IfSome, codes}
 use Rattle.std.specs.Fmt.{signed_decimal}
 use Rattle.std.specs.Option.{option_copied}
@@ -19,15 +19,15 @@ use Rattle.nlshow.specs.List.{ShowsList, ShowsEach}
 abbrev pub error_line : MessageError → List ℕ
 error_line error = line (codes "  " ++ error_text error)
 
--- where a list stands, and the family that reads it
+-- the line before a list: the attribute that has the list, and the name of the attribute set
 abbrev pub path_line : List ℕ → Family → List ℕ
 path_line place family = line (codes "  " ++ (place ++ (codes " " ++ family_name family)))
 
--- a link's index
+-- the index of a link
 abbrev pub index_text : ℤ → List ℕ
 index_text index = codes "  link " ++ signed_decimal index
 
--- the index, and the name in quotes, if there is one
+-- the index and, if there is one, the name in quotes
 abbrev pub IsHead : ℤ → Option (List ℕ) → List ℕ → Type 0
 IsHead index None out = out ≡ line (index_text index)
 IsHead index (Some name) out =
@@ -35,18 +35,18 @@ IsHead index (Some name) out =
 
 -- ---- a message
 
--- what is written of a list of a message, and whether it was read: its path, and what is written of a list; or nothing
+-- the output for a list of a message, and whether it decodes: its path and its lines; or nothing, if it is absent
 abbrev pub ShowsPart : List ℕ → Option Part → List ℕ → Bool → Type 0
 ShowsPart place None out read = (out ≡ []) × (read ≡ true)
 ShowsPart place (Some p) out read =
     (below : List ℕ) × ShowsList (codes "  ") p.payload.at (table_of p.family) p.payload.bytes.now below read × (out ≡ path_line place p.family ++ below)
 
--- the lists of a link, and where they stand
+-- the lists of a link, each with the attribute that has it
 abbrev pub parts_of : Link → List (List ℕ × Option Part)
 parts_of link =
     (codes "IFLA_LINKINFO", link.info_data) ∷ (codes "IFLA_LINKINFO", link.port_data) ∷ (codes "IFLA_AF_SPEC", link.af_spec) ∷ (codes "IFLA_PROTINFO", link.protinfo) ∷ []
 
--- what is written of a link, and whether its lists were read
+-- the output for a link, and whether its lists decode
 pub record ShowsLink (link : Link) (out : List ℕ) (read : Bool) : Type 0 where
   pub head : List ℕ
   pub parts : List ℕ
@@ -54,19 +54,19 @@ pub record ShowsLink (link : Link) (out : List ℕ) (read : Bool) : Type 0 where
   pub each : ShowsEach (λ p. ShowsPart p.0 p.1) (parts_of link) parts read
   pub joined : out ≡ head ++ parts
 
--- what is written of a message, and whether it and its lists were read
+-- the output for a message, and whether it and its lists decode
 pub data ShowsMessage (m : Message) (out : List ℕ) (read : Bool) : Type 0 where
   About : (link : Link) → IsAbout m.at (packet_of m) link → ShowsLink link out read → ShowsMessage m out read
   AboutNone : (error : MessageError) → IsAboutNone m.at (packet_of m) error → out ≡ error_line error → read ≡ false → ShowsMessage m out read
 
 -- ---- a buffer
 
--- what is written where the messages end, and whether nothing is left to be read
+-- the output at the end of the messages: none, or the error of the bytes that are left
 pub data ShowsEnd (s : List ℕ) (at : ℕ) (out : List ℕ) (read : Bool) : Type 0 where
   Ended : NextMessage at (drop at s) (Ok None) → out ≡ [] → read ≡ true → ShowsEnd s at out read
   Broken : (error : MessageError) → NextMessage at (drop at s) (Err error) → out ≡ error_line error → read ≡ false → ShowsEnd s at out read
 
--- what is written of the messages of a buffer, and whether each, and each of their lists, was read
+-- the output for the messages of a buffer, and whether all of them and all of their lists decode
 pub record ShowsMessages (s out : List ℕ) (whole : Bool) : Type 0 where
   pub messages : List Message
   pub end : ℕ
@@ -80,7 +80,7 @@ pub record ShowsMessages (s out : List ℕ) (whole : Bool) : Type 0 where
   pub joined : out ≡ front ++ last
   pub all : whole ≡ (front_read && last_read)
 
--- ---- what calls add to a text
+-- ---- what functions append to a string
 
 abbrev pub AddsHead : ℤ → Option (List ℕ) → List ℕ → List ℕ → Type 0
 AddsHead index name old new = (out : List ℕ) × IsHead index name out × (new ≡ old ++ out)

@@ -1,4 +1,4 @@
--- How far a text was shown.
+-- The progress of a run through its input.
 use Rattle.std.specs.Prelude.{◌≡◌, ◌≢◌, ◌⊎◌, ℕ, Bool, ◌&&◌, List, [], ◌++◌, take, Option, Result, Ok, Err}
 use Rattle.std.specs.List.{flat_map, AllByRecursion}
 use Rattle.std.specs.Io.KnownBytes.{Appends, Keeps}
@@ -8,11 +8,11 @@ use Rattle.nlshow.specs.declared.running.Stop.TheVariants.{Memory, Reader, Write
 use Rattle.nlshow.specs.List.{ShowsEach}
 use Rattle.nlshow.specs.Show.{Shows, IsUnbroken}
 
--- as much of a line is held as tells what is written for it
+-- the part of the current line that is kept; the rest does not affect the output
 abbrev pub held_of : List ℕ → List ℕ
 held_of text = take 262145 text
 
--- the lines that ended were shown, and what stands behind the last LF is held
+-- the output of all complete lines is written, and what follows the last LF is kept
 pub record Shown (text out held : List ℕ) (whole : Bool) : Type 0 where
   pub lines : List (List ℕ)
   pub current : List ℕ
@@ -22,33 +22,33 @@ pub record Shown (text out held : List ℕ) (whole : Bool) : Type 0 where
   pub is_held : held ≡ held_of current
   pub shown : ShowsEach Shows lines out whole
 
--- the next piece of a text, whatever stood before it: what is held then, what is written, and whether every list of the
--- lines that end in it was read
+-- the next piece of the input, after any beginning: what is kept then, what is written, and whether none of the lines
+-- that end in the piece has an error
 abbrev pub Goes : List ℕ → List ℕ → List ℕ → List ℕ → Bool → Type 0
 Goes before after piece written all =
     (text out : List ℕ) (whole : Bool) → Shown text out before whole → Shown (text ++ piece) (out ++ written) after (whole && all)
 
--- ---- what calls write
+-- ---- what functions write
 
--- some bytes were written
+-- zero or more bytes were written
 abbrev pub Grows : Option (List ℕ) → Option (List ℕ) → Type 0
 Grows held_before held_after = (out : List ℕ) × Appends held_before held_after out
 
--- a line was shown
+-- the output for a line was written
 abbrev pub WritesLine : List ℕ → Option (List ℕ) → Option (List ℕ) → Bool → Type 0
 WritesLine text held_before held_after read = (out : List ℕ) × Shows text out read × Appends held_before held_after out
 
--- what stands behind the last LF was shown, if it is not empty; and whether every list was read
+-- the output for what follows the last LF was written, if that is not empty; and whether no line has an error
 abbrev pub WritesRest : List ℕ → Bool → Option (List ℕ) → Option (List ℕ) → Bool → Type 0
 WritesRest text whole held_before held_after all =
     ((text ≡ []) × Keeps held_before held_after × (all ≡ whole))
     ⊎ ((text ≢ []) × ((read : Bool) × WritesLine text held_before held_after read × (all ≡ (whole && read))))
 
--- a piece of a text was shown
+-- the output for a piece of the input was written
 abbrev pub WritesPiece : List ℕ → List ℕ → List ℕ → Option (List ℕ) → Option (List ℕ) → Bool → Type 0
 WritesPiece before after piece held_before held_after all = (out : List ℕ) × Goes before after piece out all × Appends held_before held_after out
 
--- the fact holds where memory ran out
+-- if the call failed with `Memory`, then P holds
 abbrev pub OnMemory : {X : Type 0} → Result X Stop → Type 0 → Type 0
 OnMemory (Ok x) P = Unit {0}
 OnMemory (Err Memory) P = P

@@ -1,4 +1,4 @@
--- What a run of the program reads, writes and answers.
+-- What a run of the program reads, writes and returns.
 use Rattle.std.specs.Prelude.{◌≡◌, ◌⊎◌, ℕ, Bool, List, ◌++◌, codes, Option, if◌then◌else◌}
 use Rattle.std.specs.Io.KnownBytes.{Appends, Consumes, IsAtEnd}
 use Rattle.netlink_packet_route.specs.Report.{line}
@@ -7,11 +7,11 @@ use Rattle.nlshow.specs.Show.{ShowsAll}
 abbrev pub no_memory_line : List ℕ
 no_memory_line = line (codes "no memory")
 
--- some bytes were written, and then these
+-- zero or more bytes were written, and then `text`
 abbrev pub EndsWith : Option (List ℕ) → Option (List ℕ) → List ℕ → Type 0
 EndsWith held_before held_after text = (out : List ℕ) × Appends held_before held_after (out ++ text)
 
--- what the reader had left was read to its end and shown
+-- the rest of the reader was read up to its end, and its output was written
 pub record Runs (left_before left_after held_before held_after : Option (List ℕ)) (whole : Bool) : Type 0 where
   pub text : List ℕ
   pub out : List ℕ
@@ -20,11 +20,11 @@ pub record Runs (left_before left_after held_before held_after : Option (List �
   pub shows : ShowsAll text out whole
   pub written : Appends held_before held_after out
 
--- such a run with this status
+-- a run with this exit status
 abbrev pub RunsFor : Option (List ℕ) → Option (List ℕ) → Option (List ℕ) → Option (List ℕ) → ℕ → Type 0
 RunsFor left_before left_after held_before held_after status =
     (whole : Bool) × Runs left_before left_after held_before held_after whole × (status ≡ (if whole then 0 else 1))
 
--- the line was written with this status, or the writer failed
+-- the text was written, and the result is `status`; or the writer failed
 abbrev pub PrintsOrFails : Option (List ℕ) → Option (List ℕ) → List ℕ → ℕ → ℕ → Type 0
 PrintsOrFails held_before held_after text status result = ((result ≡ status) × Appends held_before held_after text) ⊎ (result ≡ 5)

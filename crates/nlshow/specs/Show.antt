@@ -1,4 +1,4 @@
--- What is written for a line, and for a text of lines.
+-- The output for a line, and for an input of several lines.
 use Rattle.std.specs.Prelude.{◌≡◌, ◌≢◌, ◌⊎◌, ℕ, ◌<◌, ◌≤◌, Bool, true, false, List, [], ◌∷◌, ◌++◌, length, Result, Ok, Err, codes}
 use Rattle.std.specs.List.{flat_map, AllByRecursion}
 use Rattle.hex.specs.Hex.{decode_of}
@@ -14,31 +14,31 @@ use Rattle.nlshow.specs.Verdict.{ShowsVerdict}
 
 -- ---- a line
 
--- nothing but white space
+-- only white space
 abbrev pub IsBlank : List ℕ → Type 0
 IsBlank text = AllByRecursion (λ b. is_space b ≡ true) text
 
--- `#` stands first
+-- the first byte is `#`
 abbrev pub IsComment : List ℕ → Type 0
 IsComment [] = ⊥
 IsComment (b ∷ text) = b ≡ 35
 
--- nothing is asked for
+-- the line is a comment or blank, and therefore ignored
 abbrev pub IsPassedOver : List ℕ → Type 0
 IsPassedOver text = IsComment text ⊎ IsBlank text
 
--- white space stands first, or there is nothing
+-- empty, or starts with white space
 abbrev pub IsApart : List ℕ → Type 0
 IsApart [] = Unit {0}
 IsApart (b ∷ text) = is_space b ≡ true
 
--- what stands before the first white space, and the rest
+-- what precedes the first white space, and the rest
 pub record IsCut (text word rest : List ℕ) : Type 0 where
   pub whole : text ≡ word ++ rest
   pub solid : AllByRecursion (λ b. is_space b ≡ false) word
   pub apart : IsApart rest
 
--- what follows the white space in front of a text
+-- what follows the leading white space of a text
 pub record IsSolidFirst (text rest : List ℕ) : Type 0 where
   pub space : List ℕ
   pub whole : text ≡ space ++ rest
@@ -53,38 +53,38 @@ pub record IsChecked (text word rest : List ℕ) : Type 0 where
   pub apart : IsSolidFirst behind second
   pub cut : IsCut second word rest
 
--- a text asks for this, and the rest is that of its digits
+-- the command at the start of a text, and the rest, which holds the digits
 abbrev pub Asks : List ℕ → Asked → List ℕ → Type 0
 Asks text Messages rest = IsCut text (codes "message") rest
 Asks text (Attributes family) rest = IsCut text (family_name family) rest
 Asks text (Verdict family) rest = IsChecked text (family_name family) rest
 
--- no family has this name
+-- the word is not the name of an attribute set
 abbrev pub IsNoFamily : List ℕ → Type 0
 IsNoFamily word = (family : Family) → word ≢ family_name family
 
--- a text asks for nothing: its first word does not, or its second one behind `check`
+-- the text has no valid command: its first word is not one, or it is `check` and the second word is not a name
 pub data AsksNothing (text : List ℕ) : Type 0 where
   First : (word rest : List ℕ) → IsCut text word rest → word ≢ codes "message" → word ≢ codes "check" → IsNoFamily word → AsksNothing text
   Second : (word rest : List ℕ) → IsChecked text word rest → IsNoFamily word → AsksNothing text
 
--- what is written of bytes, as it is asked, and whether all is well with them
+-- the output of a command for bytes, and whether they decode and, for `check`, are canonical
 abbrev pub ShowsAsked : Asked → List ℕ → List ℕ → Bool → Type 0
 ShowsAsked Messages = ShowsMessages
 ShowsAsked (Attributes family) = ShowsList [] 0 (table_of family)
 ShowsAsked (Verdict family) = ShowsVerdict (table_of family)
 
--- the same of a text of digits: that of the bytes that they are, or that they are no hex text
+-- the output for digits: the one for the bytes that they encode, or `bad hex` if they are not valid hex
 abbrev pub ShowsDigits : Asked → Result (List ℕ) FromHexError → List ℕ → Bool → Type 0
 ShowsDigits asked (Ok s) out read = ShowsAsked asked s out read
 ShowsDigits asked (Err e) out read = (out ≡ line (codes "bad hex")) × (read ≡ false)
 
--- what is written below a line: what it asks for of a text of digits; or that it asks for nothing
+-- the output that follows a line: the one of its command, or that it has no valid command
 pub data ShowsBelow (text out : List ℕ) (read : Bool) : Type 0 where
   Known : (asked : Asked) (rest : List ℕ) → Asks text asked rest → ShowsDigits asked (decode_of (digits_of rest)) out read → ShowsBelow text out read
   Unknown : AsksNothing text → out ≡ line (codes "no such family") → read ≡ false → ShowsBelow text out read
 
--- what is written for a line, and whether what it asks for was read
+-- the output for a line, and whether the line has no error
 pub data Shows (text out : List ℕ) (read : Bool) : Type 0 where
   TooLong : 262144 < length text → out ≡ line (codes "input too long") → read ≡ false → Shows text out read
   PassedOver : length text ≤ 262144 → IsPassedOver text → out ≡ [] → read ≡ true → Shows text out read
@@ -96,13 +96,13 @@ pub data Shows (text out : List ℕ) (read : Bool) : Type 0 where
 abbrev pub IsUnbroken : List ℕ → Type 0
 IsUnbroken text = AllByRecursion (λ b. b ≢ 10) text
 
--- the lines of a text: LF stands behind each, and may lack behind the last if that is not empty
+-- the lines of a text: LF ends each, except that a non-empty last line may lack it
 pub data AreLines (text : List ℕ) (lines : List (List ℕ)) : Type 0 where
   Ended : AllByRecursion IsUnbroken lines → text ≡ flat_map line lines → AreLines text lines
   Open : (front : List (List ℕ)) (last : List ℕ) → AllByRecursion IsUnbroken front → IsUnbroken last → 0 < length last → lines ≡ front ++ last ∷ [] → text ≡ flat_map line front ++ last
       → AreLines text lines
 
--- what is written for the lines of a text, one after another, and whether all was read
+-- the outputs for the lines of a text, in order, and whether no line has an error
 pub record ShowsAll (text out : List ℕ) (whole : Bool) : Type 0 where
   pub lines : List (List ℕ)
   pub cut : AreLines text lines

@@ -1,4 +1,4 @@
-//! What a line asks for.
+//! Parses the command at the start of an input line.
 
 ghost use Rattle.std.specs.Prelude.{◌≡◌, ◌≢◌, ◌++◌, IfSome, IfNone, MatchOption};
 ghost use Rattle.netlink_packet_route.specs.Family.{family_name};
@@ -9,19 +9,20 @@ ghost use Rattle.nlshow.specs.Show.{IsBlank, IsApart, IsCut, Asks, AsksNothing, 
 use netlink_packet_route::Family;
 use std::str;
 
-/// What a line asks for.
+/// The command of an input line.
 #[derive(Clone, Copy)]
 pub(crate) enum Asked {
-    /// `message`: the links of messages.
+    /// `message`: print the links of messages.
     Messages,
-    /// A family's name: the attributes of a list.
+    /// A `Family` name: print the attributes of a list.
     Attributes(Family),
-    /// `check` and a family's name: whether a list is canonical.
+    /// `check` and a `Family` name: check whether a list is canonical.
     Verdict(Family),
 }
 
 impl Asked {
-    /// What the first word of a line asks for, or the first two do, and the rest; `None` where that is nothing.
+    /// Parses the command at the start of a line, which is its first word or its first two words. Returns the command
+    /// and the rest of the line, or `None` if there is no valid command.
     pub(crate) fn from_line(text: &[u8]) -> Option<(Asked, &[u8])>
         ensures { MatchOption result (AsksNothing text.now) (λ found. Asks text.now found.0 found.1.now) }
     {
@@ -43,7 +44,7 @@ impl Asked {
     }
 }
 
-/// The family of this name. One that is not UTF-8 is no family's.
+/// Returns the `Family` with this name, or `None` if there is no such name. Names that are not UTF-8 match none.
 fn family_of(name: &[u8]) -> Option<Family>
     ensures found { IfSome result (λ family. name.now ≡ family_name family) }
     ensures none { IfNone result ((family : Family) → name.now ≢ family_name family) }
@@ -54,7 +55,7 @@ fn family_of(name: &[u8]) -> Option<Family>
     }
 }
 
-/// What stands before the first white space, and the rest.
+/// Splits `text` at the first white space. Returns what precedes it, and the rest, which includes it.
 fn cut_word(text: &[u8]) -> (&[u8], &[u8])
     ensures { IsCut text.now result.0.now result.1.now }
 {
@@ -62,7 +63,7 @@ fn cut_word(text: &[u8]) -> (&[u8], &[u8])
     text.split_at(end)
 }
 
-/// What follows the white space in front.
+/// Returns `text` without leading white space.
 fn without_space(text: &[u8]) -> &[u8]
     ensures { IsSolidFirst text.now result.now }
 {

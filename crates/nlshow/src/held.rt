@@ -1,4 +1,4 @@
-//! The line that is being read.
+//! The buffer for the current line.
 
 ghost use Rattle.std.specs.Prelude.{◌≡◌, ◌≤◌, ◌++◌, ℕ, List, [], length, take, OnOk, vec_len};
 
@@ -6,7 +6,7 @@ use netlink_packet_route::MOST_TEXT;
 use std::alloc::{AllocError, Global};
 use std::marker::Model;
 
-/// The bytes of a line so far, up to one more than a line may have.
+/// The bytes of the current line so far, up to one byte more than the maximum length of a line.
 #[derive(Drop)]
 pub(crate) struct Held {
     bytes: Vec<u8>,
@@ -21,7 +21,7 @@ impl Model for Held {
 }
 
 impl Held {
-    /// Nothing yet.
+    /// Creates an empty buffer.
     pub(crate) fn new(alloc: Global) -> Self
         ensures { result ≡ [] }
     {
@@ -30,14 +30,14 @@ impl Held {
         }
     }
 
-    /// What is held.
+    /// Returns the bytes of the current line.
     pub(crate) fn bytes(&self) -> &[u8]
         ensures { result.now ≡ self.now }
     {
         &self.bytes
     }
 
-    /// Adds a piece, of which no more is kept than there is room for.
+    /// Appends `piece`, truncated to the remaining capacity.
     pub(crate) fn add(&mut self, piece: &[u8]) -> Result<(), AllocError>
         ensures kept { OnOk result (self.new ≡ take 262145 (self.old ++ piece.now)) }
         ensures most { length self.new ≤ 262145 }
@@ -47,7 +47,7 @@ impl Held {
         self.bytes.extend_from_slice(front)
     }
 
-    /// Forgets the line.
+    /// Removes all bytes.
     pub(crate) fn clear(&mut self)
         ensures { self.new ≡ [] }
     {

@@ -1,4 +1,4 @@
-//! What is written of a list.
+//! Formats lists.
 
 ghost use Rattle.std.specs.Prelude.{◌≡◌, ◌++◌, length, IfOk, OnOk, string_bytes};
 ghost use Rattle.netlink_packet_route.specs.Family.{table_of};
@@ -11,9 +11,9 @@ use std::alloc::{AllocError, Global};
 use std::fmt::{Debug, Write};
 use uses::messages::{Part, Payload};
 
-/// Adds the lines of a list that a family reads, and answers whether it was read.
+/// Appends the lines of a list to `text`. Returns whether the list decodes.
 ///
-/// They are indented by this, and those of values by two spaces more.
+/// The line of an error starts with `indent`, the lines of values with `indent` and two spaces.
 pub(crate) fn push_list(
     alloc: Global,
     text: &mut String,
@@ -30,7 +30,7 @@ pub(crate) fn push_list(
     )
 }
 
-/// Adds a line for each value of a list, or one for its first fault, and answers whether it was read.
+/// Appends a line for each value of a list, or one line with its first decode error. Returns whether the list decodes.
 fn push_attributes<F: Attribute + Debug>(
     alloc: Global,
     text: &mut String,
@@ -63,7 +63,7 @@ fn push_fault(
     writeln!(text, "{indent}fault at {at}: {fault}")
 }
 
-/// Adds a line for each value.
+/// Appends a line for each value.
 fn push_values<F: Debug>(
     alloc: Global,
     text: &mut String,

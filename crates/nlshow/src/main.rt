@@ -1,8 +1,13 @@
-//! Prints the values of lists of link attributes, and of those in link messages.
+//! Prints the values of lists of link attributes, and of the lists in link messages.
 //!
-//! `nlshow`, without an argument. Each line of standard input is a family's name (`af_spec_bridge`, `bond`,
-//! `bond_port`, `bridge`, `bridge_port`, `vlan`, `can`, `dsa`, `hsr` or `proto_bridge`), white space, and the bytes of
-//! a list as hex digits; the same behind `check` and white space; or `message`, white space, and the bytes of messages.
+//! Usage: `nlshow`, without arguments. Each line of standard input is one of
+//!
+//! - `FAMILY HEX`: the bytes of a list. FAMILY is `af_spec_bridge`, `bond`, `bond_port`, `bridge`, `bridge_port`,
+//!   `vlan`, `can`, `dsa`, `hsr` or `proto_bridge`;
+//! - `check FAMILY HEX`: the same; reports whether the list is canonical;
+//! - `message HEX`: the bytes of messages.
+//!
+//! White space separates the words. Blank lines, and lines that begin with `#`, are ignored.
 #![tactic(auto)]
 
 mod arguments;
@@ -35,7 +40,7 @@ fn main(rt: HostRuntime) -> ExitCode {
     ExitCode::from(status)
 }
 
-/// Whether the program was started without an argument.
+/// Checks whether the program was started without arguments.
 fn is_called_alone<R: Env + AllocGlobal>(rt: &R) -> Result<bool, AllocError> {
     match env::args(rt) {
         Ok(arguments) => {

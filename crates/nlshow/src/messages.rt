@@ -1,4 +1,4 @@
-//! What is written of messages.
+//! Formats messages.
 
 ghost use Rattle.std.specs.Prelude.{◌≡◌, ◌++◌, IfOk, OnOk, string_bytes};
 ghost use Rattle.std.specs.Option.{option_copied};
@@ -13,7 +13,7 @@ use std::alloc::{AllocError, Global};
 use std::fmt::Write;
 use uses::messages::{Link, Message, MessageError, Part, laws, next_message, read_link};
 
-/// Adds the lines of the messages of a buffer, and answers whether all of them, and the lists in them, were read.
+/// Appends the lines of all messages of a buffer. Returns whether all messages, and all lists in them, decode.
 pub(crate) fn push_messages(
     alloc: Global,
     text: &mut String,
@@ -39,7 +39,7 @@ pub(crate) fn push_messages(
     }
 }
 
-/// Adds the lines of a message, and answers whether it and its lists were read.
+/// Appends the lines of a message. Returns whether the message and its lists decode.
 fn push_message(alloc: Global, text: &mut String, message: &Message<'_>) -> Result<bool, AllocError>
     ensures { IfOk result (Adds (ShowsMessage message.now) (string_bytes text.old) (string_bytes text.new)) }
 {
@@ -58,7 +58,7 @@ fn push_error(text: &mut String, error: MessageError) -> Result<(), AllocError>
     writeln!(text, "  {error}")
 }
 
-/// Adds the lines of a link, and answers whether its lists were read.
+/// Appends the lines of a link. Returns whether its lists decode.
 fn push_link(alloc: Global, text: &mut String, link: &Link<'_>) -> Result<bool, AllocError>
     ensures { IfOk result (Adds (ShowsLink link.now) (string_bytes text.old) (string_bytes text.new)) }
 {
@@ -70,7 +70,7 @@ fn push_link(alloc: Global, text: &mut String, link: &Link<'_>) -> Result<bool, 
     Ok(info & port & spec & protinfo)
 }
 
-/// Adds the line of a link: its index, and its name in quotes.
+/// Appends the first line of a link: its index, and its name in quotes, if it has one.
 fn push_head(alloc: Global, text: &mut String, link: &Link<'_>) -> Result<(), AllocError>
     ensures { OnOk result
         (AddsHead link.now.index (option_copied link.now.name) (string_bytes text.old) (string_bytes text.new)) }
@@ -85,7 +85,7 @@ fn push_head(alloc: Global, text: &mut String, link: &Link<'_>) -> Result<(), Al
     }
 }
 
-/// Adds the path and the lines of a list, if it is there, and answers whether it was read.
+/// Appends the path and the lines of a list, if it is present. Returns whether it is absent or decodes.
 fn push_part(
     alloc: Global,
     text: &mut String,

@@ -1,4 +1,4 @@
-//! A run of the program, over any reader and writer.
+//! Runs the program on any reader and writer.
 
 ghost use Rattle.std.specs.Prelude.{◌≡◌, ◌⊎◌, ◌<◌, ◌++◌, [], IfOk, MatchOption};
 ghost use Rattle.std.specs.Io.KnownBytes.{Keeps};
@@ -12,7 +12,7 @@ use crate::showing::show;
 use std::alloc::{AllocError, Global};
 use std::io::{Read, Write};
 
-/// The bytes that are asked of the reader at once.
+/// The maximum number of bytes of one read.
 const CHUNK: usize = 65_536;
 
 /// Why a run stopped.
@@ -23,14 +23,16 @@ pub(crate) enum Stop {
     Writer,
 }
 
-/// Reads lines to the end of the reader, and writes for each what is to be shown. The answer is the exit status.
+/// Reads lines up to the end of `reader` and writes the output for each. Returns the exit status:
 ///
-/// Status 0 says that every list and every message was read and every list behind `check` is canonical, 1 that this is
-/// not so of some line, 4 that an allocation failed, 5 that the reader or the writer did.
+/// - 0 if no line has an error: all lists and messages decode, and all lists after `check` are canonical;
+/// - 1 if a line has an error;
+/// - 4 if an allocation fails;
+/// - 5 if the reader or the writer fails.
 pub fn run<R: Read, W: Write>(alloc: Global, reader: &mut R, writer: &mut W) -> u8
     ensures report { result < 2 → RunsFor (R.remaining reader.old) (R.remaining reader.new)
         (W.contents writer.old) (W.contents writer.new) result }
-    // Behind what was written, `no memory` stands alone.
+    // The line `no memory` is the last of the output.
     ensures memory { result ≡ 4 → EndsWith (W.contents writer.old) (W.contents writer.new) no_memory_line }
     ensures known { (result < 2) ⊎ ((result ≡ 4) ⊎ (result ≡ 5)) }
 {
@@ -43,7 +45,7 @@ pub fn run<R: Read, W: Write>(alloc: Global, reader: &mut R, writer: &mut W) -> 
     }
 }
 
-/// Writes the text, and answers the status, or 5 where that failed.
+/// Writes `text`. Returns `status`, or 5 if the writer fails.
 pub(crate) fn print<W: Write>(writer: &mut W, text: &str, status: u8) -> u8
     ensures { PrintsOrFails (W.contents writer.old) (W.contents writer.new) text.now status result }
 {
@@ -62,7 +64,7 @@ fn flushed<W: Write>(writer: &mut W, status: u8) -> u8
     }
 }
 
-/// Shows each line of the reader, the last one with or without its LF. The answer is whether every list was read.
+/// Processes all lines of `reader`; the last one may lack its LF. Returns whether no line has an error.
 fn show_all<R: Read, W: Write>(alloc: Global, reader: &mut R, writer: &mut W) -> Result<bool, Stop>
     ensures shown { IfOk result (Runs (R.remaining reader.old) (R.remaining reader.new)
         (W.contents writer.old) (W.contents writer.new)) }
@@ -90,8 +92,8 @@ fn show_all<R: Read, W: Write>(alloc: Global, reader: &mut R, writer: &mut W) ->
     Err(Stop::Reader)
 }
 
-/// Shows the lines that end in the chunk, and holds what stands behind its last LF. The answer is whether every list
-/// of these lines was read.
+/// Processes the lines that end in `chunk`, and keeps what follows its last LF. Returns whether none of these lines has
+/// an error.
 fn feed<W: Write>(
     alloc: Global,
     held: &mut Held,
@@ -121,7 +123,7 @@ fn feed<W: Write>(
     }
 }
 
-/// The bytes before the first LF, and those behind it.
+/// Splits `bytes` at the first LF. Returns what precedes and what follows it, or `None` if there is no LF.
 fn split_line(bytes: &[u8]) -> Option<(&[u8], &[u8])>
     ensures { MatchOption result (IsUnbroken bytes.now)
         (λ parts. IsUnbroken parts.0.now × (bytes.now ≡ line parts.0.now ++ parts.1.now)) }
@@ -132,7 +134,7 @@ fn split_line(bytes: &[u8]) -> Option<(&[u8], &[u8])>
     Some((line, after))
 }
 
-/// Shows the line that ends with this piece.
+/// Processes the line that ends with `piece`.
 fn end_line<W: Write>(
     alloc: Global,
     held: &mut Held,
@@ -153,7 +155,7 @@ fn end_line<W: Write>(
     read
 }
 
-/// Shows the last line, if it lacks its LF. The answer is whether its list, and every one before it, was read.
+/// Processes the last line, if it lacks its LF. Returns whether neither this line nor an earlier one has an error.
 fn end_text<W: Write>(alloc: Global, held: &Held, whole: bool, writer: &mut W) -> Result<bool, Stop>
     ensures shown { IfOk result (WritesRest held.now whole (W.contents writer.old) (W.contents writer.new)) }
     ensures memory { OnMemory result (Keeps (W.contents writer.old) (W.contents writer.new)) }

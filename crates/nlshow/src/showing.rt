@@ -1,4 +1,4 @@
-//! What is written for a line.
+//! Produces the output for an input line.
 
 ghost use Rattle.std.specs.Prelude.{◌≡◌, ◌++◌, ◌↔◌, IsTrue, IfOk, OnOk, string_bytes};
 ghost use Rattle.std.specs.Io.KnownBytes.{Appends, Keeps};
@@ -20,7 +20,8 @@ use std::io;
 use std::io::Write;
 use uses::messages::{Part, Payload};
 
-/// Writes what is to be shown for a line, and answers whether what it asks for was read.
+/// Writes the output for an input line. Returns false if the line has an error: it is too long, has no valid command or
+/// bad hex, or its bytes do not decode or, for `check`, are not canonical.
 pub(crate) fn show<W: Write>(alloc: Global, text: &[u8], writer: &mut W) -> Result<bool, Stop>
     ensures shown { IfOk result (WritesLine text.now (W.contents writer.old) (W.contents writer.new)) }
     ensures memory { OnMemory result (Keeps (W.contents writer.old) (W.contents writer.new)) }
@@ -52,7 +53,7 @@ fn is_passed_over(text: &[u8]) -> bool
     }
 }
 
-/// Writes the line, LF, and the text.
+/// Writes `text`, LF, and `below`.
 fn write_below<W: Write>(writer: &mut W, text: &[u8], below: &str) -> io::Result<()>
     ensures { OnOk result (Appends (W.contents writer.old) (W.contents writer.new) (line text.now ++ below.now)) }
 {
@@ -61,7 +62,7 @@ fn write_below<W: Write>(writer: &mut W, text: &[u8], below: &str) -> io::Result
     writer.write_all(below.as_bytes())
 }
 
-/// What stands below a line, and whether what it asks for was read.
+/// Returns the output that follows a line, and false if the line has an error.
 fn answer(alloc: Global, text: &[u8]) -> Result<(String, bool), AllocError>
     ensures { IfOk result (λ below. ShowsBelow text.now (string_bytes below.0) below.1) }
 {
@@ -71,7 +72,7 @@ fn answer(alloc: Global, text: &[u8]) -> Result<(String, bool), AllocError>
     }
 }
 
-/// What stands below a line with these hex digits, and whether they were read.
+/// Returns the output that follows a line whose digits are `text`, and false if they have an error.
 fn digits_text(alloc: Global, asked: Asked, text: &[u8]) -> Result<(String, bool), AllocError>
     ensures { IfOk result
         (λ below. ShowsDigits asked (decode_of (digits_of text.now)) (string_bytes below.0) below.1) }
@@ -87,7 +88,7 @@ fn digits_text(alloc: Global, asked: Asked, text: &[u8]) -> Result<(String, bool
     Ok((text, read))
 }
 
-/// Adds what is asked of the bytes, and answers whether they were read.
+/// Appends the output of the command for `bytes`. Returns false if they have an error.
 fn push_answer(
     alloc: Global,
     text: &mut String,
@@ -106,7 +107,7 @@ fn push_answer(
     }
 }
 
-/// What is left without white space.
+/// Returns `text` without white space.
 fn digits(alloc: Global, text: &[u8]) -> Result<Vec<u8>, AllocError>
     ensures { IfOk result (λ digits. digits.items ≡ digits_of text.now) }
 {

@@ -1,5 +1,5 @@
-//! What no clause says of a run: that memory suffices, and readers and writers that give little or fail. And the calls of
-//! `uses`, which has no tests of its own, since a crate with tests is proved twice.
+//! Tests of what no contract covers: that allocations succeed, and readers and writers that fail or transfer few bytes
+//! at a time. Also tests of `uses`, which has none of its own, since a crate with tests is proved twice.
 
 mod callers;
 mod walks;
@@ -12,7 +12,7 @@ use std::process::Abort;
 
 const SHOWN: &str = "dsa 0800 0100 2a00 0000\n  Conduit(42)\n";
 
-/// Gives at most so many bytes a read, and fails behind the last where it is broken.
+/// Returns at most `most` bytes per read. After the last byte, it fails if `is_broken`.
 #[derive(Drop)]
 struct Trickle<'a> {
     rest: &'a [u8],
@@ -30,7 +30,7 @@ impl Read for Trickle<'_> {
     }
 }
 
-/// Takes at most so many bytes a call, and this many in all; then it fails.
+/// Accepts at most `most` bytes per call, and `room` bytes in total; after that it fails.
 #[derive(Drop)]
 struct Narrow {
     taken: Vec<u8>,
@@ -58,7 +58,7 @@ impl Write for Narrow {
     }
 }
 
-/// Fails at each write, or takes every byte and fails at each flush.
+/// Fails at each write, or accepts every byte and fails at each flush.
 #[derive(Drop)]
 struct Broken {
     takes: bool,
@@ -78,7 +78,7 @@ impl Write for Broken {
     }
 }
 
-/// The text is shown so, read at once and byte by byte.
+/// Asserts the output and the exit status for `text`, read in one piece and byte by byte.
 fn shows(rt: &impl Abort, alloc: Global, text: &[u8], shown: &[u8], status: u8) {
     let mut rest = text;
     let mut written = Vec::new(alloc);
@@ -147,7 +147,7 @@ fn readers_and_writers_that_fail(rt: HostRuntime) {
     }
 }
 
-/// Lines, and what is printed for each.
+/// Input lines, each with its output.
 const ROWS: [(&str, &str); 6] = [
     ("dsa\n", "dsa\n"),
     ("# dsa 0\n", ""),
@@ -157,8 +157,8 @@ const ROWS: [(&str, &str); 6] = [
     ("hsr 03\n", "hsr 03\nfault at 0: short frame 1\n"),
 ];
 
-/// The text, read by 1, 2, 3, 7 and 4096 bytes, is answered by these lines and a status; and by a reader that fails
-/// behind it, by `read fault` and 5 behind the lines of its whole lines.
+/// Asserts that `run`, reading `text` 1, 2, 3, 7 and 4096 bytes at a time, writes `lines` and returns the status
+/// `end.1`. If `end.0` is true, the reader fails after `text`.
 fn is_read(rt: &impl Abort, alloc: Global, text: &[u8], lines: &[u8], end: (bool, u8)) {
     let (is_broken, status) = end;
     for most in [1, 2, 3, 7, 4096] {
@@ -173,7 +173,7 @@ fn is_read(rt: &impl Abort, alloc: Global, text: &[u8], lines: &[u8], end: (bool
     }
 }
 
-/// A reader that fails behind each byte of several lines. What was printed before are whole lines.
+/// Makes the reader fail after each byte of several lines. The output before the failure is that of whole lines.
 #[test]
 fn readers_that_fail_anywhere(rt: HostRuntime) {
     let alloc = rt.alloc();
@@ -191,7 +191,7 @@ fn readers_that_fail_anywhere(rt: HostRuntime) {
     is_read(&rt, alloc, &text, &lines, (false, 1));
 }
 
-/// A writer that fails at each place of the output. Before it all is printed, and after it nothing is tried.
+/// Makes the writer fail at each offset of the output. Everything before is written, and no write follows the failure.
 #[test]
 fn writers_that_fail_anywhere(rt: HostRuntime) {
     let alloc = rt.alloc();

@@ -1,4 +1,4 @@
-//! Whether a list is canonical.
+//! Formats the result of the check whether a list is canonical.
 
 ghost use Rattle.std.specs.Prelude.{IfOk, string_bytes};
 ghost use Rattle.netlink_packet_route.specs.Family.{table_of};
@@ -9,8 +9,8 @@ use netlink_packet_route::{Family, first_not_canonical};
 use std::alloc::AllocError;
 use std::fmt::Write;
 
-/// Adds a line that says whether a list is canonical, or where its first attribute that is not stands, and answers
-/// whether it is.
+/// Appends a line that reports that the list is canonical, or the offset of the first attribute that is not. Returns
+/// whether the list is canonical.
 pub(crate) fn push_verdict(
     text: &mut String,
     family: Family,

@@ -1,4 +1,4 @@
-//! What a line asks for, and what is printed of the answer.
+//! Makes the call that an input line names, and formats its result.
 
 ghost use Rattle.std.specs.Prelude.{◌≡◌, ◌≤◌, ◌^◌, ◌↔◌, IfOk, IsTrue, string_bytes};
 ghost use Rattle.netlink_packet_route.specs.Frame.{pad};
@@ -14,14 +14,17 @@ use std::alloc::Global;
 use std::fmt::Debug;
 use std::str;
 
-/// How many bytes of an answer's text are printed.
+/// The maximum length of a printed result, in bytes.
 const MOST: usize = 300;
 
-/// Makes the call that a line names, on the bytes that it names. The line's number is passed over: it is how many
-/// allocations the call makes. The answer is printed as `{:?}` prints it, with bytes as hex digits. If the caller's
-/// bytes, values or buffer have changed, the answer ends in this.
+/// Makes the call that a line names, on the bytes that it names. The line starts with the number of allocations that
+/// the call makes, which is ignored here. The result is formatted with `{:?}`, except that bytes are hex digits. If the
+/// caller's bytes, values or buffer have changed, the output ends with a note of this.
 ///
-/// Fails for a line that names no call, no bytes or none that the call is made on, and where an allocation failed.
+/// # Errors
+///
+/// If the line does not name a call, if its bytes are missing or not suitable for the call, or if an allocation outside
+/// the call fails.
 pub(crate) fn answer(alloc: Global, line: &str) -> Result<String> {
     let (_allocations, rest) = cut_word(line);
     let (call, rest) = cut_word(rest);
@@ -38,12 +41,12 @@ pub(crate) fn answer(alloc: Global, line: &str) -> Result<String> {
     kept(answer, lent == bytes)
 }
 
-/// What stands before the first space, and what stands behind it.
+/// Splits `text` at the first space. Returns what precedes and what follows the space.
 fn cut_word(text: &str) -> (&str, &str) {
     text.split_once(' ').unwrap_or((text, ""))
 }
 
-/// The bytes of words, one after another. A word is hex digits, or a number, `*`, and hex digits.
+/// Parses words to bytes, and concatenates them. A word is hex digits, or a number, `*`, and hex digits.
 fn bytes_of(alloc: Global, words: &str) -> Result<Vec<u8>> {
     let mut bytes = Vec::new(alloc);
     for word in words.split_ascii_whitespace() {
@@ -56,7 +59,7 @@ fn bytes_of(alloc: Global, words: &str) -> Result<Vec<u8>> {
     Ok(bytes)
 }
 
-/// A call on bytes of a family; `report` is made on their hex digits.
+/// Makes a call for an attribute set on `bytes`; for `report`, on their hex digits.
 fn on_family(alloc: Global, call: &str, family: Family, bytes: &[u8]) -> Result<String> {
     match call {
         "rewrite" => said_bytes(alloc, calls::rewrite(alloc, family, bytes)),
@@ -78,10 +81,10 @@ fn on_family(alloc: Global, call: &str, family: Family, bytes: &[u8]) -> Result<
     }
 }
 
-/// What the buffers of `rewrite_into` and `rewrite_to` hold before the call.
+/// The contents of the buffers of `rewrite_into` and `rewrite_to` before the call.
 const BEFORE: u8 = 0xA5;
 
-/// A length, rounded up to a multiple of four.
+/// Rounds a length up to a multiple of four.
 fn padded(len: usize) -> usize
     requires { len ≤ 2 ^ 63 }
     ensures { result ≡ pad len }
@@ -89,8 +92,8 @@ fn padded(len: usize) -> usize
     (len + 3) / 4 * 4
 }
 
-/// Re-encodes a list into a buffer of its length, rounded up to a multiple of four, and four bytes more. These four are
-/// unchanged, and so is all that follows the written bytes.
+/// Re-encodes a list into a buffer that is four bytes longer than `bytes.len()`, rounded up to a multiple of four.
+/// Checks that these four bytes are unchanged and, on success, everything after the bytes that were written.
 fn rewrite_into(alloc: Global, family: Family, bytes: &[u8]) -> Result<String> {
     let size = padded(bytes.len());
     let mut buffer = vec![in alloc; BEFORE; size + 4]?;
@@ -103,7 +106,7 @@ fn rewrite_into(alloc: Global, family: Family, bytes: &[u8]) -> Result<String> {
     }
 }
 
-/// Re-encodes a list into a buffer of this size. If nothing was written, the whole buffer is unchanged.
+/// Re-encodes a list into a buffer of `size` bytes. If nothing was written, checks that the whole buffer is unchanged.
 fn rewrite_to(alloc: Global, family: Family, bytes: &[u8], size: usize) -> Result<String> {
     let mut buffer = vec![in alloc; BEFORE; size]?;
     match calls::rewrite_to(alloc, family, bytes, &mut buffer) {
@@ -112,7 +115,7 @@ fn rewrite_to(alloc: Global, family: Family, bytes: &[u8], size: usize) -> Resul
     }
 }
 
-/// What was written to the front of a buffer, in the form of `rewrite`, and whether the rest is unchanged.
+/// Formats `buffer[..len]` as the result of `rewrite`, and checks that the rest of the buffer is unchanged.
 fn said_front(alloc: Global, buffer: &[u8], len: usize) -> Result<String> {
     let Some((front, rest)) = buffer.split_at_checked(len) else {
         bail!("more than the buffer has: {len}");
@@ -124,12 +127,12 @@ fn said_front(alloc: Global, buffer: &[u8], len: usize) -> Result<String> {
     kept(answer, are_kept(rest))
 }
 
-/// Whether these bytes of a buffer are unchanged.
+/// Checks whether these bytes of a buffer are unchanged.
 fn are_kept(bytes: &[u8]) -> bool {
     bytes.iter().all(|b| *b == BEFORE)
 }
 
-/// A call on bytes of a nested list, by the name of its type.
+/// Makes a call on the bytes of a nested list, selected by the name of its element type.
 fn on_nested(alloc: Global, call: &str, name: &str, bytes: &[u8]) -> Result<String> {
     match name {
         "BondAdInfo" => on_attributes::<BondAdInfo>(alloc, call, bytes),
@@ -142,7 +145,7 @@ fn on_nested(alloc: Global, call: &str, name: &str, bytes: &[u8]) -> Result<Stri
     }
 }
 
-/// A call that is generic over the attributes of a list.
+/// Makes a call that is generic over an `Attribute`.
 fn on_attributes<F: Attribute + TryClone + Debug>(
     alloc: Global,
     call: &str,
@@ -162,7 +165,7 @@ fn on_attributes<F: Attribute + TryClone + Debug>(
     }
 }
 
-/// A call on the values of a list, or on the first of them.
+/// Makes a call on the values of a list, or on the first of them.
 fn on_values<F: Attribute + TryClone + Debug>(
     alloc: Global,
     call: &str,
@@ -175,7 +178,7 @@ fn on_values<F: Attribute + TryClone + Debug>(
     }
 }
 
-/// The offsets of the frames, and the first fault with its offset.
+/// Walks the attributes of `bytes`. Formats their offsets, and the first error with its offset.
 fn walk(alloc: Global, bytes: &[u8]) -> Result<String> {
     let answer = match calls::walk(alloc, bytes) {
         Ok(table) => {
@@ -190,7 +193,7 @@ fn walk(alloc: Global, bytes: &[u8]) -> Result<String> {
     said(alloc, &answer)
 }
 
-/// The text of an answer, as far as it is printed.
+/// Formats a result, truncated to `MOST` bytes and the number of bytes that are left out.
 fn said<A: Debug>(alloc: Global, answer: &A) -> Result<String> {
     let answer = format!(in alloc; "{answer:?}")?;
     match answer.split_at_checked(MOST) {
@@ -202,7 +205,7 @@ fn said<A: Debug>(alloc: Global, answer: &A) -> Result<String> {
     }
 }
 
-/// The same of bytes, which are said as hex digits.
+/// Formats a result that holds bytes, as hex digits.
 fn said_bytes<E: Debug + Drop>(alloc: Global, answer: Result<Vec<u8>, E>) -> Result<String> {
     match answer {
         Ok(bytes) => said(alloc, &Ok::<String, E>(hex::encode(alloc, &bytes)?)),
@@ -210,7 +213,7 @@ fn said_bytes<E: Debug + Drop>(alloc: Global, answer: Result<Vec<u8>, E>) -> Res
     }
 }
 
-/// The answer, and behind it whether what was lent has changed.
+/// Appends to a formatted result, unless `is_kept`, that the caller's bytes, values or buffer have changed.
 fn kept(mut answer: String, is_kept: bool) -> Result<String>
     ensures { IfOk result (λ said. (string_bytes said ≡ string_bytes answer) ↔ IsTrue is_kept) }
 {

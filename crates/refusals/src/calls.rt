@@ -1,4 +1,4 @@
-//! The calls, each between two marks, with the clauses of the call that it makes.
+//! The calls, each between two marks. Each function has the contract of the function that it calls.
 
 ghost use Rattle.std.specs.Prelude.{◌≡◌, ◌≤◌, ◌++◌, ◌-◌, [], None, length, drop, map, replicate, string_bytes};
 ghost use Rattle.std.specs.Prelude.{IfOk, OnErr, IsTrue};
@@ -26,10 +26,11 @@ use netlink_packet_route::link::{
 use netlink_packet_route::{Family, RewriteError, link};
 use std::alloc::{AllocError, Global};
 
-/// A size that nothing else asks for, in bytes. By it a malloc knows where a call begins, and where it ends.
+/// The size in bytes of a block that nothing else allocates. By it, the `malloc` that the program runs under recognizes
+/// where a call begins and ends.
 const MARK: usize = 7_654_321;
 
-/// What a call answers, which is made between two requests for a block of `MARK` bytes.
+/// Returns the result of `call`, made between two allocations of a block of `MARK` bytes.
 fn marked<A, C: FnOnce() -> A>(alloc: Global, call: C) -> A
     requires { C.IsAlwaysCallable call }
     ensures { C.post call result }
@@ -40,13 +41,13 @@ fn marked<A, C: FnOnce() -> A>(alloc: Global, call: C) -> A
     answer
 }
 
-/// Asks for the block, and frees it.
+/// Allocates the block, and frees it.
 #[inline(never)]
 fn mark(alloc: Global) {
     let _block: Result<Vec<u8>, AllocError> = Vec::with_capacity(alloc, MARK);
 }
 
-/// The values of a list, or its first fault.
+/// Calls `read_list`, which parses a list.
 pub(crate) fn read_list<F: Attribute>(alloc: Global, bytes: &[u8]) -> Result<Vec<F>, ListError>
     ensures answer { ListAnswers (λ vs. map F.means vs.items) result (Gives F.table) bytes.now }
     ensures memory { OnListMemory result (frame_fault bytes.now ≡ None) }
@@ -54,7 +55,7 @@ pub(crate) fn read_list<F: Attribute>(alloc: Global, bytes: &[u8]) -> Result<Vec
     marked(alloc, || link::read_list(alloc, bytes))
 }
 
-/// The value of a frame, or its fault.
+/// Calls `parse`, which parses an attribute.
 pub(crate) fn parse<F: Attribute>(alloc: Global, frame: &NlaBuffer<'_>) -> Result<F, DecodeError>
     ensures answer { Answers F.means result (Gives F.table (kind_field_of frame.now) (payload_of frame.now)) }
     ensures memory { OnMemory result (TakesMemory F.table (kind_field_of frame.now)) }
@@ -62,7 +63,7 @@ pub(crate) fn parse<F: Attribute>(alloc: Global, frame: &NlaBuffer<'_>) -> Resul
     marked(alloc, || F::parse(alloc, frame))
 }
 
-/// An equal value.
+/// Calls `try_clone`, which returns an equal value.
 pub(crate) fn try_clone<F: TryClone>(alloc: Global, value: &F) -> Result<F, AllocError>
     ensures copy { IfOk result (λ copy. F.means copy ≡ F.means value.now) }
     ensures equal { IfOk result (λ copy. IsTrue (F.PartialEq.eq copy value.now)) }
@@ -71,14 +72,14 @@ pub(crate) fn try_clone<F: TryClone>(alloc: Global, value: &F) -> Result<F, Allo
     marked(alloc, || value.try_clone(alloc))
 }
 
-/// The written list, or the first value that does not fit.
+/// Calls `write_list`, which serializes values, or reports the first one that does not fit.
 pub(crate) fn write_list<F: Attribute>(alloc: Global, values: &[F]) -> Result<Vec<u8>, WriteError>
     ensures { WriteAnswers (map F.means values.now) result }
 {
     marked(alloc, || link::write_list(alloc, values))
 }
 
-/// A list, read and written.
+/// Calls `rewrite`, which re-encodes a list.
 pub(crate) fn rewrite(alloc: Global, family: Family, bytes: &[u8]) -> Result<Vec<u8>, RewriteError>
     ensures answer { RewriteAnswers (table_of family) bytes.now result }
     ensures memory { OnRewriteMemory result (frame_fault bytes.now ≡ None) }
@@ -89,7 +90,7 @@ pub(crate) fn rewrite(alloc: Global, family: Family, bytes: &[u8]) -> Result<Vec
     )
 }
 
-/// A list, read and written into a buffer one attribute at a time.
+/// Calls `rewrite_into`, which re-encodes a list into a buffer, one attribute at a time.
 pub(crate) fn rewrite_into(
     alloc: Global,
     family: Family,
@@ -107,7 +108,7 @@ pub(crate) fn rewrite_into(
     answer
 }
 
-/// A list, read and written into a buffer, or `None` if the buffer is too small.
+/// Calls `rewrite_to`, which re-encodes a list into a buffer, or returns `None` if the buffer is too small.
 pub(crate) fn rewrite_to(
     alloc: Global,
     family: Family,
@@ -124,7 +125,7 @@ pub(crate) fn rewrite_to(
     answer
 }
 
-/// How many attributes a list has.
+/// Calls `count_values`, which counts the attributes of a list.
 pub(crate) fn count_values(alloc: Global, family: Family, bytes: &[u8]) -> Result<usize, ListError>
     ensures answer { CountAnswers (table_of family) bytes.now result }
     ensures memory { OnListMemory result (frame_fault bytes.now ≡ None) }
@@ -135,14 +136,14 @@ pub(crate) fn count_values(alloc: Global, family: Family, bytes: &[u8]) -> Resul
     )
 }
 
-/// The output of `nlroute` for a text, and its status.
+/// Calls `report`, which returns the output of `nlroute` for an input, and its status.
 pub(crate) fn report(alloc: Global, family: Family, text: &[u8]) -> Result<(String, u8), AllocError>
     ensures { IfOk result (λ report. Reports (table_of family) text.now (string_bytes report.0) report.1) }
 {
     marked(alloc, || netlink_packet_route::report(alloc, family, text))
 }
 
-/// The frames of some bytes.
+/// Calls `FrameTable::walk`, which finds the frames in `bytes`.
 pub(crate) fn walk(alloc: Global, bytes: &[u8]) -> Result<FrameTable<'_>, AllocError>
     ensures bytes { IfOk result (λ t. walked_bytes t ≡ bytes.now) }
     ensures finds { IfOk result (λ t. Finds bytes.now (offsets_of t) (fault_of t)) }
@@ -151,7 +152,7 @@ pub(crate) fn walk(alloc: Global, bytes: &[u8]) -> Result<FrameTable<'_>, AllocE
     marked(alloc, || FrameTable::walk(alloc, bytes))
 }
 
-/// A list of what `IFLA_AF_SPEC` holds.
+/// Calls `VecAfSpecBridge::parse`, which parses the list in an `IFLA_AF_SPEC`.
 pub(crate) fn parse_af_spec(alloc: Global, bytes: &[u8]) -> Result<VecAfSpecBridge, ListError>
     ensures answer { ListAnswers (λ list. map af_spec_means list.0.items) result (Gives af_spec_table) bytes.now }
     ensures memory { OnListMemory result (frame_fault bytes.now ≡ None) }
@@ -159,7 +160,7 @@ pub(crate) fn parse_af_spec(alloc: Global, bytes: &[u8]) -> Result<VecAfSpecBrid
     marked(alloc, || VecAfSpecBridge::parse(alloc, bytes))
 }
 
-/// A list of what `IFLA_PROTINFO` holds.
+/// Calls `VecLinkProtoInfoBridge::parse`, which parses the list in an `IFLA_PROTINFO`.
 pub(crate) fn parse_proto_info(
     alloc: Global,
     bytes: &[u8],
@@ -170,21 +171,21 @@ pub(crate) fn parse_proto_info(
     marked(alloc, || VecLinkProtoInfoBridge::parse(alloc, bytes))
 }
 
-/// Bytes, and zeros behind them up to a size.
+/// Calls `expand_buffer_if_small`, which pads `got` with zeros to `size` bytes if it is shorter.
 pub(crate) fn expand(alloc: Global, got: &[u8], size: usize) -> Result<Vec<u8>, AllocError>
     ensures { IfOk result (λ bytes. bytes.items ≡ got.now ++ replicate (size - length got.now) 0) }
 {
     marked(alloc, || link::expand_buffer_if_small(alloc, got, size))
 }
 
-/// The limits of a CAN controller with this name.
+/// Calls `CanBitTimingConst::new`, which returns the limits of a CAN controller with this name.
 pub(crate) fn limits(alloc: Global, name: &str) -> Result<CanBitTimingConst, AllocError>
     ensures { IfOk result (λ limits. limits_view limits ≡ limits_with name.now) }
 {
     marked(alloc, || CanBitTimingConst::new(alloc, name))
 }
 
-/// Those of one without a name.
+/// Calls `CanBitTimingConst::empty`, which returns the limits of a CAN controller without a name.
 pub(crate) fn no_limits(alloc: Global) -> CanBitTimingConst
     ensures { limits_view result ≡ limits_with [] }
 {

@@ -1,8 +1,9 @@
-//! Makes a call, and prints what it answers: for `tools/refusals.py`, which has a malloc refuse memory to the call.
+//! Makes calls of the library and prints their results, for `tools/refusals.py`, which runs this program under a
+//! `malloc` that makes the allocations of the call fail.
 //!
-//! `refusals`, without an argument. Each line of standard input names a call, and then what it is called on: mostly a
-//! family and the bytes of a list, as hex digits, or as a number, `*`, and the hex digits of bytes that stand so many
-//! times one after another. A line that begins with `#`, or has nothing on it, is passed over.
+//! Usage: `refusals`, without arguments. Each line of standard input names a call and its arguments: usually an
+//! attribute set and the bytes of a list. Bytes are hex digits, or a number, `*`, and the hex digits of bytes that are
+//! repeated that number of times. Empty lines, and lines that begin with `#`, are ignored.
 #![tactic(auto)]
 
 mod asking;

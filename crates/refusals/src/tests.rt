@@ -1,4 +1,4 @@
-//! What no clause says: worked bytes and texts, and calls that succeed.
+//! Tests of what no contract covers: inputs and outputs that were computed by hand, and that calls succeed.
 
 mod canonical;
 mod counts;
@@ -25,12 +25,12 @@ use netlink_packet_route::link::{
 use std::alloc::Global;
 use std::process::Abort;
 
-/// What is said of a row is so.
+/// Asserts `is_so`. A failure names `row`.
 fn holds(rt: &impl Abort, is_so: bool, row: &str) {
     assert!(rt; is_so, "in {row}");
 }
 
-/// The bytes of hex digits, with spaces among them.
+/// Decodes hex digits, which may have spaces among them.
 fn bytes(rt: &impl Abort, alloc: Global, digits: &str) -> Vec<u8> {
     let digits: Vec<u8> = digits
         .bytes()
@@ -40,7 +40,7 @@ fn bytes(rt: &impl Abort, alloc: Global, digits: &str) -> Vec<u8> {
     hex::decode(alloc, &digits).expect(rt, "hex digits")
 }
 
-/// The digits of a header, of the name field of a CAN controller, and of eight numbers that are zero.
+/// Returns the hex digits of a header, of the name field of a CAN controller, and of eight `u32`s that are zero.
 fn can_limits(rt: &impl Abort, alloc: Global, header: &str, field: &str) -> String {
     let mut digits = String::from_str(alloc, header).expect(rt, field);
     digits.push_str(field).expect(rt, field);
@@ -50,12 +50,13 @@ fn can_limits(rt: &impl Abort, alloc: Global, header: &str, field: &str) -> Stri
     digits
 }
 
-/// A list with these items.
+/// Returns a vector of these items.
 fn list<T: Drop, const N: usize>(rt: &impl Abort, alloc: Global, items: [T; N]) -> Vec<T> {
     Vec::from_array(alloc, items).expect(rt, "a list")
 }
 
-/// The bytes are one frame, which reads as this value, alone and as a list; and the value has an equal copy.
+/// Asserts that the bytes are one attribute, that it decodes to `wanted`, alone and as a list, and that the value has
+/// an equal clone.
 fn reads_as<F: Attribute + TryClone>(rt: &impl Abort, alloc: Global, digits: &str, wanted: F) {
     let bytes = bytes(rt, alloc, digits);
     let frame = NlaBuffer::new_checked(&bytes).expect(rt, digits);
@@ -66,7 +67,8 @@ fn reads_as<F: Attribute + TryClone>(rt: &impl Abort, alloc: Global, digits: &st
     holds(rt, value == wanted && copy == wanted && is_one, digits);
 }
 
-/// The value is written as these bytes, in a list and alone, whatever the buffer held; nothing behind them is written.
+/// Asserts that the value is encoded as these bytes, in a list and alone, whatever the buffer held, and that nothing is
+/// written after them.
 fn is_written<F: Attribute>(rt: &impl Abort, alloc: Global, digits: &str, value: F) {
     let mut wanted = bytes(rt, alloc, digits);
     let mut buffer = [0xFF; 100];
@@ -80,14 +82,14 @@ fn is_written<F: Attribute>(rt: &impl Abort, alloc: Global, digits: &str, value:
     holds(rt, buffer.as_slice() == wanted.as_slice(), digits);
 }
 
-/// The bytes read as this value, and the value is written as these bytes.
+/// Asserts that the bytes decode to this value, and that the value is encoded as these bytes.
 fn is_kept<F: Attribute + TryClone>(rt: &impl Abort, alloc: Global, digits: &str, value: F) {
     let copy = value.try_clone(alloc).expect(rt, digits);
     reads_as(rt, alloc, digits, value);
     is_written(rt, alloc, digits, copy);
 }
 
-/// The bytes are one frame, which has this fault, alone and as a list.
+/// Asserts that the bytes of each row are one attribute, which has this decode error, alone and as a list.
 fn are_refused<F: Attribute>(rt: &impl Abort, alloc: Global, rows: &[(&str, DecodeFault)]) {
     for (digits, fault) in rows {
         let bytes = bytes(rt, alloc, digits);

@@ -1,4 +1,4 @@
--- Lists, changed in one attribute.
+-- Lists with one attribute changed.
 use Rattle.std.specs.Prelude.{◌==◌, ℕ, Bool, true, false, not, List, [], ◌∷◌, ◌++◌, map, filter, Err, if◌then◌else◌}
 use Rattle.std.specs.List.{list_any}
 use Rattle.netlink_packet_route.specs.Answers.{ListFails, WriteAnswers}
@@ -9,25 +9,25 @@ use Rattle.netlink_packet_route.specs.declared.link.InfoVlan.TheVariants.{Id}
 use Rattle.uses.specs.declared.changing.ChangeError.{ChangeError}
 use Rattle.uses.specs.declared.changing.ChangeError.TheVariants as errors
 
--- the value is an identifier
+-- true for an identifier
 abbrev pub is_id : InfoVlan → Bool
 is_id (Id id) = true
 is_id v = false
 
--- an identifier becomes this one, and any other value stays
+-- an identifier is replaced by the new one, any other value is unchanged
 abbrev pub set_id : ℕ → InfoVlan → InfoVlan
 set_id id (Id old) = Id id
 set_id id v = v
 
--- each identifier becomes this one; if there is none, it stands behind the other values
+-- every identifier is replaced by the new one; if there is none, the new one is appended
 abbrev pub with_id : ℕ → List InfoVlan → List InfoVlan
 with_id id vs = if list_any is_id vs then map (set_id id) vs else vs ++ Id id ∷ []
 
--- the values of other kinds than the new one, and then this one
+-- the values of other attribute types than the new one's, then the new one
 abbrev pub in_place_of : {X : Type 0} → (X → AttrValue) → X → List X → List X
 in_place_of means new vs = filter (λ v. not (written_kind (means v) == written_kind (means new))) vs ++ new ∷ []
 
--- why changed values were not written: the first fault of the bytes; or the first value that does not fit; or memory
+-- why there is no changed list: an allocation failed; or s does not decode; or a changed value does not fit
 abbrev pub ChangeFails : {X : Type 0} → Table → (X → AttrValue) → (List X → List X) → List ℕ → ChangeError → Type 0
 ChangeFails table means change s (errors.Memory e) = Unit {0}
 ChangeFails table means change s (errors.Read e) = ListFails e (Gives table) s

@@ -1,4 +1,4 @@
--- The links of a whole buffer of messages.
+-- The links of all messages of a buffer.
 use Rattle.std.specs.Prelude.{◌⊎◌, ℕ, List, drop, Option, Some, None, Ok, Err}
 use Rattle.std.specs.List.{AllZip}
 use Rattle.uses.specs.declared.messages.header.Message.{Message}
@@ -9,22 +9,22 @@ use Rattle.uses.specs.declared.messages.dumping.DumpError.TheVariants as errors
 use Rattle.uses.specs.Message.{NextMessage, Stand, packet_of}
 use Rattle.uses.specs.LinkMessage.{IsAbout, IsAboutNone}
 
--- the messages of a buffer up to an offset are about these links
+-- the messages of s from offset 0 to `end` are about these links
 pub record LinksTo (s : List ℕ) (end : ℕ) (links : List Link) : Type 0 where
   pub messages : List Message
   pub stand : Stand s 0 messages end
   pub each : AllZip (λ m link. IsAbout m.at (packet_of m) link) messages links
 
--- all messages of a buffer are about these links
+-- all messages of s, up to its end or to an NLMSG_DONE, are about these links
 abbrev pub HasLinks : List ℕ → List Link → Type 0
 HasLinks s links = (end : ℕ) × LinksTo s end links × NextMessage end (drop end s) (Ok None)
 
--- no message stands at an offset, or one that says nothing of a link
+-- at this offset there is no message, or one that does not describe a link
 abbrev pub IsRefusedAt : List ℕ → ℕ → MessageError → Type 0
 IsRefusedAt s at error =
     NextMessage at (drop at s) (Err error) ⊎ ((m : Message) × NextMessage at (drop at s) (Ok (Some m)) × IsAboutNone m.at (packet_of m) error)
 
--- the first error of a buffer, behind messages about links, unless memory ran out
+-- the first error of s, after messages about links, unless an allocation failed
 abbrev pub DumpFails : List ℕ → DumpError → Type 0
 DumpFails s (errors.Memory e) = Unit {0}
 DumpFails s (errors.Message error) = (at : ℕ) × (links : List Link) × LinksTo s at links × IsRefusedAt s at error

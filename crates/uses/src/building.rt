@@ -1,4 +1,4 @@
-//! A request, built: into memory of its own, or into a lent buffer.
+//! Builds requests, into a new vector or into the caller's buffer.
 
 ghost use Rattle.std.specs.Prelude.{◌≡◌, ◌↔◌, ◌<◌, [], ◌∷◌, true, false, length, map, IfOk, IfErr, OnErr, IsErr};
 ghost use Rattle.std.specs.List.{AllByRecursion};
@@ -18,16 +18,20 @@ use thiserror::Error;
 /// Why a list was not written into a buffer.
 #[derive(Clone, Copy, Debug, PartialEq, Eq, Error)]
 pub enum BufferError {
-    /// A value does not fit into an attribute.
+    /// A value does not fit in an attribute.
     #[error("a value is too long")]
     TooLong,
-    /// The list takes more bytes than the buffer has.
+    /// The encoded list has `needed` bytes (saturating at `usize::MAX`), more than the buffer.
     #[error("the list takes {needed} bytes")]
     TooSmall { needed: usize },
 }
 
-/// Writes a list to the front of a buffer, and answers how many bytes it takes. The buffer stays as it is behind them,
-/// and on an error.
+/// Serializes `values` into `buffer`. Returns `n`, the number of bytes written; `buffer[n..]` is unchanged.
+///
+/// # Errors
+///
+/// `TooLong` if a value does not fit in an attribute, otherwise `TooSmall` if the buffer is shorter than the encoded
+/// list. On error the buffer is unchanged.
 pub fn write_into<F: Attribute>(values: &[F], buffer: &mut [u8]) -> Result<usize, BufferError>
     ensures written { IfOk result (λ count. let list = written_list (map F.means values.now) in
         AllByRecursion Fits (map F.means values.now) × (count ≡ length list)
@@ -46,8 +50,12 @@ pub fn write_into<F: Attribute>(values: &[F], buffer: &mut [u8]) -> Result<usize
     Ok(needed)
 }
 
-/// Writes a request for a bond of the mode 802.3ad, whose partner is to send every second: its MII monitoring interval
-/// in milliseconds. Answers how many bytes it takes.
+/// Writes a request for a bond in mode 802.3ad whose partner is to send LACPDUs every second. `interval` is the MII
+/// monitoring interval in milliseconds. Returns the number of bytes written; the rest of `buffer` is unchanged.
+///
+/// # Errors
+///
+/// `TooSmall { needed: 24 }` if and only if `buffer` has fewer than 24 bytes, and then it is unchanged.
 pub fn bond_request(interval: u32, buffer: &mut [u8]) -> Result<usize, BufferError>
     ensures written { IfOk result (λ count. let list = written_list (Case 1 (Single (Name 1 4))
         ∷ Case 3 (Single (Number 4 interval)) ∷ Case 21 (Single (Name 1 1)) ∷ []) in
@@ -64,8 +72,12 @@ pub fn bond_request(interval: u32, buffer: &mut [u8]) -> Result<usize, BufferErr
     write_into(&request, buffer)
 }
 
-/// A request for a bridge that filters by VLAN and runs the spanning tree protocol: its forward delay, in clock ticks
-/// of 1/100 second.
+/// Builds a request for a bridge that filters by VLAN and runs the spanning tree protocol. `forward_delay` is in clock
+/// ticks of 1/100 second.
+///
+/// # Errors
+///
+/// `AllocError` if an allocation fails.
 #[tactic(auto, using(netlink_packet_route::proofs::Rewritten::none_unfit))]
 pub fn bridge_request(alloc: Global, forward_delay: u32) -> Result<Vec<u8>, AllocError>
     ensures { IfOk result (λ out. out.items ≡ written_list (
@@ -80,13 +92,17 @@ pub fn bridge_request(alloc: Global, forward_delay: u32) -> Result<Vec<u8>, Allo
     match write_list(alloc, &request) {
         Ok(out) => Ok(out),
         Err(WriteError::Memory(error)) => Err(error),
-        // Numbers fit.
+        // Numbers always fit.
         Err(WriteError::TooLong { .. }) => unreachable!(),
     }
 }
 
-/// A request for an 802.1ad VLAN: its identifier, and the priority `to` in the tags of packets of priority `from`.
-/// Fails only where an allocation failed.
+/// Builds a request for an 802.1ad VLAN with the identifier `id`. Packets of priority `from` get priority `to` in their
+/// tags.
+///
+/// # Errors
+///
+/// `Memory` if an allocation fails; no other error occurs.
 #[tactic(auto, using(netlink_packet_route::proofs::Rewritten::none_unfit))]
 pub fn vlan_request(alloc: Global, id: u16, from: u32, to: u32) -> Result<Vec<u8>, WriteError>
     ensures written { IfOk result (λ out. out.items ≡ written_list (

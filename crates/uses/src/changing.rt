@@ -1,4 +1,4 @@
-//! A list with one attribute changed: every other one stays, and those of unknown kinds do too.
+//! Changes one attribute of a list and keeps all others, including those of unknown types.
 
 ghost use Rattle.std.specs.Prelude.{◌≡◌, ◌==◌, List, not, map, filter, IfOk, IfErr};
 ghost use Rattle.std.specs.List.{list_any};
@@ -19,15 +19,21 @@ pub enum ChangeError {
     /// An allocation failed.
     #[error("no memory")]
     Memory(AllocError),
-    /// It was not read.
+    /// The list could not be parsed.
     #[error("{0}")]
     Read(ListError),
-    /// It was not written.
+    /// The changed list could not be serialized.
     #[error("{0}")]
     Write(WriteError),
 }
 
-/// The list of a VLAN device with this identifier in place of each that it has, or behind all others if it has none.
+/// Returns the list of a VLAN device with every identifier replaced by `id`, or with `id` appended if the list has no
+/// identifier.
+///
+/// # Errors
+///
+/// `Read` if the list does not decode, `Write` if a value does not fit in an attribute. If an allocation fails, `Read`
+/// or `Write` with the `Memory` of that step, or `Memory`.
 pub fn with_vlan_id(alloc: Global, bytes: &[u8], id: u16) -> Result<Vec<u8>, ChangeError>
     ensures changed { IfOk result (λ out. (vs : List InfoVlan) × Wire (Gives vlan_table) bytes.now (map vlan_means vs)
         × (out.items ≡ written_list (map vlan_means (with_id id vs)))) }
@@ -38,7 +44,7 @@ pub fn with_vlan_id(alloc: Global, bytes: &[u8], id: u16) -> Result<Vec<u8>, Cha
     write_list(alloc, &changed).map_err(ChangeError::Write)
 }
 
-/// The values with this identifier in place of each, or behind the others if there is none.
+/// Replaces every identifier by `id`, or appends `id` if `values` has none.
 fn with_id(alloc: Global, mut values: Vec<InfoVlan>, id: u16) -> Result<Vec<InfoVlan>, AllocError>
     ensures { IfOk result (λ changed. changed.items ≡ with_id id values.items) }
 {
@@ -56,14 +62,19 @@ fn with_id(alloc: Global, mut values: Vec<InfoVlan>, id: u16) -> Result<Vec<Info
     Ok(changed)
 }
 
-/// Whether an identifier is among the values.
+/// Checks whether `values` has an identifier.
 fn has_id(values: &[InfoVlan]) -> bool
     ensures { result ≡ list_any is_id values.now }
 {
     values.iter().any(|value| matches!(value, InfoVlan::Id(_)))
 }
 
-/// The list with this attribute behind all others, in place of those of its kind.
+/// Returns the list without the attributes of the type of `new`, and with `new` appended.
+///
+/// # Errors
+///
+/// `Read` if the list does not decode, `Write` if a value does not fit in an attribute. If an allocation fails, `Read`
+/// or `Write` with the `Memory` of that step, or `Memory`.
 pub fn with_attribute<F: Attribute>(
     alloc: Global,
     bytes: &[u8],
@@ -81,7 +92,7 @@ pub fn with_attribute<F: Attribute>(
     write_list(alloc, &values).map_err(ChangeError::Write)
 }
 
-/// Keeps the values of other kinds.
+/// Removes the values of attribute type `kind`.
 fn remove<F: Attribute>(values: &mut Vec<F>, kind: u16)
     ensures { values.new.items ≡ filter (λ v. not (written_kind (F.means v) == kind)) values.old.items }
 {

@@ -1,4 +1,4 @@
-//! What is wrong with a list: its first fault, and where it stands.
+//! Finds the first error of a list and its offset.
 
 ghost use Rattle.std.specs.Prelude.{List, map, take, IfOk, MatchOption};
 ghost use Rattle.netlink_packet_route.specs.Table.{AttrValue, Gives};
@@ -7,7 +7,12 @@ ghost use Rattle.netlink_packet_route.specs.Wire.{Wire, FirstFault};
 use netlink_packet_route::link::{Attribute, DecodeFault, ListError, read_list};
 use std::alloc::{AllocError, Global};
 
-/// The offset of the first fault of a list of any family, or `None` if it has none.
+/// Returns the byte offset of the first decode error of a list, or `None` if the list decodes. Works for every
+/// attribute set.
+///
+/// # Errors
+///
+/// `AllocError` if an allocation fails.
 pub fn first_fault<F: Attribute>(alloc: Global, bytes: &[u8]) -> Result<Option<usize>, AllocError>
     ensures { IfOk result (λ found. MatchOption found
         ((vs : List AttrValue) × Wire (Gives F.table) bytes.now vs)
@@ -20,7 +25,12 @@ pub fn first_fault<F: Attribute>(alloc: Global, bytes: &[u8]) -> Result<Option<u
     }
 }
 
-/// The values of a list up to its first fault, and this with its offset, if there is one.
+/// Parses a list up to its first decode error. Returns the values before the error, and the error with its byte offset,
+/// or `None` if the list has no error.
+///
+/// # Errors
+///
+/// `AllocError` if an allocation fails.
 pub fn read_front<F: Attribute>(
     alloc: Global,
     bytes: &[u8],
@@ -37,7 +47,7 @@ pub fn read_front<F: Attribute>(
             let (front, _) = bytes.split_at(at);
             match read_list(alloc, front) {
                 Ok(values) => Ok((values, Some((at, fault)))),
-                // What stands before the first fault has none, so memory failed.
+                // The bytes before the first error decode, so an allocation failed.
                 Err(_) => Err(AllocError),
             }
         }

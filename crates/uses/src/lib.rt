@@ -1,4 +1,4 @@
-//! How a library calls `netlink_packet_route`: short functions to start from.
+//! Examples of using `netlink_packet_route`: short functions to start from.
 #![tactic(auto)]
 
 mod building;
@@ -9,22 +9,22 @@ mod normalising;
 mod printing;
 mod reading;
 
-// From a message to the lists in it: the module `messages`.
+// Find the lists in a message: module `messages`.
 
-// What a list says.
+// Look up values in a list.
 pub use reading::{forward_delay, monitoring};
 
-// What is wrong with a list.
+// Find the first error of a list.
 pub use faults::{first_fault, read_front};
 
-// A list as text.
+// Print a list as text.
 pub use printing::print_list;
 
-// A list to send.
+// Build a list to send.
 pub use building::{BufferError, bond_request, bridge_request, vlan_request, write_into};
 
-// A list with one attribute changed.
+// Change one attribute of a list.
 pub use changing::{ChangeError, with_attribute, with_vlan_id};
 
-// A list in canonical form.
+// Make a list canonical.
 pub use normalising::{canonical, normalised};

@@ -1,4 +1,4 @@
-//! Messages about links, down to the lists that the families read. Only `read_links` takes memory.
+//! Parses messages about links and finds the attribute lists in them. Only `read_links` allocates.
 
 mod dumping;
 mod fault;

@@ -1,4 +1,4 @@
-//! A captured list, in canonical form.
+//! Makes a captured list canonical.
 
 ghost use Rattle.std.specs.Prelude.{◌↔◌, ℕ, List, IfOk, IfErr, IsTrue};
 ghost use Rattle.netlink_packet_route.specs.Family.{table_of};
@@ -8,7 +8,12 @@ ghost use Rattle.netlink_packet_route.specs.Table.{Canonical, Rewriting};
 use netlink_packet_route::{Family, RewriteError, laws, link, rewrite};
 use std::alloc::Global;
 
-/// The list, read and written again, and whether it was canonical: exactly then it is the same.
+/// Re-encodes a list. Returns the re-encoded list, and whether the input was canonical, that is, whether both are
+/// equal.
+///
+/// # Errors
+///
+/// As for `rewrite`.
 pub fn normalised(
     alloc: Global,
     family: Family,
@@ -23,7 +28,11 @@ pub fn normalised(
     Ok((out, was_canonical))
 }
 
-/// The list in canonical form: read and written again, twice.
+/// Returns the list in canonical form, by re-encoding it twice.
+///
+/// # Errors
+///
+/// As for `rewrite`.
 #[tactic(auto, using(crate::proofs::Fitting::settled))]
 pub fn canonical(alloc: Global, family: Family, bytes: &[u8]) -> Result<Vec<u8>, RewriteError>
     ensures canonical { IfOk result (λ out. Canonical (table_of family) out.items) }

@@ -1,4 +1,4 @@
-//! A list, printed.
+//! Prints a list.
 
 ghost use Rattle.std.specs.Prelude.{length, OnOk};
 ghost use Rattle.std.specs.Io.KnownBytes.{Appends};
@@ -12,7 +12,12 @@ use std::fmt::Debug;
 use std::io;
 use std::io::Write;
 
-/// Prints each attribute of a list on a line of its own, up to the first fault, and this with its offset on the last.
+/// Prints each value of a list on a line of its own, up to the first decode error. The last line then reports that
+/// error and its offset.
+///
+/// # Errors
+///
+/// An `io::Error` if the writer fails or an allocation fails.
 pub fn print_list<F: Attribute + Debug, W: Write>(
     alloc: Global,
     bytes: &[u8],
@@ -36,7 +41,7 @@ fn print_values<F: Debug, W: Write>(alloc: Global, values: &[F], writer: &mut W)
     Ok(())
 }
 
-/// Prints the words, and a line end.
+/// Prints `words` and a newline.
 fn print_line<W: Write>(words: &str, writer: &mut W) -> io::Result<()>
     ensures { OnOk result (Appends (W.contents writer.old) (W.contents writer.new) (line words.now)) }
 {
@@ -44,7 +49,7 @@ fn print_line<W: Write>(words: &str, writer: &mut W) -> io::Result<()>
     writer.write_all(b"\n")
 }
 
-/// Prints the line of the fault, if there is one.
+/// Prints the line that reports the decode error, if there is one.
 fn print_fault<W: Write>(fault: Option<(usize, DecodeFault)>, writer: &mut W) -> io::Result<()>
     ensures { OnOk result (Appends (W.contents writer.old) (W.contents writer.new) (last_line fault)) }
 {

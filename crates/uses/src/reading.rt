@@ -1,4 +1,4 @@
-//! What a list says: an attribute, looked up.
+//! Looks up attributes in a list.
 
 ghost use Rattle.std.specs.Prelude.{ℕ, List, map, Contains, IfOk, IfErr, MatchOption};
 ghost use Rattle.netlink_packet_route.specs.Answers.{ListFails};
@@ -10,7 +10,11 @@ ghost use Rattle.netlink_packet_route.specs.Wire.{Wire};
 use netlink_packet_route::link::{BondMode, InfoBond, InfoBridge, ListError, read_list};
 use std::alloc::Global;
 
-/// The forward delay of a bridge in clock ticks of 1/100 second, if it is there.
+/// Returns the forward delay of a bridge, in clock ticks of 1/100 second, if the list has one.
+///
+/// # Errors
+///
+/// As for `read_list`.
 pub fn forward_delay(alloc: Global, bytes: &[u8]) -> Result<Option<u32>, ListError>
     ensures found { IfOk result (λ found. (vs : List InfoBridge)
         × Wire (Gives bridge_table) bytes.now (map bridge_means vs)
@@ -26,7 +30,11 @@ pub fn forward_delay(alloc: Global, bytes: &[u8]) -> Result<Option<u32>, ListErr
     Ok(delay)
 }
 
-/// The mode of a bond and its MII monitoring interval in milliseconds, each if it is there.
+/// Returns the mode of a bond and its MII monitoring interval in milliseconds, each if the list has it.
+///
+/// # Errors
+///
+/// As for `read_list`.
 pub fn monitoring(alloc: Global, bytes: &[u8]) -> Result<(Option<BondMode>, Option<u32>), ListError>
     ensures found { IfOk result (λ found. (vs : List InfoBond) × Wire (Gives bond_table) bytes.now (map bond_means vs)
         × MatchOption found.0 ((m : BondMode) → ¬ Contains vs (InfoBond.Mode m)) (λ m. Contains vs (InfoBond.Mode m))

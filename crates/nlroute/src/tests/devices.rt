@@ -1,4 +1,4 @@
-//! Runs over readers and writers that count, that give little, and that fail.
+//! Tests with readers and writers that count calls, transfer few bytes at a time, or fail.
 
 use crate::running::run;
 use std::alloc::Global;
@@ -15,7 +15,7 @@ const LONG_TEXT: &[u8] =
 
 const LINES: &[u8] = b"attr 1 len 4\nout 080001002a000000\nsame\n";
 
-/// Gives at most so many bytes a read, and fails behind the last where it is broken.
+/// Returns at most `most` bytes per read. After the last byte, it fails if `is_broken`.
 #[derive(Drop)]
 struct Trickle<'a> {
     rest: &'a [u8],
@@ -35,7 +35,7 @@ impl Read for Trickle<'_> {
     }
 }
 
-/// Gives spaces without end, one a read.
+/// Returns spaces without end, one per read.
 #[derive(Drop)]
 struct Spaces {
     reads: usize,
@@ -52,7 +52,8 @@ impl Read for Spaces {
     }
 }
 
-/// Takes at most so many bytes a call, and this many in all; then it fails, or takes none where it is mute.
+/// Accepts at most `most` bytes per call, and `room` bytes in total. After that it fails, or accepts no bytes if
+/// `is_mute`.
 #[derive(Drop)]
 struct Narrow {
     taken: Vec<u8>,
@@ -141,7 +142,7 @@ fn readers_that_fail(rt: HostRuntime) -> Result<(), Fail> {
     Ok(())
 }
 
-/// 700 attributes in 16,800 bytes of text, read by a few bytes at a time.
+/// Reads 700 attributes, 16,800 bytes of input, a few bytes at a time.
 #[test]
 fn readers_that_give_little(rt: HostRuntime) -> Result<(), Fail> {
     let mut text = Vec::new(rt.alloc());
@@ -179,8 +180,9 @@ fn a_reader_without_end(rt: HostRuntime) -> Result<(), Fail> {
     Ok(())
 }
 
-/// What is written to a writer that takes so many bytes a call: all of it, with this status, where there is room; else
-/// the front for which there is, and after the failure nothing more is tried.
+/// Asserts what a writer receives that accepts `most` bytes per call and `room` bytes in total, for every `room` up to
+/// the length of the output: all of the output, with its status, if there is room, and otherwise the first `room`
+/// bytes. No write follows a failure.
 fn is_taken(rt: &impl Abort, alloc: Global, name: Option<&str>, most: usize, whole: (&[u8], u8)) {
     let (lines, status) = whole;
     for room in 0..lines.len() + 1 {

@@ -1,10 +1,10 @@
-//! A run for each family's name.
+//! Runs the program with the name of each `Family`.
 
 use crate::running::run;
 
 #[test]
 fn each_family_by_its_name(rt: HostRuntime) {
-    // of each family a text that shows how it reads
+    // for each name, an input whose output shows how its attribute set decodes
     for (name, text, wanted) in [
         (
             "af_spec_bridge",

@@ -1,4 +1,5 @@
-//! The calls of `uses` on real requests, what `ip link add` of iproute2 6.1 sends for a bond and for a VLAN, and on others.
+//! Tests the functions of `uses` on what `ip link add` of iproute2 6.1 sends for a bond and for a VLAN, and on other
+//! input.
 
 use netlink_packet_route::Family;
 use netlink_packet_route::link::{BondMode, InfoBond, InfoBridge, InfoVlan, VlanProtocol};
@@ -76,7 +77,7 @@ fn building(rt: HostRuntime) {
 #[test]
 fn changing(rt: HostRuntime) {
     let alloc = rt.alloc();
-    // The second identifier has a nested flag, and nothing has the kind 99.
+    // The second identifier has the nested flag; 99 is not a known attribute type.
     let many = [
         6, 0, 1, 0, 5, 0, 0, 0, 6, 0, 99, 0, 0xDE, 0xAD, 0, 0, 6, 0, 1, 0x80, 6, 0,
     ];

@@ -1,5 +1,5 @@
-//! The walk of `uses` from a buffer down to the lists. What is said of messages is shown by the stored run, line by line;
-//! here is what it does not print.
+//! Tests how `uses` finds the lists in a buffer. The program's expected-output test covers messages line by line; these
+//! tests cover what it does not print.
 
 use netlink_packet_route::Family;
 use uses::messages::{
@@ -13,7 +13,7 @@ const TWO: &str = "\
     43100000 00000000 18001200 08000100 64736100 0c000200 05000100 01000000 14000000 03000200 01000000 \
     00000000 00000000";
 
-/// The data of the second: an `IFLA_DSA_CONDUIT` of one byte, with its padding.
+/// The data of the second port: an `IFLA_DSA_CONDUIT` of one byte, with its padding.
 const PAYLOAD: [u8; 8] = [5, 0, 1, 0, 1, 0, 0, 0];
 
 #[test]

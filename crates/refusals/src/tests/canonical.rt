@@ -1,4 +1,4 @@
-//! Which bytes are canonical, and where the first attribute stands that is not.
+//! Tests which bytes are canonical, and the offset of the first attribute that is not.
 
 use crate::tests::{bytes, can_limits, holds};
 use netlink_packet_route::link::{
@@ -8,7 +8,7 @@ use netlink_packet_route::{Family, first_not_canonical, is_canonical, rewrite};
 use std::alloc::Global;
 use std::process::Abort;
 
-/// The first attribute of the bytes that is not canonical stands here; with `None` they are canonical.
+/// Asserts the offset of the first attribute that is not canonical. `None` means that the list is canonical.
 fn are_judged(rt: &impl Abort, alloc: Global, rows: &[(Family, &str, Option<usize>)]) {
     for (family, digits, wanted) in rows {
         let bytes = bytes(rt, alloc, digits);
@@ -69,7 +69,7 @@ fn one_attribute(rt: HostRuntime) {
             (Family::Can, "06000c00 78000000 04000d40", Some(8)),
             (Family::Can, "07000c00 01020300", Some(0)),
             (Family::Can, "0c001080 08000100 03000000", None),
-            // each by the kinds of its own elements: kind 2 is one of the first, and none of the second
+            // each by its own element types: type 2 is known in the first list, and unknown in the second
             (Family::Can, "0c001080 06000200 03000000", Some(0)),
             (Family::Can, "0c001080 06000100 03000000", Some(0)),
             (Family::Can, "0c001180 06000100 03000000", Some(0)),
@@ -98,10 +98,10 @@ fn lists(rt: HostRuntime) {
             (Family::Bond, "0c000800 06000000 0a000000", Some(0)),
             (Family::Bond, "0a001700 06000100 07000000", Some(0)),
             (Family::Bond, "0c001700 06000100 07000000", None),
-            // a frame that is cut off, a value of another length
+            // a truncated attribute, a value of another length
             (Family::Dsa, "08000100 2a000000 0000", Some(8)),
             (Family::Vlan, "07000100 01000000 0000", Some(0)),
-            // behind others, and in front of one: an element of another length, in a nested list
+            // an element of another length, in a nested list between other attributes
             (
                 Family::Vlan,
                 "06000100 05000000 10000300 0c000100 01000000 02000000 06000500 88a80000",
@@ -117,7 +117,7 @@ fn lists(rt: HostRuntime) {
                 "06000100 05000000 14000300 10000100 01000000 02000000 03000000 06000500 88a80000",
                 Some(8),
             ),
-            // behind others
+            // after other attributes
             (
                 Family::Hsr,
                 "05000300 09000000 05000600 01000000 06000540 01000000",
@@ -137,7 +137,7 @@ fn lists(rt: HostRuntime) {
     );
 }
 
-/// A nested list of one element that does not fit once the element is padded.
+/// A nested list whose only element does not fit once it is padded.
 #[test]
 fn overfull_list(rt: HostRuntime) {
     for (digits, at) in [("", 0), ("06000100 0a000000", 8)] {
@@ -160,8 +160,8 @@ fn types_of_elements(rt: HostRuntime) {
     assert!(rt; list_is_canonical::<DefaultNla>(&flagged));
 }
 
-/// The bytes are judged as `rewrite` says: they are canonical where it answers just them, and else those before the
-/// first attribute that is not are.
+/// Asserts that the check agrees with `rewrite`: the bytes are canonical if and only if `rewrite` returns the same
+/// bytes, and otherwise everything before the first attribute that is not canonical is.
 fn is_judged(rt: &impl Abort, alloc: Global, family: Family, bytes: &[u8], row: &str) {
     let is_same = match rewrite(alloc, family, bytes) {
         Ok(out) => out.as_slice() == bytes,
@@ -174,7 +174,7 @@ fn is_judged(rt: &impl Abort, alloc: Global, family: Family, bytes: &[u8], row: 
     holds(rt, is_so && is_canonical(family, bytes) == is_same, row);
 }
 
-/// Each other byte at each place.
+/// Replaces the byte at each offset by every byte.
 fn each_byte(rt: &impl Abort, alloc: Global, family: Family, bytes: &mut [u8], row: &str) {
     for at in 0..bytes.len() {
         let kept = bytes[at];
@@ -186,10 +186,10 @@ fn each_byte(rt: &impl Abort, alloc: Global, family: Family, bytes: &mut [u8], r
     }
 }
 
-/// Bytes of lengths, kinds, flags, and of U+FFFD.
+/// Bytes that occur in lengths, attribute types and flags, and in U+FFFD.
 const BYTES: [u8; 7] = [0, 1, 4, 0x40, 0x80, 0xEF, 0xFF];
 
-/// Each two of these at each two places that are neighbours.
+/// Replaces every two adjacent bytes by each pair of these.
 fn each_pair(rt: &impl Abort, alloc: Global, family: Family, bytes: &mut [u8], row: &str) {
     for at in 1..bytes.len() {
         let kept = [bytes[at - 1], bytes[at]];
@@ -205,7 +205,7 @@ fn each_pair(rt: &impl Abort, alloc: Global, family: Family, bytes: &mut [u8], r
     }
 }
 
-/// The bytes are canonical, and are judged right with each change.
+/// Asserts that the bytes are canonical, and that the check is right for each change.
 fn each_change(rt: &impl Abort, alloc: Global, family: Family, digits: &str) {
     let mut bytes = bytes(rt, alloc, digits);
     holds(rt, is_canonical(family, &bytes), digits);

@@ -1,4 +1,4 @@
-//! How many values a list has, and which fault it has first.
+//! Tests counting the values of a list, and the first error that is found instead.
 
 use crate::tests::{bytes, holds};
 use netlink_packet_route::link::{Cause, DecodeFault, ListError};
@@ -6,7 +6,7 @@ use netlink_packet_route::{Family, count_values};
 use std::alloc::Global;
 use std::process::Abort;
 
-/// The bytes have so many values, or this fault.
+/// Asserts the number of values, or the error, of a list.
 fn has(rt: &impl Abort, alloc: Global, row: (Family, &str), wanted: Result<usize, ListError>) {
     let (family, digits) = row;
     let list = bytes(rt, alloc, digits);
@@ -18,10 +18,10 @@ fn values(rt: HostRuntime) {
     for (family, digits, wanted) in [
         (Family::Dsa, "", 0),
         (Family::Dsa, "08000100 2a000000", 1),
-        // kinds without a case are values too
+        // attribute types without a variant are values too
         (Family::Dsa, "08000100 2a000000 04000280", 2),
         (Family::Hsr, "0a000400 01154e00 01000000", 1),
-        // a list within is one value
+        // a nested list is one value
         (
             Family::Vlan,
             "06006300 dead0000 10000300 0c000100 01000000 02000000",
@@ -43,7 +43,7 @@ fn faults(rt: HostRuntime) {
         ("08000100 2a000000 00", 8, short),
         ("00", 0, short),
         ("08000100 2a000000 05000100 07000000", 8, length),
-        // a fault of a value before one of a frame
+        // an error in a payload precedes one in the framing of a later attribute
         ("05000100 07000000 00", 0, length),
     ] {
         let wanted = Err(ListError::Fault { at, fault });

@@ -1,4 +1,4 @@
-//! Sets of flags: their constants, and the calls of `Flags`.
+//! Tests sets of flags: their constants, and the functions of `Flags`.
 
 use bitflags::Flags;
 use netlink_packet_route::link::{
@@ -8,7 +8,7 @@ use std::fmt::Debug;
 use std::hash::{DefaultHasher, Hash, Hasher};
 use std::process::Abort;
 
-/// Each set has the bits beside it.
+/// Asserts the bits of each set.
 fn are_bits<B: Copy + PartialEq + Debug, F: Flags<Bits = B> + Copy>(
     rt: &impl Abort,
     rows: &[(F, B)],
@@ -133,7 +133,7 @@ fn can_modes(rt: HostRuntime) {
     );
 }
 
-/// Each call, at sets that share a bit, have one each, and have one without a name.
+/// Tests each function on two sets that have one bit in common, one bit each of their own, and one unnamed bit.
 fn calls<F: Flags<Bits = u32> + Copy + PartialEq>(rt: &impl Abort) {
     let a = F::from_bits_retain(0x8000_0003);
     let b = F::from_bits_retain(0x5);

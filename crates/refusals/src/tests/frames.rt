@@ -1,4 +1,4 @@
-//! Frames: their fields, their faults, and how they follow one another.
+//! Tests frames: their fields, their errors, and sequences of them.
 
 use crate::tests::{bytes, holds};
 use netlink_packet_route::link::{
@@ -7,7 +7,7 @@ use netlink_packet_route::link::{
 use std::alloc::Global;
 use std::process::Abort;
 
-/// A frame, and what its calls answer.
+/// A frame, and what its functions return.
 #[derive(Clone, Copy)]
 struct Row<'a> {
     digits: &'a str,
@@ -47,7 +47,7 @@ fn fields(rt: HostRuntime) {
             is_network_byte_order: false,
             value: &[1, 2],
         },
-        // the greatest kind, no payload, and another frame behind
+        // the greatest attribute type, no payload, and another frame after it
         Row {
             digits: "0400ff7f 04000100",
             raw_kind: 0x7FFF,
@@ -105,7 +105,7 @@ fn as_many_items_as_frames(rt: HostRuntime) {
     }
 }
 
-/// The bytes give frames of these kinds, then this fault, if any, and then nothing more.
+/// Asserts that the iterator over the bytes returns frames of these types, then this error, if any, and then `None`.
 fn gives(rt: &impl Abort, alloc: Global, digits: &str, kinds: &[u16], last: Option<Cause>) {
     let bytes = bytes(rt, alloc, digits);
     let mut frames = NlasIterator::new(&bytes);
@@ -131,7 +131,7 @@ fn runs(rt: HostRuntime) {
     gives(&rt, alloc, "05000100 2affffff 05000200 2b", &[1, 2], None);
     let short = Some(Cause::ShortFrame { left: 3 });
     gives(&rt, alloc, "04000100 000000", &[1], short);
-    // a good frame behind a fault is not given
+    // a valid frame after an error is not returned
     let small = Some(Cause::SmallLength { length: 3 });
     gives(&rt, alloc, "04000100 03000200 04000300", &[1], small);
     let overrun = Some(Cause::Overrun { length: 9, left: 8 });
@@ -144,7 +144,7 @@ fn hints(rt: HostRuntime) {
         ("", 0usize, 0usize),
         ("040001", 1, 1),
         ("04000100", 1, 1),
-        // one frame without its padding: as many bytes can be a frame and a rest
+        // one frame without its padding; other input of this length can be a frame and a rest
         ("05000100 2a", 1, 2),
         ("04000100 040002", 1, 2),
         ("04000100 04000200", 1, 2),
@@ -158,7 +158,7 @@ fn hints(rt: HostRuntime) {
     }
 }
 
-/// Tables are equal if and only if their bytes are: a table has the offsets and the fault of its bytes.
+/// Tables are equal if and only if their bytes are, since the bytes determine the offsets and the error.
 #[test]
 fn equal_tables(rt: HostRuntime) {
     let rows = [

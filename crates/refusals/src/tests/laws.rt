@@ -1,5 +1,5 @@
-//! Each law and each worked example, called: the laws of attributes at each type of attributes, the other laws at one
-//! type at least.
+//! Calls each theorem and each worked example: the theorems about attributes for each type that implements `Attribute`,
+//! the others for at least one type.
 
 use link_base::{examples, flag_laws, named_laws};
 use netlink_packet_route::link::{
@@ -71,7 +71,7 @@ fn laws_of_attributes() {
     laws_of::<InfoHsr>();
 }
 
-/// Calls each law of attributes at a type.
+/// Calls each theorem about attributes, for one type.
 fn laws_of<F: Attribute>() {
     laws::reads_back::<F>();
     laws::read_values::<F>();

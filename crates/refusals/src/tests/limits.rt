@@ -1,4 +1,4 @@
-//! Payloads as long as can be, and values that do not fit.
+//! Tests payloads of the maximum length, and values that do not fit.
 
 use crate::tests::{bytes, holds, list};
 use netlink_packet_route::link::{
@@ -53,7 +53,7 @@ fn values_that_are_too_long(rt: HostRuntime) {
     assert!(rt; write_list(alloc, &third) == Err(WriteError::TooLong { index: 2 }));
 }
 
-/// No values: no bytes.
+/// Asserts that no values are encoded as no bytes.
 fn is_empty<F: Attribute>(rt: &impl Abort, alloc: Global) {
     let none: Vec<F> = read_list(alloc, &[]).expect(rt, "no values");
     let out = write_list(alloc, &none).expect(rt, "no bytes");
@@ -90,7 +90,7 @@ fn many_of_sixteen(rt: &impl Abort, alloc: Global, count: usize) -> InfoBond {
     InfoBond::NsIp6Target(vec![in alloc; address; count].expect(rt, "addresses"))
 }
 
-/// The value fits and has so many bytes of payload. The bytes that are written for it, which read as it.
+/// Asserts that the value fits, has a payload of `len` bytes, and decodes from its encoding. Returns the encoding.
 fn written<F: Attribute>(rt: &impl Abort, alloc: Global, value: F, len: usize) -> Vec<u8> {
     assert!(rt; value.fits() && value.value_len() == len);
     let mut values = Vec::new(alloc);
@@ -106,13 +106,13 @@ fn as_many_addresses_as_fit(rt: HostRuntime) {
     let alloc = rt.alloc();
     let out = written(&rt, alloc, many_of_four(&rt, alloc, 8191), 65528);
     assert!(rt; out.len() == 65532 && out.starts_with(&[0xFC, 0xFF, 8, 0, 8, 0, 0, 0]));
-    // the last element has the kind 8190
+    // the last element has the attribute type 8190
     assert!(rt; out.ends_with(&[8, 0, 0xFE, 0x1F, 10, 0, 0, 1]));
     let out = written(&rt, alloc, many_of_sixteen(&rt, alloc, 3276), 65520);
     assert!(rt; out.len() == 65524);
 }
 
-/// The value, of so many bytes of payload, does not fit, and is not written.
+/// Asserts that the value, with a payload of `len` bytes, does not fit and is not written.
 fn is_too_long<F: Attribute>(rt: &impl Abort, alloc: Global, value: F, len: usize) {
     assert!(rt; !value.fits() && value.value_len() == len);
     let mut values = Vec::new(alloc);
@@ -152,7 +152,7 @@ fn one_number_more(rt: HostRuntime) {
     is_too_long(&rt, alloc, many_rates(&rt, alloc, 16383), 65532);
 }
 
-/// The digits, and those of so many zero bytes behind them.
+/// Returns the digits, followed by those of `count` zero bytes.
 fn with_zeros(rt: &impl Abort, alloc: Global, digits: &str, count: usize) -> Vec<u8> {
     let mut text = digits.as_bytes().to_vec(alloc).expect(rt, digits);
     for _ in 0..count {
@@ -161,8 +161,8 @@ fn with_zeros(rt: &impl Abort, alloc: Global, digits: &str, count: usize) -> Vec
     text
 }
 
-/// What is reported for these digits and so many zero bytes behind them: the line of one value, and bytes that begin so
-/// and end in so many zeros.
+/// Asserts the report for an input that ends with zero bytes: the line of one value, and an output that starts with
+/// these digits and ends with this number of zero bytes.
 fn is_written_out(rt: &impl Abort, alloc: Global, input: (&str, usize), out: (&str, usize, &str)) {
     let (digits, count) = input;
     let (lines, zeros, verdict) = out;
@@ -193,7 +193,7 @@ fn reports_of_the_longest_payloads(rt: HostRuntime) {
     }
 }
 
-/// What is reported for these digits, so many zero bytes behind them, and the digits behind these.
+/// Asserts the report for digits, followed by zero bytes and more digits.
 fn long_list_is(
     rt: &impl Abort,
     alloc: Global,
@@ -208,15 +208,15 @@ fn long_list_is(
     holds(rt, out.as_str() == wanted && answer == status, wanted);
 }
 
-/// Lists of mappings whose last element lacks one to three bytes of padding, with which they have more bytes than an
-/// attribute takes.
+/// Lists of mappings whose last element lacks one to three bytes of padding. With this padding, the payload has more
+/// bytes than fit in an attribute.
 #[test]
 fn lists_that_grow(rt: HostRuntime) {
     for (list, wanted, status) in [
         (("fdff0300 f9ff6300", 65525, ""), "too long at 0\n", 3),
         (("feff0300 faff6300", 65526, ""), "too long at 0\n", 3),
         (("ffff0300 fbff6300", 65527, ""), "too long at 0\n", 3),
-        // two of the three bytes of padding, whatever they are
+        // two of the three bytes of padding, or all, with any values
         (("fdff0300 f9ff6300", 65525, "0300"), "too long at 0\n", 3),
         (("fdff0300 f9ff6300", 65525, "000000"), "too long at 0\n", 3),
         (
@@ -229,7 +229,7 @@ fn lists_that_grow(rt: HostRuntime) {
             "too long at 1\n",
             3,
         ),
-        // a fault is told before a length
+        // a decode error is reported before a value that does not fit
         (
             ("fdff0300 f9ff6300", 65528, "0300"),
             "fault at 65536: short frame 2\n",
@@ -250,7 +250,7 @@ fn lists_that_grow(rt: HostRuntime) {
     }
 }
 
-/// A VLAN with so many mappings, which take twelve bytes each.
+/// Encodes a VLAN with `count` mappings, which take twelve bytes each.
 fn with_mappings(rt: &impl Abort, alloc: Global, count: u32) -> Result<Vec<u8>, WriteError> {
     let mut mappings = Vec::new(alloc);
     for from in 0..count {
@@ -266,7 +266,7 @@ fn as_many_mappings_as_fit(rt: HostRuntime) {
     let alloc = rt.alloc();
     let out = with_mappings(&rt, alloc, 5460).expect(&rt, "its bytes");
     let front = [6, 0, 1, 0, 1, 0, 0, 0, 0xF4, 0xFF, 3, 0, 12, 0, 1, 0];
-    // the last one maps 5459
+    // the last one is the mapping of 5459
     let is_whole = out.ends_with(&[12, 0, 1, 0, 0x53, 0x15, 0, 0, 7, 0, 0, 0]);
     assert!(rt; out.len() == 65532 && out.starts_with(&front) && is_whole);
     let one_more = with_mappings(&rt, alloc, 5461);
@@ -286,7 +286,7 @@ fn the_value_of_a_list_that_grows(rt: HostRuntime) {
     assert!(rt; rewrite(alloc, Family::Vlan, &bytes) == Err(long));
 }
 
-/// Every VLAN that there can be, 1 to 4094, each in an attribute of its own.
+/// Every possible VLAN ID, 1 to 4094, each in an attribute of its own.
 #[test]
 fn every_vlan_of_a_bridge(rt: HostRuntime) {
     let alloc = rt.alloc();

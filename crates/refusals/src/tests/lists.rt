@@ -1,4 +1,4 @@
-//! The lists of the payloads of `IFLA_AF_SPEC` and `IFLA_PROTINFO` as types of their own.
+//! Tests the types for whole `IFLA_AF_SPEC` and `IFLA_PROTINFO` lists.
 
 use crate::tests::{bytes, holds, list};
 use netlink_packet_route::link::{

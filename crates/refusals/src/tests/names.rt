@@ -1,4 +1,4 @@
-//! Named numbers: their values, and the texts that are displayed and read.
+//! Tests enums with an `Other(n)` variant: their values, their `Display` output, and parsing.
 
 use crate::tests::holds;
 use netlink_packet_route::link::{
@@ -12,7 +12,7 @@ use std::fmt::Display;
 use std::process::Abort;
 use std::str::FromStr;
 
-/// Each number is the value beside it, which is displayed so.
+/// Asserts the value of each number, and the `Display` output of the value.
 fn are_shown<N: Copy + PartialEq, T: Copy + PartialEq + From<N> + Into<N> + Display>(
     rt: &impl Abort,
     alloc: Global,
@@ -23,7 +23,7 @@ fn are_shown<N: Copy + PartialEq, T: Copy + PartialEq + From<N> + Into<N> + Disp
     }
 }
 
-/// The number is this value, which is displayed so.
+/// Asserts the value of a number, and its `Display` output.
 fn is_shown<N: Copy + PartialEq, T: Copy + PartialEq + From<N> + Into<N> + Display>(
     rt: &impl Abort,
     alloc: Global,
@@ -37,7 +37,7 @@ fn is_shown<N: Copy + PartialEq, T: Copy + PartialEq + From<N> + Into<N> + Displ
     holds(rt, is_number && shown.as_str() == text, text);
 }
 
-/// Each number is the value beside it, which is displayed as the first text and read from both.
+/// Asserts the value of each number, that it is displayed as the first string, and that both strings parse to it.
 fn are_named<
     N: Copy + PartialEq,
     T: Copy + PartialEq + From<N> + Into<N> + Display + FromStr<Err = DecodeError>,
@@ -49,14 +49,14 @@ fn are_named<
     }
 }
 
-/// Each text is read as the value beside it.
+/// Asserts that each string parses to the value beside it.
 fn are_read<T: Copy + PartialEq + FromStr<Err = DecodeError>>(rt: &impl Abort, rows: &[(&str, T)]) {
     for (text, value) in rows {
         holds(rt, T::from_str(text) == Ok(*value), text);
     }
 }
 
-/// Each text is read as no value.
+/// Asserts that no string parses to a value.
 fn are_no_texts<T: PartialEq + Drop + FromStr<Err = DecodeError>>(rt: &impl Abort, texts: &[&str]) {
     for text in texts {
         let fault = DecodeError::Fault(DecodeFault::Text);
@@ -335,7 +335,7 @@ fn vlan_protocols(rt: HostRuntime) {
     );
 }
 
-/// Each number is the value beside it, which is displayed as the text and read from it.
+/// Asserts the value of each number, that it is displayed as the string, and that the string parses to it.
 fn are_told<
     N: Copy + PartialEq,
     T: Copy + PartialEq + From<N> + Into<N> + Display + FromStr<Err = DecodeError>,
@@ -346,7 +346,7 @@ fn are_told<
     }
 }
 
-/// Texts that are read by no type that reads numbers.
+/// Strings that no type that parses numbers accepts.
 const NO_NUMBERS: [&str; 14] = [
     "", "+", "-", "-0", "-1", "++1", "+-1", "+ 1", " 1", "1 ", "1_0", "0x1", "1.", "one",
 ];
@@ -601,7 +601,7 @@ fn defaults(rt: HostRuntime) {
     assert!(rt; VlanProtocol::default() == VlanProtocol::Ieee8021Q);
 }
 
-/// A number that has a name, held as one without.
+/// `Other(n)` for a number `n` that has a variant of its own.
 #[test]
 fn hidden_names(rt: HostRuntime) {
     let hidden = BondMode::Other(1);

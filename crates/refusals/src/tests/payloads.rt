@@ -1,4 +1,4 @@
-//! Numbers and addresses as payloads, one of each form.
+//! Tests numbers and addresses as payloads, one of each form.
 
 use crate::tests::holds;
 use netlink_packet_route::link::{
@@ -25,7 +25,7 @@ fn numbers(rt: HostRuntime) {
     assert!(rt; parse_mac(&[2, 0, 0, 0, 0, 1]) == Ok([2, 0, 0, 0, 0, 1]));
 }
 
-/// The bytes are written in front, and what stands behind them is as before.
+/// Asserts that the bytes are at the start of the buffer, and that the rest is unchanged.
 fn in_front(rt: &impl Abort, buffer: [u8; 10], wanted: &[u8]) {
     let behind = [0xEE; 10];
     let (front, rest) = buffer.split_at(wanted.len().min(10));
@@ -75,7 +75,7 @@ fn other_lengths(rt: HostRuntime) {
 fn ip_addresses(rt: HostRuntime) {
     let local = IpAddr::V4(Ipv4Addr::new(192, 168, 0, 1));
     assert!(rt; parse_ip(&[192, 168, 0, 1]) == Ok(local));
-    // an IPv4 address within an IPv6 address stays one of sixteen bytes
+    // an IPv4-mapped IPv6 address keeps its sixteen bytes
     let mapped = IpAddr::V6(Ipv6Addr::new(0, 0, 0, 0, 0, 0xFFFF, 0x0102, 0x0304));
     let octets = [0, 0, 0, 0, 0, 0, 0, 0, 0, 0, 0xFF, 0xFF, 1, 2, 3, 4];
     assert!(rt; parse_ip(&octets) == Ok(mapped));

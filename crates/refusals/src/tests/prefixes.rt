@@ -1,11 +1,12 @@
-//! Every prefix of a canonical list of each family: the values of its whole frames, or the fault of one that is cut.
+//! Tests every prefix of a canonical list of each attribute set: it has the values of its whole attributes, or the
+//! error of a truncated one.
 
 use crate::tests::holds;
 use netlink_packet_route::{Family, report};
 use std::alloc::Global;
 use std::process::Abort;
 
-/// A frame with its padding, as hex digits; `nla_len`; and the line of its value.
+/// An attribute with its padding, as hex digits; its `nla_len`; and the line of its value.
 type Frame<'a> = (&'a str, usize, &'a str);
 
 /// A canonical list.
@@ -15,7 +16,7 @@ struct Row<'a> {
     frames: &'a [Frame<'a>],
 }
 
-/// The lines, and that these bytes are written, in two parts each.
+/// Returns a report with these value lines and these output digits, each in two parts.
 fn rewriting(
     rt: &impl Abort,
     alloc: Global,
@@ -31,7 +32,7 @@ fn rewriting(
     text
 }
 
-/// What is reported of a frame of which so many bytes are there, at this offset behind whole ones.
+/// Returns the report for whole attributes and the first `cut` bytes of another one, which starts at offset `at`.
 fn cut_frame(
     rt: &impl Abort,
     alloc: Global,
@@ -58,7 +59,7 @@ fn cut_frame(
     (text.expect(rt, bytes), 1)
 }
 
-/// Each prefix of the list, and the list itself, is reported so.
+/// Asserts the report for each prefix of the list, and for the list itself.
 fn prefixes_are(rt: &impl Abort, alloc: Global, row: Row<'_>) {
     let mut prefix = Vec::new(alloc);
     let mut lines = String::new(alloc);

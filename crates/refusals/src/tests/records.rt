@@ -1,4 +1,4 @@
-//! Records that are no attributes: worked bytes, and refusals.
+//! Tests fixed-layout structs that are not attributes, and the errors of parsing them.
 
 use bitflags::Flags;
 use netlink_packet_route::link::{

@@ -1,4 +1,4 @@
-//! Whole outputs and statuses of each family, for texts that were worked out by hand.
+//! Tests the whole output and the status for each attribute set, for inputs whose output was computed by hand.
 
 mod bridges;
 
@@ -7,7 +7,7 @@ use netlink_packet_route::{Family, MOST_TEXT, is_canonical, report, rewrite};
 use std::alloc::Global;
 use std::process::Abort;
 
-/// The line of a report that says how the bytes of the text are rewritten, or why not.
+/// Returns the line of a report that has the re-encoded bytes of the input, or the error.
 fn rewriting_line(rt: &impl Abort, alloc: Global, family: Family, text: &str) -> String {
     let line = match rewrite(alloc, family, &bytes(rt, alloc, text)) {
         Ok(out) if out.is_empty() => String::from_str(alloc, "out\n"),
@@ -20,8 +20,8 @@ fn rewriting_line(rt: &impl Abort, alloc: Global, family: Family, text: &str) ->
     line.expect(rt, text)
 }
 
-/// Each text is answered by the output beside it and this status, and its bytes are rewritten as the output says. They are
-/// canonical where it says that they stay the same.
+/// Asserts the output and the status for each input, that `rewrite` agrees with the output, and that `is_canonical`
+/// returns true if and only if the output ends with `same`.
 fn are_reported(rt: &impl Abort, alloc: Global, name: &str, status: u8, rows: &[(&str, &str)]) {
     let family = Family::from_name(name).expect(rt, name);
     for (text, wanted) in rows {
@@ -57,7 +57,7 @@ fn values_of_dsa(rt: HostRuntime) {
                 "attr 1 len 4\nout 080001002a000000\nchanged\n",
             ),
             ("04000000", "attr 0 len 0\nout 04000000\nsame\n"),
-            // those of other kinds are, and padding
+            // those of other attribute types are, and padding
             (
                 "060063c0 dead",
                 "attr 49251 len 2\nout 060063c0dead0000\nchanged\n",
@@ -198,7 +198,7 @@ fn values_of_vlan(rt: HostRuntime) {
                 "06000500 88a80000",
                 "attr 5 len 2\nout 0600050088a80000\nsame\n",
             ),
-            // a protocol without a name becomes 802.1Q
+            // an unknown protocol becomes 802.1Q
             (
                 "06000500 91000000",
                 "attr 5 len 2\nout 0600050081000000\nchanged\n",
@@ -228,7 +228,7 @@ fn lists_of_vlan(rt: HostRuntime) {
                 "10000480 0c000140 01000000 02000000",
                 "attr 4 len 12\nout 100004000c0001000100000002000000\nchanged\n",
             ),
-            // those of an element of another kind are, and its padding
+            // those of an element of another attribute type are, and its padding
             (
                 "0a000300 060009c0 dead",
                 "attr 3 len 8\nout 0c000300060009c0dead0000\nchanged\n",
@@ -237,7 +237,7 @@ fn lists_of_vlan(rt: HostRuntime) {
                 "04000300 04000400",
                 "attr 3 len 0\nattr 4 len 0\nout 0400030004000400\nsame\n",
             ),
-            // two lists, one behind the other
+            // two consecutive lists
             (
                 "06006300 dead0000 10000300 0c000100 01000000 02000000",
                 "attr 99 len 2\nattr 3 len 12\nout 06006300dead0000100003000c0001000100000002000000\nsame\n",
@@ -288,7 +288,7 @@ fn faults_of_vlan(rt: HostRuntime) {
                 "06000100 0a000000 0c000480 080001c0 01000000",
                 "fault at 8: kind 4: list: kind 1: wrong length 8 4\n",
             ),
-            // the frame itself reaches too far
+            // the framing of the outer attribute is malformed
             ("04006300 0c000400 0c000100", "fault at 4: overrun 12 8\n"),
         ],
     );
@@ -335,7 +335,7 @@ fn addresses_of_bonds(rt: HostRuntime) {
                 "14000800 08000000 0a000001 08000100 0a000002",
                 "attr 8 len 16\nout 14000800080000000a000001080001000a000002\nsame\n",
             ),
-            // the kinds of elements are counted anew, and their flags dropped
+            // elements are renumbered, and their flags dropped
             (
                 "0c000800 08000580 0a000001",
                 "attr 8 len 8\nout 0c000800080000000a000001\nchanged\n",
@@ -429,7 +429,7 @@ fn values_of_can(rt: HostRuntime) {
                 "08000300 00127a00",
                 "attr 3 len 4\nout 0800030000127a00\nsame\n",
             ),
-            // what stands behind a record is not written
+            // what follows a struct is not written
             (
                 "0a000800 01000200 ffff0000",
                 "attr 8 len 4\nout 0800080001000200\nchanged\n",
@@ -446,7 +446,7 @@ fn values_of_can(rt: HostRuntime) {
                 "0c000500 21000000 20000000",
                 "attr 5 len 8\nout 0c0005002100000020000000\nsame\n",
             ),
-            // numbers one after another
+            // an array of numbers
             (
                 "08000c00 78000000",
                 "attr 12 len 4\nout 08000c0078000000\nsame\n",
@@ -551,7 +551,7 @@ fn faults_of_can(rt: HostRuntime) {
     );
 }
 
-/// The text is answered by this output and status.
+/// Asserts the output and the status for an input.
 fn is_answered(rt: &impl Abort, alloc: Global, text: &[u8], wanted: &str, status: u8) {
     let (out, answer) = report(alloc, Family::Dsa, text).expect(rt, wanted);
     holds(rt, out.as_str() == wanted && answer == status, wanted);
@@ -585,12 +585,12 @@ fn texts_that_are_too_long(rt: HostRuntime) {
     is_answered(&rt, alloc, &spaces, "out\nsame\n", 0);
     let spaces = vec![in alloc; b' '; MOST_TEXT + 1].expect(&rt, "spaces");
     is_answered(&rt, alloc, &spaces, "input too long\n", 2);
-    // its length is looked at before its digits
+    // the length is checked before the digits
     let letters = vec![in alloc; b'z'; MOST_TEXT + 1].expect(&rt, "letters");
     is_answered(&rt, alloc, &letters, "input too long\n", 2);
 }
 
-/// 16,384 attributes in as many digits as a text has at most.
+/// 16,384 attributes, whose digits have the maximum input length.
 #[test]
 fn the_longest_text(rt: HostRuntime) {
     let alloc = rt.alloc();

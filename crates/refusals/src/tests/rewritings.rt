@@ -1,4 +1,4 @@
-//! What becomes of bytes that are rewritten, and rewritten again.
+//! Tests re-encoding lists, and re-encoding the results.
 
 ghost use Rattle.std.specs.Prelude.{◌≡◌, ◌+◌, length};
 ghost use Rattle.link_base.specs.Frame.{pad};
@@ -9,8 +9,8 @@ use netlink_packet_route::{Family, RewriteError, is_canonical, rewrite, rewrite_
 use std::alloc::Global;
 use std::process::Abort;
 
-/// The first bytes are rewritten to the second, those to the third, and these to themselves. Those that stay are
-/// canonical.
+/// Asserts that the first bytes are re-encoded as the second, those as the third, and these as themselves, and that
+/// bytes are canonical if and only if they do not change.
 fn becomes(rt: &impl Abort, alloc: Global, family: Family, digits: [&str; 3]) {
     let [first, second, third] = digits;
     let before = bytes(rt, alloc, first);
@@ -30,14 +30,14 @@ fn becomes(rt: &impl Abort, alloc: Global, family: Family, digits: [&str; 3]) {
     holds(rt, is_kept, first);
 }
 
-/// A buffer with room for the rewriting of a list, and for four bytes more.
+/// Returns a buffer with enough space for the re-encoded list, and four bytes more.
 fn lent(rt: &impl Abort, alloc: Global, list: &[u8]) -> Vec<u8>
     ensures { length result.items ≡ pad (length list.now) + 4 }
 {
     vec![in alloc; 0xFFu8; (list.len() + 3) / 4 * 4 + 4].expect(rt, "a buffer")
 }
 
-/// The bytes beside a family's name stay as they are.
+/// Re-encoding these bytes does not change them.
 #[test]
 fn bytes_that_stay(rt: HostRuntime) {
     for (family, digits) in [
@@ -135,7 +135,7 @@ fn bytes_that_change_once(rt: HostRuntime) {
     }
 }
 
-/// The same of the name fields of a CAN controller, whose numbers are zero.
+/// Does what `becomes` does, for the name field of a CAN controller whose numbers are zero.
 fn names_become(rt: &impl Abort, alloc: Global, fields: [&str; 3]) {
     let [first, second, third] = fields;
     let first = can_limits(rt, alloc, "34000200", first);
@@ -159,7 +159,7 @@ fn names_that_stay(rt: HostRuntime) {
         "61616161 61616161 61f09f98 80000000",
         "61616161 61616161 6161f09f 98800000",
         "61616161 61616161 616161f0 9f988000",
-        // the front of U+FFFD at the end of the field
+        // the first bytes of U+FFFD at the end of the field
         "61616161 61616161 61616161 61efbf00",
         "61616161 61616161 61616161 6161ef00",
     ] {
@@ -170,7 +170,7 @@ fn names_that_stay(rt: HostRuntime) {
 #[test]
 fn names_that_change(rt: HostRuntime) {
     for fields in [
-        // a character that is cut, once and again
+        // a character that is truncated twice
         [
             "61616161 61616161 61616161 f09f9880",
             "61616161 61616161 61616161 f09f9800",
@@ -181,7 +181,7 @@ fn names_that_change(rt: HostRuntime) {
             "61616161 61616161 61616161 61e4bd00",
             "61616161 61616161 61616161 61efbf00",
         ],
-        // the front of a character is read as U+FFFD
+        // the first bytes of a character decode to U+FFFD
         [
             "61616161 61616161 61616161 61f09f98",
             "61616161 61616161 61616161 61efbf00",
@@ -202,13 +202,13 @@ fn names_that_change(rt: HostRuntime) {
             "61616161 61616161 61616161 61616100",
             "61616161 61616161 61616161 61616100",
         ],
-        // bytes that begin no character
+        // bytes that do not start a character
         [
             "ffffffff ffffffff ffffffff ffffffff",
             "efbfbdef bfbdefbf bdefbfbd efbfbd00",
             "efbfbdef bfbdefbf bdefbfbd efbfbd00",
         ],
-        // what stands behind the first NUL
+        // what follows the first NUL is dropped
         [
             "61006200 00000000 00000000 00000000",
             "61000000 00000000 00000000 00000000",
@@ -219,7 +219,7 @@ fn names_that_change(rt: HostRuntime) {
     }
 }
 
-/// The bytes are refused so, and behind the room for a rewriting the buffer is as it was.
+/// Asserts that re-encoding fails with this error, and that the four extra bytes of the buffer are unchanged.
 fn is_refused(rt: &impl Abort, alloc: Global, family: Family, list: &[u8], why: RewriteError) {
     let mut buffer = lent(rt, alloc, list);
     let is_so = rewrite_into(alloc, family, list, &mut buffer).is_err_and(|error| error == why);
@@ -241,12 +241,12 @@ fn a_fault(rt: HostRuntime) {
 #[test]
 fn a_value_that_does_not_fit(rt: HostRuntime) {
     let alloc = rt.alloc();
-    // mappings of 65529 bytes, the last of which takes three bytes more when it is written
+    // mappings of 65529 bytes, the last of which is encoded in three bytes more
     let mut list = bytes(&rt, alloc, "06000100 0a000000 fdff0300 f9ff6300");
     list.resize(65541, 0).expect(&rt, "its bytes");
     let long = RewriteError::TooLong { index: 1 };
     is_refused(&rt, alloc, Family::Vlan, &list, long);
-    // a fault behind it comes first
+    // a decode error after it is reported first
     list.resize(65546, 0)
         .expect(&rt, "three bytes of padding, and two more");
     let why = RewriteError::Fault {

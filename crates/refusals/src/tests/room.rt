@@ -1,4 +1,4 @@
-//! Lists that are rewritten where there is room.
+//! Tests re-encoding a list into a buffer that may be too small.
 
 use crate::tests::{bytes, holds};
 use netlink_packet_route::link::{Cause, DecodeFault};
@@ -17,7 +17,7 @@ fn room(rt: HostRuntime) {
         // with the padding that the last attribute lacks
         (Family::Vlan, "06000100 0a00", 8, Some(8)),
         (Family::Vlan, "06000100 0a00", 7, None),
-        // fewer bytes than were read: elements that are no addresses are not written
+        // fewer bytes than the input: elements that are not addresses are dropped
         (Family::Bond, "0c000800 05000000 07000000", 4, Some(4)),
     ] {
         let list = bytes(&rt, alloc, digits);
@@ -33,7 +33,7 @@ fn room(rt: HostRuntime) {
 fn refusals(rt: HostRuntime) {
     let alloc = rt.alloc();
     let list = bytes(&rt, alloc, "08000100 2a000000 00");
-    // a fault is told where there is no room either
+    // an error is reported even if the buffer is too small
     let mut buffer = [0xFF; 4];
     let why = RewriteError::Fault {
         at: 8,
@@ -41,7 +41,7 @@ fn refusals(rt: HostRuntime) {
     };
     assert!(rt; rewrite_to(alloc, Family::Dsa, &list, &mut buffer) == Err(why));
     assert!(rt; buffer == [0xFF; 4]);
-    // mappings of 65529 bytes, which take three bytes more when they are written
+    // mappings of 65529 bytes, whose encoding is three bytes longer
     let mut list = bytes(&rt, alloc, "fdff0300 f9ff6300");
     list.resize(65533, 0).expect(&rt, "its bytes");
     let long = RewriteError::TooLong { index: 0 };

@@ -1,4 +1,4 @@
-//! What a user takes from `link` and no other test does: the parts of a kind field, and `parse` of a named type.
+//! Tests what users import from `link` and no other test does: the parts of an `nla_type`, and `parse` of a named type.
 
 use netlink_packet_route::link::{
     DefaultNla, NLA_F_NESTED, NLA_F_NET_BYTEORDER, NLA_TYPE_MASK, Nla, NlaBuffer, Parseable,

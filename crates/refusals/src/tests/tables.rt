@@ -1,10 +1,10 @@
-//! Tables of frames: where the frames of some bytes start, and what follows them.
+//! Tests tables of frames: the offsets of the frames in some bytes, and what follows them.
 
 use crate::tests::{bytes, holds};
 use netlink_packet_route::link::{Cause, FrameTable};
 use std::process::Abort;
 
-/// Where the frames of some bytes start, and their first frame fault.
+/// The offsets of the frames in some bytes, and their first framing error.
 #[derive(Clone, Copy)]
 struct Row<'a> {
     digits: &'a str,
@@ -20,7 +20,7 @@ fn walks(rt: HostRuntime) {
             offsets: &[],
             fault: None,
         },
-        // a payload that no family takes, and then a short frame
+        // a payload that no attribute set accepts, and then a truncated header
         Row {
             digits: "05000100 2a000000 0300",
             offsets: &[0],
@@ -36,7 +36,7 @@ fn walks(rt: HostRuntime) {
             offsets: &[],
             fault: Some((0, Cause::Overrun { length: 9, left: 8 })),
         },
-        // padding, and a last frame without it
+        // padding, and a last frame without padding
         Row {
             digits: "05000100 2a000000 05000200 2b",
             offsets: &[0, 8],
@@ -55,7 +55,7 @@ fn walks(rt: HostRuntime) {
     }
 }
 
-/// More frames than a table holds in itself.
+/// More frames than a table holds without allocating.
 #[test]
 fn forty_frames(rt: HostRuntime) {
     let mut bytes = Vec::new(rt.alloc());

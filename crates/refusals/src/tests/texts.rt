@@ -1,4 +1,4 @@
-//! Displayed texts of faults and errors, and debug texts.
+//! Tests the `Display` output of errors, and `Debug` output.
 
 use crate::tests::{holds, list};
 use bitflags::Flags;
@@ -13,7 +13,7 @@ use std::alloc::{AllocError, Global};
 use std::fmt::{Debug, Display};
 use std::process::Abort;
 
-/// Each value is displayed as the text beside it.
+/// Asserts the `Display` output of each value.
 fn are_displayed<T: Display>(rt: &impl Abort, alloc: Global, rows: &[(T, &str)]) {
     for (value, text) in rows {
         let shown = format!(in alloc; "{value}").expect(rt, text);
@@ -115,7 +115,7 @@ fn errors(rt: HostRuntime) {
     );
 }
 
-/// The value has this debug text.
+/// Asserts the `Debug` output of a value.
 fn is_debugged<T: Debug + Drop>(rt: &impl Abort, alloc: Global, value: T, wanted: &str) {
     let text = format!(in alloc; "{value:?}").expect(rt, wanted);
     holds(rt, text.as_str() == wanted, wanted);
@@ -187,7 +187,7 @@ fn debug_texts_of_frames(rt: HostRuntime) {
     is_debugged(&rt, alloc, table, wanted);
 }
 
-/// The payload is shown as the bytes that it is, on lines of their own too.
+/// A payload is shown as the list of its bytes, also in the multi-line form.
 #[test]
 fn debug_text_of_any_kind(rt: HostRuntime) {
     let alloc = rt.alloc();

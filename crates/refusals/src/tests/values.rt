@@ -1,4 +1,5 @@
-//! Values of worked bytes, and of each case that holds memory: read, copied and written.
+//! Tests values of bytes that were decoded by hand, and of each variant that owns heap memory: they are parsed, cloned
+//! and written.
 
 use crate::tests::{are_refused, bytes, can_limits, is_kept, is_written, list, reads_as};
 use bitflags::Flags;
@@ -14,7 +15,7 @@ use std::alloc::Global;
 use std::net::{Ipv4Addr, Ipv6Addr};
 use std::process::Abort;
 
-/// The attribute of this kind field and payload.
+/// Returns the attribute with this `nla_type` and payload.
 fn any<const N: usize>(
     rt: &impl Abort,
     alloc: Global,
@@ -121,7 +122,7 @@ fn numbers_of_can(rt: HostRuntime) {
     is_kept(&rt, alloc, "04000d00", none);
     let rates = InfoCan::DataBitrateConst(list(&rt, alloc, [2_000_000]));
     is_kept(&rt, alloc, "08000e00 80841e00", rates);
-    // each number by its lowest byte first, whatever the flags of the kind, and without padding
+    // each number is little-endian, whatever the flags of the attribute type, and there is no padding
     let numbers = InfoCan::TerminationConst(list(&rt, alloc, [0x0201, 0x0403, 0xFFFF]));
     reads_as(&rt, alloc, "0a000cc0 01020304 ffff", numbers);
 }
@@ -167,7 +168,7 @@ fn elements_of_can(rt: HostRuntime) {
     is_kept(&rt, alloc, "060002c0 dead0000", other);
 }
 
-/// Limits with this name, whose numbers are zero.
+/// Returns limits with this name, whose numbers are zero.
 fn named(rt: &impl Abort, alloc: Global, name: &str) -> CanBitTimingConst {
     CanBitTimingConst::new(alloc, name).expect(rt, name)
 }
@@ -188,7 +189,7 @@ fn limits_of_can(rt: HostRuntime) {
 fn names_of_can(rt: HostRuntime) {
     let alloc = rt.alloc();
     for (field, name) in [
-        // sixteen bytes that begin no character
+        // sixteen bytes that do not start a character
         (
             "ffffffff ffffffff ffffffff ffffffff",
             "\u{FFFD}\u{FFFD}\u{FFFD}\u{FFFD}\u{FFFD}\u{FFFD}\u{FFFD}\u{FFFD}\u{FFFD}\u{FFFD}\u{FFFD}\u{FFFD}\u{FFFD}\u{FFFD}\u{FFFD}\u{FFFD}",
@@ -222,7 +223,7 @@ fn names_that_are_written(rt: HostRuntime) {
             "abcdefghijklmnopqrstuvwxyz",
             "61626364 65666768 696a6b6c 6d6e6f00",
         ),
-        // a character is cut, and not left out
+        // a character is truncated, not dropped
         (
             "abcdefghijklm\u{4F60}",
             "61626364 65666768 696a6b6c 6de4bd00",
@@ -362,7 +363,7 @@ fn ports_of_bridges(rt: HostRuntime) {
     reads_as(&rt, alloc, "06001800 01020000", InfoBridgePort::Flush);
     let state = InfoBridgePort::State(BridgePortState::Blocking);
     is_kept(&rt, alloc, "05000100 04000000", state);
-    // what stands behind an identifier is passed over
+    // what follows an identifier is ignored
     let root = InfoBridgePort::RootId(BridgeId {
         priority: 32768,
         address: [2, 0, 0, 0, 0, 1],
@@ -376,7 +377,7 @@ fn ports_of_bridges(rt: HostRuntime) {
     is_kept(&rt, alloc, "06001ac0 01020000", padding);
     let neighbors = LinkProtoInfoBridge::NeighForwardGrat(true);
     is_kept(&rt, alloc, "05002d00 01000000", neighbors);
-    // any other kind of a port is kept as it is
+    // any other attribute of a port is kept unchanged
     let hairpin = LinkProtoInfoBridge::Other(any(&rt, alloc, 4, [7]));
     is_kept(&rt, alloc, "05000400 07000000", hairpin);
 }

@@ -1,4 +1,4 @@
-//! The links of a whole buffer.
+//! Parses all links of a buffer.
 
 ghost use Rattle.std.specs.Prelude.{MatchResult};
 ghost use Rattle.uses.specs.Dump.{HasLinks, DumpFails};
@@ -10,20 +10,23 @@ use crate::messages::stepping::next_message;
 use std::alloc::{AllocError, Global};
 use thiserror::Error;
 
-/// Why the links of a buffer could not be read.
+/// Why the links of a buffer could not be parsed.
 #[derive(Debug, Drop, PartialEq, Eq, Error)]
 pub enum DumpError {
-    /// Allocation failed.
+    /// An allocation failed.
     #[error("no memory")]
     Memory(#[from(alloc)] AllocError),
-    /// The first message that is none, is not about a link, or has a bad attribute.
+    /// The first error in the messages: bytes that are not a message, a message that is not about a link, or a
+    /// malformed attribute.
     #[error("{0}")]
     Message(MessageError),
 }
 
-/// What the messages of a buffer say of links, up to its end or to an NLMSG_DONE.
+/// Parses the messages of a buffer, up to its end or to an NLMSG_DONE, and returns the link that each is about.
 ///
-/// Fails with `Message` for the first error of `next_message` or `read_link`.
+/// # Errors
+///
+/// `Message` with the first error of `next_message` or `read_link`. `Memory` if an allocation fails.
 pub fn read_links(alloc: Global, buffer: &[u8]) -> Result<Vec<Link<'_>>, DumpError>
     ensures { MatchResult result (λ links. HasLinks buffer.now links.items) (DumpFails buffer.now) }
 {

@@ -1,4 +1,4 @@
-//! Why a message, or a link in one, could not be read.
+//! Why a message, or its link, could not be parsed.
 
 ghost use Rattle.std.specs.Prelude.{Some};
 ghost use Rattle.uses.specs.Message.{error_text};
@@ -7,20 +7,20 @@ use netlink_packet_route::link::Cause;
 use std::error::Error;
 use std::fmt;
 
-/// Why a message, or the link that it is about, could not be read. Offsets are those of the buffer.
+/// Why a message, or the link that it is about, could not be parsed. `at` is an offset in the buffer.
 #[derive(Clone, Copy, Debug, PartialEq, Eq)]
 pub enum MessageError {
-    /// `left` bytes are left where a message should start: fewer than the 16 of a `struct nlmsghdr`.
+    /// Only `left` bytes are left at the offset of a message: fewer than the 16 of a `struct nlmsghdr`.
     ShortHeader { at: usize, left: usize },
-    /// The length of the message is below the 16 bytes of its own header.
+    /// `nlmsg_len` is less than 16, the size of the header.
     SmallLength { at: usize, length: u32 },
-    /// The length of the message is greater than what is left.
+    /// `nlmsg_len` is greater than `left`, the number of bytes left.
     Overrun { at: usize, length: u32, left: usize },
-    /// The message is not about a link: its type is none of RTM_NEWLINK, RTM_DELLINK and RTM_SETLINK.
+    /// The message is not about a link: its type is not RTM_NEWLINK, RTM_DELLINK or RTM_SETLINK.
     OtherType { at: usize, kind: u16 },
     /// A message about a link has `length` bytes: fewer than the 32 of `struct nlmsghdr` and `struct ifinfomsg`.
     ShortLink { at: usize, length: usize },
-    /// No attribute begins at this offset, in the message's list or in that of its `IFLA_LINKINFO`.
+    /// The bytes at this offset are not an attribute; they are in the message's list or in that of its `IFLA_LINKINFO`.
     Frame { at: usize, cause: Cause },
 }
 

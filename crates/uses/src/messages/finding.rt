@@ -1,4 +1,4 @@
-//! The last attribute of a kind.
+//! Finds the last attribute of a type in a list.
 
 ghost use Rattle.std.specs.Prelude.{◌≡◌, ◌+◌, ◌<◌, ◌^◌, ◌==◌, length, drop, min, Some, MatchResult, if◌then◌else◌};
 ghost use Rattle.std.specs.Option.{option_map};
@@ -10,9 +10,11 @@ use crate::messages::fault::MessageError;
 use crate::messages::payload::Payload;
 use netlink_packet_route::link::{DecodeError, DecodeFault, NlaBuffer};
 
-/// The payload of the last attribute of a kind in a list, or `None` where there is none.
+/// Returns the payload of the last attribute of type `kind` in a list, or `None` if the list has none.
 ///
-/// Fails with `Frame` where the list has a bad frame, whichever kind is asked for.
+/// # Errors
+///
+/// `Frame` if the framing of any attribute of the list is malformed, whatever `kind` is.
 pub fn last_of_kind(list: Payload<'_>, kind: u16) -> Result<Option<Payload<'_>>, MessageError>
     ensures { MatchResult result (λ found. Finds (stretch_of list.entry) kind (option_map stretch_of found))
         (IsFrameFault (stretch_of list.entry)) }
@@ -28,7 +30,11 @@ pub fn last_of_kind(list: Payload<'_>, kind: u16) -> Result<Option<Payload<'_>>,
     Ok(found)
 }
 
-/// The same in a list that may be missing, and then has no attributes.
+/// Does what `last_of_kind` does, for a list that may be missing. A missing list has no attributes.
+///
+/// # Errors
+///
+/// As for `last_of_kind`; a missing list has no errors.
 pub fn find_in(list: Option<Payload<'_>>, kind: u16) -> Result<Option<Payload<'_>>, MessageError>
     ensures { MatchResult result
         (λ found. FindsIn (option_map stretch_of list.entry) kind (option_map stretch_of found))
@@ -40,7 +46,11 @@ pub fn find_in(list: Option<Payload<'_>>, kind: u16) -> Result<Option<Payload<'_
     }
 }
 
-/// The frame at the front of bytes that stand at an offset.
+/// Returns the attribute at the start of `bytes`. `at` is the offset of `bytes` in the buffer.
+///
+/// # Errors
+///
+/// `Frame` if `bytes` does not start with an attribute.
 fn frame_at(bytes: &[u8], at: usize) -> Result<NlaBuffer<'_>, MessageError>
     ensures { MatchResult result (λ frame. BeginsWith bytes.now (frame_of frame))
         (λ error. (cause : _) × (frame_fault bytes.now ≡ Some cause) × (error ≡ MessageError.Frame at cause)) }
@@ -54,7 +64,7 @@ fn frame_at(bytes: &[u8], at: usize) -> Result<NlaBuffer<'_>, MessageError>
     }
 }
 
-/// The payload of a frame at an offset, if that is of the kind, and else what was found before.
+/// Returns the payload of `frame`, an attribute at offset `at`, if its type is `kind`, and otherwise `found`.
 fn later<'a>(
     found: Option<Payload<'a>>,
     frame: &NlaBuffer<'a>,
@@ -73,7 +83,7 @@ fn later<'a>(
     }
 }
 
-/// What follows a frame and its padding in the bytes that begin with it.
+/// Returns what follows the attribute at the start of `bytes` and its padding.
 fn behind<'a>(frame: &NlaBuffer<'_>, bytes: &'a [u8]) -> &'a [u8]
     ensures { result.now ≡ drop (min (pad (4 + length (payload_of frame.now))) (length bytes.now)) bytes.now }
 {

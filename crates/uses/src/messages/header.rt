@@ -1,8 +1,9 @@
-//! A message.
+//! A netlink message.
 
 ghost use Rattle.std.specs.Prelude.{◌+◌, ◌<◌, ◌^◌, length};
 
-/// A message: the fields of its `struct nlmsghdr` (`include/uapi/linux/netlink.h`), its payload, and where it stands.
+/// A netlink message: the fields of its `struct nlmsghdr` (`include/uapi/linux/netlink.h`), its payload, and its
+/// offset.
 #[derive(Clone, Copy, Debug, PartialEq, Eq)]
 pub struct Message<'a> {
     /// The offset of its first byte in the buffer.
@@ -13,11 +14,11 @@ pub struct Message<'a> {
     pub flags: u16,
     /// `nlmsg_seq`.
     pub sequence: u32,
-    /// `nlmsg_pid`, the port of the sender.
+    /// `nlmsg_pid`, the port ID of the sender.
     pub port: u32,
     /// What follows the header, without padding. It is borrowed from the buffer.
     pub payload: &'a [u8],
-    /// The offset of what follows the message and its padding.
+    /// The offset of the first byte after the message and its padding.
     pub next: usize,
     ghost within: { at + 16 + length payload.now < 2 ^ 64 },
 }

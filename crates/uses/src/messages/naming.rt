@@ -1,18 +1,18 @@
-//! Names of links, and the families of the kinds of links.
+//! Names of links, and the `Family` for each kind of link (`IFLA_INFO_KIND`).
 
 ghost use Rattle.std.specs.Prelude.{◌≡◌};
 ghost use Rattle.uses.specs.LinkMessage.{without_nul, link_kinds, port_kinds, family_of};
 
 use netlink_packet_route::Family;
 
-/// The bytes without the NUL at their end, if they have one.
+/// Returns the bytes without the NUL at their end, if they have one.
 pub(crate) fn without_nul(bytes: &[u8]) -> &[u8]
     ensures { result.now ≡ without_nul bytes.now }
 {
     bytes.strip_suffix(&[0]).unwrap_or(bytes)
 }
 
-/// The family of the data of a link of this kind.
+/// Returns the `Family` for the data of a link whose `IFLA_INFO_KIND` is `name`, or `None` if there is none.
 pub(crate) fn link_family(name: &[u8]) -> Option<Family>
     ensures { result ≡ family_of link_kinds name.now }
 {
@@ -33,7 +33,7 @@ pub(crate) fn link_family(name: &[u8]) -> Option<Family>
     }
 }
 
-/// The family of the data of a port of a link of this kind.
+/// Returns the `Family` for the data of a port whose `IFLA_INFO_SLAVE_KIND` is `name`, or `None` if there is none.
 pub(crate) fn port_family(name: &[u8]) -> Option<Family>
     ensures { result ≡ family_of port_kinds name.now }
 {

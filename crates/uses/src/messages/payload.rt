@@ -1,4 +1,4 @@
-//! Bytes of a buffer, and where they stand.
+//! Bytes of a buffer with their offset.
 
 ghost use Rattle.std.specs.Prelude.{◌+◌, ◌<◌, ◌^◌, length};
 

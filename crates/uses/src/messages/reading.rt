@@ -1,4 +1,4 @@
-//! The link that a message is about.
+//! Parses the link that a message is about.
 
 ghost use Rattle.std.specs.Prelude.{◌≡◌, ◌≤◌, ◌↔◌, length, take, drop, IsTrue, MatchResult};
 ghost use Rattle.std.specs.Option.{option_map, option_zip};
@@ -23,7 +23,7 @@ const RTM_DELLINK: u16 = 17;
 
 const RTM_SETLINK: u16 = 19;
 
-/// The address family of bridges and their ports.
+/// The address family of bridges and bridge ports.
 const AF_BRIDGE: u8 = 7;
 
 const IFLA_IFNAME: u16 = 3;
@@ -42,10 +42,13 @@ const IFLA_INFO_SLAVE_KIND: u16 = 4;
 
 const IFLA_INFO_SLAVE_DATA: u16 = 5;
 
-/// What a message says of a link.
+/// Parses the link that a message is about.
 ///
-/// Fails with `OtherType` where the message is not about a link, with `ShortLink` where it lacks a whole `struct
-/// ifinfomsg`, and with `Frame` where its list, or the last `IFLA_LINKINFO` in it, has a bad frame.
+/// # Errors
+///
+/// `OtherType` if the message is not about a link. `ShortLink` if it is shorter than the headers `struct nlmsghdr` and
+/// `struct ifinfomsg`. `Frame` if the framing of an attribute is malformed, in the message's list or in that of its
+/// last `IFLA_LINKINFO`.
 pub fn read_link<'a>(message: &Message<'a>) -> Result<Link<'a>, MessageError>
     ensures { MatchResult result (IsAbout message.now.at (packet_of message.now))
         (IsAboutNone message.now.at (packet_of message.now)) }
@@ -65,14 +68,14 @@ pub fn read_link<'a>(message: &Message<'a>) -> Result<Link<'a>, MessageError>
     link_of(list, body[0], index_of(body))
 }
 
-/// Whether messages of this type are about links.
+/// Checks whether messages of type `kind` are about links.
 fn is_link_type(kind: u16) -> bool
     ensures { IsTrue result ↔ IsLinkType kind }
 {
     kind == RTM_NEWLINK || kind == RTM_DELLINK || kind == RTM_SETLINK
 }
 
-/// `ifi_index`, of a `struct ifinfomsg` and what follows it.
+/// Returns `ifi_index`. `body` starts with a `struct ifinfomsg`.
 fn index_of(body: &[u8]) -> i32
     requires { 16 ≤ length body.now }
     ensures { result ≡ integer (take 4 (drop 4 body.now)) }
@@ -80,7 +83,11 @@ fn index_of(body: &[u8]) -> i32
     i32::from_le_bytes([body[4], body[5], body[6], body[7]])
 }
 
-/// The link of this index that a list of attributes is about.
+/// Parses the link that an attribute list describes, with this index.
+///
+/// # Errors
+///
+/// `Frame` if the framing of an attribute is malformed, in `list` or in its last `IFLA_LINKINFO`.
 fn link_of<'a>(list: Payload<'a>, address_family: u8, index: i32) -> Result<Link<'a>, MessageError>
     ensures { MatchResult result
         (λ link. (link.index ≡ index) × IsLink address_family (stretch_of list.entry) link)
@@ -102,7 +109,7 @@ fn link_of<'a>(list: Payload<'a>, address_family: u8, index: i32) -> Result<Link
     })
 }
 
-/// The data of a link, in the payload of its `IFLA_LINKINFO`.
+/// Returns the data of a link, from the payload of its `IFLA_LINKINFO`.
 fn info_data<'a>(info: Option<Payload<'a>>) -> Result<Option<Part<'a>>, MessageError>
     ensures { MatchResult result
         (λ part. IsInfoPart link_kinds 1 2 (option_map stretch_of info.entry) (option_map part_of part))
@@ -114,7 +121,7 @@ fn info_data<'a>(info: Option<Payload<'a>>) -> Result<Option<Part<'a>>, MessageE
     Ok(list_of(family, payload))
 }
 
-/// The data of a port, in the payload of its `IFLA_LINKINFO`.
+/// Returns the data of a port, from the payload of its `IFLA_LINKINFO`.
 fn port_data<'a>(info: Option<Payload<'a>>) -> Result<Option<Part<'a>>, MessageError>
     ensures { MatchResult result
         (λ part. IsInfoPart port_kinds 4 5 (option_map stretch_of info.entry) (option_map part_of part))
@@ -126,7 +133,8 @@ fn port_data<'a>(info: Option<Payload<'a>>) -> Result<Option<Part<'a>>, MessageE
     Ok(list_of(family, payload))
 }
 
-/// The list of a kind in a message of AF_BRIDGE, which this family reads.
+/// Returns the list in the attribute of type `kind` of an AF_BRIDGE message; `family` parses it. Returns `None` for
+/// other messages.
 fn bridge_part<'a>(
     list: Payload<'a>,
     address_family: u8,
@@ -144,7 +152,7 @@ fn bridge_part<'a>(
     Ok(list_of(Some(family), payload))
 }
 
-/// The payload as the list of the family, if both are there.
+/// Combines a payload and its `Family`, if both are present.
 fn list_of<'a>(family: Option<Family>, payload: Option<Payload<'a>>) -> Option<Part<'a>>
     ensures { option_map part_of result ≡ option_zip family (option_map stretch_of payload.entry) }
 {

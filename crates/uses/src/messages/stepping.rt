@@ -1,4 +1,4 @@
-//! From message to message.
+//! Iterates over the messages of a buffer.
 
 ghost use Rattle.std.specs.Prelude.{◌≡◌, ◌+◌, ◌<◌, ◌≤◌, ◌^◌, length, take, drop, Some, MatchResult};
 ghost use Rattle.netlink_packet_route.specs.Number.{bytes_of};
@@ -11,10 +11,12 @@ use crate::messages::header::Message;
 /// The type of the message that ends a dump.
 const NLMSG_DONE: u16 = 3;
 
-/// The message at an offset of a buffer, or `None` at its end and at an `NLMSG_DONE`. The next message is the one at
-/// `next`.
+/// Parses the message at offset `at` of a buffer. Returns `None` at the end of the buffer and at an `NLMSG_DONE`. The
+/// following message is at offset `next`.
 ///
-/// Fails with `ShortHeader`, `SmallLength` or `Overrun`, in this order, where no message stands there.
+/// # Errors
+///
+/// `ShortHeader`, `SmallLength` or `Overrun`, checked in this order, if there is no message at `at`.
 pub fn next_message(bytes: &[u8], at: usize) -> Result<Option<Message<'_>>, MessageError>
     ensures { NextMessage at (drop at bytes.now) result }
 {
@@ -28,7 +30,11 @@ pub fn next_message(bytes: &[u8], at: usize) -> Result<Option<Message<'_>>, Mess
     Ok(Some(message))
 }
 
-/// The message at the front of bytes that stand at an offset.
+/// Parses the message at the start of `bytes`. `at` is the offset of `bytes` in the buffer.
+///
+/// # Errors
+///
+/// As for `next_message`.
 fn message_at(bytes: &[u8], at: usize) -> Result<Message<'_>, MessageError>
     requires { at + length bytes.now < 2 ^ 64 }
     ensures { MatchResult result (IsMessageAt at bytes.now) (λ error. header_fault at bytes.now ≡ Some error) }
@@ -56,7 +62,7 @@ fn message_at(bytes: &[u8], at: usize) -> Result<Message<'_>, MessageError>
     })
 }
 
-/// The number of the two bytes at an offset, little-endian.
+/// Reads the little-endian `u16` at an offset.
 fn u16_at(bytes: &[u8], offset: usize) -> u16
     requires { offset + 2 ≤ length bytes.now }
     ensures { bytes_of 2 result ≡ take 2 (drop offset bytes.now) }
@@ -64,7 +70,7 @@ fn u16_at(bytes: &[u8], offset: usize) -> u16
     u16::from_le_bytes([bytes[offset], bytes[offset + 1]])
 }
 
-/// The number of the four bytes at an offset, little-endian.
+/// Reads the little-endian `u32` at an offset.
 fn u32_at(bytes: &[u8], offset: usize) -> u32
     requires { offset + 4 ≤ length bytes.now }
     ensures value { result ≡ number_at 4 offset bytes.now }

@@ -1,4 +1,4 @@
-//! Those of bridges, of their ports, and of what messages of AF_BRIDGE say.
+//! Tests the output for bridges, for bridge ports, and for the lists of AF_BRIDGE messages.
 
 use super::are_reported;
 
@@ -27,7 +27,7 @@ fn values_of_bridges(rt: HostRuntime) {
                 "06000800 12340000",
                 "attr 8 len 2\nout 0600080081000000\nchanged\n",
             ),
-            // what stands behind an identifier is not written
+            // what follows an identifier is not written
             (
                 "0e000b00 80000200 00000001 ffff0000",
                 "attr 11 len 8\nout 0c000b008000020000000001\nchanged\n",
@@ -99,12 +99,12 @@ fn ports_of_bridges(rt: HostRuntime) {
                 "05000b80 01000000",
                 "attr 11 len 1\nout 05000b0001000000\nchanged\n",
             ),
-            // kinds without a case
+            // attribute types without a variant
             (
                 "04001ac0 06002e40 dead",
                 "attr 49178 len 0\nattr 16430 len 2\nout 04001ac006002e40dead0000\nchanged\n",
             ),
-            // what stands behind an identifier is not written
+            // what follows an identifier is not written
             (
                 "0d000d00 80000200 00000001 ff000000",
                 "attr 13 len 8\nout 0c000d008000020000000001\nchanged\n",
@@ -146,7 +146,7 @@ fn af_spec(rt: HostRuntime) {
         0,
         &[
             ("", "out\nsame\n"),
-            // kind 0 has a case
+            // attribute type 0 has a variant
             (
                 "06000000 02000000",
                 "attr 0 len 2\nout 0600000002000000\nsame\n",
@@ -214,7 +214,7 @@ fn protocol_information(rt: HostRuntime) {
                 "05002d80 ff000000",
                 "attr 45 len 1\nout 05002d0001000000\nchanged\n",
             ),
-            // every other kind is kept as it is
+            // every other attribute is kept unchanged
             (
                 "05000400 07000000 06001880 01020000",
                 "attr 4 len 1\nattr 32792 len 2\nout 05000400070000000600188001020000\nsame\n",
