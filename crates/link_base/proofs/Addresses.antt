@@ -16,7 +16,7 @@ use Rattle.link_base.proofs.Written.{IsComplete-whole, bytes-whole, IsKnown}
 
 -- ---- payloads
 
--- an element reads as one thing, its payload
+-- an element decodes to one result only, its payload
 pub payload_reading : IsReading PayloadGives
 payload_reading = record { decided = λ f p hf hp. (Ok p, refl); one = λ f p r q a b. a ∙ sym b }
 
@@ -24,12 +24,12 @@ payload_reading = record { decided = λ f p hf hp. (Ok p, refl); one = λ f p r 
 abbrev pub payloads : List Frame → List (List ℕ)
 payloads xs = map (λ (x : Frame). x.payload) xs
 
--- frames read as their payloads
+-- frames decode to their payloads
 pub read_payloads : (xs : List Frame) → ReadEach PayloadGives xs (payloads xs)
 read_payloads [] = tt
 read_payloads (x ∷ xs) = (refl, read_payloads xs)
 
--- frames read as nothing but their payloads
+-- frames decode to nothing except their payloads
 pub payloads_are : (xs : List Frame) (ps : List (List ℕ)) → ReadEach PayloadGives xs ps → ps ≡ payloads xs
 payloads_are [] [] h = refl
 payloads_are [] (p ∷ ps) h = absurd h
@@ -38,7 +38,7 @@ payloads_are (x ∷ xs) (p ∷ ps) h = ap₂ (λ a b. a ∷ b) (same_ok p x.payl
 
 -- ---- addresses
 
--- the addresses among the payloads of a string of bytes
+-- the addresses among the payloads of some bytes
 pub octets-frames : (n : ℕ) (xs : List Frame) → AllByRecursion IsKnown xs → AllByRecursion (IsOctets n) (of_length n (payloads xs))
 octets-frames n [] k = tt
 octets-frames n (x ∷ xs) k =
@@ -47,14 +47,14 @@ octets-frames n (x ∷ xs) k =
     cond_both (length x.payload == n) (x.payload ∷ others) others (λ t. AllByRecursion (IsOctets n) t)
     (λ e. ((eqb-true (length x.payload) n e, k.0.bytes), later)) (λ e. later)
 
--- the frames of addresses have these addresses
+-- the addresses in the frames of some addresses are these addresses
 pub of_length-addresses : (n i : ℕ) (octets : List (List ℕ)) → AllByRecursion (λ a. length a ≡ n) octets → of_length n (payloads (addresses_from i octets)) ≡ octets
 of_length-addresses n i [] h = refl
 of_length-addresses n i (a ∷ others) h =
     cond-true (length a == n) (a ∷ of_length n (payloads (addresses_from (i + 1) others))) _ (eq-eqb (length a) n h.0)
     ∙ ap (λ t. a ∷ t) (of_length-addresses n (i + 1) others h.1)
 
--- how long the frame of an address is
+-- the length of the frame of an address
 pub length-whole : (i : ℕ) (a : List ℕ) → length (frame_bytes (whole i a)) ≡ pad (4 + length a)
 length-whole i a = omega (arith, length-frame_bytes (whole i a), length-replicate {A = ℕ} (gap a) 0)
 
@@ -66,13 +66,13 @@ complete_addresses i (a ∷ others) fit =
     let own = length-whole i a in
     (IsComplete-whole i a (omega arith) (omega arith), complete_addresses (i + 1) others (omega arith))
 
--- the frames of addresses are bytes
+-- the frames of addresses consist of bytes
 pub bytes-addresses : (n i : ℕ) (octets : List (List ℕ)) → AllByRecursion (IsOctets n) octets → IsBytes (spelled (addresses_from i octets))
 bytes-addresses n i [] h = tt
 bytes-addresses n i (a ∷ others) h =
     bytes-append (frame_bytes (whole i a)) (spelled (addresses_from (i + 1) others)) (bytes-whole i a h.0.1) (bytes-addresses n (i + 1) others h.1)
 
--- what is written for the addresses is no longer than what was read, padded
+-- what is written for the addresses is no longer than the input, padded
 pub short-addresses : (n i : ℕ) (xs : List Frame) → AreFrames xs → length (spelled (addresses_from i (of_length n (payloads xs)))) ≤ pad (length (spelled xs))
 short-addresses n i [] h = omega arith
 short-addresses n i (x ∷ []) h =

@@ -1,11 +1,11 @@
--- The frame at the front of some bytes, as a reader finds it.
+-- The frame at the start of some bytes, as a parser finds it.
 use Rattle.std.proofs.Common.{◌≡◌, ◌⊎◌, ℕ, ◌+◌, ◌-◌, ◌*◌, ◌/◌, ◌%◌, ◌<◌, ◌≤◌, List, [], ◌∷◌, ◌++◌, length, take, drop, min, get_or, sym, ap, subst, ◌∙◌, arith, inl, inr, append_assoc}
 use Rattle.std.proofs.lemmas.List.{append-nil, length-append, length-take, length-drop, take-append-drop, drop-drop, nil_from_length}
 use Rattle.std.proofs.Math.Seq.{drop-append_seam}
 use Rattle.std.proofs.lemmas.Bool.{cases_lt}
 use Rattle.link_base.specs.Frame.{Frame, BeginsWith, bare, IsFrame, IsComplete, frame_bytes, pad}
 
--- a header that states a length within the bytes
+-- a header whose `nla_len` is within the bytes
 pub begins_by : (a b c d : ℕ) (body : List ℕ) (n f : ℕ) → a < 256 → b < 256 → c < 256 → d < 256 → n ≡ a + b * 256 → 4 ≤ n → n ≤ 4 + length body → f ≡ c + d * 256
     → BeginsWith (a ∷ b ∷ c ∷ d ∷ body) (bare f (take (n - 4) body))
 begins_by a b c d body n f ha hb hc hd stated low high field =
@@ -31,28 +31,28 @@ begins_at (a ∷ b ∷ []) n f h stated low high field = absurd (omega arith)
 begins_at (a ∷ b ∷ c ∷ []) n f h stated low high field = absurd (omega arith)
 begins_at (a ∷ b ∷ c ∷ d ∷ body) n f h stated low high field = begins_by a b c d body n f (h 0) (h 1) (h 2) (h 3) stated low (omega arith) field
 
--- bytes that state a length within them begin with the frame of that length
+-- bytes whose `nla_len` is within them start with the frame of that length
 pub begins_with : (s : List ℕ) (n f : ℕ) (p : List ℕ) → ((i : ℕ) → get_or s i 0 < 256) → n ≡ get_or s 0 0 + get_or s 1 0 * 256 → 4 ≤ n → n ≤ length s → f ≡ get_or s 2 0 + get_or s 3 0 * 256
     → p ≡ take (n - 4) (drop 4 s) → BeginsWith s (bare f p)
 begins_with s n f p h stated low high field is = subst (λ q. BeginsWith s (bare f q)) (sym is) (begins_at s n f h stated low high field)
 
--- ---- the frame at the front, with all its padding
+-- ---- the frame at the start, with all its padding
 
--- a frame at the front, and what the next one is read from
+-- a frame at the start, and the bytes where the next one is
 pub record Splits (s : List ℕ) (f : ℕ) (p next : List ℕ) : Type 0 where
   pub padding : List ℕ
   pub is : IsFrame (record { kind_field = f; payload = p; padding = padding })
   pub string : s ≡ frame_bytes (record { kind_field = f; payload = p; padding = padding }) ++ next
   pub last : (next ≡ []) ⊎ IsComplete (record { kind_field = f; payload = p; padding = padding })
 
--- how far the next frame is
+-- the offset of the next frame
 abbrev pub step_of : List ℕ → List ℕ → ℕ
 step_of s p = min (pad (4 + length p)) (length s)
 
 length-frame : (f : ℕ) (p z : List ℕ) → length (frame_bytes (record { kind_field = f; payload = p; padding = z })) ≡ 4 + (length p + length z)
 length-frame f p z = omega (arith, length-append p z)
 
--- bytes that begin with a frame are that frame with its padding, and the rest
+-- bytes that start with a frame are that frame with its padding, and the rest
 pub splits : (s : List ℕ) (f : ℕ) (p : List ℕ) → BeginsWith s (bare f p) → Splits s f p (drop (step_of s p) s)
 splits s f p b =
     let n = 4 + length p in

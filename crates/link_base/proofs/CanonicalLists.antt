@@ -1,4 +1,4 @@
--- Canonical lists, and lists of addresses, judged frame by frame.
+-- Checking canonical lists, and lists of addresses, one frame at a time.
 use Rattle.std.proofs.Common.{◌≡◌, ◌≢◌, ◌↔◌, ℕ, suc, ◌+◌, ◌-◌, ◌<◌, ◌≤◌, List, [], ◌∷◌, ◌++◌, length, take, drop, get_or, replicate, refl, sym, ap, ap₂, subst, ◌∙◌, arith, None, append_assoc, length-append}
 use Rattle.std.specs.Prelude.{Bool, true, false, not, Option, Some, is_some, IsTrue, MatchOption}
 use Rattle.std.specs.List.{AllByRecursion}
@@ -12,25 +12,25 @@ use Rattle.link_base.proofs.Cuts.{SameFront, SameFront-frames, IsFrame-complete}
 use Rattle.link_base.proofs.Walking.{spelled-push, some_bytes}
 use Rattle.link_base.proofs.Written.{all_append}
 
--- ---- the frame at the front
+-- ---- the frame at the start
 
--- bytes that are 0 at each place are zeros
+-- bytes that are 0 at each index are zeros
 pub zeros : (xs : List ℕ) → ((k : ℕ) → k < length xs → get_or xs k 0 ≡ 0) → xs ≡ replicate (length xs) 0
 zeros [] h = refl
 zeros (x ∷ xs) h = ap₂ (λ a t. a ∷ t) (h 0 (omega arith)) (zeros xs (λ k lt. h (suc k) (omega arith)))
 
--- what stands behind a frame without its padding
+-- what follows a frame without its padding
 behind : (s : List ℕ) (f : ℕ) (p : List ℕ) (b : BeginsWith s (bare f p)) → drop (4 + length p) s ≡ b.rest
 behind s f p b =
     let front = frame_bytes (bare f p) in
     let len : 4 + length p ≡ length front = omega (arith, length-frame_bytes (bare f p)) in
     ap (drop (4 + length p)) b.string ∙ ap (λ m. drop m (front ++ b.rest)) len ∙ drop-append_seam front b.rest
 
--- the padding that should stand behind a frame
+-- the bytes at which the padding of a frame should be
 abbrev pub padding_of : List ℕ → List ℕ → List ℕ
 padding_of s p = take (gap p) (drop (4 + length p) s)
 
--- a frame whose padding is there and is zeros
+-- a frame whose padding is complete and zero
 pub whole_front : (s : List ℕ) (f : ℕ) (p : List ℕ) → BeginsWith s (bare f p) → gap p ≤ length (drop (4 + length p) s) → ((k : ℕ) → k < length (padding_of s p) → get_or (padding_of s p) k 0 ≡ 0)
     → SplitsWhole s f p (drop (gap p) (drop (4 + length p) s))
 whole_front s f p b room zero =
@@ -45,7 +45,7 @@ whole_front s f p b room zero =
       b.string ∙ ap (λ t. front ++ t) (sym (behind s f p b) ∙ sym (take-append-drop g tail)) ∙ ap (λ t. front ++ (t ++ drop g tail)) is ∙ shift,
     )
 
--- a frame that needs none
+-- a frame that needs no padding
 pub whole_even : (s : List ℕ) (f : ℕ) (p : List ℕ) → BeginsWith s (bare f p) → gap p ≡ 0 → SplitsWhole s f p (drop (4 + length p) s)
 whole_even s f p b none =
     let tail = drop (4 + length p) s in
@@ -53,21 +53,21 @@ whole_even s f p b none =
     let found = whole_front s f p b (omega (arith, none)) (λ k lt. absurd (omega (arith, lt, ap length empty))) in
     subst (λ g. SplitsWhole s f p (drop g tail)) none found
 
--- bytes that begin with a whole frame have no frame fault
+-- bytes that start with a whole frame have no malformed header
 pub whole_no_fault : (s : List ℕ) (f : ℕ) (p rest : List ℕ) → SplitsWhole s f p rest → frame_fault s ≡ None
 whole_no_fault s f p rest w = ap frame_fault w.1 ∙ frame_fault-frame (whole f p) rest (IsFrame-complete (whole f p) w.0)
 
 same_begin : (s : List ℕ) (f g : ℕ) (p q rest : List ℕ) (b : BeginsWith s (bare f p)) → SplitsWhole s g q rest → SameFront (bare f p) (whole g q) b.rest rest
 same_begin s f g p q rest b w = SameFront-frames (bare f p) (whole g q) b.rest rest b.is (IsFrame-complete (whole g q) w.0) (sym b.string ∙ w.1)
 
--- a whole frame at the front is the frame that begins the bytes, and all its padding is there
+-- a whole frame at the start is the frame that the header describes, with complete padding
 pub whole_room : (s : List ℕ) (f g : ℕ) (p q rest : List ℕ) → BeginsWith s (bare f p) → SplitsWhole s g q rest → gap p ≤ length (drop (4 + length p) s)
 whole_room s f g p q rest b w =
     let same = same_begin s f g p q rest b w in
     let z : List ℕ = replicate (gap q) 0 in
     omega (arith, ap gap same.payload, ap length (behind s f p b ∙ same.rest), length-append z rest, length-replicate {A = ℕ} (gap q) 0)
 
--- its padding is zeros
+-- the padding of a whole frame is zeros
 pub whole_zeros : (s : List ℕ) (f g : ℕ) (p q rest : List ℕ) → BeginsWith s (bare f p) → SplitsWhole s g q rest → (k : ℕ) → k < length (padding_of s p) → get_or (padding_of s p) k 0 ≡ 0
 whole_zeros s f g p q rest b w k lt =
     let same = same_begin s f g p q rest b w in
@@ -78,7 +78,7 @@ whole_zeros s f g p q rest b w k lt =
     let is : padding_of s p ≡ z = ap (take (gap p)) tail ∙ ap (λ m. take m (z ++ rest)) (sym e ∙ sym len) ∙ take-append_seam z rest in
     ap (λ t. get_or t k 0) is ∙ get_or-replicate {A = ℕ} (gap q) k 0 0 (omega (arith, lt, ap length is, len))
 
--- only one whole frame stands at the front
+-- bytes start with at most one whole frame
 pub one_whole : (s : List ℕ) (f g : ℕ) (p q a b : List ℕ) → SplitsWhole s f p a → SplitsWhole s g q b → (f ≡ g) × (p ≡ q) × (a ≡ b)
 one_whole s f g p q a b v w =
     let same = SameFront-frames (whole f p) (whole g q) a b (IsFrame-complete (whole f p) v.0) (IsFrame-complete (whole g q) w.0) (sym v.1 ∙ w.1) in
@@ -95,7 +95,7 @@ whole_not_nil s f p rest w e = omega (arith, whole_some s f p rest w, ap length 
 -- ---- canonical frames
 
 module _ (allows : ℕ → List ℕ → Type 0) where
-  -- a canonical frame is a whole one
+  -- a canonical frame is a whole frame
   canonical_whole : (s : List ℕ) (x : Frame) (after : List ℕ) → IsCanonicalFrame allows x → s ≡ frame_bytes x ++ after → SplitsWhole s x.kind_field x.payload after
   canonical_whole s x after h e =
       let same : frame_bytes x ++ after ≡ frame_bytes (whole x.kind_field x.payload) ++ after =
@@ -111,7 +111,7 @@ module _ (allows : ℕ → List ℕ → Type 0) where
   pub passed_none : (s : List ℕ) → Passed s s
   passed_none s = record { front = []; string = refl; each = tt }
 
-  -- one frame more
+  -- one more frame
   pub passed_more : (s rest next : List ℕ) (f : ℕ) (p : List ℕ) → Passed s rest → SplitsWhole rest f p next → allows f p → Passed s next
   passed_more s rest next f p w split allowed =
       let x = whole f p in
@@ -125,7 +125,7 @@ module _ (allows : ℕ → List ℕ → Type 0) where
   pub passed_all : (s rest : List ℕ) → Passed s rest → rest ≡ [] → CanonicalBy allows s
   passed_all s rest w e = record { frames = w.front; string = w.string ∙ ap (λ t. spelled w.front ++ t) e ∙ append-nil (spelled w.front); each = w.each }
 
-  -- no frame of this kind begins the bytes
+  -- the bytes do not start with a canonical frame
   abbrev pub NoneHere : List ℕ → Type 0
   NoneHere rest = (x : Frame) (after : List ℕ) → rest ≡ frame_bytes x ++ after → ¬ (IsCanonicalFrame allows x)
 
@@ -137,7 +137,7 @@ module _ (allows : ℕ → List ℕ → Type 0) where
       let same = one_whole rest x.kind_field f x.payload p after next (canonical_whole rest x after h e) w in
       not (subst (λ q. allows f q) same.1 (subst (λ g. allows g x.payload) same.0 h.allowed))
 
-  -- where the walk stops
+  -- where the check stops
   pub stops : (s rest : List ℕ) (at : ℕ) → Passed s rest → rest ≢ [] → at ≡ length s - length rest → NoneHere rest → FirstOtherBy allows s at
   stops s rest at w some place none = record {
     front = w.front;
@@ -149,7 +149,7 @@ module _ (allows : ℕ → List ℕ → Type 0) where
     here = none;
   }
 
-  -- canonical frames are not canonical frames and then something else
+  -- canonical frames are not canonical frames followed by something else
   other_not : (rest : List ℕ) (xs ys : List Frame) → AllByRecursion (IsCanonicalFrame allows) xs → AllByRecursion (IsCanonicalFrame allows) ys → 0 < length rest → NoneHere rest → spelled xs ++ rest ≡ spelled ys → ⊥
   other_not rest [] [] hx hy some none e = omega (arith, some, ap length e)
   other_not rest [] (y ∷ ys) hx hy some none e = none y (spelled ys) e hy.0
@@ -160,13 +160,13 @@ module _ (allows : ℕ → List ℕ → Type 0) where
       let right = canonical_whole s y (spelled ys) hy.0 (sym (append_assoc (frame_bytes x) (spelled xs) rest) ∙ e) in
       other_not rest xs ys hx.1 hy.1 some none (one_whole s x.kind_field y.kind_field x.payload y.payload (spelled xs ++ rest) (spelled ys) left right).2
 
-  -- bytes with another frame are not canonical
+  -- a list in which something else follows the canonical frames is not canonical
   pub not_canonical : (s : List ℕ) (at : ℕ) → FirstOtherBy allows s at → ¬ (CanonicalBy allows s)
   not_canonical s at w c = other_not w.rest w.front c.frames w.each c.each w.some w.here (sym w.string ∙ c.string)
 
--- ---- an answer
+-- ---- a result
 
--- a test that nothing else was found
+-- a boolean result is true if and only if nothing but canonical frames was found
 pub none_found : (o : Option ℕ) (b : Bool) (A : Type 0) (B : ℕ → Type 0) → is_some o ≡ not b → MatchOption o A B → ((at : ℕ) → B at → ¬ A) → IsTrue b ↔ A
 none_found None true A B e h other = (λ t. h, λ a. refl)
 none_found None false A B e h other = absurd cc
@@ -175,7 +175,7 @@ none_found (Some at) false A B e h other = (λ t. absurd cc, λ a. absurd (other
 
 -- ---- lists of addresses
 
--- the elements of the kinds i and on
+-- elements of the attribute types i, i + 1 and so on
 pub record AreElements (i n : ℕ) (p : List ℕ) : Type 0 where
   pub addresses : List (List ℕ)
   pub each : AllByRecursion (λ a. length a ≡ n) addresses
@@ -216,7 +216,7 @@ pub elements_end : (i n : ℕ) (p : List ℕ) → AreElements i n p → ((f : �
 elements_end i n [] h none = refl
 elements_end i n (b ∷ p) h none = let first = first_element i n (b ∷ p) h (λ e. absurd cc) in absurd (none i first.address first.others first.split)
 
--- one element more
+-- one more element
 pub elements_more : (i n : ℕ) (p next a : List ℕ) → SplitsWhole p i a next → length a ≡ n → p ≢ [] → AreElements i n p ↔ AreElements (i + 1) n next
 elements_more i n p next a w size some = (
   λ h.
@@ -232,7 +232,7 @@ elements_more i n p next a w size some = (
       },
 )
 
--- the first element has the kind i and n bytes
+-- the first element has the attribute type i and n bytes
 pub first_is : (i n f : ℕ) (p next a : List ℕ) → SplitsWhole p f a next → AreElements i n p → p ≢ [] → (f ≡ i) × (length a ≡ n)
 first_is i n f p next a w h some =
     let first = first_element i n p h some in

@@ -1,4 +1,4 @@
--- The laws of the classes of payload.
+-- The laws of the classes of payloads.
 use Rattle.std.proofs.Common.{◌≡◌, ◌⊎◌, ◌↔◌, ℕ, ◌+◌, ◌-◌, ◌*◌, ◌%◌, ◌<◌, ◌≤◌, Bool, true, false, cond, List, [], ◌∷◌, ◌++◌, length, take, drop, reverse, replicate, Option, Some, None, Ok, refl, sym, ap, ap₂, subst, ◌∙◌, arith, inl, inr, ⊎_elim, length-append, length-take, length-drop, take-append-drop, take_all}
 use Rattle.std.specs.Prelude.{◌==◌, nat_lt}
 use Rattle.std.specs.Int.{w32}
@@ -15,7 +15,7 @@ use Rattle.link_base.proofs.Numbers.{number_below, bytes_of-number, length-bytes
 
 -- ---- lengths
 
--- a value that has no cause is the one given
+-- if there is no cause, the value is the one given
 unless_none : {A : Type 0} (o : Option Cause) (x v : A) → unless o x ≡ Ok v → (o ≡ None) × (v ≡ x)
 unless_none None x v e = (refl, cc)
 unless_none (Some c) x v e = absurd cc
@@ -28,17 +28,17 @@ accepted_meaning c p v e = unless_none (length_cause (extent c) (length p)) (mea
 pub value_of_accepted : (c : Class) (p : List ℕ) → length_cause (extent c) (length p) ≡ None → class_value c p ≡ Ok (meant c p)
 value_of_accepted c p e = ap (λ o. unless o (meant c p)) e
 
--- no cause where a test fails or holds
+-- if there is no cause, the test fails, and there is no other cause either
 pub none_else : (b : Bool) (o : Option Cause) (c : Cause) → cond b (Some c) o ≡ None → (b ≡ false) × (o ≡ None)
 none_else true o c e = absurd cc
 none_else false o c e = (refl, e)
 
--- no cause where only a test that fails gives one
+-- if there is no cause, the test holds
 none_then : (b : Bool) (c : Cause) → cond b None (Some c) ≡ None → b ≡ true
 none_then true c e = refl
 none_then false c e = absurd cc
 
--- an accepted payload of exactly so many bytes has them
+-- an accepted payload of the extent `Exactly n` has n bytes
 pub exactly : (n got : ℕ) → length_cause (Exactly n) got ≡ None → got ≡ n
 exactly n got e = eqb-true got n (none_then (got == n) (WrongLength n got) e)
 
@@ -49,11 +49,11 @@ size_reached (AtLeast n) got h = ltb-false got n (none_else (nat_lt got n) None 
 size_reached (Fixed n) got h = ltb-false got n (none_else (nat_lt got n) _ (TooShort n got) h).0
 size_reached (Multiple n) got h = omega arith
 
--- an accepted payload has a multiple of so many bytes
+-- the length of an accepted payload of the extent `Multiple n` is a multiple of n
 pub multiple : (n got : ℕ) → length_cause (Multiple n) got ≡ None → got % n ≡ 0
 multiple n got e = eqb-true (got % n) 0 (none_then (got % n == 0) (WrongLength n got) e)
 
--- a multiple of so many bytes is accepted
+-- a payload is accepted if its length is a multiple of n
 pub at_multiple : (n got : ℕ) → got % n ≡ 0 → length_cause (Multiple n) got ≡ None
 at_multiple n got h = cond-true (got % n == 0) None _ (eq-eqb (got % n) 0 h)
 
@@ -61,7 +61,7 @@ at_multiple n got h = cond-true (got % n == 0) None _ (eq-eqb (got % n) 0 h)
 zero_mod : (n : ℕ) → 0 % n ≡ 0
 zero_mod n = grind arith
 
--- exactly the bytes that have a meaning are accepted
+-- a payload of exactly the bytes that have a meaning is accepted
 pub at_size : (e : Extent) (got : ℕ) → got ≡ size_of e → length_cause e got ≡ None
 at_size (Exactly n) got h = cond-true (got == n) None _ (eq-eqb got n h)
 at_size (AtLeast n) got h = cond-false (nat_lt got n) _ None (le-ltb got n (omega arith))
@@ -83,11 +83,11 @@ one_byte [] e = absurd (omega arith)
 one_byte (a ∷ []) e = (a, refl)
 one_byte (a ∷ b ∷ p) e = absurd (omega arith)
 
--- bytes are those of their number
+-- bytes are the bytes of their number
 pub same_bytes : (n : ℕ) (p : List ℕ) → IsBytes p → length p ≡ n → bytes_of n (number p) ≡ p
 same_bytes n p h e = ap (λ k. bytes_of k (number p)) (sym e) ∙ bytes_of-number p h
 
--- the number of so many bytes is below their bound
+-- the number of n bytes is less than 256 to the power of n
 pub number_in : (n : ℕ) (p : List ℕ) → IsBytes p → length p ≡ n → number p < bound n
 number_in n p h e = subst (λ k. number p < bound k) e (number_below p h)
 
@@ -103,12 +103,12 @@ length-name_field text =
 pub written-named : (n : ℕ) (listed : List ℕ) (d : ℕ) → written (named n listed d) ≡ bytes_of n d
 written-named n listed d = cond_both (is_listed listed d) (Name n d) (Unlisted n listed d) (λ v. written v ≡ bytes_of n d) (λ e. refl) (λ e. refl)
 
--- a named number is its own canon
+-- a named number is its own normal form
 pub canon-named : (n : ℕ) (listed : List ℕ) (d : ℕ) → canon (named n listed d) ≡ named n listed d
 canon-named n listed d = cond_both (is_listed listed d) (Name n d) (Unlisted n listed d) (λ v. canon v ≡ named n listed d)
     (λ e. sym (cond-true (is_listed listed d) (Name n d) (Unlisted n listed d) e)) (λ e. refl)
 
--- cutting leaves a named number as it is
+-- `cut` leaves a named number unchanged
 pub cut-named : (n : ℕ) (listed : List ℕ) (d : ℕ) → cut (named n listed d) ≡ named n listed d
 cut-named n listed d = cond_both (is_listed listed d) (Name n d) (Unlisted n listed d) (λ v. cut v ≡ named n listed d)
     (λ e. sym (cond-true (is_listed listed d) (Name n d) (Unlisted n listed d) e))
@@ -116,7 +116,7 @@ cut-named n listed d = cond_both (is_listed listed d) (Name n d) (Unlisted n lis
 
 -- ---- what is written, and the payload
 
--- a truth value is written as it was read where it is zero or one
+-- a boolean is written unchanged if the byte is zero or one
 truth_tidy : (b : ℕ) → (cond (nat_lt 0 (b + 256 * 0)) 1 0 ∷ [] ≡ b ∷ []) ↔ ((b ∷ [] ≡ 0 ∷ []) ⊎ (b ∷ [] ≡ 1 ∷ []))
 truth_tidy b = (
   λ e. cond_both (nat_lt 0 (b + 256 * 0)) 1 0 (λ x. x ∷ [] ≡ b ∷ [] → (b ∷ [] ≡ 0 ∷ []) ⊎ (b ∷ [] ≡ 1 ∷ [])) (λ t h. inr (sym h)) (λ t h. inl (sym h)) e,
@@ -125,7 +125,7 @@ truth_tidy b = (
       (λ one_is. subst (λ l. cond (nat_lt 0 (number l)) 1 0 ∷ [] ≡ l) (sym one_is) refl) h,
 )
 
--- an EtherType is written as it was read where it is one of the two
+-- an EtherType is written unchanged if it is one of the two
 ether_type_tidy : (p : List ℕ) → (reverse (bytes_of 2 (cond (number (reverse p) == 0x88A8) 0x88A8 0x8100)) ≡ p) ↔ ((p ≡ 0x81 ∷ 0x00 ∷ []) ⊎ (p ≡ 0x88 ∷ 0xA8 ∷ []))
 ether_type_tidy p = (
   λ e. cond_both (number (reverse p) == 0x88A8) 0x88A8 0x8100 (λ d. reverse (bytes_of 2 d) ≡ p → (p ≡ 0x81 ∷ 0x00 ∷ []) ⊎ (p ≡ 0x88 ∷ 0xA8 ∷ []))
@@ -135,15 +135,15 @@ ether_type_tidy p = (
       (λ ad_is. subst (λ l. reverse (bytes_of 2 (cond (number (reverse l) == 0x88A8) 0x88A8 0x8100)) ≡ l) (sym ad_is) refl) h,
 )
 
--- the first of two bytes is written as it was read where the second is zero
+-- the first of two bytes is written unchanged if the second is zero
 low_tidy : (a b : ℕ) → (a ∷ 0 ∷ [] ≡ a ∷ b ∷ []) ↔ (b ≡ 0)
 low_tidy a b = (λ e. cc, λ e. ap (λ x. a ∷ x ∷ []) (sym e))
 
--- octets are written as they were read where nothing follows them
+-- bytes are written unchanged if nothing follows them
 octets_tidy : (n : ℕ) (p : List ℕ) → n ≤ length p → (take n p ≡ p) ↔ (length p ≡ n)
 octets_tidy n p le = (λ e. omega (arith, ap length e, length-take n p), λ e. take_all n p (omega arith))
 
--- limits are written as they were read where nothing follows them and the name field is canonical
+-- limits are written unchanged if nothing follows them and the name field is canonical
 limits_tidy : (p : List ℕ) → 48 ≤ length p
     → (name_field (name_of (take 16 p)) ++ take 32 (drop 16 p) ≡ p) ↔ ((length p ≡ 48) × IsNameField (take 16 p))
 limits_tidy p le = (
@@ -156,7 +156,7 @@ limits_tidy p le = (
   λ h. ap₂ (λ a b. a ++ b) ((fixed_iff (take 16 p)).1 h.1) (take_all 32 (drop 16 p) (omega (arith, h.0, length-drop 16 p))) ∙ take-append-drop 16 p,
 )
 
--- what is written is the payload, exactly where it is tidy
+-- what is written is the payload if and only if it is tidy
 pub tidy_iff : (c : Class) (p : List ℕ) → IsBytes p → length_cause (extent c) (length p) ≡ None → (written (meant c p) ≡ p) ↔ IsTidy c p
 tidy_iff (Unsigned n) p h e = (λ q. tt, λ q. same_bytes n p h (exactly n (length p) e))
 tidy_iff Signed p h e =

@@ -1,4 +1,4 @@
--- The laws of what the payloads of a row mean: of one class, a nested list, or addresses.
+-- The laws of the shapes of a row: one class, a nested list, or addresses.
 use Rattle.std.proofs.Common.{◌≡◌, ◌↔◌, ℕ, ◌≤◌, List, [], ◌∷◌, length, map, None, Result, Ok, Err, refl, sym, ap, subst, ◌∙◌, arith, length-append}
 use Rattle.std.specs.List.{AllByRecursion}
 use Rattle.link_base.specs.Number.{IsBytes}
@@ -21,25 +21,25 @@ use Rattle.link_base.proofs.Rewritings.{fixed_iff_canonical, canonical_reads, ne
 use Rattle.link_base.proofs.Leaves.{leaf_reading, leaf_holding, leaf_writing, leaf_short, length-leaf_cut}
 use Rattle.link_base.proofs.Addresses.{payload_reading, payloads, read_payloads, payloads_are, octets-frames, of_length-addresses, length-whole, complete_addresses, bytes-addresses, short-addresses}
 
--- ---- readings
+-- ---- decoding
 
--- a list under a kind reads as one thing
+-- a list of attribute type k has one result only
 list_reading : {V : Type 0} (gives : Reading V) (content : List V → Content) (k : ℕ) (p : List ℕ) (r q : Result AttrValue DecodeFault) → IsReading gives
     → ListGives gives content k p r → ListGives gives content k p q → r ≡ q
 list_reading gives content k p r q laws a b = a.2 ∙ ap (list_case content k) (reads_one laws p a.0 b.0 a.1 b.1) ∙ sym b.2
 
--- a list under a kind reads as something
+-- a list of attribute type k has a result
 list_decided : {V : Type 0} (gives : Reading V) (content : List V → Content) (k : ℕ) (p : List ℕ) → IsReading gives → IsBytes p
     → (r : Result AttrValue DecodeFault) × ListGives gives content k p r
 list_decided gives content k p laws hp = let read = reads_some laws p hp in (list_case content k read.0, (read.0, read.1, refl))
 
--- a payload reads as something
+-- a payload has a result
 pub shape_decided : (s : Shape) (k : ℕ) (p : List ℕ) → IsBytes p → (r : Result AttrValue DecodeFault) × ShapeGives s k p r
 shape_decided (One c) k p hp = (single_case k (class_value c p), refl)
 shape_decided (Nested flagged rows) k p hp = list_decided (LeafGives rows) (Inner flagged) k p (leaf_reading rows) hp
 shape_decided (Addresses n) k p hp = list_decided PayloadGives (λ ps. Listed (of_length n ps)) k p payload_reading hp
 
--- a payload reads as one thing only
+-- a payload has one result only
 pub shape_one : (s : Shape) (k : ℕ) (p : List ℕ) (r q : Result AttrValue DecodeFault) → ShapeGives s k p r → ShapeGives s k p q → r ≡ q
 shape_one (One c) k p r q a b = a ∙ sym b
 shape_one (Nested flagged rows) k p r q a b = list_reading (LeafGives rows) (Inner flagged) k p r q (leaf_reading rows) a b
@@ -47,24 +47,24 @@ shape_one (Addresses n) k p r q a b = list_reading PayloadGives (λ ps. Listed (
 
 -- ---- what a payload means
 
--- the content of a payload that reads as a value
+-- the content of a payload that decodes to a value
 abbrev pub Means : Shape → List ℕ → Content → Type 0
 Means (One c) p content = (length_cause (extent c) (length p) ≡ None) × (content ≡ Single (meant c p))
 Means (Nested flagged rows) p content = (vs : List Leaf) × Wire (LeafGives rows) p vs × (content ≡ Inner flagged vs)
 Means (Addresses n) p content = (xs : List Frame) × Frames p xs × (content ≡ Listed (of_length n (payloads xs)))
 
--- the value of a case of one class
+-- the value of a variant with one class
 single_ok : (k : ℕ) (r : Result Value Cause) (v : AttrValue) → ok v ≡ single_case k r → (w : Value) × (r ≡ Ok w) × (v ≡ Case k (Single w))
 single_ok k (Ok w) v e = (w, refl, same_ok v (Case k (Single w)) e)
 single_ok k (Err c) v e = absurd cc
 
--- the values of a case that is a list
+-- the values of a variant that is a list
 list_ok : {V : Type 0} (gives : Reading V) (content : List V → Content) (k : ℕ) (p : List ℕ) (v : AttrValue) (q : Result (List V) (ℕ × DecodeFault))
     → Reads gives p q → ok v ≡ list_case content k q → (vs : List V) × Wire gives p vs × (v ≡ Case k (content vs))
 list_ok gives content k p v (Ok vs) w e = (vs, w, same_ok v (Case k (content vs)) e)
 list_ok gives content k p v (Err h) w e = absurd cc
 
--- the value of a payload is a case with its content
+-- the value of a payload is a variant with its content
 pub content_of : (s : Shape) (k : ℕ) (p : List ℕ) (v : AttrValue) → ShapeGives s k p (Ok v) → (c : Content) × Means s p c × (v ≡ Case k c)
 content_of (One c) k p v h =
     let read = single_ok k (class_value c p) v h in
@@ -78,7 +78,7 @@ content_of (Addresses n) k p v h =
     let w = all.1 in
     (Listed (of_length n all.0), (w.frames, w.string, ap (λ ps. Listed (of_length n ps)) (payloads_are w.frames all.0 w.values)), all.2)
 
--- a payload reads as the case with its content
+-- a payload decodes to the variant with its content
 pub content_given : (s : Shape) (k : ℕ) (p : List ℕ) (c : Content) → Means s p c → ShapeGives s k p (Ok (Case k c))
 content_given (One d) k p c m = sym (ap (single_case k) (value_of_accepted d p m.0) ∙ ap (λ e. ok (Case k e)) (sym m.1))
 content_given (Nested flagged rows) k p c m = (Ok m.0, m.1, ap (λ e. ok (Case k e)) m.2)
@@ -87,7 +87,7 @@ content_given (Addresses n) k p c m =
 
 -- ---- contents in range
 
--- what is written for a content in range is bytes
+-- what is written for a content in range consists of bytes
 pub content_bytes : (s : Shape) (c : Content) → ContentInRange s c → IsBytes (content_payload c)
 content_bytes (One k) (Single v) h = written_bytes k v h
 content_bytes (Nested flagged rows) (Inner flag vs) h = bytes-written (leaf_holding rows) vs h.1
@@ -101,7 +101,7 @@ content_flagged (Nested flagged rows) (Inner flag vs) h = ap nested_flag h.0
 content_flagged (Addresses n) (Listed octets) h = refl
 content_flagged s c h = absurd h
 
--- what fits in all fits one by one
+-- if a nested list fits, each of its values does
 leaves_fit : (vs : List Leaf) → length (written_leaves vs) ≤ 65531 → AllByRecursion (FitsBy leaf_payload) vs
 leaves_fit [] fit = tt
 leaves_fit (v ∷ vs) fit =
@@ -110,11 +110,11 @@ leaves_fit (v ∷ vs) fit =
     let own = length-frame_bytes x in
     (omega arith, leaves_fit vs (omega arith))
 
--- the sizes of addresses
+-- the lengths of addresses
 sizes : (n : ℕ) (octets : List (List ℕ)) → AllByRecursion (IsOctets n) octets → AllByRecursion (λ a. length a ≡ n) octets
 sizes n octets h = all_each (IsOctets n) (λ a. length a ≡ n) (λ a k. k.0) octets h
 
--- what is written for addresses means these
+-- what is written for addresses decodes to these addresses
 addresses_mean : (n : ℕ) (octets : List (List ℕ)) → AllByRecursion (IsOctets n) octets → length (spelled (addresses_from 0 octets)) ≤ 65531
     → Means (Addresses n) (spelled (addresses_from 0 octets)) (Listed octets)
 addresses_mean n octets h fit =
@@ -124,7 +124,7 @@ addresses_mean n octets h fit =
       ap Listed (sym (of_length-addresses n 0 octets (sizes n octets h))),
     )
 
--- what is written for a content in range means its canon, cut
+-- what is written for a content in range decodes to its normal form, after `cut`
 pub content_back : (s : Shape) (c : Content) → ContentInRange s c → ContentHidesNone s c → length (content_payload c) ≤ 65531 → Means s (content_payload c) (content_cut (content_canon c))
 content_back (One k) (Single v) h none fit =
     let is = accepted_meaning k (written v) (Class.cut (Class.canon v)) (back k v h) in
@@ -134,7 +134,7 @@ content_back (Nested flagged rows) (Inner flag vs) h none fit =
 content_back (Addresses n) (Listed octets) h none fit = addresses_mean n octets h fit
 content_back s c h none fit = absurd h
 
--- cutting leaves an uncut content and its canon as they are
+-- `cut` leaves an uncut content and its normal form unchanged
 pub content_uncut_stays : (s : Shape) (c : Content) → ContentInRange s c → ContentIsUncut c → (content_cut c ≡ c) × (content_cut (content_canon c) ≡ content_canon c)
 content_uncut_stays (One k) (Single v) h u = let stays = uncut_stays k v h u in (ap Single stays.0, ap Single stays.1)
 content_uncut_stays (Nested flagged rows) (Inner flag vs) h u =
@@ -143,15 +143,15 @@ content_uncut_stays (Nested flagged rows) (Inner flag vs) h u =
 content_uncut_stays (Addresses n) (Listed octets) h u = (refl, refl)
 content_uncut_stays s c h u = absurd h
 
--- ---- contents that were read
+-- ---- decoded contents
 
--- a content that was read is in range, hides none, and is its own canon
+-- a decoded content is in range, hides none, and is its own normal form
 pub record IsReadContent (s : Shape) (c : Content) : Type 0 where
   pub in_range : ContentInRange s c
   pub hides_none : ContentHidesNone s c
   pub own : content_canon c ≡ c
 
--- the content of a payload of bytes is so
+-- the content of a payload of bytes is such a content
 pub read_content : (s : Shape) (p : List ℕ) (c : Content) → IsBytes p → Means s p c → IsReadContent s c
 read_content (One k) p c hp m =
     subst (IsReadContent (One k)) (sym m.1) (record { in_range = meant_in_range k p hp m.0; hides_none = tt; own = ap Single (meant_canon k p) })
@@ -161,7 +161,7 @@ read_content (Nested flagged rows) p c hp m =
 read_content (Addresses n) p c hp m =
     subst (IsReadContent (Addresses n)) (sym m.2) (record { in_range = octets-frames n m.0 (known_of p m.0 hp m.1); hides_none = tt; own = refl })
 
--- ---- a nested list, rewritten
+-- ---- a nested list, re-encoded
 
 -- each attribute of a nested list fits
 leaves_short : (rows : Rows) (xs : List Frame) (vs : List Leaf) → AllByRecursion IsKnown xs → ReadEach (LeafGives rows) xs vs → AllByRecursion (FitsBy leaf_payload) vs
@@ -172,12 +172,12 @@ leaves_short rows (x ∷ xs) (v ∷ vs) k r =
     let short = leaf_short rows x.kind_field x.payload v k.0.kind_field k.0.bytes r.0 in
     (omega (arith, k.0.payload), leaves_short rows xs vs k.1 r.1)
 
--- each nested list that was read has a rewriting
+-- each decoded nested list has a rewriting
 abbrev rewritten : (rows : Rows) (p : List ℕ) (vs : List Leaf) → IsBytes p → Wire (LeafGives rows) p vs → RewritingBy (LeafGives rows) leaf_field leaf_payload p (written_leaves vs)
 rewritten rows p vs hp w =
     record { values = vs; wire = w; string = refl; fit = leaves_short rows w.frames vs (known_of p w.frames hp w.string) w.values }
 
--- cutting changes no length
+-- `cut` changes no length
 length-leaves_cut : (vs : List Leaf) → length (written_leaves (map leaf_cut vs)) ≡ length (written_leaves vs)
 length-leaves_cut [] = refl
 length-leaves_cut (v ∷ vs) =
@@ -193,9 +193,9 @@ length-leaves_cut (v ∷ vs) =
       length-whole (leaf_field v) (leaf_payload v),
     )
 
--- ---- what is written for a content that was read
+-- ---- what is written for a decoded content
 
--- what is written for a content that was read is the payload where this is canonical
+-- what is written for a decoded content is the payload if the payload is canonical
 pub content_stays : (s : Shape) (p : List ℕ) (c : Content) → IsBytes p → Means s p c → IsCanonicalContent s p → content_payload c ≡ p
 content_stays (One k) p c hp m a = ap content_payload m.1 ∙ (tidy_iff k p hp m.0).1 a.is_tidy
 content_stays (Nested flagged rows) p c hp m a =
@@ -206,7 +206,7 @@ content_stays (Addresses n) p c hp m a =
     let are : of_length n (payloads m.0) ≡ a.addresses = ap (λ xs. of_length n (payloads xs)) same ∙ of_length-addresses n 0 a.addresses a.each in
     ap content_payload m.2 ∙ ap (λ t. spelled (addresses_from 0 t)) are ∙ sym a.string
 
--- and the payload is canonical where it is what is written
+-- the payload is canonical if it is what is written for its content
 pub content_allowed : (s : Shape) (p : List ℕ) (c : Content) → IsBytes p → length p ≤ 65531 → Means s p c → content_payload c ≡ p → IsCanonicalContent s p
 content_allowed (One k) p c hp hl m e = record { is_accepted = m.0; is_tidy = (tidy_iff k p hp m.0).0 (sym (ap content_payload m.1) ∙ e) }
 content_allowed (Nested flagged rows) p c hp hl m e =
@@ -226,7 +226,7 @@ content_reads (Addresses n) p hp a =
     let own = addresses_from 0 a.addresses in
     (Listed (of_length n (payloads own)), (own, record { frames = AreFrames-complete own a.complete; string = a.string }, refl))
 
--- what is written for a content that was read is no longer than the payload, padded
+-- what is written for a decoded content is no longer than the payload, padded
 pub content_length : (s : Shape) (p : List ℕ) (c : Content) → IsBytes p → Means s p c → length (content_payload c) ≤ pad (length p)
 content_length (One k) p c hp m = let short = written_short k p m.0 in omega (arith, ap (λ d. length (content_payload d)) m.1)
 content_length (Nested flagged rows) p c hp m =
@@ -235,7 +235,7 @@ content_length (Nested flagged rows) p c hp m =
 content_length (Addresses n) p c hp m =
     omega (arith, ap (λ d. length (content_payload d)) m.2, short-addresses n 0 m.0 m.1.frames, ap length m.1.string)
 
--- what is written for a content that was read, cut, is canonical
+-- what is written for a decoded content after `cut` is canonical
 pub content_cut_allowed : (s : Shape) (p : List ℕ) (c : Content) → IsBytes p → Means s p c → length (content_payload c) ≤ 65531
     → IsCanonicalContent s (content_payload (content_cut c))
 content_cut_allowed (One k) p c hp m fit =
@@ -250,19 +250,19 @@ content_cut_allowed (Addresses n) p c hp m fit =
     subst (λ d. IsCanonicalContent (Addresses n) (content_payload (content_cut d))) (sym m.2)
     (record { addresses = octets; each = sizes n octets each; complete = complete_addresses 0 octets (omega arith); string = refl })
 
--- cutting changes no flag
+-- `cut` changes no flag
 pub content_cut_flag : (c : Content) → content_flag (content_cut c) ≡ content_flag c
 content_cut_flag (Single v) = refl
 content_cut_flag (Inner flagged vs) = refl
 content_cut_flag (Listed octets) = refl
 
--- cutting changes no length
+-- `cut` changes no length
 pub length-content_cut : (c : Content) → length (content_payload (content_cut c)) ≡ length (content_payload c)
 length-content_cut (Single v) = length-cut v
 length-content_cut (Inner flagged vs) = length-leaves_cut vs
 length-content_cut (Listed octets) = refl
 
--- cutting again changes nothing
+-- a second `cut` changes nothing
 pub content_cut_once : (s : Shape) (p : List ℕ) (c : Content) → IsBytes p → Means s p c → content_cut (content_cut c) ≡ content_cut c
 content_cut_once (One k) p c hp m = subst (λ d. content_cut (content_cut d) ≡ content_cut d) (sym m.1) (ap Single (cut_again k p))
 content_cut_once (Nested flagged rows) p c hp m =

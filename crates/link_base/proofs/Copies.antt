@@ -1,4 +1,4 @@
--- Lists that are copied element by element.
+-- Lists that are copied one element at a time.
 use Rattle.std.proofs.Common.{◌≡◌, Bool, true, nat_eq, List, [], ◌∷◌, ◌++◌, map, true≢false, refl, sym, subst, ap₂, ◌∙◌}
 use Rattle.std.proofs.lemmas.List.{map-append}
 use Rattle.std.specs.Cmp.{IsEquivalence, nat_eq_equiv, on_equiv, first_so, second_so}
@@ -9,20 +9,20 @@ use Rattle.std.specs.declared.net.ipv6_addr.Ipv6Addr.{Ipv6Addr}
 use Rattle.link_base.specs.Table.{Leaf, Case, Other}
 use Rattle.link_base.specs.Lift.{lift}
 
--- two elements of a nested list are one where they are one attribute
+-- two elements of a nested list are equal if they are equal as attributes
 pub one_leaf : (a b : Leaf) → lift a ≡ lift b → a ≡ b
 one_leaf (Case k v) (Case l w) e = cc
 one_leaf (Case k v) (Other g q) e = cc
 one_leaf (Other f p) (Case l w) e = cc
 one_leaf (Other f p) (Other g q) e = cc
 
--- one element more that means the same
+-- one more element with the same meaning
 pub same_more : {A M : Type 0} (means : A → M) (xs ys : List A) (x y : A) → map means xs ≡ map means ys → means x ≡ means y
     → map means (xs ++ x ∷ []) ≡ map means (ys ++ y ∷ [])
 same_more means xs ys x y h e =
     map-append means xs (x ∷ []) ∙ ap₂ (λ ms m. ms ++ m ∷ []) h e ∙ sym (map-append means ys (y ∷ []))
 
--- one equal element more
+-- one more element that is equal
 pub equal_more : {A : Type 0} (E : A → A → Bool) (xs ys : List A) (x y : A) → pointwise E xs ys ≡ true → E x y ≡ true
     → pointwise E (xs ++ x ∷ []) (ys ++ y ∷ []) ≡ true
 equal_more E [] [] x y h e = both_true e refl
@@ -31,7 +31,7 @@ equal_more E (a ∷ xs) [] x y h e = absurd (true≢false (sym h))
 equal_more E (a ∷ xs) (b ∷ ys) x y h e =
     both_true (first_so (E a b) (pointwise E xs ys) h) (equal_more E xs ys x y (second_so (E a b) (pointwise E xs ys) h) e)
 
--- ---- lists that are copied whole
+-- ---- lists that are copied in one piece
 
 itself : {A : Type 0} {E : A → A → Bool} → IsEquivalence E → (xs ys : List A) → xs ≡ ys → pointwise E xs ys ≡ true
 itself {E = E} law xs ys e = subst (λ zs. pointwise E xs zs ≡ true) e ((lists_equiv law).refl xs)

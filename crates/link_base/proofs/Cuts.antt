@@ -1,4 +1,4 @@
--- A string is cut into frames in one way only.
+-- Bytes can be split into frames in at most one way.
 use Rattle.std.proofs.Common.{◌≡◌, ℕ, ◌+◌, ◌/◌, ◌%◌, List, [], ◌∷◌, ◌++◌, length, take, drop, refl, sym, ap, ap₂, ◌∙◌, arith, append_assoc, length-append}
 use Rattle.std.proofs.lemmas.List.{take_at, drop_at, append-nil}
 use Rattle.link_base.specs.Frame.{Frame, Frames, IsFrame, IsComplete, AreFrames, frame_bytes, spelled, gap}
@@ -7,7 +7,7 @@ use Rattle.link_base.specs.Frame.{Frame, Frames, IsFrame, IsComplete, AreFrames,
 pub same_frame : (x y : Frame) → x.kind_field ≡ y.kind_field → x.payload ≡ y.payload → x.padding ≡ y.padding → x ≡ y
 same_frame x y f p z = λ i. record { kind_field = f i; payload = p i; padding = z i }
 
--- two ways to cut a list at one place are one
+-- two splits of a list at one index are equal
 pub same_parts : (a b c d : List ℕ) → length a ≡ length c → a ++ b ≡ c ++ d → (a ≡ c) × (b ≡ d)
 same_parts a b c d len e = (
   sym (take_at a b (length a) refl) ∙ ap (take (length a)) e ∙ take_at c d (length a) (sym len),
@@ -24,7 +24,7 @@ pub record SameFront (x y : Frame) (s t : List ℕ) : Type 0 where
   pub payload : x.payload ≡ y.payload
   pub rest : x.padding ++ s ≡ y.padding ++ t
 
--- two frames at the front of one string have one kind field and one payload
+-- two frames at the start of the same bytes have the same `nla_type` and the same payload
 pub SameFront-frames : (x y : Frame) (s t : List ℕ) → IsFrame x → IsFrame y → frame_bytes x ++ s ≡ frame_bytes y ++ t → SameFront x y s t
 SameFront-frames x y s t hx hy e =
     let m = 4 + length x.payload in
@@ -44,11 +44,11 @@ pub AreFrames-head : (x : Frame) (xs : List Frame) → AreFrames (x ∷ xs) → 
 AreFrames-head x [] h = h
 AreFrames-head x (y ∷ xs) h = IsFrame-complete x h.0
 
--- equal payloads are padded alike
+-- complete padding after equal payloads has the same length
 pub same_gap : (x y : Frame) → x.payload ≡ y.payload → gap x.payload ≡ gap y.payload
 same_gap x y e = ap gap e
 
--- frames that spell one string are the same frames
+-- lists of frames with the same bytes are equal
 one_cut_by : (xs ys : List Frame) → AreFrames xs → AreFrames ys → spelled xs ≡ spelled ys → xs ≡ ys
 one_cut_by [] [] hx hy e = refl
 one_cut_by [] (y ∷ ys) hx hy e = absurd cc
@@ -70,6 +70,6 @@ one_cut_by (x ∷ x2 ∷ xs) (y ∷ y2 ∷ ys) hx hy e =
     let parts = same_parts x.padding (spelled (x2 ∷ xs)) y.padding (spelled (y2 ∷ ys)) (omega (arith, hx.0.padding, hy.0.padding)) same.rest in
     ap₂ (λ a b. a ∷ b) (same_frame x y same.kind_field same.payload parts.0) (one_cut_by (x2 ∷ xs) (y2 ∷ ys) hx.1 hy.1 parts.1)
 
--- a string is cut into frames in one way only
+-- bytes can be split into frames in at most one way
 pub one_cut_lem : (s : List ℕ) (xs ys : List Frame) → Frames s xs → Frames s ys → xs ≡ ys
 one_cut_lem s xs ys hx hy = one_cut_by xs ys hx.frames hy.frames (sym hx.string ∙ hy.string)

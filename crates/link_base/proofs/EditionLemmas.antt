@@ -1,4 +1,4 @@
--- Two editions of a table read alike what has no frame of the kinds that the second adds.
+-- Two versions of a table agree on lists without attributes of the types that the second adds.
 use Rattle.std.proofs.Common.{◌≡◌, ℕ, Bool, true, false, not, cond, List, [], ◌∷◌, ◌++◌, Some, Result, Ok, Err, refl, sym, ap, subst, ◌∙◌, inl, inr, true≢false, append_assoc}
 use Rattle.std.specs.Prelude.{◌==◌}
 use Rattle.std.specs.List.{AllByRecursion}
@@ -14,14 +14,14 @@ use Rattle.link_base.proofs.Readings.{ReadEach, HaveValues}
 
 -- ---- tables
 
--- a kind that is not among these is none of them
+-- an attribute type that is not listed differs from each listed one
 other_kind : (kinds : List ℕ) (j k : ℕ) → is_listed kinds k ≡ false → not (is_listed kinds j) ≡ false → (b : Bool) → (j == k) ≡ b → b ≡ false
 other_kind kinds j k h e false is = refl
 other_kind kinds j k h e true is =
     let listed = ap (λ n. not (is_listed kinds n)) (eqb-true j k is) in
     absurd (true≢false (sym (ap not h) ∙ sym listed ∙ e))
 
--- a kind that is not among these has its row still
+-- an attribute type that is not listed keeps its row
 same_row : {C : Type 0} (kinds : List ℕ) (rows : List (Row C)) (k : ℕ) → is_listed kinds k ≡ false → class_at (without kinds rows) k ≡ class_at rows k
 same_row kinds [] k h = refl
 same_row kinds (r ∷ rows) k h =
@@ -32,7 +32,7 @@ same_row kinds (r ∷ rows) k h =
 
 -- ---- frames
 
--- the frame at the front stands in a string
+-- the frame at the start of a list is in the list
 at_front : (x : Frame) (rest : List ℕ) → IsComplete x → StandsIn (frame_bytes x ++ rest) x
 at_front x rest h = record {
   front = [];
@@ -42,7 +42,7 @@ at_front x rest h = record {
   begins = record { rest = rest; is = IsFrame-complete x h; string = refl };
 }
 
--- what stands behind a complete frame stands in both, joined
+-- what is in a list is still in it after a complete frame is put before it
 behind : (x y : Frame) (rest : List ℕ) → IsComplete x → StandsIn rest y → StandsIn (frame_bytes x ++ rest) y
 behind x y rest h stands = record {
   front = x ∷ stands.front;
@@ -52,15 +52,15 @@ behind x y rest h stands = record {
   begins = stands.begins;
 }
 
--- each frame that stands in the string has a kind field of which this is so
+-- `Holds` is true for the `nla_type` of each frame in the list
 abbrev Each : (ℕ → Type 0) → List ℕ → Type 0
 Each Holds s = (x : Frame) → StandsIn s x → Holds x.kind_field
 
--- so it is behind a complete frame
+-- it is also true in what follows a complete frame
 rest_of : (Holds : ℕ → Type 0) (x : Frame) (rest : List ℕ) → IsComplete x → Each Holds (frame_bytes x ++ rest) → Each Holds rest
 rest_of Holds x rest h each y stands = each y (behind x y rest h stands)
 
--- the first of some frames stands in their bytes
+-- the first of some frames is in their bytes
 first_stands : (x : Frame) (xs : List Frame) → AreFrames (x ∷ xs) → StandsIn (spelled (x ∷ xs)) x
 first_stands x xs h = record {
   front = [];
@@ -70,11 +70,11 @@ first_stands x xs h = record {
   begins = record { rest = spelled xs; is = AreFrames-head x xs h; string = refl };
 }
 
--- ---- readings
+-- ---- decoding
 
 module _ {V : Type 0} (one two : Reading V) (Holds : ℕ → Type 0)
     (same : (f : ℕ) (p : List ℕ) (r : Result V DecodeFault) → Holds f → one f p r → two f p r) where
-  -- frames that have values in one reading have them in the other
+  -- frames that decode to values in one way also do in the other
   each_value : (xs : List Frame) (vs : List V) → AreFrames xs → Each Holds (spelled xs) → ReadEach one xs vs → ReadEach two xs vs
   each_value [] vs are each h = h
   each_value (x ∷ xs) [] are each h = h
@@ -94,7 +94,7 @@ module _ {V : Type 0} (one two : Reading V) (Holds : ℕ → Type 0)
         have_values xs rest h.1 (rest_of Holds x (spelled xs ++ rest) h.0 next) values.1,
       )
 
-  -- and a fault at the front of the rest
+  -- so does an error at the start of the rest
   faults_here : (front : List Frame) (rest : List ℕ) (fault : DecodeFault) → AllByRecursion IsComplete front → Each Holds (spelled front ++ rest)
       → FaultsHere one rest fault → FaultsHere two rest fault
   faults_here front rest fault h each (inl cause) = inl cause
@@ -102,7 +102,7 @@ module _ {V : Type 0} (one two : Reading V) (Holds : ℕ → Type 0)
       let stands : StandsIn (spelled front ++ rest) bad.0 = record { front = front; rest = rest; string = refl; complete = h; begins = bad.1 } in
       inr (bad.0, bad.1, same bad.0.kind_field bad.0.payload (Err fault) (each bad.0 stands) bad.2)
 
-  -- a string reads alike
+  -- a list decodes to the same result
   pub reads_as : (s : List ℕ) (q : Result (List V) (ℕ × DecodeFault)) → Each Holds s → Reads one s q → Reads two s q
   reads_as s (Ok vs) each w = record {
     frames = w.frames;
@@ -122,10 +122,10 @@ module _ {V : Type 0} (one two : Reading V) (Holds : ℕ → Type 0)
         here = faults_here f.front f.rest e.1 f.complete here f.here;
       }
 
--- ---- canonical strings
+-- ---- canonical lists
 
 module _ (one two : ℕ → List ℕ → Type 0) (Holds : ℕ → Type 0) (same : (f : ℕ) (p : List ℕ) → Holds f → one f p → two f p) where
-  -- canonical frames are canonical
+  -- frames that are canonical in one way are in the other
   canonical_frames : (xs : List Frame) → Each Holds (spelled xs) → AllByRecursion (IsCanonicalFrame one) xs → AllByRecursion (IsCanonicalFrame two) xs
   canonical_frames [] each h = tt
   canonical_frames (x ∷ xs) each h = (
@@ -137,14 +137,14 @@ module _ (one two : ℕ → List ℕ → Type 0) (Holds : ℕ → Type 0) (same 
     canonical_frames xs (rest_of Holds x (spelled xs) h.0.complete each) h.1,
   )
 
-  -- a string is canonical in the other too
+  -- a list that is canonical in one way is in the other
   pub canonical_as : (s : List ℕ) → Each Holds s → CanonicalBy one s → CanonicalBy two s
   canonical_as s each c = record { frames = c.frames; string = c.string; each = canonical_frames c.frames (subst (Each Holds) c.string each) c.each }
 
--- ---- editions
+-- ---- versions of tables
 
 module _ (kinds : List ℕ) (table : Table) where
-  -- the kind field has none of the kinds
+  -- `nla_type` has none of the attribute types
   abbrev IsOther : ℕ → Type 0
   IsOther f = is_listed kinds (kind_of f) ≡ false
 
@@ -160,7 +160,7 @@ module _ (kinds : List ℕ) (table : Table) where
   allows_first : (f : ℕ) (p : List ℕ) → IsOther f → Allows table f p → Allows (without kinds table) f p
   allows_first f p h = subst (λ o. allows_by o f p) (sym (same_row kinds table (kind_of f) h))
 
-  -- a table without the rows of some kinds is an edition before it
+  -- a table without the rows of some attribute types is its previous version
   pub editions : kinds_of (among kinds table) ≡ kinds → AreEditions kinds (without kinds table) table
   editions new = record {
     rows = refl;

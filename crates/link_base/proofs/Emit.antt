@@ -1,4 +1,4 @@
--- A frame is written in three parts, and a list one frame after another.
+-- A frame is written in three parts, and a list one frame at a time.
 use Rattle.std.proofs.Common.{◌≡◌, ℕ, ◌+◌, ◌-◌, ◌*◌, ◌/◌, ◌^◌, ◌≤◌, ◌<◌, min, List, [], ◌∷◌, ◌++◌, length, take, drop, get_or, map, zero, suc, refl, sym, ap, subst, ◌∙◌, append_assoc, arith}
 use Rattle.std.specs.Prelude.{replicate}
 use Rattle.std.specs.List.{AllByRecursion}
@@ -17,7 +17,7 @@ use Rattle.link_base.specs.Answers.{OverwritesFront, IsFirstUnfit, capped}
 pub length-whole_bytes : (f : ℕ) (p : List ℕ) → length (frame_bytes (whole f p)) ≡ pad (4 + length p)
 length-whole_bytes f p = omega (arith, length-append p (replicate (gap p) 0), length-replicate {A = ℕ} (gap p) 0)
 
--- zeros over its last four bytes, then header and payload, are the frame
+-- after zeros over its last four bytes, header and payload complete the frame
 pub put_frame : (b0 b1 b2 b3 : List ℕ) (f : ℕ) (p : List ℕ) (n end : ℕ) → n ≡ length p → end ≡ pad (4 + length p) → end ≤ length b0
     → b1 ≡ take (end - 4) b0 ++ (replicate 4 0 ++ drop (end - 4 + 4) b0) → b2 ≡ (bytes_of 2 (4 + n) ++ bytes_of 2 f) ++ drop 4 b1 → b3 ≡ put_mid 4 n b2 p → OverwritesFront b0 b3 (frame_bytes (whole f p))
 put_frame b0 b1 b2 b3 f p n end e-n e-end room e1 e2 e3 =
@@ -44,7 +44,7 @@ put_frame b0 b1 b2 b3 f p n end e-n e-end room e1 e2 e3 =
     ∙ ap (λ m. (head ++ p) ++ (replicate m 0 ++ tail)) gaps ∙ ap (λ i. (head ++ p) ++ (replicate (gap p) 0 ++ drop i b0)) long
     ∙ ap (λ m. ((bytes_of 2 (4 + m) ++ bytes_of 2 f) ++ p) ++ (replicate (gap p) 0 ++ behind)) e-n ∙ whole_frame
 
--- ---- one frame after another
+-- ---- one frame at a time
 
 module _ {X V : Type 0} (means : X → V) where
   -- one more element of a list
@@ -52,7 +52,7 @@ module _ {X V : Type 0} (means : X → V) where
   one_more xs i x lt is =
       ap (map means) (take_more xs i x lt ∙ ap (λ y. take i xs ++ y ∷ []) (sym is)) ∙ map-append means (take i xs) (x ∷ [])
 
-  -- a fact of the values so far and of the next
+  -- a fact about the values so far and the next one
   pub all_more : (P : V → Type 0) (xs : List X) (i : ℕ) (x : X) → i < length xs → x ≡ get_or xs i x → AllByRecursion P (map means (take i xs)) → P (means x) → AllByRecursion P (map means (take (i + 1) xs))
   all_more P xs i x lt is all here = subst (AllByRecursion P) (sym (one_more xs i x lt is)) (push (map means (take i xs)) all)
     where
@@ -60,7 +60,7 @@ module _ {X V : Type 0} (means : X → V) where
       push [] h = (here, tt)
       push (v ∷ vs) h = (h.0, push vs h.1)
 
-  -- each element's own fact
+  -- the fact about each element
   pub all_at : (P : V → Type 0) (xs : List X) (i : ℕ) (d : X) → AllByRecursion P (map means xs) → i < length xs → P (means (get_or xs i d))
   all_at P [] i d all lt = absurd (omega arith)
   all_at P (x ∷ xs) zero d all lt = all.0
@@ -73,7 +73,7 @@ module _ {X : Type 0} (means : X → AttrValue) where
       ap written_list (one_more means xs i x lt is) ∙ flat_map-append written_frame (map means (take i xs)) (means x ∷ [])
       ∙ ap (λ (t : List ℕ). written_list (map means (take i xs)) ++ t) (append-nil (written_frame (means x)))
 
-  -- what is written so far and the next frame are no longer than the whole
+  -- what is written so far and the next frame are together no longer than the whole list
   pub written_room : (xs : List X) (i : ℕ) (x : X) → i < length xs → x ≡ get_or xs i x → length (written_list (map means (take i xs))) + length (written_frame (means x)) ≤ length (written_list (map means xs))
   written_room xs i x lt is =
       let front = take (i + 1) xs in
@@ -83,7 +83,7 @@ module _ {X : Type 0} (means : X → AttrValue) where
       let more = written_more xs i x lt is in
       omega (arith, ap length split, length-append (written_list (map means front)) (written_list (map means back)), ap length more, length-append (written_list (map means (take i xs))) (written_frame (means x)))
 
-  -- the first value that does not fit, where all before it do
+  -- the first value that does not fit, if all before it fit
   pub first_unfit_at : (xs : List X) (i : ℕ) (x : X) → i < length xs → x ≡ get_or xs i x → AllByRecursion Fits (map means (take i xs)) → 65531 < length (written_payload (means x)) → IsFirstUnfit (map means xs) i
   first_unfit_at xs i x lt is all long =
       let front = take (i + 1) xs in
@@ -111,11 +111,11 @@ frame_after b0 b b' text frame sub at so_far e-at room e-sub e-b' =
     let part : sub ≡ frame ++ drop (length (text ++ frame)) b0 = e-sub ∙ ap (λ (t : List ℕ). frame ++ drop (length frame) t) all ∙ ap (λ (t : List ℕ). frame ++ t) far in
     e-b' ∙ rw (front, past, part) (simp (append_assoc, append-nil))
 
--- so many bytes, and a frame more
+-- the length of a list after one more frame
 pub measured_more : (n size : ℕ) (text frame : List ℕ) → n ≡ capped (length text) → length frame ≡ (size + 7) / 4 * 4 → min (n + (size + 7) / 4 * 4) (2 ^ 64 - 1) ≡ capped (length (text ++ frame))
 measured_more n size text frame e len = omega (arith, e, len, length-append text frame)
 
--- where a value does not fit, not all do
+-- if one value does not fit, not all fit
 pub not_all_fit : (vs : List AttrValue) (i : ℕ) → IsFirstUnfit vs i → AllByRecursion Fits vs → ⊥
 not_all_fit vs i u all = past u.before (subst (AllByRecursion Fits) u.values all)
   where

@@ -1,4 +1,4 @@
--- Sets of bits where every bit is known.
+-- Sets of bits in which every bit is known.
 use Rattle.std.specs.Bool.{◌==◌}
 use Rattle.std.specs.Prelude.{not, false, ◌≢◌, ◌↔◌, min, max}
 use Rattle.std.proofs.Common.{◌≡◌, ℕ, zero, suc, ◌-◌, ◌/◌, ◌^◌, ◌<◌, ◌≤◌, ap, sym, ◌∙◌, arith}
@@ -16,7 +16,7 @@ use Rattle.std.proofs.lemmas.Cmp.{nat_eq_equiv}
 pub all_kept : (size known n : ℕ) → known ≡ 2 ^ size - 1 → n < 2 ^ size → bit_and n known ≡ n
 all_kept size known n every h = ap (λ k. bit_and n k) every ∙ and_mask n size ∙ mod-eq_of_lt h
 
--- known bits and others are the known ones
+-- the known bits in union with others are the known bits
 pub all_with : (size known n : ℕ) → known ≡ 2 ^ size - 1 → n < 2 ^ size → bit_or known n ≡ known
 all_with size known n every h =
     let kept = and_comm known n ∙ all_kept size known n every h in

@@ -1,4 +1,4 @@
--- What an iterator over frames gives in a whole run.
+-- The items of an iterator over frames that is run to its end.
 use Rattle.std.proofs.Common.{◌≡◌, ◌≢◌, ◌⊎◌, ℕ, ◌+◌, ◌/◌, ◌<◌, ◌≤◌, min, List, [], ◌∷◌, ◌++◌, length, map, Option, Some, None, Result, Ok, Err, refl, sym, ap, subst, ◌∙◌, arith, inl, inr, append_assoc}
 use Rattle.std.specs.Iterator.{Yields, Drains}
 use Rattle.std.proofs.lemmas.List.{length-append, length-drop}
@@ -21,7 +21,7 @@ Step a r b = NextFrame (bytes_left a) r (bytes_left b)
 long_enough : (s : List ℕ) (x : Frame) → BeginsWith s x → 4 + length x.payload ≤ length s
 long_enough s x b = omega (arith, ap length b.string, length-append (frame_bytes x) b.rest, length-append x.payload x.padding)
 
--- nothing is given where nothing is left
+-- there are no items if nothing is left
 none_left : (a b : NlasIterator) (r : Item) → bytes_left a ≡ [] → Step a (Some r) b → ⊥
 none_left a b (Ok buffer) e h = omega (arith, long_enough (bytes_left a) (frame_of buffer) h.0, ap length e)
 none_left a b (Err error) e h = h.0 e
@@ -108,7 +108,8 @@ run_some : (a b c : NlasIterator) (items : List Item) → Yields Step a items b 
 run_some a b c [] h end = omega (arith, ap (λ it. length (bytes_left it)) h, ap length end.0)
 run_some a b c (r ∷ items) h end = omega arith
 
--- a whole run gives the frames before the first frame fault, and then the fault; no more items than frames can be, and one at least where bytes are left
+-- an iterator that is run to its end returns the frames before the first malformed header, then its error; there are no
+-- more items than there can be frames, and at least one if bytes are left
 pub whole_run : (it : NlasIterator) (items : List Item) → Drains Step it items
     → AreItems (bytes_left it) items × (length items ≤ (length (bytes_left it) + 3) / 4) × (min (length (bytes_left it)) 1 ≤ length items)
 whole_run it items (u, (t, run, end)) = (run_items it t u items run end, run_short it t items run, run_some it t u items run end)

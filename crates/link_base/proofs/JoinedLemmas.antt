@@ -1,4 +1,4 @@
--- A string behind another: where the first is read and is a multiple of four bytes, its values come first.
+-- The concatenation of two lists, if the first decodes and its length is a multiple of four.
 use Rattle.std.proofs.Common.{◌≡◌, ℕ, ◌+◌, ◌-◌, ◌%◌, ◌≤◌, List, [], ◌∷◌, ◌++◌, length, Ok, sym, ap, ap₂, ◌∙◌, arith, append_assoc, length-append}
 use Rattle.std.specs.List.{AllByRecursion}
 use Rattle.link_base.specs.declared.fault.DecodeFault.{DecodeFault}
@@ -8,11 +8,11 @@ use Rattle.link_base.proofs.Fronts.{length-frame_bytes, length-complete}
 use Rattle.link_base.proofs.Readings.{AreFrames-cons, ReadEach, HaveValues}
 use Rattle.link_base.proofs.Written.{spelled-append, all_append}
 
--- a frame that ends at a multiple of four has all its padding
+-- a frame whose length is a multiple of four has complete padding
 last_complete : (n z : ℕ) → z ≤ pad (4 + n) - (4 + n) → (4 + n + z) % 4 ≡ 0 → z ≡ pad (4 + n) - (4 + n)
 last_complete n z le e = omega arith
 
--- frames that are a multiple of four bytes are complete
+-- frames with a total length that is a multiple of four are complete
 all_complete : (xs : List Frame) → AreFrames xs → length (spelled xs) % 4 ≡ 0 → AllByRecursion IsComplete xs
 all_complete [] h e = tt
 all_complete (x ∷ []) h e =
@@ -28,26 +28,26 @@ all_complete (x ∷ y ∷ xs) h e =
     let len = length-complete x h.0 in
     (h.0, all_complete (y ∷ xs) h.1 (omega (arith, length-append (frame_bytes x) (spelled (y ∷ xs)))))
 
--- complete frames before frames
+-- complete frames, then frames
 frames_append : (xs ys : List Frame) → AllByRecursion IsComplete xs → AreFrames ys → AreFrames (xs ++ ys)
 frames_append [] ys h k = k
 frames_append (x ∷ xs) ys h k = AreFrames-cons x (xs ++ ys) h.0 (frames_append xs ys h.1 k)
 
 module _ {V : Type 0} (gives : Reading V) where
-  -- the values of frames, joined
+  -- the values of concatenated frames
   values_append : (xs ys : List Frame) (vs ws : List V) → ReadEach gives xs vs → ReadEach gives ys ws → ReadEach gives (xs ++ ys) (vs ++ ws)
   values_append [] ys [] ws h k = k
   values_append [] ys (v ∷ vs) ws h k = absurd h
   values_append (x ∷ xs) ys [] ws h k = absurd h
   values_append (x ∷ xs) ys (v ∷ vs) ws h k = (h.0, values_append xs ys vs ws h.1 k)
 
-  -- frames that read as values have values
+  -- frames that decode to values have values
   have_values : (xs : List Frame) (vs : List V) → ReadEach gives xs vs → HaveValues gives xs
   have_values [] vs h = tt
   have_values (x ∷ xs) [] h = absurd h
   have_values (x ∷ xs) (v ∷ vs) h = ((v, h.0), have_values xs vs h.1)
 
-  -- the values of the second come after those of the first
+  -- the values of the second list follow those of the first
   pub joined_values : (a b : List ℕ) (vs ws : List V) → length a % 4 ≡ 0 → Wire gives a vs → Wire gives b ws → Wire gives (a ++ b) (vs ++ ws)
   joined_values a b vs ws e w u =
       let done = all_complete w.frames w.string.frames (omega (arith, ap length w.string.string)) in
@@ -60,7 +60,7 @@ module _ {V : Type 0} (gives : Reading V) where
         values = values_append w.frames u.frames vs ws w.values u.values;
       }
 
-  -- the first fault of the second is that of both, as far behind as the first is long
+  -- the first error of the second list is that of both, at an offset that is greater by the length of the first
   pub joined_fault : (a b : List ℕ) (vs : List V) (at : ℕ) (fault : DecodeFault) → length a % 4 ≡ 0 → Wire gives a vs → FirstFault gives b at fault
       → FirstFault gives (a ++ b) (length a + at) fault
   joined_fault a b vs at fault e w h =

@@ -1,4 +1,4 @@
--- Numbers of one width, one after another: what is read number by number and what is written number by number.
+-- Consecutive numbers of one width, parsed and written one at a time.
 use Rattle.std.proofs.Common.{◌≡◌, ℕ, zero, suc, ◌+◌, ◌-◌, ◌*◌, ◌≤◌, ◌<◌, List, [], ◌∷◌, ◌++◌, length, take, drop, get_or, sym, ap, ap₂, subst, ◌∙◌, arith, length-append, drop-drop}
 use Rattle.std.proofs.Math.Nat.{mul-suc}
 use Rattle.std.proofs.Math.Seq.{take-add}
@@ -13,7 +13,7 @@ use Rattle.link_base.proofs.Numbers.{length-bytes_of, IsBytes-bytes_of}
 use Rattle.link_base.proofs.Fronts.{bytes-append}
 use Rattle.link_base.proofs.Emit.{frame_after}
 
--- numbers of a width take as many bytes for each, and are written as bytes
+-- n numbers take `width * n` bytes, and are written as bytes
 pub IsOctets-numbers : (width : ℕ) (xs : List ℕ) → IsOctets (width * length xs) (octets_of width xs)
 IsOctets-numbers width [] = (omega arith, tt)
 IsOctets-numbers width (x ∷ xs) =
@@ -23,16 +23,16 @@ IsOctets-numbers width (x ∷ xs) =
     )
 
 module _ (width : ℕ) where
-  -- ---- reading
+  -- ---- parsing
 
-  -- one number more
+  -- one more number
   numbers_more : (n offset : ℕ) (p : List ℕ) → numbers_at width (suc n) offset p ≡ numbers_at width n offset p ++ number_at width (offset + width * n) p ∷ []
   numbers_more zero offset p = let here : offset ≡ offset + width * 0 = omega arith in ap (λ at. number_at width at p ∷ []) here
   numbers_more (suc n) offset p =
       let there : offset + width + width * n ≡ offset + width * suc n = omega (arith, mul-suc width n) in
       ap (λ rest. number_at width offset p ∷ rest) (numbers_more n (offset + width) p ∙ ap (λ at. numbers_at width n (offset + width) p ++ number_at width at p ∷ []) there)
 
-  -- the octets of one number more, which was read behind those before it
+  -- the bytes after one more number
   octets_more : (xs : List ℕ) (x i offset : ℕ) (p : List ℕ) → octets_of width xs ≡ take (width * i) (drop offset p) → bytes_of width x ≡ take width (drop (offset + width * i) p)
       → octets_of width (xs ++ x ∷ []) ≡ take (width * suc i) (drop offset p)
   octets_more xs x i offset p so_far next =
@@ -40,18 +40,18 @@ module _ (width : ℕ) where
       flat_map-append (bytes_of width) xs (x ∷ []) ∙ ap₂ (λ a b. a ++ b) so_far (append-nil (bytes_of width x) ∙ next ∙ ap (take width) (sym (drop-drop (width * i) offset p)))
       ∙ sym (take-add (width * i) width q) ∙ ap (λ n. take n q) (sym (mul-suc width i))
 
-  -- the first numbers from an offset on, and their octets
+  -- the first i numbers from an offset, and their bytes
   pub record AreRead (i offset : ℕ) (p xs : List ℕ) : Type 0 where
     pub value : xs ≡ numbers_at width i offset p
     pub octets : octets_of width xs ≡ take (width * i) (drop offset p)
 
-  -- none was read yet
+  -- no number has been parsed yet
   pub read_none : (offset : ℕ) (p xs : List ℕ) → xs ≡ [] → AreRead 0 offset p xs
   read_none offset p xs e =
       let nothing : 0 ≡ width * 0 = omega arith in
       record { value = e; octets = ap (octets_of width) e ∙ ap (λ n. take n (drop offset p)) nothing }
 
-  -- one more was read
+  -- one more number has been parsed
   pub read_more : (i offset at : ℕ) (p xs ys : List ℕ) (x : ℕ) → at ≡ offset + width * i → x ≡ number_at width at p → bytes_of width x ≡ take width (drop at p)
       → ys ≡ xs ++ x ∷ [] → AreRead i offset p xs → AreRead (i + 1) offset p ys
   read_more i offset at p xs ys x place value octets more so_far =
@@ -65,14 +65,14 @@ module _ (width : ℕ) where
 
   -- ---- writing
 
-  -- the octets of one number more of a list
+  -- the bytes after one more number of a list
   octets_taken : (xs : List ℕ) (i : ℕ) → i < length xs → octets_of width (take (i + 1) xs) ≡ octets_of width (take i xs) ++ bytes_of width (get_or xs i 0)
   octets_taken xs i lt =
       let x = get_or xs i 0 in
       let text = octets_of width (take i xs) in
       ap (octets_of width) (take_more xs i 0 lt) ∙ flat_map-append (bytes_of width) (take i xs) (x ∷ []) ∙ ap (λ t. text ++ t) (append-nil (bytes_of width x))
 
-  -- the octets of the first numbers of a list are no longer than those of all
+  -- the bytes of the first numbers of a list are no longer than those of all
   octets_room : (xs : List ℕ) (i : ℕ) → length (octets_of width (take i xs)) ≤ width * length xs
   octets_room xs i =
       let front = take i xs in
@@ -80,7 +80,7 @@ module _ (width : ℕ) where
       let all = ap (octets_of width) (sym (take-append-drop i xs)) ∙ flat_map-append (bytes_of width) front back in
       omega (arith, ap length all, length-append (octets_of width front) (octets_of width back), (IsOctets-numbers width xs).0)
 
-  -- the buffer after one number more
+  -- the buffer after one more number
   pub number_after : (b0 b b' xs sub : List ℕ) (i at : ℕ) → i < length xs → width * length xs ≤ length b0 → at ≡ width * i
       → OverwritesFront b0 b (octets_of width (take i xs)) → OverwritesFront (take (length b - at) (drop at b)) sub (bytes_of width (get_or xs i 0))
       → b' ≡ put_mid at (length b - at) b sub → OverwritesFront b0 b' (octets_of width (take (i + 1) xs))

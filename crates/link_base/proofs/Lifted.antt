@@ -1,4 +1,4 @@
--- A table without lists reads and writes as the table that it is.
+-- A table without lists decodes and writes as the table it is lifted to.
 use Rattle.std.proofs.Common.{◌≡◌, ℕ, ◌≤◌, Bool, true, false, cond, List, [], ◌∷◌, ◌++◌, length, map, Option, Some, None, Result, Ok, Err, refl, sym, ap, ap₂, subst, ◌∙◌, arith, inl, inr}
 use Rattle.std.specs.Prelude.{◌==◌, ◌↔◌}
 use Rattle.std.specs.List.{AllZip, AllByRecursion}
@@ -44,7 +44,7 @@ unlift_by : (o : Option Class) (f : ℕ) (p : List ℕ) (r : Result AttrValue De
 unlift_by None f p r e = e
 unlift_by (Some c) f p r e = e ∙ leaf_is (kind_of f) (class_value c p)
 
--- what the table reads is what the rows read
+-- the table decodes to what its rows decode to
 unlift : (rows : Rows) (f : ℕ) (p : List ℕ) (r : Result AttrValue DecodeFault) → Gives (lift_table rows) f p r → r ≡ lift_result (leaf_by (class_at rows (kind_of f)) f p)
 unlift rows f p r given = unlift_by (class_at rows (kind_of f)) f p r (subst (λ (o : Option Shape). GivesBy o f p r) (class_at-lift rows (kind_of f)) given)
 
@@ -111,7 +111,7 @@ fails_by : (rows : Rows) (flagged : Bool) (k : ℕ) (s : List ℕ) (e : ListErro
 fails_by rows flagged k s (list_errors.Memory e) h = tt
 fails_by rows flagged k s (list_errors.Fault at f) h = (Err (at, f), first_fault_given rows s at f h, refl)
 
--- the first fault of a list, as the fault of an attribute
+-- the first error of a list, as the error of an attribute
 pub nested_fails : (table : Table) (rows : Rows) (flagged : Bool) (k : ℕ) (s : List ℕ) (e : ListError) → table ≡ lift_table rows → ListFails e (Gives table) s → Fails (nested_error k e) (ListGives (LeafGives rows) (Inner flagged) k s)
 nested_fails table rows flagged k s e e-table h = fails_by rows flagged k s e (subst (λ (t : Table). ListFails e (Gives t) s) e-table h)
 
@@ -161,7 +161,7 @@ all_in_range table rows ms vs e-table e-ms h =
 
 -- ---- canonical
 
--- an element without a list is canonical in a table of the same rows
+-- an element is canonical if and only if it is canonical in a table of the same rows
 allowed_by : (o : Option Class) (f : ℕ) (p : List ℕ) → allows_by (lift_option o) f p ↔ leaf_allows_by o f p
 allowed_by None f p = (λ h. h, λ h. h)
 allowed_by (Some c) f p = (λ h. (omega (arith, h.0), h.1), λ h. (omega (arith, h.0), h.1))
@@ -173,7 +173,7 @@ allowed rows f p =
     let by = allowed_by (class_at rows k) f p in
     (λ h. by.0 (subst (λ (o : Option Shape). allows_by o f p) same h), λ h. subst (λ (o : Option Shape). allows_by o f p) (sym same) (by.1 h))
 
--- frames that are canonical by one rule are so by another
+-- frames that are canonical by one rule are canonical by any rule that follows from it
 canonical_each : (P Q : ℕ → List ℕ → Type 0) → ((f : ℕ) (p : List ℕ) → P f p → Q f p) → (xs : List Frame) → AllByRecursion (IsCanonicalFrame P) xs → AllByRecursion (IsCanonicalFrame Q) xs
 canonical_each P Q to [] h = tt
 canonical_each P Q to (x ∷ xs) h = (record { complete = h.0.complete; zeros = h.0.zeros; allowed = to x.kind_field x.payload h.0.allowed }, canonical_each P Q to xs h.1)
@@ -181,7 +181,7 @@ canonical_each P Q to (x ∷ xs) h = (record { complete = h.0.complete; zeros = 
 canonical_by : (P Q : ℕ → List ℕ → Type 0) → ((f : ℕ) (p : List ℕ) → P f p → Q f p) → (s : List ℕ) → CanonicalBy P s → CanonicalBy Q s
 canonical_by P Q to s c = record { frames = c.frames; string = c.string; each = canonical_each P Q to c.frames c.each }
 
--- a nested list is canonical where it is so in the table of its type
+-- a nested list is canonical if and only if it is canonical in the table of its type
 pub nested_canonical : (table : Table) (rows : Rows) (s : List ℕ) → table ≡ lift_table rows → Canonical table s ↔ CanonicalBy (LeafAllows rows) s
 nested_canonical table rows s e = (
   λ h. canonical_by (Allows (lift_table rows)) (LeafAllows rows) (λ f p. (allowed rows f p).0) s (subst (λ (t : Table). Canonical t s) e h),

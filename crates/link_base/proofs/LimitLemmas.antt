@@ -1,4 +1,4 @@
--- Which values that were read do not fit.
+-- Which decoded values do not fit.
 use Rattle.std.proofs.Common.{◌≡◌, ℕ, ◌+◌, ◌*◌, ◌<◌, ◌≤◌, Bool, true, List, [], ◌∷◌, length, Some, None, Ok, refl, sym, ap, subst, ◌∙◌, arith, ⊎_elim, length-append, length-take}
 use Rattle.std.specs.Prelude.{nat_lt, nat_le, ◌==◌, ◌||◌, ◌↔◌}
 use Rattle.std.specs.List.{AllByRecursion}
@@ -22,16 +22,16 @@ use Rattle.link_base.proofs.Contents.{Means}
 use Rattle.link_base.proofs.TableLaws as tables
 use Rattle.link_base.proofs.TableLaws.{AttrRead, attr_read}
 
--- ---- what is kept has its length
+-- ---- kept classes: the written payload is as long as the decoded one
 
--- a payload of so many bytes, neither fewer nor more
+-- a payload of n bytes, neither fewer nor more
 whole_is : (n got : ℕ) → length_cause (Fixed n) got ≡ None → got ≡ n
 whole_is n got e =
     let low = none_else (nat_lt got n) _ (TooShort n got) e in
     let high = none_else (nat_lt n got) None (WrongLength n got) low.1 in
     omega (arith, ltb-false got n low.0, ltb-false n got high.0)
 
--- what is written for a value of a kept class is as long as the payload
+-- what is written for a value of a kept class is as long as the decoded payload
 kept_length : (c : Class) (p : List ℕ) → is_kept c ≡ true → length_cause (extent c) (length p) ≡ None → length (written (meant c p)) ≡ length p
 kept_length (Unsigned n) p k e = omega (arith, exactly n (length p) e, length-bytes_of n (number p))
 kept_length Signed p k e = omega (arith, exactly 4 (length p) e)
@@ -65,22 +65,22 @@ row_passes test least (r ∷ rows) k c h e =
     (λ fails. row_passes test (r.kind + 1) rows k c third.1 (sym (cond-false (r.kind == k) (Some r.class) (class_at rows k) fails) ∙ e))
     (cases_Bool (r.kind == k))
 
--- the rows of a nested list are kept
+-- the classes in a nested list are kept
 abbrev AreKept : Rows → Type 0
 AreKept rows = are_rows is_nested_class 0 rows ≡ true
 
--- an attribute of a nested list is written as long as it was read
+-- an attribute of a nested list is written with the length of the decoded one
 leaf_kept : (rows : Rows) (f : ℕ) (p : List ℕ) (v : Leaf) → AreKept rows → LeafGives rows f p (Ok v) → length (leaf_payload v) ≡ length p
 leaf_kept rows f p v k h = go (leaf_read (class_at rows (kind_of f)) f p v h)
   where
-    -- by the way that it was read
+    -- by the way in which the value was decoded
     go : LeafRead (class_at rows (kind_of f)) f p v → length (leaf_payload v) ≡ length p
     go (no_row e is) = ap (λ w. length (leaf_payload w)) is
     go (a_row c e a is) =
         let kept = and_parts (is_class c) (is_kept c) (row_passes is_nested_class 0 rows (kind_of f) c k e) in
         ap (λ w. length (leaf_payload w)) is ∙ kept_length c p kept.1 a
 
--- a nested list is written as long as it was read, padded
+-- a nested list is written with the length of the decoded one, padded
 list_kept : (rows : Rows) (xs : List Frame) (vs : List Leaf) → AreKept rows → AreFrames xs → ReadEach (LeafGives rows) xs vs → length (written_leaves vs) ≡ pad (length (spelled xs))
 list_kept rows [] [] k hx r = omega arith
 list_kept rows [] (v ∷ vs) k hx r = absurd r
@@ -100,7 +100,7 @@ list_kept rows (x ∷ y ∷ xs) (v ∷ w ∷ vs) k hx r =
 
 -- ---- addresses
 
--- an element of a list of addresses of four bytes takes eight
+-- an element of a list of four-byte addresses takes eight bytes
 four_each : (i : ℕ) (octets : List (List ℕ)) → AllByRecursion (IsOctets 4) octets → length (spelled (addresses_from i octets)) ≡ 8 * length octets
 four_each i [] h = omega arith
 four_each i (a ∷ others) h =
@@ -108,7 +108,7 @@ four_each i (a ∷ others) h =
     let rest = four_each (i + 1) others h.1 in
     omega (arith, length-whole i a, length-append (frame_bytes (whole i a)) (spelled (addresses_from (i + 1) others)))
 
--- an element of a list of addresses of sixteen bytes takes twenty
+-- an element of a list of sixteen-byte addresses takes twenty bytes
 sixteen_each : (i : ℕ) (octets : List (List ℕ)) → AllByRecursion (IsOctets 16) octets → length (spelled (addresses_from i octets)) ≡ 20 * length octets
 sixteen_each i [] h = omega arith
 sixteen_each i (a ∷ others) h =
@@ -116,7 +116,7 @@ sixteen_each i (a ∷ others) h =
     let rest = sixteen_each (i + 1) others h.1 in
     omega (arith, length-whole i a, length-append (frame_bytes (whole i a)) (spelled (addresses_from (i + 1) others)))
 
--- addresses that were read fit
+-- decoded addresses fit
 addresses_fit : (n : ℕ) (p : List ℕ) (xs : List Frame) → (n == 4 || n == 16) ≡ true → IsBytes p → length p ≤ 65531 → Frames p xs
     → length (spelled (addresses_from 0 (of_length n (payloads xs)))) ≤ 65531
 addresses_fit n p xs k hp hl w =
@@ -129,9 +129,9 @@ addresses_fit n p xs k hp hl w =
     (λ sixteen. let all = sixteen_each 0 octets (subst (λ m. AllByRecursion (IsOctets m) octets) (eqb-true n 16 sixteen) each) in omega arith)
     (or_cases (n == 4) (n == 16) k)
 
--- ---- a value that was read fits, but for an overfull list
+-- ---- a decoded value fits, unless it is an overfull list
 
--- what is written for a content does not fit exactly where it is an overfull list
+-- what is written for a content does not fit if and only if the content is an overfull list
 content_limit : (s : Shape) (p : List ℕ) (c : Content) → is_shape s ≡ true → IsBytes p → length p ≤ 65531 → Means s p c
     → (length (content_payload c) ≤ 65531 → ⊥) ↔ IsOverfull (Some s) p
 content_limit (One k) p c sound hp hl m =
@@ -146,12 +146,12 @@ content_limit (Addresses n) p c sound hp hl m =
     let fit = addresses_fit n p m.0 sound hp hl m.1 in
     (λ h. h (omega (arith, ap (λ d. length (content_payload d)) m.2)), λ h. absurd h)
 
--- in a well-formed table a value that was read does not fit exactly where it is an overfull list
+-- in a well-formed table, a decoded value does not fit if and only if it is an overfull list
 pub limit : (table : Table) (f : ℕ) (p : List ℕ) (v : AttrValue) → is_table table ≡ true → IsBytes p → length p ≤ 65531 → Gives table f p (Ok v)
     → ¬ (Fits v) ↔ IsOverfull (class_at table (kind_of f)) p
 limit table f p v sound hp hl h = go (attr_read (class_at table (kind_of f)) f p v h)
   where
-    -- by the way that it was read
+    -- by the way in which the value was decoded
     go : AttrRead (class_at table (kind_of f)) f p v → ¬ (Fits v) ↔ IsOverfull (class_at table (kind_of f)) p
     go (tables.no_row e is) =
         subst (λ o. ¬ (Fits v) ↔ IsOverfull o p) (sym e)

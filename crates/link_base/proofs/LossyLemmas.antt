@@ -1,4 +1,4 @@
--- What `utf8_lossy` does to text, to text with more behind it, and to part of a character. Only std.
+-- What `utf8_lossy` does to UTF-8, to UTF-8 with bytes after it, and to part of a character. It depends only on std.
 use Rattle.std.specs.Char.{encode_utf8}
 use Rattle.std.proofs.Common.{◌≡◌, ◌⊎◌, ℕ, zero, suc, ◌+◌, ◌-◌, ◌/◌, ◌%◌, ◌<◌, ◌≤◌, true, false, List, [], ◌∷◌, ◌++◌, length, take, drop, Some, None, IsUtf8, encode_utf8_all, refl, sym, ap, ap₂, subst, ◌∙◌, arith, inl, inr, ⊎_elim, append_assoc, length-append, length-drop, length-take, take_all, take-append-drop, true≢false}
 use Rattle.std.specs.Prelude.{nat_lt, unwrap_or}
@@ -11,7 +11,7 @@ use Rattle.std.proofs.lemmas.List.{take_at, drop_at, append-nil, drop_all, lengt
 use Rattle.std.proofs.lemmas.Str.{utf8_lossy-IsUtf8, utf8_lossy_step, utf8_valid_len-IsValidUpTo, IsUtf8-append, IsUtf8-nil, IsUtf8-drop, IsUtf8-from_is_utf8, is_utf8-from_IsUtf8, IsCharBoundary-from_take, encode_same}
 use lib.Utf8.{scalar, scalars, scalar_cases}
 
--- the longest front that is text, among those of at most m bytes
+-- the longest UTF-8 prefix of at most m bytes
 longest_front : (bs : List ℕ) (m : ℕ)
     → IsUtf8 (take (valid_len_up_to bs m) bs) × ((k : ℕ) → valid_len_up_to bs m < k → k ≤ m → ¬ (IsUtf8 (take k bs)))
 longest_front bs zero = (([], (refl, refl)), λ k above within. absurd (omega arith))
@@ -33,7 +33,7 @@ longest_front bs (suc m) =
     ))
     (cases_Bool (is_utf8 (take (suc m) bs)))
 
--- bytes are UTF-8, or they stop being it at `utf8_valid_len`
+-- bytes are UTF-8, or `utf8_valid_len` is the length of their longest UTF-8 prefix
 pub utf8_valid_len-cases : (bs : List ℕ) → IsUtf8 bs ⊎ IsValidUpTo bs (utf8_valid_len bs)
 unfolding utf8_valid_len
 utf8_valid_len-cases bs =
@@ -52,19 +52,19 @@ utf8_valid_len-cases bs =
     (λ (whole : length bs ≤ n). inl (subst IsUtf8 (take_all n bs whole) front.0))
     (cases_lt n (length bs))
 
--- a cut behind the first list
+-- the first n elements of two lists, if n is at least the length of the first
 pub take-past : (xs ys : List ℕ) (n m : ℕ) → n ≡ length xs + m → take n (xs ++ ys) ≡ xs ++ take m ys
 take-past [] ys n m e = let same : n ≡ m = omega arith in ap (λ k. take k ys) same
 take-past (x ∷ xs) ys zero m e = absurd (omega arith)
 take-past (x ∷ xs) ys (suc n) m e = ap (λ t. x ∷ t) (take-past xs ys n m (omega arith))
 
--- what stands behind a cut behind the first list
+-- what follows the first n elements of two lists, if n is at least the length of the first
 pub drop-past : (xs ys : List ℕ) (n m : ℕ) → n ≡ length xs + m → drop n (xs ++ ys) ≡ drop m ys
 drop-past [] ys n m e = let same : n ≡ m = omega arith in ap (λ k. drop k ys) same
 drop-past (x ∷ xs) ys zero m e = absurd (omega arith)
 drop-past (x ∷ xs) ys (suc n) m e = drop-past xs ys n m (omega arith)
 
--- what stands behind text in a text is text
+-- what follows a UTF-8 prefix of UTF-8 is UTF-8
 pub IsUtf8-behind : (text rest : List ℕ) → IsUtf8 text → IsUtf8 (text ++ rest) → IsUtf8 rest
 IsUtf8-behind text rest u v =
     let i = length text in
@@ -72,7 +72,7 @@ IsUtf8-behind text rest u v =
     (IsUtf8-drop (text ++ rest) i v
     (IsCharBoundary-from_take (text ++ rest) i v (omega (arith, length-append text rest)) (subst IsUtf8 (sym (take_at text rest i refl)) u)))
 
--- text at the front stays, and what follows is read by itself
+-- a UTF-8 prefix is unchanged, and what follows is decoded on its own
 pub utf8_lossy-front : (text rest : List ℕ) → IsUtf8 text → utf8_lossy (text ++ rest) ≡ text ++ utf8_lossy rest
 utf8_lossy-front text rest u = ⊎_elim
     (λ v. utf8_lossy-IsUtf8 (text ++ rest) (IsUtf8-append text rest u v) ∙ ap (λ t. text ++ t) (sym (utf8_lossy-IsUtf8 rest v)))
@@ -101,11 +101,11 @@ utf8_lossy-front text rest u = ⊎_elim
 
 -- ---- part of a character
 
--- no front of a character, but the empty one, is text
+-- no proper prefix of a character, except the empty one, is UTF-8
 no_front : (c k m : ℕ) → scalar c ≡ true → k < length (encode_utf8 c) → 0 < m → IsUtf8 (take m (take k (encode_utf8 c))) → length (take m (take k (encode_utf8 c))) ≡ 0
 no_front c k m is less some u = go u.0 u.1.0 u.1.1
   where
-    -- by the characters of the front
+    -- by the characters of the prefix
     go : (cs : List ℕ) → scalars cs ≡ true → encode_utf8_all cs ≡ take m (take k (encode_utf8 c)) → length (take m (take k (encode_utf8 c))) ≡ 0
     go [] all e = sym (ap length e)
     go (d ∷ cs) all e =
@@ -165,17 +165,17 @@ part_of_four b c d e (suc (suc zero)) first next third some less = more_2 b c fi
 part_of_four b c d e (suc (suc (suc zero))) first next third some less = more_3 b c d first next third
 part_of_four b c d e (suc (suc (suc (suc k)))) first next third some less = absurd (omega arith)
 
--- a front of a character, but not all of it, wants more bytes
+-- each non-empty proper prefix of the bytes is incomplete, not invalid
 abbrev WantsMore : List ℕ → Type 0
 WantsMore bs = (k : ℕ) → 0 < k → k < length bs → utf8_error_len (take k bs) ≡ None
 
--- a part of a character of two bytes wants more
+-- this holds for a character of two bytes
 wants_two : (c : ℕ) → 128 ≤ c → c < 2048 → WantsMore ((192 + c / 64) ∷ (128 + c % 64) ∷ [])
 wants_two c low high k some less =
     let b = 192 + c / 64 in
     part_of_two b (128 + c % 64) k (by (is_in_range 0xC2 0xF4 b ≡ true) (grind (arith, nat_tests))) some less
 
--- a part of a character of three bytes wants more
+-- this holds for a character of three bytes
 wants_three : (c : ℕ) → 2048 ≤ c → c < 65536 → (c < 55296) ⊎ (57344 ≤ c) → WantsMore ((224 + c / 4096) ∷ (128 + (c / 64) % 64) ∷ (128 + c % 64) ∷ [])
 wants_three c low high apart k some less =
     let b = 224 + c / 4096 in
@@ -183,7 +183,7 @@ wants_three c low high apart k some less =
     part_of_three b d (128 + c % 64) k (by (is_in_range 0xC2 0xF4 b ≡ true) (grind (arith, nat_tests)))
     (by (is_in_range (second_byte_min b) (second_byte_max b) d ≡ true) (grind (arith, nat_tests))) some less
 
--- a part of a character of four bytes wants more
+-- this holds for a character of four bytes
 wants_four : (c : ℕ) → 65536 ≤ c → c < 1114112 → WantsMore ((240 + c / 262144) ∷ (128 + (c / 4096) % 64) ∷ (128 + (c / 64) % 64) ∷ (128 + c % 64) ∷ [])
 wants_four c low high k some less =
     let b = 240 + c / 262144 in
@@ -193,7 +193,7 @@ wants_four c low high k some less =
     (by (is_in_range (second_byte_min b) (second_byte_max b) d ≡ true) (grind (arith, nat_tests)))
     (by (is_in_range 0x80 0xBF e ≡ true) (grind (arith, nat_tests))) some less
 
--- a part of a character wants more
+-- this holds for every character
 wants_more : (c : ℕ) → scalar c ≡ true → WantsMore (encode_utf8 c)
 unfolding encode_utf8
 wants_more c is =
@@ -226,19 +226,19 @@ wants_more c is =
     (cases_lt c 2048))
     (cases_lt c 128)
 
--- ---- lossy text is text
+-- ---- the result of `utf8_lossy` is UTF-8
 
 -- each invalid sequence has a byte
 some_invalid : (bs : List ℕ) → 0 < length bs → 0 < utf8_invalid_len bs
 unfolding utf8_error_len
 some_invalid bs some = grind (arith, nat_tests)
 
--- U+FFFD is text
+-- U+FFFD is UTF-8
 pub IsUtf8-replacement : IsUtf8 replacement_bytes
 unfolding encode_utf8
 IsUtf8-replacement = (0xFFFD ∷ [], (refl, refl))
 
--- the step, where what is behind is done
+-- one step, if what follows is done
 lossy_step : (bs : List ℕ) → IsValidUpTo bs (utf8_valid_len bs) → IsUtf8 (utf8_lossy (after_first_chunk bs)) → IsUtf8 (utf8_lossy bs)
 lossy_step bs valid rest =
     let short = valid.short in
@@ -252,7 +252,7 @@ shorter bs valid =
     let some = some_invalid (drop n bs) (omega (arith, length-drop n bs)) in
     omega (arith, length-drop (n + utf8_invalid_len (drop n bs)) bs)
 
--- lossy text is text, by its length
+-- the result of `utf8_lossy` is UTF-8, by the length of the bytes
 lossy_within : (fuel : ℕ) (bs : List ℕ) → length bs ≤ fuel → IsUtf8 (utf8_lossy bs)
 lossy_within zero bs le = ⊎_elim
     (λ u. subst IsUtf8 (sym (utf8_lossy-IsUtf8 bs u)) u)
@@ -263,11 +263,11 @@ lossy_within (suc fuel) bs le = ⊎_elim
     (λ valid. let less = shorter bs valid in lossy_step bs valid (lossy_within fuel (after_first_chunk bs) (omega arith)))
     (utf8_valid_len-cases bs)
 
--- lossy text is text
+-- the result of `utf8_lossy` is UTF-8
 pub IsUtf8-lossy : (bs : List ℕ) → IsUtf8 (utf8_lossy bs)
 IsUtf8-lossy bs = lossy_within (length bs) bs (omega arith)
 
--- a part of a character is read as one U+FFFD
+-- part of a character decodes to one U+FFFD
 pub lossy-partial : (c k : ℕ) → scalar c ≡ true → 0 < k → k < length (encode_utf8 c) → utf8_lossy (take k (encode_utf8 c)) ≡ replacement_bytes
 lossy-partial c k is some less =
     let part = take k (encode_utf8 c) in

@@ -1,4 +1,4 @@
--- The name field, judged.
+-- Checking whether a name field is canonical.
 use Rattle.std.proofs.Common.{◌≡◌, ◌≢◌, ◌⊎◌, ◌↔◌, ℕ, zero, suc, ◌+◌, ◌-◌, ◌<◌, ◌≤◌, true, false, List, [], ◌∷◌, ◌++◌, length, take, drop, get_or, replicate, IsUtf8, refl, sym, ap, subst, ◌∙◌, arith, inl, inr, length-append, length-take, length-drop, take-append-drop}
 use Rattle.std.specs.Char.{encode_utf8}
 use Rattle.std.specs.Str.{IsValidUpTo, is_utf8, chars}
@@ -9,9 +9,9 @@ use Rattle.std.proofs.Math.Seq.{drop-append_seam, take-append_seam, take-append-
 use Rattle.link_base.specs.Name.{HasNoNul, IsCutText, IsNameField}
 use Rattle.link_base.proofs.CanonicalLists.{zeros}
 
--- ---- text that a U+FFFD follows in part
+-- ---- UTF-8, followed by part of U+FFFD
 
--- the first, or the first two, bytes of U+FFFD
+-- the first one or two bytes of U+FFFD
 abbrev pub IsCutReplacement : List ℕ → Type 0
 IsCutReplacement bytes = (bytes ≡ 0xEF ∷ []) ⊎ (bytes ≡ 0xEF ∷ 0xBF ∷ [])
 
@@ -19,7 +19,7 @@ no_text : is_utf8 (0xEF ∷ []) ≡ false
 unfolding is_utf8 chars encode_utf8
 no_text = refl
 
--- text and the first byte of U+FFFD are no text
+-- UTF-8 followed by the first byte of U+FFFD is not UTF-8
 not_text : (text : List ℕ) → IsUtf8 text → ¬ (IsUtf8 (text ++ 0xEF ∷ []))
 not_text text u longer =
     let s = text ++ 0xEF ∷ [] in
@@ -30,7 +30,7 @@ not_text text u longer =
     absurd cc
 
 module _ (bytes : List ℕ) (n : ℕ) (valid : IsValidUpTo bytes n) where
-  -- the longest front that is text is no shorter than any front that is
+  -- no UTF-8 prefix of the bytes is longer than the longest one
   no_longer : (text rest : List ℕ) → IsUtf8 text → bytes ≡ text ++ rest → length text ≤ n
   no_longer text rest u e =
       elim (cases_lt n (length text)) [
@@ -38,7 +38,7 @@ module _ (bytes : List ℕ) (n : ℕ) (valid : IsValidUpTo bytes n) where
         | inr le ↦ le
       ]
 
-  -- what follows text
+  -- what follows the UTF-8 prefix
   behind_text : (text rest : List ℕ) → bytes ≡ text ++ rest → n ≡ length text → drop n bytes ≡ rest
   behind_text text rest e m = ap (λ k. drop k bytes) m ∙ ap (drop (length text)) e ∙ drop-append_seam text rest
 
@@ -58,7 +58,7 @@ module _ (bytes : List ℕ) (n : ℕ) (valid : IsValidUpTo bytes n) where
         | inr le ↦ behind_text text rest e (omega (arith, low, le))
       ]
 
-  -- bytes that are no text are cut text where 15 of them end so
+  -- if bytes are not UTF-8, they are a truncated string if and only if there are 15 and they end in part of U+FFFD
   pub cut_end : ¬ (IsUtf8 bytes) → IsCutText bytes ↔ ((length bytes ≡ 15) × IsCutReplacement (drop n bytes))
   cut_end not = (to, from)
     where
@@ -73,21 +73,21 @@ module _ (bytes : List ℕ) (n : ℕ) (valid : IsValidUpTo bytes n) where
 
 -- ---- the field
 
--- the first NUL of a name stands behind its bytes
+-- the first NUL of a name field follows the bytes of the name
 first_nul : (bytes tail : List ℕ) (end : ℕ) → HasNoNul bytes → 0 < length tail → get_or tail 0 0 ≡ 0 → get_or (bytes ++ tail) end 0 ≡ 0 → ((k : ℕ) → k < end → get_or (bytes ++ tail) k 0 ≢ 0) → end ≡ length bytes
 first_nul [] tail zero clean some nul at before = refl
 first_nul [] tail (suc end) clean some nul at before = absurd (before 0 (omega arith) nul)
 first_nul (b ∷ bytes) tail zero clean some nul at before = absurd (omega (arith, clean.0, at))
 first_nul (b ∷ bytes) tail (suc end) clean some nul at before = ap suc (first_nul bytes tail end clean.1 some nul at (λ k lt. before (suc k) (omega arith)))
 
--- bytes before the first NUL have none
+-- bytes before the first NUL have no NUL
 clean_before : (bytes : List ℕ) → ((k : ℕ) → k < length bytes → get_or bytes k 0 ≢ 0) → HasNoNul bytes
 clean_before [] h = tt
 clean_before (b ∷ bytes) h = let ne = h 0 (omega arith) in (omega arith, clean_before bytes (λ k lt. h (suc k) (omega arith)))
 
--- a name field whose first NUL is at this place
+-- a name field whose first NUL is at index `end`
 module _ (field : List ℕ) (end : ℕ) (size : length field ≡ 16) (within : end < length field) (nul : get_or field end 0 ≡ 0) (before : (k : ℕ) → k < end → get_or field k 0 ≢ 0) where
-  -- the bytes of a name field stand before its first NUL, and zeros from there
+  -- the bytes of the name are before the first NUL, and zeros follow from there
   name_at : (h : IsNameField field) → (take end field ≡ h.0) × (drop end field ≡ replicate (16 - length h.0) 0)
   name_at (bytes, is, short, clean, text) =
       let g = 16 - length bytes in
@@ -99,7 +99,7 @@ module _ (field : List ℕ) (end : ℕ) (size : length field ≡ 16) (within : e
       let m : end ≡ length bytes = first_nul bytes tail end clean (omega (arith, some, short)) low at none in
       (ap (λ k. take k field) m ∙ ap (take (length bytes)) is ∙ take-append_seam bytes tail, ap (λ k. drop k field) m ∙ ap (drop (length bytes)) is ∙ drop-append_seam bytes tail)
 
-  -- zeros stand from there
+  -- all bytes from there are zeros
   pub zeros_behind : IsNameField field → (k : ℕ) → k < length (drop end field) → get_or (drop end field) k 0 ≡ 0
   zeros_behind h k lt =
       let g = 16 - length h.0 in

@@ -1,4 +1,4 @@
--- The name field: what is read, written and read again.
+-- The name field: decoded, written and decoded again.
 use Rattle.std.specs.Char.{encode_utf8}
 use Rattle.std.proofs.Common.{◌≡◌, ◌⊎◌, ◌↔◌, ℕ, zero, suc, ◌+◌, ◌-◌, ◌<◌, ◌≤◌, true, false, cond, List, [], ◌∷◌, ◌++◌, length, take, drop, get_or, replicate, IsUtf8, encode_utf8_all, refl, sym, ap, subst, ◌∙◌, arith, inl, inr, ⊎_elim, append_assoc, length-append, length-take, take_all, take-append-drop}
 use Rattle.std.specs.Prelude.{◌==◌}
@@ -17,28 +17,28 @@ use Rattle.link_base.specs.Name.{before_nul, name_of, zero_filled, name_field, c
 
 -- ---- bytes without NUL
 
--- no NUL in two lists joined
+-- the concatenation of two lists without NUL has no NUL
 clean-append : (xs ys : List ℕ) → HasNoNul xs → HasNoNul ys → HasNoNul (xs ++ ys)
 clean-append [] ys h k = k
 clean-append (x ∷ xs) ys h k = (h.0, clean-append xs ys h.1 k)
 
--- no NUL in a front
+-- the first n bytes of a list without NUL have no NUL
 clean-take : (n : ℕ) (xs : List ℕ) → HasNoNul xs → HasNoNul (take n xs)
 clean-take zero xs h = tt
 clean-take (suc n) [] h = tt
 clean-take (suc n) (x ∷ xs) h = (h.0, clean-take n xs h.1)
 
--- no NUL in what is left
+-- what follows the first n bytes of a list without NUL has no NUL
 clean-drop : (n : ℕ) (xs : List ℕ) → HasNoNul xs → HasNoNul (drop n xs)
 clean-drop zero xs h = h
 clean-drop (suc n) [] h = tt
 clean-drop (suc n) (x ∷ xs) h = clean-drop n xs h.1
 
--- no NUL in U+FFFD
+-- U+FFFD has no NUL
 clean-replacement : HasNoNul replacement_bytes
 clean-replacement = (omega arith, (omega arith, (omega arith, tt)))
 
--- no NUL in lossy text, by its length
+-- the result of `utf8_lossy` has no NUL if the bytes have none, by their length
 clean-within : (k : ℕ) (xs : List ℕ) → HasNoNul xs → HasNoNul (utf8_lossy_within k xs)
 clean-within zero xs h = h
 clean-within (suc k) xs h =
@@ -46,16 +46,16 @@ clean-within (suc k) xs h =
     (λ e. clean-append (take (utf8_valid_len xs) xs) _ (clean-take (utf8_valid_len xs) xs h)
     (clean-append replacement_bytes _ clean-replacement (clean-within k (after_first_chunk xs) (clean-drop _ xs h))))
 
--- lossy text has a NUL only where the bytes have
+-- the result of `utf8_lossy` has a NUL only if the bytes have one
 pub clean-lossy : (xs : List ℕ) → HasNoNul xs → HasNoNul (utf8_lossy xs)
 unfolding utf8_lossy
 clean-lossy xs h = clean-within (length xs) xs h
 
--- a byte that is not 0 is above it
+-- a byte that is not 0 is greater
 pos_from_test : (x : ℕ) → (x == 0) ≡ false → 0 < x
 pos_from_test x fails = let nonzero = eqb-false x 0 fails in omega arith
 
--- no NUL stands before the first NUL
+-- there is no NUL before the first NUL
 pub clean-before_nul : (xs : List ℕ) → HasNoNul (before_nul xs)
 clean-before_nul [] = tt
 clean-before_nul (x ∷ xs) =
@@ -65,33 +65,33 @@ clean-before_nul (x ∷ xs) =
     (λ fails. subst HasNoNul (sym (cond-false (x == 0) [] (x ∷ before_nul xs) fails)) (pos_from_test x fails, rest))
     (cases_Bool (x == 0))
 
--- without NUL everything stands before it
+-- without NUL, all bytes are before it
 pub before_nul-clean : (xs : List ℕ) → HasNoNul xs → before_nul xs ≡ xs
 before_nul-clean [] h = refl
 before_nul-clean (x ∷ xs) h =
     cond-false (x == 0) [] (x ∷ before_nul xs) (ne_eqb x 0 (λ e. omega (arith, h.0))) ∙ ap (λ t. x ∷ t) (before_nul-clean xs h.1)
 
--- what stands before the first NUL is no longer
+-- the bytes before the first NUL are no longer than all bytes
 length-before_nul : (xs : List ℕ) → length (before_nul xs) ≤ length xs
 length-before_nul [] = omega arith
 length-before_nul (x ∷ xs) =
     let rest = length-before_nul xs in
     cond_both (x == 0) [] (x ∷ before_nul xs) (λ t. length t ≤ suc (length xs)) (λ e. omega arith) (λ e. omega arith)
 
--- zeros behind change nothing before the first NUL
+-- zeros at the end change nothing before the first NUL
 pub before_nul-zeros : (xs : List ℕ) (n : ℕ) → before_nul (xs ++ replicate n 0) ≡ before_nul xs
 before_nul-zeros [] zero = refl
 before_nul-zeros [] (suc n) = refl
 before_nul-zeros (x ∷ xs) n = ap (λ t. cond (x == 0) [] (x ∷ t)) (before_nul-zeros xs n)
 
--- a text that is written reads as its cut name
+-- the field that is written for a string decodes to its cut name
 pub name_of-field : (text : List ℕ) → name_of (name_field text) ≡ cut_name text
 name_of-field text = ap utf8_lossy (before_nul-zeros (take 15 text) (16 - length (take 15 text)))
 
--- ---- a field that stays as it is
+-- ---- a field that is unchanged is canonical
 
 module _ (y Z : List ℕ) (n : ℕ) (valid : IsValidUpTo y n) where
-  -- bytes that end in part of U+FFFD, and begin with text, are a cut text
+  -- UTF-8 followed by the start of U+FFFD is a truncated string (`IsCutText`)
   fixed_end : (m : ℕ) → n + m ≡ 15 → y ≡ take n y ++ take m (replacement_bytes ++ Z) → IsCutText y
   fixed_end zero sum is =
       let short = valid.short in
@@ -108,7 +108,7 @@ module _ (y Z : List ℕ) (n : ℕ) (valid : IsValidUpTo y n) where
       ap (take (n + 3)) is ∙ take-past (take n y) (replacement_bytes ++ take m Z) (n + 3) 3 (omega (arith, length-take n y)) in
       absurd (valid.longest (n + 3) (omega arith) (subst IsUtf8 (sym longer) (IsUtf8-append _ _ valid.front IsUtf8-replacement)))
 
--- bytes that are read and cut as they stand are a cut text
+-- bytes that are unchanged when they are decoded and truncated are a truncated string
 pub IsCutText-fixed : (y : List ℕ) → length y ≤ 15 → y ≡ take 15 (utf8_lossy y) → IsCutText y
 IsCutText-fixed y le is = ⊎_elim (λ u. inl u)
     (λ valid.
@@ -120,7 +120,7 @@ IsCutText-fixed y le is = ⊎_elim (λ u. inl u)
     (is ∙ ap (take 15) step ∙ take-past (take n y) (replacement_bytes ++ Z) 15 (15 - n) (omega (arith, length-take n y))))
     (utf8_valid_len-cases y)
 
--- a field that is read and written as it stands is canonical
+-- a field that is unchanged when it is decoded and written is canonical
 pub IsNameField-fixed : (field : List ℕ) → name_field (name_of field) ≡ field → IsNameField field
 IsNameField-fixed field is =
     let x = before_nul field in
@@ -131,19 +131,19 @@ IsNameField-fixed field is =
     let short : length y ≤ 15 = omega (arith, length-take 15 text) in
     (y, sym is, short, clean, IsCutText-fixed y short (ap (λ t. take 15 (utf8_lossy t)) same))
 
--- ---- a canonical field stays
+-- ---- a canonical field is unchanged
 
--- the first byte of U+FFFD is read as U+FFFD
+-- the first byte of U+FFFD decodes to U+FFFD
 lossy-one : utf8_lossy (0xEF ∷ []) ≡ replacement_bytes
 unfolding utf8_lossy utf8_valid_len utf8_error_len is_utf8 chars encode_utf8
 lossy-one = refl
 
--- the first two bytes of U+FFFD are read as U+FFFD
+-- the first two bytes of U+FFFD decode to U+FFFD
 lossy-two : utf8_lossy (0xEF ∷ 0xBF ∷ []) ≡ replacement_bytes
 unfolding utf8_lossy utf8_valid_len utf8_error_len is_utf8 chars encode_utf8
 lossy-two = refl
 
--- a cut text, read and cut at the fifteenth byte
+-- a truncated string is unchanged when it is decoded and truncated to 15 bytes
 pub cut_text-stays : (y : List ℕ) → length y ≤ 15 → IsCutText y → take 15 (utf8_lossy y) ≡ y
 cut_text-stays y le (inl u) = ap (take 15) (utf8_lossy-IsUtf8 y u) ∙ take_all 15 y le
 cut_text-stays y le (inr h) = ⊎_elim
@@ -155,24 +155,24 @@ cut_text-stays y le (inr h) = ⊎_elim
     ∙ take-past h.1 replacement_bytes 15 2 (omega (arith, h.0, ap length two, length-append h.1 (0xEF ∷ 0xBF ∷ []))) ∙ sym two)
     h.3
 
--- a canonical field is read and written as it stands
+-- a canonical field is unchanged when it is decoded and written
 pub fixed-IsNameField : (field : List ℕ) → IsNameField field → name_field (name_of field) ≡ field
 fixed-IsNameField field h =
     let bytes = h.0 in
     let read : before_nul field ≡ bytes = ap before_nul h.1 ∙ before_nul-zeros bytes (16 - length bytes) ∙ before_nul-clean bytes h.3 in
     ap (λ t. zero_filled (take 15 (utf8_lossy t))) read ∙ ap zero_filled (cut_text-stays bytes h.2 h.4) ∙ sym h.1
 
--- a field is read and written as it stands exactly where it is canonical
+-- a field is unchanged when it is decoded and written if and only if it is canonical
 pub fixed_iff : (field : List ℕ) → (name_field (name_of field) ≡ field) ↔ IsNameField field
 fixed_iff field = (IsNameField-fixed field, fixed-IsNameField field)
 
--- ---- a text that is cut inside a character
+-- ---- a string that is truncated inside a character
 
--- a front of no bytes is empty
+-- the first 0 elements of a list are none
 take_none : (k : ℕ) (xs : List ℕ) → k ≡ 0 → take k xs ≡ []
 take_none k xs e = ap (λ n. take n xs) e
 
--- a front of a text is a text, or a text and some bytes, three at most, for which one U+FFFD stands
+-- UTF-8, then one to three bytes that decode to one U+FFFD
 pub record IsBroken (bytes : List ℕ) : Type 0 where
   pub text : List ℕ
   pub rest : List ℕ
@@ -182,7 +182,7 @@ pub record IsBroken (bytes : List ℕ) : Type 0 where
   pub few : length rest ≤ 3
   pub lossy : utf8_lossy rest ≡ replacement_bytes
 
--- a front of characters is text, or text and part of a character
+-- the first k bytes of characters are UTF-8, or UTF-8 and part of a character
 front_of_chars : (cs : List ℕ) → scalars cs ≡ true → (k : ℕ) → k ≤ length (encode_utf8_all cs) → IsUtf8 (take k (encode_utf8_all cs)) ⊎ IsBroken (take k (encode_utf8_all cs))
 front_of_chars [] all k le = inl (subst IsUtf8 (sym (take_all k [] (omega arith))) IsUtf8-nil)
 front_of_chars (c ∷ cs) all k le =
@@ -228,7 +228,7 @@ front_of_chars (c ∷ cs) all k le =
 
 -- ---- cut names
 
--- all stands before the first NUL, or a NUL follows
+-- all bytes are before the first NUL, or a NUL follows
 before_nul-split : (xs : List ℕ) → (before_nul xs ≡ xs) ⊎ ((rest : List ℕ) × (xs ≡ before_nul xs ++ 0 ∷ rest))
 before_nul-split [] = inl refl
 before_nul-split (x ∷ xs) =
@@ -245,7 +245,7 @@ before_nul-split (x ∷ xs) =
     (before_nul-split xs))
     (cases_Bool (x == 0))
 
--- what stands before a NUL in a text is text
+-- what precedes a NUL in a string is UTF-8
 before_nul-IsUtf8 : (text front back rest : List ℕ) → IsUtf8 text → text ≡ (front ++ 0 ∷ rest) ++ back → IsUtf8 front
 before_nul-IsUtf8 text front back rest u is =
     let whole : text ≡ front ++ 0 ∷ (rest ++ back) = is ∙ append_assoc front (0 ∷ rest) back in
@@ -255,13 +255,13 @@ before_nul-IsUtf8 text front back rest u is =
     subst IsUtf8 (ap (take i) whole ∙ take_at front (0 ∷ (rest ++ back)) i refl)
     (IsUtf8-take text i u (IsCharBoundary-before_ascii text i within (omega arith)))
 
--- a front of a text is text, or text and part of a character
+-- the first k bytes of a string are UTF-8, or UTF-8 and part of a character
 front_of_text : (text : List ℕ) (k : ℕ) → IsUtf8 text → k ≤ length text → IsUtf8 (take k text) ⊎ IsBroken (take k text)
 front_of_text text k u le =
     subst (λ t. IsUtf8 (take k t) ⊎ IsBroken (take k t)) u.1.1
     (front_of_chars u.0 u.1.0 k (omega (arith, ap length u.1.1)))
 
--- what a cut name is made of: text, or fifteen bytes that end inside a character
+-- what a cut name is made of: UTF-8, or fifteen bytes that end inside a character
 cut_parts : (text : List ℕ) → IsUtf8 text → IsUtf8 (before_nul (take 15 text)) ⊎ (IsBroken (before_nul (take 15 text)) × (length (before_nul (take 15 text)) ≡ 15))
 cut_parts text u =
     let front = take 15 text in
@@ -279,12 +279,12 @@ cut_parts text u =
     (sym (take-append-drop 15 text) ∙ ap (λ t. t ++ drop 15 text) part.1)))
     (before_nul-split front)
 
--- no NUL in the first of two lists
+-- the first of two lists without NUL has no NUL
 clean-front : (xs ys : List ℕ) → HasNoNul (xs ++ ys) → HasNoNul xs
 clean-front [] ys h = tt
 clean-front (x ∷ xs) ys h = (h.0, clean-front xs ys h.1)
 
--- text with U+FFFD behind it, cut at the fifteenth byte
+-- a string followed by U+FFFD, truncated to 15 bytes
 cut_replacement : (text : List ℕ) (m : ℕ) → IsUtf8 text → length text + m ≡ 15 → 0 < m → m ≤ 3
     → IsCutText (text ++ take m replacement_bytes) × (utf8_lossy (text ++ take m replacement_bytes) ≡ text ++ replacement_bytes)
 cut_replacement text zero u sum some few = absurd (omega arith)
@@ -306,7 +306,7 @@ pub record Written (name : List ℕ) : Type 0 where
   pub cut : IsCutText bytes
   pub again : utf8_lossy bytes ≡ name
 
--- the bytes that are written for a cut name
+-- a cut name has such bytes
 pub Written-cut : (text : List ℕ) → IsUtf8 text → Written (cut_name text)
 Written-cut text u =
     let x = before_nul (take 15 text) in
@@ -340,20 +340,20 @@ cut_is_canonical_lem text u =
     let w = Written-cut text u in
     (w.bytes, ap zero_filled w.is, w.short, w.clean, w.cut)
 
--- cutting again changes nothing
+-- a second cut changes nothing
 pub cut_once_lem : (text : List ℕ) → IsUtf8 text → cut_name (cut_name text) ≡ cut_name text
 cut_once_lem text u =
     let w = Written-cut text u in
     ap (λ t. utf8_lossy (before_nul t)) w.is ∙ ap utf8_lossy (before_nul-clean w.bytes w.clean) ∙ w.again
 
--- ---- text is bytes
+-- ---- strings are bytes
 
--- a character is bytes
+-- a character consists of bytes
 bytes-encode : (c : ℕ) → scalar c ≡ true → IsBytes (encode_utf8 c)
 unfolding encode_utf8
 bytes-encode c is = ⊎_elim (λ low. of_char c (omega arith)) (λ high. of_char c high.1) (scalar_cases c is)
   where
-    -- below the last scalar value
+    -- less than the greatest scalar value
     of_char : (c : ℕ) → c < 1114112 → IsBytes (encode_utf8 c)
     of_char c top =
         cond_both (nat_lt c 128) _ _ IsBytes (λ e. (omega (arith, ltb-true c 128 e), tt)) (λ e1.
@@ -361,11 +361,11 @@ bytes-encode c is = ⊎_elim (λ low. of_char c (omega arith)) (λ high. of_char
         cond_both (nat_lt c 65536) _ _ IsBytes (λ e. (omega (arith, ltb-true c 65536 e), (omega arith, (omega arith, tt))))
         (λ e3. (omega arith, (omega arith, (omega arith, (omega arith, tt)))))))
 
--- characters are bytes
+-- characters consist of bytes
 bytes-encodes : (cs : List ℕ) → scalars cs ≡ true → IsBytes (encode_utf8_all cs)
 bytes-encodes [] all = tt
 bytes-encodes (c ∷ cs) all = let both = and_parts _ _ all in bytes-append (encode_utf8 c) (encode_utf8_all cs) (bytes-encode c both.0) (bytes-encodes cs both.1)
 
--- a text is bytes
+-- a string consists of bytes
 pub bytes-text : (text : List ℕ) → IsUtf8 text → IsBytes text
 bytes-text text u = subst IsBytes u.1.1 (bytes-encodes u.0 u.1.0)

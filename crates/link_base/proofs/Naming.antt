@@ -1,4 +1,4 @@
--- The laws of numbers some of which have names.
+-- The laws of enums for named numbers.
 use Rattle.std.proofs.Common.{◌≡◌, ◌≢◌, ℕ, ◌+◌, ◌-◌, ◌<◌, ◌^◌, Bool, true, false, cond, List, [], ◌∷◌, map, slice_index, drop, ◌++◌, Result, Ok, Err, refl, sym, ap, subst, ◌∙◌, arith, inl, inr, ⊎_elim}
 use Rattle.std.specs.Prelude.{◌==◌, ◌||◌, not, nat_lt}
 use Rattle.std.specs.List.{AllByRecursion, list_any, list_all}
@@ -17,12 +17,12 @@ use Rattle.link_base.specs.Named.{Label, Naming, Bare, Accepted, NoText, TextOrD
 
 -- ---- numbers
 
--- the number of what a number is read as
+-- the number of what a number decodes to
 number_of-seen : (listed : List ℕ) (d : ℕ) → number_of (seen_of listed d) ≡ d
 number_of-seen listed d = cond_both (is_listed listed d) (Listed d) (Free d) (λ s. number_of s ≡ d) (λ e. refl) (λ e. refl)
 
 module _ {T : Type 0} (seen : T → Seen) (other : ℕ → T) where
-  -- what the value of a number holds
+  -- what the value for a number holds
   case_seen : (labels : List (Label T)) → AllByRecursion (λ l. seen l.case ≡ Listed l.number) labels → ((d : ℕ) → seen (other d) ≡ Free d)
       → (d : ℕ) → seen (case_of labels other d) ≡ seen_of (map (λ l. l.number) labels) d
   case_seen [] h free d = free d
@@ -46,12 +46,12 @@ value_is : {T : Type 0} (names : Naming T) (v : T) (s : Seen) → IsSeen names v
 value_is names v (Listed d) h = h.1
 value_is names v (Free d) h = h
 
--- the canon of what a value holds is what its number is read as
+-- the normal form of what a value holds is what its number decodes to
 canon_seen : {T : Type 0} (names : Naming T) (v : T) (s : Seen) → IsSeen names v s → seen_of (numbers_of names) (number_of s) ≡ seen_canon (numbers_of names) s
 canon_seen names v (Listed d) h = cond-true (is_listed (numbers_of names) d) (Listed d) (Free d) h.0
 canon_seen names v (Free d) h = refl
 
--- the canon, as a value of the class
+-- the normal form, as a value of the class
 class_canon : (n : ℕ) (listed : List ℕ) (s : Seen) → class.canon (seen_value n listed s) ≡ seen_value n listed (seen_canon listed s)
 class_canon n listed (Listed d) = refl
 class_canon n listed (Free d) =
@@ -60,15 +60,15 @@ class_canon n listed (Free d) =
     (λ e. cond-false (is_listed listed d) (class.Name n d) (class.Unlisted n listed d) e)
 
 module _ {T : Type 0} (names : Naming T) (seen : T → Seen) (cases_hold : AllByRecursion (λ l. seen l.case ≡ Listed l.number) names.labels) (other_holds : (d : ℕ) → seen (names.other d) ≡ Free d) where
-  -- what the value of a number holds
+  -- what the value for a number holds
   pub seen_back : (d : ℕ) → seen (value_of names d) ≡ seen_of (numbers_of names) d
   seen_back d = case_seen seen names.other names.labels cases_hold other_holds d
 
-  -- the value of a number has that number
+  -- the value for a number has that number
   pub number_back : (d : ℕ) → number_of (seen (value_of names d)) ≡ d
   number_back d = ap number_of (seen_back d) ∙ number_of-seen (numbers_of names) d
 
-  -- the value of the number of a value holds its canon
+  -- the value for the number of a value holds the value's normal form
   pub value_back : (v : T) → IsSeen names v (seen v) → seen (value_of names (number_of (seen v))) ≡ seen_canon (numbers_of names) (seen v)
   value_back v h = seen_back (number_of (seen v)) ∙ canon_seen names v (seen v) h
 
@@ -77,11 +77,11 @@ module _ {T : Type 0} (names : Naming T) (seen : T → Seen) (cases_hold : AllBy
       → class.canon (seen_value n (numbers_of names) (seen v)) ≡ seen_value n (numbers_of names) (seen (value_of names (number_of (seen v))))
   canon_back v n h = class_canon n (numbers_of names) (seen v) ∙ ap (seen_value n (numbers_of names)) (sym (value_back v h))
 
--- two values that hold the same are the same value
+-- two values that hold the same are identical
 pub different : {T : Type 0} (names : Naming T) (seen : T → Seen) (a b : T) → IsSeen names a (seen a) → IsSeen names b (seen b) → seen a ≡ seen b → a ≡ b
 different names seen a b h k e = value_is names a (seen a) h ∙ ap (is_value names) e ∙ sym (value_is names b (seen b) k)
 
--- ---- displayed texts are accepted
+-- ---- `Display` output is accepted
 
 -- the first label of a number
 first_label : {T : Type 0} (l : Label T) (labels : List (Label T)) (other : ℕ → T) (d : ℕ) (b : Bool) → (b || is_listed (map (λ m. m.number) labels) d) ≡ true
@@ -90,61 +90,61 @@ first_label : {T : Type 0} (l : Label T) (labels : List (Label T)) (other : ℕ 
 first_label l labels other d true h rest = inl (refl, refl)
 first_label l labels other d false h rest = inr (rest h)
 
--- the value of a number that has a name has a label with its text
+-- the value for a number that has a name has a label with its string
 has_text : {T : Type 0} (labels : List (Label T)) (other : ℕ → T) (d : ℕ) → is_listed (map (λ m. m.number) labels) d ≡ true
     → HasLabel labels (case_of labels other d) (λ m. text_of labels d ≡ m.text)
 has_text [] other d h = absurd (false≢true h)
 has_text (l ∷ labels) other d h = first_label l labels other d (l.number == d) h (has_text labels other d)
 
--- a label that passes a rule passes a weaker one
+-- a label for which a rule holds also satisfies any rule that follows from it
 weaker : {T : Type 0} (labels : List (Label T)) (v : T) (P Q : Label T → Type 0) → ((l : Label T) → P l → Q l) → HasLabel labels v P → HasLabel labels v Q
 weaker [] v P Q f h = h
 weaker (l ∷ labels) v P Q f h = ⊎_elim (λ a. inl (a.0, f l a.1)) (λ a. inr (weaker labels v P Q f a)) h
 
--- a label of the first of two lists is one of both
+-- a label in the first of two lists is in both together
 in_first : {T : Type 0} (labels further : List (Label T)) (v : T) (P : Label T → Type 0) → HasLabel labels v P → HasLabel (labels ++ further) v P
 in_first [] further v P h = absurd h
 in_first (l ∷ labels) further v P h = ⊎_elim (λ a. inl a) (λ a. inr (in_first labels further v P a)) h
 
--- and so is one of the second
+-- so is a label in the second
 in_second : {T : Type 0} (labels further : List (Label T)) (v : T) (P : Label T → Type 0) → HasLabel further v P → HasLabel (labels ++ further) v P
 in_second [] further v P h = h
 in_second (l ∷ labels) further v P h = inr (in_second labels further v P h)
 
--- a text is accepted
+-- a string is accepted
 text_by : {T : Type 0} (rule : Accepted) (names : Naming T) (text : List ℕ) (v : T) → rule ≢ NoText → HasLabel (all_labels names) v (λ l. text ≡ l.text) → AcceptsBy rule names text v
 text_by NoText names text v some h = absurd (some refl)
 text_by TextOrDigit names text v some h = inl h
 text_by (TextOrNumber bits) names text v some h = inl h
 text_by AnyCase names text v some h = weaker (all_labels names) v _ _ (λ l e. ap lower e) h
 
--- the text of a name
+-- the string of a name
 name_text : {T : Type 0} (names : Naming T) (v : T) (d : ℕ) → IsSeen names v (Listed d) → HasLabel (all_labels names) v (λ l. text_of names.labels d ≡ l.text)
 name_text names v d h =
     in_first names.labels names.further v _
     (subst (λ w. HasLabel names.labels w (λ l. text_of names.labels d ≡ l.text)) (sym h.1) (has_text names.labels names.other d h.0))
 
--- the displayed text of a number that has a name is accepted
+-- the `Display` output for a number that has a name is accepted
 pub name_back : {T : Type 0} (names : Naming T) (v : T) (s : Seen) (d : ℕ) → IsSeen names v s → names.accepted ≢ NoText → s ≡ Listed d → Accepts names (displayed names s) v
 name_back names v (Listed n) d h some e = text_by names.accepted names (text_of names.labels n) v some (name_text names v n h)
 name_back names v (Free n) d h some e = absurd cc
 
--- a further text is accepted
+-- an additional string is accepted
 pub further_read : {T : Type 0} (names : Naming T) (text : List ℕ) (v : T) → names.accepted ≢ NoText → HasLabel names.further v (λ l. text ≡ l.text) → Accepts names text v
 further_read names text v some h = text_by names.accepted names text v some (in_second names.labels names.further v _ h)
 
--- a list of digits has no plus in front
+-- a list of digits does not start with a plus
 no_plus : (ds : List ℕ) → IsNumeral 10 ds → without_leading_plus ds ≡ ds
 no_plus [] h = refl
 no_plus (c ∷ ds) h = let digit = digit_from_value c h.1.0 in without_leading_plus_none (c ∷ ds) (λ e. omega (arith, e, digit.0, digit.1))
 
--- the decimal writes its number
+-- the decimal representation of a number is accepted for it
 decimal_writes : (bits d : ℕ) → d < 2 ^ bits → d < 2 ^ 64 → WritesNumber bits (decimal d) d
 decimal_writes bits d fits below =
     let is = decimal_is_IsNumeral d below in
     subst (λ ds. IsNumeral 10 ds × (digits_value 10 ds ≡ d) × (d < 2 ^ bits)) (sym (no_plus (decimal d) is.0)) (is.0, is.1, fits)
 
--- the displayed text of a value is accepted for the value of its number, where numbers are
+-- the `Display` output of a value is accepted for the value of its number, if numbers are accepted
 pub number_accepted : {T : Type 0} (names : Naming T) (v : T) (s : Seen) (bits : ℕ) → IsSeen names v s → names.accepted ≡ TextOrNumber bits → names.other_text ≡ Bare
     → number_of s < 2 ^ bits → number_of s < 2 ^ 64 → Accepts names (displayed names s) (value_of names (number_of s))
 number_accepted names v (Listed d) bits h rule bare fits below =
@@ -154,9 +154,9 @@ number_accepted names v (Free d) bits h rule bare fits below =
     subst (λ a. AcceptsBy a names (free_text names.other_text d) (value_of names d)) (sym rule)
     (inr (d, subst (λ t. WritesNumber bits (free_text t d) d) (sym bare) (decimal_writes bits d fits below), refl))
 
--- ---- a text is accepted for one value
+-- ---- a string is accepted for one value only
 
--- a label that passes a rule passes a test that all labels pass
+-- a rule for a label may use a test that all labels pass
 with_test : {T : Type 0} (test : Label T → Bool) (labels : List (Label T)) (v : T) (P Q : Label T → Type 0) → list_all test labels ≡ true
     → ((l : Label T) → test l ≡ true → P l → Q l) → HasLabel labels v P → HasLabel labels v Q
 with_test test [] v P Q all f h = h
@@ -164,7 +164,7 @@ with_test test (l ∷ labels) v P Q all f h =
     let t = and_parts (test l) (list_all test labels) all in
     ⊎_elim (λ a. inl (a.0, f l t.0 a.1)) (λ a. inr (with_test test labels v P Q t.1 f a)) h
 
--- no label passes a rule that cannot be passed
+-- a rule that never holds does not hold for a label
 nowhere : {T : Type 0} (labels : List (Label T)) (v : T) → HasLabel labels v (λ l. ⊥) → ⊥
 nowhere [] v h = h
 nowhere (l ∷ labels) v h = ⊎_elim (λ a. a.1) (λ a. nowhere labels v a) h
@@ -181,7 +181,7 @@ module _ {T K : Type 0} (eq : K → K → Bool) (reflexive : (x : K) → eq x x 
   apart l labels v none e h =
       both_ways (list_any (λ x. eq x k) (map key labels)) (subst (λ y. list_any (λ x. eq x y) (map key labels) ≡ false) e (not-true _ none)) (among labels v h)
 
-  -- labels with one key are of one value
+  -- labels with equal keys have the same value
   one_label : (labels : List (Label T)) (v w : T) → are_distinct eq (map key labels) ≡ true → HasLabel labels v (λ l. key l ≡ k) → HasLabel labels w (λ l. key l ≡ k) → v ≡ w
   one_label [] v w d h i = absurd h
   one_label (l ∷ labels) v w d h i =
@@ -197,7 +197,7 @@ same_bytes text = (bytes_eq-Decides text text).1 refl
 same_number : (d : ℕ) → (d == d) ≡ true
 same_number d = eq-eqb d d refl
 
--- the decimal of a digit
+-- the decimal representation of a digit
 digit_text : (d : ℕ) (text : List ℕ) → nat_lt d 10 ≡ true → text ≡ decimal d → text ≡ (48 + d) ∷ []
 digit_text d text small e = e ∙ decimal_digit d (ltb-true d 10 small)
 
@@ -205,7 +205,7 @@ digit_text d text small e = e ∙ decimal_digit d (ltb-true d 10 small)
 digit_number : (d : ℕ) (text : List ℕ) → text ≡ (48 + d) ∷ [] → d ≡ slice_index text 0 - 48
 digit_number d text e = let first : slice_index text 0 ≡ 48 + d = ap (λ t. slice_index t 0) e in omega arith
 
--- a numeral begins with a digit or a plus
+-- a number in a string begins with a digit or a plus
 numeral_begins : (bits : ℕ) (text : List ℕ) (d : ℕ) → WritesNumber bits text d → begins_number (slice_index text 0) ≡ true
 numeral_begins bits [] d h = absurd (omega (arith, h.0.0))
 numeral_begins bits (c ∷ text) d h =
@@ -221,18 +221,18 @@ module _ {T : Type 0} (names : Naming T) (is : is_naming names ≡ true) where
       let b = and_parts _ _ a.1 in
       (a.0, b.0, b.1)
 
-  -- labels of one text, in any case of its letters, are of one value
+  -- labels whose strings are equal, ignoring ASCII case, have the same value
   by_lower : (text : List ℕ) (v w : T) → HasLabel (all_labels names) v (λ l. lower text ≡ lower l.text) → HasLabel (all_labels names) w (λ l. lower text ≡ lower l.text) → v ≡ w
   by_lower text v w h i =
       one_label bytes_eq same_bytes (λ l. lower l.text) (lower text) (all_labels names) v w parts.1
       (weaker (all_labels names) v _ _ (λ l e. sym e) h) (weaker (all_labels names) w _ _ (λ l e. sym e) i)
 
-  -- labels of one text are of one value
+  -- labels with equal strings have the same value
   by_text : (text : List ℕ) (v w : T) → HasLabel (all_labels names) v (λ l. text ≡ l.text) → HasLabel (all_labels names) w (λ l. text ≡ l.text) → v ≡ w
   by_text text v w h i =
       by_lower text v w (weaker (all_labels names) v _ _ (λ l e. ap lower e) h) (weaker (all_labels names) w _ _ (λ l e. ap lower e) i)
 
-  -- a text of a label is no digit of one
+  -- the string of a label is not the digit of a label
   text_or_digit : (text : List ℕ) (v w : T) → names.accepted ≡ TextOrDigit → HasLabel (all_labels names) v (λ l. text ≡ l.text) → HasLabel names.labels w (λ l. text ≡ decimal l.number) → ⊥
   text_or_digit text v w rule h i =
       let texts = map (λ l. l.text) (all_labels names) in
@@ -245,7 +245,7 @@ module _ {T : Type 0} (names : Naming T) (is : is_naming names ≡ true) where
       both_ways (list_any (λ x. bytes_eq x text) texts)
       (subst (λ y. list_any (λ x. bytes_eq x y) texts ≡ false) (sym (digit_text l.number text t.0 e)) (not-true _ t.1)) found) i)
 
-  -- labels of one digit are of one value
+  -- labels with equal digits have the same value
   by_digit : (text : List ℕ) (v w : T) → names.accepted ≡ TextOrDigit → HasLabel names.labels v (λ l. text ≡ decimal l.number) → HasLabel names.labels w (λ l. text ≡ decimal l.number) → v ≡ w
   by_digit text v w rule h i =
       let all = subst (λ a. are_told_apart a names ≡ true) rule parts.2 in
@@ -254,7 +254,7 @@ module _ {T : Type 0} (names : Naming T) (is : is_naming names ≡ true) where
       (λ l test e. digit_number l.number text (digit_text l.number text (and_parts _ _ test).0 e)) j in
       one_label (λ a b. a == b) same_number (λ l. l.number) (slice_index text 0 - 48) names.labels v w parts.0 (number v h) (number w i)
 
-  -- a text of a label is no numeral
+  -- the string of a label is not a number
   text_or_number : (text : List ℕ) (v : T) (bits d : ℕ) → names.accepted ≡ TextOrNumber bits → HasLabel (all_labels names) v (λ l. text ≡ l.text) → WritesNumber bits text d → ⊥
   text_or_number text v bits d rule h i =
       let all = subst (λ a. are_told_apart a names ≡ true) rule parts.2 in
@@ -264,7 +264,7 @@ module _ {T : Type 0} (names : Naming T) (is : is_naming names ≡ true) where
       both_ways (begins_number (slice_index l.text 0)) (not-true _ test)
       (subst (λ t. begins_number (slice_index t 0) ≡ true) e (numeral_begins bits text d i))) h)
 
-  -- a text is accepted for one value, by each rule
+  -- a string is accepted for one value only, by each rule
   one_by : (rule : Accepted) (text : List ℕ) (v w : T) → names.accepted ≡ rule → AcceptsBy rule names text v → AcceptsBy rule names text w → v ≡ w
   one_by NoText text v w e h i = absurd h
   one_by TextOrDigit text v w e h i =
@@ -277,23 +277,23 @@ module _ {T : Type 0} (names : Naming T) (is : is_naming names ≡ true) where
       (λ a. ⊎_elim (λ b. absurd (text_or_number text w bits a.0 e b a.1)) (λ b. a.2 ∙ ap (value_of names) (sym a.1.1 ∙ b.1.1) ∙ sym b.2) i) h
   one_by AnyCase text v w e h i = by_lower text v w h i
 
-  -- a text is accepted for one value
+  -- a string is accepted for one value only
   pub one_text : (text : List ℕ) (v w : T) → Accepts names text v → Accepts names text w → v ≡ w
   one_text text v w h i = one_by names.accepted text v w refl h i
 
-  -- a text that is accepted for a value reads as it
+  -- a string that is accepted for a value parses to it
   pub reads_as : (text : List ℕ) (v : T) (r : Result T DecodeError) → Accepts names text v → ReadsText names text r → r ≡ Ok v
   reads_as text v (Ok w) a h = ap Ok (one_text text w v h a)
   reads_as text v (Err e) a h = absurd (h.1 v a)
 
--- ---- numbers that `parse` reads
+-- ---- numbers that `parse` accepts
 
--- what was read is the number that the text writes
+-- the parsed number is the one in the string
 pub parsed_number : {E : Type 0} (bits : ℕ) (text : List ℕ) (r : Result ℕ E) (d : ℕ) → ParsesUnsigned bits 10 text r → r ≡ Ok d → WritesNumber bits text d
 parsed_number bits text (Ok n) d h e = let same : n ≡ d = cc in (h.0.0, sym h.1 ∙ same, subst (λ m. m < 2 ^ bits) (sym h.1 ∙ same) h.0.1)
 parsed_number bits text (Err x) d h e = absurd cc
 
--- a text that is refused writes no number
+-- a string that is rejected is not a number
 pub parsed_none : {E : Type 0} (bits : ℕ) (text : List ℕ) (r : Result ℕ E) (x : E) (d : ℕ) → ParsesUnsigned bits 10 text r → r ≡ Err x → ¬ (WritesNumber bits text d)
 parsed_none bits text (Ok n) x d h e = absurd cc
 parsed_none bits text (Err y) x d h e = λ w. h (w.0, subst (λ m. m < 2 ^ bits) (sym w.1) w.2)

@@ -1,4 +1,4 @@
--- A string of bytes reads as its values or as its first fault, and as one of these only.
+-- Every list of bytes decodes to values or has a first error, never both, and either is unique.
 use Rattle.std.proofs.Common.{◌≡◌, ℕ, zero, suc, ◌+◌, ◌<◌, ◌≤◌, List, [], ◌∷◌, ◌++◌, length, Option, Some, None, Result, Ok, Err, refl, sym, ap, ap₂, subst, ◌∙◌, arith, inl, inr, ⊎_elim, append_assoc, length-append}
 use Rattle.std.specs.List.{AllZip, AllByRecursion}
 use Rattle.std.proofs.lemmas.List.{nil_from_length}
@@ -14,11 +14,11 @@ use Rattle.link_base.proofs.Fronts.{Front, Front-no_fault, frame_fault-frame, le
 
 -- ---- results
 
--- a value that was read
+-- a decoded value
 abbrev pub ok : {V : Type 0} → V → Result V DecodeFault
 ok v = Ok v
 
--- a payload that reads as a fault
+-- a payload that has an error
 abbrev pub failed : {V : Type 0} → DecodeFault → Result V DecodeFault
 failed fault = Err fault
 
@@ -26,17 +26,17 @@ failed fault = Err fault
 pub same_ok : {V : Type 0} (v w : V) → ok v ≡ ok w → v ≡ w
 same_ok v w e = cc
 
--- results that are equal have equal faults
+-- results that are equal have equal errors
 pub same_failed : {V : Type 0} (a b : DecodeFault) → failed {V = V} a ≡ failed {V = V} b → a ≡ b
 same_failed a b e = cc
 
--- no result is a value and a fault
+-- no result is both a value and an error
 pub ok_not_failed : {V : Type 0} (v : V) (fault : DecodeFault) → ok v ≡ failed fault → ⊥
 ok_not_failed v fault e = absurd cc
 
 -- ---- frames
 
--- a complete frame before frames
+-- a complete frame, then frames
 pub AreFrames-cons : (x : Frame) (xs : List Frame) → IsComplete x → AreFrames xs → AreFrames (x ∷ xs)
 AreFrames-cons x [] h k = IsFrame-complete x h
 AreFrames-cons x (y ∷ xs) h k = (h, k)
@@ -46,7 +46,7 @@ pub record NextFrames (x : Frame) (xs : List Frame) (y : Frame) (t : List ℕ) :
   pub rest : spelled xs ≡ t
   pub frames : AreFrames xs
 
--- a list of frames that begins as a complete frame and more
+-- a list of frames that starts with a complete frame and has more bytes
 pub NextFrames-more : (x : Frame) (xs : List Frame) (y : Frame) (t : List ℕ) → AreFrames (x ∷ xs) → IsComplete y → 0 < length t
     → frame_bytes x ++ spelled xs ≡ frame_bytes y ++ t → NextFrames x xs y t
 NextFrames-more x [] y t hx hy some e =
@@ -59,23 +59,23 @@ NextFrames-more x (x2 ∷ xs) y t hx hy some e =
     let parts = same_parts x.padding (spelled (x2 ∷ xs)) y.padding t (omega (arith, hx.0.padding, hy.padding)) same.rest in
     record { rest = parts.1; frames = hx.1 }
 
--- the frames read as the values, one by one
+-- the frames decode to the values, one by one
 abbrev pub ReadEach : {V : Type 0} → Reading V → List Frame → List V → Type 0
 ReadEach gives xs vs = AllZip (λ x v. FrameGives gives x (Ok v)) xs vs
 
--- each frame reads as a value
+-- each frame decodes to a value
 abbrev pub HaveValues : {V : Type 0} → Reading V → List Frame → Type 0
 HaveValues {V} gives xs = AllByRecursion (λ x. (v : V) × FrameGives gives x (Ok v)) xs
 
 module _ {V : Type 0} {gives : Reading V} (laws : IsReading gives) where
-  -- equal bytes begin with frames that read as one result
+  -- frames at the start of equal bytes have the same result
   same_here : (x y : Frame) (s t : List ℕ) (a b : Result V DecodeFault) → IsFrame x → IsFrame y → frame_bytes x ++ s ≡ frame_bytes y ++ t
       → FrameGives gives x a → FrameGives gives y b → a ≡ b
   same_here x y s t a b hx hy e ha hb =
       let same = SameFront-frames x y s t hx hy e in
       laws.one y.kind_field y.payload a b (subst (λ p. gives y.kind_field p a) same.payload (subst (λ f. gives f x.payload a) same.kind_field ha)) hb
 
-  -- no frame with a value stands where there is a fault
+  -- bytes that start with an error do not start with a frame that decodes to a value
   no_fault_here : (x : Frame) (t : List ℕ) (v : V) (rest : List ℕ) (fault : DecodeFault) → IsFrame x → FrameGives gives x (Ok v)
       → frame_bytes x ++ t ≡ rest → FaultsHere gives rest fault → ⊥
   no_fault_here x t v rest fault hx hv e (inl h) =
@@ -85,7 +85,7 @@ module _ {V : Type 0} {gives : Reading V} (laws : IsReading gives) where
   no_fault_here x t v rest fault hx hv e (inr h) =
       ok_not_failed v fault (same_here x h.0 t h.1.rest (Ok v) (Err fault) hx h.1.is (e ∙ h.1.string) hv h.2)
 
-  -- frames with values are not frames and then a fault
+  -- frames that decode to values are not frames followed by an error
   exclusive : (xs front : List Frame) (vs : List V) (rest : List ℕ) (fault : DecodeFault) → AreFrames xs → ReadEach gives xs vs
       → AllByRecursion IsComplete front → 0 < length rest → FaultsHere gives rest fault → spelled xs ≡ spelled front ++ rest → ⊥
   exclusive [] front vs rest fault hx hv hy some here e = omega (arith, ap length e, length-append (spelled front) rest)
@@ -96,18 +96,18 @@ module _ {V : Type 0} {gives : Reading V} (laws : IsReading gives) where
       let next = NextFrames-more x xs y t hx hy.0 (omega (arith, length-append (spelled front) rest)) (e ∙ append_assoc (frame_bytes y) (spelled front) rest) in
       exclusive xs front vs rest fault next.frames hv.1 hy.1 some here next.rest
 
-  -- a string does not have both values and a first fault
+  -- bytes do not both decode to values and have a first error
   pub not_both : (s : List ℕ) (vs : List V) (at : ℕ) (fault : DecodeFault) → Wire gives s vs → FirstFault gives s at fault → ⊥
   not_both s vs at fault w h =
       exclusive w.frames h.front vs h.rest fault w.string.frames w.values h.complete h.some h.here (sym w.string.string ∙ h.string)
 
-  -- ---- every string reads as something
+  -- ---- every list of bytes has a result
 
-  -- a string has a reading
+  -- the bytes have a result
   abbrev pub Readable : List ℕ → Type 0
   Readable s = (q : Result (List V) (ℕ × DecodeFault)) × Reads gives s q
 
-  -- a fault at the front
+  -- an error at the start
   fault_here : (s : List ℕ) (fault : DecodeFault) → 0 < length s → FaultsHere gives s fault → Readable s
   fault_here s fault some here = (
     Err (0, fault),
@@ -123,11 +123,11 @@ module _ {V : Type 0} {gives : Reading V} (laws : IsReading gives) where
     },
   )
 
-  -- a frame with a value, and nothing behind it
+  -- a frame that decodes to a value, with nothing after it
   last_value : (s : List ℕ) (x : Frame) (v : V) → s ≡ frame_bytes x ++ [] → IsFrame x → FrameGives gives x (Ok v) → Readable s
   last_value s x v e hx hv = (Ok (v ∷ []), record { frames = x ∷ []; string = record { frames = hx; string = e }; values = (hv, tt) })
 
-  -- a complete frame with a value, before what has a reading
+  -- a complete frame that decodes to a value, then bytes that have a result
   more_values : (s t : List ℕ) (x : Frame) (v : V) → s ≡ frame_bytes x ++ t → IsComplete x → FrameGives gives x (Ok v)
       → (q : Result (List V) (ℕ × DecodeFault)) → Reads gives t q → Readable s
   more_values s t x v e hx hv (Ok vs) w = (
@@ -152,11 +152,11 @@ module _ {V : Type 0} {gives : Reading V} (laws : IsReading gives) where
     },
   )
 
-  -- a string has a reading where all shorter ones have
+  -- bytes have a result if all shorter ones do
   some_step : (s : List ℕ) → 0 < length s → IsBytes s → ((t : List ℕ) → length t < length s → IsBytes t → Readable t) → Readable s
   some_step s some h again = by_fault (frame_fault s) refl
     where
-      -- by what the front frame reads as
+      -- by the result of the first frame
       by_value : (front : Front s) (r : Result V DecodeFault) → FrameGives gives front.frame r → Readable s
       by_value front (Err c) hr = fault_here s c some (inr (front.frame, record { rest = front.rest; is = front.is; string = front.string }, hr))
       by_value front (Ok v) hr = ⊎_elim
@@ -168,7 +168,7 @@ module _ {V : Type 0} {gives : Reading V} (laws : IsReading gives) where
           more_values s front.rest front.frame v front.string complete hr later.0 later.1)
           front.last
 
-      -- by whether a frame stands at the front
+      -- by whether the bytes start with a frame
       by_fault : (o : Option Cause) → frame_fault s ≡ o → Readable s
       by_fault (Some c) e = fault_here s (faults.Frame c) some (inl (c, e, refl))
       by_fault None e =
@@ -177,19 +177,19 @@ module _ {V : Type 0} {gives : Reading V} (laws : IsReading gives) where
           let read = laws.decided x.kind_field x.payload front.is.kind_field (bytes-payload x front.rest (subst IsBytes front.string h)) in
           by_value front read.0 read.1
 
-  -- a string has a reading, by its length
+  -- all bytes have a result, by their length
   some_within : (fuel : ℕ) (s : List ℕ) → length s ≤ fuel → IsBytes s → Readable s
   some_within fuel [] le h = (Ok [], record { frames = []; string = record { frames = tt; string = refl }; values = tt })
   some_within zero (b ∷ s) le h = absurd (omega arith)
   some_within (suc fuel) (b ∷ s) le h = some_step (b ∷ s) (omega arith) h (λ t less k. some_within fuel t (omega arith) k)
 
-  -- each string of bytes reads as its values or as its first fault
+  -- every list of bytes decodes to its values or has a first error
   pub reads_some : (s : List ℕ) → IsBytes s → (q : Result (List V) (ℕ × DecodeFault)) × Reads gives s q
   reads_some s h = some_within (length s) s (omega arith) h
 
-  -- ---- and as one thing only
+  -- ---- the result is unique
 
-  -- frames have one list of values
+  -- frames decode to one list of values
   same_values : (xs : List Frame) (vs ws : List V) → ReadEach gives xs vs → ReadEach gives xs ws → vs ≡ ws
   same_values [] [] [] hv hw = refl
   same_values [] [] (w ∷ ws) hv hw = absurd hw
@@ -199,17 +199,17 @@ module _ {V : Type 0} {gives : Reading V} (laws : IsReading gives) where
   same_values (x ∷ xs) (v ∷ vs) (w ∷ ws) hv hw =
       ap₂ (λ a b. a ∷ b) (same_ok v w (laws.one x.kind_field x.payload (Ok v) (Ok w) hv.0 hw.0)) (same_values xs vs ws hv.1 hw.1)
 
-  -- a string has one list of values
+  -- bytes decode to one list of values
   pub one_values : (s : List ℕ) (vs ws : List V) → Wire gives s vs → Wire gives s ws → vs ≡ ws
   one_values s vs ws v w =
       same_values v.frames vs ws v.values
       (subst (λ xs. ReadEach gives xs ws) (one_cut_lem s w.frames v.frames w.string v.string) w.values)
 
-  -- the cause of a frame fault is one
+  -- a malformed header has one cause
   same_cause : (c d : Cause) → Some c ≡ Some d → c ≡ d
   same_cause c d e = cc
 
-  -- bytes begin with one fault
+  -- bytes start with one error
   one_here : (r : List ℕ) (a b : DecodeFault) → FaultsHere gives r a → FaultsHere gives r b → a ≡ b
   one_here r a b (inl h) (inl k) = h.2 ∙ ap faults.Frame (same_cause h.0 k.0 (sym h.1 ∙ k.1)) ∙ sym k.2
   one_here r a b (inl h) (inr k) =
@@ -222,7 +222,7 @@ module _ {V : Type 0} {gives : Reading V} (laws : IsReading gives) where
       absurd cc
   one_here r a b (inr h) (inr k) = same_failed a b (same_here h.0 k.0 h.1.rest k.1.rest (Err a) (Err b) h.1.is k.1.is (sym h.1.string ∙ k.1.string) h.2 k.2)
 
-  -- complete frames with values, and then a fault: the fault and its place are one
+  -- complete frames that decode to values, then an error: the error and its offset are unique
   one_first_by : (xs ys : List Frame) (r t : List ℕ) (a b : DecodeFault) → AllByRecursion IsComplete xs → AllByRecursion IsComplete ys
       → HaveValues gives xs → HaveValues gives ys → FaultsHere gives r a → FaultsHere gives t b
       → spelled xs ++ r ≡ spelled ys ++ t → (length (spelled xs) ≡ length (spelled ys)) × (a ≡ b)
@@ -252,13 +252,13 @@ module _ {V : Type 0} {gives : Reading V} (laws : IsReading gives) where
         rest.1,
       )
 
-  -- a string has one first fault
+  -- bytes have one first error
   one_first : (s : List ℕ) (i j : ℕ) (a b : DecodeFault) → FirstFault gives s i a → FirstFault gives s j b → (i ≡ j) × (a ≡ b)
   one_first s i j a b h k =
       let same = one_first_by h.front k.front h.rest k.rest a b h.complete k.complete h.values k.values h.here k.here (sym h.string ∙ k.string) in
       (h.offset ∙ same.0 ∙ sym k.offset, same.1)
 
-  -- a string reads as one thing
+  -- bytes have one result
   pub reads_one : (s : List ℕ) (q r : Result (List V) (ℕ × DecodeFault)) → Reads gives s q → Reads gives s r → q ≡ r
   reads_one s (Ok vs) (Ok ws) a b = let e = one_values s vs ws a b in λ i. Ok (e i)
   reads_one s (Ok vs) (Err h) a b = absurd (not_both s vs h.0 h.1 a b)

@@ -1,4 +1,4 @@
--- What is read from a table of frames, one after another.
+-- Decoding the frames of a table one at a time.
 use Rattle.std.proofs.Common.{◌≡◌, ℕ, false, true, ◌+◌, ◌<◌, ◌≤◌, List, [], ◌∷◌, ◌++◌, length, drop, get_or, Option, Some, None, Result, Ok, Err, refl, sym, ap, subst, ◌∙◌, arith, inl, inr, append_assoc}
 use Rattle.std.specs.List.{AllByRecursion, AllZip}
 use Rattle.std.proofs.lemmas.Bool.{cases_lt}
@@ -23,41 +23,41 @@ use Rattle.link_base.proofs.Fronts.{frame_fault-frame}
 use Rattle.link_base.proofs.Walking.{cut_of, length-starts}
 use Rattle.link_base.proofs.Readings.{not_both}
 
--- a fact that holds wherever memory ran out
+-- a fact that holds in any case also holds if the call fails with `Memory`
 pub on_list_memory : {X : Type 0} (r : Result X ListError) (P : Type 0) → P → OnListMemory r P
 on_list_memory (Ok x) P p = tt
 on_list_memory (Err (list_errors.Fault at c)) P p = tt
 on_list_memory (Err (list_errors.Memory e)) P p = p
 
--- what a call answers says whether it fails
+-- a call fails with `Fault` if and only if s does not decode
 pub fault_unless : {X : Type 0} (table : Table) → IsReading (Gives table) → (view : X → List AttrValue) (s : List ℕ) (r : Result X ListError) → ListAnswers view r (Gives table) s → ListFaultUnless r (Decodes table s)
 fault_unless table law view s (Ok x) w = record { values = view x; wire = w }
 fault_unless table law view s (Err (list_errors.Fault at c)) first = λ d. not_both law s d.values at c d.wire first
 fault_unless table law view s (Err (list_errors.Memory e)) any = tt
 
--- ---- frames, some before others
+-- ---- frames, and the frames before them
 
 spelled-append : (xs ys : List Frame) → spelled (xs ++ ys) ≡ spelled xs ++ spelled ys
 spelled-append xs ys = flat_map-append frame_bytes xs ys
 
--- where the frame behind some others starts
+-- the offset of the frame that follows some others
 starts-at : (at : ℕ) (xs : List Frame) (y : Frame) (ys : List Frame) → get_or (starts at (xs ++ y ∷ ys)) (length xs) 0 ≡ at + length (spelled xs)
 starts-at at [] y ys = omega arith
 starts-at at (x ∷ xs) y ys = starts-at (at + length (frame_bytes x)) xs y ys ∙ omega (arith, length-append (frame_bytes x) (spelled xs))
 
--- frames before others are complete
+-- frames that precede others are complete
 complete_before : (xs : List Frame) (y : Frame) (ys : List Frame) → AreFrames (xs ++ y ∷ ys) → AllByRecursion IsComplete xs
 complete_before [] y ys h = tt
 complete_before (x ∷ []) y ys h = (h.0, tt)
 complete_before (x ∷ z ∷ xs) y ys h = (h.0, complete_before (z ∷ xs) y ys h.1)
 
--- frames behind others are frames
+-- frames that follow others are frames
 frames_behind : (xs : List Frame) (y : Frame) (ys : List Frame) → AreFrames (xs ++ y ∷ ys) → AreFrames (y ∷ ys)
 frames_behind [] y ys h = h
 frames_behind (x ∷ []) y ys h = h.1
 frames_behind (x ∷ z ∷ xs) y ys h = frames_behind (z ∷ xs) y ys h.1
 
--- bytes in which a frame is found begin with one
+-- bytes in which a frame is found start with one
 pub first_frame : (s offsets : List ℕ) (fault : Option (ℕ × Cause)) → Finds s offsets fault → 0 < length offsets → frame_fault s ≡ None
 first_frame s offsets fault found some = by_frames found.frames (cut_of s found.frames fault found.all) (omega (arith, some, ap length found.places, length-starts 0 found.frames))
   where
@@ -65,7 +65,7 @@ first_frame s offsets fault found some = by_frames found.frames (cut_of s found.
     by_frames [] h lt = absurd (omega (arith, lt))
     by_frames (x ∷ xs) (rest, frames, string) lt = ap frame_fault (string ∙ append_assoc (frame_bytes x) (spelled xs) rest) ∙ frame_fault-frame x (spelled xs ++ rest) (AreFrames-head x xs frames)
 
--- where room for no frame could not be refused, the bytes begin with a frame
+-- if the allocation for n offsets can fail, n is not 0, and the bytes start with a frame
 pub first_frame-room : (s offsets : List ℕ) (fault : Option (ℕ × Cause)) (n : ℕ) → Finds s offsets fault → n ≡ length offsets → (n ≡ 0 → false ≡ true) → frame_fault s ≡ None
 first_frame-room s offsets fault n found same refused = elim (cases_lt 0 (length offsets)) [
   | inl some ↦ first_frame s offsets fault found some
@@ -75,7 +75,7 @@ first_frame-room s offsets fault n found same refused = elim (cases_lt 0 (length
     never : false ≡ true → ⊥
     never e = absurd cc
 
--- ---- values, one more each time
+-- ---- values, one at a time
 
 pub all_zip-push : {A B : Type 0} (P : A → B → Type 0) (xs : List A) (ys : List B) (x : A) (y : B) → AllZip P xs ys → P x y → AllZip P (xs ++ x ∷ []) (ys ++ y ∷ [])
 all_zip-push P [] [] x y h p = (p, tt)
@@ -89,7 +89,7 @@ all_zip-all P (x ∷ xs) [] h = absurd h
 all_zip-all P (x ∷ xs) (y ∷ ys) h = ((y, h.0), all_zip-all P xs ys h.1)
 
 module _ {V : Type 0} (gives : Reading V) (s offsets : List ℕ) (fault : Option (ℕ × Cause)) where
-  -- the frames before place i read as these values
+  -- the first i frames decode to these values
   pub record ReadsTo (i : ℕ) (vs : List V) : Type 0 where
     pub before : List Frame
     pub after : List Frame
@@ -108,7 +108,7 @@ module _ {V : Type 0} (gives : Reading V) (s offsets : List ℕ) (fault : Option
     values = subst (AllZip (λ x v. FrameGives gives x (Ok v)) []) (sym none) tt;
   }
 
-  -- the frame at place i, between those before it and those behind it
+  -- frame i, between those before it and those after it
   record At (i : ℕ) (vs : List V) (f : ℕ) (p : List ℕ) : Type 0 where
     before : List Frame
     frame : Frame
@@ -156,7 +156,7 @@ module _ {V : Type 0} (gives : Reading V) (s offsets : List ℕ) (fault : Option
             payload = same.payload;
           }
 
-  -- the frame at place i has a value
+  -- frame i decodes to a value
   pub reads_more : (i : ℕ) (vs : List V) (f : ℕ) (p : List ℕ) (v : V) → ReadsTo i vs → i < length offsets → BeginsWith (drop (get_or offsets i 0) s) (bare f p) → gives f p (Ok v) → ReadsTo (i + 1) (vs ++ v ∷ [])
   reads_more i vs f p v h lt b given =
       let at = frame_at i vs f p h lt b in
@@ -172,7 +172,7 @@ module _ {V : Type 0} (gives : Reading V) (s offsets : List ℕ) (fault : Option
         values = all_zip-push (λ x v. FrameGives gives x (Ok v)) at.before vs x v at.values reads;
       }
 
-  -- the frame at place i has a fault
+  -- frame i has an error
   pub reads_fault : (i : ℕ) (vs : List V) (f : ℕ) (p : List ℕ) (c : DecodeFault) → ReadsTo i vs → i < length offsets → BeginsWith (drop (get_or offsets i 0) s) (bare f p) → gives f p (Err c)
       → FirstFault gives s (get_or offsets i 0) c
   reads_fault i vs f p c h lt b given =
@@ -191,7 +191,7 @@ module _ {V : Type 0} (gives : Reading V) (s offsets : List ℕ) (fault : Option
         here = inr (x, record { rest = at.rest; is = is; string = refl }, reads);
       }
 
-  -- what the call answers where the value at place i is bad
+  -- the result of the call if value i is malformed
   pub ends_at_value : (i : ℕ) (vs : List V) (f : ℕ) (p : List ℕ) (e : DecodeError) → ReadsTo i vs → i < length offsets → BeginsWith (drop (get_or offsets i 0) s) (bare f p) → Fails e (gives f p)
       → ListFails (list_error (get_or offsets i 0) e) gives s
   ends_at_value i vs f p (errors.Memory e) h lt b given = tt
@@ -207,13 +207,13 @@ module _ {V : Type 0} (gives : Reading V) (s offsets : List ℕ) (fault : Option
       by_after before (x ∷ after) all places count values = absurd (omega (arith, end, ap length places, length-starts 0 (before ++ x ∷ after), length-append before (x ∷ after), count))
 
 module _ {V : Type 0} (gives : Reading V) (s offsets : List ℕ) where
-  -- at the end, with no frame fault
+  -- at the end, without a malformed header
   pub reads_all : (fault : Option (ℕ × Cause)) (i : ℕ) (vs : List V) → fault ≡ None → ReadsTo gives s offsets fault i vs → length offsets ≤ i → Wire gives s vs
   reads_all fault i vs none h end =
       let read = all_read gives s offsets fault i vs h end in
       record { frames = read.0; string = subst (FramesOrFault s read.0) none read.1; values = read.2 }
 
-  -- at the end, with one
+  -- at the end, with a malformed header
   pub ends_at_frame : (fault : Option (ℕ × Cause)) (i : ℕ) (vs : List V) (at : ℕ) (c : Cause) → fault ≡ Some (at, c) → ReadsTo gives s offsets fault i vs → length offsets ≤ i
       → FirstFault gives s at (faults.Frame c)
   ends_at_frame fault i vs at c some h end =

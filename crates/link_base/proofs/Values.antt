@@ -1,4 +1,4 @@
--- Values of the classes: what is read is in range, and what is in range is written and read again.
+-- Values of the classes: decoded values are in range, and values in range can be written and decoded again.
 use Rattle.std.proofs.Common.{◌≡◌, ◌⊎◌, ℕ, ℤ, zero, suc, ◌-◌, ◌<◌, ◌≤◌, true, false, List, [], ◌∷◌, ◌++◌, length, take, drop, reverse, replicate, slice_index, None, Ok, refl, sym, ap, ap₂, subst, ◌∙◌, arith, inl, inr, ⊎_elim, length-append, length-take, length-drop, take_all, IsUtf8}
 use Rattle.std.specs.Prelude.{◌==◌, nat_lt, FitsSigned}
 use Rattle.std.specs.Int.{w32, cast_signed, cast_unsigned}
@@ -21,13 +21,13 @@ use Rattle.link_base.proofs.Classes.{exactly, size_reached, at_size, multiple, a
 
 -- ---- bytes
 
--- the front of bytes is bytes
+-- the first n elements of bytes are bytes
 pub bytes-take : (n : ℕ) (xs : List ℕ) → IsBytes xs → IsBytes (take n xs)
 bytes-take zero xs h = tt
 bytes-take (suc n) [] h = tt
 bytes-take (suc n) (x ∷ xs) h = (h.0, bytes-take n xs h.1)
 
--- what is left of bytes is bytes
+-- what follows the first n elements of bytes are bytes
 pub bytes-drop : (n : ℕ) (xs : List ℕ) → IsBytes xs → IsBytes (drop n xs)
 bytes-drop zero xs h = h
 bytes-drop (suc n) [] h = tt
@@ -38,7 +38,7 @@ pub bytes-zeros : (n : ℕ) → IsBytes (replicate n 0)
 bytes-zeros zero = tt
 bytes-zeros (suc n) = (omega arith, bytes-zeros n)
 
--- the name field of a text is bytes
+-- the name field of a string consists of bytes
 pub bytes-name_field : (text : List ℕ) → IsUtf8 text → IsBytes (name_field text)
 bytes-name_field text u = bytes-append (take 15 text) _ (bytes-take 15 text (bytes-text text u)) (bytes-zeros (16 - length (take 15 text)))
 
@@ -48,7 +48,7 @@ byte_at i [] h = omega arith
 byte_at zero (x ∷ xs) h = h.0
 byte_at (suc i) (x ∷ xs) h = byte_at i xs h.1
 
--- ---- what is read
+-- ---- decoded values
 
 -- what an accepted payload means is in range
 pub meant_in_range : (c : Class) (p : List ℕ) → IsBytes p → length_cause (extent c) (length p) ≡ None → IsInRange c (meant c p)
@@ -75,7 +75,7 @@ meant_in_range Limits p h e =
       bytes-take 32 (drop 16 p) (bytes-drop 16 p h),
     )
 
--- what a payload means is its own canon
+-- what a payload means is its own normal form
 pub meant_canon : (c : Class) (p : List ℕ) → canon (meant c p) ≡ meant c p
 meant_canon (Named n listed) p = canon-named n listed (number p)
 meant_canon (Unsigned n) p = refl
@@ -89,13 +89,13 @@ meant_canon Low p = refl
 meant_canon Empty p = refl
 meant_canon Limits p = refl
 
--- ---- a value in range reads back as its canon, cut
+-- ---- what is written for a value in range decodes to its normal form, after `cut`
 
--- at least so many bytes are accepted
+-- n or more bytes are accepted by the extent `AtLeast n`
 reached : (n got : ℕ) → n ≤ got → length_cause (AtLeast n) got ≡ None
 reached n got le = cond-false (nat_lt got n) _ None (le-ltb got n le)
 
--- a signed number of four bytes is below their bound
+-- a signed number of four bytes, as an unsigned one, is less than 256 to the power of 4
 of_z_below : (z : ℤ) → FitsSigned w32 z → cast_unsigned w32 z < bound 4
 of_z_below z h = Fits-lt-pow (of_z_fits w32 z h)
 
@@ -103,14 +103,14 @@ of_z_below z h = Fits-lt-pow (of_z_fits w32 z h)
 reads_as : (c : Class) (p : List ℕ) (v : Value) → length_cause (extent c) (length p) ≡ None → meant c p ≡ v → class_value c p ≡ Ok v
 reads_as c p v e is = value_of_accepted c p e ∙ ap Ok is
 
--- the bytes of a number that may have a name read as what it is named
+-- the bytes of a number that may have a name decode to the named value
 named_reads : (m n : ℕ) (listed : List ℕ) (d : ℕ) (w : Value) → m ≡ n → d < bound n → named m listed d ≡ w → class_value (Named n listed) (bytes_of m d) ≡ Ok w
 named_reads m n listed d w same below is =
     subst (λ k. class_value (Named k listed) (bytes_of m d) ≡ Ok w) same
     (reads_as (Named m listed) (bytes_of m d) w (at_size (Exactly m) _ (length-bytes_of m d))
     (ap (named m listed) (number-bytes_of m d (subst (λ k. d < bound k) (sym same) below)) ∙ is))
 
--- what is written for a value in range reads as its canon, cut
+-- what is written for a value in range decodes to its normal form, after `cut`
 pub back : (c : Class) (v : Value) → IsInRange c v → class_value c (written v) ≡ Ok (cut (canon v))
 back (Unsigned n) (Number m x) h =
     subst (λ k. class_value (Unsigned k) (bytes_of m x) ≡ Ok (Number m x)) h.0
@@ -133,7 +133,7 @@ back Protocol (EtherType d) h = ⊎_elim
     (λ (ad : d ≡ 0x88A8). subst Same (sym ad) refl)
     h
   where
-    -- a written EtherType reads as it is
+    -- a written EtherType decodes to itself
     Same : ℕ → Type 0
     Same x = class_value Protocol (written (EtherType x)) ≡ Ok (EtherType x)
 back Low (LowByte b) h = refl
@@ -148,7 +148,7 @@ back c v h = absurd h
 
 -- ---- what is written
 
--- what is written for a value in range is bytes
+-- what is written for a value in range consists of bytes
 pub written_bytes : (c : Class) (v : Value) → IsInRange c v → IsBytes (written v)
 written_bytes (Unsigned n) (Number m x) h = IsBytes-bytes_of m x
 written_bytes Signed (Integer z) h = IsBytes-bytes_of 4 (cast_unsigned w32 z)
@@ -165,15 +165,15 @@ written_bytes Empty Nothing h = tt
 written_bytes Limits (Limited name rest) h = bytes-append (name_field name) rest (bytes-name_field name h.0) h.2
 written_bytes c v h = absurd h
 
--- a text that is written whole is read back whole
+-- a name that is written without truncation decodes to itself
 cut_uncut : (name : List ℕ) → IsUtf8 name → HasNoNul name → length name ≤ 15 → cut_name name ≡ name
 cut_uncut name u clean short = ap cut_of (take_all 15 name short) ∙ ap utf8_lossy (before_nul-clean name clean) ∙ utf8_lossy-IsUtf8 name u
   where
-    -- the text that is read from bytes
+    -- the string that bytes decode to
     cut_of : List ℕ → List ℕ
     cut_of t = utf8_lossy (before_nul t)
 
--- cutting leaves an uncut value and its canon as they are
+-- `cut` leaves an uncut value and its normal form unchanged
 pub uncut_stays : (c : Class) (v : Value) → IsInRange c v → IsUncut v → (cut v ≡ v) × (cut (canon v) ≡ canon v)
 uncut_stays Limits (Limited name rest) h k =
     let same : cut_name name ≡ name = cut_uncut name h.0 k.0 k.1 in
@@ -182,9 +182,9 @@ uncut_stays c (Limited name rest) h k = absurd h
 uncut_stays c (Unlisted n listed d) h k = (refl, cut-named n listed d)
 uncut_stays c v h k = (refl, refl)
 
--- ---- what is written for a value that was read, cut
+-- ---- what is written for a decoded value, after `cut`
 
--- what is written for a value that was read, cut, is canonical
+-- what is written for a decoded value after `cut` is canonical
 pub cut_canonical : (c : Class) (p : List ℕ) → IsBytes p → length_cause (extent c) (length p) ≡ None → IsCanonicalPayload c (written (cut (meant c p)))
 cut_canonical (Unsigned n) p h e = record { is_accepted = at_size (Exactly n) _ (length-bytes_of n (number p)); is_tidy = tt }
 cut_canonical Signed p h e = record { is_accepted = refl; is_tidy = tt }
@@ -217,7 +217,7 @@ cut_canonical Limits p h e =
       is_tidy = (total, subst IsNameField (sym (take_at f rest 16 len)) (cut_is_canonical_lem name (IsUtf8-lossy (before_nul (take 16 p)))));
     }
 
--- cutting a value that was read twice is cutting it once
+-- a second `cut` leaves a decoded value unchanged
 pub cut_again : (c : Class) (p : List ℕ) → cut (cut (meant c p)) ≡ cut (meant c p)
 cut_again (Unsigned n) p = refl
 cut_again Signed p = refl
@@ -231,7 +231,7 @@ cut_again Low p = refl
 cut_again Empty p = refl
 cut_again Limits p = ap (λ t. Limited t (take 32 (drop 16 p))) (cut_once_lem (name_of (take 16 p)) (IsUtf8-lossy (before_nul (take 16 p))))
 
--- cutting changes no length
+-- `cut` changes no length
 pub length-cut : (v : Value) → length (written (cut v)) ≡ length (written v)
 length-cut (Limited name rest) =
     omega (arith, length-append (name_field (cut_name name)) rest, length-append (name_field name) rest, length-name_field name, length-name_field (cut_name name))

@@ -1,4 +1,4 @@
--- A walk over the frames of some bytes, and what is read from the table that it makes.
+-- Finding the frames of a list, and what is decoded from the table of their offsets.
 use Rattle.std.proofs.Common.{◌≡◌, ◌≢◌, ◌⊎◌, ℕ, suc, ◌+◌, ◌-◌, ◌*◌, ◌<◌, ◌≤◌, List, [], ◌∷◌, ◌++◌, length, drop, get_or, Option, Some, None, refl, sym, ap, subst, ◌∙◌, arith, inl, inr, append_assoc}
 use Rattle.std.specs.List.{AllByRecursion}
 use Rattle.std.proofs.lemmas.List.{append-nil, length-append}
@@ -45,7 +45,7 @@ complete_push (y ∷ xs) x h is = (h.0, complete_push xs x h.1 is)
 
 -- ---- how many frames there are
 
--- so many frames before the rest, all of them complete where anything is left
+-- n frames before the rest, all of them complete if anything is left
 pub record Counted (s : List ℕ) (count : ℕ) (rest : List ℕ) : Type 0 where
   pub front : List Frame
   pub string : s ≡ spelled front ++ rest
@@ -95,18 +95,18 @@ front_more s count rest next f p w some split = refl
 
 -- ---- where they start
 
--- the frames that a count finds are frames, and some bytes may follow them
+-- the counted frames are frames, and other bytes may follow them
 pub cut_of : (s : List ℕ) (xs : List Frame) (fault : Option (ℕ × Cause)) → FramesOrFault s xs fault → (rest : List ℕ) × AreFrames xs × (s ≡ spelled xs ++ rest)
 cut_of s xs None h = ([], h.frames, h.string ∙ sym (append-nil (spelled xs)))
 cut_of s xs (Some fault) (rest, complete, string, left, bad, place) = (rest, complete_frames xs complete, string)
 
--- ---- a table as it is filled
+-- ---- a table while it is filled
 
 -- no frame yet
 pub before_none : (s offsets : List ℕ) → offsets ≡ [] → FindsBefore s offsets s
 before_none s offsets e = record { frames = []; string = refl; all = inr tt; places = e }
 
--- four bytes a frame at least
+-- each frame has at least four bytes
 least_bytes : (xs : List Frame) → 4 * length xs ≤ length (spelled xs)
 least_bytes [] = omega arith
 least_bytes (x ∷ xs) = omega (arith, length-append (frame_bytes x) (spelled xs), length-frame_bytes x, least_bytes xs)
@@ -115,7 +115,7 @@ pub before_few : (s offsets rest : List ℕ) → FindsBefore s offsets rest → 
 before_few s offsets rest w =
     omega (arith, ap length w.string, length-append (spelled w.frames) rest, ap length w.places, length-starts 0 w.frames, least_bytes w.frames)
 
--- where a frame was found, the bytes begin with one
+-- if a frame was found, the bytes start with one
 pub before_some : (s offsets rest : List ℕ) → FindsBefore s offsets rest → 0 < length offsets → frame_fault s ≡ None
 before_some s offsets rest w some = by_frames w.frames w.string (are_frames rest w.frames w.all) w.places
   where
@@ -123,7 +123,7 @@ before_some s offsets rest w some = by_frames w.frames w.string (are_frames rest
     by_frames [] string are places = absurd (omega (arith, some, ap length places))
     by_frames (x ∷ xs) string are places = ap frame_fault (string ∙ append_assoc (frame_bytes x) (spelled xs) rest) ∙ frame_fault-frame x (spelled xs ++ rest) (AreFrames-head x xs are)
 
--- how far the rest is
+-- the length of the rest
 before_at : (s offsets rest : List ℕ) (w : FindsBefore s offsets rest) → length s - length rest ≡ length (spelled w.frames)
 before_at s offsets rest w = omega (arith, ap length w.string, length-append (spelled w.frames) rest)
 
@@ -150,7 +150,7 @@ before_all s offsets rest w e = record {
   places = w.places;
 }
 
--- where a frame is bad
+-- at a malformed header
 pub before_fault : (s offsets rest : List ℕ) (at : ℕ) (cause : Cause) → FindsBefore s offsets rest → rest ≢ [] → at ≡ length s - length rest → frame_fault rest ≡ Some cause → Finds s offsets (Some (at, cause))
 before_fault s offsets rest at cause w some place fault = record {
   frames = w.frames;
@@ -158,7 +158,7 @@ before_fault s offsets rest at cause w some place fault = record {
   places = w.places;
 }
 
--- ---- where the bytes begin with a frame
+-- ---- the offsets at which frames start
 
 -- one offset more
 begin_more : (s offsets : List ℕ) (at : ℕ) → BeginFrames s offsets → at ≤ length s → frame_fault (drop at s) ≡ None → BeginFrames s (offsets ++ at ∷ [])

@@ -1,4 +1,4 @@
--- What is written for values that a program holds, and what that reads as.
+-- What is written for values that a program holds, and what it decodes to.
 use Rattle.std.proofs.Common.{◌≡◌, ◌↔◌, ℕ, ◌<◌, ◌≤◌, List, [], ◌∷◌, ◌++◌, length, map, replicate, refl, sym, ap, ap₂, subst, ◌∙◌, arith, append_assoc}
 use Rattle.std.specs.List.{AllByRecursion}
 use Rattle.std.proofs.lemmas.List.{length-replicate}
@@ -22,21 +22,21 @@ pub spelled-append : (xs ys : List Frame) → spelled (xs ++ ys) ≡ spelled xs 
 spelled-append [] ys = refl
 spelled-append (x ∷ xs) ys = ap (λ t. frame_bytes x ++ t) (spelled-append xs ys) ∙ sym (append_assoc (frame_bytes x) (spelled xs) (spelled ys))
 
--- a frame that is written is complete
+-- a written frame is complete
 pub IsComplete-whole : (f : ℕ) (p : List ℕ) → f < 65536 → length p ≤ 65531 → IsComplete (whole f p)
 IsComplete-whole f p hf hp = record { kind_field = hf; payload = hp; padding = length-replicate (gap p) 0 }
 
--- a frame that is written is bytes
+-- a written frame consists of bytes
 pub bytes-whole : (f : ℕ) (p : List ℕ) → IsBytes p → IsBytes (frame_bytes (whole f p))
 bytes-whole f p h = (omega arith, (omega arith, (omega arith, (omega arith, bytes-append p (replicate (gap p) 0) h (bytes-zeros (gap p))))))
 
--- a frame of a string of bytes has a kind field, a payload that fits, and bytes in it
+-- a frame in some bytes has a 16-bit `nla_type`, and a payload of bytes that fits
 pub record IsKnown (x : Frame) : Type 0 where
   pub kind_field : x.kind_field < 65536
   pub payload : length x.payload ≤ 65531
   pub bytes : IsBytes x.payload
 
--- each frame of a string of bytes is so
+-- each frame in some bytes is such a frame
 known : (xs : List Frame) → AreFrames xs → IsBytes (spelled xs) → AllByRecursion IsKnown xs
 known [] h k = tt
 known (x ∷ []) h k = (record { kind_field = h.kind_field; payload = h.payload; bytes = bytes-payload x [] k }, tt)
@@ -45,13 +45,13 @@ known (x ∷ y ∷ xs) h k = (
   known (y ∷ xs) h.1 (bytes-back (frame_bytes x) (spelled (y ∷ xs)) k),
 )
 
--- the frames that a string of bytes is cut into are so
+-- the frames that bytes are split into are such frames
 pub known_of : (s : List ℕ) (xs : List Frame) → IsBytes s → Frames s xs → AllByRecursion IsKnown xs
 known_of s xs h w = known xs w.frames (subst IsBytes w.string h)
 
--- ---- facts of each item
+-- ---- facts about each item
 
--- what follows from a fact of each item, item by item
+-- what follows from a fact about each item, item by item
 pub all_each : {A : Type 0} (P Q : A → Type 0) → ((x : A) → P x → Q x) → (xs : List A) → AllByRecursion P xs → AllByRecursion Q xs
 all_each P Q f [] h = tt
 all_each P Q f (x ∷ xs) h = (f x h.0, all_each P Q f xs h.1)
@@ -68,7 +68,7 @@ module _ {V : Type 0} (field : V → ℕ) (payload : V → List ℕ) where
   abbrev pub frame_for : V → Frame
   frame_for v = whole (field v) (payload v)
 
-  -- what is written is the bytes of these frames
+  -- what is written consists of the bytes of these frames
   pub spelled-frames : (vs : List V) → spelled (map frame_for vs) ≡ written_by field payload vs
   spelled-frames [] = refl
   spelled-frames (v ∷ vs) = ap (λ t. frame_bytes (frame_for v) ++ t) (spelled-frames vs)
@@ -89,13 +89,13 @@ module _ {V : Type 0} {gives : Reading V} {field : V → ℕ} {payload : V → L
       bytes-append (frame_bytes (frame_for field payload v)) (written_by field payload vs)
       (bytes-whole (field v) (payload v) (holding.payload_bytes v h.0)) (bytes-written vs h.1)
 
-  -- the frames of values read as their canons, cut
+  -- the frames of values decode to their normal forms, after `cut`
   back_each : (vs : List V) → AllByRecursion in_range vs → AllByRecursion hides_none vs → AllByRecursion (FitsBy payload) vs
       → ReadEach gives (map (frame_for field payload) vs) (map cut (map canon vs))
   back_each [] h none fit = tt
   back_each (v ∷ vs) h none fit = (holding.back v h.0 none.0 fit.0, back_each vs h.1 none.1 fit.1)
 
-  -- what is written for values that fit and hide none reads as their canons, cut
+  -- what is written for values that fit and hide none decodes to their normal forms, after `cut`
   pub wire_written : (vs : List V) → AllByRecursion in_range vs → AllByRecursion hides_none vs → AllByRecursion (FitsBy payload) vs
       → Wire gives (written_by field payload vs) (map cut (map canon vs))
   wire_written vs h none fit =
@@ -106,14 +106,14 @@ module _ {V : Type 0} {gives : Reading V} {field : V → ℕ} {payload : V → L
         values = back_each vs h none fit;
       }
 
-  -- values and their canons have one written form
+  -- values and their normal forms are written in the same way
   pub written-canons : (vs : List V) → written_by field payload (map canon vs) ≡ written_by field payload vs
   written-canons [] = refl
   written-canons (v ∷ vs) =
       let one = holding.one_form v in
       ap₂ (λ x t. frame_bytes x ++ t) (ap₂ whole one.0 one.1) (written-canons vs)
 
-  -- cutting leaves uncut values and their canons as they are
+  -- `cut` leaves uncut values and their normal forms unchanged
   pub uncut_each : (vs : List V) → AllByRecursion in_range vs → AllByRecursion uncut vs → (map cut vs ≡ vs) × (map cut (map canon vs) ≡ map canon vs)
   uncut_each [] h u = (refl, refl)
   uncut_each (v ∷ vs) h u =
@@ -123,12 +123,12 @@ module _ {V : Type 0} {gives : Reading V} {field : V → ℕ} {payload : V → L
 
   -- ---- plain values: in range, hiding none, and uncut
 
-  -- what is written for plain values that fit reads as their canons
+  -- what is written for plain values that fit decodes to their normal forms
   pub plain_wire : (vs : List V) → AllByRecursion in_range vs → AllByRecursion hides_none vs → AllByRecursion uncut vs → AllByRecursion (FitsBy payload) vs
       → Wire gives (written_by field payload vs) (map canon vs)
   plain_wire vs h none u fit = subst (Wire gives (written_by field payload vs)) (uncut_each vs h u).1 (wire_written vs h none fit)
 
-  -- values whose written bytes read as their canons write equal bytes exactly where these are equal
+  -- if written values decode to their normal forms, their bytes are equal if and only if these are equal
   pub same_bytes_iff : IsReading gives → (vs ws : List V) → Wire gives (written_by field payload vs) (map canon vs) → Wire gives (written_by field payload ws) (map canon ws)
       → (written_by field payload vs ≡ written_by field payload ws) ↔ (map canon vs ≡ map canon ws)
   same_bytes_iff reading vs ws a b = (
@@ -136,15 +136,15 @@ module _ {V : Type 0} {gives : Reading V} {field : V → ℕ} {payload : V → L
     λ e. sym (written-canons vs) ∙ ap (written_by field payload) e ∙ written-canons ws,
   )
 
-  -- ---- values that were read
+  -- ---- decoded values
 
-  -- values that were read are in range, hide none, and are their own canons
+  -- decoded values are in range, hide none, and are their own normal forms
   pub record AreRead (vs : List V) : Type 0 where
     pub all_in : AllByRecursion in_range vs
     pub hide_none : AllByRecursion hides_none vs
     pub own : map canon vs ≡ vs
 
-  -- the values of frames are in range, hide none, and are their own canons
+  -- the values of frames are in range, hide none, and are their own normal forms
   read_each : (xs : List Frame) (vs : List V) → AllByRecursion IsKnown xs → ReadEach gives xs vs → AreRead vs
   read_each [] [] k h = record { all_in = tt; hide_none = tt; own = refl }
   read_each [] (v ∷ vs) k h = absurd h
@@ -157,11 +157,11 @@ module _ {V : Type 0} {gives : Reading V} {field : V → ℕ} {payload : V → L
         own = ap₂ (λ a b. a ∷ b) (holding.read_own x.kind_field x.payload v k.0.kind_field k.0.bytes h.0) later.own;
       }
 
-  -- the values of a string of bytes are in range, hide none, and are their own canons
+  -- the values that bytes decode to are in range, hide none, and are their own normal forms
   pub are_read : (s : List ℕ) (vs : List V) → IsBytes s → Wire gives s vs → AreRead vs
   are_read s vs hs w = read_each w.frames vs (known_of s w.frames hs w.string) w.values
 
-  -- what is written for values that were read and fit reads as these values, cut
+  -- what is written for decoded values that fit decodes to these values, after `cut`
   pub read_written : (s : List ℕ) (vs : List V) → IsBytes s → Wire gives s vs → AllByRecursion (FitsBy payload) vs → Wire gives (written_by field payload vs) (map cut vs)
   read_written s vs hs w fit =
       let all = are_read s vs hs w in

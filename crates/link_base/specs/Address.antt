@@ -7,7 +7,7 @@ use Rattle.link_base.specs.declared.fault.Cause.TheVariants.{AddressLength}
 use Rattle.link_base.specs.declared.fault.DecodeError.{DecodeError}
 use Rattle.link_base.specs.Answers.{refused}
 
--- the address of so many octets, 4 or 16; or the error of this length
+-- the IP address with these octets, 4 or 16; or the error `AddressLength` for any other length
 abbrev pub IsAddress : List ℕ → Result IpAddr DecodeError → Type 0
 IsAddress p (Ok (V4 a)) = (length p ≡ 4) × (ipv4_octets a ≡ p)
 IsAddress p (Ok (V6 a)) = (length p ≡ 16) × (ipv6_octets a ≡ p)

@@ -4,7 +4,7 @@ use Rattle.std.specs.declared.net.ipv4_addr.Ipv4Addr.{Ipv4Addr}
 use Rattle.std.specs.declared.net.ipv6_addr.Ipv6Addr.{Ipv6Addr}
 use Rattle.std.specs.Net.Addr.{ipv4_octets, ipv6_octets}
 
--- so many octets of an address; each address has as many and no more
+-- the first n octets of an address; an address never has others
 abbrev pub sized : ℕ → List ℕ → List ℕ
 sized zero octets = []
 sized (suc n) octets = slice_index octets 0 ∷ sized n (drop 1 octets)

@@ -1,4 +1,4 @@
--- What calls answer.
+-- Results of functions.
 use Rattle.std.specs.Prelude.{◌≡◌, ℕ, ◌-◌, ◌<◌, ◌^◌, min, List, ◌∷◌, ◌++◌, length, drop, Result, Ok, Err}
 use Rattle.std.specs.List.{AllByRecursion}
 use Rattle.std.specs.Global.{Vec}
@@ -14,38 +14,38 @@ use Rattle.link_base.specs.declared.fault.WriteError.TheVariants as write_errors
 use Rattle.link_base.specs.Wire.{Reading, Wire, FirstFault}
 use Rattle.link_base.specs.Table.{AttrValue, written_payload, written_list, Fits, nested_fault}
 
--- ---- reading one value
+-- ---- parsing one value
 
--- the error of a payload with this cause
+-- the error of a payload that is malformed for this cause
 abbrev pub refused : Cause → DecodeError
 refused c = errors.Fault (faults.Payload c)
 
--- what a reader of one payload answers
+-- the result of parsing one payload
 abbrev pub payload_result : {A : Type 0} → Result A Cause → Result A DecodeError
 payload_result (Ok a) = Ok a
 payload_result (Err c) = Err (refused c)
 
--- what was read, seen as what it stands for
+-- a parsed value, as what it represents
 abbrev pub read_as : {X A : Type 0} → (X → A) → Result X DecodeError → Result A DecodeError
 read_as view (Ok x) = Ok (view x)
 read_as view (Err e) = Err e
 
--- the fault, unless memory ran out
+-- `given` holds for the error, unless it is `Memory`
 abbrev pub Fails : {V : Type 0} → DecodeError → (Result V DecodeFault → Type 0) → Type 0
 Fails (errors.Fault f) given = given (Err f)
 Fails (errors.Memory e) given = Unit {0}
 
--- what was read, or its fault, unless memory ran out
+-- `given` holds for the parsed value or for the error, unless it is `Memory`
 abbrev pub Answers : {X V : Type 0} → (X → V) → Result X DecodeError → (Result V DecodeFault → Type 0) → Type 0
 Answers view (Ok x) given = given (Ok (view x))
 Answers view (Err e) given = Fails e given
 
--- what was told of a payload, with its cause as a fault that names no kind
+-- a value, or a cause as an error without an attribute type
 abbrev pub unkinded : {A : Type 0} → Result A Cause → Result A DecodeFault
 unkinded (Ok a) = Ok a
 unkinded (Err c) = Err (faults.Payload c)
 
--- what a reader of one payload answers, unless memory ran out
+-- the result of parsing one payload is `told`, unless it is `Memory`
 abbrev pub PayloadAnswers : {X A : Type 0} → (X → A) → Result X DecodeError → Result A Cause → Type 0
 PayloadAnswers view result told = Answers view result (λ r. r ≡ unkinded told)
 
@@ -55,29 +55,29 @@ OnMemory (Ok x) P = Unit {0}
 OnMemory (Err (errors.Fault f)) P = Unit {0}
 OnMemory (Err (errors.Memory e)) P = P
 
--- the fault of a payload under its kind
+-- adds the attribute type to the error of a payload
 abbrev pub value_fault : ℕ → DecodeFault → DecodeFault
 value_fault kind (faults.Payload c) = faults.Value kind c
 value_fault kind f = f
 
--- the error of a payload under its kind
+-- adds the attribute type to the error of a payload, unless it is `Memory`
 abbrev pub value_error : ℕ → DecodeError → DecodeError
 value_error kind (errors.Memory e) = errors.Memory e
 value_error kind (errors.Fault f) = errors.Fault (value_fault kind f)
 
--- what was read of a payload, under its kind
+-- the result of parsing a payload, with the attribute type added to its error
 abbrev pub under_kind : {A : Type 0} → ℕ → Result A DecodeError → Result A DecodeError
 under_kind kind (Ok a) = Ok a
 under_kind kind (Err e) = Err (value_error kind e)
 
--- ---- reading a list
+-- ---- parsing a list
 
--- the first fault, unless memory ran out
+-- the error is the first one in s, unless it is `Memory`
 abbrev pub ListFails : {V : Type 0} → ListError → Reading V → List ℕ → Type 0
 ListFails (list_errors.Fault at f) gives s = FirstFault gives s at f
 ListFails (list_errors.Memory e) gives s = Unit {0}
 
--- the values of the grammar, or the first fault, unless memory ran out
+-- s decodes to the values, or the error is the first one in s, unless it is `Memory`
 abbrev pub ListAnswers : {X V : Type 0} → (X → List V) → Result X ListError → Reading V → List ℕ → Type 0
 ListAnswers view (Ok x) gives s = Wire gives s (view x)
 ListAnswers view (Err e) gives s = ListFails e gives s
@@ -94,31 +94,31 @@ OnListMemory (Ok x) P = Unit {0}
 OnListMemory (Err (list_errors.Fault at f)) P = Unit {0}
 OnListMemory (Err (list_errors.Memory e)) P = P
 
--- the error of a list whose frame at this offset has this error
+-- the error of a list in which the frame at this offset has this error
 abbrev pub list_error : ℕ → DecodeError → ListError
 list_error at (errors.Memory e) = list_errors.Memory e
 list_error at (errors.Fault f) = list_errors.Fault at f
 
--- the error of a kind whose list has this error
+-- the error of an attribute of this type whose nested list has this error
 abbrev pub nested_error : ℕ → ListError → DecodeError
 nested_error kind (list_errors.Memory e) = errors.Memory e
 nested_error kind (list_errors.Fault at f) = errors.Fault (nested_fault kind f)
 
 -- ---- writing
 
--- at most `usize::MAX`
+-- saturates at `usize::MAX`
 abbrev pub capped : ℕ → ℕ
 capped n = min n (2 ^ 64 - 1)
 
--- the new bytes begin with the text, and are the old ones behind it
+-- the new bytes start with `text`; the rest is unchanged
 abbrev pub OverwritesFront : List ℕ → List ℕ → List ℕ → Type 0
 OverwritesFront old new text = new ≡ text ++ drop (length text) old
 
--- all values fit, and the written list has so many bytes
+-- all values fit, and n is the length of the written list
 abbrev pub IsMeasured : List AttrValue → ℕ → Type 0
 IsMeasured vs n = AllByRecursion Fits vs × (n ≡ capped (length (written_list vs)))
 
--- the values before place i fit, and the one at i does not
+-- the first i values fit, and value i, zero-based, does not
 pub record IsFirstUnfit (vs : List AttrValue) (i : ℕ) : Type 0 where
   pub before : List AttrValue
   pub value : AttrValue
@@ -128,7 +128,8 @@ pub record IsFirstUnfit (vs : List AttrValue) (i : ℕ) : Type 0 where
   pub fit : AllByRecursion Fits before
   pub unfit : 65531 < length (written_payload value)
 
--- the written list of values that all fit; or the first that does not; or no memory, for some values that all fit
+-- all values fit, and the output is the written list; or value i is the first that does not fit; or the error is
+-- `Memory`, all values fit, and there is at least one
 abbrev pub WriteAnswers : List AttrValue → Result (Vec ℕ) WriteError → Type 0
 WriteAnswers vs (Ok out) = AllByRecursion Fits vs × (out.items ≡ written_list vs)
 WriteAnswers vs (Err (write_errors.TooLong i)) = IsFirstUnfit vs i

@@ -1,4 +1,4 @@
--- One frame as a reader sees it.
+-- One frame of a list, as `NlaBuffer` represents it.
 use Rattle.std.specs.Prelude.{◌≡◌, ℕ, List, Some}
 use Rattle.link_base.specs.declared.buffer.NlaBuffer.{NlaBuffer}
 use Rattle.link_base.specs.declared.fault.DecodeError.{DecodeError}
@@ -7,18 +7,18 @@ use Rattle.link_base.specs.declared.fault.DecodeFault.TheVariants as faults
 use Rattle.link_base.specs.declared.fault.Cause.{Cause}
 use Rattle.link_base.specs.Frame.{Frame, bare, frame_fault}
 
--- the kind field, its two flags included
+-- `nla_type`, including its two flags
 abbrev pub kind_field_of : NlaBuffer → ℕ
 kind_field_of b = b.kind_field
 
--- the bytes behind the header, without padding
+-- the bytes after the header, without padding
 abbrev pub payload_of : NlaBuffer → List ℕ
 payload_of b = b.payload.now
 
--- the frame, without its padding
+-- the frame, without padding
 abbrev pub frame_of : NlaBuffer → Frame
 frame_of b = bare (kind_field_of b) (payload_of b)
 
--- the error is the frame fault of these bytes
+-- the error is `Frame` with the reason why r does not start with a frame
 abbrev pub IsFrameFault : List ℕ → DecodeError → Type 0
 IsFrameFault r e = (c : Cause) × (frame_fault r ≡ Some c) × (e ≡ errors.Fault (faults.Frame c))

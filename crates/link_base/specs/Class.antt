@@ -1,4 +1,4 @@
--- Classes of payload: which payloads they accept, what these mean, and how a value is written.
+-- Classes of payloads: which payloads a class accepts, what they mean, and how values are written.
 use Rattle.std.specs.Prelude.{◌≡◌, ◌⊎◌, ℕ, ℤ, FitsSigned, ◌%◌, ◌<◌, ◌≤◌, ◌==◌, Bool, true, List, [], ◌∷◌, ◌++◌, length, take, drop, reverse, slice_index, Option, Some, None, Result, Ok, Err, nat_lt, if◌then◌else◌}
 use Rattle.std.specs.Int.{w32, cast_signed, cast_unsigned}
 use Rattle.std.specs.List.{list_any}
@@ -10,72 +10,72 @@ use Rattle.link_base.specs.declared.fault.Cause.TheVariants.{WrongLength, TooSho
 
 -- ---- lengths
 
--- how long a payload may be: so many bytes and no others; so many, and any that follow are ignored;
--- so many, where too few and too many have causes of their own; a multiple of so many
+-- the accepted lengths: `Exactly` n bytes; `AtLeast` n bytes, of which all classes except `Bytes` ignore those after
+-- the first n; `Fixed`, exactly n bytes with one cause for fewer and another for more; a `Multiple` of n bytes
 pub data Extent : Type 0 where
   Exactly AtLeast Fixed Multiple : ℕ → Extent
 
--- how many bytes of a record are kept; in a well-formed table `Octets` never has the extent `Multiple`
+-- the number of bytes that are kept of a struct; in a well-formed table `Octets` never has the extent `Multiple`
 abbrev pub size_of : Extent → ℕ
 size_of (Exactly n) = n
 size_of (AtLeast n) = n
 size_of (Fixed n) = n
 size_of (Multiple n) = 0
 
--- why a payload of this length is refused
+-- why a payload of this length is rejected
 abbrev pub length_cause : Extent → ℕ → Option Cause
 length_cause (Exactly n) got = if got == n then None else Some (WrongLength n got)
 length_cause (AtLeast n) got = if nat_lt got n then Some (TooShort n got) else None
 length_cause (Fixed n) got = if nat_lt got n then Some (TooShort n got) else (if nat_lt n got then Some (WrongLength n got) else None)
 length_cause (Multiple n) got = if got % n == 0 then None else Some (WrongLength n got)
 
--- a value, unless there is a cause
+-- the value if there is no cause, otherwise the cause
 abbrev pub unless : {A : Type 0} → Option Cause → A → Result A Cause
 unless None x = Ok x
 unless (Some c) x = Err c
 
--- what a payload of this extent means, or the cause of its refusal
+-- what a payload of this extent means, or the cause if it is rejected
 abbrev pub accepted : {A : Type 0} → Extent → (List ℕ → A) → List ℕ → Result A Cause
 accepted e meaning p = unless (length_cause e (length p)) (meaning p)
 
 -- ---- classes and their values
 
 pub data Class : Type 0 where
-  -- a number of so many bytes, or a set of flags
+  -- an unsigned number of n bytes, or a set of flags
   Unsigned : ℕ → Class
-  -- a signed number of four bytes
+  -- a signed number of four bytes (`i32`)
   Signed : Class
-  -- false for a zero byte, true for any other
+  -- a boolean: false if the byte is zero, otherwise true
   Truth : Class
-  -- octets as they stand: hardware and IP addresses, and records
+  -- bytes that are kept unchanged: hardware and IP addresses, and structs
   Octets : Extent → Class
-  -- bytes of any number
+  -- bytes, of any length
   Bytes : Class
-  -- numbers of so many bytes, one after another
+  -- an array of numbers of n bytes each
   Many : ℕ → Class
-  -- a number of so many bytes, some of which have names
+  -- a number of n bytes, and the numbers that have names
   Named : ℕ → List ℕ → Class
-  -- a VLAN protocol: an EtherType of two bytes, in network byte order
+  -- a VLAN protocol: an EtherType, a big-endian `u16`
   Protocol : Class
-  -- the first of two bytes, as a set of flags
+  -- the first of two bytes, a set of flags
   Low : Class
-  -- nothing, whatever the payload holds
+  -- no value: the payload is ignored
   Empty : Class
-  -- the limits of a CAN controller: a name field, and eight numbers of four bytes
+  -- the limits of a CAN controller: a name field, and eight `u32`s
   Limits : Class
 
 pub data Value : Type 0 where
-  -- so many bytes, and the number
+  -- the number of bytes, and the number
   Number : ℕ → ℕ → Value
   -- a signed number
   Integer : ℤ → Value
-  -- a truth
+  -- a boolean
   Boolean : Bool → Value
-  -- bytes as they stand
+  -- unchanged bytes
   Raw : List ℕ → Value
-  -- a number that has a name, and how many bytes it takes
+  -- the number of bytes, and a number that has a name
   Name : ℕ → ℕ → Value
-  -- a number that the code keeps in a case `Other`, how many bytes it takes, and the numbers that have names
+  -- the number of bytes, the numbers that have names, and a number in the variant `Other`
   Unlisted : ℕ → List ℕ → ℕ → Value
   -- 0x8100 or 0x88A8
   EtherType : ℕ → Value
@@ -83,10 +83,10 @@ pub data Value : Type 0 where
   LowByte : ℕ → Value
   -- no value
   Nothing : Value
-  -- a name, and the 32 bytes of the numbers
+  -- a name, and the 32 bytes of the eight numbers
   Limited : List ℕ → List ℕ → Value
 
--- how long the payloads of a class are
+-- the lengths of the payloads of a class
 abbrev pub extent : Class → Extent
 extent (Unsigned n) = Exactly n
 extent Signed = Exactly 4
@@ -100,19 +100,19 @@ extent Low = Exactly 2
 extent Empty = AtLeast 0
 extent Limits = AtLeast 48
 
--- the number has a name
+-- whether the number has a name
 abbrev pub is_listed : List ℕ → ℕ → Bool
 is_listed listed d = list_any (λ l. l == d) listed
 
--- a number that may have a name
+-- a number of n bytes, which is a `Name` if it is listed
 abbrev pub named : ℕ → List ℕ → ℕ → Value
 named n listed d = if is_listed listed d then Name n d else Unlisted n listed d
 
--- 802.1ad is 0x88A8, and every other number is 802.1Q, 0x8100
+-- 0x88A8 (802.1ad) is unchanged; every other number becomes 0x8100 (802.1Q)
 abbrev pub ether_type : ℕ → ℕ
 ether_type n = if n == 0x88A8 then 0x88A8 else 0x8100
 
--- a signed number of four bytes
+-- a little-endian signed number of four bytes (`i32`)
 abbrev pub integer : List ℕ → ℤ
 integer p = cast_signed w32 (number p)
 
@@ -130,7 +130,7 @@ meant Low p = LowByte (slice_index p 0)
 meant Empty p = Nothing
 meant Limits p = Limited (name_of (take 16 p)) (take 32 (drop 16 p))
 
--- the class value of a payload, or the cause of its refusal
+-- the value of a payload, or the cause if it is rejected
 abbrev pub class_value : Class → List ℕ → Result Value Cause
 class_value c p = accepted (extent c) (meant c) p
 
@@ -147,26 +147,26 @@ written (LowByte b) = b ∷ 0 ∷ []
 written Nothing = []
 written (Limited name rest) = name_field name ++ rest
 
--- ---- canon and cut
+-- ---- `canon`, the normal form, and `cut`
 
--- `Other` of a number that has a name becomes the name; all else stays
+-- `Other` of a number that has a name becomes the name; other values are unchanged
 abbrev pub canon : Value → Value
 canon (Unlisted n listed d) = named n listed d
 canon v = v
 
--- a name becomes what is read back of it
+-- a name becomes what its written form decodes to; other values are unchanged
 abbrev pub cut : Value → Value
 cut (Limited name rest) = Limited (cut_name name) rest
 cut v = v
 
--- a name is written whole
+-- a name, if there is one, is written without truncation and without a NUL
 abbrev pub IsUncut : Value → Type 0
 IsUncut (Limited name rest) = HasNoNul name × (length name ≤ 15)
 IsUncut v = Unit {0}
 
--- ---- what a program can hold
+-- ---- values that a program can hold
 
--- the value is one of the class, and its numbers and texts are those of their types
+-- the value belongs to the class, its numbers are in the range of their types, and its strings are UTF-8
 abbrev pub IsInRange : Class → Value → Type 0
 IsInRange (Unsigned n) (Number m x) = (m ≡ n) × (x < bound n)
 IsInRange Signed (Integer z) = FitsSigned w32 z
@@ -184,7 +184,7 @@ IsInRange c v = ⊥
 
 -- ---- canonical payloads
 
--- an accepted payload is the one form of its value
+-- an accepted payload is what is written for its value
 abbrev pub IsTidy : Class → List ℕ → Type 0
 IsTidy Truth p = (p ≡ 0 ∷ []) ⊎ (p ≡ 1 ∷ [])
 IsTidy (Octets e) p = length p ≡ size_of e
@@ -194,14 +194,14 @@ IsTidy Empty p = p ≡ []
 IsTidy Limits p = (length p ≡ 48) × IsNameField (take 16 p)
 IsTidy c p = Unit {0}
 
--- a payload that is accepted, and tidy
+-- the payload is accepted and tidy
 pub record IsCanonicalPayload (c : Class) (p : List ℕ) : Type 0 where
   pub is_accepted : length_cause (extent c) (length p) ≡ None
   pub is_tidy : IsTidy c p
 
 -- ---- memory
 
--- a value of the class is held in memory of its own
+-- values of the class may be heap-allocated
 abbrev pub TakesMemory : Class → Type 0
 TakesMemory Bytes = Unit {0}
 TakesMemory (Many n) = Unit {0}

@@ -1,4 +1,4 @@
--- The laws of one attribute hold of the table without rows: every kind field and payload read as `Other`.
+-- The laws of one attribute hold for the table without rows: every `nla_type` and payload decode to `Other`.
 use Rattle.std.specs.Prelude.{◌≡◌, ◌↔◌, ℕ, ◌<◌, ◌≤◌, List, length, Ok, refl}
 use Rattle.std.proofs.Common.{sym, subst, ◌∙◌, arith}
 use Rattle.link_base.specs.Number.{IsBytes}
@@ -9,7 +9,7 @@ use Rattle.link_base.specs.Lawful.{IsReading, IsHolding, IsWriting, IsLawful}
 use Rattle.link_base.specs.Default.{default_table}
 use Rattle.link_base.specs.OneForm.{attr_form}
 
--- the value that is read
+-- the decoded value
 read_other : (f : ℕ) (p : List ℕ) (v : AttrValue) → Gives default_table f p (Ok v) → v ≡ Other f p
 read_other f p v h = cc
 
@@ -32,7 +32,7 @@ uncut_stays : (v : AttrValue) → IsInRange default_table v → AttrIsUncut v �
 uncut_stays (Case k c) h u = absurd h.1
 uncut_stays (Other f p) h u = (refl, refl)
 
--- a law of the value that is read holds where it holds of `Other`
+-- what holds for `Other` holds for the decoded value
 of_read : (P : AttrValue → Type 0) (f : ℕ) (p : List ℕ) (v : AttrValue) → Gives default_table f p (Ok v) → P (Other f p) → P v
 of_read P f p v h other = subst P (sym (read_other f p v h)) other
 

@@ -1,4 +1,4 @@
--- Two editions of a table: the second has rows of some kinds that have none in the first.
+-- Two versions of a table: the second has rows for attribute types that have none in the first.
 use Rattle.std.specs.Prelude.{◌≡◌, ◌↔◌, ℕ, not, false, List, ◌++◌, map, Result}
 use Rattle.std.specs.List.{filter, AllByRecursion}
 use Rattle.link_base.specs.declared.fault.DecodeFault.{DecodeFault}
@@ -7,20 +7,20 @@ use Rattle.link_base.specs.Class.{is_listed}
 use Rattle.link_base.specs.Wire.{Reads}
 use Rattle.link_base.specs.Table.{Row, Table, AttrValue, Gives, Canonical}
 
--- the rows of these kinds
+-- the rows of these attribute types
 abbrev pub among : {C : Type 0} → List ℕ → List (Row C) → List (Row C)
 among kinds rows = filter (λ r. is_listed kinds r.kind) rows
 
--- the rows of all other kinds
+-- the rows of all other attribute types
 abbrev pub without : {C : Type 0} → List ℕ → List (Row C) → List (Row C)
 without kinds rows = filter (λ r. not (is_listed kinds r.kind)) rows
 
--- the kinds that have rows
+-- the attribute types that have rows
 abbrev pub kinds_of : {C : Type 0} → List (Row C) → List ℕ
 kinds_of rows = map (λ r. r.kind) rows
 
--- The frame stands in the string behind complete frames: it is one of those before the first frame fault, if there is
--- one.
+-- The frame is in the list, after zero or more complete frames. If a header in the list is malformed, the frame is
+-- before it.
 pub record StandsIn (s : List ℕ) (x : Frame) : Type 0 where
   pub front : List Frame
   pub rest : List ℕ
@@ -28,17 +28,18 @@ pub record StandsIn (s : List ℕ) (x : Frame) : Type 0 where
   pub complete : AllByRecursion IsComplete front
   pub begins : BeginsWith rest x
 
--- no frame that stands in the string has one of these kinds
+-- no frame in the list has one of these attribute types
 abbrev pub HasNone : List ℕ → List ℕ → Type 0
 HasNone kinds s = (x : Frame) → StandsIn s x → is_listed kinds (kind_of x.kind_field) ≡ false
 
--- the string has the same values in both tables, or the same first fault
+-- the list decodes to the same values with both tables, or has the same first error
 abbrev pub ReadsAlike : Table → Table → List ℕ → Type 0
 ReadsAlike first second s =
     (q : Result (List AttrValue) (ℕ × DecodeFault)) → Reads (Gives first) s q ↔ Reads (Gives second) s q
 
--- The second table adds these kinds to the first: the first is the second without their rows, and each has a row in the
--- second. A string without a frame of these kinds reads alike in both, and is canonical in both or in neither.
+-- The second table adds these attribute types to the first: the first is the second without their rows, and each of
+-- them has a row in the second. A list without attributes of these types decodes to the same result with both tables,
+-- and is canonical with both or with neither.
 pub record AreEditions (added : List ℕ) (first second : Table) : Type 0 where
   pub rows : first ≡ without added second
   pub new : kinds_of (among added second) ≡ added

@@ -1,4 +1,4 @@
--- Tests of equality that look at all that a value means: what a derived `==` compares, case by case and field by field.
+-- Equality tests that compare everything a value means: a derived `==`, variant by variant and field by field.
 use Rattle.std.specs.Prelude.{◌≡◌, ℕ, ℤ, nat_eq, string_eq, string_bytes, ◌==◌, ◌&&◌, Bool, true, false, List, [], ◌∷◌, map}
 use Rattle.std.specs.Bool.{beq}
 use Rattle.std.specs.Ordering.{int_eq}
@@ -27,13 +27,13 @@ use Rattle.link_base.specs.Lift.{lift}
 use Rattle.link_base.specs.Class.{Raw}
 use Rattle.link_base.specs.Default.{default_means}
 
--- values that pass the test mean the same
+-- values that are equal by the test have the same meaning
 pub record IsThorough {K M : Type 0} (eq : K → K → Bool) (means : K → M) : Type 0 where
   pub same : (a b : K) → eq a b ≡ true → means a ≡ means b
 
 -- ---- enums
 
--- the same, of the fields of one case
+-- the same, for the fields of one variant
 abbrev pub CaseThorough : {M : Type 0} (Fs : List Field) → (Values Fs → Values Fs → Bool) → (Values Fs → M) → Type 0
 CaseThorough [] eq means = Unit {0}
 CaseThorough (F ∷ []) eq means = IsThorough (λ x y. eq (x, tt) (y, tt)) (λ x. means (x, tt))
@@ -47,7 +47,7 @@ fields (F ∷ []) eq means h a b e = h.same a.0 b.0 e
 fields (F ∷ G ∷ []) eq means h a b e = h.same (a.0, a.1.0) (b.0, b.1.0) e
 fields (F ∷ G ∷ H ∷ Fs) eq means h a b e = h.same a b e
 
--- the same, of each case
+-- the same, for each variant
 abbrev pub EachThorough : {M : Type 0} (Fss : List (List Field)) → Each Bool Fss → (Choice Fss → M) → Type 0
 EachThorough [] eqs means = Unit {0}
 EachThorough (Fs ∷ Fss) eqs means = CaseThorough Fs eqs.0 (λ x. means (inl x)) × EachThorough Fss eqs.1 (λ c. means (inr c))
@@ -60,7 +60,7 @@ choices (Fs ∷ Fss) eqs means h (inr c) (inr d) e = choices Fss eqs.1 (λ z. me
 choices (Fs ∷ Fss) eqs means h (inl x) (inr d) e = absurd (true≢false (sym e))
 choices (Fs ∷ Fss) eqs means h (inr c) (inl y) e = absurd (true≢false (sym e))
 
--- a derived test of an enum is thorough where it is so of each case
+-- the derived test of an enum is thorough if the test of each variant is
 pub of_cases : (N : Record) (eqs : Each Bool N.parts) {M : Type 0} (means : N.D → M) → EachThorough N.parts eqs (λ c. means (N.make c))
     → IsThorough (of_values N false false eqs) means
 of_cases N eqs means h = record {
@@ -69,7 +69,7 @@ of_cases N eqs means h = record {
 
 -- ---- fields
 
--- values that pass the test are the same value, and so mean the same
+-- values that are equal by the test are identical, and so have the same meaning
 pub anything : {K M : Type 0} {eq : K → K → Bool} {means : K → M} → IsThorough eq (λ (a : K). a) → IsThorough eq means
 anything {means = means} h = record { same = λ a b e. ap means (h.same a b e) }
 
@@ -85,18 +85,18 @@ truths = record { same = λ a b. (booleans_Decides a b).0 }
 pub octets : IsThorough (pointwise nat_eq) (λ (bytes : List ℕ). bytes)
 octets = record { same = λ a b. (pointwise_decides unsigned_Decides a b).0 }
 
--- a kind field and a payload
+-- an `nla_type` and a payload
 pub defaults : {V : Type 0} → IsThorough (λ (a b : DefaultNla). a.kind == b.kind && pointwise nat_eq a.value b.value) (default_means {V = V})
 defaults = record {
   same = λ a b e. ap₂ (λ f p. Other f p) (numbers.same a.kind b.kind (first_so (a.kind == b.kind) (pointwise nat_eq a.value b.value) e))
       (octets.same a.value b.value (second_so (a.kind == b.kind) (pointwise nat_eq a.value b.value) e));
 }
 
--- texts
+-- strings
 pub texts : IsThorough string_eq (λ (t : String Global). string_bytes t)
 texts = record { same = λ a b e. octets.same (string_bytes a) (string_bytes b) e }
 
--- two values, of each a meaning
+-- two values, each with its meaning
 pub pairs_by : {A B M L : Type 0} {E : A → A → Bool} {F : B → B → Bool} {means : A → M} {others : B → L} → IsThorough E means → IsThorough F others
     → IsThorough {M = M × L} (λ (x y : A × B). E x.0 y.0 && F x.1 y.1) (λ (x : A × B). (means x.0, others x.1))
 pairs_by {E = E} {F} h k = record {
@@ -108,12 +108,12 @@ pub pairs : {A B : Type 0} {E : A → A → Bool} {F : B → B → Bool} → IsT
     → IsThorough (λ (x y : A × B). E x.0 y.0 && F x.1 y.1) (λ (x : A × B). x)
 pairs h k = pairs_by h k
 
--- a struct of one part
+-- a struct with one field
 pub wrapped : {K J : Type 0} {eq : J → J → Bool} (part : K → J) (wrap : J → K) → ((a : K) → wrap (part a) ≡ a) → IsThorough eq (λ (x : J). x)
     → IsThorough (λ a b. eq (part a) (part b)) (λ (a : K). a)
 wrapped part wrap back h = record { same = λ a b e. sym (back a) ∙ ap wrap (h.same (part a) (part b) e) ∙ back b }
 
--- the parts of a value, and what their meanings make
+-- a part of a value, and the meaning that is made of the part's meaning
 pub through : {K J M L : Type 0} {eq : J → J → Bool} {means : J → M} (part : K → J) (make : M → L) → IsThorough eq means
     → IsThorough (λ a b. eq (part a) (part b)) (λ (a : K). make (means (part a)))
 through part make h = record { same = λ a b e. ap make (h.same (part a) (part b) e) }
@@ -125,7 +125,7 @@ each h [] (y ∷ ys) e = absurd (true≢false (sym e))
 each h (x ∷ xs) [] e = absurd (true≢false (sym e))
 each {eq = eq} h (x ∷ xs) (y ∷ ys) e = ap₂ (λ v vs. v ∷ vs) (h.same x y (first_so (eq x y) (pointwise eq xs ys) e)) (each h xs ys (second_so (eq x y) (pointwise eq xs ys) e))
 
--- the attribute that was lifted
+-- the inverse of `lift`
 abbrev lowered : AttrValue → Leaf
 lowered (Case k (Single v)) = Case k v
 lowered (Case k content) = Other k []
@@ -149,7 +149,7 @@ lists {leaf = leaf} {k} {flagged} h = record {
 pub byte_vectors : {k : ℕ} → IsThorough (λ (xs ys : Vec ℕ Global). pointwise nat_eq xs.items ys.items) (λ xs. Case k (Single (Raw xs.items)))
 byte_vectors {k} = record { same = λ xs ys e. ap (λ bytes. Case k (Single (Raw bytes))) (octets.same xs.items ys.items e) }
 
--- numbers in a vector, each written in so many bytes
+-- numbers in a vector, `width` bytes each in the payload
 number_vectors : {k : ℕ} (width : ℕ) → IsThorough (λ (xs ys : Vec ℕ Global). pointwise nat_eq xs.items ys.items) (λ xs. Case k (Single (Raw (written_numbers width xs.items))))
 number_vectors {k} width = record { same = λ xs ys e. ap (λ numbers. Case k (Single (Raw (written_numbers width numbers)))) (octets.same xs.items ys.items e) }
 
@@ -194,5 +194,5 @@ two_protocols Ieee8021Ad Ieee8021Q e = absurd (true≢false (sym e))
 pub protocols : IsThorough (sameb (declared enum)) (λ (p : VlanProtocol). p)
 protocols = record { same = two_protocols }
 
--- what `search` finds the tests of fields by
+-- the lemmas with which `search` proves that the tests of fields are thorough
 pub ruleset thorough_fields = (defaults, byte_vectors, u16_vectors, u32_vectors, four, sixteen, one_four, one_sixteen, numbers, integers, truths, octets, protocols, lists, anything)

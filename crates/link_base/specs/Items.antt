@@ -1,4 +1,4 @@
--- The frames that an iterator gives.
+-- The items of an iterator over attributes.
 use Rattle.std.specs.Prelude.{◌≡◌, ◌≢◌, ◌⊎◌, ℕ, ◌+◌, ◌<◌, min, List, [], ◌∷◌, ◌++◌, length, drop, map, Option, Some, None, Result, Ok, Err}
 use Rattle.std.specs.List.{AllByRecursion}
 use Rattle.link_base.specs.declared.buffer.NlaBuffer.{NlaBuffer}
@@ -10,17 +10,17 @@ use Rattle.link_base.specs.declared.fault.Cause.{Cause}
 use Rattle.link_base.specs.Frame.{Frame, Frames, IsComplete, BeginsWith, pad, spelled, frame_fault}
 use Rattle.link_base.specs.Buffer.{kind_field_of, payload_of, frame_of, IsFrameFault}
 
--- the bytes that an iterator has left
+-- the bytes that the iterator has not yet passed
 abbrev pub bytes_left : NlasIterator → List ℕ
 bytes_left it = it.rest.now
 
--- with bytes s left it gives their first frame, or their fault and nothing more, and leaves t
+-- if s is left, the next item is the first frame of s or, as the last item, the error in its header; t is left then
 abbrev pub NextFrame : List ℕ → Option (Result NlaBuffer DecodeError) → List ℕ → Type 0
 NextFrame s None t = (s ≡ []) × (t ≡ [])
 NextFrame s (Some (Ok b)) t = BeginsWith s (frame_of b) × (t ≡ drop (min (pad (4 + length (payload_of b))) (length s)) s)
 NextFrame s (Some (Err e)) t = (s ≢ []) × IsFrameFault s e × (t ≡ [])
 
--- what is seen of an item
+-- the `nla_type` and the payload of an item, or its error
 abbrev pub seen : Result NlaBuffer DecodeError → Result (ℕ × List ℕ) DecodeError
 seen (Ok b) = Ok (kind_field_of b, payload_of b)
 seen (Err e) = Err e
@@ -29,7 +29,7 @@ seen (Err e) = Err e
 abbrev pub item_of : Frame → Result (ℕ × List ℕ) DecodeError
 item_of x = Ok (x.kind_field, x.payload)
 
--- the items of bytes: their frames; or the frames before the first frame fault, and the fault as the last item
+-- the items for s: its frames; or the frames before the first malformed header, and that error as the last item
 abbrev pub AreItems : List ℕ → List (Result NlaBuffer DecodeError) → Type 0
 AreItems s items =
     ((xs : List Frame) × Frames s xs × (map seen items ≡ map item_of xs))

@@ -1,4 +1,4 @@
--- A table without lists, as a table.
+-- A table without lists, as a table that may have lists.
 use Rattle.std.specs.Prelude.{map}
 use Rattle.link_base.specs.Class.{Class}
 use Rattle.link_base.specs.Table.{Row, Rows, row, Leaf, Case, Other, Shape, One, Single, Table, AttrValue}
@@ -9,7 +9,7 @@ lift_row r = row r.kind (One r.class)
 abbrev pub lift_table : Rows → Table
 lift_table rows = map lift_row rows
 
--- an attribute of such a table
+-- an attribute of a table without lists, as an attribute of that table
 abbrev pub lift : Leaf → AttrValue
 lift (Case k v) = Case k (Single v)
 lift (Other f p) = Other f p

@@ -4,24 +4,24 @@ use Rattle.std.specs.List.{AllByRecursion}
 use Rattle.std.specs.Str.{IsUtf8}
 use Rattle.std.specs.Str.Lossy.{utf8_lossy}
 
--- what stands before the first NUL, or all
+-- the bytes before the first NUL; all bytes if there is none
 abbrev pub before_nul : List ℕ → List ℕ
 before_nul [] = []
 before_nul (b ∷ bytes) = if b == 0 then [] else b ∷ before_nul bytes
 
--- the text that is read from a name field: U+FFFD for each maximal part that is no UTF-8
+-- the string that a name field decodes to: each maximal part that is not UTF-8 becomes U+FFFD
 abbrev pub name_of : List ℕ → List ℕ
 name_of field = utf8_lossy (before_nul field)
 
--- some bytes, then zeros up to 16
+-- bytes, filled with zeros up to 16
 abbrev pub zero_filled : List ℕ → List ℕ
 zero_filled bytes = bytes ++ replicate (16 - length bytes) 0
 
--- the field that is written for a text: its first 15 bytes, then zeros
+-- the field that is written for a string: its first 15 bytes, then zeros
 abbrev pub name_field : List ℕ → List ℕ
 name_field text = zero_filled (take 15 text)
 
--- the text as it is read back
+-- what the written field decodes to
 abbrev pub cut_name : List ℕ → List ℕ
 cut_name text = utf8_lossy (before_nul (take 15 text))
 
@@ -29,11 +29,11 @@ cut_name text = utf8_lossy (before_nul (take 15 text))
 abbrev pub HasNoNul : List ℕ → Type 0
 HasNoNul bytes = AllByRecursion (λ b. 0 < b) bytes
 
--- text, or text before a U+FFFD that the fifteenth byte cut short
+-- UTF-8, or 15 bytes that are UTF-8 followed by a U+FFFD that is truncated after one or two bytes
 abbrev pub IsCutText : List ℕ → Type 0
 IsCutText bytes = IsUtf8 bytes ⊎ ((length bytes ≡ 15) × (text : List ℕ) × IsUtf8 text
     × ((bytes ≡ text ++ 0xEF ∷ []) ⊎ (bytes ≡ text ++ 0xEF ∷ 0xBF ∷ [])))
 
--- at most 15 bytes without NUL, and zeros up to 16
+-- a name of at most 15 bytes without NUL, which may end in a truncated U+FFFD, filled with zeros up to 16
 abbrev pub IsNameField : List ℕ → Type 0
 IsNameField field = (bytes : List ℕ) × (field ≡ zero_filled bytes) × (length bytes ≤ 15) × HasNoNul bytes × IsCutText bytes

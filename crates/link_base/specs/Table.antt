@@ -1,4 +1,4 @@
--- Tables of attributes: what a kind field and a payload read as, and how a value is written.
+-- Tables of attributes: what `nla_type` and a payload decode to, and how a value is written.
 use Rattle.std.specs.Prelude.{◌≡◌, ℕ, ◌+◌, ◌<◌, ◌==◌, Bool, List, [], ◌∷◌, length, map, Option, Some, None, Result, Ok, Err, if◌then◌else◌}
 use Rattle.std.specs.List.{filter, AllByRecursion}
 use Rattle.link_base.specs.declared.fault.Cause.{Cause}
@@ -11,21 +11,21 @@ use Rattle.link_base.specs.Wire.{Reading, Reads, Wire, CanonicalBy, FirstOtherBy
 
 -- ---- rows, and attributes of a table
 
--- a kind, and what its payloads are
+-- an attribute type, and what its payloads are
 pub record Row (C : Type 0) : Type 0 where
   pub kind : ℕ
   pub class : C
 
--- the row of this kind
+-- a row for this attribute type
 abbrev pub row : {C : Type 0} → ℕ → C → Row C
 row k c = record { kind = k; class = c }
 
--- what the payloads of a kind are, where a row has it
+-- what the payloads of an attribute type are, if it has a row
 abbrev pub class_at : {C : Type 0} → List (Row C) → ℕ → Option C
 class_at [] k = None
 class_at (r ∷ rows) k = if r.kind == k then Some r.class else class_at rows k
 
--- an attribute: the case of a kind that has a row, or any other kind field and payload
+-- an attribute: the variant for an attribute type that has a row (`Case`), or any other `nla_type` and payload
 pub data Attr (V : Type 0) : Type 0 where
   Case : ℕ → V → Attr V
   Other : ℕ → List ℕ → Attr V
@@ -36,25 +36,25 @@ pub data Attr (V : Type 0) : Type 0 where
 abbrev pub Rows : Type 0
 Rows = List (Row Class)
 
--- an attribute of such a table
+-- an attribute of a table without lists
 abbrev pub Leaf : Type 0
 Leaf = Attr Value
 
--- the case of a kind, or the fault of its payload
+-- the variant of an attribute type, or the error of its payload
 abbrev pub leaf_case : ℕ → Result Value Cause → Result Leaf DecodeFault
 leaf_case k (Ok v) = Ok (Case k v)
 leaf_case k (Err c) = Err (faults.Value k c)
 
--- what a payload of a kind with this class, or with none, reads as
+-- what a payload decodes to if its attribute type has this class, or no row
 abbrev pub leaf_by : Option Class → ℕ → List ℕ → Result Leaf DecodeFault
 leaf_by None f p = Ok (Other f p)
 leaf_by (Some c) f p = leaf_case (kind_of f) (class_value c p)
 
--- what a kind field and a payload read as in a table without lists
+-- what `nla_type` and a payload decode to in a table without lists
 abbrev pub LeafGives : Rows → Reading Leaf
 LeafGives rows f p r = r ≡ leaf_by (class_at rows (kind_of f)) f p
 
--- the written kind field: a case has no flags, and `Other` keeps its own
+-- the written `nla_type`: a variant has no flags, and `Other` keeps its own
 abbrev pub leaf_field : Leaf → ℕ
 leaf_field (Case k v) = k
 leaf_field (Other f p) = f
@@ -70,85 +70,85 @@ written_leaves vs = written_by leaf_field leaf_payload vs
 
 -- ---- tables with lists
 
--- what the payloads of a kind are
+-- what the payloads of an attribute type are
 pub data Shape : Type 0 where
   One : Class → Shape
-  -- a list of a table, and whether its kind is written with the nested flag
+  -- a list of attributes of a table, and whether it is written with the nested flag
   Nested : Bool → Rows → Shape
-  -- addresses of so many bytes
+  -- a list of addresses of n bytes each
   Addresses : ℕ → Shape
 
 -- the content of an attribute
 pub data Content : Type 0 where
   Single : Value → Content
-  -- the values of a nested list, and whether its kind is written with the nested flag
+  -- the values of a nested list, and whether it is written with the nested flag
   Inner : Bool → List Leaf → Content
-  -- addresses
+  -- the addresses of a list
   Listed : List (List ℕ) → Content
 
--- a table of a family
+-- the table of an attribute set
 abbrev pub Table : Type 0
 Table = List (Row Shape)
 
--- an attribute of a family, as a value
+-- an attribute of an attribute set, as a value
 abbrev pub AttrValue : Type 0
 AttrValue = Attr Content
 
--- the case of a kind of one class, or the fault of its payload
+-- the variant of an attribute type with one class, or the error of its payload
 abbrev pub single_case : ℕ → Result Value Cause → Result AttrValue DecodeFault
 single_case k (Ok v) = Ok (Case k (Single v))
 single_case k (Err c) = Err (faults.Value k c)
 
--- the fault of a list under a kind: an element has only the first two
+-- the error of a nested list, with the attribute type k of the list; an element has only the first two errors
 abbrev pub nested_fault : ℕ → DecodeFault → DecodeFault
 nested_fault k (faults.Frame c) = faults.NestedFrame k c
 nested_fault k (faults.Value inner c) = faults.NestedValue k inner c
 nested_fault k fault = fault
 
--- the case of a kind whose list reads so, or its fault
+-- the variant of attribute type k whose list has this result, or its error
 abbrev pub list_case : {V : Type 0} → (List V → Content) → ℕ → Result (List V) (ℕ × DecodeFault) → Result AttrValue DecodeFault
 list_case content k (Ok vs) = Ok (Case k (content vs))
 list_case content k (Err e) = Err (nested_fault k e.1)
 
--- what a payload that is a list reads as
+-- what a payload that is a list decodes to
 abbrev pub ListGives : {V : Type 0} → Reading V → (List V → Content) → ℕ → List ℕ → Result AttrValue DecodeFault → Type 0
 ListGives {V} gives content k p r = (q : Result (List V) (ℕ × DecodeFault)) × Reads gives p q × (r ≡ list_case content k q)
 
--- an element of an address list reads as its payload, whatever its kind
+-- an element of an address list decodes to its payload, whatever its attribute type
 abbrev pub PayloadGives : Reading (List ℕ)
 PayloadGives f p r = r ≡ Ok p
 
--- the payloads of so many bytes
+-- the payloads of n bytes
 abbrev pub of_length : ℕ → List (List ℕ) → List (List ℕ)
 of_length n payloads = filter (λ p. length p == n) payloads
 
--- what a payload of this shape reads as under a kind
+-- what a payload decodes to if its attribute type k has this shape
 abbrev pub ShapeGives : Shape → ℕ → List ℕ → Result AttrValue DecodeFault → Type 0
 ShapeGives (One c) k p r = r ≡ single_case k (class_value c p)
 ShapeGives (Nested flagged rows) k p r = ListGives (LeafGives rows) (Inner flagged) k p r
 ShapeGives (Addresses n) k p r = ListGives PayloadGives (λ payloads. Listed (of_length n payloads)) k p r
 
--- the same for a kind field whose kind has this row, or none
+-- what `nla_type` and a payload decode to if the attribute type has this shape, or no row
 abbrev pub GivesBy : Option Shape → Reading AttrValue
 GivesBy None f p r = r ≡ Ok (Other f p)
 GivesBy (Some shape) f p r = ShapeGives shape (kind_of f) p r
 
--- what a kind field and a payload read as in a table
+-- what `nla_type` and a payload decode to
 abbrev pub Gives : Table → Reading AttrValue
 Gives table f p r = GivesBy (class_at table (kind_of f)) f p r
 
 -- ---- what is written
 
--- addresses as elements of the kinds 0, 1, 2 and on
+-- addresses as elements of the attribute types i, i + 1, i + 2 and so on
 abbrev pub addresses_from : ℕ → List (List ℕ) → List Frame
 addresses_from i [] = []
 addresses_from i (a ∷ others) = whole i a ∷ addresses_from (i + 1) others
 
--- NLA_F_NESTED, where a list has it
+-- NLA_F_NESTED if a list is written with it, otherwise 0
 abbrev pub nested_flag : Bool → ℕ
 nested_flag flagged = if flagged then 0x8000 else 0
 
--- the flag that a content is written with
+-- the flag in `nla_type` with which a content is written
 abbrev pub content_flag : Content → ℕ
 content_flag (Inner flagged vs) = nested_flag flagged
 content_flag content = 0
@@ -159,7 +159,7 @@ content_payload (Single v) = written v
 content_payload (Inner flagged vs) = written_leaves vs
 content_payload (Listed octets) = spelled (addresses_from 0 octets)
 
--- the written kind field
+-- the written `nla_type`
 abbrev pub written_kind : AttrValue → ℕ
 written_kind (Case k content) = k + content_flag content
 written_kind (Other f p) = f
@@ -173,17 +173,17 @@ written_payload (Other f p) = p
 abbrev pub written_frame : AttrValue → List ℕ
 written_frame v = frame_bytes (whole (written_kind v) (written_payload v))
 
--- the written list: the frames, one after another
+-- the written list: consecutive frames
 abbrev pub written_list : List AttrValue → List ℕ
 written_list vs = written_by written_kind written_payload vs
 
--- a frame holds the written payload
+-- the written payload fits in an attribute
 abbrev pub Fits : AttrValue → Type 0
 Fits v = FitsBy written_payload v
 
--- ---- canon and cut
+-- ---- `canon`, the normal form, and `cut`
 
--- canon and cut of an element of a nested list
+-- `canon` and `cut` for an element of a nested list
 abbrev pub leaf_canon : Leaf → Leaf
 leaf_canon (Case k v) = Case k (Class.canon v)
 leaf_canon (Other f p) = Other f p
@@ -192,7 +192,7 @@ abbrev pub leaf_cut : Leaf → Leaf
 leaf_cut (Case k v) = Case k (Class.cut v)
 leaf_cut (Other f p) = Other f p
 
--- canon of a content, value by value
+-- `canon` for a content, applied to each value
 abbrev pub content_canon : Content → Content
 content_canon (Single v) = Single (Class.canon v)
 content_canon (Inner flagged vs) = Inner flagged (map leaf_canon vs)
@@ -203,29 +203,29 @@ abbrev pub canon : AttrValue → AttrValue
 canon (Case k content) = Case k (content_canon content)
 canon (Other f p) = Other f p
 
--- cut of a content, value by value
+-- `cut` for a content, applied to each value
 abbrev pub content_cut : Content → Content
 content_cut (Single v) = Single (Class.cut v)
 content_cut (Inner flagged vs) = Inner flagged (map leaf_cut vs)
 content_cut (Listed octets) = Listed octets
 
--- each name becomes what is read back of it
+-- each name becomes what its written form decodes to
 abbrev pub cut : AttrValue → AttrValue
 cut (Case k content) = Case k (content_cut content)
 cut (Other f p) = Other f p
 
--- ---- canonical kind fields and payloads
+-- ---- canonical `nla_type`s and payloads
 
--- an element's kind field has no flags and its payload is canonical; or no row has its kind
+-- the `nla_type` of an element has no flags, and the payload is canonical; or no row has the attribute type
 abbrev pub leaf_allows_by : Option Class → ℕ → List ℕ → Type 0
 leaf_allows_by None f p = Unit {0}
 leaf_allows_by (Some c) f p = (f < 16384) × IsCanonicalPayload c p
 
--- the kind field and the payload of an element are canonical
+-- the `nla_type` and the payload of an element are canonical
 abbrev pub LeafAllows : Rows → ℕ → List ℕ → Type 0
 LeafAllows rows f p = leaf_allows_by (class_at rows (kind_of f)) f p
 
--- complete elements of the kinds 0, 1, 2 and on, each of so many bytes
+-- complete elements with the attribute types 0, 1, 2 and so on, each with a payload of n bytes
 pub record AreAddresses (n : ℕ) (p : List ℕ) : Type 0 where
   pub addresses : List (List ℕ)
   pub each : AllByRecursion (λ a. length a ≡ n) addresses
@@ -238,23 +238,24 @@ IsCanonicalContent (One c) p = IsCanonicalPayload c p
 IsCanonicalContent (Nested flagged rows) p = CanonicalBy (LeafAllows rows) p
 IsCanonicalContent (Addresses n) p = AreAddresses n p
 
--- the flag that a shape is written with
+-- the flag in `nla_type` with which a shape is written
 abbrev pub shape_flag : Shape → ℕ
 shape_flag (Nested flagged rows) = nested_flag flagged
 shape_flag shape = 0
 
--- the kind field is the row's kind with its flag, and the payload is canonical; or no row has the kind
+-- `nla_type` is the attribute type of the row with the flag of its shape, and the payload is canonical; or no row has
+-- the attribute type
 abbrev pub allows_by : Option Shape → ℕ → List ℕ → Type 0
 allows_by None f p = Unit {0}
 allows_by (Some shape) f p = (f ≡ kind_of f + shape_flag shape) × IsCanonicalContent shape p
 
--- the kind field and the payload are canonical
+-- `nla_type` and the payload are canonical
 abbrev pub Allows : Table → ℕ → List ℕ → Type 0
 Allows table f p = allows_by (class_at table (kind_of f)) f p
 
 -- ---- lists of a table
 
--- s decodes: it is a list of attributes that read as values
+-- s decodes: it is a list of attributes that decode to values
 pub record Decodes (table : Table) (s : List ℕ) : Type 0 where
   pub values : List AttrValue
   pub wire : Wire (Gives table) s values
@@ -263,26 +264,26 @@ pub record Decodes (table : Table) (s : List ℕ) : Type 0 where
 abbrev pub Canonical : Table → List ℕ → Type 0
 Canonical table s = CanonicalBy (Allows table) s
 
--- the first attribute that is not canonical, or the bytes that are none, stand at this offset
+-- `at` is the offset of the first attribute that is not canonical, or of bytes that do not start with a whole attribute
 abbrev pub FirstNotCanonical : Table → List ℕ → ℕ → Type 0
 FirstNotCanonical table s at = FirstOtherBy (Allows table) s at
 
--- t is what is written for the values of s, which all fit
+-- t is what is written for the values of s, all of which fit
 abbrev pub Rewriting : Table → List ℕ → List ℕ → Type 0
 Rewriting table s t = RewritingBy (Gives table) written_kind written_payload s t
 
 -- ---- memory
 
--- a value of this shape is held in memory of its own
+-- values of this shape may be heap-allocated
 abbrev pub ShapeTakesMemory : Shape → Type 0
 ShapeTakesMemory (One c) = Class.TakesMemory c
 ShapeTakesMemory shape = Unit {0}
 
--- the same for a kind with this row, or with none
+-- values of an attribute type with this shape, or with no row, may be heap-allocated
 abbrev pub TakesMemoryBy : Option Shape → Type 0
 TakesMemoryBy None = Unit {0}
 TakesMemoryBy (Some shape) = ShapeTakesMemory shape
 
--- a value of this kind field is held in memory of its own
+-- values of this `nla_type` may be heap-allocated
 abbrev pub TakesMemory : Table → ℕ → Type 0
 TakesMemory table f = TakesMemoryBy (class_at table (kind_of f))

@@ -1,4 +1,4 @@
--- The displayed texts of causes and faults.
+-- The `Display` output of `Cause` and `DecodeFault`.
 use Rattle.std.specs.Prelude.{ℕ, List, ◌++◌, codes}
 use Rattle.std.specs.Fmt.{decimal}
 use Rattle.link_base.specs.declared.fault.Cause.{Cause}
@@ -6,7 +6,7 @@ use Rattle.link_base.specs.declared.fault.Cause.TheVariants.{ShortFrame, SmallLe
 use Rattle.link_base.specs.declared.fault.DecodeFault.{DecodeFault}
 use Rattle.link_base.specs.declared.fault.DecodeFault.TheVariants.{Frame, Value, NestedFrame, NestedValue, Payload, Text}
 
--- what is wrong with a frame or a payload
+-- why an attribute or a payload is malformed
 abbrev pub cause_text : Cause → List ℕ
 cause_text (ShortFrame left) = codes "short frame " ++ decimal left
 cause_text (SmallLength stated) = codes "small length " ++ decimal stated
@@ -15,7 +15,7 @@ cause_text (WrongLength want got) = codes "wrong length " ++ decimal want ++ cod
 cause_text (TooShort want got) = codes "too short " ++ decimal want ++ codes " " ++ decimal got
 cause_text (AddressLength got) = codes "address length " ++ decimal got
 
--- a kind, and what is wrong with its payload
+-- an attribute type, and why its payload is malformed
 abbrev pub value_text : ℕ → Cause → List ℕ
 value_text kind cause = codes "kind " ++ (decimal kind ++ (codes ": " ++ cause_text cause))
 

@@ -1,24 +1,24 @@
--- Tests that each table passes: they compute.
+-- Well-formed tables: decidable tests that each table passes.
 use Rattle.std.specs.Prelude.{ℕ, ◌+◌, ◌≤◌, ◌==◌, ◌&&◌, ◌||◌, Bool, true, false, List, [], ◌∷◌, length, Option, Some, nat_lt, nat_le}
 use Rattle.std.specs.List.{list_all}
 use Rattle.link_base.specs.Number.{bound}
 use Rattle.link_base.specs.Class.{Extent, AtLeast, Multiple, Class, Octets, Many, Named, Empty, Limits}
 use Rattle.link_base.specs.Table.{Row, Shape, One, Nested, Addresses, Table}
 
--- a number of bytes, and not a multiple of one
+-- the extent is a number of bytes, not a multiple of one
 abbrev pub is_record : Extent → Bool
 is_record (Multiple n) = false
 is_record e = true
 
--- `Octets` never has the extent `Multiple`, the numbers of a list have two or four bytes, and each number with a name
--- fits its bytes
+-- `Octets` never has the extent `Multiple`, the numbers in an array have two or four bytes, and each number with a name
+-- fits in its bytes
 abbrev pub is_class : Class → Bool
 is_class (Octets e) = is_record e
 is_class (Many n) = n == 2 || n == 4
 is_class (Named n listed) = list_all (λ d. nat_lt d (bound n)) listed
 is_class c = true
 
--- what is written is as long as the payload
+-- the written payload is as long as the payload that was decoded
 abbrev pub is_kept : Class → Bool
 is_kept (Octets (AtLeast n)) = false
 is_kept (Octets (Multiple n)) = false
@@ -26,16 +26,16 @@ is_kept Empty = false
 is_kept Limits = false
 is_kept c = true
 
--- rows of rising kinds below 16384, each of which passes a test
+-- rows of strictly increasing attribute types below 16384, each of which passes a test
 abbrev pub are_rows : {C : Type 0} → (C → Bool) → ℕ → List (Row C) → Bool
 are_rows test least [] = true
 are_rows test least (r ∷ rows) = nat_le least r.kind && (nat_lt r.kind 16384 && (test r.class && are_rows test (r.kind + 1) rows))
 
--- a row of a nested list is of one length
+-- a class that a row of a nested list may have: the written payload is as long as the decoded one
 abbrev pub is_nested_class : Class → Bool
 is_nested_class c = is_class c && is_kept c
 
--- one value, a nested list of rows that keep their length, or addresses of 4 or 16 bytes
+-- a single value, a nested list whose rows keep the length of payloads, or addresses of 4 or 16 bytes
 abbrev pub is_shape : Shape → Bool
 is_shape (One c) = is_class c
 is_shape (Nested flagged rows) = are_rows is_nested_class 0 rows
@@ -45,7 +45,7 @@ is_shape (Addresses n) = n == 4 || n == 16
 abbrev pub is_table : Table → Bool
 is_table table = are_rows is_shape 0 table
 
--- a nested list in a payload of 65529 bytes or more: its last element lacks padding, with which it would have 65532
+-- a nested list in a payload of 65529 bytes or more: its last element lacks padding, and with it there would be 65532
 abbrev pub IsOverfull : Option Shape → List ℕ → Type 0
 IsOverfull (Some (Nested flagged rows)) p = 65529 ≤ length p
 IsOverfull shape p = ⊥

@@ -1,4 +1,4 @@
--- The grammars of lists, over any reading of one attribute.
+-- The grammars of lists, for any way to decode one attribute.
 use Rattle.std.specs.Prelude.{◌≡◌, ◌⊎◌, ℕ, ◌<◌, ◌≤◌, List, ◌++◌, length, replicate, Some, Result, Ok, Err}
 use Rattle.std.specs.List.{flat_map, AllZip, AllByRecursion}
 use Rattle.link_base.specs.declared.fault.Cause.{Cause}
@@ -6,29 +6,29 @@ use Rattle.link_base.specs.declared.fault.DecodeFault.{DecodeFault}
 use Rattle.link_base.specs.declared.fault.DecodeFault.TheVariants as faults
 use Rattle.link_base.specs.Frame.{Frame, Frames, IsComplete, BeginsWith, frame_bytes, spelled, gap, frame_fault}
 
--- What attributes read as: a kind field and a payload as a value, or as a fault.
+-- How attributes decode: from `nla_type` and a payload to a value or an error.
 abbrev pub Reading : Type 0 → Type 1
 Reading V = ℕ → List ℕ → Result V DecodeFault → Type 0
 
--- the frame reads as this value, or as this fault
+-- the frame decodes to this value, or has this error
 abbrev pub FrameGives : {V : Type 0} → Reading V → Frame → Result V DecodeFault → Type 0
 FrameGives gives x r = gives x.kind_field x.payload r
 
--- ---- reading
+-- ---- decoding
 
--- the wire grammar: the string is frames that read as these values
+-- the wire grammar: s consists of frames that decode to these values
 pub record Wire {V : Type 0} (gives : Reading V) (s : List ℕ) (vs : List V) : Type 0 where
   pub frames : List Frame
   pub string : Frames s frames
   pub values : AllZip (λ x v. FrameGives gives x (Ok v)) frames vs
 
--- some bytes begin with no frame, or with a frame that reads as a fault
+-- r does not start with a frame, or starts with a frame that has this error
 abbrev pub FaultsHere : {V : Type 0} → Reading V → List ℕ → DecodeFault → Type 0
 FaultsHere gives r fault =
     ((c : Cause) × (frame_fault r ≡ Some c) × (fault ≡ faults.Frame c))
     ⊎ ((x : Frame) × BeginsWith r x × FrameGives gives x (Err fault))
 
--- the first fault: complete frames that read as values, and then the fault
+-- the first error: complete frames that decode to values, then the error
 pub record FirstFault {V : Type 0} (gives : Reading V) (s : List ℕ) (at : ℕ) (fault : DecodeFault) : Type 0 where
   pub front : List Frame
   pub rest : List ℕ
@@ -39,22 +39,22 @@ pub record FirstFault {V : Type 0} (gives : Reading V) (s : List ℕ) (at : ℕ)
   pub offset : at ≡ length (spelled front)
   pub here : FaultsHere gives rest fault
 
--- what a string reads as: its values, or its first fault and where it stands
+-- the result of decoding s: its values, or its first error with the offset
 abbrev pub Reads : {V : Type 0} → Reading V → List ℕ → Result (List V) (ℕ × DecodeFault) → Type 0
 Reads gives s (Ok vs) = Wire gives s vs
 Reads gives s (Err e) = FirstFault gives s e.0 e.1
 
 -- ---- writing
 
--- the frame that is written for a kind field and a payload, with zeros for padding
+-- the frame that is written for an `nla_type` and a payload, with zeros for padding
 abbrev pub whole : ℕ → List ℕ → Frame
 whole f p = record { kind_field = f; payload = p; padding = replicate (gap p) 0 }
 
--- the frames of values, one after another
+-- the consecutive frames of values
 abbrev pub written_by : {V : Type 0} → (V → ℕ) → (V → List ℕ) → List V → List ℕ
 written_by field payload vs = flat_map (λ v. frame_bytes (whole (field v) (payload v))) vs
 
--- a frame holds the written payload
+-- the written payload fits in an attribute
 abbrev pub FitsBy : {V : Type 0} → (V → List ℕ) → V → Type 0
 FitsBy payload v = length (payload v) ≤ 65531
 
@@ -66,17 +66,17 @@ pub record IsCanonicalFrame (allows : ℕ → List ℕ → Type 0) (x : Frame) :
   pub zeros : x.padding ≡ replicate (gap x.payload) 0
   pub allowed : allows x.kind_field x.payload
 
--- a string of such frames
+-- a list of such frames
 pub record CanonicalBy (allows : ℕ → List ℕ → Type 0) (s : List ℕ) : Type 0 where
   pub frames : List Frame
   pub string : s ≡ spelled frames
   pub each : AllByRecursion (IsCanonicalFrame allows) frames
 
--- some bytes begin with this kind field and payload, complete and padded with zeros, and these bytes follow
+-- s starts with the complete frame of this `nla_type` and payload, padded with zeros, and `rest` follows
 abbrev pub SplitsWhole : List ℕ → ℕ → List ℕ → List ℕ → Type 0
 SplitsWhole s f p rest = IsComplete (whole f p) × (s ≡ frame_bytes (whole f p) ++ rest)
 
--- canonical frames, and then some bytes that no canonical frame begins
+-- canonical frames, possibly none, then a rest that is not empty and does not start with a canonical frame
 pub record FirstOtherBy (allows : ℕ → List ℕ → Type 0) (s : List ℕ) (at : ℕ) : Type 0 where
   pub front : List Frame
   pub rest : List ℕ
@@ -88,7 +88,7 @@ pub record FirstOtherBy (allows : ℕ → List ℕ → Type 0) (s : List ℕ) (a
 
 -- ---- rewriting
 
--- t is what is written for the values of s, which all fit
+-- t is what is written for the values of s, all of which fit
 pub record RewritingBy {V : Type 0} (gives : Reading V) (field : V → ℕ) (payload : V → List ℕ) (s t : List ℕ) : Type 0 where
   pub values : List V
   pub wire : Wire gives s values

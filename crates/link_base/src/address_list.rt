@@ -1,4 +1,4 @@
-//! IP addresses as the payload of an attribute, and lists of them.
+//! IP addresses as payloads of attributes, and lists of them.
 
 ghost use Rattle.std.specs.Prelude.{◌≡◌, ◌≢◌, ◌≤◌, ◌<◌, ◌^◌, ◌++◌, ◌∷◌, [], ℕ, List, length, map, None, IsTrue, refl};
 ghost use Rattle.std.specs.Prelude.{◌+◌, ◌/◌, nat_lt, MatchOption, vec_len, vec_capacity};
@@ -15,9 +15,9 @@ use crate::fault::{Cause, DecodeError, DecodeFault};
 use std::alloc::Global;
 use std::net::{Ipv4Addr, Ipv6Addr};
 
-/// An IP address, as the payload of an attribute or of an element.
+/// An IP address, as the payload of an attribute or of an element of a list.
 pub trait Address: Copy {
-    /// How many octets an address has.
+    /// The number of octets in an address.
     const SIZE: usize;
 
     ghost SIZE: { ℕ };
@@ -31,12 +31,12 @@ pub trait Address: Copy {
     /// `SIZE` is at most 16.
     ghost few: { IsTrue (nat_lt SIZE 17) };
 
-    /// The address of these octets; `None` where there are more or fewer.
+    /// Returns the address with these octets; `None` if `payload.len()` is not `SIZE`.
     fn from_payload(payload: &[u8]) -> Option<Self>
         ensures { MatchOption result (length payload.now ≢ SIZE)
             (λ a. (length payload.now ≡ SIZE) × (octets a ≡ payload.now)) };
 
-    /// Writes the octets into a buffer of `SIZE` bytes.
+    /// Writes the octets. `buffer` must be exactly `SIZE` bytes long.
     fn put(&self, buffer: &mut [u8])
         requires { length buffer.old ≡ SIZE }
         ensures written { buffer.new ≡ octets self.now }
@@ -93,7 +93,11 @@ impl Address for Ipv6Addr {
     }
 }
 
-/// The address whose octets are a payload, in order. Fails with `Payload` of `WrongLength`.
+/// Parses an IP address from its octets, in order.
+///
+/// # Errors
+///
+/// `Payload(WrongLength)` if `payload.len()` is not `A::SIZE`.
 pub fn parse_address<A: Address>(payload: &[u8]) -> Result<A, DecodeError>
     ensures { read_as A.octets result ≡ payload_result (accepted (Exactly A.SIZE) (λ p. p) payload.now) }
 {
@@ -109,7 +113,7 @@ pub fn parse_address<A: Address>(payload: &[u8]) -> Result<A, DecodeError>
     }
 }
 
-/// An element of a list of addresses, as it is written.
+/// An element of a list of addresses that is to be written.
 #[derive(Drop)]
 struct Element<A: Address> {
     kind: u16,
@@ -140,9 +144,14 @@ impl<A: Address> Nla for Element<A> {
     }
 }
 
-/// The addresses of the list that is the payload of the attribute of this kind: the elements of as many bytes as an
-/// address has octets, in order. The others are skipped, and the kinds of all are ignored. Fails with `NestedFrame`, or
-/// with `Memory`, but not where the payload begins with no frame.
+/// Parses the payload of an attribute of type `kind` as a list of addresses. Returns the addresses, in order, of all
+/// elements with a payload of `A::SIZE` bytes. Other elements are skipped, and the attribute types of the elements are
+/// ignored.
+///
+/// # Errors
+///
+/// `NestedFrame` if the header of an element is malformed. `Memory` if an allocation fails, which is possible only if
+/// the payload starts with a whole element.
 pub fn read_addresses<A: Address>(
     alloc: Global,
     kind: u16,
@@ -169,8 +178,9 @@ pub fn read_addresses<A: Address>(
     }
 }
 
-/// Pushes the addresses of a list to a `Vec` of none, with room for as many as there can be. It stands alone so that
-/// the `Vec` is not taken apart beside the error in the loop.
+/// Appends the addresses of a list to `addresses`. `addresses` must be empty and have capacity for as many as there can
+/// be, `payload.len() / (A::SIZE + 4)`. This is a separate function so that the compiler does not keep the fields of
+/// the `Vec` individually, next to the error, in the loop.
 #[inline(never)]
 fn push_addresses<A: Address>(
     kind: u16,
@@ -196,7 +206,7 @@ fn push_addresses<A: Address>(
     Ok(())
 }
 
-/// Pushes the address with this payload, where there is one.
+/// Appends the address in `payload`, if its length is that of an address. `addresses` must then have capacity for it.
 fn keep<A: Address>(addresses: &mut Vec<A>, payload: &[u8])
     requires { vec_len addresses.old + length (of_length A.SIZE (payload.now ∷ [])) ≤ vec_capacity addresses.old }
     ensures kept { map A.octets addresses.new.items
@@ -209,15 +219,15 @@ fn keep<A: Address>(addresses: &mut Vec<A>, payload: &[u8])
     }
 }
 
-/// The bytes of a written list of addresses; `usize::MAX` where there are that many or more.
+/// Returns the length of a written list of addresses in bytes; saturates at `usize::MAX`.
 pub fn addresses_len<A: Address>(addresses: &[A]) -> usize
     ensures { result ≡ capped (length (spelled (addresses_from 0 (map A.octets addresses.now)))) }
 {
     addresses.len().saturating_mul((A::SIZE + 7) / 4 * 4)
 }
 
-/// Writes addresses as elements of the kinds 0, 1, 2 and on into a buffer of exactly `addresses_len` bytes, at most
-/// 65531.
+/// Writes addresses as elements with the attribute types 0, 1, 2 and so on. `buffer` must be exactly
+/// `addresses_len(addresses)` bytes long, which must be at most 65531.
 pub fn emit_addresses<A: Address>(addresses: &[A], buffer: &mut [u8])
     requires fits { length (spelled (addresses_from 0 (map A.octets addresses.now))) ≤ 65531 }
     requires exact { length buffer.old ≡ length (spelled (addresses_from 0 (map A.octets addresses.now))) }

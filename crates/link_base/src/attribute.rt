@@ -1,4 +1,4 @@
-//! What a family of attributes promises: the traits, and the laws that come with them.
+//! The traits of an attribute set, and the properties that its attributes are guaranteed to have.
 
 ghost use Rattle.std.specs.Prelude.{◌≡◌, ◌≤◌, ◌+◌, ◌++◌, ◌↔◌, IsTrue, length, take, drop, replicate};
 ghost use Rattle.link_base.specs.Number.{bytes_of};
@@ -18,44 +18,44 @@ use crate::fault::{DecodeError, of_kind};
 use crate::place::Place;
 use std::alloc::Global;
 
-/// The maximum length of a payload: the maximum `nla_len`, 65535, without the four bytes of the header.
+/// The maximum length of a payload in bytes: the maximum `nla_len`, 65535, without the four bytes of the header.
 pub(crate) const MAX_PAYLOAD: usize = 65531;
 
-/// What the values of a type stand for. It has no methods: contracts cite it.
+/// The attributes that the values of a type represent. The trait has no methods; contracts refer to it.
 pub trait Meaning {
-    /// The rows of the type: kinds, and what their payloads are.
+    /// The rows of the type's table: attribute types, and what their payloads are.
     ghost table: { Table };
 
-    /// The attribute that a value stands for.
+    /// The attribute that a value represents.
     ghost means: { Self → AttrValue };
 }
 
 /// A value that can be written as an attribute.
 pub trait Nla: Meaning {
-    /// The kind field (`nla_type`) as it is written, its two flags included.
+    /// Returns `nla_type` as it is written, including its two flags.
     fn kind(&self) -> u16
         ensures { result ≡ written_kind (Self.means self.now) };
 
-    /// The bytes of the written payload; `usize::MAX` where it has that many or more.
+    /// Returns the length of the written payload in bytes; saturates at `usize::MAX`.
     fn value_len(&self) -> usize
         ensures { result ≡ capped (length (written_payload (Self.means self.now))) };
 
-    /// Writes the payload into a buffer of exactly `value_len` bytes. Requires that the value `fits`.
+    /// Writes the payload. `buffer` must be exactly `value_len()` bytes long, and the value must fit (see `fits`).
     fn emit_value(&self, buffer: &mut [u8])
         requires fits { Fits (Self.means self.now) }
         requires exact { length buffer.old ≡ length (written_payload (Self.means self.now)) }
         ensures written { buffer.new ≡ written_payload (Self.means self.now) }
         ensures in_range { IsInRange Self.table (Self.means self.now) };
 
-    /// Whether a frame can hold the written payload: at most 65531 bytes.
+    /// Checks whether the written payload fits in an attribute: it has at most 65531 bytes.
     fn fits(&self) -> bool
         ensures { IsTrue result ↔ Fits (Self.means self.now) }
     {
         self.value_len() <= MAX_PAYLOAD
     }
 
-    /// The bytes of the written frame: header, payload, and padding up to a multiple of four; `usize::MAX` where it has
-    /// that many or more.
+    /// Returns the length of the written attribute in bytes: header, payload, and padding up to a multiple of four.
+    /// Saturates at `usize::MAX`.
     fn buffer_len(&self) -> usize
         ensures { result ≡ capped (length (written_frame (Self.means self.now))) }
     {
@@ -67,8 +67,8 @@ pub trait Nla: Meaning {
         }
     }
 
-    /// Writes the frame to the front of a buffer of at least `buffer_len` bytes, with zeros for padding, and leaves
-    /// the bytes behind it as they are. Requires that the value `fits`.
+    /// Writes the attribute, padded with zeros, to the start of `buffer`; the rest of the buffer is unchanged. `buffer`
+    /// must be at least `buffer_len()` bytes long, and the value must fit (see `fits`).
     fn emit(&self, buffer: &mut [u8])
         requires fits { Fits (Self.means self.now) }
         requires room { length (written_frame (Self.means self.now)) ≤ length buffer.old }
@@ -78,7 +78,8 @@ pub trait Nla: Meaning {
         self.emit_sized(self.value_len(), buffer);
     }
 
-    /// What `emit` does, for a caller that has asked for `value_len` already. Requires that `size` is that.
+    /// Writes the attribute as `emit` does, for callers that already know the payload length: `size` must equal
+    /// `value_len()`. The conditions of `emit` apply too.
     fn emit_sized(&self, size: usize, buffer: &mut [u8])
         requires size { size ≡ length (written_payload (Self.means self.now)) }
         requires fits { Fits (Self.means self.now) }
@@ -87,7 +88,7 @@ pub trait Nla: Meaning {
         ensures in_range { IsInRange Self.table (Self.means self.now) }
     {
         let kind_field = self.kind();
-        // the last four bytes of the frame, which all padding is among
+        // the last four bytes of the attribute, which include all of its padding
         put_zeros(buffer, (size + 7) / 4 * 4 - 4);
         put_header(buffer, kind_field, 4 + size as u16);
         self.emit_value(&mut buffer[4..4 + size]);
@@ -110,10 +111,11 @@ fn put_zeros(buffer: &mut [u8], start: usize)
     buffer[start..start + 4].copy_from_slice(&[0; 4]);
 }
 
-/// A value that can be read from an attribute. A type gives `parse_payload`, a `match` on the kind.
+/// A value that can be parsed from an attribute. A type implements `parse_payload`, a `match` on the attribute type.
 pub trait Parseable: Meaning + Drop + Sized {
-    /// What a type gives for `parse_into`, which is the call to use: the same, except that the fault of a bad payload
-    /// may come without its kind (`Payload`).
+    /// Parses one attribute into `place`. This is the part of `parse_into` that a type implements; call `parse_into`
+    /// instead. Both do the same, except that the error for a malformed payload may lack the attribute type here
+    /// (`Payload`).
     fn parse_payload<P: Place<Self>>(
         alloc: Global,
         buffer: &NlaBuffer<'_>,
@@ -125,7 +127,11 @@ pub trait Parseable: Meaning + Drop + Sized {
             (Gives Self.table (kind_field_of buffer.now) (payload_of buffer.now)) }
         ensures memory { OnMemory result (TakesMemory Self.table (kind_field_of buffer.now)) };
 
-    /// Puts the value of a frame to its place. Fails as `parse` does.
+    /// Parses one attribute and stores the value in `place`, which must be free.
+    ///
+    /// # Errors
+    ///
+    /// As for `parse`. On error, `place` is unchanged.
     #[inline(always)]
     fn parse_into<P: Place<Self>>(
         alloc: Global,
@@ -140,10 +146,13 @@ pub trait Parseable: Meaning + Drop + Sized {
         of_kind(buffer.kind(), Self::parse_payload(alloc, buffer, place))
     }
 
-    /// The value of a frame.
+    /// Parses one attribute.
     ///
-    /// Fails with `Value`, `NestedFrame` or `NestedValue` where the kind has a case and the payload is not one of
-    /// it, and with `Memory` only where the case, or `Other`, holds memory of its own.
+    /// # Errors
+    ///
+    /// `Value`, `NestedFrame` or `NestedValue` if there is a variant for this attribute type and the payload is
+    /// malformed. `Memory` if an allocation fails, which is possible only for `Other` and for variants whose values may
+    /// be heap-allocated.
     fn parse(alloc: Global, buffer: &NlaBuffer<'_>) -> Result<Self, DecodeError>
         ensures answer { Answers Self.means result
             (Gives Self.table (kind_field_of buffer.now) (payload_of buffer.now)) }
@@ -157,19 +166,19 @@ pub trait Parseable: Meaning + Drop + Sized {
     }
 }
 
-/// An attribute of one family: what is read and what is written agree, by these laws.
+/// An attribute of one attribute set. Parsing and writing agree, by the properties below.
 pub trait Attribute: Nla + Parseable + Eq {
-    /// Whether the kind field and the payload of a frame are canonical: those that are written for the value that they
-    /// read as. No value is built. Padding is judged with the list, by `list_is_canonical`.
+    /// Checks whether an attribute is canonical: its `nla_type` and payload are what would be written for the value
+    /// that they decode to. Nothing is decoded. Padding is checked with the list, by `list_is_canonical`.
     fn canonical(buffer: &NlaBuffer<'_>) -> bool
         ensures { IsTrue result ↔ Allows Self.table (kind_field_of buffer.now) (payload_of buffer.now) };
 
-    /// The laws of one attribute hold of the type's table.
+    /// The theorems about single attributes hold for the type's table.
     ghost lawful: { IsLawful Self.table };
 
-    /// The table is well formed.
+    /// The table is well-formed.
     ghost well_formed: { IsTrue (is_table Self.table) };
 
-    /// `==` looks at every field: equal values stand for the same attribute.
+    /// `==` compares every field: equal values represent the same attribute.
     ghost thorough: { IsThorough Self.PartialEq.eq Self.means };
 }

@@ -1,21 +1,21 @@
-//! One frame of a list.
+//! One attribute of a list, as it is in the input.
 
 ghost use Rattle.std.specs.Prelude.{◌≡◌, ◌+◌, ◌≤◌, ◌↔◌, IsTrue, IsBitSet, None, length, drop, min, MatchResult};
 ghost use Rattle.link_base.specs.Frame.{BeginsWith, kind_of, pad, frame_fault};
 
 use crate::fault::{Cause, DecodeError, DecodeFault};
 
-/// The flag of `nla_type` that says that the payload is a list of attributes (`include/uapi/linux/netlink.h`).
+/// Flag of `nla_type`: the payload is a list of attributes (`include/uapi/linux/netlink.h`).
 pub const NLA_F_NESTED: u16 = 0x8000;
 
-/// The flag of `nla_type` that says that the payload is in network byte order (`include/uapi/linux/netlink.h`).
+/// Flag of `nla_type`: the payload is in network byte order (`include/uapi/linux/netlink.h`).
 pub const NLA_F_NET_BYTEORDER: u16 = 0x4000;
 
-/// The bits of `nla_type` that are the kind: all but the two flags (`include/uapi/linux/netlink.h`).
+/// The bits of `nla_type` that hold the attribute type: all except the two flags (`include/uapi/linux/netlink.h`).
 pub const NLA_TYPE_MASK: u16 = 0x3FFF;
 
-/// The frame at the front of some bytes, without its padding: a `struct nlattr` and its payload
-/// (`include/uapi/linux/netlink.h`). It borrows the bytes and copies none.
+/// The attribute at the start of some bytes: a `struct nlattr` (`include/uapi/linux/netlink.h`) and its payload,
+/// without padding. It borrows the bytes and copies none.
 #[derive(Clone, Copy, Debug, PartialEq, Eq)]
 pub struct NlaBuffer<'a> {
     kind_field: u16,
@@ -23,7 +23,7 @@ pub struct NlaBuffer<'a> {
     ghost short: { length payload.now ≤ 65531 },
 }
 
-/// Why no frame stands at the front of the bytes; `None` where one does.
+/// Returns the reason why `bytes` do not start with a whole attribute; `None` if they do.
 #[inline]
 pub(crate) fn cause_at_front(bytes: &[u8]) -> Option<Cause>
     ensures { result ≡ frame_fault bytes.now }
@@ -47,9 +47,13 @@ pub(crate) fn cause_at_front(bytes: &[u8]) -> Option<Cause>
 impl<'a> NlaBuffer<'a> {
     ghost use Rattle.link_base.specs.Buffer.{kind_field_of, payload_of, frame_of, IsFrameFault};
 
-    /// The frame at the front of the bytes; more bytes may follow.
+    /// Returns the attribute at the start of `bytes`; more bytes may follow.
     ///
-    /// Fails with `Frame` of `ShortFrame`, `SmallLength` or `Overrun`, in this order, where no frame stands there.
+    /// # Errors
+    ///
+    /// `Frame`, if `bytes` do not start with a whole attribute. The cause is the first of these that applies:
+    /// `ShortFrame` if the header is truncated, `SmallLength` if `nla_len` is less than 4, `Overrun` if `nla_len` is
+    /// greater than `bytes.len()`.
     pub fn new_checked(bytes: &'a [u8]) -> Result<NlaBuffer<'a>, DecodeError>
         ensures { MatchResult result (λ b. BeginsWith bytes.now (frame_of b)) (IsFrameFault bytes.now) }
     {
@@ -59,7 +63,7 @@ impl<'a> NlaBuffer<'a> {
         }
     }
 
-    /// The frame at the front of bytes that have no frame fault.
+    /// Returns the attribute at the start of `bytes`, which must start with a whole attribute.
     #[inline]
     pub(crate) fn at_front(bytes: &'a [u8]) -> NlaBuffer<'a>
         requires { frame_fault bytes.now ≡ None }
@@ -74,7 +78,7 @@ impl<'a> NlaBuffer<'a> {
         }
     }
 
-    /// `nla_len`: the bytes of the header and the payload, 4 to 65535.
+    /// Returns `nla_len`: the length of the header and the payload in bytes, 4 to 65535.
     #[inline]
     pub fn length(&self) -> u16
         ensures { result ≡ 4 + length (payload_of self.now) }
@@ -82,7 +86,7 @@ impl<'a> NlaBuffer<'a> {
         4 + self.payload.len() as u16
     }
 
-    /// The bytes of the payload: `length` without the header.
+    /// Returns the length of the payload in bytes: `nla_len` without the header.
     #[inline]
     pub fn value_length(&self) -> usize
         ensures { result ≡ length (payload_of self.now) }
@@ -90,7 +94,7 @@ impl<'a> NlaBuffer<'a> {
         self.payload.len()
     }
 
-    /// `nla_type` as it stands, its two flags included.
+    /// Returns `nla_type` unchanged, including its two flags.
     #[inline]
     pub fn raw_kind(&self) -> u16
         ensures { result ≡ kind_field_of self.now }
@@ -98,7 +102,7 @@ impl<'a> NlaBuffer<'a> {
         self.kind_field
     }
 
-    /// The kind: the lower 14 bits of `nla_type` (`NLA_TYPE_MASK`).
+    /// Returns the attribute type: the lower 14 bits of `nla_type` (`NLA_TYPE_MASK`).
     #[inline]
     pub fn kind(&self) -> u16
         ensures { result ≡ kind_of (kind_field_of self.now) }
@@ -106,7 +110,7 @@ impl<'a> NlaBuffer<'a> {
         self.kind_field & NLA_TYPE_MASK
     }
 
-    /// Whether `nla_type` has the flag of nested attributes (`NLA_F_NESTED`, 0x8000).
+    /// Checks whether `nla_type` has the flag for nested attributes (`NLA_F_NESTED`, 0x8000).
     #[inline]
     pub fn nested_flag(&self) -> bool
         ensures { IsTrue result ↔ IsBitSet (kind_field_of self.now) 15 }
@@ -114,7 +118,7 @@ impl<'a> NlaBuffer<'a> {
         self.kind_field & NLA_F_NESTED != 0
     }
 
-    /// Whether `nla_type` has the flag of network byte order (`NLA_F_NET_BYTEORDER`, 0x4000).
+    /// Checks whether `nla_type` has the flag for network byte order (`NLA_F_NET_BYTEORDER`, 0x4000).
     #[inline]
     pub fn network_byte_order_flag(&self) -> bool
         ensures { IsTrue result ↔ IsBitSet (kind_field_of self.now) 14 }
@@ -122,7 +126,7 @@ impl<'a> NlaBuffer<'a> {
         self.kind_field & NLA_F_NET_BYTEORDER != 0
     }
 
-    /// The payload, a part of the bytes that the frame was taken from.
+    /// Returns the payload, a slice of the bytes that the attribute was taken from.
     #[inline]
     pub fn value(&self) -> &'a [u8]
         ensures { result.now ≡ payload_of self.now }
@@ -130,7 +134,8 @@ impl<'a> NlaBuffer<'a> {
         self.payload
     }
 
-    /// What follows this frame and its padding in the bytes that begin with it.
+    /// Skips this attribute and its padding, with which `bytes` start, and returns the rest. If the padding is
+    /// truncated, the rest is empty.
     #[inline]
     pub(crate) fn step_over<'b>(&self, bytes: &'b [u8]) -> &'b [u8]
         ensures { result.now ≡ drop (min (pad (4 + length (payload_of self.now))) (length bytes.now)) bytes.now }

@@ -1,11 +1,15 @@
-//! Padding a buffer with zeros up to a size.
+//! Buffers padded with zeros.
 
 ghost use Rattle.std.specs.Prelude.{◌≡◌, ◌++◌, ◌-◌, length, replicate, IfOk};
 
 use std::alloc::{AllocError, Global};
 
-/// The bytes of `got`, and zeros behind them up to `size` bytes where they are fewer: how a structure of a kernel
-/// older than the reader is made whole. Fails where allocation failed.
+/// Returns the bytes of `got`, padded with zeros up to `size` bytes if there are fewer. This completes a struct from a
+/// kernel that is older than the parser.
+///
+/// # Errors
+///
+/// `AllocError` if an allocation fails.
 pub fn expand_buffer_if_small(alloc: Global, got: &[u8], size: usize) -> Result<Vec<u8>, AllocError>
     ensures { IfOk result (λ bytes. bytes.items ≡ got.now ++ replicate (size - length got.now) 0) }
 {

@@ -1,7 +1,7 @@
-//! Whether attributes and lists are canonical, judged from their bytes: no value is built, and no memory is taken.
+//! Checks whether attributes and lists are canonical, by their bytes: nothing is decoded, and nothing is allocated.
 //!
-//! A judge of one attribute takes its frame, and answers whether the kind field and the payload are those that are
-//! written for the value that they read as. Padding is judged with the list.
+//! A check of one attribute takes the `NlaBuffer`. It returns true if and only if `nla_type` and the payload are what
+//! would be written for the value that they decode to. Padding is checked with the list.
 
 ghost use Rattle.std.specs.Prelude.{◌≡◌, ◌≢◌, ◌↔◌, ◌⊎◌, ℕ, ◌<◌, ◌≤◌, List, [], ◌∷◌, Some, IsTrue, MatchOption, EachIndex, length, slice_index};
 ghost use Rattle.link_base.specs.Wire.{SplitsWhole};
@@ -16,7 +16,7 @@ use crate::attribute::Attribute;
 use crate::buffer::{NlaBuffer, cause_at_front};
 use crate::nested::NestedAttribute;
 
-/// Whether a list is canonical: what is written for the values that it reads as is the list itself.
+/// Checks whether a list is canonical: what would be written for the values that it decodes to is the list itself.
 #[inline]
 pub fn list_is_canonical<F: Attribute>(bytes: &[u8]) -> bool
     ensures { IsTrue result ↔ Canonical F.table bytes.now }
@@ -24,8 +24,8 @@ pub fn list_is_canonical<F: Attribute>(bytes: &[u8]) -> bool
     first_not_canonical::<F>(bytes).is_none()
 }
 
-/// The byte offset of the first attribute of a list that is not canonical, or of the bytes that are none; `None` where
-/// the list is canonical.
+/// Returns the byte offset of the first attribute that is not canonical, or of the bytes that do not start with a whole
+/// attribute. Returns `None` if the list is canonical.
 #[inline]
 pub fn first_not_canonical<F: Attribute>(bytes: &[u8]) -> Option<usize>
     ensures { MatchOption result (Canonical F.table bytes.now) (λ at. FirstNotCanonical F.table bytes.now at) }
@@ -44,7 +44,8 @@ pub fn first_not_canonical<F: Attribute>(bytes: &[u8]) -> Option<usize>
     }
 }
 
-/// The frame at the front, where all its padding is there and is zeros, and what follows it.
+/// Splits the attribute at the start of `bytes` from what follows. Returns `None` if there is no whole attribute, or if
+/// its padding is truncated or not zero.
 #[inline]
 fn split_whole<'a>(bytes: &'a [u8]) -> Option<(NlaBuffer<'a>, &'a [u8])>
     ensures { MatchOption result ((f : ℕ) (p rest : List ℕ) → ¬ (SplitsWhole bytes.now f p rest))
@@ -66,7 +67,7 @@ fn split_whole<'a>(bytes: &'a [u8]) -> Option<(NlaBuffer<'a>, &'a [u8])>
     Some((buffer, &after[gap..]))
 }
 
-/// Whether at most three bytes are zeros.
+/// Checks whether all of `bytes` are 0. `bytes.len()` must be at most 3.
 #[inline]
 fn is_padding(bytes: &[u8]) -> bool
     requires { length bytes.now ≤ 3 }
@@ -84,7 +85,7 @@ fn are_zeros(bytes: &[u8]) -> bool
 
 // ---- one attribute
 
-/// Whether a kind field has neither flag.
+/// Checks whether `nla_type` has neither flag.
 #[inline]
 fn has_no_flag(buffer: &NlaBuffer<'_>) -> bool
     ensures { IsTrue result ↔ (kind_field_of buffer.now < 16384) }
@@ -92,7 +93,8 @@ fn has_no_flag(buffer: &NlaBuffer<'_>) -> bool
     buffer.kind() == buffer.raw_kind()
 }
 
-/// Judges a number, a set of flags, an address or a record of so many bytes.
+/// Checks whether an attribute is canonical as a number, a set of flags, an address or a struct: the payload has `size`
+/// bytes.
 #[inline]
 pub fn has_size(buffer: &NlaBuffer<'_>, size: usize) -> bool
     ensures unsigned { IsTrue result
@@ -111,7 +113,7 @@ pub fn has_size(buffer: &NlaBuffer<'_>, size: usize) -> bool
     has_no_flag(buffer) && buffer.value().len() == size
 }
 
-/// Judges a truth: one byte, 0 or 1.
+/// Checks whether an attribute is canonical as a boolean: the payload is one byte, 0 or 1.
 #[inline]
 pub fn is_truth(buffer: &NlaBuffer<'_>) -> bool
     ensures { IsTrue result ↔ allows_by (Some (One Truth)) (kind_field_of buffer.now) (payload_of buffer.now) }
@@ -119,7 +121,7 @@ pub fn is_truth(buffer: &NlaBuffer<'_>) -> bool
     has_no_flag(buffer) && matches!(buffer.value(), [0 | 1])
 }
 
-/// Judges bytes of any number.
+/// Checks whether an attribute is canonical as bytes, of any length.
 #[inline]
 pub fn is_bytes(buffer: &NlaBuffer<'_>) -> bool
     ensures { IsTrue result ↔ allows_by (Some (One Bytes)) (kind_field_of buffer.now) (payload_of buffer.now) }
@@ -127,7 +129,7 @@ pub fn is_bytes(buffer: &NlaBuffer<'_>) -> bool
     has_no_flag(buffer)
 }
 
-/// Judges numbers of so many bytes each, one after another. Requires that `width` is not 0.
+/// Checks whether an attribute is canonical as an array of numbers of `width` bytes each. `width` must not be 0.
 #[inline]
 pub fn are_numbers(buffer: &NlaBuffer<'_>, width: usize) -> bool
     requires { 0 < width }
@@ -137,7 +139,7 @@ pub fn are_numbers(buffer: &NlaBuffer<'_>, width: usize) -> bool
     has_no_flag(buffer) && buffer.value().len() % width == 0
 }
 
-/// Judges a VLAN protocol: 0x8100 or 0x88A8, in network byte order.
+/// Checks whether an attribute is canonical as a VLAN protocol: the payload is 0x8100 or 0x88A8, big-endian.
 #[inline]
 pub fn is_protocol(buffer: &NlaBuffer<'_>) -> bool
     ensures { IsTrue result ↔ allows_by (Some (One Protocol)) (kind_field_of buffer.now) (payload_of buffer.now) }
@@ -145,7 +147,7 @@ pub fn is_protocol(buffer: &NlaBuffer<'_>) -> bool
     has_no_flag(buffer) && matches!(buffer.value(), [0x81, 0x00] | [0x88, 0xA8])
 }
 
-/// Judges the low byte of a number of two bytes: the other is 0.
+/// Checks whether an attribute is canonical as the low byte of a little-endian `u16`: the high byte is 0.
 #[inline]
 pub fn is_low(buffer: &NlaBuffer<'_>) -> bool
     ensures { IsTrue result ↔ allows_by (Some (One Low)) (kind_field_of buffer.now) (payload_of buffer.now) }
@@ -153,7 +155,7 @@ pub fn is_low(buffer: &NlaBuffer<'_>) -> bool
     has_no_flag(buffer) && matches!(buffer.value(), [_, 0])
 }
 
-/// Judges an attribute without a value: its payload is empty.
+/// Checks whether an attribute without a value is canonical: the payload is empty.
 #[inline]
 pub fn is_void(buffer: &NlaBuffer<'_>) -> bool
     ensures { IsTrue result ↔ allows_by (Some (One Empty)) (kind_field_of buffer.now) (payload_of buffer.now) }
@@ -161,7 +163,8 @@ pub fn is_void(buffer: &NlaBuffer<'_>) -> bool
     has_no_flag(buffer) && buffer.value().is_empty()
 }
 
-/// Judges the limits of a CAN controller: a name field of 16 bytes, and 32 bytes.
+/// Checks whether an attribute is canonical as the limits of a CAN controller: the payload is a canonical name field of
+/// 16 bytes and another 32 bytes.
 pub fn is_limits(buffer: &NlaBuffer<'_>) -> bool
     ensures { IsTrue result ↔ allows_by (Some (One Limits)) (kind_field_of buffer.now) (payload_of buffer.now) }
 {
@@ -169,7 +172,7 @@ pub fn is_limits(buffer: &NlaBuffer<'_>) -> bool
     has_no_flag(buffer) && payload.len() == 48 && is_name_field(&payload[..16])
 }
 
-/// Whether a name field is that of a name: at most 15 bytes, and zeros.
+/// Checks whether a name field is canonical: a name of at most 15 bytes, then zeros. `field.len()` must be 16.
 fn is_name_field(field: &[u8]) -> bool
     requires { length field.now ≡ 16 }
     ensures { IsTrue result ↔ IsNameField field.now }
@@ -188,7 +191,8 @@ fn first_zero(bytes: &[u8]) -> Option<usize>
     bytes.iter().position(|b| *b == 0)
 }
 
-/// Whether some bytes are text, or are 15 and end in part of the U+FFFD that the last of them cut.
+/// Checks whether `bytes` are UTF-8, or 15 bytes that are UTF-8 followed by the first one or two bytes of U+FFFD, which
+/// is truncated there.
 fn is_cut_text(bytes: &[u8]) -> bool
     ensures { IsTrue result ↔ IsCutText bytes.now }
 {
@@ -198,14 +202,15 @@ fn is_cut_text(bytes: &[u8]) -> bool
     }
 }
 
-/// Whether some bytes are the first or the first two of U+FFFD.
+/// Checks whether `bytes` are the first one or two bytes of U+FFFD.
 fn is_cut_replacement(bytes: &[u8]) -> bool
     ensures { IsTrue result ↔ ((bytes.now ≡ 0xEF ∷ []) ⊎ (bytes.now ≡ 0xEF ∷ 0xBF ∷ [])) }
 {
     matches!(bytes, [0xEF] | [0xEF, 0xBF])
 }
 
-/// Judges a nested list. Requires the flag of its kind: `NLA_F_NESTED`, or 0 where it is written without.
+/// Checks whether an attribute is canonical as a nested list. `flag` must be `NLA_F_NESTED` if such lists are written
+/// with the nested flag, and 0 if not.
 #[inline]
 pub fn is_nested<E: NestedAttribute>(buffer: &NlaBuffer<'_>, flag: u16) -> bool
     requires { flag ≡ nested_flag E.flagged }
@@ -215,7 +220,8 @@ pub fn is_nested<E: NestedAttribute>(buffer: &NlaBuffer<'_>, flag: u16) -> bool
     buffer.raw_kind() == buffer.kind() + flag && list_is_canonical::<E>(buffer.value())
 }
 
-/// Judges a list of addresses of so many bytes: elements of the kinds 0, 1, 2 and on.
+/// Checks whether an attribute is canonical as a list of addresses of `size` bytes each: the attribute types of the
+/// elements are 0, 1, 2 and so on.
 #[inline]
 pub fn is_address_list(buffer: &NlaBuffer<'_>, size: usize) -> bool
     ensures { IsTrue result

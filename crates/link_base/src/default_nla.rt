@@ -1,4 +1,4 @@
-//! An attribute of any kind.
+//! An attribute of any type.
 
 ghost use Rattle.std.specs.Prelude.{◌≡◌, ◌<◌, ◌^◌};
 
@@ -10,8 +10,8 @@ use crate::place::Place;
 use crate::try_clone::TryClone;
 use std::alloc::{AllocError, Global};
 
-/// A kind field, its two flags included, and a payload: an attribute whose kind has no case of its own. It is
-/// written as it was read, padding aside.
+/// An attribute whose type has no variant: `nla_type`, including its two flags, and the payload. Both are written
+/// unchanged; only the padding may differ from the input.
 #[derive(Debug, PartialEq, Eq, Drop)]
 pub struct DefaultNla {
     kind: u16,
@@ -23,7 +23,7 @@ impl DefaultNla {
     ghost use Rattle.link_base.specs.Table.{Other, Content};
     ghost use Rattle.link_base.specs.Default.{default_means};
 
-    /// The attribute of this kind field (`nla_type`, flags included) and payload.
+    /// Returns the attribute with this `nla_type`, including its two flags, and this payload.
     pub fn new(kind_field: u16, value: Vec<u8>) -> Self
         ensures { default_means {V = Content} result ≡ Other kind_field value.items }
     {
@@ -90,7 +90,7 @@ impl Attribute for DefaultNla {
     ghost use Rattle.link_base.specs.DefaultLawful.{default_lawful};
     ghost use Rattle.link_base.specs.Equality.{defaults};
 
-    /// True of each: every kind field and payload is written as it was read.
+    /// Returns true: every `nla_type` and every payload is written unchanged.
     fn canonical(_frame: &NlaBuffer<'_>) -> bool {
         true
     }

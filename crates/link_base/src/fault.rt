@@ -1,4 +1,4 @@
-//! Why bytes could not be read, or values not written.
+//! Errors of parsing and writing.
 
 ghost use Rattle.std.specs.Prelude.{◌≡◌, Some};
 ghost use Rattle.link_base.specs.Table.{nested_fault};
@@ -9,23 +9,24 @@ use std::alloc::AllocError;
 use std::fmt;
 use thiserror::Error;
 
-/// What is wrong with a frame or with a payload. Lengths are in bytes.
+/// The reason why an attribute or a payload is malformed. Lengths are in bytes.
 ///
-/// A frame is a `struct nlattr` (`include/uapi/linux/netlink.h`) with its payload: `nla_len`, `nla_type`, bytes.
+/// A frame is one attribute in a list: a `struct nlattr` (`nla_len`, `nla_type`, `include/uapi/linux/netlink.h`) and
+/// its payload.
 #[derive(Clone, Copy, Debug, PartialEq, Eq)]
 pub enum Cause {
-    /// `left` bytes are left where a frame should start: fewer than the four of a header.
+    /// Only `left` bytes are left for an attribute, fewer than the four of a header.
     ShortFrame { left: usize },
-    /// The length of a frame is below the four bytes of its own header.
+    /// `nla_len` is `length`, less than the four bytes of the header.
     SmallLength { length: u16 },
-    /// The length of a frame is greater than what is left.
+    /// `nla_len` is `length`, but only `left` bytes are left.
     Overrun { length: u16, left: usize },
-    /// A payload of `got` bytes has to have exactly `want`. For an array of numbers `want` is the width of a number, and
-    /// `got` has to be a multiple of it.
+    /// A payload must have exactly `want` bytes and has `got`. For an array of numbers, `want` is the size of one
+    /// number, and `got` must be a multiple of it.
     WrongLength { want: usize, got: usize },
-    /// A payload has `got` bytes where at least `want` are wanted.
+    /// A payload must have at least `want` bytes and has `got`.
     TooShort { want: usize, got: usize },
-    /// An IP address has neither 4 nor 16 bytes.
+    /// An IP address must have 4 or 16 bytes and has `got`.
     AddressLength { got: usize },
 }
 
@@ -44,24 +45,26 @@ impl fmt::Display for Cause {
     }
 }
 
-/// What is wrong with a list of attributes, with one attribute, or with one value. Kinds carry no flag bits.
+/// The error of a list of attributes, of one attribute, or of one value. `kind` and `inner` are attribute types,
+/// without the two flags of `nla_type`.
 #[derive(Clone, Copy, Debug, PartialEq, Eq)]
 pub enum DecodeFault {
-    /// A bad frame of the list itself.
+    /// The header of an attribute in the list itself is malformed.
     Frame(Cause),
-    /// A bad payload of the attribute of this kind.
+    /// The payload of an attribute of type `kind` is malformed.
     Value { kind: u16, cause: Cause },
-    /// A bad frame in the nested list, or in the address list, of the attribute of this kind.
+    /// The header of an element is malformed, in the nested list or the address list of an attribute of type `kind`.
     NestedFrame { kind: u16, cause: Cause },
-    /// A bad payload of the element of kind `inner` in the nested list of the attribute of this kind.
+    /// The payload of an element of type `inner` is malformed, in the nested list of an attribute of type `kind`.
     NestedValue { kind: u16, inner: u16, cause: Cause },
-    /// A bad payload of no known kind: what a reader of one number or record answers.
+    /// A payload is malformed, and its attribute type is not known: the error of functions that parse one number or
+    /// struct.
     Payload(Cause),
-    /// A text that names no value.
+    /// The string is not one that the type accepts.
     Text,
 }
 
-/// The kind of an attribute, and what is wrong with its payload.
+/// An attribute type, and the reason why the payload is malformed.
 #[derive(Clone, Copy)]
 struct ValueFault {
     kind: u16,
@@ -102,16 +105,16 @@ impl fmt::Display for DecodeFault {
 /// Why one value could not be read.
 #[derive(Debug, Drop, PartialEq, Eq, Error)]
 pub enum DecodeError {
-    /// Allocation failed.
+    /// An allocation failed.
     #[error("no memory")]
     Memory(#[from(alloc)] AllocError),
-    /// The bytes are at fault.
+    /// The input is malformed.
     #[error("{0}")]
     Fault(DecodeFault),
 }
 
 impl DecodeError {
-    /// The error of the attribute of this kind whose payload has this error.
+    /// Adds the attribute type to the error of a payload: `Payload` becomes `Value`. Other errors are unchanged.
     pub fn of_kind(self, kind: u16) -> DecodeError
         ensures { result ≡ value_error kind self }
     {
@@ -123,7 +126,7 @@ impl DecodeError {
         }
     }
 
-    /// The error of the list whose frame at this offset has this error.
+    /// Turns the error of an attribute into the error of its list. `at` is the byte offset of the attribute.
     pub fn at(self, at: usize) -> ListError
         ensures { result ≡ list_error at self }
     {
@@ -134,7 +137,7 @@ impl DecodeError {
     }
 }
 
-/// Puts the kind of the attribute to the error of its payload.
+/// Adds the attribute type to the error of a payload, as `DecodeError::of_kind` does.
 #[inline]
 pub(crate) fn of_kind<T: Drop>(kind: u16, read: Result<T, DecodeError>) -> Result<T, DecodeError>
     ensures { result ≡ under_kind kind read }
@@ -148,16 +151,17 @@ pub(crate) fn of_kind<T: Drop>(kind: u16, read: Result<T, DecodeError>) -> Resul
 /// Why a list could not be read.
 #[derive(Debug, Drop, PartialEq, Eq, Error)]
 pub enum ListError {
-    /// Allocation failed.
+    /// An allocation failed.
     #[error("no memory")]
     Memory(#[from(alloc)] AllocError),
-    /// The first fault, and the byte offset of the frame that has it.
+    /// The first error in the list, and the byte offset of its attribute.
     #[error("fault at {at}: {fault}")]
     Fault { at: usize, fault: DecodeFault },
 }
 
 impl ListError {
-    /// The error of the attribute of this kind whose nested list has this error: the offset is dropped.
+    /// Turns the error of a nested list into the error of the attribute of type `kind` that contains it. The offset is
+    /// dropped.
     pub fn nested(self, kind: u16) -> DecodeError
         ensures { result ≡ nested_error kind self }
     {
@@ -185,10 +189,10 @@ impl DecodeFault {
 /// Why values could not be written.
 #[derive(Debug, Drop, PartialEq, Eq, Error)]
 pub enum WriteError {
-    /// Allocation failed.
+    /// An allocation failed.
     #[error("no memory")]
     Memory(#[from(alloc)] AllocError),
-    /// The first value, counted from 0, whose written payload has more than 65531 bytes.
+    /// The zero-based index of the first value whose written payload has more than 65531 bytes.
     #[error("too long at {index}")]
     TooLong { index: usize },
 }

@@ -1,5 +1,6 @@
-//! What the calls of `Flags` answer for a set whose every bit is known, what equal sets have in common, and what the
-//! words of the contracts of `Flags` say bit by bit. Nothing here runs.
+//! Theorems about `Flags`: what its functions return for a set in which every bit is known, what equal sets have in
+//! common, and what the terms in the contracts of `Flags` mean bit by bit. The functions here have empty bodies; each
+//! states its theorem as its contract.
 
 ghost use Rattle.std.specs.Prelude.{◌≡◌, ◌≢◌, ◌↔◌, ◌⊎◌, ◌==◌, ◌-◌, ◌^◌, ◌<◌, ℕ, not, false, IsTrue};
 ghost use Rattle.std.specs.Int.{bit_at};
@@ -10,53 +11,53 @@ ghost use Rattle.link_base.specs.Equality.{IsThorough};
 use bitflags::Flags;
 use std::hash::Hash;
 
-/// A set of flags that is its bits and nothing else. It has no methods, and carries laws alone.
+/// A set of flags that consists of its bits and nothing else. The trait has no methods, only laws.
 pub trait FlagSet: Flags + PartialEq {
-    /// The contracts of `Flags` speak of it.
+    /// The contracts of `Flags` apply.
     ghost is_exact: { Self.exact };
 
-    /// `==` is equality of bits.
+    /// `==` compares the bits.
     ghost equal_by_bits: { (a b : Self) → Self.PartialEq.eq a b ≡ (Self.set_of a == Self.set_of b) };
 
-    /// Equal sets are the same set.
+    /// Equal sets are identical.
     ghost thorough: { IsThorough Self.PartialEq.eq (λ (a : Self). a) };
 }
 
-/// A set of flags whose every bit is known, named or not. It has no methods, and carries laws alone.
+/// A set of flags in which every bit is known, whether it has a name or not. The trait has no methods, only laws.
 pub trait KnownBits: FlagSet {
-    /// The bits of its flags are all bits.
+    /// Together, its flags have every bit.
     ghost every_bit: { known_bits Self.table ≡ 2 ^ Self.Bits.size - 1 };
 }
 
-/// The contracts of `Flags` hold. Two sets are equal exactly where their bits are, and then they are the same set.
+/// The contracts of `Flags` apply. Two sets are equal if and only if their bits are equal, and then they are identical.
 pub fn equality<F: FlagSet>()
     ensures contracts { F.exact }
     ensures equal { (a b : F) → F.PartialEq.eq a b ≡ (F.set_of a == F.set_of b) }
     ensures same { (a b : F) → IsTrue (F.PartialEq.eq a b) → a ≡ b }
 {}
 
-/// Equal sets hash equally.
+/// Equal sets have equal hashes.
 pub fn hashing<F: FlagSet + Hash>()
     ensures { (a b : F) → F.set_of a ≡ F.set_of b → F.hash_input a ≡ F.hash_input b }
 {}
 
-/// Where every bit is known, in the words of the contracts of `Flags` and for all bits `n` of a set.
+/// What holds if every bit is known, in the terms of the contracts of `Flags`, for all bits `n` of a set.
 pub fn every_bit_known<F: KnownBits>()
     ensures contracts { F.exact }
     // `all` has every bit
     ensures all { known_bits F.table ≡ 2 ^ F.Bits.size - 1 }
-    // `from_bits` answers `Some`; `from_bits_truncate` and `truncate` keep all bits
+    // `from_bits` returns `Some`; `from_bits_truncate` and `truncate` keep all bits
     ensures kept { (n : ℕ) → n < 2 ^ F.Bits.size → bit_and n (known_bits F.table) ≡ n }
-    // `is_all` asks whether every bit is set
+    // `is_all` checks whether every bit is set
     ensures is_all { (n : ℕ) → n < 2 ^ F.Bits.size → (bit_or (known_bits F.table) n == n) ≡ (n == 2 ^ F.Bits.size - 1) }
     // `complement` has the bits that are not set
     ensures complement { (n : ℕ) → n < 2 ^ F.Bits.size
         → bit_and (2 ^ F.Bits.size - 1 - n) (known_bits F.table) ≡ 2 ^ F.Bits.size - 1 - n }
-    // `contains_unknown_bits` answers `false`
+    // `contains_unknown_bits` returns `false`
     ensures none_unknown { (n : ℕ) → n < 2 ^ F.Bits.size → not (bit_and (known_bits F.table) n == n) ≡ false }
 {}
 
-/// The words of the contracts of `Flags`, bit by bit. Bits of one set are `a`, those of another `b`.
+/// The terms in the contracts of `Flags`, bit by bit: `a` has the bits of one set, `b` those of another.
 pub fn bit_by_bit()
     // `intersection`
     ensures both { (a b i : ℕ) → (bit_at (bit_and a b) i ≡ 1) ↔ ((bit_at a i ≡ 1) × (bit_at b i ≡ 1)) }
@@ -71,6 +72,6 @@ pub fn bit_by_bit()
     ensures others { (size a i : ℕ) → a < 2 ^ size → i < size → (bit_at (2 ^ size - 1 - a) i ≡ 1) ↔ (bit_at a i ≡ 0) }
     // `contains`
     ensures every_one { (a b : ℕ) → (bit_and a b ≡ b) ↔ ((i : ℕ) → bit_at b i ≡ 1 → bit_at a i ≡ 1) }
-    // `intersects`, where it answers `false`
+    // `intersects`, if it returns `false`
     ensures none_shared { (a b : ℕ) → (bit_and a b ≡ 0) ↔ ((i : ℕ) → bit_at a i ≡ 1 → bit_at b i ≡ 0) }
 {}

@@ -1,4 +1,4 @@
-//! The frames of a list, found before any of them is read.
+//! The offsets of all attributes of a list, found before any attribute is decoded.
 
 ghost use Rattle.std.specs.Prelude.{◌≡◌, ◌+◌, ◌/◌, ◌<◌, ◌≤◌, IfOk, OnOk, OnErr, IsTrue, [], ◌↔◌, None, length, slice_index_or, vec_len, vec_capacity};
 ghost use Rattle.link_base.specs.Frame.{frame_fault};
@@ -9,12 +9,12 @@ use crate::fault::Cause;
 use smallvec::SmallVec;
 use std::alloc::{AllocError, Global};
 
-/// How many frames a table holds without memory of its own.
+/// The number of offsets that a table holds without allocating.
 const INLINE: usize = 8;
 
-/// Where the frames of some bytes start, and the first frame fault if they have one. It borrows the bytes and copies
-/// none. It allocates only for more than eight frames: once, space for a frame in each eight bytes after these, and once
-/// more if frames are shorter.
+/// The offsets of the attributes in some bytes and, if there is one, the first error in an attribute's header. The
+/// table borrows the bytes and copies none. It allocates only for more than eight attributes: once, with space for one
+/// offset per eight bytes that are left after these, and once more if attributes are shorter than that.
 #[derive(Debug, PartialEq, Eq, Drop)]
 pub struct FrameTable<'a> {
     bytes: &'a [u8],
@@ -26,7 +26,12 @@ pub struct FrameTable<'a> {
 impl<'a> FrameTable<'a> {
     ghost use Rattle.link_base.specs.Walked.{walked_bytes, offsets_of, fault_of, IsFrameAt};
 
-    /// The frames of these bytes. Fails only where the bytes begin with a frame.
+    /// Returns a table of the attributes in `bytes`. If a header is malformed, the table has the attributes before it,
+    /// and `fault` returns the error.
+    ///
+    /// # Errors
+    ///
+    /// `AllocError` if an allocation fails, which is possible only if `bytes` start with a whole attribute.
     pub fn walk(alloc: Global, bytes: &'a [u8]) -> Result<FrameTable<'a>, AllocError>
         ensures bytes { IfOk result (λ t. walked_bytes t ≡ bytes.now) }
         ensures finds { IfOk result (λ t. Finds bytes.now (offsets_of t) (fault_of t)) }
@@ -39,7 +44,8 @@ impl<'a> FrameTable<'a> {
         }
     }
 
-    /// A table with no frame found yet. Calls of this crate fill it in its place, so that it is never moved.
+    /// Returns a table in which no attribute has been found yet. Other functions of this crate fill it in place, so
+    /// that it is never moved.
     #[inline]
     pub(crate) fn before_walk(alloc: Global, bytes: &'a [u8]) -> FrameTable<'a>
         ensures bytes { walked_bytes result ≡ bytes.now }
@@ -52,7 +58,7 @@ impl<'a> FrameTable<'a> {
         }
     }
 
-    /// Finds the frames of the bytes.
+    /// Finds the attributes. The table must hold no offset yet.
     #[inline(always)]
     pub(crate) fn find_frames(&mut self) -> Result<(), AllocError>
         requires { offsets_of self.old ≡ [] }
@@ -64,7 +70,7 @@ impl<'a> FrameTable<'a> {
         self.fault = None;
         let mut rest = bytes;
 
-        // No table has less capacity.
+        // The capacity is never less.
         prove!(INLINE <= self.offsets.capacity());
         for _place in 0..INLINE {
             if rest.is_empty() {
@@ -80,7 +86,7 @@ impl<'a> FrameTable<'a> {
         find_others(&mut self.offsets, &mut self.fault, bytes, rest)
     }
 
-    /// How many frames there are.
+    /// Returns the number of attributes.
     #[inline]
     pub fn len(&self) -> usize
         ensures { result ≡ length (offsets_of self.now) }
@@ -88,7 +94,7 @@ impl<'a> FrameTable<'a> {
         self.offsets.len()
     }
 
-    /// Whether there is no frame.
+    /// Checks whether there are no attributes.
     #[inline]
     pub fn is_empty(&self) -> bool
         ensures { IsTrue result ↔ (length (offsets_of self.now) ≡ 0) }
@@ -96,7 +102,7 @@ impl<'a> FrameTable<'a> {
         self.offsets.is_empty()
     }
 
-    /// The byte offset of the frame at this place, counted from 0. Requires that there is one.
+    /// Returns the byte offset of attribute `i`. `i` must be less than `len()`.
     #[inline]
     pub fn offset(&self, i: usize) -> usize
         requires { i < length (offsets_of self.now) }
@@ -105,7 +111,7 @@ impl<'a> FrameTable<'a> {
         self.offsets[i]
     }
 
-    /// The frame at this place, counted from 0: the part of the bytes at its offset. Requires that there is one.
+    /// Returns attribute `i`, borrowed from the bytes. `i` must be less than `len()`.
     #[inline]
     pub fn frame(&self, i: usize) -> NlaBuffer<'a>
         requires { i < length (offsets_of self.now) }
@@ -114,7 +120,7 @@ impl<'a> FrameTable<'a> {
         NlaBuffer::at_front(&self.bytes[self.offset(i)..])
     }
 
-    /// The first frame fault, and its byte offset.
+    /// Returns the byte offset and the cause of the first error in an attribute's header, if there is one.
     #[inline]
     pub fn fault(&self) -> Option<(usize, Cause)>
         ensures { result ≡ fault_of self.now }
@@ -123,7 +129,7 @@ impl<'a> FrameTable<'a> {
     }
 }
 
-/// Finds the frames after the first eight, in one walk over the bytes.
+/// Finds the attributes after the first eight, in one pass over `front`, the rest of `bytes`.
 #[inline(never)]
 fn find_others(
     offsets: &mut SmallVec<usize, INLINE>,
@@ -161,7 +167,8 @@ fn find_others(
     Ok(())
 }
 
-/// Stores the offsets of the frames in the rest of some bytes, and returns the first frame fault with its offset.
+/// Stores the offsets of the attributes in `front`, the rest of `bytes`. Returns the first error in a header, with its
+/// offset.
 #[inline(always)]
 fn put_down(
     offsets: &mut Vec<usize>,
@@ -187,7 +194,7 @@ fn put_down(
     Ok(None)
 }
 
-/// Makes room for so many offsets, at least one, if there is none for the next.
+/// Reserves space for `most` offsets, at least one, if there is no space for the next.
 #[inline(always)]
 fn make_room(offsets: &mut Vec<usize>, most: usize) -> Result<(), AllocError>
     requires { 0 < most }

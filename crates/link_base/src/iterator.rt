@@ -1,4 +1,4 @@
-//! The frames of a list, one after another.
+//! Iteration over the attributes of a list.
 
 ghost use Rattle.std.specs.Prelude.{◌≡◌, length, min, ◌+◌, ◌/◌, IfSome, Some};
 ghost use Rattle.std.specs.Iterator.{at_most, UpTo};
@@ -8,15 +8,15 @@ ghost use Rattle.link_base.specs.Items.{bytes_left, NextFrame};
 use crate::buffer::NlaBuffer;
 use crate::fault::DecodeError;
 
-/// The frames of some bytes, and then their first frame fault, if they have one, as the last item. It borrows the
-/// bytes, copies none, and takes no memory.
+/// Iterates over the attributes of a list. If an attribute's header is malformed, that error is the last item. The
+/// iterator borrows the bytes, copies none, and does not allocate.
 #[derive(Clone, Copy, Debug, PartialEq, Eq)]
 pub struct NlasIterator<'a> {
     rest: &'a [u8],
 }
 
 impl<'a> NlasIterator<'a> {
-    /// The frames of these bytes.
+    /// Returns an iterator over the attributes in `bytes`.
     pub fn new(bytes: &'a [u8]) -> Self
         ensures { bytes_left result ≡ bytes.now }
     {
@@ -47,7 +47,8 @@ impl<'a> Iterator for NlasIterator<'a> {
         }
     }
 
-    /// At least one item if bytes are left, and at most one for each four bytes, rounded up.
+    /// Returns 1, or 0 if no bytes are left, as the lower bound, and the number of bytes left, divided by four and
+    /// rounded up, as the upper bound.
     fn size_hint(&self) -> (usize, Option<usize>)
         ensures lower { IsWithinCount result.0 (at_most ((length (bytes_left self.now) + 3) / 4)) }
         ensures upper { IfSome result.1 (UpTo (at_most ((length (bytes_left self.now) + 3) / 4))) }

@@ -1,4 +1,5 @@
-//! The laws of lists: what is proved of every family, and of every table. Nothing here runs.
+//! Theorems about lists, for every attribute set and every table. The functions have empty bodies; each states its
+//! theorem as its contract.
 
 ghost use Rattle.std.specs.Prelude.{◌≡◌, ◌↔◌, ℕ, ◌+◌, ◌/◌, ◌%◌, ◌<◌, ◌≤◌, true, List, ◌++◌, length, map};
 ghost use Rattle.std.specs.Prelude.{None, Result, Ok, IsTrue, min};
@@ -33,12 +34,13 @@ use crate::iterator::NlasIterator;
 
 // ---- tables
 
-/// Each table is lawful. A family's `impl` of `Attribute` cites this theorem for its law `lawful`.
+/// Every table is lawful. The `impl` of `Attribute` for an attribute set uses this theorem as its law `lawful`.
 pub fn lawful()
     ensures { (table : Table) → IsLawful table }
 {}
 
-/// In each table each string of bytes reads as its values or as its first fault, and as one of these only.
+/// With every table, every sequence of bytes decodes to values or has a first error. It never has both, and the values
+/// or the error are unique.
 pub fn one_reading()
     ensures either { (table : Table) (s : List ℕ) → IsBytes s
         → (q : Result (List AttrValue) (ℕ × DecodeFault)) × Reads (Gives table) s q }
@@ -46,28 +48,28 @@ pub fn one_reading()
         → Reads (Gives table) s q → Reads (Gives table) s r → q ≡ r }
 {}
 
-/// A string is cut into frames in one way only.
+/// Bytes can be split into frames in at most one way.
 pub fn one_cut()
     ensures { (s : List ℕ) (xs ys : List Frame) → Frames s xs → Frames s ys → xs ≡ ys }
 {}
 
-/// In a well-formed table a value that was read fits into a frame, but for a nested list that fills the last bytes of
-/// the longest payload.
+/// In a well-formed table, every decoded value fits in an attribute, with one exception: a nested list in a payload of
+/// 65529 bytes or more (`IsOverfull`).
 pub fn limit()
     ensures { (table : Table) (f : ℕ) (p : List ℕ) (v : AttrValue) → is_table table ≡ true → IsBytes p
         → length p ≤ 65531 → Gives table f p (Ok v) → (¬ (Fits v)) ↔ IsOverfull (class_at table (kind_of f)) p }
 {}
 
-/// A table without the rows of some of its kinds is an edition before it: what has no frame of these kinds reads alike
-/// in both, and is canonical in both or in neither.
+/// Removing the rows of some attribute types from a table gives its previous version: a list without attributes of
+/// these types decodes to the same result with both tables, and is canonical with both or with neither.
 pub fn editions()
     ensures { (added : List ℕ) (table : Table) → kinds_of (among added table) ≡ added
         → AreEditions added (without added table) table }
 {}
 
-/// In a whole run an iterator gives the frames of its bytes, or those before the first frame fault and then the fault:
-/// at most one item for each four bytes, rounded up, and at least one if bytes are left. `size_hint` returns these
-/// bounds.
+/// An iterator that is run to its end returns the attributes in its bytes, or those before the first malformed header
+/// and then that error: at most one item for each four bytes, rounded up, and at least one if bytes are left.
+/// `size_hint` returns these bounds.
 pub fn items()
     ensures { (it : NlasIterator) (items : List (Result NlaBuffer DecodeError))
         → Drains (⟦<NlasIterator<'static> as Iterator>⟧.next_gives) it items
@@ -77,8 +79,8 @@ pub fn items()
 
 // ---- equality
 
-/// `==` looks at every field, and is an equivalence: equal values stand for the same attribute; it is reflexive,
-/// symmetric and transitive.
+/// `==` compares every field, and is an equivalence relation: equal values represent the same attribute, and `==` is
+/// reflexive, symmetric and transitive.
 pub fn equality<F: Attribute>()
     ensures same { (a b : F) → IsTrue (F.PartialEq.eq a b) → F.means a ≡ F.means b }
     ensures itself { (a : F) → IsTrue (F.PartialEq.eq a a) }
@@ -87,22 +89,22 @@ pub fn equality<F: Attribute>()
         → IsTrue (F.PartialEq.eq a c) }
 {}
 
-/// Two causes, or two faults, are equal exactly where they are the same.
+/// Two values of `Cause`, or of `DecodeFault`, are equal if and only if they are identical.
 pub fn fault_equality()
     ensures cause { (a b : Cause) → IsTrue (⟦<Cause as PartialEq>⟧.eq a b) ↔ (a ≡ b) }
     ensures fault { (a b : DecodeFault) → IsTrue (⟦<DecodeFault as PartialEq>⟧.eq a b) ↔ (a ≡ b) }
 {}
 
-/// Two errors of a payload, of a list, or of writing, are equal exactly where they are the same.
+/// Two errors of a payload, of a list, or of writing are equal if and only if they are identical.
 pub fn error_equality()
     ensures decode { (a b : DecodeError) → IsTrue (⟦<DecodeError as PartialEq>⟧.eq a b) ↔ (a ≡ b) }
     ensures list { (a b : ListError) → IsTrue (⟦<ListError as PartialEq>⟧.eq a b) ↔ (a ≡ b) }
     ensures write { (a b : WriteError) → IsTrue (⟦<WriteError as PartialEq>⟧.eq a b) ↔ (a ≡ b) }
 {}
 
-/// Two frames are equal if and only if they have the same kind field and the same payload, two iterators if and only if
-/// they have the same bytes left, and two tables of frames if and only if they have the same bytes, the same offsets and
-/// the same fault.
+/// Two `NlaBuffer`s are equal if and only if they have the same `nla_type` and the same payload; two `NlasIterator`s,
+/// if and only if they have the same bytes left; two `FrameTable`s, if and only if they have the same bytes, the same
+/// offsets and the same error.
 pub fn frame_equality()
     ensures frame { (a b : NlaBuffer) → IsTrue (⟦<NlaBuffer<'static> as PartialEq>⟧.eq a b)
         ↔ ((kind_field_of a ≡ kind_field_of b) × (payload_of a ≡ payload_of b)) }
@@ -112,15 +114,16 @@ pub fn frame_equality()
         ↔ ((walked_bytes a ≡ walked_bytes b) × (offsets_of a ≡ offsets_of b) × (fault_of a ≡ fault_of b)) }
 {}
 
-// ---- families: values that were read
+// ---- attribute sets: decoded values
 
-/// What is written for values that were read and fit reads as these values, cut.
+/// If decoded values fit, what is written for them decodes to these values, after `cut`.
 pub fn reads_back<F: Attribute>()
     ensures { (s : List ℕ) (vs : List AttrValue) → IsBytes s → Wire (Gives F.table) s vs → AllByRecursion Fits vs
         → Wire (Gives F.table) (written_list vs) (map cut vs) }
 {}
 
-/// A value that was read is in range, hides no kind that has a row, and is its own canon.
+/// A decoded value is in range, is not an `Other` whose attribute type has a row (nor is an element of its nested
+/// list), and is its own normal form (`canon`).
 pub fn read_values<F: Attribute>()
     ensures in_range { (f : ℕ) (p : List ℕ) (v : AttrValue) → f < 65536 → IsBytes p → Gives F.table f p (Ok v)
         → IsInRange F.table v }
@@ -130,15 +133,15 @@ pub fn read_values<F: Attribute>()
         → canon v ≡ v }
 {}
 
-/// Where no row has the kind, the value that is read is `Other` of the kind field and the payload, and is written with
-/// both.
+/// If no row has the attribute type, the decoded value is `Other` with `nla_type` and the payload, and both are written
+/// unchanged.
 pub fn other_kept<F: Attribute>()
     ensures { (f : ℕ) (p : List ℕ) (v : AttrValue) → class_at F.table (kind_of f) ≡ None → Gives F.table f p (Ok v)
         → (v ≡ Other f p) × (written_kind v ≡ f) × (written_payload v ≡ p) }
 {}
 
-/// A string behind another that is read and whose length is a multiple of four: its values come after those of the
-/// first, or its first fault stands as much further on.
+/// If list `a` decodes and its length is a multiple of four, then appending list `b` appends the values of `b`; or, if
+/// `b` is malformed, the first error is that of `b`, with its offset increased by the length of `a`.
 pub fn joined<F: Attribute>()
     ensures values { (a b : List ℕ) (vs ws : List AttrValue) → length a % 4 ≡ 0
         → Wire (Gives F.table) a vs → Wire (Gives F.table) b ws → Wire (Gives F.table) (a ++ b) (vs ++ ws) }
@@ -147,36 +150,37 @@ pub fn joined<F: Attribute>()
         → FirstFault (Gives F.table) (a ++ b) (length a + at) fault }
 {}
 
-// ---- families: values that a program holds
+// ---- attribute sets: values that a program holds
 
-/// What is written for plain values that fit reads as their canons.
+/// What is written for plain values that fit decodes to their normal forms (`canon`).
 pub fn plain_back<F: Attribute>()
     ensures { (vs : List AttrValue) → AllByRecursion (IsPlain F.table) vs → AllByRecursion Fits vs
         → Wire (Gives F.table) (written_list vs) (map canon vs) }
 {}
 
-/// Plain values that fit are written as equal bytes exactly where their canons are equal.
+/// Plain values that fit are written as equal bytes if and only if their normal forms are equal.
 pub fn plain_bytes<F: Attribute>()
     ensures { (vs ws : List AttrValue) → AllByRecursion (IsPlain F.table) vs → AllByRecursion Fits vs
         → AllByRecursion (IsPlain F.table) ws → AllByRecursion Fits ws
         → (written_list vs ≡ written_list ws) ↔ (map canon vs ≡ map canon ws) }
 {}
 
-/// Cutting leaves a plain value and its canon as they are.
+/// `cut` leaves a plain value and its normal form unchanged.
 pub fn plain_uncut<F: Attribute>()
     ensures { (v : AttrValue) → IsPlain F.table v → (cut v ≡ v) × (cut (canon v) ≡ canon v) }
 {}
 
-/// A value and its canon are written with one kind field and one payload.
+/// A value and its normal form are written with the same `nla_type` and the same payload.
 pub fn one_form()
     ensures { (v : AttrValue) → (written_kind (canon v) ≡ written_kind v)
         × (written_payload (canon v) ≡ written_payload v) }
 {}
 
-// ---- families: rewritings and canonical strings
+// ---- attribute sets: re-encoded and canonical lists
 
-/// A rewriting is the string exactly where the string is canonical, and is never longer than it, rounded up to four. It
-/// has a rewriting, which is canonical and its own rewriting.
+/// A re-encoded list equals the input if and only if the input is canonical, and is never longer than the input,
+/// rounded up to a multiple of four. It can be re-encoded in turn; the result is canonical, and re-encoding it again
+/// changes nothing.
 pub fn rewriting<F: Attribute>()
     ensures same { (s t : List ℕ) → IsBytes s → Rewriting F.table s t → (t ≡ s) ↔ Canonical F.table s }
     ensures no_longer { (s t : List ℕ) → IsBytes s → Rewriting F.table s t → length t ≤ pad (length s) }
@@ -184,7 +188,7 @@ pub fn rewriting<F: Attribute>()
         → (u : List ℕ) × Rewriting F.table t u × Canonical F.table u × Rewriting F.table u u }
 {}
 
-/// A string has at most one rewriting, and a second rewriting is its own rewriting, and its only one.
+/// An input has at most one re-encoded list. From the second pass on, re-encoding changes nothing.
 pub fn one_rewriting<F: Attribute>()
     ensures at_most_one { (s t u : List ℕ) → Rewriting F.table s t → Rewriting F.table s u → t ≡ u }
     ensures second { (s t u : List ℕ) → IsBytes s → Rewriting F.table s t → Rewriting F.table t u
@@ -193,7 +197,8 @@ pub fn one_rewriting<F: Attribute>()
         → Rewriting F.table u w → w ≡ u }
 {}
 
-/// Two strings that have second rewritings have the same one exactly where their values are equal, cut.
+/// If two inputs can be re-encoded twice, the results are equal if and only if the values of the inputs are equal after
+/// `cut`.
 pub fn second_equal<F: Attribute>()
     ensures { (s t u s2 t2 u2 : List ℕ) (vs ws : List AttrValue) → IsBytes s → IsBytes s2
         → Wire (Gives F.table) s vs → Rewriting F.table s t → Rewriting F.table t u
@@ -201,7 +206,7 @@ pub fn second_equal<F: Attribute>()
         → (u ≡ u2) ↔ (map cut vs ≡ map cut ws) }
 {}
 
-/// Every canonical string of bytes is read, and its values fit and are written as it stands.
+/// Every canonical list decodes to values, which fit and are written as the same bytes.
 pub fn canonical_reads<F: Attribute>()
     ensures read { (s : List ℕ) → IsBytes s → Canonical F.table s → (vs : List AttrValue) × Wire (Gives F.table) s vs }
     ensures fit { (s : List ℕ) (vs : List AttrValue) → IsBytes s → Canonical F.table s → Wire (Gives F.table) s vs
@@ -210,7 +215,7 @@ pub fn canonical_reads<F: Attribute>()
         → written_list vs ≡ s }
 {}
 
-/// Canonical strings with equal values are equal, and two canonical strings, joined, are canonical.
+/// Canonical lists with equal values are equal, and the concatenation of two canonical lists is canonical.
 pub fn canonical_once<F: Attribute>()
     ensures once { (s t : List ℕ) (vs : List AttrValue) → IsBytes s → IsBytes t
         → Canonical F.table s → Canonical F.table t → Wire (Gives F.table) s vs → Wire (Gives F.table) t vs → s ≡ t }

@@ -1,4 +1,4 @@
-//! Lists of netlink attributes: their framing, what they read as, and how they are written.
+//! Lists of netlink attributes: their framing, what they decode to, and how they are written.
 #![tactic(auto)]
 
 mod address_list;

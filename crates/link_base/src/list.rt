@@ -1,4 +1,4 @@
-//! Lists of attributes, read.
+//! Parsing of attribute lists.
 
 ghost use Rattle.std.specs.Prelude.{◌≡◌, map, None};
 ghost use Rattle.link_base.specs.Frame.{frame_fault};
@@ -13,10 +13,9 @@ use std::alloc::Global;
 /// Parses an attribute list.
 ///
 /// # Errors
-///
-/// `Fault` if and only if the input does not decode, unless an allocation fails: the first error in the list and the byte
-/// offset of its attribute. Errors are ordered by offset, whether the attribute itself or its payload is malformed.
-/// `Memory` if an allocation fails, which is possible only if the list starts with a whole attribute.
+/// `Fault` if and only if the input does not decode, unless an allocation fails: the first error in the list and the
+/// byte offset of its attribute. Errors are ordered by offset, whether the attribute's header or its payload is
+/// malformed. `Memory` if an allocation fails, which is possible only if the list starts with a whole attribute.
 pub fn read_list<F: Attribute>(alloc: Global, bytes: &[u8]) -> Result<Vec<F>, ListError>
     ensures answer { ListAnswers (λ vs. map F.means vs.items) result (Gives F.table) bytes.now }
     ensures fault { ListFaultUnless result (Decodes F.table bytes.now) }

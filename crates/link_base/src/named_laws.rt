@@ -1,4 +1,5 @@
-//! The laws of named numbers, and of the protocols of VLAN tags. Nothing here runs.
+//! Theorems about enums for named numbers, and about VLAN protocols. The functions have empty bodies; each states its
+//! theorem as its contract.
 
 ghost use Rattle.std.specs.Prelude.{◌≡◌, ◌≢◌, ℕ, ◌<◌, ◌^◌, ◌↔◌, IsTrue, List, Result, Ok};
 ghost use Rattle.link_base.specs.Class as class;
@@ -14,13 +15,14 @@ use crate::vlan_protocol::VlanProtocol;
 
 // ---- numbers
 
-/// The value of a number has that number: it is the name of it where it has one, and else `Other` of it.
+/// The value for a number holds that number: it is the named variant if the number has a name, and `Other` if not.
 pub fn number_back<T: NamedNumber>()
     ensures number { (d : ℕ) → number_of (T.seen (value_of T.names d)) ≡ d }
     ensures seen { (d : ℕ) → T.seen (value_of T.names d) ≡ seen_of (numbers_of T.names) d }
 {}
 
-/// The value of the number of a value is its canon: `Other` of a number that has a name becomes the name.
+/// Converting a value to its number and back gives its normal form (`canon`): `Other` of a number that has a name
+/// becomes the named variant.
 pub fn value_back<T: NamedNumber>()
     ensures seen { (v : T) → T.seen (value_of T.names (number_of (T.seen v)))
         ≡ seen_canon (numbers_of T.names) (T.seen v) }
@@ -28,21 +30,22 @@ pub fn value_back<T: NamedNumber>()
         ≡ seen_value n (numbers_of T.names) (T.seen (value_of T.names (number_of (T.seen v)))) }
 {}
 
-/// Two values that hold the same are the same value.
+/// Two values that hold the same are identical.
 pub fn different<T: NamedNumber>()
     ensures { (a b : T) → T.seen a ≡ T.seen b → a ≡ b }
 {}
 
-/// Two values are equal exactly where they are the same value.
+/// Two values are equal if and only if they are identical.
 pub fn equality<T: NamedNumber>()
     ensures { (a b : T) → IsTrue (T.PartialEq.eq a b) ↔ (a ≡ b) }
 {}
 
-// ---- texts
+// ---- strings
 
-/// The displayed text of a name reads as its value, and so does a further text, where the type accepts texts. Where it
-/// accepts numbers of so many bits, at most 64, and displays a number without a name bare, the displayed text of a
-/// value reads as the value of its number.
+/// If the type accepts strings, the `Display` output of a named variant parses to this variant, and so does each
+/// additional string. If the type accepts numbers below `2^bits` and displays a number without a name as the bare
+/// number, the `Display` output of a value whose number is below `2^bits` and `2^64` parses to the value for this
+/// number.
 pub fn text_back<T: NamedNumber>()
     ensures name { (v : T) (d : ℕ) (r : Result T DecodeError) → T.names.accepted ≢ NoText → T.seen v ≡ Listed d
         → ReadsText T.names (displayed T.names (T.seen v)) r → r ≡ Ok v }
@@ -53,16 +56,16 @@ pub fn text_back<T: NamedNumber>()
         → ReadsText T.names (displayed T.names (T.seen v)) r → r ≡ Ok (value_of T.names (number_of (T.seen v))) }
 {}
 
-/// A text is accepted for at most one value.
+/// A string is accepted for at most one value.
 pub fn one_text<T: NamedNumber>()
     ensures { (text : List ℕ) (v w : T) → Accepts T.names text v → Accepts T.names text w → v ≡ w }
 {}
 
 // ---- protocols
 
-/// The EtherType of a protocol is read as the protocol, and every number but 0x88A8 as 802.1Q. The displayed text of a
-/// protocol reads as it, and a text is accepted for at most one protocol. Two protocols are equal exactly where they
-/// are the same. The default is 802.1Q.
+/// The EtherType of a protocol converts to the protocol, and every number except 0x88A8 to 802.1Q. The `Display` output
+/// of a protocol parses to the protocol, and a string is accepted for at most one protocol. Two protocols are equal if
+/// and only if they are identical. The default is 802.1Q.
 pub fn vlan_protocol()
     ensures number { (p : VlanProtocol) → value_of vlan_protocols (protocol_number p) ≡ p }
     ensures other { (d : ℕ) → d ≢ 0x88A8 → value_of vlan_protocols d ≡ Ieee8021Q }

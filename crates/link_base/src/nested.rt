@@ -1,4 +1,4 @@
-//! Lists of attributes as the payload of an attribute.
+//! Attribute lists as the payload of an attribute (nested lists).
 
 ghost use Rattle.std.specs.Prelude.{◌≡◌, ◌≤◌, length, map, Bool, None};
 ghost use Rattle.std.specs.List.{AllByRecursion};
@@ -14,26 +14,30 @@ use crate::list::read_list;
 use crate::writing::{emit_list, list_len};
 use std::alloc::Global;
 
-/// An attribute of a nested list: its table has no lists.
+/// An element of a nested list. Its table has no lists.
 pub trait NestedAttribute: Attribute {
-    /// The rows of the type.
+    /// The rows of the type's table: attribute types, and the classes of their payloads.
     ghost rows: { Rows };
 
-    /// Whether the kind of its lists is written with the nested flag (`NLA_F_NESTED`).
+    /// Whether `nla_type` of these lists is written with the nested flag (`NLA_F_NESTED`).
     ghost flagged: { Bool };
 
-    /// The attribute that a value stands for.
+    /// The attribute that a value represents.
     ghost leaf: { Self → Leaf };
 
-    /// The table of the type is these rows.
+    /// The table of the type consists of these rows.
     ghost same_table: { Self.table ≡ lift_table rows };
 
     /// `means` is `leaf`, as an attribute of that table.
     ghost same_means: { (x : Self) → Self.means x ≡ lift (leaf x) };
 }
 
-/// The values of the nested list that is the payload of the attribute of this kind. Fails with `NestedFrame` or
-/// `NestedValue`, or with `Memory`, but not where the payload begins with no frame.
+/// Parses the payload of an attribute of type `kind` as a nested list.
+///
+/// # Errors
+///
+/// `NestedFrame` if the header of an element is malformed, `NestedValue` if its payload is. `Memory` if an allocation
+/// fails, which is possible only if the payload starts with a whole element.
 pub fn read_nested<E: NestedAttribute>(
     alloc: Global,
     kind: u16,
@@ -49,7 +53,7 @@ pub fn read_nested<E: NestedAttribute>(
     }
 }
 
-/// The bytes of a written nested list; `usize::MAX` where there are that many or more.
+/// Returns the length of a written nested list in bytes; saturates at `usize::MAX`.
 #[inline(never)]
 pub fn nested_len<E: NestedAttribute>(values: &[E]) -> usize
     ensures { result ≡ capped (length (written_leaves (map E.leaf values.now))) }
@@ -57,7 +61,7 @@ pub fn nested_len<E: NestedAttribute>(values: &[E]) -> usize
     list_len(values)
 }
 
-/// Writes a nested list of at most 65531 bytes into a buffer of exactly `nested_len` bytes.
+/// Writes a nested list. `buffer` must be exactly `nested_len(values)` bytes long, which must be at most 65531.
 #[inline(never)]
 pub fn emit_nested<E: NestedAttribute>(values: &[E], buffer: &mut [u8])
     requires fits { length (written_leaves (map E.leaf values.now)) ≤ 65531 }

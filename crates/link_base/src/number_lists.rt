@@ -1,5 +1,4 @@
-//! Numbers of one width, one after another: a payload of any number of them, and the fields of records as they are
-//! written.
+//! Arrays of numbers: payloads of any number of them, and fields of structs that are written.
 
 ghost use Rattle.std.specs.Prelude.{◌≡◌, ◌<◌, ◌≤◌, ◌*◌, ◌%◌, length, IfOk};
 ghost use Rattle.link_base.specs.Class.{accepted, Multiple};
@@ -12,8 +11,12 @@ use crate::records::{check_multiple, u16_at, u32_at};
 use crate::scalars::{emit_u16, emit_u32};
 use std::alloc::Global;
 
-/// The numbers of two bytes each, one after another, each little-endian. Fails with `Payload` of `WrongLength` where
-/// the length is odd, or with `Memory` where it is not and some numbers are there.
+/// Parses an array of little-endian `u16`s.
+///
+/// # Errors
+///
+/// `Payload(WrongLength)` if `payload.len()` is odd. `Memory` if an allocation fails, which is possible only if
+/// `payload.len()` is even and not 0.
 pub fn parse_u16s(alloc: Global, payload: &[u8]) -> Result<Vec<u16>, DecodeError>
     ensures value { PayloadAnswers (λ vs. vs.items) result (accepted (Multiple 2) (numbers_of 2) payload.now) }
     ensures octets { IfOk result (λ vs. octets_of 2 vs.items ≡ payload.now) }
@@ -28,8 +31,12 @@ pub fn parse_u16s(alloc: Global, payload: &[u8]) -> Result<Vec<u16>, DecodeError
     Ok(numbers)
 }
 
-/// The numbers of four bytes each, one after another, each little-endian. Fails with `Payload` of `WrongLength` where
-/// the length is no multiple of four, or with `Memory` where it is and some numbers are there.
+/// Parses an array of little-endian `u32`s.
+///
+/// # Errors
+///
+/// `Payload(WrongLength)` if `payload.len()` is not a multiple of 4. `Memory` if an allocation fails, which is possible
+/// only if `payload.len()` is a multiple of 4 and not 0.
 pub fn parse_u32s(alloc: Global, payload: &[u8]) -> Result<Vec<u32>, DecodeError>
     ensures value { PayloadAnswers (λ vs. vs.items) result (accepted (Multiple 4) (numbers_of 4) payload.now) }
     ensures octets { IfOk result (λ vs. octets_of 4 vs.items ≡ payload.now) }
@@ -44,7 +51,7 @@ pub fn parse_u32s(alloc: Global, payload: &[u8]) -> Result<Vec<u32>, DecodeError
     Ok(numbers)
 }
 
-/// The bytes of numbers of two bytes each; `usize::MAX` where there are that many or more.
+/// Returns the length of the written `u16`s in bytes; saturates at `usize::MAX`.
 #[inline]
 pub fn u16s_len(numbers: &[u16]) -> usize
     ensures { result ≡ capped (length (octets_of 2 numbers.now)) }
@@ -52,7 +59,7 @@ pub fn u16s_len(numbers: &[u16]) -> usize
     numbers.len().saturating_mul(2)
 }
 
-/// The bytes of numbers of four bytes each; `usize::MAX` where there are that many or more.
+/// Returns the length of the written `u32`s in bytes; saturates at `usize::MAX`.
 #[inline]
 pub fn u32s_len(numbers: &[u32]) -> usize
     ensures { result ≡ capped (length (octets_of 4 numbers.now)) }
@@ -60,8 +67,8 @@ pub fn u32s_len(numbers: &[u32]) -> usize
     numbers.len().saturating_mul(4)
 }
 
-/// Writes numbers to the front of a buffer that has two bytes for each, one after another, each little-endian, and
-/// leaves the rest.
+/// Writes consecutive little-endian `u16`s to the start of `buffer`; the rest is unchanged. `buffer` must be at least
+/// `2 * numbers.len()` bytes long.
 pub fn emit_u16s(buffer: &mut [u8], numbers: &[u16])
     requires { 2 * length numbers.now ≤ length buffer.old }
     ensures written { OverwritesFront buffer.old buffer.new (octets_of 2 numbers.now) }
@@ -74,8 +81,8 @@ pub fn emit_u16s(buffer: &mut [u8], numbers: &[u16])
     }
 }
 
-/// Writes numbers to the front of a buffer that has four bytes for each, one after another, each little-endian, and
-/// leaves the rest.
+/// Writes consecutive little-endian `u32`s to the start of `buffer`; the rest is unchanged. `buffer` must be at least
+/// `4 * numbers.len()` bytes long.
 pub fn emit_u32s(buffer: &mut [u8], numbers: &[u32])
     requires { 4 * length numbers.now ≤ length buffer.old }
     ensures written { OverwritesFront buffer.old buffer.new (octets_of 4 numbers.now) }

@@ -1,4 +1,4 @@
-//! Bytes that contracts see as a list.
+//! Bytes that contracts treat as a list.
 
 ghost use Rattle.std.specs.Prelude.{◌≡◌, List, ℕ, length, IfOk};
 ghost use Rattle.std.specs.Cmp.Rules.{comparing};
@@ -9,10 +9,10 @@ use std::alloc::{AllocError, Global};
 use std::fmt;
 use std::marker::Model;
 
-/// How many bytes take no memory of their own.
+/// The number of bytes that are held without allocating.
 const INLINE: usize = 24;
 
-/// Some bytes. Two are equal where they have the same bytes in the same order.
+/// A sequence of bytes. Two are equal if they have the same bytes in the same order.
 #[derive(Drop)]
 pub(crate) struct Octets {
     bytes: SmallVec<u8, INLINE>,

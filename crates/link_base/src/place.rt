@@ -1,20 +1,20 @@
-//! Where values that are read go.
+//! Destinations for parsed values.
 
 ghost use Rattle.std.specs.Prelude.{◌≡◌, ◌+◌, ◌<◌, ◌++◌, ◌∷◌, [], None, Some, vec_len, vec_capacity};
 ghost use Rattle.link_base.specs.Place.{Hands};
 
 use crate::fault::DecodeError;
 
-/// Where a value that is read goes: a `Vec` with room for it, or an `Option` without one. A reader of many kinds puts
-/// each value there as soon as it has it.
+/// The destination of a parsed value: a `Vec` with spare capacity, or an `Option` that is `None`. Functions that parse
+/// attributes of many types store each value there as soon as they have it.
 pub trait Place<T> {
-    /// Whether it takes a value.
+    /// Holds if the destination can store a value.
     ghost is_free: { Self → Type 0 };
 
-    /// What has become of it once it has taken a value.
+    /// Relates the destination before, the value, and the destination after storing it.
     ghost takes: { Self → T → Self → Type 0 };
 
-    /// Takes a value.
+    /// Stores a value. The destination must be free (see `is_free`).
     fn put(&mut self, value: T)
         requires { is_free self.old }
         ensures { takes self.old value self.new };
@@ -50,7 +50,11 @@ impl<T: Drop> Place<T> for Option<T> {
     }
 }
 
-/// Stores the value that was read in its place. An error is returned, and the place is unchanged.
+/// Stores a parsed value in `place`, which must be free.
+///
+/// # Errors
+///
+/// The error in `read`, unchanged. `place` is unchanged too.
 #[inline(always)]
 pub fn keep<T: Drop, P: Place<T>>(
     place: &mut P,

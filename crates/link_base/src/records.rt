@@ -1,4 +1,4 @@
-//! Records: payloads of fields at fixed offsets.
+//! Fixed-layout structs: payloads with fields at fixed offsets.
 
 ghost use Rattle.std.specs.Prelude.{◌≡◌, ◌<◌, ◌≤◌, ◌+◌, ◌*◌, length, take, drop};
 ghost use Rattle.link_base.specs.Number.{bytes_of};
@@ -9,7 +9,11 @@ ghost use Rattle.link_base.specs.Answers.{payload_result};
 use crate::fault::{Cause, DecodeError, DecodeFault};
 use crate::scalars::wrong_length;
 
-/// Checks that a payload has at least `want` bytes. Fails with `Payload` of `TooShort`.
+/// Checks that a payload has at least `want` bytes.
+///
+/// # Errors
+///
+/// `Payload(TooShort)` if `payload.len() < want`.
 pub fn check_at_least(payload: &[u8], want: usize) -> Result<(), DecodeError>
     ensures { result ≡ payload_result (accepted (AtLeast want) (λ _. tt) payload.now) }
 {
@@ -21,8 +25,11 @@ pub fn check_at_least(payload: &[u8], want: usize) -> Result<(), DecodeError>
     Ok(())
 }
 
-/// Checks that a payload has exactly `want` bytes. Fails with `Payload`, of `TooShort` where it has fewer and of
-/// `WrongLength` where it has more.
+/// Checks that a payload has exactly `want` bytes.
+///
+/// # Errors
+///
+/// `Payload(TooShort)` if `payload.len() < want`, and `Payload(WrongLength)` if `payload.len() > want`.
 pub fn check_length(payload: &[u8], want: usize) -> Result<(), DecodeError>
     ensures { result ≡ payload_result (accepted (Fixed want) (λ _. tt) payload.now) }
 {
@@ -30,7 +37,12 @@ pub fn check_length(payload: &[u8], want: usize) -> Result<(), DecodeError>
     check_exactly(payload, want)
 }
 
-/// Checks that a payload has exactly `want` bytes. Fails with `Payload` of `WrongLength`, for fewer bytes too.
+/// Checks that a payload has exactly `want` bytes. Unlike `check_length`, it reports a short payload as `WrongLength`
+/// too.
+///
+/// # Errors
+///
+/// `Payload(WrongLength)` if `payload.len()` is not `want`.
 pub fn check_exactly(payload: &[u8], want: usize) -> Result<(), DecodeError>
     ensures { result ≡ payload_result (accepted (Exactly want) (λ _. tt) payload.now) }
 {
@@ -41,7 +53,11 @@ pub fn check_exactly(payload: &[u8], want: usize) -> Result<(), DecodeError>
     Ok(())
 }
 
-/// Checks that a payload has a multiple of `want` bytes, which is not 0. Fails with `Payload` of `WrongLength`.
+/// Checks that the length of a payload is a multiple of `want`, which must not be 0.
+///
+/// # Errors
+///
+/// `Payload(WrongLength)` if it is not.
 pub(crate) fn check_multiple(payload: &[u8], want: usize) -> Result<(), DecodeError>
     requires { 0 < want }
     ensures { result ≡ payload_result (accepted (Multiple want) (λ _. tt) payload.now) }
@@ -53,7 +69,7 @@ pub(crate) fn check_multiple(payload: &[u8], want: usize) -> Result<(), DecodeEr
     Ok(())
 }
 
-/// The number of the two bytes at an offset, little-endian. Requires that they lie within the bytes.
+/// Reads the little-endian `u16` at `bytes[offset..offset + 2]`, which must be within `bytes`.
 #[inline]
 pub fn u16_at(bytes: &[u8], offset: usize) -> u16
     requires { offset + 2 ≤ length bytes.now }
@@ -63,7 +79,7 @@ pub fn u16_at(bytes: &[u8], offset: usize) -> u16
     u16::from_le_bytes([bytes[offset], bytes[offset + 1]])
 }
 
-/// The number of the four bytes at an offset, little-endian. Requires that they lie within the bytes.
+/// Reads the little-endian `u32` at `bytes[offset..offset + 4]`, which must be within `bytes`.
 #[inline]
 pub fn u32_at(bytes: &[u8], offset: usize) -> u32
     requires { offset + 4 ≤ length bytes.now }
@@ -78,8 +94,7 @@ pub fn u32_at(bytes: &[u8], offset: usize) -> u32
     ])
 }
 
-/// The numbers of four bytes each, one after another from an offset on, each little-endian. Requires that they lie
-/// within the bytes.
+/// Reads `N` consecutive little-endian `u32`s at `bytes[offset..offset + 4 * N]`, which must be within `bytes`.
 pub fn u32s_at<const N: usize>(bytes: &[u8], offset: usize) -> [u32; N]
     requires { offset + 4 * N ≤ length bytes.now }
     ensures value { result ≡ numbers_at 4 N offset bytes.now }

@@ -1,4 +1,4 @@
-//! Lists of attributes, read and written at once.
+//! Re-encoding of attribute lists in one pass.
 
 ghost use Rattle.std.specs.Prelude.{◌≡◌, ◌≤◌, length, drop};
 ghost use Rattle.link_base.specs.Frame.{pad};
@@ -12,15 +12,16 @@ use crate::buffer::{NlaBuffer, cause_at_front};
 use crate::fault::{DecodeError, DecodeFault, ListError};
 use std::alloc::Global;
 
-/// Re-encodes an attribute list into `buffer`, one attribute at a time and without a list of values. Returns the number of
-/// bytes written, and the rest of the buffer is unchanged; or the index of the first value that does not fit, counted
-/// from 0. `buffer` must be at least as long as `bytes`, rounded up to a multiple of four.
+/// Re-encodes an attribute list into `buffer`, one attribute at a time and without a list of values. Returns
+/// `Ok(Ok(n))` if all values fit: the list is in `buffer[..n]`, and the rest of the buffer is unchanged. Returns
+/// `Ok(Err(i))` if value `i`, zero-based, is the first that does not fit. `buffer` must be at least as long as `bytes`,
+/// rounded up to a multiple of four.
 ///
 /// # Errors
 ///
-/// As for `read_list`, except that `Memory` is possible only for an attribute whose value is heap-allocated, and not for
-/// one behind the first error. On error, and if a value does not fit, the start of the buffer may have changed, up to the
-/// length of `bytes` rounded up to a multiple of four.
+/// As for `read_list`, except that `Memory` is possible only for an attribute whose value may be heap-allocated and
+/// which is not after the first error. On error, and if a value does not fit, the start of the buffer may have changed,
+/// up to the length of `bytes` rounded up to a multiple of four.
 pub fn rewrite_list<F: Attribute>(
     alloc: Global,
     bytes: &[u8],
@@ -58,10 +59,13 @@ pub fn rewrite_list<F: Attribute>(
     }
 }
 
-/// Reads the value of a frame and, where it is wanted and fits, writes it from its place to the front of the buffer.
-/// Answers how many bytes were written, or `None` where none were. Requires room for a value that is wanted and fits.
+/// Parses one attribute. If the value is wanted and fits, writes it to the start of `buffer` straight from the place
+/// where the parser stored it. Returns the number of bytes written, or `None` if nothing was written. `buffer` must
+/// have space for a value that is wanted and fits.
 ///
-/// Fails as `Parseable::parse` does. Where nothing was written, the buffer is as it was.
+/// # Errors
+///
+/// As for `Parseable::parse`. If nothing was written, the buffer is unchanged.
 #[inline(always)]
 fn rewrite_frame<F: Attribute>(
     alloc: Global,

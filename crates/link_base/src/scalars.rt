@@ -1,8 +1,8 @@
 //! Numbers and addresses as payloads.
 //!
-//! A reader takes a whole payload and fails with `Payload`; a writer fills the front of a buffer and leaves the bytes
-//! behind it as they are. Numbers are little-endian unless they are said to be in network byte order. Types of numbers
-//! are those of `include/uapi/linux/netlink.h`, `NL_ATTR_TYPE_*`.
+//! Parse functions take a whole payload and fail with `Payload`. Emit functions write to the start of `buffer` and
+//! leave the rest unchanged. Numbers are little-endian unless their comment says big-endian. The types `NL_ATTR_TYPE_*`
+//! are those of `include/uapi/linux/netlink.h`.
 
 ghost use Rattle.std.specs.Prelude.{◌≡◌, ◌≤◌, ◌<◌, ◌∷◌, [], length, reverse, slice_index, nat_lt, IfOk};
 ghost use Rattle.std.specs.Int.{w32, cast_unsigned};
@@ -23,7 +23,11 @@ pub(crate) fn wrong_length(want: usize, got: usize) -> DecodeError
     DecodeError::Fault(DecodeFault::Payload(Cause::WrongLength { want, got }))
 }
 
-/// The number of one byte (`NL_ATTR_TYPE_U8`). Fails with `Payload` of `WrongLength`.
+/// Parses a `u8` (`NL_ATTR_TYPE_U8`).
+///
+/// # Errors
+///
+/// `Payload(WrongLength)` if `payload.len()` is not 1.
 #[inline]
 pub fn parse_u8(payload: &[u8]) -> Result<u8, DecodeError>
     ensures { result ≡ payload_result (accepted (Exactly 1) number payload.now) }
@@ -34,7 +38,11 @@ pub fn parse_u8(payload: &[u8]) -> Result<u8, DecodeError>
     }
 }
 
-/// Whether the number of one byte is not 0 (`NL_ATTR_TYPE_U8`). Fails with `Payload` of `WrongLength`.
+/// Parses a boolean: a `u8` (`NL_ATTR_TYPE_U8`) that is true if it is not 0.
+///
+/// # Errors
+///
+/// `Payload(WrongLength)` if `payload.len()` is not 1.
 #[inline]
 pub fn parse_bool(payload: &[u8]) -> Result<bool, DecodeError>
     ensures { result ≡ payload_result (accepted (Exactly 1) (λ p. nat_lt 0 (number p)) payload.now) }
@@ -45,7 +53,11 @@ pub fn parse_bool(payload: &[u8]) -> Result<bool, DecodeError>
     }
 }
 
-/// The number of two bytes, little-endian (`NL_ATTR_TYPE_U16`). Fails with `Payload` of `WrongLength`.
+/// Parses a little-endian `u16` (`NL_ATTR_TYPE_U16`).
+///
+/// # Errors
+///
+/// `Payload(WrongLength)` if `payload.len()` is not 2.
 #[inline]
 pub fn parse_u16(payload: &[u8]) -> Result<u16, DecodeError>
     ensures { result ≡ payload_result (accepted (Exactly 2) number payload.now) }
@@ -56,7 +68,11 @@ pub fn parse_u16(payload: &[u8]) -> Result<u16, DecodeError>
     }
 }
 
-/// The number of four bytes, little-endian (`NL_ATTR_TYPE_U32`). Fails with `Payload` of `WrongLength`.
+/// Parses a little-endian `u32` (`NL_ATTR_TYPE_U32`).
+///
+/// # Errors
+///
+/// `Payload(WrongLength)` if `payload.len()` is not 4.
 #[inline]
 pub fn parse_u32(payload: &[u8]) -> Result<u32, DecodeError>
     ensures { result ≡ payload_result (accepted (Exactly 4) number payload.now) }
@@ -67,7 +83,11 @@ pub fn parse_u32(payload: &[u8]) -> Result<u32, DecodeError>
     }
 }
 
-/// The number of eight bytes, little-endian (`NL_ATTR_TYPE_U64`). Fails with `Payload` of `WrongLength`.
+/// Parses a little-endian `u64` (`NL_ATTR_TYPE_U64`).
+///
+/// # Errors
+///
+/// `Payload(WrongLength)` if `payload.len()` is not 8.
 #[inline]
 pub fn parse_u64(payload: &[u8]) -> Result<u64, DecodeError>
     ensures { result ≡ payload_result (accepted (Exactly 8) number payload.now) }
@@ -78,8 +98,11 @@ pub fn parse_u64(payload: &[u8]) -> Result<u64, DecodeError>
     }
 }
 
-/// The signed number of four bytes, in two's complement, little-endian (`NL_ATTR_TYPE_S32`). Fails with `Payload` of
-/// `WrongLength`.
+/// Parses a little-endian `i32`, in two's complement (`NL_ATTR_TYPE_S32`).
+///
+/// # Errors
+///
+/// `Payload(WrongLength)` if `payload.len()` is not 4.
 #[inline]
 pub fn parse_i32(payload: &[u8]) -> Result<i32, DecodeError>
     ensures { result ≡ payload_result (accepted (Exactly 4) integer payload.now) }
@@ -90,7 +113,11 @@ pub fn parse_i32(payload: &[u8]) -> Result<i32, DecodeError>
     }
 }
 
-/// The number of two bytes in network byte order (`__be16`). Fails with `Payload` of `WrongLength`.
+/// Parses a big-endian `u16` (`__be16`).
+///
+/// # Errors
+///
+/// `Payload(WrongLength)` if `payload.len()` is not 2.
 #[inline]
 pub fn parse_u16_be(payload: &[u8]) -> Result<u16, DecodeError>
     ensures { result ≡ payload_result (accepted (Exactly 2) (λ p. number (reverse p)) payload.now) }
@@ -101,7 +128,11 @@ pub fn parse_u16_be(payload: &[u8]) -> Result<u16, DecodeError>
     }
 }
 
-/// The low byte of a number of two bytes, little-endian: the first of them. Fails with `Payload` of `WrongLength`.
+/// Parses a little-endian `u16` and returns its low byte, the first of the two. The high byte is ignored.
+///
+/// # Errors
+///
+/// `Payload(WrongLength)` if `payload.len()` is not 2.
 #[inline]
 pub fn parse_low(payload: &[u8]) -> Result<u8, DecodeError>
     ensures { result ≡ payload_result (accepted (Exactly 2) (λ p. slice_index p 0) payload.now) }
@@ -112,7 +143,11 @@ pub fn parse_low(payload: &[u8]) -> Result<u8, DecodeError>
     }
 }
 
-/// The two numbers of eight bytes, one after the other, each little-endian. Fails with `Payload` of `WrongLength`.
+/// Parses two consecutive little-endian `u32`s.
+///
+/// # Errors
+///
+/// `Payload(WrongLength)` if `payload.len()` is not 8.
 #[inline]
 pub fn parse_u32_pair(payload: &[u8]) -> Result<(u32, u32), DecodeError>
     ensures value { result
@@ -128,8 +163,11 @@ pub fn parse_u32_pair(payload: &[u8]) -> Result<(u32, u32), DecodeError>
     }
 }
 
-/// The six octets of a hardware address (`ETH_ALEN`, `include/uapi/linux/if_ether.h`), in order. Fails with `Payload`
-/// of `WrongLength`.
+/// Parses a hardware address: six octets, in order (`ETH_ALEN`, `include/uapi/linux/if_ether.h`).
+///
+/// # Errors
+///
+/// `Payload(WrongLength)` if `payload.len()` is not 6.
 #[inline]
 pub fn parse_mac(payload: &[u8]) -> Result<[u8; 6], DecodeError>
     ensures { result ≡ payload_result (accepted (Exactly 6) (λ p. p) payload.now) }
@@ -140,8 +178,11 @@ pub fn parse_mac(payload: &[u8]) -> Result<[u8; 6], DecodeError>
     }
 }
 
-/// The IPv4 address of four bytes or the IPv6 address of sixteen, octets in order. Fails with `Payload` of
-/// `AddressLength`.
+/// Parses an IP address: the octets, in order, of an IPv4 address if there are 4, of an IPv6 address if there are 16.
+///
+/// # Errors
+///
+/// `Payload(AddressLength)` if `payload.len()` is neither 4 nor 16.
 #[inline]
 pub fn parse_ip(payload: &[u8]) -> Result<IpAddr, DecodeError>
     ensures { IsAddress payload.now result }
@@ -160,7 +201,7 @@ pub fn parse_ip(payload: &[u8]) -> Result<IpAddr, DecodeError>
     }
 }
 
-/// Writes a number to the first byte of a buffer that is not empty, and leaves the rest.
+/// Writes a `u8` to `buffer[..1]`. `buffer` must not be empty.
 #[inline]
 pub fn emit_u8(buffer: &mut [u8], value: u8)
     requires { 1 ≤ length buffer.old }
@@ -169,7 +210,7 @@ pub fn emit_u8(buffer: &mut [u8], value: u8)
     buffer[..1].copy_from_slice(&value.to_le_bytes());
 }
 
-/// Writes a number to the first two bytes of a buffer at least that long, little-endian, and leaves the rest.
+/// Writes a little-endian `u16` to `buffer[..2]`. `buffer` must be at least 2 bytes long.
 #[inline]
 pub fn emit_u16(buffer: &mut [u8], value: u16)
     requires { 2 ≤ length buffer.old }
@@ -178,7 +219,7 @@ pub fn emit_u16(buffer: &mut [u8], value: u16)
     buffer[..2].copy_from_slice(&value.to_le_bytes());
 }
 
-/// Writes a number to the first four bytes of a buffer at least that long, little-endian, and leaves the rest.
+/// Writes a little-endian `u32` to `buffer[..4]`. `buffer` must be at least 4 bytes long.
 #[inline]
 pub fn emit_u32(buffer: &mut [u8], value: u32)
     requires { 4 ≤ length buffer.old }
@@ -187,7 +228,7 @@ pub fn emit_u32(buffer: &mut [u8], value: u32)
     buffer[..4].copy_from_slice(&value.to_le_bytes());
 }
 
-/// Writes a number to the first eight bytes of a buffer at least that long, little-endian, and leaves the rest.
+/// Writes a little-endian `u64` to `buffer[..8]`. `buffer` must be at least 8 bytes long.
 #[inline]
 pub fn emit_u64(buffer: &mut [u8], value: u64)
     requires { 8 ≤ length buffer.old }
@@ -196,8 +237,7 @@ pub fn emit_u64(buffer: &mut [u8], value: u64)
     buffer[..8].copy_from_slice(&value.to_le_bytes());
 }
 
-/// Writes a signed number, in two's complement, to the first four bytes of a buffer at least that long, little-endian,
-/// and leaves the rest.
+/// Writes a little-endian `i32`, in two's complement, to `buffer[..4]`. `buffer` must be at least 4 bytes long.
 #[inline]
 pub fn emit_i32(buffer: &mut [u8], value: i32)
     requires { 4 ≤ length buffer.old }
@@ -207,7 +247,7 @@ pub fn emit_i32(buffer: &mut [u8], value: i32)
     buffer[..4].copy_from_slice(&octets);
 }
 
-/// Writes a number to the first two bytes of a buffer at least that long, in network byte order, and leaves the rest.
+/// Writes a big-endian `u16` to `buffer[..2]`. `buffer` must be at least 2 bytes long.
 #[inline]
 pub fn emit_u16_be(buffer: &mut [u8], value: u16)
     requires { 2 ≤ length buffer.old }
@@ -216,7 +256,7 @@ pub fn emit_u16_be(buffer: &mut [u8], value: u16)
     buffer[..2].copy_from_slice(&value.to_be_bytes());
 }
 
-/// Fills a buffer of two bytes with a number of one byte, little-endian: the byte, and a zero.
+/// Writes a byte as a little-endian `u16`: the byte, then a zero. `buffer` must be exactly 2 bytes long.
 #[inline]
 pub fn emit_low(buffer: &mut [u8], low: u8)
     requires { length buffer.old ≡ 2 }
@@ -226,8 +266,7 @@ pub fn emit_low(buffer: &mut [u8], low: u8)
     buffer.copy_from_slice(&[low, 0]);
 }
 
-/// Writes two numbers to the first eight bytes of a buffer at least that long, one after the other, each little-endian,
-/// and leaves the rest.
+/// Writes two consecutive little-endian `u32`s to `buffer[..8]`. `buffer` must be at least 8 bytes long.
 #[inline]
 pub fn emit_u32_pair(buffer: &mut [u8], first: u32, second: u32)
     requires { 8 ≤ length buffer.old }
@@ -239,8 +278,7 @@ pub fn emit_u32_pair(buffer: &mut [u8], first: u32, second: u32)
     buffer[..8].copy_from_slice(&[a, b, c, d, e, f, g, h]);
 }
 
-/// Writes the octets of a hardware address to the first six bytes of a buffer at least that long, in order, and leaves
-/// the rest.
+/// Writes the octets of a hardware address, in order, to `buffer[..6]`. `buffer` must be at least 6 bytes long.
 #[inline]
 pub fn emit_mac(buffer: &mut [u8], address: &[u8; 6])
     requires { length address.now ≤ length buffer.old }

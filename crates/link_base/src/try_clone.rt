@@ -1,4 +1,4 @@
-//! Copies, where memory allows.
+//! Copies that fail if an allocation fails.
 
 ghost use Rattle.std.specs.Prelude.{◌≡◌, ◌<◌, IsTrue, IfOk, OnErr, length, map};
 ghost use Rattle.std.specs.Cmp.Lexicographic.{pointwise};
@@ -8,17 +8,21 @@ use crate::attribute::Meaning;
 use crate::nested::NestedAttribute;
 use std::alloc::{AllocError, Global};
 
-/// A value that can be copied.
+/// A value that can be copied, unless an allocation fails.
 pub trait TryClone: Meaning + PartialEq {
-    /// An equal value, or `AllocError` where allocation failed: only for an `Other`, or for a case that holds bytes, a
-    /// text or a list.
+    /// Returns an equal value.
+    ///
+    /// # Errors
+    ///
+    /// `AllocError` if an allocation fails, which is possible only for `Other` and for variants that hold bytes, a
+    /// string or a list.
     fn try_clone(&self, alloc: Global) -> Result<Self, AllocError>
         ensures copy { IfOk result (λ copy. Self.means copy ≡ Self.means self.now) }
         ensures equal { IfOk result (λ copy. IsTrue (Self.PartialEq.eq copy self.now)) }
         ensures memory { OnErr result (HoldsMemory Self.table (Self.means self.now)) };
 }
 
-/// Copies a list, for a copy of the attribute that holds it.
+/// Copies a list, for a copy of the attribute that contains it.
 ///
 /// # Errors
 ///

@@ -17,14 +17,14 @@ const ETH_P_8021AD: u16 = 0x88A8;
 /// The protocol of a VLAN tag, by its EtherType (`include/uapi/linux/if_ether.h`).
 #[derive(Clone, Copy, Debug, PartialEq, Eq, Default)]
 pub enum VlanProtocol {
-    /// The tag of a customer, `802.1Q` (`ETH_P_8021Q`, 0x8100).
+    /// Customer tag, `802.1Q` (`ETH_P_8021Q`, 0x8100).
     #[default]
     Ieee8021Q,
-    /// The tag of a service provider, `802.1ad` (`ETH_P_8021AD`, 0x88A8).
+    /// Service provider tag, `802.1ad` (`ETH_P_8021AD`, 0x88A8).
     Ieee8021Ad,
 }
 
-/// The protocol of an EtherType; `Ieee8021Q` for every number but 0x88A8.
+/// Converts an EtherType to a protocol: `Ieee8021Q` for every number except 0x88A8.
 impl From<u16> for VlanProtocol {
     ghost from_gives = { λ d p. p ≡ value_of vlan_protocols d };
 
@@ -36,7 +36,7 @@ impl From<u16> for VlanProtocol {
     }
 }
 
-/// The EtherType.
+/// Converts a protocol to its EtherType.
 impl From<VlanProtocol> for u16 {
     ghost from_gives = { λ p d. d ≡ protocol_number p };
 
@@ -48,7 +48,7 @@ impl From<VlanProtocol> for u16 {
     }
 }
 
-/// `802.1Q` or `802.1ad`.
+/// Writes `802.1Q` or `802.1ad`.
 impl fmt::Display for VlanProtocol {
     ghost output = { λ p. Some (text_of vlan_protocols.labels (protocol_number p)) };
 
@@ -60,7 +60,11 @@ impl fmt::Display for VlanProtocol {
     }
 }
 
-/// Reads a displayed name, its letters in either case. Fails with `Text` for every other text.
+/// Parses `802.1Q` or `802.1ad`, case-insensitively.
+///
+/// # Errors
+///
+/// `Text` for every other string.
 impl FromStr for VlanProtocol {
     type Err = DecodeError;
 

@@ -1,4 +1,4 @@
-//! Lists of attributes, written.
+//! Serialization of attribute lists.
 
 ghost use Rattle.std.specs.Prelude.{◌≡◌, ◌≤◌, ◌<◌, ◌^◌, ◌↔◌, IsTrue, OnOk, length, map, MatchResult};
 ghost use Rattle.std.specs.List.{AllByRecursion};
@@ -10,7 +10,7 @@ use crate::attribute::{Attribute, MAX_PAYLOAD};
 use crate::fault::WriteError;
 use std::alloc::{AllocError, Global};
 
-/// The bytes of the written list, the sum of `buffer_len`; `usize::MAX` where there are that many or more.
+/// Returns the length of the written list in bytes, the sum of `buffer_len`; saturates at `usize::MAX`.
 pub fn list_len<F: Attribute>(values: &[F]) -> usize
     ensures { result ≡ capped (length (written_list (map F.means values.now))) }
 {
@@ -21,7 +21,7 @@ pub fn list_len<F: Attribute>(values: &[F]) -> usize
     len
 }
 
-/// Whether every value fits: true where there is none.
+/// Checks whether every value fits; true for an empty list.
 pub fn list_fits<F: Attribute>(values: &[F]) -> bool
     ensures { IsTrue result ↔ AllByRecursion Fits (map F.means values.now) }
 {
@@ -31,8 +31,8 @@ pub fn list_fits<F: Attribute>(values: &[F]) -> bool
     }
 }
 
-/// How many bytes the written list has, as `list_len` answers; or the place of the first value, counted from 0, that
-/// does not fit.
+/// Returns the length of the written list in bytes, as `list_len` does, or `Err(i)` if `values[i]` is the first value
+/// that does not fit.
 pub fn measure_list<F: Attribute>(values: &[F]) -> Result<usize, usize>
     ensures { MatchResult result (IsMeasured (map F.means values.now)) (IsFirstUnfit (map F.means values.now)) }
 {
@@ -47,8 +47,8 @@ pub fn measure_list<F: Attribute>(values: &[F]) -> Result<usize, usize>
     Ok(len)
 }
 
-/// Writes the list to the front of a buffer of at least `list_len` bytes, and leaves the bytes behind it as they
-/// are. Requires that every value fits.
+/// Writes the list to the start of `buffer`; the rest of the buffer is unchanged. `buffer` must be at least
+/// `list_len(values)` bytes long, and every value must fit.
 #[inline(always)]
 pub fn emit_list<F: Attribute>(values: &[F], buffer: &mut [u8])
     requires fits { AllByRecursion Fits (map F.means values.now) }
@@ -64,8 +64,12 @@ pub fn emit_list<F: Attribute>(values: &[F], buffer: &mut [u8])
     }
 }
 
-/// The written list. Fails with `TooLong` of the first value that does not fit; with `Memory` only where every value
-/// fits and there is one.
+/// Returns the written list.
+///
+/// # Errors
+///
+/// `TooLong` with the index of the first value that does not fit. `Memory` if an allocation fails, or if the list would
+/// have `usize::MAX` bytes or more; this is possible only if every value fits and the list is not empty.
 pub fn write_list<F: Attribute>(alloc: Global, values: &[F]) -> Result<Vec<u8>, WriteError>
     ensures answer { WriteAnswers (map F.means values.now) result }
     ensures in_range { OnOk result (AllByRecursion (IsInRange F.table) (map F.means values.now)) }

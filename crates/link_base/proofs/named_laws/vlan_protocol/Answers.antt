@@ -6,7 +6,7 @@ use Rattle.link_base.specs.Protocol.{vlan_protocols, protocol_number}
 use Rattle.link_base.proofs.Naming as naming
 use Rattle.link_base.proofs.named_laws.vlan_protocol.Goals as goal
 
--- the displayed text of a protocol is accepted for it
+-- the `Display` output of a protocol is accepted for it
 accepted : (p : VlanProtocol) → Accepts vlan_protocols (text_of vlan_protocols.labels (protocol_number p)) p
 accepted Ieee8021Q = inl (refl, refl)
 accepted Ieee8021Ad = inr (inl (refl, refl))
