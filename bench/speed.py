@@ -1,5 +1,5 @@
 #!/usr/bin/env python3
-"""speed.py LIB.a [--defines "REWRITE_INTO IS_CANONICAL"] [LIST..]: instructions and requests for memory a list, of a static library
+"""speed.py LIB.a [--defines "REWRITE_STREAMING IS_CANONICAL"] [LIST..]: instructions and requests for memory a list, of a static library
 with the calls of driver.c, beside those of the Rust crate (original.tsv). Instructions do not depend on how busy the machine is.
 Needs cc and valgrind (Debian's packages gcc and valgrind)."""
 import os, re, subprocess, sys, tempfile
@@ -29,7 +29,7 @@ with tempfile.TemporaryDirectory() as d:
     print(f"{'list':<14}{'call':<14}{'answer':>8}{'ours':>10}{'original':>10}{'ratio':>7}  requests (new+grown)")
     for name, family, read, into, owned in rows:
         if words and name not in words: continue
-        for what, other in [("read", read), ("rewrite", into)] + [("rewrite_into", into)] * ("REWRITE_INTO" in defines) + [("is_canonical", read)] * ("IS_CANONICAL" in defines):
+        for what, other in [("read", read), ("rewrite", into)] + [("rewrite_streaming", into)] * ("REWRITE_STREAMING" in defines) + [("is_canonical", read)] * ("IS_CANONICAL" in defines):
             answer = run(name, family, what, 1).stdout.strip()
             if answer == "-5": continue
             mine = instructions(name, family, what)

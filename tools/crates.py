@@ -1,4 +1,5 @@
 """The crates of crates.txt, and how the toolchain is run on them."""
+import contextlib
 import os
 import re
 import shutil
@@ -16,6 +17,7 @@ class Crate:
     def __init__(self, root, head, uses, crates, kit):
         name, *kind = head
         self.name, self.folder, self.kit = name, f"{root}/crates/{name}", kit
+        self.line = f"{' '.join(head)}: {' '.join(uses)}"
         self.kind = ["--crate-type", *kind] if kind else []
         self.deps = [crates[it] for it in uses if it in crates]
         self.of_kit = ["std", *(it for it in uses if it not in crates)]
@@ -29,9 +31,13 @@ class Crate:
             found += [it for it in [*dep.below(), dep] if it not in found]
         return found
 
+    def files(self):
+        """The files of its parts, by their paths in its folder."""
+        walked = [it for part in PARTS for it in os.walk(f"{self.folder}/{part}")]
+        return sorted(os.path.relpath(f"{at}/{it}", self.folder) for at, _, files in walked for it in files)
+
     def newest_source(self):
-        folders = [it for part in PARTS for it in os.walk(f"{self.folder}/{part}")]
-        return max((os.path.getmtime(f"{at}/{it}") for at, _, files in folders for it in files), default=0)
+        return max((os.path.getmtime(f"{self.folder}/{it}") for it in self.files()), default=0)
 
     def is_built(self):
         """Whether the library that a check left is newer than its sources and than the libraries below it."""
@@ -58,10 +64,10 @@ class Crate:
     def texts_of(self, part):
         """The texts of the files below a part of its folder, by their paths."""
         texts = {}
-        for at, _, files in os.walk(f"{self.folder}/{part}"):
-            for it in files:
-                with open(f"{at}/{it}", encoding="utf-8") as file:
-                    texts[os.path.relpath(f"{at}/{it}", self.folder)] = file.read()
+        for path in self.files():
+            if path.startswith(f"{part}/"):
+                with open(f"{self.folder}/{path}", encoding="utf-8") as file:
+                    texts[path] = file.read()
         return texts
 
 
@@ -88,10 +94,21 @@ class Runner:
             said.seek(0)
             return ran.returncode, said.read(), usage.ru_utime + usage.ru_stime, 1024 * usage.ru_maxrss
 
-    def end(self, *_):
+    @contextlib.contextmanager
+    def killed_on_error(self):
+        try:
+            yield
+        except BaseException:
+            self.kill()
+            raise
+
+    def kill(self):
         self.has_ended = True
         for it in [*self.running]:
             it.kill()
+
+    def end(self, *_):
+        self.kill()
         sys.exit(1)
 
 
@@ -133,6 +150,38 @@ def build_libraries(crates, room, run, jobs):
             print(said, end="")
             sys.exit(f"mutants: the library {crate.name} is not proved, so nothing can be tried")
         crate.rlib = rlib
+
+
+class Log:
+    """What `rt ci` has written so far, which tells what it has proved, or took from an earlier run on this machine."""
+
+    def __init__(self, path):
+        self.path, self.proved, self.copied = path, set(), set()
+
+    def has_proved(self, crates):
+        """Whether it has proved all of these crates. It never will once it has ended."""
+        if all(it.name in self.proved for it in crates):
+            return True
+        with contextlib.suppress(OSError), open(self.path, encoding="utf-8", errors="replace") as file:
+            said = file.read()
+            self.proved = {*re.findall(r"^rt: (\S+) (?:proved|is kept)", said, re.MULTILINE)}
+            lacking = [it.name for it in crates if it.name not in self.proved]
+            if lacking and re.search(r"^\d+ passed, \d+ failed\n\Z", said, re.MULTILINE):
+                sys.exit(f"mutants: rt ci has ended, and has not proved {lacking[0]}")
+        return all(it.name in self.proved for it in crates)
+
+    def take_libraries(self, crates, room):
+        """Copies the libraries of these crates, since rt ci puts others in their place at its end."""
+        for crate in crates:
+            if crate.name not in self.copied:
+                shutil.copytree(os.path.dirname(crate.rlib), f"{room}/rlib/{crate.name}")
+                crate.rlib = f"{room}/rlib/{crate.name}/{crate.name}.rlib"
+                self.copied.add(crate.name)
+
+
+def has_memory():
+    """Whether memory holds one more check now, and what those that run may still take."""
+    return all(1024 * it > 2 * MEMORY_OF_A_CHECK for it in numbers_in("/proc/meminfo", r"MemAvailable:\s+(\d+)"))
 
 
 def numbers_in(path, pattern):

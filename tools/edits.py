@@ -1,4 +1,7 @@
-"""Edits of source files, and the functions that they turn.
+"""Edits of source files, the files that hold them, and the functions that they turn.
+
+A file mutants.edits holds the mutants of a crate: a heading `## NAME` for each, and below it the lines of its edit. Each
+is a line `file:`, `old:`, `new:`, `goal:` or `at:` with a text, or a blank one.
 
 A source file is read by its layout, which `rt fmt` gives it: a function's body stands between a line that ends in `{`
 and a line that is `}`, both indented as the line of its `fn`, or is a line `{}` indented so.
@@ -8,10 +11,52 @@ import re
 
 FN = re.compile(r'( *)(?:pub(?:\([^)]*\))? |const |unsafe |extern "C" )*fn (\w+)')
 BLOCK = re.compile(r"( *)(?:pub(?:\([^)]*\))? |unsafe )*(impl|trait|mod)\b(.*)")
+HEADING = re.compile(r"## ([A-Za-z0-9_-]+)")
+EDIT_LINE = re.compile(r"(?:file|goal|at): \S+$|old: .|new:(?: |$)")
 
 
 class EditError(Exception):
-    """Why an edit cannot be applied."""
+    """Why an edit cannot be read or applied."""
+
+
+class Entry:
+    """A heading of a file mutants.edits, with its line, the text of the edit below it, and what is wrong with these."""
+
+    def __init__(self, line, heading, names):
+        self.line, self.lines, self.wrong = line, [], ""
+        found = HEADING.fullmatch(heading)
+        self.name = found[1] if found else heading.removeprefix("##").strip()
+        if not found:
+            self.wrong = "a heading is '## ' and a name of letters, digits, _ and -"
+        elif self.name in names:
+            self.wrong = f"line {names[self.name]} has the same heading"
+        names.setdefault(self.name, line)
+
+    def edit(self):
+        return "".join(f"{it}\n" for it in self.lines)
+
+    def add(self, number, line):
+        if not self.wrong and line.strip() and not EDIT_LINE.match(line):
+            self.wrong = f"line {number} is no line 'file:', 'old:', 'new:', 'goal:' or 'at:' with a text"
+        if line.strip():
+            self.lines.append(line)
+
+
+def entries_of(text):
+    """The mutants of a file mutants.edits, each an Entry. What stands before the first heading is one that is wrong."""
+    found, names = [], {}
+    for number, line in enumerate(text.split("\n"), 1):
+        if line.startswith("##"):
+            found.append(Entry(number, line, names))
+        elif found:
+            found[-1].add(number, line)
+        elif line.strip():
+            found.append(Entry(number, "", {}))
+            found[-1].wrong = "a text stands before the first heading '## NAME'"
+    if not found:
+        found.append(Entry(1, "", {}))
+        found[-1].wrong = "the file has no mutant"
+    return found
 
 
 class Function:
@@ -53,6 +98,8 @@ def edited_texts(edit, folder, before=None):
             if os.path.normpath(path) != path or not path.startswith(("src/", "specs/", "proofs/")):
                 raise EditError("a 'file:' line names no file below src/, specs/ or proofs/")
         elif line.startswith("old: "):
+            if old is not None:
+                raise EditError("an 'old:' line has no 'new:' line")
             old = line[len("old: ") :]
         elif line.startswith("new:"):
             new = re.sub(r"\A ", "", line[len("new:") :])
@@ -70,6 +117,8 @@ def edited_texts(edit, folder, before=None):
                 # what stands first in a body takes a line of its own
                 new = old + "\n" + new[len(old) :]
             texts[path], old, pairs = texts[path].replace(old, new), None, pairs + 1
+    if old is not None:
+        raise EditError("an 'old:' line has no 'new:' line")
     if not pairs:
         raise EditError("it has no 'old:' and 'new:' pair")
     return texts

@@ -1,11 +1,12 @@
 #!/usr/bin/env python3
 """Tries the mutants of the crates: edits of the code that the prover has to refuse.
 
-usage: tools/mutants.py [--jobs N] [CRATE..]
+usage: tools/mutants.py [--jobs N] [--kept FOLDER] [--after LOG] [CRATE..]
 
-A mutant is a file crates/NAME/mutants/*.edit, of the form of the edits of must-fail/: a line 'file: src/FILE.rt', and
-then pairs of lines 'old: TEXT' and 'new: TEXT'. Each old text stands once in that file; further pairs apply to what the
-earlier ones made. With no CRATE named, the mutants of all crates of crates.txt are tried.
+The mutants of a crate are in the file crates/NAME/mutants.edits: for each a heading '## NAME', a line
+'file: src/FILE.rt', and then pairs of lines 'old: TEXT' and 'new: TEXT'. Each old text stands once in that file; further
+pairs apply to what the earlier ones made. Lines 'goal:' and 'at:' may stand among them, as is said below. With no CRATE
+named, the mutants of all crates of crates.txt are tried.
 
 Mutants are tried together in one check of a copy of the crate, which looks at the functions that they turn, and at
 what these call. Each has to be refused in its place: by a note at a line of its function, by an error in that function's
@@ -17,10 +18,16 @@ goals are tried together too, and each has to be refused by a goal of its own.
 A mutant that turns something else than bodies of functions names by lines 'at: PATH' the functions that are to be
 refused. Such mutants are tried together as above, apart from the others. One that names no function, and one that was
 not refused in its place, is tried alone, and then any refusal is its own. A mutant that does not apply, or does not reach
-the prover, is a failure.
+the prover, is a failure, and so is one that cannot be read.
+
+A verdict 'refused' is kept in the folder out/mutants, or FOLDER, and holds until something changes on which it depends
+(tools/verdicts.py). If all are kept, nothing is built or checked. With that
+folder removed, all are tried.
 
 The crates as they stand have to be proved, as by `rt ci` or `rt all check`: this is not tried again. Libraries that are
-newer than their sources, and kept work, are taken from crates/NAME/out/, and nothing is written to the repository.
+newer than their sources, and kept work, are taken from crates/NAME/out/. With --after, a crate's mutants wait until LOG,
+which rt ci writes meanwhile, says that the crates below it are proved, whose libraries are then taken.
+Nothing but verdicts is written to the repository.
 Checks go side by side, at most N at once (if left out, one a processor, and as many as memory holds).
 The last line is 'N passed, M failed', and the status 0 only if all mutants are refused.
 """
@@ -39,10 +46,10 @@ from concurrent.futures import FIRST_COMPLETED, ThreadPoolExecutor, wait
 
 sys.dont_write_bytecode = True
 sys.path.insert(0, os.path.dirname(os.path.realpath(__file__)))
-from crates import PARTS, Runner, build_libraries, crates_of, kit_folder, lanes  # noqa: E402
-from edits import EditError, edited_texts, functions_of, module_of, skeleton  # noqa: E402
+from crates import PARTS, Log, Runner, build_libraries, crates_of, has_memory, kit_folder, lanes  # noqa: E402
+from edits import EditError, edited_texts, entries_of, functions_of, module_of, skeleton  # noqa: E402
+from verdicts import Verdicts, judges  # noqa: E402
 
-EDIT_NAME = re.compile(r"[A-Za-z0-9_-][A-Za-z0-9_.-]*\.edit")
 OWN_NOTE = re.compile(r"note: (?:\./)?(src/[^:]+):(\d+):\d+: (it is not proved that .*)")
 ONLY_A_CALLEE = re.compile(r"\b(it calls|it passes|a call of)\b")
 OWN_GOALS = re.compile(r"fn \w+::(\S+): no proof: .*`search` did not prove `")
@@ -51,7 +58,10 @@ PROOF_ERROR = re.compile(r"(?:\./)?proofs/(\S+)/[^/]+\.antt:\d+:\d+: error: (.*)
 # A proof that names what an edit took away says little of the contract.
 LOST_NAME = re.compile(r"has no field|is not in scope|has no `|was not admitted")
 TEXT_ERROR = re.compile(r"(?:\./)?((?:src|specs|proofs)/[^:]+):\d+:\d+: error: (?:(`[^`]*`): )?(.*)")
-UNREADABLE = re.compile(r"is not in scope|has no field|is no name|operand is missing|expected the end|cannot continue")
+UNREADABLE = re.compile(
+    r"is not in scope|has no field|is no name|operand is missing|expected the end|cannot continue"
+    r"|its whole path can stand in a term only"
+)
 STALE = re.compile(r"module .Rattle-(\w+)-.*Run the lower steps again")
 
 
@@ -60,10 +70,8 @@ class Mutant:
     else. Its seats are the functions that are to be refused: those, or else the ones that it names, if it names no
     other place."""
 
-    def __init__(self, crate, path):
-        self.crate, self.name = crate, f"{crate.name}/{os.path.basename(path)}"
-        with open(path, encoding="utf-8") as file:
-            self.edit = file.read()
+    def __init__(self, crate, name, edit):
+        self.crate, self.name, self.edit = crate, f"{crate.name}/{name}", edit
         self.texts = edited_texts(self.edit, crate.folder)
         self.places = re.findall(r"^at: (\S+)$", self.edit, re.MULTILINE)
         self.goals = re.findall(r"^goal: (\S+)$", self.edit, re.MULTILINE)
@@ -118,7 +126,7 @@ class Mutant:
         return bool(self.bodies)
 
     def lines(self):
-        """How many lines the functions have that are to be refused: the longer they are, the longer a check takes."""
+        """How many lines the functions have that are to be refused."""
         return sum(len(self.crate.functions[it][1].lines) for it in self.seats)
 
 
@@ -139,57 +147,79 @@ def read_in(crate):
     crate.functions = {path: (file, it) for file, found in functions.items() for path, it in found.items()}
 
 
-class Batch:
-    """Mutants that one check tells apart. Those of one function stand inside it, if they name different goals, or beside
-    it under names of their own."""
+class Joined:
+    """Mutants that are made in one text, in functions or goals of their own."""
 
     def __init__(self):
-        self.inside, self.beside, self.texts = [], [], {}
+        self.mutants, self.texts = [], {}
+
+    def takes(self, mutant):
+        """Takes the mutant in, if it is told from the others."""
+        if all(mutant.is_told_from(it) for it in self.mutants):
+            with contextlib.suppress(EditError):
+                self.texts = edited_texts(mutant.edit, mutant.crate.folder, self.texts)
+                self.mutants.append(mutant)
+                return True
+        return False
+
+    def turned(self, path):
+        """The lines of a function, as these mutants turn it."""
+        file = self.mutants[0].crate.functions[path][0]
+        return functions_in(file, self.texts[file])[path].lines
+
+
+class Batch:
+    """Mutants that one check tells apart. Those of one function stand inside it, if they name different goals, or beside
+    it under names of their own, where again those stand in one that name different goals."""
+
+    def __init__(self):
+        self.inside, self.beside = Joined(), []
 
     def takes(self, mutant):
         """Takes the mutant in, if it goes with the others."""
-        if self.inside and bool(self.inside[0].bodies) != bool(mutant.bodies):
+        if self.inside.mutants and bool(self.inside.mutants[0].bodies) != bool(mutant.bodies):
             return False
-        if all(mutant.is_told_from(it) for it in self.inside):
-            with contextlib.suppress(EditError):
-                self.texts = edited_texts(mutant.edit, mutant.crate.folder, self.texts)
-                self.inside.append(mutant)
-                return True
-        if mutant.stands_beside():
-            self.beside.append(mutant)
+        if self.inside.takes(mutant):
             return True
-        return False
+        if not mutant.stands_beside():
+            return False
+        if not any(it.mutants[0].seats == mutant.seats and it.takes(mutant) for it in self.beside):
+            self.beside.append(Joined())
+            self.beside[-1].takes(mutant)
+        return True
 
     def mutants(self):
-        return [*self.inside, *self.beside]
+        return [it for joined in (self.inside, *self.beside) for it in joined.mutants]
 
     def seats(self):
         """The paths of the functions that are to be refused, by mutant."""
-        seats = {it: it.seats for it in self.inside}
-        for number, it in enumerate(self.beside):
-            seats[it] = [f"{path}_turned_{number}" for path in it.seats]
+        seats = {it: it.seats for it in self.inside.mutants}
+        for number, joined in enumerate(self.beside):
+            seats |= {it: [f"{path}_turned_{number}" for path in it.seats] for it in joined.mutants}
         return seats
 
     def lines(self):
-        return sum(it.lines() for it in self.mutants())
+        """How many lines the functions have that are to be refused: the longer they are, the longer a check takes."""
+        functions = next(iter(self.mutants())).crate.functions
+        paths = [{path for it in joined.mutants for path in it.seats} for joined in (self.inside, *self.beside)]
+        return sum(len(functions[it][1].lines) for found in paths for it in found)
 
     def whole(self):
         """The texts of the files that the mutants change or add."""
-        texts = dict(self.texts)
-        for mutant, seats in self.seats().items():
-            for path, seat in zip(mutant.seats, seats):
-                if path != seat:
-                    self.put_beside(texts, mutant, path, seat)
+        texts = dict(self.inside.texts)
+        for number, joined in enumerate(self.beside):
+            for path in joined.mutants[0].seats:
+                self.put_beside(texts, joined, path, f"{path}_turned_{number}")
         return texts
 
     @staticmethod
-    def put_beside(texts, mutant, path, seat):
+    def put_beside(texts, joined, path, seat):
         """Puts a turned function behind the one that it turns, and what is written of its proof."""
-        crate = mutant.crate
+        crate = joined.mutants[0].crate
         file, right = crate.functions[path]
         text = texts.get(file, crate.texts[file])
         lines, end = text.split("\n"), functions_in(file, text)[path].end
-        lines[end + 1 : end + 1] = ["", *right.renamed(seat.split("::")[-1], mutant.bodies[path])]
+        lines[end + 1 : end + 1] = ["", *right.renamed(seat.split("::")[-1], joined.turned(path))]
         texts[file] = "\n".join(lines)
         was, now = (it.replace("::", ".") for it in (path, seat))
         named = re.compile(rf"\bRattle\.{crate.name}\.(proofs|specs\.contracts)\.{re.escape(was)}\.")
@@ -215,7 +245,7 @@ class Answer:
     def __init__(self, status, said, files):
         self.status, self.lines = status, said.rstrip("\n").split("\n")
         last = self.lines[-1]
-        unread = next((it for it in self.lines if self.is_unread(it, files)), "")
+        unread = next((it for it in self.messages() if self.is_unread(it, files)), "")
         stale = STALE.search(said)
         self.is_proved = status == 0 and last.startswith(("logic=proved ", "only="))
         self.is_refused = status == 1 and last.startswith(("logic=not-proved", "only=")) and not unread and not stale
@@ -226,9 +256,14 @@ class Answer:
         if stale:
             self.why = f"the kept work of {stale[1]} cannot be used: remove crates/*/out, and run this again"
 
+    def messages(self):
+        """The lines, each with the one below it if that goes on with it."""
+        for line, after in zip(self.lines, [*self.lines[1:], ""]):
+            yield f"{line} {after.strip()}" if after.startswith("  ") else line
+
     @staticmethod
-    def is_unread(line, files):
-        found = TEXT_ERROR.match(line)
+    def is_unread(message, files):
+        found = TEXT_ERROR.match(message)
         if not found or found[1] not in files and not found[1].startswith(("src/", "specs/")):
             return False
         return not found[2] or bool(UNREADABLE.search(re.sub(r"`[^`]*`", "", found[3])))
@@ -238,13 +273,13 @@ class Answer:
         for seat in seats:
             file, turned = functions[seat]
             folder = seat.replace("::", "/")
-            for line in self.lines:
+            for line, message in zip(self.lines, self.messages()):
                 note, error, goals = (it.match(line) for it in (OWN_NOTE, PROOF_ERROR, OWN_GOALS))
                 if not mutant.is_named(line):
                     continue
                 if note and note[1] == file and turned.has_line(int(note[2])) and not ONLY_A_CALLEE.search(note[3]):
                     return line[len("note: ") :]
-                if error and error[1] == folder and not LOST_NAME.search(error[2]) or goals and goals[1] == seat:
+                if error and error[1] == folder and not LOST_NAME.search(message) or goals and goals[1] == seat:
                     return line
         return None
 
@@ -255,7 +290,7 @@ class Answer:
 
     def first_error(self):
         """What refuses an edit that is tried alone."""
-        told = [it for it in self.lines if OWN_NOTE.match(it) or re.match(r"\S+:\d+:\d+: error", it)]
+        told = [it for it in self.messages() if OWN_NOTE.match(it) or re.match(r"\S+:\d+:\d+: error", it)]
         first = next((it for it in told if not (PROOF_ERROR.match(it) and LOST_NAME.search(it))), None)
         if told and not first:
             return f"only by a proof that names what the edit took away, which says little of the contract: {told[0]}"
@@ -268,13 +303,42 @@ class Answer:
 class Trial:
     """Tries the mutants of one crate in a folder of its own."""
 
-    def __init__(self, crate, room, run, say):
-        self.crate, self.room, self.run, self.say = crate, room, run, say
+    def __init__(self, crate, room, run, say, verdicts, takes_work=True):
+        self.crate, self.room, self.run, self.say, self.verdicts = crate, room, run, say, verdicts
         self.passed = self.failed = self.together = self.alone = self.open = 0
         self.work, self.peak, self.started = 0.0, 0, time.time()
         self.spare, self.lock = [], threading.Lock()
-        self.first, self.has_first = f"{crate.folder}/out/incremental", False
-        read_in(crate)
+        self.first, self.has_first = f"{crate.folder}/out/incremental" if takes_work else "", False
+        self.known, self.mutants = 0, []
+        self.read_mutants()
+
+    def read_mutants(self):
+        """Reads the mutants, and takes the verdicts that are kept. Those that are left are to be tried."""
+        if os.path.lexists(f"{self.crate.folder}/mutants"):
+            self.judge(f"{self.crate.name}/mutants", False, "BAD EDIT: it is no folder: mutants are in mutants.edits")
+        try:
+            with open(f"{self.crate.folder}/mutants.edits", encoding="utf-8") as file:
+                entries = entries_of(file.read())
+        except FileNotFoundError:
+            return
+        except (OSError, UnicodeDecodeError) as error:
+            return self.judge(f"{self.crate.name}/mutants.edits", False, f"BAD EDIT: {error}")
+        read_in(self.crate)
+        for it in entries:
+            self.take_in(it)
+
+    def take_in(self, entry):
+        name, edit = f"{self.crate.name}/{entry.name}", entry.edit()
+        kept = not entry.wrong and self.verdicts.of_edit(edit)
+        if kept:
+            self.known += 1
+            return self.judge(name, True, f"kept: {kept}")
+        try:
+            if entry.wrong:
+                raise EditError(entry.wrong)
+            self.mutants.append(Mutant(self.crate, entry.name, edit))
+        except (EditError, OSError, UnicodeDecodeError) as error:
+            self.judge(name, False, f"BAD EDIT: mutants.edits:{entry.line}: {error}")
 
     @contextlib.contextmanager
     def kept(self):
@@ -329,20 +393,13 @@ class Trial:
         return max((it for it in modules if it and path.startswith(f"{it}::")), key=len, default="")
 
     def tasks(self):
-        """Its first tasks. A task is a number of lines and a call, which answers further tasks. None waits for another."""
-        mutants = []
-        folder = f"{self.crate.folder}/mutants"
-        for name in sorted(os.listdir(folder)):
-            if name.endswith(".md"):
-                continue
-            try:
-                if not EDIT_NAME.fullmatch(name) or not os.path.isfile(f"{folder}/{name}"):
-                    raise EditError("its name is not of letters, digits, _, - and ., with .edit at its end")
-                mutants.append(Mutant(self.crate, f"{folder}/{name}"))
-            except (EditError, OSError, UnicodeDecodeError) as error:
-                self.judge(f"{self.crate.name}/{name}", False, f"BAD EDIT: {error}")
-        self.count = len(mutants)
-        return self.further([it for it in mutants if it.seats], [it for it in mutants if not it.seats])
+        """Its first tasks. A task is a number of lines and a call, which answers further tasks. One check of several goes
+        before the others, which begin with what it kept."""
+        self.started = time.time()
+        tasks = self.further([it for it in self.mutants if it.seats], [it for it in self.mutants if not it.seats])
+        if os.path.isdir(self.first) or len(tasks) < 2:
+            return tasks
+        return [(tasks[0][0], lambda: [*tasks[0][1](), *tasks[1:]])]
 
     def further(self, together, alone):
         """The tasks of mutants that are tried together, and of those that are tried alone, the longest first."""
@@ -365,9 +422,10 @@ class Trial:
         return tasks
 
     def tell(self):
-        checks = f"{self.together} checks of several, {self.alone} of one"
         minutes = f"{self.work / 60:.1f} processor minutes, {(time.time() - self.started) / 60:.1f} of the clock"
-        self.say(f"== {self.crate.name}: {self.count} mutants, {checks}; {minutes}, {self.peak / 1e9:.1f} GB")
+        checks = f" in {self.together} checks of several, {self.alone} of one; {minutes}, {self.peak / 1e9:.1f} GB"
+        kept = f"{self.known} verdicts kept, {len(self.mutants)} mutants tried"
+        self.say(f"== {self.crate.name}: {kept}{checks if self.mutants else ''}")
 
     def judge(self, name, is_refused, text):
         with self.lock:
@@ -390,17 +448,18 @@ class Trial:
                 broken = mutants[: len(mutants) // 2]
             self.say(f"   {self.crate.name}: {len(mutants)} mutants are tried in two parts: {answer.why}")
             return [*self.further(broken, []), *self.further([it for it in mutants if it not in broken], [])]
-        left = []
-        for mutant in mutants:
-            refused = answer.in_place(mutant, seats[mutant], functions)
-            if refused:
-                self.judge(mutant.name, True, f"refused: {refused[:160]}")
-            else:
-                left.append(mutant)
-        return self.further([], left)
+        refused = {it: answer.in_place(it, seats[it], functions) for it in mutants}
+        for mutant, line in refused.items():
+            if line:
+                self.judge(mutant.name, True, f"refused: {line[:160]}")
+        self.verdicts.keep({it.edit: f"refused: {line[:160]}" for it, line in refused.items() if line})
+        return self.further([], [it for it, line in refused.items() if not line])
 
     def try_alone(self, mutant):
-        self.judge(mutant.name, *self.alone_answer(mutant))
+        is_refused, text = self.alone_answer(mutant)
+        self.judge(mutant.name, is_refused, text)
+        if is_refused:
+            self.verdicts.keep({mutant.edit: text})
         return []
 
     def alone_answer(self, mutant):
@@ -417,13 +476,54 @@ class Trial:
         return False, "NOT REFUSED: the crate is still proved with this edit"
 
 
-def try_mutants(root, names, jobs, kit):
+def chosen_of(root, names, kit):
+    """The crates of these names, or all, that have mutants."""
     crates = crates_of(root, kit)
     unknown = [it for it in names if it not in crates]
     if unknown:
         sys.exit(f"mutants: crates.txt names no crate {unknown[0]}")
-    chosen = [it for it in crates.values() if (not names or it.name in names) and os.path.isdir(f"{it.folder}/mutants")]
-    size = lambda crate: sum(len(it) for it in crate.texts_of("src").values())
+    chosen = [it for it in crates.values() if not names or it.name in names]
+    return [it for it in chosen if any(os.path.lexists(f"{it.folder}/{of}") for of in ("mutants", "mutants.edits"))]
+
+
+def run_tasks(trials, run, jobs, is_ready):
+    """Runs the tasks of the trials, as many at once as jobs says and memory holds: the longest first, so that none is
+    alone at the end. Those of a trial wait until it is ready."""
+    waiting, tasks, running = [*trials], [], set()
+    with ThreadPoolExecutor(jobs) as pool, run.killed_on_error():
+        while waiting or tasks or running:
+            for trial in [it for it in waiting if is_ready(it.crate)]:
+                waiting.remove(trial)
+                tasks += trial.tasks()
+            tasks.sort(key=lambda it: it[0])
+            while tasks and len(running) < jobs and (not running or has_memory()):
+                running.add(pool.submit(tasks.pop()[1]))
+            if not running:
+                time.sleep(1)
+                continue
+            done, running = wait(running, timeout=2, return_when=FIRST_COMPLETED)
+            tasks += [task for it in done for task in it.result()]
+
+
+def try_those_left(trials, room, run, jobs, after):
+    """Tries the mutants whose verdict is not kept."""
+    trials = [it for it in trials if it.mutants]
+    log = Log(after) if after else None
+
+    def is_ready(crate):
+        if not log:
+            return True
+        is_proved = log.has_proved(crate.below())
+        if is_proved:
+            log.take_libraries(crate.below(), room)
+        return is_proved
+
+    if trials and not log:
+        build_libraries([it.crate for it in trials], room, run, jobs)
+    run_tasks(trials, run, jobs, is_ready)
+
+
+def try_mutants(root, names, jobs, kit, kept="", after=""):
     run, lock = Runner(kit), threading.Lock()
 
     def say(text):
@@ -432,21 +532,20 @@ def try_mutants(root, names, jobs, kit):
 
     for it in (signal.SIGTERM, signal.SIGINT):
         signal.signal(it, run.end)
+    judged_by = judges()
     with tempfile.TemporaryDirectory(prefix="mutants-") as room:
-        build_libraries(chosen, room, run, lanes(jobs))
         trials = []
-        for crate in sorted(chosen, key=size, reverse=True):
+        for crate in chosen_of(root, names, kit):
             os.mkdir(f"{room}/{crate.name}")
-            trials.append(Trial(crate, f"{room}/{crate.name}", run, say))
-        # one of each crate, over whose kept work the others go, and then the longest, so that none is alone at the end
-        tasks = [(not place, *it) for trial in trials for place, it in enumerate(trial.tasks())]
-        tasks.sort(key=lambda it: it[:2], reverse=True)
-        with ThreadPoolExecutor(lanes(jobs)) as pool:
-            running = {pool.submit(task) for _, _, task in tasks}
-            while running:
-                done, running = wait(running, return_when=FIRST_COMPLETED)
-                running |= {pool.submit(task) for it in done for _, task in it.result()}
+            verdicts = Verdicts(kept or f"{root}/out/mutants", crate, judged_by)
+            # (rt ci sets kept work aside meanwhile)
+            trials.append(Trial(crate, f"{room}/{crate.name}", run, say, verdicts, not after))
+            if not trials[-1].mutants:
+                trials[-1].tell()
+        try_those_left(trials, room, run, lanes(jobs), after)
     passed, failed = sum(it.passed for it in trials), sum(it.failed for it in trials)
+    known, tried = sum(it.known for it in trials), sum(len(it.mutants) for it in trials)
+    print(f"mutants: {known} verdicts kept by earlier runs, {tried} mutants tried")
     print(f"{passed} passed, {failed} failed", flush=True)
     return 1 if failed else 0
 
@@ -454,10 +553,12 @@ def try_mutants(root, names, jobs, kit):
 def main():
     reader = argparse.ArgumentParser(description=__doc__, formatter_class=argparse.RawDescriptionHelpFormatter)
     reader.add_argument("--jobs", type=int, default=0, help="how many checks run at once")
+    reader.add_argument("--kept", metavar="FOLDER", default="", help="where verdicts are kept, in place of out/mutants")
+    reader.add_argument("--after", metavar="LOG", default="", help="what rt ci writes, which proves the crates meanwhile")
     reader.add_argument("crates", nargs="*")
     given = reader.parse_args()
     root = os.path.dirname(os.path.dirname(os.path.realpath(__file__)))
-    return try_mutants(root, given.crates, given.jobs, kit_folder())
+    return try_mutants(root, given.crates, given.jobs, kit_folder(), given.kept, given.after)
 
 
 if __name__ == "__main__":

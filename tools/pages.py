@@ -26,6 +26,9 @@ are named. --root names another copy of the repository. Each page is checked by 
 - budget: the page has no more words than BUDGETS allows. Code blocks and comments do not count.
 - words: the page has none of WORDS outside of code, except those that it defines, which it has in italics somewhere.
 
+Unless pages are named, the lists of attribute sets in C, in other languages and on pages are compared with the list in
+family.rt, as tools/families.py says. This counts as one more check.
+
 The names of counts are:
 
 - `tests` and `tests of CRATE`: the functions with `#[test]`;
@@ -46,6 +49,11 @@ import posixpath
 import re
 import sys
 import urllib.parse
+
+sys.dont_write_bytecode = True
+sys.path.insert(0, os.path.dirname(os.path.realpath(__file__)))
+from families import LIST, disagreements  # noqa: E402
+from families import families as list_of_families  # noqa: E402
 
 ROOT = os.path.dirname(os.path.dirname(os.path.realpath(__file__)))
 PAGES = re.compile(r"(README|CONTRIBUTING|CHANGELOG)\.md|docs/[^/]+\.md|bench/README\.md|crates/[^/]+/README\.md")
@@ -371,7 +379,7 @@ class Tree:
 
     def lists(self, text):
         """The lines of the input of nlshow, by their first word: the name of a family, if the line is a list."""
-        families = {*re.findall(r'"(\w+)"', self.sources.get("crates/netlink_packet_route/src/family.rt", ""))}
+        families = [it["name"] for it in list_of_families(self.sources.get(LIST, ""))]
         kinds = {"check": "check lines", "message": "message lines", **dict.fromkeys(families, "lists")}
         counts = {f"{it} of nlshow": 0 for it in ("lists", "check lines", "message lines", "other lines")}
         for line in text.split("\n"):
@@ -637,6 +645,11 @@ def check(root, named):
         for line, message in sorted(it for rule in wrong for it in rule):
             print(f"{path}:{line}: {message}")
         passed, failed = passed + wrong.count([]), failed + len(wrong) - wrong.count([])
+    if not named:
+        wrong = [*disagreements(lambda path: tree.text(path) if path in tree.files else None)]
+        for path, line, message in wrong:
+            print(f"{path}:{line}: {message}")
+        passed, failed = passed + (not wrong), failed + bool(wrong)
     print(f"{passed} passed, {failed} failed")
     return 1 if failed or not found else 0
 

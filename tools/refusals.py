@@ -13,7 +13,7 @@ failed.
 `nlroute` runs in the same way for each `report`, from its start, and for the lines that it prints without a report.
 
 In every run the caller's bytes and values are unchanged. So are buffers, except where a call wrote to them: at the
-front, as much as it returns, or if `rewrite_into` fails, at most the length of the list, rounded up to a multiple of
+front, as much as it returns, or if `rewrite_streaming` fails, at most the length of the list, rounded up to a multiple of
 four. As many blocks are freed as were allocated.
 
 The programs are those that `rt ci` has built, or `rt run` in their folders. It takes `cc`. The last line is
@@ -35,7 +35,7 @@ MOST = 300
 ERROR, ALLOC_ERROR = "Err(Memory(AllocError))", "Err(AllocError)"
 WANTING = {
     **dict.fromkeys(["read_list", "write_list", "parse", "count_values"], ERROR),
-    **dict.fromkeys(["rewrite", "rewrite_into", "rewrite_to", "rewrite_to_short"], ERROR),
+    **dict.fromkeys(["rewrite", "rewrite_streaming", "rewrite_to_slice", "rewrite_to_slice_short"], ERROR),
     **dict.fromkeys(["VecAfSpecBridge::parse", "VecLinkProtoInfoBridge::parse"], ERROR),
     **dict.fromkeys(["report", "try_clone", "FrameTable::walk"], ALLOC_ERROR),
     **dict.fromkeys(["expand_buffer_if_small", "CanBitTimingConst::new"], ALLOC_ERROR),

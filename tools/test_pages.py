@@ -12,7 +12,11 @@ import unittest
 
 sys.dont_write_bytecode = True
 sys.path.insert(0, os.path.dirname(os.path.realpath(__file__)))
+import families  # noqa: E402
 import pages  # noqa: E402
+
+# (README.md of the small tree below has no list of attribute sets)
+families.LISTS = [it for it in families.LISTS if it[0] != "README.md"]
 
 SOURCE = """\
 pub struct Pair(u8, u8);
@@ -96,6 +100,14 @@ CALLING = """\
 [Back](../README.md), [down](../crates/pairs).
 """
 
+# The list of attribute sets, and lists that agree with it.
+FAMILIES = """\
+            Dsa   "dsa"   InfoDsa  0  InfoKind (b"dsa")
+            Vlan  "vlan"  InfoVlan 1  BridgeAttribute (IFLA_VLAN)
+"""
+HEADER = "enum {\n    NLROUTE_DSA = 0,\n    NLROUTE_VLAN = 1 /* last */\n};\n"
+NAMES = 'names[2] = {"dsa", "vlan"};\nwhile (family < 2) continue;\n'
+
 TREE = {
     "README.md": PAGE,
     "CHANGELOG.md": "# Changes\n\n12 tests, 13 mutants.\n" + 2000 * "word ",
@@ -108,7 +120,9 @@ TREE = {
     "crates/pairs/mutants.edits": "# Mutants\n\n## gives_two\nfile: src/lib.rt\n\n## means_two\nfile: specs/Lib.antt\n",
     "crates/pairs/must-fail/gives_three.edit": "file: src/lib.rt\nold: one + 1\nnew: 3\n",
     "crates/refusals/stdin": "# Calls\n\n" + 1001 * "12 read_list dsa 00\n" + "0 read_list dsa\n",
-    "crates/netlink_packet_route/src/family.rt": '    "dsa" => Family::Dsa,\n    "vlan" => Family::Vlan,\n',
+    "crates/netlink_packet_route/src/family.rt": FAMILIES,
+    "crates/nlroute_ffi/include/nlroute.h": HEADER,
+    "tools/c_refusals.c": NAMES,
     "crates/nlshow/stdin": "# Lists\ndsa 00\n\nvlan\t00\ncheck dsa 00\nmessage 00\ntap 00\nmessages\n",
     "crates/pairs/out/made.md": "",
 }
@@ -293,6 +307,28 @@ class Pages(unittest.TestCase):
     def test_a_page_has_a_budget(self):
         wanted = "docs/NEW.md:1: the page has no budget in tools/pages.py"
         self.assertEqual([wanted], self.said(TREE | {"docs/NEW.md": "# New\n"}))
+
+    def test_lists_of_attribute_sets_agree(self):
+        header, refused = "crates/nlroute_ffi/include/nlroute.h", "tools/c_refusals.c"
+        vlan = f"{header}:1: the list does not have vlan as families! has it"
+        self.finds(vlan, "NLROUTE_VLAN = 1", "NLROUTE_VLAN = 2", header)
+        self.finds(vlan, "NLROUTE_VLAN = 1", "NLROUTE_VLANS = 1", header)
+        self.finds(f"{refused}:1: the list does not have vlan as families! has it", '"vlan"', '"van"', refused)
+        self.finds(f"{refused}:1: vlan is not in the order of families!", '"dsa", "vlan"', '"vlan", "dsa"', refused)
+        self.finds(f"{refused}:2: 3 is not the number of attribute sets, which is 2", "family < 2", "family < 3", refused)
+        found = self.said(TREE | {"crates/netlink_packet_route/src/family.rt": FAMILIES.replace("1  Bridge", "2  Bridge")})
+        gap = "crates/netlink_packet_route/src/family.rt:1: the numbers of attribute sets do not go from 0 in order"
+        self.assertEqual([gap, vlan], found)
+        page = {"docs/PROGRAMS.md": "| `dsa` | `IFLA_INFO_DATA` |\n| `vlan` | `IFLA_VLAN` |\n"}
+        self.assertEqual([], self.said(TREE | page))
+        page["docs/PROGRAMS.md"] = page["docs/PROGRAMS.md"].replace("IFLA_VLAN", "IFLA_VLANS")
+        wanted = "docs/PROGRAMS.md:1: the list does not have vlan as families! has it"
+        self.assertIn(wanted, self.said(TREE | page))
+
+    def test_there_is_a_list_of_attribute_sets(self):
+        wanted = "crates/netlink_packet_route/src/family.rt:1: there is no list of attribute sets"
+        found = self.said(TREE | {"crates/netlink_packet_route/src/family.rt": ""})
+        self.assertIn(wanted, found)
 
     def test_a_word_does_not_come_back(self):
         for word, write in (

@@ -72,7 +72,7 @@ static void no_room(uint32_t family, const uint8_t *bytes, size_t len, size_t wr
 
 /* The count and the first fault, beside what was answered of a rewriting. */
 static void counts_and_faults(uint32_t family, const uint8_t *bytes, size_t len, ptrdiff_t answer) {
-    ptrdiff_t count = nlroute_read(family, bytes, len);
+    ptrdiff_t count = nlroute_count(family, bytes, len);
     must(answer == NLROUTE_HAS_FAULT ? count == answer : count >= 0, "a count exactly if there is no fault");
     must(count <= (ptrdiff_t)(padded(len) / 4), "four bytes for each value");
     uint64_t fault[NLROUTE_FAULT_NUMBERS] = {0};
@@ -84,14 +84,14 @@ static void counts_and_faults(uint32_t family, const uint8_t *bytes, size_t len,
     must(fault[NLROUTE_KIND] < 1 << 14 && fault[NLROUTE_INNER] < 1 << 14, "kinds without flags");
     must(fault[NLROUTE_CAUSE] - 1 < NLROUTE_ADDRESS_LENGTH, "a cause");
     nlroute_fault(family, bytes, (size_t)fault[NLROUTE_AT], fault, 0);
-    must(nlroute_read(family, bytes, (size_t)fault[NLROUTE_AT]) >= 0, "no fault before the first");
+    must(nlroute_count(family, bytes, (size_t)fault[NLROUTE_AT]) >= 0, "no fault before the first");
 }
 
 /* The second rewriting, which all later ones keep. */
 static void settles(uint32_t family, size_t len, size_t first_len, const uint8_t *bytes) {
-    ptrdiff_t count = nlroute_read(family, bytes, len);
+    ptrdiff_t count = nlroute_count(family, bytes, len);
     memcpy(odd_start, once, first_len);
-    must(nlroute_read(family, odd_start, first_len) == count, "a rewriting has as many values");
+    must(nlroute_count(family, odd_start, first_len) == count, "a rewriting has as many values");
     ptrdiff_t second = rewritten(nlroute_rewrite, family, odd_start, first_len, twice);
     must(second == (ptrdiff_t)first_len, "a second rewriting is as long as the first");
     ptrdiff_t third = rewritten(nlroute_rewrite, family, twice, first_len, once);
@@ -124,7 +124,7 @@ int LLVMFuzzerTestOneInput(const uint8_t *data, size_t size) {
     size_t written = answer < 0 ? 0 : (size_t)answer;
     must(rewritten(nlroute_rewrite, family, odd, len, twice) == answer, "the same answer at another address");
     must(!memcmp(once, twice, written), "the same bytes at another address");
-    must(rewritten(nlroute_rewrite_into, family, bytes, len, twice) == answer, "the same answer value by value");
+    must(rewritten(nlroute_rewrite_streaming, family, bytes, len, twice) == answer, "the same answer value by value");
     must(!memcmp(once, twice, written), "the same bytes value by value");
     bool same = answer == (ptrdiff_t)len && !memcmp(once, bytes, len);
     must(nlroute_is_canonical(family, bytes, len) == same, "canonical exactly if rewriting changes nothing");

@@ -11,11 +11,11 @@ use Rattle.link_base.specs.declared.fault.DecodeFault.TheVariants as faults
 use Rattle.link_base.specs.Frame.{BeginsWith, bare, frame_bytes, frame_fault, spelled, pad}
 use Rattle.link_base.specs.Wire.{whole}
 use Rattle.link_base.specs.Table.{Case, Listed, Addresses, PayloadGives, ShapeGives, of_length, addresses_from}
-use Rattle.link_base.specs.Addresses.{sized}
+use Rattle.link_base.specs.AddressOctets.{sized}
 use Rattle.link_base.proofs.Addresses.{length-whole}
-use Rattle.link_base.proofs.Begins.{Splits, splits, step_of}
+use Rattle.link_base.proofs.FrameAtFront.{Splits, splits, step_of}
 use Rattle.link_base.proofs.Emit.{one_more}
-use Rattle.link_base.proofs.Relays.{Underway, underway_none, underway_more, underway_all, ends_at_rest}
+use Rattle.link_base.proofs.Streaming.{Underway, underway_none, underway_more, underway_all, ends_at_rest}
 
 -- ---- octets
 

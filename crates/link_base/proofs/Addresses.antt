@@ -10,7 +10,7 @@ use Rattle.link_base.specs.Wire.{whole}
 use Rattle.link_base.specs.Table.{PayloadGives, of_length, addresses_from}
 use Rattle.link_base.specs.Held.{IsOctets}
 use Rattle.link_base.specs.Lawful.{IsReading}
-use Rattle.link_base.proofs.Fronts.{length-frame_bytes, length-complete, bytes-append}
+use Rattle.link_base.proofs.FrameBytes.{length-frame_bytes, length-complete, bytes-append}
 use Rattle.link_base.proofs.Readings.{ReadEach, same_ok}
 use Rattle.link_base.proofs.Written.{IsComplete-whole, bytes-whole, IsKnown}
 

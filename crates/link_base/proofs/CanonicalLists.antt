@@ -7,7 +7,7 @@ use Rattle.std.proofs.Math.Seq.{drop-append_seam, take-append_seam}
 use Rattle.link_base.specs.Frame.{Frame, BeginsWith, bare, IsComplete, frame_bytes, spelled, gap, frame_fault}
 use Rattle.link_base.specs.Wire.{whole, SplitsWhole, IsCanonicalFrame, CanonicalBy, FirstOtherBy}
 use Rattle.link_base.specs.Table.{AreAddresses, addresses_from}
-use Rattle.link_base.proofs.Fronts.{frame_fault-frame, length-frame_bytes}
+use Rattle.link_base.proofs.FrameBytes.{frame_fault-frame, length-frame_bytes}
 use Rattle.link_base.proofs.Cuts.{SameFront, SameFront-frames, IsFrame-complete}
 use Rattle.link_base.proofs.Walking.{spelled-push, some_bytes}
 use Rattle.link_base.proofs.Written.{all_append}

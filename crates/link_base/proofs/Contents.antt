@@ -12,7 +12,7 @@ use Rattle.link_base.specs.Table.{Case, Rows, Leaf, LeafGives, leaf_field, leaf_
 use Rattle.link_base.specs.Held.{IsOctets, ContentInRange, ContentHidesNone, ContentIsUncut}
 use Rattle.link_base.specs.Lawful.{IsReading}
 use Rattle.link_base.proofs.Cuts.{one_cut_lem}
-use Rattle.link_base.proofs.Fronts.{length-frame_bytes}
+use Rattle.link_base.proofs.FrameBytes.{length-frame_bytes}
 use Rattle.link_base.proofs.Classes.{accepted_meaning, value_of_accepted, tidy_iff, written_short}
 use Rattle.link_base.proofs.Values.{meant_in_range, meant_canon, back, written_bytes, uncut_stays, cut_canonical, cut_again, length-cut}
 use Rattle.link_base.proofs.Readings.{ok, same_ok, ReadEach, reads_some, reads_one}

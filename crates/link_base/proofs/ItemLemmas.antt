@@ -7,8 +7,8 @@ use Rattle.link_base.specs.declared.iterator.NlasIterator.{NlasIterator}
 use Rattle.link_base.specs.declared.fault.DecodeError.{DecodeError}
 use Rattle.link_base.specs.Frame.{Frame, BeginsWith, IsFrame, IsComplete, AreFrames, frame_bytes, spelled}
 use Rattle.link_base.specs.Buffer.{kind_field_of, payload_of, frame_of}
-use Rattle.link_base.specs.Items.{NextFrame, AreItems, seen, bytes_left}
-use Rattle.link_base.proofs.Begins.{Splits, splits, step_of}
+use Rattle.link_base.specs.IteratorItems.{NextFrame, AreItems, seen, bytes_left}
+use Rattle.link_base.proofs.FrameAtFront.{Splits, splits, step_of}
 
 -- an item of the iterator
 abbrev Item : Type 0

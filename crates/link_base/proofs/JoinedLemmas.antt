@@ -4,7 +4,7 @@ use Rattle.std.specs.List.{AllByRecursion}
 use Rattle.link_base.specs.declared.fault.DecodeFault.{DecodeFault}
 use Rattle.link_base.specs.Frame.{Frame, IsComplete, AreFrames, frame_bytes, spelled, pad}
 use Rattle.link_base.specs.Wire.{Reading, FrameGives, Wire, FirstFault}
-use Rattle.link_base.proofs.Fronts.{length-frame_bytes, length-complete}
+use Rattle.link_base.proofs.FrameBytes.{length-frame_bytes, length-complete}
 use Rattle.link_base.proofs.Readings.{AreFrames-cons, ReadEach, HaveValues}
 use Rattle.link_base.proofs.Written.{spelled-append, all_append}
 

@@ -10,7 +10,7 @@ use Rattle.link_base.specs.Held.{IsOctets}
 use Rattle.link_base.specs.Answers.{OverwritesFront}
 use Rattle.link_base.specs.Layout.{number_at, numbers_at, octets_of}
 use Rattle.link_base.proofs.Numbers.{length-bytes_of, IsBytes-bytes_of}
-use Rattle.link_base.proofs.Fronts.{bytes-append}
+use Rattle.link_base.proofs.FrameBytes.{bytes-append}
 use Rattle.link_base.proofs.Emit.{frame_after}
 
 -- n numbers take `width * n` bytes, and are written as bytes

@@ -1,5 +1,5 @@
 pub mod Numbers
-pub mod Fronts
+pub mod FrameBytes
 pub mod Cuts
 pub mod Readings
 pub mod LossyLemmas
@@ -16,12 +16,12 @@ pub mod Leaves
 pub mod Contents
 pub mod Copies
 pub mod TableLaws
-pub mod Begins
+pub mod FrameAtFront
 pub mod Emit
 pub mod Walking
 pub mod TableReads
 pub mod Places
-pub mod Relays
+pub mod Streaming
 pub mod Lifted
 pub mod KindFaults
 pub mod JoinedLemmas

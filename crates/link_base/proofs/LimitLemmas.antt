@@ -13,7 +13,7 @@ use Rattle.link_base.specs.Held.{IsOctets}
 use Rattle.link_base.specs.WellFormed.{is_class, is_kept, are_rows, is_nested_class, is_shape, is_table, IsOverfull}
 use Rattle.link_base.proofs.Numbers.{length-bytes_of}
 use Rattle.link_base.proofs.Classes.{exactly, written_short, written-named, none_else}
-use Rattle.link_base.proofs.Fronts.{length-frame_bytes, length-complete}
+use Rattle.link_base.proofs.FrameBytes.{length-frame_bytes, length-complete}
 use Rattle.link_base.proofs.Readings.{ReadEach}
 use Rattle.link_base.proofs.Written.{known_of}
 use Rattle.link_base.proofs.Leaves.{LeafRead, no_row, a_row, leaf_read}

@@ -12,7 +12,7 @@ use lib.Utf8.{scalar, scalars, scalar_cases}
 use Rattle.std.specs.Prelude.{nat_lt}
 use Rattle.std.proofs.lemmas.Str.{len_utf8_bounds, length-encode}
 use Rattle.link_base.proofs.LossyLemmas.{take-past, utf8_valid_len-cases, utf8_lossy-front, lossy-partial, IsUtf8-replacement}
-use Rattle.link_base.proofs.Fronts.{bytes-append}
+use Rattle.link_base.proofs.FrameBytes.{bytes-append}
 use Rattle.link_base.specs.Name.{before_nul, name_of, zero_filled, name_field, cut_name, HasNoNul, IsCutText, IsNameField}
 
 -- ---- bytes without NUL

@@ -6,7 +6,7 @@ use Rattle.link_base.specs.declared.fault.DecodeError.{DecodeError}
 use Rattle.link_base.specs.Answers.{Answers, Fails, under_kind, value_error, payload_result, refused}
 use Rattle.link_base.specs.Class.{Class, Value, length_cause, unless, accepted, extent, meant, class_value}
 use Rattle.link_base.specs.Frame.{kind_of}
-use Rattle.link_base.specs.Place.{Hands, Puts}
+use Rattle.link_base.specs.Storing.{Hands, Puts}
 use Rattle.link_base.specs.Table.{Table, Rows, One, Nested, AttrValue, Case, Single, single_case, class_at, Gives, GivesBy, ShapeGives}
 use Rattle.link_base.proofs.KindFaults.{under_nested}
 

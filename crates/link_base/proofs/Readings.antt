@@ -10,7 +10,7 @@ use Rattle.link_base.specs.Frame.{Frame, IsFrame, IsComplete, AreFrames, frame_b
 use Rattle.link_base.specs.Wire.{Reading, FrameGives, Wire, FirstFault, FaultsHere, Reads}
 use Rattle.link_base.specs.Lawful.{IsReading}
 use Rattle.link_base.proofs.Cuts.{IsFrame-complete, SameFront-frames, AreFrames-head, same_gap, same_parts, one_cut_lem}
-use Rattle.link_base.proofs.Fronts.{Front, Front-no_fault, frame_fault-frame, length-frame_bytes, bytes-payload, bytes-rest}
+use Rattle.link_base.proofs.FrameBytes.{Front, Front-no_fault, frame_fault-frame, length-frame_bytes, bytes-payload, bytes-rest}
 
 -- ---- results
 

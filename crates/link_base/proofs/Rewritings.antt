@@ -7,7 +7,7 @@ use Rattle.link_base.specs.Frame.{Frame, Frames, IsComplete, AreFrames, frame_by
 use Rattle.link_base.specs.Wire.{Reading, FrameGives, Wire, written_by, FitsBy, IsCanonicalFrame, CanonicalBy, RewritingBy}
 use Rattle.link_base.specs.Lawful.{IsReading, IsHolding, IsWriting}
 use Rattle.link_base.proofs.Cuts.{same_frame, one_cut_lem}
-use Rattle.link_base.proofs.Fronts.{length-frame_bytes, length-complete}
+use Rattle.link_base.proofs.FrameBytes.{length-frame_bytes, length-complete}
 use Rattle.link_base.proofs.Readings.{ReadEach, one_values}
 use Rattle.link_base.proofs.Written.{AreFrames-complete, spelled-append, IsKnown, known_of, all_each, all_append, frame_for, spelled-frames, complete_frames, bytes-written, are_read, read_written}
 

@@ -8,10 +8,10 @@ use Rattle.std.proofs.Math.ListN.{get_or-append}
 use Rattle.std.proofs.Math.Seq.{drop-append_seam, get_or-append_seam}
 use Rattle.link_base.specs.declared.fault.Cause.{Cause}
 use Rattle.link_base.specs.Frame.{Frame, IsFrame, IsComplete, AreFrames, frame_bytes, spelled, frame_fault}
-use Rattle.link_base.specs.Walk.{starts, FramesOrFault, FindsBefore, Finds, BeginFrames}
-use Rattle.link_base.proofs.Begins.{Splits}
+use Rattle.link_base.specs.FrameOffsets.{starts, FramesOrFault, FindsBefore, Finds, BeginFrames}
+use Rattle.link_base.proofs.FrameAtFront.{Splits}
 use Rattle.link_base.proofs.Cuts.{AreFrames-head}
-use Rattle.link_base.proofs.Fronts.{frame_fault-frame, length-frame_bytes}
+use Rattle.link_base.proofs.FrameBytes.{frame_fault-frame, length-frame_bytes}
 
 -- ---- frames and one more
 

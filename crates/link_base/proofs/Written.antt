@@ -6,7 +6,7 @@ use Rattle.link_base.specs.Number.{IsBytes}
 use Rattle.link_base.specs.Frame.{Frame, Frames, IsComplete, AreFrames, frame_bytes, spelled, gap}
 use Rattle.link_base.specs.Wire.{Reading, Wire, whole, written_by, FitsBy}
 use Rattle.link_base.specs.Lawful.{IsReading, IsHolding}
-use Rattle.link_base.proofs.Fronts.{bytes-append, bytes-back, bytes-payload}
+use Rattle.link_base.proofs.FrameBytes.{bytes-append, bytes-back, bytes-payload}
 use Rattle.link_base.proofs.Values.{bytes-zeros}
 use Rattle.link_base.proofs.Readings.{AreFrames-cons, ReadEach, one_values}
 

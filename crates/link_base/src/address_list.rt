@@ -44,7 +44,7 @@ pub trait Address: Copy {
 }
 
 impl Address for Ipv4Addr {
-    ghost use Rattle.link_base.specs.Addresses.{four_octets};
+    ghost use Rattle.link_base.specs.AddressOctets.{four_octets};
 
     const SIZE: usize = 4;
 
@@ -69,7 +69,7 @@ impl Address for Ipv4Addr {
 }
 
 impl Address for Ipv6Addr {
-    ghost use Rattle.link_base.specs.Addresses.{sixteen_octets};
+    ghost use Rattle.link_base.specs.AddressOctets.{sixteen_octets};
 
     const SIZE: usize = 16;
 

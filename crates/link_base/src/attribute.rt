@@ -10,7 +10,7 @@ ghost use Rattle.link_base.specs.WellFormed.{is_table};
 ghost use Rattle.link_base.specs.Lawful.{IsLawful};
 ghost use Rattle.link_base.specs.Equality.{IsThorough};
 ghost use Rattle.link_base.specs.Buffer.{kind_field_of, payload_of};
-ghost use Rattle.link_base.specs.Place.{Puts};
+ghost use Rattle.link_base.specs.Storing.{Puts};
 ghost use Rattle.link_base.specs.Answers.{Answers, OnMemory, OverwritesFront, capped, under_kind};
 
 use crate::buffer::NlaBuffer;

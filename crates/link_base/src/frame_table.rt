@@ -2,7 +2,7 @@
 
 ghost use Rattle.std.specs.Prelude.{◌≡◌, ◌+◌, ◌/◌, ◌<◌, ◌≤◌, IfOk, OnOk, OnErr, IsTrue, [], ◌↔◌, None, length, slice_index_or, vec_len, vec_capacity};
 ghost use Rattle.link_base.specs.Frame.{frame_fault};
-ghost use Rattle.link_base.specs.Walk.{BeginFrames, FindsBefore, Finds};
+ghost use Rattle.link_base.specs.FrameOffsets.{BeginFrames, FindsBefore, Finds};
 
 use crate::buffer::{NlaBuffer, cause_at_front};
 use crate::fault::Cause;
@@ -24,7 +24,7 @@ pub struct FrameTable<'a> {
 }
 
 impl<'a> FrameTable<'a> {
-    ghost use Rattle.link_base.specs.Walked.{walked_bytes, offsets_of, fault_of, IsFrameAt};
+    ghost use Rattle.link_base.specs.FrameTableParts.{walked_bytes, offsets_of, fault_of, IsFrameAt};
 
     /// Returns a table of the attributes in `bytes`. If a header is malformed, the table has the attributes before it,
     /// and `fault` returns the error.

@@ -3,7 +3,7 @@
 ghost use Rattle.std.specs.Prelude.{◌≡◌, length, min, ◌+◌, ◌/◌, IfSome, Some};
 ghost use Rattle.std.specs.Iterator.{at_most, UpTo};
 ghost use Rattle.std.specs.Iterator.SizeHint.{IsWithinCount};
-ghost use Rattle.link_base.specs.Items.{bytes_left, NextFrame};
+ghost use Rattle.link_base.specs.IteratorItems.{bytes_left, NextFrame};
 
 use crate::buffer::NlaBuffer;
 use crate::fault::DecodeError;

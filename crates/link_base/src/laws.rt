@@ -14,7 +14,7 @@ ghost use Rattle.link_base.specs.declared.fault.DecodeError.{DecodeError};
 ghost use Rattle.link_base.specs.declared.fault.ListError.{ListError};
 ghost use Rattle.link_base.specs.declared.fault.WriteError.{WriteError};
 ghost use Rattle.link_base.specs.Buffer.{kind_field_of, payload_of};
-ghost use Rattle.link_base.specs.Items.{AreItems, bytes_left};
+ghost use Rattle.link_base.specs.IteratorItems.{AreItems, bytes_left};
 ghost use Rattle.link_base.specs.Number.{IsBytes};
 ghost use Rattle.link_base.specs.Frame.{Frame, Frames, kind_of, pad};
 ghost use Rattle.link_base.specs.Wire.{Wire, FirstFault, Reads};
@@ -24,7 +24,7 @@ ghost use Rattle.link_base.specs.Editions.{AreEditions, among, without, kinds_of
 ghost use Rattle.link_base.specs.Held.{IsInRange, HidesNone, IsPlain};
 ghost use Rattle.link_base.specs.WellFormed.{is_table, IsOverfull};
 ghost use Rattle.link_base.specs.Lawful.{IsLawful};
-ghost use Rattle.link_base.specs.Walked.{walked_bytes, offsets_of, fault_of};
+ghost use Rattle.link_base.specs.FrameTableParts.{walked_bytes, offsets_of, fault_of};
 
 use crate::attribute::Attribute;
 use crate::buffer::NlaBuffer;

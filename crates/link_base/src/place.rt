@@ -1,7 +1,7 @@
 //! Destinations for parsed values.
 
 ghost use Rattle.std.specs.Prelude.{◌≡◌, ◌+◌, ◌<◌, ◌++◌, ◌∷◌, [], None, Some, vec_len, vec_capacity};
-ghost use Rattle.link_base.specs.Place.{Hands};
+ghost use Rattle.link_base.specs.Storing.{Hands};
 
 use crate::fault::DecodeError;
 

@@ -12,7 +12,7 @@ use Rattle.link_base.specs.Answers.{IsFirstUnfit}
 use Rattle.netlink_packet_route.specs.declared.rewriting.RewriteError.{RewriteError}
 use Rattle.netlink_packet_route.specs.declared.rewriting.RewriteError.TheVariants as errors
 use Rattle.link_base.proofs.Cuts.{AreFrames-head}
-use Rattle.link_base.proofs.Fronts.{frame_fault-frame, length-frame_bytes}
+use Rattle.link_base.proofs.FrameBytes.{frame_fault-frame, length-frame_bytes}
 use Rattle.link_base.proofs.Readings.{one_values, not_both}
 use Rattle.link_base.proofs.Rewritings.{fixed_iff_canonical, never_longer, reads_back, second, second_canonical, third, one_rewriting, canonical_reads, canonical_stays}
 use Rattle.netlink_packet_route.specs.Rewrite.{AnswersBy, RewriteFaultUnless, TooLongIff, SucceedsIf, WritesValues, ReadsBack, Settles, IsRewritten}

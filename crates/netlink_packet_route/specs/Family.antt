@@ -1,7 +1,9 @@
--- The attribute sets: their names and their tables.
+-- The attribute sets: their names, their numbers in C, what holds them in a message, and their tables.
 use Rattle.std.specs.Prelude.{ℕ, List, codes}
 use Rattle.link_base.specs.Table.{Table}
 use Rattle.netlink_packet_route.specs.declared.family.Family.{Family}
+use Rattle.netlink_packet_route.specs.declared.family.Holder.{Holder}
+use Rattle.netlink_packet_route.specs.declared.family.Holder.TheVariants as holders
 use Rattle.netlink_packet_route.specs.declared.family.Family.TheVariants.{AfSpecBridge, Bond, BondPort, Bridge, BridgePort, Vlan, Can, Dsa, Hsr, ProtoBridge}
 use Rattle.link_bridge.specs.AfSpec.{af_spec_table}
 use Rattle.link_bond.specs.Bond.{bond_table}
@@ -14,28 +16,54 @@ use Rattle.link_vlan_can.specs.Dsa.{dsa_table}
 use Rattle.link_vlan_can.specs.Hsr.{hsr_table}
 use Rattle.link_bridge.specs.ProtoInfo.{proto_info_table}
 
--- the name of an attribute set, as the program `nlroute` accepts it
-abbrev pub family_name : Family → List ℕ
-family_name AfSpecBridge = codes "af_spec_bridge"
-family_name Bond = codes "bond"
-family_name BondPort = codes "bond_port"
-family_name Bridge = codes "bridge"
-family_name BridgePort = codes "bridge_port"
-family_name Vlan = codes "vlan"
-family_name Can = codes "can"
-family_name Dsa = codes "dsa"
-family_name Hsr = codes "hsr"
-family_name ProtoBridge = codes "proto_bridge"
+-- what holds the list of an attribute set in a message about a link
+pub data Holding : Type 0 where
+  -- IFLA_INFO_DATA, next to an IFLA_INFO_KIND with this text
+  InfoKind : (text : List ℕ) → Holding
+  -- IFLA_INFO_SLAVE_DATA, next to an IFLA_INFO_SLAVE_KIND with this text
+  PortKind : (text : List ℕ) → Holding
+  -- the attribute of this type, in an AF_BRIDGE message
+  BridgeAttribute : (kind : ℕ) → Holding
 
--- the table of an attribute set, which defines how its attributes decode
+pub record FamilyRow : Type 0 where
+  -- the name, as the program `nlroute` accepts it
+  pub name : List ℕ
+  -- the number in C
+  pub number : ℕ
+  pub holding : Holding
+  -- the table, which defines how the attributes decode
+  pub table : Table
+
+abbrev row : List ℕ → ℕ → Holding → Table → FamilyRow
+row name number holding table = record { name = name; number = number; holding = holding; table = table }
+
+-- all that is known of an attribute set
+abbrev pub family_row : Family → FamilyRow
+family_row AfSpecBridge = row (codes "af_spec_bridge") 0 (BridgeAttribute 26) af_spec_table
+family_row Bond = row (codes "bond") 1 (InfoKind (codes "bond")) bond_table
+family_row BondPort = row (codes "bond_port") 2 (PortKind (codes "bond")) bond_port_table
+family_row Bridge = row (codes "bridge") 3 (InfoKind (codes "bridge")) bridge_table
+family_row BridgePort = row (codes "bridge_port") 4 (PortKind (codes "bridge")) bridge_port_table
+family_row Vlan = row (codes "vlan") 5 (InfoKind (codes "vlan")) vlan_table
+family_row Can = row (codes "can") 6 (InfoKind (codes "can")) can_table
+family_row Dsa = row (codes "dsa") 7 (InfoKind (codes "dsa")) dsa_table
+family_row Hsr = row (codes "hsr") 8 (InfoKind (codes "hsr")) hsr_table
+family_row ProtoBridge = row (codes "proto_bridge") 9 (BridgeAttribute 12) proto_info_table
+
+abbrev pub family_name : Family → List ℕ
+family_name family = (family_row family).name
+
+abbrev pub family_number : Family → ℕ
+family_number family = (family_row family).number
+
+abbrev pub holder_of : Family → Holding
+holder_of family = (family_row family).holding
+
 abbrev pub table_of : Family → Table
-table_of AfSpecBridge = af_spec_table
-table_of Bond = bond_table
-table_of BondPort = bond_port_table
-table_of Bridge = bridge_table
-table_of BridgePort = bridge_port_table
-table_of Vlan = vlan_table
-table_of Can = can_table
-table_of Dsa = dsa_table
-table_of Hsr = hsr_table
-table_of ProtoBridge = proto_info_table
+table_of family = (family_row family).table
+
+-- what a `Holder` represents
+abbrev pub holding_of : Holder → Holding
+holding_of (holders.InfoKind text) = InfoKind text.now
+holding_of (holders.PortKind text) = PortKind text.now
+holding_of (holders.BridgeAttribute kind) = BridgeAttribute kind

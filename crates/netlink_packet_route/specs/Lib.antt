@@ -1,6 +1,7 @@
 pub mod Family
 pub mod Count
 pub mod Rewrite
+pub mod HexText
 pub mod Report
 -- definitions that the contracts of `link` use
 pub use Rattle.link_base.specs.Number
@@ -14,12 +15,12 @@ pub use Rattle.link_base.specs.Lawful
 pub use Rattle.link_base.specs.Equality
 pub use Rattle.link_base.specs.Default
 pub use Rattle.link_base.specs.Answers
-pub use Rattle.link_base.specs.Place
+pub use Rattle.link_base.specs.Storing
 pub use Rattle.link_base.specs.Rewritten
 pub use Rattle.link_base.specs.Buffer
-pub use Rattle.link_base.specs.Items
-pub use Rattle.link_base.specs.Walk
-pub use Rattle.link_base.specs.Walked
+pub use Rattle.link_base.specs.IteratorItems
+pub use Rattle.link_base.specs.FrameOffsets
+pub use Rattle.link_base.specs.FrameTableParts
 pub use Rattle.link_base.specs.Layout
 pub use Rattle.link_base.specs.Named
 pub use Rattle.link_base.specs.Protocol

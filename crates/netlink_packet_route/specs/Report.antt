@@ -1,6 +1,6 @@
 -- The output and the exit status of the program `nlroute` for an attribute set and an input.
-use Rattle.std.specs.Prelude.{◌≡◌, ◌≢◌, ◌==◌, ◌||◌, ℕ, ◌<◌, ◌≤◌, Bool, not, List, [], ◌∷◌, ◌++◌, length, Result, Ok, Err, codes}
-use Rattle.std.specs.List.{filter, flat_map, AllByRecursion}
+use Rattle.std.specs.Prelude.{◌≡◌, ◌≢◌, ℕ, ◌<◌, ◌≤◌, List, [], ◌∷◌, ◌++◌, length, Result, Ok, Err, codes}
+use Rattle.std.specs.List.{flat_map, AllByRecursion}
 use Rattle.std.specs.Fmt.{decimal}
 use Rattle.hex.specs.Hex.{decode_of, encode_lower}
 use Rattle.hex.specs.declared.error.FromHexError.{FromHexError}
@@ -9,6 +9,7 @@ use Rattle.link_base.specs.Wire.{Wire, FirstFault}
 use Rattle.link_base.specs.Table.{Table, AttrValue, Gives, Fits, written_kind, written_payload, written_list}
 use Rattle.link_base.specs.Texts.{fault_text}
 use Rattle.link_base.specs.Answers.{IsFirstUnfit}
+use Rattle.netlink_packet_route.specs.HexText.{digits_of}
 
 -- ---- lines
 
@@ -57,20 +58,16 @@ pub data Prints (table : Table) (s out : List ℕ) (status : ℕ) : Type 0 where
   -- a value does not fit
   TooLong : (vs : List AttrValue) (i : ℕ) → Wire (Gives table) s vs → IsFirstUnfit vs i → out ≡ too_long_line i → status ≡ 3 → Prints table s out status
 
--- true for space, tab, CR and LF
-abbrev pub is_space : ℕ → Bool
-is_space b = b == 32 || (b == 9 || (b == 13 || b == 10))
-
--- the input without its space, tab, CR and LF bytes
-abbrev pub digits_of : List ℕ → List ℕ
-digits_of text = filter (λ b. not (is_space b)) text
-
 -- the output for digits: the one for the bytes that they encode, or `bad hex` if they are not valid hex
 abbrev pub PrintsDigits : Table → Result (List ℕ) FromHexError → List ℕ → ℕ → Type 0
 PrintsDigits table (Ok s) out status = Prints table s out status
 PrintsDigits table (Err e) out status = (out ≡ line (codes "bad hex")) × (status ≡ 2)
 
--- the output for an input: the one for its digits if it has at most 262,144 bytes, otherwise `input too long`
+-- the maximum length of an input, in bytes
+abbrev pub most_text : ℕ
+most_text = 262144
+
+-- the output for an input: the one for its digits if it has at most `most_text` bytes, otherwise `input too long`
 pub data Reports (table : Table) (text : List ℕ) (out : List ℕ) (status : ℕ) : Type 0 where
-  Short : length text ≤ 262144 → PrintsDigits table (decode_of (digits_of text)) out status → Reports table text out status
-  Long : 262144 < length text → out ≡ line (codes "input too long") → status ≡ 2 → Reports table text out status
+  Short : length text ≤ most_text → PrintsDigits table (decode_of (digits_of text)) out status → Reports table text out status
+  Long : most_text < length text → out ≡ line (codes "input too long") → status ≡ 2 → Reports table text out status

@@ -50,8 +50,8 @@ abbrev pub RewriteAnswers : Table → List ℕ → Result (Vec ℕ) RewriteError
 RewriteAnswers table s result = AnswersBy table s (λ out. Rewriting table s out.items) result
 
 -- the re-encoded list, in the caller's buffer; or why there is none
-abbrev pub RewriteIntoAnswers : Table → List ℕ → List ℕ → List ℕ → Result ℕ RewriteError → Type 0
-RewriteIntoAnswers table s old new result = AnswersBy table s (RewrittenInto table s old new) result
+abbrev pub RewriteStreamingAnswers : Table → List ℕ → List ℕ → List ℕ → Result ℕ RewriteError → Type 0
+RewriteStreamingAnswers table s old new result = AnswersBy table s (RewrittenInto table s old new) result
 
 -- s decodes to vs, all of them fit, and out is their encoding
 pub record WritesValues (table : Table) (s : List ℕ) (vs : List AttrValue) (out : List ℕ) : Type 0 where
@@ -107,8 +107,8 @@ WritesOrLacksRoom table s old new (Some n) = Rewrites table s old new n
 WritesOrLacksRoom table s old new None = HasNoRoom table s (length old)
 
 -- the re-encoded list in the caller's buffer, or that the buffer is too small; or why there is no re-encoded list
-abbrev pub RewriteToAnswers : Table → List ℕ → List ℕ → List ℕ → Result (Option ℕ) RewriteError → Type 0
-RewriteToAnswers table s old new result = AnswersBy table s (WritesOrLacksRoom table s old new) result
+abbrev pub RewriteToSliceAnswers : Table → List ℕ → List ℕ → List ℕ → Result (Option ℕ) RewriteError → Type 0
+RewriteToSliceAnswers table s old new result = AnswersBy table s (WritesOrLacksRoom table s old new) result
 
 -- the bytes of s are at the start of the new buffer, or the old one is shorter than s
 abbrev pub KeepsOrLacksRoom : List ℕ → List ℕ → List ℕ → Option ℕ → Type 0

@@ -5,18 +5,19 @@
 
 mod counting;
 mod family;
+pub mod hex_text;
 mod judging;
 pub mod laws;
 pub mod link;
 mod reporting;
 mod rewriting;
-mod rewriting_into;
-mod rewriting_to;
+mod rewriting_streaming;
+mod rewriting_to_slice;
 
 pub use counting::count_values;
-pub use family::Family;
+pub use family::{Family, Holder};
 pub use judging::{first_not_canonical, is_canonical};
 pub use reporting::{MOST_TEXT, report};
 pub use rewriting::{RewriteError, rewrite};
-pub use rewriting_into::rewrite_into;
-pub use rewriting_to::rewrite_to;
+pub use rewriting_streaming::rewrite_streaming;
+pub use rewriting_to_slice::rewrite_to_slice;

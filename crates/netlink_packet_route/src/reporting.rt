@@ -4,13 +4,13 @@ ghost use Rattle.std.specs.Prelude.{◌≡◌, ◌++◌, IfOk, OnOk, map, flat_m
 ghost use Rattle.std.specs.List.{AllByRecursion};
 ghost use Rattle.link_base.specs.Table.{Fits};
 ghost use Rattle.netlink_packet_route.specs.Family.{table_of};
-ghost use Rattle.netlink_packet_route.specs.Report.{Reports, Prints, Verdict, digits_of, fault_line, too_long_line};
+ghost use Rattle.netlink_packet_route.specs.Report.{Reports, Prints, Verdict, fault_line, too_long_line};
 ghost use Rattle.netlink_packet_route.specs.Report.{attr_line, attr_line_of, out_line};
 
-use crate::by_family;
 use crate::family::Family;
+use crate::hex_text::HexError;
 use crate::rewriting::{RewriteError, read_and_write};
-use hex::FromHexError;
+use crate::{by_family, hex_text};
 use link_base::{Attribute, DecodeFault};
 use std::alloc::{AllocError, Global};
 
@@ -36,25 +36,12 @@ pub fn report(alloc: Global, family: Family, text: &[u8]) -> Result<(String, u8)
     if text.len() > MOST_TEXT {
         return Ok((String::from_str(alloc, "input too long\n")?, 2));
     }
-    let digits = digits(alloc, text)?;
-    let bytes = match hex::decode(alloc, digits.as_slice()) {
+    let bytes = match hex_text::decode(alloc, text) {
         Ok(bytes) => bytes,
-        Err(FromHexError::OutOfMemory) => return Err(AllocError),
-        Err(_) => return Ok((String::from_str(alloc, "bad hex\n")?, 2)),
+        Err(HexError::Memory(error)) => return Err(error),
+        Err(HexError::BadHex) => return Ok((String::from_str(alloc, "bad hex\n")?, 2)),
     };
     by_family!(family, report_bytes(alloc, &bytes))
-}
-
-fn digits(alloc: Global, text: &[u8]) -> Result<Vec<u8>, AllocError>
-    ensures { IfOk result (λ digits. digits.items ≡ digits_of text.now) }
-{
-    let mut digits = Vec::with_capacity(alloc, text.len())?;
-    digits.extend(
-        text.iter()
-            .copied()
-            .filter(|b| !matches!(*b, b' ' | b'\t' | b'\r' | b'\n')),
-    )?;
-    Ok(digits)
 }
 
 fn report_bytes<F: Attribute>(alloc: Global, bytes: &[u8]) -> Result<(String, u8), AllocError>

@@ -1,19 +1,23 @@
 -- What a run of the program reads, writes and returns.
-use Rattle.std.specs.Prelude.{◌≡◌, ◌≢◌, ◌⊎◌, ℕ, ◌≤◌, List, length, codes, Option, Some}
+use Rattle.std.specs.Prelude.{◌≡◌, ◌≢◌, ◌⊎◌, ℕ, ◌+◌, ◌≤◌, List, length, codes, Option, Some}
 use Rattle.std.specs.Io.KnownBytes.{Appends, Consumes, IsAtEnd}
 use Rattle.netlink_packet_route.specs.Table.{Table}
 use Rattle.netlink_packet_route.specs.declared.family.Family.{Family}
 use Rattle.netlink_packet_route.specs.Family.{family_name}
-use Rattle.netlink_packet_route.specs.Report.{Reports, line}
+use Rattle.netlink_packet_route.specs.Report.{Reports, line, most_text}
 
--- `text` was read from a reader: at most 262,145 bytes, one more than the maximum input length
+-- how many bytes are read at most: one more than the maximum input length
+abbrev pub most_read : ℕ
+most_read = most_text + 1
+
+-- `text` was read from a reader
 pub record IsRead (left_before left_after : Option (List ℕ)) (text : List ℕ) : Type 0 where
   pub bytes : Consumes left_before left_after text
-  pub most : length text ≤ 262145
+  pub most : length text ≤ most_read
 
--- 262,145 bytes were read, or the reader is at its end
+-- `most_read` bytes were read, or the reader is at its end
 abbrev pub IsAllRead : List ℕ → Option (List ℕ) → Type 0
-IsAllRead text left = (length text ≡ 262145) ⊎ IsAtEnd left
+IsAllRead text left = (length text ≡ most_read) ⊎ IsAtEnd left
 
 -- the input that was read, and its report, which was written
 pub record RunsFor (table : Table) (left_before left_after held_before held_after : Option (List ℕ)) (status : ℕ) : Type 0 where
@@ -30,10 +34,3 @@ IsNoFamily name = (family : Family) → name ≢ Some (family_name family)
 
 abbrev pub usage_line : List ℕ
 usage_line = line (codes "usage: nlroute FAMILY")
-
-abbrev pub no_memory_line : List ℕ
-no_memory_line = line (codes "no memory")
-
--- the text was written, and the result is `status`; or the writer failed
-abbrev pub PrintsOrFails : Option (List ℕ) → Option (List ℕ) → List ℕ → ℕ → ℕ → Type 0
-PrintsOrFails held_before held_after text status result = ((result ≡ status) × Appends held_before held_after text) ⊎ (result ≡ 5)

@@ -9,30 +9,18 @@ mod running;
 #[cfg(test)]
 mod tests;
 
-use std::alloc::AllocError;
+use program::{collect_arguments, print_no_memory};
+use std::io;
 use std::process::ExitCode;
-use std::rt::Env;
-use std::{env, io};
 
 fn main(rt: HostRuntime) -> ExitCode {
-    let name = match name_of_family(&rt) {
-        Ok(name) => name,
-        Err(_) => return ExitCode::from(running::print(&mut io::writer(&rt), "no memory\n", 4)),
+    let mut writer = io::writer(&rt);
+    let words = match collect_arguments(&rt) {
+        Ok(words) => words,
+        Err(_) => return ExitCode::from(print_no_memory(&mut writer)),
     };
+    let name = words.and_then(arguments::only);
     let name = name.as_ref().map(|name| name.as_str());
-    let status = running::run(rt.alloc(), name, &mut rt.reader(), &mut io::writer(&rt));
+    let status = running::run(rt.alloc(), name, &mut rt.reader(), &mut writer);
     ExitCode::from(status)
-}
-
-/// Returns the argument, if there is exactly one and it is UTF-8.
-fn name_of_family<R: Env + AllocGlobal>(rt: &R) -> Result<Option<String>, AllocError> {
-    match env::args(rt) {
-        Ok(arguments) => {
-            let mut words = Vec::with_capacity(rt.alloc(), arguments.len())?;
-            words.extend(arguments)?;
-            Ok(arguments::only(words))
-        }
-        Err(error) if error.kind() == io::ErrorKind::OutOfMemory => Err(AllocError),
-        Err(_) => Ok(None),
-    }
 }

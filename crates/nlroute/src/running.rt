@@ -5,14 +5,19 @@ ghost use Rattle.std.specs.Option.{option_copied};
 ghost use Rattle.std.specs.Io.KnownBytes.{Appends};
 ghost use Rattle.netlink_packet_route.specs.declared.family.Family.{Family};
 ghost use Rattle.netlink_packet_route.specs.Family.{family_name, table_of};
-ghost use Rattle.nlroute.specs.Run.{RunsFor, IsNoFamily, IsRead, IsAllRead, PrintsOrFails, usage_line, no_memory_line};
+ghost use Rattle.nlroute.specs.Run.{RunsFor, IsNoFamily, IsRead, IsAllRead, usage_line};
+ghost use Rattle.program.specs.Printing.{PrintsOrFails, no_memory_line};
 
 use netlink_packet_route::{Family, MOST_TEXT, report};
+use program::{print, print_no_memory, print_read_fault};
 use std::alloc::Global;
 use std::io::{Read, Write};
 
+/// How many bytes of the input are read at most: one more than `report` accepts.
+const MOST_READ: usize = MOST_TEXT + 1;
+
 /// Reads the input from `reader` and writes its report for the `Family` called `name`. If there is no such `Family`,
-/// writes the usage line and reads nothing. The input ends when a read returns no bytes; at most 262,145 bytes are
+/// writes the usage line and reads nothing. The input ends when a read returns no bytes; at most `MOST_READ` bytes are
 /// read. Returns the exit status:
 ///
 /// - 0 on success;
@@ -43,12 +48,12 @@ pub fn run<R: Read, W: Write>(
     };
     let text = match read_text(alloc, reader) {
         Ok(text) => text,
-        Err(InputError::Memory) => return print(writer, "no memory\n", 4),
-        Err(InputError::Reader) => return print(writer, "read fault\n", 5),
+        Err(InputError::Memory) => return print_no_memory(writer),
+        Err(InputError::Reader) => return print_read_fault(writer),
     };
     match report(alloc, family, &text) {
         Ok((out, status)) => print(writer, out.as_str(), status),
-        Err(_) => print(writer, "no memory\n", 4),
+        Err(_) => print_no_memory(writer),
     }
 }
 
@@ -59,7 +64,7 @@ enum InputError {
     Reader,
 }
 
-/// Reads `reader` up to its end, but at most 262,145 bytes.
+/// Reads `reader` up to its end, but at most `MOST_READ` bytes.
 fn read_text<R: Read>(alloc: Global, reader: &mut R) -> Result<Vec<u8>, InputError>
     ensures read { IfOk result (λ text. IsRead (R.remaining reader.old) (R.remaining reader.new) text.items) }
     ensures bounded { (text : List ℕ) × IsRead (R.remaining reader.old) (R.remaining reader.new) text }
@@ -67,8 +72,8 @@ fn read_text<R: Read>(alloc: Global, reader: &mut R) -> Result<Vec<u8>, InputErr
 {
     let mut text = Vec::new(alloc);
     let mut chunk = [0u8; 4096];
-    while text.len() <= MOST_TEXT {
-        let room = (MOST_TEXT + 1 - text.len()).min(chunk.len());
+    while text.len() < MOST_READ {
+        let room = (MOST_READ - text.len()).min(chunk.len());
         let count = match reader.read(&mut chunk[..room]) {
             Ok(0) => return Ok(text),
             Ok(count) => count,
@@ -80,16 +85,6 @@ fn read_text<R: Read>(alloc: Global, reader: &mut R) -> Result<Vec<u8>, InputErr
         }
     }
     Ok(text)
-}
-
-/// Writes `text`. Returns `status`, or 5 if the writer fails.
-pub(crate) fn print<W: Write>(writer: &mut W, text: &str, status: u8) -> u8
-    ensures { PrintsOrFails (W.contents writer.old) (W.contents writer.new) text.now status result }
-{
-    match writer.write_all(text.as_bytes()) {
-        Ok(()) => status,
-        Err(_) => 5,
-    }
 }
 
 fn family_of(name: Option<&str>) -> Option<Family>

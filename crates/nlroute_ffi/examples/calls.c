@@ -81,8 +81,8 @@ static void rewriting(void) {
     check(are_lent(out + 32, 8), "what stands behind it is left");
     check(nlroute_rewrite(NLROUTE_VLAN, vlan, 32, out, 32) == 32, "there is room for it alone");
     check(nlroute_rewrite(NLROUTE_VLAN, vlan, 0, out, 0) == 0, "no values take no bytes");
-    check(nlroute_read(NLROUTE_VLAN, vlan, 32) == 3, "a request has three values");
-    check(nlroute_read(NLROUTE_VLAN, vlan, 0) == 0, "no bytes have no values");
+    check(nlroute_count(NLROUTE_VLAN, vlan, 32) == 3, "a request has three values");
+    check(nlroute_count(NLROUTE_VLAN, vlan, 0) == 0, "no bytes have no values");
 }
 
 static void judging(void) {
@@ -109,35 +109,35 @@ static void refusals(void) {
     check(nlroute_rewrite(10, vlan, 32, out, 40) == NLROUTE_NO_FAMILY, "-5 for number 10");
     check(nlroute_rewrite(UINT32_MAX, vlan, 32, out, 40) == NLROUTE_NO_FAMILY, "-5 for the greatest number");
     memory_is_out = true;
-    ptrdiff_t rewritten = nlroute_rewrite(NLROUTE_VLAN, vlan, 32, out, 40), read = nlroute_read(NLROUTE_VLAN, vlan, 32);
+    ptrdiff_t rewritten = nlroute_rewrite(NLROUTE_VLAN, vlan, 32, out, 40), read = nlroute_count(NLROUTE_VLAN, vlan, 32);
     ptrdiff_t empty = nlroute_rewrite(NLROUTE_VLAN, vlan, 0, out, 0);
     memory_is_out = false;
     check(rewritten == NLROUTE_NO_MEMORY && read == NLROUTE_NO_MEMORY, "-3 without memory");
     check(empty == 0, "no memory for no values");
     check(are_lent(out, sizeof out), "nothing was written");
-    check(nlroute_read(NLROUTE_VLAN, vlan, 30) == -1 && nlroute_read(10, vlan, 32) == -5, "-1 and -5 of a count");
+    check(nlroute_count(NLROUTE_VLAN, vlan, 30) == -1 && nlroute_count(10, vlan, 32) == -5, "-1 and -5 of a count");
 }
 
-/* Checks nlroute_rewrite_into(): it builds no list of values, so only values that own heap memory allocate. */
+/* Checks nlroute_rewrite_streaming(): it builds no list of values, so only values that own heap memory allocate. */
 static void value_by_value(void) {
     const uint8_t plain[20] = {8, 0, 1, 0x80, 42, 0, 0, 0, 8, 0, 1, 0, 43, 0, 0, 0, 5, 0, 1, 0};
     uint8_t out[40];
     memset(out, 0xFF, sizeof out);
-    ptrdiff_t small = nlroute_rewrite_into(NLROUTE_VLAN, vlan, 32, out, 31);
+    ptrdiff_t small = nlroute_rewrite_streaming(NLROUTE_VLAN, vlan, 32, out, 31);
     check(small == NLROUTE_NO_ROOM, "-4 with room for all but a byte, value by value");
-    check(nlroute_rewrite_into(10, vlan, 32, out, 40) == NLROUTE_NO_FAMILY, "-5 value by value");
+    check(nlroute_rewrite_streaming(10, vlan, 32, out, 40) == NLROUTE_NO_FAMILY, "-5 value by value");
     check(are_lent(out, sizeof out), "nothing was written then");
-    ptrdiff_t answer = nlroute_rewrite_into(NLROUTE_VLAN, vlan, 32, out, 40);
+    ptrdiff_t answer = nlroute_rewrite_streaming(NLROUTE_VLAN, vlan, 32, out, 40);
     check(answer == 32 && !memcmp(out, vlan, 32) && are_lent(out + 32, 8), "a request is rewritten value by value");
     memory_is_out = true;
-    ptrdiff_t nested = nlroute_rewrite_into(NLROUTE_VLAN, vlan, 32, out, 40);
+    ptrdiff_t nested = nlroute_rewrite_streaming(NLROUTE_VLAN, vlan, 32, out, 40);
     memset(out, 0xFF, sizeof out);
-    ptrdiff_t numbers = nlroute_rewrite_into(NLROUTE_DSA, plain, 16, out, 40);
+    ptrdiff_t numbers = nlroute_rewrite_streaming(NLROUTE_DSA, plain, 16, out, 40);
     memory_is_out = false;
     check(nested == NLROUTE_NO_MEMORY, "-3 for a list of mappings without memory");
     check(numbers == 16 && out[3] == 0 && are_lent(out + 16, 24), "numbers take no memory");
     memset(out, 0xFF, sizeof out);
-    answer = nlroute_rewrite_into(NLROUTE_DSA, plain, 18, out, 40);
+    answer = nlroute_rewrite_streaming(NLROUTE_DSA, plain, 18, out, 40);
     check(answer == NLROUTE_HAS_FAULT, "-1 for a fault, value by value");
     check(are_lent(out + 20, 20), "what stands behind the room is left");
 }
@@ -146,10 +146,10 @@ static void value_by_value(void) {
 static void room_first(void) {
     const uint8_t short_value[10] = {5, 0, 1, 0, 42, 0, 0, 0, 3, 0};
     memory_is_out = true;
-    ptrdiff_t answer = nlroute_read(NLROUTE_DSA, short_value, 10);
+    ptrdiff_t answer = nlroute_count(NLROUTE_DSA, short_value, 10);
     memory_is_out = false;
     check(answer == NLROUTE_NO_MEMORY, "room for all values is asked for before the first one is read");
-    check(nlroute_read(NLROUTE_DSA, short_value, 10) == NLROUTE_HAS_FAULT, "with memory its fault is found");
+    check(nlroute_count(NLROUTE_DSA, short_value, 10) == NLROUTE_HAS_FAULT, "with memory its fault is found");
 }
 
 static void faults(void) {

@@ -36,14 +36,14 @@ mod sys {
             out: *mut u8,
             room: usize,
         ) -> isize;
-        pub fn nlroute_rewrite_into(
+        pub fn nlroute_rewrite_streaming(
             family: u32,
             bytes: *const u8,
             len: usize,
             out: *mut u8,
             room: usize,
         ) -> isize;
-        pub fn nlroute_read(family: u32, bytes: *const u8, len: usize) -> isize;
+        pub fn nlroute_count(family: u32, bytes: *const u8, len: usize) -> isize;
         pub fn nlroute_is_canonical(family: u32, bytes: *const u8, len: usize) -> isize;
         pub fn nlroute_fault(
             family: u32,
@@ -85,16 +85,16 @@ pub fn rewrite(family: Family, bytes: &[u8], out: &mut [u8]) -> Result<usize, Re
 
 /// Re-encodes a list into `out`, one attribute at a time. `out` must be at least as long as `bytes`, rounded up to a
 /// multiple of four. On error, `out` may have changed.
-pub fn rewrite_into(family: Family, bytes: &[u8], out: &mut [u8]) -> Result<usize, Refusal> {
+pub fn rewrite_streaming(family: Family, bytes: &[u8], out: &mut [u8]) -> Result<usize, Refusal> {
     let (at, room) = (out.as_mut_ptr(), out.len());
     answer(unsafe {
-        sys::nlroute_rewrite_into(family as u32, bytes.as_ptr(), bytes.len(), at, room)
+        sys::nlroute_rewrite_streaming(family as u32, bytes.as_ptr(), bytes.len(), at, room)
     })
 }
 
 /// Returns the number of values of a list.
 pub fn read(family: Family, bytes: &[u8]) -> Result<usize, Refusal> {
-    answer(unsafe { sys::nlroute_read(family as u32, bytes.as_ptr(), bytes.len()) })
+    answer(unsafe { sys::nlroute_count(family as u32, bytes.as_ptr(), bytes.len()) })
 }
 
 /// Checks whether a list is canonical.
@@ -154,7 +154,7 @@ fn main() {
     );
     let mut lent = [0xFF; 24];
     holds &= check(
-        rewrite_into(Family::Bond, &request, &mut lent) == Ok(16) && lent == out,
+        rewrite_streaming(Family::Bond, &request, &mut lent) == Ok(16) && lent == out,
         "value by value likewise",
     );
     holds &= check(

@@ -45,7 +45,7 @@ enum nlroute_family {
 
 /*
  * Error codes, returned in place of a length or count. The outputs are unchanged on error, except as described at
- * nlroute_rewrite_into().
+ * nlroute_rewrite_streaming().
  */
 enum nlroute_refusal {
     NLROUTE_HAS_FAULT = -1, /* the input is not a list of this attribute set; nlroute_fault() has the first error */
@@ -90,7 +90,7 @@ ptrdiff_t nlroute_rewrite(uint32_t family, const uint8_t *bytes, size_t len, uin
  * the value of some attribute is heap-allocated and that attribute does not follow the first error. These
  * three errors may leave changes in the first m bytes of out, but not after them.
  */
-ptrdiff_t nlroute_rewrite_into(uint32_t family, const uint8_t *bytes, size_t len, uint8_t *out, size_t room);
+ptrdiff_t nlroute_rewrite_streaming(uint32_t family, const uint8_t *bytes, size_t len, uint8_t *out, size_t room);
 
 /*
  * Returns the number of values in a list. Each attribute is one value.
@@ -98,7 +98,7 @@ ptrdiff_t nlroute_rewrite_into(uint32_t family, const uint8_t *bytes, size_t len
  * Unless an allocation fails, returns NLROUTE_HAS_FAULT if and only if the input is malformed. NLROUTE_NO_MEMORY is
  * possible only if the input starts with a whole attribute.
  */
-ptrdiff_t nlroute_read(uint32_t family, const uint8_t *bytes, size_t len);
+ptrdiff_t nlroute_count(uint32_t family, const uint8_t *bytes, size_t len);
 
 /*
  * Checks whether a list is canonical. Returns 1 if nlroute_rewrite() would output the same bytes, and 0 if it would

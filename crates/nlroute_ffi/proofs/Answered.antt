@@ -10,17 +10,17 @@ use Rattle.netlink_packet_route.specs.Table.{Table, Gives, Canonical}
 use Rattle.netlink_packet_route.specs.Answers.{OverwritesFront}
 use Rattle.netlink_packet_route.specs.Rewritten.{RewrittenInto, NeedsMemory}
 use Rattle.netlink_packet_route.specs.declared.family.Family.{Family}
-use Rattle.netlink_packet_route.specs.Family.{table_of}
-use Rattle.netlink_packet_route.specs.Rewrite.{ReadsBack, Settles, Rewrites, StandsInFront, OnRewriteMemory, RewriteToAnswers, RewriteIntoAnswers}
+use Rattle.netlink_packet_route.specs.Family.{family_number, table_of}
+use Rattle.netlink_packet_route.specs.Rewrite.{ReadsBack, Settles, Rewrites, StandsInFront, OnRewriteMemory, RewriteToSliceAnswers, RewriteStreamingAnswers}
 use Rattle.netlink_packet_route.specs.declared.rewriting.RewriteError.{RewriteError}
 use Rattle.netlink_packet_route.specs.declared.rewriting.RewriteError.TheVariants as errors
 use Rattle.netlink_packet_route.proofs.Rewritten as facade
 use Rattle.nlroute_ffi.specs.declared.refusal.Refusal.{Refusal}
 use Rattle.nlroute_ffi.specs.declared.refusal.Refusal.TheVariants.{Fault, TooLong, Memory, NoRoom, NoFamily}
-use Rattle.nlroute_ffi.specs.Numbers.{family_number, code_of, fault_numbers}
-use Rattle.nlroute_ffi.specs.Calls.{AnswersFor, Known, First, FaultAnswers, RewriteAnswers, IntoAnswers, refusal_of}
+use Rattle.nlroute_ffi.specs.Numbers.{code_of, fault_length, fault_numbers}
+use Rattle.nlroute_ffi.specs.Calls.{AnswersFor, Known, First, FaultAnswers, RewriteAnswers, StreamingAnswers, refusal_of}
 
--- what `rewrite_into` says of what it wrote
+-- what `rewrite_streaming` says of what it wrote
 pub in_front : {table : Table} (s old new : List ℕ) (n : ℕ) → RewrittenInto table s old new n → ((take n new ≡ s) ↔ Canonical table s) → n ≤ pad (length s) → ReadsBack table s (take n new) → Settles table (take n new)
     → pad (length s) ≤ length old → Rewrites table s old new n
 in_front s old new n r same few back settles room =
@@ -33,12 +33,12 @@ in_front s old new n r same few back settles room =
     }
 
 -- why a list is not rewritten
-pub refused_to : (table : Table) (s old new : List ℕ) (e : RewriteError) → RewriteToAnswers table s old new (Err e) → OnRewriteMemory {X = Option ℕ} (Err e) (frame_fault s ≡ None) → RewriteAnswers s old new table (Err (refusal_of e))
+pub refused_to : (table : Table) (s old new : List ℕ) (e : RewriteError) → RewriteToSliceAnswers table s old new (Err e) → OnRewriteMemory {X = Option ℕ} (Err e) (frame_fault s ≡ None) → RewriteAnswers s old new table (Err (refusal_of e))
 refused_to table s old new (errors.Fault at fault) why memory = (at, fault, why)
 refused_to table s old new (errors.TooLong i) why memory = record { first = i; is = why }
 refused_to table s old new (errors.Memory e) why memory = memory
 
-pub refused_into : (table : Table) (s old new : List ℕ) (e : RewriteError) → RewriteIntoAnswers table s old new (Err e) → OnRewriteMemory {X = ℕ} (Err e) (NeedsMemory table s) → IntoAnswers s old new table (Err (refusal_of e))
+pub refused_into : (table : Table) (s old new : List ℕ) (e : RewriteError) → RewriteStreamingAnswers table s old new (Err e) → OnRewriteMemory {X = ℕ} (Err e) (NeedsMemory table s) → StreamingAnswers s old new table (Err (refusal_of e))
 refused_into table s old new (errors.Fault at fault) why memory = (at, fault, why)
 refused_into table s old new (errors.TooLong i) why memory = record { first = i; is = why }
 refused_into table s old new (errors.Memory e) why memory = memory
@@ -50,7 +50,7 @@ known number says family result answer is said fits e = Known family result is s
 
 -- a first fault, told or not
 pub told : (table : Table) (s old new : List ℕ) (at : ℕ) (fault : DecodeFault) → FirstFault (Gives table) s at fault → (r : Result ℕ Refusal) → IfOk r (λ n. StandsInFront old new (fault_numbers at fault) n)
-    → IfErr r (λ e. (e ≡ NoRoom) × (length old < 7)) → FaultAnswers s old new table r
+    → IfErr r (λ e. (e ≡ NoRoom) × (length old < fault_length)) → FaultAnswers s old new table r
 told table s old new at fault first (Ok n) put no_room = First at fault first put
 told table s old new at fault first (Err Fault) put no_room = absurd cc
 told table s old new at fault first (Err TooLong) put no_room = absurd cc

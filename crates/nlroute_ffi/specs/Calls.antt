@@ -8,12 +8,12 @@ use Rattle.netlink_packet_route.specs.Rewritten.{IsUnfit, NeedsMemory}
 use Rattle.netlink_packet_route.specs.declared.family.Family.{Family}
 use Rattle.netlink_packet_route.specs.declared.rewriting.RewriteError.{RewriteError}
 use Rattle.netlink_packet_route.specs.declared.rewriting.RewriteError.TheVariants as errors
-use Rattle.netlink_packet_route.specs.Family.{table_of}
+use Rattle.netlink_packet_route.specs.Family.{family_number, table_of}
 use Rattle.netlink_packet_route.specs.Rewrite.{StandsInFront, Rewrites, HasNoRoom}
 use Rattle.netlink_packet_route.specs.Report.{Reports}
 use Rattle.nlroute_ffi.specs.declared.refusal.Refusal.{Refusal}
 use Rattle.nlroute_ffi.specs.declared.refusal.Refusal.TheVariants.{Fault, TooLong, Memory, NoRoom, NoFamily}
-use Rattle.nlroute_ffi.specs.Numbers.{family_number, code_of, fault_numbers}
+use Rattle.nlroute_ffi.specs.Numbers.{code_of, fault_length, fault_numbers}
 
 -- the return value: as `says` specifies for the table of the attribute set with this number; -5 if there is none
 pub data AnswersFor (number : ℕ) (says : Table → Result ℕ Refusal → Type 0) (answer : ℤ) : Type 0 where
@@ -27,13 +27,13 @@ abbrev pub HasFault : Table → List ℕ → Type 0
 HasFault table s = (at : ℕ) × (fault : DecodeFault) × FirstFault (Gives table) s at fault
 
 -- the number of values; or why there is none. Memory only if s starts with a whole attribute
-abbrev pub ReadAnswers : List ℕ → Table → Result ℕ Refusal → Type 0
-ReadAnswers s table (Ok n) = (vs : List AttrValue) × Wire (Gives table) s vs × (n ≡ length vs)
-ReadAnswers s table (Err Fault) = HasFault table s
-ReadAnswers s table (Err TooLong) = ⊥
-ReadAnswers s table (Err Memory) = frame_fault s ≡ None
-ReadAnswers s table (Err NoRoom) = ⊥
-ReadAnswers s table (Err NoFamily) = ⊥
+abbrev pub CountAnswers : List ℕ → Table → Result ℕ Refusal → Type 0
+CountAnswers s table (Ok n) = (vs : List AttrValue) × Wire (Gives table) s vs × (n ≡ length vs)
+CountAnswers s table (Err Fault) = HasFault table s
+CountAnswers s table (Err TooLong) = ⊥
+CountAnswers s table (Err Memory) = frame_fault s ≡ None
+CountAnswers s table (Err NoRoom) = ⊥
+CountAnswers s table (Err NoFamily) = ⊥
 
 -- ---- checking
 
@@ -61,13 +61,13 @@ RewriteAnswers s old new table (Err NoFamily) = ⊥
 
 -- as RewriteAnswers, with two differences. NoRoom: the buffer is shorter than s, rounded up to a multiple of four.
 -- Memory: only if some attribute that does not follow the first error has a type whose values are heap-allocated
-abbrev pub IntoAnswers : List ℕ → List ℕ → List ℕ → Table → Result ℕ Refusal → Type 0
-IntoAnswers s old new table (Ok n) = Rewrites table s old new n
-IntoAnswers s old new table (Err Fault) = HasFault table s
-IntoAnswers s old new table (Err TooLong) = IsUnfit table s
-IntoAnswers s old new table (Err Memory) = NeedsMemory table s
-IntoAnswers s old new table (Err NoRoom) = length old < pad (length s)
-IntoAnswers s old new table (Err NoFamily) = ⊥
+abbrev pub StreamingAnswers : List ℕ → List ℕ → List ℕ → Table → Result ℕ Refusal → Type 0
+StreamingAnswers s old new table (Ok n) = Rewrites table s old new n
+StreamingAnswers s old new table (Err Fault) = HasFault table s
+StreamingAnswers s old new table (Err TooLong) = IsUnfit table s
+StreamingAnswers s old new table (Err Memory) = NeedsMemory table s
+StreamingAnswers s old new table (Err NoRoom) = length old < pad (length s)
+StreamingAnswers s old new table (Err NoFamily) = ⊥
 
 -- ---- the first decode error
 
@@ -82,7 +82,7 @@ FaultAnswers s old new table (Ok n) = TellsFault s old new table n
 FaultAnswers s old new table (Err Fault) = ⊥
 FaultAnswers s old new table (Err TooLong) = ⊥
 FaultAnswers s old new table (Err Memory) = frame_fault s ≡ None
-FaultAnswers s old new table (Err NoRoom) = HasFault table s × (length old < 7)
+FaultAnswers s old new table (Err NoRoom) = HasFault table s × (length old < fault_length)
 FaultAnswers s old new table (Err NoFamily) = ⊥
 
 -- ---- the report

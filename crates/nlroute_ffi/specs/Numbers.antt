@@ -1,26 +1,11 @@
--- The numbers that represent an attribute set, a result and a decode error.
+-- The numbers that represent a result and a decode error. Family of netlink_packet_route has those of attribute sets.
 use Rattle.std.specs.Prelude.{ℕ, ℤ, pos, negsuc, List, [], ◌∷◌, Result, Ok, Err}
-use Rattle.netlink_packet_route.specs.declared.family.Family.{Family}
-use Rattle.netlink_packet_route.specs.declared.family.Family.TheVariants.{AfSpecBridge, Bond, BondPort, Bridge, BridgePort, Vlan, Can, Dsa, Hsr, ProtoBridge}
 use Rattle.netlink_packet_route.specs.declared.link.Cause.{Cause}
 use Rattle.netlink_packet_route.specs.declared.link.Cause.TheVariants.{ShortFrame, SmallLength, Overrun, WrongLength, TooShort, AddressLength}
 use Rattle.netlink_packet_route.specs.declared.link.DecodeFault.{DecodeFault}
 use Rattle.netlink_packet_route.specs.declared.link.DecodeFault.TheVariants.{Frame, Value, NestedFrame, NestedValue, Payload, Text}
 use Rattle.nlroute_ffi.specs.declared.refusal.Refusal.{Refusal}
 use Rattle.nlroute_ffi.specs.declared.refusal.Refusal.TheVariants.{Fault, TooLong, Memory, NoRoom, NoFamily}
-
--- the number of an attribute set
-abbrev pub family_number : Family → ℕ
-family_number AfSpecBridge = 0
-family_number Bond = 1
-family_number BondPort = 2
-family_number Bridge = 3
-family_number BridgePort = 4
-family_number Vlan = 5
-family_number Can = 6
-family_number Dsa = 7
-family_number Hsr = 8
-family_number ProtoBridge = 9
 
 -- the result for the C caller: a length or a count, or an error code from -1 to -5 (`negsuc n` is -1 - n)
 abbrev pub code_of : Result ℕ Refusal → ℤ
@@ -31,21 +16,63 @@ code_of (Err Memory) = negsuc 2
 code_of (Err NoRoom) = negsuc 3
 code_of (Err NoFamily) = negsuc 4
 
+-- the causes, as `enum nlroute_cause` of the header numbers them
+abbrev pub short_frame : ℕ
+short_frame = 1
+
+abbrev pub small_length : ℕ
+small_length = 2
+
+abbrev pub overrun : ℕ
+overrun = 3
+
+abbrev pub wrong_length : ℕ
+wrong_length = 4
+
+abbrev pub too_short : ℕ
+too_short = 5
+
+abbrev pub address_length : ℕ
+address_length = 6
+
 -- a cause: its number, and its own numbers in the order of its `Display` output, with 0 if it has only one
 abbrev pub cause_numbers : Cause → List ℕ
-cause_numbers (ShortFrame left) = 1 ∷ left ∷ 0 ∷ []
-cause_numbers (SmallLength size) = 2 ∷ size ∷ 0 ∷ []
-cause_numbers (Overrun size left) = 3 ∷ size ∷ left ∷ []
-cause_numbers (WrongLength want got) = 4 ∷ want ∷ got ∷ []
-cause_numbers (TooShort want got) = 5 ∷ want ∷ got ∷ []
-cause_numbers (AddressLength got) = 6 ∷ got ∷ 0 ∷ []
+cause_numbers (ShortFrame left) = short_frame ∷ left ∷ 0 ∷ []
+cause_numbers (SmallLength size) = small_length ∷ size ∷ 0 ∷ []
+cause_numbers (Overrun size left) = overrun ∷ size ∷ left ∷ []
+cause_numbers (WrongLength want got) = wrong_length ∷ want ∷ got ∷ []
+cause_numbers (TooShort want got) = too_short ∷ want ∷ got ∷ []
+cause_numbers (AddressLength got) = address_length ∷ got ∷ 0 ∷ []
+
+-- the parts that may be malformed, as `enum nlroute_place` of the header numbers them; in a list, the last two never are
+abbrev pub frame : ℕ
+frame = 0
+
+abbrev pub payload : ℕ
+payload = 1
+
+abbrev pub element_frame : ℕ
+element_frame = 2
+
+abbrev pub element_payload : ℕ
+element_payload = 3
+
+abbrev pub bare_payload : ℕ
+bare_payload = 4
+
+abbrev pub text : ℕ
+text = 5
 
 -- a decode error: the offset of its attribute, the part that is malformed, the type of the attribute, the type of the
 -- element in its list (each 0 if there is none), and the cause
 abbrev pub fault_numbers : ℕ → DecodeFault → List ℕ
-fault_numbers at (Frame c) = at ∷ 0 ∷ 0 ∷ 0 ∷ cause_numbers c
-fault_numbers at (Value kind c) = at ∷ 1 ∷ kind ∷ 0 ∷ cause_numbers c
-fault_numbers at (NestedFrame kind c) = at ∷ 2 ∷ kind ∷ 0 ∷ cause_numbers c
-fault_numbers at (NestedValue kind inner c) = at ∷ 3 ∷ kind ∷ inner ∷ cause_numbers c
-fault_numbers at (Payload c) = at ∷ 4 ∷ 0 ∷ 0 ∷ cause_numbers c
-fault_numbers at Text = at ∷ 5 ∷ 0 ∷ 0 ∷ 0 ∷ 0 ∷ 0 ∷ []
+fault_numbers at (Frame c) = at ∷ frame ∷ 0 ∷ 0 ∷ cause_numbers c
+fault_numbers at (Value kind c) = at ∷ payload ∷ kind ∷ 0 ∷ cause_numbers c
+fault_numbers at (NestedFrame kind c) = at ∷ element_frame ∷ kind ∷ 0 ∷ cause_numbers c
+fault_numbers at (NestedValue kind inner c) = at ∷ element_payload ∷ kind ∷ inner ∷ cause_numbers c
+fault_numbers at (Payload c) = at ∷ bare_payload ∷ 0 ∷ 0 ∷ cause_numbers c
+fault_numbers at Text = at ∷ text ∷ 0 ∷ 0 ∷ 0 ∷ 0 ∷ 0 ∷ []
+
+-- how many numbers an error has
+abbrev pub fault_length : ℕ
+fault_length = 7

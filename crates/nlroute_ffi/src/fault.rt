@@ -3,13 +3,43 @@
 ghost use Rattle.std.specs.Prelude.{◌≡◌, [], ◌∷◌, ◌<◌, length, IfOk, IfErr, OnErr};
 ghost use Rattle.netlink_packet_route.specs.Family.{table_of};
 ghost use Rattle.netlink_packet_route.specs.Rewrite.{StandsInFront};
-ghost use Rattle.nlroute_ffi.specs.Numbers.{cause_numbers, fault_numbers};
+ghost use Rattle.nlroute_ffi.specs.Numbers.{cause_numbers, fault_length, fault_numbers};
 ghost use Rattle.nlroute_ffi.specs.Calls.{FaultAnswers};
 
 use crate::refusal::Refusal;
 use netlink_packet_route::link::{Cause, DecodeFault, ListError};
 use netlink_packet_route::{Family, count_values};
 use std::alloc::Global;
+
+/// How many numbers an error has: `NLROUTE_FAULT_NUMBERS` of the header.
+const FAULT_LENGTH: usize = 7;
+
+// The parts that may be malformed: `enum nlroute_place` of the header.
+const FRAME: u64 = 0;
+
+const PAYLOAD: u64 = 1;
+
+const ELEMENT_FRAME: u64 = 2;
+
+const ELEMENT_PAYLOAD: u64 = 3;
+
+// Two more, which never occur in a list.
+const BARE_PAYLOAD: u64 = 4;
+
+const TEXT: u64 = 5;
+
+// The causes: `enum nlroute_cause` of the header.
+const SHORT_FRAME: u64 = 1;
+
+const SMALL_LENGTH: u64 = 2;
+
+const OVERRUN: u64 = 3;
+
+const WRONG_LENGTH: u64 = 4;
+
+const TOO_SHORT: u64 = 5;
+
+const ADDRESS_LENGTH: u64 = 6;
 
 /// Writes the numbers of the first decode error of a list to the start of `numbers`. Returns how many were written,
 /// which is 0 if the list has no error; the rest of `numbers` is unchanged.
@@ -37,7 +67,7 @@ pub(crate) fn first_fault(
 
 fn put_fault(at: usize, fault: DecodeFault, numbers: &mut [u64]) -> Result<usize, Refusal>
     ensures put { IfOk result (λ n. StandsInFront numbers.old numbers.new (fault_numbers at fault) n) }
-    ensures no_room { IfErr result (λ refusal. (refusal ≡ Refusal.NoRoom) × (length numbers.old < 7)) }
+    ensures no_room { IfErr result (λ refusal. (refusal ≡ Refusal.NoRoom) × (length numbers.old < fault_length)) }
     ensures unchanged { OnErr result (numbers.new ≡ numbers.old) }
 {
     let told = numbers_of(at as u64, fault);
@@ -48,21 +78,26 @@ fn put_fault(at: usize, fault: DecodeFault, numbers: &mut [u64]) -> Result<usize
     Ok(told.len())
 }
 
-fn numbers_of(at: u64, fault: DecodeFault) -> [u64; 7]
+fn numbers_of(at: u64, fault: DecodeFault) -> [u64; FAULT_LENGTH]
     ensures { result ≡ fault_numbers at fault }
 {
     match fault {
-        DecodeFault::Frame(cause) => with_cause(at, 0, 0, 0, cause),
-        DecodeFault::Value { kind, cause } => with_cause(at, 1, kind, 0, cause),
-        DecodeFault::NestedFrame { kind, cause } => with_cause(at, 2, kind, 0, cause),
-        DecodeFault::NestedValue { kind, inner, cause } => with_cause(at, 3, kind, inner, cause),
-        // These two are not errors of a list.
-        DecodeFault::Payload(cause) => with_cause(at, 4, 0, 0, cause),
-        DecodeFault::Text => [at, 5, 0, 0, 0, 0, 0],
+        DecodeFault::Frame(cause) => with_cause(at, FRAME, 0, 0, cause),
+        DecodeFault::Value { kind, cause } => with_cause(at, PAYLOAD, kind, 0, cause),
+        DecodeFault::NestedFrame { kind, cause } => with_cause(at, ELEMENT_FRAME, kind, 0, cause),
+        DecodeFault::NestedValue { kind, inner, cause } => with_cause(
+            at,
+            ELEMENT_PAYLOAD,
+            kind,
+            inner,
+            cause,
+        ),
+        DecodeFault::Payload(cause) => with_cause(at, BARE_PAYLOAD, 0, 0, cause),
+        DecodeFault::Text => [at, TEXT, 0, 0, 0, 0, 0],
     }
 }
 
-fn with_cause(at: u64, place: u64, kind: u16, inner: u16, cause: Cause) -> [u64; 7]
+fn with_cause(at: u64, place: u64, kind: u16, inner: u16, cause: Cause) -> [u64; FAULT_LENGTH]
     ensures { result ≡ at ∷ place ∷ kind ∷ inner ∷ cause_numbers cause }
 {
     let (number, first, second) = numbers_of_cause(cause);
@@ -73,11 +108,11 @@ fn numbers_of_cause(cause: Cause) -> (u64, u64, u64)
     ensures { result.0 ∷ result.1 ∷ result.2 ∷ [] ≡ cause_numbers cause }
 {
     match cause {
-        Cause::ShortFrame { left } => (1, left as u64, 0),
-        Cause::SmallLength { length } => (2, length as u64, 0),
-        Cause::Overrun { length, left } => (3, length as u64, left as u64),
-        Cause::WrongLength { want, got } => (4, want as u64, got as u64),
-        Cause::TooShort { want, got } => (5, want as u64, got as u64),
-        Cause::AddressLength { got } => (6, got as u64, 0),
+        Cause::ShortFrame { left } => (SHORT_FRAME, left as u64, 0),
+        Cause::SmallLength { length } => (SMALL_LENGTH, length as u64, 0),
+        Cause::Overrun { length, left } => (OVERRUN, length as u64, left as u64),
+        Cause::WrongLength { want, got } => (WRONG_LENGTH, want as u64, got as u64),
+        Cause::TooShort { want, got } => (TOO_SHORT, want as u64, got as u64),
+        Cause::AddressLength { got } => (ADDRESS_LENGTH, got as u64, 0),
     }
 }

@@ -4,7 +4,6 @@
 //! two arguments in C: a pointer, and the number of elements it points to. The allocator is not an argument in C.
 #![tactic(auto)]
 
-mod family;
 mod fault;
 mod lists;
 mod refusal;
@@ -14,14 +13,14 @@ mod text;
 
 ghost use Rattle.std.specs.Prelude.{◌≡◌, ◌<◌, pos, negsuc, ◌<ℤ◌, length, drop};
 ghost use Rattle.netlink_packet_route.specs.Frame.{pad};
-ghost use Rattle.nlroute_ffi.specs.Calls.{AnswersFor, ReadAnswers, RewriteAnswers, IntoAnswers};
+ghost use Rattle.nlroute_ffi.specs.Calls.{AnswersFor, CountAnswers, RewriteAnswers, StreamingAnswers};
 ghost use Rattle.nlroute_ffi.specs.Calls.{CanonicalAnswers, FaultAnswers, ReportAnswers};
 
-use crate::family::family_of;
 use crate::fault::first_fault;
 use crate::lists::{count, judge, rewrite, rewrite_each};
 use crate::refusal::{Refusal, answer_of};
 use crate::text::report_into;
+use netlink_packet_route::Family;
 use std::alloc::Global;
 
 /// Re-encodes the list in `bytes` into `out`, as `rewrite` does. Returns `n`, the number of bytes written; `out[n..]`
@@ -36,14 +35,14 @@ pub extern "C" fn nlroute_rewrite(alloc: Global, family: u32, bytes: &[u8], out:
     ensures answer { AnswersFor family (RewriteAnswers bytes.now out.old out.new) result }
     ensures unchanged { result <ℤ pos 0 → out.new ≡ out.old }
 {
-    match family_of(family) {
+    match Family::from_number(family) {
         Some(family) => answer_of(rewrite(alloc, family, bytes, out)),
         None => answer_of(Err(Refusal::NoFamily)),
     }
 }
 
-/// Re-encodes the list in `bytes` into `out`, one attribute at a time, as `rewrite_into` does. Returns `n`, the number
-/// of bytes written; `out[n..]` is unchanged.
+/// Re-encodes the list in `bytes` into `out`, one attribute at a time, as `rewrite_streaming` does. Returns `n`, the
+/// number of bytes written; `out[n..]` is unchanged.
 ///
 /// # Errors
 ///
@@ -54,18 +53,18 @@ pub extern "C" fn nlroute_rewrite(alloc: Global, family: u32, bytes: &[u8], out:
 /// -1 if the input is malformed, -2 if a value does not fit, -3 if an allocation fails; `out[..m]` may then have
 /// changed.
 #[unsafe(no_mangle)]
-pub extern "C" fn nlroute_rewrite_into(
+pub extern "C" fn nlroute_rewrite_streaming(
     alloc: Global,
     family: u32,
     bytes: &[u8],
     out: &mut [u8],
 ) -> isize
-    ensures answer { AnswersFor family (IntoAnswers bytes.now out.old out.new) result }
+    ensures answer { AnswersFor family (StreamingAnswers bytes.now out.old out.new) result }
     ensures behind { drop (pad (length bytes.now)) out.new ≡ drop (pad (length bytes.now)) out.old }
     ensures room { length out.old < pad (length bytes.now) → (result <ℤ negsuc 2) × (out.new ≡ out.old) }
     ensures unchanged { result ≡ negsuc 4 → out.new ≡ out.old }
 {
-    match family_of(family) {
+    match Family::from_number(family) {
         Some(family) => answer_of(rewrite_each(alloc, family, bytes, out)),
         None => answer_of(Err(Refusal::NoFamily)),
     }
@@ -77,10 +76,10 @@ pub extern "C" fn nlroute_rewrite_into(
 ///
 /// -1 if the input is malformed, -3 if an allocation fails, -5 if `family` is not the number of a `Family`.
 #[unsafe(no_mangle)]
-pub extern "C" fn nlroute_read(alloc: Global, family: u32, bytes: &[u8]) -> isize
-    ensures { AnswersFor family (ReadAnswers bytes.now) result }
+pub extern "C" fn nlroute_count(alloc: Global, family: u32, bytes: &[u8]) -> isize
+    ensures { AnswersFor family (CountAnswers bytes.now) result }
 {
-    match family_of(family) {
+    match Family::from_number(family) {
         Some(family) => answer_of(count(alloc, family, bytes)),
         None => answer_of(Err(Refusal::NoFamily)),
     }
@@ -96,7 +95,7 @@ pub extern "C" fn nlroute_read(alloc: Global, family: u32, bytes: &[u8]) -> isiz
 pub extern "C" fn nlroute_is_canonical(family: u32, bytes: &[u8]) -> isize
     ensures { AnswersFor family (CanonicalAnswers bytes.now) result }
 {
-    match family_of(family) {
+    match Family::from_number(family) {
         Some(family) => answer_of(Ok(judge(family, bytes))),
         None => answer_of(Err(Refusal::NoFamily)),
     }
@@ -119,7 +118,7 @@ pub extern "C" fn nlroute_fault(
     ensures answer { AnswersFor family (FaultAnswers bytes.now fault.old fault.new) result }
     ensures unchanged { result <ℤ pos 0 → fault.new ≡ fault.old }
 {
-    match family_of(family) {
+    match Family::from_number(family) {
         Some(family) => answer_of(first_fault(alloc, family, bytes, fault)),
         None => answer_of(Err(Refusal::NoFamily)),
     }
@@ -143,7 +142,7 @@ pub extern "C" fn nlroute_report(
     ensures answer { AnswersFor family (ReportAnswers text.now out.old out.new status.new) result }
     ensures unchanged { result <ℤ pos 0 → (out.new ≡ out.old) × (status.new ≡ status.old) }
 {
-    match family_of(family) {
+    match Family::from_number(family) {
         Some(family) => answer_of(report_into(alloc, family, text, out, status)),
         None => answer_of(Err(Refusal::NoFamily)),
     }

@@ -4,12 +4,14 @@ ghost use Rattle.std.specs.Prelude.{◌≡◌, ◌≤◌, ◌<◌, ◌↔◌, le
 ghost use Rattle.netlink_packet_route.specs.Frame.{pad};
 ghost use Rattle.netlink_packet_route.specs.Table.{Canonical};
 ghost use Rattle.netlink_packet_route.specs.Family.{table_of};
-ghost use Rattle.nlroute_ffi.specs.Calls.{ReadAnswers, RewriteAnswers, IntoAnswers};
+ghost use Rattle.nlroute_ffi.specs.Calls.{CountAnswers, RewriteAnswers, StreamingAnswers};
 ghost use Rattle.nlroute_ffi.specs.declared.refusal.Refusal.TheVariants.{NoRoom};
 
 use crate::refusal::{Refusal, refused_by};
 use netlink_packet_route::link::ListError;
-use netlink_packet_route::{Family, count_values, is_canonical, rewrite_into, rewrite_to};
+use netlink_packet_route::{
+    Family, count_values, is_canonical, rewrite_streaming, rewrite_to_slice,
+};
 use std::alloc::Global;
 
 /// Counts the values of a list.
@@ -18,7 +20,7 @@ use std::alloc::Global;
 ///
 /// `Fault` if the input is malformed, `Memory` if an allocation fails.
 pub(crate) fn count(alloc: Global, family: Family, bytes: &[u8]) -> Result<usize, Refusal>
-    ensures answer { ReadAnswers bytes.now (table_of family) result }
+    ensures answer { CountAnswers bytes.now (table_of family) result }
     ensures bounded { IfOk result (λ n. n ≤ length bytes.now) }
 {
     match count_values(alloc, family, bytes) {
@@ -39,7 +41,8 @@ pub(crate) fn judge(family: Family, bytes: &[u8]) -> usize
 ///
 /// # Errors
 ///
-/// `Fault`, `TooLong` or `Memory` as for `rewrite_to`, `NoRoom` if `out` is too small. On error `out` is unchanged.
+/// `Fault`, `TooLong` or `Memory` as for `rewrite_to_slice`, `NoRoom` if `out` is too small. On error `out` is
+/// unchanged.
 pub(crate) fn rewrite(
     alloc: Global,
     family: Family,
@@ -49,7 +52,7 @@ pub(crate) fn rewrite(
     ensures answer { RewriteAnswers bytes.now out.old out.new (table_of family) result }
     ensures unchanged { OnErr result (out.new ≡ out.old) }
 {
-    match rewrite_to(alloc, family, bytes, out) {
+    match rewrite_to_slice(alloc, family, bytes, out) {
         Ok(Some(count)) => Ok(count),
         Ok(None) => Err(Refusal::NoRoom),
         Err(error) => Err(refused_by(error)),
@@ -64,7 +67,7 @@ pub(crate) fn rewrite(
 /// Let `m` be `bytes.len()` rounded up to a multiple of four.
 ///
 /// `NoRoom` if `out` has fewer than `m` bytes, and then it is unchanged. Otherwise `Fault`, `TooLong` or `Memory` as
-/// for `rewrite_into`, and then `out[..m]` may have changed.
+/// for `rewrite_streaming`, and then `out[..m]` may have changed.
 #[inline(always)]
 pub(crate) fn rewrite_each(
     alloc: Global,
@@ -72,14 +75,14 @@ pub(crate) fn rewrite_each(
     bytes: &[u8],
     out: &mut [u8],
 ) -> Result<usize, Refusal>
-    ensures answer { IntoAnswers bytes.now out.old out.new (table_of family) result }
+    ensures answer { StreamingAnswers bytes.now out.old out.new (table_of family) result }
     ensures behind { drop (pad (length bytes.now)) out.new ≡ drop (pad (length bytes.now)) out.old }
     ensures room { length out.old < pad (length bytes.now) → (result ≡ Err NoRoom) × (out.new ≡ out.old) }
 {
     if out.len() < (bytes.len() + 3) / 4 * 4 {
         return Err(Refusal::NoRoom);
     }
-    match rewrite_into(alloc, family, bytes, out) {
+    match rewrite_streaming(alloc, family, bytes, out) {
         Ok(count) => Ok(count),
         Err(error) => Err(refused_by(error)),
     }

@@ -1,8 +1,8 @@
 //! Tests of what no contract covers: that allocations succeed, and each result for inputs that were computed by hand.
 
 use crate::{
-    nlroute_fault, nlroute_is_canonical, nlroute_read, nlroute_report, nlroute_rewrite,
-    nlroute_rewrite_into,
+    nlroute_count, nlroute_fault, nlroute_is_canonical, nlroute_report, nlroute_rewrite,
+    nlroute_rewrite_streaming,
 };
 
 /// `IFLA_DSA_CONDUIT` 42, and an attribute of type 2, which DSA does not have. Of the two nested flags, only that of
@@ -43,7 +43,7 @@ fn families_by_number(rt: HostRuntime) {
         let is_so = front == wanted && rest == &LENT[wanted.len()..];
         assert!(rt; is_so, "of family {family}");
         let mut lent = LENT;
-        let answer = nlroute_rewrite_into(rt.alloc(), family, bytes, &mut lent);
+        let answer = nlroute_rewrite_streaming(rt.alloc(), family, bytes, &mut lent);
         let is_equal = usize::try_from(answer) == Ok(wanted.len()) && lent == out;
         assert!(rt; is_equal, "of family {family}");
         let is_judged = nlroute_is_canonical(family, bytes) == 0;
@@ -98,7 +98,8 @@ fn value_by_value(rt: HostRuntime) {
     for (family, bytes, room, answer) in rows {
         let mut out = LENT;
         assert!(rt; room <= 12);
-        let is_so = nlroute_rewrite_into(rt.alloc(), family, bytes, &mut out[..room]) == answer;
+        let is_so = nlroute_rewrite_streaming(rt.alloc(), family, bytes, &mut out[..room])
+            == answer;
         let is_kept = answer > 0 || out == LENT;
         assert!(rt; is_so && is_kept, "for {answer} of family {family}");
     }
@@ -120,7 +121,7 @@ fn counts(rt: HostRuntime) {
         (10, &[], -5),
     ];
     for (family, bytes, answer) in rows {
-        let is_so = nlroute_read(rt.alloc(), family, bytes) == answer;
+        let is_so = nlroute_count(rt.alloc(), family, bytes) == answer;
         assert!(rt; is_so, "for {answer} of family {family}");
     }
 }

@@ -2,12 +2,13 @@
 use Rattle.std.proofs.Common.{◌≡◌, ℕ, Bool, true, false, ◌&&◌, List, [], ◌∷◌, ◌++◌, drop, None, Ok, Err, refl, sym, ap, ◌∙◌, append_assoc, codes}
 use Rattle.std.specs.Option.{option_copied}
 use Rattle.std.proofs.lemmas.List.{append-nil}
-use Rattle.uses.specs.declared.messages.header.Message.{Message}
-use Rattle.uses.specs.declared.messages.link.Link.{Link}
-use Rattle.uses.specs.declared.messages.fault.MessageError.{MessageError}
-use Rattle.uses.specs.Message.{NextMessage, Stand}
+use Rattle.link_messages.specs.declared.views.Message.{Message}
+use Rattle.link_messages.specs.declared.link.Link.{Link}
+use Rattle.link_messages.specs.declared.message.MessageError.{MessageError}
+use Rattle.link_messages.specs.Message.{NextMessage, Stand}
+use Rattle.link_messages.specs.Link.{parts_of}
 use Rattle.nlshow.specs.List.{Adds, ShowsEach}
-use Rattle.nlshow.specs.Messages.{error_line, IsHead, AddsHead, ShowsPart, parts_of, ShowsLink, ShowsMessage, ShowsMessages, Ended, Broken}
+use Rattle.nlshow.specs.Messages.{error_line, IsHead, AddsHead, ShowsPart, ShowsLink, ShowsMessage, ShowsMessages, Ended, Broken}
 use Rattle.nlshow.proofs.Each.{and_true, and_false, and_assoc, each_none, each_more}
 
 -- ---- the lists of a link

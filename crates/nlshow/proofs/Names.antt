@@ -8,7 +8,8 @@ use Rattle.std.proofs.lemmas.Str.{IsUtf8-from_ascii}
 use Rattle.netlink_packet_route.specs.declared.family.Family.{Family}
 use Rattle.netlink_packet_route.specs.declared.family.Family.TheVariants.{Bond}
 use Rattle.netlink_packet_route.specs.Family.{family_name}
-use Rattle.netlink_packet_route.specs.Report.{is_space, line}
+use Rattle.netlink_packet_route.specs.HexText.{is_space}
+use Rattle.netlink_packet_route.specs.Report.{line}
 use Rattle.nlshow.specs.Show.{IsUnbroken, IsBlank, IsApart, IsCut, IsSolidFirst}
 use Rattle.nlshow.proofs.Cuts.{cut_at, no_cut, all_each}
 

@@ -3,20 +3,20 @@ use Rattle.std.proofs.Common.{◌≡◌, ◌≢◌, ℕ, ◌+◌, ◌<◌, ◌�
 use Rattle.std.specs.List.{flat_map}
 use Rattle.std.proofs.lemmas.List.{take_all, append-nil, nil_from_length}
 use Rattle.std.proofs.lemmas.Grind.{flat_map-append}
-use Rattle.netlink_packet_route.specs.Report.{line}
+use Rattle.netlink_packet_route.specs.Report.{line, most_text}
 use Rattle.nlshow.specs.List.{ShowsEach}
 use Rattle.nlshow.specs.Show.{Shows, TooLong, PassedOver, Answered, ShowsAll, Ended, Open, IsUnbroken}
-use Rattle.nlshow.specs.Progress.{Shown, Goes, held_of}
+use Rattle.nlshow.specs.Progress.{Shown, Goes, held_of, most_held}
 use Rattle.nlshow.proofs.Cuts.{all_append, take_twice}
 use Rattle.nlshow.proofs.Each.{and_true, and_assoc, each_more}
 
 -- ---- what is held of a line tells what is shown for it
 
-short : (text : List ℕ) → length (held_of text) ≤ 262144 → held_of text ≡ text
-short text le = take_all 262145 text (omega (arith, length-take 262145 text))
+short : (text : List ℕ) → length (held_of text) ≤ most_text → held_of text ≡ text
+short text le = take_all most_held text (omega (arith, length-take most_held text))
 
 pub from_held : (text out : List ℕ) (read : Bool) → Shows (held_of text) out read → Shows text out read
-from_held text out read (TooLong lt o r) = TooLong (omega (arith, length-take 262145 text)) o r
+from_held text out read (TooLong lt o r) = TooLong (omega (arith, length-take most_held text)) o r
 from_held text out read (PassedOver le h o r) = subst (λ t. Shows t out read) (short text le) (PassedOver le h o r)
 from_held text out read (Answered le h below a o) = subst (λ t. Shows t out read) (short text le) (Answered le h below a o)
 
@@ -60,14 +60,14 @@ goes_on before after piece solid e text out whole s =
       cut = ap (λ t. t ++ piece) s.cut ∙ append_assoc (flat_map line s.lines) s.current piece;
       unbroken = s.unbroken;
       open_end = all_append (λ b. b ≢ 10) s.current piece s.open_end solid;
-      is_held = e ∙ ap (λ t. held_of (t ++ piece)) s.is_held ∙ take_twice 262145 s.current piece;
+      is_held = e ∙ ap (λ t. held_of (t ++ piece)) s.is_held ∙ take_twice most_held s.current piece;
       shown = subst (λ o. ShowsEach Shows s.lines o (whole && true)) (sym (append-nil out)) (subst (λ w. ShowsEach Shows s.lines out w) (sym (and_true whole)) s.shown);
     }
 
 -- bytes without LF, and then LF
 pub goes_over : (before piece written : List ℕ) (read : Bool) → IsUnbroken piece → Shows (held_of (before ++ piece)) written read → Goes before [] (line piece) written read
 goes_over before piece written read solid h text out whole s =
-    let joined : held_of (before ++ piece) ≡ held_of (s.current ++ piece) = ap (λ t. held_of (t ++ piece)) s.is_held ∙ take_twice 262145 s.current piece in
+    let joined : held_of (before ++ piece) ≡ held_of (s.current ++ piece) = ap (λ t. held_of (t ++ piece)) s.is_held ∙ take_twice most_held s.current piece in
     let whole_line = s.current ++ piece in
     let full = from_held whole_line written read (subst (λ t. Shows t written read) joined h) in
     record {
@@ -86,7 +86,7 @@ goes_over before piece written read solid h text out whole s =
 -- nothing is held
 pub ends_here : (text out : List ℕ) (whole : Bool) → Shown text out [] whole → ShowsAll text out whole
 ends_here text out whole s =
-    let len : length s.current ≡ 0 = omega (arith, ap length s.is_held, length-take 262145 s.current) in
+    let len : length s.current ≡ 0 = omega (arith, ap length s.is_held, length-take most_held s.current) in
     record {
       lines = s.lines;
       cut = Ended s.unbroken (s.cut ∙ ap (λ t. flat_map line s.lines ++ t) (nil_from_length s.current len) ∙ append-nil (flat_map line s.lines));
@@ -100,7 +100,7 @@ some_bytes (b ∷ text) h = omega arith
 -- the last line lacks its LF
 pub ends_open : (text out held written : List ℕ) (whole read : Bool) → Shown text out held whole → held ≢ [] → Shows held written read → ShowsAll text (out ++ written) (whole && read)
 ends_open text out held written whole read s some h =
-    let len : 0 < length s.current = omega (arith, some_bytes held some, ap length s.is_held, length-take 262145 s.current) in
+    let len : 0 < length s.current = omega (arith, some_bytes held some, ap length s.is_held, length-take most_held s.current) in
     record {
       lines = s.lines ++ s.current ∷ [];
       cut = Open s.lines s.current s.unbroken s.open_end len refl s.cut;

@@ -6,12 +6,12 @@ use Rattle.bstr.specs.Show.{debug_text}
 use Rattle.netlink_packet_route.specs.declared.family.Family.{Family}
 use Rattle.netlink_packet_route.specs.Family.{family_name, table_of}
 use Rattle.netlink_packet_route.specs.Report.{line}
-use Rattle.uses.specs.declared.messages.header.Message.{Message}
-use Rattle.uses.specs.declared.messages.link.Link.{Link}
-use Rattle.uses.specs.declared.messages.link.Part.{Part}
-use Rattle.uses.specs.declared.messages.fault.MessageError.{MessageError}
-use Rattle.uses.specs.Message.{NextMessage, Stand, packet_of, error_text}
-use Rattle.uses.specs.LinkMessage.{IsAbout, IsAboutNone}
+use Rattle.link_messages.specs.declared.views.Message.{Message}
+use Rattle.link_messages.specs.declared.link.Link.{Link}
+use Rattle.link_messages.specs.declared.link.Part.{Part}
+use Rattle.link_messages.specs.declared.message.MessageError.{MessageError}
+use Rattle.link_messages.specs.Message.{NextMessage, Stand, packet_of, error_text}
+use Rattle.link_messages.specs.Link.{IsAbout, IsAboutNone, parts_of}
 use Rattle.nlshow.specs.List.{ShowsList, ShowsEach}
 
 -- ---- lines
@@ -40,11 +40,6 @@ abbrev pub ShowsPart : List ℕ → Option Part → List ℕ → Bool → Type 0
 ShowsPart place None out read = (out ≡ []) × (read ≡ true)
 ShowsPart place (Some p) out read =
     (below : List ℕ) × ShowsList (codes "  ") p.payload.at (table_of p.family) p.payload.bytes.now below read × (out ≡ path_line place p.family ++ below)
-
--- the lists of a link, each with the attribute that has it
-abbrev pub parts_of : Link → List (List ℕ × Option Part)
-parts_of link =
-    (codes "IFLA_LINKINFO", link.info_data) ∷ (codes "IFLA_LINKINFO", link.port_data) ∷ (codes "IFLA_AF_SPEC", link.af_spec) ∷ (codes "IFLA_PROTINFO", link.protinfo) ∷ []
 
 -- the output for a link, and whether its lists decode
 pub record ShowsLink (link : Link) (out : List ℕ) (read : Bool) : Type 0 where

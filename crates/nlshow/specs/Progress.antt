@@ -1,16 +1,20 @@
 -- The progress of a run through its input.
-use Rattle.std.specs.Prelude.{◌≡◌, ◌≢◌, ◌⊎◌, ℕ, Bool, ◌&&◌, List, [], ◌++◌, take, Option, Result, Ok, Err}
+use Rattle.std.specs.Prelude.{◌≡◌, ◌≢◌, ◌⊎◌, ℕ, ◌+◌, Bool, ◌&&◌, List, [], ◌++◌, take, Option, Result, Ok, Err}
 use Rattle.std.specs.List.{flat_map, AllByRecursion}
 use Rattle.std.specs.Io.KnownBytes.{Appends, Keeps}
-use Rattle.netlink_packet_route.specs.Report.{line}
+use Rattle.netlink_packet_route.specs.Report.{line, most_text}
 use Rattle.nlshow.specs.declared.running.Stop.{Stop}
 use Rattle.nlshow.specs.declared.running.Stop.TheVariants.{Memory, Reader, Writer}
 use Rattle.nlshow.specs.List.{ShowsEach}
 use Rattle.nlshow.specs.Show.{Shows, IsUnbroken}
 
+-- how many bytes of a line are kept at most: one more than the maximum length of a line
+abbrev pub most_held : ℕ
+most_held = most_text + 1
+
 -- the part of the current line that is kept; the rest does not affect the output
 abbrev pub held_of : List ℕ → List ℕ
-held_of text = take 262145 text
+held_of text = take most_held text
 
 -- the output of all complete lines is written, and what follows the last LF is kept
 pub record Shown (text out held : List ℕ) (whole : Bool) : Type 0 where

@@ -1,11 +1,7 @@
 -- What a run of the program reads, writes and returns.
-use Rattle.std.specs.Prelude.{◌≡◌, ◌⊎◌, ℕ, Bool, List, ◌++◌, codes, Option, if◌then◌else◌}
+use Rattle.std.specs.Prelude.{◌≡◌, ℕ, Bool, List, ◌++◌, Option, if◌then◌else◌}
 use Rattle.std.specs.Io.KnownBytes.{Appends, Consumes, IsAtEnd}
-use Rattle.netlink_packet_route.specs.Report.{line}
 use Rattle.nlshow.specs.Show.{ShowsAll}
-
-abbrev pub no_memory_line : List ℕ
-no_memory_line = line (codes "no memory")
 
 -- zero or more bytes were written, and then `text`
 abbrev pub EndsWith : Option (List ℕ) → Option (List ℕ) → List ℕ → Type 0
@@ -24,7 +20,3 @@ pub record Runs (left_before left_after held_before held_after : Option (List �
 abbrev pub RunsFor : Option (List ℕ) → Option (List ℕ) → Option (List ℕ) → Option (List ℕ) → ℕ → Type 0
 RunsFor left_before left_after held_before held_after status =
     (whole : Bool) × Runs left_before left_after held_before held_after whole × (status ≡ (if whole then 0 else 1))
-
--- the text was written, and the result is `status`; or the writer failed
-abbrev pub PrintsOrFails : Option (List ℕ) → Option (List ℕ) → List ℕ → ℕ → ℕ → Type 0
-PrintsOrFails held_before held_after text status result = ((result ≡ status) × Appends held_before held_after text) ⊎ (result ≡ 5)

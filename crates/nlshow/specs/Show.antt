@@ -5,7 +5,8 @@ use Rattle.hex.specs.Hex.{decode_of}
 use Rattle.hex.specs.declared.error.FromHexError.{FromHexError}
 use Rattle.netlink_packet_route.specs.declared.family.Family.{Family}
 use Rattle.netlink_packet_route.specs.Family.{family_name, table_of}
-use Rattle.netlink_packet_route.specs.Report.{line, is_space, digits_of}
+use Rattle.netlink_packet_route.specs.HexText.{is_space, digits_of}
+use Rattle.netlink_packet_route.specs.Report.{line, most_text}
 use Rattle.nlshow.specs.declared.asking.Asked.{Asked}
 use Rattle.nlshow.specs.declared.asking.Asked.TheVariants.{Messages, Attributes, Verdict}
 use Rattle.nlshow.specs.List.{ShowsList, ShowsEach}
@@ -86,9 +87,9 @@ pub data ShowsBelow (text out : List ℕ) (read : Bool) : Type 0 where
 
 -- the output for a line, and whether the line has no error
 pub data Shows (text out : List ℕ) (read : Bool) : Type 0 where
-  TooLong : 262144 < length text → out ≡ line (codes "input too long") → read ≡ false → Shows text out read
-  PassedOver : length text ≤ 262144 → IsPassedOver text → out ≡ [] → read ≡ true → Shows text out read
-  Answered : length text ≤ 262144 → ¬ IsPassedOver text → (below : List ℕ) → ShowsBelow text below read → out ≡ line text ++ below → Shows text out read
+  TooLong : most_text < length text → out ≡ line (codes "input too long") → read ≡ false → Shows text out read
+  PassedOver : length text ≤ most_text → IsPassedOver text → out ≡ [] → read ≡ true → Shows text out read
+  Answered : length text ≤ most_text → ¬ IsPassedOver text → (below : List ℕ) → ShowsBelow text below read → out ≡ line text ++ below → Shows text out read
 
 -- ---- a text
 

@@ -2,11 +2,11 @@
 
 ghost use Rattle.std.specs.Prelude.{◌≡◌, ◌≢◌, ◌++◌, IfSome, IfNone, MatchOption};
 ghost use Rattle.netlink_packet_route.specs.Family.{family_name};
-ghost use Rattle.netlink_packet_route.specs.Report.{is_space};
 ghost use Rattle.nlshow.specs.declared.asking.Asked.{Asked};
 ghost use Rattle.nlshow.specs.Show.{IsBlank, IsApart, IsCut, Asks, AsksNothing, IsSolidFirst};
 
 use netlink_packet_route::Family;
+use netlink_packet_route::hex_text::is_space;
 use std::str;
 
 /// The command of an input line.
@@ -72,10 +72,4 @@ fn without_space(text: &[u8]) -> &[u8]
         .position(|b| !is_space(*b))
         .unwrap_or(text.len());
     &text[start..]
-}
-
-pub(crate) fn is_space(b: u8) -> bool
-    ensures { result ≡ is_space b }
-{
-    matches!(b, b' ' | b'\t' | b'\r' | b'\n')
 }

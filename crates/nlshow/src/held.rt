@@ -1,12 +1,16 @@
 //! The buffer for the current line.
 
-ghost use Rattle.std.specs.Prelude.{◌≡◌, ◌≤◌, ◌++◌, ℕ, List, [], length, take, OnOk, vec_len};
+ghost use Rattle.std.specs.Prelude.{◌≡◌, ◌≤◌, ◌++◌, ℕ, List, [], length, OnOk, vec_len};
+ghost use Rattle.nlshow.specs.Progress.{held_of, most_held};
 
 use netlink_packet_route::MOST_TEXT;
 use std::alloc::{AllocError, Global};
 use std::marker::Model;
 
-/// The bytes of the current line so far, up to one byte more than the maximum length of a line.
+/// The maximum number of bytes that are kept: one more than the maximum length of a line.
+const MOST_HELD: usize = MOST_TEXT + 1;
+
+/// The bytes of the current line so far, up to `MOST_HELD`.
 #[derive(Drop)]
 pub(crate) struct Held {
     bytes: Vec<u8>,
@@ -17,7 +21,7 @@ impl Model for Held {
 
     ghost view = { λ h. h.bytes.items };
 
-    ghost invariant = { λ h. vec_len h.bytes ≤ 262145 };
+    ghost invariant = { λ h. vec_len h.bytes ≤ most_held };
 }
 
 impl Held {
@@ -39,10 +43,10 @@ impl Held {
 
     /// Appends `piece`, truncated to the remaining capacity.
     pub(crate) fn add(&mut self, piece: &[u8]) -> Result<(), AllocError>
-        ensures kept { OnOk result (self.new ≡ take 262145 (self.old ++ piece.now)) }
-        ensures most { length self.new ≤ 262145 }
+        ensures kept { OnOk result (self.new ≡ held_of (self.old ++ piece.now)) }
+        ensures most { length self.new ≤ most_held }
     {
-        let room = MOST_TEXT + 1 - self.bytes.len();
+        let room = MOST_HELD - self.bytes.len();
         let (front, _) = piece.split_at(room.min(piece.len()));
         self.bytes.extend_from_slice(front)
     }

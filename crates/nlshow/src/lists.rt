@@ -5,11 +5,11 @@ ghost use Rattle.netlink_packet_route.specs.Family.{table_of};
 ghost use Rattle.netlink_packet_route.specs.Report.{fault_line};
 ghost use Rattle.nlshow.specs.List.{Adds, AddsLines, ShowsList};
 
+use link_messages::{Part, Payload};
 use netlink_packet_route::by_family;
 use netlink_packet_route::link::{Attribute, DecodeFault, ListError, read_list};
 use std::alloc::{AllocError, Global};
 use std::fmt::{Debug, Write};
-use uses::messages::{Part, Payload};
 
 /// Appends the lines of a list to `text`. Returns whether the list decodes.
 ///

@@ -21,34 +21,30 @@ mod showing;
 mod tests;
 mod verdicts;
 
+use program::{collect_arguments, print, print_no_memory};
 use std::alloc::AllocError;
+use std::io;
 use std::io::BufWriter;
 use std::process::ExitCode;
 use std::rt::Env;
-use std::{env, io};
 
 fn main(rt: HostRuntime) -> ExitCode {
     let mut plain = io::writer(&rt);
     let status = match is_called_alone(&rt) {
         Ok(true) => match BufWriter::new(rt.alloc(), io::writer(&rt)) {
             Ok(mut writer) => running::run(rt.alloc(), &mut rt.reader(), &mut writer),
-            Err(_) => running::print(&mut plain, "no memory\n", 4),
+            Err(_) => print_no_memory(&mut plain),
         },
-        Ok(false) => running::print(&mut plain, "usage: nlshow\n", 2),
-        Err(_) => running::print(&mut plain, "no memory\n", 4),
+        Ok(false) => print(&mut plain, "usage: nlshow\n", 2),
+        Err(_) => print_no_memory(&mut plain),
     };
     ExitCode::from(status)
 }
 
 /// Checks whether the program was started without arguments.
 fn is_called_alone<R: Env + AllocGlobal>(rt: &R) -> Result<bool, AllocError> {
-    match env::args(rt) {
-        Ok(arguments) => {
-            let mut words = Vec::with_capacity(rt.alloc(), arguments.len())?;
-            words.extend(arguments)?;
-            Ok(arguments::are_none(&words))
-        }
-        Err(error) if error.kind() == io::ErrorKind::OutOfMemory => Err(AllocError),
-        Err(_) => Ok(false),
+    match collect_arguments(rt)? {
+        Some(words) => Ok(arguments::are_none(&words)),
+        None => Ok(false),
     }
 }

@@ -8,10 +8,10 @@ ghost use Rattle.nlshow.specs.Messages.{error_line, path_line};
 
 use crate::lists::push_list;
 use bstr::ByteSlice;
+use link_messages::{Link, Message, MessageError, Part, laws, next_message, read_link};
 use netlink_packet_route::Family;
 use std::alloc::{AllocError, Global};
 use std::fmt::Write;
-use uses::messages::{Link, Message, MessageError, Part, laws, next_message, read_link};
 
 /// Appends the lines of all messages of a buffer. Returns whether all messages, and all lists in them, decode.
 pub(crate) fn push_messages(

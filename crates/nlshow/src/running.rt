@@ -5,10 +5,12 @@ ghost use Rattle.std.specs.Io.KnownBytes.{Keeps};
 ghost use Rattle.netlink_packet_route.specs.Report.{line};
 ghost use Rattle.nlshow.specs.Show.{IsUnbroken};
 ghost use Rattle.nlshow.specs.Progress.{held_of, Grows, WritesLine, WritesPiece, WritesRest, OnMemory};
-ghost use Rattle.nlshow.specs.Run.{RunsFor, Runs, EndsWith, PrintsOrFails, no_memory_line};
+ghost use Rattle.nlshow.specs.Run.{RunsFor, Runs, EndsWith};
+ghost use Rattle.program.specs.Printing.{no_memory_line};
 
 use crate::held::Held;
 use crate::showing::show;
+use program::{print_no_memory, print_read_fault};
 use std::alloc::{AllocError, Global};
 use std::io::{Read, Write};
 
@@ -39,28 +41,9 @@ pub fn run<R: Read, W: Write>(alloc: Global, reader: &mut R, writer: &mut W) -> 
     match show_all(alloc, reader, writer) {
         Ok(true) => 0,
         Ok(false) => 1,
-        Err(Stop::Memory) => print(writer, "no memory\n", 4),
-        Err(Stop::Reader) => print(writer, "read fault\n", 5),
+        Err(Stop::Memory) => print_no_memory(writer),
+        Err(Stop::Reader) => print_read_fault(writer),
         Err(Stop::Writer) => 5,
-    }
-}
-
-/// Writes `text`. Returns `status`, or 5 if the writer fails.
-pub(crate) fn print<W: Write>(writer: &mut W, text: &str, status: u8) -> u8
-    ensures { PrintsOrFails (W.contents writer.old) (W.contents writer.new) text.now status result }
-{
-    match writer.write_all(text.as_bytes()) {
-        Ok(()) => flushed(writer, status),
-        Err(_) => 5,
-    }
-}
-
-fn flushed<W: Write>(writer: &mut W, status: u8) -> u8
-    ensures { ((result ≡ status) × Keeps (W.contents writer.old) (W.contents writer.new)) ⊎ (result ≡ 5) }
-{
-    match writer.flush() {
-        Ok(()) => status,
-        Err(_) => 5,
     }
 }
 

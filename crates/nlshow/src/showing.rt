@@ -3,22 +3,23 @@
 ghost use Rattle.std.specs.Prelude.{◌≡◌, ◌++◌, ◌↔◌, IsTrue, IfOk, OnOk, string_bytes};
 ghost use Rattle.std.specs.Io.KnownBytes.{Appends, Keeps};
 ghost use Rattle.hex.specs.Hex.{decode_of};
-ghost use Rattle.netlink_packet_route.specs.Report.{digits_of, line};
+ghost use Rattle.netlink_packet_route.specs.HexText.{digits_of};
+ghost use Rattle.netlink_packet_route.specs.Report.{line};
 ghost use Rattle.nlshow.specs.List.{Adds};
 ghost use Rattle.nlshow.specs.Show.{IsPassedOver, ShowsAsked, ShowsDigits, ShowsBelow};
 ghost use Rattle.nlshow.specs.Progress.{WritesLine, OnMemory};
 
-use crate::asking::{Asked, is_space};
+use crate::asking::Asked;
 use crate::lists::push_list;
 use crate::messages::push_messages;
 use crate::running::Stop;
 use crate::verdicts::push_verdict;
-use hex::FromHexError;
-use netlink_packet_route::MOST_TEXT;
+use link_messages::{Part, Payload};
+use netlink_packet_route::hex_text::{HexError, is_space};
+use netlink_packet_route::{MOST_TEXT, hex_text};
 use std::alloc::{AllocError, Global};
 use std::io;
 use std::io::Write;
-use uses::messages::{Part, Payload};
 
 /// Writes the output for an input line. Returns false if the line has an error: it is too long, has no valid command or
 /// bad hex, or its bytes do not decode or, for `check`, are not canonical.
@@ -77,11 +78,10 @@ fn digits_text(alloc: Global, asked: Asked, text: &[u8]) -> Result<(String, bool
     ensures { IfOk result
         (λ below. ShowsDigits asked (decode_of (digits_of text.now)) (string_bytes below.0) below.1) }
 {
-    let digits = digits(alloc, text)?;
-    let bytes = match hex::decode(alloc, digits.as_slice()) {
+    let bytes = match hex_text::decode(alloc, text) {
         Ok(bytes) => bytes,
-        Err(FromHexError::OutOfMemory) => return Err(AllocError),
-        Err(_) => return Ok((String::from_str(alloc, "bad hex\n")?, false)),
+        Err(HexError::Memory(error)) => return Err(error),
+        Err(HexError::BadHex) => return Ok((String::from_str(alloc, "bad hex\n")?, false)),
     };
     let mut text = String::new(alloc);
     let read = push_answer(alloc, &mut text, asked, &bytes)?;
@@ -105,13 +105,4 @@ fn push_answer(
         }
         Asked::Verdict(family) => push_verdict(text, family, bytes),
     }
-}
-
-/// Returns `text` without white space.
-fn digits(alloc: Global, text: &[u8]) -> Result<Vec<u8>, AllocError>
-    ensures { IfOk result (λ digits. digits.items ≡ digits_of text.now) }
-{
-    let mut digits = Vec::with_capacity(alloc, text.len())?;
-    digits.extend(text.iter().copied().filter(|b| !is_space(*b)))?;
-    Ok(digits)
 }

@@ -1,5 +1,6 @@
 //! Tests of what no contract covers: that allocations succeed, and readers and writers that fail or transfer few bytes
-//! at a time. Also tests of `uses`, which has none of its own, since a crate with tests is proved twice.
+//! at a time. Also tests of `link_messages` and `uses`, which have none of their own, since a crate with tests is proved
+//! twice.
 
 mod callers;
 mod walks;

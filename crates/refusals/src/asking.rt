@@ -63,9 +63,9 @@ fn bytes_of(alloc: Global, words: &str) -> Result<Vec<u8>> {
 fn on_family(alloc: Global, call: &str, family: Family, bytes: &[u8]) -> Result<String> {
     match call {
         "rewrite" => said_bytes(alloc, calls::rewrite(alloc, family, bytes)),
-        "rewrite_into" => rewrite_into(alloc, family, bytes),
-        "rewrite_to" => rewrite_to(alloc, family, bytes, padded(bytes.len())),
-        "rewrite_to_short" => rewrite_to(alloc, family, bytes, 3),
+        "rewrite_streaming" => rewrite_streaming(alloc, family, bytes),
+        "rewrite_to_slice" => rewrite_to_slice(alloc, family, bytes, padded(bytes.len())),
+        "rewrite_to_slice_short" => rewrite_to_slice(alloc, family, bytes, 3),
         "count_values" => said(alloc, &calls::count_values(alloc, family, bytes)),
         "report" => {
             let text = hex::encode(alloc, bytes)?;
@@ -81,7 +81,7 @@ fn on_family(alloc: Global, call: &str, family: Family, bytes: &[u8]) -> Result<
     }
 }
 
-/// The contents of the buffers of `rewrite_into` and `rewrite_to` before the call.
+/// The contents of the buffers of `rewrite_streaming` and `rewrite_to_slice` before the call.
 const BEFORE: u8 = 0xA5;
 
 /// Rounds a length up to a multiple of four.
@@ -94,10 +94,10 @@ fn padded(len: usize) -> usize
 
 /// Re-encodes a list into a buffer that is four bytes longer than `bytes.len()`, rounded up to a multiple of four.
 /// Checks that these four bytes are unchanged and, on success, everything after the bytes that were written.
-fn rewrite_into(alloc: Global, family: Family, bytes: &[u8]) -> Result<String> {
+fn rewrite_streaming(alloc: Global, family: Family, bytes: &[u8]) -> Result<String> {
     let size = padded(bytes.len());
     let mut buffer = vec![in alloc; BEFORE; size + 4]?;
-    match calls::rewrite_into(alloc, family, bytes, &mut buffer) {
+    match calls::rewrite_streaming(alloc, family, bytes, &mut buffer) {
         Ok(len) => said_front(alloc, &buffer, len),
         Err(error) => kept(
             said(alloc, &Err::<String, RewriteError>(error))?,
@@ -107,9 +107,9 @@ fn rewrite_into(alloc: Global, family: Family, bytes: &[u8]) -> Result<String> {
 }
 
 /// Re-encodes a list into a buffer of `size` bytes. If nothing was written, checks that the whole buffer is unchanged.
-fn rewrite_to(alloc: Global, family: Family, bytes: &[u8], size: usize) -> Result<String> {
+fn rewrite_to_slice(alloc: Global, family: Family, bytes: &[u8], size: usize) -> Result<String> {
     let mut buffer = vec![in alloc; BEFORE; size]?;
-    match calls::rewrite_to(alloc, family, bytes, &mut buffer) {
+    match calls::rewrite_to_slice(alloc, family, bytes, &mut buffer) {
         Ok(Some(len)) => said_front(alloc, &buffer, len),
         other => kept(said(alloc, &other)?, are_kept(&buffer)),
     }

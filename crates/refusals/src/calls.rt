@@ -12,12 +12,12 @@ ghost use Rattle.netlink_packet_route.specs.Frame.{pad, frame_fault};
 ghost use Rattle.netlink_packet_route.specs.Held.{HoldsMemory};
 ghost use Rattle.netlink_packet_route.specs.ProtoInfo.{proto_info_table, proto_info_means};
 ghost use Rattle.netlink_packet_route.specs.Report.{Reports};
-ghost use Rattle.netlink_packet_route.specs.Rewrite.{RewriteAnswers, RewriteIntoAnswers, RewriteToAnswers};
+ghost use Rattle.netlink_packet_route.specs.Rewrite.{RewriteAnswers, RewriteStreamingAnswers, RewriteToSliceAnswers};
 ghost use Rattle.netlink_packet_route.specs.Rewrite.{OnRewriteMemory, UnlessWritten};
 ghost use Rattle.netlink_packet_route.specs.Rewritten.{NeedsMemory};
 ghost use Rattle.netlink_packet_route.specs.Table.{Gives, TakesMemory};
-ghost use Rattle.netlink_packet_route.specs.Walk.{Finds};
-ghost use Rattle.netlink_packet_route.specs.Walked.{walked_bytes, offsets_of, fault_of};
+ghost use Rattle.netlink_packet_route.specs.FrameOffsets.{Finds};
+ghost use Rattle.netlink_packet_route.specs.FrameTableParts.{walked_bytes, offsets_of, fault_of};
 
 use netlink_packet_route::link::{
     Attribute, CanBitTimingConst, DecodeError, FrameTable, ListError, NlaBuffer, TryClone,
@@ -90,37 +90,37 @@ pub(crate) fn rewrite(alloc: Global, family: Family, bytes: &[u8]) -> Result<Vec
     )
 }
 
-/// Calls `rewrite_into`, which re-encodes a list into a buffer, one attribute at a time.
-pub(crate) fn rewrite_into(
+/// Calls `rewrite_streaming`, which re-encodes a list into a buffer, one attribute at a time.
+pub(crate) fn rewrite_streaming(
     alloc: Global,
     family: Family,
     bytes: &[u8],
     buffer: &mut [u8],
 ) -> Result<usize, RewriteError>
     requires { pad (length bytes.now) ≤ length buffer.old }
-    ensures answer { RewriteIntoAnswers (table_of family) bytes.now buffer.old buffer.new result }
+    ensures answer { RewriteStreamingAnswers (table_of family) bytes.now buffer.old buffer.new result }
     ensures behind { drop (pad (length bytes.now)) buffer.new ≡ drop (pad (length bytes.now)) buffer.old }
     ensures memory { OnRewriteMemory result (NeedsMemory (table_of family) bytes.now) }
 {
     mark(alloc);
-    let answer = netlink_packet_route::rewrite_into(alloc, family, bytes, buffer);
+    let answer = netlink_packet_route::rewrite_streaming(alloc, family, bytes, buffer);
     mark(alloc);
     answer
 }
 
-/// Calls `rewrite_to`, which re-encodes a list into a buffer, or returns `None` if the buffer is too small.
-pub(crate) fn rewrite_to(
+/// Calls `rewrite_to_slice`, which re-encodes a list into a buffer, or returns `None` if the buffer is too small.
+pub(crate) fn rewrite_to_slice(
     alloc: Global,
     family: Family,
     bytes: &[u8],
     buffer: &mut [u8],
 ) -> Result<Option<usize>, RewriteError>
-    ensures answer { RewriteToAnswers (table_of family) bytes.now buffer.old buffer.new result }
+    ensures answer { RewriteToSliceAnswers (table_of family) bytes.now buffer.old buffer.new result }
     ensures memory { OnRewriteMemory result (frame_fault bytes.now ≡ None) }
     ensures unchanged { UnlessWritten result (buffer.new ≡ buffer.old) }
 {
     mark(alloc);
-    let answer = netlink_packet_route::rewrite_to(alloc, family, bytes, buffer);
+    let answer = netlink_packet_route::rewrite_to_slice(alloc, family, bytes, buffer);
     mark(alloc);
     answer
 }

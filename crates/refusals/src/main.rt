@@ -8,8 +8,6 @@
 
 mod asking;
 mod calls;
-#[cfg(test)]
-mod tests;
 
 use anyhow::Result;
 

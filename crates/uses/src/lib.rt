@@ -1,15 +1,13 @@
-//! Examples of using `netlink_packet_route`: short functions to start from.
+//! Examples of using `netlink_packet_route`: short functions to start from. To find the lists in a message, see
+//! `link_messages`.
 #![tactic(auto)]
 
 mod building;
 mod changing;
 mod faults;
-pub mod messages;
 mod normalising;
 mod printing;
 mod reading;
-
-// Find the lists in a message: module `messages`.
 
 // Look up values in a list.
 pub use reading::{forward_delay, monitoring};

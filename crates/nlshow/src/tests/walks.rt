@@ -1,10 +1,10 @@
-//! Tests how `uses` finds the lists in a buffer. The program's expected-output test covers messages line by line; these
-//! tests cover what it does not print.
+//! Tests how `link_messages` finds the lists in a buffer. The program's expected-output test covers messages line by
+//! line; these tests cover what it does not print.
 
-use netlink_packet_route::Family;
-use uses::messages::{
+use link_messages::{
     DumpError, MessageError, Part, find_in, last_of_kind, next_message, read_link, read_links,
 };
+use netlink_packet_route::Family;
 
 /// Two DSA ports, the second without a name, and NLMSG_DONE.
 const TWO: &str = "\
@@ -19,12 +19,7 @@ const PAYLOAD: [u8; 8] = [5, 0, 1, 0, 1, 0, 0, 0];
 #[test]
 fn messages(rt: HostRuntime) {
     let alloc = rt.alloc();
-    let digits: Vec<u8> = TWO
-        .bytes()
-        .filter(|b| *b != b' ')
-        .collect(alloc)
-        .expect(&rt, "digits");
-    let buffer = hex::decode(alloc, &digits).expect(&rt, "bytes");
+    let buffer = netlink_packet_route::hex_text::decode(alloc, TWO.as_bytes()).expect(&rt, "bytes");
     let found = next_message(&buffer, 64).expect(&rt, "a header");
     let message = found.expect(&rt, "a message");
     assert!(rt; message.at == 64 && message.kind == 17 && message.flags == 2);

@@ -1,6 +1,6 @@
 use Rattle.std.proofs.Common.{◌≡◌, [], sym, subst, arith}
 use Rattle.std.proofs.lemmas.Grind.{common_steps}
-use Rattle.link_base.specs.Walk.{Finds}
+use Rattle.link_base.specs.FrameOffsets.{Finds}
 use Rattle.link_base.proofs.Walking.{before_all, before_few}
 use Rattle.link_base.proofs.frame_table.find_others.Goals as goal
 

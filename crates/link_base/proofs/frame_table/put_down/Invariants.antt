@@ -1,5 +1,5 @@
 use Rattle.std.proofs.Common.{◌+◌, ◌/◌, ◌≤◌, length, vec_capacity}
-use Rattle.link_base.specs.Walk.{BeginFrames, FindsBefore}
+use Rattle.link_base.specs.FrameOffsets.{BeginFrames, FindsBefore}
 use Rattle.link_base.proofs.frame_table.put_down.Given as goal
 
 abbrev pub invariant-loop-rest : goal.invariant-loop-rest

@@ -5,8 +5,8 @@ use Rattle.std.proofs.lemmas.List.{map-append}
 use Rattle.link_base.specs.Table.{Gives}
 use Rattle.link_base.specs.Frame.{BeginsWith}
 use Rattle.link_base.specs.Buffer.{kind_field_of, payload_of, frame_of}
-use Rattle.link_base.specs.Walk.{Finds}
-use Rattle.link_base.specs.Walked.{offsets_of, fault_of}
+use Rattle.link_base.specs.FrameOffsets.{Finds}
+use Rattle.link_base.specs.FrameTableParts.{offsets_of, fault_of}
 use Rattle.link_base.proofs.TableReads.{on_list_memory, fault_unless, first_frame, first_frame-room, reads_none, reads_more, ends_at_value, ends_at_frame, reads_all}
 use Rattle.link_base.proofs.list.read_list.Goals as goal
 

@@ -1,7 +1,7 @@
 use Rattle.std.proofs.Common.{◌≡◌, map, length}
 use Rattle.std.specs.Prelude.{vec_len, vec_capacity}
 use Rattle.link_base.specs.Table.{Gives}
-use Rattle.link_base.specs.Walked.{offsets_of, fault_of}
+use Rattle.link_base.specs.FrameTableParts.{offsets_of, fault_of}
 use Rattle.link_base.proofs.TableReads.{ReadsTo}
 use Rattle.link_base.proofs.list.read_list.Given as goal
 

@@ -8,8 +8,8 @@ use Rattle.link_base.specs.Buffer.{kind_field_of, payload_of, frame_of}
 use Rattle.link_base.specs.Table.{AttrValue, Gives, Fits, written_frame, written_list}
 use Rattle.link_base.specs.Rewritten.{PutsFrame}
 use Rattle.link_base.proofs.Numbers.{IsBytes-index}
-use Rattle.link_base.proofs.Begins.{Splits, splits, step_of}
-use Rattle.link_base.proofs.Relays.{underway_none, underway_more, ends_at_rest, ends_at_next, needs_memory, put_back, none_of, room_next, step_written, step_left, into_all, into_unfit, SoFar, Stepped}
+use Rattle.link_base.proofs.FrameAtFront.{Splits, splits, step_of}
+use Rattle.link_base.proofs.Streaming.{underway_none, underway_more, ends_at_rest, ends_at_next, needs_memory, put_back, none_of, room_next, step_written, step_left, into_all, into_unfit, SoFar, Stepped}
 use Rattle.link_base.proofs.rewriting.rewrite_list.Goals.{in-None, in-Some-written}
 use Rattle.link_base.proofs.rewriting.rewrite_list.Goals as goal
 

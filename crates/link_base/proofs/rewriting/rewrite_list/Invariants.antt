@@ -1,7 +1,7 @@
 use Rattle.std.proofs.Common.{◌≡◌, ◌≤◌, ◌+◌, length, List}
 use Rattle.link_base.specs.Frame.{pad}
 use Rattle.link_base.specs.Table.{AttrValue, Gives}
-use Rattle.link_base.proofs.Relays.{Underway, Wrote}
+use Rattle.link_base.proofs.Streaming.{Underway, Wrote}
 use Rattle.link_base.proofs.rewriting.rewrite_list.Given as goal
 
 abbrev pub invariant-loop-rest : goal.invariant-loop-rest

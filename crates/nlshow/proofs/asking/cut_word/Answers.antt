@@ -1,7 +1,7 @@
 use Rattle.std.proofs.Common.{rules, tests}
 use Rattle.std.proofs.lemmas.Iterator.{YieldsList-from_slice}
 use Rattle.std.proofs.lemmas.Iterator.Search.{position_from_yields_List}
-use Rattle.netlink_packet_route.specs.Report.{is_space}
+use Rattle.netlink_packet_route.specs.HexText.{is_space}
 use Rattle.nlshow.proofs.Names.{named}
 use Rattle.nlshow.proofs.asking.cut_word.Goals as goal
 

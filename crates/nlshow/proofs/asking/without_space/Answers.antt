@@ -3,7 +3,7 @@ use Rattle.std.proofs.lemmas.Iterator.{YieldsList-from_slice}
 use Rattle.std.proofs.lemmas.Iterator.Search.{position_from_yields_List}
 use Rattle.std.proofs.lemmas.List.{length-drop}
 use Rattle.std.proofs.Math.Seq.{take-length}
-use Rattle.netlink_packet_route.specs.Report.{is_space}
+use Rattle.netlink_packet_route.specs.HexText.{is_space}
 use Rattle.nlshow.proofs.Names.{solid_first}
 use Rattle.nlshow.proofs.asking.without_space.Goals as goal
 

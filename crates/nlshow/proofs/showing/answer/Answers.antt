@@ -1,6 +1,6 @@
 use Rattle.std.proofs.Common.{refl, string_bytes}
 use Rattle.hex.specs.Hex.{decode_of}
-use Rattle.netlink_packet_route.specs.Report.{digits_of}
+use Rattle.netlink_packet_route.specs.HexText.{digits_of}
 use Rattle.nlshow.specs.Show.{ShowsDigits, ShowsBelow, Known, Unknown}
 use Rattle.nlshow.proofs.Cuts.{if_ok}
 use Rattle.nlshow.proofs.showing.answer.Goals as goal

@@ -1,5 +1,5 @@
 use Rattle.std.proofs.Common.{arith, ap, ℕ, take, drop, ◌-◌}
-use Rattle.link_base.proofs.Fronts.{begins-no_fault}
+use Rattle.link_base.proofs.FrameBytes.{begins-no_fault}
 use Rattle.link_base.proofs.buffer.NlaBuffer.at_front.Goals as goal
 
 pub returns : goal.returns

@@ -1,9 +1,9 @@
 use Rattle.std.proofs.Common.{◌≡◌, ◌≢◌, ◌<◌, [], ◌∷◌, ◌-◌, length, arith, ap, sym, subst}
 use Rattle.std.proofs.lemmas.Grind.{common_steps}
 use Rattle.std.proofs.lemmas.List.{length-append}
-use Rattle.link_base.specs.Walk.{Finds}
+use Rattle.link_base.specs.FrameOffsets.{Finds}
 use Rattle.link_base.specs.Buffer.{kind_field_of, payload_of}
-use Rattle.link_base.proofs.Begins.{Splits, splits}
+use Rattle.link_base.proofs.FrameAtFront.{Splits, splits}
 use Rattle.link_base.proofs.Walking.{before_more, before_all, before_some}
 use Rattle.link_base.proofs.frame_table.FrameTable.find_frames.Goals as goal
 

@@ -1,6 +1,6 @@
 use Rattle.std.proofs.Common.{◌≡◌, ◌≤◌, None, length}
-use Rattle.link_base.specs.Walk.{FindsBefore}
-use Rattle.link_base.specs.Walked.{offsets_of, walked_bytes, fault_of}
+use Rattle.link_base.specs.FrameOffsets.{FindsBefore}
+use Rattle.link_base.specs.FrameTableParts.{offsets_of, walked_bytes, fault_of}
 use Rattle.link_base.proofs.frame_table.FrameTable.find_frames.Given as goal
 
 abbrev pub invariant-loop-place : goal.invariant-loop-place

@@ -1,0 +1,101 @@
+//! The tests, and the functions that several of them use.
+
+mod canonical;
+mod counts;
+mod flags;
+mod frames;
+mod laws;
+mod limits;
+mod lists;
+mod names;
+mod payloads;
+mod prefixes;
+mod records;
+mod reports;
+mod rewritings;
+mod room;
+mod surface;
+mod tables;
+mod texts;
+mod values;
+
+use netlink_packet_route::hex_text;
+use netlink_packet_route::link::{
+    Attribute, DecodeError, DecodeFault, ListError, NlaBuffer, TryClone, read_list, write_list,
+};
+use std::alloc::Global;
+use std::process::Abort;
+
+/// Asserts `is_so`. A failure names `row`.
+fn holds(rt: &impl Abort, is_so: bool, row: &str) {
+    assert!(rt; is_so, "in {row}");
+}
+
+/// Decodes hex digits, which may have spaces among them.
+fn bytes(rt: &impl Abort, alloc: Global, digits: &str) -> Vec<u8> {
+    hex_text::decode(alloc, digits.as_bytes()).expect(rt, digits)
+}
+
+/// Returns the hex digits of a header, of the name field of a CAN controller, and of eight `u32`s that are zero.
+fn can_limits(rt: &impl Abort, alloc: Global, header: &str, field: &str) -> String {
+    let mut digits = String::from_str(alloc, header).expect(rt, field);
+    digits.push_str(field).expect(rt, field);
+    for _ in 0..8 {
+        digits.push_str("00000000").expect(rt, field);
+    }
+    digits
+}
+
+/// Returns a vector of these items.
+fn list<T: Drop, const N: usize>(rt: &impl Abort, alloc: Global, items: [T; N]) -> Vec<T> {
+    Vec::from_array(alloc, items).expect(rt, "a list")
+}
+
+/// Asserts that the bytes are one attribute, that it decodes to `wanted`, alone and as a list, and that the value has
+/// an equal clone.
+fn reads_as<F: Attribute + TryClone>(rt: &impl Abort, alloc: Global, digits: &str, wanted: F) {
+    let bytes = bytes(rt, alloc, digits);
+    let frame = NlaBuffer::new_checked(&bytes).expect(rt, digits);
+    let value = F::parse(alloc, &frame).expect(rt, digits);
+    let copy = value.try_clone(alloc).expect(rt, digits);
+    let values: Vec<F> = read_list(alloc, &bytes).expect(rt, digits);
+    let is_one = values.len() == 1 && values[0] == wanted;
+    holds(rt, value == wanted && copy == wanted && is_one, digits);
+}
+
+/// Asserts that the value is encoded as these bytes, in a list and alone, whatever the buffer held, and that nothing is
+/// written after them.
+fn is_written<F: Attribute>(rt: &impl Abort, alloc: Global, digits: &str, value: F) {
+    let mut wanted = bytes(rt, alloc, digits);
+    let mut buffer = [0xFF; 100];
+    assert!(rt; value.fits() && value.buffer_len() <= 100);
+    value.emit(&mut buffer);
+    let mut values = Vec::new(alloc);
+    let is_held = values.push(value).is_ok();
+    let out = write_list(alloc, &values).expect(rt, digits);
+    holds(rt, is_held && out == wanted, digits);
+    wanted.resize(100, 0xFF).expect(rt, digits);
+    holds(rt, buffer.as_slice() == wanted.as_slice(), digits);
+}
+
+/// Asserts that the bytes decode to this value, and that the value is encoded as these bytes.
+fn is_kept<F: Attribute + TryClone>(rt: &impl Abort, alloc: Global, digits: &str, value: F) {
+    let copy = value.try_clone(alloc).expect(rt, digits);
+    reads_as(rt, alloc, digits, value);
+    is_written(rt, alloc, digits, copy);
+}
+
+/// Asserts that the bytes of each row are one attribute, which has this decode error, alone and as a list.
+fn are_refused<F: Attribute>(rt: &impl Abort, alloc: Global, rows: &[(&str, DecodeFault)]) {
+    for (digits, fault) in rows {
+        let bytes = bytes(rt, alloc, digits);
+        let frame = NlaBuffer::new_checked(&bytes).expect(rt, digits);
+        let alone = F::parse(alloc, &frame) == Err(DecodeError::Fault(*fault));
+        let values: Result<Vec<F>, ListError> = read_list(alloc, &bytes);
+        let wanted = ListError::Fault {
+            at: 0,
+            fault: *fault,
+        };
+        holds(rt, alone && values == Err(wanted), digits);
+    }
+}

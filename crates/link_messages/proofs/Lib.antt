@@ -1,0 +1,5 @@
+pub mod Messages
+pub mod Walks
+pub mod Names
+pub mod Parts
+pub mod Links

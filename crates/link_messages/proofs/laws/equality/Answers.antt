@@ -1,0 +1,65 @@
+use Rattle.std.proofs.Common.{rules, ◌≡◌, ◌==◌, ◌&&◌, ℕ, Bool, true, false, List, Option, Some, None, refl, sym, ap, ap₂, true≢false}
+use Rattle.std.specs.Prelude.{nat_eq}
+use Rattle.std.specs.Borrow.{Bor}
+use Rattle.std.specs.Cmp.Lexicographic.{pointwise}
+use Rattle.std.specs.Bool.{Decides}
+use Rattle.std.specs.Option.{option_eq, option_map}
+use Rattle.std.specs.Cmp.{unsigned_Decides, signed_Decides}
+use Rattle.std.specs.Cmp.Lexicographic.{pointwise_decides}
+use Rattle.netlink_packet_route.specs.declared.family.Family.{Family}
+use Rattle.netlink_packet_route.specs.contracts.family.FamilyPartialEq.TheImpl as of_family
+use Rattle.link_messages.specs.contracts.views.PayloadPartialEq.TheImpl as of_payload
+use Rattle.link_messages.specs.contracts.link.PartPartialEq.TheImpl as of_part
+use Rattle.link_messages.specs.declared.views.Payload.{Payload}
+use Rattle.link_messages.specs.declared.link.Part.{Part}
+use Rattle.link_messages.specs.Finding.{stretch_of}
+use Rattle.link_messages.specs.Link.{part_of}
+use Rattle.link_messages.proofs.laws.equality.Goals as goal
+
+two : {P Q : Type 0} (r s : Bool) → Decides r P → Decides s Q → Decides (r && s) (P × Q)
+two true s d e = (λ h. (d.0 refl, e.0 h), λ h. e.1 h.1)
+two false s d e = (λ h. absurd (true≢false (sym h)), λ h. d.1 h.0)
+
+options : {T U : Type 0} {E : T → T → Bool} (view : T → U) → ((x y : T) → Decides (E x y) (view x ≡ view y)) → (x y : Option T) → Decides (option_eq E x y) (option_map view x ≡ option_map view y)
+options view d None None = (λ _. refl, λ _. refl)
+options view d None (Some y) = (λ h. absurd (true≢false (sym h)), λ h. search rules)
+options view d (Some x) None = (λ h. absurd (true≢false (sym h)), λ h. search rules)
+options view d (Some x) (Some y) = (λ h. ap Some ((d x y).0 h), λ h. (d x y).1 (search rules))
+
+families : (a b : Family) → Decides (of_family.ghosts.eq a b) (a ≡ b)
+families a b = search rules
+
+payloads : (a b : Payload) → Decides (of_payload.ghosts.eq a b) (stretch_of a ≡ stretch_of b)
+payloads a b = let d = two (a.at == b.at) _ (unsigned_Decides a.at b.at) (pointwise_decides unsigned_Decides a.bytes.now b.bytes.now) in
+    (λ h. ap₂ (λ at bytes. (at, bytes)) (d.0 h).0 (d.0 h).1, λ h. d.1 (ap (λ z. z.0) h, ap (λ z. z.1) h))
+
+parts : (a b : Part) → Decides (of_part.ghosts.eq a b) (part_of a ≡ part_of b)
+parts a b = let d = two (of_family.ghosts.eq a.family b.family) _ (families a.family b.family) (payloads a.payload b.payload) in
+    (λ h. ap₂ (λ family payload. (family, payload)) (d.0 h).0 (d.0 h).1, λ h. d.1 (ap (λ z. z.0) h, ap (λ z. z.1) h))
+
+pub returns-clause-payload : goal.returns-clause-payload
+returns-clause-payload c = payloads
+
+pub returns-clause-part : goal.returns-clause-part
+returns-clause-part c = parts
+
+names : (x y : Option (Bor (List ℕ))) → Decides (option_eq (λ x y. pointwise nat_eq x.now y.now) x y) (option_map (λ x. x.now) x ≡ option_map (λ x. x.now) y)
+names = options (λ x. x.now) (λ x y. pointwise_decides unsigned_Decides x.now y.now)
+
+lists : (x y : Option Part) → Decides (option_eq of_part.ghosts.eq x y) (option_map part_of x ≡ option_map part_of y)
+lists = options part_of parts
+
+pub returns-clause-link : goal.returns-clause-link
+returns-clause-link c = λ a b.
+    let d = two _ _ (signed_Decides a.index b.index) (two _ _ (names a.name b.name) (two _ _ (lists a.info_data b.info_data) (two _ _ (lists a.port_data b.port_data)
+    (two _ _ (lists a.af_spec b.af_spec) (lists a.protinfo b.protinfo))))) in (
+      λ h. let k = d.0 h in record {
+        index = k.0;
+        name = k.1.0;
+        info_data = k.1.1.0;
+        port_data = k.1.1.1.0;
+        af_spec = k.1.1.1.1.0;
+        protinfo = k.1.1.1.1.1;
+      },
+      λ e. d.1 (e.index, (e.name, (e.info_data, (e.port_data, (e.af_spec, e.protinfo))))),
+    )

@@ -1,0 +1,53 @@
+//! Theorems about messages and links. The functions have empty bodies.
+
+ghost use Rattle.std.specs.Prelude.{◌≡◌, ◌↔◌, ℕ, List, [], ◌∷◌, ◌++◌, drop, Option, Some, Ok, IsTrue, IfSome};
+ghost use Rattle.netlink_packet_route.specs.declared.family.Family.{Family};
+ghost use Rattle.netlink_packet_route.specs.Family.{holder_of};
+ghost use Rattle.link_messages.specs.declared.views.Message.{Message};
+ghost use Rattle.link_messages.specs.declared.views.Payload.{Payload};
+ghost use Rattle.link_messages.specs.declared.message.MessageError.{MessageError};
+ghost use Rattle.link_messages.specs.declared.link.Part.{Part};
+ghost use Rattle.link_messages.specs.declared.link.Link.{Link};
+ghost use Rattle.link_messages.specs.declared.dump.DumpError.{DumpError};
+ghost use Rattle.link_messages.specs.Message.{NextMessage, Stand};
+ghost use Rattle.link_messages.specs.Finding.{Stretch, stretch_of};
+ghost use Rattle.link_messages.specs.Link.{part_of, IsLink, IsHeld, HasPart};
+ghost use Rattle.link_messages.specs.Same.{IsSameMessage, IsSameLink};
+
+use crate::dump::DumpError;
+use crate::link::{Link, Part};
+use crate::message::MessageError;
+use crate::views::{Message, Payload};
+
+/// States that consecutive messages and the next message are consecutive messages again. A loop over a buffer uses this
+/// as its step.
+#[tactic(auto, using(crate::proofs::Messages::stand_more))]
+pub fn one_more()
+    ensures { (s : List ℕ) (from at : ℕ) (ms : List Message) (m : Message) → Stand s from ms at
+        → NextMessage at (drop at s) (Ok (Some m)) → Stand s from (ms ++ m ∷ []) m.next }
+{}
+
+/// States that a `Link` has the lists of every `Family`: what the holder of a `Family` says to look for in a message is
+/// in one of the link's fields. If a `Family` has a holder that no field of `Link` covers, this is not proved.
+#[tactic(auto, using(crate::proofs::Parts::every_list))]
+pub fn every_list()
+    ensures { (address_family : ℕ) (list : Stretch) (link : Link) → IsLink address_family list link → (family : Family)
+        → (found : Option Stretch) × IsHeld (holder_of family) address_family list found
+        × IfSome found (HasPart link family) }
+{}
+
+/// States that two errors are equal (`==`) if and only if they are the same value.
+pub fn error_equality()
+    ensures message { (a b : MessageError) → IsTrue (⟦<MessageError as PartialEq>⟧.eq a b) ↔ (a ≡ b) }
+    ensures dump { (a b : DumpError) → IsTrue (⟦<DumpError as PartialEq>⟧.eq a b) ↔ (a ≡ b) }
+{}
+
+/// States that two messages, payloads, parts or links are equal (`==`) if and only if all their fields are. Borrowed
+/// bytes are compared, and not where they are in memory.
+pub fn equality()
+    ensures message { (a b : Message) → IsTrue (⟦<Message<'static> as PartialEq>⟧.eq a b) ↔ IsSameMessage a b }
+    ensures payload { (a b : Payload) → IsTrue (⟦<Payload<'static> as PartialEq>⟧.eq a b)
+        ↔ (stretch_of a ≡ stretch_of b) }
+    ensures part { (a b : Part) → IsTrue (⟦<Part<'static> as PartialEq>⟧.eq a b) ↔ (part_of a ≡ part_of b) }
+    ensures link { (a b : Link) → IsTrue (⟦<Link<'static> as PartialEq>⟧.eq a b) ↔ IsSameLink a b }
+{}

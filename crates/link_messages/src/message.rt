@@ -1,0 +1,127 @@
+//! The messages of a buffer, one at a time, and why one could not be parsed.
+
+ghost use Rattle.std.specs.Prelude.{◌≡◌, ◌+◌, ◌<◌, ◌≤◌, ◌^◌, length, take, drop, Some, MatchResult};
+ghost use Rattle.netlink_packet_route.specs.Number.{bytes_of};
+ghost use Rattle.netlink_packet_route.specs.Layout.{number_at};
+ghost use Rattle.link_messages.specs.Message.{IsMessageAt, NextMessage, header_fault, error_text};
+
+use crate::views::Message;
+use netlink_packet_route::link::Cause;
+use std::error::Error;
+use std::fmt;
+
+/// The type of the message that ends a dump (`include/uapi/linux/netlink.h`).
+const NLMSG_DONE: u16 = 3;
+
+/// Why a message, or the link that it is about, could not be parsed. `at` is an offset in the buffer.
+#[derive(Clone, Copy, Debug, PartialEq, Eq)]
+pub enum MessageError {
+    /// Only `left` bytes are left at the offset of a message: fewer than the 16 of a `struct nlmsghdr`.
+    ShortHeader { at: usize, left: usize },
+    /// `nlmsg_len` is less than 16, the size of the header.
+    SmallLength { at: usize, length: u32 },
+    /// `nlmsg_len` is greater than `left`, the number of bytes left.
+    Overrun { at: usize, length: u32, left: usize },
+    /// The message is not about a link: its type is not RTM_NEWLINK, RTM_DELLINK or RTM_SETLINK.
+    OtherType { at: usize, kind: u16 },
+    /// A message about a link has `length` bytes: fewer than the 32 of `struct nlmsghdr` and `struct ifinfomsg`.
+    ShortLink { at: usize, length: usize },
+    /// The bytes at this offset are not an attribute; they are in the message's list or in that of its `IFLA_LINKINFO`.
+    Frame { at: usize, cause: Cause },
+}
+
+impl fmt::Display for MessageError {
+    ghost output = { λ error. Some (error_text error) };
+
+    fn fmt<W: fmt::Write>(&self, f: &mut fmt::Formatter<W>) -> fmt::Result {
+        match *self {
+            MessageError::ShortHeader { at, left } => {
+                write!(f, "short header at {at}: {left} bytes")
+            }
+            MessageError::SmallLength { at, length } => write!(f, "small length at {at}: {length}"),
+            MessageError::Overrun { at, length, left } => {
+                write!(f, "overrun at {at}: {length} of {left} bytes")
+            }
+            MessageError::OtherType { at, kind } => write!(f, "other type at {at}: {kind}"),
+            MessageError::ShortLink { at, length } => {
+                write!(f, "short link at {at}: {length} bytes")
+            }
+            MessageError::Frame { at, cause } => write!(f, "bad attribute at {at}: {cause}"),
+        }
+    }
+}
+
+impl Error for MessageError {}
+
+/// Parses the message at offset `at` of a buffer. Returns `None` at the end of the buffer and at an `NLMSG_DONE`. The
+/// following message is at offset `next`.
+///
+/// # Errors
+///
+/// `ShortHeader`, `SmallLength` or `Overrun`, checked in this order, if there is no message at `at`.
+pub fn next_message(bytes: &[u8], at: usize) -> Result<Option<Message<'_>>, MessageError>
+    ensures { NextMessage at (drop at bytes.now) result }
+{
+    if at >= bytes.len() {
+        return Ok(None);
+    }
+    let message = message_at(&bytes[at..], at)?;
+    if message.kind == NLMSG_DONE {
+        return Ok(None);
+    }
+    Ok(Some(message))
+}
+
+/// Parses the message at the start of `bytes`. `at` is the offset of `bytes` in the buffer.
+///
+/// # Errors
+///
+/// As for `next_message`.
+fn message_at(bytes: &[u8], at: usize) -> Result<Message<'_>, MessageError>
+    requires { at + length bytes.now < 2 ^ 64 }
+    ensures { MatchResult result (IsMessageAt at bytes.now) (λ error. header_fault at bytes.now ≡ Some error) }
+{
+    let left = bytes.len();
+    if left < 16 {
+        return Err(MessageError::ShortHeader { at, left });
+    }
+    let length = u32_at(bytes, 0);
+    if length < 16 {
+        return Err(MessageError::SmallLength { at, length });
+    }
+    let end = length as usize;
+    if end > left {
+        return Err(MessageError::Overrun { at, length, left });
+    }
+    Ok(Message {
+        at,
+        kind: u16_at(bytes, 4),
+        flags: u16_at(bytes, 6),
+        sequence: u32_at(bytes, 8),
+        port: u32_at(bytes, 12),
+        payload: &bytes[16..end],
+        next: at + ((end + 3) / 4 * 4).min(left),
+    })
+}
+
+/// Reads the little-endian `u16` at an offset.
+fn u16_at(bytes: &[u8], offset: usize) -> u16
+    requires { offset + 2 ≤ length bytes.now }
+    ensures { bytes_of 2 result ≡ take 2 (drop offset bytes.now) }
+{
+    u16::from_le_bytes([bytes[offset], bytes[offset + 1]])
+}
+
+/// Reads the little-endian `u32` at an offset.
+fn u32_at(bytes: &[u8], offset: usize) -> u32
+    requires { offset + 4 ≤ length bytes.now }
+    ensures value { result ≡ number_at 4 offset bytes.now }
+    ensures octets { bytes_of 4 result ≡ take 4 (drop offset bytes.now) }
+{
+    u32::from_le_bytes([
+        bytes[offset],
+        bytes[offset + 1],
+        bytes[offset + 2],
+        bytes[offset + 3],
+    ])
+}

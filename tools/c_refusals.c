@@ -1,0 +1,185 @@
+/*
+ * Calls the functions of nlroute.h while allocations fail, and with buffers that are a little too short. Standard input
+ * has one list per line: the name of an attribute set, a space, and hex digits. Lines that begin with # are ignored.
+ *
+ * For each list and function, the first allocation and all later ones fail, then the second and all later ones, and so
+ * on, until a run has no failed allocation. No function may allocate again after a failed allocation. The linker
+ * options --wrap=malloc, --wrap=realloc and --wrap=free let this program count allocations. It prints a line for each
+ * check that fails, and then the counts.
+ */
+#include "nlroute.h"
+
+#include <limits.h>
+#include <stdbool.h>
+#include <stdio.h>
+#include <stdlib.h>
+#include <string.h>
+
+enum { MOST = 1 << 18, ROOM = 1 << 22, LENT = 0xA5 };
+
+void *__real_malloc(size_t size);
+void *__real_realloc(void *old, size_t size);
+void __real_free(void *block);
+
+/* Allocations requested so far; how many of them, at most, succeed; how many failed; blocks that are not freed. */
+static unsigned long requests, granted = ULONG_MAX, refused, held;
+
+static bool is_refused(void) {
+    requests++;
+    bool is = requests > granted;
+    refused += is;
+    return is;
+}
+
+void *__wrap_malloc(size_t size) {
+    void *block = is_refused() ? NULL : __real_malloc(size);
+    held += block != NULL;
+    return block;
+}
+
+void *__wrap_realloc(void *old, size_t size) {
+    void *block = is_refused() ? NULL : __real_realloc(old, size);
+    held += old == NULL && block != NULL;
+    return block;
+}
+
+void __wrap_free(void *block) {
+    held -= block != NULL;
+    __real_free(block);
+}
+
+static const char *const names[10] = {"af_spec_bridge", "bond", "bond_port", "bridge", "bridge_port",
+                                      "vlan",           "can",  "dsa",       "hsr",    "proto_bridge"};
+
+static uint8_t list[MOST], out[ROOM], whole[ROOM];
+static char text[2 * MOST + 64];
+static uint32_t family;
+static size_t len;
+static unsigned long lists, refusals, shorts, failed;
+
+static void check(bool holds, const char *call, const char *what, unsigned long n) {
+    if (holds) return;
+    printf("FAILED %s of %s, %zu bytes: %s, at %lu\n", call, names[family], len, what, n);
+    failed++;
+}
+
+static bool are_lent(size_t from, size_t to) {
+    for (size_t i = from; i < to; i++)
+        if (out[i] != LENT) return false;
+    return true;
+}
+
+static size_t padded(void) { return (len + 3) / 4 * 4; }
+
+/* Makes a call with this much room. Whatever is past the room, or past what is written, must stay LENT. */
+typedef ptrdiff_t calling(size_t room);
+
+static ptrdiff_t rewriting(size_t room) { return nlroute_rewrite(family, list, len, out, room); }
+static ptrdiff_t into(size_t room) { return nlroute_rewrite_streaming(family, list, len, out, room); }
+static ptrdiff_t reading(size_t room) { return (void)room, nlroute_count(family, list, len); }
+
+static ptrdiff_t telling(size_t room) {
+    uint64_t fault[NLROUTE_FAULT_NUMBERS];
+    memcpy(fault, out, sizeof fault);
+    ptrdiff_t answer = nlroute_fault(family, list, len, fault, room);
+    memcpy(out, fault, sizeof fault);
+    return answer;
+}
+
+/* The status is stored after the longest possible output. */
+static ptrdiff_t reporting(size_t room) {
+    return nlroute_report(family, (const uint8_t *)text, 2 * len, out, room, &out[ROOM - 1]);
+}
+
+static const struct {
+    const char *name;
+    calling *call;
+    bool is_by_value;
+} calls[] = {{"rewrite", rewriting, false},
+             {"rewrite_streaming", into, true},
+             {"read", reading, false},
+             {"fault", telling, false},
+             {"report", reporting, false}};
+
+static size_t room_of(calling *call) { return call == telling ? NLROUTE_FAULT_NUMBERS : ROOM / 2; }
+
+/* Returns how many bytes a call with this result, or a failed one, may write, and some more to check. */
+static size_t reach_of(ptrdiff_t answer) {
+    size_t room = padded();
+    return (answer > 0 && (size_t)answer > room ? (size_t)answer : room) + 64;
+}
+
+/* Makes all allocations after the first n fail. Returns whether one did; if not, the result must be the usual one. */
+static bool refuse(size_t i, unsigned long n, ptrdiff_t answer) {
+    size_t reach = reach_of(answer);
+    memset(out, LENT, reach), out[ROOM - 1] = LENT;
+    requests = refused = held = 0, granted = n;
+    ptrdiff_t answered = calls[i].call(room_of(calls[i].call));
+    granted = ULONG_MAX;
+    check(held == 0, calls[i].name, "a block is kept", n);
+    size_t from = calls[i].is_by_value ? padded() : 0;
+    refusals += refused != 0;
+    if (refused == 0) {
+        bool is_same = answered == answer && !memcmp(out, whole, reach) && out[ROOM - 1] == whole[ROOM - 1];
+        check(is_same, calls[i].name, "another answer than with memory", n);
+        return false;
+    }
+    check(refused == 1, calls[i].name, "an allocation after one that failed", n);
+    check(answered == NLROUTE_NO_MEMORY, calls[i].name, "not -3", n);
+    check(are_lent(from, reach) && out[ROOM - 1] == LENT, calls[i].name, "what was lent has changed", n);
+    return true;
+}
+
+/* Calls with a buffer that is too short by this many bytes (of nlroute_fault(): elements). */
+static void shorten(size_t i, size_t need, size_t by) {
+    if (by > need) return;
+    memset(out, LENT, need + 64), out[ROOM - 1] = LENT;
+    held = 0;
+    ptrdiff_t answer = calls[i].call(need - by);
+    shorts++;
+    check(answer == NLROUTE_NO_ROOM && held == 0, calls[i].name, "not -4 with less room", by);
+    check(are_lent(0, need + 64) && out[ROOM - 1] == LENT, calls[i].name, "something was written", by);
+}
+
+static void try_call(size_t i) {
+    memset(out, LENT, ROOM);
+    held = 0;
+    ptrdiff_t answer = calls[i].call(room_of(calls[i].call));
+    check(answer >= NLROUTE_TOO_LONG && held == 0, calls[i].name, "no answer with memory", 0);
+    memcpy(whole, out, reach_of(answer)), whole[ROOM - 1] = out[ROOM - 1];
+    unsigned long n = 0;
+    while (refuse(i, n, answer)) n++;
+    if (answer <= 0 || calls[i].call == reading) return;
+    for (size_t by = 1; by <= 4; by++)
+        shorten(i, calls[i].is_by_value ? padded() : (size_t)answer, by);
+}
+
+static int value(char digit) { return digit <= '9' ? digit - '0' : digit - 'a' + 10; }
+
+/* Parses the attribute set and the list of a line. Returns whether the line has one. */
+static bool take(char *line) {
+    char *digits = strchr(line, ' ');
+    if (line[0] == '#' || digits == NULL) return false;
+    *digits++ = 0;
+    for (family = 0; family < 10 && strcmp(line, names[family]); family++) continue;
+    size_t count = strcspn(digits, "\n");
+    len = count / 2;
+    if (family == 10 || count % 2 || len > MOST || strspn(digits, "0123456789abcdef") != count) {
+        check(false, "a line", "no list of a family", 0);
+        return false;
+    }
+    memcpy(text, digits, count);
+    for (size_t i = 0; i < len; i++) list[i] = (uint8_t)(value(digits[2 * i]) << 4 | value(digits[2 * i + 1]));
+    return true;
+}
+
+int main(void) {
+    static char line[2 * MOST + 64];
+    while (fgets(line, sizeof line, stdin)) {
+        if (!take(line)) continue;
+        lists++;
+        for (size_t i = 0; i < sizeof calls / sizeof calls[0]; i++) try_call(i);
+    }
+    printf("%lu lists, %lu refusals, %lu short buffers\n", lists, refusals, shorts);
+    return failed != 0 || lists == 0;
+}

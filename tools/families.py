@@ -1,0 +1,87 @@
+"""The list of attribute sets, and the lists of other files that have to agree with it.
+
+The list is the macro `families!` of crates/netlink_packet_route/src/family.rt: a row has the variant of `Family`, the
+name, the enum of attributes, the number in C, and what holds the list in a message. The prover compares it with
+specs/Family.antt. The files of LISTS have lists of their own, which no prover sees: C, other languages, and pages.
+"""
+import re
+
+LIST = "crates/netlink_packet_route/src/family.rt"
+ROW = re.compile(r'^ +([A-Z]\w+) +"(\w+)" +(\w+) +(\d+) +(\w+) \((?:b"(\w+)"|(\w+))\)$', re.MULTILINE)
+# For each file, what it has once for each attribute set, as a regular expression. {name}, {NAME}, {variant},
+# {attributes} and {number} are those of the row, and {holder} is the attribute of a message that has the list.
+LISTS = [
+    ("crates/nlroute_ffi/include/nlroute.h", r"^ *NLROUTE_{NAME} = {number}\b"),
+    ("crates/nlroute_ffi/examples/calls.c", r'\{{NLROUTE_{NAME},\s+"{name}",'),
+    ("crates/nlroute_ffi/examples/calls.rs", r"^ *{variant} = {number},$"),
+    ("tools/c_refusals.c", r'"{name}"'),
+    ("crates/nlroute_ffi/src/tests.rt", r"^ *(?:\(|\(\n *){number},\s+&(?:\[\d|TWO, &\[)"),
+    ("crates/nlroute_ffi/README.md", r"`{name}` {number}\b"),
+    ("crates/nlroute/src/main.rt", r"`{name}`"),
+    ("crates/nlroute/src/tests/names.rt", r'^ *\(\s*"{name}",'),
+    ("crates/nlshow/src/main.rt", r"`{name}`"),
+    ("bench/driver.c", r"\b{number} {name}\b"),
+    ("bench/speed.py", r"\b{name}\b"),
+    ("tools/fuzz/seeds.py", r"\b{name}\b"),
+    ("README.md", r"^\| `{name}` \|.*\| `{attributes}` \|$"),
+    ("docs/PROGRAMS.md", r"^\|[^|]*`{name}`[^|]*\|[^|]*`{holder}`"),
+    ("docs/MESSAGES.md", r"^\| `{holder}` \|.*`{name}`"),
+    ("docs/MODEL.md", r"^### .*`{attributes}`"),
+]
+# Files that number the attribute sets by their places in a list.
+ORDERED = {"tools/c_refusals.c", "bench/speed.py", "tools/fuzz/seeds.py"}
+# The number of attribute sets, where a file has it as a number.
+COUNTS = [
+    ("crates/nlroute_ffi/examples/calls.c", r"\bfamily < (\d+)"),
+    ("tools/c_refusals.c", r"\bfamily (?:<|==) (\d+)|\bnames\[(\d+)\]"),
+    ("tools/fuzz/fuzz.c", r"\bdata\[0\] % (\d+)"),
+]
+HOLDERS = {"InfoKind": "IFLA_INFO_DATA", "PortKind": "IFLA_INFO_SLAVE_DATA"}
+
+
+def families(text):
+    """The rows of the list: for each attribute set what a pattern of LISTS can name."""
+    rows = []
+    for variant, name, attributes, number, holder, _, attribute in ROW.findall(text):
+        rows.append({
+            "variant": variant,
+            "name": name,
+            "NAME": name.upper(),
+            "attributes": attributes,
+            "number": number,
+            "holder": HOLDERS.get(holder, attribute),
+        })
+    return rows
+
+
+def disagreements(text_of):
+    """The lists that differ from the list of attribute sets: path, line and message. `text_of` gives the text of a
+    path, or None if there is no such file."""
+    rows = families(text_of(LIST) or "")
+    if not rows:
+        yield LIST, 1, "there is no list of attribute sets"
+    if [it["number"] for it in rows] != [str(it) for it in range(len(rows))]:
+        yield LIST, 1, "the numbers of attribute sets do not go from 0 in order"
+    for path, pattern in LISTS:
+        text = text_of(path)
+        if text is not None:
+            yield from differing(path, text, pattern, rows)
+    for path, pattern in COUNTS:
+        for found in re.finditer(pattern, text_of(path) or ""):
+            number = next(it for it in found.groups() if it)
+            if number != str(len(rows)):
+                line = text_of(path).count("\n", 0, found.start()) + 1
+                yield path, line, f"{number} is not the number of attribute sets, which is {len(rows)}"
+
+
+def differing(path, text, pattern, rows):
+    last = 0
+    for row in rows:
+        escaped = {key: re.escape(it) for key, it in row.items()}
+        found = re.search(pattern.format(**escaped), text, re.MULTILINE)
+        if not found:
+            yield path, 1, f"the list does not have {row['name']} as families! has it"
+        elif path in ORDERED and found.start() < last:
+            yield path, text.count("\n", 0, found.start()) + 1, f"{row['name']} is not in the order of families!"
+        else:
+            last = found.start()
