@@ -21,8 +21,7 @@ not refused in its place, is tried alone, and then any refusal is its own. A mut
 the prover, is a failure, and so is one that cannot be read.
 
 A verdict 'refused' is kept in the folder out/mutants, or FOLDER, and holds until something changes on which it depends
-(tools/verdicts.py). If all are kept, nothing is built or checked. With that
-folder removed, all are tried.
+(tools/verdicts.py). If all are kept, nothing is built or checked. With that folder removed, all are tried.
 
 The crates as they stand have to be proved, as by `rt ci` or `rt all check`: this is not tried again. Libraries that are
 newer than their sources, and kept work, are taken from crates/NAME/out/. With --after, a crate's mutants wait until LOG,

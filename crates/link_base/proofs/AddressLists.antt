@@ -11,7 +11,7 @@ use Rattle.link_base.specs.declared.fault.DecodeFault.TheVariants as faults
 use Rattle.link_base.specs.Frame.{BeginsWith, bare, frame_bytes, frame_fault, spelled, pad}
 use Rattle.link_base.specs.Wire.{whole}
 use Rattle.link_base.specs.Table.{Case, Listed, Addresses, PayloadGives, ShapeGives, of_length, addresses_from}
-use Rattle.link_base.specs.AddressOctets.{sized}
+use Rattle.link_base.specs.IpAddress.{sized}
 use Rattle.link_base.proofs.Addresses.{length-whole}
 use Rattle.link_base.proofs.FrameAtFront.{Splits, splits, step_of}
 use Rattle.link_base.proofs.Emit.{one_more}

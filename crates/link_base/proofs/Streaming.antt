@@ -11,12 +11,14 @@ use Rattle.link_base.specs.declared.fault.Cause.{Cause}
 use Rattle.link_base.specs.declared.fault.DecodeFault.TheVariants as faults
 use Rattle.link_base.specs.declared.fault.DecodeError.{DecodeError}
 use Rattle.link_base.specs.declared.fault.DecodeError.TheVariants as errors
-use Rattle.link_base.specs.Frame.{Frame, BeginsWith, bare, spelled, pad, frame_fault}
+use Rattle.link_base.specs.declared.fault.ListError.{ListError}
+use Rattle.link_base.specs.declared.fault.ListError.TheVariants as list_errors
+use Rattle.link_base.specs.Frame.{Frame, BeginsWith, bare, spelled, pad, frame_fault, max_payload}
 use Rattle.link_base.specs.Wire.{Reading, Wire, FirstFault, FrameGives}
 use Rattle.link_base.specs.Table.{Table, AttrValue, Gives, TakesMemory, Fits, written_payload, written_frame, written_list}
 use Rattle.link_base.specs.Lawful.{IsLawful}
-use Rattle.link_base.specs.Answers.{Fails, ListFails, OnMemory, OnListMemory, OverwritesFront, IsFirstUnfit, list_error}
-use Rattle.link_base.specs.Rewritten.{RewrittenInto, IsUnfitAt, NeedsMemory, FrameWritten, FrameLeft}
+use Rattle.link_base.specs.Answers.{Fails, ListFails, OnMemory, OnRewriteMemory, OverwritesFront, IsFirstUnfit, list_error, of_reading}
+use Rattle.link_base.specs.Rewritten.{AnswersBy, RewrittenInto, IsUnfitAt, NeedsMemory, FrameWritten, FrameLeft}
 use Rattle.link_base.proofs.FrameBytes.{bytes-front}
 use Rattle.link_base.proofs.FrameAtFront.{Splits}
 use Rattle.link_base.proofs.Walking.{Counted, counted_none, front_none, counted_more, front_more, all_complete, are_frames, some_bytes}
@@ -104,7 +106,7 @@ written_push : (vs : List AttrValue) (v : AttrValue) → written_list (vs ++ v �
 written_push vs v = flat_map-append written_frame vs (v ∷ []) ∙ ap (λ t. written_list vs ++ t) (append-nil (written_frame v))
 
 -- the next value is the first that does not fit
-pub unfit_next : (vs : List AttrValue) (v : AttrValue) (i : ℕ) → i ≡ length vs → AllByRecursion Fits vs → 65531 < length (written_payload v) → IsFirstUnfit (vs ++ v ∷ []) i
+pub unfit_next : (vs : List AttrValue) (v : AttrValue) (i : ℕ) → i ≡ length vs → AllByRecursion Fits vs → max_payload < length (written_payload v) → IsFirstUnfit (vs ++ v ∷ []) i
 unfit_next vs v i place fit long = record { before = vs; value = v; after = []; values = refl; place = place; fit = fit; unfit = long }
 
 -- a value that was the first not to fit still is
@@ -148,7 +150,7 @@ pub record Wrote (vs : List AttrValue) (old new : List ℕ) (len : ℕ) (unfit :
   pub low : len ≤ n
 
 -- the next value does not fit
-pub wrote_last : (vs : List AttrValue) (v : AttrValue) (old new : List ℕ) (len n i : ℕ) → Wrote vs old new len None n → i ≡ length vs → 65531 < length (written_payload v)
+pub wrote_last : (vs : List AttrValue) (v : AttrValue) (old new : List ℕ) (len n i : ℕ) → Wrote vs old new len None n → i ≡ length vs → max_payload < length (written_payload v)
     → Wrote (vs ++ v ∷ []) old new len (Some i) n
 wrote_last vs v old new len n i w place long = record { so_far = unfit_next vs v i place w.so_far.0 long; behind = w.behind; low = w.low }
 
@@ -234,9 +236,14 @@ into_all table s old new rest count len vs w none (fit, front, size) = record {
 pub into_unfit : (table : Table) (s rest : List ℕ) (count i : ℕ) (vs : List AttrValue) → Underway (Gives table) s count rest vs → rest ≡ [] → IsFirstUnfit vs i → IsUnfitAt table s i
 into_unfit table s rest count i vs w none u = (vs, underway_all (Gives table) s count rest vs w none, u)
 
+-- the error of reading the list, as an error of re-encoding it
+pub fails_by : {X : Type 0} (table : Table) (s : List ℕ) (P : X → Type 0) (e : ListError) → ListFails e (Gives table) s → AnswersBy table s P (Err (of_reading e))
+fails_by table s P (list_errors.Memory e) h = tt
+fails_by table s P (list_errors.Fault at f) h = h
+
 -- the next value may be heap-allocated
 pub needs_memory : (table : Table) (s rest : List ℕ) (count f at : ℕ) (p : List ℕ) (vs : List AttrValue) (e : DecodeError) → Underway (Gives table) s count rest vs → rest ≢ []
-    → BeginsWith rest (bare f p) → OnMemory {X = AttrValue} (Err e) (TakesMemory table f) → OnListMemory {X = AttrValue} (Err (list_error at e)) (NeedsMemory table s)
+    → BeginsWith rest (bare f p) → OnMemory {X = AttrValue} (Err e) (TakesMemory table f) → OnRewriteMemory {X = AttrValue} (Err (of_reading (list_error at e))) (NeedsMemory table s)
 needs_memory table s rest count f at p vs (errors.Fault c) w some b takes = tt
 needs_memory table s rest count f at p vs (errors.Memory e) w some b takes = record {
   front = w.counted.front;

@@ -11,6 +11,9 @@ use Rattle.link_base.specs.declared.fault.ListError.{ListError}
 use Rattle.link_base.specs.declared.fault.ListError.TheVariants as list_errors
 use Rattle.link_base.specs.declared.fault.WriteError.{WriteError}
 use Rattle.link_base.specs.declared.fault.WriteError.TheVariants as write_errors
+use Rattle.link_base.specs.declared.fault.RewriteError.{RewriteError}
+use Rattle.link_base.specs.declared.fault.RewriteError.TheVariants as rewrite_errors
+use Rattle.link_base.specs.Frame.{max_payload}
 use Rattle.link_base.specs.Wire.{Reading, Wire, FirstFault}
 use Rattle.link_base.specs.Table.{AttrValue, written_payload, written_list, Fits, nested_fault}
 
@@ -126,7 +129,7 @@ pub record IsFirstUnfit (vs : List AttrValue) (i : ℕ) : Type 0 where
   pub values : vs ≡ before ++ value ∷ after
   pub place : i ≡ length before
   pub fit : AllByRecursion Fits before
-  pub unfit : 65531 < length (written_payload value)
+  pub unfit : max_payload < length (written_payload value)
 
 -- all values fit, and the output is the written list; or value i is the first that does not fit; or the error is
 -- `Memory`, all values fit, and there is at least one
@@ -134,3 +137,22 @@ abbrev pub WriteAnswers : List AttrValue → Result (Vec ℕ) WriteError → Typ
 WriteAnswers vs (Ok out) = AllByRecursion Fits vs × (out.items ≡ written_list vs)
 WriteAnswers vs (Err (write_errors.TooLong i)) = IsFirstUnfit vs i
 WriteAnswers vs (Err (write_errors.Memory e)) = AllByRecursion Fits vs × (0 < length vs)
+
+-- ---- re-encoding
+
+-- the error of re-encoding a list, for the error of reading it
+abbrev pub of_reading : ListError → RewriteError
+of_reading (list_errors.Memory e) = rewrite_errors.Memory e
+of_reading (list_errors.Fault at f) = rewrite_errors.Fault at f
+
+-- the error of re-encoding a list, for the error of writing its values
+abbrev pub of_writing : WriteError → RewriteError
+of_writing (write_errors.Memory e) = rewrite_errors.Memory e
+of_writing (write_errors.TooLong i) = rewrite_errors.TooLong i
+
+-- if the call failed with `Memory`, then P holds
+abbrev pub OnRewriteMemory : {X : Type 0} → Result X RewriteError → Type 0 → Type 0
+OnRewriteMemory (Ok x) P = Unit {0}
+OnRewriteMemory (Err (rewrite_errors.Fault at fault)) P = Unit {0}
+OnRewriteMemory (Err (rewrite_errors.TooLong i)) P = Unit {0}
+OnRewriteMemory (Err (rewrite_errors.Memory e)) P = P

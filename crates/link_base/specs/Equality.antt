@@ -21,7 +21,7 @@ use Rattle.link_base.specs.Table.{Leaf, AttrValue, Case, Other, Single, Inner, L
 use Rattle.std.specs.declared.net.ipv4_addr.Ipv4Addr.{Ipv4Addr}
 use Rattle.std.specs.declared.net.ipv6_addr.Ipv6Addr.{Ipv6Addr}
 use Rattle.std.specs.Net.Addr.{octets_of}
-use Rattle.link_base.specs.AddressOctets.{sized, four_octets, sixteen_octets}
+use Rattle.link_base.specs.IpAddress.{sized, four_octets, sixteen_octets}
 use Rattle.link_base.specs.Layout.{octets_of as written_numbers}
 use Rattle.link_base.specs.Lift.{lift}
 use Rattle.link_base.specs.Class.{Raw}

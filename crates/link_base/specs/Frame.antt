@@ -9,9 +9,17 @@ use Rattle.link_base.specs.declared.fault.Cause.TheVariants.{ShortFrame, SmallLe
 abbrev pub pad : ℕ → ℕ
 pad n = (n + 3) / 4 * 4
 
+-- the number of attribute types: `nla_type` has 14 bits for the type (`NLA_TYPE_MASK`)
+abbrev pub kind_limit : ℕ
+kind_limit = 16384
+
 -- the attribute type in `nla_type`, without the two flags
 abbrev pub kind_of : ℕ → ℕ
-kind_of f = f % 16384
+kind_of f = f % kind_limit
+
+-- the maximum length of a payload: `nla_len` has 16 bits, and counts the four bytes of the header
+abbrev pub max_payload : ℕ
+max_payload = 65531
 
 -- an attribute in a list: `nla_type`, the payload, and the padding that follows
 pub record Frame : Type 0 where
@@ -34,13 +42,13 @@ spelled xs = flat_map frame_bytes xs
 -- the header's numbers are in range, and the padding is at most complete
 pub record IsFrame (x : Frame) : Type 0 where
   pub kind_field : x.kind_field < 65536
-  pub payload : length x.payload ≤ 65531
+  pub payload : length x.payload ≤ max_payload
   pub padding : length x.padding ≤ gap x.payload
 
 -- a frame with complete padding
 pub record IsComplete (x : Frame) : Type 0 where
   pub kind_field : x.kind_field < 65536
-  pub payload : length x.payload ≤ 65531
+  pub payload : length x.payload ≤ max_payload
   pub padding : length x.padding ≡ gap x.payload
 
 -- these are frames, and all except the last are complete

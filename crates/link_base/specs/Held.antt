@@ -2,7 +2,7 @@
 use Rattle.std.specs.Prelude.{◌≡◌, ℕ, ◌<◌, List, Option, Some, None, length}
 use Rattle.std.specs.List.{AllByRecursion}
 use Rattle.link_base.specs.Number.{IsBytes}
-use Rattle.link_base.specs.Frame.{kind_of}
+use Rattle.link_base.specs.Frame.{kind_of, kind_limit}
 use Rattle.link_base.specs.Class
 use Rattle.link_base.specs.Class.{Class, Value, IsUncut}
 use Rattle.link_base.specs.Table.{Rows, class_at, Leaf, Case, Other, Shape, One, Nested, Addresses, Content, Single, Inner, Listed, Table, AttrValue, TakesMemoryBy}
@@ -16,7 +16,7 @@ LeafInRangeBy (Some c) v = Class.IsInRange c v
 
 -- an element of a nested list is in range
 abbrev pub LeafInRange : Rows → Leaf → Type 0
-LeafInRange rows (Case k v) = (k < 16384) × LeafInRangeBy (class_at rows k) v
+LeafInRange rows (Case k v) = (k < kind_limit) × LeafInRangeBy (class_at rows k) v
 LeafInRange rows (Other f p) = (f < 65536) × IsBytes p
 
 -- n bytes
@@ -37,7 +37,7 @@ InRangeBy (Some shape) content = ContentInRange shape content
 
 -- a variant has a row, for which its content is in range; `Other` has a 16-bit `nla_type` and a payload of bytes
 abbrev pub IsInRange : Table → AttrValue → Type 0
-IsInRange table (Case k content) = (k < 16384) × InRangeBy (class_at table k) content
+IsInRange table (Case k content) = (k < kind_limit) × InRangeBy (class_at table k) content
 IsInRange table (Other f p) = (f < 65536) × IsBytes p
 
 -- ---- hiding none: an `Other` has an attribute type without a row

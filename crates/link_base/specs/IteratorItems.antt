@@ -1,5 +1,5 @@
 -- The items of an iterator over attributes.
-use Rattle.std.specs.Prelude.{◌≡◌, ◌≢◌, ◌⊎◌, ℕ, ◌+◌, ◌<◌, min, List, [], ◌∷◌, ◌++◌, length, drop, map, Option, Some, None, Result, Ok, Err}
+use Rattle.std.specs.Prelude.{◌≡◌, ◌≢◌, ◌⊎◌, ℕ, ◌<◌, List, [], ◌∷◌, ◌++◌, length, map, Option, Some, None, Result, Ok, Err}
 use Rattle.std.specs.List.{AllByRecursion}
 use Rattle.link_base.specs.declared.buffer.NlaBuffer.{NlaBuffer}
 use Rattle.link_base.specs.declared.iterator.NlasIterator.{NlasIterator}
@@ -7,8 +7,8 @@ use Rattle.link_base.specs.declared.fault.DecodeError.{DecodeError}
 use Rattle.link_base.specs.declared.fault.DecodeError.TheVariants as errors
 use Rattle.link_base.specs.declared.fault.DecodeFault.TheVariants as faults
 use Rattle.link_base.specs.declared.fault.Cause.{Cause}
-use Rattle.link_base.specs.Frame.{Frame, Frames, IsComplete, BeginsWith, pad, spelled, frame_fault}
-use Rattle.link_base.specs.Buffer.{kind_field_of, payload_of, frame_of, IsFrameFault}
+use Rattle.link_base.specs.Frame.{Frame, Frames, IsComplete, spelled, frame_fault}
+use Rattle.link_base.specs.Buffer.{kind_field_of, payload_of, IsFrameFault, SplitsFirst}
 
 -- the bytes that the iterator has not yet passed
 abbrev pub bytes_left : NlasIterator → List ℕ
@@ -17,7 +17,7 @@ bytes_left it = it.rest.now
 -- if s is left, the next item is the first frame of s or, as the last item, the error in its header; t is left then
 abbrev pub NextFrame : List ℕ → Option (Result NlaBuffer DecodeError) → List ℕ → Type 0
 NextFrame s None t = (s ≡ []) × (t ≡ [])
-NextFrame s (Some (Ok b)) t = BeginsWith s (frame_of b) × (t ≡ drop (min (pad (4 + length (payload_of b))) (length s)) s)
+NextFrame s (Some (Ok b)) t = SplitsFirst s b t
 NextFrame s (Some (Err e)) t = (s ≢ []) × IsFrameFault s e × (t ≡ [])
 
 -- the `nla_type` and the payload of an item, or its error

@@ -1,7 +1,7 @@
 -- The laws of one attribute, from which the laws of lists are proved.
 use Rattle.std.specs.Prelude.{◌≡◌, ◌↔◌, ℕ, ◌<◌, ◌≤◌, List, length, Result, Ok}
 use Rattle.link_base.specs.Number.{IsBytes}
-use Rattle.link_base.specs.Frame.{pad}
+use Rattle.link_base.specs.Frame.{pad, max_payload}
 use Rattle.link_base.specs.declared.fault.DecodeFault.{DecodeFault}
 use Rattle.link_base.specs.Wire.{Reading, FitsBy}
 use Rattle.link_base.specs.Table.{Table, Gives, written_kind, written_payload, canon, cut, Allows}
@@ -36,7 +36,7 @@ pub record IsWriting {V : Type 0} (gives : Reading V) (field : V → ℕ) (paylo
   pub allowed_stays : (f : ℕ) (p : List ℕ) (v : V) → f < 65536 → IsBytes p → gives f p (Ok v) → allows f p → (field v ≡ f) × (payload v ≡ p)
   -- an attribute whose value is written as the same `nla_type` and payload is canonical; the bound is that of a
   -- payload, and address lists need one
-  pub stays_allowed : (f : ℕ) (p : List ℕ) (v : V) → f < 65536 → IsBytes p → length p ≤ 65531 → gives f p (Ok v) → (field v ≡ f) × (payload v ≡ p) → allows f p
+  pub stays_allowed : (f : ℕ) (p : List ℕ) (v : V) → f < 65536 → IsBytes p → length p ≤ max_payload → gives f p (Ok v) → (field v ≡ f) × (payload v ≡ p) → allows f p
   -- the written payload of a decoded value is no longer than the input, rounded up to a multiple of four
   pub length_bound : (f : ℕ) (p : List ℕ) (v : V) → f < 65536 → IsBytes p → gives f p (Ok v) → length (payload v) ≤ pad (length p)
   -- after `cut`, a decoded value that fits is written canonically, it fits, and a second `cut` leaves it unchanged

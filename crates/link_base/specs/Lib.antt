@@ -13,8 +13,7 @@ pub mod Buffer
 pub mod Answers
 pub mod Storing
 pub mod Rewritten
-pub mod AddressPayload
-pub mod AddressOctets
+pub mod IpAddress
 pub mod Layout
 pub mod Named
 pub mod Protocol

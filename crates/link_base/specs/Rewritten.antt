@@ -2,11 +2,12 @@
 use Rattle.std.specs.Prelude.{◌≡◌, ◌<◌, ◌≤◌, ℕ, Bool, IsTrue, List, ◌++◌, length, Option, Some, None, Result, Ok, Err}
 use Rattle.std.specs.List.{AllByRecursion}
 use Rattle.link_base.specs.declared.fault.DecodeError.{DecodeError}
-use Rattle.link_base.specs.declared.fault.ListError.{ListError}
-use Rattle.link_base.specs.Frame.{Frame, IsComplete, BeginsWith, spelled}
-use Rattle.link_base.specs.Wire.{Wire, FrameGives}
+use Rattle.link_base.specs.declared.fault.RewriteError.{RewriteError}
+use Rattle.link_base.specs.declared.fault.RewriteError.TheVariants as errors
+use Rattle.link_base.specs.Frame.{Frame, IsComplete, BeginsWith, spelled, max_payload}
+use Rattle.link_base.specs.Wire.{Wire, FirstFault, FrameGives}
 use Rattle.link_base.specs.Table.{Table, AttrValue, Gives, Rewriting, TakesMemory, Fits, written_payload, written_frame}
-use Rattle.link_base.specs.Answers.{Fails, ListFails, OverwritesFront, IsFirstUnfit}
+use Rattle.link_base.specs.Answers.{Fails, OverwritesFront, IsFirstUnfit}
 
 -- the rewriting of s is in the first n bytes of the buffer, and the rest of the buffer is unchanged
 pub record RewrittenInto (table : Table) (s old new : List ℕ) (n : ℕ) : Type 0 where
@@ -24,11 +25,13 @@ pub record IsUnfit (table : Table) (s : List ℕ) : Type 0 where
   pub first : ℕ
   pub is : IsUnfitAt table s first
 
--- the rewriting; or the first value that does not fit; or the first error, unless it is `Memory`
-abbrev pub RewritesInto : Table → List ℕ → List ℕ → List ℕ → Result (Result ℕ ℕ) ListError → Type 0
-RewritesInto table s old new (Ok (Ok n)) = RewrittenInto table s old new n
-RewritesInto table s old new (Ok (Err i)) = IsUnfitAt table s i
-RewritesInto table s old new (Err e) = ListFails e (Gives table) s
+-- P holds of what the call returned; or the error is the first one in s, or the first value that does not fit, unless
+-- it is `Memory`
+abbrev pub AnswersBy : {X : Type 0} → Table → List ℕ → (X → Type 0) → Result X RewriteError → Type 0
+AnswersBy table s P (Ok x) = P x
+AnswersBy table s P (Err (errors.Fault at fault)) = FirstFault (Gives table) s at fault
+AnswersBy table s P (Err (errors.TooLong i)) = IsUnfitAt table s i
+AnswersBy table s P (Err (errors.Memory e)) = Unit {0}
 
 -- one of the attributes of s has a type whose values may be heap-allocated, and each attribute before it decodes, so
 -- that it is not after the first error
@@ -59,7 +62,7 @@ pub record FrameWritten (table : Table) (f : ℕ) (p : List ℕ) (wanted : Bool)
 pub record FrameLeft (table : Table) (f : ℕ) (p : List ℕ) (wanted : Bool) (old new : List ℕ) : Type 0 where
   pub value : AttrValue
   pub given : Gives table f p (Ok value)
-  pub unfit : IsTrue wanted → 65531 < length (written_payload value)
+  pub unfit : IsTrue wanted → max_payload < length (written_payload value)
   pub same : new ≡ old
 
 -- the decoded value was written or left out; or the attribute has this error, unless it is `Memory`, and the buffer is

@@ -4,7 +4,7 @@ use Rattle.std.specs.List.{filter, AllByRecursion}
 use Rattle.link_base.specs.declared.fault.Cause.{Cause}
 use Rattle.link_base.specs.declared.fault.DecodeFault.{DecodeFault}
 use Rattle.link_base.specs.declared.fault.DecodeFault.TheVariants as faults
-use Rattle.link_base.specs.Frame.{Frame, IsComplete, kind_of, frame_bytes, spelled}
+use Rattle.link_base.specs.Frame.{Frame, IsComplete, kind_of, kind_limit, frame_bytes, spelled}
 use Rattle.link_base.specs.Class
 use Rattle.link_base.specs.Class.{Class, Value, class_value, written, IsCanonicalPayload}
 use Rattle.link_base.specs.Wire.{Reading, Reads, Wire, CanonicalBy, FirstOtherBy, RewritingBy, written_by, FitsBy, whole}
@@ -219,7 +219,7 @@ cut (Other f p) = Other f p
 -- the `nla_type` of an element has no flags, and the payload is canonical; or no row has the attribute type
 abbrev pub leaf_allows_by : Option Class → ℕ → List ℕ → Type 0
 leaf_allows_by None f p = Unit {0}
-leaf_allows_by (Some c) f p = (f < 16384) × IsCanonicalPayload c p
+leaf_allows_by (Some c) f p = (f < kind_limit) × IsCanonicalPayload c p
 
 -- the `nla_type` and the payload of an element are canonical
 abbrev pub LeafAllows : Rows → ℕ → List ℕ → Type 0

@@ -2,6 +2,7 @@
 use Rattle.std.specs.Prelude.{ℕ, ◌+◌, ◌≤◌, ◌==◌, ◌&&◌, ◌||◌, Bool, true, false, List, [], ◌∷◌, length, Option, Some, nat_lt, nat_le}
 use Rattle.std.specs.List.{list_all}
 use Rattle.link_base.specs.Number.{bound}
+use Rattle.link_base.specs.Frame.{kind_limit}
 use Rattle.link_base.specs.Class.{Extent, AtLeast, Multiple, Class, Octets, Many, Named, Empty, Limits}
 use Rattle.link_base.specs.Table.{Row, Shape, One, Nested, Addresses, Table}
 
@@ -26,10 +27,10 @@ is_kept Empty = false
 is_kept Limits = false
 is_kept c = true
 
--- rows of strictly increasing attribute types below 16384, each of which passes a test
+-- rows of strictly increasing attribute types below `kind_limit`, each of which passes a test
 abbrev pub are_rows : {C : Type 0} → (C → Bool) → ℕ → List (Row C) → Bool
 are_rows test least [] = true
-are_rows test least (r ∷ rows) = nat_le least r.kind && (nat_lt r.kind 16384 && (test r.class && are_rows test (r.kind + 1) rows))
+are_rows test least (r ∷ rows) = nat_le least r.kind && (nat_lt r.kind kind_limit && (test r.class && are_rows test (r.kind + 1) rows))
 
 -- a class that a row of a nested list may have: the written payload is as long as the decoded one
 abbrev pub is_nested_class : Class → Bool

@@ -4,7 +4,7 @@ use Rattle.std.specs.List.{flat_map, AllZip, AllByRecursion}
 use Rattle.link_base.specs.declared.fault.Cause.{Cause}
 use Rattle.link_base.specs.declared.fault.DecodeFault.{DecodeFault}
 use Rattle.link_base.specs.declared.fault.DecodeFault.TheVariants as faults
-use Rattle.link_base.specs.Frame.{Frame, Frames, IsComplete, BeginsWith, frame_bytes, spelled, gap, frame_fault}
+use Rattle.link_base.specs.Frame.{Frame, Frames, IsComplete, BeginsWith, frame_bytes, spelled, gap, frame_fault, max_payload}
 
 -- How attributes decode: from `nla_type` and a payload to a value or an error.
 abbrev pub Reading : Type 0 → Type 1
@@ -56,7 +56,7 @@ written_by field payload vs = flat_map (λ v. frame_bytes (whole (field v) (payl
 
 -- the written payload fits in an attribute
 abbrev pub FitsBy : {V : Type 0} → (V → List ℕ) → V → Type 0
-FitsBy payload v = length (payload v) ≤ 65531
+FitsBy payload v = length (payload v) ≤ max_payload
 
 -- ---- the canonical grammar
 

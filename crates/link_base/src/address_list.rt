@@ -3,7 +3,7 @@
 ghost use Rattle.std.specs.Prelude.{◌≡◌, ◌≢◌, ◌≤◌, ◌<◌, ◌^◌, ◌++◌, ◌∷◌, [], ℕ, List, length, map, None, IsTrue, refl};
 ghost use Rattle.std.specs.Prelude.{◌+◌, ◌/◌, nat_lt, MatchOption, vec_len, vec_capacity};
 ghost use Rattle.std.specs.List.{AllByRecursion};
-ghost use Rattle.link_base.specs.Frame.{frame_fault, spelled};
+ghost use Rattle.link_base.specs.Frame.{frame_fault, spelled, max_payload};
 ghost use Rattle.link_base.specs.Table.{Case, Listed, Addresses, ShapeGives, addresses_from, of_length};
 ghost use Rattle.link_base.specs.Held.{IsOctets};
 ghost use Rattle.link_base.specs.Class.{accepted, Exactly};
@@ -12,6 +12,7 @@ ghost use Rattle.link_base.specs.Answers.{Answers, OnMemory, capped, payload_res
 use crate::attribute::{Meaning, Nla};
 use crate::buffer::{NlaBuffer, cause_at_front};
 use crate::fault::{Cause, DecodeError, DecodeFault};
+use crate::padding::total_size;
 use std::alloc::Global;
 use std::net::{Ipv4Addr, Ipv6Addr};
 
@@ -44,7 +45,7 @@ pub trait Address: Copy {
 }
 
 impl Address for Ipv4Addr {
-    ghost use Rattle.link_base.specs.AddressOctets.{four_octets};
+    ghost use Rattle.link_base.specs.IpAddress.{four_octets};
 
     const SIZE: usize = 4;
 
@@ -69,7 +70,7 @@ impl Address for Ipv4Addr {
 }
 
 impl Address for Ipv6Addr {
-    ghost use Rattle.link_base.specs.AddressOctets.{sixteen_octets};
+    ghost use Rattle.link_base.specs.IpAddress.{sixteen_octets};
 
     const SIZE: usize = 16;
 
@@ -196,12 +197,13 @@ fn push_addresses<A: Address>(
 {
     let mut rest = payload;
     while !rest.is_empty() {
-        if let Some(cause) = cause_at_front(rest) {
-            return Err(DecodeError::Fault(DecodeFault::NestedFrame { kind, cause }));
+        match NlaBuffer::split_first(rest) {
+            Ok((element, after)) => {
+                keep(addresses, element.value());
+                rest = after;
+            }
+            Err(cause) => return Err(DecodeError::Fault(DecodeFault::NestedFrame { kind, cause })),
         }
-        let frame = NlaBuffer::at_front(rest);
-        keep(addresses, frame.value());
-        rest = frame.step_over(rest);
     }
     Ok(())
 }
@@ -223,13 +225,13 @@ fn keep<A: Address>(addresses: &mut Vec<A>, payload: &[u8])
 pub fn addresses_len<A: Address>(addresses: &[A]) -> usize
     ensures { result ≡ capped (length (spelled (addresses_from 0 (map A.octets addresses.now)))) }
 {
-    addresses.len().saturating_mul((A::SIZE + 7) / 4 * 4)
+    addresses.len().saturating_mul(total_size(A::SIZE))
 }
 
 /// Writes addresses as elements with the attribute types 0, 1, 2 and so on. `buffer` must be exactly
 /// `addresses_len(addresses)` bytes long, which must be at most 65531.
 pub fn emit_addresses<A: Address>(addresses: &[A], buffer: &mut [u8])
-    requires fits { length (spelled (addresses_from 0 (map A.octets addresses.now))) ≤ 65531 }
+    requires fits { length (spelled (addresses_from 0 (map A.octets addresses.now))) ≤ max_payload }
     requires exact { length buffer.old ≡ length (spelled (addresses_from 0 (map A.octets addresses.now))) }
     ensures written { buffer.new ≡ spelled (addresses_from 0 (map A.octets addresses.now)) }
     ensures in_range { AllByRecursion (IsOctets A.SIZE) (map A.octets addresses.now) }

@@ -15,6 +15,7 @@ ghost use Rattle.link_base.specs.Answers.{Answers, OnMemory, OverwritesFront, ca
 
 use crate::buffer::NlaBuffer;
 use crate::fault::{DecodeError, of_kind};
+use crate::padding::total_size;
 use crate::place::Place;
 use std::alloc::Global;
 
@@ -63,6 +64,7 @@ pub trait Nla: Meaning {
         if size > usize::MAX - 7 {
             usize::MAX
         } else {
+            // with `total_size`, the compiler computes this again for a payload of constant length
             (size + 7) / 4 * 4
         }
     }
@@ -89,7 +91,7 @@ pub trait Nla: Meaning {
     {
         let kind_field = self.kind();
         // the last four bytes of the attribute, which include all of its padding
-        put_zeros(buffer, (size + 7) / 4 * 4 - 4);
+        put_zeros(buffer, total_size(size) - 4);
         put_header(buffer, kind_field, 4 + size as u16);
         self.emit_value(&mut buffer[4..4 + size]);
     }

@@ -1,9 +1,10 @@
 //! One attribute of a list, as it is in the input.
 
-ghost use Rattle.std.specs.Prelude.{◌≡◌, ◌+◌, ◌≤◌, ◌↔◌, IsTrue, IsBitSet, None, length, drop, min, MatchResult};
-ghost use Rattle.link_base.specs.Frame.{BeginsWith, kind_of, pad, frame_fault};
+ghost use Rattle.std.specs.Prelude.{◌≡◌, ◌+◌, ◌≤◌, ◌↔◌, IsTrue, IsBitSet, Some, None, length, drop, min, MatchResult};
+ghost use Rattle.link_base.specs.Frame.{BeginsWith, kind_of, pad, frame_fault, max_payload};
 
 use crate::fault::{Cause, DecodeError, DecodeFault};
+use crate::padding::padded;
 
 /// Flag of `nla_type`: the payload is a list of attributes (`include/uapi/linux/netlink.h`).
 pub const NLA_F_NESTED: u16 = 0x8000;
@@ -20,7 +21,7 @@ pub const NLA_TYPE_MASK: u16 = 0x3FFF;
 pub struct NlaBuffer<'a> {
     kind_field: u16,
     payload: &'a [u8],
-    ghost short: { length payload.now ≤ 65531 },
+    ghost short: { length payload.now ≤ max_payload },
 }
 
 /// Returns the reason why `bytes` do not start with a whole attribute; `None` if they do.
@@ -45,7 +46,7 @@ pub(crate) fn cause_at_front(bytes: &[u8]) -> Option<Cause>
 }
 
 impl<'a> NlaBuffer<'a> {
-    ghost use Rattle.link_base.specs.Buffer.{kind_field_of, payload_of, frame_of, IsFrameFault};
+    ghost use Rattle.link_base.specs.Buffer.{kind_field_of, payload_of, frame_of, IsFrameFault, SplitsFirst};
 
     /// Returns the attribute at the start of `bytes`; more bytes may follow.
     ///
@@ -61,6 +62,24 @@ impl<'a> NlaBuffer<'a> {
             Some(cause) => Err(DecodeError::Fault(DecodeFault::Frame(cause))),
             None => Ok(NlaBuffer::at_front(bytes)),
         }
+    }
+
+    /// Returns the attribute at the start of `bytes`, and what follows its padding. If the padding is truncated, nothing
+    /// follows.
+    ///
+    /// # Errors
+    ///
+    /// The cause, as for `new_checked`.
+    #[inline(always)]
+    pub fn split_first(bytes: &'a [u8]) -> Result<(NlaBuffer<'a>, &'a [u8]), Cause>
+        ensures { MatchResult result (λ first. SplitsFirst bytes.now first.0 first.1.now)
+            (λ cause. frame_fault bytes.now ≡ Some cause) }
+    {
+        if let Some(cause) = cause_at_front(bytes) {
+            return Err(cause);
+        }
+        let first = NlaBuffer::at_front(bytes);
+        Ok((first, first.step_over(bytes)))
     }
 
     /// Returns the attribute at the start of `bytes`, which must start with a whole attribute.
@@ -135,12 +154,12 @@ impl<'a> NlaBuffer<'a> {
     }
 
     /// Skips this attribute and its padding, with which `bytes` start, and returns the rest. If the padding is
-    /// truncated, the rest is empty.
-    #[inline]
+    /// truncated, the rest is empty. Where only the rest is needed, this takes fewer instructions than `split_first`.
+    #[inline(always)]
     pub(crate) fn step_over<'b>(&self, bytes: &'b [u8]) -> &'b [u8]
         ensures { result.now ≡ drop (min (pad (4 + length (payload_of self.now))) (length bytes.now)) bytes.now }
     {
-        let step = ((usize::from(self.length()) + 3) / 4 * 4).min(bytes.len());
+        let step = padded(usize::from(self.length())).min(bytes.len());
         &bytes[step..]
     }
 }

@@ -3,14 +3,16 @@
 //! A check of one attribute takes the `NlaBuffer`. It returns true if and only if `nla_type` and the payload are what
 //! would be written for the value that they decode to. Padding is checked with the list.
 
-ghost use Rattle.std.specs.Prelude.{◌≡◌, ◌≢◌, ◌↔◌, ◌⊎◌, ℕ, ◌<◌, ◌≤◌, List, [], ◌∷◌, Some, IsTrue, MatchOption, EachIndex, length, slice_index};
+ghost use Rattle.std.specs.Prelude.{◌≡◌, ◌≢◌, ◌↔◌, ◌⊎◌, ℕ, ◌<◌, ◌≤◌, List, [], ◌∷◌, length, slice_index};
+ghost use Rattle.std.specs.Prelude.{IsTrue, MatchOption, EachIndex};
 ghost use Rattle.link_base.specs.Wire.{SplitsWhole};
 ghost use Rattle.link_base.specs.Name.{IsCutText, IsNameField};
 ghost use Rattle.link_base.specs.Class.{Exactly, AtLeast, Fixed, Unsigned, Signed, Truth, Octets, Bytes, Many, Named};
 ghost use Rattle.link_base.specs.Class.{Protocol, Low, Empty, Limits};
-ghost use Rattle.link_base.specs.Table.{One, Nested, Addresses, AreAddresses, nested_flag, allows_by};
+ghost use Rattle.link_base.specs.Table.{One, Nested, Addresses, AreAddresses, nested_flag};
 ghost use Rattle.link_base.specs.Table.{Canonical, FirstNotCanonical};
-ghost use Rattle.link_base.specs.Buffer.{kind_field_of, payload_of};
+ghost use Rattle.link_base.specs.Buffer.{kind_field_of, payload_of, IsCanonicalAs};
+ghost use Rattle.link_base.specs.Frame.{kind_limit};
 
 use crate::attribute::Attribute;
 use crate::buffer::{NlaBuffer, cause_at_front};
@@ -88,7 +90,7 @@ fn are_zeros(bytes: &[u8]) -> bool
 /// Checks whether `nla_type` has neither flag.
 #[inline]
 fn has_no_flag(buffer: &NlaBuffer<'_>) -> bool
-    ensures { IsTrue result ↔ (kind_field_of buffer.now < 16384) }
+    ensures { IsTrue result ↔ (kind_field_of buffer.now < kind_limit) }
 {
     buffer.kind() == buffer.raw_kind()
 }
@@ -97,18 +99,12 @@ fn has_no_flag(buffer: &NlaBuffer<'_>) -> bool
 /// bytes.
 #[inline]
 pub fn has_size(buffer: &NlaBuffer<'_>, size: usize) -> bool
-    ensures unsigned { IsTrue result
-        ↔ allows_by (Some (One (Unsigned size))) (kind_field_of buffer.now) (payload_of buffer.now) }
-    ensures signed { size ≡ 4
-        → (IsTrue result ↔ allows_by (Some (One Signed)) (kind_field_of buffer.now) (payload_of buffer.now)) }
-    ensures exactly { IsTrue result
-        ↔ allows_by (Some (One (Octets (Exactly size)))) (kind_field_of buffer.now) (payload_of buffer.now) }
-    ensures at_least { IsTrue result
-        ↔ allows_by (Some (One (Octets (AtLeast size)))) (kind_field_of buffer.now) (payload_of buffer.now) }
-    ensures fixed { IsTrue result
-        ↔ allows_by (Some (One (Octets (Fixed size)))) (kind_field_of buffer.now) (payload_of buffer.now) }
-    ensures named { (listed : List ℕ) → (IsTrue result
-        ↔ allows_by (Some (One (Named size listed))) (kind_field_of buffer.now) (payload_of buffer.now)) }
+    ensures unsigned { IsTrue result ↔ IsCanonicalAs (One (Unsigned size)) buffer.now }
+    ensures signed { size ≡ 4 → (IsTrue result ↔ IsCanonicalAs (One Signed) buffer.now) }
+    ensures exactly { IsTrue result ↔ IsCanonicalAs (One (Octets (Exactly size))) buffer.now }
+    ensures at_least { IsTrue result ↔ IsCanonicalAs (One (Octets (AtLeast size))) buffer.now }
+    ensures fixed { IsTrue result ↔ IsCanonicalAs (One (Octets (Fixed size))) buffer.now }
+    ensures named { (listed : List ℕ) → (IsTrue result ↔ IsCanonicalAs (One (Named size listed)) buffer.now) }
 {
     has_no_flag(buffer) && buffer.value().len() == size
 }
@@ -116,7 +112,7 @@ pub fn has_size(buffer: &NlaBuffer<'_>, size: usize) -> bool
 /// Checks whether an attribute is canonical as a boolean: the payload is one byte, 0 or 1.
 #[inline]
 pub fn is_truth(buffer: &NlaBuffer<'_>) -> bool
-    ensures { IsTrue result ↔ allows_by (Some (One Truth)) (kind_field_of buffer.now) (payload_of buffer.now) }
+    ensures { IsTrue result ↔ IsCanonicalAs (One Truth) buffer.now }
 {
     has_no_flag(buffer) && matches!(buffer.value(), [0 | 1])
 }
@@ -124,7 +120,7 @@ pub fn is_truth(buffer: &NlaBuffer<'_>) -> bool
 /// Checks whether an attribute is canonical as bytes, of any length.
 #[inline]
 pub fn is_bytes(buffer: &NlaBuffer<'_>) -> bool
-    ensures { IsTrue result ↔ allows_by (Some (One Bytes)) (kind_field_of buffer.now) (payload_of buffer.now) }
+    ensures { IsTrue result ↔ IsCanonicalAs (One Bytes) buffer.now }
 {
     has_no_flag(buffer)
 }
@@ -133,8 +129,7 @@ pub fn is_bytes(buffer: &NlaBuffer<'_>) -> bool
 #[inline]
 pub fn are_numbers(buffer: &NlaBuffer<'_>, width: usize) -> bool
     requires { 0 < width }
-    ensures { IsTrue result
-        ↔ allows_by (Some (One (Many width))) (kind_field_of buffer.now) (payload_of buffer.now) }
+    ensures { IsTrue result ↔ IsCanonicalAs (One (Many width)) buffer.now }
 {
     has_no_flag(buffer) && buffer.value().len() % width == 0
 }
@@ -142,7 +137,7 @@ pub fn are_numbers(buffer: &NlaBuffer<'_>, width: usize) -> bool
 /// Checks whether an attribute is canonical as a VLAN protocol: the payload is 0x8100 or 0x88A8, big-endian.
 #[inline]
 pub fn is_protocol(buffer: &NlaBuffer<'_>) -> bool
-    ensures { IsTrue result ↔ allows_by (Some (One Protocol)) (kind_field_of buffer.now) (payload_of buffer.now) }
+    ensures { IsTrue result ↔ IsCanonicalAs (One Protocol) buffer.now }
 {
     has_no_flag(buffer) && matches!(buffer.value(), [0x81, 0x00] | [0x88, 0xA8])
 }
@@ -150,7 +145,7 @@ pub fn is_protocol(buffer: &NlaBuffer<'_>) -> bool
 /// Checks whether an attribute is canonical as the low byte of a little-endian `u16`: the high byte is 0.
 #[inline]
 pub fn is_low(buffer: &NlaBuffer<'_>) -> bool
-    ensures { IsTrue result ↔ allows_by (Some (One Low)) (kind_field_of buffer.now) (payload_of buffer.now) }
+    ensures { IsTrue result ↔ IsCanonicalAs (One Low) buffer.now }
 {
     has_no_flag(buffer) && matches!(buffer.value(), [_, 0])
 }
@@ -158,7 +153,7 @@ pub fn is_low(buffer: &NlaBuffer<'_>) -> bool
 /// Checks whether an attribute without a value is canonical: the payload is empty.
 #[inline]
 pub fn is_void(buffer: &NlaBuffer<'_>) -> bool
-    ensures { IsTrue result ↔ allows_by (Some (One Empty)) (kind_field_of buffer.now) (payload_of buffer.now) }
+    ensures { IsTrue result ↔ IsCanonicalAs (One Empty) buffer.now }
 {
     has_no_flag(buffer) && buffer.value().is_empty()
 }
@@ -166,7 +161,7 @@ pub fn is_void(buffer: &NlaBuffer<'_>) -> bool
 /// Checks whether an attribute is canonical as the limits of a CAN controller: the payload is a canonical name field of
 /// 16 bytes and another 32 bytes.
 pub fn is_limits(buffer: &NlaBuffer<'_>) -> bool
-    ensures { IsTrue result ↔ allows_by (Some (One Limits)) (kind_field_of buffer.now) (payload_of buffer.now) }
+    ensures { IsTrue result ↔ IsCanonicalAs (One Limits) buffer.now }
 {
     let payload = buffer.value();
     has_no_flag(buffer) && payload.len() == 48 && is_name_field(&payload[..16])
@@ -214,8 +209,7 @@ fn is_cut_replacement(bytes: &[u8]) -> bool
 #[inline]
 pub fn is_nested<E: NestedAttribute>(buffer: &NlaBuffer<'_>, flag: u16) -> bool
     requires { flag ≡ nested_flag E.flagged }
-    ensures { IsTrue result
-        ↔ allows_by (Some (Nested E.flagged E.rows)) (kind_field_of buffer.now) (payload_of buffer.now) }
+    ensures { IsTrue result ↔ IsCanonicalAs (Nested E.flagged E.rows) buffer.now }
 {
     buffer.raw_kind() == buffer.kind() + flag && list_is_canonical::<E>(buffer.value())
 }
@@ -224,8 +218,7 @@ pub fn is_nested<E: NestedAttribute>(buffer: &NlaBuffer<'_>, flag: u16) -> bool
 /// elements are 0, 1, 2 and so on.
 #[inline]
 pub fn is_address_list(buffer: &NlaBuffer<'_>, size: usize) -> bool
-    ensures { IsTrue result
-        ↔ allows_by (Some (Addresses size)) (kind_field_of buffer.now) (payload_of buffer.now) }
+    ensures { IsTrue result ↔ IsCanonicalAs (Addresses size) buffer.now }
 {
     has_no_flag(buffer) && are_addresses(buffer.value(), size)
 }

@@ -3,6 +3,9 @@
 ghost use Rattle.std.specs.Prelude.{◌≡◌, Some};
 ghost use Rattle.link_base.specs.Table.{nested_fault};
 ghost use Rattle.link_base.specs.Answers.{under_kind, value_error, list_error, nested_error};
+ghost use Rattle.link_base.specs.Answers.{of_reading, of_writing};
+ghost use Rattle.link_base.specs.declared.fault.RewriteError.TheVariants as rewrite_errors;
+ghost use Rattle.link_base.specs.declared.fault.WriteError.TheVariants as write_errors;
 ghost use Rattle.link_base.specs.Texts.{cause_text, value_text, fault_text};
 
 use std::alloc::AllocError;
@@ -186,6 +189,12 @@ impl DecodeFault {
     }
 }
 
+/// The first value of a list that does not fit: its written payload has more than 65531 bytes. `index` is zero-based.
+#[derive(Clone, Copy, Debug, PartialEq, Eq)]
+pub struct TooLong {
+    pub index: usize,
+}
+
 /// Why values could not be written.
 #[derive(Debug, Drop, PartialEq, Eq, Error)]
 pub enum WriteError {
@@ -195,4 +204,56 @@ pub enum WriteError {
     /// The zero-based index of the first value whose written payload has more than 65531 bytes.
     #[error("too long at {index}")]
     TooLong { index: usize },
+}
+
+impl From<TooLong> for WriteError {
+    ghost from_gives = { λ first error. error ≡ write_errors.TooLong first.index };
+
+    fn from(first: TooLong) -> WriteError {
+        WriteError::TooLong { index: first.index }
+    }
+}
+
+/// Why a list could not be re-encoded.
+#[derive(Debug, Drop, PartialEq, Eq, Error)]
+pub enum RewriteError {
+    /// An allocation failed.
+    #[error("no memory")]
+    Memory(#[from(alloc)] AllocError),
+    /// The first decode error, and the byte offset of the attribute that has it.
+    #[error("fault at {at}: {fault}")]
+    Fault { at: usize, fault: DecodeFault },
+    /// The zero-based index of the first value whose encoded payload has more than 65531 bytes.
+    #[error("too long at {index}")]
+    TooLong { index: usize },
+}
+
+impl From<ListError> for RewriteError {
+    ghost from_gives = { λ error same. same ≡ of_reading error };
+
+    fn from(error: ListError) -> RewriteError {
+        match error {
+            ListError::Memory(error) => RewriteError::Memory(error),
+            ListError::Fault { at, fault } => RewriteError::Fault { at, fault },
+        }
+    }
+}
+
+impl From<WriteError> for RewriteError {
+    ghost from_gives = { λ error same. same ≡ of_writing error };
+
+    fn from(error: WriteError) -> RewriteError {
+        match error {
+            WriteError::Memory(error) => RewriteError::Memory(error),
+            WriteError::TooLong { index } => RewriteError::TooLong { index },
+        }
+    }
+}
+
+impl From<TooLong> for RewriteError {
+    ghost from_gives = { λ first error. error ≡ rewrite_errors.TooLong first.index };
+
+    fn from(first: TooLong) -> RewriteError {
+        RewriteError::TooLong { index: first.index }
+    }
 }

@@ -38,10 +38,8 @@ impl<'a> FrameTable<'a> {
         ensures memory { OnErr result (frame_fault bytes.now ≡ None) }
     {
         let mut table = FrameTable::before_walk(alloc, bytes);
-        match table.find_frames() {
-            Ok(()) => Ok(table),
-            Err(error) => Err(error),
-        }
+        table.find_frames()?;
+        Ok(table)
     }
 
     /// Returns a table in which no attribute has been found yet. Other functions of this crate fill it in place, so
@@ -152,17 +150,9 @@ fn find_others(
     }
     // Most attributes have eight bytes or more.
     let room = offsets.len() + front.len() / 8 + 1;
-    let mut all = match Vec::with_capacity(*offsets.allocator(), room) {
-        Ok(all) => all,
-        Err(error) => return Err(error),
-    };
-    if let Err(error) = all.extend_from_slice(offsets.as_slice()) {
-        return Err(error);
-    }
-    match put_down(&mut all, bytes, front) {
-        Ok(found) => *fault = found,
-        Err(error) => return Err(error),
-    }
+    let mut all = Vec::with_capacity(*offsets.allocator(), room)?;
+    all.extend_from_slice(offsets.as_slice())?;
+    *fault = put_down(&mut all, bytes, front)?;
     *offsets = SmallVec::from_vec(all);
     Ok(())
 }
@@ -185,9 +175,7 @@ fn put_down(
         if let Some(cause) = cause_at_front(rest) {
             return Ok(Some((bytes.len() - rest.len(), cause)));
         }
-        if let Err(error) = make_room(offsets, rest.len() / 4) {
-            return Err(error);
-        }
+        make_room(offsets, rest.len() / 4)?;
         offsets.push_reserved(bytes.len() - rest.len());
         rest = NlaBuffer::at_front(rest).step_over(rest);
     }

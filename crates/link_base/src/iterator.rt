@@ -6,7 +6,7 @@ ghost use Rattle.std.specs.Iterator.SizeHint.{IsWithinCount};
 ghost use Rattle.link_base.specs.IteratorItems.{bytes_left, NextFrame};
 
 use crate::buffer::NlaBuffer;
-use crate::fault::DecodeError;
+use crate::fault::{DecodeError, DecodeFault};
 
 /// Iterates over the attributes of a list. If an attribute's header is malformed, that error is the last item. The
 /// iterator borrows the bytes, copies none, and does not allocate.
@@ -35,14 +35,14 @@ impl<'a> Iterator for NlasIterator<'a> {
         if self.rest.is_empty() {
             return None;
         }
-        match NlaBuffer::new_checked(self.rest) {
-            Ok(buffer) => {
-                self.rest = buffer.step_over(self.rest);
+        match NlaBuffer::split_first(self.rest) {
+            Ok((buffer, after)) => {
+                self.rest = after;
                 Some(Ok(buffer))
             }
-            Err(error) => {
+            Err(cause) => {
                 self.rest = &[];
-                Some(Err(error))
+                Some(Err(DecodeError::Fault(DecodeFault::Frame(cause))))
             }
         }
     }

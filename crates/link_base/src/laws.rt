@@ -13,10 +13,12 @@ ghost use Rattle.link_base.specs.declared.iterator.NlasIterator.{NlasIterator};
 ghost use Rattle.link_base.specs.declared.fault.DecodeError.{DecodeError};
 ghost use Rattle.link_base.specs.declared.fault.ListError.{ListError};
 ghost use Rattle.link_base.specs.declared.fault.WriteError.{WriteError};
+ghost use Rattle.link_base.specs.declared.fault.TooLong.{TooLong};
+ghost use Rattle.link_base.specs.declared.fault.RewriteError.{RewriteError};
 ghost use Rattle.link_base.specs.Buffer.{kind_field_of, payload_of};
 ghost use Rattle.link_base.specs.IteratorItems.{AreItems, bytes_left};
 ghost use Rattle.link_base.specs.Number.{IsBytes};
-ghost use Rattle.link_base.specs.Frame.{Frame, Frames, kind_of, pad};
+ghost use Rattle.link_base.specs.Frame.{Frame, Frames, kind_of, max_payload, pad};
 ghost use Rattle.link_base.specs.Wire.{Wire, FirstFault, Reads};
 ghost use Rattle.link_base.specs.Table.{Table, AttrValue, Other, class_at, Gives, Fits, canon, cut};
 ghost use Rattle.link_base.specs.Table.{Canonical, Rewriting, written_kind, written_payload, written_list};
@@ -28,7 +30,7 @@ ghost use Rattle.link_base.specs.FrameTableParts.{walked_bytes, offsets_of, faul
 
 use crate::attribute::Attribute;
 use crate::buffer::NlaBuffer;
-use crate::fault::{Cause, DecodeError, DecodeFault, ListError, WriteError};
+use crate::fault::{Cause, DecodeError, DecodeFault, ListError, RewriteError, TooLong, WriteError};
 use crate::frame_table::FrameTable;
 use crate::iterator::NlasIterator;
 
@@ -49,19 +51,22 @@ pub fn one_reading()
 {}
 
 /// Bytes can be split into frames in at most one way.
+#[tactic(auto, using(crate::proofs::Cuts::one_cut_lem))]
 pub fn one_cut()
     ensures { (s : List ℕ) (xs ys : List Frame) → Frames s xs → Frames s ys → xs ≡ ys }
 {}
 
 /// In a well-formed table, every decoded value fits in an attribute, with one exception: a nested list in a payload of
 /// 65529 bytes or more (`IsOverfull`).
+#[tactic(auto, using(crate::proofs::LimitLemmas::limit))]
 pub fn limit()
     ensures { (table : Table) (f : ℕ) (p : List ℕ) (v : AttrValue) → is_table table ≡ true → IsBytes p
-        → length p ≤ 65531 → Gives table f p (Ok v) → (¬ (Fits v)) ↔ IsOverfull (class_at table (kind_of f)) p }
+        → length p ≤ max_payload → Gives table f p (Ok v) → (¬ (Fits v)) ↔ IsOverfull (class_at table (kind_of f)) p }
 {}
 
 /// Removing the rows of some attribute types from a table gives its previous version: a list without attributes of
 /// these types decodes to the same result with both tables, and is canonical with both or with neither.
+#[tactic(auto, using(crate::proofs::EditionLemmas::editions))]
 pub fn editions()
     ensures { (added : List ℕ) (table : Table) → kinds_of (among added table) ≡ added
         → AreEditions added (without added table) table }
@@ -95,11 +100,13 @@ pub fn fault_equality()
     ensures fault { (a b : DecodeFault) → IsTrue (⟦<DecodeFault as PartialEq>⟧.eq a b) ↔ (a ≡ b) }
 {}
 
-/// Two errors of a payload, of a list, or of writing are equal if and only if they are identical.
+/// Two errors of a payload, of a list, of writing, or of re-encoding are equal if and only if they are identical.
 pub fn error_equality()
     ensures decode { (a b : DecodeError) → IsTrue (⟦<DecodeError as PartialEq>⟧.eq a b) ↔ (a ≡ b) }
     ensures list { (a b : ListError) → IsTrue (⟦<ListError as PartialEq>⟧.eq a b) ↔ (a ≡ b) }
     ensures write { (a b : WriteError) → IsTrue (⟦<WriteError as PartialEq>⟧.eq a b) ↔ (a ≡ b) }
+    ensures rewrite { (a b : RewriteError) → IsTrue (⟦<RewriteError as PartialEq>⟧.eq a b) ↔ (a ≡ b) }
+    ensures too_long { (a b : TooLong) → IsTrue (⟦<TooLong as PartialEq>⟧.eq a b) ↔ (a ≡ b) }
 {}
 
 /// Two `NlaBuffer`s are equal if and only if they have the same `nla_type` and the same payload; two `NlasIterator`s,

@@ -2,7 +2,7 @@
 
 ghost use Rattle.std.specs.Prelude.{◌≡◌, ◌≤◌, length, map, Bool, None};
 ghost use Rattle.std.specs.List.{AllByRecursion};
-ghost use Rattle.link_base.specs.Frame.{frame_fault};
+ghost use Rattle.link_base.specs.Frame.{frame_fault, max_payload};
 ghost use Rattle.link_base.specs.Table.{Rows, Leaf, Case, Nested, Inner, ShapeGives, written_leaves};
 ghost use Rattle.link_base.specs.Lift.{lift, lift_table};
 ghost use Rattle.link_base.specs.Held.{LeafInRange};
@@ -64,7 +64,7 @@ pub fn nested_len<E: NestedAttribute>(values: &[E]) -> usize
 /// Writes a nested list. `buffer` must be exactly `nested_len(values)` bytes long, which must be at most 65531.
 #[inline(never)]
 pub fn emit_nested<E: NestedAttribute>(values: &[E], buffer: &mut [u8])
-    requires fits { length (written_leaves (map E.leaf values.now)) ≤ 65531 }
+    requires fits { length (written_leaves (map E.leaf values.now)) ≤ max_payload }
     requires exact { length buffer.old ≡ length (written_leaves (map E.leaf values.now)) }
     ensures written { buffer.new ≡ written_leaves (map E.leaf values.now) }
     ensures in_range { AllByRecursion (LeafInRange E.rows) (map E.leaf values.now) }

@@ -4,58 +4,61 @@ ghost use Rattle.std.specs.Prelude.{◌≡◌, ◌≤◌, length, drop};
 ghost use Rattle.link_base.specs.Frame.{pad};
 ghost use Rattle.link_base.specs.Table.{TakesMemory};
 ghost use Rattle.link_base.specs.Buffer.{kind_field_of, payload_of};
-ghost use Rattle.link_base.specs.Answers.{OnMemory, OnListMemory};
-ghost use Rattle.link_base.specs.Rewritten.{RewritesInto, NeedsMemory, HasRoom, PutsFrame};
+ghost use Rattle.link_base.specs.Answers.{OnMemory, OnRewriteMemory};
+ghost use Rattle.link_base.specs.Rewritten.{AnswersBy, RewrittenInto, NeedsMemory, HasRoom, PutsFrame};
 
 use crate::attribute::{Attribute, MAX_PAYLOAD};
-use crate::buffer::{NlaBuffer, cause_at_front};
-use crate::fault::{DecodeError, DecodeFault, ListError};
+use crate::buffer::NlaBuffer;
+use crate::fault::{DecodeError, DecodeFault, RewriteError};
+use crate::padding::total_size;
 use std::alloc::Global;
 
 /// Re-encodes an attribute list into `buffer`, one attribute at a time and without a list of values. Returns
-/// `Ok(Ok(n))` if all values fit: the list is in `buffer[..n]`, and the rest of the buffer is unchanged. Returns
-/// `Ok(Err(i))` if value `i`, zero-based, is the first that does not fit. `buffer` must be at least as long as `bytes`,
+/// the number of bytes written; the rest of the buffer is unchanged. `buffer` must be at least as long as `bytes`,
 /// rounded up to a multiple of four.
 ///
 /// # Errors
 ///
-/// As for `read_list`, except that `Memory` is possible only for an attribute whose value may be heap-allocated and
-/// which is not after the first error. On error, and if a value does not fit, the start of the buffer may have changed,
-/// up to the length of `bytes` rounded up to a multiple of four.
+/// `Fault` as for `read_list`. `TooLong` if the list decodes and a value does not fit. `Memory` if an allocation fails,
+/// which is possible only for an attribute whose value may be heap-allocated and which is not after the first error. On
+/// error, the start of the buffer may have changed, up to the length of `bytes` rounded up to a multiple of four.
 pub fn rewrite_list<F: Attribute>(
     alloc: Global,
     bytes: &[u8],
     buffer: &mut [u8],
-) -> Result<Result<usize, usize>, ListError>
+) -> Result<usize, RewriteError>
     requires { pad (length bytes.now) ≤ length buffer.old }
-    ensures answer { RewritesInto F.table bytes.now buffer.old buffer.new result }
+    ensures answer { AnswersBy F.table bytes.now (RewrittenInto F.table bytes.now buffer.old buffer.new) result }
     ensures behind { drop (pad (length bytes.now)) buffer.new ≡ drop (pad (length bytes.now)) buffer.old }
-    ensures memory { OnListMemory result (NeedsMemory F.table bytes.now) }
+    ensures memory { OnRewriteMemory result (NeedsMemory F.table bytes.now) }
 {
     let mut rest = bytes;
     let mut place = 0usize;
     let mut len = 0usize;
     let mut unfit = None;
     while !rest.is_empty() {
-        if let Some(cause) = cause_at_front(rest) {
-            let error = DecodeError::Fault(DecodeFault::Frame(cause));
-            return Err(error.at(bytes.len() - rest.len()));
-        }
-        let frame = NlaBuffer::at_front(rest);
+        let (frame, after) = match NlaBuffer::split_first(rest) {
+            Ok(first) => first,
+            Err(cause) => {
+                let at = bytes.len() - rest.len();
+                let fault = DecodeFault::Frame(cause);
+                return Err(RewriteError::Fault { at, fault });
+            }
+        };
         let written = match rewrite_frame::<F>(alloc, &frame, unfit.is_none(), &mut buffer[len..]) {
             Ok(written) => written,
-            Err(error) => return Err(error.at(bytes.len() - rest.len())),
+            Err(error) => return Err(error.at(bytes.len() - rest.len()).into()),
         };
         match written {
             Some(size) => len += size,
             None => unfit = unfit.or(Some(place)),
         }
         place += 1;
-        rest = frame.step_over(rest);
+        rest = after;
     }
     match unfit {
-        Some(place) => Ok(Err(place)),
-        None => Ok(Ok(len)),
+        Some(index) => Err(RewriteError::TooLong { index }),
+        None => Ok(len),
     }
 }
 
@@ -87,7 +90,7 @@ fn rewrite_frame<F: Attribute>(
                 return Ok(None);
             }
             value.emit_sized(size, buffer);
-            Ok(Some((size + 7) / 4 * 4))
+            Ok(Some(total_size(size)))
         }
         Err(error) => Err(error),
     }

@@ -10,7 +10,7 @@ ghost use Rattle.link_base.specs.declared.fault.Cause.TheVariants.{WrongLength};
 ghost use Rattle.link_base.specs.Number.{number, bytes_of};
 ghost use Rattle.link_base.specs.Class.{accepted, integer, Exactly};
 ghost use Rattle.link_base.specs.Layout.{number_at, octets_of};
-ghost use Rattle.link_base.specs.AddressPayload.{IsAddress};
+ghost use Rattle.link_base.specs.IpAddress.{IsAddress};
 ghost use Rattle.link_base.specs.Held.{IsOctets};
 ghost use Rattle.link_base.specs.Answers.{payload_result, refused, OverwritesFront};
 

@@ -7,7 +7,8 @@ ghost use Rattle.link_base.specs.Held.{IsInRange};
 ghost use Rattle.link_base.specs.Answers.{capped, OverwritesFront, IsMeasured, IsFirstUnfit, WriteAnswers};
 
 use crate::attribute::{Attribute, MAX_PAYLOAD};
-use crate::fault::WriteError;
+use crate::fault::{TooLong, WriteError};
+use crate::padding::total_size;
 use std::alloc::{AllocError, Global};
 
 /// Returns the length of the written list in bytes, the sum of `buffer_len`; saturates at `usize::MAX`.
@@ -22,27 +23,29 @@ pub fn list_len<F: Attribute>(values: &[F]) -> usize
 }
 
 /// Checks whether every value fits; true for an empty list.
+#[tactic(auto, using(crate::proofs::Emit::not_all_fit))]
 pub fn list_fits<F: Attribute>(values: &[F]) -> bool
     ensures { IsTrue result ↔ AllByRecursion Fits (map F.means values.now) }
 {
-    match measure_list(values) {
-        Ok(_) => true,
-        Err(_) => false,
-    }
+    measure_list(values).is_ok()
 }
 
-/// Returns the length of the written list in bytes, as `list_len` does, or `Err(i)` if `values[i]` is the first value
-/// that does not fit.
-pub fn measure_list<F: Attribute>(values: &[F]) -> Result<usize, usize>
-    ensures { MatchResult result (IsMeasured (map F.means values.now)) (IsFirstUnfit (map F.means values.now)) }
+/// Returns the length of the written list in bytes, as `list_len` does.
+///
+/// # Errors
+///
+/// `TooLong` with the index of the first value that does not fit.
+pub fn measure_list<F: Attribute>(values: &[F]) -> Result<usize, TooLong>
+    ensures { MatchResult result (IsMeasured (map F.means values.now))
+        (λ first. IsFirstUnfit (map F.means values.now) first.index) }
 {
     let mut len = 0usize;
     for (i, value) in values.iter().enumerate() {
         let size = value.value_len();
         if size > MAX_PAYLOAD {
-            return Err(i);
+            return Err(TooLong { index: i });
         }
-        len = len.saturating_add((size + 7) / 4 * 4);
+        len = len.saturating_add(total_size(size));
     }
     Ok(len)
 }
@@ -60,7 +63,7 @@ pub fn emit_list<F: Attribute>(values: &[F], buffer: &mut [u8])
     for value in values {
         let size = value.value_len();
         value.emit_sized(size, &mut buffer[at..]);
-        at += (size + 7) / 4 * 4;
+        at += total_size(size);
     }
 }
 
@@ -74,10 +77,7 @@ pub fn write_list<F: Attribute>(alloc: Global, values: &[F]) -> Result<Vec<u8>, 
     ensures answer { WriteAnswers (map F.means values.now) result }
     ensures in_range { OnOk result (AllByRecursion (IsInRange F.table) (map F.means values.now)) }
 {
-    let len = match measure_list(values) {
-        Ok(len) => len,
-        Err(index) => return Err(WriteError::TooLong { index }),
-    };
+    let len = measure_list(values)?;
     if values.is_empty() {
         return Ok(Vec::new(alloc));
     }

@@ -3,7 +3,7 @@ use Rattle.std.specs.Prelude.{[], ◌∷◌, map, false}
 use Rattle.link_base.specs.Class.{Unsigned, Truth, Octets, Exactly, Named, Number, Boolean, Raw}
 use Rattle.link_base.specs.Named.{numbers_of, seen_value}
 use Rattle.link_base.specs.Table.{Table, AttrValue, Case, row, One, Nested, Addresses, Single, Inner, Listed}
-use Rattle.link_base.specs.AddressOctets.{four_octets, sixteen_octets}
+use Rattle.link_base.specs.IpAddress.{four_octets, sixteen_octets}
 use Rattle.link_base.specs.Default.{default_means}
 use Rattle.link_bond.specs.Mode.{mode_names, mode_seen}
 use Rattle.link_bond.specs.ArpValidate.{arp_validate_names, arp_validate_seen}

@@ -1,7 +1,7 @@
 -- The multicast queriers known to a bridge.
 use Rattle.std.specs.Prelude.{[], ◌∷◌}
 use Rattle.link_base.specs.Class.{Unsigned, Octets, Exactly, Number, Raw}
-use Rattle.link_base.specs.AddressOctets.{four_octets, sixteen_octets}
+use Rattle.link_base.specs.IpAddress.{four_octets, sixteen_octets}
 use Rattle.link_base.specs.Table.{Rows, Leaf, Case, row}
 use Rattle.link_base.specs.Default.{default_means}
 use Rattle.link_bridge.specs.declared.bridge.querier.BridgeQuerierState.{BridgeQuerierState}

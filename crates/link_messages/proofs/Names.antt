@@ -3,7 +3,7 @@ use Rattle.std.proofs.Common.{◌≡◌, ◌≢◌, ℕ, List, [], ◌∷◌, �
 use Rattle.std.specs.Borrow.{Bor}
 use Rattle.std.specs.Option.{MatchOption, unwrap_or}
 use Rattle.std.proofs.lemmas.Bool.{cases_eq, ne_eqb, cond-false}
-use Rattle.link_messages.specs.Naming.{without_nul}
+use Rattle.link_messages.specs.Link.{without_nul}
 
 without_nul-nul : (xs : List ℕ) → without_nul (xs ++ 0 ∷ []) ≡ xs
 without_nul-nul [] = refl

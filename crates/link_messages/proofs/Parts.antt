@@ -9,9 +9,8 @@ use Rattle.netlink_packet_route.specs.declared.family.Family.{Family}
 use Rattle.netlink_packet_route.specs.declared.family.Family.TheVariants.{AfSpecBridge, ProtoBridge}
 use Rattle.netlink_packet_route.specs.Family.{Holding, InfoKind, PortKind, BridgeAttribute, holder_of}
 use Rattle.link_messages.specs.declared.link.Link.{Link}
-use Rattle.link_messages.specs.Naming.{without_nul}
 use Rattle.link_messages.specs.Finding.{Stretch, Finds, FindsIn}
-use Rattle.link_messages.specs.Link.{part_of, IsFamilyOf, IsFamilyBeside, IsInfoPart, IsBridgePart, IsLink, HasPart, IsHeld, IsHeldBeside}
+use Rattle.link_messages.specs.Link.{without_nul, part_of, IsFamilyOf, IsFamilyBeside, IsInfoPart, IsBridgePart, IsLink, HasPart, IsHeld, IsHeldBeside}
 
 zip_none : {A B : Type 0} (a : Option A) (b : Option B) → b ≡ None → option_zip a b ≡ None
 zip_none None b e = refl

@@ -1,6 +1,5 @@
 pub mod Message
 pub mod Finding
-pub mod Naming
 pub mod Link
 pub mod Dump
 pub mod Same

@@ -12,7 +12,12 @@ use Rattle.link_messages.specs.declared.message.MessageError.{MessageError}
 use Rattle.link_messages.specs.declared.message.MessageError.TheVariants as errors
 use Rattle.link_messages.specs.Message.{Packet}
 use Rattle.link_messages.specs.Finding.{Stretch, stretch_of, Finds, FindsIn, IsFrameFault, IsFaultIn}
-use Rattle.link_messages.specs.Naming.{without_nul}
+
+-- the bytes of a name without the NUL at their end, if they have one
+abbrev pub without_nul : List ℕ → List ℕ
+without_nul [] = []
+without_nul (b ∷ []) = if b == 0 then [] else b ∷ []
+without_nul (b ∷ c ∷ bytes) = b ∷ without_nul (c ∷ bytes)
 
 -- ---- parts: lists, each with the Family that parses it
 

@@ -1,14 +1,14 @@
 //! Finds the last attribute of a type in a list.
 
-ghost use Rattle.std.specs.Prelude.{◌≡◌, ◌+◌, ◌<◌, ◌^◌, ◌==◌, length, drop, min, Some, MatchResult, if◌then◌else◌};
+ghost use Rattle.std.specs.Prelude.{◌≡◌, ◌+◌, ◌<◌, ◌^◌, ◌==◌, length, Some, MatchResult, if◌then◌else◌};
 ghost use Rattle.std.specs.Option.{option_map};
-ghost use Rattle.netlink_packet_route.specs.Frame.{BeginsWith, frame_fault, kind_of, pad};
-ghost use Rattle.netlink_packet_route.specs.Buffer.{frame_of, kind_field_of, payload_of};
+ghost use Rattle.netlink_packet_route.specs.Frame.{kind_of};
+ghost use Rattle.netlink_packet_route.specs.Buffer.{kind_field_of, payload_of};
 ghost use Rattle.link_messages.specs.Finding.{Finds, FindsIn, IsFrameFault, IsFaultIn, stretch_of};
 
 use crate::message::MessageError;
 use crate::views::Payload;
-use netlink_packet_route::link::{DecodeError, DecodeFault, NlaBuffer};
+use netlink_packet_route::link::NlaBuffer;
 
 /// Returns the payload of the last attribute of type `kind` in a list, or `None` if the list has none.
 ///
@@ -23,9 +23,13 @@ pub fn last_of_kind(list: Payload<'_>, kind: u16) -> Result<Option<Payload<'_>>,
     let mut rest = list.bytes;
     while !rest.is_empty() {
         let at = list.at + (list.bytes.len() - rest.len());
-        let frame = frame_at(rest, at)?;
-        found = later(found, &frame, at, kind);
-        rest = behind(&frame, rest);
+        match NlaBuffer::split_first(rest) {
+            Ok((frame, after)) => {
+                found = later(found, &frame, at, kind);
+                rest = after;
+            }
+            Err(cause) => return Err(MessageError::Frame { at, cause }),
+        }
     }
     Ok(found)
 }
@@ -46,24 +50,6 @@ pub fn find_in(list: Option<Payload<'_>>, kind: u16) -> Result<Option<Payload<'_
     }
 }
 
-/// Returns the attribute at the start of `bytes`. `at` is the offset of `bytes` in the buffer.
-///
-/// # Errors
-///
-/// `Frame` if `bytes` does not start with an attribute.
-fn frame_at(bytes: &[u8], at: usize) -> Result<NlaBuffer<'_>, MessageError>
-    ensures { MatchResult result (λ frame. BeginsWith bytes.now (frame_of frame))
-        (λ error. (cause : _) × (frame_fault bytes.now ≡ Some cause) × (error ≡ MessageError.Frame at cause)) }
-{
-    match NlaBuffer::new_checked(bytes) {
-        Ok(frame) => Ok(frame),
-        Err(error) => match error {
-            DecodeError::Fault(DecodeFault::Frame(cause)) => Err(MessageError::Frame { at, cause }),
-            _ => unreachable!(),
-        },
-    }
-}
-
 /// Returns the payload of `frame`, an attribute at offset `at`, if its type is `kind`, and otherwise `found`.
 fn later<'a>(
     found: Option<Payload<'a>>,
@@ -81,12 +67,4 @@ fn later<'a>(
     } else {
         found
     }
-}
-
-/// Returns what follows the attribute at the start of `bytes` and its padding.
-fn behind<'a>(frame: &NlaBuffer<'_>, bytes: &'a [u8]) -> &'a [u8]
-    ensures { result.now ≡ drop (min (pad (4 + length (payload_of frame.now))) (length bytes.now)) bytes.now }
-{
-    let step = ((usize::from(frame.length()) + 3) / 4 * 4).min(bytes.len());
-    &bytes[step..]
 }

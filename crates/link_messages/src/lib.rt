@@ -22,7 +22,6 @@ mod finding;
 pub mod laws;
 mod link;
 mod message;
-mod naming;
 mod views;
 
 pub use dump::{DumpError, read_links};

@@ -7,11 +7,10 @@ ghost use Rattle.link_messages.specs.Message.{packet_of};
 ghost use Rattle.link_messages.specs.Finding.{IsFrameFault, IsFaultIn, stretch_of};
 ghost use Rattle.netlink_packet_route.specs.Family.{InfoKind, PortKind};
 ghost use Rattle.link_messages.specs.Link.{IsInfoPart, IsBridgePart, IsFamilyBeside, IsLink, IsLinkFault};
-ghost use Rattle.link_messages.specs.Link.{IsAbout, IsAboutNone, IsLinkType, part_of};
+ghost use Rattle.link_messages.specs.Link.{IsAbout, IsAboutNone, IsLinkType, part_of, without_nul};
 
 use crate::finding::{find_in, last_of_kind};
 use crate::message::MessageError;
-use crate::naming::without_nul;
 use crate::views::{Message, Payload};
 use netlink_packet_route::Family;
 
@@ -178,6 +177,13 @@ fn family_of_port(name: Option<Payload<'_>>) -> Option<Family>
         Some(name) => Family::from_port_kind(without_nul(name.bytes)),
         None => None,
     }
+}
+
+/// Returns the bytes of a name without the NUL at their end, if they have one.
+fn without_nul(bytes: &[u8]) -> &[u8]
+    ensures { result.now ≡ without_nul bytes.now }
+{
+    bytes.strip_suffix(&[0]).unwrap_or(bytes)
 }
 
 /// Returns the list in the attribute of type `kind` of an AF_BRIDGE message. Returns `None` for other messages, and if

@@ -6,7 +6,7 @@ ghost use Rattle.netlink_packet_route.specs.Layout.{number_at};
 ghost use Rattle.link_messages.specs.Message.{IsMessageAt, NextMessage, header_fault, error_text};
 
 use crate::views::Message;
-use netlink_packet_route::link::Cause;
+use netlink_packet_route::link::{Cause, padded};
 use std::error::Error;
 use std::fmt;
 
@@ -100,7 +100,7 @@ fn message_at(bytes: &[u8], at: usize) -> Result<Message<'_>, MessageError>
         sequence: u32_at(bytes, 8),
         port: u32_at(bytes, 12),
         payload: &bytes[16..end],
-        next: at + ((end + 3) / 4 * 4).min(left),
+        next: at + padded(end).min(left),
     })
 }
 

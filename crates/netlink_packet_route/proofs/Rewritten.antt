@@ -1,21 +1,23 @@
 -- What holds of a rewriting in a lawful table.
-use Rattle.std.proofs.Common.{◌≡◌, ◌↔◌, ℕ, ◌<◌, ◌≤◌, List, [], ◌∷◌, ◌++◌, length, take, drop, map, None, Result, Ok, Err, refl, sym, ap, subst, ◌∙◌, arith}
+use Rattle.std.proofs.Common.{◌≡◌, ◌↔◌, ℕ, ◌<◌, ◌≤◌, List, [], ◌∷◌, ◌++◌, length, take, drop, map, Option, Some, None, Result, Ok, Err, refl, sym, ap, subst, ◌∙◌, arith}
 use Rattle.std.specs.List.{AllZip, AllByRecursion}
 use Rattle.std.proofs.lemmas.List.{length-append, take_at}
 use Rattle.link_base.specs.Number.{IsBytes}
-use Rattle.link_base.specs.Frame.{Frame, AreFrames, frame_bytes, pad, spelled, frame_fault}
+use Rattle.link_base.specs.Frame.{Frame, AreFrames, frame_bytes, pad, spelled, frame_fault, max_payload}
 use Rattle.link_base.specs.Wire.{Reading, FrameGives, Wire}
 use Rattle.link_base.specs.Table.{Table, AttrValue, Gives, Fits, Decodes, Canonical, Rewriting, cut, written_payload, written_list}
 use Rattle.link_base.specs.Lawful.{IsLawful}
-use Rattle.link_base.specs.Rewritten.{RewrittenInto, IsUnfit}
-use Rattle.link_base.specs.Answers.{IsFirstUnfit}
-use Rattle.netlink_packet_route.specs.declared.rewriting.RewriteError.{RewriteError}
-use Rattle.netlink_packet_route.specs.declared.rewriting.RewriteError.TheVariants as errors
+use Rattle.link_base.specs.Rewritten.{AnswersBy, RewrittenInto, IsUnfit}
+use Rattle.link_base.specs.Answers.{IsFirstUnfit, WriteAnswers, OnRewriteMemory, of_writing}
+use Rattle.link_base.specs.declared.fault.WriteError.{WriteError}
+use Rattle.link_base.specs.declared.fault.WriteError.TheVariants as write_errors
+use Rattle.link_base.specs.declared.fault.RewriteError.{RewriteError}
+use Rattle.link_base.specs.declared.fault.RewriteError.TheVariants as errors
 use Rattle.link_base.proofs.Cuts.{AreFrames-head}
 use Rattle.link_base.proofs.FrameBytes.{frame_fault-frame, length-frame_bytes}
 use Rattle.link_base.proofs.Readings.{one_values, not_both}
 use Rattle.link_base.proofs.Rewritings.{fixed_iff_canonical, never_longer, reads_back, second, second_canonical, third, one_rewriting, canonical_reads, canonical_stays}
-use Rattle.netlink_packet_route.specs.Rewrite.{AnswersBy, RewriteFaultUnless, TooLongIff, SucceedsIf, WritesValues, ReadsBack, Settles, IsRewritten}
+use Rattle.netlink_packet_route.specs.Rewrite.{RewriteFaultUnless, TooLongIff, SucceedsIf, WritesValues, ReadsBack, Settles, IsRewritten, Rewrites, WritesOrLacksRoom, KeepsOrLacksRoom}
 
 -- a string that reads as some value begins with a frame
 begins_by : {V : Type 0} (gives : Reading V) (xs : List Frame) (vs : List V) → AreFrames xs → AllZip (λ x v. FrameGives gives x (Ok v)) xs vs → 0 < length vs → frame_fault (spelled xs) ≡ None
@@ -70,7 +72,7 @@ middle P (y ∷ before) x after h = middle P before x after h.1
 -- where all values fit, none is the first that does not
 pub none_unfit : (vs : List AttrValue) (i : ℕ) → AllByRecursion Fits vs → IsFirstUnfit vs i → ⊥
 none_unfit vs i fit u =
-    let fits : length (written_payload u.value) ≤ 65531 = middle Fits u.before u.value u.after (subst (AllByRecursion Fits) u.values fit) in
+    let fits : length (written_payload u.value) ≤ max_payload = middle Fits u.before u.value u.after (subst (AllByRecursion Fits) u.values fit) in
     omega (arith, u.unfit)
 
 -- the values of a string, which all fit
@@ -82,42 +84,73 @@ pub record HasFitting (table : Table) (s : List ℕ) : Type 0 where
 pub fitting : {table : Table} {s t : List ℕ} → Rewriting table s t → HasFitting table s
 fitting r = record { values = r.values; wire = r.wire; fit = r.fit }
 
--- Which error there is does not depend on what a call returns if it succeeds, so these lemmas return the values.
-module _ {table : Table} (law : IsLawful table) (s : List ℕ) where
-  pub fault_unless : (r : Result (HasFitting table s) RewriteError) → AnswersBy table s (λ f. Unit {0}) r → RewriteFaultUnless r (Decodes table s)
-  fault_unless (Ok f) any = record { values = f.values; wire = f.wire }
+-- Which error there is does not depend on what a call returns if it succeeds, if that implies that the values all fit.
+module _ {X : Type 0} {table : Table} (law : IsLawful table) (s : List ℕ) (P : X → Type 0) (has : (x : X) → P x → HasFitting table s) where
+  pub fault_unless : (r : Result X RewriteError) → AnswersBy table s P r → RewriteFaultUnless r (Decodes table s)
+  fault_unless (Ok x) h = let f = has x h in record { values = f.values; wire = f.wire }
   fault_unless (Err (errors.Fault at fault)) first = λ d. not_both law.reading s d.values at fault d.wire first
   fault_unless (Err (errors.TooLong i)) u = record { values = u.0; wire = u.1 }
   fault_unless (Err (errors.Memory e)) any = tt
 
-  pub too_long_iff : (r : Result (HasFitting table s) RewriteError) → AnswersBy table s (λ f. Unit {0}) r → TooLongIff r (IsUnfit table s)
-  too_long_iff (Ok f) any = λ u. none_unfit u.is.0 u.first (subst (AllByRecursion Fits) (one_values law.reading s f.values u.is.0 f.wire u.is.1) f.fit) u.is.2
+  pub too_long_iff : (r : Result X RewriteError) → AnswersBy table s P r → TooLongIff r (IsUnfit table s)
+  too_long_iff (Ok x) h = let f = has x h in λ u. none_unfit u.is.0 u.first (subst (AllByRecursion Fits) (one_values law.reading s f.values u.is.0 f.wire u.is.1) f.fit) u.is.2
   too_long_iff (Err (errors.Fault at fault)) first = λ u. not_both law.reading s u.is.0 at fault u.is.1 first
   too_long_iff (Err (errors.TooLong i)) u = record { first = i; is = u }
   too_long_iff (Err (errors.Memory e)) any = tt
 
   -- a canonical string is not rejected
-  pub none_rejected : IsBytes s → (e : RewriteError) → AnswersBy {X = HasFitting table s} table s (λ f. Unit {0}) (Err e) → SucceedsIf {X = HasFitting table s} (Canonical table s) (λ f. Unit {0}) (Err e)
-  none_rejected hs (errors.Fault at fault) first = λ c.
+  pub succeeds_if : IsBytes s → (Q : X → Type 0) → ((x : X) → P x → Canonical table s → Q x) → (r : Result X RewriteError) → AnswersBy table s P r → SucceedsIf (Canonical table s) Q r
+  succeeds_if hs Q stays (Ok x) h = stays x h
+  succeeds_if hs Q stays (Err (errors.Fault at fault)) first = λ c.
       let read = canonical_reads law.reading law.holding law.writing s hs c in
       not_both law.reading s read.0 at fault read.1 first
-  none_rejected hs (errors.TooLong i) u = λ c. none_unfit u.0 i (canonical_stays law.reading law.holding law.writing s u.0 hs c u.1).1 u.2
-  none_rejected hs (errors.Memory e) any = tt
+  succeeds_if hs Q stays (Err (errors.TooLong i)) u = λ c. none_unfit u.0 i (canonical_stays law.reading law.holding law.writing s u.0 hs c u.1).1 u.2
+  succeeds_if hs Q stays (Err (errors.Memory e)) any = tt
 
 -- ---- what was rewritten
 
+-- a rewriting has the properties that every rewriting has
+pub is_rewritten : {table : Table} (law : IsLawful table) (s : List ℕ) (hs : IsBytes s) (t : List ℕ) → Rewriting table s t → IsRewritten table s t
+is_rewritten law s hs t r = record {
+  rewriting = r;
+  same = same_iff law s hs t r;
+  no_longer = no_longer law s hs t r;
+  back = back law s hs t r;
+  settles = settles law s hs t r;
+}
+
 -- what is written for values that were read and all fit
 pub rewritten : {table : Table} (law : IsLawful table) (s : List ℕ) (hs : IsBytes s) (vs : List AttrValue) → Wire (Gives table) s vs → AllByRecursion Fits vs → IsRewritten table s (written_list vs)
-rewritten law s hs vs w fit =
-    let t = written_list vs in
-    let r = rewriting (record { wire = w; fit = fit; written = refl }) in
+rewritten law s hs vs w fit = is_rewritten law s hs (written_list vs) (rewriting (record { wire = w; fit = fit; written = refl }))
+
+-- what was written one attribute at a time, into a buffer that is long enough
+pub streamed : {table : Table} (law : IsLawful table) (s : List ℕ) (hs : IsBytes s) (old new : List ℕ) → pad (length s) ≤ length old → (r : Result ℕ RewriteError) → AnswersBy table s (RewrittenInto table s old new) r
+    → AnswersBy table s (Rewrites table s old new) r
+streamed law s hs old new long (Ok n) w =
+    let is = is_rewritten law s hs w.out w.is in
     record {
-      rewriting = r;
-      same = same_iff law s hs t r;
-      no_longer = no_longer law s hs t r;
-      back = back law s hs t r;
-      settles = settles law s hs t r;
+      text = w.out;
+      is = is;
+      put = record { count = w.len; room = omega (arith, is.no_longer, long); written = w.written };
     }
+streamed law s hs old new long (Err (errors.Fault at fault)) first = first
+streamed law s hs old new long (Err (errors.TooLong i)) u = u
+streamed law s hs old new long (Err (errors.Memory e)) any = any
+
+-- what was written into a buffer that may be too short
+module _ (table : Table) (s old new : List ℕ) where
+  pub fitting_in : (m : Option ℕ) → WritesOrLacksRoom table s old new m → HasFitting table s
+  fitting_in (Some n) w = fitting w.is.rewriting
+  fitting_in None w = fitting w.is.rewriting
+
+  pub kept_in : (m : Option ℕ) → WritesOrLacksRoom table s old new m → Canonical table s → KeepsOrLacksRoom s old new m
+  kept_in (Some n) w canonical = ap (take n) w.put.written ∙ take_at w.text (drop (length w.text) old) n (sym w.put.count) ∙ w.is.same.1 canonical
+  kept_in None w canonical = omega (arith, w.more, ap length (w.is.same.1 canonical))
+
+-- an allocation failed while values were written, of which there is at least one
+pub memory_of_writing : {X : Type 0} (vs : List AttrValue) (r : Result X RewriteError) (e : WriteError) (P : Type 0) → r ≡ Err (of_writing e) → WriteAnswers vs (Err e) → (0 < length vs → P) → OnRewriteMemory r P
+memory_of_writing vs r (write_errors.TooLong i) P is h some = rw is tt
+memory_of_writing vs r (write_errors.Memory e) P is h some = rw is (some h.1)
 
 -- a string has no more values than bytes
 no_more : {V : Type 0} (gives : Reading V) (xs : List Frame) (vs : List V) → AllZip (λ x v. FrameGives gives x (Ok v)) xs vs → length vs ≤ length (spelled xs)

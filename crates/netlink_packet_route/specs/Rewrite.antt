@@ -2,20 +2,13 @@
 use Rattle.std.specs.Prelude.{◌≡◌, ◌↔◌, ℕ, ◌<◌, ◌≤◌, List, map, length, take, Option, Some, None, Result, Ok, Err}
 use Rattle.std.specs.Global.{Vec}
 use Rattle.std.specs.List.{AllByRecursion}
-use Rattle.link_base.specs.Wire.{Wire, FirstFault}
+use Rattle.link_base.specs.declared.fault.RewriteError.{RewriteError}
+use Rattle.link_base.specs.declared.fault.RewriteError.TheVariants as errors
+use Rattle.link_base.specs.Wire.{Wire}
 use Rattle.link_base.specs.Table.{Table, AttrValue, Gives, Canonical, Rewriting, Fits, written_list, cut}
 use Rattle.link_base.specs.Answers.{OverwritesFront}
 use Rattle.link_base.specs.Frame.{pad}
-use Rattle.link_base.specs.Rewritten.{IsUnfitAt, RewrittenInto}
-use Rattle.netlink_packet_route.specs.declared.rewriting.RewriteError.{RewriteError}
-use Rattle.netlink_packet_route.specs.declared.rewriting.RewriteError.TheVariants as errors
-
--- if the call failed with `Memory`, then P holds
-abbrev pub OnRewriteMemory : {X : Type 0} → Result X RewriteError → Type 0 → Type 0
-OnRewriteMemory (Ok x) P = Unit {0}
-OnRewriteMemory (Err (errors.Fault at fault)) P = Unit {0}
-OnRewriteMemory (Err (errors.TooLong i)) P = Unit {0}
-OnRewriteMemory (Err (errors.Memory e)) P = P
+use Rattle.link_base.specs.Rewritten.{AnswersBy}
 
 -- unless an allocation failed, the call fails with `Fault` if and only if P does not hold
 abbrev pub RewriteFaultUnless : {X : Type 0} → Result X RewriteError → Type 0 → Type 0
@@ -38,20 +31,9 @@ SucceedsIf P Q (Err (errors.Fault at fault)) = ¬ P
 SucceedsIf P Q (Err (errors.TooLong i)) = ¬ P
 SucceedsIf P Q (Err (errors.Memory e)) = Unit {0}
 
--- P holds of what the call returned; or the first decode error; or the first value that does not fit
-abbrev pub AnswersBy : {X : Type 0} → Table → List ℕ → (X → Type 0) → Result X RewriteError → Type 0
-AnswersBy table s P (Ok x) = P x
-AnswersBy table s P (Err (errors.Fault at fault)) = FirstFault (Gives table) s at fault
-AnswersBy table s P (Err (errors.TooLong i)) = IsUnfitAt table s i
-AnswersBy table s P (Err (errors.Memory e)) = Unit {0}
-
 -- the re-encoded list; or why there is none
 abbrev pub RewriteAnswers : Table → List ℕ → Result (Vec ℕ) RewriteError → Type 0
 RewriteAnswers table s result = AnswersBy table s (λ out. Rewriting table s out.items) result
-
--- the re-encoded list, in the caller's buffer; or why there is none
-abbrev pub RewriteStreamingAnswers : Table → List ℕ → List ℕ → List ℕ → Result ℕ RewriteError → Type 0
-RewriteStreamingAnswers table s old new result = AnswersBy table s (RewrittenInto table s old new) result
 
 -- s decodes to vs, all of them fit, and out is their encoding
 pub record WritesValues (table : Table) (s : List ℕ) (vs : List AttrValue) (out : List ℕ) : Type 0 where
@@ -100,6 +82,10 @@ pub record HasNoRoom (table : Table) (s : List ℕ) (room : ℕ) : Type 0 where
   pub text : List ℕ
   pub is : IsRewritten table s text
   pub more : room < length text
+
+-- the re-encoded list, at the start of the caller's buffer; or why there is none
+abbrev pub RewriteStreamingAnswers : Table → List ℕ → List ℕ → List ℕ → Result ℕ RewriteError → Type 0
+RewriteStreamingAnswers table s old new result = AnswersBy table s (Rewrites table s old new) result
 
 -- the re-encoded list, at the start of the caller's buffer, or that the buffer is too small for it
 abbrev pub WritesOrLacksRoom : Table → List ℕ → List ℕ → List ℕ → Option ℕ → Type 0

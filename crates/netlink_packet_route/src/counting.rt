@@ -35,8 +35,6 @@ fn count_values_as<F: Attribute>(alloc: Global, bytes: &[u8]) -> Result<usize, L
     ensures memory { OnListMemory result (frame_fault bytes.now ≡ None) }
     ensures bounded { IfOk result (λ n. n ≤ length bytes.now) }
 {
-    match read_list::<F>(alloc, bytes) {
-        Ok(values) => Ok(values.len()),
-        Err(error) => Err(error),
-    }
+    let values = read_list::<F>(alloc, bytes)?;
+    Ok(values.len())
 }

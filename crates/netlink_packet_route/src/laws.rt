@@ -2,18 +2,22 @@
 
 ghost use Rattle.std.specs.Prelude.{◌≡◌, ◌↔◌, ℕ, List, IsTrue};
 ghost use Rattle.link_base.specs.Table.{Canonical, Rewriting};
-ghost use Rattle.netlink_packet_route.specs.Family.{table_of};
+ghost use Rattle.netlink_packet_route.specs.Family.{table_of, holding_of};
 ghost use Rattle.netlink_packet_route.specs.Rewrite.{Settles};
 ghost use Rattle.netlink_packet_route.specs.declared.family.Family.{Family};
-ghost use Rattle.netlink_packet_route.specs.declared.rewriting.RewriteError.{RewriteError};
+ghost use Rattle.netlink_packet_route.specs.declared.family.Holder.{Holder};
+ghost use Rattle.netlink_packet_route.specs.declared.hex_text.HexError.{HexError};
 
-use crate::family::Family;
-use crate::rewriting::RewriteError;
+use crate::family::{Family, Holder};
+use crate::hex_text::HexError;
 
-/// States that `==` on `Family` and on `RewriteError` returns true if and only if its arguments are the same value.
+/// States that `==` on `Family` and on `HexError` returns true if and only if its arguments are the same value, and `==`
+/// on `Holder` if and only if its arguments are the same variant with the same text or attribute type.
 pub fn equality()
     ensures family { (a b : Family) → IsTrue (⟦<Family as PartialEq>⟧.eq a b) ↔ (a ≡ b) }
-    ensures error { (a b : RewriteError) → IsTrue (⟦<RewriteError as PartialEq>⟧.eq a b) ↔ (a ≡ b) }
+    ensures holder { (a b : Holder) → IsTrue (⟦<Holder<'static> as PartialEq>⟧.eq a b)
+        ↔ (holding_of a ≡ holding_of b) }
+    ensures hex { (a b : HexError) → IsTrue (⟦<HexError as PartialEq>⟧.eq a b) ↔ (a ≡ b) }
 {}
 
 /// States that re-encoding `t` gives a canonical list if `t` is the output of [`rewrite`](crate::rewrite) (or satisfies

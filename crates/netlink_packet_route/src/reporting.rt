@@ -9,9 +9,9 @@ ghost use Rattle.netlink_packet_route.specs.Report.{attr_line, attr_line_of, out
 
 use crate::family::Family;
 use crate::hex_text::HexError;
-use crate::rewriting::{RewriteError, read_and_write};
+use crate::rewriting::read_and_write;
 use crate::{by_family, hex_text};
-use link_base::{Attribute, DecodeFault};
+use link_base::{Attribute, DecodeFault, RewriteError};
 use std::alloc::{AllocError, Global};
 
 /// The maximum input length of `report`, in bytes.

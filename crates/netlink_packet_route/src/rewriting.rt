@@ -3,30 +3,16 @@
 ghost use Rattle.std.specs.Prelude.{◌≡◌, ◌≤◌, ◌↔◌, None, length, map, IfOk};
 ghost use Rattle.link_base.specs.Frame.{pad, frame_fault};
 ghost use Rattle.link_base.specs.Table.{Canonical, Decodes};
+ghost use Rattle.link_base.specs.Answers.{OnRewriteMemory};
 ghost use Rattle.link_base.specs.Rewritten.{IsUnfit};
 ghost use Rattle.netlink_packet_route.specs.Family.{table_of};
-ghost use Rattle.netlink_packet_route.specs.Rewrite.{ReadAndWritten, RewriteAnswers, OnRewriteMemory};
+ghost use Rattle.netlink_packet_route.specs.Rewrite.{ReadAndWritten, RewriteAnswers};
 ghost use Rattle.netlink_packet_route.specs.Rewrite.{RewriteFaultUnless, TooLongIff, SucceedsIf, ReadsBack, Settles};
 
 use crate::by_family;
 use crate::family::Family;
-use link_base::{Attribute, DecodeFault, ListError, WriteError, read_list, write_list};
-use std::alloc::{AllocError, Global};
-use thiserror::Error;
-
-/// Why a list could not be re-encoded.
-#[derive(Debug, Drop, PartialEq, Eq, Error)]
-pub enum RewriteError {
-    /// An allocation failed.
-    #[error("no memory")]
-    Memory(#[from(alloc)] AllocError),
-    /// The first decode error, and the byte offset of the attribute that has it.
-    #[error("fault at {at}: {fault}")]
-    Fault { at: usize, fault: DecodeFault },
-    /// The zero-based index of the first value whose encoded payload has more than 65531 bytes.
-    #[error("too long at {index}")]
-    TooLong { index: usize },
-}
+use link_base::{Attribute, RewriteError, read_list, write_list};
+use std::alloc::Global;
 
 /// Re-encodes an attribute list: parses it and serializes its values. A canonical list is returned unchanged and never
 /// rejected.
@@ -66,10 +52,8 @@ fn rewrite_as<F: Attribute>(alloc: Global, bytes: &[u8]) -> Result<Vec<u8>, Rewr
     ensures back { IfOk result (λ out. ReadsBack F.table bytes.now out.items) }
     ensures settles { IfOk result (λ out. Settles F.table out.items) }
 {
-    match read_and_write::<F>(alloc, bytes) {
-        Ok((_values, out)) => Ok(out),
-        Err(error) => Err(error),
-    }
+    let (_values, out) = read_and_write::<F>(alloc, bytes)?;
+    Ok(out)
 }
 
 /// Parses a list and serializes its values. Returns the values and the serialized bytes.
@@ -80,14 +64,7 @@ pub(crate) fn read_and_write<F: Attribute>(
     ensures answer { ReadAndWritten (λ vs. map F.means vs.items) F.table bytes.now result }
     ensures memory { OnRewriteMemory result (frame_fault bytes.now ≡ None) }
 {
-    let values: Vec<F> = match read_list(alloc, bytes) {
-        Ok(values) => values,
-        Err(ListError::Memory(error)) => return Err(RewriteError::Memory(error)),
-        Err(ListError::Fault { at, fault }) => return Err(RewriteError::Fault { at, fault }),
-    };
-    match write_list(alloc, &values) {
-        Ok(out) => Ok((values, out)),
-        Err(WriteError::Memory(error)) => Err(RewriteError::Memory(error)),
-        Err(WriteError::TooLong { index }) => Err(RewriteError::TooLong { index }),
-    }
+    let values: Vec<F> = read_list(alloc, bytes)?;
+    let out = write_list(alloc, &values)?;
+    Ok((values, out))
 }

@@ -1,17 +1,17 @@
 //! Re-encodes a list into the caller's buffer, one attribute at a time.
 
-ghost use Rattle.std.specs.Prelude.{◌≡◌, ◌≤◌, ◌↔◌, length, take, drop, IfOk};
+ghost use Rattle.std.specs.Prelude.{◌≡◌, ◌≤◌, length, take, drop};
 ghost use Rattle.link_base.specs.Frame.{pad};
 ghost use Rattle.link_base.specs.Table.{Canonical, Decodes};
+ghost use Rattle.link_base.specs.Answers.{OnRewriteMemory};
 ghost use Rattle.link_base.specs.Rewritten.{IsUnfit, NeedsMemory};
 ghost use Rattle.netlink_packet_route.specs.Family.{table_of};
-ghost use Rattle.netlink_packet_route.specs.Rewrite.{RewriteStreamingAnswers, OnRewriteMemory, ReadsBack, Settles};
-ghost use Rattle.netlink_packet_route.specs.Rewrite.{RewriteFaultUnless, TooLongIff, SucceedsIf};
+ghost use Rattle.netlink_packet_route.specs.Rewrite.{RewriteStreamingAnswers, RewriteFaultUnless, TooLongIff};
+ghost use Rattle.netlink_packet_route.specs.Rewrite.{SucceedsIf};
 
 use crate::by_family;
 use crate::family::Family;
-use crate::rewriting::RewriteError;
-use link_base::{Attribute, ListError, rewrite_list};
+use link_base::{Attribute, RewriteError, rewrite_list};
 use std::alloc::Global;
 
 /// Re-encodes an attribute list into `buffer`, as [`rewrite`](crate::rewrite) does, but one attribute at a time. No
@@ -32,6 +32,7 @@ pub fn rewrite_streaming(
     buffer: &mut [u8],
 ) -> Result<usize, RewriteError>
     requires { pad (length bytes.now) ≤ length buffer.old }
+    // The guarantees of `rewrite` for its output hold for the `n` bytes that are written.
     ensures answer { RewriteStreamingAnswers (table_of family) bytes.now buffer.old buffer.new result }
     ensures fault { RewriteFaultUnless result (Decodes (table_of family) bytes.now) }
     ensures too_long { TooLongIff result (IsUnfit (table_of family) bytes.now) }
@@ -39,11 +40,6 @@ pub fn rewrite_streaming(
     ensures memory { OnRewriteMemory result (NeedsMemory (table_of family) bytes.now) }
     // A canonical input is never rejected.
     ensures canonical { SucceedsIf (Canonical (table_of family) bytes.now) (λ n. take n buffer.new ≡ bytes.now) result }
-    // The guarantees of `rewrite` for its output hold for the `n` bytes that are written.
-    ensures same { IfOk result (λ n. (take n buffer.new ≡ bytes.now) ↔ Canonical (table_of family) bytes.now) }
-    ensures no_longer { IfOk result (λ n. n ≤ pad (length bytes.now)) }
-    ensures back { IfOk result (λ n. ReadsBack (table_of family) bytes.now (take n buffer.new)) }
-    ensures settles { IfOk result (λ n. Settles (table_of family) (take n buffer.new)) }
 {
     by_family!(family, rewrite_streaming_as(alloc, bytes, buffer))
 }
@@ -61,15 +57,6 @@ fn rewrite_streaming_as<F: Attribute>(
     ensures behind { drop (pad (length bytes.now)) buffer.new ≡ drop (pad (length bytes.now)) buffer.old }
     ensures memory { OnRewriteMemory result (NeedsMemory F.table bytes.now) }
     ensures canonical { SucceedsIf (Canonical F.table bytes.now) (λ n. take n buffer.new ≡ bytes.now) result }
-    ensures same { IfOk result (λ n. (take n buffer.new ≡ bytes.now) ↔ Canonical F.table bytes.now) }
-    ensures no_longer { IfOk result (λ n. n ≤ pad (length bytes.now)) }
-    ensures back { IfOk result (λ n. ReadsBack F.table bytes.now (take n buffer.new)) }
-    ensures settles { IfOk result (λ n. Settles F.table (take n buffer.new)) }
 {
-    match rewrite_list::<F>(alloc, bytes, buffer) {
-        Ok(Ok(len)) => Ok(len),
-        Ok(Err(index)) => Err(RewriteError::TooLong { index }),
-        Err(ListError::Memory(error)) => Err(RewriteError::Memory(error)),
-        Err(ListError::Fault { at, fault }) => Err(RewriteError::Fault { at, fault }),
-    }
+    rewrite_list::<F>(alloc, bytes, buffer)
 }

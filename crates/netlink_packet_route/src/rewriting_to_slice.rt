@@ -3,15 +3,15 @@
 ghost use Rattle.std.specs.Prelude.{◌≡◌, None};
 ghost use Rattle.link_base.specs.Frame.{frame_fault};
 ghost use Rattle.link_base.specs.Table.{Canonical, Decodes};
+ghost use Rattle.link_base.specs.Answers.{OnRewriteMemory};
 ghost use Rattle.link_base.specs.Rewritten.{IsUnfit};
 ghost use Rattle.netlink_packet_route.specs.Family.{table_of};
-ghost use Rattle.netlink_packet_route.specs.Rewrite.{RewriteToSliceAnswers, OnRewriteMemory, UnlessWritten};
+ghost use Rattle.netlink_packet_route.specs.Rewrite.{RewriteToSliceAnswers, UnlessWritten};
 ghost use Rattle.netlink_packet_route.specs.Rewrite.{RewriteFaultUnless, TooLongIff, SucceedsIf, KeepsOrLacksRoom};
 
 use crate::by_family;
 use crate::family::Family;
-use crate::rewriting::RewriteError;
-use link_base::{Attribute, ListError, emit_list, measure_list, read_list};
+use link_base::{Attribute, RewriteError, emit_list, measure_list, read_list};
 use std::alloc::Global;
 
 /// Re-encodes an attribute list into `buffer`, as [`rewrite`](crate::rewrite) does. Returns `Some(n)`, where `n` is the
@@ -53,15 +53,8 @@ fn rewrite_to_slice_as<F: Attribute>(
         (KeepsOrLacksRoom bytes.now buffer.old buffer.new) result }
     ensures unchanged { UnlessWritten result (buffer.new ≡ buffer.old) }
 {
-    let values: Vec<F> = match read_list(alloc, bytes) {
-        Ok(values) => values,
-        Err(ListError::Memory(error)) => return Err(RewriteError::Memory(error)),
-        Err(ListError::Fault { at, fault }) => return Err(RewriteError::Fault { at, fault }),
-    };
-    let len = match measure_list(&values) {
-        Ok(len) => len,
-        Err(index) => return Err(RewriteError::TooLong { index }),
-    };
+    let values: Vec<F> = read_list(alloc, bytes)?;
+    let len = measure_list(&values)?;
     if len > buffer.len() {
         return Ok(None);
     }

@@ -1,36 +1,22 @@
 -- What the answers of the calls rest on.
 use Rattle.std.proofs.Common.{◌≡◌, ◌↔◌, ℕ, ℤ, ◌<◌, ◌≤◌, List, length, take, drop, Option, None, Result, Ok, Err, refl, sym, ap, subst, ◌∙◌, arith, to_z, of_z, w64, SFits}
 use Rattle.std.specs.Prelude.{IfOk, IfErr}
-use Rattle.std.proofs.lemmas.List.{take_at}
 use Rattle.std.proofs.lemmas.Int.{to_z-of_z}
-use Rattle.netlink_packet_route.specs.Frame.{pad, frame_fault}
+use Rattle.netlink_packet_route.specs.Frame.{frame_fault}
 use Rattle.netlink_packet_route.specs.declared.link.DecodeFault.{DecodeFault}
 use Rattle.netlink_packet_route.specs.Wire.{FirstFault}
-use Rattle.netlink_packet_route.specs.Table.{Table, Gives, Canonical}
-use Rattle.netlink_packet_route.specs.Answers.{OverwritesFront}
-use Rattle.netlink_packet_route.specs.Rewritten.{RewrittenInto, NeedsMemory}
+use Rattle.netlink_packet_route.specs.Table.{Table, Gives}
+use Rattle.netlink_packet_route.specs.Answers.{OnRewriteMemory}
+use Rattle.netlink_packet_route.specs.Rewritten.{NeedsMemory}
 use Rattle.netlink_packet_route.specs.declared.family.Family.{Family}
 use Rattle.netlink_packet_route.specs.Family.{family_number, table_of}
-use Rattle.netlink_packet_route.specs.Rewrite.{ReadsBack, Settles, Rewrites, StandsInFront, OnRewriteMemory, RewriteToSliceAnswers, RewriteStreamingAnswers}
-use Rattle.netlink_packet_route.specs.declared.rewriting.RewriteError.{RewriteError}
-use Rattle.netlink_packet_route.specs.declared.rewriting.RewriteError.TheVariants as errors
-use Rattle.netlink_packet_route.proofs.Rewritten as facade
+use Rattle.netlink_packet_route.specs.Rewrite.{StandsInFront, RewriteToSliceAnswers, RewriteStreamingAnswers}
+use Rattle.netlink_packet_route.specs.declared.link.RewriteError.{RewriteError}
+use Rattle.netlink_packet_route.specs.declared.link.RewriteError.TheVariants as errors
 use Rattle.nlroute_ffi.specs.declared.refusal.Refusal.{Refusal}
 use Rattle.nlroute_ffi.specs.declared.refusal.Refusal.TheVariants.{Fault, TooLong, Memory, NoRoom, NoFamily}
 use Rattle.nlroute_ffi.specs.Numbers.{code_of, fault_length, fault_numbers}
 use Rattle.nlroute_ffi.specs.Calls.{AnswersFor, Known, First, FaultAnswers, RewriteAnswers, StreamingAnswers, refusal_of}
-
--- what `rewrite_streaming` says of what it wrote
-pub in_front : {table : Table} (s old new : List ℕ) (n : ℕ) → RewrittenInto table s old new n → ((take n new ≡ s) ↔ Canonical table s) → n ≤ pad (length s) → ReadsBack table s (take n new) → Settles table (take n new)
-    → pad (length s) ≤ length old → Rewrites table s old new n
-in_front s old new n r same few back settles room =
-    let front : take n new ≡ r.out = ap (take n) r.written ∙ take_at r.out (drop (length r.out) old) n (sym r.len) in
-    let len : n ≡ length (take n new) = r.len ∙ ap length (sym front) in
-    record {
-      text = take n new;
-      is = record { rewriting = facade.front_rewriting r; same = same; no_longer = omega (arith, few, len); back = back; settles = settles };
-      put = record { count = len; room = omega (arith, few, len, room); written = subst (OverwritesFront old new) (sym front) r.written };
-    }
 
 -- why a list is not rewritten
 pub refused_to : (table : Table) (s old new : List ℕ) (e : RewriteError) → RewriteToSliceAnswers table s old new (Err e) → OnRewriteMemory {X = Option ℕ} (Err e) (frame_fault s ≡ None) → RewriteAnswers s old new table (Err (refusal_of e))

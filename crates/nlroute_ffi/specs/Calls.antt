@@ -6,8 +6,8 @@ use Rattle.netlink_packet_route.specs.Wire.{Wire, FirstFault}
 use Rattle.netlink_packet_route.specs.Table.{Table, AttrValue, Gives, Canonical}
 use Rattle.netlink_packet_route.specs.Rewritten.{IsUnfit, NeedsMemory}
 use Rattle.netlink_packet_route.specs.declared.family.Family.{Family}
-use Rattle.netlink_packet_route.specs.declared.rewriting.RewriteError.{RewriteError}
-use Rattle.netlink_packet_route.specs.declared.rewriting.RewriteError.TheVariants as errors
+use Rattle.netlink_packet_route.specs.declared.link.RewriteError.{RewriteError}
+use Rattle.netlink_packet_route.specs.declared.link.RewriteError.TheVariants as errors
 use Rattle.netlink_packet_route.specs.Family.{family_number, table_of}
 use Rattle.netlink_packet_route.specs.Rewrite.{StandsInFront, Rewrites, HasNoRoom}
 use Rattle.netlink_packet_route.specs.Report.{Reports}

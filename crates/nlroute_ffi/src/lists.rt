@@ -8,7 +8,7 @@ ghost use Rattle.nlroute_ffi.specs.Calls.{CountAnswers, RewriteAnswers, Streamin
 ghost use Rattle.nlroute_ffi.specs.declared.refusal.Refusal.TheVariants.{NoRoom};
 
 use crate::refusal::{Refusal, refused_by};
-use netlink_packet_route::link::ListError;
+use netlink_packet_route::link::{ListError, padded};
 use netlink_packet_route::{
     Family, count_values, is_canonical, rewrite_streaming, rewrite_to_slice,
 };
@@ -79,7 +79,7 @@ pub(crate) fn rewrite_each(
     ensures behind { drop (pad (length bytes.now)) out.new ≡ drop (pad (length bytes.now)) out.old }
     ensures room { length out.old < pad (length bytes.now) → (result ≡ Err NoRoom) × (out.new ≡ out.old) }
 {
-    if out.len() < (bytes.len() + 3) / 4 * 4 {
+    if out.len() < padded(bytes.len()) {
         return Err(Refusal::NoRoom);
     }
     match rewrite_streaming(alloc, family, bytes, out) {

@@ -4,7 +4,8 @@ ghost use Rattle.std.specs.Prelude.{◌≡◌, ◌≤◌, ◌++◌, ◌-◌, [],
 ghost use Rattle.std.specs.Prelude.{IfOk, OnErr, IsTrue};
 ghost use Rattle.link_vlan_can.specs.CanLimits.{limits_view, limits_with};
 ghost use Rattle.netlink_packet_route.specs.AfSpec.{af_spec_table, af_spec_means};
-ghost use Rattle.netlink_packet_route.specs.Answers.{Answers, ListAnswers, WriteAnswers, OnMemory, OnListMemory};
+ghost use Rattle.netlink_packet_route.specs.Answers.{Answers, ListAnswers, WriteAnswers};
+ghost use Rattle.netlink_packet_route.specs.Answers.{OnMemory, OnListMemory, OnRewriteMemory};
 ghost use Rattle.netlink_packet_route.specs.Buffer.{kind_field_of, payload_of};
 ghost use Rattle.netlink_packet_route.specs.Count.{CountAnswers};
 ghost use Rattle.netlink_packet_route.specs.Family.{table_of};
@@ -13,7 +14,7 @@ ghost use Rattle.netlink_packet_route.specs.Held.{HoldsMemory};
 ghost use Rattle.netlink_packet_route.specs.ProtoInfo.{proto_info_table, proto_info_means};
 ghost use Rattle.netlink_packet_route.specs.Report.{Reports};
 ghost use Rattle.netlink_packet_route.specs.Rewrite.{RewriteAnswers, RewriteStreamingAnswers, RewriteToSliceAnswers};
-ghost use Rattle.netlink_packet_route.specs.Rewrite.{OnRewriteMemory, UnlessWritten};
+ghost use Rattle.netlink_packet_route.specs.Rewrite.{UnlessWritten};
 ghost use Rattle.netlink_packet_route.specs.Rewritten.{NeedsMemory};
 ghost use Rattle.netlink_packet_route.specs.Table.{Gives, TakesMemory};
 ghost use Rattle.netlink_packet_route.specs.FrameOffsets.{Finds};

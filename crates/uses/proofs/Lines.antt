@@ -1,11 +1,16 @@
 -- Lines, printed one after another.
-use Rattle.std.proofs.Common.{◌≡◌, ℕ, ◌+◌, List, [], ◌∷◌, ◌++◌, length, map, Option, None, Some, refl, sym, ap, subst, ◌∙◌, arith, append_assoc, length-append}
+use Rattle.std.proofs.Common.{◌≡◌, ℕ, ◌+◌, ◌<◌, List, [], ◌∷◌, ◌++◌, length, map, Option, None, Some, refl, sym, ap, subst, ◌∙◌, arith, append_assoc, length-append}
+use Rattle.std.specs.Prelude.{Contains, IsSome}
 use Rattle.std.specs.List.{flat_map}
 use Rattle.std.specs.Io.KnownBytes.{Appends}
 use Rattle.std.proofs.lemmas.List.{append-nil, length-map}
+use Rattle.std.proofs.lemmas.List.Elements.{All-nil, All-push}
 use Rattle.std.proofs.lemmas.Grind.{flat_map-append}
 use Rattle.netlink_packet_route.specs.Report.{line}
-use Rattle.netlink_packet_route.specs.Table.{Table, AttrValue}
+use Rattle.netlink_packet_route.specs.Table.{Table, AttrValue, Gives}
+use Rattle.netlink_packet_route.specs.Frame.{spelled}
+use Rattle.netlink_packet_route.specs.Wire.{FirstFault}
+use Rattle.netlink_packet_route.proofs.Rewritten.{no_more_values}
 use Rattle.netlink_packet_route.specs.declared.link.DecodeFault.{DecodeFault}
 use Rattle.uses.specs.Printing.{IsFront, last_line, PrintsList, PrintsLines}
 
@@ -21,13 +26,17 @@ appends_both (Some s) (Some t) None x y h k = absurd k
 appends_both (Some s) (Some t) (Some u) x y h k = k ∙ ap (λ l. l ++ y) h ∙ append_assoc s x y
 
 pub no_line : (a : Option (List ℕ)) → PrintsLines 0 a a
-no_line a = ([], refl, none_written a)
+no_line a = ([], refl, All-nil (λ text. ¬ Contains text 10), none_written a)
 
-pub one_more : (n : ℕ) (a b c : Option (List ℕ)) (words : List ℕ) → PrintsLines n a b → Appends b c (line words) → PrintsLines (n + 1) a c
-one_more n a b c words h w =
+pub one_more : (n : ℕ) (a b c : Option (List ℕ)) (words : List ℕ) → PrintsLines n a b → ¬ Contains words 10 → Appends b c (line words) → PrintsLines (n + 1) a c
+one_more n a b c words h unbroken w =
     let text : flat_map line h.0 ++ line words ≡ flat_map line (h.0 ++ words ∷ []) =
-    sym (flat_map-append line h.0 (words ∷ []) ∙ ap (λ l. flat_map line h.0 ++ l) (append-nil (line words))) in
-    (h.0 ++ words ∷ [], omega (arith, length-append h.0 (words ∷ []), h.1), subst (Appends a c) text (appends_both a b c (flat_map line h.0) (line words) h.2 w))
+    sym (flat_map-append line h.0 (words ∷ []) ∙ ap (λ l. flat_map line h.0 ++ l) (append-nil (line words))) in (
+      h.0 ++ words ∷ [],
+      omega (arith, length-append h.0 (words ∷ []), h.1),
+      All-push (λ text. ¬ Contains text 10) h.0 words h.2 unbroken,
+      subst (Appends a c) text (appends_both a b c (flat_map line h.0) (line words) h.3 w),
+    )
 
 -- the values, and then the fault
 pub printed : {X : Type 0} (table : Table) (s : List ℕ) (means : X → AttrValue) (vs shown : List X) (fault : Option (ℕ × DecodeFault)) (a b c : Option (List ℕ)) → IsFront table s (map means vs) fault → shown ≡ vs
@@ -40,7 +49,21 @@ printed table s means vs shown fault a b c front same h w = (
     front = front;
     words = h.0;
     each = h.1 ∙ ap length same ∙ sym (length-map vs means);
+    unbroken = h.2;
     text = refl;
   },
-  appends_both a b c (flat_map line h.0) (last_line fault) h.2 w,
+  appends_both a b c (flat_map line h.0) (last_line fault) h.3 w,
 )
+
+-- ---- a list with an error or a value is not empty
+
+has_bytes : (table : Table) (s : List ℕ) (at : ℕ) (fault : DecodeFault) → FirstFault (Gives table) s at fault → 0 < length s
+has_bytes table s at fault f = omega (arith, f.some, ap length f.string, length-append (spelled f.front) f.rest)
+
+pub fault_has_bytes : (table : Table) (s : List ℕ) (vs : List AttrValue) (fault : Option (ℕ × DecodeFault)) → IsFront table s vs fault → IsSome fault → 0 < length s
+fault_has_bytes table s vs None front some = absurd cc
+fault_has_bytes table s vs (Some f) front some = has_bytes table s f.0 f.1 front.0
+
+pub value_has_bytes : {X : Type 0} (table : Table) (s : List ℕ) (means : X → AttrValue) (vs shown : List X) (fault : Option (ℕ × DecodeFault)) → IsFront table s (map means vs) fault → shown ≡ vs → 0 < length shown → 0 < length s
+value_has_bytes table s means vs shown None front same some = omega (arith, some, ap length same, length-map vs means, no_more_values (Gives table) s (map means vs) front)
+value_has_bytes table s means vs shown (Some f) front same some = has_bytes table s f.0 f.1 front.0

@@ -1,3 +1,2 @@
-pub mod Building
-pub mod Changing
 pub mod Printing
+pub mod Writing

@@ -1,5 +1,5 @@
 -- The printed form of a list.
-use Rattle.std.specs.Prelude.{◌≡◌, ℕ, List, [], ◌++◌, length, take, Option, None, Some, MatchOption}
+use Rattle.std.specs.Prelude.{◌≡◌, ℕ, List, [], ◌++◌, length, take, Option, None, Some, MatchOption, Contains, All}
 use Rattle.std.specs.List.{flat_map}
 use Rattle.std.specs.Io.KnownBytes.{Appends}
 use Rattle.netlink_packet_route.specs.Report.{line, fault_line}
@@ -17,19 +17,24 @@ abbrev pub last_line : Option (ℕ × DecodeFault) → List ℕ
 last_line None = []
 last_line (Some fault) = fault_line fault.0 fault.1
 
--- the output: a line for each value up to the first decode error, with any text, and a line for the error
+-- none of these texts contains LF
+abbrev pub AreUnbroken : List (List ℕ) → Type 0
+AreUnbroken words = All (λ text. ¬ Contains text 10) words
+
+-- the output: a line for each value up to the first decode error, with any text without LF, and a line for the error
 pub record IsPrinted (table : Table) (s out : List ℕ) : Type 0 where
   pub values : List AttrValue
   pub fault : Option (ℕ × DecodeFault)
   pub front : IsFront table s values fault
   pub words : List (List ℕ)
   pub each : length words ≡ length values
+  pub unbroken : AreUnbroken words
   pub text : out ≡ flat_map line words ++ last_line fault
 
 -- the output for a list was appended
 abbrev pub PrintsList : Table → List ℕ → Option (List ℕ) → Option (List ℕ) → Type 0
 PrintsList table s old new = (out : List ℕ) × IsPrinted table s out × Appends old new out
 
--- n lines were appended, with any text
+-- n lines were appended, with any text without LF
 abbrev pub PrintsLines : ℕ → Option (List ℕ) → Option (List ℕ) → Type 0
-PrintsLines n old new = (words : List (List ℕ)) × (length words ≡ n) × Appends old new (flat_map line words)
+PrintsLines n old new = (words : List (List ℕ)) × (length words ≡ n) × AreUnbroken words × Appends old new (flat_map line words)

@@ -1,12 +1,13 @@
 //! Builds requests, into a new vector or into the caller's buffer.
 
-ghost use Rattle.std.specs.Prelude.{◌≡◌, ◌↔◌, ◌<◌, [], ◌∷◌, true, false, length, map, IfOk, IfErr, OnErr, IsErr};
+ghost use Rattle.std.specs.Prelude.{◌≡◌, ◌↔◌, ◌<◌, [], ◌∷◌, true, false, length, map, Err, IfOk, IfErr, OnErr, IsErr, IsTrue};
 ghost use Rattle.std.specs.List.{AllByRecursion};
-ghost use Rattle.netlink_packet_route.specs.Answers.{OverwritesFront};
+ghost use Rattle.netlink_packet_route.specs.Answers.{OverwritesFront, capped};
 ghost use Rattle.netlink_packet_route.specs.Class.{Number, Name, Boolean, EtherType};
 ghost use Rattle.netlink_packet_route.specs.Table.{Case, Single, Inner, Fits, written_list};
 ghost use Rattle.netlink_packet_route.specs.Vlan.{mapping_leaf};
-ghost use Rattle.uses.specs.Building.{BufferFails, IsMemory};
+ghost use Rattle.uses.specs.Writing.{BufferFails, IsMemory};
+ghost use Rattle.uses.specs.declared.building.BufferError.{BufferError};
 
 use netlink_packet_route::link::{
     Attribute, BondLacpRate, BondMode, BridgeStpState, InfoBond, InfoBridge, InfoVlan,
@@ -26,17 +27,26 @@ pub enum BufferError {
     TooSmall { needed: usize },
 }
 
+/// States that `==` on `BufferError` returns true if and only if its arguments are the same value.
+pub fn error_equality()
+    ensures { (a b : BufferError) → IsTrue (⟦<BufferError as PartialEq>⟧.eq a b) ↔ (a ≡ b) }
+{}
+
 /// Serializes `values` into `buffer`. Returns `n`, the number of bytes written; `buffer[n..]` is unchanged.
 ///
 /// # Errors
 ///
-/// `TooLong` if a value does not fit in an attribute, otherwise `TooSmall` if the buffer is shorter than the encoded
-/// list. On error the buffer is unchanged.
+/// `TooLong` if and only if a value does not fit in an attribute. `TooSmall` if and only if all values fit and the buffer
+/// is shorter than the encoded list. On error the buffer is unchanged.
 pub fn write_into<F: Attribute>(values: &[F], buffer: &mut [u8]) -> Result<usize, BufferError>
     ensures written { IfOk result (λ count. let list = written_list (map F.means values.now) in
         AllByRecursion Fits (map F.means values.now) × (count ≡ length list)
         × OverwritesFront buffer.old buffer.new list) }
     ensures failed { IfErr result (λ error. BufferFails error (map F.means values.now) (length buffer.old)) }
+    ensures too_long { (result ≡ Err BufferError.TooLong) ↔ (¬ AllByRecursion Fits (map F.means values.now)) }
+    ensures too_small { let size = length (written_list (map F.means values.now)) in
+        (result ≡ Err (BufferError.TooSmall (capped size)))
+        ↔ (AllByRecursion Fits (map F.means values.now) × (length buffer.old < size)) }
     ensures unchanged { OnErr result (buffer.new ≡ buffer.old) }
 {
     if !list_fits(values) {

@@ -1,11 +1,12 @@
 //! Changes one attribute of a list and keeps all others, including those of unknown types.
 
-ghost use Rattle.std.specs.Prelude.{◌≡◌, ◌==◌, List, not, map, filter, IfOk, IfErr};
+ghost use Rattle.std.specs.Prelude.{◌≡◌, ◌==◌, None, List, not, map, filter, IfOk, IfErr};
 ghost use Rattle.std.specs.List.{list_any};
-ghost use Rattle.netlink_packet_route.specs.Table.{Gives, written_kind, written_list};
+ghost use Rattle.netlink_packet_route.specs.Frame.{frame_fault};
+ghost use Rattle.netlink_packet_route.specs.Table.{Decodes, Gives, written_kind, written_list};
 ghost use Rattle.netlink_packet_route.specs.Vlan.{vlan_table, vlan_means};
 ghost use Rattle.netlink_packet_route.specs.Wire.{Wire};
-ghost use Rattle.uses.specs.Changing.{is_id, with_id, in_place_of, ChangeFails};
+ghost use Rattle.uses.specs.Writing.{is_id, with_id, in_place_of, ChangeFails, OnChangeMemory};
 
 use netlink_packet_route::link::{
     Attribute, InfoVlan, ListError, WriteError, read_list, write_list,
@@ -33,11 +34,13 @@ pub enum ChangeError {
 /// # Errors
 ///
 /// `Read` if the list does not decode, `Write` if a value does not fit in an attribute. If an allocation fails, `Read`
-/// or `Write` with the `Memory` of that step, or `Memory`.
+/// with `Memory`, which is possible only if the list starts with a whole attribute; or `Memory`, or `Write` with
+/// `Memory`, each only if the list decodes.
 pub fn with_vlan_id(alloc: Global, bytes: &[u8], id: u16) -> Result<Vec<u8>, ChangeError>
     ensures changed { IfOk result (λ out. (vs : List InfoVlan) × Wire (Gives vlan_table) bytes.now (map vlan_means vs)
         × (out.items ≡ written_list (map vlan_means (with_id id vs)))) }
     ensures failed { IfErr result (ChangeFails vlan_table vlan_means (with_id id) bytes.now) }
+    ensures memory { OnChangeMemory result (frame_fault bytes.now ≡ None) (Decodes vlan_table bytes.now) }
 {
     let values: Vec<InfoVlan> = read_list(alloc, bytes).map_err(ChangeError::Read)?;
     let changed = with_id(alloc, values, id).map_err(ChangeError::Memory)?;
@@ -74,7 +77,8 @@ fn has_id(values: &[InfoVlan]) -> bool
 /// # Errors
 ///
 /// `Read` if the list does not decode, `Write` if a value does not fit in an attribute. If an allocation fails, `Read`
-/// or `Write` with the `Memory` of that step, or `Memory`.
+/// with `Memory`, which is possible only if the list starts with a whole attribute; or `Memory`, or `Write` with
+/// `Memory`, each only if the list decodes.
 pub fn with_attribute<F: Attribute>(
     alloc: Global,
     bytes: &[u8],
@@ -83,6 +87,7 @@ pub fn with_attribute<F: Attribute>(
     ensures changed { IfOk result (λ out. (vs : List F) × Wire (Gives F.table) bytes.now (map F.means vs)
         × (out.items ≡ written_list (map F.means (in_place_of F.means new vs)))) }
     ensures failed { IfErr result (ChangeFails F.table F.means (in_place_of F.means new) bytes.now) }
+    ensures memory { OnChangeMemory result (frame_fault bytes.now ≡ None) (Decodes F.table bytes.now) }
 {
     let mut values: Vec<F> = read_list(alloc, bytes).map_err(ChangeError::Read)?;
     remove(&mut values, new.kind());

@@ -1,6 +1,7 @@
 //! Finds the first error of a list and its offset.
 
-ghost use Rattle.std.specs.Prelude.{List, map, take, IfOk, MatchOption};
+ghost use Rattle.std.specs.Prelude.{◌≡◌, None, List, map, take, IfOk, OnErr, MatchOption};
+ghost use Rattle.netlink_packet_route.specs.Frame.{frame_fault};
 ghost use Rattle.netlink_packet_route.specs.Table.{AttrValue, Gives};
 ghost use Rattle.netlink_packet_route.specs.Wire.{Wire, FirstFault};
 
@@ -12,11 +13,12 @@ use std::alloc::{AllocError, Global};
 ///
 /// # Errors
 ///
-/// `AllocError` if an allocation fails.
+/// `AllocError` if an allocation fails, which is possible only if the list starts with a whole attribute.
 pub fn first_fault<F: Attribute>(alloc: Global, bytes: &[u8]) -> Result<Option<usize>, AllocError>
-    ensures { IfOk result (λ found. MatchOption found
+    ensures found { IfOk result (λ found. MatchOption found
         ((vs : List AttrValue) × Wire (Gives F.table) bytes.now vs)
         (λ at. (fault : DecodeFault) × FirstFault (Gives F.table) bytes.now at fault)) }
+    ensures memory { OnErr result (frame_fault bytes.now ≡ None) }
 {
     match read_list::<F>(alloc, bytes) {
         Ok(_) => Ok(None),
@@ -30,15 +32,16 @@ pub fn first_fault<F: Attribute>(alloc: Global, bytes: &[u8]) -> Result<Option<u
 ///
 /// # Errors
 ///
-/// `AllocError` if an allocation fails.
+/// `AllocError` if an allocation fails, which is possible only if the list starts with a whole attribute.
 pub fn read_front<F: Attribute>(
     alloc: Global,
     bytes: &[u8],
 ) -> Result<(Vec<F>, Option<(usize, DecodeFault)>), AllocError>
-    ensures { IfOk result (λ read. MatchOption read.1
+    ensures front { IfOk result (λ read. MatchOption read.1
         (Wire (Gives F.table) bytes.now (map F.means read.0.items))
         (λ fault. FirstFault (Gives F.table) bytes.now fault.0 fault.1
         × Wire (Gives F.table) (take fault.0 bytes.now) (map F.means read.0.items))) }
+    ensures memory { OnErr result (frame_fault bytes.now ≡ None) }
 {
     match read_list(alloc, bytes) {
         Ok(values) => Ok((values, None)),

@@ -19,7 +19,9 @@ pub use faults::{first_fault, read_front};
 pub use printing::print_list;
 
 // Build a list to send.
-pub use building::{BufferError, bond_request, bridge_request, vlan_request, write_into};
+pub use building::{
+    BufferError, bond_request, bridge_request, error_equality, vlan_request, write_into,
+};
 
 // Change one attribute of a list.
 pub use changing::{ChangeError, with_attribute, with_vlan_id};

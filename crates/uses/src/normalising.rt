@@ -1,7 +1,9 @@
 //! Makes a captured list canonical.
 
-ghost use Rattle.std.specs.Prelude.{◌↔◌, ℕ, List, IfOk, IfErr, IsTrue};
+ghost use Rattle.std.specs.Prelude.{◌≡◌, ◌↔◌, None, ℕ, List, IfOk, IfErr, IsTrue};
+ghost use Rattle.netlink_packet_route.specs.Frame.{frame_fault};
 ghost use Rattle.netlink_packet_route.specs.Family.{table_of};
+ghost use Rattle.netlink_packet_route.specs.Answers.{OnRewriteMemory};
 ghost use Rattle.netlink_packet_route.specs.Rewrite.{RewriteAnswers};
 ghost use Rattle.netlink_packet_route.specs.Table.{Canonical, Rewriting};
 
@@ -22,6 +24,7 @@ pub fn normalised(
     ensures normal { IfOk result (λ done. Rewriting (table_of family) bytes.now done.0.items
         × (IsTrue done.1 ↔ Canonical (table_of family) bytes.now)) }
     ensures refused { IfErr result (λ error. RewriteAnswers (table_of family) bytes.now (Err error)) }
+    ensures memory { OnRewriteMemory result (frame_fault bytes.now ≡ None) }
 {
     let out = rewrite(alloc, family, bytes)?;
     let was_canonical = out.as_slice() == bytes;
@@ -33,12 +36,13 @@ pub fn normalised(
 /// # Errors
 ///
 /// As for `rewrite`.
-#[tactic(auto, using(crate::proofs::Fitting::settled))]
+#[tactic(auto, using(crate::proofs::Fitting::settled, crate::proofs::Fitting::starts))]
 pub fn canonical(alloc: Global, family: Family, bytes: &[u8]) -> Result<Vec<u8>, RewriteError>
     ensures canonical { IfOk result (λ out. Canonical (table_of family) out.items) }
     ensures second { IfOk result (λ out. (once : List ℕ)
         × Rewriting (table_of family) bytes.now once × Rewriting (table_of family) once out.items) }
     ensures refused { IfErr result (λ error. RewriteAnswers (table_of family) bytes.now (Err error)) }
+    ensures memory { OnRewriteMemory result (frame_fault bytes.now ≡ None) }
 {
     laws::second_rewriting();
     link::laws::one_reading();

@@ -1,9 +1,10 @@
 //! Looks up attributes in a list.
 
-ghost use Rattle.std.specs.Prelude.{ℕ, List, map, Contains, IfOk, IfErr, MatchOption};
-ghost use Rattle.netlink_packet_route.specs.Answers.{ListFails};
+ghost use Rattle.std.specs.Prelude.{◌≡◌, None, ℕ, List, map, Contains, IfOk, IfErr, MatchOption};
+ghost use Rattle.netlink_packet_route.specs.Answers.{ListFails, OnListMemory};
 ghost use Rattle.netlink_packet_route.specs.Bond.{bond_table, bond_means};
 ghost use Rattle.netlink_packet_route.specs.Bridge.{bridge_table, bridge_means};
+ghost use Rattle.netlink_packet_route.specs.Frame.{frame_fault};
 ghost use Rattle.netlink_packet_route.specs.Table.{Gives};
 ghost use Rattle.netlink_packet_route.specs.Wire.{Wire};
 
@@ -21,6 +22,7 @@ pub fn forward_delay(alloc: Global, bytes: &[u8]) -> Result<Option<u32>, ListErr
         × MatchOption found ((d : ℕ) → ¬ Contains vs (InfoBridge.ForwardDelay d))
         (λ d. Contains vs (InfoBridge.ForwardDelay d))) }
     ensures fault { IfErr result (λ error. ListFails error (Gives bridge_table) bytes.now) }
+    ensures memory { OnListMemory result (frame_fault bytes.now ≡ None) }
 {
     let bridge: Vec<InfoBridge> = read_list(alloc, bytes)?;
     let delay = bridge.iter().find_map(|value| match value {
@@ -40,6 +42,7 @@ pub fn monitoring(alloc: Global, bytes: &[u8]) -> Result<(Option<BondMode>, Opti
         × MatchOption found.0 ((m : BondMode) → ¬ Contains vs (InfoBond.Mode m)) (λ m. Contains vs (InfoBond.Mode m))
         × MatchOption found.1 ((n : ℕ) → ¬ Contains vs (InfoBond.MiiMon n)) (λ n. Contains vs (InfoBond.MiiMon n))) }
     ensures fault { IfErr result (λ error. ListFails error (Gives bond_table) bytes.now) }
+    ensures memory { OnListMemory result (frame_fault bytes.now ≡ None) }
 {
     let bond: Vec<InfoBond> = read_list(alloc, bytes)?;
     let mode = bond.iter().find_map(|value| match value {

@@ -8,8 +8,7 @@ pub returns : goal.returns
 returns g c =
     let law = g.A.Address in
     let xs = c.args.addresses.now in
-    let size = c.SIZE.result in
-    let each : pad (4 + law.SIZE) ≡ (size + 7) / 4 * 4 = omega (arith, c.SIZE.ensures) in
-    let len : length (spelled (addresses_from 0 (map law.octets xs))) ≡ length xs * ((size + 7) / 4 * 4) =
+    let each : pad (4 + law.SIZE) ≡ c.total_size.result = omega (arith, c.SIZE.ensures, c.total_size.ensures) in
+    let len : length (spelled (addresses_from 0 (map law.octets xs))) ≡ length xs * c.total_size.result =
     length-addresses law.octets law.SIZE law.sized 0 xs ∙ ap (λ m. length xs * m) each in
     rw len (omega (arith, c.saturating_mul.ensures))

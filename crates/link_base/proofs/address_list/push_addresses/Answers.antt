@@ -17,12 +17,12 @@ loop-rest-init g c =
       room = c.requires.room;
     }
 
-pub returns-in-Some-clause-answer : goal.returns-in-Some-clause-answer
-returns-in-Some-clause-answer g c =
+pub returns-in-Err-clause-answer : goal.returns-in-Err-clause-answer
+returns-in-Err-clause-answer g c =
     let rest = c.loop-rest.rest.now in
     let some : rest ≢ [] = λ e. grind (arith, common_steps) in
-    kept_fault g.A.Address.SIZE c.args.kind c.args.payload.now rest _ c.in-Some.cause c.loop-rest.invariant.reads some
-    (sym c.cause_at_front.ensures ∙ c.in-Some.is)
+    kept_fault g.A.Address.SIZE c.args.kind c.args.payload.now rest _ c.in-Err.cause c.loop-rest.invariant.reads some
+    c.in-Err.ensures
 
 pub loop-rest-preserved : goal.loop-rest-preserved
 loop-rest-preserved g c =
@@ -30,16 +30,17 @@ loop-rest-preserved g c =
     let i = c.loop-rest.invariant in
     let s = c.args.payload.now in
     let rest = c.loop-rest.rest.now in
-    let b = c.at_front-frame in
-    let p = payload_of b.result in
-    let x = frame_of b.result in
+    let b = c.in-Ok.element in
+    let begins = c.in-Ok.ensures.0 in
+    let p = payload_of b in
+    let x = frame_of b in
     let some : rest ≢ [] = λ e. grind (arith, common_steps) in
-    let front : 4 + length p ≤ length rest = omega (arith, ap length b.ensures.string, length-append (frame_bytes x) b.ensures.rest, length-append x.payload x.padding) in
+    let front : 4 + length p ≤ length rest = omega (arith, ap length begins.string, length-append (frame_bytes x) begins.rest, length-append x.payload x.padding) in
     let kept = c.keep.ensures.kept ∙ ap (λ q. map g.A.Address.octets c.loop-rest.addresses.items ++ of_length n (q ∷ [])) c.value.ensures in
     let len = c.keep.ensures.len ∙ ap (λ q. vec_len c.loop-rest.addresses + length (of_length n (q ∷ []))) c.value.ensures in
     record {
-      reads = kept_more n s rest _ _ _ (kind_field_of b.result) p i.reads some b.ensures c.step_over-rest.ensures kept;
-      low = kept_low n (vec_len c.loop-rest.addresses) _ s rest _ p i.low c.step_over-rest.ensures front len;
+      reads = kept_more n s rest _ _ _ (kind_field_of b) p i.reads some begins c.in-Ok.ensures.1 kept;
+      low = kept_low n (vec_len c.loop-rest.addresses) _ s rest _ p i.low c.in-Ok.ensures.1 front len;
       room = c.keep.ensures.room ∙ i.room;
     }
 

@@ -19,7 +19,7 @@ loop-rest-preserved c =
     let some : rest ≢ [] = λ e. grind (arith, common_steps) in
     let none : frame_fault rest ≡ None = ap frame_fault c.at_front.ensures.string ∙ frame_fault-frame x c.at_front.ensures.rest c.at_front.ensures.is in
     let next = c.step_over-rest.ensures in
-    let pushed : c.push_reserved.new.self.items ≡ offsets ++ (length s - length rest) ∷ [] = c.push_reserved.ensures.items ∙ ap (λ xs. xs ++ (length s - length rest) ∷ []) c.in_default-make_room.ensures.same in
+    let pushed : c.push_reserved.new.self.items ≡ offsets ++ (length s - length rest) ∷ [] = c.push_reserved.ensures.items ∙ ap (λ xs. xs ++ (length s - length rest) ∷ []) c.in_ok-make_room.ensures.same in
     let split = subst (Splits rest (kind_field_of b) (payload_of b)) (sym next) (splits rest (kind_field_of b) (payload_of b) c.at_front.ensures) in
     record {
       before = before_more s offsets c.push_reserved.new.self.items rest c.step_over-rest.result.now (kind_field_of b) (payload_of b) w some split pushed;

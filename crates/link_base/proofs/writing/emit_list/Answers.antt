@@ -42,8 +42,7 @@ loop-value-preserved g c =
     let len = length-whole_bytes (written_kind v) (written_payload v) in
     let both = length-append text frame in
     let place = c.loop-value.invariant.at in
-    let n = c.value_len-size.result in
-    let size : (n + 7) / 4 * 4 ≡ length frame = omega (arith, c.value_len-size.ensures, len, fits) in
+    let size : c.total_size-at.result ≡ length frame = omega (arith, c.total_size-at.ensures, c.value_len-size.ensures, len, fits) in
     record {
       written = rw more (frame_after c.args.buffer.now b _ text frame c.emit_sized.new.buffer at c.loop-value.invariant.written place (omega (arith, room, c.requires.room)) c.emit_sized.ensures.written refl);
       at = omega (arith, ap length more, both, place, size);

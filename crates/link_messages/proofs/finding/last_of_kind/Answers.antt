@@ -10,10 +10,11 @@ use Rattle.link_messages.proofs.finding.last_of_kind.Goals as goal
 pub loop-rest-preserved : goal.loop-rest-preserved
 loop-rest-preserved c =
     let rest = c.loop-rest.rest.now in
-    let frame = c.in_ok-frame.frame in
+    let frame = c.in-Ok.frame in
+    let after = c.in-Ok.after.now in
     let some : rest ≢ [] = λ e. eqb-false (length rest) 0 (sym c.is_empty.ensures ∙ c.loop-rest-test.true) (ap length e) in
-    walked_more (stretch_of c.args.list) c.args.kind (option_map stretch_of c.loop-rest.found) _ rest c.behind-rest.result.now (kind_field_of frame) (payload_of frame) c.loop-rest.invariant some
-    (splits rest (kind_field_of frame) (payload_of frame) c.behind-rest.result.now c.in_ok-frame.ensures c.behind-rest.ensures) c.later-found.ensures
+    walked_more (stretch_of c.args.list) c.args.kind (option_map stretch_of c.loop-rest.found) _ rest after (kind_field_of frame) (payload_of frame) c.loop-rest.invariant some
+    (splits rest (kind_field_of frame) (payload_of frame) after c.in-Ok.ensures.0 c.in-Ok.ensures.1) c.later-found.ensures
 
 pub returns : goal.returns
 returns c =

@@ -4,7 +4,7 @@ use Rattle.link_base.specs.Table.{Gives}
 use Rattle.netlink_packet_route.proofs.Rewritten.{no_more_values}
 use Rattle.netlink_packet_route.proofs.counting.count_values_as.Goals as goal
 
-pub returns-in-Ok-clause-bounded : goal.returns-in-Ok-clause-bounded
-returns-in-Ok-clause-bounded g c =
-    let values = c.in-Ok.values.items in
-    omega (arith, c.len.ensures, length-map values g.F.Meaning.means, no_more_values (Gives g.F.Meaning.table) c.args.bytes.now (map g.F.Meaning.means values) c.in-Ok.ensures.answer)
+pub returns-clause-bounded : goal.returns-clause-bounded
+returns-clause-bounded g c =
+    let values = c.in_ok-values.values.items in
+    omega (arith, c.len.ensures, length-map values g.F.Meaning.means, no_more_values (Gives g.F.Meaning.table) c.args.bytes.now (map g.F.Meaning.means values) c.in_ok-values.ensures.answer)

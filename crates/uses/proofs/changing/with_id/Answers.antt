@@ -1,7 +1,7 @@
 use Rattle.std.proofs.Common.{rules, tests}
 use Rattle.std.proofs.lemmas.Iterator.{YieldsList-from_map}
 use Rattle.std.proofs.lemmas.Iterator.Adapters.{items_from_extend, YieldsList-from_vec}
-use Rattle.uses.specs.Changing.{set_id}
+use Rattle.uses.specs.Writing.{set_id}
 use Rattle.uses.proofs.changing.with_id.Goals as goal
 
 pub returns : goal.returns

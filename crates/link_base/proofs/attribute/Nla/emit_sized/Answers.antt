@@ -12,10 +12,10 @@ returns-clause-written g c =
     let v = g.Self.Meaning.means c.args.self.now in
     let p = written_payload v in
     let n = c.args.size in
-    let end = (n + 7) / 4 * 4 in
+    let end = c.total_size.result in
     let len = length-whole_bytes (written_kind v) p in
     let k : 4 + n - 4 ≡ n = omega arith in
     let out = put_mid 4 (4 + n - 4) c.put_header.new.buffer c.emit_value.new.buffer in
-    let done = put_frame c.args.buffer.now c.put_zeros.new.buffer c.put_header.new.buffer out c.kind-kind_field.result p n end c.requires.size (omega (arith, c.requires.size)) (omega (arith, c.requires.size, len, c.requires.room))
+    let done = put_frame c.args.buffer.now c.put_zeros.new.buffer c.put_header.new.buffer out c.kind-kind_field.result p n end c.requires.size (omega (arith, c.requires.size, c.total_size.ensures)) (omega (arith, c.requires.size, c.total_size.ensures, len, c.requires.room))
     c.put_zeros.ensures c.put_header.ensures (rw (k, c.emit_value.ensures.written) refl) in
     subst (λ (m : ℕ). OverwritesFront c.args.buffer.now out (frame_bytes (whole m p))) c.kind-kind_field.ensures done

@@ -2,7 +2,7 @@ use Rattle.std.proofs.Common.{[], ◌∷◌, ap, ◌∙◌}
 use Rattle.std.proofs.lemmas.Slice.Eq.{strip_suffix_is}
 use Rattle.std.proofs.lemmas.Bool.Decides.{Decides-eqb}
 use Rattle.link_messages.proofs.Names.{stripped}
-use Rattle.link_messages.proofs.naming.without_nul.Goals as goal
+use Rattle.link_messages.proofs.link.without_nul.Goals as goal
 
 pub returns : goal.returns
 returns c =
