@@ -7,6 +7,9 @@ specs/Family.antt. The files of LISTS have lists of their own, which no prover s
 import re
 
 LIST = "crates/netlink_packet_route/src/family.rt"
+# The definitions that the contracts compare the list with, and what the crate hands on of them.
+DEFINED = "crates/netlink_packet_route/specs/Family.antt"
+HANDED_ON = "crates/netlink_packet_route/specs/Lib.antt"
 ROW = re.compile(r'^ +([A-Z]\w+) +"(\w+)" +(\w+) +(\d+) +(\w+) \((?:b"(\w+)"|(\w+))\)$', re.MULTILINE)
 # For each file, what it has once for each attribute set, as a regular expression. {name}, {NAME}, {variant},
 # {attributes} and {number} are those of the row, and {holder} is the attribute of a message that has the list.
@@ -27,12 +30,25 @@ LISTS = [
     ("docs/PROGRAMS.md", r"^\|[^|]*`{name}`[^|]*\|[^|]*`{holder}`"),
     ("docs/MESSAGES.md", r"^\| `{holder}` \|.*`{name}`"),
     ("docs/MODEL.md", r"^### .*`{attributes}`"),
+    ("docs/CLAIMS.md", r"^link_\w+ .*\b{attributes}\b"),
+    ("docs/CALLING.md", r"`{attributes}`"),
+    ("docs/ARCHITECTURE.md", r"^  \w+\.rt  .*\b{attributes}\b"),
+    ("docs/DIFFERENCES.md", r"^\| `{attributes}`"),
+    ("crates/library_tests/src/tests/laws.rt", r"laws_of::<{attributes}>"),
+    ("crates/library_tests/src/tests/canonical.rt", r"^ *Family::{variant},$"),
+    ("crates/library_tests/src/tests/prefixes.rt", r"family: Family::{variant},"),
+    ("crates/library_tests/src/tests/reports.rt", r'\("{name}", Some\(Family::{variant}\)\)'),
+    ("crates/nlshow/stdin", r"^{name} [0-9a-f]"),
+    ("crates/nlshow/stdin", r"^check {name}$"),
+    ("crates/nlshow/stdout", r"^  IFLA_\w+ {name}\n    \w"),
+    ("crates/refusals/stdin", r"^0 read_list {name}$"),
+    ("crates/refusals/stdin", r"^0 write_list {name}$"),
 ]
 # Files that number the attribute sets by their places in a list.
 ORDERED = {"tools/c_refusals.c", "bench/speed.py", "tools/fuzz/seeds.py"}
 # The number of attribute sets, where a file has it as a number.
 COUNTS = [
-    ("crates/nlroute_ffi/examples/calls.c", r"\bfamily < (\d+)"),
+    ("crates/nlroute_ffi/examples/calls.c", r"\bfamily < (\d+)|\bfound !?= (\d+)|\((\d+), vlan"),
     ("tools/c_refusals.c", r"\bfamily (?:<|==) (\d+)|\bnames\[(\d+)\]"),
     ("tools/fuzz/fuzz.c", r"\bdata\[0\] % (\d+)"),
 ]
@@ -66,6 +82,9 @@ def disagreements(text_of):
         text = text_of(path)
         if text is not None:
             yield from differing(path, text, pattern, rows)
+    for module in re.findall(r"^use (Rattle\.link_\w+\.specs\.\w+)\.", text_of(DEFINED) or "", re.MULTILINE):
+        if not re.search(rf"\b{re.escape(module)}\b", text_of(HANDED_ON) or ""):
+            yield HANDED_ON, 1, f"it does not hand on {module}, which {DEFINED} uses"
     for path, pattern in COUNTS:
         for found in re.finditer(pattern, text_of(path) or ""):
             number = next(it for it in found.groups() if it)
@@ -80,7 +99,7 @@ def differing(path, text, pattern, rows):
         escaped = {key: re.escape(it) for key, it in row.items()}
         found = re.search(pattern.format(**escaped), text, re.MULTILINE)
         if not found:
-            yield path, 1, f"the list does not have {row['name']} as families! has it"
+            yield path, 1, f"the list does not have {row['name']} as families! has it: no text is as {pattern}"
         elif path in ORDERED and found.start() < last:
             yield path, text.count("\n", 0, found.start()) + 1, f"{row['name']} is not in the order of families!"
         else:

@@ -315,23 +315,31 @@ class Tree:
 
     @functools.cached_property
     def types(self):
-        """The numbers of constants that are attribute types, by name."""
-        return {a: b for text in self.folded for a, b in re.findall(r"\bconst (\w+): u16 = (\d+);", text)}
+        """The numbers of attribute types, by name: those of rows, and of constants."""
+        constants = {a: b for text in self.folded for a, b in re.findall(r"\bconst (\w+): u16 = (\d+);", text)}
+        return constants | {name: number for name, number, _ in self.attribute_rows}
 
     @functools.cached_property
-    def variants(self):
-        """The pairs of a variant and the constant that is its attribute type."""
-        pattern = re.compile(r"::(\w+)(?:\([^()]*\)| \{[^{}]*\})? => ([A-Z]+_\w+)")
+    def attribute_rows(self):
+        """The rows of attribute sets: the name of the attribute type, its number, and its variant."""
+        pattern = re.compile(r"\b([A-Z]+_\w+) = (\d+)(?: \| \w+)?, (\w+)(?:: [^;]*)?;")
         return {it for text in self.folded for it in pattern.findall(text)}
 
     @functools.cached_property
+    def variants(self):
+        """The pairs of a variant and its attribute type."""
+        pattern = re.compile(r"::(\w+)(?:\([^()]*\)| \{[^{}]*\})? => ([A-Z]+_\w+)")
+        arms = {it for text in self.folded for it in pattern.findall(text)}
+        return arms | {(variant, name) for name, _, variant in self.attribute_rows}
+
+    @functools.cached_property
     def tables(self):
-        """The tables in specs/, by name: the shapes of their rows, by number."""
+        """The tables in specs/, by name: the names and the shapes of their rows, by number."""
         tables = {}
         for text in self.of(r"crates/[^/]+/specs/.*\.antt"):
             for table, body in re.findall(r"^(\w+) =(.*(?:\n[ \t].*|\n)*)", re.sub(r"--.*", "", text), re.MULTILINE):
-                rows_of = re.findall(r"\brow (\d+) \(?(?:One )?\(?(.*?)\W* ∷", " ".join(body.split()))
-                tables |= {table: dict(rows_of)} if rows_of else {}
+                rows_of = re.findall(r"\b(?:leaf_|list_)?row (\d+) \"(\w+)\" \(?(.*?)\)* ∷", " ".join(body.split()))
+                tables |= {table: {number: (name, shape) for number, name, shape in rows_of}} if rows_of else {}
         return tables
 
     @functools.lru_cache(maxsize=None)
@@ -574,13 +582,15 @@ def rows(page, tree):
             continue
         number, name, variant, shape = (it.strip(" )") for it in found.groups())
         tables = [it for it in re.findall(r"`(\w+)`", page.heading(line)) if it in tree.tables]
-        shapes = [tree.tables[it].get(number, "") for it in tables] or [shape]
-        right = tree.types.get(name, "no constant")
+        wanted = [tree.tables[it].get(number, (name, "")) for it in tables] or [(name, shape)]
+        right = tree.types.get(name, "no attribute type")
         if number != right:
             yield line, f"{name} is {right} in the sources"
         elif (variant, name) not in tree.variants:
             yield line, f"no source has the variant {variant} for {name}"
-        elif not any(re.match(rf"{re.escape(shape)}\b", it) for it in shapes) and not shape.startswith("as "):
+        elif any(it != name for it, _ in wanted):
+            yield line, f"row {number} of {' or '.join(tables)} does not have the name {name}"
+        elif not any(re.match(rf"{re.escape(shape)}\b", it) for _, it in wanted) and not shape.startswith("as "):
             yield line, f"row {number} of {' or '.join(tables)} does not have the shape {shape}"
 
 

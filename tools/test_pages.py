@@ -15,8 +15,14 @@ sys.path.insert(0, os.path.dirname(os.path.realpath(__file__)))
 import families  # noqa: E402
 import pages  # noqa: E402
 
-# (README.md of the small tree below has no list of attribute sets)
-families.LISTS = [it for it in families.LISTS if it[0] != "README.md"]
+# Files of the small tree below that have no list of attribute sets.
+UNLISTED = {
+    "README.md",
+    *(f"docs/{it}.md" for it in ("CLAIMS", "CALLING", "DIFFERENCES")),
+    *(f"crates/{it}" for it in ("nlshow/stdin", "nlshow/stdout", "refusals/stdin")),
+}
+families.LISTS = [it for it in families.LISTS if it[0] not in UNLISTED]
+LISTED = dict(families.LISTS)
 
 SOURCE = """\
 pub struct Pair(u8, u8);
@@ -254,27 +260,31 @@ class Pages(unittest.TestCase):
             ### Pairs: `Pair`, `pair_table`
 
             ```text
-            1  PAIR_LEN   Len    Unsigned 2: bytes
+            1  PAIR_LEN   Len    u16: bytes
             2  PAIR_ENDS  Ends   Nested false end_rows
             3  PAIR_KIND  Other  as Len
             ```
             """.replace("            ", "")
-        spec = "pair_table : Table\npair_table =\n    -- LEN\n    row 1 (One (Unsigned 2)) ∷\n"
-        source = "const PAIR_LEN: u16 = 1;\nconst PAIR_ENDS: u16 = 2;\nconst PAIR_KIND: u16 = 3;\n"
+        spec = "pair_table : Table\npair_table =\n    row 1 \"PAIR_LEN\" u16 ∷\n"
+        source = "const PAIR_KIND: u16 = 3;\n"
         more = {
-            "crates/pairs/specs/Pair.antt": spec + "    row 2 (Nested false end_rows) ∷\n    row 3 (One Bytes) ∷ []\n",
-            "crates/pairs/src/kinds.rt": source + "match self {\n    Pair::Len(_) => PAIR_LEN,\n"
-            "    Pair::Ends { .. } => PAIR_ENDS,\n    Pair::Other => PAIR_KIND,\n}\n",
+            "crates/pairs/specs/Pair.antt": spec
+            + "    list_row 2 \"PAIR_ENDS\" (Nested false end_rows) ∷\n    row 3 \"PAIR_KIND\" bytes ∷ []\n",
+            "crates/pairs/src/kinds.rt": source + "match self {\n    Pair::Other => PAIR_KIND,\n}\n"
+            "rows! {\n    PAIR_LEN = 1, Len: u16;\n    PAIR_ENDS = 2 | NLA_F_NESTED, Ends: NestedList<End>;\n}\n",
         }
         self.assertEqual([], self.said(TREE | more | {"README.md": PAGE + block}))
         for old, new, wanted in (
             ("1  PAIR_LEN ", "2  PAIR_LEN ", "33: PAIR_LEN is 1 in the sources"),
             ("  Ends ", "  Other ", "34: no source has the variant Other for PAIR_ENDS"),
-            ("Unsigned 2", "Unsigned 4", "33: row 1 of pair_table does not have the shape Unsigned 4"),
+            ("u16", "u32", "33: row 1 of pair_table does not have the shape u32"),
             ("Nested false", "Nested true", "34: row 2 of pair_table does not have the shape Nested true end_rows"),
         ):
             lines = self.said(TREE | more | {"README.md": PAGE + block.replace(old, new)})
             self.assertEqual([f"README.md:{wanted}"], lines)
+        more["crates/pairs/specs/Pair.antt"] = more["crates/pairs/specs/Pair.antt"].replace("PAIR_ENDS", "PAIR_END")
+        lines = self.said(TREE | more | {"README.md": PAGE + block})
+        self.assertEqual(["README.md:34: row 2 of pair_table does not have the name PAIR_ENDS"], lines)
 
     def test_a_marked_number_is_that_of_the_tree(self):
         wanted = "README.md:{}: {} is not the count of {}"
@@ -310,10 +320,10 @@ class Pages(unittest.TestCase):
 
     def test_lists_of_attribute_sets_agree(self):
         header, refused = "crates/nlroute_ffi/include/nlroute.h", "tools/c_refusals.c"
-        vlan = f"{header}:1: the list does not have vlan as families! has it"
+        vlan = f"{header}:1: the list does not have vlan as families! has it: no text is as {LISTED[header]}"
         self.finds(vlan, "NLROUTE_VLAN = 1", "NLROUTE_VLAN = 2", header)
         self.finds(vlan, "NLROUTE_VLAN = 1", "NLROUTE_VLANS = 1", header)
-        self.finds(f"{refused}:1: the list does not have vlan as families! has it", '"vlan"', '"van"', refused)
+        self.finds(f"{refused}:1: the list does not have vlan as families! has it: no text is as {LISTED[refused]}", '"vlan"', '"van"', refused)
         self.finds(f"{refused}:1: vlan is not in the order of families!", '"dsa", "vlan"', '"vlan", "dsa"', refused)
         self.finds(f"{refused}:2: 3 is not the number of attribute sets, which is 2", "family < 2", "family < 3", refused)
         found = self.said(TREE | {"crates/netlink_packet_route/src/family.rt": FAMILIES.replace("1  Bridge", "2  Bridge")})
@@ -322,8 +332,16 @@ class Pages(unittest.TestCase):
         page = {"docs/PROGRAMS.md": "| `dsa` | `IFLA_INFO_DATA` |\n| `vlan` | `IFLA_VLAN` |\n"}
         self.assertEqual([], self.said(TREE | page))
         page["docs/PROGRAMS.md"] = page["docs/PROGRAMS.md"].replace("IFLA_VLAN", "IFLA_VLANS")
-        wanted = "docs/PROGRAMS.md:1: the list does not have vlan as families! has it"
+        wanted = f"docs/PROGRAMS.md:1: the list does not have vlan as families! has it: no text is as {LISTED['docs/PROGRAMS.md']}"
         self.assertIn(wanted, self.said(TREE | page))
+
+    def test_the_definitions_of_attribute_sets_are_handed_on(self):
+        defined, handed_on = (f"crates/netlink_packet_route/specs/{it}.antt" for it in ("Family", "Lib"))
+        more = {defined: "use Rattle.link_pairs.specs.Pair.{pair_table}\n", handed_on: "pub use Rattle.link_pairs.specs.Pair\n"}
+        self.assertEqual([], self.said(TREE | more))
+        more[handed_on] = "pub use Rattle.link_pairs.specs.Pairs\n"
+        wanted = f"{handed_on}:1: it does not hand on Rattle.link_pairs.specs.Pair, which {defined} uses"
+        self.assertEqual([wanted], self.said(TREE | more))
 
     def test_there_is_a_list_of_attribute_sets(self):
         wanted = "crates/netlink_packet_route/src/family.rt:1: there is no list of attribute sets"

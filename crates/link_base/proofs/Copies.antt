@@ -1,11 +1,10 @@
 -- Lists that are copied one element at a time.
-use Rattle.std.proofs.Common.{◌≡◌, Bool, true, nat_eq, List, [], ◌∷◌, ◌++◌, map, true≢false, refl, sym, subst, ap₂, ◌∙◌}
+use Rattle.std.proofs.Common.{◌≡◌, Bool, true, Result, Ok, Err, List, [], ◌∷◌, ◌++◌, map, true≢false, refl, sym, subst, ap₂, ◌∙◌}
+use Rattle.std.specs.Prelude.{IfOk}
 use Rattle.std.proofs.lemmas.List.{map-append}
-use Rattle.std.specs.Cmp.{IsEquivalence, nat_eq_equiv, on_equiv, first_so, second_so}
+use Rattle.std.specs.Cmp.{IsEquivalence, first_so, second_so}
 use Rattle.std.specs.Cmp.Derive.{both_true}
 use Rattle.std.specs.Cmp.Lexicographic.{pointwise, lists_equiv}
-use Rattle.std.specs.declared.net.ipv4_addr.Ipv4Addr.{Ipv4Addr}
-use Rattle.std.specs.declared.net.ipv6_addr.Ipv6Addr.{Ipv6Addr}
 use Rattle.link_base.specs.Table.{Leaf, Case, Other}
 use Rattle.link_base.specs.Lift.{lift}
 
@@ -36,18 +35,8 @@ equal_more E (a ∷ xs) (b ∷ ys) x y h e =
 itself : {A : Type 0} {E : A → A → Bool} → IsEquivalence E → (xs ys : List A) → xs ≡ ys → pointwise E xs ys ≡ true
 itself {E = E} law xs ys e = subst (λ zs. pointwise E xs zs ≡ true) e ((lists_equiv law).refl xs)
 
--- IPv4 addresses
-pub same_one_four : (a b : Ipv4Addr) → a ≡ b → pointwise nat_eq a.octets b.octets ≡ true
-same_one_four a b e = subst (λ c. pointwise nat_eq a.octets c.octets ≡ true) e ((lists_equiv nat_eq_equiv).refl a.octets)
-
--- IPv6 addresses
-pub same_one_sixteen : (a b : Ipv6Addr) → a ≡ b → pointwise nat_eq a.segments b.segments ≡ true
-same_one_sixteen a b e = subst (λ c. pointwise nat_eq a.segments c.segments ≡ true) e ((lists_equiv nat_eq_equiv).refl a.segments)
-
--- lists of IPv4 addresses
-pub same_four : (xs ys : List Ipv4Addr) → xs ≡ ys → pointwise (λ a b. pointwise nat_eq a.octets b.octets) xs ys ≡ true
-same_four = itself (on_equiv (λ a. a.octets) (lists_equiv nat_eq_equiv))
-
--- lists of IPv6 addresses
-pub same_sixteen : (xs ys : List Ipv6Addr) → xs ≡ ys → pointwise (λ a b. pointwise nat_eq a.segments b.segments) xs ys ≡ true
-same_sixteen = itself (on_equiv (λ a. a.segments) (lists_equiv nat_eq_equiv))
+-- a copy of a list, unless an allocation failed
+pub same_copy : {A X Y : Type 0} {E : A → A → Bool} → IsEquivalence E → (r : Result X Y) (items : X → List A) (xs : List A)
+    → IfOk r (λ v. items v ≡ xs) → IfOk r (λ v. pointwise E (items v) xs ≡ true)
+same_copy law (Ok v) items xs e = itself law (items v) xs e
+same_copy law (Err y) items xs e = tt

@@ -22,6 +22,10 @@ IsOctets-numbers width (x ∷ xs) =
       bytes-append (bytes_of width x) (octets_of width xs) (IsBytes-bytes_of width x) rest.1,
     )
 
+-- the number of bytes of consecutive numbers
+pub numbers_len : (width : ℕ) (xs : List ℕ) → length (octets_of width xs) ≡ width * length xs
+numbers_len width xs = (IsOctets-numbers width xs).0
+
 module _ (width : ℕ) where
   -- ---- parsing
 

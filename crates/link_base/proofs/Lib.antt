@@ -20,15 +20,14 @@ pub mod FrameAtFront
 pub mod Emit
 pub mod Walking
 pub mod TableReads
-pub mod Places
 pub mod Streaming
 pub mod Lifted
-pub mod KindFaults
 pub mod JoinedLemmas
 pub mod EditionLemmas
 pub mod LimitLemmas
 pub mod PlainLemmas
 pub mod ItemLemmas
 pub mod Naming
+pub mod NamedPayloads
 pub mod FlagLemmas
 pub mod Layouts

@@ -26,6 +26,10 @@ pub length-bytes_of : (n x : ℕ) → length (bytes_of n x) ≡ n
 length-bytes_of zero x = refl
 length-bytes_of (suc n) x = ap suc (length-bytes_of n (x / 256))
 
+-- the same, for `using`, which takes no name with a hyphen
+pub bytes_len : (n x : ℕ) → length (bytes_of n x) ≡ n
+bytes_len n x = length-bytes_of n x
+
 -- the bytes of a number are less than 256
 pub IsBytes-bytes_of : (n x : ℕ) → IsBytes (bytes_of n x)
 IsBytes-bytes_of zero x = tt

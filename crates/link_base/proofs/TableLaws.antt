@@ -1,5 +1,5 @@
 -- The laws of tables with lists: every table is lawful.
-use Rattle.std.proofs.Common.{◌≡◌, ◌↔◌, ℕ, ◌+◌, ◌<◌, ◌≤◌, true, false, List, length, Option, Some, None, Result, Ok, refl, sym, ap, subst, ◌∙◌, arith}
+use Rattle.std.proofs.Common.{◌≡◌, ℕ, ◌+◌, ◌<◌, ◌≤◌, true, false, List, length, Option, Some, None, Result, Ok, refl, sym, ap, subst, ◌∙◌, arith}
 use Rattle.link_base.specs.OneForm.{attr_form}
 use Rattle.link_base.specs.Number.{IsBytes}
 use Rattle.link_base.specs.declared.fault.DecodeFault.{DecodeFault}

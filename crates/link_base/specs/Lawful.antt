@@ -1,5 +1,5 @@
 -- The laws of one attribute, from which the laws of lists are proved.
-use Rattle.std.specs.Prelude.{◌≡◌, ◌↔◌, ℕ, ◌<◌, ◌≤◌, List, length, Result, Ok}
+use Rattle.std.specs.Prelude.{◌≡◌, ℕ, ◌<◌, ◌≤◌, List, length, Result, Ok}
 use Rattle.link_base.specs.Number.{IsBytes}
 use Rattle.link_base.specs.Frame.{pad, max_payload}
 use Rattle.link_base.specs.declared.fault.DecodeFault.{DecodeFault}

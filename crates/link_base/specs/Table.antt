@@ -1,5 +1,6 @@
 -- Tables of attributes: what `nla_type` and a payload decode to, and how a value is written.
 use Rattle.std.specs.Prelude.{◌≡◌, ℕ, ◌+◌, ◌<◌, ◌==◌, Bool, List, [], ◌∷◌, length, map, Option, Some, None, Result, Ok, Err, if◌then◌else◌}
+use Prim.Native.String.{String}
 use Rattle.std.specs.List.{filter, AllByRecursion}
 use Rattle.link_base.specs.declared.fault.Cause.{Cause}
 use Rattle.link_base.specs.declared.fault.DecodeFault.{DecodeFault}
@@ -17,8 +18,8 @@ pub record Row (C : Type 0) : Type 0 where
   pub class : C
 
 -- a row for this attribute type
-abbrev pub row : {C : Type 0} → ℕ → C → Row C
-row k c = record { kind = k; class = c }
+abbrev pub row_of : {C : Type 0} → ℕ → C → Row C
+row_of k c = record { kind = k; class = c }
 
 -- what the payloads of an attribute type are, if it has a row
 abbrev pub class_at : {C : Type 0} → List (Row C) → ℕ → Option C
@@ -35,6 +36,11 @@ pub data Attr (V : Type 0) : Type 0 where
 -- a table without lists
 abbrev pub Rows : Type 0
 Rows = List (Row Class)
+
+-- a row of such a table: the attribute type, its name in the kernel's headers, and the class of its payloads. The name
+-- is for the reader: it changes no meaning
+abbrev pub leaf_row : ℕ → String → Class → Row Class
+leaf_row k name c = row_of k c
 
 -- an attribute of a table without lists
 abbrev pub Leaf : Type 0
@@ -77,6 +83,14 @@ pub data Shape : Type 0 where
   Nested : Bool → Rows → Shape
   -- a list of addresses of n bytes each
   Addresses : ℕ → Shape
+
+-- a row for an attribute type whose payloads have one class; the name is that of the kernel's headers
+abbrev pub row : ℕ → String → Class → Row Shape
+row k name c = row_of k (One c)
+
+-- a row for an attribute type whose payloads are lists
+abbrev pub list_row : ℕ → String → Shape → Row Shape
+list_row k name shape = row_of k shape
 
 -- the content of an attribute
 pub data Content : Type 0 where

@@ -11,22 +11,31 @@ mod emitable;
 pub mod examples;
 mod fault;
 pub mod flag_laws;
+mod flags_class;
 mod frame_table;
 mod iterator;
 pub mod laws;
 mod list;
+mod list_classes;
 mod named;
+mod named_class;
 pub mod named_laws;
+mod names;
 mod nested;
 mod number_lists;
 mod octets;
 mod padding;
+mod payload_class;
 mod place;
 mod records;
 mod rewriting;
+pub mod rows;
+mod scalar_classes;
 mod scalars;
+mod struct_class;
 mod try_clone;
 mod vlan_protocol;
+mod word;
 mod writing;
 
 pub use address_list::{Address, addresses_len, emit_addresses, parse_address, read_addresses};
@@ -40,13 +49,17 @@ pub use canonical::{
 pub use default_nla::DefaultNla;
 pub use emitable::Emitable;
 pub use fault::{Cause, DecodeError, DecodeFault, ListError, RewriteError, TooLong, WriteError};
+pub use flags_class::{FlagBits, LowFlagBits, PayloadFlags};
 pub use frame_table::FrameTable;
 pub use iterator::NlasIterator;
 pub use list::read_list;
+pub use list_classes::{AddressList, NestedList, OneAddress};
 pub use named::NamedNumber;
+pub use named_class::{Named, NumberedName};
 pub use nested::{NestedAttribute, emit_nested, nested_len, read_nested};
 pub use number_lists::{emit_u16s, emit_u32s, parse_u16s, parse_u32s, u16s_len, u32s_len};
 pub use padding::padded;
+pub use payload_class::PayloadClass;
 pub use place::{Place, keep};
 pub use records::{check_at_least, check_exactly, check_length, u16_at, u32_at, u32s_at};
 pub use rewriting::rewrite_list;
@@ -55,6 +68,8 @@ pub use scalars::{
     emit_u64, parse_bool, parse_i32, parse_ip, parse_low, parse_mac, parse_u8, parse_u16,
     parse_u16_be, parse_u32, parse_u32_pair, parse_u64,
 };
+pub use struct_class::{PayloadStruct, Struct};
 pub use try_clone::{TryClone, try_clone_list};
 pub use vlan_protocol::VlanProtocol;
+pub use word::Word;
 pub use writing::{emit_list, list_fits, list_len, measure_list, write_list};

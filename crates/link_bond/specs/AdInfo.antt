@@ -1,20 +1,19 @@
 -- The active aggregator of a bond.
 use Rattle.std.specs.Prelude.{[], ◌∷◌}
-use Rattle.link_base.specs.Class.{Unsigned, Octets, Exactly, Number, Raw}
-use Rattle.link_base.specs.Table.{Rows, Leaf, Case, row}
+use Rattle.link_base.specs.Class.{Number, Raw, u16, mac}
+use Rattle.link_base.specs.Table.{Rows, Leaf, Case, leaf_row}
 use Rattle.link_base.specs.Default.{default_means}
 use Rattle.link_bond.specs.declared.bond.ad_info.BondAdInfo.{BondAdInfo}
 use Rattle.link_bond.specs.declared.bond.ad_info.BondAdInfo.TheVariants.{Aggregator, NumPorts, ActorKey, PartnerKey, PartnerMac, Other}
 
--- IFLA_BOND_AD_INFO_AGGREGATOR, IFLA_BOND_AD_INFO_NUM_PORTS, IFLA_BOND_AD_INFO_ACTOR_KEY,
--- IFLA_BOND_AD_INFO_PARTNER_KEY, IFLA_BOND_AD_INFO_PARTNER_MAC
+-- one row for each attribute type
 abbrev pub ad_info_rows : Rows
 ad_info_rows =
-    row 1 (Unsigned 2) ∷
-    row 2 (Unsigned 2) ∷
-    row 3 (Unsigned 2) ∷
-    row 4 (Unsigned 2) ∷
-    row 5 (Octets (Exactly 6)) ∷ []
+    leaf_row 1 "IFLA_BOND_AD_INFO_AGGREGATOR" u16 ∷
+    leaf_row 2 "IFLA_BOND_AD_INFO_NUM_PORTS" u16 ∷
+    leaf_row 3 "IFLA_BOND_AD_INFO_ACTOR_KEY" u16 ∷
+    leaf_row 4 "IFLA_BOND_AD_INFO_PARTNER_KEY" u16 ∷
+    leaf_row 5 "IFLA_BOND_AD_INFO_PARTNER_MAC" mac ∷ []
 
 -- the attribute that a value represents
 abbrev pub ad_info_leaf : BondAdInfo → Leaf

@@ -1,8 +1,8 @@
 -- Bond attributes.
 use Rattle.std.specs.Prelude.{[], ◌∷◌, map, false}
-use Rattle.link_base.specs.Class.{Unsigned, Truth, Octets, Exactly, Named, Number, Boolean, Raw}
+use Rattle.link_base.specs.Class.{Named, Number, Boolean, Raw, u8, u16, u32, truth, mac}
 use Rattle.link_base.specs.Named.{numbers_of, seen_value}
-use Rattle.link_base.specs.Table.{Table, AttrValue, Case, row, One, Nested, Addresses, Single, Inner, Listed}
+use Rattle.link_base.specs.Table.{Table, AttrValue, Case, Nested, Addresses, Single, Inner, Listed, row, list_row}
 use Rattle.link_base.specs.IpAddress.{four_octets, sixteen_octets}
 use Rattle.link_base.specs.Default.{default_means}
 use Rattle.link_bond.specs.Mode.{mode_names, mode_seen}
@@ -18,77 +18,43 @@ use Rattle.link_bond.specs.AdInfo.{ad_info_rows, ad_info_leaf}
 use Rattle.link_bond.specs.declared.bond.InfoBond.{InfoBond}
 use Rattle.link_bond.specs.declared.bond.InfoBond.TheVariants as infos
 
--- one row for each attribute type; its comment is the kernel's name without IFLA_BOND_
+-- one row for each attribute type
 abbrev pub bond_table : Table
 bond_table =
-    -- MODE
-    row 1 (One (Named 1 (numbers_of mode_names))) ∷
-    -- ACTIVE_SLAVE
-    row 2 (One (Unsigned 4)) ∷
-    -- MIIMON
-    row 3 (One (Unsigned 4)) ∷
-    -- UPDELAY
-    row 4 (One (Unsigned 4)) ∷
-    -- DOWNDELAY
-    row 5 (One (Unsigned 4)) ∷
-    -- USE_CARRIER
-    row 6 (One Truth) ∷
-    -- ARP_INTERVAL
-    row 7 (One (Unsigned 4)) ∷
-    -- ARP_IP_TARGET
-    row 8 (Addresses 4) ∷
-    -- ARP_VALIDATE
-    row 9 (One (Named 4 (numbers_of arp_validate_names))) ∷
-    -- ARP_ALL_TARGETS
-    row 10 (One (Named 4 (numbers_of arp_all_targets_names))) ∷
-    -- PRIMARY
-    row 11 (One (Unsigned 4)) ∷
-    -- PRIMARY_RESELECT
-    row 12 (One (Named 1 (numbers_of primary_reselect_names))) ∷
-    -- FAIL_OVER_MAC
-    row 13 (One (Named 1 (numbers_of fail_over_mac_names))) ∷
-    -- XMIT_HASH_POLICY
-    row 14 (One (Named 1 (numbers_of xmit_hash_policy_names))) ∷
-    -- RESEND_IGMP
-    row 15 (One (Unsigned 4)) ∷
-    -- NUM_PEER_NOTIF
-    row 16 (One (Unsigned 1)) ∷
-    -- ALL_SLAVES_ACTIVE
-    row 17 (One (Named 1 (numbers_of all_port_active_names))) ∷
-    -- MIN_LINKS
-    row 18 (One (Unsigned 4)) ∷
-    -- LP_INTERVAL
-    row 19 (One (Unsigned 4)) ∷
-    -- PACKETS_PER_SLAVE
-    row 20 (One (Unsigned 4)) ∷
-    -- AD_LACP_RATE
-    row 21 (One (Named 1 (numbers_of lacp_rate_names))) ∷
-    -- AD_SELECT
-    row 22 (One (Named 1 (numbers_of ad_select_names))) ∷
-    -- AD_INFO
-    row 23 (Nested false ad_info_rows) ∷
-    -- AD_ACTOR_SYS_PRIO
-    row 24 (One (Unsigned 2)) ∷
-    -- AD_USER_PORT_KEY
-    row 25 (One (Unsigned 2)) ∷
-    -- AD_ACTOR_SYSTEM
-    row 26 (One (Octets (Exactly 6))) ∷
-    -- TLB_DYNAMIC_LB
-    row 27 (One Truth) ∷
-    -- PEER_NOTIF_DELAY
-    row 28 (One (Unsigned 4)) ∷
-    -- AD_LACP_ACTIVE
-    row 29 (One Truth) ∷
-    -- MISSED_MAX
-    row 30 (One (Unsigned 1)) ∷
-    -- NS_IP6_TARGET
-    row 31 (Addresses 16) ∷
-    -- COUPLED_CONTROL
-    row 32 (One Truth) ∷
-    -- BROADCAST_NEIGH
-    row 33 (One Truth) ∷
-    -- LACP_STRICT
-    row 34 (One Truth) ∷ []
+    row 1 "IFLA_BOND_MODE" (Named 1 (numbers_of mode_names)) ∷
+    row 2 "IFLA_BOND_ACTIVE_SLAVE" u32 ∷
+    row 3 "IFLA_BOND_MIIMON" u32 ∷
+    row 4 "IFLA_BOND_UPDELAY" u32 ∷
+    row 5 "IFLA_BOND_DOWNDELAY" u32 ∷
+    row 6 "IFLA_BOND_USE_CARRIER" truth ∷
+    row 7 "IFLA_BOND_ARP_INTERVAL" u32 ∷
+    list_row 8 "IFLA_BOND_ARP_IP_TARGET" (Addresses 4) ∷
+    row 9 "IFLA_BOND_ARP_VALIDATE" (Named 4 (numbers_of arp_validate_names)) ∷
+    row 10 "IFLA_BOND_ARP_ALL_TARGETS" (Named 4 (numbers_of arp_all_targets_names)) ∷
+    row 11 "IFLA_BOND_PRIMARY" u32 ∷
+    row 12 "IFLA_BOND_PRIMARY_RESELECT" (Named 1 (numbers_of primary_reselect_names)) ∷
+    row 13 "IFLA_BOND_FAIL_OVER_MAC" (Named 1 (numbers_of fail_over_mac_names)) ∷
+    row 14 "IFLA_BOND_XMIT_HASH_POLICY" (Named 1 (numbers_of xmit_hash_policy_names)) ∷
+    row 15 "IFLA_BOND_RESEND_IGMP" u32 ∷
+    row 16 "IFLA_BOND_NUM_PEER_NOTIF" u8 ∷
+    row 17 "IFLA_BOND_ALL_SLAVES_ACTIVE" (Named 1 (numbers_of all_port_active_names)) ∷
+    row 18 "IFLA_BOND_MIN_LINKS" u32 ∷
+    row 19 "IFLA_BOND_LP_INTERVAL" u32 ∷
+    row 20 "IFLA_BOND_PACKETS_PER_SLAVE" u32 ∷
+    row 21 "IFLA_BOND_AD_LACP_RATE" (Named 1 (numbers_of lacp_rate_names)) ∷
+    row 22 "IFLA_BOND_AD_SELECT" (Named 1 (numbers_of ad_select_names)) ∷
+    list_row 23 "IFLA_BOND_AD_INFO" (Nested false ad_info_rows) ∷
+    row 24 "IFLA_BOND_AD_ACTOR_SYS_PRIO" u16 ∷
+    row 25 "IFLA_BOND_AD_USER_PORT_KEY" u16 ∷
+    row 26 "IFLA_BOND_AD_ACTOR_SYSTEM" mac ∷
+    row 27 "IFLA_BOND_TLB_DYNAMIC_LB" truth ∷
+    row 28 "IFLA_BOND_PEER_NOTIF_DELAY" u32 ∷
+    row 29 "IFLA_BOND_AD_LACP_ACTIVE" truth ∷
+    row 30 "IFLA_BOND_MISSED_MAX" u8 ∷
+    list_row 31 "IFLA_BOND_NS_IP6_TARGET" (Addresses 16) ∷
+    row 32 "IFLA_BOND_COUPLED_CONTROL" truth ∷
+    row 33 "IFLA_BOND_BROADCAST_NEIGH" truth ∷
+    row 34 "IFLA_BOND_LACP_STRICT" truth ∷ []
 
 -- the attribute that a value represents
 abbrev pub bond_means : InfoBond → AttrValue

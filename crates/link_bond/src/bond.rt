@@ -21,85 +21,14 @@ pub use arp_validate::BondArpValidate;
 pub use fail_over_mac::BondFailOverMac;
 pub use lacp_rate::BondLacpRate;
 use link_base::{
-    Attribute, DecodeError, DefaultNla, Meaning, Nla, NlaBuffer, Parseable, Place, TryClone,
-    addresses_len, emit_addresses, emit_mac, emit_nested, emit_u8, emit_u16, emit_u32, has_size,
-    is_address_list, is_nested, is_truth, keep, nested_len, parse_bool, parse_mac, parse_u8,
-    parse_u16, parse_u32, read_addresses, read_nested, try_clone_list,
+    AddressList, Attribute, DecodeError, DefaultNla, Meaning, Named, NestedList, Nla, NlaBuffer,
+    Parseable, Place, TryClone,
 };
 pub use mode::BondMode;
 pub use primary_reselect::BondPrimaryReselect;
 use std::alloc::{AllocError, Global};
 use std::net::{Ipv4Addr, Ipv6Addr};
 pub use xmit_hash_policy::BondXmitHashPolicy;
-
-// `include/uapi/linux/if_link.h`
-const IFLA_BOND_MODE: u16 = 1;
-
-const IFLA_BOND_ACTIVE_SLAVE: u16 = 2;
-
-const IFLA_BOND_MIIMON: u16 = 3;
-
-const IFLA_BOND_UPDELAY: u16 = 4;
-
-const IFLA_BOND_DOWNDELAY: u16 = 5;
-
-const IFLA_BOND_USE_CARRIER: u16 = 6;
-
-const IFLA_BOND_ARP_INTERVAL: u16 = 7;
-
-const IFLA_BOND_ARP_IP_TARGET: u16 = 8;
-
-const IFLA_BOND_ARP_VALIDATE: u16 = 9;
-
-const IFLA_BOND_ARP_ALL_TARGETS: u16 = 10;
-
-const IFLA_BOND_PRIMARY: u16 = 11;
-
-const IFLA_BOND_PRIMARY_RESELECT: u16 = 12;
-
-const IFLA_BOND_FAIL_OVER_MAC: u16 = 13;
-
-const IFLA_BOND_XMIT_HASH_POLICY: u16 = 14;
-
-const IFLA_BOND_RESEND_IGMP: u16 = 15;
-
-const IFLA_BOND_NUM_PEER_NOTIF: u16 = 16;
-
-const IFLA_BOND_ALL_SLAVES_ACTIVE: u16 = 17;
-
-const IFLA_BOND_MIN_LINKS: u16 = 18;
-
-const IFLA_BOND_LP_INTERVAL: u16 = 19;
-
-const IFLA_BOND_PACKETS_PER_SLAVE: u16 = 20;
-
-const IFLA_BOND_AD_LACP_RATE: u16 = 21;
-
-const IFLA_BOND_AD_SELECT: u16 = 22;
-
-const IFLA_BOND_AD_INFO: u16 = 23;
-
-const IFLA_BOND_AD_ACTOR_SYS_PRIO: u16 = 24;
-
-const IFLA_BOND_AD_USER_PORT_KEY: u16 = 25;
-
-const IFLA_BOND_AD_ACTOR_SYSTEM: u16 = 26;
-
-const IFLA_BOND_TLB_DYNAMIC_LB: u16 = 27;
-
-const IFLA_BOND_PEER_NOTIF_DELAY: u16 = 28;
-
-const IFLA_BOND_AD_LACP_ACTIVE: u16 = 29;
-
-const IFLA_BOND_MISSED_MAX: u16 = 30;
-
-const IFLA_BOND_NS_IP6_TARGET: u16 = 31;
-
-const IFLA_BOND_COUPLED_CONTROL: u16 = 32;
-
-const IFLA_BOND_BROADCAST_NEIGH: u16 = 33;
-
-const IFLA_BOND_LACP_STRICT: u16 = 34;
 
 /// A bond attribute (`IFLA_BOND_*`, `include/uapi/linux/if_link.h`).
 ///
@@ -188,49 +117,51 @@ pub enum InfoBond {
     Other(DefaultNla),
 }
 
+/// The attribute types (`IFLA_BOND_*`), the variant of each, and the class of its payload.
+macro_rules! bond_rows {
+    ($call:ident($($argument:tt)*)) => {
+        link_base::by_rows! { $call($($argument)*)
+            IFLA_BOND_MODE = 1, Mode: Named<BondMode>;
+            IFLA_BOND_ACTIVE_SLAVE = 2, ActivePort: u32;
+            IFLA_BOND_MIIMON = 3, MiiMon: u32;
+            IFLA_BOND_UPDELAY = 4, UpDelay: u32;
+            IFLA_BOND_DOWNDELAY = 5, DownDelay: u32;
+            IFLA_BOND_USE_CARRIER = 6, UseCarrier: bool;
+            IFLA_BOND_ARP_INTERVAL = 7, ArpInterval: u32;
+            IFLA_BOND_ARP_IP_TARGET = 8, ArpIpTarget: AddressList<Ipv4Addr>;
+            IFLA_BOND_ARP_VALIDATE = 9, ArpValidate: Named<BondArpValidate>;
+            IFLA_BOND_ARP_ALL_TARGETS = 10, ArpAllTargets: Named<BondArpAllTargets>;
+            IFLA_BOND_PRIMARY = 11, Primary: u32;
+            IFLA_BOND_PRIMARY_RESELECT = 12, PrimaryReselect: Named<BondPrimaryReselect>;
+            IFLA_BOND_FAIL_OVER_MAC = 13, FailOverMac: Named<BondFailOverMac>;
+            IFLA_BOND_XMIT_HASH_POLICY = 14, XmitHashPolicy: Named<BondXmitHashPolicy>;
+            IFLA_BOND_RESEND_IGMP = 15, ResendIgmp: u32;
+            IFLA_BOND_NUM_PEER_NOTIF = 16, NumPeerNotif: u8;
+            IFLA_BOND_ALL_SLAVES_ACTIVE = 17, AllPortsActive: Named<BondAllPortActive>;
+            IFLA_BOND_MIN_LINKS = 18, MinLinks: u32;
+            IFLA_BOND_LP_INTERVAL = 19, LpInterval: u32;
+            IFLA_BOND_PACKETS_PER_SLAVE = 20, PacketsPerPort: u32;
+            IFLA_BOND_AD_LACP_RATE = 21, AdLacpRate: Named<BondLacpRate>;
+            IFLA_BOND_AD_SELECT = 22, AdSelect: Named<BondAdSelect>;
+            IFLA_BOND_AD_INFO = 23, AdInfo: NestedList<BondAdInfo>;
+            IFLA_BOND_AD_ACTOR_SYS_PRIO = 24, AdActorSysPrio: u16;
+            IFLA_BOND_AD_USER_PORT_KEY = 25, AdUserPortKey: u16;
+            IFLA_BOND_AD_ACTOR_SYSTEM = 26, AdActorSystem: [u8; 6];
+            IFLA_BOND_TLB_DYNAMIC_LB = 27, TlbDynamicLb: bool;
+            IFLA_BOND_PEER_NOTIF_DELAY = 28, PeerNotifDelay: u32;
+            IFLA_BOND_AD_LACP_ACTIVE = 29, AdLacpActive: bool;
+            IFLA_BOND_MISSED_MAX = 30, MissedMax: u8;
+            IFLA_BOND_NS_IP6_TARGET = 31, NsIp6Target: AddressList<Ipv6Addr>;
+            IFLA_BOND_COUPLED_CONTROL = 32, CoupledControl: bool;
+            IFLA_BOND_BROADCAST_NEIGH = 33, BroadcastNeigh: bool;
+            IFLA_BOND_LACP_STRICT = 34, LacpStrict: bool;
+        }
+    };
+}
+
 impl TryClone for InfoBond {
     fn try_clone(&self, alloc: Global) -> Result<Self, AllocError> {
-        match self {
-            InfoBond::Mode(mode) => Ok(InfoBond::Mode(*mode)),
-            InfoBond::ActivePort(index) => Ok(InfoBond::ActivePort(*index)),
-            InfoBond::MiiMon(interval) => Ok(InfoBond::MiiMon(*interval)),
-            InfoBond::UpDelay(delay) => Ok(InfoBond::UpDelay(*delay)),
-            InfoBond::DownDelay(delay) => Ok(InfoBond::DownDelay(*delay)),
-            InfoBond::UseCarrier(carrier) => Ok(InfoBond::UseCarrier(*carrier)),
-            InfoBond::ArpInterval(interval) => Ok(InfoBond::ArpInterval(*interval)),
-            InfoBond::ArpIpTarget(targets) => Ok(InfoBond::ArpIpTarget(Vec::from_slice(
-                alloc, targets,
-            )?)),
-            InfoBond::ArpValidate(choice) => Ok(InfoBond::ArpValidate(*choice)),
-            InfoBond::ArpAllTargets(choice) => Ok(InfoBond::ArpAllTargets(*choice)),
-            InfoBond::Primary(index) => Ok(InfoBond::Primary(*index)),
-            InfoBond::PrimaryReselect(choice) => Ok(InfoBond::PrimaryReselect(*choice)),
-            InfoBond::FailOverMac(choice) => Ok(InfoBond::FailOverMac(*choice)),
-            InfoBond::XmitHashPolicy(policy) => Ok(InfoBond::XmitHashPolicy(*policy)),
-            InfoBond::ResendIgmp(count) => Ok(InfoBond::ResendIgmp(*count)),
-            InfoBond::NumPeerNotif(count) => Ok(InfoBond::NumPeerNotif(*count)),
-            InfoBond::AllPortsActive(choice) => Ok(InfoBond::AllPortsActive(*choice)),
-            InfoBond::MinLinks(count) => Ok(InfoBond::MinLinks(*count)),
-            InfoBond::LpInterval(interval) => Ok(InfoBond::LpInterval(*interval)),
-            InfoBond::PacketsPerPort(count) => Ok(InfoBond::PacketsPerPort(*count)),
-            InfoBond::AdLacpRate(rate) => Ok(InfoBond::AdLacpRate(*rate)),
-            InfoBond::AdSelect(rule) => Ok(InfoBond::AdSelect(*rule)),
-            InfoBond::AdInfo(infos) => Ok(InfoBond::AdInfo(try_clone_list(alloc, infos)?)),
-            InfoBond::AdActorSysPrio(priority) => Ok(InfoBond::AdActorSysPrio(*priority)),
-            InfoBond::AdUserPortKey(key) => Ok(InfoBond::AdUserPortKey(*key)),
-            InfoBond::AdActorSystem(address) => Ok(InfoBond::AdActorSystem(*address)),
-            InfoBond::TlbDynamicLb(moved) => Ok(InfoBond::TlbDynamicLb(*moved)),
-            InfoBond::PeerNotifDelay(delay) => Ok(InfoBond::PeerNotifDelay(*delay)),
-            InfoBond::AdLacpActive(active) => Ok(InfoBond::AdLacpActive(*active)),
-            InfoBond::MissedMax(count) => Ok(InfoBond::MissedMax(*count)),
-            InfoBond::NsIp6Target(targets) => Ok(InfoBond::NsIp6Target(Vec::from_slice(
-                alloc, targets,
-            )?)),
-            InfoBond::CoupledControl(coupled) => Ok(InfoBond::CoupledControl(*coupled)),
-            InfoBond::BroadcastNeigh(broadcast) => Ok(InfoBond::BroadcastNeigh(*broadcast)),
-            InfoBond::LacpStrict(strict) => Ok(InfoBond::LacpStrict(*strict)),
-            InfoBond::Other(other) => Ok(InfoBond::Other(other.try_clone(alloc)?)),
-        }
+        bond_rows!(clone(self, alloc))
     }
 }
 
@@ -242,204 +173,25 @@ impl Meaning for InfoBond {
 
 impl Nla for InfoBond {
     fn kind(&self) -> u16 {
-        match self {
-            InfoBond::Mode(_) => IFLA_BOND_MODE,
-            InfoBond::ActivePort(_) => IFLA_BOND_ACTIVE_SLAVE,
-            InfoBond::MiiMon(_) => IFLA_BOND_MIIMON,
-            InfoBond::UpDelay(_) => IFLA_BOND_UPDELAY,
-            InfoBond::DownDelay(_) => IFLA_BOND_DOWNDELAY,
-            InfoBond::UseCarrier(_) => IFLA_BOND_USE_CARRIER,
-            InfoBond::ArpInterval(_) => IFLA_BOND_ARP_INTERVAL,
-            InfoBond::ArpIpTarget(_) => IFLA_BOND_ARP_IP_TARGET,
-            InfoBond::ArpValidate(_) => IFLA_BOND_ARP_VALIDATE,
-            InfoBond::ArpAllTargets(_) => IFLA_BOND_ARP_ALL_TARGETS,
-            InfoBond::Primary(_) => IFLA_BOND_PRIMARY,
-            InfoBond::PrimaryReselect(_) => IFLA_BOND_PRIMARY_RESELECT,
-            InfoBond::FailOverMac(_) => IFLA_BOND_FAIL_OVER_MAC,
-            InfoBond::XmitHashPolicy(_) => IFLA_BOND_XMIT_HASH_POLICY,
-            InfoBond::ResendIgmp(_) => IFLA_BOND_RESEND_IGMP,
-            InfoBond::NumPeerNotif(_) => IFLA_BOND_NUM_PEER_NOTIF,
-            InfoBond::AllPortsActive(_) => IFLA_BOND_ALL_SLAVES_ACTIVE,
-            InfoBond::MinLinks(_) => IFLA_BOND_MIN_LINKS,
-            InfoBond::LpInterval(_) => IFLA_BOND_LP_INTERVAL,
-            InfoBond::PacketsPerPort(_) => IFLA_BOND_PACKETS_PER_SLAVE,
-            InfoBond::AdLacpRate(_) => IFLA_BOND_AD_LACP_RATE,
-            InfoBond::AdSelect(_) => IFLA_BOND_AD_SELECT,
-            InfoBond::AdInfo(_) => IFLA_BOND_AD_INFO,
-            InfoBond::AdActorSysPrio(_) => IFLA_BOND_AD_ACTOR_SYS_PRIO,
-            InfoBond::AdUserPortKey(_) => IFLA_BOND_AD_USER_PORT_KEY,
-            InfoBond::AdActorSystem(_) => IFLA_BOND_AD_ACTOR_SYSTEM,
-            InfoBond::TlbDynamicLb(_) => IFLA_BOND_TLB_DYNAMIC_LB,
-            InfoBond::PeerNotifDelay(_) => IFLA_BOND_PEER_NOTIF_DELAY,
-            InfoBond::AdLacpActive(_) => IFLA_BOND_AD_LACP_ACTIVE,
-            InfoBond::MissedMax(_) => IFLA_BOND_MISSED_MAX,
-            InfoBond::NsIp6Target(_) => IFLA_BOND_NS_IP6_TARGET,
-            InfoBond::CoupledControl(_) => IFLA_BOND_COUPLED_CONTROL,
-            InfoBond::BroadcastNeigh(_) => IFLA_BOND_BROADCAST_NEIGH,
-            InfoBond::LacpStrict(_) => IFLA_BOND_LACP_STRICT,
-            InfoBond::Other(other) => other.kind(),
-        }
+        bond_rows!(kind(self))
     }
 
     fn value_len(&self) -> usize {
-        match self {
-            InfoBond::Mode(_)
-            | InfoBond::UseCarrier(_)
-            | InfoBond::PrimaryReselect(_)
-            | InfoBond::FailOverMac(_)
-            | InfoBond::XmitHashPolicy(_)
-            | InfoBond::NumPeerNotif(_)
-            | InfoBond::AllPortsActive(_)
-            | InfoBond::AdLacpRate(_)
-            | InfoBond::AdSelect(_)
-            | InfoBond::TlbDynamicLb(_)
-            | InfoBond::AdLacpActive(_)
-            | InfoBond::MissedMax(_)
-            | InfoBond::CoupledControl(_)
-            | InfoBond::BroadcastNeigh(_)
-            | InfoBond::LacpStrict(_) => 1,
-            InfoBond::AdActorSysPrio(_) | InfoBond::AdUserPortKey(_) => 2,
-            InfoBond::ActivePort(_)
-            | InfoBond::MiiMon(_)
-            | InfoBond::UpDelay(_)
-            | InfoBond::DownDelay(_)
-            | InfoBond::ArpInterval(_)
-            | InfoBond::ArpValidate(_)
-            | InfoBond::ArpAllTargets(_)
-            | InfoBond::Primary(_)
-            | InfoBond::ResendIgmp(_)
-            | InfoBond::MinLinks(_)
-            | InfoBond::LpInterval(_)
-            | InfoBond::PacketsPerPort(_)
-            | InfoBond::PeerNotifDelay(_) => 4,
-            InfoBond::ArpIpTarget(targets) => addresses_len(targets),
-            InfoBond::AdInfo(infos) => nested_len(infos),
-            InfoBond::AdActorSystem(address) => address.as_slice().len(),
-            InfoBond::NsIp6Target(targets) => addresses_len(targets),
-            InfoBond::Other(other) => other.value_len(),
-        }
+        bond_rows!(size(self))
     }
 
     fn emit_value(&self, buffer: &mut [u8]) {
-        match self {
-            InfoBond::Mode(mode) => emit_u8(buffer, u8::from(*mode)),
-            InfoBond::ActivePort(index) => emit_u32(buffer, *index),
-            InfoBond::MiiMon(interval) => emit_u32(buffer, *interval),
-            InfoBond::UpDelay(delay) => emit_u32(buffer, *delay),
-            InfoBond::DownDelay(delay) => emit_u32(buffer, *delay),
-            InfoBond::UseCarrier(carrier) => emit_u8(buffer, u8::from(*carrier)),
-            InfoBond::ArpInterval(interval) => emit_u32(buffer, *interval),
-            InfoBond::ArpIpTarget(targets) => emit_addresses(targets, buffer),
-            InfoBond::ArpValidate(choice) => emit_u32(buffer, u32::from(*choice)),
-            InfoBond::ArpAllTargets(choice) => emit_u32(buffer, u32::from(*choice)),
-            InfoBond::Primary(index) => emit_u32(buffer, *index),
-            InfoBond::PrimaryReselect(choice) => emit_u8(buffer, u8::from(*choice)),
-            InfoBond::FailOverMac(choice) => emit_u8(buffer, u8::from(*choice)),
-            InfoBond::XmitHashPolicy(policy) => emit_u8(buffer, u8::from(*policy)),
-            InfoBond::ResendIgmp(count) => emit_u32(buffer, *count),
-            InfoBond::NumPeerNotif(count) => emit_u8(buffer, *count),
-            InfoBond::AllPortsActive(choice) => emit_u8(buffer, u8::from(*choice)),
-            InfoBond::MinLinks(count) => emit_u32(buffer, *count),
-            InfoBond::LpInterval(interval) => emit_u32(buffer, *interval),
-            InfoBond::PacketsPerPort(count) => emit_u32(buffer, *count),
-            InfoBond::AdLacpRate(rate) => emit_u8(buffer, u8::from(*rate)),
-            InfoBond::AdSelect(rule) => emit_u8(buffer, u8::from(*rule)),
-            InfoBond::AdInfo(infos) => emit_nested(infos, buffer),
-            InfoBond::AdActorSysPrio(priority) => emit_u16(buffer, *priority),
-            InfoBond::AdUserPortKey(key) => emit_u16(buffer, *key),
-            InfoBond::AdActorSystem(address) => emit_mac(buffer, address),
-            InfoBond::TlbDynamicLb(moved) => emit_u8(buffer, u8::from(*moved)),
-            InfoBond::PeerNotifDelay(delay) => emit_u32(buffer, *delay),
-            InfoBond::AdLacpActive(active) => emit_u8(buffer, u8::from(*active)),
-            InfoBond::MissedMax(count) => emit_u8(buffer, *count),
-            InfoBond::NsIp6Target(targets) => emit_addresses(targets, buffer),
-            InfoBond::CoupledControl(coupled) => emit_u8(buffer, u8::from(*coupled)),
-            InfoBond::BroadcastNeigh(broadcast) => emit_u8(buffer, u8::from(*broadcast)),
-            InfoBond::LacpStrict(strict) => emit_u8(buffer, u8::from(*strict)),
-            InfoBond::Other(other) => other.emit_value(buffer),
-        }
+        bond_rows!(emit(self, buffer))
     }
 }
 
 impl Parseable for InfoBond {
-    #[tactic(auto, using(link_base::proofs::KindFaults::under_nested))]
     fn parse_payload<P: Place<Self>>(
         alloc: Global,
         buffer: &NlaBuffer<'_>,
         place: &mut P,
     ) -> Result<(), DecodeError> {
-        let kind = buffer.kind();
-        let payload = buffer.value();
-        match kind {
-            IFLA_BOND_MODE => keep(place, parse_u8(payload).map(|n| Self::Mode(n.into()))),
-            IFLA_BOND_ACTIVE_SLAVE => keep(place, parse_u32(payload).map(Self::ActivePort)),
-            IFLA_BOND_MIIMON => keep(place, parse_u32(payload).map(Self::MiiMon)),
-            IFLA_BOND_UPDELAY => keep(place, parse_u32(payload).map(Self::UpDelay)),
-            IFLA_BOND_DOWNDELAY => keep(place, parse_u32(payload).map(Self::DownDelay)),
-            IFLA_BOND_USE_CARRIER => keep(place, parse_bool(payload).map(Self::UseCarrier)),
-            IFLA_BOND_ARP_INTERVAL => keep(place, parse_u32(payload).map(Self::ArpInterval)),
-            IFLA_BOND_ARP_IP_TARGET => keep(
-                place,
-                read_addresses(alloc, kind, payload).map(Self::ArpIpTarget),
-            ),
-            IFLA_BOND_ARP_VALIDATE => keep(
-                place,
-                parse_u32(payload).map(|n| Self::ArpValidate(n.into())),
-            ),
-            IFLA_BOND_ARP_ALL_TARGETS => keep(
-                place,
-                parse_u32(payload).map(|n| Self::ArpAllTargets(n.into())),
-            ),
-            IFLA_BOND_PRIMARY => keep(place, parse_u32(payload).map(Self::Primary)),
-            IFLA_BOND_PRIMARY_RESELECT => keep(
-                place,
-                parse_u8(payload).map(|n| Self::PrimaryReselect(n.into())),
-            ),
-            IFLA_BOND_FAIL_OVER_MAC => keep(
-                place,
-                parse_u8(payload).map(|n| Self::FailOverMac(n.into())),
-            ),
-            IFLA_BOND_XMIT_HASH_POLICY => keep(
-                place,
-                parse_u8(payload).map(|n| Self::XmitHashPolicy(n.into())),
-            ),
-            IFLA_BOND_RESEND_IGMP => keep(place, parse_u32(payload).map(Self::ResendIgmp)),
-            IFLA_BOND_NUM_PEER_NOTIF => keep(place, parse_u8(payload).map(Self::NumPeerNotif)),
-            IFLA_BOND_ALL_SLAVES_ACTIVE => keep(
-                place,
-                parse_u8(payload).map(|n| Self::AllPortsActive(n.into())),
-            ),
-            IFLA_BOND_MIN_LINKS => keep(place, parse_u32(payload).map(Self::MinLinks)),
-            IFLA_BOND_LP_INTERVAL => keep(place, parse_u32(payload).map(Self::LpInterval)),
-            IFLA_BOND_PACKETS_PER_SLAVE => keep(
-                place,
-                parse_u32(payload).map(Self::PacketsPerPort),
-            ),
-            IFLA_BOND_AD_LACP_RATE => keep(
-                place,
-                parse_u8(payload).map(|n| Self::AdLacpRate(n.into())),
-            ),
-            IFLA_BOND_AD_SELECT => keep(place, parse_u8(payload).map(|n| Self::AdSelect(n.into()))),
-            IFLA_BOND_AD_INFO => keep(place, read_nested(alloc, kind, payload).map(Self::AdInfo)),
-            IFLA_BOND_AD_ACTOR_SYS_PRIO => keep(
-                place,
-                parse_u16(payload).map(Self::AdActorSysPrio),
-            ),
-            IFLA_BOND_AD_USER_PORT_KEY => keep(place, parse_u16(payload).map(Self::AdUserPortKey)),
-            IFLA_BOND_AD_ACTOR_SYSTEM => keep(place, parse_mac(payload).map(Self::AdActorSystem)),
-            IFLA_BOND_TLB_DYNAMIC_LB => keep(place, parse_bool(payload).map(Self::TlbDynamicLb)),
-            IFLA_BOND_PEER_NOTIF_DELAY => keep(place, parse_u32(payload).map(Self::PeerNotifDelay)),
-            IFLA_BOND_AD_LACP_ACTIVE => keep(place, parse_bool(payload).map(Self::AdLacpActive)),
-            IFLA_BOND_MISSED_MAX => keep(place, parse_u8(payload).map(Self::MissedMax)),
-            IFLA_BOND_NS_IP6_TARGET => keep(
-                place,
-                read_addresses(alloc, kind, payload).map(Self::NsIp6Target),
-            ),
-            IFLA_BOND_COUPLED_CONTROL => keep(place, parse_bool(payload).map(Self::CoupledControl)),
-            IFLA_BOND_BROADCAST_NEIGH => keep(place, parse_bool(payload).map(Self::BroadcastNeigh)),
-            IFLA_BOND_LACP_STRICT => keep(place, parse_bool(payload).map(Self::LacpStrict)),
-            _ => keep(place, DefaultNla::parse(alloc, buffer).map(Self::Other)),
-        }
+        bond_rows!(read(alloc, buffer, place))
     }
 }
 
@@ -476,42 +228,7 @@ impl Attribute for InfoBond {
     ghost use Rattle.link_bond.specs.contracts.bond.InfoBond.{enum};
 
     fn canonical(buffer: &NlaBuffer<'_>) -> bool {
-        match buffer.kind() {
-            IFLA_BOND_MODE
-            | IFLA_BOND_PRIMARY_RESELECT
-            | IFLA_BOND_FAIL_OVER_MAC
-            | IFLA_BOND_XMIT_HASH_POLICY
-            | IFLA_BOND_NUM_PEER_NOTIF
-            | IFLA_BOND_ALL_SLAVES_ACTIVE
-            | IFLA_BOND_AD_LACP_RATE
-            | IFLA_BOND_AD_SELECT
-            | IFLA_BOND_MISSED_MAX => has_size(buffer, 1),
-            IFLA_BOND_ACTIVE_SLAVE
-            | IFLA_BOND_MIIMON
-            | IFLA_BOND_UPDELAY
-            | IFLA_BOND_DOWNDELAY
-            | IFLA_BOND_ARP_INTERVAL
-            | IFLA_BOND_ARP_VALIDATE
-            | IFLA_BOND_ARP_ALL_TARGETS
-            | IFLA_BOND_PRIMARY
-            | IFLA_BOND_RESEND_IGMP
-            | IFLA_BOND_MIN_LINKS
-            | IFLA_BOND_LP_INTERVAL
-            | IFLA_BOND_PACKETS_PER_SLAVE
-            | IFLA_BOND_PEER_NOTIF_DELAY => has_size(buffer, 4),
-            IFLA_BOND_USE_CARRIER
-            | IFLA_BOND_TLB_DYNAMIC_LB
-            | IFLA_BOND_AD_LACP_ACTIVE
-            | IFLA_BOND_COUPLED_CONTROL
-            | IFLA_BOND_BROADCAST_NEIGH
-            | IFLA_BOND_LACP_STRICT => is_truth(buffer),
-            IFLA_BOND_ARP_IP_TARGET => is_address_list(buffer, 4),
-            IFLA_BOND_AD_INFO => is_nested::<BondAdInfo>(buffer, 0),
-            IFLA_BOND_AD_ACTOR_SYS_PRIO | IFLA_BOND_AD_USER_PORT_KEY => has_size(buffer, 2),
-            IFLA_BOND_AD_ACTOR_SYSTEM => has_size(buffer, 6),
-            IFLA_BOND_NS_IP6_TARGET => is_address_list(buffer, 16),
-            _ => true,
-        }
+        bond_rows!(canonical(buffer))
     }
 
     ghost lawful = { lawful bond_table };

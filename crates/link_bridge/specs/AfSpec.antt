@@ -1,8 +1,8 @@
 -- Attributes of IFLA_AF_SPEC in AF_BRIDGE messages.
 use Rattle.std.specs.Prelude.{[], ◌∷◌, map, false}
-use Rattle.link_base.specs.Class.{Octets, Exactly, Named, Raw}
+use Rattle.link_base.specs.Class.{Named, Raw, ipv4}
 use Rattle.link_base.specs.Named.{numbers_of, seen_value}
-use Rattle.link_base.specs.Table.{Table, AttrValue, Case, row, One, Nested, Single, Inner}
+use Rattle.link_base.specs.Table.{Table, AttrValue, Case, Nested, Single, Inner, row, list_row}
 use Rattle.link_base.specs.Default.{default_means}
 use Rattle.link_bridge.specs.Flag.{flag_names, flag_seen}
 use Rattle.link_bridge.specs.Mode.{mode_names, mode_seen}
@@ -11,13 +11,13 @@ use Rattle.link_bridge.specs.TunnelInfo.{tunnel_rows, tunnel_leaf}
 use Rattle.link_bridge.specs.declared.af_spec.AfSpecBridge.{AfSpecBridge}
 use Rattle.link_bridge.specs.declared.af_spec.AfSpecBridge.TheVariants.{Flags, Mode, VlanInfo, VlanTunnelInfo, Other}
 
--- IFLA_BRIDGE_FLAGS, IFLA_BRIDGE_MODE, IFLA_BRIDGE_VLAN_INFO, IFLA_BRIDGE_VLAN_TUNNEL_INFO
+-- one row for each attribute type
 abbrev pub af_spec_table : Table
 af_spec_table =
-    row 0 (One (Named 2 (numbers_of flag_names))) ∷
-    row 1 (One (Named 2 (numbers_of mode_names))) ∷
-    row 2 (One (Octets (Exactly 4))) ∷
-    row 3 (Nested false tunnel_rows) ∷ []
+    row 0 "IFLA_BRIDGE_FLAGS" (Named 2 (numbers_of flag_names)) ∷
+    row 1 "IFLA_BRIDGE_MODE" (Named 2 (numbers_of mode_names)) ∷
+    row 2 "IFLA_BRIDGE_VLAN_INFO" ipv4 ∷
+    list_row 3 "IFLA_BRIDGE_VLAN_TUNNEL_INFO" (Nested false tunnel_rows) ∷ []
 
 -- the attribute that a value represents
 abbrev pub af_spec_means : AfSpecBridge → AttrValue

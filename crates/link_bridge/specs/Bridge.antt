@@ -1,8 +1,8 @@
 -- Bridge attributes.
 use Rattle.std.specs.Prelude.{[], ◌∷◌, map, true}
-use Rattle.link_base.specs.Class.{Unsigned, Truth, Octets, Exactly, AtLeast, Fixed, Named, Protocol, Empty, Number, Boolean, Raw, EtherType, Nothing}
+use Rattle.link_base.specs.Class.{Octets, AtLeast, Fixed, Named, Number, Boolean, Raw, EtherType, Nothing, u8, u16, u32, u64, truth, mac, vlan_protocol, no_value}
 use Rattle.link_base.specs.Named.{numbers_of, seen_value}
-use Rattle.link_base.specs.Table.{Table, AttrValue, Case, row, One, Nested, Single, Inner}
+use Rattle.link_base.specs.Table.{Table, AttrValue, Case, Nested, Single, Inner, row, list_row}
 use Rattle.link_base.specs.Protocol.{protocol_number}
 use Rattle.link_base.specs.Default.{default_means}
 use Rattle.link_bridge.specs.StpState.{stp_state_names, stp_state_seen}
@@ -14,107 +14,58 @@ use Rattle.link_bridge.specs.Querier.{querier_rows, querier_leaf}
 use Rattle.link_bridge.specs.declared.bridge.InfoBridge.{InfoBridge}
 use Rattle.link_bridge.specs.declared.bridge.InfoBridge.TheVariants as infos
 
--- one row for each attribute type; its comment is the kernel's name without IFLA_BR_. Type 40, PAD, has no row
+-- one row for each attribute type. Type 40, IFLA_BR_PAD, has no row
 abbrev pub bridge_table : Table
 bridge_table =
-    -- FORWARD_DELAY
-    row 1 (One (Unsigned 4)) ∷
-    -- HELLO_TIME
-    row 2 (One (Unsigned 4)) ∷
-    -- MAX_AGE
-    row 3 (One (Unsigned 4)) ∷
-    -- AGEING_TIME
-    row 4 (One (Unsigned 4)) ∷
-    -- STP_STATE
-    row 5 (One (Named 4 (numbers_of stp_state_names))) ∷
-    -- PRIORITY
-    row 6 (One (Unsigned 2)) ∷
-    -- VLAN_FILTERING
-    row 7 (One Truth) ∷
-    -- VLAN_PROTOCOL
-    row 8 (One Protocol) ∷
-    -- GROUP_FWD_MASK
-    row 9 (One (Unsigned 2)) ∷
-    -- ROOT_ID
-    row 10 (One (Octets (AtLeast 8))) ∷
-    -- BRIDGE_ID
-    row 11 (One (Octets (AtLeast 8))) ∷
-    -- ROOT_PORT
-    row 12 (One (Unsigned 2)) ∷
-    -- ROOT_PATH_COST
-    row 13 (One (Unsigned 4)) ∷
-    -- TOPOLOGY_CHANGE
-    row 14 (One (Unsigned 1)) ∷
-    -- TOPOLOGY_CHANGE_DETECTED
-    row 15 (One (Unsigned 1)) ∷
-    -- HELLO_TIMER
-    row 16 (One (Unsigned 8)) ∷
-    -- TCN_TIMER
-    row 17 (One (Unsigned 8)) ∷
-    -- TOPOLOGY_CHANGE_TIMER
-    row 18 (One (Unsigned 8)) ∷
-    -- GC_TIMER
-    row 19 (One (Unsigned 8)) ∷
-    -- GROUP_ADDR
-    row 20 (One (Octets (Exactly 6))) ∷
-    -- FDB_FLUSH
-    row 21 (One Empty) ∷
-    -- MCAST_ROUTER
-    row 22 (One (Named 1 (numbers_of router_type_names))) ∷
-    -- MCAST_SNOOPING
-    row 23 (One Truth) ∷
-    -- MCAST_QUERY_USE_IFADDR
-    row 24 (One Truth) ∷
-    -- MCAST_QUERIER
-    row 25 (One Truth) ∷
-    -- MCAST_HASH_ELASTICITY
-    row 26 (One (Unsigned 4)) ∷
-    -- MCAST_HASH_MAX
-    row 27 (One (Unsigned 4)) ∷
-    -- MCAST_LAST_MEMBER_CNT
-    row 28 (One (Unsigned 4)) ∷
-    -- MCAST_STARTUP_QUERY_CNT
-    row 29 (One (Unsigned 4)) ∷
-    -- MCAST_LAST_MEMBER_INTVL
-    row 30 (One (Unsigned 8)) ∷
-    -- MCAST_MEMBERSHIP_INTVL
-    row 31 (One (Unsigned 8)) ∷
-    -- MCAST_QUERIER_INTVL
-    row 32 (One (Unsigned 8)) ∷
-    -- MCAST_QUERY_INTVL
-    row 33 (One (Unsigned 8)) ∷
-    -- MCAST_QUERY_RESPONSE_INTVL
-    row 34 (One (Unsigned 8)) ∷
-    -- MCAST_STARTUP_QUERY_INTVL
-    row 35 (One (Unsigned 8)) ∷
-    -- NF_CALL_IPTABLES
-    row 36 (One Truth) ∷
-    -- NF_CALL_IP6TABLES
-    row 37 (One Truth) ∷
-    -- NF_CALL_ARPTABLES
-    row 38 (One Truth) ∷
-    -- VLAN_DEFAULT_PVID
-    row 39 (One (Unsigned 2)) ∷
-    -- VLAN_STATS_ENABLED
-    row 41 (One Truth) ∷
-    -- MCAST_STATS_ENABLED
-    row 42 (One Truth) ∷
-    -- MCAST_IGMP_VERSION
-    row 43 (One (Unsigned 1)) ∷
-    -- MCAST_MLD_VERSION
-    row 44 (One (Unsigned 1)) ∷
-    -- VLAN_STATS_PER_PORT
-    row 45 (One Truth) ∷
-    -- MULTI_BOOLOPT
-    row 46 (One (Octets (Fixed 8))) ∷
-    -- MCAST_QUERIER_STATE
-    row 47 (Nested true querier_rows) ∷
-    -- FDB_N_LEARNED
-    row 48 (One (Unsigned 4)) ∷
-    -- FDB_MAX_LEARNED
-    row 49 (One (Unsigned 4)) ∷
-    -- STP_MODE
-    row 50 (One (Named 4 (numbers_of stp_mode_names))) ∷ []
+    row 1 "IFLA_BR_FORWARD_DELAY" u32 ∷
+    row 2 "IFLA_BR_HELLO_TIME" u32 ∷
+    row 3 "IFLA_BR_MAX_AGE" u32 ∷
+    row 4 "IFLA_BR_AGEING_TIME" u32 ∷
+    row 5 "IFLA_BR_STP_STATE" (Named 4 (numbers_of stp_state_names)) ∷
+    row 6 "IFLA_BR_PRIORITY" u16 ∷
+    row 7 "IFLA_BR_VLAN_FILTERING" truth ∷
+    row 8 "IFLA_BR_VLAN_PROTOCOL" vlan_protocol ∷
+    row 9 "IFLA_BR_GROUP_FWD_MASK" u16 ∷
+    row 10 "IFLA_BR_ROOT_ID" (Octets (AtLeast 8)) ∷
+    row 11 "IFLA_BR_BRIDGE_ID" (Octets (AtLeast 8)) ∷
+    row 12 "IFLA_BR_ROOT_PORT" u16 ∷
+    row 13 "IFLA_BR_ROOT_PATH_COST" u32 ∷
+    row 14 "IFLA_BR_TOPOLOGY_CHANGE" u8 ∷
+    row 15 "IFLA_BR_TOPOLOGY_CHANGE_DETECTED" u8 ∷
+    row 16 "IFLA_BR_HELLO_TIMER" u64 ∷
+    row 17 "IFLA_BR_TCN_TIMER" u64 ∷
+    row 18 "IFLA_BR_TOPOLOGY_CHANGE_TIMER" u64 ∷
+    row 19 "IFLA_BR_GC_TIMER" u64 ∷
+    row 20 "IFLA_BR_GROUP_ADDR" mac ∷
+    row 21 "IFLA_BR_FDB_FLUSH" no_value ∷
+    row 22 "IFLA_BR_MCAST_ROUTER" (Named 1 (numbers_of router_type_names)) ∷
+    row 23 "IFLA_BR_MCAST_SNOOPING" truth ∷
+    row 24 "IFLA_BR_MCAST_QUERY_USE_IFADDR" truth ∷
+    row 25 "IFLA_BR_MCAST_QUERIER" truth ∷
+    row 26 "IFLA_BR_MCAST_HASH_ELASTICITY" u32 ∷
+    row 27 "IFLA_BR_MCAST_HASH_MAX" u32 ∷
+    row 28 "IFLA_BR_MCAST_LAST_MEMBER_CNT" u32 ∷
+    row 29 "IFLA_BR_MCAST_STARTUP_QUERY_CNT" u32 ∷
+    row 30 "IFLA_BR_MCAST_LAST_MEMBER_INTVL" u64 ∷
+    row 31 "IFLA_BR_MCAST_MEMBERSHIP_INTVL" u64 ∷
+    row 32 "IFLA_BR_MCAST_QUERIER_INTVL" u64 ∷
+    row 33 "IFLA_BR_MCAST_QUERY_INTVL" u64 ∷
+    row 34 "IFLA_BR_MCAST_QUERY_RESPONSE_INTVL" u64 ∷
+    row 35 "IFLA_BR_MCAST_STARTUP_QUERY_INTVL" u64 ∷
+    row 36 "IFLA_BR_NF_CALL_IPTABLES" truth ∷
+    row 37 "IFLA_BR_NF_CALL_IP6TABLES" truth ∷
+    row 38 "IFLA_BR_NF_CALL_ARPTABLES" truth ∷
+    row 39 "IFLA_BR_VLAN_DEFAULT_PVID" u16 ∷
+    row 41 "IFLA_BR_VLAN_STATS_ENABLED" truth ∷
+    row 42 "IFLA_BR_MCAST_STATS_ENABLED" truth ∷
+    row 43 "IFLA_BR_MCAST_IGMP_VERSION" u8 ∷
+    row 44 "IFLA_BR_MCAST_MLD_VERSION" u8 ∷
+    row 45 "IFLA_BR_VLAN_STATS_PER_PORT" truth ∷
+    row 46 "IFLA_BR_MULTI_BOOLOPT" (Octets (Fixed 8)) ∷
+    list_row 47 "IFLA_BR_MCAST_QUERIER_STATE" (Nested true querier_rows) ∷
+    row 48 "IFLA_BR_FDB_N_LEARNED" u32 ∷
+    row 49 "IFLA_BR_FDB_MAX_LEARNED" u32 ∷
+    row 50 "IFLA_BR_STP_MODE" (Named 4 (numbers_of stp_mode_names)) ∷ []
 
 -- the attribute that a value represents
 abbrev pub bridge_means : InfoBridge → AttrValue

@@ -1,8 +1,8 @@
 -- Bridge port attributes.
 use Rattle.std.specs.Prelude.{ℕ, List, [], ◌∷◌}
-use Rattle.link_base.specs.Class.{Unsigned, Truth, Octets, AtLeast, Named, Empty, Number, Boolean, Raw, Nothing}
+use Rattle.link_base.specs.Class.{Octets, AtLeast, Named, Number, Boolean, Raw, Nothing, u16, u32, u64, truth, no_value}
 use Rattle.link_base.specs.Named.{numbers_of, seen_value}
-use Rattle.link_base.specs.Table.{Table, AttrValue, Case, row, One, Single}
+use Rattle.link_base.specs.Table.{Table, AttrValue, Case, Single, row}
 use Rattle.link_base.specs.Default.{default_means}
 use Rattle.link_bridge.specs.PortState.{port_state_names, port_state_seen}
 use Rattle.link_bridge.specs.RouterType.{router_type_names, router_type_seen}
@@ -10,97 +10,53 @@ use Rattle.link_bridge.specs.Id.{id_octets}
 use Rattle.link_bridge.specs.declared.bridge_port.InfoBridgePort.{InfoBridgePort}
 use Rattle.link_bridge.specs.declared.bridge_port.InfoBridgePort.TheVariants as infos
 
--- one row for each attribute type; its comment is the kernel's name without IFLA_BRPORT_. Type 26, PAD, has no row
+-- one row for each attribute type. Type 26, IFLA_BRPORT_PAD, has no row
 abbrev pub bridge_port_table : Table
 bridge_port_table =
-    -- STATE
-    row 1 (One (Named 1 (numbers_of port_state_names))) ∷
-    -- PRIORITY
-    row 2 (One (Unsigned 2)) ∷
-    -- COST
-    row 3 (One (Unsigned 4)) ∷
-    -- MODE
-    row 4 (One Truth) ∷
-    -- GUARD
-    row 5 (One Truth) ∷
-    -- PROTECT
-    row 6 (One Truth) ∷
-    -- FAST_LEAVE
-    row 7 (One Truth) ∷
-    -- LEARNING
-    row 8 (One Truth) ∷
-    -- UNICAST_FLOOD
-    row 9 (One Truth) ∷
-    -- PROXYARP
-    row 10 (One Truth) ∷
-    -- LEARNING_SYNC
-    row 11 (One Truth) ∷
-    -- PROXYARP_WIFI
-    row 12 (One Truth) ∷
-    -- ROOT_ID
-    row 13 (One (Octets (AtLeast 8))) ∷
-    -- BRIDGE_ID
-    row 14 (One (Octets (AtLeast 8))) ∷
-    -- DESIGNATED_PORT
-    row 15 (One (Unsigned 2)) ∷
-    -- DESIGNATED_COST
-    row 16 (One (Unsigned 2)) ∷
-    -- ID
-    row 17 (One (Unsigned 2)) ∷
-    -- NO
-    row 18 (One (Unsigned 2)) ∷
-    -- TOPOLOGY_CHANGE_ACK
-    row 19 (One Truth) ∷
-    -- CONFIG_PENDING
-    row 20 (One Truth) ∷
-    -- MESSAGE_AGE_TIMER
-    row 21 (One (Unsigned 8)) ∷
-    -- FORWARD_DELAY_TIMER
-    row 22 (One (Unsigned 8)) ∷
-    -- HOLD_TIMER
-    row 23 (One (Unsigned 8)) ∷
-    -- FLUSH
-    row 24 (One Empty) ∷
-    -- MULTICAST_ROUTER
-    row 25 (One (Named 1 (numbers_of router_type_names))) ∷
-    -- MCAST_FLOOD
-    row 27 (One Truth) ∷
-    -- MCAST_TO_UCAST
-    row 28 (One Truth) ∷
-    -- VLAN_TUNNEL
-    row 29 (One Truth) ∷
-    -- BCAST_FLOOD
-    row 30 (One Truth) ∷
-    -- GROUP_FWD_MASK
-    row 31 (One (Unsigned 2)) ∷
-    -- NEIGH_SUPPRESS
-    row 32 (One Truth) ∷
-    -- ISOLATED
-    row 33 (One Truth) ∷
-    -- BACKUP_PORT
-    row 34 (One (Unsigned 4)) ∷
-    -- MRP_RING_OPEN
-    row 35 (One Truth) ∷
-    -- MRP_IN_OPEN
-    row 36 (One Truth) ∷
-    -- MCAST_EHT_HOSTS_LIMIT
-    row 37 (One (Unsigned 4)) ∷
-    -- MCAST_EHT_HOSTS_CNT
-    row 38 (One (Unsigned 4)) ∷
-    -- LOCKED
-    row 39 (One Truth) ∷
-    -- MAB
-    row 40 (One Truth) ∷
-    -- MCAST_N_GROUPS
-    row 41 (One (Unsigned 4)) ∷
-    -- MCAST_MAX_GROUPS
-    row 42 (One (Unsigned 4)) ∷
-    -- NEIGH_VLAN_SUPPRESS
-    row 43 (One Truth) ∷
-    -- BACKUP_NHID
-    row 44 (One (Unsigned 4)) ∷
-    -- NEIGH_FORWARD_GRAT
-    row 45 (One Truth) ∷ []
+    row 1 "IFLA_BRPORT_STATE" (Named 1 (numbers_of port_state_names)) ∷
+    row 2 "IFLA_BRPORT_PRIORITY" u16 ∷
+    row 3 "IFLA_BRPORT_COST" u32 ∷
+    row 4 "IFLA_BRPORT_MODE" truth ∷
+    row 5 "IFLA_BRPORT_GUARD" truth ∷
+    row 6 "IFLA_BRPORT_PROTECT" truth ∷
+    row 7 "IFLA_BRPORT_FAST_LEAVE" truth ∷
+    row 8 "IFLA_BRPORT_LEARNING" truth ∷
+    row 9 "IFLA_BRPORT_UNICAST_FLOOD" truth ∷
+    row 10 "IFLA_BRPORT_PROXYARP" truth ∷
+    row 11 "IFLA_BRPORT_LEARNING_SYNC" truth ∷
+    row 12 "IFLA_BRPORT_PROXYARP_WIFI" truth ∷
+    row 13 "IFLA_BRPORT_ROOT_ID" (Octets (AtLeast 8)) ∷
+    row 14 "IFLA_BRPORT_BRIDGE_ID" (Octets (AtLeast 8)) ∷
+    row 15 "IFLA_BRPORT_DESIGNATED_PORT" u16 ∷
+    row 16 "IFLA_BRPORT_DESIGNATED_COST" u16 ∷
+    row 17 "IFLA_BRPORT_ID" u16 ∷
+    row 18 "IFLA_BRPORT_NO" u16 ∷
+    row 19 "IFLA_BRPORT_TOPOLOGY_CHANGE_ACK" truth ∷
+    row 20 "IFLA_BRPORT_CONFIG_PENDING" truth ∷
+    row 21 "IFLA_BRPORT_MESSAGE_AGE_TIMER" u64 ∷
+    row 22 "IFLA_BRPORT_FORWARD_DELAY_TIMER" u64 ∷
+    row 23 "IFLA_BRPORT_HOLD_TIMER" u64 ∷
+    row 24 "IFLA_BRPORT_FLUSH" no_value ∷
+    row 25 "IFLA_BRPORT_MULTICAST_ROUTER" (Named 1 (numbers_of router_type_names)) ∷
+    row 27 "IFLA_BRPORT_MCAST_FLOOD" truth ∷
+    row 28 "IFLA_BRPORT_MCAST_TO_UCAST" truth ∷
+    row 29 "IFLA_BRPORT_VLAN_TUNNEL" truth ∷
+    row 30 "IFLA_BRPORT_BCAST_FLOOD" truth ∷
+    row 31 "IFLA_BRPORT_GROUP_FWD_MASK" u16 ∷
+    row 32 "IFLA_BRPORT_NEIGH_SUPPRESS" truth ∷
+    row 33 "IFLA_BRPORT_ISOLATED" truth ∷
+    row 34 "IFLA_BRPORT_BACKUP_PORT" u32 ∷
+    row 35 "IFLA_BRPORT_MRP_RING_OPEN" truth ∷
+    row 36 "IFLA_BRPORT_MRP_IN_OPEN" truth ∷
+    row 37 "IFLA_BRPORT_MCAST_EHT_HOSTS_LIMIT" u32 ∷
+    row 38 "IFLA_BRPORT_MCAST_EHT_HOSTS_CNT" u32 ∷
+    row 39 "IFLA_BRPORT_LOCKED" truth ∷
+    row 40 "IFLA_BRPORT_MAB" truth ∷
+    row 41 "IFLA_BRPORT_MCAST_N_GROUPS" u32 ∷
+    row 42 "IFLA_BRPORT_MCAST_MAX_GROUPS" u32 ∷
+    row 43 "IFLA_BRPORT_NEIGH_VLAN_SUPPRESS" truth ∷
+    row 44 "IFLA_BRPORT_BACKUP_NHID" u32 ∷
+    row 45 "IFLA_BRPORT_NEIGH_FORWARD_GRAT" truth ∷ []
 
 -- the attribute types that the second version of the table adds
 abbrev pub bridge_port_added : List ℕ
@@ -109,49 +65,49 @@ bridge_port_added = 11 ∷ []
 -- the first version of the table
 abbrev pub bridge_port_table_first : Table
 bridge_port_table_first =
-    row 1 (One (Named 1 (numbers_of port_state_names))) ∷
-    row 2 (One (Unsigned 2)) ∷
-    row 3 (One (Unsigned 4)) ∷
-    row 4 (One Truth) ∷
-    row 5 (One Truth) ∷
-    row 6 (One Truth) ∷
-    row 7 (One Truth) ∷
-    row 8 (One Truth) ∷
-    row 9 (One Truth) ∷
-    row 10 (One Truth) ∷
-    row 12 (One Truth) ∷
-    row 13 (One (Octets (AtLeast 8))) ∷
-    row 14 (One (Octets (AtLeast 8))) ∷
-    row 15 (One (Unsigned 2)) ∷
-    row 16 (One (Unsigned 2)) ∷
-    row 17 (One (Unsigned 2)) ∷
-    row 18 (One (Unsigned 2)) ∷
-    row 19 (One Truth) ∷
-    row 20 (One Truth) ∷
-    row 21 (One (Unsigned 8)) ∷
-    row 22 (One (Unsigned 8)) ∷
-    row 23 (One (Unsigned 8)) ∷
-    row 24 (One Empty) ∷
-    row 25 (One (Named 1 (numbers_of router_type_names))) ∷
-    row 27 (One Truth) ∷
-    row 28 (One Truth) ∷
-    row 29 (One Truth) ∷
-    row 30 (One Truth) ∷
-    row 31 (One (Unsigned 2)) ∷
-    row 32 (One Truth) ∷
-    row 33 (One Truth) ∷
-    row 34 (One (Unsigned 4)) ∷
-    row 35 (One Truth) ∷
-    row 36 (One Truth) ∷
-    row 37 (One (Unsigned 4)) ∷
-    row 38 (One (Unsigned 4)) ∷
-    row 39 (One Truth) ∷
-    row 40 (One Truth) ∷
-    row 41 (One (Unsigned 4)) ∷
-    row 42 (One (Unsigned 4)) ∷
-    row 43 (One Truth) ∷
-    row 44 (One (Unsigned 4)) ∷
-    row 45 (One Truth) ∷ []
+    row 1 "IFLA_BRPORT_STATE" (Named 1 (numbers_of port_state_names)) ∷
+    row 2 "IFLA_BRPORT_PRIORITY" u16 ∷
+    row 3 "IFLA_BRPORT_COST" u32 ∷
+    row 4 "IFLA_BRPORT_MODE" truth ∷
+    row 5 "IFLA_BRPORT_GUARD" truth ∷
+    row 6 "IFLA_BRPORT_PROTECT" truth ∷
+    row 7 "IFLA_BRPORT_FAST_LEAVE" truth ∷
+    row 8 "IFLA_BRPORT_LEARNING" truth ∷
+    row 9 "IFLA_BRPORT_UNICAST_FLOOD" truth ∷
+    row 10 "IFLA_BRPORT_PROXYARP" truth ∷
+    row 12 "IFLA_BRPORT_PROXYARP_WIFI" truth ∷
+    row 13 "IFLA_BRPORT_ROOT_ID" (Octets (AtLeast 8)) ∷
+    row 14 "IFLA_BRPORT_BRIDGE_ID" (Octets (AtLeast 8)) ∷
+    row 15 "IFLA_BRPORT_DESIGNATED_PORT" u16 ∷
+    row 16 "IFLA_BRPORT_DESIGNATED_COST" u16 ∷
+    row 17 "IFLA_BRPORT_ID" u16 ∷
+    row 18 "IFLA_BRPORT_NO" u16 ∷
+    row 19 "IFLA_BRPORT_TOPOLOGY_CHANGE_ACK" truth ∷
+    row 20 "IFLA_BRPORT_CONFIG_PENDING" truth ∷
+    row 21 "IFLA_BRPORT_MESSAGE_AGE_TIMER" u64 ∷
+    row 22 "IFLA_BRPORT_FORWARD_DELAY_TIMER" u64 ∷
+    row 23 "IFLA_BRPORT_HOLD_TIMER" u64 ∷
+    row 24 "IFLA_BRPORT_FLUSH" no_value ∷
+    row 25 "IFLA_BRPORT_MULTICAST_ROUTER" (Named 1 (numbers_of router_type_names)) ∷
+    row 27 "IFLA_BRPORT_MCAST_FLOOD" truth ∷
+    row 28 "IFLA_BRPORT_MCAST_TO_UCAST" truth ∷
+    row 29 "IFLA_BRPORT_VLAN_TUNNEL" truth ∷
+    row 30 "IFLA_BRPORT_BCAST_FLOOD" truth ∷
+    row 31 "IFLA_BRPORT_GROUP_FWD_MASK" u16 ∷
+    row 32 "IFLA_BRPORT_NEIGH_SUPPRESS" truth ∷
+    row 33 "IFLA_BRPORT_ISOLATED" truth ∷
+    row 34 "IFLA_BRPORT_BACKUP_PORT" u32 ∷
+    row 35 "IFLA_BRPORT_MRP_RING_OPEN" truth ∷
+    row 36 "IFLA_BRPORT_MRP_IN_OPEN" truth ∷
+    row 37 "IFLA_BRPORT_MCAST_EHT_HOSTS_LIMIT" u32 ∷
+    row 38 "IFLA_BRPORT_MCAST_EHT_HOSTS_CNT" u32 ∷
+    row 39 "IFLA_BRPORT_LOCKED" truth ∷
+    row 40 "IFLA_BRPORT_MAB" truth ∷
+    row 41 "IFLA_BRPORT_MCAST_N_GROUPS" u32 ∷
+    row 42 "IFLA_BRPORT_MCAST_MAX_GROUPS" u32 ∷
+    row 43 "IFLA_BRPORT_NEIGH_VLAN_SUPPRESS" truth ∷
+    row 44 "IFLA_BRPORT_BACKUP_NHID" u32 ∷
+    row 45 "IFLA_BRPORT_NEIGH_FORWARD_GRAT" truth ∷ []
 
 -- the attribute that a value represents
 abbrev pub bridge_port_means : InfoBridgePort → AttrValue

@@ -1,14 +1,14 @@
 -- Attributes of IFLA_PROTINFO in AF_BRIDGE messages.
 use Rattle.std.specs.Prelude.{[], ◌∷◌}
-use Rattle.link_base.specs.Class.{Truth, Boolean}
-use Rattle.link_base.specs.Table.{Table, AttrValue, Case, row, One, Single}
+use Rattle.link_base.specs.Class.{Boolean, truth}
+use Rattle.link_base.specs.Table.{Table, AttrValue, Case, Single, row}
 use Rattle.link_base.specs.Default.{default_means}
 use Rattle.link_bridge.specs.declared.proto_info.LinkProtoInfoBridge.{LinkProtoInfoBridge}
 use Rattle.link_bridge.specs.declared.proto_info.LinkProtoInfoBridge.TheVariants.{NeighForwardGrat, Other}
 
--- IFLA_BRPORT_NEIGH_FORWARD_GRAT
+-- one row for each attribute type
 abbrev pub proto_info_table : Table
-proto_info_table = row 45 (One Truth) ∷ []
+proto_info_table = row 45 "IFLA_BRPORT_NEIGH_FORWARD_GRAT" truth ∷ []
 
 -- the attribute that a value represents
 abbrev pub proto_info_means : LinkProtoInfoBridge → AttrValue

@@ -1,22 +1,21 @@
 -- The multicast queriers known to a bridge.
 use Rattle.std.specs.Prelude.{[], ◌∷◌}
-use Rattle.link_base.specs.Class.{Unsigned, Octets, Exactly, Number, Raw}
+use Rattle.link_base.specs.Class.{Number, Raw, u32, u64, ipv4, ipv6}
 use Rattle.link_base.specs.IpAddress.{four_octets, sixteen_octets}
-use Rattle.link_base.specs.Table.{Rows, Leaf, Case, row}
+use Rattle.link_base.specs.Table.{Rows, Leaf, Case, leaf_row}
 use Rattle.link_base.specs.Default.{default_means}
 use Rattle.link_bridge.specs.declared.bridge.querier.BridgeQuerierState.{BridgeQuerierState}
 use Rattle.link_bridge.specs.declared.bridge.querier.BridgeQuerierState.TheVariants.{Ipv4Address, Ipv4Port, Ipv4OtherTimer, Ipv6Address, Ipv6Port, Ipv6OtherTimer, Other}
 
--- BRIDGE_QUERIER_IP_ADDRESS, BRIDGE_QUERIER_IP_PORT, BRIDGE_QUERIER_IP_OTHER_TIMER, BRIDGE_QUERIER_IPV6_ADDRESS,
--- BRIDGE_QUERIER_IPV6_PORT, BRIDGE_QUERIER_IPV6_OTHER_TIMER. Type 4, BRIDGE_QUERIER_PAD, has no row
+-- one row for each attribute type. Type 4, BRIDGE_QUERIER_PAD, has no row
 abbrev pub querier_rows : Rows
 querier_rows =
-    row 1 (Octets (Exactly 4)) ∷
-    row 2 (Unsigned 4) ∷
-    row 3 (Unsigned 8) ∷
-    row 5 (Octets (Exactly 16)) ∷
-    row 6 (Unsigned 4) ∷
-    row 7 (Unsigned 8) ∷ []
+    leaf_row 1 "BRIDGE_QUERIER_IP_ADDRESS" ipv4 ∷
+    leaf_row 2 "BRIDGE_QUERIER_IP_PORT" u32 ∷
+    leaf_row 3 "BRIDGE_QUERIER_IP_OTHER_TIMER" u64 ∷
+    leaf_row 5 "BRIDGE_QUERIER_IPV6_ADDRESS" ipv6 ∷
+    leaf_row 6 "BRIDGE_QUERIER_IPV6_PORT" u32 ∷
+    leaf_row 7 "BRIDGE_QUERIER_IPV6_OTHER_TIMER" u64 ∷ []
 
 -- the attribute that a value represents
 abbrev pub querier_leaf : BridgeQuerierState → Leaf

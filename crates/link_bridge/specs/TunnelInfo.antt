@@ -1,18 +1,18 @@
 -- A VLAN that is mapped to a tunnel.
 use Rattle.std.specs.Prelude.{[], ◌∷◌}
-use Rattle.link_base.specs.Class.{Unsigned, Number}
-use Rattle.link_base.specs.Table.{Rows, Leaf, Case, row}
+use Rattle.link_base.specs.Class.{Number, u16, u32}
+use Rattle.link_base.specs.Table.{Rows, Leaf, Case, leaf_row}
 use Rattle.link_base.specs.Default.{default_means}
 use Rattle.link_bridge.specs.VlanInfo.{vlan_info_bits}
 use Rattle.link_bridge.specs.declared.af_spec.tunnel.BridgeVlanTunnelInfo.{BridgeVlanTunnelInfo}
 use Rattle.link_bridge.specs.declared.af_spec.tunnel.BridgeVlanTunnelInfo.TheVariants.{Id, Vid, Flags, Other}
 
--- IFLA_BRIDGE_VLAN_TUNNEL_ID, IFLA_BRIDGE_VLAN_TUNNEL_VID, IFLA_BRIDGE_VLAN_TUNNEL_FLAGS
+-- one row for each attribute type
 abbrev pub tunnel_rows : Rows
 tunnel_rows =
-    row 1 (Unsigned 4) ∷
-    row 2 (Unsigned 2) ∷
-    row 3 (Unsigned 2) ∷ []
+    leaf_row 1 "IFLA_BRIDGE_VLAN_TUNNEL_ID" u32 ∷
+    leaf_row 2 "IFLA_BRIDGE_VLAN_TUNNEL_VID" u16 ∷
+    leaf_row 3 "IFLA_BRIDGE_VLAN_TUNNEL_FLAGS" u16 ∷ []
 
 -- the attribute that a value represents
 abbrev pub tunnel_leaf : BridgeVlanTunnelInfo → Leaf

@@ -14,24 +14,14 @@ mod vlan_info_flags;
 
 pub use flag::BridgeFlag;
 use link_base::{
-    Attribute, DecodeError, DefaultNla, ListError, Meaning, Nla, NlaBuffer, Parseable, Place,
-    TryClone, emit_nested, emit_u16, has_size, is_nested, keep, nested_len, parse_u16, read_list,
-    read_nested, try_clone_list,
+    Attribute, DecodeError, DefaultNla, ListError, Meaning, Named, NestedList, Nla, NlaBuffer,
+    Parseable, Place, Struct, TryClone, read_list,
 };
 pub use mode::BridgeMode;
 use std::alloc::{AllocError, Global};
 pub use tunnel::BridgeVlanTunnelInfo;
 pub use vlan_info::BridgeVlanInfo;
 pub use vlan_info_flags::BridgeVlanInfoFlags;
-
-// `include/uapi/linux/if_bridge.h`
-const IFLA_BRIDGE_FLAGS: u16 = 0;
-
-const IFLA_BRIDGE_MODE: u16 = 1;
-
-const IFLA_BRIDGE_VLAN_INFO: u16 = 2;
-
-const IFLA_BRIDGE_VLAN_TUNNEL_INFO: u16 = 3;
 
 /// An attribute of a bridge or bridge port in `IFLA_AF_SPEC` of an AF_BRIDGE message (`IFLA_BRIDGE_*`,
 /// `include/uapi/linux/if_bridge.h`).
@@ -70,18 +60,21 @@ impl VecAfSpecBridge {
     }
 }
 
+/// The attribute types (`IFLA_BRIDGE_*`), the variant of each, and the class of its payload.
+macro_rules! af_spec_rows {
+    ($call:ident($($argument:tt)*)) => {
+        link_base::by_rows! { $call($($argument)*)
+            IFLA_BRIDGE_FLAGS = 0, Flags: Named<BridgeFlag>;
+            IFLA_BRIDGE_MODE = 1, Mode: Named<BridgeMode>;
+            IFLA_BRIDGE_VLAN_INFO = 2, VlanInfo: Struct<BridgeVlanInfo>;
+            IFLA_BRIDGE_VLAN_TUNNEL_INFO = 3, VlanTunnelInfo: NestedList<BridgeVlanTunnelInfo>;
+        }
+    };
+}
+
 impl TryClone for AfSpecBridge {
     fn try_clone(&self, alloc: Global) -> Result<Self, AllocError> {
-        match self {
-            AfSpecBridge::Flags(flag) => Ok(AfSpecBridge::Flags(*flag)),
-            AfSpecBridge::Mode(mode) => Ok(AfSpecBridge::Mode(*mode)),
-            AfSpecBridge::VlanInfo(info) => Ok(AfSpecBridge::VlanInfo(*info)),
-            AfSpecBridge::VlanTunnelInfo(tunnels) => {
-                let tunnels = try_clone_list(alloc, tunnels)?;
-                Ok(AfSpecBridge::VlanTunnelInfo(tunnels))
-            }
-            AfSpecBridge::Other(other) => Ok(AfSpecBridge::Other(other.try_clone(alloc)?)),
-        }
+        af_spec_rows!(clone(self, alloc))
     }
 }
 
@@ -93,33 +86,15 @@ impl Meaning for AfSpecBridge {
 
 impl Nla for AfSpecBridge {
     fn kind(&self) -> u16 {
-        match self {
-            AfSpecBridge::Flags(_) => IFLA_BRIDGE_FLAGS,
-            AfSpecBridge::Mode(_) => IFLA_BRIDGE_MODE,
-            AfSpecBridge::VlanInfo(_) => IFLA_BRIDGE_VLAN_INFO,
-            AfSpecBridge::VlanTunnelInfo(_) => IFLA_BRIDGE_VLAN_TUNNEL_INFO,
-            AfSpecBridge::Other(other) => other.kind(),
-        }
+        af_spec_rows!(kind(self))
     }
 
     fn value_len(&self) -> usize {
-        match self {
-            AfSpecBridge::Flags(_) => BridgeFlag::LENGTH,
-            AfSpecBridge::Mode(_) => BridgeMode::LENGTH,
-            AfSpecBridge::VlanInfo(_) => BridgeVlanInfo::LENGTH,
-            AfSpecBridge::VlanTunnelInfo(tunnel) => nested_len(tunnel),
-            AfSpecBridge::Other(other) => other.value_len(),
-        }
+        af_spec_rows!(size(self))
     }
 
     fn emit_value(&self, buffer: &mut [u8]) {
-        match self {
-            AfSpecBridge::Flags(flag) => emit_u16(buffer, u16::from(*flag)),
-            AfSpecBridge::Mode(mode) => emit_u16(buffer, u16::from(*mode)),
-            AfSpecBridge::VlanInfo(info) => buffer.copy_from_slice(&<[u8; 4]>::from(info)),
-            AfSpecBridge::VlanTunnelInfo(tunnel) => emit_nested(tunnel, buffer),
-            AfSpecBridge::Other(other) => other.emit_value(buffer),
-        }
+        af_spec_rows!(emit(self, buffer))
     }
 }
 
@@ -129,21 +104,7 @@ impl Parseable for AfSpecBridge {
         buffer: &NlaBuffer<'_>,
         place: &mut P,
     ) -> Result<(), DecodeError> {
-        let kind = buffer.kind();
-        let payload = buffer.value();
-        match kind {
-            IFLA_BRIDGE_FLAGS => keep(place, parse_u16(payload).map(|n| Self::Flags(n.into()))),
-            IFLA_BRIDGE_MODE => keep(place, parse_u16(payload).map(|n| Self::Mode(n.into()))),
-            IFLA_BRIDGE_VLAN_INFO => keep(
-                place,
-                BridgeVlanInfo::try_from(payload).map(Self::VlanInfo),
-            ),
-            IFLA_BRIDGE_VLAN_TUNNEL_INFO => keep(
-                place,
-                read_nested(alloc, kind, payload).map(Self::VlanTunnelInfo),
-            ),
-            _ => keep(place, DefaultNla::parse(alloc, buffer).map(Self::Other)),
-        }
+        af_spec_rows!(read(alloc, buffer, place))
     }
 }
 
@@ -164,12 +125,7 @@ impl Attribute for AfSpecBridge {
     ghost use Rattle.link_bridge.specs.contracts.af_spec.AfSpecBridge.{enum};
 
     fn canonical(buffer: &NlaBuffer<'_>) -> bool {
-        match buffer.kind() {
-            IFLA_BRIDGE_FLAGS | IFLA_BRIDGE_MODE => has_size(buffer, 2),
-            IFLA_BRIDGE_VLAN_INFO => has_size(buffer, 4),
-            IFLA_BRIDGE_VLAN_TUNNEL_INFO => is_nested::<BridgeVlanTunnelInfo>(buffer, 0),
-            _ => true,
-        }
+        af_spec_rows!(canonical(buffer))
     }
 
     ghost lawful = { lawful af_spec_table };

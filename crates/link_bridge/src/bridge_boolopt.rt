@@ -9,7 +9,7 @@ mod flags;
 
 use bitflags::Flags;
 pub use flags::BridgeBooleanOptionFlags;
-use link_base::{DecodeError, Emitable, check_length, emit_u32s, u32s_at};
+use link_base::{DecodeError, Emitable, PayloadStruct, check_length, emit_u32s, u32s_at};
 
 /// Length of the options as a payload, in bytes.
 const SIZE: usize = 8;
@@ -54,5 +54,30 @@ impl Emitable for BridgeBooleanOptions {
 
     fn emit(&self, buffer: &mut [u8]) {
         emit_u32s(buffer, &[self.value.bits(), self.mask.bits()]);
+    }
+}
+
+impl PayloadStruct for BridgeBooleanOptions {
+    ghost octets = { options_octets };
+
+    ghost extent = { Fixed 8 };
+
+    #[inline]
+    fn kept_len() -> usize {
+        SIZE
+    }
+
+    #[inline]
+    fn parse_payload(payload: &[u8]) -> Result<Self, DecodeError> {
+        BridgeBooleanOptions::parse(payload)
+    }
+
+    #[inline]
+    fn payload_len(&self) -> usize {
+        self.buffer_len()
+    }
+
+    fn emit_payload(&self, buffer: &mut [u8]) {
+        self.emit(buffer);
     }
 }

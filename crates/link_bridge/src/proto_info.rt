@@ -8,13 +8,11 @@ ghost use Rattle.link_bridge.specs.ProtoInfo.{proto_info_table, proto_info_means
 
 use link_base::{
     Attribute, DecodeError, DefaultNla, ListError, Meaning, Nla, NlaBuffer, Parseable, Place,
-    TryClone, emit_u8, is_truth, keep, parse_bool, read_list,
+    TryClone, read_list,
 };
 use std::alloc::{AllocError, Global};
 
 /// `IFLA_BRPORT_NEIGH_FORWARD_GRAT`, `include/uapi/linux/if_link.h`.
-const IFLA_BRPORT_NEIGH_FORWARD_GRAT: u16 = 45;
-
 /// A bridge port attribute in `IFLA_PROTINFO` of an AF_BRIDGE message (`IFLA_BRPORT_*`,
 /// `include/uapi/linux/if_link.h`).
 #[derive(Debug, PartialEq, Eq, Drop)]
@@ -46,16 +44,18 @@ impl VecLinkProtoInfoBridge {
     }
 }
 
+/// The attribute types (`IFLA_BRPORT_*`), the variant of each, and the class of its payload.
+macro_rules! proto_info_rows {
+    ($call:ident($($argument:tt)*)) => {
+        link_base::by_rows! { $call($($argument)*)
+            IFLA_BRPORT_NEIGH_FORWARD_GRAT = 45, NeighForwardGrat: bool;
+        }
+    };
+}
+
 impl TryClone for LinkProtoInfoBridge {
     fn try_clone(&self, alloc: Global) -> Result<Self, AllocError> {
-        match self {
-            LinkProtoInfoBridge::NeighForwardGrat(enabled) => {
-                Ok(LinkProtoInfoBridge::NeighForwardGrat(*enabled))
-            }
-            LinkProtoInfoBridge::Other(other) => Ok(LinkProtoInfoBridge::Other(other.try_clone(
-                alloc,
-            )?)),
-        }
+        proto_info_rows!(clone(self, alloc))
     }
 }
 
@@ -67,24 +67,15 @@ impl Meaning for LinkProtoInfoBridge {
 
 impl Nla for LinkProtoInfoBridge {
     fn kind(&self) -> u16 {
-        match self {
-            LinkProtoInfoBridge::NeighForwardGrat(_) => IFLA_BRPORT_NEIGH_FORWARD_GRAT,
-            LinkProtoInfoBridge::Other(other) => other.kind(),
-        }
+        proto_info_rows!(kind(self))
     }
 
     fn value_len(&self) -> usize {
-        match self {
-            LinkProtoInfoBridge::NeighForwardGrat(_) => 1,
-            LinkProtoInfoBridge::Other(other) => other.value_len(),
-        }
+        proto_info_rows!(size(self))
     }
 
     fn emit_value(&self, buffer: &mut [u8]) {
-        match self {
-            LinkProtoInfoBridge::NeighForwardGrat(enabled) => emit_u8(buffer, u8::from(*enabled)),
-            LinkProtoInfoBridge::Other(other) => other.emit_value(buffer),
-        }
+        proto_info_rows!(emit(self, buffer))
     }
 }
 
@@ -94,13 +85,7 @@ impl Parseable for LinkProtoInfoBridge {
         buffer: &NlaBuffer<'_>,
         place: &mut P,
     ) -> Result<(), DecodeError> {
-        match buffer.kind() {
-            IFLA_BRPORT_NEIGH_FORWARD_GRAT => keep(
-                place,
-                parse_bool(buffer.value()).map(Self::NeighForwardGrat),
-            ),
-            _ => keep(place, DefaultNla::parse(alloc, buffer).map(Self::Other)),
-        }
+        proto_info_rows!(read(alloc, buffer, place))
     }
 }
 
@@ -111,10 +96,7 @@ impl Attribute for LinkProtoInfoBridge {
     ghost use Rattle.link_bridge.specs.contracts.proto_info.LinkProtoInfoBridge.{enum};
 
     fn canonical(buffer: &NlaBuffer<'_>) -> bool {
-        match buffer.kind() {
-            IFLA_BRPORT_NEIGH_FORWARD_GRAT => is_truth(buffer),
-            _ => true,
-        }
+        proto_info_rows!(canonical(buffer))
     }
 
     ghost lawful = { lawful proto_info_table };

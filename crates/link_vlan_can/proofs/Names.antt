@@ -1,12 +1,10 @@
 -- Names: what stands before the first NUL, and buffers that a text fills.
-use Rattle.std.proofs.Common.{◌≡◌, ℕ, zero, suc, ◌<◌, ◌≤◌, true, List, [], ◌∷◌, ◌++◌, length, take, drop, refl, sym, ap, ◌∙◌, arith, ⊎_elim}
+use Rattle.std.proofs.Common.{◌≡◌, ℕ, zero, suc, ◌<◌, ◌≤◌, true, List, [], ◌∷◌, length, take, refl, sym, ap, ◌∙◌, arith, ⊎_elim}
 use Rattle.std.specs.Prelude.{◌==◌, Option, Some, None, slice_index}
 use Rattle.std.specs.Option.{unwrap_or}
 use Rattle.std.proofs.lemmas.Bool.{cases_Bool, cond-true, cond-false}
-use Rattle.std.proofs.lemmas.List.{append-nil, nil_from_length, length-drop}
 use Rattle.bstr.specs.Find.{IsFirstByte, is_byte}
 use Rattle.link_base.specs.Name.{before_nul}
-use Rattle.link_base.specs.Answers.{OverwritesFront}
 
 -- what stands before a place, where no byte before the place is 0 and the byte at it is
 before_at : (xs : List ℕ) (n : ℕ) → n ≤ length xs → ((k : ℕ) → k < n → ¬ ((slice_index xs k == 0) ≡ true))
@@ -26,8 +24,3 @@ first_nul xs None none = before_at xs (length xs) (omega arith) (λ k lt holds. 
 first_nul xs (Some n) some =
     let high = some.0.high in
     before_at xs n (omega arith) (λ k lt holds. some.0.before k (omega arith) lt holds) (λ lt. some.1)
-
--- a text as long as the buffer is all that the buffer holds
-pub fills : (old new text : List ℕ) → OverwritesFront old new text → length old ≡ length text → new ≡ text
-fills old new text written exact =
-    written ∙ ap (λ t. text ++ t) (nil_from_length (drop (length text) old) (omega (arith, length-drop (length text) old, exact))) ∙ append-nil text

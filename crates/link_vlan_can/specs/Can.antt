@@ -1,8 +1,8 @@
 -- CAN controller attributes.
 use Rattle.std.specs.Prelude.{ℕ, List, [], ◌∷◌, map, true}
-use Rattle.link_base.specs.Class.{Unsigned, Octets, AtLeast, Fixed, Many, Limits, Number, Raw}
+use Rattle.link_base.specs.Class.{Octets, AtLeast, Fixed, Limits, Number, Raw, u16, u32, u16s, u32s}
 use Rattle.link_base.specs.Layout.{octets_of}
-use Rattle.link_base.specs.Table.{Rows, Leaf, Table, AttrValue, Case, row, One, Nested, Single, Inner}
+use Rattle.link_base.specs.Table.{Rows, Leaf, Table, AttrValue, Case, Nested, Single, Inner, row, leaf_row, list_row}
 use Rattle.link_base.specs.Default.{default_means}
 use Rattle.link_vlan_can.specs.CanFlags.{mode_bits}
 use Rattle.link_vlan_can.specs.declared.can_tdc.CanTdc.{CanTdc}
@@ -14,19 +14,18 @@ use Rattle.link_vlan_can.specs.CanLimits.{limits_value}
 use Rattle.link_vlan_can.specs.declared.can.InfoCan.{InfoCan}
 use Rattle.link_vlan_can.specs.declared.can.InfoCan.TheVariants as infos
 
--- IFLA_CAN_TDC_TDCV_MIN, IFLA_CAN_TDC_TDCV_MAX, IFLA_CAN_TDC_TDCO_MIN, IFLA_CAN_TDC_TDCO_MAX, IFLA_CAN_TDC_TDCF_MIN,
--- IFLA_CAN_TDC_TDCF_MAX, IFLA_CAN_TDC_TDCV, IFLA_CAN_TDC_TDCO, IFLA_CAN_TDC_TDCF: each a u32
+-- one row for each attribute type
 abbrev pub tdc_rows : Rows
 tdc_rows =
-    row 1 (Unsigned 4) ∷
-    row 2 (Unsigned 4) ∷
-    row 3 (Unsigned 4) ∷
-    row 4 (Unsigned 4) ∷
-    row 5 (Unsigned 4) ∷
-    row 6 (Unsigned 4) ∷
-    row 7 (Unsigned 4) ∷
-    row 8 (Unsigned 4) ∷
-    row 9 (Unsigned 4) ∷ []
+    leaf_row 1 "IFLA_CAN_TDC_TDCV_MIN" u32 ∷
+    leaf_row 2 "IFLA_CAN_TDC_TDCV_MAX" u32 ∷
+    leaf_row 3 "IFLA_CAN_TDC_TDCO_MIN" u32 ∷
+    leaf_row 4 "IFLA_CAN_TDC_TDCO_MAX" u32 ∷
+    leaf_row 5 "IFLA_CAN_TDC_TDCF_MIN" u32 ∷
+    leaf_row 6 "IFLA_CAN_TDC_TDCF_MAX" u32 ∷
+    leaf_row 7 "IFLA_CAN_TDC_TDCV" u32 ∷
+    leaf_row 8 "IFLA_CAN_TDC_TDCO" u32 ∷
+    leaf_row 9 "IFLA_CAN_TDC_TDCF" u32 ∷ []
 
 -- the attribute that a value of transmitter delay compensation represents
 abbrev pub tdc_leaf : CanTdc → Leaf
@@ -41,39 +40,35 @@ tdc_leaf (tdcs.Tdco periods) = Case 8 (Number 4 periods)
 tdc_leaf (tdcs.Tdcf periods) = Case 9 (Number 4 periods)
 tdc_leaf (tdcs.Other other) = default_means other
 
--- IFLA_CAN_CTRLMODE_SUPPORTED
+-- one row for each attribute type
 abbrev pub mode_rows : Rows
-mode_rows = row 1 (Unsigned 4) ∷ []
+mode_rows = leaf_row 1 "IFLA_CAN_CTRLMODE_SUPPORTED" u32 ∷ []
 
 -- the attribute that a value of the modes represents
 abbrev pub mode_leaf : CanCtrlModeExt → Leaf
 mode_leaf (modes.Supported flags) = Case 1 (Number 4 (mode_bits flags))
 mode_leaf (modes.Other other) = default_means other
 
--- IFLA_CAN_BITTIMING, IFLA_CAN_BITTIMING_CONST, IFLA_CAN_CLOCK, IFLA_CAN_STATE, IFLA_CAN_CTRLMODE,
--- IFLA_CAN_RESTART_MS, IFLA_CAN_RESTART, IFLA_CAN_BERR_COUNTER, IFLA_CAN_DATA_BITTIMING,
--- IFLA_CAN_DATA_BITTIMING_CONST, IFLA_CAN_TERMINATION, IFLA_CAN_TERMINATION_CONST, IFLA_CAN_BITRATE_CONST,
--- IFLA_CAN_DATA_BITRATE_CONST, IFLA_CAN_BITRATE_MAX, IFLA_CAN_TDC, IFLA_CAN_CTRLMODE_EXT; the last two are nested
--- lists, written with NLA_F_NESTED
+-- one row for each attribute type
 abbrev pub can_table : Table
 can_table =
-    row 1 (One (Octets (AtLeast 32))) ∷
-    row 2 (One Limits) ∷
-    row 3 (One (Octets (Fixed 4))) ∷
-    row 4 (One (Unsigned 4)) ∷
-    row 5 (One (Octets (AtLeast 8))) ∷
-    row 6 (One (Unsigned 4)) ∷
-    row 7 (One (Unsigned 4)) ∷
-    row 8 (One (Octets (AtLeast 4))) ∷
-    row 9 (One (Octets (AtLeast 32))) ∷
-    row 10 (One Limits) ∷
-    row 11 (One (Unsigned 2)) ∷
-    row 12 (One (Many 2)) ∷
-    row 13 (One (Many 4)) ∷
-    row 14 (One (Many 4)) ∷
-    row 15 (One (Unsigned 4)) ∷
-    row 16 (Nested true tdc_rows) ∷
-    row 17 (Nested true mode_rows) ∷ []
+    row 1 "IFLA_CAN_BITTIMING" (Octets (AtLeast 32)) ∷
+    row 2 "IFLA_CAN_BITTIMING_CONST" Limits ∷
+    row 3 "IFLA_CAN_CLOCK" (Octets (Fixed 4)) ∷
+    row 4 "IFLA_CAN_STATE" u32 ∷
+    row 5 "IFLA_CAN_CTRLMODE" (Octets (AtLeast 8)) ∷
+    row 6 "IFLA_CAN_RESTART_MS" u32 ∷
+    row 7 "IFLA_CAN_RESTART" u32 ∷
+    row 8 "IFLA_CAN_BERR_COUNTER" (Octets (AtLeast 4)) ∷
+    row 9 "IFLA_CAN_DATA_BITTIMING" (Octets (AtLeast 32)) ∷
+    row 10 "IFLA_CAN_DATA_BITTIMING_CONST" Limits ∷
+    row 11 "IFLA_CAN_TERMINATION" u16 ∷
+    row 12 "IFLA_CAN_TERMINATION_CONST" u16s ∷
+    row 13 "IFLA_CAN_BITRATE_CONST" u32s ∷
+    row 14 "IFLA_CAN_DATA_BITRATE_CONST" u32s ∷
+    row 15 "IFLA_CAN_BITRATE_MAX" u32 ∷
+    list_row 16 "IFLA_CAN_TDC" (Nested true tdc_rows) ∷
+    list_row 17 "IFLA_CAN_CTRLMODE_EXT" (Nested true mode_rows) ∷ []
 
 -- the attribute types that the second version of the table adds
 abbrev pub can_added : List ℕ
@@ -82,20 +77,20 @@ can_added = 12 ∷ 13 ∷ 14 ∷ []
 -- the first version of the table
 abbrev pub can_table_first : Table
 can_table_first =
-    row 1 (One (Octets (AtLeast 32))) ∷
-    row 2 (One Limits) ∷
-    row 3 (One (Octets (Fixed 4))) ∷
-    row 4 (One (Unsigned 4)) ∷
-    row 5 (One (Octets (AtLeast 8))) ∷
-    row 6 (One (Unsigned 4)) ∷
-    row 7 (One (Unsigned 4)) ∷
-    row 8 (One (Octets (AtLeast 4))) ∷
-    row 9 (One (Octets (AtLeast 32))) ∷
-    row 10 (One Limits) ∷
-    row 11 (One (Unsigned 2)) ∷
-    row 15 (One (Unsigned 4)) ∷
-    row 16 (Nested true tdc_rows) ∷
-    row 17 (Nested true mode_rows) ∷ []
+    row 1 "IFLA_CAN_BITTIMING" (Octets (AtLeast 32)) ∷
+    row 2 "IFLA_CAN_BITTIMING_CONST" Limits ∷
+    row 3 "IFLA_CAN_CLOCK" (Octets (Fixed 4)) ∷
+    row 4 "IFLA_CAN_STATE" u32 ∷
+    row 5 "IFLA_CAN_CTRLMODE" (Octets (AtLeast 8)) ∷
+    row 6 "IFLA_CAN_RESTART_MS" u32 ∷
+    row 7 "IFLA_CAN_RESTART" u32 ∷
+    row 8 "IFLA_CAN_BERR_COUNTER" (Octets (AtLeast 4)) ∷
+    row 9 "IFLA_CAN_DATA_BITTIMING" (Octets (AtLeast 32)) ∷
+    row 10 "IFLA_CAN_DATA_BITTIMING_CONST" Limits ∷
+    row 11 "IFLA_CAN_TERMINATION" u16 ∷
+    row 15 "IFLA_CAN_BITRATE_MAX" u32 ∷
+    list_row 16 "IFLA_CAN_TDC" (Nested true tdc_rows) ∷
+    list_row 17 "IFLA_CAN_CTRLMODE_EXT" (Nested true mode_rows) ∷ []
 
 -- the attribute that a value represents
 abbrev pub can_means : InfoCan → AttrValue

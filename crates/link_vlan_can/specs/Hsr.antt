@@ -1,8 +1,8 @@
 -- HSR and PRP device attributes.
 use Rattle.std.specs.Prelude.{[], ◌∷◌, codes, refl}
-use Rattle.link_base.specs.Class.{Unsigned, Octets, Exactly, Named, Number, Raw}
+use Rattle.link_base.specs.Class.{Named, Number, Raw, u8, u16, u32, mac}
 use Rattle.link_base.specs.Named.{Naming, Seen, Listed, Free, IsSeen, label, Bare, NoText, numbers_of, seen_value}
-use Rattle.link_base.specs.Table.{Table, AttrValue, Case, row, One, Single}
+use Rattle.link_base.specs.Table.{Table, AttrValue, Case, Single, row}
 use Rattle.link_base.specs.Default.{default_means}
 use Rattle.link_vlan_can.specs.declared.hsr.HsrProtocol.{HsrProtocol}
 use Rattle.link_vlan_can.specs.declared.hsr.HsrProtocol.TheVariants as protocols
@@ -31,18 +31,17 @@ hsr_protocol_seen protocols.Hsr = (refl, refl)
 hsr_protocol_seen protocols.Prp = (refl, refl)
 hsr_protocol_seen (protocols.Other d) = refl
 
--- IFLA_HSR_SLAVE1, IFLA_HSR_SLAVE2, IFLA_HSR_MULTICAST_SPEC, IFLA_HSR_SUPERVISION_ADDR, IFLA_HSR_SEQ_NR,
--- IFLA_HSR_VERSION, IFLA_HSR_PROTOCOL, IFLA_HSR_INTERLINK
+-- one row for each attribute type
 abbrev pub hsr_table : Table
 hsr_table =
-    row 1 (One (Unsigned 4)) ∷
-    row 2 (One (Unsigned 4)) ∷
-    row 3 (One (Unsigned 1)) ∷
-    row 4 (One (Octets (Exactly 6))) ∷
-    row 5 (One (Unsigned 2)) ∷
-    row 6 (One (Unsigned 1)) ∷
-    row 7 (One (Named 1 (numbers_of hsr_protocols))) ∷
-    row 8 (One (Unsigned 4)) ∷ []
+    row 1 "IFLA_HSR_SLAVE1" u32 ∷
+    row 2 "IFLA_HSR_SLAVE2" u32 ∷
+    row 3 "IFLA_HSR_MULTICAST_SPEC" u8 ∷
+    row 4 "IFLA_HSR_SUPERVISION_ADDR" mac ∷
+    row 5 "IFLA_HSR_SEQ_NR" u16 ∷
+    row 6 "IFLA_HSR_VERSION" u8 ∷
+    row 7 "IFLA_HSR_PROTOCOL" (Named 1 (numbers_of hsr_protocols)) ∷
+    row 8 "IFLA_HSR_INTERLINK" u32 ∷ []
 
 -- the attribute that a value represents
 abbrev pub hsr_means : InfoHsr → AttrValue

@@ -1,8 +1,8 @@
 -- VLAN device attributes.
 use Rattle.std.specs.Prelude.{[], ◌∷◌, map, false}
 use Rattle.link_base.specs.Layout.{octets_of}
-use Rattle.link_base.specs.Class.{Unsigned, Octets, Exactly, Protocol, Number, Raw, EtherType}
-use Rattle.link_base.specs.Table.{Rows, Leaf, Table, AttrValue, Case, row, One, Nested, Single, Inner}
+use Rattle.link_base.specs.Class.{Octets, Exactly, Number, Raw, EtherType, u16, vlan_protocol}
+use Rattle.link_base.specs.Table.{Rows, Leaf, Table, AttrValue, Case, Nested, Single, Inner, row, leaf_row, list_row}
 use Rattle.link_base.specs.Default.{default_means}
 use Rattle.link_base.specs.Protocol.{protocol_number}
 use Rattle.link_vlan_can.specs.VlanFlags.{vlan_bits}
@@ -11,24 +11,23 @@ use Rattle.link_vlan_can.specs.declared.vlan.VlanQosMapping.TheVariants as mappi
 use Rattle.link_vlan_can.specs.declared.vlan.InfoVlan.{InfoVlan}
 use Rattle.link_vlan_can.specs.declared.vlan.InfoVlan.TheVariants as infos
 
--- IFLA_VLAN_QOS_MAPPING: two u32s
+-- a mapping is two u32s
 abbrev pub mapping_rows : Rows
-mapping_rows = row 1 (Octets (Exactly 8)) ∷ []
+mapping_rows = leaf_row 1 "IFLA_VLAN_QOS_MAPPING" (Octets (Exactly 8)) ∷ []
 
 -- the attribute that a mapping represents
 abbrev pub mapping_leaf : VlanQosMapping → Leaf
 mapping_leaf (mappings.Mapping first second) = Case 1 (Raw (octets_of 4 (first ∷ second ∷ [])))
 mapping_leaf (mappings.Other other) = default_means other
 
--- IFLA_VLAN_ID, IFLA_VLAN_FLAGS (the active flags, then the mask), IFLA_VLAN_EGRESS_QOS, IFLA_VLAN_INGRESS_QOS,
--- IFLA_VLAN_PROTOCOL
+-- one row for each attribute type. IFLA_VLAN_FLAGS has the active flags, then the mask
 abbrev pub vlan_table : Table
 vlan_table =
-    row 1 (One (Unsigned 2)) ∷
-    row 2 (One (Octets (Exactly 8))) ∷
-    row 3 (Nested false mapping_rows) ∷
-    row 4 (Nested false mapping_rows) ∷
-    row 5 (One Protocol) ∷ []
+    row 1 "IFLA_VLAN_ID" u16 ∷
+    row 2 "IFLA_VLAN_FLAGS" (Octets (Exactly 8)) ∷
+    list_row 3 "IFLA_VLAN_EGRESS_QOS" (Nested false mapping_rows) ∷
+    list_row 4 "IFLA_VLAN_INGRESS_QOS" (Nested false mapping_rows) ∷
+    row 5 "IFLA_VLAN_PROTOCOL" vlan_protocol ∷ []
 
 -- the attribute that a value represents
 abbrev pub vlan_means : InfoVlan → AttrValue

@@ -7,47 +7,10 @@ use crate::can_modes::CanCtrlModeExt;
 use crate::can_records::{CanBerrCounter, CanBitTiming, CanClock, CanCtrlMode};
 use crate::can_tdc::CanTdc;
 use link_base::{
-    Attribute, DecodeError, DefaultNla, Meaning, NLA_F_NESTED, Nla, NlaBuffer, Parseable, Place,
-    TryClone, are_numbers, emit_nested, emit_u16, emit_u16s, emit_u32, emit_u32s, has_size,
-    is_limits, is_nested, keep, nested_len, parse_u16, parse_u16s, parse_u32, parse_u32s,
-    read_nested, try_clone_list, u16s_len, u32s_len,
+    Attribute, DecodeError, DefaultNla, Meaning, NLA_F_NESTED, NestedList, Nla, NlaBuffer,
+    Parseable, Place, Struct, TryClone,
 };
 use std::alloc::{AllocError, Global};
-
-// `include/uapi/linux/can/netlink.h`
-const IFLA_CAN_BITTIMING: u16 = 1;
-
-const IFLA_CAN_BITTIMING_CONST: u16 = 2;
-
-const IFLA_CAN_CLOCK: u16 = 3;
-
-const IFLA_CAN_STATE: u16 = 4;
-
-const IFLA_CAN_CTRLMODE: u16 = 5;
-
-const IFLA_CAN_RESTART_MS: u16 = 6;
-
-const IFLA_CAN_RESTART: u16 = 7;
-
-const IFLA_CAN_BERR_COUNTER: u16 = 8;
-
-const IFLA_CAN_DATA_BITTIMING: u16 = 9;
-
-const IFLA_CAN_DATA_BITTIMING_CONST: u16 = 10;
-
-const IFLA_CAN_TERMINATION: u16 = 11;
-
-const IFLA_CAN_TERMINATION_CONST: u16 = 12;
-
-const IFLA_CAN_BITRATE_CONST: u16 = 13;
-
-const IFLA_CAN_DATA_BITRATE_CONST: u16 = 14;
-
-const IFLA_CAN_BITRATE_MAX: u16 = 15;
-
-const IFLA_CAN_TDC: u16 = 16;
-
-const IFLA_CAN_CTRLMODE_EXT: u16 = 17;
 
 /// A CAN controller attribute (`IFLA_CAN_*`, `include/uapi/linux/can/netlink.h`).
 ///
@@ -101,38 +64,34 @@ pub enum InfoCan {
     Other(DefaultNla),
 }
 
+/// The attribute types (`IFLA_CAN_*`), the variant of each, and the class of its payload.
+macro_rules! can_rows {
+    ($call:ident($($argument:tt)*)) => {
+        link_base::by_rows! { $call($($argument)*)
+            IFLA_CAN_BITTIMING = 1, BitTiming: Struct<CanBitTiming>;
+            IFLA_CAN_BITTIMING_CONST = 2, BitTimingConst: CanBitTimingConst;
+            IFLA_CAN_CLOCK = 3, Clock: Struct<CanClock>;
+            IFLA_CAN_STATE = 4, State: u32;
+            IFLA_CAN_CTRLMODE = 5, CtrlMode: Struct<CanCtrlMode>;
+            IFLA_CAN_RESTART_MS = 6, RestartMs: u32;
+            IFLA_CAN_RESTART = 7, Restart: u32;
+            IFLA_CAN_BERR_COUNTER = 8, BerrCounter: Struct<CanBerrCounter>;
+            IFLA_CAN_DATA_BITTIMING = 9, DataBitTiming: Struct<CanBitTiming>;
+            IFLA_CAN_DATA_BITTIMING_CONST = 10, DataBitTimingConst: CanBitTimingConst;
+            IFLA_CAN_TERMINATION = 11, Termination: u16;
+            IFLA_CAN_TERMINATION_CONST = 12, TerminationConst: Vec<u16>;
+            IFLA_CAN_BITRATE_CONST = 13, BitrateConst: Vec<u32>;
+            IFLA_CAN_DATA_BITRATE_CONST = 14, DataBitrateConst: Vec<u32>;
+            IFLA_CAN_BITRATE_MAX = 15, BitrateMax: u32;
+            IFLA_CAN_TDC = 16 | NLA_F_NESTED, Tdc: NestedList<CanTdc>;
+            IFLA_CAN_CTRLMODE_EXT = 17 | NLA_F_NESTED, CtrlModeExt: NestedList<CanCtrlModeExt>;
+        }
+    };
+}
+
 impl TryClone for InfoCan {
     fn try_clone(&self, alloc: Global) -> Result<Self, AllocError> {
-        match self {
-            InfoCan::BitTiming(timing) => Ok(InfoCan::BitTiming(*timing)),
-            InfoCan::BitTimingConst(limits) => Ok(InfoCan::BitTimingConst(limits.try_clone(
-                alloc,
-            )?)),
-            InfoCan::Clock(clock) => Ok(InfoCan::Clock(*clock)),
-            InfoCan::State(state) => Ok(InfoCan::State(*state)),
-            InfoCan::CtrlMode(modes) => Ok(InfoCan::CtrlMode(*modes)),
-            InfoCan::RestartMs(delay) => Ok(InfoCan::RestartMs(*delay)),
-            InfoCan::Restart(restart) => Ok(InfoCan::Restart(*restart)),
-            InfoCan::BerrCounter(errors) => Ok(InfoCan::BerrCounter(*errors)),
-            InfoCan::DataBitTiming(timing) => Ok(InfoCan::DataBitTiming(*timing)),
-            InfoCan::DataBitTimingConst(limits) => Ok(InfoCan::DataBitTimingConst(limits.try_clone(
-                alloc,
-            )?)),
-            InfoCan::Termination(resistance) => Ok(InfoCan::Termination(*resistance)),
-            InfoCan::TerminationConst(resistances) => {
-                Ok(InfoCan::TerminationConst(Vec::from_slice(alloc, resistances)?))
-            }
-            InfoCan::BitrateConst(rates) => {
-                Ok(InfoCan::BitrateConst(Vec::from_slice(alloc, rates)?))
-            }
-            InfoCan::DataBitrateConst(rates) => {
-                Ok(InfoCan::DataBitrateConst(Vec::from_slice(alloc, rates)?))
-            }
-            InfoCan::BitrateMax(rate) => Ok(InfoCan::BitrateMax(*rate)),
-            InfoCan::Tdc(tdcs) => Ok(InfoCan::Tdc(try_clone_list(alloc, tdcs)?)),
-            InfoCan::CtrlModeExt(exts) => Ok(InfoCan::CtrlModeExt(try_clone_list(alloc, exts)?)),
-            InfoCan::Other(other) => Ok(InfoCan::Other(other.try_clone(alloc)?)),
-        }
+        can_rows!(clone(self, alloc))
     }
 }
 
@@ -144,66 +103,15 @@ impl Meaning for InfoCan {
 
 impl Nla for InfoCan {
     fn kind(&self) -> u16 {
-        match self {
-            InfoCan::BitTiming(_) => IFLA_CAN_BITTIMING,
-            InfoCan::BitTimingConst(_) => IFLA_CAN_BITTIMING_CONST,
-            InfoCan::Clock(_) => IFLA_CAN_CLOCK,
-            InfoCan::State(_) => IFLA_CAN_STATE,
-            InfoCan::CtrlMode(_) => IFLA_CAN_CTRLMODE,
-            InfoCan::RestartMs(_) => IFLA_CAN_RESTART_MS,
-            InfoCan::Restart(_) => IFLA_CAN_RESTART,
-            InfoCan::BerrCounter(_) => IFLA_CAN_BERR_COUNTER,
-            InfoCan::DataBitTiming(_) => IFLA_CAN_DATA_BITTIMING,
-            InfoCan::DataBitTimingConst(_) => IFLA_CAN_DATA_BITTIMING_CONST,
-            InfoCan::Termination(_) => IFLA_CAN_TERMINATION,
-            InfoCan::TerminationConst(_) => IFLA_CAN_TERMINATION_CONST,
-            InfoCan::BitrateConst(_) => IFLA_CAN_BITRATE_CONST,
-            InfoCan::DataBitrateConst(_) => IFLA_CAN_DATA_BITRATE_CONST,
-            InfoCan::BitrateMax(_) => IFLA_CAN_BITRATE_MAX,
-            InfoCan::Tdc(_) => IFLA_CAN_TDC | NLA_F_NESTED,
-            InfoCan::CtrlModeExt(_) => IFLA_CAN_CTRLMODE_EXT | NLA_F_NESTED,
-            InfoCan::Other(other) => other.kind(),
-        }
+        can_rows!(kind(self))
     }
 
     fn value_len(&self) -> usize {
-        match self {
-            InfoCan::BitTiming(_) | InfoCan::DataBitTiming(_) => 32,
-            InfoCan::BitTimingConst(_) | InfoCan::DataBitTimingConst(_) => 48,
-            InfoCan::CtrlMode(_) => 8,
-            InfoCan::Clock(_) | InfoCan::BerrCounter(_) | InfoCan::BitrateMax(_) => 4,
-            InfoCan::State(_) | InfoCan::RestartMs(_) | InfoCan::Restart(_) => 4,
-            InfoCan::Termination(_) => 2,
-            InfoCan::TerminationConst(resistances) => u16s_len(resistances),
-            InfoCan::BitrateConst(rates) => u32s_len(rates),
-            InfoCan::DataBitrateConst(rates) => u32s_len(rates),
-            InfoCan::Tdc(tdcs) => nested_len(tdcs),
-            InfoCan::CtrlModeExt(exts) => nested_len(exts),
-            InfoCan::Other(other) => other.value_len(),
-        }
+        can_rows!(size(self))
     }
 
     fn emit_value(&self, buffer: &mut [u8]) {
-        match self {
-            InfoCan::BitTiming(timing) => timing.emit(buffer),
-            InfoCan::BitTimingConst(limits) => limits.emit(buffer),
-            InfoCan::Clock(clock) => clock.emit(buffer),
-            InfoCan::State(state) => emit_u32(buffer, *state),
-            InfoCan::CtrlMode(modes) => modes.emit(buffer),
-            InfoCan::RestartMs(delay) => emit_u32(buffer, *delay),
-            InfoCan::Restart(restart) => emit_u32(buffer, *restart),
-            InfoCan::BerrCounter(errors) => errors.emit(buffer),
-            InfoCan::DataBitTiming(timing) => timing.emit(buffer),
-            InfoCan::DataBitTimingConst(limits) => limits.emit(buffer),
-            InfoCan::Termination(resistance) => emit_u16(buffer, *resistance),
-            InfoCan::TerminationConst(resistances) => emit_u16s(buffer, resistances),
-            InfoCan::BitrateConst(rates) => emit_u32s(buffer, rates),
-            InfoCan::DataBitrateConst(rates) => emit_u32s(buffer, rates),
-            InfoCan::BitrateMax(rate) => emit_u32(buffer, *rate),
-            InfoCan::Tdc(tdcs) => emit_nested(tdcs, buffer),
-            InfoCan::CtrlModeExt(exts) => emit_nested(exts, buffer),
-            InfoCan::Other(other) => other.emit_value(buffer),
-        }
+        can_rows!(emit(self, buffer))
     }
 }
 
@@ -213,52 +121,7 @@ impl Parseable for InfoCan {
         buffer: &NlaBuffer<'_>,
         place: &mut P,
     ) -> Result<(), DecodeError> {
-        let kind = buffer.kind();
-        let payload = buffer.value();
-        match kind {
-            IFLA_CAN_BITTIMING => keep(place, CanBitTiming::parse(payload).map(Self::BitTiming)),
-            IFLA_CAN_BITTIMING_CONST => keep(
-                place,
-                CanBitTimingConst::parse(alloc, payload).map(Self::BitTimingConst),
-            ),
-            IFLA_CAN_CLOCK => keep(place, CanClock::parse(payload).map(Self::Clock)),
-            IFLA_CAN_STATE => keep(place, parse_u32(payload).map(Self::State)),
-            IFLA_CAN_CTRLMODE => keep(place, CanCtrlMode::parse(payload).map(Self::CtrlMode)),
-            IFLA_CAN_RESTART_MS => keep(place, parse_u32(payload).map(Self::RestartMs)),
-            IFLA_CAN_RESTART => keep(place, parse_u32(payload).map(Self::Restart)),
-            IFLA_CAN_BERR_COUNTER => keep(
-                place,
-                CanBerrCounter::parse(payload).map(Self::BerrCounter),
-            ),
-            IFLA_CAN_DATA_BITTIMING => keep(
-                place,
-                CanBitTiming::parse(payload).map(Self::DataBitTiming),
-            ),
-            IFLA_CAN_DATA_BITTIMING_CONST => keep(
-                place,
-                CanBitTimingConst::parse(alloc, payload).map(Self::DataBitTimingConst),
-            ),
-            IFLA_CAN_TERMINATION => keep(place, parse_u16(payload).map(Self::Termination)),
-            IFLA_CAN_TERMINATION_CONST => keep(
-                place,
-                parse_u16s(alloc, payload).map(Self::TerminationConst),
-            ),
-            IFLA_CAN_BITRATE_CONST => keep(
-                place,
-                parse_u32s(alloc, payload).map(Self::BitrateConst),
-            ),
-            IFLA_CAN_DATA_BITRATE_CONST => keep(
-                place,
-                parse_u32s(alloc, payload).map(Self::DataBitrateConst),
-            ),
-            IFLA_CAN_BITRATE_MAX => keep(place, parse_u32(payload).map(Self::BitrateMax)),
-            IFLA_CAN_TDC => keep(place, read_nested(alloc, kind, payload).map(Self::Tdc)),
-            IFLA_CAN_CTRLMODE_EXT => keep(
-                place,
-                read_nested(alloc, kind, payload).map(Self::CtrlModeExt),
-            ),
-            _ => keep(place, DefaultNla::parse(alloc, buffer).map(Self::Other)),
-        }
+        can_rows!(read(alloc, buffer, place))
     }
 }
 
@@ -274,23 +137,7 @@ impl Attribute for InfoCan {
     ghost use Rattle.link_vlan_can.specs.contracts.can.InfoCan.{enum};
 
     fn canonical(buffer: &NlaBuffer<'_>) -> bool {
-        match buffer.kind() {
-            IFLA_CAN_BITTIMING | IFLA_CAN_DATA_BITTIMING => has_size(buffer, 32),
-            IFLA_CAN_BITTIMING_CONST | IFLA_CAN_DATA_BITTIMING_CONST => is_limits(buffer),
-            IFLA_CAN_CLOCK
-            | IFLA_CAN_STATE
-            | IFLA_CAN_RESTART_MS
-            | IFLA_CAN_RESTART
-            | IFLA_CAN_BERR_COUNTER
-            | IFLA_CAN_BITRATE_MAX => has_size(buffer, 4),
-            IFLA_CAN_CTRLMODE => has_size(buffer, 8),
-            IFLA_CAN_TERMINATION => has_size(buffer, 2),
-            IFLA_CAN_TERMINATION_CONST => are_numbers(buffer, 2),
-            IFLA_CAN_BITRATE_CONST | IFLA_CAN_DATA_BITRATE_CONST => are_numbers(buffer, 4),
-            IFLA_CAN_TDC => is_nested::<CanTdc>(buffer, NLA_F_NESTED),
-            IFLA_CAN_CTRLMODE_EXT => is_nested::<CanCtrlModeExt>(buffer, NLA_F_NESTED),
-            _ => true,
-        }
+        can_rows!(canonical(buffer))
     }
 
     ghost lawful = { lawful can_table };

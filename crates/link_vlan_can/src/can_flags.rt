@@ -1,6 +1,7 @@
 //! The modes of a CAN controller, as flags.
 
 use bitflags::{Flag, Flags};
+use link_base::PayloadFlags;
 use link_base::flag_laws::{FlagSet, KnownBits};
 
 /// Modes of a CAN controller (`CAN_CTRLMODE_*`, `include/uapi/linux/can/netlink.h`). Unnamed bits are kept.
@@ -152,6 +153,24 @@ impl Flags for CanCtrlModeFlags {
 
     fn from_bits_retain(bits: u32) -> CanCtrlModeFlags {
         CanCtrlModeFlags(bits)
+    }
+}
+
+impl PayloadFlags for CanCtrlModeFlags {
+    type Number = u32;
+
+    ghost use Rattle.link_vlan_can.specs.CanFlags.{mode_bits};
+
+    ghost set = { mode_bits };
+
+    #[inline]
+    fn of_number(bits: u32) -> Self {
+        Self::from_bits_retain(bits)
+    }
+
+    #[inline]
+    fn number(&self) -> u32 {
+        self.bits()
     }
 }
 

@@ -3,11 +3,14 @@
 ghost use Rattle.std.specs.Prelude.{◌≡◌, ◌≤◌, [], length, take, drop, IfOk, IsTrue, string_bytes};
 ghost use Rattle.link_base.specs.Name.{name_of, name_field};
 ghost use Rattle.link_base.specs.Class.{Limits, IsInRange, written};
+ghost use Rattle.link_base.specs.Table.{One, Single};
 ghost use Rattle.link_base.specs.Answers.{OnMemory, OverwritesFront};
 ghost use Rattle.link_vlan_can.specs.CanLimits.{limits_view, limits_with, limits_octets, limits_value, LimitsAnswer};
 
 use bstr::ByteSlice;
-use link_base::{DecodeError, check_at_least, emit_u32s, u32s_at};
+use link_base::{
+    DecodeError, NlaBuffer, PayloadClass, check_at_least, emit_u32s, is_limits, u32s_at,
+};
 use std::alloc::{AllocError, Global};
 
 /// Length of a name field, in bytes.
@@ -146,6 +149,36 @@ impl CanBitTimingConst {
                 self.brp_inc,
             ],
         );
+    }
+}
+
+impl PayloadClass for CanBitTimingConst {
+    type Value = CanBitTimingConst;
+
+    ghost shape = { One Limits };
+
+    ghost content = { λ limits. Single (limits_value limits) };
+
+    fn read(alloc: Global, _kind: u16, payload: &[u8]) -> Result<Self, DecodeError> {
+        Self::parse(alloc, payload)
+    }
+
+    #[inline]
+    fn size(_limits: &Self) -> usize {
+        48
+    }
+
+    fn emit(limits: &Self, buffer: &mut [u8]) {
+        limits.emit(buffer);
+    }
+
+    #[inline]
+    fn is_canonical(buffer: &NlaBuffer<'_>, _flag: u16) -> bool {
+        is_limits(buffer)
+    }
+
+    fn try_clone(alloc: Global, limits: &Self) -> Result<Self, AllocError> {
+        limits.try_clone(alloc)
     }
 }
 

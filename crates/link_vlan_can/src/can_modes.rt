@@ -5,15 +5,11 @@ ghost use Rattle.link_base.specs.Lift.{lift, lift_table};
 ghost use Rattle.link_vlan_can.specs.Can.{mode_rows, mode_leaf};
 
 use crate::can_flags::CanCtrlModeFlags;
-use bitflags::Flags;
 use link_base::{
-    Attribute, DecodeError, DefaultNla, Meaning, NestedAttribute, Nla, NlaBuffer, Parseable, Place,
-    TryClone, emit_u32, has_size, keep, parse_u32,
+    Attribute, DecodeError, DefaultNla, FlagBits, Meaning, NestedAttribute, Nla, NlaBuffer,
+    Parseable, Place, TryClone,
 };
 use std::alloc::{AllocError, Global};
-
-/// `IFLA_CAN_CTRLMODE_SUPPORTED`, `include/uapi/linux/can/netlink.h`.
-const IFLA_CAN_CTRLMODE_SUPPORTED: u16 = 1;
 
 /// An attribute of the modes of a CAN controller (`IFLA_CAN_CTRLMODE_*`, `include/uapi/linux/can/netlink.h`).
 #[derive(Debug, PartialEq, Eq, Drop)]
@@ -24,12 +20,18 @@ pub enum CanCtrlModeExt {
     Other(DefaultNla),
 }
 
+/// The attribute types (`IFLA_CAN_CTRLMODE_*`), the variant of each, and the class of its payload.
+macro_rules! mode_rows {
+    ($call:ident($($argument:tt)*)) => {
+        link_base::by_rows! { $call($($argument)*)
+            IFLA_CAN_CTRLMODE_SUPPORTED = 1, Supported: FlagBits<CanCtrlModeFlags>;
+        }
+    };
+}
+
 impl TryClone for CanCtrlModeExt {
     fn try_clone(&self, alloc: Global) -> Result<Self, AllocError> {
-        match self {
-            CanCtrlModeExt::Supported(modes) => Ok(CanCtrlModeExt::Supported(*modes)),
-            CanCtrlModeExt::Other(other) => Ok(CanCtrlModeExt::Other(other.try_clone(alloc)?)),
-        }
+        mode_rows!(clone(self, alloc))
     }
 }
 
@@ -41,24 +43,15 @@ impl Meaning for CanCtrlModeExt {
 
 impl Nla for CanCtrlModeExt {
     fn kind(&self) -> u16 {
-        match self {
-            CanCtrlModeExt::Supported(_) => IFLA_CAN_CTRLMODE_SUPPORTED,
-            CanCtrlModeExt::Other(other) => other.kind(),
-        }
+        mode_rows!(kind(self))
     }
 
     fn value_len(&self) -> usize {
-        match self {
-            CanCtrlModeExt::Supported(_) => 4,
-            CanCtrlModeExt::Other(other) => other.value_len(),
-        }
+        mode_rows!(size(self))
     }
 
     fn emit_value(&self, buffer: &mut [u8]) {
-        match self {
-            CanCtrlModeExt::Supported(modes) => emit_u32(buffer, modes.bits()),
-            CanCtrlModeExt::Other(other) => other.emit_value(buffer),
-        }
+        mode_rows!(emit(self, buffer))
     }
 }
 
@@ -68,16 +61,7 @@ impl Parseable for CanCtrlModeExt {
         buffer: &NlaBuffer<'_>,
         place: &mut P,
     ) -> Result<(), DecodeError> {
-        let payload = buffer.value();
-        match buffer.kind() {
-            IFLA_CAN_CTRLMODE_SUPPORTED => keep(
-                place,
-                parse_u32(payload).map(|bits| {
-                    Self::Supported(CanCtrlModeFlags::from_bits_retain(bits))
-                }),
-            ),
-            _ => keep(place, DefaultNla::parse(alloc, buffer).map(Self::Other)),
-        }
+        mode_rows!(read(alloc, buffer, place))
     }
 }
 
@@ -90,10 +74,7 @@ impl Attribute for CanCtrlModeExt {
     ghost use Rattle.link_vlan_can.specs.contracts.can_modes.CanCtrlModeExt.{enum};
 
     fn canonical(buffer: &NlaBuffer<'_>) -> bool {
-        match buffer.kind() {
-            IFLA_CAN_CTRLMODE_SUPPORTED => has_size(buffer, 4),
-            _ => true,
-        }
+        mode_rows!(canonical(buffer))
     }
 
     ghost lawful = { lawful (lift_table mode_rows) };

@@ -10,7 +10,8 @@ ghost use Rattle.link_vlan_can.specs.CanRecords.{clock_of, clock_octets, errors_
 use crate::can_flags::CanCtrlModeFlags;
 use bitflags::Flags;
 use link_base::{
-    DecodeError, check_at_least, check_length, emit_u16, emit_u32s, u16_at, u32_at, u32s_at,
+    DecodeError, PayloadStruct, check_at_least, check_length, emit_u16, emit_u32s, u16_at, u32_at,
+    u32s_at,
 };
 
 /// The bit timing of a CAN controller (`struct can_bittiming`, `include/uapi/linux/can/netlink.h`): eight `u32`s.
@@ -94,6 +95,31 @@ impl CanBitTiming {
     }
 }
 
+impl PayloadStruct for CanBitTiming {
+    ghost octets = { timing_octets };
+
+    ghost extent = { AtLeast 32 };
+
+    #[inline]
+    fn kept_len() -> usize {
+        32
+    }
+
+    #[inline]
+    fn parse_payload(payload: &[u8]) -> Result<Self, DecodeError> {
+        Self::parse(payload)
+    }
+
+    #[inline]
+    fn payload_len(&self) -> usize {
+        32
+    }
+
+    fn emit_payload(&self, buffer: &mut [u8]) {
+        self.emit(buffer);
+    }
+}
+
 /// The modes of a CAN controller (`struct can_ctrlmode`, `include/uapi/linux/can/netlink.h`): two `u32`s. Payloads may
 /// be longer; the additional bytes are ignored.
 #[derive(Clone, Copy, Debug, PartialEq, Eq)]
@@ -122,6 +148,31 @@ impl CanCtrlMode {
         ensures octets { IsOctets 8 (modes_octets self.now) }
     {
         emit_u32s(buffer, &[self.mask.bits(), self.flags.bits()]);
+    }
+}
+
+impl PayloadStruct for CanCtrlMode {
+    ghost octets = { modes_octets };
+
+    ghost extent = { AtLeast 8 };
+
+    #[inline]
+    fn kept_len() -> usize {
+        8
+    }
+
+    #[inline]
+    fn parse_payload(payload: &[u8]) -> Result<Self, DecodeError> {
+        Self::parse(payload)
+    }
+
+    #[inline]
+    fn payload_len(&self) -> usize {
+        8
+    }
+
+    fn emit_payload(&self, buffer: &mut [u8]) {
+        self.emit(buffer);
     }
 }
 
@@ -160,6 +211,31 @@ impl CanClock {
     }
 }
 
+impl PayloadStruct for CanClock {
+    ghost octets = { clock_octets };
+
+    ghost extent = { Fixed 4 };
+
+    #[inline]
+    fn kept_len() -> usize {
+        4
+    }
+
+    #[inline]
+    fn parse_payload(payload: &[u8]) -> Result<Self, DecodeError> {
+        Self::parse(payload)
+    }
+
+    #[inline]
+    fn payload_len(&self) -> usize {
+        4
+    }
+
+    fn emit_payload(&self, buffer: &mut [u8]) {
+        self.emit(buffer);
+    }
+}
+
 /// The error counters of a CAN controller (`struct can_berr_counter`, `include/uapi/linux/can/netlink.h`): two `u16`s.
 /// Errors increase them; error-free frames decrease them. Payloads may be longer; the additional bytes are ignored.
 #[derive(Clone, Copy, Debug, PartialEq, Eq)]
@@ -189,5 +265,30 @@ impl CanBerrCounter {
     {
         emit_u16(buffer, self.txerr);
         emit_u16(&mut buffer[2..], self.rxerr);
+    }
+}
+
+impl PayloadStruct for CanBerrCounter {
+    ghost octets = { errors_octets };
+
+    ghost extent = { AtLeast 4 };
+
+    #[inline]
+    fn kept_len() -> usize {
+        4
+    }
+
+    #[inline]
+    fn parse_payload(payload: &[u8]) -> Result<Self, DecodeError> {
+        Self::parse(payload)
+    }
+
+    #[inline]
+    fn payload_len(&self) -> usize {
+        4
+    }
+
+    fn emit_payload(&self, buffer: &mut [u8]) {
+        self.emit(buffer);
     }
 }

@@ -6,28 +6,9 @@ ghost use Rattle.link_vlan_can.specs.Can.{tdc_rows, tdc_leaf};
 
 use link_base::{
     Attribute, DecodeError, DefaultNla, Meaning, NestedAttribute, Nla, NlaBuffer, Parseable, Place,
-    TryClone, emit_u32, has_size, keep, parse_u32,
+    TryClone,
 };
 use std::alloc::{AllocError, Global};
-
-// `include/uapi/linux/can/netlink.h`
-const IFLA_CAN_TDC_TDCV_MIN: u16 = 1;
-
-const IFLA_CAN_TDC_TDCV_MAX: u16 = 2;
-
-const IFLA_CAN_TDC_TDCO_MIN: u16 = 3;
-
-const IFLA_CAN_TDC_TDCO_MAX: u16 = 4;
-
-const IFLA_CAN_TDC_TDCF_MIN: u16 = 5;
-
-const IFLA_CAN_TDC_TDCF_MAX: u16 = 6;
-
-const IFLA_CAN_TDC_TDCV: u16 = 7;
-
-const IFLA_CAN_TDC_TDCO: u16 = 8;
-
-const IFLA_CAN_TDC_TDCF: u16 = 9;
 
 /// An attribute of transmitter delay compensation (`IFLA_CAN_TDC_*`, `include/uapi/linux/can/netlink.h`). Each is a
 /// `u32`, in periods of the controller's clock.
@@ -57,20 +38,26 @@ pub enum CanTdc {
     Other(DefaultNla),
 }
 
+/// The attribute types (`IFLA_CAN_TDC_*`), the variant of each, and the class of its payload.
+macro_rules! tdc_rows {
+    ($call:ident($($argument:tt)*)) => {
+        link_base::by_rows! { $call($($argument)*)
+            IFLA_CAN_TDC_TDCV_MIN = 1, TdcvMin: u32;
+            IFLA_CAN_TDC_TDCV_MAX = 2, TdcvMax: u32;
+            IFLA_CAN_TDC_TDCO_MIN = 3, TdcoMin: u32;
+            IFLA_CAN_TDC_TDCO_MAX = 4, TdcoMax: u32;
+            IFLA_CAN_TDC_TDCF_MIN = 5, TdcfMin: u32;
+            IFLA_CAN_TDC_TDCF_MAX = 6, TdcfMax: u32;
+            IFLA_CAN_TDC_TDCV = 7, Tdcv: u32;
+            IFLA_CAN_TDC_TDCO = 8, Tdco: u32;
+            IFLA_CAN_TDC_TDCF = 9, Tdcf: u32;
+        }
+    };
+}
+
 impl TryClone for CanTdc {
     fn try_clone(&self, alloc: Global) -> Result<Self, AllocError> {
-        match self {
-            CanTdc::TdcvMin(periods) => Ok(CanTdc::TdcvMin(*periods)),
-            CanTdc::TdcvMax(periods) => Ok(CanTdc::TdcvMax(*periods)),
-            CanTdc::TdcoMin(periods) => Ok(CanTdc::TdcoMin(*periods)),
-            CanTdc::TdcoMax(periods) => Ok(CanTdc::TdcoMax(*periods)),
-            CanTdc::TdcfMin(periods) => Ok(CanTdc::TdcfMin(*periods)),
-            CanTdc::TdcfMax(periods) => Ok(CanTdc::TdcfMax(*periods)),
-            CanTdc::Tdcv(periods) => Ok(CanTdc::Tdcv(*periods)),
-            CanTdc::Tdco(periods) => Ok(CanTdc::Tdco(*periods)),
-            CanTdc::Tdcf(periods) => Ok(CanTdc::Tdcf(*periods)),
-            CanTdc::Other(other) => Ok(CanTdc::Other(other.try_clone(alloc)?)),
-        }
+        tdc_rows!(clone(self, alloc))
     }
 }
 
@@ -82,42 +69,15 @@ impl Meaning for CanTdc {
 
 impl Nla for CanTdc {
     fn kind(&self) -> u16 {
-        match self {
-            CanTdc::TdcvMin(_) => IFLA_CAN_TDC_TDCV_MIN,
-            CanTdc::TdcvMax(_) => IFLA_CAN_TDC_TDCV_MAX,
-            CanTdc::TdcoMin(_) => IFLA_CAN_TDC_TDCO_MIN,
-            CanTdc::TdcoMax(_) => IFLA_CAN_TDC_TDCO_MAX,
-            CanTdc::TdcfMin(_) => IFLA_CAN_TDC_TDCF_MIN,
-            CanTdc::TdcfMax(_) => IFLA_CAN_TDC_TDCF_MAX,
-            CanTdc::Tdcv(_) => IFLA_CAN_TDC_TDCV,
-            CanTdc::Tdco(_) => IFLA_CAN_TDC_TDCO,
-            CanTdc::Tdcf(_) => IFLA_CAN_TDC_TDCF,
-            CanTdc::Other(other) => other.kind(),
-        }
+        tdc_rows!(kind(self))
     }
 
     fn value_len(&self) -> usize {
-        match self {
-            CanTdc::TdcvMin(_) | CanTdc::TdcvMax(_) | CanTdc::Tdcv(_) => 4,
-            CanTdc::TdcoMin(_) | CanTdc::TdcoMax(_) | CanTdc::Tdco(_) => 4,
-            CanTdc::TdcfMin(_) | CanTdc::TdcfMax(_) | CanTdc::Tdcf(_) => 4,
-            CanTdc::Other(other) => other.value_len(),
-        }
+        tdc_rows!(size(self))
     }
 
     fn emit_value(&self, buffer: &mut [u8]) {
-        match self {
-            CanTdc::TdcvMin(periods) => emit_u32(buffer, *periods),
-            CanTdc::TdcvMax(periods) => emit_u32(buffer, *periods),
-            CanTdc::TdcoMin(periods) => emit_u32(buffer, *periods),
-            CanTdc::TdcoMax(periods) => emit_u32(buffer, *periods),
-            CanTdc::TdcfMin(periods) => emit_u32(buffer, *periods),
-            CanTdc::TdcfMax(periods) => emit_u32(buffer, *periods),
-            CanTdc::Tdcv(periods) => emit_u32(buffer, *periods),
-            CanTdc::Tdco(periods) => emit_u32(buffer, *periods),
-            CanTdc::Tdcf(periods) => emit_u32(buffer, *periods),
-            CanTdc::Other(other) => other.emit_value(buffer),
-        }
+        tdc_rows!(emit(self, buffer))
     }
 }
 
@@ -127,19 +87,7 @@ impl Parseable for CanTdc {
         buffer: &NlaBuffer<'_>,
         place: &mut P,
     ) -> Result<(), DecodeError> {
-        let payload = buffer.value();
-        match buffer.kind() {
-            IFLA_CAN_TDC_TDCV_MIN => keep(place, parse_u32(payload).map(Self::TdcvMin)),
-            IFLA_CAN_TDC_TDCV_MAX => keep(place, parse_u32(payload).map(Self::TdcvMax)),
-            IFLA_CAN_TDC_TDCO_MIN => keep(place, parse_u32(payload).map(Self::TdcoMin)),
-            IFLA_CAN_TDC_TDCO_MAX => keep(place, parse_u32(payload).map(Self::TdcoMax)),
-            IFLA_CAN_TDC_TDCF_MIN => keep(place, parse_u32(payload).map(Self::TdcfMin)),
-            IFLA_CAN_TDC_TDCF_MAX => keep(place, parse_u32(payload).map(Self::TdcfMax)),
-            IFLA_CAN_TDC_TDCV => keep(place, parse_u32(payload).map(Self::Tdcv)),
-            IFLA_CAN_TDC_TDCO => keep(place, parse_u32(payload).map(Self::Tdco)),
-            IFLA_CAN_TDC_TDCF => keep(place, parse_u32(payload).map(Self::Tdcf)),
-            _ => keep(place, DefaultNla::parse(alloc, buffer).map(Self::Other)),
-        }
+        tdc_rows!(read(alloc, buffer, place))
     }
 }
 
@@ -149,18 +97,7 @@ impl Attribute for CanTdc {
     ghost use Rattle.link_vlan_can.specs.contracts.can_tdc.CanTdc.{enum};
 
     fn canonical(buffer: &NlaBuffer<'_>) -> bool {
-        match buffer.kind() {
-            IFLA_CAN_TDC_TDCV_MIN
-            | IFLA_CAN_TDC_TDCV_MAX
-            | IFLA_CAN_TDC_TDCO_MIN
-            | IFLA_CAN_TDC_TDCO_MAX
-            | IFLA_CAN_TDC_TDCF_MIN
-            | IFLA_CAN_TDC_TDCF_MAX
-            | IFLA_CAN_TDC_TDCV
-            | IFLA_CAN_TDC_TDCO
-            | IFLA_CAN_TDC_TDCF => has_size(buffer, 4),
-            _ => true,
-        }
+        tdc_rows!(canonical(buffer))
     }
 
     ghost lawful = { lawful (lift_table tdc_rows) };

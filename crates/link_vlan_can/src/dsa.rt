@@ -4,13 +4,10 @@ ghost use Rattle.link_vlan_can.specs.Dsa.{dsa_table, dsa_means};
 
 use link_base::{
     Attribute, DecodeError, DefaultNla, Meaning, Nla, NlaBuffer, Parseable, Place, TryClone,
-    emit_u32, has_size, keep, parse_u32,
 };
 use std::alloc::{AllocError, Global};
 
 /// `IFLA_DSA_CONDUIT`, before Linux 6.7 `IFLA_DSA_MASTER` (`include/uapi/linux/if_link.h`).
-const IFLA_DSA_CONDUIT: u16 = 1;
-
 /// A DSA port attribute (`IFLA_DSA_*`, `include/uapi/linux/if_link.h`).
 #[derive(Debug, PartialEq, Eq, Drop)]
 pub enum InfoDsa {
@@ -21,12 +18,18 @@ pub enum InfoDsa {
     Other(DefaultNla),
 }
 
+/// The attribute types (`IFLA_DSA_*`), the variant of each, and the class of its payload.
+macro_rules! dsa_rows {
+    ($call:ident($($argument:tt)*)) => {
+        link_base::by_rows! { $call($($argument)*)
+            IFLA_DSA_CONDUIT = 1, Conduit: u32;
+        }
+    };
+}
+
 impl TryClone for InfoDsa {
     fn try_clone(&self, alloc: Global) -> Result<Self, AllocError> {
-        match self {
-            InfoDsa::Conduit(conduit) => Ok(InfoDsa::Conduit(*conduit)),
-            InfoDsa::Other(other) => Ok(InfoDsa::Other(other.try_clone(alloc)?)),
-        }
+        dsa_rows!(clone(self, alloc))
     }
 }
 
@@ -38,24 +41,15 @@ impl Meaning for InfoDsa {
 
 impl Nla for InfoDsa {
     fn kind(&self) -> u16 {
-        match self {
-            InfoDsa::Conduit(_) => IFLA_DSA_CONDUIT,
-            InfoDsa::Other(other) => other.kind(),
-        }
+        dsa_rows!(kind(self))
     }
 
     fn value_len(&self) -> usize {
-        match self {
-            InfoDsa::Conduit(_) => 4,
-            InfoDsa::Other(other) => other.value_len(),
-        }
+        dsa_rows!(size(self))
     }
 
     fn emit_value(&self, buffer: &mut [u8]) {
-        match self {
-            InfoDsa::Conduit(conduit) => emit_u32(buffer, *conduit),
-            InfoDsa::Other(other) => other.emit_value(buffer),
-        }
+        dsa_rows!(emit(self, buffer))
     }
 }
 
@@ -65,11 +59,7 @@ impl Parseable for InfoDsa {
         buffer: &NlaBuffer<'_>,
         place: &mut P,
     ) -> Result<(), DecodeError> {
-        let payload = buffer.value();
-        match buffer.kind() {
-            IFLA_DSA_CONDUIT => keep(place, parse_u32(payload).map(Self::Conduit)),
-            _ => keep(place, DefaultNla::parse(alloc, buffer).map(Self::Other)),
-        }
+        dsa_rows!(read(alloc, buffer, place))
     }
 }
 
@@ -80,10 +70,7 @@ impl Attribute for InfoDsa {
     ghost use Rattle.link_vlan_can.specs.contracts.dsa.InfoDsa.{enum};
 
     fn canonical(buffer: &NlaBuffer<'_>) -> bool {
-        match buffer.kind() {
-            IFLA_DSA_CONDUIT => has_size(buffer, 4),
-            _ => true,
-        }
+        dsa_rows!(canonical(buffer))
     }
 
     ghost lawful = { lawful dsa_table };

@@ -6,34 +6,11 @@ ghost use Rattle.link_base.specs.Equality.{of_cases, thorough_fields};
 ghost use Rattle.link_vlan_can.specs.Hsr.{hsr_protocols, hsr_protocol, hsr_protocol_seen, hsr_table, hsr_means};
 
 use link_base::{
-    Attribute, DecodeError, DefaultNla, Meaning, NamedNumber, Nla, NlaBuffer, Parseable, Place,
-    TryClone, emit_mac, emit_u8, emit_u16, emit_u32, has_size, keep, parse_mac, parse_u8,
-    parse_u16, parse_u32,
+    Attribute, DecodeError, DefaultNla, Meaning, Named, NamedNumber, Nla, NlaBuffer, NumberedName,
+    Parseable, Place, TryClone,
 };
 use std::alloc::{AllocError, Global};
 use std::fmt;
-
-// `include/uapi/linux/if_link.h`
-const IFLA_HSR_SLAVE1: u16 = 1;
-
-const IFLA_HSR_SLAVE2: u16 = 2;
-
-const IFLA_HSR_MULTICAST_SPEC: u16 = 3;
-
-const IFLA_HSR_SUPERVISION_ADDR: u16 = 4;
-
-const IFLA_HSR_SEQ_NR: u16 = 5;
-
-const IFLA_HSR_VERSION: u16 = 6;
-
-const IFLA_HSR_PROTOCOL: u16 = 7;
-
-const IFLA_HSR_INTERLINK: u16 = 8;
-
-// `HSR_PROTOCOL_*` from the same header
-const HSR_PROTOCOL_HSR: u8 = 0;
-
-const HSR_PROTOCOL_PRP: u8 = 1;
 
 /// A protocol that sends each frame twice (`HSR_PROTOCOL_*`, `include/uapi/linux/if_link.h`).
 #[derive(Clone, Copy, Debug, PartialEq, Eq)]
@@ -44,6 +21,16 @@ pub enum HsrProtocol {
     Prp,
     /// Any other number.
     Other(u8),
+}
+
+/// The numbers (`HSR_PROTOCOL_*`, `include/uapi/linux/if_link.h`), variants and `Display` output.
+macro_rules! protocol_names {
+    ($call:ident($($argument:tt)*)) => {
+        link_base::by_names! { $call($($argument)*)
+            HSR_PROTOCOL_HSR = 0, Hsr, "hsr";
+            HSR_PROTOCOL_PRP = 1, Prp, "prp";
+        }
+    };
 }
 
 impl NamedNumber for HsrProtocol {
@@ -64,16 +51,24 @@ impl NamedNumber for HsrProtocol {
     ghost thorough = { of_cases enum _ _ (Prim.search (thorough_fields)) };
 }
 
+impl NumberedName for HsrProtocol {
+    type Number = u8;
+
+    fn of_number(number: u8) -> Self {
+        protocol_names!(of_number(number))
+    }
+
+    fn number(self) -> u8 {
+        protocol_names!(number(self))
+    }
+}
+
 /// Converts a number to its variant, or to `Other` if the number has no name.
 impl From<u8> for HsrProtocol {
     ghost from_gives = { λ d p. p ≡ value_of ⟦<HsrProtocol as NamedNumber>⟧.names d };
 
     fn from(number: u8) -> Self {
-        match number {
-            HSR_PROTOCOL_HSR => HsrProtocol::Hsr,
-            HSR_PROTOCOL_PRP => HsrProtocol::Prp,
-            _ => HsrProtocol::Other(number),
-        }
+        Self::of_number(number)
     }
 }
 
@@ -82,11 +77,7 @@ impl From<HsrProtocol> for u8 {
     ghost from_gives = { λ p d. d ≡ number_of (⟦<HsrProtocol as NamedNumber>⟧.seen p) };
 
     fn from(protocol: HsrProtocol) -> u8 {
-        match protocol {
-            HsrProtocol::Hsr => HSR_PROTOCOL_HSR,
-            HsrProtocol::Prp => HSR_PROTOCOL_PRP,
-            HsrProtocol::Other(number) => number,
-        }
+        protocol.number()
     }
 }
 
@@ -96,11 +87,7 @@ impl fmt::Display for HsrProtocol {
         (⟦<HsrProtocol as NamedNumber>⟧.seen p)) };
 
     fn fmt<W: fmt::Write>(&self, f: &mut fmt::Formatter<W>) -> fmt::Result {
-        match self {
-            HsrProtocol::Hsr => f.write_str("hsr"),
-            HsrProtocol::Prp => f.write_str("prp"),
-            HsrProtocol::Other(number) => write!(f, "{number}"),
-        }
+        protocol_names!(display(self, f))
     }
 }
 
@@ -129,19 +116,25 @@ pub enum InfoHsr {
     Other(DefaultNla),
 }
 
+/// The attribute types (`IFLA_HSR_*`), the variant of each, and the class of its payload.
+macro_rules! hsr_rows {
+    ($call:ident($($argument:tt)*)) => {
+        link_base::by_rows! { $call($($argument)*)
+            IFLA_HSR_SLAVE1 = 1, Port1: u32;
+            IFLA_HSR_SLAVE2 = 2, Port2: u32;
+            IFLA_HSR_MULTICAST_SPEC = 3, MulticastSpec: u8;
+            IFLA_HSR_SUPERVISION_ADDR = 4, SupervisionAddr: [u8; 6];
+            IFLA_HSR_SEQ_NR = 5, SeqNr: u16;
+            IFLA_HSR_VERSION = 6, Version: u8;
+            IFLA_HSR_PROTOCOL = 7, Protocol: Named<HsrProtocol>;
+            IFLA_HSR_INTERLINK = 8, Interlink: u32;
+        }
+    };
+}
+
 impl TryClone for InfoHsr {
     fn try_clone(&self, alloc: Global) -> Result<Self, AllocError> {
-        match self {
-            InfoHsr::Port1(index) => Ok(InfoHsr::Port1(*index)),
-            InfoHsr::Port2(index) => Ok(InfoHsr::Port2(*index)),
-            InfoHsr::MulticastSpec(octet) => Ok(InfoHsr::MulticastSpec(*octet)),
-            InfoHsr::SupervisionAddr(address) => Ok(InfoHsr::SupervisionAddr(*address)),
-            InfoHsr::SeqNr(number) => Ok(InfoHsr::SeqNr(*number)),
-            InfoHsr::Version(version) => Ok(InfoHsr::Version(*version)),
-            InfoHsr::Protocol(protocol) => Ok(InfoHsr::Protocol(*protocol)),
-            InfoHsr::Interlink(index) => Ok(InfoHsr::Interlink(*index)),
-            InfoHsr::Other(other) => Ok(InfoHsr::Other(other.try_clone(alloc)?)),
-        }
+        hsr_rows!(clone(self, alloc))
     }
 }
 
@@ -153,41 +146,15 @@ impl Meaning for InfoHsr {
 
 impl Nla for InfoHsr {
     fn kind(&self) -> u16 {
-        match self {
-            InfoHsr::Port1(_) => IFLA_HSR_SLAVE1,
-            InfoHsr::Port2(_) => IFLA_HSR_SLAVE2,
-            InfoHsr::MulticastSpec(_) => IFLA_HSR_MULTICAST_SPEC,
-            InfoHsr::SupervisionAddr(_) => IFLA_HSR_SUPERVISION_ADDR,
-            InfoHsr::SeqNr(_) => IFLA_HSR_SEQ_NR,
-            InfoHsr::Version(_) => IFLA_HSR_VERSION,
-            InfoHsr::Protocol(_) => IFLA_HSR_PROTOCOL,
-            InfoHsr::Interlink(_) => IFLA_HSR_INTERLINK,
-            InfoHsr::Other(other) => other.kind(),
-        }
+        hsr_rows!(kind(self))
     }
 
     fn value_len(&self) -> usize {
-        match self {
-            InfoHsr::MulticastSpec(_) | InfoHsr::Version(_) | InfoHsr::Protocol(_) => 1,
-            InfoHsr::SeqNr(_) => 2,
-            InfoHsr::Port1(_) | InfoHsr::Port2(_) | InfoHsr::Interlink(_) => 4,
-            InfoHsr::SupervisionAddr(address) => address.as_slice().len(),
-            InfoHsr::Other(other) => other.value_len(),
-        }
+        hsr_rows!(size(self))
     }
 
     fn emit_value(&self, buffer: &mut [u8]) {
-        match self {
-            InfoHsr::Port1(index) => emit_u32(buffer, *index),
-            InfoHsr::Port2(index) => emit_u32(buffer, *index),
-            InfoHsr::MulticastSpec(octet) => emit_u8(buffer, *octet),
-            InfoHsr::SupervisionAddr(address) => emit_mac(buffer, address),
-            InfoHsr::SeqNr(number) => emit_u16(buffer, *number),
-            InfoHsr::Version(version) => emit_u8(buffer, *version),
-            InfoHsr::Protocol(protocol) => emit_u8(buffer, u8::from(*protocol)),
-            InfoHsr::Interlink(index) => emit_u32(buffer, *index),
-            InfoHsr::Other(other) => other.emit_value(buffer),
-        }
+        hsr_rows!(emit(self, buffer))
     }
 }
 
@@ -197,21 +164,7 @@ impl Parseable for InfoHsr {
         buffer: &NlaBuffer<'_>,
         place: &mut P,
     ) -> Result<(), DecodeError> {
-        let payload = buffer.value();
-        match buffer.kind() {
-            IFLA_HSR_SLAVE1 => keep(place, parse_u32(payload).map(Self::Port1)),
-            IFLA_HSR_SLAVE2 => keep(place, parse_u32(payload).map(Self::Port2)),
-            IFLA_HSR_MULTICAST_SPEC => keep(place, parse_u8(payload).map(Self::MulticastSpec)),
-            IFLA_HSR_SUPERVISION_ADDR => keep(place, parse_mac(payload).map(Self::SupervisionAddr)),
-            IFLA_HSR_SEQ_NR => keep(place, parse_u16(payload).map(Self::SeqNr)),
-            IFLA_HSR_VERSION => keep(place, parse_u8(payload).map(Self::Version)),
-            IFLA_HSR_PROTOCOL => keep(
-                place,
-                parse_u8(payload).map(|number| Self::Protocol(number.into())),
-            ),
-            IFLA_HSR_INTERLINK => keep(place, parse_u32(payload).map(Self::Interlink)),
-            _ => keep(place, DefaultNla::parse(alloc, buffer).map(Self::Other)),
-        }
+        hsr_rows!(read(alloc, buffer, place))
     }
 }
 
@@ -221,13 +174,7 @@ impl Attribute for InfoHsr {
     ghost use Rattle.link_vlan_can.specs.contracts.hsr.InfoHsr.{enum};
 
     fn canonical(buffer: &NlaBuffer<'_>) -> bool {
-        match buffer.kind() {
-            IFLA_HSR_SLAVE1 | IFLA_HSR_SLAVE2 | IFLA_HSR_INTERLINK => has_size(buffer, 4),
-            IFLA_HSR_MULTICAST_SPEC | IFLA_HSR_VERSION | IFLA_HSR_PROTOCOL => has_size(buffer, 1),
-            IFLA_HSR_SUPERVISION_ADDR => has_size(buffer, 6),
-            IFLA_HSR_SEQ_NR => has_size(buffer, 2),
-            _ => true,
-        }
+        hsr_rows!(canonical(buffer))
     }
 
     ghost lawful = { lawful hsr_table };

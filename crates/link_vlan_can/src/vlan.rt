@@ -10,24 +10,13 @@ ghost use Rattle.link_vlan_can.specs.Vlan.{mapping_rows, mapping_leaf, vlan_tabl
 use crate::vlan_flags::VlanFlags;
 use bitflags::Flags;
 use link_base::{
-    Attribute, DecodeError, DefaultNla, Meaning, NestedAttribute, Nla, NlaBuffer, Parseable, Place,
-    TryClone, VlanProtocol, emit_nested, emit_u16, emit_u16_be, emit_u32_pair, has_size, is_nested,
-    is_protocol, keep, nested_len, parse_u16, parse_u16_be, parse_u32_pair, read_nested,
-    try_clone_list,
+    Attribute, DecodeError, DefaultNla, Meaning, NestedAttribute, NestedList, Nla, NlaBuffer,
+    Parseable, PayloadClass, Place, TryClone, VlanProtocol, emit_u32_pair, has_size, keep,
+    parse_u32_pair,
 };
 use std::alloc::{AllocError, Global};
 
 // `include/uapi/linux/if_link.h`
-const IFLA_VLAN_ID: u16 = 1;
-
-const IFLA_VLAN_FLAGS: u16 = 2;
-
-const IFLA_VLAN_EGRESS_QOS: u16 = 3;
-
-const IFLA_VLAN_INGRESS_QOS: u16 = 4;
-
-const IFLA_VLAN_PROTOCOL: u16 = 5;
-
 const IFLA_VLAN_QOS_MAPPING: u16 = 1;
 
 /// An element of a list of priority mappings (`IFLA_VLAN_QOS_MAPPING`, `include/uapi/linux/if_link.h`).
@@ -142,16 +131,74 @@ pub enum InfoVlan {
     Other(DefaultNla),
 }
 
+/// The class of payloads that are two sets of flags: the flags that are on, and the mask.
+struct FlagPair;
+
+impl PayloadClass for FlagPair {
+    ghost use Rattle.std.specs.Prelude.{[], ◌∷◌};
+    ghost use Rattle.link_base.specs.Layout.{octets_of};
+    ghost use Rattle.link_base.specs.Class.{Octets, Exactly, Raw};
+    ghost use Rattle.link_base.specs.Table.{One, Single};
+    ghost use Rattle.link_vlan_can.specs.VlanFlags.{vlan_bits};
+
+    type Value = (VlanFlags, VlanFlags);
+
+    ghost shape = { One (Octets (Exactly 8)) };
+
+    ghost content = { λ flags. Single (Raw (octets_of 4 (vlan_bits flags.0 ∷ vlan_bits flags.1 ∷ []))) };
+
+    fn read(
+        _alloc: Global,
+        _kind: u16,
+        payload: &[u8],
+    ) -> Result<(VlanFlags, VlanFlags), DecodeError> {
+        match parse_u32_pair(payload) {
+            Ok((active, mask)) => Ok((
+                VlanFlags::from_bits_retain(active),
+                VlanFlags::from_bits_retain(mask),
+            )),
+            Err(error) => Err(error),
+        }
+    }
+
+    #[inline]
+    fn size(_flags: &(VlanFlags, VlanFlags)) -> usize {
+        8
+    }
+
+    fn emit(flags: &(VlanFlags, VlanFlags), buffer: &mut [u8]) {
+        emit_u32_pair(buffer, flags.0.bits(), flags.1.bits());
+    }
+
+    #[inline]
+    fn is_canonical(buffer: &NlaBuffer<'_>, _flag: u16) -> bool {
+        has_size(buffer, 8)
+    }
+
+    fn try_clone(
+        _alloc: Global,
+        flags: &(VlanFlags, VlanFlags),
+    ) -> Result<(VlanFlags, VlanFlags), AllocError> {
+        Ok(*flags)
+    }
+}
+
+/// The attribute types (`IFLA_VLAN_*`), the variant of each, and the class of its payload.
+macro_rules! vlan_rows {
+    ($call:ident($($argument:tt)*)) => {
+        link_base::by_rows! { $call($($argument)*)
+            IFLA_VLAN_ID = 1, Id: u16;
+            IFLA_VLAN_FLAGS = 2, Flags: FlagPair;
+            IFLA_VLAN_EGRESS_QOS = 3, EgressQos: NestedList<VlanQosMapping>;
+            IFLA_VLAN_INGRESS_QOS = 4, IngressQos: NestedList<VlanQosMapping>;
+            IFLA_VLAN_PROTOCOL = 5, Protocol: VlanProtocol;
+        }
+    };
+}
+
 impl TryClone for InfoVlan {
     fn try_clone(&self, alloc: Global) -> Result<Self, AllocError> {
-        match self {
-            InfoVlan::Id(id) => Ok(InfoVlan::Id(*id)),
-            InfoVlan::Flags(flags) => Ok(InfoVlan::Flags(*flags)),
-            InfoVlan::EgressQos(maps) => Ok(InfoVlan::EgressQos(try_clone_list(alloc, maps)?)),
-            InfoVlan::IngressQos(maps) => Ok(InfoVlan::IngressQos(try_clone_list(alloc, maps)?)),
-            InfoVlan::Protocol(protocol) => Ok(InfoVlan::Protocol(*protocol)),
-            InfoVlan::Other(other) => Ok(InfoVlan::Other(other.try_clone(alloc)?)),
-        }
+        vlan_rows!(clone(self, alloc))
     }
 }
 
@@ -163,36 +210,15 @@ impl Meaning for InfoVlan {
 
 impl Nla for InfoVlan {
     fn kind(&self) -> u16 {
-        match self {
-            InfoVlan::Id(_) => IFLA_VLAN_ID,
-            InfoVlan::Flags(_) => IFLA_VLAN_FLAGS,
-            InfoVlan::EgressQos(_) => IFLA_VLAN_EGRESS_QOS,
-            InfoVlan::IngressQos(_) => IFLA_VLAN_INGRESS_QOS,
-            InfoVlan::Protocol(_) => IFLA_VLAN_PROTOCOL,
-            InfoVlan::Other(other) => other.kind(),
-        }
+        vlan_rows!(kind(self))
     }
 
     fn value_len(&self) -> usize {
-        match self {
-            InfoVlan::Id(_) => 2,
-            InfoVlan::Flags(_) => 8,
-            InfoVlan::EgressQos(maps) => nested_len(maps),
-            InfoVlan::IngressQos(maps) => nested_len(maps),
-            InfoVlan::Protocol(_) => 2,
-            InfoVlan::Other(other) => other.value_len(),
-        }
+        vlan_rows!(size(self))
     }
 
     fn emit_value(&self, buffer: &mut [u8]) {
-        match self {
-            InfoVlan::Id(id) => emit_u16(buffer, *id),
-            InfoVlan::Flags((active, mask)) => emit_u32_pair(buffer, active.bits(), mask.bits()),
-            InfoVlan::EgressQos(maps) => emit_nested(maps, buffer),
-            InfoVlan::IngressQos(maps) => emit_nested(maps, buffer),
-            InfoVlan::Protocol(protocol) => emit_u16_be(buffer, u16::from(*protocol)),
-            InfoVlan::Other(other) => other.emit_value(buffer),
-        }
+        vlan_rows!(emit(self, buffer))
     }
 }
 
@@ -202,33 +228,7 @@ impl Parseable for InfoVlan {
         buffer: &NlaBuffer<'_>,
         place: &mut P,
     ) -> Result<(), DecodeError> {
-        let kind = buffer.kind();
-        let payload = buffer.value();
-        match kind {
-            IFLA_VLAN_ID => keep(place, parse_u16(payload).map(Self::Id)),
-            IFLA_VLAN_FLAGS => keep(
-                place,
-                parse_u32_pair(payload).map(|(active, mask)| {
-                    Self::Flags((
-                        VlanFlags::from_bits_retain(active),
-                        VlanFlags::from_bits_retain(mask),
-                    ))
-                }),
-            ),
-            IFLA_VLAN_EGRESS_QOS => keep(
-                place,
-                read_nested(alloc, kind, payload).map(Self::EgressQos),
-            ),
-            IFLA_VLAN_INGRESS_QOS => keep(
-                place,
-                read_nested(alloc, kind, payload).map(Self::IngressQos),
-            ),
-            IFLA_VLAN_PROTOCOL => keep(
-                place,
-                parse_u16_be(payload).map(|number| Self::Protocol(number.into())),
-            ),
-            _ => keep(place, DefaultNla::parse(alloc, buffer).map(Self::Other)),
-        }
+        vlan_rows!(read(alloc, buffer, place))
     }
 }
 
@@ -240,13 +240,7 @@ impl Attribute for InfoVlan {
     ghost use Rattle.link_vlan_can.specs.contracts.vlan.InfoVlan.{enum};
 
     fn canonical(buffer: &NlaBuffer<'_>) -> bool {
-        match buffer.kind() {
-            IFLA_VLAN_ID => has_size(buffer, 2),
-            IFLA_VLAN_FLAGS => has_size(buffer, 8),
-            IFLA_VLAN_EGRESS_QOS | IFLA_VLAN_INGRESS_QOS => is_nested::<VlanQosMapping>(buffer, 0),
-            IFLA_VLAN_PROTOCOL => is_protocol(buffer),
-            _ => true,
-        }
+        vlan_rows!(canonical(buffer))
     }
 
     ghost lawful = { lawful vlan_table };

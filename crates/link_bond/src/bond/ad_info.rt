@@ -6,20 +6,9 @@ ghost use Rattle.link_bond.specs.AdInfo.{ad_info_rows, ad_info_leaf};
 
 use link_base::{
     Attribute, DecodeError, DefaultNla, Meaning, NestedAttribute, Nla, NlaBuffer, Parseable, Place,
-    TryClone, emit_mac, emit_u16, has_size, keep, parse_mac, parse_u16,
+    TryClone,
 };
 use std::alloc::{AllocError, Global};
-
-// `include/uapi/linux/if_link.h`
-const IFLA_BOND_AD_INFO_AGGREGATOR: u16 = 1;
-
-const IFLA_BOND_AD_INFO_NUM_PORTS: u16 = 2;
-
-const IFLA_BOND_AD_INFO_ACTOR_KEY: u16 = 3;
-
-const IFLA_BOND_AD_INFO_PARTNER_KEY: u16 = 4;
-
-const IFLA_BOND_AD_INFO_PARTNER_MAC: u16 = 5;
 
 /// An attribute of the active aggregator, which the kernel reports for a bond in mode `Ieee8023Ad`
 /// (`IFLA_BOND_AD_INFO_*`, `include/uapi/linux/if_link.h`). All are read-only.
@@ -39,16 +28,22 @@ pub enum BondAdInfo {
     Other(DefaultNla),
 }
 
+/// The attribute types (`IFLA_BOND_AD_INFO_*`), the variant of each, and the class of its payload.
+macro_rules! ad_info_rows {
+    ($call:ident($($argument:tt)*)) => {
+        link_base::by_rows! { $call($($argument)*)
+            IFLA_BOND_AD_INFO_AGGREGATOR = 1, Aggregator: u16;
+            IFLA_BOND_AD_INFO_NUM_PORTS = 2, NumPorts: u16;
+            IFLA_BOND_AD_INFO_ACTOR_KEY = 3, ActorKey: u16;
+            IFLA_BOND_AD_INFO_PARTNER_KEY = 4, PartnerKey: u16;
+            IFLA_BOND_AD_INFO_PARTNER_MAC = 5, PartnerMac: [u8; 6];
+        }
+    };
+}
+
 impl TryClone for BondAdInfo {
     fn try_clone(&self, alloc: Global) -> Result<Self, AllocError> {
-        match self {
-            BondAdInfo::Aggregator(number) => Ok(BondAdInfo::Aggregator(*number)),
-            BondAdInfo::NumPorts(count) => Ok(BondAdInfo::NumPorts(*count)),
-            BondAdInfo::ActorKey(key) => Ok(BondAdInfo::ActorKey(*key)),
-            BondAdInfo::PartnerKey(key) => Ok(BondAdInfo::PartnerKey(*key)),
-            BondAdInfo::PartnerMac(address) => Ok(BondAdInfo::PartnerMac(*address)),
-            BondAdInfo::Other(other) => Ok(BondAdInfo::Other(other.try_clone(alloc)?)),
-        }
+        ad_info_rows!(clone(self, alloc))
     }
 }
 
@@ -60,36 +55,15 @@ impl Meaning for BondAdInfo {
 
 impl Nla for BondAdInfo {
     fn kind(&self) -> u16 {
-        match self {
-            BondAdInfo::Aggregator(_) => IFLA_BOND_AD_INFO_AGGREGATOR,
-            BondAdInfo::NumPorts(_) => IFLA_BOND_AD_INFO_NUM_PORTS,
-            BondAdInfo::ActorKey(_) => IFLA_BOND_AD_INFO_ACTOR_KEY,
-            BondAdInfo::PartnerKey(_) => IFLA_BOND_AD_INFO_PARTNER_KEY,
-            BondAdInfo::PartnerMac(_) => IFLA_BOND_AD_INFO_PARTNER_MAC,
-            BondAdInfo::Other(other) => other.kind(),
-        }
+        ad_info_rows!(kind(self))
     }
 
     fn value_len(&self) -> usize {
-        match self {
-            BondAdInfo::Aggregator(_)
-            | BondAdInfo::NumPorts(_)
-            | BondAdInfo::ActorKey(_)
-            | BondAdInfo::PartnerKey(_) => 2,
-            BondAdInfo::PartnerMac(address) => address.as_slice().len(),
-            BondAdInfo::Other(other) => other.value_len(),
-        }
+        ad_info_rows!(size(self))
     }
 
     fn emit_value(&self, buffer: &mut [u8]) {
-        match self {
-            BondAdInfo::Aggregator(number) => emit_u16(buffer, *number),
-            BondAdInfo::NumPorts(count) => emit_u16(buffer, *count),
-            BondAdInfo::ActorKey(key) => emit_u16(buffer, *key),
-            BondAdInfo::PartnerKey(key) => emit_u16(buffer, *key),
-            BondAdInfo::PartnerMac(address) => emit_mac(buffer, address),
-            BondAdInfo::Other(other) => other.emit_value(buffer),
-        }
+        ad_info_rows!(emit(self, buffer))
     }
 }
 
@@ -99,15 +73,7 @@ impl Parseable for BondAdInfo {
         buffer: &NlaBuffer<'_>,
         place: &mut P,
     ) -> Result<(), DecodeError> {
-        let payload = buffer.value();
-        match buffer.kind() {
-            IFLA_BOND_AD_INFO_AGGREGATOR => keep(place, parse_u16(payload).map(Self::Aggregator)),
-            IFLA_BOND_AD_INFO_NUM_PORTS => keep(place, parse_u16(payload).map(Self::NumPorts)),
-            IFLA_BOND_AD_INFO_ACTOR_KEY => keep(place, parse_u16(payload).map(Self::ActorKey)),
-            IFLA_BOND_AD_INFO_PARTNER_KEY => keep(place, parse_u16(payload).map(Self::PartnerKey)),
-            IFLA_BOND_AD_INFO_PARTNER_MAC => keep(place, parse_mac(payload).map(Self::PartnerMac)),
-            _ => keep(place, DefaultNla::parse(alloc, buffer).map(Self::Other)),
-        }
+        ad_info_rows!(read(alloc, buffer, place))
     }
 }
 
@@ -117,14 +83,7 @@ impl Attribute for BondAdInfo {
     ghost use Rattle.link_bond.specs.contracts.bond.ad_info.BondAdInfo.{enum};
 
     fn canonical(buffer: &NlaBuffer<'_>) -> bool {
-        match buffer.kind() {
-            IFLA_BOND_AD_INFO_AGGREGATOR
-            | IFLA_BOND_AD_INFO_NUM_PORTS
-            | IFLA_BOND_AD_INFO_ACTOR_KEY
-            | IFLA_BOND_AD_INFO_PARTNER_KEY => has_size(buffer, 2),
-            IFLA_BOND_AD_INFO_PARTNER_MAC => has_size(buffer, 6),
-            _ => true,
-        }
+        ad_info_rows!(canonical(buffer))
     }
 
     ghost lawful = { lawful (lift_table ad_info_rows) };

@@ -3,18 +3,9 @@
 ghost use Rattle.std.specs.Prelude.{refl, ◌≡◌, Some};
 ghost use Rattle.link_base.specs.Named.{value_of, number_of, displayed, ReadsText};
 
-use link_base::{DecodeError, DecodeFault, NamedNumber};
+use link_base::{DecodeError, NamedNumber, NumberedName};
 use std::fmt;
 use std::str::FromStr;
-
-// `include/net/bond_3ad.h`
-const BOND_AD_STABLE: u8 = 0;
-
-const BOND_AD_BANDWIDTH: u8 = 1;
-
-const BOND_AD_COUNT: u8 = 2;
-
-const BOND_AD_PRIO: u8 = 3;
 
 /// Which aggregator is chosen as the active one, in mode `Ieee8023Ad` (`BOND_AD_*`, `include/net/bond_3ad.h`).
 #[derive(Clone, Copy, Debug, PartialEq, Eq)]
@@ -31,6 +22,18 @@ pub enum BondAdSelect {
     ActorPortPrio,
     /// Any other number.
     Other(u8),
+}
+
+/// The numbers (`include/net/bond_3ad.h`), variants and `Display` output. Texts after `|` are parsed too.
+macro_rules! ad_select_names {
+    ($call:ident($($argument:tt)*)) => {
+        link_base::by_names! { $call($($argument)*)
+            BOND_AD_STABLE = 0, Stable, "stable" | "0";
+            BOND_AD_BANDWIDTH = 1, Bandwidth, "bandwidth" | "1";
+            BOND_AD_COUNT = 2, Count, "count" | "2";
+            BOND_AD_PRIO = 3, ActorPortPrio, "actor_port_prio" | "3";
+        }
+    };
 }
 
 impl NamedNumber for BondAdSelect {
@@ -53,18 +56,24 @@ impl NamedNumber for BondAdSelect {
     ghost thorough = { of_cases enum _ _ (Prim.search (thorough_fields)) };
 }
 
+impl NumberedName for BondAdSelect {
+    type Number = u8;
+
+    fn of_number(number: u8) -> Self {
+        ad_select_names!(of_number(number))
+    }
+
+    fn number(self) -> u8 {
+        ad_select_names!(number(self))
+    }
+}
+
 /// Converts a number to its variant, or to `Other` if the number has no name.
 impl From<u8> for BondAdSelect {
     ghost from_gives = { λ d v. v ≡ value_of ⟦<BondAdSelect as NamedNumber>⟧.names d };
 
     fn from(number: u8) -> Self {
-        match number {
-            BOND_AD_STABLE => BondAdSelect::Stable,
-            BOND_AD_BANDWIDTH => BondAdSelect::Bandwidth,
-            BOND_AD_COUNT => BondAdSelect::Count,
-            BOND_AD_PRIO => BondAdSelect::ActorPortPrio,
-            _ => BondAdSelect::Other(number),
-        }
+        Self::of_number(number)
     }
 }
 
@@ -73,13 +82,7 @@ impl From<BondAdSelect> for u8 {
     ghost from_gives = { λ v d. d ≡ number_of (⟦<BondAdSelect as NamedNumber>⟧.seen v) };
 
     fn from(value: BondAdSelect) -> u8 {
-        match value {
-            BondAdSelect::Stable => BOND_AD_STABLE,
-            BondAdSelect::Bandwidth => BOND_AD_BANDWIDTH,
-            BondAdSelect::Count => BOND_AD_COUNT,
-            BondAdSelect::ActorPortPrio => BOND_AD_PRIO,
-            BondAdSelect::Other(number) => number,
-        }
+        value.number()
     }
 }
 
@@ -89,13 +92,7 @@ impl fmt::Display for BondAdSelect {
         (⟦<BondAdSelect as NamedNumber>⟧.seen v)) };
 
     fn fmt<W: fmt::Write>(&self, f: &mut fmt::Formatter<W>) -> fmt::Result {
-        match self {
-            BondAdSelect::Stable => f.write_str("stable"),
-            BondAdSelect::Bandwidth => f.write_str("bandwidth"),
-            BondAdSelect::Count => f.write_str("count"),
-            BondAdSelect::ActorPortPrio => f.write_str("actor_port_prio"),
-            BondAdSelect::Other(number) => write!(f, "unknown-variant ({number})"),
-        }
+        ad_select_names!(display_unknown(self, f))
     }
 }
 
@@ -111,12 +108,6 @@ impl FromStr for BondAdSelect {
 
     #[tactic(auto, using(std::proofs::lemmas::Fmt::decimal_digit))]
     fn from_str(text: &str) -> Result<Self, DecodeError> {
-        match text {
-            "stable" | "0" => Ok(BondAdSelect::Stable),
-            "bandwidth" | "1" => Ok(BondAdSelect::Bandwidth),
-            "count" | "2" => Ok(BondAdSelect::Count),
-            "actor_port_prio" | "3" => Ok(BondAdSelect::ActorPortPrio),
-            _ => Err(DecodeError::Fault(DecodeFault::Text)),
-        }
+        ad_select_names!(parse(text))
     }
 }

@@ -3,14 +3,9 @@
 ghost use Rattle.std.specs.Prelude.{refl, ◌≡◌, Some};
 ghost use Rattle.link_base.specs.Named.{value_of, number_of, displayed, ReadsText};
 
-use link_base::{DecodeError, DecodeFault, NamedNumber};
+use link_base::{DecodeError, NamedNumber, NumberedName};
 use std::fmt;
 use std::str::FromStr;
-
-// the kernel has no names for these numbers
-const DROPPED: u8 = 0;
-
-const DELIVERED: u8 = 1;
 
 /// What happens to duplicate frames, those received on an inactive port (`IFLA_BOND_ALL_SLAVES_ACTIVE`,
 /// `include/uapi/linux/if_link.h`).
@@ -22,6 +17,16 @@ pub enum BondAllPortActive {
     Delivered,
     /// Any other number.
     Other(u8),
+}
+
+/// The numbers, for which the kernel has no names, variants and `Display` output. Texts after `|` are parsed too.
+macro_rules! all_port_active_names {
+    ($call:ident($($argument:tt)*)) => {
+        link_base::by_names! { $call($($argument)*)
+            DROPPED = 0, Dropped, "dropped" | "0";
+            DELIVERED = 1, Delivered, "delivered" | "1";
+        }
+    };
 }
 
 impl NamedNumber for BondAllPortActive {
@@ -44,16 +49,24 @@ impl NamedNumber for BondAllPortActive {
     ghost thorough = { of_cases enum _ _ (Prim.search (thorough_fields)) };
 }
 
+impl NumberedName for BondAllPortActive {
+    type Number = u8;
+
+    fn of_number(number: u8) -> Self {
+        all_port_active_names!(of_number(number))
+    }
+
+    fn number(self) -> u8 {
+        all_port_active_names!(number(self))
+    }
+}
+
 /// Converts a number to its variant, or to `Other` if the number has no name.
 impl From<u8> for BondAllPortActive {
     ghost from_gives = { λ d v. v ≡ value_of ⟦<BondAllPortActive as NamedNumber>⟧.names d };
 
     fn from(number: u8) -> Self {
-        match number {
-            DROPPED => BondAllPortActive::Dropped,
-            DELIVERED => BondAllPortActive::Delivered,
-            _ => BondAllPortActive::Other(number),
-        }
+        Self::of_number(number)
     }
 }
 
@@ -62,11 +75,7 @@ impl From<BondAllPortActive> for u8 {
     ghost from_gives = { λ v d. d ≡ number_of (⟦<BondAllPortActive as NamedNumber>⟧.seen v) };
 
     fn from(value: BondAllPortActive) -> u8 {
-        match value {
-            BondAllPortActive::Dropped => DROPPED,
-            BondAllPortActive::Delivered => DELIVERED,
-            BondAllPortActive::Other(number) => number,
-        }
+        value.number()
     }
 }
 
@@ -76,11 +85,7 @@ impl fmt::Display for BondAllPortActive {
         (⟦<BondAllPortActive as NamedNumber>⟧.seen v)) };
 
     fn fmt<W: fmt::Write>(&self, f: &mut fmt::Formatter<W>) -> fmt::Result {
-        match self {
-            BondAllPortActive::Dropped => f.write_str("dropped"),
-            BondAllPortActive::Delivered => f.write_str("delivered"),
-            BondAllPortActive::Other(number) => write!(f, "{number}"),
-        }
+        all_port_active_names!(display(self, f))
     }
 }
 
@@ -96,10 +101,6 @@ impl FromStr for BondAllPortActive {
 
     #[tactic(auto, using(std::proofs::lemmas::Fmt::decimal_digit))]
     fn from_str(text: &str) -> Result<Self, DecodeError> {
-        match text {
-            "dropped" | "0" => Ok(BondAllPortActive::Dropped),
-            "delivered" | "1" => Ok(BondAllPortActive::Delivered),
-            _ => Err(DecodeError::Fault(DecodeFault::Text)),
-        }
+        all_port_active_names!(parse(text))
     }
 }

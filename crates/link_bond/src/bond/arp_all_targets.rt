@@ -3,14 +3,9 @@
 ghost use Rattle.std.specs.Prelude.{refl, ◌≡◌, Some};
 ghost use Rattle.link_base.specs.Named.{value_of, number_of, displayed, ReadsText};
 
-use link_base::{DecodeError, DecodeFault, NamedNumber};
+use link_base::{DecodeError, NamedNumber, NumberedName};
 use std::fmt;
 use std::str::FromStr;
-
-// `include/net/bonding.h`
-const BOND_ARP_TARGETS_ANY: u32 = 0;
-
-const BOND_ARP_TARGETS_ALL: u32 = 1;
 
 /// How many ARP targets a port must reach to be considered up (`BOND_ARP_TARGETS_*`, `include/net/bonding.h`).
 #[derive(Clone, Copy, Debug, PartialEq, Eq)]
@@ -21,6 +16,16 @@ pub enum BondArpAllTargets {
     All,
     /// Any other number.
     Other(u32),
+}
+
+/// The numbers (`include/net/bonding.h`), variants and `Display` output. Texts after `|` are parsed too.
+macro_rules! arp_all_targets_names {
+    ($call:ident($($argument:tt)*)) => {
+        link_base::by_names! { $call($($argument)*)
+            BOND_ARP_TARGETS_ANY = 0, Any, "any" | "0";
+            BOND_ARP_TARGETS_ALL = 1, All, "all" | "1";
+        }
+    };
 }
 
 impl NamedNumber for BondArpAllTargets {
@@ -43,6 +48,18 @@ impl NamedNumber for BondArpAllTargets {
     ghost thorough = { of_cases enum _ _ (Prim.search (thorough_fields)) };
 }
 
+impl NumberedName for BondArpAllTargets {
+    type Number = u32;
+
+    fn of_number(number: u32) -> Self {
+        arp_all_targets_names!(of_number(number))
+    }
+
+    fn number(self) -> u32 {
+        arp_all_targets_names!(number(self))
+    }
+}
+
 /// Returns `Any`.
 impl Default for BondArpAllTargets {
     ghost is_default = { λ v. v ≡ value_of ⟦<BondArpAllTargets as NamedNumber>⟧.names 0 };
@@ -57,11 +74,7 @@ impl From<u32> for BondArpAllTargets {
     ghost from_gives = { λ d v. v ≡ value_of ⟦<BondArpAllTargets as NamedNumber>⟧.names d };
 
     fn from(number: u32) -> Self {
-        match number {
-            BOND_ARP_TARGETS_ANY => BondArpAllTargets::Any,
-            BOND_ARP_TARGETS_ALL => BondArpAllTargets::All,
-            _ => BondArpAllTargets::Other(number),
-        }
+        Self::of_number(number)
     }
 }
 
@@ -70,11 +83,7 @@ impl From<BondArpAllTargets> for u32 {
     ghost from_gives = { λ v d. d ≡ number_of (⟦<BondArpAllTargets as NamedNumber>⟧.seen v) };
 
     fn from(value: BondArpAllTargets) -> u32 {
-        match value {
-            BondArpAllTargets::Any => BOND_ARP_TARGETS_ANY,
-            BondArpAllTargets::All => BOND_ARP_TARGETS_ALL,
-            BondArpAllTargets::Other(number) => number,
-        }
+        value.number()
     }
 }
 
@@ -84,11 +93,7 @@ impl fmt::Display for BondArpAllTargets {
         (⟦<BondArpAllTargets as NamedNumber>⟧.seen v)) };
 
     fn fmt<W: fmt::Write>(&self, f: &mut fmt::Formatter<W>) -> fmt::Result {
-        match self {
-            BondArpAllTargets::Any => f.write_str("any"),
-            BondArpAllTargets::All => f.write_str("all"),
-            BondArpAllTargets::Other(number) => write!(f, "unknown-variant ({number})"),
-        }
+        arp_all_targets_names!(display_unknown(self, f))
     }
 }
 
@@ -104,10 +109,6 @@ impl FromStr for BondArpAllTargets {
 
     #[tactic(auto, using(std::proofs::lemmas::Fmt::decimal_digit))]
     fn from_str(text: &str) -> Result<Self, DecodeError> {
-        match text {
-            "any" | "0" => Ok(BondArpAllTargets::Any),
-            "all" | "1" => Ok(BondArpAllTargets::All),
-            _ => Err(DecodeError::Fault(DecodeFault::Text)),
-        }
+        arp_all_targets_names!(parse(text))
     }
 }

@@ -3,24 +3,9 @@
 ghost use Rattle.std.specs.Prelude.{refl, ◌≡◌, Some};
 ghost use Rattle.link_base.specs.Named.{value_of, number_of, displayed, ReadsText};
 
-use link_base::{DecodeError, DecodeFault, NamedNumber};
+use link_base::{DecodeError, NamedNumber, NumberedName};
 use std::fmt;
 use std::str::FromStr;
-
-// `include/net/bonding.h`
-const BOND_ARP_VALIDATE_NONE: u32 = 0;
-
-const BOND_ARP_VALIDATE_ACTIVE: u32 = 1;
-
-const BOND_ARP_VALIDATE_BACKUP: u32 = 2;
-
-const BOND_ARP_VALIDATE_ALL: u32 = 3;
-
-const BOND_ARP_FILTER: u32 = 4;
-
-const BOND_ARP_FILTER_ACTIVE: u32 = 5;
-
-const BOND_ARP_FILTER_BACKUP: u32 = 6;
 
 /// Which ports validate received ARP and neighbor messages, and whether other traffic counts as a sign of life
 /// (`BOND_ARP_VALIDATE_*` and `BOND_ARP_FILTER*`, `include/net/bonding.h`).
@@ -44,6 +29,21 @@ pub enum BondArpValidate {
     Other(u32),
 }
 
+/// The numbers (`include/net/bonding.h`), variants and `Display` output. Texts after `|` are parsed too.
+macro_rules! arp_validate_names {
+    ($call:ident($($argument:tt)*)) => {
+        link_base::by_names! { $call($($argument)*)
+            BOND_ARP_VALIDATE_NONE = 0, None, "none" | "0";
+            BOND_ARP_VALIDATE_ACTIVE = 1, Active, "active" | "1";
+            BOND_ARP_VALIDATE_BACKUP = 2, Backup, "backup" | "2";
+            BOND_ARP_VALIDATE_ALL = 3, All, "all" | "3";
+            BOND_ARP_FILTER = 4, Filter, "filter" | "4";
+            BOND_ARP_FILTER_ACTIVE = 5, FilterActive, "filter_active" | "5";
+            BOND_ARP_FILTER_BACKUP = 6, FilterBackup, "filter_backup" | "6";
+        }
+    };
+}
+
 impl NamedNumber for BondArpValidate {
     ghost use Rattle.link_base.specs.Equality.{of_cases, thorough_fields};
     ghost use Rattle.link_bond.specs.contracts.bond.arp_validate.BondArpValidate.{enum};
@@ -64,6 +64,18 @@ impl NamedNumber for BondArpValidate {
     ghost thorough = { of_cases enum _ _ (Prim.search (thorough_fields)) };
 }
 
+impl NumberedName for BondArpValidate {
+    type Number = u32;
+
+    fn of_number(number: u32) -> Self {
+        arp_validate_names!(of_number(number))
+    }
+
+    fn number(self) -> u32 {
+        arp_validate_names!(number(self))
+    }
+}
+
 /// Returns `None`.
 impl Default for BondArpValidate {
     ghost is_default = { λ v. v ≡ value_of ⟦<BondArpValidate as NamedNumber>⟧.names 0 };
@@ -78,16 +90,7 @@ impl From<u32> for BondArpValidate {
     ghost from_gives = { λ d v. v ≡ value_of ⟦<BondArpValidate as NamedNumber>⟧.names d };
 
     fn from(number: u32) -> Self {
-        match number {
-            BOND_ARP_VALIDATE_NONE => BondArpValidate::None,
-            BOND_ARP_VALIDATE_ACTIVE => BondArpValidate::Active,
-            BOND_ARP_VALIDATE_BACKUP => BondArpValidate::Backup,
-            BOND_ARP_VALIDATE_ALL => BondArpValidate::All,
-            BOND_ARP_FILTER => BondArpValidate::Filter,
-            BOND_ARP_FILTER_ACTIVE => BondArpValidate::FilterActive,
-            BOND_ARP_FILTER_BACKUP => BondArpValidate::FilterBackup,
-            _ => BondArpValidate::Other(number),
-        }
+        Self::of_number(number)
     }
 }
 
@@ -96,16 +99,7 @@ impl From<BondArpValidate> for u32 {
     ghost from_gives = { λ v d. d ≡ number_of (⟦<BondArpValidate as NamedNumber>⟧.seen v) };
 
     fn from(value: BondArpValidate) -> u32 {
-        match value {
-            BondArpValidate::None => BOND_ARP_VALIDATE_NONE,
-            BondArpValidate::Active => BOND_ARP_VALIDATE_ACTIVE,
-            BondArpValidate::Backup => BOND_ARP_VALIDATE_BACKUP,
-            BondArpValidate::All => BOND_ARP_VALIDATE_ALL,
-            BondArpValidate::Filter => BOND_ARP_FILTER,
-            BondArpValidate::FilterActive => BOND_ARP_FILTER_ACTIVE,
-            BondArpValidate::FilterBackup => BOND_ARP_FILTER_BACKUP,
-            BondArpValidate::Other(number) => number,
-        }
+        value.number()
     }
 }
 
@@ -115,16 +109,7 @@ impl fmt::Display for BondArpValidate {
         (⟦<BondArpValidate as NamedNumber>⟧.seen v)) };
 
     fn fmt<W: fmt::Write>(&self, f: &mut fmt::Formatter<W>) -> fmt::Result {
-        match self {
-            BondArpValidate::None => f.write_str("none"),
-            BondArpValidate::Active => f.write_str("active"),
-            BondArpValidate::Backup => f.write_str("backup"),
-            BondArpValidate::All => f.write_str("all"),
-            BondArpValidate::Filter => f.write_str("filter"),
-            BondArpValidate::FilterActive => f.write_str("filter_active"),
-            BondArpValidate::FilterBackup => f.write_str("filter_backup"),
-            BondArpValidate::Other(number) => write!(f, "unknown-variant ({number})"),
-        }
+        arp_validate_names!(display_unknown(self, f))
     }
 }
 
@@ -140,15 +125,6 @@ impl FromStr for BondArpValidate {
 
     #[tactic(auto, using(std::proofs::lemmas::Fmt::decimal_digit))]
     fn from_str(text: &str) -> Result<Self, DecodeError> {
-        match text {
-            "none" | "0" => Ok(BondArpValidate::None),
-            "active" | "1" => Ok(BondArpValidate::Active),
-            "backup" | "2" => Ok(BondArpValidate::Backup),
-            "all" | "3" => Ok(BondArpValidate::All),
-            "filter" | "4" => Ok(BondArpValidate::Filter),
-            "filter_active" | "5" => Ok(BondArpValidate::FilterActive),
-            "filter_backup" | "6" => Ok(BondArpValidate::FilterBackup),
-            _ => Err(DecodeError::Fault(DecodeFault::Text)),
-        }
+        arp_validate_names!(parse(text))
     }
 }

@@ -3,16 +3,9 @@
 ghost use Rattle.std.specs.Prelude.{refl, ◌≡◌, Some};
 ghost use Rattle.link_base.specs.Named.{value_of, number_of, displayed, ReadsText};
 
-use link_base::{DecodeError, DecodeFault, NamedNumber};
+use link_base::{DecodeError, NamedNumber, NumberedName};
 use std::fmt;
 use std::str::FromStr;
-
-// `include/net/bonding.h`
-const BOND_FOM_NONE: u8 = 0;
-
-const BOND_FOM_ACTIVE: u8 = 1;
-
-const BOND_FOM_FOLLOW: u8 = 2;
 
 /// Which hardware addresses the bond and its ports have, in mode `ActiveBackup` (`BOND_FOM_*`,
 /// `include/net/bonding.h`).
@@ -26,6 +19,17 @@ pub enum BondFailOverMac {
     Follow,
     /// Any other number.
     Other(u8),
+}
+
+/// The numbers (`include/net/bonding.h`), variants and `Display` output. Texts after `|` are parsed too.
+macro_rules! fail_over_mac_names {
+    ($call:ident($($argument:tt)*)) => {
+        link_base::by_names! { $call($($argument)*)
+            BOND_FOM_NONE = 0, None, "none" | "0";
+            BOND_FOM_ACTIVE = 1, Active, "active" | "1";
+            BOND_FOM_FOLLOW = 2, Follow, "follow" | "2";
+        }
+    };
 }
 
 impl NamedNumber for BondFailOverMac {
@@ -48,6 +52,18 @@ impl NamedNumber for BondFailOverMac {
     ghost thorough = { of_cases enum _ _ (Prim.search (thorough_fields)) };
 }
 
+impl NumberedName for BondFailOverMac {
+    type Number = u8;
+
+    fn of_number(number: u8) -> Self {
+        fail_over_mac_names!(of_number(number))
+    }
+
+    fn number(self) -> u8 {
+        fail_over_mac_names!(number(self))
+    }
+}
+
 /// Returns `None`.
 impl Default for BondFailOverMac {
     ghost is_default = { λ v. v ≡ value_of ⟦<BondFailOverMac as NamedNumber>⟧.names 0 };
@@ -62,12 +78,7 @@ impl From<u8> for BondFailOverMac {
     ghost from_gives = { λ d v. v ≡ value_of ⟦<BondFailOverMac as NamedNumber>⟧.names d };
 
     fn from(number: u8) -> Self {
-        match number {
-            BOND_FOM_NONE => BondFailOverMac::None,
-            BOND_FOM_ACTIVE => BondFailOverMac::Active,
-            BOND_FOM_FOLLOW => BondFailOverMac::Follow,
-            _ => BondFailOverMac::Other(number),
-        }
+        Self::of_number(number)
     }
 }
 
@@ -76,12 +87,7 @@ impl From<BondFailOverMac> for u8 {
     ghost from_gives = { λ v d. d ≡ number_of (⟦<BondFailOverMac as NamedNumber>⟧.seen v) };
 
     fn from(value: BondFailOverMac) -> u8 {
-        match value {
-            BondFailOverMac::None => BOND_FOM_NONE,
-            BondFailOverMac::Active => BOND_FOM_ACTIVE,
-            BondFailOverMac::Follow => BOND_FOM_FOLLOW,
-            BondFailOverMac::Other(number) => number,
-        }
+        value.number()
     }
 }
 
@@ -91,12 +97,7 @@ impl fmt::Display for BondFailOverMac {
         (⟦<BondFailOverMac as NamedNumber>⟧.seen v)) };
 
     fn fmt<W: fmt::Write>(&self, f: &mut fmt::Formatter<W>) -> fmt::Result {
-        match self {
-            BondFailOverMac::None => f.write_str("none"),
-            BondFailOverMac::Active => f.write_str("active"),
-            BondFailOverMac::Follow => f.write_str("follow"),
-            BondFailOverMac::Other(number) => write!(f, "unknown-variant ({number})"),
-        }
+        fail_over_mac_names!(display_unknown(self, f))
     }
 }
 
@@ -112,11 +113,6 @@ impl FromStr for BondFailOverMac {
 
     #[tactic(auto, using(std::proofs::lemmas::Fmt::decimal_digit))]
     fn from_str(text: &str) -> Result<Self, DecodeError> {
-        match text {
-            "none" | "0" => Ok(BondFailOverMac::None),
-            "active" | "1" => Ok(BondFailOverMac::Active),
-            "follow" | "2" => Ok(BondFailOverMac::Follow),
-            _ => Err(DecodeError::Fault(DecodeFault::Text)),
-        }
+        fail_over_mac_names!(parse(text))
     }
 }

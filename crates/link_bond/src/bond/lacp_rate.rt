@@ -3,14 +3,9 @@
 ghost use Rattle.std.specs.Prelude.{refl, ◌≡◌, Some};
 ghost use Rattle.link_base.specs.Named.{value_of, number_of, displayed, ReadsText};
 
-use link_base::{DecodeError, DecodeFault, NamedNumber};
+use link_base::{DecodeError, NamedNumber, NumberedName};
 use std::fmt;
 use std::str::FromStr;
-
-// `include/net/bond_3ad.h`
-const AD_LACP_SLOW: u8 = 0;
-
-const AD_LACP_FAST: u8 = 1;
 
 /// How often the LACP partner is asked to send LACPDUs, in mode `Ieee8023Ad` (`AD_LACP_*`, `include/net/bond_3ad.h`).
 #[derive(Clone, Copy, Debug, PartialEq, Eq)]
@@ -21,6 +16,16 @@ pub enum BondLacpRate {
     Fast,
     /// Any other number.
     Other(u8),
+}
+
+/// The numbers (`include/net/bond_3ad.h`), variants and `Display` output. Texts after `|` are parsed too.
+macro_rules! lacp_rate_names {
+    ($call:ident($($argument:tt)*)) => {
+        link_base::by_names! { $call($($argument)*)
+            AD_LACP_SLOW = 0, Slow, "slow" | "0";
+            AD_LACP_FAST = 1, Fast, "fast" | "1";
+        }
+    };
 }
 
 impl NamedNumber for BondLacpRate {
@@ -43,16 +48,24 @@ impl NamedNumber for BondLacpRate {
     ghost thorough = { of_cases enum _ _ (Prim.search (thorough_fields)) };
 }
 
+impl NumberedName for BondLacpRate {
+    type Number = u8;
+
+    fn of_number(number: u8) -> Self {
+        lacp_rate_names!(of_number(number))
+    }
+
+    fn number(self) -> u8 {
+        lacp_rate_names!(number(self))
+    }
+}
+
 /// Converts a number to its variant, or to `Other` if the number has no name.
 impl From<u8> for BondLacpRate {
     ghost from_gives = { λ d v. v ≡ value_of ⟦<BondLacpRate as NamedNumber>⟧.names d };
 
     fn from(number: u8) -> Self {
-        match number {
-            AD_LACP_SLOW => BondLacpRate::Slow,
-            AD_LACP_FAST => BondLacpRate::Fast,
-            _ => BondLacpRate::Other(number),
-        }
+        Self::of_number(number)
     }
 }
 
@@ -61,11 +74,7 @@ impl From<BondLacpRate> for u8 {
     ghost from_gives = { λ v d. d ≡ number_of (⟦<BondLacpRate as NamedNumber>⟧.seen v) };
 
     fn from(value: BondLacpRate) -> u8 {
-        match value {
-            BondLacpRate::Slow => AD_LACP_SLOW,
-            BondLacpRate::Fast => AD_LACP_FAST,
-            BondLacpRate::Other(number) => number,
-        }
+        value.number()
     }
 }
 
@@ -75,11 +84,7 @@ impl fmt::Display for BondLacpRate {
         (⟦<BondLacpRate as NamedNumber>⟧.seen v)) };
 
     fn fmt<W: fmt::Write>(&self, f: &mut fmt::Formatter<W>) -> fmt::Result {
-        match self {
-            BondLacpRate::Slow => f.write_str("slow"),
-            BondLacpRate::Fast => f.write_str("fast"),
-            BondLacpRate::Other(number) => write!(f, "{number}"),
-        }
+        lacp_rate_names!(display(self, f))
     }
 }
 
@@ -95,10 +100,6 @@ impl FromStr for BondLacpRate {
 
     #[tactic(auto, using(std::proofs::lemmas::Fmt::decimal_digit))]
     fn from_str(text: &str) -> Result<Self, DecodeError> {
-        match text {
-            "slow" | "0" => Ok(BondLacpRate::Slow),
-            "fast" | "1" => Ok(BondLacpRate::Fast),
-            _ => Err(DecodeError::Fault(DecodeFault::Text)),
-        }
+        lacp_rate_names!(parse(text))
     }
 }

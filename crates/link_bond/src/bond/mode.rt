@@ -3,24 +3,9 @@
 ghost use Rattle.std.specs.Prelude.{refl, ◌≡◌, Some};
 ghost use Rattle.link_base.specs.Named.{value_of, number_of, displayed, ReadsText};
 
-use link_base::{DecodeError, DecodeFault, NamedNumber};
+use link_base::{DecodeError, NamedNumber, NumberedName};
 use std::fmt;
 use std::str::FromStr;
-
-// `include/uapi/linux/if_bonding.h`
-const BOND_MODE_ROUNDROBIN: u8 = 0;
-
-const BOND_MODE_ACTIVEBACKUP: u8 = 1;
-
-const BOND_MODE_XOR: u8 = 2;
-
-const BOND_MODE_BROADCAST: u8 = 3;
-
-const BOND_MODE_8023AD: u8 = 4;
-
-const BOND_MODE_TLB: u8 = 5;
-
-const BOND_MODE_ALB: u8 = 6;
 
 /// How a bond distributes traffic over its ports (`BOND_MODE_*`, `include/uapi/linux/if_bonding.h`).
 #[derive(Clone, Copy, Debug, PartialEq, Eq)]
@@ -43,6 +28,21 @@ pub enum BondMode {
     Other(u8),
 }
 
+/// The numbers (`include/uapi/linux/if_bonding.h`), variants and `Display` output. Texts after `|` are parsed too.
+macro_rules! mode_names {
+    ($call:ident($($argument:tt)*)) => {
+        link_base::by_names! { $call($($argument)*)
+            BOND_MODE_ROUNDROBIN = 0, BalanceRr, "balance-rr" | "0";
+            BOND_MODE_ACTIVEBACKUP = 1, ActiveBackup, "active-backup" | "1";
+            BOND_MODE_XOR = 2, BalanceXor, "balance-xor" | "2";
+            BOND_MODE_BROADCAST = 3, Broadcast, "broadcast" | "3";
+            BOND_MODE_8023AD = 4, Ieee8023Ad, "802.3ad" | "4";
+            BOND_MODE_TLB = 5, BalanceTlb, "balance-tlb" | "5";
+            BOND_MODE_ALB = 6, BalanceAlb, "balance-alb" | "6";
+        }
+    };
+}
+
 impl NamedNumber for BondMode {
     ghost use Rattle.link_base.specs.Equality.{of_cases, thorough_fields};
     ghost use Rattle.link_bond.specs.contracts.bond.mode.BondMode.{enum};
@@ -63,6 +63,18 @@ impl NamedNumber for BondMode {
     ghost thorough = { of_cases enum _ _ (Prim.search (thorough_fields)) };
 }
 
+impl NumberedName for BondMode {
+    type Number = u8;
+
+    fn of_number(number: u8) -> Self {
+        mode_names!(of_number(number))
+    }
+
+    fn number(self) -> u8 {
+        mode_names!(number(self))
+    }
+}
+
 /// Returns `BalanceRr`.
 impl Default for BondMode {
     ghost is_default = { λ v. v ≡ value_of ⟦<BondMode as NamedNumber>⟧.names 0 };
@@ -77,16 +89,7 @@ impl From<u8> for BondMode {
     ghost from_gives = { λ d v. v ≡ value_of ⟦<BondMode as NamedNumber>⟧.names d };
 
     fn from(number: u8) -> Self {
-        match number {
-            BOND_MODE_ROUNDROBIN => BondMode::BalanceRr,
-            BOND_MODE_ACTIVEBACKUP => BondMode::ActiveBackup,
-            BOND_MODE_XOR => BondMode::BalanceXor,
-            BOND_MODE_BROADCAST => BondMode::Broadcast,
-            BOND_MODE_8023AD => BondMode::Ieee8023Ad,
-            BOND_MODE_TLB => BondMode::BalanceTlb,
-            BOND_MODE_ALB => BondMode::BalanceAlb,
-            _ => BondMode::Other(number),
-        }
+        Self::of_number(number)
     }
 }
 
@@ -95,16 +98,7 @@ impl From<BondMode> for u8 {
     ghost from_gives = { λ v d. d ≡ number_of (⟦<BondMode as NamedNumber>⟧.seen v) };
 
     fn from(value: BondMode) -> u8 {
-        match value {
-            BondMode::BalanceRr => BOND_MODE_ROUNDROBIN,
-            BondMode::ActiveBackup => BOND_MODE_ACTIVEBACKUP,
-            BondMode::BalanceXor => BOND_MODE_XOR,
-            BondMode::Broadcast => BOND_MODE_BROADCAST,
-            BondMode::Ieee8023Ad => BOND_MODE_8023AD,
-            BondMode::BalanceTlb => BOND_MODE_TLB,
-            BondMode::BalanceAlb => BOND_MODE_ALB,
-            BondMode::Other(number) => number,
-        }
+        value.number()
     }
 }
 
@@ -113,16 +107,7 @@ impl fmt::Display for BondMode {
     ghost output = { λ v. Some (displayed ⟦<BondMode as NamedNumber>⟧.names (⟦<BondMode as NamedNumber>⟧.seen v)) };
 
     fn fmt<W: fmt::Write>(&self, f: &mut fmt::Formatter<W>) -> fmt::Result {
-        match self {
-            BondMode::BalanceRr => f.write_str("balance-rr"),
-            BondMode::ActiveBackup => f.write_str("active-backup"),
-            BondMode::BalanceXor => f.write_str("balance-xor"),
-            BondMode::Broadcast => f.write_str("broadcast"),
-            BondMode::Ieee8023Ad => f.write_str("802.3ad"),
-            BondMode::BalanceTlb => f.write_str("balance-tlb"),
-            BondMode::BalanceAlb => f.write_str("balance-alb"),
-            BondMode::Other(number) => write!(f, "unknown-variant ({number})"),
-        }
+        mode_names!(display_unknown(self, f))
     }
 }
 
@@ -138,15 +123,6 @@ impl FromStr for BondMode {
 
     #[tactic(auto, using(std::proofs::lemmas::Fmt::decimal_digit))]
     fn from_str(text: &str) -> Result<Self, DecodeError> {
-        match text {
-            "balance-rr" | "0" => Ok(BondMode::BalanceRr),
-            "active-backup" | "1" => Ok(BondMode::ActiveBackup),
-            "balance-xor" | "2" => Ok(BondMode::BalanceXor),
-            "broadcast" | "3" => Ok(BondMode::Broadcast),
-            "802.3ad" | "4" => Ok(BondMode::Ieee8023Ad),
-            "balance-tlb" | "5" => Ok(BondMode::BalanceTlb),
-            "balance-alb" | "6" => Ok(BondMode::BalanceAlb),
-            _ => Err(DecodeError::Fault(DecodeFault::Text)),
-        }
+        mode_names!(parse(text))
     }
 }

@@ -3,16 +3,9 @@
 ghost use Rattle.std.specs.Prelude.{refl, ◌≡◌, Some};
 ghost use Rattle.link_base.specs.Named.{value_of, number_of, displayed, ReadsText};
 
-use link_base::{DecodeError, DecodeFault, NamedNumber};
+use link_base::{DecodeError, NamedNumber, NumberedName};
 use std::fmt;
 use std::str::FromStr;
-
-// `include/net/bonding.h`
-const BOND_PRI_RESELECT_ALWAYS: u8 = 0;
-
-const BOND_PRI_RESELECT_BETTER: u8 = 1;
-
-const BOND_PRI_RESELECT_FAILURE: u8 = 2;
 
 /// When the primary port becomes the active port again after it has recovered (`BOND_PRI_RESELECT_*`,
 /// `include/net/bonding.h`).
@@ -27,6 +20,17 @@ pub enum BondPrimaryReselect {
     Failure,
     /// Any other number.
     Other(u8),
+}
+
+/// The numbers (`include/net/bonding.h`), variants and `Display` output. Texts after `|` are parsed too.
+macro_rules! primary_reselect_names {
+    ($call:ident($($argument:tt)*)) => {
+        link_base::by_names! { $call($($argument)*)
+            BOND_PRI_RESELECT_ALWAYS = 0, Always, "always" | "0";
+            BOND_PRI_RESELECT_BETTER = 1, Better, "better" | "1";
+            BOND_PRI_RESELECT_FAILURE = 2, Failure, "failure" | "2";
+        }
+    };
 }
 
 impl NamedNumber for BondPrimaryReselect {
@@ -53,6 +57,18 @@ impl NamedNumber for BondPrimaryReselect {
     ghost thorough = { of_cases enum _ _ (Prim.search (thorough_fields)) };
 }
 
+impl NumberedName for BondPrimaryReselect {
+    type Number = u8;
+
+    fn of_number(number: u8) -> Self {
+        primary_reselect_names!(of_number(number))
+    }
+
+    fn number(self) -> u8 {
+        primary_reselect_names!(number(self))
+    }
+}
+
 /// Returns `Always`.
 impl Default for BondPrimaryReselect {
     ghost is_default = { λ v. v ≡ value_of ⟦<BondPrimaryReselect as NamedNumber>⟧.names 0 };
@@ -67,12 +83,7 @@ impl From<u8> for BondPrimaryReselect {
     ghost from_gives = { λ d v. v ≡ value_of ⟦<BondPrimaryReselect as NamedNumber>⟧.names d };
 
     fn from(number: u8) -> Self {
-        match number {
-            BOND_PRI_RESELECT_ALWAYS => BondPrimaryReselect::Always,
-            BOND_PRI_RESELECT_BETTER => BondPrimaryReselect::Better,
-            BOND_PRI_RESELECT_FAILURE => BondPrimaryReselect::Failure,
-            _ => BondPrimaryReselect::Other(number),
-        }
+        Self::of_number(number)
     }
 }
 
@@ -81,12 +92,7 @@ impl From<BondPrimaryReselect> for u8 {
     ghost from_gives = { λ v d. d ≡ number_of (⟦<BondPrimaryReselect as NamedNumber>⟧.seen v) };
 
     fn from(value: BondPrimaryReselect) -> u8 {
-        match value {
-            BondPrimaryReselect::Always => BOND_PRI_RESELECT_ALWAYS,
-            BondPrimaryReselect::Better => BOND_PRI_RESELECT_BETTER,
-            BondPrimaryReselect::Failure => BOND_PRI_RESELECT_FAILURE,
-            BondPrimaryReselect::Other(number) => number,
-        }
+        value.number()
     }
 }
 
@@ -96,12 +102,7 @@ impl fmt::Display for BondPrimaryReselect {
         (⟦<BondPrimaryReselect as NamedNumber>⟧.seen v)) };
 
     fn fmt<W: fmt::Write>(&self, f: &mut fmt::Formatter<W>) -> fmt::Result {
-        match self {
-            BondPrimaryReselect::Always => f.write_str("always"),
-            BondPrimaryReselect::Better => f.write_str("better"),
-            BondPrimaryReselect::Failure => f.write_str("failure"),
-            BondPrimaryReselect::Other(number) => write!(f, "unknown-variant ({number})"),
-        }
+        primary_reselect_names!(display_unknown(self, f))
     }
 }
 
@@ -117,11 +118,6 @@ impl FromStr for BondPrimaryReselect {
 
     #[tactic(auto, using(std::proofs::lemmas::Fmt::decimal_digit))]
     fn from_str(text: &str) -> Result<Self, DecodeError> {
-        match text {
-            "always" | "0" => Ok(BondPrimaryReselect::Always),
-            "better" | "1" => Ok(BondPrimaryReselect::Better),
-            "failure" | "2" => Ok(BondPrimaryReselect::Failure),
-            _ => Err(DecodeError::Fault(DecodeFault::Text)),
-        }
+        primary_reselect_names!(parse(text))
     }
 }

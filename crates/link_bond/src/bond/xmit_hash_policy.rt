@@ -3,22 +3,9 @@
 ghost use Rattle.std.specs.Prelude.{refl, ◌≡◌, Some};
 ghost use Rattle.link_base.specs.Named.{value_of, number_of, displayed, ReadsText};
 
-use link_base::{DecodeError, DecodeFault, NamedNumber};
+use link_base::{DecodeError, NamedNumber, NumberedName};
 use std::fmt;
 use std::str::FromStr;
-
-// `include/uapi/linux/if_bonding.h`
-const BOND_XMIT_POLICY_LAYER2: u8 = 0;
-
-const BOND_XMIT_POLICY_LAYER34: u8 = 1;
-
-const BOND_XMIT_POLICY_LAYER23: u8 = 2;
-
-const BOND_XMIT_POLICY_ENCAP23: u8 = 3;
-
-const BOND_XMIT_POLICY_ENCAP34: u8 = 4;
-
-const BOND_XMIT_POLICY_VLAN_SRCMAC: u8 = 5;
 
 /// Which fields of a packet are hashed to select its port, in the modes that use a hash (`BOND_XMIT_POLICY_*`,
 /// `include/uapi/linux/if_bonding.h`).
@@ -41,6 +28,20 @@ pub enum BondXmitHashPolicy {
     VlanSrcMac,
     /// Any other number.
     Other(u8),
+}
+
+/// The numbers (`include/uapi/linux/if_bonding.h`), variants and `Display` output. Texts after `|` are parsed too.
+macro_rules! xmit_hash_policy_names {
+    ($call:ident($($argument:tt)*)) => {
+        link_base::by_names! { $call($($argument)*)
+            BOND_XMIT_POLICY_LAYER2 = 0, Layer2, "layer2" | "0";
+            BOND_XMIT_POLICY_LAYER34 = 1, Layer34, "layer3+4" | "1";
+            BOND_XMIT_POLICY_LAYER23 = 2, Layer23, "layer2+3" | "2";
+            BOND_XMIT_POLICY_ENCAP23 = 3, Encap23, "encap2+3" | "3";
+            BOND_XMIT_POLICY_ENCAP34 = 4, Encap34, "encap3+4" | "4";
+            BOND_XMIT_POLICY_VLAN_SRCMAC = 5, VlanSrcMac, "vlan+srcmac" | "5";
+        }
+    };
 }
 
 impl NamedNumber for BondXmitHashPolicy {
@@ -67,6 +68,18 @@ impl NamedNumber for BondXmitHashPolicy {
     ghost thorough = { of_cases enum _ _ (Prim.search (thorough_fields)) };
 }
 
+impl NumberedName for BondXmitHashPolicy {
+    type Number = u8;
+
+    fn of_number(number: u8) -> Self {
+        xmit_hash_policy_names!(of_number(number))
+    }
+
+    fn number(self) -> u8 {
+        xmit_hash_policy_names!(number(self))
+    }
+}
+
 /// Returns `Layer2`.
 impl Default for BondXmitHashPolicy {
     ghost is_default = { λ v. v ≡ value_of ⟦<BondXmitHashPolicy as NamedNumber>⟧.names 0 };
@@ -81,15 +94,7 @@ impl From<u8> for BondXmitHashPolicy {
     ghost from_gives = { λ d v. v ≡ value_of ⟦<BondXmitHashPolicy as NamedNumber>⟧.names d };
 
     fn from(number: u8) -> Self {
-        match number {
-            BOND_XMIT_POLICY_LAYER2 => BondXmitHashPolicy::Layer2,
-            BOND_XMIT_POLICY_LAYER34 => BondXmitHashPolicy::Layer34,
-            BOND_XMIT_POLICY_LAYER23 => BondXmitHashPolicy::Layer23,
-            BOND_XMIT_POLICY_ENCAP23 => BondXmitHashPolicy::Encap23,
-            BOND_XMIT_POLICY_ENCAP34 => BondXmitHashPolicy::Encap34,
-            BOND_XMIT_POLICY_VLAN_SRCMAC => BondXmitHashPolicy::VlanSrcMac,
-            _ => BondXmitHashPolicy::Other(number),
-        }
+        Self::of_number(number)
     }
 }
 
@@ -98,15 +103,7 @@ impl From<BondXmitHashPolicy> for u8 {
     ghost from_gives = { λ v d. d ≡ number_of (⟦<BondXmitHashPolicy as NamedNumber>⟧.seen v) };
 
     fn from(value: BondXmitHashPolicy) -> u8 {
-        match value {
-            BondXmitHashPolicy::Layer2 => BOND_XMIT_POLICY_LAYER2,
-            BondXmitHashPolicy::Layer34 => BOND_XMIT_POLICY_LAYER34,
-            BondXmitHashPolicy::Layer23 => BOND_XMIT_POLICY_LAYER23,
-            BondXmitHashPolicy::Encap23 => BOND_XMIT_POLICY_ENCAP23,
-            BondXmitHashPolicy::Encap34 => BOND_XMIT_POLICY_ENCAP34,
-            BondXmitHashPolicy::VlanSrcMac => BOND_XMIT_POLICY_VLAN_SRCMAC,
-            BondXmitHashPolicy::Other(number) => number,
-        }
+        value.number()
     }
 }
 
@@ -116,15 +113,7 @@ impl fmt::Display for BondXmitHashPolicy {
         (⟦<BondXmitHashPolicy as NamedNumber>⟧.seen v)) };
 
     fn fmt<W: fmt::Write>(&self, f: &mut fmt::Formatter<W>) -> fmt::Result {
-        match self {
-            BondXmitHashPolicy::Layer2 => f.write_str("layer2"),
-            BondXmitHashPolicy::Layer34 => f.write_str("layer3+4"),
-            BondXmitHashPolicy::Layer23 => f.write_str("layer2+3"),
-            BondXmitHashPolicy::Encap23 => f.write_str("encap2+3"),
-            BondXmitHashPolicy::Encap34 => f.write_str("encap3+4"),
-            BondXmitHashPolicy::VlanSrcMac => f.write_str("vlan+srcmac"),
-            BondXmitHashPolicy::Other(number) => write!(f, "unknown-variant ({number})"),
-        }
+        xmit_hash_policy_names!(display_unknown(self, f))
     }
 }
 
@@ -140,14 +129,6 @@ impl FromStr for BondXmitHashPolicy {
 
     #[tactic(auto, using(std::proofs::lemmas::Fmt::decimal_digit))]
     fn from_str(text: &str) -> Result<Self, DecodeError> {
-        match text {
-            "layer2" | "0" => Ok(BondXmitHashPolicy::Layer2),
-            "layer3+4" | "1" => Ok(BondXmitHashPolicy::Layer34),
-            "layer2+3" | "2" => Ok(BondXmitHashPolicy::Layer23),
-            "encap2+3" | "3" => Ok(BondXmitHashPolicy::Encap23),
-            "encap3+4" | "4" => Ok(BondXmitHashPolicy::Encap34),
-            "vlan+srcmac" | "5" => Ok(BondXmitHashPolicy::VlanSrcMac),
-            _ => Err(DecodeError::Fault(DecodeFault::Text)),
-        }
+        xmit_hash_policy_names!(parse(text))
     }
 }

@@ -3,16 +3,9 @@
 ghost use Rattle.std.specs.Prelude.{refl, ◌≡◌, Some};
 ghost use Rattle.link_base.specs.Named.{value_of, number_of, displayed, ReadsText};
 
-use link_base::{DecodeError, DecodeFault, NamedNumber};
+use link_base::{DecodeError, NamedNumber, NumberedName};
 use std::fmt;
 use std::str::FromStr;
-
-// `include/net/bond_3ad.h`
-const AD_CHURN_MONITOR: u8 = 0;
-
-const AD_CHURN: u8 = 1;
-
-const AD_NO_CHURN: u8 = 2;
 
 /// Whether one side of a link, the LACP actor or the partner, reaches synchronization in time, according to the churn
 /// detection of IEEE 802.3ad (`churn_state_t`, `include/net/bond_3ad.h`).
@@ -26,6 +19,17 @@ pub enum ChurnState {
     NoChurn,
     /// Any other number.
     Other(u8),
+}
+
+/// The numbers (`include/net/bond_3ad.h`), variants and `Display` output.
+macro_rules! churn_state_names {
+    ($call:ident($($argument:tt)*)) => {
+        link_base::by_names! { $call($($argument)*)
+            AD_CHURN_MONITOR = 0, Monitor, "monitor";
+            AD_CHURN = 1, Churn, "churn";
+            AD_NO_CHURN = 2, NoChurn, "no_churn";
+        }
+    };
 }
 
 impl NamedNumber for ChurnState {
@@ -48,17 +52,24 @@ impl NamedNumber for ChurnState {
     ghost thorough = { of_cases enum _ _ (Prim.search (thorough_fields)) };
 }
 
+impl NumberedName for ChurnState {
+    type Number = u8;
+
+    fn of_number(number: u8) -> Self {
+        churn_state_names!(of_number(number))
+    }
+
+    fn number(self) -> u8 {
+        churn_state_names!(number(self))
+    }
+}
+
 /// Converts a number to its variant, or to `Other` if the number has no name.
 impl From<u8> for ChurnState {
     ghost from_gives = { λ d v. v ≡ value_of ⟦<ChurnState as NamedNumber>⟧.names d };
 
     fn from(number: u8) -> Self {
-        match number {
-            AD_CHURN_MONITOR => ChurnState::Monitor,
-            AD_CHURN => ChurnState::Churn,
-            AD_NO_CHURN => ChurnState::NoChurn,
-            _ => ChurnState::Other(number),
-        }
+        Self::of_number(number)
     }
 }
 
@@ -67,12 +78,7 @@ impl From<ChurnState> for u8 {
     ghost from_gives = { λ v d. d ≡ number_of (⟦<ChurnState as NamedNumber>⟧.seen v) };
 
     fn from(value: ChurnState) -> u8 {
-        match value {
-            ChurnState::Monitor => AD_CHURN_MONITOR,
-            ChurnState::Churn => AD_CHURN,
-            ChurnState::NoChurn => AD_NO_CHURN,
-            ChurnState::Other(number) => number,
-        }
+        value.number()
     }
 }
 
@@ -81,12 +87,7 @@ impl fmt::Display for ChurnState {
     ghost output = { λ v. Some (displayed ⟦<ChurnState as NamedNumber>⟧.names (⟦<ChurnState as NamedNumber>⟧.seen v)) };
 
     fn fmt<W: fmt::Write>(&self, f: &mut fmt::Formatter<W>) -> fmt::Result {
-        match self {
-            ChurnState::Monitor => f.write_str("monitor"),
-            ChurnState::Churn => f.write_str("churn"),
-            ChurnState::NoChurn => f.write_str("no_churn"),
-            ChurnState::Other(number) => write!(f, "{number}"),
-        }
+        churn_state_names!(display(self, f))
     }
 }
 
@@ -101,14 +102,6 @@ impl FromStr for ChurnState {
     ghost from_str_gives = { λ text result. ReadsText ⟦<ChurnState as NamedNumber>⟧.names text result };
 
     fn from_str(text: &str) -> Result<Self, DecodeError> {
-        if text.eq_ignore_ascii_case("monitor") {
-            Ok(ChurnState::Monitor)
-        } else if text.eq_ignore_ascii_case("churn") {
-            Ok(ChurnState::Churn)
-        } else if text.eq_ignore_ascii_case("no_churn") {
-            Ok(ChurnState::NoChurn)
-        } else {
-            Err(DecodeError::Fault(DecodeFault::Text))
-        }
+        churn_state_names!(parse_any_case(text))
     }
 }

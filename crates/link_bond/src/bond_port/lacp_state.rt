@@ -1,6 +1,7 @@
 //! The state of one side of an LACP link.
 
 use bitflags::{Flag, Flags};
+use link_base::PayloadFlags;
 use link_base::flag_laws::{FlagSet, KnownBits};
 
 /// The state of one side of a link in LACP, the actor or the partner (`LACP_STATE_*`,
@@ -91,6 +92,24 @@ impl Flags for LacpState {
 
     fn from_bits_retain(bits: u8) -> LacpState {
         LacpState(bits)
+    }
+}
+
+impl PayloadFlags for LacpState {
+    type Number = u8;
+
+    ghost use Rattle.link_bond.specs.LacpState.{lacp_bits};
+
+    ghost set = { lacp_bits };
+
+    #[inline]
+    fn of_number(bits: u8) -> Self {
+        Self::from_bits_retain(bits)
+    }
+
+    #[inline]
+    fn number(&self) -> u8 {
+        self.bits()
     }
 }
 

@@ -3,18 +3,9 @@
 ghost use Rattle.std.specs.Prelude.{refl, ◌≡◌, Some};
 ghost use Rattle.link_base.specs.Named.{value_of, number_of, displayed, ReadsText};
 
-use link_base::{DecodeError, DecodeFault, NamedNumber};
+use link_base::{DecodeError, NamedNumber, NumberedName};
 use std::fmt;
 use std::str::FromStr;
-
-// `include/uapi/linux/if_bonding.h`
-const BOND_LINK_UP: u8 = 0;
-
-const BOND_LINK_FAIL: u8 = 1;
-
-const BOND_LINK_DOWN: u8 = 2;
-
-const BOND_LINK_BACK: u8 = 3;
 
 /// The link state of a port, as its bond sees it (`BOND_LINK_*`, `include/uapi/linux/if_bonding.h`).
 #[derive(Clone, Copy, Debug, PartialEq, Eq)]
@@ -29,6 +20,18 @@ pub enum MiiStatus {
     GoingBack,
     /// Any other number.
     Other(u8),
+}
+
+/// The numbers (`include/uapi/linux/if_bonding.h`), variants and `Display` output.
+macro_rules! mii_status_names {
+    ($call:ident($($argument:tt)*)) => {
+        link_base::by_names! { $call($($argument)*)
+            BOND_LINK_UP = 0, Up, "up";
+            BOND_LINK_FAIL = 1, GoingDown, "going_down";
+            BOND_LINK_DOWN = 2, Down, "down";
+            BOND_LINK_BACK = 3, GoingBack, "going_back";
+        }
+    };
 }
 
 impl NamedNumber for MiiStatus {
@@ -51,18 +54,24 @@ impl NamedNumber for MiiStatus {
     ghost thorough = { of_cases enum _ _ (Prim.search (thorough_fields)) };
 }
 
+impl NumberedName for MiiStatus {
+    type Number = u8;
+
+    fn of_number(number: u8) -> Self {
+        mii_status_names!(of_number(number))
+    }
+
+    fn number(self) -> u8 {
+        mii_status_names!(number(self))
+    }
+}
+
 /// Converts a number to its variant, or to `Other` if the number has no name.
 impl From<u8> for MiiStatus {
     ghost from_gives = { λ d v. v ≡ value_of ⟦<MiiStatus as NamedNumber>⟧.names d };
 
     fn from(number: u8) -> Self {
-        match number {
-            BOND_LINK_UP => MiiStatus::Up,
-            BOND_LINK_FAIL => MiiStatus::GoingDown,
-            BOND_LINK_DOWN => MiiStatus::Down,
-            BOND_LINK_BACK => MiiStatus::GoingBack,
-            _ => MiiStatus::Other(number),
-        }
+        Self::of_number(number)
     }
 }
 
@@ -71,13 +80,7 @@ impl From<MiiStatus> for u8 {
     ghost from_gives = { λ v d. d ≡ number_of (⟦<MiiStatus as NamedNumber>⟧.seen v) };
 
     fn from(value: MiiStatus) -> u8 {
-        match value {
-            MiiStatus::Up => BOND_LINK_UP,
-            MiiStatus::GoingDown => BOND_LINK_FAIL,
-            MiiStatus::Down => BOND_LINK_DOWN,
-            MiiStatus::GoingBack => BOND_LINK_BACK,
-            MiiStatus::Other(number) => number,
-        }
+        value.number()
     }
 }
 
@@ -86,13 +89,7 @@ impl fmt::Display for MiiStatus {
     ghost output = { λ v. Some (displayed ⟦<MiiStatus as NamedNumber>⟧.names (⟦<MiiStatus as NamedNumber>⟧.seen v)) };
 
     fn fmt<W: fmt::Write>(&self, f: &mut fmt::Formatter<W>) -> fmt::Result {
-        match self {
-            MiiStatus::Up => f.write_str("up"),
-            MiiStatus::GoingDown => f.write_str("going_down"),
-            MiiStatus::Down => f.write_str("down"),
-            MiiStatus::GoingBack => f.write_str("going_back"),
-            MiiStatus::Other(number) => write!(f, "{number}"),
-        }
+        mii_status_names!(display(self, f))
     }
 }
 
@@ -107,16 +104,6 @@ impl FromStr for MiiStatus {
     ghost from_str_gives = { λ text result. ReadsText ⟦<MiiStatus as NamedNumber>⟧.names text result };
 
     fn from_str(text: &str) -> Result<Self, DecodeError> {
-        if text.eq_ignore_ascii_case("up") {
-            Ok(MiiStatus::Up)
-        } else if text.eq_ignore_ascii_case("going_down") {
-            Ok(MiiStatus::GoingDown)
-        } else if text.eq_ignore_ascii_case("down") {
-            Ok(MiiStatus::Down)
-        } else if text.eq_ignore_ascii_case("going_back") {
-            Ok(MiiStatus::GoingBack)
-        } else {
-            Err(DecodeError::Fault(DecodeFault::Text))
-        }
+        mii_status_names!(parse_any_case(text))
     }
 }

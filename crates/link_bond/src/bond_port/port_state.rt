@@ -3,14 +3,9 @@
 ghost use Rattle.std.specs.Prelude.{refl, ◌≡◌, Some};
 ghost use Rattle.link_base.specs.Named.{value_of, number_of, displayed, ReadsText};
 
-use link_base::{DecodeError, DecodeFault, NamedNumber};
+use link_base::{DecodeError, NamedNumber, NumberedName};
 use std::fmt;
 use std::str::FromStr;
-
-// `include/uapi/linux/if_bonding.h`
-const BOND_STATE_ACTIVE: u8 = 0;
-
-const BOND_STATE_BACKUP: u8 = 1;
 
 /// Whether a port carries the traffic of its bond (`BOND_STATE_*`, `include/uapi/linux/if_bonding.h`).
 #[derive(Clone, Copy, Debug, PartialEq, Eq)]
@@ -21,6 +16,16 @@ pub enum BondPortState {
     Backup,
     /// Any other number.
     Other(u8),
+}
+
+/// The numbers (`include/uapi/linux/if_bonding.h`), variants and `Display` output.
+macro_rules! port_state_names {
+    ($call:ident($($argument:tt)*)) => {
+        link_base::by_names! { $call($($argument)*)
+            BOND_STATE_ACTIVE = 0, Active, "active";
+            BOND_STATE_BACKUP = 1, Backup, "backup";
+        }
+    };
 }
 
 impl NamedNumber for BondPortState {
@@ -43,16 +48,24 @@ impl NamedNumber for BondPortState {
     ghost thorough = { of_cases enum _ _ (Prim.search (thorough_fields)) };
 }
 
+impl NumberedName for BondPortState {
+    type Number = u8;
+
+    fn of_number(number: u8) -> Self {
+        port_state_names!(of_number(number))
+    }
+
+    fn number(self) -> u8 {
+        port_state_names!(number(self))
+    }
+}
+
 /// Converts a number to its variant, or to `Other` if the number has no name.
 impl From<u8> for BondPortState {
     ghost from_gives = { λ d v. v ≡ value_of ⟦<BondPortState as NamedNumber>⟧.names d };
 
     fn from(number: u8) -> Self {
-        match number {
-            BOND_STATE_ACTIVE => BondPortState::Active,
-            BOND_STATE_BACKUP => BondPortState::Backup,
-            _ => BondPortState::Other(number),
-        }
+        Self::of_number(number)
     }
 }
 
@@ -61,11 +74,7 @@ impl From<BondPortState> for u8 {
     ghost from_gives = { λ v d. d ≡ number_of (⟦<BondPortState as NamedNumber>⟧.seen v) };
 
     fn from(value: BondPortState) -> u8 {
-        match value {
-            BondPortState::Active => BOND_STATE_ACTIVE,
-            BondPortState::Backup => BOND_STATE_BACKUP,
-            BondPortState::Other(number) => number,
-        }
+        value.number()
     }
 }
 
@@ -75,11 +84,7 @@ impl fmt::Display for BondPortState {
         (⟦<BondPortState as NamedNumber>⟧.seen v)) };
 
     fn fmt<W: fmt::Write>(&self, f: &mut fmt::Formatter<W>) -> fmt::Result {
-        match self {
-            BondPortState::Active => f.write_str("active"),
-            BondPortState::Backup => f.write_str("backup"),
-            BondPortState::Other(number) => write!(f, "{number}"),
-        }
+        port_state_names!(display(self, f))
     }
 }
 
@@ -94,12 +99,6 @@ impl FromStr for BondPortState {
     ghost from_str_gives = { λ text result. ReadsText ⟦<BondPortState as NamedNumber>⟧.names text result };
 
     fn from_str(text: &str) -> Result<Self, DecodeError> {
-        if text.eq_ignore_ascii_case("active") {
-            Ok(BondPortState::Active)
-        } else if text.eq_ignore_ascii_case("backup") {
-            Ok(BondPortState::Backup)
-        } else {
-            Err(DecodeError::Fault(DecodeFault::Text))
-        }
+        port_state_names!(parse_any_case(text))
     }
 }

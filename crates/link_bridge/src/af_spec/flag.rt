@@ -1,13 +1,8 @@
 //! Whose bridge port settings a message sets or reports.
 
-use link_base::{DecodeError, DecodeFault, NamedNumber};
+use link_base::{DecodeError, NamedNumber, NumberedName};
 use std::fmt;
 use std::str::FromStr;
-
-// `include/uapi/linux/if_bridge.h`
-const BRIDGE_FLAGS_MASTER: u16 = 1;
-
-const BRIDGE_FLAGS_SELF: u16 = 2;
 
 /// Whose bridge port settings a message sets or reports: those of the bridge, or those of the port's device
 /// (`BRIDGE_FLAGS_*`, `include/uapi/linux/if_bridge.h`). The kernel treats the numbers as bits: both together are
@@ -25,6 +20,16 @@ pub enum BridgeFlag {
 impl BridgeFlag {
     /// Length of a flag as a payload, in bytes.
     pub const LENGTH: usize = 2;
+}
+
+/// The numbers (`include/uapi/linux/if_bridge.h`), variants and `Display` output.
+macro_rules! flag_names {
+    ($call:ident($($argument:tt)*)) => {
+        link_base::by_names! { $call($($argument)*)
+            BRIDGE_FLAGS_MASTER = 1, Controller, "master";
+            BRIDGE_FLAGS_SELF = 2, LowerDev, "self";
+        }
+    };
 }
 
 impl NamedNumber for BridgeFlag {
@@ -48,6 +53,18 @@ impl NamedNumber for BridgeFlag {
     ghost thorough = { of_cases enum _ _ (Prim.search (thorough_fields)) };
 }
 
+impl NumberedName for BridgeFlag {
+    type Number = u16;
+
+    fn of_number(number: u16) -> Self {
+        flag_names!(of_number(number))
+    }
+
+    fn number(self) -> u16 {
+        flag_names!(number(self))
+    }
+}
+
 /// Converts a number to its variant, or to `Other` if the number has no name.
 impl From<u16> for BridgeFlag {
     ghost use Rattle.std.specs.Prelude.{◌≡◌};
@@ -56,11 +73,7 @@ impl From<u16> for BridgeFlag {
     ghost from_gives = { λ d v. v ≡ value_of ⟦<BridgeFlag as NamedNumber>⟧.names d };
 
     fn from(number: u16) -> Self {
-        match number {
-            BRIDGE_FLAGS_MASTER => BridgeFlag::Controller,
-            BRIDGE_FLAGS_SELF => BridgeFlag::LowerDev,
-            _ => BridgeFlag::Other(number),
-        }
+        Self::of_number(number)
     }
 }
 
@@ -72,11 +85,7 @@ impl From<BridgeFlag> for u16 {
     ghost from_gives = { λ v d. d ≡ number_of (⟦<BridgeFlag as NamedNumber>⟧.seen v) };
 
     fn from(value: BridgeFlag) -> u16 {
-        match value {
-            BridgeFlag::Controller => BRIDGE_FLAGS_MASTER,
-            BridgeFlag::LowerDev => BRIDGE_FLAGS_SELF,
-            BridgeFlag::Other(number) => number,
-        }
+        value.number()
     }
 }
 
@@ -89,11 +98,7 @@ impl fmt::Display for BridgeFlag {
         (⟦<BridgeFlag as NamedNumber>⟧.seen v)) };
 
     fn fmt<W: fmt::Write>(&self, f: &mut fmt::Formatter<W>) -> fmt::Result {
-        match self {
-            BridgeFlag::Controller => f.write_str("master"),
-            BridgeFlag::LowerDev => f.write_str("self"),
-            BridgeFlag::Other(number) => write!(f, "{number}"),
-        }
+        flag_names!(display(self, f))
     }
 }
 
@@ -112,13 +117,6 @@ impl FromStr for BridgeFlag {
 
     #[tactic(auto, using(link_base::proofs::Naming::parsed_number, link_base::proofs::Naming::parsed_none))]
     fn from_str(text: &str) -> Result<Self, DecodeError> {
-        match text {
-            "master" => Ok(BridgeFlag::Controller),
-            "self" => Ok(BridgeFlag::LowerDev),
-            _ => match text.parse::<u16>() {
-                Ok(number) => Ok(number.into()),
-                Err(_) => Err(DecodeError::Fault(DecodeFault::Text)),
-            },
-        }
+        flag_names!(parse_or_number(text, u16))
     }
 }

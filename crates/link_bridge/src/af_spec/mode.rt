@@ -1,13 +1,8 @@
 //! How a device with hardware bridging handles frames between its own ports.
 
-use link_base::{DecodeError, DecodeFault, NamedNumber};
+use link_base::{DecodeError, NamedNumber, NumberedName};
 use std::fmt;
 use std::str::FromStr;
-
-// `include/uapi/linux/if_bridge.h`
-const BRIDGE_MODE_VEB: u16 = 0;
-
-const BRIDGE_MODE_VEPA: u16 = 1;
 
 /// How a device with hardware bridging handles frames between its own ports, according to IEEE 802.1Qbg
 /// (`BRIDGE_MODE_*`, `include/uapi/linux/if_bridge.h`). `BRIDGE_MODE_UNDEF` is `Other(65535)`.
@@ -24,6 +19,16 @@ pub enum BridgeMode {
 impl BridgeMode {
     /// Length of a mode as a payload, in bytes.
     pub const LENGTH: usize = 2;
+}
+
+/// The numbers (`include/uapi/linux/if_bridge.h`), variants and `Display` output.
+macro_rules! mode_names {
+    ($call:ident($($argument:tt)*)) => {
+        link_base::by_names! { $call($($argument)*)
+            BRIDGE_MODE_VEB = 0, Veb, "veb";
+            BRIDGE_MODE_VEPA = 1, Vepa, "vepa";
+        }
+    };
 }
 
 impl NamedNumber for BridgeMode {
@@ -47,6 +52,18 @@ impl NamedNumber for BridgeMode {
     ghost thorough = { of_cases enum _ _ (Prim.search (thorough_fields)) };
 }
 
+impl NumberedName for BridgeMode {
+    type Number = u16;
+
+    fn of_number(number: u16) -> Self {
+        mode_names!(of_number(number))
+    }
+
+    fn number(self) -> u16 {
+        mode_names!(number(self))
+    }
+}
+
 /// Converts a number to its variant, or to `Other` if the number has no name.
 impl From<u16> for BridgeMode {
     ghost use Rattle.std.specs.Prelude.{◌≡◌};
@@ -55,11 +72,7 @@ impl From<u16> for BridgeMode {
     ghost from_gives = { λ d v. v ≡ value_of ⟦<BridgeMode as NamedNumber>⟧.names d };
 
     fn from(number: u16) -> Self {
-        match number {
-            BRIDGE_MODE_VEB => BridgeMode::Veb,
-            BRIDGE_MODE_VEPA => BridgeMode::Vepa,
-            _ => BridgeMode::Other(number),
-        }
+        Self::of_number(number)
     }
 }
 
@@ -71,11 +84,7 @@ impl From<BridgeMode> for u16 {
     ghost from_gives = { λ v d. d ≡ number_of (⟦<BridgeMode as NamedNumber>⟧.seen v) };
 
     fn from(value: BridgeMode) -> u16 {
-        match value {
-            BridgeMode::Veb => BRIDGE_MODE_VEB,
-            BridgeMode::Vepa => BRIDGE_MODE_VEPA,
-            BridgeMode::Other(number) => number,
-        }
+        value.number()
     }
 }
 
@@ -88,11 +97,7 @@ impl fmt::Display for BridgeMode {
         (⟦<BridgeMode as NamedNumber>⟧.seen v)) };
 
     fn fmt<W: fmt::Write>(&self, f: &mut fmt::Formatter<W>) -> fmt::Result {
-        match self {
-            BridgeMode::Veb => f.write_str("veb"),
-            BridgeMode::Vepa => f.write_str("vepa"),
-            BridgeMode::Other(number) => write!(f, "{number}"),
-        }
+        mode_names!(display(self, f))
     }
 }
 
@@ -111,13 +116,6 @@ impl FromStr for BridgeMode {
 
     #[tactic(auto, using(link_base::proofs::Naming::parsed_number, link_base::proofs::Naming::parsed_none))]
     fn from_str(text: &str) -> Result<Self, DecodeError> {
-        match text {
-            "veb" => Ok(BridgeMode::Veb),
-            "vepa" => Ok(BridgeMode::Vepa),
-            _ => match text.parse::<u16>() {
-                Ok(number) => Ok(number.into()),
-                Err(_) => Err(DecodeError::Fault(DecodeFault::Text)),
-            },
-        }
+        mode_names!(parse_or_number(text, u16))
     }
 }

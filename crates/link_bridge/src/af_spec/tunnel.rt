@@ -5,19 +5,11 @@ ghost use Rattle.link_base.specs.Lift.{lift, lift_table};
 ghost use Rattle.link_bridge.specs.TunnelInfo.{tunnel_rows, tunnel_leaf};
 
 use crate::af_spec::vlan_info_flags::BridgeVlanInfoFlags;
-use bitflags::Flags;
 use link_base::{
-    Attribute, DecodeError, DefaultNla, Meaning, NestedAttribute, Nla, NlaBuffer, Parseable, Place,
-    TryClone, emit_u16, emit_u32, has_size, keep, parse_u16, parse_u32,
+    Attribute, DecodeError, DefaultNla, FlagBits, Meaning, NestedAttribute, Nla, NlaBuffer,
+    Parseable, Place, TryClone,
 };
 use std::alloc::{AllocError, Global};
-
-// `include/uapi/linux/if_bridge.h`
-const IFLA_BRIDGE_VLAN_TUNNEL_ID: u16 = 1;
-
-const IFLA_BRIDGE_VLAN_TUNNEL_VID: u16 = 2;
-
-const IFLA_BRIDGE_VLAN_TUNNEL_FLAGS: u16 = 3;
 
 /// An attribute of a VLAN that is mapped to a tunnel on a bridge port (`IFLA_BRIDGE_VLAN_TUNNEL_*`,
 /// `include/uapi/linux/if_bridge.h`).
@@ -33,16 +25,20 @@ pub enum BridgeVlanTunnelInfo {
     Other(DefaultNla),
 }
 
+/// The attribute types (`IFLA_BRIDGE_VLAN_TUNNEL_*`), the variant of each, and the class of its payload.
+macro_rules! tunnel_rows {
+    ($call:ident($($argument:tt)*)) => {
+        link_base::by_rows! { $call($($argument)*)
+            IFLA_BRIDGE_VLAN_TUNNEL_ID = 1, Id: u32;
+            IFLA_BRIDGE_VLAN_TUNNEL_VID = 2, Vid: u16;
+            IFLA_BRIDGE_VLAN_TUNNEL_FLAGS = 3, Flags: FlagBits<BridgeVlanInfoFlags>;
+        }
+    };
+}
+
 impl TryClone for BridgeVlanTunnelInfo {
     fn try_clone(&self, alloc: Global) -> Result<Self, AllocError> {
-        match self {
-            BridgeVlanTunnelInfo::Id(id) => Ok(BridgeVlanTunnelInfo::Id(*id)),
-            BridgeVlanTunnelInfo::Vid(vid) => Ok(BridgeVlanTunnelInfo::Vid(*vid)),
-            BridgeVlanTunnelInfo::Flags(flags) => Ok(BridgeVlanTunnelInfo::Flags(*flags)),
-            BridgeVlanTunnelInfo::Other(other) => Ok(BridgeVlanTunnelInfo::Other(other.try_clone(
-                alloc,
-            )?)),
-        }
+        tunnel_rows!(clone(self, alloc))
     }
 }
 
@@ -54,30 +50,15 @@ impl Meaning for BridgeVlanTunnelInfo {
 
 impl Nla for BridgeVlanTunnelInfo {
     fn kind(&self) -> u16 {
-        match self {
-            BridgeVlanTunnelInfo::Id(_) => IFLA_BRIDGE_VLAN_TUNNEL_ID,
-            BridgeVlanTunnelInfo::Vid(_) => IFLA_BRIDGE_VLAN_TUNNEL_VID,
-            BridgeVlanTunnelInfo::Flags(_) => IFLA_BRIDGE_VLAN_TUNNEL_FLAGS,
-            BridgeVlanTunnelInfo::Other(other) => other.kind(),
-        }
+        tunnel_rows!(kind(self))
     }
 
     fn value_len(&self) -> usize {
-        match self {
-            BridgeVlanTunnelInfo::Id(_) => 4,
-            BridgeVlanTunnelInfo::Vid(_) => 2,
-            BridgeVlanTunnelInfo::Flags(_) => BridgeVlanInfoFlags::LENGTH,
-            BridgeVlanTunnelInfo::Other(other) => other.value_len(),
-        }
+        tunnel_rows!(size(self))
     }
 
     fn emit_value(&self, buffer: &mut [u8]) {
-        match self {
-            BridgeVlanTunnelInfo::Id(id) => emit_u32(buffer, *id),
-            BridgeVlanTunnelInfo::Vid(vid) => emit_u16(buffer, *vid),
-            BridgeVlanTunnelInfo::Flags(flags) => emit_u16(buffer, flags.bits()),
-            BridgeVlanTunnelInfo::Other(other) => other.emit_value(buffer),
-        }
+        tunnel_rows!(emit(self, buffer))
     }
 }
 
@@ -87,18 +68,7 @@ impl Parseable for BridgeVlanTunnelInfo {
         buffer: &NlaBuffer<'_>,
         place: &mut P,
     ) -> Result<(), DecodeError> {
-        let payload = buffer.value();
-        match buffer.kind() {
-            IFLA_BRIDGE_VLAN_TUNNEL_ID => keep(place, parse_u32(payload).map(Self::Id)),
-            IFLA_BRIDGE_VLAN_TUNNEL_VID => keep(place, parse_u16(payload).map(Self::Vid)),
-            IFLA_BRIDGE_VLAN_TUNNEL_FLAGS => keep(
-                place,
-                parse_u16(payload).map(|bits| {
-                    Self::Flags(BridgeVlanInfoFlags::from_bits_retain(bits))
-                }),
-            ),
-            _ => keep(place, DefaultNla::parse(alloc, buffer).map(Self::Other)),
-        }
+        tunnel_rows!(read(alloc, buffer, place))
     }
 }
 
@@ -111,11 +81,7 @@ impl Attribute for BridgeVlanTunnelInfo {
     ghost use Rattle.link_bridge.specs.contracts.af_spec.tunnel.BridgeVlanTunnelInfo.{enum};
 
     fn canonical(buffer: &NlaBuffer<'_>) -> bool {
-        match buffer.kind() {
-            IFLA_BRIDGE_VLAN_TUNNEL_ID => has_size(buffer, 4),
-            IFLA_BRIDGE_VLAN_TUNNEL_VID | IFLA_BRIDGE_VLAN_TUNNEL_FLAGS => has_size(buffer, 2),
-            _ => true,
-        }
+        tunnel_rows!(canonical(buffer))
     }
 
     ghost lawful = { lawful (lift_table tunnel_rows) };

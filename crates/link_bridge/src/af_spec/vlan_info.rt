@@ -2,7 +2,7 @@
 
 use crate::af_spec::vlan_info_flags::BridgeVlanInfoFlags;
 use bitflags::Flags;
-use link_base::{DecodeError, check_exactly, u16_at};
+use link_base::{DecodeError, PayloadStruct, check_exactly, u16_at};
 
 /// A VLAN of a bridge or bridge port, or one end of a range of VLANs (`struct bridge_vlan_info`,
 /// `include/uapi/linux/if_bridge.h`): two `u16`s.
@@ -56,5 +56,33 @@ impl TryFrom<&[u8]> for BridgeVlanInfo {
             flags: BridgeVlanInfoFlags::from_bits_retain(u16_at(payload, 0)),
             vid: u16_at(payload, 2),
         })
+    }
+}
+
+impl PayloadStruct for BridgeVlanInfo {
+    ghost use Rattle.link_base.specs.Class.{Exactly};
+    ghost use Rattle.link_bridge.specs.VlanInfo.{vlan_info_octets};
+
+    ghost octets = { vlan_info_octets };
+
+    ghost extent = { Exactly 4 };
+
+    #[inline]
+    fn kept_len() -> usize {
+        BridgeVlanInfo::LENGTH
+    }
+
+    #[inline]
+    fn parse_payload(payload: &[u8]) -> Result<Self, DecodeError> {
+        payload.try_into()
+    }
+
+    #[inline]
+    fn payload_len(&self) -> usize {
+        BridgeVlanInfo::LENGTH
+    }
+
+    fn emit_payload(&self, buffer: &mut [u8]) {
+        buffer.copy_from_slice(&<[u8; 4]>::from(self));
     }
 }

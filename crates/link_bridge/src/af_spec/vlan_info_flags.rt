@@ -1,6 +1,7 @@
 //! The flags of a bridge VLAN.
 
 use bitflags::{Flag, Flags};
+use link_base::PayloadFlags;
 use link_base::flag_laws::{FlagSet, KnownBits};
 
 /// Flags of a VLAN of a bridge or bridge port (`BRIDGE_VLAN_INFO_*`, `include/uapi/linux/if_bridge.h`). Unnamed bits
@@ -93,6 +94,24 @@ impl Flags for BridgeVlanInfoFlags {
 
     fn from_bits_retain(bits: u16) -> BridgeVlanInfoFlags {
         BridgeVlanInfoFlags(bits)
+    }
+}
+
+impl PayloadFlags for BridgeVlanInfoFlags {
+    type Number = u16;
+
+    ghost use Rattle.link_bridge.specs.VlanInfo.{vlan_info_bits};
+
+    ghost set = { vlan_info_bits };
+
+    #[inline]
+    fn of_number(bits: u16) -> Self {
+        Self::from_bits_retain(bits)
+    }
+
+    #[inline]
+    fn number(&self) -> u16 {
+        self.bits()
     }
 }
 

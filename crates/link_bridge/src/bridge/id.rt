@@ -5,7 +5,7 @@ ghost use Rattle.link_base.specs.Class.{accepted, AtLeast};
 ghost use Rattle.link_base.specs.Answers.{payload_result};
 ghost use Rattle.link_bridge.specs.Id.{id_of, id_octets};
 
-use link_base::{DecodeError, Emitable, check_at_least, emit_mac, emit_u16_be};
+use link_base::{DecodeError, Emitable, PayloadStruct, check_at_least, emit_mac, emit_u16_be};
 
 /// Length of a bridge ID as a payload, in bytes.
 const SIZE: usize = 8;
@@ -52,6 +52,31 @@ impl Emitable for BridgeId {
     fn emit(&self, buffer: &mut [u8]) {
         emit_u16_be(buffer, self.priority);
         emit_mac(&mut buffer[2..], &self.address);
+    }
+}
+
+impl PayloadStruct for BridgeId {
+    ghost octets = { id_octets };
+
+    ghost extent = { AtLeast 8 };
+
+    #[inline]
+    fn kept_len() -> usize {
+        SIZE
+    }
+
+    #[inline]
+    fn parse_payload(payload: &[u8]) -> Result<Self, DecodeError> {
+        BridgeId::parse(payload)
+    }
+
+    #[inline]
+    fn payload_len(&self) -> usize {
+        self.buffer_len()
+    }
+
+    fn emit_payload(&self, buffer: &mut [u8]) {
+        self.emit(buffer);
     }
 }
 

@@ -1,17 +1,8 @@
 //! Whether a port is considered to lead to a multicast router.
 
-use link_base::{DecodeError, DecodeFault, NamedNumber};
+use link_base::{DecodeError, NamedNumber, NumberedName};
 use std::fmt;
 use std::str::FromStr;
-
-// `include/uapi/linux/if_bridge.h`
-const MDB_RTR_TYPE_DISABLED: u8 = 0;
-
-const MDB_RTR_TYPE_TEMP_QUERY: u8 = 1;
-
-const MDB_RTR_TYPE_PERM: u8 = 2;
-
-const MDB_RTR_TYPE_TEMP: u8 = 3;
 
 /// Whether a port is considered to lead to a multicast router, or the bridge itself to be one, and gets all multicast
 /// traffic (`MDB_RTR_TYPE_*`, `include/uapi/linux/if_bridge.h`).
@@ -32,6 +23,18 @@ pub enum BridgeMulticastRouterType {
 impl BridgeMulticastRouterType {
     /// `TempQuery`, under the name that `Display` writes.
     pub const Auto: BridgeMulticastRouterType = BridgeMulticastRouterType::TempQuery;
+}
+
+/// The numbers (`include/uapi/linux/if_bridge.h`), variants and `Display` output. Texts after `|` are parsed too.
+macro_rules! router_type_names {
+    ($call:ident($($argument:tt)*)) => {
+        link_base::by_names! { $call($($argument)*)
+            MDB_RTR_TYPE_DISABLED = 0, Disabled, "disabled";
+            MDB_RTR_TYPE_TEMP_QUERY = 1, TempQuery, "auto" | "temp_query";
+            MDB_RTR_TYPE_PERM = 2, Permanent, "permanent";
+            MDB_RTR_TYPE_TEMP = 3, Temp, "temp";
+        }
+    };
 }
 
 impl NamedNumber for BridgeMulticastRouterType {
@@ -55,6 +58,18 @@ impl NamedNumber for BridgeMulticastRouterType {
     ghost thorough = { of_cases enum _ _ (Prim.search (thorough_fields)) };
 }
 
+impl NumberedName for BridgeMulticastRouterType {
+    type Number = u8;
+
+    fn of_number(number: u8) -> Self {
+        router_type_names!(of_number(number))
+    }
+
+    fn number(self) -> u8 {
+        router_type_names!(number(self))
+    }
+}
+
 /// Converts a number to its variant, or to `Other` if the number has no name.
 impl From<u8> for BridgeMulticastRouterType {
     ghost use Rattle.std.specs.Prelude.{◌≡◌};
@@ -63,13 +78,7 @@ impl From<u8> for BridgeMulticastRouterType {
     ghost from_gives = { λ d v. v ≡ value_of ⟦<BridgeMulticastRouterType as NamedNumber>⟧.names d };
 
     fn from(number: u8) -> Self {
-        match number {
-            MDB_RTR_TYPE_DISABLED => BridgeMulticastRouterType::Disabled,
-            MDB_RTR_TYPE_TEMP_QUERY => BridgeMulticastRouterType::TempQuery,
-            MDB_RTR_TYPE_PERM => BridgeMulticastRouterType::Permanent,
-            MDB_RTR_TYPE_TEMP => BridgeMulticastRouterType::Temp,
-            _ => BridgeMulticastRouterType::Other(number),
-        }
+        Self::of_number(number)
     }
 }
 
@@ -81,13 +90,7 @@ impl From<BridgeMulticastRouterType> for u8 {
     ghost from_gives = { λ v d. d ≡ number_of (⟦<BridgeMulticastRouterType as NamedNumber>⟧.seen v) };
 
     fn from(value: BridgeMulticastRouterType) -> u8 {
-        match value {
-            BridgeMulticastRouterType::Disabled => MDB_RTR_TYPE_DISABLED,
-            BridgeMulticastRouterType::TempQuery => MDB_RTR_TYPE_TEMP_QUERY,
-            BridgeMulticastRouterType::Permanent => MDB_RTR_TYPE_PERM,
-            BridgeMulticastRouterType::Temp => MDB_RTR_TYPE_TEMP,
-            BridgeMulticastRouterType::Other(number) => number,
-        }
+        value.number()
     }
 }
 
@@ -100,13 +103,7 @@ impl fmt::Display for BridgeMulticastRouterType {
         (⟦<BridgeMulticastRouterType as NamedNumber>⟧.seen v)) };
 
     fn fmt<W: fmt::Write>(&self, f: &mut fmt::Formatter<W>) -> fmt::Result {
-        match self {
-            BridgeMulticastRouterType::Disabled => f.write_str("disabled"),
-            BridgeMulticastRouterType::TempQuery => f.write_str("auto"),
-            BridgeMulticastRouterType::Permanent => f.write_str("permanent"),
-            BridgeMulticastRouterType::Temp => f.write_str("temp"),
-            BridgeMulticastRouterType::Other(number) => write!(f, "{number}"),
-        }
+        router_type_names!(display(self, f))
     }
 }
 
@@ -125,15 +122,6 @@ impl FromStr for BridgeMulticastRouterType {
 
     #[tactic(auto, using(link_base::proofs::Naming::parsed_number, link_base::proofs::Naming::parsed_none))]
     fn from_str(text: &str) -> Result<Self, DecodeError> {
-        match text {
-            "disabled" => Ok(BridgeMulticastRouterType::Disabled),
-            "auto" | "temp_query" => Ok(BridgeMulticastRouterType::TempQuery),
-            "permanent" => Ok(BridgeMulticastRouterType::Permanent),
-            "temp" => Ok(BridgeMulticastRouterType::Temp),
-            _ => match text.parse::<u8>() {
-                Ok(number) => Ok(number.into()),
-                Err(_) => Err(DecodeError::Fault(DecodeFault::Text)),
-            },
-        }
+        router_type_names!(parse_or_number(text, u8))
     }
 }

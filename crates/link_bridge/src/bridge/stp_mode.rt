@@ -1,15 +1,8 @@
 //! What is to run the spanning tree protocol of a bridge.
 
-use link_base::{DecodeError, DecodeFault, NamedNumber};
+use link_base::{DecodeError, NamedNumber, NumberedName};
 use std::fmt;
 use std::str::FromStr;
-
-// `include/uapi/linux/if_link.h`
-const BR_STP_MODE_AUTO: u32 = 0;
-
-const BR_STP_MODE_USER: u32 = 1;
-
-const BR_STP_MODE_KERNEL: u32 = 2;
 
 /// What is to run the spanning tree protocol of a bridge when it is turned on (`BR_STP_MODE_*`,
 /// `include/uapi/linux/if_link.h`).
@@ -24,6 +17,17 @@ pub enum BridgeStpMode {
     Kernel,
     /// Any other number.
     Other(u32),
+}
+
+/// The numbers (`include/uapi/linux/if_link.h`), variants and `Display` output.
+macro_rules! stp_mode_names {
+    ($call:ident($($argument:tt)*)) => {
+        link_base::by_names! { $call($($argument)*)
+            BR_STP_MODE_AUTO = 0, Auto, "auto";
+            BR_STP_MODE_USER = 1, User, "user";
+            BR_STP_MODE_KERNEL = 2, Kernel, "kernel";
+        }
+    };
 }
 
 impl NamedNumber for BridgeStpMode {
@@ -47,6 +51,18 @@ impl NamedNumber for BridgeStpMode {
     ghost thorough = { of_cases enum _ _ (Prim.search (thorough_fields)) };
 }
 
+impl NumberedName for BridgeStpMode {
+    type Number = u32;
+
+    fn of_number(number: u32) -> Self {
+        stp_mode_names!(of_number(number))
+    }
+
+    fn number(self) -> u32 {
+        stp_mode_names!(number(self))
+    }
+}
+
 /// Converts a number to its variant, or to `Other` if the number has no name.
 impl From<u32> for BridgeStpMode {
     ghost use Rattle.std.specs.Prelude.{◌≡◌};
@@ -55,12 +71,7 @@ impl From<u32> for BridgeStpMode {
     ghost from_gives = { λ d v. v ≡ value_of ⟦<BridgeStpMode as NamedNumber>⟧.names d };
 
     fn from(number: u32) -> Self {
-        match number {
-            BR_STP_MODE_AUTO => BridgeStpMode::Auto,
-            BR_STP_MODE_USER => BridgeStpMode::User,
-            BR_STP_MODE_KERNEL => BridgeStpMode::Kernel,
-            _ => BridgeStpMode::Other(number),
-        }
+        Self::of_number(number)
     }
 }
 
@@ -72,12 +83,7 @@ impl From<BridgeStpMode> for u32 {
     ghost from_gives = { λ v d. d ≡ number_of (⟦<BridgeStpMode as NamedNumber>⟧.seen v) };
 
     fn from(value: BridgeStpMode) -> u32 {
-        match value {
-            BridgeStpMode::Auto => BR_STP_MODE_AUTO,
-            BridgeStpMode::User => BR_STP_MODE_USER,
-            BridgeStpMode::Kernel => BR_STP_MODE_KERNEL,
-            BridgeStpMode::Other(number) => number,
-        }
+        value.number()
     }
 }
 
@@ -90,12 +96,7 @@ impl fmt::Display for BridgeStpMode {
         (⟦<BridgeStpMode as NamedNumber>⟧.seen v)) };
 
     fn fmt<W: fmt::Write>(&self, f: &mut fmt::Formatter<W>) -> fmt::Result {
-        match self {
-            BridgeStpMode::Auto => f.write_str("auto"),
-            BridgeStpMode::User => f.write_str("user"),
-            BridgeStpMode::Kernel => f.write_str("kernel"),
-            BridgeStpMode::Other(number) => write!(f, "{number}"),
-        }
+        stp_mode_names!(display(self, f))
     }
 }
 
@@ -114,14 +115,6 @@ impl FromStr for BridgeStpMode {
 
     #[tactic(auto, using(link_base::proofs::Naming::parsed_number, link_base::proofs::Naming::parsed_none))]
     fn from_str(text: &str) -> Result<Self, DecodeError> {
-        match text {
-            "auto" => Ok(BridgeStpMode::Auto),
-            "user" => Ok(BridgeStpMode::User),
-            "kernel" => Ok(BridgeStpMode::Kernel),
-            _ => match text.parse::<u32>() {
-                Ok(number) => Ok(number.into()),
-                Err(_) => Err(DecodeError::Fault(DecodeFault::Text)),
-            },
-        }
+        stp_mode_names!(parse_or_number(text, u32))
     }
 }

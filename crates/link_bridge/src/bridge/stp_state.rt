@@ -1,15 +1,8 @@
 //! What runs the spanning tree protocol of a bridge.
 
-use link_base::{DecodeError, DecodeFault, NamedNumber};
+use link_base::{DecodeError, NamedNumber, NumberedName};
 use std::fmt;
 use std::str::FromStr;
-
-// `net/bridge/br_private.h`
-const BR_NO_STP: u32 = 0;
-
-const BR_KERNEL_STP: u32 = 1;
-
-const BR_USER_STP: u32 = 2;
 
 /// What runs the spanning tree protocol of a bridge (`BR_NO_STP`, `BR_KERNEL_STP` and `BR_USER_STP`,
 /// `net/bridge/br_private.h`).
@@ -23,6 +16,17 @@ pub enum BridgeStpState {
     UserStp,
     /// Any other number.
     Other(u32),
+}
+
+/// The numbers (`net/bridge/br_private.h`), variants and `Display` output.
+macro_rules! stp_state_names {
+    ($call:ident($($argument:tt)*)) => {
+        link_base::by_names! { $call($($argument)*)
+            BR_NO_STP = 0, Disabled, "no";
+            BR_KERNEL_STP = 1, KernelStp, "kernel_stp";
+            BR_USER_STP = 2, UserStp, "user_stp";
+        }
+    };
 }
 
 impl NamedNumber for BridgeStpState {
@@ -46,6 +50,18 @@ impl NamedNumber for BridgeStpState {
     ghost thorough = { of_cases enum _ _ (Prim.search (thorough_fields)) };
 }
 
+impl NumberedName for BridgeStpState {
+    type Number = u32;
+
+    fn of_number(number: u32) -> Self {
+        stp_state_names!(of_number(number))
+    }
+
+    fn number(self) -> u32 {
+        stp_state_names!(number(self))
+    }
+}
+
 /// Converts a number to its variant, or to `Other` if the number has no name.
 impl From<u32> for BridgeStpState {
     ghost use Rattle.std.specs.Prelude.{◌≡◌};
@@ -54,12 +70,7 @@ impl From<u32> for BridgeStpState {
     ghost from_gives = { λ d v. v ≡ value_of ⟦<BridgeStpState as NamedNumber>⟧.names d };
 
     fn from(number: u32) -> Self {
-        match number {
-            BR_NO_STP => BridgeStpState::Disabled,
-            BR_KERNEL_STP => BridgeStpState::KernelStp,
-            BR_USER_STP => BridgeStpState::UserStp,
-            _ => BridgeStpState::Other(number),
-        }
+        Self::of_number(number)
     }
 }
 
@@ -71,12 +82,7 @@ impl From<BridgeStpState> for u32 {
     ghost from_gives = { λ v d. d ≡ number_of (⟦<BridgeStpState as NamedNumber>⟧.seen v) };
 
     fn from(value: BridgeStpState) -> u32 {
-        match value {
-            BridgeStpState::Disabled => BR_NO_STP,
-            BridgeStpState::KernelStp => BR_KERNEL_STP,
-            BridgeStpState::UserStp => BR_USER_STP,
-            BridgeStpState::Other(number) => number,
-        }
+        value.number()
     }
 }
 
@@ -89,12 +95,7 @@ impl fmt::Display for BridgeStpState {
         (⟦<BridgeStpState as NamedNumber>⟧.seen v)) };
 
     fn fmt<W: fmt::Write>(&self, f: &mut fmt::Formatter<W>) -> fmt::Result {
-        match self {
-            BridgeStpState::Disabled => f.write_str("no"),
-            BridgeStpState::KernelStp => f.write_str("kernel_stp"),
-            BridgeStpState::UserStp => f.write_str("user_stp"),
-            BridgeStpState::Other(number) => write!(f, "{number}"),
-        }
+        stp_state_names!(display(self, f))
     }
 }
 
@@ -113,14 +114,6 @@ impl FromStr for BridgeStpState {
 
     #[tactic(auto, using(link_base::proofs::Naming::parsed_number, link_base::proofs::Naming::parsed_none))]
     fn from_str(text: &str) -> Result<Self, DecodeError> {
-        match text {
-            "no" => Ok(BridgeStpState::Disabled),
-            "kernel_stp" => Ok(BridgeStpState::KernelStp),
-            "user_stp" => Ok(BridgeStpState::UserStp),
-            _ => match text.parse::<u32>() {
-                Ok(number) => Ok(number.into()),
-                Err(_) => Err(DecodeError::Fault(DecodeFault::Text)),
-            },
-        }
+        stp_state_names!(parse_or_number(text, u32))
     }
 }

@@ -1,19 +1,8 @@
 //! The state of a bridge port in the spanning tree protocol.
 
-use link_base::{DecodeError, DecodeFault, NamedNumber};
+use link_base::{DecodeError, NamedNumber, NumberedName};
 use std::fmt;
 use std::str::FromStr;
-
-// `include/uapi/linux/if_bridge.h`
-const BR_STATE_DISABLED: u8 = 0;
-
-const BR_STATE_LISTENING: u8 = 1;
-
-const BR_STATE_LEARNING: u8 = 2;
-
-const BR_STATE_FORWARDING: u8 = 3;
-
-const BR_STATE_BLOCKING: u8 = 4;
 
 /// The state of a bridge port in the spanning tree protocol (`BR_STATE_*`, `include/uapi/linux/if_bridge.h`).
 #[derive(Clone, Copy, Debug, PartialEq, Eq)]
@@ -30,6 +19,19 @@ pub enum BridgePortState {
     Blocking,
     /// Any other number.
     Other(u8),
+}
+
+/// The numbers (`include/uapi/linux/if_bridge.h`), variants and `Display` output.
+macro_rules! port_state_names {
+    ($call:ident($($argument:tt)*)) => {
+        link_base::by_names! { $call($($argument)*)
+            BR_STATE_DISABLED = 0, Disabled, "disabled";
+            BR_STATE_LISTENING = 1, Listening, "listening";
+            BR_STATE_LEARNING = 2, Learning, "learning";
+            BR_STATE_FORWARDING = 3, Forwarding, "forwarding";
+            BR_STATE_BLOCKING = 4, Blocking, "blocking";
+        }
+    };
 }
 
 impl NamedNumber for BridgePortState {
@@ -53,6 +55,18 @@ impl NamedNumber for BridgePortState {
     ghost thorough = { of_cases enum _ _ (Prim.search (thorough_fields)) };
 }
 
+impl NumberedName for BridgePortState {
+    type Number = u8;
+
+    fn of_number(number: u8) -> Self {
+        port_state_names!(of_number(number))
+    }
+
+    fn number(self) -> u8 {
+        port_state_names!(number(self))
+    }
+}
+
 /// Converts a number to its variant, or to `Other` if the number has no name.
 impl From<u8> for BridgePortState {
     ghost use Rattle.std.specs.Prelude.{◌≡◌};
@@ -61,14 +75,7 @@ impl From<u8> for BridgePortState {
     ghost from_gives = { λ d v. v ≡ value_of ⟦<BridgePortState as NamedNumber>⟧.names d };
 
     fn from(number: u8) -> Self {
-        match number {
-            BR_STATE_DISABLED => BridgePortState::Disabled,
-            BR_STATE_LISTENING => BridgePortState::Listening,
-            BR_STATE_LEARNING => BridgePortState::Learning,
-            BR_STATE_FORWARDING => BridgePortState::Forwarding,
-            BR_STATE_BLOCKING => BridgePortState::Blocking,
-            _ => BridgePortState::Other(number),
-        }
+        Self::of_number(number)
     }
 }
 
@@ -80,14 +87,7 @@ impl From<BridgePortState> for u8 {
     ghost from_gives = { λ v d. d ≡ number_of (⟦<BridgePortState as NamedNumber>⟧.seen v) };
 
     fn from(value: BridgePortState) -> u8 {
-        match value {
-            BridgePortState::Disabled => BR_STATE_DISABLED,
-            BridgePortState::Listening => BR_STATE_LISTENING,
-            BridgePortState::Learning => BR_STATE_LEARNING,
-            BridgePortState::Forwarding => BR_STATE_FORWARDING,
-            BridgePortState::Blocking => BR_STATE_BLOCKING,
-            BridgePortState::Other(number) => number,
-        }
+        value.number()
     }
 }
 
@@ -100,14 +100,7 @@ impl fmt::Display for BridgePortState {
         (⟦<BridgePortState as NamedNumber>⟧.seen v)) };
 
     fn fmt<W: fmt::Write>(&self, f: &mut fmt::Formatter<W>) -> fmt::Result {
-        match self {
-            BridgePortState::Disabled => f.write_str("disabled"),
-            BridgePortState::Listening => f.write_str("listening"),
-            BridgePortState::Learning => f.write_str("learning"),
-            BridgePortState::Forwarding => f.write_str("forwarding"),
-            BridgePortState::Blocking => f.write_str("blocking"),
-            BridgePortState::Other(number) => write!(f, "{number}"),
-        }
+        port_state_names!(display(self, f))
     }
 }
 
@@ -126,16 +119,6 @@ impl FromStr for BridgePortState {
 
     #[tactic(auto, using(link_base::proofs::Naming::parsed_number, link_base::proofs::Naming::parsed_none))]
     fn from_str(text: &str) -> Result<Self, DecodeError> {
-        match text {
-            "disabled" => Ok(BridgePortState::Disabled),
-            "listening" => Ok(BridgePortState::Listening),
-            "learning" => Ok(BridgePortState::Learning),
-            "forwarding" => Ok(BridgePortState::Forwarding),
-            "blocking" => Ok(BridgePortState::Blocking),
-            _ => match text.parse::<u8>() {
-                Ok(number) => Ok(number.into()),
-                Err(_) => Err(DecodeError::Fault(DecodeFault::Text)),
-            },
-        }
+        port_state_names!(parse_or_number(text, u8))
     }
 }

@@ -1,4 +1,4 @@
-use Rattle.std.proofs.Common.{◌≡◌, ◌+◌, ◌*◌, ◌/◌, ◌∙◌, ap, length, map, arith}
+use Rattle.std.proofs.Common.{◌≡◌, ◌+◌, ◌*◌, ◌∙◌, ap, length, map, arith}
 use Rattle.link_base.specs.Frame.{spelled, pad}
 use Rattle.link_base.specs.Table.{addresses_from}
 use Rattle.link_base.proofs.AddressLists.{length-addresses}

@@ -1,9 +1,8 @@
 use Rattle.std.proofs.Common.{◌≡◌, ◌≢◌, refl, None, [], ◌∷◌, ◌++◌, ◌-◌, length, arith, ap, sym, subst, ◌∙◌}
 use Rattle.std.proofs.lemmas.Grind.{common_steps}
-use Rattle.std.proofs.lemmas.List.{length-append, length-drop}
-use Rattle.link_base.specs.Frame.{frame_bytes, frame_fault}
+use Rattle.link_base.specs.Frame.{frame_fault}
 use Rattle.link_base.specs.Buffer.{kind_field_of, payload_of, frame_of}
-use Rattle.link_base.proofs.FrameAtFront.{Splits, splits, step_of}
+use Rattle.link_base.proofs.FrameAtFront.{Splits, splits}
 use Rattle.link_base.proofs.FrameBytes.{frame_fault-frame}
 use Rattle.link_base.proofs.Walking.{before_more, before_all, begin_next}
 use Rattle.link_base.proofs.frame_table.put_down.Goals as goal

@@ -1,4 +1,4 @@
-use Rattle.std.proofs.Common.{◌+◌, ◌/◌, ◌≤◌, length, vec_capacity}
+use Rattle.std.proofs.Common.{length}
 use Rattle.link_base.specs.FrameOffsets.{BeginFrames, FindsBefore}
 use Rattle.link_base.proofs.frame_table.put_down.Given as goal
 

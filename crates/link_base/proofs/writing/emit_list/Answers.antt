@@ -1,4 +1,4 @@
-use Rattle.std.proofs.Common.{arith, length, ap, sym, ◌≡◌, ◌+◌, ◌-◌, ◌*◌, ◌/◌, map, take, drop, refl, subst}
+use Rattle.std.proofs.Common.{arith, length, ap, sym, ◌≡◌, ◌-◌, map, take, drop, refl, subst}
 use Rattle.std.proofs.lemmas.List.{length-take, length-drop, length-append}
 use Rattle.link_base.specs.Table.{written_list, written_frame, written_kind, written_payload, Fits}
 use Rattle.link_base.specs.Held.{IsInRange}

@@ -1,4 +1,4 @@
-use Rattle.std.proofs.Common.{arith, ℕ, ◌≡◌, ◌+◌, ◌-◌, ◌*◌, ◌/◌, refl, subst}
+use Rattle.std.proofs.Common.{arith, ℕ, ◌≡◌, ◌+◌, ◌-◌, refl, subst}
 use borrow.Rule.Slice.PartMut.{put_mid}
 use Rattle.link_base.specs.Frame.{frame_bytes}
 use Rattle.link_base.specs.Wire.{whole}

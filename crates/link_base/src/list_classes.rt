@@ -1,0 +1,232 @@
+//! Lists as payloads: bytes, arrays of numbers, IP addresses and lists of them, and nested lists.
+
+ghost use Rattle.std.specs.Prelude.{map};
+ghost use Rattle.link_base.specs.Class.{Bytes, Many, Octets, Exactly, Raw};
+ghost use Rattle.link_base.specs.Layout.{octets_of};
+ghost use Rattle.link_base.specs.Table.{One, Single, Addresses, Listed, Nested, Inner};
+
+use crate::address_list::{Address, addresses_len, emit_addresses, parse_address, read_addresses};
+use crate::buffer::NlaBuffer;
+use crate::canonical::{are_numbers, has_size, is_address_list, is_bytes, is_nested};
+use crate::fault::DecodeError;
+use crate::nested::{NestedAttribute, emit_nested, nested_len, read_nested};
+use crate::number_lists::{emit_u16s, emit_u32s, parse_u16s, parse_u32s, u16s_len, u32s_len};
+use crate::payload_class::PayloadClass;
+use crate::try_clone::{TryClone, try_clone_list};
+use std::alloc::{AllocError, Global};
+use std::marker::PhantomData;
+
+impl PayloadClass for Vec<u8> {
+    type Value = Vec<u8>;
+
+    ghost shape = { One Bytes };
+
+    ghost content = { λ bytes. Single (Raw bytes.items) };
+
+    #[inline]
+    fn read(alloc: Global, _kind: u16, payload: &[u8]) -> Result<Vec<u8>, DecodeError> {
+        Vec::from_slice(alloc, payload).map_err(DecodeError::Memory)
+    }
+
+    #[inline]
+    fn size(bytes: &Vec<u8>) -> usize {
+        bytes.len()
+    }
+
+    #[inline]
+    fn emit(bytes: &Vec<u8>, buffer: &mut [u8]) {
+        buffer.copy_from_slice(bytes);
+    }
+
+    #[inline]
+    fn is_canonical(buffer: &NlaBuffer<'_>, _flag: u16) -> bool {
+        is_bytes(buffer)
+    }
+
+    #[inline]
+    fn try_clone(alloc: Global, bytes: &Vec<u8>) -> Result<Vec<u8>, AllocError> {
+        Vec::from_slice(alloc, bytes)
+    }
+}
+
+impl PayloadClass for Vec<u16> {
+    type Value = Vec<u16>;
+
+    ghost shape = { One (Many 2) };
+
+    ghost content = { λ numbers. Single (Raw (octets_of 2 numbers.items)) };
+
+    #[inline]
+    fn read(alloc: Global, _kind: u16, payload: &[u8]) -> Result<Vec<u16>, DecodeError> {
+        parse_u16s(alloc, payload)
+    }
+
+    #[inline]
+    fn size(numbers: &Vec<u16>) -> usize {
+        u16s_len(numbers)
+    }
+
+    #[inline]
+    #[tactic(auto, using(crate::proofs::Layouts::numbers_len))]
+    fn emit(numbers: &Vec<u16>, buffer: &mut [u8]) {
+        emit_u16s(buffer, numbers);
+    }
+
+    #[inline]
+    fn is_canonical(buffer: &NlaBuffer<'_>, _flag: u16) -> bool {
+        are_numbers(buffer, 2)
+    }
+
+    #[inline]
+    fn try_clone(alloc: Global, numbers: &Vec<u16>) -> Result<Vec<u16>, AllocError> {
+        Vec::from_slice(alloc, numbers)
+    }
+}
+
+impl PayloadClass for Vec<u32> {
+    type Value = Vec<u32>;
+
+    ghost shape = { One (Many 4) };
+
+    ghost content = { λ numbers. Single (Raw (octets_of 4 numbers.items)) };
+
+    #[inline]
+    fn read(alloc: Global, _kind: u16, payload: &[u8]) -> Result<Vec<u32>, DecodeError> {
+        parse_u32s(alloc, payload)
+    }
+
+    #[inline]
+    fn size(numbers: &Vec<u32>) -> usize {
+        u32s_len(numbers)
+    }
+
+    #[inline]
+    #[tactic(auto, using(crate::proofs::Layouts::numbers_len))]
+    fn emit(numbers: &Vec<u32>, buffer: &mut [u8]) {
+        emit_u32s(buffer, numbers);
+    }
+
+    #[inline]
+    fn is_canonical(buffer: &NlaBuffer<'_>, _flag: u16) -> bool {
+        are_numbers(buffer, 4)
+    }
+
+    #[inline]
+    fn try_clone(alloc: Global, numbers: &Vec<u32>) -> Result<Vec<u32>, AllocError> {
+        Vec::from_slice(alloc, numbers)
+    }
+}
+
+/// The class of payloads that are one IP address.
+pub struct OneAddress<A> {
+    of: PhantomData<A>,
+}
+
+impl<A: Address + Eq + Drop> PayloadClass for OneAddress<A> {
+    type Value = A;
+
+    ghost shape = { One (Octets (Exactly A.SIZE)) };
+
+    ghost content = { λ address. Single (Raw (A.octets address)) };
+
+    #[inline]
+    fn read(_alloc: Global, _kind: u16, payload: &[u8]) -> Result<A, DecodeError> {
+        parse_address(payload)
+    }
+
+    #[inline]
+    fn size(_address: &A) -> usize {
+        A::SIZE
+    }
+
+    #[inline]
+    fn emit(address: &A, buffer: &mut [u8]) {
+        address.put(buffer);
+    }
+
+    #[inline]
+    fn is_canonical(buffer: &NlaBuffer<'_>, _flag: u16) -> bool {
+        has_size(buffer, A::SIZE)
+    }
+
+    #[inline]
+    fn try_clone(_alloc: Global, address: &A) -> Result<A, AllocError> {
+        Ok(*address)
+    }
+}
+
+/// The class of payloads that are a list of IP addresses.
+pub struct AddressList<A> {
+    of: PhantomData<A>,
+}
+
+impl<A: Address + Eq + Drop> PayloadClass for AddressList<A> {
+    type Value = Vec<A>;
+
+    ghost shape = { Addresses A.SIZE };
+
+    ghost content = { λ addresses. Listed (map A.octets addresses.items) };
+
+    #[inline]
+    fn read(alloc: Global, kind: u16, payload: &[u8]) -> Result<Vec<A>, DecodeError> {
+        read_addresses(alloc, kind, payload)
+    }
+
+    #[inline]
+    fn size(addresses: &Vec<A>) -> usize {
+        addresses_len(addresses)
+    }
+
+    #[inline]
+    fn emit(addresses: &Vec<A>, buffer: &mut [u8]) {
+        emit_addresses(addresses, buffer);
+    }
+
+    #[inline]
+    fn is_canonical(buffer: &NlaBuffer<'_>, _flag: u16) -> bool {
+        is_address_list(buffer, A::SIZE)
+    }
+
+    #[inline]
+    fn try_clone(alloc: Global, addresses: &Vec<A>) -> Result<Vec<A>, AllocError> {
+        Vec::from_slice(alloc, addresses)
+    }
+}
+
+/// The class of payloads that are a list of attributes of type `E`.
+pub struct NestedList<E> {
+    of: PhantomData<E>,
+}
+
+impl<E: NestedAttribute + TryClone> PayloadClass for NestedList<E> {
+    type Value = Vec<E>;
+
+    ghost shape = { Nested E.flagged E.rows };
+
+    ghost content = { λ values. Inner E.flagged (map E.leaf values.items) };
+
+    #[inline]
+    fn read(alloc: Global, kind: u16, payload: &[u8]) -> Result<Vec<E>, DecodeError> {
+        read_nested(alloc, kind, payload)
+    }
+
+    #[inline]
+    fn size(values: &Vec<E>) -> usize {
+        nested_len(values)
+    }
+
+    #[inline]
+    fn emit(values: &Vec<E>, buffer: &mut [u8]) {
+        emit_nested(values, buffer);
+    }
+
+    #[inline]
+    fn is_canonical(buffer: &NlaBuffer<'_>, flag: u16) -> bool {
+        is_nested::<E>(buffer, flag)
+    }
+
+    #[inline]
+    fn try_clone(alloc: Global, values: &Vec<E>) -> Result<Vec<E>, AllocError> {
+        try_clone_list(alloc, values)
+    }
+}

@@ -1,0 +1,65 @@
+//! Classes of payloads: how the value of an attribute type is read, measured, written, checked and copied.
+//!
+//! The rows of an attribute set name a class for each attribute type. Most classes are the type of their values:
+//! `u32` is the class of payloads that are one little-endian `u32`.
+
+ghost use Rattle.std.specs.Prelude.{◌≡◌, ◌≤◌, ◌↔◌, IsTrue, IfOk, OnErr, length};
+ghost use Rattle.link_base.specs.Frame.{max_payload};
+ghost use Rattle.link_base.specs.Table.{Shape, Content, Case, ShapeGives, ShapeTakesMemory};
+ghost use Rattle.link_base.specs.Table.{content_payload, shape_flag};
+ghost use Rattle.link_base.specs.Held.{ContentInRange};
+ghost use Rattle.link_base.specs.Buffer.{IsCanonicalAs};
+ghost use Rattle.link_base.specs.Answers.{Answers, OnMemory, capped, under_kind};
+
+use crate::buffer::NlaBuffer;
+use crate::fault::DecodeError;
+use std::alloc::{AllocError, Global};
+
+/// What the payloads of an attribute type are: a class of the tables, with the type of its values.
+pub trait PayloadClass {
+    /// A decoded payload.
+    type Value: PartialEq + Drop;
+
+    /// The shape in the table.
+    ghost shape: { Shape };
+
+    /// The content that a value represents.
+    ghost content: { Self.Value → Content };
+
+    /// Parses the payload of an attribute of type `kind`.
+    ///
+    /// # Errors
+    ///
+    /// Those of the class; the error for a malformed payload may lack the attribute type (`Payload`). `Memory` if an
+    /// allocation fails, which is possible only if values of the class may be heap-allocated.
+    fn read(alloc: Global, kind: u16, payload: &[u8]) -> Result<Self::Value, DecodeError>
+        ensures answer { Answers (λ value. Case kind (Self.content value)) (under_kind kind result)
+            (ShapeGives Self.shape kind payload.now) }
+        ensures memory { OnMemory result (ShapeTakesMemory Self.shape) };
+
+    /// Returns the length of the written payload in bytes; saturates at `usize::MAX`.
+    fn size(value: &Self::Value) -> usize
+        ensures { result ≡ capped (length (content_payload (Self.content value.now))) };
+
+    /// Writes the payload. `buffer` must be exactly `size(value)` bytes long, which must be at most 65531.
+    fn emit(value: &Self::Value, buffer: &mut [u8])
+        requires fits { length (content_payload (Self.content value.now)) ≤ max_payload }
+        requires exact { length buffer.old ≡ length (content_payload (Self.content value.now)) }
+        ensures written { buffer.new ≡ content_payload (Self.content value.now) }
+        ensures in_range { ContentInRange Self.shape (Self.content value.now) };
+
+    /// Checks whether an attribute is canonical. `flag` must be the flag in `nla_type` with which the class is written.
+    fn is_canonical(buffer: &NlaBuffer<'_>, flag: u16) -> bool
+        requires { flag ≡ shape_flag Self.shape }
+        ensures { IsTrue result ↔ IsCanonicalAs Self.shape buffer.now };
+
+    /// Returns an equal value.
+    ///
+    /// # Errors
+    ///
+    /// `AllocError` if an allocation fails, which is possible only if values of the class may be heap-allocated.
+    fn try_clone(alloc: Global, value: &Self::Value) -> Result<Self::Value, AllocError>
+        ensures copy { IfOk result (λ copy. Self.content copy ≡ Self.content value.now) }
+        ensures equal { IfOk result (λ copy. IsTrue (Self.Value.PartialEq.eq copy value.now)) }
+        ensures memory { OnErr result (ShapeTakesMemory Self.shape) };
+}

@@ -1,0 +1,204 @@
+//! One row of an attribute set: what the functions of the set do for one attribute type. The macro `by_rows!` calls
+//! these functions for each row.
+
+ghost use Rattle.std.specs.Prelude.{◌≡◌, ◌≤◌, ◌<◌, Some, IsTrue, IfOk, OnErr, length};
+ghost use Rattle.link_base.specs.Frame.{kind_of, kind_limit};
+ghost use Rattle.link_base.specs.Table.{Case, Gives, TakesMemory, Fits, class_at, written_payload};
+ghost use Rattle.link_base.specs.Held.{IsInRange, HoldsMemory};
+ghost use Rattle.link_base.specs.Buffer.{kind_field_of, payload_of};
+ghost use Rattle.link_base.specs.Storing.{Puts};
+ghost use Rattle.link_base.specs.Answers.{OnMemory, under_kind};
+
+use crate::attribute::Meaning;
+use crate::buffer::NlaBuffer;
+use crate::fault::DecodeError;
+use crate::payload_class::PayloadClass;
+use crate::place::{Place, keep};
+use std::alloc::{AllocError, Global};
+
+/// Parses the payload of an attribute whose row has the class `C`, and stores the value's variant in `place`.
+///
+/// # Errors
+///
+/// As for `PayloadClass::read`. On error, `place` is unchanged.
+#[inline(always)]
+pub fn read_row<C: PayloadClass, F: Meaning + Drop, P: Place<F>, M: FnOnce(C::Value) -> F>(
+    alloc: Global,
+    kind: u16,
+    buffer: &NlaBuffer<'_>,
+    place: &mut P,
+    variant: M,
+) -> Result<(), DecodeError>
+    requires kind { kind_of (kind_field_of buffer.now) ≡ kind }
+    requires row { class_at F.table kind ≡ Some C.shape }
+    requires callable { M.IsAlwaysCallable variant }
+    requires means { (value : C.Value) (made : F) → M.post variant value made
+        → F.means made ≡ Case kind (C.content value) }
+    requires free { P.is_free place.old }
+    ensures answer { Puts (λ value. P.takes place.old value place.new) (place.new ≡ place.old) F.means
+        (under_kind (kind_of (kind_field_of buffer.now)) result)
+        (Gives F.table (kind_field_of buffer.now) (payload_of buffer.now)) }
+    ensures memory { OnMemory result (TakesMemory F.table (kind_field_of buffer.now)) }
+{
+    keep(place, C::read(alloc, kind, buffer.value()).map(variant))
+}
+
+/// Writes the payload of an attribute, whose row has the class `C`. `value` is what its variant holds.
+#[inline(always)]
+pub fn emit_row<C: PayloadClass, F: Meaning>(
+    attribute: &F,
+    kind: u16,
+    value: &C::Value,
+    buffer: &mut [u8],
+)
+    requires kind { kind < kind_limit }
+    requires row { class_at F.table kind ≡ Some C.shape }
+    requires means { F.means attribute.now ≡ Case kind (C.content value.now) }
+    requires fits { Fits (F.means attribute.now) }
+    requires exact { length buffer.old ≡ length (written_payload (F.means attribute.now)) }
+    ensures written { buffer.new ≡ written_payload (F.means attribute.now) }
+    ensures in_range { IsInRange F.table (F.means attribute.now) }
+{
+    C::emit(value, buffer);
+}
+
+/// Copies an attribute, whose row has the class `C`. `value` is what its variant holds.
+///
+/// # Errors
+///
+/// As for `PayloadClass::try_clone`.
+#[inline(always)]
+pub fn clone_row<C: PayloadClass, F: Meaning + PartialEq, M: FnOnce(C::Value) -> F>(
+    alloc: Global,
+    attribute: &F,
+    kind: u16,
+    value: &C::Value,
+    variant: M,
+) -> Result<F, AllocError>
+    requires row { class_at F.table kind ≡ Some C.shape }
+    requires means { F.means attribute.now ≡ Case kind (C.content value.now) }
+    requires callable { M.IsAlwaysCallable variant }
+    requires copy { (copy : C.Value) (made : F) → M.post variant copy made
+        → F.means made ≡ Case kind (C.content copy) }
+    requires equal { (copy : C.Value) (made : F) → M.post variant copy made
+        → IsTrue (C.Value.PartialEq.eq copy value.now) → IsTrue (F.PartialEq.eq made attribute.now) }
+    ensures copy { IfOk result (λ copy. F.means copy ≡ F.means attribute.now) }
+    ensures equal { IfOk result (λ copy. IsTrue (F.PartialEq.eq copy attribute.now)) }
+    ensures memory { OnErr result (HoldsMemory F.table (F.means attribute.now)) }
+{
+    let copy = C::try_clone(alloc, value)?;
+    Ok(variant(copy))
+}
+
+/// The functions of an attribute set, over its rows. A row is
+/// `NAME = TYPE, VARIANT: CLASS;`, with the kernel's name of the attribute type, its number, the variant that holds its
+/// value, and the class of its payloads (`PayloadClass`). `TYPE | NLA_F_NESTED` is a number that is written with the
+/// nested flag. An attribute type without a value has no class: `NAME = TYPE, VARIANT;`.
+#[macro_export]
+macro_rules! by_rows {
+    (kind($self:expr) $($name:ident = $kind:literal $(| $flag:ident)?, $variant:ident $(: $class:ty)?;)*) => {
+        match $self {
+            $($crate::row_pattern!($variant, _value $(, $class)?) => $kind $(| $crate::$flag)?,)*
+            Self::Other(other) => $crate::Nla::kind(other),
+        }
+    };
+    (size($self:expr) $($name:ident = $kind:literal $(| $flag:ident)?, $variant:ident $(: $class:ty)?;)*) => {
+        match $self {
+            $($crate::row_pattern!($variant, value $(, $class)?) => $crate::row_size!(value $(, $class)?),)*
+            Self::Other(other) => $crate::Nla::value_len(other),
+        }
+    };
+    (emit($self:expr, $buffer:expr) $($name:ident = $kind:literal $(| $flag:ident)?, $variant:ident $(: $class:ty)?;)*) => {
+        match $self {
+            $($crate::row_pattern!($variant, value $(, $class)?) => $crate::row_emit!($self, $kind, value, $buffer $(, $class)?),)*
+            Self::Other(other) => $crate::Nla::emit_value(other, $buffer),
+        }
+    };
+    (read($alloc:expr, $buffer:expr, $place:expr) $($name:ident = $kind:literal $(| $flag:ident)?, $variant:ident $(: $class:ty)?;)*) => {
+        match $buffer.kind() {
+            $($kind => $crate::row_read!($alloc, $kind, $buffer, $place, $variant $(, $class)?),)*
+            _ => $crate::keep(
+                $place,
+                <$crate::DefaultNla as $crate::Parseable>::parse($alloc, $buffer).map(Self::Other),
+            ),
+        }
+    };
+    (canonical($buffer:expr) $($name:ident = $kind:literal $(| $flag:ident)?, $variant:ident $(: $class:ty)?;)*) => {
+        match $buffer.kind() {
+            $($kind => $crate::row_canonical!($buffer, 0 $(| $crate::$flag)? $(, $class)?),)*
+            _ => true,
+        }
+    };
+    (clone($self:expr, $alloc:expr) $($name:ident = $kind:literal $(| $flag:ident)?, $variant:ident $(: $class:ty)?;)*) => {
+        match $self {
+            $($crate::row_pattern!($variant, value $(, $class)?) => $crate::row_clone!($alloc, $self, $kind, value, $variant $(, $class)?),)*
+            Self::Other(other) => Ok(Self::Other($crate::TryClone::try_clone(other, $alloc)?)),
+        }
+    };
+}
+
+/// The pattern of a row's variant.
+#[macro_export]
+macro_rules! row_pattern {
+    ($variant:ident, $value:ident, $class:ty) => {
+        Self::$variant($value)
+    };
+    ($variant:ident, $value:ident) => {
+        Self::$variant
+    };
+}
+
+/// What `size` is of a row.
+#[macro_export]
+macro_rules! row_size {
+    ($value:ident, $class:ty) => {
+        <$class as $crate::PayloadClass>::size($value)
+    };
+    ($value:ident) => {
+        0
+    };
+}
+
+/// What `emit` does for a row.
+#[macro_export]
+macro_rules! row_emit {
+    ($self:expr, $kind:expr, $value:ident, $buffer:expr, $class:ty) => {
+        $crate::rows::emit_row::<$class, Self>($self, $kind, $value, $buffer)
+    };
+    ($self:expr, $kind:expr, $value:ident, $buffer:expr) => {
+        ()
+    };
+}
+
+/// What `read` does for a row.
+#[macro_export]
+macro_rules! row_read {
+    ($alloc:expr, $kind:expr, $buffer:expr, $place:expr, $variant:ident, $class:ty) => {
+        $crate::rows::read_row::<$class, Self, _, _>($alloc, $kind, $buffer, $place, Self::$variant)
+    };
+    ($alloc:expr, $kind:expr, $buffer:expr, $place:expr, $variant:ident) => {
+        $crate::keep($place, Ok(Self::$variant))
+    };
+}
+
+/// What `canonical` is of a row.
+#[macro_export]
+macro_rules! row_canonical {
+    ($buffer:expr, $flag:expr, $class:ty) => {
+        <$class as $crate::PayloadClass>::is_canonical($buffer, $flag)
+    };
+    ($buffer:expr, $flag:expr) => {
+        $crate::is_void($buffer)
+    };
+}
+
+/// What `clone` does for a row.
+#[macro_export]
+macro_rules! row_clone {
+    ($alloc:expr, $self:expr, $kind:expr, $value:ident, $variant:ident, $class:ty) => {
+        $crate::rows::clone_row::<$class, Self, _>($alloc, $self, $kind, $value, Self::$variant)
+    };
+    ($alloc:expr, $self:expr, $kind:expr, $value:ident, $variant:ident) => {
+        Ok(Self::$variant)
+    };
+}

@@ -1,0 +1,83 @@
+//! Fixed-layout structs as payloads.
+
+ghost use Rattle.std.specs.Prelude.{◌≡◌, ℕ, List, length, take};
+ghost use Rattle.link_base.specs.Class.{Extent, Octets, Raw, accepted, size_of};
+ghost use Rattle.link_base.specs.Table.{One, Single};
+ghost use Rattle.link_base.specs.Held.{IsOctets};
+ghost use Rattle.link_base.specs.Answers.{read_as, payload_result};
+
+use crate::buffer::NlaBuffer;
+use crate::canonical::has_size;
+use crate::fault::DecodeError;
+use crate::payload_class::PayloadClass;
+use std::alloc::{AllocError, Global};
+use std::marker::PhantomData;
+
+/// A fixed-layout struct that is the payload of an attribute.
+pub trait PayloadStruct {
+    /// The bytes of a value, in the order in which they are written.
+    ghost octets: { Self → List ℕ };
+
+    /// The lengths of payloads that are accepted.
+    ghost extent: { Extent };
+
+    /// Returns the number of bytes that are kept of a payload.
+    fn kept_len() -> usize
+        ensures { result ≡ size_of extent };
+
+    /// Parses a payload.
+    ///
+    /// # Errors
+    ///
+    /// `Payload` with the cause, if the length of the payload is not accepted.
+    fn parse_payload(payload: &[u8]) -> Result<Self, DecodeError>
+        ensures { read_as octets result ≡ payload_result (accepted extent (λ p. take (size_of extent) p) payload.now) };
+
+    /// Returns the length of the written payload in bytes.
+    fn payload_len(&self) -> usize
+        ensures { result ≡ length (octets self.now) };
+
+    /// Writes the payload. `buffer` must be exactly `payload_len()` bytes long.
+    fn emit_payload(&self, buffer: &mut [u8])
+        requires { length buffer.old ≡ length (octets self.now) }
+        ensures written { buffer.new ≡ octets self.now }
+        ensures in_range { IsOctets (size_of extent) (octets self.now) };
+}
+
+/// The class of payloads that are a fixed-layout struct.
+pub struct Struct<S> {
+    of: PhantomData<S>,
+}
+
+impl<S: PayloadStruct + Copy + Eq + Drop> PayloadClass for Struct<S> {
+    type Value = S;
+
+    ghost shape = { One (Octets S.extent) };
+
+    ghost content = { λ value. Single (Raw (S.octets value)) };
+
+    #[inline]
+    fn read(_alloc: Global, _kind: u16, payload: &[u8]) -> Result<S, DecodeError> {
+        S::parse_payload(payload)
+    }
+
+    #[inline]
+    fn size(value: &S) -> usize {
+        value.payload_len()
+    }
+
+    #[inline]
+    fn emit(value: &S, buffer: &mut [u8]) {
+        value.emit_payload(buffer);
+    }
+
+    #[inline]
+    fn is_canonical(buffer: &NlaBuffer<'_>, _flag: u16) -> bool {
+        has_size(buffer, S::kept_len())
+    }
+
+    #[inline]
+    fn try_clone(_alloc: Global, value: &S) -> Result<S, AllocError> {
+        Ok(*value)
+    }
+}

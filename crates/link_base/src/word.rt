@@ -1,0 +1,159 @@
+//! Unsigned numbers as payloads: `u8`, `u16`, `u32` and `u64` are classes of payloads.
+
+ghost use Rattle.std.specs.Prelude.{◌≡◌, ◌≤◌, ◌<◌, ℕ, IsTrue, nat_lt, length, refl};
+ghost use Rattle.link_base.specs.Number.{number, bytes_of, bound};
+ghost use Rattle.link_base.specs.Class.{accepted, Exactly, Unsigned, Number};
+ghost use Rattle.link_base.specs.Table.{One, Single};
+ghost use Rattle.link_base.specs.Answers.{read_as, payload_result, OverwritesFront};
+
+use crate::buffer::NlaBuffer;
+use crate::canonical::has_size;
+use crate::fault::DecodeError;
+use crate::payload_class::PayloadClass;
+use crate::scalars::{
+    emit_u8, emit_u16, emit_u32, emit_u64, parse_u8, parse_u16, parse_u32, parse_u64,
+};
+use std::alloc::{AllocError, Global};
+
+/// An unsigned number of fixed width.
+pub trait Word: Copy + Eq + Drop {
+    /// The width in bytes.
+    const WIDTH: usize;
+
+    ghost WIDTH: { ℕ };
+
+    /// The number that a value is.
+    ghost value: { Self → ℕ };
+
+    /// `WIDTH` is at most 8.
+    ghost few: { IsTrue (nat_lt WIDTH 9) };
+
+    /// Parses a payload.
+    ///
+    /// # Errors
+    ///
+    /// `Payload(WrongLength)` if `payload.len()` is not `WIDTH`.
+    fn parse(payload: &[u8]) -> Result<Self, DecodeError>
+        ensures { read_as Self.value result ≡ payload_result (accepted (Exactly Self.WIDTH) number payload.now) };
+
+    /// Writes the number to the start of `buffer`, which must be at least `WIDTH` bytes long.
+    fn emit(self, buffer: &mut [u8])
+        requires { Self.WIDTH ≤ length buffer.old }
+        ensures written { OverwritesFront buffer.old buffer.new (bytes_of Self.WIDTH (Self.value self)) }
+        ensures in_range { Self.value self < bound Self.WIDTH };
+}
+
+impl Word for u8 {
+    const WIDTH: usize = 1;
+
+    ghost WIDTH = { 1 };
+
+    ghost value = { λ n. n };
+
+    ghost few = { refl };
+
+    #[inline]
+    fn parse(payload: &[u8]) -> Result<u8, DecodeError> {
+        parse_u8(payload)
+    }
+
+    #[inline]
+    fn emit(self, buffer: &mut [u8]) {
+        emit_u8(buffer, self);
+    }
+}
+
+impl Word for u16 {
+    const WIDTH: usize = 2;
+
+    ghost WIDTH = { 2 };
+
+    ghost value = { λ n. n };
+
+    ghost few = { refl };
+
+    #[inline]
+    fn parse(payload: &[u8]) -> Result<u16, DecodeError> {
+        parse_u16(payload)
+    }
+
+    #[inline]
+    fn emit(self, buffer: &mut [u8]) {
+        emit_u16(buffer, self);
+    }
+}
+
+impl Word for u32 {
+    const WIDTH: usize = 4;
+
+    ghost WIDTH = { 4 };
+
+    ghost value = { λ n. n };
+
+    ghost few = { refl };
+
+    #[inline]
+    fn parse(payload: &[u8]) -> Result<u32, DecodeError> {
+        parse_u32(payload)
+    }
+
+    #[inline]
+    fn emit(self, buffer: &mut [u8]) {
+        emit_u32(buffer, self);
+    }
+}
+
+impl Word for u64 {
+    const WIDTH: usize = 8;
+
+    ghost WIDTH = { 8 };
+
+    ghost value = { λ n. n };
+
+    ghost few = { refl };
+
+    #[inline]
+    fn parse(payload: &[u8]) -> Result<u64, DecodeError> {
+        parse_u64(payload)
+    }
+
+    #[inline]
+    fn emit(self, buffer: &mut [u8]) {
+        emit_u64(buffer, self);
+    }
+}
+
+impl<W: Word> PayloadClass for W {
+    type Value = W;
+
+    ghost shape = { One (Unsigned W.WIDTH) };
+
+    ghost content = { λ value. Single (Number W.WIDTH (W.value value)) };
+
+    #[inline]
+    fn read(_alloc: Global, _kind: u16, payload: &[u8]) -> Result<W, DecodeError> {
+        W::parse(payload)
+    }
+
+    #[inline]
+    #[tactic(auto, using(crate::proofs::Numbers::bytes_len))]
+    fn size(_value: &W) -> usize {
+        W::WIDTH
+    }
+
+    #[inline]
+    #[tactic(auto, using(crate::proofs::Numbers::bytes_len))]
+    fn emit(value: &W, buffer: &mut [u8]) {
+        value.emit(buffer);
+    }
+
+    #[inline]
+    fn is_canonical(buffer: &NlaBuffer<'_>, _flag: u16) -> bool {
+        has_size(buffer, W::WIDTH)
+    }
+
+    #[inline]
+    fn try_clone(_alloc: Global, value: &W) -> Result<W, AllocError> {
+        Ok(*value)
+    }
+}
