@@ -1,6 +1,6 @@
 -- Attributes of IFLA_AF_SPEC in AF_BRIDGE messages.
 use Rattle.std.specs.Prelude.{[], ◌∷◌, map, false}
-use Rattle.link_base.specs.Class.{Named, Raw, ipv4}
+use Rattle.link_base.specs.Class.{Named, Raw, Octets, Exactly}
 use Rattle.link_base.specs.Named.{numbers_of, seen_value}
 use Rattle.link_base.specs.Table.{Table, AttrValue, Case, Nested, Single, Inner, row, list_row}
 use Rattle.link_base.specs.Default.{default_means}
@@ -16,7 +16,7 @@ abbrev pub af_spec_table : Table
 af_spec_table =
     row 0 "IFLA_BRIDGE_FLAGS" (Named 2 (numbers_of flag_names)) ∷
     row 1 "IFLA_BRIDGE_MODE" (Named 2 (numbers_of mode_names)) ∷
-    row 2 "IFLA_BRIDGE_VLAN_INFO" ipv4 ∷
+    row 2 "IFLA_BRIDGE_VLAN_INFO" (Octets (Exactly 4)) ∷
     list_row 3 "IFLA_BRIDGE_VLAN_TUNNEL_INFO" (Nested false tunnel_rows) ∷ []
 
 -- the attribute that a value represents

@@ -12,7 +12,6 @@ use link_base::{
 };
 use std::alloc::{AllocError, Global};
 
-/// `IFLA_BRPORT_NEIGH_FORWARD_GRAT`, `include/uapi/linux/if_link.h`.
 /// A bridge port attribute in `IFLA_PROTINFO` of an AF_BRIDGE message (`IFLA_BRPORT_*`,
 /// `include/uapi/linux/if_link.h`).
 #[derive(Debug, PartialEq, Eq, Drop)]
@@ -24,7 +23,7 @@ pub enum LinkProtoInfoBridge {
     Other(DefaultNla),
 }
 
-/// The attributes of `IFLA_PROTINFO` in a message of AF_BRIDGE.
+/// The attributes of `IFLA_PROTINFO` in an AF_BRIDGE message.
 #[derive(Debug, PartialEq, Eq, Drop)]
 pub struct VecLinkProtoInfoBridge(pub Vec<LinkProtoInfoBridge>);
 

@@ -1,4 +1,4 @@
--- Names: what stands before the first NUL, and buffers that a text fills.
+-- Names: the bytes before the first NUL.
 use Rattle.std.proofs.Common.{◌≡◌, ℕ, zero, suc, ◌<◌, ◌≤◌, true, List, [], ◌∷◌, length, take, refl, sym, ap, ◌∙◌, arith, ⊎_elim}
 use Rattle.std.specs.Prelude.{◌==◌, Option, Some, None, slice_index}
 use Rattle.std.specs.Option.{unwrap_or}

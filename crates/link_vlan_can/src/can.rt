@@ -7,8 +7,8 @@ use crate::can_modes::CanCtrlModeExt;
 use crate::can_records::{CanBerrCounter, CanBitTiming, CanClock, CanCtrlMode};
 use crate::can_tdc::CanTdc;
 use link_base::{
-    Attribute, DecodeError, DefaultNla, Meaning, NLA_F_NESTED, NestedList, Nla, NlaBuffer,
-    Parseable, Place, Struct, TryClone,
+    Attribute, DecodeError, DefaultNla, Meaning, NestedList, Nla, NlaBuffer, Parseable, Place,
+    Struct, TryClone,
 };
 use std::alloc::{AllocError, Global};
 

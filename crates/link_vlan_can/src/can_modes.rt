@@ -16,7 +16,7 @@ use std::alloc::{AllocError, Global};
 pub enum CanCtrlModeExt {
     /// The modes that the controller supports (`IFLA_CAN_CTRLMODE_SUPPORTED`, `u32`, read-only).
     Supported(CanCtrlModeFlags),
-    /// An attribute of any other type.
+    /// An element of any other type.
     Other(DefaultNla),
 }
 

@@ -34,7 +34,7 @@ pub enum CanTdc {
     Tdco(u32),
     /// Filter window: the minimum sum of value and offset for which the delay is compensated (`IFLA_CAN_TDC_TDCF`).
     Tdcf(u32),
-    /// An attribute of any other type.
+    /// An element of any other type.
     Other(DefaultNla),
 }
 

@@ -7,12 +7,11 @@ use link_base::{
 };
 use std::alloc::{AllocError, Global};
 
-/// `IFLA_DSA_CONDUIT`, before Linux 6.7 `IFLA_DSA_MASTER` (`include/uapi/linux/if_link.h`).
 /// A DSA port attribute (`IFLA_DSA_*`, `include/uapi/linux/if_link.h`).
 #[derive(Debug, PartialEq, Eq, Drop)]
 pub enum InfoDsa {
     /// Interface index of the conduit, the network device that carries the port's frames to the processor
-    /// (`IFLA_DSA_CONDUIT`, `u32`).
+    /// (`IFLA_DSA_CONDUIT`, before Linux 6.7 `IFLA_DSA_MASTER`, `u32`).
     Conduit(u32),
     /// An attribute of any other type.
     Other(DefaultNla),

@@ -16,7 +16,7 @@ use link_base::{
 };
 use std::alloc::{AllocError, Global};
 
-// `include/uapi/linux/if_link.h`
+// `include/uapi/linux/if_link.h`; not a row, since a variant of rows has one field, and `Mapping` has two
 const IFLA_VLAN_QOS_MAPPING: u16 = 1;
 
 /// An element of a list of priority mappings (`IFLA_VLAN_QOS_MAPPING`, `include/uapi/linux/if_link.h`).

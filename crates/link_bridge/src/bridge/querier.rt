@@ -1,8 +1,8 @@
 //! The multicast queriers known to a bridge.
 
 use link_base::{
-    Address, Attribute, DecodeError, DefaultNla, Meaning, NestedAttribute, Nla, NlaBuffer,
-    OneAddress, Parseable, Place, TryClone,
+    Attribute, DecodeError, DefaultNla, Meaning, NestedAttribute, Nla, NlaBuffer, OneAddress,
+    Parseable, Place, TryClone,
 };
 use std::alloc::{AllocError, Global};
 use std::net::{Ipv4Addr, Ipv6Addr};
