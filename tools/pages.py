@@ -322,7 +322,7 @@ class Tree:
     @functools.cached_property
     def attribute_rows(self):
         """The rows of attribute sets: the name of the attribute type, its number, and its variant."""
-        pattern = re.compile(r"\b([A-Z]+_\w+) = (\d+)(?: \| \w+)?, (\w+)(?:: [^;]*)?;")
+        pattern = re.compile(r"\b([A-Z]+_\w+) = (\d+)(?: \| \w+)?, (\w+)(?:\([\w, ]+\))?(?:: [^;]*)?;")
         return {it for text in self.folded for it in pattern.findall(text)}
 
     @functools.cached_property

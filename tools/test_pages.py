@@ -271,7 +271,7 @@ class Pages(unittest.TestCase):
             "crates/pairs/specs/Pair.antt": spec
             + "    list_row 2 \"PAIR_ENDS\" (Nested false end_rows) ∷\n    row 3 \"PAIR_KIND\" bytes ∷ []\n",
             "crates/pairs/src/kinds.rt": source + "match self {\n    Pair::Other => PAIR_KIND,\n}\n"
-            "rows! {\n    PAIR_LEN = 1, Len: u16;\n    PAIR_ENDS = 2 | NLA_F_NESTED, Ends: NestedList<End>;\n}\n",
+            "rows! {\n    PAIR_LEN = 1, Len: u16;\n    PAIR_ENDS = 2 | NLA_F_NESTED, Ends(first, last): NestedList<End>;\n}\n",
         }
         self.assertEqual([], self.said(TREE | more | {"README.md": PAGE + block}))
         for old, new, wanted in (

@@ -1,68 +1,57 @@
 //! Sets of flags as payloads.
 
-ghost use Rattle.std.specs.Prelude.{◌≡◌, ℕ};
-ghost use Rattle.link_base.specs.Class.{Unsigned, Number, Low, LowByte};
+ghost use Rattle.std.specs.Prelude.{[], ◌∷◌};
+ghost use Rattle.link_base.specs.Class.{Unsigned, Octets, Exactly, Number, Raw, Low, LowByte};
+ghost use Rattle.link_base.specs.Layout.{octets_of};
 ghost use Rattle.link_base.specs.Table.{One, Single};
 
 use crate::buffer::NlaBuffer;
 use crate::canonical::{has_size, is_low};
 use crate::fault::DecodeError;
+use crate::flag_laws::FlagSet;
 use crate::payload_class::PayloadClass;
-use crate::scalars::{emit_low, parse_low};
+use crate::scalars::{emit_low, emit_u32_pair, parse_low, parse_u32_pair};
 use crate::word::Word;
+use bitflags::Flags;
 use std::alloc::{AllocError, Global};
 use std::marker::PhantomData;
-
-/// A set of flags that is the payload of an attribute.
-pub trait PayloadFlags {
-    /// The type of the bits.
-    type Number: Word;
-
-    /// The bits of a set.
-    ghost set: { Self → ℕ };
-
-    /// Returns the set with these bits; unnamed bits are kept.
-    fn of_number(number: Self::Number) -> Self
-        ensures { set result ≡ Self.Number.value number };
-
-    /// Returns the bits.
-    fn number(&self) -> Self::Number
-        ensures { Self.Number.value result ≡ set self.now };
-}
 
 /// The class of payloads that are a set of flags.
 pub struct FlagBits<F> {
     of: PhantomData<F>,
 }
 
-impl<F: PayloadFlags + Copy + Eq + Drop> PayloadClass for FlagBits<F> {
+impl<F: FlagSet + Copy> PayloadClass for FlagBits<F>
+where
+    F::Bits: Word,
+{
     type Value = F;
 
-    ghost shape = { One (Unsigned F.Number.WIDTH) };
+    ghost shape = { One (Unsigned F.Bits.WIDTH) };
 
-    ghost content = { λ flags. Single (Number F.Number.WIDTH (F.set flags)) };
+    ghost content = { λ flags. Single (Number F.Bits.WIDTH (F.set_of flags)) };
 
     #[inline]
     fn read(_alloc: Global, _kind: u16, payload: &[u8]) -> Result<F, DecodeError> {
-        match F::Number::parse(payload) {
-            Ok(number) => Ok(F::of_number(number)),
+        match F::Bits::parse(payload) {
+            Ok(bits) => Ok(F::from_bits_retain(bits)),
             Err(error) => Err(error),
         }
     }
 
     #[inline]
     fn size(flags: &F) -> usize {
-        <F::Number as PayloadClass>::size(&flags.number())
+        <F::Bits as PayloadClass>::size(&flags.bits())
     }
 
     #[inline]
     fn emit(flags: &F, buffer: &mut [u8]) {
-        <F::Number as PayloadClass>::emit(&flags.number(), buffer);
+        <F::Bits as PayloadClass>::emit(&flags.bits(), buffer);
     }
 
     #[inline]
     fn is_canonical(buffer: &NlaBuffer<'_>, _flag: u16) -> bool {
-        has_size(buffer, F::Number::WIDTH)
+        has_size(buffer, F::Bits::WIDTH)
     }
 
     #[inline]
@@ -71,22 +60,63 @@ impl<F: PayloadFlags + Copy + Eq + Drop> PayloadClass for FlagBits<F> {
     }
 }
 
+/// The class of payloads that are two sets of flags, each a little-endian `u32`: the flags, then a mask.
+pub struct MaskedFlags<F> {
+    of: PhantomData<F>,
+}
+
+impl<F: FlagSet + Flags<Bits = u32> + Copy> PayloadClass for MaskedFlags<F> {
+    type Value = (F, F);
+
+    ghost shape = { One (Octets (Exactly 8)) };
+
+    ghost content = { λ masked. Single (Raw (octets_of 4 (F.set_of masked.0 ∷ F.set_of masked.1 ∷ []))) };
+
+    #[inline]
+    fn read(_alloc: Global, _kind: u16, payload: &[u8]) -> Result<(F, F), DecodeError> {
+        match parse_u32_pair(payload) {
+            Ok((flags, mask)) => Ok((F::from_bits_retain(flags), F::from_bits_retain(mask))),
+            Err(error) => Err(error),
+        }
+    }
+
+    #[inline]
+    fn size(_masked: &(F, F)) -> usize {
+        8
+    }
+
+    #[inline]
+    fn emit(masked: &(F, F), buffer: &mut [u8]) {
+        emit_u32_pair(buffer, masked.0.bits(), masked.1.bits());
+    }
+
+    #[inline]
+    fn is_canonical(buffer: &NlaBuffer<'_>, _flag: u16) -> bool {
+        has_size(buffer, 8)
+    }
+
+    #[inline]
+    fn try_clone(_alloc: Global, masked: &(F, F)) -> Result<(F, F), AllocError> {
+        Ok(*masked)
+    }
+}
+
 /// The class of payloads that are a set of flags of one byte as a little-endian `u16`.
 pub struct LowFlagBits<F> {
     of: PhantomData<F>,
 }
 
-impl<F: PayloadFlags<Number = u8> + Copy + Eq + Drop> PayloadClass for LowFlagBits<F> {
+impl<F: FlagSet + Flags<Bits = u8> + Copy> PayloadClass for LowFlagBits<F> {
     type Value = F;
 
     ghost shape = { One Low };
 
-    ghost content = { λ flags. Single (LowByte (F.set flags)) };
+    ghost content = { λ flags. Single (LowByte (F.set_of flags)) };
 
     #[inline]
     fn read(_alloc: Global, _kind: u16, payload: &[u8]) -> Result<F, DecodeError> {
         match parse_low(payload) {
-            Ok(low) => Ok(F::of_number(low)),
+            Ok(low) => Ok(F::from_bits_retain(low)),
             Err(error) => Err(error),
         }
     }
@@ -98,7 +128,7 @@ impl<F: PayloadFlags<Number = u8> + Copy + Eq + Drop> PayloadClass for LowFlagBi
 
     #[inline]
     fn emit(flags: &F, buffer: &mut [u8]) {
-        emit_low(buffer, flags.number());
+        emit_low(buffer, flags.bits());
     }
 
     #[inline]

@@ -3,11 +3,16 @@
 ghost use Rattle.std.specs.Prelude.{◌≡◌, ℕ, IsTrue};
 ghost use Rattle.std.specs.List.{AllByRecursion};
 ghost use Rattle.link_base.specs.Equality.{IsThorough};
-ghost use Rattle.link_base.specs.Named.{Naming, Seen, Listed, Free, IsSeen, is_naming};
+ghost use Rattle.link_base.specs.Named.{Naming, Seen, Listed, Free, IsSeen, is_naming, value_of, number_of};
+
+use crate::word::Word;
 
 /// An enum with a variant for each name, and a variant `Other` for every other number. The trait has no methods, only
-/// laws.
-pub trait NamedNumber: Eq {
+/// laws; numbers are converted by `From` and `Into`.
+pub trait NamedNumber: Copy + Eq + Drop + From<Self::Number> + Into<Self::Number> {
+    /// The type of the numbers.
+    type Number: Word;
+
     /// The variants, their `Display` output and their numbers, and additional strings that are accepted.
     ghost names: { Naming Self };
 
@@ -29,4 +34,12 @@ pub trait NamedNumber: Eq {
 
     /// Equal values are identical.
     ghost thorough: { IsThorough Self.PartialEq.eq (λ (v : Self). v) };
+
+    /// A number is converted to its variant, or to `Other` if it has no name.
+    ghost from_number: { (d : Self.Number) (v : Self) → Self.From.from_gives d v
+        → v ≡ value_of names (Self.Number.value d) };
+
+    /// A value is converted to its number.
+    ghost to_number: { (v : Self) (d : Self.Number) → Self.Into.converts v d
+        → Self.Number.value d ≡ number_of (seen v) };
 }

@@ -1,9 +1,8 @@
 //! Enums for named numbers as payloads.
 
-ghost use Rattle.std.specs.Prelude.{◌≡◌};
 ghost use Rattle.link_base.specs.Class.{Named as NamedClass};
 ghost use Rattle.link_base.specs.Table.{One, Single};
-ghost use Rattle.link_base.specs.Named.{numbers_of, value_of, number_of, seen_value};
+ghost use Rattle.link_base.specs.Named.{numbers_of, seen_value};
 
 use crate::buffer::NlaBuffer;
 use crate::canonical::has_size;
@@ -14,26 +13,12 @@ use crate::word::Word;
 use std::alloc::{AllocError, Global};
 use std::marker::PhantomData;
 
-/// An enum for numbers of one width.
-pub trait NumberedName: NamedNumber + Copy + Drop {
-    /// The type of the numbers.
-    type Number: Word;
-
-    /// Converts a number to its variant, or to `Other` if the number has no name.
-    fn of_number(number: Self::Number) -> Self
-        ensures { result ≡ value_of Self.names (Self.Number.value number) };
-
-    /// Converts a variant to its number.
-    fn number(self) -> Self::Number
-        ensures { Self.Number.value result ≡ number_of (Self.seen self) };
-}
-
 /// The class of payloads that are a number, as a value of the enum `T`.
 pub struct Named<T> {
     of: PhantomData<T>,
 }
 
-impl<T: NumberedName> PayloadClass for Named<T> {
+impl<T: NamedNumber> PayloadClass for Named<T> {
     type Value = T;
 
     ghost shape = { One (NamedClass T.Number.WIDTH (numbers_of T.names)) };
@@ -43,7 +28,7 @@ impl<T: NumberedName> PayloadClass for Named<T> {
     #[inline]
     fn read(_alloc: Global, _kind: u16, payload: &[u8]) -> Result<T, DecodeError> {
         match T::Number::parse(payload) {
-            Ok(number) => Ok(T::of_number(number)),
+            Ok(number) => Ok(T::from(number)),
             Err(error) => Err(error),
         }
     }
@@ -57,7 +42,8 @@ impl<T: NumberedName> PayloadClass for Named<T> {
     #[inline]
     #[tactic(auto, using(crate::proofs::NamedPayloads::length_seen))]
     fn emit(value: &T, buffer: &mut [u8]) {
-        value.number().emit(buffer);
+        let number: T::Number = (*value).into();
+        number.emit(buffer);
     }
 
     #[inline]

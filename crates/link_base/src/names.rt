@@ -4,7 +4,7 @@
 /// `NAME = NUMBER, VARIANT, "TEXT";`, with the kernel's name of the number, the number, its variant, and the variant's
 /// `Display` output. Additional strings that are parsed as the variant follow, each after `|`.
 ///
-/// - `of_number(number)` converts a number to its variant, and `number(self)` a variant to its number.
+/// - `of_number(number)` converts a number to its variant, and `number(TYPE, value)` a value of the enum to its number.
 /// - `display(self, f)` writes the `Display` output. A number without a name is written in decimal, and by
 ///   `display_unknown` as in `unknown-variant (9)`.
 /// - `parse(text)` parses a string, case-sensitive; `parse_any_case(text)` ignores ASCII case; `parse_or_number(text, N)`
@@ -17,10 +17,10 @@ macro_rules! by_names {
             number => Self::Other(number),
         }
     };
-    (number($self:expr) $($name:ident = $value:literal, $variant:ident, $text:literal $(| $further:literal)*;)*) => {
-        match $self {
-            $(Self::$variant => $value,)*
-            Self::Other(number) => number,
+    (number($type:ident, $variable:expr) $($name:ident = $value:literal, $variant:ident, $text:literal $(| $further:literal)*;)*) => {
+        match $variable {
+            $($type::$variant => $value,)*
+            $type::Other(number) => number,
         }
     };
     (display($self:expr, $f:expr) $($name:ident = $value:literal, $variant:ident, $text:literal $(| $further:literal)*;)*) => {
@@ -51,7 +51,7 @@ macro_rules! by_names {
         }
     };
     (parse_any_case($string:expr) $($name:ident = $value:literal, $variant:ident, $text:literal $(| $further:literal)*;)*) => {{
-        $(if $string.eq_ignore_ascii_case($text) {
+        $(if $string.eq_ignore_ascii_case($text) $(|| $string.eq_ignore_ascii_case($further))* {
             return Ok(Self::$variant);
         })*
         Err($crate::DecodeError::Fault($crate::DecodeFault::Text))

@@ -93,47 +93,68 @@ pub fn clone_row<C: PayloadClass, F: Meaning + PartialEq, M: FnOnce(C::Value) ->
 /// The functions of an attribute set, over its rows. A row is
 /// `NAME = TYPE, VARIANT: CLASS;`, with the kernel's name of the attribute type, its number, the variant that holds its
 /// value, and the class of its payloads (`PayloadClass`). `TYPE | NLA_F_NESTED` is a number that is written with the
-/// nested flag. An attribute type without a value has no class: `NAME = TYPE, VARIANT;`.
+/// nested flag. The row of a variant with several fields names them, `VARIANT(FIELD, FIELD): CLASS`: the values of the class
+/// are tuples. The row of a variant without a field has no class, `NAME = TYPE, VARIANT;`: it stands for the class `()`.
 #[macro_export]
 macro_rules! by_rows {
-    (kind($self:expr) $($name:ident = $kind:literal $(| $flag:ident)?, $variant:ident $(: $class:ty)?;)*) => {
+    (kind($self:expr) $($name:ident = $kind:literal $(| $flag:ident)?, $variant:ident $(($($field:ident),+))? $(: $class:ty)?;)*) => {
         match $self {
-            $($crate::row_pattern!($variant, _value $(, $class)?) => $kind $(| $crate::$flag)?,)*
+            $($crate::row_pattern!($variant $(($($field),+))?, _value $(, $class)?) => $kind $(| $crate::$flag)?,)*
             Self::Other(other) => $crate::Nla::kind(other),
         }
     };
-    (size($self:expr) $($name:ident = $kind:literal $(| $flag:ident)?, $variant:ident $(: $class:ty)?;)*) => {
+    (size($self:expr) $($name:ident = $kind:literal $(| $flag:ident)?, $variant:ident $(($($field:ident),+))? $(: $class:ty)?;)*) => {
         match $self {
-            $($crate::row_pattern!($variant, value $(, $class)?) => $crate::row_size!(value $(, $class)?),)*
+            $($crate::row_pattern!($variant $(($($field),+))?, value $(, $class)?) =>
+                <$crate::row_class!($($class)?) as $crate::PayloadClass>::size($crate::row_value!($variant $(($($field),+))?, value $(, $class)?)),)*
             Self::Other(other) => $crate::Nla::value_len(other),
         }
     };
-    (emit($self:expr, $buffer:expr) $($name:ident = $kind:literal $(| $flag:ident)?, $variant:ident $(: $class:ty)?;)*) => {
+    (emit($self:expr, $buffer:expr) $($name:ident = $kind:literal $(| $flag:ident)?, $variant:ident $(($($field:ident),+))? $(: $class:ty)?;)*) => {
         match $self {
-            $($crate::row_pattern!($variant, value $(, $class)?) => $crate::row_emit!($self, $kind, value, $buffer $(, $class)?),)*
+            $($crate::row_pattern!($variant $(($($field),+))?, value $(, $class)?) =>
+                $crate::rows::emit_row::<$crate::row_class!($($class)?), Self>(
+                    $self, $kind, $crate::row_value!($variant $(($($field),+))?, value $(, $class)?), $buffer,
+                ),)*
             Self::Other(other) => $crate::Nla::emit_value(other, $buffer),
         }
     };
-    (read($alloc:expr, $buffer:expr, $place:expr) $($name:ident = $kind:literal $(| $flag:ident)?, $variant:ident $(: $class:ty)?;)*) => {
+    (read($alloc:expr, $buffer:expr, $place:expr) $($name:ident = $kind:literal $(| $flag:ident)?, $variant:ident $(($($field:ident),+))? $(: $class:ty)?;)*) => {
         match $buffer.kind() {
-            $($kind => $crate::row_read!($alloc, $kind, $buffer, $place, $variant $(, $class)?),)*
+            $($kind => $crate::rows::read_row::<$crate::row_class!($($class)?), Self, _, _>(
+                $alloc, $kind, $buffer, $place, $crate::row_variant!($variant $(($($field),+))? $(, $class)?),
+            ),)*
             _ => $crate::keep(
                 $place,
                 <$crate::DefaultNla as $crate::Parseable>::parse($alloc, $buffer).map(Self::Other),
             ),
         }
     };
-    (canonical($buffer:expr) $($name:ident = $kind:literal $(| $flag:ident)?, $variant:ident $(: $class:ty)?;)*) => {
+    (canonical($buffer:expr) $($name:ident = $kind:literal $(| $flag:ident)?, $variant:ident $(($($field:ident),+))? $(: $class:ty)?;)*) => {
         match $buffer.kind() {
-            $($kind => $crate::row_canonical!($buffer, 0 $(| $crate::$flag)? $(, $class)?),)*
+            $($kind => <$crate::row_class!($($class)?) as $crate::PayloadClass>::is_canonical($buffer, 0 $(| $crate::$flag)?),)*
             _ => true,
         }
     };
-    (clone($self:expr, $alloc:expr) $($name:ident = $kind:literal $(| $flag:ident)?, $variant:ident $(: $class:ty)?;)*) => {
+    (clone($self:expr, $alloc:expr) $($name:ident = $kind:literal $(| $flag:ident)?, $variant:ident $(($($field:ident),+))? $(: $class:ty)?;)*) => {
         match $self {
-            $($crate::row_pattern!($variant, value $(, $class)?) => $crate::row_clone!($alloc, $self, $kind, value, $variant $(, $class)?),)*
+            $($crate::row_pattern!($variant $(($($field),+))?, value $(, $class)?) =>
+                $crate::rows::clone_row::<$crate::row_class!($($class)?), Self, _>(
+                    $alloc, $self, $kind, $crate::row_value!($variant $(($($field),+))?, value $(, $class)?), $crate::row_variant!($variant $(($($field),+))? $(, $class)?),
+                ),)*
             Self::Other(other) => Ok(Self::Other($crate::TryClone::try_clone(other, $alloc)?)),
         }
+    };
+}
+
+/// The class of a row: `()` if the row names none.
+#[macro_export]
+macro_rules! row_class {
+    ($class:ty) => {
+        $class
+    };
+    () => {
+        ()
     };
 }
 
@@ -143,62 +164,38 @@ macro_rules! row_pattern {
     ($variant:ident, $value:ident, $class:ty) => {
         Self::$variant($value)
     };
+    ($variant:ident($($field:ident),+), $value:ident, $class:ty) => {
+        Self::$variant($($field),+)
+    };
     ($variant:ident, $value:ident) => {
         Self::$variant
     };
 }
 
-/// What `size` is of a row.
+/// A reference to the value that `row_pattern` binds.
 #[macro_export]
-macro_rules! row_size {
-    ($value:ident, $class:ty) => {
-        <$class as $crate::PayloadClass>::size($value)
+macro_rules! row_value {
+    ($variant:ident, $value:ident, $class:ty) => {
+        $value
     };
-    ($value:ident) => {
-        0
+    ($variant:ident($($field:ident),+), $value:ident, $class:ty) => {
+        &($(*$field),+)
+    };
+    ($variant:ident, $value:ident) => {
+        &()
     };
 }
 
-/// What `emit` does for a row.
+/// The function from a row's value to its variant.
 #[macro_export]
-macro_rules! row_emit {
-    ($self:expr, $kind:expr, $value:ident, $buffer:expr, $class:ty) => {
-        $crate::rows::emit_row::<$class, Self>($self, $kind, $value, $buffer)
+macro_rules! row_variant {
+    ($variant:ident, $class:ty) => {
+        Self::$variant
     };
-    ($self:expr, $kind:expr, $value:ident, $buffer:expr) => {
-        ()
+    ($variant:ident($($field:ident),+), $class:ty) => {
+        |($($field),+)| Self::$variant($($field),+)
     };
-}
-
-/// What `read` does for a row.
-#[macro_export]
-macro_rules! row_read {
-    ($alloc:expr, $kind:expr, $buffer:expr, $place:expr, $variant:ident, $class:ty) => {
-        $crate::rows::read_row::<$class, Self, _, _>($alloc, $kind, $buffer, $place, Self::$variant)
-    };
-    ($alloc:expr, $kind:expr, $buffer:expr, $place:expr, $variant:ident) => {
-        $crate::keep($place, Ok(Self::$variant))
-    };
-}
-
-/// What `canonical` is of a row.
-#[macro_export]
-macro_rules! row_canonical {
-    ($buffer:expr, $flag:expr, $class:ty) => {
-        <$class as $crate::PayloadClass>::is_canonical($buffer, $flag)
-    };
-    ($buffer:expr, $flag:expr) => {
-        $crate::is_void($buffer)
-    };
-}
-
-/// What `clone` does for a row.
-#[macro_export]
-macro_rules! row_clone {
-    ($alloc:expr, $self:expr, $kind:expr, $value:ident, $variant:ident, $class:ty) => {
-        $crate::rows::clone_row::<$class, Self, _>($alloc, $self, $kind, $value, Self::$variant)
-    };
-    ($alloc:expr, $self:expr, $kind:expr, $value:ident, $variant:ident) => {
-        Ok(Self::$variant)
+    ($variant:ident) => {
+        |()| Self::$variant
     };
 }

@@ -1,15 +1,19 @@
-//! Booleans, signed numbers, VLAN protocols and hardware addresses as payloads.
+//! Booleans, signed numbers, VLAN protocols, hardware addresses, pairs of numbers, and no value, as payloads.
 
-ghost use Rattle.link_base.specs.Class.{Truth, Signed, Protocol, Octets, Exactly, Boolean, Integer, EtherType, Raw};
+ghost use Rattle.std.specs.Prelude.{[], ◌∷◌};
+ghost use Rattle.link_base.specs.Class.{Truth, Signed, Protocol, Octets, Exactly, Empty};
+ghost use Rattle.link_base.specs.Class.{Boolean, Integer, EtherType, Raw, Nothing};
+ghost use Rattle.link_base.specs.Layout.{octets_of};
 ghost use Rattle.link_base.specs.Table.{One, Single};
 ghost use Rattle.link_base.specs.Protocol.{protocol_number};
 
 use crate::buffer::NlaBuffer;
-use crate::canonical::{has_size, is_protocol, is_truth};
+use crate::canonical::{has_size, is_protocol, is_truth, is_void};
 use crate::fault::DecodeError;
 use crate::payload_class::PayloadClass;
 use crate::scalars::{
-    emit_i32, emit_mac, emit_u8, emit_u16_be, parse_bool, parse_i32, parse_mac, parse_u16_be,
+    emit_i32, emit_mac, emit_u8, emit_u16_be, emit_u32_pair, parse_bool, parse_i32, parse_mac,
+    parse_u16_be, parse_u32_pair,
 };
 use crate::vlan_protocol::VlanProtocol;
 use std::alloc::{AllocError, Global};
@@ -146,5 +150,70 @@ impl PayloadClass for [u8; 6] {
     #[inline]
     fn try_clone(_alloc: Global, value: &[u8; 6]) -> Result<[u8; 6], AllocError> {
         Ok(*value)
+    }
+}
+
+impl PayloadClass for (u32, u32) {
+    type Value = (u32, u32);
+
+    ghost shape = { One (Octets (Exactly 8)) };
+
+    ghost content = { λ pair. Single (Raw (octets_of 4 (pair.0 ∷ pair.1 ∷ []))) };
+
+    #[inline]
+    fn read(_alloc: Global, _kind: u16, payload: &[u8]) -> Result<(u32, u32), DecodeError> {
+        parse_u32_pair(payload)
+    }
+
+    #[inline]
+    fn size(_pair: &(u32, u32)) -> usize {
+        8
+    }
+
+    #[inline]
+    fn emit(pair: &(u32, u32), buffer: &mut [u8]) {
+        emit_u32_pair(buffer, pair.0, pair.1);
+    }
+
+    #[inline]
+    fn is_canonical(buffer: &NlaBuffer<'_>, _flag: u16) -> bool {
+        has_size(buffer, 8)
+    }
+
+    #[inline]
+    fn try_clone(_alloc: Global, pair: &(u32, u32)) -> Result<(u32, u32), AllocError> {
+        Ok(*pair)
+    }
+}
+
+/// No value: the payload is ignored.
+impl PayloadClass for () {
+    type Value = ();
+
+    ghost shape = { One Empty };
+
+    ghost content = { λ _. Single Nothing };
+
+    #[inline]
+    fn read(_alloc: Global, _kind: u16, _payload: &[u8]) -> Result<(), DecodeError> {
+        Ok(())
+    }
+
+    #[inline]
+    fn size(_value: &()) -> usize {
+        0
+    }
+
+    #[inline]
+    fn emit(_value: &(), _buffer: &mut [u8]) {}
+
+    #[inline]
+    fn is_canonical(buffer: &NlaBuffer<'_>, _flag: u16) -> bool {
+        is_void(buffer)
+    }
+
+    #[inline]
+    fn try_clone(_alloc: Global, _value: &()) -> Result<(), AllocError> {
+        Ok(())
     }
 }

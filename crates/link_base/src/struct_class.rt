@@ -1,10 +1,10 @@
 //! Fixed-layout structs as payloads.
 
-ghost use Rattle.std.specs.Prelude.{◌≡◌, ℕ, List, length, take};
+ghost use Rattle.std.specs.Prelude.{◌≡◌, ℕ, List, length, take, IfOk};
 ghost use Rattle.link_base.specs.Class.{Extent, Octets, Raw, accepted, size_of};
 ghost use Rattle.link_base.specs.Table.{One, Single};
 ghost use Rattle.link_base.specs.Held.{IsOctets};
-ghost use Rattle.link_base.specs.Answers.{read_as, payload_result};
+ghost use Rattle.link_base.specs.Answers.{payload_result};
 
 use crate::buffer::NlaBuffer;
 use crate::canonical::has_size;
@@ -14,12 +14,15 @@ use std::alloc::{AllocError, Global};
 use std::marker::PhantomData;
 
 /// A fixed-layout struct that is the payload of an attribute.
-pub trait PayloadStruct {
-    /// The bytes of a value, in the order in which they are written.
-    ghost octets: { Self → List ℕ };
-
+pub trait PayloadStruct: Copy + Eq + Drop {
     /// The lengths of payloads that are accepted.
     ghost extent: { Extent };
+
+    /// The value of an accepted payload, field by field.
+    ghost value_of: { List ℕ → Self };
+
+    /// The bytes of a value, in the order in which they are written.
+    ghost octets: { Self → List ℕ };
 
     /// Returns the number of bytes that are kept of a payload.
     fn kept_len() -> usize
@@ -31,7 +34,8 @@ pub trait PayloadStruct {
     ///
     /// `Payload` with the cause, if the length of the payload is not accepted.
     fn parse_payload(payload: &[u8]) -> Result<Self, DecodeError>
-        ensures { read_as octets result ≡ payload_result (accepted extent (λ p. take (size_of extent) p) payload.now) };
+        ensures value { result ≡ payload_result (accepted extent value_of payload.now) }
+        ensures octets { IfOk result (λ value. octets value ≡ take (size_of extent) payload.now) };
 
     /// Returns the length of the written payload in bytes.
     fn payload_len(&self) -> usize
@@ -49,7 +53,7 @@ pub struct Struct<S> {
     of: PhantomData<S>,
 }
 
-impl<S: PayloadStruct + Copy + Eq + Drop> PayloadClass for Struct<S> {
+impl<S: PayloadStruct> PayloadClass for Struct<S> {
     type Value = S;
 
     ghost shape = { One (Octets S.extent) };

@@ -13,10 +13,11 @@ use crate::payload_class::PayloadClass;
 use crate::scalars::{
     emit_u8, emit_u16, emit_u32, emit_u64, parse_u8, parse_u16, parse_u32, parse_u64,
 };
+use bitflags::Bits;
 use std::alloc::{AllocError, Global};
 
 /// An unsigned number of fixed width.
-pub trait Word: Copy + Eq + Drop {
+pub trait Word: Bits + Eq + Drop {
     /// The width in bytes.
     const WIDTH: usize;
 
@@ -41,6 +42,9 @@ pub trait Word: Copy + Eq + Drop {
         requires { Self.WIDTH ≤ length buffer.old }
         ensures written { OverwritesFront buffer.old buffer.new (bytes_of Self.WIDTH (Self.value self)) }
         ensures in_range { Self.value self < bound Self.WIDTH };
+
+    /// The number of a set of flags with these bits.
+    ghost by_bits: { (bits : Self) → value bits ≡ Self.Bits.pattern bits };
 }
 
 impl Word for u8 {
@@ -61,6 +65,8 @@ impl Word for u8 {
     fn emit(self, buffer: &mut [u8]) {
         emit_u8(buffer, self);
     }
+
+    ghost by_bits = { λ _. refl };
 }
 
 impl Word for u16 {
@@ -81,6 +87,8 @@ impl Word for u16 {
     fn emit(self, buffer: &mut [u8]) {
         emit_u16(buffer, self);
     }
+
+    ghost by_bits = { λ _. refl };
 }
 
 impl Word for u32 {
@@ -101,6 +109,8 @@ impl Word for u32 {
     fn emit(self, buffer: &mut [u8]) {
         emit_u32(buffer, self);
     }
+
+    ghost by_bits = { λ _. refl };
 }
 
 impl Word for u64 {
@@ -121,6 +131,8 @@ impl Word for u64 {
     fn emit(self, buffer: &mut [u8]) {
         emit_u64(buffer, self);
     }
+
+    ghost by_bits = { λ _. refl };
 }
 
 impl<W: Word> PayloadClass for W {

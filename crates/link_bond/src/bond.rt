@@ -118,7 +118,7 @@ pub enum InfoBond {
 }
 
 /// The attribute types (`IFLA_BOND_*`), the variant of each, and the class of its payload.
-macro_rules! bond_rows {
+macro_rules! rows {
     ($call:ident($($argument:tt)*)) => {
         link_base::by_rows! { $call($($argument)*)
             IFLA_BOND_MODE = 1, Mode: Named<BondMode>;
@@ -161,7 +161,7 @@ macro_rules! bond_rows {
 
 impl TryClone for InfoBond {
     fn try_clone(&self, alloc: Global) -> Result<Self, AllocError> {
-        bond_rows!(clone(self, alloc))
+        rows!(clone(self, alloc))
     }
 }
 
@@ -173,15 +173,15 @@ impl Meaning for InfoBond {
 
 impl Nla for InfoBond {
     fn kind(&self) -> u16 {
-        bond_rows!(kind(self))
+        rows!(kind(self))
     }
 
     fn value_len(&self) -> usize {
-        bond_rows!(size(self))
+        rows!(size(self))
     }
 
     fn emit_value(&self, buffer: &mut [u8]) {
-        bond_rows!(emit(self, buffer))
+        rows!(emit(self, buffer))
     }
 }
 
@@ -191,7 +191,7 @@ impl Parseable for InfoBond {
         buffer: &NlaBuffer<'_>,
         place: &mut P,
     ) -> Result<(), DecodeError> {
-        bond_rows!(read(alloc, buffer, place))
+        rows!(read(alloc, buffer, place))
     }
 }
 
@@ -199,36 +199,20 @@ impl Attribute for InfoBond {
     ghost use Rattle.std.specs.Prelude.{refl};
     ghost use Rattle.link_base.proofs.TableLaws.{lawful};
     ghost use Rattle.link_base.specs.Equality.{of_cases, thorough_fields};
-    ghost use Rattle.link_bond.specs.contracts.bond.mode.BondModeNamedNumber.TheImpl.Laws.{thorough-law as modes};
-    ghost use Rattle.link_bond.specs.contracts.bond.arp_validate.BondArpValidateNamedNumber.TheImpl.Laws.{
-      thorough-law as validations,
-    };
-    ghost use Rattle.link_bond.specs.contracts.bond.arp_all_targets.BondArpAllTargetsNamedNumber.TheImpl.Laws.{
-      thorough-law as target_rules,
-    };
-    ghost use Rattle.link_bond.specs.contracts.bond.primary_reselect.BondPrimaryReselectNamedNumber.TheImpl.Laws.{
-      thorough-law as reselections,
-    };
-    ghost use Rattle.link_bond.specs.contracts.bond.fail_over_mac.BondFailOverMacNamedNumber.TheImpl.Laws.{
-      thorough-law as fail_overs,
-    };
-    ghost use Rattle.link_bond.specs.contracts.bond.xmit_hash_policy.BondXmitHashPolicyNamedNumber.TheImpl.Laws.{
-      thorough-law as policies,
-    };
-    ghost use Rattle.link_bond.specs.contracts.bond.all_port_active.BondAllPortActiveNamedNumber.TheImpl.Laws.{
-      thorough-law as port_rules,
-    };
-    ghost use Rattle.link_bond.specs.contracts.bond.lacp_rate.BondLacpRateNamedNumber.TheImpl.Laws.{
-      thorough-law as rates,
-    };
-    ghost use Rattle.link_bond.specs.contracts.bond.ad_select.BondAdSelectNamedNumber.TheImpl.Laws.{
-      thorough-law as selections,
-    };
-    ghost use Rattle.link_bond.specs.contracts.bond.ad_info.BondAdInfoAttribute.TheImpl.Laws.{thorough-law as infos};
+    ghost use Rattle.link_bond.specs.contracts.bond.mode.BondModeNamedNumber.TheImpl.Laws as modes;
+    ghost use Rattle.link_bond.specs.contracts.bond.arp_validate.BondArpValidateNamedNumber.TheImpl.Laws as validations;
+    ghost use Rattle.link_bond.specs.contracts.bond.arp_all_targets.BondArpAllTargetsNamedNumber.TheImpl.Laws as target_rules;
+    ghost use Rattle.link_bond.specs.contracts.bond.primary_reselect.BondPrimaryReselectNamedNumber.TheImpl.Laws as reselections;
+    ghost use Rattle.link_bond.specs.contracts.bond.fail_over_mac.BondFailOverMacNamedNumber.TheImpl.Laws as fail_overs;
+    ghost use Rattle.link_bond.specs.contracts.bond.xmit_hash_policy.BondXmitHashPolicyNamedNumber.TheImpl.Laws as policies;
+    ghost use Rattle.link_bond.specs.contracts.bond.all_port_active.BondAllPortActiveNamedNumber.TheImpl.Laws as port_rules;
+    ghost use Rattle.link_bond.specs.contracts.bond.lacp_rate.BondLacpRateNamedNumber.TheImpl.Laws as rates;
+    ghost use Rattle.link_bond.specs.contracts.bond.ad_select.BondAdSelectNamedNumber.TheImpl.Laws as selections;
+    ghost use Rattle.link_bond.specs.contracts.bond.ad_info.BondAdInfoAttribute.TheImpl.Laws as infos;
     ghost use Rattle.link_bond.specs.contracts.bond.InfoBond.{enum};
 
     fn canonical(buffer: &NlaBuffer<'_>) -> bool {
-        bond_rows!(canonical(buffer))
+        rows!(canonical(buffer))
     }
 
     ghost lawful = { lawful bond_table };
@@ -238,15 +222,15 @@ impl Attribute for InfoBond {
     ghost thorough = { of_cases enum _ _
         (Prim.search (
           thorough_fields,
-          modes,
-          validations,
-          target_rules,
-          reselections,
-          fail_overs,
-          policies,
-          port_rules,
-          rates,
-          selections,
-          infos,
+          modes.thorough-law,
+          validations.thorough-law,
+          target_rules.thorough-law,
+          reselections.thorough-law,
+          fail_overs.thorough-law,
+          policies.thorough-law,
+          port_rules.thorough-law,
+          rates.thorough-law,
+          selections.thorough-law,
+          infos.thorough-law,
         )) };
 }

@@ -54,7 +54,7 @@ pub enum InfoBondPort {
 }
 
 /// The attribute types (`IFLA_BOND_SLAVE_*`), the variant of each, and the class of its payload.
-macro_rules! bond_port_rows {
+macro_rules! rows {
     ($call:ident($($argument:tt)*)) => {
         link_base::by_rows! { $call($($argument)*)
             IFLA_BOND_SLAVE_STATE = 1, BondPortState: Named<BondPortState>;
@@ -75,7 +75,7 @@ macro_rules! bond_port_rows {
 
 impl TryClone for InfoBondPort {
     fn try_clone(&self, alloc: Global) -> Result<Self, AllocError> {
-        bond_port_rows!(clone(self, alloc))
+        rows!(clone(self, alloc))
     }
 }
 
@@ -87,15 +87,15 @@ impl Meaning for InfoBondPort {
 
 impl Nla for InfoBondPort {
     fn kind(&self) -> u16 {
-        bond_port_rows!(kind(self))
+        rows!(kind(self))
     }
 
     fn value_len(&self) -> usize {
-        bond_port_rows!(size(self))
+        rows!(size(self))
     }
 
     fn emit_value(&self, buffer: &mut [u8]) {
-        bond_port_rows!(emit(self, buffer))
+        rows!(emit(self, buffer))
     }
 }
 
@@ -105,7 +105,7 @@ impl Parseable for InfoBondPort {
         buffer: &NlaBuffer<'_>,
         place: &mut P,
     ) -> Result<(), DecodeError> {
-        bond_port_rows!(read(alloc, buffer, place))
+        rows!(read(alloc, buffer, place))
     }
 }
 
@@ -113,27 +113,26 @@ impl Attribute for InfoBondPort {
     ghost use Rattle.std.specs.Prelude.{refl};
     ghost use Rattle.link_base.proofs.TableLaws.{lawful};
     ghost use Rattle.link_base.specs.Equality.{of_cases, thorough_fields};
-    ghost use Rattle.link_bond.specs.contracts.bond_port.port_state.BondPortStateNamedNumber.TheImpl.Laws.{
-      thorough-law as states,
-    };
-    ghost use Rattle.link_bond.specs.contracts.bond_port.mii_status.MiiStatusNamedNumber.TheImpl.Laws.{
-      thorough-law as statuses,
-    };
-    ghost use Rattle.link_bond.specs.contracts.bond_port.churn_state.ChurnStateNamedNumber.TheImpl.Laws.{
-      thorough-law as churn_states,
-    };
-    ghost use Rattle.link_bond.specs.contracts.bond_port.lacp_state.LacpStateFlagSet.TheImpl.Laws.{
-      thorough-law as flags,
-    };
+    ghost use Rattle.link_bond.specs.contracts.bond_port.port_state.BondPortStateNamedNumber.TheImpl.Laws as states;
+    ghost use Rattle.link_bond.specs.contracts.bond_port.mii_status.MiiStatusNamedNumber.TheImpl.Laws as statuses;
+    ghost use Rattle.link_bond.specs.contracts.bond_port.churn_state.ChurnStateNamedNumber.TheImpl.Laws as churn_states;
+    ghost use Rattle.link_bond.specs.contracts.bond_port.lacp_state.LacpStateFlagSet.TheImpl.Laws as flags;
     ghost use Rattle.link_bond.specs.contracts.bond_port.InfoBondPort.{enum};
 
     fn canonical(buffer: &NlaBuffer<'_>) -> bool {
-        bond_port_rows!(canonical(buffer))
+        rows!(canonical(buffer))
     }
 
     ghost lawful = { lawful bond_port_table };
 
     ghost well_formed = { refl };
 
-    ghost thorough = { of_cases enum _ _ (Prim.search (thorough_fields, states, statuses, churn_states, flags)) };
+    ghost thorough = { of_cases enum _ _
+        (Prim.search (
+          thorough_fields,
+          states.thorough-law,
+          statuses.thorough-law,
+          churn_states.thorough-law,
+          flags.thorough-law,
+        )) };
 }

@@ -21,7 +21,12 @@ vlan_infos = wrapped
     (λ (x : ℕ × ℕ). record { flags = record { 0 = x.0 }; vid = x.1 })
     (λ _. refl) (pairs numbers numbers)
 
--- the proof for one variant of an enum, with the proofs for the variants after it
-infixr 30 ◌also◌
-abbrev pub ◌also◌ : {A B : Type 0} → A → B → A × B
-◌also◌ reason others = (reason, others)
+-- the proofs for twenty-five variants of an enum, and those for the variants after them: one search for all takes too long
+pub twenty_five : {A B C D E F G H I J K L M N O P Q R S T U V W X Y Others : Type 0}
+    → A × (B × (C × (D × (E × (F × (G × (H × (I × (J × (K × (L × (M × (N × (O × (P × (Q × (R × (S × (T × (U × (V × (W × (X × (Y × Unit {0}))))))))))))))))))))))))
+    → Others
+    → A × (B × (C × (D × (E × (F × (G × (H × (I × (J × (K × (L × (M × (N × (O × (P × (Q × (R × (S × (T × (U × (V × (W × (X × (Y × Others))))))))))))))))))))))))
+twenty_five
+    (a, (b, (c, (d, (e, (f, (g, (h, (i, (j, (k, (l, (m, (n, (o, (p, (q, (r, (s, (t, (u, (v, (w, (x, (y, _)))))))))))))))))))))))))
+    others =
+    (a, (b, (c, (d, (e, (f, (g, (h, (i, (j, (k, (l, (m, (n, (o, (p, (q, (r, (s, (t, (u, (v, (w, (x, (y, others)))))))))))))))))))))))))

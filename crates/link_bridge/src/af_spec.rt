@@ -61,7 +61,7 @@ impl VecAfSpecBridge {
 }
 
 /// The attribute types (`IFLA_BRIDGE_*`), the variant of each, and the class of its payload.
-macro_rules! af_spec_rows {
+macro_rules! rows {
     ($call:ident($($argument:tt)*)) => {
         link_base::by_rows! { $call($($argument)*)
             IFLA_BRIDGE_FLAGS = 0, Flags: Named<BridgeFlag>;
@@ -74,7 +74,7 @@ macro_rules! af_spec_rows {
 
 impl TryClone for AfSpecBridge {
     fn try_clone(&self, alloc: Global) -> Result<Self, AllocError> {
-        af_spec_rows!(clone(self, alloc))
+        rows!(clone(self, alloc))
     }
 }
 
@@ -86,15 +86,15 @@ impl Meaning for AfSpecBridge {
 
 impl Nla for AfSpecBridge {
     fn kind(&self) -> u16 {
-        af_spec_rows!(kind(self))
+        rows!(kind(self))
     }
 
     fn value_len(&self) -> usize {
-        af_spec_rows!(size(self))
+        rows!(size(self))
     }
 
     fn emit_value(&self, buffer: &mut [u8]) {
-        af_spec_rows!(emit(self, buffer))
+        rows!(emit(self, buffer))
     }
 }
 
@@ -104,7 +104,7 @@ impl Parseable for AfSpecBridge {
         buffer: &NlaBuffer<'_>,
         place: &mut P,
     ) -> Result<(), DecodeError> {
-        af_spec_rows!(read(alloc, buffer, place))
+        rows!(read(alloc, buffer, place))
     }
 }
 
@@ -113,24 +113,19 @@ impl Attribute for AfSpecBridge {
     ghost use Rattle.link_base.proofs.TableLaws.{lawful};
     ghost use Rattle.link_base.specs.Equality.{of_cases, thorough_fields};
     ghost use Rattle.link_bridge.specs.BridgeEquality.{vlan_infos};
-    ghost use Rattle.link_bridge.specs.contracts.af_spec.flag.BridgeFlagNamedNumber.TheImpl.Laws.{
-      thorough-law as flags,
-    };
-    ghost use Rattle.link_bridge.specs.contracts.af_spec.mode.BridgeModeNamedNumber.TheImpl.Laws.{
-      thorough-law as modes,
-    };
-    ghost use Rattle.link_bridge.specs.contracts.af_spec.tunnel.BridgeVlanTunnelInfoAttribute.TheImpl.Laws.{
-      thorough-law as tunnels,
-    };
+    ghost use Rattle.link_bridge.specs.contracts.af_spec.flag.BridgeFlagNamedNumber.TheImpl.Laws as flags;
+    ghost use Rattle.link_bridge.specs.contracts.af_spec.mode.BridgeModeNamedNumber.TheImpl.Laws as modes;
+    ghost use Rattle.link_bridge.specs.contracts.af_spec.tunnel.BridgeVlanTunnelInfoAttribute.TheImpl.Laws as tunnels;
     ghost use Rattle.link_bridge.specs.contracts.af_spec.AfSpecBridge.{enum};
 
     fn canonical(buffer: &NlaBuffer<'_>) -> bool {
-        af_spec_rows!(canonical(buffer))
+        rows!(canonical(buffer))
     }
 
     ghost lawful = { lawful af_spec_table };
 
     ghost well_formed = { refl };
 
-    ghost thorough = { of_cases enum _ _ (Prim.search (thorough_fields, vlan_infos, flags, modes, tunnels)) };
+    ghost thorough = { of_cases enum _ _
+        (Prim.search (thorough_fields, vlan_infos, flags.thorough-law, modes.thorough-law, tunnels.thorough-law)) };
 }

@@ -147,7 +147,7 @@ pub enum InfoBridge {
 }
 
 /// The attribute types (`IFLA_BR_*`), the variant of each, and the class of its payload.
-macro_rules! bridge_rows {
+macro_rules! rows {
     ($call:ident($($argument:tt)*)) => {
         link_base::by_rows! { $call($($argument)*)
             IFLA_BR_FORWARD_DELAY = 1, ForwardDelay: u32;
@@ -205,7 +205,7 @@ macro_rules! bridge_rows {
 
 impl TryClone for InfoBridge {
     fn try_clone(&self, alloc: Global) -> Result<Self, AllocError> {
-        bridge_rows!(clone(self, alloc))
+        rows!(clone(self, alloc))
     }
 }
 
@@ -219,15 +219,15 @@ impl Meaning for InfoBridge {
 
 impl Nla for InfoBridge {
     fn kind(&self) -> u16 {
-        bridge_rows!(kind(self))
+        rows!(kind(self))
     }
 
     fn value_len(&self) -> usize {
-        bridge_rows!(size(self))
+        rows!(size(self))
     }
 
     fn emit_value(&self, buffer: &mut [u8]) {
-        bridge_rows!(emit(self, buffer))
+        rows!(emit(self, buffer))
     }
 }
 
@@ -237,50 +237,47 @@ impl Parseable for InfoBridge {
         buffer: &NlaBuffer<'_>,
         place: &mut P,
     ) -> Result<(), DecodeError> {
-        bridge_rows!(read(alloc, buffer, place))
+        rows!(read(alloc, buffer, place))
     }
 }
 
 impl Attribute for InfoBridge {
     ghost use Rattle.std.specs.Prelude.{refl};
     ghost use Rattle.link_base.proofs.TableLaws.{lawful};
-    ghost use Rattle.link_base.specs.Equality.{of_cases, anything, numbers, truths, octets, protocols, lists, defaults};
+    ghost use Rattle.link_base.specs.Equality.{of_cases, thorough_fields};
     ghost use Rattle.link_bridge.specs.Bridge.{bridge_table};
-    ghost use Rattle.link_bridge.specs.BridgeEquality.{◌also◌, ids, options};
-    ghost use Rattle.link_bridge.specs.contracts.bridge.stp_state.BridgeStpStateNamedNumber.TheImpl.Laws.{
-      thorough-law as states,
-    };
-    ghost use Rattle.link_bridge.specs.contracts.bridge.stp_mode.BridgeStpModeNamedNumber.TheImpl.Laws.{
-      thorough-law as modes,
-    };
-    ghost use Rattle.link_bridge.specs.contracts.bridge.router_type.BridgeMulticastRouterTypeNamedNumber.TheImpl.Laws.{
-      thorough-law as routers,
-    };
-    ghost use Rattle.link_bridge.specs.contracts.bridge.querier.BridgeQuerierStateAttribute.TheImpl.Laws.{
-      thorough-law as queriers,
-    };
+    ghost use Rattle.link_bridge.specs.BridgeEquality.{twenty_five, ids, options};
+    ghost use Rattle.link_bridge.specs.contracts.bridge.stp_state.BridgeStpStateNamedNumber.TheImpl.Laws as states;
+    ghost use Rattle.link_bridge.specs.contracts.bridge.stp_mode.BridgeStpModeNamedNumber.TheImpl.Laws as modes;
+    ghost use Rattle.link_bridge.specs.contracts.bridge.router_type.BridgeMulticastRouterTypeNamedNumber.TheImpl.Laws as routers;
+    ghost use Rattle.link_bridge.specs.contracts.bridge.querier.BridgeQuerierStateAttribute.TheImpl.Laws as queriers;
     ghost use Rattle.link_bridge.specs.contracts.bridge.InfoBridge.{enum};
 
     fn canonical(buffer: &NlaBuffer<'_>) -> bool {
-        bridge_rows!(canonical(buffer))
+        rows!(canonical(buffer))
     }
 
     ghost lawful = { lawful bridge_table };
 
     ghost well_formed = { refl };
 
-    ghost thorough = { of_cases enum _ _ (
-        anything octets also tt also anything numbers also anything numbers also anything numbers also
-        anything numbers also anything numbers also anything numbers also anything numbers also
-        anything numbers also anything numbers also anything numbers also anything numbers also
-        anything numbers also anything numbers also anything numbers also anything states also
-        anything numbers also anything numbers also anything numbers also anything numbers also
-        anything numbers also anything numbers also anything protocols also anything numbers also
-        anything ids also anything ids also anything numbers also anything numbers also anything truths also
-        anything numbers also anything numbers also anything routers also anything truths also
-        anything truths also anything truths also anything truths also anything truths also anything truths also
-        anything truths also anything truths also anything numbers also anything numbers also
-        anything truths also anything options also lists queriers also anything numbers also
-        anything numbers also anything modes also defaults also tt
-        ) };
+    ghost thorough = { of_cases enum _ _ (twenty_five
+        (Prim.search (
+          thorough_fields,
+          ids,
+          options,
+          states.thorough-law,
+          modes.thorough-law,
+          routers.thorough-law,
+          queriers.thorough-law,
+        ))
+        (Prim.search (
+          thorough_fields,
+          ids,
+          options,
+          states.thorough-law,
+          modes.thorough-law,
+          routers.thorough-law,
+          queriers.thorough-law,
+        ))) };
 }

@@ -58,9 +58,11 @@ impl Emitable for BridgeBooleanOptions {
 }
 
 impl PayloadStruct for BridgeBooleanOptions {
-    ghost octets = { options_octets };
-
     ghost extent = { Fixed 8 };
+
+    ghost value_of = { options_of };
+
+    ghost octets = { options_octets };
 
     #[inline]
     fn kept_len() -> usize {

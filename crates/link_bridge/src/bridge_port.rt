@@ -131,7 +131,7 @@ pub enum InfoBridgePort {
 }
 
 /// The attribute types (`IFLA_BRPORT_*`), the variant of each, and the class of its payload.
-macro_rules! bridge_port_rows {
+macro_rules! rows {
     ($call:ident($($argument:tt)*)) => {
         link_base::by_rows! { $call($($argument)*)
             IFLA_BRPORT_STATE = 1, State: Named<BridgePortState>;
@@ -184,7 +184,7 @@ macro_rules! bridge_port_rows {
 
 impl TryClone for InfoBridgePort {
     fn try_clone(&self, alloc: Global) -> Result<Self, AllocError> {
-        bridge_port_rows!(clone(self, alloc))
+        rows!(clone(self, alloc))
     }
 }
 
@@ -198,15 +198,15 @@ impl Meaning for InfoBridgePort {
 
 impl Nla for InfoBridgePort {
     fn kind(&self) -> u16 {
-        bridge_port_rows!(kind(self))
+        rows!(kind(self))
     }
 
     fn value_len(&self) -> usize {
-        bridge_port_rows!(size(self))
+        rows!(size(self))
     }
 
     fn emit_value(&self, buffer: &mut [u8]) {
-        bridge_port_rows!(emit(self, buffer))
+        rows!(emit(self, buffer))
     }
 }
 
@@ -216,41 +216,29 @@ impl Parseable for InfoBridgePort {
         buffer: &NlaBuffer<'_>,
         place: &mut P,
     ) -> Result<(), DecodeError> {
-        bridge_port_rows!(read(alloc, buffer, place))
+        rows!(read(alloc, buffer, place))
     }
 }
 
 impl Attribute for InfoBridgePort {
     ghost use Rattle.std.specs.Prelude.{refl};
     ghost use Rattle.link_base.proofs.TableLaws.{lawful};
-    ghost use Rattle.link_base.specs.Equality.{of_cases, anything, numbers, truths, defaults};
+    ghost use Rattle.link_base.specs.Equality.{of_cases, thorough_fields};
     ghost use Rattle.link_bridge.specs.BridgePort.{bridge_port_table};
-    ghost use Rattle.link_bridge.specs.BridgeEquality.{◌also◌, ids};
-    ghost use Rattle.link_bridge.specs.contracts.bridge_port.state.BridgePortStateNamedNumber.TheImpl.Laws.{
-      thorough-law as states,
-    };
-    ghost use Rattle.link_bridge.specs.contracts.bridge.router_type.BridgeMulticastRouterTypeNamedNumber.TheImpl.Laws.{
-      thorough-law as routers,
-    };
+    ghost use Rattle.link_bridge.specs.BridgeEquality.{twenty_five, ids};
+    ghost use Rattle.link_bridge.specs.contracts.bridge_port.state.BridgePortStateNamedNumber.TheImpl.Laws as states;
+    ghost use Rattle.link_bridge.specs.contracts.bridge.router_type.BridgeMulticastRouterTypeNamedNumber.TheImpl.Laws as routers;
     ghost use Rattle.link_bridge.specs.contracts.bridge_port.InfoBridgePort.{enum};
 
     fn canonical(buffer: &NlaBuffer<'_>) -> bool {
-        bridge_port_rows!(canonical(buffer))
+        rows!(canonical(buffer))
     }
 
     ghost lawful = { lawful bridge_port_table };
 
     ghost well_formed = { refl };
 
-    ghost thorough = { of_cases enum _ _ (
-        anything states also anything numbers also anything numbers also anything truths also anything truths also
-        anything truths also anything truths also anything truths also anything truths also anything truths also
-        anything truths also anything truths also anything ids also anything ids also anything numbers also
-        anything numbers also anything numbers also anything numbers also anything truths also anything truths also
-        anything numbers also anything numbers also anything numbers also tt also anything routers also
-        anything truths also anything truths also anything truths also anything truths also anything numbers also
-        anything truths also anything truths also anything numbers also anything truths also anything truths also
-        anything numbers also anything numbers also anything truths also anything truths also anything numbers also
-        anything numbers also anything truths also anything numbers also anything truths also defaults also tt
-        ) };
+    ghost thorough = { of_cases enum _ _ (twenty_five
+        (Prim.search (thorough_fields, ids, states.thorough-law, routers.thorough-law))
+        (Prim.search (thorough_fields, ids, states.thorough-law, routers.thorough-law))) };
 }

@@ -44,7 +44,7 @@ impl VecLinkProtoInfoBridge {
 }
 
 /// The attribute types (`IFLA_BRPORT_*`), the variant of each, and the class of its payload.
-macro_rules! proto_info_rows {
+macro_rules! rows {
     ($call:ident($($argument:tt)*)) => {
         link_base::by_rows! { $call($($argument)*)
             IFLA_BRPORT_NEIGH_FORWARD_GRAT = 45, NeighForwardGrat: bool;
@@ -54,7 +54,7 @@ macro_rules! proto_info_rows {
 
 impl TryClone for LinkProtoInfoBridge {
     fn try_clone(&self, alloc: Global) -> Result<Self, AllocError> {
-        proto_info_rows!(clone(self, alloc))
+        rows!(clone(self, alloc))
     }
 }
 
@@ -66,15 +66,15 @@ impl Meaning for LinkProtoInfoBridge {
 
 impl Nla for LinkProtoInfoBridge {
     fn kind(&self) -> u16 {
-        proto_info_rows!(kind(self))
+        rows!(kind(self))
     }
 
     fn value_len(&self) -> usize {
-        proto_info_rows!(size(self))
+        rows!(size(self))
     }
 
     fn emit_value(&self, buffer: &mut [u8]) {
-        proto_info_rows!(emit(self, buffer))
+        rows!(emit(self, buffer))
     }
 }
 
@@ -84,7 +84,7 @@ impl Parseable for LinkProtoInfoBridge {
         buffer: &NlaBuffer<'_>,
         place: &mut P,
     ) -> Result<(), DecodeError> {
-        proto_info_rows!(read(alloc, buffer, place))
+        rows!(read(alloc, buffer, place))
     }
 }
 
@@ -95,7 +95,7 @@ impl Attribute for LinkProtoInfoBridge {
     ghost use Rattle.link_bridge.specs.contracts.proto_info.LinkProtoInfoBridge.{enum};
 
     fn canonical(buffer: &NlaBuffer<'_>) -> bool {
-        proto_info_rows!(canonical(buffer))
+        rows!(canonical(buffer))
     }
 
     ghost lawful = { lawful proto_info_table };

@@ -1,6 +1,7 @@
 -- The flags of a VLAN device: their names and bits.
-use Rattle.std.specs.Prelude.{◌≡◌, ◌-◌, ◌^◌, ℕ, List, [], ◌∷◌, codes, refl}
+use Rattle.std.specs.Prelude.{◌≡◌, ◌-◌, ◌^◌, ◌==◌, ◌&&◌, ℕ, List, [], ◌∷◌, codes, refl}
 use Rattle.bitflags.specs.Sets.{Row, known_from, known_bits}
+use Rattle.link_base.specs.Equality.{IsThorough, wrapped, pairs, numbers}
 use Rattle.link_vlan_can.specs.declared.vlan_flags.VlanFlags.{VlanFlags}
 
 -- the bits of a set of flags
@@ -16,3 +17,10 @@ vlan_flags = (codes "ReorderHdr", 1) ∷ (codes "Gvrp", 2) ∷ (codes "LooseBind
 pub every_vlan_bit : known_bits vlan_flags ≡ 2 ^ 32 - 1
 unfolding known_from
 every_vlan_bit = refl
+
+-- `==` of flags and a mask compares both
+pub masked : IsThorough (λ (a b : VlanFlags × VlanFlags). a.0.0 == b.0.0 && a.1.0 == b.1.0) (λ (a : VlanFlags × VlanFlags). a)
+masked = wrapped
+    (λ (m : VlanFlags × VlanFlags). (m.0.0, m.1.0))
+    (λ (x : ℕ × ℕ). (record { 0 = x.0 }, record { 0 = x.1 }))
+    (λ _. refl) (pairs numbers numbers)

@@ -65,7 +65,7 @@ pub enum InfoCan {
 }
 
 /// The attribute types (`IFLA_CAN_*`), the variant of each, and the class of its payload.
-macro_rules! can_rows {
+macro_rules! rows {
     ($call:ident($($argument:tt)*)) => {
         link_base::by_rows! { $call($($argument)*)
             IFLA_CAN_BITTIMING = 1, BitTiming: Struct<CanBitTiming>;
@@ -91,7 +91,7 @@ macro_rules! can_rows {
 
 impl TryClone for InfoCan {
     fn try_clone(&self, alloc: Global) -> Result<Self, AllocError> {
-        can_rows!(clone(self, alloc))
+        rows!(clone(self, alloc))
     }
 }
 
@@ -103,15 +103,15 @@ impl Meaning for InfoCan {
 
 impl Nla for InfoCan {
     fn kind(&self) -> u16 {
-        can_rows!(kind(self))
+        rows!(kind(self))
     }
 
     fn value_len(&self) -> usize {
-        can_rows!(size(self))
+        rows!(size(self))
     }
 
     fn emit_value(&self, buffer: &mut [u8]) {
-        can_rows!(emit(self, buffer))
+        rows!(emit(self, buffer))
     }
 }
 
@@ -121,7 +121,7 @@ impl Parseable for InfoCan {
         buffer: &NlaBuffer<'_>,
         place: &mut P,
     ) -> Result<(), DecodeError> {
-        can_rows!(read(alloc, buffer, place))
+        rows!(read(alloc, buffer, place))
     }
 }
 
@@ -130,14 +130,12 @@ impl Attribute for InfoCan {
     ghost use Rattle.link_base.proofs.TableLaws.{lawful};
     ghost use Rattle.link_base.specs.Equality.{of_cases, thorough_fields};
     ghost use Rattle.link_vlan_can.specs.CanEquality.{timings, limits, clocks, modes, counters};
-    ghost use Rattle.link_vlan_can.specs.contracts.can_tdc.CanTdcAttribute.TheImpl.Laws.{thorough-law as tdcs};
-    ghost use Rattle.link_vlan_can.specs.contracts.can_modes.CanCtrlModeExtAttribute.TheImpl.Laws.{
-      thorough-law as exts,
-    };
+    ghost use Rattle.link_vlan_can.specs.contracts.can_tdc.CanTdcAttribute.TheImpl.Laws as tdcs;
+    ghost use Rattle.link_vlan_can.specs.contracts.can_modes.CanCtrlModeExtAttribute.TheImpl.Laws as exts;
     ghost use Rattle.link_vlan_can.specs.contracts.can.InfoCan.{enum};
 
     fn canonical(buffer: &NlaBuffer<'_>) -> bool {
-        can_rows!(canonical(buffer))
+        rows!(canonical(buffer))
     }
 
     ghost lawful = { lawful can_table };
@@ -145,5 +143,5 @@ impl Attribute for InfoCan {
     ghost well_formed = { refl };
 
     ghost thorough = { of_cases enum _ _
-        (Prim.search (thorough_fields, timings, limits, clocks, modes, counters, tdcs, exts)) };
+        (Prim.search (thorough_fields, timings, limits, clocks, modes, counters, tdcs.thorough-law, exts.thorough-law)) };
 }

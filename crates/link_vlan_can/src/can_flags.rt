@@ -1,7 +1,6 @@
 //! The modes of a CAN controller, as flags.
 
 use bitflags::{Flag, Flags};
-use link_base::PayloadFlags;
 use link_base::flag_laws::{FlagSet, KnownBits};
 
 /// Modes of a CAN controller (`CAN_CTRLMODE_*`, `include/uapi/linux/can/netlink.h`). Unnamed bits are kept.
@@ -60,76 +59,10 @@ impl CanCtrlModeFlags {
 }
 
 /// The named flags, and an unnamed one with all bits, so that every bit is known.
-const FLAGS: [Flag<CanCtrlModeFlags>; 17] = [
-    Flag {
-        name: "Loopback",
-        value: CanCtrlModeFlags::Loopback,
-    },
-    Flag {
-        name: "ListenOnly",
-        value: CanCtrlModeFlags::ListenOnly,
-    },
-    Flag {
-        name: "TripleSampling",
-        value: CanCtrlModeFlags::TripleSampling,
-    },
-    Flag {
-        name: "OneShot",
-        value: CanCtrlModeFlags::OneShot,
-    },
-    Flag {
-        name: "BerrReporting",
-        value: CanCtrlModeFlags::BerrReporting,
-    },
-    Flag {
-        name: "Fd",
-        value: CanCtrlModeFlags::Fd,
-    },
-    Flag {
-        name: "PresumeAck",
-        value: CanCtrlModeFlags::PresumeAck,
-    },
-    Flag {
-        name: "FdNonIso",
-        value: CanCtrlModeFlags::FdNonIso,
-    },
-    Flag {
-        name: "CcLen8Dlc",
-        value: CanCtrlModeFlags::CcLen8Dlc,
-    },
-    Flag {
-        name: "TdcAuto",
-        value: CanCtrlModeFlags::TdcAuto,
-    },
-    Flag {
-        name: "TdcManual",
-        value: CanCtrlModeFlags::TdcManual,
-    },
-    Flag {
-        name: "Restricted",
-        value: CanCtrlModeFlags::Restricted,
-    },
-    Flag {
-        name: "Xl",
-        value: CanCtrlModeFlags::Xl,
-    },
-    Flag {
-        name: "XlTdcAuto",
-        value: CanCtrlModeFlags::XlTdcAuto,
-    },
-    Flag {
-        name: "XlTdcManual",
-        value: CanCtrlModeFlags::XlTdcManual,
-    },
-    Flag {
-        name: "XlTms",
-        value: CanCtrlModeFlags::XlTms,
-    },
-    Flag {
-        name: "",
-        value: CanCtrlModeFlags(u32::MAX),
-    },
-];
+const FLAGS: [Flag<CanCtrlModeFlags>; 17] = link_base::named_flags!(CanCtrlModeFlags(u32::MAX):
+    Loopback, ListenOnly, TripleSampling, OneShot, BerrReporting, Fd, PresumeAck, FdNonIso,
+    CcLen8Dlc, TdcAuto, TdcManual, Restricted, Xl, XlTdcAuto, XlTdcManual, XlTms
+);
 
 impl Flags for CanCtrlModeFlags {
     type Bits = u32;
@@ -153,24 +86,6 @@ impl Flags for CanCtrlModeFlags {
 
     fn from_bits_retain(bits: u32) -> CanCtrlModeFlags {
         CanCtrlModeFlags(bits)
-    }
-}
-
-impl PayloadFlags for CanCtrlModeFlags {
-    type Number = u32;
-
-    ghost use Rattle.link_vlan_can.specs.CanFlags.{mode_bits};
-
-    ghost set = { mode_bits };
-
-    #[inline]
-    fn of_number(bits: u32) -> Self {
-        Self::from_bits_retain(bits)
-    }
-
-    #[inline]
-    fn number(&self) -> u32 {
-        self.bits()
     }
 }
 

@@ -21,7 +21,7 @@ pub enum CanCtrlModeExt {
 }
 
 /// The attribute types (`IFLA_CAN_CTRLMODE_*`), the variant of each, and the class of its payload.
-macro_rules! mode_rows {
+macro_rules! rows {
     ($call:ident($($argument:tt)*)) => {
         link_base::by_rows! { $call($($argument)*)
             IFLA_CAN_CTRLMODE_SUPPORTED = 1, Supported: FlagBits<CanCtrlModeFlags>;
@@ -31,7 +31,7 @@ macro_rules! mode_rows {
 
 impl TryClone for CanCtrlModeExt {
     fn try_clone(&self, alloc: Global) -> Result<Self, AllocError> {
-        mode_rows!(clone(self, alloc))
+        rows!(clone(self, alloc))
     }
 }
 
@@ -43,15 +43,15 @@ impl Meaning for CanCtrlModeExt {
 
 impl Nla for CanCtrlModeExt {
     fn kind(&self) -> u16 {
-        mode_rows!(kind(self))
+        rows!(kind(self))
     }
 
     fn value_len(&self) -> usize {
-        mode_rows!(size(self))
+        rows!(size(self))
     }
 
     fn emit_value(&self, buffer: &mut [u8]) {
-        mode_rows!(emit(self, buffer))
+        rows!(emit(self, buffer))
     }
 }
 
@@ -61,27 +61,25 @@ impl Parseable for CanCtrlModeExt {
         buffer: &NlaBuffer<'_>,
         place: &mut P,
     ) -> Result<(), DecodeError> {
-        mode_rows!(read(alloc, buffer, place))
+        rows!(read(alloc, buffer, place))
     }
 }
 
 impl Attribute for CanCtrlModeExt {
     ghost use Rattle.link_base.proofs.TableLaws.{lawful};
     ghost use Rattle.link_base.specs.Equality.{of_cases, thorough_fields};
-    ghost use Rattle.link_vlan_can.specs.contracts.can_flags.CanCtrlModeFlagsFlagSet.TheImpl.Laws.{
-      thorough-law as modes_thorough,
-    };
+    ghost use Rattle.link_vlan_can.specs.contracts.can_flags.CanCtrlModeFlagsFlagSet.TheImpl.Laws as modes;
     ghost use Rattle.link_vlan_can.specs.contracts.can_modes.CanCtrlModeExt.{enum};
 
     fn canonical(buffer: &NlaBuffer<'_>) -> bool {
-        mode_rows!(canonical(buffer))
+        rows!(canonical(buffer))
     }
 
     ghost lawful = { lawful (lift_table mode_rows) };
 
     ghost well_formed = { refl };
 
-    ghost thorough = { of_cases enum _ _ (Prim.search (thorough_fields, modes_thorough)) };
+    ghost thorough = { of_cases enum _ _ (Prim.search (thorough_fields, modes.thorough-law)) };
 }
 
 impl NestedAttribute for CanCtrlModeExt {

@@ -1,9 +1,7 @@
 //! Kernel structs in the payloads of CAN controller attributes.
 
-ghost use Rattle.std.specs.Prelude.{◌≡◌, ◌≤◌, length, take, IfOk};
-ghost use Rattle.link_base.specs.Class.{accepted, AtLeast, Fixed};
-ghost use Rattle.link_base.specs.Held.{IsOctets};
-ghost use Rattle.link_base.specs.Answers.{payload_result, OverwritesFront};
+ghost use Rattle.std.specs.Prelude.{◌≡◌};
+ghost use Rattle.link_base.specs.Class.{AtLeast, Fixed};
 ghost use Rattle.link_vlan_can.specs.CanRecords.{timing_of, timing_with, timing_octets, modes_of, modes_octets};
 ghost use Rattle.link_vlan_can.specs.CanRecords.{clock_of, clock_octets, errors_of, errors_octets};
 
@@ -46,11 +44,22 @@ impl CanBitTiming {
             ..CanBitTiming::default()
         }
     }
+}
 
-    pub(crate) fn parse(payload: &[u8]) -> Result<Self, DecodeError>
-        ensures value { result ≡ payload_result (accepted (AtLeast 32) timing_of payload.now) }
-        ensures octets { IfOk result (λ timing. timing_octets timing ≡ take 32 payload.now) }
-    {
+impl PayloadStruct for CanBitTiming {
+    ghost extent = { AtLeast 32 };
+
+    ghost value_of = { timing_of };
+
+    ghost octets = { timing_octets };
+
+    #[inline]
+    fn kept_len() -> usize {
+        32
+    }
+
+    #[inline]
+    fn parse_payload(payload: &[u8]) -> Result<Self, DecodeError> {
         check_at_least(payload, 32)?;
         let [
             bitrate,
@@ -74,11 +83,12 @@ impl CanBitTiming {
         })
     }
 
-    pub(crate) fn emit(&self, buffer: &mut [u8])
-        requires { 32 ≤ length buffer.old }
-        ensures written { OverwritesFront buffer.old buffer.new (timing_octets self.now) }
-        ensures octets { IsOctets 32 (timing_octets self.now) }
-    {
+    #[inline]
+    fn payload_len(&self) -> usize {
+        32
+    }
+
+    fn emit_payload(&self, buffer: &mut [u8]) {
         emit_u32s(
             buffer,
             &[
@@ -95,31 +105,6 @@ impl CanBitTiming {
     }
 }
 
-impl PayloadStruct for CanBitTiming {
-    ghost octets = { timing_octets };
-
-    ghost extent = { AtLeast 32 };
-
-    #[inline]
-    fn kept_len() -> usize {
-        32
-    }
-
-    #[inline]
-    fn parse_payload(payload: &[u8]) -> Result<Self, DecodeError> {
-        Self::parse(payload)
-    }
-
-    #[inline]
-    fn payload_len(&self) -> usize {
-        32
-    }
-
-    fn emit_payload(&self, buffer: &mut [u8]) {
-        self.emit(buffer);
-    }
-}
-
 /// The modes of a CAN controller (`struct can_ctrlmode`, `include/uapi/linux/can/netlink.h`): two `u32`s. Payloads may
 /// be longer; the additional bytes are ignored.
 #[derive(Clone, Copy, Debug, PartialEq, Eq)]
@@ -130,31 +115,12 @@ pub struct CanCtrlMode {
     pub flags: CanCtrlModeFlags,
 }
 
-impl CanCtrlMode {
-    pub(crate) fn parse(payload: &[u8]) -> Result<Self, DecodeError>
-        ensures value { result ≡ payload_result (accepted (AtLeast 8) modes_of payload.now) }
-        ensures octets { IfOk result (λ modes. modes_octets modes ≡ take 8 payload.now) }
-    {
-        check_at_least(payload, 8)?;
-        Ok(CanCtrlMode {
-            mask: CanCtrlModeFlags::from_bits_retain(u32_at(payload, 0)),
-            flags: CanCtrlModeFlags::from_bits_retain(u32_at(payload, 4)),
-        })
-    }
-
-    pub(crate) fn emit(&self, buffer: &mut [u8])
-        requires { 8 ≤ length buffer.old }
-        ensures written { OverwritesFront buffer.old buffer.new (modes_octets self.now) }
-        ensures octets { IsOctets 8 (modes_octets self.now) }
-    {
-        emit_u32s(buffer, &[self.mask.bits(), self.flags.bits()]);
-    }
-}
-
 impl PayloadStruct for CanCtrlMode {
-    ghost octets = { modes_octets };
-
     ghost extent = { AtLeast 8 };
+
+    ghost value_of = { modes_of };
+
+    ghost octets = { modes_octets };
 
     #[inline]
     fn kept_len() -> usize {
@@ -163,7 +129,11 @@ impl PayloadStruct for CanCtrlMode {
 
     #[inline]
     fn parse_payload(payload: &[u8]) -> Result<Self, DecodeError> {
-        Self::parse(payload)
+        check_at_least(payload, 8)?;
+        Ok(CanCtrlMode {
+            mask: CanCtrlModeFlags::from_bits_retain(u32_at(payload, 0)),
+            flags: CanCtrlModeFlags::from_bits_retain(u32_at(payload, 4)),
+        })
     }
 
     #[inline]
@@ -172,7 +142,7 @@ impl PayloadStruct for CanCtrlMode {
     }
 
     fn emit_payload(&self, buffer: &mut [u8]) {
-        self.emit(buffer);
+        emit_u32s(buffer, &[self.mask.bits(), self.flags.bits()]);
     }
 }
 
@@ -191,30 +161,14 @@ impl CanClock {
     {
         CanClock { freq }
     }
-
-    pub(crate) fn parse(payload: &[u8]) -> Result<Self, DecodeError>
-        ensures value { result ≡ payload_result (accepted (Fixed 4) clock_of payload.now) }
-        ensures octets { IfOk result (λ clock. clock_octets clock ≡ take 4 payload.now) }
-    {
-        check_length(payload, 4)?;
-        Ok(CanClock {
-            freq: u32_at(payload, 0),
-        })
-    }
-
-    pub(crate) fn emit(&self, buffer: &mut [u8])
-        requires { 4 ≤ length buffer.old }
-        ensures written { OverwritesFront buffer.old buffer.new (clock_octets self.now) }
-        ensures octets { IsOctets 4 (clock_octets self.now) }
-    {
-        emit_u32s(buffer, &[self.freq]);
-    }
 }
 
 impl PayloadStruct for CanClock {
-    ghost octets = { clock_octets };
-
     ghost extent = { Fixed 4 };
+
+    ghost value_of = { clock_of };
+
+    ghost octets = { clock_octets };
 
     #[inline]
     fn kept_len() -> usize {
@@ -223,7 +177,10 @@ impl PayloadStruct for CanClock {
 
     #[inline]
     fn parse_payload(payload: &[u8]) -> Result<Self, DecodeError> {
-        Self::parse(payload)
+        check_length(payload, 4)?;
+        Ok(CanClock {
+            freq: u32_at(payload, 0),
+        })
     }
 
     #[inline]
@@ -232,7 +189,7 @@ impl PayloadStruct for CanClock {
     }
 
     fn emit_payload(&self, buffer: &mut [u8]) {
-        self.emit(buffer);
+        emit_u32s(buffer, &[self.freq]);
     }
 }
 
@@ -246,32 +203,12 @@ pub struct CanBerrCounter {
     pub rxerr: u16,
 }
 
-impl CanBerrCounter {
-    pub(crate) fn parse(payload: &[u8]) -> Result<Self, DecodeError>
-        ensures value { result ≡ payload_result (accepted (AtLeast 4) errors_of payload.now) }
-        ensures octets { IfOk result (λ errors. errors_octets errors ≡ take 4 payload.now) }
-    {
-        check_at_least(payload, 4)?;
-        Ok(CanBerrCounter {
-            txerr: u16_at(payload, 0),
-            rxerr: u16_at(payload, 2),
-        })
-    }
-
-    pub(crate) fn emit(&self, buffer: &mut [u8])
-        requires { 4 ≤ length buffer.old }
-        ensures written { OverwritesFront buffer.old buffer.new (errors_octets self.now) }
-        ensures octets { IsOctets 4 (errors_octets self.now) }
-    {
-        emit_u16(buffer, self.txerr);
-        emit_u16(&mut buffer[2..], self.rxerr);
-    }
-}
-
 impl PayloadStruct for CanBerrCounter {
-    ghost octets = { errors_octets };
-
     ghost extent = { AtLeast 4 };
+
+    ghost value_of = { errors_of };
+
+    ghost octets = { errors_octets };
 
     #[inline]
     fn kept_len() -> usize {
@@ -280,7 +217,11 @@ impl PayloadStruct for CanBerrCounter {
 
     #[inline]
     fn parse_payload(payload: &[u8]) -> Result<Self, DecodeError> {
-        Self::parse(payload)
+        check_at_least(payload, 4)?;
+        Ok(CanBerrCounter {
+            txerr: u16_at(payload, 0),
+            rxerr: u16_at(payload, 2),
+        })
     }
 
     #[inline]
@@ -289,6 +230,7 @@ impl PayloadStruct for CanBerrCounter {
     }
 
     fn emit_payload(&self, buffer: &mut [u8]) {
-        self.emit(buffer);
+        emit_u16(buffer, self.txerr);
+        emit_u16(&mut buffer[2..], self.rxerr);
     }
 }

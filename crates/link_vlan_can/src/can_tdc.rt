@@ -39,7 +39,7 @@ pub enum CanTdc {
 }
 
 /// The attribute types (`IFLA_CAN_TDC_*`), the variant of each, and the class of its payload.
-macro_rules! tdc_rows {
+macro_rules! rows {
     ($call:ident($($argument:tt)*)) => {
         link_base::by_rows! { $call($($argument)*)
             IFLA_CAN_TDC_TDCV_MIN = 1, TdcvMin: u32;
@@ -57,7 +57,7 @@ macro_rules! tdc_rows {
 
 impl TryClone for CanTdc {
     fn try_clone(&self, alloc: Global) -> Result<Self, AllocError> {
-        tdc_rows!(clone(self, alloc))
+        rows!(clone(self, alloc))
     }
 }
 
@@ -69,15 +69,15 @@ impl Meaning for CanTdc {
 
 impl Nla for CanTdc {
     fn kind(&self) -> u16 {
-        tdc_rows!(kind(self))
+        rows!(kind(self))
     }
 
     fn value_len(&self) -> usize {
-        tdc_rows!(size(self))
+        rows!(size(self))
     }
 
     fn emit_value(&self, buffer: &mut [u8]) {
-        tdc_rows!(emit(self, buffer))
+        rows!(emit(self, buffer))
     }
 }
 
@@ -87,7 +87,7 @@ impl Parseable for CanTdc {
         buffer: &NlaBuffer<'_>,
         place: &mut P,
     ) -> Result<(), DecodeError> {
-        tdc_rows!(read(alloc, buffer, place))
+        rows!(read(alloc, buffer, place))
     }
 }
 
@@ -97,7 +97,7 @@ impl Attribute for CanTdc {
     ghost use Rattle.link_vlan_can.specs.contracts.can_tdc.CanTdc.{enum};
 
     fn canonical(buffer: &NlaBuffer<'_>) -> bool {
-        tdc_rows!(canonical(buffer))
+        rows!(canonical(buffer))
     }
 
     ghost lawful = { lawful (lift_table tdc_rows) };

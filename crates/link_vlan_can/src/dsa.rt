@@ -18,7 +18,7 @@ pub enum InfoDsa {
 }
 
 /// The attribute types (`IFLA_DSA_*`), the variant of each, and the class of its payload.
-macro_rules! dsa_rows {
+macro_rules! rows {
     ($call:ident($($argument:tt)*)) => {
         link_base::by_rows! { $call($($argument)*)
             IFLA_DSA_CONDUIT = 1, Conduit: u32;
@@ -28,7 +28,7 @@ macro_rules! dsa_rows {
 
 impl TryClone for InfoDsa {
     fn try_clone(&self, alloc: Global) -> Result<Self, AllocError> {
-        dsa_rows!(clone(self, alloc))
+        rows!(clone(self, alloc))
     }
 }
 
@@ -40,15 +40,15 @@ impl Meaning for InfoDsa {
 
 impl Nla for InfoDsa {
     fn kind(&self) -> u16 {
-        dsa_rows!(kind(self))
+        rows!(kind(self))
     }
 
     fn value_len(&self) -> usize {
-        dsa_rows!(size(self))
+        rows!(size(self))
     }
 
     fn emit_value(&self, buffer: &mut [u8]) {
-        dsa_rows!(emit(self, buffer))
+        rows!(emit(self, buffer))
     }
 }
 
@@ -58,7 +58,7 @@ impl Parseable for InfoDsa {
         buffer: &NlaBuffer<'_>,
         place: &mut P,
     ) -> Result<(), DecodeError> {
-        dsa_rows!(read(alloc, buffer, place))
+        rows!(read(alloc, buffer, place))
     }
 }
 
@@ -69,7 +69,7 @@ impl Attribute for InfoDsa {
     ghost use Rattle.link_vlan_can.specs.contracts.dsa.InfoDsa.{enum};
 
     fn canonical(buffer: &NlaBuffer<'_>) -> bool {
-        dsa_rows!(canonical(buffer))
+        rows!(canonical(buffer))
     }
 
     ghost lawful = { lawful dsa_table };

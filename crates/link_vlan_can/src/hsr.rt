@@ -3,11 +3,12 @@
 ghost use Rattle.std.specs.Prelude.{refl, ◌≡◌, Some};
 ghost use Rattle.link_base.specs.Named.{value_of, number_of, displayed};
 ghost use Rattle.link_base.specs.Equality.{of_cases, thorough_fields};
+ghost use Rattle.link_base.proofs.TableLaws.{lawful};
 ghost use Rattle.link_vlan_can.specs.Hsr.{hsr_protocols, hsr_protocol, hsr_protocol_seen, hsr_table, hsr_means};
 
 use link_base::{
-    Attribute, DecodeError, DefaultNla, Meaning, Named, NamedNumber, Nla, NlaBuffer, NumberedName,
-    Parseable, Place, TryClone,
+    Attribute, DecodeError, DefaultNla, Meaning, Named, NamedNumber, Nla, NlaBuffer, Parseable,
+    Place, TryClone,
 };
 use std::alloc::{AllocError, Global};
 use std::fmt;
@@ -24,7 +25,7 @@ pub enum HsrProtocol {
 }
 
 /// The numbers (`HSR_PROTOCOL_*`, `include/uapi/linux/if_link.h`), variants and `Display` output.
-macro_rules! protocol_names {
+macro_rules! names {
     ($call:ident($($argument:tt)*)) => {
         link_base::by_names! { $call($($argument)*)
             HSR_PROTOCOL_HSR = 0, Hsr, "hsr";
@@ -35,6 +36,8 @@ macro_rules! protocol_names {
 
 impl NamedNumber for HsrProtocol {
     ghost use Rattle.link_vlan_can.specs.contracts.hsr.HsrProtocol.{enum};
+
+    type Number = u8;
 
     ghost names = { hsr_protocols };
 
@@ -49,45 +52,36 @@ impl NamedNumber for HsrProtocol {
     ghost well_named = { refl };
 
     ghost thorough = { of_cases enum _ _ (Prim.search (thorough_fields)) };
-}
 
-impl NumberedName for HsrProtocol {
-    type Number = u8;
+    ghost from_number = { λ _ _ same. same };
 
-    fn of_number(number: u8) -> Self {
-        protocol_names!(of_number(number))
-    }
-
-    fn number(self) -> u8 {
-        protocol_names!(number(self))
-    }
+    ghost to_number = { λ _ _ same. same };
 }
 
 /// Converts a number to its variant, or to `Other` if the number has no name.
 impl From<u8> for HsrProtocol {
-    ghost from_gives = { λ d p. p ≡ value_of ⟦<HsrProtocol as NamedNumber>⟧.names d };
+    ghost from_gives = { λ d p. p ≡ value_of hsr_protocols d };
 
     fn from(number: u8) -> Self {
-        Self::of_number(number)
+        names!(of_number(number))
     }
 }
 
 /// Converts a variant to its number.
 impl From<HsrProtocol> for u8 {
-    ghost from_gives = { λ p d. d ≡ number_of (⟦<HsrProtocol as NamedNumber>⟧.seen p) };
+    ghost from_gives = { λ p d. d ≡ number_of (hsr_protocol p) };
 
     fn from(protocol: HsrProtocol) -> u8 {
-        protocol.number()
+        names!(number(HsrProtocol, protocol))
     }
 }
 
 /// Writes the variant's name, such as `hsr`, or the number in decimal for `Other`.
 impl fmt::Display for HsrProtocol {
-    ghost output = { λ p. Some (displayed ⟦<HsrProtocol as NamedNumber>⟧.names
-        (⟦<HsrProtocol as NamedNumber>⟧.seen p)) };
+    ghost output = { λ p. Some (displayed hsr_protocols (hsr_protocol p)) };
 
     fn fmt<W: fmt::Write>(&self, f: &mut fmt::Formatter<W>) -> fmt::Result {
-        protocol_names!(display(self, f))
+        names!(display(self, f))
     }
 }
 
@@ -117,7 +111,7 @@ pub enum InfoHsr {
 }
 
 /// The attribute types (`IFLA_HSR_*`), the variant of each, and the class of its payload.
-macro_rules! hsr_rows {
+macro_rules! rows {
     ($call:ident($($argument:tt)*)) => {
         link_base::by_rows! { $call($($argument)*)
             IFLA_HSR_SLAVE1 = 1, Port1: u32;
@@ -134,7 +128,7 @@ macro_rules! hsr_rows {
 
 impl TryClone for InfoHsr {
     fn try_clone(&self, alloc: Global) -> Result<Self, AllocError> {
-        hsr_rows!(clone(self, alloc))
+        rows!(clone(self, alloc))
     }
 }
 
@@ -146,15 +140,15 @@ impl Meaning for InfoHsr {
 
 impl Nla for InfoHsr {
     fn kind(&self) -> u16 {
-        hsr_rows!(kind(self))
+        rows!(kind(self))
     }
 
     fn value_len(&self) -> usize {
-        hsr_rows!(size(self))
+        rows!(size(self))
     }
 
     fn emit_value(&self, buffer: &mut [u8]) {
-        hsr_rows!(emit(self, buffer))
+        rows!(emit(self, buffer))
     }
 }
 
@@ -164,22 +158,21 @@ impl Parseable for InfoHsr {
         buffer: &NlaBuffer<'_>,
         place: &mut P,
     ) -> Result<(), DecodeError> {
-        hsr_rows!(read(alloc, buffer, place))
+        rows!(read(alloc, buffer, place))
     }
 }
 
 impl Attribute for InfoHsr {
-    ghost use Rattle.link_base.proofs.TableLaws.{lawful};
-    ghost use Rattle.link_vlan_can.specs.contracts.hsr.HsrProtocolNamedNumber.TheImpl.Laws.{thorough-law};
+    ghost use Rattle.link_vlan_can.specs.contracts.hsr.HsrProtocolNamedNumber.TheImpl.Laws as protocols;
     ghost use Rattle.link_vlan_can.specs.contracts.hsr.InfoHsr.{enum};
 
     fn canonical(buffer: &NlaBuffer<'_>) -> bool {
-        hsr_rows!(canonical(buffer))
+        rows!(canonical(buffer))
     }
 
     ghost lawful = { lawful hsr_table };
 
     ghost well_formed = { refl };
 
-    ghost thorough = { of_cases enum _ _ (Prim.search (thorough_fields, thorough-law)) };
+    ghost thorough = { of_cases enum _ _ (Prim.search (thorough_fields, protocols.thorough-law)) };
 }

@@ -26,32 +26,9 @@ impl VlanFlags {
 }
 
 /// The named flags, and an unnamed one with all bits, so that every bit is known.
-const FLAGS: [Flag<VlanFlags>; 6] = [
-    Flag {
-        name: "ReorderHdr",
-        value: VlanFlags::ReorderHdr,
-    },
-    Flag {
-        name: "Gvrp",
-        value: VlanFlags::Gvrp,
-    },
-    Flag {
-        name: "LooseBinding",
-        value: VlanFlags::LooseBinding,
-    },
-    Flag {
-        name: "Mvrp",
-        value: VlanFlags::Mvrp,
-    },
-    Flag {
-        name: "BridgeBinding",
-        value: VlanFlags::BridgeBinding,
-    },
-    Flag {
-        name: "",
-        value: VlanFlags(u32::MAX),
-    },
-];
+const FLAGS: [Flag<VlanFlags>; 6] = link_base::named_flags!(VlanFlags(u32::MAX):
+    ReorderHdr, Gvrp, LooseBinding, Mvrp, BridgeBinding
+);
 
 impl Flags for VlanFlags {
     type Bits = u32;

@@ -29,7 +29,7 @@ pub enum BondAdInfo {
 }
 
 /// The attribute types (`IFLA_BOND_AD_INFO_*`), the variant of each, and the class of its payload.
-macro_rules! ad_info_rows {
+macro_rules! rows {
     ($call:ident($($argument:tt)*)) => {
         link_base::by_rows! { $call($($argument)*)
             IFLA_BOND_AD_INFO_AGGREGATOR = 1, Aggregator: u16;
@@ -43,7 +43,7 @@ macro_rules! ad_info_rows {
 
 impl TryClone for BondAdInfo {
     fn try_clone(&self, alloc: Global) -> Result<Self, AllocError> {
-        ad_info_rows!(clone(self, alloc))
+        rows!(clone(self, alloc))
     }
 }
 
@@ -55,15 +55,15 @@ impl Meaning for BondAdInfo {
 
 impl Nla for BondAdInfo {
     fn kind(&self) -> u16 {
-        ad_info_rows!(kind(self))
+        rows!(kind(self))
     }
 
     fn value_len(&self) -> usize {
-        ad_info_rows!(size(self))
+        rows!(size(self))
     }
 
     fn emit_value(&self, buffer: &mut [u8]) {
-        ad_info_rows!(emit(self, buffer))
+        rows!(emit(self, buffer))
     }
 }
 
@@ -73,7 +73,7 @@ impl Parseable for BondAdInfo {
         buffer: &NlaBuffer<'_>,
         place: &mut P,
     ) -> Result<(), DecodeError> {
-        ad_info_rows!(read(alloc, buffer, place))
+        rows!(read(alloc, buffer, place))
     }
 }
 
@@ -83,7 +83,7 @@ impl Attribute for BondAdInfo {
     ghost use Rattle.link_bond.specs.contracts.bond.ad_info.BondAdInfo.{enum};
 
     fn canonical(buffer: &NlaBuffer<'_>) -> bool {
-        ad_info_rows!(canonical(buffer))
+        rows!(canonical(buffer))
     }
 
     ghost lawful = { lawful (lift_table ad_info_rows) };

@@ -2,8 +2,10 @@
 
 ghost use Rattle.std.specs.Prelude.{refl, ◌≡◌, Some};
 ghost use Rattle.link_base.specs.Named.{value_of, number_of, displayed, ReadsText};
+ghost use Rattle.link_base.specs.Equality.{of_cases, thorough_fields};
+ghost use Rattle.link_bond.specs.AdSelect.{ad_select_names, ad_select_seen, ad_select_cases};
 
-use link_base::{DecodeError, NamedNumber, NumberedName};
+use link_base::{DecodeError, NamedNumber};
 use std::fmt;
 use std::str::FromStr;
 
@@ -25,7 +27,7 @@ pub enum BondAdSelect {
 }
 
 /// The numbers (`include/net/bond_3ad.h`), variants and `Display` output. Texts after `|` are parsed too.
-macro_rules! ad_select_names {
+macro_rules! names {
     ($call:ident($($argument:tt)*)) => {
         link_base::by_names! { $call($($argument)*)
             BOND_AD_STABLE = 0, Stable, "stable" | "0";
@@ -37,9 +39,9 @@ macro_rules! ad_select_names {
 }
 
 impl NamedNumber for BondAdSelect {
-    ghost use Rattle.link_base.specs.Equality.{of_cases, thorough_fields};
     ghost use Rattle.link_bond.specs.contracts.bond.ad_select.BondAdSelect.{enum};
-    ghost use Rattle.link_bond.specs.AdSelect.{ad_select_names, ad_select_seen, ad_select_cases};
+
+    type Number = u8;
 
     ghost names = { ad_select_names };
 
@@ -54,45 +56,36 @@ impl NamedNumber for BondAdSelect {
     ghost well_named = { refl };
 
     ghost thorough = { of_cases enum _ _ (Prim.search (thorough_fields)) };
-}
 
-impl NumberedName for BondAdSelect {
-    type Number = u8;
+    ghost from_number = { λ _ _ same. same };
 
-    fn of_number(number: u8) -> Self {
-        ad_select_names!(of_number(number))
-    }
-
-    fn number(self) -> u8 {
-        ad_select_names!(number(self))
-    }
+    ghost to_number = { λ _ _ same. same };
 }
 
 /// Converts a number to its variant, or to `Other` if the number has no name.
 impl From<u8> for BondAdSelect {
-    ghost from_gives = { λ d v. v ≡ value_of ⟦<BondAdSelect as NamedNumber>⟧.names d };
+    ghost from_gives = { λ d v. v ≡ value_of ad_select_names d };
 
     fn from(number: u8) -> Self {
-        Self::of_number(number)
+        names!(of_number(number))
     }
 }
 
 /// Converts a variant to its number.
 impl From<BondAdSelect> for u8 {
-    ghost from_gives = { λ v d. d ≡ number_of (⟦<BondAdSelect as NamedNumber>⟧.seen v) };
+    ghost from_gives = { λ v d. d ≡ number_of (ad_select_seen v) };
 
     fn from(value: BondAdSelect) -> u8 {
-        value.number()
+        names!(number(BondAdSelect, value))
     }
 }
 
 /// Writes the variant's name, such as `stable`, or `unknown-variant (n)` for `Other(n)`.
 impl fmt::Display for BondAdSelect {
-    ghost output = { λ v. Some (displayed ⟦<BondAdSelect as NamedNumber>⟧.names
-        (⟦<BondAdSelect as NamedNumber>⟧.seen v)) };
+    ghost output = { λ v. Some (displayed ad_select_names (ad_select_seen v)) };
 
     fn fmt<W: fmt::Write>(&self, f: &mut fmt::Formatter<W>) -> fmt::Result {
-        ad_select_names!(display_unknown(self, f))
+        names!(display_unknown(self, f))
     }
 }
 
@@ -104,10 +97,10 @@ impl fmt::Display for BondAdSelect {
 impl FromStr for BondAdSelect {
     type Err = DecodeError;
 
-    ghost from_str_gives = { λ text result. ReadsText ⟦<BondAdSelect as NamedNumber>⟧.names text result };
+    ghost from_str_gives = { λ text result. ReadsText ad_select_names text result };
 
     #[tactic(auto, using(std::proofs::lemmas::Fmt::decimal_digit))]
     fn from_str(text: &str) -> Result<Self, DecodeError> {
-        ad_select_names!(parse(text))
+        names!(parse(text))
     }
 }

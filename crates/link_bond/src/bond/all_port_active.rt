@@ -2,8 +2,10 @@
 
 ghost use Rattle.std.specs.Prelude.{refl, ◌≡◌, Some};
 ghost use Rattle.link_base.specs.Named.{value_of, number_of, displayed, ReadsText};
+ghost use Rattle.link_base.specs.Equality.{of_cases, thorough_fields};
+ghost use Rattle.link_bond.specs.AllPortActive.{all_port_active_names, all_port_active_seen, all_port_active_cases};
 
-use link_base::{DecodeError, NamedNumber, NumberedName};
+use link_base::{DecodeError, NamedNumber};
 use std::fmt;
 use std::str::FromStr;
 
@@ -20,7 +22,7 @@ pub enum BondAllPortActive {
 }
 
 /// The numbers, for which the kernel has no names, variants and `Display` output. Texts after `|` are parsed too.
-macro_rules! all_port_active_names {
+macro_rules! names {
     ($call:ident($($argument:tt)*)) => {
         link_base::by_names! { $call($($argument)*)
             DROPPED = 0, Dropped, "dropped" | "0";
@@ -30,9 +32,9 @@ macro_rules! all_port_active_names {
 }
 
 impl NamedNumber for BondAllPortActive {
-    ghost use Rattle.link_base.specs.Equality.{of_cases, thorough_fields};
     ghost use Rattle.link_bond.specs.contracts.bond.all_port_active.BondAllPortActive.{enum};
-    ghost use Rattle.link_bond.specs.AllPortActive.{all_port_active_names, all_port_active_seen, all_port_active_cases};
+
+    type Number = u8;
 
     ghost names = { all_port_active_names };
 
@@ -47,45 +49,36 @@ impl NamedNumber for BondAllPortActive {
     ghost well_named = { refl };
 
     ghost thorough = { of_cases enum _ _ (Prim.search (thorough_fields)) };
-}
 
-impl NumberedName for BondAllPortActive {
-    type Number = u8;
+    ghost from_number = { λ _ _ same. same };
 
-    fn of_number(number: u8) -> Self {
-        all_port_active_names!(of_number(number))
-    }
-
-    fn number(self) -> u8 {
-        all_port_active_names!(number(self))
-    }
+    ghost to_number = { λ _ _ same. same };
 }
 
 /// Converts a number to its variant, or to `Other` if the number has no name.
 impl From<u8> for BondAllPortActive {
-    ghost from_gives = { λ d v. v ≡ value_of ⟦<BondAllPortActive as NamedNumber>⟧.names d };
+    ghost from_gives = { λ d v. v ≡ value_of all_port_active_names d };
 
     fn from(number: u8) -> Self {
-        Self::of_number(number)
+        names!(of_number(number))
     }
 }
 
 /// Converts a variant to its number.
 impl From<BondAllPortActive> for u8 {
-    ghost from_gives = { λ v d. d ≡ number_of (⟦<BondAllPortActive as NamedNumber>⟧.seen v) };
+    ghost from_gives = { λ v d. d ≡ number_of (all_port_active_seen v) };
 
     fn from(value: BondAllPortActive) -> u8 {
-        value.number()
+        names!(number(BondAllPortActive, value))
     }
 }
 
 /// Writes the variant's name, such as `dropped`, or the number in decimal for `Other`.
 impl fmt::Display for BondAllPortActive {
-    ghost output = { λ v. Some (displayed ⟦<BondAllPortActive as NamedNumber>⟧.names
-        (⟦<BondAllPortActive as NamedNumber>⟧.seen v)) };
+    ghost output = { λ v. Some (displayed all_port_active_names (all_port_active_seen v)) };
 
     fn fmt<W: fmt::Write>(&self, f: &mut fmt::Formatter<W>) -> fmt::Result {
-        all_port_active_names!(display(self, f))
+        names!(display(self, f))
     }
 }
 
@@ -97,10 +90,10 @@ impl fmt::Display for BondAllPortActive {
 impl FromStr for BondAllPortActive {
     type Err = DecodeError;
 
-    ghost from_str_gives = { λ text result. ReadsText ⟦<BondAllPortActive as NamedNumber>⟧.names text result };
+    ghost from_str_gives = { λ text result. ReadsText all_port_active_names text result };
 
     #[tactic(auto, using(std::proofs::lemmas::Fmt::decimal_digit))]
     fn from_str(text: &str) -> Result<Self, DecodeError> {
-        all_port_active_names!(parse(text))
+        names!(parse(text))
     }
 }

@@ -2,8 +2,10 @@
 
 ghost use Rattle.std.specs.Prelude.{refl, ◌≡◌, Some};
 ghost use Rattle.link_base.specs.Named.{value_of, number_of, displayed, ReadsText};
+ghost use Rattle.link_base.specs.Equality.{of_cases, thorough_fields};
+ghost use Rattle.link_bond.specs.ArpAllTargets.{arp_all_targets_names, arp_all_targets_seen, arp_all_targets_cases};
 
-use link_base::{DecodeError, NamedNumber, NumberedName};
+use link_base::{DecodeError, NamedNumber};
 use std::fmt;
 use std::str::FromStr;
 
@@ -19,7 +21,7 @@ pub enum BondArpAllTargets {
 }
 
 /// The numbers (`include/net/bonding.h`), variants and `Display` output. Texts after `|` are parsed too.
-macro_rules! arp_all_targets_names {
+macro_rules! names {
     ($call:ident($($argument:tt)*)) => {
         link_base::by_names! { $call($($argument)*)
             BOND_ARP_TARGETS_ANY = 0, Any, "any" | "0";
@@ -29,9 +31,9 @@ macro_rules! arp_all_targets_names {
 }
 
 impl NamedNumber for BondArpAllTargets {
-    ghost use Rattle.link_base.specs.Equality.{of_cases, thorough_fields};
     ghost use Rattle.link_bond.specs.contracts.bond.arp_all_targets.BondArpAllTargets.{enum};
-    ghost use Rattle.link_bond.specs.ArpAllTargets.{arp_all_targets_names, arp_all_targets_seen, arp_all_targets_cases};
+
+    type Number = u32;
 
     ghost names = { arp_all_targets_names };
 
@@ -46,23 +48,15 @@ impl NamedNumber for BondArpAllTargets {
     ghost well_named = { refl };
 
     ghost thorough = { of_cases enum _ _ (Prim.search (thorough_fields)) };
-}
 
-impl NumberedName for BondArpAllTargets {
-    type Number = u32;
+    ghost from_number = { λ _ _ same. same };
 
-    fn of_number(number: u32) -> Self {
-        arp_all_targets_names!(of_number(number))
-    }
-
-    fn number(self) -> u32 {
-        arp_all_targets_names!(number(self))
-    }
+    ghost to_number = { λ _ _ same. same };
 }
 
 /// Returns `Any`.
 impl Default for BondArpAllTargets {
-    ghost is_default = { λ v. v ≡ value_of ⟦<BondArpAllTargets as NamedNumber>⟧.names 0 };
+    ghost is_default = { λ v. v ≡ value_of arp_all_targets_names 0 };
 
     fn default() -> Self {
         BondArpAllTargets::Any
@@ -71,29 +65,28 @@ impl Default for BondArpAllTargets {
 
 /// Converts a number to its variant, or to `Other` if the number has no name.
 impl From<u32> for BondArpAllTargets {
-    ghost from_gives = { λ d v. v ≡ value_of ⟦<BondArpAllTargets as NamedNumber>⟧.names d };
+    ghost from_gives = { λ d v. v ≡ value_of arp_all_targets_names d };
 
     fn from(number: u32) -> Self {
-        Self::of_number(number)
+        names!(of_number(number))
     }
 }
 
 /// Converts a variant to its number.
 impl From<BondArpAllTargets> for u32 {
-    ghost from_gives = { λ v d. d ≡ number_of (⟦<BondArpAllTargets as NamedNumber>⟧.seen v) };
+    ghost from_gives = { λ v d. d ≡ number_of (arp_all_targets_seen v) };
 
     fn from(value: BondArpAllTargets) -> u32 {
-        value.number()
+        names!(number(BondArpAllTargets, value))
     }
 }
 
 /// Writes the variant's name, such as `any`, or `unknown-variant (n)` for `Other(n)`.
 impl fmt::Display for BondArpAllTargets {
-    ghost output = { λ v. Some (displayed ⟦<BondArpAllTargets as NamedNumber>⟧.names
-        (⟦<BondArpAllTargets as NamedNumber>⟧.seen v)) };
+    ghost output = { λ v. Some (displayed arp_all_targets_names (arp_all_targets_seen v)) };
 
     fn fmt<W: fmt::Write>(&self, f: &mut fmt::Formatter<W>) -> fmt::Result {
-        arp_all_targets_names!(display_unknown(self, f))
+        names!(display_unknown(self, f))
     }
 }
 
@@ -105,10 +98,10 @@ impl fmt::Display for BondArpAllTargets {
 impl FromStr for BondArpAllTargets {
     type Err = DecodeError;
 
-    ghost from_str_gives = { λ text result. ReadsText ⟦<BondArpAllTargets as NamedNumber>⟧.names text result };
+    ghost from_str_gives = { λ text result. ReadsText arp_all_targets_names text result };
 
     #[tactic(auto, using(std::proofs::lemmas::Fmt::decimal_digit))]
     fn from_str(text: &str) -> Result<Self, DecodeError> {
-        arp_all_targets_names!(parse(text))
+        names!(parse(text))
     }
 }

@@ -2,8 +2,10 @@
 
 ghost use Rattle.std.specs.Prelude.{refl, ◌≡◌, Some};
 ghost use Rattle.link_base.specs.Named.{value_of, number_of, displayed, ReadsText};
+ghost use Rattle.link_base.specs.Equality.{of_cases, thorough_fields};
+ghost use Rattle.link_bond.specs.ArpValidate.{arp_validate_names, arp_validate_seen, arp_validate_cases};
 
-use link_base::{DecodeError, NamedNumber, NumberedName};
+use link_base::{DecodeError, NamedNumber};
 use std::fmt;
 use std::str::FromStr;
 
@@ -30,7 +32,7 @@ pub enum BondArpValidate {
 }
 
 /// The numbers (`include/net/bonding.h`), variants and `Display` output. Texts after `|` are parsed too.
-macro_rules! arp_validate_names {
+macro_rules! names {
     ($call:ident($($argument:tt)*)) => {
         link_base::by_names! { $call($($argument)*)
             BOND_ARP_VALIDATE_NONE = 0, None, "none" | "0";
@@ -45,9 +47,9 @@ macro_rules! arp_validate_names {
 }
 
 impl NamedNumber for BondArpValidate {
-    ghost use Rattle.link_base.specs.Equality.{of_cases, thorough_fields};
     ghost use Rattle.link_bond.specs.contracts.bond.arp_validate.BondArpValidate.{enum};
-    ghost use Rattle.link_bond.specs.ArpValidate.{arp_validate_names, arp_validate_seen, arp_validate_cases};
+
+    type Number = u32;
 
     ghost names = { arp_validate_names };
 
@@ -62,23 +64,15 @@ impl NamedNumber for BondArpValidate {
     ghost well_named = { refl };
 
     ghost thorough = { of_cases enum _ _ (Prim.search (thorough_fields)) };
-}
 
-impl NumberedName for BondArpValidate {
-    type Number = u32;
+    ghost from_number = { λ _ _ same. same };
 
-    fn of_number(number: u32) -> Self {
-        arp_validate_names!(of_number(number))
-    }
-
-    fn number(self) -> u32 {
-        arp_validate_names!(number(self))
-    }
+    ghost to_number = { λ _ _ same. same };
 }
 
 /// Returns `None`.
 impl Default for BondArpValidate {
-    ghost is_default = { λ v. v ≡ value_of ⟦<BondArpValidate as NamedNumber>⟧.names 0 };
+    ghost is_default = { λ v. v ≡ value_of arp_validate_names 0 };
 
     fn default() -> Self {
         BondArpValidate::None
@@ -87,29 +81,28 @@ impl Default for BondArpValidate {
 
 /// Converts a number to its variant, or to `Other` if the number has no name.
 impl From<u32> for BondArpValidate {
-    ghost from_gives = { λ d v. v ≡ value_of ⟦<BondArpValidate as NamedNumber>⟧.names d };
+    ghost from_gives = { λ d v. v ≡ value_of arp_validate_names d };
 
     fn from(number: u32) -> Self {
-        Self::of_number(number)
+        names!(of_number(number))
     }
 }
 
 /// Converts a variant to its number.
 impl From<BondArpValidate> for u32 {
-    ghost from_gives = { λ v d. d ≡ number_of (⟦<BondArpValidate as NamedNumber>⟧.seen v) };
+    ghost from_gives = { λ v d. d ≡ number_of (arp_validate_seen v) };
 
     fn from(value: BondArpValidate) -> u32 {
-        value.number()
+        names!(number(BondArpValidate, value))
     }
 }
 
 /// Writes the variant's name, such as `none`, or `unknown-variant (n)` for `Other(n)`.
 impl fmt::Display for BondArpValidate {
-    ghost output = { λ v. Some (displayed ⟦<BondArpValidate as NamedNumber>⟧.names
-        (⟦<BondArpValidate as NamedNumber>⟧.seen v)) };
+    ghost output = { λ v. Some (displayed arp_validate_names (arp_validate_seen v)) };
 
     fn fmt<W: fmt::Write>(&self, f: &mut fmt::Formatter<W>) -> fmt::Result {
-        arp_validate_names!(display_unknown(self, f))
+        names!(display_unknown(self, f))
     }
 }
 
@@ -121,10 +114,10 @@ impl fmt::Display for BondArpValidate {
 impl FromStr for BondArpValidate {
     type Err = DecodeError;
 
-    ghost from_str_gives = { λ text result. ReadsText ⟦<BondArpValidate as NamedNumber>⟧.names text result };
+    ghost from_str_gives = { λ text result. ReadsText arp_validate_names text result };
 
     #[tactic(auto, using(std::proofs::lemmas::Fmt::decimal_digit))]
     fn from_str(text: &str) -> Result<Self, DecodeError> {
-        arp_validate_names!(parse(text))
+        names!(parse(text))
     }
 }

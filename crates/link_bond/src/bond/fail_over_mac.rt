@@ -2,8 +2,10 @@
 
 ghost use Rattle.std.specs.Prelude.{refl, ◌≡◌, Some};
 ghost use Rattle.link_base.specs.Named.{value_of, number_of, displayed, ReadsText};
+ghost use Rattle.link_base.specs.Equality.{of_cases, thorough_fields};
+ghost use Rattle.link_bond.specs.FailOverMac.{fail_over_mac_names, fail_over_mac_seen, fail_over_mac_cases};
 
-use link_base::{DecodeError, NamedNumber, NumberedName};
+use link_base::{DecodeError, NamedNumber};
 use std::fmt;
 use std::str::FromStr;
 
@@ -22,7 +24,7 @@ pub enum BondFailOverMac {
 }
 
 /// The numbers (`include/net/bonding.h`), variants and `Display` output. Texts after `|` are parsed too.
-macro_rules! fail_over_mac_names {
+macro_rules! names {
     ($call:ident($($argument:tt)*)) => {
         link_base::by_names! { $call($($argument)*)
             BOND_FOM_NONE = 0, None, "none" | "0";
@@ -33,9 +35,9 @@ macro_rules! fail_over_mac_names {
 }
 
 impl NamedNumber for BondFailOverMac {
-    ghost use Rattle.link_base.specs.Equality.{of_cases, thorough_fields};
     ghost use Rattle.link_bond.specs.contracts.bond.fail_over_mac.BondFailOverMac.{enum};
-    ghost use Rattle.link_bond.specs.FailOverMac.{fail_over_mac_names, fail_over_mac_seen, fail_over_mac_cases};
+
+    type Number = u8;
 
     ghost names = { fail_over_mac_names };
 
@@ -50,23 +52,15 @@ impl NamedNumber for BondFailOverMac {
     ghost well_named = { refl };
 
     ghost thorough = { of_cases enum _ _ (Prim.search (thorough_fields)) };
-}
 
-impl NumberedName for BondFailOverMac {
-    type Number = u8;
+    ghost from_number = { λ _ _ same. same };
 
-    fn of_number(number: u8) -> Self {
-        fail_over_mac_names!(of_number(number))
-    }
-
-    fn number(self) -> u8 {
-        fail_over_mac_names!(number(self))
-    }
+    ghost to_number = { λ _ _ same. same };
 }
 
 /// Returns `None`.
 impl Default for BondFailOverMac {
-    ghost is_default = { λ v. v ≡ value_of ⟦<BondFailOverMac as NamedNumber>⟧.names 0 };
+    ghost is_default = { λ v. v ≡ value_of fail_over_mac_names 0 };
 
     fn default() -> Self {
         BondFailOverMac::None
@@ -75,29 +69,28 @@ impl Default for BondFailOverMac {
 
 /// Converts a number to its variant, or to `Other` if the number has no name.
 impl From<u8> for BondFailOverMac {
-    ghost from_gives = { λ d v. v ≡ value_of ⟦<BondFailOverMac as NamedNumber>⟧.names d };
+    ghost from_gives = { λ d v. v ≡ value_of fail_over_mac_names d };
 
     fn from(number: u8) -> Self {
-        Self::of_number(number)
+        names!(of_number(number))
     }
 }
 
 /// Converts a variant to its number.
 impl From<BondFailOverMac> for u8 {
-    ghost from_gives = { λ v d. d ≡ number_of (⟦<BondFailOverMac as NamedNumber>⟧.seen v) };
+    ghost from_gives = { λ v d. d ≡ number_of (fail_over_mac_seen v) };
 
     fn from(value: BondFailOverMac) -> u8 {
-        value.number()
+        names!(number(BondFailOverMac, value))
     }
 }
 
 /// Writes the variant's name, such as `none`, or `unknown-variant (n)` for `Other(n)`.
 impl fmt::Display for BondFailOverMac {
-    ghost output = { λ v. Some (displayed ⟦<BondFailOverMac as NamedNumber>⟧.names
-        (⟦<BondFailOverMac as NamedNumber>⟧.seen v)) };
+    ghost output = { λ v. Some (displayed fail_over_mac_names (fail_over_mac_seen v)) };
 
     fn fmt<W: fmt::Write>(&self, f: &mut fmt::Formatter<W>) -> fmt::Result {
-        fail_over_mac_names!(display_unknown(self, f))
+        names!(display_unknown(self, f))
     }
 }
 
@@ -109,10 +102,10 @@ impl fmt::Display for BondFailOverMac {
 impl FromStr for BondFailOverMac {
     type Err = DecodeError;
 
-    ghost from_str_gives = { λ text result. ReadsText ⟦<BondFailOverMac as NamedNumber>⟧.names text result };
+    ghost from_str_gives = { λ text result. ReadsText fail_over_mac_names text result };
 
     #[tactic(auto, using(std::proofs::lemmas::Fmt::decimal_digit))]
     fn from_str(text: &str) -> Result<Self, DecodeError> {
-        fail_over_mac_names!(parse(text))
+        names!(parse(text))
     }
 }

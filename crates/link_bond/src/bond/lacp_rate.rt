@@ -2,8 +2,10 @@
 
 ghost use Rattle.std.specs.Prelude.{refl, ◌≡◌, Some};
 ghost use Rattle.link_base.specs.Named.{value_of, number_of, displayed, ReadsText};
+ghost use Rattle.link_base.specs.Equality.{of_cases, thorough_fields};
+ghost use Rattle.link_bond.specs.LacpRate.{lacp_rate_names, lacp_rate_seen, lacp_rate_cases};
 
-use link_base::{DecodeError, NamedNumber, NumberedName};
+use link_base::{DecodeError, NamedNumber};
 use std::fmt;
 use std::str::FromStr;
 
@@ -19,7 +21,7 @@ pub enum BondLacpRate {
 }
 
 /// The numbers (`include/net/bond_3ad.h`), variants and `Display` output. Texts after `|` are parsed too.
-macro_rules! lacp_rate_names {
+macro_rules! names {
     ($call:ident($($argument:tt)*)) => {
         link_base::by_names! { $call($($argument)*)
             AD_LACP_SLOW = 0, Slow, "slow" | "0";
@@ -29,9 +31,9 @@ macro_rules! lacp_rate_names {
 }
 
 impl NamedNumber for BondLacpRate {
-    ghost use Rattle.link_base.specs.Equality.{of_cases, thorough_fields};
     ghost use Rattle.link_bond.specs.contracts.bond.lacp_rate.BondLacpRate.{enum};
-    ghost use Rattle.link_bond.specs.LacpRate.{lacp_rate_names, lacp_rate_seen, lacp_rate_cases};
+
+    type Number = u8;
 
     ghost names = { lacp_rate_names };
 
@@ -46,45 +48,36 @@ impl NamedNumber for BondLacpRate {
     ghost well_named = { refl };
 
     ghost thorough = { of_cases enum _ _ (Prim.search (thorough_fields)) };
-}
 
-impl NumberedName for BondLacpRate {
-    type Number = u8;
+    ghost from_number = { λ _ _ same. same };
 
-    fn of_number(number: u8) -> Self {
-        lacp_rate_names!(of_number(number))
-    }
-
-    fn number(self) -> u8 {
-        lacp_rate_names!(number(self))
-    }
+    ghost to_number = { λ _ _ same. same };
 }
 
 /// Converts a number to its variant, or to `Other` if the number has no name.
 impl From<u8> for BondLacpRate {
-    ghost from_gives = { λ d v. v ≡ value_of ⟦<BondLacpRate as NamedNumber>⟧.names d };
+    ghost from_gives = { λ d v. v ≡ value_of lacp_rate_names d };
 
     fn from(number: u8) -> Self {
-        Self::of_number(number)
+        names!(of_number(number))
     }
 }
 
 /// Converts a variant to its number.
 impl From<BondLacpRate> for u8 {
-    ghost from_gives = { λ v d. d ≡ number_of (⟦<BondLacpRate as NamedNumber>⟧.seen v) };
+    ghost from_gives = { λ v d. d ≡ number_of (lacp_rate_seen v) };
 
     fn from(value: BondLacpRate) -> u8 {
-        value.number()
+        names!(number(BondLacpRate, value))
     }
 }
 
 /// Writes the variant's name, such as `slow`, or the number in decimal for `Other`.
 impl fmt::Display for BondLacpRate {
-    ghost output = { λ v. Some (displayed ⟦<BondLacpRate as NamedNumber>⟧.names
-        (⟦<BondLacpRate as NamedNumber>⟧.seen v)) };
+    ghost output = { λ v. Some (displayed lacp_rate_names (lacp_rate_seen v)) };
 
     fn fmt<W: fmt::Write>(&self, f: &mut fmt::Formatter<W>) -> fmt::Result {
-        lacp_rate_names!(display(self, f))
+        names!(display(self, f))
     }
 }
 
@@ -96,10 +89,10 @@ impl fmt::Display for BondLacpRate {
 impl FromStr for BondLacpRate {
     type Err = DecodeError;
 
-    ghost from_str_gives = { λ text result. ReadsText ⟦<BondLacpRate as NamedNumber>⟧.names text result };
+    ghost from_str_gives = { λ text result. ReadsText lacp_rate_names text result };
 
     #[tactic(auto, using(std::proofs::lemmas::Fmt::decimal_digit))]
     fn from_str(text: &str) -> Result<Self, DecodeError> {
-        lacp_rate_names!(parse(text))
+        names!(parse(text))
     }
 }

@@ -2,8 +2,10 @@
 
 ghost use Rattle.std.specs.Prelude.{refl, ◌≡◌, Some};
 ghost use Rattle.link_base.specs.Named.{value_of, number_of, displayed, ReadsText};
+ghost use Rattle.link_base.specs.Equality.{of_cases, thorough_fields};
+ghost use Rattle.link_bond.specs.Mode.{mode_names, mode_seen, mode_cases};
 
-use link_base::{DecodeError, NamedNumber, NumberedName};
+use link_base::{DecodeError, NamedNumber};
 use std::fmt;
 use std::str::FromStr;
 
@@ -29,7 +31,7 @@ pub enum BondMode {
 }
 
 /// The numbers (`include/uapi/linux/if_bonding.h`), variants and `Display` output. Texts after `|` are parsed too.
-macro_rules! mode_names {
+macro_rules! names {
     ($call:ident($($argument:tt)*)) => {
         link_base::by_names! { $call($($argument)*)
             BOND_MODE_ROUNDROBIN = 0, BalanceRr, "balance-rr" | "0";
@@ -44,9 +46,9 @@ macro_rules! mode_names {
 }
 
 impl NamedNumber for BondMode {
-    ghost use Rattle.link_base.specs.Equality.{of_cases, thorough_fields};
     ghost use Rattle.link_bond.specs.contracts.bond.mode.BondMode.{enum};
-    ghost use Rattle.link_bond.specs.Mode.{mode_names, mode_seen, mode_cases};
+
+    type Number = u8;
 
     ghost names = { mode_names };
 
@@ -61,23 +63,15 @@ impl NamedNumber for BondMode {
     ghost well_named = { refl };
 
     ghost thorough = { of_cases enum _ _ (Prim.search (thorough_fields)) };
-}
 
-impl NumberedName for BondMode {
-    type Number = u8;
+    ghost from_number = { λ _ _ same. same };
 
-    fn of_number(number: u8) -> Self {
-        mode_names!(of_number(number))
-    }
-
-    fn number(self) -> u8 {
-        mode_names!(number(self))
-    }
+    ghost to_number = { λ _ _ same. same };
 }
 
 /// Returns `BalanceRr`.
 impl Default for BondMode {
-    ghost is_default = { λ v. v ≡ value_of ⟦<BondMode as NamedNumber>⟧.names 0 };
+    ghost is_default = { λ v. v ≡ value_of mode_names 0 };
 
     fn default() -> Self {
         BondMode::BalanceRr
@@ -86,28 +80,28 @@ impl Default for BondMode {
 
 /// Converts a number to its variant, or to `Other` if the number has no name.
 impl From<u8> for BondMode {
-    ghost from_gives = { λ d v. v ≡ value_of ⟦<BondMode as NamedNumber>⟧.names d };
+    ghost from_gives = { λ d v. v ≡ value_of mode_names d };
 
     fn from(number: u8) -> Self {
-        Self::of_number(number)
+        names!(of_number(number))
     }
 }
 
 /// Converts a variant to its number.
 impl From<BondMode> for u8 {
-    ghost from_gives = { λ v d. d ≡ number_of (⟦<BondMode as NamedNumber>⟧.seen v) };
+    ghost from_gives = { λ v d. d ≡ number_of (mode_seen v) };
 
     fn from(value: BondMode) -> u8 {
-        value.number()
+        names!(number(BondMode, value))
     }
 }
 
 /// Writes the variant's name, such as `balance-rr`, or `unknown-variant (n)` for `Other(n)`.
 impl fmt::Display for BondMode {
-    ghost output = { λ v. Some (displayed ⟦<BondMode as NamedNumber>⟧.names (⟦<BondMode as NamedNumber>⟧.seen v)) };
+    ghost output = { λ v. Some (displayed mode_names (mode_seen v)) };
 
     fn fmt<W: fmt::Write>(&self, f: &mut fmt::Formatter<W>) -> fmt::Result {
-        mode_names!(display_unknown(self, f))
+        names!(display_unknown(self, f))
     }
 }
 
@@ -119,10 +113,10 @@ impl fmt::Display for BondMode {
 impl FromStr for BondMode {
     type Err = DecodeError;
 
-    ghost from_str_gives = { λ text result. ReadsText ⟦<BondMode as NamedNumber>⟧.names text result };
+    ghost from_str_gives = { λ text result. ReadsText mode_names text result };
 
     #[tactic(auto, using(std::proofs::lemmas::Fmt::decimal_digit))]
     fn from_str(text: &str) -> Result<Self, DecodeError> {
-        mode_names!(parse(text))
+        names!(parse(text))
     }
 }

@@ -2,8 +2,10 @@
 
 ghost use Rattle.std.specs.Prelude.{refl, ◌≡◌, Some};
 ghost use Rattle.link_base.specs.Named.{value_of, number_of, displayed, ReadsText};
+ghost use Rattle.link_base.specs.Equality.{of_cases, thorough_fields};
+ghost use Rattle.link_bond.specs.PrimaryReselect.{primary_reselect_names, primary_reselect_seen, primary_reselect_cases};
 
-use link_base::{DecodeError, NamedNumber, NumberedName};
+use link_base::{DecodeError, NamedNumber};
 use std::fmt;
 use std::str::FromStr;
 
@@ -23,7 +25,7 @@ pub enum BondPrimaryReselect {
 }
 
 /// The numbers (`include/net/bonding.h`), variants and `Display` output. Texts after `|` are parsed too.
-macro_rules! primary_reselect_names {
+macro_rules! names {
     ($call:ident($($argument:tt)*)) => {
         link_base::by_names! { $call($($argument)*)
             BOND_PRI_RESELECT_ALWAYS = 0, Always, "always" | "0";
@@ -34,13 +36,9 @@ macro_rules! primary_reselect_names {
 }
 
 impl NamedNumber for BondPrimaryReselect {
-    ghost use Rattle.link_base.specs.Equality.{of_cases, thorough_fields};
     ghost use Rattle.link_bond.specs.contracts.bond.primary_reselect.BondPrimaryReselect.{enum};
-    ghost use Rattle.link_bond.specs.PrimaryReselect.{
-      primary_reselect_names,
-      primary_reselect_seen,
-      primary_reselect_cases,
-    };
+
+    type Number = u8;
 
     ghost names = { primary_reselect_names };
 
@@ -55,23 +53,15 @@ impl NamedNumber for BondPrimaryReselect {
     ghost well_named = { refl };
 
     ghost thorough = { of_cases enum _ _ (Prim.search (thorough_fields)) };
-}
 
-impl NumberedName for BondPrimaryReselect {
-    type Number = u8;
+    ghost from_number = { λ _ _ same. same };
 
-    fn of_number(number: u8) -> Self {
-        primary_reselect_names!(of_number(number))
-    }
-
-    fn number(self) -> u8 {
-        primary_reselect_names!(number(self))
-    }
+    ghost to_number = { λ _ _ same. same };
 }
 
 /// Returns `Always`.
 impl Default for BondPrimaryReselect {
-    ghost is_default = { λ v. v ≡ value_of ⟦<BondPrimaryReselect as NamedNumber>⟧.names 0 };
+    ghost is_default = { λ v. v ≡ value_of primary_reselect_names 0 };
 
     fn default() -> Self {
         BondPrimaryReselect::Always
@@ -80,29 +70,28 @@ impl Default for BondPrimaryReselect {
 
 /// Converts a number to its variant, or to `Other` if the number has no name.
 impl From<u8> for BondPrimaryReselect {
-    ghost from_gives = { λ d v. v ≡ value_of ⟦<BondPrimaryReselect as NamedNumber>⟧.names d };
+    ghost from_gives = { λ d v. v ≡ value_of primary_reselect_names d };
 
     fn from(number: u8) -> Self {
-        Self::of_number(number)
+        names!(of_number(number))
     }
 }
 
 /// Converts a variant to its number.
 impl From<BondPrimaryReselect> for u8 {
-    ghost from_gives = { λ v d. d ≡ number_of (⟦<BondPrimaryReselect as NamedNumber>⟧.seen v) };
+    ghost from_gives = { λ v d. d ≡ number_of (primary_reselect_seen v) };
 
     fn from(value: BondPrimaryReselect) -> u8 {
-        value.number()
+        names!(number(BondPrimaryReselect, value))
     }
 }
 
 /// Writes the variant's name, such as `always`, or `unknown-variant (n)` for `Other(n)`.
 impl fmt::Display for BondPrimaryReselect {
-    ghost output = { λ v. Some (displayed ⟦<BondPrimaryReselect as NamedNumber>⟧.names
-        (⟦<BondPrimaryReselect as NamedNumber>⟧.seen v)) };
+    ghost output = { λ v. Some (displayed primary_reselect_names (primary_reselect_seen v)) };
 
     fn fmt<W: fmt::Write>(&self, f: &mut fmt::Formatter<W>) -> fmt::Result {
-        primary_reselect_names!(display_unknown(self, f))
+        names!(display_unknown(self, f))
     }
 }
 
@@ -114,10 +103,10 @@ impl fmt::Display for BondPrimaryReselect {
 impl FromStr for BondPrimaryReselect {
     type Err = DecodeError;
 
-    ghost from_str_gives = { λ text result. ReadsText ⟦<BondPrimaryReselect as NamedNumber>⟧.names text result };
+    ghost from_str_gives = { λ text result. ReadsText primary_reselect_names text result };
 
     #[tactic(auto, using(std::proofs::lemmas::Fmt::decimal_digit))]
     fn from_str(text: &str) -> Result<Self, DecodeError> {
-        primary_reselect_names!(parse(text))
+        names!(parse(text))
     }
 }

@@ -2,8 +2,10 @@
 
 ghost use Rattle.std.specs.Prelude.{refl, ◌≡◌, Some};
 ghost use Rattle.link_base.specs.Named.{value_of, number_of, displayed, ReadsText};
+ghost use Rattle.link_base.specs.Equality.{of_cases, thorough_fields};
+ghost use Rattle.link_bond.specs.XmitHashPolicy.{xmit_hash_policy_names, xmit_hash_policy_seen, xmit_hash_policy_cases};
 
-use link_base::{DecodeError, NamedNumber, NumberedName};
+use link_base::{DecodeError, NamedNumber};
 use std::fmt;
 use std::str::FromStr;
 
@@ -31,7 +33,7 @@ pub enum BondXmitHashPolicy {
 }
 
 /// The numbers (`include/uapi/linux/if_bonding.h`), variants and `Display` output. Texts after `|` are parsed too.
-macro_rules! xmit_hash_policy_names {
+macro_rules! names {
     ($call:ident($($argument:tt)*)) => {
         link_base::by_names! { $call($($argument)*)
             BOND_XMIT_POLICY_LAYER2 = 0, Layer2, "layer2" | "0";
@@ -45,13 +47,9 @@ macro_rules! xmit_hash_policy_names {
 }
 
 impl NamedNumber for BondXmitHashPolicy {
-    ghost use Rattle.link_base.specs.Equality.{of_cases, thorough_fields};
     ghost use Rattle.link_bond.specs.contracts.bond.xmit_hash_policy.BondXmitHashPolicy.{enum};
-    ghost use Rattle.link_bond.specs.XmitHashPolicy.{
-      xmit_hash_policy_names,
-      xmit_hash_policy_seen,
-      xmit_hash_policy_cases,
-    };
+
+    type Number = u8;
 
     ghost names = { xmit_hash_policy_names };
 
@@ -66,23 +64,15 @@ impl NamedNumber for BondXmitHashPolicy {
     ghost well_named = { refl };
 
     ghost thorough = { of_cases enum _ _ (Prim.search (thorough_fields)) };
-}
 
-impl NumberedName for BondXmitHashPolicy {
-    type Number = u8;
+    ghost from_number = { λ _ _ same. same };
 
-    fn of_number(number: u8) -> Self {
-        xmit_hash_policy_names!(of_number(number))
-    }
-
-    fn number(self) -> u8 {
-        xmit_hash_policy_names!(number(self))
-    }
+    ghost to_number = { λ _ _ same. same };
 }
 
 /// Returns `Layer2`.
 impl Default for BondXmitHashPolicy {
-    ghost is_default = { λ v. v ≡ value_of ⟦<BondXmitHashPolicy as NamedNumber>⟧.names 0 };
+    ghost is_default = { λ v. v ≡ value_of xmit_hash_policy_names 0 };
 
     fn default() -> Self {
         BondXmitHashPolicy::Layer2
@@ -91,29 +81,28 @@ impl Default for BondXmitHashPolicy {
 
 /// Converts a number to its variant, or to `Other` if the number has no name.
 impl From<u8> for BondXmitHashPolicy {
-    ghost from_gives = { λ d v. v ≡ value_of ⟦<BondXmitHashPolicy as NamedNumber>⟧.names d };
+    ghost from_gives = { λ d v. v ≡ value_of xmit_hash_policy_names d };
 
     fn from(number: u8) -> Self {
-        Self::of_number(number)
+        names!(of_number(number))
     }
 }
 
 /// Converts a variant to its number.
 impl From<BondXmitHashPolicy> for u8 {
-    ghost from_gives = { λ v d. d ≡ number_of (⟦<BondXmitHashPolicy as NamedNumber>⟧.seen v) };
+    ghost from_gives = { λ v d. d ≡ number_of (xmit_hash_policy_seen v) };
 
     fn from(value: BondXmitHashPolicy) -> u8 {
-        value.number()
+        names!(number(BondXmitHashPolicy, value))
     }
 }
 
 /// Writes the variant's name, such as `layer2`, or `unknown-variant (n)` for `Other(n)`.
 impl fmt::Display for BondXmitHashPolicy {
-    ghost output = { λ v. Some (displayed ⟦<BondXmitHashPolicy as NamedNumber>⟧.names
-        (⟦<BondXmitHashPolicy as NamedNumber>⟧.seen v)) };
+    ghost output = { λ v. Some (displayed xmit_hash_policy_names (xmit_hash_policy_seen v)) };
 
     fn fmt<W: fmt::Write>(&self, f: &mut fmt::Formatter<W>) -> fmt::Result {
-        xmit_hash_policy_names!(display_unknown(self, f))
+        names!(display_unknown(self, f))
     }
 }
 
@@ -125,10 +114,10 @@ impl fmt::Display for BondXmitHashPolicy {
 impl FromStr for BondXmitHashPolicy {
     type Err = DecodeError;
 
-    ghost from_str_gives = { λ text result. ReadsText ⟦<BondXmitHashPolicy as NamedNumber>⟧.names text result };
+    ghost from_str_gives = { λ text result. ReadsText xmit_hash_policy_names text result };
 
     #[tactic(auto, using(std::proofs::lemmas::Fmt::decimal_digit))]
     fn from_str(text: &str) -> Result<Self, DecodeError> {
-        xmit_hash_policy_names!(parse(text))
+        names!(parse(text))
     }
 }

@@ -2,8 +2,10 @@
 
 ghost use Rattle.std.specs.Prelude.{refl, ◌≡◌, Some};
 ghost use Rattle.link_base.specs.Named.{value_of, number_of, displayed, ReadsText};
+ghost use Rattle.link_base.specs.Equality.{of_cases, thorough_fields};
+ghost use Rattle.link_bond.specs.ChurnState.{churn_state_names, churn_state_seen, churn_state_cases};
 
-use link_base::{DecodeError, NamedNumber, NumberedName};
+use link_base::{DecodeError, NamedNumber};
 use std::fmt;
 use std::str::FromStr;
 
@@ -22,7 +24,7 @@ pub enum ChurnState {
 }
 
 /// The numbers (`include/net/bond_3ad.h`), variants and `Display` output.
-macro_rules! churn_state_names {
+macro_rules! names {
     ($call:ident($($argument:tt)*)) => {
         link_base::by_names! { $call($($argument)*)
             AD_CHURN_MONITOR = 0, Monitor, "monitor";
@@ -33,9 +35,9 @@ macro_rules! churn_state_names {
 }
 
 impl NamedNumber for ChurnState {
-    ghost use Rattle.link_base.specs.Equality.{of_cases, thorough_fields};
     ghost use Rattle.link_bond.specs.contracts.bond_port.churn_state.ChurnState.{enum};
-    ghost use Rattle.link_bond.specs.ChurnState.{churn_state_names, churn_state_seen, churn_state_cases};
+
+    type Number = u8;
 
     ghost names = { churn_state_names };
 
@@ -50,44 +52,36 @@ impl NamedNumber for ChurnState {
     ghost well_named = { refl };
 
     ghost thorough = { of_cases enum _ _ (Prim.search (thorough_fields)) };
-}
 
-impl NumberedName for ChurnState {
-    type Number = u8;
+    ghost from_number = { λ _ _ same. same };
 
-    fn of_number(number: u8) -> Self {
-        churn_state_names!(of_number(number))
-    }
-
-    fn number(self) -> u8 {
-        churn_state_names!(number(self))
-    }
+    ghost to_number = { λ _ _ same. same };
 }
 
 /// Converts a number to its variant, or to `Other` if the number has no name.
 impl From<u8> for ChurnState {
-    ghost from_gives = { λ d v. v ≡ value_of ⟦<ChurnState as NamedNumber>⟧.names d };
+    ghost from_gives = { λ d v. v ≡ value_of churn_state_names d };
 
     fn from(number: u8) -> Self {
-        Self::of_number(number)
+        names!(of_number(number))
     }
 }
 
 /// Converts a variant to its number.
 impl From<ChurnState> for u8 {
-    ghost from_gives = { λ v d. d ≡ number_of (⟦<ChurnState as NamedNumber>⟧.seen v) };
+    ghost from_gives = { λ v d. d ≡ number_of (churn_state_seen v) };
 
     fn from(value: ChurnState) -> u8 {
-        value.number()
+        names!(number(ChurnState, value))
     }
 }
 
 /// Writes the variant's name, such as `monitor`, or the number in decimal for `Other`.
 impl fmt::Display for ChurnState {
-    ghost output = { λ v. Some (displayed ⟦<ChurnState as NamedNumber>⟧.names (⟦<ChurnState as NamedNumber>⟧.seen v)) };
+    ghost output = { λ v. Some (displayed churn_state_names (churn_state_seen v)) };
 
     fn fmt<W: fmt::Write>(&self, f: &mut fmt::Formatter<W>) -> fmt::Result {
-        churn_state_names!(display(self, f))
+        names!(display(self, f))
     }
 }
 
@@ -99,9 +93,9 @@ impl fmt::Display for ChurnState {
 impl FromStr for ChurnState {
     type Err = DecodeError;
 
-    ghost from_str_gives = { λ text result. ReadsText ⟦<ChurnState as NamedNumber>⟧.names text result };
+    ghost from_str_gives = { λ text result. ReadsText churn_state_names text result };
 
     fn from_str(text: &str) -> Result<Self, DecodeError> {
-        churn_state_names!(parse_any_case(text))
+        names!(parse_any_case(text))
     }
 }

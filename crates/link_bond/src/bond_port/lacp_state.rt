@@ -1,7 +1,6 @@
 //! The state of one side of an LACP link.
 
 use bitflags::{Flag, Flags};
-use link_base::PayloadFlags;
 use link_base::flag_laws::{FlagSet, KnownBits};
 
 /// The state of one side of a link in LACP, the actor or the partner (`LACP_STATE_*`,
@@ -35,40 +34,10 @@ impl LacpState {
     pub const EXPIRED: LacpState = LacpState(0x80);
 }
 
-const FLAGS: [Flag<LacpState>; 8] = [
-    Flag {
-        name: "LACP_ACTIVITY",
-        value: LacpState::LACP_ACTIVITY,
-    },
-    Flag {
-        name: "LACP_TIMEOUT",
-        value: LacpState::LACP_TIMEOUT,
-    },
-    Flag {
-        name: "AGGREGATION",
-        value: LacpState::AGGREGATION,
-    },
-    Flag {
-        name: "SYNCHRONIZATION",
-        value: LacpState::SYNCHRONIZATION,
-    },
-    Flag {
-        name: "COLLECTING",
-        value: LacpState::COLLECTING,
-    },
-    Flag {
-        name: "DISTRIBUTING",
-        value: LacpState::DISTRIBUTING,
-    },
-    Flag {
-        name: "DEFAULTED",
-        value: LacpState::DEFAULTED,
-    },
-    Flag {
-        name: "EXPIRED",
-        value: LacpState::EXPIRED,
-    },
-];
+const FLAGS: [Flag<LacpState>; 8] = link_base::named_flags!(LacpState:
+    LACP_ACTIVITY, LACP_TIMEOUT, AGGREGATION, SYNCHRONIZATION, COLLECTING, DISTRIBUTING, DEFAULTED,
+    EXPIRED
+);
 
 impl Flags for LacpState {
     type Bits = u8;
@@ -92,24 +61,6 @@ impl Flags for LacpState {
 
     fn from_bits_retain(bits: u8) -> LacpState {
         LacpState(bits)
-    }
-}
-
-impl PayloadFlags for LacpState {
-    type Number = u8;
-
-    ghost use Rattle.link_bond.specs.LacpState.{lacp_bits};
-
-    ghost set = { lacp_bits };
-
-    #[inline]
-    fn of_number(bits: u8) -> Self {
-        Self::from_bits_retain(bits)
-    }
-
-    #[inline]
-    fn number(&self) -> u8 {
-        self.bits()
     }
 }
 

@@ -2,8 +2,10 @@
 
 ghost use Rattle.std.specs.Prelude.{refl, ◌≡◌, Some};
 ghost use Rattle.link_base.specs.Named.{value_of, number_of, displayed, ReadsText};
+ghost use Rattle.link_base.specs.Equality.{of_cases, thorough_fields};
+ghost use Rattle.link_bond.specs.MiiStatus.{mii_status_names, mii_status_seen, mii_status_cases};
 
-use link_base::{DecodeError, NamedNumber, NumberedName};
+use link_base::{DecodeError, NamedNumber};
 use std::fmt;
 use std::str::FromStr;
 
@@ -23,7 +25,7 @@ pub enum MiiStatus {
 }
 
 /// The numbers (`include/uapi/linux/if_bonding.h`), variants and `Display` output.
-macro_rules! mii_status_names {
+macro_rules! names {
     ($call:ident($($argument:tt)*)) => {
         link_base::by_names! { $call($($argument)*)
             BOND_LINK_UP = 0, Up, "up";
@@ -35,9 +37,9 @@ macro_rules! mii_status_names {
 }
 
 impl NamedNumber for MiiStatus {
-    ghost use Rattle.link_base.specs.Equality.{of_cases, thorough_fields};
     ghost use Rattle.link_bond.specs.contracts.bond_port.mii_status.MiiStatus.{enum};
-    ghost use Rattle.link_bond.specs.MiiStatus.{mii_status_names, mii_status_seen, mii_status_cases};
+
+    type Number = u8;
 
     ghost names = { mii_status_names };
 
@@ -52,44 +54,36 @@ impl NamedNumber for MiiStatus {
     ghost well_named = { refl };
 
     ghost thorough = { of_cases enum _ _ (Prim.search (thorough_fields)) };
-}
 
-impl NumberedName for MiiStatus {
-    type Number = u8;
+    ghost from_number = { λ _ _ same. same };
 
-    fn of_number(number: u8) -> Self {
-        mii_status_names!(of_number(number))
-    }
-
-    fn number(self) -> u8 {
-        mii_status_names!(number(self))
-    }
+    ghost to_number = { λ _ _ same. same };
 }
 
 /// Converts a number to its variant, or to `Other` if the number has no name.
 impl From<u8> for MiiStatus {
-    ghost from_gives = { λ d v. v ≡ value_of ⟦<MiiStatus as NamedNumber>⟧.names d };
+    ghost from_gives = { λ d v. v ≡ value_of mii_status_names d };
 
     fn from(number: u8) -> Self {
-        Self::of_number(number)
+        names!(of_number(number))
     }
 }
 
 /// Converts a variant to its number.
 impl From<MiiStatus> for u8 {
-    ghost from_gives = { λ v d. d ≡ number_of (⟦<MiiStatus as NamedNumber>⟧.seen v) };
+    ghost from_gives = { λ v d. d ≡ number_of (mii_status_seen v) };
 
     fn from(value: MiiStatus) -> u8 {
-        value.number()
+        names!(number(MiiStatus, value))
     }
 }
 
 /// Writes the variant's name, such as `up`, or the number in decimal for `Other`.
 impl fmt::Display for MiiStatus {
-    ghost output = { λ v. Some (displayed ⟦<MiiStatus as NamedNumber>⟧.names (⟦<MiiStatus as NamedNumber>⟧.seen v)) };
+    ghost output = { λ v. Some (displayed mii_status_names (mii_status_seen v)) };
 
     fn fmt<W: fmt::Write>(&self, f: &mut fmt::Formatter<W>) -> fmt::Result {
-        mii_status_names!(display(self, f))
+        names!(display(self, f))
     }
 }
 
@@ -101,9 +95,9 @@ impl fmt::Display for MiiStatus {
 impl FromStr for MiiStatus {
     type Err = DecodeError;
 
-    ghost from_str_gives = { λ text result. ReadsText ⟦<MiiStatus as NamedNumber>⟧.names text result };
+    ghost from_str_gives = { λ text result. ReadsText mii_status_names text result };
 
     fn from_str(text: &str) -> Result<Self, DecodeError> {
-        mii_status_names!(parse_any_case(text))
+        names!(parse_any_case(text))
     }
 }

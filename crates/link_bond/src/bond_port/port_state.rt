@@ -2,8 +2,10 @@
 
 ghost use Rattle.std.specs.Prelude.{refl, ◌≡◌, Some};
 ghost use Rattle.link_base.specs.Named.{value_of, number_of, displayed, ReadsText};
+ghost use Rattle.link_base.specs.Equality.{of_cases, thorough_fields};
+ghost use Rattle.link_bond.specs.PortState.{port_state_names, port_state_seen, port_state_cases};
 
-use link_base::{DecodeError, NamedNumber, NumberedName};
+use link_base::{DecodeError, NamedNumber};
 use std::fmt;
 use std::str::FromStr;
 
@@ -19,7 +21,7 @@ pub enum BondPortState {
 }
 
 /// The numbers (`include/uapi/linux/if_bonding.h`), variants and `Display` output.
-macro_rules! port_state_names {
+macro_rules! names {
     ($call:ident($($argument:tt)*)) => {
         link_base::by_names! { $call($($argument)*)
             BOND_STATE_ACTIVE = 0, Active, "active";
@@ -29,9 +31,9 @@ macro_rules! port_state_names {
 }
 
 impl NamedNumber for BondPortState {
-    ghost use Rattle.link_base.specs.Equality.{of_cases, thorough_fields};
     ghost use Rattle.link_bond.specs.contracts.bond_port.port_state.BondPortState.{enum};
-    ghost use Rattle.link_bond.specs.PortState.{port_state_names, port_state_seen, port_state_cases};
+
+    type Number = u8;
 
     ghost names = { port_state_names };
 
@@ -46,45 +48,36 @@ impl NamedNumber for BondPortState {
     ghost well_named = { refl };
 
     ghost thorough = { of_cases enum _ _ (Prim.search (thorough_fields)) };
-}
 
-impl NumberedName for BondPortState {
-    type Number = u8;
+    ghost from_number = { λ _ _ same. same };
 
-    fn of_number(number: u8) -> Self {
-        port_state_names!(of_number(number))
-    }
-
-    fn number(self) -> u8 {
-        port_state_names!(number(self))
-    }
+    ghost to_number = { λ _ _ same. same };
 }
 
 /// Converts a number to its variant, or to `Other` if the number has no name.
 impl From<u8> for BondPortState {
-    ghost from_gives = { λ d v. v ≡ value_of ⟦<BondPortState as NamedNumber>⟧.names d };
+    ghost from_gives = { λ d v. v ≡ value_of port_state_names d };
 
     fn from(number: u8) -> Self {
-        Self::of_number(number)
+        names!(of_number(number))
     }
 }
 
 /// Converts a variant to its number.
 impl From<BondPortState> for u8 {
-    ghost from_gives = { λ v d. d ≡ number_of (⟦<BondPortState as NamedNumber>⟧.seen v) };
+    ghost from_gives = { λ v d. d ≡ number_of (port_state_seen v) };
 
     fn from(value: BondPortState) -> u8 {
-        value.number()
+        names!(number(BondPortState, value))
     }
 }
 
 /// Writes the variant's name, such as `active`, or the number in decimal for `Other`.
 impl fmt::Display for BondPortState {
-    ghost output = { λ v. Some (displayed ⟦<BondPortState as NamedNumber>⟧.names
-        (⟦<BondPortState as NamedNumber>⟧.seen v)) };
+    ghost output = { λ v. Some (displayed port_state_names (port_state_seen v)) };
 
     fn fmt<W: fmt::Write>(&self, f: &mut fmt::Formatter<W>) -> fmt::Result {
-        port_state_names!(display(self, f))
+        names!(display(self, f))
     }
 }
 
@@ -96,9 +89,9 @@ impl fmt::Display for BondPortState {
 impl FromStr for BondPortState {
     type Err = DecodeError;
 
-    ghost from_str_gives = { λ text result. ReadsText ⟦<BondPortState as NamedNumber>⟧.names text result };
+    ghost from_str_gives = { λ text result. ReadsText port_state_names text result };
 
     fn from_str(text: &str) -> Result<Self, DecodeError> {
-        port_state_names!(parse_any_case(text))
+        names!(parse_any_case(text))
     }
 }

@@ -1,6 +1,11 @@
 //! Whose bridge port settings a message sets or reports.
 
-use link_base::{DecodeError, NamedNumber, NumberedName};
+ghost use Rattle.std.specs.Prelude.{refl, ◌≡◌, Some};
+ghost use Rattle.link_base.specs.Equality.{of_cases, thorough_fields};
+ghost use Rattle.link_base.specs.Named.{value_of, number_of, displayed, ReadsText};
+ghost use Rattle.link_bridge.specs.Flag.{flag_names, flag_seen, flag_cases};
+
+use link_base::{DecodeError, NamedNumber};
 use std::fmt;
 use std::str::FromStr;
 
@@ -23,7 +28,7 @@ impl BridgeFlag {
 }
 
 /// The numbers (`include/uapi/linux/if_bridge.h`), variants and `Display` output.
-macro_rules! flag_names {
+macro_rules! names {
     ($call:ident($($argument:tt)*)) => {
         link_base::by_names! { $call($($argument)*)
             BRIDGE_FLAGS_MASTER = 1, Controller, "master";
@@ -33,10 +38,9 @@ macro_rules! flag_names {
 }
 
 impl NamedNumber for BridgeFlag {
-    ghost use Rattle.std.specs.Prelude.{refl};
-    ghost use Rattle.link_base.specs.Equality.{of_cases, thorough_fields};
     ghost use Rattle.link_bridge.specs.contracts.af_spec.flag.BridgeFlag.{enum};
-    ghost use Rattle.link_bridge.specs.Flag.{flag_names, flag_seen, flag_cases};
+
+    type Number = u16;
 
     ghost names = { flag_names };
 
@@ -51,54 +55,36 @@ impl NamedNumber for BridgeFlag {
     ghost well_named = { refl };
 
     ghost thorough = { of_cases enum _ _ (Prim.search (thorough_fields)) };
-}
 
-impl NumberedName for BridgeFlag {
-    type Number = u16;
+    ghost from_number = { λ _ _ same. same };
 
-    fn of_number(number: u16) -> Self {
-        flag_names!(of_number(number))
-    }
-
-    fn number(self) -> u16 {
-        flag_names!(number(self))
-    }
+    ghost to_number = { λ _ _ same. same };
 }
 
 /// Converts a number to its variant, or to `Other` if the number has no name.
 impl From<u16> for BridgeFlag {
-    ghost use Rattle.std.specs.Prelude.{◌≡◌};
-    ghost use Rattle.link_base.specs.Named.{value_of};
-
-    ghost from_gives = { λ d v. v ≡ value_of ⟦<BridgeFlag as NamedNumber>⟧.names d };
+    ghost from_gives = { λ d v. v ≡ value_of flag_names d };
 
     fn from(number: u16) -> Self {
-        Self::of_number(number)
+        names!(of_number(number))
     }
 }
 
 /// Converts a variant to its number.
 impl From<BridgeFlag> for u16 {
-    ghost use Rattle.std.specs.Prelude.{◌≡◌};
-    ghost use Rattle.link_base.specs.Named.{number_of};
-
-    ghost from_gives = { λ v d. d ≡ number_of (⟦<BridgeFlag as NamedNumber>⟧.seen v) };
+    ghost from_gives = { λ v d. d ≡ number_of (flag_seen v) };
 
     fn from(value: BridgeFlag) -> u16 {
-        value.number()
+        names!(number(BridgeFlag, value))
     }
 }
 
 /// Writes the variant's name, such as `master`, or the number in decimal for `Other`.
 impl fmt::Display for BridgeFlag {
-    ghost use Rattle.std.specs.Prelude.{Some};
-    ghost use Rattle.link_base.specs.Named.{displayed};
-
-    ghost output = { λ v. Some (displayed ⟦<BridgeFlag as NamedNumber>⟧.names
-        (⟦<BridgeFlag as NamedNumber>⟧.seen v)) };
+    ghost output = { λ v. Some (displayed flag_names (flag_seen v)) };
 
     fn fmt<W: fmt::Write>(&self, f: &mut fmt::Formatter<W>) -> fmt::Result {
-        flag_names!(display(self, f))
+        names!(display(self, f))
     }
 }
 
@@ -111,12 +97,10 @@ impl fmt::Display for BridgeFlag {
 impl FromStr for BridgeFlag {
     type Err = DecodeError;
 
-    ghost use Rattle.link_base.specs.Named.{ReadsText};
-
-    ghost from_str_gives = { λ text result. ReadsText ⟦<BridgeFlag as NamedNumber>⟧.names text result };
+    ghost from_str_gives = { λ text result. ReadsText flag_names text result };
 
     #[tactic(auto, using(link_base::proofs::Naming::parsed_number, link_base::proofs::Naming::parsed_none))]
     fn from_str(text: &str) -> Result<Self, DecodeError> {
-        flag_names!(parse_or_number(text, u16))
+        names!(parse_or_number(text, u16))
     }
 }

@@ -1,6 +1,11 @@
 //! How a device with hardware bridging handles frames between its own ports.
 
-use link_base::{DecodeError, NamedNumber, NumberedName};
+ghost use Rattle.std.specs.Prelude.{refl, ◌≡◌, Some};
+ghost use Rattle.link_base.specs.Equality.{of_cases, thorough_fields};
+ghost use Rattle.link_base.specs.Named.{value_of, number_of, displayed, ReadsText};
+ghost use Rattle.link_bridge.specs.Mode.{mode_names, mode_seen, mode_cases};
+
+use link_base::{DecodeError, NamedNumber};
 use std::fmt;
 use std::str::FromStr;
 
@@ -22,7 +27,7 @@ impl BridgeMode {
 }
 
 /// The numbers (`include/uapi/linux/if_bridge.h`), variants and `Display` output.
-macro_rules! mode_names {
+macro_rules! names {
     ($call:ident($($argument:tt)*)) => {
         link_base::by_names! { $call($($argument)*)
             BRIDGE_MODE_VEB = 0, Veb, "veb";
@@ -32,10 +37,9 @@ macro_rules! mode_names {
 }
 
 impl NamedNumber for BridgeMode {
-    ghost use Rattle.std.specs.Prelude.{refl};
-    ghost use Rattle.link_base.specs.Equality.{of_cases, thorough_fields};
     ghost use Rattle.link_bridge.specs.contracts.af_spec.mode.BridgeMode.{enum};
-    ghost use Rattle.link_bridge.specs.Mode.{mode_names, mode_seen, mode_cases};
+
+    type Number = u16;
 
     ghost names = { mode_names };
 
@@ -50,54 +54,36 @@ impl NamedNumber for BridgeMode {
     ghost well_named = { refl };
 
     ghost thorough = { of_cases enum _ _ (Prim.search (thorough_fields)) };
-}
 
-impl NumberedName for BridgeMode {
-    type Number = u16;
+    ghost from_number = { λ _ _ same. same };
 
-    fn of_number(number: u16) -> Self {
-        mode_names!(of_number(number))
-    }
-
-    fn number(self) -> u16 {
-        mode_names!(number(self))
-    }
+    ghost to_number = { λ _ _ same. same };
 }
 
 /// Converts a number to its variant, or to `Other` if the number has no name.
 impl From<u16> for BridgeMode {
-    ghost use Rattle.std.specs.Prelude.{◌≡◌};
-    ghost use Rattle.link_base.specs.Named.{value_of};
-
-    ghost from_gives = { λ d v. v ≡ value_of ⟦<BridgeMode as NamedNumber>⟧.names d };
+    ghost from_gives = { λ d v. v ≡ value_of mode_names d };
 
     fn from(number: u16) -> Self {
-        Self::of_number(number)
+        names!(of_number(number))
     }
 }
 
 /// Converts a variant to its number.
 impl From<BridgeMode> for u16 {
-    ghost use Rattle.std.specs.Prelude.{◌≡◌};
-    ghost use Rattle.link_base.specs.Named.{number_of};
-
-    ghost from_gives = { λ v d. d ≡ number_of (⟦<BridgeMode as NamedNumber>⟧.seen v) };
+    ghost from_gives = { λ v d. d ≡ number_of (mode_seen v) };
 
     fn from(value: BridgeMode) -> u16 {
-        value.number()
+        names!(number(BridgeMode, value))
     }
 }
 
 /// Writes the variant's name, such as `vepa`, or the number in decimal for `Other`.
 impl fmt::Display for BridgeMode {
-    ghost use Rattle.std.specs.Prelude.{Some};
-    ghost use Rattle.link_base.specs.Named.{displayed};
-
-    ghost output = { λ v. Some (displayed ⟦<BridgeMode as NamedNumber>⟧.names
-        (⟦<BridgeMode as NamedNumber>⟧.seen v)) };
+    ghost output = { λ v. Some (displayed mode_names (mode_seen v)) };
 
     fn fmt<W: fmt::Write>(&self, f: &mut fmt::Formatter<W>) -> fmt::Result {
-        mode_names!(display(self, f))
+        names!(display(self, f))
     }
 }
 
@@ -110,12 +96,10 @@ impl fmt::Display for BridgeMode {
 impl FromStr for BridgeMode {
     type Err = DecodeError;
 
-    ghost use Rattle.link_base.specs.Named.{ReadsText};
-
-    ghost from_str_gives = { λ text result. ReadsText ⟦<BridgeMode as NamedNumber>⟧.names text result };
+    ghost from_str_gives = { λ text result. ReadsText mode_names text result };
 
     #[tactic(auto, using(link_base::proofs::Naming::parsed_number, link_base::proofs::Naming::parsed_none))]
     fn from_str(text: &str) -> Result<Self, DecodeError> {
-        mode_names!(parse_or_number(text, u16))
+        names!(parse_or_number(text, u16))
     }
 }

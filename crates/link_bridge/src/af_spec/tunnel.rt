@@ -26,7 +26,7 @@ pub enum BridgeVlanTunnelInfo {
 }
 
 /// The attribute types (`IFLA_BRIDGE_VLAN_TUNNEL_*`), the variant of each, and the class of its payload.
-macro_rules! tunnel_rows {
+macro_rules! rows {
     ($call:ident($($argument:tt)*)) => {
         link_base::by_rows! { $call($($argument)*)
             IFLA_BRIDGE_VLAN_TUNNEL_ID = 1, Id: u32;
@@ -38,7 +38,7 @@ macro_rules! tunnel_rows {
 
 impl TryClone for BridgeVlanTunnelInfo {
     fn try_clone(&self, alloc: Global) -> Result<Self, AllocError> {
-        tunnel_rows!(clone(self, alloc))
+        rows!(clone(self, alloc))
     }
 }
 
@@ -50,15 +50,15 @@ impl Meaning for BridgeVlanTunnelInfo {
 
 impl Nla for BridgeVlanTunnelInfo {
     fn kind(&self) -> u16 {
-        tunnel_rows!(kind(self))
+        rows!(kind(self))
     }
 
     fn value_len(&self) -> usize {
-        tunnel_rows!(size(self))
+        rows!(size(self))
     }
 
     fn emit_value(&self, buffer: &mut [u8]) {
-        tunnel_rows!(emit(self, buffer))
+        rows!(emit(self, buffer))
     }
 }
 
@@ -68,27 +68,25 @@ impl Parseable for BridgeVlanTunnelInfo {
         buffer: &NlaBuffer<'_>,
         place: &mut P,
     ) -> Result<(), DecodeError> {
-        tunnel_rows!(read(alloc, buffer, place))
+        rows!(read(alloc, buffer, place))
     }
 }
 
 impl Attribute for BridgeVlanTunnelInfo {
     ghost use Rattle.link_base.proofs.TableLaws.{lawful};
     ghost use Rattle.link_base.specs.Equality.{of_cases, thorough_fields};
-    ghost use Rattle.link_bridge.specs.contracts.af_spec.vlan_info_flags.BridgeVlanInfoFlagsFlagSet.TheImpl.Laws.{
-      thorough-law as flags_thorough,
-    };
+    ghost use Rattle.link_bridge.specs.contracts.af_spec.vlan_info_flags.BridgeVlanInfoFlagsFlagSet.TheImpl.Laws as flags;
     ghost use Rattle.link_bridge.specs.contracts.af_spec.tunnel.BridgeVlanTunnelInfo.{enum};
 
     fn canonical(buffer: &NlaBuffer<'_>) -> bool {
-        tunnel_rows!(canonical(buffer))
+        rows!(canonical(buffer))
     }
 
     ghost lawful = { lawful (lift_table tunnel_rows) };
 
     ghost well_formed = { refl };
 
-    ghost thorough = { of_cases enum _ _ (Prim.search (thorough_fields, flags_thorough)) };
+    ghost thorough = { of_cases enum _ _ (Prim.search (thorough_fields, flags.thorough-law)) };
 }
 
 impl NestedAttribute for BridgeVlanTunnelInfo {

@@ -61,11 +61,13 @@ impl TryFrom<&[u8]> for BridgeVlanInfo {
 
 impl PayloadStruct for BridgeVlanInfo {
     ghost use Rattle.link_base.specs.Class.{Exactly};
-    ghost use Rattle.link_bridge.specs.VlanInfo.{vlan_info_octets};
-
-    ghost octets = { vlan_info_octets };
+    ghost use Rattle.link_bridge.specs.VlanInfo.{vlan_info_of, vlan_info_octets};
 
     ghost extent = { Exactly 4 };
+
+    ghost value_of = { vlan_info_of };
+
+    ghost octets = { vlan_info_octets };
 
     #[inline]
     fn kept_len() -> usize {

@@ -1,7 +1,6 @@
 //! The flags of a bridge VLAN.
 
 use bitflags::{Flag, Flags};
-use link_base::PayloadFlags;
 use link_base::flag_laws::{FlagSet, KnownBits};
 
 /// Flags of a VLAN of a bridge or bridge port (`BRIDGE_VLAN_INFO_*`, `include/uapi/linux/if_bridge.h`). Unnamed bits
@@ -37,40 +36,9 @@ impl BridgeVlanInfoFlags {
 }
 
 /// The named flags, and an unnamed one with all bits, so that every bit is known.
-const FLAGS: [Flag<BridgeVlanInfoFlags>; 8] = [
-    Flag {
-        name: "Controller",
-        value: BridgeVlanInfoFlags::Controller,
-    },
-    Flag {
-        name: "Pvid",
-        value: BridgeVlanInfoFlags::Pvid,
-    },
-    Flag {
-        name: "Untagged",
-        value: BridgeVlanInfoFlags::Untagged,
-    },
-    Flag {
-        name: "RangeBegin",
-        value: BridgeVlanInfoFlags::RangeBegin,
-    },
-    Flag {
-        name: "RangeEnd",
-        value: BridgeVlanInfoFlags::RangeEnd,
-    },
-    Flag {
-        name: "Brentry",
-        value: BridgeVlanInfoFlags::Brentry,
-    },
-    Flag {
-        name: "OnlyOpts",
-        value: BridgeVlanInfoFlags::OnlyOpts,
-    },
-    Flag {
-        name: "",
-        value: BridgeVlanInfoFlags(u16::MAX),
-    },
-];
+const FLAGS: [Flag<BridgeVlanInfoFlags>; 8] = link_base::named_flags!(BridgeVlanInfoFlags(u16::MAX):
+    Controller, Pvid, Untagged, RangeBegin, RangeEnd, Brentry, OnlyOpts
+);
 
 impl Flags for BridgeVlanInfoFlags {
     type Bits = u16;
@@ -94,24 +62,6 @@ impl Flags for BridgeVlanInfoFlags {
 
     fn from_bits_retain(bits: u16) -> BridgeVlanInfoFlags {
         BridgeVlanInfoFlags(bits)
-    }
-}
-
-impl PayloadFlags for BridgeVlanInfoFlags {
-    type Number = u16;
-
-    ghost use Rattle.link_bridge.specs.VlanInfo.{vlan_info_bits};
-
-    ghost set = { vlan_info_bits };
-
-    #[inline]
-    fn of_number(bits: u16) -> Self {
-        Self::from_bits_retain(bits)
-    }
-
-    #[inline]
-    fn number(&self) -> u16 {
-        self.bits()
     }
 }
 

@@ -56,9 +56,11 @@ impl Emitable for BridgeId {
 }
 
 impl PayloadStruct for BridgeId {
-    ghost octets = { id_octets };
-
     ghost extent = { AtLeast 8 };
+
+    ghost value_of = { id_of };
+
+    ghost octets = { id_octets };
 
     #[inline]
     fn kept_len() -> usize {

@@ -28,7 +28,7 @@ pub enum BridgeQuerierState {
 }
 
 /// The attribute types (`BRIDGE_QUERIER_*`), the variant of each, and the class of its payload.
-macro_rules! querier_rows {
+macro_rules! rows {
     ($call:ident($($argument:tt)*)) => {
         link_base::by_rows! { $call($($argument)*)
             BRIDGE_QUERIER_IP_ADDRESS = 1, Ipv4Address: OneAddress<Ipv4Addr>;
@@ -43,7 +43,7 @@ macro_rules! querier_rows {
 
 impl TryClone for BridgeQuerierState {
     fn try_clone(&self, alloc: Global) -> Result<Self, AllocError> {
-        querier_rows!(clone(self, alloc))
+        rows!(clone(self, alloc))
     }
 }
 
@@ -58,15 +58,15 @@ impl Meaning for BridgeQuerierState {
 
 impl Nla for BridgeQuerierState {
     fn kind(&self) -> u16 {
-        querier_rows!(kind(self))
+        rows!(kind(self))
     }
 
     fn value_len(&self) -> usize {
-        querier_rows!(size(self))
+        rows!(size(self))
     }
 
     fn emit_value(&self, buffer: &mut [u8]) {
-        querier_rows!(emit(self, buffer))
+        rows!(emit(self, buffer))
     }
 }
 
@@ -76,7 +76,7 @@ impl Parseable for BridgeQuerierState {
         buffer: &NlaBuffer<'_>,
         place: &mut P,
     ) -> Result<(), DecodeError> {
-        querier_rows!(read(alloc, buffer, place))
+        rows!(read(alloc, buffer, place))
     }
 }
 
@@ -89,7 +89,7 @@ impl Attribute for BridgeQuerierState {
     ghost use Rattle.link_bridge.specs.contracts.bridge.querier.BridgeQuerierState.{enum};
 
     fn canonical(buffer: &NlaBuffer<'_>) -> bool {
-        querier_rows!(canonical(buffer))
+        rows!(canonical(buffer))
     }
 
     ghost lawful = { lawful (lift_table querier_rows) };

@@ -1,6 +1,11 @@
 //! Whether a port is considered to lead to a multicast router.
 
-use link_base::{DecodeError, NamedNumber, NumberedName};
+ghost use Rattle.std.specs.Prelude.{refl, ◌≡◌, Some};
+ghost use Rattle.link_base.specs.Equality.{of_cases, thorough_fields};
+ghost use Rattle.link_base.specs.Named.{value_of, number_of, displayed, ReadsText};
+ghost use Rattle.link_bridge.specs.RouterType.{router_type_names, router_type_seen, router_type_cases};
+
+use link_base::{DecodeError, NamedNumber};
 use std::fmt;
 use std::str::FromStr;
 
@@ -26,7 +31,7 @@ impl BridgeMulticastRouterType {
 }
 
 /// The numbers (`include/uapi/linux/if_bridge.h`), variants and `Display` output. Texts after `|` are parsed too.
-macro_rules! router_type_names {
+macro_rules! names {
     ($call:ident($($argument:tt)*)) => {
         link_base::by_names! { $call($($argument)*)
             MDB_RTR_TYPE_DISABLED = 0, Disabled, "disabled";
@@ -38,10 +43,9 @@ macro_rules! router_type_names {
 }
 
 impl NamedNumber for BridgeMulticastRouterType {
-    ghost use Rattle.std.specs.Prelude.{refl};
-    ghost use Rattle.link_base.specs.Equality.{of_cases, thorough_fields};
     ghost use Rattle.link_bridge.specs.contracts.bridge.router_type.BridgeMulticastRouterType.{enum};
-    ghost use Rattle.link_bridge.specs.RouterType.{router_type_names, router_type_seen, router_type_cases};
+
+    type Number = u8;
 
     ghost names = { router_type_names };
 
@@ -56,54 +60,36 @@ impl NamedNumber for BridgeMulticastRouterType {
     ghost well_named = { refl };
 
     ghost thorough = { of_cases enum _ _ (Prim.search (thorough_fields)) };
-}
 
-impl NumberedName for BridgeMulticastRouterType {
-    type Number = u8;
+    ghost from_number = { λ _ _ same. same };
 
-    fn of_number(number: u8) -> Self {
-        router_type_names!(of_number(number))
-    }
-
-    fn number(self) -> u8 {
-        router_type_names!(number(self))
-    }
+    ghost to_number = { λ _ _ same. same };
 }
 
 /// Converts a number to its variant, or to `Other` if the number has no name.
 impl From<u8> for BridgeMulticastRouterType {
-    ghost use Rattle.std.specs.Prelude.{◌≡◌};
-    ghost use Rattle.link_base.specs.Named.{value_of};
-
-    ghost from_gives = { λ d v. v ≡ value_of ⟦<BridgeMulticastRouterType as NamedNumber>⟧.names d };
+    ghost from_gives = { λ d v. v ≡ value_of router_type_names d };
 
     fn from(number: u8) -> Self {
-        Self::of_number(number)
+        names!(of_number(number))
     }
 }
 
 /// Converts a variant to its number.
 impl From<BridgeMulticastRouterType> for u8 {
-    ghost use Rattle.std.specs.Prelude.{◌≡◌};
-    ghost use Rattle.link_base.specs.Named.{number_of};
-
-    ghost from_gives = { λ v d. d ≡ number_of (⟦<BridgeMulticastRouterType as NamedNumber>⟧.seen v) };
+    ghost from_gives = { λ v d. d ≡ number_of (router_type_seen v) };
 
     fn from(value: BridgeMulticastRouterType) -> u8 {
-        value.number()
+        names!(number(BridgeMulticastRouterType, value))
     }
 }
 
 /// Writes the variant's name, such as `permanent` (`auto` for `TempQuery`), or the number in decimal for `Other`.
 impl fmt::Display for BridgeMulticastRouterType {
-    ghost use Rattle.std.specs.Prelude.{Some};
-    ghost use Rattle.link_base.specs.Named.{displayed};
-
-    ghost output = { λ v. Some (displayed ⟦<BridgeMulticastRouterType as NamedNumber>⟧.names
-        (⟦<BridgeMulticastRouterType as NamedNumber>⟧.seen v)) };
+    ghost output = { λ v. Some (displayed router_type_names (router_type_seen v)) };
 
     fn fmt<W: fmt::Write>(&self, f: &mut fmt::Formatter<W>) -> fmt::Result {
-        router_type_names!(display(self, f))
+        names!(display(self, f))
     }
 }
 
@@ -116,12 +102,10 @@ impl fmt::Display for BridgeMulticastRouterType {
 impl FromStr for BridgeMulticastRouterType {
     type Err = DecodeError;
 
-    ghost use Rattle.link_base.specs.Named.{ReadsText};
-
-    ghost from_str_gives = { λ text result. ReadsText ⟦<BridgeMulticastRouterType as NamedNumber>⟧.names text result };
+    ghost from_str_gives = { λ text result. ReadsText router_type_names text result };
 
     #[tactic(auto, using(link_base::proofs::Naming::parsed_number, link_base::proofs::Naming::parsed_none))]
     fn from_str(text: &str) -> Result<Self, DecodeError> {
-        router_type_names!(parse_or_number(text, u8))
+        names!(parse_or_number(text, u8))
     }
 }

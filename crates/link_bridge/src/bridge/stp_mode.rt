@@ -1,6 +1,11 @@
 //! What is to run the spanning tree protocol of a bridge.
 
-use link_base::{DecodeError, NamedNumber, NumberedName};
+ghost use Rattle.std.specs.Prelude.{refl, ◌≡◌, Some};
+ghost use Rattle.link_base.specs.Equality.{of_cases, thorough_fields};
+ghost use Rattle.link_base.specs.Named.{value_of, number_of, displayed, ReadsText};
+ghost use Rattle.link_bridge.specs.StpMode.{stp_mode_names, stp_mode_seen, stp_mode_cases};
+
+use link_base::{DecodeError, NamedNumber};
 use std::fmt;
 use std::str::FromStr;
 
@@ -20,7 +25,7 @@ pub enum BridgeStpMode {
 }
 
 /// The numbers (`include/uapi/linux/if_link.h`), variants and `Display` output.
-macro_rules! stp_mode_names {
+macro_rules! names {
     ($call:ident($($argument:tt)*)) => {
         link_base::by_names! { $call($($argument)*)
             BR_STP_MODE_AUTO = 0, Auto, "auto";
@@ -31,10 +36,9 @@ macro_rules! stp_mode_names {
 }
 
 impl NamedNumber for BridgeStpMode {
-    ghost use Rattle.std.specs.Prelude.{refl};
-    ghost use Rattle.link_base.specs.Equality.{of_cases, thorough_fields};
     ghost use Rattle.link_bridge.specs.contracts.bridge.stp_mode.BridgeStpMode.{enum};
-    ghost use Rattle.link_bridge.specs.StpMode.{stp_mode_names, stp_mode_seen, stp_mode_cases};
+
+    type Number = u32;
 
     ghost names = { stp_mode_names };
 
@@ -49,54 +53,36 @@ impl NamedNumber for BridgeStpMode {
     ghost well_named = { refl };
 
     ghost thorough = { of_cases enum _ _ (Prim.search (thorough_fields)) };
-}
 
-impl NumberedName for BridgeStpMode {
-    type Number = u32;
+    ghost from_number = { λ _ _ same. same };
 
-    fn of_number(number: u32) -> Self {
-        stp_mode_names!(of_number(number))
-    }
-
-    fn number(self) -> u32 {
-        stp_mode_names!(number(self))
-    }
+    ghost to_number = { λ _ _ same. same };
 }
 
 /// Converts a number to its variant, or to `Other` if the number has no name.
 impl From<u32> for BridgeStpMode {
-    ghost use Rattle.std.specs.Prelude.{◌≡◌};
-    ghost use Rattle.link_base.specs.Named.{value_of};
-
-    ghost from_gives = { λ d v. v ≡ value_of ⟦<BridgeStpMode as NamedNumber>⟧.names d };
+    ghost from_gives = { λ d v. v ≡ value_of stp_mode_names d };
 
     fn from(number: u32) -> Self {
-        Self::of_number(number)
+        names!(of_number(number))
     }
 }
 
 /// Converts a variant to its number.
 impl From<BridgeStpMode> for u32 {
-    ghost use Rattle.std.specs.Prelude.{◌≡◌};
-    ghost use Rattle.link_base.specs.Named.{number_of};
-
-    ghost from_gives = { λ v d. d ≡ number_of (⟦<BridgeStpMode as NamedNumber>⟧.seen v) };
+    ghost from_gives = { λ v d. d ≡ number_of (stp_mode_seen v) };
 
     fn from(value: BridgeStpMode) -> u32 {
-        value.number()
+        names!(number(BridgeStpMode, value))
     }
 }
 
 /// Writes the variant's name, such as `kernel`, or the number in decimal for `Other`.
 impl fmt::Display for BridgeStpMode {
-    ghost use Rattle.std.specs.Prelude.{Some};
-    ghost use Rattle.link_base.specs.Named.{displayed};
-
-    ghost output = { λ v. Some (displayed ⟦<BridgeStpMode as NamedNumber>⟧.names
-        (⟦<BridgeStpMode as NamedNumber>⟧.seen v)) };
+    ghost output = { λ v. Some (displayed stp_mode_names (stp_mode_seen v)) };
 
     fn fmt<W: fmt::Write>(&self, f: &mut fmt::Formatter<W>) -> fmt::Result {
-        stp_mode_names!(display(self, f))
+        names!(display(self, f))
     }
 }
 
@@ -109,12 +95,10 @@ impl fmt::Display for BridgeStpMode {
 impl FromStr for BridgeStpMode {
     type Err = DecodeError;
 
-    ghost use Rattle.link_base.specs.Named.{ReadsText};
-
-    ghost from_str_gives = { λ text result. ReadsText ⟦<BridgeStpMode as NamedNumber>⟧.names text result };
+    ghost from_str_gives = { λ text result. ReadsText stp_mode_names text result };
 
     #[tactic(auto, using(link_base::proofs::Naming::parsed_number, link_base::proofs::Naming::parsed_none))]
     fn from_str(text: &str) -> Result<Self, DecodeError> {
-        stp_mode_names!(parse_or_number(text, u32))
+        names!(parse_or_number(text, u32))
     }
 }

@@ -1,6 +1,11 @@
 //! What runs the spanning tree protocol of a bridge.
 
-use link_base::{DecodeError, NamedNumber, NumberedName};
+ghost use Rattle.std.specs.Prelude.{refl, ◌≡◌, Some};
+ghost use Rattle.link_base.specs.Equality.{of_cases, thorough_fields};
+ghost use Rattle.link_base.specs.Named.{value_of, number_of, displayed, ReadsText};
+ghost use Rattle.link_bridge.specs.StpState.{stp_state_names, stp_state_seen, stp_state_cases};
+
+use link_base::{DecodeError, NamedNumber};
 use std::fmt;
 use std::str::FromStr;
 
@@ -19,7 +24,7 @@ pub enum BridgeStpState {
 }
 
 /// The numbers (`net/bridge/br_private.h`), variants and `Display` output.
-macro_rules! stp_state_names {
+macro_rules! names {
     ($call:ident($($argument:tt)*)) => {
         link_base::by_names! { $call($($argument)*)
             BR_NO_STP = 0, Disabled, "no";
@@ -30,10 +35,9 @@ macro_rules! stp_state_names {
 }
 
 impl NamedNumber for BridgeStpState {
-    ghost use Rattle.std.specs.Prelude.{refl};
-    ghost use Rattle.link_base.specs.Equality.{of_cases, thorough_fields};
     ghost use Rattle.link_bridge.specs.contracts.bridge.stp_state.BridgeStpState.{enum};
-    ghost use Rattle.link_bridge.specs.StpState.{stp_state_names, stp_state_seen, stp_state_cases};
+
+    type Number = u32;
 
     ghost names = { stp_state_names };
 
@@ -48,54 +52,36 @@ impl NamedNumber for BridgeStpState {
     ghost well_named = { refl };
 
     ghost thorough = { of_cases enum _ _ (Prim.search (thorough_fields)) };
-}
 
-impl NumberedName for BridgeStpState {
-    type Number = u32;
+    ghost from_number = { λ _ _ same. same };
 
-    fn of_number(number: u32) -> Self {
-        stp_state_names!(of_number(number))
-    }
-
-    fn number(self) -> u32 {
-        stp_state_names!(number(self))
-    }
+    ghost to_number = { λ _ _ same. same };
 }
 
 /// Converts a number to its variant, or to `Other` if the number has no name.
 impl From<u32> for BridgeStpState {
-    ghost use Rattle.std.specs.Prelude.{◌≡◌};
-    ghost use Rattle.link_base.specs.Named.{value_of};
-
-    ghost from_gives = { λ d v. v ≡ value_of ⟦<BridgeStpState as NamedNumber>⟧.names d };
+    ghost from_gives = { λ d v. v ≡ value_of stp_state_names d };
 
     fn from(number: u32) -> Self {
-        Self::of_number(number)
+        names!(of_number(number))
     }
 }
 
 /// Converts a variant to its number.
 impl From<BridgeStpState> for u32 {
-    ghost use Rattle.std.specs.Prelude.{◌≡◌};
-    ghost use Rattle.link_base.specs.Named.{number_of};
-
-    ghost from_gives = { λ v d. d ≡ number_of (⟦<BridgeStpState as NamedNumber>⟧.seen v) };
+    ghost from_gives = { λ v d. d ≡ number_of (stp_state_seen v) };
 
     fn from(value: BridgeStpState) -> u32 {
-        value.number()
+        names!(number(BridgeStpState, value))
     }
 }
 
 /// Writes the variant's name, such as `kernel_stp`, or the number in decimal for `Other`.
 impl fmt::Display for BridgeStpState {
-    ghost use Rattle.std.specs.Prelude.{Some};
-    ghost use Rattle.link_base.specs.Named.{displayed};
-
-    ghost output = { λ v. Some (displayed ⟦<BridgeStpState as NamedNumber>⟧.names
-        (⟦<BridgeStpState as NamedNumber>⟧.seen v)) };
+    ghost output = { λ v. Some (displayed stp_state_names (stp_state_seen v)) };
 
     fn fmt<W: fmt::Write>(&self, f: &mut fmt::Formatter<W>) -> fmt::Result {
-        stp_state_names!(display(self, f))
+        names!(display(self, f))
     }
 }
 
@@ -108,12 +94,10 @@ impl fmt::Display for BridgeStpState {
 impl FromStr for BridgeStpState {
     type Err = DecodeError;
 
-    ghost use Rattle.link_base.specs.Named.{ReadsText};
-
-    ghost from_str_gives = { λ text result. ReadsText ⟦<BridgeStpState as NamedNumber>⟧.names text result };
+    ghost from_str_gives = { λ text result. ReadsText stp_state_names text result };
 
     #[tactic(auto, using(link_base::proofs::Naming::parsed_number, link_base::proofs::Naming::parsed_none))]
     fn from_str(text: &str) -> Result<Self, DecodeError> {
-        stp_state_names!(parse_or_number(text, u32))
+        names!(parse_or_number(text, u32))
     }
 }

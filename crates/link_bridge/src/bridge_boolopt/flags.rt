@@ -27,32 +27,10 @@ impl BridgeBooleanOptionFlags {
 }
 
 /// The named flags, and an unnamed one with all bits, so that every bit is known.
-const FLAGS: [Flag<BridgeBooleanOptionFlags>; 6] = [
-    Flag {
-        name: "NoLinkLocalLearn",
-        value: BridgeBooleanOptionFlags::NoLinkLocalLearn,
-    },
-    Flag {
-        name: "VlanMulticastSnooping",
-        value: BridgeBooleanOptionFlags::VlanMulticastSnooping,
-    },
-    Flag {
-        name: "MstEnable",
-        value: BridgeBooleanOptionFlags::MstEnable,
-    },
-    Flag {
-        name: "MdbOffloadFailNotif",
-        value: BridgeBooleanOptionFlags::MdbOffloadFailNotif,
-    },
-    Flag {
-        name: "FdbLocalVlan0",
-        value: BridgeBooleanOptionFlags::FdbLocalVlan0,
-    },
-    Flag {
-        name: "",
-        value: BridgeBooleanOptionFlags(u32::MAX),
-    },
-];
+const FLAGS: [Flag<BridgeBooleanOptionFlags>; 6] =
+    link_base::named_flags!(BridgeBooleanOptionFlags(u32::MAX):
+    NoLinkLocalLearn, VlanMulticastSnooping, MstEnable, MdbOffloadFailNotif, FdbLocalVlan0
+);
 
 impl Flags for BridgeBooleanOptionFlags {
     type Bits = u32;

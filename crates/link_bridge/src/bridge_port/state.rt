@@ -1,6 +1,11 @@
 //! The state of a bridge port in the spanning tree protocol.
 
-use link_base::{DecodeError, NamedNumber, NumberedName};
+ghost use Rattle.std.specs.Prelude.{refl, ◌≡◌, Some};
+ghost use Rattle.link_base.specs.Equality.{of_cases, thorough_fields};
+ghost use Rattle.link_base.specs.Named.{value_of, number_of, displayed, ReadsText};
+ghost use Rattle.link_bridge.specs.PortState.{port_state_names, port_state_seen, port_state_cases};
+
+use link_base::{DecodeError, NamedNumber};
 use std::fmt;
 use std::str::FromStr;
 
@@ -22,7 +27,7 @@ pub enum BridgePortState {
 }
 
 /// The numbers (`include/uapi/linux/if_bridge.h`), variants and `Display` output.
-macro_rules! port_state_names {
+macro_rules! names {
     ($call:ident($($argument:tt)*)) => {
         link_base::by_names! { $call($($argument)*)
             BR_STATE_DISABLED = 0, Disabled, "disabled";
@@ -35,10 +40,9 @@ macro_rules! port_state_names {
 }
 
 impl NamedNumber for BridgePortState {
-    ghost use Rattle.std.specs.Prelude.{refl};
-    ghost use Rattle.link_base.specs.Equality.{of_cases, thorough_fields};
     ghost use Rattle.link_bridge.specs.contracts.bridge_port.state.BridgePortState.{enum};
-    ghost use Rattle.link_bridge.specs.PortState.{port_state_names, port_state_seen, port_state_cases};
+
+    type Number = u8;
 
     ghost names = { port_state_names };
 
@@ -53,54 +57,36 @@ impl NamedNumber for BridgePortState {
     ghost well_named = { refl };
 
     ghost thorough = { of_cases enum _ _ (Prim.search (thorough_fields)) };
-}
 
-impl NumberedName for BridgePortState {
-    type Number = u8;
+    ghost from_number = { λ _ _ same. same };
 
-    fn of_number(number: u8) -> Self {
-        port_state_names!(of_number(number))
-    }
-
-    fn number(self) -> u8 {
-        port_state_names!(number(self))
-    }
+    ghost to_number = { λ _ _ same. same };
 }
 
 /// Converts a number to its variant, or to `Other` if the number has no name.
 impl From<u8> for BridgePortState {
-    ghost use Rattle.std.specs.Prelude.{◌≡◌};
-    ghost use Rattle.link_base.specs.Named.{value_of};
-
-    ghost from_gives = { λ d v. v ≡ value_of ⟦<BridgePortState as NamedNumber>⟧.names d };
+    ghost from_gives = { λ d v. v ≡ value_of port_state_names d };
 
     fn from(number: u8) -> Self {
-        Self::of_number(number)
+        names!(of_number(number))
     }
 }
 
 /// Converts a variant to its number.
 impl From<BridgePortState> for u8 {
-    ghost use Rattle.std.specs.Prelude.{◌≡◌};
-    ghost use Rattle.link_base.specs.Named.{number_of};
-
-    ghost from_gives = { λ v d. d ≡ number_of (⟦<BridgePortState as NamedNumber>⟧.seen v) };
+    ghost from_gives = { λ v d. d ≡ number_of (port_state_seen v) };
 
     fn from(value: BridgePortState) -> u8 {
-        value.number()
+        names!(number(BridgePortState, value))
     }
 }
 
 /// Writes the variant's name, such as `forwarding`, or the number in decimal for `Other`.
 impl fmt::Display for BridgePortState {
-    ghost use Rattle.std.specs.Prelude.{Some};
-    ghost use Rattle.link_base.specs.Named.{displayed};
-
-    ghost output = { λ v. Some (displayed ⟦<BridgePortState as NamedNumber>⟧.names
-        (⟦<BridgePortState as NamedNumber>⟧.seen v)) };
+    ghost output = { λ v. Some (displayed port_state_names (port_state_seen v)) };
 
     fn fmt<W: fmt::Write>(&self, f: &mut fmt::Formatter<W>) -> fmt::Result {
-        port_state_names!(display(self, f))
+        names!(display(self, f))
     }
 }
 
@@ -113,12 +99,10 @@ impl fmt::Display for BridgePortState {
 impl FromStr for BridgePortState {
     type Err = DecodeError;
 
-    ghost use Rattle.link_base.specs.Named.{ReadsText};
-
-    ghost from_str_gives = { λ text result. ReadsText ⟦<BridgePortState as NamedNumber>⟧.names text result };
+    ghost from_str_gives = { λ text result. ReadsText port_state_names text result };
 
     #[tactic(auto, using(link_base::proofs::Naming::parsed_number, link_base::proofs::Naming::parsed_none))]
     fn from_str(text: &str) -> Result<Self, DecodeError> {
-        port_state_names!(parse_or_number(text, u8))
+        names!(parse_or_number(text, u8))
     }
 }

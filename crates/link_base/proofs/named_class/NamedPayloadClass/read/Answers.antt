@@ -16,6 +16,6 @@ returns-in-Ok-clause-answer g c =
     let p = c.args.payload.now in
     read_named c.args._kind w.WIDTH listed d (number p) (length_cause (Exactly w.WIDTH) (length p)) _
     (sym (ap (read_as w.value) c.in-Ok.is) ∙ c.parse.ensures)
-    (ap (λ v. seen_value w.WIDTH listed (t.seen v)) c.of_number.ensures
+    (ap (λ v. seen_value w.WIDTH listed (t.seen v)) (g.met.T.NamedNumber.from_number c.in-Ok.number c.from.result c.from.ensures)
     ∙ ap (seen_value w.WIDTH listed) (seen_back t.names t.seen t.cases_hold t.other_holds d)
     ∙ seen_named w.WIDTH listed d)
