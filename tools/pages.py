@@ -64,7 +64,7 @@ BUDGETS = {
     "docs/ARCHITECTURE.md": 2000,
     "docs/ASSURANCE.md": 1200,
     "docs/CALLING.md": 1500,
-    "docs/CLAIMS.md": 2500,
+    "docs/CLAIMS.md": 2600,
     "docs/DECISIONS.md": 6000,
     "docs/DIFFERENCES.md": 3000,
     "docs/MESSAGES.md": 2500,

@@ -22,6 +22,7 @@ pub mod Walking
 pub mod TableReads
 pub mod Streaming
 pub mod Lifted
+pub mod Checks
 pub mod JoinedLemmas
 pub mod EditionLemmas
 pub mod LimitLemmas

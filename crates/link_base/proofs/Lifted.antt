@@ -100,6 +100,21 @@ first_fault_given rows s at c h = record {
   here = here_given rows h.rest c h.here;
 }
 
+-- values that decode by the table are lifted values
+leaves_zip : (rows : Rows) (xs : List Frame) (ms : List AttrValue) → AllZip (λ x v. Gives (lift_table rows) x.kind_field x.payload (Ok v)) xs ms → (vs : List Leaf) × (ms ≡ map lift vs)
+leaves_zip rows [] [] h = ([], refl)
+leaves_zip rows [] (m ∷ ms) h = absurd h
+leaves_zip rows (x ∷ xs) [] h = absurd h
+leaves_zip rows (x ∷ xs) (m ∷ ms) h =
+    let a = of_value (leaf_by (class_at rows (kind_of x.kind_field)) x.kind_field x.payload) m (unlift rows x.kind_field x.payload (Ok m) h.0) in
+    let others = leaves_zip rows xs ms h.1 in
+    (a.0 ∷ others.0, ap₂ (λ v vs. v ∷ vs) a.1 others.1)
+
+pub leaves_of : (table : Table) (rows : Rows) (s : List ℕ) (ms : List AttrValue) → table ≡ lift_table rows → Wire (Gives table) s ms → (vs : List Leaf) × (ms ≡ map lift vs)
+leaves_of table rows s ms e w =
+    let lifted = subst (λ (t : Table). Wire (Gives t) s ms) e w in
+    leaves_zip rows lifted.frames ms lifted.values
+
 -- the values of a list, as the content of an attribute
 pub nested_values : (table : Table) (rows : Rows) (flagged : Bool) (k : ℕ) (s : List ℕ) (ms : List AttrValue) (vs : List Leaf) → table ≡ lift_table rows → ms ≡ map lift vs → Wire (Gives table) s ms
     → ListGives (LeafGives rows) (Inner flagged) k s (Ok (Case k (Inner flagged vs)))

@@ -11,6 +11,7 @@ pub mod Lawful
 pub mod Texts
 pub mod Buffer
 pub mod Answers
+pub mod Checked
 pub mod Storing
 pub mod Rewritten
 pub mod IpAddress

@@ -12,9 +12,10 @@ ghost use Rattle.link_base.specs.Equality.{IsThorough};
 ghost use Rattle.link_base.specs.Buffer.{kind_field_of, payload_of};
 ghost use Rattle.link_base.specs.Storing.{Puts};
 ghost use Rattle.link_base.specs.Answers.{Answers, OnMemory, OverwritesFront, capped, under_kind};
+ghost use Rattle.link_base.specs.Checked.{Checks};
 
 use crate::buffer::NlaBuffer;
-use crate::fault::{DecodeError, of_kind};
+use crate::fault::{DecodeError, DecodeFault, of_kind};
 use crate::padding::total_size;
 use crate::place::Place;
 use std::alloc::Global;
@@ -170,6 +171,14 @@ pub trait Parseable: Meaning + Drop + Sized {
 
 /// An attribute of one attribute set. Parsing and writing agree, by the properties below.
 pub trait Attribute: Nla + Parseable + Eq {
+    /// Checks whether an attribute decodes. Nothing is decoded or allocated.
+    ///
+    /// # Errors
+    ///
+    /// The error of `parse`, if it is not `Memory`.
+    fn check(buffer: &NlaBuffer<'_>) -> Result<(), DecodeFault>
+        ensures { Checks (Gives Self.table (kind_field_of buffer.now) (payload_of buffer.now)) result };
+
     /// Checks whether an attribute is canonical: its `nla_type` and payload are what would be written for the value
     /// that they decode to. Nothing is decoded. Padding is checked with the list, by `list_is_canonical`.
     fn canonical(buffer: &NlaBuffer<'_>) -> bool

@@ -160,6 +160,7 @@ pub fn is_void(buffer: &NlaBuffer<'_>) -> bool
 
 /// Checks whether an attribute is canonical as the limits of a CAN controller: the payload is a canonical name field of
 /// 16 bytes and another 32 bytes.
+#[inline]
 pub fn is_limits(buffer: &NlaBuffer<'_>) -> bool
     ensures { IsTrue result ↔ IsCanonicalAs (One Limits) buffer.now }
 {
@@ -167,7 +168,9 @@ pub fn is_limits(buffer: &NlaBuffer<'_>) -> bool
     has_no_flag(buffer) && payload.len() == 48 && is_name_field(&payload[..16])
 }
 
-/// Checks whether a name field is canonical: a name of at most 15 bytes, then zeros. `field.len()` must be 16.
+/// Checks whether a name field is canonical: a name of at most 15 bytes, then zeros. `field.len()` must be 16. It takes
+/// a slice and is not inlined, so that its callers need no `NlaBuffer` in memory.
+#[inline(never)]
 fn is_name_field(field: &[u8]) -> bool
     requires { length field.now ≡ 16 }
     ensures { IsTrue result ↔ IsNameField field.now }

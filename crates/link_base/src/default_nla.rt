@@ -4,7 +4,7 @@ ghost use Rattle.std.specs.Prelude.{◌≡◌, ◌<◌, ◌^◌};
 
 use crate::attribute::{Attribute, Meaning, Nla, Parseable};
 use crate::buffer::NlaBuffer;
-use crate::fault::DecodeError;
+use crate::fault::{DecodeError, DecodeFault};
 use crate::octets::Octets;
 use crate::place::Place;
 use crate::try_clone::TryClone;
@@ -89,6 +89,11 @@ impl Attribute for DefaultNla {
     ghost use Rattle.std.specs.Prelude.{refl};
     ghost use Rattle.link_base.specs.DefaultLawful.{default_lawful};
     ghost use Rattle.link_base.specs.Equality.{defaults};
+
+    /// Succeeds: every payload is a value.
+    fn check(_frame: &NlaBuffer<'_>) -> Result<(), DecodeFault> {
+        Ok(())
+    }
 
     /// Returns true: every `nla_type` and every payload is written unchanged.
     fn canonical(_frame: &NlaBuffer<'_>) -> bool {

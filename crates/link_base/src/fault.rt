@@ -189,6 +189,25 @@ impl DecodeFault {
     }
 }
 
+/// The first error of a list, and the byte offset of its attribute: why a list does not decode.
+#[derive(Clone, Copy, Debug, PartialEq, Eq)]
+pub struct ListFault {
+    /// The byte offset of the attribute.
+    pub at: usize,
+    /// The error.
+    pub fault: DecodeFault,
+}
+
+impl ListFault {
+    /// Turns the error of a nested list into the error of the attribute of type `kind` that contains it. The offset is
+    /// dropped.
+    pub fn nested(self, kind: u16) -> DecodeFault
+        ensures { result ≡ nested_fault kind self.fault }
+    {
+        self.fault.nested(kind)
+    }
+}
+
 /// The first value of a list that does not fit: its written payload has more than 65531 bytes. `index` is zero-based.
 #[derive(Clone, Copy, Debug, PartialEq, Eq)]
 pub struct TooLong {

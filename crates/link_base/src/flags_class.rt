@@ -7,8 +7,9 @@ ghost use Rattle.link_base.specs.Table.{One, Single};
 
 use crate::buffer::NlaBuffer;
 use crate::canonical::{has_size, is_low};
-use crate::fault::DecodeError;
+use crate::fault::{DecodeError, DecodeFault};
 use crate::flag_laws::FlagSet;
+use crate::lengths::Lengths;
 use crate::payload_class::PayloadClass;
 use crate::scalars::{emit_low, emit_u32_pair, parse_low, parse_u32_pair};
 use crate::word::Word;
@@ -37,6 +38,11 @@ where
             Ok(bits) => Ok(F::from_bits_retain(bits)),
             Err(error) => Err(error),
         }
+    }
+
+    #[inline]
+    fn check(kind: u16, payload: &[u8]) -> Result<(), DecodeFault> {
+        Lengths::Exactly(F::Bits::WIDTH).check(kind, payload)
     }
 
     #[inline]
@@ -81,6 +87,11 @@ impl<F: FlagSet + Flags<Bits = u32> + Copy> PayloadClass for MaskedFlags<F> {
     }
 
     #[inline]
+    fn check(kind: u16, payload: &[u8]) -> Result<(), DecodeFault> {
+        Lengths::Exactly(8).check(kind, payload)
+    }
+
+    #[inline]
     fn size(_masked: &(F, F)) -> usize {
         8
     }
@@ -119,6 +130,11 @@ impl<F: FlagSet + Flags<Bits = u8> + Copy> PayloadClass for LowFlagBits<F> {
             Ok(low) => Ok(F::from_bits_retain(low)),
             Err(error) => Err(error),
         }
+    }
+
+    #[inline]
+    fn check(kind: u16, payload: &[u8]) -> Result<(), DecodeFault> {
+        Lengths::Exactly(2).check(kind, payload)
     }
 
     #[inline]

@@ -8,7 +8,9 @@ ghost use Rattle.link_base.specs.Table.{One, Single, Addresses, Listed, Nested, 
 use crate::address_list::{Address, addresses_len, emit_addresses, parse_address, read_addresses};
 use crate::buffer::NlaBuffer;
 use crate::canonical::{are_numbers, has_size, is_address_list, is_bytes, is_nested};
-use crate::fault::DecodeError;
+use crate::checking::{check_elements, check_nested};
+use crate::fault::{DecodeError, DecodeFault};
+use crate::lengths::{Lengths, check_numbers};
 use crate::nested::{NestedAttribute, emit_nested, nested_len, read_nested};
 use crate::number_lists::{emit_u16s, emit_u32s, parse_u16s, parse_u32s, u16s_len, u32s_len};
 use crate::payload_class::PayloadClass;
@@ -26,6 +28,11 @@ impl PayloadClass for Vec<u8> {
     #[inline]
     fn read(alloc: Global, _kind: u16, payload: &[u8]) -> Result<Vec<u8>, DecodeError> {
         Vec::from_slice(alloc, payload).map_err(DecodeError::Memory)
+    }
+
+    #[inline]
+    fn check(kind: u16, payload: &[u8]) -> Result<(), DecodeFault> {
+        Lengths::AtLeast(0).check(kind, payload)
     }
 
     #[inline]
@@ -62,6 +69,11 @@ impl PayloadClass for Vec<u16> {
     }
 
     #[inline]
+    fn check(kind: u16, payload: &[u8]) -> Result<(), DecodeFault> {
+        check_numbers(kind, payload, 2)
+    }
+
+    #[inline]
     fn size(numbers: &Vec<u16>) -> usize {
         u16s_len(numbers)
     }
@@ -93,6 +105,11 @@ impl PayloadClass for Vec<u32> {
     #[inline]
     fn read(alloc: Global, _kind: u16, payload: &[u8]) -> Result<Vec<u32>, DecodeError> {
         parse_u32s(alloc, payload)
+    }
+
+    #[inline]
+    fn check(kind: u16, payload: &[u8]) -> Result<(), DecodeFault> {
+        check_numbers(kind, payload, 4)
     }
 
     #[inline]
@@ -135,6 +152,11 @@ impl<A: Address + Eq + Drop> PayloadClass for OneAddress<A> {
     }
 
     #[inline]
+    fn check(kind: u16, payload: &[u8]) -> Result<(), DecodeFault> {
+        Lengths::Exactly(A::SIZE).check(kind, payload)
+    }
+
+    #[inline]
     fn size(_address: &A) -> usize {
         A::SIZE
     }
@@ -173,6 +195,11 @@ impl<A: Address + Eq + Drop> PayloadClass for AddressList<A> {
     }
 
     #[inline]
+    fn check(kind: u16, payload: &[u8]) -> Result<(), DecodeFault> {
+        check_elements(kind, payload)
+    }
+
+    #[inline]
     fn size(addresses: &Vec<A>) -> usize {
         addresses_len(addresses)
     }
@@ -208,6 +235,11 @@ impl<E: NestedAttribute + TryClone> PayloadClass for NestedList<E> {
     #[inline]
     fn read(alloc: Global, kind: u16, payload: &[u8]) -> Result<Vec<E>, DecodeError> {
         read_nested(alloc, kind, payload)
+    }
+
+    #[inline]
+    fn check(kind: u16, payload: &[u8]) -> Result<(), DecodeFault> {
+        check_nested::<E>(kind, payload)
     }
 
     #[inline]

@@ -6,7 +6,8 @@ ghost use Rattle.link_base.specs.Named.{numbers_of, seen_value};
 
 use crate::buffer::NlaBuffer;
 use crate::canonical::has_size;
-use crate::fault::DecodeError;
+use crate::fault::{DecodeError, DecodeFault};
+use crate::lengths::Lengths;
 use crate::named::NamedNumber;
 use crate::payload_class::PayloadClass;
 use crate::word::Word;
@@ -31,6 +32,11 @@ impl<T: NamedNumber> PayloadClass for Named<T> {
             Ok(number) => Ok(T::from(number)),
             Err(error) => Err(error),
         }
+    }
+
+    #[inline]
+    fn check(kind: u16, payload: &[u8]) -> Result<(), DecodeFault> {
+        Lengths::Exactly(T::Number::WIDTH).check(kind, payload)
     }
 
     #[inline]

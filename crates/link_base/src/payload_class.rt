@@ -10,9 +10,10 @@ ghost use Rattle.link_base.specs.Table.{content_payload, shape_flag};
 ghost use Rattle.link_base.specs.Held.{ContentInRange};
 ghost use Rattle.link_base.specs.Buffer.{IsCanonicalAs};
 ghost use Rattle.link_base.specs.Answers.{Answers, OnMemory, capped, under_kind};
+ghost use Rattle.link_base.specs.Checked.{Checks};
 
 use crate::buffer::NlaBuffer;
-use crate::fault::DecodeError;
+use crate::fault::{DecodeError, DecodeFault};
 use std::alloc::{AllocError, Global};
 
 /// What the payloads of an attribute type are: a class of the tables, with the type of its values.
@@ -36,6 +37,14 @@ pub trait PayloadClass {
         ensures answer { Answers (λ value. Case kind (Self.content value)) (under_kind kind result)
             (ShapeGives Self.shape kind payload.now) }
         ensures memory { OnMemory result (ShapeTakesMemory Self.shape) };
+
+    /// Checks whether the payload of an attribute of type `kind` decodes. Nothing is decoded or allocated.
+    ///
+    /// # Errors
+    ///
+    /// Those of `read`, except `Memory`; the error for a malformed payload has the attribute type (`Value`).
+    fn check(kind: u16, payload: &[u8]) -> Result<(), DecodeFault>
+        ensures { Checks (ShapeGives Self.shape kind payload.now) result };
 
     /// Returns the length of the written payload in bytes; saturates at `usize::MAX`.
     fn size(value: &Self::Value) -> usize

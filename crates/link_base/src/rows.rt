@@ -1,17 +1,18 @@
 //! One row of an attribute set: what the functions of the set do for one attribute type. The macro `by_rows!` calls
 //! these functions for each row.
 
-ghost use Rattle.std.specs.Prelude.{◌≡◌, ◌≤◌, ◌<◌, Some, IsTrue, IfOk, OnErr, length};
+ghost use Rattle.std.specs.Prelude.{◌≡◌, ◌≤◌, ◌<◌, None, Some, IsTrue, IfOk, OnErr, length};
 ghost use Rattle.link_base.specs.Frame.{kind_of, kind_limit};
 ghost use Rattle.link_base.specs.Table.{Case, Gives, TakesMemory, Fits, class_at, written_payload};
 ghost use Rattle.link_base.specs.Held.{IsInRange, HoldsMemory};
 ghost use Rattle.link_base.specs.Buffer.{kind_field_of, payload_of};
 ghost use Rattle.link_base.specs.Storing.{Puts};
 ghost use Rattle.link_base.specs.Answers.{OnMemory, under_kind};
+ghost use Rattle.link_base.specs.Checked.{Checks};
 
 use crate::attribute::Meaning;
 use crate::buffer::NlaBuffer;
-use crate::fault::DecodeError;
+use crate::fault::{DecodeError, DecodeFault};
 use crate::payload_class::PayloadClass;
 use crate::place::{Place, keep};
 use std::alloc::{AllocError, Global};
@@ -41,6 +42,32 @@ pub fn read_row<C: PayloadClass, F: Meaning + Drop, P: Place<F>, M: FnOnce(C::Va
     ensures memory { OnMemory result (TakesMemory F.table (kind_field_of buffer.now)) }
 {
     keep(place, C::read(alloc, kind, buffer.value()).map(variant))
+}
+
+/// Checks whether an attribute whose row has the class `C` decodes.
+///
+/// # Errors
+///
+/// As for `PayloadClass::check`.
+#[inline(always)]
+pub fn check_row<C: PayloadClass, F: Meaning>(
+    kind: u16,
+    buffer: &NlaBuffer<'_>,
+) -> Result<(), DecodeFault>
+    requires kind { kind_of (kind_field_of buffer.now) ≡ kind }
+    requires row { class_at F.table kind ≡ Some C.shape }
+    ensures { Checks (Gives F.table (kind_field_of buffer.now) (payload_of buffer.now)) result }
+{
+    C::check(kind, buffer.value())
+}
+
+/// Checks whether an attribute decodes whose type has no row: it does, whatever its payload is.
+#[inline(always)]
+pub fn check_other<F: Meaning>(_buffer: &NlaBuffer<'_>) -> Result<(), DecodeFault>
+    requires { class_at F.table (kind_of (kind_field_of _buffer.now)) ≡ None }
+    ensures { Checks (Gives F.table (kind_field_of _buffer.now) (payload_of _buffer.now)) result }
+{
+    Ok(())
 }
 
 /// Writes the payload of an attribute, whose row has the class `C`. `value` is what its variant holds.
@@ -128,6 +155,12 @@ macro_rules! by_rows {
                 $place,
                 <$crate::DefaultNla as $crate::Parseable>::parse($alloc, $buffer).map(Self::Other),
             ),
+        }
+    };
+    (check($buffer:expr) $($name:ident = $kind:literal $(| $flag:ident)?, $variant:ident $(($($field:ident),+))? $(: $class:ty)?;)*) => {
+        match $buffer.kind() {
+            $($kind => $crate::rows::check_row::<$crate::row_class!($($class)?), Self>($kind, $buffer),)*
+            _ => $crate::rows::check_other::<Self>($buffer),
         }
     };
     (canonical($buffer:expr) $($name:ident = $kind:literal $(| $flag:ident)?, $variant:ident $(($($field:ident),+))? $(: $class:ty)?;)*) => {

@@ -9,7 +9,8 @@ ghost use Rattle.link_base.specs.Protocol.{protocol_number};
 
 use crate::buffer::NlaBuffer;
 use crate::canonical::{has_size, is_protocol, is_truth, is_void};
-use crate::fault::DecodeError;
+use crate::fault::{DecodeError, DecodeFault};
+use crate::lengths::Lengths;
 use crate::payload_class::PayloadClass;
 use crate::scalars::{
     emit_i32, emit_mac, emit_u8, emit_u16_be, emit_u32_pair, parse_bool, parse_i32, parse_mac,
@@ -28,6 +29,11 @@ impl PayloadClass for bool {
     #[inline]
     fn read(_alloc: Global, _kind: u16, payload: &[u8]) -> Result<bool, DecodeError> {
         parse_bool(payload)
+    }
+
+    #[inline]
+    fn check(kind: u16, payload: &[u8]) -> Result<(), DecodeFault> {
+        Lengths::Exactly(1).check(kind, payload)
     }
 
     #[inline]
@@ -61,6 +67,11 @@ impl PayloadClass for i32 {
     #[inline]
     fn read(_alloc: Global, _kind: u16, payload: &[u8]) -> Result<i32, DecodeError> {
         parse_i32(payload)
+    }
+
+    #[inline]
+    fn check(kind: u16, payload: &[u8]) -> Result<(), DecodeFault> {
+        Lengths::Exactly(4).check(kind, payload)
     }
 
     #[inline]
@@ -100,6 +111,11 @@ impl PayloadClass for VlanProtocol {
     }
 
     #[inline]
+    fn check(kind: u16, payload: &[u8]) -> Result<(), DecodeFault> {
+        Lengths::Exactly(2).check(kind, payload)
+    }
+
+    #[inline]
     fn size(_value: &VlanProtocol) -> usize {
         2
     }
@@ -130,6 +146,11 @@ impl PayloadClass for [u8; 6] {
     #[inline]
     fn read(_alloc: Global, _kind: u16, payload: &[u8]) -> Result<[u8; 6], DecodeError> {
         parse_mac(payload)
+    }
+
+    #[inline]
+    fn check(kind: u16, payload: &[u8]) -> Result<(), DecodeFault> {
+        Lengths::Exactly(6).check(kind, payload)
     }
 
     #[inline]
@@ -166,6 +187,11 @@ impl PayloadClass for (u32, u32) {
     }
 
     #[inline]
+    fn check(kind: u16, payload: &[u8]) -> Result<(), DecodeFault> {
+        Lengths::Exactly(8).check(kind, payload)
+    }
+
+    #[inline]
     fn size(_pair: &(u32, u32)) -> usize {
         8
     }
@@ -197,6 +223,11 @@ impl PayloadClass for () {
     #[inline]
     fn read(_alloc: Global, _kind: u16, _payload: &[u8]) -> Result<(), DecodeError> {
         Ok(())
+    }
+
+    #[inline]
+    fn check(kind: u16, payload: &[u8]) -> Result<(), DecodeFault> {
+        Lengths::AtLeast(0).check(kind, payload)
     }
 
     #[inline]

@@ -5,10 +5,12 @@ ghost use Rattle.link_base.specs.Class.{Extent, Octets, Raw, accepted, size_of};
 ghost use Rattle.link_base.specs.Table.{One, Single};
 ghost use Rattle.link_base.specs.Held.{IsOctets};
 ghost use Rattle.link_base.specs.Answers.{payload_result};
+ghost use Rattle.link_base.specs.Checked.{extent_of};
 
 use crate::buffer::NlaBuffer;
 use crate::canonical::has_size;
-use crate::fault::DecodeError;
+use crate::fault::{DecodeError, DecodeFault};
+use crate::lengths::Lengths;
 use crate::payload_class::PayloadClass;
 use std::alloc::{AllocError, Global};
 use std::marker::PhantomData;
@@ -24,9 +26,9 @@ pub trait PayloadStruct: Copy + Eq + Drop {
     /// The bytes of a value, in the order in which they are written.
     ghost octets: { Self → List ℕ };
 
-    /// Returns the number of bytes that are kept of a payload.
-    fn kept_len() -> usize
-        ensures { result ≡ size_of extent };
+    /// Returns the lengths of payloads that are accepted.
+    fn lengths() -> Lengths
+        ensures { extent_of result ≡ extent };
 
     /// Parses a payload.
     ///
@@ -66,6 +68,11 @@ impl<S: PayloadStruct> PayloadClass for Struct<S> {
     }
 
     #[inline]
+    fn check(kind: u16, payload: &[u8]) -> Result<(), DecodeFault> {
+        S::lengths().check(kind, payload)
+    }
+
+    #[inline]
     fn size(value: &S) -> usize {
         value.payload_len()
     }
@@ -77,7 +84,7 @@ impl<S: PayloadStruct> PayloadClass for Struct<S> {
 
     #[inline]
     fn is_canonical(buffer: &NlaBuffer<'_>, _flag: u16) -> bool {
-        has_size(buffer, S::kept_len())
+        has_size(buffer, S::lengths().kept())
     }
 
     #[inline]

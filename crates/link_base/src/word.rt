@@ -8,7 +8,8 @@ ghost use Rattle.link_base.specs.Answers.{read_as, payload_result, OverwritesFro
 
 use crate::buffer::NlaBuffer;
 use crate::canonical::has_size;
-use crate::fault::DecodeError;
+use crate::fault::{DecodeError, DecodeFault};
+use crate::lengths::Lengths;
 use crate::payload_class::PayloadClass;
 use crate::scalars::{
     emit_u8, emit_u16, emit_u32, emit_u64, parse_u8, parse_u16, parse_u32, parse_u64,
@@ -145,6 +146,11 @@ impl<W: Word> PayloadClass for W {
     #[inline]
     fn read(_alloc: Global, _kind: u16, payload: &[u8]) -> Result<W, DecodeError> {
         W::parse(payload)
+    }
+
+    #[inline]
+    fn check(kind: u16, payload: &[u8]) -> Result<(), DecodeFault> {
+        Lengths::Exactly(W::WIDTH).check(kind, payload)
     }
 
     #[inline]

@@ -21,8 +21,8 @@ pub use arp_validate::BondArpValidate;
 pub use fail_over_mac::BondFailOverMac;
 pub use lacp_rate::BondLacpRate;
 use link_base::{
-    AddressList, Attribute, DecodeError, DefaultNla, Meaning, Named, NestedList, Nla, NlaBuffer,
-    Parseable, Place, TryClone,
+    AddressList, Attribute, DecodeError, DecodeFault, DefaultNla, Meaning, Named, NestedList, Nla,
+    NlaBuffer, Parseable, Place, TryClone,
 };
 pub use mode::BondMode;
 pub use primary_reselect::BondPrimaryReselect;
@@ -210,6 +210,10 @@ impl Attribute for InfoBond {
     ghost use Rattle.link_bond.specs.contracts.bond.ad_select.BondAdSelectNamedNumber.TheImpl.Laws as selections;
     ghost use Rattle.link_bond.specs.contracts.bond.ad_info.BondAdInfoAttribute.TheImpl.Laws as infos;
     ghost use Rattle.link_bond.specs.contracts.bond.InfoBond.{enum};
+
+    fn check(buffer: &NlaBuffer<'_>) -> Result<(), DecodeFault> {
+        rows!(check(buffer))
+    }
 
     fn canonical(buffer: &NlaBuffer<'_>) -> bool {
         rows!(canonical(buffer))

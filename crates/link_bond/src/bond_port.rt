@@ -10,8 +10,8 @@ mod port_state;
 pub use churn_state::ChurnState;
 pub use lacp_state::LacpState;
 use link_base::{
-    Attribute, DecodeError, DefaultNla, FlagBits, LowFlagBits, Meaning, Named, Nla, NlaBuffer,
-    Parseable, Place, TryClone,
+    Attribute, DecodeError, DecodeFault, DefaultNla, FlagBits, LowFlagBits, Meaning, Named, Nla,
+    NlaBuffer, Parseable, Place, TryClone,
 };
 pub use mii_status::MiiStatus;
 pub use port_state::BondPortState;
@@ -118,6 +118,10 @@ impl Attribute for InfoBondPort {
     ghost use Rattle.link_bond.specs.contracts.bond_port.churn_state.ChurnStateNamedNumber.TheImpl.Laws as churn_states;
     ghost use Rattle.link_bond.specs.contracts.bond_port.lacp_state.LacpStateFlagSet.TheImpl.Laws as flags;
     ghost use Rattle.link_bond.specs.contracts.bond_port.InfoBondPort.{enum};
+
+    fn check(buffer: &NlaBuffer<'_>) -> Result<(), DecodeFault> {
+        rows!(check(buffer))
+    }
 
     fn canonical(buffer: &NlaBuffer<'_>) -> bool {
         rows!(canonical(buffer))

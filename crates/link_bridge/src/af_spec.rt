@@ -14,8 +14,8 @@ mod vlan_info_flags;
 
 pub use flag::BridgeFlag;
 use link_base::{
-    Attribute, DecodeError, DefaultNla, ListError, Meaning, Named, NestedList, Nla, NlaBuffer,
-    Parseable, Place, Struct, TryClone, read_list,
+    Attribute, DecodeError, DecodeFault, DefaultNla, ListError, Meaning, Named, NestedList, Nla,
+    NlaBuffer, Parseable, Place, Struct, TryClone, read_list,
 };
 pub use mode::BridgeMode;
 use std::alloc::{AllocError, Global};
@@ -117,6 +117,10 @@ impl Attribute for AfSpecBridge {
     ghost use Rattle.link_bridge.specs.contracts.af_spec.mode.BridgeModeNamedNumber.TheImpl.Laws as modes;
     ghost use Rattle.link_bridge.specs.contracts.af_spec.tunnel.BridgeVlanTunnelInfoAttribute.TheImpl.Laws as tunnels;
     ghost use Rattle.link_bridge.specs.contracts.af_spec.AfSpecBridge.{enum};
+
+    fn check(buffer: &NlaBuffer<'_>) -> Result<(), DecodeFault> {
+        rows!(check(buffer))
+    }
 
     fn canonical(buffer: &NlaBuffer<'_>) -> bool {
         rows!(canonical(buffer))

@@ -9,8 +9,8 @@ mod stp_state;
 use crate::bridge_boolopt::BridgeBooleanOptions;
 pub use id::{BridgeId, BridgeIdBuffer};
 use link_base::{
-    Attribute, DecodeError, DefaultNla, Meaning, Named, NestedList, Nla, NlaBuffer, Parseable,
-    Place, Struct, TryClone, VlanProtocol,
+    Attribute, DecodeError, DecodeFault, DefaultNla, Meaning, Named, NestedList, Nla, NlaBuffer,
+    Parseable, Place, Struct, TryClone, VlanProtocol,
 };
 pub use querier::BridgeQuerierState;
 pub use router_type::BridgeMulticastRouterType;
@@ -252,6 +252,10 @@ impl Attribute for InfoBridge {
     ghost use Rattle.link_bridge.specs.contracts.bridge.router_type.BridgeMulticastRouterTypeNamedNumber.TheImpl.Laws as routers;
     ghost use Rattle.link_bridge.specs.contracts.bridge.querier.BridgeQuerierStateAttribute.TheImpl.Laws as queriers;
     ghost use Rattle.link_bridge.specs.contracts.bridge.InfoBridge.{enum};
+
+    fn check(buffer: &NlaBuffer<'_>) -> Result<(), DecodeFault> {
+        rows!(check(buffer))
+    }
 
     fn canonical(buffer: &NlaBuffer<'_>) -> bool {
         rows!(canonical(buffer))

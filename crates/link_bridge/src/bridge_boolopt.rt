@@ -9,7 +9,7 @@ mod flags;
 
 use bitflags::Flags;
 pub use flags::BridgeBooleanOptionFlags;
-use link_base::{DecodeError, Emitable, PayloadStruct, check_length, emit_u32s, u32s_at};
+use link_base::{DecodeError, Emitable, Lengths, PayloadStruct, check_length, emit_u32s, u32s_at};
 
 /// Length of the options as a payload, in bytes.
 const SIZE: usize = 8;
@@ -65,8 +65,8 @@ impl PayloadStruct for BridgeBooleanOptions {
     ghost octets = { options_octets };
 
     #[inline]
-    fn kept_len() -> usize {
-        SIZE
+    fn lengths() -> Lengths {
+        Lengths::Fixed(SIZE)
     }
 
     #[inline]

@@ -4,8 +4,8 @@ mod state;
 
 use crate::bridge::{BridgeId, BridgeMulticastRouterType};
 use link_base::{
-    Attribute, DecodeError, DefaultNla, Meaning, Named, Nla, NlaBuffer, Parseable, Place, Struct,
-    TryClone,
+    Attribute, DecodeError, DecodeFault, DefaultNla, Meaning, Named, Nla, NlaBuffer, Parseable,
+    Place, Struct, TryClone,
 };
 pub use state::BridgePortState;
 use std::alloc::{AllocError, Global};
@@ -229,6 +229,10 @@ impl Attribute for InfoBridgePort {
     ghost use Rattle.link_bridge.specs.contracts.bridge_port.state.BridgePortStateNamedNumber.TheImpl.Laws as states;
     ghost use Rattle.link_bridge.specs.contracts.bridge.router_type.BridgeMulticastRouterTypeNamedNumber.TheImpl.Laws as routers;
     ghost use Rattle.link_bridge.specs.contracts.bridge_port.InfoBridgePort.{enum};
+
+    fn check(buffer: &NlaBuffer<'_>) -> Result<(), DecodeFault> {
+        rows!(check(buffer))
+    }
 
     fn canonical(buffer: &NlaBuffer<'_>) -> bool {
         rows!(canonical(buffer))

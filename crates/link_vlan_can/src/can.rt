@@ -7,8 +7,8 @@ use crate::can_modes::CanCtrlModeExt;
 use crate::can_records::{CanBerrCounter, CanBitTiming, CanClock, CanCtrlMode};
 use crate::can_tdc::CanTdc;
 use link_base::{
-    Attribute, DecodeError, DefaultNla, Meaning, NestedList, Nla, NlaBuffer, Parseable, Place,
-    Struct, TryClone,
+    Attribute, DecodeError, DecodeFault, DefaultNla, Meaning, NestedList, Nla, NlaBuffer,
+    Parseable, Place, Struct, TryClone,
 };
 use std::alloc::{AllocError, Global};
 
@@ -133,6 +133,10 @@ impl Attribute for InfoCan {
     ghost use Rattle.link_vlan_can.specs.contracts.can_tdc.CanTdcAttribute.TheImpl.Laws as tdcs;
     ghost use Rattle.link_vlan_can.specs.contracts.can_modes.CanCtrlModeExtAttribute.TheImpl.Laws as exts;
     ghost use Rattle.link_vlan_can.specs.contracts.can.InfoCan.{enum};
+
+    fn check(buffer: &NlaBuffer<'_>) -> Result<(), DecodeFault> {
+        rows!(check(buffer))
+    }
 
     fn canonical(buffer: &NlaBuffer<'_>) -> bool {
         rows!(canonical(buffer))

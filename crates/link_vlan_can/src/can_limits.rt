@@ -9,7 +9,8 @@ ghost use Rattle.link_vlan_can.specs.CanLimits.{limits_view, limits_with, limits
 
 use bstr::ByteSlice;
 use link_base::{
-    DecodeError, NlaBuffer, PayloadClass, check_at_least, emit_u32s, is_limits, u32s_at,
+    DecodeError, DecodeFault, Lengths, NlaBuffer, PayloadClass, check_at_least, emit_u32s,
+    is_limits, u32s_at,
 };
 use std::alloc::{AllocError, Global};
 
@@ -161,6 +162,11 @@ impl PayloadClass for CanBitTimingConst {
 
     fn read(alloc: Global, _kind: u16, payload: &[u8]) -> Result<Self, DecodeError> {
         Self::parse(alloc, payload)
+    }
+
+    #[inline]
+    fn check(kind: u16, payload: &[u8]) -> Result<(), DecodeFault> {
+        Lengths::AtLeast(48).check(kind, payload)
     }
 
     #[inline]

@@ -6,8 +6,8 @@ ghost use Rattle.link_vlan_can.specs.Can.{mode_rows, mode_leaf};
 
 use crate::can_flags::CanCtrlModeFlags;
 use link_base::{
-    Attribute, DecodeError, DefaultNla, FlagBits, Meaning, NestedAttribute, Nla, NlaBuffer,
-    Parseable, Place, TryClone,
+    Attribute, DecodeError, DecodeFault, DefaultNla, FlagBits, Meaning, NestedAttribute, Nla,
+    NlaBuffer, Parseable, Place, TryClone,
 };
 use std::alloc::{AllocError, Global};
 
@@ -70,6 +70,10 @@ impl Attribute for CanCtrlModeExt {
     ghost use Rattle.link_base.specs.Equality.{of_cases, thorough_fields};
     ghost use Rattle.link_vlan_can.specs.contracts.can_flags.CanCtrlModeFlagsFlagSet.TheImpl.Laws as modes;
     ghost use Rattle.link_vlan_can.specs.contracts.can_modes.CanCtrlModeExt.{enum};
+
+    fn check(buffer: &NlaBuffer<'_>) -> Result<(), DecodeFault> {
+        rows!(check(buffer))
+    }
 
     fn canonical(buffer: &NlaBuffer<'_>) -> bool {
         rows!(canonical(buffer))

@@ -8,8 +8,8 @@ ghost use Rattle.link_vlan_can.specs.CanRecords.{clock_of, clock_octets, errors_
 use crate::can_flags::CanCtrlModeFlags;
 use bitflags::Flags;
 use link_base::{
-    DecodeError, PayloadStruct, check_at_least, check_length, emit_u16, emit_u32s, u16_at, u32_at,
-    u32s_at,
+    DecodeError, Lengths, PayloadStruct, check_at_least, check_length, emit_u16, emit_u32s, u16_at,
+    u32_at, u32s_at,
 };
 
 /// The bit timing of a CAN controller (`struct can_bittiming`, `include/uapi/linux/can/netlink.h`): eight `u32`s.
@@ -54,8 +54,8 @@ impl PayloadStruct for CanBitTiming {
     ghost octets = { timing_octets };
 
     #[inline]
-    fn kept_len() -> usize {
-        32
+    fn lengths() -> Lengths {
+        Lengths::AtLeast(32)
     }
 
     #[inline]
@@ -123,8 +123,8 @@ impl PayloadStruct for CanCtrlMode {
     ghost octets = { modes_octets };
 
     #[inline]
-    fn kept_len() -> usize {
-        8
+    fn lengths() -> Lengths {
+        Lengths::AtLeast(8)
     }
 
     #[inline]
@@ -171,8 +171,8 @@ impl PayloadStruct for CanClock {
     ghost octets = { clock_octets };
 
     #[inline]
-    fn kept_len() -> usize {
-        4
+    fn lengths() -> Lengths {
+        Lengths::Fixed(4)
     }
 
     #[inline]
@@ -211,8 +211,8 @@ impl PayloadStruct for CanBerrCounter {
     ghost octets = { errors_octets };
 
     #[inline]
-    fn kept_len() -> usize {
-        4
+    fn lengths() -> Lengths {
+        Lengths::AtLeast(4)
     }
 
     #[inline]

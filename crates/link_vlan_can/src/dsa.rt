@@ -3,7 +3,8 @@
 ghost use Rattle.link_vlan_can.specs.Dsa.{dsa_table, dsa_means};
 
 use link_base::{
-    Attribute, DecodeError, DefaultNla, Meaning, Nla, NlaBuffer, Parseable, Place, TryClone,
+    Attribute, DecodeError, DecodeFault, DefaultNla, Meaning, Nla, NlaBuffer, Parseable, Place,
+    TryClone,
 };
 use std::alloc::{AllocError, Global};
 
@@ -67,6 +68,10 @@ impl Attribute for InfoDsa {
     ghost use Rattle.link_base.proofs.TableLaws.{lawful};
     ghost use Rattle.link_base.specs.Equality.{of_cases, thorough_fields};
     ghost use Rattle.link_vlan_can.specs.contracts.dsa.InfoDsa.{enum};
+
+    fn check(buffer: &NlaBuffer<'_>) -> Result<(), DecodeFault> {
+        rows!(check(buffer))
+    }
 
     fn canonical(buffer: &NlaBuffer<'_>) -> bool {
         rows!(canonical(buffer))

@@ -7,8 +7,8 @@ ghost use Rattle.link_base.proofs.TableLaws.{lawful};
 ghost use Rattle.link_vlan_can.specs.Hsr.{hsr_protocols, hsr_protocol, hsr_protocol_seen, hsr_table, hsr_means};
 
 use link_base::{
-    Attribute, DecodeError, DefaultNla, Meaning, Named, NamedNumber, Nla, NlaBuffer, Parseable,
-    Place, TryClone,
+    Attribute, DecodeError, DecodeFault, DefaultNla, Meaning, Named, NamedNumber, Nla, NlaBuffer,
+    Parseable, Place, TryClone,
 };
 use std::alloc::{AllocError, Global};
 use std::fmt;
@@ -165,6 +165,10 @@ impl Parseable for InfoHsr {
 impl Attribute for InfoHsr {
     ghost use Rattle.link_vlan_can.specs.contracts.hsr.HsrProtocolNamedNumber.TheImpl.Laws as protocols;
     ghost use Rattle.link_vlan_can.specs.contracts.hsr.InfoHsr.{enum};
+
+    fn check(buffer: &NlaBuffer<'_>) -> Result<(), DecodeFault> {
+        rows!(check(buffer))
+    }
 
     fn canonical(buffer: &NlaBuffer<'_>) -> bool {
         rows!(canonical(buffer))

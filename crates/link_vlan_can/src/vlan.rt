@@ -8,8 +8,8 @@ ghost use Rattle.link_vlan_can.specs.Vlan.{mapping_rows, mapping_leaf, vlan_tabl
 
 use crate::vlan_flags::VlanFlags;
 use link_base::{
-    Attribute, DecodeError, DefaultNla, MaskedFlags, Meaning, NestedAttribute, NestedList, Nla,
-    NlaBuffer, Parseable, Place, TryClone, VlanProtocol,
+    Attribute, DecodeError, DecodeFault, DefaultNla, MaskedFlags, Meaning, NestedAttribute,
+    NestedList, Nla, NlaBuffer, Parseable, Place, TryClone, VlanProtocol,
 };
 use std::alloc::{AllocError, Global};
 
@@ -70,6 +70,10 @@ impl Parseable for VlanQosMapping {
 
 impl Attribute for VlanQosMapping {
     ghost use Rattle.link_vlan_can.specs.contracts.vlan.VlanQosMapping.{enum};
+
+    fn check(buffer: &NlaBuffer<'_>) -> Result<(), DecodeFault> {
+        mapping_rows!(check(buffer))
+    }
 
     fn canonical(buffer: &NlaBuffer<'_>) -> bool {
         mapping_rows!(canonical(buffer))
@@ -165,6 +169,10 @@ impl Attribute for InfoVlan {
     ghost use Rattle.link_vlan_can.specs.contracts.vlan.VlanQosMappingAttribute.TheImpl.Laws as mappings;
     ghost use Rattle.link_vlan_can.specs.VlanFlags.{masked};
     ghost use Rattle.link_vlan_can.specs.contracts.vlan.InfoVlan.{enum};
+
+    fn check(buffer: &NlaBuffer<'_>) -> Result<(), DecodeFault> {
+        rows!(check(buffer))
+    }
 
     fn canonical(buffer: &NlaBuffer<'_>) -> bool {
         rows!(canonical(buffer))

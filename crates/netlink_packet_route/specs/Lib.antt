@@ -15,6 +15,7 @@ pub use Rattle.link_base.specs.Lawful
 pub use Rattle.link_base.specs.Equality
 pub use Rattle.link_base.specs.Default
 pub use Rattle.link_base.specs.Answers
+pub use Rattle.link_base.specs.Checked
 pub use Rattle.link_base.specs.Storing
 pub use Rattle.link_base.specs.Rewritten
 pub use Rattle.link_base.specs.Buffer

@@ -3,6 +3,7 @@
 //! for lists, are in [`link`].
 #![tactic(auto)]
 
+mod checking;
 mod counting;
 mod family;
 pub mod hex_text;
@@ -14,6 +15,7 @@ mod rewriting;
 mod rewriting_streaming;
 mod rewriting_to_slice;
 
+pub use checking::check;
 pub use counting::count_values;
 pub use family::{Family, Holder};
 pub use judging::{first_not_canonical, is_canonical};

@@ -2,11 +2,11 @@
 
 pub use link_base::{
     Attribute, Cause, DecodeError, DecodeFault, DefaultNla, Emitable, FrameTable, ListError,
-    NLA_F_NESTED, NLA_F_NET_BYTEORDER, NLA_TYPE_MASK, Nla, NlaBuffer, NlasIterator, Parseable,
-    RewriteError, TryClone, VlanProtocol, WriteError, emit_i32, emit_list, emit_u16, emit_u16_be,
-    emit_u32, emit_u64, expand_buffer_if_small, laws, list_fits, list_is_canonical, list_len,
-    padded, parse_i32, parse_ip, parse_mac, parse_u8, parse_u16, parse_u16_be, parse_u32,
-    parse_u64, read_list, write_list,
+    ListFault, NLA_F_NESTED, NLA_F_NET_BYTEORDER, NLA_TYPE_MASK, Nla, NlaBuffer, NlasIterator,
+    Parseable, RewriteError, TryClone, VlanProtocol, WriteError, check_list, emit_i32, emit_list,
+    emit_u16, emit_u16_be, emit_u32, emit_u64, expand_buffer_if_small, laws, list_fits,
+    list_is_canonical, list_len, padded, parse_i32, parse_ip, parse_mac, parse_u8, parse_u16,
+    parse_u16_be, parse_u32, parse_u64, read_list, write_list,
 };
 pub use link_bond::{
     BondAdInfo, BondAdSelect, BondAllPortActive, BondArpAllTargets, BondArpValidate,

@@ -1,15 +1,20 @@
-//! Tests counting the values of a list, and the first error that is found instead.
+//! Tests counting the values of a list, and the first error that is found instead: by decoding, and by a check.
 
 use crate::tests::{bytes, holds};
-use netlink_packet_route::link::{Cause, DecodeFault, ListError};
-use netlink_packet_route::{Family, count_values};
+use netlink_packet_route::link::{Cause, DecodeFault, ListError, ListFault};
+use netlink_packet_route::{Family, check, count_values};
 use std::alloc::Global;
 use std::process::Abort;
 
 /// Asserts the number of values, or the error, of a list.
-fn has(rt: &impl Abort, alloc: Global, row: (Family, &str), wanted: Result<usize, ListError>) {
+fn has(rt: &impl Abort, alloc: Global, row: (Family, &str), wanted: Result<usize, ListFault>) {
     let (family, digits) = row;
     let list = bytes(rt, alloc, digits);
+    holds(rt, check(family, &list) == wanted, digits);
+    let wanted = match wanted {
+        Ok(count) => Ok(count),
+        Err(ListFault { at, fault }) => Err(ListError::Fault { at, fault }),
+    };
     holds(rt, count_values(alloc, family, &list) == wanted, digits);
 }
 
@@ -43,10 +48,10 @@ fn faults(rt: HostRuntime) {
         ("08000100 2a000000 00", 8, short),
         ("00", 0, short),
         ("08000100 2a000000 05000100 07000000", 8, length),
-        // an error in a payload precedes one in the framing of a later attribute
+        // an error in a payload precedes one in the header of a later attribute
         ("05000100 07000000 00", 0, length),
     ] {
-        let wanted = Err(ListError::Fault { at, fault });
+        let wanted = Err(ListFault { at, fault });
         has(&rt, rt.alloc(), (Family::Dsa, digits), wanted);
     }
 }

@@ -5,8 +5,8 @@ ghost use Rattle.link_base.specs.Lift.{lift, lift_table};
 ghost use Rattle.link_bond.specs.AdInfo.{ad_info_rows, ad_info_leaf};
 
 use link_base::{
-    Attribute, DecodeError, DefaultNla, Meaning, NestedAttribute, Nla, NlaBuffer, Parseable, Place,
-    TryClone,
+    Attribute, DecodeError, DecodeFault, DefaultNla, Meaning, NestedAttribute, Nla, NlaBuffer,
+    Parseable, Place, TryClone,
 };
 use std::alloc::{AllocError, Global};
 
@@ -81,6 +81,10 @@ impl Attribute for BondAdInfo {
     ghost use Rattle.link_base.proofs.TableLaws.{lawful};
     ghost use Rattle.link_base.specs.Equality.{of_cases, thorough_fields};
     ghost use Rattle.link_bond.specs.contracts.bond.ad_info.BondAdInfo.{enum};
+
+    fn check(buffer: &NlaBuffer<'_>) -> Result<(), DecodeFault> {
+        rows!(check(buffer))
+    }
 
     fn canonical(buffer: &NlaBuffer<'_>) -> bool {
         rows!(canonical(buffer))

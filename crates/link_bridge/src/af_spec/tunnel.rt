@@ -6,8 +6,8 @@ ghost use Rattle.link_bridge.specs.TunnelInfo.{tunnel_rows, tunnel_leaf};
 
 use crate::af_spec::vlan_info_flags::BridgeVlanInfoFlags;
 use link_base::{
-    Attribute, DecodeError, DefaultNla, FlagBits, Meaning, NestedAttribute, Nla, NlaBuffer,
-    Parseable, Place, TryClone,
+    Attribute, DecodeError, DecodeFault, DefaultNla, FlagBits, Meaning, NestedAttribute, Nla,
+    NlaBuffer, Parseable, Place, TryClone,
 };
 use std::alloc::{AllocError, Global};
 
@@ -77,6 +77,10 @@ impl Attribute for BridgeVlanTunnelInfo {
     ghost use Rattle.link_base.specs.Equality.{of_cases, thorough_fields};
     ghost use Rattle.link_bridge.specs.contracts.af_spec.vlan_info_flags.BridgeVlanInfoFlagsFlagSet.TheImpl.Laws as flags;
     ghost use Rattle.link_bridge.specs.contracts.af_spec.tunnel.BridgeVlanTunnelInfo.{enum};
+
+    fn check(buffer: &NlaBuffer<'_>) -> Result<(), DecodeFault> {
+        rows!(check(buffer))
+    }
 
     fn canonical(buffer: &NlaBuffer<'_>) -> bool {
         rows!(canonical(buffer))

@@ -2,7 +2,7 @@
 
 use crate::af_spec::vlan_info_flags::BridgeVlanInfoFlags;
 use bitflags::Flags;
-use link_base::{DecodeError, PayloadStruct, check_exactly, u16_at};
+use link_base::{DecodeError, Lengths, PayloadStruct, check_exactly, u16_at};
 
 /// A VLAN of a bridge or bridge port, or one end of a range of VLANs (`struct bridge_vlan_info`,
 /// `include/uapi/linux/if_bridge.h`): two `u16`s.
@@ -70,8 +70,8 @@ impl PayloadStruct for BridgeVlanInfo {
     ghost octets = { vlan_info_octets };
 
     #[inline]
-    fn kept_len() -> usize {
-        BridgeVlanInfo::LENGTH
+    fn lengths() -> Lengths {
+        Lengths::Exactly(BridgeVlanInfo::LENGTH)
     }
 
     #[inline]

@@ -5,7 +5,9 @@ ghost use Rattle.link_base.specs.Class.{accepted, AtLeast};
 ghost use Rattle.link_base.specs.Answers.{payload_result};
 ghost use Rattle.link_bridge.specs.Id.{id_of, id_octets};
 
-use link_base::{DecodeError, Emitable, PayloadStruct, check_at_least, emit_mac, emit_u16_be};
+use link_base::{
+    DecodeError, Emitable, Lengths, PayloadStruct, check_at_least, emit_mac, emit_u16_be,
+};
 
 /// Length of a bridge ID as a payload, in bytes.
 const SIZE: usize = 8;
@@ -63,8 +65,8 @@ impl PayloadStruct for BridgeId {
     ghost octets = { id_octets };
 
     #[inline]
-    fn kept_len() -> usize {
-        SIZE
+    fn lengths() -> Lengths {
+        Lengths::AtLeast(SIZE)
     }
 
     #[inline]

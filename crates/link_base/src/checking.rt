@@ -1,0 +1,69 @@
+//! Checks whether lists decode, by their bytes: nothing is decoded, and nothing is allocated.
+
+ghost use Rattle.std.specs.Prelude.{ℕ};
+ghost use Rattle.link_base.specs.Table.{Gives, Nested, Addresses, ShapeGives};
+ghost use Rattle.link_base.specs.Checked.{Checks, ListChecks};
+
+use crate::attribute::Attribute;
+use crate::buffer::NlaBuffer;
+use crate::default_nla::DefaultNla;
+use crate::fault::{DecodeFault, ListFault};
+use crate::nested::NestedAttribute;
+
+/// Checks whether a list decodes, and returns the number of its attributes.
+///
+/// # Errors
+///
+/// The first error in the list and the byte offset of its attribute, as `read_list` returns it.
+pub fn check_list<F: Attribute>(bytes: &[u8]) -> Result<usize, ListFault>
+    ensures { ListChecks (Gives F.table) bytes.now result }
+{
+    let mut rest = bytes;
+    let mut count = 0usize;
+    while !rest.is_empty() {
+        let (frame, after) = match NlaBuffer::split_first(rest) {
+            Ok(first) => first,
+            Err(cause) => {
+                let at = bytes.len() - rest.len();
+                let fault = DecodeFault::Frame(cause);
+                return Err(ListFault { at, fault });
+            }
+        };
+        if let Err(fault) = F::check(&frame) {
+            let at = bytes.len() - rest.len();
+            return Err(ListFault { at, fault });
+        }
+        count += 1;
+        rest = after;
+    }
+    Ok(count)
+}
+
+/// Checks whether the payload of an attribute of type `kind` decodes as a nested list.
+///
+/// # Errors
+///
+/// `NestedFrame` if the header of an element is malformed, `NestedValue` if its payload is.
+pub(crate) fn check_nested<E: NestedAttribute>(kind: u16, payload: &[u8]) -> Result<(), DecodeFault>
+    ensures { Checks (ShapeGives (Nested E.flagged E.rows) kind payload.now) result }
+{
+    match check_list::<E>(payload) {
+        Ok(_) => Ok(()),
+        Err(error) => Err(error.nested(kind)),
+    }
+}
+
+/// Checks whether the payload of an attribute of type `kind` consists of whole elements, whatever their payloads are:
+/// whether it decodes as a list of addresses.
+///
+/// # Errors
+///
+/// `NestedFrame` if the header of an element is malformed.
+pub(crate) fn check_elements(kind: u16, payload: &[u8]) -> Result<(), DecodeFault>
+    ensures { (n : ℕ) → Checks (ShapeGives (Addresses n) kind payload.now) result }
+{
+    match check_list::<DefaultNla>(payload) {
+        Ok(_) => Ok(()),
+        Err(error) => Err(error.nested(kind)),
+    }
+}

@@ -1,0 +1,21 @@
+//! Checks whether a list decodes.
+
+ghost use Rattle.link_base.specs.Table.{Gives};
+ghost use Rattle.link_base.specs.Checked.{ListChecks};
+ghost use Rattle.netlink_packet_route.specs.Family.{table_of};
+
+use crate::by_family;
+use crate::family::Family;
+use link_base::{ListFault, check_list};
+
+/// Checks whether `bytes` is a list of `family`, and returns the number of its attributes. Builds no values and does not
+/// allocate.
+///
+/// # Errors
+///
+/// The first error in the list and the byte offset of its attribute, as `read_list` returns it.
+pub fn check(family: Family, bytes: &[u8]) -> Result<usize, ListFault>
+    ensures { ListChecks (Gives (table_of family)) bytes.now result }
+{
+    by_family!(family, check_list(bytes))
+}
