@@ -10,8 +10,8 @@ use Rattle.link_vlan_can.specs.declared.hsr.InfoHsr.{InfoHsr}
 use Rattle.link_vlan_can.specs.declared.hsr.InfoHsr.TheVariants.{Port1, Port2, MulticastSpec, SupervisionAddr, SeqNr, Version, Protocol, Interlink, Other}
 
 -- HSR_PROTOCOL_HSR and HSR_PROTOCOL_PRP; any other number is `Other`. No name is parsed
-abbrev pub hsr_protocols : Naming HsrProtocol
-hsr_protocols = record {
+abbrev pub hsr_protocol_names : Naming HsrProtocol
+hsr_protocol_names = record {
   labels = label protocols.Hsr (codes "hsr") 0 ∷ label protocols.Prp (codes "prp") 1 ∷ [];
   further = [];
   other = protocols.Other;
@@ -20,16 +20,16 @@ hsr_protocols = record {
 }
 
 -- the number of a protocol: `Listed` for a named variant, `Free` for `Other`
-abbrev pub hsr_protocol : HsrProtocol → Seen
-hsr_protocol protocols.Hsr = Listed 0
-hsr_protocol protocols.Prp = Listed 1
-hsr_protocol (protocols.Other d) = Free d
+abbrev pub hsr_protocol_seen : HsrProtocol → Seen
+hsr_protocol_seen protocols.Hsr = Listed 0
+hsr_protocol_seen protocols.Prp = Listed 1
+hsr_protocol_seen (protocols.Other d) = Free d
 
 -- every value is a named variant or `Other`
-pub hsr_protocol_seen : (p : HsrProtocol) → IsSeen hsr_protocols p (hsr_protocol p)
-hsr_protocol_seen protocols.Hsr = (refl, refl)
-hsr_protocol_seen protocols.Prp = (refl, refl)
-hsr_protocol_seen (protocols.Other d) = refl
+pub hsr_protocol_cases : (p : HsrProtocol) → IsSeen hsr_protocol_names p (hsr_protocol_seen p)
+hsr_protocol_cases protocols.Hsr = (refl, refl)
+hsr_protocol_cases protocols.Prp = (refl, refl)
+hsr_protocol_cases (protocols.Other d) = refl
 
 -- one row for each attribute type
 abbrev pub hsr_table : Table
@@ -40,7 +40,7 @@ hsr_table =
     row 4 "IFLA_HSR_SUPERVISION_ADDR" mac ∷
     row 5 "IFLA_HSR_SEQ_NR" u16 ∷
     row 6 "IFLA_HSR_VERSION" u8 ∷
-    row 7 "IFLA_HSR_PROTOCOL" (Named 1 (numbers_of hsr_protocols)) ∷
+    row 7 "IFLA_HSR_PROTOCOL" (Named 1 (numbers_of hsr_protocol_names)) ∷
     row 8 "IFLA_HSR_INTERLINK" u32 ∷ []
 
 -- the attribute that a value represents
@@ -51,6 +51,6 @@ hsr_means (MulticastSpec octet) = Case 3 (Single (Number 1 octet))
 hsr_means (SupervisionAddr address) = Case 4 (Single (Raw address))
 hsr_means (SeqNr number) = Case 5 (Single (Number 2 number))
 hsr_means (Version version) = Case 6 (Single (Number 1 version))
-hsr_means (Protocol p) = Case 7 (Single (seen_value 1 (numbers_of hsr_protocols) (hsr_protocol p)))
+hsr_means (Protocol p) = Case 7 (Single (seen_value 1 (numbers_of hsr_protocol_names) (hsr_protocol_seen p)))
 hsr_means (Interlink index) = Case 8 (Single (Number 4 index))
 hsr_means (Other other) = default_means other

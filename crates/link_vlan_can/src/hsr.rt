@@ -4,7 +4,8 @@ ghost use Rattle.std.specs.Prelude.{refl, ◌≡◌, Some};
 ghost use Rattle.link_base.specs.Named.{value_of, number_of, displayed};
 ghost use Rattle.link_base.specs.Equality.{of_cases, thorough_fields};
 ghost use Rattle.link_base.proofs.TableLaws.{lawful};
-ghost use Rattle.link_vlan_can.specs.Hsr.{hsr_protocols, hsr_protocol, hsr_protocol_seen, hsr_table, hsr_means};
+ghost use Rattle.link_vlan_can.specs.Hsr.{hsr_protocol_names, hsr_protocol_seen, hsr_protocol_cases};
+ghost use Rattle.link_vlan_can.specs.Hsr.{hsr_table, hsr_means};
 
 use link_base::{
     Attribute, DecodeError, DecodeFault, DefaultNla, Meaning, Named, NamedNumber, Nla, NlaBuffer,
@@ -39,15 +40,15 @@ impl NamedNumber for HsrProtocol {
 
     type Number = u8;
 
-    ghost names = { hsr_protocols };
+    ghost names = { hsr_protocol_names };
 
-    ghost seen = { hsr_protocol };
+    ghost seen = { hsr_protocol_seen };
 
     ghost cases_hold = { (refl, (refl, tt)) };
 
     ghost other_holds = { λ _. refl };
 
-    ghost no_more = { hsr_protocol_seen };
+    ghost no_more = { hsr_protocol_cases };
 
     ghost well_named = { refl };
 
@@ -60,7 +61,7 @@ impl NamedNumber for HsrProtocol {
 
 /// Converts a number to its variant, or to `Other` if the number has no name.
 impl From<u8> for HsrProtocol {
-    ghost from_gives = { λ d p. p ≡ value_of hsr_protocols d };
+    ghost from_gives = { λ d p. p ≡ value_of hsr_protocol_names d };
 
     fn from(number: u8) -> Self {
         names!(of_number(number))
@@ -69,7 +70,7 @@ impl From<u8> for HsrProtocol {
 
 /// Converts a variant to its number.
 impl From<HsrProtocol> for u8 {
-    ghost from_gives = { λ p d. d ≡ number_of (hsr_protocol p) };
+    ghost from_gives = { λ p d. d ≡ number_of (hsr_protocol_seen p) };
 
     fn from(protocol: HsrProtocol) -> u8 {
         names!(number(HsrProtocol, protocol))
@@ -78,7 +79,7 @@ impl From<HsrProtocol> for u8 {
 
 /// Writes the variant's name, such as `hsr`, or the number in decimal for `Other`.
 impl fmt::Display for HsrProtocol {
-    ghost output = { λ p. Some (displayed hsr_protocols (hsr_protocol p)) };
+    ghost output = { λ p. Some (displayed hsr_protocol_names (hsr_protocol_seen p)) };
 
     fn fmt<W: fmt::Write>(&self, f: &mut fmt::Formatter<W>) -> fmt::Result {
         names!(display(self, f))
