@@ -1,17 +1,16 @@
 -- Checks: a length that is accepted or rejected; a list that is checked one attribute at a time; lists in payloads.
-use Rattle.std.proofs.Common.{◌≡◌, ◌≢◌, ℕ, ◌+◌, ◌-◌, ◌%◌, Bool, List, [], ◌∷◌, ◌++◌, length, map, Option, None, Some, Result, Ok, Err, refl, sym, ap, ap₂, subst, ◌∙◌, inl, inr}
+use Rattle.std.proofs.Common.{◌≡◌, ℕ, ◌%◌, Bool, List, [], ◌∷◌, length, map, None, Some, Ok, Err, refl, sym, ap, ◌∙◌, inl, inr}
 use Rattle.std.specs.List.{AllZip, AllByRecursion}
 use Rattle.link_base.specs.declared.fault.Cause.{Cause}
 use Rattle.link_base.specs.declared.fault.DecodeFault.{DecodeFault}
 use Rattle.link_base.specs.declared.fault.DecodeFault.TheVariants as faults
-use Rattle.link_base.specs.declared.fault.ListError.TheVariants as list_errors
 use Rattle.link_base.specs.Class.{Extent, Multiple, Class, Value, length_cause, unless, extent, meant}
 use Rattle.link_base.specs.Frame.{Frame}
-use Rattle.link_base.specs.Wire.{Reading, Wire, FirstFault, FaultsHere, FrameGives}
-use Rattle.link_base.specs.Table.{Rows, Leaf, Case, Other, Single, Inner, Listed, Table, AttrValue, Gives, LeafGives, ListGives, PayloadGives, Shape, One, Addresses, ShapeGives, single_case, nested_fault, of_length}
-use Rattle.link_base.specs.Lift.{lift, lift_table}
+use Rattle.link_base.specs.Wire.{Wire, FirstFault, FaultsHere, FrameGives}
+use Rattle.link_base.specs.Table.{Rows, Case, Single, Inner, Listed, Table, AttrValue, Gives, LeafGives, ListGives, PayloadGives, One, Addresses, ShapeGives, single_case, nested_fault, of_length}
+use Rattle.link_base.specs.Lift.{lift_table}
 use Rattle.link_base.specs.Default.{default_table}
-use Rattle.link_base.proofs.Lifted.{nested_values, nested_fails, leaves_of}
+use Rattle.link_base.proofs.Lifted.{nested_values, leaves_of}
 
 -- ---- one payload
 

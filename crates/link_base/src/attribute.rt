@@ -171,11 +171,11 @@ pub trait Parseable: Meaning + Drop + Sized {
 
 /// An attribute of one attribute set. Parsing and writing agree, by the properties below.
 pub trait Attribute: Nla + Parseable + Eq {
-    /// Checks whether an attribute decodes. Nothing is decoded or allocated.
+    /// Checks whether an attribute decodes. Builds no value and does not allocate.
     ///
     /// # Errors
     ///
-    /// The error of `parse`, if it is not `Memory`.
+    /// `Value`, `NestedFrame` or `NestedValue`: the error that `parse` returns unless an allocation fails.
     fn check(buffer: &NlaBuffer<'_>) -> Result<(), DecodeFault>
         ensures { Checks (Gives Self.table (kind_field_of buffer.now) (payload_of buffer.now)) result };
 

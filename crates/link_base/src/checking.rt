@@ -1,4 +1,4 @@
-//! Checks whether lists decode, by their bytes: nothing is decoded, and nothing is allocated.
+//! Checks whether lists decode, by their bytes: no value is built, and nothing is allocated.
 
 ghost use Rattle.std.specs.Prelude.{ℕ};
 ghost use Rattle.link_base.specs.Table.{Gives, Nested, Addresses, ShapeGives};
@@ -14,7 +14,8 @@ use crate::nested::NestedAttribute;
 ///
 /// # Errors
 ///
-/// The first error in the list and the byte offset of its attribute, as `read_list` returns it.
+/// The error and the offset that `read_list` returns in `ListError::Fault`. For an error in a nested list, the offset is
+/// that of the attribute that holds the list.
 pub fn check_list<F: Attribute>(bytes: &[u8]) -> Result<usize, ListFault>
     ensures { ListChecks (Gives F.table) bytes.now result }
 {

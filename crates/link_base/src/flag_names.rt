@@ -1,7 +1,8 @@
 //! The list of a set's flags, with their names.
 
-/// The flags of a set, each a constant of the set under its own name, for `Flags::flags`. `SET(BITS): NAME, ..` adds an
-/// unnamed flag with these bits: with all bits, every bit is known.
+/// Makes an array of a set's flags, for `Flags::flags`. `SET: NAME, ..` has each constant `SET::NAME` under its own name.
+/// `SET(BITS): NAME, ..` adds an unnamed flag with these bits: with all bits, every bit is known. `SET` must be a tuple
+/// struct of its bits, and the crate must depend on `bitflags`.
 #[macro_export]
 macro_rules! named_flags {
     ($set:ident: $($name:ident),*) => {

@@ -17,7 +17,7 @@ use bitflags::Flags;
 use std::alloc::{AllocError, Global};
 use std::marker::PhantomData;
 
-/// The class of payloads that are a set of flags.
+/// The class of payloads that are a set of flags, as a little-endian number of the width of its bits.
 pub struct FlagBits<F> {
     of: PhantomData<F>,
 }

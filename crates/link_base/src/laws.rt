@@ -12,6 +12,7 @@ ghost use Rattle.link_base.specs.declared.frame_table.FrameTable.{FrameTable};
 ghost use Rattle.link_base.specs.declared.iterator.NlasIterator.{NlasIterator};
 ghost use Rattle.link_base.specs.declared.fault.DecodeError.{DecodeError};
 ghost use Rattle.link_base.specs.declared.fault.ListError.{ListError};
+ghost use Rattle.link_base.specs.declared.fault.ListFault.{ListFault};
 ghost use Rattle.link_base.specs.declared.fault.WriteError.{WriteError};
 ghost use Rattle.link_base.specs.declared.fault.TooLong.{TooLong};
 ghost use Rattle.link_base.specs.declared.fault.RewriteError.{RewriteError};
@@ -30,7 +31,9 @@ ghost use Rattle.link_base.specs.FrameTableParts.{walked_bytes, offsets_of, faul
 
 use crate::attribute::Attribute;
 use crate::buffer::NlaBuffer;
-use crate::fault::{Cause, DecodeError, DecodeFault, ListError, RewriteError, TooLong, WriteError};
+use crate::fault::{
+    Cause, DecodeError, DecodeFault, ListError, ListFault, RewriteError, TooLong, WriteError,
+};
 use crate::frame_table::FrameTable;
 use crate::iterator::NlasIterator;
 
@@ -94,10 +97,11 @@ pub fn equality<F: Attribute>()
         → IsTrue (F.PartialEq.eq a c) }
 {}
 
-/// Two values of `Cause`, or of `DecodeFault`, are equal if and only if they are identical.
+/// Two values of `Cause`, of `DecodeFault`, or of `ListFault` are equal if and only if they are identical.
 pub fn fault_equality()
     ensures cause { (a b : Cause) → IsTrue (⟦<Cause as PartialEq>⟧.eq a b) ↔ (a ≡ b) }
     ensures fault { (a b : DecodeFault) → IsTrue (⟦<DecodeFault as PartialEq>⟧.eq a b) ↔ (a ≡ b) }
+    ensures list { (a b : ListFault) → IsTrue (⟦<ListFault as PartialEq>⟧.eq a b) ↔ (a ≡ b) }
 {}
 
 /// Two errors of a payload, of a list, of writing, or of re-encoding are equal if and only if they are identical.

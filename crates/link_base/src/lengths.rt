@@ -1,6 +1,6 @@
 //! The lengths of payloads.
 
-ghost use Rattle.std.specs.Prelude.{◌≡◌, ◌<◌, ℕ, List, length};
+ghost use Rattle.std.specs.Prelude.{◌≡◌, ◌<◌, ℕ, List};
 ghost use Rattle.link_base.specs.Class.{Exactly, AtLeast, size_of, length_cause};
 ghost use Rattle.link_base.specs.Class.{Unsigned, Signed, Truth, Octets, Bytes, Many, Named, Protocol, Low, Empty, Limits};
 ghost use Rattle.link_base.specs.Table.{One, ShapeGives};
@@ -13,7 +13,7 @@ use crate::fault::{Cause, DecodeFault};
 pub enum Lengths {
     /// Exactly this many. Any other length is a `WrongLength`.
     Exactly(usize),
-    /// At least this many, otherwise `TooShort`. The additional bytes are ignored.
+    /// At least this many; fewer are `TooShort`. Structs ignore the additional bytes.
     AtLeast(usize),
     /// Exactly this many. Fewer are `TooShort`, and more a `WrongLength`.
     Fixed(usize),
@@ -22,7 +22,7 @@ pub enum Lengths {
 impl Lengths {
     ghost use Rattle.link_base.specs.Checked.{extent_of};
 
-    /// Returns the number of bytes that are kept of a payload.
+    /// Returns the number of bytes that a struct keeps of a payload.
     #[inline]
     pub fn kept(self) -> usize
         ensures { result ≡ size_of (extent_of self) }

@@ -10,7 +10,7 @@ use crate::word::Word;
 /// An enum with a variant for each name, and a variant `Other` for every other number. The trait has no methods, only
 /// laws; numbers are converted by `From` and `Into`.
 pub trait NamedNumber: Copy + Eq + Drop + From<Self::Number> + Into<Self::Number> {
-    /// The type of the numbers.
+    /// The type of the numbers: `u8`, `u16`, `u32` or `u64`.
     type Number: Word;
 
     /// The variants, their `Display` output and their numbers, and additional strings that are accepted.

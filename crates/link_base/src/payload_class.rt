@@ -38,11 +38,11 @@ pub trait PayloadClass {
             (ShapeGives Self.shape kind payload.now) }
         ensures memory { OnMemory result (ShapeTakesMemory Self.shape) };
 
-    /// Checks whether the payload of an attribute of type `kind` decodes. Nothing is decoded or allocated.
+    /// Checks whether the payload of an attribute of type `kind` decodes. Builds no value and does not allocate.
     ///
     /// # Errors
     ///
-    /// Those of `read`, except `Memory`; the error for a malformed payload has the attribute type (`Value`).
+    /// Those of `read` except `Memory`, with the attribute type: `Value` in place of `Payload`.
     fn check(kind: u16, payload: &[u8]) -> Result<(), DecodeFault>
         ensures { Checks (ShapeGives Self.shape kind payload.now) result };
 

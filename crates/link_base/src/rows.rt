@@ -1,7 +1,7 @@
 //! One row of an attribute set: what the functions of the set do for one attribute type. The macro `by_rows!` calls
 //! these functions for each row.
 
-ghost use Rattle.std.specs.Prelude.{◌≡◌, ◌≤◌, ◌<◌, None, Some, IsTrue, IfOk, OnErr, length};
+ghost use Rattle.std.specs.Prelude.{◌≡◌, ◌<◌, None, Some, IsTrue, IfOk, OnErr, length};
 ghost use Rattle.link_base.specs.Frame.{kind_of, kind_limit};
 ghost use Rattle.link_base.specs.Table.{Case, Gives, TakesMemory, Fits, class_at, written_payload};
 ghost use Rattle.link_base.specs.Held.{IsInRange, HoldsMemory};
@@ -121,7 +121,10 @@ pub fn clone_row<C: PayloadClass, F: Meaning + PartialEq, M: FnOnce(C::Value) ->
 /// `NAME = TYPE, VARIANT: CLASS;`, with the kernel's name of the attribute type, its number, the variant that holds its
 /// value, and the class of its payloads (`PayloadClass`). `TYPE | NLA_F_NESTED` is a number that is written with the
 /// nested flag. The row of a variant with several fields names them, `VARIANT(FIELD, FIELD): CLASS`: the values of the class
-/// are tuples. The row of a variant without a field has no class, `NAME = TYPE, VARIANT;`: it stands for the class `()`.
+/// are tuples, and the fields must be `Copy`. The row of a variant without a field has no class, `NAME = TYPE, VARIANT;`: it stands for the class `()`.
+///
+/// The calls are `kind(self)`, `size(self)`, `emit(self, buffer)`, `read(alloc, buffer, place)`, `check(buffer)`,
+/// `canonical(buffer)` and `clone(self, alloc)`.
 #[macro_export]
 macro_rules! by_rows {
     (kind($self:expr) $($name:ident = $kind:literal $(| $flag:ident)?, $variant:ident $(($($field:ident),+))? $(: $class:ty)?;)*) => {
@@ -205,7 +208,7 @@ macro_rules! row_pattern {
     };
 }
 
-/// A reference to the value that `row_pattern` binds.
+/// A reference to the value of a row: what `row_pattern` binds, a tuple of its fields, or `()`.
 #[macro_export]
 macro_rules! row_value {
     ($variant:ident, $value:ident, $class:ty) => {

@@ -174,6 +174,7 @@ impl PayloadClass for [u8; 6] {
     }
 }
 
+/// Two consecutive little-endian `u32`s: 8 bytes.
 impl PayloadClass for (u32, u32) {
     type Value = (u32, u32);
 

@@ -17,7 +17,7 @@ use std::marker::PhantomData;
 
 /// A fixed-layout struct that is the payload of an attribute.
 pub trait PayloadStruct: Copy + Eq + Drop {
-    /// The lengths of payloads that are accepted.
+    /// The lengths of payloads that are accepted; not `Multiple`.
     ghost extent: { Extent };
 
     /// The value of an accepted payload, field by field.

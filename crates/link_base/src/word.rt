@@ -44,7 +44,7 @@ pub trait Word: Bits + Eq + Drop {
         ensures written { OverwritesFront buffer.old buffer.new (bytes_of Self.WIDTH (Self.value self)) }
         ensures in_range { Self.value self < bound Self.WIDTH };
 
-    /// The number of a set of flags with these bits.
+    /// As the bits of a set of flags, a value is the same number.
     ghost by_bits: { (bits : Self) → value bits ≡ Self.Bits.pattern bits };
 }
 

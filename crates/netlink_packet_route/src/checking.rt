@@ -9,11 +9,12 @@ use crate::family::Family;
 use link_base::{ListFault, check_list};
 
 /// Checks whether `bytes` is a list of `family`, and returns the number of its attributes. Builds no values and does not
-/// allocate.
+/// allocate. [`is_canonical`](crate::is_canonical) checks for canonical form.
 ///
 /// # Errors
 ///
-/// The first error in the list and the byte offset of its attribute, as `read_list` returns it.
+/// The error and the offset that `read_list` returns in `ListError::Fault`. For an error in a nested list, the offset is
+/// that of the attribute that holds the list.
 pub fn check(family: Family, bytes: &[u8]) -> Result<usize, ListFault>
     ensures { ListChecks (Gives (table_of family)) bytes.now result }
 {

@@ -1,4 +1,4 @@
-//! Tests counting the values of a list, and the first error that is found instead: by decoding, and by a check.
+//! Tests that `count_values` and `check` return the number of values of a list, or its first error.
 
 use crate::tests::{bytes, holds};
 use netlink_packet_route::link::{Cause, DecodeFault, ListError, ListFault};

@@ -34,6 +34,7 @@ impl LacpState {
     pub const EXPIRED: LacpState = LacpState(0x80);
 }
 
+/// The named flags; together they have every bit.
 const FLAGS: [Flag<LacpState>; 8] = link_base::named_flags!(LacpState:
     LACP_ACTIVITY, LACP_TIMEOUT, AGGREGATION, SYNCHRONIZATION, COLLECTING, DISTRIBUTING, DEFAULTED,
     EXPIRED

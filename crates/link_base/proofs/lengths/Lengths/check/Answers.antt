@@ -1,4 +1,4 @@
-use Rattle.std.proofs.Common.{◌≡◌, ℕ, List, length, None, Some, refl}
+use Rattle.std.proofs.Common.{◌≡◌, length, None, Some, refl}
 use Rattle.link_base.specs.Class.{length_cause, Unsigned, Signed, Truth, Octets, Bytes, Named, Protocol, Low, Empty, Limits}
 use Rattle.link_base.specs.Checked.{extent_of}
 use Rattle.link_base.proofs.Checks.{accepted_by, rejected_by}
