@@ -65,7 +65,7 @@ BUDGETS = {
     "docs/ASSURANCE.md": 1200,
     "docs/CALLING.md": 1500,
     "docs/CLAIMS.md": 2600,
-    "docs/DECISIONS.md": 6100,
+    "docs/DECISIONS.md": 6200,
     "docs/DIFFERENCES.md": 3000,
     "docs/MESSAGES.md": 2500,
     "docs/MODEL.md": 4500,

@@ -4,7 +4,7 @@ use Rattle.std.specs.List.{AllZip, AllByRecursion}
 use Rattle.link_base.specs.declared.fault.Cause.{Cause}
 use Rattle.link_base.specs.declared.fault.DecodeFault.{DecodeFault}
 use Rattle.link_base.specs.declared.fault.DecodeFault.TheVariants as faults
-use Rattle.link_base.specs.Class.{Extent, Multiple, Class, Value, length_cause, unless, extent, meant}
+use Rattle.link_base.specs.Class.{Extent, Multiple, Class, length_cause, unless, extent, meant}
 use Rattle.link_base.specs.Frame.{Frame}
 use Rattle.link_base.specs.Wire.{Wire, FirstFault, FaultsHere, FrameGives}
 use Rattle.link_base.specs.Table.{Rows, Case, Single, Inner, Listed, Table, AttrValue, Gives, LeafGives, ListGives, PayloadGives, One, Addresses, ShapeGives, single_case, nested_fault, of_length}

@@ -32,3 +32,5 @@ pub mod Naming
 pub mod NamedPayloads
 pub mod FlagLemmas
 pub mod Layouts
+pub mod Views
+pub mod Elements

@@ -18,7 +18,7 @@ use Rattle.link_base.proofs.Emit.{length-whole_bytes}
 
 -- ---- rows
 
-abbrev lift_option : Option Class → Option Shape
+abbrev pub lift_option : Option Class → Option Shape
 lift_option None = None
 lift_option (Some c) = Some (One c)
 
@@ -26,7 +26,7 @@ choose : (b : Bool) (c : Class) (o : Option Class) → cond b (Some (One c)) (li
 choose true c o = refl
 choose false c o = refl
 
-class_at-lift : (rows : Rows) (k : ℕ) → class_at (lift_table rows) k ≡ lift_option (class_at rows k)
+pub class_at-lift : (rows : Rows) (k : ℕ) → class_at (lift_table rows) k ≡ lift_option (class_at rows k)
 class_at-lift [] k = refl
 class_at-lift (r ∷ rows) k = ap (λ (o : Option Shape). cond (r.kind == k) (Some (One r.class)) o) (class_at-lift rows k) ∙ choose (r.kind == k) r.class (class_at rows k)
 
@@ -36,7 +36,7 @@ abbrev lift_result : Result Leaf DecodeFault → Result AttrValue DecodeFault
 lift_result (Ok v) = Ok (lift v)
 lift_result (Err c) = Err c
 
-leaf_is : (k : ℕ) (r : Result Value Cause) → single_case k r ≡ lift_result (leaf_case k r)
+pub leaf_is : (k : ℕ) (r : Result Value Cause) → single_case k r ≡ lift_result (leaf_case k r)
 leaf_is k (Ok v) = refl
 leaf_is k (Err c) = refl
 

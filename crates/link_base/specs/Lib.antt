@@ -23,7 +23,9 @@ pub mod IteratorItems
 pub mod FrameOffsets
 pub mod FrameTableParts
 pub mod Lift
+pub mod Borrowed
 pub mod Equality
 pub mod OneForm
 pub mod DefaultLawful
 pub mod Examples
+pub mod Viewed

@@ -6,11 +6,13 @@ ghost use Rattle.std.specs.List.{AllByRecursion};
 ghost use Rattle.link_base.specs.Frame.{frame_fault, spelled, max_payload};
 ghost use Rattle.link_base.specs.Table.{Case, Listed, Addresses, ShapeGives, addresses_from, of_length};
 ghost use Rattle.link_base.specs.Held.{IsOctets};
-ghost use Rattle.link_base.specs.Class.{accepted, Exactly};
+ghost use Rattle.link_base.specs.Class.{accepted, Exactly, Raw};
+ghost use Rattle.link_base.specs.Borrowed.{Says};
 ghost use Rattle.link_base.specs.Answers.{Answers, OnMemory, capped, payload_result, read_as};
 
 use crate::attribute::{Meaning, Nla};
 use crate::buffer::{NlaBuffer, cause_at_front};
+use crate::content::Content;
 use crate::fault::{Cause, DecodeError, DecodeFault};
 use crate::padding::total_size;
 use std::alloc::Global;
@@ -36,6 +38,11 @@ pub trait Address: Copy {
     fn from_payload(payload: &[u8]) -> Option<Self>
         ensures { MatchOption result (length payload.now ≢ SIZE)
             (λ a. (length payload.now ≡ SIZE) × (octets a ≡ payload.now)) };
+
+    /// Returns the address with these octets as a content. `payload.len()` must be `SIZE`.
+    fn borrow<'a>(payload: &'a [u8]) -> Content<'a>
+        requires { length payload.now ≡ SIZE }
+        ensures { Says result (Raw payload.now) };
 
     /// Writes the octets. `buffer` must be exactly `SIZE` bytes long.
     fn put(&self, buffer: &mut [u8])
@@ -64,6 +71,10 @@ impl Address for Ipv4Addr {
         }
     }
 
+    fn borrow<'a>(payload: &'a [u8]) -> Content<'a> {
+        Content::Ipv4(Ipv4Addr::from_payload(payload).unwrap())
+    }
+
     fn put(&self, buffer: &mut [u8]) {
         buffer.copy_from_slice(&self.octets());
     }
@@ -87,6 +98,10 @@ impl Address for Ipv6Addr {
             Ok(octets) => Some(Ipv6Addr::from_octets(octets)),
             Err(_) => None,
         }
+    }
+
+    fn borrow<'a>(payload: &'a [u8]) -> Content<'a> {
+        Content::Ipv6(Ipv6Addr::from_payload(payload).unwrap())
     }
 
     fn put(&self, buffer: &mut [u8]) {

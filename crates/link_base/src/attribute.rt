@@ -3,7 +3,7 @@
 ghost use Rattle.std.specs.Prelude.{◌≡◌, ◌≤◌, ◌+◌, ◌++◌, ◌↔◌, IsTrue, length, take, drop, replicate};
 ghost use Rattle.link_base.specs.Number.{bytes_of};
 ghost use Rattle.link_base.specs.Frame.{kind_of};
-ghost use Rattle.link_base.specs.Table.{Table, AttrValue, Gives, TakesMemory, Fits, Allows};
+ghost use Rattle.link_base.specs.Table.{Table, AttrValue, Gives, TakesMemory, Fits, Allows, class_at};
 ghost use Rattle.link_base.specs.Table.{written_kind, written_payload, written_frame};
 ghost use Rattle.link_base.specs.Held.{IsInRange};
 ghost use Rattle.link_base.specs.WellFormed.{is_table};
@@ -13,8 +13,10 @@ ghost use Rattle.link_base.specs.Buffer.{kind_field_of, payload_of};
 ghost use Rattle.link_base.specs.Storing.{Puts};
 ghost use Rattle.link_base.specs.Answers.{Answers, OnMemory, OverwritesFront, capped, under_kind};
 ghost use Rattle.link_base.specs.Checked.{Checks};
+ghost use Rattle.link_base.specs.Borrowed.{HasValue, Borrows, elements_at};
 
 use crate::buffer::NlaBuffer;
+use crate::content::Content;
 use crate::fault::{DecodeError, DecodeFault, of_kind};
 use crate::padding::total_size;
 use crate::place::Place;
@@ -178,6 +180,18 @@ pub trait Attribute: Nla + Parseable + Eq {
     /// `Value`, `NestedFrame` or `NestedValue`: the error that `parse` returns unless an allocation fails.
     fn check(buffer: &NlaBuffer<'_>) -> Result<(), DecodeFault>
         ensures { Checks (Gives Self.table (kind_field_of buffer.now) (payload_of buffer.now)) result };
+
+    /// Returns the content of an attribute, which must decode.
+    fn borrow<'a>(buffer: &NlaBuffer<'a>) -> Content<'a>
+        requires { HasValue Self.table (kind_field_of buffer.now) (payload_of buffer.now) }
+        ensures { Borrows (class_at Self.table (kind_of (kind_field_of buffer.now))) (payload_of buffer.now) result };
+
+    /// Returns the content of an attribute in a nested list, which must decode. `list` is the attribute type of the
+    /// nested list.
+    fn borrow_element<'a>(list: u16, element: &NlaBuffer<'a>) -> Content<'a>
+        requires { HasValue (elements_at Self.table list) (kind_field_of element.now) (payload_of element.now) }
+        ensures { Borrows (class_at (elements_at Self.table list) (kind_of (kind_field_of element.now)))
+            (payload_of element.now) result };
 
     /// Checks whether an attribute is canonical: its `nla_type` and payload are what would be written for the value
     /// that they decode to. Nothing is decoded. Padding is checked with the list, by `list_is_canonical`.

@@ -4,6 +4,7 @@ ghost use Rattle.std.specs.Prelude.{◌≡◌, ◌<◌, ◌^◌};
 
 use crate::attribute::{Attribute, Meaning, Nla, Parseable};
 use crate::buffer::NlaBuffer;
+use crate::content::Content;
 use crate::fault::{DecodeError, DecodeFault};
 use crate::octets::Octets;
 use crate::place::Place;
@@ -93,6 +94,16 @@ impl Attribute for DefaultNla {
     /// Succeeds: every payload is a value.
     fn check(_frame: &NlaBuffer<'_>) -> Result<(), DecodeFault> {
         Ok(())
+    }
+
+    /// Returns the payload.
+    fn borrow<'a>(buffer: &NlaBuffer<'a>) -> Content<'a> {
+        Content::Other(buffer.value())
+    }
+
+    /// Returns the payload.
+    fn borrow_element<'a>(_list: u16, element: &NlaBuffer<'a>) -> Content<'a> {
+        Content::Other(element.value())
     }
 
     /// Returns true: every `nla_type` and every payload is written unchanged.

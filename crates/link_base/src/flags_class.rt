@@ -1,16 +1,19 @@
 //! Sets of flags as payloads.
 
-ghost use Rattle.std.specs.Prelude.{[], ◌∷◌};
+ghost use Rattle.std.specs.Prelude.{refl, [], ◌∷◌};
 ghost use Rattle.link_base.specs.Class.{Unsigned, Octets, Exactly, Number, Raw, Low, LowByte};
 ghost use Rattle.link_base.specs.Layout.{octets_of};
 ghost use Rattle.link_base.specs.Table.{One, Single};
 
 use crate::buffer::NlaBuffer;
 use crate::canonical::{has_size, is_low};
+use crate::content::Content;
+use crate::default_nla::DefaultNla;
 use crate::fault::{DecodeError, DecodeFault};
 use crate::flag_laws::FlagSet;
 use crate::lengths::Lengths;
 use crate::payload_class::PayloadClass;
+use crate::records::u32_at;
 use crate::scalars::{emit_low, emit_u32_pair, parse_low, parse_u32_pair};
 use crate::word::Word;
 use bitflags::Flags;
@@ -28,9 +31,13 @@ where
 {
     type Value = F;
 
+    type Element = DefaultNla;
+
     ghost shape = { One (Unsigned F.Bits.WIDTH) };
 
     ghost content = { λ flags. Single (Number F.Bits.WIDTH (F.set_of flags)) };
+
+    fn elements() {}
 
     #[inline]
     fn read(_alloc: Global, _kind: u16, payload: &[u8]) -> Result<F, DecodeError> {
@@ -43,6 +50,14 @@ where
     #[inline]
     fn check(kind: u16, payload: &[u8]) -> Result<(), DecodeFault> {
         Lengths::Exactly(F::Bits::WIDTH).check(kind, payload)
+    }
+
+    #[inline]
+    fn borrow<'a>(payload: &'a [u8]) -> Content<'a> {
+        Content::Flags {
+            bits: F::Bits::load(payload),
+            width: F::Bits::WIDTH,
+        }
     }
 
     #[inline]
@@ -74,9 +89,13 @@ pub struct MaskedFlags<F> {
 impl<F: FlagSet + Flags<Bits = u32> + Copy> PayloadClass for MaskedFlags<F> {
     type Value = (F, F);
 
+    type Element = DefaultNla;
+
     ghost shape = { One (Octets (Exactly 8)) };
 
     ghost content = { λ masked. Single (Raw (octets_of 4 (F.set_of masked.0 ∷ F.set_of masked.1 ∷ []))) };
+
+    fn elements() {}
 
     #[inline]
     fn read(_alloc: Global, _kind: u16, payload: &[u8]) -> Result<(F, F), DecodeError> {
@@ -89,6 +108,14 @@ impl<F: FlagSet + Flags<Bits = u32> + Copy> PayloadClass for MaskedFlags<F> {
     #[inline]
     fn check(kind: u16, payload: &[u8]) -> Result<(), DecodeFault> {
         Lengths::Exactly(8).check(kind, payload)
+    }
+
+    #[inline]
+    fn borrow<'a>(payload: &'a [u8]) -> Content<'a> {
+        Content::MaskedFlags {
+            flags: u32_at(payload, 0),
+            mask: u32_at(payload, 4),
+        }
     }
 
     #[inline]
@@ -120,9 +147,13 @@ pub struct LowFlagBits<F> {
 impl<F: FlagSet + Flags<Bits = u8> + Copy> PayloadClass for LowFlagBits<F> {
     type Value = F;
 
+    type Element = DefaultNla;
+
     ghost shape = { One Low };
 
     ghost content = { λ flags. Single (LowByte (F.set_of flags)) };
+
+    fn elements() {}
 
     #[inline]
     fn read(_alloc: Global, _kind: u16, payload: &[u8]) -> Result<F, DecodeError> {
@@ -135,6 +166,11 @@ impl<F: FlagSet + Flags<Bits = u8> + Copy> PayloadClass for LowFlagBits<F> {
     #[inline]
     fn check(kind: u16, payload: &[u8]) -> Result<(), DecodeFault> {
         Lengths::Exactly(2).check(kind, payload)
+    }
+
+    #[inline]
+    fn borrow<'a>(payload: &'a [u8]) -> Content<'a> {
+        Content::LowFlags(payload[0])
     }
 
     #[inline]

@@ -3,10 +3,12 @@
 
 mod address_list;
 mod attribute;
+pub mod attribute_set;
 mod buffer;
 mod buffer_tool;
 mod canonical;
 mod checking;
+pub mod content;
 mod default_nla;
 mod emitable;
 pub mod examples;
@@ -37,6 +39,7 @@ mod scalar_classes;
 mod scalars;
 mod struct_class;
 mod try_clone;
+pub mod view;
 mod vlan_protocol;
 mod word;
 mod writing;

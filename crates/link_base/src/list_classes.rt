@@ -1,6 +1,6 @@
 //! Lists as payloads: bytes, arrays of numbers, IP addresses and lists of them, and nested lists.
 
-ghost use Rattle.std.specs.Prelude.{map};
+ghost use Rattle.std.specs.Prelude.{refl, map};
 ghost use Rattle.link_base.specs.Class.{Bytes, Many, Octets, Exactly, Raw};
 ghost use Rattle.link_base.specs.Layout.{octets_of};
 ghost use Rattle.link_base.specs.Table.{One, Single, Addresses, Listed, Nested, Inner};
@@ -9,6 +9,8 @@ use crate::address_list::{Address, addresses_len, emit_addresses, parse_address,
 use crate::buffer::NlaBuffer;
 use crate::canonical::{are_numbers, has_size, is_address_list, is_bytes, is_nested};
 use crate::checking::{check_elements, check_nested};
+use crate::content::Content;
+use crate::default_nla::DefaultNla;
 use crate::fault::{DecodeError, DecodeFault};
 use crate::lengths::{Lengths, check_numbers};
 use crate::nested::{NestedAttribute, emit_nested, nested_len, read_nested};
@@ -21,9 +23,13 @@ use std::marker::PhantomData;
 impl PayloadClass for Vec<u8> {
     type Value = Vec<u8>;
 
+    type Element = DefaultNla;
+
     ghost shape = { One Bytes };
 
     ghost content = { λ bytes. Single (Raw bytes.items) };
+
+    fn elements() {}
 
     #[inline]
     fn read(alloc: Global, _kind: u16, payload: &[u8]) -> Result<Vec<u8>, DecodeError> {
@@ -33,6 +39,11 @@ impl PayloadClass for Vec<u8> {
     #[inline]
     fn check(kind: u16, payload: &[u8]) -> Result<(), DecodeFault> {
         Lengths::AtLeast(0).check(kind, payload)
+    }
+
+    #[inline]
+    fn borrow<'a>(payload: &'a [u8]) -> Content<'a> {
+        Content::Bytes(payload)
     }
 
     #[inline]
@@ -59,9 +70,13 @@ impl PayloadClass for Vec<u8> {
 impl PayloadClass for Vec<u16> {
     type Value = Vec<u16>;
 
+    type Element = DefaultNla;
+
     ghost shape = { One (Many 2) };
 
     ghost content = { λ numbers. Single (Raw (octets_of 2 numbers.items)) };
+
+    fn elements() {}
 
     #[inline]
     fn read(alloc: Global, _kind: u16, payload: &[u8]) -> Result<Vec<u16>, DecodeError> {
@@ -71,6 +86,11 @@ impl PayloadClass for Vec<u16> {
     #[inline]
     fn check(kind: u16, payload: &[u8]) -> Result<(), DecodeFault> {
         check_numbers(kind, payload, 2)
+    }
+
+    #[inline]
+    fn borrow<'a>(payload: &'a [u8]) -> Content<'a> {
+        Content::U16s(payload)
     }
 
     #[inline]
@@ -98,9 +118,13 @@ impl PayloadClass for Vec<u16> {
 impl PayloadClass for Vec<u32> {
     type Value = Vec<u32>;
 
+    type Element = DefaultNla;
+
     ghost shape = { One (Many 4) };
 
     ghost content = { λ numbers. Single (Raw (octets_of 4 numbers.items)) };
+
+    fn elements() {}
 
     #[inline]
     fn read(alloc: Global, _kind: u16, payload: &[u8]) -> Result<Vec<u32>, DecodeError> {
@@ -110,6 +134,11 @@ impl PayloadClass for Vec<u32> {
     #[inline]
     fn check(kind: u16, payload: &[u8]) -> Result<(), DecodeFault> {
         check_numbers(kind, payload, 4)
+    }
+
+    #[inline]
+    fn borrow<'a>(payload: &'a [u8]) -> Content<'a> {
+        Content::U32s(payload)
     }
 
     #[inline]
@@ -142,9 +171,13 @@ pub struct OneAddress<A> {
 impl<A: Address + Eq + Drop> PayloadClass for OneAddress<A> {
     type Value = A;
 
+    type Element = DefaultNla;
+
     ghost shape = { One (Octets (Exactly A.SIZE)) };
 
     ghost content = { λ address. Single (Raw (A.octets address)) };
+
+    fn elements() {}
 
     #[inline]
     fn read(_alloc: Global, _kind: u16, payload: &[u8]) -> Result<A, DecodeError> {
@@ -154,6 +187,11 @@ impl<A: Address + Eq + Drop> PayloadClass for OneAddress<A> {
     #[inline]
     fn check(kind: u16, payload: &[u8]) -> Result<(), DecodeFault> {
         Lengths::Exactly(A::SIZE).check(kind, payload)
+    }
+
+    #[inline]
+    fn borrow<'a>(payload: &'a [u8]) -> Content<'a> {
+        A::borrow(payload)
     }
 
     #[inline]
@@ -185,9 +223,13 @@ pub struct AddressList<A> {
 impl<A: Address + Eq + Drop> PayloadClass for AddressList<A> {
     type Value = Vec<A>;
 
+    type Element = DefaultNla;
+
     ghost shape = { Addresses A.SIZE };
 
     ghost content = { λ addresses. Listed (map A.octets addresses.items) };
+
+    fn elements() {}
 
     #[inline]
     fn read(alloc: Global, kind: u16, payload: &[u8]) -> Result<Vec<A>, DecodeError> {
@@ -197,6 +239,14 @@ impl<A: Address + Eq + Drop> PayloadClass for AddressList<A> {
     #[inline]
     fn check(kind: u16, payload: &[u8]) -> Result<(), DecodeFault> {
         check_elements(kind, payload)
+    }
+
+    #[inline]
+    fn borrow<'a>(payload: &'a [u8]) -> Content<'a> {
+        Content::Addresses {
+            list: payload,
+            size: A::SIZE,
+        }
     }
 
     #[inline]
@@ -228,9 +278,13 @@ pub struct NestedList<E> {
 impl<E: NestedAttribute + TryClone> PayloadClass for NestedList<E> {
     type Value = Vec<E>;
 
+    type Element = E;
+
     ghost shape = { Nested E.flagged E.rows };
 
     ghost content = { λ values. Inner E.flagged (map E.leaf values.items) };
+
+    fn elements() {}
 
     #[inline]
     fn read(alloc: Global, kind: u16, payload: &[u8]) -> Result<Vec<E>, DecodeError> {
@@ -240,6 +294,11 @@ impl<E: NestedAttribute + TryClone> PayloadClass for NestedList<E> {
     #[inline]
     fn check(kind: u16, payload: &[u8]) -> Result<(), DecodeFault> {
         check_nested::<E>(kind, payload)
+    }
+
+    #[inline]
+    fn borrow<'a>(payload: &'a [u8]) -> Content<'a> {
+        Content::List(payload)
     }
 
     #[inline]

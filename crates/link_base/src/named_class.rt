@@ -1,11 +1,14 @@
 //! Enums for named numbers as payloads.
 
+ghost use Rattle.std.specs.Prelude.{refl};
 ghost use Rattle.link_base.specs.Class.{Named as NamedClass};
 ghost use Rattle.link_base.specs.Table.{One, Single};
 ghost use Rattle.link_base.specs.Named.{numbers_of, seen_value};
 
 use crate::buffer::NlaBuffer;
 use crate::canonical::has_size;
+use crate::content::Content;
+use crate::default_nla::DefaultNla;
 use crate::fault::{DecodeError, DecodeFault};
 use crate::lengths::Lengths;
 use crate::named::NamedNumber;
@@ -22,9 +25,13 @@ pub struct Named<T> {
 impl<T: NamedNumber> PayloadClass for Named<T> {
     type Value = T;
 
+    type Element = DefaultNla;
+
     ghost shape = { One (NamedClass T.Number.WIDTH (numbers_of T.names)) };
 
     ghost content = { λ value. Single (seen_value T.Number.WIDTH (numbers_of T.names) (T.seen value)) };
+
+    fn elements() {}
 
     #[inline]
     fn read(_alloc: Global, _kind: u16, payload: &[u8]) -> Result<T, DecodeError> {
@@ -37,6 +44,14 @@ impl<T: NamedNumber> PayloadClass for Named<T> {
     #[inline]
     fn check(kind: u16, payload: &[u8]) -> Result<(), DecodeFault> {
         Lengths::Exactly(T::Number::WIDTH).check(kind, payload)
+    }
+
+    #[inline]
+    fn borrow<'a>(payload: &'a [u8]) -> Content<'a> {
+        Content::Enum {
+            number: T::Number::load(payload),
+            width: T::Number::WIDTH,
+        }
     }
 
     #[inline]

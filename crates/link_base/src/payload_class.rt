@@ -3,7 +3,7 @@
 //! The rows of an attribute set name a class for each attribute type. Most classes are the type of their values:
 //! `u32` is the class of payloads that are one little-endian `u32`.
 
-ghost use Rattle.std.specs.Prelude.{◌≡◌, ◌≤◌, ◌↔◌, IsTrue, IfOk, OnErr, length};
+ghost use Rattle.std.specs.Prelude.{◌≡◌, ◌≤◌, ◌↔◌, IsTrue, IfOk, OnErr, Some, length};
 ghost use Rattle.link_base.specs.Frame.{max_payload};
 ghost use Rattle.link_base.specs.Table.{Shape, Content, Case, ShapeGives, ShapeTakesMemory};
 ghost use Rattle.link_base.specs.Table.{content_payload, shape_flag};
@@ -11,8 +11,11 @@ ghost use Rattle.link_base.specs.Held.{ContentInRange};
 ghost use Rattle.link_base.specs.Buffer.{IsCanonicalAs};
 ghost use Rattle.link_base.specs.Answers.{Answers, OnMemory, capped, under_kind};
 ghost use Rattle.link_base.specs.Checked.{Checks};
+ghost use Rattle.link_base.specs.Borrowed.{IsAccepted, Borrows, elements_by};
 
+use crate::attribute::Attribute;
 use crate::buffer::NlaBuffer;
+use crate::content::Content;
 use crate::fault::{DecodeError, DecodeFault};
 use std::alloc::{AllocError, Global};
 
@@ -21,11 +24,18 @@ pub trait PayloadClass {
     /// A decoded payload.
     type Value: PartialEq + Drop;
 
+    /// The attributes of a nested list. If the class is none, this is `DefaultNla`.
+    type Element: Attribute;
+
     /// The shape in the table.
     ghost shape: { Shape };
 
     /// The content that a value represents.
     ghost content: { Self.Value → Content };
+
+    /// `Element` has the table of the attributes in a nested list. The body is empty: the contract is the fact.
+    fn elements()
+        ensures { Self.Element.table ≡ elements_by (Some Self.shape) };
 
     /// Parses the payload of an attribute of type `kind`.
     ///
@@ -45,6 +55,11 @@ pub trait PayloadClass {
     /// Those of `read` except `Memory`, with the attribute type: `Value` in place of `Payload`.
     fn check(kind: u16, payload: &[u8]) -> Result<(), DecodeFault>
         ensures { Checks (ShapeGives Self.shape kind payload.now) result };
+
+    /// Returns the content of a payload, which must decode. It borrows the payload, and copies at most 16 bytes.
+    fn borrow<'a>(payload: &'a [u8]) -> Content<'a>
+        requires { IsAccepted Self.shape payload.now }
+        ensures { Borrows (Some Self.shape) payload.now result };
 
     /// Returns the length of the written payload in bytes; saturates at `usize::MAX`.
     fn size(value: &Self::Value) -> usize

@@ -9,9 +9,11 @@ ghost use Rattle.link_base.specs.Buffer.{kind_field_of, payload_of};
 ghost use Rattle.link_base.specs.Storing.{Puts};
 ghost use Rattle.link_base.specs.Answers.{OnMemory, under_kind};
 ghost use Rattle.link_base.specs.Checked.{Checks};
+ghost use Rattle.link_base.specs.Borrowed.{HasValue, Borrows, elements_at};
 
-use crate::attribute::Meaning;
+use crate::attribute::{Attribute, Meaning};
 use crate::buffer::NlaBuffer;
+use crate::content::Content;
 use crate::fault::{DecodeError, DecodeFault};
 use crate::payload_class::PayloadClass;
 use crate::place::{Place, keep};
@@ -70,6 +72,52 @@ pub fn check_other<F: Meaning>(_buffer: &NlaBuffer<'_>) -> Result<(), DecodeFaul
     Ok(())
 }
 
+/// Returns the content of an attribute whose row has the class `C`. The attribute must decode.
+#[inline(always)]
+pub fn borrow_row<'a, C: PayloadClass, F: Meaning>(kind: u16, buffer: &NlaBuffer<'a>) -> Content<'a>
+    requires kind { kind_of (kind_field_of buffer.now) ≡ kind }
+    requires row { class_at F.table kind ≡ Some C.shape }
+    requires decodes { HasValue F.table (kind_field_of buffer.now) (payload_of buffer.now) }
+    ensures { Borrows (class_at F.table (kind_of (kind_field_of buffer.now))) (payload_of buffer.now) result }
+{
+    C::borrow(buffer.value())
+}
+
+/// Returns the content of an attribute whose type has no row: its payload.
+#[inline(always)]
+pub fn borrow_other<'a, F: Meaning>(buffer: &NlaBuffer<'a>) -> Content<'a>
+    requires { class_at F.table (kind_of (kind_field_of buffer.now)) ≡ None }
+    ensures { Borrows (class_at F.table (kind_of (kind_field_of buffer.now))) (payload_of buffer.now) result }
+{
+    Content::Other(buffer.value())
+}
+
+/// Returns the content of an attribute in a payload of the attribute type `list`, whose row has the class `C`. The
+/// attribute must decode.
+#[inline(always)]
+pub fn borrow_element_row<'a, C: PayloadClass, F: Meaning>(
+    list: u16,
+    element: &NlaBuffer<'a>,
+) -> Content<'a>
+    requires row { class_at F.table list ≡ Some C.shape }
+    requires decodes { HasValue (elements_at F.table list) (kind_field_of element.now) (payload_of element.now) }
+    ensures { Borrows (class_at (elements_at F.table list) (kind_of (kind_field_of element.now)))
+        (payload_of element.now) result }
+{
+    C::elements();
+    <C::Element as Attribute>::borrow(element)
+}
+
+/// Returns the content of an attribute in a payload of the attribute type `list`, which has no row: its payload.
+#[inline(always)]
+pub fn borrow_element_other<'a, F: Meaning>(list: u16, element: &NlaBuffer<'a>) -> Content<'a>
+    requires { class_at F.table list ≡ None }
+    ensures { Borrows (class_at (elements_at F.table list) (kind_of (kind_field_of element.now)))
+        (payload_of element.now) result }
+{
+    Content::Other(element.value())
+}
+
 /// Writes the payload of an attribute, whose row has the class `C`. `value` is what its variant holds.
 #[inline(always)]
 pub fn emit_row<C: PayloadClass, F: Meaning>(
@@ -124,7 +172,7 @@ pub fn clone_row<C: PayloadClass, F: Meaning + PartialEq, M: FnOnce(C::Value) ->
 /// are tuples, and the fields must be `Copy`. The row of a variant without a field has no class, `NAME = TYPE, VARIANT;`: it stands for the class `()`.
 ///
 /// The calls are `kind(self)`, `size(self)`, `emit(self, buffer)`, `read(alloc, buffer, place)`, `check(buffer)`,
-/// `canonical(buffer)` and `clone(self, alloc)`.
+/// `borrow(buffer)`, `borrow_element(list, buffer)`, `canonical(buffer)` and `clone(self, alloc)`.
 #[macro_export]
 macro_rules! by_rows {
     (kind($self:expr) $($name:ident = $kind:literal $(| $flag:ident)?, $variant:ident $(($($field:ident),+))? $(: $class:ty)?;)*) => {
@@ -164,6 +212,18 @@ macro_rules! by_rows {
         match $buffer.kind() {
             $($kind => $crate::rows::check_row::<$crate::row_class!($($class)?), Self>($kind, $buffer),)*
             _ => $crate::rows::check_other::<Self>($buffer),
+        }
+    };
+    (borrow($buffer:expr) $($name:ident = $kind:literal $(| $flag:ident)?, $variant:ident $(($($field:ident),+))? $(: $class:ty)?;)*) => {
+        match $buffer.kind() {
+            $($kind => $crate::rows::borrow_row::<$crate::row_class!($($class)?), Self>($kind, $buffer),)*
+            _ => $crate::rows::borrow_other::<Self>($buffer),
+        }
+    };
+    (borrow_element($list:expr, $element:expr) $($name:ident = $kind:literal $(| $flag:ident)?, $variant:ident $(($($field:ident),+))? $(: $class:ty)?;)*) => {
+        match $list {
+            $($kind => $crate::rows::borrow_element_row::<$crate::row_class!($($class)?), Self>($kind, $element),)*
+            _ => $crate::rows::borrow_element_other::<Self>($list, $element),
         }
     };
     (canonical($buffer:expr) $($name:ident = $kind:literal $(| $flag:ident)?, $variant:ident $(($($field:ident),+))? $(: $class:ty)?;)*) => {

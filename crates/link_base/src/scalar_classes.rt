@@ -1,6 +1,6 @@
 //! Booleans, signed numbers, VLAN protocols, hardware addresses, pairs of numbers, and no value, as payloads.
 
-ghost use Rattle.std.specs.Prelude.{[], ◌∷◌};
+ghost use Rattle.std.specs.Prelude.{refl, [], ◌∷◌};
 ghost use Rattle.link_base.specs.Class.{Truth, Signed, Protocol, Octets, Exactly, Empty};
 ghost use Rattle.link_base.specs.Class.{Boolean, Integer, EtherType, Raw, Nothing};
 ghost use Rattle.link_base.specs.Layout.{octets_of};
@@ -9,9 +9,12 @@ ghost use Rattle.link_base.specs.Protocol.{protocol_number};
 
 use crate::buffer::NlaBuffer;
 use crate::canonical::{has_size, is_protocol, is_truth, is_void};
+use crate::content::Content;
+use crate::default_nla::DefaultNla;
 use crate::fault::{DecodeError, DecodeFault};
 use crate::lengths::Lengths;
 use crate::payload_class::PayloadClass;
+use crate::records::u32_at;
 use crate::scalars::{
     emit_i32, emit_mac, emit_u8, emit_u16_be, emit_u32_pair, parse_bool, parse_i32, parse_mac,
     parse_u16_be, parse_u32_pair,
@@ -22,9 +25,13 @@ use std::alloc::{AllocError, Global};
 impl PayloadClass for bool {
     type Value = bool;
 
+    type Element = DefaultNla;
+
     ghost shape = { One Truth };
 
     ghost content = { λ value. Single (Boolean value) };
+
+    fn elements() {}
 
     #[inline]
     fn read(_alloc: Global, _kind: u16, payload: &[u8]) -> Result<bool, DecodeError> {
@@ -34,6 +41,11 @@ impl PayloadClass for bool {
     #[inline]
     fn check(kind: u16, payload: &[u8]) -> Result<(), DecodeFault> {
         Lengths::Exactly(1).check(kind, payload)
+    }
+
+    #[inline]
+    fn borrow<'a>(payload: &'a [u8]) -> Content<'a> {
+        Content::Bool(payload[0] != 0)
     }
 
     #[inline]
@@ -60,9 +72,13 @@ impl PayloadClass for bool {
 impl PayloadClass for i32 {
     type Value = i32;
 
+    type Element = DefaultNla;
+
     ghost shape = { One Signed };
 
     ghost content = { λ value. Single (Integer value) };
+
+    fn elements() {}
 
     #[inline]
     fn read(_alloc: Global, _kind: u16, payload: &[u8]) -> Result<i32, DecodeError> {
@@ -72,6 +88,11 @@ impl PayloadClass for i32 {
     #[inline]
     fn check(kind: u16, payload: &[u8]) -> Result<(), DecodeFault> {
         Lengths::Exactly(4).check(kind, payload)
+    }
+
+    #[inline]
+    fn borrow<'a>(payload: &'a [u8]) -> Content<'a> {
+        Content::Signed(i32::from_le_bytes([payload[0], payload[1], payload[2], payload[3]]))
     }
 
     #[inline]
@@ -98,9 +119,13 @@ impl PayloadClass for i32 {
 impl PayloadClass for VlanProtocol {
     type Value = VlanProtocol;
 
+    type Element = DefaultNla;
+
     ghost shape = { One Protocol };
 
     ghost content = { λ value. Single (EtherType (protocol_number value)) };
+
+    fn elements() {}
 
     #[inline]
     fn read(_alloc: Global, _kind: u16, payload: &[u8]) -> Result<VlanProtocol, DecodeError> {
@@ -113,6 +138,12 @@ impl PayloadClass for VlanProtocol {
     #[inline]
     fn check(kind: u16, payload: &[u8]) -> Result<(), DecodeFault> {
         Lengths::Exactly(2).check(kind, payload)
+    }
+
+    #[inline]
+    fn borrow<'a>(payload: &'a [u8]) -> Content<'a> {
+        let number = u16::from_be_bytes([payload[0], payload[1]]);
+        Content::Protocol(VlanProtocol::from(number))
     }
 
     #[inline]
@@ -139,9 +170,13 @@ impl PayloadClass for VlanProtocol {
 impl PayloadClass for [u8; 6] {
     type Value = [u8; 6];
 
+    type Element = DefaultNla;
+
     ghost shape = { One (Octets (Exactly 6)) };
 
     ghost content = { λ value. Single (Raw value) };
+
+    fn elements() {}
 
     #[inline]
     fn read(_alloc: Global, _kind: u16, payload: &[u8]) -> Result<[u8; 6], DecodeError> {
@@ -151,6 +186,13 @@ impl PayloadClass for [u8; 6] {
     #[inline]
     fn check(kind: u16, payload: &[u8]) -> Result<(), DecodeFault> {
         Lengths::Exactly(6).check(kind, payload)
+    }
+
+    #[inline]
+    fn borrow<'a>(payload: &'a [u8]) -> Content<'a> {
+        Content::Mac([
+            payload[0], payload[1], payload[2], payload[3], payload[4], payload[5],
+        ])
     }
 
     #[inline]
@@ -178,9 +220,13 @@ impl PayloadClass for [u8; 6] {
 impl PayloadClass for (u32, u32) {
     type Value = (u32, u32);
 
+    type Element = DefaultNla;
+
     ghost shape = { One (Octets (Exactly 8)) };
 
     ghost content = { λ pair. Single (Raw (octets_of 4 (pair.0 ∷ pair.1 ∷ []))) };
+
+    fn elements() {}
 
     #[inline]
     fn read(_alloc: Global, _kind: u16, payload: &[u8]) -> Result<(u32, u32), DecodeError> {
@@ -190,6 +236,11 @@ impl PayloadClass for (u32, u32) {
     #[inline]
     fn check(kind: u16, payload: &[u8]) -> Result<(), DecodeFault> {
         Lengths::Exactly(8).check(kind, payload)
+    }
+
+    #[inline]
+    fn borrow<'a>(payload: &'a [u8]) -> Content<'a> {
+        Content::Pair(u32_at(payload, 0), u32_at(payload, 4))
     }
 
     #[inline]
@@ -217,9 +268,13 @@ impl PayloadClass for (u32, u32) {
 impl PayloadClass for () {
     type Value = ();
 
+    type Element = DefaultNla;
+
     ghost shape = { One Empty };
 
     ghost content = { λ _. Single Nothing };
+
+    fn elements() {}
 
     #[inline]
     fn read(_alloc: Global, _kind: u16, _payload: &[u8]) -> Result<(), DecodeError> {
@@ -229,6 +284,11 @@ impl PayloadClass for () {
     #[inline]
     fn check(kind: u16, payload: &[u8]) -> Result<(), DecodeFault> {
         Lengths::AtLeast(0).check(kind, payload)
+    }
+
+    #[inline]
+    fn borrow<'a>(_payload: &'a [u8]) -> Content<'a> {
+        Content::Nothing
     }
 
     #[inline]

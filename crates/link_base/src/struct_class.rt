@@ -1,6 +1,6 @@
 //! Fixed-layout structs as payloads.
 
-ghost use Rattle.std.specs.Prelude.{◌≡◌, ℕ, List, length, take, IfOk};
+ghost use Rattle.std.specs.Prelude.{refl, ◌≡◌, ℕ, List, length, take, IfOk};
 ghost use Rattle.link_base.specs.Class.{Extent, Octets, Raw, accepted, size_of};
 ghost use Rattle.link_base.specs.Table.{One, Single};
 ghost use Rattle.link_base.specs.Held.{IsOctets};
@@ -9,6 +9,8 @@ ghost use Rattle.link_base.specs.Checked.{extent_of};
 
 use crate::buffer::NlaBuffer;
 use crate::canonical::has_size;
+use crate::content::Content;
+use crate::default_nla::DefaultNla;
 use crate::fault::{DecodeError, DecodeFault};
 use crate::lengths::Lengths;
 use crate::payload_class::PayloadClass;
@@ -58,9 +60,13 @@ pub struct Struct<S> {
 impl<S: PayloadStruct> PayloadClass for Struct<S> {
     type Value = S;
 
+    type Element = DefaultNla;
+
     ghost shape = { One (Octets S.extent) };
 
     ghost content = { λ value. Single (Raw (S.octets value)) };
+
+    fn elements() {}
 
     #[inline]
     fn read(_alloc: Global, _kind: u16, payload: &[u8]) -> Result<S, DecodeError> {
@@ -70,6 +76,11 @@ impl<S: PayloadStruct> PayloadClass for Struct<S> {
     #[inline]
     fn check(kind: u16, payload: &[u8]) -> Result<(), DecodeFault> {
         S::lengths().check(kind, payload)
+    }
+
+    #[inline]
+    fn borrow<'a>(payload: &'a [u8]) -> Content<'a> {
+        Content::Struct(&payload[..S::lengths().kept()])
     }
 
     #[inline]

@@ -8,9 +8,12 @@ ghost use Rattle.link_base.specs.Answers.{read_as, payload_result, OverwritesFro
 
 use crate::buffer::NlaBuffer;
 use crate::canonical::has_size;
+use crate::content::Content;
+use crate::default_nla::DefaultNla;
 use crate::fault::{DecodeError, DecodeFault};
 use crate::lengths::Lengths;
 use crate::payload_class::PayloadClass;
+use crate::records::{u16_at, u32_at};
 use crate::scalars::{
     emit_u8, emit_u16, emit_u32, emit_u64, parse_u8, parse_u16, parse_u32, parse_u64,
 };
@@ -38,6 +41,11 @@ pub trait Word: Bits + Eq + Drop {
     fn parse(payload: &[u8]) -> Result<Self, DecodeError>
         ensures { read_as Self.value result ≡ payload_result (accepted (Exactly Self.WIDTH) number payload.now) };
 
+    /// Reads the number whose bytes these are: `bytes` must be exactly `WIDTH` bytes long.
+    fn load(bytes: &[u8]) -> u64
+        requires { length bytes.now ≡ Self.WIDTH }
+        ensures { result ≡ number bytes.now };
+
     /// Writes the number to the start of `buffer`, which must be at least `WIDTH` bytes long.
     fn emit(self, buffer: &mut [u8])
         requires { Self.WIDTH ≤ length buffer.old }
@@ -63,6 +71,11 @@ impl Word for u8 {
     }
 
     #[inline]
+    fn load(bytes: &[u8]) -> u64 {
+        u64::from(bytes[0])
+    }
+
+    #[inline]
     fn emit(self, buffer: &mut [u8]) {
         emit_u8(buffer, self);
     }
@@ -82,6 +95,11 @@ impl Word for u16 {
     #[inline]
     fn parse(payload: &[u8]) -> Result<u16, DecodeError> {
         parse_u16(payload)
+    }
+
+    #[inline]
+    fn load(bytes: &[u8]) -> u64 {
+        u64::from(u16_at(bytes, 0))
     }
 
     #[inline]
@@ -107,6 +125,11 @@ impl Word for u32 {
     }
 
     #[inline]
+    fn load(bytes: &[u8]) -> u64 {
+        u64::from(u32_at(bytes, 0))
+    }
+
+    #[inline]
     fn emit(self, buffer: &mut [u8]) {
         emit_u32(buffer, self);
     }
@@ -129,6 +152,13 @@ impl Word for u64 {
     }
 
     #[inline]
+    fn load(bytes: &[u8]) -> u64 {
+        u64::from_le_bytes([
+            bytes[0], bytes[1], bytes[2], bytes[3], bytes[4], bytes[5], bytes[6], bytes[7],
+        ])
+    }
+
+    #[inline]
     fn emit(self, buffer: &mut [u8]) {
         emit_u64(buffer, self);
     }
@@ -139,9 +169,13 @@ impl Word for u64 {
 impl<W: Word> PayloadClass for W {
     type Value = W;
 
+    type Element = DefaultNla;
+
     ghost shape = { One (Unsigned W.WIDTH) };
 
     ghost content = { λ value. Single (Number W.WIDTH (W.value value)) };
+
+    fn elements() {}
 
     #[inline]
     fn read(_alloc: Global, _kind: u16, payload: &[u8]) -> Result<W, DecodeError> {
@@ -151,6 +185,14 @@ impl<W: Word> PayloadClass for W {
     #[inline]
     fn check(kind: u16, payload: &[u8]) -> Result<(), DecodeFault> {
         Lengths::Exactly(W::WIDTH).check(kind, payload)
+    }
+
+    #[inline]
+    fn borrow<'a>(payload: &'a [u8]) -> Content<'a> {
+        Content::Unsigned {
+            number: W::load(payload),
+            width: W::WIDTH,
+        }
     }
 
     #[inline]

@@ -20,6 +20,7 @@ pub use arp_all_targets::BondArpAllTargets;
 pub use arp_validate::BondArpValidate;
 pub use fail_over_mac::BondFailOverMac;
 pub use lacp_rate::BondLacpRate;
+use link_base::content::Content;
 use link_base::{
     AddressList, Attribute, DecodeError, DecodeFault, DefaultNla, Meaning, Named, NestedList, Nla,
     NlaBuffer, Parseable, Place, TryClone,
@@ -213,6 +214,14 @@ impl Attribute for InfoBond {
 
     fn check(buffer: &NlaBuffer<'_>) -> Result<(), DecodeFault> {
         rows!(check(buffer))
+    }
+
+    fn borrow<'a>(buffer: &NlaBuffer<'a>) -> Content<'a> {
+        rows!(borrow(buffer))
+    }
+
+    fn borrow_element<'a>(list: u16, element: &NlaBuffer<'a>) -> Content<'a> {
+        rows!(borrow_element(list, element))
     }
 
     fn canonical(buffer: &NlaBuffer<'_>) -> bool {

@@ -9,6 +9,7 @@ mod port_state;
 
 pub use churn_state::ChurnState;
 pub use lacp_state::LacpState;
+use link_base::content::Content;
 use link_base::{
     Attribute, DecodeError, DecodeFault, DefaultNla, FlagBits, LowFlagBits, Meaning, Named, Nla,
     NlaBuffer, Parseable, Place, TryClone,
@@ -121,6 +122,14 @@ impl Attribute for InfoBondPort {
 
     fn check(buffer: &NlaBuffer<'_>) -> Result<(), DecodeFault> {
         rows!(check(buffer))
+    }
+
+    fn borrow<'a>(buffer: &NlaBuffer<'a>) -> Content<'a> {
+        rows!(borrow(buffer))
+    }
+
+    fn borrow_element<'a>(list: u16, element: &NlaBuffer<'a>) -> Content<'a> {
+        rows!(borrow_element(list, element))
     }
 
     fn canonical(buffer: &NlaBuffer<'_>) -> bool {

@@ -8,6 +8,7 @@ mod stp_state;
 
 use crate::bridge_boolopt::BridgeBooleanOptions;
 pub use id::{BridgeId, BridgeIdBuffer};
+use link_base::content::Content;
 use link_base::{
     Attribute, DecodeError, DecodeFault, DefaultNla, Meaning, Named, NestedList, Nla, NlaBuffer,
     Parseable, Place, Struct, TryClone, VlanProtocol,
@@ -255,6 +256,14 @@ impl Attribute for InfoBridge {
 
     fn check(buffer: &NlaBuffer<'_>) -> Result<(), DecodeFault> {
         rows!(check(buffer))
+    }
+
+    fn borrow<'a>(buffer: &NlaBuffer<'a>) -> Content<'a> {
+        rows!(borrow(buffer))
+    }
+
+    fn borrow_element<'a>(list: u16, element: &NlaBuffer<'a>) -> Content<'a> {
+        rows!(borrow_element(list, element))
     }
 
     fn canonical(buffer: &NlaBuffer<'_>) -> bool {

@@ -3,6 +3,7 @@
 mod state;
 
 use crate::bridge::{BridgeId, BridgeMulticastRouterType};
+use link_base::content::Content;
 use link_base::{
     Attribute, DecodeError, DecodeFault, DefaultNla, Meaning, Named, Nla, NlaBuffer, Parseable,
     Place, Struct, TryClone,
@@ -232,6 +233,14 @@ impl Attribute for InfoBridgePort {
 
     fn check(buffer: &NlaBuffer<'_>) -> Result<(), DecodeFault> {
         rows!(check(buffer))
+    }
+
+    fn borrow<'a>(buffer: &NlaBuffer<'a>) -> Content<'a> {
+        rows!(borrow(buffer))
+    }
+
+    fn borrow_element<'a>(list: u16, element: &NlaBuffer<'a>) -> Content<'a> {
+        rows!(borrow_element(list, element))
     }
 
     fn canonical(buffer: &NlaBuffer<'_>) -> bool {

@@ -6,6 +6,7 @@ ghost use Rattle.link_base.specs.Table.{Gives, Decodes};
 ghost use Rattle.link_base.specs.Answers.{ListAnswers, ListFaultUnless, OnListMemory};
 ghost use Rattle.link_bridge.specs.ProtoInfo.{proto_info_table, proto_info_means};
 
+use link_base::content::Content;
 use link_base::{
     Attribute, DecodeError, DecodeFault, DefaultNla, ListError, Meaning, Nla, NlaBuffer, Parseable,
     Place, TryClone, read_list,
@@ -96,6 +97,14 @@ impl Attribute for LinkProtoInfoBridge {
 
     fn check(buffer: &NlaBuffer<'_>) -> Result<(), DecodeFault> {
         rows!(check(buffer))
+    }
+
+    fn borrow<'a>(buffer: &NlaBuffer<'a>) -> Content<'a> {
+        rows!(borrow(buffer))
+    }
+
+    fn borrow_element<'a>(list: u16, element: &NlaBuffer<'a>) -> Content<'a> {
+        rows!(borrow_element(list, element))
     }
 
     fn canonical(buffer: &NlaBuffer<'_>) -> bool {

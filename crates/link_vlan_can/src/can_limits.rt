@@ -1,16 +1,17 @@
 //! The bit timing limits of a CAN controller, with the controller's name.
 
 ghost use Rattle.std.specs.Prelude.{◌≡◌, ◌≤◌, [], length, take, drop, IfOk, IsTrue, string_bytes};
-ghost use Rattle.link_base.specs.Name.{name_of, name_field};
+ghost use Rattle.link_base.specs.Name.{before_nul, name_of, name_field};
 ghost use Rattle.link_base.specs.Class.{Limits, IsInRange, written};
 ghost use Rattle.link_base.specs.Table.{One, Single};
 ghost use Rattle.link_base.specs.Answers.{OnMemory, OverwritesFront};
 ghost use Rattle.link_vlan_can.specs.CanLimits.{limits_view, limits_with, limits_octets, limits_value, LimitsAnswer};
 
 use bstr::ByteSlice;
+use link_base::content::Content;
 use link_base::{
-    DecodeError, DecodeFault, Lengths, NlaBuffer, PayloadClass, check_at_least, emit_u32s,
-    is_limits, u32s_at,
+    DecodeError, DecodeFault, DefaultNla, Lengths, NlaBuffer, PayloadClass, check_at_least,
+    emit_u32s, is_limits, u32s_at,
 };
 use std::alloc::{AllocError, Global};
 
@@ -156,6 +157,8 @@ impl CanBitTimingConst {
 impl PayloadClass for CanBitTimingConst {
     type Value = CanBitTimingConst;
 
+    type Element = DefaultNla;
+
     ghost shape = { One Limits };
 
     ghost content = { λ limits. Single (limits_value limits) };
@@ -167,6 +170,16 @@ impl PayloadClass for CanBitTimingConst {
     #[inline]
     fn check(kind: u16, payload: &[u8]) -> Result<(), DecodeFault> {
         Lengths::AtLeast(48).check(kind, payload)
+    }
+
+    fn elements() {}
+
+    #[inline]
+    fn borrow<'a>(payload: &'a [u8]) -> Content<'a> {
+        Content::Limits {
+            name: name_bytes(&payload[..NAME]),
+            numbers: &payload[NAME..48],
+        }
     }
 
     #[inline]
@@ -188,6 +201,15 @@ impl PayloadClass for CanBitTimingConst {
     }
 }
 
+/// Returns the bytes of a field before the first NUL, or all of them if there is none.
+#[inline]
+fn name_bytes<'a>(field: &'a [u8]) -> &'a [u8]
+    ensures { result.now ≡ before_nul field.now }
+{
+    let end = field.find_byte(0).unwrap_or(field.len());
+    &field[..end]
+}
+
 /// Decodes the bytes of a field before the first NUL, or all of them if there is none.
 ///
 /// # Errors
@@ -196,8 +218,7 @@ impl PayloadClass for CanBitTimingConst {
 fn read_name(alloc: Global, field: &[u8]) -> Result<String, AllocError>
     ensures { IfOk result (λ name. string_bytes name ≡ name_of field.now) }
 {
-    let end = field.find_byte(0).unwrap_or(field.len());
-    let text = &field[..end];
+    let text = name_bytes(field);
     let mut name = String::new(alloc);
     text.to_str_lossy_into(&mut name)?;
     Ok(name)

@@ -7,6 +7,7 @@ ghost use Rattle.link_base.proofs.TableLaws.{lawful};
 ghost use Rattle.link_vlan_can.specs.Hsr.{hsr_protocol_names, hsr_protocol_seen, hsr_protocol_cases};
 ghost use Rattle.link_vlan_can.specs.Hsr.{hsr_table, hsr_means};
 
+use link_base::content::Content;
 use link_base::{
     Attribute, DecodeError, DecodeFault, DefaultNla, Meaning, Named, NamedNumber, Nla, NlaBuffer,
     Parseable, Place, TryClone,
@@ -169,6 +170,14 @@ impl Attribute for InfoHsr {
 
     fn check(buffer: &NlaBuffer<'_>) -> Result<(), DecodeFault> {
         rows!(check(buffer))
+    }
+
+    fn borrow<'a>(buffer: &NlaBuffer<'a>) -> Content<'a> {
+        rows!(borrow(buffer))
+    }
+
+    fn borrow_element<'a>(list: u16, element: &NlaBuffer<'a>) -> Content<'a> {
+        rows!(borrow_element(list, element))
     }
 
     fn canonical(buffer: &NlaBuffer<'_>) -> bool {

@@ -7,6 +7,7 @@ ghost use Rattle.link_base.specs.Equality.{of_cases, thorough_fields, pairs, num
 ghost use Rattle.link_vlan_can.specs.Vlan.{mapping_rows, mapping_leaf, vlan_table, vlan_means};
 
 use crate::vlan_flags::VlanFlags;
+use link_base::content::Content;
 use link_base::{
     Attribute, DecodeError, DecodeFault, DefaultNla, MaskedFlags, Meaning, NestedAttribute,
     NestedList, Nla, NlaBuffer, Parseable, Place, TryClone, VlanProtocol,
@@ -73,6 +74,14 @@ impl Attribute for VlanQosMapping {
 
     fn check(buffer: &NlaBuffer<'_>) -> Result<(), DecodeFault> {
         mapping_rows!(check(buffer))
+    }
+
+    fn borrow<'a>(buffer: &NlaBuffer<'a>) -> Content<'a> {
+        mapping_rows!(borrow(buffer))
+    }
+
+    fn borrow_element<'a>(list: u16, element: &NlaBuffer<'a>) -> Content<'a> {
+        mapping_rows!(borrow_element(list, element))
     }
 
     fn canonical(buffer: &NlaBuffer<'_>) -> bool {
@@ -172,6 +181,14 @@ impl Attribute for InfoVlan {
 
     fn check(buffer: &NlaBuffer<'_>) -> Result<(), DecodeFault> {
         rows!(check(buffer))
+    }
+
+    fn borrow<'a>(buffer: &NlaBuffer<'a>) -> Content<'a> {
+        rows!(borrow(buffer))
+    }
+
+    fn borrow_element<'a>(list: u16, element: &NlaBuffer<'a>) -> Content<'a> {
+        rows!(borrow_element(list, element))
     }
 
     fn canonical(buffer: &NlaBuffer<'_>) -> bool {

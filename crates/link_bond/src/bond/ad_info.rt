@@ -4,6 +4,7 @@ ghost use Rattle.std.specs.Prelude.{refl, false};
 ghost use Rattle.link_base.specs.Lift.{lift, lift_table};
 ghost use Rattle.link_bond.specs.AdInfo.{ad_info_rows, ad_info_leaf};
 
+use link_base::content::Content;
 use link_base::{
     Attribute, DecodeError, DecodeFault, DefaultNla, Meaning, NestedAttribute, Nla, NlaBuffer,
     Parseable, Place, TryClone,
@@ -84,6 +85,14 @@ impl Attribute for BondAdInfo {
 
     fn check(buffer: &NlaBuffer<'_>) -> Result<(), DecodeFault> {
         rows!(check(buffer))
+    }
+
+    fn borrow<'a>(buffer: &NlaBuffer<'a>) -> Content<'a> {
+        rows!(borrow(buffer))
+    }
+
+    fn borrow_element<'a>(list: u16, element: &NlaBuffer<'a>) -> Content<'a> {
+        rows!(borrow_element(list, element))
     }
 
     fn canonical(buffer: &NlaBuffer<'_>) -> bool {

@@ -5,6 +5,7 @@ ghost use Rattle.link_base.specs.Lift.{lift, lift_table};
 ghost use Rattle.link_bridge.specs.TunnelInfo.{tunnel_rows, tunnel_leaf};
 
 use crate::af_spec::vlan_info_flags::BridgeVlanInfoFlags;
+use link_base::content::Content;
 use link_base::{
     Attribute, DecodeError, DecodeFault, DefaultNla, FlagBits, Meaning, NestedAttribute, Nla,
     NlaBuffer, Parseable, Place, TryClone,
@@ -80,6 +81,14 @@ impl Attribute for BridgeVlanTunnelInfo {
 
     fn check(buffer: &NlaBuffer<'_>) -> Result<(), DecodeFault> {
         rows!(check(buffer))
+    }
+
+    fn borrow<'a>(buffer: &NlaBuffer<'a>) -> Content<'a> {
+        rows!(borrow(buffer))
+    }
+
+    fn borrow_element<'a>(list: u16, element: &NlaBuffer<'a>) -> Content<'a> {
+        rows!(borrow_element(list, element))
     }
 
     fn canonical(buffer: &NlaBuffer<'_>) -> bool {

@@ -1,0 +1,9 @@
+use Rattle.std.proofs.Common.{length}
+use Rattle.link_base.proofs.Views.{Seeking}
+use Rattle.link_base.proofs.view.View.first.Given as goal
+
+abbrev pub invariant-loop-value : goal.invariant-loop-value
+invariant-loop-value g l = Seeking l.kind l.fn.self.rest.now l.view.rest.now
+
+abbrev pub decreases-loop-value : goal.decreases-loop-value
+decreases-loop-value g l = length l.view.rest.now

@@ -1,0 +1,87 @@
+-- What views borrow: the content of an attribute that decodes.
+use Rattle.std.specs.Prelude.{◌≡◌, ℕ, List, [], ◌∷◌, length, take, drop, Option, Some, None, Ok}
+use Rattle.link_base.specs.declared.content.Content.{Content as Borrowed}
+use Rattle.link_base.specs.declared.content.Content.TheVariants as borrowed
+use Rattle.link_base.specs.Class.{Value, Limits, Number, Integer, Boolean, Raw, Name, Unlisted, EtherType, LowByte, Nothing, extent, length_cause, meant}
+use Rattle.link_base.specs.IpAddress.{four_octets, sixteen_octets}
+use Rattle.link_base.specs.Layout.{octets_of}
+use Rattle.link_base.specs.Name.{before_nul}
+use Rattle.link_base.specs.Protocol.{protocol_number}
+use Rattle.link_base.specs.Lift.{lift_table}
+use Rattle.link_base.specs.Table.{Shape, One, Nested, Addresses, Table, AttrValue, class_at, Gives, Decodes}
+
+-- a value, as it is borrowed: whether a number has a name is left out
+abbrev pub told : Value → Value
+told (Unlisted n listed d) = Name n d
+told v = v
+
+-- a borrowed content is this value
+abbrev pub Says : Borrowed → Value → Type 0
+Says borrowed.Nothing v = v ≡ Nothing
+Says (borrowed.Bool b) v = v ≡ Boolean b
+Says (borrowed.Unsigned x n) v = v ≡ Number n x
+Says (borrowed.Signed z) v = v ≡ Integer z
+Says (borrowed.Enum d n) v = told v ≡ Name n d
+Says (borrowed.Flags x n) v = v ≡ Number n x
+Says (borrowed.LowFlags b) v = v ≡ LowByte b
+Says (borrowed.MaskedFlags flags mask) v = v ≡ Raw (octets_of 4 (flags ∷ mask ∷ []))
+Says (borrowed.Pair a b) v = v ≡ Raw (octets_of 4 (a ∷ b ∷ []))
+Says (borrowed.Protocol p) v = v ≡ EtherType (protocol_number p)
+Says (borrowed.Mac a) v = v ≡ Raw a
+Says (borrowed.Ipv4 a) v = v ≡ Raw (four_octets a)
+Says (borrowed.Ipv6 a) v = v ≡ Raw (sixteen_octets a)
+Says (borrowed.Bytes p) v = v ≡ Raw p.now
+Says (borrowed.Struct p) v = v ≡ Raw p.now
+Says (borrowed.U16s p) v = v ≡ Raw p.now
+Says (borrowed.U32s p) v = v ≡ Raw p.now
+Says content v = ⊥
+
+-- a borrowed content is the name, up to its first NUL, and the numbers of these limits
+abbrev pub SaysLimits : Borrowed → List ℕ → Type 0
+SaysLimits (borrowed.Limits name numbers) p = (name.now ≡ before_nul (take 16 p)) × (numbers.now ≡ take 32 (drop 16 p))
+SaysLimits content p = ⊥
+
+-- a borrowed content is the list of addresses of n bytes in this payload
+abbrev pub SaysAddresses : Borrowed → ℕ → List ℕ → Type 0
+SaysAddresses (borrowed.Addresses list size) n p = (size ≡ n) × (list.now ≡ p)
+SaysAddresses content n p = ⊥
+
+-- a borrowed content is the nested list in this payload
+abbrev pub SaysList : Borrowed → List ℕ → Type 0
+SaysList (borrowed.List list) p = list.now ≡ p
+SaysList content p = ⊥
+
+-- a borrowed content is this payload of an attribute without a row
+abbrev pub SaysOther : Borrowed → List ℕ → Type 0
+SaysOther (borrowed.Other bytes) p = bytes.now ≡ p
+SaysOther content p = ⊥
+
+-- what is borrowed from a payload that decodes, by the shape of its attribute type
+abbrev pub Borrows : Option Shape → List ℕ → Borrowed → Type 0
+Borrows None p content = SaysOther content p
+Borrows (Some (One Limits)) p content = SaysLimits content p
+Borrows (Some (One c)) p content = Says content (meant c p)
+Borrows (Some (Nested flagged rows)) p content = SaysList content p
+Borrows (Some (Addresses n)) p content = SaysAddresses content n p
+
+-- a payload of this shape decodes, as far as its length tells; a list does if its elements do
+abbrev pub IsAccepted : Shape → List ℕ → Type 0
+IsAccepted (One c) p = length_cause (extent c) (length p) ≡ None
+IsAccepted shape p = Unit {0}
+
+-- the attribute decodes to a value
+abbrev pub HasValue : Table → ℕ → List ℕ → Type 0
+HasValue table f p = ¬ (¬ ((v : AttrValue) × Gives table f p (Ok v)))
+
+-- the list decodes to values
+abbrev pub HasValues : Table → List ℕ → Type 0
+HasValues table s = ¬ (¬ (Decodes table s))
+
+-- the table of the attributes in a payload of this shape; no row if it is no nested list
+abbrev pub elements_by : Option Shape → Table
+elements_by (Some (Nested flagged rows)) = lift_table rows
+elements_by shape = []
+
+-- the table of the attributes in the nested lists of attribute type k
+abbrev pub elements_at : Table → ℕ → Table
+elements_at table k = elements_by (class_at table k)

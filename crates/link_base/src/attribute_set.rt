@@ -1,0 +1,95 @@
+//! Sets of attributes, as views read them.
+
+ghost use Rattle.link_base.specs.Frame.{kind_of};
+ghost use Rattle.link_base.specs.Table.{Table, class_at};
+ghost use Rattle.link_base.specs.Buffer.{kind_field_of, payload_of};
+ghost use Rattle.link_base.specs.Borrowed.{HasValue, Borrows, elements_at};
+
+use crate::attribute::Attribute;
+use crate::buffer::NlaBuffer;
+use crate::content::Content;
+use std::alloc::AllocError;
+use std::marker::PhantomData;
+
+/// A set of attributes whose lists can be viewed.
+pub trait AttributeSet: Copy {
+    /// The rows of the set's table: attribute types, and what their payloads are.
+    ghost rows: { Self → Table };
+
+    /// Returns the content of an attribute, which must decode.
+    fn borrow<'a>(&self, buffer: &NlaBuffer<'a>) -> Content<'a>
+        requires { HasValue (Self.rows self.now) (kind_field_of buffer.now) (payload_of buffer.now) }
+        ensures { Borrows (class_at (Self.rows self.now) (kind_of (kind_field_of buffer.now)))
+            (payload_of buffer.now) result };
+}
+
+/// The attributes that values of the type `F` represent.
+pub struct Set<F> {
+    of: PhantomData<F>,
+}
+
+/// The attributes in a nested list that values of the type `F` hold.
+pub struct ElementSet<F> {
+    list: u16,
+    of: PhantomData<F>,
+}
+
+impl<F> Clone for Set<F> {
+    fn clone(&self) -> Result<Self, AllocError> {
+        Ok(*self)
+    }
+}
+
+impl<F> Copy for Set<F> {}
+
+impl<F> Clone for ElementSet<F> {
+    fn clone(&self) -> Result<Self, AllocError> {
+        Ok(*self)
+    }
+}
+
+impl<F> Copy for ElementSet<F> {}
+
+impl<F> Set<F> {
+    /// Returns the set.
+    #[inline]
+    pub fn new() -> Self {
+        Set { of: PhantomData }
+    }
+}
+
+impl<F> ElementSet<F> {
+    ghost use Rattle.std.specs.Prelude.{◌≡◌};
+    ghost use Rattle.link_base.specs.Viewed.{list_of};
+
+    /// Returns the set of the attributes in nested lists of the attribute type `list`.
+    #[inline]
+    pub fn new(list: u16) -> Self
+        ensures { list_of result ≡ list }
+    {
+        ElementSet {
+            list,
+            of: PhantomData,
+        }
+    }
+}
+
+impl<F: Attribute> AttributeSet for Set<F> {
+    ghost rows = { λ _. F.table };
+
+    #[inline(always)]
+    fn borrow<'a>(&self, buffer: &NlaBuffer<'a>) -> Content<'a> {
+        F::borrow(buffer)
+    }
+}
+
+impl<F: Attribute> AttributeSet for ElementSet<F> {
+    ghost use Rattle.link_base.specs.Viewed.{list_of};
+
+    ghost rows = { λ set. elements_at F.table (list_of set) };
+
+    #[inline(always)]
+    fn borrow<'a>(&self, buffer: &NlaBuffer<'a>) -> Content<'a> {
+        F::borrow_element(self.list, buffer)
+    }
+}
