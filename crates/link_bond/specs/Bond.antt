@@ -5,15 +5,7 @@ use Rattle.link_base.specs.Named.{numbers_of, seen_value}
 use Rattle.link_base.specs.Table.{Table, AttrValue, Case, Nested, Addresses, Single, Inner, Listed, row, list_row}
 use Rattle.link_base.specs.IpAddress.{four_octets, sixteen_octets}
 use Rattle.link_base.specs.Default.{default_means}
-use Rattle.link_bond.specs.Mode.{mode_names, mode_seen}
-use Rattle.link_bond.specs.ArpValidate.{arp_validate_names, arp_validate_seen}
-use Rattle.link_bond.specs.ArpAllTargets.{arp_all_targets_names, arp_all_targets_seen}
-use Rattle.link_bond.specs.PrimaryReselect.{primary_reselect_names, primary_reselect_seen}
-use Rattle.link_bond.specs.FailOverMac.{fail_over_mac_names, fail_over_mac_seen}
-use Rattle.link_bond.specs.XmitHashPolicy.{xmit_hash_policy_names, xmit_hash_policy_seen}
-use Rattle.link_bond.specs.AllPortActive.{all_port_active_names, all_port_active_seen}
-use Rattle.link_bond.specs.LacpRate.{lacp_rate_names, lacp_rate_seen}
-use Rattle.link_bond.specs.AdSelect.{ad_select_names, ad_select_seen}
+use Rattle.link_bond.specs.Names.{mode_names, mode_seen, arp_validate_names, arp_validate_seen, arp_all_targets_names, arp_all_targets_seen, primary_reselect_names, primary_reselect_seen, fail_over_mac_names, fail_over_mac_seen, xmit_hash_policy_names, xmit_hash_policy_seen, all_port_active_names, all_port_active_seen, lacp_rate_names, lacp_rate_seen, ad_select_names, ad_select_seen}
 use Rattle.link_bond.specs.AdInfo.{ad_info_rows, ad_info_leaf}
 use Rattle.link_bond.specs.declared.bond.InfoBond.{InfoBond}
 use Rattle.link_bond.specs.declared.bond.InfoBond.TheVariants as infos

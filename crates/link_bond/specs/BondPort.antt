@@ -4,9 +4,7 @@ use Rattle.link_base.specs.Class.{Named, Low, Number, Integer, Raw, LowByte, u8,
 use Rattle.link_base.specs.Named.{numbers_of, seen_value}
 use Rattle.link_base.specs.Table.{Table, AttrValue, Case, Single, row}
 use Rattle.link_base.specs.Default.{default_means}
-use Rattle.link_bond.specs.PortState.{port_state_names, port_state_seen}
-use Rattle.link_bond.specs.MiiStatus.{mii_status_names, mii_status_seen}
-use Rattle.link_bond.specs.ChurnState.{churn_state_names, churn_state_seen}
+use Rattle.link_bond.specs.Names.{port_state_names, port_state_seen, mii_status_names, mii_status_seen, churn_state_names, churn_state_seen}
 use Rattle.link_bond.specs.LacpState.{lacp_bits}
 use Rattle.link_bond.specs.declared.bond_port.InfoBondPort.{InfoBondPort}
 use Rattle.link_bond.specs.declared.bond_port.InfoBondPort.TheVariants as infos

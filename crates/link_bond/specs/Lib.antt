@@ -1,16 +1,5 @@
-pub mod Mode
-pub mod ArpValidate
-pub mod ArpAllTargets
-pub mod PrimaryReselect
-pub mod FailOverMac
-pub mod XmitHashPolicy
-pub mod AllPortActive
-pub mod LacpRate
-pub mod AdSelect
+pub mod Names
 pub mod AdInfo
 pub mod Bond
-pub mod PortState
-pub mod MiiStatus
-pub mod ChurnState
 pub mod LacpState
 pub mod BondPort

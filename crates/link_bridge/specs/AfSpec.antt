@@ -4,8 +4,7 @@ use Rattle.link_base.specs.Class.{Named, Raw, Octets, Exactly}
 use Rattle.link_base.specs.Named.{numbers_of, seen_value}
 use Rattle.link_base.specs.Table.{Table, AttrValue, Case, Nested, Single, Inner, row, list_row}
 use Rattle.link_base.specs.Default.{default_means}
-use Rattle.link_bridge.specs.Flag.{flag_names, flag_seen}
-use Rattle.link_bridge.specs.Mode.{mode_names, mode_seen}
+use Rattle.link_bridge.specs.Names.{flag_names, flag_seen, mode_names, mode_seen}
 use Rattle.link_bridge.specs.VlanInfo.{vlan_info_octets}
 use Rattle.link_bridge.specs.TunnelInfo.{tunnel_rows, tunnel_leaf}
 use Rattle.link_bridge.specs.declared.af_spec.AfSpecBridge.{AfSpecBridge}

@@ -5,9 +5,7 @@ use Rattle.link_base.specs.Named.{numbers_of, seen_value}
 use Rattle.link_base.specs.Table.{Table, AttrValue, Case, Nested, Single, Inner, row, list_row}
 use Rattle.link_base.specs.Protocol.{protocol_number}
 use Rattle.link_base.specs.Default.{default_means}
-use Rattle.link_bridge.specs.StpState.{stp_state_names, stp_state_seen}
-use Rattle.link_bridge.specs.StpMode.{stp_mode_names, stp_mode_seen}
-use Rattle.link_bridge.specs.RouterType.{router_type_names, router_type_seen}
+use Rattle.link_bridge.specs.Names.{stp_state_names, stp_state_seen, stp_mode_names, stp_mode_seen, router_type_names, router_type_seen}
 use Rattle.link_bridge.specs.Id.{id_octets}
 use Rattle.link_bridge.specs.BooleanOptions.{options_octets}
 use Rattle.link_bridge.specs.Querier.{querier_rows, querier_leaf}

@@ -4,8 +4,7 @@ use Rattle.link_base.specs.Class.{Octets, AtLeast, Named, Number, Boolean, Raw, 
 use Rattle.link_base.specs.Named.{numbers_of, seen_value}
 use Rattle.link_base.specs.Table.{Table, AttrValue, Case, Single, row}
 use Rattle.link_base.specs.Default.{default_means}
-use Rattle.link_bridge.specs.PortState.{port_state_names, port_state_seen}
-use Rattle.link_bridge.specs.RouterType.{router_type_names, router_type_seen}
+use Rattle.link_bridge.specs.Names.{port_state_names, port_state_seen, router_type_names, router_type_seen}
 use Rattle.link_bridge.specs.Id.{id_octets}
 use Rattle.link_bridge.specs.declared.bridge_port.InfoBridgePort.{InfoBridgePort}
 use Rattle.link_bridge.specs.declared.bridge_port.InfoBridgePort.TheVariants as infos

@@ -1,12 +1,7 @@
-pub mod StpState
-pub mod StpMode
-pub mod RouterType
+pub mod Names
 pub mod Id
 pub mod BooleanOptions
 pub mod Querier
-pub mod PortState
-pub mod Flag
-pub mod Mode
 pub mod VlanInfo
 pub mod TunnelInfo
 pub mod BridgeEquality

@@ -3,7 +3,7 @@
 ghost use Rattle.std.specs.Prelude.{refl, ◌≡◌, Some};
 ghost use Rattle.link_base.specs.Named.{value_of, number_of, displayed, ReadsText};
 ghost use Rattle.link_base.specs.Equality.{of_cases, thorough_fields};
-ghost use Rattle.link_bond.specs.LacpRate.{lacp_rate_names, lacp_rate_seen, lacp_rate_cases};
+ghost use Rattle.link_bond.specs.Names.{lacp_rate_names, lacp_rate_seen, lacp_rate_cases};
 
 use link_base::{DecodeError, NamedNumber};
 use std::fmt;

@@ -3,7 +3,7 @@
 ghost use Rattle.std.specs.Prelude.{refl, ◌≡◌, Some};
 ghost use Rattle.link_base.specs.Named.{value_of, number_of, displayed, ReadsText};
 ghost use Rattle.link_base.specs.Equality.{of_cases, thorough_fields};
-ghost use Rattle.link_bond.specs.PrimaryReselect.{primary_reselect_names, primary_reselect_seen, primary_reselect_cases};
+ghost use Rattle.link_bond.specs.Names.{primary_reselect_names, primary_reselect_seen, primary_reselect_cases};
 
 use link_base::{DecodeError, NamedNumber};
 use std::fmt;

@@ -3,7 +3,7 @@
 ghost use Rattle.std.specs.Prelude.{refl, ◌≡◌, Some};
 ghost use Rattle.link_base.specs.Named.{value_of, number_of, displayed, ReadsText};
 ghost use Rattle.link_base.specs.Equality.{of_cases, thorough_fields};
-ghost use Rattle.link_bond.specs.ChurnState.{churn_state_names, churn_state_seen, churn_state_cases};
+ghost use Rattle.link_bond.specs.Names.{churn_state_names, churn_state_seen, churn_state_cases};
 
 use link_base::{DecodeError, NamedNumber};
 use std::fmt;

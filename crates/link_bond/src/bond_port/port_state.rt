@@ -3,7 +3,7 @@
 ghost use Rattle.std.specs.Prelude.{refl, ◌≡◌, Some};
 ghost use Rattle.link_base.specs.Named.{value_of, number_of, displayed, ReadsText};
 ghost use Rattle.link_base.specs.Equality.{of_cases, thorough_fields};
-ghost use Rattle.link_bond.specs.PortState.{port_state_names, port_state_seen, port_state_cases};
+ghost use Rattle.link_bond.specs.Names.{port_state_names, port_state_seen, port_state_cases};
 
 use link_base::{DecodeError, NamedNumber};
 use std::fmt;
