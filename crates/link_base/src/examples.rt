@@ -1,5 +1,5 @@
-//! Worked examples of the definitions, with small tables. The functions have empty bodies; each states its example as
-//! its contract.
+//! Worked examples of the definitions, with small tables. The functions have empty bodies; each states its examples as
+//! clauses of its contract.
 
 ghost use Rattle.std.specs.Prelude.{◌≡◌, true, [], ◌∷◌};
 ghost use Rattle.link_base.specs.declared.fault.Cause.TheVariants.{ShortFrame, SmallLength, Overrun, WrongLength};
@@ -10,61 +10,44 @@ ghost use Rattle.link_base.specs.Wire.{FirstFault};
 ghost use Rattle.link_base.specs.Table.{Gives, Case, Other, Single, Inner};
 ghost use Rattle.link_base.specs.Examples.{ReadsAndWrites, numbers, addresses, lists, pairs, after_letters};
 
-/// A number is written unchanged.
-pub fn number()
-    ensures { ReadsAndWrites numbers (0x08 ∷ 0 ∷ 1 ∷ 0 ∷ 0x2a ∷ 0 ∷ 0 ∷ 0 ∷ []) (Case 1 (Single (Number 4 42)) ∷ [])
-        (0x08 ∷ 0 ∷ 1 ∷ 0 ∷ 0x2a ∷ 0 ∷ 0 ∷ 0 ∷ []) }
+/// States the values of four lists, and the bytes that are written for them.
+///
+/// - `number`: A number is written unchanged.
+/// - `unknown_kind`: An attribute whose type has no row keeps its flags and its payload. The missing padding is
+///   written.
+/// - `ignored_payload`: A payload without a meaning is dropped: the attribute is written with an empty payload.
+/// - `empty_list`: An empty list is accepted without the nested flag, and is written with it.
+pub fn values()
+    ensures number { ReadsAndWrites numbers (0x08 ∷ 0 ∷ 1 ∷ 0 ∷ 0x2a ∷ 0 ∷ 0 ∷ 0 ∷ [])
+        (Case 1 (Single (Number 4 42)) ∷ []) (0x08 ∷ 0 ∷ 1 ∷ 0 ∷ 0x2a ∷ 0 ∷ 0 ∷ 0 ∷ []) }
+    ensures unknown_kind { ReadsAndWrites pairs (0x06 ∷ 0 ∷ 0x63 ∷ 0xc0 ∷ 0xde ∷ 0xad ∷ [])
+        (Other 0xC063 (0xde ∷ 0xad ∷ []) ∷ []) (0x06 ∷ 0 ∷ 0x63 ∷ 0xc0 ∷ 0xde ∷ 0xad ∷ 0 ∷ 0 ∷ []) }
+    ensures ignored_payload { ReadsAndWrites lists (0x07 ∷ 0 ∷ 0x15 ∷ 0 ∷ 1 ∷ 2 ∷ 3 ∷ 0 ∷ [])
+        (Case 21 (Single Nothing) ∷ []) (0x04 ∷ 0 ∷ 0x15 ∷ 0 ∷ []) }
+    ensures empty_list { ReadsAndWrites lists (0x04 ∷ 0 ∷ 0x2f ∷ 0 ∷ [])
+        (Case 47 (Inner true []) ∷ []) (0x04 ∷ 0 ∷ 0x2f ∷ 0x80 ∷ []) }
 {}
 
-/// An attribute whose type has no row keeps its flags and its payload. The missing padding is written.
-pub fn unknown_kind()
-    ensures { ReadsAndWrites pairs (0x06 ∷ 0 ∷ 0x63 ∷ 0xc0 ∷ 0xde ∷ 0xad ∷ []) (Other 0xC063 (0xde ∷ 0xad ∷ []) ∷ [])
-        (0x06 ∷ 0 ∷ 0x63 ∷ 0xc0 ∷ 0xde ∷ 0xad ∷ 0 ∷ 0 ∷ []) }
-{}
-
-/// A payload without a meaning is dropped: the attribute is written with an empty payload.
-pub fn ignored_payload()
-    ensures { ReadsAndWrites lists (0x07 ∷ 0 ∷ 0x15 ∷ 0 ∷ 1 ∷ 2 ∷ 3 ∷ 0 ∷ []) (Case 21 (Single Nothing) ∷ [])
-        (0x04 ∷ 0 ∷ 0x15 ∷ 0 ∷ []) }
-{}
-
-/// An empty list is accepted without the nested flag, and is written with it.
-pub fn empty_list()
-    ensures { ReadsAndWrites lists (0x04 ∷ 0 ∷ 0x2f ∷ 0 ∷ []) (Case 47 (Inner true []) ∷ [])
-        (0x04 ∷ 0 ∷ 0x2f ∷ 0x80 ∷ []) }
-{}
-
-/// In an address list, the `nla_len` of an element exceeds what is left of the list.
-pub fn address_overrun()
-    ensures { FirstFault (Gives addresses) (0x0a ∷ 0 ∷ 8 ∷ 0 ∷ 9 ∷ 0 ∷ 0 ∷ 0 ∷ 0x0a ∷ 0 ∷ 0 ∷ 0 ∷ []) 0
+/// States the first error of six lists, and its offset.
+///
+/// - `address_overrun`: In an address list, the `nla_len` of an element exceeds what is left of the list.
+/// - `value_before_frame`: A malformed payload is reported before a malformed header that follows it.
+/// - `short_frame`: A byte after a complete attribute is not padding.
+/// - `small_length`: `nla_len` is less than the length of the header.
+/// - `overrun`: `nla_len` exceeds what is left of the input.
+/// - `nested_value`: In a nested list, the payload of an element is malformed.
+pub fn faults()
+    ensures address_overrun { FirstFault (Gives addresses) (0x0a ∷ 0 ∷ 8 ∷ 0 ∷ 9 ∷ 0 ∷ 0 ∷ 0 ∷ 0x0a ∷ 0 ∷ 0 ∷ 0 ∷ []) 0
         (faults.NestedFrame 8 (Overrun 9 6)) }
-{}
-
-/// A malformed payload is reported before a malformed header that follows it.
-pub fn value_before_frame()
-    ensures { FirstFault (Gives numbers) (0x05 ∷ 0 ∷ 1 ∷ 0 ∷ 0x2a ∷ 0 ∷ 0 ∷ 0 ∷ 3 ∷ 0 ∷ []) 0
+    ensures value_before_frame { FirstFault (Gives numbers) (0x05 ∷ 0 ∷ 1 ∷ 0 ∷ 0x2a ∷ 0 ∷ 0 ∷ 0 ∷ 3 ∷ 0 ∷ []) 0
         (faults.Value 1 (WrongLength 4 1)) }
-{}
-
-/// A byte after a complete attribute is not padding.
-pub fn short_frame()
-    ensures { FirstFault (Gives numbers) (0x08 ∷ 0 ∷ 1 ∷ 0 ∷ 0x2a ∷ 0 ∷ 0 ∷ 0 ∷ 0 ∷ []) 8
+    ensures short_frame { FirstFault (Gives numbers) (0x08 ∷ 0 ∷ 1 ∷ 0 ∷ 0x2a ∷ 0 ∷ 0 ∷ 0 ∷ 0 ∷ []) 8
         (faults.Frame (ShortFrame 1)) }
-{}
-
-/// `nla_len` is less than the length of the header.
-pub fn small_length()
-    ensures { FirstFault (Gives numbers) (0 ∷ 0 ∷ 1 ∷ 0 ∷ []) 0 (faults.Frame (SmallLength 0)) }
-{}
-
-/// `nla_len` exceeds what is left of the input.
-pub fn overrun()
-    ensures { FirstFault (Gives numbers) (0x09 ∷ 0 ∷ 1 ∷ 0 ∷ 0x2a ∷ 0 ∷ 0 ∷ 0 ∷ []) 0 (faults.Frame (Overrun 9 8)) }
-{}
-
-/// In a nested list, the payload of an element is malformed.
-pub fn nested_value()
-    ensures { FirstFault (Gives pairs) (0x0f ∷ 0 ∷ 3 ∷ 0 ∷ 0x0b ∷ 0 ∷ 1 ∷ 0 ∷ 1 ∷ 0 ∷ 0 ∷ 0 ∷ 2 ∷ 0 ∷ 0 ∷ 0 ∷ []) 0
+    ensures small_length { FirstFault (Gives numbers) (0 ∷ 0 ∷ 1 ∷ 0 ∷ []) 0 (faults.Frame (SmallLength 0)) }
+    ensures overrun { FirstFault (Gives numbers) (0x09 ∷ 0 ∷ 1 ∷ 0 ∷ 0x2a ∷ 0 ∷ 0 ∷ 0 ∷ []) 0
+        (faults.Frame (Overrun 9 8)) }
+    ensures nested_value { FirstFault (Gives pairs)
+        (0x0f ∷ 0 ∷ 3 ∷ 0 ∷ 0x0b ∷ 0 ∷ 1 ∷ 0 ∷ 1 ∷ 0 ∷ 0 ∷ 0 ∷ 2 ∷ 0 ∷ 0 ∷ 0 ∷ []) 0
         (faults.NestedValue 3 1 (WrongLength 8 7)) }
 {}
 

@@ -29,16 +29,8 @@ fn laws_of_tables() {
 
 #[test]
 fn worked_examples() {
-    examples::number();
-    examples::unknown_kind();
-    examples::ignored_payload();
-    examples::empty_list();
-    examples::address_overrun();
-    examples::value_before_frame();
-    examples::short_frame();
-    examples::small_length();
-    examples::overrun();
-    examples::nested_value();
+    examples::values();
+    examples::faults();
     examples::cut_names();
 }
 
