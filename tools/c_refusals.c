@@ -3,9 +3,9 @@
  * has one list per line: the name of an attribute set, a space, and hex digits. Lines that begin with # are ignored.
  *
  * For each list and function, the first allocation and all later ones fail, then the second and all later ones, and so
- * on, until a run has no failed allocation. No function may allocate again after a failed allocation. The linker
- * options --wrap=malloc, --wrap=realloc and --wrap=free let this program count allocations. It prints a line for each
- * check that fails, and then the counts.
+ * on, until a run has no failed allocation. No function may allocate again after a failed allocation, and
+ * nlroute_count() and nlroute_fault() may not allocate at all. The linker options --wrap=malloc, --wrap=realloc and
+ * --wrap=free let this program count allocations. It prints a line for each check that fails, and then the counts.
  */
 #include "nlroute.h"
 
@@ -76,7 +76,7 @@ typedef ptrdiff_t calling(size_t room);
 
 static ptrdiff_t rewriting(size_t room) { return nlroute_rewrite(family, list, len, out, room); }
 static ptrdiff_t into(size_t room) { return nlroute_rewrite_streaming(family, list, len, out, room); }
-static ptrdiff_t reading(size_t room) { return (void)room, nlroute_count(family, list, len); }
+static ptrdiff_t counting(size_t room) { return (void)room, nlroute_count(family, list, len); }
 
 static ptrdiff_t telling(size_t room) {
     uint64_t fault[NLROUTE_FAULT_NUMBERS];
@@ -94,12 +94,12 @@ static ptrdiff_t reporting(size_t room) {
 static const struct {
     const char *name;
     calling *call;
-    bool is_by_value;
-} calls[] = {{"rewrite", rewriting, false},
-             {"rewrite_streaming", into, true},
-             {"read", reading, false},
-             {"fault", telling, false},
-             {"report", reporting, false}};
+    bool is_by_value, may_allocate;
+} calls[] = {{"rewrite", rewriting, false, true},
+             {"rewrite_streaming", into, true, true},
+             {"count", counting, false, false},
+             {"fault", telling, false, false},
+             {"report", reporting, false, true}};
 
 static size_t room_of(calling *call) { return call == telling ? NLROUTE_FAULT_NUMBERS : ROOM / 2; }
 
@@ -124,6 +124,7 @@ static bool refuse(size_t i, unsigned long n, ptrdiff_t answer) {
         check(is_same, calls[i].name, "another answer than with memory", n);
         return false;
     }
+    check(calls[i].may_allocate, calls[i].name, "an allocation", n);
     check(refused == 1, calls[i].name, "an allocation after one that failed", n);
     check(answered == NLROUTE_NO_MEMORY, calls[i].name, "not -3", n);
     check(are_lent(from, reach) && out[ROOM - 1] == LENT, calls[i].name, "what was lent has changed", n);
@@ -149,7 +150,7 @@ static void try_call(size_t i) {
     memcpy(whole, out, reach_of(answer)), whole[ROOM - 1] = out[ROOM - 1];
     unsigned long n = 0;
     while (refuse(i, n, answer)) n++;
-    if (answer <= 0 || calls[i].call == reading) return;
+    if (answer <= 0 || calls[i].call == counting) return;
     for (size_t by = 1; by <= 4; by++)
         shorten(i, calls[i].is_by_value ? padded() : (size_t)answer, by);
 }

@@ -19,8 +19,10 @@ are named. --root names another copy of the repository. Each page is checked by 
   .rt file or of nlroute.h. Those of OTHER_NAMES are skipped.
 - names: a word in snake_case or CamelCase, in inline code or such a block, is in a source: a file of SOURCES. Those of
   OTHER_NAMES are skipped. So are CHANGELOG.md and docs/DIFFERENCES.md, which have names of the past and of others.
-- rows: a line `3  CONSTANT  Variant  SHAPE` in such a block has the constant's number, its variant, and the shape of
-  that row in a table of specs/ that the heading names. What follows a colon or a comma, and `as OTHER`, is skipped.
+- rows: a line `3  CONSTANT  Variant  SHAPE as QUANTITY` in such a block has the constant's number and its variant, and
+  the shape and the quantity of that row in a table of specs/ that the heading names. A row of src/ has the same
+  quantity. `as QUANTITY` is missing if there is none. What follows a colon or a comma is skipped, and so is `as OTHER`
+  in place of a shape.
 - counts: a number with a mark, as in `148<!-- count: tests of refusals --> tests`, is that of the tree. A number of
   tests, mutants or edits has a mark, except in CHANGELOG.md.
 - budget: the page has no more words than BUDGETS allows. Code blocks and comments do not count.
@@ -317,12 +319,14 @@ class Tree:
     def types(self):
         """The numbers of attribute types, by name: those of rows, and of constants."""
         constants = {a: b for text in self.folded for a, b in re.findall(r"\bconst (\w+): u16 = (\d+);", text)}
-        return constants | {name: number for name, number, _ in self.attribute_rows}
+        return constants | {name: number for name, number, _, _ in self.attribute_rows}
 
     @functools.cached_property
     def attribute_rows(self):
-        """The rows of attribute sets: the name of the attribute type, its number, and its variant."""
-        pattern = re.compile(r"\b([A-Z]+_\w+) = (\d+)(?: \| \w+)?, (\w+)(?:\([\w, ]+\))?(?:: [^;]*)?;")
+        """The rows of attribute sets: the name of the attribute type, its number, its variant, its quantity or ''."""
+        pattern = re.compile(
+            r"\b([A-Z]+_\w+) = (\d+)(?: \| \w+)?, (\w+)(?:\([\w, ]+\))?(?:: [^;]*?(?: as (\w+))?)?;"
+        )
         return {it for text in self.folded for it in pattern.findall(text)}
 
     @functools.cached_property
@@ -330,16 +334,17 @@ class Tree:
         """The pairs of a variant and its attribute type."""
         pattern = re.compile(r"::(\w+)(?:\([^()]*\)| \{[^{}]*\})? => ([A-Z]+_\w+)")
         arms = {it for text in self.folded for it in pattern.findall(text)}
-        return arms | {(variant, name) for name, _, variant in self.attribute_rows}
+        return arms | {(variant, name) for name, _, variant, _ in self.attribute_rows}
 
     @functools.cached_property
     def tables(self):
-        """The tables in specs/, by name: the names and the shapes of their rows, by number."""
+        """The tables in specs/, by name: the names, the shapes and the quantities, or '', of their rows, by number."""
         tables = {}
+        row = re.compile(r"\b(?:leaf_|list_)?row(?:_in (\w+))? (\d+) \"(\w+)\" \(?(.*?)\)* ∷")
         for text in self.of(r"crates/[^/]+/specs/.*\.antt"):
             for table, body in re.findall(r"^(\w+) =(.*(?:\n[ \t].*|\n)*)", re.sub(r"--.*", "", text), re.MULTILINE):
-                rows_of = re.findall(r"\b(?:leaf_|list_)?row (\d+) \"(\w+)\" \(?(.*?)\)* ∷", " ".join(body.split()))
-                tables |= {table: {number: (name, shape) for number, name, shape in rows_of}} if rows_of else {}
+                rows_of = {number: (name, shape, it) for it, number, name, shape in row.findall(" ".join(body.split()))}
+                tables |= {table: rows_of} if rows_of else {}
         return tables
 
     @functools.lru_cache(maxsize=None)
@@ -581,17 +586,24 @@ def rows(page, tree):
         if not found:
             continue
         number, name, variant, shape = (it.strip(" )") for it in found.groups())
+        shape, _, quantity = shape.partition(" as ")
         tables = [it for it in re.findall(r"`(\w+)`", page.heading(line)) if it in tree.tables]
-        wanted = [tree.tables[it].get(number, (name, "")) for it in tables] or [(name, shape)]
+        wanted = [tree.tables[it].get(number, (name, "", "")) for it in tables] or [(name, shape, quantity)]
+        in_code = [(f"{of} in src/", it) for of, _, row, it in tree.attribute_rows if (row, of) == (variant, name)]
         right = tree.types.get(name, "no attribute type")
         if number != right:
             yield line, f"{name} is {right} in the sources"
         elif (variant, name) not in tree.variants:
             yield line, f"no source has the variant {variant} for {name}"
-        elif any(it != name for it, _ in wanted):
+        elif any(it != name for it, _, _ in wanted):
             yield line, f"row {number} of {' or '.join(tables)} does not have the name {name}"
-        elif not any(re.match(rf"{re.escape(shape)}\b", it) for _, it in wanted) and not shape.startswith("as "):
+        elif not any(re.match(rf"{re.escape(shape)}\b", it) for _, it, _ in wanted) and not shape.startswith("as "):
             yield line, f"row {number} of {' or '.join(tables)} does not have the shape {shape}"
+        else:
+            in_specs = [(f"row {number} of {' or '.join(tables)}", it) for _, _, it in wanted]
+            for place, it in in_specs + in_code:
+                if it != quantity:
+                    yield line, f"{place} has {f'the quantity {it}' if it else 'no quantity'}"
 
 
 def counts(page, tree):

@@ -34,7 +34,7 @@ MOST = 300
 # What a call returns if an allocation fails.
 ERROR, ALLOC_ERROR = "Err(Memory(AllocError))", "Err(AllocError)"
 WANTING = {
-    **dict.fromkeys(["read_list", "write_list", "parse", "count_values"], ERROR),
+    **dict.fromkeys(["read_list", "write_list", "parse"], ERROR),
     **dict.fromkeys(["rewrite", "rewrite_streaming", "rewrite_to_slice", "rewrite_to_slice_short"], ERROR),
     **dict.fromkeys(["VecAfSpecBridge::parse", "VecLinkProtoInfoBridge::parse"], ERROR),
     **dict.fromkeys(["report", "try_clone", "FrameTable::walk"], ALLOC_ERROR),

@@ -286,6 +286,45 @@ class Pages(unittest.TestCase):
         lines = self.said(TREE | more | {"README.md": PAGE + block})
         self.assertEqual(["README.md:34: row 2 of pair_table does not have the name PAIR_ENDS"], lines)
 
+    def test_quantities_of_attribute_types_are_those_of_the_sources(self):
+        block = """
+            ### Pairs: `Pair`, `pair_table`
+
+            ```text
+            1  PAIR_AGE  Age   u32 as Seconds: of both
+            2  PAIR_LEN  Len   u16
+            ```
+
+            ### `end_rows`
+
+            ```text
+            1  END_INDEX  Index  Named 4 as Index
+            ```
+            """.replace("            ", "")
+        spec, code = "crates/pairs/specs/Pair.antt", "crates/pairs/src/kinds.rt"
+        more = {
+            spec: "pair_table =\n    row_in Seconds 1 \"PAIR_AGE\" u32 ∷\n    row 2 \"PAIR_LEN\" u16 ∷ []\n\n"
+            "end_rows = leaf_row_in Index 1 \"END_INDEX\" (Named 4 (numbers_of ends)) ∷ []\n",
+            code: "rows! {\n    PAIR_AGE = 1, Age: u32 as Seconds;\n    PAIR_LEN = 2, Len: u16;\n}\n"
+            "rows! {\n    END_INDEX = 1, Index: Named<End> as Index;\n}\n",
+        }
+        page = {"README.md": PAGE + block}
+        self.assertEqual([], self.said(TREE | more | page))
+        age, index = ("PAIR_AGE in src/", "row 1 of pair_table"), ("END_INDEX in src/", "row 1 of end_rows")
+        for path, old, new, line, quantity, wanted in (
+            ("README.md", " as Seconds", "", 33, "the quantity Seconds", age),
+            ("README.md", "as Index", "as Seconds", 40, "the quantity Index", index),
+            ("README.md", "  u16\n", "  u16 as Seconds\n", 34, "no quantity", ("PAIR_LEN in src/", "row 2 of pair_table")),
+            (spec, "row_in Seconds 1", "row 1", 33, "no quantity", age[1:]),
+            (spec, "row_in Index", "row_in Seconds", 40, "the quantity Seconds", index[1:]),
+            (code, " as Seconds", "", 33, "no quantity", age[:1]),
+            (code, "as Index", "as Seconds", 40, "the quantity Seconds", index[:1]),
+        ):
+            tree = TREE | more | page
+            self.assertEqual(1, tree[path].count(old), old)
+            found = self.said(tree | {path: tree[path].replace(old, new)})
+            self.assertEqual([f"README.md:{line}: {it} has {quantity}" for it in wanted], found)
+
     def test_a_marked_number_is_that_of_the_tree(self):
         wanted = "README.md:{}: {} is not the count of {}"
         self.finds(wanted.format(22, 3, "tests of pairs, which is 2"), "- 2<!-- count: t", "- 3<!-- count: t")

@@ -18,6 +18,7 @@ mod surface;
 mod tables;
 mod texts;
 mod values;
+mod views;
 
 use netlink_packet_route::hex_text;
 use netlink_packet_route::link::{

@@ -33,4 +33,5 @@ pub mod NamedPayloads
 pub mod FlagLemmas
 pub mod Layouts
 pub mod Views
+pub mod ViewWalks
 pub mod Elements

@@ -76,7 +76,7 @@ module _ {V : Type 0} {gives : Reading V} (laws : IsReading gives) where
       laws.one y.kind_field y.payload a b (subst (λ p. gives y.kind_field p a) same.payload (subst (λ f. gives f x.payload a) same.kind_field ha)) hb
 
   -- bytes that start with an error do not start with a frame that decodes to a value
-  no_fault_here : (x : Frame) (t : List ℕ) (v : V) (rest : List ℕ) (fault : DecodeFault) → IsFrame x → FrameGives gives x (Ok v)
+  pub no_fault_here : (x : Frame) (t : List ℕ) (v : V) (rest : List ℕ) (fault : DecodeFault) → IsFrame x → FrameGives gives x (Ok v)
       → frame_bytes x ++ t ≡ rest → FaultsHere gives rest fault → ⊥
   no_fault_here x t v rest fault hx hv e (inl h) =
       let none : frame_fault rest ≡ None = ap frame_fault (sym e) ∙ frame_fault-frame x t hx in
@@ -210,7 +210,7 @@ module _ {V : Type 0} {gives : Reading V} (laws : IsReading gives) where
   same_cause c d e = cc
 
   -- bytes start with one error
-  one_here : (r : List ℕ) (a b : DecodeFault) → FaultsHere gives r a → FaultsHere gives r b → a ≡ b
+  pub one_here : (r : List ℕ) (a b : DecodeFault) → FaultsHere gives r a → FaultsHere gives r b → a ≡ b
   one_here r a b (inl h) (inl k) = h.2 ∙ ap faults.Frame (same_cause h.0 k.0 (sym h.1 ∙ k.1)) ∙ sym k.2
   one_here r a b (inl h) (inr k) =
       let none : frame_fault r ≡ None = ap frame_fault k.1.string ∙ frame_fault-frame k.0 k.1.rest k.1.is in

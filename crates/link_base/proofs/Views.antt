@@ -130,7 +130,7 @@ abbrev pub none_pair : Option (ℕ × List ℕ)
 none_pair = None
 
 -- nothing has no frames
-frames_none : (xs : List Frame) → Frames [] xs → xs ≡ []
+pub frames_none : (xs : List Frame) → Frames [] xs → xs ≡ []
 frames_none [] w = refl
 frames_none (x ∷ xs) w = absurd (omega (arith, ap length w.string, length-append (frame_bytes x) (spelled xs), length-frame_bytes x))
 

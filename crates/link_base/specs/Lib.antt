@@ -24,6 +24,7 @@ pub mod FrameOffsets
 pub mod FrameTableParts
 pub mod Lift
 pub mod Borrowed
+pub mod Labels
 pub mod Equality
 pub mod OneForm
 pub mod DefaultLawful

@@ -1,10 +1,12 @@
 -- Tables of attributes: what `nla_type` and a payload decode to, and how a value is written.
-use Rattle.std.specs.Prelude.{◌≡◌, ℕ, ◌+◌, ◌<◌, ◌==◌, Bool, List, [], ◌∷◌, length, map, Option, Some, None, Result, Ok, Err, if◌then◌else◌}
+use Rattle.std.specs.Prelude.{◌≡◌, ℕ, ◌+◌, ◌<◌, ◌==◌, Bool, List, [], ◌∷◌, length, map, Option, Some, None, Result, Ok, Err, codes, if◌then◌else◌}
 use Prim.Native.String.{String}
 use Rattle.std.specs.List.{filter, AllByRecursion}
 use Rattle.link_base.specs.declared.fault.Cause.{Cause}
 use Rattle.link_base.specs.declared.fault.DecodeFault.{DecodeFault}
 use Rattle.link_base.specs.declared.fault.DecodeFault.TheVariants as faults
+use Rattle.link_base.specs.declared.quantity.Quantity.{Quantity}
+use Rattle.link_base.specs.declared.quantity.Quantity.TheVariants as quantities
 use Rattle.link_base.specs.Frame.{Frame, IsComplete, kind_of, kind_limit, frame_bytes, spelled}
 use Rattle.link_base.specs.Class
 use Rattle.link_base.specs.Class.{Class, Value, class_value, written, IsCanonicalPayload}
@@ -12,19 +14,26 @@ use Rattle.link_base.specs.Wire.{Reading, Reads, Wire, CanonicalBy, FirstOtherBy
 
 -- ---- rows, and attributes of a table
 
--- an attribute type, and what its payloads are
+-- an attribute type, its name in the kernel's headers, what its numbers count, and what its payloads are
 pub record Row (C : Type 0) : Type 0 where
   pub kind : ℕ
+  pub name : String
+  pub quantity : Quantity
   pub class : C
 
 -- a row for this attribute type
-abbrev pub row_of : {C : Type 0} → ℕ → C → Row C
-row_of k c = record { kind = k; class = c }
+abbrev pub row_of : {C : Type 0} → Quantity → ℕ → String → C → Row C
+row_of q k name c = record { kind = k; name = name; quantity = q; class = c }
 
 -- what the payloads of an attribute type are, if it has a row
 abbrev pub class_at : {C : Type 0} → List (Row C) → ℕ → Option C
 class_at [] k = None
 class_at (r ∷ rows) k = if r.kind == k then Some r.class else class_at rows k
+
+-- the name of an attribute type, and what its numbers count, if it has a row
+abbrev pub label_at : {C : Type 0} → List (Row C) → ℕ → Option (List ℕ × Quantity)
+label_at [] k = None
+label_at (r ∷ rows) k = if r.kind == k then Some (codes r.name, r.quantity) else label_at rows k
 
 -- an attribute: the variant for an attribute type that has a row (`Case`), or any other `nla_type` and payload
 pub data Attr (V : Type 0) : Type 0 where
@@ -37,10 +46,13 @@ pub data Attr (V : Type 0) : Type 0 where
 abbrev pub Rows : Type 0
 Rows = List (Row Class)
 
--- a row of such a table: the attribute type, its name in the kernel's headers, and the class of its payloads. The name
--- is for the reader: it changes no meaning
+-- a row of such a table: the attribute type, its name, and the class of its payloads; then likewise for numbers that
+-- count something
 abbrev pub leaf_row : ℕ → String → Class → Row Class
-leaf_row k name c = row_of k c
+leaf_row k name c = row_of quantities.Number k name c
+
+abbrev pub leaf_row_in : Quantity → ℕ → String → Class → Row Class
+leaf_row_in q k name c = row_of q k name c
 
 -- an attribute of a table without lists
 abbrev pub Leaf : Type 0
@@ -84,13 +96,16 @@ pub data Shape : Type 0 where
   -- a list of addresses of n bytes each
   Addresses : ℕ → Shape
 
--- a row for an attribute type whose payloads have one class; the name is that of the kernel's headers
+-- a row for an attribute type whose payloads have one class; then likewise for numbers that count something
 abbrev pub row : ℕ → String → Class → Row Shape
-row k name c = row_of k (One c)
+row k name c = row_of quantities.Number k name (One c)
+
+abbrev pub row_in : Quantity → ℕ → String → Class → Row Shape
+row_in q k name c = row_of q k name (One c)
 
 -- a row for an attribute type whose payloads are lists
 abbrev pub list_row : ℕ → String → Shape → Row Shape
-list_row k name shape = row_of k shape
+list_row k name shape = row_of quantities.Number k name shape
 
 -- the content of an attribute
 pub data Content : Type 0 where

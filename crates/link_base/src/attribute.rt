@@ -3,7 +3,8 @@
 ghost use Rattle.std.specs.Prelude.{◌≡◌, ◌≤◌, ◌+◌, ◌++◌, ◌↔◌, IsTrue, length, take, drop, replicate};
 ghost use Rattle.link_base.specs.Number.{bytes_of};
 ghost use Rattle.link_base.specs.Frame.{kind_of};
-ghost use Rattle.link_base.specs.Table.{Table, AttrValue, Gives, TakesMemory, Fits, Allows, class_at};
+ghost use Rattle.link_base.specs.Table.{Table, AttrValue, Gives, TakesMemory, Fits, Allows, class_at, label_at};
+ghost use Rattle.link_base.specs.Labels.{label_in};
 ghost use Rattle.link_base.specs.Table.{written_kind, written_payload, written_frame};
 ghost use Rattle.link_base.specs.Held.{IsInRange};
 ghost use Rattle.link_base.specs.WellFormed.{is_table};
@@ -20,6 +21,7 @@ use crate::content::Content;
 use crate::fault::{DecodeError, DecodeFault, of_kind};
 use crate::padding::total_size;
 use crate::place::Place;
+use crate::quantity::KindLabel;
 use std::alloc::Global;
 
 /// The maximum length of a payload in bytes: the maximum `nla_len`, 65535, without the four bytes of the header.
@@ -192,6 +194,15 @@ pub trait Attribute: Nla + Parseable + Eq {
         requires { HasValue (elements_at Self.table list) (kind_field_of element.now) (payload_of element.now) }
         ensures { Borrows (class_at (elements_at Self.table list) (kind_of (kind_field_of element.now)))
             (payload_of element.now) result };
+
+    /// Returns the name of an attribute type in the kernel's headers, and what its numbers count; `None` if no row has
+    /// the type.
+    fn kind_label(kind: u16) -> Option<KindLabel>
+        ensures { label_in result ≡ label_at Self.table kind };
+
+    /// Likewise for an attribute type in a nested list. `list` is the attribute type of the nested list.
+    fn element_label(list: u16, kind: u16) -> Option<KindLabel>
+        ensures { label_in result ≡ label_at (elements_at Self.table list) kind };
 
     /// Checks whether an attribute is canonical: its `nla_type` and payload are what would be written for the value
     /// that they decode to. Nothing is decoded. Padding is checked with the list, by `list_is_canonical`.

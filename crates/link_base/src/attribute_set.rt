@@ -1,13 +1,18 @@
 //! Sets of attributes, as views read them.
 
+ghost use Rattle.std.specs.Prelude.{◌≡◌};
 ghost use Rattle.link_base.specs.Frame.{kind_of};
-ghost use Rattle.link_base.specs.Table.{Table, class_at};
+ghost use Rattle.link_base.specs.Table.{Table, Gives, class_at, label_at};
+ghost use Rattle.link_base.specs.Labels.{label_in};
 ghost use Rattle.link_base.specs.Buffer.{kind_field_of, payload_of};
 ghost use Rattle.link_base.specs.Borrowed.{HasValue, Borrows, elements_at};
+ghost use Rattle.link_base.specs.Checked.{Checks};
 
 use crate::attribute::Attribute;
 use crate::buffer::NlaBuffer;
 use crate::content::Content;
+use crate::fault::DecodeFault;
+use crate::quantity::KindLabel;
 use std::alloc::AllocError;
 use std::marker::PhantomData;
 
@@ -21,6 +26,22 @@ pub trait AttributeSet: Copy {
         requires { HasValue (Self.rows self.now) (kind_field_of buffer.now) (payload_of buffer.now) }
         ensures { Borrows (class_at (Self.rows self.now) (kind_of (kind_field_of buffer.now)))
             (payload_of buffer.now) result };
+
+    /// Returns the name of an attribute type in the kernel's headers, and what its numbers count; `None` if no row has
+    /// the type.
+    fn label(&self, kind: u16) -> Option<KindLabel>
+        ensures { label_in result ≡ label_at (Self.rows self.now) kind };
+}
+
+/// A set of attributes that can be checked one at a time.
+pub trait CheckedSet: AttributeSet {
+    /// Checks whether an attribute decodes.
+    ///
+    /// # Errors
+    ///
+    /// `Value`, `NestedFrame` or `NestedValue`: the error that `parse` returns unless an allocation fails.
+    fn check(&self, buffer: &NlaBuffer<'_>) -> Result<(), DecodeFault>
+        ensures { Checks (Gives (Self.rows self.now) (kind_field_of buffer.now) (payload_of buffer.now)) result };
 }
 
 /// The attributes that values of the type `F` represent.
@@ -59,7 +80,6 @@ impl<F> Set<F> {
 }
 
 impl<F> ElementSet<F> {
-    ghost use Rattle.std.specs.Prelude.{◌≡◌};
     ghost use Rattle.link_base.specs.Viewed.{list_of};
 
     /// Returns the set of the attributes in nested lists of the attribute type `list`.
@@ -81,6 +101,17 @@ impl<F: Attribute> AttributeSet for Set<F> {
     fn borrow<'a>(&self, buffer: &NlaBuffer<'a>) -> Content<'a> {
         F::borrow(buffer)
     }
+
+    fn label(&self, kind: u16) -> Option<KindLabel> {
+        F::kind_label(kind)
+    }
+}
+
+impl<F: Attribute> CheckedSet for Set<F> {
+    #[inline(always)]
+    fn check(&self, buffer: &NlaBuffer<'_>) -> Result<(), DecodeFault> {
+        F::check(buffer)
+    }
 }
 
 impl<F: Attribute> AttributeSet for ElementSet<F> {
@@ -91,5 +122,9 @@ impl<F: Attribute> AttributeSet for ElementSet<F> {
     #[inline(always)]
     fn borrow<'a>(&self, buffer: &NlaBuffer<'a>) -> Content<'a> {
         F::borrow_element(self.list, buffer)
+    }
+
+    fn label(&self, kind: u16) -> Option<KindLabel> {
+        F::element_label(self.list, kind)
     }
 }

@@ -1,6 +1,6 @@
 //! Checks whether lists decode, by their bytes: no value is built, and nothing is allocated.
 
-ghost use Rattle.std.specs.Prelude.{ℕ};
+ghost use Rattle.std.specs.Prelude.{ℕ, ◌≤◌, length, IfOk};
 ghost use Rattle.link_base.specs.Table.{Gives, Nested, Addresses, ShapeGives};
 ghost use Rattle.link_base.specs.Checked.{Checks, ListChecks};
 
@@ -17,7 +17,8 @@ use crate::nested::NestedAttribute;
 /// The error and the offset that `read_list` returns in `ListError::Fault`. For an error in a nested list, the offset is
 /// that of the attribute that holds the list.
 pub fn check_list<F: Attribute>(bytes: &[u8]) -> Result<usize, ListFault>
-    ensures { ListChecks (Gives F.table) bytes.now result }
+    ensures answer { ListChecks (Gives F.table) bytes.now result }
+    ensures bounded { IfOk result (λ n. n ≤ length bytes.now) }
 {
     let mut rest = bytes;
     let mut count = 0usize;

@@ -14,7 +14,7 @@ pub enum Content<'a> {
     Bool(bool),
     /// An unsigned number of `width` bytes.
     Unsigned { number: u64, width: usize },
-    /// A signed number.
+    /// A signed number of four bytes.
     Signed(i32),
     /// The number of an enum, of `width` bytes. It may have no name.
     Enum { number: u64, width: usize },
@@ -24,7 +24,7 @@ pub enum Content<'a> {
     LowFlags(u8),
     /// A set of flags, and a mask.
     MaskedFlags { flags: u32, mask: u32 },
-    /// Two numbers.
+    /// Two consecutive `u32`s.
     Pair(u32, u32),
     /// A VLAN protocol.
     Protocol(VlanProtocol),
@@ -45,11 +45,12 @@ pub enum Content<'a> {
     /// The limits of a CAN controller: its name, which ends before the first NUL and may not be UTF-8, and the 32 bytes
     /// of the eight numbers, which are little-endian `u32`s.
     Limits { name: &'a [u8], numbers: &'a [u8] },
-    /// The bytes of a list of addresses of `size` octets each.
+    /// The bytes of a list of attributes, each of which holds an address. Skip those whose payload is not `size` bytes
+    /// long: they are not addresses.
     Addresses { list: &'a [u8], size: usize },
     /// The bytes of a nested list.
     List(&'a [u8]),
-    /// The payload of an attribute whose type has no row.
+    /// The payload of an attribute whose type has no row. `Value::buffer` has its flags.
     Other(&'a [u8]),
 }
 

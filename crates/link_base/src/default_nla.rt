@@ -8,6 +8,7 @@ use crate::content::Content;
 use crate::fault::{DecodeError, DecodeFault};
 use crate::octets::Octets;
 use crate::place::Place;
+use crate::quantity::KindLabel;
 use crate::try_clone::TryClone;
 use std::alloc::{AllocError, Global};
 
@@ -97,6 +98,7 @@ impl Attribute for DefaultNla {
     }
 
     /// Returns the payload.
+    #[inline(always)]
     fn borrow<'a>(buffer: &NlaBuffer<'a>) -> Content<'a> {
         Content::Other(buffer.value())
     }
@@ -104,6 +106,16 @@ impl Attribute for DefaultNla {
     /// Returns the payload.
     fn borrow_element<'a>(_list: u16, element: &NlaBuffer<'a>) -> Content<'a> {
         Content::Other(element.value())
+    }
+
+    /// Returns `None`: no attribute type has a name.
+    fn kind_label(_kind: u16) -> Option<KindLabel> {
+        None
+    }
+
+    /// Returns `None`: no attribute type has a name.
+    fn element_label(_list: u16, _kind: u16) -> Option<KindLabel> {
+        None
     }
 
     /// Returns true: every `nla_type` and every payload is written unchanged.

@@ -53,6 +53,7 @@ pub fn parse_u32s(alloc: Global, payload: &[u8]) -> Result<Vec<u32>, DecodeError
 
 /// Returns the length of the written `u16`s in bytes; saturates at `usize::MAX`.
 #[inline]
+#[tactic(auto, using(crate::proofs::Layouts::numbers_len))]
 pub fn u16s_len(numbers: &[u16]) -> usize
     ensures { result ≡ capped (length (octets_of 2 numbers.now)) }
 {
@@ -61,6 +62,7 @@ pub fn u16s_len(numbers: &[u16]) -> usize
 
 /// Returns the length of the written `u32`s in bytes; saturates at `usize::MAX`.
 #[inline]
+#[tactic(auto, using(crate::proofs::Layouts::numbers_len))]
 pub fn u32s_len(numbers: &[u32]) -> usize
     ensures { result ≡ capped (length (octets_of 4 numbers.now)) }
 {

@@ -3,7 +3,8 @@
 
 ghost use Rattle.std.specs.Prelude.{◌≡◌, ◌<◌, None, Some, IsTrue, IfOk, OnErr, length};
 ghost use Rattle.link_base.specs.Frame.{kind_of, kind_limit};
-ghost use Rattle.link_base.specs.Table.{Case, Gives, TakesMemory, Fits, class_at, written_payload};
+ghost use Rattle.link_base.specs.Table.{Case, Gives, TakesMemory, Fits, class_at, label_at, written_payload};
+ghost use Rattle.link_base.specs.Labels.{label_in};
 ghost use Rattle.link_base.specs.Held.{IsInRange, HoldsMemory};
 ghost use Rattle.link_base.specs.Buffer.{kind_field_of, payload_of};
 ghost use Rattle.link_base.specs.Storing.{Puts};
@@ -17,6 +18,7 @@ use crate::content::Content;
 use crate::fault::{DecodeError, DecodeFault};
 use crate::payload_class::PayloadClass;
 use crate::place::{Place, keep};
+use crate::quantity::KindLabel;
 use std::alloc::{AllocError, Global};
 
 /// Parses the payload of an attribute whose row has the class `C`, and stores the value's variant in `place`.
@@ -118,6 +120,17 @@ pub fn borrow_element_other<'a, F: Meaning>(list: u16, element: &NlaBuffer<'a>) 
     Content::Other(element.value())
 }
 
+/// Returns the name of the attribute type `kind` in a payload of the attribute type `list`, whose row has the class `C`,
+/// and what its numbers count; `None` if no row has the type.
+#[inline(always)]
+pub fn element_label_row<C: PayloadClass, F: Meaning>(list: u16, kind: u16) -> Option<KindLabel>
+    requires { class_at F.table list ≡ Some C.shape }
+    ensures { label_in result ≡ label_at (elements_at F.table list) kind }
+{
+    C::elements();
+    <C::Element as Attribute>::kind_label(kind)
+}
+
 /// Writes the payload of an attribute, whose row has the class `C`. `value` is what its variant holds.
 #[inline(always)]
 pub fn emit_row<C: PayloadClass, F: Meaning>(
@@ -168,27 +181,28 @@ pub fn clone_row<C: PayloadClass, F: Meaning + PartialEq, M: FnOnce(C::Value) ->
 /// The functions of an attribute set, over its rows. A row is
 /// `NAME = TYPE, VARIANT: CLASS;`, with the kernel's name of the attribute type, its number, the variant that holds its
 /// value, and the class of its payloads (`PayloadClass`). `TYPE | NLA_F_NESTED` is a number that is written with the
-/// nested flag. The row of a variant with several fields names them, `VARIANT(FIELD, FIELD): CLASS`: the values of the class
+/// nested flag. `CLASS as QUANTITY` says what the numbers of a row count (`Quantity`). The row of a variant with several fields names them, `VARIANT(FIELD, FIELD): CLASS`: the values of the class
 /// are tuples, and the fields must be `Copy`. The row of a variant without a field has no class, `NAME = TYPE, VARIANT;`: it stands for the class `()`.
 ///
 /// The calls are `kind(self)`, `size(self)`, `emit(self, buffer)`, `read(alloc, buffer, place)`, `check(buffer)`,
-/// `borrow(buffer)`, `borrow_element(list, buffer)`, `canonical(buffer)` and `clone(self, alloc)`.
+/// `borrow(buffer)`, `borrow_element(list, buffer)`, `label(kind)`, `element_label(list, kind)`, `canonical(buffer)` and
+/// `clone(self, alloc)`.
 #[macro_export]
 macro_rules! by_rows {
-    (kind($self:expr) $($name:ident = $kind:literal $(| $flag:ident)?, $variant:ident $(($($field:ident),+))? $(: $class:ty)?;)*) => {
+    (kind($self:expr) $($name:ident = $kind:literal $(| $flag:ident)?, $variant:ident $(($($field:ident),+))? $(: $class:ty $(as $quantity:ident)?)?;)*) => {
         match $self {
             $($crate::row_pattern!($variant $(($($field),+))?, _value $(, $class)?) => $kind $(| $crate::$flag)?,)*
             Self::Other(other) => $crate::Nla::kind(other),
         }
     };
-    (size($self:expr) $($name:ident = $kind:literal $(| $flag:ident)?, $variant:ident $(($($field:ident),+))? $(: $class:ty)?;)*) => {
+    (size($self:expr) $($name:ident = $kind:literal $(| $flag:ident)?, $variant:ident $(($($field:ident),+))? $(: $class:ty $(as $quantity:ident)?)?;)*) => {
         match $self {
             $($crate::row_pattern!($variant $(($($field),+))?, value $(, $class)?) =>
                 <$crate::row_class!($($class)?) as $crate::PayloadClass>::size($crate::row_value!($variant $(($($field),+))?, value $(, $class)?)),)*
             Self::Other(other) => $crate::Nla::value_len(other),
         }
     };
-    (emit($self:expr, $buffer:expr) $($name:ident = $kind:literal $(| $flag:ident)?, $variant:ident $(($($field:ident),+))? $(: $class:ty)?;)*) => {
+    (emit($self:expr, $buffer:expr) $($name:ident = $kind:literal $(| $flag:ident)?, $variant:ident $(($($field:ident),+))? $(: $class:ty $(as $quantity:ident)?)?;)*) => {
         match $self {
             $($crate::row_pattern!($variant $(($($field),+))?, value $(, $class)?) =>
                 $crate::rows::emit_row::<$crate::row_class!($($class)?), Self>(
@@ -197,7 +211,7 @@ macro_rules! by_rows {
             Self::Other(other) => $crate::Nla::emit_value(other, $buffer),
         }
     };
-    (read($alloc:expr, $buffer:expr, $place:expr) $($name:ident = $kind:literal $(| $flag:ident)?, $variant:ident $(($($field:ident),+))? $(: $class:ty)?;)*) => {
+    (read($alloc:expr, $buffer:expr, $place:expr) $($name:ident = $kind:literal $(| $flag:ident)?, $variant:ident $(($($field:ident),+))? $(: $class:ty $(as $quantity:ident)?)?;)*) => {
         match $buffer.kind() {
             $($kind => $crate::rows::read_row::<$crate::row_class!($($class)?), Self, _, _>(
                 $alloc, $kind, $buffer, $place, $crate::row_variant!($variant $(($($field),+))? $(, $class)?),
@@ -208,31 +222,46 @@ macro_rules! by_rows {
             ),
         }
     };
-    (check($buffer:expr) $($name:ident = $kind:literal $(| $flag:ident)?, $variant:ident $(($($field:ident),+))? $(: $class:ty)?;)*) => {
+    (check($buffer:expr) $($name:ident = $kind:literal $(| $flag:ident)?, $variant:ident $(($($field:ident),+))? $(: $class:ty $(as $quantity:ident)?)?;)*) => {
         match $buffer.kind() {
             $($kind => $crate::rows::check_row::<$crate::row_class!($($class)?), Self>($kind, $buffer),)*
             _ => $crate::rows::check_other::<Self>($buffer),
         }
     };
-    (borrow($buffer:expr) $($name:ident = $kind:literal $(| $flag:ident)?, $variant:ident $(($($field:ident),+))? $(: $class:ty)?;)*) => {
+    (borrow($buffer:expr) $($name:ident = $kind:literal $(| $flag:ident)?, $variant:ident $(($($field:ident),+))? $(: $class:ty $(as $quantity:ident)?)?;)*) => {
         match $buffer.kind() {
             $($kind => $crate::rows::borrow_row::<$crate::row_class!($($class)?), Self>($kind, $buffer),)*
             _ => $crate::rows::borrow_other::<Self>($buffer),
         }
     };
-    (borrow_element($list:expr, $element:expr) $($name:ident = $kind:literal $(| $flag:ident)?, $variant:ident $(($($field:ident),+))? $(: $class:ty)?;)*) => {
+    (borrow_element($list:expr, $element:expr) $($name:ident = $kind:literal $(| $flag:ident)?, $variant:ident $(($($field:ident),+))? $(: $class:ty $(as $quantity:ident)?)?;)*) => {
         match $list {
             $($kind => $crate::rows::borrow_element_row::<$crate::row_class!($($class)?), Self>($kind, $element),)*
             _ => $crate::rows::borrow_element_other::<Self>($list, $element),
         }
     };
-    (canonical($buffer:expr) $($name:ident = $kind:literal $(| $flag:ident)?, $variant:ident $(($($field:ident),+))? $(: $class:ty)?;)*) => {
+    (canonical($buffer:expr) $($name:ident = $kind:literal $(| $flag:ident)?, $variant:ident $(($($field:ident),+))? $(: $class:ty $(as $quantity:ident)?)?;)*) => {
         match $buffer.kind() {
             $($kind => <$crate::row_class!($($class)?) as $crate::PayloadClass>::is_canonical($buffer, 0 $(| $crate::$flag)?),)*
             _ => true,
         }
     };
-    (clone($self:expr, $alloc:expr) $($name:ident = $kind:literal $(| $flag:ident)?, $variant:ident $(($($field:ident),+))? $(: $class:ty)?;)*) => {
+    (label($kind:expr) $($name:ident = $number:literal $(| $flag:ident)?, $variant:ident $(($($field:ident),+))? $(: $class:ty $(as $quantity:ident)?)?;)*) => {
+        match $kind {
+            $($number => Some($crate::quantity::KindLabel {
+                name: stringify!($name),
+                quantity: $crate::row_quantity!($($($quantity)?)?),
+            }),)*
+            _ => None,
+        }
+    };
+    (element_label($list:expr, $kind:expr) $($name:ident = $number:literal $(| $flag:ident)?, $variant:ident $(($($field:ident),+))? $(: $class:ty $(as $quantity:ident)?)?;)*) => {
+        match $list {
+            $($number => $crate::rows::element_label_row::<$crate::row_class!($($class)?), Self>($list, $kind),)*
+            _ => None,
+        }
+    };
+    (clone($self:expr, $alloc:expr) $($name:ident = $kind:literal $(| $flag:ident)?, $variant:ident $(($($field:ident),+))? $(: $class:ty $(as $quantity:ident)?)?;)*) => {
         match $self {
             $($crate::row_pattern!($variant $(($($field),+))?, value $(, $class)?) =>
                 $crate::rows::clone_row::<$crate::row_class!($($class)?), Self, _>(
@@ -240,6 +269,17 @@ macro_rules! by_rows {
                 ),)*
             Self::Other(other) => Ok(Self::Other($crate::TryClone::try_clone(other, $alloc)?)),
         }
+    };
+}
+
+/// What the numbers of a row count: `Quantity::Number` if the row does not say.
+#[macro_export]
+macro_rules! row_quantity {
+    ($quantity:ident) => {
+        $crate::quantity::Quantity::$quantity
+    };
+    () => {
+        $crate::quantity::Quantity::Number
     };
 }
 

@@ -1,20 +1,20 @@
 //! Views of lists: the attributes of a list that decodes, as they are in its bytes.
 
-ghost use Rattle.std.specs.Prelude.{◌≡◌, ◌+◌, ◌/◌, List, length};
+ghost use Rattle.std.specs.Prelude.{◌≡◌, ◌+◌, ◌/◌, List, length, IfSome};
 ghost use Rattle.std.specs.Iterator.{at_most};
-ghost use Rattle.link_base.specs.Frame.{Frame, Frames, kind_of};
-ghost use Rattle.link_base.specs.Table.{class_at};
+ghost use Rattle.link_base.specs.Frame.{Frame, Frames};
+ghost use Rattle.link_base.specs.Table.{class_at, label_at};
+ghost use Rattle.link_base.specs.Labels.{label_in};
 ghost use Rattle.link_base.specs.Buffer.{kind_field_of, payload_of};
-ghost use Rattle.link_base.specs.Borrowed.{HasValue, HasValues, Borrows};
+ghost use Rattle.link_base.specs.Borrowed.{HasValue, HasValues, Borrows, elements_at};
 
 use crate::attribute::Attribute;
-use crate::attribute_set::{AttributeSet, ElementSet, Set};
+use crate::attribute_set::{AttributeSet, CheckedSet, ElementSet, Set};
 use crate::buffer::NlaBuffer;
-use crate::checking::check_list;
 use crate::content::Content;
-use crate::fault::ListFault;
+use crate::fault::DecodeFault;
+use crate::quantity::KindLabel;
 use std::alloc::AllocError;
-use std::marker::PhantomData;
 
 /// An attribute of a list that decodes. It borrows the bytes of the list.
 pub struct Value<'a, S: AttributeSet> {
@@ -50,7 +50,25 @@ impl<'a, S: AttributeSet> Clone for View<'a, S> {
 impl<'a, S: AttributeSet> Copy for View<'a, S> {}
 
 impl<'a, S: AttributeSet> Value<'a, S> {
-    ghost use Rattle.link_base.specs.Viewed.{buffer_in, set_in};
+    ghost use Rattle.link_base.specs.Viewed.{buffer_in, kind_in, payload_in, set_in, ViewsElements};
+
+    /// Returns an attribute of `set` as a value. It must decode, as a check of it shows; [`new`](Value::new) checks it.
+    #[inline(always)]
+    pub fn of_checked(buffer: NlaBuffer<'a>, set: S) -> Self
+        requires { HasValue (S.rows set) (kind_field_of buffer) (payload_of buffer) }
+        ensures attribute { buffer_in result ≡ buffer.entry }
+        ensures set { set_in result ≡ set }
+    {
+        Value { buffer, set }
+    }
+
+    /// Returns the set that the attribute belongs to.
+    #[inline]
+    pub fn set(&self) -> S
+        ensures { result ≡ set_in self.now }
+    {
+        self.set
+    }
 
     /// Returns the attribute as it is in the list.
     #[inline]
@@ -63,64 +81,105 @@ impl<'a, S: AttributeSet> Value<'a, S> {
     /// Returns the attribute type.
     #[inline]
     pub fn kind(&self) -> u16
-        ensures { result ≡ kind_of (kind_field_of (buffer_in self.now)) }
+        ensures { result ≡ kind_in self.now }
     {
         self.buffer.kind()
     }
 
+    /// Returns the name of the attribute type in the kernel's headers, and what its numbers count; `None` if no row has
+    /// the type.
+    pub fn label(&self) -> Option<KindLabel>
+        ensures { label_in result ≡ label_at (S.rows (set_in self.now)) (kind_in self.now) }
+    {
+        self.set.label(self.kind())
+    }
+
     /// Returns the content.
-    #[inline]
+    #[inline(always)]
     pub fn content(&self) -> Content<'a>
-        ensures { Borrows (class_at (S.rows (set_in self.now)) (kind_of (kind_field_of (buffer_in self.now))))
-            (payload_of (buffer_in self.now)) result }
+        ensures { Borrows (class_at (S.rows (set_in self.now)) (kind_in self.now)) (payload_in self.now) result }
     {
         self.set.borrow(&self.buffer)
     }
-}
 
-impl<'a, F: Attribute> Value<'a, Set<F>> {
-    ghost use Rattle.link_base.specs.Viewed.{buffer_in, ViewsElements};
-
-    /// Returns a view of the attributes in a nested list; `None` if the attribute is no nested list.
+    /// Returns a view of the attributes in a nested list, as those of `elements`, which must have the table of this
+    /// nested list; `None` if the attribute is not a nested list.
     #[inline]
-    pub fn elements(&self) -> Option<View<'a, ElementSet<F>>>
-        ensures { ViewsElements (class_at F.table (kind_of (kind_field_of (buffer_in self.now))))
-            (kind_of (kind_field_of (buffer_in self.now))) (payload_of (buffer_in self.now)) result }
+    pub fn elements_as<T: AttributeSet>(&self, elements: T) -> Option<View<'a, T>>
+        requires { T.rows elements ≡ elements_at (S.rows (set_in self.now)) (kind_in self.now) }
+        ensures { ViewsElements (class_at (S.rows (set_in self.now)) (kind_in self.now)) (payload_in self.now)
+            elements result }
     {
         match self.content() {
             Content::List(list) => Some(View {
                 rest: list,
-                set: ElementSet::new(self.kind()),
+                set: elements,
             }),
             _ => None,
         }
     }
 }
 
-impl<'a, F: Attribute> View<'a, Set<F>> {
-    ghost use Rattle.link_base.specs.Viewed.{ViewsList};
+impl<'a, S: CheckedSet> Value<'a, S> {
+    ghost use Rattle.link_base.specs.Viewed.{IsValue};
 
-    /// Checks a list and returns a view of its attributes. Nothing is allocated, and no value is built.
+    /// Checks an attribute of `set` and returns it as a value.
     ///
     /// # Errors
     ///
-    /// The first error in the list, with the byte offset of its attribute: the error that `read_list` returns in
-    /// `ListError::Fault`.
-    pub fn new(bytes: &'a [u8]) -> Result<Self, ListFault>
-        ensures { ViewsList F.table bytes.now result }
+    /// `Value`, `NestedFrame` or `NestedValue` if the attribute does not decode.
+    #[inline(always)]
+    pub fn new(buffer: NlaBuffer<'a>, set: S) -> Result<Self, DecodeFault>
+        ensures { IsValue (S.rows set) buffer.entry set result }
     {
-        match check_list::<F>(bytes) {
-            Ok(_) => Ok(View {
-                rest: bytes,
-                set: Set::new(),
-            }),
+        match set.check(&buffer) {
+            Ok(()) => Ok(Value::of_checked(buffer, set)),
             Err(fault) => Err(fault),
         }
     }
 }
 
+impl<'a, F: Attribute> Value<'a, Set<F>> {
+    ghost use Rattle.link_base.specs.Viewed.{kind_in, payload_in, ViewsElementsOf};
+
+    /// Returns a view of the attributes in a nested list; `None` if the attribute is not a nested list.
+    #[inline]
+    pub fn elements(&self) -> Option<View<'a, ElementSet<F>>>
+        ensures { ViewsElementsOf (class_at F.table (kind_in self.now)) (kind_in self.now) (payload_in self.now) result }
+    {
+        self.elements_as(ElementSet::new(self.kind()))
+    }
+}
+
 impl<'a, S: AttributeSet> View<'a, S> {
-    ghost use Rattle.link_base.specs.Viewed.{bytes_in, IsSameView, SplitsView, seen, first_of, last_of};
+    ghost use Rattle.link_base.specs.Viewed.{bytes_in, set_of, kind_in, set_in, IsSameView, SplitsView, seen};
+    ghost use Rattle.link_base.specs.Viewed.{first_of, last_of};
+
+    /// Returns a view of a list of attributes of `set`. The list must decode, as a check of it shows.
+    #[inline(always)]
+    pub fn of_checked(bytes: &'a [u8], set: S) -> Self
+        requires { HasValues (S.rows set) bytes.now }
+        ensures bytes { bytes_in result ≡ bytes.now }
+        ensures set { set_of result ≡ set }
+    {
+        View { rest: bytes, set }
+    }
+
+    /// Returns the set that the attributes belong to.
+    #[inline]
+    pub fn set(&self) -> S
+        ensures { result ≡ set_of self.now }
+    {
+        self.set
+    }
+
+    /// Returns the bytes of the attributes that are left: the end of the list, from the next attribute on.
+    #[inline]
+    pub fn bytes(&self) -> &'a [u8]
+        ensures { result.now ≡ bytes_in self.now }
+    {
+        self.rest
+    }
 
     /// Returns the same view.
     #[inline(always)]
@@ -147,7 +206,7 @@ impl<'a, S: AttributeSet> View<'a, S> {
         Some((Value { buffer, set }, View { rest, set }))
     }
 
-    /// Returns the number of attributes. This goes over the list.
+    /// Returns the number of attributes that are left. This goes over the list.
     pub fn len(&self) -> usize
         ensures { (xs : List Frame) → Frames (bytes_in self.now) xs → result ≡ length xs }
     {
@@ -160,9 +219,11 @@ impl<'a, S: AttributeSet> View<'a, S> {
         count
     }
 
-    /// Returns the first attribute of the type `kind`; `None` if there is none.
+    /// Returns the first of the attributes that are left whose type is `kind`; `None` if there is none.
     pub fn first(&self, kind: u16) -> Option<Value<'a, S>>
-        ensures { (xs : List Frame) → Frames (bytes_in self.now) xs → seen result ≡ first_of kind xs }
+        ensures first { (xs : List Frame) → Frames (bytes_in self.now) xs → seen result ≡ first_of kind xs }
+        ensures kind { IfSome result (λ x. kind_in x ≡ kind) }
+        ensures set { IfSome result (λ x. set_in x ≡ set_of self.now) }
     {
         let mut view = self.again();
         while let Some((value, others)) = view.split_first() {
@@ -174,9 +235,12 @@ impl<'a, S: AttributeSet> View<'a, S> {
         None
     }
 
-    /// Returns the last attribute of the type `kind`, which is the one that Linux takes; `None` if there is none.
+    /// Returns the last of the attributes that are left whose type is `kind`; `None` if there is none. Unless it takes
+    /// all attributes of a type, Linux takes the last.
     pub fn find(&self, kind: u16) -> Option<Value<'a, S>>
-        ensures { (xs : List Frame) → Frames (bytes_in self.now) xs → seen result ≡ last_of kind xs }
+        ensures last { (xs : List Frame) → Frames (bytes_in self.now) xs → seen result ≡ last_of kind xs }
+        ensures kind { IfSome result (λ x. kind_in x ≡ kind) }
+        ensures set { IfSome result (λ x. set_in x ≡ set_of self.now) }
     {
         let mut view = self.again();
         let mut found = None;

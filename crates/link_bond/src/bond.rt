@@ -21,6 +21,7 @@ pub use arp_validate::BondArpValidate;
 pub use fail_over_mac::BondFailOverMac;
 pub use lacp_rate::BondLacpRate;
 use link_base::content::Content;
+use link_base::quantity::KindLabel;
 use link_base::{
     AddressList, Attribute, DecodeError, DecodeFault, DefaultNla, Meaning, Named, NestedList, Nla,
     NlaBuffer, Parseable, Place, TryClone,
@@ -123,16 +124,16 @@ macro_rules! rows {
     ($call:ident($($argument:tt)*)) => {
         link_base::by_rows! { $call($($argument)*)
             IFLA_BOND_MODE = 1, Mode: Named<BondMode>;
-            IFLA_BOND_ACTIVE_SLAVE = 2, ActivePort: u32;
-            IFLA_BOND_MIIMON = 3, MiiMon: u32;
-            IFLA_BOND_UPDELAY = 4, UpDelay: u32;
-            IFLA_BOND_DOWNDELAY = 5, DownDelay: u32;
+            IFLA_BOND_ACTIVE_SLAVE = 2, ActivePort: u32 as InterfaceIndex;
+            IFLA_BOND_MIIMON = 3, MiiMon: u32 as Milliseconds;
+            IFLA_BOND_UPDELAY = 4, UpDelay: u32 as Milliseconds;
+            IFLA_BOND_DOWNDELAY = 5, DownDelay: u32 as Milliseconds;
             IFLA_BOND_USE_CARRIER = 6, UseCarrier: bool;
-            IFLA_BOND_ARP_INTERVAL = 7, ArpInterval: u32;
+            IFLA_BOND_ARP_INTERVAL = 7, ArpInterval: u32 as Milliseconds;
             IFLA_BOND_ARP_IP_TARGET = 8, ArpIpTarget: AddressList<Ipv4Addr>;
             IFLA_BOND_ARP_VALIDATE = 9, ArpValidate: Named<BondArpValidate>;
             IFLA_BOND_ARP_ALL_TARGETS = 10, ArpAllTargets: Named<BondArpAllTargets>;
-            IFLA_BOND_PRIMARY = 11, Primary: u32;
+            IFLA_BOND_PRIMARY = 11, Primary: u32 as InterfaceIndex;
             IFLA_BOND_PRIMARY_RESELECT = 12, PrimaryReselect: Named<BondPrimaryReselect>;
             IFLA_BOND_FAIL_OVER_MAC = 13, FailOverMac: Named<BondFailOverMac>;
             IFLA_BOND_XMIT_HASH_POLICY = 14, XmitHashPolicy: Named<BondXmitHashPolicy>;
@@ -140,7 +141,7 @@ macro_rules! rows {
             IFLA_BOND_NUM_PEER_NOTIF = 16, NumPeerNotif: u8;
             IFLA_BOND_ALL_SLAVES_ACTIVE = 17, AllPortsActive: Named<BondAllPortActive>;
             IFLA_BOND_MIN_LINKS = 18, MinLinks: u32;
-            IFLA_BOND_LP_INTERVAL = 19, LpInterval: u32;
+            IFLA_BOND_LP_INTERVAL = 19, LpInterval: u32 as Seconds;
             IFLA_BOND_PACKETS_PER_SLAVE = 20, PacketsPerPort: u32;
             IFLA_BOND_AD_LACP_RATE = 21, AdLacpRate: Named<BondLacpRate>;
             IFLA_BOND_AD_SELECT = 22, AdSelect: Named<BondAdSelect>;
@@ -149,7 +150,7 @@ macro_rules! rows {
             IFLA_BOND_AD_USER_PORT_KEY = 25, AdUserPortKey: u16;
             IFLA_BOND_AD_ACTOR_SYSTEM = 26, AdActorSystem: [u8; 6];
             IFLA_BOND_TLB_DYNAMIC_LB = 27, TlbDynamicLb: bool;
-            IFLA_BOND_PEER_NOTIF_DELAY = 28, PeerNotifDelay: u32;
+            IFLA_BOND_PEER_NOTIF_DELAY = 28, PeerNotifDelay: u32 as Milliseconds;
             IFLA_BOND_AD_LACP_ACTIVE = 29, AdLacpActive: bool;
             IFLA_BOND_MISSED_MAX = 30, MissedMax: u8;
             IFLA_BOND_NS_IP6_TARGET = 31, NsIp6Target: AddressList<Ipv6Addr>;
@@ -216,12 +217,21 @@ impl Attribute for InfoBond {
         rows!(check(buffer))
     }
 
+    #[inline(always)]
     fn borrow<'a>(buffer: &NlaBuffer<'a>) -> Content<'a> {
         rows!(borrow(buffer))
     }
 
     fn borrow_element<'a>(list: u16, element: &NlaBuffer<'a>) -> Content<'a> {
         rows!(borrow_element(list, element))
+    }
+
+    fn kind_label(kind: u16) -> Option<KindLabel> {
+        rows!(label(kind))
+    }
+
+    fn element_label(list: u16, kind: u16) -> Option<KindLabel> {
+        rows!(element_label(list, kind))
     }
 
     fn canonical(buffer: &NlaBuffer<'_>) -> bool {

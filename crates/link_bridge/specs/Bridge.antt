@@ -2,7 +2,8 @@
 use Rattle.std.specs.Prelude.{[], ◌∷◌, map, true}
 use Rattle.link_base.specs.Class.{Octets, AtLeast, Fixed, Named, Number, Boolean, Raw, EtherType, Nothing, u8, u16, u32, u64, truth, mac, vlan_protocol, no_value}
 use Rattle.link_base.specs.Named.{numbers_of, seen_value}
-use Rattle.link_base.specs.Table.{Table, AttrValue, Case, Nested, Single, Inner, row, list_row}
+use Rattle.link_base.specs.declared.quantity.Quantity.TheVariants.{ClockTicks, Mask}
+use Rattle.link_base.specs.Table.{Table, AttrValue, Case, Nested, Single, Inner, row, row_in, list_row}
 use Rattle.link_base.specs.Protocol.{protocol_number}
 use Rattle.link_base.specs.Default.{default_means}
 use Rattle.link_bridge.specs.Names.{stp_state_names, stp_state_seen, stp_mode_names, stp_mode_seen, router_type_names, router_type_seen}
@@ -15,25 +16,25 @@ use Rattle.link_bridge.specs.declared.bridge.InfoBridge.TheVariants as infos
 -- one row for each attribute type. Type 40, IFLA_BR_PAD, has no row
 abbrev pub bridge_table : Table
 bridge_table =
-    row 1 "IFLA_BR_FORWARD_DELAY" u32 ∷
-    row 2 "IFLA_BR_HELLO_TIME" u32 ∷
-    row 3 "IFLA_BR_MAX_AGE" u32 ∷
-    row 4 "IFLA_BR_AGEING_TIME" u32 ∷
+    row_in ClockTicks 1 "IFLA_BR_FORWARD_DELAY" u32 ∷
+    row_in ClockTicks 2 "IFLA_BR_HELLO_TIME" u32 ∷
+    row_in ClockTicks 3 "IFLA_BR_MAX_AGE" u32 ∷
+    row_in ClockTicks 4 "IFLA_BR_AGEING_TIME" u32 ∷
     row 5 "IFLA_BR_STP_STATE" (Named 4 (numbers_of stp_state_names)) ∷
     row 6 "IFLA_BR_PRIORITY" u16 ∷
     row 7 "IFLA_BR_VLAN_FILTERING" truth ∷
     row 8 "IFLA_BR_VLAN_PROTOCOL" vlan_protocol ∷
-    row 9 "IFLA_BR_GROUP_FWD_MASK" u16 ∷
+    row_in Mask 9 "IFLA_BR_GROUP_FWD_MASK" u16 ∷
     row 10 "IFLA_BR_ROOT_ID" (Octets (AtLeast 8)) ∷
     row 11 "IFLA_BR_BRIDGE_ID" (Octets (AtLeast 8)) ∷
     row 12 "IFLA_BR_ROOT_PORT" u16 ∷
     row 13 "IFLA_BR_ROOT_PATH_COST" u32 ∷
     row 14 "IFLA_BR_TOPOLOGY_CHANGE" u8 ∷
     row 15 "IFLA_BR_TOPOLOGY_CHANGE_DETECTED" u8 ∷
-    row 16 "IFLA_BR_HELLO_TIMER" u64 ∷
-    row 17 "IFLA_BR_TCN_TIMER" u64 ∷
-    row 18 "IFLA_BR_TOPOLOGY_CHANGE_TIMER" u64 ∷
-    row 19 "IFLA_BR_GC_TIMER" u64 ∷
+    row_in ClockTicks 16 "IFLA_BR_HELLO_TIMER" u64 ∷
+    row_in ClockTicks 17 "IFLA_BR_TCN_TIMER" u64 ∷
+    row_in ClockTicks 18 "IFLA_BR_TOPOLOGY_CHANGE_TIMER" u64 ∷
+    row_in ClockTicks 19 "IFLA_BR_GC_TIMER" u64 ∷
     row 20 "IFLA_BR_GROUP_ADDR" mac ∷
     row 21 "IFLA_BR_FDB_FLUSH" no_value ∷
     row 22 "IFLA_BR_MCAST_ROUTER" (Named 1 (numbers_of router_type_names)) ∷
@@ -44,12 +45,12 @@ bridge_table =
     row 27 "IFLA_BR_MCAST_HASH_MAX" u32 ∷
     row 28 "IFLA_BR_MCAST_LAST_MEMBER_CNT" u32 ∷
     row 29 "IFLA_BR_MCAST_STARTUP_QUERY_CNT" u32 ∷
-    row 30 "IFLA_BR_MCAST_LAST_MEMBER_INTVL" u64 ∷
-    row 31 "IFLA_BR_MCAST_MEMBERSHIP_INTVL" u64 ∷
-    row 32 "IFLA_BR_MCAST_QUERIER_INTVL" u64 ∷
-    row 33 "IFLA_BR_MCAST_QUERY_INTVL" u64 ∷
-    row 34 "IFLA_BR_MCAST_QUERY_RESPONSE_INTVL" u64 ∷
-    row 35 "IFLA_BR_MCAST_STARTUP_QUERY_INTVL" u64 ∷
+    row_in ClockTicks 30 "IFLA_BR_MCAST_LAST_MEMBER_INTVL" u64 ∷
+    row_in ClockTicks 31 "IFLA_BR_MCAST_MEMBERSHIP_INTVL" u64 ∷
+    row_in ClockTicks 32 "IFLA_BR_MCAST_QUERIER_INTVL" u64 ∷
+    row_in ClockTicks 33 "IFLA_BR_MCAST_QUERY_INTVL" u64 ∷
+    row_in ClockTicks 34 "IFLA_BR_MCAST_QUERY_RESPONSE_INTVL" u64 ∷
+    row_in ClockTicks 35 "IFLA_BR_MCAST_STARTUP_QUERY_INTVL" u64 ∷
     row 36 "IFLA_BR_NF_CALL_IPTABLES" truth ∷
     row 37 "IFLA_BR_NF_CALL_IP6TABLES" truth ∷
     row 38 "IFLA_BR_NF_CALL_ARPTABLES" truth ∷

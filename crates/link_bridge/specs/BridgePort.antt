@@ -2,7 +2,8 @@
 use Rattle.std.specs.Prelude.{ℕ, List, [], ◌∷◌}
 use Rattle.link_base.specs.Class.{Octets, AtLeast, Named, Number, Boolean, Raw, Nothing, u16, u32, u64, truth, no_value}
 use Rattle.link_base.specs.Named.{numbers_of, seen_value}
-use Rattle.link_base.specs.Table.{Table, AttrValue, Case, Single, row}
+use Rattle.link_base.specs.declared.quantity.Quantity.TheVariants.{ClockTicks, InterfaceIndex, Mask}
+use Rattle.link_base.specs.Table.{Table, AttrValue, Case, Single, row, row_in}
 use Rattle.link_base.specs.Default.{default_means}
 use Rattle.link_bridge.specs.Names.{port_state_names, port_state_seen, router_type_names, router_type_seen}
 use Rattle.link_bridge.specs.Id.{id_octets}
@@ -26,25 +27,25 @@ bridge_port_table =
     row 12 "IFLA_BRPORT_PROXYARP_WIFI" truth ∷
     row 13 "IFLA_BRPORT_ROOT_ID" (Octets (AtLeast 8)) ∷
     row 14 "IFLA_BRPORT_BRIDGE_ID" (Octets (AtLeast 8)) ∷
-    row 15 "IFLA_BRPORT_DESIGNATED_PORT" u16 ∷
+    row_in Mask 15 "IFLA_BRPORT_DESIGNATED_PORT" u16 ∷
     row 16 "IFLA_BRPORT_DESIGNATED_COST" u16 ∷
-    row 17 "IFLA_BRPORT_ID" u16 ∷
+    row_in Mask 17 "IFLA_BRPORT_ID" u16 ∷
     row 18 "IFLA_BRPORT_NO" u16 ∷
     row 19 "IFLA_BRPORT_TOPOLOGY_CHANGE_ACK" truth ∷
     row 20 "IFLA_BRPORT_CONFIG_PENDING" truth ∷
-    row 21 "IFLA_BRPORT_MESSAGE_AGE_TIMER" u64 ∷
-    row 22 "IFLA_BRPORT_FORWARD_DELAY_TIMER" u64 ∷
-    row 23 "IFLA_BRPORT_HOLD_TIMER" u64 ∷
+    row_in ClockTicks 21 "IFLA_BRPORT_MESSAGE_AGE_TIMER" u64 ∷
+    row_in ClockTicks 22 "IFLA_BRPORT_FORWARD_DELAY_TIMER" u64 ∷
+    row_in ClockTicks 23 "IFLA_BRPORT_HOLD_TIMER" u64 ∷
     row 24 "IFLA_BRPORT_FLUSH" no_value ∷
     row 25 "IFLA_BRPORT_MULTICAST_ROUTER" (Named 1 (numbers_of router_type_names)) ∷
     row 27 "IFLA_BRPORT_MCAST_FLOOD" truth ∷
     row 28 "IFLA_BRPORT_MCAST_TO_UCAST" truth ∷
     row 29 "IFLA_BRPORT_VLAN_TUNNEL" truth ∷
     row 30 "IFLA_BRPORT_BCAST_FLOOD" truth ∷
-    row 31 "IFLA_BRPORT_GROUP_FWD_MASK" u16 ∷
+    row_in Mask 31 "IFLA_BRPORT_GROUP_FWD_MASK" u16 ∷
     row 32 "IFLA_BRPORT_NEIGH_SUPPRESS" truth ∷
     row 33 "IFLA_BRPORT_ISOLATED" truth ∷
-    row 34 "IFLA_BRPORT_BACKUP_PORT" u32 ∷
+    row_in InterfaceIndex 34 "IFLA_BRPORT_BACKUP_PORT" u32 ∷
     row 35 "IFLA_BRPORT_MRP_RING_OPEN" truth ∷
     row 36 "IFLA_BRPORT_MRP_IN_OPEN" truth ∷
     row 37 "IFLA_BRPORT_MCAST_EHT_HOSTS_LIMIT" u32 ∷
@@ -77,25 +78,25 @@ bridge_port_table_first =
     row 12 "IFLA_BRPORT_PROXYARP_WIFI" truth ∷
     row 13 "IFLA_BRPORT_ROOT_ID" (Octets (AtLeast 8)) ∷
     row 14 "IFLA_BRPORT_BRIDGE_ID" (Octets (AtLeast 8)) ∷
-    row 15 "IFLA_BRPORT_DESIGNATED_PORT" u16 ∷
+    row_in Mask 15 "IFLA_BRPORT_DESIGNATED_PORT" u16 ∷
     row 16 "IFLA_BRPORT_DESIGNATED_COST" u16 ∷
-    row 17 "IFLA_BRPORT_ID" u16 ∷
+    row_in Mask 17 "IFLA_BRPORT_ID" u16 ∷
     row 18 "IFLA_BRPORT_NO" u16 ∷
     row 19 "IFLA_BRPORT_TOPOLOGY_CHANGE_ACK" truth ∷
     row 20 "IFLA_BRPORT_CONFIG_PENDING" truth ∷
-    row 21 "IFLA_BRPORT_MESSAGE_AGE_TIMER" u64 ∷
-    row 22 "IFLA_BRPORT_FORWARD_DELAY_TIMER" u64 ∷
-    row 23 "IFLA_BRPORT_HOLD_TIMER" u64 ∷
+    row_in ClockTicks 21 "IFLA_BRPORT_MESSAGE_AGE_TIMER" u64 ∷
+    row_in ClockTicks 22 "IFLA_BRPORT_FORWARD_DELAY_TIMER" u64 ∷
+    row_in ClockTicks 23 "IFLA_BRPORT_HOLD_TIMER" u64 ∷
     row 24 "IFLA_BRPORT_FLUSH" no_value ∷
     row 25 "IFLA_BRPORT_MULTICAST_ROUTER" (Named 1 (numbers_of router_type_names)) ∷
     row 27 "IFLA_BRPORT_MCAST_FLOOD" truth ∷
     row 28 "IFLA_BRPORT_MCAST_TO_UCAST" truth ∷
     row 29 "IFLA_BRPORT_VLAN_TUNNEL" truth ∷
     row 30 "IFLA_BRPORT_BCAST_FLOOD" truth ∷
-    row 31 "IFLA_BRPORT_GROUP_FWD_MASK" u16 ∷
+    row_in Mask 31 "IFLA_BRPORT_GROUP_FWD_MASK" u16 ∷
     row 32 "IFLA_BRPORT_NEIGH_SUPPRESS" truth ∷
     row 33 "IFLA_BRPORT_ISOLATED" truth ∷
-    row 34 "IFLA_BRPORT_BACKUP_PORT" u32 ∷
+    row_in InterfaceIndex 34 "IFLA_BRPORT_BACKUP_PORT" u32 ∷
     row 35 "IFLA_BRPORT_MRP_RING_OPEN" truth ∷
     row 36 "IFLA_BRPORT_MRP_IN_OPEN" truth ∷
     row 37 "IFLA_BRPORT_MCAST_EHT_HOSTS_LIMIT" u32 ∷

@@ -2,7 +2,8 @@
 use Rattle.std.specs.Prelude.{[], ◌∷◌}
 use Rattle.link_base.specs.Class.{Number, Raw, u32, u64, ipv4, ipv6}
 use Rattle.link_base.specs.IpAddress.{four_octets, sixteen_octets}
-use Rattle.link_base.specs.Table.{Rows, Leaf, Case, leaf_row}
+use Rattle.link_base.specs.declared.quantity.Quantity.TheVariants.{ClockTicks, InterfaceIndex}
+use Rattle.link_base.specs.Table.{Rows, Leaf, Case, leaf_row, leaf_row_in}
 use Rattle.link_base.specs.Default.{default_means}
 use Rattle.link_bridge.specs.declared.bridge.querier.BridgeQuerierState.{BridgeQuerierState}
 use Rattle.link_bridge.specs.declared.bridge.querier.BridgeQuerierState.TheVariants.{Ipv4Address, Ipv4Port, Ipv4OtherTimer, Ipv6Address, Ipv6Port, Ipv6OtherTimer, Other}
@@ -11,11 +12,11 @@ use Rattle.link_bridge.specs.declared.bridge.querier.BridgeQuerierState.TheVaria
 abbrev pub querier_rows : Rows
 querier_rows =
     leaf_row 1 "BRIDGE_QUERIER_IP_ADDRESS" ipv4 ∷
-    leaf_row 2 "BRIDGE_QUERIER_IP_PORT" u32 ∷
-    leaf_row 3 "BRIDGE_QUERIER_IP_OTHER_TIMER" u64 ∷
+    leaf_row_in InterfaceIndex 2 "BRIDGE_QUERIER_IP_PORT" u32 ∷
+    leaf_row_in ClockTicks 3 "BRIDGE_QUERIER_IP_OTHER_TIMER" u64 ∷
     leaf_row 5 "BRIDGE_QUERIER_IPV6_ADDRESS" ipv6 ∷
-    leaf_row 6 "BRIDGE_QUERIER_IPV6_PORT" u32 ∷
-    leaf_row 7 "BRIDGE_QUERIER_IPV6_OTHER_TIMER" u64 ∷ []
+    leaf_row_in InterfaceIndex 6 "BRIDGE_QUERIER_IPV6_PORT" u32 ∷
+    leaf_row_in ClockTicks 7 "BRIDGE_QUERIER_IPV6_OTHER_TIMER" u64 ∷ []
 
 -- the attribute that a value represents
 abbrev pub querier_leaf : BridgeQuerierState → Leaf

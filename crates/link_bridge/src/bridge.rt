@@ -9,6 +9,7 @@ mod stp_state;
 use crate::bridge_boolopt::BridgeBooleanOptions;
 pub use id::{BridgeId, BridgeIdBuffer};
 use link_base::content::Content;
+use link_base::quantity::KindLabel;
 use link_base::{
     Attribute, DecodeError, DecodeFault, DefaultNla, Meaning, Named, NestedList, Nla, NlaBuffer,
     Parseable, Place, Struct, TryClone, VlanProtocol,
@@ -151,25 +152,25 @@ pub enum InfoBridge {
 macro_rules! rows {
     ($call:ident($($argument:tt)*)) => {
         link_base::by_rows! { $call($($argument)*)
-            IFLA_BR_FORWARD_DELAY = 1, ForwardDelay: u32;
-            IFLA_BR_HELLO_TIME = 2, HelloTime: u32;
-            IFLA_BR_MAX_AGE = 3, MaxAge: u32;
-            IFLA_BR_AGEING_TIME = 4, AgeingTime: u32;
+            IFLA_BR_FORWARD_DELAY = 1, ForwardDelay: u32 as ClockTicks;
+            IFLA_BR_HELLO_TIME = 2, HelloTime: u32 as ClockTicks;
+            IFLA_BR_MAX_AGE = 3, MaxAge: u32 as ClockTicks;
+            IFLA_BR_AGEING_TIME = 4, AgeingTime: u32 as ClockTicks;
             IFLA_BR_STP_STATE = 5, StpState: Named<BridgeStpState>;
             IFLA_BR_PRIORITY = 6, Priority: u16;
             IFLA_BR_VLAN_FILTERING = 7, VlanFiltering: bool;
             IFLA_BR_VLAN_PROTOCOL = 8, VlanProtocol: VlanProtocol;
-            IFLA_BR_GROUP_FWD_MASK = 9, GroupFwdMask: u16;
+            IFLA_BR_GROUP_FWD_MASK = 9, GroupFwdMask: u16 as Mask;
             IFLA_BR_ROOT_ID = 10, RootId: Struct<BridgeId>;
             IFLA_BR_BRIDGE_ID = 11, BridgeId: Struct<BridgeId>;
             IFLA_BR_ROOT_PORT = 12, RootPort: u16;
             IFLA_BR_ROOT_PATH_COST = 13, RootPathCost: u32;
             IFLA_BR_TOPOLOGY_CHANGE = 14, TopologyChange: u8;
             IFLA_BR_TOPOLOGY_CHANGE_DETECTED = 15, TopologyChangeDetected: u8;
-            IFLA_BR_HELLO_TIMER = 16, HelloTimer: u64;
-            IFLA_BR_TCN_TIMER = 17, TcnTimer: u64;
-            IFLA_BR_TOPOLOGY_CHANGE_TIMER = 18, TopologyChangeTimer: u64;
-            IFLA_BR_GC_TIMER = 19, GcTimer: u64;
+            IFLA_BR_HELLO_TIMER = 16, HelloTimer: u64 as ClockTicks;
+            IFLA_BR_TCN_TIMER = 17, TcnTimer: u64 as ClockTicks;
+            IFLA_BR_TOPOLOGY_CHANGE_TIMER = 18, TopologyChangeTimer: u64 as ClockTicks;
+            IFLA_BR_GC_TIMER = 19, GcTimer: u64 as ClockTicks;
             IFLA_BR_GROUP_ADDR = 20, GroupAddr: [u8; 6];
             IFLA_BR_FDB_FLUSH = 21, FdbFlush;
             IFLA_BR_MCAST_ROUTER = 22, MulticastRouter: Named<BridgeMulticastRouterType>;
@@ -180,12 +181,12 @@ macro_rules! rows {
             IFLA_BR_MCAST_HASH_MAX = 27, MulticastHashMax: u32;
             IFLA_BR_MCAST_LAST_MEMBER_CNT = 28, MulticastLastMemberCount: u32;
             IFLA_BR_MCAST_STARTUP_QUERY_CNT = 29, MulticastStartupQueryCount: u32;
-            IFLA_BR_MCAST_LAST_MEMBER_INTVL = 30, MulticastLastMemberInterval: u64;
-            IFLA_BR_MCAST_MEMBERSHIP_INTVL = 31, MulticastMembershipInterval: u64;
-            IFLA_BR_MCAST_QUERIER_INTVL = 32, MulticastQuerierInterval: u64;
-            IFLA_BR_MCAST_QUERY_INTVL = 33, MulticastQueryInterval: u64;
-            IFLA_BR_MCAST_QUERY_RESPONSE_INTVL = 34, MulticastQueryResponseInterval: u64;
-            IFLA_BR_MCAST_STARTUP_QUERY_INTVL = 35, MulticastStartupQueryInterval: u64;
+            IFLA_BR_MCAST_LAST_MEMBER_INTVL = 30, MulticastLastMemberInterval: u64 as ClockTicks;
+            IFLA_BR_MCAST_MEMBERSHIP_INTVL = 31, MulticastMembershipInterval: u64 as ClockTicks;
+            IFLA_BR_MCAST_QUERIER_INTVL = 32, MulticastQuerierInterval: u64 as ClockTicks;
+            IFLA_BR_MCAST_QUERY_INTVL = 33, MulticastQueryInterval: u64 as ClockTicks;
+            IFLA_BR_MCAST_QUERY_RESPONSE_INTVL = 34, MulticastQueryResponseInterval: u64 as ClockTicks;
+            IFLA_BR_MCAST_STARTUP_QUERY_INTVL = 35, MulticastStartupQueryInterval: u64 as ClockTicks;
             IFLA_BR_NF_CALL_IPTABLES = 36, NfCallIpTables: bool;
             IFLA_BR_NF_CALL_IP6TABLES = 37, NfCallIp6Tables: bool;
             IFLA_BR_NF_CALL_ARPTABLES = 38, NfCallArpTables: bool;
@@ -258,12 +259,21 @@ impl Attribute for InfoBridge {
         rows!(check(buffer))
     }
 
+    #[inline(always)]
     fn borrow<'a>(buffer: &NlaBuffer<'a>) -> Content<'a> {
         rows!(borrow(buffer))
     }
 
     fn borrow_element<'a>(list: u16, element: &NlaBuffer<'a>) -> Content<'a> {
         rows!(borrow_element(list, element))
+    }
+
+    fn kind_label(kind: u16) -> Option<KindLabel> {
+        rows!(label(kind))
+    }
+
+    fn element_label(list: u16, kind: u16) -> Option<KindLabel> {
+        rows!(element_label(list, kind))
     }
 
     fn canonical(buffer: &NlaBuffer<'_>) -> bool {

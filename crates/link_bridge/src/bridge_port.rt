@@ -4,6 +4,7 @@ mod state;
 
 use crate::bridge::{BridgeId, BridgeMulticastRouterType};
 use link_base::content::Content;
+use link_base::quantity::KindLabel;
 use link_base::{
     Attribute, DecodeError, DecodeFault, DefaultNla, Meaning, Named, Nla, NlaBuffer, Parseable,
     Place, Struct, TryClone,
@@ -149,25 +150,25 @@ macro_rules! rows {
             IFLA_BRPORT_PROXYARP_WIFI = 12, ProxyARPWifi: bool;
             IFLA_BRPORT_ROOT_ID = 13, RootId: Struct<BridgeId>;
             IFLA_BRPORT_BRIDGE_ID = 14, BridgeId: Struct<BridgeId>;
-            IFLA_BRPORT_DESIGNATED_PORT = 15, DesignatedPort: u16;
+            IFLA_BRPORT_DESIGNATED_PORT = 15, DesignatedPort: u16 as Mask;
             IFLA_BRPORT_DESIGNATED_COST = 16, DesignatedCost: u16;
-            IFLA_BRPORT_ID = 17, PortId: u16;
+            IFLA_BRPORT_ID = 17, PortId: u16 as Mask;
             IFLA_BRPORT_NO = 18, PortNumber: u16;
             IFLA_BRPORT_TOPOLOGY_CHANGE_ACK = 19, TopologyChangeAck: bool;
             IFLA_BRPORT_CONFIG_PENDING = 20, ConfigPending: bool;
-            IFLA_BRPORT_MESSAGE_AGE_TIMER = 21, MessageAgeTimer: u64;
-            IFLA_BRPORT_FORWARD_DELAY_TIMER = 22, ForwardDelayTimer: u64;
-            IFLA_BRPORT_HOLD_TIMER = 23, HoldTimer: u64;
+            IFLA_BRPORT_MESSAGE_AGE_TIMER = 21, MessageAgeTimer: u64 as ClockTicks;
+            IFLA_BRPORT_FORWARD_DELAY_TIMER = 22, ForwardDelayTimer: u64 as ClockTicks;
+            IFLA_BRPORT_HOLD_TIMER = 23, HoldTimer: u64 as ClockTicks;
             IFLA_BRPORT_FLUSH = 24, Flush;
             IFLA_BRPORT_MULTICAST_ROUTER = 25, MulticastRouter: Named<BridgeMulticastRouterType>;
             IFLA_BRPORT_MCAST_FLOOD = 27, MulticastFlood: bool;
             IFLA_BRPORT_MCAST_TO_UCAST = 28, MulticastToUnicast: bool;
             IFLA_BRPORT_VLAN_TUNNEL = 29, VlanTunnel: bool;
             IFLA_BRPORT_BCAST_FLOOD = 30, BroadcastFlood: bool;
-            IFLA_BRPORT_GROUP_FWD_MASK = 31, GroupFwdMask: u16;
+            IFLA_BRPORT_GROUP_FWD_MASK = 31, GroupFwdMask: u16 as Mask;
             IFLA_BRPORT_NEIGH_SUPPRESS = 32, NeighSupress: bool;
             IFLA_BRPORT_ISOLATED = 33, Isolated: bool;
-            IFLA_BRPORT_BACKUP_PORT = 34, BackupPort: u32;
+            IFLA_BRPORT_BACKUP_PORT = 34, BackupPort: u32 as InterfaceIndex;
             IFLA_BRPORT_MRP_RING_OPEN = 35, MrpRingOpen: bool;
             IFLA_BRPORT_MRP_IN_OPEN = 36, MrpInOpen: bool;
             IFLA_BRPORT_MCAST_EHT_HOSTS_LIMIT = 37, MulticastEhtHostsLimit: u32;
@@ -235,12 +236,21 @@ impl Attribute for InfoBridgePort {
         rows!(check(buffer))
     }
 
+    #[inline(always)]
     fn borrow<'a>(buffer: &NlaBuffer<'a>) -> Content<'a> {
         rows!(borrow(buffer))
     }
 
     fn borrow_element<'a>(list: u16, element: &NlaBuffer<'a>) -> Content<'a> {
         rows!(borrow_element(list, element))
+    }
+
+    fn kind_label(kind: u16) -> Option<KindLabel> {
+        rows!(label(kind))
+    }
+
+    fn element_label(list: u16, kind: u16) -> Option<KindLabel> {
+        rows!(element_label(list, kind))
     }
 
     fn canonical(buffer: &NlaBuffer<'_>) -> bool {

@@ -7,6 +7,7 @@ ghost use Rattle.link_base.specs.Answers.{ListAnswers, ListFaultUnless, OnListMe
 ghost use Rattle.link_bridge.specs.ProtoInfo.{proto_info_table, proto_info_means};
 
 use link_base::content::Content;
+use link_base::quantity::KindLabel;
 use link_base::{
     Attribute, DecodeError, DecodeFault, DefaultNla, ListError, Meaning, Nla, NlaBuffer, Parseable,
     Place, TryClone, read_list,
@@ -99,12 +100,21 @@ impl Attribute for LinkProtoInfoBridge {
         rows!(check(buffer))
     }
 
+    #[inline(always)]
     fn borrow<'a>(buffer: &NlaBuffer<'a>) -> Content<'a> {
         rows!(borrow(buffer))
     }
 
     fn borrow_element<'a>(list: u16, element: &NlaBuffer<'a>) -> Content<'a> {
         rows!(borrow_element(list, element))
+    }
+
+    fn kind_label(kind: u16) -> Option<KindLabel> {
+        rows!(label(kind))
+    }
+
+    fn element_label(list: u16, kind: u16) -> Option<KindLabel> {
+        rows!(element_label(list, kind))
     }
 
     fn canonical(buffer: &NlaBuffer<'_>) -> bool {

@@ -2,7 +2,8 @@
 use Rattle.std.specs.Prelude.{ℕ, List, [], ◌∷◌, map, true}
 use Rattle.link_base.specs.Class.{Octets, AtLeast, Fixed, Limits, Number, Raw, u16, u32, u16s, u32s}
 use Rattle.link_base.specs.Layout.{octets_of}
-use Rattle.link_base.specs.Table.{Rows, Leaf, Table, AttrValue, Case, Nested, Single, Inner, row, leaf_row, list_row}
+use Rattle.link_base.specs.declared.quantity.Quantity.TheVariants.{BitsPerSecond, Milliseconds, Ohms}
+use Rattle.link_base.specs.Table.{Rows, Leaf, Table, AttrValue, Case, Nested, Single, Inner, row, row_in, leaf_row, list_row}
 use Rattle.link_base.specs.Default.{default_means}
 use Rattle.link_vlan_can.specs.CanFlags.{mode_bits}
 use Rattle.link_vlan_can.specs.declared.can_tdc.CanTdc.{CanTdc}
@@ -57,16 +58,16 @@ can_table =
     row 3 "IFLA_CAN_CLOCK" (Octets (Fixed 4)) ∷
     row 4 "IFLA_CAN_STATE" u32 ∷
     row 5 "IFLA_CAN_CTRLMODE" (Octets (AtLeast 8)) ∷
-    row 6 "IFLA_CAN_RESTART_MS" u32 ∷
+    row_in Milliseconds 6 "IFLA_CAN_RESTART_MS" u32 ∷
     row 7 "IFLA_CAN_RESTART" u32 ∷
     row 8 "IFLA_CAN_BERR_COUNTER" (Octets (AtLeast 4)) ∷
     row 9 "IFLA_CAN_DATA_BITTIMING" (Octets (AtLeast 32)) ∷
     row 10 "IFLA_CAN_DATA_BITTIMING_CONST" Limits ∷
-    row 11 "IFLA_CAN_TERMINATION" u16 ∷
-    row 12 "IFLA_CAN_TERMINATION_CONST" u16s ∷
-    row 13 "IFLA_CAN_BITRATE_CONST" u32s ∷
-    row 14 "IFLA_CAN_DATA_BITRATE_CONST" u32s ∷
-    row 15 "IFLA_CAN_BITRATE_MAX" u32 ∷
+    row_in Ohms 11 "IFLA_CAN_TERMINATION" u16 ∷
+    row_in Ohms 12 "IFLA_CAN_TERMINATION_CONST" u16s ∷
+    row_in BitsPerSecond 13 "IFLA_CAN_BITRATE_CONST" u32s ∷
+    row_in BitsPerSecond 14 "IFLA_CAN_DATA_BITRATE_CONST" u32s ∷
+    row_in BitsPerSecond 15 "IFLA_CAN_BITRATE_MAX" u32 ∷
     list_row 16 "IFLA_CAN_TDC" (Nested true tdc_rows) ∷
     list_row 17 "IFLA_CAN_CTRLMODE_EXT" (Nested true mode_rows) ∷ []
 
@@ -82,13 +83,13 @@ can_table_first =
     row 3 "IFLA_CAN_CLOCK" (Octets (Fixed 4)) ∷
     row 4 "IFLA_CAN_STATE" u32 ∷
     row 5 "IFLA_CAN_CTRLMODE" (Octets (AtLeast 8)) ∷
-    row 6 "IFLA_CAN_RESTART_MS" u32 ∷
+    row_in Milliseconds 6 "IFLA_CAN_RESTART_MS" u32 ∷
     row 7 "IFLA_CAN_RESTART" u32 ∷
     row 8 "IFLA_CAN_BERR_COUNTER" (Octets (AtLeast 4)) ∷
     row 9 "IFLA_CAN_DATA_BITTIMING" (Octets (AtLeast 32)) ∷
     row 10 "IFLA_CAN_DATA_BITTIMING_CONST" Limits ∷
-    row 11 "IFLA_CAN_TERMINATION" u16 ∷
-    row 15 "IFLA_CAN_BITRATE_MAX" u32 ∷
+    row_in Ohms 11 "IFLA_CAN_TERMINATION" u16 ∷
+    row_in BitsPerSecond 15 "IFLA_CAN_BITRATE_MAX" u32 ∷
     list_row 16 "IFLA_CAN_TDC" (Nested true tdc_rows) ∷
     list_row 17 "IFLA_CAN_CTRLMODE_EXT" (Nested true mode_rows) ∷ []
 

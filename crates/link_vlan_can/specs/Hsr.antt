@@ -2,7 +2,8 @@
 use Rattle.std.specs.Prelude.{[], ◌∷◌, codes, refl}
 use Rattle.link_base.specs.Class.{Named, Number, Raw, u8, u16, u32, mac}
 use Rattle.link_base.specs.Named.{Naming, Seen, Listed, Free, IsSeen, label, Bare, NoText, numbers_of, seen_value}
-use Rattle.link_base.specs.Table.{Table, AttrValue, Case, Single, row}
+use Rattle.link_base.specs.declared.quantity.Quantity.TheVariants.{InterfaceIndex}
+use Rattle.link_base.specs.Table.{Table, AttrValue, Case, Single, row, row_in}
 use Rattle.link_base.specs.Default.{default_means}
 use Rattle.link_vlan_can.specs.declared.hsr.HsrProtocol.{HsrProtocol}
 use Rattle.link_vlan_can.specs.declared.hsr.HsrProtocol.TheVariants as protocols
@@ -34,14 +35,14 @@ hsr_protocol_cases (protocols.Other d) = refl
 -- one row for each attribute type
 abbrev pub hsr_table : Table
 hsr_table =
-    row 1 "IFLA_HSR_SLAVE1" u32 ∷
-    row 2 "IFLA_HSR_SLAVE2" u32 ∷
+    row_in InterfaceIndex 1 "IFLA_HSR_SLAVE1" u32 ∷
+    row_in InterfaceIndex 2 "IFLA_HSR_SLAVE2" u32 ∷
     row 3 "IFLA_HSR_MULTICAST_SPEC" u8 ∷
     row 4 "IFLA_HSR_SUPERVISION_ADDR" mac ∷
     row 5 "IFLA_HSR_SEQ_NR" u16 ∷
     row 6 "IFLA_HSR_VERSION" u8 ∷
     row 7 "IFLA_HSR_PROTOCOL" (Named 1 (numbers_of hsr_protocol_names)) ∷
-    row 8 "IFLA_HSR_INTERLINK" u32 ∷ []
+    row_in InterfaceIndex 8 "IFLA_HSR_INTERLINK" u32 ∷ []
 
 -- the attribute that a value represents
 abbrev pub hsr_means : InfoHsr → AttrValue

@@ -7,6 +7,7 @@ use crate::can_modes::CanCtrlModeExt;
 use crate::can_records::{CanBerrCounter, CanBitTiming, CanClock, CanCtrlMode};
 use crate::can_tdc::CanTdc;
 use link_base::content::Content;
+use link_base::quantity::KindLabel;
 use link_base::{
     Attribute, DecodeError, DecodeFault, DefaultNla, Meaning, NestedList, Nla, NlaBuffer,
     Parseable, Place, Struct, TryClone,
@@ -74,16 +75,16 @@ macro_rules! rows {
             IFLA_CAN_CLOCK = 3, Clock: Struct<CanClock>;
             IFLA_CAN_STATE = 4, State: u32;
             IFLA_CAN_CTRLMODE = 5, CtrlMode: Struct<CanCtrlMode>;
-            IFLA_CAN_RESTART_MS = 6, RestartMs: u32;
+            IFLA_CAN_RESTART_MS = 6, RestartMs: u32 as Milliseconds;
             IFLA_CAN_RESTART = 7, Restart: u32;
             IFLA_CAN_BERR_COUNTER = 8, BerrCounter: Struct<CanBerrCounter>;
             IFLA_CAN_DATA_BITTIMING = 9, DataBitTiming: Struct<CanBitTiming>;
             IFLA_CAN_DATA_BITTIMING_CONST = 10, DataBitTimingConst: CanBitTimingConst;
-            IFLA_CAN_TERMINATION = 11, Termination: u16;
-            IFLA_CAN_TERMINATION_CONST = 12, TerminationConst: Vec<u16>;
-            IFLA_CAN_BITRATE_CONST = 13, BitrateConst: Vec<u32>;
-            IFLA_CAN_DATA_BITRATE_CONST = 14, DataBitrateConst: Vec<u32>;
-            IFLA_CAN_BITRATE_MAX = 15, BitrateMax: u32;
+            IFLA_CAN_TERMINATION = 11, Termination: u16 as Ohms;
+            IFLA_CAN_TERMINATION_CONST = 12, TerminationConst: Vec<u16> as Ohms;
+            IFLA_CAN_BITRATE_CONST = 13, BitrateConst: Vec<u32> as BitsPerSecond;
+            IFLA_CAN_DATA_BITRATE_CONST = 14, DataBitrateConst: Vec<u32> as BitsPerSecond;
+            IFLA_CAN_BITRATE_MAX = 15, BitrateMax: u32 as BitsPerSecond;
             IFLA_CAN_TDC = 16 | NLA_F_NESTED, Tdc: NestedList<CanTdc>;
             IFLA_CAN_CTRLMODE_EXT = 17 | NLA_F_NESTED, CtrlModeExt: NestedList<CanCtrlModeExt>;
         }
@@ -139,12 +140,21 @@ impl Attribute for InfoCan {
         rows!(check(buffer))
     }
 
+    #[inline(always)]
     fn borrow<'a>(buffer: &NlaBuffer<'a>) -> Content<'a> {
         rows!(borrow(buffer))
     }
 
     fn borrow_element<'a>(list: u16, element: &NlaBuffer<'a>) -> Content<'a> {
         rows!(borrow_element(list, element))
+    }
+
+    fn kind_label(kind: u16) -> Option<KindLabel> {
+        rows!(label(kind))
+    }
+
+    fn element_label(list: u16, kind: u16) -> Option<KindLabel> {
+        rows!(element_label(list, kind))
     }
 
     fn canonical(buffer: &NlaBuffer<'_>) -> bool {

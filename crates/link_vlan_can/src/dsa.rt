@@ -3,6 +3,7 @@
 ghost use Rattle.link_vlan_can.specs.Dsa.{dsa_table, dsa_means};
 
 use link_base::content::Content;
+use link_base::quantity::KindLabel;
 use link_base::{
     Attribute, DecodeError, DecodeFault, DefaultNla, Meaning, Nla, NlaBuffer, Parseable, Place,
     TryClone,
@@ -23,7 +24,7 @@ pub enum InfoDsa {
 macro_rules! rows {
     ($call:ident($($argument:tt)*)) => {
         link_base::by_rows! { $call($($argument)*)
-            IFLA_DSA_CONDUIT = 1, Conduit: u32;
+            IFLA_DSA_CONDUIT = 1, Conduit: u32 as InterfaceIndex;
         }
     };
 }
@@ -74,12 +75,21 @@ impl Attribute for InfoDsa {
         rows!(check(buffer))
     }
 
+    #[inline(always)]
     fn borrow<'a>(buffer: &NlaBuffer<'a>) -> Content<'a> {
         rows!(borrow(buffer))
     }
 
     fn borrow_element<'a>(list: u16, element: &NlaBuffer<'a>) -> Content<'a> {
         rows!(borrow_element(list, element))
+    }
+
+    fn kind_label(kind: u16) -> Option<KindLabel> {
+        rows!(label(kind))
+    }
+
+    fn element_label(list: u16, kind: u16) -> Option<KindLabel> {
+        rows!(element_label(list, kind))
     }
 
     fn canonical(buffer: &NlaBuffer<'_>) -> bool {

@@ -8,6 +8,7 @@ ghost use Rattle.link_vlan_can.specs.Hsr.{hsr_protocol_names, hsr_protocol_seen,
 ghost use Rattle.link_vlan_can.specs.Hsr.{hsr_table, hsr_means};
 
 use link_base::content::Content;
+use link_base::quantity::KindLabel;
 use link_base::{
     Attribute, DecodeError, DecodeFault, DefaultNla, Meaning, Named, NamedNumber, Nla, NlaBuffer,
     Parseable, Place, TryClone,
@@ -116,14 +117,14 @@ pub enum InfoHsr {
 macro_rules! rows {
     ($call:ident($($argument:tt)*)) => {
         link_base::by_rows! { $call($($argument)*)
-            IFLA_HSR_SLAVE1 = 1, Port1: u32;
-            IFLA_HSR_SLAVE2 = 2, Port2: u32;
+            IFLA_HSR_SLAVE1 = 1, Port1: u32 as InterfaceIndex;
+            IFLA_HSR_SLAVE2 = 2, Port2: u32 as InterfaceIndex;
             IFLA_HSR_MULTICAST_SPEC = 3, MulticastSpec: u8;
             IFLA_HSR_SUPERVISION_ADDR = 4, SupervisionAddr: [u8; 6];
             IFLA_HSR_SEQ_NR = 5, SeqNr: u16;
             IFLA_HSR_VERSION = 6, Version: u8;
             IFLA_HSR_PROTOCOL = 7, Protocol: Named<HsrProtocol>;
-            IFLA_HSR_INTERLINK = 8, Interlink: u32;
+            IFLA_HSR_INTERLINK = 8, Interlink: u32 as InterfaceIndex;
         }
     };
 }
@@ -172,12 +173,21 @@ impl Attribute for InfoHsr {
         rows!(check(buffer))
     }
 
+    #[inline(always)]
     fn borrow<'a>(buffer: &NlaBuffer<'a>) -> Content<'a> {
         rows!(borrow(buffer))
     }
 
     fn borrow_element<'a>(list: u16, element: &NlaBuffer<'a>) -> Content<'a> {
         rows!(borrow_element(list, element))
+    }
+
+    fn kind_label(kind: u16) -> Option<KindLabel> {
+        rows!(label(kind))
+    }
+
+    fn element_label(list: u16, kind: u16) -> Option<KindLabel> {
+        rows!(element_label(list, kind))
     }
 
     fn canonical(buffer: &NlaBuffer<'_>) -> bool {

@@ -1,8 +1,8 @@
 pub mod Family
-pub mod Count
 pub mod Rewrite
 pub mod HexText
 pub mod Report
+pub mod Views
 -- definitions that the contracts of `link` use
 pub use Rattle.link_base.specs.Number
 pub use Rattle.link_base.specs.Frame
@@ -16,6 +16,9 @@ pub use Rattle.link_base.specs.Equality
 pub use Rattle.link_base.specs.Default
 pub use Rattle.link_base.specs.Answers
 pub use Rattle.link_base.specs.Checked
+pub use Rattle.link_base.specs.Borrowed
+pub use Rattle.link_base.specs.Labels
+pub use Rattle.link_base.specs.Viewed
 pub use Rattle.link_base.specs.Storing
 pub use Rattle.link_base.specs.Rewritten
 pub use Rattle.link_base.specs.Buffer

@@ -1,9 +1,8 @@
-//! Netlink attributes of network links. This crate selects an attribute set by name ([`Family`]), re-encodes lists, and
-//! produces the output of the program `nlroute`. The enums of attributes, and the functions for single attributes and
-//! for lists, are in [`link`].
+//! Netlink attributes of network links. This crate selects an attribute set by name ([`Family`]), checks, views and
+//! re-encodes lists, and produces the output of the program `nlroute`. The enums of attributes, and the functions for
+//! single attributes and for lists, are in [`link`]; the types of views are in [`views`].
 #![tactic(auto)]
 
-mod checking;
 mod counting;
 mod family;
 pub mod hex_text;
@@ -14,8 +13,9 @@ mod reporting;
 mod rewriting;
 mod rewriting_streaming;
 mod rewriting_to_slice;
+mod viewing;
+pub mod views;
 
-pub use checking::check;
 pub use counting::count_values;
 pub use family::{Family, Holder};
 pub use judging::{first_not_canonical, is_canonical};
@@ -24,3 +24,4 @@ pub use reporting::{MOST_TEXT, report};
 pub use rewriting::rewrite;
 pub use rewriting_streaming::rewrite_streaming;
 pub use rewriting_to_slice::rewrite_to_slice;
+pub use viewing::{FamilyElements, FamilySet, view_all, view_elements, view_list};

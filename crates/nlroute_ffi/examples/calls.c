@@ -109,11 +109,11 @@ static void refusals(void) {
     check(nlroute_rewrite(10, vlan, 32, out, 40) == NLROUTE_NO_FAMILY, "-5 for number 10");
     check(nlroute_rewrite(UINT32_MAX, vlan, 32, out, 40) == NLROUTE_NO_FAMILY, "-5 for the greatest number");
     memory_is_out = true;
-    ptrdiff_t rewritten = nlroute_rewrite(NLROUTE_VLAN, vlan, 32, out, 40), read = nlroute_count(NLROUTE_VLAN, vlan, 32);
-    ptrdiff_t empty = nlroute_rewrite(NLROUTE_VLAN, vlan, 0, out, 0);
+    ptrdiff_t rewritten = nlroute_rewrite(NLROUTE_VLAN, vlan, 32, out, 40);
+    ptrdiff_t counted = nlroute_count(NLROUTE_VLAN, vlan, 32), empty = nlroute_rewrite(NLROUTE_VLAN, vlan, 0, out, 0);
     memory_is_out = false;
-    check(rewritten == NLROUTE_NO_MEMORY && read == NLROUTE_NO_MEMORY, "-3 without memory");
-    check(empty == 0, "no memory for no values");
+    check(rewritten == NLROUTE_NO_MEMORY, "-3 without memory");
+    check(counted == 3 && empty == 0, "no memory for a count, or for no values");
     check(are_lent(out, sizeof out), "nothing was written");
     check(nlroute_count(NLROUTE_VLAN, vlan, 30) == -1 && nlroute_count(10, vlan, 32) == -5, "-1 and -5 of a count");
 }
@@ -145,11 +145,13 @@ static void value_by_value(void) {
 /* A payload of one byte where four are required, and a truncated header after it. */
 static void room_first(void) {
     const uint8_t short_value[10] = {5, 0, 1, 0, 42, 0, 0, 0, 3, 0};
+    uint8_t out[12] = {0};
     memory_is_out = true;
-    ptrdiff_t answer = nlroute_count(NLROUTE_DSA, short_value, 10);
+    ptrdiff_t rewritten = nlroute_rewrite(NLROUTE_DSA, short_value, 10, out, 12);
+    ptrdiff_t counted = nlroute_count(NLROUTE_DSA, short_value, 10);
     memory_is_out = false;
-    check(answer == NLROUTE_NO_MEMORY, "room for all values is asked for before the first one is read");
-    check(nlroute_count(NLROUTE_DSA, short_value, 10) == NLROUTE_HAS_FAULT, "with memory its fault is found");
+    check(rewritten == NLROUTE_NO_MEMORY, "room for all values is asked for before the first one is read");
+    check(counted == NLROUTE_HAS_FAULT, "a count finds its fault without memory");
 }
 
 static void faults(void) {
@@ -158,12 +160,15 @@ static void faults(void) {
     check(nlroute_fault(NLROUTE_VLAN, vlan, 32, fault, 8) == 0, "a request has no fault");
     check(nlroute_fault(NLROUTE_VLAN, vlan, 30, fault, 6) == NLROUTE_NO_ROOM, "-4 with six places");
     memory_is_out = true;
-    ptrdiff_t answer = nlroute_fault(NLROUTE_VLAN, vlan, 30, fault, 8);
+    ptrdiff_t answer = nlroute_fault(NLROUTE_VLAN, vlan, 32, fault, 8);
     memory_is_out = false;
-    check(answer == NLROUTE_NO_MEMORY, "-3 of a fault");
+    check(answer == 0, "no memory for no fault");
     check(nlroute_fault(10, vlan, 30, fault, 8) == NLROUTE_NO_FAMILY, "-5 of a fault");
     check(are_lent(fault, sizeof fault), "no number was put");
-    check(nlroute_fault(NLROUTE_VLAN, vlan, 30, fault, 8) == NLROUTE_FAULT_NUMBERS, "a fault has seven numbers");
+    memory_is_out = true;
+    answer = nlroute_fault(NLROUTE_VLAN, vlan, 30, fault, 8);
+    memory_is_out = false;
+    check(answer == NLROUTE_FAULT_NUMBERS, "a fault has seven numbers, without memory");
     check(!memcmp(fault, wanted, sizeof wanted) && are_lent(fault + 7, 8), "they tell an overrun at 16");
     /* IFLA_VLAN_EGRESS_QOS with a mapping of seven bytes */
     const uint8_t nested[16] = {15, 0, 3, 0, 11, 0, 1, 0};

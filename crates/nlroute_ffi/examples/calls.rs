@@ -92,8 +92,8 @@ pub fn rewrite_streaming(family: Family, bytes: &[u8], out: &mut [u8]) -> Result
     })
 }
 
-/// Returns the number of values of a list.
-pub fn read(family: Family, bytes: &[u8]) -> Result<usize, Refusal> {
+/// Returns the number of values of a list, or `HasFault`. It does not allocate.
+pub fn count(family: Family, bytes: &[u8]) -> Result<usize, Refusal> {
     answer(unsafe { sys::nlroute_count(family as u32, bytes.as_ptr(), bytes.len()) })
 }
 
@@ -102,14 +102,14 @@ pub fn is_canonical(family: Family, bytes: &[u8]) -> bool {
     1 == unsafe { sys::nlroute_is_canonical(family as u32, bytes.as_ptr(), bytes.len()) }
 }
 
-/// Returns the numbers of the first decode error of a list, if it has one.
+/// Returns the numbers of the first decode error of a list, if it has one. It does not allocate.
 pub fn fault(family: Family, bytes: &[u8]) -> Result<Option<[u64; 7]>, Refusal> {
     let mut numbers = [0; 7];
     let (at, places) = (numbers.as_mut_ptr(), numbers.len());
-    let count = answer(unsafe {
+    let written = answer(unsafe {
         sys::nlroute_fault(family as u32, bytes.as_ptr(), bytes.len(), at, places)
     })?;
-    Ok((count > 0).then_some(numbers))
+    Ok((written > 0).then_some(numbers))
 }
 
 /// Writes the report for an input to the start of `out`. Returns its length and the exit status.
@@ -161,10 +161,10 @@ fn main() {
         !is_canonical(Family::Bond, &request) && is_canonical(Family::Bond, &wanted),
         "what is written is canonical",
     );
-    holds &= check(read(Family::Bond, &request) == Ok(2), "it has two values");
-    holds &= check(read(Family::Bond, &[]) == Ok(0), "an empty slice has none");
+    holds &= check(count(Family::Bond, &request) == Ok(2), "it has two values");
+    holds &= check(count(Family::Bond, &[]) == Ok(0), "an empty slice has none");
     holds &= check(
-        read(Family::Dsa, &request) == Err(Refusal::HasFault),
+        count(Family::Dsa, &request) == Err(Refusal::HasFault),
         "it is none of DSA",
     );
     holds &= check(fault(Family::Bond, &request) == Ok(None), "it has no fault");

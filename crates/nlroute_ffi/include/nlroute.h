@@ -50,7 +50,8 @@ enum nlroute_family {
 enum nlroute_refusal {
     NLROUTE_HAS_FAULT = -1, /* the input is not a list of this attribute set; nlroute_fault() has the first error */
     NLROUTE_TOO_LONG = -2,  /* the input decodes, but the payload of a value would have more than 65531 bytes */
-    NLROUTE_NO_MEMORY = -3, /* an allocation failed (it is not proved that this is the only reason for the code) */
+    NLROUTE_NO_MEMORY = -3, /* an allocation failed (it is not proved that this is the only reason for the code);
+                               not returned by nlroute_count(), nlroute_is_canonical() or nlroute_fault() */
     NLROUTE_NO_ROOM = -4,   /* the output buffer is too small; each function specifies the size that it needs */
     NLROUTE_NO_FAMILY = -5  /* family is not one of the numbers above */
 };
@@ -93,10 +94,9 @@ ptrdiff_t nlroute_rewrite(uint32_t family, const uint8_t *bytes, size_t len, uin
 ptrdiff_t nlroute_rewrite_streaming(uint32_t family, const uint8_t *bytes, size_t len, uint8_t *out, size_t room);
 
 /*
- * Returns the number of values in a list. Each attribute is one value.
+ * Checks whether a list decodes. Returns the number of its values; each attribute is one value. Does not allocate.
  *
- * Unless an allocation fails, returns NLROUTE_HAS_FAULT if and only if the input is malformed. NLROUTE_NO_MEMORY is
- * possible only if the input starts with a whole attribute.
+ * Returns NLROUTE_HAS_FAULT if and only if the input is malformed.
  */
 ptrdiff_t nlroute_count(uint32_t family, const uint8_t *bytes, size_t len);
 
@@ -141,10 +141,9 @@ enum nlroute_cause {
 /*
  * Reports the first decode error of a list in fault, an array of `places` elements. Returns NLROUTE_FAULT_NUMBERS, the
  * number of elements written; the rest of the array is unchanged. Returns 0 if the list has no error; the whole array
- * is then unchanged.
+ * is then unchanged. Does not allocate.
  *
- * Unless an allocation fails, returns NLROUTE_NO_ROOM if and only if there is an error and places is less than
- * NLROUTE_FAULT_NUMBERS. NLROUTE_NO_MEMORY is possible only if the input starts with a whole attribute.
+ * Returns NLROUTE_NO_ROOM if and only if there is an error and places is less than NLROUTE_FAULT_NUMBERS.
  */
 ptrdiff_t nlroute_fault(uint32_t family, const uint8_t *bytes, size_t len, uint64_t *fault, size_t places);
 

@@ -26,12 +26,12 @@ pub data AnswersFor (number : ℕ) (says : Table → Result ℕ Refusal → Type
 abbrev pub HasFault : Table → List ℕ → Type 0
 HasFault table s = (at : ℕ) × (fault : DecodeFault) × FirstFault (Gives table) s at fault
 
--- the number of values; or why there is none. Memory only if s starts with a whole attribute
+-- the number of values; or why there is none
 abbrev pub CountAnswers : List ℕ → Table → Result ℕ Refusal → Type 0
 CountAnswers s table (Ok n) = (vs : List AttrValue) × Wire (Gives table) s vs × (n ≡ length vs)
 CountAnswers s table (Err Fault) = HasFault table s
 CountAnswers s table (Err TooLong) = ⊥
-CountAnswers s table (Err Memory) = frame_fault s ≡ None
+CountAnswers s table (Err Memory) = ⊥
 CountAnswers s table (Err NoRoom) = ⊥
 CountAnswers s table (Err NoFamily) = ⊥
 
@@ -81,7 +81,7 @@ abbrev pub FaultAnswers : List ℕ → List ℕ → List ℕ → Table → Resul
 FaultAnswers s old new table (Ok n) = TellsFault s old new table n
 FaultAnswers s old new table (Err Fault) = ⊥
 FaultAnswers s old new table (Err TooLong) = ⊥
-FaultAnswers s old new table (Err Memory) = frame_fault s ≡ None
+FaultAnswers s old new table (Err Memory) = ⊥
 FaultAnswers s old new table (Err NoRoom) = HasFault table s × (length old < fault_length)
 FaultAnswers s old new table (Err NoFamily) = ⊥
 

@@ -7,9 +7,8 @@ ghost use Rattle.nlroute_ffi.specs.Numbers.{cause_numbers, fault_length, fault_n
 ghost use Rattle.nlroute_ffi.specs.Calls.{FaultAnswers};
 
 use crate::refusal::Refusal;
-use netlink_packet_route::link::{Cause, DecodeFault, ListError};
+use netlink_packet_route::link::{Cause, DecodeFault, ListFault};
 use netlink_packet_route::{Family, count_values};
-use std::alloc::Global;
 
 /// How many numbers an error has: `NLROUTE_FAULT_NUMBERS` of the header.
 const FAULT_LENGTH: usize = 7;
@@ -46,10 +45,8 @@ const ADDRESS_LENGTH: u64 = 6;
 ///
 /// # Errors
 ///
-/// `Memory` if an allocation fails, `NoRoom` if there is an error and `numbers` is too short. Then `numbers` is
-/// unchanged.
+/// `NoRoom` if there is an error and `numbers` is too short. Then `numbers` is unchanged.
 pub(crate) fn first_fault(
-    alloc: Global,
     family: Family,
     bytes: &[u8],
     numbers: &mut [u64],
@@ -57,12 +54,10 @@ pub(crate) fn first_fault(
     ensures answer { FaultAnswers bytes.now numbers.old numbers.new (table_of family) result }
     ensures unchanged { OnErr result (numbers.new ≡ numbers.old) }
 {
-    let (at, fault) = match count_values(alloc, family, bytes) {
-        Ok(_) => return Ok(0),
-        Err(ListError::Fault { at, fault }) => (at, fault),
-        Err(ListError::Memory(_)) => return Err(Refusal::Memory),
-    };
-    put_fault(at, fault, numbers)
+    match count_values(family, bytes) {
+        Ok(_) => Ok(0),
+        Err(ListFault { at, fault }) => put_fault(at, fault, numbers),
+    }
 }
 
 fn put_fault(at: usize, fault: DecodeFault, numbers: &mut [u64]) -> Result<usize, Refusal>

@@ -70,17 +70,17 @@ pub extern "C" fn nlroute_rewrite_streaming(
     }
 }
 
-/// Returns the number of values of the list in `bytes`.
+/// Returns the number of values of the list in `bytes`. Does not allocate.
 ///
 /// # Errors
 ///
-/// -1 if the input is malformed, -3 if an allocation fails, -5 if `family` is not the number of a `Family`.
+/// -1 if the input is malformed, -5 if `family` is not the number of a `Family`.
 #[unsafe(no_mangle)]
-pub extern "C" fn nlroute_count(alloc: Global, family: u32, bytes: &[u8]) -> isize
+pub extern "C" fn nlroute_count(family: u32, bytes: &[u8]) -> isize
     ensures { AnswersFor family (CountAnswers bytes.now) result }
 {
     match Family::from_number(family) {
-        Some(family) => answer_of(count(alloc, family, bytes)),
+        Some(family) => answer_of(count(family, bytes)),
         None => answer_of(Err(Refusal::NoFamily)),
     }
 }
@@ -102,24 +102,20 @@ pub extern "C" fn nlroute_is_canonical(family: u32, bytes: &[u8]) -> isize
 }
 
 /// Writes the first decode error of the list in `bytes` to `fault[..7]`, as seven numbers that the header describes,
-/// and returns 7; `fault[7..]` is unchanged. Returns 0 if the list has no error; `fault` is then unchanged.
+/// and returns 7; `fault[7..]` is unchanged. Returns 0 if the list has no error; `fault` is then unchanged. Does not
+/// allocate.
 ///
 /// # Errors
 ///
-/// -3 if an allocation fails, -4 if the list has an error and `fault` has fewer than seven elements, -5 if `family` is
-/// not the number of a `Family`. On error `fault` is unchanged.
+/// -4 if the list has an error and `fault` has fewer than seven elements, -5 if `family` is not the number of a
+/// `Family`. On error `fault` is unchanged.
 #[unsafe(no_mangle)]
-pub extern "C" fn nlroute_fault(
-    alloc: Global,
-    family: u32,
-    bytes: &[u8],
-    fault: &mut [u64],
-) -> isize
+pub extern "C" fn nlroute_fault(family: u32, bytes: &[u8], fault: &mut [u64]) -> isize
     ensures answer { AnswersFor family (FaultAnswers bytes.now fault.old fault.new) result }
     ensures unchanged { result <ℤ pos 0 → fault.new ≡ fault.old }
 {
     match Family::from_number(family) {
-        Some(family) => answer_of(first_fault(alloc, family, bytes, fault)),
+        Some(family) => answer_of(first_fault(family, bytes, fault)),
         None => answer_of(Err(Refusal::NoFamily)),
     }
 }

@@ -8,7 +8,7 @@ ghost use Rattle.nlroute_ffi.specs.Calls.{CountAnswers, RewriteAnswers, Streamin
 ghost use Rattle.nlroute_ffi.specs.declared.refusal.Refusal.TheVariants.{NoRoom};
 
 use crate::refusal::{Refusal, refused_by};
-use netlink_packet_route::link::{ListError, padded};
+use netlink_packet_route::link::padded;
 use netlink_packet_route::{
     Family, count_values, is_canonical, rewrite_streaming, rewrite_to_slice,
 };
@@ -18,15 +18,14 @@ use std::alloc::Global;
 ///
 /// # Errors
 ///
-/// `Fault` if the input is malformed, `Memory` if an allocation fails.
-pub(crate) fn count(alloc: Global, family: Family, bytes: &[u8]) -> Result<usize, Refusal>
+/// `Fault` if the input is malformed.
+pub(crate) fn count(family: Family, bytes: &[u8]) -> Result<usize, Refusal>
     ensures answer { CountAnswers bytes.now (table_of family) result }
     ensures bounded { IfOk result (λ n. n ≤ length bytes.now) }
 {
-    match count_values(alloc, family, bytes) {
+    match count_values(family, bytes) {
         Ok(count) => Ok(count),
-        Err(ListError::Fault { .. }) => Err(Refusal::Fault),
-        Err(ListError::Memory(_)) => Err(Refusal::Memory),
+        Err(_) => Err(Refusal::Fault),
     }
 }
 

@@ -121,7 +121,7 @@ fn counts(rt: HostRuntime) {
         (10, &[], -5),
     ];
     for (family, bytes, answer) in rows {
-        let is_so = nlroute_count(rt.alloc(), family, bytes) == answer;
+        let is_so = nlroute_count(family, bytes) == answer;
         assert!(rt; is_so, "for {answer} of family {family}");
     }
 }
@@ -146,14 +146,14 @@ fn faults(rt: HostRuntime) {
     let lent = [u64::MAX; 7];
     for (family, bytes, wanted) in rows {
         let mut fault = lent;
-        let is_refused = nlroute_fault(rt.alloc(), family, bytes, &mut fault[..6]) == -4;
+        let is_refused = nlroute_fault(family, bytes, &mut fault[..6]) == -4;
         assert!(rt; is_refused && fault == lent, "of family {family}");
-        let is_told = nlroute_fault(rt.alloc(), family, bytes, &mut fault) == 7;
+        let is_told = nlroute_fault(family, bytes, &mut fault) == 7;
         assert!(rt; is_told && fault == wanted, "of family {family}");
     }
     let mut fault = lent;
-    assert!(rt; nlroute_fault(rt.alloc(), 7, &TWO, &mut fault) == 0 && fault == lent);
-    assert!(rt; nlroute_fault(rt.alloc(), 10, &[], &mut fault) == -5 && fault == lent);
+    assert!(rt; nlroute_fault(7, &TWO, &mut fault) == 0 && fault == lent);
+    assert!(rt; nlroute_fault(10, &[], &mut fault) == -5 && fault == lent);
 }
 
 #[test]

@@ -67,6 +67,9 @@ fn on_family(alloc: Global, call: &str, family: Family, bytes: &[u8]) -> Result<
         "rewrite_to_slice" => rewrite_to_slice(alloc, family, bytes, padded(bytes.len())),
         "rewrite_to_slice_short" => rewrite_to_slice(alloc, family, bytes, 3),
         "count_values" => said(alloc, &calls::count_values(alloc, family, bytes)),
+        "view_list" => said(alloc, &calls::view_list(alloc, family, bytes)),
+        "view_all" => said(alloc, &calls::view_all(alloc, family, bytes)),
+        "find" => find(alloc, family, bytes),
         "report" => {
             let text = hex::encode(alloc, bytes)?;
             let answer = said(alloc, &calls::report(alloc, family, text.as_bytes()))?;
@@ -79,6 +82,17 @@ fn on_family(alloc: Global, call: &str, family: Family, bytes: &[u8]) -> Result<
         "CanBitTimingConst::empty" => said(alloc, &calls::no_limits(alloc)),
         _ => by_family!(family, on_attributes(alloc, call, bytes)),
     }
+}
+
+/// Finds the last attribute with the type of the first one, and formats its content.
+fn find(alloc: Global, family: Family, bytes: &[u8]) -> Result<String> {
+    let kind = NlaBuffer::new_checked(bytes)?.kind();
+    let answer = match calls::find(alloc, family, bytes, kind) {
+        Ok(Some(value)) => Ok(Some(value.content())),
+        Ok(None) => Ok(None),
+        Err(fault) => Err(fault),
+    };
+    said(alloc, &answer)
 }
 
 /// The contents of the buffers of `rewrite_streaming` and `rewrite_to_slice` before the call.

@@ -1,15 +1,16 @@
-//! The calls, each between two marks. Each function has the contract of the function that it calls.
+//! The calls, each between two marks. Each function has the contract of the function that it calls, or, for views, a
+//! part of it.
 
-ghost use Rattle.std.specs.Prelude.{◌≡◌, ◌≤◌, ◌++◌, ◌-◌, [], None, length, drop, map, replicate, string_bytes};
-ghost use Rattle.std.specs.Prelude.{IfOk, OnErr, IsTrue};
+ghost use Rattle.std.specs.Prelude.{◌≡◌, ◌≤◌, ◌++◌, ◌-◌, List, [], None, length, drop, map, replicate, string_bytes};
+ghost use Rattle.std.specs.Prelude.{IfOk, IfNone, OnErr, IsTrue, MatchResult};
 ghost use Rattle.link_vlan_can.specs.CanLimits.{limits_view, limits_with};
 ghost use Rattle.netlink_packet_route.specs.AfSpec.{af_spec_table, af_spec_means};
 ghost use Rattle.netlink_packet_route.specs.Answers.{Answers, ListAnswers, WriteAnswers};
 ghost use Rattle.netlink_packet_route.specs.Answers.{OnMemory, OnListMemory, OnRewriteMemory};
 ghost use Rattle.netlink_packet_route.specs.Buffer.{kind_field_of, payload_of};
-ghost use Rattle.netlink_packet_route.specs.Count.{CountAnswers};
+ghost use Rattle.netlink_packet_route.specs.Checked.{ListChecks};
 ghost use Rattle.netlink_packet_route.specs.Family.{table_of};
-ghost use Rattle.netlink_packet_route.specs.Frame.{pad, frame_fault};
+ghost use Rattle.netlink_packet_route.specs.Frame.{Frame, Frames, pad, frame_fault};
 ghost use Rattle.netlink_packet_route.specs.Held.{HoldsMemory};
 ghost use Rattle.netlink_packet_route.specs.ProtoInfo.{proto_info_table, proto_info_means};
 ghost use Rattle.netlink_packet_route.specs.Report.{Reports};
@@ -17,14 +18,17 @@ ghost use Rattle.netlink_packet_route.specs.Rewrite.{RewriteAnswers, RewriteStre
 ghost use Rattle.netlink_packet_route.specs.Rewrite.{UnlessWritten};
 ghost use Rattle.netlink_packet_route.specs.Rewritten.{NeedsMemory};
 ghost use Rattle.netlink_packet_route.specs.Table.{Gives, TakesMemory};
+ghost use Rattle.netlink_packet_route.specs.Viewed.{bytes_in, seen, last_of};
+ghost use Rattle.netlink_packet_route.specs.Wire.{FirstFault};
 ghost use Rattle.netlink_packet_route.specs.FrameOffsets.{Finds};
 ghost use Rattle.netlink_packet_route.specs.FrameTableParts.{walked_bytes, offsets_of, fault_of};
 
 use netlink_packet_route::link::{
-    Attribute, CanBitTimingConst, DecodeError, FrameTable, ListError, NlaBuffer, TryClone,
-    VecAfSpecBridge, VecLinkProtoInfoBridge, WriteError,
+    Attribute, CanBitTimingConst, DecodeError, FrameTable, ListError, ListFault, NlaBuffer,
+    TryClone, VecAfSpecBridge, VecLinkProtoInfoBridge, WriteError,
 };
-use netlink_packet_route::{Family, RewriteError, link};
+use netlink_packet_route::views::{Content, Value, View};
+use netlink_packet_route::{Family, FamilySet, RewriteError, link, view_elements};
 use std::alloc::{AllocError, Global};
 
 /// The size in bytes of a block that nothing else allocates. By it, the `malloc` that the program runs under recognizes
@@ -126,15 +130,100 @@ pub(crate) fn rewrite_to_slice(
     answer
 }
 
-/// Calls `count_values`, which counts the attributes of a list.
-pub(crate) fn count_values(alloc: Global, family: Family, bytes: &[u8]) -> Result<usize, ListError>
-    ensures answer { CountAnswers (table_of family) bytes.now result }
-    ensures memory { OnListMemory result (frame_fault bytes.now ≡ None) }
+/// Calls `count_values`, which checks a list and counts its attributes.
+pub(crate) fn count_values(alloc: Global, family: Family, bytes: &[u8]) -> Result<usize, ListFault>
+    ensures answer { ListChecks (Gives (table_of family)) bytes.now result }
+    ensures bounded { IfOk result (λ n. n ≤ length bytes.now) }
 {
-    marked(
-        alloc,
-        || netlink_packet_route::count_values(alloc, family, bytes),
-    )
+    marked(alloc, || netlink_packet_route::count_values(family, bytes))
+}
+
+/// Calls `view_list`, which checks a list and returns a view of its attributes, and walks the view. Returns what
+/// `walked` returns.
+pub(crate) fn view_list<'a>(
+    alloc: Global,
+    family: Family,
+    bytes: &'a [u8],
+) -> Result<(usize, u64, Option<Content<'a>>), ListFault>
+    ensures { MatchResult result
+        (λ walked. (xs : List Frame) → Frames bytes.now xs → walked.0 ≡ length xs)
+        (λ e. FirstFault (Gives (table_of family)) bytes.now e.at e.fault) }
+{
+    mark(alloc);
+    let answer = match netlink_packet_route::view_list(family, bytes) {
+        Ok(view) => Ok(walked(&view)),
+        Err(fault) => Err(fault),
+    };
+    mark(alloc);
+    answer
+}
+
+/// Walks a view, and the views of its nested lists. Returns the number of attributes, the sum of all types with those
+/// of elements, and the content that was read last.
+fn walked<'a>(view: &View<'a, FamilySet>) -> (usize, u64, Option<Content<'a>>)
+    ensures { (xs : List Frame) → Frames (bytes_in view.now) xs → result.0 ≡ length xs }
+{
+    let mut types = 0u64;
+    let mut last = None;
+    for value in *view {
+        types = types.wrapping_add(u64::from(value.kind()));
+        last = Some(value.content());
+        if let Some(elements) = view_elements(&value) {
+            for element in elements {
+                types = types.wrapping_add(u64::from(element.kind()));
+                last = Some(element.content());
+            }
+        }
+    }
+    (view.len(), types, last)
+}
+
+/// Calls `view_list`, and then `find`, which returns the last attribute of a type.
+pub(crate) fn find<'a>(
+    alloc: Global,
+    family: Family,
+    bytes: &'a [u8],
+    kind: u16,
+) -> Result<Option<Value<'a, FamilySet>>, ListFault>
+    ensures { MatchResult result
+        (λ found. (xs : List Frame) → Frames bytes.now xs → seen found ≡ last_of kind xs)
+        (λ e. FirstFault (Gives (table_of family)) bytes.now e.at e.fault) }
+{
+    mark(alloc);
+    let answer = match netlink_packet_route::view_list(family, bytes) {
+        Ok(view) => Ok(view.find(kind)),
+        Err(fault) => Err(fault),
+    };
+    mark(alloc);
+    answer
+}
+
+/// Calls `view_all`, which returns every attribute of a list, with its value or its error. Returns the type or the
+/// error of the first one, and of the others the sum of the types and the last error.
+pub(crate) fn view_all(
+    alloc: Global,
+    family: Family,
+    bytes: &[u8],
+) -> (Option<Result<u16, ListFault>>, u64, Option<ListFault>)
+    ensures { IfNone result.0 (bytes.now ≡ []) }
+{
+    mark(alloc);
+    let mut all = netlink_packet_route::view_all(family, bytes);
+    let first = match all.next() {
+        Some(Ok(value)) => Some(Ok(value.kind())),
+        Some(Err(fault)) => Some(Err(fault)),
+        None => None,
+    };
+    let mut types = 0u64;
+    let mut last = None;
+    for item in all {
+        match item {
+            Ok(value) => types = types.wrapping_add(u64::from(value.kind())),
+            Err(fault) => last = Some(fault),
+        }
+    }
+    mark(alloc);
+    (first, types, last)
 }
 
 /// Calls `report`, which returns the output of `nlroute` for an input, and its status.

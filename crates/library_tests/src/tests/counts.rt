@@ -1,8 +1,8 @@
-//! Tests that `count_values` and `check` return the number of values of a list, or its first error.
+//! Tests that `count_values` returns the number of values of a list, or its first error.
 
 use crate::tests::{bytes, holds};
-use netlink_packet_route::link::{Cause, DecodeFault, ListError, ListFault};
-use netlink_packet_route::{Family, check, count_values};
+use netlink_packet_route::link::{Cause, DecodeFault, ListFault};
+use netlink_packet_route::{Family, count_values};
 use std::alloc::Global;
 use std::process::Abort;
 
@@ -10,12 +10,7 @@ use std::process::Abort;
 fn has(rt: &impl Abort, alloc: Global, row: (Family, &str), wanted: Result<usize, ListFault>) {
     let (family, digits) = row;
     let list = bytes(rt, alloc, digits);
-    holds(rt, check(family, &list) == wanted, digits);
-    let wanted = match wanted {
-        Ok(count) => Ok(count),
-        Err(ListFault { at, fault }) => Err(ListError::Fault { at, fault }),
-    };
-    holds(rt, count_values(alloc, family, &list) == wanted, digits);
+    holds(rt, count_values(family, &list) == wanted, digits);
 }
 
 #[test]

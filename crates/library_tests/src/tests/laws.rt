@@ -1,7 +1,7 @@
 //! Calls each theorem and each worked example: the theorems about attributes for each type that implements `Attribute`,
 //! the others for at least one type.
 
-use link_base::{examples, flag_laws, named_laws};
+use link_base::{examples, flag_laws, named_laws, view_laws};
 use netlink_packet_route::link::{
     AfSpecBridge, Attribute, BondAdInfo, BondAdSelect, BondAllPortActive, BondArpAllTargets,
     BondArpValidate, BondFailOverMac, BondLacpRate, BondMode, BondPortState, BondPrimaryReselect,
@@ -12,6 +12,7 @@ use netlink_packet_route::link::{
     InfoCan, InfoDsa, InfoHsr, InfoVlan, LacpState, LinkProtoInfoBridge, MiiStatus, VlanFlags,
     VlanQosMapping, laws,
 };
+use netlink_packet_route::{Family, view_all, view_list};
 
 #[test]
 fn laws_of_tables() {
@@ -25,6 +26,16 @@ fn laws_of_tables() {
     laws::fault_equality();
     laws::error_equality();
     laws::frame_equality();
+}
+
+#[test]
+fn laws_of_views() {
+    if let Ok(view) = view_list(Family::Dsa, &[]) {
+        view_laws::decodes(&view);
+        view_laws::walk(&view);
+    }
+    view_laws::first_other();
+    view_laws::walk_all(&view_all(Family::Dsa, &[]));
 }
 
 #[test]

@@ -1,6 +1,7 @@
 //! The multicast queriers known to a bridge.
 
 use link_base::content::Content;
+use link_base::quantity::KindLabel;
 use link_base::{
     Attribute, DecodeError, DecodeFault, DefaultNla, Meaning, NestedAttribute, Nla, NlaBuffer,
     OneAddress, Parseable, Place, TryClone,
@@ -33,11 +34,11 @@ macro_rules! rows {
     ($call:ident($($argument:tt)*)) => {
         link_base::by_rows! { $call($($argument)*)
             BRIDGE_QUERIER_IP_ADDRESS = 1, Ipv4Address: OneAddress<Ipv4Addr>;
-            BRIDGE_QUERIER_IP_PORT = 2, Ipv4Port: u32;
-            BRIDGE_QUERIER_IP_OTHER_TIMER = 3, Ipv4OtherTimer: u64;
+            BRIDGE_QUERIER_IP_PORT = 2, Ipv4Port: u32 as InterfaceIndex;
+            BRIDGE_QUERIER_IP_OTHER_TIMER = 3, Ipv4OtherTimer: u64 as ClockTicks;
             BRIDGE_QUERIER_IPV6_ADDRESS = 5, Ipv6Address: OneAddress<Ipv6Addr>;
-            BRIDGE_QUERIER_IPV6_PORT = 6, Ipv6Port: u32;
-            BRIDGE_QUERIER_IPV6_OTHER_TIMER = 7, Ipv6OtherTimer: u64;
+            BRIDGE_QUERIER_IPV6_PORT = 6, Ipv6Port: u32 as InterfaceIndex;
+            BRIDGE_QUERIER_IPV6_OTHER_TIMER = 7, Ipv6OtherTimer: u64 as ClockTicks;
         }
     };
 }
@@ -93,12 +94,21 @@ impl Attribute for BridgeQuerierState {
         rows!(check(buffer))
     }
 
+    #[inline(always)]
     fn borrow<'a>(buffer: &NlaBuffer<'a>) -> Content<'a> {
         rows!(borrow(buffer))
     }
 
     fn borrow_element<'a>(list: u16, element: &NlaBuffer<'a>) -> Content<'a> {
         rows!(borrow_element(list, element))
+    }
+
+    fn kind_label(kind: u16) -> Option<KindLabel> {
+        rows!(label(kind))
+    }
+
+    fn element_label(list: u16, kind: u16) -> Option<KindLabel> {
+        rows!(element_label(list, kind))
     }
 
     fn canonical(buffer: &NlaBuffer<'_>) -> bool {

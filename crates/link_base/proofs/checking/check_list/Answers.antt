@@ -12,14 +12,14 @@ use Rattle.link_base.proofs.checking.check_list.Goals as goal
 pub loop-rest-init : goal.loop-rest-init
 loop-rest-init g c = record { vs = []; underway = underway_none (Gives g.F.Meaning.table) c.args.bytes.now; few = omega arith; many = refl }
 
-pub returns-in-Err : goal.returns-in-Err
-returns-in-Err g c =
+pub returns-in-Err-clause-answer : goal.returns-in-Err-clause-answer
+returns-in-Err-clause-answer g c =
     let i = c.loop-rest.invariant in
     let some : c.loop-rest.rest.now ≢ [] = λ e. grind (arith, common_steps) in
     ends_at_rest (Gives g.F.Meaning.table) c.args.bytes.now c.loop-rest.count c.loop-rest.rest.now i.vs _ c.in-Err.cause i.underway some refl c.in-Err.ensures
 
-pub returns-in-Err-check : goal.returns-in-Err-check
-returns-in-Err-check g c =
+pub returns-in-Err-check-clause-answer : goal.returns-in-Err-check-clause-answer
+returns-in-Err-check-clause-answer g c =
     let i = c.loop-rest.invariant in
     let b = c.in-Ok.first.0 in
     let some : c.loop-rest.rest.now ≢ [] = λ e. grind (arith, common_steps) in
@@ -46,8 +46,8 @@ loop-rest-preserved g c =
       many = omega (arith, i.many, length-append i.vs (value.0 ∷ []));
     }
 
-pub returns : goal.returns
-returns g c =
+pub returns-clause-answer : goal.returns-clause-answer
+returns-clause-answer g c =
     let i = c.loop-rest.invariant in
     let none : c.loop-rest.rest.now ≡ [] = grind (arith, common_steps) in
     (i.vs, underway_all (Gives g.F.Meaning.table) c.args.bytes.now c.loop-rest.count c.loop-rest.rest.now i.vs i.underway none, i.many)

@@ -1,0 +1,142 @@
+//! Views of the lists of a `Family`: their attributes, without values.
+
+ghost use Rattle.std.specs.Prelude.{◌≡◌, IfOk};
+ghost use Rattle.link_base.specs.Frame.{kind_of};
+ghost use Rattle.link_base.specs.Table.{Gives, class_at, label_at};
+ghost use Rattle.link_base.specs.Buffer.{kind_field_of, payload_of};
+ghost use Rattle.link_base.specs.Borrowed.{HasValue, Borrows, elements_at};
+ghost use Rattle.link_base.specs.Checked.{Checks};
+ghost use Rattle.link_base.specs.Labels.{label_in};
+ghost use Rattle.link_base.specs.Viewed.{kind_in, payload_in, set_in, set_of, all_set_of, ViewsList, ViewsElements, IsAllOf};
+ghost use Rattle.netlink_packet_route.specs.Family.{table_of};
+ghost use Rattle.netlink_packet_route.specs.Views.{family_in, elements_in, elements_table};
+
+use crate::by_family;
+use crate::counting::count_values;
+use crate::family::Family;
+use link_base::attribute_set::{AttributeSet, CheckedSet};
+use link_base::content::Content;
+use link_base::quantity::KindLabel;
+use link_base::view::{Value, View};
+use link_base::view_all::ViewAll;
+use link_base::{Attribute, DecodeFault, ListFault, NlaBuffer};
+
+/// The attributes in the lists of a `Family`.
+#[derive(Clone, Copy, Debug)]
+pub struct FamilySet {
+    /// The attribute set.
+    pub family: Family,
+}
+
+/// The attributes in the nested lists of one attribute type, in the lists of a `Family`.
+#[derive(Clone, Copy, Debug)]
+pub struct FamilyElements {
+    /// The attribute set of the lists.
+    pub family: Family,
+    /// The attribute type of the nested lists.
+    pub list: u16,
+}
+
+impl AttributeSet for FamilySet {
+    ghost rows = { λ set. table_of (family_in set) };
+
+    #[inline(always)]
+    fn borrow<'a>(&self, buffer: &NlaBuffer<'a>) -> Content<'a> {
+        by_family!(self.family, borrow_as(buffer))
+    }
+
+    fn label(&self, kind: u16) -> Option<KindLabel> {
+        by_family!(self.family, label_as(kind))
+    }
+}
+
+impl CheckedSet for FamilySet {
+    fn check(&self, buffer: &NlaBuffer<'_>) -> Result<(), DecodeFault> {
+        by_family!(self.family, check_as(buffer))
+    }
+}
+
+impl AttributeSet for FamilyElements {
+    ghost rows = { elements_table };
+
+    #[inline(always)]
+    fn borrow<'a>(&self, buffer: &NlaBuffer<'a>) -> Content<'a> {
+        by_family!(self.family, borrow_element_as(self.list, buffer))
+    }
+
+    fn label(&self, kind: u16) -> Option<KindLabel> {
+        by_family!(self.family, element_label_as(self.list, kind))
+    }
+}
+
+/// Checks a list and returns a view of its attributes. Nothing is allocated, and no value is built.
+///
+/// # Errors
+///
+/// The first error in the list, with the byte offset of its attribute: the error that `read_list` returns in
+/// `ListError::Fault` unless an allocation fails.
+pub fn view_list(family: Family, bytes: &[u8]) -> Result<View<'_, FamilySet>, ListFault>
+    ensures list { ViewsList (table_of family) bytes.now result }
+    ensures set { IfOk result (λ view. family_in (set_of view) ≡ family) }
+{
+    count_values(family, bytes)?;
+    Ok(View::of_checked(bytes, FamilySet { family }))
+}
+
+/// Returns a view of a list that may be malformed: each attribute that decodes, or its error. Nothing is allocated, and
+/// no value is built.
+pub fn view_all(family: Family, bytes: &[u8]) -> ViewAll<'_, FamilySet>
+    ensures list { IsAllOf bytes.now result }
+    ensures set { family_in (all_set_of result) ≡ family }
+{
+    ViewAll::new(bytes, FamilySet { family })
+}
+
+/// Returns a view of the attributes in a nested list; `None` if the attribute is not a nested list.
+pub fn view_elements<'a>(value: &Value<'a, FamilySet>) -> Option<View<'a, FamilyElements>>
+    ensures { ViewsElements (class_at (table_of (family_in (set_in value.now))) (kind_in value.now))
+        (payload_in value.now) (elements_in (set_in value.now) (kind_in value.now)) result }
+{
+    value.elements_as(FamilyElements {
+        family: value.set().family,
+        list: value.kind(),
+    })
+}
+
+#[inline(always)]
+fn borrow_as<'a, F: Attribute>(buffer: &NlaBuffer<'a>) -> Content<'a>
+    requires { HasValue F.table (kind_field_of buffer.now) (payload_of buffer.now) }
+    ensures { Borrows (class_at F.table (kind_of (kind_field_of buffer.now))) (payload_of buffer.now) result }
+{
+    F::borrow(buffer)
+}
+
+#[inline(always)]
+fn borrow_element_as<'a, F: Attribute>(list: u16, element: &NlaBuffer<'a>) -> Content<'a>
+    requires { HasValue (elements_at F.table list) (kind_field_of element.now) (payload_of element.now) }
+    ensures { Borrows (class_at (elements_at F.table list) (kind_of (kind_field_of element.now)))
+        (payload_of element.now) result }
+{
+    F::borrow_element(list, element)
+}
+
+#[inline(always)]
+fn check_as<F: Attribute>(buffer: &NlaBuffer<'_>) -> Result<(), DecodeFault>
+    ensures { Checks (Gives F.table (kind_field_of buffer.now) (payload_of buffer.now)) result }
+{
+    F::check(buffer)
+}
+
+#[inline(always)]
+fn label_as<F: Attribute>(kind: u16) -> Option<KindLabel>
+    ensures { label_in result ≡ label_at F.table kind }
+{
+    F::kind_label(kind)
+}
+
+#[inline(always)]
+fn element_label_as<F: Attribute>(list: u16, kind: u16) -> Option<KindLabel>
+    ensures { label_in result ≡ label_at (elements_at F.table list) kind }
+{
+    F::element_label(list, kind)
+}
