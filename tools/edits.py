@@ -181,14 +181,18 @@ def skeleton(text):
 
 
 def block_name(kind, header):
-    """How a check names an impl, a trait or a module: an impl of a trait by type and trait, as in U16FromLength."""
+    """How a check names an impl, a trait or a module: an impl of a trait by type and trait, as in U16FromLength. The
+    parameters of an impl have no part in its name, unless one is the whole type, which is named Any."""
     head = re.split(r"\bwhere\b|\{", header, maxsplit=1)[0]
     head = head[re.search(rf"\b{kind}\b", head).end() :]
     if kind != "impl":
         return re.match(r"\s*(\w+)", head)[1]
-    head = without_parameters(head)
+    listed, head = parameters_and_rest(head)
+    own = {re.match(r"(?:const\s+)?('?\w+)", it)[1] for it in listed}
     trait, is_of_trait, of = head.rpartition(" for ")
-    return type_name(of, False) + (type_name(trait, True) if is_of_trait else "")
+    if not is_of_trait:
+        return type_name(of.partition("<")[0], own)
+    return (type_name(of, own) or "Any") + type_name(trait, own)
 
 
 def is_of_trait(kind, header):
@@ -196,34 +200,49 @@ def is_of_trait(kind, header):
     if kind != "impl":
         return kind == "trait"
     head = re.split(r"\bwhere\b|\{", header, maxsplit=1)[0]
-    return " for " in without_parameters(head[re.search(r"\bimpl\b", head).end() :])
+    return " for " in parameters_and_rest(head[re.search(r"\bimpl\b", head).end() :])[1]
 
 
-def without_parameters(head):
-    """The head of an impl without its own type parameters, as `<A: Trait>`."""
+def parameters_and_rest(head):
+    """The parameters of an impl, as `A: Trait` of `<A: Trait>`, and its head without them."""
     if not head.startswith("<"):
-        return head
+        return [], head
     depth = 0
     for at, letter in enumerate(head):
         depth += (letter == "<") - (letter == ">" and head[at - 1] != "-")
         if not depth:
-            return head[at + 1 :]
-    return head
+            return parts_of(head[1:at]), head[at + 1 :]
+    return [], head
 
 
-def type_name(written, with_arguments):
-    """A type's last name, with a capital, and the names of a trait's arguments. `&[u8]` is RefSliceU8."""
+def parts_of(listed):
+    """The types of a list, which commas part. One inside a type parts nothing."""
+    parts, depth = [""], 0
+    for at, letter in enumerate(listed):
+        depth += (letter in "<([") - (letter in ")]" or letter == ">" and listed[at - 1] != "-")
+        if letter == "," and not depth:
+            parts.append("")
+        else:
+            parts[-1] += letter
+    return [it.strip() for it in parts if it.strip()]
+
+
+def type_name(written, own):
+    """A type's last name, with a capital, and the names of its arguments. `&[u8]` is RefSliceU8, `(u8, u8)` Tuple2U8U8. One
+    of an impl's own parameters has no name."""
     written = written.strip()
-    reference = re.match(r"&\s*(?:'\w+\s+)?", written)
+    reference = re.match(r"&\s*(?:'\w+\s+)?(mut\s+)?", written)
     if reference:
-        return "Ref" + type_name(written[reference.end() :], with_arguments)
+        return ("RefMut" if reference[1] else "Ref") + type_name(written[reference.end() :], own)
     if written.startswith("["):
         element, _, length = written.strip("[]").partition(";")
-        return ("Array" if length else "Slice") + type_name(element, with_arguments) + length.strip()
+        return ("Array" if length else "Slice") + type_name(element, own) + type_name(length, own)
+    if written.startswith("("):
+        parts = parts_of(written[1:-1])
+        return f"Tuple{len(parts)}{''.join(type_name(it, own) for it in parts)}" if parts else "Unit"
+    if written in own:
+        return ""
     base, _, arguments = written.partition("<")
     last = base.split("::")[-1].strip()
-    name = last[:1].upper() + last[1:]
-    if with_arguments:
-        listed = [it for it in arguments.rstrip("> ").split(",") if it.strip() and "'" not in it]
-        name += "".join(type_name(it, True) for it in listed)
-    return name
+    arguments = parts_of(arguments.strip().removesuffix(">"))
+    return last[:1].upper() + last[1:] + "".join(type_name(it, own) for it in arguments if not it.startswith("'"))

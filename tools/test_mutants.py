@@ -130,9 +130,25 @@ PLACES = {"takes_longer_steps": "at: next\n"}
 class Reading(unittest.TestCase):
     def test_functions_are_named_as_a_check_names_them(self):
         found = [it.path("src/pairs/size.rt") for it in edits.functions_of(SOURCE)]
-        wanted = ["Size::words", "U16FromPairA::from", "ArrayU164TryFromRefSliceU8::try_from"]
+        wanted = ["Size::words", "U16FromPair::from", "ArrayU164TryFromRefSliceU8::try_from"]
         wanted += ["Pair::is_empty", "Pair::is_single", "Pair::least", "law"]
         self.assertEqual([f"pairs::size::{it}" for it in wanted], found)
+
+    def test_impls_of_one_trait_are_named_by_their_types(self):
+        for head, name in {
+            "impl Size for Vec<u8>": "VecU8Size",
+            "impl Size for std::vec::Vec<Vec<u16>>": "VecVecU16Size",
+            "impl Size for [u8; 6]": "ArrayU86Size",
+            "impl Size for (u32, Vec<(u8, u8)>)": "Tuple2U32VecTuple2U8U8Size",
+            "impl Size for ()": "UnitSize",
+            "impl<W: Word> Size for W": "AnySize",
+            "impl<'a, A: From<u8>, const N: usize> Size for Pair<'a, A, u8, N>": "PairU8Size",
+            "impl<'a, T> IntoIterator for &'a mut Vec<T>": "RefMutVecIntoIterator",
+            "impl<T: Drop> Place<T> for Option<T>": "OptionPlace",
+            "impl<F: Fn(u8) -> u16> Pair<F>": "Pair",
+        }.items():
+            (found,) = edits.functions_of(f"{head} {{\n    fn size() -> usize {{\n        2\n    }}\n}}\n")
+            self.assertEqual([name], found.blocks, head)
 
     def test_only_a_function_of_a_trait_is_one(self):
         found = [it.is_of_trait for it in edits.functions_of(SOURCE)]
