@@ -16,9 +16,9 @@ contract and what is written of its proof. A function of a trait has no such pla
 elsewhere names. There, lines 'goal: NAME' in mutants name what is not to be proved of it: mutants that name different
 goals are tried together too, and each has to be refused by a goal of its own.
 A mutant that turns something else than bodies of functions names by lines 'at: PATH' the functions that are to be
-refused. Such mutants are tried together as above, apart from the others. One that names no function, and one that was
-not refused in its place, is tried alone, and then any refusal is its own. A mutant that does not apply, or does not reach
-the prover, is a failure, and so is one that cannot be read.
+refused. Such mutants are tried together as above, apart from the others. One that names no function, one that turns a
+definition of specs/, and one that was not refused in its place, is tried alone, and then any refusal is its own. A mutant
+that does not apply, or does not reach the prover, is a failure, and so is one that cannot be read.
 
 A verdict 'refused' is kept in the folder out/mutants, or FOLDER, and holds until something changes on which it depends
 (tools/verdicts.py). If all are kept, nothing is built or checked. With that folder removed, all are tried.
@@ -67,7 +67,7 @@ STALE = re.compile(r"module .Rattle-(\w+)-.*Run the lower steps again")
 class Mutant:
     """An edit. Its bodies are those of the functions that it turns, {path: lines}, or None where it turns something
     else. Its seats are the functions that are to be refused: those, or else the ones that it names, if it names no
-    other place."""
+    other place. One that turns a definition has none: in a check of several, proofs of others would break by it."""
 
     def __init__(self, crate, name, edit):
         self.crate, self.name, self.edit = crate, f"{crate.name}/{name}", edit
@@ -76,7 +76,7 @@ class Mutant:
         self.goals = re.findall(r"^goal: (\S+)$", self.edit, re.MULTILINE)
         self.bodies = self.turned_bodies()
         self.seats = [*(self.bodies or self.places)]
-        if not all(it in crate.functions for it in self.seats):
+        if not all(it in crate.functions for it in self.seats) or any(it.startswith("specs/") for it in self.texts):
             self.seats = []
 
     def turned_bodies(self):
@@ -267,20 +267,34 @@ class Answer:
             return False
         return not found[2] or bool(UNREADABLE.search(re.sub(r"`[^`]*`", "", found[3])))
 
-    def in_place(self, mutant, seats, functions):
-        """What refuses one of the functions that are to be refused, or None."""
+    def told_of(self, seats, functions):
+        """The lines that say what is not proved of these functions, each with whether it says something of the contract."""
         for seat in seats:
             file, turned = functions[seat]
             folder = seat.replace("::", "/")
             for line, message in zip(self.lines, self.messages()):
                 note, error, goals = (it.match(line) for it in (OWN_NOTE, PROOF_ERROR, OWN_GOALS))
-                if not mutant.is_named(line):
-                    continue
-                if note and note[1] == file and turned.has_line(int(note[2])) and not ONLY_A_CALLEE.search(note[3]):
-                    return line[len("note: ") :]
-                if error and error[1] == folder and not LOST_NAME.search(message) or goals and goals[1] == seat:
-                    return line
-        return None
+                if note and note[1] == file and turned.has_line(int(note[2])):
+                    yield line[len("note: ") :], not ONLY_A_CALLEE.search(note[3])
+                elif error and error[1] == folder:
+                    yield line, not LOST_NAME.search(message)
+                elif goals and goals[1] == seat:
+                    yield line, True
+
+    def in_place(self, mutant, seats, functions):
+        """What refuses one of the functions that are to be refused, or None."""
+        told = self.told_of(seats, functions)
+        return next((line for line, is_of_contract in told if is_of_contract and mutant.is_named(line)), None)
+
+    def why_not(self, mutant, seats, functions):
+        """Why a mutant was not refused in its place."""
+        told = [*self.told_of(seats, functions)]
+        if not told:
+            return f"the check says nothing of {' and '.join(seats)} that is not proved"
+        other = next((line for line, is_of_contract in told if is_of_contract), "")
+        if other:
+            return f"not by {' or '.join(mutant.goals)}, but {other}"
+        return f"this says little of the contract: {told[0][0]}"
 
     def does_not_compile(self, seats, functions):
         """Whether an error stands in one of these functions."""
@@ -452,7 +466,10 @@ class Trial:
             if line:
                 self.judge(mutant.name, True, f"refused: {line[:160]}")
         self.verdicts.keep({it.edit: f"refused: {line[:160]}" for it, line in refused.items() if line})
-        return self.further([], [it for it, line in refused.items() if not line])
+        left = [it for it, line in refused.items() if not line]
+        for it in left:
+            self.say(f"   {it.name} is to be tried alone: {answer.why_not(it, seats[it], functions)[:240]}")
+        return self.further([], left)
 
     def try_alone(self, mutant):
         is_refused, text = self.alone_answer(mutant)

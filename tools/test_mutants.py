@@ -239,6 +239,15 @@ class Packing(unittest.TestCase):
         laws = [f"at: law\ngoal: {goal}\nold: {it} ≡ {it}\nnew: {it} ≡ 3" for it, goal in (("1", "one"), ("2", "two"))]
         self.assertEqual([[0], [1, 2]], self.batches(body, *laws))
 
+    def test_an_edit_of_a_definition_is_tried_alone(self):
+        with tempfile.TemporaryDirectory(prefix="mutants-test-") as folder:
+            os.makedirs(f"{folder}/specs")
+            Trying.write(f"{folder}/specs/One.antt", "one = 1\n")
+            of_law = ["at: law\nold: 1 ≡ 1\nnew: 1 ≡ 3", "file: specs/One.antt\nat: law\nold: = 1\nnew: = 3"]
+            found = self.mutants(folder, *of_law)
+        self.assertEqual([["law"], []], [it.seats for it in found])
+        self.assertEqual(["law"], found[1].targets())
+
 
 class Answers(unittest.TestCase):
     @staticmethod
@@ -288,6 +297,20 @@ class Answers(unittest.TestCase):
         }.items():
             found = self.answer(1, "only=2 proved=0", line).in_place(mutant, ["after_next"], functions)
             self.assertEqual(refuses, found is not None, line)
+
+    def test_what_did_not_refuse_a_mutant_is_told(self):
+        mutant = mutants.Mutant.__new__(mutants.Mutant)
+        mutant.goals, functions = ["returns-in-2", "returns-in-3"], self.functions()
+        note, lost = "src/lib.rt:14:1: it is not proved that it ends (`loop`)", "`returns-in-2`: `c.from` is not in scope"
+        for line, why in {
+            f"note: {note}": f"not by returns-in-2 or returns-in-3, but {note}",
+            f"proofs/after_next/A.antt:3:5: error: {lost}": "this says little of the contract: proofs/after_next/A.antt",
+            f"proofs/next/A.antt:3:5: error: {lost}": "the check says nothing of after_next that is not proved",
+        }.items():
+            answer = self.answer(1, "only=2 proved=0", line)
+            self.assertIsNone(answer.in_place(mutant, ["after_next"], functions))
+            found = answer.why_not(mutant, ["after_next"], functions)
+            self.assertTrue(found.startswith(why), found)
 
 
 class Listing(unittest.TestCase):
