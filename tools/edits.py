@@ -182,7 +182,7 @@ def skeleton(text):
 
 def block_name(kind, header):
     """How a check names an impl, a trait or a module: an impl of a trait by type and trait, as in U16FromLength. The
-    parameters of an impl have no part in its name, unless one is the whole type, which is named Any."""
+    parameters of such an impl have no part in its name, unless one is the whole type, which is named Any."""
     head = re.split(r"\bwhere\b|\{", header, maxsplit=1)[0]
     head = head[re.search(rf"\b{kind}\b", head).end() :]
     if kind != "impl":
@@ -191,7 +191,11 @@ def block_name(kind, header):
     own = {re.match(r"(?:const\s+)?('?\w+)", it)[1] for it in listed}
     trait, is_of_trait, of = head.rpartition(" for ")
     if not is_of_trait:
-        return type_name(of.partition("<")[0], own)
+        base, _, arguments = of.partition("<")
+        listed = [it for it in parts_of(arguments.strip().removesuffix(">")) if not it.startswith("'")]
+        # (one of a type with these very arguments)
+        words = [] if all(it in own for it in listed) else re.findall(r"(?<!')\b\w+", " ".join(listed))
+        return "+".join([type_name(base, own), *words])
     return (type_name(of, own) or "Any") + type_name(trait, own)
 
 

@@ -146,6 +146,7 @@ class Reading(unittest.TestCase):
             "impl<'a, T> IntoIterator for &'a mut Vec<T>": "RefMutVecIntoIterator",
             "impl<T: Drop> Place<T> for Option<T>": "OptionPlace",
             "impl<F: Fn(u8) -> u16> Pair<F>": "Pair",
+            "impl<'a, F: Size> Pair<'a, Set<F>>": "Pair+Set+F",
         }.items():
             (found,) = edits.functions_of(f"{head} {{\n    fn size() -> usize {{\n        2\n    }}\n}}\n")
             self.assertEqual([name], found.blocks, head)
