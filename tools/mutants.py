@@ -79,6 +79,13 @@ class Mutant:
         if not all(it in crate.functions for it in self.seats) or any(it.startswith("specs/") for it in self.texts):
             self.seats = []
 
+    def why_alone(self):
+        """Why it has no seats."""
+        unknown = [it for it in self.bodies or self.places if it not in self.crate.functions]
+        if unknown:
+            return f"the crate has no function {unknown[0]}"
+        return "it turns a definition" if self.places or self.bodies else "it names no function"
+
     def turned_bodies(self):
         bodies = {}
         for file, text in self.texts.items():
@@ -409,6 +416,9 @@ class Trial:
         """Its first tasks. A task is a number of lines and a call, which answers further tasks. One check of several goes
         before the others, which begin with what it kept."""
         self.started = time.time()
+        for it in self.mutants:
+            if not it.seats:
+                self.say(f"   {it.name} is to be tried alone: {it.why_alone()}")
         tasks = self.further([it for it in self.mutants if it.seats], [it for it in self.mutants if not it.seats])
         if os.path.isdir(self.first) or len(tasks) < 2:
             return tasks

@@ -245,9 +245,11 @@ class Packing(unittest.TestCase):
             os.makedirs(f"{folder}/specs")
             Trying.write(f"{folder}/specs/One.antt", "one = 1\n")
             of_law = ["at: law\nold: 1 ≡ 1\nnew: 1 ≡ 3", "file: specs/One.antt\nat: law\nold: = 1\nnew: = 3"]
-            found = self.mutants(folder, *of_law)
-        self.assertEqual([["law"], []], [it.seats for it in found])
+            found = self.mutants(folder, *of_law, "at: lore\nold: 1 ≡ 1\nnew: 1 ≡ 3", "old: 1 ≡ 1\nnew: 1 ≡ 3")
+        self.assertEqual([["law"], [], [], []], [it.seats for it in found])
         self.assertEqual(["law"], found[1].targets())
+        why = ["it turns a definition", "the crate has no function lore", "it names no function"]
+        self.assertEqual(why, [it.why_alone() for it in found[1:]])
 
 
 class Answers(unittest.TestCase):
