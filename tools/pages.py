@@ -65,7 +65,7 @@ BUDGETS = {
     "CONTRIBUTING.md": 1800,
     "docs/ARCHITECTURE.md": 2000,
     "docs/ASSURANCE.md": 1200,
-    "docs/CALLING.md": 1500,
+    "docs/CALLING.md": 1750,
     "docs/CLAIMS.md": 2600,
     "docs/DECISIONS.md": 6200,
     "docs/DIFFERENCES.md": 3000,
@@ -340,10 +340,12 @@ class Tree:
     def tables(self):
         """The tables in specs/, by name: the names, the shapes and the quantities, or '', of their rows, by number."""
         tables = {}
-        row = re.compile(r"\b(?:leaf_|list_)?row(?:_in (\w+))? (\d+) \"(\w+)\" \(?(.*?)\)* ∷")
+        row = re.compile(r"\b(leaf_|nested_|address_)?row(?:_in (\w+))? (\d+) \"(\w+)\" \(?(.*?)\)* ∷")
+        lists = {"nested_": "Nested ", "address_": "Addresses "}
         for text in self.of(r"crates/[^/]+/specs/.*\.antt"):
             for table, body in re.findall(r"^(\w+) =(.*(?:\n[ \t].*|\n)*)", re.sub(r"--.*", "", text), re.MULTILINE):
-                rows_of = {number: (name, shape, it) for it, number, name, shape in row.findall(" ".join(body.split()))}
+                found = row.findall(" ".join(body.split()))
+                rows_of = {number: (name, lists.get(of, "") + shape, it) for of, it, number, name, shape in found}
                 tables |= {table: rows_of} if rows_of else {}
         return tables
 

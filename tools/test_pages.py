@@ -269,7 +269,7 @@ class Pages(unittest.TestCase):
         source = "const PAIR_KIND: u16 = 3;\n"
         more = {
             "crates/pairs/specs/Pair.antt": spec
-            + "    list_row 2 \"PAIR_ENDS\" (Nested false end_rows) ∷\n    row 3 \"PAIR_KIND\" bytes ∷ []\n",
+            + "    nested_row 2 \"PAIR_ENDS\" false end_rows ∷\n    row 3 \"PAIR_KIND\" bytes ∷ []\n",
             "crates/pairs/src/kinds.rt": source + "match self {\n    Pair::Other => PAIR_KIND,\n}\n"
             "rows! {\n    PAIR_LEN = 1, Len: u16;\n    PAIR_ENDS = 2 | NLA_F_NESTED, Ends(first, last): NestedList<End>;\n}\n",
         }
@@ -298,13 +298,13 @@ class Pages(unittest.TestCase):
             ### `end_rows`
 
             ```text
-            1  END_INDEX  Index  Named 4 as Index
+            1  END_INDEX  Index  u32_enum as Index
             ```
             """.replace("            ", "")
         spec, code = "crates/pairs/specs/Pair.antt", "crates/pairs/src/kinds.rt"
         more = {
             spec: "pair_table =\n    row_in Seconds 1 \"PAIR_AGE\" u32 ∷\n    row 2 \"PAIR_LEN\" u16 ∷ []\n\n"
-            "end_rows = leaf_row_in Index 1 \"END_INDEX\" (Named 4 (numbers_of ends)) ∷ []\n",
+            "end_rows = leaf_row_in Index 1 \"END_INDEX\" (u32_enum ends) ∷ []\n",
             code: "rows! {\n    PAIR_AGE = 1, Age: u32 as Seconds;\n    PAIR_LEN = 2, Len: u16;\n}\n"
             "rows! {\n    END_INDEX = 1, Index: Named<End> as Index;\n}\n",
         }
@@ -344,9 +344,9 @@ class Pages(unittest.TestCase):
             self.finds(wanted, "a *record* of records", number)
 
     def test_a_page_keeps_its_budget(self):
-        more = "word " * (1500 - len(CALLING.split()))
+        more = "word " * (1750 - len(CALLING.split()))
         self.assertEqual([], self.said(TREE | {"docs/CALLING.md": CALLING + more}))
-        wanted = "docs/CALLING.md:1: the page has 1,501 words, and its budget is 1,500"
+        wanted = "docs/CALLING.md:1: the page has 1,751 words, and its budget is 1,750"
         self.assertEqual([wanted], self.said(TREE | {"docs/CALLING.md": f"{CALLING}{more}`word`"}))
         free = "\n\n```text\nword\n```\n\n<!-- word -->\n"
         self.assertEqual([], self.said(TREE | {"docs/CALLING.md": CALLING + more + free}))

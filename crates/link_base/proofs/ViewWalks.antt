@@ -1,6 +1,6 @@
 -- Views that are walked to their end.
 use Rattle.std.proofs.Common.{◌≡◌, ◌≢◌, ◌⊎◌, ℕ, ◌+◌, ◌-◌, ◌<◌, ◌≤◌, List, [], ◌∷◌, ◌++◌, length, map, Option, None, Some, Result, Ok, Err, refl, sym, ap, ap₂, subst, ◌∙◌, arith, inl, inr, append_assoc}
-use Rattle.std.proofs.lemmas.List.{append-nil, length-append}
+use Rattle.std.proofs.lemmas.List.{length-append}
 use Rattle.std.specs.Iterator.{Yields, Drains}
 use Rattle.std.specs.List.{AllZip, AllByRecursion}
 use Rattle.link_base.specs.declared.attribute_set.AttributeSet as sets
@@ -11,19 +11,18 @@ use Rattle.link_base.specs.declared.fault.ListFault.{ListFault}
 use Rattle.link_base.specs.declared.fault.DecodeFault.{DecodeFault}
 use Rattle.link_base.specs.declared.fault.Cause.{Cause}
 use Rattle.link_base.specs.Frame.{Frame, Frames, IsFrame, IsComplete, frame_bytes, spelled, frame_fault}
-use Rattle.link_base.specs.Wire.{Wire, FirstFault, FaultsHere, FrameGives, Reads, IsCanonicalFrame}
+use Rattle.link_base.specs.Wire.{Wire, FaultsHere, FrameGives, Reads, IsCanonicalFrame}
 use Rattle.link_base.specs.Number.{IsBytes}
 use Rattle.link_base.specs.Table.{Table, AttrValue, Gives, Decodes, Allows, FirstNotCanonical}
 use Rattle.link_base.specs.Buffer.{kind_field_of, payload_of, frame_of}
 use Rattle.link_base.specs.Borrowed.{HasValue, HasValues}
 use Rattle.link_base.specs.Viewed.{bytes_in, buffer_in, set_in, set_of, NextValue, attribute_of, parts_of, IsWalk, StartsAt, whole_of, left_of, all_set_of, FaultsFirst, NextOfAll, found, first_error, IsAllOf, AreShown, IsWalkOfAll}
-use Rattle.link_base.proofs.FrameBytes.{length-frame_bytes, frame_fault-frame}
-use Rattle.link_base.proofs.FrameAtFront.{Splits}
+use Rattle.link_base.proofs.FrameBytes.{frame_fault-frame}
 use Rattle.link_base.proofs.Cuts.{AreFrames-head, SameFront-frames, IsFrame-complete, same_gap, same_parts as same_halves}
 use Rattle.link_base.proofs.Readings.{NextFrames-more, reads_some, not_both, no_fault_here, one_here}
 use Rattle.link_base.proofs.TableLaws.{lawful}
 use Rattle.link_base.proofs.Walking.{some_bytes}
-use Rattle.link_base.proofs.Views.{FirstFrame, first_frame, FirstValue, first_value, frames_none, split_of, split_less, values_rest}
+use Rattle.link_base.proofs.Views.{first_frame, first_value, frames_none, split_of, values_rest}
 
 -- nothing has no values
 values_none : (table : Table) (vs : List AttrValue) → Wire (Gives table) [] vs → vs ≡ []

@@ -2,6 +2,8 @@
 use Rattle.std.specs.Prelude.{◌≡◌, ℕ, List, [], ◌∷◌, length, take, drop, Option, Some, None, Ok}
 use Rattle.link_base.specs.declared.content.Content.{Content as Borrowed}
 use Rattle.link_base.specs.declared.content.Content.TheVariants as borrowed
+use Rattle.link_base.specs.declared.label.Form.{Form}
+use Rattle.link_base.specs.declared.label.Form.TheVariants as forms
 use Rattle.link_base.specs.Class.{Value, Limits, Number, Integer, Boolean, Raw, Name, Unlisted, EtherType, LowByte, Nothing, extent, length_cause, meant}
 use Rattle.link_base.specs.IpAddress.{four_octets, sixteen_octets}
 use Rattle.link_base.specs.Layout.{octets_of}
@@ -64,6 +66,30 @@ Borrows (Some (One c)) p content = Says content (meant c p)
 Borrows (Some (Nested flagged rows)) p content = SaysList content p
 Borrows (Some (Addresses n)) p content = SaysAddresses content n p
 
+-- the form of a borrowed content; none for that of an attribute without a row
+abbrev pub form_of : Borrowed → Option Form
+form_of borrowed.Nothing = Some forms.Nothing
+form_of (borrowed.Bool b) = Some forms.Bool
+form_of (borrowed.Unsigned x n) = Some forms.Unsigned
+form_of (borrowed.Signed z) = Some forms.Signed
+form_of (borrowed.Enum d n) = Some forms.Enum
+form_of (borrowed.Flags x n) = Some forms.Flags
+form_of (borrowed.LowFlags b) = Some forms.LowFlags
+form_of (borrowed.MaskedFlags flags mask) = Some forms.MaskedFlags
+form_of (borrowed.Pair a b) = Some forms.Pair
+form_of (borrowed.Protocol p) = Some forms.Protocol
+form_of (borrowed.Mac a) = Some forms.Mac
+form_of (borrowed.Ipv4 a) = Some forms.Ipv4
+form_of (borrowed.Ipv6 a) = Some forms.Ipv6
+form_of (borrowed.Bytes p) = Some forms.Bytes
+form_of (borrowed.Struct p) = Some forms.Struct
+form_of (borrowed.U16s p) = Some forms.U16s
+form_of (borrowed.U32s p) = Some forms.U32s
+form_of (borrowed.Limits name numbers) = Some forms.Limits
+form_of (borrowed.Addresses list size) = Some forms.Addresses
+form_of (borrowed.List list) = Some forms.List
+form_of (borrowed.Other p) = None
+
 -- a payload of this shape decodes, as far as its length tells; a list does if its elements do
 abbrev pub IsAccepted : Shape → List ℕ → Type 0
 IsAccepted (One c) p = length_cause (extent c) (length p) ≡ None
@@ -85,3 +111,8 @@ elements_by shape = []
 -- the table of the attributes in the nested lists of attribute type k
 abbrev pub elements_at : Table → ℕ → Table
 elements_at table k = elements_by (class_at table k)
+
+-- the table of a set, or of the attributes in its nested lists of attribute type k
+abbrev pub table_within : Table → Option ℕ → Table
+table_within table None = table
+table_within table (Some k) = elements_at table k

@@ -38,6 +38,11 @@ unless (Some c) x = Err c
 abbrev pub accepted : {A : Type 0} → Extent → (List ℕ → A) → List ℕ → Result A Cause
 accepted e meaning p = unless (length_cause e (length p)) (meaning p)
 
+-- the value without the cause
+abbrev pub value_only : {A : Type 0} → Result A Cause → Option A
+value_only (Ok x) = Some x
+value_only (Err c) = None
+
 -- ---- classes and their values
 
 pub data Class : Type 0 where
@@ -63,50 +68,6 @@ pub data Class : Type 0 where
   Empty : Class
   -- the limits of a CAN controller: a name field, and eight `u32`s
   Limits : Class
-
--- short names of classes, for the rows of tables
-abbrev pub u8 : Class
-u8 = Unsigned 1
-
-abbrev pub u16 : Class
-u16 = Unsigned 2
-
-abbrev pub u32 : Class
-u32 = Unsigned 4
-
-abbrev pub u64 : Class
-u64 = Unsigned 8
-
-abbrev pub i32 : Class
-i32 = Signed
-
-abbrev pub truth : Class
-truth = Truth
-
-abbrev pub u16s : Class
-u16s = Many 2
-
-abbrev pub u32s : Class
-u32s = Many 4
-
--- a hardware address
-abbrev pub mac : Class
-mac = Octets (Exactly 6)
-
-abbrev pub ipv4 : Class
-ipv4 = Octets (Exactly 4)
-
-abbrev pub ipv6 : Class
-ipv6 = Octets (Exactly 16)
-
-abbrev pub vlan_protocol : Class
-vlan_protocol = Protocol
-
-abbrev pub bytes : Class
-bytes = Bytes
-
-abbrev pub no_value : Class
-no_value = Empty
 
 pub data Value : Type 0 where
   -- the number of bytes, and the number

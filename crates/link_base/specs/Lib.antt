@@ -2,6 +2,7 @@ pub mod Number
 pub mod Frame
 pub mod Name
 pub mod Class
+pub mod Payloads
 pub mod Wire
 pub mod Table
 pub mod Editions

@@ -48,6 +48,10 @@ pub record Naming (T : Type 0) : Type 0 where
 abbrev pub numbers_of : {T : Type 0} → Naming T → List ℕ
 numbers_of names = map (λ l. l.number) names.labels
 
+-- the numbers that have names, each with its `Display` output
+abbrev pub texts_of : {T : Type 0} → Naming T → List (ℕ × List ℕ)
+texts_of names = map (λ l. (l.number, l.text)) names.labels
+
 -- the displayed names and the additional ones
 abbrev pub all_labels : {T : Type 0} → Naming T → List (Label T)
 all_labels names = names.labels ++ names.further

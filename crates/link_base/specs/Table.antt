@@ -5,35 +5,47 @@ use Rattle.std.specs.List.{filter, AllByRecursion}
 use Rattle.link_base.specs.declared.fault.Cause.{Cause}
 use Rattle.link_base.specs.declared.fault.DecodeFault.{DecodeFault}
 use Rattle.link_base.specs.declared.fault.DecodeFault.TheVariants as faults
-use Rattle.link_base.specs.declared.quantity.Quantity.{Quantity}
-use Rattle.link_base.specs.declared.quantity.Quantity.TheVariants as quantities
+use Rattle.link_base.specs.declared.label.Quantity.{Quantity}
+use Rattle.link_base.specs.declared.label.Quantity.TheVariants as quantities
+use Rattle.link_base.specs.declared.label.Form.{Form}
+use Rattle.link_base.specs.declared.label.Form.TheVariants as forms
 use Rattle.link_base.specs.Frame.{Frame, IsComplete, kind_of, kind_limit, frame_bytes, spelled}
 use Rattle.link_base.specs.Class
 use Rattle.link_base.specs.Class.{Class, Value, class_value, written, IsCanonicalPayload}
+use Rattle.link_base.specs.Payloads.{Payloads}
 use Rattle.link_base.specs.Wire.{Reading, Reads, Wire, CanonicalBy, FirstOtherBy, RewritingBy, written_by, FitsBy, whole}
 
 -- ---- rows, and attributes of a table
 
--- an attribute type, its name in the kernel's headers, what its numbers count, and what its payloads are
+-- an attribute type, its name in the kernel's headers, what its numbers count, the form of its values, the names of
+-- its numbers or bits, and what its payloads are
 pub record Row (C : Type 0) : Type 0 where
   pub kind : ℕ
   pub name : String
   pub quantity : Quantity
+  pub form : Form
+  pub names : List (ℕ × List ℕ)
   pub class : C
 
--- a row for this attribute type
-abbrev pub row_of : {C : Type 0} → Quantity → ℕ → String → C → Row C
-row_of q k name c = record { kind = k; name = name; quantity = q; class = c }
+-- a row for this attribute type, whose payloads are those of c
+abbrev pub row_of : {C : Type 0} → Quantity → ℕ → String → Form → List (ℕ × List ℕ) → C → Row C
+row_of q k name form names c = record { kind = k; name = name; quantity = q; form = form; names = names; class = c }
 
 -- what the payloads of an attribute type are, if it has a row
 abbrev pub class_at : {C : Type 0} → List (Row C) → ℕ → Option C
 class_at [] k = None
 class_at (r ∷ rows) k = if r.kind == k then Some r.class else class_at rows k
 
--- the name of an attribute type, and what its numbers count, if it has a row
-abbrev pub label_at : {C : Type 0} → List (Row C) → ℕ → Option (List ℕ × Quantity)
+-- the form of the values of an attribute type, if it has a row
+abbrev pub form_at : {C : Type 0} → List (Row C) → ℕ → Option Form
+form_at [] k = None
+form_at (r ∷ rows) k = if r.kind == k then Some r.form else form_at rows k
+
+-- the name of an attribute type, what its numbers count, the form of its values, and the names of its numbers or bits,
+-- if it has a row
+abbrev pub label_at : {C : Type 0} → List (Row C) → ℕ → Option (List ℕ × Quantity × Form × List (ℕ × List ℕ))
 label_at [] k = None
-label_at (r ∷ rows) k = if r.kind == k then Some (codes r.name, r.quantity) else label_at rows k
+label_at (r ∷ rows) k = if r.kind == k then Some (codes r.name, r.quantity, r.form, r.names) else label_at rows k
 
 -- an attribute: the variant for an attribute type that has a row (`Case`), or any other `nla_type` and payload
 pub data Attr (V : Type 0) : Type 0 where
@@ -46,13 +58,12 @@ pub data Attr (V : Type 0) : Type 0 where
 abbrev pub Rows : Type 0
 Rows = List (Row Class)
 
--- a row of such a table: the attribute type, its name, and the class of its payloads; then likewise for numbers that
--- count something
-abbrev pub leaf_row : ℕ → String → Class → Row Class
-leaf_row k name c = row_of quantities.Number k name c
+-- a row of such a table: the attribute type, its name, and its payloads; then likewise for numbers that count something
+abbrev pub leaf_row : ℕ → String → Payloads → Row Class
+leaf_row k name p = row_of quantities.Number k name p.form p.names p.class
 
-abbrev pub leaf_row_in : Quantity → ℕ → String → Class → Row Class
-leaf_row_in q k name c = row_of q k name c
+abbrev pub leaf_row_in : Quantity → ℕ → String → Payloads → Row Class
+leaf_row_in q k name p = row_of q k name p.form p.names p.class
 
 -- an attribute of a table without lists
 abbrev pub Leaf : Type 0
@@ -97,15 +108,19 @@ pub data Shape : Type 0 where
   Addresses : ℕ → Shape
 
 -- a row for an attribute type whose payloads have one class; then likewise for numbers that count something
-abbrev pub row : ℕ → String → Class → Row Shape
-row k name c = row_of quantities.Number k name (One c)
+abbrev pub row : ℕ → String → Payloads → Row Shape
+row k name p = row_of quantities.Number k name p.form p.names (One p.class)
 
-abbrev pub row_in : Quantity → ℕ → String → Class → Row Shape
-row_in q k name c = row_of q k name (One c)
+abbrev pub row_in : Quantity → ℕ → String → Payloads → Row Shape
+row_in q k name p = row_of q k name p.form p.names (One p.class)
 
--- a row for an attribute type whose payloads are lists
-abbrev pub list_row : ℕ → String → Shape → Row Shape
-list_row k name shape = row_of quantities.Number k name shape
+-- a row for an attribute type whose payloads are nested lists, and whether they are written with the nested flag; then
+-- for lists of addresses of n bytes each
+abbrev pub nested_row : ℕ → String → Bool → Rows → Row Shape
+nested_row k name flagged rows = row_of quantities.Number k name forms.List [] (Nested flagged rows)
+
+abbrev pub address_row : ℕ → String → ℕ → Row Shape
+address_row k name n = row_of quantities.Number k name forms.Addresses [] (Addresses n)
 
 -- the content of an attribute
 pub data Content : Type 0 where

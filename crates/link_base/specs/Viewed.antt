@@ -1,5 +1,5 @@
 -- Views of lists: the attributes of a list that decodes.
-use Rattle.std.specs.Prelude.{◌≡◌, ◌≢◌, ◌⊎◌, ℕ, ◌+◌, ◌-◌, ◌==◌, List, [], ◌∷◌, ◌++◌, length, map, reverse, Option, Some, None, Result, Ok, Err, nat_lt, if◌then◌else◌}
+use Rattle.std.specs.Prelude.{◌≡◌, ◌≢◌, ◌⊎◌, ℕ, ◌+◌, ◌-◌, ◌==◌, Bool, true, false, List, [], ◌∷◌, ◌++◌, length, map, reverse, Option, Some, None, Result, Ok, Err, if◌then◌else◌}
 use Rattle.std.specs.List.{AllZip, AllByRecursion}
 use Rattle.link_base.specs.declared.attribute_set.AttributeSet as sets
 use Rattle.link_base.specs.declared.attribute_set.ElementSet.{ElementSet}
@@ -7,13 +7,14 @@ use Rattle.link_base.specs.declared.view.View.{View}
 use Rattle.link_base.specs.declared.view.Value.{Value as Item}
 use Rattle.link_base.specs.declared.view_all.ViewAll.{ViewAll}
 use Rattle.link_base.specs.declared.buffer.NlaBuffer.{NlaBuffer}
-use Rattle.link_base.specs.declared.content.Content.{Content as Borrowed}
-use Rattle.link_base.specs.declared.content.Content.TheVariants as borrowed
+use Rattle.link_base.specs.declared.label.Form.{Form}
+use Rattle.link_base.specs.declared.label.Form.TheVariants as forms
 use Rattle.link_base.specs.declared.fault.ListFault.{ListFault}
 use Rattle.link_base.specs.declared.fault.DecodeFault.{DecodeFault}
 use Rattle.link_base.specs.declared.fault.DecodeFault.TheVariants as faults
 use Rattle.link_base.specs.declared.fault.Cause.{Cause}
-use Rattle.link_base.specs.Number.{bound}
+use Rattle.link_base.specs.Number.{number}
+use Rattle.link_base.specs.Class.{Extent, Exactly, accepted, value_only}
 use Rattle.link_base.specs.Wire.{Wire, FirstFault}
 use Rattle.link_base.specs.Table.{Table, AttrValue, Shape, Nested, Gives, Decodes}
 use Rattle.link_base.specs.Frame.{Frame, Frames, frame_bytes, spelled, kind_of, frame_fault}
@@ -179,12 +180,21 @@ ViewsElementsOf (Some (Nested flagged rows)) k p None = ⊥
 ViewsElementsOf shape k p (Some view) = ⊥
 ViewsElementsOf shape k p None = Unit {0}
 
--- the unsigned number of n bytes that is borrowed, if it is in their range
-abbrev pub number_in : ℕ → Borrowed → Option ℕ
-number_in n (borrowed.Unsigned x width) = if width == n then (if nat_lt x (bound n) then Some x else None) else None
-number_in n content = None
+-- ---- numbers and structs
 
--- the unsigned number of eight bytes that is borrowed
-abbrev pub long_in : Borrowed → Option ℕ
-long_in (borrowed.Unsigned x width) = if width == 8 then Some x else None
-long_in content = None
+-- whether a form is that of unsigned numbers; then likewise of structs
+abbrev pub is_unsigned : Option Form → Bool
+is_unsigned (Some forms.Unsigned) = true
+is_unsigned form = false
+
+abbrev pub is_struct : Option Form → Bool
+is_struct (Some forms.Struct) = true
+is_struct form = false
+
+-- the unsigned number in a payload of this form, if it has n bytes
+abbrev pub unsigned_in : ℕ → Option Form → List ℕ → Option ℕ
+unsigned_in n form p = if is_unsigned form then value_only (accepted (Exactly n) number p) else None
+
+-- the struct in a payload of this form, if its length is accepted
+abbrev pub struct_in : {A : Type 0} → Extent → (List ℕ → A) → Option Form → List ℕ → Option A
+struct_in e meaning form p = if is_struct form then value_only (accepted e meaning p) else None

@@ -1,19 +1,22 @@
 //! IP addresses as payloads of attributes, and lists of them.
 
-ghost use Rattle.std.specs.Prelude.{◌≡◌, ◌≢◌, ◌≤◌, ◌<◌, ◌^◌, ◌++◌, ◌∷◌, [], ℕ, List, length, map, None, IsTrue, refl};
+ghost use Rattle.std.specs.Prelude.{◌≡◌, ◌≢◌, ◌≤◌, ◌<◌, ◌^◌, ◌++◌, ◌∷◌, [], ℕ, List, length, map, Some, None, IsTrue, refl};
 ghost use Rattle.std.specs.Prelude.{◌+◌, ◌/◌, nat_lt, MatchOption, vec_len, vec_capacity};
 ghost use Rattle.std.specs.List.{AllByRecursion};
 ghost use Rattle.link_base.specs.Frame.{frame_fault, spelled, max_payload};
 ghost use Rattle.link_base.specs.Table.{Case, Listed, Addresses, ShapeGives, addresses_from, of_length};
 ghost use Rattle.link_base.specs.Held.{IsOctets};
 ghost use Rattle.link_base.specs.Class.{accepted, Exactly, Raw};
-ghost use Rattle.link_base.specs.Borrowed.{Says};
+ghost use Rattle.link_base.specs.Borrowed.{Says, form_of};
+ghost use Rattle.link_base.specs.declared.label.Form.{Form};
+ghost use Rattle.link_base.specs.declared.label.Form.TheVariants as forms;
 ghost use Rattle.link_base.specs.Answers.{Answers, OnMemory, capped, payload_result, read_as};
 
 use crate::attribute::{Meaning, Nla};
 use crate::buffer::{NlaBuffer, cause_at_front};
 use crate::content::Content;
 use crate::fault::{Cause, DecodeError, DecodeFault};
+use crate::label::Form;
 use crate::padding::total_size;
 use std::alloc::Global;
 use std::net::{Ipv4Addr, Ipv6Addr};
@@ -24,6 +27,11 @@ pub trait Address: Copy {
     const SIZE: usize;
 
     ghost SIZE: { ℕ };
+
+    /// The form of an address as a content.
+    const FORM: Form;
+
+    ghost FORM: { Form };
 
     /// The octets of an address, in order.
     ghost octets: { Self → List ℕ };
@@ -42,7 +50,8 @@ pub trait Address: Copy {
     /// Returns the address with these octets as a content. `payload.len()` must be `SIZE`.
     fn borrow<'a>(payload: &'a [u8]) -> Content<'a>
         requires { length payload.now ≡ SIZE }
-        ensures { Says result (Raw payload.now) };
+        ensures content { Says result (Raw payload.now) }
+        ensures form { form_of result ≡ Some Self.FORM };
 
     /// Writes the octets. `buffer` must be exactly `SIZE` bytes long.
     fn put(&self, buffer: &mut [u8])
@@ -57,6 +66,10 @@ impl Address for Ipv4Addr {
     const SIZE: usize = 4;
 
     ghost SIZE = { 4 };
+
+    const FORM: Form = Form::Ipv4;
+
+    ghost FORM = { forms.Ipv4 };
 
     ghost octets = { four_octets };
 
@@ -86,6 +99,10 @@ impl Address for Ipv6Addr {
     const SIZE: usize = 16;
 
     ghost SIZE = { 16 };
+
+    const FORM: Form = Form::Ipv6;
+
+    ghost FORM = { forms.Ipv6 };
 
     ghost octets = { sixteen_octets };
 

@@ -3,7 +3,7 @@
 ghost use Rattle.std.specs.Prelude.{◌≡◌, ◌≤◌, ◌+◌, ◌++◌, ◌↔◌, IsTrue, length, take, drop, replicate};
 ghost use Rattle.link_base.specs.Number.{bytes_of};
 ghost use Rattle.link_base.specs.Frame.{kind_of};
-ghost use Rattle.link_base.specs.Table.{Table, AttrValue, Gives, TakesMemory, Fits, Allows, class_at, label_at};
+ghost use Rattle.link_base.specs.Table.{Table, AttrValue, Gives, TakesMemory, Fits, Allows, class_at, form_at, label_at};
 ghost use Rattle.link_base.specs.Labels.{label_in};
 ghost use Rattle.link_base.specs.Table.{written_kind, written_payload, written_frame};
 ghost use Rattle.link_base.specs.Held.{IsInRange};
@@ -14,14 +14,14 @@ ghost use Rattle.link_base.specs.Buffer.{kind_field_of, payload_of};
 ghost use Rattle.link_base.specs.Storing.{Puts};
 ghost use Rattle.link_base.specs.Answers.{Answers, OnMemory, OverwritesFront, capped, under_kind};
 ghost use Rattle.link_base.specs.Checked.{Checks};
-ghost use Rattle.link_base.specs.Borrowed.{HasValue, Borrows, elements_at};
+ghost use Rattle.link_base.specs.Borrowed.{HasValue, Borrows, form_of, table_within};
 
 use crate::buffer::NlaBuffer;
 use crate::content::Content;
 use crate::fault::{DecodeError, DecodeFault, of_kind};
+use crate::label::KindLabel;
 use crate::padding::total_size;
 use crate::place::Place;
-use crate::quantity::KindLabel;
 use std::alloc::Global;
 
 /// The maximum length of a payload in bytes: the maximum `nla_len`, 65535, without the four bytes of the header.
@@ -183,26 +183,18 @@ pub trait Attribute: Nla + Parseable + Eq {
     fn check(buffer: &NlaBuffer<'_>) -> Result<(), DecodeFault>
         ensures { Checks (Gives Self.table (kind_field_of buffer.now) (payload_of buffer.now)) result };
 
-    /// Returns the content of an attribute, which must decode.
-    fn borrow<'a>(buffer: &NlaBuffer<'a>) -> Content<'a>
-        requires { HasValue Self.table (kind_field_of buffer.now) (payload_of buffer.now) }
-        ensures { Borrows (class_at Self.table (kind_of (kind_field_of buffer.now))) (payload_of buffer.now) result };
+    /// Returns the content of an attribute, which must decode. If `list` is `Some`, the attribute is one in a nested list
+    /// of this attribute type.
+    fn borrow<'a>(list: Option<u16>, buffer: &NlaBuffer<'a>) -> Content<'a>
+        requires { HasValue (table_within Self.table list) (kind_field_of buffer.now) (payload_of buffer.now) }
+        ensures content { Borrows (class_at (table_within Self.table list) (kind_of (kind_field_of buffer.now)))
+            (payload_of buffer.now) result }
+        ensures form { form_of result ≡ form_at (table_within Self.table list) (kind_of (kind_field_of buffer.now)) };
 
-    /// Returns the content of an attribute in a nested list, which must decode. `list` is the attribute type of the
-    /// nested list.
-    fn borrow_element<'a>(list: u16, element: &NlaBuffer<'a>) -> Content<'a>
-        requires { HasValue (elements_at Self.table list) (kind_field_of element.now) (payload_of element.now) }
-        ensures { Borrows (class_at (elements_at Self.table list) (kind_of (kind_field_of element.now)))
-            (payload_of element.now) result };
-
-    /// Returns the name of an attribute type in the kernel's headers, and what its numbers count; `None` if no row has
-    /// the type.
-    fn kind_label(kind: u16) -> Option<KindLabel>
-        ensures { label_in result ≡ label_at Self.table kind };
-
-    /// Likewise for an attribute type in a nested list. `list` is the attribute type of the nested list.
-    fn element_label(list: u16, kind: u16) -> Option<KindLabel>
-        ensures { label_in result ≡ label_at (elements_at Self.table list) kind };
+    /// Returns what is known of an attribute type besides its payloads; `None` if no row has the type. If `list` is
+    /// `Some`, the type is one in nested lists of this attribute type.
+    fn label(list: Option<u16>, kind: u16) -> Option<KindLabel>
+        ensures { label_in result ≡ label_at (table_within Self.table list) kind };
 
     /// Checks whether an attribute is canonical: its `nla_type` and payload are what would be written for the value
     /// that they decode to. Nothing is decoded. Padding is checked with the list, by `list_is_canonical`.

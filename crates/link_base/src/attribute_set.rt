@@ -2,17 +2,17 @@
 
 ghost use Rattle.std.specs.Prelude.{◌≡◌};
 ghost use Rattle.link_base.specs.Frame.{kind_of};
-ghost use Rattle.link_base.specs.Table.{Table, Gives, class_at, label_at};
+ghost use Rattle.link_base.specs.Table.{Table, Gives, class_at, form_at, label_at};
 ghost use Rattle.link_base.specs.Labels.{label_in};
 ghost use Rattle.link_base.specs.Buffer.{kind_field_of, payload_of};
-ghost use Rattle.link_base.specs.Borrowed.{HasValue, Borrows, elements_at};
+ghost use Rattle.link_base.specs.Borrowed.{HasValue, Borrows, elements_at, form_of};
 ghost use Rattle.link_base.specs.Checked.{Checks};
 
 use crate::attribute::Attribute;
 use crate::buffer::NlaBuffer;
 use crate::content::Content;
 use crate::fault::DecodeFault;
-use crate::quantity::KindLabel;
+use crate::label::KindLabel;
 use std::alloc::AllocError;
 use std::marker::PhantomData;
 
@@ -24,11 +24,11 @@ pub trait AttributeSet: Copy {
     /// Returns the content of an attribute, which must decode.
     fn borrow<'a>(&self, buffer: &NlaBuffer<'a>) -> Content<'a>
         requires { HasValue (Self.rows self.now) (kind_field_of buffer.now) (payload_of buffer.now) }
-        ensures { Borrows (class_at (Self.rows self.now) (kind_of (kind_field_of buffer.now)))
-            (payload_of buffer.now) result };
+        ensures content { Borrows (class_at (Self.rows self.now) (kind_of (kind_field_of buffer.now)))
+            (payload_of buffer.now) result }
+        ensures form { form_of result ≡ form_at (Self.rows self.now) (kind_of (kind_field_of buffer.now)) };
 
-    /// Returns the name of an attribute type in the kernel's headers, and what its numbers count; `None` if no row has
-    /// the type.
+    /// Returns what is known of an attribute type besides its payloads; `None` if no row has the type.
     fn label(&self, kind: u16) -> Option<KindLabel>
         ensures { label_in result ≡ label_at (Self.rows self.now) kind };
 }
@@ -99,11 +99,11 @@ impl<F: Attribute> AttributeSet for Set<F> {
 
     #[inline(always)]
     fn borrow<'a>(&self, buffer: &NlaBuffer<'a>) -> Content<'a> {
-        F::borrow(buffer)
+        F::borrow(None, buffer)
     }
 
     fn label(&self, kind: u16) -> Option<KindLabel> {
-        F::kind_label(kind)
+        F::label(None, kind)
     }
 }
 
@@ -121,10 +121,10 @@ impl<F: Attribute> AttributeSet for ElementSet<F> {
 
     #[inline(always)]
     fn borrow<'a>(&self, buffer: &NlaBuffer<'a>) -> Content<'a> {
-        F::borrow_element(self.list, buffer)
+        F::borrow(Some(self.list), buffer)
     }
 
     fn label(&self, kind: u16) -> Option<KindLabel> {
-        F::element_label(self.list, kind)
+        F::label(Some(self.list), kind)
     }
 }

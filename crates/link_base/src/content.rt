@@ -2,6 +2,7 @@
 
 ghost use Rattle.std.specs.Prelude.{◌≡◌};
 
+use crate::label::Form;
 use crate::vlan_protocol::VlanProtocol;
 use std::net::{Ipv4Addr, Ipv6Addr};
 
@@ -55,49 +56,34 @@ pub enum Content<'a> {
 }
 
 impl<'a> Content<'a> {
-    ghost use Rattle.link_base.specs.Viewed.{number_in, long_in};
+    ghost use Rattle.link_base.specs.Borrowed.{form_of};
 
-    /// Returns the number if the content is an unsigned number of one byte.
-    #[inline]
-    pub fn as_u8(&self) -> Option<u8>
-        ensures { result ≡ number_in 1 self.now }
+    /// Returns the form; `None` for the payload of an attribute whose type has no row.
+    pub fn form(&self) -> Option<Form>
+        ensures { result ≡ form_of self.now }
     {
-        match *self {
-            Content::Unsigned { number, width: 1 } => u8::try_from(number).ok(),
-            _ => None,
-        }
-    }
-
-    /// Returns the number if the content is an unsigned number of two bytes.
-    #[inline]
-    pub fn as_u16(&self) -> Option<u16>
-        ensures { result ≡ number_in 2 self.now }
-    {
-        match *self {
-            Content::Unsigned { number, width: 2 } => u16::try_from(number).ok(),
-            _ => None,
-        }
-    }
-
-    /// Returns the number if the content is an unsigned number of four bytes.
-    #[inline]
-    pub fn as_u32(&self) -> Option<u32>
-        ensures { result ≡ number_in 4 self.now }
-    {
-        match *self {
-            Content::Unsigned { number, width: 4 } => u32::try_from(number).ok(),
-            _ => None,
-        }
-    }
-
-    /// Returns the number if the content is an unsigned number of eight bytes.
-    #[inline]
-    pub fn as_u64(&self) -> Option<u64>
-        ensures { result ≡ long_in self.now }
-    {
-        match *self {
-            Content::Unsigned { number, width: 8 } => Some(number),
-            _ => None,
-        }
+        Some(match *self {
+            Content::Nothing => Form::Nothing,
+            Content::Bool(_) => Form::Bool,
+            Content::Unsigned { .. } => Form::Unsigned,
+            Content::Signed(_) => Form::Signed,
+            Content::Enum { .. } => Form::Enum,
+            Content::Flags { .. } => Form::Flags,
+            Content::LowFlags(_) => Form::LowFlags,
+            Content::MaskedFlags { .. } => Form::MaskedFlags,
+            Content::Pair(_, _) => Form::Pair,
+            Content::Protocol(_) => Form::Protocol,
+            Content::Mac(_) => Form::Mac,
+            Content::Ipv4(_) => Form::Ipv4,
+            Content::Ipv6(_) => Form::Ipv6,
+            Content::Bytes(_) => Form::Bytes,
+            Content::Struct(_) => Form::Struct,
+            Content::U16s(_) => Form::U16s,
+            Content::U32s(_) => Form::U32s,
+            Content::Limits { .. } => Form::Limits,
+            Content::Addresses { .. } => Form::Addresses,
+            Content::List(_) => Form::List,
+            Content::Other(_) => return None,
+        })
     }
 }

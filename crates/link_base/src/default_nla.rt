@@ -6,9 +6,9 @@ use crate::attribute::{Attribute, Meaning, Nla, Parseable};
 use crate::buffer::NlaBuffer;
 use crate::content::Content;
 use crate::fault::{DecodeError, DecodeFault};
+use crate::label::KindLabel;
 use crate::octets::Octets;
 use crate::place::Place;
-use crate::quantity::KindLabel;
 use crate::try_clone::TryClone;
 use std::alloc::{AllocError, Global};
 
@@ -98,23 +98,13 @@ impl Attribute for DefaultNla {
     }
 
     /// Returns the payload.
-    #[inline(always)]
-    fn borrow<'a>(buffer: &NlaBuffer<'a>) -> Content<'a> {
+    #[inline]
+    fn borrow<'a>(_list: Option<u16>, buffer: &NlaBuffer<'a>) -> Content<'a> {
         Content::Other(buffer.value())
     }
 
-    /// Returns the payload.
-    fn borrow_element<'a>(_list: u16, element: &NlaBuffer<'a>) -> Content<'a> {
-        Content::Other(element.value())
-    }
-
-    /// Returns `None`: no attribute type has a name.
-    fn kind_label(_kind: u16) -> Option<KindLabel> {
-        None
-    }
-
-    /// Returns `None`: no attribute type has a name.
-    fn element_label(_list: u16, _kind: u16) -> Option<KindLabel> {
+    /// Returns `None`: no attribute type has a row.
+    fn label(_list: Option<u16>, _kind: u16) -> Option<KindLabel> {
         None
     }
 

@@ -2,17 +2,27 @@
 //! common, and what the terms in the contracts of `Flags` mean bit by bit. The functions here have empty bodies; each
 //! states its theorem as its contract.
 
-ghost use Rattle.std.specs.Prelude.{◌≡◌, ◌≢◌, ◌↔◌, ◌⊎◌, ◌==◌, ◌-◌, ◌^◌, ◌<◌, ℕ, not, false, IsTrue};
+ghost use Rattle.std.specs.Prelude.{◌≡◌, ◌≢◌, ◌↔◌, ◌⊎◌, ◌==◌, ◌-◌, ◌^◌, ◌<◌, ℕ, List, not, false, IsTrue};
 ghost use Rattle.std.specs.Int.{bit_at};
 ghost use Rattle.std.specs.Int.RustNames.{bit_and, bit_or, bit_xor};
 ghost use Rattle.bitflags.specs.Sets.{known_bits, without};
 ghost use Rattle.link_base.specs.Equality.{IsThorough};
+ghost use Rattle.link_base.specs.Labels.{names_in};
 
+use crate::label::Name;
 use bitflags::Flags;
 use std::hash::Hash;
 
-/// A set of flags that consists of its bits and nothing else. The trait has no methods, only laws.
+/// A set of flags that consists of its bits and nothing else.
 pub trait FlagSet: Flags + PartialEq {
+    /// The bits that have names, each with the kernel's name.
+    ghost bit_names: { List (ℕ × List ℕ) };
+
+    /// Returns the bits that have names, each with the constant in the kernel's headers without the prefix that all
+    /// constants of the set have in common, such as `REORDER_HDR`.
+    fn names() -> &'static [Name]
+        ensures { names_in result.now ≡ bit_names };
+
     /// The contracts of `Flags` apply.
     ghost is_exact: { Self.exact };
 

@@ -1,16 +1,24 @@
 //! The list of a set's flags, with their names.
 
-/// Makes an array of a set's flags, for `Flags::flags`. `SET: NAME, ..` has each constant `SET::NAME` under its own name.
-/// `SET(BITS): NAME, ..` adds an unnamed flag with these bits: with all bits, every bit is known. `SET` must be a tuple
-/// struct of its bits, and the crate must depend on `bitflags`.
+/// The lists of a set's flags, over one list. A flag is `NAME = BIT, CONSTANT, "TEXT";`, with the constant in the kernel's
+/// headers, the bit, the set's constant for it, and the kernel's name without the prefix that all of the set have in
+/// common.
+///
+/// - `names()` makes the list for `FlagSet::names`: each bit with its text.
+/// - `flags(SET)` makes the array for `Flags::flags`, in which the flag `SET::CONSTANT` has the name `CONSTANT`.
+///   `flags(SET, BITS)` adds an unnamed flag with these bits: with all bits, every bit is known. `SET` must be a tuple
+///   struct of its bits, and the crate must depend on `bitflags`.
 #[macro_export]
-macro_rules! named_flags {
-    ($set:ident: $($name:ident),*) => {
-        [$(bitflags::Flag { name: stringify!($name), value: $set::$name }),*]
+macro_rules! by_flags {
+    (names() $($name:ident = $bit:literal, $constant:ident, $text:literal;)*) => {
+        &[$($crate::label::Name { number: $bit, text: $text },)*]
     };
-    ($set:ident($bits:expr): $($name:ident),*) => {
+    (flags($set:ident) $($name:ident = $bit:literal, $constant:ident, $text:literal;)*) => {
+        [$(bitflags::Flag { name: stringify!($constant), value: $set::$constant },)*]
+    };
+    (flags($set:ident, $bits:expr) $($name:ident = $bit:literal, $constant:ident, $text:literal;)*) => {
         [
-            $(bitflags::Flag { name: stringify!($name), value: $set::$name },)*
+            $(bitflags::Flag { name: stringify!($constant), value: $set::$constant },)*
             bitflags::Flag { name: "", value: $set($bits) },
         ]
     };

@@ -4,6 +4,7 @@ ghost use Rattle.std.specs.Prelude.{refl, [], ◌∷◌};
 ghost use Rattle.link_base.specs.Class.{Unsigned, Octets, Exactly, Number, Raw, Low, LowByte};
 ghost use Rattle.link_base.specs.Layout.{octets_of};
 ghost use Rattle.link_base.specs.Table.{One, Single};
+ghost use Rattle.link_base.specs.declared.label.Form.TheVariants as forms;
 
 use crate::buffer::NlaBuffer;
 use crate::canonical::{has_size, is_low};
@@ -11,6 +12,7 @@ use crate::content::Content;
 use crate::default_nla::DefaultNla;
 use crate::fault::{DecodeError, DecodeFault};
 use crate::flag_laws::FlagSet;
+use crate::label::{Form, Name};
 use crate::lengths::Lengths;
 use crate::payload_class::PayloadClass;
 use crate::records::u32_at;
@@ -33,11 +35,22 @@ where
 
     type Element = DefaultNla;
 
+    const FORM: Form = Form::Flags;
+
+    ghost FORM = { forms.Flags };
+
     ghost shape = { One (Unsigned F.Bits.WIDTH) };
 
     ghost content = { λ flags. Single (Number F.Bits.WIDTH (F.set_of flags)) };
 
+    ghost names = { F.bit_names };
+
     fn elements() {}
+
+    #[inline]
+    fn names() -> &'static [Name] {
+        F::names()
+    }
 
     #[inline]
     fn read(_alloc: Global, _kind: u16, payload: &[u8]) -> Result<F, DecodeError> {
@@ -91,11 +104,22 @@ impl<F: FlagSet + Flags<Bits = u32> + Copy> PayloadClass for MaskedFlags<F> {
 
     type Element = DefaultNla;
 
+    const FORM: Form = Form::MaskedFlags;
+
+    ghost FORM = { forms.MaskedFlags };
+
     ghost shape = { One (Octets (Exactly 8)) };
 
     ghost content = { λ masked. Single (Raw (octets_of 4 (F.set_of masked.0 ∷ F.set_of masked.1 ∷ []))) };
 
+    ghost names = { F.bit_names };
+
     fn elements() {}
+
+    #[inline]
+    fn names() -> &'static [Name] {
+        F::names()
+    }
 
     #[inline]
     fn read(_alloc: Global, _kind: u16, payload: &[u8]) -> Result<(F, F), DecodeError> {
@@ -149,11 +173,22 @@ impl<F: FlagSet + Flags<Bits = u8> + Copy> PayloadClass for LowFlagBits<F> {
 
     type Element = DefaultNla;
 
+    const FORM: Form = Form::LowFlags;
+
+    ghost FORM = { forms.LowFlags };
+
     ghost shape = { One Low };
 
     ghost content = { λ flags. Single (LowByte (F.set_of flags)) };
 
+    ghost names = { F.bit_names };
+
     fn elements() {}
+
+    #[inline]
+    fn names() -> &'static [Name] {
+        F::names()
+    }
 
     #[inline]
     fn read(_alloc: Global, _kind: u16, payload: &[u8]) -> Result<F, DecodeError> {

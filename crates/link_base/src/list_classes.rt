@@ -4,6 +4,7 @@ ghost use Rattle.std.specs.Prelude.{refl, map};
 ghost use Rattle.link_base.specs.Class.{Bytes, Many, Octets, Exactly, Raw};
 ghost use Rattle.link_base.specs.Layout.{octets_of};
 ghost use Rattle.link_base.specs.Table.{One, Single, Addresses, Listed, Nested, Inner};
+ghost use Rattle.link_base.specs.declared.label.Form.TheVariants as forms;
 
 use crate::address_list::{Address, addresses_len, emit_addresses, parse_address, read_addresses};
 use crate::buffer::NlaBuffer;
@@ -12,6 +13,7 @@ use crate::checking::{check_elements, check_nested};
 use crate::content::Content;
 use crate::default_nla::DefaultNla;
 use crate::fault::{DecodeError, DecodeFault};
+use crate::label::{Form, Name};
 use crate::lengths::{Lengths, check_numbers};
 use crate::nested::{NestedAttribute, emit_nested, nested_len, read_nested};
 use crate::number_lists::{emit_u16s, emit_u32s, parse_u16s, parse_u32s, u16s_len, u32s_len};
@@ -25,11 +27,20 @@ impl PayloadClass for Vec<u8> {
 
     type Element = DefaultNla;
 
+    const FORM: Form = Form::Bytes;
+
+    ghost FORM = { forms.Bytes };
+
     ghost shape = { One Bytes };
 
     ghost content = { λ bytes. Single (Raw bytes.items) };
 
     fn elements() {}
+
+    #[inline]
+    fn names() -> &'static [Name] {
+        &[]
+    }
 
     #[inline]
     fn read(alloc: Global, _kind: u16, payload: &[u8]) -> Result<Vec<u8>, DecodeError> {
@@ -72,11 +83,20 @@ impl PayloadClass for Vec<u16> {
 
     type Element = DefaultNla;
 
+    const FORM: Form = Form::U16s;
+
+    ghost FORM = { forms.U16s };
+
     ghost shape = { One (Many 2) };
 
     ghost content = { λ numbers. Single (Raw (octets_of 2 numbers.items)) };
 
     fn elements() {}
+
+    #[inline]
+    fn names() -> &'static [Name] {
+        &[]
+    }
 
     #[inline]
     fn read(alloc: Global, _kind: u16, payload: &[u8]) -> Result<Vec<u16>, DecodeError> {
@@ -120,11 +140,20 @@ impl PayloadClass for Vec<u32> {
 
     type Element = DefaultNla;
 
+    const FORM: Form = Form::U32s;
+
+    ghost FORM = { forms.U32s };
+
     ghost shape = { One (Many 4) };
 
     ghost content = { λ numbers. Single (Raw (octets_of 4 numbers.items)) };
 
     fn elements() {}
+
+    #[inline]
+    fn names() -> &'static [Name] {
+        &[]
+    }
 
     #[inline]
     fn read(alloc: Global, _kind: u16, payload: &[u8]) -> Result<Vec<u32>, DecodeError> {
@@ -173,11 +202,20 @@ impl<A: Address + Eq + Drop> PayloadClass for OneAddress<A> {
 
     type Element = DefaultNla;
 
+    const FORM: Form = A::FORM;
+
+    ghost FORM = { A.FORM };
+
     ghost shape = { One (Octets (Exactly A.SIZE)) };
 
     ghost content = { λ address. Single (Raw (A.octets address)) };
 
     fn elements() {}
+
+    #[inline]
+    fn names() -> &'static [Name] {
+        &[]
+    }
 
     #[inline]
     fn read(_alloc: Global, _kind: u16, payload: &[u8]) -> Result<A, DecodeError> {
@@ -225,11 +263,20 @@ impl<A: Address + Eq + Drop> PayloadClass for AddressList<A> {
 
     type Element = DefaultNla;
 
+    const FORM: Form = Form::Addresses;
+
+    ghost FORM = { forms.Addresses };
+
     ghost shape = { Addresses A.SIZE };
 
     ghost content = { λ addresses. Listed (map A.octets addresses.items) };
 
     fn elements() {}
+
+    #[inline]
+    fn names() -> &'static [Name] {
+        &[]
+    }
 
     #[inline]
     fn read(alloc: Global, kind: u16, payload: &[u8]) -> Result<Vec<A>, DecodeError> {
@@ -280,11 +327,20 @@ impl<E: NestedAttribute + TryClone> PayloadClass for NestedList<E> {
 
     type Element = E;
 
+    const FORM: Form = Form::List;
+
+    ghost FORM = { forms.List };
+
     ghost shape = { Nested E.flagged E.rows };
 
     ghost content = { λ values. Inner E.flagged (map E.leaf values.items) };
 
     fn elements() {}
+
+    #[inline]
+    fn names() -> &'static [Name] {
+        &[]
+    }
 
     #[inline]
     fn read(alloc: Global, kind: u16, payload: &[u8]) -> Result<Vec<E>, DecodeError> {

@@ -3,12 +3,14 @@
 ghost use Rattle.std.specs.Prelude.{◌≡◌, ℕ, IsTrue};
 ghost use Rattle.std.specs.List.{AllByRecursion};
 ghost use Rattle.link_base.specs.Equality.{IsThorough};
-ghost use Rattle.link_base.specs.Named.{Naming, Seen, Listed, Free, IsSeen, is_naming, value_of, number_of};
+ghost use Rattle.link_base.specs.Named.{Naming, Seen, Listed, Free, IsSeen, is_naming, value_of, number_of, texts_of};
+ghost use Rattle.link_base.specs.Labels.{names_in};
 
+use crate::label::Name;
 use crate::word::Word;
 
-/// An enum with a variant for each name, and a variant `Other` for every other number. The trait has no methods, only
-/// laws; numbers are converted by `From` and `Into`.
+/// An enum with a variant for each name, and a variant `Other` for every other number. Numbers are converted by `From` and
+/// `Into`.
 pub trait NamedNumber: Copy + Eq + Drop + From<Self::Number> + Into<Self::Number> {
     /// The type of the numbers: `u8`, `u16`, `u32` or `u64`.
     type Number: Word;
@@ -18,6 +20,10 @@ pub trait NamedNumber: Copy + Eq + Drop + From<Self::Number> + Into<Self::Number
 
     /// What a value holds.
     ghost seen: { Self → Seen };
+
+    /// Returns the numbers that have names, each with the `Display` output of its variant.
+    fn names() -> &'static [Name]
+        ensures { names_in result.now ≡ texts_of names };
 
     /// Each named variant holds its number.
     ghost cases_hold: { AllByRecursion (λ l. seen l.case ≡ Listed l.number) names.labels };

@@ -3,13 +3,15 @@
 ghost use Rattle.std.specs.Prelude.{refl};
 ghost use Rattle.link_base.specs.Class.{Named as NamedClass};
 ghost use Rattle.link_base.specs.Table.{One, Single};
-ghost use Rattle.link_base.specs.Named.{numbers_of, seen_value};
+ghost use Rattle.link_base.specs.Named.{numbers_of, seen_value, texts_of};
+ghost use Rattle.link_base.specs.declared.label.Form.TheVariants as forms;
 
 use crate::buffer::NlaBuffer;
 use crate::canonical::has_size;
 use crate::content::Content;
 use crate::default_nla::DefaultNla;
 use crate::fault::{DecodeError, DecodeFault};
+use crate::label::{Form, Name};
 use crate::lengths::Lengths;
 use crate::named::NamedNumber;
 use crate::payload_class::PayloadClass;
@@ -27,11 +29,22 @@ impl<T: NamedNumber> PayloadClass for Named<T> {
 
     type Element = DefaultNla;
 
+    const FORM: Form = Form::Enum;
+
+    ghost FORM = { forms.Enum };
+
     ghost shape = { One (NamedClass T.Number.WIDTH (numbers_of T.names)) };
 
     ghost content = { λ value. Single (seen_value T.Number.WIDTH (numbers_of T.names) (T.seen value)) };
 
+    ghost names = { texts_of T.names };
+
     fn elements() {}
+
+    #[inline]
+    fn names() -> &'static [Name] {
+        T::names()
+    }
 
     #[inline]
     fn read(_alloc: Global, _kind: u16, payload: &[u8]) -> Result<T, DecodeError> {

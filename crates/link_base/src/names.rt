@@ -5,6 +5,7 @@
 /// `Display` output. Additional strings that are parsed as the variant follow, each after `|`.
 ///
 /// - `of_number(number)` converts a number to its variant, and `number(TYPE, value)` a value of the enum to its number.
+/// - `names()` makes the list for `NamedNumber::names`: each number with its `Display` output.
 /// - `display(self, f)` writes the `Display` output. A number without a name is written in decimal, and by
 ///   `display_unknown` as in `unknown-variant (9)`.
 /// - `parse(text)` parses a string, case-sensitive; `parse_any_case(text)` ignores ASCII case; `parse_or_number(text, N)`
@@ -22,6 +23,9 @@ macro_rules! by_names {
             $($type::$variant => $value,)*
             $type::Other(number) => number,
         }
+    };
+    (names() $($name:ident = $value:literal, $variant:ident, $text:literal $(| $further:literal)*;)*) => {
+        &[$($crate::label::Name { number: $value, text: $text },)*]
     };
     (display($self:expr, $f:expr) $($name:ident = $value:literal, $variant:ident, $text:literal $(| $further:literal)*;)*) => {
         match $self {

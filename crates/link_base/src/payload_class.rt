@@ -3,7 +3,8 @@
 //! The rows of an attribute set name a class for each attribute type. Most classes are the type of their values:
 //! `u32` is the class of payloads that are one little-endian `u32`.
 
-ghost use Rattle.std.specs.Prelude.{◌≡◌, ◌≤◌, ◌↔◌, IsTrue, IfOk, OnErr, Some, length};
+ghost use Rattle.std.specs.Prelude.{◌≡◌, ◌≤◌, ◌↔◌, ℕ, List, [], IsTrue, IfOk, OnErr, Some, length};
+ghost use Rattle.link_base.specs.declared.label.Form.{Form};
 ghost use Rattle.link_base.specs.Frame.{max_payload};
 ghost use Rattle.link_base.specs.Table.{Shape, Content, Case, ShapeGives, ShapeTakesMemory};
 ghost use Rattle.link_base.specs.Table.{content_payload, shape_flag};
@@ -11,12 +12,14 @@ ghost use Rattle.link_base.specs.Held.{ContentInRange};
 ghost use Rattle.link_base.specs.Buffer.{IsCanonicalAs};
 ghost use Rattle.link_base.specs.Answers.{Answers, OnMemory, capped, under_kind};
 ghost use Rattle.link_base.specs.Checked.{Checks};
-ghost use Rattle.link_base.specs.Borrowed.{IsAccepted, Borrows, elements_by};
+ghost use Rattle.link_base.specs.Borrowed.{IsAccepted, Borrows, elements_by, form_of};
+ghost use Rattle.link_base.specs.Labels.{names_in};
 
 use crate::attribute::Attribute;
 use crate::buffer::NlaBuffer;
 use crate::content::Content;
 use crate::fault::{DecodeError, DecodeFault};
+use crate::label::{Form, Name};
 use std::alloc::{AllocError, Global};
 
 /// What the payloads of an attribute type are: a class of the tables, with the type of its values.
@@ -27,8 +30,16 @@ pub trait PayloadClass {
     /// The attributes of a nested list. If the class is none, this is `DefaultNla`.
     type Element: Attribute;
 
+    /// The form of the content.
+    const FORM: Form;
+
+    ghost FORM: { Form };
+
     /// The shape in the table.
     ghost shape: { Shape };
+
+    /// The names of numbers or of bits, each with its number.
+    ghost names: { List (ℕ × List ℕ) } = { [] };
 
     /// The content that a value represents.
     ghost content: { Self.Value → Content };
@@ -36,6 +47,10 @@ pub trait PayloadClass {
     /// `Element` has the table of the attributes in a nested list. The body is empty: the contract is the fact.
     fn elements()
         ensures { Self.Element.table ≡ elements_by (Some Self.shape) };
+
+    /// Returns the names of the numbers of an enum, or of the bits of a set of flags.
+    fn names() -> &'static [Name]
+        ensures { names_in result.now ≡ Self.names };
 
     /// Parses the payload of an attribute of type `kind`.
     ///
@@ -59,7 +74,8 @@ pub trait PayloadClass {
     /// Returns the content of a payload, which must decode. It borrows the payload, and copies at most 16 bytes.
     fn borrow<'a>(payload: &'a [u8]) -> Content<'a>
         requires { IsAccepted Self.shape payload.now }
-        ensures { Borrows (Some Self.shape) payload.now result };
+        ensures content { Borrows (Some Self.shape) payload.now result }
+        ensures form { form_of result ≡ Some Self.FORM };
 
     /// Returns the length of the written payload in bytes; saturates at `usize::MAX`.
     fn size(value: &Self::Value) -> usize

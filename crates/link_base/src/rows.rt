@@ -3,22 +3,22 @@
 
 ghost use Rattle.std.specs.Prelude.{◌≡◌, ◌<◌, None, Some, IsTrue, IfOk, OnErr, length};
 ghost use Rattle.link_base.specs.Frame.{kind_of, kind_limit};
-ghost use Rattle.link_base.specs.Table.{Case, Gives, TakesMemory, Fits, class_at, label_at, written_payload};
-ghost use Rattle.link_base.specs.Labels.{label_in};
+ghost use Rattle.link_base.specs.Table.{Case, Gives, TakesMemory, Fits, class_at, form_at, label_at, written_payload};
+ghost use Rattle.link_base.specs.Labels.{label_in, label_of};
 ghost use Rattle.link_base.specs.Held.{IsInRange, HoldsMemory};
 ghost use Rattle.link_base.specs.Buffer.{kind_field_of, payload_of};
 ghost use Rattle.link_base.specs.Storing.{Puts};
 ghost use Rattle.link_base.specs.Answers.{OnMemory, under_kind};
 ghost use Rattle.link_base.specs.Checked.{Checks};
-ghost use Rattle.link_base.specs.Borrowed.{HasValue, Borrows, elements_at};
+ghost use Rattle.link_base.specs.Borrowed.{HasValue, Borrows, elements_at, form_of};
 
 use crate::attribute::{Attribute, Meaning};
 use crate::buffer::NlaBuffer;
 use crate::content::Content;
 use crate::fault::{DecodeError, DecodeFault};
+use crate::label::{KindLabel, Quantity};
 use crate::payload_class::PayloadClass;
 use crate::place::{Place, keep};
-use crate::quantity::KindLabel;
 use std::alloc::{AllocError, Global};
 
 /// Parses the payload of an attribute whose row has the class `C`, and stores the value's variant in `place`.
@@ -79,8 +79,10 @@ pub fn check_other<F: Meaning>(_buffer: &NlaBuffer<'_>) -> Result<(), DecodeFaul
 pub fn borrow_row<'a, C: PayloadClass, F: Meaning>(kind: u16, buffer: &NlaBuffer<'a>) -> Content<'a>
     requires kind { kind_of (kind_field_of buffer.now) ≡ kind }
     requires row { class_at F.table kind ≡ Some C.shape }
+    requires form { form_at F.table kind ≡ Some C.FORM }
     requires decodes { HasValue F.table (kind_field_of buffer.now) (payload_of buffer.now) }
-    ensures { Borrows (class_at F.table (kind_of (kind_field_of buffer.now))) (payload_of buffer.now) result }
+    ensures content { Borrows (class_at F.table (kind_of (kind_field_of buffer.now))) (payload_of buffer.now) result }
+    ensures form { form_of result ≡ form_at F.table (kind_of (kind_field_of buffer.now)) }
 {
     C::borrow(buffer.value())
 }
@@ -88,8 +90,10 @@ pub fn borrow_row<'a, C: PayloadClass, F: Meaning>(kind: u16, buffer: &NlaBuffer
 /// Returns the content of an attribute whose type has no row: its payload.
 #[inline(always)]
 pub fn borrow_other<'a, F: Meaning>(buffer: &NlaBuffer<'a>) -> Content<'a>
-    requires { class_at F.table (kind_of (kind_field_of buffer.now)) ≡ None }
-    ensures { Borrows (class_at F.table (kind_of (kind_field_of buffer.now))) (payload_of buffer.now) result }
+    requires row { class_at F.table (kind_of (kind_field_of buffer.now)) ≡ None }
+    requires form { form_at F.table (kind_of (kind_field_of buffer.now)) ≡ None }
+    ensures content { Borrows (class_at F.table (kind_of (kind_field_of buffer.now))) (payload_of buffer.now) result }
+    ensures form { form_of result ≡ form_at F.table (kind_of (kind_field_of buffer.now)) }
 {
     Content::Other(buffer.value())
 }
@@ -103,32 +107,47 @@ pub fn borrow_element_row<'a, C: PayloadClass, F: Meaning>(
 ) -> Content<'a>
     requires row { class_at F.table list ≡ Some C.shape }
     requires decodes { HasValue (elements_at F.table list) (kind_field_of element.now) (payload_of element.now) }
-    ensures { Borrows (class_at (elements_at F.table list) (kind_of (kind_field_of element.now)))
+    ensures content { Borrows (class_at (elements_at F.table list) (kind_of (kind_field_of element.now)))
         (payload_of element.now) result }
+    ensures form { form_of result ≡ form_at (elements_at F.table list) (kind_of (kind_field_of element.now)) }
 {
     C::elements();
-    <C::Element as Attribute>::borrow(element)
+    <C::Element as Attribute>::borrow(None, element)
 }
 
 /// Returns the content of an attribute in a payload of the attribute type `list`, which has no row: its payload.
 #[inline(always)]
 pub fn borrow_element_other<'a, F: Meaning>(list: u16, element: &NlaBuffer<'a>) -> Content<'a>
     requires { class_at F.table list ≡ None }
-    ensures { Borrows (class_at (elements_at F.table list) (kind_of (kind_field_of element.now)))
+    ensures content { Borrows (class_at (elements_at F.table list) (kind_of (kind_field_of element.now)))
         (payload_of element.now) result }
+    ensures form { form_of result ≡ form_at (elements_at F.table list) (kind_of (kind_field_of element.now)) }
 {
     Content::Other(element.value())
 }
 
-/// Returns the name of the attribute type `kind` in a payload of the attribute type `list`, whose row has the class `C`,
-/// and what its numbers count; `None` if no row has the type.
+/// Returns what is known of an attribute type with this name, whose row has the class `C`.
+#[inline]
+pub fn label_row<C: PayloadClass>(name: &'static str, quantity: Quantity) -> KindLabel
+    ensures { label_of result ≡ (name.now, quantity, C.FORM, C.names) }
+{
+    KindLabel {
+        name,
+        quantity,
+        form: C::FORM,
+        names: C::names(),
+    }
+}
+
+/// Returns what is known of the attribute type `kind` in a payload of the attribute type `list`, whose row has the class
+/// `C`; `None` if no row has the type.
 #[inline(always)]
 pub fn element_label_row<C: PayloadClass, F: Meaning>(list: u16, kind: u16) -> Option<KindLabel>
     requires { class_at F.table list ≡ Some C.shape }
     ensures { label_in result ≡ label_at (elements_at F.table list) kind }
 {
     C::elements();
-    <C::Element as Attribute>::kind_label(kind)
+    <C::Element as Attribute>::label(None, kind)
 }
 
 /// Writes the payload of an attribute, whose row has the class `C`. `value` is what its variant holds.
@@ -181,12 +200,12 @@ pub fn clone_row<C: PayloadClass, F: Meaning + PartialEq, M: FnOnce(C::Value) ->
 /// The functions of an attribute set, over its rows. A row is
 /// `NAME = TYPE, VARIANT: CLASS;`, with the kernel's name of the attribute type, its number, the variant that holds its
 /// value, and the class of its payloads (`PayloadClass`). `TYPE | NLA_F_NESTED` is a number that is written with the
-/// nested flag. `CLASS as QUANTITY` says what the numbers of a row count (`Quantity`). The row of a variant with several fields names them, `VARIANT(FIELD, FIELD): CLASS`: the values of the class
-/// are tuples, and the fields must be `Copy`. The row of a variant without a field has no class, `NAME = TYPE, VARIANT;`: it stands for the class `()`.
+/// nested flag. `CLASS as QUANTITY` says what the numbers of a row count (`Quantity`). The row of a variant with several
+/// fields names them, `VARIANT(FIELD, FIELD): CLASS`: the values of the class are tuples, and the fields must be `Copy`.
+/// The row of a variant without a field has no class, `NAME = TYPE, VARIANT;`: it stands for the class `()`.
 ///
 /// The calls are `kind(self)`, `size(self)`, `emit(self, buffer)`, `read(alloc, buffer, place)`, `check(buffer)`,
-/// `borrow(buffer)`, `borrow_element(list, buffer)`, `label(kind)`, `element_label(list, kind)`, `canonical(buffer)` and
-/// `clone(self, alloc)`.
+/// `borrow(list, buffer)`, `label(list, kind)`, `canonical(buffer)` and `clone(self, alloc)`.
 #[macro_export]
 macro_rules! by_rows {
     (kind($self:expr) $($name:ident = $kind:literal $(| $flag:ident)?, $variant:ident $(($($field:ident),+))? $(: $class:ty $(as $quantity:ident)?)?;)*) => {
@@ -228,16 +247,16 @@ macro_rules! by_rows {
             _ => $crate::rows::check_other::<Self>($buffer),
         }
     };
-    (borrow($buffer:expr) $($name:ident = $kind:literal $(| $flag:ident)?, $variant:ident $(($($field:ident),+))? $(: $class:ty $(as $quantity:ident)?)?;)*) => {
-        match $buffer.kind() {
-            $($kind => $crate::rows::borrow_row::<$crate::row_class!($($class)?), Self>($kind, $buffer),)*
-            _ => $crate::rows::borrow_other::<Self>($buffer),
-        }
-    };
-    (borrow_element($list:expr, $element:expr) $($name:ident = $kind:literal $(| $flag:ident)?, $variant:ident $(($($field:ident),+))? $(: $class:ty $(as $quantity:ident)?)?;)*) => {
+    (borrow($list:expr, $buffer:expr) $($name:ident = $kind:literal $(| $flag:ident)?, $variant:ident $(($($field:ident),+))? $(: $class:ty $(as $quantity:ident)?)?;)*) => {
         match $list {
-            $($kind => $crate::rows::borrow_element_row::<$crate::row_class!($($class)?), Self>($kind, $element),)*
-            _ => $crate::rows::borrow_element_other::<Self>($list, $element),
+            None => match $buffer.kind() {
+                $($kind => $crate::rows::borrow_row::<$crate::row_class!($($class)?), Self>($kind, $buffer),)*
+                _ => $crate::rows::borrow_other::<Self>($buffer),
+            },
+            Some(list) => match list {
+                $($kind => $crate::rows::borrow_element_row::<$crate::row_class!($($class)?), Self>(list, $buffer),)*
+                _ => $crate::rows::borrow_element_other::<Self>(list, $buffer),
+            },
         }
     };
     (canonical($buffer:expr) $($name:ident = $kind:literal $(| $flag:ident)?, $variant:ident $(($($field:ident),+))? $(: $class:ty $(as $quantity:ident)?)?;)*) => {
@@ -246,19 +265,18 @@ macro_rules! by_rows {
             _ => true,
         }
     };
-    (label($kind:expr) $($name:ident = $number:literal $(| $flag:ident)?, $variant:ident $(($($field:ident),+))? $(: $class:ty $(as $quantity:ident)?)?;)*) => {
-        match $kind {
-            $($number => Some($crate::quantity::KindLabel {
-                name: stringify!($name),
-                quantity: $crate::row_quantity!($($($quantity)?)?),
-            }),)*
-            _ => None,
-        }
-    };
-    (element_label($list:expr, $kind:expr) $($name:ident = $number:literal $(| $flag:ident)?, $variant:ident $(($($field:ident),+))? $(: $class:ty $(as $quantity:ident)?)?;)*) => {
+    (label($list:expr, $kind:expr) $($name:ident = $number:literal $(| $flag:ident)?, $variant:ident $(($($field:ident),+))? $(: $class:ty $(as $quantity:ident)?)?;)*) => {
         match $list {
-            $($number => $crate::rows::element_label_row::<$crate::row_class!($($class)?), Self>($list, $kind),)*
-            _ => None,
+            None => match $kind {
+                $($number => Some($crate::rows::label_row::<$crate::row_class!($($class)?)>(
+                    stringify!($name), $crate::row_quantity!($($($quantity)?)?),
+                )),)*
+                _ => None,
+            },
+            Some(list) => match list {
+                $($number => $crate::rows::element_label_row::<$crate::row_class!($($class)?), Self>(list, $kind),)*
+                _ => None,
+            },
         }
     };
     (clone($self:expr, $alloc:expr) $($name:ident = $kind:literal $(| $flag:ident)?, $variant:ident $(($($field:ident),+))? $(: $class:ty $(as $quantity:ident)?)?;)*) => {
@@ -276,10 +294,10 @@ macro_rules! by_rows {
 #[macro_export]
 macro_rules! row_quantity {
     ($quantity:ident) => {
-        $crate::quantity::Quantity::$quantity
+        $crate::label::Quantity::$quantity
     };
     () => {
-        $crate::quantity::Quantity::Number
+        $crate::label::Quantity::Number
     };
 }
 

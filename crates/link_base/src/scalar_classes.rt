@@ -6,12 +6,14 @@ ghost use Rattle.link_base.specs.Class.{Boolean, Integer, EtherType, Raw, Nothin
 ghost use Rattle.link_base.specs.Layout.{octets_of};
 ghost use Rattle.link_base.specs.Table.{One, Single};
 ghost use Rattle.link_base.specs.Protocol.{protocol_number};
+ghost use Rattle.link_base.specs.declared.label.Form.TheVariants as forms;
 
 use crate::buffer::NlaBuffer;
 use crate::canonical::{has_size, is_protocol, is_truth, is_void};
 use crate::content::Content;
 use crate::default_nla::DefaultNla;
 use crate::fault::{DecodeError, DecodeFault};
+use crate::label::{Form, Name};
 use crate::lengths::Lengths;
 use crate::payload_class::PayloadClass;
 use crate::records::u32_at;
@@ -27,11 +29,20 @@ impl PayloadClass for bool {
 
     type Element = DefaultNla;
 
+    const FORM: Form = Form::Bool;
+
+    ghost FORM = { forms.Bool };
+
     ghost shape = { One Truth };
 
     ghost content = { λ value. Single (Boolean value) };
 
     fn elements() {}
+
+    #[inline]
+    fn names() -> &'static [Name] {
+        &[]
+    }
 
     #[inline]
     fn read(_alloc: Global, _kind: u16, payload: &[u8]) -> Result<bool, DecodeError> {
@@ -74,11 +85,20 @@ impl PayloadClass for i32 {
 
     type Element = DefaultNla;
 
+    const FORM: Form = Form::Signed;
+
+    ghost FORM = { forms.Signed };
+
     ghost shape = { One Signed };
 
     ghost content = { λ value. Single (Integer value) };
 
     fn elements() {}
+
+    #[inline]
+    fn names() -> &'static [Name] {
+        &[]
+    }
 
     #[inline]
     fn read(_alloc: Global, _kind: u16, payload: &[u8]) -> Result<i32, DecodeError> {
@@ -121,11 +141,20 @@ impl PayloadClass for VlanProtocol {
 
     type Element = DefaultNla;
 
+    const FORM: Form = Form::Protocol;
+
+    ghost FORM = { forms.Protocol };
+
     ghost shape = { One Protocol };
 
     ghost content = { λ value. Single (EtherType (protocol_number value)) };
 
     fn elements() {}
+
+    #[inline]
+    fn names() -> &'static [Name] {
+        &[]
+    }
 
     #[inline]
     fn read(_alloc: Global, _kind: u16, payload: &[u8]) -> Result<VlanProtocol, DecodeError> {
@@ -172,11 +201,20 @@ impl PayloadClass for [u8; 6] {
 
     type Element = DefaultNla;
 
+    const FORM: Form = Form::Mac;
+
+    ghost FORM = { forms.Mac };
+
     ghost shape = { One (Octets (Exactly 6)) };
 
     ghost content = { λ value. Single (Raw value) };
 
     fn elements() {}
+
+    #[inline]
+    fn names() -> &'static [Name] {
+        &[]
+    }
 
     #[inline]
     fn read(_alloc: Global, _kind: u16, payload: &[u8]) -> Result<[u8; 6], DecodeError> {
@@ -222,11 +260,20 @@ impl PayloadClass for (u32, u32) {
 
     type Element = DefaultNla;
 
+    const FORM: Form = Form::Pair;
+
+    ghost FORM = { forms.Pair };
+
     ghost shape = { One (Octets (Exactly 8)) };
 
     ghost content = { λ pair. Single (Raw (octets_of 4 (pair.0 ∷ pair.1 ∷ []))) };
 
     fn elements() {}
+
+    #[inline]
+    fn names() -> &'static [Name] {
+        &[]
+    }
 
     #[inline]
     fn read(_alloc: Global, _kind: u16, payload: &[u8]) -> Result<(u32, u32), DecodeError> {
@@ -270,11 +317,20 @@ impl PayloadClass for () {
 
     type Element = DefaultNla;
 
+    const FORM: Form = Form::Nothing;
+
+    ghost FORM = { forms.Nothing };
+
     ghost shape = { One Empty };
 
     ghost content = { λ _. Single Nothing };
 
     fn elements() {}
+
+    #[inline]
+    fn names() -> &'static [Name] {
+        &[]
+    }
 
     #[inline]
     fn read(_alloc: Global, _kind: u16, _payload: &[u8]) -> Result<(), DecodeError> {

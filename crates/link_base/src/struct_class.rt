@@ -6,12 +6,14 @@ ghost use Rattle.link_base.specs.Table.{One, Single};
 ghost use Rattle.link_base.specs.Held.{IsOctets};
 ghost use Rattle.link_base.specs.Answers.{payload_result};
 ghost use Rattle.link_base.specs.Checked.{extent_of};
+ghost use Rattle.link_base.specs.declared.label.Form.TheVariants as forms;
 
 use crate::buffer::NlaBuffer;
 use crate::canonical::has_size;
 use crate::content::Content;
 use crate::default_nla::DefaultNla;
 use crate::fault::{DecodeError, DecodeFault};
+use crate::label::{Form, Name};
 use crate::lengths::Lengths;
 use crate::payload_class::PayloadClass;
 use std::alloc::{AllocError, Global};
@@ -62,11 +64,20 @@ impl<S: PayloadStruct> PayloadClass for Struct<S> {
 
     type Element = DefaultNla;
 
+    const FORM: Form = Form::Struct;
+
+    ghost FORM = { forms.Struct };
+
     ghost shape = { One (Octets S.extent) };
 
     ghost content = { λ value. Single (Raw (S.octets value)) };
 
     fn elements() {}
+
+    #[inline]
+    fn names() -> &'static [Name] {
+        &[]
+    }
 
     #[inline]
     fn read(_alloc: Global, _kind: u16, payload: &[u8]) -> Result<S, DecodeError> {

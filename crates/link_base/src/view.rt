@@ -3,17 +3,17 @@
 ghost use Rattle.std.specs.Prelude.{◌≡◌, ◌+◌, ◌/◌, List, length, IfSome};
 ghost use Rattle.std.specs.Iterator.{at_most};
 ghost use Rattle.link_base.specs.Frame.{Frame, Frames};
-ghost use Rattle.link_base.specs.Table.{class_at, label_at};
+ghost use Rattle.link_base.specs.Table.{class_at, form_at, label_at};
 ghost use Rattle.link_base.specs.Labels.{label_in};
 ghost use Rattle.link_base.specs.Buffer.{kind_field_of, payload_of};
-ghost use Rattle.link_base.specs.Borrowed.{HasValue, HasValues, Borrows, elements_at};
+ghost use Rattle.link_base.specs.Borrowed.{HasValue, HasValues, Borrows, elements_at, form_of};
 
 use crate::attribute::Attribute;
 use crate::attribute_set::{AttributeSet, CheckedSet, ElementSet, Set};
 use crate::buffer::NlaBuffer;
 use crate::content::Content;
 use crate::fault::DecodeFault;
-use crate::quantity::KindLabel;
+use crate::label::KindLabel;
 use std::alloc::AllocError;
 
 /// An attribute of a list that decodes. It borrows the bytes of the list.
@@ -86,8 +86,8 @@ impl<'a, S: AttributeSet> Value<'a, S> {
         self.buffer.kind()
     }
 
-    /// Returns the name of the attribute type in the kernel's headers, and what its numbers count; `None` if no row has
-    /// the type.
+    /// Returns what is known of the attribute type besides its payloads: its name in the kernel's headers, what its
+    /// numbers count, the form of its content, and the names of its numbers or bits; `None` if no row has the type.
     pub fn label(&self) -> Option<KindLabel>
         ensures { label_in result ≡ label_at (S.rows (set_in self.now)) (kind_in self.now) }
     {
@@ -97,7 +97,8 @@ impl<'a, S: AttributeSet> Value<'a, S> {
     /// Returns the content.
     #[inline(always)]
     pub fn content(&self) -> Content<'a>
-        ensures { Borrows (class_at (S.rows (set_in self.now)) (kind_in self.now)) (payload_in self.now) result }
+        ensures content { Borrows (class_at (S.rows (set_in self.now)) (kind_in self.now)) (payload_in self.now) result }
+        ensures form { form_of result ≡ form_at (S.rows (set_in self.now)) (kind_in self.now) }
     {
         self.set.borrow(&self.buffer)
     }

@@ -1,15 +1,17 @@
 //! Theorems about views. The functions have empty bodies; each states its theorem as its contract.
 
-ghost use Rattle.std.specs.Prelude.{List, ℕ, Result};
+ghost use Rattle.std.specs.Prelude.{◌≡◌, List, ℕ, Result, Ok, Some};
 ghost use Rattle.std.specs.Iterator.{Drains};
 ghost use Rattle.link_base.specs.declared.view.Value.{Value};
 ghost use Rattle.link_base.specs.declared.fault.ListFault.{ListFault};
 ghost use Rattle.link_base.specs.Number.{IsBytes};
-ghost use Rattle.link_base.specs.Frame.{Frame, Frames};
-ghost use Rattle.link_base.specs.Table.{Table, Decodes, FirstNotCanonical};
+ghost use Rattle.link_base.specs.Frame.{Frame, Frames, kind_of};
+ghost use Rattle.link_base.specs.Class.{Octets, Raw};
+ghost use Rattle.link_base.specs.Table.{Table, AttrValue, Case, Single, One, Gives, Decodes, FirstNotCanonical, class_at};
 ghost use Rattle.link_base.specs.Viewed.{bytes_in, set_of, IsWalk, StartsAt, all_set_of, IsAllOf, IsWalkOfAll};
 
 use crate::attribute_set::{AttributeSet, CheckedSet};
+use crate::struct_class::PayloadStruct;
 use crate::view::View;
 use crate::view_all::ViewAll;
 
@@ -40,3 +42,13 @@ pub fn first_other()
     ensures { (table : Table) (s : List ℕ) (xs : List Frame) (at : ℕ) → Frames s xs → FirstNotCanonical table s at
         → StartsAt xs at }
 {}
+
+/// If the payload of an attribute is a struct, the value that `parse` returns represents the fields that
+/// [`Value::as_struct`](crate::view::Value::as_struct) returns.
+pub fn structs<T: PayloadStruct>(_payload: &[u8])
+    ensures { (table : Table) (f : ℕ) (v : AttrValue) → class_at table (kind_of f) ≡ Some (One (Octets T.extent))
+        → Gives table f _payload.now (Ok v)
+        → v ≡ Case (kind_of f) (Single (Raw (T.octets (T.value_of _payload.now)))) }
+{
+    let _ = T::parse_payload(_payload);
+}

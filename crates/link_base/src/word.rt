@@ -5,12 +5,14 @@ ghost use Rattle.link_base.specs.Number.{number, bytes_of, bound};
 ghost use Rattle.link_base.specs.Class.{accepted, Exactly, Unsigned, Number};
 ghost use Rattle.link_base.specs.Table.{One, Single};
 ghost use Rattle.link_base.specs.Answers.{read_as, payload_result, OverwritesFront};
+ghost use Rattle.link_base.specs.declared.label.Form.TheVariants as forms;
 
 use crate::buffer::NlaBuffer;
 use crate::canonical::has_size;
 use crate::content::Content;
 use crate::default_nla::DefaultNla;
 use crate::fault::{DecodeError, DecodeFault};
+use crate::label::{Form, Name};
 use crate::lengths::Lengths;
 use crate::payload_class::PayloadClass;
 use crate::records::{u16_at, u32_at};
@@ -171,11 +173,20 @@ impl<W: Word> PayloadClass for W {
 
     type Element = DefaultNla;
 
+    const FORM: Form = Form::Unsigned;
+
+    ghost FORM = { forms.Unsigned };
+
     ghost shape = { One (Unsigned W.WIDTH) };
 
     ghost content = { λ value. Single (Number W.WIDTH (W.value value)) };
 
     fn elements() {}
+
+    #[inline]
+    fn names() -> &'static [Name] {
+        &[]
+    }
 
     #[inline]
     fn read(_alloc: Global, _kind: u16, payload: &[u8]) -> Result<W, DecodeError> {

@@ -1,6 +1,7 @@
 -- The active aggregator of a bond.
 use Rattle.std.specs.Prelude.{[], ◌∷◌}
-use Rattle.link_base.specs.Class.{Number, Raw, u16, mac}
+use Rattle.link_base.specs.Class.{Number, Raw}
+use Rattle.link_base.specs.Payloads.{u16, mac}
 use Rattle.link_base.specs.Table.{Rows, Leaf, Case, leaf_row}
 use Rattle.link_base.specs.Default.{default_means}
 use Rattle.link_bond.specs.declared.bond.ad_info.BondAdInfo.{BondAdInfo}

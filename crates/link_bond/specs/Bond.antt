@@ -1,9 +1,10 @@
 -- Bond attributes.
 use Rattle.std.specs.Prelude.{[], ◌∷◌, map, false}
-use Rattle.link_base.specs.Class.{Named, Number, Boolean, Raw, u8, u16, u32, truth, mac}
+use Rattle.link_base.specs.Class.{Number, Boolean, Raw}
+use Rattle.link_base.specs.Payloads.{u8, u16, u32, truth, u8_enum, u32_enum, mac}
 use Rattle.link_base.specs.Named.{numbers_of, seen_value}
-use Rattle.link_base.specs.declared.quantity.Quantity.TheVariants.{InterfaceIndex, Milliseconds, Seconds}
-use Rattle.link_base.specs.Table.{Table, AttrValue, Case, Nested, Addresses, Single, Inner, Listed, row, row_in, list_row}
+use Rattle.link_base.specs.declared.label.Quantity.TheVariants.{InterfaceIndex, Milliseconds, Seconds}
+use Rattle.link_base.specs.Table.{Table, AttrValue, Case, Single, Inner, Listed, row, row_in, nested_row, address_row}
 use Rattle.link_base.specs.IpAddress.{four_octets, sixteen_octets}
 use Rattle.link_base.specs.Default.{default_means}
 use Rattle.link_bond.specs.Names.{mode_names, mode_seen, arp_validate_names, arp_validate_seen, arp_all_targets_names, arp_all_targets_seen, primary_reselect_names, primary_reselect_seen, fail_over_mac_names, fail_over_mac_seen, xmit_hash_policy_names, xmit_hash_policy_seen, all_port_active_names, all_port_active_seen, lacp_rate_names, lacp_rate_seen, ad_select_names, ad_select_seen}
@@ -14,29 +15,29 @@ use Rattle.link_bond.specs.declared.bond.InfoBond.TheVariants as infos
 -- one row for each attribute type
 abbrev pub bond_table : Table
 bond_table =
-    row 1 "IFLA_BOND_MODE" (Named 1 (numbers_of mode_names)) ∷
+    row 1 "IFLA_BOND_MODE" (u8_enum mode_names) ∷
     row_in InterfaceIndex 2 "IFLA_BOND_ACTIVE_SLAVE" u32 ∷
     row_in Milliseconds 3 "IFLA_BOND_MIIMON" u32 ∷
     row_in Milliseconds 4 "IFLA_BOND_UPDELAY" u32 ∷
     row_in Milliseconds 5 "IFLA_BOND_DOWNDELAY" u32 ∷
     row 6 "IFLA_BOND_USE_CARRIER" truth ∷
     row_in Milliseconds 7 "IFLA_BOND_ARP_INTERVAL" u32 ∷
-    list_row 8 "IFLA_BOND_ARP_IP_TARGET" (Addresses 4) ∷
-    row 9 "IFLA_BOND_ARP_VALIDATE" (Named 4 (numbers_of arp_validate_names)) ∷
-    row 10 "IFLA_BOND_ARP_ALL_TARGETS" (Named 4 (numbers_of arp_all_targets_names)) ∷
+    address_row 8 "IFLA_BOND_ARP_IP_TARGET" 4 ∷
+    row 9 "IFLA_BOND_ARP_VALIDATE" (u32_enum arp_validate_names) ∷
+    row 10 "IFLA_BOND_ARP_ALL_TARGETS" (u32_enum arp_all_targets_names) ∷
     row_in InterfaceIndex 11 "IFLA_BOND_PRIMARY" u32 ∷
-    row 12 "IFLA_BOND_PRIMARY_RESELECT" (Named 1 (numbers_of primary_reselect_names)) ∷
-    row 13 "IFLA_BOND_FAIL_OVER_MAC" (Named 1 (numbers_of fail_over_mac_names)) ∷
-    row 14 "IFLA_BOND_XMIT_HASH_POLICY" (Named 1 (numbers_of xmit_hash_policy_names)) ∷
+    row 12 "IFLA_BOND_PRIMARY_RESELECT" (u8_enum primary_reselect_names) ∷
+    row 13 "IFLA_BOND_FAIL_OVER_MAC" (u8_enum fail_over_mac_names) ∷
+    row 14 "IFLA_BOND_XMIT_HASH_POLICY" (u8_enum xmit_hash_policy_names) ∷
     row 15 "IFLA_BOND_RESEND_IGMP" u32 ∷
     row 16 "IFLA_BOND_NUM_PEER_NOTIF" u8 ∷
-    row 17 "IFLA_BOND_ALL_SLAVES_ACTIVE" (Named 1 (numbers_of all_port_active_names)) ∷
+    row 17 "IFLA_BOND_ALL_SLAVES_ACTIVE" (u8_enum all_port_active_names) ∷
     row 18 "IFLA_BOND_MIN_LINKS" u32 ∷
     row_in Seconds 19 "IFLA_BOND_LP_INTERVAL" u32 ∷
     row 20 "IFLA_BOND_PACKETS_PER_SLAVE" u32 ∷
-    row 21 "IFLA_BOND_AD_LACP_RATE" (Named 1 (numbers_of lacp_rate_names)) ∷
-    row 22 "IFLA_BOND_AD_SELECT" (Named 1 (numbers_of ad_select_names)) ∷
-    list_row 23 "IFLA_BOND_AD_INFO" (Nested false ad_info_rows) ∷
+    row 21 "IFLA_BOND_AD_LACP_RATE" (u8_enum lacp_rate_names) ∷
+    row 22 "IFLA_BOND_AD_SELECT" (u8_enum ad_select_names) ∷
+    nested_row 23 "IFLA_BOND_AD_INFO" false ad_info_rows ∷
     row 24 "IFLA_BOND_AD_ACTOR_SYS_PRIO" u16 ∷
     row 25 "IFLA_BOND_AD_USER_PORT_KEY" u16 ∷
     row 26 "IFLA_BOND_AD_ACTOR_SYSTEM" mac ∷
@@ -44,7 +45,7 @@ bond_table =
     row_in Milliseconds 28 "IFLA_BOND_PEER_NOTIF_DELAY" u32 ∷
     row 29 "IFLA_BOND_AD_LACP_ACTIVE" truth ∷
     row 30 "IFLA_BOND_MISSED_MAX" u8 ∷
-    list_row 31 "IFLA_BOND_NS_IP6_TARGET" (Addresses 16) ∷
+    address_row 31 "IFLA_BOND_NS_IP6_TARGET" 16 ∷
     row 32 "IFLA_BOND_COUPLED_CONTROL" truth ∷
     row 33 "IFLA_BOND_BROADCAST_NEIGH" truth ∷
     row 34 "IFLA_BOND_LACP_STRICT" truth ∷ []

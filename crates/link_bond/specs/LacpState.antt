@@ -19,6 +19,18 @@ lacp_flags =
     (codes "DEFAULTED", 64) ∷
     (codes "EXPIRED", 128) ∷ []
 
+-- the bits with the kernel's names, without LACP_STATE_
+abbrev pub lacp_bit_names : List (ℕ × List ℕ)
+lacp_bit_names =
+    (1, codes "LACP_ACTIVITY") ∷
+    (2, codes "LACP_TIMEOUT") ∷
+    (4, codes "AGGREGATION") ∷
+    (8, codes "SYNCHRONIZATION") ∷
+    (16, codes "COLLECTING") ∷
+    (32, codes "DISTRIBUTING") ∷
+    (64, codes "DEFAULTED") ∷
+    (128, codes "EXPIRED") ∷ []
+
 -- every bit has a name
 pub every_lacp_bit : known_bits lacp_flags ≡ 2 ^ 8 - 1
 unfolding known_from

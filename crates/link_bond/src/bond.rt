@@ -21,7 +21,7 @@ pub use arp_validate::BondArpValidate;
 pub use fail_over_mac::BondFailOverMac;
 pub use lacp_rate::BondLacpRate;
 use link_base::content::Content;
-use link_base::quantity::KindLabel;
+use link_base::label::KindLabel;
 use link_base::{
     AddressList, Attribute, DecodeError, DecodeFault, DefaultNla, Meaning, Named, NestedList, Nla,
     NlaBuffer, Parseable, Place, TryClone,
@@ -218,20 +218,12 @@ impl Attribute for InfoBond {
     }
 
     #[inline(always)]
-    fn borrow<'a>(buffer: &NlaBuffer<'a>) -> Content<'a> {
-        rows!(borrow(buffer))
+    fn borrow<'a>(list: Option<u16>, buffer: &NlaBuffer<'a>) -> Content<'a> {
+        rows!(borrow(list, buffer))
     }
 
-    fn borrow_element<'a>(list: u16, element: &NlaBuffer<'a>) -> Content<'a> {
-        rows!(borrow_element(list, element))
-    }
-
-    fn kind_label(kind: u16) -> Option<KindLabel> {
-        rows!(label(kind))
-    }
-
-    fn element_label(list: u16, kind: u16) -> Option<KindLabel> {
-        rows!(element_label(list, kind))
+    fn label(list: Option<u16>, kind: u16) -> Option<KindLabel> {
+        rows!(label(list, kind))
     }
 
     fn canonical(buffer: &NlaBuffer<'_>) -> bool {

@@ -1,8 +1,9 @@
 -- Attributes of IFLA_AF_SPEC in AF_BRIDGE messages.
 use Rattle.std.specs.Prelude.{[], ◌∷◌, map, false}
-use Rattle.link_base.specs.Class.{Named, Raw, Octets, Exactly}
+use Rattle.link_base.specs.Class.{Raw, Exactly}
+use Rattle.link_base.specs.Payloads.{u16_enum, struct_of}
 use Rattle.link_base.specs.Named.{numbers_of, seen_value}
-use Rattle.link_base.specs.Table.{Table, AttrValue, Case, Nested, Single, Inner, row, list_row}
+use Rattle.link_base.specs.Table.{Table, AttrValue, Case, Single, Inner, row, nested_row}
 use Rattle.link_base.specs.Default.{default_means}
 use Rattle.link_bridge.specs.Names.{flag_names, flag_seen, mode_names, mode_seen}
 use Rattle.link_bridge.specs.VlanInfo.{vlan_info_octets}
@@ -13,10 +14,10 @@ use Rattle.link_bridge.specs.declared.af_spec.AfSpecBridge.TheVariants.{Flags, M
 -- one row for each attribute type
 abbrev pub af_spec_table : Table
 af_spec_table =
-    row 0 "IFLA_BRIDGE_FLAGS" (Named 2 (numbers_of flag_names)) ∷
-    row 1 "IFLA_BRIDGE_MODE" (Named 2 (numbers_of mode_names)) ∷
-    row 2 "IFLA_BRIDGE_VLAN_INFO" (Octets (Exactly 4)) ∷
-    list_row 3 "IFLA_BRIDGE_VLAN_TUNNEL_INFO" (Nested false tunnel_rows) ∷ []
+    row 0 "IFLA_BRIDGE_FLAGS" (u16_enum flag_names) ∷
+    row 1 "IFLA_BRIDGE_MODE" (u16_enum mode_names) ∷
+    row 2 "IFLA_BRIDGE_VLAN_INFO" (struct_of (Exactly 4)) ∷
+    nested_row 3 "IFLA_BRIDGE_VLAN_TUNNEL_INFO" false tunnel_rows ∷ []
 
 -- the attribute that a value represents
 abbrev pub af_spec_means : AfSpecBridge → AttrValue

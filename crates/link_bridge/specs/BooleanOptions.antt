@@ -19,6 +19,15 @@ option_flags =
     (codes "FdbLocalVlan0", 16) ∷
     ([], 2 ^ 32 - 1) ∷ []
 
+-- the bits with the kernel's names, without BR_BOOLOPT_
+abbrev pub option_bit_names : List (ℕ × List ℕ)
+option_bit_names =
+    (1, codes "NO_LL_LEARN") ∷
+    (2, codes "MCAST_VLAN_SNOOPING") ∷
+    (4, codes "MST_ENABLE") ∷
+    (8, codes "MDB_OFFLOAD_FAIL_NOTIFICATION") ∷
+    (16, codes "FDB_LOCAL_VLAN_0") ∷ []
+
 -- every bit is known
 pub every_option_bit : known_bits option_flags ≡ 2 ^ 32 - 1
 unfolding known_from

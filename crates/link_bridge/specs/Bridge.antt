@@ -1,9 +1,10 @@
 -- Bridge attributes.
 use Rattle.std.specs.Prelude.{[], ◌∷◌, map, true}
-use Rattle.link_base.specs.Class.{Octets, AtLeast, Fixed, Named, Number, Boolean, Raw, EtherType, Nothing, u8, u16, u32, u64, truth, mac, vlan_protocol, no_value}
+use Rattle.link_base.specs.Class.{AtLeast, Fixed, Number, Boolean, Raw, EtherType, Nothing}
+use Rattle.link_base.specs.Payloads.{u8, u16, u32, u64, truth, u8_enum, u32_enum, mac, vlan_protocol, struct_of, no_value}
 use Rattle.link_base.specs.Named.{numbers_of, seen_value}
-use Rattle.link_base.specs.declared.quantity.Quantity.TheVariants.{ClockTicks, Mask}
-use Rattle.link_base.specs.Table.{Table, AttrValue, Case, Nested, Single, Inner, row, row_in, list_row}
+use Rattle.link_base.specs.declared.label.Quantity.TheVariants.{ClockTicks, Mask}
+use Rattle.link_base.specs.Table.{Table, AttrValue, Case, Single, Inner, row, row_in, nested_row}
 use Rattle.link_base.specs.Protocol.{protocol_number}
 use Rattle.link_base.specs.Default.{default_means}
 use Rattle.link_bridge.specs.Names.{stp_state_names, stp_state_seen, stp_mode_names, stp_mode_seen, router_type_names, router_type_seen}
@@ -20,13 +21,13 @@ bridge_table =
     row_in ClockTicks 2 "IFLA_BR_HELLO_TIME" u32 ∷
     row_in ClockTicks 3 "IFLA_BR_MAX_AGE" u32 ∷
     row_in ClockTicks 4 "IFLA_BR_AGEING_TIME" u32 ∷
-    row 5 "IFLA_BR_STP_STATE" (Named 4 (numbers_of stp_state_names)) ∷
+    row 5 "IFLA_BR_STP_STATE" (u32_enum stp_state_names) ∷
     row 6 "IFLA_BR_PRIORITY" u16 ∷
     row 7 "IFLA_BR_VLAN_FILTERING" truth ∷
     row 8 "IFLA_BR_VLAN_PROTOCOL" vlan_protocol ∷
     row_in Mask 9 "IFLA_BR_GROUP_FWD_MASK" u16 ∷
-    row 10 "IFLA_BR_ROOT_ID" (Octets (AtLeast 8)) ∷
-    row 11 "IFLA_BR_BRIDGE_ID" (Octets (AtLeast 8)) ∷
+    row 10 "IFLA_BR_ROOT_ID" (struct_of (AtLeast 8)) ∷
+    row 11 "IFLA_BR_BRIDGE_ID" (struct_of (AtLeast 8)) ∷
     row 12 "IFLA_BR_ROOT_PORT" u16 ∷
     row 13 "IFLA_BR_ROOT_PATH_COST" u32 ∷
     row 14 "IFLA_BR_TOPOLOGY_CHANGE" u8 ∷
@@ -37,7 +38,7 @@ bridge_table =
     row_in ClockTicks 19 "IFLA_BR_GC_TIMER" u64 ∷
     row 20 "IFLA_BR_GROUP_ADDR" mac ∷
     row 21 "IFLA_BR_FDB_FLUSH" no_value ∷
-    row 22 "IFLA_BR_MCAST_ROUTER" (Named 1 (numbers_of router_type_names)) ∷
+    row 22 "IFLA_BR_MCAST_ROUTER" (u8_enum router_type_names) ∷
     row 23 "IFLA_BR_MCAST_SNOOPING" truth ∷
     row 24 "IFLA_BR_MCAST_QUERY_USE_IFADDR" truth ∷
     row 25 "IFLA_BR_MCAST_QUERIER" truth ∷
@@ -60,11 +61,11 @@ bridge_table =
     row 43 "IFLA_BR_MCAST_IGMP_VERSION" u8 ∷
     row 44 "IFLA_BR_MCAST_MLD_VERSION" u8 ∷
     row 45 "IFLA_BR_VLAN_STATS_PER_PORT" truth ∷
-    row 46 "IFLA_BR_MULTI_BOOLOPT" (Octets (Fixed 8)) ∷
-    list_row 47 "IFLA_BR_MCAST_QUERIER_STATE" (Nested true querier_rows) ∷
+    row 46 "IFLA_BR_MULTI_BOOLOPT" (struct_of (Fixed 8)) ∷
+    nested_row 47 "IFLA_BR_MCAST_QUERIER_STATE" true querier_rows ∷
     row 48 "IFLA_BR_FDB_N_LEARNED" u32 ∷
     row 49 "IFLA_BR_FDB_MAX_LEARNED" u32 ∷
-    row 50 "IFLA_BR_STP_MODE" (Named 4 (numbers_of stp_mode_names)) ∷ []
+    row 50 "IFLA_BR_STP_MODE" (u32_enum stp_mode_names) ∷ []
 
 -- the attribute that a value represents
 abbrev pub bridge_means : InfoBridge → AttrValue

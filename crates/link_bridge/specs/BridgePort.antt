@@ -1,8 +1,9 @@
 -- Bridge port attributes.
 use Rattle.std.specs.Prelude.{ℕ, List, [], ◌∷◌}
-use Rattle.link_base.specs.Class.{Octets, AtLeast, Named, Number, Boolean, Raw, Nothing, u16, u32, u64, truth, no_value}
+use Rattle.link_base.specs.Class.{AtLeast, Number, Boolean, Raw, Nothing}
+use Rattle.link_base.specs.Payloads.{u16, u32, u64, truth, u8_enum, struct_of, no_value}
 use Rattle.link_base.specs.Named.{numbers_of, seen_value}
-use Rattle.link_base.specs.declared.quantity.Quantity.TheVariants.{ClockTicks, InterfaceIndex, Mask}
+use Rattle.link_base.specs.declared.label.Quantity.TheVariants.{ClockTicks, InterfaceIndex, Mask}
 use Rattle.link_base.specs.Table.{Table, AttrValue, Case, Single, row, row_in}
 use Rattle.link_base.specs.Default.{default_means}
 use Rattle.link_bridge.specs.Names.{port_state_names, port_state_seen, router_type_names, router_type_seen}
@@ -13,7 +14,7 @@ use Rattle.link_bridge.specs.declared.bridge_port.InfoBridgePort.TheVariants as 
 -- one row for each attribute type. Type 26, IFLA_BRPORT_PAD, has no row
 abbrev pub bridge_port_table : Table
 bridge_port_table =
-    row 1 "IFLA_BRPORT_STATE" (Named 1 (numbers_of port_state_names)) ∷
+    row 1 "IFLA_BRPORT_STATE" (u8_enum port_state_names) ∷
     row 2 "IFLA_BRPORT_PRIORITY" u16 ∷
     row 3 "IFLA_BRPORT_COST" u32 ∷
     row 4 "IFLA_BRPORT_MODE" truth ∷
@@ -25,8 +26,8 @@ bridge_port_table =
     row 10 "IFLA_BRPORT_PROXYARP" truth ∷
     row 11 "IFLA_BRPORT_LEARNING_SYNC" truth ∷
     row 12 "IFLA_BRPORT_PROXYARP_WIFI" truth ∷
-    row 13 "IFLA_BRPORT_ROOT_ID" (Octets (AtLeast 8)) ∷
-    row 14 "IFLA_BRPORT_BRIDGE_ID" (Octets (AtLeast 8)) ∷
+    row 13 "IFLA_BRPORT_ROOT_ID" (struct_of (AtLeast 8)) ∷
+    row 14 "IFLA_BRPORT_BRIDGE_ID" (struct_of (AtLeast 8)) ∷
     row_in Mask 15 "IFLA_BRPORT_DESIGNATED_PORT" u16 ∷
     row 16 "IFLA_BRPORT_DESIGNATED_COST" u16 ∷
     row_in Mask 17 "IFLA_BRPORT_ID" u16 ∷
@@ -37,7 +38,7 @@ bridge_port_table =
     row_in ClockTicks 22 "IFLA_BRPORT_FORWARD_DELAY_TIMER" u64 ∷
     row_in ClockTicks 23 "IFLA_BRPORT_HOLD_TIMER" u64 ∷
     row 24 "IFLA_BRPORT_FLUSH" no_value ∷
-    row 25 "IFLA_BRPORT_MULTICAST_ROUTER" (Named 1 (numbers_of router_type_names)) ∷
+    row 25 "IFLA_BRPORT_MULTICAST_ROUTER" (u8_enum router_type_names) ∷
     row 27 "IFLA_BRPORT_MCAST_FLOOD" truth ∷
     row 28 "IFLA_BRPORT_MCAST_TO_UCAST" truth ∷
     row 29 "IFLA_BRPORT_VLAN_TUNNEL" truth ∷
@@ -65,7 +66,7 @@ bridge_port_added = 11 ∷ []
 -- the first version of the table
 abbrev pub bridge_port_table_first : Table
 bridge_port_table_first =
-    row 1 "IFLA_BRPORT_STATE" (Named 1 (numbers_of port_state_names)) ∷
+    row 1 "IFLA_BRPORT_STATE" (u8_enum port_state_names) ∷
     row 2 "IFLA_BRPORT_PRIORITY" u16 ∷
     row 3 "IFLA_BRPORT_COST" u32 ∷
     row 4 "IFLA_BRPORT_MODE" truth ∷
@@ -76,8 +77,8 @@ bridge_port_table_first =
     row 9 "IFLA_BRPORT_UNICAST_FLOOD" truth ∷
     row 10 "IFLA_BRPORT_PROXYARP" truth ∷
     row 12 "IFLA_BRPORT_PROXYARP_WIFI" truth ∷
-    row 13 "IFLA_BRPORT_ROOT_ID" (Octets (AtLeast 8)) ∷
-    row 14 "IFLA_BRPORT_BRIDGE_ID" (Octets (AtLeast 8)) ∷
+    row 13 "IFLA_BRPORT_ROOT_ID" (struct_of (AtLeast 8)) ∷
+    row 14 "IFLA_BRPORT_BRIDGE_ID" (struct_of (AtLeast 8)) ∷
     row_in Mask 15 "IFLA_BRPORT_DESIGNATED_PORT" u16 ∷
     row 16 "IFLA_BRPORT_DESIGNATED_COST" u16 ∷
     row_in Mask 17 "IFLA_BRPORT_ID" u16 ∷
@@ -88,7 +89,7 @@ bridge_port_table_first =
     row_in ClockTicks 22 "IFLA_BRPORT_FORWARD_DELAY_TIMER" u64 ∷
     row_in ClockTicks 23 "IFLA_BRPORT_HOLD_TIMER" u64 ∷
     row 24 "IFLA_BRPORT_FLUSH" no_value ∷
-    row 25 "IFLA_BRPORT_MULTICAST_ROUTER" (Named 1 (numbers_of router_type_names)) ∷
+    row 25 "IFLA_BRPORT_MULTICAST_ROUTER" (u8_enum router_type_names) ∷
     row 27 "IFLA_BRPORT_MCAST_FLOOD" truth ∷
     row 28 "IFLA_BRPORT_MCAST_TO_UCAST" truth ∷
     row 29 "IFLA_BRPORT_VLAN_TUNNEL" truth ∷

@@ -1,6 +1,7 @@
 -- Attributes of IFLA_PROTINFO in AF_BRIDGE messages.
 use Rattle.std.specs.Prelude.{[], ◌∷◌}
-use Rattle.link_base.specs.Class.{Boolean, truth}
+use Rattle.link_base.specs.Class.{Boolean}
+use Rattle.link_base.specs.Payloads.{truth}
 use Rattle.link_base.specs.Table.{Table, AttrValue, Case, Single, row}
 use Rattle.link_base.specs.Default.{default_means}
 use Rattle.link_bridge.specs.declared.proto_info.LinkProtoInfoBridge.{LinkProtoInfoBridge}

@@ -21,6 +21,17 @@ vlan_info_flags =
     (codes "OnlyOpts", 64) ∷
     ([], 2 ^ 16 - 1) ∷ []
 
+-- the bits with the kernel's names, without BRIDGE_VLAN_INFO_
+abbrev pub vlan_info_bit_names : List (ℕ × List ℕ)
+vlan_info_bit_names =
+    (1, codes "MASTER") ∷
+    (2, codes "PVID") ∷
+    (4, codes "UNTAGGED") ∷
+    (8, codes "RANGE_BEGIN") ∷
+    (16, codes "RANGE_END") ∷
+    (32, codes "BRENTRY") ∷
+    (64, codes "ONLY_OPTS") ∷ []
+
 -- every bit is known
 pub every_vlan_info_bit : known_bits vlan_info_flags ≡ 2 ^ 16 - 1
 unfolding known_from

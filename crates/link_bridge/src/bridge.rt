@@ -9,7 +9,7 @@ mod stp_state;
 use crate::bridge_boolopt::BridgeBooleanOptions;
 pub use id::{BridgeId, BridgeIdBuffer};
 use link_base::content::Content;
-use link_base::quantity::KindLabel;
+use link_base::label::KindLabel;
 use link_base::{
     Attribute, DecodeError, DecodeFault, DefaultNla, Meaning, Named, NestedList, Nla, NlaBuffer,
     Parseable, Place, Struct, TryClone, VlanProtocol,
@@ -260,20 +260,12 @@ impl Attribute for InfoBridge {
     }
 
     #[inline(always)]
-    fn borrow<'a>(buffer: &NlaBuffer<'a>) -> Content<'a> {
-        rows!(borrow(buffer))
+    fn borrow<'a>(list: Option<u16>, buffer: &NlaBuffer<'a>) -> Content<'a> {
+        rows!(borrow(list, buffer))
     }
 
-    fn borrow_element<'a>(list: u16, element: &NlaBuffer<'a>) -> Content<'a> {
-        rows!(borrow_element(list, element))
-    }
-
-    fn kind_label(kind: u16) -> Option<KindLabel> {
-        rows!(label(kind))
-    }
-
-    fn element_label(list: u16, kind: u16) -> Option<KindLabel> {
-        rows!(element_label(list, kind))
+    fn label(list: Option<u16>, kind: u16) -> Option<KindLabel> {
+        rows!(label(list, kind))
     }
 
     fn canonical(buffer: &NlaBuffer<'_>) -> bool {

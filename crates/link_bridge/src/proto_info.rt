@@ -7,7 +7,7 @@ ghost use Rattle.link_base.specs.Answers.{ListAnswers, ListFaultUnless, OnListMe
 ghost use Rattle.link_bridge.specs.ProtoInfo.{proto_info_table, proto_info_means};
 
 use link_base::content::Content;
-use link_base::quantity::KindLabel;
+use link_base::label::KindLabel;
 use link_base::{
     Attribute, DecodeError, DecodeFault, DefaultNla, ListError, Meaning, Nla, NlaBuffer, Parseable,
     Place, TryClone, read_list,
@@ -101,20 +101,12 @@ impl Attribute for LinkProtoInfoBridge {
     }
 
     #[inline(always)]
-    fn borrow<'a>(buffer: &NlaBuffer<'a>) -> Content<'a> {
-        rows!(borrow(buffer))
+    fn borrow<'a>(list: Option<u16>, buffer: &NlaBuffer<'a>) -> Content<'a> {
+        rows!(borrow(list, buffer))
     }
 
-    fn borrow_element<'a>(list: u16, element: &NlaBuffer<'a>) -> Content<'a> {
-        rows!(borrow_element(list, element))
-    }
-
-    fn kind_label(kind: u16) -> Option<KindLabel> {
-        rows!(label(kind))
-    }
-
-    fn element_label(list: u16, kind: u16) -> Option<KindLabel> {
-        rows!(element_label(list, kind))
+    fn label(list: Option<u16>, kind: u16) -> Option<KindLabel> {
+        rows!(label(list, kind))
     }
 
     fn canonical(buffer: &NlaBuffer<'_>) -> bool {

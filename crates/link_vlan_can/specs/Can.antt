@@ -1,11 +1,12 @@
 -- CAN controller attributes.
 use Rattle.std.specs.Prelude.{ℕ, List, [], ◌∷◌, map, true}
-use Rattle.link_base.specs.Class.{Octets, AtLeast, Fixed, Limits, Number, Raw, u16, u32, u16s, u32s}
+use Rattle.link_base.specs.Class.{AtLeast, Fixed, Number, Raw}
+use Rattle.link_base.specs.Payloads.{u16, u32, u32_flags, struct_of, limits, u16s, u32s}
 use Rattle.link_base.specs.Layout.{octets_of}
-use Rattle.link_base.specs.declared.quantity.Quantity.TheVariants.{BitsPerSecond, Milliseconds, Ohms}
-use Rattle.link_base.specs.Table.{Rows, Leaf, Table, AttrValue, Case, Nested, Single, Inner, row, row_in, leaf_row, list_row}
+use Rattle.link_base.specs.declared.label.Quantity.TheVariants.{BitsPerSecond, Milliseconds, Ohms}
+use Rattle.link_base.specs.Table.{Rows, Leaf, Table, AttrValue, Case, Single, Inner, row, row_in, leaf_row, nested_row}
 use Rattle.link_base.specs.Default.{default_means}
-use Rattle.link_vlan_can.specs.CanFlags.{mode_bits}
+use Rattle.link_vlan_can.specs.CanFlags.{mode_bits, mode_bit_names}
 use Rattle.link_vlan_can.specs.declared.can_tdc.CanTdc.{CanTdc}
 use Rattle.link_vlan_can.specs.declared.can_tdc.CanTdc.TheVariants as tdcs
 use Rattle.link_vlan_can.specs.declared.can_modes.CanCtrlModeExt.{CanCtrlModeExt}
@@ -43,7 +44,7 @@ tdc_leaf (tdcs.Other other) = default_means other
 
 -- one row for each attribute type
 abbrev pub mode_rows : Rows
-mode_rows = leaf_row 1 "IFLA_CAN_CTRLMODE_SUPPORTED" u32 ∷ []
+mode_rows = leaf_row 1 "IFLA_CAN_CTRLMODE_SUPPORTED" (u32_flags mode_bit_names) ∷ []
 
 -- the attribute that a value of the modes represents
 abbrev pub mode_leaf : CanCtrlModeExt → Leaf
@@ -53,23 +54,23 @@ mode_leaf (modes.Other other) = default_means other
 -- one row for each attribute type
 abbrev pub can_table : Table
 can_table =
-    row 1 "IFLA_CAN_BITTIMING" (Octets (AtLeast 32)) ∷
-    row 2 "IFLA_CAN_BITTIMING_CONST" Limits ∷
-    row 3 "IFLA_CAN_CLOCK" (Octets (Fixed 4)) ∷
+    row 1 "IFLA_CAN_BITTIMING" (struct_of (AtLeast 32)) ∷
+    row 2 "IFLA_CAN_BITTIMING_CONST" limits ∷
+    row 3 "IFLA_CAN_CLOCK" (struct_of (Fixed 4)) ∷
     row 4 "IFLA_CAN_STATE" u32 ∷
-    row 5 "IFLA_CAN_CTRLMODE" (Octets (AtLeast 8)) ∷
+    row 5 "IFLA_CAN_CTRLMODE" (struct_of (AtLeast 8)) ∷
     row_in Milliseconds 6 "IFLA_CAN_RESTART_MS" u32 ∷
     row 7 "IFLA_CAN_RESTART" u32 ∷
-    row 8 "IFLA_CAN_BERR_COUNTER" (Octets (AtLeast 4)) ∷
-    row 9 "IFLA_CAN_DATA_BITTIMING" (Octets (AtLeast 32)) ∷
-    row 10 "IFLA_CAN_DATA_BITTIMING_CONST" Limits ∷
+    row 8 "IFLA_CAN_BERR_COUNTER" (struct_of (AtLeast 4)) ∷
+    row 9 "IFLA_CAN_DATA_BITTIMING" (struct_of (AtLeast 32)) ∷
+    row 10 "IFLA_CAN_DATA_BITTIMING_CONST" limits ∷
     row_in Ohms 11 "IFLA_CAN_TERMINATION" u16 ∷
     row_in Ohms 12 "IFLA_CAN_TERMINATION_CONST" u16s ∷
     row_in BitsPerSecond 13 "IFLA_CAN_BITRATE_CONST" u32s ∷
     row_in BitsPerSecond 14 "IFLA_CAN_DATA_BITRATE_CONST" u32s ∷
     row_in BitsPerSecond 15 "IFLA_CAN_BITRATE_MAX" u32 ∷
-    list_row 16 "IFLA_CAN_TDC" (Nested true tdc_rows) ∷
-    list_row 17 "IFLA_CAN_CTRLMODE_EXT" (Nested true mode_rows) ∷ []
+    nested_row 16 "IFLA_CAN_TDC" true tdc_rows ∷
+    nested_row 17 "IFLA_CAN_CTRLMODE_EXT" true mode_rows ∷ []
 
 -- the attribute types that the second version of the table adds
 abbrev pub can_added : List ℕ
@@ -78,20 +79,20 @@ can_added = 12 ∷ 13 ∷ 14 ∷ []
 -- the first version of the table
 abbrev pub can_table_first : Table
 can_table_first =
-    row 1 "IFLA_CAN_BITTIMING" (Octets (AtLeast 32)) ∷
-    row 2 "IFLA_CAN_BITTIMING_CONST" Limits ∷
-    row 3 "IFLA_CAN_CLOCK" (Octets (Fixed 4)) ∷
+    row 1 "IFLA_CAN_BITTIMING" (struct_of (AtLeast 32)) ∷
+    row 2 "IFLA_CAN_BITTIMING_CONST" limits ∷
+    row 3 "IFLA_CAN_CLOCK" (struct_of (Fixed 4)) ∷
     row 4 "IFLA_CAN_STATE" u32 ∷
-    row 5 "IFLA_CAN_CTRLMODE" (Octets (AtLeast 8)) ∷
+    row 5 "IFLA_CAN_CTRLMODE" (struct_of (AtLeast 8)) ∷
     row_in Milliseconds 6 "IFLA_CAN_RESTART_MS" u32 ∷
     row 7 "IFLA_CAN_RESTART" u32 ∷
-    row 8 "IFLA_CAN_BERR_COUNTER" (Octets (AtLeast 4)) ∷
-    row 9 "IFLA_CAN_DATA_BITTIMING" (Octets (AtLeast 32)) ∷
-    row 10 "IFLA_CAN_DATA_BITTIMING_CONST" Limits ∷
+    row 8 "IFLA_CAN_BERR_COUNTER" (struct_of (AtLeast 4)) ∷
+    row 9 "IFLA_CAN_DATA_BITTIMING" (struct_of (AtLeast 32)) ∷
+    row 10 "IFLA_CAN_DATA_BITTIMING_CONST" limits ∷
     row_in Ohms 11 "IFLA_CAN_TERMINATION" u16 ∷
     row_in BitsPerSecond 15 "IFLA_CAN_BITRATE_MAX" u32 ∷
-    list_row 16 "IFLA_CAN_TDC" (Nested true tdc_rows) ∷
-    list_row 17 "IFLA_CAN_CTRLMODE_EXT" (Nested true mode_rows) ∷ []
+    nested_row 16 "IFLA_CAN_TDC" true tdc_rows ∷
+    nested_row 17 "IFLA_CAN_CTRLMODE_EXT" true mode_rows ∷ []
 
 -- the attribute that a value represents
 abbrev pub can_means : InfoCan → AttrValue

@@ -1,7 +1,8 @@
 -- DSA port attributes.
 use Rattle.std.specs.Prelude.{[], ◌∷◌}
-use Rattle.link_base.specs.Class.{Number, u32}
-use Rattle.link_base.specs.declared.quantity.Quantity.TheVariants.{InterfaceIndex}
+use Rattle.link_base.specs.Class.{Number}
+use Rattle.link_base.specs.Payloads.{u32}
+use Rattle.link_base.specs.declared.label.Quantity.TheVariants.{InterfaceIndex}
 use Rattle.link_base.specs.Table.{Table, AttrValue, Case, Single, row_in}
 use Rattle.link_base.specs.Default.{default_means}
 use Rattle.link_vlan_can.specs.declared.dsa.InfoDsa.{InfoDsa}

@@ -1,8 +1,9 @@
 -- HSR and PRP device attributes.
 use Rattle.std.specs.Prelude.{[], ◌∷◌, codes, refl}
-use Rattle.link_base.specs.Class.{Named, Number, Raw, u8, u16, u32, mac}
+use Rattle.link_base.specs.Class.{Number, Raw}
+use Rattle.link_base.specs.Payloads.{u8, u16, u32, u8_enum, mac}
 use Rattle.link_base.specs.Named.{Naming, Seen, Listed, Free, IsSeen, label, Bare, NoText, numbers_of, seen_value}
-use Rattle.link_base.specs.declared.quantity.Quantity.TheVariants.{InterfaceIndex}
+use Rattle.link_base.specs.declared.label.Quantity.TheVariants.{InterfaceIndex}
 use Rattle.link_base.specs.Table.{Table, AttrValue, Case, Single, row, row_in}
 use Rattle.link_base.specs.Default.{default_means}
 use Rattle.link_vlan_can.specs.declared.hsr.HsrProtocol.{HsrProtocol}
@@ -41,7 +42,7 @@ hsr_table =
     row 4 "IFLA_HSR_SUPERVISION_ADDR" mac ∷
     row 5 "IFLA_HSR_SEQ_NR" u16 ∷
     row 6 "IFLA_HSR_VERSION" u8 ∷
-    row 7 "IFLA_HSR_PROTOCOL" (Named 1 (numbers_of hsr_protocol_names)) ∷
+    row 7 "IFLA_HSR_PROTOCOL" (u8_enum hsr_protocol_names) ∷
     row_in InterfaceIndex 8 "IFLA_HSR_INTERLINK" u32 ∷ []
 
 -- the attribute that a value represents

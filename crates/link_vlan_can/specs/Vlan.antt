@@ -1,11 +1,12 @@
 -- VLAN device attributes.
 use Rattle.std.specs.Prelude.{[], ◌∷◌, map, false}
 use Rattle.link_base.specs.Layout.{octets_of}
-use Rattle.link_base.specs.Class.{Octets, Exactly, Number, Raw, EtherType, u16, vlan_protocol}
-use Rattle.link_base.specs.Table.{Rows, Leaf, Table, AttrValue, Case, Nested, Single, Inner, row, leaf_row, list_row}
+use Rattle.link_base.specs.Class.{Number, Raw, EtherType}
+use Rattle.link_base.specs.Payloads.{u16, masked_flags, vlan_protocol, pair}
+use Rattle.link_base.specs.Table.{Rows, Leaf, Table, AttrValue, Case, Single, Inner, row, leaf_row, nested_row}
 use Rattle.link_base.specs.Default.{default_means}
 use Rattle.link_base.specs.Protocol.{protocol_number}
-use Rattle.link_vlan_can.specs.VlanFlags.{vlan_bits}
+use Rattle.link_vlan_can.specs.VlanFlags.{vlan_bits, vlan_bit_names}
 use Rattle.link_vlan_can.specs.declared.vlan.VlanQosMapping.{VlanQosMapping}
 use Rattle.link_vlan_can.specs.declared.vlan.VlanQosMapping.TheVariants as mappings
 use Rattle.link_vlan_can.specs.declared.vlan.InfoVlan.{InfoVlan}
@@ -13,7 +14,7 @@ use Rattle.link_vlan_can.specs.declared.vlan.InfoVlan.TheVariants as infos
 
 -- a mapping is two u32s
 abbrev pub mapping_rows : Rows
-mapping_rows = leaf_row 1 "IFLA_VLAN_QOS_MAPPING" (Octets (Exactly 8)) ∷ []
+mapping_rows = leaf_row 1 "IFLA_VLAN_QOS_MAPPING" pair ∷ []
 
 -- the attribute that a mapping represents
 abbrev pub mapping_leaf : VlanQosMapping → Leaf
@@ -24,9 +25,9 @@ mapping_leaf (mappings.Other other) = default_means other
 abbrev pub vlan_table : Table
 vlan_table =
     row 1 "IFLA_VLAN_ID" u16 ∷
-    row 2 "IFLA_VLAN_FLAGS" (Octets (Exactly 8)) ∷
-    list_row 3 "IFLA_VLAN_EGRESS_QOS" (Nested false mapping_rows) ∷
-    list_row 4 "IFLA_VLAN_INGRESS_QOS" (Nested false mapping_rows) ∷
+    row 2 "IFLA_VLAN_FLAGS" (masked_flags vlan_bit_names) ∷
+    nested_row 3 "IFLA_VLAN_EGRESS_QOS" false mapping_rows ∷
+    nested_row 4 "IFLA_VLAN_INGRESS_QOS" false mapping_rows ∷
     row 5 "IFLA_VLAN_PROTOCOL" vlan_protocol ∷ []
 
 -- the attribute that a value represents

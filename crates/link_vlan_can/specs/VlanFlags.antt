@@ -13,6 +13,15 @@ abbrev pub vlan_flags : List Row
 vlan_flags = (codes "ReorderHdr", 1) ∷ (codes "Gvrp", 2) ∷ (codes "LooseBinding", 4) ∷ (codes "Mvrp", 8)
     ∷ (codes "BridgeBinding", 16) ∷ ([], 2 ^ 32 - 1) ∷ []
 
+-- the bits with the kernel's names, without VLAN_FLAG_
+abbrev pub vlan_bit_names : List (ℕ × List ℕ)
+vlan_bit_names =
+    (1, codes "REORDER_HDR") ∷
+    (2, codes "GVRP") ∷
+    (4, codes "LOOSE_BINDING") ∷
+    (8, codes "MVRP") ∷
+    (16, codes "BRIDGE_BINDING") ∷ []
+
 -- every bit is known
 pub every_vlan_bit : known_bits vlan_flags ≡ 2 ^ 32 - 1
 unfolding known_from

@@ -7,7 +7,7 @@ use crate::can_modes::CanCtrlModeExt;
 use crate::can_records::{CanBerrCounter, CanBitTiming, CanClock, CanCtrlMode};
 use crate::can_tdc::CanTdc;
 use link_base::content::Content;
-use link_base::quantity::KindLabel;
+use link_base::label::KindLabel;
 use link_base::{
     Attribute, DecodeError, DecodeFault, DefaultNla, Meaning, NestedList, Nla, NlaBuffer,
     Parseable, Place, Struct, TryClone,
@@ -141,20 +141,12 @@ impl Attribute for InfoCan {
     }
 
     #[inline(always)]
-    fn borrow<'a>(buffer: &NlaBuffer<'a>) -> Content<'a> {
-        rows!(borrow(buffer))
+    fn borrow<'a>(list: Option<u16>, buffer: &NlaBuffer<'a>) -> Content<'a> {
+        rows!(borrow(list, buffer))
     }
 
-    fn borrow_element<'a>(list: u16, element: &NlaBuffer<'a>) -> Content<'a> {
-        rows!(borrow_element(list, element))
-    }
-
-    fn kind_label(kind: u16) -> Option<KindLabel> {
-        rows!(label(kind))
-    }
-
-    fn element_label(list: u16, kind: u16) -> Option<KindLabel> {
-        rows!(element_label(list, kind))
+    fn label(list: Option<u16>, kind: u16) -> Option<KindLabel> {
+        rows!(label(list, kind))
     }
 
     fn canonical(buffer: &NlaBuffer<'_>) -> bool {

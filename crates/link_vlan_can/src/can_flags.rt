@@ -2,6 +2,7 @@
 
 use bitflags::{Flag, Flags};
 use link_base::flag_laws::{FlagSet, KnownBits};
+use link_base::label::Name;
 
 /// Modes of a CAN controller (`CAN_CTRLMODE_*`, `include/uapi/linux/can/netlink.h`). Unnamed bits are kept.
 #[derive(Clone, Copy, Debug, PartialEq, Eq, Hash)]
@@ -58,11 +59,32 @@ impl CanCtrlModeFlags {
     pub const XlTms: CanCtrlModeFlags = CanCtrlModeFlags(0x8000);
 }
 
+/// The flags (`include/uapi/linux/can/netlink.h`), the set's constants for them, and their names without `CAN_CTRLMODE_`.
+macro_rules! flags {
+    ($call:ident($($argument:tt)*)) => {
+        link_base::by_flags! { $call($($argument)*)
+            CAN_CTRLMODE_LOOPBACK = 0x1, Loopback, "LOOPBACK";
+            CAN_CTRLMODE_LISTENONLY = 0x2, ListenOnly, "LISTENONLY";
+            CAN_CTRLMODE_3_SAMPLES = 0x4, TripleSampling, "3_SAMPLES";
+            CAN_CTRLMODE_ONE_SHOT = 0x8, OneShot, "ONE_SHOT";
+            CAN_CTRLMODE_BERR_REPORTING = 0x10, BerrReporting, "BERR_REPORTING";
+            CAN_CTRLMODE_FD = 0x20, Fd, "FD";
+            CAN_CTRLMODE_PRESUME_ACK = 0x40, PresumeAck, "PRESUME_ACK";
+            CAN_CTRLMODE_FD_NON_ISO = 0x80, FdNonIso, "FD_NON_ISO";
+            CAN_CTRLMODE_CC_LEN8_DLC = 0x100, CcLen8Dlc, "CC_LEN8_DLC";
+            CAN_CTRLMODE_TDC_AUTO = 0x200, TdcAuto, "TDC_AUTO";
+            CAN_CTRLMODE_TDC_MANUAL = 0x400, TdcManual, "TDC_MANUAL";
+            CAN_CTRLMODE_RESTRICTED = 0x800, Restricted, "RESTRICTED";
+            CAN_CTRLMODE_XL = 0x1000, Xl, "XL";
+            CAN_CTRLMODE_XL_TDC_AUTO = 0x2000, XlTdcAuto, "XL_TDC_AUTO";
+            CAN_CTRLMODE_XL_TDC_MANUAL = 0x4000, XlTdcManual, "XL_TDC_MANUAL";
+            CAN_CTRLMODE_XL_TMS = 0x8000, XlTms, "XL_TMS";
+        }
+    };
+}
+
 /// The named flags, and an unnamed one with all bits, so that every bit is known.
-const FLAGS: [Flag<CanCtrlModeFlags>; 17] = link_base::named_flags!(CanCtrlModeFlags(u32::MAX):
-    Loopback, ListenOnly, TripleSampling, OneShot, BerrReporting, Fd, PresumeAck, FdNonIso,
-    CcLen8Dlc, TdcAuto, TdcManual, Restricted, Xl, XlTdcAuto, XlTdcManual, XlTms
-);
+const FLAGS: [Flag<CanCtrlModeFlags>; 17] = flags!(flags(CanCtrlModeFlags, u32::MAX));
 
 impl Flags for CanCtrlModeFlags {
     type Bits = u32;
@@ -92,6 +114,13 @@ impl Flags for CanCtrlModeFlags {
 impl FlagSet for CanCtrlModeFlags {
     ghost use Rattle.std.specs.Prelude.{refl};
     ghost use Rattle.link_base.specs.Equality.{wrapped, numbers};
+    ghost use Rattle.link_vlan_can.specs.CanFlags.{mode_bit_names};
+
+    ghost bit_names = { mode_bit_names };
+
+    fn names() -> &'static [Name] {
+        flags!(names())
+    }
 
     ghost is_exact = { tt };
 

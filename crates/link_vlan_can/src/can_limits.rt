@@ -3,12 +3,14 @@
 ghost use Rattle.std.specs.Prelude.{◌≡◌, ◌≤◌, [], length, take, drop, IfOk, IsTrue, string_bytes};
 ghost use Rattle.link_base.specs.Name.{before_nul, name_of, name_field};
 ghost use Rattle.link_base.specs.Class.{Limits, IsInRange, written};
+ghost use Rattle.link_base.specs.declared.label.Form.TheVariants as forms;
 ghost use Rattle.link_base.specs.Table.{One, Single};
 ghost use Rattle.link_base.specs.Answers.{OnMemory, OverwritesFront};
 ghost use Rattle.link_vlan_can.specs.CanLimits.{limits_view, limits_with, limits_octets, limits_value, LimitsAnswer};
 
 use bstr::ByteSlice;
 use link_base::content::Content;
+use link_base::label::{Form, Name};
 use link_base::{
     DecodeError, DecodeFault, DefaultNla, Lengths, NlaBuffer, PayloadClass, check_at_least,
     emit_u32s, is_limits, u32s_at,
@@ -16,7 +18,7 @@ use link_base::{
 use std::alloc::{AllocError, Global};
 
 /// Length of a name field, in bytes.
-const NAME: usize = 16;
+pub(crate) const NAME: usize = 16;
 
 /// The bit timing limits of a CAN controller (`struct can_bittiming_const`, `include/uapi/linux/can/netlink.h`): a name
 /// field of 16 bytes, then eight `u32`s. Payloads may be longer; the additional bytes are ignored.
@@ -159,6 +161,10 @@ impl PayloadClass for CanBitTimingConst {
 
     type Element = DefaultNla;
 
+    const FORM: Form = Form::Limits;
+
+    ghost FORM = { forms.Limits };
+
     ghost shape = { One Limits };
 
     ghost content = { λ limits. Single (limits_value limits) };
@@ -173,6 +179,11 @@ impl PayloadClass for CanBitTimingConst {
     }
 
     fn elements() {}
+
+    #[inline]
+    fn names() -> &'static [Name] {
+        &[]
+    }
 
     #[inline]
     fn borrow<'a>(payload: &'a [u8]) -> Content<'a> {
@@ -203,7 +214,7 @@ impl PayloadClass for CanBitTimingConst {
 
 /// Returns the bytes of a field before the first NUL, or all of them if there is none.
 #[inline]
-fn name_bytes<'a>(field: &'a [u8]) -> &'a [u8]
+pub(crate) fn name_bytes<'a>(field: &'a [u8]) -> &'a [u8]
     ensures { result.now ≡ before_nul field.now }
 {
     let end = field.find_byte(0).unwrap_or(field.len());

@@ -8,7 +8,7 @@ ghost use Rattle.link_vlan_can.specs.Hsr.{hsr_protocol_names, hsr_protocol_seen,
 ghost use Rattle.link_vlan_can.specs.Hsr.{hsr_table, hsr_means};
 
 use link_base::content::Content;
-use link_base::quantity::KindLabel;
+use link_base::label::{KindLabel, Name};
 use link_base::{
     Attribute, DecodeError, DecodeFault, DefaultNla, Meaning, Named, NamedNumber, Nla, NlaBuffer,
     Parseable, Place, TryClone,
@@ -45,6 +45,10 @@ impl NamedNumber for HsrProtocol {
     ghost names = { hsr_protocol_names };
 
     ghost seen = { hsr_protocol_seen };
+
+    fn names() -> &'static [Name] {
+        names!(names())
+    }
 
     ghost cases_hold = { (refl, (refl, tt)) };
 
@@ -174,20 +178,12 @@ impl Attribute for InfoHsr {
     }
 
     #[inline(always)]
-    fn borrow<'a>(buffer: &NlaBuffer<'a>) -> Content<'a> {
-        rows!(borrow(buffer))
+    fn borrow<'a>(list: Option<u16>, buffer: &NlaBuffer<'a>) -> Content<'a> {
+        rows!(borrow(list, buffer))
     }
 
-    fn borrow_element<'a>(list: u16, element: &NlaBuffer<'a>) -> Content<'a> {
-        rows!(borrow_element(list, element))
-    }
-
-    fn kind_label(kind: u16) -> Option<KindLabel> {
-        rows!(label(kind))
-    }
-
-    fn element_label(list: u16, kind: u16) -> Option<KindLabel> {
-        rows!(element_label(list, kind))
+    fn label(list: Option<u16>, kind: u16) -> Option<KindLabel> {
+        rows!(label(list, kind))
     }
 
     fn canonical(buffer: &NlaBuffer<'_>) -> bool {

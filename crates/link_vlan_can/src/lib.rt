@@ -4,6 +4,7 @@
 mod can;
 mod can_flags;
 mod can_limits;
+mod can_limits_seen;
 mod can_modes;
 mod can_records;
 mod can_tdc;
@@ -16,6 +17,7 @@ mod vlan_flags;
 pub use can::InfoCan;
 pub use can_flags::CanCtrlModeFlags;
 pub use can_limits::CanBitTimingConst;
+pub use can_limits_seen::CanBitTimingLimits;
 pub use can_modes::CanCtrlModeExt;
 pub use can_records::{CanBerrCounter, CanBitTiming, CanClock, CanCtrlMode};
 pub use can_tdc::CanTdc;

@@ -2,6 +2,7 @@
 
 use bitflags::{Flag, Flags};
 use link_base::flag_laws::{FlagSet, KnownBits};
+use link_base::label::Name;
 
 /// Flags of a VLAN device (`VLAN_FLAG_*`, `include/uapi/linux/if_vlan.h`). Unnamed bits are kept.
 #[derive(Clone, Copy, Debug, PartialEq, Eq, Hash)]
@@ -25,10 +26,21 @@ impl VlanFlags {
     pub const BridgeBinding: VlanFlags = VlanFlags(0x10);
 }
 
+/// The flags (`include/uapi/linux/if_vlan.h`), the set's constants for them, and their names without `VLAN_FLAG_`.
+macro_rules! flags {
+    ($call:ident($($argument:tt)*)) => {
+        link_base::by_flags! { $call($($argument)*)
+            VLAN_FLAG_REORDER_HDR = 0x1, ReorderHdr, "REORDER_HDR";
+            VLAN_FLAG_GVRP = 0x2, Gvrp, "GVRP";
+            VLAN_FLAG_LOOSE_BINDING = 0x4, LooseBinding, "LOOSE_BINDING";
+            VLAN_FLAG_MVRP = 0x8, Mvrp, "MVRP";
+            VLAN_FLAG_BRIDGE_BINDING = 0x10, BridgeBinding, "BRIDGE_BINDING";
+        }
+    };
+}
+
 /// The named flags, and an unnamed one with all bits, so that every bit is known.
-const FLAGS: [Flag<VlanFlags>; 6] = link_base::named_flags!(VlanFlags(u32::MAX):
-    ReorderHdr, Gvrp, LooseBinding, Mvrp, BridgeBinding
-);
+const FLAGS: [Flag<VlanFlags>; 6] = flags!(flags(VlanFlags, u32::MAX));
 
 impl Flags for VlanFlags {
     type Bits = u32;
@@ -58,6 +70,13 @@ impl Flags for VlanFlags {
 impl FlagSet for VlanFlags {
     ghost use Rattle.std.specs.Prelude.{refl};
     ghost use Rattle.link_base.specs.Equality.{wrapped, numbers};
+    ghost use Rattle.link_vlan_can.specs.VlanFlags.{vlan_bit_names};
+
+    ghost bit_names = { vlan_bit_names };
+
+    fn names() -> &'static [Name] {
+        flags!(names())
+    }
 
     ghost is_exact = { tt };
 

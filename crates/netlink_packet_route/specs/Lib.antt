@@ -7,6 +7,7 @@ pub mod Views
 pub use Rattle.link_base.specs.Number
 pub use Rattle.link_base.specs.Frame
 pub use Rattle.link_base.specs.Class
+pub use Rattle.link_base.specs.Payloads
 pub use Rattle.link_base.specs.Wire
 pub use Rattle.link_base.specs.Table
 pub use Rattle.link_base.specs.Held

@@ -2,9 +2,9 @@
 
 ghost use Rattle.std.specs.Prelude.{◌≡◌, IfOk};
 ghost use Rattle.link_base.specs.Frame.{kind_of};
-ghost use Rattle.link_base.specs.Table.{Gives, class_at, label_at};
+ghost use Rattle.link_base.specs.Table.{Gives, class_at, form_at, label_at};
 ghost use Rattle.link_base.specs.Buffer.{kind_field_of, payload_of};
-ghost use Rattle.link_base.specs.Borrowed.{HasValue, Borrows, elements_at};
+ghost use Rattle.link_base.specs.Borrowed.{HasValue, Borrows, form_of, table_within};
 ghost use Rattle.link_base.specs.Checked.{Checks};
 ghost use Rattle.link_base.specs.Labels.{label_in};
 ghost use Rattle.link_base.specs.Viewed.{kind_in, payload_in, set_in, set_of, all_set_of, ViewsList, ViewsElements, IsAllOf};
@@ -16,7 +16,7 @@ use crate::counting::count_values;
 use crate::family::Family;
 use link_base::attribute_set::{AttributeSet, CheckedSet};
 use link_base::content::Content;
-use link_base::quantity::KindLabel;
+use link_base::label::KindLabel;
 use link_base::view::{Value, View};
 use link_base::view_all::ViewAll;
 use link_base::{Attribute, DecodeFault, ListFault, NlaBuffer};
@@ -42,11 +42,11 @@ impl AttributeSet for FamilySet {
 
     #[inline(always)]
     fn borrow<'a>(&self, buffer: &NlaBuffer<'a>) -> Content<'a> {
-        by_family!(self.family, borrow_as(buffer))
+        by_family!(self.family, borrow_as(None, buffer))
     }
 
     fn label(&self, kind: u16) -> Option<KindLabel> {
-        by_family!(self.family, label_as(kind))
+        by_family!(self.family, label_as(None, kind))
     }
 }
 
@@ -61,11 +61,11 @@ impl AttributeSet for FamilyElements {
 
     #[inline(always)]
     fn borrow<'a>(&self, buffer: &NlaBuffer<'a>) -> Content<'a> {
-        by_family!(self.family, borrow_element_as(self.list, buffer))
+        by_family!(self.family, borrow_as(Some(self.list), buffer))
     }
 
     fn label(&self, kind: u16) -> Option<KindLabel> {
-        by_family!(self.family, element_label_as(self.list, kind))
+        by_family!(self.family, label_as(Some(self.list), kind))
     }
 }
 
@@ -104,20 +104,13 @@ pub fn view_elements<'a>(value: &Value<'a, FamilySet>) -> Option<View<'a, Family
 }
 
 #[inline(always)]
-fn borrow_as<'a, F: Attribute>(buffer: &NlaBuffer<'a>) -> Content<'a>
-    requires { HasValue F.table (kind_field_of buffer.now) (payload_of buffer.now) }
-    ensures { Borrows (class_at F.table (kind_of (kind_field_of buffer.now))) (payload_of buffer.now) result }
+fn borrow_as<'a, F: Attribute>(list: Option<u16>, buffer: &NlaBuffer<'a>) -> Content<'a>
+    requires { HasValue (table_within F.table list) (kind_field_of buffer.now) (payload_of buffer.now) }
+    ensures content { Borrows (class_at (table_within F.table list) (kind_of (kind_field_of buffer.now)))
+        (payload_of buffer.now) result }
+    ensures form { form_of result ≡ form_at (table_within F.table list) (kind_of (kind_field_of buffer.now)) }
 {
-    F::borrow(buffer)
-}
-
-#[inline(always)]
-fn borrow_element_as<'a, F: Attribute>(list: u16, element: &NlaBuffer<'a>) -> Content<'a>
-    requires { HasValue (elements_at F.table list) (kind_field_of element.now) (payload_of element.now) }
-    ensures { Borrows (class_at (elements_at F.table list) (kind_of (kind_field_of element.now)))
-        (payload_of element.now) result }
-{
-    F::borrow_element(list, element)
+    F::borrow(list, buffer)
 }
 
 #[inline(always)]
@@ -128,15 +121,8 @@ fn check_as<F: Attribute>(buffer: &NlaBuffer<'_>) -> Result<(), DecodeFault>
 }
 
 #[inline(always)]
-fn label_as<F: Attribute>(kind: u16) -> Option<KindLabel>
-    ensures { label_in result ≡ label_at F.table kind }
+fn label_as<F: Attribute>(list: Option<u16>, kind: u16) -> Option<KindLabel>
+    ensures { label_in result ≡ label_at (table_within F.table list) kind }
 {
-    F::kind_label(kind)
-}
-
-#[inline(always)]
-fn element_label_as<F: Attribute>(list: u16, kind: u16) -> Option<KindLabel>
-    ensures { label_in result ≡ label_at (elements_at F.table list) kind }
-{
-    F::element_label(list, kind)
+    F::label(list, kind)
 }

@@ -3,8 +3,9 @@
 
 pub use link_base::attribute_set::{AttributeSet, CheckedSet, ElementSet, Set};
 pub use link_base::content::Content;
-pub use link_base::quantity::{KindLabel, Quantity};
+pub use link_base::label::{Form, KindLabel, Name, Quantity};
 pub use link_base::view::{Value, View};
 pub use link_base::view_all::ViewAll;
 pub use link_base::view_laws;
 pub use link_base::viewing::{view_all, view_list};
+pub use link_vlan_can::CanBitTimingLimits;

@@ -70,6 +70,7 @@ fn on_family(alloc: Global, call: &str, family: Family, bytes: &[u8]) -> Result<
         "view_list" => said(alloc, &calls::view_list(alloc, family, bytes)),
         "view_all" => said(alloc, &calls::view_all(alloc, family, bytes)),
         "find" => find(alloc, family, bytes),
+        "known" => said(alloc, &calls::known(alloc, family, bytes)),
         "report" => {
             let text = hex::encode(alloc, bytes)?;
             let answer = said(alloc, &calls::report(alloc, family, text.as_bytes()))?;

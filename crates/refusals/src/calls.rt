@@ -17,15 +17,15 @@ ghost use Rattle.netlink_packet_route.specs.Report.{Reports};
 ghost use Rattle.netlink_packet_route.specs.Rewrite.{RewriteAnswers, RewriteStreamingAnswers, RewriteToSliceAnswers};
 ghost use Rattle.netlink_packet_route.specs.Rewrite.{UnlessWritten};
 ghost use Rattle.netlink_packet_route.specs.Rewritten.{NeedsMemory};
-ghost use Rattle.netlink_packet_route.specs.Table.{Gives, TakesMemory};
+ghost use Rattle.netlink_packet_route.specs.Table.{Decodes, Gives, TakesMemory};
 ghost use Rattle.netlink_packet_route.specs.Viewed.{bytes_in, seen, last_of};
 ghost use Rattle.netlink_packet_route.specs.Wire.{FirstFault};
 ghost use Rattle.netlink_packet_route.specs.FrameOffsets.{Finds};
 ghost use Rattle.netlink_packet_route.specs.FrameTableParts.{walked_bytes, offsets_of, fault_of};
 
 use netlink_packet_route::link::{
-    Attribute, CanBitTimingConst, DecodeError, FrameTable, ListError, ListFault, NlaBuffer,
-    TryClone, VecAfSpecBridge, VecLinkProtoInfoBridge, WriteError,
+    Attribute, CanBitTiming, CanBitTimingConst, DecodeError, FrameTable, ListError, ListFault,
+    NlaBuffer, TryClone, VecAfSpecBridge, VecLinkProtoInfoBridge, WriteError,
 };
 use netlink_packet_route::views::{Content, Value, View};
 use netlink_packet_route::{Family, FamilySet, RewriteError, link, view_elements};
@@ -196,6 +196,40 @@ pub(crate) fn find<'a>(
     };
     mark(alloc);
     answer
+}
+
+/// Calls `view_list`, and looks up what is known of each attribute. Returns the number of labels, of names, of numbers,
+/// and of bit timings.
+pub(crate) fn known(alloc: Global, family: Family, bytes: &[u8]) -> Result<[usize; 4], ListFault>
+    ensures { MatchResult result
+        (λ known. Decodes (table_of family) bytes.now)
+        (λ e. FirstFault (Gives (table_of family)) bytes.now e.at e.fault) }
+{
+    mark(alloc);
+    let answer = match netlink_packet_route::view_list(family, bytes) {
+        Ok(view) => Ok(counted(view)),
+        Err(fault) => Err(fault),
+    };
+    mark(alloc);
+    answer
+}
+
+fn counted(view: View<'_, FamilySet>) -> [usize; 4] {
+    let [mut labels, mut names, mut numbers, mut timings] = [0usize; 4];
+    for value in view {
+        if let Some(label) = value.label() {
+            labels = labels.wrapping_add(1);
+            names = names.wrapping_add(usize::from(label.name_of(1).is_some()));
+        }
+        let is_number = value.as_u8().is_some()
+            || value.as_u16().is_some()
+            || value.as_u32().is_some()
+            || value.as_u64().is_some();
+        numbers = numbers.wrapping_add(usize::from(is_number));
+        let timing: Option<CanBitTiming> = value.as_struct();
+        timings = timings.wrapping_add(usize::from(timing.is_some()));
+    }
+    [labels, names, numbers, timings]
 }
 
 /// Calls `view_all`, which returns every attribute of a list, with its value or its error. Returns the type or the

@@ -1,8 +1,14 @@
 //! Tests views: the attributes of a list, with their names, quantities and contents, and the errors among them.
 
 use crate::tests::{bytes, holds};
-use netlink_packet_route::link::{Cause, DecodeFault, InfoBond, InfoVlan, ListFault};
-use netlink_packet_route::views::{self, AttributeSet, Quantity, View};
+use bitflags::Flags;
+use netlink_packet_route::link::{
+    BridgeId, CanBitTiming, CanClock, CanCtrlModeFlags, Cause, DecodeFault, InfoBond, InfoBridge,
+    InfoCan, InfoVlan, ListFault,
+};
+use netlink_packet_route::views::{
+    self, AttributeSet, CanBitTimingLimits, Content, Form, Quantity, View,
+};
 use netlink_packet_route::{Family, view_all, view_elements, view_list};
 use std::alloc::Global;
 use std::process::Abort;
@@ -341,8 +347,8 @@ fn first_and_last(rt: HostRuntime) {
     let view = views::view_list::<InfoBond>(&list).expect(&rt, "two intervals");
     assert_eq!(rt; view.len(), 3usize);
     for (kind, first, last) in [(3, Some(100), Some(200)), (1, None, None), (4, None, None)] {
-        let one = view.first(kind).and_then(|value| value.content().as_u32());
-        let other = view.find(kind).and_then(|value| value.content().as_u32());
+        let one = view.first(kind).and_then(|value| value.as_u32());
+        let other = view.find(kind).and_then(|value| value.as_u32());
         holds(&rt, one == first && other == last, "two intervals");
         let is_there = view.find(kind).is_some() && view.first(kind).is_some();
         holds(&rt, is_there == (kind != 4), "two intervals");
@@ -417,4 +423,252 @@ fn malformed(rt: HostRuntime) {
         (Family::Bond, digits),
         &[Err(address), Ok(3), Err(small)],
     );
+}
+
+/// A list of one attribute, the form of its content, and the name of a number or of a bit; "" if it has none.
+#[derive(Clone, Copy)]
+struct Named<'a> {
+    family: Family,
+    digits: &'a str,
+    form: Form,
+    number: u64,
+    name: &'a str,
+}
+
+/// The names are those of the kernel's headers: `Display` output for enums, the constants without their prefix for bits.
+#[test]
+fn names(rt: HostRuntime) {
+    for row in [
+        Named {
+            family: Family::Bond,
+            digits: "05000100 04000000",
+            form: Form::Enum,
+            number: 0,
+            name: "balance-rr",
+        },
+        Named {
+            family: Family::Bond,
+            digits: "05000100 04000000",
+            form: Form::Enum,
+            number: 4,
+            name: "802.3ad",
+        },
+        Named {
+            family: Family::Bond,
+            digits: "05000100 04000000",
+            form: Form::Enum,
+            number: 6,
+            name: "balance-alb",
+        },
+        Named {
+            family: Family::Bond,
+            digits: "05000100 04000000",
+            form: Form::Enum,
+            number: 200,
+            name: "",
+        },
+        Named {
+            family: Family::Hsr,
+            digits: "05000700 01000000",
+            form: Form::Enum,
+            number: 1,
+            name: "prp",
+        },
+        Named {
+            family: Family::Hsr,
+            digits: "05000700 01000000",
+            form: Form::Enum,
+            number: 200,
+            name: "",
+        },
+        Named {
+            family: Family::BondPort,
+            digits: "05000700 3d000000",
+            form: Form::Flags,
+            number: 1,
+            name: "LACP_ACTIVITY",
+        },
+        Named {
+            family: Family::BondPort,
+            digits: "05000700 3d000000",
+            form: Form::Flags,
+            number: 4,
+            name: "AGGREGATION",
+        },
+        Named {
+            family: Family::BondPort,
+            digits: "05000700 3d000000",
+            form: Form::Flags,
+            number: 128,
+            name: "EXPIRED",
+        },
+        Named {
+            family: Family::BondPort,
+            digits: "05000700 3d000000",
+            form: Form::Flags,
+            number: 3,
+            name: "",
+        },
+        Named {
+            family: Family::BondPort,
+            digits: "06000800 3f010000",
+            form: Form::LowFlags,
+            number: 8,
+            name: "SYNCHRONIZATION",
+        },
+        Named {
+            family: Family::BondPort,
+            digits: "06000800 3f010000",
+            form: Form::LowFlags,
+            number: 64,
+            name: "DEFAULTED",
+        },
+        Named {
+            family: Family::BondPort,
+            digits: "06000800 3f010000",
+            form: Form::LowFlags,
+            number: 256,
+            name: "",
+        },
+        Named {
+            family: Family::Vlan,
+            digits: "0c000200 01000000 1f000000",
+            form: Form::MaskedFlags,
+            number: 1,
+            name: "REORDER_HDR",
+        },
+        Named {
+            family: Family::Vlan,
+            digits: "0c000200 01000000 1f000000",
+            form: Form::MaskedFlags,
+            number: 4,
+            name: "LOOSE_BINDING",
+        },
+        Named {
+            family: Family::Vlan,
+            digits: "0c000200 01000000 1f000000",
+            form: Form::MaskedFlags,
+            number: 16,
+            name: "BRIDGE_BINDING",
+        },
+        Named {
+            family: Family::Vlan,
+            digits: "0c000200 01000000 1f000000",
+            form: Form::MaskedFlags,
+            number: 32,
+            name: "",
+        },
+        Named {
+            family: Family::Bridge,
+            digits: "0a001400 0180c200 00000000",
+            form: Form::Mac,
+            number: 1,
+            name: "",
+        },
+    ] {
+        let list = bytes(&rt, rt.alloc(), row.digits);
+        let mut view = view_list(row.family, &list).expect(&rt, row.digits);
+        let value = view.next().expect(&rt, row.digits);
+        let label = value.label().expect(&rt, row.digits);
+        let is_form = label.form == row.form && value.content().form() == Some(row.form);
+        holds(&rt, is_form, row.digits);
+        let name = label.name_of(row.number).unwrap_or("");
+        holds(&rt, name == row.name, row.digits);
+    }
+    // CAN_CTRLMODE_3_SAMPLES, in a nested list
+    let list = bytes(&rt, rt.alloc(), "0c001180 08000100 04000000");
+    let mut view = views::view_list::<InfoCan>(&list).expect(&rt, "modes");
+    let modes = view.next().expect(&rt, "modes");
+    let mut elements = modes.elements().expect(&rt, "modes");
+    let supported = elements.next().expect(&rt, "modes");
+    let label = supported.label().expect(&rt, "modes");
+    let bits = u64::from(CanCtrlModeFlags::TripleSampling.bits());
+    holds(&rt, label.name_of(bits) == Some("3_SAMPLES"), "modes");
+}
+
+/// Numbers by their width, and structs by their type.
+#[test]
+fn numbers_and_structs(rt: HostRuntime) {
+    let alloc = rt.alloc();
+    // one byte, two, four and eight; then a bridge identifier, with a ninth byte
+    let digits =
+        "05002500 01000000 06000900 08000000 08000100 dc050000 0c001000 64000000 00000000 0d000b00 80000200 00000001 00000000";
+    let list = bytes(&rt, alloc, digits);
+    let view = views::view_list::<InfoBridge>(&list).expect(&rt, digits);
+    let mask = view.find(9).expect(&rt, "mask");
+    holds(
+        &rt,
+        mask.as_u16() == Some(8) && mask.as_u32().is_none(),
+        "mask",
+    );
+    let delay = view.find(1).expect(&rt, "delay");
+    holds(
+        &rt,
+        delay.as_u32() == Some(1500) && delay.as_u64().is_none(),
+        "delay",
+    );
+    let timer = view.find(16).expect(&rt, "timer");
+    holds(
+        &rt,
+        timer.as_u64() == Some(100) && timer.as_u8().is_none(),
+        "timer",
+    );
+    // a boolean is no number
+    let truth = view.find(37).expect(&rt, "boolean");
+    holds(&rt, truth.as_u8().is_none(), "boolean");
+    let id: Option<BridgeId> = view.find(11).and_then(|value| value.as_struct());
+    let id = id.expect(&rt, "identifier");
+    let is_id = id.priority == 0x8000 && id.address == [2, 0, 0, 0, 0, 1];
+    holds(&rt, is_id, "identifier");
+    // a bit timing of 1 to 8, and a clock
+    let digits =
+        "24000100 01000000 02000000 03000000 04000000 05000000 06000000 07000000 08000000 08000300 00127a00";
+    let list = bytes(&rt, alloc, digits);
+    let view = views::view_list::<InfoCan>(&list).expect(&rt, digits);
+    let timing = view.find(1).expect(&rt, "timing");
+    let fields: CanBitTiming = timing.as_struct().expect(&rt, "timing");
+    let are_fields = fields.bitrate == 1
+        && fields.sample_point == 2
+        && fields.tq == 3
+        && fields.prop_seg == 4
+        && fields.phase_seg1 == 5
+        && fields.phase_seg2 == 6
+        && fields.sjw == 7
+        && fields.brp == 8;
+    holds(&rt, are_fields, "timing");
+    // 32 bytes are no clock, and a clock is no bit timing
+    let none: Option<CanClock> = timing.as_struct();
+    holds(&rt, none.is_none(), "timing");
+    let clock = view.find(3).expect(&rt, "clock");
+    let rate: CanClock = clock.as_struct().expect(&rt, "clock");
+    let none: Option<CanBitTiming> = clock.as_struct();
+    holds(&rt, rate.freq == 8_000_000 && none.is_none(), "clock");
+}
+
+/// The limits of a bit timing, whose name is not UTF-8.
+#[test]
+fn limits(rt: HostRuntime) {
+    let digits =
+        "34000200 6dff7800 61000000 00000000 00000000 03000000 10000000 02000000 08000000 04000000 01000000 40000000 05000000";
+    let list = bytes(&rt, rt.alloc(), digits);
+    let mut view = views::view_list::<InfoCan>(&list).expect(&rt, digits);
+    let value = view.next().expect(&rt, digits);
+    let limits = CanBitTimingLimits::from_payload(value.buffer().value()).expect(&rt, digits);
+    let are_limits = limits.name == [0x6d, 0xff, 0x78].as_slice()
+        && limits.tseg1_min == 3
+        && limits.tseg1_max == 16
+        && limits.tseg2_min == 2
+        && limits.tseg2_max == 8
+        && limits.sjw_max == 4
+        && limits.brp_min == 1
+        && limits.brp_max == 64
+        && limits.brp_inc == 5;
+    holds(&rt, are_limits, digits);
+    let name = match value.content() {
+        Content::Limits { name, .. } => name,
+        _ => &[],
+    };
+    holds(&rt, name == limits.name, digits);
+    let short = CanBitTimingLimits::from_payload(&[0; 47]).is_none();
+    holds(&rt, short, "47 bytes");
 }

@@ -5,6 +5,7 @@ ghost use Rattle.link_base.specs.Named.{value_of, number_of, displayed, ReadsTex
 ghost use Rattle.link_base.specs.Equality.{of_cases, thorough_fields};
 ghost use Rattle.link_bond.specs.Names.{all_port_active_names, all_port_active_seen, all_port_active_cases};
 
+use link_base::label::Name;
 use link_base::{DecodeError, NamedNumber};
 use std::fmt;
 use std::str::FromStr;
@@ -39,6 +40,10 @@ impl NamedNumber for BondAllPortActive {
     ghost names = { all_port_active_names };
 
     ghost seen = { all_port_active_seen };
+
+    fn names() -> &'static [Name] {
+        names!(names())
+    }
 
     ghost cases_hold = { (refl, (refl, tt)) };
 

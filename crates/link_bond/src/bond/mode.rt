@@ -5,6 +5,7 @@ ghost use Rattle.link_base.specs.Named.{value_of, number_of, displayed, ReadsTex
 ghost use Rattle.link_base.specs.Equality.{of_cases, thorough_fields};
 ghost use Rattle.link_bond.specs.Names.{mode_names, mode_seen, mode_cases};
 
+use link_base::label::Name;
 use link_base::{DecodeError, NamedNumber};
 use std::fmt;
 use std::str::FromStr;
@@ -53,6 +54,10 @@ impl NamedNumber for BondMode {
     ghost names = { mode_names };
 
     ghost seen = { mode_seen };
+
+    fn names() -> &'static [Name] {
+        names!(names())
+    }
 
     ghost cases_hold = { (refl, (refl, (refl, (refl, (refl, (refl, (refl, tt))))))) };
 

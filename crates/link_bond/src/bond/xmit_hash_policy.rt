@@ -5,6 +5,7 @@ ghost use Rattle.link_base.specs.Named.{value_of, number_of, displayed, ReadsTex
 ghost use Rattle.link_base.specs.Equality.{of_cases, thorough_fields};
 ghost use Rattle.link_bond.specs.Names.{xmit_hash_policy_names, xmit_hash_policy_seen, xmit_hash_policy_cases};
 
+use link_base::label::Name;
 use link_base::{DecodeError, NamedNumber};
 use std::fmt;
 use std::str::FromStr;
@@ -54,6 +55,10 @@ impl NamedNumber for BondXmitHashPolicy {
     ghost names = { xmit_hash_policy_names };
 
     ghost seen = { xmit_hash_policy_seen };
+
+    fn names() -> &'static [Name] {
+        names!(names())
+    }
 
     ghost cases_hold = { (refl, (refl, (refl, (refl, (refl, (refl, tt)))))) };
 

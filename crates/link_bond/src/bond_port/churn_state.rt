@@ -5,6 +5,7 @@ ghost use Rattle.link_base.specs.Named.{value_of, number_of, displayed, ReadsTex
 ghost use Rattle.link_base.specs.Equality.{of_cases, thorough_fields};
 ghost use Rattle.link_bond.specs.Names.{churn_state_names, churn_state_seen, churn_state_cases};
 
+use link_base::label::Name;
 use link_base::{DecodeError, NamedNumber};
 use std::fmt;
 use std::str::FromStr;
@@ -42,6 +43,10 @@ impl NamedNumber for ChurnState {
     ghost names = { churn_state_names };
 
     ghost seen = { churn_state_seen };
+
+    fn names() -> &'static [Name] {
+        names!(names())
+    }
 
     ghost cases_hold = { (refl, (refl, (refl, tt))) };
 

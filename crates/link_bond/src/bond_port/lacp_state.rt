@@ -2,6 +2,7 @@
 
 use bitflags::{Flag, Flags};
 use link_base::flag_laws::{FlagSet, KnownBits};
+use link_base::label::Name;
 
 /// The state of one side of a link in LACP, the actor or the partner (`LACP_STATE_*`,
 /// `include/uapi/linux/if_bonding.h`). Each of the eight bits has a name.
@@ -34,11 +35,24 @@ impl LacpState {
     pub const EXPIRED: LacpState = LacpState(0x80);
 }
 
+/// The flags (`include/uapi/linux/if_bonding.h`), the set's constants for them, and their names without `LACP_STATE_`.
+macro_rules! flags {
+    ($call:ident($($argument:tt)*)) => {
+        link_base::by_flags! { $call($($argument)*)
+            LACP_STATE_LACP_ACTIVITY = 0x1, LACP_ACTIVITY, "LACP_ACTIVITY";
+            LACP_STATE_LACP_TIMEOUT = 0x2, LACP_TIMEOUT, "LACP_TIMEOUT";
+            LACP_STATE_AGGREGATION = 0x4, AGGREGATION, "AGGREGATION";
+            LACP_STATE_SYNCHRONIZATION = 0x8, SYNCHRONIZATION, "SYNCHRONIZATION";
+            LACP_STATE_COLLECTING = 0x10, COLLECTING, "COLLECTING";
+            LACP_STATE_DISTRIBUTING = 0x20, DISTRIBUTING, "DISTRIBUTING";
+            LACP_STATE_DEFAULTED = 0x40, DEFAULTED, "DEFAULTED";
+            LACP_STATE_EXPIRED = 0x80, EXPIRED, "EXPIRED";
+        }
+    };
+}
+
 /// The named flags; together they have every bit.
-const FLAGS: [Flag<LacpState>; 8] = link_base::named_flags!(LacpState:
-    LACP_ACTIVITY, LACP_TIMEOUT, AGGREGATION, SYNCHRONIZATION, COLLECTING, DISTRIBUTING, DEFAULTED,
-    EXPIRED
-);
+const FLAGS: [Flag<LacpState>; 8] = flags!(flags(LacpState));
 
 impl Flags for LacpState {
     type Bits = u8;
@@ -68,6 +82,13 @@ impl Flags for LacpState {
 impl FlagSet for LacpState {
     ghost use Rattle.std.specs.Prelude.{refl};
     ghost use Rattle.link_base.specs.Equality.{wrapped, numbers};
+    ghost use Rattle.link_bond.specs.LacpState.{lacp_bit_names};
+
+    ghost bit_names = { lacp_bit_names };
+
+    fn names() -> &'static [Name] {
+        flags!(names())
+    }
 
     ghost is_exact = { tt };
 

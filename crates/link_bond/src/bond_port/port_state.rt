@@ -5,6 +5,7 @@ ghost use Rattle.link_base.specs.Named.{value_of, number_of, displayed, ReadsTex
 ghost use Rattle.link_base.specs.Equality.{of_cases, thorough_fields};
 ghost use Rattle.link_bond.specs.Names.{port_state_names, port_state_seen, port_state_cases};
 
+use link_base::label::Name;
 use link_base::{DecodeError, NamedNumber};
 use std::fmt;
 use std::str::FromStr;
@@ -38,6 +39,10 @@ impl NamedNumber for BondPortState {
     ghost names = { port_state_names };
 
     ghost seen = { port_state_seen };
+
+    fn names() -> &'static [Name] {
+        names!(names())
+    }
 
     ghost cases_hold = { (refl, (refl, tt)) };
 

@@ -5,6 +5,7 @@ ghost use Rattle.link_base.specs.Equality.{of_cases, thorough_fields};
 ghost use Rattle.link_base.specs.Named.{value_of, number_of, displayed, ReadsText};
 ghost use Rattle.link_bridge.specs.Names.{flag_names, flag_seen, flag_cases};
 
+use link_base::label::Name;
 use link_base::{DecodeError, NamedNumber};
 use std::fmt;
 use std::str::FromStr;
@@ -45,6 +46,10 @@ impl NamedNumber for BridgeFlag {
     ghost names = { flag_names };
 
     ghost seen = { flag_seen };
+
+    fn names() -> &'static [Name] {
+        names!(names())
+    }
 
     ghost cases_hold = { (refl, (refl, tt)) };
 

@@ -6,7 +6,7 @@ ghost use Rattle.link_bridge.specs.TunnelInfo.{tunnel_rows, tunnel_leaf};
 
 use crate::af_spec::vlan_info_flags::BridgeVlanInfoFlags;
 use link_base::content::Content;
-use link_base::quantity::KindLabel;
+use link_base::label::KindLabel;
 use link_base::{
     Attribute, DecodeError, DecodeFault, DefaultNla, FlagBits, Meaning, NestedAttribute, Nla,
     NlaBuffer, Parseable, Place, TryClone,
@@ -84,21 +84,13 @@ impl Attribute for BridgeVlanTunnelInfo {
         rows!(check(buffer))
     }
 
-    #[inline(always)]
-    fn borrow<'a>(buffer: &NlaBuffer<'a>) -> Content<'a> {
-        rows!(borrow(buffer))
+    #[inline]
+    fn borrow<'a>(list: Option<u16>, buffer: &NlaBuffer<'a>) -> Content<'a> {
+        rows!(borrow(list, buffer))
     }
 
-    fn borrow_element<'a>(list: u16, element: &NlaBuffer<'a>) -> Content<'a> {
-        rows!(borrow_element(list, element))
-    }
-
-    fn kind_label(kind: u16) -> Option<KindLabel> {
-        rows!(label(kind))
-    }
-
-    fn element_label(list: u16, kind: u16) -> Option<KindLabel> {
-        rows!(element_label(list, kind))
+    fn label(list: Option<u16>, kind: u16) -> Option<KindLabel> {
+        rows!(label(list, kind))
     }
 
     fn canonical(buffer: &NlaBuffer<'_>) -> bool {

@@ -2,6 +2,7 @@
 
 use bitflags::{Flag, Flags};
 use link_base::flag_laws::{FlagSet, KnownBits};
+use link_base::label::Name;
 
 /// Flags of a VLAN of a bridge or bridge port (`BRIDGE_VLAN_INFO_*`, `include/uapi/linux/if_bridge.h`). Unnamed bits
 /// are kept.
@@ -35,10 +36,23 @@ impl BridgeVlanInfoFlags {
     pub const LENGTH: usize = 2;
 }
 
+/// The flags (`include/uapi/linux/if_bridge.h`), the set's constants for them, and their names without `BRIDGE_VLAN_INFO_`.
+macro_rules! flags {
+    ($call:ident($($argument:tt)*)) => {
+        link_base::by_flags! { $call($($argument)*)
+            BRIDGE_VLAN_INFO_MASTER = 0x1, Controller, "MASTER";
+            BRIDGE_VLAN_INFO_PVID = 0x2, Pvid, "PVID";
+            BRIDGE_VLAN_INFO_UNTAGGED = 0x4, Untagged, "UNTAGGED";
+            BRIDGE_VLAN_INFO_RANGE_BEGIN = 0x8, RangeBegin, "RANGE_BEGIN";
+            BRIDGE_VLAN_INFO_RANGE_END = 0x10, RangeEnd, "RANGE_END";
+            BRIDGE_VLAN_INFO_BRENTRY = 0x20, Brentry, "BRENTRY";
+            BRIDGE_VLAN_INFO_ONLY_OPTS = 0x40, OnlyOpts, "ONLY_OPTS";
+        }
+    };
+}
+
 /// The named flags, and an unnamed one with all bits, so that every bit is known.
-const FLAGS: [Flag<BridgeVlanInfoFlags>; 8] = link_base::named_flags!(BridgeVlanInfoFlags(u16::MAX):
-    Controller, Pvid, Untagged, RangeBegin, RangeEnd, Brentry, OnlyOpts
-);
+const FLAGS: [Flag<BridgeVlanInfoFlags>; 8] = flags!(flags(BridgeVlanInfoFlags, u16::MAX));
 
 impl Flags for BridgeVlanInfoFlags {
     type Bits = u16;
@@ -68,6 +82,13 @@ impl Flags for BridgeVlanInfoFlags {
 impl FlagSet for BridgeVlanInfoFlags {
     ghost use Rattle.std.specs.Prelude.{refl};
     ghost use Rattle.link_base.specs.Equality.{wrapped, numbers};
+    ghost use Rattle.link_bridge.specs.VlanInfo.{vlan_info_bit_names};
+
+    ghost bit_names = { vlan_info_bit_names };
+
+    fn names() -> &'static [Name] {
+        flags!(names())
+    }
 
     ghost is_exact = { tt };
 

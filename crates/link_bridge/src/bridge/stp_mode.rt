@@ -5,6 +5,7 @@ ghost use Rattle.link_base.specs.Equality.{of_cases, thorough_fields};
 ghost use Rattle.link_base.specs.Named.{value_of, number_of, displayed, ReadsText};
 ghost use Rattle.link_bridge.specs.Names.{stp_mode_names, stp_mode_seen, stp_mode_cases};
 
+use link_base::label::Name;
 use link_base::{DecodeError, NamedNumber};
 use std::fmt;
 use std::str::FromStr;
@@ -43,6 +44,10 @@ impl NamedNumber for BridgeStpMode {
     ghost names = { stp_mode_names };
 
     ghost seen = { stp_mode_seen };
+
+    fn names() -> &'static [Name] {
+        names!(names())
+    }
 
     ghost cases_hold = { (refl, (refl, (refl, tt))) };
 

@@ -2,6 +2,7 @@
 
 use bitflags::{Flag, Flags};
 use link_base::flag_laws::{FlagSet, KnownBits};
+use link_base::label::Name;
 
 /// Boolean options of a bridge (`BR_BOOLOPT_*`, `include/uapi/linux/if_bridge.h`). Unnamed bits are kept.
 #[derive(Clone, Copy, Debug, Default, PartialEq, Eq)]
@@ -26,11 +27,24 @@ impl BridgeBooleanOptionFlags {
     pub const FdbLocalVlan0: BridgeBooleanOptionFlags = BridgeBooleanOptionFlags(0x10);
 }
 
+/// The flags (`include/uapi/linux/if_bridge.h`), the set's constants for them, and their names without `BR_BOOLOPT_`.
+macro_rules! flags {
+    ($call:ident($($argument:tt)*)) => {
+        link_base::by_flags! { $call($($argument)*)
+            BR_BOOLOPT_NO_LL_LEARN = 0x1, NoLinkLocalLearn, "NO_LL_LEARN";
+            BR_BOOLOPT_MCAST_VLAN_SNOOPING = 0x2, VlanMulticastSnooping, "MCAST_VLAN_SNOOPING";
+            BR_BOOLOPT_MST_ENABLE = 0x4, MstEnable, "MST_ENABLE";
+            BR_BOOLOPT_MDB_OFFLOAD_FAIL_NOTIFICATION = 0x8, MdbOffloadFailNotif, "MDB_OFFLOAD_FAIL_NOTIFICATION";
+            BR_BOOLOPT_FDB_LOCAL_VLAN_0 = 0x10, FdbLocalVlan0, "FDB_LOCAL_VLAN_0";
+        }
+    };
+}
+
 /// The named flags, and an unnamed one with all bits, so that every bit is known.
-const FLAGS: [Flag<BridgeBooleanOptionFlags>; 6] =
-    link_base::named_flags!(BridgeBooleanOptionFlags(u32::MAX):
-    NoLinkLocalLearn, VlanMulticastSnooping, MstEnable, MdbOffloadFailNotif, FdbLocalVlan0
-);
+const FLAGS: [Flag<BridgeBooleanOptionFlags>; 6] = flags!(flags(
+    BridgeBooleanOptionFlags,
+    u32::MAX
+));
 
 impl Flags for BridgeBooleanOptionFlags {
     type Bits = u32;
@@ -60,6 +74,13 @@ impl Flags for BridgeBooleanOptionFlags {
 impl FlagSet for BridgeBooleanOptionFlags {
     ghost use Rattle.std.specs.Prelude.{refl};
     ghost use Rattle.link_base.specs.Equality.{wrapped, numbers};
+    ghost use Rattle.link_bridge.specs.BooleanOptions.{option_bit_names};
+
+    ghost bit_names = { option_bit_names };
+
+    fn names() -> &'static [Name] {
+        flags!(names())
+    }
 
     ghost is_exact = { tt };
 

@@ -4,4 +4,5 @@ use Rattle.link_base.proofs.named_laws.one_text.Goals as goal
 pub returns : goal.returns
 returns g c =
     let t = g.T.NamedNumber in
-    λ text v w a b. naming.one_text t.names t.well_named text v w a b
+    let laws = g.met.T.NamedNumber in
+    λ text v w a b. naming.one_text t.names laws.well_named text v w a b

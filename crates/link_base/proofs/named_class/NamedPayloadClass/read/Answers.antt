@@ -10,12 +10,13 @@ use Rattle.link_base.proofs.named_class.NamedPayloadClass.read.Goals as goal
 pub returns-in-Ok-clause-answer : goal.returns-in-Ok-clause-answer
 returns-in-Ok-clause-answer g c =
     let t = g.T.NamedNumber in
+    let laws = g.met.T.NamedNumber in
     let w = g.T.Number.Word in
     let listed = numbers_of t.names in
     let d = w.value c.in-Ok.number in
     let p = c.args.payload.now in
     read_named c.args._kind w.WIDTH listed d (number p) (length_cause (Exactly w.WIDTH) (length p)) _
     (sym (ap (read_as w.value) c.in-Ok.is) ∙ c.parse.ensures)
-    (ap (λ v. seen_value w.WIDTH listed (t.seen v)) (g.met.T.NamedNumber.from_number c.in-Ok.number c.from.result c.from.ensures)
-    ∙ ap (seen_value w.WIDTH listed) (seen_back t.names t.seen t.cases_hold t.other_holds d)
+    (ap (λ v. seen_value w.WIDTH listed (t.seen v)) (laws.from_number c.in-Ok.number c.from.result c.from.ensures)
+    ∙ ap (seen_value w.WIDTH listed) (seen_back t.names t.seen laws.cases_hold laws.other_holds d)
     ∙ seen_named w.WIDTH listed d)

@@ -10,5 +10,5 @@ invariant_of-result g c =
     let table = g.S.AttributeSet.rows (set_in c.args.self.now) in
     let b = buffer_in c.args.self.now in
     let list = c.in-List.list in
-    let here = elements_decode table (kind_field_of b) (payload_of b) list c.args.self.now.decodes c.in-List.ensures in
+    let here = elements_decode table (kind_field_of b) (payload_of b) list c.args.self.now.decodes c.in-List.ensures.content in
     record { sound = subst (λ t. HasValues t list.now) (sym c.requires) here }
