@@ -3,13 +3,15 @@ pub mod Rewrite
 pub mod HexText
 pub mod Report
 pub mod Views
--- definitions that the contracts of `link` use
+-- definitions that the contracts of `link` use, and that the tables of other attribute sets need
 pub use Rattle.link_base.specs.Number
 pub use Rattle.link_base.specs.Frame
 pub use Rattle.link_base.specs.Class
 pub use Rattle.link_base.specs.Payloads
 pub use Rattle.link_base.specs.Wire
 pub use Rattle.link_base.specs.Table
+pub use Rattle.link_base.specs.Lift
+pub use Rattle.link_base.specs.Editions
 pub use Rattle.link_base.specs.Held
 pub use Rattle.link_base.specs.WellFormed
 pub use Rattle.link_base.specs.Lawful
@@ -27,6 +29,8 @@ pub use Rattle.link_base.specs.IteratorItems
 pub use Rattle.link_base.specs.FrameOffsets
 pub use Rattle.link_base.specs.FrameTableParts
 pub use Rattle.link_base.specs.Layout
+pub use Rattle.link_base.specs.Name
+pub use Rattle.link_base.specs.IpAddress
 pub use Rattle.link_base.specs.Named
 pub use Rattle.link_base.specs.Protocol
 pub use Rattle.link_base.specs.Texts

@@ -1,11 +1,13 @@
 //! Netlink attributes of network links. This crate selects an attribute set by name ([`Family`]), checks, views and
 //! re-encodes lists, and produces the output of the program `nlroute`. The enums of attributes, and the functions for
-//! single attributes and for lists, are in [`link`]; the types of views are in [`views`].
+//! single attributes and for lists, are in [`link`]; the types of views are in [`views`]. To write an attribute set of
+//! your own, see [`implementing`].
 #![tactic(auto)]
 
 mod counting;
 mod family;
 pub mod hex_text;
+pub mod implementing;
 mod judging;
 pub mod laws;
 pub mod link;

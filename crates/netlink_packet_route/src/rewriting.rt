@@ -41,7 +41,13 @@ pub fn rewrite(alloc: Global, family: Family, bytes: &[u8]) -> Result<Vec<u8>, R
     by_family!(family, rewrite_as(alloc, bytes))
 }
 
-fn rewrite_as<F: Attribute>(alloc: Global, bytes: &[u8]) -> Result<Vec<u8>, RewriteError>
+/// Re-encodes a list of attributes of the type `F`, as [`rewrite`] does for a `Family`. `F` can be the enum of any
+/// attribute set, for example one of your own.
+///
+/// # Errors
+///
+/// As for `rewrite`.
+pub fn rewrite_as<F: Attribute>(alloc: Global, bytes: &[u8]) -> Result<Vec<u8>, RewriteError>
     ensures answer { RewriteAnswers F.table bytes.now result }
     ensures fault { RewriteFaultUnless result (Decodes F.table bytes.now) }
     ensures too_long { TooLongIff result (IsUnfit F.table bytes.now) }

@@ -44,8 +44,14 @@ pub fn rewrite_streaming(
     by_family!(family, rewrite_streaming_as(alloc, bytes, buffer))
 }
 
+/// Re-encodes a list of attributes of the type `F` into `buffer`, as [`rewrite_streaming`] does for a `Family`, and with
+/// the same condition on the length of `buffer`. Returns the number of bytes written.
+///
+/// # Errors
+///
+/// As for `rewrite_streaming`.
 #[inline(always)]
-fn rewrite_streaming_as<F: Attribute>(
+pub fn rewrite_streaming_as<F: Attribute>(
     alloc: Global,
     bytes: &[u8],
     buffer: &mut [u8],

@@ -39,8 +39,14 @@ pub fn rewrite_to_slice(
     by_family!(family, rewrite_to_slice_as(alloc, bytes, buffer))
 }
 
+/// Re-encodes a list of attributes of the type `F` into `buffer`, as [`rewrite_to_slice`] does for a `Family`. Returns
+/// the number of bytes written, or `None` if the buffer is too small.
+///
+/// # Errors
+///
+/// As for `rewrite_to_slice`.
 #[inline(always)]
-fn rewrite_to_slice_as<F: Attribute>(
+pub fn rewrite_to_slice_as<F: Attribute>(
     alloc: Global,
     bytes: &[u8],
     buffer: &mut [u8],

@@ -1,2 +1,4 @@
+pub mod Ipvlan
 pub mod Printing
+pub mod Reading
 pub mod Writing

@@ -5,12 +5,16 @@
 mod building;
 mod changing;
 mod faults;
+mod ipvlan;
 mod normalising;
 mod printing;
 mod reading;
 
 // Look up values in a list.
-pub use reading::{forward_delay, monitoring};
+pub use reading::{forward_delay, last_forward_delay, monitoring};
+
+// Read the lists of an attribute set of your own.
+pub use ipvlan::{InfoIpvlan, ipvlan_mode};
 
 // Find the first error of a list.
 pub use faults::{first_fault, read_front};

@@ -6,10 +6,14 @@ ghost use Rattle.netlink_packet_route.specs.Bond.{bond_table, bond_means};
 ghost use Rattle.netlink_packet_route.specs.Bridge.{bridge_table, bridge_means};
 ghost use Rattle.netlink_packet_route.specs.Frame.{frame_fault};
 ghost use Rattle.netlink_packet_route.specs.Table.{Gives};
-ghost use Rattle.netlink_packet_route.specs.Wire.{Wire};
+ghost use Rattle.netlink_packet_route.specs.Wire.{Wire, FirstFault};
+ghost use Rattle.uses.specs.Reading.{IsLastNumber};
 
-use netlink_packet_route::link::{BondMode, InfoBond, InfoBridge, ListError, read_list};
+use netlink_packet_route::link::{BondMode, InfoBond, InfoBridge, ListError, ListFault, read_list};
+use netlink_packet_route::views::view_list;
 use std::alloc::Global;
+
+const IFLA_BR_FORWARD_DELAY: u16 = 1;
 
 /// Returns the forward delay of a bridge, in clock ticks of 1/100 second, if the list has one.
 ///
@@ -30,6 +34,23 @@ pub fn forward_delay(alloc: Global, bytes: &[u8]) -> Result<Option<u32>, ListErr
         _ => None,
     });
     Ok(delay)
+}
+
+/// Returns the forward delay of a bridge, in clock ticks of 1/100 second, if the list has one. If the forward delay occurs
+/// more than once, this is the last, the one that Linux takes. Does not allocate.
+///
+/// # Errors
+///
+/// The first error in the list, with the byte offset of its attribute.
+pub fn last_forward_delay(bytes: &[u8]) -> Result<Option<u32>, ListFault>
+    ensures delay { IfOk result (IsLastNumber bridge_table bytes.now 1) }
+    ensures fault { IfErr result (λ error. FirstFault (Gives bridge_table) bytes.now error.at error.fault) }
+{
+    let view = view_list::<InfoBridge>(bytes)?;
+    match view.find(IFLA_BR_FORWARD_DELAY) {
+        Some(delay) => Ok(delay.as_u32()),
+        None => Ok(None),
+    }
 }
 
 /// Returns the mode of a bond and its MII monitoring interval in milliseconds, each if the list has it.

@@ -2,10 +2,14 @@
 //! input.
 
 use netlink_packet_route::Family;
-use netlink_packet_route::link::{BondMode, InfoBond, InfoBridge, InfoVlan, VlanProtocol};
+use netlink_packet_route::link::{
+    BondMode, Cause, DecodeFault, InfoBond, InfoBridge, InfoVlan, ListFault, VlanProtocol,
+    read_list, rewrite_as, rewrite_streaming_as, rewrite_to_slice_as,
+};
 use uses::{
-    BufferError, bond_request, bridge_request, canonical, first_fault, forward_delay, monitoring,
-    normalised, print_list, read_front, vlan_request, with_attribute, with_vlan_id, write_into,
+    BufferError, InfoIpvlan, bond_request, bridge_request, canonical, first_fault, forward_delay,
+    ipvlan_mode, last_forward_delay, monitoring, normalised, print_list, read_front, vlan_request,
+    with_attribute, with_vlan_id, write_into,
 };
 
 /// `ip link add bond0 type bond mode 802.3ad miimon 100`
@@ -23,10 +27,26 @@ const BRIDGE: [u8; 24] = [
     8, 0, 1, 0, 0xDC, 5, 0, 0, 5, 0, 7, 0, 1, 0, 0, 0, 8, 0, 5, 0, 1, 0, 0, 0,
 ];
 
+/// The mode `IPVLAN_MODE_L3S` of an ipvlan device (`IFLA_IPVLAN_MODE`), and the flag `IPVLAN_F_PRIVATE`
+/// (`IFLA_IPVLAN_FLAGS`).
+const IPVLAN: [u8; 16] = [6, 0, 1, 0, 2, 0, 0, 0, 6, 0, 2, 0, 1, 0, 0, 0];
+
 #[test]
 fn reading(rt: HostRuntime) {
     let alloc = rt.alloc();
     assert!(rt; matches!(forward_delay(alloc, &BRIDGE), Ok(Some(1500))));
+    assert!(rt; matches!(last_forward_delay(&BRIDGE), Ok(Some(1500))));
+    assert!(rt; matches!(last_forward_delay(&BRIDGE[8..]), Ok(None)));
+    let twice = [8, 0, 1, 0, 0xDC, 5, 0, 0, 8, 0, 1, 0, 0xD0, 7, 0, 0];
+    assert!(rt; matches!(last_forward_delay(&twice), Ok(Some(2000))));
+    let overrun = DecodeFault::Frame(Cause::Overrun { length: 8, left: 7 });
+    assert!(rt;
+        last_forward_delay(&twice[..15]).err()
+            == Some(ListFault {
+                at: 8,
+                fault: overrun
+            })
+    );
     assert!(rt;
         matches!(
             monitoring(alloc, &BOND),
@@ -49,6 +69,52 @@ fn reading(rt: HostRuntime) {
     assert!(rt; print_list::<InfoBond, Vec<u8>>(alloc, &BOND[..14], &mut out).is_ok());
     let printed = b"Mode(Ieee8023Ad)\nfault at 8: overrun 8 6\n".as_slice();
     assert!(rt; out.as_slice() == printed);
+}
+
+#[test]
+fn own_set(rt: HostRuntime) {
+    let alloc = rt.alloc();
+    assert!(rt; matches!(ipvlan_mode(&IPVLAN), Ok(Some(2))));
+    assert!(rt; matches!(ipvlan_mode(&IPVLAN[8..]), Ok(None)));
+    let short = DecodeFault::Value {
+        kind: 2,
+        cause: Cause::WrongLength { want: 2, got: 1 },
+    };
+    let bad = [6, 0, 1, 0, 2, 0, 0, 0, 5, 0, 2, 0, 1];
+    assert!(rt;
+        ipvlan_mode(&bad).err()
+            == Some(ListFault {
+                at: 8,
+                fault: short
+            })
+    );
+    assert!(rt;
+        matches!(
+            read_list(alloc, &IPVLAN),
+            Ok(values) if matches!(values.as_slice(), [InfoIpvlan::Mode(2), InfoIpvlan::Flags(1)])
+        )
+    );
+    // The padding at the end is missing in the first input, and not in the output.
+    let list = &IPVLAN[..14];
+    assert!(rt;
+        matches!(rewrite_as::<InfoIpvlan>(alloc, list), Ok(out) if out.as_slice() == IPVLAN.as_slice())
+    );
+    let mut buffer = [0xFF; 16];
+    assert!(rt;
+        matches!(
+            rewrite_streaming_as::<InfoIpvlan>(alloc, list, &mut buffer),
+            Ok(16)
+        )
+    );
+    assert!(rt; buffer == IPVLAN);
+    buffer = [0xFF; 16];
+    assert!(rt;
+        matches!(
+            rewrite_to_slice_as::<InfoIpvlan>(alloc, list, &mut buffer),
+            Ok(Some(16))
+        )
+    );
+    assert!(rt; buffer == IPVLAN);
 }
 
 #[test]

@@ -1,0 +1,28 @@
+//! What a crate needs to write an attribute set of its own: the traits, the classes of payloads, and the functions that
+//! classes and structs are made of. The calls that read, write, check and view lists are in [`link`](crate::link) and
+//! [`views`](crate::views). They accept every type that implements [`Attribute`].
+//!
+//! The macros `by_rows!`, `by_names!` and `by_flags!` are those of the crate `link_base`. A crate that calls a macro must
+//! depend on the crate that defines it, so list `link_base` in `crates.txt` too.
+
+// The traits of an attribute set, what their methods take and return, and the functions that `by_rows!` calls.
+pub use link_base::content::Content;
+pub use link_base::label::{Form, KindLabel, Name, Quantity};
+pub use link_base::{
+    Attribute, Cause, DecodeError, DecodeFault, DefaultNla, ListError, Meaning, NLA_F_NESTED,
+    NestedAttribute, Nla, NlaBuffer, Parseable, Place, TryClone, keep, rows,
+};
+
+// The classes of payloads, and the traits of enums, sets of flags and structs.
+pub use link_base::flag_laws::{FlagSet, KnownBits};
+pub use link_base::{
+    Address, AddressList, Emitable, FlagBits, Lengths, LowFlagBits, MaskedFlags, Named,
+    NamedNumber, NestedList, OneAddress, PayloadClass, PayloadStruct, Struct, VlanProtocol,
+    flag_laws, named_laws,
+};
+
+// Parse and write the fields of a struct.
+pub use link_base::{
+    check_at_least, check_exactly, check_length, emit_mac, emit_u16, emit_u16_be, emit_u32,
+    emit_u32s, emit_u64, u16_at, u32_at, u32s_at,
+};
