@@ -1,6 +1,7 @@
 #!/usr/bin/env python3
-"""unproved.py [FOLDER]: builds a static library without proofs, to measure code before it is proved. FOLDER is bench/calls, the default, or a static
-library of crates.txt, as crates/nlroute_ffi. The result is bench/out/libNAME.a. Use it for nothing else: nothing shows that it does what it should.
+"""unproved.py [FOLDER [OBJECT]]: builds a static library without proofs, to measure code before it is proved. FOLDER is bench/calls, the default, or a
+static library of crates.txt, as crates/nlroute_ffi. The result is bench/out/libNAME.a. Use it for nothing else: nothing shows that it does what it
+should. With OBJECT, the result is this object file, with the counters of libFuzzer; so tools/fuzz/views/run.sh builds tools/fuzz/views.
 
 `rt lib` builds only what is proved. `rt try --test` compiles what the tests reach without proofs, but with checks. So this runs it on a copy of the
 repository, with a copy of the kit, made of links, whose clang keeps the LLVM module and stops. From the module it removes the checks, the marks of memory
@@ -9,8 +10,8 @@ clang compiles the module as it is said to compile a proved one, at -O3. bench/R
 import glob, os, re, shutil, subprocess, sys, tempfile
 here = os.path.dirname(os.path.abspath(__file__))
 top = os.path.dirname(here)
-# The name of the crate in bench/calls, and its line of crates.txt.
-CALLS, LINE = "bench_calls", "bench_calls staticlib: link_base netlink_packet_route\n"
+# The line of crates.txt of a crate outside crates, such as bench/calls. Its name, bench_calls, is the end of its path.
+LINE = "{} staticlib: link_base netlink_packet_route\n"
 # What LLVM calls the hints on inlining.
 HINTS = {"inline": "inlinehint", "inline(always)": "alwaysinline", "inline(never)": "noinline", "cold": "cold"}
 # A line of a module that only checks: calls of what `rt try` adds, and a write over memory that is not yet written.
@@ -119,16 +120,17 @@ exec '{kit}/toolchain/bin/clang' "$@"
     return open(f"{room}/module.ll")
 
 
-def main(folder=f"{here}/calls"):
+def main(folder=f"{here}/calls", counted=None):
     kit = os.path.dirname(subprocess.run(["rt", "doc"], capture_output=True, text=True, check=True).stdout.strip())
     folder = os.path.abspath(folder)
-    crate = CALLS if folder == f"{here}/calls" else os.path.basename(folder)
+    is_outside = os.path.dirname(folder) != f"{top}/crates"
+    crate = "_".join(folder.split("/")[-2:]) if is_outside else os.path.basename(folder)
     with tempfile.TemporaryDirectory() as room:
         copy = f"{room}/repository"
         shutil.copytree(f"{top}/crates", f"{copy}/crates", ignore=shutil.ignore_patterns("out"))
         shutil.copy(f"{top}/crates.txt", copy)
-        if crate == CALLS:
-            with open(f"{copy}/crates.txt", "a") as it: it.write(LINE)
+        if is_outside:
+            with open(f"{copy}/crates.txt", "a") as it: it.write(LINE.format(crate))
             os.makedirs(f"{copy}/crates/{crate}/src")
             for it in glob.glob(f"{folder}/*.rs"):
                 shutil.copy(it, f"{copy}/crates/{crate}/src/{os.path.basename(it)[:-3]}.rt")
@@ -137,9 +139,12 @@ def main(folder=f"{here}/calls"):
         sources = "".join(open(it).read() for it in glob.glob(f"{folders[crate]}/**/*.rt", recursive=True))
         exports = re.findall(r'#\[unsafe\(no_mangle\)\]\s*pub extern "C" fn (\w+)', sources)
         with open(f"{room}/library.ll", "w") as it: it.writelines(converted(module, crate, exports, hints_of(folders)))
+        def compiled(made, *more):
+            subprocess.run([f"{kit}/toolchain/bin/clang", *FLAGS, *more, "-c", "-x", "ir", f"{room}/library.ll", "-o", made], check=True)
+        if counted: return compiled(counted, "-fsanitize=fuzzer-no-link")
         os.makedirs(f"{here}/out", exist_ok=True)
         made = f"{here}/out/lib{crate}.a"
-        subprocess.run([f"{kit}/toolchain/bin/clang", *FLAGS, "-c", "-x", "ir", f"{room}/library.ll", "-o", f"{room}/library.o"], check=True)
+        compiled(f"{room}/library.o")
         if os.path.exists(made): os.remove(made)
         subprocess.run([f"{kit}/toolchain/bin/llvm-ar", "--format=gnu", "rc", made, f"{room}/library.o"], check=True)
         print(made)

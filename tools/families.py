@@ -51,6 +51,7 @@ COUNTS = [
     ("crates/nlroute_ffi/examples/calls.c", r"\bfamily < (\d+)|\bfound !?= (\d+)|\((\d+), vlan"),
     ("tools/c_refusals.c", r"\bfamily (?:<|==) (\d+)|\bnames\[(\d+)\]"),
     ("tools/fuzz/fuzz.c", r"\bdata\[0\] % (\d+)"),
+    ("tools/fuzz/views/fuzz.c", r"\bdata\[0\] % (\d+)"),
 ]
 HOLDERS = {"InfoKind": "IFLA_INFO_DATA", "PortKind": "IFLA_INFO_SLAVE_DATA"}
 
