@@ -4,10 +4,10 @@ static library of crates.txt, as crates/nlroute_ffi. The result is bench/out/lib
 should. With OBJECT, the result is this object file, with the counters of libFuzzer; so tools/fuzz/views/run.sh builds tools/fuzz/views.
 
 `rt lib` builds only what is proved. `rt try --test` compiles what the tests reach without proofs, but with checks. So this runs it on a copy of the
-repository, with a copy of the kit, made of links, whose clang keeps the LLVM module and stops. From the module it removes the checks, the marks of memory
-that is not yet written, and what is there for the sanitizer. It adds the hints on inlining, which `rt try` leaves out, from the sources. Then the kit's
-clang compiles the module as it is said to compile a proved one, at -O3. bench/README.md has how far the instructions differ from those of `rt lib`."""
-import glob, os, re, shutil, subprocess, sys, tempfile
+repository, with a copy of the kit, made of links, whose clang keeps the LLVM module and stops. From the module it removes the checks and what only they
+use, the marks of memory that is not yet written, and what is there for the sanitizer. It adds the hints on inlining, which `rt try` leaves out, from the
+sources, and the processor that a proved module names. Then the kit's clang compiles the module as it is said to compile a proved one, at -O3. bench/README.md has how far the instructions differ from those of `rt lib`."""
+import collections, glob, os, re, shutil, subprocess, sys, tempfile
 here = os.path.dirname(os.path.abspath(__file__))
 top = os.path.dirname(here)
 # The line of crates.txt of a crate outside crates, such as bench/calls. Its name, bench_calls, is the end of its path.
@@ -16,6 +16,11 @@ LINE = "{} staticlib: link_base netlink_packet_route\n"
 HINTS = {"inline": "inlinehint", "inline(always)": "alwaysinline", "inline(never)": "noinline", "cold": "cold"}
 # A line of a module that only checks: calls of what `rt try` adds, and a write over memory that is not yet written.
 CHECK = re.compile(r'  call void (@"rattle-(llvm-checks::|try::site-)|@llvm\.memset\S+\(ptr %\w+, i8 -86,)')
+# What only the checks that were removed use: two arms without code, stores to a variable that is never read, and results. A proved module has none. LLVM
+# removes them too, but later: until then, they keep variables in memory.
+ARMS = re.compile(r"  br i1 %r\d+, label %(then\.\d+), label %(else\.\d+)\n\n\1: [^\n]*\n  br label %(join\.\d+)\n\n\2: [^\n]*\n  br label %\3\n\n\3: [^\n]*\n")
+STORE = re.compile(r"  store \S+ \S+, ptr (%r\d+),")
+RESULT = re.compile(r"  (%r\d+) = (alloca|ptrtoaddr|getelementptr|load(?! atomic| volatile)|and|or|xor|add|sub|icmp|zext|trunc) ")
 ATTRIBUTES = re.compile(r'sanitize_address|"frame-pointer"="all"|"stack-probe-size"="\d+"')
 FLAGS = "-march=x86-64 -ffunction-sections -fdata-sections --no-default-config -fPIC -O3".split() + [
     word for it in ("no-trap-after-noreturn", "trap-unreachable", "no-x86-call-frame-opt", "disable-machine-licm", "disable-postra-machine-licm",
@@ -91,9 +96,29 @@ def converted(module, crate, exports, found):
             if "@main(" in line: line = line.replace("define ", "define internal ")
             elif not symbol: line = line.replace("define internal ", "define ")
         if line.startswith("attributes #"):
-            line = ATTRIBUTES.sub("", line)
+            line = ATTRIBUTES.sub("", line).replace('"target-cpu"="x86-64"', '"target-cpu"="x86-64-v2"')
             if re.search(r"\{\s*\}", line): line = line.replace("{", "{ nounwind")
         yield line
+
+
+def without_unused(lines):
+    """The text of a module without what only the removed checks use."""
+    text = "".join(lines)
+    for function in re.split(r"(?ms)^(define .*?^}\n)", text):
+        if function.startswith("define "):
+            while True:
+                before, function = function, ARMS.sub("", function)
+                if function == before: break
+            body = function.splitlines(keepends=True)
+            while True:
+                names = collections.Counter(re.findall(r"%r\d+\b", "".join(body)))
+                stores = collections.Counter(it[1] for it in map(STORE.match, body) if it)
+                unread = {it[1] for it in map(RESULT.match, body) if it and it[2] == "alloca" and names[it[1]] == 1 + stores[it[1]]}
+                used = [it for it in body if not ((made := RESULT.match(it)) and names[made[1]] == 1 or (made := STORE.match(it)) and made[1] in unread)]
+                if len(used) == len(body): break
+                body = used
+            function = "".join(body)
+        yield function
 
 
 def module_of(room, kit, folder):
@@ -138,7 +163,7 @@ def main(folder=f"{here}/calls", counted=None):
         folders = {os.path.basename(it): f"{it}/src" for it in [*glob.glob(f"{kit}/rattle/*"), *glob.glob(f"{copy}/crates/*")]}
         sources = "".join(open(it).read() for it in glob.glob(f"{folders[crate]}/**/*.rt", recursive=True))
         exports = re.findall(r'#\[unsafe\(no_mangle\)\]\s*pub extern "C" fn (\w+)', sources)
-        with open(f"{room}/library.ll", "w") as it: it.writelines(converted(module, crate, exports, hints_of(folders)))
+        with open(f"{room}/library.ll", "w") as it: it.writelines(without_unused(converted(module, crate, exports, hints_of(folders))))
         def compiled(made, *more):
             subprocess.run([f"{kit}/toolchain/bin/clang", *FLAGS, *more, "-c", "-x", "ir", f"{room}/library.ll", "-o", made], check=True)
         if counted: return compiled(counted, "-fsanitize=fuzzer-no-link")
