@@ -1,5 +1,6 @@
 #!/usr/bin/env python3
-"""Makes the allocations of calls of the libraries fail, one after another, and those of `nlroute`.
+"""Makes the allocations of calls of the libraries fail, one after another, and those of `nlroute`, and of `nlshow` with
+an argument.
 
 usage: tools/refusals.py
 
@@ -10,7 +11,8 @@ the first allocation and all after it fail, in the next run the second and all a
 these runs returns the error of the call for a failed allocation, and makes no other allocation after the one that
 failed.
 
-`nlroute` runs in the same way for each `report`, from its start, and for the lines that it prints without a report.
+`nlroute` runs in the same way for each `report`, from its start, and for the lines that it prints without a report, as
+`nlshow` does for its usage.
 
 In every run the caller's bytes and values are unchanged. So are buffers, except where a call wrote to them: at the
 front, as much as it returns, or if `rewrite_streaming` fails, at most the length of the list, rounded up to a multiple of
@@ -26,7 +28,7 @@ import sys
 import tempfile
 
 ROOT = os.path.dirname(os.path.dirname(os.path.realpath(__file__)))
-PROGRAMS = {it: f"{ROOT}/crates/{it}/out/{it}" for it in ("refusals", "nlroute")}
+PROGRAMS = {it: f"{ROOT}/crates/{it}/out/{it}" for it in ("refusals", "nlroute", "nlshow")}
 # The size of the block with which `refusals` marks where a call begins and ends.
 MARK = "7654321"
 # How many bytes of what a call returns `refusals` prints.
@@ -43,7 +45,7 @@ WANTING = {
 
 
 def printed(text, status):
-    """A run of `nlroute`, as `refusals` prints what `report` returns."""
+    """A run of a program, as `refusals` prints what `report` returns."""
     said = 'Ok(("' + text.replace("\n", "\\n") + f'", {status}))'
     return f"  {said[:MOST]} and {len(said) - MOST} bytes more" if len(said) > MOST else f"  {said}"
 
@@ -130,7 +132,7 @@ def try_call(refuser, allocations, call, answer):
 
 
 def arguments(words):
-    """How many allocations `nlroute` makes for its arguments, at most four with its own name, as the kit reads them:
+    """How many allocations a program makes for its arguments, at most four with its own name, as the kit reads them:
     one for each, one to see that none follows, and one for each of two lists."""
     return len(words) + 3
 
@@ -150,15 +152,15 @@ def try_nlroute(refuser, allocations, call, answer):
 
 
 def try_lines(refuser):
-    """The lines that `nlroute` prints without a report. It makes no allocation but those for its arguments."""
+    """The lines that the programs print without a report. They make no allocation but those for their arguments."""
     folder = os.open(ROOT, os.O_RDONLY)  # reading from it fails
     for words, given, answer in (
-        ([], b"", printed("usage: nlroute FAMILY\n", 2)),
-        (["tap"], b"", printed("usage: nlroute FAMILY\n", 2)),
-        (["tap", "dsa"], b"", printed("usage: nlroute FAMILY\n", 2)),
-        (["dsa"], folder, printed("read fault\n", 5)),
+        (["nlroute"], b"", printed("usage: nlroute FAMILY\n", 2)),
+        (["nlroute", "tap"], b"", printed("usage: nlroute FAMILY\n", 2)),
+        (["nlroute", "tap", "dsa"], b"", printed("usage: nlroute FAMILY\n", 2)),
+        (["nlroute", "dsa"], folder, printed("read fault\n", 5)),
+        (["nlshow", "dsa"], b"", printed("usage: nlshow\n", 2)),
     ):
-        words = ["nlroute", *words]
         yield " ".join(words), refuser.refuse_each(words, given, answer, NO_MEMORY, arguments(words))
     os.close(folder)
 

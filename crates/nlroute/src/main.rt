@@ -9,12 +9,12 @@ mod running;
 #[cfg(test)]
 mod tests;
 
-use program::{collect_arguments, print_no_memory};
+use program::{collect_arguments, print_no_memory, unbuffered};
 use std::io;
 use std::process::ExitCode;
 
 fn main(rt: HostRuntime) -> ExitCode {
-    let mut writer = io::writer(&rt);
+    let mut writer = unbuffered(rt.alloc(), io::writer(&rt));
     let words = match collect_arguments(&rt) {
         Ok(words) => words,
         Err(_) => return ExitCode::from(print_no_memory(&mut writer)),

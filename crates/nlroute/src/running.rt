@@ -1,7 +1,8 @@
 //! Runs the program on any reader and writer.
 
-ghost use Rattle.std.specs.Prelude.{◌≡◌, ◌<◌, ◌≤◌, ℕ, List, IfOk, IfSome, IfNone, Some};
+ghost use Rattle.std.specs.Prelude.{◌≡◌, ◌<◌, ◌≤◌, ℕ, List, [], IfOk, IfSome, IfNone, Some};
 ghost use Rattle.std.specs.Option.{option_copied};
+ghost use Rattle.std.specs.Io.Buffered.{writer_buffer, writer_contents, writer_inner};
 ghost use Rattle.std.specs.Io.KnownBytes.{Appends};
 ghost use Rattle.netlink_packet_route.specs.declared.family.Family.{Family};
 ghost use Rattle.netlink_packet_route.specs.Family.{family_name, table_of};
@@ -11,14 +12,14 @@ ghost use Rattle.program.specs.Printing.{PrintsOrFails, no_memory_line};
 use netlink_packet_route::{Family, MOST_TEXT, report};
 use program::{print, print_no_memory, print_read_fault};
 use std::alloc::Global;
-use std::io::{Read, Write};
+use std::io::{BufWriter, Read, Write};
 
 /// How many bytes of the input are read at most: one more than `report` accepts.
 const MOST_READ: usize = MOST_TEXT + 1;
 
 /// Reads the input from `reader` and writes its report for the `Family` called `name`. If there is no such `Family`,
 /// writes the usage line and reads nothing. The input ends when a read returns no bytes; at most `MOST_READ` bytes are
-/// read. Returns the exit status:
+/// read. The output is flushed. Returns the exit status:
 ///
 /// - 0 on success;
 /// - 1 if the list is malformed;
@@ -26,21 +27,25 @@ const MOST_READ: usize = MOST_TEXT + 1;
 /// - 3 if a value does not fit;
 /// - 4 if an allocation fails;
 /// - 5 if the reader or the writer fails.
-pub fn run<R: Read, W: Write>(
+pub fn run<R: Read, W: Write + Drop>(
     alloc: Global,
     name: Option<&str>,
     reader: &mut R,
-    writer: &mut W,
+    writer: &mut BufWriter<W>,
 ) -> u8
     ensures report { (family : Family) → option_copied name.entry ≡ Some (family_name family) → result < 4
         → RunsFor (table_of family) (R.remaining reader.old) (R.remaining reader.new)
-        (W.contents writer.old) (W.contents writer.new) result }
+        (writer_contents W.contents writer.old) (W.contents (writer_inner writer.new)) result }
     ensures bounded { (text : List ℕ) × IsRead (R.remaining reader.old) (R.remaining reader.new) text }
     // Without a `Family`, nothing is read.
     ensures unread { IsNoFamily (option_copied name.entry) → reader.new ≡ reader.old }
     ensures usage { IsNoFamily (option_copied name.entry)
-        → PrintsOrFails (W.contents writer.old) (W.contents writer.new) usage_line 2 result }
-    ensures memory { result ≡ 4 → Appends (W.contents writer.old) (W.contents writer.new) no_memory_line }
+        → PrintsOrFails (writer_contents W.contents writer.old)
+        (W.contents (writer_inner writer.new)) usage_line 2 result }
+    ensures memory { result ≡ 4 → Appends (writer_contents W.contents writer.old)
+        (W.contents (writer_inner writer.new)) no_memory_line }
+    // Nothing is left in the buffer.
+    ensures empty { result < 5 → writer_buffer writer.new ≡ [] }
     ensures known { result ≤ 5 }
 {
     let Some(family) = family_of(name) else {
@@ -90,6 +95,8 @@ fn read_text<R: Read>(alloc: Global, reader: &mut R) -> Result<Vec<u8>, InputErr
 fn family_of(name: Option<&str>) -> Option<Family>
     ensures found { IfSome result (λ family. option_copied name.entry ≡ Some (family_name family)) }
     ensures none { IfNone result (IsNoFamily (option_copied name.entry)) }
+    ensures only { IfSome result (λ family. (other : Family)
+        → option_copied name.entry ≡ Some (family_name other) → other ≡ family) }
 {
     match name {
         Some(name) => Family::from_name(name),

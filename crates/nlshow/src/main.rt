@@ -21,7 +21,7 @@ mod showing;
 mod tests;
 mod verdicts;
 
-use program::{collect_arguments, print, print_no_memory};
+use program::{collect_arguments, print, print_no_memory, unbuffered};
 use std::alloc::AllocError;
 use std::io;
 use std::io::BufWriter;
@@ -29,7 +29,7 @@ use std::process::ExitCode;
 use std::rt::Env;
 
 fn main(rt: HostRuntime) -> ExitCode {
-    let mut plain = io::writer(&rt);
+    let mut plain = unbuffered(rt.alloc(), io::writer(&rt));
     let status = match is_called_alone(&rt) {
         Ok(true) => match BufWriter::new(rt.alloc(), io::writer(&rt)) {
             Ok(mut writer) => running::run(rt.alloc(), &mut rt.reader(), &mut writer),

@@ -1,6 +1,7 @@
 //! Runs the program on any reader and writer.
 
 ghost use Rattle.std.specs.Prelude.{◌≡◌, ◌⊎◌, ◌<◌, ◌++◌, [], IfOk, MatchOption};
+ghost use Rattle.std.specs.Io.Buffered.{writer_buffer, writer_contents, writer_inner};
 ghost use Rattle.std.specs.Io.KnownBytes.{Keeps};
 ghost use Rattle.netlink_packet_route.specs.Report.{line};
 ghost use Rattle.nlshow.specs.Show.{IsUnbroken};
@@ -10,9 +11,9 @@ ghost use Rattle.program.specs.Printing.{no_memory_line};
 
 use crate::held::Held;
 use crate::showing::show;
-use program::{print_no_memory, print_read_fault};
+use program::{finish, print_no_memory, print_read_fault};
 use std::alloc::{AllocError, Global};
-use std::io::{Read, Write};
+use std::io::{BufWriter, Read, Write};
 
 /// The maximum number of bytes of one read.
 const CHUNK: usize = 65_536;
@@ -25,22 +26,25 @@ pub(crate) enum Stop {
     Writer,
 }
 
-/// Reads lines up to the end of `reader` and writes the output for each. Returns the exit status:
+/// Reads lines up to the end of `reader`, writes the output for each and flushes it. Returns the exit status:
 ///
 /// - 0 if no line has an error: all lists and messages decode, and all lists after `check` are canonical;
 /// - 1 if a line has an error;
 /// - 4 if an allocation fails;
 /// - 5 if the reader or the writer fails.
-pub fn run<R: Read, W: Write>(alloc: Global, reader: &mut R, writer: &mut W) -> u8
+pub fn run<R: Read, W: Write + Drop>(alloc: Global, reader: &mut R, writer: &mut BufWriter<W>) -> u8
     ensures report { result < 2 → RunsFor (R.remaining reader.old) (R.remaining reader.new)
-        (W.contents writer.old) (W.contents writer.new) result }
+        (writer_contents W.contents writer.old) (W.contents (writer_inner writer.new)) result }
     // The line `no memory` is the last of the output.
-    ensures memory { result ≡ 4 → EndsWith (W.contents writer.old) (W.contents writer.new) no_memory_line }
+    ensures memory { result ≡ 4 → EndsWith (writer_contents W.contents writer.old)
+        (W.contents (writer_inner writer.new)) no_memory_line }
+    // Nothing is left in the buffer.
+    ensures empty { result < 5 → writer_buffer writer.new ≡ [] }
     ensures known { (result < 2) ⊎ ((result ≡ 4) ⊎ (result ≡ 5)) }
 {
     match show_all(alloc, reader, writer) {
-        Ok(true) => 0,
-        Ok(false) => 1,
+        Ok(true) => finish(writer, 0),
+        Ok(false) => finish(writer, 1),
         Err(Stop::Memory) => print_no_memory(writer),
         Err(Stop::Reader) => print_read_fault(writer),
         Err(Stop::Writer) => 5,
@@ -147,12 +151,8 @@ fn end_text<W: Write>(alloc: Global, held: &Held, whole: bool, writer: &mut W) -
     if text.is_empty() {
         return Ok(whole);
     }
-    let read = match show(alloc, text, writer) {
-        Ok(read) => read,
-        Err(stop) => return Err(stop),
-    };
-    match writer.flush() {
-        Ok(()) => Ok(whole & read),
-        Err(_) => Err(Stop::Writer),
+    match show(alloc, text, writer) {
+        Ok(read) => Ok(whole & read),
+        Err(stop) => Err(stop),
     }
 }

@@ -8,7 +8,7 @@ mod walks;
 use crate::running::run;
 use std::alloc::Global;
 use std::io;
-use std::io::{Read, Write};
+use std::io::{BufWriter, Read, Write};
 use std::process::Abort;
 
 const SHOWN: &str = "dsa 0800 0100 2a00 0000\n  Conduit(42)\n";
@@ -79,20 +79,25 @@ impl Write for Broken {
     }
 }
 
+/// Puts a buffer before `writer`.
+fn buffered<W: Write + Drop>(rt: &impl Abort, alloc: Global, writer: W) -> BufWriter<W> {
+    BufWriter::new(alloc, writer).expect(rt, "a buffer")
+}
+
 /// Asserts the output and the exit status for `text`, read in one piece and byte by byte.
 fn shows(rt: &impl Abort, alloc: Global, text: &[u8], shown: &[u8], status: u8) {
     let mut rest = text;
-    let mut written = Vec::new(alloc);
+    let mut written = buffered(rt, alloc, Vec::new(alloc));
     let answer = run(alloc, &mut rest, &mut written);
-    assert!(rt; answer == status && written.as_slice() == shown);
+    assert!(rt; answer == status && written.get_ref().as_slice() == shown);
     let mut trickle = Trickle {
         rest: text,
         most: 1,
         is_broken: false,
     };
-    let mut written = Vec::new(alloc);
+    let mut written = buffered(rt, alloc, Vec::new(alloc));
     let answer = run(alloc, &mut trickle, &mut written);
-    assert!(rt; answer == status && written.as_slice() == shown);
+    assert!(rt; answer == status && written.get_ref().as_slice() == shown);
 }
 
 #[test]
@@ -137,14 +142,16 @@ fn readers_and_writers_that_fail(rt: HostRuntime) {
             most: 1,
             is_broken: true,
         };
-        let mut written = Vec::new(rt.alloc());
+        let mut written = buffered(&rt, rt.alloc(), Vec::new(rt.alloc()));
         let status = run(rt.alloc(), &mut reader, &mut written);
-        assert!(&rt; status == 5 && written.as_slice() == shown.as_bytes());
+        assert!(&rt; status == 5 && written.get_ref().as_slice() == shown.as_bytes());
     }
-    for takes in [false, true] {
-        let mut text = b"dsa\n".as_slice();
-        let status = run(rt.alloc(), &mut text, &mut Broken { takes });
-        assert_eq!(&rt; status, 5);
+    for text in ["", "# dsa", "dsa", "dsa\n"] {
+        for takes in [false, true] {
+            let mut writer = buffered(&rt, rt.alloc(), Broken { takes });
+            let status = run(rt.alloc(), &mut text.as_bytes(), &mut writer);
+            assert_eq!(&rt; status, 5);
+        }
     }
 }
 
@@ -168,9 +175,9 @@ fn is_read(rt: &impl Abort, alloc: Global, text: &[u8], lines: &[u8], end: (bool
             most,
             is_broken,
         };
-        let mut written = Vec::new(alloc);
+        let mut written = buffered(rt, alloc, Vec::new(alloc));
         let answer = run(alloc, &mut reader, &mut written);
-        assert!(rt; answer == status && written.as_slice() == lines);
+        assert!(rt; answer == status && written.get_ref().as_slice() == lines);
     }
 }
 
@@ -204,16 +211,18 @@ fn writers_that_fail_anywhere(rt: HostRuntime) {
     }
     for most in [1, 4096] {
         for room in 0..lines.len() + 1 {
-            let mut writer = Narrow {
+            let narrow = Narrow {
                 taken: Vec::new(alloc),
                 most,
                 room,
                 failures: 0,
             };
+            let mut writer = buffered(&rt, alloc, narrow);
             let answer = run(alloc, &mut text.as_slice(), &mut writer);
+            let narrow = writer.get_ref();
             let (wanted, failures) = if room < lines.len() { (5, 1) } else { (1, 0) };
-            assert!(&rt; answer == wanted && writer.failures == failures);
-            assert!(&rt; writer.taken.len() == room && lines.starts_with(&writer.taken));
+            assert!(&rt; answer == wanted && narrow.failures == failures);
+            assert!(&rt; narrow.taken.len() == room && lines.starts_with(&narrow.taken));
         }
     }
 }

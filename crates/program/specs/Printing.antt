@@ -1,10 +1,15 @@
--- What a program prints last.
+-- What a program prints last. `held_before` is what was written before, in the buffer or below it, `held_after` what the
+-- writer below the buffer has at the end.
 use Rattle.std.specs.Prelude.{◌≡◌, ◌⊎◌, ℕ, List, [], ◌∷◌, ◌++◌, codes, Option}
-use Rattle.std.specs.Io.KnownBytes.{Appends}
+use Rattle.std.specs.Io.KnownBytes.{Appends, Keeps}
 
 -- the line that reports that an allocation failed
 abbrev pub no_memory_line : List ℕ
 no_memory_line = codes "no memory" ++ 10 ∷ []
+
+-- the buffer was written, and the result is `status`; or the writer failed
+abbrev pub FlushesOrFails : Option (List ℕ) → Option (List ℕ) → ℕ → ℕ → Type 0
+FlushesOrFails held_before held_after status result = ((result ≡ status) × Keeps held_before held_after) ⊎ (result ≡ 5)
 
 -- the text was written, and the result is `status`; or the writer failed
 abbrev pub PrintsOrFails : Option (List ℕ) → Option (List ℕ) → List ℕ → ℕ → ℕ → Type 0

@@ -5,4 +5,4 @@ mod arguments;
 mod printing;
 
 pub use arguments::collect_arguments;
-pub use printing::{print, print_no_memory, print_read_fault};
+pub use printing::{finish, print, print_no_memory, print_read_fault, unbuffered};

@@ -1,39 +1,56 @@
 //! The last text that a program prints, and its exit status.
 
-ghost use Rattle.std.specs.Prelude.{◌≡◌, OnOk};
-ghost use Rattle.std.specs.Io.KnownBytes.{Appends};
-ghost use Rattle.program.specs.Printing.{PrintsOrFails, no_memory_line};
+ghost use Rattle.std.specs.Prelude.{◌≡◌, ◌≢◌, ◌⊎◌, []};
+ghost use Rattle.std.specs.Io.Buffered.{writer_buffer, writer_contents, writer_inner};
+ghost use Rattle.program.specs.Printing.{PrintsOrFails, FlushesOrFails, no_memory_line};
 
-use std::io;
-use std::io::Write;
+use std::alloc::Global;
+use std::io::{BufWriter, Write};
 
-/// Writes `text` and flushes the writer. Returns `status`, or 5 if the writer fails.
-pub fn print<W: Write>(writer: &mut W, text: &str, status: u8) -> u8
-    ensures { PrintsOrFails (W.contents writer.old) (W.contents writer.new) text.now status result }
+/// Returns a `BufWriter` that passes each write on to `writer`. It does not allocate.
+pub fn unbuffered<W: Write + Drop>(alloc: Global, writer: W) -> BufWriter<W>
+    ensures inner { writer_inner result ≡ writer }
+    ensures empty { writer_buffer result ≡ [] }
 {
-    match write_all_and_flush(writer, text) {
+    BufWriter::with_capacity(alloc, 0, writer).unwrap()
+}
+
+/// Flushes `writer`. Returns `status`, or 5 if the writer fails.
+pub fn finish<W: Write + Drop>(writer: &mut BufWriter<W>, status: u8) -> u8
+    ensures written { FlushesOrFails (writer_contents W.contents writer.old)
+        (W.contents (writer_inner writer.new)) status result }
+    ensures empty { result ≢ 5 → writer_buffer writer.new ≡ [] }
+{
+    match writer.flush() {
         Ok(()) => status,
         Err(_) => 5,
     }
 }
 
+/// Writes `text` and flushes `writer`. Returns `status`, or 5 if the writer fails.
+pub fn print<W: Write + Drop>(writer: &mut BufWriter<W>, text: &str, status: u8) -> u8
+    ensures written { PrintsOrFails (writer_contents W.contents writer.old)
+        (W.contents (writer_inner writer.new)) text.now status result }
+    ensures empty { result ≢ 5 → writer_buffer writer.new ≡ [] }
+{
+    if writer.write_all(text.as_bytes()).is_err() {
+        return 5;
+    }
+    finish(writer, status)
+}
+
 /// Prints that an allocation failed. Returns 4, or 5 if the writer fails.
-pub fn print_no_memory<W: Write>(writer: &mut W) -> u8
-    ensures { PrintsOrFails (W.contents writer.old) (W.contents writer.new) no_memory_line 4 result }
+pub fn print_no_memory<W: Write + Drop>(writer: &mut BufWriter<W>) -> u8
+    ensures written { PrintsOrFails (writer_contents W.contents writer.old)
+        (W.contents (writer_inner writer.new)) no_memory_line 4 result }
+    ensures empty { result ≢ 5 → writer_buffer writer.new ≡ [] }
 {
     print(writer, "no memory\n", 4)
 }
 
 /// Prints that the reader failed. Returns 5, whether the writer fails or not.
-pub fn print_read_fault<W: Write>(writer: &mut W) -> u8
+pub fn print_read_fault<W: Write + Drop>(writer: &mut BufWriter<W>) -> u8
     ensures { result ≡ 5 }
 {
     print(writer, "read fault\n", 5)
-}
-
-fn write_all_and_flush<W: Write>(writer: &mut W, text: &str) -> io::Result<()>
-    ensures { OnOk result (Appends (W.contents writer.old) (W.contents writer.new) text.now) }
-{
-    writer.write_all(text.as_bytes())?;
-    writer.flush()
 }

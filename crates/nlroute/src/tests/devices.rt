@@ -3,7 +3,7 @@
 use crate::running::run;
 use std::alloc::Global;
 use std::io;
-use std::io::{Read, Write};
+use std::io::{BufWriter, Read, Write};
 use std::process::Abort;
 use std::test::Fail;
 
@@ -85,14 +85,35 @@ impl Write for Narrow {
     }
 }
 
+/// Accepts every byte, and fails at each flush.
+#[derive(Drop)]
+struct Stuck {
+    taken: Vec<u8>,
+}
+
+impl Write for Stuck {
+    fn write(&mut self, buf: &[u8]) -> io::Result<usize> {
+        self.taken.write(buf)
+    }
+
+    fn flush(&mut self) -> io::Result<()> {
+        Err(io::Error::from(io::ErrorKind::BrokenPipe))
+    }
+}
+
+/// Puts a buffer before `writer`.
+pub(crate) fn buffered<W: Write + Drop>(rt: &impl Abort, alloc: Global, writer: W) -> BufWriter<W> {
+    BufWriter::new(alloc, writer).expect(rt, "a buffer")
+}
+
 #[test]
 fn slices_and_trickles(rt: HostRuntime) -> Result<(), Fail> {
-    let mut written = Vec::new(rt.alloc());
+    let mut written = buffered(&rt, rt.alloc(), Vec::new(rt.alloc()));
     assert_eq!(rt;
         run(rt.alloc(), Some("dsa"), &mut &TEXT[..], &mut written),
         0
     );
-    assert_eq!(rt; written.as_slice(), LINES);
+    assert_eq!(rt; written.get_ref().as_slice(), LINES);
 
     let mut reader = Trickle {
         rest: TEXT,
@@ -100,9 +121,9 @@ fn slices_and_trickles(rt: HostRuntime) -> Result<(), Fail> {
         is_broken: false,
         reads: 0,
     };
-    let mut written = Vec::new(rt.alloc());
+    let mut written = buffered(&rt, rt.alloc(), Vec::new(rt.alloc()));
     assert_eq!(rt; run(rt.alloc(), Some("dsa"), &mut reader, &mut written), 0);
-    assert_eq!(rt; written.as_slice(), LINES);
+    assert_eq!(rt; written.get_ref().as_slice(), LINES);
     assert_eq!(rt; reader.reads, TEXT.len() + 1);
     Ok(())
 }
@@ -116,9 +137,12 @@ fn names_that_are_no_family(rt: HostRuntime) -> Result<(), Fail> {
             is_broken: true,
             reads: 0,
         };
-        let mut written = Vec::new(rt.alloc());
+        let mut written = buffered(&rt, rt.alloc(), Vec::new(rt.alloc()));
         assert_eq!(rt; run(rt.alloc(), name, &mut reader, &mut written), 2);
-        assert_eq!(rt; written.as_slice(), b"usage: nlroute FAMILY\n".as_slice());
+        assert_eq!(rt;
+            written.get_ref().as_slice(),
+            b"usage: nlroute FAMILY\n".as_slice()
+        );
         assert_eq!(rt; reader.reads, 0);
     }
     Ok(())
@@ -134,9 +158,9 @@ fn readers_that_fail(rt: HostRuntime) -> Result<(), Fail> {
             is_broken: true,
             reads: 0,
         };
-        let mut written = Vec::new(rt.alloc());
+        let mut written = buffered(&rt, rt.alloc(), Vec::new(rt.alloc()));
         assert_eq!(rt; run(rt.alloc(), Some("dsa"), &mut reader, &mut written), 5);
-        assert_eq!(rt; written.as_slice(), b"read fault\n".as_slice());
+        assert_eq!(rt; written.get_ref().as_slice(), b"read fault\n".as_slice());
         assert_eq!(rt; reader.reads, given + 1);
     }
     Ok(())
@@ -163,9 +187,9 @@ fn readers_that_give_little(rt: HostRuntime) -> Result<(), Fail> {
             is_broken: false,
             reads: 0,
         };
-        let mut written = Vec::new(rt.alloc());
+        let mut written = buffered(&rt, rt.alloc(), Vec::new(rt.alloc()));
         let status = run(rt.alloc(), Some("dsa"), &mut reader, &mut written);
-        assert!(rt; status == 0 && written == wanted && reader.reads == reads);
+        assert!(rt; status == 0 && *written.get_ref() == wanted && reader.reads == reads);
     }
     Ok(())
 }
@@ -173,9 +197,12 @@ fn readers_that_give_little(rt: HostRuntime) -> Result<(), Fail> {
 #[test]
 fn a_reader_without_end(rt: HostRuntime) -> Result<(), Fail> {
     let mut reader = Spaces { reads: 0 };
-    let mut written = Vec::new(rt.alloc());
+    let mut written = buffered(&rt, rt.alloc(), Vec::new(rt.alloc()));
     assert_eq!(rt; run(rt.alloc(), Some("dsa"), &mut reader, &mut written), 2);
-    assert_eq!(rt; written.as_slice(), b"input too long\n".as_slice());
+    assert_eq!(rt;
+        written.get_ref().as_slice(),
+        b"input too long\n".as_slice()
+    );
     assert_eq!(rt; reader.reads, 262_145);
     Ok(())
 }
@@ -186,21 +213,23 @@ fn a_reader_without_end(rt: HostRuntime) -> Result<(), Fail> {
 fn is_taken(rt: &impl Abort, alloc: Global, name: Option<&str>, most: usize, whole: (&[u8], u8)) {
     let (lines, status) = whole;
     for room in 0..lines.len() + 1 {
-        let mut writer = Narrow {
+        let narrow = Narrow {
             taken: Vec::new(alloc),
             most,
             room,
             is_mute: most == 7,
             failures: 0,
         };
+        let mut writer = buffered(rt, alloc, narrow);
         let answer = run(alloc, name, &mut &TEXT[..], &mut writer);
+        let narrow = writer.get_ref();
         let (wanted, failures) = if room < lines.len() {
             (5, 1)
         } else {
             (status, 0)
         };
-        assert!(rt; answer == wanted && writer.failures == failures);
-        assert!(rt; writer.taken.len() == room && lines.starts_with(&writer.taken));
+        assert!(rt; answer == wanted && narrow.failures == failures);
+        assert!(rt; narrow.taken.len() == room && lines.starts_with(&narrow.taken));
     }
 }
 
@@ -211,5 +240,16 @@ fn writers_that_fail(rt: HostRuntime) {
         is_taken(&rt, rt.alloc(), Some("dsa"), most, (LINES, 0));
         is_taken(&rt, rt.alloc(), Some("tap"), most, (usage, 2));
         is_taken(&rt, rt.alloc(), None, most, (usage, 2));
+    }
+}
+
+#[test]
+fn a_writer_that_cannot_flush(rt: HostRuntime) {
+    let usage = b"usage: nlroute FAMILY\n".as_slice();
+    for (name, lines) in [(Some("dsa"), LINES), (Some("tap"), usage), (None, usage)] {
+        let taken = Vec::new(rt.alloc());
+        let mut writer = buffered(&rt, rt.alloc(), Stuck { taken });
+        assert_eq!(rt; run(rt.alloc(), name, &mut &TEXT[..], &mut writer), 5);
+        assert_eq!(rt; writer.get_ref().taken.as_slice(), lines);
     }
 }

@@ -1,5 +1,6 @@
 //! Runs the program with the name of each `Family`.
 
+use super::devices::buffered;
 use crate::running::run;
 
 #[test]
@@ -57,21 +58,25 @@ fn each_family_by_its_name(rt: HostRuntime) {
             "attr 45 len 1\nattr 24 len 2\nout 05002d00010000000600180001020000\nchanged\n",
         ),
     ] {
-        let mut written = Vec::new(rt.alloc());
+        let mut written = buffered(&rt, rt.alloc(), Vec::new(rt.alloc()));
         let status = run(rt.alloc(), Some(name), &mut text.as_bytes(), &mut written);
         assert_eq!(rt; status, 0, "for {name}");
-        assert_eq!(rt; written.as_slice(), wanted.as_bytes(), "for {name}");
+        assert_eq!(rt;
+            written.get_ref().as_slice(),
+            wanted.as_bytes(),
+            "for {name}"
+        );
     }
 }
 
 #[test]
 fn a_fault_by_its_status(rt: HostRuntime) {
-    let mut written = Vec::new(rt.alloc());
+    let mut written = buffered(&rt, rt.alloc(), Vec::new(rt.alloc()));
     let mut text = b"05 00 01 00 2a 00 00 00".as_slice();
     let status = run(rt.alloc(), Some("hsr"), &mut text, &mut written);
     assert_eq!(rt; status, 1);
     assert_eq!(rt;
-        written.as_slice(),
+        written.get_ref().as_slice(),
         b"fault at 0: kind 1: wrong length 4 1\n".as_slice()
     );
 }
