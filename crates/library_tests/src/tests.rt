@@ -14,6 +14,7 @@ mod records;
 mod reports;
 mod rewritings;
 mod room;
+mod shows;
 mod surface;
 mod tables;
 mod texts;

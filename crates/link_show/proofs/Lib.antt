@@ -1,0 +1,5 @@
+pub mod Written
+pub mod FlagWords
+pub mod Addresses
+pub mod Arrays
+pub mod ValueTexts

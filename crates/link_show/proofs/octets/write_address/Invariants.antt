@@ -1,0 +1,10 @@
+use Rattle.std.proofs.Common.{map, drop, codes}
+use Rattle.link_show.specs.Text.{after, joined}
+use Rattle.link_show.specs.Octets.{byte_text}
+use Rattle.link_show.proofs.Written.{WritesFront}
+use Rattle.link_show.proofs.octets.write_address.Given as goal
+
+abbrev pub invariant-loop-byte : goal.invariant-loop-byte
+invariant-loop-byte g l =
+    WritesFront (g.W.Write.contents l.fn.writer) (g.W.Write.contents l.writer) (joined (codes ":") (map byte_text l.address))
+    (after l.separator (codes ":") (map byte_text (drop l.byte-index l.address)))

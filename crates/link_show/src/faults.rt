@@ -1,0 +1,134 @@
+//! Errors of lists and of attributes.
+
+ghost use Rattle.std.specs.Prelude.{◌≡◌, option_map, OnOk};
+ghost use Rattle.std.specs.Io.KnownBytes.{Appends};
+ghost use Rattle.link_base.specs.Labels.{label_in};
+ghost use Rattle.link_show.specs.Fault.{byte_word, bytes_text, expected_word, cause_words, kind_text, is_array, payload_fault, fault_text};
+
+use link_base::label::{Form, KindLabel};
+use link_base::{Attribute, Cause, DecodeFault};
+use std::io;
+use std::io::Write;
+
+/// Writes an error of a list of `F`, or of an attribute of `F`, with the kernel's names of attribute types, such as
+/// `IFLA_BR_HELLO_TIME has 3 bytes, expected 4`.
+///
+/// # Errors
+///
+/// That of the writer.
+#[tactic(auto, using(crate::proofs::Written::then_written))]
+pub fn write_fault<F: Attribute, W: Write>(writer: &mut W, fault: DecodeFault) -> io::Result<()>
+    ensures { OnOk result (Appends (W.contents writer.old) (W.contents writer.new) (fault_text F.table fault)) }
+{
+    match fault {
+        DecodeFault::Frame(cause) | DecodeFault::Payload(cause) => write_cause(
+            writer, false, cause,
+        ),
+        DecodeFault::Value { kind, cause } => {
+            write_payload_fault(writer, F::label(None, kind), kind, cause)
+        }
+        DecodeFault::NestedFrame { kind, cause } => {
+            write_kind(writer, F::label(None, kind), kind)?;
+            writer.write_all(b": ")?;
+            write_cause(writer, false, cause)
+        }
+        DecodeFault::NestedValue { kind, inner, cause } => {
+            write_kind(writer, F::label(None, kind), kind)?;
+            writer.write_all(b": ")?;
+            write_payload_fault(writer, F::label(Some(kind), inner), inner, cause)
+        }
+        DecodeFault::Text => writer.write_all(b"unknown text"),
+    }
+}
+
+/// Writes the error of a payload of this attribute type.
+#[tactic(auto, using(crate::proofs::Written::then_written))]
+fn write_payload_fault<W: Write>(
+    writer: &mut W,
+    label: Option<KindLabel>,
+    kind: u16,
+    cause: Cause,
+) -> io::Result<()>
+    ensures { OnOk result (Appends (W.contents writer.old) (W.contents writer.new)
+        (payload_fault (label_in label) kind cause)) }
+{
+    write_kind(writer, label, kind)?;
+    writer.write_all(b" ")?;
+    write_cause(writer, is_array(label), cause)
+}
+
+/// Writes the name of an attribute type, or its number, if it has none.
+fn write_kind<W: Write>(writer: &mut W, label: Option<KindLabel>, kind: u16) -> io::Result<()>
+    ensures { OnOk result (Appends (W.contents writer.old) (W.contents writer.new) (kind_text (label_in label) kind)) }
+{
+    match label {
+        Some(label) => writer.write_all(label.name.as_bytes()),
+        None => write!(writer, "type {kind}"),
+    }
+}
+
+/// Checks whether payloads of an attribute type are arrays of numbers.
+fn is_array(label: Option<KindLabel>) -> bool
+    ensures { result ≡ is_array (label_in label) }
+{
+    match label {
+        Some(label) => label.form == Form::U16s || label.form == Form::U32s,
+        None => false,
+    }
+}
+
+/// Writes why an attribute, or a payload, is malformed.
+#[tactic(auto, using(crate::proofs::Written::then_written))]
+fn write_cause<W: Write>(writer: &mut W, is_array: bool, cause: Cause) -> io::Result<()>
+    ensures { OnOk result (Appends (W.contents writer.old) (W.contents writer.new) (cause_words is_array cause)) }
+{
+    match cause {
+        Cause::ShortFrame { left } => {
+            write_bytes(writer, left, " left, too few for an attribute header")
+        }
+        Cause::SmallLength { length } => write!(writer, "nla_len {length} is below 4"),
+        Cause::Overrun { length, left } => {
+            write!(writer, "nla_len {length} exceeds the ")?;
+            write_bytes(writer, left, " left")
+        }
+        Cause::WrongLength { want, got } => {
+            let expected = expected(is_array);
+            let bytes = bytes_of(got);
+            write!(writer, "has {got}{bytes}{expected}{want}")
+        }
+        Cause::TooShort { want, got } => {
+            let bytes = bytes_of(got);
+            write!(writer, "has {got}{bytes}, expected at least {want}")
+        }
+        Cause::AddressLength { got } => {
+            writer.write_all(b"has ")?;
+            write_bytes(writer, got, ", expected 4 or 16")
+        }
+    }
+}
+
+/// Writes a number of bytes, and `more`.
+fn write_bytes<W: Write>(writer: &mut W, count: usize, more: &str) -> io::Result<()>
+    ensures { OnOk result (Appends (W.contents writer.old) (W.contents writer.new) (bytes_text count more.now)) }
+{
+    let bytes = bytes_of(count);
+    write!(writer, "{count}{bytes}{more}")
+}
+
+/// Returns what follows a number of bytes.
+fn bytes_of(count: usize) -> &'static str
+    ensures { result.now ≡ byte_word count }
+{
+    if count == 1 { " byte" } else { " bytes" }
+}
+
+/// Returns what is before the expected length of a payload.
+fn expected(is_array: bool) -> &'static str
+    ensures { result.now ≡ expected_word is_array }
+{
+    if is_array {
+        ", expected a multiple of "
+    } else {
+        ", expected "
+    }
+}

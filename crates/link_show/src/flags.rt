@@ -1,0 +1,108 @@
+//! Numbers of enums, and sets of flags, by their names.
+
+ghost use Rattle.std.specs.Prelude.{◌≡◌, ◌-◌, ◌*◌, ◌^◌, ◌==◌, OnOk, codes, option_map};
+ghost use Rattle.std.specs.Io.KnownBytes.{Appends};
+ghost use Rattle.link_base.specs.Labels.{names_in, name_in};
+ghost use Rattle.link_show.specs.Text.{joined};
+ghost use Rattle.link_show.specs.Flags.{enum_text, flags_text, flag_words, unnamed};
+
+use crate::octets::write_after;
+use link_base::label::Name;
+use std::io;
+use std::io::Write;
+
+/// Writes the number of an enum: its name and the number, such as `802.3ad (4)`, or the number alone if it has no name.
+///
+/// # Errors
+///
+/// That of the writer.
+#[tactic(auto, unfolding(crate::specs::Flags::enum_text))]
+pub fn write_enum<W: Write>(writer: &mut W, names: &[Name], number: u64) -> io::Result<()>
+    ensures { OnOk result (Appends (W.contents writer.old) (W.contents writer.new)
+        (enum_text (names_in names.now) number)) }
+{
+    match name_of(names, number) {
+        Some(name) => write!(writer, "{name} ({number})"),
+        None => write!(writer, "{number}"),
+    }
+}
+
+/// Writes a set of flags of `width` bytes: the names of the bits that are set, lowest bit first, joined by vertical bars,
+/// then the bits without a name, together in hexadecimal. No bit is `0`, and every bit, if some have no name, is `all`.
+///
+/// # Errors
+///
+/// That of the writer.
+#[tactic(auto, unfolding(crate::specs::Flags::flags_text))]
+pub fn write_flags<W: Write>(
+    writer: &mut W,
+    names: &[Name],
+    width: usize,
+    bits: u64,
+) -> io::Result<()>
+    ensures { OnOk result (Appends (W.contents writer.old) (W.contents writer.new)
+        (flags_text (names_in names.now) width bits)) }
+{
+    let left = without_names(names, bits);
+    if bits == 0 {
+        return writer.write_all(b"0");
+    }
+    if left != 0 && is_full(bits, width) {
+        return writer.write_all(b"all");
+    }
+    write_words(writer, names, bits, left)
+}
+
+/// Returns the name of a number; `None` if it has none.
+fn name_of(names: &[Name], number: u64) -> Option<&'static str>
+    ensures { option_map (λ text. text.now) result ≡ name_in (names_in names.now) number }
+{
+    for name in names {
+        if name.number == number {
+            return Some(name.text);
+        }
+    }
+    None
+}
+
+/// Checks whether every bit of `width` bytes is set.
+fn is_full(bits: u64, width: usize) -> bool
+    ensures { result ≡ (bits == 2 ^ (8 * width) - 1) }
+{
+    match width {
+        0..=7 => bits == (1u64 << (8 * width)) - 1,
+        8 => bits == u64::MAX,
+        _ => false,
+    }
+}
+
+/// Returns the bits that have no name.
+fn without_names(names: &[Name], bits: u64) -> u64
+    ensures { result ≡ unnamed (names_in names.now) bits }
+{
+    let mut left = bits;
+    for name in names {
+        left -= left & name.number;
+    }
+    left
+}
+
+/// Writes the names of the bits that are set, and `left`, the bits that have no name.
+fn write_words<W: Write>(writer: &mut W, names: &[Name], bits: u64, left: u64) -> io::Result<()>
+    requires { left ≡ unnamed (names_in names.now) bits }
+    ensures { OnOk result (Appends (W.contents writer.old) (W.contents writer.new)
+        (joined (codes "|") (flag_words (names_in names.now) bits))) }
+{
+    let mut separator = b"".as_slice();
+    for name in names {
+        if bits & name.number != 0 {
+            write_after(writer, separator, name.text.as_bytes())?;
+            separator = b"|".as_slice();
+        }
+    }
+    if left != 0 {
+        writer.write_all(separator)?;
+        write!(writer, "0x{left:x}")?;
+    }
+    Ok(())
+}

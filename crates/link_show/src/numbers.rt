@@ -1,0 +1,120 @@
+//! Numbers, with what they count.
+
+ghost use Rattle.std.specs.Prelude.{◌≡◌, ◌≤◌, ◌+◌, ◌*◌, length, map, codes, OnOk};
+ghost use Rattle.std.specs.Fmt.{decimal};
+ghost use Rattle.std.specs.Io.KnownBytes.{Appends};
+ghost use Rattle.link_base.specs.declared.label.Quantity.TheVariants.{ClockTicks};
+ghost use Rattle.link_show.specs.Number.{number_text, unit_of, array_text, width_of};
+ghost use Rattle.link_show.specs.Text.{joined};
+ghost use Rattle.link_base.specs.Layout.{number_at, numbers_at, numbers_of};
+
+use link_base::label::Quantity;
+use link_base::{u16_at, u32_at};
+use std::io;
+use std::io::Write;
+
+/// Writes a number with what it counts, such as `100 ms`, `1500 (15.00 s)` or `ifindex 3`.
+///
+/// # Errors
+///
+/// That of the writer.
+pub fn write_number<W: Write>(writer: &mut W, quantity: Quantity, number: u64) -> io::Result<()>
+    ensures { OnOk result (Appends (W.contents writer.old) (W.contents writer.new) (number_text quantity number)) }
+{
+    match quantity {
+        Quantity::ClockTicks => write_ticks(writer, number),
+        Quantity::InterfaceIndex => write!(writer, "ifindex {number}"),
+        Quantity::Mask => write!(writer, "{number} (0x{number:x})"),
+        _ => {
+            let unit = unit_of(quantity);
+            write!(writer, "{number}{unit}")
+        }
+    }
+}
+
+/// Returns what is written after a number that counts this, or after several.
+fn unit_of(quantity: Quantity) -> &'static str
+    ensures { result.now ≡ unit_of quantity }
+{
+    match quantity {
+        Quantity::Milliseconds => " ms",
+        Quantity::Seconds => " s",
+        Quantity::BitsPerSecond => " bit/s",
+        Quantity::Ohms => " ohm",
+        _ => "",
+    }
+}
+
+/// The width of a number.
+#[derive(Clone, Copy)]
+pub(crate) enum Width {
+    /// Two bytes.
+    Two,
+    /// Four bytes.
+    Four,
+}
+
+/// Writes an array of little-endian numbers, with spaces between them, and what they count after the last; `(empty)` if
+/// there is none.
+#[tactic(auto, unfolding(crate::specs::Number::array_text))]
+pub(crate) fn write_array<W: Write>(
+    writer: &mut W,
+    quantity: Quantity,
+    width: Width,
+    bytes: &[u8],
+) -> io::Result<()>
+    ensures { OnOk result (Appends (W.contents writer.old) (W.contents writer.new)
+        (array_text quantity (numbers_of (width_of width) bytes.now))) }
+{
+    let count = match width {
+        Width::Two => bytes.len() / 2,
+        Width::Four => bytes.len() / 4,
+    };
+    if count == 0 {
+        return writer.write_all(b"(empty)");
+    }
+    write_numbers(writer, width, count, bytes)?;
+    writer.write_all(unit_of(quantity).as_bytes())
+}
+
+/// Writes the first `count` numbers of an array, with spaces between them.
+fn write_numbers<W: Write>(
+    writer: &mut W,
+    width: Width,
+    count: usize,
+    bytes: &[u8],
+) -> io::Result<()>
+    requires { count * width_of width ≤ length bytes.now }
+    ensures { OnOk result (Appends (W.contents writer.old) (W.contents writer.new)
+        (joined (codes " ") (map decimal (numbers_at (width_of width) count 0 bytes.now)))) }
+{
+    let mut separator = b"".as_slice();
+    for i in 0..count {
+        let number = number_at(bytes, width, i);
+        writer.write_all(separator)?;
+        write!(writer, "{number}")?;
+        separator = b" ".as_slice();
+    }
+    Ok(())
+}
+
+/// Reads the number at an index of an array.
+fn number_at(bytes: &[u8], width: Width, index: usize) -> u32
+    requires { (index + 1) * width_of width ≤ length bytes.now }
+    ensures { result ≡ number_at (width_of width) (index * width_of width) bytes.now }
+{
+    match width {
+        Width::Two => u16_at(bytes, 2 * index).into(),
+        Width::Four => u32_at(bytes, 4 * index),
+    }
+}
+
+/// Writes clock ticks, which are hundredths of a second, and how many seconds they are.
+fn write_ticks<W: Write>(writer: &mut W, ticks: u64) -> io::Result<()>
+    ensures { OnOk result (Appends (W.contents writer.old) (W.contents writer.new) (number_text ClockTicks ticks)) }
+{
+    let seconds = ticks / 100;
+    let tenths = ticks / 10 % 10;
+    let hundredths = ticks % 10;
+    write!(writer, "{ticks} ({seconds}.{tenths}{hundredths} s)")
+}

@@ -1,0 +1,232 @@
+//! Values, by the form of their content.
+
+ghost use Rattle.std.specs.Prelude.{◌≤◌, ◌∷◌, [], length, codes, None, OnOk};
+ghost use Rattle.std.specs.Io.KnownBytes.{Appends};
+ghost use Rattle.link_show.specs.Flags.{enum_text};
+ghost use Rattle.link_show.specs.Structs.{number_fields};
+ghost use Rattle.link_show.specs.Value.{can_state_names, unsigned_text, struct_of, limit_fields, limits_text};
+ghost use Rattle.link_show.specs.Value.{protocol_text, other_text, content_text, value_text, WritesValue};
+ghost use Rattle.link_base.specs.Labels.{label_of};
+ghost use Rattle.link_base.specs.Buffer.{kind_field_of};
+ghost use Rattle.link_base.specs.Viewed.{set_in, buffer_in, payload_in};
+
+use crate::flags::{write_enum, write_flags};
+use crate::numbers::{Width, write_array, write_number};
+use crate::octets::{write_address, write_hex};
+use crate::quoted::write_quoted;
+use crate::structs::{NumberField, write_masked, write_numbers, write_struct};
+use link_base::attribute_set::AttributeSet;
+use link_base::content::Content;
+use link_base::label::{KindLabel, Name, Quantity};
+use link_base::view::Value;
+use link_base::{VlanProtocol, u32_at};
+use link_bridge::{BridgeBooleanOptions, BridgeId, BridgeVlanInfo};
+use link_vlan_can::{CanBerrCounter, CanBitTiming, CanClock, CanCtrlMode};
+use std::io;
+use std::io::Write;
+
+/// The names of `enum can_state` (`include/uapi/linux/can/netlink.h`), without their prefix.
+const CAN_STATES: [Name; 6] = [
+    Name {
+        number: 0,
+        text: "ERROR-ACTIVE",
+    },
+    Name {
+        number: 1,
+        text: "ERROR-WARNING",
+    },
+    Name {
+        number: 2,
+        text: "ERROR-PASSIVE",
+    },
+    Name {
+        number: 3,
+        text: "BUS-OFF",
+    },
+    Name {
+        number: 4,
+        text: "STOPPED",
+    },
+    Name {
+        number: 5,
+        text: "SLEEPING",
+    },
+];
+
+/// Writes the content of an attribute, without its name. Nothing is written for a content without a value and for lists;
+/// for an attribute whose type has no row, its payload.
+///
+/// # Errors
+///
+/// That of the writer.
+pub fn write_value<S: AttributeSet, W: Write>(
+    writer: &mut W,
+    value: &Value<'_, S>,
+) -> io::Result<()>
+    ensures { OnOk result (WritesValue (S.rows (set_in value.now)) (kind_field_of (buffer_in value.now)) (payload_in value.now)
+        (W.contents writer.old) (W.contents writer.new)) }
+{
+    let content = value.content();
+    match value.label() {
+        Some(label) => write_content(writer, &label, content),
+        None => write_unlabelled(writer, content),
+    }
+}
+
+/// Writes the content of an attribute whose type has no row.
+fn write_unlabelled<W: Write>(writer: &mut W, content: Content<'_>) -> io::Result<()>
+    ensures { OnOk result (Appends (W.contents writer.old) (W.contents writer.new) (value_text None content.entry)) }
+{
+    match content {
+        Content::Other(payload) => write_other(writer, payload),
+        _ => Ok(()),
+    }
+}
+
+/// Writes the content of an attribute, without its name. `label` is that of the attribute type. Nothing is written for a
+/// content without a value and for lists.
+///
+/// # Errors
+///
+/// That of the writer.
+pub fn write_content<W: Write>(
+    writer: &mut W,
+    label: &KindLabel,
+    content: Content<'_>,
+) -> io::Result<()>
+    ensures { OnOk result (Appends (W.contents writer.old) (W.contents writer.new)
+        (content_text (label_of label.now) content.entry)) }
+{
+    match content {
+        Content::Nothing | Content::Addresses { .. } | Content::List(_) => Ok(()),
+        Content::Bool(is_on) => writer.write_all(if is_on {
+            b"on".as_slice()
+        } else {
+            b"off".as_slice()
+        }),
+        Content::Unsigned { number, .. } => write_unsigned(
+            writer,
+            label.name,
+            label.quantity,
+            number,
+        ),
+        Content::Signed(number) => write!(writer, "{number}"),
+        Content::Enum { number, .. } => write_enum(writer, label.names, number),
+        Content::Flags { bits, width } => write_flags(writer, label.names, width, bits),
+        Content::LowFlags(bits) => write_flags(writer, label.names, 1, bits.into()),
+        Content::MaskedFlags { flags, mask } => write_masked(writer, label.names, flags, mask),
+        Content::Pair(from, to) => write_pair(writer, from, to),
+        Content::Protocol(protocol) => write_protocol(writer, protocol),
+        Content::Mac(address) => write_address(writer, &address),
+        Content::Ipv4(address) => write!(writer, "{address}"),
+        Content::Ipv6(address) => write!(writer, "{address}"),
+        Content::Bytes(bytes) => write_address(writer, bytes),
+        Content::Struct(payload) => write_struct_of(writer, label.name, payload),
+        Content::U16s(bytes) => write_array(writer, label.quantity, Width::Two, bytes),
+        Content::U32s(bytes) => write_array(writer, label.quantity, Width::Four, bytes),
+        Content::Limits { name, numbers } => write_limits(writer, name, numbers),
+        Content::Other(payload) => write_other(writer, payload),
+    }
+}
+
+fn write_pair<W: Write>(writer: &mut W, from: u32, to: u32) -> io::Result<()>
+    ensures { OnOk result (Appends (W.contents writer.old) (W.contents writer.new)
+        (number_fields ((codes "from", from) ∷ (codes "to", to) ∷ []))) }
+{
+    write_numbers(writer, &[NumberField("from", from), NumberField("to", to)])
+}
+
+fn write_protocol<W: Write>(writer: &mut W, protocol: VlanProtocol) -> io::Result<()>
+    ensures { OnOk result (Appends (W.contents writer.old) (W.contents writer.new) (protocol_text protocol)) }
+{
+    let number = u16::from(protocol);
+    write!(writer, "{protocol} (0x{number:x})")
+}
+
+/// Writes the limits of a CAN controller.
+#[tactic(auto, using(crate::proofs::Written::then_written))]
+fn write_limits<W: Write>(writer: &mut W, name: &[u8], numbers: &[u8]) -> io::Result<()>
+    ensures { OnOk result (Appends (W.contents writer.old) (W.contents writer.new)
+        (limits_text name.now numbers.now)) }
+{
+    writer.write_all(b"name ")?;
+    write_quoted(writer, name)?;
+    writer.write_all(b" ")?;
+    if numbers.len() < 32 {
+        return write_hex(writer, numbers);
+    }
+    write_limit_numbers(writer, numbers)
+}
+
+fn write_limit_numbers<W: Write>(writer: &mut W, numbers: &[u8]) -> io::Result<()>
+    requires { 32 ≤ length numbers.now }
+    ensures { OnOk result (Appends (W.contents writer.old) (W.contents writer.new)
+        (number_fields (limit_fields numbers.now))) }
+{
+    write_numbers(
+        writer,
+        &[
+            NumberField("tseg1_min", u32_at(numbers, 0)),
+            NumberField("tseg1_max", u32_at(numbers, 4)),
+            NumberField("tseg2_min", u32_at(numbers, 8)),
+            NumberField("tseg2_max", u32_at(numbers, 12)),
+            NumberField("sjw_max", u32_at(numbers, 16)),
+            NumberField("brp_min", u32_at(numbers, 20)),
+            NumberField("brp_max", u32_at(numbers, 24)),
+            NumberField("brp_inc", u32_at(numbers, 28)),
+        ],
+    )
+}
+
+/// Writes the payload of an attribute whose type has no row.
+fn write_other<W: Write>(writer: &mut W, payload: &[u8]) -> io::Result<()>
+    ensures { OnOk result (Appends (W.contents writer.old) (W.contents writer.new) (other_text payload.now)) }
+{
+    if payload.is_empty() {
+        return writer.write_all(b"(empty)");
+    }
+    writer.write_all(b"hex ")?;
+    write_hex(writer, payload)
+}
+
+/// Writes an unsigned number of an attribute type. `IFLA_CAN_STATE` is an enum, though its table has it as a number.
+#[tactic(auto, unfolding(crate::specs::Value::unsigned_text))]
+fn write_unsigned<W: Write>(
+    writer: &mut W,
+    name: &str,
+    quantity: Quantity,
+    number: u64,
+) -> io::Result<()>
+    ensures { OnOk result (Appends (W.contents writer.old) (W.contents writer.new) (unsigned_text name.now quantity number)) }
+{
+    if name == "IFLA_CAN_STATE" {
+        return write_can_state(writer, number);
+    }
+    write_number(writer, quantity, number)
+}
+
+fn write_can_state<W: Write>(writer: &mut W, state: u64) -> io::Result<()>
+    ensures { OnOk result (Appends (W.contents writer.old) (W.contents writer.new) (enum_text can_state_names state)) }
+{
+    write_enum(writer, &CAN_STATES, state)
+}
+
+/// Writes the struct that is the payload of an attribute type, or its bytes, if it is none that is known.
+#[tactic(auto, unfolding(crate::specs::Value::struct_of))]
+fn write_struct_of<W: Write>(writer: &mut W, name: &str, payload: &[u8]) -> io::Result<()>
+    ensures { OnOk result (Appends (W.contents writer.old) (W.contents writer.new) (struct_of name.now payload.now)) }
+{
+    match name {
+        "IFLA_BR_ROOT_ID" | "IFLA_BR_BRIDGE_ID" | "IFLA_BRPORT_ROOT_ID" | "IFLA_BRPORT_BRIDGE_ID" =>
+            { write_struct::<BridgeId, W>(writer, payload) }
+        "IFLA_BRIDGE_VLAN_INFO" => write_struct::<BridgeVlanInfo, W>(writer, payload),
+        "IFLA_BR_MULTI_BOOLOPT" => write_struct::<BridgeBooleanOptions, W>(writer, payload),
+        "IFLA_CAN_BITTIMING" | "IFLA_CAN_DATA_BITTIMING" => write_struct::<CanBitTiming, W>(
+            writer, payload,
+        ),
+        "IFLA_CAN_CLOCK" => write_struct::<CanClock, W>(writer, payload),
+        "IFLA_CAN_CTRLMODE" => write_struct::<CanCtrlMode, W>(writer, payload),
+        "IFLA_CAN_BERR_COUNTER" => write_struct::<CanBerrCounter, W>(writer, payload),
+        _ => write_hex(writer, payload),
+    }
+}
