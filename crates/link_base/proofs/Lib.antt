@@ -35,3 +35,4 @@ pub mod Layouts
 pub mod Views
 pub mod ViewWalks
 pub mod Elements
+pub mod Entries

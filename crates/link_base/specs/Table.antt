@@ -287,6 +287,12 @@ abbrev pub shape_flag : Shape → ℕ
 shape_flag (Nested flagged rows) = nested_flag flagged
 shape_flag shape = 0
 
+-- what a table says of an attribute type, if it has a row: as `label_at`, then its shape and the flag of its shape
+abbrev pub entry_at : Table → ℕ → Option (List ℕ × Quantity × Form × List (ℕ × List ℕ) × Shape × ℕ)
+entry_at [] k = None
+entry_at (r ∷ rows) k = if r.kind == k
+    then Some (codes r.name, r.quantity, r.form, r.names, r.class, shape_flag r.class) else entry_at rows k
+
 -- `nla_type` is the attribute type of the row with the flag of its shape, and the payload is canonical; or no row has
 -- the attribute type
 abbrev pub allows_by : Option Shape → ℕ → List ℕ → Type 0

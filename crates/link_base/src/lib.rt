@@ -45,6 +45,7 @@ pub mod view;
 pub mod view_all;
 pub mod view_laws;
 pub mod viewing;
+mod visitors;
 mod vlan_protocol;
 mod word;
 mod writing;

@@ -1,25 +1,66 @@
-//! One row of an attribute set: what the functions of the set do for one attribute type. The macro `by_rows!` calls
-//! these functions for each row.
+//! The rows of an attribute set: what the functions of the set do for one attribute type. The macro `by_rows!` makes
+//! these functions. Those that depend on the attribute type alone share one `match`, `AttributeRows::visit_row`.
 
-ghost use Rattle.std.specs.Prelude.{◌≡◌, ◌<◌, None, Some, IsTrue, IfOk, OnErr, length};
+ghost use Rattle.std.specs.Prelude.{◌≡◌, ◌<◌, ◌↔◌, ℕ, None, Some, IsTrue, IfOk, OnErr, length};
 ghost use Rattle.link_base.specs.Frame.{kind_of, kind_limit};
-ghost use Rattle.link_base.specs.Table.{Case, Gives, TakesMemory, Fits, class_at, form_at, label_at, written_payload};
-ghost use Rattle.link_base.specs.Labels.{label_in, label_of};
+ghost use Rattle.link_base.specs.Table.{Case, Gives, TakesMemory, Fits, Allows, class_at, form_at, label_at, entry_at};
+ghost use Rattle.link_base.specs.Table.{written_payload};
+ghost use Rattle.link_base.specs.Labels.{label_in};
 ghost use Rattle.link_base.specs.Held.{IsInRange, HoldsMemory};
 ghost use Rattle.link_base.specs.Buffer.{kind_field_of, payload_of};
 ghost use Rattle.link_base.specs.Storing.{Puts};
 ghost use Rattle.link_base.specs.Answers.{OnMemory, under_kind};
 ghost use Rattle.link_base.specs.Checked.{Checks};
-ghost use Rattle.link_base.specs.Borrowed.{HasValue, Borrows, elements_at, form_of};
+ghost use Rattle.link_base.specs.Borrowed.{HasValue, Borrows, form_of, table_within};
 
-use crate::attribute::{Attribute, Meaning};
+use crate::attribute::Meaning;
 use crate::buffer::NlaBuffer;
 use crate::content::Content;
 use crate::fault::{DecodeError, DecodeFault};
 use crate::label::{KindLabel, Quantity};
 use crate::payload_class::PayloadClass;
 use crate::place::{Place, keep};
+use crate::visitors::{Borrow, BorrowElement, Canonical, Check, ElementLabel, Label};
 use std::alloc::{AllocError, Global};
+
+/// What is done for an attribute type, by its row.
+pub trait RowVisitor<F: Meaning>: Sized {
+    /// The result.
+    type Output;
+
+    /// What must hold before the call.
+    ghost asks: { Self → ℕ → Type 0 };
+
+    /// What the result is.
+    ghost answers: { Self → ℕ → Self.Output → Type 0 };
+
+    /// The attribute type has a row. `C` is the class of its payloads, and `flag` the flag in `nla_type` with which they
+    /// are written.
+    fn row<C: PayloadClass>(
+        self,
+        kind: u16,
+        name: &'static str,
+        quantity: Quantity,
+        flag: u16,
+    ) -> Self::Output
+        requires row { entry_at F.table kind ≡ Some (name.now, quantity, C.FORM, C.names, C.shape, flag) }
+        requires asks { asks self kind }
+        ensures { answers self kind result };
+
+    /// The attribute type has no row.
+    fn other(self, kind: u16) -> Self::Output
+        requires row { entry_at F.table kind ≡ None }
+        requires asks { asks self kind }
+        ensures { answers self kind result };
+}
+
+/// The rows of an attribute set.
+pub trait AttributeRows: Meaning + Sized {
+    /// Calls `visitor.row` with the row of an attribute type, or `visitor.other` if no row has the type.
+    fn visit_row<V: RowVisitor<Self>>(kind: u16, visitor: V) -> V::Output
+        requires { V.asks visitor kind }
+        ensures { V.answers visitor kind result };
+}
 
 /// Parses the payload of an attribute whose row has the class `C`, and stores the value's variant in `place`.
 ///
@@ -48,106 +89,49 @@ pub fn read_row<C: PayloadClass, F: Meaning + Drop, P: Place<F>, M: FnOnce(C::Va
     keep(place, C::read(alloc, kind, buffer.value()).map(variant))
 }
 
-/// Checks whether an attribute whose row has the class `C` decodes.
+/// Checks whether an attribute decodes, as `Attribute::check`.
 ///
 /// # Errors
 ///
-/// As for `PayloadClass::check`.
+/// As for `Attribute::check`.
 #[inline(always)]
-pub fn check_row<C: PayloadClass, F: Meaning>(
-    kind: u16,
-    buffer: &NlaBuffer<'_>,
-) -> Result<(), DecodeFault>
-    requires kind { kind_of (kind_field_of buffer.now) ≡ kind }
-    requires row { class_at F.table kind ≡ Some C.shape }
+pub fn check<F: AttributeRows>(buffer: &NlaBuffer<'_>) -> Result<(), DecodeFault>
     ensures { Checks (Gives F.table (kind_field_of buffer.now) (payload_of buffer.now)) result }
 {
-    C::check(kind, buffer.value())
+    F::visit_row(buffer.kind(), Check { buffer })
 }
 
-/// Checks whether an attribute decodes whose type has no row: it does, whatever its payload is.
+/// Returns the content of an attribute, as `Attribute::borrow`.
 #[inline(always)]
-pub fn check_other<F: Meaning>(_buffer: &NlaBuffer<'_>) -> Result<(), DecodeFault>
-    requires { class_at F.table (kind_of (kind_field_of _buffer.now)) ≡ None }
-    ensures { Checks (Gives F.table (kind_field_of _buffer.now) (payload_of _buffer.now)) result }
+pub fn borrow<'a, F: AttributeRows>(list: Option<u16>, buffer: &NlaBuffer<'a>) -> Content<'a>
+    requires { HasValue (table_within F.table list) (kind_field_of buffer.now) (payload_of buffer.now) }
+    ensures content { Borrows (class_at (table_within F.table list) (kind_of (kind_field_of buffer.now)))
+        (payload_of buffer.now) result }
+    ensures form { form_of result ≡ form_at (table_within F.table list) (kind_of (kind_field_of buffer.now)) }
 {
-    Ok(())
-}
-
-/// Returns the content of an attribute whose row has the class `C`. The attribute must decode.
-#[inline(always)]
-pub fn borrow_row<'a, C: PayloadClass, F: Meaning>(kind: u16, buffer: &NlaBuffer<'a>) -> Content<'a>
-    requires kind { kind_of (kind_field_of buffer.now) ≡ kind }
-    requires row { class_at F.table kind ≡ Some C.shape }
-    requires form { form_at F.table kind ≡ Some C.FORM }
-    requires decodes { HasValue F.table (kind_field_of buffer.now) (payload_of buffer.now) }
-    ensures content { Borrows (class_at F.table (kind_of (kind_field_of buffer.now))) (payload_of buffer.now) result }
-    ensures form { form_of result ≡ form_at F.table (kind_of (kind_field_of buffer.now)) }
-{
-    C::borrow(buffer.value())
-}
-
-/// Returns the content of an attribute whose type has no row: its payload.
-#[inline(always)]
-pub fn borrow_other<'a, F: Meaning>(buffer: &NlaBuffer<'a>) -> Content<'a>
-    requires row { class_at F.table (kind_of (kind_field_of buffer.now)) ≡ None }
-    requires form { form_at F.table (kind_of (kind_field_of buffer.now)) ≡ None }
-    ensures content { Borrows (class_at F.table (kind_of (kind_field_of buffer.now))) (payload_of buffer.now) result }
-    ensures form { form_of result ≡ form_at F.table (kind_of (kind_field_of buffer.now)) }
-{
-    Content::Other(buffer.value())
-}
-
-/// Returns the content of an attribute in a payload of the attribute type `list`, whose row has the class `C`. The
-/// attribute must decode.
-#[inline(always)]
-pub fn borrow_element_row<'a, C: PayloadClass, F: Meaning>(
-    list: u16,
-    element: &NlaBuffer<'a>,
-) -> Content<'a>
-    requires row { class_at F.table list ≡ Some C.shape }
-    requires decodes { HasValue (elements_at F.table list) (kind_field_of element.now) (payload_of element.now) }
-    ensures content { Borrows (class_at (elements_at F.table list) (kind_of (kind_field_of element.now)))
-        (payload_of element.now) result }
-    ensures form { form_of result ≡ form_at (elements_at F.table list) (kind_of (kind_field_of element.now)) }
-{
-    C::elements();
-    <C::Element as Attribute>::borrow(None, element)
-}
-
-/// Returns the content of an attribute in a payload of the attribute type `list`, which has no row: its payload.
-#[inline(always)]
-pub fn borrow_element_other<'a, F: Meaning>(list: u16, element: &NlaBuffer<'a>) -> Content<'a>
-    requires { class_at F.table list ≡ None }
-    ensures content { Borrows (class_at (elements_at F.table list) (kind_of (kind_field_of element.now)))
-        (payload_of element.now) result }
-    ensures form { form_of result ≡ form_at (elements_at F.table list) (kind_of (kind_field_of element.now)) }
-{
-    Content::Other(element.value())
-}
-
-/// Returns what is known of an attribute type with this name, whose row has the class `C`.
-#[inline]
-pub fn label_row<C: PayloadClass>(name: &'static str, quantity: Quantity) -> KindLabel
-    ensures { label_of result ≡ (name.now, quantity, C.FORM, C.names) }
-{
-    KindLabel {
-        name,
-        quantity,
-        form: C::FORM,
-        names: C::names(),
+    match list {
+        None => F::visit_row(buffer.kind(), Borrow { buffer }),
+        Some(list) => F::visit_row(list, BorrowElement { element: buffer }),
     }
 }
 
-/// Returns what is known of the attribute type `kind` in a payload of the attribute type `list`, whose row has the class
-/// `C`; `None` if no row has the type.
+/// Returns what is known of an attribute type, as `Attribute::label`.
 #[inline(always)]
-pub fn element_label_row<C: PayloadClass, F: Meaning>(list: u16, kind: u16) -> Option<KindLabel>
-    requires { class_at F.table list ≡ Some C.shape }
-    ensures { label_in result ≡ label_at (elements_at F.table list) kind }
+pub fn label<F: AttributeRows>(list: Option<u16>, kind: u16) -> Option<KindLabel>
+    ensures { label_in result ≡ label_at (table_within F.table list) kind }
 {
-    C::elements();
-    <C::Element as Attribute>::label(None, kind)
+    match list {
+        None => F::visit_row(kind, Label),
+        Some(list) => F::visit_row(list, ElementLabel { kind }),
+    }
+}
+
+/// Checks whether an attribute is canonical, as `Attribute::canonical`.
+#[inline(always)]
+pub fn canonical<F: AttributeRows>(buffer: &NlaBuffer<'_>) -> bool
+    ensures { IsTrue result ↔ Allows F.table (kind_field_of buffer.now) (payload_of buffer.now) }
+{
+    F::visit_row(buffer.kind(), Canonical { buffer })
 }
 
 /// Writes the payload of an attribute, whose row has the class `C`. `value` is what its variant holds.
@@ -204,8 +188,8 @@ pub fn clone_row<C: PayloadClass, F: Meaning + PartialEq, M: FnOnce(C::Value) ->
 /// fields names them, `VARIANT(FIELD, FIELD): CLASS`: the values of the class are tuples, and the fields must be `Copy`.
 /// The row of a variant without a field has no class, `NAME = TYPE, VARIANT;`: it stands for the class `()`.
 ///
-/// The calls are `kind(self)`, `size(self)`, `emit(self, buffer)`, `read(alloc, buffer, place)`, `check(buffer)`,
-/// `borrow(list, buffer)`, `label(list, kind)`, `canonical(buffer)` and `clone(self, alloc)`.
+/// The calls are `kind(self)`, `size(self)`, `emit(self, buffer)`, `read(alloc, buffer, place)`,
+/// `visit(kind, visitor)` and `clone(self, alloc)`.
 #[macro_export]
 macro_rules! by_rows {
     (kind($self:expr) $($name:ident = $kind:literal $(| $flag:ident)?, $variant:ident $(($($field:ident),+))? $(: $class:ty $(as $quantity:ident)?)?;)*) => {
@@ -241,42 +225,12 @@ macro_rules! by_rows {
             ),
         }
     };
-    (check($buffer:expr) $($name:ident = $kind:literal $(| $flag:ident)?, $variant:ident $(($($field:ident),+))? $(: $class:ty $(as $quantity:ident)?)?;)*) => {
-        match $buffer.kind() {
-            $($kind => $crate::rows::check_row::<$crate::row_class!($($class)?), Self>($kind, $buffer),)*
-            _ => $crate::rows::check_other::<Self>($buffer),
-        }
-    };
-    (borrow($list:expr, $buffer:expr) $($name:ident = $kind:literal $(| $flag:ident)?, $variant:ident $(($($field:ident),+))? $(: $class:ty $(as $quantity:ident)?)?;)*) => {
-        match $list {
-            None => match $buffer.kind() {
-                $($kind => $crate::rows::borrow_row::<$crate::row_class!($($class)?), Self>($kind, $buffer),)*
-                _ => $crate::rows::borrow_other::<Self>($buffer),
-            },
-            Some(list) => match list {
-                $($kind => $crate::rows::borrow_element_row::<$crate::row_class!($($class)?), Self>(list, $buffer),)*
-                _ => $crate::rows::borrow_element_other::<Self>(list, $buffer),
-            },
-        }
-    };
-    (canonical($buffer:expr) $($name:ident = $kind:literal $(| $flag:ident)?, $variant:ident $(($($field:ident),+))? $(: $class:ty $(as $quantity:ident)?)?;)*) => {
-        match $buffer.kind() {
-            $($kind => <$crate::row_class!($($class)?) as $crate::PayloadClass>::is_canonical($buffer, 0 $(| $crate::$flag)?),)*
-            _ => true,
-        }
-    };
-    (label($list:expr, $kind:expr) $($name:ident = $number:literal $(| $flag:ident)?, $variant:ident $(($($field:ident),+))? $(: $class:ty $(as $quantity:ident)?)?;)*) => {
-        match $list {
-            None => match $kind {
-                $($number => Some($crate::rows::label_row::<$crate::row_class!($($class)?)>(
-                    stringify!($name), $crate::row_quantity!($($($quantity)?)?),
-                )),)*
-                _ => None,
-            },
-            Some(list) => match list {
-                $($number => $crate::rows::element_label_row::<$crate::row_class!($($class)?), Self>(list, $kind),)*
-                _ => None,
-            },
+    (visit($type:expr, $visitor:expr) $($name:ident = $kind:literal $(| $flag:ident)?, $variant:ident $(($($field:ident),+))? $(: $class:ty $(as $quantity:ident)?)?;)*) => {
+        match $type {
+            $($kind => $visitor.row::<$crate::row_class!($($class)?)>(
+                $type, stringify!($name), $crate::row_quantity!($($($quantity)?)?), 0 $(| $crate::$flag)?,
+            ),)*
+            _ => $visitor.other($type),
         }
     };
     (clone($self:expr, $alloc:expr) $($name:ident = $kind:literal $(| $flag:ident)?, $variant:ident $(($($field:ident),+))? $(: $class:ty $(as $quantity:ident)?)?;)*) => {

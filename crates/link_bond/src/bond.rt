@@ -22,6 +22,7 @@ pub use fail_over_mac::BondFailOverMac;
 pub use lacp_rate::BondLacpRate;
 use link_base::content::Content;
 use link_base::label::KindLabel;
+use link_base::rows::{self, AttributeRows, RowVisitor};
 use link_base::{
     AddressList, Attribute, DecodeError, DecodeFault, DefaultNla, Meaning, Named, NestedList, Nla,
     NlaBuffer, Parseable, Place, TryClone,
@@ -197,6 +198,13 @@ impl Parseable for InfoBond {
     }
 }
 
+impl AttributeRows for InfoBond {
+    #[inline(always)]
+    fn visit_row<V: RowVisitor<Self>>(kind: u16, visitor: V) -> V::Output {
+        rows!(visit(kind, visitor))
+    }
+}
+
 impl Attribute for InfoBond {
     ghost use Rattle.std.specs.Prelude.{refl};
     ghost use Rattle.link_base.proofs.TableLaws.{lawful};
@@ -214,20 +222,20 @@ impl Attribute for InfoBond {
     ghost use Rattle.link_bond.specs.contracts.bond.InfoBond.{enum};
 
     fn check(buffer: &NlaBuffer<'_>) -> Result<(), DecodeFault> {
-        rows!(check(buffer))
+        rows::check::<Self>(buffer)
     }
 
     #[inline(always)]
     fn borrow<'a>(list: Option<u16>, buffer: &NlaBuffer<'a>) -> Content<'a> {
-        rows!(borrow(list, buffer))
+        rows::borrow::<Self>(list, buffer)
     }
 
     fn label(list: Option<u16>, kind: u16) -> Option<KindLabel> {
-        rows!(label(list, kind))
+        rows::label::<Self>(list, kind)
     }
 
     fn canonical(buffer: &NlaBuffer<'_>) -> bool {
-        rows!(canonical(buffer))
+        rows::canonical::<Self>(buffer)
     }
 
     ghost lawful = { lawful bond_table };

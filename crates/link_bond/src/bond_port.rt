@@ -11,6 +11,7 @@ pub use churn_state::ChurnState;
 pub use lacp_state::LacpState;
 use link_base::content::Content;
 use link_base::label::KindLabel;
+use link_base::rows::{self, AttributeRows, RowVisitor};
 use link_base::{
     Attribute, DecodeError, DecodeFault, DefaultNla, FlagBits, LowFlagBits, Meaning, Named, Nla,
     NlaBuffer, Parseable, Place, TryClone,
@@ -111,6 +112,13 @@ impl Parseable for InfoBondPort {
     }
 }
 
+impl AttributeRows for InfoBondPort {
+    #[inline(always)]
+    fn visit_row<V: RowVisitor<Self>>(kind: u16, visitor: V) -> V::Output {
+        rows!(visit(kind, visitor))
+    }
+}
+
 impl Attribute for InfoBondPort {
     ghost use Rattle.std.specs.Prelude.{refl};
     ghost use Rattle.link_base.proofs.TableLaws.{lawful};
@@ -122,20 +130,20 @@ impl Attribute for InfoBondPort {
     ghost use Rattle.link_bond.specs.contracts.bond_port.InfoBondPort.{enum};
 
     fn check(buffer: &NlaBuffer<'_>) -> Result<(), DecodeFault> {
-        rows!(check(buffer))
+        rows::check::<Self>(buffer)
     }
 
     #[inline(always)]
     fn borrow<'a>(list: Option<u16>, buffer: &NlaBuffer<'a>) -> Content<'a> {
-        rows!(borrow(list, buffer))
+        rows::borrow::<Self>(list, buffer)
     }
 
     fn label(list: Option<u16>, kind: u16) -> Option<KindLabel> {
-        rows!(label(list, kind))
+        rows::label::<Self>(list, kind)
     }
 
     fn canonical(buffer: &NlaBuffer<'_>) -> bool {
-        rows!(canonical(buffer))
+        rows::canonical::<Self>(buffer)
     }
 
     ghost lawful = { lawful bond_port_table };

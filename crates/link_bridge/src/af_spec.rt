@@ -15,6 +15,7 @@ mod vlan_info_flags;
 pub use flag::BridgeFlag;
 use link_base::content::Content;
 use link_base::label::KindLabel;
+use link_base::rows::{self, AttributeRows, RowVisitor};
 use link_base::{
     Attribute, DecodeError, DecodeFault, DefaultNla, ListError, Meaning, Named, NestedList, Nla,
     NlaBuffer, Parseable, Place, Struct, TryClone, read_list,
@@ -110,6 +111,13 @@ impl Parseable for AfSpecBridge {
     }
 }
 
+impl AttributeRows for AfSpecBridge {
+    #[inline(always)]
+    fn visit_row<V: RowVisitor<Self>>(kind: u16, visitor: V) -> V::Output {
+        rows!(visit(kind, visitor))
+    }
+}
+
 impl Attribute for AfSpecBridge {
     ghost use Rattle.std.specs.Prelude.{refl};
     ghost use Rattle.link_base.proofs.TableLaws.{lawful};
@@ -121,20 +129,20 @@ impl Attribute for AfSpecBridge {
     ghost use Rattle.link_bridge.specs.contracts.af_spec.AfSpecBridge.{enum};
 
     fn check(buffer: &NlaBuffer<'_>) -> Result<(), DecodeFault> {
-        rows!(check(buffer))
+        rows::check::<Self>(buffer)
     }
 
     #[inline(always)]
     fn borrow<'a>(list: Option<u16>, buffer: &NlaBuffer<'a>) -> Content<'a> {
-        rows!(borrow(list, buffer))
+        rows::borrow::<Self>(list, buffer)
     }
 
     fn label(list: Option<u16>, kind: u16) -> Option<KindLabel> {
-        rows!(label(list, kind))
+        rows::label::<Self>(list, kind)
     }
 
     fn canonical(buffer: &NlaBuffer<'_>) -> bool {
-        rows!(canonical(buffer))
+        rows::canonical::<Self>(buffer)
     }
 
     ghost lawful = { lawful af_spec_table };

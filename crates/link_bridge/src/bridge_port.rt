@@ -5,6 +5,7 @@ mod state;
 use crate::bridge::{BridgeId, BridgeMulticastRouterType};
 use link_base::content::Content;
 use link_base::label::KindLabel;
+use link_base::rows::{self, AttributeRows, RowVisitor};
 use link_base::{
     Attribute, DecodeError, DecodeFault, DefaultNla, Meaning, Named, Nla, NlaBuffer, Parseable,
     Place, Struct, TryClone,
@@ -222,6 +223,13 @@ impl Parseable for InfoBridgePort {
     }
 }
 
+impl AttributeRows for InfoBridgePort {
+    #[inline(always)]
+    fn visit_row<V: RowVisitor<Self>>(kind: u16, visitor: V) -> V::Output {
+        rows!(visit(kind, visitor))
+    }
+}
+
 impl Attribute for InfoBridgePort {
     ghost use Rattle.std.specs.Prelude.{refl};
     ghost use Rattle.link_base.proofs.TableLaws.{lawful};
@@ -233,20 +241,20 @@ impl Attribute for InfoBridgePort {
     ghost use Rattle.link_bridge.specs.contracts.bridge_port.InfoBridgePort.{enum};
 
     fn check(buffer: &NlaBuffer<'_>) -> Result<(), DecodeFault> {
-        rows!(check(buffer))
+        rows::check::<Self>(buffer)
     }
 
     #[inline(always)]
     fn borrow<'a>(list: Option<u16>, buffer: &NlaBuffer<'a>) -> Content<'a> {
-        rows!(borrow(list, buffer))
+        rows::borrow::<Self>(list, buffer)
     }
 
     fn label(list: Option<u16>, kind: u16) -> Option<KindLabel> {
-        rows!(label(list, kind))
+        rows::label::<Self>(list, kind)
     }
 
     fn canonical(buffer: &NlaBuffer<'_>) -> bool {
-        rows!(canonical(buffer))
+        rows::canonical::<Self>(buffer)
     }
 
     ghost lawful = { lawful bridge_port_table };

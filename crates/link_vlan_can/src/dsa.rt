@@ -4,6 +4,7 @@ ghost use Rattle.link_vlan_can.specs.Dsa.{dsa_table, dsa_means};
 
 use link_base::content::Content;
 use link_base::label::KindLabel;
+use link_base::rows::{self, AttributeRows, RowVisitor};
 use link_base::{
     Attribute, DecodeError, DecodeFault, DefaultNla, Meaning, Nla, NlaBuffer, Parseable, Place,
     TryClone,
@@ -65,6 +66,13 @@ impl Parseable for InfoDsa {
     }
 }
 
+impl AttributeRows for InfoDsa {
+    #[inline(always)]
+    fn visit_row<V: RowVisitor<Self>>(kind: u16, visitor: V) -> V::Output {
+        rows!(visit(kind, visitor))
+    }
+}
+
 impl Attribute for InfoDsa {
     ghost use Rattle.std.specs.Prelude.{refl};
     ghost use Rattle.link_base.proofs.TableLaws.{lawful};
@@ -72,20 +80,20 @@ impl Attribute for InfoDsa {
     ghost use Rattle.link_vlan_can.specs.contracts.dsa.InfoDsa.{enum};
 
     fn check(buffer: &NlaBuffer<'_>) -> Result<(), DecodeFault> {
-        rows!(check(buffer))
+        rows::check::<Self>(buffer)
     }
 
     #[inline(always)]
     fn borrow<'a>(list: Option<u16>, buffer: &NlaBuffer<'a>) -> Content<'a> {
-        rows!(borrow(list, buffer))
+        rows::borrow::<Self>(list, buffer)
     }
 
     fn label(list: Option<u16>, kind: u16) -> Option<KindLabel> {
-        rows!(label(list, kind))
+        rows::label::<Self>(list, kind)
     }
 
     fn canonical(buffer: &NlaBuffer<'_>) -> bool {
-        rows!(canonical(buffer))
+        rows::canonical::<Self>(buffer)
     }
 
     ghost lawful = { lawful dsa_table };

@@ -9,6 +9,7 @@ ghost use Rattle.link_vlan_can.specs.Hsr.{hsr_table, hsr_means};
 
 use link_base::content::Content;
 use link_base::label::{KindLabel, Name};
+use link_base::rows::{self, AttributeRows, RowVisitor};
 use link_base::{
     Attribute, DecodeError, DecodeFault, DefaultNla, Meaning, Named, NamedNumber, Nla, NlaBuffer,
     Parseable, Place, TryClone,
@@ -169,25 +170,32 @@ impl Parseable for InfoHsr {
     }
 }
 
+impl AttributeRows for InfoHsr {
+    #[inline(always)]
+    fn visit_row<V: RowVisitor<Self>>(kind: u16, visitor: V) -> V::Output {
+        rows!(visit(kind, visitor))
+    }
+}
+
 impl Attribute for InfoHsr {
     ghost use Rattle.link_vlan_can.specs.contracts.hsr.HsrProtocolNamedNumber.TheImpl.Laws as protocols;
     ghost use Rattle.link_vlan_can.specs.contracts.hsr.InfoHsr.{enum};
 
     fn check(buffer: &NlaBuffer<'_>) -> Result<(), DecodeFault> {
-        rows!(check(buffer))
+        rows::check::<Self>(buffer)
     }
 
     #[inline(always)]
     fn borrow<'a>(list: Option<u16>, buffer: &NlaBuffer<'a>) -> Content<'a> {
-        rows!(borrow(list, buffer))
+        rows::borrow::<Self>(list, buffer)
     }
 
     fn label(list: Option<u16>, kind: u16) -> Option<KindLabel> {
-        rows!(label(list, kind))
+        rows::label::<Self>(list, kind)
     }
 
     fn canonical(buffer: &NlaBuffer<'_>) -> bool {
-        rows!(canonical(buffer))
+        rows::canonical::<Self>(buffer)
     }
 
     ghost lawful = { lawful hsr_table };

@@ -9,6 +9,7 @@ ghost use Rattle.link_vlan_can.specs.Vlan.{mapping_rows, mapping_leaf, vlan_tabl
 use crate::vlan_flags::VlanFlags;
 use link_base::content::Content;
 use link_base::label::KindLabel;
+use link_base::rows::{self, AttributeRows, RowVisitor};
 use link_base::{
     Attribute, DecodeError, DecodeFault, DefaultNla, MaskedFlags, Meaning, NestedAttribute,
     NestedList, Nla, NlaBuffer, Parseable, Place, TryClone, VlanProtocol,
@@ -70,24 +71,31 @@ impl Parseable for VlanQosMapping {
     }
 }
 
+impl AttributeRows for VlanQosMapping {
+    #[inline(always)]
+    fn visit_row<V: RowVisitor<Self>>(kind: u16, visitor: V) -> V::Output {
+        mapping_rows!(visit(kind, visitor))
+    }
+}
+
 impl Attribute for VlanQosMapping {
     ghost use Rattle.link_vlan_can.specs.contracts.vlan.VlanQosMapping.{enum};
 
     fn check(buffer: &NlaBuffer<'_>) -> Result<(), DecodeFault> {
-        mapping_rows!(check(buffer))
+        rows::check::<Self>(buffer)
     }
 
     #[inline]
     fn borrow<'a>(list: Option<u16>, buffer: &NlaBuffer<'a>) -> Content<'a> {
-        mapping_rows!(borrow(list, buffer))
+        rows::borrow::<Self>(list, buffer)
     }
 
     fn label(list: Option<u16>, kind: u16) -> Option<KindLabel> {
-        mapping_rows!(label(list, kind))
+        rows::label::<Self>(list, kind)
     }
 
     fn canonical(buffer: &NlaBuffer<'_>) -> bool {
-        mapping_rows!(canonical(buffer))
+        rows::canonical::<Self>(buffer)
     }
 
     ghost lawful = { lawful (lift_table mapping_rows) };
@@ -176,26 +184,33 @@ impl Parseable for InfoVlan {
     }
 }
 
+impl AttributeRows for InfoVlan {
+    #[inline(always)]
+    fn visit_row<V: RowVisitor<Self>>(kind: u16, visitor: V) -> V::Output {
+        rows!(visit(kind, visitor))
+    }
+}
+
 impl Attribute for InfoVlan {
     ghost use Rattle.link_vlan_can.specs.contracts.vlan.VlanQosMappingAttribute.TheImpl.Laws as mappings;
     ghost use Rattle.link_vlan_can.specs.VlanFlags.{masked};
     ghost use Rattle.link_vlan_can.specs.contracts.vlan.InfoVlan.{enum};
 
     fn check(buffer: &NlaBuffer<'_>) -> Result<(), DecodeFault> {
-        rows!(check(buffer))
+        rows::check::<Self>(buffer)
     }
 
     #[inline(always)]
     fn borrow<'a>(list: Option<u16>, buffer: &NlaBuffer<'a>) -> Content<'a> {
-        rows!(borrow(list, buffer))
+        rows::borrow::<Self>(list, buffer)
     }
 
     fn label(list: Option<u16>, kind: u16) -> Option<KindLabel> {
-        rows!(label(list, kind))
+        rows::label::<Self>(list, kind)
     }
 
     fn canonical(buffer: &NlaBuffer<'_>) -> bool {
-        rows!(canonical(buffer))
+        rows::canonical::<Self>(buffer)
     }
 
     ghost lawful = { lawful vlan_table };

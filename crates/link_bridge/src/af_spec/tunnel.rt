@@ -7,6 +7,7 @@ ghost use Rattle.link_bridge.specs.TunnelInfo.{tunnel_rows, tunnel_leaf};
 use crate::af_spec::vlan_info_flags::BridgeVlanInfoFlags;
 use link_base::content::Content;
 use link_base::label::KindLabel;
+use link_base::rows::{self, AttributeRows, RowVisitor};
 use link_base::{
     Attribute, DecodeError, DecodeFault, DefaultNla, FlagBits, Meaning, NestedAttribute, Nla,
     NlaBuffer, Parseable, Place, TryClone,
@@ -74,6 +75,13 @@ impl Parseable for BridgeVlanTunnelInfo {
     }
 }
 
+impl AttributeRows for BridgeVlanTunnelInfo {
+    #[inline(always)]
+    fn visit_row<V: RowVisitor<Self>>(kind: u16, visitor: V) -> V::Output {
+        rows!(visit(kind, visitor))
+    }
+}
+
 impl Attribute for BridgeVlanTunnelInfo {
     ghost use Rattle.link_base.proofs.TableLaws.{lawful};
     ghost use Rattle.link_base.specs.Equality.{of_cases, thorough_fields};
@@ -81,20 +89,20 @@ impl Attribute for BridgeVlanTunnelInfo {
     ghost use Rattle.link_bridge.specs.contracts.af_spec.tunnel.BridgeVlanTunnelInfo.{enum};
 
     fn check(buffer: &NlaBuffer<'_>) -> Result<(), DecodeFault> {
-        rows!(check(buffer))
+        rows::check::<Self>(buffer)
     }
 
     #[inline]
     fn borrow<'a>(list: Option<u16>, buffer: &NlaBuffer<'a>) -> Content<'a> {
-        rows!(borrow(list, buffer))
+        rows::borrow::<Self>(list, buffer)
     }
 
     fn label(list: Option<u16>, kind: u16) -> Option<KindLabel> {
-        rows!(label(list, kind))
+        rows::label::<Self>(list, kind)
     }
 
     fn canonical(buffer: &NlaBuffer<'_>) -> bool {
-        rows!(canonical(buffer))
+        rows::canonical::<Self>(buffer)
     }
 
     ghost lawful = { lawful (lift_table tunnel_rows) };

@@ -2,6 +2,7 @@
 
 use link_base::content::Content;
 use link_base::label::KindLabel;
+use link_base::rows::{self, AttributeRows, RowVisitor};
 use link_base::{
     Attribute, DecodeError, DecodeFault, DefaultNla, Meaning, NestedAttribute, Nla, NlaBuffer,
     OneAddress, Parseable, Place, TryClone,
@@ -82,6 +83,13 @@ impl Parseable for BridgeQuerierState {
     }
 }
 
+impl AttributeRows for BridgeQuerierState {
+    #[inline(always)]
+    fn visit_row<V: RowVisitor<Self>>(kind: u16, visitor: V) -> V::Output {
+        rows!(visit(kind, visitor))
+    }
+}
+
 impl Attribute for BridgeQuerierState {
     ghost use Rattle.std.specs.Prelude.{refl};
     ghost use Rattle.link_base.proofs.TableLaws.{lawful};
@@ -91,20 +99,20 @@ impl Attribute for BridgeQuerierState {
     ghost use Rattle.link_bridge.specs.contracts.bridge.querier.BridgeQuerierState.{enum};
 
     fn check(buffer: &NlaBuffer<'_>) -> Result<(), DecodeFault> {
-        rows!(check(buffer))
+        rows::check::<Self>(buffer)
     }
 
     #[inline]
     fn borrow<'a>(list: Option<u16>, buffer: &NlaBuffer<'a>) -> Content<'a> {
-        rows!(borrow(list, buffer))
+        rows::borrow::<Self>(list, buffer)
     }
 
     fn label(list: Option<u16>, kind: u16) -> Option<KindLabel> {
-        rows!(label(list, kind))
+        rows::label::<Self>(list, kind)
     }
 
     fn canonical(buffer: &NlaBuffer<'_>) -> bool {
-        rows!(canonical(buffer))
+        rows::canonical::<Self>(buffer)
     }
 
     ghost lawful = { lawful (lift_table querier_rows) };
