@@ -1,6 +1,6 @@
 //! The last text that a program prints, and its exit status.
 
-ghost use Rattle.std.specs.Prelude.{◌≡◌, ◌≢◌, ◌⊎◌, []};
+ghost use Rattle.std.specs.Prelude.{◌≡◌, ◌≢◌, []};
 ghost use Rattle.std.specs.Io.Buffered.{writer_buffer, writer_contents, writer_inner};
 ghost use Rattle.program.specs.Printing.{PrintsOrFails, FlushesOrFails, no_memory_line};
 
