@@ -38,9 +38,10 @@ LISTS = [
     ("crates/library_tests/src/tests/canonical.rt", r"^ *Family::{variant},$"),
     ("crates/library_tests/src/tests/prefixes.rt", r"family: Family::{variant},"),
     ("crates/library_tests/src/tests/reports.rt", r'\("{name}", Some\(Family::{variant}\)\)'),
-    ("crates/nlshow/stdin", r"^{name} [0-9a-f]"),
-    ("crates/nlshow/stdin", r"^check {name}$"),
-    ("crates/nlshow/stdout", r"^  IFLA_\w+ {name}\n    \w"),
+    ("runs/debug/", r"^> {name} [0-9a-f]"),
+    ("runs/debug/", r"^> check {name}$"),
+    ("runs/debug/", r"^  IFLA_\w+ {name}\n    \w"),
+    ("runs/plain/", r"^> {name} [0-9a-f]"),
     ("crates/refusals/stdin", r"^0 read_list {name}$"),
     ("crates/refusals/stdin", r"^0 write_list {name}$"),
 ]
@@ -73,7 +74,7 @@ def families(text):
 
 def disagreements(text_of):
     """The lists that differ from the list of attribute sets: path, line and message. `text_of` gives the text of a
-    path, or None if there is no such file."""
+    file, or of all files of a folder, whose path ends with a slash, or None if there is none."""
     rows = families(text_of(LIST) or "")
     if not rows:
         yield LIST, 1, "there is no list of attribute sets"

@@ -1,6 +1,6 @@
 #!/usr/bin/env python3
 """Makes the allocations of calls of the libraries fail, one after another, and those of `nlroute`, and of `nlshow` with
-an argument.
+a wrong argument or `--version`.
 
 usage: tools/refusals.py
 
@@ -12,7 +12,7 @@ these runs returns the error of the call for a failed allocation, and makes no o
 failed.
 
 `nlroute` runs in the same way for each `report`, from its start, and for the lines that it prints without a report, as
-`nlshow` does for its usage.
+`nlshow` does for a wrong argument and for its version.
 
 In every run the caller's bytes and values are unchanged. So are buffers, except where a call wrote to them: at the
 front, as much as it returns, or if `rewrite_streaming` fails, at most the length of the list, rounded up to a multiple of
@@ -152,16 +152,23 @@ def try_nlroute(refuser, allocations, call, answer):
 
 
 def try_lines(refuser):
-    """The lines that the programs print without a report. They make no allocation but those for their arguments."""
+    """The lines that the programs print without a report. `nlroute` makes no allocation but those for its arguments;
+    `nlshow` makes others, in `clap` and for the lines."""
     folder = os.open(ROOT, os.O_RDONLY)  # reading from it fails
-    for words, given, answer in (
-        (["nlroute"], b"", printed("usage: nlroute FAMILY\n", 2)),
-        (["nlroute", "tap"], b"", printed("usage: nlroute FAMILY\n", 2)),
-        (["nlroute", "tap", "dsa"], b"", printed("usage: nlroute FAMILY\n", 2)),
-        (["nlroute", "dsa"], folder, printed("read fault\n", 5)),
-        (["nlshow", "dsa"], b"", printed("usage: nlshow\n", 2)),
+    unknown = printed(
+        "error: unexpected argument 'dsa' found\n"
+        "usage: nlshow [--format plain|debug] [--check] | --help | --version\n",
+        2,
+    )
+    for words, given, answer, others in (
+        (["nlroute"], b"", printed("usage: nlroute FAMILY\n", 2), 0),
+        (["nlroute", "tap"], b"", printed("usage: nlroute FAMILY\n", 2), 0),
+        (["nlroute", "tap", "dsa"], b"", printed("usage: nlroute FAMILY\n", 2), 0),
+        (["nlroute", "dsa"], folder, printed("read fault\n", 5), 0),
+        (["nlshow", "dsa"], b"", unknown, 15),
+        (["nlshow", "--version"], b"", printed("nlshow 0.2.0\n", 0), 8),
     ):
-        yield " ".join(words), refuser.refuse_each(words, given, answer, NO_MEMORY, arguments(words))
+        yield " ".join(words), refuser.refuse_each(words, given, answer, NO_MEMORY, arguments(words) + others)
     os.close(folder)
 
 

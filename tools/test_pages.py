@@ -19,7 +19,8 @@ import pages  # noqa: E402
 UNLISTED = {
     "README.md",
     *(f"docs/{it}.md" for it in ("CLAIMS", "CALLING", "DIFFERENCES")),
-    *(f"crates/{it}" for it in ("nlshow/stdin", "nlshow/stdout", "refusals/stdin")),
+    "crates/refusals/stdin",
+    "runs/debug/",
 }
 families.LISTS = [it for it in families.LISTS if it[0] not in UNLISTED]
 LISTED = dict(families.LISTS)
@@ -90,8 +91,8 @@ It has the clause `ensures length { result ≡ 2 }`, and `requires { .. }`.
 - 2<!-- count: tests of pairs --> tests, three<!-- count: mutants --> mutants, one<!-- count: mutants of definitions
   --> of definitions, 1<!-- count: must-fail edits --> must-fail edit. Once there were 275<!-- count: past --> mutants.
 - 1,001<!-- count: calls that allocate --> calls allocate, 1<!-- count: calls that do not allocate --> does not.
-- 2<!-- count: lists of nlshow --> lists, one<!-- count: check lines of nlshow --> `check`,
-  1<!-- count: message lines of nlshow --> message, 2<!-- count: other lines of nlshow --> others.
+- 2<!-- count: lists of plain --> lists, one<!-- count: check lines of plain --> `check`, 4<!-- count: runs --> runs,
+  1<!-- count: message lines of plain --> message, 2<!-- count: other lines of plain --> others.
 
 `frames`, [x](docs/CALLING.md "frames"), <!-- frames --> and a *record* of records.
 """
@@ -129,7 +130,10 @@ TREE = {
     "crates/netlink_packet_route/src/family.rt": FAMILIES,
     "crates/nlroute_ffi/include/nlroute.h": HEADER,
     "tools/c_refusals.c": NAMES,
-    "crates/nlshow/stdin": "# Lists\ndsa 00\n\nvlan\t00\ncheck dsa 00\nmessage 00\ntap 00\nmessages\n",
+    "runs/plain/lists": "program: nlshow\n\n# Lists\n> dsa 00\ndsa 00\n\n> check dsa\n< message 00\n< tap\n> messages\n",
+    "runs/plain/more/vlan": "program: nlshow\n\n> vlan 00\n",
+    "runs/plain/other": "program: nlroute\n\n< dsa 00\n",
+    "runs/debug/other": "# dsa 00\nprogram: nlshow\n\n",
     "crates/pairs/out/made.md": "",
 }
 
@@ -330,7 +334,13 @@ class Pages(unittest.TestCase):
         self.finds(wanted.format(22, 3, "tests of pairs, which is 2"), "- 2<!-- count: t", "- 3<!-- count: t")
         self.finds(wanted.format(22, "two", "mutants, which is 3"), "three<", "two<")
         self.finds(wanted.format(24, "1,002", "calls that allocate, which is 1,001"), "1,001", "1,002")
-        self.finds(wanted.format(26, 2, "message lines of nlshow, which is 1"), "  1<", "  2<")
+        self.finds(wanted.format(26, 2, "message lines of plain, which is 1"), "  1<", "  2<")
+        run = "runs/plain/more/vlan"
+        self.finds(wanted.format(25, 2, "lists of plain, which is 3"), "> vlan 00\n", "> vlan 00\n< vlan\nvlan\n", run)
+        more = self.said(TREE | {"runs/other/one": "program: nlshow\n"})
+        self.assertEqual([wanted.format(25, 4, "runs, which is 5")], more)
+        page = PAGE.replace("4<!-- count: runs -->", "3<!-- count: runs of plain -->")
+        self.assertEqual([], self.said(TREE | {"README.md": page}))
         test = "#[test]\nfn one() {}\n"
         self.finds(wanted.format(22, 2, "tests of pairs, which is 3"), test, test + test, "crates/pairs/src/tests.rt")
 
@@ -368,6 +378,8 @@ class Pages(unittest.TestCase):
         found = self.said(TREE | {"crates/netlink_packet_route/src/family.rt": FAMILIES.replace("1  Bridge", "2  Bridge")})
         gap = "crates/netlink_packet_route/src/family.rt:1: the numbers of attribute sets do not go from 0 in order"
         self.assertEqual([gap, vlan], found)
+        wanted = f"runs/plain/:1: the list does not have vlan as families! has it: no text is as {LISTED['runs/plain/']}"
+        self.finds(wanted, "> vlan 00", "> vlan zz", "runs/plain/more/vlan")
         page = {"docs/PROGRAMS.md": "| `dsa` | `IFLA_INFO_DATA` |\n| `vlan` | `IFLA_VLAN` |\n"}
         self.assertEqual([], self.said(TREE | page))
         page["docs/PROGRAMS.md"] = page["docs/PROGRAMS.md"].replace("IFLA_VLAN", "IFLA_VLANS")

@@ -1,21 +1,26 @@
 #!/usr/bin/env python3
 """seeds.py DIR: the inputs that the fuzzer starts from, as files of DIR.
 
-They are the lists of bench, the payloads that Linux sent (docs/captured.txt) and the lists of nlshow's stored run, each
+They are the lists of bench, the payloads that Linux sent (docs/captured.txt) and the lists of the runs of nlshow, each
 behind a byte with the number of its family."""
 import os
 import re
 import subprocess
 import sys
 import tempfile
+from pathlib import Path
 
 TOP = os.path.dirname(os.path.dirname(os.path.dirname(os.path.abspath(__file__))))
+sys.dont_write_bytecode = True
+sys.path.insert(0, f"{TOP}/tools")
+from runs import Run, runs_of  # noqa: E402
+
 NAMES = "af_spec_bridge bond bond_port bridge bridge_port vlan can dsa hsr proto_bridge".split()
 
 
-def rows_of(path):
-    """The families and lists of a file that has one a line; other lines are passed over."""
-    for line in open(path, encoding="utf-8"):
+def rows_of(text):
+    """The families and lists of a text that has one a line; other lines are passed over."""
+    for line in text.splitlines():
         name, _, digits = line.strip().partition(" ")
         digits = re.sub(r"\s", "", digits)
         if name in NAMES and re.fullmatch(r"([0-9a-fA-F]{2})*", digits):
@@ -30,10 +35,17 @@ def bench_rows():
             yield family, bytes.fromhex(open(f"{room}/{name}.hex", encoding="utf-8").read())
 
 
+def run_rows():
+    """The lists that the runs have as input, each once."""
+    inputs = [Run(Path(TOP, "runs", it).read_bytes()).stdin for it in runs_of(TOP)]
+    return dict.fromkeys(row for text in inputs for row in rows_of(text.decode(errors="replace")))
+
+
 def main():
     to = sys.argv[1]
     os.makedirs(to, exist_ok=True)
-    rows = [*bench_rows(), *rows_of(f"{TOP}/docs/captured.txt"), *rows_of(f"{TOP}/crates/nlshow/stdin")]
+    captured = Path(TOP, "docs/captured.txt").read_text(encoding="utf-8")
+    rows = [*bench_rows(), *rows_of(captured), *run_rows()]
     for number, (name, data) in enumerate(rows):
         with open(f"{to}/{number:04}_{name}", "wb") as file:
             file.write(bytes([NAMES.index(name)]) + data)

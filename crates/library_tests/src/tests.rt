@@ -14,7 +14,6 @@ mod records;
 mod reports;
 mod rewritings;
 mod room;
-mod shows;
 mod surface;
 mod tables;
 mod texts;

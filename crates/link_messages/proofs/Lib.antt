@@ -1,5 +1,7 @@
 pub mod Messages
 pub mod Walks
+pub mod Walking
+pub mod Others
 pub mod Names
 pub mod Parts
 pub mod Links

@@ -1,5 +1,11 @@
 pub mod Message
 pub mod Finding
+pub mod Walk
 pub mod Link
+pub mod Header
+pub mod BeforeFault
+pub mod Info
+pub mod Details
 pub mod Dump
+pub mod Acknowledgement
 pub mod Same

@@ -128,3 +128,4 @@ IsAboutNone at m (errors.Frame i cause) = IsLinkType m.kind × (16 ≤ length m.
 IsAboutNone at m (errors.ShortHeader i left) = ⊥
 IsAboutNone at m (errors.SmallLength i size) = ⊥
 IsAboutNone at m (errors.Overrun i size left) = ⊥
+IsAboutNone at m (errors.ShortError i size) = ⊥

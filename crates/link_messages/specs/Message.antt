@@ -56,6 +56,7 @@ error_text (errors.SmallLength at stated) = codes "small length at " ++ (decimal
 error_text (errors.Overrun at stated left) = codes "overrun at " ++ (decimal at ++ (codes ": " ++ (decimal stated ++ (codes " of " ++ (decimal left ++ codes " bytes")))))
 error_text (errors.OtherType at kind) = codes "other type at " ++ (decimal at ++ (codes ": " ++ decimal kind))
 error_text (errors.ShortLink at size) = codes "short link at " ++ (decimal at ++ (codes ": " ++ (decimal size ++ codes " bytes")))
+error_text (errors.ShortError at size) = codes "short error at " ++ (decimal at ++ (codes ": " ++ (decimal size ++ codes " bytes")))
 error_text (errors.Frame at cause) = codes "bad attribute at " ++ (decimal at ++ (codes ": " ++ cause_text cause))
 
 -- ---- one step
@@ -69,6 +70,12 @@ pub record IsMessageAt (at : ℕ) (r : List ℕ) (m : Message) : Type 0 where
   pub begins : BeginsWithPacket r (packet_of m)
   pub offset : m.at ≡ at
   pub next : m.next ≡ at + min (pad (16 + length m.payload.now)) (length r)
+
+-- what is at offset `at`, where the bytes r are left: nothing; a message of any type; or an error
+abbrev pub NextOfAny : ℕ → List ℕ → Result (Option Message) MessageError → Type 0
+NextOfAny at r (Ok None) = r ≡ []
+NextOfAny at r (Ok (Some m)) = IsMessageAt at r m
+NextOfAny at r (Err e) = (r ≢ []) × (header_fault at r ≡ Some e)
 
 -- what is at offset `at`, where the bytes r are left: nothing or an NLMSG_DONE; a message of another type; or an error
 abbrev pub NextMessage : ℕ → List ℕ → Result (Option Message) MessageError → Type 0

@@ -1,6 +1,7 @@
 //! Theorems about messages and links. The functions have empty bodies.
 
-ghost use Rattle.std.specs.Prelude.{◌≡◌, ◌↔◌, ℕ, List, [], ◌∷◌, ◌++◌, drop, Option, Some, Ok, IsTrue, IfSome};
+ghost use Rattle.std.specs.Prelude.{◌≡◌, ◌↔◌, ℕ, List, [], ◌∷◌, ◌++◌, drop, map, Option, Some, Ok, IsTrue, IfSome};
+ghost use Rattle.link_base.specs.declared.fault.Cause.{Cause};
 ghost use Rattle.netlink_packet_route.specs.declared.family.Family.{Family};
 ghost use Rattle.netlink_packet_route.specs.Family.{holder_of};
 ghost use Rattle.link_messages.specs.declared.views.Message.{Message};
@@ -9,11 +10,15 @@ ghost use Rattle.link_messages.specs.declared.message.MessageError.{MessageError
 ghost use Rattle.link_messages.specs.declared.link.Part.{Part};
 ghost use Rattle.link_messages.specs.declared.link.Link.{Link};
 ghost use Rattle.link_messages.specs.declared.dump.DumpError.{DumpError};
+ghost use Rattle.link_messages.specs.declared.acknowledgement.Acknowledgement.{Acknowledgement};
 ghost use Rattle.link_messages.specs.Message.{NextMessage, Stand};
 ghost use Rattle.link_messages.specs.Finding.{Stretch, stretch_of};
 ghost use Rattle.link_messages.specs.Link.{part_of, IsLink, IsHeld, HasPart};
-ghost use Rattle.link_messages.specs.Same.{IsSameMessage, IsSameLink};
+ghost use Rattle.link_messages.specs.Walk.{Item, Walk};
+ghost use Rattle.link_messages.specs.BeforeFault.{seen_of};
+ghost use Rattle.link_messages.specs.Same.{IsSameMessage, IsSameLink, IsSameAcknowledgement};
 
+use crate::acknowledgement::Acknowledgement;
 use crate::dump::DumpError;
 use crate::link::{Link, Part};
 use crate::message::MessageError;
@@ -36,18 +41,27 @@ pub fn every_list()
         × IfSome found (HasPart link family) }
 {}
 
+/// States that a list has at most one walk: two walks have attributes with the same offsets, types and payloads, and the
+/// same malformed header. So all calls that stop at the first malformed header describe the same attributes.
+pub fn one_walk()
+    ensures { (list : List ℕ) (xs ys : List Item) (e f : Option (ℕ × Cause)) → Walk list xs e → Walk list ys f
+        → (map seen_of xs ≡ map seen_of ys) × (e ≡ f) }
+{}
+
 /// States that two errors are equal (`==`) if and only if they are the same value.
 pub fn error_equality()
     ensures message { (a b : MessageError) → IsTrue (⟦<MessageError as PartialEq>⟧.eq a b) ↔ (a ≡ b) }
     ensures dump { (a b : DumpError) → IsTrue (⟦<DumpError as PartialEq>⟧.eq a b) ↔ (a ≡ b) }
 {}
 
-/// States that two messages, payloads, parts or links are equal (`==`) if and only if all their fields are. Borrowed
-/// bytes are compared, and not where they are in memory.
+/// States that two messages, payloads, parts, links or replies are equal (`==`) if and only if all their fields are.
+/// Borrowed bytes are compared, and not where they are in memory.
 pub fn equality()
     ensures message { (a b : Message) → IsTrue (⟦<Message<'static> as PartialEq>⟧.eq a b) ↔ IsSameMessage a b }
     ensures payload { (a b : Payload) → IsTrue (⟦<Payload<'static> as PartialEq>⟧.eq a b)
         ↔ (stretch_of a ≡ stretch_of b) }
     ensures part { (a b : Part) → IsTrue (⟦<Part<'static> as PartialEq>⟧.eq a b) ↔ (part_of a ≡ part_of b) }
     ensures link { (a b : Link) → IsTrue (⟦<Link<'static> as PartialEq>⟧.eq a b) ↔ IsSameLink a b }
+    ensures acknowledgement { (a b : Acknowledgement) → IsTrue (⟦<Acknowledgement<'static> as PartialEq>⟧.eq a b)
+        ↔ IsSameAcknowledgement a b }
 {}

@@ -7,8 +7,14 @@
 //! - [`next_message`] parses the header of the message at an offset of the buffer, a [`Message`].
 //! - [`read_link`] parses the [`Link`] that a message describes: its index, its name, and its lists. Each list is a
 //!   [`Part`]: a `Family`, and the bytes that it parses.
-//! - [`read_links`] does both for all messages of a buffer.
+//! - [`read_links`] does both for all messages of a buffer, and skips those that are not about links.
+//! - [`any_message`] parses the header of any message, and [`read_acknowledgement`] what an NLMSG_ERROR says, the
+//!   kernel's reply to a request.
 //! - [`last_of_kind`] and [`find_in`] look up the other attributes of a list.
+//! - [`link_header`] parses the `struct ifinfomsg` of a message about a link, a [`LinkHeader`].
+//! - [`link_details`] parses what a printer shows, [`LinkDetails`]. Malformed attributes are not an error: it parses what
+//!   comes before, and reports the first malformed header. [`last_before_fault`] and [`count_before_fault`] do the same
+//!   for one attribute type, and for the number of attributes.
 //! - [`laws`] has theorems about these types.
 //!
 //! Messages, links and lists borrow the buffer; nothing is copied. Each has its offset in the buffer, and each
@@ -17,15 +23,26 @@
 //! Numbers are read as little-endian. Netlink uses the byte order of the machine.
 #![tactic(auto)]
 
+mod acknowledgement;
+mod before_fault;
+mod details;
 mod dump;
+mod fields;
 mod finding;
+mod header;
+mod info;
 pub mod laws;
 mod link;
 mod message;
 mod views;
 
+pub use acknowledgement::{Acknowledgement, read_acknowledgement};
+pub use before_fault::{count_before_fault, last_before_fault};
+pub use details::{LinkDetails, Protinfo, link_details};
 pub use dump::{DumpError, read_links};
 pub use finding::{find_in, last_of_kind};
+pub use header::{LinkHeader, link_header};
+pub use info::{InfoData, LinkInfo, announced_port_kind};
 pub use link::{Link, Part, read_link};
-pub use message::{MessageError, next_message};
+pub use message::{MessageError, any_message, next_message};
 pub use views::{Message, Payload};

@@ -23,27 +23,27 @@ const RTM_DELLINK: u16 = 17;
 const RTM_SETLINK: u16 = 19;
 
 /// The address family of bridges and bridge ports (`include/linux/socket.h`).
-const AF_BRIDGE: u8 = 7;
+pub(crate) const AF_BRIDGE: u8 = 7;
 
 // Types of attributes of a message (`include/uapi/linux/if_link.h`).
 
-const IFLA_IFNAME: u16 = 3;
+pub(crate) const IFLA_IFNAME: u16 = 3;
 
-const IFLA_PROTINFO: u16 = 12;
+pub(crate) const IFLA_PROTINFO: u16 = 12;
 
-const IFLA_LINKINFO: u16 = 18;
+pub(crate) const IFLA_LINKINFO: u16 = 18;
 
-const IFLA_AF_SPEC: u16 = 26;
+pub(crate) const IFLA_AF_SPEC: u16 = 26;
 
 // Types of attributes of an `IFLA_LINKINFO` (`include/uapi/linux/if_link.h`).
 
-const IFLA_INFO_KIND: u16 = 1;
+pub(crate) const IFLA_INFO_KIND: u16 = 1;
 
-const IFLA_INFO_DATA: u16 = 2;
+pub(crate) const IFLA_INFO_DATA: u16 = 2;
 
-const IFLA_INFO_SLAVE_KIND: u16 = 4;
+pub(crate) const IFLA_INFO_SLAVE_KIND: u16 = 4;
 
-const IFLA_INFO_SLAVE_DATA: u16 = 5;
+pub(crate) const IFLA_INFO_SLAVE_DATA: u16 = 5;
 
 /// An attribute list, and the `Family` that parses it.
 #[derive(Clone, Copy, Debug, PartialEq, Eq)]
@@ -97,14 +97,14 @@ pub fn read_link<'a>(message: &Message<'a>) -> Result<Link<'a>, MessageError>
 }
 
 /// Checks whether messages of type `kind` are about links.
-fn is_link_type(kind: u16) -> bool
+pub(crate) fn is_link_type(kind: u16) -> bool
     ensures { IsTrue result ↔ IsLinkType kind }
 {
     kind == RTM_NEWLINK || kind == RTM_DELLINK || kind == RTM_SETLINK
 }
 
 /// Returns `ifi_index`. `body` starts with a `struct ifinfomsg`.
-fn index_of(body: &[u8]) -> i32
+pub(crate) fn index_of(body: &[u8]) -> i32
     requires { 16 ≤ length body.now }
     ensures { result ≡ integer (take 4 (drop 4 body.now)) }
 {
@@ -180,7 +180,7 @@ fn family_of_port(name: Option<Payload<'_>>) -> Option<Family>
 }
 
 /// Returns the bytes of a name without the NUL at their end, if they have one.
-fn without_nul(bytes: &[u8]) -> &[u8]
+pub(crate) fn without_nul(bytes: &[u8]) -> &[u8]
     ensures { result.now ≡ without_nul bytes.now }
 {
     bytes.strip_suffix(&[0]).unwrap_or(bytes)

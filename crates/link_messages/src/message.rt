@@ -3,7 +3,7 @@
 ghost use Rattle.std.specs.Prelude.{◌≡◌, ◌+◌, ◌<◌, ◌≤◌, ◌^◌, length, take, drop, Some, MatchResult};
 ghost use Rattle.netlink_packet_route.specs.Number.{bytes_of};
 ghost use Rattle.netlink_packet_route.specs.Layout.{number_at};
-ghost use Rattle.link_messages.specs.Message.{IsMessageAt, NextMessage, header_fault, error_text};
+ghost use Rattle.link_messages.specs.Message.{IsMessageAt, NextOfAny, NextMessage, header_fault, error_text};
 
 use crate::views::Message;
 use netlink_packet_route::link::{Cause, padded};
@@ -13,7 +13,7 @@ use std::fmt;
 /// The type of the message that ends a dump (`include/uapi/linux/netlink.h`).
 const NLMSG_DONE: u16 = 3;
 
-/// Why a message, or the link that it is about, could not be parsed. `at` is an offset in the buffer.
+/// Why a message, or its contents, could not be parsed. `at` is an offset in the buffer.
 #[derive(Clone, Copy, Debug, PartialEq, Eq)]
 pub enum MessageError {
     /// Only `left` bytes are left at the offset of a message: fewer than the 16 of a `struct nlmsghdr`.
@@ -22,10 +22,13 @@ pub enum MessageError {
     SmallLength { at: usize, length: u32 },
     /// `nlmsg_len` is greater than `left`, the number of bytes left.
     Overrun { at: usize, length: u32, left: usize },
-    /// The message is not about a link: its type is not RTM_NEWLINK, RTM_DELLINK or RTM_SETLINK.
+    /// The message has another type than the function parses. `read_link` parses RTM_NEWLINK, RTM_DELLINK and
+    /// RTM_SETLINK, `read_acknowledgement` NLMSG_ERROR.
     OtherType { at: usize, kind: u16 },
     /// A message about a link has `length` bytes: fewer than the 32 of `struct nlmsghdr` and `struct ifinfomsg`.
     ShortLink { at: usize, length: usize },
+    /// An NLMSG_ERROR has `length` bytes: fewer than the 36 of `struct nlmsghdr` and `struct nlmsgerr`.
+    ShortError { at: usize, length: usize },
     /// The bytes at this offset are not an attribute; they are in the message's list or in that of its `IFLA_LINKINFO`.
     Frame { at: usize, cause: Cause },
 }
@@ -46,6 +49,9 @@ impl fmt::Display for MessageError {
             MessageError::ShortLink { at, length } => {
                 write!(f, "short link at {at}: {length} bytes")
             }
+            MessageError::ShortError { at, length } => {
+                write!(f, "short error at {at}: {length} bytes")
+            }
             MessageError::Frame { at, cause } => write!(f, "bad attribute at {at}: {cause}"),
         }
     }
@@ -62,13 +68,28 @@ impl Error for MessageError {}
 pub fn next_message(bytes: &[u8], at: usize) -> Result<Option<Message<'_>>, MessageError>
     ensures { NextMessage at (drop at bytes.now) result }
 {
+    let Some(message) = any_message(bytes, at)? else {
+        return Ok(None);
+    };
+    if message.kind == NLMSG_DONE {
+        return Ok(None);
+    }
+    Ok(Some(message))
+}
+
+/// Parses the message at offset `at` of a buffer, as `next_message` does, but returns an `NLMSG_DONE` like any other
+/// message. Returns `None` only at the end of the buffer.
+///
+/// # Errors
+///
+/// As for `next_message`.
+pub fn any_message(bytes: &[u8], at: usize) -> Result<Option<Message<'_>>, MessageError>
+    ensures { NextOfAny at (drop at bytes.now) result }
+{
     if at >= bytes.len() {
         return Ok(None);
     }
     let message = message_at(&bytes[at..], at)?;
-    if message.kind == NLMSG_DONE {
-        return Ok(None);
-    }
     Ok(Some(message))
 }
 
@@ -113,7 +134,7 @@ fn u16_at(bytes: &[u8], offset: usize) -> u16
 }
 
 /// Reads the little-endian `u32` at an offset.
-fn u32_at(bytes: &[u8], offset: usize) -> u32
+pub(crate) fn u32_at(bytes: &[u8], offset: usize) -> u32
     requires { offset + 4 ≤ length bytes.now }
     ensures value { result ≡ number_at 4 offset bytes.now }
     ensures octets { bytes_of 4 result ≡ take 4 (drop offset bytes.now) }

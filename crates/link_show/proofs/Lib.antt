@@ -1,5 +1,9 @@
 pub mod Written
 pub mod FlagWords
-pub mod Addresses
+pub mod Hardware
 pub mod Arrays
 pub mod ValueTexts
+pub mod Lines
+pub mod Listing
+pub mod Addressing
+pub mod MessageLines

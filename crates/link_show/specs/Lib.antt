@@ -6,3 +6,7 @@ pub mod Structs
 pub mod Quoted
 pub mod Value
 pub mod Fault
+pub mod List
+pub mod Errno
+pub mod MessageNames
+pub mod Message

@@ -5,37 +5,43 @@ ghost use Rattle.std.specs.Io.KnownBytes.{Appends};
 ghost use Rattle.link_base.specs.Labels.{label_in};
 ghost use Rattle.link_show.specs.Fault.{byte_word, bytes_text, expected_word, cause_words, kind_text, is_array, payload_fault, fault_text};
 
+use crate::sets::ListSet;
+use link_base::attribute_set::AttributeSet;
 use link_base::label::{Form, KindLabel};
-use link_base::{Attribute, Cause, DecodeFault};
+use link_base::{Cause, DecodeFault};
 use std::io;
 use std::io::Write;
 
-/// Writes an error of a list of `F`, or of an attribute of `F`, with the kernel's names of attribute types, such as
-/// `IFLA_BR_HELLO_TIME has 3 bytes, expected 4`.
+/// Writes an error of a list of attributes of `set`, or of one of them, with the kernel's names of attribute types, such
+/// as `IFLA_BR_HELLO_TIME has 3 bytes, expected 4`.
 ///
 /// # Errors
 ///
 /// That of the writer.
 #[tactic(auto, using(crate::proofs::Written::then_written))]
-pub fn write_fault<F: Attribute, W: Write>(writer: &mut W, fault: DecodeFault) -> io::Result<()>
-    ensures { OnOk result (Appends (W.contents writer.old) (W.contents writer.new) (fault_text F.table fault)) }
+pub fn write_fault<S: ListSet, W: Write>(
+    writer: &mut W,
+    set: S,
+    fault: DecodeFault,
+) -> io::Result<()>
+    ensures { OnOk result (Appends (W.contents writer.old) (W.contents writer.new) (fault_text (S.rows set) fault)) }
 {
     match fault {
         DecodeFault::Frame(cause) | DecodeFault::Payload(cause) => write_cause(
             writer, false, cause,
         ),
         DecodeFault::Value { kind, cause } => {
-            write_payload_fault(writer, F::label(None, kind), kind, cause)
+            write_payload_fault(writer, set.label(kind), kind, cause)
         }
         DecodeFault::NestedFrame { kind, cause } => {
-            write_kind(writer, F::label(None, kind), kind)?;
+            write_kind(writer, set.label(kind), kind)?;
             writer.write_all(b": ")?;
             write_cause(writer, false, cause)
         }
         DecodeFault::NestedValue { kind, inner, cause } => {
-            write_kind(writer, F::label(None, kind), kind)?;
+            write_kind(writer, set.label(kind), kind)?;
             writer.write_all(b": ")?;
-            write_payload_fault(writer, F::label(Some(kind), inner), inner, cause)
+            write_payload_fault(writer, set.elements(kind).label(inner), inner, cause)
         }
         DecodeFault::Text => writer.write_all(b"unknown text"),
     }
@@ -79,7 +85,7 @@ fn is_array(label: Option<KindLabel>) -> bool
 
 /// Writes why an attribute, or a payload, is malformed.
 #[tactic(auto, using(crate::proofs::Written::then_written))]
-fn write_cause<W: Write>(writer: &mut W, is_array: bool, cause: Cause) -> io::Result<()>
+pub(crate) fn write_cause<W: Write>(writer: &mut W, is_array: bool, cause: Cause) -> io::Result<()>
     ensures { OnOk result (Appends (W.contents writer.old) (W.contents writer.new) (cause_words is_array cause)) }
 {
     match cause {
@@ -108,7 +114,7 @@ fn write_cause<W: Write>(writer: &mut W, is_array: bool, cause: Cause) -> io::Re
 }
 
 /// Writes a number of bytes, and `more`.
-fn write_bytes<W: Write>(writer: &mut W, count: usize, more: &str) -> io::Result<()>
+pub(crate) fn write_bytes<W: Write>(writer: &mut W, count: usize, more: &str) -> io::Result<()>
     ensures { OnOk result (Appends (W.contents writer.old) (W.contents writer.new) (bytes_text count more.now)) }
 {
     let bytes = bytes_of(count);
@@ -116,7 +122,7 @@ fn write_bytes<W: Write>(writer: &mut W, count: usize, more: &str) -> io::Result
 }
 
 /// Returns what follows a number of bytes.
-fn bytes_of(count: usize) -> &'static str
+pub(crate) fn bytes_of(count: usize) -> &'static str
     ensures { result.now ≡ byte_word count }
 {
     if count == 1 { " byte" } else { " bytes" }

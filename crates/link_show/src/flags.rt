@@ -54,7 +54,7 @@ pub fn write_flags<W: Write>(
 }
 
 /// Returns the name of a number; `None` if it has none.
-fn name_of(names: &[Name], number: u64) -> Option<&'static str>
+pub(crate) fn name_of(names: &[Name], number: u64) -> Option<&'static str>
     ensures { option_map (λ text. text.now) result ≡ name_in (names_in names.now) number }
 {
     for name in names {

@@ -2,18 +2,46 @@
 //! name, of structs, and of errors. Each call writes to a writer of the caller's, and allocates nothing.
 #![tactic(auto)]
 
+/// Names, each after its number.
+macro_rules! names {
+    ($($number:literal $text:literal)*) => {
+        &[$(link_base::label::Name { number: $number, text: $text },)*]
+    };
+}
+
+mod addresses;
+mod attributes;
+mod errno;
+mod families;
 mod faults;
 mod flags;
+mod info;
+mod links;
+mod lists;
+mod message_errors;
+mod message_names;
+mod messages;
 mod numbers;
 mod octets;
 mod quoted;
+mod replies;
+mod sets;
 mod structs;
 mod values;
 
+pub use addresses::write_addresses;
+pub use attributes::write_attribute;
+pub use families::{write_family_list, write_verdict};
 pub use faults::write_fault;
 pub use flags::{write_enum, write_flags};
+pub use links::write_link;
+pub use lists::write_list;
+pub use message_errors::write_message_error;
+pub use messages::{write_message, write_messages};
 pub use numbers::write_number;
 pub use octets::{write_address, write_hex};
 pub use quoted::write_quoted;
+pub use replies::write_acknowledgement;
+pub use sets::ListSet;
 pub use structs::StructText;
 pub use values::{write_content, write_value};

@@ -26,31 +26,13 @@ use std::io;
 use std::io::Write;
 
 /// The names of `enum can_state` (`include/uapi/linux/can/netlink.h`), without their prefix.
-const CAN_STATES: [Name; 6] = [
-    Name {
-        number: 0,
-        text: "ERROR-ACTIVE",
-    },
-    Name {
-        number: 1,
-        text: "ERROR-WARNING",
-    },
-    Name {
-        number: 2,
-        text: "ERROR-PASSIVE",
-    },
-    Name {
-        number: 3,
-        text: "BUS-OFF",
-    },
-    Name {
-        number: 4,
-        text: "STOPPED",
-    },
-    Name {
-        number: 5,
-        text: "SLEEPING",
-    },
+const CAN_STATES: &[Name] = names![
+    0 "ERROR-ACTIVE"
+    1 "ERROR-WARNING"
+    2 "ERROR-PASSIVE"
+    3 "BUS-OFF"
+    4 "STOPPED"
+    5 "SLEEPING"
 ];
 
 /// Writes the content of an attribute, without its name. Nothing is written for a content without a value and for lists;
@@ -74,7 +56,7 @@ pub fn write_value<S: AttributeSet, W: Write>(
 }
 
 /// Writes the content of an attribute whose type has no row.
-fn write_unlabelled<W: Write>(writer: &mut W, content: Content<'_>) -> io::Result<()>
+pub(crate) fn write_unlabelled<W: Write>(writer: &mut W, content: Content<'_>) -> io::Result<()>
     ensures { OnOk result (Appends (W.contents writer.old) (W.contents writer.new) (value_text None content.entry)) }
 {
     match content {
@@ -208,7 +190,7 @@ fn write_unsigned<W: Write>(
 fn write_can_state<W: Write>(writer: &mut W, state: u64) -> io::Result<()>
     ensures { OnOk result (Appends (W.contents writer.old) (W.contents writer.new) (enum_text can_state_names state)) }
 {
-    write_enum(writer, &CAN_STATES, state)
+    write_enum(writer, CAN_STATES, state)
 }
 
 /// Writes the struct that is the payload of an attribute type, or its bytes, if it is none that is known.

@@ -1,11 +1,16 @@
 -- Lists, cut at the first element that passes a test, or at a length.
-use Rattle.std.proofs.Common.{◌≡◌, inl, inr, ℕ, suc, zero, ◌+◌, ◌-◌, ◌<◌, ◌≤◌, min, Bool, true, false, List, [], ◌∷◌, ◌++◌, length, get_or, take, drop, None, Some, Result, Ok, Err, IfOk, OnOk, is_ok, cond, sym, ap, subst, ◌∙◌, arith}
+use Rattle.std.proofs.Common.{◌≡◌, inl, inr, ℕ, suc, zero, ◌+◌, ◌-◌, ◌<◌, ◌≤◌, min, Bool, true, false, List, [], ◌∷◌, ◌++◌, length, get_or, take, drop, None, Some, Result, Ok, Err, IfOk, IsErr, OnOk, is_ok, cond, sym, ap, subst, ◌∙◌, arith, codes}
 use Rattle.std.specs.List.{AllByRecursion, position, position_or_len}
 use Rattle.std.proofs.lemmas.List.{take_all, take_at, take-append-le, length-take-le, take_min, drop_more}
 use Rattle.std.proofs.lemmas.List.Quantifiers.{position-Some}
 use Rattle.std.proofs.lemmas.List.Sums.{fails_before_first}
 use Rattle.std.proofs.lemmas.Bool.{cases_lt, cond_below}
+use Rattle.std.proofs.lemmas.Result.{IfOk-from_err}
 use Rattle.std.proofs.Math.Seq.{take-append-add}
+use Rattle.hex.specs.declared.error.FromHexError.{FromHexError}
+use Rattle.netlink_packet_route.specs.Report.{line}
+use Rattle.nlshow.specs.declared.asking.Asked.{Asked}
+use Rattle.nlshow.specs.Show.{Form, ShowsDigits}
 
 pub all_append : {A : Type 0} (P : A → Type 0) (xs ys : List A) → AllByRecursion P xs → AllByRecursion P ys → AllByRecursion P (xs ++ ys)
 all_append P [] ys h k = k
@@ -66,3 +71,8 @@ kept (Err x) n room k before inside piece front new i le e m f h = tt
 pub if_ok : {X E : Type 0} (P Q : X → Type 0) (r : Result X E) → ((x : X) → P x → Q x) → IfOk r P → IfOk r Q
 if_ok P Q (Ok x) f h = f x h
 if_ok P Q (Err e) f h = tt
+
+-- digits that are not valid hex
+pub bad_digits : (form : Form) (asked : Asked) (r : Result (List ℕ) FromHexError) (out : List ℕ) (read : Bool) → IsErr r → out ≡ line (codes "bad hex") → read ≡ false → ShowsDigits form asked r out read
+bad_digits form asked (Ok s) out read bad o e = IfOk-from_err {E = FromHexError} (Ok s) (λ t. ShowsDigits form asked (Ok t) out read) bad
+bad_digits form asked (Err x) out read bad o e = (o, e)

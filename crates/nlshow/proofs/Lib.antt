@@ -4,3 +4,9 @@ pub mod Links
 pub mod Names
 pub mod Texts
 pub mod Steps
+pub mod ClapRequests
+pub mod ClapTurns
+pub mod ClapMistakes
+pub mod ClapRows
+pub mod ClapWalks
+pub mod FirstLine

@@ -5,6 +5,7 @@ use Rattle.std.proofs.lemmas.List.{take_all, append-nil, nil_from_length}
 use Rattle.std.proofs.lemmas.Grind.{flat_map-append}
 use Rattle.netlink_packet_route.specs.Report.{line, most_text}
 use Rattle.nlshow.specs.List.{ShowsEach}
+use Rattle.nlshow.specs.declared.arguments.Options.{Options}
 use Rattle.nlshow.specs.Show.{Shows, TooLong, PassedOver, Answered, ShowsAll, Ended, Open, IsUnbroken}
 use Rattle.nlshow.specs.Progress.{Shown, Goes, held_of, most_held}
 use Rattle.nlshow.proofs.Cuts.{all_append, take_twice}
@@ -15,10 +16,10 @@ use Rattle.nlshow.proofs.Each.{and_true, and_assoc, each_more}
 short : (text : List ℕ) → length (held_of text) ≤ most_text → held_of text ≡ text
 short text le = take_all most_held text (omega (arith, length-take most_held text))
 
-pub from_held : (text out : List ℕ) (read : Bool) → Shows (held_of text) out read → Shows text out read
-from_held text out read (TooLong lt o r) = TooLong (omega (arith, length-take most_held text)) o r
-from_held text out read (PassedOver le h o r) = subst (λ t. Shows t out read) (short text le) (PassedOver le h o r)
-from_held text out read (Answered le h below a o) = subst (λ t. Shows t out read) (short text le) (Answered le h below a o)
+pub from_held : {options : Options} → (text out : List ℕ) (read : Bool) → Shows options (held_of text) out read → Shows options text out read
+from_held {options} text out read (TooLong lt o r) = TooLong (omega (arith, length-take most_held text)) o r
+from_held {options} text out read (PassedOver le h o r) = subst (λ t. Shows options t out read) (short text le) (PassedOver le h o r)
+from_held {options} text out read (Answered le h below a o) = subst (λ t. Shows options t out read) (short text le) (Answered le h below a o)
 
 -- ---- one more line
 
@@ -27,8 +28,8 @@ spelled_more lines text = flat_map-append line lines (text ∷ []) ∙ ap (λ l.
 
 -- ---- a piece of a text
 
-pub none : Shown [] [] [] true
-none = record {
+pub none : {options : Options} → Shown options [] [] [] true
+none {options} = record {
   lines = [];
   current = [];
   cut = refl;
@@ -39,21 +40,21 @@ none = record {
 }
 
 -- no bytes
-pub goes_none : (held : List ℕ) → Goes held held [] [] true
-goes_none held text out whole s =
-    subst (λ t. Shown t (out ++ []) held (whole && true)) (sym (append-nil text))
-    (subst (λ o. Shown text o held (whole && true)) (sym (append-nil out)) (subst (λ w. Shown text out held w) (sym (and_true whole)) s))
+pub goes_none : {options : Options} → (held : List ℕ) → Goes options held held [] [] true
+goes_none {options} held text out whole s =
+    subst (λ t. Shown options t (out ++ []) held (whole && true)) (sym (append-nil text))
+    (subst (λ o. Shown options text o held (whole && true)) (sym (append-nil out)) (subst (λ w. Shown options text out held w) (sym (and_true whole)) s))
 
 -- two pieces
-pub goes_both : (a b c p q u v : List ℕ) (x y : Bool) → Goes a b p u x → Goes b c q v y → Goes a c (p ++ q) (u ++ v) (x && y)
-goes_both a b c p q u v x y g h text out whole s =
-    subst (λ t. Shown t (out ++ (u ++ v)) c (whole && (x && y))) (append_assoc text p q)
-    (subst (λ o. Shown ((text ++ p) ++ q) o c (whole && (x && y))) (append_assoc out u v)
-    (subst (λ w. Shown ((text ++ p) ++ q) ((out ++ u) ++ v) c w) (and_assoc whole x y) (h (text ++ p) (out ++ u) (whole && x) (g text out whole s))))
+pub goes_both : {options : Options} → (a b c p q u v : List ℕ) (x y : Bool) → Goes options a b p u x → Goes options b c q v y → Goes options a c (p ++ q) (u ++ v) (x && y)
+goes_both {options} a b c p q u v x y g h text out whole s =
+    subst (λ t. Shown options t (out ++ (u ++ v)) c (whole && (x && y))) (append_assoc text p q)
+    (subst (λ o. Shown options ((text ++ p) ++ q) o c (whole && (x && y))) (append_assoc out u v)
+    (subst (λ w. Shown options ((text ++ p) ++ q) ((out ++ u) ++ v) c w) (and_assoc whole x y) (h (text ++ p) (out ++ u) (whole && x) (g text out whole s))))
 
 -- bytes without LF
-pub goes_on : (before after piece : List ℕ) → IsUnbroken piece → after ≡ held_of (before ++ piece) → Goes before after piece [] true
-goes_on before after piece solid e text out whole s =
+pub goes_on : {options : Options} → (before after piece : List ℕ) → IsUnbroken piece → after ≡ held_of (before ++ piece) → Goes options before after piece [] true
+goes_on {options} before after piece solid e text out whole s =
     record {
       lines = s.lines;
       current = s.current ++ piece;
@@ -61,15 +62,15 @@ goes_on before after piece solid e text out whole s =
       unbroken = s.unbroken;
       open_end = all_append (λ b. b ≢ 10) s.current piece s.open_end solid;
       is_held = e ∙ ap (λ t. held_of (t ++ piece)) s.is_held ∙ take_twice most_held s.current piece;
-      shown = subst (λ o. ShowsEach Shows s.lines o (whole && true)) (sym (append-nil out)) (subst (λ w. ShowsEach Shows s.lines out w) (sym (and_true whole)) s.shown);
+      shown = subst (λ o. ShowsEach (Shows options) s.lines o (whole && true)) (sym (append-nil out)) (subst (λ w. ShowsEach (Shows options) s.lines out w) (sym (and_true whole)) s.shown);
     }
 
 -- bytes without LF, and then LF
-pub goes_over : (before piece written : List ℕ) (read : Bool) → IsUnbroken piece → Shows (held_of (before ++ piece)) written read → Goes before [] (line piece) written read
-goes_over before piece written read solid h text out whole s =
+pub goes_over : {options : Options} → (before piece written : List ℕ) (read : Bool) → IsUnbroken piece → Shows options (held_of (before ++ piece)) written read → Goes options before [] (line piece) written read
+goes_over {options} before piece written read solid h text out whole s =
     let joined : held_of (before ++ piece) ≡ held_of (s.current ++ piece) = ap (λ t. held_of (t ++ piece)) s.is_held ∙ take_twice most_held s.current piece in
     let whole_line = s.current ++ piece in
-    let full = from_held whole_line written read (subst (λ t. Shows t written read) joined h) in
+    let full = from_held whole_line written read (subst (λ t. Shows options t written read) joined h) in
     record {
       lines = s.lines ++ whole_line ∷ [];
       current = [];
@@ -78,14 +79,14 @@ goes_over before piece written read solid h text out whole s =
       unbroken = all_append IsUnbroken s.lines (whole_line ∷ []) s.unbroken (all_append (λ b. b ≢ 10) s.current piece s.open_end solid, tt);
       open_end = tt;
       is_held = refl;
-      shown = each_more Shows s.lines out whole_line written whole read s.shown full;
+      shown = each_more (Shows options) s.lines out whole_line written whole read s.shown full;
     }
 
 -- ---- the end of a text
 
 -- nothing is held
-pub ends_here : (text out : List ℕ) (whole : Bool) → Shown text out [] whole → ShowsAll text out whole
-ends_here text out whole s =
+pub ends_here : {options : Options} → (text out : List ℕ) (whole : Bool) → Shown options text out [] whole → ShowsAll options text out whole
+ends_here {options} text out whole s =
     let len : length s.current ≡ 0 = omega (arith, ap length s.is_held, length-take most_held s.current) in
     record {
       lines = s.lines;
@@ -98,11 +99,11 @@ some_bytes [] h = absurd (h refl)
 some_bytes (b ∷ text) h = omega arith
 
 -- the last line lacks its LF
-pub ends_open : (text out held written : List ℕ) (whole read : Bool) → Shown text out held whole → held ≢ [] → Shows held written read → ShowsAll text (out ++ written) (whole && read)
-ends_open text out held written whole read s some h =
+pub ends_open : {options : Options} → (text out held written : List ℕ) (whole read : Bool) → Shown options text out held whole → held ≢ [] → Shows options held written read → ShowsAll options text (out ++ written) (whole && read)
+ends_open {options} text out held written whole read s some h =
     let len : 0 < length s.current = omega (arith, some_bytes held some, ap length s.is_held, length-take most_held s.current) in
     record {
       lines = s.lines ++ s.current ∷ [];
       cut = Open s.lines s.current s.unbroken s.open_end len refl s.cut;
-      shown = each_more Shows s.lines out s.current written whole read s.shown (from_held s.current written read (subst (λ t. Shows t written read) s.is_held h));
+      shown = each_more (Shows options) s.lines out s.current written whole read s.shown (from_held s.current written read (subst (λ t. Shows options t written read) s.is_held h));
     }

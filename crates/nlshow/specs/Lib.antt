@@ -1,7 +1,7 @@
 pub mod Arguments
+pub mod CommandLine
 pub mod List
 pub mod Messages
-pub mod Verdict
 pub mod Show
 pub mod Progress
 pub mod Run

@@ -11,7 +11,11 @@ use Rattle.nlshow.specs.declared.asking.Asked.{Asked}
 use Rattle.nlshow.specs.declared.asking.Asked.TheVariants.{Messages, Attributes, Verdict}
 use Rattle.nlshow.specs.List.{ShowsList, ShowsEach}
 use Rattle.nlshow.specs.Messages.{ShowsMessages}
-use Rattle.nlshow.specs.Verdict.{ShowsVerdict}
+use Rattle.nlshow.specs.declared.arguments.Options.{Options}
+use Rattle.nlshow.specs.declared.arguments.Format.{Format}
+use Rattle.nlshow.specs.declared.arguments.Format.TheVariants.{Plain, Debug}
+use Rattle.link_show.specs.List.{ShowsVerdict, ShowsChecked}
+use Rattle.link_show.specs.Message as plain
 
 -- ---- a line
 
@@ -69,27 +73,42 @@ pub data AsksNothing (text : List ℕ) : Type 0 where
   First : (word rest : List ℕ) → IsCut text word rest → word ≢ codes "message" → word ≢ codes "check" → IsNoFamily word → AsksNothing text
   Second : (word rest : List ℕ) → IsChecked text word rest → IsNoFamily word → AsksNothing text
 
--- the output of a command for bytes, and whether they decode and, for `check`, are canonical
-abbrev pub ShowsAsked : Asked → List ℕ → List ℕ → Bool → Type 0
-ShowsAsked Messages = ShowsMessages
-ShowsAsked (Attributes family) = ShowsList [] 0 (table_of family)
-ShowsAsked (Verdict family) = ShowsVerdict (table_of family)
+-- what is written for commands: for a command and its bytes, the output, and whether it is well
+abbrev pub Form : Type 1
+Form = Asked → List ℕ → List ℕ → Bool → Type 0
+
+-- as Rust's `Debug` prints values
+abbrev pub ShowsDebug : Form
+ShowsDebug Messages = ShowsMessages
+ShowsDebug (Attributes family) = ShowsList [] 0 (table_of family)
+ShowsDebug (Verdict family) = ShowsVerdict true [] 0 (table_of family)
+
+-- as people read values; `check` asks whether lists are canonical
+abbrev pub ShowsPlain : Bool → Form
+ShowsPlain check Messages = plain.ShowsMessages check
+ShowsPlain check (Attributes family) = ShowsChecked check (codes "  ") 0 (table_of family)
+ShowsPlain check (Verdict family) = ShowsVerdict true [] 0 (table_of family)
+
+-- by the option
+abbrev pub ShowsAs : Format → Bool → Form
+ShowsAs Debug check = ShowsDebug
+ShowsAs Plain check = ShowsPlain check
 
 -- the output for digits: the one for the bytes that they encode, or `bad hex` if they are not valid hex
-abbrev pub ShowsDigits : Asked → Result (List ℕ) FromHexError → List ℕ → Bool → Type 0
-ShowsDigits asked (Ok s) out read = ShowsAsked asked s out read
-ShowsDigits asked (Err e) out read = (out ≡ line (codes "bad hex")) × (read ≡ false)
+abbrev pub ShowsDigits : Form → Asked → Result (List ℕ) FromHexError → List ℕ → Bool → Type 0
+ShowsDigits form asked (Ok s) out read = form asked s out read
+ShowsDigits form asked (Err e) out read = (out ≡ line (codes "bad hex")) × (read ≡ false)
 
 -- the output that follows a line: the one of its command, or that it has no valid command
-pub data ShowsBelow (text out : List ℕ) (read : Bool) : Type 0 where
-  Known : (asked : Asked) (rest : List ℕ) → Asks text asked rest → ShowsDigits asked (decode_of (digits_of rest)) out read → ShowsBelow text out read
-  Unknown : AsksNothing text → out ≡ line (codes "no such family") → read ≡ false → ShowsBelow text out read
+pub data ShowsBelow (form : Form) (text out : List ℕ) (read : Bool) : Type 0 where
+  Known : (asked : Asked) (rest : List ℕ) → Asks text asked rest → ShowsDigits form asked (decode_of (digits_of rest)) out read → ShowsBelow form text out read
+  Unknown : AsksNothing text → out ≡ line (codes "no such family") → read ≡ false → ShowsBelow form text out read
 
 -- the output for a line, and whether the line has no error
-pub data Shows (text out : List ℕ) (read : Bool) : Type 0 where
-  TooLong : most_text < length text → out ≡ line (codes "input too long") → read ≡ false → Shows text out read
-  PassedOver : length text ≤ most_text → IsPassedOver text → out ≡ [] → read ≡ true → Shows text out read
-  Answered : length text ≤ most_text → ¬ IsPassedOver text → (below : List ℕ) → ShowsBelow text below read → out ≡ line text ++ below → Shows text out read
+pub data Shows (options : Options) (text out : List ℕ) (read : Bool) : Type 0 where
+  TooLong : most_text < length text → out ≡ line (codes "input too long") → read ≡ false → Shows options text out read
+  PassedOver : length text ≤ most_text → IsPassedOver text → out ≡ [] → read ≡ true → Shows options text out read
+  Answered : length text ≤ most_text → ¬ IsPassedOver text → (below : List ℕ) → ShowsBelow (ShowsAs options.format options.check) text below read → out ≡ line text ++ below → Shows options text out read
 
 -- ---- a text
 
@@ -104,7 +123,7 @@ pub data AreLines (text : List ℕ) (lines : List (List ℕ)) : Type 0 where
       → AreLines text lines
 
 -- the outputs for the lines of a text, in order, and whether no line has an error
-pub record ShowsAll (text out : List ℕ) (whole : Bool) : Type 0 where
+pub record ShowsAll (options : Options) (text out : List ℕ) (whole : Bool) : Type 0 where
   pub lines : List (List ℕ)
   pub cut : AreLines text lines
-  pub shown : ShowsEach Shows lines out whole
+  pub shown : ShowsEach (Shows options) lines out whole

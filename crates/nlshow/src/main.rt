@@ -1,6 +1,6 @@
 //! Prints the values of lists of link attributes, and of the lists in link messages.
 //!
-//! Usage: `nlshow`, without arguments. Each line of standard input is one of
+//! Usage: `nlshow [--format plain|debug] [--check] | --help | --version`. Each line of standard input is one of
 //!
 //! - `FAMILY HEX`: the bytes of a list. FAMILY is `af_spec_bridge`, `bond`, `bond_port`, `bridge`, `bridge_port`,
 //!   `vlan`, `can`, `dsa`, `hsr` or `proto_bridge`;
@@ -15,12 +15,15 @@ mod asking;
 mod held;
 mod lists;
 mod messages;
+mod plain;
+mod replies;
 mod running;
 mod showing;
 #[cfg(test)]
 mod tests;
 mod verdicts;
 
+use arguments::{Request, parse, wrong};
 use program::{collect_arguments, print, print_no_memory, unbuffered};
 use std::alloc::AllocError;
 use std::io;
@@ -30,21 +33,25 @@ use std::rt::Env;
 
 fn main(rt: HostRuntime) -> ExitCode {
     let mut plain = unbuffered(rt.alloc(), io::writer(&rt));
-    let status = match is_called_alone(&rt) {
-        Ok(true) => match BufWriter::new(rt.alloc(), io::writer(&rt)) {
-            Ok(mut writer) => running::run(rt.alloc(), &mut rt.reader(), &mut writer),
+    let status = match request(&rt) {
+        Ok(Request::Run(options)) => match BufWriter::new(rt.alloc(), io::writer(&rt)) {
+            Ok(mut writer) => running::run(rt.alloc(), options, &mut rt.reader(), &mut writer),
             Err(_) => print_no_memory(&mut plain),
         },
-        Ok(false) => print(&mut plain, "usage: nlshow\n", 2),
+        Ok(Request::Print(reply)) => print(&mut plain, reply.text(), reply.status()),
         Err(_) => print_no_memory(&mut plain),
     };
     ExitCode::from(status)
 }
 
-/// Checks whether the program was started without arguments.
-fn is_called_alone<R: Env + AllocGlobal>(rt: &R) -> Result<bool, AllocError> {
+/// Returns what the command line asks for.
+///
+/// # Errors
+///
+/// `AllocError` if an allocation fails.
+fn request<R: Env + AllocGlobal>(rt: &R) -> Result<Request, AllocError> {
     match collect_arguments(rt)? {
-        Some(words) => Ok(arguments::are_none(&words)),
-        None => Ok(false),
+        Some(words) => parse(rt.alloc(), &words),
+        None => wrong(rt.alloc(), "error: an argument is not UTF-8"),
     }
 }

@@ -9,6 +9,7 @@ ghost use Rattle.nlshow.specs.Progress.{held_of, Grows, WritesLine, WritesPiece,
 ghost use Rattle.nlshow.specs.Run.{RunsFor, Runs, EndsWith};
 ghost use Rattle.program.specs.Printing.{no_memory_line};
 
+use crate::arguments::Options;
 use crate::held::Held;
 use crate::showing::show;
 use program::{finish, print_no_memory, print_read_fault};
@@ -32,8 +33,13 @@ pub(crate) enum Stop {
 /// - 1 if a line has an error;
 /// - 4 if an allocation fails;
 /// - 5 if the reader or the writer fails.
-pub fn run<R: Read, W: Write + Drop>(alloc: Global, reader: &mut R, writer: &mut BufWriter<W>) -> u8
-    ensures report { result < 2 → RunsFor (R.remaining reader.old) (R.remaining reader.new)
+pub fn run<R: Read, W: Write + Drop>(
+    alloc: Global,
+    options: Options,
+    reader: &mut R,
+    writer: &mut BufWriter<W>,
+) -> u8
+    ensures report { result < 2 → RunsFor options (R.remaining reader.old) (R.remaining reader.new)
         (writer_contents W.contents writer.old) (W.contents (writer_inner writer.new)) result }
     // The line `no memory` is the last of the output.
     ensures memory { result ≡ 4 → EndsWith (writer_contents W.contents writer.old)
@@ -42,7 +48,7 @@ pub fn run<R: Read, W: Write + Drop>(alloc: Global, reader: &mut R, writer: &mut
     ensures empty { result < 5 → writer_buffer writer.new ≡ [] }
     ensures known { (result < 2) ⊎ ((result ≡ 4) ⊎ (result ≡ 5)) }
 {
-    match show_all(alloc, reader, writer) {
+    match show_all(alloc, options, reader, writer) {
         Ok(true) => finish(writer, 0),
         Ok(false) => finish(writer, 1),
         Err(Stop::Memory) => print_no_memory(writer),
@@ -52,8 +58,13 @@ pub fn run<R: Read, W: Write + Drop>(alloc: Global, reader: &mut R, writer: &mut
 }
 
 /// Processes all lines of `reader`; the last one may lack its LF. Returns whether no line has an error.
-fn show_all<R: Read, W: Write>(alloc: Global, reader: &mut R, writer: &mut W) -> Result<bool, Stop>
-    ensures shown { IfOk result (Runs (R.remaining reader.old) (R.remaining reader.new)
+fn show_all<R: Read, W: Write>(
+    alloc: Global,
+    options: Options,
+    reader: &mut R,
+    writer: &mut W,
+) -> Result<bool, Stop>
+    ensures shown { IfOk result (Runs options (R.remaining reader.old) (R.remaining reader.new)
         (W.contents writer.old) (W.contents writer.new)) }
     ensures memory { OnMemory result (Grows (W.contents writer.old) (W.contents writer.new)) }
 {
@@ -66,12 +77,12 @@ fn show_all<R: Read, W: Write>(alloc: Global, reader: &mut R, writer: &mut W) ->
     let mut whole = true;
     for _ in 0..u64::MAX {
         let count = match reader.read(chunk) {
-            Ok(0) => return end_text(alloc, &held, whole, writer),
+            Ok(0) => return end_text(alloc, options, &held, whole, writer),
             Ok(count) => count,
             Err(_) => return Err(Stop::Reader),
         };
         let (front, _) = chunk.split_at(count);
-        match feed(alloc, &mut held, front, writer) {
+        match feed(alloc, options, &mut held, front, writer) {
             Ok(read) => whole &= read,
             Err(stop) => return Err(stop),
         }
@@ -83,18 +94,19 @@ fn show_all<R: Read, W: Write>(alloc: Global, reader: &mut R, writer: &mut W) ->
 /// an error.
 fn feed<W: Write>(
     alloc: Global,
+    options: Options,
     held: &mut Held,
     chunk: &[u8],
     writer: &mut W,
 ) -> Result<bool, Stop>
-    ensures shown { IfOk result (WritesPiece held.old held.new chunk.now
+    ensures shown { IfOk result (WritesPiece options held.old held.new chunk.now
         (W.contents writer.old) (W.contents writer.new)) }
     ensures memory { OnMemory result (Grows (W.contents writer.old) (W.contents writer.new)) }
 {
     let mut whole = true;
     let mut rest = chunk;
     while let Some((piece, after)) = split_line(rest) {
-        match end_line(alloc, held, piece, writer) {
+        match end_line(alloc, options, held, piece, writer) {
             Ok(read) => whole &= read,
             Err(stop) => return Err(stop),
         }
@@ -124,11 +136,12 @@ fn split_line(bytes: &[u8]) -> Option<(&[u8], &[u8])>
 /// Processes the line that ends with `piece`.
 fn end_line<W: Write>(
     alloc: Global,
+    options: Options,
     held: &mut Held,
     piece: &[u8],
     writer: &mut W,
 ) -> Result<bool, Stop>
-    ensures shown { IfOk result (WritesLine (held_of (held.old ++ piece.now))
+    ensures shown { IfOk result (WritesLine options (held_of (held.old ++ piece.now))
         (W.contents writer.old) (W.contents writer.new)) }
     ensures forgotten { IfOk result (λ _. held.new ≡ []) }
     ensures memory { OnMemory result (Keeps (W.contents writer.old) (W.contents writer.new)) }
@@ -137,21 +150,27 @@ fn end_line<W: Write>(
         Ok(()) => {}
         Err(_) => return Err(Stop::Memory),
     }
-    let read = show(alloc, held.bytes(), writer);
+    let read = show(alloc, options, held.bytes(), writer);
     held.clear();
     read
 }
 
 /// Processes the last line, if it lacks its LF. Returns whether neither this line nor an earlier one has an error.
-fn end_text<W: Write>(alloc: Global, held: &Held, whole: bool, writer: &mut W) -> Result<bool, Stop>
-    ensures shown { IfOk result (WritesRest held.now whole (W.contents writer.old) (W.contents writer.new)) }
+fn end_text<W: Write>(
+    alloc: Global,
+    options: Options,
+    held: &Held,
+    whole: bool,
+    writer: &mut W,
+) -> Result<bool, Stop>
+    ensures shown { IfOk result (WritesRest options held.now whole (W.contents writer.old) (W.contents writer.new)) }
     ensures memory { OnMemory result (Keeps (W.contents writer.old) (W.contents writer.new)) }
 {
     let text = held.bytes();
     if text.is_empty() {
         return Ok(whole);
     }
-    match show(alloc, text, writer) {
+    match show(alloc, options, text, writer) {
         Ok(read) => Ok(whole & read),
         Err(stop) => Err(stop),
     }

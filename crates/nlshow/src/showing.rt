@@ -6,12 +6,14 @@ ghost use Rattle.hex.specs.Hex.{decode_of};
 ghost use Rattle.netlink_packet_route.specs.HexText.{digits_of};
 ghost use Rattle.netlink_packet_route.specs.Report.{line};
 ghost use Rattle.nlshow.specs.List.{Adds};
-ghost use Rattle.nlshow.specs.Show.{IsPassedOver, ShowsAsked, ShowsDigits, ShowsBelow};
-ghost use Rattle.nlshow.specs.Progress.{WritesLine, OnMemory};
+ghost use Rattle.nlshow.specs.Show.{IsPassedOver, ShowsDebug, ShowsDigits, ShowsBelow};
+ghost use Rattle.nlshow.specs.Progress.{WritesLine, WritesBelow, OnMemory};
 
+use crate::arguments::{Format, Options};
 use crate::asking::Asked;
 use crate::lists::push_list;
 use crate::messages::push_messages;
+use crate::plain::show_plain;
 use crate::running::Stop;
 use crate::verdicts::push_verdict;
 use link_messages::{Part, Payload};
@@ -23,8 +25,13 @@ use std::io::Write;
 
 /// Writes the output for an input line. Returns false if the line has an error: it is too long, has no valid command or
 /// bad hex, or its bytes do not decode or, for `check`, are not canonical.
-pub(crate) fn show<W: Write>(alloc: Global, text: &[u8], writer: &mut W) -> Result<bool, Stop>
-    ensures shown { IfOk result (WritesLine text.now (W.contents writer.old) (W.contents writer.new)) }
+pub(crate) fn show<W: Write>(
+    alloc: Global,
+    options: Options,
+    text: &[u8],
+    writer: &mut W,
+) -> Result<bool, Stop>
+    ensures shown { IfOk result (WritesLine options text.now (W.contents writer.old) (W.contents writer.new)) }
     ensures memory { OnMemory result (Keeps (W.contents writer.old) (W.contents writer.new)) }
 {
     if text.len() > MOST_TEXT {
@@ -36,6 +43,17 @@ pub(crate) fn show<W: Write>(alloc: Global, text: &[u8], writer: &mut W) -> Resu
     if is_passed_over(text) {
         return Ok(true);
     }
+    match options.format {
+        Format::Plain => show_plain(alloc, options.check, text, writer),
+        Format::Debug => show_debug(alloc, text, writer),
+    }
+}
+
+/// Writes a line and the output that follows it, as Rust's `Debug` prints values. Returns false if the line has an error.
+fn show_debug<W: Write>(alloc: Global, text: &[u8], writer: &mut W) -> Result<bool, Stop>
+    ensures shown { IfOk result (WritesBelow ShowsDebug text.now (W.contents writer.old) (W.contents writer.new)) }
+    ensures memory { OnMemory result (Keeps (W.contents writer.old) (W.contents writer.new)) }
+{
     match answer(alloc, text) {
         Ok((below, read)) => match write_below(writer, text, below.as_str()) {
             Ok(()) => Ok(read),
@@ -55,7 +73,7 @@ fn is_passed_over(text: &[u8]) -> bool
 }
 
 /// Writes `text`, LF, and `below`.
-fn write_below<W: Write>(writer: &mut W, text: &[u8], below: &str) -> io::Result<()>
+pub(crate) fn write_below<W: Write>(writer: &mut W, text: &[u8], below: &str) -> io::Result<()>
     ensures { OnOk result (Appends (W.contents writer.old) (W.contents writer.new) (line text.now ++ below.now)) }
 {
     writer.write_all(text)?;
@@ -65,7 +83,7 @@ fn write_below<W: Write>(writer: &mut W, text: &[u8], below: &str) -> io::Result
 
 /// Returns the output that follows a line, and false if the line has an error.
 fn answer(alloc: Global, text: &[u8]) -> Result<(String, bool), AllocError>
-    ensures { IfOk result (λ below. ShowsBelow text.now (string_bytes below.0) below.1) }
+    ensures { IfOk result (λ below. ShowsBelow ShowsDebug text.now (string_bytes below.0) below.1) }
 {
     match Asked::from_line(text) {
         Some((asked, rest)) => digits_text(alloc, asked, rest),
@@ -76,7 +94,7 @@ fn answer(alloc: Global, text: &[u8]) -> Result<(String, bool), AllocError>
 /// Returns the output that follows a line whose digits are `text`, and false if they have an error.
 fn digits_text(alloc: Global, asked: Asked, text: &[u8]) -> Result<(String, bool), AllocError>
     ensures { IfOk result
-        (λ below. ShowsDigits asked (decode_of (digits_of text.now)) (string_bytes below.0) below.1) }
+        (λ below. ShowsDigits ShowsDebug asked (decode_of (digits_of text.now)) (string_bytes below.0) below.1) }
 {
     let bytes = match hex_text::decode(alloc, text) {
         Ok(bytes) => bytes,
@@ -95,7 +113,7 @@ fn push_answer(
     asked: Asked,
     bytes: &[u8],
 ) -> Result<bool, AllocError>
-    ensures { IfOk result (Adds (ShowsAsked asked bytes.now) (string_bytes text.old) (string_bytes text.new)) }
+    ensures { IfOk result (Adds (ShowsDebug asked bytes.now) (string_bytes text.old) (string_bytes text.new)) }
 {
     match asked {
         Asked::Messages => push_messages(alloc, text, bytes),

@@ -1,9 +1,9 @@
 //! Formats the result of the check whether a list is canonical.
 
-ghost use Rattle.std.specs.Prelude.{IfOk, string_bytes};
+ghost use Rattle.std.specs.Prelude.{[], true, IfOk, string_bytes};
 ghost use Rattle.netlink_packet_route.specs.Family.{table_of};
 ghost use Rattle.nlshow.specs.List.{Adds};
-ghost use Rattle.nlshow.specs.Verdict.{ShowsVerdict};
+ghost use Rattle.link_show.specs.List.{ShowsVerdict};
 
 use netlink_packet_route::{Family, first_not_canonical};
 use std::alloc::AllocError;
@@ -17,7 +17,7 @@ pub(crate) fn push_verdict(
     bytes: &[u8],
 ) -> Result<bool, AllocError>
     ensures { IfOk result
-        (Adds (ShowsVerdict (table_of family) bytes.now) (string_bytes text.old) (string_bytes text.new)) }
+        (Adds (ShowsVerdict true [] 0 (table_of family) bytes.now) (string_bytes text.old) (string_bytes text.new)) }
 {
     match first_not_canonical(family, bytes) {
         Some(at) => {

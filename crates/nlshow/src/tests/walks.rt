@@ -2,7 +2,8 @@
 //! line; these tests cover what it does not print.
 
 use link_messages::{
-    DumpError, MessageError, Part, find_in, last_of_kind, next_message, read_link, read_links,
+    DumpError, MessageError, Part, any_message, find_in, last_of_kind, next_message, read_link,
+    read_links,
 };
 use netlink_packet_route::Family;
 
@@ -12,6 +13,13 @@ const TWO: &str = "\
     08000100 64736100 0c000200 08000100 2a000000 38000000 11000200 03000000 04000000 00000100 09000000 \
     43100000 00000000 18001200 08000100 64736100 0c000200 05000100 01000000 14000000 03000200 01000000 \
     00000000 00000000";
+
+/// The index and nothing else of two links, between them an RTM_NEWADDR (20) of interface 7 and an NLMSG_NOOP (1), and
+/// NLMSG_DONE.
+const AMONG_OTHERS: &str = "\
+    20000000 10000200 01000000 00000000 00000100 07000000 00000000 00000000 18000000 14000200 01000000 \
+    00000000 02080000 07000000 10000000 01000000 01000000 00000000 20000000 11000200 01000000 00000000 \
+    00000100 09000000 00000000 00000000 14000000 03000200 01000000 00000000 00000000";
 
 /// The data of the second port: an `IFLA_DSA_CONDUIT` of one byte, with its padding.
 const PAYLOAD: [u8; 8] = [5, 0, 1, 0, 1, 0, 0, 0];
@@ -43,4 +51,17 @@ fn messages(rt: HostRuntime) {
         left: 55,
     };
     assert!(rt; cut == Err(DumpError::Message(overrun)));
+}
+
+#[test]
+fn links_among_others(rt: HostRuntime) {
+    let alloc = rt.alloc();
+    let decoded = netlink_packet_route::hex_text::decode(alloc, AMONG_OTHERS.as_bytes());
+    let buffer = decoded.expect(&rt, "bytes");
+    let links = read_links(alloc, &buffer).expect(&rt, "links");
+    assert!(rt; links.len() == 2 && links[0].index == 7 && links[1].index == 9);
+    assert!(rt; next_message(&buffer, 104) == Ok(None));
+    let found = any_message(&buffer, 104).expect(&rt, "a header");
+    assert!(rt; found.is_some_and(|done| done.kind == 3 && done.next == 124));
+    assert!(rt; any_message(&buffer, 124) == Ok(None));
 }

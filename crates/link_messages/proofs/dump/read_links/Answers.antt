@@ -1,7 +1,7 @@
-use Rattle.std.proofs.Common.{◌≡◌, [], ◌∷◌, ◌++◌, inl, inr, subst, sym, arith, length-append}
+use Rattle.std.proofs.Common.{◌≡◌, true, false, [], ◌∷◌, ◌++◌, inl, inr, subst, sym, ◌∙◌, arith, length-append}
 use Rattle.std.proofs.lemmas.Grind.{common_steps}
 use Rattle.link_messages.specs.Dump.{LinksTo}
-use Rattle.link_messages.proofs.Links.{links_none, links_more}
+use Rattle.link_messages.proofs.Links.{links_none, links_more, links_past}
 use Rattle.link_messages.proofs.dump.read_links.Goals as goal
 
 pub loop-message-init : goal.loop-message-init
@@ -16,10 +16,17 @@ returns-in-Err c = (c.loop-message.at, c.loop-message.links.items, c.loop-messag
 pub returns-in-Err-read_link : goal.returns-in-Err-read_link
 returns-in-Err-read_link c =
     let next = rw c.in-Ok-Some.field-0-is at c.in-Ok-Some.ensures in
-    (c.loop-message.at, c.loop-message.links.items, c.loop-message.invariant, inr (c.in-Ok-Some.message, next, c.in-Err-read_link.ensures))
+    let kind = c.is_link_type.ensures.0 c.if-is_link_type.true in
+    (c.loop-message.at, c.loop-message.links.items, c.loop-message.invariant, inr (c.in-Ok-Some.message, next, kind, c.in-Err-read_link.ensures))
 
 pub loop-message-preserved : goal.loop-message-preserved
 loop-message-preserved c =
+    let next = rw c.in-Ok-Some.field-0-is at c.in-Ok-Some.ensures in
+    links_past c.args.buffer.now c.loop-message.at c.loop-message.links.items c.in-Ok-Some.message c.loop-message.invariant next
+    (λ h. let e : true ≡ false = sym (c.is_link_type.ensures.1 h) ∙ c.if-is_link_type.false in cc)
+
+pub loop-message-preserved-else-is_err : goal.loop-message-preserved-else-is_err
+loop-message-preserved-else-is_err c =
     let s = c.args.buffer.now in
     let links = c.loop-message.links.items in
     let next = rw c.in-Ok-Some.field-0-is at c.in-Ok-Some.ensures in

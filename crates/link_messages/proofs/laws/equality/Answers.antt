@@ -10,8 +10,10 @@ use Rattle.netlink_packet_route.specs.declared.family.Family.{Family}
 use Rattle.netlink_packet_route.specs.contracts.family.FamilyPartialEq.TheImpl as of_family
 use Rattle.link_messages.specs.contracts.views.PayloadPartialEq.TheImpl as of_payload
 use Rattle.link_messages.specs.contracts.link.PartPartialEq.TheImpl as of_part
+use Rattle.link_messages.specs.contracts.message.MessageErrorPartialEq.TheImpl as of_error
 use Rattle.link_messages.specs.declared.views.Payload.{Payload}
 use Rattle.link_messages.specs.declared.link.Part.{Part}
+use Rattle.link_messages.specs.declared.message.MessageError.{MessageError}
 use Rattle.link_messages.specs.Finding.{stretch_of}
 use Rattle.link_messages.specs.Link.{part_of}
 use Rattle.link_messages.proofs.laws.equality.Goals as goal
@@ -62,4 +64,27 @@ returns-clause-link c = λ a b.
         protinfo = k.1.1.1.1.1;
       },
       λ e. d.1 (e.index, (e.name, (e.info_data, (e.port_data, (e.af_spec, e.protinfo))))),
+    )
+
+same : {T : Type 0} {E : T → T → Bool} → ((x y : T) → Decides (E x y) (x ≡ y)) → (x y : Option T) → Decides (option_eq E x y) (x ≡ y)
+same d None None = (λ _. refl, λ _. refl)
+same d None (Some y) = (λ h. absurd (true≢false (sym h)), λ h. absurd cc)
+same d (Some x) None = (λ h. absurd (true≢false (sym h)), λ h. absurd cc)
+same d (Some x) (Some y) = (λ h. ap Some ((d x y).0 h), λ h. let e : x ≡ y = cc in (d x y).1 e)
+
+numbers : (x y : Option ℕ) → Decides (option_eq nat_eq x y) (x ≡ y)
+numbers = same unsigned_Decides
+
+errors : (a b : MessageError) → Decides (of_error.ghosts.eq a b) (a ≡ b)
+errors a b = search rules
+
+faults : (x y : Option MessageError) → Decides (option_eq of_error.ghosts.eq x y) (x ≡ y)
+faults = same errors
+
+pub returns-clause-acknowledgement : goal.returns-clause-acknowledgement
+returns-clause-acknowledgement c = λ a b.
+    let d = two _ _ (signed_Decides a.error b.error) (two _ _ (names a.text b.text) (two _ _ (numbers a.offset b.offset)
+    (two _ _ (numbers a.missing_type b.missing_type) (faults a.fault b.fault)))) in (
+      λ h. let k = d.0 h in record { error = k.0; text = k.1.0; offset = k.1.1.0; missing_type = k.1.1.1.0; fault = k.1.1.1.1 },
+      λ e. d.1 (e.error, (e.text, (e.offset, (e.missing_type, e.fault)))),
     )

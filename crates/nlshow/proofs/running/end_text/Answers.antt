@@ -10,5 +10,5 @@ returns-in-Ok-clause-shown g c =
     let same = c.bytes-text.ensures in
     inr (
       λ empty. eqb-false (length text) 0 (sym c.is_empty.ensures ∙ c.if-is_empty.false) (ap length (same ∙ empty)),
-      (c.in-Ok.read, (shown.0, subst (λ t. Shows t shown.0 c.in-Ok.read) same shown.1, shown.2), refl),
+      (c.in-Ok.read, (shown.0, subst (λ t. Shows c.args.options t shown.0 c.in-Ok.read) same shown.1, shown.2), refl),
     )

@@ -32,7 +32,7 @@ returns-in-Ok-eq0-clause-shown g c =
     let u = g.W.Write.contents c.end_text.new.writer in
     let some : 0 < length c.read.new.buf = omega (arith, c.read.auto.buf, c.loop.auto.chunk, c.as_mut_slice-chunk.ensures.len, c.in-Ok.ensures.len) in
     let end = read_end s t c.in-Ok-eq0.field-0 c.read.new.buf c.in-Ok-eq0.field-0-test c.in-Ok-eq0.ensures.bytes some in
-    if_ok (WritesRest c.loop.held c.loop.whole v u) (Runs r t w u) c.end_text.result (λ all h. went_all c.loop.held r s t w v u c.loop.whole all c.loop.invariant end.0 end.1 h) c.end_text.ensures.shown
+    if_ok (WritesRest c.args.options c.loop.held c.loop.whole v u) (Runs c.args.options r t w u) c.end_text.result (λ all h. went_all c.loop.held r s t w v u c.loop.whole all c.loop.invariant end.0 end.1 h) c.end_text.ensures.shown
 
 pub returns-in-Ok-eq0-clause-memory : goal.returns-in-Ok-eq0-clause-memory
 returns-in-Ok-eq0-clause-memory g c =

@@ -1,0 +1,78 @@
+//! The header of a message about a link.
+
+ghost use Rattle.std.specs.Prelude.{◌≡◌, ◌≤◌, ◌↔◌, length, IsTrue, MatchResult};
+ghost use Rattle.link_messages.specs.Message.{packet_of};
+ghost use Rattle.link_messages.specs.Finding.{stretch_of};
+ghost use Rattle.link_messages.specs.Link.{attributes_of};
+ghost use Rattle.link_messages.specs.Header.{IsAnyLinkType, IsLinkHeader, HasLinkHeader, HasNoLinkHeader};
+
+use crate::link::{index_of, is_link_type};
+use crate::message::MessageError;
+use crate::views::{Message, Payload};
+use link_base::{u16_at, u32_at};
+
+/// The type of a request for a link (`include/uapi/linux/rtnetlink.h`).
+const RTM_GETLINK: u16 = 18;
+
+/// The fields of a `struct ifinfomsg` (`include/uapi/linux/rtnetlink.h`).
+#[derive(Clone, Copy, Debug, PartialEq, Eq)]
+pub struct LinkHeader {
+    /// `ifi_family`: 7 (AF_BRIDGE) in messages about bridges and bridge ports, usually 0 (AF_UNSPEC) in others
+    /// (`include/linux/socket.h`).
+    pub family: u8,
+    /// `ifi_type`: the type of the device, `ARPHRD_..` (`include/uapi/linux/if_arp.h`).
+    pub kind: u16,
+    /// `ifi_index`: the interface index, or 0.
+    pub index: i32,
+    /// `ifi_flags`: a set of `IFF_..` (`include/uapi/linux/if.h`).
+    pub flags: u32,
+    /// `ifi_change`: the flags that a request changes.
+    pub change: u32,
+}
+
+/// Parses the `struct ifinfomsg` of a message about a link, and returns it and the list of attributes that follows it.
+///
+/// # Errors
+///
+/// `OtherType` if the type is none of RTM_NEWLINK (16), RTM_DELLINK (17), RTM_GETLINK (18) and RTM_SETLINK (19).
+/// `ShortLink` if the message is shorter than the headers `struct nlmsghdr` and `struct ifinfomsg`, 32 bytes.
+pub fn link_header<'a>(message: &Message<'a>) -> Result<(LinkHeader, Payload<'a>), MessageError>
+    ensures { MatchResult result
+        (λ read. HasLinkHeader (packet_of message.now) read.0
+        × (stretch_of read.1 ≡ attributes_of message.now.at (packet_of message.now)))
+        (HasNoLinkHeader message.now.at (packet_of message.now)) }
+{
+    let at = message.at;
+    let kind = message.kind;
+    if !is_any_link_type(kind) {
+        return Err(MessageError::OtherType { at, kind });
+    }
+    let body = message.payload;
+    if body.len() < 16 {
+        let length = 16 + body.len();
+        return Err(MessageError::ShortLink { at, length });
+    }
+    let bytes = &body[16..];
+    Ok((header_of(body), Payload { at: at + 32, bytes }))
+}
+
+/// Checks whether messages of type `kind` have a `struct ifinfomsg`.
+fn is_any_link_type(kind: u16) -> bool
+    ensures { IsTrue result ↔ IsAnyLinkType kind }
+{
+    is_link_type(kind) || kind == RTM_GETLINK
+}
+
+/// Parses the `struct ifinfomsg` with which `body` starts.
+fn header_of(body: &[u8]) -> LinkHeader
+    requires { 16 ≤ length body.now }
+    ensures { IsLinkHeader body.now result }
+{
+    LinkHeader {
+        family: body[0],
+        kind: u16_at(body, 2),
+        index: index_of(body),
+        flags: u32_at(body, 8),
+        change: u32_at(body, 12),
+    }
+}

@@ -1,0 +1,146 @@
+-- The lines of messages, from what was written for their parts.
+use Rattle.std.proofs.Common.{◌≡◌, ◌≢◌, ℕ, ℤ, ◌+◌, ◌==◌, Bool, true, false, ◌&&◌, List, [], ◌∷◌, ◌++◌, length, drop, Option, Some, None, Result, Ok, Err, OnOk, IfOk, refl, sym, ap, subst, ◌∙◌, append_assoc, codes}
+use Rattle.std.specs.Fmt.{decimal, signed_decimal}
+use Rattle.std.specs.Int.RustNames.{unsigned_abs}
+use Rattle.std.specs.Io.KnownBytes.{Appends}
+use Rattle.std.proofs.KnownBytes.{Appends-nil, Appends-trans}
+use Rattle.std.proofs.lemmas.Bool.{cond-true, cond-false, eq-eqb, ne_eqb}
+use Rattle.std.proofs.lemmas.List.{append-nil}
+use Rattle.link_base.specs.Labels.{name_in}
+use Rattle.link_messages.specs.declared.views.Message.{Message}
+use Rattle.link_messages.specs.declared.message.MessageError.{MessageError}
+use Rattle.link_messages.specs.declared.message.MessageError.TheVariants as errors
+use Rattle.link_messages.specs.declared.header.LinkHeader.{LinkHeader}
+use Rattle.link_messages.specs.Message.{NextMessage, NextOfAny, Stand, IsMessageAt, header_fault}
+use Rattle.link_messages.proofs.Messages.{stand_more}
+use Rattle.link_show.specs.Flags.{flags_text}
+use Rattle.link_show.specs.MessageNames.{address_families, device_types, device_flags}
+use Rattle.link_show.specs.Structs.{field}
+use Rattle.link_show.specs.Fault.{bytes_text, byte_word}
+use Rattle.link_show.specs.Errno.{errno_names}
+use Rattle.link_show.specs.List.{indented, EachShown, Writes}
+use Rattle.link_show.specs.Message.{two, name_part, named_or, link_line, unless_zero, others_line, result_line, error_number_line, opaque_text, message_line, message_error_line, ShowsBody, ShowsMessage, ShowsMessages, ShowsEnd, Ended, Done, Broken}
+use Rattle.link_show.proofs.Listing.{and_true, each_none, each_more}
+
+pub if_ok : {X E : Type 0} (P Q : X → Type 0) (r : Result X E) → ((x : X) → P x → Q x) → IfOk r P → IfOk r Q
+if_ok P Q (Ok x) f h = f x h
+if_ok P Q (Err e) f h = h
+
+-- a name, a text after a space, and LF
+pub line_written : (name text : List ℕ) (old m n new : Option (List ℕ)) → Appends old m (two ++ (name ++ codes " ")) → Appends m n text → Appends n new (10 ∷ []) → Appends old new (indented two (field name text))
+line_written name text old m n new first second last =
+    let shape : (two ++ (name ++ codes " ")) ++ (text ++ 10 ∷ []) ≡ indented two (field name text) = simp append_assoc in
+    subst (Appends old new) shape (Appends-trans old m new (two ++ (name ++ codes " ")) (text ++ 10 ∷ []) first (Appends-trans m n new text (10 ∷ []) second last))
+
+-- likewise, if the last write succeeds
+pub named_line : {X E : Type 0} (r : Result X E) (name text : List ℕ) (old m n new : Option (List ℕ)) → Appends old m (two ++ (name ++ codes " ")) → Appends m n text → OnOk r (Appends n new (10 ∷ []))
+    → OnOk r (Appends old new (indented two (field name text)))
+named_line (Ok x) name text old m n new first second last = line_written name text old m n new first second last
+named_line (Err e) name text old m n new first second last = last
+
+-- ---- texts
+
+pub family_line : (name set : List ℕ) → two ++ (name ++ (codes " (" ++ (set ++ codes ")\n"))) ≡ indented two (field name (codes "(" ++ (set ++ codes ")")))
+family_line name set = simp append_assoc
+
+pub opaque_line : (name : List ℕ) (n : ℕ) → two ++ (name ++ (codes " (" ++ (decimal n ++ (byte_word n ++ codes ", not decoded)\n")))) ≡ indented two (field name (opaque_text n))
+opaque_line name n = simp append_assoc
+
+pub many_others : (n : ℕ) → n ≢ 0 → n ≢ 1 → two ++ (decimal n ++ codes " other attributes\n") ≡ others_line n
+many_others n zero one =
+    let shape : two ++ (decimal n ++ codes " other attributes\n") ≡ indented two (decimal n ++ codes " other attributes") = simp append_assoc in
+    shape ∙ sym (cond-false _ _ _ (ne_eqb _ _ zero) ∙ cond-false _ _ _ (ne_eqb _ _ one))
+
+pub field_unless_zero : (n : ℕ) (name text : List ℕ) → n ≢ 0 → (codes " " ++ (name ++ codes " ")) ++ text ≡ unless_zero n name text
+field_unless_zero n name text some =
+    let shape : (codes " " ++ (name ++ codes " ")) ++ text ≡ codes " " ++ field name text = simp append_assoc in
+    shape ∙ sym (cond-false _ _ _ (ne_eqb _ _ some))
+
+pub result_text : (e : ℤ) (name : Option (List ℕ)) → unsigned_abs e ≢ 0 → name ≡ name_in errno_names (unsigned_abs e) → error_number_line name e ≡ result_line e
+unfolding result_line
+result_text e name some is = ap (λ k. error_number_line k e) is ∙ sym (cond-false _ _ _ (ne_eqb _ _ some))
+
+pub ack_text : (e : ℤ) → unsigned_abs e ≡ 0 → codes "  ack\n" ≡ result_line e
+unfolding result_line
+ack_text e none = sym (cond-true _ _ _ (eq-eqb _ _ none))
+
+pub named_error : (e : ℤ) (name : List ℕ) → codes "  error " ++ (name ++ (codes " (" ++ (signed_decimal e ++ codes ")\n"))) ≡ error_number_line (Some name) e
+named_error e name = simp append_assoc
+
+pub bare_error : (e : ℤ) → codes "  error (" ++ (signed_decimal e ++ codes ")\n") ≡ error_number_line None e
+bare_error e = simp append_assoc
+
+pub small_length : (indent : List ℕ) (at size : ℕ) → indent ++ (codes "error at " ++ (decimal at ++ (codes ": nlmsg_len " ++ (decimal size ++ codes " is below 16\n")))) ≡ message_error_line indent (errors.SmallLength at size)
+unfolding message_error_line
+small_length indent at size = simp append_assoc
+
+pub overrun : (indent : List ℕ) (at size left : ℕ) → (indent ++ (codes "error at " ++ (decimal at ++ (codes ": nlmsg_len " ++ (decimal size ++ codes " exceeds the "))))) ++ bytes_text left (codes " left\n")
+    ≡ message_error_line indent (errors.Overrun at size left)
+unfolding message_error_line
+overrun indent at size left = simp append_assoc
+
+pub link_shape : (h : LinkHeader) (name : Option (List ℕ)) → (codes "  ifindex " ++ signed_decimal h.index) ++ (name_part name
+    ++ (unless_zero h.family (codes "family") (named_or [] (name_in address_families h.family) h.family)
+    ++ (unless_zero h.kind (codes "type") (named_or [] (name_in device_types h.kind) h.kind)
+    ++ (unless_zero h.flags (codes "flags") (flags_text device_flags 4 h.flags)
+    ++ (unless_zero h.change (codes "change") (flags_text device_flags 4 h.change) ++ 10 ∷ [])))))
+    ≡ link_line h name
+unfolding link_line
+link_shape h name = simp append_assoc
+
+-- ---- the messages of a buffer
+
+-- a message after its first line
+pub message_written : (check : Bool) (m : Message) (old mid new : Option (List ℕ)) (well : Bool) → Appends old mid (message_line m) → Writes (ShowsBody check m) mid new well
+    → Writes (ShowsMessage check m) old new well
+message_written check m old mid new well first (body, is, second) =
+    (message_line m ++ body, record { body = body; is_body = is; joined = refl }, Appends-trans old mid new (message_line m) body first second)
+
+-- the messages before offset `at` were written
+pub record MessagesTo (check : Bool) (s : List ℕ) (at : ℕ) (old new : Option (List ℕ)) (whole : Bool) : Type 0 where
+  pub messages : List Message
+  pub stand : Stand s 0 messages at
+  pub front : List ℕ
+  pub each : EachShown (ShowsMessage check) messages front whole
+  pub written : Appends old new front
+
+pub messages_none : (check : Bool) (s : List ℕ) (w : Option (List ℕ)) → MessagesTo check s 0 w w true
+messages_none check s w = record { messages = []; stand = refl; front = []; each = each_none (ShowsMessage check); written = Appends-nil w }
+
+-- one more
+pub messages_more : (check : Bool) (s : List ℕ) (at : ℕ) (m : Message) (old mid new : Option (List ℕ)) (whole well : Bool) → MessagesTo check s at old mid whole → IsMessageAt at (drop at s) m → m.kind ≢ 3
+    → Writes (ShowsMessage check m) mid new well → MessagesTo check s m.next old new (whole && well)
+messages_more check s at m old mid new whole well h is other (out, shown, written) = record {
+  messages = h.messages ++ m ∷ [];
+  stand = stand_more s 0 at h.messages m h.stand (is, other);
+  front = h.front ++ out;
+  each = each_more (ShowsMessage check) h.messages h.front m out whole well h.each shown;
+  written = Appends-trans old mid new h.front out h.written written;
+}
+
+ends : (check : Bool) (s : List ℕ) (at : ℕ) (old mid new : Option (List ℕ)) (whole well : Bool) (out : List ℕ) → MessagesTo check s at old mid whole → ShowsEnd check s at out well → Appends mid new out
+    → Writes (ShowsMessages check s) old new (whole && well)
+ends check s at old mid new whole well out h shown written = (
+  h.front ++ out,
+  record { messages = h.messages; end = at; stand = h.stand; front = h.front; front_well = whole; each = h.each; last = out; last_well = well; at_end = shown; joined = refl; all = refl },
+  Appends-trans old mid new h.front out h.written written,
+)
+
+-- the end of the buffer
+pub messages_all : (check : Bool) (s : List ℕ) (at : ℕ) (old new : Option (List ℕ)) (whole : Bool) → MessagesTo check s at old new whole → drop at s ≡ [] → Writes (ShowsMessages check s) old new whole
+messages_all check s at old new whole h e = subst (Writes (ShowsMessages check s) old new) (and_true whole) (ends check s at old new new whole true [] h (Ended e refl refl) (Appends-nil new))
+
+-- an NLMSG_DONE
+pub messages_done : (check : Bool) (s : List ℕ) (at : ℕ) (m : Message) (old mid new : Option (List ℕ)) (whole well : Bool) → MessagesTo check s at old mid whole → IsMessageAt at (drop at s) m → m.kind ≡ 3
+    → Writes (ShowsMessage check m) mid new well → Writes (ShowsMessages check s) old new (whole && well)
+messages_done check s at m old mid new whole well h is done (out, shown, written) = ends check s at old mid new whole well out h (Done m is done shown) written
+
+and_false : (b : Bool) → (b && false) ≡ false
+and_false true = refl
+and_false false = refl
+
+-- bytes that are no message
+pub messages_broken : (check : Bool) (s : List ℕ) (at : ℕ) (error : MessageError) (old mid new : Option (List ℕ)) (whole : Bool) → MessagesTo check s at old mid whole → drop at s ≢ []
+    → header_fault at (drop at s) ≡ Some error → Appends mid new (message_error_line [] error) → Writes (ShowsMessages check s) old new false
+messages_broken check s at error old mid new whole h some bad written =
+    subst (Writes (ShowsMessages check s) old new) (and_false whole) (ends check s at old mid new whole false (message_error_line [] error) h (Broken error some bad refl refl) written)

@@ -1,0 +1,17 @@
+use Rattle.std.proofs.Common.{◌++◌, subst, OnOk, codes}
+use Rattle.std.specs.Io.KnownBytes.{Appends}
+use Rattle.link_show.specs.Flags.{flags_text}
+use Rattle.link_show.specs.MessageNames.{device_flags}
+use Rattle.link_show.proofs.Written.{then_written}
+use Rattle.link_show.proofs.MessageLines.{field_unless_zero}
+use Rattle.link_show.proofs.links.write_device_flags.Goals as goal
+
+pub returns : goal.returns
+returns g c =
+    let old = g.W.Write.contents c.args.writer.now in
+    let mid = g.W.Write.contents c.write.new.self in
+    let new = g.W.Write.contents c.write_flags.new.writer in
+    let name = c.args.field.now in
+    let text = flags_text device_flags 4 c.args.flags in
+    subst (λ t. OnOk c.write_flags.result (Appends old new t)) (field_unless_zero c.args.flags name text c.if-flags-eq0.false)
+    (then_written c.write_flags.result old mid new (codes " " ++ (name ++ codes " ")) text c.in_ok-write.ensures.bytes c.write_flags.ensures)

@@ -1,0 +1,9 @@
+use Rattle.std.proofs.Common.{◌≡◌}
+use Rattle.link_base.specs.Viewed.{all_set_of, left_of, whole_of}
+use Rattle.link_show.proofs.Listing.{ListTo}
+use Rattle.link_show.proofs.lists.write_list.Given as goal
+
+abbrev pub invariant-loop-item : goal.invariant-loop-item
+invariant-loop-item g l =
+    (all_set_of l.item-iterator ≡ l.set) × (whole_of l.item-iterator ≡ l.list.bytes.now)
+    × ListTo l.indent l.list.at (g.S.AttributeSet.rows l.set) l.list.bytes.now (left_of l.item-iterator) (g.W.Write.contents l.fn.writer) (g.W.Write.contents l.writer) l.whole

@@ -1,0 +1,16 @@
+use Rattle.std.proofs.Common.{refl}
+use Rattle.link_show.specs.List.{Writes}
+use Rattle.link_show.specs.Message.{two, message_error_line, ShowsLink, ShowsBody, Link, NoLink}
+use Rattle.link_show.proofs.MessageLines.{if_ok}
+use Rattle.link_show.proofs.messages.write_about_link.Goals as goal
+
+pub returns-in-Ok : goal.returns-in-Ok
+returns-in-Ok g c =
+    let old = g.W.Write.contents c.args.writer.now in
+    let new = g.W.Write.contents c.write_link.new.writer in
+    if_ok (Writes (ShowsLink c.args.check c.in-Ok.details) old new) (Writes (ShowsBody c.args.check c.args.message.now) old new) c.write_link.result
+    (λ well h. (h.0, Link c.in-Ok.details c.in-Ok.ensures h.1, h.2)) c.write_link.ensures
+
+pub returns-in_ok-write_message_error-in-Err : goal.returns-in_ok-write_message_error-in-Err
+returns-in_ok-write_message_error-in-Err g c =
+    (message_error_line two c.in-Err.error, NoLink c.in-Err.error c.requires c.in-Err.ensures refl refl, c.in_ok-write_message_error-in-Err.ensures)

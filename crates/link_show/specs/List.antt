@@ -1,0 +1,220 @@
+-- The lines of attributes, and of lists.
+use Rattle.std.specs.Prelude.{◌≡◌, ◌≢◌, ℕ, ◌+◌, ◌-◌, ◌==◌, Bool, true, false, ◌&&◌, List, [], ◌∷◌, ◌++◌, length, Option, Some, None, Err, codes, if◌then◌else◌}
+use Rattle.std.specs.Fmt.{decimal}
+use Rattle.std.specs.List.{flat_map, list_all, AllZip}
+use Rattle.std.specs.Io.KnownBytes.{Appends}
+use Rattle.std.specs.Net.Addr.{segments_of}
+use Rattle.std.specs.Net.Text.{ipv4_text, ipv6_text}
+use Rattle.link_base.specs.declared.buffer.NlaBuffer.{NlaBuffer}
+use Rattle.link_base.specs.declared.content.Content.{Content}
+use Rattle.link_base.specs.declared.content.Content.TheVariants as contents
+use Rattle.link_base.specs.declared.fault.Cause.{Cause}
+use Rattle.link_base.specs.declared.fault.DecodeFault.{DecodeFault}
+use Rattle.link_base.specs.Frame.{kind_of}
+use Rattle.link_base.specs.Buffer.{kind_field_of, payload_of}
+use Rattle.link_base.specs.Table.{Table, Gives, Canonical, FirstNotCanonical, class_at, form_at, label_at}
+use Rattle.link_base.specs.Borrowed.{HasValue, Borrows, form_of, elements_at}
+use Rattle.link_messages.specs.Walk.{Item, Walk}
+use Rattle.link_show.specs.Text.{list_text}
+use Rattle.link_show.specs.Flags.{flags_text}
+use Rattle.link_show.specs.Octets.{hex_text}
+use Rattle.link_show.specs.Value.{Label, name_in, value_text}
+use Rattle.link_show.specs.Fault.{cause_words, fault_text}
+
+-- ---- lines
+
+-- a line: an indent, a text, and LF
+abbrev pub indented : List ℕ → List ℕ → List ℕ
+indented indent text = indent ++ (text ++ 10 ∷ [])
+
+-- a line below another: two spaces more
+abbrev pub below : List ℕ → List ℕ → List ℕ
+below indent text = indent ++ indented (codes "  ") text
+
+-- the line of an error at this offset
+abbrev pub error_line : List ℕ → ℕ → List ℕ → List ℕ
+error_line indent at text = indented indent (codes "error at " ++ (decimal at ++ (codes ": " ++ text)))
+
+-- the outputs for several items, in order, and whether all of them are well
+pub record EachShown {X : Type 0} (shows : X → List ℕ → Bool → Type 0) (xs : List X) (out : List ℕ) (whole : Bool) : Type 0 where
+  pub answers : List (List ℕ × Bool)
+  pub each : AllZip (λ x answer. shows x answer.0 answer.1) xs answers
+  pub joined : out ≡ flat_map (λ answer. answer.0) answers
+  pub all : whole ≡ list_all (λ answer. answer.1) answers
+
+-- ---- an attribute
+
+-- the flags of an `nla_type`
+abbrev pub type_flags : List (ℕ × List ℕ)
+type_flags = (16384, codes "NLA_F_NET_BYTEORDER") ∷ (32768, codes "NLA_F_NESTED") ∷ []
+
+-- flags after a space, if there are any
+abbrev pub flags_after : ℕ → List ℕ
+flags_after flags = if flags == 0 then [] else codes " " ++ flags_text type_flags 2 flags
+
+-- the name of an attribute type; its number and the flags of the `nla_type`, if no row has it
+unfoldable pub head_text : Option Label → ℕ → List ℕ
+head_text None f = codes "type " ++ (decimal (kind_of f) ++ flags_after (f - kind_of f))
+head_text (Some label) f = name_in label
+
+-- whether a content has a text: all but lists, and what has no value
+abbrev pub has_text : Content → Bool
+has_text contents.Nothing = false
+has_text (contents.Addresses list size) = false
+has_text (contents.List list) = false
+has_text content = true
+
+-- an attribute in one line: its name, and its content, if that has a text
+unfoldable pub attribute_text : Option Label → ℕ → Content → List ℕ
+attribute_text label f content = head_text label f ++ (if has_text content then codes " " ++ value_text label content else [])
+
+-- the attribute b decodes, in a list of this table, and this is its content
+pub record HasContent (table : Table) (b : NlaBuffer) (content : Content) : Type 0 where
+  pub decodes : HasValue table (kind_field_of b) (payload_of b)
+  pub borrows : Borrows (class_at table (kind_of (kind_field_of b))) (payload_of b) content
+  pub form : form_of content ≡ form_at table (kind_of (kind_field_of b))
+
+-- what is known of its type
+abbrev pub label_for : Table → NlaBuffer → Option Label
+label_for table b = label_at table (kind_of (kind_field_of b))
+
+-- the attribute b in one line was written
+abbrev pub WritesAttribute : Table → NlaBuffer → Option (List ℕ) → Option (List ℕ) → Type 0
+WritesAttribute table b old new = (content : Content) × HasContent table b content × Appends old new (attribute_text (label_for table b) (kind_field_of b) content)
+
+-- ---- lists of addresses
+
+-- an IP address, by its length
+unfoldable pub ip_text : List ℕ → List ℕ
+ip_text p = if length p == 4 then ipv4_text p else (if length p == 16 then ipv6_text (segments_of p) else hex_text p)
+
+-- the address in an attribute; none, if it does not have this size
+abbrev pub address_in : ℕ → Item → List (List ℕ)
+address_in size x = if length (payload_of x.1) == size then ip_text (payload_of x.1) ∷ [] else []
+
+abbrev pub addresses_in : ℕ → List Item → List (List ℕ)
+addresses_in size items = flat_map (address_in size) items
+
+-- the addresses of this size in a list
+abbrev pub ShowsAddresses : ℕ → List ℕ → List ℕ → Type 0
+ShowsAddresses size list out = (items : List Item) × ((fault : Option (ℕ × Cause)) × Walk list items fault × (out ≡ list_text (codes " ") (addresses_in size items)))
+
+-- an address after a separator, and what precedes the next one; an address of another size is left out
+abbrev pub address_after : ℕ → List ℕ → List ℕ → List ℕ
+address_after size p separator = if length p == size then separator ++ ip_text p else []
+
+abbrev pub separator_after : ℕ → List ℕ → List ℕ → List ℕ
+separator_after size p separator = if length p == size then codes " " else separator
+
+-- they were written
+abbrev pub WritesAddresses : ℕ → List ℕ → Option (List ℕ) → Option (List ℕ) → Type 0
+WritesAddresses size list old new = (out : List ℕ) × ShowsAddresses size list out × Appends old new out
+
+-- ---- nested lists
+
+-- the line of an element of a nested list, in which attributes have this table
+abbrev pub ShowsElement : List ℕ → Table → Item → List ℕ → Bool → Type 0
+ShowsElement indent table x out well =
+    (content : Content) × HasContent table x.1 content × (out ≡ below indent (attribute_text (label_for table x.1) (kind_field_of x.1) content)) × (well ≡ true)
+
+-- the lines of a nested list: its name, and its elements below; or that it is empty
+pub data ShowsNested (indent name : List ℕ) (table : Table) (list out : List ℕ) : Type 0 where
+  Empty : list ≡ [] → out ≡ indented indent (name ++ codes " (empty)") → ShowsNested indent name table list out
+  Elements : list ≢ [] → (items : List Item) → Walk list items None → (lines : List ℕ) → EachShown (ShowsElement indent table) items lines true → out ≡ indented indent name ++ lines
+      → ShowsNested indent name table list out
+
+-- ---- lists
+
+-- what is behind the name, if the content is a list of addresses
+abbrev pub ShowsMore : Content → List ℕ → Type 0
+ShowsMore (contents.Addresses list size) more = (text : List ℕ) × ShowsAddresses size list.now text × (more ≡ codes " " ++ text)
+ShowsMore content more = more ≡ []
+
+-- the line of an attribute that is no nested list
+abbrev pub ShowsFlat : List ℕ → Option Label → ℕ → Content → List ℕ → Type 0
+ShowsFlat indent label f content out = (more : List ℕ) × ShowsMore content more × (out ≡ indented indent (attribute_text label f content ++ more))
+
+-- the lines of an attribute with this content
+abbrev pub ShowsContent : List ℕ → Table → NlaBuffer → Content → List ℕ → Type 0
+ShowsContent indent table b (contents.List list) out =
+    ShowsNested indent (head_text (label_for table b) (kind_field_of b)) (elements_at table (kind_of (kind_field_of b))) list.now out
+ShowsContent indent table b content out = ShowsFlat indent (label_for table b) (kind_field_of b) content out
+
+-- the lines of an attribute that decodes
+abbrev pub ShowsValue : List ℕ → Table → NlaBuffer → List ℕ → Type 0
+ShowsValue indent table b out = (content : Content) × HasContent table b content × ShowsContent indent table b content out
+
+-- the lines of an attribute, if the list starts at offset `base`: those of its value, or its error
+pub data ShowsItem (indent : List ℕ) (base : ℕ) (table : Table) (x : Item) (out : List ℕ) (well : Bool) : Type 0 where
+  Decodes : ShowsValue indent table x.1 out → well ≡ true → ShowsItem indent base table x out well
+  Fails : (fault : DecodeFault) → Gives table (kind_field_of x.1) (payload_of x.1) (Err fault) → out ≡ error_line indent (base + x.0) (fault_text table fault) → well ≡ false
+      → ShowsItem indent base table x out well
+
+-- what ends a list: nothing, or the error of a header
+abbrev pub end_line : List ℕ → ℕ → Option (ℕ × Cause) → List ℕ
+end_line indent base None = []
+end_line indent base (Some fault) = error_line indent (base + fault.0) (cause_words false fault.1)
+
+abbrev pub is_well : Option (ℕ × Cause) → Bool
+is_well None = true
+is_well (Some fault) = false
+
+-- the lines of a list that starts at offset `base`, and whether none is an error
+pub record ShowsList (indent : List ℕ) (base : ℕ) (table : Table) (list out : List ℕ) (whole : Bool) : Type 0 where
+  pub items : List Item
+  pub fault : Option (ℕ × Cause)
+  pub walk : Walk list items fault
+  pub lines : List ℕ
+  pub well : Bool
+  pub each : EachShown (ShowsItem indent base table) items lines well
+  pub joined : out ≡ lines ++ end_line indent base fault
+  pub all : whole ≡ (well && is_well fault)
+
+-- what a call writes, and what it returns with it
+abbrev pub Writes : (List ℕ → Bool → Type 0) → Option (List ℕ) → Option (List ℕ) → Bool → Type 0
+Writes shows old new well = (out : List ℕ) × shows out well × Appends old new out
+
+-- they were written
+abbrev pub WritesList : List ℕ → ℕ → Table → List ℕ → Option (List ℕ) → Option (List ℕ) → Bool → Type 0
+WritesList indent base table list = Writes (ShowsList indent base table list)
+
+-- whether a list is canonical, if `check` asks; and whether that is well
+pub data ShowsVerdict (check : Bool) (indent : List ℕ) (base : ℕ) (table : Table) (list out : List ℕ) (well : Bool) : Type 0 where
+  Unasked : check ≡ false → out ≡ [] → well ≡ true → ShowsVerdict check indent base table list out well
+  IsCanonical : check ≡ true → Canonical table list → out ≡ indented indent (codes "canonical") → well ≡ true → ShowsVerdict check indent base table list out well
+  IsNot : check ≡ true → (at : ℕ) → FirstNotCanonical table list at → out ≡ indented indent (codes "not canonical at " ++ decimal (base + at)) → well ≡ false
+      → ShowsVerdict check indent base table list out well
+
+-- the lines of a list, and, if `check` asks, whether it is canonical
+pub record ShowsChecked (check : Bool) (indent : List ℕ) (base : ℕ) (table : Table) (list out : List ℕ) (well : Bool) : Type 0 where
+  pub lines : List ℕ
+  pub whole : Bool
+  pub shown : ShowsList indent base table list lines whole
+  pub verdict : List ℕ
+  pub sound : Bool
+  pub judged : ShowsVerdict check indent base table list verdict sound
+  pub joined : out ≡ lines ++ verdict
+  pub all : well ≡ (whole && sound)
+
+-- a list, an attribute, elements: likewise
+abbrev pub WritesValue : List ℕ → Table → NlaBuffer → Option (List ℕ) → Option (List ℕ) → Type 0
+WritesValue indent table b old new = (out : List ℕ) × ShowsValue indent table b out × Appends old new out
+
+abbrev pub WritesFlat : List ℕ → Option Label → ℕ → Content → Option (List ℕ) → Option (List ℕ) → Type 0
+WritesFlat indent label f content old new = (out : List ℕ) × ShowsFlat indent label f content out × Appends old new out
+
+abbrev pub WritesMore : Content → Option (List ℕ) → Option (List ℕ) → Type 0
+WritesMore content old new = (more : List ℕ) × ShowsMore content more × Appends old new more
+
+abbrev pub WritesNested : List ℕ → List ℕ → Table → List ℕ → Option (List ℕ) → Option (List ℕ) → Type 0
+WritesNested indent name table list old new = (out : List ℕ) × ShowsNested indent name table list out × Appends old new out
+
+-- the lines of all elements of a nested list
+abbrev pub WritesElements : List ℕ → Table → List ℕ → Option (List ℕ) → Option (List ℕ) → Type 0
+WritesElements indent table list old new =
+    (items : List Item) × Walk list items None × ((lines : List ℕ) × EachShown (ShowsElement indent table) items lines true × Appends old new lines)
+
+-- the line of one
+abbrev pub WritesElement : List ℕ → Table → NlaBuffer → Option (List ℕ) → Option (List ℕ) → Type 0
+WritesElement indent table b old new =
+    (content : Content) × HasContent table b content × Appends old new (below indent (attribute_text (label_for table b) (kind_field_of b) content))

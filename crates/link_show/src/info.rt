@@ -1,0 +1,177 @@
+//! The attribute lists in messages about links.
+
+ghost use Rattle.std.specs.Prelude.{false, None, codes, IfOk, OnOk};
+ghost use Rattle.std.specs.Option.{option_copied};
+ghost use Rattle.std.specs.Io.KnownBytes.{Appends};
+ghost use Rattle.link_base.specs.Named.{texts_of};
+ghost use Rattle.link_bridge.specs.Names.{port_state_names};
+ghost use Rattle.link_show.specs.Flags.{enum_text};
+ghost use Rattle.link_show.specs.Structs.{field};
+ghost use Rattle.link_show.specs.Quoted.{quoted};
+ghost use Rattle.link_show.specs.List.{indented, Writes};
+ghost use Rattle.link_show.specs.Message.{ShowsOptionalInfo, ShowsData, ShowsPart, ShowsProtinfo, ShowsFamily, ShowsPayload};
+ghost use Rattle.link_show.specs.Message.{two, kind_line, line_of};
+
+use crate::families::write_family_list;
+use crate::faults::bytes_of;
+use crate::flags::write_enum;
+use crate::links::write_header_fault;
+use crate::quoted::write_quoted;
+use link_base::NamedNumber;
+use link_bridge::BridgePortState;
+use link_messages::{InfoData, LinkInfo, Payload, Protinfo, announced_port_kind};
+use netlink_packet_route::Family;
+use std::io;
+use std::io::Write;
+
+/// Writes the lines of an `IFLA_LINKINFO`, if there is one.
+pub(crate) fn write_info<W: Write>(
+    writer: &mut W,
+    info: Option<LinkInfo<'_>>,
+    check: bool,
+) -> io::Result<bool>
+    ensures { IfOk result (Writes (ShowsOptionalInfo check info.entry)
+        (W.contents writer.old) (W.contents writer.new)) }
+{
+    match info {
+        Some(info) => {
+            write_kind(writer, info.kind)?;
+            let data = write_data(writer, "IFLA_INFO_DATA", info.data, check)?;
+            write_port_kind(writer, info.port_kind)?;
+            let port = write_data(writer, "IFLA_INFO_SLAVE_DATA", info.port_data, check)?;
+            let end = write_header_fault(writer, info.fault)?;
+            Ok(data & port & end)
+        }
+        None => Ok(true),
+    }
+}
+
+/// Writes the line of a kind of link. A kind that announces a kind of port is written as that.
+#[tactic(auto, using(crate::proofs::Written::then_written))]
+fn write_kind<W: Write>(writer: &mut W, kind: Option<&[u8]>) -> io::Result<()>
+    ensures { OnOk result (Appends (W.contents writer.old) (W.contents writer.new)
+        (kind_line (option_copied kind.entry))) }
+{
+    match kind {
+        Some(kind) => match announced_port_kind(kind) {
+            Some(port) => write_port_kind(writer, Some(port)),
+            None => {
+                writer.write_all(b"  IFLA_INFO_KIND ")?;
+                write_quoted(writer, kind)?;
+                writer.write_all(b"\n")
+            }
+        },
+        None => Ok(()),
+    }
+}
+
+/// Writes the line of a kind of port.
+#[tactic(auto, using(crate::proofs::Written::then_written))]
+fn write_port_kind<W: Write>(writer: &mut W, kind: Option<&[u8]>) -> io::Result<()>
+    ensures { OnOk result (Appends (W.contents writer.old) (W.contents writer.new)
+        (line_of (codes "IFLA_INFO_SLAVE_KIND") quoted (option_copied kind.entry))) }
+{
+    match kind {
+        Some(kind) => {
+            writer.write_all(b"  IFLA_INFO_SLAVE_KIND ")?;
+            write_quoted(writer, kind)?;
+            writer.write_all(b"\n")
+        }
+        None => Ok(()),
+    }
+}
+
+/// Writes the lines of data, if there is any.
+fn write_data<W: Write>(
+    writer: &mut W,
+    name: &str,
+    data: Option<InfoData<'_>>,
+    check: bool,
+) -> io::Result<bool>
+    ensures { IfOk result (Writes (ShowsData check name.now data.entry)
+        (W.contents writer.old) (W.contents writer.new)) }
+{
+    match data {
+        Some(data) => match data.family {
+            Some(family) => write_list_of(writer, name, family, data.payload, check),
+            None => write_opaque(writer, name, data.payload),
+        },
+        None => Ok(true),
+    }
+}
+
+/// Writes the lines of a list of a `Family`, if there is one, below its name.
+pub(crate) fn write_part<W: Write>(
+    writer: &mut W,
+    name: &str,
+    family: Family,
+    list: Option<Payload<'_>>,
+    check: bool,
+) -> io::Result<bool>
+    ensures { IfOk result (Writes (ShowsPart check name.now family list.entry)
+        (W.contents writer.old) (W.contents writer.new)) }
+{
+    match list {
+        Some(list) => write_list_of(writer, name, family, list, check),
+        None => Ok(true),
+    }
+}
+
+/// Writes the lines of an `IFLA_PROTINFO`, if there is one.
+pub(crate) fn write_protinfo<W: Write>(
+    writer: &mut W,
+    protinfo: Option<Protinfo<'_>>,
+    check: bool,
+) -> io::Result<bool>
+    ensures { IfOk result (Writes (ShowsProtinfo check protinfo.entry)
+        (W.contents writer.old) (W.contents writer.new)) }
+{
+    match protinfo {
+        Some(Protinfo::List(list)) => {
+            write_list_of(writer, "IFLA_PROTINFO", Family::BridgePort, list, check)
+        }
+        Some(Protinfo::State(state)) => {
+            write_state(writer, state)?;
+            Ok(true)
+        }
+        Some(Protinfo::Other(payload)) => write_opaque(writer, "IFLA_PROTINFO", payload),
+        None => Ok(true),
+    }
+}
+
+/// Writes the line of an `IFLA_PROTINFO` that is the STP state of a port.
+fn write_state<W: Write>(writer: &mut W, state: u8) -> io::Result<()>
+    ensures { OnOk result (Appends (W.contents writer.old) (W.contents writer.new)
+        (indented two (field (codes "IFLA_PROTINFO") (enum_text (texts_of port_state_names) state)))) }
+{
+    writer.write_all(b"  IFLA_PROTINFO ")?;
+    write_enum(writer, BridgePortState::names(), state.into())?;
+    writer.write_all(b"\n")
+}
+
+/// Writes the lines of a list of a `Family` below its name.
+fn write_list_of<W: Write>(
+    writer: &mut W,
+    name: &str,
+    family: Family,
+    list: Payload<'_>,
+    check: bool,
+) -> io::Result<bool>
+    ensures { IfOk result (Writes (ShowsFamily check name.now family list.entry)
+        (W.contents writer.old) (W.contents writer.new)) }
+{
+    let set = family.name();
+    writeln!(writer, "  {name} ({set})")?;
+    write_family_list(writer, family, check, "    ", list)
+}
+
+/// Writes the length of data that no attribute set reads.
+fn write_opaque<W: Write>(writer: &mut W, name: &str, data: Payload<'_>) -> io::Result<bool>
+    ensures { IfOk result (Writes (ShowsPayload false name.now None data.entry)
+        (W.contents writer.old) (W.contents writer.new)) }
+{
+    let count = data.bytes.len();
+    let bytes = bytes_of(count);
+    writeln!(writer, "  {name} ({count}{bytes}, not decoded)")?;
+    Ok(true)
+}

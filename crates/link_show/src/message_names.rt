@@ -1,0 +1,140 @@
+//! The names in messages.
+
+ghost use Rattle.std.specs.Prelude.{◌≡◌};
+ghost use Rattle.link_base.specs.Labels.{names_in};
+ghost use Rattle.link_show.specs.MessageNames.{flags_of};
+
+use link_base::label::Name;
+
+/// Types of messages (`include/uapi/linux/netlink.h`, `rtnetlink.h`).
+pub(crate) const MESSAGE_TYPES: &[Name] = names![
+    1 "NLMSG_NOOP"
+    2 "NLMSG_ERROR"
+    3 "NLMSG_DONE"
+    4 "NLMSG_OVERRUN"
+    16 "RTM_NEWLINK"
+    17 "RTM_DELLINK"
+    18 "RTM_GETLINK"
+    19 "RTM_SETLINK"
+];
+
+/// Flags of all messages (`NLM_F_`, `include/uapi/linux/netlink.h`).
+pub(crate) const COMMON_FLAGS: &[Name] = names![
+    0x1 "REQUEST"
+    0x2 "MULTI"
+    0x4 "ACK"
+    0x8 "ECHO"
+    0x10 "DUMP_INTR"
+    0x20 "DUMP_FILTERED"
+];
+
+/// Flags of messages that make or change a link.
+pub(crate) const NEW_FLAGS: &[Name] = names![
+    0x1 "REQUEST"
+    0x2 "MULTI"
+    0x4 "ACK"
+    0x8 "ECHO"
+    0x10 "DUMP_INTR"
+    0x20 "DUMP_FILTERED"
+    0x100 "REPLACE"
+    0x200 "EXCL"
+    0x400 "CREATE"
+    0x800 "APPEND"
+];
+
+/// Flags of messages that ask for links.
+pub(crate) const GET_FLAGS: &[Name] = names![
+    0x1 "REQUEST"
+    0x2 "MULTI"
+    0x4 "ACK"
+    0x8 "ECHO"
+    0x10 "DUMP_INTR"
+    0x20 "DUMP_FILTERED"
+    0x100 "ROOT"
+    0x200 "MATCH"
+    0x400 "ATOMIC"
+];
+
+/// Flags of messages that delete a link.
+pub(crate) const DELETE_FLAGS: &[Name] = names![
+    0x1 "REQUEST"
+    0x2 "MULTI"
+    0x4 "ACK"
+    0x8 "ECHO"
+    0x10 "DUMP_INTR"
+    0x20 "DUMP_FILTERED"
+    0x100 "NONREC"
+    0x200 "BULK"
+];
+
+/// Flags of NLMSG_ERROR.
+pub(crate) const ERROR_FLAGS: &[Name] = names![
+    0x1 "REQUEST"
+    0x2 "MULTI"
+    0x4 "ACK"
+    0x8 "ECHO"
+    0x10 "DUMP_INTR"
+    0x20 "DUMP_FILTERED"
+    0x100 "CAPPED"
+    0x200 "ACK_TLVS"
+];
+
+/// Address families (`AF_`, `include/linux/socket.h`) that are written by name.
+pub(crate) const ADDRESS_FAMILIES: &[Name] = names![
+    7 "AF_BRIDGE"
+];
+
+/// Types of devices (`ARPHRD_`, `include/uapi/linux/if_arp.h`) that are written by name.
+pub(crate) const DEVICE_TYPES: &[Name] = names![
+    1 "ETHER"
+    280 "CAN"
+    772 "LOOPBACK"
+    65534 "NONE"
+];
+
+/// Flags of devices (`IFF_`, `include/uapi/linux/if.h`).
+pub(crate) const DEVICE_FLAGS: &[Name] = names![
+    0x1 "UP"
+    0x2 "BROADCAST"
+    0x4 "DEBUG"
+    0x8 "LOOPBACK"
+    0x10 "POINTOPOINT"
+    0x20 "NOTRAILERS"
+    0x40 "RUNNING"
+    0x80 "NOARP"
+    0x100 "PROMISC"
+    0x200 "ALLMULTI"
+    0x400 "MASTER"
+    0x800 "SLAVE"
+    0x1000 "MULTICAST"
+    0x2000 "PORTSEL"
+    0x4000 "AUTOMEDIA"
+    0x8000 "DYNAMIC"
+    0x10000 "LOWER_UP"
+    0x20000 "DORMANT"
+    0x40000 "ECHO"
+];
+
+/// Operational states (`IF_OPER_`, `include/uapi/linux/if.h`).
+pub(crate) const OPERATIONAL_STATES: &[Name] = names![
+    0 "UNKNOWN"
+    1 "NOTPRESENT"
+    2 "DOWN"
+    3 "LOWERLAYERDOWN"
+    4 "TESTING"
+    5 "DORMANT"
+    6 "UP"
+];
+
+/// Returns the names of the flags of messages of type `kind`.
+pub(crate) fn flag_names(kind: u16) -> &'static [Name]
+    ensures { names_in result.now ≡ flags_of kind }
+{
+    match kind {
+        16 | 19 => NEW_FLAGS,
+        18 => GET_FLAGS,
+        17 => DELETE_FLAGS,
+        2 => ERROR_FLAGS,
+        _ => COMMON_FLAGS,
+    }
+}

@@ -1,0 +1,146 @@
+//! Messages, and buffers of them.
+
+ghost use Rattle.std.specs.Prelude.{◌≡◌, Bool, codes, IfOk, OnOk};
+ghost use Rattle.std.specs.Io.KnownBytes.{Appends};
+ghost use Rattle.link_base.specs.Labels.{name_in};
+ghost use Rattle.link_messages.specs.Header.{IsAnyLinkType};
+ghost use Rattle.link_show.specs.List.{Writes};
+ghost use Rattle.link_show.specs.MessageNames.{message_types};
+ghost use Rattle.link_show.specs.Message.{ShowsMessages, ShowsMessage, ShowsBody, message_line, named_or};
+
+use crate::flags::{name_of, write_flags};
+use crate::links::write_link;
+use crate::message_errors::write_message_error;
+use crate::message_names::{MESSAGE_TYPES, flag_names};
+use crate::replies::write_acknowledgement;
+use link_messages::{Message, any_message, link_details, read_acknowledgement};
+use std::io;
+use std::io::Write;
+
+/// The type of the kernel's replies (`include/uapi/linux/netlink.h`).
+const NLMSG_ERROR: u16 = 2;
+
+/// The type of the message that ends a dump (`include/uapi/linux/netlink.h`).
+const NLMSG_DONE: u16 = 3;
+
+// Types of messages about links (`include/uapi/linux/rtnetlink.h`).
+
+const RTM_NEWLINK: u16 = 16;
+
+const RTM_DELLINK: u16 = 17;
+
+const RTM_GETLINK: u16 = 18;
+
+const RTM_SETLINK: u16 = 19;
+
+/// Writes the lines of the messages of a buffer, up to its end or to an NLMSG_DONE. Returns whether no line is an error,
+/// and, if `check` is set, all lists are canonical.
+///
+/// # Errors
+///
+/// That of the writer.
+pub fn write_messages<W: Write>(writer: &mut W, buffer: &[u8], check: bool) -> io::Result<bool>
+    ensures { IfOk result (Writes (ShowsMessages check buffer.now)
+        (W.contents writer.old) (W.contents writer.new)) }
+{
+    let mut whole = true;
+    let mut at = 0;
+    loop {
+        let message = match any_message(buffer, at) {
+            Ok(Some(message)) => message,
+            Ok(None) => return Ok(whole),
+            Err(error) => {
+                write_message_error(writer, "", error)?;
+                return Ok(false);
+            }
+        };
+        let well = write_message(writer, &message, check)?;
+        whole &= well;
+        if message.kind == NLMSG_DONE {
+            return Ok(whole);
+        }
+        at = message.next;
+    }
+}
+
+/// Writes the lines of a message. Returns whether none is an error, and, if `check` is set, all lists are canonical.
+///
+/// # Errors
+///
+/// That of the writer.
+pub fn write_message<W: Write>(
+    writer: &mut W,
+    message: &Message<'_>,
+    check: bool,
+) -> io::Result<bool>
+    ensures { IfOk result (Writes (ShowsMessage check message.now)
+        (W.contents writer.old) (W.contents writer.new)) }
+{
+    write_first_line(writer, message)?;
+    match message.kind {
+        NLMSG_ERROR => write_reply(writer, message),
+        RTM_NEWLINK | RTM_DELLINK | RTM_GETLINK | RTM_SETLINK => {
+            write_about_link(writer, message, check)
+        }
+        _ => Ok(true),
+    }
+}
+
+/// Writes the first line of a message: its type and the other fields of its header.
+#[tactic(auto, using(crate::proofs::Written::then_written), unfolding(crate::specs::Message::message_line))]
+fn write_first_line<W: Write>(writer: &mut W, message: &Message<'_>) -> io::Result<()>
+    ensures { OnOk result (Appends (W.contents writer.old) (W.contents writer.new)
+        (message_line message.now)) }
+{
+    write_type(writer, message.kind.into())?;
+    let length = 16 + message.payload.len();
+    write!(writer, " len {length} flags ")?;
+    write_flags(writer, flag_names(message.kind), 2, message.flags.into())?;
+    let sequence = message.sequence;
+    let port = message.port;
+    writeln!(writer, " seq {sequence} pid {port}")
+}
+
+fn write_type<W: Write>(writer: &mut W, kind: u64) -> io::Result<()>
+    ensures { OnOk result (Appends (W.contents writer.old) (W.contents writer.new)
+        (named_or (codes "type ") (name_in message_types kind) kind)) }
+{
+    match name_of(MESSAGE_TYPES, kind) {
+        Some(name) => writer.write_all(name.as_bytes()),
+        None => write!(writer, "type {kind}"),
+    }
+}
+
+/// Writes the lines of a message about a link, below its first line.
+fn write_about_link<W: Write>(
+    writer: &mut W,
+    message: &Message<'_>,
+    check: bool,
+) -> io::Result<bool>
+    requires { IsAnyLinkType message.now.kind }
+    ensures { IfOk result (Writes (ShowsBody check message.now)
+        (W.contents writer.old) (W.contents writer.new)) }
+{
+    match link_details(message) {
+        Ok(details) => write_link(writer, &details, check),
+        Err(error) => {
+            write_message_error(writer, "  ", error)?;
+            Ok(false)
+        }
+    }
+}
+
+/// Writes the lines of an NLMSG_ERROR, below its first line.
+fn write_reply<W: Write>(writer: &mut W, message: &Message<'_>) -> io::Result<bool>
+    requires { message.now.kind ≡ 2 }
+    ensures { (check : Bool) → IfOk result (Writes (ShowsBody check message.now)
+        (W.contents writer.old) (W.contents writer.new)) }
+{
+    match read_acknowledgement(message) {
+        Ok(reply) => write_acknowledgement(writer, &reply),
+        Err(error) => {
+            write_message_error(writer, "  ", error)?;
+            Ok(false)
+        }
+    }
+}

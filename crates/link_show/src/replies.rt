@@ -1,0 +1,108 @@
+//! The kernel's replies.
+
+ghost use Rattle.std.specs.Prelude.{◌≡◌, codes, option_map, IfOk, OnOk};
+ghost use Rattle.std.specs.Fmt.{decimal};
+ghost use Rattle.std.specs.Option.{option_copied};
+ghost use Rattle.std.specs.Io.KnownBytes.{Appends};
+ghost use Rattle.std.specs.Int.RustNames.{unsigned_abs};
+ghost use Rattle.link_base.specs.Labels.{name_in};
+ghost use Rattle.link_show.specs.Errno.{errno_names};
+ghost use Rattle.link_show.specs.Quoted.{quoted};
+ghost use Rattle.link_show.specs.Message.{reply_lines, is_sound, result_line, error_number_line, line_of};
+
+use crate::errno::ERRNOS;
+use crate::flags::name_of;
+use crate::links::write_header_fault;
+use crate::quoted::write_quoted;
+use link_messages::Acknowledgement;
+use std::io;
+use std::io::Write;
+
+/// Writes the lines of an NLMSG_ERROR, below its first line: `ack`, or the error by its name and number; and what the
+/// kernel says of it. Returns whether no line is an error of the message itself.
+///
+/// # Errors
+///
+/// That of the writer.
+pub fn write_acknowledgement<W: Write>(
+    writer: &mut W,
+    reply: &Acknowledgement<'_>,
+) -> io::Result<bool>
+    ensures { IfOk result (λ well. Appends (W.contents writer.old) (W.contents writer.new) (reply_lines reply.now)
+        × (well ≡ is_sound reply.now.fault)) }
+{
+    write_result(writer, reply)?;
+    write_message(writer, reply.text)?;
+    write_number(writer, "offset", reply.offset)?;
+    write_number(writer, "missing type", reply.missing_type)?;
+    write_header_fault(writer, reply.fault)
+}
+
+/// Writes the line of the result of a request: `ack` for 0, otherwise an errno, which is negative.
+fn write_result<W: Write>(writer: &mut W, reply: &Acknowledgement<'_>) -> io::Result<()>
+    ensures { OnOk result (Appends (W.contents writer.old) (W.contents writer.new)
+        (result_line reply.now.error)) }
+{
+    let number = errno_of(reply);
+    if number == 0 {
+        return writer.write_all(b"  ack\n");
+    }
+    write_errno(writer, errno_name(number), reply)
+}
+
+/// Returns errno, which is 0 for success.
+fn errno_of(reply: &Acknowledgement<'_>) -> u32
+    ensures { result ≡ unsigned_abs reply.now.error }
+{
+    reply.error.unsigned_abs()
+}
+
+/// Returns the name of an errno.
+fn errno_name(number: u32) -> Option<&'static str>
+    ensures { option_map (λ text. text.now) result ≡ name_in errno_names number }
+{
+    name_of(ERRNOS, number.into())
+}
+
+/// Writes the line of an error, with its name if it has one.
+fn write_errno<W: Write>(
+    writer: &mut W,
+    name: Option<&str>,
+    reply: &Acknowledgement<'_>,
+) -> io::Result<()>
+    ensures { OnOk result (Appends (W.contents writer.old) (W.contents writer.new)
+        (error_number_line (option_map (λ text. text.now) name.entry) reply.now.error)) }
+{
+    let error = reply.error;
+    match name {
+        Some(name) => writeln!(writer, "  error {name} ({error})"),
+        None => writeln!(writer, "  error ({error})"),
+    }
+}
+
+/// Writes the kernel's text, if there is one.
+#[tactic(auto, using(crate::proofs::Written::then_written))]
+fn write_message<W: Write>(writer: &mut W, text: Option<&[u8]>) -> io::Result<()>
+    ensures { OnOk result (Appends (W.contents writer.old) (W.contents writer.new)
+        (line_of (codes "message") quoted (option_copied text.entry))) }
+{
+    match text {
+        Some(text) => {
+            writer.write_all(b"  message ")?;
+            write_quoted(writer, text)?;
+            writer.write_all(b"\n")
+        }
+        None => Ok(()),
+    }
+}
+
+/// Writes a number after its name, if there is one.
+fn write_number<W: Write>(writer: &mut W, name: &str, number: Option<u32>) -> io::Result<()>
+    ensures { OnOk result (Appends (W.contents writer.old) (W.contents writer.new)
+        (line_of name.now decimal number)) }
+{
+    match number {
+        Some(number) => writeln!(writer, "  {name} {number}"),
+        None => Ok(()),
+    }
+}

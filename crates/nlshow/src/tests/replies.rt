@@ -1,0 +1,106 @@
+//! Tests how `link_messages` reads the kernel's replies. The first three are as Linux 6.18 sent them.
+
+use link_messages::{Acknowledgement, MessageError, any_message, read_acknowledgement};
+use netlink_packet_route::hex_text;
+use netlink_packet_route::link::Cause;
+use std::alloc::Global;
+use std::process::Abort;
+
+/// The reply to an RTM_GETLINK of 37 bytes, whose `IFLA_EXT_MASK` has one byte in place of four. It has the request,
+/// with its padding, and then attributes.
+const REJECTED: &str = "\
+    90000000 02000002 01000000 e6430000 deffffff 25000000 12000500 01000000 00000000 00000000 00000000 00000000 \
+    00000000 05001d00 01000000 27000100 41747472 69627574 65206661 696c6564 20706f6c 69637920 76616c69 64617469 \
+    6f6e0000 08000200 20000000 24000480 0c000400 00000000 00000000 0c000500 ffffffff 00000000 08000100 04000000";
+
+/// The reply to a request of generic netlink that lacks its attribute type 1, to a socket with `NETLINK_CAP_ACK`: it has
+/// only the header of the request.
+const LACKING: &str = "\
+    2c000000 02000003 01000000 e6430000 eaffffff 14000000 14000500 01000000 00000000 08000500 01000000";
+
+/// The reply to an RTM_GETLINK for the name of no link, to a socket without `NETLINK_EXT_ACK`: it has the request, and no
+/// attributes.
+const PLAIN: &str = "\
+    3c000000 02000000 01000000 3e430000 edffffff 28000000 12000500 01000000 00000000 00000000 00000000 00000000 \
+    00000000 08000300 6e6f7065";
+
+/// The reply LACKING, but its attribute states 12 bytes in place of 8.
+const BROKEN: &str = "\
+    2c000000 02000003 01000000 e6430000 eaffffff 14000000 14000500 01000000 00000000 0c000500 01000000";
+
+/// An NLMSG_ERROR of 35 bytes.
+const SHORT: &str = "\
+    23000000 02000000 01000000 3e430000 edffffff 28000000 12000500 01000000 000000";
+
+/// An NLMSG_DONE.
+const DONE: &str = "\
+    14000000 03000200 01000000 00000000 00000000";
+
+/// A reply without attributes.
+fn bare(error: i32) -> Acknowledgement<'static> {
+    Acknowledgement {
+        error,
+        text: None,
+        offset: None,
+        missing_type: None,
+        fault: None,
+    }
+}
+
+/// Asserts what the message with these digits says.
+fn says(
+    rt: &impl Abort,
+    alloc: Global,
+    digits: &str,
+    wanted: Result<Acknowledgement<'_>, MessageError>,
+) {
+    let buffer = hex_text::decode(alloc, digits.as_bytes()).expect(rt, digits);
+    let found = any_message(&buffer, 0).expect(rt, digits);
+    let message = found.expect(rt, digits);
+    assert!(rt; read_acknowledgement(&message) == wanted);
+}
+
+#[test]
+fn replies(rt: HostRuntime) {
+    let alloc = rt.alloc();
+    let rejected = Acknowledgement {
+        text: Some(b"Attribute failed policy validation"),
+        offset: Some(32),
+        ..bare(-34)
+    };
+    says(&rt, alloc, REJECTED, Ok(rejected));
+    let lacking = Acknowledgement {
+        missing_type: Some(1),
+        ..bare(-22)
+    };
+    says(&rt, alloc, LACKING, Ok(lacking));
+    says(&rt, alloc, PLAIN, Ok(bare(-19)));
+}
+
+#[test]
+fn malformed_replies(rt: HostRuntime) {
+    let alloc = rt.alloc();
+    let broken = Acknowledgement {
+        fault: Some(MessageError::Frame {
+            at: 36,
+            cause: Cause::Overrun {
+                length: 12,
+                left: 8,
+            },
+        }),
+        ..bare(-22)
+    };
+    says(&rt, alloc, BROKEN, Ok(broken));
+    says(
+        &rt,
+        alloc,
+        SHORT,
+        Err(MessageError::ShortError { at: 0, length: 35 }),
+    );
+    says(
+        &rt,
+        alloc,
+        DONE,
+        Err(MessageError::OtherType { at: 0, kind: 3 }),
+    );
+}
