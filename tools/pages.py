@@ -73,8 +73,8 @@ BUDGETS = {
     "docs/DECISIONS.md": 6600,
     "docs/DIFFERENCES.md": 3000,
     "docs/MESSAGES.md": 2800,
-    "docs/MODEL.md": 4500,
-    "docs/PROGRAMS.md": 1550,
+    "docs/MODEL.md": 4600,
+    "docs/PROGRAMS.md": 1650,
 }
 SMALL_BUDGET = 600
 HISTORY, COMPARISON, CLAIMS = "CHANGELOG.md", "docs/DIFFERENCES.md", "docs/CLAIMS.md"
