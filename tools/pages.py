@@ -70,7 +70,7 @@ BUDGETS = {
     "docs/CALLING.md": 1750,
     "docs/CLAIMS.md": 2750,
     "docs/DEBUG.md": 700,
-    "docs/DECISIONS.md": 6600,
+    "docs/DECISIONS.md": 6700,
     "docs/DIFFERENCES.md": 3000,
     "docs/MESSAGES.md": 2800,
     "docs/MODEL.md": 4600,

@@ -51,7 +51,7 @@ filter_past ms m e = filter-append is_about_link ms (m ∷ []) ∙ ap (λ b. fil
 
 -- ---- the links of consecutive messages
 
-zip_push : {A B : Type 0} (R : A → B → Type 0) (xs : List A) (ys : List B) (x : A) (y : B) → AllZip R xs ys → R x y → AllZip R (xs ++ x ∷ []) (ys ++ y ∷ [])
+pub zip_push : {A B : Type 0} (R : A → B → Type 0) (xs : List A) (ys : List B) (x : A) (y : B) → AllZip R xs ys → R x y → AllZip R (xs ++ x ∷ []) (ys ++ y ∷ [])
 zip_push R [] [] x y h here = (here, tt)
 zip_push R [] (b ∷ ys) x y h here = absurd h
 zip_push R (a ∷ xs) [] x y h here = absurd h

@@ -7,3 +7,7 @@ pub mod Lines
 pub mod Listing
 pub mod Addressing
 pub mod MessageLines
+pub mod Printing
+pub mod ValuePrinting
+pub mod LinePrinting
+pub mod MessagePrinting

@@ -17,6 +17,7 @@ use Rattle.link_base.specs.Table.{Table, Gives}
 use Rattle.link_base.specs.Viewed.{FaultsFirst}
 use Rattle.link_messages.specs.Walk.{Item, Walks, Walk}
 use Rattle.link_messages.proofs.Walking.{walks_more, end_splits}
+use Rattle.link_messages.proofs.Links.{zip_push}
 use Rattle.link_show.specs.Fault.{cause_words, fault_text}
 use Rattle.link_show.specs.List.{EachShown, ShowsElement, WritesElements, WritesElement, ShowsItem, ShowsList, WritesList, WritesValue, error_line, end_line, below, Decodes, Fails}
 
@@ -25,12 +26,6 @@ use Rattle.link_show.specs.List.{EachShown, ShowsElement, WritesElements, Writes
 pub and_true : (b : Bool) → (b && true) ≡ b
 and_true true = refl
 and_true false = refl
-
-zip_append : {A B : Type 0} (R : A → B → Type 0) (xs : List A) (ys : List B) (x : A) (y : B) → AllZip R xs ys → R x y → AllZip R (xs ++ x ∷ []) (ys ++ y ∷ [])
-zip_append R [] [] x y h r = (r, tt)
-zip_append R [] (z ∷ ys) x y h r = absurd h
-zip_append R (z ∷ xs) [] x y h r = absurd h
-zip_append R (z ∷ xs) (w ∷ ys) x y h r = (h.0, zip_append R xs ys x y h.1 r)
 
 pub each_none : {X : Type 0} (shows : X → List ℕ → Bool → Type 0) → EachShown shows [] [] true
 each_none shows = record { answers = []; each = tt; joined = refl; all = refl }
@@ -41,7 +36,7 @@ pub each_more : {X : Type 0} (shows : X → List ℕ → Bool → Type 0) (xs : 
 each_more shows xs out x written whole well s h =
     record {
       answers = s.answers ++ (written, well) ∷ [];
-      each = zip_append (λ y a. shows y a.0 a.1) xs s.answers x (written, well) s.each h;
+      each = zip_push (λ y a. shows y a.0 a.1) xs s.answers x (written, well) s.each h;
       joined = ap₂ (λ a b. a ++ b) s.joined (sym (append-nil written)) ∙ sym (flat_map-append (λ a. a.0) s.answers ((written, well) ∷ []));
       all = ap₂ (λ a b. a && b) s.all (sym (and_true well)) ∙ sym (list_all-append (λ a. a.1) s.answers ((written, well) ∷ []));
     }
@@ -107,7 +102,7 @@ value_more indent base table list rest next old mid new whole b h split (out, sh
     subst (ListTo indent base table list next old new) (and_true whole)
     (item_more indent base table list rest next old mid new whole true b out h split (Decodes shown refl) written)
 
-and_false : (b : Bool) → (b && false) ≡ false
+pub and_false : (b : Bool) → (b && false) ≡ false
 and_false true = refl
 and_false false = refl
 

@@ -4,6 +4,7 @@ pub mod Flags
 pub mod Octets
 pub mod Structs
 pub mod Quoted
+pub mod Printable
 pub mod Value
 pub mod Fault
 pub mod List

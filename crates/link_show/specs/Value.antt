@@ -1,9 +1,9 @@
 -- The text of a value, by the form of its content.
-use Rattle.std.specs.Prelude.{Option, Some, None, ◌≡◌, ℕ, List, [], ◌∷◌, ◌++◌, Bool, codes, length, nat_lt, if◌then◌else◌, bytes_eq}
+use Rattle.std.specs.Prelude.{Option, Some, None, ◌≡◌, ℕ, ◌%◌, ◌^◌, List, [], ◌∷◌, ◌++◌, Bool, codes, length, nat_lt, if◌then◌else◌, bytes_eq}
 use Rattle.std.specs.Io.KnownBytes.{Appends}
 use Rattle.std.specs.List.{list_any}
 use Rattle.std.specs.Fmt.{signed_decimal}
-use Rattle.std.specs.Net.Addr.{ipv4_octets, ipv6_segments}
+use Rattle.std.specs.Net.Addr.{ipv4_octets, segments_of}
 use Rattle.std.specs.Net.Text.{ipv4_text, ipv6_text}
 use Rattle.link_base.specs.declared.content.Content.{Content}
 use Rattle.link_base.specs.declared.content.Content.TheVariants as contents
@@ -13,6 +13,7 @@ use Rattle.link_base.specs.declared.vlan_protocol.VlanProtocol.{VlanProtocol}
 use Rattle.link_base.specs.Frame.{kind_of}
 use Rattle.link_base.specs.Table.{Table, class_at, form_at, label_at}
 use Rattle.link_base.specs.Borrowed.{Borrows, form_of}
+use Rattle.link_base.specs.IpAddress.{sixteen_octets}
 use Rattle.link_base.specs.Layout.{number_at, numbers_of}
 use Rattle.link_base.specs.Named.{text_of}
 use Rattle.link_base.specs.Protocol.{vlan_protocols, protocol_number}
@@ -104,6 +105,10 @@ form_in label = label.2
 abbrev pub names_of : Label → List (ℕ × List ℕ)
 names_of label = label.3
 
+-- a number of four bytes, as its bytes tell it: the content of an attribute is known by its payload
+abbrev pub four_bytes : ℕ → ℕ
+four_bytes n = n % 2 ^ 32
+
 -- the text of a content, but for lists, which have none
 abbrev pub content_text : Label → Content → List ℕ
 content_text label contents.Nothing = []
@@ -113,12 +118,12 @@ content_text label (contents.Signed z) = signed_decimal z
 content_text label (contents.Enum n width) = enum_text (names_of label) n
 content_text label (contents.Flags bits width) = flags_text (names_of label) width bits
 content_text label (contents.LowFlags bits) = flags_text (names_of label) 1 bits
-content_text label (contents.MaskedFlags flags mask) = masked_text (names_of label) flags mask
-content_text label (contents.Pair from to) = number_fields ((codes "from", from) ∷ (codes "to", to) ∷ [])
+content_text label (contents.MaskedFlags flags mask) = masked_text (names_of label) (four_bytes flags) (four_bytes mask)
+content_text label (contents.Pair from to) = number_fields ((codes "from", four_bytes from) ∷ (codes "to", four_bytes to) ∷ [])
 content_text label (contents.Protocol p) = protocol_text p
 content_text label (contents.Mac a) = address_text a
 content_text label (contents.Ipv4 a) = ipv4_text (ipv4_octets a)
-content_text label (contents.Ipv6 a) = ipv6_text (ipv6_segments a)
+content_text label (contents.Ipv6 a) = ipv6_text (segments_of (sixteen_octets a))
 content_text label (contents.Bytes p) = address_text p.now
 content_text label (contents.Struct p) = struct_of (name_in label) p.now
 content_text label (contents.U16s p) = array_text (quantity_in label) (numbers_of 2 p.now)

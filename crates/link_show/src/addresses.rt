@@ -71,7 +71,7 @@ fn write_ipv4<W: Write>(writer: &mut W, address: &[u8]) -> io::Result<()>
     write!(writer, "{address}")
 }
 
-fn write_ipv6<W: Write>(writer: &mut W, address: &[u8]) -> io::Result<()>
+pub(crate) fn write_ipv6<W: Write>(writer: &mut W, address: &[u8]) -> io::Result<()>
     requires { length address.now ≡ 16 }
     ensures { OnOk result (Appends (W.contents writer.old) (W.contents writer.new)
         (ipv6_text (segments_of address.now))) }

@@ -16,6 +16,7 @@ mod families;
 mod faults;
 mod flags;
 mod info;
+pub mod laws;
 mod links;
 mod lists;
 mod message_errors;

@@ -3,7 +3,7 @@
 ghost use Rattle.std.specs.Prelude.{◌≡◌, ℕ, List, map, OnOk};
 ghost use Rattle.std.specs.Io.KnownBytes.{Appends};
 ghost use Rattle.link_show.specs.Flags.{flags_text};
-ghost use Rattle.link_show.specs.Value.{masked_text};
+ghost use Rattle.link_show.specs.Value.{masked_text, four_bytes};
 ghost use Rattle.link_base.specs.Labels.{names_in};
 ghost use Rattle.link_show.specs.Structs.{struct_text, field, number_field, number_fields};
 
@@ -92,7 +92,7 @@ pub(crate) fn write_masked<W: Write>(
     mask: u32,
 ) -> io::Result<()>
     ensures { OnOk result (Appends (W.contents writer.old) (W.contents writer.new)
-        (masked_text (names_in names.now) flags mask)) }
+        (masked_text (names_in names.now) (four_bytes flags) (four_bytes mask))) }
 {
     writer.write_all(b"flags ")?;
     write_flags(writer, names, 4, flags.into())?;

@@ -2,14 +2,18 @@
 
 ghost use Rattle.std.specs.Prelude.{◌≤◌, ◌∷◌, [], length, codes, None, OnOk};
 ghost use Rattle.std.specs.Io.KnownBytes.{Appends};
+ghost use Rattle.std.specs.Net.Addr.{segments_of};
+ghost use Rattle.std.specs.Net.Text.{ipv6_text};
+ghost use Rattle.link_base.specs.IpAddress.{sixteen_octets};
 ghost use Rattle.link_show.specs.Flags.{enum_text};
 ghost use Rattle.link_show.specs.Structs.{number_fields};
-ghost use Rattle.link_show.specs.Value.{can_state_names, unsigned_text, struct_of, limit_fields, limits_text};
+ghost use Rattle.link_show.specs.Value.{can_state_names, unsigned_text, struct_of, limit_fields, limits_text, four_bytes};
 ghost use Rattle.link_show.specs.Value.{protocol_text, other_text, content_text, value_text, WritesValue};
 ghost use Rattle.link_base.specs.Labels.{label_of};
 ghost use Rattle.link_base.specs.Buffer.{kind_field_of};
 ghost use Rattle.link_base.specs.Viewed.{set_in, buffer_in, payload_in};
 
+use crate::addresses::write_ipv6;
 use crate::flags::{write_enum, write_flags};
 use crate::numbers::{Width, write_array, write_number};
 use crate::octets::{write_address, write_hex};
@@ -19,11 +23,12 @@ use link_base::attribute_set::AttributeSet;
 use link_base::content::Content;
 use link_base::label::{KindLabel, Name, Quantity};
 use link_base::view::Value;
-use link_base::{VlanProtocol, u32_at};
+use link_base::{Address, VlanProtocol, u32_at};
 use link_bridge::{BridgeBooleanOptions, BridgeId, BridgeVlanInfo};
 use link_vlan_can::{CanBerrCounter, CanBitTiming, CanClock, CanCtrlMode};
 use std::io;
 use std::io::Write;
+use std::net::Ipv6Addr;
 
 /// The names of `enum can_state` (`include/uapi/linux/can/netlink.h`), without their prefix.
 const CAN_STATES: &[Name] = names![
@@ -101,7 +106,7 @@ pub fn write_content<W: Write>(
         Content::Protocol(protocol) => write_protocol(writer, protocol),
         Content::Mac(address) => write_address(writer, &address),
         Content::Ipv4(address) => write!(writer, "{address}"),
-        Content::Ipv6(address) => write!(writer, "{address}"),
+        Content::Ipv6(address) => write_ipv6_address(writer, address),
         Content::Bytes(bytes) => write_address(writer, bytes),
         Content::Struct(payload) => write_struct_of(writer, label.name, payload),
         Content::U16s(bytes) => write_array(writer, label.quantity, Width::Two, bytes),
@@ -113,9 +118,18 @@ pub fn write_content<W: Write>(
 
 fn write_pair<W: Write>(writer: &mut W, from: u32, to: u32) -> io::Result<()>
     ensures { OnOk result (Appends (W.contents writer.old) (W.contents writer.new)
-        (number_fields ((codes "from", from) ∷ (codes "to", to) ∷ []))) }
+        (number_fields ((codes "from", four_bytes from) ∷ (codes "to", four_bytes to) ∷ []))) }
 {
     write_numbers(writer, &[NumberField("from", from), NumberField("to", to)])
+}
+
+fn write_ipv6_address<W: Write>(writer: &mut W, address: Ipv6Addr) -> io::Result<()>
+    ensures { OnOk result (Appends (W.contents writer.old) (W.contents writer.new)
+        (ipv6_text (segments_of (sixteen_octets address)))) }
+{
+    let mut octets = [0; 16];
+    address.put(&mut octets);
+    write_ipv6(writer, &octets)
 }
 
 fn write_protocol<W: Write>(writer: &mut W, protocol: VlanProtocol) -> io::Result<()>

@@ -67,11 +67,6 @@ kept (Ok x) n room k before inside piece front new i le e m f h =
     h ∙ ap (λ l. inside ++ l) (f ∙ ap (λ j. take j piece) m) ∙ sym (take_room n room inside piece le e) ∙ ap (λ l. take n (l ++ piece)) i
 kept (Err x) n room k before inside piece front new i le e m f h = tt
 
--- what follows from a fact of the value
-pub if_ok : {X E : Type 0} (P Q : X → Type 0) (r : Result X E) → ((x : X) → P x → Q x) → IfOk r P → IfOk r Q
-if_ok P Q (Ok x) f h = f x h
-if_ok P Q (Err e) f h = tt
-
 -- digits that are not valid hex
 pub bad_digits : (form : Form) (asked : Asked) (r : Result (List ℕ) FromHexError) (out : List ℕ) (read : Bool) → IsErr r → out ≡ line (codes "bad hex") → read ≡ false → ShowsDigits form asked r out read
 bad_digits form asked (Ok s) out read bad o e = IfOk-from_err {E = FromHexError} (Ok s) (λ t. ShowsDigits form asked (Ok t) out read) bad

@@ -1,43 +1,14 @@
 -- Things, shown one after another.
 use Rattle.std.proofs.Common.{◌≡◌, ℕ, ◌+◌, Bool, true, false, ◌&&◌, List, [], ◌∷◌, ◌++◌, length, refl, sym, ap, ap₂, subst, ◌∙◌, arith, append_assoc, length-append, codes}
-use Rattle.std.specs.List.{AllZip, flat_map}
+use Rattle.std.specs.List.{flat_map}
 use Rattle.std.proofs.lemmas.List.{append-nil}
-use Rattle.std.proofs.lemmas.List.Folds.{list_all-append}
 use Rattle.std.proofs.lemmas.Grind.{flat_map-append}
 use Rattle.netlink_packet_route.specs.Report.{line}
-use Rattle.nlshow.specs.List.{ShowsEach, Adds, AddsLines}
-
-pub and_true : (b : Bool) → (b && true) ≡ b
-and_true true = refl
-and_true false = refl
-
-pub and_false : (b : Bool) → (b && false) ≡ false
-and_false true = refl
-and_false false = refl
+use Rattle.nlshow.specs.List.{Adds, AddsLines}
 
 pub and_assoc : (a b c : Bool) → ((a && b) && c) ≡ (a && (b && c))
 and_assoc true b c = refl
 and_assoc false b c = refl
-
-zip_append : {A B : Type 0} (R : A → B → Type 0) (xs : List A) (ys : List B) (x : A) (y : B) → AllZip R xs ys → R x y → AllZip R (xs ++ x ∷ []) (ys ++ y ∷ [])
-zip_append R [] [] x y h r = (r, tt)
-zip_append R [] (z ∷ ys) x y h r = absurd h
-zip_append R (z ∷ xs) [] x y h r = absurd h
-zip_append R (z ∷ xs) (w ∷ ys) x y h r = (h.0, zip_append R xs ys x y h.1 r)
-
-pub each_none : {X : Type 0} (shows : X → List ℕ → Bool → Type 0) → ShowsEach shows [] [] true
-each_none shows = record { answers = []; each = tt; joined = refl; all = refl }
-
--- one more
-pub each_more : {X : Type 0} (shows : X → List ℕ → Bool → Type 0) (xs : List X) (out : List ℕ) (x : X) (written : List ℕ) (whole read : Bool) → ShowsEach shows xs out whole → shows x written read
-    → ShowsEach shows (xs ++ x ∷ []) (out ++ written) (whole && read)
-each_more shows xs out x written whole read s h =
-    record {
-      answers = s.answers ++ (written, read) ∷ [];
-      each = zip_append (λ y a. shows y a.0 a.1) xs s.answers x (written, read) s.each h;
-      joined = ap₂ (λ a b. a ++ b) s.joined (sym (append-nil written)) ∙ sym (flat_map-append (λ a. a.0) s.answers ((written, read) ∷ []));
-      all = ap₂ (λ a b. a && b) s.all (sym (and_true read)) ∙ sym (list_all-append (λ a. a.1) s.answers ((written, read) ∷ []));
-    }
 
 -- ---- indented lines that are added to a text
 

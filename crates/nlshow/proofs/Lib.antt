@@ -10,3 +10,4 @@ pub mod ClapMistakes
 pub mod ClapRows
 pub mod ClapWalks
 pub mod FirstLine
+pub mod Printed

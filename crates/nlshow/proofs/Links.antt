@@ -7,9 +7,11 @@ use Rattle.link_messages.specs.declared.link.Link.{Link}
 use Rattle.link_messages.specs.declared.message.MessageError.{MessageError}
 use Rattle.link_messages.specs.Message.{NextMessage, Stand}
 use Rattle.link_messages.specs.Link.{parts_of}
-use Rattle.nlshow.specs.List.{Adds, ShowsEach}
+use Rattle.nlshow.specs.List.{Adds}
+use Rattle.link_show.specs.List.{EachShown}
 use Rattle.nlshow.specs.Messages.{error_line, IsHead, AddsHead, ShowsPart, ShowsLink, ShowsMessage, ShowsMessages, Ended, Broken}
-use Rattle.nlshow.proofs.Each.{and_true, and_false, and_assoc, each_none, each_more}
+use Rattle.link_show.proofs.Listing.{and_true, and_false, each_none, each_more}
+use Rattle.nlshow.proofs.Each.{and_assoc}
 
 -- ---- the lists of a link
 
@@ -44,7 +46,7 @@ link_shown link t a b c d e p q r s h i j k l =
 pub record ShownTo (s : List ℕ) (at : ℕ) (out : List ℕ) (whole : Bool) : Type 0 where
   pub messages : List Message
   pub stand : Stand s 0 messages at
-  pub each : ShowsEach ShowsMessage messages out whole
+  pub each : EachShown ShowsMessage messages out whole
 
 pub none_shown : (s : List ℕ) (t : List ℕ) → Adds (ShownTo s 0) t t true
 none_shown s t = ([], record { messages = []; stand = refl; each = each_none ShowsMessage }, sym (append-nil t))

@@ -10,7 +10,7 @@ use Rattle.nlshow.specs.declared.arguments.Options.{Options}
 use Rattle.nlshow.specs.Show.{ShowsAll, IsUnbroken}
 use Rattle.nlshow.specs.Progress.{Shown, Goes, held_of, Grows, WritesLine, WritesPiece, WritesRest, OnMemory}
 use Rattle.nlshow.specs.Run.{Runs}
-use Rattle.nlshow.proofs.Each.{and_true}
+use Rattle.link_show.proofs.Listing.{and_true}
 use Rattle.nlshow.proofs.Texts.{none, goes_none, goes_both, goes_on, goes_over, ends_here, ends_open}
 
 -- ---- the lines of a piece

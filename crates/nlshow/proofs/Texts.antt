@@ -4,12 +4,13 @@ use Rattle.std.specs.List.{flat_map}
 use Rattle.std.proofs.lemmas.List.{take_all, append-nil, nil_from_length}
 use Rattle.std.proofs.lemmas.Grind.{flat_map-append}
 use Rattle.netlink_packet_route.specs.Report.{line, most_text}
-use Rattle.nlshow.specs.List.{ShowsEach}
+use Rattle.link_show.specs.List.{EachShown}
 use Rattle.nlshow.specs.declared.arguments.Options.{Options}
 use Rattle.nlshow.specs.Show.{Shows, TooLong, PassedOver, Answered, ShowsAll, Ended, Open, IsUnbroken}
 use Rattle.nlshow.specs.Progress.{Shown, Goes, held_of, most_held}
 use Rattle.nlshow.proofs.Cuts.{all_append, take_twice}
-use Rattle.nlshow.proofs.Each.{and_true, and_assoc, each_more}
+use Rattle.link_show.proofs.Listing.{and_true, each_more}
+use Rattle.nlshow.proofs.Each.{and_assoc}
 
 -- ---- what is held of a line tells what is shown for it
 
@@ -62,7 +63,7 @@ goes_on {options} before after piece solid e text out whole s =
       unbroken = s.unbroken;
       open_end = all_append (λ b. b ≢ 10) s.current piece s.open_end solid;
       is_held = e ∙ ap (λ t. held_of (t ++ piece)) s.is_held ∙ take_twice most_held s.current piece;
-      shown = subst (λ o. ShowsEach (Shows options) s.lines o (whole && true)) (sym (append-nil out)) (subst (λ w. ShowsEach (Shows options) s.lines out w) (sym (and_true whole)) s.shown);
+      shown = subst (λ o. EachShown (Shows options) s.lines o (whole && true)) (sym (append-nil out)) (subst (λ w. EachShown (Shows options) s.lines out w) (sym (and_true whole)) s.shown);
     }
 
 -- bytes without LF, and then LF

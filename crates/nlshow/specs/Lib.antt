@@ -5,3 +5,4 @@ pub mod Messages
 pub mod Show
 pub mod Progress
 pub mod Run
+pub mod Printed

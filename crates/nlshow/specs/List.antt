@@ -1,6 +1,6 @@
 -- The output for a list.
 use Rattle.std.specs.Prelude.{◌≡◌, ℕ, ◌+◌, Bool, true, false, List, ◌++◌, length, codes}
-use Rattle.std.specs.List.{flat_map, list_all, AllZip}
+use Rattle.std.specs.List.{flat_map}
 use Rattle.netlink_packet_route.specs.Wire.{Wire, FirstFault}
 use Rattle.netlink_packet_route.specs.Table.{Table, AttrValue, Gives}
 use Rattle.netlink_packet_route.specs.Report.{line, fault_line}
@@ -14,13 +14,6 @@ AreIndented indent out n = (words : List (List ℕ)) × (length words ≡ n) × 
 pub data ShowsList (indent : List ℕ) (base : ℕ) (table : Table) (s out : List ℕ) (read : Bool) : Type 0 where
   Values : (vs : List AttrValue) → Wire (Gives table) s vs → AreIndented indent out (length vs) → read ≡ true → ShowsList indent base table s out read
   Fault : (at : ℕ) (fault : _) → FirstFault (Gives table) s at fault → out ≡ indent ++ fault_line (base + at) fault → read ≡ false → ShowsList indent base table s out read
-
--- the outputs for several items, in order, and whether all of them decode
-pub record ShowsEach {X : Type 0} (shows : X → List ℕ → Bool → Type 0) (xs : List X) (out : List ℕ) (whole : Bool) : Type 0 where
-  pub answers : List (List ℕ × Bool)
-  pub each : AllZip (λ x answer. shows x answer.0 answer.1) xs answers
-  pub joined : out ≡ flat_map (λ answer. answer.0) answers
-  pub all : whole ≡ list_all (λ answer. answer.1) answers
 
 -- ---- what functions append to a string
 

@@ -12,7 +12,8 @@ use Rattle.link_messages.specs.declared.link.Part.{Part}
 use Rattle.link_messages.specs.declared.message.MessageError.{MessageError}
 use Rattle.link_messages.specs.Message.{NextMessage, Stand, packet_of, error_text}
 use Rattle.link_messages.specs.Link.{IsAbout, IsAboutNone, parts_of}
-use Rattle.nlshow.specs.List.{ShowsList, ShowsEach}
+use Rattle.nlshow.specs.List.{ShowsList}
+use Rattle.link_show.specs.List.{EachShown}
 
 -- ---- lines
 
@@ -46,7 +47,7 @@ pub record ShowsLink (link : Link) (out : List ℕ) (read : Bool) : Type 0 where
   pub head : List ℕ
   pub parts : List ℕ
   pub is_head : IsHead link.index (option_copied link.name) head
-  pub each : ShowsEach (λ p. ShowsPart p.0 p.1) (parts_of link) parts read
+  pub each : EachShown (λ p. ShowsPart p.0 p.1) (parts_of link) parts read
   pub joined : out ≡ head ++ parts
 
 -- the output for a message, and whether it and its lists decode
@@ -68,7 +69,7 @@ pub record ShowsMessages (s out : List ℕ) (whole : Bool) : Type 0 where
   pub stand : Stand s 0 messages end
   pub front : List ℕ
   pub front_read : Bool
-  pub each : ShowsEach ShowsMessage messages front front_read
+  pub each : EachShown ShowsMessage messages front front_read
   pub last : List ℕ
   pub last_read : Bool
   pub at_end : ShowsEnd s end last last_read

@@ -6,7 +6,7 @@ use Rattle.netlink_packet_route.specs.Report.{line, most_text}
 use Rattle.nlshow.specs.declared.arguments.Options.{Options}
 use Rattle.nlshow.specs.declared.running.Stop.{Stop}
 use Rattle.nlshow.specs.declared.running.Stop.TheVariants.{Memory, Reader, Writer}
-use Rattle.nlshow.specs.List.{ShowsEach}
+use Rattle.link_show.specs.List.{EachShown}
 use Rattle.nlshow.specs.Show.{Form, Shows, ShowsBelow, IsUnbroken}
 
 -- how many bytes of a line are kept at most: one more than the maximum length of a line
@@ -25,7 +25,7 @@ pub record Shown (options : Options) (text out held : List ℕ) (whole : Bool) :
   pub unbroken : AllByRecursion IsUnbroken lines
   pub open_end : IsUnbroken current
   pub is_held : held ≡ held_of current
-  pub shown : ShowsEach (Shows options) lines out whole
+  pub shown : EachShown (Shows options) lines out whole
 
 -- the next piece of the input, after any beginning: what is kept then, what is written, and whether none of the lines
 -- that end in the piece has an error

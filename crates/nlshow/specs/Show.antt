@@ -9,12 +9,12 @@ use Rattle.netlink_packet_route.specs.HexText.{is_space, digits_of}
 use Rattle.netlink_packet_route.specs.Report.{line, most_text}
 use Rattle.nlshow.specs.declared.asking.Asked.{Asked}
 use Rattle.nlshow.specs.declared.asking.Asked.TheVariants.{Messages, Attributes, Verdict}
-use Rattle.nlshow.specs.List.{ShowsList, ShowsEach}
+use Rattle.nlshow.specs.List.{ShowsList}
 use Rattle.nlshow.specs.Messages.{ShowsMessages}
 use Rattle.nlshow.specs.declared.arguments.Options.{Options}
 use Rattle.nlshow.specs.declared.arguments.Format.{Format}
 use Rattle.nlshow.specs.declared.arguments.Format.TheVariants.{Plain, Debug}
-use Rattle.link_show.specs.List.{ShowsVerdict, ShowsChecked}
+use Rattle.link_show.specs.List.{EachShown, ShowsVerdict, ShowsChecked}
 use Rattle.link_show.specs.Message as plain
 
 -- ---- a line
@@ -126,4 +126,4 @@ pub data AreLines (text : List ℕ) (lines : List (List ℕ)) : Type 0 where
 pub record ShowsAll (options : Options) (text out : List ℕ) (whole : Bool) : Type 0 where
   pub lines : List (List ℕ)
   pub cut : AreLines text lines
-  pub shown : ShowsEach (Shows options) lines out whole
+  pub shown : EachShown (Shows options) lines out whole

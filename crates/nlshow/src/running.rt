@@ -7,6 +7,8 @@ ghost use Rattle.netlink_packet_route.specs.Report.{line};
 ghost use Rattle.nlshow.specs.Show.{IsUnbroken};
 ghost use Rattle.nlshow.specs.Progress.{held_of, Grows, WritesLine, WritesPiece, WritesRest, OnMemory};
 ghost use Rattle.nlshow.specs.Run.{RunsFor, Runs, EndsWith};
+ghost use Rattle.nlshow.specs.Printed.{Prints};
+ghost use Rattle.nlshow.specs.declared.arguments.Format.TheVariants.{Plain};
 ghost use Rattle.program.specs.Printing.{no_memory_line};
 
 use crate::arguments::Options;
@@ -33,6 +35,7 @@ pub(crate) enum Stop {
 /// - 1 if a line has an error;
 /// - 4 if an allocation fails;
 /// - 5 if the reader or the writer fails.
+#[tactic(auto, using(crate::proofs::Printed::run_prints))]
 pub fn run<R: Read, W: Write + Drop>(
     alloc: Global,
     options: Options,
@@ -41,6 +44,9 @@ pub fn run<R: Read, W: Write + Drop>(
 ) -> u8
     ensures report { result < 2 → RunsFor options (R.remaining reader.old) (R.remaining reader.new)
         (writer_contents W.contents writer.old) (W.contents (writer_inner writer.new)) result }
+    // In the plain form, every line that is written is printable ASCII or a line of the input.
+    ensures printable { result < 2 → options.format ≡ Plain → Prints (R.remaining reader.old) (R.remaining reader.new)
+        (writer_contents W.contents writer.old) (W.contents (writer_inner writer.new)) }
     // The line `no memory` is the last of the output.
     ensures memory { result ≡ 4 → EndsWith (writer_contents W.contents writer.old)
         (W.contents (writer_inner writer.new)) no_memory_line }

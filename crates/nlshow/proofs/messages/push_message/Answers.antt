@@ -1,7 +1,7 @@
 use Rattle.std.proofs.Common.{refl, string_bytes}
 use Rattle.nlshow.specs.List.{Adds}
 use Rattle.nlshow.specs.Messages.{ShowsLink, ShowsMessage, About, AboutNone}
-use Rattle.nlshow.proofs.Cuts.{if_ok}
+use Rattle.link_show.proofs.MessageLines.{if_ok}
 use Rattle.nlshow.proofs.messages.push_message.Goals as goal
 
 pub returns-in-Ok : goal.returns-in-Ok

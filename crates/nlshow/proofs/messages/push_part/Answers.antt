@@ -2,7 +2,7 @@ use Rattle.std.proofs.Common.{◌++◌, IfOk, Some, refl, sym, ap, subst, ◌∙
 use Rattle.netlink_packet_route.specs.Family.{table_of}
 use Rattle.nlshow.specs.List.{Adds, ShowsList}
 use Rattle.nlshow.specs.Messages.{ShowsPart, path_line}
-use Rattle.nlshow.proofs.Cuts.{if_ok}
+use Rattle.link_show.proofs.MessageLines.{if_ok}
 use Rattle.nlshow.proofs.messages.push_part.Goals as goal
 
 pub returns-in_ok-push_path-in-Some : goal.returns-in_ok-push_path-in-Some

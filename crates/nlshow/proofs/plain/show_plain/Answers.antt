@@ -3,7 +3,8 @@ use Rattle.std.specs.Io.KnownBytes.{Appends}
 use Rattle.netlink_packet_route.specs.Report.{line}
 use Rattle.nlshow.specs.Show.{ShowsPlain, ShowsDigits, Known, Unknown}
 use Rattle.nlshow.specs.Progress.{WritesBelow}
-use Rattle.nlshow.proofs.Cuts.{if_ok, bad_digits}
+use Rattle.link_show.proofs.MessageLines.{if_ok}
+use Rattle.nlshow.proofs.Cuts.{bad_digits}
 use Rattle.nlshow.proofs.plain.show_plain.Goals as goal
 
 pub returns-in-None-clause-shown : goal.returns-in-None-clause-shown

@@ -1,7 +1,7 @@
 use Rattle.std.proofs.Common.{◌<◌, Bool, length, arith, Err}
 use Rattle.nlshow.specs.Progress.{Grows, WritesRest}
 use Rattle.nlshow.specs.Run.{Runs}
-use Rattle.nlshow.proofs.Cuts.{if_ok}
+use Rattle.link_show.proofs.MessageLines.{if_ok}
 use Rattle.nlshow.proofs.Steps.{went_none, went_on, went_all, went_grows, went_keeps, read_end, on_memory}
 use Rattle.std.specs.Io.KnownBytes.{Keeps}
 use Rattle.nlshow.proofs.running.show_all.Goals as goal

@@ -2,7 +2,7 @@ use Rattle.std.proofs.Common.{refl, string_bytes}
 use Rattle.hex.specs.Hex.{decode_of}
 use Rattle.netlink_packet_route.specs.HexText.{digits_of}
 use Rattle.nlshow.specs.Show.{ShowsDebug, ShowsDigits, ShowsBelow, Known, Unknown}
-use Rattle.nlshow.proofs.Cuts.{if_ok}
+use Rattle.link_show.proofs.MessageLines.{if_ok}
 use Rattle.nlshow.proofs.showing.answer.Goals as goal
 
 pub returns-in-Some : goal.returns-in-Some

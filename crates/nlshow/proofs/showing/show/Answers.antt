@@ -3,7 +3,7 @@ use Rattle.std.proofs.lemmas.Bool.{iff_false}
 use Rattle.netlink_packet_route.specs.Report.{line}
 use Rattle.nlshow.specs.Show.{ShowsBelow, ShowsAs, ShowsPlain, ShowsDebug, Answered}
 use Rattle.nlshow.specs.Progress.{WritesBelow, WritesLine}
-use Rattle.nlshow.proofs.Cuts.{if_ok}
+use Rattle.link_show.proofs.MessageLines.{if_ok}
 use Rattle.nlshow.proofs.showing.show.Goals as goal
 
 pub returns-in-Plain-clause-shown : goal.returns-in-Plain-clause-shown

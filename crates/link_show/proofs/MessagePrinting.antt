@@ -1,0 +1,402 @@
+-- The lines of messages are printable.
+use Rattle.std.proofs.Common.{◌≡◌, ℕ, ℤ, ◌+◌, ◌==◌, cond, Bool, true, false, List, [], ◌∷◌, ◌++◌, length, drop, Option, Some, None, Result, Ok, Err, option_map, if◌then◌else◌, unsigned_abs, refl, sym, ap, subst, ◌∙◌, codes}
+use Rattle.std.specs.Fmt.{decimal, signed_decimal}
+use Rattle.std.specs.List.{filter, last_or, AllByRecursion}
+use Rattle.std.specs.Option.{option_copied}
+use Rattle.link_base.specs.declared.fault.Cause.{Cause}
+use Rattle.link_base.specs.declared.label.Quantity.TheVariants.{Number, InterfaceIndex}
+use Rattle.link_base.specs.Labels as Labels
+use Rattle.link_base.specs.Named.{texts_of}
+use Rattle.link_base.specs.Number.{IsBytes}
+use Rattle.link_base.specs.Frame.{kind_of}
+use Rattle.link_base.specs.Buffer.{kind_field_of}
+use Rattle.link_base.proofs.FrameBytes.{bytes-front, bytes-back}
+use Rattle.link_bridge.specs.Names.{port_state_names}
+use Rattle.netlink_packet_route.specs.declared.family.Family.{Family}
+use Rattle.netlink_packet_route.specs.declared.family.Family.TheVariants as families
+use Rattle.netlink_packet_route.specs.Family.{family_name, table_of}
+use Rattle.link_messages.specs.declared.views.Message.{Message}
+use Rattle.link_messages.specs.declared.views.Payload.{Payload}
+use Rattle.link_messages.specs.declared.message.MessageError.{MessageError}
+use Rattle.link_messages.specs.declared.message.MessageError.TheVariants as errors
+use Rattle.link_messages.specs.declared.header.LinkHeader.{LinkHeader}
+use Rattle.link_messages.specs.declared.info.InfoData.{InfoData}
+use Rattle.link_messages.specs.declared.info.LinkInfo.{LinkInfo}
+use Rattle.link_messages.specs.declared.details.LinkDetails.{LinkDetails}
+use Rattle.link_messages.specs.declared.details.Protinfo.{Protinfo}
+use Rattle.link_messages.specs.declared.details.Protinfo.TheVariants as protinfos
+use Rattle.link_messages.specs.declared.acknowledgement.Acknowledgement.{Acknowledgement}
+use Rattle.link_messages.specs.Message.{Stand, IsMessageAt, packet_of}
+use Rattle.link_messages.specs.Finding.{Stretch, stretch_of}
+use Rattle.link_messages.specs.Walk.{Item}
+use Rattle.link_messages.specs.BeforeFault.{Typed, last_item, payload_at, typed_at, latest, latest_typed}
+use Rattle.link_messages.specs.Info.{announced, data_of, IsInfo}
+use Rattle.link_messages.specs.Details.{Both, in_bridge, IsProtinfo, HasDetails}
+use Rattle.link_show.specs.Number.{number_text}
+use Rattle.link_show.specs.Flags.{enum_text, flags_text}
+use Rattle.link_show.specs.Octets.{address_text}
+use Rattle.link_show.specs.Quoted.{quoted}
+use Rattle.link_show.specs.Structs.{field}
+use Rattle.link_show.specs.Errno.{errno_names}
+use Rattle.link_show.specs.MessageNames.{message_types, common_flags, new_flags, get_flags, delete_flags, error_flags, flags_of, address_families, device_types, device_flags, operational_states}
+use Rattle.link_show.specs.List.{indented}
+use Rattle.link_show.specs.Message.{two, four, reason_text, offset_of, message_error_line, named_or, message_line, unless_zero, name_part, header_parts, link_line, line_of, opaque_text, ShowsFamily, ShowsPayload, kind_or_port, kind_line, ShowsData, fault_line, ShowsInfo, ShowsOptionalInfo, ShowsPart, ShowsProtinfo, attribute_lines, others_line, ShowsLink, number_after, error_number_line, result_line, reply_lines, ShowsBody, Link, Reply, NoLink, NoReply, Other, ShowsMessage, ShowsEnd, Ended, Done, Broken, ShowsMessages}
+use Rattle.link_show.specs.Printable.{IsText, AreTexts, are_text_names, has_texts}
+use Rattle.link_show.proofs.Printing.{text, none, and, either, decimal_text, signed_text, address_digits, quoted_text}
+use Rattle.link_show.proofs.ValuePrinting.{EachName, OnText, choose, each_name, name_found, enum_is_text, number_is_text, flags_is_text, field_text, bytes_is_text, cause_is_text}
+use Rattle.link_show.proofs.LinePrinting.{no_texts, and_texts, line_end, line_and, line_texts, indented_texts, error_texts, either_texts, each_texts, drop_bytes, ItemBytes, walk_bytes, checked_texts}
+
+-- ---- errors
+
+reason_is_text : (error : MessageError) → IsText (reason_text error)
+reason_is_text (errors.ShortHeader at left) = bytes_is_text left (text refl)
+reason_is_text (errors.SmallLength at size) = and {s = codes "nlmsg_len "} (text refl) (and (decimal_text size) (text refl))
+reason_is_text (errors.Overrun at size left) =
+    and {s = codes "nlmsg_len "} (text refl) (and (decimal_text size) (and {s = codes " exceeds the "} (text refl) (bytes_is_text left (text refl))))
+reason_is_text (errors.OtherType at kind) = and {s = codes "type "} (text refl) (and (decimal_text kind) (text refl))
+reason_is_text (errors.ShortLink at size) = bytes_is_text size (text refl)
+reason_is_text (errors.ShortError at size) = bytes_is_text size (text refl)
+reason_is_text (errors.Frame at cause) = cause_is_text false cause
+
+message_error_texts : (indent : List ℕ) (error : MessageError) → IsText indent → AreTexts (message_error_line indent error)
+unfolding message_error_line
+message_error_texts indent error h = error_texts indent (offset_of error) h (reason_is_text error)
+
+fault_texts : (fault : Option MessageError) → AreTexts (fault_line fault)
+fault_texts None = no_texts
+fault_texts (Some error) = message_error_texts two error (text refl)
+
+-- ---- the header of a message
+
+named_or_text : (word : List ℕ) (found : Option (List ℕ)) (n : ℕ) → IsText word → OnText found → IsText (named_or word found n)
+named_or_text word None n w h = and w (decimal_text n)
+named_or_text word (Some name) n w h = h
+
+names_for : (names : List (ℕ × List ℕ)) (word : List ℕ) (n : ℕ) → EachName names → IsText word → IsText (named_or word (Labels.name_in names n) n)
+names_for names word n h w = named_or_text word (Labels.name_in names n) n w (name_found names h n)
+
+flags_of_text : (kind : ℕ) → EachName (flags_of kind)
+flags_of_text kind =
+    let more : (some : List (ℕ × List ℕ)) → are_text_names (common_flags ++ some) ≡ true → EachName (common_flags ++ some) = λ some h. each_name (common_flags ++ some) h in
+    choose EachName (kind == 16) (common_flags ++ new_flags) (if kind == 19 then common_flags ++ new_flags else (if kind == 18 then common_flags ++ get_flags else (if kind == 17 then common_flags ++ delete_flags else (if kind == 2 then common_flags ++ error_flags else common_flags)))) (more new_flags refl)
+    (choose EachName (kind == 19) (common_flags ++ new_flags) (if kind == 18 then common_flags ++ get_flags else (if kind == 17 then common_flags ++ delete_flags else (if kind == 2 then common_flags ++ error_flags else common_flags))) (more new_flags refl)
+    (choose EachName (kind == 18) (common_flags ++ get_flags) (if kind == 17 then common_flags ++ delete_flags else (if kind == 2 then common_flags ++ error_flags else common_flags)) (more get_flags refl)
+    (choose EachName (kind == 17) (common_flags ++ delete_flags) (if kind == 2 then common_flags ++ error_flags else common_flags) (more delete_flags refl)
+    (choose EachName (kind == 2) (common_flags ++ error_flags) common_flags (more error_flags refl) (each_name common_flags refl)))))
+
+message_line_texts : (m : Message) → AreTexts (message_line m)
+unfolding message_line
+message_line_texts m =
+    line_texts (
+      line_and (names_for message_types (codes "type ") m.kind (each_name message_types refl) (text refl))
+      (line_and {t = codes " len "} (text refl)
+      (line_and (decimal_text _)
+      (line_and {t = codes " flags "} (text refl)
+      (line_and (flags_is_text (flags_of m.kind) 2 m.flags (flags_of_text m.kind))
+      (line_and {t = codes " seq "} (text refl)
+      (line_and (decimal_text m.sequence)
+      (line_and {t = codes " pid "} (text refl) (line_end (decimal_text m.port)))))))))
+    )
+
+-- ---- the line of a link
+
+unless_text : (n : ℕ) (name t : List ℕ) → IsText name → IsText t → IsText (unless_zero n name t)
+unless_text n name t h k = either (n == 0) none (and {s = codes " "} (text refl) (field_text name h k))
+
+name_text : (name : Option (List ℕ)) → IsText (name_part name)
+name_text None = none
+name_text (Some name) = and {s = codes " "} (text refl) (field_text (codes "name") (text refl) (quoted_text name))
+
+device_text : (bits : ℕ) → IsText (flags_text device_flags 4 bits)
+device_text bits = flags_is_text device_flags 4 bits (each_name device_flags refl)
+
+parts_text : (h : LinkHeader) → IsText (header_parts h)
+parts_text h =
+    and (unless_text h.family (codes "family") _ (text refl) (names_for address_families [] h.family (each_name address_families refl) none))
+    (and (unless_text h.kind (codes "type") _ (text refl) (names_for device_types [] h.kind (each_name device_types refl) none))
+    (and (unless_text h.flags (codes "flags") _ (text refl) (device_text h.flags)) (unless_text h.change (codes "change") _ (text refl) (device_text h.change))))
+
+link_line_texts : (h : LinkHeader) (name : Option (List ℕ)) → AreTexts (link_line h name)
+unfolding link_line
+link_line_texts h name = indented_texts two (text refl) (and {s = codes "ifindex "} (text refl) (and (signed_text h.index) (and (name_text name) (parts_text h))))
+
+-- ---- lines of attributes
+
+line_of_texts : {A : Type 0} (name : List ℕ) (of : A → List ℕ) (x : Option A) → IsText name → ((a : A) → IsText (of a)) → AreTexts (line_of name of x)
+line_of_texts name of None h k = no_texts
+line_of_texts name of (Some a) h k = indented_texts two (text refl) (field_text name h (k a))
+
+opaque_is_text : (n : ℕ) → IsText (opaque_text n)
+opaque_is_text n = and {s = codes "("} (text refl) (bytes_is_text n (text refl))
+
+family_is_text : (family : Family) → IsText (family_name family)
+family_is_text families.AfSpecBridge = text refl
+family_is_text families.Bond = text refl
+family_is_text families.BondPort = text refl
+family_is_text families.Bridge = text refl
+family_is_text families.BridgePort = text refl
+family_is_text families.Can = text refl
+family_is_text families.Dsa = text refl
+family_is_text families.Hsr = text refl
+family_is_text families.ProtoBridge = text refl
+family_is_text families.Vlan = text refl
+
+pub family_has_texts : (family : Family) → has_texts (table_of family) ≡ true
+family_has_texts families.AfSpecBridge = refl
+family_has_texts families.Bond = refl
+family_has_texts families.BondPort = refl
+family_has_texts families.Bridge = refl
+family_has_texts families.BridgePort = refl
+family_has_texts families.Can = refl
+family_has_texts families.Dsa = refl
+family_has_texts families.Hsr = refl
+family_has_texts families.ProtoBridge = refl
+family_has_texts families.Vlan = refl
+
+-- the payload consists of bytes
+abbrev PayloadBytes : Payload → Type 0
+PayloadBytes p = IsBytes p.bytes.now
+
+-- what may be missing
+abbrev OnSome : {A : Type 0} → (A → Type 0) → Option A → Type 0
+OnSome P None = Unit {0}
+OnSome P (Some a) = P a
+
+family_texts : (check : Bool) (name : List ℕ) (family : Family) (p : Payload) (out : List ℕ) (well : Bool) → IsText name → PayloadBytes p → ShowsFamily check name family p out well → AreTexts out
+family_texts check name family p out well n h (lines, shown, is) =
+    subst AreTexts (sym is) (
+      and_texts (indented_texts two (text refl) (field_text name n (and {s = codes "("} (text refl) (and (family_is_text family) (text refl)))))
+      (checked_texts four (text refl) check p.at (table_of family) p.bytes.now lines well (family_has_texts family) h shown)
+    )
+
+payload_texts : (check : Bool) (name : List ℕ) (family : Option Family) (p : Payload) (out : List ℕ) (well : Bool) → IsText name → PayloadBytes p → ShowsPayload check name family p out well → AreTexts out
+payload_texts check name None p out well n h (is, e) = subst AreTexts (sym is) (indented_texts two (text refl) (field_text name n (opaque_is_text _)))
+payload_texts check name (Some family) p out well n h shown = family_texts check name family p out well n h shown
+
+-- ---- IFLA_LINKINFO
+
+abbrev DataBytes : InfoData → Type 0
+DataBytes d = PayloadBytes d.payload
+
+record InfoBytes (info : LinkInfo) : Type 0 where
+  of_link : OnSome DataBytes info.data
+  of_port : OnSome DataBytes info.port_data
+
+kind_or_port_texts : (port : Option (List ℕ)) (kind : List ℕ) → AreTexts (kind_or_port port kind)
+kind_or_port_texts None kind = indented_texts two (text refl) (field_text (codes "IFLA_INFO_KIND") (text refl) (quoted_text kind))
+kind_or_port_texts (Some port) kind = indented_texts two (text refl) (field_text (codes "IFLA_INFO_SLAVE_KIND") (text refl) (quoted_text port))
+
+kind_line_texts : (kind : Option (List ℕ)) → AreTexts (kind_line kind)
+kind_line_texts None = no_texts
+kind_line_texts (Some kind) = kind_or_port_texts (announced kind) kind
+
+data_texts : (check : Bool) (name : List ℕ) (d : Option InfoData) (out : List ℕ) (well : Bool) → IsText name → OnSome DataBytes d → ShowsData check name d out well → AreTexts out
+data_texts check name None out well n h (is, e) = subst AreTexts (sym is) no_texts
+data_texts check name (Some d) out well n h shown = payload_texts check name d.family d.payload out well n h shown
+
+info_texts : (check : Bool) (info : LinkInfo) (out : List ℕ) (well : Bool) → InfoBytes info → ShowsInfo check info out well → AreTexts out
+info_texts check info out well h s =
+    subst AreTexts (sym s.joined) (
+      and_texts (kind_line_texts (option_copied info.kind))
+      (and_texts (data_texts check (codes "IFLA_INFO_DATA") info.data s.of_link s.link_well (text refl) h.of_link s.is_link)
+      (and_texts (line_of_texts (codes "IFLA_INFO_SLAVE_KIND") quoted (option_copied info.port_kind) (text refl) quoted_text)
+      (and_texts (data_texts check (codes "IFLA_INFO_SLAVE_DATA") info.port_data s.of_port s.port_well (text refl) h.of_port s.is_port) (fault_texts info.fault))))
+    )
+
+optional_texts : (check : Bool) (info : Option LinkInfo) (out : List ℕ) (well : Bool) → OnSome InfoBytes info → ShowsOptionalInfo check info out well → AreTexts out
+optional_texts check None out well h (is, e) = subst AreTexts (sym is) no_texts
+optional_texts check (Some info) out well h shown = info_texts check info out well h shown
+
+-- ---- IFLA_AF_SPEC and IFLA_PROTINFO
+
+part_texts : (check : Bool) (name : List ℕ) (family : Family) (p : Option Payload) (out : List ℕ) (well : Bool) → IsText name → OnSome PayloadBytes p → ShowsPart check name family p out well → AreTexts out
+part_texts check name family None out well n h (is, e) = subst AreTexts (sym is) no_texts
+part_texts check name family (Some p) out well n h shown = family_texts check name family p out well n h shown
+
+abbrev ProtinfoBytes : Protinfo → Type 0
+ProtinfoBytes (protinfos.List p) = PayloadBytes p
+ProtinfoBytes (protinfos.State n) = Unit {0}
+ProtinfoBytes (protinfos.Other p) = PayloadBytes p
+
+protinfo_texts : (check : Bool) (found : Option Protinfo) (out : List ℕ) (well : Bool) → OnSome ProtinfoBytes found → ShowsProtinfo check found out well → AreTexts out
+protinfo_texts check None out well h (is, e) = subst AreTexts (sym is) no_texts
+protinfo_texts check (Some (protinfos.List p)) out well h shown = family_texts check (codes "IFLA_PROTINFO") families.BridgePort p out well (text refl) h shown
+protinfo_texts check (Some (protinfos.State n)) out well h (is, e) =
+    subst AreTexts (sym is) (indented_texts two (text refl) (field_text (codes "IFLA_PROTINFO") (text refl) (enum_is_text (texts_of port_state_names) n (each_name (texts_of port_state_names) refl))))
+protinfo_texts check (Some (protinfos.Other p)) out well h shown = payload_texts check (codes "IFLA_PROTINFO") None p out well (text refl) h shown
+
+-- ---- a message about a link
+
+record DetailsBytes (d : LinkDetails) : Type 0 where
+  of_info : OnSome InfoBytes d.info
+  of_spec : OnSome PayloadBytes d.af_spec
+  of_ports : OnSome ProtinfoBytes d.protinfo
+
+attribute_lines_texts : (d : LinkDetails) → AreTexts (attribute_lines d)
+attribute_lines_texts d =
+    and_texts (line_of_texts (codes "IFLA_MTU") (number_text Number) d.mtu (text refl) (number_is_text Number))
+    (and_texts (line_of_texts (codes "IFLA_ADDRESS") address_text (option_copied d.address) (text refl) address_digits)
+    (and_texts (line_of_texts (codes "IFLA_LINK") (number_text InterfaceIndex) d.link (text refl) (number_is_text InterfaceIndex))
+    (and_texts (line_of_texts (codes "IFLA_MASTER") (number_text InterfaceIndex) d.master (text refl) (number_is_text InterfaceIndex))
+    (line_of_texts (codes "IFLA_OPERSTATE") (enum_text operational_states) d.operstate (text refl) (λ n. enum_is_text operational_states n (each_name operational_states refl))))))
+
+others_texts : (n : ℕ) → AreTexts (others_line n)
+others_texts n =
+    either_texts (n == 0) no_texts
+    (either_texts (n == 1) (indented_texts two {t = codes "1 other attribute"} (text refl) (text refl)) (indented_texts two (text refl) (and (decimal_text n) (text {t = codes " other attributes"} refl))))
+
+link_texts : (check : Bool) (d : LinkDetails) (out : List ℕ) (well : Bool) → DetailsBytes d → ShowsLink check d out well → AreTexts out
+link_texts check d out well h s =
+    subst AreTexts (sym s.joined) (
+      and_texts (link_line_texts d.header (option_copied d.name))
+      (and_texts (attribute_lines_texts d)
+      (and_texts (optional_texts check d.info s.info s.info_well h.of_info s.is_info)
+      (and_texts (part_texts check (codes "IFLA_AF_SPEC") families.AfSpecBridge d.af_spec s.spec s.spec_well (text refl) h.of_spec s.is_spec)
+      (and_texts (protinfo_texts check d.protinfo s.ports s.ports_well h.of_ports s.is_ports) (and_texts (others_texts d.others) (fault_texts d.fault))))))
+    )
+
+-- ---- the bytes of what is found
+
+abbrev StretchBytes : Stretch → Type 0
+StretchBytes p = IsBytes p.1
+
+last_all : {A : Type 0} (P : A → Type 0) (o : Option A) (xs : List A) → OnSome P o → AllByRecursion P xs → OnSome P (last_or o xs)
+last_all P o [] h k = h
+last_all P o (x ∷ xs) h k = last_all P (Some x) xs k.0 k.1
+
+filter_all : {A : Type 0} (P : A → Type 0) (test : A → Bool) (xs : List A) → AllByRecursion P xs → AllByRecursion P (filter test xs)
+filter_all P test [] h = tt
+filter_all P test (x ∷ xs) h = choose (AllByRecursion P) (test x) (x ∷ filter test xs) (filter test xs) (h.0, filter_all P test xs h.1) (filter_all P test xs h.1)
+
+item_found : (kind : ℕ) (items : List Item) → AllByRecursion ItemBytes items → OnSome ItemBytes (last_item kind items)
+item_found kind items h =
+    let test : Item → Bool = λ x. kind_of (kind_field_of x.1) == kind in
+    last_all ItemBytes None (filter test items) tt (filter_all ItemBytes test items h)
+
+found_bytes : (base : ℕ) (x : Option Item) → OnSome ItemBytes x → OnSome StretchBytes (option_map (payload_at base) x)
+found_bytes base None h = tt
+found_bytes base (Some x) h = h
+
+latest_bytes : (base kind : ℕ) (items : List Item) → AllByRecursion ItemBytes items → OnSome StretchBytes (latest base kind items)
+latest_bytes base kind items h = found_bytes base (last_item kind items) (item_found kind items h)
+
+abbrev TypedBytes : Typed → Type 0
+TypedBytes x = IsBytes x.1.1
+
+typed_bytes : (base : ℕ) (x : Option Item) → OnSome ItemBytes x → OnSome TypedBytes (option_map (typed_at base) x)
+typed_bytes base None h = tt
+typed_bytes base (Some x) h = h
+
+in_bridge_some : {A : Type 0} (P : A → Type 0) (family : ℕ) (x : Option A) → OnSome P x → OnSome P (in_bridge family x)
+in_bridge_some P family x h = choose (OnSome P) (family == 7) x None h tt
+
+spec_bytes : (p : Option Payload) → OnSome StretchBytes (option_map stretch_of p) → OnSome PayloadBytes p
+spec_bytes None h = tt
+spec_bytes (Some p) h = h
+
+protinfo_bytes : (x : Option Typed) (found : Option Protinfo) → Both IsProtinfo x found → OnSome TypedBytes x → OnSome ProtinfoBytes found
+protinfo_bytes None None b h = tt
+protinfo_bytes None (Some found) b h = absurd b
+protinfo_bytes (Some x) None b h = absurd b
+protinfo_bytes (Some x) (Some (protinfos.List p)) b h = subst StretchBytes (sym b.1) h
+protinfo_bytes (Some x) (Some (protinfos.State n)) b h = tt
+protinfo_bytes (Some x) (Some (protinfos.Other p)) b h = subst StretchBytes (sym b.2) h
+
+-- data, with its Family
+abbrev WithFamily : Option Family × Stretch → Type 0
+WithFamily q = IsBytes q.1.1
+
+with_family : (family : Option Family) (x : Option Stretch) → OnSome StretchBytes x → OnSome WithFamily (option_map (λ p. (family, p)) x)
+with_family family None h = tt
+with_family family (Some p) h = h
+
+data_bytes : (d : Option InfoData) → OnSome WithFamily (option_map data_of d) → OnSome DataBytes d
+data_bytes None h = tt
+data_bytes (Some d) h = h
+
+one_info : (list : Stretch) (info : LinkInfo) → StretchBytes list → IsInfo list info → InfoBytes info
+one_info list info h s =
+    let each = walk_bytes list.1 s.items s.stop s.walk h in
+    record {
+      of_link = data_bytes info.data (subst (OnSome WithFamily) (sym s.payload) (with_family s.family (latest list.0 2 s.items) (latest_bytes list.0 2 s.items each)));
+      of_port = data_bytes info.port_data (subst (OnSome WithFamily) (sym s.port_payload) (with_family s.port_family (latest list.0 5 s.items) (latest_bytes list.0 5 s.items each)));
+    }
+
+info_bytes : (x : Option Stretch) (info : Option LinkInfo) → Both IsInfo x info → OnSome StretchBytes x → OnSome InfoBytes info
+info_bytes None None b h = tt
+info_bytes None (Some info) b h = absurd b
+info_bytes (Some x) None b h = absurd b
+info_bytes (Some x) (Some info) b h = one_info x info h b
+
+details_bytes : (m : Message) (d : LinkDetails) → IsBytes m.payload.now → HasDetails m.at (packet_of m) d → DetailsBytes d
+details_bytes m d h s =
+    let says = s.says in
+    let base = m.at + 32 in
+    let each = walk_bytes _ says.items says.stop says.walk (drop_bytes 16 m.payload.now h) in
+    record {
+      of_info = info_bytes (latest base 18 says.items) d.info says.fields.info (latest_bytes base 18 says.items each);
+      of_spec = spec_bytes d.af_spec (subst (OnSome StretchBytes) (sym says.fields.af_spec) (in_bridge_some StretchBytes d.header.family (latest base 26 says.items) (latest_bytes base 26 says.items each)));
+      of_ports =
+          protinfo_bytes (in_bridge d.header.family (latest_typed base 12 says.items)) d.protinfo says.fields.protinfo
+          (in_bridge_some TypedBytes d.header.family (latest_typed base 12 says.items) (typed_bytes base (last_item 12 says.items) (item_found 12 says.items each)));
+    }
+
+-- ---- replies
+
+number_after_text : (name : Option (List ℕ)) (number : List ℕ) → OnText name → IsText number → IsText (number_after name number)
+number_after_text None number h k = and {s = codes "("} (text refl) (and k (text refl))
+number_after_text (Some name) number h k = and h (and {s = codes " ("} (text refl) (and k (text refl)))
+
+error_number_texts : (name : Option (List ℕ)) (e : ℤ) → OnText name → AreTexts (error_number_line name e)
+error_number_texts name e h = indented_texts two (text refl) (field_text (codes "error") (text refl) (number_after_text name (signed_decimal e) h (signed_text e)))
+
+result_texts : (e : ℤ) → AreTexts (result_line e)
+unfolding result_line
+result_texts e =
+    either_texts (unsigned_abs e == 0) (indented_texts two {t = codes "ack"} (text refl) (text refl))
+    (error_number_texts (Labels.name_in errno_names (unsigned_abs e)) e (name_found errno_names (each_name errno_names refl) (unsigned_abs e)))
+
+reply_texts : (a : Acknowledgement) → AreTexts (reply_lines a)
+reply_texts a =
+    and_texts (result_texts a.error)
+    (and_texts (line_of_texts (codes "message") quoted (option_copied a.text) (text refl) quoted_text)
+    (and_texts (line_of_texts (codes "offset") decimal a.offset (text refl) decimal_text)
+    (and_texts (line_of_texts (codes "missing type") decimal a.missing_type (text refl) decimal_text) (fault_texts a.fault))))
+
+-- ---- messages
+
+-- the payload of a message consists of bytes
+abbrev MessageBytes : Message → Type 0
+MessageBytes m = IsBytes m.payload.now
+
+body_texts : (check : Bool) (m : Message) (out : List ℕ) (well : Bool) → MessageBytes m → ShowsBody check m out well → AreTexts out
+body_texts check m out well h (Link d has shown) = link_texts check d out well (details_bytes m d h has) shown
+body_texts check m out well h (Reply a has is e) = subst AreTexts (sym is) (reply_texts a)
+body_texts check m out well h (NoLink error kind has is e) = subst AreTexts (sym is) (message_error_texts two error (text refl))
+body_texts check m out well h (NoReply error kind has is e) = subst AreTexts (sym is) (message_error_texts two error (text refl))
+body_texts check m out well h (Other u v is e) = subst AreTexts (sym is) no_texts
+
+message_texts : (check : Bool) (m : Message) (out : List ℕ) (well : Bool) → MessageBytes m → ShowsMessage check m out well → AreTexts out
+message_texts check m out well h s = subst AreTexts (sym s.joined) (and_texts (message_line_texts m) (body_texts check m s.body well h s.is_body))
+
+-- what is at the front of bytes
+at_bytes : (at : ℕ) (r : List ℕ) (m : Message) → IsBytes r → IsMessageAt at r m → MessageBytes m
+at_bytes at r m h is =
+    let whole = subst IsBytes is.begins.string h in
+    bytes-front m.payload.now [] (bytes-front (m.payload.now ++ []) is.begins.rest whole.1.1.1.1.1.1.1.1.1.1.1.1.1.1.1.1)
+
+stand_bytes : (s : List ℕ) (at : ℕ) (messages : List Message) (end : ℕ) → IsBytes s → Stand s at messages end → AllByRecursion MessageBytes messages
+stand_bytes s at [] end h k = tt
+stand_bytes s at (m ∷ messages) end h k = (at_bytes at (drop at s) m (drop_bytes at s h) k.0.0, stand_bytes s m.next messages end h k.1)
+
+end_texts : (check : Bool) (s : List ℕ) (at : ℕ) (out : List ℕ) (well : Bool) → IsBytes s → ShowsEnd check s at out well → AreTexts out
+end_texts check s at out well h (Ended e is w) = subst AreTexts (sym is) no_texts
+end_texts check s at out well h (Done m is kind shown) = message_texts check m out well (at_bytes at (drop at s) m (drop_bytes at s h) is) shown
+end_texts check s at out well h (Broken error some e is w) = subst AreTexts (sym is) (message_error_texts [] error none)
+
+pub messages_texts : (check : Bool) (s out : List ℕ) (whole : Bool) → IsBytes s → ShowsMessages check s out whole → AreTexts out
+messages_texts check s out whole h shown =
+    subst AreTexts (sym shown.joined) (
+      and_texts (each_texts MessageBytes (ShowsMessage check) (message_texts check) shown.messages shown.front shown.front_well (stand_bytes s 0 shown.messages shown.end h shown.stand) shown.each)
+      (end_texts check s shown.end shown.last shown.last_well h shown.at_end)
+    )
