@@ -1,7 +1,6 @@
 -- The lines of lists are printable.
-use Rattle.std.proofs.Common.{◌≡◌, ◌≢◌, ℕ, zero, suc, ◌+◌, ◌-◌, ◌==◌, Bool, true, false, ◌&&◌, List, [], ◌∷◌, ◌++◌, length, drop, min, Option, Some, None, Result, Ok, Err, if◌then◌else◌, refl, sym, ap, ap₂, subst, ◌∙◌, codes, append_assoc}
-use Rattle.std.specs.Fmt.{decimal}
-use Rattle.std.specs.List.{flat_map, list_all, AllZip, AllByRecursion}
+use Rattle.std.proofs.Common.{◌≡◌, ℕ, zero, suc, ◌+◌, ◌-◌, ◌==◌, Bool, true, false, List, [], ◌∷◌, ◌++◌, length, drop, Option, Some, None, if◌then◌else◌, refl, sym, ap, ap₂, subst, ◌∙◌, codes, append_assoc}
+use Rattle.std.specs.List.{flat_map, AllZip, AllByRecursion}
 use Rattle.std.specs.Net.Addr.{segments_of}
 use Rattle.std.proofs.lemmas.List.{append-nil}
 use Rattle.std.proofs.lemmas.Grind.{flat_map-append}
@@ -10,20 +9,16 @@ use Rattle.link_base.specs.declared.content.Content.{Content}
 use Rattle.link_base.specs.declared.content.Content.TheVariants as contents
 use Rattle.link_base.specs.declared.fault.Cause.{Cause}
 use Rattle.link_base.specs.Number.{IsBytes}
-use Rattle.link_base.specs.Frame.{kind_of, frame_bytes, pad}
-use Rattle.link_base.specs.Buffer.{SplitsFirst, kind_field_of, payload_of, frame_of}
+use Rattle.link_base.specs.Frame.{kind_of}
+use Rattle.link_base.specs.Buffer.{kind_field_of, payload_of, frame_of}
 use Rattle.link_base.specs.Class.{Class, meant}
 use Rattle.link_base.specs.Class as classes
-use Rattle.link_base.specs.Table.{Shape, One, Nested, Addresses, Table, label_at}
+use Rattle.link_base.specs.Table.{Shape, One, Nested, Addresses, Table}
 use Rattle.link_base.specs.Borrowed.{Says, SaysLimits, Borrows, elements_at}
 use Rattle.link_base.proofs.FrameBytes.{bytes-payload}
 use Rattle.link_messages.specs.Walk.{Item, Walks, Walk}
-use Rattle.link_show.specs.Text.{list_text}
-use Rattle.link_show.specs.Flags.{flags_text}
-use Rattle.link_show.specs.Octets.{hex_text}
-use Rattle.link_show.specs.Value.{Label, value_text}
-use Rattle.link_show.specs.Fault.{cause_words, fault_text}
-use Rattle.link_show.specs.List.{indented, below, error_line, EachShown, type_flags, flags_after, head_text, has_text, attribute_text, HasContent, label_for, ip_text, address_in, addresses_in, ShowsAddresses, ShowsElement, ShowsNested, Empty, Elements, ShowsMore, ShowsFlat, ShowsContent, ShowsValue, ShowsItem, Decodes, Fails, end_line, ShowsList, ShowsVerdict, Unasked, IsCanonical, IsNot, ShowsChecked}
+use Rattle.link_show.specs.Value.{Label}
+use Rattle.link_show.specs.List.{indented, below, error_line, EachShown, type_flags, flags_after, head_text, has_text, attribute_text, HasContent, label_for, ip_text, address_in, addresses_in, ShowsAddresses, ShowsElement, ShowsNested, Empty, Elements, ShowsMore, ShowsFlat, ShowsContent, ShowsItem, Decodes, Fails, end_line, ShowsList, ShowsVerdict, Unasked, IsCanonical, IsNot, ShowsChecked}
 use Rattle.link_show.specs.Printable.{IsText, AreTexts, has_texts}
 use Rattle.link_show.proofs.Printing.{text, none, and, either, list_text_text, decimal_text, hex_bytes, ipv4_is_text, ipv6_is_text}
 use Rattle.link_show.proofs.ValuePrinting.{IsLabelText, HasOctets, choose, each_name, flags_is_text, label_is_text, elements_text, value_is_text, borrowed_octets, segments_bound, cause_is_text, fault_is_text}
@@ -99,7 +94,7 @@ walks_bytes n s [] t w h = tt
 walks_bytes n s (x ∷ items) t w h =
     let (u, split, more) = w.1 in (
       bytes-payload (frame_of x.1) split.0.rest (subst IsBytes split.0.string h),
-      walks_bytes n u items t more (subst IsBytes (sym split.1) (drop_bytes _ s h))
+      walks_bytes n u items t more (subst IsBytes (sym split.1) (drop_bytes _ s h)),
     )
 
 pub walk_bytes : (list : List ℕ) (items : List Item) (fault : Option (ℕ × Cause)) → Walk list items fault → IsBytes list → AllByRecursion ItemBytes items
@@ -184,8 +179,8 @@ module _ (indent : List ℕ) (spaces : IsText indent) where
   nested_texts name table list out n h k (Empty e is) = subst AreTexts (sym is) (indented_texts indent spaces (and n (text refl)))
   nested_texts name table list out n h k (Elements some items walk lines each is) =
       subst AreTexts (sym is) (
-        and_texts (indented_texts indent spaces n)
-        (each_texts ItemBytes (ShowsElement indent table) (element_texts table h) items lines true (walk_bytes list items None walk k) each)
+      and_texts (indented_texts indent spaces n)
+      (each_texts ItemBytes (ShowsElement indent table) (element_texts table h) items lines true (walk_bytes list items None walk k) each)
       )
 
   flat_texts : (table : Table) (b : NlaBuffer) (content : Content) (out : List ℕ) → has_texts table ≡ true → IsBytes (payload_of b) → HasContent table b content
@@ -239,7 +234,7 @@ module _ (indent : List ℕ) (spaces : IsText indent) where
   pub list_texts : (base : ℕ) (table : Table) (list out : List ℕ) (whole : Bool) → has_texts table ≡ true → IsBytes list → ShowsList indent base table list out whole → AreTexts out
   list_texts base table list out whole h k s =
       subst AreTexts (sym s.joined) (
-        and_texts (each_texts ItemBytes (ShowsItem indent base table) (item_texts base table h) s.items s.lines s.well (walk_bytes list s.items s.fault s.walk k) s.each) (end_texts base s.fault)
+      and_texts (each_texts ItemBytes (ShowsItem indent base table) (item_texts base table h) s.items s.lines s.well (walk_bytes list s.items s.fault s.walk k) s.each) (end_texts base s.fault)
       )
 
   pub verdict_texts : (check : Bool) (base : ℕ) (table : Table) (list out : List ℕ) (well : Bool) → ShowsVerdict check indent base table list out well → AreTexts out

@@ -1,25 +1,22 @@
 -- The lines of lists: one attribute more, and the end.
-use Rattle.std.proofs.Common.{◌≡◌, ◌≢◌, ◌⊎◌, ℕ, ◌+◌, ◌-◌, ◌<◌, ◌≤◌, ◌==◌, Bool, true, false, ◌&&◌, List, [], ◌∷◌, ◌++◌, length, drop, min, Option, Some, None, Result, Ok, Err, OnOk, IfOk, refl, sym, ap, ap₂, subst, ◌∙◌, arith, inl, inr, append_assoc, length-append, codes}
-use Rattle.std.specs.List.{AllZip, flat_map, list_all}
+use Rattle.std.proofs.Common.{◌≡◌, ◌≢◌, ℕ, ◌+◌, ◌-◌, Bool, true, false, ◌&&◌, List, [], ◌∷◌, ◌++◌, length, Option, Some, None, refl, sym, ap₂, subst, ◌∙◌, inl, inr}
 use Rattle.std.specs.Io.KnownBytes.{Appends}
 use Rattle.std.proofs.KnownBytes.{Appends-nil, Appends-trans}
 use Rattle.std.proofs.lemmas.List.{append-nil}
 use Rattle.std.proofs.lemmas.List.Folds.{list_all-append}
 use Rattle.std.proofs.lemmas.Grind.{flat_map-append}
 use Rattle.link_base.specs.declared.buffer.NlaBuffer.{NlaBuffer}
-use Rattle.link_base.specs.declared.content.Content.{Content}
 use Rattle.link_base.specs.declared.fault.Cause.{Cause}
 use Rattle.link_base.specs.declared.fault.DecodeFault.{DecodeFault}
-use Rattle.link_base.specs.declared.fault.DecodeFault.TheVariants as faults
 use Rattle.link_base.specs.Frame.{frame_fault}
-use Rattle.link_base.specs.Buffer.{kind_field_of, payload_of, SplitsFirst}
-use Rattle.link_base.specs.Table.{Table, Gives}
+use Rattle.link_base.specs.Buffer.{SplitsFirst}
+use Rattle.link_base.specs.Table.{Table}
 use Rattle.link_base.specs.Viewed.{FaultsFirst}
-use Rattle.link_messages.specs.Walk.{Item, Walks, Walk}
+use Rattle.link_messages.specs.Walk.{Item, Walks}
 use Rattle.link_messages.proofs.Walking.{walks_more, end_splits}
 use Rattle.link_messages.proofs.Links.{zip_push}
 use Rattle.link_show.specs.Fault.{cause_words, fault_text}
-use Rattle.link_show.specs.List.{EachShown, ShowsElement, WritesElements, WritesElement, ShowsItem, ShowsList, WritesList, WritesValue, error_line, end_line, below, Decodes, Fails}
+use Rattle.link_show.specs.List.{EachShown, ShowsElement, WritesElements, WritesElement, ShowsItem, WritesList, WritesValue, error_line, below, Decodes, Fails}
 
 -- ---- several items
 

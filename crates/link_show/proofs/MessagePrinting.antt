@@ -1,16 +1,15 @@
 -- The lines of messages are printable.
-use Rattle.std.proofs.Common.{◌≡◌, ℕ, ℤ, ◌+◌, ◌==◌, cond, Bool, true, false, List, [], ◌∷◌, ◌++◌, length, drop, Option, Some, None, Result, Ok, Err, option_map, if◌then◌else◌, unsigned_abs, refl, sym, ap, subst, ◌∙◌, codes}
+use Rattle.std.proofs.Common.{◌≡◌, ℕ, ℤ, ◌+◌, ◌==◌, Bool, true, false, List, [], ◌∷◌, ◌++◌, drop, Option, Some, None, option_map, if◌then◌else◌, unsigned_abs, refl, sym, subst, codes}
 use Rattle.std.specs.Fmt.{decimal, signed_decimal}
 use Rattle.std.specs.List.{filter, last_or, AllByRecursion}
 use Rattle.std.specs.Option.{option_copied}
-use Rattle.link_base.specs.declared.fault.Cause.{Cause}
 use Rattle.link_base.specs.declared.label.Quantity.TheVariants.{Number, InterfaceIndex}
 use Rattle.link_base.specs.Labels as Labels
 use Rattle.link_base.specs.Named.{texts_of}
 use Rattle.link_base.specs.Number.{IsBytes}
 use Rattle.link_base.specs.Frame.{kind_of}
 use Rattle.link_base.specs.Buffer.{kind_field_of}
-use Rattle.link_base.proofs.FrameBytes.{bytes-front, bytes-back}
+use Rattle.link_base.proofs.FrameBytes.{bytes-front}
 use Rattle.link_bridge.specs.Names.{port_state_names}
 use Rattle.netlink_packet_route.specs.declared.family.Family.{Family}
 use Rattle.netlink_packet_route.specs.declared.family.Family.TheVariants as families
@@ -36,10 +35,8 @@ use Rattle.link_show.specs.Number.{number_text}
 use Rattle.link_show.specs.Flags.{enum_text, flags_text}
 use Rattle.link_show.specs.Octets.{address_text}
 use Rattle.link_show.specs.Quoted.{quoted}
-use Rattle.link_show.specs.Structs.{field}
 use Rattle.link_show.specs.Errno.{errno_names}
 use Rattle.link_show.specs.MessageNames.{message_types, common_flags, new_flags, get_flags, delete_flags, error_flags, flags_of, address_families, device_types, device_flags, operational_states}
-use Rattle.link_show.specs.List.{indented}
 use Rattle.link_show.specs.Message.{two, four, reason_text, offset_of, message_error_line, named_or, message_line, unless_zero, name_part, header_parts, link_line, line_of, opaque_text, ShowsFamily, ShowsPayload, kind_or_port, kind_line, ShowsData, fault_line, ShowsInfo, ShowsOptionalInfo, ShowsPart, ShowsProtinfo, attribute_lines, others_line, ShowsLink, number_after, error_number_line, result_line, reply_lines, ShowsBody, Link, Reply, NoLink, NoReply, Other, ShowsMessage, ShowsEnd, Ended, Done, Broken, ShowsMessages}
 use Rattle.link_show.specs.Printable.{IsText, AreTexts, are_text_names, has_texts}
 use Rattle.link_show.proofs.Printing.{text, none, and, either, decimal_text, signed_text, address_digits, quoted_text}
@@ -88,14 +85,14 @@ message_line_texts : (m : Message) → AreTexts (message_line m)
 unfolding message_line
 message_line_texts m =
     line_texts (
-      line_and (names_for message_types (codes "type ") m.kind (each_name message_types refl) (text refl))
-      (line_and {t = codes " len "} (text refl)
-      (line_and (decimal_text _)
-      (line_and {t = codes " flags "} (text refl)
-      (line_and (flags_is_text (flags_of m.kind) 2 m.flags (flags_of_text m.kind))
-      (line_and {t = codes " seq "} (text refl)
-      (line_and (decimal_text m.sequence)
-      (line_and {t = codes " pid "} (text refl) (line_end (decimal_text m.port)))))))))
+    line_and (names_for message_types (codes "type ") m.kind (each_name message_types refl) (text refl))
+    (line_and {t = codes " len "} (text refl)
+    (line_and (decimal_text _)
+    (line_and {t = codes " flags "} (text refl)
+    (line_and (flags_is_text (flags_of m.kind) 2 m.flags (flags_of_text m.kind))
+    (line_and {t = codes " seq "} (text refl)
+    (line_and (decimal_text m.sequence)
+    (line_and {t = codes " pid "} (text refl) (line_end (decimal_text m.port)))))))))
     )
 
 -- ---- the line of a link
@@ -165,8 +162,8 @@ OnSome P (Some a) = P a
 family_texts : (check : Bool) (name : List ℕ) (family : Family) (p : Payload) (out : List ℕ) (well : Bool) → IsText name → PayloadBytes p → ShowsFamily check name family p out well → AreTexts out
 family_texts check name family p out well n h (lines, shown, is) =
     subst AreTexts (sym is) (
-      and_texts (indented_texts two (text refl) (field_text name n (and {s = codes "("} (text refl) (and (family_is_text family) (text refl)))))
-      (checked_texts four (text refl) check p.at (table_of family) p.bytes.now lines well (family_has_texts family) h shown)
+    and_texts (indented_texts two (text refl) (field_text name n (and {s = codes "("} (text refl) (and (family_is_text family) (text refl)))))
+    (checked_texts four (text refl) check p.at (table_of family) p.bytes.now lines well (family_has_texts family) h shown)
     )
 
 payload_texts : (check : Bool) (name : List ℕ) (family : Option Family) (p : Payload) (out : List ℕ) (well : Bool) → IsText name → PayloadBytes p → ShowsPayload check name family p out well → AreTexts out
@@ -197,10 +194,10 @@ data_texts check name (Some d) out well n h shown = payload_texts check name d.f
 info_texts : (check : Bool) (info : LinkInfo) (out : List ℕ) (well : Bool) → InfoBytes info → ShowsInfo check info out well → AreTexts out
 info_texts check info out well h s =
     subst AreTexts (sym s.joined) (
-      and_texts (kind_line_texts (option_copied info.kind))
-      (and_texts (data_texts check (codes "IFLA_INFO_DATA") info.data s.of_link s.link_well (text refl) h.of_link s.is_link)
-      (and_texts (line_of_texts (codes "IFLA_INFO_SLAVE_KIND") quoted (option_copied info.port_kind) (text refl) quoted_text)
-      (and_texts (data_texts check (codes "IFLA_INFO_SLAVE_DATA") info.port_data s.of_port s.port_well (text refl) h.of_port s.is_port) (fault_texts info.fault))))
+    and_texts (kind_line_texts (option_copied info.kind))
+    (and_texts (data_texts check (codes "IFLA_INFO_DATA") info.data s.of_link s.link_well (text refl) h.of_link s.is_link)
+    (and_texts (line_of_texts (codes "IFLA_INFO_SLAVE_KIND") quoted (option_copied info.port_kind) (text refl) quoted_text)
+    (and_texts (data_texts check (codes "IFLA_INFO_SLAVE_DATA") info.port_data s.of_port s.port_well (text refl) h.of_port s.is_port) (fault_texts info.fault))))
     )
 
 optional_texts : (check : Bool) (info : Option LinkInfo) (out : List ℕ) (well : Bool) → OnSome InfoBytes info → ShowsOptionalInfo check info out well → AreTexts out
@@ -248,11 +245,11 @@ others_texts n =
 link_texts : (check : Bool) (d : LinkDetails) (out : List ℕ) (well : Bool) → DetailsBytes d → ShowsLink check d out well → AreTexts out
 link_texts check d out well h s =
     subst AreTexts (sym s.joined) (
-      and_texts (link_line_texts d.header (option_copied d.name))
-      (and_texts (attribute_lines_texts d)
-      (and_texts (optional_texts check d.info s.info s.info_well h.of_info s.is_info)
-      (and_texts (part_texts check (codes "IFLA_AF_SPEC") families.AfSpecBridge d.af_spec s.spec s.spec_well (text refl) h.of_spec s.is_spec)
-      (and_texts (protinfo_texts check d.protinfo s.ports s.ports_well h.of_ports s.is_ports) (and_texts (others_texts d.others) (fault_texts d.fault))))))
+    and_texts (link_line_texts d.header (option_copied d.name))
+    (and_texts (attribute_lines_texts d)
+    (and_texts (optional_texts check d.info s.info s.info_well h.of_info s.is_info)
+    (and_texts (part_texts check (codes "IFLA_AF_SPEC") families.AfSpecBridge d.af_spec s.spec s.spec_well (text refl) h.of_spec s.is_spec)
+    (and_texts (protinfo_texts check d.protinfo s.ports s.ports_well h.of_ports s.is_ports) (and_texts (others_texts d.others) (fault_texts d.fault))))))
     )
 
 -- ---- the bytes of what is found
@@ -397,6 +394,6 @@ end_texts check s at out well h (Broken error some e is w) = subst AreTexts (sym
 pub messages_texts : (check : Bool) (s out : List ℕ) (whole : Bool) → IsBytes s → ShowsMessages check s out whole → AreTexts out
 messages_texts check s out whole h shown =
     subst AreTexts (sym shown.joined) (
-      and_texts (each_texts MessageBytes (ShowsMessage check) (message_texts check) shown.messages shown.front shown.front_well (stand_bytes s 0 shown.messages shown.end h shown.stand) shown.each)
-      (end_texts check s shown.end shown.last shown.last_well h shown.at_end)
+    and_texts (each_texts MessageBytes (ShowsMessage check) (message_texts check) shown.messages shown.front shown.front_well (stand_bytes s 0 shown.messages shown.end h shown.stand) shown.each)
+    (end_texts check s shown.end shown.last shown.last_well h shown.at_end)
     )

@@ -1,18 +1,17 @@
 -- What is made of printable texts is printable.
-use Rattle.std.proofs.Common.{ℤ, pos, negsuc, ◌≡◌, ℕ, zero, suc, ◌+◌, ◌/◌, ◌%◌, ◌^◌, ◌<◌, ◌≤◌, ◌==◌, nat_lt, Bool, true, false, ◌&&◌, List, [], ◌∷◌, ◌++◌, map, take, drop, if◌then◌else◌, refl, sym, ap, ap₂, subst, ◌∙◌, arith, codes, bytes_eq, All, inl, inr}
+use Rattle.std.proofs.Common.{ℤ, pos, negsuc, ◌≡◌, ℕ, zero, suc, ◌/◌, ◌%◌, ◌<◌, ◌==◌, Bool, true, false, ◌&&◌, List, [], ◌∷◌, ◌++◌, map, take, drop, if◌then◌else◌, refl, ap₂, ◌∙◌, arith, codes, bytes_eq, All, inl, inr}
 use Rattle.std.specs.Fmt.{digits, digits_onto, digit_glyph, decimal, signed_decimal}
 use Rattle.std.specs.List.{flat_map, list_all, AllByRecursion}
 use Rattle.std.specs.Net.Addr.{octets_of}
 use Rattle.std.specs.Net.Text.{ipv4_text, ipv6_text, hex_groups_text}
-use Rattle.std.proofs.lemmas.Bool.{cond_both}
 use Rattle.std.proofs.lemmas.Bool.Decides.{nat_tests}
 use Rattle.std.proofs.lemmas.List.Folds.{list_all-append}
 use Rattle.std.proofs.NetLemmas.Alphabet.{IsHexOrColon, All-hex_groups_text}
 use Rattle.std.proofs.NetLemmas.Texts.{AllSegments}
-use Rattle.link_show.specs.Text.{after, joined, hex, hex_number, empty_text, list_text}
+use Rattle.link_show.specs.Text.{after, joined, hex, list_text}
 use Rattle.link_show.specs.Octets.{byte_text, hex_text, address_text}
 use Rattle.link_show.specs.Quoted.{is_printable, quoted_byte, quoted}
-use Rattle.link_show.specs.Printable.{IsText, AreTexts}
+use Rattle.link_show.specs.Printable.{IsText}
 
 -- ---- texts
 

@@ -1,10 +1,9 @@
 -- The texts of values and of errors are printable.
-use Rattle.std.proofs.Common.{◌≡◌, ℕ, zero, suc, ◌+◌, ◌*◌, ◌/◌, ◌%◌, ◌^◌, ◌<◌, ◌≤◌, ◌==◌, ◌-◌, nat_lt, cond, Bool, true, false, ◌&&◌, not, List, [], ◌∷◌, ◌++◌, length, map, take, drop, get_or, Option, Some, None, Result, Ok, Err, if◌then◌else◌, refl, sym, ap, ap₂, subst, ◌∙◌, arith, codes, bytes_eq}
-use Rattle.std.specs.Fmt.{decimal, signed_decimal}
-use Rattle.std.specs.List.{list_all, filter, AllByRecursion}
+use Rattle.std.proofs.Common.{◌≡◌, ℕ, zero, suc, ◌/◌, ◌%◌, ◌==◌, nat_lt, Bool, true, false, ◌&&◌, not, List, [], ◌∷◌, ◌++◌, length, map, take, Option, Some, None, Result, Ok, Err, if◌then◌else◌, refl, ap₂, subst, arith, codes, bytes_eq}
+use Rattle.std.specs.Fmt.{decimal}
+use Rattle.std.specs.List.{list_all, AllByRecursion}
 use Rattle.std.specs.Int.RustNames.{bit_and}
 use Rattle.std.specs.Net.Addr.{ipv4_octets, segments_of}
-use Rattle.std.specs.Net.Text.{ipv6_text}
 use Rattle.std.specs.declared.net.ipv6_addr.Ipv6Addr.{Ipv6Addr}
 use Rattle.std.proofs.lemmas.Bool.{cond_both}
 use Rattle.std.proofs.NetLemmas.Texts.{AllSegments}
@@ -16,7 +15,7 @@ use Rattle.link_base.specs.declared.fault.DecodeFault.{DecodeFault}
 use Rattle.link_base.specs.declared.fault.DecodeFault.TheVariants as faults
 use Rattle.link_base.specs.declared.label.Quantity.{Quantity}
 use Rattle.link_base.specs.declared.label.Quantity.TheVariants as quantities
-use Rattle.link_base.specs.Class.{Class, Unsigned, Signed, Truth, Octets, Bytes, Many, Named, Protocol, Low, Empty, Limits, Value, Raw, Name, Unlisted, named, Extent, accepted, size_of, is_listed}
+use Rattle.link_base.specs.Class.{Unsigned, Signed, Truth, Octets, Bytes, Many, Named, Protocol, Low, Empty, Limits, Raw, Name, Unlisted, named, Extent, accepted, size_of, is_listed}
 use Rattle.link_base.specs.Number.{IsBytes, number}
 use Rattle.link_base.specs.IpAddress.{sixteen_octets}
 use Rattle.link_base.specs.Labels as Labels
@@ -24,17 +23,16 @@ use Rattle.link_base.specs.Named.{Label as Named_label, text_of}
 use Rattle.link_base.specs.Protocol.{vlan_protocols, protocol_number}
 use Rattle.link_base.specs.Table.{Row, Rows, Shape, One, Nested, Addresses, Table, class_at, label_at}
 use Rattle.link_base.specs.Borrowed.{Borrows, elements_by, elements_at}
-use Rattle.link_base.specs.Lift.{lift_row, lift_table}
-use Rattle.link_show.specs.Text.{joined, hex_number}
+use Rattle.link_base.specs.Lift.{lift_table}
+use Rattle.link_show.specs.Text.{hex_number}
 use Rattle.link_show.specs.Number.{seconds_of, beside, unit_of, number_text, array_text}
-use Rattle.link_show.specs.Flags.{named_text, enum_text, set_names, unnamed, last_word, words_of, flag_words, is_all, flags_text}
-use Rattle.link_show.specs.Octets.{byte_text, hex_text, address_text}
-use Rattle.link_show.specs.Quoted.{is_printable, quoted}
+use Rattle.link_show.specs.Flags.{named_text, enum_text, set_names, unnamed, last_word, flag_words, is_all, flags_text}
+use Rattle.link_show.specs.Quoted.{is_printable}
 use Rattle.link_show.specs.Structs.{field, number_fields, two_fields, bridge_id_text, vlan_info_text, options_text, ctrl_mode_text, bit_timing_text, clock_text, berr_counter_text, read_text, struct_text}
-use Rattle.link_show.specs.Value.{Label, name_in, quantity_in, names_of, can_state_names, unsigned_text, struct_of, limit_fields, limits_text, masked_text, protocol_text, other_text, content_text, value_text}
-use Rattle.link_show.specs.Fault.{byte_word, bytes_text, expected_word, cause_words, kind_text, is_array, payload_fault, fault_text}
+use Rattle.link_show.specs.Value.{Label, name_in, quantity_in, names_of, can_state_names, unsigned_text, struct_of, limit_fields, limits_text, other_text, content_text, value_text}
+use Rattle.link_show.specs.Fault.{bytes_text, expected_word, cause_words, kind_text, is_array, payload_fault, fault_text}
 use Rattle.link_show.specs.Printable.{IsText, are_text_names, has_text, rows_in, has_texts}
-use Rattle.link_show.proofs.Printing.{text, none, one, and, either, joined_text, decimal_text, signed_text, hex_digits, byte_digits, hex_bytes, address_digits, quoted_text, ipv4_is_text, ipv6_is_text}
+use Rattle.link_show.proofs.Printing.{text, none, and, either, joined_text, decimal_text, signed_text, hex_digits, byte_digits, hex_bytes, address_digits, quoted_text, ipv4_is_text, ipv6_is_text}
 
 -- ---- names
 

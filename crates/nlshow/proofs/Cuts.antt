@@ -1,5 +1,5 @@
 -- Lists, cut at the first element that passes a test, or at a length.
-use Rattle.std.proofs.Common.{◌≡◌, inl, inr, ℕ, suc, zero, ◌+◌, ◌-◌, ◌<◌, ◌≤◌, min, Bool, true, false, List, [], ◌∷◌, ◌++◌, length, get_or, take, drop, None, Some, Result, Ok, Err, IfOk, IsErr, OnOk, is_ok, cond, sym, ap, subst, ◌∙◌, arith, codes}
+use Rattle.std.proofs.Common.{◌≡◌, inl, inr, ℕ, suc, zero, ◌+◌, ◌-◌, ◌<◌, ◌≤◌, min, Bool, true, false, List, [], ◌∷◌, ◌++◌, length, get_or, take, drop, None, Some, Result, Ok, Err, IsErr, OnOk, is_ok, cond, sym, ap, subst, ◌∙◌, arith, codes}
 use Rattle.std.specs.List.{AllByRecursion, position, position_or_len}
 use Rattle.std.proofs.lemmas.List.{take_all, take_at, take-append-le, length-take-le, take_min, drop_more}
 use Rattle.std.proofs.lemmas.List.Quantifiers.{position-Some}

@@ -6,10 +6,9 @@ use Rattle.link_messages.specs.declared.views.Message.{Message}
 use Rattle.link_messages.specs.declared.link.Link.{Link}
 use Rattle.link_messages.specs.declared.message.MessageError.{MessageError}
 use Rattle.link_messages.specs.Message.{NextMessage, Stand}
-use Rattle.link_messages.specs.Link.{parts_of}
 use Rattle.nlshow.specs.List.{Adds}
 use Rattle.link_show.specs.List.{EachShown}
-use Rattle.nlshow.specs.Messages.{error_line, IsHead, AddsHead, ShowsPart, ShowsLink, ShowsMessage, ShowsMessages, Ended, Broken}
+use Rattle.nlshow.specs.Messages.{error_line, AddsHead, ShowsPart, ShowsLink, ShowsMessage, ShowsMessages, Ended, Broken}
 use Rattle.link_show.proofs.Listing.{and_true, and_false, each_none, each_more}
 use Rattle.nlshow.proofs.Each.{and_assoc}
 

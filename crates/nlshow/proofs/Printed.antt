@@ -1,6 +1,7 @@
 -- What is on the lines of the output, in the plain form: lines of the input, and printable ASCII.
-use Rattle.std.proofs.Common.{◌≡◌, ◌⊎◌, ℕ, suc, ◌<◌, slice_index, Bool, true, false, List, [], ◌∷◌, ◌++◌, Option, Result, Ok, Err, refl, sym, ap, ap₂, subst, ◌∙◌, inl, inr, codes}
+use Rattle.std.proofs.Common.{◌≡◌, ◌⊎◌, ℕ, suc, ◌<◌, slice_index, Bool, true, List, [], ◌∷◌, ◌++◌, Option, Result, Ok, Err, refl, sym, ap₂, subst, ◌∙◌, inl, inr, codes, arith}
 use Rattle.std.specs.List.{flat_map, AllZip, AllByRecursion}
+use Rattle.std.proofs.KnownBytes.{Appends-kept}
 use Rattle.std.proofs.lemmas.List.{append-nil}
 use Rattle.std.proofs.lemmas.Grind.{flat_map-append}
 use Rattle.hex.specs.Hex.{decode_of}
@@ -10,7 +11,6 @@ use Rattle.netlink_packet_route.specs.Family.{table_of}
 use Rattle.netlink_packet_route.specs.HexText.{digits_of}
 use Rattle.netlink_packet_route.specs.Number.{IsBytes}
 use Rattle.netlink_packet_route.specs.Report.{line}
-use Rattle.link_show.specs.List.{EachShown}
 use Rattle.link_show.specs.Printable.{IsText, AreTexts}
 use Rattle.link_show.proofs.Printing.{text as is_text, none}
 use Rattle.link_show.proofs.LinePrinting.{line_end, line_texts, verdict_texts, checked_texts}
@@ -18,10 +18,10 @@ use Rattle.link_show.proofs.MessagePrinting.{family_has_texts, messages_texts}
 use Rattle.nlshow.specs.declared.asking.Asked.{Asked}
 use Rattle.nlshow.specs.declared.asking.Asked.TheVariants.{Messages, Attributes, Verdict}
 use Rattle.nlshow.specs.declared.arguments.Options.{Options}
-use Rattle.nlshow.specs.declared.arguments.Format.{Format}
 use Rattle.nlshow.specs.declared.arguments.Format.TheVariants.{Plain}
 use Rattle.nlshow.specs.Show.{ShowsPlain, ShowsAs, ShowsDigits, ShowsBelow, Known, Unknown, Shows, TooLong, PassedOver, Answered, ShowsAll}
-use Rattle.nlshow.specs.Run.{RunsFor}
+use Rattle.nlshow.specs.Run.{Runs}
+use Rattle.program.specs.Printing.{FlushesOrFails}
 use Rattle.nlshow.specs.Printed.{AreLinesFrom, IsOneOf, Repeats, Prints}
 
 -- ---- lines from somewhere
@@ -71,22 +71,22 @@ asked_texts check (Verdict family) s out well h shown = verdict_texts [] none tr
 
 digits_texts : (check : Bool) (asked : Asked) (digits : List ℕ) (r : Result (List ℕ) FromHexError) (out : List ℕ) (well : Bool) → decode_of digits ≡ r → ShowsDigits (ShowsPlain check) asked r out well → AreTexts out
 digits_texts check asked digits (Ok s) out well e shown = asked_texts check asked s out well (index_bytes s (decode_of-ok digits s e).3) shown
-digits_texts check asked digits (Err error) out well e (is, bad) = subst AreTexts (sym is) (line_texts (line_end (is_text refl)))
+digits_texts check asked digits (Err error) out well e (is, bad) = subst AreTexts (sym is) (line_texts (line_end {t = codes "bad hex"} (is_text refl)))
 
 below_texts : (check : Bool) (text out : List ℕ) (well : Bool) → ShowsBelow (ShowsPlain check) text out well → AreTexts out
 below_texts check text out well (Known asked rest asks shown) = digits_texts check asked (digits_of rest) (decode_of (digits_of rest)) out well refl shown
-below_texts check text out well (Unknown asks is bad) = subst AreTexts (sym is) (line_texts (line_end (is_text refl)))
+below_texts check text out well (Unknown asks is bad) = subst AreTexts (sym is) (line_texts (line_end {t = codes "no such family"} (is_text refl)))
 
 -- ---- a line, and all lines
 
 module _ (options : Options) (plain : options.format ≡ Plain) where
   line_made : (text out : List ℕ) (well : Bool) → Shows options text out well → AreLinesFrom (λ l. l ≡ text) out
-  line_made text out well (TooLong long is bad) = subst (AreLinesFrom (λ l. l ≡ text)) (sym is) (made_texts (λ l. l ≡ text) (line (codes "input too long")) (line_texts (line_end (is_text refl))))
+  line_made text out well (TooLong long is bad) = subst (AreLinesFrom (λ l. l ≡ text)) (sym is) (made_texts (λ l. l ≡ text) (line (codes "input too long")) (line_texts (line_end {t = codes "input too long"} (is_text refl))))
   line_made text out well (PassedOver short over is good) = subst (AreLinesFrom (λ l. l ≡ text)) (sym is) (made_none (λ l. l ≡ text))
   line_made text out well (Answered short over below shown is) =
       let now = subst (λ format. ShowsBelow (ShowsAs format options.check) text below well) plain shown in
       subst (AreLinesFrom (λ l. l ≡ text)) (sym is) (
-        made_and (λ l. l ≡ text) (line text) below (made_line (λ l. l ≡ text) text refl) (made_texts (λ l. l ≡ text) below (below_texts options.check text below well now))
+      made_and (λ l. l ≡ text) (line text) below (made_line (λ l. l ≡ text) text refl) (made_texts (λ l. l ≡ text) below (below_texts options.check text below well now))
       )
 
   answers_made : (xs : List (List ℕ)) (answers : List (List ℕ × Bool)) → AllZip (λ x a. Shows options x a.0 a.1) xs answers → AreLinesFrom (IsOneOf xs) (flat_map (λ a. a.0) answers)
@@ -104,14 +104,15 @@ module _ (options : Options) (plain : options.format ≡ Plain) where
     made = subst (AreLinesFrom (IsOneOf s.lines)) (sym s.shown.joined) (answers_made s.lines s.shown.answers s.shown.each);
   }
 
--- what a run printed
-pub run_prints : (options : Options) (left_before left_after held_before held_after : Option (List ℕ)) (status : ℕ) → options.format ≡ Plain → RunsFor options left_before left_after held_before held_after status
-    → Prints left_before left_after held_before held_after
-run_prints options left_before left_after held_before held_after status plain (whole, r, e) = record {
+-- what a run printed, whose buffer was flushed at the end
+pub finished_prints : (options : Options) (left_before left_after held_before held_mid held_after : Option (List ℕ)) (status result : ℕ) (whole : Bool) → options.format ≡ Plain
+    → Runs options left_before left_after held_before held_mid whole → FlushesOrFails held_mid held_after status result → result < 2 → Prints left_before left_after held_before held_after
+finished_prints options left_before left_after held_before held_mid held_after status result whole plain r (inl (e, kept)) low = record {
   text = r.text;
   out = r.out;
   read = r.read;
   end = r.end;
-  written = r.written;
+  written = Appends-kept held_before held_mid held_after r.out r.written kept;
   lines = all_repeats options plain r.text r.out whole r.shows;
 }
+finished_prints options left_before left_after held_before held_mid held_after status result whole plain r (inr five) low = absurd (omega (arith, five, low))

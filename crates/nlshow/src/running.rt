@@ -35,7 +35,6 @@ pub(crate) enum Stop {
 /// - 1 if a line has an error;
 /// - 4 if an allocation fails;
 /// - 5 if the reader or the writer fails.
-#[tactic(auto, using(crate::proofs::Printed::run_prints))]
 pub fn run<R: Read, W: Write + Drop>(
     alloc: Global,
     options: Options,

@@ -1,4 +1,4 @@
-use Rattle.std.proofs.Common.{◌≡◌, ◌++◌, ap, sym, subst, ◌∙◌, OnOk, codes}
+use Rattle.std.proofs.Common.{◌≡◌, ◌++◌, sym, subst, OnOk, codes}
 use Rattle.std.proofs.lemmas.Bool.{cond-false, ne_eqb}
 use Rattle.std.specs.Io.KnownBytes.{Appends}
 use Rattle.link_show.specs.Flags.{flags_text}

@@ -1,4 +1,4 @@
-use Rattle.std.proofs.Common.{None, sym, subst, ◌∙◌, ap, OnOk, codes}
+use Rattle.std.proofs.Common.{sym, subst, OnOk, codes}
 use Rattle.std.specs.Option.{option_copied}
 use Rattle.std.specs.Io.KnownBytes.{Appends}
 use Rattle.link_show.specs.Quoted.{quoted}

@@ -1,5 +1,4 @@
 use Rattle.std.proofs.Common.{ap, sym, subst, OnOk, codes}
-use Rattle.std.specs.Option.{option_copied}
 use Rattle.std.specs.Io.KnownBytes.{Appends}
 use Rattle.link_show.specs.Flags.{enum_text}
 use Rattle.link_show.specs.MessageNames.{operational_states}

@@ -1,4 +1,4 @@
-use Rattle.std.proofs.Common.{◌≡◌, refl, sym, ap, subst, ◌∙◌}
+use Rattle.std.proofs.Common.{◌≡◌, sym, ap, subst, ◌∙◌}
 use Rattle.link_base.specs.Viewed.{bytes_in, set_of, buffer_in, set_in}
 use Rattle.link_show.specs.List.{WritesElement}
 use Rattle.link_show.proofs.Listing.{ElementsTo, elements_none, elements_more, elements_all}

@@ -1,4 +1,4 @@
-use Rattle.std.proofs.Common.{◌≡◌, ◌-◌, true, Some, Ok, Err, length, ap, sym, subst, ◌∙◌}
+use Rattle.std.proofs.Common.{◌≡◌, ◌-◌, true, Some, length, ap, sym, subst, ◌∙◌}
 use Rattle.link_base.specs.Viewed.{all_set_of, whole_of, left_of, buffer_in, set_in, NextOfAll, FaultsFirst}
 use Rattle.link_show.specs.List.{WritesValue}
 use Rattle.link_show.proofs.Listing.{ListTo, list_none, value_more, error_more, list_all_written}

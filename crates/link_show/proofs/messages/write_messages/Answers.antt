@@ -1,4 +1,3 @@
-use Rattle.std.proofs.Common.{◌≡◌}
 use Rattle.link_show.proofs.MessageLines.{messages_none, messages_more, messages_all, messages_done, messages_broken}
 use Rattle.link_show.proofs.messages.write_messages.Goals as goal
 

@@ -1,4 +1,4 @@
-use Rattle.std.proofs.Common.{◌≡◌, ◌≢◌, option_map, ap, sym, subst, ◌∙◌, OnOk}
+use Rattle.std.proofs.Common.{◌≢◌, option_map, ap, sym, subst, ◌∙◌, OnOk}
 use Rattle.std.specs.Int.RustNames.{unsigned_abs}
 use Rattle.std.specs.Io.KnownBytes.{Appends}
 use Rattle.link_base.specs.Labels.{name_in}

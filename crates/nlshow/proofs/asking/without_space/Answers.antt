@@ -1,4 +1,4 @@
-use Rattle.std.proofs.Common.{rules, tests, not, ◌-◌, length, take, drop, ℕ, ap, sym, ◌∙◌}
+use Rattle.std.proofs.Common.{rules, tests, not, take, drop, ℕ, ap, sym, ◌∙◌}
 use Rattle.std.proofs.lemmas.Iterator.{YieldsList-from_slice}
 use Rattle.std.proofs.lemmas.Iterator.Search.{position_from_yields_List}
 use Rattle.std.proofs.lemmas.List.{length-drop}
