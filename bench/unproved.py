@@ -1,11 +1,12 @@
 #!/usr/bin/env python3
-"""unproved.py [FOLDER [OBJECT]]: builds a static library without proofs, to measure code before it is proved. FOLDER is bench/calls, the default, or a
-static library of crates.txt, as crates/nlroute_ffi. The result is bench/out/libNAME.a. Use it for nothing else: nothing shows that it does what it
-should. With OBJECT, the result is this object file, with the counters of libFuzzer; so tools/fuzz/views/run.sh builds tools/fuzz/views.
+"""unproved.py [FOLDER [OBJECT]]: builds a static library or a program without proofs, to measure or try code before it is proved. FOLDER is bench/calls,
+the default, or a static library or a program of crates.txt, as crates/nlroute_ffi. The result is bench/out/libNAME.a or bench/out/NAME. Use it for nothing
+else: nothing shows that it does what it should. tools/install.sh --fast installs such builds. With OBJECT, the result is this object file, with the counters
+of libFuzzer; so tools/fuzz/views/run.sh builds tools/fuzz/views.
 
-`rt lib` builds only what is proved. `rt try --test` compiles what the tests reach without proofs, but with checks. So this runs it on a copy of the
-repository, with a copy of the kit, made of links, whose clang keeps the LLVM module and stops. From the module it removes the checks and what only they
-use, the marks of memory that is not yet written, and what is there for the sanitizer. It adds the hints on inlining, which `rt try` leaves out, from the
+`rt lib` and `rt run` build only what is proved. `rt try` compiles a program without proofs, but with checks, and `rt try --test` what the tests reach. So
+this runs it on a copy of the repository, with a copy of the kit, made of links, whose clang keeps the LLVM module and stops. From the module it removes the
+checks and what only they use, the marks of memory that is not yet written, and what is there for the sanitizer. It adds the hints on inlining, which `rt try` leaves out, from the
 sources, and the processor that a proved module names. Then the kit's clang compiles the module as it is said to compile a proved one, at -O3. bench/README.md has how far the instructions differ from those of `rt lib`."""
 import collections, glob, os, re, shutil, subprocess, sys, tempfile
 here = os.path.dirname(os.path.abspath(__file__))
@@ -84,7 +85,7 @@ def hints_for(found, traits, symbol):
 
 
 def converted(module, crate, exports, found):
-    """The lines of the module as those of a library that exports these functions."""
+    """The lines of the module as those of a library that exports these functions, or of a program if there are none."""
     traits = {it[0] for it in found if type(it) is tuple}
     of_export = re.compile(rf'@"{crate}::(?:\w+::)*({"|".join(exports)})"\(')
     for line in module:
@@ -93,7 +94,7 @@ def converted(module, crate, exports, found):
         if line.startswith("define "):
             symbol = re.search(r'@"([^"]*)"\(', line)
             if symbol: line = line.replace(" #0 {", " ".join([" #0", *hints_for(found, traits, symbol[1]), "{"]))
-            if "@main(" in line: line = line.replace("define ", "define internal ")
+            if "@main(" in line: line = line.replace("define ", "define internal ") if exports else line
             elif not symbol: line = line.replace("define internal ", "define ")
         if line.startswith("attributes #"):
             line = ATTRIBUTES.sub("", line).replace('"target-cpu"="x86-64"', '"target-cpu"="x86-64-v2"')
@@ -122,7 +123,7 @@ def without_unused(lines):
 
 
 def module_of(room, kit, folder):
-    """The LLVM module of what the tests of the crate reach, as text."""
+    """The LLVM module of the program, or of what the tests of the crate reach, as text."""
     os.makedirs(f"{room}/kit/toolchain/bin")
     for it in os.listdir(kit):
         if it == "bin": shutil.copytree(f"{kit}/bin", f"{room}/kit/bin")
@@ -139,7 +140,8 @@ esac
 exec '{kit}/toolchain/bin/clang' "$@"
 """)
     os.chmod(clang, 0o755)
-    ran = subprocess.run([f"{room}/kit/bin/rt", "try", "--test"], cwd=folder, stdin=subprocess.DEVNULL, stdout=subprocess.PIPE, stderr=subprocess.STDOUT, text=True)
+    tests = ["--test"] * (not os.path.exists(f"{folder}/src/main.rt"))
+    ran = subprocess.run([f"{room}/kit/bin/rt", "try", *tests], cwd=folder, stdin=subprocess.DEVNULL, stdout=subprocess.PIPE, stderr=subprocess.STDOUT, text=True)
     if not os.path.exists(f"{room}/module.bc"): sys.exit(f"{ran.stdout}\nunproved.py: there is no module")
     subprocess.run([f"{kit}/toolchain/bin/clang", "-x", "ir", f"{room}/module.bc", "-S", "-emit-llvm", "-Xclang", "-disable-llvm-passes", "-o", f"{room}/module.ll"], check=True)
     return open(f"{room}/module.ll")
@@ -168,10 +170,14 @@ def main(folder=f"{here}/calls", counted=None):
             subprocess.run([f"{kit}/toolchain/bin/clang", *FLAGS, *more, "-c", "-x", "ir", f"{room}/library.ll", "-o", made], check=True)
         if counted: return compiled(counted, "-fsanitize=fuzzer-no-link")
         os.makedirs(f"{here}/out", exist_ok=True)
-        made = f"{here}/out/lib{crate}.a"
+        made = f"{here}/out/" + (f"lib{crate}.a" if exports else crate)
         compiled(f"{room}/library.o")
         if os.path.exists(made): os.remove(made)
-        subprocess.run([f"{kit}/toolchain/bin/llvm-ar", "--format=gnu", "rc", made, f"{room}/library.o"], check=True)
+        if exports: words = [f"{kit}/toolchain/bin/llvm-ar", "--format=gnu", "rc", made, f"{room}/library.o"]
+        else:
+            words = [f"{kit}/bin/rattle-link", "--target", "x86_64-unknown-linux-gnu", "--toolchain", f"{kit}/toolchain", "-o", made]
+            words += [f"{room}/library.o", f"{kit}/c/libos_c.a", f"{kit}/c/liblibc_c.a"]
+        subprocess.run(words, check=True)
         print(made)
 
 

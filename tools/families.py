@@ -27,6 +27,7 @@ LISTS = [
     ("bench/speed.py", r"\b{name}\b"),
     ("tools/fuzz/seeds.py", r"\b{name}\b"),
     ("README.md", r"^\| `{name}` \|.*\| `{attributes}` \|$"),
+    ("docs/nlroute.1", r"^\.BR? .*\b{name}\b"),
     ("docs/PROGRAMS.md", r"^\|[^|]*`{name}`[^|]*\|[^|]*`{holder}`"),
     ("docs/MESSAGES.md", r"^\| `{holder}` \|.*`{name}`"),
     ("docs/MODEL.md", r"^### .*`{attributes}`"),

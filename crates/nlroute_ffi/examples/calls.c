@@ -10,10 +10,16 @@
 #include <string.h>
 
 static bool memory_is_out;
+#ifdef __cplusplus
+extern "C" {
+#endif
 void *__real_malloc(size_t size);
 void *__real_realloc(void *old, size_t size);
 void *__wrap_malloc(size_t size) { return memory_is_out ? NULL : __real_malloc(size); }
 void *__wrap_realloc(void *old, size_t size) { return memory_is_out ? NULL : __real_realloc(old, size); }
+#ifdef __cplusplus
+}
+#endif
 
 static int failed;
 

@@ -16,8 +16,8 @@
  * to be freed. What a function allocates with malloc() and realloc(), it frees before it returns. Different threads may
  * call the functions at the same time.
  *
- * Link with libnlroute_ffi.a, followed by libos_c.a and liblibc_c.a from the folder c/ of the toolchain's kit:
- * cc main.c libnlroute_ffi.a KIT/c/libos_c.a KIT/c/liblibc_c.a
+ * Compile with pkg-config, once tools/install.sh has installed the library:
+ * cc main.c $(pkg-config --cflags --libs nlroute)
  */
 #ifndef NLROUTE_H
 #define NLROUTE_H
@@ -28,6 +28,12 @@
 #ifdef __cplusplus
 extern "C" {
 #endif
+
+/*
+ * The version of this header: a byte each for major, minor and patch. A program runs with any shared object of the same
+ * major and minor version, which are part of the object's name.
+ */
+#define NLROUTE_VERSION 0x000300u
 
 /* The attribute sets. */
 enum nlroute_family {
