@@ -61,10 +61,11 @@ from runs import Run  # noqa: E402
 
 ROOT = os.path.dirname(os.path.dirname(os.path.realpath(__file__)))
 PAGES = re.compile(r"(README|CONTRIBUTING|CHANGELOG)\.md|docs/[^/]+\.md|bench/README\.md|crates/[^/]+/README\.md")
-# The most words that a page may have. A README.md below the top has SMALL_BUDGET, and CHANGELOG.md has none.
+# The most words that a page may have. Any other README.md below the top has SMALL_BUDGET, and CHANGELOG.md has none.
 BUDGETS = {
     "README.md": 1500,
-    "CONTRIBUTING.md": 1800,
+    "CONTRIBUTING.md": 1850,
+    "crates/nlroute_ffi/README.md": 700,
     "docs/ARCHITECTURE.md": 2000,
     "docs/ASSURANCE.md": 1200,
     "docs/CALLING.md": 1750,
