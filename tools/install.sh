@@ -9,7 +9,7 @@
 #     lib/pkgconfig/nlroute.pc   finds the other files from its own place: the tree can be moved
 #     bin/, share/man/man1/      the programs nlroute and nlshow
 #
-# With --fast the builds are those of bench/unproved.py: they take three minutes, and nothing of them is proved.
+# With --fast the builds are those of bench/unproved.py: they take three to four minutes, and nothing of them is proved.
 # Otherwise the first call takes half an hour or more. If a build fails, nothing is installed.
 # It needs cc, ld, objcopy and ar (Debian's packages gcc, libc6-dev and binutils). CC names another compiler.
 set -eu
