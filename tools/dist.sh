@@ -4,8 +4,8 @@
 # is named. The name of an unproved build has `-unproved` after the version. The last line is the path.
 #
 # A README is added, and the licences: that of this repository, and those of the kit's crates, as the binaries have code
-# of them. The same PREFIX and commit give the same bytes: names are sorted, and owner and times fixed. The time is that of
-# the commit, or SOURCE_DATE_EPOCH if it is set. It needs GNU tar, gzip, git and binutils.
+# of them. The same PREFIX and commit give the same bytes: names are sorted, and owner and times fixed. The time is that
+# of the commit, or SOURCE_DATE_EPOCH if it is set. It needs GNU tar, gzip, git and binutils.
 set -eu
 
 if [ $# = 0 ] || [ $# -gt 2 ]; then
@@ -49,8 +49,8 @@ proved() {
     if [ -n "$unproved" ]; then
         echo "Nothing of this build is proved: use it only to try the library."
     else
-        echo "Every function of the library and the programs was proved before it was built. nlroute.h has what is proved of"
-        echo "the C functions, for callers that meet its requirements. The toolchain and its C code are trusted."
+        echo "Every function of the library and the programs was proved before it was built. nlroute.h has what is"
+        echo "proved of the C functions, for callers that meet its requirements. The toolchain and its C code are trusted."
     fi
 }
 
@@ -85,8 +85,8 @@ The folder can be anywhere. Here, it is the current one:
   export PKG_CONFIG_PATH=\$PWD/lib/pkgconfig LD_LIBRARY_PATH=\$PWD/lib
   cc main.c \$(pkg-config --cflags --libs nlroute)
 
-The program loads libnlroute.so.$series, from LD_LIBRARY_PATH or from a folder that ldconfig knows. Without pkg-config and
-without the shared object:
+The program loads libnlroute.so.$series, from LD_LIBRARY_PATH or from a folder that ldconfig knows. Without pkg-config
+and without the shared object:
 
   cc -I include main.c lib/libnlroute.a
 
@@ -109,8 +109,9 @@ for crate in $(crates_of_kit); do
     done
 done
 cd "$prefix"
-tar -cf - bin/nlroute bin/nlshow include/nlroute*.h lib/libnlroute.a lib/libnlroute.so "lib/libnlroute.so.$series" \
-    "lib/libnlroute.so.$version" lib/pkgconfig/nlroute.pc share/man/man1/nlroute.1 share/man/man1/nlshow.1 >"$room/files.tar"
+tar -cf "$room/files.tar" bin/nlroute bin/nlshow include/nlroute*.h lib/libnlroute.a lib/libnlroute.so \
+    "lib/libnlroute.so.$series" "lib/libnlroute.so.$version" lib/pkgconfig/nlroute.pc \
+    share/man/man1/nlroute.1 share/man/man1/nlshow.1
 tar -xf "$room/files.tar" -C "$room/$name"
 cd "$room"
 tar --sort=name --format=ustar --owner=0 --group=0 --numeric-owner --mode=u=rwX,go=rX --mtime="@$date" \

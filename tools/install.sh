@@ -3,7 +3,7 @@
 # or, if DESTDIR is set, in $DESTDIR$PREFIX:
 #
 #     include/nlroute.h          the headers
-#     lib/libnlroute.a           the library, with what it needs of the kit's archives. Its only global names are nlroute_*
+#     lib/libnlroute.a           the library, with what it needs of the kit's archives. Only nlroute_* are global names
 #     lib/libnlroute.so          the same as a shared object. This is a link; the name that programs load has the major
 #                                and minor version
 #     lib/pkgconfig/nlroute.pc   finds the other files from its own place: the tree can be moved

@@ -4,9 +4,9 @@
 # there.
 #
 # It installs into a temporary folder, packs that, and unpacks it in another place. There, by pkg-config, it compiles
-# examples/calls.c as C11 and C++17 with gcc and clang, without warnings, for the archive and the shared object, and runs
-# it. It compiles and runs the example of crates/nlroute_ffi/README.md as that page says, runs the programs, formats the man
-# pages, and compares the names that the libraries export with those that the headers declare.
+# examples/calls.c as C11 and C++17 with gcc and clang, without warnings, for the archive and the shared object, and
+# runs it. It compiles and runs the example of crates/nlroute_ffi/README.md as that page says, runs the programs, formats
+# the man pages, and compares the names that the libraries export with those that the headers declare.
 #
 # Prints a line `ok ..` or `FAILED ..` for each test. The last line is 'N passed, M failed', and the status 0 only if
 # nothing failed.
@@ -95,7 +95,8 @@ example() (
 
 # The names that the headers declare as functions, but for those that they define.
 declared() {
-    cat crates/nlroute_ffi/include/*.h | grep -v '^static' | sed -n 's/^[A-Za-z].*[ *]\(nlroute_[a-z0-9_]*\)(.*/\1/p' | sort
+    cat crates/nlroute_ffi/include/*.h | grep -v '^static' |
+        sed -n 's/^[A-Za-z].*[ *]\(nlroute_[a-z0-9_]*\)(.*/\1/p' | sort
 }
 
 # Compares what nm prints of a library with the declared names.
