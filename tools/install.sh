@@ -2,7 +2,7 @@
 # install.sh [--fast] PREFIX: proves and builds the C library and the programs, and installs them in the folder PREFIX,
 # or, if DESTDIR is set, in $DESTDIR$PREFIX:
 #
-#     include/nlroute.h          the headers
+#     include/nlroute*.h         the headers
 #     lib/libnlroute.a           the library, with what it needs of the kit's archives. Only nlroute_* are global names
 #     lib/libnlroute.so          the same as a shared object. This is a link; the name that programs load has the major
 #                                and minor version

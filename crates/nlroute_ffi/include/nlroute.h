@@ -16,6 +16,8 @@
  * to be freed. What a function allocates with malloc() and realloc(), it frees before it returns. Different threads may
  * call the functions at the same time.
  *
+ * nlroute_kinds.h has the attribute types by the kernel's names.
+ *
  * Compile with pkg-config, once tools/install.sh has installed the library:
  * cc main.c $(pkg-config --cflags --libs nlroute)
  */
