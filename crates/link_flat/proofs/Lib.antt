@@ -1,0 +1,12 @@
+pub mod Octets16
+pub mod Placed
+pub mod ArrayNumbers
+pub mod AddressEntries
+pub mod NestedElements
+pub mod Shapes
+pub mod Groups
+pub mod OneContent
+pub mod Unique
+pub mod LastAttribute
+pub mod EntryFields
+pub mod FoundElements

@@ -1,0 +1,10 @@
+use Rattle.std.proofs.Common.{[], ◌∷◌, refl}
+use Rattle.link_base.specs.Viewed.{set_in, buffer_in}
+use Rattle.netlink_packet_route.specs.Views.{family_in}
+use Rattle.link_flat.proofs.LastAttribute.{only_place}
+use Rattle.link_flat.proofs.finding.entry_of.Goals as goal
+
+pub returns : goal.returns
+returns c =
+    let x = c.args.value.now in
+    only_place (family_in (set_in x)) (c.args.at, buffer_in x) (c.blank.result ∷ []) c.put_value.new.places _ c.put_value.result refl c.put_value.ensures

@@ -1,0 +1,5 @@
+use Rattle.link_flat.proofs.EntryFields.{found_in_flat}
+use Rattle.link_flat.proofs.laws.find_in_flat.Goals as goal
+
+pub returns : goal.returns
+returns c = found_in_flat
