@@ -7,8 +7,8 @@
  * Requirements on the caller:
  * - No pointer is NULL, even for a length of 0. Each is aligned for its type and points to at least as many initialized
  *   elements as the length that goes with it. This includes output buffers: initialize them before the call.
- * - The outputs (out, fault, status) overlap neither each other nor an input. During a call, no other thread writes to
- *   the inputs, or reads or writes the outputs.
+ * - The outputs (out, values, fault, status, the struct that a call stores) overlap neither each other nor an input.
+ *   During a call, no other thread writes to the inputs, or reads or writes the outputs.
  * - No buffer is larger than PTRDIFF_MAX bytes.
  * - No function is called from a signal handler, or in the child after a fork() of a multithreaded process.
  *
@@ -53,15 +53,19 @@ enum nlroute_family {
 
 /*
  * Error codes, returned in place of a length or count. The outputs are unchanged on error, except as described at
- * nlroute_rewrite_streaming().
+ * nlroute_rewrite_streaming() and nlroute_values().
  */
 enum nlroute_refusal {
     NLROUTE_HAS_FAULT = -1, /* the input is not a list of this attribute set; nlroute_fault() has the first error */
     NLROUTE_TOO_LONG = -2,  /* the input decodes, but the payload of a value would have more than 65531 bytes */
     NLROUTE_NO_MEMORY = -3, /* an allocation failed (it is not proved that this is the only reason for the code);
-                               not returned by nlroute_count(), nlroute_is_canonical() or nlroute_fault() */
+                               returned by nlroute_rewrite(), nlroute_rewrite_streaming() and nlroute_report()
+                               only */
     NLROUTE_NO_ROOM = -4,   /* the output buffer is too small; each function specifies the size that it needs */
-    NLROUTE_NO_FAMILY = -5  /* family is not one of the numbers above */
+    NLROUTE_NO_FAMILY = -5, /* family is not one of the numbers above */
+    NLROUTE_ABSENT = -6,    /* the list does not have what was looked up */
+    NLROUTE_BAD_FORM = -7,  /* the value has another form */
+    NLROUTE_BAD_OCTETS = -10 /* the bytes of the value are outside the input, or not as many as its form has */
 };
 
 /*
@@ -107,6 +111,114 @@ ptrdiff_t nlroute_rewrite_streaming(uint32_t family, const uint8_t *bytes, size_
  * Returns NLROUTE_HAS_FAULT if and only if the input is malformed.
  */
 ptrdiff_t nlroute_count(uint32_t family, const uint8_t *bytes, size_t len);
+
+/* What a value holds, and in which of its fields. */
+enum nlroute_form {
+    NLROUTE_FORM_EMPTY = 1,            /* no value: the attribute is there */
+    NLROUTE_FORM_BOOL = 2,             /* number: 0 or 1 */
+    NLROUTE_FORM_UNSIGNED = 3,         /* number */
+    NLROUTE_FORM_SIGNED = 4,           /* number, as (int64_t)number */
+    NLROUTE_FORM_NAMED = 5,            /* number: of an enum */
+    NLROUTE_FORM_FLAGS = 6,            /* number: a set of flags */
+    NLROUTE_FORM_MASKED = 7,           /* number: a set of flags; mask: its mask */
+    NLROUTE_FORM_MAC = 8,              /* octets: 6 */
+    NLROUTE_FORM_IPV4 = 9,             /* octets: 4, as in struct in_addr */
+    NLROUTE_FORM_IPV6 = 10,            /* octets: 16, as in struct in6_addr */
+    NLROUTE_FORM_BRIDGE_ID = 11,       /* number: the priority; octets: the address, 6 */
+    NLROUTE_FORM_VLAN_INFO = 12,       /* number: the VLAN ID; second: the flags (struct bridge_vlan_info) */
+    NLROUTE_FORM_QOS_MAPPING = 13,     /* number: from; second: to (struct ifla_vlan_qos_mapping) */
+    NLROUTE_FORM_BERR_COUNTER = 14,    /* number: txerr; second: rxerr (struct can_berr_counter) */
+    NLROUTE_FORM_BITTIMING = 15,       /* 32 bytes at offset: struct can_bittiming */
+    NLROUTE_FORM_BITTIMING_CONST = 16, /* 48 bytes at offset: struct can_bittiming_const */
+    NLROUTE_FORM_BYTES = 17,           /* length bytes at offset */
+    NLROUTE_FORM_LIST = 18,            /* number: how many elements follow */
+    NLROUTE_FORM_UNKNOWN = 19          /* length bytes at offset: the payload of an attribute whose type is not known;
+                                          flags */
+};
+
+/*
+ * An attribute of a list, or an element of an attribute that is a list. Elements follow their list: those of a nested
+ * list, the addresses of a list of addresses, and the numbers of an array.
+ *
+ * Numbers are in the byte order of the machine, including VLAN protocols and bridge priorities. Fields that the form
+ * does not use are 0, except for offset and length.
+ */
+struct nlroute_value {
+    uint16_t kind;  /* attribute type (nla_type) without flags; for an element, that of its list */
+    uint16_t inner; /* for an element: its own attribute type, or its index among the addresses or numbers; else 0 */
+    uint16_t flags; /* for NLROUTE_FORM_UNKNOWN: NLA_F_NESTED and NLA_F_NET_BYTEORDER of nla_type; else 0 */
+    uint8_t form;   /* an nlroute_form */
+    uint8_t depth;  /* 0 for an attribute, 1 for an element */
+    union {
+        uint32_t mask;
+        uint32_t second;
+    };
+    uint32_t length; /* length of the content in the input, in bytes */
+    uint64_t number;
+    uint64_t offset; /* offset of the content in the input, in bytes */
+    uint8_t octets[16];
+}; /* 48 bytes, without padding */
+
+/*
+ * Counts the values that nlroute_values() stores for a list: one for each attribute, and one for each element of an
+ * attribute that is a list. nlroute_count() counts the attributes only. The count is never greater than len / 2. Does
+ * not allocate.
+ *
+ * Returns NLROUTE_HAS_FAULT if and only if the input is malformed.
+ */
+ptrdiff_t nlroute_places(uint32_t family, const uint8_t *bytes, size_t len);
+
+/*
+ * Parses a list, and stores its values in order in the array `values`, which has `places` elements. Returns the number
+ * of values stored; the other elements of the array are unchanged. Does not allocate.
+ *
+ * Returns
+ * - NLROUTE_HAS_FAULT if and only if the input is malformed; the array is then unchanged;
+ * - NLROUTE_NO_ROOM if and only if the input decodes but has more than `places` values; the array then has the first
+ *   of them.
+ */
+ptrdiff_t nlroute_values(uint32_t family, const uint8_t *bytes, size_t len, struct nlroute_value *values,
+                         size_t places);
+
+/*
+ * Looks up the last attribute of type `kind` in a list; unless it takes all attributes of a type, Linux takes the last.
+ * Stores its value in *value, as nlroute_values() stores it, and returns 0. For a list, number is the number of its
+ * elements, which are not stored. Does not allocate.
+ *
+ * On error *value is unchanged. Returns
+ * - NLROUTE_HAS_FAULT if and only if the input is malformed;
+ * - NLROUTE_ABSENT if and only if the input decodes but has no attribute of this type.
+ */
+ptrdiff_t nlroute_find(uint32_t family, const uint8_t *bytes, size_t len, uint16_t kind, struct nlroute_value *value);
+
+/*
+ * Looks up the last element `inner` of the last attribute of type `kind` in a list: inner is the element's own type, or
+ * its index in a list of addresses or an array of numbers. Stores its value in *value, as nlroute_values() stores it, and
+ * returns 0. Does not allocate.
+ *
+ * On error *value is unchanged. Returns
+ * - NLROUTE_HAS_FAULT if and only if the input is malformed;
+ * - NLROUTE_ABSENT if and only if the input decodes but has no such element.
+ */
+ptrdiff_t nlroute_find_in(uint32_t family, const uint8_t *bytes, size_t len, uint16_t kind, uint16_t inner,
+                          struct nlroute_value *value);
+
+/*
+ * Stores the struct that a value of NLROUTE_FORM_BITTIMING or NLROUTE_FORM_BITTIMING_CONST refers to, and returns 0.
+ * The input is the list that the value was read from. The structs are those of linux/can/netlink.h. The name in a struct
+ * can_bittiming_const ends with a NUL: it is truncated to 15 bytes. Does not allocate.
+ *
+ * On error the struct is unchanged. Returns
+ * - NLROUTE_BAD_FORM if and only if the value has another form;
+ * - NLROUTE_BAD_OCTETS if and only if it has this form, but its length is not 32 (48), or the input has fewer than
+ *   offset + length bytes.
+ */
+struct can_bittiming;
+struct can_bittiming_const;
+ptrdiff_t nlroute_can_bittiming(const struct nlroute_value *value, const uint8_t *bytes, size_t len,
+                                struct can_bittiming *timing);
+ptrdiff_t nlroute_can_bittiming_const(const struct nlroute_value *value, const uint8_t *bytes, size_t len,
+                                      struct can_bittiming_const *limits);
 
 /*
  * Checks whether a list is canonical. Returns 1 if nlroute_rewrite() would output the same bytes, and 0 if it would

@@ -1,5 +1,5 @@
 -- Return values of the functions, and what they leave in the caller's buffers.
-use Rattle.std.specs.Prelude.{◌≡◌, ◌≢◌, ◌↔◌, ℕ, ℤ, ◌<◌, ◌≤◌, List, length, None, Result, Ok, Err}
+use Rattle.std.specs.Prelude.{◌≡◌, ◌≢◌, ◌↔◌, ℕ, ℤ, ◌<◌, ◌≤◌, List, ◌++◌, length, take, drop, Some, None, Result, Ok, Err}
 use Rattle.netlink_packet_route.specs.declared.link.DecodeFault.{DecodeFault}
 use Rattle.netlink_packet_route.specs.Frame.{pad, frame_fault}
 use Rattle.netlink_packet_route.specs.Wire.{Wire, FirstFault}
@@ -11,14 +11,21 @@ use Rattle.netlink_packet_route.specs.declared.link.RewriteError.TheVariants as 
 use Rattle.netlink_packet_route.specs.Family.{family_number, table_of}
 use Rattle.netlink_packet_route.specs.Rewrite.{StandsInFront, Rewrites, HasNoRoom}
 use Rattle.netlink_packet_route.specs.Report.{Reports}
+use Rattle.link_flat.specs.declared.entry.Entry.{Entry}
+use Rattle.link_flat.specs.Flat.{Flat}
+use Rattle.link_flat.specs.Finding.{Finds, FindsIn}
 use Rattle.nlroute_ffi.specs.declared.refusal.Refusal.{Refusal}
-use Rattle.nlroute_ffi.specs.declared.refusal.Refusal.TheVariants.{Fault, TooLong, Memory, NoRoom, NoFamily}
+use Rattle.nlroute_ffi.specs.declared.refusal.Refusal.TheVariants.{Fault, TooLong, Memory, NoRoom, NoFamily, Absent}
 use Rattle.nlroute_ffi.specs.Numbers.{code_of, fault_length, fault_numbers}
 
--- the return value: as `says` specifies for the table of the attribute set with this number; -5 if there is none
-pub data AnswersFor (number : ℕ) (says : Table → Result ℕ Refusal → Type 0) (answer : ℤ) : Type 0 where
-  Known : (family : Family) (result : Result ℕ Refusal) → number ≡ family_number family → says (table_of family) result → answer ≡ code_of result → AnswersFor number says answer
-  Unknown : ((family : Family) → number ≢ family_number family) → answer ≡ code_of (Err NoFamily) → AnswersFor number says answer
+-- the return value: as `says` specifies for the attribute set with this number; -5 if there is none
+pub data AnswersBy (number : ℕ) (says : Family → Result ℕ Refusal → Type 0) (answer : ℤ) : Type 0 where
+  Known : (family : Family) (result : Result ℕ Refusal) → number ≡ family_number family → says family result → answer ≡ code_of result → AnswersBy number says answer
+  Unknown : ((family : Family) → number ≢ family_number family) → answer ≡ code_of (Err NoFamily) → AnswersBy number says answer
+
+-- the same, as `says` specifies for the table of the attribute set
+abbrev pub AnswersFor : ℕ → (Table → Result ℕ Refusal → Type 0) → ℤ → Type 0
+AnswersFor number says answer = AnswersBy number (λ family. says (table_of family)) answer
 
 -- ---- counting
 
@@ -30,10 +37,37 @@ HasFault table s = (at : ℕ) × (fault : DecodeFault) × FirstFault (Gives tabl
 abbrev pub CountAnswers : List ℕ → Table → Result ℕ Refusal → Type 0
 CountAnswers s table (Ok n) = (vs : List AttrValue) × Wire (Gives table) s vs × (n ≡ length vs)
 CountAnswers s table (Err Fault) = HasFault table s
-CountAnswers s table (Err TooLong) = ⊥
-CountAnswers s table (Err Memory) = ⊥
-CountAnswers s table (Err NoRoom) = ⊥
-CountAnswers s table (Err NoFamily) = ⊥
+CountAnswers s table (Err refusal) = ⊥
+
+-- ---- entries
+
+-- the number of entries of the list; or why there is none
+abbrev pub PlacesAnswers : List ℕ → Family → Result ℕ Refusal → Type 0
+PlacesAnswers s family (Ok n) = (es : List Entry) × Flat family s es × (n ≡ length es)
+PlacesAnswers s family (Err Fault) = HasFault (table_of family) s
+PlacesAnswers s family (Err refusal) = ⊥
+
+-- the entries of the list are in the first places, and the other places are unchanged; or why not. NoRoom: there are more
+-- entries than places, and the places hold the first of them
+abbrev pub ValuesAnswers : List ℕ → List Entry → List Entry → Family → Result ℕ Refusal → Type 0
+ValuesAnswers s old new family (Ok n) = (es : List Entry) × Flat family s es × (n ≡ length es) × (n ≤ length old) × (new ≡ es ++ drop n old)
+ValuesAnswers s old new family (Err Fault) = HasFault (table_of family) s × (new ≡ old)
+ValuesAnswers s old new family (Err NoRoom) = (es : List Entry) × Flat family s es × (length old < length es) × (new ≡ take (length old) es)
+ValuesAnswers s old new family (Err refusal) = ⊥
+
+-- the entry of the last attribute of type k; or why there is none
+abbrev pub FindAnswers : List ℕ → ℕ → Entry → Family → Result ℕ Refusal → Type 0
+FindAnswers s k value family (Ok n) = (n ≡ 0) × Finds family k s (Ok (Some value))
+FindAnswers s k value family (Err Fault) = HasFault (table_of family) s
+FindAnswers s k value family (Err Absent) = Finds family k s (Ok None)
+FindAnswers s k value family (Err refusal) = ⊥
+
+-- the entry of the last element i of the last attribute of type k; or why there is none
+abbrev pub FindInAnswers : List ℕ → ℕ → ℕ → Entry → Family → Result ℕ Refusal → Type 0
+FindInAnswers s k i value family (Ok n) = (n ≡ 0) × FindsIn family k i s (Ok (Some value))
+FindInAnswers s k i value family (Err Fault) = HasFault (table_of family) s
+FindInAnswers s k i value family (Err Absent) = FindsIn family k i s (Ok None)
+FindInAnswers s k i value family (Err refusal) = ⊥
 
 -- ---- checking
 
@@ -57,7 +91,7 @@ RewriteAnswers s old new table (Err Fault) = HasFault table s
 RewriteAnswers s old new table (Err TooLong) = IsUnfit table s
 RewriteAnswers s old new table (Err Memory) = frame_fault s ≡ None
 RewriteAnswers s old new table (Err NoRoom) = HasNoRoom table s (length old)
-RewriteAnswers s old new table (Err NoFamily) = ⊥
+RewriteAnswers s old new table (Err refusal) = ⊥
 
 -- as RewriteAnswers, with two differences. NoRoom: the buffer is shorter than s, rounded up to a multiple of four.
 -- Memory: only if some attribute that does not follow the first error has a type whose values are heap-allocated
@@ -67,7 +101,7 @@ StreamingAnswers s old new table (Err Fault) = HasFault table s
 StreamingAnswers s old new table (Err TooLong) = IsUnfit table s
 StreamingAnswers s old new table (Err Memory) = NeedsMemory table s
 StreamingAnswers s old new table (Err NoRoom) = length old < pad (length s)
-StreamingAnswers s old new table (Err NoFamily) = ⊥
+StreamingAnswers s old new table (Err refusal) = ⊥
 
 -- ---- the first decode error
 
@@ -79,19 +113,14 @@ pub data TellsFault (s old new : List ℕ) (table : Table) (n : ℕ) : Type 0 wh
 -- no error, or the numbers of the first one; or why they are not reported
 abbrev pub FaultAnswers : List ℕ → List ℕ → List ℕ → Table → Result ℕ Refusal → Type 0
 FaultAnswers s old new table (Ok n) = TellsFault s old new table n
-FaultAnswers s old new table (Err Fault) = ⊥
-FaultAnswers s old new table (Err TooLong) = ⊥
-FaultAnswers s old new table (Err Memory) = ⊥
 FaultAnswers s old new table (Err NoRoom) = HasFault table s × (length old < fault_length)
-FaultAnswers s old new table (Err NoFamily) = ⊥
+FaultAnswers s old new table (Err refusal) = ⊥
 
 -- ---- the report
 
 -- the first n bytes of the buffer are the program's output for the input, and `status` is its exit status; or why not
 abbrev pub ReportAnswers : List ℕ → List ℕ → List ℕ → ℕ → Table → Result ℕ Refusal → Type 0
 ReportAnswers text old new status table (Ok n) = (out : List ℕ) × Reports table text out status × StandsInFront old new out n
-ReportAnswers text old new status table (Err Fault) = ⊥
-ReportAnswers text old new status table (Err TooLong) = ⊥
 ReportAnswers text old new status table (Err Memory) = Unit {0}
 ReportAnswers text old new status table (Err NoRoom) = (out : List ℕ) × (code : ℕ) × Reports table text out code × (length old < length out)
-ReportAnswers text old new status table (Err NoFamily) = ⊥
+ReportAnswers text old new status table (Err refusal) = ⊥

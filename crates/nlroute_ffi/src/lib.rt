@@ -10,16 +10,23 @@ mod refusal;
 #[cfg(test)]
 mod tests;
 mod text;
+mod timing;
+mod values;
 
 ghost use Rattle.std.specs.Prelude.{◌≡◌, ◌<◌, pos, negsuc, ◌<ℤ◌, length, drop};
 ghost use Rattle.netlink_packet_route.specs.Frame.{pad};
 ghost use Rattle.nlroute_ffi.specs.Calls.{AnswersFor, CountAnswers, RewriteAnswers, StreamingAnswers};
 ghost use Rattle.nlroute_ffi.specs.Calls.{CanonicalAnswers, FaultAnswers, ReportAnswers};
+ghost use Rattle.nlroute_ffi.specs.Calls.{AnswersBy, PlacesAnswers, ValuesAnswers, FindAnswers, FindInAnswers};
+ghost use Rattle.nlroute_ffi.specs.Timing.{AnswersWith, TimingAnswers, LimitsAnswers};
 
 use crate::fault::first_fault;
 use crate::lists::{count, judge, rewrite, rewrite_each};
 use crate::refusal::{Refusal, answer_of};
 use crate::text::report_into;
+use crate::timing::{BitTiming, TimingLimits, bit_timing, timing_limits};
+use crate::values::{count_places, find_element, find_value, store_values};
+use link_flat::Entry;
 use netlink_packet_route::Family;
 use std::alloc::Global;
 
@@ -83,6 +90,118 @@ pub extern "C" fn nlroute_count(family: u32, bytes: &[u8]) -> isize
         Some(family) => answer_of(count(family, bytes)),
         None => answer_of(Err(Refusal::NoFamily)),
     }
+}
+
+/// Returns the number of entries that `nlroute_values` stores for the list in `bytes`: its values, and the elements of those
+/// that are lists. Does not allocate.
+///
+/// # Errors
+///
+/// -1 if the input is malformed, -5 if `family` is not the number of a `Family`.
+#[unsafe(no_mangle)]
+pub extern "C" fn nlroute_places(family: u32, bytes: &[u8]) -> isize
+    ensures { AnswersBy family (PlacesAnswers bytes.now) result }
+{
+    match Family::from_number(family) {
+        Some(family) => answer_of(count_places(family, bytes)),
+        None => answer_of(Err(Refusal::NoFamily)),
+    }
+}
+
+/// Stores the values of the list in `bytes`, in order, in the first of `values`; after a value that is a list, its elements
+/// follow. Returns the number of entries; the other places are unchanged. Does not allocate.
+///
+/// # Errors
+///
+/// -1 if the input is malformed, -5 if `family` is not the number of a `Family`; then `values` is unchanged.
+///
+/// -4 if there are more entries than places; then `values` has the first entries.
+#[unsafe(no_mangle)]
+pub extern "C" fn nlroute_values(family: u32, bytes: &[u8], values: &mut [Entry]) -> isize
+    ensures answer { AnswersBy family (ValuesAnswers bytes.now values.old values.new) result }
+    ensures unchanged { result ≡ negsuc 4 → values.new ≡ values.old }
+{
+    match Family::from_number(family) {
+        Some(family) => answer_of(store_values(family, bytes, values)),
+        None => answer_of(Err(Refusal::NoFamily)),
+    }
+}
+
+/// Stores the last value of type `kind` of the list in `bytes` in `value`, as `nlroute_values` stores it, and returns 0. Does
+/// not allocate.
+///
+/// # Errors
+///
+/// -1 if the input is malformed, -5 if `family` is not the number of a `Family`, -6 if the list has no attribute of this
+/// type. On error `value` is unchanged.
+#[unsafe(no_mangle)]
+pub extern "C" fn nlroute_find(family: u32, bytes: &[u8], kind: u16, value: &mut Entry) -> isize
+    ensures answer { AnswersBy family (FindAnswers bytes.now kind value.new) result }
+    ensures unchanged { result <ℤ pos 0 → value.new ≡ value.old }
+{
+    match Family::from_number(family) {
+        Some(family) => answer_of(find_value(family, bytes, kind, value)),
+        None => answer_of(Err(Refusal::NoFamily)),
+    }
+}
+
+/// Stores the last element `inner` of the last value of type `kind` of the list in `bytes` in `value`, as `nlroute_values`
+/// stores it, and returns 0. Does not allocate.
+///
+/// # Errors
+///
+/// -1 if the input is malformed, -5 if `family` is not the number of a `Family`, -6 if there is no such element. On error
+/// `value` is unchanged.
+#[unsafe(no_mangle)]
+pub extern "C" fn nlroute_find_in(
+    family: u32,
+    bytes: &[u8],
+    kind: u16,
+    inner: u16,
+    value: &mut Entry,
+) -> isize
+    ensures answer { AnswersBy family (FindInAnswers bytes.now kind inner value.new) result }
+    ensures unchanged { result <ℤ pos 0 → value.new ≡ value.old }
+{
+    match Family::from_number(family) {
+        Some(family) => answer_of(find_element(family, bytes, kind, inner, value)),
+        None => answer_of(Err(Refusal::NoFamily)),
+    }
+}
+
+/// Stores the `struct can_bittiming` that `value` refers to in `timing`, and returns 0. `octets` are the bytes of the list.
+///
+/// # Errors
+///
+/// -7 if `value` is no bit timing, -10 if its octets are not 32 of `octets`. On error `timing` is unchanged.
+#[unsafe(no_mangle)]
+pub extern "C" fn nlroute_can_bittiming(
+    value: &Entry,
+    octets: &[u8],
+    timing: &mut BitTiming,
+) -> isize
+    ensures answer { AnswersWith (TimingAnswers value.now octets.now timing.new) result }
+    ensures unchanged { result <ℤ pos 0 → timing.new ≡ timing.old }
+{
+    answer_of(bit_timing(value, octets, timing))
+}
+
+/// Stores the `struct can_bittiming_const` that `value` refers to in `limits`, and returns 0. `octets` are the bytes of the
+/// list. The name ends with a NUL: it is cut to 15 bytes.
+///
+/// # Errors
+///
+/// -7 if `value` has no such limits, -10 if its octets are not 48 of `octets`. On error `limits` is unchanged.
+#[unsafe(no_mangle)]
+pub extern "C" fn nlroute_can_bittiming_const(
+    value: &Entry,
+    octets: &[u8],
+    limits: &mut TimingLimits,
+) -> isize
+    ensures answer { AnswersWith (LimitsAnswers value.now octets.now limits.new) result }
+    ensures unchanged { result <ℤ pos 0 → limits.new ≡ limits.old }
+{
+    answer_of(timing_limits(value, octets, limits))
 }
 
 /// Checks whether the list in `bytes` is canonical, so that `nlroute_rewrite` outputs the same bytes. Returns 1 if it

@@ -20,6 +20,12 @@ pub enum Refusal {
     NoRoom,
     /// The number is not that of a `Family`.
     NoFamily,
+    /// The list does not have what was looked up.
+    Absent,
+    /// The value has another form.
+    BadForm,
+    /// The octets of the value are not within those that were passed, or not as many as its form has.
+    BadOctets,
 }
 
 /// Returns the `Refusal` for an error of re-encoding a list.
@@ -45,5 +51,8 @@ pub(crate) fn answer_of(outcome: Result<usize, Refusal>) -> isize
         Err(Refusal::Memory) => -3,
         Err(Refusal::NoRoom) => -4,
         Err(Refusal::NoFamily) => -5,
+        Err(Refusal::Absent) => -6,
+        Err(Refusal::BadForm) => -7,
+        Err(Refusal::BadOctets) => -10,
     }
 }

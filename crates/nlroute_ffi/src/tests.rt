@@ -1,9 +1,12 @@
 //! Tests of what no contract covers: that allocations succeed, and each result for inputs that were computed by hand.
 
+use crate::timing::{BitTiming, TimingLimits};
 use crate::{
-    nlroute_count, nlroute_fault, nlroute_is_canonical, nlroute_report, nlroute_rewrite,
-    nlroute_rewrite_streaming,
+    nlroute_can_bittiming, nlroute_can_bittiming_const, nlroute_count, nlroute_fault, nlroute_find,
+    nlroute_find_in, nlroute_is_canonical, nlroute_places, nlroute_report, nlroute_rewrite,
+    nlroute_rewrite_streaming, nlroute_values,
 };
+use link_flat::Entry;
 
 /// `IFLA_DSA_CONDUIT` 42, and an attribute of type 2, which DSA does not have. Of the two nested flags, only that of
 /// the second attribute is kept.
@@ -198,4 +201,96 @@ fn a_report_of_no_family(rt: HostRuntime) {
     let (mut out, mut code) = (LENT, 9);
     let answer = nlroute_report(rt.alloc(), 10, b"zz", &mut out, &mut code);
     assert!(rt; answer == -5 && out == LENT && code == 9);
+}
+
+/// An entry before a call.
+const BLANK: Entry = Entry {
+    kind: 0,
+    inner: 0,
+    flags: 0,
+    form: 0,
+    depth: 0,
+    second: 0,
+    length: 0,
+    number: 0,
+    offset: 0,
+    octets: [0; 16],
+};
+
+/// `IFLA_VLAN_EGRESS_QOS` with a mapping from 5 to 6, and `IFLA_VLAN_ID` 7.
+const MAPPED: [u8; 24] = [
+    16, 0, 3, 0, 12, 0, 1, 0, 5, 0, 0, 0, 6, 0, 0, 0, 6, 0, 1, 0, 7, 0, 0, 0,
+];
+
+#[test]
+fn stored_values(rt: HostRuntime) {
+    let mut places = [BLANK; 4];
+    let is_counted = nlroute_places(5, &MAPPED) == 3;
+    assert!(rt; is_counted && nlroute_values(5, &MAPPED, &mut places) == 3);
+    let [list, mapping, id, rest] = places;
+    let is_list = list.kind == 3 && list.form == 18 && list.depth == 0 && list.number == 1;
+    assert!(rt; is_list && list.offset == 4 && list.length == 12);
+    let is_mapping = mapping.kind == 3 && mapping.inner == 1 && mapping.depth == 1;
+    assert!(rt; is_mapping && mapping.number == 5 && mapping.second == 6 && mapping.offset == 8);
+    assert!(rt;
+        id.kind == 1 && id.form == 3 && id.number == 7 && id.offset == 20 && rest.form == 0
+    );
+    assert!(rt; nlroute_values(5, &MAPPED, &mut places[..2]) == -4);
+    assert!(rt;
+        nlroute_values(5, &MAPPED[..5], &mut places) == -1 && nlroute_places(10, &[]) == -5
+    );
+    let mut value = BLANK;
+    assert!(rt; nlroute_find(5, &MAPPED, 1, &mut value) == 0 && value.number == 7);
+    assert!(rt; nlroute_find(5, &MAPPED, 2, &mut value) == -6 && value.number == 7);
+    assert!(rt; nlroute_find_in(5, &MAPPED, 3, 1, &mut value) == 0 && value.second == 6);
+    assert!(rt; nlroute_find_in(5, &MAPPED, 3, 2, &mut value) == -6 && value.second == 6);
+}
+
+#[test]
+fn structs_of_a_can_controller(rt: HostRuntime) {
+    let mut octets = [0u8; 52];
+    octets[4] = 9;
+    octets[20] = 1;
+    octets[48] = 8;
+    let timing_value = Entry {
+        form: 15,
+        length: 32,
+        offset: 20,
+        ..BLANK
+    };
+    let mut timing = BitTiming {
+        bitrate: 0,
+        sample_point: 0,
+        tq: 0,
+        prop_seg: 0,
+        phase_seg1: 0,
+        phase_seg2: 0,
+        sjw: 0,
+        brp: 0,
+    };
+    assert!(rt; nlroute_can_bittiming(&timing_value, &octets, &mut timing) == 0);
+    assert!(rt; timing.bitrate == 1 && timing.brp == 8);
+    assert!(rt; nlroute_can_bittiming(&BLANK, &octets, &mut timing) == -7);
+    assert!(rt; nlroute_can_bittiming(&timing_value, &octets[..51], &mut timing) == -10);
+    let limits_value = Entry {
+        form: 16,
+        length: 48,
+        offset: 4,
+        ..BLANK
+    };
+    let mut limits = TimingLimits {
+        name: [1; 16],
+        tseg1_min: 0,
+        tseg1_max: 0,
+        tseg2_min: 0,
+        tseg2_max: 0,
+        sjw_max: 0,
+        brp_min: 0,
+        brp_max: 0,
+        brp_inc: 0,
+    };
+    assert!(rt; nlroute_can_bittiming_const(&limits_value, &octets, &mut limits) == 0);
+    let is_name = limits.name == [9, 0, 0, 0, 0, 0, 0, 0, 0, 0, 0, 0, 0, 0, 0, 0];
+    assert!(rt; is_name && limits.tseg1_min == 1 && limits.brp_inc == 8);
+    assert!(rt; nlroute_can_bittiming_const(&timing_value, &octets, &mut limits) == -7);
 }

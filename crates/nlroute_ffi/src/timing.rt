@@ -1,0 +1,182 @@
+//! The structs of a CAN controller that a value refers to.
+
+ghost use Rattle.std.specs.Prelude.{◌≡◌, IfOk, OnErr};
+ghost use Rattle.netlink_packet_route.specs.Name.{before_nul};
+ghost use Rattle.nlroute_ffi.specs.Timing.{PlaceAnswers, TimingAnswers, LimitsAnswers};
+
+use crate::refusal::Refusal;
+use link_flat::octets::padded;
+use link_flat::{Entry, forms};
+use netlink_packet_route::implementing::u32s_at;
+
+/// Length of a `struct can_bittiming` in bytes.
+const TIMING: u32 = 32;
+
+/// Length of a `struct can_bittiming_const` in bytes.
+const LIMITS: u32 = 48;
+
+/// Length of its name field in bytes.
+const NAME: usize = 16;
+
+/// `struct can_bittiming` (`include/uapi/linux/can/netlink.h`).
+#[repr(C)]
+#[derive(Clone, Copy)]
+pub struct BitTiming {
+    /// Bit rate in bit/s.
+    pub bitrate: u32,
+    /// Sample point in tenths of a percent.
+    pub sample_point: u32,
+    /// Time quantum in ns.
+    pub tq: u32,
+    /// Propagation segment in time quanta.
+    pub prop_seg: u32,
+    /// First phase buffer segment in time quanta.
+    pub phase_seg1: u32,
+    /// Second phase buffer segment in time quanta.
+    pub phase_seg2: u32,
+    /// Synchronization jump width in time quanta.
+    pub sjw: u32,
+    /// Bit rate prescaler.
+    pub brp: u32,
+}
+
+/// `struct can_bittiming_const` (`include/uapi/linux/can/netlink.h`).
+#[repr(C)]
+#[derive(Clone, Copy)]
+pub struct TimingLimits {
+    /// Name of the controller, at most 15 bytes, and zeros.
+    pub name: [u8; 16],
+    /// Minimum sum of the propagation segment and the first phase buffer segment, in time quanta.
+    pub tseg1_min: u32,
+    /// Maximum sum of the propagation segment and the first phase buffer segment, in time quanta.
+    pub tseg1_max: u32,
+    /// Minimum second phase buffer segment, in time quanta.
+    pub tseg2_min: u32,
+    /// Maximum second phase buffer segment, in time quanta.
+    pub tseg2_max: u32,
+    /// Maximum synchronization jump width, in time quanta.
+    pub sjw_max: u32,
+    /// Minimum bit rate prescaler.
+    pub brp_min: u32,
+    /// Maximum bit rate prescaler.
+    pub brp_max: u32,
+    /// Increment between prescalers.
+    pub brp_inc: u32,
+}
+
+/// Stores the bit timing that `value` refers to, and returns 0.
+///
+/// # Errors
+///
+/// `BadForm` if `value` is no bit timing, `BadOctets` if its octets are not 32 of `octets`. On error `timing` is unchanged.
+pub(crate) fn bit_timing(
+    value: &Entry,
+    octets: &[u8],
+    timing: &mut BitTiming,
+) -> Result<usize, Refusal>
+    ensures answer { TimingAnswers value.now octets.now timing.new result }
+    ensures zero { IfOk result (λ n. n ≡ 0) }
+    ensures unchanged { OnErr result (timing.new ≡ timing.old) }
+{
+    match place_of(value, forms::BITTIMING, TIMING, octets) {
+        Ok(at) => {
+            let [
+                bitrate,
+                sample_point,
+                tq,
+                prop_seg,
+                phase_seg1,
+                phase_seg2,
+                sjw,
+                brp,
+            ] = u32s_at::<8>(octets, at);
+            *timing = BitTiming {
+                bitrate,
+                sample_point,
+                tq,
+                prop_seg,
+                phase_seg1,
+                phase_seg2,
+                sjw,
+                brp,
+            };
+            Ok(0)
+        }
+        Err(refusal) => Err(refusal),
+    }
+}
+
+/// Stores the limits of a bit timing that `value` refers to, and returns 0. The name ends with a NUL: it is cut to 15 bytes.
+///
+/// # Errors
+///
+/// `BadForm` if `value` has no such limits, `BadOctets` if its octets are not 48 of `octets`. On error `limits` is
+/// unchanged.
+pub(crate) fn timing_limits(
+    value: &Entry,
+    octets: &[u8],
+    limits: &mut TimingLimits,
+) -> Result<usize, Refusal>
+    ensures answer { LimitsAnswers value.now octets.now limits.new result }
+    ensures zero { IfOk result (λ n. n ≡ 0) }
+    ensures unchanged { OnErr result (limits.new ≡ limits.old) }
+{
+    match place_of(value, forms::BITTIMING_CONST, LIMITS, octets) {
+        Ok(at) => {
+            let name = padded(before_nul(&octets[at..at + NAME - 1]));
+            let [
+                tseg1_min,
+                tseg1_max,
+                tseg2_min,
+                tseg2_max,
+                sjw_max,
+                brp_min,
+                brp_max,
+                brp_inc,
+            ] = u32s_at::<8>(octets, at + NAME);
+            *limits = TimingLimits {
+                name,
+                tseg1_min,
+                tseg1_max,
+                tseg2_min,
+                tseg2_max,
+                sjw_max,
+                brp_min,
+                brp_max,
+                brp_inc,
+            };
+            Ok(0)
+        }
+        Err(refusal) => Err(refusal),
+    }
+}
+
+/// Returns where the octets of `value` start.
+///
+/// # Errors
+///
+/// `BadForm` if `value` has another form, `BadOctets` if its octets are not `length` of `octets`.
+fn place_of(value: &Entry, form: u8, length: u32, octets: &[u8]) -> Result<usize, Refusal>
+    ensures { PlaceAnswers value.now form length octets.now result }
+{
+    if value.form != form {
+        return Err(Refusal::BadForm);
+    }
+    let room = octets.len() as u64;
+    if value.length != length || value.offset > room || room - value.offset < u64::from(length) {
+        return Err(Refusal::BadOctets);
+    }
+    Ok(value.offset as usize)
+}
+
+/// Returns the bytes of a field before the first NUL, or all of them if there is none.
+fn before_nul(field: &[u8]) -> &[u8]
+    ensures { result.now ≡ before_nul field.now }
+{
+    for (i, byte) in field.iter().enumerate() {
+        if *byte == 0 {
+            return &field[..i];
+        }
+    }
+    field
+}
