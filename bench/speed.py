@@ -36,7 +36,7 @@ with tempfile.TemporaryDirectory() as d:
     for name, family, read, into, owned in rows:
         if lists and name not in lists: continue
         ours = {}
-        for what, other in [("read", read), ("check", read), ("check_and_walk", read), ("rewrite", into), ("rewrite_streaming", into), ("is_canonical", read)]:
+        for what, other in [("read", read), ("check", read), ("check_and_walk", read), ("values", read), ("rewrite", into), ("rewrite_streaming", into), ("is_canonical", read)]:
             ran = run(name, family, what, 1)
             if ran.returncode == 3 or ran.stdout.strip() == "-5": continue
             ours[what] = instructions(name, family, what) - empty(what)
