@@ -83,7 +83,7 @@ static void counts_and_faults(uint32_t family, const uint8_t *bytes, size_t len,
     must(fault[NLROUTE_PLACE] <= NLROUTE_ELEMENT_PAYLOAD, "a place of a fault");
     must(fault[NLROUTE_KIND] < 1 << 14 && fault[NLROUTE_INNER] < 1 << 14, "kinds without flags");
     must(fault[NLROUTE_CAUSE] - 1 < NLROUTE_ADDRESS_LENGTH, "a cause");
-    nlroute_fault(family, bytes, (size_t)fault[NLROUTE_AT], fault, 0);
+    (void)nlroute_fault(family, bytes, (size_t)fault[NLROUTE_AT], fault, 0);
     must(nlroute_count(family, bytes, (size_t)fault[NLROUTE_AT]) >= 0, "no fault before the first");
 }
 

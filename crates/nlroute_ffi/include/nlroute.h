@@ -31,6 +31,13 @@
 extern "C" {
 #endif
 
+/* The compiler warns if the result of a call is ignored, which may be an error. */
+#if defined(__GNUC__)
+#define NLROUTE_MUST_USE __attribute__((warn_unused_result))
+#else
+#define NLROUTE_MUST_USE
+#endif
+
 /*
  * The version of this header: a byte each for major, minor and patch. A program runs with any shared object of the same
  * major and minor version, which are part of the object's name.
@@ -68,6 +75,22 @@ enum nlroute_refusal {
     NLROUTE_BAD_OCTETS = -10 /* the bytes of the value are outside the input, or not as many as its form has */
 };
 
+/* Returns the meaning of an error code in words. */
+static inline const char *nlroute_refusal_text(ptrdiff_t code)
+{
+    switch (code) {
+    case NLROUTE_HAS_FAULT: return "the list is malformed";
+    case NLROUTE_TOO_LONG: return "a value does not fit in an attribute";
+    case NLROUTE_NO_MEMORY: return "an allocation failed";
+    case NLROUTE_NO_ROOM: return "the buffer is too small";
+    case NLROUTE_NO_FAMILY: return "no attribute set has this number";
+    case NLROUTE_ABSENT: return "the list has no such attribute or element";
+    case NLROUTE_BAD_FORM: return "the value has another form";
+    case NLROUTE_BAD_OCTETS: return "the bytes of the value are not in the input";
+    default: return code < 0 ? "unknown error" : "no error";
+    }
+}
+
 /*
  * The descriptions below apply if family is one of enum nlroute_family. For any other number, each function returns
  * NLROUTE_NO_FAMILY and writes nothing.
@@ -89,6 +112,7 @@ enum nlroute_refusal {
  *
  * NLROUTE_NO_MEMORY is possible only if the input starts with a whole attribute.
  */
+NLROUTE_MUST_USE
 ptrdiff_t nlroute_rewrite(uint32_t family, const uint8_t *bytes, size_t len, uint8_t *out, size_t room);
 
 /*
@@ -103,6 +127,7 @@ ptrdiff_t nlroute_rewrite(uint32_t family, const uint8_t *bytes, size_t len, uin
  * the value of some attribute is heap-allocated and that attribute does not follow the first error. These
  * three errors may leave changes in the first m bytes of out, but not after them.
  */
+NLROUTE_MUST_USE
 ptrdiff_t nlroute_rewrite_streaming(uint32_t family, const uint8_t *bytes, size_t len, uint8_t *out, size_t room);
 
 /*
@@ -110,6 +135,7 @@ ptrdiff_t nlroute_rewrite_streaming(uint32_t family, const uint8_t *bytes, size_
  *
  * Returns NLROUTE_HAS_FAULT if and only if the input is malformed.
  */
+NLROUTE_MUST_USE
 ptrdiff_t nlroute_count(uint32_t family, const uint8_t *bytes, size_t len);
 
 /* What a value holds, and in which of its fields. */
@@ -166,6 +192,7 @@ struct nlroute_value {
  *
  * Returns NLROUTE_HAS_FAULT if and only if the input is malformed.
  */
+NLROUTE_MUST_USE
 ptrdiff_t nlroute_places(uint32_t family, const uint8_t *bytes, size_t len);
 
 /*
@@ -177,6 +204,7 @@ ptrdiff_t nlroute_places(uint32_t family, const uint8_t *bytes, size_t len);
  * - NLROUTE_NO_ROOM if and only if the input decodes but has more than `places` values; the array then has the first
  *   of them.
  */
+NLROUTE_MUST_USE
 ptrdiff_t nlroute_values(uint32_t family, const uint8_t *bytes, size_t len, struct nlroute_value *values,
                          size_t places);
 
@@ -189,6 +217,7 @@ ptrdiff_t nlroute_values(uint32_t family, const uint8_t *bytes, size_t len, stru
  * - NLROUTE_HAS_FAULT if and only if the input is malformed;
  * - NLROUTE_ABSENT if and only if the input decodes but has no attribute of this type.
  */
+NLROUTE_MUST_USE
 ptrdiff_t nlroute_find(uint32_t family, const uint8_t *bytes, size_t len, uint16_t kind, struct nlroute_value *value);
 
 /*
@@ -200,6 +229,7 @@ ptrdiff_t nlroute_find(uint32_t family, const uint8_t *bytes, size_t len, uint16
  * - NLROUTE_HAS_FAULT if and only if the input is malformed;
  * - NLROUTE_ABSENT if and only if the input decodes but has no such element.
  */
+NLROUTE_MUST_USE
 ptrdiff_t nlroute_find_in(uint32_t family, const uint8_t *bytes, size_t len, uint16_t kind, uint16_t inner,
                           struct nlroute_value *value);
 
@@ -215,8 +245,10 @@ ptrdiff_t nlroute_find_in(uint32_t family, const uint8_t *bytes, size_t len, uin
  */
 struct can_bittiming;
 struct can_bittiming_const;
+NLROUTE_MUST_USE
 ptrdiff_t nlroute_can_bittiming(const struct nlroute_value *value, const uint8_t *bytes, size_t len,
                                 struct can_bittiming *timing);
+NLROUTE_MUST_USE
 ptrdiff_t nlroute_can_bittiming_const(const struct nlroute_value *value, const uint8_t *bytes, size_t len,
                                       struct can_bittiming_const *limits);
 
@@ -224,6 +256,7 @@ ptrdiff_t nlroute_can_bittiming_const(const struct nlroute_value *value, const u
  * Checks whether a list is canonical. Returns 1 if nlroute_rewrite() would output the same bytes, and 0 if it would
  * output others or the input is malformed. Does not allocate; the only error is NLROUTE_NO_FAMILY.
  */
+NLROUTE_MUST_USE
 ptrdiff_t nlroute_is_canonical(uint32_t family, const uint8_t *bytes, size_t len);
 
 /* Length of the array that nlroute_fault() writes. */
@@ -265,6 +298,7 @@ enum nlroute_cause {
  *
  * Returns NLROUTE_NO_ROOM if and only if there is an error and places is less than NLROUTE_FAULT_NUMBERS.
  */
+NLROUTE_MUST_USE
 ptrdiff_t nlroute_fault(uint32_t family, const uint8_t *bytes, size_t len, uint64_t *fault, size_t places);
 
 /*
@@ -282,6 +316,7 @@ ptrdiff_t nlroute_fault(uint32_t family, const uint8_t *bytes, size_t len, uint6
  *
  * Unless an allocation fails, returns NLROUTE_NO_ROOM if and only if the output has more than room bytes.
  */
+NLROUTE_MUST_USE
 ptrdiff_t nlroute_report(uint32_t family, const uint8_t *text, size_t len, uint8_t *out, size_t room, uint8_t *status);
 
 #ifdef __cplusplus
