@@ -4,7 +4,9 @@
  * result occurs. The linker options --wrap=malloc and --wrap=realloc let this program make allocations fail.
  */
 #include "nlroute.h"
+#include "nlroute_kinds.h"
 
+#include <linux/can/netlink.h>
 #include <stdbool.h>
 #include <stdio.h>
 #include <string.h>
@@ -148,6 +150,66 @@ static void value_by_value(void) {
     check(are_lent(out + 20, 20), "what stands behind the room is left");
 }
 
+/* A list of a bridge: a delay of 15 s, the bridge ID 8000.02:00:00:00:00:01, the IGMP querier 10.0.0.1, and type 99. */
+static const uint8_t bridge[38] = {8,  0, 1,  0,    0xDC, 5, 0, 0, 12, 0, 11, 0, 0x80, 0, 2,  0,    0, 0,    0,
+                                   1,  12, 0, 47,   0x80, 8, 0, 1, 0,  10, 0, 0, 1,    6, 0,  99,   0x40, 0xDE, 0xAD};
+
+/* Checks the struct itself: no contract covers how C sees its fields. */
+static void values(void) {
+    struct nlroute_value v[6], found;
+    memset(v, 0xFF, sizeof v);
+    memory_is_out = true;
+    ptrdiff_t places = nlroute_places(NLROUTE_BRIDGE, bridge, sizeof bridge);
+    ptrdiff_t stored = nlroute_values(NLROUTE_BRIDGE, bridge, sizeof bridge, v, 6);
+    memory_is_out = false;
+    check(places == 5 && stored == 5 && are_lent(v + 5, sizeof v[5]), "five values, without memory");
+    check(v[0].kind == NLROUTE_IFLA_BR_FORWARD_DELAY && v[0].form == NLROUTE_FORM_UNSIGNED, "a delay is a number");
+    check(v[0].number == 1500, "the delay");
+    check(v[0].offset == 4 && v[0].length == 4 && v[0].depth == 0 && v[0].inner == 0, "where it is");
+    const uint8_t address[16] = {2, 0, 0, 0, 0, 1}, querier[16] = {10, 0, 0, 1};
+    check(v[1].kind == NLROUTE_IFLA_BR_BRIDGE_ID && v[1].form == NLROUTE_FORM_BRIDGE_ID, "a bridge ID");
+    check(v[1].number == 0x8000, "its priority");
+    check(v[1].offset == 12 && v[1].length == 8 && !memcmp(v[1].octets, address, 16), "its address");
+    check(v[2].kind == 47 && v[2].form == NLROUTE_FORM_LIST && v[2].number == 1, "a list of one element");
+    check(v[2].offset == 24 && v[2].length == 8, "where the list is");
+    check(v[3].kind == 47 && v[3].inner == 1 && v[3].depth == 1 && v[3].form == NLROUTE_FORM_IPV4, "the element");
+    check(v[3].offset == 28 && v[3].length == 4 && !memcmp(v[3].octets, querier, 16), "the address of the querier");
+    check(v[4].kind == 99 && v[4].form == NLROUTE_FORM_UNKNOWN && v[4].flags == 0x4000, "a type that is not known");
+    check(v[4].offset == 36 && v[4].length == 2, "its payload");
+    check(nlroute_values(NLROUTE_BRIDGE, bridge, sizeof bridge, v, 4) == NLROUTE_NO_ROOM, "-4 with four places");
+    check(nlroute_values(NLROUTE_BRIDGE, bridge, 37, v, 6) == NLROUTE_HAS_FAULT, "-1 of values");
+    memset(&found, 0xFF, sizeof found);
+    check(nlroute_find(NLROUTE_BRIDGE, bridge, sizeof bridge, 2, &found) == NLROUTE_ABSENT, "-6 for what is not there");
+    check(nlroute_find_in(10, bridge, sizeof bridge, 47, 1, &found) == NLROUTE_NO_FAMILY, "-5 of an element");
+    check(are_lent(&found, sizeof found), "nothing was found");
+    bool is_found = !nlroute_find(NLROUTE_BRIDGE, bridge, sizeof bridge, 1, &found);
+    check(is_found && !memcmp(&found, v, sizeof found), "the delay is found");
+    is_found = !nlroute_find_in(NLROUTE_BRIDGE, bridge, sizeof bridge, 47, 1, &found);
+    check(is_found && !memcmp(&found, v + 3, sizeof found), "the querier is found");
+}
+
+/* Checks the kernel's structs: IFLA_CAN_BITTIMING of 250 kbit/s, and IFLA_CAN_BITTIMING_CONST of a controller. */
+static void timing(void) {
+    uint8_t can[88] = {36, 0, 1, 0, 0x90, 0xD0, 3, 0, 0x6B, 3};
+    const uint8_t limits[20] = {52, 0, 2, 0, 'm', 'c', 'p', '2', '5', '1', 'x'};
+    can[32] = 2;
+    memcpy(can + 36, limits, sizeof limits);
+    can[56] = 3;
+    can[84] = 1;
+    struct nlroute_value v[2];
+    struct can_bittiming bits;
+    struct can_bittiming_const most;
+    check(nlroute_values(NLROUTE_CAN, can, sizeof can, v, 2) == 2, "two structs");
+    check(!nlroute_can_bittiming(v, can, sizeof can, &bits), "a bit timing");
+    check(bits.bitrate == 250000 && bits.sample_point == 875 && bits.sjw == 0 && bits.brp == 2, "its fields");
+    check(!nlroute_can_bittiming_const(v + 1, can, sizeof can, &most), "the limits of a bit timing");
+    check(!strcmp(most.name, "mcp251x"), "their name");
+    check(most.tseg1_min == 3 && most.tseg1_max == 0 && most.brp_inc == 1, "their fields");
+    check(nlroute_can_bittiming(v + 1, can, sizeof can, &bits) == NLROUTE_BAD_FORM, "-7 for limits");
+    check(nlroute_can_bittiming(v, can, 35, &bits) == NLROUTE_BAD_OCTETS, "-10 for bytes that are cut off");
+    check(!strcmp(nlroute_refusal_text(NLROUTE_BAD_FORM), "the value has another form"), "a code in words");
+}
+
 /* A payload of one byte where four are required, and a truncated header after it. */
 static void room_first(void) {
     const uint8_t short_value[10] = {5, 0, 1, 0, 42, 0, 0, 0, 3, 0};
@@ -212,6 +274,8 @@ int main(void) {
     rewriting();
     judging();
     refusals();
+    values();
+    timing();
     value_by_value();
     room_first();
     faults();
