@@ -65,7 +65,7 @@ PAGES = re.compile(r"(README|CONTRIBUTING|CHANGELOG)\.md|docs/[^/]+\.md|bench/RE
 BUDGETS = {
     "README.md": 1500,
     "CONTRIBUTING.md": 1850,
-    "crates/nlroute_ffi/README.md": 850,
+    "crates/nlroute_ffi/README.md": 900,
     "docs/ARCHITECTURE.md": 2000,
     "docs/ASSURANCE.md": 1250,
     "docs/CALLING.md": 1750,

@@ -238,6 +238,13 @@ static void faults(void) {
     memory_is_out = false;
     check(answer == NLROUTE_FAULT_NUMBERS, "a fault has seven numbers, without memory");
     check(!memcmp(fault, wanted, sizeof wanted) && are_lent(fault + 7, 8), "they tell an overrun at 16");
+    struct nlroute_fault first;
+    memset(&first, 0xFF, sizeof first);
+    check(nlroute_first_fault(NLROUTE_VLAN, vlan, 32, &first) == NLROUTE_ABSENT, "-6 for no fault");
+    check(are_lent(&first, sizeof first), "no fault was stored");
+    check(!nlroute_first_fault(NLROUTE_VLAN, vlan, 30, &first), "a fault is stored");
+    check(first.at == 16 && first.place == NLROUTE_FRAME && first.kind == 0 && first.inner == 0, "it is at 16");
+    check(first.cause == NLROUTE_OVERRUN && first.first == 16 && first.second == 14, "it is an overrun");
     /* IFLA_VLAN_EGRESS_QOS with a mapping of seven bytes */
     const uint8_t nested[16] = {15, 0, 3, 0, 11, 0, 1, 0};
     const uint64_t inner[7] = {0, NLROUTE_ELEMENT_PAYLOAD, 3, 1, NLROUTE_WRONG_LENGTH, 8, 7};

@@ -301,6 +301,25 @@ enum nlroute_cause {
 NLROUTE_MUST_USE
 ptrdiff_t nlroute_fault(uint32_t family, const uint8_t *bytes, size_t len, uint64_t *fault, size_t places);
 
+/* The first error of a list. */
+struct nlroute_fault {
+    uint64_t at;     /* byte offset, in the list, of the attribute that has the error */
+    uint64_t first;  /* the cause's first number */
+    uint64_t second; /* the cause's second number, or 0 */
+    uint32_t place;  /* the part that is malformed: an nlroute_place */
+    uint32_t kind;   /* attribute type (nla_type) without flags; 0 for NLROUTE_FRAME */
+    uint32_t inner;  /* type of the list element without flags; 0 unless NLROUTE_ELEMENT_PAYLOAD */
+    uint32_t cause;  /* an nlroute_cause */
+}; /* 40 bytes, without padding */
+
+/*
+ * Stores the first decode error of a list in *fault, and returns 0. Does not allocate.
+ *
+ * Returns NLROUTE_ABSENT if and only if the list has no error; *fault is then unchanged.
+ */
+NLROUTE_MUST_USE
+ptrdiff_t nlroute_first_fault(uint32_t family, const uint8_t *bytes, size_t len, struct nlroute_fault *fault);
+
 /*
  * Writes the output of the program `nlroute FAMILY` to out, a buffer of room bytes, and its exit status to *status. The
  * input is the len bytes at text: hex digits, case-insensitive; space, tab, CR and LF are ignored. Returns the length

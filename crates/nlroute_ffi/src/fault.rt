@@ -1,9 +1,10 @@
-//! Reports the first decode error of a list as numbers.
+//! Reports the first decode error of a list.
 
 ghost use Rattle.std.specs.Prelude.{◌≡◌, [], ◌∷◌, ◌<◌, length, IfOk, IfErr, OnErr};
 ghost use Rattle.netlink_packet_route.specs.Family.{table_of};
 ghost use Rattle.netlink_packet_route.specs.Rewrite.{StandsInFront};
 ghost use Rattle.nlroute_ffi.specs.Numbers.{cause_numbers, fault_length, fault_numbers};
+ghost use Rattle.nlroute_ffi.specs.Error.{error_numbers, ErrorAnswers};
 ghost use Rattle.nlroute_ffi.specs.Calls.{FaultAnswers};
 
 use crate::refusal::Refusal;
@@ -14,31 +15,72 @@ use netlink_packet_route::{Family, count_values};
 const FAULT_LENGTH: usize = 7;
 
 // The parts that may be malformed: `enum nlroute_place` of the header.
-const FRAME: u64 = 0;
+const FRAME: u32 = 0;
 
-const PAYLOAD: u64 = 1;
+const PAYLOAD: u32 = 1;
 
-const ELEMENT_FRAME: u64 = 2;
+const ELEMENT_FRAME: u32 = 2;
 
-const ELEMENT_PAYLOAD: u64 = 3;
+const ELEMENT_PAYLOAD: u32 = 3;
 
 // Two more, which never occur in a list.
-const BARE_PAYLOAD: u64 = 4;
+const BARE_PAYLOAD: u32 = 4;
 
-const TEXT: u64 = 5;
+const TEXT: u32 = 5;
 
 // The causes: `enum nlroute_cause` of the header.
-const SHORT_FRAME: u64 = 1;
+const SHORT_FRAME: u32 = 1;
 
-const SMALL_LENGTH: u64 = 2;
+const SMALL_LENGTH: u32 = 2;
 
-const OVERRUN: u64 = 3;
+const OVERRUN: u32 = 3;
 
-const WRONG_LENGTH: u64 = 4;
+const WRONG_LENGTH: u32 = 4;
 
-const TOO_SHORT: u64 = 5;
+const TOO_SHORT: u32 = 5;
 
-const ADDRESS_LENGTH: u64 = 6;
+const ADDRESS_LENGTH: u32 = 6;
+
+/// An error in a list: `struct nlroute_fault` of the header.
+#[repr(C)]
+#[derive(Clone, Copy)]
+pub struct FirstError {
+    /// Offset of the attribute in the list, in bytes.
+    pub at: u64,
+    /// First number of the cause.
+    pub first: u64,
+    /// Second number of the cause, or 0.
+    pub second: u64,
+    /// The part that is malformed.
+    pub place: u32,
+    /// Attribute type without flags; 0 for an error in the framing of the list.
+    pub kind: u32,
+    /// Type of the list element without flags; 0 unless its payload is malformed.
+    pub inner: u32,
+    /// The cause.
+    pub cause: u32,
+}
+
+/// Stores the first decode error of a list in `error`, and returns 0.
+///
+/// # Errors
+///
+/// `Absent` if the list has no error. Then `error` is unchanged.
+pub(crate) fn store_error(
+    family: Family,
+    bytes: &[u8],
+    error: &mut FirstError,
+) -> Result<usize, Refusal>
+    ensures answer { ErrorAnswers bytes.now error.new (table_of family) result }
+    ensures zero { IfOk result (λ n. n ≡ 0) }
+    ensures unchanged { OnErr result (error.new ≡ error.old) }
+{
+    if let Err(ListFault { at, fault }) = count_values(family, bytes) {
+        *error = error_of(at as u64, fault);
+        return Ok(0);
+    }
+    Err(Refusal::Absent)
+}
 
 /// Writes the numbers of the first decode error of a list to the start of `numbers`. Returns how many were written,
 /// which is 0 if the list has no error; the rest of `numbers` is unchanged.
@@ -76,6 +118,21 @@ fn put_fault(at: usize, fault: DecodeFault, numbers: &mut [u64]) -> Result<usize
 fn numbers_of(at: u64, fault: DecodeFault) -> [u64; FAULT_LENGTH]
     ensures { result ≡ fault_numbers at fault }
 {
+    let error = error_of(at, fault);
+    [
+        error.at,
+        error.place.into(),
+        error.kind.into(),
+        error.inner.into(),
+        error.cause.into(),
+        error.first,
+        error.second,
+    ]
+}
+
+fn error_of(at: u64, fault: DecodeFault) -> FirstError
+    ensures { error_numbers result ≡ fault_numbers at fault }
+{
     match fault {
         DecodeFault::Frame(cause) => with_cause(at, FRAME, 0, 0, cause),
         DecodeFault::Value { kind, cause } => with_cause(at, PAYLOAD, kind, 0, cause),
@@ -88,18 +145,34 @@ fn numbers_of(at: u64, fault: DecodeFault) -> [u64; FAULT_LENGTH]
             cause,
         ),
         DecodeFault::Payload(cause) => with_cause(at, BARE_PAYLOAD, 0, 0, cause),
-        DecodeFault::Text => [at, TEXT, 0, 0, 0, 0, 0],
+        DecodeFault::Text => FirstError {
+            at,
+            first: 0,
+            second: 0,
+            place: TEXT,
+            kind: 0,
+            inner: 0,
+            cause: 0,
+        },
     }
 }
 
-fn with_cause(at: u64, place: u64, kind: u16, inner: u16, cause: Cause) -> [u64; FAULT_LENGTH]
-    ensures { result ≡ at ∷ place ∷ kind ∷ inner ∷ cause_numbers cause }
+fn with_cause(at: u64, place: u32, kind: u16, inner: u16, cause: Cause) -> FirstError
+    ensures { error_numbers result ≡ at ∷ place ∷ kind ∷ inner ∷ cause_numbers cause }
 {
-    let (number, first, second) = numbers_of_cause(cause);
-    [at, place, kind as u64, inner as u64, number, first, second]
+    let (cause, first, second) = numbers_of_cause(cause);
+    FirstError {
+        at,
+        first,
+        second,
+        place,
+        kind: kind.into(),
+        inner: inner.into(),
+        cause,
+    }
 }
 
-fn numbers_of_cause(cause: Cause) -> (u64, u64, u64)
+fn numbers_of_cause(cause: Cause) -> (u32, u64, u64)
     ensures { result.0 ∷ result.1 ∷ result.2 ∷ [] ≡ cause_numbers cause }
 {
     match cause {

@@ -18,9 +18,10 @@ ghost use Rattle.netlink_packet_route.specs.Frame.{pad};
 ghost use Rattle.nlroute_ffi.specs.Calls.{AnswersFor, CountAnswers, RewriteAnswers, StreamingAnswers};
 ghost use Rattle.nlroute_ffi.specs.Calls.{CanonicalAnswers, FaultAnswers, ReportAnswers};
 ghost use Rattle.nlroute_ffi.specs.Calls.{AnswersBy, PlacesAnswers, ValuesAnswers, FindAnswers, FindInAnswers};
+ghost use Rattle.nlroute_ffi.specs.Error.{ErrorAnswers};
 ghost use Rattle.nlroute_ffi.specs.Timing.{AnswersWith, TimingAnswers, LimitsAnswers};
 
-use crate::fault::first_fault;
+use crate::fault::{FirstError, first_fault, store_error};
 use crate::lists::{count, judge, rewrite, rewrite_each};
 use crate::refusal::{Refusal, answer_of};
 use crate::text::report_into;
@@ -235,6 +236,22 @@ pub extern "C" fn nlroute_fault(family: u32, bytes: &[u8], fault: &mut [u64]) ->
 {
     match Family::from_number(family) {
         Some(family) => answer_of(first_fault(family, bytes, fault)),
+        None => answer_of(Err(Refusal::NoFamily)),
+    }
+}
+
+/// Stores the first decode error of the list in `bytes` in `error`, and returns 0. Does not allocate.
+///
+/// # Errors
+///
+/// -6 if the list has no error, -5 if `family` is not the number of a `Family`. On error `error` is unchanged.
+#[unsafe(no_mangle)]
+pub extern "C" fn nlroute_first_fault(family: u32, bytes: &[u8], error: &mut FirstError) -> isize
+    ensures answer { AnswersFor family (ErrorAnswers bytes.now error.new) result }
+    ensures unchanged { result <ℤ pos 0 → error.new ≡ error.old }
+{
+    match Family::from_number(family) {
+        Some(family) => answer_of(store_error(family, bytes, error)),
         None => answer_of(Err(Refusal::NoFamily)),
     }
 }

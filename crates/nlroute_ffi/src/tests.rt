@@ -1,16 +1,41 @@
 //! Tests of what no contract covers: that allocations succeed, and each result for inputs that were computed by hand.
 
+use crate::fault::FirstError;
 use crate::timing::{BitTiming, TimingLimits};
 use crate::{
     nlroute_can_bittiming, nlroute_can_bittiming_const, nlroute_count, nlroute_fault, nlroute_find,
-    nlroute_find_in, nlroute_is_canonical, nlroute_places, nlroute_report, nlroute_rewrite,
-    nlroute_rewrite_streaming, nlroute_values,
+    nlroute_find_in, nlroute_first_fault, nlroute_is_canonical, nlroute_places, nlroute_report,
+    nlroute_rewrite, nlroute_rewrite_streaming, nlroute_values,
 };
 use link_flat::Entry;
 
 /// `IFLA_DSA_CONDUIT` 42, and an attribute of type 2, which DSA does not have. Of the two nested flags, only that of
 /// the second attribute is kept.
 const TWO: [u8; 12] = [8, 0, 1, 0x80, 42, 0, 0, 0, 4, 0, 2, 0x80];
+
+/// An error before a call.
+const NO_ERROR: FirstError = FirstError {
+    at: u64::MAX,
+    first: u64::MAX,
+    second: u64::MAX,
+    place: u32::MAX,
+    kind: u32::MAX,
+    inner: u32::MAX,
+    cause: u32::MAX,
+};
+
+/// The numbers of an error, in the order of `nlroute_fault`.
+fn numbers_of(error: &FirstError) -> [u64; 7] {
+    [
+        error.at,
+        error.place.into(),
+        error.kind.into(),
+        error.inner.into(),
+        error.cause.into(),
+        error.first,
+        error.second,
+    ]
+}
 
 /// An output buffer before a call.
 const LENT: [u8; 12] = [0xFF; 12];
@@ -153,10 +178,20 @@ fn faults(rt: HostRuntime) {
         assert!(rt; is_refused && fault == lent, "of family {family}");
         let is_told = nlroute_fault(family, bytes, &mut fault) == 7;
         assert!(rt; is_told && fault == wanted, "of family {family}");
+        let mut error = NO_ERROR;
+        let is_stored = nlroute_first_fault(family, bytes, &mut error) == 0;
+        assert!(rt;
+            is_stored && numbers_of(&error) == wanted,
+            "of family {family}"
+        );
     }
     let mut fault = lent;
     assert!(rt; nlroute_fault(7, &TWO, &mut fault) == 0 && fault == lent);
     assert!(rt; nlroute_fault(10, &[], &mut fault) == -5 && fault == lent);
+    let mut error = NO_ERROR;
+    let is_absent = nlroute_first_fault(7, &TWO, &mut error) == -6;
+    let is_left = error.at == u64::MAX && error.cause == u32::MAX;
+    assert!(rt; is_absent && is_left);
 }
 
 #[test]
