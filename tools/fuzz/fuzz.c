@@ -96,7 +96,7 @@ static void settles(uint32_t family, size_t len, size_t first_len, const uint8_t
     must(second == (ptrdiff_t)first_len, "a second rewriting is as long as the first");
     ptrdiff_t third = rewritten(nlroute_rewrite, family, twice, first_len, once);
     must(third == second && !memcmp(once, twice, first_len), "a third rewriting changes nothing");
-    must(nlroute_is_canonical(family, twice, first_len) == 1, "a second rewriting is canonical");
+    must(nlroute_is_canonical(family, twice, first_len), "a second rewriting is canonical");
 }
 
 /* The report of the list in digits: its status, and its last line. */

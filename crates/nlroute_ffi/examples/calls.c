@@ -95,16 +95,16 @@ static void rewriting(void) {
 
 static void judging(void) {
     memory_is_out = true;
-    bool is_so = nlroute_is_canonical(NLROUTE_VLAN, vlan, 32) == 1, empty = nlroute_is_canonical(NLROUTE_VLAN, vlan, 0) == 1;
+    bool is_so = nlroute_is_canonical(NLROUTE_VLAN, vlan, 32), empty = nlroute_is_canonical(NLROUTE_VLAN, vlan, 0);
     memory_is_out = false;
     check(is_so, "a request is canonical, and no memory is taken to tell");
     check(empty, "no bytes are canonical");
-    check(nlroute_is_canonical(NLROUTE_VLAN, vlan, 30) == 0, "with a fault it is not");
+    check(!nlroute_is_canonical(NLROUTE_VLAN, vlan, 30), "with a fault it is not");
     for (size_t i = 0; i < sizeof rows / sizeof rows[0]; i++) {
-        bool first = nlroute_is_canonical(rows[i].family, rows[i].bytes + 1, rows[i].bytes[0]) == 0;
-        check(first && nlroute_is_canonical(rows[i].family, rows[i].wanted + 1, rows[i].wanted[0]) == 1, rows[i].name);
+        bool first = !nlroute_is_canonical(rows[i].family, rows[i].bytes + 1, rows[i].bytes[0]);
+        check(first && nlroute_is_canonical(rows[i].family, rows[i].wanted + 1, rows[i].wanted[0]), rows[i].name);
     }
-    check(nlroute_is_canonical(10, vlan, 32) == NLROUTE_NO_FAMILY, "-5 of number 10");
+    check(!nlroute_is_canonical(10, vlan, 32), "nothing is canonical for number 10");
 }
 
 static void refusals(void) {

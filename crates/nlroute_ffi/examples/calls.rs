@@ -44,7 +44,7 @@ mod sys {
             room: usize,
         ) -> isize;
         pub fn nlroute_count(family: u32, bytes: *const u8, len: usize) -> isize;
-        pub fn nlroute_is_canonical(family: u32, bytes: *const u8, len: usize) -> isize;
+        pub fn nlroute_is_canonical(family: u32, bytes: *const u8, len: usize) -> bool;
         pub fn nlroute_fault(
             family: u32,
             bytes: *const u8,
@@ -99,7 +99,7 @@ pub fn count(family: Family, bytes: &[u8]) -> Result<usize, Refusal> {
 
 /// Checks whether a list is canonical.
 pub fn is_canonical(family: Family, bytes: &[u8]) -> bool {
-    1 == unsafe { sys::nlroute_is_canonical(family as u32, bytes.as_ptr(), bytes.len()) }
+    unsafe { sys::nlroute_is_canonical(family as u32, bytes.as_ptr(), bytes.len()) }
 }
 
 /// Returns the numbers of the first decode error of a list, if it has one. It does not allocate.

@@ -24,6 +24,7 @@
 #ifndef NLROUTE_H
 #define NLROUTE_H
 
+#include <stdbool.h>
 #include <stddef.h>
 #include <stdint.h>
 
@@ -92,8 +93,8 @@ static inline const char *nlroute_refusal_text(ptrdiff_t code)
 }
 
 /*
- * The descriptions below apply if family is one of enum nlroute_family. For any other number, each function returns
- * NLROUTE_NO_FAMILY and writes nothing.
+ * The descriptions below apply if family is one of enum nlroute_family. For any other number, a function
+ * returns NLROUTE_NO_FAMILY and writes nothing; nlroute_is_canonical() returns false.
  */
 
 /*
@@ -253,11 +254,11 @@ ptrdiff_t nlroute_can_bittiming_const(const struct nlroute_value *value, const u
                                       struct can_bittiming_const *limits);
 
 /*
- * Checks whether a list is canonical. Returns 1 if nlroute_rewrite() would output the same bytes, and 0 if it would
- * output others or the input is malformed. Does not allocate; the only error is NLROUTE_NO_FAMILY.
+ * Checks whether a list is canonical: nlroute_rewrite() would output the same bytes. Returns false if the input is
+ * malformed, or if family is not one of enum nlroute_family. Does not allocate.
  */
 NLROUTE_MUST_USE
-ptrdiff_t nlroute_is_canonical(uint32_t family, const uint8_t *bytes, size_t len);
+bool nlroute_is_canonical(uint32_t family, const uint8_t *bytes, size_t len);
 
 /* Length of the array that nlroute_fault() writes. */
 #define NLROUTE_FAULT_NUMBERS 7

@@ -71,10 +71,9 @@ FindInAnswers s k i value family (Err refusal) = ⊥
 
 -- ---- checking
 
--- 1 if s is canonical, otherwise 0
-abbrev pub CanonicalAnswers : List ℕ → Table → Result ℕ Refusal → Type 0
-CanonicalAnswers s table (Ok n) = (n ≤ 1) × ((n ≡ 1) ↔ Canonical table s)
-CanonicalAnswers s table (Err refusal) = ⊥
+-- s is canonical, as a list of the attribute set with this number
+abbrev pub IsCanonicalFor : ℕ → List ℕ → Type 0
+IsCanonicalFor number s = (family : Family) × (number ≡ family_number family) × Canonical (table_of family) s
 
 -- ---- re-encoding
 

@@ -13,22 +13,22 @@ mod text;
 mod timing;
 mod values;
 
-ghost use Rattle.std.specs.Prelude.{◌≡◌, ◌<◌, pos, negsuc, ◌<ℤ◌, length, drop};
+ghost use Rattle.std.specs.Prelude.{◌≡◌, ◌↔◌, ◌<◌, IsTrue, pos, negsuc, ◌<ℤ◌, length, drop};
 ghost use Rattle.netlink_packet_route.specs.Frame.{pad};
 ghost use Rattle.nlroute_ffi.specs.Calls.{AnswersFor, CountAnswers, RewriteAnswers, StreamingAnswers};
-ghost use Rattle.nlroute_ffi.specs.Calls.{CanonicalAnswers, FaultAnswers, ReportAnswers};
+ghost use Rattle.nlroute_ffi.specs.Calls.{IsCanonicalFor, FaultAnswers, ReportAnswers};
 ghost use Rattle.nlroute_ffi.specs.Calls.{AnswersBy, PlacesAnswers, ValuesAnswers, FindAnswers, FindInAnswers};
 ghost use Rattle.nlroute_ffi.specs.Error.{ErrorAnswers};
 ghost use Rattle.nlroute_ffi.specs.Timing.{AnswersWith, TimingAnswers, LimitsAnswers};
 
 use crate::fault::{FirstError, first_fault, store_error};
-use crate::lists::{count, judge, rewrite, rewrite_each};
+use crate::lists::{count, rewrite, rewrite_each};
 use crate::refusal::{Refusal, answer_of};
 use crate::text::report_into;
 use crate::timing::{BitTiming, TimingLimits, bit_timing, timing_limits};
 use crate::values::{count_places, find_element, find_value, store_values};
 use link_flat::Entry;
-use netlink_packet_route::Family;
+use netlink_packet_route::{Family, is_canonical};
 use std::alloc::Global;
 
 /// Re-encodes the list in `bytes` into `out`, as `rewrite` does. Returns `n`, the number of bytes written; `out[n..]`
@@ -205,19 +205,15 @@ pub extern "C" fn nlroute_can_bittiming_const(
     answer_of(timing_limits(value, octets, limits))
 }
 
-/// Checks whether the list in `bytes` is canonical, so that `nlroute_rewrite` outputs the same bytes. Returns 1 if it
-/// is, and 0 otherwise, also if the input is malformed. Does not allocate.
-///
-/// # Errors
-///
-/// -5 if `family` is not the number of a `Family`.
+/// Returns whether the list in `bytes` is canonical, so that `nlroute_rewrite` outputs the same bytes. False if the input
+/// is malformed, or if `family` is not the number of a `Family`. Does not allocate.
 #[unsafe(no_mangle)]
-pub extern "C" fn nlroute_is_canonical(family: u32, bytes: &[u8]) -> isize
-    ensures { AnswersFor family (CanonicalAnswers bytes.now) result }
+pub extern "C" fn nlroute_is_canonical(family: u32, bytes: &[u8]) -> bool
+    ensures { IsTrue result ↔ IsCanonicalFor family bytes.now }
 {
     match Family::from_number(family) {
-        Some(family) => answer_of(Ok(judge(family, bytes))),
-        None => answer_of(Err(Refusal::NoFamily)),
+        Some(family) => is_canonical(family, bytes),
+        None => false,
     }
 }
 

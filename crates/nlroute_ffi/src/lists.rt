@@ -1,17 +1,14 @@
 //! Parses and re-encodes lists.
 
-ghost use Rattle.std.specs.Prelude.{◌≡◌, ◌≤◌, ◌<◌, ◌↔◌, length, drop, Err, IfOk, OnErr};
+ghost use Rattle.std.specs.Prelude.{◌≡◌, ◌≤◌, ◌<◌, length, drop, Err, IfOk, OnErr};
 ghost use Rattle.netlink_packet_route.specs.Frame.{pad};
-ghost use Rattle.netlink_packet_route.specs.Table.{Canonical};
 ghost use Rattle.netlink_packet_route.specs.Family.{table_of};
 ghost use Rattle.nlroute_ffi.specs.Calls.{CountAnswers, RewriteAnswers, StreamingAnswers};
 ghost use Rattle.nlroute_ffi.specs.declared.refusal.Refusal.TheVariants.{NoRoom};
 
 use crate::refusal::{Refusal, refused_by};
 use netlink_packet_route::link::padded;
-use netlink_packet_route::{
-    Family, count_values, is_canonical, rewrite_streaming, rewrite_to_slice,
-};
+use netlink_packet_route::{Family, count_values, rewrite_streaming, rewrite_to_slice};
 use std::alloc::Global;
 
 /// Counts the values of a list.
@@ -27,13 +24,6 @@ pub(crate) fn count(family: Family, bytes: &[u8]) -> Result<usize, Refusal>
         Ok(count) => Ok(count),
         Err(_) => Err(Refusal::Fault),
     }
-}
-
-/// Returns 1 if the list is canonical, and 0 otherwise.
-pub(crate) fn judge(family: Family, bytes: &[u8]) -> usize
-    ensures { (result ≤ 1) × ((result ≡ 1) ↔ Canonical (table_of family) bytes.now) }
-{
-    if is_canonical(family, bytes) { 1 } else { 0 }
 }
 
 /// Re-encodes a list into `out`. Returns the number of bytes written; the rest of `out` is unchanged.
