@@ -166,7 +166,7 @@ def try_lines(refuser):
         (["nlroute", "tap", "dsa"], b"", printed("usage: nlroute FAMILY\n", 2), 0),
         (["nlroute", "dsa"], folder, printed("read fault\n", 5), 0),
         (["nlshow", "dsa"], b"", unknown, 15),
-        (["nlshow", "--version"], b"", printed("nlshow 0.2.0\n", 0), 8),
+        (["nlshow", "--version"], b"", printed("nlshow 0.3.0\n", 0), 8),
     ):
         yield " ".join(words), refuser.refuse_each(words, given, answer, NO_MEMORY, arguments(words) + others)
     os.close(folder)

@@ -10,21 +10,11 @@
 //! White space separates the words. Blank lines, and lines that begin with `#`, are ignored.
 #![tactic(auto)]
 
-mod arguments;
-mod asking;
-mod held;
-mod lists;
-mod messages;
-mod plain;
-mod replies;
-mod running;
-mod showing;
 #[cfg(test)]
 mod tests;
-mod verdicts;
 
-use arguments::{Request, parse, wrong};
 use program::{collect_arguments, print, print_no_memory, unbuffered};
+use show_lines::{Request, parse, run, wrong};
 use std::alloc::AllocError;
 use std::io;
 use std::io::BufWriter;
@@ -35,7 +25,7 @@ fn main(rt: HostRuntime) -> ExitCode {
     let mut plain = unbuffered(rt.alloc(), io::writer(&rt));
     let status = match request(&rt) {
         Ok(Request::Run(options)) => match BufWriter::new(rt.alloc(), io::writer(&rt)) {
-            Ok(mut writer) => running::run(rt.alloc(), options, &mut rt.reader(), &mut writer),
+            Ok(mut writer) => run(rt.alloc(), options, &mut rt.reader(), &mut writer),
             Err(_) => print_no_memory(&mut plain),
         },
         Ok(Request::Print(reply)) => print(&mut plain, reply.text(), reply.status()),

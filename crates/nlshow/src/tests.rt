@@ -1,14 +1,13 @@
 //! Tests of what no contract covers: that allocations succeed, and readers and writers that fail or transfer few bytes
-//! at a time. Also tests of `link_messages` and `uses`, which have none of their own, since a crate with tests is proved
-//! twice.
+//! at a time. Also tests of `show_lines`, `link_messages` and `uses`, which have none of their own, since a crate with tests
+//! is proved twice.
 
 mod arguments;
 mod callers;
 mod replies;
 mod walks;
 
-use crate::arguments::{Format, Options};
-use crate::running::run;
+use show_lines::{Format, Options, run};
 use std::alloc::Global;
 use std::io;
 use std::io::{BufWriter, Read, Write};

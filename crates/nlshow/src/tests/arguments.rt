@@ -1,7 +1,6 @@
 //! Tests of the texts that `parse` returns, and that its allocations succeed.
 
-use crate::arguments::{Format, Options, Request, parse};
-use crate::replies::{Reply, USAGE};
+use show_lines::{Format, Options, Reply, Request, USAGE, parse};
 use std::alloc::Global;
 use std::process::Abort;
 

@@ -1,0 +1,118 @@
+-- What is on the lines of the output, in the plain form: lines of the input, and printable ASCII.
+use Rattle.std.proofs.Common.{◌≡◌, ◌⊎◌, ℕ, suc, ◌<◌, slice_index, Bool, true, List, [], ◌∷◌, ◌++◌, Option, Result, Ok, Err, refl, sym, ap₂, subst, ◌∙◌, inl, inr, codes, arith}
+use Rattle.std.specs.List.{flat_map, AllZip, AllByRecursion}
+use Rattle.std.proofs.KnownBytes.{Appends-kept}
+use Rattle.std.proofs.lemmas.List.{append-nil}
+use Rattle.std.proofs.lemmas.Grind.{flat_map-append}
+use Rattle.hex.specs.Hex.{decode_of}
+use Rattle.hex.specs.declared.error.FromHexError.{FromHexError}
+use Rattle.hex.proofs.HexLemmas.{decode_of-ok}
+use Rattle.netlink_packet_route.specs.Family.{table_of}
+use Rattle.netlink_packet_route.specs.HexText.{digits_of}
+use Rattle.netlink_packet_route.specs.Number.{IsBytes}
+use Rattle.netlink_packet_route.specs.Report.{line}
+use Rattle.link_show.specs.Printable.{IsText, AreTexts}
+use Rattle.link_show.proofs.Printing.{text as is_text, none}
+use Rattle.link_show.proofs.LinePrinting.{line_end, line_texts, verdict_texts, checked_texts}
+use Rattle.link_show.proofs.MessagePrinting.{family_has_texts, messages_texts}
+use Rattle.show_lines.specs.declared.asking.Asked.{Asked}
+use Rattle.show_lines.specs.declared.asking.Asked.TheVariants.{Messages, Attributes, Verdict}
+use Rattle.show_lines.specs.declared.arguments.Options.{Options}
+use Rattle.show_lines.specs.declared.arguments.Format.TheVariants.{Plain}
+use Rattle.show_lines.specs.Show.{ShowsPlain, ShowsAs, ShowsDigits, ShowsBelow, Known, Unknown, Shows, TooLong, PassedOver, Answered, ShowsAll}
+use Rattle.show_lines.specs.Run.{Runs}
+use Rattle.program.specs.Printing.{FlushesOrFails}
+use Rattle.show_lines.specs.Printed.{AreLinesFrom, IsOneOf, Repeats, Prints}
+
+-- ---- lines from somewhere
+
+made_none : (from : List ℕ → Type 0) → AreLinesFrom from []
+made_none from = record { lines = []; each = tt; cut = refl }
+
+each_append : (P : List ℕ → Type 0) (xs ys : List (List ℕ)) → AllByRecursion P xs → AllByRecursion P ys → AllByRecursion P (xs ++ ys)
+each_append P [] ys h k = k
+each_append P (x ∷ xs) ys h k = (h.0, each_append P xs ys h.1 k)
+
+made_and : (from : List ℕ → Type 0) (s t : List ℕ) → AreLinesFrom from s → AreLinesFrom from t → AreLinesFrom from (s ++ t)
+made_and from s t h k = record {
+  lines = h.lines ++ k.lines;
+  each = each_append (λ l. IsText l ⊎ from l) h.lines k.lines h.each k.each;
+  cut = ap₂ (λ a b. a ++ b) h.cut k.cut ∙ sym (flat_map-append line h.lines k.lines);
+}
+
+each_wider : (from to : List ℕ → Type 0) (lines : List (List ℕ)) → ((l : List ℕ) → from l → to l) → AllByRecursion (λ l. IsText l ⊎ from l) lines → AllByRecursion (λ l. IsText l ⊎ to l) lines
+each_wider from to [] f h = tt
+each_wider from to (l ∷ lines) f (inl h, k) = (inl h, each_wider from to lines f k)
+each_wider from to (l ∷ lines) f (inr h, k) = (inr (f l h), each_wider from to lines f k)
+
+made_wider : (from to : List ℕ → Type 0) (out : List ℕ) → ((l : List ℕ) → from l → to l) → AreLinesFrom from out → AreLinesFrom to out
+made_wider from to out f h = record { lines = h.lines; each = each_wider from to h.lines f h.each; cut = h.cut }
+
+each_text : (from : List ℕ → Type 0) (lines : List (List ℕ)) → AllByRecursion IsText lines → AllByRecursion (λ l. IsText l ⊎ from l) lines
+each_text from [] h = tt
+each_text from (l ∷ lines) h = (inl h.0, each_text from lines h.1)
+
+made_texts : (from : List ℕ → Type 0) (out : List ℕ) → AreTexts out → AreLinesFrom from out
+made_texts from out h = record { lines = h.lines; each = each_text from h.lines h.each; cut = h.cut }
+
+made_line : (from : List ℕ → Type 0) (l : List ℕ) → from l → AreLinesFrom from (line l)
+made_line from l h = record { lines = l ∷ []; each = (inr h, tt); cut = sym (append-nil (line l)) }
+
+-- ---- what follows a line
+
+index_bytes : (bytes : List ℕ) → ((i : ℕ) → slice_index bytes i < 256) → IsBytes bytes
+index_bytes [] h = tt
+index_bytes (b ∷ bytes) h = (h 0, index_bytes bytes (λ i. h (suc i)))
+
+asked_texts : (check : Bool) (asked : Asked) (s out : List ℕ) (well : Bool) → IsBytes s → ShowsPlain check asked s out well → AreTexts out
+asked_texts check Messages s out well h shown = messages_texts check s out well h shown
+asked_texts check (Attributes family) s out well h shown = checked_texts (codes "  ") (is_text refl) check 0 (table_of family) s out well (family_has_texts family) h shown
+asked_texts check (Verdict family) s out well h shown = verdict_texts [] none true 0 (table_of family) s out well shown
+
+digits_texts : (check : Bool) (asked : Asked) (digits : List ℕ) (r : Result (List ℕ) FromHexError) (out : List ℕ) (well : Bool) → decode_of digits ≡ r → ShowsDigits (ShowsPlain check) asked r out well → AreTexts out
+digits_texts check asked digits (Ok s) out well e shown = asked_texts check asked s out well (index_bytes s (decode_of-ok digits s e).3) shown
+digits_texts check asked digits (Err error) out well e (is, bad) = subst AreTexts (sym is) (line_texts (line_end {t = codes "bad hex"} (is_text refl)))
+
+below_texts : (check : Bool) (text out : List ℕ) (well : Bool) → ShowsBelow (ShowsPlain check) text out well → AreTexts out
+below_texts check text out well (Known asked rest asks shown) = digits_texts check asked (digits_of rest) (decode_of (digits_of rest)) out well refl shown
+below_texts check text out well (Unknown asks is bad) = subst AreTexts (sym is) (line_texts (line_end {t = codes "no such family"} (is_text refl)))
+
+-- ---- a line, and all lines
+
+module _ (options : Options) (plain : options.format ≡ Plain) where
+  line_made : (text out : List ℕ) (well : Bool) → Shows options text out well → AreLinesFrom (λ l. l ≡ text) out
+  line_made text out well (TooLong long is bad) = subst (AreLinesFrom (λ l. l ≡ text)) (sym is) (made_texts (λ l. l ≡ text) (line (codes "input too long")) (line_texts (line_end {t = codes "input too long"} (is_text refl))))
+  line_made text out well (PassedOver short over is good) = subst (AreLinesFrom (λ l. l ≡ text)) (sym is) (made_none (λ l. l ≡ text))
+  line_made text out well (Answered short over below shown is) =
+      let now = subst (λ format. ShowsBelow (ShowsAs format options.check) text below well) plain shown in
+      subst (AreLinesFrom (λ l. l ≡ text)) (sym is) (
+      made_and (λ l. l ≡ text) (line text) below (made_line (λ l. l ≡ text) text refl) (made_texts (λ l. l ≡ text) below (below_texts options.check text below well now))
+      )
+
+  answers_made : (xs : List (List ℕ)) (answers : List (List ℕ × Bool)) → AllZip (λ x a. Shows options x a.0 a.1) xs answers → AreLinesFrom (IsOneOf xs) (flat_map (λ a. a.0) answers)
+  answers_made [] [] h = made_none (IsOneOf [])
+  answers_made [] (a ∷ answers) h = absurd h
+  answers_made (x ∷ xs) [] h = absurd h
+  answers_made (x ∷ xs) (a ∷ answers) h =
+      made_and (IsOneOf (x ∷ xs)) a.0 (flat_map (λ b. b.0) answers) (made_wider (λ l. l ≡ x) (IsOneOf (x ∷ xs)) a.0 (λ l e. inl e) (line_made x a.0 a.1 h.0))
+      (made_wider (IsOneOf xs) (IsOneOf (x ∷ xs)) (flat_map (λ b. b.0) answers) (λ l e. inr e) (answers_made xs answers h.1))
+
+  all_repeats : (text out : List ℕ) (whole : Bool) → ShowsAll options text out whole → Repeats text out
+  all_repeats text out whole s = record {
+    input = s.lines;
+    cut = s.cut;
+    made = subst (AreLinesFrom (IsOneOf s.lines)) (sym s.shown.joined) (answers_made s.lines s.shown.answers s.shown.each);
+  }
+
+-- what a run printed, whose buffer was flushed at the end
+pub finished_prints : (options : Options) (left_before left_after held_before held_mid held_after : Option (List ℕ)) (status result : ℕ) (whole : Bool) → options.format ≡ Plain
+    → Runs options left_before left_after held_before held_mid whole → FlushesOrFails held_mid held_after status result → result < 2 → Prints left_before left_after held_before held_after
+finished_prints options left_before left_after held_before held_mid held_after status result whole plain r (inl (e, kept)) low = record {
+  text = r.text;
+  out = r.out;
+  read = r.read;
+  end = r.end;
+  written = Appends-kept held_before held_mid held_after r.out r.written kept;
+  lines = all_repeats options plain r.text r.out whole r.shows;
+}
+finished_prints options left_before left_after held_before held_mid held_after status result whole plain r (inr five) low = absurd (omega (arith, five, low))

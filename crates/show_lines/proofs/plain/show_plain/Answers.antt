@@ -1,0 +1,37 @@
+use Rattle.std.proofs.Common.{◌≡◌, ◌++◌, false, refl, sym, subst, codes}
+use Rattle.std.specs.Io.KnownBytes.{Appends}
+use Rattle.netlink_packet_route.specs.Report.{line}
+use Rattle.show_lines.specs.Show.{ShowsPlain, ShowsDigits, Known, Unknown}
+use Rattle.show_lines.specs.Progress.{WritesBelow}
+use Rattle.link_show.proofs.MessageLines.{if_ok}
+use Rattle.show_lines.proofs.Cuts.{bad_digits}
+use Rattle.show_lines.proofs.plain.show_plain.Goals as goal
+
+pub returns-in-None-clause-shown : goal.returns-in-None-clause-shown
+returns-in-None-clause-shown g c =
+    let text = c.args.text.now in
+    let old = g.W.Write.contents c.args.writer.now in
+    let new = g.W.Write.contents c.refuse.new.writer in
+    if_ok (λ well. Appends old new (line text ++ line (codes "no such family")) × (well ≡ false)) (WritesBelow (ShowsPlain c.args.check) text old new) c.refuse.result
+    (λ well h. (line (codes "no such family"), Unknown c.in-None.ensures refl h.1, h.0)) c.refuse.ensures.shown
+
+pub returns-in-Ok-write_answer-clause-shown : goal.returns-in-Ok-write_answer-clause-shown
+returns-in-Ok-write_answer-clause-shown g c =
+    let form = ShowsPlain c.args.check in
+    let asked = c.in-Some.found.0 in
+    let well = c.in-Ok-write_answer.well in
+    let (below, shown, written) = c.in-Ok-write_answer.ensures in
+    let said = subst (λ s. form asked s below well) c.deref.ensures.value shown in
+    (below, Known asked c.in-Some.found.1.now c.in-Some.ensures (subst (λ r. ShowsDigits form asked r below well) (sym c.in-Ok.ensures) said), written)
+
+pub returns-clause-shown : goal.returns-clause-shown
+returns-clause-shown g c =
+    let text = c.args.text.now in
+    let form = ShowsPlain c.args.check in
+    let asked = c.in-Some.found.0 in
+    let old = g.W.Write.contents c.args.writer.now in
+    let new = g.W.Write.contents c.refuse-in-Err-BadHex.new.writer in
+    let below = line (codes "bad hex") in
+    let bad = rw c.in-Err-BadHex.field-0-is at c.in-Err-BadHex.ensures in
+    if_ok (λ well. Appends old new (line text ++ below) × (well ≡ false)) (WritesBelow form text old new) c.refuse-in-Err-BadHex.result
+    (λ well h. (below, Known asked c.in-Some.found.1.now c.in-Some.ensures (bad_digits form asked _ below well bad refl h.1), h.0)) c.refuse-in-Err-BadHex.ensures.shown

@@ -1,0 +1,33 @@
+-- What is on the lines of the output, in the plain form.
+use Rattle.std.specs.Prelude.{◌≡◌, ◌⊎◌, ℕ, List, [], ◌∷◌, Option}
+use Rattle.std.specs.List.{flat_map, AllByRecursion}
+use Rattle.std.specs.Io.KnownBytes.{Appends, Consumes, IsAtEnd}
+use Rattle.netlink_packet_route.specs.Report.{line}
+use Rattle.link_show.specs.Printable.{IsText}
+use Rattle.show_lines.specs.Show.{AreLines}
+
+-- complete lines, each printable ASCII or from somewhere
+pub record AreLinesFrom (from : List ℕ → Type 0) (out : List ℕ) : Type 0 where
+  pub lines : List (List ℕ)
+  pub each : AllByRecursion (λ l. IsText l ⊎ from l) lines
+  pub cut : out ≡ flat_map line lines
+
+-- l is one of these lines
+abbrev pub IsOneOf : List (List ℕ) → List ℕ → Type 0
+IsOneOf [] l = ⊥
+IsOneOf (m ∷ lines) l = (l ≡ m) ⊎ IsOneOf lines l
+
+-- complete lines, each printable ASCII or a line of the text
+pub record Repeats (text out : List ℕ) : Type 0 where
+  pub input : List (List ℕ)
+  pub cut : AreLines text input
+  pub made : AreLinesFrom (IsOneOf input) out
+
+-- the rest of the reader was read up to its end, and every line that was written is printable ASCII or a line of it
+pub record Prints (left_before left_after held_before held_after : Option (List ℕ)) : Type 0 where
+  pub text : List ℕ
+  pub out : List ℕ
+  pub read : Consumes left_before left_after text
+  pub end : IsAtEnd left_after
+  pub written : Appends held_before held_after out
+  pub lines : Repeats text out

@@ -1,0 +1,129 @@
+-- The output for a line, and for an input of several lines.
+use Rattle.std.specs.Prelude.{◌≡◌, ◌≢◌, ◌⊎◌, ℕ, ◌<◌, ◌≤◌, Bool, true, false, List, [], ◌∷◌, ◌++◌, length, Result, Ok, Err, codes}
+use Rattle.std.specs.List.{flat_map, AllByRecursion}
+use Rattle.hex.specs.Hex.{decode_of}
+use Rattle.hex.specs.declared.error.FromHexError.{FromHexError}
+use Rattle.netlink_packet_route.specs.declared.family.Family.{Family}
+use Rattle.netlink_packet_route.specs.Family.{family_name, table_of}
+use Rattle.netlink_packet_route.specs.HexText.{is_space, digits_of}
+use Rattle.netlink_packet_route.specs.Report.{line, most_text}
+use Rattle.show_lines.specs.declared.asking.Asked.{Asked}
+use Rattle.show_lines.specs.declared.asking.Asked.TheVariants.{Messages, Attributes, Verdict}
+use Rattle.show_lines.specs.List.{ShowsList}
+use Rattle.show_lines.specs.Messages.{ShowsMessages}
+use Rattle.show_lines.specs.declared.arguments.Options.{Options}
+use Rattle.show_lines.specs.declared.arguments.Format.{Format}
+use Rattle.show_lines.specs.declared.arguments.Format.TheVariants.{Plain, Debug}
+use Rattle.link_show.specs.List.{EachShown, ShowsVerdict, ShowsChecked}
+use Rattle.link_show.specs.Message as plain
+
+-- ---- a line
+
+-- only white space
+abbrev pub IsBlank : List ℕ → Type 0
+IsBlank text = AllByRecursion (λ b. is_space b ≡ true) text
+
+-- the first byte is `#`
+abbrev pub IsComment : List ℕ → Type 0
+IsComment [] = ⊥
+IsComment (b ∷ text) = b ≡ 35
+
+-- the line is a comment or blank, and therefore ignored
+abbrev pub IsPassedOver : List ℕ → Type 0
+IsPassedOver text = IsComment text ⊎ IsBlank text
+
+-- empty, or starts with white space
+abbrev pub IsApart : List ℕ → Type 0
+IsApart [] = Unit {0}
+IsApart (b ∷ text) = is_space b ≡ true
+
+-- what precedes the first white space, and the rest
+pub record IsCut (text word rest : List ℕ) : Type 0 where
+  pub whole : text ≡ word ++ rest
+  pub solid : AllByRecursion (λ b. is_space b ≡ false) word
+  pub apart : IsApart rest
+
+-- what follows the leading white space of a text
+pub record IsSolidFirst (text rest : List ℕ) : Type 0 where
+  pub space : List ℕ
+  pub whole : text ≡ space ++ rest
+  pub blank : IsBlank space
+  pub solid : (b : ℕ) (behind : List ℕ) → rest ≡ b ∷ behind → is_space b ≡ false
+
+-- the second word of a text whose first word is `check`, and the rest
+pub record IsChecked (text word rest : List ℕ) : Type 0 where
+  pub behind : List ℕ
+  pub second : List ℕ
+  pub first : IsCut text (codes "check") behind
+  pub apart : IsSolidFirst behind second
+  pub cut : IsCut second word rest
+
+-- the command at the start of a text, and the rest, which holds the digits
+abbrev pub Asks : List ℕ → Asked → List ℕ → Type 0
+Asks text Messages rest = IsCut text (codes "message") rest
+Asks text (Attributes family) rest = IsCut text (family_name family) rest
+Asks text (Verdict family) rest = IsChecked text (family_name family) rest
+
+-- the word is not the name of an attribute set
+abbrev pub IsNoFamily : List ℕ → Type 0
+IsNoFamily word = (family : Family) → word ≢ family_name family
+
+-- the text has no valid command: its first word is not one, or it is `check` and the second word is not a name
+pub data AsksNothing (text : List ℕ) : Type 0 where
+  First : (word rest : List ℕ) → IsCut text word rest → word ≢ codes "message" → word ≢ codes "check" → IsNoFamily word → AsksNothing text
+  Second : (word rest : List ℕ) → IsChecked text word rest → IsNoFamily word → AsksNothing text
+
+-- what is written for commands: for a command and its bytes, the output, and whether it is well
+abbrev pub Form : Type 1
+Form = Asked → List ℕ → List ℕ → Bool → Type 0
+
+-- as Rust's `Debug` prints values
+abbrev pub ShowsDebug : Form
+ShowsDebug Messages = ShowsMessages
+ShowsDebug (Attributes family) = ShowsList [] 0 (table_of family)
+ShowsDebug (Verdict family) = ShowsVerdict true [] 0 (table_of family)
+
+-- as people read values; `check` asks whether lists are canonical
+abbrev pub ShowsPlain : Bool → Form
+ShowsPlain check Messages = plain.ShowsMessages check
+ShowsPlain check (Attributes family) = ShowsChecked check (codes "  ") 0 (table_of family)
+ShowsPlain check (Verdict family) = ShowsVerdict true [] 0 (table_of family)
+
+-- by the option
+abbrev pub ShowsAs : Format → Bool → Form
+ShowsAs Debug check = ShowsDebug
+ShowsAs Plain check = ShowsPlain check
+
+-- the output for digits: the one for the bytes that they encode, or `bad hex` if they are not valid hex
+abbrev pub ShowsDigits : Form → Asked → Result (List ℕ) FromHexError → List ℕ → Bool → Type 0
+ShowsDigits form asked (Ok s) out read = form asked s out read
+ShowsDigits form asked (Err e) out read = (out ≡ line (codes "bad hex")) × (read ≡ false)
+
+-- the output that follows a line: the one of its command, or that it has no valid command
+pub data ShowsBelow (form : Form) (text out : List ℕ) (read : Bool) : Type 0 where
+  Known : (asked : Asked) (rest : List ℕ) → Asks text asked rest → ShowsDigits form asked (decode_of (digits_of rest)) out read → ShowsBelow form text out read
+  Unknown : AsksNothing text → out ≡ line (codes "no such family") → read ≡ false → ShowsBelow form text out read
+
+-- the output for a line, and whether the line has no error
+pub data Shows (options : Options) (text out : List ℕ) (read : Bool) : Type 0 where
+  TooLong : most_text < length text → out ≡ line (codes "input too long") → read ≡ false → Shows options text out read
+  PassedOver : length text ≤ most_text → IsPassedOver text → out ≡ [] → read ≡ true → Shows options text out read
+  Answered : length text ≤ most_text → ¬ IsPassedOver text → (below : List ℕ) → ShowsBelow (ShowsAs options.format options.check) text below read → out ≡ line text ++ below → Shows options text out read
+
+-- ---- a text
+
+-- no byte is LF
+abbrev pub IsUnbroken : List ℕ → Type 0
+IsUnbroken text = AllByRecursion (λ b. b ≢ 10) text
+
+-- the lines of a text: LF ends each, except that a non-empty last line may lack it
+pub data AreLines (text : List ℕ) (lines : List (List ℕ)) : Type 0 where
+  Ended : AllByRecursion IsUnbroken lines → text ≡ flat_map line lines → AreLines text lines
+  Open : (front : List (List ℕ)) (last : List ℕ) → AllByRecursion IsUnbroken front → IsUnbroken last → 0 < length last → lines ≡ front ++ last ∷ [] → text ≡ flat_map line front ++ last
+      → AreLines text lines
+
+-- the outputs for the lines of a text, in order, and whether no line has an error
+pub record ShowsAll (options : Options) (text out : List ℕ) (whole : Bool) : Type 0 where
+  pub lines : List (List ℕ)
+  pub cut : AreLines text lines
+  pub shown : EachShown (Shows options) lines out whole

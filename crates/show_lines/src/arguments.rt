@@ -1,0 +1,131 @@
+//! The command-line arguments.
+
+ghost use Rattle.std.specs.Prelude.{◌≡◌, ◌==◌, [], IfOk, map, drop, string_bytes};
+ghost use Rattle.std.specs.List.{before_first};
+ghost use Rattle.clap.specs.Words.{found_of, kind_of};
+ghost use Rattle.show_lines.specs.Arguments.{IsAnswer, IsWrong, default_options, intent};
+ghost use Rattle.show_lines.specs.declared.arguments.Request.TheVariants.{Run};
+ghost use Rattle.show_lines.specs.CommandLine.{Chosen, IsNlshow, Reports};
+
+use crate::replies::{Reply, USAGE, VERSION};
+use clap::error::ErrorKind;
+use clap::{Arg, ArgAction, ArgMatches, Command, Error};
+use std::alloc::{AllocError, Global};
+
+/// The values of `--format`.
+static FORMATS: [&str; 2] = ["plain", "debug"];
+
+/// How lists and messages are printed.
+#[derive(Clone, Copy, Debug, PartialEq, Eq)]
+pub enum Format {
+    /// As text for people.
+    Plain,
+    /// As the `Debug` output of the values.
+    Debug,
+}
+
+/// The options of a run.
+#[derive(Clone, Copy, Debug, PartialEq, Eq)]
+pub struct Options {
+    /// How lists and messages are printed.
+    pub format: Format,
+    /// Whether to report if each list is canonical.
+    pub check: bool,
+}
+
+/// What the command line asks for.
+#[derive(Debug, Drop)]
+pub enum Request {
+    /// A run with options.
+    Run(Options),
+    /// A text in place of a run.
+    Print(Reply),
+}
+
+/// Parses the command line: the program's name and the arguments.
+///
+/// # Errors
+///
+/// `AllocError` if an allocation fails.
+pub fn parse(alloc: Global, arguments: &Vec<String>) -> Result<Request, AllocError>
+    ensures answer { IfOk result (IsAnswer (intent (drop 1 (map string_bytes arguments.now.items)))) }
+    ensures alone { drop 1 arguments.now.items ≡ [] → IfOk result (λ request. request ≡ Run default_options) }
+{
+    match command(alloc)?.try_get_matches_from(arguments.as_slice()) {
+        Ok(matches) => Ok(Request::Run(chosen(&matches))),
+        Err(error) => reported(alloc, &error),
+    }
+}
+
+/// Returns the request for a wrong argument, which prints `line` and the usage line.
+///
+/// # Errors
+///
+/// `AllocError` if an allocation fails.
+pub fn wrong(alloc: Global, line: &str) -> Result<Request, AllocError>
+    ensures { IfOk result (IsWrong line.now) }
+{
+    let mut text = String::new(alloc);
+    text.push_str(line)?;
+    text.push('\n')?;
+    text.push_str(USAGE)?;
+    Ok(Request::Print(Reply::Wrong(text)))
+}
+
+/// Describes the command line. `clap` adds `--help` and `--version`, whose texts are those of `Reply`.
+fn command<'a>(alloc: Global) -> Result<Command<'a>, AllocError>
+    ensures { IfOk result IsNlshow }
+{
+    let format = Arg::new(alloc, "format")
+        .long("format")
+        .value_name("FORMAT")
+        .value_parser(FORMATS.as_slice())
+        .default_value("plain");
+    let check = Arg::new(alloc, "check")
+        .long("check")
+        .action(ArgAction::SetTrue);
+    Command::new(alloc, "nlshow")
+        .version(VERSION)
+        .arg(format)?
+        .arg(check)
+}
+
+/// Returns the options in `matches`.
+fn chosen(matches: &ArgMatches<'_>) -> Options
+    ensures { Chosen (found_of matches.now) result }
+{
+    let format = match matches.get_str("format") {
+        Some("debug") => Format::Debug,
+        _ => Format::Plain,
+    };
+    Options {
+        format,
+        check: matches.get_flag("check"),
+    }
+}
+
+/// Returns the request that `clap` reports as an error.
+#[tactic(auto, using(crate::proofs::FirstLine::unbroken_first))]
+fn reported(alloc: Global, error: &Error) -> Result<Request, AllocError>
+    ensures { IfOk result (Reports (kind_of error.now)) }
+{
+    match error.kind() {
+        ErrorKind::DisplayHelp => Ok(Request::Print(Reply::Help)),
+        ErrorKind::DisplayVersion => Ok(Request::Print(Reply::Version)),
+        ErrorKind::OutOfMemory => Err(AllocError),
+        _ => {
+            let text = format!(in alloc; "{error}")?;
+            wrong(alloc, first_line(text.as_str()))
+        }
+    }
+}
+
+/// Returns what precedes the first LF, or the whole text.
+fn first_line(text: &str) -> &str
+    ensures { result.now ≡ before_first (λ b. b == 10) text.now }
+{
+    match text.split_once('\n') {
+        Some((line, _)) => line,
+        None => text,
+    }
+}

@@ -1,0 +1,20 @@
+//! What the program `nlshow` does, on any reader and writer: what its arguments ask for, and what it prints for each line
+//! of its input.
+//!
+//! It is a library apart from the program, which has the tests: a crate with tests is proved twice.
+#![tactic(auto)]
+
+mod arguments;
+mod asking;
+mod held;
+mod lists;
+mod messages;
+mod plain;
+mod replies;
+mod running;
+mod showing;
+mod verdicts;
+
+pub use arguments::{Format, Options, Request, parse, wrong};
+pub use replies::{Reply, USAGE, VERSION};
+pub use running::run;

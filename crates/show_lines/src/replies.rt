@@ -1,0 +1,66 @@
+//! What is printed in place of a run.
+
+ghost use Rattle.std.specs.Prelude.{◌≡◌};
+ghost use Rattle.show_lines.specs.Arguments.{reply_status, reply_text};
+
+/// The usage line.
+pub const USAGE: &str = "usage: nlshow [--format plain|debug] [--check] | --help | --version\n";
+
+/// The help text.
+const HELP: &str = "\
+usage: nlshow [--format plain|debug] [--check] | --help | --version
+
+Prints the values of lists of link attributes, and of the lists in link messages.
+
+  --format plain  print text for people (default)
+  --format debug  print values as Rust's `Debug` does
+  --check         report whether each list is canonical
+  -h, --help      print this text
+  -V, --version   print the version
+
+Each line of standard input is one of
+  FAMILY HEX        the bytes of a list
+  check FAMILY HEX  the same; reports whether the list is canonical
+  message HEX       the bytes of messages
+FAMILY is af_spec_bridge, bond, bond_port, bridge, bridge_port, vlan, can, dsa, hsr or proto_bridge.
+White space separates the words. Blank lines, and lines that begin with #, are ignored.
+
+Status: 0 if every line is right, 1 if not, 2 for a wrong argument, 4 if an allocation fails, 5 if reading or writing fails.
+";
+
+/// The name and the version of the program.
+pub const VERSION: &str = "nlshow 0.3.0\n";
+
+/// What is printed in place of a run.
+#[derive(Debug, Drop)]
+pub enum Reply {
+    /// The help text.
+    Help,
+    /// The version.
+    Version,
+    /// What is wrong with the arguments. Contains a line about the error, and the usage line.
+    Wrong(String),
+}
+
+impl Reply {
+    /// Returns the text to print.
+    pub fn text(&self) -> &str
+        ensures { result.now ≡ reply_text self.now }
+    {
+        match self {
+            Reply::Help => HELP,
+            Reply::Version => VERSION,
+            Reply::Wrong(text) => text.as_str(),
+        }
+    }
+
+    /// Returns the exit status: 2 for a wrong argument, otherwise 0.
+    pub fn status(&self) -> u8
+        ensures { result ≡ reply_status self.now }
+    {
+        match self {
+            Reply::Help | Reply::Version => 0,
+            Reply::Wrong(_) => 2,
+        }
+    }
+}

@@ -1,0 +1,182 @@
+//! Runs the program on any reader and writer.
+
+ghost use Rattle.std.specs.Prelude.{◌≡◌, ◌⊎◌, ◌<◌, ◌++◌, [], IfOk, MatchOption};
+ghost use Rattle.std.specs.Io.Buffered.{writer_buffer, writer_contents, writer_inner};
+ghost use Rattle.std.specs.Io.KnownBytes.{Keeps};
+ghost use Rattle.netlink_packet_route.specs.Report.{line};
+ghost use Rattle.show_lines.specs.Show.{IsUnbroken};
+ghost use Rattle.show_lines.specs.Progress.{held_of, Grows, WritesLine, WritesPiece, WritesRest, OnMemory};
+ghost use Rattle.show_lines.specs.Run.{RunsFor, Runs, EndsWith};
+ghost use Rattle.show_lines.specs.Printed.{Prints};
+ghost use Rattle.show_lines.specs.declared.arguments.Format.TheVariants.{Plain};
+ghost use Rattle.program.specs.Printing.{no_memory_line};
+
+use crate::arguments::Options;
+use crate::held::Held;
+use crate::showing::show;
+use program::{finish, print_no_memory, print_read_fault};
+use std::alloc::{AllocError, Global};
+use std::io::{BufWriter, Read, Write};
+
+/// The maximum number of bytes of one read.
+const CHUNK: usize = 65_536;
+
+/// Why a run stopped.
+#[derive(Debug, Drop)]
+pub(crate) enum Stop {
+    Memory,
+    Reader,
+    Writer,
+}
+
+/// Reads lines up to the end of `reader`, writes the output for each and flushes it. Returns the exit status:
+///
+/// - 0 if no line has an error: all lists and messages decode, and all lists after `check` are canonical;
+/// - 1 if a line has an error;
+/// - 4 if an allocation fails;
+/// - 5 if the reader or the writer fails.
+pub fn run<R: Read, W: Write + Drop>(
+    alloc: Global,
+    options: Options,
+    reader: &mut R,
+    writer: &mut BufWriter<W>,
+) -> u8
+    ensures report { result < 2 → RunsFor options (R.remaining reader.old) (R.remaining reader.new)
+        (writer_contents W.contents writer.old) (W.contents (writer_inner writer.new)) result }
+    // In the plain form, every line that is written is printable ASCII or a line of the input.
+    ensures printable { result < 2 → options.format ≡ Plain → Prints (R.remaining reader.old) (R.remaining reader.new)
+        (writer_contents W.contents writer.old) (W.contents (writer_inner writer.new)) }
+    // The line `no memory` is the last of the output.
+    ensures memory { result ≡ 4 → EndsWith (writer_contents W.contents writer.old)
+        (W.contents (writer_inner writer.new)) no_memory_line }
+    // Nothing is left in the buffer.
+    ensures empty { result < 5 → writer_buffer writer.new ≡ [] }
+    ensures known { (result < 2) ⊎ ((result ≡ 4) ⊎ (result ≡ 5)) }
+{
+    match show_all(alloc, options, reader, writer) {
+        Ok(true) => finish(writer, 0),
+        Ok(false) => finish(writer, 1),
+        Err(Stop::Memory) => print_no_memory(writer),
+        Err(Stop::Reader) => print_read_fault(writer),
+        Err(Stop::Writer) => 5,
+    }
+}
+
+/// Processes all lines of `reader`; the last one may lack its LF. Returns whether no line has an error.
+fn show_all<R: Read, W: Write>(
+    alloc: Global,
+    options: Options,
+    reader: &mut R,
+    writer: &mut W,
+) -> Result<bool, Stop>
+    ensures shown { IfOk result (Runs options (R.remaining reader.old) (R.remaining reader.new)
+        (W.contents writer.old) (W.contents writer.new)) }
+    ensures memory { OnMemory result (Grows (W.contents writer.old) (W.contents writer.new)) }
+{
+    let mut buffer = match vec![in alloc; 0u8; CHUNK] {
+        Ok(buffer) => buffer,
+        Err(_) => return Err(Stop::Memory),
+    };
+    let chunk = buffer.as_mut_slice();
+    let mut held = Held::new(alloc);
+    let mut whole = true;
+    for _ in 0..u64::MAX {
+        let count = match reader.read(chunk) {
+            Ok(0) => return end_text(alloc, options, &held, whole, writer),
+            Ok(count) => count,
+            Err(_) => return Err(Stop::Reader),
+        };
+        let (front, _) = chunk.split_at(count);
+        match feed(alloc, options, &mut held, front, writer) {
+            Ok(read) => whole &= read,
+            Err(stop) => return Err(stop),
+        }
+    }
+    Err(Stop::Reader)
+}
+
+/// Processes the lines that end in `chunk`, and keeps what follows its last LF. Returns whether none of these lines has
+/// an error.
+fn feed<W: Write>(
+    alloc: Global,
+    options: Options,
+    held: &mut Held,
+    chunk: &[u8],
+    writer: &mut W,
+) -> Result<bool, Stop>
+    ensures shown { IfOk result (WritesPiece options held.old held.new chunk.now
+        (W.contents writer.old) (W.contents writer.new)) }
+    ensures memory { OnMemory result (Grows (W.contents writer.old) (W.contents writer.new)) }
+{
+    let mut whole = true;
+    let mut rest = chunk;
+    while let Some((piece, after)) = split_line(rest) {
+        match end_line(alloc, options, held, piece, writer) {
+            Ok(read) => whole &= read,
+            Err(stop) => return Err(stop),
+        }
+        rest = after;
+    }
+    match held.add(rest) {
+        Ok(()) => {}
+        Err(_) => return Err(Stop::Memory),
+    }
+    match writer.flush() {
+        Ok(()) => Ok(whole),
+        Err(_) => Err(Stop::Writer),
+    }
+}
+
+/// Splits `bytes` at the first LF. Returns what precedes and what follows it, or `None` if there is no LF.
+fn split_line(bytes: &[u8]) -> Option<(&[u8], &[u8])>
+    ensures { MatchOption result (IsUnbroken bytes.now)
+        (λ parts. IsUnbroken parts.0.now × (bytes.now ≡ line parts.0.now ++ parts.1.now)) }
+{
+    let end = bytes.iter().position(|b| *b == b'\n')?;
+    let (line, rest) = bytes.split_at(end);
+    let (_, after) = rest.split_at(1);
+    Some((line, after))
+}
+
+/// Processes the line that ends with `piece`.
+fn end_line<W: Write>(
+    alloc: Global,
+    options: Options,
+    held: &mut Held,
+    piece: &[u8],
+    writer: &mut W,
+) -> Result<bool, Stop>
+    ensures shown { IfOk result (WritesLine options (held_of (held.old ++ piece.now))
+        (W.contents writer.old) (W.contents writer.new)) }
+    ensures forgotten { IfOk result (λ _. held.new ≡ []) }
+    ensures memory { OnMemory result (Keeps (W.contents writer.old) (W.contents writer.new)) }
+{
+    match held.add(piece) {
+        Ok(()) => {}
+        Err(_) => return Err(Stop::Memory),
+    }
+    let read = show(alloc, options, held.bytes(), writer);
+    held.clear();
+    read
+}
+
+/// Processes the last line, if it lacks its LF. Returns whether neither this line nor an earlier one has an error.
+fn end_text<W: Write>(
+    alloc: Global,
+    options: Options,
+    held: &Held,
+    whole: bool,
+    writer: &mut W,
+) -> Result<bool, Stop>
+    ensures shown { IfOk result (WritesRest options held.now whole (W.contents writer.old) (W.contents writer.new)) }
+    ensures memory { OnMemory result (Keeps (W.contents writer.old) (W.contents writer.new)) }
+{
+    let text = held.bytes();
+    if text.is_empty() {
+        return Ok(whole);
+    }
+    match show(alloc, options, text, writer) {
+        Ok(read) => Ok(whole & read),
+        Err(stop) => Err(stop),
+    }
+}
