@@ -20,9 +20,10 @@ mod texts;
 mod values;
 mod views;
 
+use crate::{decodes_to, encodes_to, fails_with, limits_digits};
 use netlink_packet_route::hex_text;
 use netlink_packet_route::link::{
-    Attribute, DecodeError, DecodeFault, ListError, NlaBuffer, TryClone, read_list, write_list,
+    Attribute, DecodeError, DecodeFault, ListFault, NlaBuffer, TryClone,
 };
 use std::alloc::Global;
 use std::process::Abort;
@@ -37,14 +38,9 @@ fn bytes(rt: &impl Abort, alloc: Global, digits: &str) -> Vec<u8> {
     hex_text::decode(alloc, digits.as_bytes()).expect(rt, digits)
 }
 
-/// Returns the hex digits of a header, of the name field of a CAN controller, and of eight `u32`s that are zero.
+/// Returns the digits of `limits_digits`.
 fn can_limits(rt: &impl Abort, alloc: Global, header: &str, field: &str) -> String {
-    let mut digits = String::from_str(alloc, header).expect(rt, field);
-    digits.push_str(field).expect(rt, field);
-    for _ in 0..8 {
-        digits.push_str("00000000").expect(rt, field);
-    }
-    digits
+    limits_digits(alloc, header, field).expect(rt, field)
 }
 
 /// Returns a vector of these items.
@@ -59,9 +55,13 @@ fn reads_as<F: Attribute + TryClone>(rt: &impl Abort, alloc: Global, digits: &st
     let frame = NlaBuffer::new_checked(&bytes).expect(rt, digits);
     let value = F::parse(alloc, &frame).expect(rt, digits);
     let copy = value.try_clone(alloc).expect(rt, digits);
-    let values: Vec<F> = read_list(alloc, &bytes).expect(rt, digits);
-    let is_one = values.len() == 1 && values[0] == wanted;
-    holds(rt, value == wanted && copy == wanted && is_one, digits);
+    let wanted = [wanted];
+    let is_one = decodes_to(alloc, &bytes, &wanted);
+    holds(
+        rt,
+        value == wanted[0] && copy == wanted[0] && is_one,
+        digits,
+    );
 }
 
 /// Asserts that the value is encoded as these bytes, in a list and alone, whatever the buffer held, and that nothing is
@@ -71,10 +71,7 @@ fn is_written<F: Attribute>(rt: &impl Abort, alloc: Global, digits: &str, value:
     let mut buffer = [0xFF; 100];
     assert!(rt; value.fits() && value.buffer_len() <= 100);
     value.emit(&mut buffer);
-    let mut values = Vec::new(alloc);
-    let is_held = values.push(value).is_ok();
-    let out = write_list(alloc, &values).expect(rt, digits);
-    holds(rt, is_held && out == wanted, digits);
+    holds(rt, encodes_to(alloc, &[value], &wanted), digits);
     wanted.resize(100, 0xFF).expect(rt, digits);
     holds(rt, buffer.as_slice() == wanted.as_slice(), digits);
 }
@@ -92,11 +89,10 @@ fn are_refused<F: Attribute>(rt: &impl Abort, alloc: Global, rows: &[(&str, Deco
         let bytes = bytes(rt, alloc, digits);
         let frame = NlaBuffer::new_checked(&bytes).expect(rt, digits);
         let alone = F::parse(alloc, &frame) == Err(DecodeError::Fault(*fault));
-        let values: Result<Vec<F>, ListError> = read_list(alloc, &bytes);
-        let wanted = ListError::Fault {
+        let wanted = ListFault {
             at: 0,
             fault: *fault,
         };
-        holds(rt, alone && values == Err(wanted), digits);
+        holds(rt, alone && fails_with::<F>(alloc, &bytes, wanted), digits);
     }
 }

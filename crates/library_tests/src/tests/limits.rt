@@ -1,6 +1,7 @@
 //! Tests payloads of the maximum length, and values that do not fit.
 
 use crate::tests::{bytes, holds, list};
+use crate::with_zeros;
 use netlink_packet_route::link::{
     AfSpecBridge, Attribute, BridgeVlanInfo, BridgeVlanInfoFlags, DefaultNla, InfoBond, InfoCan,
     InfoVlan, Nla, VlanQosMapping, WriteError, emit_list, list_fits, list_len, read_list,
@@ -152,23 +153,14 @@ fn one_number_more(rt: HostRuntime) {
     is_too_long(&rt, alloc, many_rates(&rt, alloc, 16383), 65532);
 }
 
-/// Returns the digits, followed by those of `count` zero bytes.
-fn with_zeros(rt: &impl Abort, alloc: Global, digits: &str, count: usize) -> Vec<u8> {
-    let mut text = digits.as_bytes().to_vec(alloc).expect(rt, digits);
-    for _ in 0..count {
-        text.extend_from_slice(b"00").expect(rt, digits);
-    }
-    text
-}
-
 /// Asserts the report for an input that ends with zero bytes: the line of one value, and an output that starts with
 /// these digits and ends with this number of zero bytes.
-fn is_written_out(rt: &impl Abort, alloc: Global, input: (&str, usize), out: (&str, usize, &str)) {
+fn is_written_out(rt: &impl Abort, alloc: Global, input: (&str, u16), out: (&str, u16, &str)) {
     let (digits, count) = input;
     let (lines, zeros, verdict) = out;
-    let text = with_zeros(rt, alloc, digits, count);
+    let text = with_zeros(alloc, digits, count).expect(rt, digits);
     let (shown, status) = report(alloc, Family::Vlan, &text).expect(rt, digits);
-    let mut wanted = with_zeros(rt, alloc, lines, zeros);
+    let mut wanted = with_zeros(alloc, lines, zeros).expect(rt, digits);
     wanted
         .extend_from_slice(verdict.as_bytes())
         .expect(rt, digits);
@@ -194,15 +186,9 @@ fn reports_of_the_longest_payloads(rt: HostRuntime) {
 }
 
 /// Asserts the report for digits, followed by zero bytes and more digits.
-fn long_list_is(
-    rt: &impl Abort,
-    alloc: Global,
-    list: (&str, usize, &str),
-    wanted: &str,
-    status: u8,
-) {
+fn long_list_is(rt: &impl Abort, alloc: Global, list: (&str, u16, &str), wanted: &str, status: u8) {
     let (digits, count, behind) = list;
-    let mut text = with_zeros(rt, alloc, digits, count);
+    let mut text = with_zeros(alloc, digits, count).expect(rt, digits);
     text.extend_from_slice(behind.as_bytes()).expect(rt, wanted);
     let (out, answer) = report(alloc, Family::Vlan, &text).expect(rt, wanted);
     holds(rt, out.as_str() == wanted && answer == status, wanted);
