@@ -381,8 +381,10 @@ class Trial:
         with self.lock:
             self.spare.append(folder)
 
-    def check(self, texts, only):
-        """Checks the crate with these texts in the place of its own, or only these of its functions and modules."""
+    def check(self, texts, only, spare=1):
+        """Checks the crate with these texts in the place of its own, or only these of its functions and modules. The first
+        check has all to do, and for others to wait for it: it gets the processors that nothing else takes."""
+        jobs = 1 if self.has_first or os.path.isdir(self.first) else spare
         with tempfile.TemporaryDirectory(prefix="check-", dir=self.room) as copy, self.kept() as kept:
             for part in PARTS:
                 if os.path.isdir(f"{self.crate.folder}/{part}"):
@@ -391,7 +393,7 @@ class Trial:
                 os.makedirs(os.path.dirname(f"{copy}/{path}"), exist_ok=True)
                 with open(f"{copy}/{path}", "w", encoding="utf-8") as file:
                     file.write(text)
-            words = ["check", *self.crate.words(), "--incremental", kept, "--jobs", "1"]
+            words = ["check", *self.crate.words(), "--incremental", kept, "--jobs", str(jobs)]
             while True:
                 looks = [it for path in only for it in ("--only", path)]
                 status, said, seconds, peak = self.run([*words, *looks], copy)
@@ -413,8 +415,8 @@ class Trial:
         return max((it for it in modules if it and path.startswith(f"{it}::")), key=len, default="")
 
     def tasks(self):
-        """Its first tasks. A task is a number of lines and a call, which answers further tasks. One check of several goes
-        before the others, which begin with what it kept."""
+        """Its first tasks. A task is a number of lines and a call, which gets a number of processors and answers further
+        tasks. One check of several goes before the others, which begin with what it kept."""
         self.started = time.time()
         for it in self.mutants:
             if not it.seats:
@@ -422,7 +424,7 @@ class Trial:
         tasks = self.further([it for it in self.mutants if it.seats], [it for it in self.mutants if not it.seats])
         if os.path.isdir(self.first) or len(tasks) < 2:
             return tasks
-        return [(tasks[0][0], lambda: [*tasks[0][1](), *tasks[1:]])]
+        return [(tasks[0][0], lambda spare: [*tasks[0][1](spare), *tasks[1:]])]
 
     def further(self, together, alone):
         """The tasks of mutants that are tried together, and of those that are tried alone, the longest first."""
@@ -435,8 +437,8 @@ class Trial:
             self.open += len(tasks)
         return sorted(tasks, key=lambda it: it[0], reverse=True)
 
-    def do(self, tried, what):
-        tasks = tried(what)
+    def do(self, tried, what, spare):
+        tasks = tried(what, spare)
         with self.lock:
             self.open -= 1
             is_last = not self.open
@@ -455,14 +457,14 @@ class Trial:
             self.passed, self.failed = self.passed + is_refused, self.failed + (not is_refused)
         self.say(f"{name}: {text}")
 
-    def try_together(self, batch):
+    def try_together(self, batch, spare):
         """Tries mutants in one check that tells them apart. Those that it does not settle are to be tried alone."""
         texts, seats, mutants = batch.whole(), batch.seats(), batch.mutants()
         functions = {path: (file, it) for file, text in texts.items() for path, it in functions_in(file, text).items()}
         functions = self.crate.functions | functions
         with self.lock:
             self.together += 1
-        answer = self.check(texts, [*dict.fromkeys(path for it in mutants for path in seats[it])])
+        answer = self.check(texts, [*dict.fromkeys(path for it in mutants for path in seats[it])], spare)
         self.say(f"   {self.crate.name}: {len(mutants)} mutants in one check of {answer.seconds} s")
         if not answer.is_refused and not answer.is_proved:
             # one of them does not compile, or is not read: it is tried without the others
@@ -481,20 +483,20 @@ class Trial:
             self.say(f"   {it.name} is to be tried alone: {answer.why_not(it, seats[it], functions)[:240]}")
         return self.further([], left)
 
-    def try_alone(self, mutant):
-        is_refused, text = self.alone_answer(mutant)
+    def try_alone(self, mutant, spare):
+        is_refused, text = self.alone_answer(mutant, spare)
         self.judge(mutant.name, is_refused, text)
         if is_refused:
             self.verdicts.keep({mutant.edit: text})
         return []
 
-    def alone_answer(self, mutant):
+    def alone_answer(self, mutant, spare):
         """Whether the mutant is refused, and by what."""
         only = mutant.targets()
         for looks in [only, []] if only else [[]]:
             with self.lock:
                 self.alone += 1
-            answer = self.check(mutant.texts, looks)
+            answer = self.check(mutant.texts, looks, spare)
             if answer.is_refused:
                 return True, f"refused alone in {answer.seconds} s: {answer.first_error()[:160]}"
             if not answer.is_proved:
@@ -523,7 +525,8 @@ def run_tasks(trials, run, jobs, is_ready):
                 tasks += trial.tasks()
             tasks.sort(key=lambda it: it[0])
             while tasks and len(running) < jobs and (not running or has_memory()):
-                running.add(pool.submit(tasks.pop()[1]))
+                call = tasks.pop()[1]
+                running.add(pool.submit(call, max(1, jobs - len(running) - len(tasks))))
             if not running:
                 time.sleep(1)
                 continue
