@@ -4,7 +4,7 @@
  *
  * For each list and function, the first allocation and all later ones fail, then the second and all later ones, and so
  * on, until a run has no failed allocation. No function may allocate again after a failed allocation, and
- * nlroute_count() and nlroute_fault() may not allocate at all. The linker options --wrap=malloc, --wrap=realloc and
+ * nlroute_count() and nlroute_first_fault() may not allocate at all. The linker options --wrap=malloc, --wrap=realloc and
  * --wrap=free let this program count allocations. It prints a line for each check that fails, and then the counts.
  */
 #include "nlroute.h"
@@ -78,12 +78,13 @@ static ptrdiff_t rewriting(size_t room) { return nlroute_rewrite(family, list, l
 static ptrdiff_t into(size_t room) { return nlroute_rewrite_streaming(family, list, len, out, room); }
 static ptrdiff_t counting(size_t room) { return (void)room, nlroute_count(family, list, len); }
 
+/* Returns NLROUTE_ABSENT as 0, since it is no failure of the call. */
 static ptrdiff_t telling(size_t room) {
-    uint64_t fault[NLROUTE_FAULT_NUMBERS];
-    memcpy(fault, out, sizeof fault);
-    ptrdiff_t answer = nlroute_fault(family, list, len, fault, room);
-    memcpy(out, fault, sizeof fault);
-    return answer;
+    struct nlroute_fault fault;
+    memcpy(&fault, out, sizeof fault);
+    ptrdiff_t answer = nlroute_first_fault(family, list, len, &fault);
+    memcpy(out, &fault, sizeof fault);
+    return (void)room, answer == NLROUTE_ABSENT ? 0 : answer;
 }
 
 /* The status is stored after the longest possible output. */
@@ -98,10 +99,8 @@ static const struct {
 } calls[] = {{"rewrite", rewriting, false, true},
              {"rewrite_streaming", into, true, true},
              {"count", counting, false, false},
-             {"fault", telling, false, false},
+             {"first_fault", telling, false, false},
              {"report", reporting, false, true}};
-
-static size_t room_of(calling *call) { return call == telling ? NLROUTE_FAULT_NUMBERS : ROOM / 2; }
 
 /* Returns how many bytes a call with this result, or a failed one, may write, and some more to check. */
 static size_t reach_of(ptrdiff_t answer) {
@@ -114,7 +113,7 @@ static bool refuse(size_t i, unsigned long n, ptrdiff_t answer) {
     size_t reach = reach_of(answer);
     memset(out, LENT, reach), out[ROOM - 1] = LENT;
     requests = refused = held = 0, granted = n;
-    ptrdiff_t answered = calls[i].call(room_of(calls[i].call));
+    ptrdiff_t answered = calls[i].call(ROOM / 2);
     granted = ULONG_MAX;
     check(held == 0, calls[i].name, "a block is kept", n);
     size_t from = calls[i].is_by_value ? padded() : 0;
@@ -131,7 +130,7 @@ static bool refuse(size_t i, unsigned long n, ptrdiff_t answer) {
     return true;
 }
 
-/* Calls with a buffer that is too short by this many bytes (of nlroute_fault(): elements). */
+/* Calls with a buffer that is too short by this many bytes. */
 static void shorten(size_t i, size_t need, size_t by) {
     if (by > need) return;
     memset(out, LENT, need + 64), out[ROOM - 1] = LENT;
@@ -145,7 +144,7 @@ static void shorten(size_t i, size_t need, size_t by) {
 static void try_call(size_t i) {
     memset(out, LENT, ROOM);
     held = 0;
-    ptrdiff_t answer = calls[i].call(room_of(calls[i].call));
+    ptrdiff_t answer = calls[i].call(ROOM / 2);
     check(answer >= NLROUTE_TOO_LONG && held == 0, calls[i].name, "no answer with memory", 0);
     memcpy(whole, out, reach_of(answer)), whole[ROOM - 1] = out[ROOM - 1];
     unsigned long n = 0;

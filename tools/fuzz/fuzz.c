@@ -75,16 +75,15 @@ static void counts_and_faults(uint32_t family, const uint8_t *bytes, size_t len,
     ptrdiff_t count = nlroute_count(family, bytes, len);
     must(answer == NLROUTE_HAS_FAULT ? count == answer : count >= 0, "a count exactly if there is no fault");
     must(count <= (ptrdiff_t)(padded(len) / 4), "four bytes for each value");
-    uint64_t fault[NLROUTE_FAULT_NUMBERS] = {0};
-    ptrdiff_t numbers = nlroute_fault(family, bytes, len, fault, NLROUTE_FAULT_NUMBERS);
-    must(numbers == (count < 0 ? NLROUTE_FAULT_NUMBERS : 0), "a fault exactly if there is no count");
-    if (numbers == 0) return;
-    must(fault[NLROUTE_AT] < len && fault[NLROUTE_AT] % 4 == 0, "a fault is at a frame of the list");
-    must(fault[NLROUTE_PLACE] <= NLROUTE_ELEMENT_PAYLOAD, "a place of a fault");
-    must(fault[NLROUTE_KIND] < 1 << 14 && fault[NLROUTE_INNER] < 1 << 14, "kinds without flags");
-    must(fault[NLROUTE_CAUSE] - 1 < NLROUTE_ADDRESS_LENGTH, "a cause");
-    (void)nlroute_fault(family, bytes, (size_t)fault[NLROUTE_AT], fault, 0);
-    must(nlroute_count(family, bytes, (size_t)fault[NLROUTE_AT]) >= 0, "no fault before the first");
+    struct nlroute_fault fault;
+    ptrdiff_t found = nlroute_first_fault(family, bytes, len, &fault);
+    must(found == (count < 0 ? 0 : NLROUTE_ABSENT), "a fault exactly if there is no count");
+    if (found < 0) return;
+    must(fault.at < len && fault.at % 4 == 0, "a fault is at a frame of the list");
+    must(fault.place <= NLROUTE_ELEMENT_PAYLOAD, "a place of a fault");
+    must(fault.kind < 1 << 14 && fault.inner < 1 << 14, "kinds without flags");
+    must(fault.cause - 1 < NLROUTE_ADDRESS_LENGTH, "a cause");
+    must(nlroute_count(family, bytes, (size_t)fault.at) >= 0, "no fault before the first");
 }
 
 /* The second rewriting, which all later ones keep. */

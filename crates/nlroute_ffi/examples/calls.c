@@ -223,33 +223,26 @@ static void room_first(void) {
 }
 
 static void faults(void) {
-    uint64_t fault[8], wanted[7] = {16, NLROUTE_FRAME, 0, 0, NLROUTE_OVERRUN, 16, 14};
-    memset(fault, 0xFF, sizeof fault);
-    check(nlroute_fault(NLROUTE_VLAN, vlan, 32, fault, 8) == 0, "a request has no fault");
-    check(nlroute_fault(NLROUTE_VLAN, vlan, 30, fault, 6) == NLROUTE_NO_ROOM, "-4 with six places");
-    memory_is_out = true;
-    ptrdiff_t answer = nlroute_fault(NLROUTE_VLAN, vlan, 32, fault, 8);
-    memory_is_out = false;
-    check(answer == 0, "no memory for no fault");
-    check(nlroute_fault(10, vlan, 30, fault, 8) == NLROUTE_NO_FAMILY, "-5 of a fault");
-    check(are_lent(fault, sizeof fault), "no number was put");
-    memory_is_out = true;
-    answer = nlroute_fault(NLROUTE_VLAN, vlan, 30, fault, 8);
-    memory_is_out = false;
-    check(answer == NLROUTE_FAULT_NUMBERS, "a fault has seven numbers, without memory");
-    check(!memcmp(fault, wanted, sizeof wanted) && are_lent(fault + 7, 8), "they tell an overrun at 16");
     struct nlroute_fault first;
     memset(&first, 0xFF, sizeof first);
-    check(nlroute_first_fault(NLROUTE_VLAN, vlan, 32, &first) == NLROUTE_ABSENT, "-6 for no fault");
+    memory_is_out = true;
+    ptrdiff_t answer = nlroute_first_fault(NLROUTE_VLAN, vlan, 32, &first);
+    memory_is_out = false;
+    check(answer == NLROUTE_ABSENT, "-6 for no fault, without memory");
+    check(nlroute_first_fault(10, vlan, 30, &first) == NLROUTE_NO_FAMILY, "-5 of a fault");
     check(are_lent(&first, sizeof first), "no fault was stored");
-    check(!nlroute_first_fault(NLROUTE_VLAN, vlan, 30, &first), "a fault is stored");
+    memory_is_out = true;
+    answer = nlroute_first_fault(NLROUTE_VLAN, vlan, 30, &first);
+    memory_is_out = false;
+    check(answer == 0, "a fault is stored, without memory");
     check(first.at == 16 && first.place == NLROUTE_FRAME && first.kind == 0 && first.inner == 0, "it is at 16");
     check(first.cause == NLROUTE_OVERRUN && first.first == 16 && first.second == 14, "it is an overrun");
     /* IFLA_VLAN_EGRESS_QOS with a mapping of seven bytes */
     const uint8_t nested[16] = {15, 0, 3, 0, 11, 0, 1, 0};
-    const uint64_t inner[7] = {0, NLROUTE_ELEMENT_PAYLOAD, 3, 1, NLROUTE_WRONG_LENGTH, 8, 7};
-    answer = nlroute_fault(NLROUTE_VLAN, nested, 16, fault, 7);
-    check(answer == 7 && !memcmp(fault, inner, sizeof inner), "of a mapping, both kinds");
+    answer = nlroute_first_fault(NLROUTE_VLAN, nested, 16, &first);
+    check(!answer && first.at == 0 && first.place == NLROUTE_ELEMENT_PAYLOAD, "a mapping has a fault");
+    check(first.kind == 3 && first.inner == 1, "both its types");
+    check(first.cause == NLROUTE_WRONG_LENGTH && first.first == 8 && first.second == 7, "its length is wrong");
 }
 
 static bool is_reported(const char *text, const char *wanted, uint8_t status) {

@@ -25,6 +25,25 @@ pub enum Refusal {
     TooLong,
     NoMemory,
     NoRoom,
+    Absent,
+}
+
+/// The first decode error of a list: `struct nlroute_fault`.
+#[derive(Clone, Copy, Debug, Default, PartialEq, Eq)]
+#[repr(C)]
+pub struct Fault {
+    /// The offset of the attribute in the list, in bytes.
+    pub at: u64,
+    /// The numbers of the cause.
+    pub first: u64,
+    pub second: u64,
+    /// An `enum nlroute_place`.
+    pub place: u32,
+    /// The type of the attribute, and that of the element of its list.
+    pub kind: u32,
+    pub inner: u32,
+    /// An `enum nlroute_cause`.
+    pub cause: u32,
 }
 
 mod sys {
@@ -45,12 +64,11 @@ mod sys {
         ) -> isize;
         pub fn nlroute_count(family: u32, bytes: *const u8, len: usize) -> isize;
         pub fn nlroute_is_canonical(family: u32, bytes: *const u8, len: usize) -> bool;
-        pub fn nlroute_fault(
+        pub fn nlroute_first_fault(
             family: u32,
             bytes: *const u8,
             len: usize,
-            fault: *mut u64,
-            places: usize,
+            fault: *mut super::Fault,
         ) -> isize;
         pub fn nlroute_report(
             family: u32,
@@ -70,6 +88,7 @@ fn answer(code: isize) -> Result<usize, Refusal> {
         -2 => Err(Refusal::TooLong),
         -3 => Err(Refusal::NoMemory),
         -4 => Err(Refusal::NoRoom),
+        -6 => Err(Refusal::Absent),
         _ => unreachable!("a `Family` has a number"),
     }
 }
@@ -102,14 +121,13 @@ pub fn is_canonical(family: Family, bytes: &[u8]) -> bool {
     unsafe { sys::nlroute_is_canonical(family as u32, bytes.as_ptr(), bytes.len()) }
 }
 
-/// Returns the numbers of the first decode error of a list, if it has one. It does not allocate.
-pub fn fault(family: Family, bytes: &[u8]) -> Result<Option<[u64; 7]>, Refusal> {
-    let mut numbers = [0; 7];
-    let (at, places) = (numbers.as_mut_ptr(), numbers.len());
-    let written = answer(unsafe {
-        sys::nlroute_fault(family as u32, bytes.as_ptr(), bytes.len(), at, places)
+/// Returns the first decode error of a list, or `Absent`. It does not allocate.
+pub fn first_fault(family: Family, bytes: &[u8]) -> Result<Fault, Refusal> {
+    let mut fault = Fault::default();
+    answer(unsafe {
+        sys::nlroute_first_fault(family as u32, bytes.as_ptr(), bytes.len(), &mut fault)
     })?;
-    Ok((written > 0).then_some(numbers))
+    Ok(fault)
 }
 
 /// Writes the report for an input to the start of `out`. Returns its length and the exit status.
@@ -167,10 +185,21 @@ fn main() {
         count(Family::Dsa, &request) == Err(Refusal::HasFault),
         "it is none of DSA",
     );
-    holds &= check(fault(Family::Bond, &request) == Ok(None), "it has no fault");
-    let told = Ok(Some([0, 1, 1, 0, 4, 4, 1]));
     holds &= check(
-        fault(Family::Dsa, &request) == told,
+        first_fault(Family::Bond, &request) == Err(Refusal::Absent),
+        "it has no fault",
+    );
+    let fault = Fault {
+        at: 0,
+        first: 4,
+        second: 1,
+        place: 1,
+        kind: 1,
+        inner: 0,
+        cause: 4,
+    };
+    holds &= check(
+        first_fault(Family::Dsa, &request) == Ok(fault),
         "of DSA it has one, at 0: kind 1: wrong length 4 1",
     );
     let mut text = [0; 64];

@@ -5,8 +5,9 @@
  * values and outputs are proved to be as described below, for every input; the contracts are in src/lib.rt.
  *
  * Requirements on the caller:
- * - No pointer is NULL, even for a length of 0. Each is aligned for its type and points to at least as many initialized
- *   elements as the length that goes with it. This includes output buffers: initialize them before the call.
+ * - No pointer is NULL, even for a length of 0. Each is aligned for its type and points to at least as many elements as
+ *   the length that goes with it. Those of inputs are initialized. Those of outputs need not be: no function reads what
+ *   it has not written.
  * - The outputs (out, values, fault, status, the struct that a call stores) overlap neither each other nor an input.
  *   During a call, no other thread writes to the inputs, or reads or writes the outputs.
  * - No buffer is larger than PTRDIFF_MAX bytes.
@@ -64,7 +65,8 @@ enum nlroute_family {
  * nlroute_rewrite_streaming() and nlroute_values().
  */
 enum nlroute_refusal {
-    NLROUTE_HAS_FAULT = -1, /* the input is not a list of this attribute set; nlroute_fault() has the first error */
+    NLROUTE_HAS_FAULT = -1, /* the input is not a list of this attribute set; nlroute_first_fault() has the first
+                               error */
     NLROUTE_TOO_LONG = -2,  /* the input decodes, but the payload of a value would have more than 65531 bytes */
     NLROUTE_NO_MEMORY = -3, /* an allocation failed (it is not proved that this is the only reason for the code);
                                returned by nlroute_rewrite(), nlroute_rewrite_streaming() and nlroute_report()
@@ -260,20 +262,6 @@ ptrdiff_t nlroute_can_bittiming_const(const struct nlroute_value *value, const u
 NLROUTE_MUST_USE
 bool nlroute_is_canonical(uint32_t family, const uint8_t *bytes, size_t len);
 
-/* Length of the array that nlroute_fault() writes. */
-#define NLROUTE_FAULT_NUMBERS 7
-
-/* Indices into the array that nlroute_fault() writes. */
-enum nlroute_fault_index {
-    NLROUTE_AT = 0,    /* byte offset, in the list, of the attribute that has the error */
-    NLROUTE_PLACE = 1, /* the part that is malformed: an nlroute_place */
-    NLROUTE_KIND = 2,  /* attribute type (nla_type) without flags; 0 for NLROUTE_FRAME */
-    NLROUTE_INNER = 3, /* type of the list element without flags; 0 unless NLROUTE_ELEMENT_PAYLOAD */
-    NLROUTE_CAUSE = 4, /* an nlroute_cause */
-    NLROUTE_FIRST = 5, /* the cause's first number */
-    NLROUTE_SECOND = 6 /* the cause's second number, or 0 */
-};
-
 enum nlroute_place {
     NLROUTE_FRAME = 0,          /* the TLV framing of an attribute of the list: its header or its length */
     NLROUTE_PAYLOAD = 1,        /* the payload of an attribute */
@@ -291,16 +279,6 @@ enum nlroute_cause {
     NLROUTE_TOO_SHORT = 5,     /* the payload is too short (the minimum length; the payload's length) */
     NLROUTE_ADDRESS_LENGTH = 6 /* an address has neither 4 nor 16 bytes (its length; 0); not reported for lists */
 };
-
-/*
- * Reports the first decode error of a list in fault, an array of `places` elements. Returns NLROUTE_FAULT_NUMBERS, the
- * number of elements written; the rest of the array is unchanged. Returns 0 if the list has no error; the whole array
- * is then unchanged. Does not allocate.
- *
- * Returns NLROUTE_NO_ROOM if and only if there is an error and places is less than NLROUTE_FAULT_NUMBERS.
- */
-NLROUTE_MUST_USE
-ptrdiff_t nlroute_fault(uint32_t family, const uint8_t *bytes, size_t len, uint64_t *fault, size_t places);
 
 /* The first error of a list. */
 struct nlroute_fault {

@@ -1,5 +1,5 @@
 -- Return values of the functions, and what they leave in the caller's buffers.
-use Rattle.std.specs.Prelude.{◌≡◌, ◌≢◌, ◌↔◌, ℕ, ℤ, ◌<◌, ◌≤◌, List, ◌++◌, length, take, drop, Some, None, Result, Ok, Err}
+use Rattle.std.specs.Prelude.{◌≡◌, ◌≢◌, ℕ, ℤ, ◌<◌, ◌≤◌, List, ◌++◌, length, take, drop, Some, None, Result, Ok, Err}
 use Rattle.netlink_packet_route.specs.declared.link.DecodeFault.{DecodeFault}
 use Rattle.netlink_packet_route.specs.Frame.{pad, frame_fault}
 use Rattle.netlink_packet_route.specs.Wire.{Wire, FirstFault}
@@ -16,7 +16,7 @@ use Rattle.link_flat.specs.Flat.{Flat}
 use Rattle.link_flat.specs.Finding.{Finds, FindsIn}
 use Rattle.nlroute_ffi.specs.declared.refusal.Refusal.{Refusal}
 use Rattle.nlroute_ffi.specs.declared.refusal.Refusal.TheVariants.{Fault, TooLong, Memory, NoRoom, NoFamily, Absent}
-use Rattle.nlroute_ffi.specs.Numbers.{code_of, fault_length, fault_numbers}
+use Rattle.nlroute_ffi.specs.Numbers.{code_of}
 
 -- the return value: as `says` specifies for the attribute set with this number; -5 if there is none
 pub data AnswersBy (number : ℕ) (says : Family → Result ℕ Refusal → Type 0) (answer : ℤ) : Type 0 where
@@ -101,19 +101,6 @@ StreamingAnswers s old new table (Err TooLong) = IsUnfit table s
 StreamingAnswers s old new table (Err Memory) = NeedsMemory table s
 StreamingAnswers s old new table (Err NoRoom) = length old < pad (length s)
 StreamingAnswers s old new table (Err refusal) = ⊥
-
--- ---- the first decode error
-
--- s decodes and the buffer is unchanged; or the buffer starts with the numbers of the first decode error
-pub data TellsFault (s old new : List ℕ) (table : Table) (n : ℕ) : Type 0 where
-  NoFault : (vs : List AttrValue) → Wire (Gives table) s vs → new ≡ old → n ≡ 0 → TellsFault s old new table n
-  First : (at : ℕ) (fault : DecodeFault) → FirstFault (Gives table) s at fault → StandsInFront old new (fault_numbers at fault) n → TellsFault s old new table n
-
--- no error, or the numbers of the first one; or why they are not reported
-abbrev pub FaultAnswers : List ℕ → List ℕ → List ℕ → Table → Result ℕ Refusal → Type 0
-FaultAnswers s old new table (Ok n) = TellsFault s old new table n
-FaultAnswers s old new table (Err NoRoom) = HasFault table s × (length old < fault_length)
-FaultAnswers s old new table (Err refusal) = ⊥
 
 -- ---- the report
 

@@ -75,7 +75,3 @@ fault_numbers at (NestedFrame kind c) = at ∷ element_frame ∷ kind ∷ 0 ∷ 
 fault_numbers at (NestedValue kind inner c) = at ∷ element_payload ∷ kind ∷ inner ∷ cause_numbers c
 fault_numbers at (Payload c) = at ∷ bare_payload ∷ 0 ∷ 0 ∷ cause_numbers c
 fault_numbers at Text = at ∷ text ∷ 0 ∷ 0 ∷ 0 ∷ 0 ∷ 0 ∷ []
-
--- how many numbers an error has
-abbrev pub fault_length : ℕ
-fault_length = 7

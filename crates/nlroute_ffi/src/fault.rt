@@ -1,18 +1,13 @@
 //! Reports the first decode error of a list.
 
-ghost use Rattle.std.specs.Prelude.{◌≡◌, [], ◌∷◌, ◌<◌, length, IfOk, IfErr, OnErr};
+ghost use Rattle.std.specs.Prelude.{◌≡◌, [], ◌∷◌, IfOk, OnErr};
 ghost use Rattle.netlink_packet_route.specs.Family.{table_of};
-ghost use Rattle.netlink_packet_route.specs.Rewrite.{StandsInFront};
-ghost use Rattle.nlroute_ffi.specs.Numbers.{cause_numbers, fault_length, fault_numbers};
+ghost use Rattle.nlroute_ffi.specs.Numbers.{cause_numbers, fault_numbers};
 ghost use Rattle.nlroute_ffi.specs.Error.{error_numbers, ErrorAnswers};
-ghost use Rattle.nlroute_ffi.specs.Calls.{FaultAnswers};
 
 use crate::refusal::Refusal;
 use netlink_packet_route::link::{Cause, DecodeFault, ListFault};
 use netlink_packet_route::{Family, count_values};
-
-/// How many numbers an error has: `NLROUTE_FAULT_NUMBERS` of the header.
-const FAULT_LENGTH: usize = 7;
 
 // The parts that may be malformed: `enum nlroute_place` of the header.
 const FRAME: u32 = 0;
@@ -80,54 +75,6 @@ pub(crate) fn store_error(
         return Ok(0);
     }
     Err(Refusal::Absent)
-}
-
-/// Writes the numbers of the first decode error of a list to the start of `numbers`. Returns how many were written,
-/// which is 0 if the list has no error; the rest of `numbers` is unchanged.
-///
-/// # Errors
-///
-/// `NoRoom` if there is an error and `numbers` is too short. Then `numbers` is unchanged.
-pub(crate) fn first_fault(
-    family: Family,
-    bytes: &[u8],
-    numbers: &mut [u64],
-) -> Result<usize, Refusal>
-    ensures answer { FaultAnswers bytes.now numbers.old numbers.new (table_of family) result }
-    ensures unchanged { OnErr result (numbers.new ≡ numbers.old) }
-{
-    match count_values(family, bytes) {
-        Ok(_) => Ok(0),
-        Err(ListFault { at, fault }) => put_fault(at, fault, numbers),
-    }
-}
-
-fn put_fault(at: usize, fault: DecodeFault, numbers: &mut [u64]) -> Result<usize, Refusal>
-    ensures put { IfOk result (λ n. StandsInFront numbers.old numbers.new (fault_numbers at fault) n) }
-    ensures no_room { IfErr result (λ refusal. (refusal ≡ Refusal.NoRoom) × (length numbers.old < fault_length)) }
-    ensures unchanged { OnErr result (numbers.new ≡ numbers.old) }
-{
-    let told = numbers_of(at as u64, fault);
-    if numbers.len() < told.len() {
-        return Err(Refusal::NoRoom);
-    }
-    numbers[..told.len()].copy_from_slice(&told);
-    Ok(told.len())
-}
-
-fn numbers_of(at: u64, fault: DecodeFault) -> [u64; FAULT_LENGTH]
-    ensures { result ≡ fault_numbers at fault }
-{
-    let error = error_of(at, fault);
-    [
-        error.at,
-        error.place.into(),
-        error.kind.into(),
-        error.inner.into(),
-        error.cause.into(),
-        error.first,
-        error.second,
-    ]
 }
 
 fn error_of(at: u64, fault: DecodeFault) -> FirstError

@@ -16,12 +16,12 @@ mod values;
 ghost use Rattle.std.specs.Prelude.{◌≡◌, ◌↔◌, ◌<◌, IsTrue, pos, negsuc, ◌<ℤ◌, length, drop};
 ghost use Rattle.netlink_packet_route.specs.Frame.{pad};
 ghost use Rattle.nlroute_ffi.specs.Calls.{AnswersFor, CountAnswers, RewriteAnswers, StreamingAnswers};
-ghost use Rattle.nlroute_ffi.specs.Calls.{IsCanonicalFor, FaultAnswers, ReportAnswers};
+ghost use Rattle.nlroute_ffi.specs.Calls.{IsCanonicalFor, ReportAnswers};
 ghost use Rattle.nlroute_ffi.specs.Calls.{AnswersBy, PlacesAnswers, ValuesAnswers, FindAnswers, FindInAnswers};
 ghost use Rattle.nlroute_ffi.specs.Error.{ErrorAnswers};
 ghost use Rattle.nlroute_ffi.specs.Timing.{AnswersWith, TimingAnswers, LimitsAnswers};
 
-use crate::fault::{FirstError, first_fault, store_error};
+use crate::fault::{FirstError, store_error};
 use crate::lists::{count, rewrite, rewrite_each};
 use crate::refusal::{Refusal, answer_of};
 use crate::text::report_into;
@@ -214,25 +214,6 @@ pub extern "C" fn nlroute_is_canonical(family: u32, bytes: &[u8]) -> bool
     match Family::from_number(family) {
         Some(family) => is_canonical(family, bytes),
         None => false,
-    }
-}
-
-/// Writes the first decode error of the list in `bytes` to `fault[..7]`, as seven numbers that the header describes,
-/// and returns 7; `fault[7..]` is unchanged. Returns 0 if the list has no error; `fault` is then unchanged. Does not
-/// allocate.
-///
-/// # Errors
-///
-/// -4 if the list has an error and `fault` has fewer than seven elements, -5 if `family` is not the number of a
-/// `Family`. On error `fault` is unchanged.
-#[unsafe(no_mangle)]
-pub extern "C" fn nlroute_fault(family: u32, bytes: &[u8], fault: &mut [u64]) -> isize
-    ensures answer { AnswersFor family (FaultAnswers bytes.now fault.old fault.new) result }
-    ensures unchanged { result <ℤ pos 0 → fault.new ≡ fault.old }
-{
-    match Family::from_number(family) {
-        Some(family) => answer_of(first_fault(family, bytes, fault)),
-        None => answer_of(Err(Refusal::NoFamily)),
     }
 }
 

@@ -3,7 +3,7 @@
 use crate::fault::FirstError;
 use crate::timing::{BitTiming, TimingLimits};
 use crate::{
-    nlroute_can_bittiming, nlroute_can_bittiming_const, nlroute_count, nlroute_fault, nlroute_find,
+    nlroute_can_bittiming, nlroute_can_bittiming_const, nlroute_count, nlroute_find,
     nlroute_find_in, nlroute_first_fault, nlroute_is_canonical, nlroute_places, nlroute_report,
     nlroute_rewrite, nlroute_rewrite_streaming, nlroute_values,
 };
@@ -24,7 +24,7 @@ const NO_ERROR: FirstError = FirstError {
     cause: u32::MAX,
 };
 
-/// The numbers of an error, in the order of `nlroute_fault`.
+/// The numbers of an error: offset, place, two types, cause, and the numbers of the cause.
 fn numbers_of(error: &FirstError) -> [u64; 7] {
     [
         error.at,
@@ -171,13 +171,7 @@ fn faults(rt: HostRuntime) {
         (6, &[8, 0, 16, 0x80, 4, 0, 7, 0], [0, 3, 16, 7, 4, 4, 0]),
         (0, &[9, 0, 3, 0, 5, 0, 2, 0, 1], [0, 3, 3, 2, 4, 2, 1]),
     ];
-    let lent = [u64::MAX; 7];
     for (family, bytes, wanted) in rows {
-        let mut fault = lent;
-        let is_refused = nlroute_fault(family, bytes, &mut fault[..6]) == -4;
-        assert!(rt; is_refused && fault == lent, "of family {family}");
-        let is_told = nlroute_fault(family, bytes, &mut fault) == 7;
-        assert!(rt; is_told && fault == wanted, "of family {family}");
         let mut error = NO_ERROR;
         let is_stored = nlroute_first_fault(family, bytes, &mut error) == 0;
         assert!(rt;
@@ -185,11 +179,9 @@ fn faults(rt: HostRuntime) {
             "of family {family}"
         );
     }
-    let mut fault = lent;
-    assert!(rt; nlroute_fault(7, &TWO, &mut fault) == 0 && fault == lent);
-    assert!(rt; nlroute_fault(10, &[], &mut fault) == -5 && fault == lent);
     let mut error = NO_ERROR;
     let is_absent = nlroute_first_fault(7, &TWO, &mut error) == -6;
+    assert!(rt; nlroute_first_fault(10, &[], &mut error) == -5);
     let is_left = error.at == u64::MAX && error.cause == u32::MAX;
     assert!(rt; is_absent && is_left);
 }
