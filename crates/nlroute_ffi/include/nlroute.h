@@ -8,7 +8,8 @@
  * - No pointer is NULL, even for a length of 0. Each is aligned for its type and points to at least as many elements as
  *   the length that goes with it. Those of inputs are initialized. Those of outputs need not be: no function reads what
  *   it has not written.
- * - The outputs (out, values, fault, status, the struct that a call stores) overlap neither each other nor an input.
+ * - The outputs (out, text, values, fault, status, the struct that a call stores) overlap neither each other nor an
+ *   input.
  *   During a call, no other thread writes to the inputs, or reads or writes the outputs.
  * - No buffer is larger than PTRDIFF_MAX bytes.
  * - No function is called from a signal handler, or in the child after a fork() of a multithreaded process.
@@ -46,6 +47,10 @@ extern "C" {
  */
 #define NLROUTE_VERSION 0x000300u
 
+/* Returns NLROUTE_VERSION as it was in the header of the library that is linked. */
+NLROUTE_MUST_USE
+uint32_t nlroute_version(void);
+
 /* The attribute sets. */
 enum nlroute_family {
     NLROUTE_AF_SPEC_BRIDGE = 0, /* IFLA_AF_SPEC in AF_BRIDGE messages */
@@ -62,19 +67,19 @@ enum nlroute_family {
 
 /*
  * Error codes, returned in place of a length or count. The outputs are unchanged on error, except as described at
- * nlroute_rewrite_streaming() and nlroute_values().
+ * nlroute_rewrite_streaming() and nlroute_values(), and except that the functions for texts store the empty text.
  */
 enum nlroute_refusal {
     NLROUTE_HAS_FAULT = -1, /* the input is not a list of this attribute set; nlroute_first_fault() has the first
                                error */
     NLROUTE_TOO_LONG = -2,  /* the input decodes, but the payload of a value would have more than 65531 bytes */
     NLROUTE_NO_MEMORY = -3, /* an allocation failed (it is not proved that this is the only reason for the code);
-                               returned by nlroute_rewrite(), nlroute_rewrite_streaming() and nlroute_report()
-                               only */
+                               returned by nlroute_rewrite(), nlroute_rewrite_streaming(), nlroute_text(),
+                               nlroute_fault_text() and nlroute_report() only */
     NLROUTE_NO_ROOM = -4,   /* the output buffer is too small; each function specifies the size that it needs */
     NLROUTE_NO_FAMILY = -5, /* family is not one of the numbers above */
-    NLROUTE_ABSENT = -6,    /* the list does not have what was looked up */
-    NLROUTE_BAD_FORM = -7,  /* the value has another form */
+    NLROUTE_ABSENT = -6,    /* the list does not have what was looked up, or a number or bit has no name */
+    NLROUTE_BAD_FORM = -7,  /* the value has another form; a struct is not as the library stores it */
     NLROUTE_BAD_OCTETS = -10 /* the bytes of the value are outside the input, or not as many as its form has */
 };
 
@@ -96,7 +101,8 @@ static inline const char *nlroute_refusal_text(ptrdiff_t code)
 
 /*
  * The descriptions below apply if family is one of enum nlroute_family. For any other number, a function
- * returns NLROUTE_NO_FAMILY and writes nothing; nlroute_is_canonical() returns false.
+ * returns NLROUTE_NO_FAMILY and writes nothing; nlroute_is_canonical() returns false, and the functions for texts
+ * store the empty text.
  */
 
 /*
@@ -256,6 +262,60 @@ ptrdiff_t nlroute_can_bittiming_const(const struct nlroute_value *value, const u
                                       struct can_bittiming_const *limits);
 
 /*
+ * Texts. The functions below store a text as snprintf() does. The buffer `text` has room bytes; it gets the first
+ * bytes of the text, at most room - 1, and a NUL after them. Its rest is unchanged, and if room is 0, nothing is
+ * written. Returns the length of the whole text, without the NUL.
+ *
+ * On error the buffer gets the empty text: a NUL, if room is not 0.
+ *
+ * The value need not be one that the library has stored.
+ */
+
+/* A buffer of this size holds most texts. Longer ones are of sets with many flags, and of bytes in hex. */
+#define NLROUTE_TEXT_ROOM 256
+
+/*
+ * Stores the name of an attribute type: the kernel's constant, such as "IFLA_BR_FORWARD_DELAY", or "type 99" if the
+ * type is not known. The fields kind, inner and depth of the value select the type. An address of a list or a number
+ * of an array has an index in place of a type: "[3]". Does not allocate, and returns no error but NLROUTE_NO_FAMILY.
+ */
+ptrdiff_t nlroute_kind_name(uint32_t family, const struct nlroute_value *value, char *text, size_t room);
+
+/*
+ * Stores the text of a value, as nlshow prints it after the name: "1500 (15.00 s)", "802.3ad (4)",
+ * "02:00:00:00:00:01", "flags GVRP mask GVRP". For an element it is the text of the element only: "120 ohm",
+ * "10.0.0.1". It is "" for a list and for NLROUTE_FORM_EMPTY, and "hex dead" for NLROUTE_FORM_UNKNOWN.
+ *
+ * The field form selects the fields that are written. The fields kind, inner and depth select the unit of a number,
+ * and the names of numbers and bits. The len bytes at octets are the list that the value was read from. Allocates only
+ * if the text is longer than NLROUTE_TEXT_ROOM.
+ *
+ * Returns
+ * - NLROUTE_BAD_FORM if and only if form is not one of enum nlroute_form;
+ * - NLROUTE_BAD_OCTETS if and only if the form is NLROUTE_FORM_BITTIMING, NLROUTE_FORM_BITTIMING_CONST,
+ *   NLROUTE_FORM_BYTES or NLROUTE_FORM_UNKNOWN, and len is less than offset + length;
+ * - NLROUTE_NO_MEMORY if an allocation fails.
+ */
+ptrdiff_t nlroute_text(uint32_t family, const struct nlroute_value *value, const uint8_t *octets, size_t len, char *text,
+                       size_t room);
+
+/*
+ * Stores the name of the number of a value, such as "802.3ad". The fields kind, inner and depth select the attribute
+ * type. Enums, VLAN protocols and the states of CAN controllers have names. Does not allocate.
+ *
+ * Returns NLROUTE_ABSENT if and only if the number has no name.
+ */
+ptrdiff_t nlroute_number_name(uint32_t family, const struct nlroute_value *value, char *text, size_t room);
+
+/*
+ * Stores the name of a bit of the flags of an attribute type, such as "LACP_ACTIVITY" for bit 0. The fields kind,
+ * inner and depth of the value select the type. Does not allocate.
+ *
+ * Returns NLROUTE_ABSENT if and only if the bit has no name.
+ */
+ptrdiff_t nlroute_flag_name(uint32_t family, const struct nlroute_value *value, uint32_t bit, char *text, size_t room);
+
+/*
  * Checks whether a list is canonical: nlroute_rewrite() would output the same bytes. Returns false if the input is
  * malformed, or if family is not one of enum nlroute_family. Does not allocate.
  */
@@ -298,6 +358,17 @@ struct nlroute_fault {
  */
 NLROUTE_MUST_USE
 ptrdiff_t nlroute_first_fault(uint32_t family, const uint8_t *bytes, size_t len, struct nlroute_fault *fault);
+
+/*
+ * Stores the text of an error, as nlshow prints it: "error at 8: IFLA_BR_HELLO_TIME has 3 bytes, expected 4". How, and
+ * what is returned, is described at NLROUTE_TEXT_ROOM. Allocates only if the text is longer than NLROUTE_TEXT_ROOM.
+ *
+ * Returns
+ * - NLROUTE_BAD_FORM if and only if place is not one of enum nlroute_place, cause not one of enum nlroute_cause, or
+ *   kind or inner greater than 65535;
+ * - NLROUTE_NO_MEMORY if an allocation fails.
+ */
+ptrdiff_t nlroute_fault_text(uint32_t family, const struct nlroute_fault *fault, char *text, size_t room);
 
 /*
  * Writes the output of the program `nlroute FAMILY` to out, a buffer of room bytes, and its exit status to *status. The

@@ -4,6 +4,7 @@ ghost use Rattle.std.specs.Prelude.{◌≡◌, [], ◌∷◌, IfOk, OnErr};
 ghost use Rattle.netlink_packet_route.specs.Family.{table_of};
 ghost use Rattle.nlroute_ffi.specs.Numbers.{cause_numbers, fault_numbers};
 ghost use Rattle.nlroute_ffi.specs.Error.{error_numbers, ErrorAnswers};
+ghost use Rattle.nlroute_ffi.specs.ErrorText.{cause_of, small_cause, overrun_cause, fault_of};
 
 use crate::refusal::Refusal;
 use netlink_packet_route::link::{Cause, DecodeFault, ListFault};
@@ -130,4 +131,66 @@ fn numbers_of_cause(cause: Cause) -> (u32, u64, u64)
         Cause::TooShort { want, got } => (TOO_SHORT, want as u64, got as u64),
         Cause::AddressLength { got } => (ADDRESS_LENGTH, got as u64, 0),
     }
+}
+
+/// Returns the error in a struct; `None` if its numbers are not those of an error in a list.
+pub(crate) fn fault_of(error: &FirstError) -> Option<DecodeFault>
+    ensures { result ≡ fault_of error.now }
+{
+    let cause = cause_of(error)?;
+    if error.kind > 0xFFFF || error.inner > 0xFFFF {
+        return None;
+    }
+    let (kind, inner) = (error.kind as u16, error.inner as u16);
+    match error.place {
+        FRAME => Some(DecodeFault::Frame(cause)),
+        PAYLOAD => Some(DecodeFault::Value { kind, cause }),
+        ELEMENT_FRAME => Some(DecodeFault::NestedFrame { kind, cause }),
+        ELEMENT_PAYLOAD => Some(DecodeFault::NestedValue { kind, inner, cause }),
+        _ => None,
+    }
+}
+
+fn cause_of(error: &FirstError) -> Option<Cause>
+    ensures { result ≡ cause_of error.now }
+{
+    let (first, second) = (error.first as usize, error.second as usize);
+    match error.cause {
+        SHORT_FRAME => Some(Cause::ShortFrame { left: first }),
+        SMALL_LENGTH => small_cause(error.first),
+        OVERRUN => overrun_cause(error.first, second),
+        WRONG_LENGTH => Some(Cause::WrongLength {
+            want: first,
+            got: second,
+        }),
+        TOO_SHORT => Some(Cause::TooShort {
+            want: first,
+            got: second,
+        }),
+        ADDRESS_LENGTH => Some(Cause::AddressLength { got: first }),
+        _ => None,
+    }
+}
+
+fn small_cause(size: u64) -> Option<Cause>
+    ensures { result ≡ small_cause size }
+{
+    if size > 0xFFFF {
+        return None;
+    }
+    Some(Cause::SmallLength {
+        length: size as u16,
+    })
+}
+
+fn overrun_cause(size: u64, left: usize) -> Option<Cause>
+    ensures { result ≡ overrun_cause size left }
+{
+    if size > 0xFFFF {
+        return None;
+    }
+    Some(Cause::Overrun {
+        length: size as u16,
+        left,
+    })
 }

@@ -4,32 +4,55 @@
 //! two arguments in C: a pointer, and the number of elements it points to. The allocator is not an argument in C.
 #![tactic(auto)]
 
+mod buffers;
+mod error_text;
 mod fault;
 mod lists;
+mod names;
 mod refusal;
 #[cfg(test)]
 mod tests;
 mod text;
 mod timing;
+mod value_text;
 mod values;
 
-ghost use Rattle.std.specs.Prelude.{◌≡◌, ◌↔◌, ◌<◌, IsTrue, pos, negsuc, ◌<ℤ◌, length, drop};
+ghost use Rattle.std.specs.Prelude.{◌≡◌, ◌↔◌, ◌<◌, [], IsTrue, pos, negsuc, ◌<ℤ◌, length, drop};
 ghost use Rattle.netlink_packet_route.specs.Frame.{pad};
 ghost use Rattle.nlroute_ffi.specs.Calls.{AnswersFor, CountAnswers, RewriteAnswers, StreamingAnswers};
 ghost use Rattle.nlroute_ffi.specs.Calls.{IsCanonicalFor, ReportAnswers};
 ghost use Rattle.nlroute_ffi.specs.Calls.{AnswersBy, PlacesAnswers, ValuesAnswers, FindAnswers, FindInAnswers};
 ghost use Rattle.nlroute_ffi.specs.Error.{ErrorAnswers};
 ghost use Rattle.nlroute_ffi.specs.Timing.{AnswersWith, TimingAnswers, LimitsAnswers};
+ghost use Rattle.nlroute_ffi.specs.Buffers.{cut_text};
+ghost use Rattle.nlroute_ffi.specs.Names.{version, KindNameAnswers, NumberNameAnswers, FlagNameAnswers};
+ghost use Rattle.nlroute_ffi.specs.ValueText.{TextAnswers};
+ghost use Rattle.nlroute_ffi.specs.ErrorText.{ErrorTextAnswers};
 
+use crate::buffers::refuse;
+use crate::error_text::store_error_text;
 use crate::fault::{FirstError, store_error};
 use crate::lists::{count, rewrite, rewrite_each};
+use crate::names::{store_flag_name, store_kind_name, store_number_name};
 use crate::refusal::{Refusal, answer_of};
 use crate::text::report_into;
 use crate::timing::{BitTiming, TimingLimits, bit_timing, timing_limits};
+use crate::value_text::store_value_text;
 use crate::values::{count_places, find_element, find_value, store_values};
 use link_flat::Entry;
 use netlink_packet_route::{Family, is_canonical};
 use std::alloc::Global;
+
+/// `NLROUTE_VERSION` of the header.
+const VERSION: u32 = 0x00_03_00;
+
+/// Returns the version of the library: a byte each for major, minor and patch.
+#[unsafe(no_mangle)]
+pub extern "C" fn nlroute_version() -> u32
+    ensures { result ≡ version }
+{
+    VERSION
+}
 
 /// Re-encodes the list in `bytes` into `out`, as `rewrite` does. Returns `n`, the number of bytes written; `out[n..]`
 /// is unchanged.
@@ -203,6 +226,106 @@ pub extern "C" fn nlroute_can_bittiming_const(
     ensures unchanged { result <ℤ pos 0 → limits.new ≡ limits.old }
 {
     answer_of(timing_limits(value, octets, limits))
+}
+
+/// Stores the name of the attribute type of `value` in `out`, as far as there is room before a NUL, and the NUL. The
+/// name is such as `IFLA_BR_FORWARD_DELAY`, or `type 99` if the type has no row; for an address of a list or a number
+/// of an array, it is its index, such as `[3]`. Returns the length of the whole name. Does not allocate.
+///
+/// # Errors
+///
+/// -5 if `family` is not the number of a `Family`. Then `out` has the empty text.
+#[unsafe(no_mangle)]
+pub extern "C" fn nlroute_kind_name(family: u32, value: &Entry, out: &mut [u8]) -> isize
+    ensures answer { AnswersBy family (KindNameAnswers value.now out.old out.new) result }
+    ensures empty { result <ℤ pos 0 → out.new ≡ cut_text [] out.old }
+{
+    match Family::from_number(family) {
+        Some(family) => answer_of(Ok(store_kind_name(family, value, out))),
+        None => answer_of(refuse(Refusal::NoFamily, out)),
+    }
+}
+
+/// Stores the text of `value` in `out`, as far as there is room before a NUL, and the NUL. `octets` are the bytes of
+/// the list. Returns the length of the whole text. Allocates only if the text is long.
+///
+/// # Errors
+///
+/// -3 if an allocation fails, -5 if `family` is not the number of a `Family`, -7 if `value` has no form, -10 if its
+/// octets are not within `octets`. Then `out` has the empty text.
+#[unsafe(no_mangle)]
+pub extern "C" fn nlroute_text(
+    alloc: Global,
+    family: u32,
+    value: &Entry,
+    octets: &[u8],
+    out: &mut [u8],
+) -> isize
+    ensures answer { AnswersBy family (TextAnswers value.now octets.now out.old out.new) result }
+    ensures empty { result <ℤ pos 0 → out.new ≡ cut_text [] out.old }
+{
+    match Family::from_number(family) {
+        Some(family) => answer_of(store_value_text(alloc, family, value, octets, out)),
+        None => answer_of(refuse(Refusal::NoFamily, out)),
+    }
+}
+
+/// Stores the name of the number of `value` in `out`, as far as there is room before a NUL, and the NUL, such as
+/// `802.3ad`. Returns the length of the whole name. Does not allocate.
+///
+/// # Errors
+///
+/// -5 if `family` is not the number of a `Family`, -6 if the number has no name. Then `out` has the empty text.
+#[unsafe(no_mangle)]
+pub extern "C" fn nlroute_number_name(family: u32, value: &Entry, out: &mut [u8]) -> isize
+    ensures answer { AnswersBy family (NumberNameAnswers value.now out.old out.new) result }
+    ensures empty { result <ℤ pos 0 → out.new ≡ cut_text [] out.old }
+{
+    match Family::from_number(family) {
+        Some(family) => answer_of(store_number_name(family, value, out)),
+        None => answer_of(refuse(Refusal::NoFamily, out)),
+    }
+}
+
+/// Stores the name of a bit of the attribute type of `value` in `out`, as far as there is room before a NUL, and the
+/// NUL, such as `LACP_ACTIVITY` for bit 0. Returns the length of the whole name. Does not allocate.
+///
+/// # Errors
+///
+/// -5 if `family` is not the number of a `Family`, -6 if the bit has no name. Then `out` has the empty text.
+#[unsafe(no_mangle)]
+pub extern "C" fn nlroute_flag_name(family: u32, value: &Entry, bit: u32, out: &mut [u8]) -> isize
+    ensures answer { AnswersBy family (FlagNameAnswers value.now bit out.old out.new) result }
+    ensures empty { result <ℤ pos 0 → out.new ≡ cut_text [] out.old }
+{
+    match Family::from_number(family) {
+        Some(family) => answer_of(store_flag_name(family, value, bit, out)),
+        None => answer_of(refuse(Refusal::NoFamily, out)),
+    }
+}
+
+/// Stores the text of an error in `out`, as far as there is room before a NUL, and the NUL, such as `error at 8:
+/// IFLA_BR_HELLO_TIME has 3 bytes, expected 4`. Returns the length of the whole text. Allocates only if the text is
+/// long.
+///
+/// # Errors
+///
+/// -3 if an allocation fails, -5 if `family` is not the number of a `Family`, -7 if the numbers are not those of an
+/// error in a list. Then `out` has the empty text.
+#[unsafe(no_mangle)]
+pub extern "C" fn nlroute_fault_text(
+    alloc: Global,
+    family: u32,
+    fault: &FirstError,
+    out: &mut [u8],
+) -> isize
+    ensures answer { AnswersBy family (ErrorTextAnswers fault.now out.old out.new) result }
+    ensures empty { result <ℤ pos 0 → out.new ≡ cut_text [] out.old }
+{
+    match Family::from_number(family) {
+        Some(family) => answer_of(store_error_text(alloc, family, fault, out)),
+        None => answer_of(refuse(Refusal::NoFamily, out)),
+    }
 }
 
 /// Returns whether the list in `bytes` is canonical, so that `nlroute_rewrite` outputs the same bytes. False if the input

@@ -3,9 +3,10 @@
 use crate::fault::FirstError;
 use crate::timing::{BitTiming, TimingLimits};
 use crate::{
-    nlroute_can_bittiming, nlroute_can_bittiming_const, nlroute_count, nlroute_find,
-    nlroute_find_in, nlroute_first_fault, nlroute_is_canonical, nlroute_places, nlroute_report,
-    nlroute_rewrite, nlroute_rewrite_streaming, nlroute_values,
+    nlroute_can_bittiming, nlroute_can_bittiming_const, nlroute_count, nlroute_fault_text,
+    nlroute_find, nlroute_find_in, nlroute_first_fault, nlroute_flag_name, nlroute_is_canonical,
+    nlroute_kind_name, nlroute_number_name, nlroute_places, nlroute_report, nlroute_rewrite,
+    nlroute_rewrite_streaming, nlroute_text, nlroute_values, nlroute_version,
 };
 use link_flat::Entry;
 
@@ -320,4 +321,98 @@ fn structs_of_a_can_controller(rt: HostRuntime) {
     let is_name = limits.name == [9, 0, 0, 0, 0, 0, 0, 0, 0, 0, 0, 0, 0, 0, 0, 0];
     assert!(rt; is_name && limits.tseg1_min == 1 && limits.brp_inc == 8);
     assert!(rt; nlroute_can_bittiming_const(&timing_value, &octets, &mut limits) == -7);
+}
+
+/// Checks whether a call that returned `answer` stored this text in `out`, and a NUL.
+fn holds_text(answer: isize, out: &[u8], wanted: &str) -> bool {
+    let is_there = wanted.len() < out.len() && out[wanted.len()] == 0;
+    usize::try_from(answer) == Ok(wanted.len()) && is_there && out.starts_with(wanted.as_bytes())
+}
+
+#[test]
+fn names(rt: HostRuntime) {
+    let rows: [(u32, u16, u16, u8, &str); 6] = [
+        (3, 1, 0, 0, "IFLA_BR_FORWARD_DELAY"),
+        (3, 99, 0, 0, "type 99"),
+        (3, 47, 1, 1, "BRIDGE_QUERIER_IP_ADDRESS"),
+        (3, 1, 65535, 1, "type 65535"),
+        (1, 8, 3, 1, "[3]"),
+        (6, 12, 65535, 1, "[65535]"),
+    ];
+    for (family, kind, inner, depth, wanted) in rows {
+        let value = Entry {
+            kind,
+            inner,
+            depth,
+            ..BLANK
+        };
+        let mut out = [0xFF; 32];
+        let answer = nlroute_kind_name(family, &value, &mut out);
+        let is_so = holds_text(answer, &out, wanted);
+        assert!(rt; is_so, "for {wanted}");
+    }
+    assert!(rt; nlroute_version() == 0x300);
+    let mode = Entry {
+        kind: 1,
+        number: 4,
+        ..BLANK
+    };
+    let state = Entry { kind: 7, ..BLANK };
+    let mut out = [0xFF; 32];
+    let answer = nlroute_number_name(1, &mode, &mut out);
+    assert!(rt; holds_text(answer, &out, "802.3ad"));
+    let answer = nlroute_flag_name(2, &state, 0, &mut out);
+    assert!(rt; holds_text(answer, &out, "LACP_ACTIVITY"));
+    let is_absent = nlroute_number_name(2, &state, &mut out) == -6 && out[0] == 0;
+    assert!(rt; is_absent && nlroute_flag_name(2, &state, 8, &mut out) == -6);
+    assert!(rt; nlroute_kind_name(10, &mode, &mut out) == -5 && out[0] == 0);
+}
+
+#[test]
+fn texts(rt: HostRuntime) {
+    let rows: [(u32, u16, u8, u64, &str); 5] = [
+        (3, 1, 3, 1500, "1500 (15.00 s)"),
+        (1, 1, 5, 4, "802.3ad (4)"),
+        (5, 2, 7, 2, "flags GVRP mask 0"),
+        (3, 7, 2, 1, "on"),
+        (3, 99, 19, 0, "hex dead"),
+    ];
+    let octets = [0, 0xDE, 0xAD];
+    for (family, kind, form, number, wanted) in rows {
+        let value = Entry {
+            kind,
+            form,
+            number,
+            offset: 1,
+            length: 2,
+            ..BLANK
+        };
+        let mut out = [0xFF; 32];
+        let answer = nlroute_text(rt.alloc(), family, &value, &octets, &mut out);
+        let is_so = holds_text(answer, &out, wanted);
+        assert!(rt; is_so, "for {wanted}");
+    }
+    // longer than what is written without an allocation
+    let many = [0xAB; 300];
+    let long = Entry {
+        form: 19,
+        length: 300,
+        ..BLANK
+    };
+    let mut out = [0xFF; 8];
+    assert!(rt; nlroute_text(rt.alloc(), 3, &long, &many, &mut out) == 604);
+    assert!(rt; out == *b"hex aba\0");
+    assert!(rt; nlroute_text(rt.alloc(), 3, &long, &octets, &mut out) == -10 && out[0] == 0);
+    assert!(rt; nlroute_text(rt.alloc(), 3, &BLANK, &octets, &mut out) == -7 && out[0] == 0);
+}
+
+#[test]
+fn texts_of_errors(rt: HostRuntime) {
+    let mut error = NO_ERROR;
+    let mut out = [0xFF; 96];
+    assert!(rt; nlroute_fault_text(rt.alloc(), 5, &error, &mut out) == -7 && out[0] == 0);
+    assert!(rt; nlroute_first_fault(5, &[11, 0, 3, 0, 7, 0, 1, 0, 1, 2, 3], &mut error) == 0);
+    let answer = nlroute_fault_text(rt.alloc(), 5, &error, &mut out);
+    let wanted = "error at 0: IFLA_VLAN_EGRESS_QOS: IFLA_VLAN_QOS_MAPPING has 3 bytes, expected 8";
+    assert!(rt; holds_text(answer, &out, wanted));
 }

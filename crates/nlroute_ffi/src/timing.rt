@@ -170,7 +170,7 @@ fn place_of(value: &Entry, form: u8, length: u32, octets: &[u8]) -> Result<usize
 }
 
 /// Returns the bytes of a field before the first NUL, or all of them if there is none.
-fn before_nul(field: &[u8]) -> &[u8]
+pub(crate) fn before_nul(field: &[u8]) -> &[u8]
     ensures { result.now ≡ before_nul field.now }
 {
     for (i, byte) in field.iter().enumerate() {

@@ -1,0 +1,235 @@
+//! The names of attribute types, of the numbers of enums, and of the bits of sets of flags.
+
+ghost use Rattle.std.specs.Prelude.{◌≡◌, ◌≤◌, ◌+◌, ◌<◌, ◌^◌, ◌++◌, [], List, length, option_map, IfOk, OnErr};
+ghost use Rattle.std.specs.Fmt.{decimal};
+ghost use Rattle.link_base.specs.Labels.{label_in, label_of, name_in, names_in};
+ghost use Rattle.link_base.specs.Named.{texts_of};
+ghost use Rattle.link_base.specs.Protocol.{vlan_protocols};
+ghost use Rattle.link_show.specs.Value.{can_state_names};
+ghost use Rattle.nlroute_ffi.specs.Buffers.{cut_text, Stores};
+ghost use Rattle.nlroute_ffi.specs.Names.{is_indexed, has_indices, label_for, own_kind, number_name, plain_names};
+ghost use Rattle.nlroute_ffi.specs.Names.{flag_name, bit_names_by, struct_bit_names};
+ghost use Rattle.nlroute_ffi.specs.Names.{kind_name, NumberNameAnswers, FlagNameAnswers};
+
+use crate::buffers::{refuse, store};
+use crate::refusal::Refusal;
+use arrayvec::ArrayVec;
+use itoa::Buffer;
+use link_base::attribute_set::AttributeSet;
+use link_base::flag_laws::FlagSet;
+use link_base::label::{Form, KindLabel, Name};
+use link_bridge::{BridgeBooleanOptionFlags, BridgeVlanInfoFlags};
+use link_flat::Entry;
+use link_vlan_can::CanCtrlModeFlags;
+use netlink_packet_route::{Family, FamilyElements, FamilySet};
+
+/// Stores the name of the attribute type of `value`; for an address of a list or a number of an array, its index.
+/// Returns the length of the whole name.
+pub(crate) fn store_kind_name(family: Family, value: &Entry, buffer: &mut [u8]) -> usize
+    ensures stored { Stores (kind_name family value.now) buffer.old buffer.new result }
+    ensures bounded { result < 2 ^ 63 }
+{
+    if is_indexed(family, value) {
+        return store_number("[", value.inner, "]", buffer);
+    }
+    match label_of(family, value) {
+        Some(label) => store(label.name.as_bytes(), buffer),
+        None => store_number("type ", own_kind(value), "", buffer),
+    }
+}
+
+/// Stores the name of the number of `value`.
+///
+/// # Errors
+///
+/// `Absent` if it has none. Then `buffer` has the empty text.
+pub(crate) fn store_number_name(
+    family: Family,
+    value: &Entry,
+    buffer: &mut [u8],
+) -> Result<usize, Refusal>
+    ensures answer { NumberNameAnswers value.now buffer.old buffer.new family result }
+    ensures bounded { IfOk result (λ n. n < 2 ^ 63) }
+    ensures empty { OnErr result (buffer.new ≡ cut_text [] buffer.old) }
+{
+    match number_name(label_of(family, value), value.number) {
+        Some(name) => Ok(store(name.as_bytes(), buffer)),
+        None => refuse(Refusal::Absent, buffer),
+    }
+}
+
+/// Stores the name of a bit of the attribute type of `value`.
+///
+/// # Errors
+///
+/// `Absent` if it has none. Then `buffer` has the empty text.
+pub(crate) fn store_flag_name(
+    family: Family,
+    value: &Entry,
+    bit: u32,
+    buffer: &mut [u8],
+) -> Result<usize, Refusal>
+    ensures answer { FlagNameAnswers value.now bit buffer.old buffer.new family result }
+    ensures bounded { IfOk result (λ n. n < 2 ^ 63) }
+    ensures empty { OnErr result (buffer.new ≡ cut_text [] buffer.old) }
+{
+    match flag_name(label_of(family, value), bit) {
+        Some(name) => Ok(store(name.as_bytes(), buffer)),
+        None => refuse(Refusal::Absent, buffer),
+    }
+}
+
+/// Returns what is known of the type of an attribute or an element; for an address of a list or a number of an array,
+/// that of its list. `None` if no row has the type.
+pub(crate) fn label_of(family: Family, value: &Entry) -> Option<KindLabel>
+    ensures { label_in result ≡ label_for family value.now }
+{
+    if value.depth == 0 || is_indexed(family, value) {
+        let set = FamilySet { family };
+        return set.label(value.kind);
+    }
+    let elements = FamilyElements {
+        family,
+        list: value.kind,
+    };
+    elements.label(value.inner)
+}
+
+/// Checks whether an entry is an address of a list or a number of an array.
+fn is_indexed(family: Family, value: &Entry) -> bool
+    ensures { result ≡ is_indexed family value.now }
+{
+    if value.depth == 0 {
+        return false;
+    }
+    let set = FamilySet { family };
+    match set.label(value.kind) {
+        Some(label) => has_indices(label.form),
+        None => false,
+    }
+}
+
+fn has_indices(form: Form) -> bool
+    ensures { result ≡ has_indices form }
+{
+    match form {
+        Form::Addresses | Form::U16s | Form::U32s => true,
+        _ => false,
+    }
+}
+
+/// Returns the type of an attribute, or of an element.
+fn own_kind(value: &Entry) -> u16
+    ensures { result ≡ own_kind value.now }
+{
+    if value.depth == 0 {
+        value.kind
+    } else {
+        value.inner
+    }
+}
+
+/// Stores a number between two texts.
+fn store_number(before: &str, number: u16, after: &str, buffer: &mut [u8]) -> usize
+    requires { length before.now + length after.now ≤ 8 }
+    ensures stored { Stores (before.now ++ (decimal number ++ after.now)) buffer.old buffer.new result }
+    ensures bounded { result < 2 ^ 63 }
+{
+    let mut digits = Buffer::new();
+    let mut text = ArrayVec::<u8, 16>::new();
+    append(&mut text, before);
+    append(&mut text, digits.format(number));
+    append(&mut text, after);
+    store(text.as_slice(), buffer)
+}
+
+fn append(text: &mut ArrayVec<u8, 16>, part: &str)
+    requires { length text.old.items + length part.now ≤ 16 }
+    ensures { text.new.items ≡ text.old.items ++ part.now }
+{
+    let _ = text.try_extend_from_slice(part.as_bytes());
+}
+
+/// Returns the name of a number of an attribute type: of an enum, a VLAN protocol, or the state of a CAN controller.
+fn number_name(label: Option<KindLabel>, number: u64) -> Option<&'static str>
+    ensures { option_map (λ name. name.now) result ≡ number_name (label_in label) number }
+{
+    let label = label?;
+    match label.form {
+        Form::Enum => label.name_of(number),
+        Form::Protocol => protocol_name(number),
+        Form::Unsigned => plain_name(label.name, number),
+        _ => None,
+    }
+}
+
+/// Returns the name of a number that is not an enum in its table.
+fn plain_name(name: &str, number: u64) -> Option<&'static str>
+    ensures { option_map (λ found. found.now) result ≡ name_in (plain_names name.now) number }
+{
+    if name == "IFLA_CAN_STATE" {
+        return state_name(number);
+    }
+    None
+}
+
+fn protocol_name(number: u64) -> Option<&'static str>
+    ensures { option_map (λ name. name.now) result ≡ name_in (texts_of vlan_protocols) number }
+{
+    match number {
+        0x8100 => Some("802.1Q"),
+        0x88A8 => Some("802.1ad"),
+        _ => None,
+    }
+}
+
+/// Returns the name of a number of `enum can_state` (`include/uapi/linux/can/netlink.h`), without its prefix.
+fn state_name(number: u64) -> Option<&'static str>
+    ensures { option_map (λ name. name.now) result ≡ name_in can_state_names number }
+{
+    match number {
+        0 => Some("ERROR-ACTIVE"),
+        1 => Some("ERROR-WARNING"),
+        2 => Some("ERROR-PASSIVE"),
+        3 => Some("BUS-OFF"),
+        4 => Some("STOPPED"),
+        5 => Some("SLEEPING"),
+        _ => None,
+    }
+}
+
+/// Returns the name of a bit of an attribute type: of a set of flags, or of one in a struct.
+fn flag_name(label: Option<KindLabel>, bit: u32) -> Option<&'static str>
+    ensures { option_map (λ name. name.now) result ≡ flag_name (label_in label) bit }
+{
+    let label = label?;
+    if bit >= 64 {
+        return None;
+    }
+    let label = KindLabel {
+        names: bit_names(&label),
+        ..label
+    };
+    label.name_of(1 << bit)
+}
+
+fn bit_names(label: &KindLabel) -> &'static [Name]
+    ensures { names_in result.now ≡ bit_names_by label.now.form (label_of label.now) }
+{
+    match label.form {
+        Form::Flags | Form::LowFlags | Form::MaskedFlags => label.names,
+        Form::Struct => struct_bit_names(label.name),
+        _ => &[],
+    }
+}
+
+fn struct_bit_names(name: &str) -> &'static [Name]
+    ensures { names_in result.now ≡ struct_bit_names name.now }
+{
+    match name {
+        "IFLA_BRIDGE_VLAN_INFO" => BridgeVlanInfoFlags::names(),
+        "IFLA_BR_MULTI_BOOLOPT" => BridgeBooleanOptionFlags::names(),
+        "IFLA_CAN_CTRLMODE" => CanCtrlModeFlags::names(),
+        _ => &[],
+    }
+}
