@@ -210,6 +210,200 @@ static void timing(void) {
     check(!strcmp(nlroute_refusal_text(NLROUTE_BAD_FORM), "the value has another form"), "a code in words");
 }
 
+static struct nlroute_value value(uint16_t kind, uint8_t form, uint64_t number, uint32_t second) {
+    struct nlroute_value v;
+    memset(&v, 0, sizeof v);
+    v.kind = kind;
+    v.form = form;
+    v.number = number;
+    v.second = second;
+    return v;
+}
+
+static struct nlroute_value element(uint16_t kind, uint16_t inner, uint8_t form, uint64_t number, uint32_t second) {
+    struct nlroute_value v = value(kind, form, number, second);
+    v.inner = inner;
+    v.depth = 1;
+    return v;
+}
+
+static struct nlroute_value with_octets(struct nlroute_value v, const char *octets, size_t len) {
+    memcpy(v.octets, octets, len);
+    return v;
+}
+
+static struct nlroute_value with_length(struct nlroute_value v, uint64_t offset, uint32_t length) {
+    v.offset = offset;
+    v.length = length;
+    return v;
+}
+
+/* Checks that a call returned the length of a text, and stored it and nothing behind its NUL. */
+static void check_text(ptrdiff_t answer, const char *text, size_t room, const char *wanted) {
+    size_t len = strlen(wanted);
+    bool is_put = answer == (ptrdiff_t)len && len < room && !memcmp(text, wanted, len + 1);
+    check(is_put && are_lent(text + len + 1, room - len - 1), wanted);
+}
+
+static void check_name(uint32_t family, struct nlroute_value v, const char *wanted) {
+    char text[NLROUTE_TEXT_ROOM];
+    memset(text, 0xFF, sizeof text);
+    check_text(nlroute_kind_name(family, &v, text, sizeof text), text, sizeof text, wanted);
+}
+
+static void check_value(uint32_t family, struct nlroute_value v, const char *wanted) {
+    /* the limits that timing() reads, and two bytes of a type that is not known */
+    uint8_t octets[50] = {'m', 'c', 'p', '2', '5', '1', 'x', 0, 'y'};
+    char text[NLROUTE_TEXT_ROOM];
+    for (uint8_t i = 0; i < 8; i++) octets[16 + 4 * i] = i;
+    octets[48] = 0xDE;
+    octets[49] = 0xAD;
+    memset(text, 0xFF, sizeof text);
+    memory_is_out = true;
+    ptrdiff_t answer = nlroute_text(family, &v, octets, sizeof octets, text, sizeof text);
+    memory_is_out = false;
+    check_text(answer, text, sizeof text, wanted);
+}
+
+static void names(void) {
+    check(nlroute_version() == NLROUTE_VERSION, "the version of the header");
+    check_name(NLROUTE_BRIDGE, value(NLROUTE_IFLA_BR_FORWARD_DELAY, 0, 0, 0), "IFLA_BR_FORWARD_DELAY");
+    check_name(NLROUTE_BRIDGE, value(99, 0, 0, 0), "type 99");
+    check_name(NLROUTE_VLAN, element(NLROUTE_IFLA_VLAN_EGRESS_QOS, 1, 0, 0, 0), "IFLA_VLAN_QOS_MAPPING");
+    check_name(NLROUTE_VLAN, element(NLROUTE_IFLA_VLAN_EGRESS_QOS, 2, 0, 0, 0), "type 2");
+    check_name(NLROUTE_BOND, element(NLROUTE_IFLA_BOND_ARP_IP_TARGET, 3, 0, 0, 0), "[3]");
+    check_name(NLROUTE_CAN, element(NLROUTE_IFLA_CAN_BITRATE_CONST, 65535, 0, 0, 0), "[65535]");
+
+    struct nlroute_value mode = value(NLROUTE_IFLA_BOND_MODE, 0, 4, 0);
+    char text[40];
+    memset(text, 0xFF, sizeof text);
+    check_text(nlroute_number_name(NLROUTE_BOND, &mode, text, 40), text, 40, "802.3ad");
+    memset(text, 0xFF, sizeof text);
+    check(nlroute_number_name(NLROUTE_BOND, &mode, text, 4) == 7, "the whole length of a name that is cut");
+    check(!memcmp(text, "802", 4) && are_lent(text + 4, 36), "its first three characters, and a NUL");
+    check(nlroute_number_name(NLROUTE_BOND, &mode, text, 1) == 7 && text[0] == 0, "a NUL alone");
+    text[0] = 'x';
+    check(nlroute_number_name(NLROUTE_BOND, &mode, text, 0) == 7 && text[0] == 'x', "nothing without room");
+    mode.number = 7;
+    check(nlroute_number_name(NLROUTE_BOND, &mode, text, 40) == NLROUTE_ABSENT && text[0] == 0, "-6 of a number");
+    text[0] = 'x';
+    check(nlroute_kind_name(10, &mode, text, 40) == NLROUTE_NO_FAMILY && text[0] == 0, "-5 of a name");
+
+    struct nlroute_value state = value(NLROUTE_IFLA_CAN_STATE, NLROUTE_FORM_NAMED, 3, 0);
+    memset(text, 0xFF, sizeof text);
+    check_text(nlroute_number_name(NLROUTE_CAN, &state, text, 40), text, 40, "BUS-OFF");
+    struct nlroute_value protocol = value(NLROUTE_IFLA_VLAN_PROTOCOL, NLROUTE_FORM_NAMED, 0x88A8, 0);
+    memset(text, 0xFF, sizeof text);
+    check_text(nlroute_number_name(NLROUTE_VLAN, &protocol, text, 40), text, 40, "802.1ad");
+    struct nlroute_value lacp = value(NLROUTE_IFLA_BOND_SLAVE_AD_ACTOR_OPER_PORT_STATE, NLROUTE_FORM_FLAGS, 1, 0);
+    memset(text, 0xFF, sizeof text);
+    check_text(nlroute_flag_name(NLROUTE_BOND_PORT, &lacp, 0, text, 40), text, 40, "LACP_ACTIVITY");
+    check(nlroute_flag_name(NLROUTE_BOND_PORT, &lacp, 8, text, 40) == NLROUTE_ABSENT, "-6 of a bit");
+    check(nlroute_flag_name(NLROUTE_BOND_PORT, &lacp, UINT32_MAX, text, 40) == NLROUTE_ABSENT, "-6 of no bit");
+    struct nlroute_value modes = value(NLROUTE_IFLA_CAN_CTRLMODE, NLROUTE_FORM_MASKED, 0, 0);
+    memset(text, 0xFF, sizeof text);
+    check_text(nlroute_flag_name(NLROUTE_CAN, &modes, 5, text, 40), text, 40, "FD");
+}
+
+static void texts(void) {
+    check_value(NLROUTE_BRIDGE, value(NLROUTE_IFLA_BR_FORWARD_DELAY, NLROUTE_FORM_UNSIGNED, 1500, 0),
+                "1500 (15.00 s)");
+    check_value(NLROUTE_BRIDGE, value(NLROUTE_IFLA_BR_GROUP_FWD_MASK, NLROUTE_FORM_UNSIGNED, 16, 0), "16 (0x10)");
+    check_value(NLROUTE_BRIDGE, value(NLROUTE_IFLA_BR_FDB_FLUSH, NLROUTE_FORM_EMPTY, 0, 0), "");
+    check_value(NLROUTE_BRIDGE, value(NLROUTE_IFLA_BR_VLAN_FILTERING, NLROUTE_FORM_BOOL, 1, 0), "on");
+    check_value(NLROUTE_BRIDGE, value(NLROUTE_IFLA_BR_VLAN_FILTERING, NLROUTE_FORM_BOOL, 0, 0), "off");
+    check_value(NLROUTE_BRIDGE,
+                with_octets(value(NLROUTE_IFLA_BR_BRIDGE_ID, NLROUTE_FORM_BRIDGE_ID, 0x1000, 0),
+                            "\xbe\x51\x20\x60\x12\xa4", 6),
+                "1000.be:51:20:60:12:a4");
+    check_value(NLROUTE_BRIDGE,
+                with_octets(value(NLROUTE_IFLA_BR_GROUP_ADDR, NLROUTE_FORM_MAC, 0, 0), "\x01\x80\xc2\0\0\x04", 6),
+                "01:80:c2:00:00:04");
+    check_value(NLROUTE_BRIDGE, value(NLROUTE_IFLA_BR_MULTI_BOOLOPT, NLROUTE_FORM_MASKED, 1, 3),
+                "value NO_LL_LEARN mask NO_LL_LEARN|MCAST_VLAN_SNOOPING");
+    check_value(NLROUTE_BRIDGE, value(47, NLROUTE_FORM_LIST, 3, 0), "");
+    check_value(NLROUTE_BRIDGE, with_octets(element(47, 1, NLROUTE_FORM_IPV4, 0, 0), "\xc0\xa8\0\x01", 4),
+                "192.168.0.1");
+    check_value(NLROUTE_BRIDGE, element(47, 2, NLROUTE_FORM_UNSIGNED, 3, 0), "ifindex 3");
+    check_value(NLROUTE_BRIDGE,
+                with_octets(element(47, 5, NLROUTE_FORM_IPV6, 0, 0), "\xfe\x80\0\0\0\0\0\0\0\0\0\0\0\0\0\x02", 16),
+                "fe80::2");
+    check_value(NLROUTE_BRIDGE, with_length(value(99, NLROUTE_FORM_UNKNOWN, 0, 0), 48, 2), "hex dead");
+    check_value(NLROUTE_BRIDGE, with_length(value(99, NLROUTE_FORM_UNKNOWN, 0, 0), 50, 0), "(empty)");
+    check_value(NLROUTE_BRIDGE_PORT, value(NLROUTE_IFLA_BRPORT_STATE, NLROUTE_FORM_NAMED, 1, 0), "listening (1)");
+    check_value(NLROUTE_BOND, value(NLROUTE_IFLA_BOND_MODE, NLROUTE_FORM_NAMED, 4, 0), "802.3ad (4)");
+    check_value(NLROUTE_BOND, value(NLROUTE_IFLA_BOND_MODE, NLROUTE_FORM_NAMED, 99, 0), "99");
+    check_value(NLROUTE_BOND, value(NLROUTE_IFLA_BOND_MIIMON, NLROUTE_FORM_UNSIGNED, 100, 0), "100 ms");
+    check_value(NLROUTE_BOND,
+                with_octets(element(NLROUTE_IFLA_BOND_ARP_IP_TARGET, 0, NLROUTE_FORM_IPV4, 0, 0), "\x0a\0\0\x01", 4),
+                "10.0.0.1");
+    check_value(NLROUTE_BOND_PORT, value(NLROUTE_IFLA_BOND_SLAVE_PRIO, NLROUTE_FORM_SIGNED, UINT64_MAX, 0), "-1");
+    check_value(NLROUTE_BOND_PORT,
+                with_length(value(NLROUTE_IFLA_BOND_SLAVE_PERM_HWADDR, NLROUTE_FORM_BYTES, 0, 0), 48, 2), "de:ad");
+    check_value(NLROUTE_BOND_PORT,
+                with_length(value(NLROUTE_IFLA_BOND_SLAVE_AD_ACTOR_OPER_PORT_STATE, NLROUTE_FORM_FLAGS, 5, 0), 0, 1),
+                "LACP_ACTIVITY|AGGREGATION");
+    check_value(NLROUTE_BOND_PORT, with_length(value(8, NLROUTE_FORM_FLAGS, 0, 0), 0, 2), "0");
+    check_value(NLROUTE_VLAN, value(NLROUTE_IFLA_VLAN_PROTOCOL, NLROUTE_FORM_NAMED, 0x8100, 0), "802.1Q (0x8100)");
+    check_value(NLROUTE_VLAN, value(NLROUTE_IFLA_VLAN_FLAGS, NLROUTE_FORM_MASKED, 6, UINT32_MAX),
+                "flags GVRP|LOOSE_BINDING mask all");
+    check_value(NLROUTE_VLAN, element(NLROUTE_IFLA_VLAN_EGRESS_QOS, 1, NLROUTE_FORM_QOS_MAPPING, 5, 6), "from 5 to 6");
+    check_value(NLROUTE_CAN, with_length(value(NLROUTE_IFLA_CAN_BITTIMING, NLROUTE_FORM_BITTIMING, 0, 0), 16, 32),
+                "bitrate 0 sample_point 1 tq 2 prop_seg 3 phase_seg1 4 phase_seg2 5 sjw 6 brp 7");
+    check_value(NLROUTE_CAN,
+                with_length(value(NLROUTE_IFLA_CAN_BITTIMING_CONST, NLROUTE_FORM_BITTIMING_CONST, 0, 0), 0, 48),
+                "name \"mcp251x\" tseg1_min 0 tseg1_max 1 tseg2_min 2 tseg2_max 3 sjw_max 4 "
+                "brp_min 5 brp_max 6 brp_inc 7");
+    check_value(NLROUTE_CAN, value(NLROUTE_IFLA_CAN_CLOCK, NLROUTE_FORM_UNSIGNED, 8000000, 0), "freq 8000000");
+    check_value(NLROUTE_CAN, value(NLROUTE_IFLA_CAN_STATE, NLROUTE_FORM_NAMED, 0, 0), "ERROR-ACTIVE (0)");
+    check_value(NLROUTE_CAN, value(NLROUTE_IFLA_CAN_CTRLMODE, NLROUTE_FORM_MASKED, 0x21, 0),
+                "mask 0 flags LOOPBACK|FD");
+    check_value(NLROUTE_CAN, value(NLROUTE_IFLA_CAN_BERR_COUNTER, NLROUTE_FORM_BERR_COUNTER, 1, 2), "txerr 1 rxerr 2");
+    check_value(NLROUTE_CAN, element(NLROUTE_IFLA_CAN_TERMINATION_CONST, 1, NLROUTE_FORM_UNSIGNED, 120, 0), "120 ohm");
+    check_value(NLROUTE_AF_SPEC_BRIDGE, value(2, NLROUTE_FORM_VLAN_INFO, 10, 6), "vid 10 flags PVID|UNTAGGED");
+
+    uint8_t bytes[130];
+    memset(bytes, 0xAB, sizeof bytes);
+    char text[NLROUTE_TEXT_ROOM];
+    struct nlroute_value v = with_length(value(99, NLROUTE_FORM_UNKNOWN, 0, 0), 0, 130);
+    memset(text, 0xFF, sizeof text);
+    check(nlroute_text(NLROUTE_VLAN, &v, bytes, 130, text, sizeof text) == 264, "the whole length of a long text");
+    check(!strncmp(text, "hex abab", 8) && strlen(text) == 255, "its first 255 characters");
+    memory_is_out = true;
+    ptrdiff_t answer = nlroute_text(NLROUTE_VLAN, &v, bytes, 130, text, sizeof text);
+    memory_is_out = false;
+    check(answer == NLROUTE_NO_MEMORY && text[0] == 0, "-3 of a long text");
+    check(nlroute_text(NLROUTE_VLAN, &v, bytes, 129, text, sizeof text) == NLROUTE_BAD_OCTETS, "-10 of a text");
+    v.form = 20;
+    check(nlroute_text(NLROUTE_VLAN, &v, bytes, 130, text, sizeof text) == NLROUTE_BAD_FORM, "-7 of a text");
+    check(nlroute_text(10, &v, bytes, 130, text, sizeof text) == NLROUTE_NO_FAMILY && text[0] == 0, "-5 of a text");
+}
+
+static void texts_of_faults(void) {
+    const uint8_t nested[16] = {15, 0, 3, 0, 11, 0, 1, 0}, bitrates[12] = {10, 0, 13, 0};
+    struct nlroute_fault fault;
+    char text[NLROUTE_TEXT_ROOM];
+    check(!nlroute_first_fault(NLROUTE_VLAN, nested, 16, &fault), "a mapping of seven bytes");
+    memset(text, 0xFF, sizeof text);
+    memory_is_out = true;
+    ptrdiff_t answer = nlroute_fault_text(NLROUTE_VLAN, &fault, text, sizeof text);
+    memory_is_out = false;
+    check_text(answer, text, sizeof text,
+               "error at 0: IFLA_VLAN_EGRESS_QOS: IFLA_VLAN_QOS_MAPPING has 7 bytes, expected 8");
+    check(!nlroute_first_fault(NLROUTE_VLAN, vlan, 30, &fault), "an attribute that is cut off");
+    memset(text, 0xFF, sizeof text);
+    answer = nlroute_fault_text(NLROUTE_VLAN, &fault, text, sizeof text);
+    check_text(answer, text, sizeof text, "error at 16: nla_len 16 exceeds the 14 bytes left");
+    check(!nlroute_first_fault(NLROUTE_CAN, bitrates, 12, &fault), "bit rates of six bytes");
+    memset(text, 0xFF, sizeof text);
+    answer = nlroute_fault_text(NLROUTE_CAN, &fault, text, sizeof text);
+    check_text(answer, text, sizeof text, "error at 0: IFLA_CAN_BITRATE_CONST has 6 bytes, expected a multiple of 4");
+    fault.cause = 7;
+    check(nlroute_fault_text(NLROUTE_CAN, &fault, text, sizeof text) == NLROUTE_BAD_FORM && text[0] == 0,
+          "-7 of an error");
+    check(nlroute_fault_text(10, &fault, text, sizeof text) == NLROUTE_NO_FAMILY, "-5 of the text of an error");
+}
+
 /* A payload of one byte where four are required, and a truncated header after it. */
 static void room_first(void) {
     const uint8_t short_value[10] = {5, 0, 1, 0, 42, 0, 0, 0, 3, 0};
@@ -276,6 +470,9 @@ int main(void) {
     refusals();
     values();
     timing();
+    names();
+    texts();
+    texts_of_faults();
     value_by_value();
     room_first();
     faults();
