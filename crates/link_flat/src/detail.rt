@@ -58,7 +58,7 @@ pub enum Detail {
 
 /// Returns what the headers say of an attribute type of a list of `family`.
 #[inline]
-pub(crate) fn detail_of(family: Family, kind: u16) -> Detail
+pub fn detail_of(family: Family, kind: u16) -> Detail
     ensures { result ≡ detail_of family kind }
 {
     match family {

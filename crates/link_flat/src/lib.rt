@@ -6,7 +6,7 @@
 
 mod arrays;
 mod contents;
-mod detail;
+pub mod detail;
 mod elements;
 mod entry;
 mod finding;
