@@ -1,0 +1,11 @@
+use Rattle.std.proofs.Common.{◌≡◌, List, ℕ, length}
+use Rattle.link_base.specs.Answers.{OverwritesFront}
+use Rattle.link_write.specs.Spelled.{entries_of}
+use Rattle.link_write.proofs.Spellings.{Reached}
+use Rattle.link_write.proofs.ElementLoops.{entries_from}
+use Rattle.link_write.proofs.writing.put_entries.Given as goal
+
+abbrev pub invariant-loop-i : goal.invariant-loop-i
+invariant-loop-i l =
+    (text : List ℕ) × (l.at ≡ length text) × OverwritesFront l.fn.out l.out text
+    × Reached (entries_of l.family l.octets l.entries) text l.i (entries_from l.family l.octets l.entries l.i)

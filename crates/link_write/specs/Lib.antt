@@ -1,0 +1,5 @@
+pub mod Fields
+pub mod Payload
+pub mod Spelled
+pub mod Elements
+pub mod Groups
