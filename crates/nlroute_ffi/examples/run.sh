@@ -1,6 +1,7 @@
 #!/bin/sh
 # Builds and runs the examples in C and in Rust with the static library, using cc and rustc. Not part of CI.
 # The library is out/libnlroute_ffi.a, as `rt lib` leaves it in this crate; with none there, `rt lib` is run first.
+# If there is a valgrind, it watches the examples that do not initialize what the library writes to.
 # The last line is 'N passed, M failed', and the status 0 only if nothing failed.
 cd "$(dirname "$0")/.." || exit 1
 library=$PWD/out/libnlroute_ffi.a
@@ -9,6 +10,8 @@ room=$(mktemp -d) || exit 1
 trap 'rm -rf "$room"' EXIT
 trap 'exit 1' INT TERM
 failed=0
+watch=
+command -v valgrind >/dev/null && watch="valgrind -q --error-exitcode=99"
 
 [ -f "$library" ] || rt lib >&2 || exit 1
 
@@ -18,10 +21,43 @@ counted() {
     "$@" >>"$room/said" || [ "$(grep -c '^FAILED ' "$room/said")" != "$before" ] || failed=$((failed + 1))
 }
 
+# Compiles an example in C.
+compile() {
+    name=$1
+    shift
+    counted cc -std=c11 -Wall -Wextra -Werror -O2 -I include "$@" -o "$room/$name" "examples/$name.c" "$library" \
+        "$kit/c/libos_c.a" "$kit/c/liblibc_c.a"
+}
+
+# Runs an example, and compares what it prints with standard input.
+prints() {
+    name=$1
+    shift
+    if $watch "$room/$name" >"$room/printed" && diff - "$room/printed" >&2; then
+        echo "ok $*"
+    else
+        echo "FAILED $*"
+    fi >>"$room/said"
+}
+
 : >"$room/said"
-counted cc -std=c11 -Wall -Wextra -Werror -O2 -I include -Wl,--wrap=malloc,--wrap=realloc -o "$room/in_c" \
-    examples/calls.c "$library" "$kit/c/libos_c.a" "$kit/c/liblibc_c.a"
-counted "$room/in_c"
+compile calls -Wl,--wrap=malloc,--wrap=realloc
+counted "$room/calls"
+compile tasks
+counted $watch "$room/tasks"
+compile bridge
+prints bridge "a request is printed" <<'END'
+08000100 bc020000 05000700 01000000 0a001400 0180c200 00040000
+IFLA_BR_FORWARD_DELAY 700 (7.00 s)
+IFLA_BR_VLAN_FILTERING on
+IFLA_BR_GROUP_ADDR 01:80:c2:00:00:04
+END
+compile links
+if $watch "$room/links" >"$room/printed" && grep -q '^1: lo$' "$room/printed"; then
+    echo "ok the links of this machine are printed"
+else
+    echo "FAILED the links of this machine are printed"
+fi >>"$room/said"
 counted rustc --edition 2021 -D warnings -O -o "$room/in_rust" examples/calls.rs \
     -C link-arg="$library" -C link-arg="$kit/c/libos_c.a" -C link-arg="$kit/c/liblibc_c.a"
 counted "$room/in_rust"

@@ -29,6 +29,7 @@
 #include <stdbool.h>
 #include <stddef.h>
 #include <stdint.h>
+#include <string.h>
 
 #ifdef __cplusplus
 extern "C" {
@@ -72,14 +73,18 @@ enum nlroute_family {
 enum nlroute_refusal {
     NLROUTE_HAS_FAULT = -1, /* the input is not a list of this attribute set; nlroute_first_fault() has the first
                                error */
-    NLROUTE_TOO_LONG = -2,  /* the input decodes, but the payload of a value would have more than 65531 bytes */
+    NLROUTE_TOO_LONG = -2,  /* the input decodes, or a value can be written, but a payload would have more than 65531
+                               bytes */
     NLROUTE_NO_MEMORY = -3, /* an allocation failed (it is not proved that this is the only reason for the code);
                                returned by nlroute_rewrite(), nlroute_rewrite_streaming(), nlroute_text(),
                                nlroute_fault_text() and nlroute_report() only */
     NLROUTE_NO_ROOM = -4,   /* the output buffer is too small; each function specifies the size that it needs */
     NLROUTE_NO_FAMILY = -5, /* family is not one of the numbers above */
     NLROUTE_ABSENT = -6,    /* the list does not have what was looked up, or a number or bit has no name */
-    NLROUTE_BAD_FORM = -7,  /* the value has another form; a struct is not as the library stores it */
+    NLROUTE_BAD_FORM = -7,  /* the value has another form than was expected, or than its attribute type; a struct is not
+                               as the library stores it */
+    NLROUTE_BAD_NUMBER = -8,  /* the attribute cannot hold the number */
+    NLROUTE_BAD_ELEMENT = -9, /* an element does not follow a list of its attribute type */
     NLROUTE_BAD_OCTETS = -10 /* the bytes of the value are outside the input, or not as many as its form has */
 };
 
@@ -94,6 +99,8 @@ static inline const char *nlroute_refusal_text(ptrdiff_t code)
     case NLROUTE_NO_FAMILY: return "no attribute set has this number";
     case NLROUTE_ABSENT: return "the list has no such attribute or element";
     case NLROUTE_BAD_FORM: return "the value has another form";
+    case NLROUTE_BAD_NUMBER: return "the attribute cannot hold the number";
+    case NLROUTE_BAD_ELEMENT: return "an element does not follow its list";
     case NLROUTE_BAD_OCTETS: return "the bytes of the value are not in the input";
     default: return code < 0 ? "unknown error" : "no error";
     }
@@ -149,6 +156,7 @@ ptrdiff_t nlroute_count(uint32_t family, const uint8_t *bytes, size_t len);
 
 /* What a value holds, and in which of its fields. */
 enum nlroute_form {
+    NLROUTE_FORM_OF_KIND = 0,          /* for writing: the form of the attribute type; never stored */
     NLROUTE_FORM_EMPTY = 1,            /* no value: the attribute is there */
     NLROUTE_FORM_BOOL = 2,             /* number: 0 or 1 */
     NLROUTE_FORM_UNSIGNED = 3,         /* number */
@@ -260,6 +268,101 @@ ptrdiff_t nlroute_can_bittiming(const struct nlroute_value *value, const uint8_t
 NLROUTE_MUST_USE
 ptrdiff_t nlroute_can_bittiming_const(const struct nlroute_value *value, const uint8_t *bytes, size_t len,
                                       struct can_bittiming_const *limits);
+
+/*
+ * Values for nlroute_write(). Each has NLROUTE_FORM_OF_KIND, so the attribute type determines the form; set form for an
+ * attribute whose type is not known. Every field that is not an argument is 0.
+ */
+
+/* A number, a boolean, an enum, or a set of flags without a mask. An attribute without a value has the number 0. */
+static inline struct nlroute_value nlroute_number(uint16_t kind, uint64_t number)
+{
+    struct nlroute_value value;
+    memset(&value, 0, sizeof value);
+    value.kind = kind;
+    value.number = number;
+    return value;
+}
+
+/* A set of flags with a mask. */
+static inline struct nlroute_value nlroute_flags(uint16_t kind, uint32_t flags, uint32_t mask)
+{
+    struct nlroute_value value = nlroute_number(kind, flags);
+    value.mask = mask;
+    return value;
+}
+
+/* A MAC, IPv4 or IPv6 address: 6, 4 or 16 octets. */
+static inline struct nlroute_value nlroute_address(uint16_t kind, const void *octets, uint32_t length)
+{
+    struct nlroute_value value = nlroute_number(kind, 0);
+    memcpy(value.octets, octets, length < sizeof value.octets ? length : sizeof value.octets);
+    value.length = length;
+    return value;
+}
+
+/* Bytes, or a struct: length bytes at offset of those that are passed to nlroute_write(). */
+static inline struct nlroute_value nlroute_lent(uint16_t kind, uint64_t offset, uint32_t length)
+{
+    struct nlroute_value value = nlroute_number(kind, 0);
+    value.offset = offset;
+    value.length = length;
+    return value;
+}
+
+/* A list, whose elements follow. */
+static inline struct nlroute_value nlroute_list(uint16_t kind)
+{
+    return nlroute_number(kind, 0);
+}
+
+/* An element of a list: a value whose kind is that of the element, or its index among the addresses or numbers. */
+static inline struct nlroute_value nlroute_element(uint16_t list, struct nlroute_value value)
+{
+    value.inner = value.kind;
+    value.kind = list;
+    value.depth = 1;
+    return value;
+}
+
+/* The two arguments octets and len, if no value refers to bytes. */
+#define NLROUTE_NO_OCTETS ((const uint8_t *)""), 0
+
+/*
+ * Serializes count values to out, a buffer of room bytes: the attributes, in order, each with the elements that
+ * follow it. Values may refer to the len bytes at octets, for example to the list that they were read from. Returns
+ * the number of bytes written; the rest of out is unchanged. Does not allocate.
+ *
+ * Only these fields of a value matter: kind, inner, form, depth, the fields that its form uses, and flags for
+ * NLROUTE_FORM_UNKNOWN. For addresses, length is the number of octets: 6, 4 or 16; for NLROUTE_FORM_BRIDGE_ID it is
+ * 8. For other values, length and offset matter if the form refers to bytes. The number of a list does not matter,
+ * nor does inner in a list of addresses or an array of numbers: elements are written in order. A name in a struct
+ * can_bittiming_const is written as nlroute_rewrite() writes it.
+ *
+ * Returns, for the first value that cannot be written,
+ * - NLROUTE_BAD_FORM if form is neither that of its attribute type nor NLROUTE_FORM_OF_KIND, or if the type is not
+ *   known and form is not NLROUTE_FORM_UNKNOWN;
+ * - NLROUTE_BAD_NUMBER if its attribute cannot hold number or second (for a VLAN protocol, number is 0x8100 or
+ *   0x88A8); or if the type is not known, and kind has more than 14 bits or flags has others than those two;
+ * - NLROUTE_BAD_OCTETS if length is wrong, or len is less than offset + length;
+ * - NLROUTE_BAD_ELEMENT if depth is not 0, and it does not follow a list of the same kind, or depth is not 1;
+ * - NLROUTE_TOO_LONG if its payload would have more than 65531 bytes.
+ * Returns NLROUTE_NO_ROOM if and only if all values can be written but the list has more than room bytes. On error
+ * out is unchanged.
+ */
+NLROUTE_MUST_USE
+ptrdiff_t nlroute_write(uint32_t family, const struct nlroute_value *values, size_t count, const uint8_t *octets, size_t len,
+                        uint8_t *out, size_t room);
+
+/*
+ * Returns the number of bytes that nlroute_write() writes for these values, or its error code. If a value cannot be written,
+ * stores the index of the first such value in *at; otherwise *at is unchanged. Does not allocate.
+ *
+ * Returns NLROUTE_NO_ROOM if and only if the list has more than PTRDIFF_MAX bytes.
+ */
+NLROUTE_MUST_USE
+ptrdiff_t nlroute_measure(uint32_t family, const struct nlroute_value *values, size_t count, const uint8_t *octets, size_t len,
+                          size_t *at);
 
 /*
  * Texts. The functions below store a text as snprintf() does. The buffer `text` has room bytes; it gets the first

@@ -6,3 +6,4 @@ pub mod Buffers
 pub mod Names
 pub mod ErrorText
 pub mod ValueText
+pub mod Writing

@@ -5,7 +5,7 @@ use Rattle.netlink_packet_route.specs.declared.link.Cause.TheVariants.{ShortFram
 use Rattle.netlink_packet_route.specs.declared.link.DecodeFault.{DecodeFault}
 use Rattle.netlink_packet_route.specs.declared.link.DecodeFault.TheVariants.{Frame, Value, NestedFrame, NestedValue, Payload, Text}
 use Rattle.nlroute_ffi.specs.declared.refusal.Refusal.{Refusal}
-use Rattle.nlroute_ffi.specs.declared.refusal.Refusal.TheVariants.{Fault, TooLong, Memory, NoRoom, NoFamily, Absent, BadForm, BadOctets}
+use Rattle.nlroute_ffi.specs.declared.refusal.Refusal.TheVariants.{Fault, TooLong, Memory, NoRoom, NoFamily, Absent, BadForm, BadNumber, BadElement, BadOctets}
 
 -- the result for the C caller: a length or a count, or an error code from -1 to -10 (`negsuc n` is -1 - n)
 abbrev pub code_of : Result ℕ Refusal → ℤ
@@ -17,6 +17,8 @@ code_of (Err NoRoom) = negsuc 3
 code_of (Err NoFamily) = negsuc 4
 code_of (Err Absent) = negsuc 5
 code_of (Err BadForm) = negsuc 6
+code_of (Err BadNumber) = negsuc 7
+code_of (Err BadElement) = negsuc 8
 code_of (Err BadOctets) = negsuc 9
 
 -- the causes, as `enum nlroute_cause` of the header numbers them

@@ -16,6 +16,7 @@ mod text;
 mod timing;
 mod value_text;
 mod values;
+mod writing;
 
 ghost use Rattle.std.specs.Prelude.{◌≡◌, ◌↔◌, ◌<◌, [], IsTrue, pos, negsuc, ◌<ℤ◌, length, drop};
 ghost use Rattle.netlink_packet_route.specs.Frame.{pad};
@@ -28,6 +29,7 @@ ghost use Rattle.nlroute_ffi.specs.Buffers.{cut_text};
 ghost use Rattle.nlroute_ffi.specs.Names.{version, KindNameAnswers, NumberNameAnswers, FlagNameAnswers};
 ghost use Rattle.nlroute_ffi.specs.ValueText.{TextAnswers};
 ghost use Rattle.nlroute_ffi.specs.ErrorText.{ErrorTextAnswers};
+ghost use Rattle.nlroute_ffi.specs.Writing.{WriteAnswers, MeasureAnswers};
 
 use crate::buffers::refuse;
 use crate::error_text::store_error_text;
@@ -39,6 +41,7 @@ use crate::text::report_into;
 use crate::timing::{BitTiming, TimingLimits, bit_timing, timing_limits};
 use crate::value_text::store_value_text;
 use crate::values::{count_places, find_element, find_value, store_values};
+use crate::writing::{measure_values, write_values};
 use link_flat::Entry;
 use netlink_packet_route::{Family, is_canonical};
 use std::alloc::Global;
@@ -226,6 +229,53 @@ pub extern "C" fn nlroute_can_bittiming_const(
     ensures unchanged { result <ℤ pos 0 → limits.new ≡ limits.old }
 {
     answer_of(timing_limits(value, octets, limits))
+}
+
+/// Writes the list that `values` spell to the start of `out`; a value may refer to bytes in `octets`. Returns `n`, the
+/// number of bytes written; `out[n..]` is unchanged. Does not allocate.
+///
+/// # Errors
+///
+/// -5 if `family` is not the number of a `Family`. Of the first value that cannot be written: -2 if its payload does not
+/// fit in an attribute, -7 if its form is not that of the attribute type, -8 if its attribute cannot hold a number, -9 if
+/// it is an element that does not follow a list of its type, -10 if its bytes are too many, too few, or outside `octets`.
+/// -4 if all can be written, but `out` is too small. On error `out` is unchanged.
+#[unsafe(no_mangle)]
+pub extern "C" fn nlroute_write(
+    family: u32,
+    values: &[Entry],
+    octets: &[u8],
+    out: &mut [u8],
+) -> isize
+    ensures answer { AnswersBy family (WriteAnswers values.now octets.now out.old out.new) result }
+    ensures unchanged { result <ℤ pos 0 → out.new ≡ out.old }
+{
+    match Family::from_number(family) {
+        Some(family) => answer_of(write_values(family, values, octets, out)),
+        None => answer_of(Err(Refusal::NoFamily)),
+    }
+}
+
+/// Returns the length of the list that `nlroute_write` writes for `values`, at most 2^63 - 1. Does not allocate.
+///
+/// # Errors
+///
+/// -5 if `family` is not the number of a `Family`; otherwise as for `nlroute_write`, but not -4, and `at` is the index of
+/// the first value that cannot be written. Without such a value, `at` is unchanged.
+#[unsafe(no_mangle)]
+pub extern "C" fn nlroute_measure(
+    family: u32,
+    values: &[Entry],
+    octets: &[u8],
+    at: &mut usize,
+) -> isize
+    ensures answer { AnswersBy family (MeasureAnswers values.now octets.now at.old at.new) result }
+    ensures unchanged { result ≡ negsuc 4 → at.new ≡ at.old }
+{
+    match Family::from_number(family) {
+        Some(family) => answer_of(measure_values(family, values, octets, at)),
+        None => answer_of(Err(Refusal::NoFamily)),
+    }
 }
 
 /// Stores the name of the attribute type of `value` in `out`, as far as there is room before a NUL, and the NUL. The

@@ -4,7 +4,9 @@ ghost use Rattle.std.specs.Prelude.{◌≡◌, ◌<◌, ◌^◌};
 ghost use Rattle.std.specs.Result.{ForOk};
 ghost use Rattle.nlroute_ffi.specs.Numbers.{code_of};
 ghost use Rattle.nlroute_ffi.specs.Calls.{refusal_of};
+ghost use Rattle.nlroute_ffi.specs.Writing.{refusal_for};
 
+use link_write::Misfit;
 use netlink_packet_route::RewriteError;
 
 /// Why a function returns no length and no count.
@@ -24,6 +26,10 @@ pub enum Refusal {
     Absent,
     /// The value has another form.
     BadForm,
+    /// A number that its attribute cannot hold.
+    BadNumber,
+    /// An element that does not follow a list of its attribute type.
+    BadElement,
     /// The octets of the value are not within those that were passed, or not as many as its form has.
     BadOctets,
 }
@@ -36,6 +42,19 @@ pub(crate) fn refused_by(error: RewriteError) -> Refusal
         RewriteError::Fault { .. } => Refusal::Fault,
         RewriteError::TooLong { .. } => Refusal::TooLong,
         RewriteError::Memory(_) => Refusal::Memory,
+    }
+}
+
+/// Returns the `Refusal` for an entry that cannot be written.
+pub(crate) fn refused_for(misfit: Misfit) -> Refusal
+    ensures { result ≡ refusal_for misfit }
+{
+    match misfit {
+        Misfit::TooLong => Refusal::TooLong,
+        Misfit::BadForm => Refusal::BadForm,
+        Misfit::BadNumber => Refusal::BadNumber,
+        Misfit::BadElement => Refusal::BadElement,
+        Misfit::BadOctets => Refusal::BadOctets,
     }
 }
 
@@ -53,6 +72,8 @@ pub(crate) fn answer_of(outcome: Result<usize, Refusal>) -> isize
         Err(Refusal::NoFamily) => -5,
         Err(Refusal::Absent) => -6,
         Err(Refusal::BadForm) => -7,
+        Err(Refusal::BadNumber) => -8,
+        Err(Refusal::BadElement) => -9,
         Err(Refusal::BadOctets) => -10,
     }
 }

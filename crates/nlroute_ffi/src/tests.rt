@@ -1,5 +1,7 @@
 //! Tests of what no contract covers: that allocations succeed, and each result for inputs that were computed by hand.
 
+mod writing;
+
 use crate::fault::FirstError;
 use crate::timing::{BitTiming, TimingLimits};
 use crate::{
