@@ -1,3 +1,6 @@
 pub mod Answered
 pub mod Stored
 pub mod Texts
+pub mod StructTexts
+pub mod EntryTexts
+pub mod AttributeTexts

@@ -7,3 +7,4 @@ pub mod Names
 pub mod ErrorText
 pub mod ValueText
 pub mod Writing
+pub mod Shown

@@ -7,6 +7,7 @@
 mod buffers;
 mod error_text;
 mod fault;
+pub mod laws;
 mod lists;
 mod names;
 mod refusal;
