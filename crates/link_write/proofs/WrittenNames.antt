@@ -28,7 +28,12 @@ zeros_after done n low =
     let k = n - m in
     let place : length front + k ≡ n = omega (arith, size, low) in
     let left : 16 - length front - k ≡ 16 - n = omega (arith, size, low) in
-    ap (λ i. drop i (name_field done)) (sym place) ∙ drop-append-add front (replicate (16 - length front) 0) k ∙ drop-replicate k (16 - length front) 0 ∙ ap (λ i. replicate i 0) left
+    let zeros : List ℕ = replicate (16 - length front) 0 in
+    let moved : drop n (name_field done) ≡ drop (length front + k) (front ++ zeros) = ap (λ i. drop i (front ++ zeros)) (sym place) in
+    let cut : drop (length front + k) (front ++ zeros) ≡ drop k zeros = drop-append-add front zeros k in
+    let few : drop k zeros ≡ replicate (16 - length front - k) 0 = drop-replicate k (16 - length front) 0 in
+    let same : replicate (16 - length front - k) 0 ≡ replicate (16 - n) 0 = ap (λ i. replicate i 0) left in
+    moved ∙ cut ∙ few ∙ same
 
 -- more text in a name
 pub name_more : (name done text : List ℕ) (end next : ℕ) → name ≡ name_field done → end ≡ min (length done) 15 → next ≡ min (end + length text) 15
