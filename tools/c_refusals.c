@@ -4,7 +4,7 @@
  *
  * For each list and function, the first allocation and all later ones fail, then the second and all later ones, and so
  * on, until a run has no failed allocation. No function may allocate again after a failed allocation, and
- * nlroute_count() and nlroute_first_fault() may not allocate at all. The linker options --wrap=malloc, --wrap=realloc and
+ * those for counts, errors, values and writing may not allocate at all. The linker options --wrap=malloc, --wrap=realloc and
  * --wrap=free let this program count allocations. It prints a line for each check that fails, and then the counts.
  */
 #include "nlroute.h"
@@ -87,6 +87,35 @@ static ptrdiff_t telling(size_t room) {
     return (void)room, answer == NLROUTE_ABSENT ? 0 : answer;
 }
 
+/* Stores the values, finds the first, and writes them again. */
+static struct nlroute_value values[MOST / 2];
+
+static ptrdiff_t valuing(size_t room) {
+    static uint8_t again[MOST + 4];
+    struct nlroute_value found;
+    size_t at = 0;
+    ptrdiff_t count = nlroute_values(family, list, len, values, MOST / 2);
+    if (count <= 0) return count;
+    if (nlroute_places(family, list, len) != count) return NLROUTE_ABSENT;
+    if (nlroute_find(family, list, len, values[0].kind, &found)) return NLROUTE_ABSENT;
+    ptrdiff_t measured = nlroute_measure(family, values, (size_t)count, list, len, &at);
+    ptrdiff_t written = nlroute_write(family, values, (size_t)count, list, len, again, sizeof again);
+    return (void)room, written == measured ? written : NLROUTE_ABSENT;
+}
+
+/* Returns the length of all texts of values. Long ones are written to the heap first. */
+static ptrdiff_t texting(size_t room) {
+    char words[64];
+    ptrdiff_t count = nlroute_values(family, list, len, values, MOST / 2), sum = 0;
+    for (ptrdiff_t i = 0; i < count; i++) {
+        ptrdiff_t named = nlroute_kind_name(family, &values[i], words, sizeof words);
+        ptrdiff_t size = nlroute_text(family, &values[i], list, len, words, sizeof words);
+        if (named < 0 || size < 0) return size;
+        sum += size;
+    }
+    return (void)room, count < 0 ? count : sum;
+}
+
 /* The status is stored after the longest possible output. */
 static ptrdiff_t reporting(size_t room) {
     return nlroute_report(family, (const uint8_t *)text, 2 * len, out, room, &out[ROOM - 1]);
@@ -95,12 +124,14 @@ static ptrdiff_t reporting(size_t room) {
 static const struct {
     const char *name;
     calling *call;
-    bool is_by_value, may_allocate;
-} calls[] = {{"rewrite", rewriting, false, true},
-             {"rewrite_streaming", into, true, true},
-             {"count", counting, false, false},
-             {"first_fault", telling, false, false},
-             {"report", reporting, false, true}};
+    bool is_by_value, may_allocate, has_room;
+} calls[] = {{"rewrite", rewriting, false, true, true},
+             {"rewrite_streaming", into, true, true, true},
+             {"count", counting, false, false, false},
+             {"first_fault", telling, false, false, false},
+             {"values and write", valuing, false, false, false},
+             {"text", texting, false, true, false},
+             {"report", reporting, false, true, true}};
 
 /* Returns how many bytes a call with this result, or a failed one, may write, and some more to check. */
 static size_t reach_of(ptrdiff_t answer) {
@@ -149,7 +180,7 @@ static void try_call(size_t i) {
     memcpy(whole, out, reach_of(answer)), whole[ROOM - 1] = out[ROOM - 1];
     unsigned long n = 0;
     while (refuse(i, n, answer)) n++;
-    if (answer <= 0 || calls[i].call == counting) return;
+    if (answer <= 0 || !calls[i].has_room) return;
     for (size_t by = 1; by <= 4; by++)
         shorten(i, calls[i].is_by_value ? padded() : (size_t)answer, by);
 }

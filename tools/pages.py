@@ -67,7 +67,7 @@ BUDGETS = {
     "CONTRIBUTING.md": 1850,
     "crates/nlroute_ffi/README.md": 1200,
     "docs/ARCHITECTURE.md": 2150,
-    "docs/ASSURANCE.md": 1300,
+    "docs/ASSURANCE.md": 1350,
     "docs/CALLING.md": 1750,
     "docs/CLAIMS.md": 3050,
     "docs/DEBUG.md": 700,

@@ -2,9 +2,10 @@
 """seeds.py DIR: the inputs that the fuzzer starts from, as files of DIR.
 
 They are the lists of bench, the payloads that Linux sent (docs/captured.txt) and the lists of the runs of nlshow, each
-behind a byte with the number of its family."""
+behind a byte with the number of its family; and arrays of values to write, behind a byte whose highest bit is set too."""
 import os
 import re
+import struct
 import subprocess
 import sys
 import tempfile
@@ -41,6 +42,16 @@ def run_rows():
     return dict.fromkeys(row for text in inputs for row in rows_of(text.decode(errors="replace")))
 
 
+def arrays():
+    """For each family, values of its first attribute types, each by itself and before an element."""
+    for family in range(len(NAMES)):
+        for kind in range(64):
+            value = struct.pack("<HHHBBIIQQ16s", kind, 0, 0, 0, 0, 1, 6, 1, 0, b"\x02")
+            element = struct.pack("<HHHBBIIQQ16s", kind, 1, 0, 0, 1, 2, 4, 3, 0, b"\x0a")
+            yield family, value
+            yield family, value + element
+
+
 def main():
     to = sys.argv[1]
     os.makedirs(to, exist_ok=True)
@@ -49,7 +60,11 @@ def main():
     for number, (name, data) in enumerate(rows):
         with open(f"{to}/{number:04}_{name}", "wb") as file:
             file.write(bytes([NAMES.index(name)]) + data)
-    print(f"{len(rows)} seeds")
+    made = [*arrays()]
+    for number, (family, data) in enumerate(made):
+        with open(f"{to}/values_{number:04}", "wb") as file:
+            file.write(bytes([0x80 | family]) + data)
+    print(f"{len(rows) + len(made)} seeds")
 
 
 if __name__ == "__main__":
