@@ -20,20 +20,15 @@ cut_more done text =
     ]
 
 -- the zeros after a name
+zeros_behind : (front : List ℕ) (n : ℕ) → length front ≤ n → drop n (front ++ replicate (16 - length front) 0) ≡ replicate (16 - n) 0
+zeros_behind front n low =
+    let k = n - length front in
+    let place : length front + k ≡ n = omega (arith, low) in
+    let left : 16 - length front - k ≡ 16 - n = omega (arith, low) in
+    ap (λ i. drop i (front ++ replicate (16 - length front) 0)) (sym place) ∙ drop-append-add front (replicate (16 - length front) 0) k ∙ drop-replicate k (16 - length front) 0 ∙ ap (λ i. replicate i 0) left
+
 zeros_after : (done : List ℕ) (n : ℕ) → min (length done) 15 ≤ n → drop n (name_field done) ≡ replicate (16 - n) 0
-zeros_after done n low =
-    let front = take 15 done in
-    let m = min (length done) 15 in
-    let size : length front ≡ m = omega (arith, length-take 15 done) in
-    let k = n - m in
-    let place : length front + k ≡ n = omega (arith, size, low) in
-    let left : 16 - length front - k ≡ 16 - n = omega (arith, size, low) in
-    let zeros : List ℕ = replicate (16 - length front) 0 in
-    let moved : drop n (name_field done) ≡ drop (length front + k) (front ++ zeros) = ap (λ i. drop i (front ++ zeros)) (sym place) in
-    let cut : drop (length front + k) (front ++ zeros) ≡ drop k zeros = drop-append-add front zeros k in
-    let few : drop k zeros ≡ replicate (16 - length front - k) 0 = drop-replicate k (16 - length front) 0 in
-    let same : replicate (16 - length front - k) 0 ≡ replicate (16 - n) 0 = ap (λ i. replicate i 0) left in
-    moved ∙ cut ∙ few ∙ same
+zeros_after done n low = zeros_behind (take 15 done) n (omega (arith, length-take 15 done, low))
 
 -- more text in a name
 pub name_more : (name done text : List ℕ) (end next : ℕ) → name ≡ name_field done → end ≡ min (length done) 15 → next ≡ min (end + length text) 15

@@ -52,7 +52,7 @@ element_content table (fields.Numbers width) i e octets = payload_of (any_number
 element_content table (fields.Addresses size) i e octets = framed i (payload_of (ip_address size) e octets)
 element_content table (fields.List flag) i e octets =
     let own = fields_at table details.Plain e.inner in
-    framed (field_of own e.inner e) (payload_of own e octets)
+    framed (field_of own e.inner e) (payload_of own (record e { kind = e.inner }) octets)
 element_content table list i e octets = Err BadElement
 
 -- likewise, if it is an element of an attribute of type k

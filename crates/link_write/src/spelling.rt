@@ -170,9 +170,13 @@ impl<'a> Elements<'a> {
             ),
             Fields::List { .. } => {
                 let own = element_fields(self.family, self.kind, entry.inner);
+                let attribute = Entry {
+                    kind: entry.inner,
+                    ..*entry
+                };
                 Element::framed(
                     field_of(own, entry.inner, entry),
-                    payload_of(own, entry, self.octets),
+                    payload_of(own, &attribute, self.octets),
                 )
             }
             _ => Err(Misfit::BadElement),
