@@ -1,7 +1,7 @@
 -- The entries of attributes: those of one, and of one more.
 use Rattle.std.proofs.Common.{◌≡◌, ℕ, ◌+◌, ◌-◌, ◌*◌, ◌≤◌, List, [], ◌∷◌, ◌++◌, length, take, drop, min, refl, sym, ap, ap₂, subst, ◌∙◌, arith, set, append_assoc}
 use Rattle.std.specs.List.{AllZip, flat_map}
-use Rattle.std.proofs.lemmas.List.{append-nil, length-append, length-drop, set_at, set_past}
+use Rattle.std.proofs.lemmas.List.{append-nil, length-append, length-drop, set-set, set_at, set_past}
 use Rattle.std.proofs.lemmas.Grind.{flat_map-append}
 use Rattle.link_base.specs.declared.buffer.NlaBuffer.{NlaBuffer}
 use Rattle.link_base.specs.declared.content.Content.{Content}
@@ -32,6 +32,24 @@ group_stored family at first next b content entry es old mid new has elements pu
         omega (arith, puts.1),
       ),
       omega (arith, fewer),
+    )
+
+-- an attribute without elements
+pub group_single : (family : Family) (at : ℕ) (b : NlaBuffer) (content : Content) (e : Entry) → HasContent (table_of family) b content
+    → Elements (table_of family) (kind_of (kind_field_of b)) (at + 4) content [] → e ≡ head_entry family (at, b) content 0 → IsGroup family (at, b) (e ∷ [])
+group_single family at b content e has none is = (content, has, ([], none, ap (λ d. d ∷ []) is))
+
+-- the entry of an attribute that is stored before the others replaces what is in its place
+pub group_again : (family : Family) (x : Item) (old new : List Entry) (first next n : ℕ) (e : Entry)
+    → (group : List Entry) × IsGroup family x group × Puts (set old first e) new first group next × (2 * length group ≤ n)
+    → (group : List Entry) × IsGroup family x group × Puts old new first group next × (2 * length group ≤ n)
+group_again family x old new first next n e (group, (content, has, (below, elements, is)), puts, fewer) =
+    let head : Entry = head_entry family x content (length below) in
+    let again : placed (set old first e) first (head ∷ below) ≡ placed old first (head ∷ below) = ap (λ t. placed t (first + 1) below) (set-set old first e head) in (
+      group,
+      (content, has, (below, elements, is)),
+      (puts.0 ∙ ap (placed (set old first e) first) is ∙ again ∙ sym (ap (placed old first) is), puts.1),
+      fewer,
     )
 
 -- the entries of several groups

@@ -1,5 +1,5 @@
 -- What the kernel's headers say of payloads beyond the form of their content.
-use Rattle.std.specs.Prelude.{ℕ, ◌==◌, List, [], ◌∷◌, if◌then◌else◌}
+use Rattle.std.specs.Prelude.{ℕ, ◌==◌, List, [], ◌∷◌, Option, Some, None, if◌then◌else◌}
 use Rattle.netlink_packet_route.specs.declared.family.Family.{Family}
 use Rattle.netlink_packet_route.specs.declared.family.Family.TheVariants.{AfSpecBridge, Bridge, BridgePort, Can}
 use Rattle.link_flat.specs.declared.detail.Detail.{Detail}
@@ -20,3 +20,8 @@ detail_in (row ∷ rows) k = if row.0 == k then row.1 else detail_in rows k
 -- that of an attribute type
 abbrev pub detail_of : Family → ℕ → Detail
 detail_of family k = detail_in (details family) k
+
+-- that of an attribute type of a family; nothing is known of elements
+abbrev pub detail_within : Option Family → ℕ → Detail
+detail_within (Some family) k = detail_of family k
+detail_within None k = Plain

@@ -1,7 +1,7 @@
 //! What the kernel's headers say of payloads beyond the form of their content.
 
 ghost use Rattle.std.specs.Prelude.{◌≡◌};
-ghost use Rattle.link_flat.specs.Detail.{detail_of};
+ghost use Rattle.link_flat.specs.Detail.{detail_of, detail_within};
 
 use netlink_packet_route::Family;
 
@@ -57,7 +57,7 @@ pub enum Detail {
 }
 
 /// Returns what the headers say of an attribute type of a list of `family`.
-#[inline]
+#[inline(always)]
 pub fn detail_of(family: Family, kind: u16) -> Detail
     ensures { result ≡ detail_of family kind }
 {
@@ -84,5 +84,16 @@ pub fn detail_of(family: Family, kind: u16) -> Detail
             _ => Detail::Plain,
         },
         _ => Detail::Plain,
+    }
+}
+
+/// Returns what the headers say of an attribute type of a list of `family`; nothing of elements, for which `family` is `None`.
+#[inline(always)]
+pub(crate) fn detail_within(family: Option<Family>, kind: u16) -> Detail
+    ensures { result ≡ detail_within family kind }
+{
+    match family {
+        Some(family) => detail_of(family, kind),
+        None => Detail::Plain,
     }
 }

@@ -2,6 +2,8 @@
 
 ghost use Rattle.std.specs.Prelude.{◌≡◌};
 
+use crate::octets::pad;
+
 /// An attribute of a list, or an element of an attribute that is a list (`struct nlroute_value`). Numbers are in the byte
 /// order of the machine. Fields that the form does not use are 0.
 #[repr(C)]
@@ -30,7 +32,8 @@ pub struct Entry {
 }
 
 impl Entry {
-    ghost use Rattle.link_flat.specs.Entry.{blank};
+    ghost use Rattle.link_flat.specs.Entry.{blank, padded};
+    ghost use Rattle.link_flat.specs.Content.{word};
 
     /// Returns the entry of an attribute or an element, without its content.
     #[inline(always)]
@@ -49,5 +52,34 @@ impl Entry {
             offset,
             octets: [0; 16],
         }
+    }
+
+    /// Sets the form and the number.
+    #[inline(always)]
+    pub(crate) fn hold(&mut self, as_form: u8, value: u64)
+        ensures { self.new ≡ record self.old { form = as_form; number = value } }
+    {
+        self.form = as_form;
+        self.number = value;
+    }
+
+    /// Sets the form and both numbers.
+    #[inline(always)]
+    pub(crate) fn hold_both(&mut self, as_form: u8, first: u32, other: u32)
+        ensures value { self.new ≡ record self.old { form = as_form; number = first; second = other } }
+        ensures words { (word first ≡ first) × (word other ≡ other) }
+    {
+        self.form = as_form;
+        self.number = first.into();
+        self.second = other;
+    }
+
+    /// Sets the form and the octets: the first sixteen of these, and zeros after them if there are fewer.
+    #[inline(always)]
+    pub(crate) fn hold_octets(&mut self, as_form: u8, address: &[u8])
+        ensures { self.new ≡ record self.old { form = as_form; octets = padded address.now } }
+    {
+        self.form = as_form;
+        pad(&mut self.octets, address);
     }
 }

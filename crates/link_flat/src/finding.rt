@@ -9,11 +9,11 @@ ghost use Rattle.netlink_packet_route.specs.Views.{family_in};
 ghost use Rattle.link_flat.specs.Finding.{item_of, IsEntryOf, Finds};
 
 use crate::entry::Entry;
-use crate::flattening::put_value;
+use crate::flattening::put_group;
 use link_base::ListFault;
 use link_base::attribute_set::AttributeSet;
 use link_base::view::{Value, View};
-use netlink_packet_route::{Family, FamilySet, view_list};
+use netlink_packet_route::{Family, FamilyElements, FamilySet, view_list};
 
 /// Returns the entry of the last attribute of type `kind` in a list, as `flatten` stores it; `None` if there is none. Unless
 /// it takes all attributes of a type, Linux takes the last. Nothing is allocated.
@@ -84,7 +84,16 @@ fn entry_of(at: usize, value: &Value<'_, FamilySet>) -> Entry
     requires { at + (4 + length (payload_in value.now)) < 2 ^ 63 }
     ensures { IsEntryOf (family_in (set_in value.now)) (at, buffer_in value.now) result }
 {
+    let family = value.set().family;
+    let list = value.kind();
     let mut place = [Entry::blank(0, 0, 0, 0, 0)];
-    put_value(&mut place, at, 0, value);
+    put_group(
+        &mut place,
+        family,
+        at,
+        0,
+        value,
+        FamilyElements { family, list },
+    );
     place[0]
 }

@@ -1,25 +1,25 @@
 //! Lists as entries.
 
-ghost use Rattle.std.specs.Prelude.{◌≡◌, ◌≤◌, ◌<◌, ◌+◌, ◌*◌, ◌^◌, List, length, IfOk};
+ghost use Rattle.std.specs.Prelude.{◌≡◌, ◌≤◌, ◌<◌, ◌+◌, ◌*◌, ◌^◌, ◌∷◌, [], List, length, slice_set, IfOk, IsTrue};
 ghost use Rattle.link_base.specs.Frame.{kind_of};
 ghost use Rattle.link_base.specs.Buffer.{kind_field_of, payload_of};
-ghost use Rattle.link_base.specs.Viewed.{bytes_in, set_of, set_in, buffer_in, payload_in};
+ghost use Rattle.link_base.specs.Table.{Decodes};
+ghost use Rattle.link_base.specs.Borrowed.{elements_at};
+ghost use Rattle.link_base.specs.Viewed.{set_in, buffer_in, kind_in, payload_in};
 ghost use Rattle.netlink_packet_route.specs.Family.{table_of};
-ghost use Rattle.netlink_packet_route.specs.Views.{family_in};
 ghost use Rattle.link_flat.specs.declared.entry.Entry.{Entry};
+ghost use Rattle.link_flat.specs.Entry.{blank};
 ghost use Rattle.link_flat.specs.Flat.{HasContent, Elements, head_entry, IsGroup, Flat, Puts, Flattens};
 
 use crate::arrays::{Width, put_numbers};
-use crate::contents::filled;
-use crate::detail::detail_of;
+use crate::contents::fill;
 use crate::elements::{put_addresses, put_elements};
 use crate::entry::Entry;
-use crate::placing::put;
-use link_base::attribute_set::Set;
+use link_base::attribute_set::{AttributeSet, ElementSet, Set};
 use link_base::content::Content;
 use link_base::view::{Value, View};
-use link_base::{DefaultNla, ListFault, NlaBuffer};
-use netlink_packet_route::{Family, FamilyElements, FamilySet, view_list};
+use link_base::{Attribute, DefaultNla, ListFault, NlaBuffer};
+use netlink_packet_route::{Family, by_family, view_list};
 
 /// Stores the entries of a list in `places`: one for each attribute, and after an attribute that is a list one for each
 /// element. Returns the number of entries, which may be greater than that of places: then the first entries are stored. The
@@ -33,23 +33,48 @@ pub fn flatten(family: Family, bytes: &[u8], places: &mut [Entry]) -> Result<usi
     ensures bounded { IfOk result (λ n. 2 * n ≤ length bytes.now) }
 {
     match view_list(family, bytes) {
-        Ok(list) => Ok(put_list(places, list)),
+        Ok(_) => Ok(put_list(places, family, bytes)),
         Err(fault) => Err(fault),
     }
 }
 
 /// Stores the entries of a list, as far as there are places. Returns their number.
-fn put_list(places: &mut [Entry], list: View<'_, FamilySet>) -> usize
-    ensures { (es : List Entry) × Flat (family_in (set_of list.entry)) (bytes_in list.entry) es
-        × Puts places.old places.new 0 es result × (2 * length es ≤ length (bytes_in list.entry)) }
+#[inline(always)]
+fn put_list(places: &mut [Entry], family: Family, bytes: &[u8]) -> usize
+    requires { Decodes (table_of family) bytes.now }
+    ensures { (es : List Entry) × Flat family bytes.now es
+        × Puts places.old places.new 0 es result × (2 * length es ≤ length bytes.now) }
 {
-    let length = list.bytes().len();
-    let mut rest = list;
+    by_family!(family, put_list_as(places, family, bytes))
+}
+
+/// Stores the entries of a list of attributes of the type `F`, as [`put_list`] does.
+fn put_list_as<F: Attribute>(places: &mut [Entry], family: Family, bytes: &[u8]) -> usize
+    requires table { F.table ≡ table_of family }
+    requires decodes { Decodes F.table bytes.now }
+    ensures { (es : List Entry) × Flat family bytes.now es
+        × Puts places.old places.new 0 es result × (2 * length es ≤ length bytes.now) }
+{
+    let mut rest = View::of_checked(bytes, Set::<F>::new());
     let mut next = 0;
     'values: loop {
-        let at = length - rest.bytes().len();
+        // In this loop, each attribute takes one place.
+        'singles: while next < places.len() {
+            let at = bytes.len() - rest.bytes().len();
+            match rest.next() {
+                Some(value) => {
+                    if !fill_single(&mut places[next], family, at, &value) {
+                        next = put_value(places, family, at, next, value);
+                        continue 'values;
+                    }
+                    next += 1;
+                }
+                None => return next,
+            }
+        }
+        let at = bytes.len() - rest.bytes().len();
         match rest.next() {
-            Some(value) => next = put_value(places, at, next, &value),
+            Some(value) => next = put_value(places, family, at, next, value),
             None => return next,
         }
     }
@@ -57,65 +82,144 @@ fn put_list(places: &mut [Entry], list: View<'_, FamilySet>) -> usize
 
 /// Stores the entries of an attribute that starts at this offset, the first in the place `first`. Returns the place after
 /// them.
-pub(crate) fn put_value(
+#[inline(always)]
+fn put_value<F: Attribute>(
     places: &mut [Entry],
+    family: Family,
     at: usize,
     first: usize,
-    value: &Value<'_, FamilySet>,
+    value: Value<'_, Set<F>>,
 ) -> usize
+    requires table { F.table ≡ table_of family }
+    requires offset { at + (4 + length (payload_in value)) < 2 ^ 63 }
+    requires place { first + (4 + length (payload_in value)) < 2 ^ 63 }
+    ensures { (es : List Entry) × IsGroup family (at, buffer_in value.entry) es
+        × Puts places.old places.new first es result × (2 * length es ≤ 4 + length (payload_in value.entry)) }
+{
+    let elements = ElementSet::<F>::new(value.kind());
+    put_group(places, family, at, first, &value, elements)
+}
+
+/// Stores the entry of an attribute that starts at this offset in `place`, and returns true, unless it is a list. If it is,
+/// the entry is not complete.
+#[inline(always)]
+fn fill_single<F: Attribute>(
+    place: &mut Entry,
+    family: Family,
+    at: usize,
+    value: &Value<'_, Set<F>>,
+) -> bool
+    requires table { F.table ≡ table_of family }
+    requires offset { at + (4 + length (payload_in value.now)) < 2 ^ 63 }
+    ensures { IsTrue result → IsGroup family (at, buffer_in value.now) (place.new ∷ []) }
+{
+    let buffer = value.buffer();
+    // Stored before the content is known: the compiler then stores each content where it reads it.
+    *place = blank_head(at, &buffer);
+    match value.content() {
+        Content::List(_) | Content::Addresses { .. } | Content::U16s(_) | Content::U32s(_) => false,
+        content => {
+            fill(place, Some(family), buffer.raw_kind(), content, 0);
+            true
+        }
+    }
+}
+
+/// Stores the entries of an attribute that starts at this offset, the first in the place `first`. Returns the place after
+/// them. `elements` is the set of its elements.
+#[inline(never)]
+pub(crate) fn put_group<S: AttributeSet, E: AttributeSet>(
+    places: &mut [Entry],
+    family: Family,
+    at: usize,
+    first: usize,
+    value: &Value<'_, S>,
+    elements: E,
+) -> usize
+    requires table { S.rows (set_in value.now) ≡ table_of family }
+    requires elements { E.rows elements ≡ elements_at (table_of family) (kind_in value.now) }
     requires offset { at + (4 + length (payload_in value.now)) < 2 ^ 63 }
     requires place { first + (4 + length (payload_in value.now)) < 2 ^ 63 }
-    ensures { (es : List Entry) × IsGroup (family_in (set_in value.now)) (at, buffer_in value.now) es
+    ensures { (es : List Entry) × IsGroup family (at, buffer_in value.now) es
         × Puts places.old places.new first es result × (2 * length es ≤ 4 + length (payload_in value.now)) }
 {
-    let family = value.set().family;
     let buffer = value.buffer();
     let content = value.content();
-    let next = put_below(places, family, at + 4, first + 1, &buffer, content);
-    let below = next - (first + 1);
-    put(
+    let next = put_below(
         places,
-        first,
-        head_entry(family, at, &buffer, content, below),
+        family,
+        at + 4,
+        first + 1,
+        &buffer,
+        content,
+        elements,
     );
+    let below = next - (first + 1);
+    store_head(places, family, at, first, &buffer, content, below);
     next
 }
 
-/// Returns the entry of an attribute that starts at this offset; if it is a list, `below` elements follow.
-#[inline]
-fn head_entry(
+/// Stores the entry of an attribute that starts at this offset in the place `first`, if there is one. If the attribute is a
+/// list, `below` elements follow.
+#[inline(always)]
+fn store_head(
+    places: &mut [Entry],
+    family: Family,
+    at: usize,
+    first: usize,
+    buffer: &NlaBuffer<'_>,
+    content: Content<'_>,
+    below: usize,
+)
+    requires { at + (4 + length (payload_of buffer.now)) < 2 ^ 63 }
+    ensures { places.new ≡ slice_set places.old first (head_entry family (at, buffer.now) content.entry below) }
+{
+    if first < places.len() {
+        fill_head(&mut places[first], family, at, buffer, content, below);
+    }
+}
+
+/// Stores the entry of an attribute that starts at this offset in `place`. If the attribute is a list, `below` elements follow.
+#[inline(always)]
+fn fill_head(
+    place: &mut Entry,
     family: Family,
     at: usize,
     buffer: &NlaBuffer<'_>,
     content: Content<'_>,
     below: usize,
-) -> Entry
+)
     requires { at + (4 + length (payload_of buffer.now)) < 2 ^ 63 }
-    ensures { result ≡ head_entry family (at, buffer.now) content.entry below }
+    ensures { place.new ≡ head_entry family (at, buffer.now) content.entry below }
 {
-    let kind = buffer.kind();
-    let length = u32::from(buffer.length() - 4);
-    let entry = Entry::blank(kind, 0, 0, (at + 4) as u64, length);
-    filled(
-        detail_of(family, kind),
-        buffer.raw_kind(),
-        content,
-        below,
-        entry,
-    )
+    *place = blank_head(at, buffer);
+    fill(place, Some(family), buffer.raw_kind(), content, below);
+}
+
+/// Returns the entry of an attribute that starts at this offset, without its content.
+#[inline(always)]
+fn blank_head(at: usize, buffer: &NlaBuffer<'_>) -> Entry
+    requires { at + (4 + length (payload_of buffer.now)) < 2 ^ 63 }
+    ensures { result ≡ blank (kind_of (kind_field_of buffer.now)) 0 0 (at + 4) (length (payload_of buffer.now)) }
+{
+    let length = buffer.value_length() as u32;
+    Entry::blank(buffer.kind(), 0, 0, (at + 4) as u64, length)
 }
 
 /// Stores the entries of the elements of an attribute whose payload starts at offset `at`, if its content is a list; the
 /// first in the place `first`. Returns the place after them.
-fn put_below(
+#[inline(always)]
+fn put_below<E: AttributeSet>(
     places: &mut [Entry],
     family: Family,
     at: usize,
     first: usize,
     buffer: &NlaBuffer<'_>,
     content: Content<'_>,
+    elements: E,
 ) -> usize
     requires content { HasContent (table_of family) buffer.now content }
+    requires elements { E.rows elements ≡ elements_at (table_of family) (kind_of (kind_field_of buffer.now)) }
     requires offset { at + length (payload_of buffer.now) < 2 ^ 63 }
     requires place { first + length (payload_of buffer.now) < 2 ^ 63 }
     ensures { (es : List Entry)
@@ -129,7 +233,7 @@ fn put_below(
             kind,
             at,
             first,
-            View::of_checked(bytes, FamilyElements { family, list: kind }),
+            View::of_checked(bytes, elements),
         ),
         Content::Addresses { list, size } => put_addresses(
             places,

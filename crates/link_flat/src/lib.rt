@@ -15,7 +15,6 @@ mod flattening;
 pub mod forms;
 pub mod laws;
 pub mod octets;
-mod placing;
 
 pub use entry::Entry;
 pub use finding::find;

@@ -6,8 +6,8 @@ use Rattle.link_flat.proofs.arrays.put_numbers.Goals as goal
 
 pub loop-i-preserved : goal.loop-i-preserved
 loop-i-preserved c =
-    front_stored c.args.kind c.args.at (width_of c.args.width) c.args.bytes.now c.args.places.now c.loop-i.places c.put.new.places c.args.first c.loop-i.i _ _ c.loop-i.invariant refl
-    c.number_entry.ensures c.put.ensures
+    front_stored c.args.kind c.args.at (width_of c.args.width) c.args.bytes.now c.args.places.now c.loop-i.places c.store_number.new.places c.args.first c.loop-i.i _ _ c.loop-i.invariant refl
+    refl c.store_number.ensures
 
 pub returns : goal.returns
 returns c =

@@ -19,10 +19,11 @@ elements-preserved g c =
     let rest = bytes_in c.elements.rest in
     let set : set_in x ≡ set_of v = steps.1 ∙ before.1 in
     let offset = c.args.at + (length c.bytes-length.result.now - length c.bytes.result.now) + 4 in
-    let is = subst (λ s. IsElement (g.T.AttributeSet.rows s) c.args.kind offset (buffer_in x) c.element_entry.result) set c.element_entry.ensures in
+    let (e, its, stored) = c.put_element.ensures in
+    let is = subst (λ s. IsElement (g.T.AttributeSet.rows s) c.args.kind offset (buffer_in x) e) set its in
     let place : offset ≡ c.args.at + ((length list - length rest) + 4) = omega (arith, before.0, ap length c.bytes.ensures) in (
       before.0,
       steps.2 ∙ before.1,
-      elements_more (g.T.AttributeSet.rows (set_of v)) c.args.kind c.args.at list rest (bytes_in c.next.new.self) c.args.places.now c.elements.places c.put.new.places c.args.first c.elements.next offset
-          (buffer_in x) c.element_entry.result before.2 steps.0 place is c.put.ensures,
+      elements_more (g.T.AttributeSet.rows (set_of v)) c.args.kind c.args.at list rest (bytes_in c.next.new.self) c.args.places.now c.elements.places c.put_element.new.places c.args.first c.elements.next offset
+          (buffer_in x) e before.2 steps.0 place is stored,
     )

@@ -2,7 +2,7 @@ use Rattle.std.proofs.Common.{[], refl, sym, subst, arith}
 use Rattle.link_base.specs.Frame.{kind_of}
 use Rattle.link_base.specs.Buffer.{kind_field_of, payload_of}
 use Rattle.link_base.specs.Table.{class_at}
-use Rattle.link_base.specs.Borrowed.{HasValues, Borrows, elements_at}
+use Rattle.link_base.specs.Borrowed.{HasValues, Borrows}
 use Rattle.link_base.proofs.Elements.{elements_decode}
 use Rattle.netlink_packet_route.specs.Family.{table_of}
 use Rattle.link_flat.specs.Flat.{Elements, Puts, number_entries}
@@ -11,17 +11,16 @@ use Rattle.link_flat.proofs.Shapes.{addresses_decode, no_elements, u16s_payload,
 use Rattle.link_flat.proofs.flattening.put_below.Goals as goal
 
 pub of_checked-requires : goal.of_checked-requires
-of_checked-requires c =
+of_checked-requires g c =
     let table = table_of c.args.family in
     let b = c.args.buffer.now in
     let bytes = c.in-List.bytes in
     let shape = class_at table (kind_of (kind_field_of b)) in
     let borrows = subst (Borrows shape (payload_of b)) c.in-List.is c.requires.content.borrows in
-    subst (λ k. HasValues (elements_at table k) bytes.now) (sym c.kind-kind.ensures)
-    (elements_decode table (kind_field_of b) (payload_of b) bytes c.requires.content.decodes borrows)
+    subst (λ t. HasValues t bytes.now) (sym c.requires.elements) (elements_decode table (kind_field_of b) (payload_of b) bytes c.requires.content.decodes borrows)
 
 pub of_checked-requires-in-Addresses : goal.of_checked-requires-in-Addresses
-of_checked-requires-in-Addresses c =
+of_checked-requires-in-Addresses g c =
     let table = table_of c.args.family in
     let b = c.args.buffer.now in
     let shape = class_at table (kind_of (kind_field_of b)) in
@@ -29,7 +28,7 @@ of_checked-requires-in-Addresses c =
     addresses_decode table (kind_field_of b) (payload_of b) c.in-Addresses.list c.in-Addresses.size c.requires.content.decodes borrows
 
 pub returns-in-U16s : goal.returns-in-U16s
-returns-in-U16s c =
+returns-in-U16s g c =
     let table = table_of c.args.family in
     let b = c.args.buffer.now in
     let k = kind_of (kind_field_of b) in
@@ -41,7 +40,7 @@ returns-in-U16s c =
     (es, elements, puts, omega (arith, within, few_u16s k c.args.at bytes.now))
 
 pub returns-in-U32s : goal.returns-in-U32s
-returns-in-U32s c =
+returns-in-U32s g c =
     let table = table_of c.args.family in
     let b = c.args.buffer.now in
     let k = kind_of (kind_field_of b) in
@@ -53,7 +52,7 @@ returns-in-U32s c =
     (es, elements, puts, omega (arith, within, few_u32s k c.args.at bytes.now))
 
 pub returns-in_default : goal.returns-in_default
-returns-in_default c =
+returns-in_default g c =
     let elements =
     no_elements (table_of c.args.family) (kind_of (kind_field_of c.args.buffer.now)) c.args.at c.args.content c.in_default.not-U16s c.in_default.not-U32s c.in_default.not-Addresses c.in_default.not-List in
     ([], elements, (refl, omega arith), omega arith)
