@@ -4,3 +4,4 @@ pub mod Texts
 pub mod StructTexts
 pub mod EntryTexts
 pub mod AttributeTexts
+pub mod ErrorTexts

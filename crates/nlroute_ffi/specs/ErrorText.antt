@@ -1,5 +1,5 @@
 -- The texts of errors.
-use Rattle.std.specs.Prelude.{◌≡◌, ℕ, ◌==◌, ◌&&◌, Bool, List, ◌++◌, Option, Some, None, Result, Ok, Err, codes, nat_lt, if◌then◌else◌}
+use Rattle.std.specs.Prelude.{◌≡◌, ℕ, ◌<◌, ◌==◌, ◌&&◌, List, ◌++◌, Option, Some, None, Result, Ok, Err, codes, nat_lt, if◌then◌else◌}
 use Rattle.std.specs.Fmt.{decimal}
 use Rattle.netlink_packet_route.specs.declared.link.Cause.{Cause}
 use Rattle.netlink_packet_route.specs.declared.link.Cause.TheVariants as causes
@@ -22,37 +22,47 @@ small_cause n = if nat_lt n 65536 then Some (causes.SmallLength n) else None
 abbrev pub overrun_cause : ℕ → ℕ → Option Cause
 overrun_cause n left = if nat_lt n 65536 then Some (causes.Overrun n left) else None
 
--- the cause in a struct; none for another number
-abbrev pub cause_of : FirstError → Option Cause
-cause_of e =
-    if e.cause == short_frame then Some (causes.ShortFrame e.first)
-    else (if e.cause == small_length then small_cause e.first
-    else (if e.cause == overrun then overrun_cause e.first e.second
-    else (if e.cause == wrong_length then Some (causes.WrongLength e.first e.second)
-    else (if e.cause == too_short then Some (causes.TooShort e.first e.second)
-    else (if e.cause == address_length then Some (causes.AddressLength e.first)
+-- the cause with these numbers; none for another number
+abbrev pub cause_by : ℕ → ℕ → ℕ → Option Cause
+cause_by cause first second =
+    if cause == short_frame then Some (causes.ShortFrame first)
+    else (if cause == small_length then small_cause first
+    else (if cause == overrun then overrun_cause first second
+    else (if cause == wrong_length then Some (causes.WrongLength first second)
+    else (if cause == too_short then Some (causes.TooShort first second)
+    else (if cause == address_length then Some (causes.AddressLength first)
     else None)))))
 
--- the error in a struct with this cause; none for a part that no list has
-abbrev pub fault_at : FirstError → Cause → Option DecodeFault
-fault_at e cause =
-    if e.place == frame then Some (faults.Frame cause)
-    else (if e.place == payload then Some (faults.Value e.kind cause)
-    else (if e.place == element_frame then Some (faults.NestedFrame e.kind cause)
-    else (if e.place == element_payload then Some (faults.NestedValue e.kind e.inner cause)
+-- the error with these numbers and this cause; none for a part that no list has
+abbrev pub fault_at : ℕ → ℕ → ℕ → Cause → Option DecodeFault
+fault_at place kind inner cause =
+    if place == frame then Some (faults.Frame cause)
+    else (if place == payload then Some (faults.Value kind cause)
+    else (if place == element_frame then Some (faults.NestedFrame kind cause)
+    else (if place == element_payload then Some (faults.NestedValue kind inner cause)
     else None)))
 
--- whether both attribute types are `u16`s
-abbrev pub has_kinds : FirstError → Bool
-has_kinds e = nat_lt e.kind 65536 && nat_lt e.inner 65536
+-- the same; none if there is no cause, or if an attribute type is no `u16`
+abbrev pub fault_by : ℕ → ℕ → ℕ → Option Cause → Option DecodeFault
+fault_by place kind inner None = None
+fault_by place kind inner (Some cause) = if nat_lt kind 65536 && nat_lt inner 65536 then fault_at place kind inner cause else None
 
-abbrev pub fault_by : FirstError → Option Cause → Option DecodeFault
-fault_by e None = None
-fault_by e (Some cause) = if has_kinds e then fault_at e cause else None
-
--- the error in a struct; none, if the numbers are not those of an error in a list
+-- the error in a struct; none, if its numbers are not those of an error in a list
 abbrev pub fault_of : FirstError → Option DecodeFault
-fault_of e = fault_by e (cause_of e)
+fault_of e = fault_by e.place e.kind e.inner (cause_by e.cause e.first e.second)
+
+-- an `nla_len` of a cause, and the attribute types of an error in a list, are `u16`s
+abbrev pub CauseFits : Cause → Type 0
+CauseFits (causes.SmallLength n) = n < 65536
+CauseFits (causes.Overrun n left) = n < 65536
+CauseFits cause = Unit {0}
+
+abbrev pub IsListFault : DecodeFault → Type 0
+IsListFault (faults.Frame cause) = CauseFits cause
+IsListFault (faults.Value kind cause) = (kind < 65536) × CauseFits cause
+IsListFault (faults.NestedFrame kind cause) = (kind < 65536) × CauseFits cause
+IsListFault (faults.NestedValue kind inner cause) = (kind < 65536) × (inner < 65536) × CauseFits cause
+IsListFault fault = ⊥
 
 -- an error at an offset, in a list of this table
 abbrev pub error_text : Table → ℕ → DecodeFault → List ℕ

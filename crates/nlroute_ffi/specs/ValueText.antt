@@ -28,25 +28,25 @@ use Rattle.nlroute_ffi.specs.Names.{label_for}
 abbrev pub two_bytes : ℕ → ℕ
 two_bytes n = n % 65536
 
--- ---- octets
+-- ---- bytes of the list
 
 -- whether a number is that of a form
 abbrev pub is_form : ℕ → Bool
 is_form n = nat_lt 0 n && nat_lt n 20
 
--- whether the content of this form is octets of the list
+-- whether an entry of this form refers to bytes of the list
 abbrev pub is_lent : ℕ → Bool
 is_lent form = (form == form_bittiming) || ((form == form_bittiming_const) || ((form == form_bytes) || (form == form_unknown)))
 
--- whether these octets are there
+-- whether the list has these bytes
 abbrev pub has_octets : Entry → List ℕ → Bool
 has_octets e octets = not (is_lent e.form && nat_lt (length octets) (e.offset + e.length))
 
--- the octets; none for other forms
+-- the bytes; none for other forms
 abbrev pub octets_of : Entry → List ℕ → List ℕ
 octets_of e octets = if is_lent e.form then take e.length (drop e.offset octets) else []
 
--- these octets p are lent; or why there are none
+-- p is these bytes; or why there are none
 abbrev pub LendsOctets : Entry → List ℕ → List ℕ → Type 0
 LendsOctets e octets p = (is_form e.form ≡ true) × (has_octets e octets ≡ true) × (p ≡ octets_of e octets)
 
@@ -83,7 +83,7 @@ abbrev pub masked_by : Form → Label → ℕ → ℕ → List ℕ
 masked_by forms.Struct label flags mask = masked_struct (name_in label) flags mask
 masked_by form label flags mask = masked_text (names_of label) flags mask
 
--- the text of octets of the list, by the form of their entry; none for other forms
+-- the text of bytes of the list, by the form of the entry that refers to them; empty for other forms
 abbrev pub octets_text : ℕ → List ℕ → List ℕ
 octets_text form p =
     if form == form_bittiming then struct_text (AtLeast 32) timing_of bit_timing_text p
@@ -92,7 +92,7 @@ octets_text form p =
     else (if form == form_unknown then other_text p
     else [])))
 
--- that of an address or a struct in the fields of an entry; for other forms that of the octets
+-- the text of an address or a struct in the fields of an entry; for other forms that of the bytes
 abbrev pub fields_text : ℕ → Entry → List ℕ → List ℕ
 fields_text form e p =
     if form == form_mac then address_text (take 6 e.octets)
@@ -104,7 +104,7 @@ fields_text form e p =
     else (if form == form_berr_counter then berr_counter_text (record { txerr = two_bytes e.number; rxerr = two_bytes e.second })
     else octets_text form p))))))
 
--- that of a number or a set of flags, by what is known of the type; for other forms that of the fields
+-- the text of a number or a set of flags, by what is known of the type; for other forms that of the fields
 abbrev pub text_by : ℕ → Label → Entry → List ℕ → List ℕ
 text_by form label e p =
     if form == form_bool then (if e.number == 0 then codes "off" else codes "on")
@@ -115,11 +115,11 @@ text_by form label e p =
     else (if form == form_masked then masked_by (form_in label) label (four_bytes e.number) (four_bytes e.second)
     else fields_text form e p)))))
 
--- the text of an entry that has these octets
+-- the text of an entry that refers to these bytes
 abbrev pub entry_text : Label → Entry → List ℕ → List ℕ
 entry_text label e p = text_by e.form label e p
 
--- that of a type without a row, for an entry that is written by its form alone
+-- what is known of a type without a row: the text depends on the form only
 abbrev pub plain_label : Label
 plain_label = ([], quantities.Number, forms.Nothing, [])
 
@@ -127,7 +127,7 @@ abbrev pub label_or_plain : Option Label → Label
 label_or_plain None = plain_label
 label_or_plain (Some label) = label
 
--- the text of an entry of a list of this attribute set, if these are the octets of the list
+-- the text of an entry of a list of this attribute set, where `octets` are the bytes of the list
 abbrev pub value_text : Family → Entry → List ℕ → List ℕ
 value_text family e octets = entry_text (label_or_plain (label_for family e)) e (octets_of e octets)
 

@@ -4,7 +4,7 @@ ghost use Rattle.std.specs.Prelude.{◌≡◌, [], ◌∷◌, IfOk, OnErr};
 ghost use Rattle.netlink_packet_route.specs.Family.{table_of};
 ghost use Rattle.nlroute_ffi.specs.Numbers.{cause_numbers, fault_numbers};
 ghost use Rattle.nlroute_ffi.specs.Error.{error_numbers, ErrorAnswers};
-ghost use Rattle.nlroute_ffi.specs.ErrorText.{cause_of, small_cause, overrun_cause, fault_of};
+ghost use Rattle.nlroute_ffi.specs.ErrorText.{cause_by, small_cause, overrun_cause, fault_of};
 
 use crate::refusal::Refusal;
 use netlink_packet_route::link::{Cause, DecodeFault, ListFault};
@@ -152,7 +152,7 @@ pub(crate) fn fault_of(error: &FirstError) -> Option<DecodeFault>
 }
 
 fn cause_of(error: &FirstError) -> Option<Cause>
-    ensures { result ≡ cause_of error.now }
+    ensures { result ≡ cause_by error.now.cause error.now.first error.now.second }
 {
     let (first, second) = (error.first as usize, error.second as usize);
     match error.cause {

@@ -11,6 +11,11 @@ ghost use Rattle.netlink_packet_route.specs.declared.family.Family.{Family};
 ghost use Rattle.netlink_packet_route.specs.Family.{table_of};
 ghost use Rattle.link_flat.specs.declared.entry.Entry.{Entry};
 ghost use Rattle.link_flat.specs.Flat.{Flat, IsElement};
+ghost use Rattle.netlink_packet_route.specs.declared.link.DecodeFault.{DecodeFault};
+ghost use Rattle.nlroute_ffi.specs.declared.fault.FirstError.{FirstError};
+ghost use Rattle.nlroute_ffi.specs.Numbers.{fault_numbers};
+ghost use Rattle.nlroute_ffi.specs.Error.{error_numbers};
+ghost use Rattle.nlroute_ffi.specs.ErrorText.{IsListFault, fault_of};
 ghost use Rattle.nlroute_ffi.specs.ValueText.{value_text};
 ghost use Rattle.nlroute_ffi.specs.Shown.{IsAt, IsTextOf, HeadHasText};
 
@@ -27,4 +32,10 @@ pub fn texts_of_elements()
         → form_at (table_of family) kind ≡ Some forms.List → IsAt list offset b
         → IsElement (elements_at (table_of family) kind) kind offset b e
         → IsTextOf (elements_at (table_of family) kind) b (value_text family e list) }
+{}
+
+/// States that the struct with the numbers of an error in a list has the text of that error.
+pub fn errors_in_structs()
+    ensures { (e : FirstError) (at : ℕ) (fault : DecodeFault) → IsListFault fault
+        → error_numbers e ≡ fault_numbers at fault → (e.at ≡ at) × (fault_of e ≡ Some fault) }
 {}

@@ -47,7 +47,7 @@ const PLAIN: KindLabel = KindLabel {
     names: &[],
 };
 
-/// The text of a value: what is known of its type, its entry, and its octets.
+/// The text of a value: what is known of its type, its entry, and the bytes that it refers to.
 #[derive(Drop)]
 struct ValueWords<'a> {
     label: KindLabel,
@@ -104,7 +104,7 @@ fn label_or_plain(label: Option<KindLabel>) -> KindLabel
     }
 }
 
-/// Returns the octets of the list that are the content of `value`; none if it is in the fields of `value`.
+/// Returns the bytes of the list that `value` refers to; none if its content is in its fields.
 ///
 /// # Errors
 ///
@@ -127,7 +127,7 @@ fn octets_of<'a>(value: &Entry, octets: &'a [u8]) -> Result<&'a [u8], Refusal>
     Ok(&octets[start..start + value.length as usize])
 }
 
-/// Checks whether the content of a form is octets of the list.
+/// Checks whether an entry of this form refers to bytes of the list.
 fn is_lent(form: u8) -> bool
     ensures { result ≡ is_lent form }
 {
@@ -137,7 +137,7 @@ fn is_lent(form: u8) -> bool
     }
 }
 
-/// Writes the text of an entry that has these octets. `label` is that of its type.
+/// Writes the text of an entry that refers to these bytes. `label` is that of its type.
 fn write_entry<W: Write>(
     writer: &mut W,
     label: &KindLabel,
@@ -189,7 +189,7 @@ fn write_fields<W: Write>(
     }
 }
 
-/// Writes octets of a list by the form of their entry, and nothing for other forms.
+/// Writes bytes of a list by the form of the entry that refers to them, and nothing for other forms.
 fn write_octets<W: Write>(
     writer: &mut W,
     label: &KindLabel,
@@ -369,7 +369,7 @@ fn write_bridge_id<W: Write>(writer: &mut W, number: u16, octets: &[u8]) -> io::
     .write_text(writer)
 }
 
-/// Writes a bit timing, or, if there are too few octets, the octets.
+/// Writes a bit timing, or, if there are too few bytes, the bytes.
 #[tactic(auto, unfolding(link_show::specs::Structs::struct_text))]
 fn write_timing<W: Write>(writer: &mut W, octets: &[u8]) -> io::Result<()>
     ensures { OnOk result (Appends (W.contents writer.old) (W.contents writer.new)
@@ -381,7 +381,7 @@ fn write_timing<W: Write>(writer: &mut W, octets: &[u8]) -> io::Result<()>
     }
 }
 
-/// Writes the limits of a bit timing: the name in the first 16 octets, and the numbers in the 32 after it.
+/// Writes the limits of a bit timing: the name in the first 16 bytes, and the numbers in the next 32.
 fn write_limits<W: Write>(writer: &mut W, label: &KindLabel, octets: &[u8]) -> io::Result<()>
     ensures { OnOk result (Appends (W.contents writer.old) (W.contents writer.new)
         (limits_text (before_nul (take 16 octets.now)) (take 32 (drop 16 octets.now)))) }
@@ -391,14 +391,14 @@ fn write_limits<W: Write>(writer: &mut W, label: &KindLabel, octets: &[u8]) -> i
     write_content(writer, label, Content::Limits { name, numbers })
 }
 
-/// Returns the first `count` octets, or all if there are fewer.
+/// Returns the first `count` bytes, or all if there are fewer.
 fn front(octets: &[u8], count: usize) -> &[u8]
     ensures { result.now ≡ take count octets.now }
 {
     &octets[..octets.len().min(count)]
 }
 
-/// Returns the octets after the first `count`.
+/// Returns the bytes after the first `count`.
 fn behind(octets: &[u8], count: usize) -> &[u8]
     ensures { result.now ≡ drop count octets.now }
 {
