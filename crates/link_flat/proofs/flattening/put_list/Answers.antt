@@ -4,7 +4,7 @@ use Rattle.link_base.specs.Viewed.{bytes_in, buffer_in}
 use Rattle.link_base.proofs.Views.{split_less}
 use Rattle.link_flat.specs.Flat.{IsGroup}
 use Rattle.link_flat.proofs.Groups.{GroupsTo, groups_none, groups_more, group_again}
-use Rattle.link_flat.proofs.flattening.put_list_as.Goals as goal
+use Rattle.link_flat.proofs.flattening.put_list.Goals as goal
 
 pub values-init : goal.values-init
 values-init g c =

@@ -1,7 +1,7 @@
 use Rattle.std.proofs.Common.{◌≤◌, length}
 use Rattle.link_base.specs.Viewed.{bytes_in}
 use Rattle.link_flat.proofs.Groups.{GroupsTo}
-use Rattle.link_flat.proofs.flattening.put_list_as.Given as goal
+use Rattle.link_flat.proofs.flattening.put_list.Given as goal
 
 abbrev pub invariant-values : goal.invariant-values
 invariant-values g l = GroupsTo l.family l.bytes (bytes_in l.rest) l.fn.places l.places l.next
