@@ -468,7 +468,7 @@ ptrdiff_t nlroute_first_fault(uint32_t family, const uint8_t *bytes, size_t len,
  *
  * Returns
  * - NLROUTE_BAD_FORM if and only if place is not one of enum nlroute_place, cause not one of enum nlroute_cause, or
- *   kind or inner greater than 65535;
+ *   kind or inner greater than 65535, or likewise first, for NLROUTE_SMALL_LENGTH and NLROUTE_OVERRUN;
  * - NLROUTE_NO_MEMORY if an allocation fails.
  */
 ptrdiff_t nlroute_fault_text(uint32_t family, const struct nlroute_fault *fault, char *text, size_t room);
