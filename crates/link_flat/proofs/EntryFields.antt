@@ -72,7 +72,7 @@ nested_below table k at (x ∷ items) (e ∷ es) h =
 none_below : (es : List Entry) → es ≡ [] → AreBelow es
 none_below es e = subst AreBelow (sym e) tt
 
-elements_below : (table : Table) (k at : ℕ) (x : Content) (es : List Entry) → Elements table k at x es → AreBelow es
+pub elements_below : (table : Table) (k at : ℕ) (x : Content) (es : List Entry) → Elements table k at x es → AreBelow es
 elements_below table k at (contents.List l) es (items, walk, each) = nested_below (elements_at table k) k at items es each
 elements_below table k at (contents.Addresses l n) es (items, walk, is) =
     subst AreBelow (sym is) (indexed_below _ (λ i x. refl) 0 (filter (is_address n) items))
