@@ -3,3 +3,11 @@ pub mod NestedKinds
 pub mod Spellings
 pub mod ElementLoops
 pub mod WrittenNames
+pub mod RowFits
+pub mod BackValues
+pub mod BackClasses
+pub mod Located
+pub mod BackArrays
+pub mod BackElements
+pub mod BackAttributes
+pub mod BackLists

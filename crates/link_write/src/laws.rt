@@ -1,0 +1,17 @@
+//! Theorems about lists that are written. The functions have empty bodies; each states its theorem as its contract.
+
+ghost use Rattle.std.specs.Prelude.{◌≡◌, ℕ, List, Ok};
+ghost use Rattle.link_base.specs.Number.{IsBytes};
+ghost use Rattle.link_base.specs.Table.{Rewriting};
+ghost use Rattle.netlink_packet_route.specs.declared.family.Family.{Family};
+ghost use Rattle.netlink_packet_route.specs.Family.{table_of};
+ghost use Rattle.link_flat.specs.declared.entry.Entry.{Entry};
+ghost use Rattle.link_flat.specs.Flat.{Flat};
+ghost use Rattle.link_write.specs.Spelled.{spelled_by};
+
+/// For the entries of a list and its bytes, [`write`](crate::write) writes what
+/// [`rewrite`](netlink_packet_route::rewrite) returns for the list.
+pub fn written_back()
+    ensures { (family : Family) (list written : List ℕ) (es : List Entry) → IsBytes list → Flat family list es
+        → Rewriting (table_of family) list written → spelled_by family list es ≡ Ok written }
+{}
