@@ -253,8 +253,8 @@ fn fill_address(place: &mut Entry, kind: u16, index: u16, offset: usize, address
     *place = Entry::blank(kind, index, 1, offset as u64, length);
     let octets = address.value();
     match octets.len() {
-        4 => place.hold_octets(forms::IPV4, &octets[..4]),
-        16 => place.hold_octets(forms::IPV6, &octets[..16]),
+        4 => place.hold_four(forms::IPV4, octets),
+        16 => place.hold_sixteen(forms::IPV6, octets),
         _ => place.hold_octets(forms::IPV6, octets),
     }
 }
