@@ -81,11 +81,11 @@ enum nlroute_refusal {
     NLROUTE_NO_ROOM = -4,   /* the output buffer is too small; each function specifies the size that it needs */
     NLROUTE_NO_FAMILY = -5, /* family is not one of the numbers above */
     NLROUTE_ABSENT = -6,    /* the list does not have what was looked up, or a number or bit has no name */
-    NLROUTE_BAD_FORM = -7,  /* the value has another form than was expected, or than its attribute type; a struct is not
-                               as the library stores it */
+    NLROUTE_BAD_FORM = -7,  /* the value has another form than was expected, or than its attribute type; a struct is
+                               not as the library stores it */
     NLROUTE_BAD_NUMBER = -8,  /* the attribute cannot hold the number */
     NLROUTE_BAD_ELEMENT = -9, /* an element does not follow a list of its attribute type */
-    NLROUTE_BAD_OCTETS = -10 /* the bytes of the value are outside the input, or not as many as its form has */
+    NLROUTE_BAD_OCTETS = -10  /* the bytes of the value are outside the input, or not as many as its form has */
 };
 
 /* Returns the meaning of an error code in words. */
@@ -226,9 +226,9 @@ ptrdiff_t nlroute_values(uint32_t family, const uint8_t *bytes, size_t len, stru
                          size_t places);
 
 /*
- * Looks up the last attribute of type `kind` in a list; unless it takes all attributes of a type, Linux takes the last.
- * Stores its value in *value, as nlroute_values() stores it, and returns 0. For a list, number is the number of its
- * elements, which are not stored. Does not allocate.
+ * Looks up the last attribute of type `kind` in a list. It is the one that Linux takes, except for types of which Linux
+ * takes all. Stores its value in *value, as nlroute_values() stores it, and returns 0. For a list, number is the number
+ * of its elements, which are not stored. Does not allocate.
  *
  * On error *value is unchanged. Returns
  * - NLROUTE_HAS_FAULT if and only if the input is malformed;
@@ -239,8 +239,8 @@ ptrdiff_t nlroute_find(uint32_t family, const uint8_t *bytes, size_t len, uint16
 
 /*
  * Looks up the last element `inner` of the last attribute of type `kind` in a list: inner is the element's own type, or
- * its index in a list of addresses or an array of numbers. Stores its value in *value, as nlroute_values() stores it, and
- * returns 0. Does not allocate.
+ * its index in a list of addresses or an array of numbers. Stores its value in *value, as nlroute_values() stores it,
+ * and returns 0. Does not allocate.
  *
  * On error *value is unchanged. Returns
  * - NLROUTE_HAS_FAULT if and only if the input is malformed;
@@ -252,8 +252,8 @@ ptrdiff_t nlroute_find_in(uint32_t family, const uint8_t *bytes, size_t len, uin
 
 /*
  * Stores the struct that a value of NLROUTE_FORM_BITTIMING or NLROUTE_FORM_BITTIMING_CONST refers to, and returns 0.
- * The input is the list that the value was read from. The structs are those of linux/can/netlink.h. The name in a struct
- * can_bittiming_const ends with a NUL: it is truncated to 15 bytes. Does not allocate.
+ * The input is the list that the value was read from. The structs are those of linux/can/netlink.h. The name in a
+ * struct can_bittiming_const ends with a NUL: it is truncated to 15 bytes. Does not allocate.
  *
  * On error the struct is unchanged. Returns
  * - NLROUTE_BAD_FORM if and only if the value has another form;
@@ -351,18 +351,18 @@ static inline struct nlroute_value nlroute_element(uint16_t list, struct nlroute
  * out is unchanged.
  */
 NLROUTE_MUST_USE
-ptrdiff_t nlroute_write(uint32_t family, const struct nlroute_value *values, size_t count, const uint8_t *octets, size_t len,
-                        uint8_t *out, size_t room);
+ptrdiff_t nlroute_write(uint32_t family, const struct nlroute_value *values, size_t count, const uint8_t *octets,
+                        size_t len, uint8_t *out, size_t room);
 
 /*
- * Returns the number of bytes that nlroute_write() writes for these values, or its error code. If a value cannot be written,
- * stores the index of the first such value in *at; otherwise *at is unchanged. Does not allocate.
+ * Returns the number of bytes that nlroute_write() writes for these values, or its error code. If a value cannot be
+ * written, stores the index of the first such value in *at; otherwise *at is unchanged. Does not allocate.
  *
  * Returns NLROUTE_NO_ROOM if and only if the list has more than PTRDIFF_MAX bytes.
  */
 NLROUTE_MUST_USE
-ptrdiff_t nlroute_measure(uint32_t family, const struct nlroute_value *values, size_t count, const uint8_t *octets, size_t len,
-                          size_t *at);
+ptrdiff_t nlroute_measure(uint32_t family, const struct nlroute_value *values, size_t count, const uint8_t *octets,
+                          size_t len, size_t *at);
 
 /*
  * Texts. The functions below store a text as snprintf() does. The buffer `text` has room bytes; it gets the first
@@ -394,13 +394,13 @@ ptrdiff_t nlroute_kind_name(uint32_t family, const struct nlroute_value *value, 
  * if the text is longer than NLROUTE_TEXT_ROOM.
  *
  * Returns
- * - NLROUTE_BAD_FORM if and only if form is not one of enum nlroute_form;
+ * - NLROUTE_BAD_FORM if and only if form is NLROUTE_FORM_OF_KIND, or not one of enum nlroute_form;
  * - NLROUTE_BAD_OCTETS if and only if the form is NLROUTE_FORM_BITTIMING, NLROUTE_FORM_BITTIMING_CONST,
  *   NLROUTE_FORM_BYTES or NLROUTE_FORM_UNKNOWN, and len is less than offset + length;
  * - NLROUTE_NO_MEMORY if an allocation fails.
  */
-ptrdiff_t nlroute_text(uint32_t family, const struct nlroute_value *value, const uint8_t *octets, size_t len, char *text,
-                       size_t room);
+ptrdiff_t nlroute_text(uint32_t family, const struct nlroute_value *value, const uint8_t *octets, size_t len,
+                       char *text, size_t room);
 
 /*
  * Stores the name of the number of a value, such as "802.3ad". The fields kind, inner and depth select the attribute
