@@ -91,7 +91,7 @@ fn values_that_cannot_be_written(rt: HostRuntime) {
         form: 19,
         ..BLANK
     };
-    let rows: [(isize, usize, [Entry; 3]); 8] = [
+    let rows: [(isize, usize, [Entry; 3]); 9] = [
         (24, 9, [list, mapping, id]),
         (-7, 2, [list, mapping, Entry { form: 5, ..id }]),
         (
@@ -104,6 +104,19 @@ fn values_that_cannot_be_written(rt: HostRuntime) {
                     number: 65536,
                     ..id
                 },
+            ],
+        ),
+        (
+            -8,
+            1,
+            [
+                list,
+                Entry {
+                    inner: 0x4001,
+                    form: 19,
+                    ..mapping
+                },
+                id,
             ],
         ),
         (-9, 0, [mapping, list, id]),
