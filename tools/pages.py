@@ -74,7 +74,7 @@ BUDGETS = {
     "docs/DECISIONS.md": 7350,
     "docs/DIFFERENCES.md": 3000,
     "docs/MESSAGES.md": 2800,
-    "docs/MODEL.md": 4600,
+    "docs/MODEL.md": 4700,
     "docs/PROGRAMS.md": 1650,
 }
 SMALL_BUDGET = 600
