@@ -39,7 +39,7 @@ pub fn flatten(family: Family, bytes: &[u8], places: &mut [Entry]) -> Result<usi
 /// # Errors
 ///
 /// As for `flatten`.
-#[inline(always)]
+#[inline(never)]
 fn flatten_as<F: Attribute>(
     places: &mut [Entry],
     family: Family,
