@@ -55,7 +55,7 @@ plain_field d forms.List c k e = omega arith
 plain_field d form c k e = refl
 
 -- the type of the entry does not matter
-row_kind : (form : Form) (c : Class) (j : ℕ) (e : Entry) (octets : List ℕ) → payload_of (row_fields details.Plain form (One c) 0) (record e { kind = j }) octets ≡ payload_of (row_fields details.Plain form (One c) 0) e octets
+pub row_kind : (form : Form) (c : Class) (j : ℕ) (e : Entry) (octets : List ℕ) → payload_of (row_fields details.Plain form (One c) 0) (record e { kind = j }) octets ≡ payload_of (row_fields details.Plain form (One c) 0) e octets
 row_kind forms.Nothing c j e octets = refl
 row_kind forms.Bool c j e octets = refl
 row_kind forms.Unsigned c j e octets = refl

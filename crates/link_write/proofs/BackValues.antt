@@ -53,16 +53,16 @@ widths_by n false false true d one two four eight h = (widths.Four, four refl)
 widths_by n false false false true one two four eight h = (widths.Eight, eight refl)
 widths_by n false false false false one two four eight h = absurd cc
 
-width_in : (n : ℕ) → IsTrue (is_width n) → (w : Width) × (n ≡ size_of w)
+pub width_in : (n : ℕ) → IsTrue (is_width n) → (w : Width) × (n ≡ size_of w)
 width_in n h = widths_by n (n == 1) (n == 2) (n == 4) (n == 8) (eqb-true n 1) (eqb-true n 2) (eqb-true n 4) (eqb-true n 8) h
 
-width_unsigned : (w : Width) → width_by (One (classes.Unsigned (size_of w))) ≡ w
+pub width_unsigned : (w : Width) → width_by (One (classes.Unsigned (size_of w))) ≡ w
 width_unsigned widths.One = refl
 width_unsigned widths.Two = refl
 width_unsigned widths.Four = refl
 width_unsigned widths.Eight = refl
 
-width_named : (listed : List ℕ) (w : Width) → width_by (One (classes.Named (size_of w) listed)) ≡ w
+pub width_named : (listed : List ℕ) (w : Width) → width_by (One (classes.Named (size_of w) listed)) ≡ w
 width_named listed widths.One = refl
 width_named listed widths.Two = refl
 width_named listed widths.Four = refl

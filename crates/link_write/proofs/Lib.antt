@@ -11,3 +11,7 @@ pub mod BackArrays
 pub mod BackElements
 pub mod BackAttributes
 pub mod BackLists
+pub mod WrittenLists
+pub mod WrittenSizes
+pub mod WrittenAttributes
+pub mod WrittenDecodes

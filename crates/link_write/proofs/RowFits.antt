@@ -1,7 +1,8 @@
 -- The rows of the tables: the form of each goes with the class of its payloads, and with what the headers say of a struct.
-use Rattle.std.proofs.Common.{◌≡◌, ◌⊎◌, inl, inr, ℕ, ◌==◌, ◌&&◌, ◌||◌, Bool, true, false, cond, List, [], ◌∷◌, Some, None, refl, ap, subst, ◌∙◌}
-use Rattle.std.specs.Prelude.{IsTrue, codes, not}
-use Rattle.std.proofs.lemmas.Bool.{cases_Bool, eqb-true}
+use Rattle.std.proofs.Common.{◌≡◌, ◌⊎◌, inl, inr, ℕ, ◌<◌, ◌==◌, ◌&&◌, ◌||◌, Bool, true, false, cond, List, [], ◌∷◌, Some, None, refl, ap, subst, ◌∙◌}
+use Rattle.std.specs.Prelude.{IsTrue, codes, not, nat_lt}
+use Rattle.link_base.specs.Frame.{kind_limit}
+use Rattle.std.proofs.lemmas.Bool.{cases_Bool, eqb-true, ltb-true}
 use Rattle.link_base.specs.declared.label.Quantity.{Quantity}
 use Rattle.link_base.specs.declared.label.Form.{Form}
 use Rattle.link_base.specs.declared.label.Form.TheVariants as forms
@@ -63,7 +64,7 @@ is_array form = false
 -- rows of a nested list, without arrays
 abbrev pub fits_leaves : Rows → Bool
 fits_leaves [] = true
-fits_leaves (r ∷ rows) = fits_one details.Plain r.form r.class && (not (is_array r.form) && fits_leaves rows)
+fits_leaves (r ∷ rows) = (nat_lt r.kind kind_limit && fits_one details.Plain r.form r.class) && (not (is_array r.form) && fits_leaves rows)
 
 abbrev pub fits_row : Detail → Form → Shape → Bool
 fits_row d form (One c) = fits_one d form c
@@ -73,7 +74,7 @@ fits_row d form shape = false
 
 abbrev pub fits_table : (ℕ → Detail) → Table → Bool
 fits_table detail [] = true
-fits_table detail (r ∷ rows) = fits_row (detail r.kind) r.form r.class && fits_table detail rows
+fits_table detail (r ∷ rows) = (nat_lt r.kind kind_limit && fits_row (detail r.kind) r.form r.class) && fits_table detail rows
 
 -- each table passes them
 pub family_fits : (family : Family) → IsTrue (fits_table (detail_of family) (table_of family))
@@ -98,6 +99,7 @@ pub record HasRow (table : Table) (d : Detail) (k : ℕ) : Type 0 where
   pub named : form_at table k ≡ Some form
   pub fields : fields_at table d k ≡ row_fields d form shape (shape_flag shape)
   pub fits : IsTrue (fits_row d form shape)
+  pub low : k < kind_limit
 
 -- no row
 pub record HasNoRow (table : Table) (k : ℕ) : Type 0 where
@@ -117,6 +119,7 @@ pub look_up : (detail : ℕ → Detail) (table : Table) (k : ℕ) → IsTrue (fi
 look_up detail [] k h = inl (record { class = refl; named = refl; entry = refl })
 look_up detail (r ∷ rows) k h =
     let row : List ℕ × Quantity × Form × List (ℕ × List ℕ) × Shape × ℕ = (codes r.name, r.quantity, r.form, r.names, r.class, shape_flag r.class) in
+    let own = nat_lt r.kind kind_limit && fits_row (detail r.kind) r.form r.class in
     elim (cases_Bool (r.kind == k)) [
       | inl e ↦
           inr (record {
@@ -125,10 +128,11 @@ look_up detail (r ∷ rows) k h =
             class = ap (λ b. cond b (Some r.class) (class_at rows k)) e;
             named = ap (λ b. cond b (Some r.form) (form_at rows k)) e;
             fields = ap (λ b. fields_in (detail k) (cond b (Some row) (entry_at rows k))) e;
-            fits = subst (λ j. IsTrue (fits_row (detail j) r.form r.class)) (eqb-true r.kind k e) (and_left (fits_row (detail r.kind) r.form r.class) (fits_table detail rows) h);
+            fits = subst (λ j. IsTrue (fits_row (detail j) r.form r.class)) (eqb-true r.kind k e) (and_right (nat_lt r.kind kind_limit) (fits_row (detail r.kind) r.form r.class) (and_left own (fits_table detail rows) h));
+            low = subst (λ j. j < kind_limit) (eqb-true r.kind k e) (ltb-true r.kind kind_limit (and_left (nat_lt r.kind kind_limit) (fits_row (detail r.kind) r.form r.class) (and_left own (fits_table detail rows) h)));
           })
       | inr e ↦
-          elim (look_up detail rows k (and_right (fits_row (detail r.kind) r.form r.class) (fits_table detail rows) h)) [
+          elim (look_up detail rows k (and_right own (fits_table detail rows) h)) [
             | inl none ↦ inl (record { class = ap (λ b. cond b (Some r.class) (class_at rows k)) e ∙ none.class; named = ap (λ b. cond b (Some r.form) (form_at rows k)) e ∙ none.named; entry = ap (λ b. cond b (Some row) (entry_at rows k)) e ∙ none.entry })
             | inr has ↦
                 inr (record {
@@ -138,6 +142,7 @@ look_up detail (r ∷ rows) k h =
                   named = ap (λ b. cond b (Some r.form) (form_at rows k)) e ∙ has.named;
                   fields = ap (λ b. fields_in (detail k) (cond b (Some row) (entry_at rows k))) e ∙ has.fields;
                   fits = has.fits;
+                  low = has.low;
                 })
           ]
     ]
@@ -153,6 +158,7 @@ pub record HasLeaf (rows : Rows) (k : ℕ) : Type 0 where
   pub fields : fields_at (lift_table rows) details.Plain k ≡ row_fields details.Plain form (One class) 0
   pub fits : IsTrue (fits_one details.Plain form class)
   pub single : is_array form ≡ false
+  pub low : k < kind_limit
 
 -- no row
 pub record HasNoLeaf (rows : Rows) (k : ℕ) : Type 0 where
@@ -168,7 +174,7 @@ pub look_up_leaf : (rows : Rows) (k : ℕ) → IsTrue (fits_leaves rows) → Has
 look_up_leaf [] k h = inl (record { is = refl; named = refl; entry = refl })
 look_up_leaf (r ∷ rows) k h =
     let row : List ℕ × Quantity × Form × List (ℕ × List ℕ) × Shape × ℕ = (codes r.name, r.quantity, r.form, r.names, One r.class, 0) in
-    let own = fits_one details.Plain r.form r.class in
+    let own = nat_lt r.kind kind_limit && fits_one details.Plain r.form r.class in
     let later = and_right own (not (is_array r.form) && fits_leaves rows) h in
     elim (cases_Bool (r.kind == k)) [
       | inl e ↦
@@ -178,7 +184,8 @@ look_up_leaf (r ∷ rows) k h =
             is = ap (λ b. cond b (Some r.class) (class_at rows k)) e;
             named = ap (λ b. cond b (Some r.form) (form_at (lift_table rows) k)) e;
             fields = ap (λ b. fields_in details.Plain (cond b (Some row) (entry_at (lift_table rows) k))) e;
-            fits = and_left own (not (is_array r.form) && fits_leaves rows) h;
+            fits = and_right (nat_lt r.kind kind_limit) (fits_one details.Plain r.form r.class) (and_left own (not (is_array r.form) && fits_leaves rows) h);
+            low = subst (λ j. j < kind_limit) (eqb-true r.kind k e) (ltb-true r.kind kind_limit (and_left (nat_lt r.kind kind_limit) (fits_one details.Plain r.form r.class) (and_left own (not (is_array r.form) && fits_leaves rows) h)));
             single = not_true (is_array r.form) (and_left (not (is_array r.form)) (fits_leaves rows) later);
           })
       | inr e ↦
@@ -198,6 +205,7 @@ look_up_leaf (r ∷ rows) k h =
                   fields = ap (λ b. fields_in details.Plain (cond b (Some row) (entry_at (lift_table rows) k))) e ∙ has.fields;
                   fits = has.fits;
                   single = has.single;
+                  low = has.low;
                 })
           ]
     ]

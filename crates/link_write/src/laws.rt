@@ -1,8 +1,9 @@
 //! Theorems about lists that are written. The functions have empty bodies; each states its theorem as its contract.
 
-ghost use Rattle.std.specs.Prelude.{◌≡◌, ℕ, List, Ok};
+ghost use Rattle.std.specs.Prelude.{◌≡◌, ℕ, List, Ok, length};
+ghost use Rattle.std.specs.List.{AllByRecursion};
 ghost use Rattle.link_base.specs.Number.{IsBytes};
-ghost use Rattle.link_base.specs.Table.{Rewriting};
+ghost use Rattle.link_base.specs.Table.{Decodes, Rewriting};
 ghost use Rattle.netlink_packet_route.specs.declared.family.Family.{Family};
 ghost use Rattle.netlink_packet_route.specs.Family.{table_of};
 ghost use Rattle.link_flat.specs.declared.entry.Entry.{Entry};
@@ -14,4 +15,10 @@ ghost use Rattle.link_write.specs.Spelled.{spelled_by};
 pub fn written_back()
     ensures { (family : Family) (list written : List ℕ) (es : List Entry) → IsBytes list → Flat family list es
         → Rewriting (table_of family) list written → spelled_by family list es ≡ Ok written }
+{}
+
+/// What [`write`](crate::write) writes decodes. Entries have sixteen octets, as the type has.
+pub fn written_decodes()
+    ensures { (family : Family) (octets written : List ℕ) (es : List Entry) → AllByRecursion (λ e. length e.octets ≡ 16) es
+        → spelled_by family octets es ≡ Ok written → Decodes (table_of family) written }
 {}
