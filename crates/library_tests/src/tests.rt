@@ -55,13 +55,10 @@ fn reads_as<F: Attribute + TryClone>(rt: &impl Abort, alloc: Global, digits: &st
     let frame = NlaBuffer::new_checked(&bytes).expect(rt, digits);
     let value = F::parse(alloc, &frame).expect(rt, digits);
     let copy = value.try_clone(alloc).expect(rt, digits);
-    let wanted = [wanted];
-    let is_one = decodes_to(alloc, &bytes, &wanted);
-    holds(
-        rt,
-        value == wanted[0] && copy == wanted[0] && is_one,
-        digits,
-    );
+    let is_same = value == wanted && copy == wanted;
+    let mut values = Vec::new(alloc);
+    values.push(wanted).expect(rt, digits);
+    holds(rt, is_same && decodes_to(alloc, &bytes, &values), digits);
 }
 
 /// Asserts that the value is encoded as these bytes, in a list and alone, whatever the buffer held, and that nothing is
@@ -71,7 +68,9 @@ fn is_written<F: Attribute>(rt: &impl Abort, alloc: Global, digits: &str, value:
     let mut buffer = [0xFF; 100];
     assert!(rt; value.fits() && value.buffer_len() <= 100);
     value.emit(&mut buffer);
-    holds(rt, encodes_to(alloc, &[value], &wanted), digits);
+    let mut values = Vec::new(alloc);
+    values.push(value).expect(rt, digits);
+    holds(rt, encodes_to(alloc, &values, &wanted), digits);
     wanted.resize(100, 0xFF).expect(rt, digits);
     holds(rt, buffer.as_slice() == wanted.as_slice(), digits);
 }
