@@ -17,7 +17,7 @@ use link_base::{NLA_TYPE_MASK, u16_at, u32_at};
 use netlink_packet_route::Family;
 use std::net::{Ipv4Addr, Ipv6Addr};
 
-/// Stores the content of an attribute whose `nla_type` is `kind_field` in the entry `place`, whose other fields are set. The
+/// Stores the content of an attribute whose `nla_type` is `kind_field` in the entry `place`; `start` has set the fields that do not depend on it. The
 /// attribute is one of a list of `family`, or an element of another attribute if `family` is `None`. If it is a list, `below`
 /// elements follow.
 #[inline(always)]
@@ -28,12 +28,13 @@ pub(crate) fn fill(
     content: Content<'_>,
     below: usize,
 )
-    ensures { place.new ≡ filled (detail_within family (kind_of kind_field)) kind_field content.entry below place.old }
+    ensures { place.new ≡ filled (detail_within family (kind_of kind_field)) kind_field content.entry below
+        (record place.old { number = 0 }) }
 {
     let kind = kind_field & NLA_TYPE_MASK;
     match content {
         Content::Nothing => {
-            place.form = forms::EMPTY;
+            place.hold(forms::EMPTY, 0);
             place.length = 0;
         }
         Content::Bool(is_on) => place.hold(forms::BOOL, is_on.into()),
@@ -48,19 +49,28 @@ pub(crate) fn fill(
         Content::MaskedFlags { flags, mask } => place.hold_both(forms::MASKED, flags, mask),
         Content::Pair(from, to) => place.hold_both(forms::QOS_MAPPING, from, to),
         Content::Protocol(protocol) => place.hold(forms::NAMED, u16::from(protocol).into()),
-        Content::Mac(address) => place.hold_octets(forms::MAC, &address),
-        Content::Ipv4(address) => hold_ipv4(place, address),
-        Content::Ipv6(address) => hold_ipv6(place, address),
-        Content::Bytes(_) => place.form = forms::BYTES,
+        Content::Mac(address) => {
+            place.number = 0;
+            place.hold_octets(forms::MAC, &address);
+        }
+        Content::Ipv4(address) => {
+            place.number = 0;
+            hold_ipv4(place, address);
+        }
+        Content::Ipv6(address) => {
+            place.number = 0;
+            hold_ipv6(place, address);
+        }
+        Content::Bytes(_) => place.hold(forms::BYTES, 0),
         Content::Struct(bytes) => fill_struct(place, detail_within(family, kind), bytes),
         Content::Limits { .. } => {
-            place.form = forms::BITTIMING_CONST;
+            place.hold(forms::BITTIMING_CONST, 0);
             place.length = 48;
         }
         Content::U16s(_) | Content::U32s(_) | Content::Addresses { .. } | Content::List(_) =>
             place.hold(forms::LIST, below as u64),
         Content::Other(_) => {
-            place.form = forms::UNKNOWN;
+            place.hold(forms::UNKNOWN, 0);
             place.flags = kind_field - kind;
         }
     }
@@ -96,7 +106,7 @@ fn hold_ipv6(place: &mut Entry, address: Ipv6Addr)
 /// Stores the struct in these bytes in the entry of its attribute; the bytes, if they are no struct.
 #[inline(always)]
 fn fill_struct(place: &mut Entry, detail: Detail, bytes: &[u8])
-    ensures { place.new ≡ with_struct detail bytes.now place.old }
+    ensures { place.new ≡ with_struct detail bytes.now (record place.old { number = 0 }) }
 {
     let length = bytes.len();
     match detail {
@@ -111,7 +121,7 @@ fn fill_struct(place: &mut Entry, detail: Detail, bytes: &[u8])
             place.hold_both(forms::MASKED, u32_at(bytes, 0), u32_at(bytes, 4));
         }
         Detail::BitTiming if length >= 32 => {
-            place.form = forms::BITTIMING;
+            place.hold(forms::BITTIMING, 0);
             place.length = 32;
         }
         Detail::Clock if length >= 4 => {
@@ -127,7 +137,7 @@ fn fill_struct(place: &mut Entry, detail: Detail, bytes: &[u8])
             place.length = 4;
             place.hold_both(forms::BERR_COUNTER, sent.into(), received.into());
         }
-        _ => place.form = forms::BYTES,
+        _ => place.hold(forms::BYTES, 0),
     }
 }
 

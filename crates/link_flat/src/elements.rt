@@ -78,7 +78,7 @@ fn fill_element<T: AttributeSet>(
     let buffer = element.buffer();
     let length = buffer.value_length() as u32;
     // Stored before the content is known: the compiler then stores each content where it reads it.
-    *place = Entry::blank(kind, element.kind(), 1, offset as u64, length);
+    place.start(kind, element.kind(), 1, offset as u64, length);
     fill(place, None, buffer.raw_kind(), element.content(), 0);
 }
 

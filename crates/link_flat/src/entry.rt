@@ -54,6 +54,22 @@ impl Entry {
         }
     }
 
+    /// Sets all fields except the number to those of an entry without its content.
+    #[inline(always)]
+    pub(crate) fn start(&mut self, kind: u16, inner: u16, depth: u8, offset: u64, length: u32)
+        ensures { self.new ≡ record (blank kind inner depth offset length) { number = self.old.number } }
+    {
+        self.kind = kind;
+        self.inner = inner;
+        self.flags = 0;
+        self.form = 0;
+        self.depth = depth;
+        self.second = 0;
+        self.length = length;
+        self.offset = offset;
+        self.octets = [0; 16];
+    }
+
     /// Sets the form and the number.
     #[inline(always)]
     pub(crate) fn hold(&mut self, as_form: u8, value: u64)

@@ -27,6 +27,7 @@ use netlink_packet_route::{Family, by_family, view_list};
 /// # Errors
 ///
 /// The first error in the list, with the byte offset of its attribute. Then all places are unchanged.
+#[inline(always)]
 pub fn flatten(family: Family, bytes: &[u8], places: &mut [Entry]) -> Result<usize, ListFault>
     ensures entries { Flattens family bytes.now places.old places.new result }
     ensures bounded { IfOk result (λ n. 2 * n ≤ length bytes.now) }
@@ -48,6 +49,7 @@ fn put_family(places: &mut [Entry], family: Family, bytes: &[u8]) -> usize
 }
 
 /// Stores the entries of a list of attributes of the type `F`, as [`put_family`] does for a `Family`.
+#[inline(never)]
 fn put_list<F: Attribute>(places: &mut [Entry], family: Family, bytes: &[u8]) -> usize
     requires table { F.table ≡ table_of family }
     requires decodes { HasValues F.table bytes.now }
@@ -114,7 +116,7 @@ fn fill_single<F: Attribute>(
 {
     let buffer = value.buffer();
     // Stored before the content is known: the compiler then stores each content where it reads it.
-    *place = blank_head(at, &buffer);
+    start_head(place, at, &buffer);
     match value.content() {
         Content::List(_) | Content::Addresses { .. } | Content::U16s(_) | Content::U32s(_) => false,
         content => {
@@ -191,18 +193,21 @@ fn fill_head(
     requires { at + (4 + length (payload_of buffer.now)) < 2 ^ 63 }
     ensures { place.new ≡ head_entry family (at, buffer.now) content.entry below }
 {
-    *place = blank_head(at, buffer);
+    start_head(place, at, buffer);
     fill(place, Some(family), buffer.raw_kind(), content, below);
 }
 
-/// Returns the entry of an attribute that starts at this offset, without its content.
+/// Sets all fields of `place` except the number to those of the entry of an attribute that starts at this offset, without its
+/// content.
 #[inline(always)]
-fn blank_head(at: usize, buffer: &NlaBuffer<'_>) -> Entry
+fn start_head(place: &mut Entry, at: usize, buffer: &NlaBuffer<'_>)
     requires { at + (4 + length (payload_of buffer.now)) < 2 ^ 63 }
-    ensures { result ≡ blank (kind_of (kind_field_of buffer.now)) 0 0 (at + 4) (length (payload_of buffer.now)) }
+    ensures { place.new ≡ record (blank (kind_of (kind_field_of buffer.now)) 0 0 (at + 4) (length (payload_of buffer.now))) {
+      number = place.old.number;
+    } }
 {
     let length = buffer.value_length() as u32;
-    Entry::blank(buffer.kind(), 0, 0, (at + 4) as u64, length)
+    place.start(buffer.kind(), 0, 0, (at + 4) as u64, length);
 }
 
 /// Stores the entries of the elements of an attribute whose payload starts at offset `at`, if its content is a list; the

@@ -24,6 +24,6 @@ returns-in_default g c =
     let has = subst Has c.requires.table had in
     let none = no_elements (table_of family) (kind_of (kind_field_of b)) (at + 4) content c.in_default.not-U16s c.in_default.not-U32s c.in_default.not-Addresses c.in_default.not-List in
     let placed : c.fill.new.place ≡ head_entry family (at, c.buffer-buffer.result) content 0 =
-    c.fill.ensures ∙ ap₂ (λ f (e : Entry). filled (detail_within (Some family) (kind_of f)) f content 0 e) c.raw_kind.ensures c.blank_head.ensures in
+    c.fill.ensures ∙ ap₂ (λ f (e : Entry). filled (detail_within (Some family) (kind_of f)) f content 0 (record e { number = 0 })) c.raw_kind.ensures c.start_head.ensures in
     let is = placed ∙ ap (λ y. head_entry family (at, y) content 0) c.buffer-buffer.ensures in
     λ t. group_single family at b content c.fill.new.place has none is
