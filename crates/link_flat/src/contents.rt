@@ -17,9 +17,9 @@ use link_base::{NLA_TYPE_MASK, u16_at, u32_at};
 use netlink_packet_route::Family;
 use std::net::{Ipv4Addr, Ipv6Addr};
 
-/// Stores the content of an attribute whose `nla_type` is `kind_field` in the entry `place`; `start` has set the fields that do not depend on it. The
-/// attribute is one of a list of `family`, or an element of another attribute if `family` is `None`. If it is a list, `below`
-/// elements follow.
+/// Stores the content of an attribute whose `nla_type` is `kind_field` in the entry `place`. `start` has set what does not
+/// depend on the content. The attribute is one of a list of `family`, or an element of another attribute if `family` is
+/// `None`. If it is a list, `below` elements follow.
 #[inline(always)]
 pub(crate) fn fill(
     place: &mut Entry,
@@ -49,18 +49,9 @@ pub(crate) fn fill(
         Content::MaskedFlags { flags, mask } => place.hold_both(forms::MASKED, flags, mask),
         Content::Pair(from, to) => place.hold_both(forms::QOS_MAPPING, from, to),
         Content::Protocol(protocol) => place.hold(forms::NAMED, u16::from(protocol).into()),
-        Content::Mac(address) => {
-            place.number = 0;
-            place.hold_octets(forms::MAC, &address);
-        }
-        Content::Ipv4(address) => {
-            place.number = 0;
-            hold_ipv4(place, address);
-        }
-        Content::Ipv6(address) => {
-            place.number = 0;
-            hold_ipv6(place, address);
-        }
+        Content::Mac(address) => place.hold_octets(forms::MAC, 0, &address),
+        Content::Ipv4(address) => hold_ipv4(place, address),
+        Content::Ipv6(address) => hold_ipv6(place, address),
         Content::Bytes(_) => place.hold(forms::BYTES, 0),
         Content::Struct(bytes) => fill_struct(place, detail_within(family, kind), bytes),
         Content::Limits { .. } => {
@@ -90,17 +81,17 @@ fn number_form(detail: Detail) -> u8
 /// Stores an IPv4 address.
 #[inline(always)]
 fn hold_ipv4(place: &mut Entry, address: Ipv4Addr)
-    ensures { place.new ≡ record place.old { form = form_ipv4; octets = padded (four_octets address) } }
+    ensures { place.new ≡ record place.old { form = form_ipv4; number = 0; octets = padded (four_octets address) } }
 {
-    place.hold_octets(forms::IPV4, &address.octets());
+    place.hold_octets(forms::IPV4, 0, &address.octets());
 }
 
 /// Stores an IPv6 address.
 #[inline(always)]
 fn hold_ipv6(place: &mut Entry, address: Ipv6Addr)
-    ensures { place.new ≡ record place.old { form = form_ipv6; octets = padded (sixteen_octets address) } }
+    ensures { place.new ≡ record place.old { form = form_ipv6; number = 0; octets = padded (sixteen_octets address) } }
 {
-    place.hold_octets(forms::IPV6, &address.octets());
+    place.hold_octets(forms::IPV6, 0, &address.octets());
 }
 
 /// Stores the struct in these bytes in the entry of its attribute; the bytes, if they are no struct.
@@ -153,6 +144,6 @@ fn fill_bridge_id(place: &mut Entry, bytes: &[u8])
     } }
 {
     place.length = 8;
-    place.number = u16::from_be_bytes([bytes[0], bytes[1]]).into();
-    place.hold_octets(forms::BRIDGE_ID, &bytes[2..8]);
+    let priority = u16::from_be_bytes([bytes[0], bytes[1]]);
+    place.hold_octets(forms::BRIDGE_ID, priority.into(), &bytes[2..8]);
 }

@@ -77,7 +77,7 @@ fn fill_element<T: AttributeSet>(
 {
     let buffer = element.buffer();
     let length = buffer.value_length() as u32;
-    // Stored before the content is known: the compiler then stores each content where it reads it.
+    // Before the content is read: the compiler then stores each content where it reads it.
     place.start(kind, element.kind(), 1, offset as u64, length);
     fill(place, None, buffer.raw_kind(), element.content(), 0);
 }
@@ -255,7 +255,7 @@ fn fill_address(place: &mut Entry, kind: u16, index: u16, offset: usize, address
     match octets.len() {
         4 => place.hold_four(forms::IPV4, octets),
         16 => place.hold_sixteen(forms::IPV6, octets),
-        _ => place.hold_octets(forms::IPV6, octets),
+        _ => place.hold_octets(forms::IPV6, 0, octets),
     }
 }
 

@@ -90,12 +90,13 @@ impl Entry {
         self.second = other;
     }
 
-    /// Sets the form and the octets: the first sixteen of these, and zeros after them if there are fewer.
+    /// Sets the form, the number and the octets: the first sixteen of these, and zeros after them if there are fewer.
     #[inline(always)]
-    pub(crate) fn hold_octets(&mut self, as_form: u8, address: &[u8])
-        ensures { self.new ≡ record self.old { form = as_form; octets = padded address.now } }
+    pub(crate) fn hold_octets(&mut self, as_form: u8, value: u64, address: &[u8])
+        ensures { self.new ≡ record self.old { form = as_form; number = value; octets = padded address.now } }
     {
         self.form = as_form;
+        self.number = value;
         self.octets = padded(address);
     }
 

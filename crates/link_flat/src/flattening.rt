@@ -115,7 +115,7 @@ fn fill_single<F: Attribute>(
     ensures { IsTrue result → IsGroup family (at, buffer_in value.now) (place.new ∷ []) }
 {
     let buffer = value.buffer();
-    // Stored before the content is known: the compiler then stores each content where it reads it.
+    // Before the content is read: the compiler then stores each content where it reads it.
     start_head(place, at, &buffer);
     match value.content() {
         Content::List(_) | Content::Addresses { .. } | Content::U16s(_) | Content::U32s(_) => false,
