@@ -17,9 +17,9 @@ use link_base::{NLA_TYPE_MASK, u16_at, u32_at};
 use netlink_packet_route::Family;
 use std::net::{Ipv4Addr, Ipv6Addr};
 
-/// Stores the content of an attribute whose `nla_type` is `kind_field` in the entry `place`. `start` has set what does not
-/// depend on the content. The attribute is one of a list of `family`, or an element of another attribute if `family` is
-/// `None`. If it is a list, `below` elements follow.
+/// Stores the content of an attribute whose `nla_type` is `kind_field` in the entry `place`. `start` has set what does
+/// not depend on the content. The attribute is one of a list of `family`, or an element of another attribute if `family`
+/// is `None`. If it is a list, `below` elements follow.
 #[inline(always)]
 pub(crate) fn fill(
     place: &mut Entry,

@@ -87,7 +87,8 @@ pub fn detail_of(family: Family, kind: u16) -> Detail
     }
 }
 
-/// Returns what the headers say of an attribute type of a list of `family`; nothing of elements, for which `family` is `None`.
+/// Returns what the headers say of an attribute type of a list of `family`; nothing of elements, for which `family` is
+/// `None`.
 #[inline(always)]
 pub(crate) fn detail_within(family: Option<Family>, kind: u16) -> Detail
     ensures { result ≡ detail_within family kind }

@@ -45,7 +45,8 @@ pub(crate) fn put_elements<T: AttributeSet>(
     }
 }
 
-/// Stores the entry of an element of a nested list, whose payload starts at this offset, in the place `next`, if there is one.
+/// Stores the entry of an element of a nested list, whose payload starts at this offset, in the place `next`, if there is
+/// one.
 #[inline(always)]
 fn put_element<T: AttributeSet>(
     places: &mut [Entry],
@@ -156,8 +157,8 @@ fn put_each_address(
     }
 }
 
-/// Checks whether bytes are long enough for a payload of `size` bytes, and start with its header. Only the speed depends on
-/// this.
+/// Checks whether bytes are long enough for a payload of `size` bytes, and start with its header. Only the speed depends
+/// on this.
 #[inline(always)]
 fn starts_with_size(bytes: &[u8], size: usize) -> bool {
     if size > 65531 || bytes.len() < size + 4 {
