@@ -47,14 +47,14 @@ use Rattle.link_write.proofs.Located.{Located, suffix_whole}
 
 -- ---- contents without elements
 
-abbrev has_elements : Option Form → Bool
+abbrev pub has_elements : Option Form → Bool
 has_elements (Some forms.U16s) = true
 has_elements (Some forms.U32s) = true
 has_elements (Some forms.Addresses) = true
 has_elements (Some forms.List) = true
 has_elements form = false
 
-none_below : (table : Table) (k at : ℕ) (x : Borrowed) (es : List Entry) → has_elements (form_of x) ≡ false → Elements table k at x es → es ≡ []
+pub none_below : (table : Table) (k at : ℕ) (x : Borrowed) (es : List Entry) → has_elements (form_of x) ≡ false → Elements table k at x es → es ≡ []
 none_below table k at (contents.U16s p) es single h = absurd cc
 none_below table k at (contents.U32s p) es single h = absurd cc
 none_below table k at (contents.Addresses p n) es single h = absurd cc
@@ -74,7 +74,7 @@ no_class d classes.Low = (refl, refl)
 no_class d classes.Empty = (refl, refl)
 no_class d classes.Limits = (refl, refl)
 
-single_form : (d : Detail) (form : Form) (c : Class) → IsTrue (fits_one d form c) → is_array form ≡ false → has_elements (Some form) ≡ false
+pub single_form : (d : Detail) (form : Form) (c : Class) → IsTrue (fits_one d form c) → is_array form ≡ false → has_elements (Some form) ≡ false
 single_form d forms.U16s c h a = absurd cc
 single_form d forms.U32s c h a = absurd cc
 single_form d forms.Addresses c h a = let wrong = (no_class d c).0 in absurd cc

@@ -24,7 +24,7 @@ use Rattle.link_write.proofs.BackAttributes.{attribute_back}
 use Rattle.link_write.proofs.Located.{Located, Suffix, suffix_whole, suffix_payload, suffix_rest}
 
 -- the entries of several attributes
-abbrev joined : List (List Entry) → List Entry
+abbrev pub joined : List (List Entry) → List Entry
 joined groups = flat_map (λ group. group) groups
 
 module _ (family : Family) (list : List ℕ) where

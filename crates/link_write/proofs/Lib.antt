@@ -15,3 +15,7 @@ pub mod WrittenLists
 pub mod WrittenSizes
 pub mod WrittenAttributes
 pub mod WrittenDecodes
+pub mod AgreeClasses
+pub mod AgreeElements
+pub mod AgreeAttributes
+pub mod AgreeLists

@@ -49,13 +49,13 @@ same_spells p q e = cc
 
 -- ---- attributes without elements
 
-abbrev is_list : Fields → Bool
+abbrev pub is_list : Fields → Bool
 is_list (fields.Numbers w) = true
 is_list (fields.Addresses n) = true
 is_list (fields.List flag) = true
 is_list own = false
 
-no_content : (table : Table) (own : Fields) (i : ℕ) (e : Entry) (octets s : List ℕ) → is_list own ≡ false → element_content table own i e octets ≡ Ok s → ⊥
+pub no_content : (table : Table) (own : Fields) (i : ℕ) (e : Entry) (octets s : List ℕ) → is_list own ≡ false → element_content table own i e octets ≡ Ok s → ⊥
 no_content table (fields.Numbers w) i e octets s no_list h = cc
 no_content table (fields.Addresses n) i e octets s no_list h = cc
 no_content table (fields.List flag) i e octets s no_list h = cc
@@ -82,7 +82,7 @@ no_class d classes.Low = (refl, refl)
 no_class d classes.Empty = (refl, refl)
 no_class d classes.Limits = (refl, refl)
 
-single_fields : (d : Detail) (form : Form) (c : Class) → IsTrue (fits_one d form c) → is_array form ≡ false → is_list (row_fields d form (One c) 0) ≡ false
+pub single_fields : (d : Detail) (form : Form) (c : Class) → IsTrue (fits_one d form c) → is_array form ≡ false → is_list (row_fields d form (One c) 0) ≡ false
 single_fields d forms.U16s c h a = absurd cc
 single_fields d forms.U32s c h a = absurd cc
 single_fields d forms.Addresses c h a = let wrong = (no_class d c).0 in absurd cc

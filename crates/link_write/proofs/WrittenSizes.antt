@@ -62,7 +62,7 @@ passed_size e octets p h =
           absurd cc
     ]
 
-exactly_size : (n : ℕ) (e : Entry) (octets p : List ℕ) → passed_exactly n e octets ≡ Ok p → length p ≡ n
+pub exactly_size : (n : ℕ) (e : Entry) (octets p : List ℕ) → passed_exactly n e octets ≡ Ok p → length p ≡ n
 exactly_size n e octets p h =
     elim (cases_Bool (e.length == n)) [
       | inl same ↦ passed_size e octets p (if_ok (e.length == n) BadOctets (passed e octets) p h) ∙ eqb-true e.length n same
@@ -75,7 +75,7 @@ pair_size : (n a b : ℕ) (second_first : Bool) → length (pair_of second_first
 pair_size n a b true = omega (arith, length-append (bytes_of n b) (bytes_of n a), length-bytes_of n a, length-bytes_of n b)
 pair_size n a b false = omega (arith, length-append (bytes_of n a) (bytes_of n b), length-bytes_of n a, length-bytes_of n b)
 
-limits_size : (r : Result (List ℕ) Misfit) (p : List ℕ) → rewritten r ≡ Ok p → ((q : List ℕ) → r ≡ Ok q → length q ≡ 48) → length p ≡ 48
+pub limits_size : (r : Result (List ℕ) Misfit) (p : List ℕ) → rewritten r ≡ Ok p → ((q : List ℕ) → r ≡ Ok q → length q ≡ 48) → length p ≡ 48
 limits_size (Ok q) p e size =
     let own : written (meant classes.Limits q) ≡ p = same_these (written (meant classes.Limits q)) p e in
     let name = name_of (take 16 q) in
@@ -105,7 +105,7 @@ module _ (e : Entry) (octets p : List ℕ) (held : length e.octets ≡ 16) where
       let own = only_ok _ BadNumber bytes p (if_ok (e.length == 8) BadOctets _ p (content_ok fields.BridgeId e octets p h)) in
       omega (arith, ap length own, length-append (reverse (bytes_of 2 e.number)) (take 6 e.octets), length-take 6 e.octets, held)
 
-  struct_size : (d : Detail) (x : Extent) → IsTrue (fits_struct d (kept_of x)) → payload_of (struct_fields d) e octets ≡ Ok p → length p ≡ kept_of x
+  pub struct_size : (d : Detail) (x : Extent) → IsTrue (fits_struct d (kept_of x)) → payload_of (struct_fields d) e octets ≡ Ok p → length p ≡ kept_of x
   struct_size details.Plain x fit h = absurd cc
   struct_size details.State x fit h = absurd cc
   struct_size details.BridgeId x fit h = bridge_id_size h ∙ sym (eqb-true (kept_of x) 8 fit)

@@ -3,3 +3,4 @@ pub mod Payload
 pub mod Spelled
 pub mod Elements
 pub mod Groups
+pub mod Agreement

@@ -1,7 +1,7 @@
 //! Theorems about lists that are written. The functions have empty bodies; each states its theorem as its contract.
 
 ghost use Rattle.std.specs.Prelude.{◌≡◌, ℕ, List, Ok, length};
-ghost use Rattle.std.specs.List.{AllByRecursion};
+ghost use Rattle.std.specs.List.{AllZip, AllByRecursion};
 ghost use Rattle.link_base.specs.Number.{IsBytes};
 ghost use Rattle.link_base.specs.Table.{Decodes, Rewriting};
 ghost use Rattle.netlink_packet_route.specs.declared.family.Family.{Family};
@@ -9,6 +9,7 @@ ghost use Rattle.netlink_packet_route.specs.Family.{table_of};
 ghost use Rattle.link_flat.specs.declared.entry.Entry.{Entry};
 ghost use Rattle.link_flat.specs.Flat.{Flat};
 ghost use Rattle.link_write.specs.Spelled.{spelled_by};
+ghost use Rattle.link_write.specs.Agreement.{IsEntry, Agrees};
 
 /// For the entries of a list and its bytes, [`write`](crate::write) writes what
 /// [`rewrite`](netlink_packet_route::rewrite) returns for the list.
@@ -21,4 +22,11 @@ pub fn written_back()
 pub fn written_decodes()
     ensures { (family : Family) (octets written : List ℕ) (es : List Entry) → AllByRecursion (λ e. length e.octets ≡ 16) es
         → spelled_by family octets es ≡ Ok written → Decodes (table_of family) written }
+{}
+
+/// The entries of what [`write`](crate::write) writes are the entries that it was passed, one by one: their types, depths,
+/// forms and contents. Not stated are offsets, lengths where no bytes are referred to, the number of a list, and indexes.
+pub fn written_read()
+    ensures { (family : Family) (octets written : List ℕ) (es read : List Entry) → AllByRecursion IsEntry es
+        → spelled_by family octets es ≡ Ok written → Flat family written read → AllZip (Agrees family octets written) es read }
 {}
