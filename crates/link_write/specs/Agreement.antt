@@ -26,8 +26,8 @@ pub record IsEntry (e : Entry) : Type 0 where
 abbrev pub referred : Entry → List ℕ → List ℕ
 referred e octets = take e.length (drop e.offset octets)
 
--- the entry r of the list holds what e holds, or refers to the bytes that e refers to, in these fields; of the limits of a
--- CAN controller, to the bytes that a rewriting writes
+-- the entry r of the list holds what e holds: the numbers and octets of an entry with these fields, or the bytes that it
+-- refers to; of the limits of a CAN controller, these bytes as a rewriting writes them
 abbrev pub SameContent : Fields → List ℕ → Entry → List ℕ → Entry → Type 0
 SameContent fields.Empty octets e list r = Unit {0}
 SameContent (fields.Number form width most) octets e list r = r.number ≡ e.number
@@ -45,7 +45,7 @@ SameContent (fields.Addresses size) octets e list r = Unit {0}
 SameContent (fields.List flag) octets e list r = Unit {0}
 SameContent fields.Unknown octets e list r = (r.flags ≡ e.flags) × (referred r list ≡ referred e octets)
 
--- likewise, with the same type and depth; its form is that of its type, which e has unless its own form is 0
+-- likewise, with the same attribute type and depth; its form is that of its type, which is the form of e or is implied by 0
 pub record IsSame (own : Fields) (octets : List ℕ) (e : Entry) (list : List ℕ) (r : Entry) : Type 0 where
   pub kind : r.kind ≡ e.kind
   pub depth : r.depth ≡ e.depth
@@ -66,14 +66,16 @@ element_fields table own e = fields.Empty
 
 -- those of an entry
 abbrev pub own_fields : Family → Entry → Fields
-own_fields family e = if e.depth == 0 then attribute_fields family e else element_fields (elements_at (table_of family) e.kind) (attribute_fields family e) e
+own_fields family e =
+    let attribute = attribute_fields family e in
+    if e.depth == 0 then attribute else element_fields (elements_at (table_of family) e.kind) attribute e
 
 -- elements of a nested list have the same type of their own
 abbrev pub SameInner : Fields → Entry → Entry → Type 0
 SameInner (fields.List flag) e r = r.inner ≡ e.inner
 SameInner own e r = Unit {0}
 
--- the entry r of the list is what was written for e, whose bytes are among the octets
+-- the entry r of the list is what was written for e, which refers to the octets
 pub record Agrees (family : Family) (octets list : List ℕ) (e r : Entry) : Type 0 where
   pub same : IsSame (own_fields family e) octets e list r
   pub inner : e.depth ≡ 1 → SameInner (attribute_fields family e) e r

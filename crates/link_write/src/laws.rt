@@ -24,9 +24,11 @@ pub fn written_decodes()
         → spelled_by family octets es ≡ Ok written → Decodes (table_of family) written }
 {}
 
-/// The entries of what [`write`](crate::write) writes are the entries that it was passed, one by one: their types, depths,
-/// forms and contents. Not stated are offsets, lengths where no bytes are referred to, the number of a list, and indexes.
+/// The entries of what [`write`](crate::write) writes are the entries that it was passed, one by one: the same types,
+/// depths, forms and contents. Not stated: offsets, lengths where no bytes are referred to, the number of a list, and the
+/// indexes of addresses and numbers.
 pub fn written_read()
     ensures { (family : Family) (octets written : List ℕ) (es read : List Entry) → AllByRecursion IsEntry es
-        → spelled_by family octets es ≡ Ok written → Flat family written read → AllZip (Agrees family octets written) es read }
+        → spelled_by family octets es ≡ Ok written → Flat family written read
+        → AllZip (Agrees family octets written) es read }
 {}
