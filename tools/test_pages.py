@@ -354,9 +354,9 @@ class Pages(unittest.TestCase):
             self.finds(wanted, "a *record* of records", number)
 
     def test_a_page_keeps_its_budget(self):
-        more = "word " * (1750 - len(CALLING.split()))
+        more = "word " * (1800 - len(CALLING.split()))
         self.assertEqual([], self.said(TREE | {"docs/CALLING.md": CALLING + more}))
-        wanted = "docs/CALLING.md:1: the page has 1,751 words, and its budget is 1,750"
+        wanted = "docs/CALLING.md:1: the page has 1,801 words, and its budget is 1,800"
         self.assertEqual([wanted], self.said(TREE | {"docs/CALLING.md": f"{CALLING}{more}`word`"}))
         free = "\n\n```text\nword\n```\n\n<!-- word -->\n"
         self.assertEqual([], self.said(TREE | {"docs/CALLING.md": CALLING + more + free}))
