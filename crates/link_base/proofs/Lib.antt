@@ -23,6 +23,7 @@ pub mod TableReads
 pub mod Streaming
 pub mod Lifted
 pub mod Checks
+pub mod SkipLemmas
 pub mod JoinedLemmas
 pub mod EditionLemmas
 pub mod LimitLemmas

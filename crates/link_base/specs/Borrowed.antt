@@ -1,5 +1,5 @@
 -- What views borrow: the content of an attribute that decodes.
-use Rattle.std.specs.Prelude.{◌≡◌, ℕ, List, [], ◌∷◌, length, take, drop, Option, Some, None, Ok}
+use Rattle.std.specs.Prelude.{◌≡◌, ℕ, Bool, true, false, List, [], ◌∷◌, length, take, drop, Option, Some, None, Ok}
 use Rattle.link_base.specs.declared.content.Content.{Content as Borrowed}
 use Rattle.link_base.specs.declared.content.Content.TheVariants as borrowed
 use Rattle.link_base.specs.declared.label.Form.{Form}
@@ -89,6 +89,12 @@ form_of (borrowed.Limits name numbers) = Some forms.Limits
 form_of (borrowed.Addresses list size) = Some forms.Addresses
 form_of (borrowed.List list) = Some forms.List
 form_of (borrowed.Other p) = None
+
+-- a borrowed content is a nested list, or a list of addresses
+abbrev pub is_list : Borrowed → Bool
+is_list (borrowed.List list) = true
+is_list (borrowed.Addresses list size) = true
+is_list content = false
 
 -- a payload of this shape decodes, as far as its length tells; a list does if its elements do
 abbrev pub IsAccepted : Shape → List ℕ → Type 0

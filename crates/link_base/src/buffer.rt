@@ -1,6 +1,6 @@
 //! One attribute of a list, as it is in the input.
 
-ghost use Rattle.std.specs.Prelude.{◌≡◌, ◌+◌, ◌≤◌, ◌↔◌, IsTrue, IsBitSet, Some, None, length, drop, min, MatchResult};
+ghost use Rattle.std.specs.Prelude.{◌≡◌, ◌+◌, ◌≤◌, ◌↔◌, IsTrue, IsBitSet, Some, None, length, drop, min, MatchResult, MatchOption, ◌≢◌};
 ghost use Rattle.link_base.specs.Frame.{BeginsWith, kind_of, pad, frame_fault, max_payload};
 
 use crate::fault::{Cause, DecodeError, DecodeFault};
@@ -24,25 +24,46 @@ pub struct NlaBuffer<'a> {
     ghost short: { length payload.now ≤ max_payload },
 }
 
+/// Checks whether `bytes` start with a whole attribute.
+#[inline(always)]
+pub(crate) fn has_whole_front(bytes: &[u8]) -> bool
+    ensures { IsTrue result ↔ (frame_fault bytes.now ≡ None) }
+{
+    if bytes.len() < 4 {
+        return false;
+    }
+    let length = usize::from(u16::from_le_bytes([bytes[0], bytes[1]]));
+    // One test of both bounds: a length of less than four wraps around.
+    length.wrapping_sub(4) <= bytes.len() - 4
+}
+
+/// Returns the reason why `bytes` do not start with a whole attribute. They must not.
+pub(crate) fn cause_of(bytes: &[u8]) -> Cause
+    requires { frame_fault bytes.now ≢ None }
+    ensures { frame_fault bytes.now ≡ Some result }
+{
+    let left = bytes.len();
+    if left < 4 {
+        return Cause::ShortFrame { left };
+    }
+    let length = u16::from_le_bytes([bytes[0], bytes[1]]);
+    if length < 4 {
+        Cause::SmallLength { length }
+    } else {
+        Cause::Overrun { length, left }
+    }
+}
+
 /// Returns the reason why `bytes` do not start with a whole attribute; `None` if they do.
 #[inline]
 pub(crate) fn cause_at_front(bytes: &[u8]) -> Option<Cause>
     ensures { result ≡ frame_fault bytes.now }
 {
-    if bytes.len() < 4 {
-        return Some(Cause::ShortFrame { left: bytes.len() });
+    if has_whole_front(bytes) {
+        None
+    } else {
+        Some(cause_of(bytes))
     }
-    let length = u16::from_le_bytes([bytes[0], bytes[1]]);
-    if length < 4 {
-        return Some(Cause::SmallLength { length });
-    }
-    if usize::from(length) > bytes.len() {
-        return Some(Cause::Overrun {
-            length,
-            left: bytes.len(),
-        });
-    }
-    None
 }
 
 impl<'a> NlaBuffer<'a> {
@@ -75,11 +96,24 @@ impl<'a> NlaBuffer<'a> {
         ensures { MatchResult result (λ first. SplitsFirst bytes.now first.0 first.1.now)
             (λ cause. frame_fault bytes.now ≡ Some cause) }
     {
-        if let Some(cause) = cause_at_front(bytes) {
-            return Err(cause);
+        match NlaBuffer::first(bytes) {
+            Some(first) => Ok(first),
+            None => Err(cause_of(bytes)),
+        }
+    }
+
+    /// Returns the attribute at the start of `bytes`, and what follows its padding, as `split_first`; `None` if `bytes` do
+    /// not start with a whole attribute.
+    #[inline(always)]
+    pub(crate) fn first(bytes: &'a [u8]) -> Option<(NlaBuffer<'a>, &'a [u8])>
+        ensures { MatchOption result (frame_fault bytes.now ≢ None)
+            (λ first. SplitsFirst bytes.now first.0 first.1.now) }
+    {
+        if !has_whole_front(bytes) {
+            return None;
         }
         let first = NlaBuffer::at_front(bytes);
-        Ok((first, first.step_over(bytes)))
+        Some((first, first.step_over(bytes)))
     }
 
     /// Returns the attribute at the start of `bytes`, which must start with a whole attribute.

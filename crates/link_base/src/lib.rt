@@ -38,6 +38,7 @@ mod rewriting;
 pub mod rows;
 mod scalar_classes;
 mod scalars;
+mod skipping;
 mod struct_class;
 mod try_clone;
 mod typed;

@@ -221,6 +221,7 @@ impl Attribute for InfoBond {
     ghost use Rattle.link_bond.specs.contracts.bond.ad_info.BondAdInfoAttribute.TheImpl.Laws as infos;
     ghost use Rattle.link_bond.specs.contracts.bond.InfoBond.{enum};
 
+    #[inline(always)]
     fn check(buffer: &NlaBuffer<'_>) -> Result<(), DecodeFault> {
         rows::check::<Self>(buffer)
     }

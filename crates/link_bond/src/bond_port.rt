@@ -129,6 +129,7 @@ impl Attribute for InfoBondPort {
     ghost use Rattle.link_bond.specs.contracts.bond_port.lacp_state.LacpStateFlagSet.TheImpl.Laws as flags;
     ghost use Rattle.link_bond.specs.contracts.bond_port.InfoBondPort.{enum};
 
+    #[inline(always)]
     fn check(buffer: &NlaBuffer<'_>) -> Result<(), DecodeFault> {
         rows::check::<Self>(buffer)
     }

@@ -128,6 +128,7 @@ impl Attribute for AfSpecBridge {
     ghost use Rattle.link_bridge.specs.contracts.af_spec.tunnel.BridgeVlanTunnelInfoAttribute.TheImpl.Laws as tunnels;
     ghost use Rattle.link_bridge.specs.contracts.af_spec.AfSpecBridge.{enum};
 
+    #[inline(always)]
     fn check(buffer: &NlaBuffer<'_>) -> Result<(), DecodeFault> {
         rows::check::<Self>(buffer)
     }

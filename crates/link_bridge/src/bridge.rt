@@ -263,6 +263,7 @@ impl Attribute for InfoBridge {
     ghost use Rattle.link_bridge.specs.contracts.bridge.querier.BridgeQuerierStateAttribute.TheImpl.Laws as queriers;
     ghost use Rattle.link_bridge.specs.contracts.bridge.InfoBridge.{enum};
 
+    #[inline(always)]
     fn check(buffer: &NlaBuffer<'_>) -> Result<(), DecodeFault> {
         rows::check::<Self>(buffer)
     }

@@ -104,6 +104,7 @@ impl Attribute for LinkProtoInfoBridge {
     ghost use Rattle.link_base.specs.Equality.{of_cases, thorough_fields};
     ghost use Rattle.link_bridge.specs.contracts.proto_info.LinkProtoInfoBridge.{enum};
 
+    #[inline(always)]
     fn check(buffer: &NlaBuffer<'_>) -> Result<(), DecodeFault> {
         rows::check::<Self>(buffer)
     }

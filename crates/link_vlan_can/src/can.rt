@@ -144,6 +144,7 @@ impl Attribute for InfoCan {
     ghost use Rattle.link_vlan_can.specs.contracts.can_modes.CanCtrlModeExtAttribute.TheImpl.Laws as exts;
     ghost use Rattle.link_vlan_can.specs.contracts.can.InfoCan.{enum};
 
+    #[inline(always)]
     fn check(buffer: &NlaBuffer<'_>) -> Result<(), DecodeFault> {
         rows::check::<Self>(buffer)
     }

@@ -106,6 +106,7 @@ impl Attribute for CanTdc {
     ghost use Rattle.link_base.specs.Equality.{of_cases, thorough_fields};
     ghost use Rattle.link_vlan_can.specs.contracts.can_tdc.CanTdc.{enum};
 
+    #[inline(always)]
     fn check(buffer: &NlaBuffer<'_>) -> Result<(), DecodeFault> {
         rows::check::<Self>(buffer)
     }

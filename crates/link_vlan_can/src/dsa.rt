@@ -79,6 +79,7 @@ impl Attribute for InfoDsa {
     ghost use Rattle.link_base.specs.Equality.{of_cases, thorough_fields};
     ghost use Rattle.link_vlan_can.specs.contracts.dsa.InfoDsa.{enum};
 
+    #[inline(always)]
     fn check(buffer: &NlaBuffer<'_>) -> Result<(), DecodeFault> {
         rows::check::<Self>(buffer)
     }

@@ -181,6 +181,7 @@ impl Attribute for InfoHsr {
     ghost use Rattle.link_vlan_can.specs.contracts.hsr.HsrProtocolNamedNumber.TheImpl.Laws as protocols;
     ghost use Rattle.link_vlan_can.specs.contracts.hsr.InfoHsr.{enum};
 
+    #[inline(always)]
     fn check(buffer: &NlaBuffer<'_>) -> Result<(), DecodeFault> {
         rows::check::<Self>(buffer)
     }

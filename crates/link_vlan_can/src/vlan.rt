@@ -81,6 +81,7 @@ impl AttributeRows for VlanQosMapping {
 impl Attribute for VlanQosMapping {
     ghost use Rattle.link_vlan_can.specs.contracts.vlan.VlanQosMapping.{enum};
 
+    #[inline(always)]
     fn check(buffer: &NlaBuffer<'_>) -> Result<(), DecodeFault> {
         rows::check::<Self>(buffer)
     }
@@ -196,6 +197,7 @@ impl Attribute for InfoVlan {
     ghost use Rattle.link_vlan_can.specs.VlanFlags.{masked};
     ghost use Rattle.link_vlan_can.specs.contracts.vlan.InfoVlan.{enum};
 
+    #[inline(always)]
     fn check(buffer: &NlaBuffer<'_>) -> Result<(), DecodeFault> {
         rows::check::<Self>(buffer)
     }
