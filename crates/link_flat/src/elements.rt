@@ -11,6 +11,7 @@ ghost use Rattle.link_flat.specs.Flat.{IsElement, AreElements, AreAddresses, add
 use crate::contents::fill;
 use crate::entry::Entry;
 use crate::forms;
+use crate::octets::{four, padded, sixteen};
 use link_base::attribute_set::{AttributeSet, Set};
 use link_base::view::{Value, View};
 use link_base::{DefaultNla, NlaBuffer, u16_at};
@@ -251,13 +252,16 @@ fn fill_address(place: &mut Entry, kind: u16, index: u16, offset: usize, address
     ensures { place.new ≡ address_entry kind index offset (payload_of address.now) }
 {
     let length = address.value_length() as u32;
-    *place = Entry::blank(kind, index, 1, offset as u64, length);
+    // Before the place is changed: the compiler then stores the octets once.
     let octets = address.value();
-    match octets.len() {
-        4 => place.hold_four(forms::IPV4, octets),
-        16 => place.hold_sixteen(forms::IPV6, octets),
-        _ => place.hold_octets(forms::IPV6, 0, octets),
-    }
+    let (form, octets) = match octets.len() {
+        4 => (forms::IPV4, four(octets)),
+        16 => (forms::IPV6, sixteen(octets)),
+        _ => (forms::IPV6, padded(octets)),
+    };
+    *place = Entry::blank(kind, index, 1, offset as u64, length);
+    place.form = form;
+    place.octets = octets;
 }
 
 /// Returns the entry of the address in an attribute.

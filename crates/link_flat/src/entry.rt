@@ -2,7 +2,7 @@
 
 ghost use Rattle.std.specs.Prelude.{◌≡◌, length};
 
-use crate::octets::{four, padded, sixteen};
+use crate::octets::padded;
 
 /// An attribute of a list, or an element of an attribute that is a list (`struct nlroute_value`). Numbers are in the byte
 /// order of the machine. Fields that the form does not use are 0.
@@ -98,25 +98,5 @@ impl Entry {
         self.form = as_form;
         self.number = value;
         self.octets = padded(address);
-    }
-
-    /// Sets the form and four octets.
-    #[inline(always)]
-    pub(crate) fn hold_four(&mut self, as_form: u8, address: &[u8])
-        requires { length address.now ≡ 4 }
-        ensures { self.new ≡ record self.old { form = as_form; octets = padded address.now } }
-    {
-        self.form = as_form;
-        self.octets = four(address);
-    }
-
-    /// Sets the form and sixteen octets.
-    #[inline(always)]
-    pub(crate) fn hold_sixteen(&mut self, as_form: u8, address: &[u8])
-        requires { length address.now ≡ 16 }
-        ensures { self.new ≡ record self.old { form = as_form; octets = padded address.now } }
-    {
-        self.form = as_form;
-        self.octets = sixteen(address);
     }
 }

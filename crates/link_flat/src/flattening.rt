@@ -17,8 +17,8 @@ use crate::entry::Entry;
 use link_base::attribute_set::{AttributeSet, ElementSet, Set};
 use link_base::content::Content;
 use link_base::view::{Value, View};
-use link_base::{Attribute, DefaultNla, ListFault, NlaBuffer};
-use netlink_packet_route::{Family, by_family, view_list};
+use link_base::{Attribute, DefaultNla, ListFault, NlaBuffer, check_list};
+use netlink_packet_route::{Family, by_family};
 
 /// Stores the entries of a list in `places`: one for each attribute, and after an attribute that is a list one for each
 /// element. Returns the number of entries, which may be greater than that of places: then the first entries are stored. The
@@ -32,23 +32,27 @@ pub fn flatten(family: Family, bytes: &[u8], places: &mut [Entry]) -> Result<usi
     ensures entries { Flattens family bytes.now places.old places.new result }
     ensures bounded { IfOk result (λ n. 2 * n ≤ length bytes.now) }
 {
-    match view_list(family, bytes) {
-        Ok(_) => Ok(put_family(places, family, bytes)),
+    by_family!(family, flatten_list(places, family, bytes))
+}
+
+/// Stores the entries of a list of attributes of the type `F`, as [`flatten`] does for a `Family`.
+#[inline(always)]
+fn flatten_list<F: Attribute>(
+    places: &mut [Entry],
+    family: Family,
+    bytes: &[u8],
+) -> Result<usize, ListFault>
+    requires table { F.table ≡ table_of family }
+    ensures entries { Flattens family bytes.now places.old places.new result }
+    ensures bounded { IfOk result (λ n. 2 * n ≤ length bytes.now) }
+{
+    match check_list::<F>(bytes) {
+        Ok(_) => Ok(put_list::<F>(places, family, bytes)),
         Err(fault) => Err(fault),
     }
 }
 
 /// Stores the entries of a list that decodes, as far as there are places. Returns their number.
-#[inline(always)]
-fn put_family(places: &mut [Entry], family: Family, bytes: &[u8]) -> usize
-    requires { HasValues (table_of family) bytes.now }
-    ensures { (es : List Entry) × Flat family bytes.now es
-        × Puts places.old places.new 0 es result × (2 * length es ≤ length bytes.now) }
-{
-    by_family!(family, put_list(places, family, bytes))
-}
-
-/// Stores the entries of a list of attributes of the type `F`, as [`put_family`] does for a `Family`.
 #[inline(never)]
 fn put_list<F: Attribute>(places: &mut [Entry], family: Family, bytes: &[u8]) -> usize
     requires table { F.table ≡ table_of family }
