@@ -151,10 +151,13 @@ def functions_of(text):
 
 def opening_of(lines, at, indent):
     """The first line from there, indented so, that ends an item's head, if that opens a body."""
+    depth = 0
     for number in range(at, len(lines)):
         line = lines[number]
         is_deeper = line.startswith(indent + " ")
-        if line.endswith(";") or line.endswith(("{", "}")) and not is_deeper:
+        # (a clause may have lines of its own that end in a semicolon)
+        depth += line.count("{") - line.count("}")
+        if line.endswith(";") and not depth or line.endswith(("{", "}")) and not is_deeper:
             return number if line.endswith("{") or line == indent + "{}" else None
     return None
 

@@ -74,6 +74,7 @@ class Mutant:
         self.texts = edited_texts(self.edit, crate.folder)
         self.places = re.findall(r"^at: (\S+)$", self.edit, re.MULTILINE)
         self.goals = re.findall(r"^goal: (\S+)$", self.edit, re.MULTILINE)
+        self.change = [it for it in edit.split("\n") if it.startswith(("file: ", "old: ", "new:"))]
         self.bodies = self.turned_bodies()
         self.seats = [*(self.bodies or self.places)]
         if not all(it in crate.functions for it in self.seats) or any(it.startswith("specs/") for it in self.texts):
@@ -160,10 +161,11 @@ class Joined:
         self.mutants, self.texts = [], {}
 
     def takes(self, mutant):
-        """Takes the mutant in, if it is told from the others."""
+        """Takes the mutant in, if it is told from the others. What several change alike is changed once."""
         if all(mutant.is_told_from(it) for it in self.mutants):
             with contextlib.suppress(EditError):
-                self.texts = edited_texts(mutant.edit, mutant.crate.folder, self.texts)
+                if all(mutant.change != it.change for it in self.mutants):
+                    self.texts = edited_texts(mutant.edit, mutant.crate.folder, self.texts)
                 self.mutants.append(mutant)
                 return True
         return False

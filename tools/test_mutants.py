@@ -168,6 +168,11 @@ class Reading(unittest.TestCase):
         turned = SOURCE.replace("result ≤ 4", "result ≤ 5")
         self.assertNotEqual(edits.skeleton(SOURCE), edits.skeleton(turned))
 
+    def test_a_clause_may_have_lines_that_end_in_a_semicolon(self):
+        clause = "    ensures { result ≡ record {\n      one = 1;\n      two = 2;\n    } }\n"
+        (found,) = edits.functions_of(f"fn pair() -> Pair\n{clause}{{\n    Pair(1, 2)\n}}\n")
+        self.assertEqual(["    Pair(1, 2)"], found.lines)
+
     def test_a_file_names_its_module(self):
         files = ["src/lib.rt", "src/a.rt", "src/a/mod.rt", "src/a/b.rt", "specs/A.antt"]
         self.assertEqual(["", "a", "a", "a::b", ""], [edits.module_of(it) for it in files])
@@ -202,6 +207,10 @@ class Packing(unittest.TestCase):
 
     def test_edits_of_one_place_are_apart(self):
         self.assertEqual([[0], [1]], self.batches(*(f"goal: {it}\nold: return 0;\nnew: return {it};" for it in "34")))
+
+    def test_what_two_change_alike_is_changed_once(self):
+        alike = "old: 1 ≡ 1\nnew: 1 ≡ 3"
+        self.assertEqual([[0, 1]], self.batches(*(f"at: law\ngoal: {goal}\n{alike}" for goal in ("one", "two"))))
 
     def test_a_turned_function_stands_beside_another(self):
         with tempfile.TemporaryDirectory(prefix="mutants-test-") as folder:
