@@ -11,6 +11,7 @@ use crate::{
     nlroute_rewrite_streaming, nlroute_text, nlroute_values, nlroute_version,
 };
 use link_flat::Entry;
+use std::process::Abort;
 
 /// `IFLA_DSA_CONDUIT` 42, and an attribute of type 2, which DSA does not have. Of the two nested flags, only that of
 /// the second attribute is kept.
@@ -38,6 +39,16 @@ fn numbers_of(error: &FirstError) -> [u64; 7] {
         error.first,
         error.second,
     ]
+}
+
+/// Asserts `is_so`. A failure names the attribute set and what is expected of the call.
+fn holds(rt: &impl Abort, is_so: bool, family: u32, wanted: isize) {
+    assert!(rt; is_so, "for {wanted} of family {family}");
+}
+
+/// Asserts `is_so`. A failure names the expected text.
+fn holds_of(rt: &impl Abort, is_so: bool, wanted: &str) {
+    assert!(rt; is_so, "for {wanted}");
 }
 
 /// An output buffer before a call.
@@ -72,15 +83,17 @@ fn families_by_number(rt: HostRuntime) {
         assert!(rt; usize::try_from(answer) == Ok(wanted.len()) && wanted.len() <= 12);
         let (front, rest) = out.split_at(wanted.len());
         let is_so = front == wanted && rest == &LENT[wanted.len()..];
-        assert!(rt; is_so, "of family {family}");
+        holds(&rt, is_so, family, answer);
         let mut lent = LENT;
         let answer = nlroute_rewrite_streaming(rt.alloc(), family, bytes, &mut lent);
         let is_equal = usize::try_from(answer) == Ok(wanted.len()) && lent == out;
-        assert!(rt; is_equal, "of family {family}");
+        holds(&rt, is_equal, family, answer);
         let is_judged = !nlroute_is_canonical(family, bytes);
-        assert!(rt;
+        holds(
+            &rt,
             is_judged && nlroute_is_canonical(family, wanted),
-            "of family {family}"
+            family,
+            answer,
         );
     }
     assert!(rt; nlroute_is_canonical(7, &[]) && !nlroute_is_canonical(10, &[]));
@@ -106,10 +119,7 @@ fn refusals(rt: HostRuntime) {
         let mut out = LENT;
         assert!(rt; room <= 12);
         let is_so = nlroute_rewrite(rt.alloc(), family, bytes, &mut out[..room]) == answer;
-        assert!(rt;
-            is_so && (answer > 0 || out == LENT),
-            "for {answer} of family {family}"
-        );
+        holds(&rt, is_so && (answer > 0 || out == LENT), family, answer);
     }
 }
 
@@ -132,7 +142,7 @@ fn value_by_value(rt: HostRuntime) {
         let is_so = nlroute_rewrite_streaming(rt.alloc(), family, bytes, &mut out[..room])
             == answer;
         let is_kept = answer > 0 || out == LENT;
-        assert!(rt; is_so && is_kept, "for {answer} of family {family}");
+        holds(&rt, is_so && is_kept, family, answer);
     }
 }
 
@@ -153,7 +163,7 @@ fn counts(rt: HostRuntime) {
     ];
     for (family, bytes, answer) in rows {
         let is_so = nlroute_count(family, bytes) == answer;
-        assert!(rt; is_so, "for {answer} of family {family}");
+        holds(&rt, is_so, family, answer);
     }
 }
 
@@ -177,10 +187,7 @@ fn faults(rt: HostRuntime) {
     for (family, bytes, wanted) in rows {
         let mut error = NO_ERROR;
         let is_stored = nlroute_first_fault(family, bytes, &mut error) == 0;
-        assert!(rt;
-            is_stored && numbers_of(&error) == wanted,
-            "of family {family}"
-        );
+        holds(&rt, is_stored && numbers_of(&error) == wanted, family, 0);
     }
     let mut error = NO_ERROR;
     let is_absent = nlroute_first_fault(7, &TWO, &mut error) == -6;
@@ -213,15 +220,13 @@ fn reports(rt: HostRuntime) {
         let (mut out, mut code) = ([0xFF; 64], 9);
         let short = &mut out[..wanted.len() - 1];
         let is_refused = nlroute_report(rt.alloc(), family, text, short, &mut code) == -4;
-        assert!(rt;
-            is_refused && out == [0xFF; 64] && code == 9,
-            "for {wanted}"
-        );
+        holds_of(&rt, is_refused && out == [0xFF; 64] && code == 9, wanted);
         let answer = nlroute_report(rt.alloc(), family, text, &mut out, &mut code);
         let is_said = out.starts_with(wanted.as_bytes()) && code == status;
-        assert!(rt;
+        holds_of(
+            &rt,
             is_said && usize::try_from(answer) == Ok(wanted.len()),
-            "for {wanted}"
+            wanted,
         );
     }
 }
@@ -351,7 +356,7 @@ fn names(rt: HostRuntime) {
         let mut out = [0xFF; 32];
         let answer = nlroute_kind_name(family, &value, &mut out);
         let is_so = holds_text(answer, &out, wanted);
-        assert!(rt; is_so, "for {wanted}");
+        holds_of(&rt, is_so, wanted);
     }
     assert!(rt; nlroute_version() == 0x300);
     let mode = Entry {
@@ -392,7 +397,7 @@ fn texts(rt: HostRuntime) {
         let mut out = [0xFF; 32];
         let answer = nlroute_text(rt.alloc(), family, &value, &octets, &mut out);
         let is_so = holds_text(answer, &out, wanted);
-        assert!(rt; is_so, "for {wanted}");
+        holds_of(&rt, is_so, wanted);
     }
     // longer than what is written without an allocation
     let many = [0xAB; 300];

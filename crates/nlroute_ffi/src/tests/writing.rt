@@ -1,6 +1,6 @@
 //! Tests of what no contract covers: that values are written back, and each error code, for inputs that were made by hand.
 
-use crate::tests::{BLANK, MAPPED, TWO};
+use crate::tests::{BLANK, MAPPED, TWO, holds};
 use crate::{nlroute_measure, nlroute_rewrite, nlroute_values, nlroute_write};
 use link_flat::Entry;
 
@@ -54,15 +54,15 @@ fn values_written_back(rt: HostRuntime) {
     for (family, bytes) in rows {
         let mut places = [BLANK; 8];
         let count = usize::try_from(nlroute_values(family, bytes, &mut places)).unwrap_or(0);
-        assert!(rt; 0 < count && count <= 8, "of family {family}");
+        assert!(rt; 0 < count && count <= 8);
         let (mut rewritten, mut written) = ([0xFF; 72], [0xFF; 72]);
         let length = nlroute_rewrite(rt.alloc(), family, bytes, &mut rewritten);
         let values = &places[..count];
         let is_so = nlroute_write(family, values, bytes, &mut written) == length;
-        assert!(rt; is_so && written == rewritten, "of family {family}");
+        holds(&rt, is_so && written == rewritten, family, length);
         let mut at = 9;
         let is_measured = nlroute_measure(family, values, bytes, &mut at) == length;
-        assert!(rt; is_measured && at == 9, "of family {family}");
+        holds(&rt, is_measured && at == 9, family, length);
     }
 }
 
@@ -151,10 +151,8 @@ fn values_that_cannot_be_written(rt: HostRuntime) {
         let (mut out, mut at) = ([0xFF; 24], 9);
         let is_measured = nlroute_measure(5, &values, &[], &mut at) == answer && at == index;
         let is_written = nlroute_write(5, &values, &[], &mut out) == answer;
-        assert!(rt;
-            is_measured && is_written && (out == MAPPED || answer < 0 && out == [0xFF; 24]),
-            "for {answer}"
-        );
+        let is_kept = out == MAPPED || answer < 0 && out == [0xFF; 24];
+        holds(&rt, is_measured && is_written && is_kept, 5, answer);
     }
     let mut out = [0xFF; 8];
     assert!(rt; nlroute_write(5, &[id], &[], &mut out[..7]) == -4 && out == [0xFF; 8]);
