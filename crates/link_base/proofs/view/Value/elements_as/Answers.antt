@@ -1,4 +1,4 @@
-use Rattle.std.proofs.Common.{sym, subst}
+use Rattle.std.proofs.Common.{rules, sym, subst}
 use Rattle.link_base.specs.Buffer.{kind_field_of, payload_of}
 use Rattle.link_base.specs.Borrowed.{HasValues}
 use Rattle.link_base.specs.Viewed.{buffer_in, set_in}
@@ -12,3 +12,6 @@ invariant_of-result g c =
     let list = c.in-List.list in
     let here = elements_decode table (kind_field_of b) (payload_of b) list c.args.self.now.decodes c.in-List.ensures.content in
     record { sound = subst (λ t. HasValues t list.now) (sym c.requires) here }
+
+pub returns-in-List : goal.returns-in-List
+returns-in-List c = search rules
