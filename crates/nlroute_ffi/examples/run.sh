@@ -1,5 +1,6 @@
 #!/bin/sh
-# Builds and runs the examples in C and in Rust with the static library, using cc and rustc. Not part of CI.
+# Builds and runs the examples in C and in Rust with the static library, using cc and rustc, and compiles the headers as C99,
+# C11 and C++11 with gcc and clang, if they are there. Not part of CI.
 # The library is out/libnlroute_ffi.a, as `rt lib` leaves it in this crate; with none there, `rt lib` is run first.
 # If there is a valgrind, it watches the examples that do not initialize what the library writes to.
 # The last line is 'N passed, M failed', and the status 0 only if nothing failed.
@@ -29,6 +30,17 @@ compile() {
         "$kit/c/libos_c.a" "$kit/c/liblibc_c.a"
 }
 
+# Compiles the headers with a compiler and its options, if there is one, without warnings.
+headers() {
+    command -v "${1%% *}" >/dev/null || return 0
+    # shellcheck disable=SC2086
+    if $1 -Wall -Wextra -Werror -pedantic -fsyntax-only -I include "$room/headers.c" >&2; then
+        echo "ok the headers by $1"
+    else
+        echo "FAILED the headers by $1"
+    fi >>"$room/said"
+}
+
 # Runs an example, and compares what it prints with standard input.
 prints() {
     name=$1
@@ -41,6 +53,24 @@ prints() {
 }
 
 : >"$room/said"
+cat >"$room/headers.c" <<'END'
+#include "nlroute.h"
+#include "nlroute_kinds.h"
+
+ptrdiff_t measured(size_t *at);
+
+ptrdiff_t measured(size_t *at)
+{
+    struct nlroute_value value = nlroute_flags(NLROUTE_IFLA_VLAN_FLAGS, 2, 2);
+    return value.mask == value.second ? nlroute_measure(NLROUTE_VLAN, &value, 1, NLROUTE_NO_OCTETS, at) : -1;
+}
+END
+for it in c99 c11; do
+    headers "gcc -std=$it -x c"
+    headers "clang -std=$it -x c"
+done
+headers "g++ -std=c++11 -Wold-style-cast -x c++"
+headers "clang++ -std=c++11 -Wold-style-cast -x c++"
 compile calls -Wl,--wrap=malloc,--wrap=realloc
 counted "$room/calls"
 compile tasks

@@ -18,7 +18,7 @@
  * to be freed. What a function allocates with malloc() and realloc(), it frees before it returns. Different threads may
  * call the functions at the same time.
  *
- * nlroute_kinds.h has the attribute types by the kernel's names.
+ * nlroute_kinds.h has the attribute types by the kernel's names. Both headers are C99, and C++11 or later.
  *
  * Compile with pkg-config, once tools/install.sh has installed the library:
  * cc main.c $(pkg-config --cflags --libs nlroute)
@@ -38,8 +38,10 @@ extern "C" {
 /* The compiler warns if the result of a call is ignored, which may be an error. */
 #if defined(__GNUC__)
 #define NLROUTE_MUST_USE __attribute__((warn_unused_result))
+#define NLROUTE_EXTENSION __extension__ /* C99 has no anonymous unions */
 #else
 #define NLROUTE_MUST_USE
+#define NLROUTE_EXTENSION
 #endif
 
 /*
@@ -80,7 +82,8 @@ enum nlroute_refusal {
                                nlroute_fault_text() and nlroute_report() only */
     NLROUTE_NO_ROOM = -4,   /* the output buffer is too small; each function specifies the size that it needs */
     NLROUTE_NO_FAMILY = -5, /* family is not one of the numbers above */
-    NLROUTE_ABSENT = -6,    /* the list does not have what was looked up, or a number or bit has no name */
+    NLROUTE_ABSENT = -6,    /* the list does not have what was looked up, or has no error; a number or a bit has no
+                               name */
     NLROUTE_BAD_FORM = -7,  /* the value has another form than was expected, or than its attribute type; a struct is
                                not as the library stores it */
     NLROUTE_BAD_NUMBER = -8,  /* the attribute cannot hold the number */
@@ -97,11 +100,11 @@ static inline const char *nlroute_refusal_text(ptrdiff_t code)
     case NLROUTE_NO_MEMORY: return "an allocation failed";
     case NLROUTE_NO_ROOM: return "the buffer is too small";
     case NLROUTE_NO_FAMILY: return "no attribute set has this number";
-    case NLROUTE_ABSENT: return "the list has no such attribute or element";
+    case NLROUTE_ABSENT: return "there is no such attribute, element, name or error";
     case NLROUTE_BAD_FORM: return "the value has another form";
     case NLROUTE_BAD_NUMBER: return "the attribute cannot hold the number";
     case NLROUTE_BAD_ELEMENT: return "an element does not follow its list";
-    case NLROUTE_BAD_OCTETS: return "the bytes of the value are not in the input";
+    case NLROUTE_BAD_OCTETS: return "the bytes of the value are not in the input, or have a wrong length";
     default: return code < 0 ? "unknown error" : "no error";
     }
 }
@@ -192,7 +195,7 @@ struct nlroute_value {
     uint16_t flags; /* for NLROUTE_FORM_UNKNOWN: NLA_F_NESTED and NLA_F_NET_BYTEORDER of nla_type; else 0 */
     uint8_t form;   /* an nlroute_form */
     uint8_t depth;  /* 0 for an attribute, 1 for an element */
-    union {
+    NLROUTE_EXTENSION union {
         uint32_t mask;
         uint32_t second;
     };
@@ -326,7 +329,11 @@ static inline struct nlroute_value nlroute_element(uint16_t list, struct nlroute
 }
 
 /* The two arguments octets and len, if no value refers to bytes. */
-#define NLROUTE_NO_OCTETS ((const uint8_t *)""), 0
+#ifdef __cplusplus
+#define NLROUTE_NO_OCTETS reinterpret_cast<const uint8_t *>(""), 0
+#else
+#define NLROUTE_NO_OCTETS (const uint8_t *)"", 0
+#endif
 
 /*
  * Serializes count values to out, a buffer of room bytes: the attributes, in order, each with the elements that
