@@ -1,9 +1,11 @@
 #!/usr/bin/env python3
-"""Writes crates/nlroute_ffi/include/nlroute_kinds.h: the attribute types, by the kernel's names.
+"""Writes crates/nlroute_ffi/include/nlroute_kinds.h: the attribute types, by the kernel's names, each with the form of its
+values.
 
 usage: tools/kinds.py [--check | --compare]
 
-The types are those of the tables in specs/, whose rows are what the contracts speak of.
+The types are those of the tables in specs/, whose rows are what the contracts speak of. A row names its payloads by a word of
+link_base/specs/Payloads.antt, which has the form; link_flat/specs/Detail.antt says which struct an attribute type has.
 
 With --check nothing is written: it says whether the header is what would be written, and ends with 'N passed, M failed'.
 CI does this. With --compare, each type that the kernel's headers of this machine have is compared with theirs, by the C
@@ -13,6 +15,7 @@ import os
 import re
 import subprocess
 import sys
+import textwrap
 
 ROOT = os.path.dirname(os.path.dirname(os.path.realpath(__file__)))
 HEADER = "crates/nlroute_ffi/include/nlroute_kinds.h"
@@ -23,8 +26,8 @@ TABLES = [
     ("link_bond/specs/BondPort.antt", "bond_port_table", "NLROUTE_BOND_PORT"),
     ("link_bridge/specs/Bridge.antt", "bridge_table", "NLROUTE_BRIDGE"),
     ("link_bridge/specs/Querier.antt", "querier_rows", "elements of IFLA_BR_MCAST_QUERIER_STATE"),
-    ("link_bridge/specs/BridgePort.antt", "bridge_port_table", "NLROUTE_BRIDGE_PORT, NLROUTE_PROTO_BRIDGE"),
-    ("link_bridge/specs/ProtoInfo.antt", "proto_info_table", ""),
+    ("link_bridge/specs/BridgePort.antt", "bridge_port_table", "NLROUTE_BRIDGE_PORT"),
+    ("link_bridge/specs/ProtoInfo.antt", "proto_info_table", "NLROUTE_PROTO_BRIDGE"),
     ("link_bridge/specs/AfSpec.antt", "af_spec_table", "NLROUTE_AF_SPEC_BRIDGE"),
     ("link_bridge/specs/TunnelInfo.antt", "tunnel_rows", "elements of IFLA_BRIDGE_VLAN_TUNNEL_INFO"),
     ("link_vlan_can/specs/Vlan.antt", "vlan_table", "NLROUTE_VLAN"),
@@ -35,54 +38,96 @@ TABLES = [
     ("link_vlan_can/specs/Dsa.antt", "dsa_table", "NLROUTE_DSA"),
     ("link_vlan_can/specs/Hsr.antt", "hsr_table", "NLROUTE_HSR"),
 ]
-ROW = re.compile(r'\brow(?:_in \w+)? (\d+) "(\w+)"|\b(?:leaf|nested|address)_row(?:_in \w+)? (\d+) "(\w+)"')
+ROW = re.compile(r'\b(leaf_|nested_|address_)?row(?:_in \w+)? (\d+) "(\w+)" \(?(\w+)')
+WORD = re.compile(r"^(\w+)(?: \w+)* = (?:plain |record \{.* form = )?forms\.(\w+)|^(\w+)(?: \w+)* = enum_of", re.MULTILINE)
+DETAILS = re.compile(r"^details (\w+) = (.*) ∷ \[\]$", re.MULTILINE)
+# The forms of the header, by those of the tables, and by what the kernel's headers say of a struct or a number.
+FORMS = {
+    "Nothing": "EMPTY", "Bool": "BOOL", "Unsigned": "UNSIGNED", "Signed": "SIGNED", "Enum": "NAMED", "Protocol": "NAMED",
+    "Flags": "FLAGS", "LowFlags": "FLAGS", "MaskedFlags": "MASKED", "Pair": "QOS_MAPPING", "Mac": "MAC", "Ipv4": "IPV4",
+    "Ipv6": "IPV6", "Bytes": "BYTES", "Limits": "BITTIMING_CONST", "U16s": "LIST of UNSIGNED",
+    "U32s": "LIST of UNSIGNED",
+}  # fmt: skip
+STRUCTS = {
+    "BridgeId": "BRIDGE_ID", "VlanInfo": "VLAN_INFO", "Options": "MASKED", "BitTiming": "BITTIMING", "Clock": "UNSIGNED",
+    "State": "NAMED", "Modes": "MASKED", "ErrorCounters": "BERR_COUNTER",
+}  # fmt: skip
 KERNEL = "#include <linux/if_link.h>\n#include <linux/if_bridge.h>\n#include <linux/can/netlink.h>\n"
 TOP = """\
 /*
- * The attribute types that the library knows, by the names of the kernel's headers with NLROUTE_ before them. Older headers
- * lack some of them. tools/kinds.py writes this file.
+ * The attribute types that the library knows, by the names of the kernel's headers with NLROUTE_ before them, each with the
+ * form of its values, without NLROUTE_FORM_. Older headers of the kernel lack some of them. tools/kinds.py writes this
+ * file.
  */
 #ifndef NLROUTE_KINDS_H
 #define NLROUTE_KINDS_H
 """
 
 
-def rows_of(file, table):
-    """The numbers and names of the rows of a table, in its order."""
+def read(file):
+    """The text of a file of crates/."""
     with open(f"{ROOT}/crates/{file}", encoding="utf-8") as opened:
-        text = opened.read()
-    body = re.search(rf"^{table} =(.*?)(?:^\n|\Z)", text, re.MULTILINE | re.DOTALL)
-    rows = [(int(it[1] or it[3]), it[2] or it[4]) for it in ROW.finditer(body[1])]
+        return opened.read()
+
+
+def words():
+    """The forms of the header, by the words of rows; those of structs depend on the type."""
+    found = {it[1] or it[3]: it[2] or "Enum" for it in WORD.finditer(read("link_base/specs/Payloads.antt"))}
+    return {word: FORMS.get(form) for word, form in found.items()}
+
+
+def details():
+    """The forms that structs, and numbers that are enums in the kernel, have: by attribute set and type."""
+    sets = DETAILS.findall(read("link_flat/specs/Detail.antt"))
+    return {name: {int(k): STRUCTS[it] for k, it in re.findall(r"\((\d+), (\w+)\)", rows)} for name, rows in sets}
+
+
+def rows_of(file, table):
+    """The numbers, names and forms of the rows of a table, in its order."""
+    body = re.search(rf"^{table} =(.*?)(?:^\n|\Z)", read(file), re.MULTILINE | re.DOTALL)
+    of_set = {"bridge_table": "Bridge", "bridge_port_table": "BridgePort", "af_spec_table": "AfSpecBridge", "can_table": "Can"}
+    special = details().get(of_set.get(table), {})
+    rows = []
+    for kind, number, name, word in ROW.findall(body[1]):
+        elements = {"nested_": "attributes", "address_": {"4": "IPV4", "16": "IPV6"}.get(word)}.get(kind)
+        form = f"LIST of {elements}" if elements else special.get(int(number)) or words()[word]
+        rows.append((int(number), name, form))
     if not rows:
         sys.exit(f"kinds: {file} has no rows of {table}")
     return rows
 
 
 def tables():
-    """What has the attributes, and the rows that no earlier table has, for each table that has any."""
-    known = {}
+    """What has the attributes, and the rows, for each table."""
     for file, table, owner in TABLES:
-        rows = [it for it in rows_of(file, table) if it[1] not in known]
-        known |= {name: number for number, name in rows}
-        if rows:
-            yield owner, rows
+        yield owner, rows_of(file, table)
 
 
 def text():
-    parts = [TOP]
+    parts, known = [TOP], {}
     for owner, rows in tables():
-        lines = "".join(f"    NLROUTE_{name} = {number},\n" for number, name in rows)
-        of = f"Attributes of {owner}" if owner.startswith("NLROUTE") else f"Elements{owner[len('elements'):]}"
-        parts.append(f"/* {of}. */\nenum {{\n{lines[:-2]}\n}};\n")
+        new = [it for it in rows if it[1] not in known]
+        known |= {name: number for number, name, _ in rows}
+        if new:
+            last = new[-1]
+            lines = "".join(f"    NLROUTE_{it[1]} = {it[0]}{'' if it is last else ','} /* {it[2]} */\n" for it in new)
+            of = f"Attributes of {owner}" if owner.startswith("NLROUTE") else f"Elements{owner[len('elements'):]}"
+            parts.append(f"/* {of}. */\nenum {{\n{lines}}};\n")
+        else:
+            names = ", ".join(f"NLROUTE_{name}" for _, name, _ in rows)
+            words_of = f"{owner} knows {names} only. Every other attribute of an IFLA_PROTINFO has UNKNOWN there. Read the list with"
+            words_of += " NLROUTE_BRIDGE_PORT: its attributes then have the forms above."
+            lines = textwrap.wrap(words_of, 117, break_long_words=False)
+            parts.append("/*\n" + "".join(f" * {line}\n" for line in lines) + " */\n")
     return "\n".join([*parts, "#endif\n"])
 
 
 def compare():
     """Compares the types with those of the kernel's headers of this machine."""
-    rows = [it for _, found in tables() for it in found]
+    rows = {name: number for _, found in tables() for number, name, _ in found}
     ran = subprocess.run(["cc", "-E", "-P", "-x", "c", "-"], input=KERNEL, stdout=subprocess.PIPE, text=True, check=True)
     theirs = {*re.findall(r"\b[A-Z][A-Z0-9_]+\b", ran.stdout)}
-    both = [name for _, name in rows if name in theirs]
+    both = [name for name in rows if name in theirs]
     asserts = "".join(f'_Static_assert(NLROUTE_{it} == {it}, "{it}");\n' for it in both)
     source = f'{KERNEL}#include "{ROOT}/{HEADER}"\n{asserts}'
     subprocess.run(["cc", "-std=c11", "-fsyntax-only", "-x", "c", "-"], input=source, text=True, check=True)
