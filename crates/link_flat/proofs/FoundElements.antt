@@ -1,5 +1,5 @@
 -- The last element of a type or index: of a nested list, of an array, and of a list of addresses.
-use Rattle.std.proofs.Common.{◌≡◌, ◌≢◌, ℕ, zero, suc, ◌+◌, ◌-◌, ◌*◌, ◌/◌, ◌<◌, ◌≤◌, ◌==◌, Bool, true, false, cond, List, [], ◌∷◌, ◌++◌, length, Option, Some, None, refl, sym, ap, ap₂, subst, ◌∙◌, ◌⊎◌, inl, inr, arith, get_or}
+use Rattle.std.proofs.Common.{◌≡◌, ◌≢◌, ℕ, zero, suc, ◌+◌, ◌-◌, ◌*◌, ◌/◌, ◌<◌, ◌≤◌, ◌==◌, Bool, true, false, cond, List, [], ◌∷◌, ◌++◌, length, Option, Some, None, refl, sym, ap, ap₂, subst, ◌∙◌, ◌⊎◌, inl, inr, arith, get_or, Bor}
 use Rattle.std.specs.Option.{option_map}
 use Rattle.std.specs.List.{AllZip, filter, last_or}
 use Rattle.std.proofs.lemmas.List.{append-nil, length-append}
@@ -22,7 +22,7 @@ use Rattle.netlink_packet_route.specs.Family.{table_of}
 use Rattle.link_flat.specs.declared.entry.Entry.{Entry}
 use Rattle.link_flat.specs.declared.detail.Detail.TheVariants.{Plain}
 use Rattle.link_flat.specs.Flat.{HasContent, indexed, number_entry, number_entries, address_entry, AreAddresses, IsElement, AreElements, Elements, IsGroup}
-use Rattle.link_flat.specs.Finding.{last_inner}
+use Rattle.link_flat.specs.Finding.{last_inner, IsOneElement, IsLastElement, IsElementFound}
 use Rattle.link_flat.proofs.LastAttribute.{has_kind}
 use Rattle.link_flat.proofs.EntryFields.{keeps_filled, last_seen}
 use Rattle.link_flat.proofs.Shapes.{list_payload, address_list}
@@ -55,10 +55,7 @@ last_inner_push i es e = ap (last_or None) (filter-append (is_inner i) es (e ∷
 module _ (table : Table) (k at : ℕ) where
   -- the entry of an element, if there is one
   abbrev pub IsOne : Option Item → Option Entry → Type 0
-  IsOne None None = Unit {0}
-  IsOne None (Some e) = ⊥
-  IsOne (Some x) None = ⊥
-  IsOne (Some x) (Some e) = IsElement table k (at + (x.0 + 4)) x.1 e
+  IsOne o found = IsOneElement table k at o found
 
   one_if : (b : Bool) (x : Item) (e : Entry) (o : Option Item) (found : Option Entry) → IsElement table k (at + (x.0 + 4)) x.1 e → IsOne o found → IsOne (cond b (Some x) o) (cond b (Some e) found)
   one_if true x e o found is h = is
@@ -209,10 +206,8 @@ module _ (k at n i : ℕ) where
       more_by (length (payload_of x) == n) list rest after index index' found found' offset x refl h split place e counted
 
   -- the address at the index in a whole list
-  pub address_found : (list rest : List ℕ) (index : ℕ) (found : Option Entry) → AddressTo list rest index found → rest ≡ [] → (es : List Entry) → AreAddresses k at n list es → found ≡ last_inner i es
-  address_found list rest index found h end es are =
-      let mine : AreAddresses k at n list (entries_of k at n h.items) = (h.items, record { rest = rest; walks = h.walks; end = end }, refl) in
-      h.last ∙ ap (last_inner i) (one_address_list k at n list list (entries_of k at n h.items) es refl mine are)
+  pub address_found : (list rest : List ℕ) (index : ℕ) (found : Option Entry) → AddressTo list rest index found → rest ≡ [] → (es : List Entry) × AreAddresses k at n list es × (found ≡ last_inner i es)
+  address_found list rest index found h end = (entries_of k at n h.items, (h.items, record { rest = rest; walks = h.walks; end = end }, refl), h.last)
 
 -- ---- contents
 
@@ -240,6 +235,15 @@ module _ (table : Table) (k at : ℕ) (o : Option Shape) (p : List ℕ) (es : Li
   moved_elements x (contents.U32s m) form a b h = absurd cc
   moved_elements x y form a b h = h
 
+-- a content that is neither a list nor an array has no last element
+pub none_last : (table : Table) (k at i : ℕ) (x : Content) → ((p : Bor (List ℕ)) → x ≡ contents.U16s p → ⊥) → ((p : Bor (List ℕ)) → x ≡ contents.U32s p → ⊥) → ((p : Bor (List ℕ)) (n : ℕ) → x ≡ contents.Addresses p n → ⊥)
+    → ((p : Bor (List ℕ)) → x ≡ contents.List p → ⊥) → IsLastElement table k at x i None
+none_last table k at i (contents.U16s p) a b c d = absurd (a p refl)
+none_last table k at i (contents.U32s p) a b c d = absurd (b p refl)
+none_last table k at i (contents.Addresses p n) a b c d = absurd (c p n refl)
+none_last table k at i (contents.List p) a b c d = absurd (d p refl)
+none_last table k at i x a b c d = ([], refl, refl)
+
 -- the elements in a group are those of every content of the attribute
 pub group_elements : (family : Family) (at : ℕ) (b : NlaBuffer) (content : Content) (e : Entry) (es : List Entry) → HasContent (table_of family) b content → IsGroup family (at, b) (e ∷ es)
     → Elements (table_of family) (kind_of (kind_field_of b)) (at + 4) content es
@@ -249,3 +253,32 @@ group_elements family at b content e es has (other, its, (below, elements, is)) 
     let same : es ≡ below = cc in
     subst (Elements table k (at + 4) content) (sym same)
     (moved_elements table k (at + 4) (class_at table k) (payload_of b) below content other (has.form ∙ sym its.form) has.borrows its.borrows elements)
+
+-- the last element in a content is the last of its entries
+last_of : (table : Table) (k at i : ℕ) (content : Content) (found : Option Entry) (es : List Entry) → IsLastElement table k at content i found → Elements table k at content es → found ≡ last_inner i es
+last_of table k at i (contents.List list) found es h elements = nested_found (elements_at table k) k at i list.now found h es elements
+last_of table k at i (contents.Addresses list n) found es (mine, are, is) elements = is ∙ ap (last_inner i) (one_address_list k at n list.now list.now mine es refl are elements)
+last_of table k at i contents.Nothing found es (mine, are, is) elements = is ∙ ap (last_inner i) (are ∙ sym elements)
+last_of table k at i (contents.Bool b) found es (mine, are, is) elements = is ∙ ap (last_inner i) (are ∙ sym elements)
+last_of table k at i (contents.Unsigned x n) found es (mine, are, is) elements = is ∙ ap (last_inner i) (are ∙ sym elements)
+last_of table k at i (contents.Signed z) found es (mine, are, is) elements = is ∙ ap (last_inner i) (are ∙ sym elements)
+last_of table k at i (contents.Enum x n) found es (mine, are, is) elements = is ∙ ap (last_inner i) (are ∙ sym elements)
+last_of table k at i (contents.Flags x n) found es (mine, are, is) elements = is ∙ ap (last_inner i) (are ∙ sym elements)
+last_of table k at i (contents.LowFlags x) found es (mine, are, is) elements = is ∙ ap (last_inner i) (are ∙ sym elements)
+last_of table k at i (contents.MaskedFlags x n) found es (mine, are, is) elements = is ∙ ap (last_inner i) (are ∙ sym elements)
+last_of table k at i (contents.Pair x n) found es (mine, are, is) elements = is ∙ ap (last_inner i) (are ∙ sym elements)
+last_of table k at i (contents.Protocol p) found es (mine, are, is) elements = is ∙ ap (last_inner i) (are ∙ sym elements)
+last_of table k at i (contents.Mac a) found es (mine, are, is) elements = is ∙ ap (last_inner i) (are ∙ sym elements)
+last_of table k at i (contents.Ipv4 a) found es (mine, are, is) elements = is ∙ ap (last_inner i) (are ∙ sym elements)
+last_of table k at i (contents.Ipv6 a) found es (mine, are, is) elements = is ∙ ap (last_inner i) (are ∙ sym elements)
+last_of table k at i (contents.Bytes p) found es (mine, are, is) elements = is ∙ ap (last_inner i) (are ∙ sym elements)
+last_of table k at i (contents.Struct p) found es (mine, are, is) elements = is ∙ ap (last_inner i) (are ∙ sym elements)
+last_of table k at i (contents.U16s p) found es (mine, are, is) elements = is ∙ ap (last_inner i) (are ∙ sym elements)
+last_of table k at i (contents.U32s p) found es (mine, are, is) elements = is ∙ ap (last_inner i) (are ∙ sym elements)
+last_of table k at i (contents.Limits a b) found es (mine, are, is) elements = is ∙ ap (last_inner i) (are ∙ sym elements)
+last_of table k at i (contents.Other p) found es (mine, are, is) elements = is ∙ ap (last_inner i) (are ∙ sym elements)
+
+-- what is found in an attribute is the last element among its entries
+pub found_in_group : (family : Family) (x : Item) (i : ℕ) (found : Option Entry) (e : Entry) (es : List Entry) → IsElementFound family (Some x) i found → IsGroup family x (e ∷ es) → found ≡ last_inner i es
+found_in_group family x i found e es (content, has, last) group =
+    last_of (table_of family) (kind_of (kind_field_of x.1)) (x.0 + 4) i content found es last (group_elements family x.0 x.1 content e es has group)

@@ -11,7 +11,6 @@ use Rattle.link_base.specs.Frame.{Frame, kind_of}
 use Rattle.link_base.specs.Wire.{FrameGives}
 use Rattle.link_base.specs.Table.{Table, Shape, One, Nested, Addresses, AttrValue, Other, Gives, GivesBy, Decodes, class_at}
 use Rattle.link_base.specs.Borrowed.{HasValue, HasValues, Borrows}
-use Rattle.link_flat.specs.declared.entry.Entry.{Entry}
 use Rattle.link_flat.specs.Flat.{Elements}
 
 -- the bytes of a nested list are its payload
@@ -139,11 +138,3 @@ no_elements table k at (contents.U32s p) a b c d = absurd (b p refl)
 no_elements table k at (contents.Addresses p n) a b c d = absurd (c p n refl)
 no_elements table k at (contents.List p) a b c d = absurd (d p refl)
 no_elements table k at x a b c d = refl
-
-pub are_none : (table : Table) (k at : ℕ) (x : Content) (es : List Entry) → ((p : Bor (List ℕ)) → x ≡ contents.U16s p → ⊥) → ((p : Bor (List ℕ)) → x ≡ contents.U32s p → ⊥)
-    → ((p : Bor (List ℕ)) (n : ℕ) → x ≡ contents.Addresses p n → ⊥) → ((p : Bor (List ℕ)) → x ≡ contents.List p → ⊥) → Elements table k at x es → es ≡ []
-are_none table k at (contents.U16s p) es a b c d h = absurd (a p refl)
-are_none table k at (contents.U32s p) es a b c d h = absurd (b p refl)
-are_none table k at (contents.Addresses p n) es a b c d h = absurd (c p n refl)
-are_none table k at (contents.List p) es a b c d h = absurd (d p refl)
-are_none table k at x es a b c d h = h

@@ -6,7 +6,7 @@ ghost use Rattle.link_base.specs.Viewed.{bytes_in, set_of, set_in, buffer_in, ki
 ghost use Rattle.link_messages.specs.Walk.{Item, Walk};
 ghost use Rattle.link_messages.specs.BeforeFault.{last_item};
 ghost use Rattle.netlink_packet_route.specs.Views.{family_in};
-ghost use Rattle.link_flat.specs.Finding.{item_of, IsEntryOf, Finds};
+ghost use Rattle.link_flat.specs.Finding.{item_of, IsEntryOf, IsLastOf, Finds};
 
 use crate::entry::Entry;
 use crate::flattening::put_group;
@@ -32,7 +32,7 @@ pub fn find(family: Family, bytes: &[u8], kind: u16) -> Result<Option<Entry>, Li
 
 /// Returns the entry of the last attribute of type `kind` of a view.
 fn find_in_view(list: View<'_, FamilySet>, kind: u16) -> Option<Entry>
-    ensures { Finds (family_in (set_of list.entry)) kind (bytes_in list.entry) (Ok result) }
+    ensures { IsLastOf (family_in (set_of list.entry)) kind (bytes_in list.entry) result }
 {
     match last_value(list, kind) {
         Some((at, value)) => Some(entry_of(at, &value)),

@@ -1,14 +1,16 @@
 //! Elements looked up in a list.
 
-ghost use Rattle.std.specs.Prelude.{◌≡◌, ◌≤◌, ◌<◌, ◌+◌, ◌^◌, ◌==◌, ◌∷◌, List, Some, Ok, length, if◌then◌else◌};
+ghost use Rattle.std.specs.Prelude.{◌≡◌, ◌≤◌, ◌<◌, ◌+◌, ◌^◌, ◌==◌, List, Some, None, length, if◌then◌else◌};
 ghost use Rattle.link_base.specs.Frame.{max_payload, kind_of};
 ghost use Rattle.link_base.specs.Buffer.{kind_field_of, payload_of};
 ghost use Rattle.link_base.specs.Viewed.{bytes_in, set_of, set_in, buffer_in, payload_in};
 ghost use Rattle.netlink_packet_route.specs.Family.{table_of};
 ghost use Rattle.netlink_packet_route.specs.Views.{family_in};
 ghost use Rattle.link_flat.specs.declared.entry.Entry.{Entry};
-ghost use Rattle.link_flat.specs.Flat.{HasContent, AreElements, AreAddresses, Elements, number_entries, address_entry, width_of, IsGroup};
-ghost use Rattle.link_flat.specs.Finding.{last_inner, FindsIn};
+ghost use Rattle.link_messages.specs.Walk.{Item, Walk};
+ghost use Rattle.link_messages.specs.BeforeFault.{last_item};
+ghost use Rattle.link_flat.specs.Flat.{HasContent, AreAddresses, number_entries, address_entry, width_of};
+ghost use Rattle.link_flat.specs.Finding.{last_inner, IsOneElement, IsLastElement, IsElementFound, IsLastIn, FindsIn};
 
 use crate::arrays::{Width, count_of, number_entry};
 use crate::elements::{address_entry, element_entry};
@@ -43,7 +45,7 @@ pub fn find_in(
 
 /// Returns the entry of the last element `inner` of the last attribute of type `kind` of a view.
 fn find_in_view(list: View<'_, FamilySet>, kind: u16, inner: u16) -> Option<Entry>
-    ensures { FindsIn (family_in (set_of list.entry)) kind inner (bytes_in list.entry) (Ok result) }
+    ensures { IsLastIn (family_in (set_of list.entry)) kind inner (bytes_in list.entry) result }
 {
     match last_value(list, kind) {
         Some((at, value)) => find_in_value(at, &value, inner),
@@ -54,8 +56,7 @@ fn find_in_view(list: View<'_, FamilySet>, kind: u16, inner: u16) -> Option<Entr
 /// Returns the entry of the last element `inner` of an attribute that starts at this offset.
 fn find_in_value(at: usize, value: &Value<'_, FamilySet>, inner: u16) -> Option<Entry>
     requires { at + (4 + length (payload_in value.now)) < 2 ^ 63 }
-    ensures { (e : Entry) (es : List Entry) → IsGroup (family_in (set_in value.now)) (at, buffer_in value.now) (e ∷ es)
-        → result ≡ last_inner inner es }
+    ensures { IsElementFound (family_in (set_in value.now)) (Some (at, buffer_in value.now)) inner result }
 {
     find_in_content(
         value.set().family,
@@ -76,9 +77,7 @@ fn find_in_content(
 ) -> Option<Entry>
     requires content { HasContent (table_of family) buffer.now content }
     requires offset { at + length (payload_of buffer.now) < 2 ^ 63 }
-    ensures { (es : List Entry)
-        → Elements (table_of family) (kind_of (kind_field_of buffer.now)) at content.entry es
-        → result ≡ last_inner inner es }
+    ensures { IsLastElement (table_of family) (kind_of (kind_field_of buffer.now)) at content.entry inner result }
 {
     let kind = buffer.kind();
     match content {
@@ -109,8 +108,8 @@ fn find_nested<T: AttributeSet>(
     inner: u16,
 ) -> Option<Entry>
     requires { at + length (bytes_in elements) < 2 ^ 63 }
-    ensures { (es : List Entry) → AreElements (T.rows (set_of elements.entry)) kind at (bytes_in elements.entry) es
-        → result ≡ last_inner inner es }
+    ensures { (items : List Item) × Walk (bytes_in elements.entry) items None
+        × IsOneElement (T.rows (set_of elements.entry)) kind at (last_item inner items) result }
 {
     match last_value(elements, inner) {
         Some((offset, element)) => Some(element_entry(kind, at + (offset + 4), &element)),
@@ -140,7 +139,7 @@ fn find_address(
     inner: u16,
 ) -> Option<Entry>
     requires { at + length (bytes_in addresses) < 2 ^ 63 }
-    ensures { (es : List Entry) → AreAddresses kind at size (bytes_in addresses.entry) es → result ≡ last_inner inner es }
+    ensures { (es : List Entry) × AreAddresses kind at size (bytes_in addresses.entry) es × (result ≡ last_inner inner es) }
 {
     let length = addresses.bytes().len();
     let mut rest = addresses;

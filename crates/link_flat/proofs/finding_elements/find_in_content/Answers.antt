@@ -1,12 +1,12 @@
-use Rattle.std.proofs.Common.{◌≡◌, [], sym, ap, subst}
+use Rattle.std.proofs.Common.{sym, subst}
 use Rattle.link_base.specs.Frame.{kind_of}
 use Rattle.link_base.specs.Buffer.{kind_field_of, payload_of}
 use Rattle.link_base.specs.Table.{class_at}
 use Rattle.link_base.specs.Borrowed.{HasValues, Borrows, elements_at}
 use Rattle.link_base.proofs.Elements.{elements_decode}
 use Rattle.netlink_packet_route.specs.Family.{table_of}
-use Rattle.link_flat.specs.Finding.{last_inner}
-use Rattle.link_flat.proofs.Shapes.{addresses_decode, are_none}
+use Rattle.link_flat.proofs.Shapes.{addresses_decode}
+use Rattle.link_flat.proofs.FoundElements.{none_last}
 use Rattle.link_flat.proofs.finding_elements.find_in_content.Goals as goal
 
 pub of_checked-requires : goal.of_checked-requires
@@ -28,7 +28,5 @@ of_checked-requires-in-Addresses c =
     addresses_decode table (kind_field_of b) (payload_of b) c.in-Addresses.list c.in-Addresses.size c.requires.content.decodes borrows
 
 pub returns-in_default : goal.returns-in_default
-returns-in_default c = λ es elements.
-    let none : es ≡ [] =
-    are_none (table_of c.args.family) (kind_of (kind_field_of c.args.buffer.now)) c.args.at c.args.content es c.in_default.not-U16s c.in_default.not-U32s c.in_default.not-Addresses c.in_default.not-List elements in
-    sym (ap (last_inner c.args.inner) none)
+returns-in_default c =
+    none_last (table_of c.args.family) (kind_of (kind_field_of c.args.buffer.now)) c.args.at c.args.inner c.args.content c.in_default.not-U16s c.in_default.not-U32s c.in_default.not-Addresses c.in_default.not-List
