@@ -219,9 +219,9 @@ module _ (e : Entry) (octets p : List ℕ) (held : IsEntry e) where
   bridge_read : payload_of fields.BridgeId e octets ≡ Ok p → (number (reverse (take 2 p)) ≡ e.number) × (take 6 (padded (take 6 (drop 2 p))) ≡ take 6 e.octets) × (length p ≡ 8)
   bridge_read h =
       let q = reverse (bytes_of 2 e.number) ++ take 6 e.octets in
-      let right = if_held (e.length == 8) BadOctets (only_if (nat_lt e.number 65536) BadNumber q) p (content_ok fields.BridgeId e octets p h) in
-      let both = only_held (nat_lt e.number 65536) BadNumber q p right.1 in
-      let low = ltb-true e.number 65536 both.0 in
+      let right = if_held (nat_lt e.number 65536) BadNumber (only_if (e.length == 8) BadOctets q) p (content_ok fields.BridgeId e octets p h) in
+      let both = only_held (e.length == 8) BadOctets q p right.1 in
+      let low = ltb-true e.number 65536 right.0 in
       let six : length (take 6 e.octets) ≡ 6 = omega (arith, length-take 6 e.octets, held.octets) in
       let end : take 6 (drop 2 q) ≡ take 6 e.octets = take_all 6 (take 6 e.octets) (omega (arith, six)) in (
         ap (λ t. number (reverse (take 2 t))) both.1 ∙ number-bytes_of 2 e.number low,

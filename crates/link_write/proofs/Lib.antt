@@ -19,3 +19,4 @@ pub mod AgreeClasses
 pub mod AgreeElements
 pub mod AgreeAttributes
 pub mod AgreeLists
+pub mod CheckOrder

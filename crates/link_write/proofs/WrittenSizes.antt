@@ -1,5 +1,5 @@
 -- The payloads that entries spell have lengths that their class accepts.
-use Rattle.std.proofs.Common.{◌≡◌, inl, inr, ℕ, ◌+◌, ◌≤◌, ◌==◌, Bool, true, false, cond, List, ◌++◌, length, take, drop, Some, None, Result, Ok, Err, refl, sym, ap, ◌∙◌, arith}
+use Rattle.std.proofs.Common.{◌≡◌, inl, inr, ℕ, ◌+◌, ◌≤◌, ◌==◌, Bool, true, false, cond, List, ◌++◌, length, take, drop, Some, None, Result, Ok, Err, refl, sym, ap, ◌∙◌, arith, nat_lt}
 use Rattle.std.specs.Prelude.{IsTrue, nat_le, reverse}
 use Rattle.std.proofs.lemmas.Bool.{cases_Bool, eqb-true, leb-true, le-ltb}
 use Rattle.std.proofs.lemmas.List.{length-append, length-take, length-drop}
@@ -102,7 +102,7 @@ module _ (e : Entry) (octets p : List ℕ) (held : length e.octets ≡ 16) where
   bridge_id_size : payload_of fields.BridgeId e octets ≡ Ok p → length p ≡ 8
   bridge_id_size h =
       let bytes = reverse (bytes_of 2 e.number) ++ take 6 e.octets in
-      let own = only_ok _ BadNumber bytes p (if_ok (e.length == 8) BadOctets _ p (content_ok fields.BridgeId e octets p h)) in
+      let own = only_ok (e.length == 8) BadOctets bytes p (if_ok (nat_lt e.number 65536) BadNumber _ p (content_ok fields.BridgeId e octets p h)) in
       omega (arith, ap length own, length-append (reverse (bytes_of 2 e.number)) (take 6 e.octets), length-take 6 e.octets, held)
 
   pub struct_size : (d : Detail) (x : Extent) → IsTrue (fits_struct d (kept_of x)) → payload_of (struct_fields d) e octets ≡ Ok p → length p ≡ kept_of x

@@ -101,3 +101,8 @@ fields_in detail (Some row) = row_fields detail row.2 row.4 row.5
 -- for an attribute type of a list of this table
 abbrev pub fields_at : Table → Detail → ℕ → Fields
 fields_at table detail k = fields_in detail (entry_at table k)
+
+-- how many bytes a set of flags has in attributes with these fields; eight if they are no number
+abbrev pub flag_size : Fields → ℕ
+flag_size (fields.Number form width most) = size_of width
+flag_size own = 8

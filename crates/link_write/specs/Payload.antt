@@ -83,7 +83,7 @@ content_of (fields.Shorts form second_first) e octets = only_if (nat_lt e.number
 content_of (fields.Words form second_first) e octets = only_if (nat_lt e.number (2 ^ 32)) BadNumber (pair_of second_first (bytes_of 4 e.number) (bytes_of 4 e.second))
 content_of fields.Protocol e octets = only_if ((e.number == 0x8100) || (e.number == 0x88A8)) BadNumber (reverse (bytes_of 2 e.number))
 content_of (fields.Address form size) e octets = only_if (e.length == size) BadOctets (take size e.octets)
-content_of fields.BridgeId e octets = if e.length == 8 then only_if (nat_lt e.number (2 ^ 16)) BadNumber (reverse (bytes_of 2 e.number) ++ take 6 e.octets) else Err BadOctets
+content_of fields.BridgeId e octets = if nat_lt e.number (2 ^ 16) then only_if (e.length == 8) BadOctets (reverse (bytes_of 2 e.number) ++ take 6 e.octets) else Err BadNumber
 content_of fields.Bytes e octets = passed e octets
 content_of fields.BitTiming e octets = passed_exactly 32 e octets
 content_of fields.Limits e octets = rewritten (passed_exactly 48 e octets)

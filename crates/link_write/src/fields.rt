@@ -3,7 +3,7 @@
 ghost use Rattle.std.specs.Prelude.{◌≡◌, ◌<◌, IsTrue, is_some, length};
 ghost use Rattle.link_base.specs.Frame.{frame_fault};
 ghost use Rattle.link_flat.specs.Content.{number_form};
-ghost use Rattle.link_write.specs.Fields.{most_of, accepts, width_by, any_number, size_by, ip_address, struct_fields, row_fields};
+ghost use Rattle.link_write.specs.Fields.{size_of, most_of, flag_size, accepts, width_by, any_number, size_by, ip_address, struct_fields, row_fields};
 
 use link_base::PayloadClass;
 use link_base::content::Content;
@@ -71,6 +71,29 @@ impl Width {
             Width::Four => 0xFFFF_FFFF,
             Width::Eight => 0xFFFF_FFFF_FFFF_FFFF,
         }
+    }
+
+    /// Returns the number of bytes.
+    #[inline]
+    fn size(self) -> usize
+        ensures { result ≡ size_of self }
+    {
+        match self {
+            Width::One => 1,
+            Width::Two => 2,
+            Width::Four => 4,
+            Width::Eight => 8,
+        }
+    }
+}
+
+/// Returns how many bytes a set of flags has in attributes with these fields; eight if they are no number.
+pub(crate) fn flag_size(fields: Fields) -> usize
+    ensures { result ≡ flag_size fields }
+{
+    match fields {
+        Fields::Number { width, .. } => width.size(),
+        _ => 8,
     }
 }
 

@@ -8,6 +8,9 @@ ghost use Rattle.netlink_packet_route.specs.declared.family.Family.{Family};
 ghost use Rattle.netlink_packet_route.specs.Family.{table_of};
 ghost use Rattle.link_flat.specs.declared.entry.Entry.{Entry};
 ghost use Rattle.link_flat.specs.Flat.{Flat};
+ghost use Rattle.link_write.specs.declared.fields.Fields.{Fields};
+ghost use Rattle.link_write.specs.Payload.{payload_of};
+ghost use Rattle.link_write.specs.Order.{misfit_in, first_misfit};
 ghost use Rattle.link_write.specs.Spelled.{spelled_by};
 ghost use Rattle.link_write.specs.Agreement.{IsEntry, Agrees};
 
@@ -31,4 +34,11 @@ pub fn written_read()
     ensures { (family : Family) (octets written : List ℕ) (es read : List Entry) → AllByRecursion IsEntry es
         → spelled_by family octets es ≡ Ok written → Flat family written read
         → AllZip (Agrees family octets written) es read }
+{}
+
+/// Of several errors of an entry, without its elements, the first is returned of `BadForm`, `BadNumber`, `BadOctets` and
+/// `TooLong`.
+pub fn first_misfits()
+    ensures { (own : Fields) (e : Entry) (octets : List ℕ)
+        → misfit_in (payload_of own e octets) ≡ first_misfit own e octets }
 {}

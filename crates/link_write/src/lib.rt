@@ -11,4 +11,5 @@ mod spelling;
 mod writing;
 
 pub use misfit::{Misfit, MisfitAt};
+pub use row::flags_width;
 pub use writing::{measure, write};

@@ -78,7 +78,7 @@ fn front(octets: &[u8; 16], length: usize) -> &[u8]
 ///
 /// # Errors
 ///
-/// `BadForm`, `BadNumber`, `BadOctets` or `TooLong`.
+/// The first that applies of `BadForm`, `BadNumber`, `BadOctets` and `TooLong`.
 pub(crate) fn payload_of<'a>(
     fields: Fields,
     entry: &Entry,
@@ -287,15 +287,15 @@ fn address<'a>(entry: &Entry, size: usize) -> Result<Payload<'a>, Misfit>
 ///
 /// # Errors
 ///
-/// `BadOctets` if the length is not 8, `BadNumber` if the priority does not fit.
+/// `BadNumber` if the priority does not fit, `BadOctets` if the length is not 8.
 fn bridge_id<'a>(entry: &Entry) -> Result<Payload<'a>, Misfit>
     ensures { bytes_told result ≡ content_of Fields.BridgeId entry.now [] }
 {
-    if entry.length != 8 {
-        return Err(Misfit::BadOctets);
-    }
     if entry.number > 0xFFFF {
         return Err(Misfit::BadNumber);
+    }
+    if entry.length != 8 {
+        return Err(Misfit::BadOctets);
     }
     let mut octets = [0; 16];
     octets[..2].copy_from_slice(&(entry.number as u16).to_be_bytes());

@@ -4,12 +4,14 @@ ghost use Rattle.std.specs.Prelude.{◌≡◌};
 ghost use Rattle.link_base.specs.Borrowed.{elements_at};
 ghost use Rattle.netlink_packet_route.specs.Family.{table_of};
 ghost use Rattle.link_write.specs.Fields.{fields_at};
+ghost use Rattle.link_write.specs.FlagWidth.{flags_width};
 
-use crate::fields::{Fields, row_fields};
+use crate::fields::{Fields, flag_size, row_fields};
 use link_base::label::Quantity;
 use link_base::rows::{AttributeRows, RowVisitor};
 use link_base::{Meaning, PayloadClass};
-use link_flat::detail::Detail;
+use link_flat::Entry;
+use link_flat::detail::{Detail, detail_of};
 use netlink_packet_route::link::{
     BondAdInfo, BridgeQuerierState, BridgeVlanTunnelInfo, CanCtrlModeExt, CanTdc, VlanQosMapping,
 };
@@ -106,4 +108,15 @@ pub(crate) fn element_fields(family: Family, list: u16, inner: u16) -> Fields
         },
         _ => Fields::Unknown,
     }
+}
+
+/// Returns how many bytes a set of flags of the type of an attribute or an element has; eight if the type has no numbers.
+pub fn flags_width(family: Family, entry: &Entry) -> usize
+    ensures { result ≡ flags_width family entry.now }
+{
+    if entry.depth == 0 {
+        let detail = detail_of(family, entry.kind);
+        return flag_size(fields_of(family, detail, entry.kind));
+    }
+    flag_size(element_fields(family, entry.kind, entry.inner))
 }
