@@ -34,12 +34,14 @@ use Rattle.link_flat.specs.Detail.{detail_of}
 use Rattle.link_flat.specs.Content.{filled}
 use Rattle.link_flat.specs.Flat.{HasContent, IsElement, IsGroup, Flat, head_entry}
 use Rattle.link_flat.proofs.EntryFields.{Keeps, keeps_filled}
+use Rattle.link_write.specs.Fields.{fields_in, fields_at, flag_size}
+use Rattle.link_write.specs.FlagWidth.{flags_width}
 use Rattle.nlroute_ffi.specs.Names.{label_for, has_indices, holds_indices}
 use Rattle.nlroute_ffi.specs.ValueText.{entry_text, label_or_plain, octets_of, value_text}
 use Rattle.nlroute_ffi.specs.Shown.{has_numbers, IsTextOf, IsAt, HeadHasText}
 use Rattle.nlroute_ffi.proofs.EntryTexts.{Accepts, is_usual, shown, and_true_left, and_true_right}
 
-abbrev RowEntry : Type 0
+abbrev pub RowEntry : Type 0
 RowEntry = List ℕ × Quantity × Form × List (ℕ × List ℕ) × Shape × ℕ
 
 -- ---- rows
@@ -48,7 +50,7 @@ some_same : {A : Type 0} {a b : A} → Some a ≡ Some b → a ≡ b
 some_same e = cc
 
 -- what holds of each row of a table holds of that of an attribute type
-row_checked : (check : ℕ → List ℕ → Form → Shape → Bool) (table : Table) (k : ℕ) (row : RowEntry) → list_all (λ r. check r.kind (codes r.name) r.form r.class) table ≡ true → entry_at table k ≡ Some row → check k row.0 row.2 row.4 ≡ true
+pub row_checked : (check : ℕ → List ℕ → Form → Shape → Bool) (table : Table) (k : ℕ) (row : RowEntry) → list_all (λ r. check r.kind (codes r.name) r.form r.class) table ≡ true → entry_at table k ≡ Some row → check k row.0 row.2 row.4 ≡ true
 row_checked check [] k row h e = absurd cc
 row_checked check (r ∷ rows) k row h e = by_test (r.kind == k) refl (row_checked check rows k row (and_true_right _ _ h)) where
   own : RowEntry
@@ -61,10 +63,10 @@ row_checked check (r ∷ rows) k row h e = by_test (r.kind == k) refl (row_check
   by_test false t rest = rest (ap (λ b. cond b (Some own) (entry_at rows k)) (sym t) ∙ e)
 
 -- the rows of all attribute sets, and those of their nested lists
-abbrev usual_rows : Detail → Table → Bool
+abbrev pub usual_rows : Detail → Table → Bool
 usual_rows detail table = list_all (λ r. is_usual detail (codes r.name) r.form r.class) table
 
-family_usual : (family : Family) → list_all (λ r. is_usual (detail_of family r.kind) (codes r.name) r.form r.class) (table_of family) ≡ true
+pub family_usual : (family : Family) → list_all (λ r. is_usual (detail_of family r.kind) (codes r.name) r.form r.class) (table_of family) ≡ true
 family_usual families.AfSpecBridge = refl
 family_usual families.Bond = refl
 family_usual families.BondPort = refl
@@ -76,7 +78,7 @@ family_usual families.Hsr = refl
 family_usual families.ProtoBridge = refl
 family_usual families.Vlan = refl
 
-elements_usual : (family : Family) → list_all (λ r. usual_rows Plain (elements_by (Some r.class))) (table_of family) ≡ true
+pub elements_usual : (family : Family) → list_all (λ r. usual_rows Plain (elements_by (Some r.class))) (table_of family) ≡ true
 elements_usual families.AfSpecBridge = refl
 elements_usual families.Bond = refl
 elements_usual families.BondPort = refl
@@ -91,7 +93,7 @@ elements_usual families.Vlan = refl
 -- ---- a payload that decodes
 
 -- it has an accepted length
-accepts_of : (table : Table) (f : ℕ) (p : List ℕ) (shape : Shape) → class_at table (kind_of f) ≡ Some shape → HasValue table f p → Accepts shape p
+pub accepts_of : (table : Table) (f : ℕ) (p : List ℕ) (shape : Shape) → class_at table (kind_of f) ≡ Some shape → HasValue table f p → Accepts shape p
 accepts_of table f p shape e h c is = by_cause (length_cause (extent c) (length p)) refl where
   one : (v : AttrValue) → Gives table f p (Ok v) → Ok v ≡ single_case (kind_of f) (class_value c p)
   one v g = subst (λ s. GivesBy s f p (Ok v)) (e ∙ ap (λ s. Some s) is) g
@@ -101,18 +103,18 @@ accepts_of table f p shape e h c is = by_cause (length_cause (extent c) (length 
   by_cause (Some cause) q = absurd (h (λ w. let g : Ok w.0 ≡ single_case (kind_of f) (unless (Some cause) (meant c p)) = one w.0 w.1 ∙ ap (λ o. single_case (kind_of f) (unless o (meant c p))) q in absurd cc))
 
 -- one without a row is written whatever is known of its type
-other_shown : (label : Label) (detail : Detail) (f n : ℕ) (e : Entry) (p list : List ℕ) (x : Content) → e.length ≡ length p → take (length p) (drop e.offset list) ≡ p → Borrows None p x → None ≡ form_of x
-    → entry_text label (filled detail f x n e) (octets_of (filled detail f x n e) list) ≡ (if has_numbers x then [] else shown_value None x)
-other_shown label detail f n e p list (contents.Other b) size lent h fm = ap other_text (ap (λ m. take m (drop e.offset list)) size ∙ lent ∙ sym h)
-other_shown label detail f n e p list x size lent h fm = absurd cc
+other_shown : (label : Label) (width : ℕ) (detail : Detail) (f n : ℕ) (e : Entry) (p list : List ℕ) (x : Content) → e.length ≡ length p → take (length p) (drop e.offset list) ≡ p → Borrows None p x → None ≡ form_of x
+    → entry_text label width (filled detail f x n e) (octets_of (filled detail f x n e) list) ≡ (if has_numbers x then [] else shown_value None x)
+other_shown label width detail f n e p list (contents.Other b) size lent h fm = ap other_text (ap (λ m. take m (drop e.offset list)) size ∙ lent ∙ sym h)
+other_shown label width detail f n e p list x size lent h fm = absurd cc
 
-module _ (table : Table) (b : NlaBuffer) (detail : Detail) (n : ℕ) (e : Entry) (list : List ℕ) (size : e.length ≡ length (payload_of b)) (lent : take (length (payload_of b)) (drop e.offset list) ≡ payload_of b) (bytes : IsBytes (payload_of b))
+module _ (table : Table) (b : NlaBuffer) (detail : Detail) (n : ℕ) (e : Entry) (list : List ℕ) (width : ℕ) (wide : width ≡ flag_size (fields_at table detail (kind_of (kind_field_of b)))) (size : e.length ≡ length (payload_of b)) (lent : take (length (payload_of b)) (drop e.offset list) ≡ payload_of b) (bytes : IsBytes (payload_of b))
     (checked : (row : RowEntry) → entry_at table (kind_of (kind_field_of b)) ≡ Some row → is_usual detail row.0 row.2 row.4 ≡ true) where
   new_entry : Content → Entry
   new_entry x = filled detail (kind_field_of b) x n e
 
   by_row : (o : Option RowEntry) → entry_at table (kind_of (kind_field_of b)) ≡ o → (x : Content) → HasContent table b x
-      → IsTextOf table b (entry_text (label_or_plain (label_at table (kind_of (kind_field_of b)))) (filled detail (kind_field_of b) x n e) (octets_of (filled detail (kind_field_of b) x n e) list))
+      → IsTextOf table b (entry_text (label_or_plain (label_at table (kind_of (kind_field_of b)))) width (filled detail (kind_field_of b) x n e) (octets_of (filled detail (kind_field_of b) x n e) list))
   by_row None at x has =
       let k = kind_of (kind_field_of b) in
       let p = payload_of b in
@@ -122,8 +124,8 @@ module _ (table : Table) (b : NlaBuffer) (detail : Detail) (n : ℕ) (e : Entry)
       let form : None ≡ form_of x = sym (has.form ∙ form_of_none table k at) in (
         x,
         record { decodes = has.decodes; borrows = has.borrows; form = has.form },
-        subst (λ (l : Option Label). entry_text (label_or_plain l) new (octets_of new list) ≡ (if has_numbers x then [] else shown_value l x)) (sym label)
-            (other_shown (label_or_plain None) detail (kind_field_of b) n e p list x size lent borrows form),
+        subst (λ (l : Option Label). entry_text (label_or_plain l) width new (octets_of new list) ≡ (if has_numbers x then [] else shown_value l x)) (sym label)
+            (other_shown (label_or_plain None) width detail (kind_field_of b) n e p list x size lent borrows form),
       )
   by_row (Some (name, quantity, form, names, shape, flag)) at x has =
       let k = kind_of (kind_field_of b) in
@@ -133,20 +135,26 @@ module _ (table : Table) (b : NlaBuffer) (detail : Detail) (n : ℕ) (e : Entry)
       let class : class_at table k ≡ Some shape = class_of_row table k name quantity form names shape flag at in
       let same_form : Some form ≡ form_of x = sym (has.form ∙ form_of_row table k name quantity form names shape flag at) in
       let borrows : Borrows (Some shape) p x = subst (λ o. Borrows o p x) class has.borrows in
-      let (c, borrows_c, form_c, words) = shown (name, quantity, form, names) detail (kind_field_of b) n e shape p list size lent bytes (accepts_of table (kind_field_of b) p shape class has.decodes) x borrows same_form
+      let (c, borrows_c, form_c, words) = shown (name, quantity, form, names) width detail (kind_field_of b) n e shape p list flag (wide ∙ ap (λ o. flag_size (fields_in detail o)) at) size lent bytes (accepts_of table (kind_field_of b) p shape class has.decodes) x borrows same_form
       (checked (name, quantity, form, names, shape, flag) at) in (
         c,
         record { decodes = has.decodes; borrows = subst (λ o. Borrows o p c) (sym class) borrows_c; form = form_c ∙ has.form },
-        subst (λ (l : Option Label). entry_text (label_or_plain l) new (octets_of new list) ≡ (if has_numbers c then [] else shown_value l c)) (sym label) words,
+        subst (λ (l : Option Label). entry_text (label_or_plain l) width new (octets_of new list) ≡ (if has_numbers c then [] else shown_value l c)) (sym label) words,
       )
 
 -- ---- entries
 
 -- the label of the entry of an attribute
-head_label : (family : Family) (e : Entry) (k : ℕ) → e.depth ≡ 0 → e.kind ≡ k → label_for family e ≡ label_at (table_of family) k
+pub head_label : (family : Family) (e : Entry) (k : ℕ) → e.depth ≡ 0 → e.kind ≡ k → label_for family e ≡ label_at (table_of family) k
 head_label family e k top kind =
     ap (λ i. cond ((i == 0) || (not (i == 0) && holds_indices (label_at (table_of family) e.kind))) (label_at (table_of family) e.kind) (label_at (elements_at (table_of family) e.kind) e.inner)) top
     ∙ ap (label_at (table_of family)) kind
+
+-- the width of the flags of its type
+head_width : (family : Family) (e : Entry) (k : ℕ) → e.depth ≡ 0 → e.kind ≡ k → flags_width family e ≡ flag_size (fields_at (table_of family) (detail_of family k) k)
+head_width family e k top kind =
+    ap (λ i. flag_size (cond (i == 0) (fields_at (table_of family) (detail_of family e.kind) e.kind) (fields_at (elements_at (table_of family) e.kind) Plain e.inner))) top
+    ∙ ap (λ j. flag_size (fields_at (table_of family) (detail_of family j) j)) kind
 
 attribute_shown : (family : Family) (list : List ℕ) (x : Item) (content : Content) (n : ℕ) → IsBytes list → IsAt list (x.0 + 4) x.1 → HasContent (table_of family) x.1 content → IsTextOf (table_of family) x.1 (value_text family (head_entry family x content n) list)
 attribute_shown family list x content n bytes at has =
@@ -156,8 +164,8 @@ attribute_shown family list x content n bytes at has =
     let e = head_entry family x content n in
     let keeps : Keeps e0 e = keeps_filled (detail_of family k) f content n e0 in
     let payload_bytes : IsBytes (payload_of x.1) = subst IsBytes at.1 (bytes-take (length (payload_of x.1)) (drop (x.0 + 4) list) (bytes-drop (x.0 + 4) list bytes)) in
-    subst (λ (l : Option Label). IsTextOf (table_of family) x.1 (entry_text (label_or_plain l) e (octets_of e list))) (sym (head_label family e k keeps.depth keeps.kind))
-    (by_row (table_of family) x.1 (detail_of family k) n e0 list refl at.1 payload_bytes
+    subst (λ (l : Option Label). IsTextOf (table_of family) x.1 (entry_text (label_or_plain l) (flags_width family e) e (octets_of e list))) (sym (head_label family e k keeps.depth keeps.kind))
+    (by_row (table_of family) x.1 (detail_of family k) n e0 list (flags_width family e) (head_width family e k keeps.depth keeps.kind) refl at.1 payload_bytes
     (λ row h. row_checked (λ i name form shape. is_usual (detail_of family i) name form shape) (table_of family) k row (family_usual family) h) (entry_at (table_of family) k) refl content has)
 
 -- ---- a list
@@ -168,7 +176,7 @@ payload_front s f p h =
     ap (λ r. take (length p) (drop 4 r)) h.string ∙ ap (λ q. take (length p) (q ++ h.rest)) (append-nil p) ∙ take-append_seam p h.rest
 
 -- the attributes of a list are in it
-walk_at : (list : List ℕ) (items : List Item) (s t : List ℕ) → Walks (length list) s items t → length s ≤ length list → drop (length list - length s) list ≡ s → AllByRecursion (λ x. IsAt list (x.0 + 4) x.1) items
+pub walk_at : (list : List ℕ) (items : List Item) (s t : List ℕ) → Walks (length list) s items t → length s ≤ length list → drop (length list - length s) list ≡ s → AllByRecursion (λ x. IsAt list (x.0 + 4) x.1) items
 walk_at list [] s t h few is = tt
 walk_at list (x ∷ items) s t (at, (u, split, walks)) few is =
     let p = payload_of x.1 in
@@ -201,7 +209,7 @@ list_shown family list es bytes flat =
 -- ---- elements
 
 -- the label of the entry of an element of a nested list
-element_label : (family : Family) (e : Entry) (k i : ℕ) → e.depth ≡ 1 → e.kind ≡ k → e.inner ≡ i → form_at (table_of family) k ≡ Some forms.List → label_for family e ≡ label_at (elements_at (table_of family) k) i
+pub element_label : (family : Family) (e : Entry) (k i : ℕ) → e.depth ≡ 1 → e.kind ≡ k → e.inner ≡ i → form_at (table_of family) k ≡ Some forms.List → label_for family e ≡ label_at (elements_at (table_of family) k) i
 element_label family e k i below kind inner form =
     ap (λ d. cond ((d == 0) || (not (d == 0) && holds_indices (label_at (table_of family) e.kind))) (label_at (table_of family) e.kind) (label_at (elements_at (table_of family) e.kind) e.inner)) below
     ∙ ap (λ j. cond (holds_indices (label_at (table_of family) j)) (label_at (table_of family) j) (label_at (elements_at (table_of family) j) e.inner)) kind
@@ -213,7 +221,13 @@ element_label family e k i below kind inner form =
           let same : Some f ≡ Some forms.List = sym (form_of_row (table_of family) k name quantity f names shape flag at) ∙ form in
           ap holds_indices (label_of_row (table_of family) k name quantity f names shape flag at) ∙ ap has_indices (some_same same)
 
-nested_usual : (family : Family) (k : ℕ) (o : Option RowEntry) → entry_at (table_of family) k ≡ o → usual_rows Plain (elements_at (table_of family) k) ≡ true
+-- the width of the flags of its type
+element_width : (family : Family) (e : Entry) (k i : ℕ) → e.depth ≡ 1 → e.kind ≡ k → e.inner ≡ i → flags_width family e ≡ flag_size (fields_at (elements_at (table_of family) k) Plain i)
+element_width family e k i below kind inner =
+    ap (λ d. flag_size (cond (d == 0) (fields_at (table_of family) (detail_of family e.kind) e.kind) (fields_at (elements_at (table_of family) e.kind) Plain e.inner))) below
+    ∙ ap (λ j. flag_size (fields_at (elements_at (table_of family) j) Plain e.inner)) kind ∙ ap (λ j. flag_size (fields_at (elements_at (table_of family) k) Plain j)) inner
+
+pub nested_usual : (family : Family) (k : ℕ) (o : Option RowEntry) → entry_at (table_of family) k ≡ o → usual_rows Plain (elements_at (table_of family) k) ≡ true
 nested_usual family k None at = ap (λ c. usual_rows Plain (elements_by c)) (class_of_none (table_of family) k at)
 nested_usual family k (Some (name, quantity, f, names, shape, flag)) at =
     ap (λ c. usual_rows Plain (elements_by c)) (class_of_row (table_of family) k name quantity f names shape flag at)
@@ -229,6 +243,6 @@ element_shown family list k offset b e bytes form at (content, has, is) =
     let keeps : Keeps e0 new = keeps_filled Plain f content 0 e0 in
     let payload_bytes : IsBytes (payload_of b) = subst IsBytes at.1 (bytes-take (length (payload_of b)) (drop offset list) (bytes-drop offset list bytes)) in
     subst (λ d. IsTextOf table b (value_text family d list)) (sym is)
-    (subst (λ (l : Option Label). IsTextOf table b (entry_text (label_or_plain l) new (octets_of new list))) (sym (element_label family new k (kind_of f) keeps.depth keeps.kind keeps.inner form))
-    (by_row table b Plain 0 e0 list refl at.1 payload_bytes
+    (subst (λ (l : Option Label). IsTextOf table b (entry_text (label_or_plain l) (flags_width family new) new (octets_of new list))) (sym (element_label family new k (kind_of f) keeps.depth keeps.kind keeps.inner form))
+    (by_row table b Plain 0 e0 list (flags_width family new) (element_width family new k (kind_of f) keeps.depth keeps.kind keeps.inner) refl at.1 payload_bytes
     (λ row h. row_checked (λ i name g shape. is_usual Plain name g shape) table (kind_of f) row (nested_usual family k (entry_at (table_of family) k) refl) h) (entry_at table (kind_of f)) refl content has))

@@ -34,6 +34,10 @@ use Rattle.link_flat.specs.declared.entry.Entry.{Entry}
 use Rattle.link_flat.specs.declared.detail.Detail.{Detail}
 use Rattle.link_flat.specs.declared.detail.Detail.TheVariants.{Plain, BridgeId, VlanInfo, Options, BitTiming, Clock, State, Modes, ErrorCounters}
 use Rattle.link_flat.specs.Content.{number_form, filled}
+use Rattle.link_write.specs.Fields.{row_fields, flag_size}
+use Rattle.link_write.specs.Fields.{size_of as size_of_width, width_by as width_of_shape}
+use Rattle.link_write.proofs.RowFits.{is_width}
+use Rattle.link_write.proofs.BackValues.{width_in, width_unsigned}
 use Rattle.nlroute_ffi.specs.ValueText.{entry_text, octets_of, unsigned_by, named_by, width_by, masked_by, two_bytes}
 use Rattle.nlroute_ffi.specs.Shown.{has_numbers}
 use Rattle.nlroute_ffi.proofs.StructTexts.{StructBytes, struct_extent, is_struct_name, struct_shown, padded_first}
@@ -44,24 +48,6 @@ exact_length : (n got : ℕ) → length_cause (Exactly n) got ≡ None → got �
 exact_length n got h = by_test (got == n) refl h where
   by_test : (b : Bool) → (got == n) ≡ b → length_cause (Exactly n) got ≡ None → got ≡ n
   by_test b e h = grind arith
-
-no_number : (n d m x : ℕ) (listed : List ℕ) (b : Bool) → cond b (classes.Name n d) (classes.Unlisted n listed d) ≡ classes.Number m x → ⊥
-no_number n d m x listed true h = cc
-no_number n d m x listed false h = cc
-
--- a number has as many bytes as its payload
-number_width : (c : Class) (p : List ℕ) (n x : ℕ) → meant c p ≡ classes.Number n x → length_cause (extent c) (length p) ≡ None → length p ≡ n
-number_width (classes.Unsigned m) p n x h a = let same : m ≡ n = cc in exact_length m (length p) a ∙ same
-number_width classes.Signed p n x h a = absurd cc
-number_width classes.Truth p n x h a = absurd cc
-number_width (classes.Octets e) p n x h a = absurd cc
-number_width classes.Bytes p n x h a = absurd cc
-number_width (classes.Many m) p n x h a = absurd cc
-number_width (classes.Named m listed) p n x h a = absurd (no_number m (number p) n x listed (is_listed listed (number p)) h)
-number_width classes.Protocol p n x h a = absurd cc
-number_width classes.Low p n x h a = absurd cc
-number_width classes.Empty p n x h a = absurd cc
-number_width classes.Limits p n x h a = absurd cc
 
 -- a signed number is an `i32`
 signed_fits : (c : Class) (p : List ℕ) (z : ℤ) → meant c p ≡ classes.Integer z → IsInRange c (meant c p) → FitsSigned w32 z
@@ -92,21 +78,24 @@ abbrev Shows : Label → Option Shape → List ℕ → Content → List ℕ → 
 Shows label o p x words = (c : Content) × Borrows o p c × (form_of c ≡ form_of x) × (words ≡ (if has_numbers c then [] else content_text label c))
 
 -- the extent of the bytes of a shape
-abbrev octets_extent : Shape → Option Extent
+abbrev pub octets_extent : Shape → Option Extent
 octets_extent (One (classes.Octets e)) = Some e
 octets_extent shape = None
 
-abbrev is_extent : Option Extent → Extent → Bool
+abbrev pub is_extent : Option Extent → Extent → Bool
 is_extent (Some (Exactly n)) (Exactly m) = n == m
 is_extent (Some (AtLeast n)) (AtLeast m) = n == m
 is_extent (Some (Fixed n)) (Fixed m) = n == m
 is_extent o e = false
 
--- a row of a table: a hardware address has six bytes, and a struct those that the headers say
+-- a row of a table: a hardware address has six bytes, a set of flags one, two, four or eight, and a struct those that the
+-- headers say
 abbrev pub is_usual : Detail → List ℕ → Form → Shape → Bool
 is_usual detail name forms.Mac shape = is_extent (octets_extent shape) (Exactly 6)
 is_usual detail name forms.Bytes (One classes.Bytes) = true
 is_usual detail name forms.Bytes shape = false
+is_usual detail name forms.Flags (One (classes.Unsigned n)) = is_width n
+is_usual detail name forms.Flags shape = false
 is_usual detail name forms.Struct shape = is_extent (octets_extent shape) (struct_extent detail) && is_struct_name detail name
 is_usual detail name form shape = true
 
@@ -125,6 +114,23 @@ same_extent (Some (Fixed n)) (Exactly m) h = absurd cc
 same_extent (Some (Fixed n)) (AtLeast m) h = absurd cc
 same_extent (Some (Fixed n)) (Multiple m) h = absurd cc
 same_extent (Some (Multiple n)) e h = absurd cc
+
+-- a set of flags has as many bytes as its class
+flags_wide : (detail : Detail) (name : List ℕ) (c : Class) (p : List ℕ) (n x : ℕ) → is_usual detail name forms.Flags (One c) ≡ true → meant c p ≡ classes.Number n x → size_of_width (width_of_shape (One c)) ≡ n
+flags_wide detail name (classes.Unsigned m) p n x fits h =
+    let (w, at) = width_in m fits in
+    let same : m ≡ n = cc in
+    ap (λ k. size_of_width (width_of_shape (One (classes.Unsigned k)))) at ∙ ap size_of_width (width_unsigned w) ∙ sym at ∙ same
+flags_wide detail name classes.Signed p n x fits h = absurd cc
+flags_wide detail name classes.Truth p n x fits h = absurd cc
+flags_wide detail name (classes.Octets e) p n x fits h = absurd cc
+flags_wide detail name classes.Bytes p n x fits h = absurd cc
+flags_wide detail name (classes.Many m) p n x fits h = absurd cc
+flags_wide detail name (classes.Named m listed) p n x fits h = absurd cc
+flags_wide detail name classes.Protocol p n x fits h = absurd cc
+flags_wide detail name classes.Low p n x fits h = absurd cc
+flags_wide detail name classes.Empty p n x fits h = absurd cc
+flags_wide detail name classes.Limits p n x fits h = absurd cc
 
 octets_shape : (shape : Shape) (e : Extent) → octets_extent shape ≡ Some e → shape ≡ One (classes.Octets e)
 octets_shape (One (classes.Octets d)) e h = let same : d ≡ e = cc in ap (λ x. One (classes.Octets x)) same
@@ -145,8 +151,8 @@ octets_shape (Addresses n) e h = absurd cc
 abbrev pub Accepts : Shape → List ℕ → Type 0
 Accepts shape p = (c : Class) → shape ≡ One c → length_cause (extent c) (length p) ≡ None
 
-module _ (label : Label) where
-  unsigned_shown : (detail : Detail) (x : ℕ) (e q : _) → form_in label ≡ forms.Unsigned → entry_text label (record e { form = number_form detail; number = x }) q ≡ unsigned_text (name_in label) (quantity_in label) x
+module _ (label : Label) (width : ℕ) where
+  unsigned_shown : (detail : Detail) (x : ℕ) (e q : _) → form_in label ≡ forms.Unsigned → entry_text label width (record e { form = number_form detail; number = x }) q ≡ unsigned_text (name_in label) (quantity_in label) x
   unsigned_shown State x e q h = ap (λ fm. named_by fm label x) h
   unsigned_shown Plain x e q h = ap (λ fm. unsigned_by fm label x) h
   unsigned_shown BridgeId x e q h = ap (λ fm. unsigned_by fm label x) h
@@ -164,19 +170,19 @@ protocol_of Ieee8021Ad = refl
 -- ---- the class of a content that has a value
 
 -- a content that has a value: all but lists, limits, and payloads of no row
-abbrev has_value : Content → Bool
+abbrev pub has_value : Content → Bool
 has_value (contents.Limits name numbers) = false
 has_value (contents.Addresses list size) = false
 has_value (contents.List list) = false
 has_value (contents.Other p) = false
 has_value content = true
 
-record OneClass (shape : Shape) (p : List ℕ) (x : Content) : Type 0 where
-  class : Class
-  is : shape ≡ One class
-  says : Says x (meant class p)
+pub record OneClass (shape : Shape) (p : List ℕ) (x : Content) : Type 0 where
+  pub class : Class
+  pub is : shape ≡ One class
+  pub says : Says x (meant class p)
 
-one_class : (shape : Shape) (p : List ℕ) (x : Content) → has_value x ≡ true → Borrows (Some shape) p x → OneClass shape p x
+pub one_class : (shape : Shape) (p : List ℕ) (x : Content) → has_value x ≡ true → Borrows (Some shape) p x → OneClass shape p x
 one_class (Nested flagged rows) p (contents.List q) v h = absurd cc
 one_class (Nested flagged rows) p x v h = absurd h
 one_class (Addresses n) p (contents.Addresses list size) v h = absurd cc
@@ -195,7 +201,7 @@ one_class (One classes.Low) p x v h = record { class = classes.Low; is = refl; s
 one_class (One classes.Empty) p x v h = record { class = classes.Empty; is = refl; says = h }
 
 -- an accepted payload has the bytes that are kept
-kept_size : (e : Extent) (got : ℕ) → length_cause e got ≡ None → size_of e ≤ got
+pub kept_size : (e : Extent) (got : ℕ) → length_cause e got ≡ None → size_of e ≤ got
 kept_size (Exactly n) got h = let same : got ≡ n = exact_length n got h in omega arith
 kept_size (AtLeast n) got h = by_test (nat_lt got n) refl where
   by_test : (b : Bool) → nat_lt got n ≡ b → n ≤ got
@@ -211,7 +217,7 @@ kept_size (Fixed n) got h = by_test (nat_lt got n) refl where
 kept_size (Multiple n) got h = omega arith
 
 -- the bytes of an address, or of a struct
-octets_kept : (shape : Shape) (e : Extent) (p s : List ℕ) → is_extent (octets_extent shape) e ≡ true → IsBytes p → Accepts shape p → ((c : Class) → shape ≡ One c → classes.Raw s ≡ meant c p) → (s ≡ take (size_of e) p) × StructBytes e s × (size_of e ≤ length p)
+pub octets_kept : (shape : Shape) (e : Extent) (p s : List ℕ) → is_extent (octets_extent shape) e ≡ true → IsBytes p → Accepts shape p → ((c : Class) → shape ≡ One c → classes.Raw s ≡ meant c p) → (s ≡ take (size_of e) p) × StructBytes e s × (size_of e ≤ length p)
 octets_kept shape e p s u bytes accepts says =
     let is : shape ≡ One (classes.Octets e) = octets_shape shape e (same_extent (octets_extent shape) e u) in
     let raw : classes.Raw s ≡ classes.Raw (take (size_of e) p) = says (classes.Octets e) is in
@@ -236,7 +242,7 @@ bytes_whole detail name (Nested flagged rows) p b u h = absurd cc
 bytes_whole detail name (Addresses n) p b u h = absurd cc
 
 -- the bytes that a class says
-raw_of : (shape : Shape) (p s : List ℕ) (c : Class) → shape ≡ One c → meant c p ≡ classes.Raw s → (d : Class) → shape ≡ One d → classes.Raw s ≡ meant d p
+pub raw_of : (shape : Shape) (p s : List ℕ) (c : Class) → shape ≡ One c → meant c p ≡ classes.Raw s → (d : Class) → shape ≡ One d → classes.Raw s ≡ meant d p
 raw_of shape p s c is says d other = let same : c ≡ d = cc in sym says ∙ ap (λ k. meant k p) same
 
 pub and_true_left : (a b : Bool) → (a && b) ≡ true → a ≡ true
@@ -267,12 +273,12 @@ says_ipv4 (Nested flagged rows) p a h = absurd h
 says_ipv4 (Addresses n) p a h = absurd h
 
 -- the limits of a bit timing have 48 bytes
-record TheLimits (shape : Shape) (p : List ℕ) (name numbers : Bor (List ℕ)) : Type 0 where
-  is : shape ≡ One classes.Limits
-  name_is : name.now ≡ before_nul (take 16 p)
-  numbers_are : numbers.now ≡ take 32 (drop 16 p)
+pub record TheLimits (shape : Shape) (p : List ℕ) (name numbers : Bor (List ℕ)) : Type 0 where
+  pub is : shape ≡ One classes.Limits
+  pub name_is : name.now ≡ before_nul (take 16 p)
+  pub numbers_are : numbers.now ≡ take 32 (drop 16 p)
 
-the_limits : (shape : Shape) (p : List ℕ) (name numbers : Bor (List ℕ)) → Borrows (Some shape) p (contents.Limits name numbers) → TheLimits shape p name numbers
+pub the_limits : (shape : Shape) (p : List ℕ) (name numbers : Bor (List ℕ)) → Borrows (Some shape) p (contents.Limits name numbers) → TheLimits shape p name numbers
 the_limits (One classes.Limits) p name numbers h = record { is = refl; name_is = h.0; numbers_are = h.1 }
 the_limits (One (classes.Unsigned n)) p name numbers h = absurd h
 the_limits (One classes.Signed) p name numbers h = absurd h
@@ -289,9 +295,9 @@ the_limits (Addresses n) p name numbers h = absurd h
 
 -- ---- the texts
 
-module _ (label : Label) (detail : Detail) (f n : ℕ) (e : Entry) (shape : Shape) (p list : List ℕ) (size : e.length ≡ length p) (lent : take (length p) (drop e.offset list) ≡ p) (bytes : IsBytes p) (accepts : Accepts shape p) where
+module _ (label : Label) (width : ℕ) (detail : Detail) (f n : ℕ) (e : Entry) (shape : Shape) (p list : List ℕ) (flag : ℕ) (wide : width ≡ flag_size (row_fields detail (form_in label) shape flag)) (size : e.length ≡ length p) (lent : take (length p) (drop e.offset list) ≡ p) (bytes : IsBytes p) (accepts : Accepts shape p) where
   abbrev Shown : Content → Type 0
-  Shown x = let new = filled detail f x n e in Shows label (Some shape) p x (entry_text label new (octets_of new list))
+  Shown x = let new = filled detail f x n e in Shows label (Some shape) p x (entry_text label width new (octets_of new list))
 
   timing_lent : (d : Detail) (s : List ℕ) → s ≡ take (size_of (struct_extent d)) p → size_of (struct_extent d) ≤ length p → d ≡ BitTiming → take 32 (drop e.offset list) ≡ s
   timing_lent BitTiming s front enough is = front_lent 32 e.offset p list lent enough ∙ sym front
@@ -301,7 +307,7 @@ module _ (label : Label) (detail : Detail) (f n : ℕ) (e : Entry) (shape : Shap
   shown contents.Nothing h fm u = (contents.Nothing, h, refl, refl)
   shown (contents.Bool true) h fm u = (contents.Bool true, h, refl, refl)
   shown (contents.Bool false) h fm u = (contents.Bool false, h, refl, refl)
-  shown (contents.Unsigned x w) h fm u = (contents.Unsigned x w, h, refl, unsigned_shown label detail x e (octets_of (filled detail f (contents.Unsigned x w) n e) list) cc)
+  shown (contents.Unsigned x w) h fm u = (contents.Unsigned x w, h, refl, unsigned_shown label width detail x e (octets_of (filled detail f (contents.Unsigned x w) n e) list) cc)
   shown (contents.Signed z) h fm u =
       let k = one_class shape p (contents.Signed z) refl h in
       let fits : FitsSigned w32 z = signed_fits k.class p z k.says (meant_in_range k.class p bytes (accepts k.class k.is)) in
@@ -310,11 +316,13 @@ module _ (label : Label) (detail : Detail) (f n : ℕ) (e : Entry) (shape : Shap
   shown (contents.Flags bits w) h fm u =
       let is : form_in label ≡ forms.Flags = cc in
       let k = one_class shape p (contents.Flags bits w) refl h in
-      let wide : length p ≡ w = number_width k.class p w bits k.says (accepts k.class k.is) in
-      (contents.Flags bits w, h, refl, ap (λ g. flags_text (names_of label) (width_by g e.length) bits) is ∙ ap (λ m. flags_text (names_of label) m bits) (size ∙ wide))
+      let fits : is_usual detail (name_in label) forms.Flags (One k.class) ≡ true = subst (λ s. is_usual detail (name_in label) forms.Flags s ≡ true) k.is (subst (λ g. is_usual detail (name_in label) g shape ≡ true) is u) in
+      let same : width ≡ w =
+      wide ∙ ap (λ g. flag_size (row_fields detail g shape flag)) is ∙ ap (λ s. size_of_width (width_of_shape s)) k.is ∙ flags_wide detail (name_in label) k.class p w bits fits k.says in
+      (contents.Flags bits w, h, refl, ap (λ g. flags_text (names_of label) (width_by g width) bits) is ∙ ap (λ m. flags_text (names_of label) m bits) same)
   shown (contents.LowFlags bits) h fm u =
       let is : form_in label ≡ forms.LowFlags = cc in
-      (contents.LowFlags bits, h, refl, ap (λ g. flags_text (names_of label) (width_by g e.length) bits) is)
+      (contents.LowFlags bits, h, refl, ap (λ g. flags_text (names_of label) (width_by g width) bits) is)
   shown (contents.MaskedFlags bits mask) h fm u =
       let is : form_in label ≡ forms.MaskedFlags = cc in (
         contents.MaskedFlags bits mask,
@@ -344,7 +352,7 @@ module _ (label : Label) (detail : Detail) (f n : ℕ) (e : Entry) (shape : Shap
       let both : (is_extent (octets_extent shape) (struct_extent detail) && is_struct_name detail (name_in label)) ≡ true = subst (λ g. is_usual detail (name_in label) g shape ≡ true) is u in
       let k = one_class shape p (contents.Struct b) refl h in
       let kept = octets_kept shape (struct_extent detail) p b.now (and_true_left _ _ both) bytes accepts (raw_of shape p b.now k.class k.is k.says) in
-      (contents.Struct b, h, refl, struct_shown label e b.now list is detail (and_true_right _ _ both) kept.1 (timing_lent detail b.now kept.0 kept.2))
+      (contents.Struct b, h, refl, struct_shown label width e b.now list is detail (and_true_right _ _ both) kept.1 (timing_lent detail b.now kept.0 kept.2))
   shown (contents.U16s b) h fm u = (contents.U16s b, h, refl, refl)
   shown (contents.U32s b) h fm u = (contents.U32s b, h, refl, refl)
   shown (contents.Limits name numbers) h fm u =

@@ -5,3 +5,6 @@ pub mod StructTexts
 pub mod EntryTexts
 pub mod AttributeTexts
 pub mod ErrorTexts
+pub mod FirstErrors
+pub mod NameTexts
+pub mod HeldTexts

@@ -26,7 +26,7 @@ use Rattle.link_flat.specs.Content.{whole, with_struct}
 use Rattle.nlroute_ffi.specs.ValueText.{entry_text, octets_of, two_bytes, unsigned_by, masked_by, masked_struct}
 
 -- a number within its bytes
-number_fits : (width off n : ℕ) (s : List ℕ) → IsBytes s → length s ≡ n → off + width ≤ n → number_at width off s < bound width
+pub number_fits : (width off n : ℕ) (s : List ℕ) → IsBytes s → length s ≡ n → off + width ≤ n → number_at width off s < bound width
 number_fits width off n s bytes size h =
     let part : length (take width (drop off s)) ≡ width = omega (arith, length-take width (drop off s), length-drop off s, size, h) in
     subst (λ m. number_at width off s < bound m) part (number_below (take width (drop off s)) (bytes-take width (drop off s) (bytes-drop off s bytes)))
@@ -110,7 +110,7 @@ pub record StructBytes (e : Extent) (s : List ℕ) : Type 0 where
   pub bytes : IsBytes s
 
 -- a number of two bytes, the high one first
-two_small : (xs : List ℕ) → IsBytes xs → length xs ≡ 2 → number (reverse xs) < 65536
+pub two_small : (xs : List ℕ) → IsBytes xs → length xs ≡ 2 → number (reverse xs) < 65536
 two_small (a ∷ b ∷ []) h e = omega (arith, h.0, h.1.0)
 two_small [] h e = absurd cc
 two_small (a ∷ []) h e = absurd cc
@@ -144,9 +144,9 @@ is_struct_name Modes name = bytes_eq name (codes "IFLA_CAN_CTRLMODE")
 is_struct_name ErrorCounters name = bytes_eq name (codes "IFLA_CAN_BERR_COUNTER")
 is_struct_name detail name = false
 
-module _ (label : Label) (e : Entry) (s list : List ℕ) (is : form_in label ≡ forms.Struct) where
+module _ (label : Label) (width : ℕ) (e : Entry) (s list : List ℕ) (is : form_in label ≡ forms.Struct) where
   abbrev text_in : Entry → List ℕ
-  text_in new = entry_text label new (octets_of new list)
+  text_in new = entry_text label width new (octets_of new list)
 
   -- a text of an entry whose bytes are not fewer than those of the struct
   wholly : (n : ℕ) (full : Entry) (words : List ℕ) → length s ≡ n → text_in (record full { length = n }) ≡ words → text_in (whole n s full e) ≡ words

@@ -1,23 +1,47 @@
 -- What the answers of the calls for texts rest on.
-use Rattle.std.proofs.Common.{◌≡◌, ℕ, List, Result, Ok, Err, ap₂, subst}
+use Rattle.std.proofs.Common.{◌≡◌, ℕ, ◌+◌, ◌≤◌, ◌&&◌, true, false, cond, not, nat_lt, List, [], length, take, drop, Result, Ok, Err, sym, ap, ap₂, subst, ◌∙◌}
+use Rattle.std.proofs.lemmas.Bool.{le-ltb}
 use Rattle.std.specs.Prelude.{IsOk, OnOk}
+use Rattle.link_base.specs.declared.label.Form.{Form}
 use Rattle.netlink_packet_route.specs.declared.family.Family.{Family}
-use Rattle.link_show.specs.Value.{Label}
+use Rattle.link_show.specs.Value.{Label, form_in}
 use Rattle.link_flat.specs.declared.entry.Entry.{Entry}
 use Rattle.nlroute_ffi.specs.declared.refusal.Refusal.{Refusal}
-use Rattle.nlroute_ffi.specs.declared.refusal.Refusal.TheVariants.{Memory}
+use Rattle.nlroute_ffi.specs.declared.refusal.Refusal.TheVariants.{Memory, BadForm, BadNumber, BadOctets}
+use Rattle.link_write.specs.FlagWidth.{flags_width}
 use Rattle.nlroute_ffi.specs.Buffers.{Stores, WordsAnswers}
-use Rattle.nlroute_ffi.specs.Names.{label_for}
-use Rattle.nlroute_ffi.specs.ValueText.{LendsOctets, TextAnswers, entry_text, label_or_plain}
+use Rattle.nlroute_ffi.specs.ValueText.{is_form, holds_numbers, is_lent, has_size, octets_of, LendsOctets, LendsNone, TextAnswers, entry_text, label_with}
 
 -- what holds if a result is `Ok`, and it is
 pub on_ok : {T E P : Type 0} (r : Result T E) → IsOk r → OnOk r P → P
 on_ok (Ok x) is h = h
 on_ok (Err e) is h = absurd cc
 
+-- the bytes that an entry refers to, in a list that has them
+pub octets_lent : (form : Form) (e : Entry) (octets : List ℕ) (n : ℕ) → is_form e.form ≡ true → holds_numbers form e ≡ true → has_size e ≡ true → is_lent e.form ≡ true → e.offset + e.length ≤ length octets → n ≡ e.length
+    → LendsOctets form e octets (take n (drop e.offset octets))
+octets_lent form e octets n is holds sized lent within same = (
+  is,
+  holds,
+  ap₂ (λ a b. a && not (b && nat_lt (length octets) (e.offset + e.length))) sized lent ∙ ap not (le-ltb (length octets) (e.offset + e.length) within),
+  ap (λ m. take m (drop e.offset octets)) same ∙ sym (ap (λ b. cond b (take e.length (drop e.offset octets)) []) lent),
+)
+
 -- the text of an entry, or that an allocation failed
-pub text_answered : (family : Family) (e : Entry) (octets p : List ℕ) (label : Label) (old new : List ℕ) (r : Result ℕ Refusal) → LendsOctets e octets p → label ≡ label_or_plain (label_for family e)
-    → WordsAnswers (entry_text label e p) old new r → TextAnswers e octets old new family r
-text_answered family e octets p label old new (Ok n) lends is h = (lends.0, lends.1, subst (λ words. Stores words old new n) (ap₂ (λ l s. entry_text l e s) is lends.2) h)
-text_answered family e octets p label old new (Err Memory) lends is h = tt
-text_answered family e octets p label old new (Err refusal) lends is h = absurd h
+pub text_answered : (family : Family) (e : Entry) (octets p : List ℕ) (label : Label) (width : ℕ) (old new : List ℕ) (r : Result ℕ Refusal) → LendsOctets (form_in label) e octets p → label ≡ label_with family e → width ≡ flags_width family e
+    → WordsAnswers (entry_text label width e p) old new r → TextAnswers e octets old new family r
+text_answered family e octets p label width old new (Ok n) lends is wide h = (
+  lends.0,
+  subst (λ l. holds_numbers (form_in l) e ≡ true) is lends.1,
+  lends.2,
+  subst (λ words. Stores words old new n) (ap₂ (λ l s. entry_text l width e s) is lends.3 ∙ ap (λ w. entry_text (label_with family e) w e (octets_of e octets)) wide) h,
+)
+text_answered family e octets p label width old new (Err Memory) lends is wide h = tt
+text_answered family e octets p label width old new (Err refusal) lends is wide h = absurd h
+
+-- or why it has none
+pub text_refused : (family : Family) (e : Entry) (octets : List ℕ) (label : Label) (old new : List ℕ) (refusal : Refusal) → LendsNone (form_in label) e octets refusal → label ≡ label_with family e → TextAnswers e octets old new family (Err refusal)
+text_refused family e octets label old new BadForm none is = none
+text_refused family e octets label old new BadNumber none is = (none.0, subst (λ l. holds_numbers (form_in l) e ≡ false) is none.1)
+text_refused family e octets label old new BadOctets none is = (none.0, subst (λ l. holds_numbers (form_in l) e ≡ true) is none.1, none.2)
+text_refused family e octets label old new refusal none is = absurd none

@@ -1,5 +1,5 @@
 -- Return values of the functions, and what they leave in the caller's buffers.
-use Rattle.std.specs.Prelude.{◌≡◌, ◌≢◌, ℕ, ℤ, ◌<◌, ◌≤◌, List, ◌++◌, length, take, drop, Some, None, Result, Ok, Err}
+use Rattle.std.specs.Prelude.{◌≡◌, ◌≢◌, ℕ, ℤ, ◌*◌, ◌<◌, ◌≤◌, List, ◌++◌, length, take, drop, Some, None, Result, Ok, Err}
 use Rattle.netlink_packet_route.specs.declared.link.DecodeFault.{DecodeFault}
 use Rattle.netlink_packet_route.specs.Frame.{pad, frame_fault}
 use Rattle.netlink_packet_route.specs.Wire.{Wire, FirstFault}
@@ -41,9 +41,9 @@ CountAnswers s table (Err refusal) = ⊥
 
 -- ---- entries
 
--- the number of entries of the list; or why there is none
+-- the number of entries of the list, which has at least two bytes for each; or why there is none
 abbrev pub PlacesAnswers : List ℕ → Family → Result ℕ Refusal → Type 0
-PlacesAnswers s family (Ok n) = (es : List Entry) × Flat family s es × (n ≡ length es)
+PlacesAnswers s family (Ok n) = (es : List Entry) × Flat family s es × (n ≡ length es) × (2 * n ≤ length s)
 PlacesAnswers s family (Err Fault) = HasFault (table_of family) s
 PlacesAnswers s family (Err refusal) = ⊥
 

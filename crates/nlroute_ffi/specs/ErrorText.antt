@@ -64,6 +64,18 @@ IsListFault (faults.NestedFrame kind cause) = (kind < 65536) × CauseFits cause
 IsListFault (faults.NestedValue kind inner cause) = (kind < 65536) × (inner < 65536) × CauseFits cause
 IsListFault fault = ⊥
 
+-- the causes and the errors that occur in lists of the attribute sets: that of the length of an address does not
+abbrev pub CauseOccurs : Cause → Type 0
+CauseOccurs (causes.AddressLength got) = ⊥
+CauseOccurs cause = CauseFits cause
+
+abbrev pub FaultOccurs : DecodeFault → Type 0
+FaultOccurs (faults.Frame cause) = CauseOccurs cause
+FaultOccurs (faults.Value kind cause) = (kind < 65536) × CauseOccurs cause
+FaultOccurs (faults.NestedFrame kind cause) = (kind < 65536) × CauseOccurs cause
+FaultOccurs (faults.NestedValue kind inner cause) = (kind < 65536) × (inner < 65536) × CauseOccurs cause
+FaultOccurs fault = ⊥
+
 -- an error at an offset, in a list of this table
 abbrev pub error_text : Table → ℕ → DecodeFault → List ℕ
 error_text table at fault = codes "error at " ++ (decimal at ++ (codes ": " ++ fault_text table fault))

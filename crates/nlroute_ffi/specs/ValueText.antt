@@ -1,5 +1,5 @@
 -- The texts of values.
-use Rattle.std.specs.Prelude.{◌≡◌, ℕ, ◌+◌, ◌%◌, ◌==◌, ◌&&◌, ◌||◌, Bool, true, false, not, List, [], ◌∷◌, take, drop, length, Option, Some, None, Result, Ok, Err, codes, nat_lt, bytes_eq, if◌then◌else◌}
+use Rattle.std.specs.Prelude.{◌≡◌, ℕ, ◌+◌, ◌%◌, ◌^◌, ◌==◌, ◌&&◌, ◌||◌, Bool, true, false, not, List, [], ◌∷◌, take, drop, length, Option, Some, None, Result, Ok, Err, codes, nat_lt, bytes_eq, if◌then◌else◌}
 use Rattle.std.specs.Fmt.{signed_decimal}
 use Rattle.std.specs.Int.{w64, cast_signed}
 use Rattle.std.specs.Net.Addr.{segments_of}
@@ -20,7 +20,8 @@ use Rattle.link_show.specs.Value.{Label, name_in, quantity_in, form_in, names_of
 use Rattle.link_flat.specs.declared.entry.Entry.{Entry}
 use Rattle.link_flat.specs.Forms.{form_bool, form_unsigned, form_signed, form_named, form_flags, form_masked, form_mac, form_ipv4, form_ipv6, form_bridge_id, form_vlan_info, form_qos_mapping, form_berr_counter, form_bittiming, form_bittiming_const, form_bytes, form_unknown}
 use Rattle.nlroute_ffi.specs.declared.refusal.Refusal.{Refusal}
-use Rattle.nlroute_ffi.specs.declared.refusal.Refusal.TheVariants.{BadForm, BadOctets, Memory}
+use Rattle.nlroute_ffi.specs.declared.refusal.Refusal.TheVariants.{BadForm, BadNumber, BadOctets, Memory}
+use Rattle.link_write.specs.FlagWidth.{flags_width}
 use Rattle.nlroute_ffi.specs.Buffers.{Stores}
 use Rattle.nlroute_ffi.specs.Names.{label_for}
 
@@ -28,32 +29,62 @@ use Rattle.nlroute_ffi.specs.Names.{label_for}
 abbrev pub two_bytes : ℕ → ℕ
 two_bytes n = n % 65536
 
--- ---- bytes of the list
-
 -- whether a number is that of a form
 abbrev pub is_form : ℕ → Bool
 is_form n = nat_lt 0 n && nat_lt n 20
+
+-- ---- numbers
+
+-- whether an unsigned number has a text: that of a struct, the frequency of a CAN controller, is a `u32`
+abbrev pub holds_unsigned : Form → ℕ → Bool
+holds_unsigned forms.Struct n = nat_lt n (2 ^ 32)
+holds_unsigned form n = true
+
+-- whether a number that may have a name has a text: a VLAN protocol is 802.1Q or 802.1ad
+abbrev pub holds_named : Form → ℕ → Bool
+holds_named forms.Protocol n = (n == 0x8100) || (n == 0x88A8)
+holds_named form n = true
+
+-- whether an attribute can hold the numbers of an entry, as far as its text depends on them; `form` is that of its type
+abbrev pub holds_numbers : Form → Entry → Bool
+holds_numbers form e =
+    if e.form == form_bool then nat_lt e.number 2
+    else (if e.form == form_unsigned then holds_unsigned form e.number
+    else (if e.form == form_named then holds_named form e.number
+    else (if e.form == form_masked then nat_lt e.number (2 ^ 32)
+    else (if e.form == form_bridge_id then nat_lt e.number (2 ^ 16)
+    else (if e.form == form_vlan_info then nat_lt e.number (2 ^ 16) && nat_lt e.second (2 ^ 16)
+    else (if e.form == form_qos_mapping then nat_lt e.number (2 ^ 32)
+    else (if e.form == form_berr_counter then nat_lt e.number (2 ^ 16) && nat_lt e.second (2 ^ 16)
+    else true)))))))
+
+-- ---- bytes of the list
 
 -- whether an entry of this form refers to bytes of the list
 abbrev pub is_lent : ℕ → Bool
 is_lent form = (form == form_bittiming) || ((form == form_bittiming_const) || ((form == form_bytes) || (form == form_unknown)))
 
--- whether the list has these bytes
+-- whether an entry that refers to a struct has its length
+abbrev pub has_size : Entry → Bool
+has_size e = if e.form == form_bittiming then e.length == 32 else (if e.form == form_bittiming_const then e.length == 48 else true)
+
+-- whether the bytes have the right length, and the list has them
 abbrev pub has_octets : Entry → List ℕ → Bool
-has_octets e octets = not (is_lent e.form && nat_lt (length octets) (e.offset + e.length))
+has_octets e octets = has_size e && not (is_lent e.form && nat_lt (length octets) (e.offset + e.length))
 
 -- the bytes; none for other forms
 abbrev pub octets_of : Entry → List ℕ → List ℕ
 octets_of e octets = if is_lent e.form then take e.length (drop e.offset octets) else []
 
--- p is these bytes; or why there are none
-abbrev pub LendsOctets : Entry → List ℕ → List ℕ → Type 0
-LendsOctets e octets p = (is_form e.form ≡ true) × (has_octets e octets ≡ true) × (p ≡ octets_of e octets)
+-- an entry of a type with this form has a text, and p is the bytes that it refers to; or why it has none
+abbrev pub LendsOctets : Form → Entry → List ℕ → List ℕ → Type 0
+LendsOctets form e octets p = (is_form e.form ≡ true) × (holds_numbers form e ≡ true) × (has_octets e octets ≡ true) × (p ≡ octets_of e octets)
 
-abbrev pub LendsNone : Entry → List ℕ → Refusal → Type 0
-LendsNone e octets BadForm = is_form e.form ≡ false
-LendsNone e octets BadOctets = (is_form e.form ≡ true) × (has_octets e octets ≡ false)
-LendsNone e octets refusal = ⊥
+abbrev pub LendsNone : Form → Entry → List ℕ → Refusal → Type 0
+LendsNone form e octets BadForm = is_form e.form ≡ false
+LendsNone form e octets BadNumber = (is_form e.form ≡ true) × (holds_numbers form e ≡ false)
+LendsNone form e octets BadOctets = (is_form e.form ≡ true) × (holds_numbers form e ≡ true) × (has_octets e octets ≡ false)
+LendsNone form e octets refusal = ⊥
 
 -- ---- texts by form
 
@@ -68,7 +99,7 @@ named_by forms.Protocol label n = protocol_text (value_of vlan_protocols (two_by
 named_by forms.Unsigned label n = unsigned_text (name_in label) (quantity_in label) n
 named_by form label n = enum_text (names_of label) n
 
--- how many bytes a set of flags has, if its payload has n
+-- how many bytes of a set of flags have flags, if it has n bytes
 abbrev pub width_by : Form → ℕ → ℕ
 width_by forms.LowFlags n = 1
 width_by form n = n
@@ -104,20 +135,21 @@ fields_text form e p =
     else (if form == form_berr_counter then berr_counter_text (record { txerr = two_bytes e.number; rxerr = two_bytes e.second })
     else octets_text form p))))))
 
--- the text of a number or a set of flags, by what is known of the type; for other forms that of the fields
-abbrev pub text_by : ℕ → Label → Entry → List ℕ → List ℕ
-text_by form label e p =
+-- the text of a number or a set of flags, by what is known of the type, of which a set of flags has `width` bytes; for
+-- other forms that of the fields
+abbrev pub text_by : ℕ → Label → ℕ → Entry → List ℕ → List ℕ
+text_by form label width e p =
     if form == form_bool then (if e.number == 0 then codes "off" else codes "on")
     else (if form == form_unsigned then unsigned_by (form_in label) label e.number
     else (if form == form_signed then signed_decimal (cast_signed w64 e.number)
     else (if form == form_named then named_by (form_in label) label e.number
-    else (if form == form_flags then flags_text (names_of label) (width_by (form_in label) e.length) e.number
+    else (if form == form_flags then flags_text (names_of label) (width_by (form_in label) width) e.number
     else (if form == form_masked then masked_by (form_in label) label (four_bytes e.number) (four_bytes e.second)
     else fields_text form e p)))))
 
 -- the text of an entry that refers to these bytes
-abbrev pub entry_text : Label → Entry → List ℕ → List ℕ
-entry_text label e p = text_by e.form label e p
+abbrev pub entry_text : Label → ℕ → Entry → List ℕ → List ℕ
+entry_text label width e p = text_by e.form label width e p
 
 -- what is known of a type without a row: the text depends on the form only
 abbrev pub plain_label : Label
@@ -127,12 +159,17 @@ abbrev pub label_or_plain : Option Label → Label
 label_or_plain None = plain_label
 label_or_plain (Some label) = label
 
+-- what is known of the type of an entry
+abbrev pub label_with : Family → Entry → Label
+label_with family e = label_or_plain (label_for family e)
+
 -- the text of an entry of a list of this attribute set, where `octets` are the bytes of the list
 abbrev pub value_text : Family → Entry → List ℕ → List ℕ
-value_text family e octets = entry_text (label_or_plain (label_for family e)) e (octets_of e octets)
+value_text family e octets = entry_text (label_with family e) (flags_width family e) e (octets_of e octets)
 
 -- the buffer has the text; or why not
 abbrev pub TextAnswers : Entry → List ℕ → List ℕ → List ℕ → Family → Result ℕ Refusal → Type 0
-TextAnswers e octets old new family (Ok n) = (is_form e.form ≡ true) × (has_octets e octets ≡ true) × Stores (value_text family e octets) old new n
+TextAnswers e octets old new family (Ok n) =
+    (is_form e.form ≡ true) × (holds_numbers (form_in (label_with family e)) e ≡ true) × (has_octets e octets ≡ true) × Stores (value_text family e octets) old new n
 TextAnswers e octets old new family (Err Memory) = Unit {0}
-TextAnswers e octets old new family (Err refusal) = LendsNone e octets refusal
+TextAnswers e octets old new family (Err refusal) = LendsNone (form_in (label_with family e)) e octets refusal

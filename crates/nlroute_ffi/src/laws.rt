@@ -1,12 +1,21 @@
 //! Theorems about texts. The functions have empty bodies; each states its theorem as its contract.
 
-ghost use Rattle.std.specs.Prelude.{◌≡◌, ℕ, List, Some};
+ghost use Rattle.std.specs.Prelude.{◌≡◌, ◌≢◌, ◌<◌, ◌^◌, ℕ, List, Some, Result, codes};
+ghost use Rattle.std.specs.Fmt.{decimal};
 ghost use Rattle.std.specs.List.{AllZip};
 ghost use Rattle.link_base.specs.declared.buffer.NlaBuffer.{NlaBuffer};
+ghost use Rattle.link_base.specs.declared.content.Content.TheVariants as contents;
 ghost use Rattle.link_base.specs.declared.label.Form.TheVariants as forms;
+ghost use Rattle.link_base.specs.declared.vlan_protocol.VlanProtocol.{VlanProtocol};
 ghost use Rattle.link_base.specs.Borrowed.{elements_at};
 ghost use Rattle.link_base.specs.Number.{IsBytes};
-ghost use Rattle.link_base.specs.Table.{form_at};
+ghost use Rattle.link_base.specs.Protocol.{protocol_number};
+ghost use Rattle.link_base.specs.Table.{Table, Gives, form_at};
+ghost use Rattle.link_base.specs.Wire.{FirstFault};
+ghost use Rattle.link_show.specs.Flags.{flags_text};
+ghost use Rattle.link_show.specs.Text.{hex_number};
+ghost use Rattle.link_show.specs.Value.{Label, form_in, content_text};
+ghost use Rattle.link_show.specs.Value.{name_in as type_name};
 ghost use Rattle.netlink_packet_route.specs.declared.family.Family.{Family};
 ghost use Rattle.netlink_packet_route.specs.Family.{table_of};
 ghost use Rattle.link_flat.specs.declared.entry.Entry.{Entry};
@@ -14,10 +23,13 @@ ghost use Rattle.link_flat.specs.Flat.{Flat, IsElement};
 ghost use Rattle.netlink_packet_route.specs.declared.link.DecodeFault.{DecodeFault};
 ghost use Rattle.nlroute_ffi.specs.declared.fault.FirstError.{FirstError};
 ghost use Rattle.nlroute_ffi.specs.Numbers.{fault_numbers};
-ghost use Rattle.nlroute_ffi.specs.Error.{error_numbers};
-ghost use Rattle.nlroute_ffi.specs.ErrorText.{IsListFault, fault_of};
+ghost use Rattle.nlroute_ffi.specs.Error.{error_numbers, ErrorAnswers};
+ghost use Rattle.nlroute_ffi.specs.ErrorText.{IsListFault, FaultOccurs, fault_of, ErrorTextAnswers};
+ghost use Rattle.nlroute_ffi.specs.Names.{label_for, number_name, bit_names_by, flag_name};
 ghost use Rattle.nlroute_ffi.specs.ValueText.{value_text};
-ghost use Rattle.nlroute_ffi.specs.Shown.{IsAt, IsTextOf, HeadHasText};
+ghost use Rattle.nlroute_ffi.specs.Shown.{IsAt, IsTextOf, HeadHasText, HasText, HeadIsTold, IsWithName, IsByName};
+
+use crate::refusal::Refusal;
 
 /// States that the entry of each attribute of a list has the text that `link_show` specifies for the attribute; an array
 /// of numbers has none.
@@ -38,4 +50,49 @@ pub fn texts_of_elements()
 pub fn errors_in_structs()
     ensures { (e : FirstError) (at : ℕ) (fault : DecodeFault) → IsListFault fault
         → error_numbers e ≡ fault_numbers at fault → (e.at ≡ at) × (fault_of e ≡ Some fault) }
+{}
+
+/// States that the first error of a list is one that a struct has numbers for, and not that of the length of an address; that
+/// the struct in which `nlroute_first_fault` stored it has that error; and that `nlroute_fault_text` does not return -7 for
+/// this struct.
+pub fn first_errors()
+    ensures listed { (table : Table) (s : List ℕ) (at : ℕ) (fault : DecodeFault) → IsBytes s
+        → FirstFault (Gives table) s at fault → IsListFault fault }
+    ensures occurs { (table : Table) (s : List ℕ) (at : ℕ) (fault : DecodeFault) → IsBytes s
+        → FirstFault (Gives table) s at fault → FaultOccurs fault }
+    ensures stored { (table : Table) (s : List ℕ) (e : FirstError) (n : ℕ) → IsBytes s → ErrorAnswers s e table (Ok n)
+        → (at : ℕ) × (fault : DecodeFault) × FirstFault (Gives table) s at fault × (e.at ≡ at) × (fault_of e ≡ Some fault) }
+    ensures told { (family other : Family) (s : List ℕ) (e : FirstError) (n : ℕ) (old new : List ℕ) (result : Result ℕ Refusal)
+        → IsBytes s → ErrorAnswers s e (table_of family) (Ok n) → ErrorTextAnswers e old new other result
+        → result ≢ Err Refusal.BadForm }
+{}
+
+/// States that a number has the name that `link_show` writes before it: of an enum, the state of a CAN controller, or a VLAN
+/// protocol.
+pub fn names_of_numbers()
+    ensures enums { (label : Label) (n width : ℕ) → form_in label ≡ forms.Enum
+        → IsWithName (number_name (Some label) n) (decimal n) (content_text label (contents.Enum n width)) }
+    ensures states { (label : Label) (n width : ℕ) → form_in label ≡ forms.Unsigned
+        → type_name label ≡ codes "IFLA_CAN_STATE"
+        → IsWithName (number_name (Some label) n) (decimal n) (content_text label (contents.Unsigned n width)) }
+    ensures protocols { (label : Label) (p : VlanProtocol) → form_in label ≡ forms.Protocol
+        → IsWithName (number_name (Some label) (protocol_number p)) (hex_number (protocol_number p))
+        (content_text label (contents.Protocol p)) }
+{}
+
+/// States that a bit has the name that `link_show` writes for a set of flags with this bit only, of any width.
+pub fn names_of_bits()
+    ensures { (family : Family) (e : Entry) (label : Label) (bit width : ℕ) → label_for family e ≡ Some label → bit < 64
+        → IsByName (flag_name (Some label) bit) (hex_number (2 ^ bit))
+        (flags_text (bit_names_by (form_in label) label) width (2 ^ bit)) }
+{}
+
+/// States that the entry of each attribute of a list, and that of each element of a nested list, has a text: `nlroute_text`
+/// returns neither -7, -8 nor -10 for them.
+pub fn entries_have_texts()
+    ensures attributes { (family : Family) (list : List ℕ) (es : List Entry) → IsBytes list → (flat : Flat family list es)
+        → AllZip (HeadIsTold family list) flat.items flat.groups }
+    ensures elements { (family : Family) (list : List ℕ) (kind offset : ℕ) (b : NlaBuffer) (e : Entry) → IsBytes list
+        → form_at (table_of family) kind ≡ Some forms.List → IsAt list offset b
+        → IsElement (elements_at (table_of family) kind) kind offset b e → HasText family list e }
 {}

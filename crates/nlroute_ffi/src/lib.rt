@@ -121,7 +121,7 @@ pub extern "C" fn nlroute_count(family: u32, bytes: &[u8]) -> isize
 }
 
 /// Returns the number of entries that `nlroute_values` stores for the list in `bytes`: its values, and the elements of those
-/// that are lists. Does not allocate.
+/// that are lists. It is at most half of the length. Does not allocate.
 ///
 /// # Errors
 ///
@@ -237,10 +237,10 @@ pub extern "C" fn nlroute_can_bittiming_const(
 ///
 /// # Errors
 ///
-/// -5 if `family` is not the number of a `Family`. Of the first value that cannot be written: -2 if its payload does not
-/// fit in an attribute, -7 if its form is not that of the attribute type, -8 if its attribute cannot hold a number, -9 if
-/// it is an element that does not follow a list of its type, -10 if its bytes are too many, too few, or outside `octets`.
-/// -4 if all can be written, but `out` is too small. On error `out` is unchanged.
+/// -5 if `family` is not the number of a `Family`. Of the first value that cannot be written, the first that applies: -9 if
+/// it is an element that does not follow a list of its type, -7 if its form is not that of the attribute type, -8 if its
+/// attribute cannot hold a number, -10 if its bytes are too many, too few, or outside `octets`, -2 if its payload does not
+/// fit in an attribute; a list is too long only if its elements can be written. -4 if all can be written, but `out` is too small. On error `out` is unchanged.
 #[unsafe(no_mangle)]
 pub extern "C" fn nlroute_write(
     family: u32,
@@ -302,8 +302,9 @@ pub extern "C" fn nlroute_kind_name(family: u32, value: &Entry, out: &mut [u8]) 
 ///
 /// # Errors
 ///
-/// -3 if an allocation fails, -5 if `family` is not the number of a `Family`, -7 if `value` has no form, -10 if its
-/// octets are not within `octets`. Then `out` has the empty text.
+/// -5 if `family` is not the number of a `Family`; otherwise the first that applies: -7 if `value` has no form, -8 if its
+/// attribute cannot hold its numbers, -10 if its octets have a wrong length or are not within `octets`; -3 if an allocation
+/// fails. Then `out` has the empty text.
 #[unsafe(no_mangle)]
 pub extern "C" fn nlroute_text(
     alloc: Global,

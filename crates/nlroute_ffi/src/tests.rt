@@ -282,6 +282,33 @@ fn stored_values(rt: HostRuntime) {
 }
 
 #[test]
+fn values_looked_up_beside_an_error(rt: HostRuntime) {
+    // in each list one attribute decodes, and another has an error
+    let rows: [(u32, &[u8]); 4] = [
+        // `IFLA_VLAN_ID` 7, then one of three bytes
+        (5, &[6, 0, 1, 0, 7, 0, 0, 0, 7, 0, 1, 0, 8, 0, 9]),
+        // `IFLA_VLAN_ID` 7, then `IFLA_VLAN_EGRESS_QOS` with a mapping of four bytes
+        (
+            5,
+            &[6, 0, 1, 0, 7, 0, 0, 0, 12, 0, 3, 0, 8, 0, 1, 0, 5, 0, 0, 0],
+        ),
+        // `IFLA_VLAN_FLAGS` of four bytes, then `IFLA_VLAN_ID` 7
+        (5, &[8, 0, 2, 0, 1, 0, 0, 0, 6, 0, 1, 0, 7, 0]),
+        // `IFLA_VLAN_ID` 7, then three bytes
+        (5, &[6, 0, 1, 0, 7, 0, 0, 0, 6, 0, 3]),
+    ];
+    for (family, bytes) in rows {
+        for kind in 0..4u16 {
+            let mut value = Entry { number: 9, ..BLANK };
+            let is_so = nlroute_find(family, bytes, kind, &mut value) == -1 && value.number == 9;
+            holds(&rt, is_so, family, -1);
+            let answer = nlroute_find_in(family, bytes, kind, 1, &mut value);
+            holds(&rt, answer == -1 && value.number == 9, family, -1);
+        }
+    }
+}
+
+#[test]
 fn structs_of_a_can_controller(rt: HostRuntime) {
     let mut octets = [0u8; 52];
     octets[4] = 9;
@@ -411,6 +438,124 @@ fn texts(rt: HostRuntime) {
     assert!(rt; out == *b"hex aba\0");
     assert!(rt; nlroute_text(rt.alloc(), 3, &long, &octets, &mut out) == -10 && out[0] == 0);
     assert!(rt; nlroute_text(rt.alloc(), 3, &BLANK, &octets, &mut out) == -7 && out[0] == 0);
+}
+
+/// An element of an attribute of type `kind`, and a set of flags.
+const FLAGS: Entry = Entry {
+    form: 6,
+    depth: 1,
+    ..BLANK
+};
+
+#[test]
+fn texts_of_flags(rt: HostRuntime) {
+    // the width of the type counts, and not the length of the struct
+    let rows: [(u32, Entry, &str); 5] = [
+        // `IFLA_BRIDGE_VLAN_TUNNEL_FLAGS`, two bytes
+        (
+            0,
+            Entry {
+                kind: 3,
+                inner: 3,
+                number: 0xFFFF,
+                ..FLAGS
+            },
+            "all",
+        ),
+        (
+            0,
+            Entry {
+                kind: 3,
+                inner: 3,
+                number: 0x80,
+                length: 1,
+                ..FLAGS
+            },
+            "0x80",
+        ),
+        // `IFLA_CAN_CTRLMODE_SUPPORTED`, four bytes
+        (
+            6,
+            Entry {
+                kind: 17,
+                inner: 1,
+                number: 0xFFFF_FFFF,
+                length: 8,
+                ..FLAGS
+            },
+            "all",
+        ),
+        // `IFLA_BOND_SLAVE_AD_PARTNER_OPER_PORT_STATE`, one byte of two
+        (
+            2,
+            Entry {
+                kind: 8,
+                depth: 0,
+                number: 1,
+                ..FLAGS
+            },
+            "LACP_ACTIVITY",
+        ),
+        // of no type: eight bytes
+        (
+            0,
+            Entry {
+                kind: 99,
+                number: u64::MAX,
+                ..FLAGS
+            },
+            "all",
+        ),
+    ];
+    for (family, value, wanted) in rows {
+        let mut out = [0xFF; 32];
+        let answer = nlroute_text(rt.alloc(), family, &value, &[], &mut out);
+        let is_so = holds_text(answer, &out, wanted);
+        holds_of(&rt, is_so, wanted);
+    }
+}
+
+#[test]
+fn values_without_a_text(rt: HostRuntime) {
+    // the attribute set, type and form, the two numbers, the length, and the code
+    let rows: [(u32, u16, u8, u64, u32, u32, isize); 13] = [
+        // a boolean
+        (3, 7, 2, 2, 0, 1, -8),
+        // a frequency
+        (6, 3, 3, 0x1_0000_0000, 0, 4, -8),
+        // a VLAN protocol
+        (5, 5, 5, 0x1234, 0, 2, -8),
+        (5, 5, 5, 0x1_88A8, 0, 2, -8),
+        // flags with a mask
+        (5, 2, 7, 0x1_0000_0000, 0, 8, -8),
+        // a bridge ID
+        (3, 10, 11, 65536, 0, 8, -8),
+        // a VLAN, and its flags
+        (0, 2, 12, 65536, 0, 4, -8),
+        (0, 2, 12, 1, 65536, 4, -8),
+        // a mapping
+        (5, 3, 13, 0x1_0000_0000, 0, 8, -8),
+        // error counters
+        (6, 8, 14, 65536, 0, 4, -8),
+        (6, 8, 14, 0, 65536, 4, -8),
+        // a bit timing, and limits
+        (6, 1, 15, 0, 0, 31, -10),
+        (6, 2, 16, 0, 0, 49, -10),
+    ];
+    let octets = [0; 64];
+    for (family, kind, form, number, second, length, wanted) in rows {
+        let value = Entry {
+            kind,
+            form,
+            number,
+            second,
+            length,
+            ..BLANK
+        };
+        let mut out = [0xFF; 8];
+        let answer = nlroute_text(rt.alloc(), family, &value, &octets, &mut out);
+        holds(&rt, answer == wanted && out[0] == 0, family, wanted);
+    }
 }
 
 #[test]

@@ -17,6 +17,7 @@ ghost use Rattle.link_show.specs.Value.{four_bytes, limits_text, protocol_text};
 ghost use Rattle.nlroute_ffi.specs.Buffers.{cut_text};
 ghost use Rattle.nlroute_ffi.specs.ValueText.{two_bytes, unsigned_by, named_by, width_by, masked_by, masked_struct};
 ghost use Rattle.nlroute_ffi.specs.ValueText.{entry_text, fields_text, octets_text};
+ghost use Rattle.nlroute_ffi.specs.ValueText.{holds_numbers, holds_unsigned, holds_named, has_size};
 ghost use Rattle.nlroute_ffi.specs.ValueText.{label_or_plain, is_lent, LendsOctets, LendsNone, TextAnswers};
 
 use crate::buffers::{Words, refuse, store_words};
@@ -33,6 +34,7 @@ use link_bridge::{
 use link_flat::{Entry, forms};
 use link_show::{StructText, write_address, write_content, write_enum, write_flags, write_hex};
 use link_vlan_can::{CanBerrCounter, CanBitTiming, CanClock, CanCtrlMode, CanCtrlModeFlags};
+use link_write::flags_width;
 use netlink_packet_route::Family;
 use std::alloc::Global;
 use std::io;
@@ -47,19 +49,21 @@ const PLAIN: KindLabel = KindLabel {
     names: &[],
 };
 
-/// The text of a value: what is known of its type, its entry, and the bytes that it refers to.
+/// The text of a value: what is known of its type, how many bytes a set of flags of this type has, its entry, and the bytes
+/// that it refers to.
 #[derive(Drop)]
 struct ValueWords<'a> {
     label: KindLabel,
+    width: usize,
     value: &'a Entry,
     octets: &'a [u8],
 }
 
 impl Words for ValueWords<'_> {
-    ghost words = { λ words. entry_text (label_of words.label) words.value.now words.octets.now };
+    ghost words = { λ words. entry_text (label_of words.label) words.width words.value.now words.octets.now };
 
     fn write_words<W: Write>(&self, writer: &mut W) -> io::Result<()> {
-        write_entry(writer, &self.label, self.value, self.octets)
+        write_entry(writer, &self.label, self.width, self.value, self.octets)
     }
 }
 
@@ -67,8 +71,9 @@ impl Words for ValueWords<'_> {
 ///
 /// # Errors
 ///
-/// `BadForm` if `value` has no form, `BadOctets` if its octets are not within `octets`, `Memory` if an allocation
-/// fails. Then `buffer` has the empty text.
+/// The first that applies: `BadForm` if `value` has no form, `BadNumber` if its attribute cannot hold its numbers,
+/// `BadOctets` if its octets have a wrong length or are not within `octets`; `Memory` if an allocation fails. Then `buffer`
+/// has the empty text.
 pub(crate) fn store_value_text(
     alloc: Global,
     family: Family,
@@ -81,11 +86,13 @@ pub(crate) fn store_value_text(
     ensures empty { OnErr result (buffer.new ≡ cut_text [] buffer.old) }
 {
     let label = label_or_plain(label_of(family, value));
-    match octets_of(value, octets) {
+    let width = flags_width(family, value);
+    match octets_of(label.form, value, octets) {
         Ok(octets) => store_words(
             alloc,
             &ValueWords {
                 label,
+                width,
                 value,
                 octets,
             },
@@ -104,27 +111,79 @@ fn label_or_plain(label: Option<KindLabel>) -> KindLabel
     }
 }
 
-/// Returns the bytes of the list that `value` refers to; none if its content is in its fields.
+/// Returns the bytes of the list that `value` refers to; none if its content is in its fields. `form` is that of its type.
 ///
 /// # Errors
 ///
-/// `BadForm` if `value` has no form, `BadOctets` if its octets are not within `octets`.
-fn octets_of<'a>(value: &Entry, octets: &'a [u8]) -> Result<&'a [u8], Refusal>
-    ensures { MatchResult result (λ p. LendsOctets value.now octets.now p.now) (LendsNone value.now octets.now) }
+/// The first that applies: `BadForm` if `value` has no form, `BadNumber` if its attribute cannot hold its numbers,
+/// `BadOctets` if its octets have a wrong length or are not within `octets`.
+fn octets_of<'a>(form: Form, value: &Entry, octets: &'a [u8]) -> Result<&'a [u8], Refusal>
+    ensures { MatchResult result (λ p. LendsOctets form value.now octets.now p.now)
+        (LendsNone form value.now octets.now) }
 {
     if value.form == 0 || value.form > forms::UNKNOWN {
         return Err(Refusal::BadForm);
+    }
+    if !holds_numbers(form, value) {
+        return Err(Refusal::BadNumber);
     }
     if !is_lent(value.form) {
         return Ok(&[]);
     }
     let room = octets.len() as u64;
     let length = u64::from(value.length);
-    if value.offset > room || room - value.offset < length {
+    if !has_size(value) || value.offset > room || room - value.offset < length {
         return Err(Refusal::BadOctets);
     }
     let start = value.offset as usize;
     Ok(&octets[start..start + value.length as usize])
+}
+
+/// Checks whether the attribute of `value`, whose type has this form, can hold its numbers.
+fn holds_numbers(form: Form, value: &Entry) -> bool
+    ensures { result ≡ holds_numbers form value.now }
+{
+    match value.form {
+        forms::BOOL => value.number < 2,
+        forms::UNSIGNED => holds_unsigned(form, value.number),
+        forms::NAMED => holds_named(form, value.number),
+        forms::MASKED | forms::QOS_MAPPING => value.number < 0x1_0000_0000,
+        forms::BRIDGE_ID => value.number < 0x1_0000,
+        forms::VLAN_INFO | forms::BERR_COUNTER => value.number < 0x1_0000
+            && value.second < 0x1_0000,
+        _ => true,
+    }
+}
+
+/// Checks whether an unsigned number has a text: that of a struct, the frequency of a CAN controller, is a `u32`.
+fn holds_unsigned(form: Form, number: u64) -> bool
+    ensures { result ≡ holds_unsigned form number }
+{
+    match form {
+        Form::Struct => number < 0x1_0000_0000,
+        _ => true,
+    }
+}
+
+/// Checks whether a number that may have a name has a text: a VLAN protocol is 802.1Q or 802.1ad.
+fn holds_named(form: Form, number: u64) -> bool
+    ensures { result ≡ holds_named form number }
+{
+    match form {
+        Form::Protocol => number == 0x8100 || number == 0x88A8,
+        _ => true,
+    }
+}
+
+/// Checks whether an entry that refers to a struct has its length.
+fn has_size(value: &Entry) -> bool
+    ensures { result ≡ has_size value.now }
+{
+    match value.form {
+        forms::BITTIMING => value.length == 32,
+        forms::BITTIMING_CONST => value.length == 48,
+        _ => true,
+    }
 }
 
 /// Checks whether an entry of this form refers to bytes of the list.
@@ -137,15 +196,17 @@ fn is_lent(form: u8) -> bool
     }
 }
 
-/// Writes the text of an entry that refers to these bytes. `label` is that of its type.
+/// Writes the text of an entry that refers to these bytes. `label` is that of its type, of which a set of flags has `width`
+/// bytes.
 fn write_entry<W: Write>(
     writer: &mut W,
     label: &KindLabel,
+    width: usize,
     value: &Entry,
     octets: &[u8],
 ) -> io::Result<()>
     ensures { OnOk result (Appends (W.contents writer.old) (W.contents writer.new)
-        (entry_text (label_of label.now) value.now octets.now)) }
+        (entry_text (label_of label.now) width value.now octets.now)) }
 {
     let number = value.number;
     match value.form {
@@ -154,7 +215,7 @@ fn write_entry<W: Write>(
         forms::SIGNED => write_signed(writer, number),
         forms::NAMED => write_named(writer, label, number),
         forms::FLAGS => {
-            let width = width_by(label.form, value.length);
+            let width = width_by(label.form, width);
             write_flags(writer, label.names, width, number)
         }
         forms::MASKED => write_masked(writer, label, low_word(number), value.second),
@@ -282,13 +343,13 @@ fn write_protocol<W: Write>(writer: &mut W, label: &KindLabel, number: u16) -> i
     write_content(writer, label, Content::Protocol(VlanProtocol::from(number)))
 }
 
-/// Returns how many bytes a set of flags has, if its payload has `length`.
-fn width_by(form: Form, length: u32) -> usize
-    ensures { result ≡ width_by form length }
+/// Returns how many bytes of a set of flags have flags, if it has `width` bytes.
+fn width_by(form: Form, width: usize) -> usize
+    ensures { result ≡ width_by form width }
 {
     match form {
         Form::LowFlags => 1,
-        _ => length as usize,
+        _ => width,
     }
 }
 

@@ -154,6 +154,43 @@ fn values_that_cannot_be_written(rt: HostRuntime) {
         let is_kept = out == MAPPED || answer < 0 && out == [0xFF; 24];
         holds(&rt, is_measured && is_written && is_kept, 5, answer);
     }
+    // of several errors of a value, the first in their order
+    let bridge_id = Entry {
+        kind: 10,
+        form: 11,
+        length: 7,
+        number: 65536,
+        ..BLANK
+    };
+    let rows: [(isize, Entry); 4] = [
+        (-8, bridge_id),
+        (
+            -10,
+            Entry {
+                number: 1,
+                ..bridge_id
+            },
+        ),
+        (
+            -7,
+            Entry {
+                form: 12,
+                ..bridge_id
+            },
+        ),
+        (
+            -9,
+            Entry {
+                depth: 1,
+                ..bridge_id
+            },
+        ),
+    ];
+    for (answer, value) in rows {
+        let mut at = 9;
+        let is_so = nlroute_measure(3, &[value], &[], &mut at) == answer && at == 0;
+        holds(&rt, is_so, 3, answer);
+    }
     let mut out = [0xFF; 8];
     assert!(rt; nlroute_write(5, &[id], &[], &mut out[..7]) == -4 && out == [0xFF; 8]);
     assert!(rt; nlroute_write(10, &[id], &[], &mut out) == -5 && out == [0xFF; 8]);

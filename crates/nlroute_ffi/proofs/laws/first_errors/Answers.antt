@@ -1,0 +1,14 @@
+use Rattle.nlroute_ffi.proofs.FirstErrors.{list_fits, list_occurs, stored_found, stored_told}
+use Rattle.nlroute_ffi.proofs.laws.first_errors.Goals as goal
+
+pub returns-clause-listed : goal.returns-clause-listed
+returns-clause-listed c = list_fits
+
+pub returns-clause-occurs : goal.returns-clause-occurs
+returns-clause-occurs c = list_occurs
+
+pub returns-clause-stored : goal.returns-clause-stored
+returns-clause-stored c = stored_found
+
+pub returns-clause-told : goal.returns-clause-told
+returns-clause-told c = stored_told
