@@ -208,6 +208,7 @@ static void timing(void) {
     check(nlroute_can_bittiming(v + 1, can, sizeof can, &bits) == NLROUTE_BAD_FORM, "-7 for limits");
     check(nlroute_can_bittiming(v, can, 35, &bits) == NLROUTE_BAD_OCTETS, "-10 for bytes that are cut off");
     check(!strcmp(nlroute_refusal_text(NLROUTE_BAD_FORM), "the value has another form"), "a code in words");
+    check(!strcmp(nlroute_refusal_text(NLROUTE_ABSENT), "there is no such attribute, element, name or error"), "another");
 }
 
 static struct nlroute_value value(uint16_t kind, uint8_t form, uint64_t number, uint32_t second) {
@@ -361,6 +362,7 @@ static void texts(void) {
     check_value(NLROUTE_CAN, value(NLROUTE_IFLA_CAN_BERR_COUNTER, NLROUTE_FORM_BERR_COUNTER, 1, 2), "txerr 1 rxerr 2");
     check_value(NLROUTE_CAN, element(NLROUTE_IFLA_CAN_TERMINATION_CONST, 1, NLROUTE_FORM_UNSIGNED, 120, 0), "120 ohm");
     check_value(NLROUTE_AF_SPEC_BRIDGE, value(2, NLROUTE_FORM_VLAN_INFO, 10, 6), "vid 10 flags PVID|UNTAGGED");
+    check_value(NLROUTE_AF_SPEC_BRIDGE, element(3, 3, NLROUTE_FORM_FLAGS, 0xFFFF, 0), "all");
 
     uint8_t bytes[130];
     memset(bytes, 0xAB, sizeof bytes);
@@ -377,6 +379,8 @@ static void texts(void) {
     v.form = 20;
     check(nlroute_text(NLROUTE_VLAN, &v, bytes, 130, text, sizeof text) == NLROUTE_BAD_FORM, "-7 of a text");
     check(nlroute_text(10, &v, bytes, 130, text, sizeof text) == NLROUTE_NO_FAMILY && text[0] == 0, "-5 of a text");
+    v = value(2, NLROUTE_FORM_VLAN_INFO, 65536, 0);
+    check(nlroute_text(NLROUTE_AF_SPEC_BRIDGE, &v, bytes, 130, text, sizeof text) == NLROUTE_BAD_NUMBER, "-8 of a text");
 }
 
 static void texts_of_faults(void) {

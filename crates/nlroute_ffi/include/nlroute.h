@@ -1,22 +1,22 @@
 /*
  * Parses, counts, checks, re-encodes and reports lists of netlink link attributes.
  *
- * A list is the payload of an IFLA_INFO_DATA, IFLA_INFO_SLAVE_DATA, IFLA_AF_SPEC or IFLA_PROTINFO attribute. Return
- * values and outputs are proved to be as described below, for every input; the contracts are in src/lib.rt.
+ * A list is the payload of an IFLA_INFO_DATA, IFLA_INFO_SLAVE_DATA, IFLA_AF_SPEC or IFLA_PROTINFO attribute. Numbers in
+ * lists are little-endian, whatever the byte order of the machine. Return values and outputs are proved to be as
+ * described below, for every input; the contracts are in src/lib.rt. What is marked "not proved" is tested only.
  *
  * Requirements on the caller:
  * - No pointer is NULL, even for a length of 0. Each is aligned for its type and points to at least as many elements as
- *   the length that goes with it. Those of inputs are initialized. Those of outputs need not be: no function reads what
- *   it has not written.
- * - The outputs (out, text, values, fault, status, the struct that a call stores) overlap neither each other nor an
- *   input.
- *   During a call, no other thread writes to the inputs, or reads or writes the outputs.
+ *   the length that goes with it. Input memory must be initialized; output memory need not be, since no function reads
+ *   what it has not written (not proved).
+ * - The outputs (out, text, values, value, fault, status, at, the struct that a call stores) overlap neither each other
+ *   nor an input. During a call, no other thread writes to the inputs, or reads or writes the outputs.
  * - No buffer is larger than PTRDIFF_MAX bytes.
  * - No function is called from a signal handler, or in the child after a fork() of a multithreaded process.
  *
  * The caller keeps ownership of everything it passes. The library keeps no pointer to it and returns nothing that has
- * to be freed. What a function allocates with malloc() and realloc(), it frees before it returns. Different threads may
- * call the functions at the same time.
+ * to be freed. What a function allocates with malloc() and realloc(), it frees before it returns (not proved). Different
+ * threads may call the functions at the same time.
  *
  * nlroute_kinds.h has the attribute types by the kernel's names. Both headers are C99, and C++11 or later.
  *
@@ -69,23 +69,25 @@ enum nlroute_family {
 };
 
 /*
- * Error codes, returned in place of a length or count. The outputs are unchanged on error, except as described at
- * nlroute_rewrite_streaming() and nlroute_values(), and except that the functions for texts store the empty text.
+ * Error codes, returned in place of a length or count. The outputs are unchanged on error, with these exceptions:
+ * - nlroute_rewrite_streaming() may have changed the start of out;
+ * - nlroute_values() has stored the first values if it returns NLROUTE_NO_ROOM;
+ * - nlroute_measure() has stored an index in *at, unless it returns NLROUTE_NO_ROOM or NLROUTE_NO_FAMILY;
+ * - the functions for texts store the empty text.
  */
 enum nlroute_refusal {
     NLROUTE_HAS_FAULT = -1, /* the input is not a list of this attribute set; nlroute_first_fault() has the first
                                error */
-    NLROUTE_TOO_LONG = -2,  /* the input decodes, or a value can be written, but a payload would have more than 65531
-                               bytes */
-    NLROUTE_NO_MEMORY = -3, /* an allocation failed (it is not proved that this is the only reason for the code);
-                               returned by nlroute_rewrite(), nlroute_rewrite_streaming(), nlroute_text(),
-                               nlroute_fault_text() and nlroute_report() only */
+    NLROUTE_TOO_LONG = -2,  /* an otherwise valid attribute would have a payload of more than 65531 bytes */
+    NLROUTE_NO_MEMORY = -3, /* an allocation failed (not proved: that this is the only reason for the code); returned by
+                               nlroute_rewrite(), nlroute_rewrite_streaming(), nlroute_text(), nlroute_fault_text() and
+                               nlroute_report() only */
     NLROUTE_NO_ROOM = -4,   /* the output buffer is too small; each function specifies the size that it needs */
     NLROUTE_NO_FAMILY = -5, /* family is not one of the numbers above */
     NLROUTE_ABSENT = -6,    /* the list does not have what was looked up, or has no error; a number or a bit has no
                                name */
-    NLROUTE_BAD_FORM = -7,  /* the value has another form than was expected, or than its attribute type; a struct is
-                               not as the library stores it */
+    NLROUTE_BAD_FORM = -7,  /* the value has another form than was expected, or than its attribute type; the struct has
+                               numbers that the library never stores */
     NLROUTE_BAD_NUMBER = -8,  /* the attribute cannot hold the number */
     NLROUTE_BAD_ELEMENT = -9, /* an element does not follow a list of its attribute type */
     NLROUTE_BAD_OCTETS = -10  /* the bytes of the value are outside the input, or not as many as its form has */
@@ -121,8 +123,11 @@ static inline const char *nlroute_refusal_text(ptrdiff_t code)
  *
  * The output is the same as the input if and only if the input is canonical. It is never longer than len rounded up to
  * a multiple of four, so NLROUTE_NO_ROOM cannot occur if room is at least that. It decodes to the same values, except
- * that names of CAN controllers are truncated to 15 bytes. Re-encoding the output yields a canonical list, and
- * re-encoding a canonical list does not change it.
+ * for names of CAN controllers. A name ends before the first NUL. Each part of it that is not UTF-8 is replaced by
+ * U+FFFD (a byte 88 becomes ef bf bd), and what results is truncated to 15 bytes. In a list of addresses, attributes of
+ * another size are no values: they are dropped, and the others are numbered from 0.
+ *
+ * Re-encoding the output yields a canonical list, and re-encoding a canonical list does not change it.
  *
  * Returns, unless an allocation fails,
  * - NLROUTE_HAS_FAULT if and only if the input is malformed;
@@ -184,10 +189,11 @@ enum nlroute_form {
 
 /*
  * An attribute of a list, or an element of an attribute that is a list. Elements follow their list: those of a nested
- * list, the addresses of a list of addresses, and the numbers of an array.
+ * list, the addresses of a list of addresses, and the numbers of an array. In a list of addresses, attributes of
+ * another size are skipped; they have no index.
  *
  * Numbers are in the byte order of the machine, including VLAN protocols and bridge priorities. Fields that the form
- * does not use are 0, except for offset and length.
+ * does not use are 0, except for offset and length. nlroute_kinds.h has the form of each attribute type.
  */
 struct nlroute_value {
     uint16_t kind;  /* attribute type (nla_type) without flags; for an element, that of its list */
@@ -230,8 +236,11 @@ ptrdiff_t nlroute_values(uint32_t family, const uint8_t *bytes, size_t len, stru
 
 /*
  * Looks up the last attribute of type `kind` in a list. It is the one that Linux takes, except for types of which Linux
- * takes all. Stores its value in *value, as nlroute_values() stores it, and returns 0. For a list, number is the number
- * of its elements, which are not stored. Does not allocate.
+ * takes all (not proved). Stores its value in *value, as nlroute_values() stores it, and returns 0. For a list, number
+ * is the number of its elements, which are not stored. Does not allocate.
+ *
+ * NLROUTE_PROTO_BRIDGE knows one type only: all others have NLROUTE_FORM_UNKNOWN and the number 0. To look up an
+ * attribute of an IFLA_PROTINFO, pass NLROUTE_BRIDGE_PORT.
  *
  * On error *value is unchanged. Returns
  * - NLROUTE_HAS_FAULT if and only if the input is malformed;
@@ -256,7 +265,8 @@ ptrdiff_t nlroute_find_in(uint32_t family, const uint8_t *bytes, size_t len, uin
 /*
  * Stores the struct that a value of NLROUTE_FORM_BITTIMING or NLROUTE_FORM_BITTIMING_CONST refers to, and returns 0.
  * The input is the list that the value was read from. The structs are those of linux/can/netlink.h. The name in a
- * struct can_bittiming_const ends with a NUL: it is truncated to 15 bytes. Does not allocate.
+ * struct can_bittiming_const has the bytes of the input before the first NUL, at most 15, and zeros after them: unlike
+ * nlroute_rewrite(), this call replaces no bytes. Does not allocate.
  *
  * On error the struct is unchanged. Returns
  * - NLROUTE_BAD_FORM if and only if the value has another form;
@@ -346,14 +356,17 @@ static inline struct nlroute_value nlroute_element(uint16_t list, struct nlroute
  * nor does inner in a list of addresses or an array of numbers: elements are written in order. A name in a struct
  * can_bittiming_const is written as nlroute_rewrite() writes it.
  *
- * Returns, for the first value that cannot be written,
+ * Returns, for the first value that cannot be written, the first of these that applies:
+ * - NLROUTE_BAD_ELEMENT if depth is not 0, and it does not follow a list of the same kind, or depth is not 1;
  * - NLROUTE_BAD_FORM if form is neither that of its attribute type nor NLROUTE_FORM_OF_KIND, or if the type is not
  *   known and form is not NLROUTE_FORM_UNKNOWN;
  * - NLROUTE_BAD_NUMBER if its attribute cannot hold number or second (for a VLAN protocol, number is 0x8100 or
- *   0x88A8); or if the type is not known, and kind has more than 14 bits or flags has others than those two;
+ *   0x88A8); or if the type is not known, and it has more than 14 bits or flags has others than those two;
  * - NLROUTE_BAD_OCTETS if length is wrong, or len is less than offset + length;
- * - NLROUTE_BAD_ELEMENT if depth is not 0, and it does not follow a list of the same kind, or depth is not 1;
  * - NLROUTE_TOO_LONG if its payload would have more than 65531 bytes.
+ * The values are checked in order, except that a list is found to be too long after its elements: if one of them cannot
+ * be written, that is the error.
+ *
  * Returns NLROUTE_NO_ROOM if and only if all values can be written but the list has more than room bytes. On error
  * out is unchanged.
  */
@@ -363,7 +376,8 @@ ptrdiff_t nlroute_write(uint32_t family, const struct nlroute_value *values, siz
 
 /*
  * Returns the number of bytes that nlroute_write() writes for these values, or its error code. If a value cannot be
- * written, stores the index of the first such value in *at; otherwise *at is unchanged. Does not allocate.
+ * written, stores the index of the first such value in *at, that of a list if the list is too long; otherwise *at is
+ * unchanged. Does not allocate.
  *
  * Returns NLROUTE_NO_ROOM if and only if the list has more than PTRDIFF_MAX bytes.
  */
@@ -397,13 +411,16 @@ ptrdiff_t nlroute_kind_name(uint32_t family, const struct nlroute_value *value, 
  * "10.0.0.1". It is "" for a list and for NLROUTE_FORM_EMPTY, and "hex dead" for NLROUTE_FORM_UNKNOWN.
  *
  * The field form selects the fields that are written. The fields kind, inner and depth select the unit of a number,
- * and the names of numbers and bits. The len bytes at octets are the list that the value was read from. Allocates only
- * if the text is longer than NLROUTE_TEXT_ROOM.
+ * the names of numbers and bits, and the width of a set of flags, all of whose bits are "all". The len bytes at octets
+ * are the list that the value was read from. Allocates only if the text is longer than NLROUTE_TEXT_ROOM (not proved).
  *
- * Returns
- * - NLROUTE_BAD_FORM if and only if form is NLROUTE_FORM_OF_KIND, or not one of enum nlroute_form;
- * - NLROUTE_BAD_OCTETS if and only if the form is NLROUTE_FORM_BITTIMING, NLROUTE_FORM_BITTIMING_CONST,
- *   NLROUTE_FORM_BYTES or NLROUTE_FORM_UNKNOWN, and len is less than offset + length;
+ * Returns the first of these that applies, for a value of nlroute_values() none but the last:
+ * - NLROUTE_BAD_FORM if form is NLROUTE_FORM_OF_KIND, or not one of enum nlroute_form;
+ * - NLROUTE_BAD_NUMBER if the attribute cannot hold number or second: a boolean is 0 or 1, a VLAN protocol 0x8100 or
+ *   0x88A8, a VLAN ID, its flags, a priority or an error counter less than 65536, flags with a mask, a priority that is
+ *   mapped, or a frequency less than 2^32;
+ * - NLROUTE_BAD_OCTETS if the form is NLROUTE_FORM_BITTIMING (NLROUTE_FORM_BITTIMING_CONST) and length is not 32 (48),
+ *   or if it is one of these two, NLROUTE_FORM_BYTES or NLROUTE_FORM_UNKNOWN, and len is less than offset + length;
  * - NLROUTE_NO_MEMORY if an allocation fails.
  */
 ptrdiff_t nlroute_text(uint32_t family, const struct nlroute_value *value, const uint8_t *octets, size_t len,
@@ -447,7 +464,7 @@ enum nlroute_cause {
     NLROUTE_WRONG_LENGTH = 4,  /* the payload's length is wrong (the correct length or, for an array of numbers, the
                                   size of one element, which must divide the length; the payload's length) */
     NLROUTE_TOO_SHORT = 5,     /* the payload is too short (the minimum length; the payload's length) */
-    NLROUTE_ADDRESS_LENGTH = 6 /* an address has neither 4 nor 16 bytes (its length; 0); not reported for lists */
+    NLROUTE_ADDRESS_LENGTH = 6 /* an address has neither 4 nor 16 bytes (its length; 0); no list of these sets has it */
 };
 
 /* The first error of a list. */
@@ -470,12 +487,14 @@ NLROUTE_MUST_USE
 ptrdiff_t nlroute_first_fault(uint32_t family, const uint8_t *bytes, size_t len, struct nlroute_fault *fault);
 
 /*
- * Stores the text of an error, as nlshow prints it: "error at 8: IFLA_BR_HELLO_TIME has 3 bytes, expected 4". How, and
- * what is returned, is described at NLROUTE_TEXT_ROOM. Allocates only if the text is longer than NLROUTE_TEXT_ROOM.
+ * Stores the text of an error, as nlshow prints it: "error at 8: IFLA_BR_HELLO_TIME has 3 bytes, expected 4". Stored
+ * and returned as described under "Texts" above. Allocates only if the text is longer than NLROUTE_TEXT_ROOM (not
+ * proved).
  *
  * Returns
  * - NLROUTE_BAD_FORM if and only if place is not one of enum nlroute_place, cause not one of enum nlroute_cause, or
- *   kind or inner greater than 65535, or likewise first, for NLROUTE_SMALL_LENGTH and NLROUTE_OVERRUN;
+ *   kind or inner greater than 65535, or likewise first, for NLROUTE_SMALL_LENGTH and NLROUTE_OVERRUN; never for a
+ *   struct that nlroute_first_fault() stored;
  * - NLROUTE_NO_MEMORY if an allocation fails.
  */
 ptrdiff_t nlroute_fault_text(uint32_t family, const struct nlroute_fault *fault, char *text, size_t room);
