@@ -19,7 +19,7 @@ use Rattle.link_base.specs.declared.vlan_protocol.VlanProtocol.TheVariants.{Ieee
 use Rattle.link_base.specs.Number.{IsBytes, number}
 use Rattle.link_base.specs.Name.{before_nul}
 use Rattle.link_base.specs.Class as classes
-use Rattle.link_base.specs.Class.{Class, Extent, Exactly, AtLeast, Fixed, Multiple, meant, extent, size_of, length_cause, is_listed, IsInRange}
+use Rattle.link_base.specs.Class.{Class, Extent, Exactly, AtLeast, Fixed, Multiple, meant, extent, size_of, length_cause, IsInRange}
 use Rattle.link_base.specs.Table.{Shape, One, Nested, Addresses}
 use Rattle.link_base.specs.Borrowed.{Borrows, Says, form_of}
 use Rattle.link_base.specs.IpAddress.{four_octets}

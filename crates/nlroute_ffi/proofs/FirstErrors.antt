@@ -1,5 +1,5 @@
 -- The first error of a list is an error that a struct has numbers for.
-use Rattle.std.proofs.Common.{◌≡◌, ◌⊎◌, inl, inr, ℕ, ◌+◌, ◌*◌, ◌%◌, ◌<◌, ◌==◌, Bool, true, false, cond, nat_lt, List, [], ◌∷◌, ◌++◌, length, take, Option, Some, None, Result, Ok, Err, refl, sym, ap, subst, ◌∙◌, arith}
+use Rattle.std.proofs.Common.{◌≡◌, inl, inr, ℕ, ◌%◌, ◌<◌, ◌==◌, Bool, true, false, cond, nat_lt, List, [], ◌∷◌, length, take, Option, Some, None, Result, Ok, Err, refl, sym, subst, arith}
 use Rattle.std.proofs.Math.Nat.{mod-lt}
 use Rattle.link_base.specs.declared.fault.Cause.{Cause}
 use Rattle.link_base.specs.declared.fault.Cause.TheVariants.{ShortFrame, SmallLength, Overrun, WrongLength, TooShort}
@@ -10,7 +10,7 @@ use Rattle.link_base.specs.Number.{IsBytes, number}
 use Rattle.link_base.specs.Frame.{frame_fault, kind_of, spelled}
 use Rattle.link_base.specs.Class.{Class, Value, Extent, Exactly, AtLeast, Fixed, Multiple, extent, length_cause, unless, meant, class_value}
 use Rattle.link_base.specs.Wire.{Reading, FaultsHere, FirstFault}
-use Rattle.link_base.specs.Table.{Rows, Shape, One, Nested, Addresses, Table, Leaf, class_at, leaf_case, leaf_by, LeafGives, nested_fault, list_case, PayloadGives, single_case, GivesBy, Gives}
+use Rattle.link_base.specs.Table.{Rows, Shape, One, Nested, Addresses, Table, class_at, leaf_case, leaf_by, LeafGives, nested_fault, PayloadGives, single_case, GivesBy, Gives}
 use Rattle.link_base.proofs.FrameBytes.{bytes-back, bytes-payload}
 use Rattle.netlink_packet_route.specs.declared.family.Family.{Family}
 use Rattle.netlink_packet_route.specs.Family.{table_of}

@@ -1,5 +1,5 @@
 -- The entries of a list have texts: their numbers are in range, and the list has their bytes.
-use Rattle.std.proofs.Common.{◌≡◌, ℕ, ◌+◌, ◌-◌, ◌%◌, ◌^◌, ◌<◌, ◌≤◌, ◌&&◌, Bool, true, false, cond, not, nat_lt, List, [], ◌∷◌, length, take, drop, reverse, Option, Some, None, refl, sym, ap, ap₂, subst, ◌∙◌, arith, Bor}
+use Rattle.std.proofs.Common.{◌≡◌, ℕ, ◌+◌, ◌-◌, ◌%◌, ◌<◌, ◌≤◌, ◌==◌, ◌&&◌, Bool, true, false, cond, not, nat_lt, List, [], ◌∷◌, length, take, drop, reverse, Option, Some, None, refl, sym, ap, ap₂, subst, ◌∙◌, arith}
 use Rattle.std.specs.List.{AllZip, AllByRecursion}
 use Rattle.std.proofs.lemmas.Bool.{lt-ltb, le-ltb, ltb-false}
 use Rattle.std.proofs.lemmas.List.{length-take}
@@ -20,23 +20,23 @@ use Rattle.link_base.specs.Class.{AtLeast}
 use Rattle.link_base.specs.Table.{Shape, Table, class_at, form_at, label_at, entry_at}
 use Rattle.link_base.specs.Borrowed.{Borrows, form_of, elements_at}
 use Rattle.link_base.specs.Protocol.{protocol_number}
-use Rattle.link_base.proofs.Entries.{class_of_row, form_of_row, label_of_row, form_of_none, label_of_none}
+use Rattle.link_base.proofs.Entries.{class_of_row, form_of_row, label_of_row, form_of_none}
 use Rattle.link_base.proofs.Values.{bytes-take, bytes-drop}
 use Rattle.link_messages.specs.Walk.{Item}
 use Rattle.netlink_packet_route.specs.declared.family.Family.{Family}
 use Rattle.netlink_packet_route.specs.Family.{table_of}
-use Rattle.link_show.specs.Value.{Label, name_in, form_in}
+use Rattle.link_show.specs.Value.{Label, form_in}
 use Rattle.link_flat.specs.declared.entry.Entry.{Entry}
 use Rattle.link_flat.specs.declared.detail.Detail.{Detail}
 use Rattle.link_flat.specs.declared.detail.Detail.TheVariants.{Plain, BridgeId, VlanInfo, Options, BitTiming, Clock, State, Modes, ErrorCounters}
-use Rattle.link_flat.specs.Forms.{form_unsigned, form_masked, form_bridge_id, form_vlan_info, form_berr_counter, form_bittiming, form_bytes}
+use Rattle.link_flat.specs.Forms.{form_ipv4, form_ipv6, form_unsigned, form_masked, form_bridge_id, form_vlan_info, form_berr_counter, form_bittiming, form_bytes}
 use Rattle.link_flat.specs.Entry.{blank, padded}
 use Rattle.link_flat.specs.Detail.{detail_of}
 use Rattle.link_flat.specs.Content.{whole, with_struct, number_form, filled}
-use Rattle.link_flat.specs.Flat.{HasContent, IsElement, IsGroup, Flat, head_entry}
+use Rattle.link_flat.specs.Flat.{number_entry, address_entry, HasContent, IsElement, IsGroup, Flat, head_entry}
 use Rattle.link_flat.proofs.EntryFields.{Keeps, keeps_filled}
 use Rattle.nlroute_ffi.specs.Names.{label_for}
-use Rattle.nlroute_ffi.specs.ValueText.{is_form, holds_unsigned, holds_named, holds_numbers, has_octets, label_or_plain}
+use Rattle.nlroute_ffi.specs.ValueText.{is_form, holds_unsigned, holds_named, holds_numbers, has_octets, label_or_plain, label_with}
 use Rattle.nlroute_ffi.specs.Shown.{IsAt, HasText, HeadIsTold}
 use Rattle.nlroute_ffi.proofs.StructTexts.{number_fits, two_small, struct_extent, is_struct_name}
 use Rattle.nlroute_ffi.proofs.EntryTexts.{Accepts, is_usual, is_extent, octets_extent, kept_size, one_class, octets_kept, raw_of, the_limits, and_true_left}
@@ -223,3 +223,20 @@ element_told family list k offset b e bytes form at (content, has, is) =
     (told family list new (label_at table (kind_of f)) (element_label family new k (kind_of f) keeps.depth keeps.kind keeps.inner form)
     (by_row table b Plain 0 e0 list refl at.0 payload_bytes
     (λ row h. row_checked (λ i name g shape. is_usual Plain name g shape) table (kind_of f) row (nested_usual family k (entry_at (table_of family) k) refl) h) (entry_at table (kind_of f)) refl content has))
+
+-- a number of an array
+unsigned_small : (g : Form) (x : ℕ) → x < 4294967296 → holds_unsigned g x ≡ true
+unsigned_small forms.Struct x low = lt-ltb x 4294967296 low
+unsigned_small g x low = refl
+
+pub number_told : (family : Family) (list : List ℕ) (k at width i x : ℕ) → x < 4294967296 → HasText family list (number_entry k at width i x)
+number_told family list k at width i x low =
+    let e = number_entry k at width i x in
+    record { form = refl; numbers = unsigned_small (form_in (label_with family e)) x low; octets = refl }
+
+-- an address of a list
+pub address_told : (family : Family) (list : List ℕ) (k i offset : ℕ) (p : List ℕ) → HasText family list (address_entry k i offset p)
+address_told family list k i offset p = by_test (length p == 4) where
+  by_test : (b : Bool) → HasText family list (record (blank k i 1 offset (length p)) { form = cond b form_ipv4 form_ipv6; octets = padded p })
+  by_test true = record { form = refl; numbers = refl; octets = refl }
+  by_test false = record { form = refl; numbers = refl; octets = refl }

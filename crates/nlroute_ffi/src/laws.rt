@@ -19,7 +19,7 @@ ghost use Rattle.link_show.specs.Value.{name_in as type_name};
 ghost use Rattle.netlink_packet_route.specs.declared.family.Family.{Family};
 ghost use Rattle.netlink_packet_route.specs.Family.{table_of};
 ghost use Rattle.link_flat.specs.declared.entry.Entry.{Entry};
-ghost use Rattle.link_flat.specs.Flat.{Flat, IsElement};
+ghost use Rattle.link_flat.specs.Flat.{Flat, IsElement, number_entry, address_entry};
 ghost use Rattle.netlink_packet_route.specs.declared.link.DecodeFault.{DecodeFault};
 ghost use Rattle.nlroute_ffi.specs.declared.fault.FirstError.{FirstError};
 ghost use Rattle.nlroute_ffi.specs.Numbers.{fault_numbers};
@@ -87,12 +87,16 @@ pub fn names_of_bits()
         (flags_text (bit_names_by (form_in label) label) width (2 ^ bit)) }
 {}
 
-/// States that the entry of each attribute of a list, and that of each element of a nested list, has a text: `nlroute_text`
-/// returns neither -7, -8 nor -10 for them.
+/// States that the entry of each attribute of a list, and that of each element of a nested list, an array or a list of
+/// addresses, has a text: `nlroute_text` returns neither -7, -8 nor -10 for them.
 pub fn entries_have_texts()
     ensures attributes { (family : Family) (list : List ℕ) (es : List Entry) → IsBytes list → (flat : Flat family list es)
         → AllZip (HeadIsTold family list) flat.items flat.groups }
     ensures elements { (family : Family) (list : List ℕ) (kind offset : ℕ) (b : NlaBuffer) (e : Entry) → IsBytes list
         → form_at (table_of family) kind ≡ Some forms.List → IsAt list offset b
         → IsElement (elements_at (table_of family) kind) kind offset b e → HasText family list e }
+    ensures numbers { (family : Family) (list : List ℕ) (kind at width i n : ℕ) → n < 2 ^ 32
+        → HasText family list (number_entry kind at width i n) }
+    ensures addresses { (family : Family) (list : List ℕ) (kind i offset : ℕ) (octets : List ℕ)
+        → HasText family list (address_entry kind i offset octets) }
 {}

@@ -1,4 +1,4 @@
-use Rattle.std.proofs.Common.{rules, ◌≡◌, ◌+◌, ◌-◌, ◌≤◌, ◌&&◌, true, nat_lt, length, ap₂, arith}
+use Rattle.std.proofs.Common.{rules, ◌≡◌, ◌+◌, ◌-◌, ◌≤◌, ◌&&◌, true, length, ap₂, arith}
 use Rattle.std.proofs.lemmas.Bool.{lt-ltb}
 use Rattle.nlroute_ffi.specs.ValueText.{is_form, holds_numbers, is_lent, has_size}
 use Rattle.nlroute_ffi.proofs.Texts.{octets_lent}
