@@ -160,10 +160,12 @@ def try_lines(refuser):
         "usage: nlshow [--format plain|debug] [--check] | --help | --version\n",
         2,
     )
+    usage = printed("usage: nlroute FAMILY | --help | --version\n", 2)
     for words, given, answer, others in (
-        (["nlroute"], b"", printed("usage: nlroute FAMILY\n", 2), 0),
-        (["nlroute", "tap"], b"", printed("usage: nlroute FAMILY\n", 2), 0),
-        (["nlroute", "tap", "dsa"], b"", printed("usage: nlroute FAMILY\n", 2), 0),
+        (["nlroute"], b"", usage, 0),
+        (["nlroute", "tap"], b"", usage, 0),
+        (["nlroute", "tap", "dsa"], b"", usage, 0),
+        (["nlroute", "--version"], b"", printed("nlroute 0.3.0\n", 0), 0),
         (["nlroute", "dsa"], folder, printed("read fault\n", 5), 0),
         (["nlshow", "dsa"], b"", unknown, 15),
         (["nlshow", "--version"], b"", printed("nlshow 0.3.0\n", 0), 8),

@@ -13,7 +13,7 @@ A run begins with a head, which a blank line ends:
     status: 1
 
 `arguments` are split into words as a shell splits them. Without that line there are none, and without `status` it is 0.
-Each line below the head is one of:
+With `stdout: full`, the standard output is /dev/full, where each write fails. Each line below the head is one of:
 
     > TEXT    a line of the input, which the program repeats in its output
     < TEXT    a line of the input
@@ -21,14 +21,15 @@ Each line below the head is one of:
               likewise a blank line
     | TEXT    a line of the output
     TEXT      likewise, if it has none of these marks
+    ! TEXT    a line on standard error, where a program prints nothing else
 
-So the output of `nlshow` is written as it is printed, with a mark at each line that it repeats. `>+ TEXT`, `<+ TEXT`
-and `|+ TEXT` are texts without LF, and `>* N TEXT`, `<* N TEXT` and `|* N TEXT` are N times the text, without LF. Texts
-are bytes: a tab, a CR, or a blank at the end of a line counts.
+So the output of `nlshow` is written as it is printed, with a mark at each line that it repeats. `>+ TEXT`, `<+ TEXT`,
+`|+ TEXT` and `!+ TEXT` are texts without LF, and `>* N TEXT` and so on are N times the text, without LF. Texts are
+bytes: a tab, a CR, or a blank at the end of a line counts.
 
-A program must print nothing on standard error. It is the one that `rt ci` has built in crates/PROGRAM/out, or that of
---binary. For a run that fails, the first lines that differ are printed: after `-` those that are expected, after `+`
-those of the program. The last line is 'N passed, M failed', counted in runs, and the status 0 only if all passed.
+The program is the one that `rt ci` has built in crates/PROGRAM/out, or that of --binary. For a run that fails, the first
+lines that differ are printed: after `-` those that are expected, after `+` those of the program. The last line is
+'N passed, M failed', counted in runs, and the status 0 only if all passed.
 
 --input prints the input of the runs instead, one below the other, and --output the output that is expected. So runs
 with the same arguments can be compared with a program that is not proved yet, here in crates/nlshow:
@@ -44,8 +45,8 @@ import subprocess
 import sys
 
 ROOT = os.path.dirname(os.path.dirname(os.path.realpath(__file__)))
-HEAD = re.compile(rb"(program|arguments|status): ?(.*)")
-MARKED = re.compile(rb"[<>|](?:(\+)|\* (\d+))?(?: (.*))?", re.DOTALL)
+HEAD = re.compile(rb"(program|arguments|status|stdout): ?(.*)")
+MARKED = re.compile(rb"[<>|!](?:(\+)|\* (\d+))?(?: (.*))?", re.DOTALL)
 # The most seconds that a program may take.
 SECONDS = 60
 # How many lines that differ are printed, and how many characters of a line.
@@ -56,14 +57,21 @@ class BadRun(Exception):
     """A file that is not a run: the number of the line, and what is wrong with it."""
 
 
+def is_full(value):
+    """Whether the standard output is full, by the line of the head."""
+    if value != "full":
+        raise ValueError("stdout can only be full")
+    return True
+
+
 class Run:
-    """A run: `program`, `arguments`, `status`, and the bytes of `stdin` and of `stdout`. `asked` has the lines of the
-    input that the program repeats, each with the number of the line of the file. `places` has that number for each line
-    of the output."""
+    """A run: `program`, `arguments`, `status`, and the bytes of `stdin`, `stdout` and `stderr`. `asked` has the lines of
+    the input that the program repeats, each with the number of the line of the file. `places` has that number for each
+    line of the output, and `said` for each line on standard error. `full` is true if the standard output is /dev/full."""
 
     def __init__(self, text):
-        self.program, self.arguments, self.status = None, [], 0
-        self.stdin, self.stdout, self.asked, self.places = b"", b"", [], []
+        self.program, self.arguments, self.status, self.full = None, [], 0, False
+        self.stdin, self.stdout, self.stderr, self.asked, self.places, self.said = b"", b"", b"", [], [], []
         *lines, rest = text.split(b"\n")
         if rest:
             raise BadRun(len(lines) + 1, "the last line has no LF")
@@ -79,10 +87,11 @@ class Run:
     def read_head(self, number, line):
         found = HEAD.fullmatch(line)
         if not found:
-            raise BadRun(number, "the head has a line that is none of program, arguments and status")
+            raise BadRun(number, "the head has a line that is none of program, arguments, status and stdout")
         key, value = (it.decode(errors="surrogateescape") for it in found.groups())
+        parts = {"program": str, "arguments": shlex.split, "status": int, "stdout": is_full}
         try:
-            setattr(self, key, {"program": str, "arguments": shlex.split, "status": int}[key](value))
+            setattr(self, "full" if key == "stdout" else key, parts[key](value))
         except ValueError as error:
             raise BadRun(number, str(error)) from None
 
@@ -90,19 +99,30 @@ class Run:
         mark = line[:1]
         if mark in (b"#", b""):
             self.stdin += line + b"\n"
-        elif mark not in (b"<", b">", b"|"):
+        elif mark not in (b"<", b">", b"|", b"!"):
             self.add_output(number, line + b"\n")
         else:
             text = marked(number, line)
-            self.stdin += text if mark != b"|" else b""
-            self.add_output(number, text if mark != b"<" else b"")
+            self.stdin += text if mark in (b"<", b">") else b""
+            self.add_output(number, text if mark in (b">", b"|") else b"")
             if mark == b">":
                 self.asked.append((number, text))
+            if mark == b"!":
+                if starts_line(self.stderr):
+                    self.said.append(number)
+                self.stderr += text
 
     def add_output(self, number, text):
-        if text and (not self.stdout or self.stdout.endswith(b"\n")):
+        if text and self.full:
+            raise BadRun(number, "there is output, but stdout is full")
+        if text and starts_line(self.stdout):
             self.places.append(number)
         self.stdout += text
+
+
+def starts_line(text):
+    """Whether what is appended to the text starts a line."""
+    return not text or text.endswith(b"\n")
 
 
 def marked(number, line):
@@ -114,14 +134,15 @@ def marked(number, line):
     return text * int(times) if times else text if part else text + b"\n"
 
 
-def difference(run, printed):
-    """The first lines of what a program has printed that differ from those of a run, or None."""
-    wanted, found = lines_of(run.stdout), lines_of(printed)
+def difference(wanted, places, asked, printed):
+    """The first lines of what a program has printed that differ from those wanted, or None. `places` has the number of
+    the run's line for each, and `asked` the lines of the input that it repeats."""
+    wanted, found = lines_of(wanted), lines_of(printed)
     at = next((at for at, (a, b) in enumerate(zip(wanted, found)) if a != b), min(len(wanted), len(found)))
     if at == len(wanted) == len(found):
         return None
-    number = run.places[at] if at < len(wanted) else None
-    asked = [text.rstrip(b"\n") + b"\n" for place, text in run.asked if number is None or place <= number]
+    number = places[at] if at < len(wanted) else None
+    asked = [text.rstrip(b"\n") + b"\n" for place, text in asked if number is None or place <= number]
     first = [it[at] if at < len(it) else b"" for it in (wanted, found)]
     same = len(os.path.commonprefix(first))
     said = [f"line {number}" if number else "at the end"]
@@ -147,14 +168,17 @@ def difference_of(run, binary):
     """What a program does otherwise than a run expects, or None."""
     try:
         words = [run.program, *run.arguments]
-        ran = subprocess.run(words, executable=binary, input=run.stdin, capture_output=True, timeout=SECONDS)
+        with open("/dev/full", "wb") as full:
+            told = {"stdout": full if run.full else subprocess.PIPE, "stderr": subprocess.PIPE}
+            ran = subprocess.run(words, executable=binary, input=run.stdin, **told, timeout=SECONDS)
     except OSError as error:
         return f"{binary} does not run: {error.strerror}"
     except subprocess.TimeoutExpired:
         return f"it takes more than {SECONDS} s"
-    wrong = [difference(run, ran.stdout)]
-    if ran.stderr:
-        wrong.append(f"on standard error: {shown(lines_of(ran.stderr)[0])}")
+    wrong = [difference(run.stdout, run.places, run.asked, ran.stdout or b"")]
+    said = difference(run.stderr, run.said, [], ran.stderr)
+    if said:
+        wrong.append(f"on standard error, {said}")
     if ran.returncode != run.status:
         wrong.append(f"status {ran.returncode}, expected {run.status}")
     return "\n  ".join(filter(None, wrong)) or None

@@ -32,7 +32,16 @@ for it in sys.argv[1:]:
     print(it)
 print(sys.stdin.read(), end="")
 """
-LOUD = f"#!{sys.executable}\nimport sys\nprint('noise', file=sys.stderr)\n"
+# One that prints its arguments on standard error, or `noise` if there are none.
+LOUD = f"#!{sys.executable}\nimport sys\nprint(*sys.argv[1:] or ['noise'], sep='\\n', file=sys.stderr)\n"
+# One that reports on standard error that it cannot print.
+MUTE = f"""#!{sys.executable}
+import os
+try:
+    os.write(1, b"text")
+except OSError as error:
+    os.write(2, (error.strerror + "\\n").encode())
+"""
 HEAD = b"program: lengths\narguments: one two\nstatus: 2\n\n"
 RUN = HEAD + b"# A comment\n> four\n  4 bytes\n\n> seven b\n  7 bytes\n"
 
@@ -60,9 +69,19 @@ class Reading(unittest.TestCase):
             (b">+ a\n>* 3 bc\n<+ d\n", b"abcbcbcd", b"abcbcbc"),
             (b"<+ \t\n<* 2 \xff\r\n<\n", b"\t\xff\r\xff\r\n", b""),
             (b"|* 2 a \n|+ b\n| c\n", b"", b"a a bc\n"),
+            (b"! error\na\n!+ b\n", b"", b"a\n"),
         ):
             run = runs.Run(HEAD + text)
             self.assertEqual((stdin, stdout), (run.stdin, run.stdout), text)
+
+    def test_what_is_on_standard_error_has_a_mark(self):
+        for text, stderr, said in (
+            (b"a\n> b\n", b"", []),
+            (b"! error\na\n! usage\n", b"error\nusage\n", [5, 7]),
+            (b"!* 2 a\n!+ b\n!\n! c\n", b"aab\nc\n", [5, 8]),
+        ):
+            run = runs.Run(HEAD + text)
+            self.assertEqual((stderr, said), (run.stderr, run.said), text)
 
     def test_what_is_no_run_is_found_at_its_line(self):
         for text, line, wanted in (
@@ -72,10 +91,13 @@ class Reading(unittest.TestCase):
             (HEAD + b"> a\n  b", 6, "the last line has no LF"),
             (b"program: lengths\nstatus: one\n", 2, "invalid literal for int() with base 10: 'one'"),
             (b"program: lengths\narguments: 'one\n", 2, "No closing quotation"),
-            (b"program: lengths\n> a\n", 2, "the head has a line that is none of program, arguments and status"),
+            (b"program: lengths\n> a\n", 2, "the head has a line that is none of program, arguments, status and stdout"),
             (HEAD + b"> a\n>b\n", 6, "no blank follows the mark"),
             (HEAD + b">*3 a\n", 5, "no blank follows the mark"),
             (HEAD + b"<* a\n", 5, "no blank follows the mark"),
+            (HEAD + b"!a\n", 5, "no blank follows the mark"),
+            (b"program: lengths\nstdout: empty\n", 2, "stdout can only be full"),
+            (b"program: lengths\nstdout: full\n\n< a\n| a\n", 5, "there is output, but stdout is full"),
         ):
             with self.assertRaises(runs.BadRun) as raised:
                 runs.Run(text)
@@ -86,7 +108,7 @@ class Trying(unittest.TestCase):
     def said(self, files, *named, binary=None):
         """What is printed for runs, except the last line, which has to agree with it, and what that line is."""
         with tempfile.TemporaryDirectory(prefix="runs-test-") as root:
-            built = {"lengths": LENGTHS, "copy": COPY, "loud": LOUD}
+            built = {"lengths": LENGTHS, "copy": COPY, "loud": LOUD, "mute": MUTE}
             built = {f"crates/{it}/out/{it}": text for it, text in built.items()}
             for path, text in {**built, **files}.items():
                 os.makedirs(os.path.dirname(f"{root}/{path}"), exist_ok=True)
@@ -144,17 +166,28 @@ class Trying(unittest.TestCase):
     def test_the_status_counts(self):
         self.finds(RUN.replace(b"status: 2", b"status: 3"), "FAILED one: status 2, expected 3")
 
-    def test_standard_error_is_empty(self):
-        self.finds(b"program: loud\n", "FAILED one: on standard error: noise")
+    def test_standard_error_counts(self):
+        files = {"runs/one": b"program: loud\n\n! noise\n", "runs/two": b"program: loud\narguments: a b\n\n! a\n! b\n"}
+        self.assertEqual(([], "2 passed, 0 failed"), self.said(files))
+        self.finds(b"program: loud\n", "FAILED one: on standard error, at the end", "  - (no line)", "  + noise")
+        wanted = ("FAILED one: on standard error, line 4", "  - noise", "  + (no line)")
+        self.finds(b"program: loud\n\n! noise\n! noise\n", *wanted)
+
+    def test_standard_output_can_be_full(self):
+        files = {"runs/one": b"program: mute\nstdout: full\n\n! No space left on device\n"}
+        self.assertEqual(([], "1 passed, 0 failed"), self.said(files))
+        wanted = ("FAILED one: on standard error, at the end", "  - (no line)", "  + No space left on device")
+        self.finds(b"program: mute\nstdout: full\n", *wanted)
 
     def test_all_that_differs_is_printed(self):
         text = b"program: loud\nstatus: -9\n\nmore\n"
-        found = ["FAILED one: line 4", "  - more", "  + (no line)", "  on standard error: noise", "  status 0, expected -9"]
+        found = ["FAILED one: line 4", "  - more", "  + (no line)", "  on standard error, at the end", "  - (no line)", "  + noise"]
+        found += ["  status 0, expected -9"]
         self.finds(text, *found)
 
     def test_a_program_is_built(self):
         self.finds(b"program: lent\n", "FAILED one: rt ci has not built /crates/lent/out/lent")
-        wanted = "FAILED one: line 2: the head has a line that is none of program, arguments and status"
+        wanted = "FAILED one: line 2: the head has a line that is none of program, arguments, status and stdout"
         self.finds(b"program: lengths\n> a\n", wanted)
 
     def test_a_binary_can_be_elsewhere(self):

@@ -1,13 +1,13 @@
 -- The items of an iterator over frames that is run to its end.
-use Rattle.std.proofs.Common.{◌≡◌, ◌≢◌, ◌⊎◌, ℕ, ◌+◌, ◌/◌, ◌<◌, ◌≤◌, min, List, [], ◌∷◌, ◌++◌, length, map, Option, Some, None, Result, Ok, Err, refl, sym, ap, subst, ◌∙◌, arith, inl, inr, append_assoc}
+use Rattle.std.proofs.Common.{◌≡◌, ◌≢◌, ◌⊎◌, ℕ, suc, ◌+◌, ◌<◌, ◌≤◌, List, [], ◌∷◌, ◌++◌, length, map, Option, Some, None, Result, Ok, Err, refl, sym, ap, subst, ◌∙◌, arith, inl, inr, append_assoc}
 use Rattle.std.specs.Iterator.{Yields, Drains}
 use Rattle.std.proofs.lemmas.List.{length-append, length-drop}
 use Rattle.link_base.specs.declared.buffer.NlaBuffer.{NlaBuffer}
 use Rattle.link_base.specs.declared.iterator.NlasIterator.{NlasIterator}
 use Rattle.link_base.specs.declared.fault.DecodeError.{DecodeError}
 use Rattle.link_base.specs.Frame.{Frame, BeginsWith, IsFrame, IsComplete, AreFrames, frame_bytes, spelled}
-use Rattle.link_base.specs.Buffer.{kind_field_of, payload_of, frame_of}
-use Rattle.link_base.specs.IteratorItems.{NextFrame, AreItems, seen, bytes_left}
+use Rattle.link_base.specs.Buffer.{kind_field_of, payload_of, frame_of, SplitsFirst}
+use Rattle.link_base.specs.IteratorItems.{NextFrame, AreItems, least_items, most_items, IsCount, seen, bytes_left}
 use Rattle.link_base.proofs.FrameAtFront.{Splits, splits, step_of}
 
 -- an item of the iterator
@@ -93,23 +93,25 @@ run_items a b c (Err e ∷ items) h end =
       ap (λ t. map seen (Err e ∷ t)) none ∙ ap (λ t. Err t ∷ []) here.1.2,
     )
 
-run_short : (a b : NlasIterator) (items : List Item) → Yields Step a items b → length items ≤ (length (bytes_left a) + 3) / 4
-run_short a b [] h = omega arith
-run_short a b (Ok buffer ∷ items) h =
-    let long = long_enough (bytes_left a) (frame_of buffer) h.1.0 in
-    let rest = run_short h.0 b items h.2 in
-    omega (arith, ap length h.1.1, length-drop (step_of (bytes_left a) (payload_of buffer)) (bytes_left a))
-run_short a b (Err e ∷ items) h =
-    let some = some_bytes (bytes_left a) h.1.0 in
-    let none = no_more h.0 b items h.1.2 h.2 in
-    omega (arith, ap length none)
+-- an attribute at the front takes four bytes, or all that is left
+pub one_more : (s : List ℕ) (b : NlaBuffer) (t : List ℕ) (n : ℕ) → SplitsFirst s b t → n ≤ most_items t → suc n ≤ most_items s
+one_more s b t n h less = omega (arith, less, long_enough s (frame_of b) h.0, ap length h.1, length-drop (step_of s (payload_of b)) s)
 
-run_some : (a b c : NlasIterator) (items : List Item) → Yields Step a items b → Step b None c → min (length (bytes_left a)) 1 ≤ length items
+-- after an error at the front, nothing is left
+pub one_last : (s t : List ℕ) (n : ℕ) → s ≢ [] → t ≡ [] → n ≤ most_items t → suc n ≤ most_items s
+one_last s t n some none less = omega (arith, less, some_bytes s some, ap length none)
+
+run_short : (a b : NlasIterator) (items : List Item) → Yields Step a items b → length items ≤ most_items (bytes_left a)
+run_short a b [] h = omega arith
+run_short a b (Ok buffer ∷ items) h = one_more (bytes_left a) buffer (bytes_left h.0) (length items) h.1 (run_short h.0 b items h.2)
+run_short a b (Err e ∷ items) h = one_last (bytes_left a) (bytes_left h.0) (length items) h.1.0 h.1.2 (run_short h.0 b items h.2)
+
+run_some : (a b c : NlasIterator) (items : List Item) → Yields Step a items b → Step b None c → least_items (bytes_left a) ≤ length items
 run_some a b c [] h end = omega (arith, ap (λ it. length (bytes_left it)) h, ap length end.0)
 run_some a b c (r ∷ items) h end = omega arith
 
 -- an iterator that is run to its end returns the frames before the first malformed header, then its error; there are no
 -- more items than there can be frames, and at least one if bytes are left
 pub whole_run : (it : NlasIterator) (items : List Item) → Drains Step it items
-    → AreItems (bytes_left it) items × (length items ≤ (length (bytes_left it) + 3) / 4) × (min (length (bytes_left it)) 1 ≤ length items)
-whole_run it items (u, (t, run, end)) = (run_items it t u items run end, run_short it t items run, run_some it t u items run end)
+    → AreItems (bytes_left it) items × IsCount (bytes_left it) (length items)
+whole_run it items (u, (t, run, end)) = (run_items it t u items run end, (run_some it t u items run end, run_short it t items run))

@@ -28,6 +28,7 @@ pub mod JoinedLemmas
 pub mod EditionLemmas
 pub mod LimitLemmas
 pub mod PlainLemmas
+pub mod EqualityLemmas
 pub mod ItemLemmas
 pub mod Naming
 pub mod NamedPayloads

@@ -1,5 +1,5 @@
 -- Views that are walked to their end.
-use Rattle.std.proofs.Common.{◌≡◌, ◌≢◌, ◌⊎◌, ℕ, ◌+◌, ◌-◌, ◌<◌, ◌≤◌, List, [], ◌∷◌, ◌++◌, length, map, Option, None, Some, Result, Ok, Err, refl, sym, ap, ap₂, subst, ◌∙◌, arith, inl, inr, append_assoc}
+use Rattle.std.proofs.Common.{◌≡◌, ◌≢◌, ◌⊎◌, ℕ, suc, ◌+◌, ◌-◌, ◌<◌, ◌≤◌, List, [], ◌∷◌, ◌++◌, length, map, Option, None, Some, Result, Ok, Err, refl, sym, ap, ap₂, subst, ◌∙◌, arith, inl, inr, append_assoc}
 use Rattle.std.proofs.lemmas.List.{length-append}
 use Rattle.std.specs.Iterator.{Yields, Drains}
 use Rattle.std.specs.List.{AllZip, AllByRecursion}
@@ -16,12 +16,14 @@ use Rattle.link_base.specs.Number.{IsBytes}
 use Rattle.link_base.specs.Table.{Table, AttrValue, Gives, Decodes, Allows, FirstNotCanonical}
 use Rattle.link_base.specs.Buffer.{kind_field_of, payload_of, frame_of}
 use Rattle.link_base.specs.Borrowed.{HasValue, HasValues}
+use Rattle.link_base.specs.IteratorItems.{least_items, most_items, IsCount}
 use Rattle.link_base.specs.Viewed.{bytes_in, buffer_in, set_in, set_of, NextValue, attribute_of, parts_of, IsWalk, StartsAt, whole_of, left_of, all_set_of, FaultsFirst, NextOfAll, found, first_error, IsAllOf, AreShown, IsWalkOfAll}
 use Rattle.link_base.proofs.FrameBytes.{frame_fault-frame}
 use Rattle.link_base.proofs.Cuts.{AreFrames-head, SameFront-frames, IsFrame-complete, same_gap, same_parts as same_halves}
 use Rattle.link_base.proofs.Readings.{NextFrames-more, reads_some, not_both, no_fault_here, one_here}
 use Rattle.link_base.proofs.TableLaws.{lawful}
 use Rattle.link_base.proofs.Walking.{some_bytes}
+use Rattle.link_base.proofs.ItemLemmas.{one_more, one_last}
 use Rattle.link_base.proofs.Views.{first_frame, first_value, frames_none, split_of, values_rest}
 
 -- nothing has no values
@@ -67,10 +69,19 @@ module _ {S : Type 0} {g : sets.Ghosts S} (table : Table) where
   run_sets a b [] h set e = tt
   run_sets a b (x ∷ items) h set e = (h.1.1 ∙ e, run_sets h.0 b items h.2 set (h.1.2 ∙ e))
 
+  run_short : (a b : View S g) (items : List (Value S g)) → Yields NextValue a items b → length items ≤ most_items (bytes_in a)
+  run_short a b [] h = omega arith
+  run_short a b (x ∷ items) h = one_more (bytes_in a) (buffer_in x) (bytes_in h.0) (length items) h.1.0 (run_short h.0 b items h.2)
+
+  run_some : (a b c : View S g) (items : List (Value S g)) → Yields NextValue a items b → NextValue b None c → least_items (bytes_in a) ≤ length items
+  run_some a b c [] h end = omega (arith, ap length (ap bytes_in h ∙ end.0))
+  run_some a b c (x ∷ items) h end = omega arith
+
   -- the items of a whole walk are the attributes of the list
   pub whole_walk : (v : View S g) (items : List (Value S g)) → Drains NextValue v items → IsWalk table (set_of v) (bytes_in v) items
   whole_walk v items (u, (t, run, end)) = record {
     sets = run_sets v t items run (set_of v) refl;
+    count = (run_some v t u items run end, run_short v t items run);
     attributes = run_attributes v t u items run end;
     values = run_values v t u items run end;
   }
@@ -157,10 +168,24 @@ next_offset a b x others xs is w v same within =
       omega (arith, within, ap length same, long, rest, length-append (frame_bytes x) (spelled others)),
     )
 
+-- an error at the front takes four bytes, or all that is left
+after_error : (s t : List ℕ) (fault : DecodeFault) (rows : Table) (n : ℕ) → s ≢ [] → FaultsFirst rows s fault t → n ≤ most_items t → suc n ≤ most_items s
+after_error s t fault rows n some (inl bad) less = one_more s bad.0 t n bad.1 less
+after_error s t fault rows n some (inr bad) less = one_last s t n some bad.3 less
+
 module _ {S : Type 0} {g : sets.Ghosts S} (table : Table) where
   -- one call of the iterator
   abbrev Step : ViewAll S → Option (Result (Value S g) ListFault) → ViewAll S → Type 0
   Step a r b = NextOfAll (g.rows (all_set_of a)) a r b
+
+  short_all : (a b : ViewAll S) (items : List (Result (Value S g) ListFault)) → Yields Step a items b → length items ≤ most_items (left_of a)
+  short_all a b [] h = omega arith
+  short_all a b (Ok x ∷ items) h = one_more (left_of a) (buffer_in x) (left_of h.0) (length items) h.1.0 (short_all h.0 b items h.2)
+  short_all a b (Err e ∷ items) h = after_error (left_of a) (left_of h.0) e.fault (g.rows (all_set_of a)) (length items) h.1.0 h.1.2 (short_all h.0 b items h.2)
+
+  some_of_all : (a b : ViewAll S) (items : List (Result (Value S g) ListFault)) → Yields Step a items b → left_of b ≡ [] → least_items (left_of a) ≤ length items
+  some_of_all a b [] h end = omega (arith, ap length (ap left_of h ∙ end))
+  some_of_all a b (r ∷ items) h end = omega arith
 
   -- a list that decodes: its attributes, in order
   run_decoded : (a b : ViewAll S) (items : List (Result (Value S g) ListFault)) → Yields Step a items b → left_of b ≡ [] → g.rows (all_set_of a) ≡ table → HasValues table (left_of a)
@@ -268,6 +293,7 @@ whole_walk_of_all {g = g} v s items all (u, (t, run, end)) =
     let table = g.rows (all_set_of v) in
     let within : length (left_of v) ≤ length (whole_of v) = omega (arith, ap length all.0, ap length all.1) in
     record {
+      count = subst (λ p. IsCount p (length items)) all.1 (some_of_all table v t items run end.0, short_all table v t items run);
       each = λ xs w.
           let start : length (whole_of v) - length (left_of v) ≡ 0 = omega (arith, ap length all.0, ap length all.1) in
           subst (λ n. AreShown {g = g} table (all_set_of v) n xs items) start

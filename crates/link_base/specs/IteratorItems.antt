@@ -1,5 +1,5 @@
 -- The items of an iterator over attributes.
-use Rattle.std.specs.Prelude.{◌≡◌, ◌≢◌, ◌⊎◌, ℕ, ◌<◌, List, [], ◌∷◌, ◌++◌, length, map, Option, Some, None, Result, Ok, Err}
+use Rattle.std.specs.Prelude.{◌≡◌, ◌≢◌, ◌⊎◌, ℕ, ◌+◌, ◌/◌, ◌<◌, ◌≤◌, min, List, [], ◌∷◌, ◌++◌, length, map, Option, Some, None, Result, Ok, Err}
 use Rattle.std.specs.List.{AllByRecursion}
 use Rattle.link_base.specs.declared.buffer.NlaBuffer.{NlaBuffer}
 use Rattle.link_base.specs.declared.iterator.NlasIterator.{NlasIterator}
@@ -19,6 +19,22 @@ abbrev pub NextFrame : List ℕ → Option (Result NlaBuffer DecodeError) → Li
 NextFrame s None t = (s ≡ []) × (t ≡ [])
 NextFrame s (Some (Ok b)) t = SplitsFirst s b t
 NextFrame s (Some (Err e)) t = (s ≢ []) × IsFrameFault s e × (t ≡ [])
+
+-- bounds on the number of attributes in s, where an error counts as one: at least one if there are bytes, and at most one
+-- for each four bytes, rounded up
+abbrev pub least_items : List ℕ → ℕ
+least_items s = min (length s) 1
+
+abbrev pub most_items : List ℕ → ℕ
+most_items s = (length s + 3) / 4
+
+-- these are the bounds
+abbrev pub IsHint : List ℕ → ℕ × Option ℕ → Type 0
+IsHint s bounds = (bounds.0 ≡ least_items s) × (bounds.1 ≡ Some (most_items s))
+
+-- a number of attributes within the bounds
+abbrev pub IsCount : List ℕ → ℕ → Type 0
+IsCount s n = (least_items s ≤ n) × (n ≤ most_items s)
 
 -- the `nla_type` and the payload of an item, or its error
 abbrev pub seen : Result NlaBuffer DecodeError → Result (ℕ × List ℕ) DecodeError

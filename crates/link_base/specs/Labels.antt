@@ -5,9 +5,13 @@ use Rattle.link_base.specs.declared.label.Form.{Form}
 use Rattle.link_base.specs.declared.label.Name.{Name}
 use Rattle.link_base.specs.declared.label.KindLabel.{KindLabel}
 
+-- a name, with its number
+abbrev pub named : Name → ℕ × List ℕ
+named x = (x.number, x.text.now)
+
 -- names, each with its number
 abbrev pub names_in : List Name → List (ℕ × List ℕ)
-names_in names = map (λ x. (x.number, x.text.now)) names
+names_in names = map named names
 
 -- the name of a number, or of a bit
 abbrev pub name_in : List (ℕ × List ℕ) → ℕ → Option (List ℕ)

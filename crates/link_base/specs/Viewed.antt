@@ -20,6 +20,7 @@ use Rattle.link_base.specs.Table.{Table, AttrValue, Shape, Nested, Gives, Decode
 use Rattle.link_base.specs.Frame.{Frame, Frames, frame_bytes, spelled, kind_of, frame_fault}
 use Rattle.link_base.specs.Buffer.{kind_field_of, payload_of, SplitsFirst}
 use Rattle.link_base.specs.Borrowed.{HasValues}
+use Rattle.link_base.specs.IteratorItems.{IsCount}
 
 -- the attribute type of the nested lists
 abbrev pub list_of : {F : Type 0} → ElementSet F → ℕ
@@ -40,6 +41,10 @@ payload_in x = payload_of (buffer_in x)
 -- the set that the attribute belongs to
 abbrev pub set_in : {S : Type 0} {g : sets.Ghosts S} → Item S g → S
 set_in x = x.set
+
+-- the same attribute of the same set
+abbrev pub IsSameValue : {S : Type 0} {g : sets.Ghosts S} → Item S g → Item S g → Type 0
+IsSameValue x y = (buffer_in y ≡ buffer_in x) × (set_in y ≡ set_in x)
 
 -- the attribute decodes, and this is it as a value of this set; or this is its error
 abbrev pub IsValue : {S : Type 0} {g : sets.Ghosts S} → Table → NlaBuffer → S → Result (Item S g) DecodeFault → Type 0
@@ -96,10 +101,12 @@ attribute_of x = (kind_field_of (buffer_in x), payload_of (buffer_in x))
 abbrev pub parts_of : Frame → ℕ × List ℕ
 parts_of x = (x.kind_field, x.payload)
 
--- these are the attributes of the list s, in order, as attributes of this set; each decodes to the value in its place
+-- these are the attributes of the list s, in order, as attributes of this set; each decodes to the value in its place, and
+-- their number is within the bounds that `size_hint` returns
 pub record IsWalk {S : Type 0} {g : sets.Ghosts S} (table : Table) (set : S) (s : List ℕ) (items : List (Item S g)) : Type 0 where
   pub sets : AllByRecursion (λ x. set_in x ≡ set) items
   pub attributes : (xs : List Frame) → Frames s xs → map attribute_of items ≡ map parts_of xs
+  pub count : IsCount s (length items)
   pub values : (vs : List AttrValue) → Wire (Gives table) s vs → AllZip (λ x v. Gives table (kind_field_of (buffer_in x)) (payload_of (buffer_in x)) (Ok v)) items vs
 
 -- one of these frames starts at this offset
@@ -159,9 +166,10 @@ AreShown table set at (x ∷ xs) (Ok v ∷ items) = (attribute_of v ≡ parts_of
 AreShown table set at (x ∷ xs) (Err e ∷ items) =
     (e.at ≡ at) × Gives table x.kind_field x.payload (Err e.fault) × AreShown table set (at + length (frame_bytes x)) xs items
 
--- the items for the list s: if its headers are well-formed, each attribute or its error; if the list decodes, no error;
--- if it does not, its first error is the first one among them
+-- the items for the list s, within the bounds that `size_hint` returns: if its headers are well-formed, each attribute or
+-- its error; if the list decodes, no error; if it does not, its first error is the first one among them
 pub record IsWalkOfAll {S : Type 0} {g : sets.Ghosts S} (table : Table) (set : S) (s : List ℕ) (items : List (Result (Item S g) ListFault)) : Type 0 where
+  pub count : IsCount s (length items)
   pub each : (xs : List Frame) → Frames s xs → AreShown table set 0 xs items
   pub decoded : HasValues table s → (xs : List Frame) → Frames s xs → map found items ≡ map (λ x. Ok (parts_of x)) xs
   pub first : (at : ℕ) (fault : DecodeFault) → FirstFault (Gives table) s at fault → first_error items ≡ Some (at, fault)

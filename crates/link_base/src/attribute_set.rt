@@ -1,6 +1,6 @@
 //! Sets of attributes, as views read them.
 
-ghost use Rattle.std.specs.Prelude.{◌≡◌};
+ghost use Rattle.std.specs.Prelude.{◌≡◌, ⊤};
 ghost use Rattle.link_base.specs.Frame.{kind_of};
 ghost use Rattle.link_base.specs.Table.{Table, Gives, class_at, form_at, label_at};
 ghost use Rattle.link_base.specs.Labels.{label_in};
@@ -56,14 +56,22 @@ pub struct ElementSet<F> {
 }
 
 impl<F> Clone for Set<F> {
+    ghost is_clone = { λ set copy. copy ≡ set };
+
+    ghost is_infallible = { λ _. ⊤ };
+
     fn clone(&self) -> Result<Self, AllocError> {
-        Ok(*self)
+        Ok(Set { of: self.of })
     }
 }
 
 impl<F> Copy for Set<F> {}
 
 impl<F> Clone for ElementSet<F> {
+    ghost is_clone = { λ set copy. copy ≡ set };
+
+    ghost is_infallible = { λ _. ⊤ };
+
     fn clone(&self) -> Result<Self, AllocError> {
         Ok(*self)
     }

@@ -14,7 +14,7 @@ use bitflags::Flags;
 use std::hash::Hash;
 
 /// A set of flags that consists of its bits and nothing else.
-pub trait FlagSet: Flags + PartialEq {
+pub trait FlagSet: Flags + PartialEq + Clone {
     /// The bits that have names, each with the kernel's name.
     ghost bit_names: { List (ℕ × List ℕ) };
 
@@ -31,6 +31,12 @@ pub trait FlagSet: Flags + PartialEq {
 
     /// Equal sets are identical.
     ghost thorough: { IsThorough Self.PartialEq.eq (λ (a : Self). a) };
+
+    /// A clone is the same set.
+    ghost copies: { (a b : Self) → Self.Clone.is_clone a b → b ≡ a };
+
+    /// Cloning does not fail.
+    ghost is_copied: { (a : Self) → Self.Clone.is_infallible a };
 }
 
 /// A set of flags in which every bit is known, whether it has a name or not. The trait has no methods, only laws.
@@ -39,11 +45,14 @@ pub trait KnownBits: FlagSet {
     ghost every_bit: { known_bits Self.table ≡ 2 ^ Self.Bits.size - 1 };
 }
 
-/// The contracts of `Flags` apply. Two sets are equal if and only if their bits are equal, and then they are identical.
+/// The contracts of `Flags` apply. Two sets are equal if and only if their bits are equal, and then they are identical. A
+/// clone is the same set, and cloning does not fail.
 pub fn equality<F: FlagSet>()
     ensures contracts { F.exact }
     ensures equal { (a b : F) → F.PartialEq.eq a b ≡ (F.set_of a == F.set_of b) }
     ensures same { (a b : F) → IsTrue (F.PartialEq.eq a b) → a ≡ b }
+    ensures copy { (a b : F) → F.Clone.is_clone a b → b ≡ a }
+    ensures copied { (a : F) → F.Clone.is_infallible a }
 {}
 
 /// Equal sets have equal hashes.

@@ -1,9 +1,9 @@
 //! Iteration over the attributes of a list.
 
-ghost use Rattle.std.specs.Prelude.{◌≡◌, length, min, ◌+◌, ◌/◌, IfSome, Some};
+ghost use Rattle.std.specs.Prelude.{◌≡◌, length, ◌+◌, ◌/◌, IfSome};
 ghost use Rattle.std.specs.Iterator.{at_most, UpTo};
 ghost use Rattle.std.specs.Iterator.SizeHint.{IsWithinCount};
-ghost use Rattle.link_base.specs.IteratorItems.{bytes_left, NextFrame};
+ghost use Rattle.link_base.specs.IteratorItems.{bytes_left, NextFrame, IsHint};
 
 use crate::buffer::NlaBuffer;
 use crate::fault::{DecodeError, DecodeFault};
@@ -47,17 +47,24 @@ impl<'a> Iterator for NlasIterator<'a> {
         }
     }
 
-    /// Returns 1, or 0 if no bytes are left, as the lower bound, and the number of bytes left, divided by four and
-    /// rounded up, as the upper bound.
+    /// Returns the bounds of [`count_bounds`] on the number of items that are left.
     fn size_hint(&self) -> (usize, Option<usize>)
         ensures lower { IsWithinCount result.0 (at_most ((length (bytes_left self.now) + 3) / 4)) }
         ensures upper { IfSome result.1 (UpTo (at_most ((length (bytes_left self.now) + 3) / 4))) }
-        ensures least { result.0 ≡ min (length (bytes_left self.now)) 1 }
-        ensures most { result.1 ≡ Some ((length (bytes_left self.now) + 3) / 4) }
+        ensures bounds { IsHint (bytes_left self.now) result }
     {
-        let left = self.rest.len();
-        let least = left.min(1);
-        let most = (left + 3) / 4;
-        (least, Some(most))
+        count_bounds(self.rest)
     }
+}
+
+/// Returns bounds on the number of attributes in these bytes, where an error counts as one: 1, or 0 if there are no bytes,
+/// and the number of bytes, divided by four and rounded up.
+#[inline]
+pub(crate) fn count_bounds(bytes: &[u8]) -> (usize, Option<usize>)
+    ensures { IsHint bytes.now result }
+{
+    let left = bytes.len();
+    let least = left.min(1);
+    let most = (left + 3) / 4;
+    (least, Some(most))
 }

@@ -1,8 +1,8 @@
 //! Theorems about lists, for every attribute set and every table. The functions have empty bodies; each states its
 //! theorem as its contract.
 
-ghost use Rattle.std.specs.Prelude.{◌≡◌, ◌↔◌, ℕ, ◌+◌, ◌/◌, ◌%◌, ◌<◌, ◌≤◌, true, List, ◌++◌, length, map};
-ghost use Rattle.std.specs.Prelude.{None, Result, Ok, IsTrue, min};
+ghost use Rattle.std.specs.Prelude.{◌≡◌, ◌↔◌, ℕ, ◌+◌, ◌%◌, ◌<◌, ◌≤◌, true, List, ◌++◌, length, map};
+ghost use Rattle.std.specs.Prelude.{None, Result, Ok, IsTrue};
 ghost use Rattle.std.specs.List.{AllByRecursion};
 ghost use Rattle.link_base.specs.declared.fault.Cause.{Cause};
 ghost use Rattle.link_base.specs.declared.fault.DecodeFault.{DecodeFault};
@@ -16,8 +16,13 @@ ghost use Rattle.link_base.specs.declared.fault.ListFault.{ListFault};
 ghost use Rattle.link_base.specs.declared.fault.WriteError.{WriteError};
 ghost use Rattle.link_base.specs.declared.fault.TooLong.{TooLong};
 ghost use Rattle.link_base.specs.declared.fault.RewriteError.{RewriteError};
+ghost use Rattle.link_base.specs.declared.label.Quantity.{Quantity};
+ghost use Rattle.link_base.specs.declared.label.Form.{Form};
+ghost use Rattle.link_base.specs.declared.label.Name.{Name};
+ghost use Rattle.link_base.specs.declared.label.KindLabel.{KindLabel};
+ghost use Rattle.link_base.specs.Labels.{named, label_of};
 ghost use Rattle.link_base.specs.Buffer.{kind_field_of, payload_of};
-ghost use Rattle.link_base.specs.IteratorItems.{AreItems, bytes_left};
+ghost use Rattle.link_base.specs.IteratorItems.{AreItems, IsCount, bytes_left};
 ghost use Rattle.link_base.specs.Number.{IsBytes};
 ghost use Rattle.link_base.specs.Frame.{Frame, Frames, kind_of, max_payload, pad};
 ghost use Rattle.link_base.specs.Wire.{Wire, FirstFault, Reads};
@@ -36,6 +41,7 @@ use crate::fault::{
 };
 use crate::frame_table::FrameTable;
 use crate::iterator::NlasIterator;
+use crate::label::{Form, KindLabel, Name, Quantity};
 
 // ---- tables
 
@@ -76,13 +82,11 @@ pub fn editions()
 {}
 
 /// An iterator that is run to its end returns the attributes in its bytes, or those before the first malformed header
-/// and then that error: at most one item for each four bytes, rounded up, and at least one if bytes are left.
-/// `size_hint` returns these bounds.
+/// and then that error. Their number is within the bounds that `size_hint` returns.
 pub fn items()
     ensures { (it : NlasIterator) (items : List (Result NlaBuffer DecodeError))
         → Drains (⟦<NlasIterator<'static> as Iterator>⟧.next_gives) it items
-        → AreItems (bytes_left it) items × (length items ≤ (length (bytes_left it) + 3) / 4)
-        × (min (length (bytes_left it)) 1 ≤ length items) }
+        → AreItems (bytes_left it) items × IsCount (bytes_left it) (length items) }
 {}
 
 // ---- equality
@@ -111,6 +115,16 @@ pub fn error_equality()
     ensures write { (a b : WriteError) → IsTrue (⟦<WriteError as PartialEq>⟧.eq a b) ↔ (a ≡ b) }
     ensures rewrite { (a b : RewriteError) → IsTrue (⟦<RewriteError as PartialEq>⟧.eq a b) ↔ (a ≡ b) }
     ensures too_long { (a b : TooLong) → IsTrue (⟦<TooLong as PartialEq>⟧.eq a b) ↔ (a ≡ b) }
+{}
+
+/// Two values of `Quantity`, or of `Form`, are equal if and only if they are identical; two `Name`s, if and only if they
+/// have the same number and the same text; two `KindLabel`s, if and only if they have the same name, quantity, form and
+/// names.
+pub fn label_equality()
+    ensures quantity { (a b : Quantity) → IsTrue (⟦<Quantity as PartialEq>⟧.eq a b) ↔ (a ≡ b) }
+    ensures form { (a b : Form) → IsTrue (⟦<Form as PartialEq>⟧.eq a b) ↔ (a ≡ b) }
+    ensures name { (a b : Name) → IsTrue (⟦<Name as PartialEq>⟧.eq a b) ↔ (named a ≡ named b) }
+    ensures label { (a b : KindLabel) → IsTrue (⟦<KindLabel as PartialEq>⟧.eq a b) ↔ (label_of a ≡ label_of b) }
 {}
 
 /// Two `NlaBuffer`s are equal if and only if they have the same `nla_type` and the same payload; two `NlasIterator`s,

@@ -1,7 +1,8 @@
 //! Views of lists: the attributes of a list that decodes, as they are in its bytes.
 
 ghost use Rattle.std.specs.Prelude.{◌≡◌, ◌+◌, ◌/◌, List, length, IfSome};
-ghost use Rattle.std.specs.Iterator.{at_most};
+ghost use Rattle.std.specs.Iterator.{at_most, UpTo};
+ghost use Rattle.std.specs.Iterator.SizeHint.{IsWithinCount};
 ghost use Rattle.link_base.specs.Frame.{Frame, Frames};
 ghost use Rattle.link_base.specs.Table.{class_at, form_at, label_at};
 ghost use Rattle.link_base.specs.Labels.{label_in};
@@ -13,6 +14,7 @@ use crate::attribute_set::{AttributeSet, CheckedSet, ElementSet, Set};
 use crate::buffer::NlaBuffer;
 use crate::content::Content;
 use crate::fault::DecodeFault;
+use crate::iterator::count_bounds;
 use crate::label::KindLabel;
 use std::alloc::AllocError;
 
@@ -31,17 +33,28 @@ pub struct View<'a, S: AttributeSet> {
 }
 
 impl<'a, S: AttributeSet> Clone for Value<'a, S> {
+    ghost use Rattle.std.specs.Prelude.{⊤};
+    ghost use Rattle.link_base.specs.Viewed.{IsSameValue};
+
+    ghost is_clone = { λ x y. IsSameValue x y };
+
+    ghost is_infallible = { λ _. ⊤ };
+
     fn clone(&self) -> Result<Self, AllocError> {
-        Ok(Value {
-            buffer: self.buffer,
-            set: self.set,
-        })
+        Ok(Value::of_checked(self.buffer, self.set))
     }
 }
 
 impl<'a, S: AttributeSet> Copy for Value<'a, S> {}
 
 impl<'a, S: AttributeSet> Clone for View<'a, S> {
+    ghost use Rattle.std.specs.Prelude.{⊤};
+    ghost use Rattle.link_base.specs.Viewed.{IsSameView};
+
+    ghost is_clone = { λ v w. IsSameView v w };
+
+    ghost is_infallible = { λ _. ⊤ };
+
     fn clone(&self) -> Result<Self, AllocError> {
         Ok(self.again())
     }
@@ -257,6 +270,7 @@ impl<'a, S: AttributeSet> View<'a, S> {
 
 impl<'a, S: AttributeSet> Iterator for View<'a, S> {
     ghost use Rattle.link_base.specs.Viewed.{bytes_in, NextValue};
+    ghost use Rattle.link_base.specs.IteratorItems.{IsHint};
 
     type Item = Value<'a, S>;
 
@@ -273,5 +287,14 @@ impl<'a, S: AttributeSet> Iterator for View<'a, S> {
             }
             None => None,
         }
+    }
+
+    /// Returns the bounds of [`count_bounds`] on the number of attributes that are left.
+    fn size_hint(&self) -> (usize, Option<usize>)
+        ensures lower { IsWithinCount result.0 (at_most ((length (bytes_in self.now) + 3) / 4)) }
+        ensures upper { IfSome result.1 (UpTo (at_most ((length (bytes_in self.now) + 3) / 4))) }
+        ensures bounds { IsHint (bytes_in self.now) result }
+    {
+        count_bounds(self.rest)
     }
 }

@@ -1,11 +1,13 @@
 //! Views of lists that may be malformed: each attribute that decodes, or its error.
 
-ghost use Rattle.std.specs.Prelude.{◌≡◌, ◌+◌, ◌-◌, ◌/◌, ◌≤◌, length};
-ghost use Rattle.std.specs.Iterator.{at_most};
+ghost use Rattle.std.specs.Prelude.{◌≡◌, ◌+◌, ◌-◌, ◌/◌, ◌≤◌, length, IfSome};
+ghost use Rattle.std.specs.Iterator.{at_most, UpTo};
+ghost use Rattle.std.specs.Iterator.SizeHint.{IsWithinCount};
 
 use crate::attribute_set::CheckedSet;
 use crate::buffer::NlaBuffer;
 use crate::fault::{DecodeFault, ListFault};
+use crate::iterator::count_bounds;
 use crate::view::Value;
 
 /// The attributes of a list that may be malformed: each that decodes, or its error. It borrows the bytes of the list.
@@ -69,6 +71,7 @@ impl<'a, S: CheckedSet> ViewAll<'a, S> {
 
 impl<'a, S: CheckedSet> Iterator for ViewAll<'a, S> {
     ghost use Rattle.link_base.specs.Viewed.{left_of, all_set_of, NextOfAll};
+    ghost use Rattle.link_base.specs.IteratorItems.{IsHint};
 
     type Item = Result<Value<'a, S>, ListFault>;
 
@@ -96,5 +99,14 @@ impl<'a, S: CheckedSet> Iterator for ViewAll<'a, S> {
                 Some(Err(ListFault { at, fault }))
             }
         }
+    }
+
+    /// Returns the bounds of [`count_bounds`] on the number of items that are left.
+    fn size_hint(&self) -> (usize, Option<usize>)
+        ensures lower { IsWithinCount result.0 (at_most ((length (left_of self.now) + 3) / 4)) }
+        ensures upper { IfSome result.1 (UpTo (at_most ((length (left_of self.now) + 3) / 4))) }
+        ensures bounds { IsHint (left_of self.now) result }
+    {
+        count_bounds(self.rest)
     }
 }

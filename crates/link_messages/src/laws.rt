@@ -11,15 +11,24 @@ ghost use Rattle.link_messages.specs.declared.link.Part.{Part};
 ghost use Rattle.link_messages.specs.declared.link.Link.{Link};
 ghost use Rattle.link_messages.specs.declared.dump.DumpError.{DumpError};
 ghost use Rattle.link_messages.specs.declared.acknowledgement.Acknowledgement.{Acknowledgement};
+ghost use Rattle.link_messages.specs.declared.header.LinkHeader.{LinkHeader};
+ghost use Rattle.link_messages.specs.declared.info.InfoData.{InfoData};
+ghost use Rattle.link_messages.specs.declared.info.LinkInfo.{LinkInfo};
+ghost use Rattle.link_messages.specs.declared.details.Protinfo.{Protinfo};
+ghost use Rattle.link_messages.specs.declared.details.LinkDetails.{LinkDetails};
 ghost use Rattle.link_messages.specs.Message.{NextMessage, Stand};
 ghost use Rattle.link_messages.specs.Finding.{Stretch, stretch_of};
 ghost use Rattle.link_messages.specs.Link.{part_of, IsLink, IsHeld, HasPart};
 ghost use Rattle.link_messages.specs.Walk.{Item, Walk};
 ghost use Rattle.link_messages.specs.BeforeFault.{seen_of};
 ghost use Rattle.link_messages.specs.Same.{IsSameMessage, IsSameLink, IsSameAcknowledgement};
+ghost use Rattle.link_messages.specs.Same.{IsSameData, IsSameInfo, IsSameProtinfo, IsSameDetails};
 
 use crate::acknowledgement::Acknowledgement;
+use crate::details::{LinkDetails, Protinfo};
 use crate::dump::DumpError;
+use crate::header::LinkHeader;
+use crate::info::{InfoData, LinkInfo};
 use crate::link::{Link, Part};
 use crate::message::MessageError;
 use crate::views::{Message, Payload};
@@ -54,8 +63,8 @@ pub fn error_equality()
     ensures dump { (a b : DumpError) → IsTrue (⟦<DumpError as PartialEq>⟧.eq a b) ↔ (a ≡ b) }
 {}
 
-/// States that two messages, payloads, parts, links or replies are equal (`==`) if and only if all their fields are.
-/// Borrowed bytes are compared, and not where they are in memory.
+/// States that two messages, payloads, parts, links, replies, headers, or values of what a printer reads are equal (`==`)
+/// if and only if all their fields are. Borrowed bytes are compared, and not where they are in memory.
 pub fn equality()
     ensures message { (a b : Message) → IsTrue (⟦<Message<'static> as PartialEq>⟧.eq a b) ↔ IsSameMessage a b }
     ensures payload { (a b : Payload) → IsTrue (⟦<Payload<'static> as PartialEq>⟧.eq a b)
@@ -64,4 +73,10 @@ pub fn equality()
     ensures link { (a b : Link) → IsTrue (⟦<Link<'static> as PartialEq>⟧.eq a b) ↔ IsSameLink a b }
     ensures acknowledgement { (a b : Acknowledgement) → IsTrue (⟦<Acknowledgement<'static> as PartialEq>⟧.eq a b)
         ↔ IsSameAcknowledgement a b }
+    ensures header { (a b : LinkHeader) → IsTrue (⟦<LinkHeader as PartialEq>⟧.eq a b) ↔ (a ≡ b) }
+    ensures info_data { (a b : InfoData) → IsTrue (⟦<InfoData<'static> as PartialEq>⟧.eq a b) ↔ IsSameData a b }
+    ensures info { (a b : LinkInfo) → IsTrue (⟦<LinkInfo<'static> as PartialEq>⟧.eq a b) ↔ IsSameInfo a b }
+    ensures protinfo { (a b : Protinfo) → IsTrue (⟦<Protinfo<'static> as PartialEq>⟧.eq a b) ↔ IsSameProtinfo a b }
+    ensures details { (a b : LinkDetails) → IsTrue (⟦<LinkDetails<'static> as PartialEq>⟧.eq a b)
+        ↔ IsSameDetails a b }
 {}

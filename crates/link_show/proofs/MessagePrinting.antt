@@ -1,5 +1,5 @@
 -- The lines of messages are printable.
-use Rattle.std.proofs.Common.{◌≡◌, ℕ, ℤ, ◌+◌, ◌==◌, Bool, true, false, List, [], ◌∷◌, ◌++◌, drop, Option, Some, None, option_map, if◌then◌else◌, unsigned_abs, refl, sym, subst, codes}
+use Rattle.std.proofs.Common.{◌≡◌, ℕ, suc, ℤ, pos, negsuc, ◌+◌, ◌==◌, Bool, true, false, List, [], ◌∷◌, ◌++◌, drop, Option, Some, None, option_map, if◌then◌else◌, unsigned_abs, refl, sym, subst, codes}
 use Rattle.std.specs.Fmt.{decimal, signed_decimal}
 use Rattle.std.specs.List.{filter, last_or, AllByRecursion}
 use Rattle.std.specs.Option.{option_copied}
@@ -37,7 +37,7 @@ use Rattle.link_show.specs.Octets.{address_text}
 use Rattle.link_show.specs.Quoted.{quoted}
 use Rattle.link_show.specs.Errno.{errno_names}
 use Rattle.link_show.specs.MessageNames.{message_types, common_flags, new_flags, get_flags, delete_flags, error_flags, flags_of, address_families, device_types, device_flags, operational_states}
-use Rattle.link_show.specs.Message.{two, four, reason_text, offset_of, message_error_line, named_or, message_line, unless_zero, name_part, header_parts, link_line, line_of, opaque_text, ShowsFamily, ShowsPayload, kind_or_port, kind_line, ShowsData, fault_line, ShowsInfo, ShowsOptionalInfo, ShowsPart, ShowsProtinfo, attribute_lines, others_line, ShowsLink, number_after, error_number_line, result_line, reply_lines, ShowsBody, Link, Reply, NoLink, NoReply, Other, ShowsMessage, ShowsEnd, Ended, Done, Broken, ShowsMessages}
+use Rattle.link_show.specs.Message.{two, four, reason_text, offset_of, message_error_line, named_or, message_line, unless_zero, name_part, header_parts, link_line, line_of, opaque_text, ShowsFamily, ShowsPayload, kind_or_port, kind_line, ShowsData, fault_line, ShowsInfo, ShowsOptionalInfo, ShowsPart, ShowsProtinfo, attribute_lines, others_line, ShowsLink, number_after, error_number_line, errno_name, result_line, reply_lines, ShowsBody, Link, Reply, NoLink, NoReply, Other, ShowsMessage, ShowsEnd, Ended, Done, Broken, ShowsMessages}
 use Rattle.link_show.specs.Printable.{IsText, AreTexts, are_text_names, has_texts}
 use Rattle.link_show.proofs.Printing.{text, none, and, either, decimal_text, signed_text, address_digits, quoted_text}
 use Rattle.link_show.proofs.ValuePrinting.{EachName, OnText, choose, each_name, name_found, enum_is_text, number_is_text, flags_is_text, field_text, bytes_is_text, cause_is_text}
@@ -347,11 +347,15 @@ number_after_text (Some name) number h k = and h (and {s = codes " ("} (text ref
 error_number_texts : (name : Option (List ℕ)) (e : ℤ) → OnText name → AreTexts (error_number_line name e)
 error_number_texts name e h = indented_texts two (text refl) (field_text (codes "error") (text refl) (number_after_text name (signed_decimal e) h (signed_text e)))
 
+errno_text : (e : ℤ) → OnText (errno_name e)
+errno_text (pos n) = tt
+errno_text (negsuc n) = name_found errno_names (each_name errno_names refl) (suc n)
+
 result_texts : (e : ℤ) → AreTexts (result_line e)
 unfolding result_line
 result_texts e =
     either_texts (unsigned_abs e == 0) (indented_texts two {t = codes "ack"} (text refl) (text refl))
-    (error_number_texts (Labels.name_in errno_names (unsigned_abs e)) e (name_found errno_names (each_name errno_names refl) (unsigned_abs e)))
+    (error_number_texts (errno_name e) e (errno_text e))
 
 reply_texts : (a : Acknowledgement) → AreTexts (reply_lines a)
 reply_texts a =

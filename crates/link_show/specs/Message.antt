@@ -1,5 +1,5 @@
 -- The lines of messages about links.
-use Rattle.std.specs.Prelude.{◌≡◌, ◌≢◌, ℕ, ℤ, ◌+◌, ◌==◌, Bool, true, false, ◌&&◌, List, [], ◌∷◌, ◌++◌, length, drop, Option, Some, None, codes, if◌then◌else◌}
+use Rattle.std.specs.Prelude.{◌≡◌, ◌≢◌, ℕ, suc, ℤ, pos, negsuc, ◌+◌, ◌==◌, Bool, true, false, ◌&&◌, List, [], ◌∷◌, ◌++◌, length, drop, Option, Some, None, codes, if◌then◌else◌}
 use Rattle.std.specs.Fmt.{decimal, signed_decimal}
 use Rattle.std.specs.Int.RustNames.{unsigned_abs}
 use Rattle.std.specs.Option.{option_copied}
@@ -221,11 +221,16 @@ number_after (Some name) number = name ++ (codes " (" ++ (number ++ codes ")"))
 abbrev pub error_number_line : Option (List ℕ) → ℤ → List ℕ
 error_number_line name e = indented two (field (codes "error") (number_after name (signed_decimal e)))
 
--- the result of a request: 0, or an errno, which is negated
+-- the name of an errno, which is negative; no other number has one
+abbrev pub errno_name : ℤ → Option (List ℕ)
+errno_name (pos n) = None
+errno_name (negsuc n) = name_in errno_names (suc n)
+
+-- the result of a request: 0, or an errno
 unfoldable pub result_line : ℤ → List ℕ
 result_line e =
     if unsigned_abs e == 0 then indented two (codes "ack")
-    else error_number_line (name_in errno_names (unsigned_abs e)) e
+    else error_number_line (errno_name e) e
 
 -- the lines of a reply
 abbrev pub reply_lines : Acknowledgement → List ℕ

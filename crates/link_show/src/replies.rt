@@ -3,12 +3,11 @@
 ghost use Rattle.std.specs.Prelude.{◌≡◌, codes, option_map, IfOk, OnOk};
 ghost use Rattle.std.specs.Fmt.{decimal};
 ghost use Rattle.std.specs.Option.{option_copied};
-ghost use Rattle.std.specs.Io.KnownBytes.{Appends};
+ghost use Rattle.std.specs.Int.{is_negative};
 ghost use Rattle.std.specs.Int.RustNames.{unsigned_abs};
-ghost use Rattle.link_base.specs.Labels.{name_in};
-ghost use Rattle.link_show.specs.Errno.{errno_names};
+ghost use Rattle.std.specs.Io.KnownBytes.{Appends};
 ghost use Rattle.link_show.specs.Quoted.{quoted};
-ghost use Rattle.link_show.specs.Message.{reply_lines, is_sound, result_line, error_number_line, line_of};
+ghost use Rattle.link_show.specs.Message.{reply_lines, is_sound, errno_name, result_line, error_number_line, line_of};
 
 use crate::errno::ERRNOS;
 use crate::flags::name_of;
@@ -38,7 +37,7 @@ pub fn write_acknowledgement<W: Write>(
     write_header_fault(writer, reply.fault)
 }
 
-/// Writes the line of the result of a request: `ack` for 0, otherwise an errno, which is negative.
+/// Writes the line of the result of a request: `ack` for 0, otherwise an error.
 fn write_result<W: Write>(writer: &mut W, reply: &Acknowledgement<'_>) -> io::Result<()>
     ensures { OnOk result (Appends (W.contents writer.old) (W.contents writer.new)
         (result_line reply.now.error)) }
@@ -47,21 +46,31 @@ fn write_result<W: Write>(writer: &mut W, reply: &Acknowledgement<'_>) -> io::Re
     if number == 0 {
         return writer.write_all(b"  ack\n");
     }
-    write_errno(writer, errno_name(number), reply)
+    write_errno(writer, errno_name(reply), reply)
 }
 
-/// Returns errno, which is 0 for success.
+/// Returns errno without its sign, or 0 for success.
 fn errno_of(reply: &Acknowledgement<'_>) -> u32
     ensures { result ≡ unsigned_abs reply.now.error }
 {
     reply.error.unsigned_abs()
 }
 
-/// Returns the name of an errno.
-fn errno_name(number: u32) -> Option<&'static str>
-    ensures { option_map (λ text. text.now) result ≡ name_in errno_names number }
+/// Checks whether the result of a request is an errno, which is negative.
+fn is_errno(reply: &Acknowledgement<'_>) -> bool
+    ensures { result ≡ is_negative reply.now.error }
 {
-    name_of(ERRNOS, number.into())
+    reply.error.is_negative()
+}
+
+/// Returns the name of an errno.
+fn errno_name(reply: &Acknowledgement<'_>) -> Option<&'static str>
+    ensures { option_map (λ text. text.now) result ≡ errno_name reply.now.error }
+{
+    if is_errno(reply) {
+        return name_of(ERRNOS, errno_of(reply).into());
+    }
+    None
 }
 
 /// Writes the line of an error, with its name if it has one.

@@ -127,6 +127,10 @@ impl FlagSet for CanCtrlModeFlags {
     ghost equal_by_bits = { λ a b. refl };
 
     ghost thorough = { wrapped (λ flags. flags.0) (λ bits. record { 0 = bits }) (λ _. refl) numbers };
+
+    ghost copies = { λ _ _ same. same };
+
+    ghost is_copied = { λ _. tt };
 }
 
 impl KnownBits for CanCtrlModeFlags {

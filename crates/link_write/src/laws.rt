@@ -1,6 +1,6 @@
 //! Theorems about lists that are written. The functions have empty bodies; each states its theorem as its contract.
 
-ghost use Rattle.std.specs.Prelude.{◌≡◌, ℕ, List, Ok, length};
+ghost use Rattle.std.specs.Prelude.{◌≡◌, ◌↔◌, ℕ, List, Ok, IsTrue, length};
 ghost use Rattle.std.specs.List.{AllZip, AllByRecursion};
 ghost use Rattle.link_base.specs.Number.{IsBytes};
 ghost use Rattle.link_base.specs.Table.{Decodes, Rewriting};
@@ -9,10 +9,14 @@ ghost use Rattle.netlink_packet_route.specs.Family.{table_of};
 ghost use Rattle.link_flat.specs.declared.entry.Entry.{Entry};
 ghost use Rattle.link_flat.specs.Flat.{Flat};
 ghost use Rattle.link_write.specs.declared.fields.Fields.{Fields};
+ghost use Rattle.link_write.specs.declared.misfit.Misfit.{Misfit};
+ghost use Rattle.link_write.specs.declared.misfit.MisfitAt.{MisfitAt};
 ghost use Rattle.link_write.specs.Payload.{payload_of};
 ghost use Rattle.link_write.specs.Order.{misfit_in, first_misfit};
 ghost use Rattle.link_write.specs.Spelled.{spelled_by};
 ghost use Rattle.link_write.specs.Agreement.{IsEntry, Agrees};
+
+use crate::misfit::{Misfit, MisfitAt};
 
 /// For the entries of a list and its bytes, [`write`](crate::write) writes what
 /// [`rewrite`](netlink_packet_route::rewrite) returns for the list.
@@ -41,4 +45,10 @@ pub fn written_read()
 pub fn first_misfits()
     ensures { (own : Fields) (e : Entry) (octets : List ℕ)
         → misfit_in (payload_of own e octets) ≡ first_misfit own e octets }
+{}
+
+/// Two values of `Misfit`, or of `MisfitAt`, are equal (`==`) if and only if they are identical.
+pub fn misfit_equality()
+    ensures misfit { (a b : Misfit) → IsTrue (⟦<Misfit as PartialEq>⟧.eq a b) ↔ (a ≡ b) }
+    ensures at { (a b : MisfitAt) → IsTrue (⟦<MisfitAt as PartialEq>⟧.eq a b) ↔ (a ≡ b) }
 {}

@@ -7,7 +7,8 @@
 //! - `check FAMILY HEX`: the same; reports whether the list is canonical;
 //! - `message HEX`: the bytes of messages.
 //!
-//! White space separates the words. Blank lines, and lines that begin with `#`, are ignored.
+//! White space separates the words. Blank lines, and lines that begin with `#`, are ignored. Wrong arguments and a failed
+//! write are reported on standard error.
 #![tactic(auto)]
 
 #[cfg(test)]
@@ -16,9 +17,11 @@ mod tests;
 ghost use Rattle.std.specs.Prelude.{◌≡◌, ◌≢◌, [], IfOk, MatchOption, codes, drop, map, string_bytes};
 ghost use Rattle.std.specs.Io.Buffered.{writer_buffer, writer_contents, writer_inner};
 ghost use Rattle.program.specs.Printing.{PrintsOrFails};
-ghost use Rattle.show_lines.specs.Arguments.{IsAnswer, IsWrong, intent, reply_status, reply_text};
+ghost use Rattle.show_lines.specs.Arguments.{IsAnswer, IsError, IsWrong, intent, reply_status, reply_text};
 
-use program::{collect_arguments, print, print_no_memory, unbuffered};
+use program::{
+    Watched, collect_arguments, print, print_error, print_no_memory, print_write_fault, unbuffered,
+};
 use show_lines::{Reply, Request, parse, run, wrong};
 use std::alloc::{AllocError, Global};
 use std::io;
@@ -26,19 +29,27 @@ use std::io::{BufWriter, Write};
 use std::process::ExitCode;
 
 fn main(rt: HostRuntime) -> ExitCode {
-    let mut plain = unbuffered(rt.alloc(), io::writer(&rt));
+    let mut errors = rt.stderr();
+    let mut plain = unbuffered(rt.alloc(), Watched::new(io::writer(&rt)));
     let request = match collect_arguments(&rt) {
         Ok(words) => request_of(rt.alloc(), words),
         Err(error) => Err(error),
     };
     let status = match request {
-        Ok(Request::Run(options)) => match BufWriter::new(rt.alloc(), io::writer(&rt)) {
-            Ok(mut writer) => run(rt.alloc(), options, &mut rt.reader(), &mut writer),
-            Err(_) => print_no_memory(&mut plain),
-        },
-        Ok(Request::Print(reply)) => print_reply(&mut plain, &reply),
+        Ok(Request::Run(options)) => {
+            match BufWriter::new(rt.alloc(), Watched::new(io::writer(&rt))) {
+                Ok(mut writer) => {
+                    let status = run(rt.alloc(), options, &mut rt.reader(), &mut writer);
+                    let _ = print_write_fault(&writer, &mut errors);
+                    status
+                }
+                Err(_) => print_no_memory(&mut plain),
+            }
+        }
+        Ok(Request::Print(reply)) => print_reply(&mut plain, &mut errors, &reply),
         Err(_) => print_no_memory(&mut plain),
     };
+    let _ = print_write_fault(&plain, &mut errors);
     ExitCode::from(status)
 }
 
@@ -59,11 +70,22 @@ fn request_of(alloc: Global, words: Option<Vec<String>>) -> Result<Request, Allo
     }
 }
 
-/// Prints a reply and flushes `writer`. Returns the reply's exit status, or 5 if the writer fails.
-fn print_reply<W: Write + Drop>(writer: &mut BufWriter<W>, reply: &Reply) -> u8
-    ensures written { PrintsOrFails (writer_contents W.contents writer.old)
-        (W.contents (writer_inner writer.new)) (reply_text reply.now) (reply_status reply.now) result }
-    ensures empty { result ≢ 5 → writer_buffer writer.new ≡ [] }
+/// Prints a reply: to `errors` what is wrong with the arguments, and any other to `writer`, which is flushed. Returns the
+/// reply's exit status, or 5 if the writer fails.
+fn print_reply<W: Write + Drop, E: Write>(
+    writer: &mut BufWriter<W>,
+    errors: &mut E,
+    reply: &Reply,
+) -> u8
+    ensures wrong { IsError reply.now → PrintsOrFails (E.contents errors.old) (E.contents errors.new)
+        (reply_text reply.now) (reply_status reply.now) result × (writer.new ≡ writer.old) }
+    ensures written { ¬ IsError reply.now → PrintsOrFails (writer_contents W.contents writer.old)
+        (W.contents (writer_inner writer.new)) (reply_text reply.now) (reply_status reply.now) result
+        × (errors.new ≡ errors.old) }
+    ensures empty { ¬ IsError reply.now → result ≢ 5 → writer_buffer writer.new ≡ [] }
 {
-    print(writer, reply.text(), reply.status())
+    match reply {
+        Reply::Wrong(text) => print_error(errors, text.as_str(), reply.status()),
+        Reply::Help | Reply::Version => print(writer, reply.text(), reply.status()),
+    }
 }

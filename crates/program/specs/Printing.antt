@@ -7,6 +7,10 @@ use Rattle.std.specs.Io.KnownBytes.{Appends, Keeps}
 abbrev pub no_memory_line : List ℕ
 no_memory_line = codes "no memory" ++ 10 ∷ []
 
+-- the line that reports on standard error that a write failed
+abbrev pub write_fault_line : List ℕ
+write_fault_line = codes "write fault" ++ 10 ∷ []
+
 -- the buffer was written, and the result is `status`; or the writer failed
 abbrev pub FlushesOrFails : Option (List ℕ) → Option (List ℕ) → ℕ → ℕ → Type 0
 FlushesOrFails held_before held_after status result = ((result ≡ status) × Keeps held_before held_after) ⊎ (result ≡ 5)

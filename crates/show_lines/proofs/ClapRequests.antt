@@ -1,5 +1,5 @@
 -- Faults and rows of `clap`, and the request that they make.
-use Rattle.std.proofs.Common.{◌≡◌, ◌∙◌, Bool, cond, true, false, refl, sym, ap, ap₂, subst, List, [], ◌∷◌, Some, None, codes, inl, inr}
+use Rattle.std.proofs.Common.{◌≡◌, ◌∙◌, Bool, cond, true, false, refl, sym, ap, subst, List, [], ◌∷◌, Some, None, codes, inl, inr}
 use Rattle.std.specs.Prelude.{is_some, unwrap_or}
 use Rattle.std.specs.Str.{bytes_eq}
 use Rattle.std.proofs.lemmas.Slice.Eq.{bytes_eq-Decides}
@@ -13,13 +13,12 @@ use Rattle.clap.specs.declared.builder.value_parser.ValueParser.{ValueParser}
 use Rattle.clap.specs.declared.builder.value_parser.ValueParser.TheVariants as vp
 use Rattle.clap.specs.declared.error.kind.ErrorKind.{ErrorKind}
 use Rattle.clap.specs.declared.error.kind.ErrorKind.TheVariants as kind
-use Rattle.show_lines.specs.Arguments.{Intent, IsAnswer, runs, helps, versions, fails, format_named, IsAnyWrong}
+use Rattle.show_lines.specs.Arguments.{Intent, IsAnswer, runs, helps, versions, fails, format_named, IsAnyWrong, RunsOrClashes}
 use Rattle.show_lines.specs.CommandLine.{Chosen, Reports}
 use Rattle.show_lines.specs.declared.arguments.Format.{Format}
 use Rattle.show_lines.specs.declared.arguments.Format.TheVariants.{Plain, Debug}
 use Rattle.show_lines.specs.declared.arguments.Options.{Options}
 use Rattle.show_lines.specs.declared.arguments.Request.{Request}
-use Rattle.show_lines.specs.declared.arguments.Request.TheVariants.{Run}
 
 -- the name of a format
 abbrev pub format_text : Format → Text
@@ -120,14 +119,15 @@ found_check f true options is h = h.check is
 found_check f false options is h = h.no_check is
 
 -- the matches give what the words ask for
-pub answered : (a : Intent) (ks : Kinds) (f : Found) (options : Options) → Fits a ks (rows_of f) → ks ≡ [] → Chosen f options → IsAnswer a (Run options)
-answered (runs o) ks f options fit empty h =
+pub answered : (a : Intent) (ks : Kinds) (f : Found) (options : Options) → Fits a ks (rows_of f) → ks ≡ [] → Chosen f options
+    → (r : Request) → RunsOrClashes options.format options.check r → IsAnswer a r
+answered (runs o) ks f options fit empty h r made =
     let format : options.format ≡ o.format = found_format f o.format options (first_value-rows f (codes "format") ∙ fit.1) h in
     let check : options.check ≡ o.check = found_check f o.check options (one_text-rows f (codes "check") ∙ fit.2) h in
-    ap₂ (λ x y. Run (record { format = x; check = y })) format check
-answered helps ks f options fit empty h = absurd (some_kind (sym fit ∙ empty))
-answered versions ks f options fit empty h = absurd (some_kind (sym fit ∙ empty))
-answered fails ks f options fit empty h = absurd (some_kind (sym fit.1 ∙ empty))
+    subst (λ x. RunsOrClashes x o.check r) format (subst (λ y. RunsOrClashes options.format y r) check made)
+answered helps ks f options fit empty h r made = absurd (some_kind (sym fit ∙ empty))
+answered versions ks f options fit empty h r made = absurd (some_kind (sym fit ∙ empty))
+answered fails ks f options fit empty h r made = absurd (some_kind (sym fit.1 ∙ empty))
 
 -- so does an error
 pub reported : (a : Intent) (ks : Kinds) (rows : List Row) (e : Error) (r : Request) → Fits a ks rows → HasKind ks e → Reports (kind_of e) r → IsAnswer a r

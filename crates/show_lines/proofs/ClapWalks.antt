@@ -14,7 +14,7 @@ use Rattle.clap.specs.declared.builder.value_parser.ValueParser.{ValueParser}
 use Rattle.clap.specs.declared.error.kind.ErrorKind.{ErrorKind}
 use Rattle.clap.specs.declared.error.kind.ErrorKind.TheVariants as kind
 use Rattle.clap.proofs.OnLiterals.{clap_on_literals}
-use Rattle.show_lines.specs.Arguments.{Intent, intent, IsAnswer, helps, versions, fails, State, given, waits, intent_from, intent_at_end, intent_by_flag, intent_by_short, intent_by_letter, intent_by_value, intent_by_format, intent_after_dashes, alone, format_named, runs, default_options}
+use Rattle.show_lines.specs.Arguments.{Intent, intent, IsAnswer, helps, versions, fails, State, given, waits, intent_from, intent_at_end, intent_by_flag, intent_by_short, intent_by_letter, intent_by_value, intent_by_format, intent_after_dashes, alone, format_named, runs, default_options, RunsOrClashes}
 use Rattle.show_lines.specs.CommandLine.{Chosen, Reports, nlshow}
 use Rattle.show_lines.specs.declared.arguments.Format.{Format}
 use Rattle.show_lines.specs.declared.arguments.Options.{Options}
@@ -235,13 +235,14 @@ module _ (names : ValueParser) (fits : (text : Text) → accepts false names tex
 
   -- the request of matches, and of an error
   pub ok_answer : (words : List Text) (m : ArgMatches) (options : Options) (c : App) → c ≡ nlshow names → (is_simple_and_free c ≡ true → fault_of c words ≡ [])
-      → HasMatchesOf c words m → Chosen (found_of m) options → IsAnswer (intent (drop 1 words)) (Run options)
-  ok_answer words m options c is faults matches h =
+      → HasMatchesOf c words m → Chosen (found_of m) options
+      → (r : Request) → RunsOrClashes options.format options.check r → IsAnswer (intent (drop 1 words)) r
+  ok_answer words m options c is faults matches h r made =
       let free : is_simple_and_free c ≡ true = ap is_simple_and_free is ∙ simple in
       let rows : rows_of (found_of m) ≡ matches_of (nlshow names) words = (matches (ap is_simple is ∙ is_simple_app)).0 ∙ ap (λ a. matches_of a words) is in
       answered (intent (drop 1 words)) (fault_of (nlshow names) words) (found_of m) options
       (subst (Fits (intent (drop 1 words)) (fault_of (nlshow names) words)) (sym rows) (fits_faults words))
-      (sym (ap (λ a. fault_of a words) is) ∙ faults free) h
+      (sym (ap (λ a. fault_of a words) is) ∙ faults free) h r made
 
   -- the request of an error
   pub err_answer : (words : List Text) (e : Error) (r : Request) (c : App) → c ≡ nlshow names → (is_simple_and_free c ≡ true → HasKind (fault_of c words) e)

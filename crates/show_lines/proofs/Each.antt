@@ -4,7 +4,8 @@ use Rattle.std.specs.List.{flat_map}
 use Rattle.std.proofs.lemmas.List.{append-nil}
 use Rattle.std.proofs.lemmas.Grind.{flat_map-append}
 use Rattle.netlink_packet_route.specs.Report.{line}
-use Rattle.show_lines.specs.List.{Adds, AddsLines}
+use Rattle.show_lines.specs.List.{Adds, AddsLines, IsUnbroken}
+use Rattle.show_lines.proofs.Cuts.{all_append}
 
 pub and_assoc : (a b c : Bool) → ((a && b) && c) ≡ (a && (b && c))
 and_assoc true b c = refl
@@ -13,10 +14,10 @@ and_assoc false b c = refl
 -- ---- indented lines that are added to a text
 
 pub lines_none : (indent old : List ℕ) → AddsLines indent 0 old old
-lines_none indent old = ([], ([], refl, refl), sym (append-nil old))
+lines_none indent old = ([], ([], refl, tt, refl), sym (append-nil old))
 
-pub lines_more : (indent old a b c d e words : List ℕ) (n : ℕ) → AddsLines indent n old a → b ≡ a ++ indent → c ≡ b ++ codes "  " → d ≡ c ++ words → e ≡ d ++ 10 ∷ [] → AddsLines indent (n + 1) old e
-lines_more indent old a b c d e words n h eb ec ed ee =
+pub lines_more : (indent old a b c d e words : List ℕ) (n : ℕ) → AddsLines indent n old a → b ≡ a ++ indent → c ≡ b ++ codes "  " → d ≡ c ++ words → e ≡ d ++ 10 ∷ [] → IsUnbroken words → AddsLines indent (n + 1) old e
+lines_more indent old a b c d e words n h eb ec ed ee solid =
     let lines : List ℕ → List ℕ = λ w. line (indent ++ (codes "  " ++ w)) in
     let one : List ℕ = lines words in
     let shift : (((a ++ indent) ++ codes "  ") ++ words) ++ 10 ∷ [] ≡ a ++ one =
@@ -26,7 +27,8 @@ lines_more indent old a b c d e words n h eb ec ed ee =
       (
         h.1.0 ++ words ∷ [],
         omega (arith, length-append h.1.0 (words ∷ []), h.1.1),
-        ap (λ l. l ++ one) h.1.2 ∙ sym (flat_map-append lines h.1.0 (words ∷ []) ∙ ap (λ l. flat_map lines h.1.0 ++ l) (append-nil one)),
+        all_append IsUnbroken h.1.0 (words ∷ []) h.1.2 (solid, tt),
+        ap (λ l. l ++ one) h.1.3 ∙ sym (flat_map-append lines h.1.0 (words ∷ []) ∙ ap (λ l. flat_map lines h.1.0 ++ l) (append-nil one)),
       ),
       ee ∙ ap (λ l. l ++ 10 ∷ []) (ed ∙ ap (λ l. l ++ words) (ec ∙ ap (λ l. l ++ codes "  ") eb)) ∙ shift ∙ ap (λ l. l ++ one) h.2 ∙ append_assoc old h.0 one,
     )

@@ -10,4 +10,5 @@ pub mod ClapMistakes
 pub mod ClapRows
 pub mod ClapWalks
 pub mod FirstLine
+pub mod Unbroken
 pub mod Printed

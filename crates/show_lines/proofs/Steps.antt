@@ -1,5 +1,5 @@
 -- The loops of a run.
-use Rattle.std.proofs.Common.{◌≡◌, inl, inr, ℕ, ◌<◌, Bool, true, ◌&&◌, List, [], ◌++◌, length, take, Option, Result, Ok, Err, refl, sym, ap, subst, ◌∙◌, append_assoc}
+use Rattle.std.proofs.Common.{◌≡◌, inl, inr, ℕ, ◌<◌, Bool, true, false, true≢false, is_err, OnOk, ◌&&◌, List, [], ◌++◌, length, take, Option, Result, Ok, Err, refl, sym, ap, subst, ◌∙◌, append_assoc}
 use Rattle.std.proofs.lemmas.List.{append-nil}
 use Rattle.std.specs.Io.KnownBytes.{Appends, Consumes, Keeps, IsAtEnd}
 use Rattle.std.proofs.KnownBytes.{Appends-nil, Appends-trans, Appends-kept, Consumes-nil, Consumes-trans}
@@ -58,8 +58,10 @@ pub record Went (options : Options) (held : List ℕ) (left_before left_after wr
   pub shown : Shown options text out held whole
   pub written : Appends written_before written_after out
 
-pub went_none : {options : Options} → (held : List ℕ) (r w : Option (List ℕ)) → held ≡ [] → Went options held r r w w true
-went_none {options} held r w e = record { text = []; out = []; read = Consumes-nil r; shown = subst (λ h. Shown options [] [] h true) (sym e) none; written = Appends-nil w }
+-- nothing is read, and what was in the buffer is flushed
+pub went_none : {options : Options} → (held : List ℕ) (r w v : Option (List ℕ)) → held ≡ [] → Keeps w v → Went options held r r w v true
+went_none {options} held r w v e kept =
+    record { text = []; out = []; read = Consumes-nil r; shown = subst (λ h. Shown options [] [] h true) (sym e) none; written = Appends-kept w w v [] (Appends-nil w) kept }
 
 -- one more piece
 pub went_on : {options : Options} → (held after piece : List ℕ) (r s t w v u : Option (List ℕ)) (whole all : Bool) → Went options held r s w v whole → Consumes s t piece → WritesPiece options held after piece v u all
@@ -115,3 +117,7 @@ on_memory P Q (Ok x) f h = tt
 on_memory P Q (Err Memory) f h = f h
 on_memory P Q (Err Reader) f h = tt
 on_memory P Q (Err Writer) f h = tt
+
+pub not_failed : {X E P : Type 0} (r : Result X E) → is_err r ≡ false → OnOk r P → P
+not_failed (Ok x) is h = h
+not_failed (Err e) is h = absurd (true≢false is)

@@ -108,6 +108,11 @@ reply_status Help = 0
 reply_status Version = 0
 reply_status (Wrong text) = 2
 
+-- the reply reports what is wrong with the arguments, on standard error
+abbrev pub IsError : Reply → Type 0
+IsError (Wrong text) = Unit {0}
+IsError _ = ⊥
+
 -- the request prints the line, LF and the usage line
 abbrev pub IsWrong : Text → Request → Type 0
 IsWrong line (Print (Wrong text)) = string_bytes text ≡ line ++ (10 ∷ USAGE.now)
@@ -117,9 +122,17 @@ IsWrong line _ = ⊥
 abbrev pub IsAnyWrong : Request → Type 0
 IsAnyWrong request = (line : Text) × IsUnbroken line × IsWrong line request
 
+abbrev pub clash_line : Text
+clash_line = codes "error: the argument '--format debug' cannot be used with '--check'"
+
+-- the request is a run with this format and check; in the debug form, lists cannot be checked
+abbrev pub RunsOrClashes : Format → Bool → Request → Type 0
+RunsOrClashes Debug true request = IsWrong clash_line request
+RunsOrClashes format check request = request ≡ Run (record { format = format; check = check })
+
 -- the request is what the words ask for
 abbrev pub IsAnswer : Intent → Request → Type 0
-IsAnswer (runs options) request = request ≡ Run options
+IsAnswer (runs options) request = RunsOrClashes options.format options.check request
 IsAnswer helps request = request ≡ Print Help
 IsAnswer versions request = request ≡ Print Version
 IsAnswer fails request = IsAnyWrong request

@@ -1,13 +1,22 @@
 -- The output for a list.
-use Rattle.std.specs.Prelude.{◌≡◌, ℕ, ◌+◌, Bool, true, false, List, ◌++◌, length, codes}
-use Rattle.std.specs.List.{flat_map}
+use Rattle.std.specs.Prelude.{◌≡◌, ◌≢◌, ℕ, ◌+◌, ◌==◌, Bool, true, false, List, [], ◌∷◌, ◌++◌, length, codes, if◌then◌else◌}
+use Rattle.std.specs.List.{flat_map, AllByRecursion}
 use Rattle.netlink_packet_route.specs.Wire.{Wire, FirstFault}
 use Rattle.netlink_packet_route.specs.Table.{Table, AttrValue, Gives}
 use Rattle.netlink_packet_route.specs.Report.{line, fault_line}
 
--- n lines, with any text, each indented by `indent` and two spaces
+-- no LF
+abbrev pub IsUnbroken : List ℕ → Type 0
+IsUnbroken text = AllByRecursion (λ b. b ≢ 10) text
+
+-- a text with `\n` in place of each LF
+abbrev pub unbroken : List ℕ → List ℕ
+unbroken text = flat_map (λ b. if b == 10 then codes "\\n" else b ∷ []) text
+
+-- n lines, with any text without LF, each indented by `indent` and two spaces
 abbrev pub AreIndented : List ℕ → List ℕ → ℕ → Type 0
-AreIndented indent out n = (words : List (List ℕ)) × (length words ≡ n) × (out ≡ flat_map (λ w. line (indent ++ (codes "  " ++ w))) words)
+AreIndented indent out n =
+    (words : List (List ℕ)) × (length words ≡ n) × AllByRecursion IsUnbroken words × (out ≡ flat_map (λ w. line (indent ++ (codes "  " ++ w))) words)
 
 -- the output, with an indent, for a list at offset `base`, and whether it decodes: a line for each value, or one for
 -- the first decode error

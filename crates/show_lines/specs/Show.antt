@@ -9,6 +9,7 @@ use Rattle.netlink_packet_route.specs.HexText.{is_space, digits_of}
 use Rattle.netlink_packet_route.specs.Report.{line, most_text}
 use Rattle.show_lines.specs.declared.asking.Asked.{Asked}
 use Rattle.show_lines.specs.declared.asking.Asked.TheVariants.{Messages, Attributes, Verdict}
+pub use Rattle.show_lines.specs.List.{IsUnbroken}
 use Rattle.show_lines.specs.List.{ShowsList}
 use Rattle.show_lines.specs.Messages.{ShowsMessages}
 use Rattle.show_lines.specs.declared.arguments.Options.{Options}
@@ -111,10 +112,6 @@ pub data Shows (options : Options) (text out : List ℕ) (read : Bool) : Type 0 
   Answered : length text ≤ most_text → ¬ IsPassedOver text → (below : List ℕ) → ShowsBelow (ShowsAs options.format options.check) text below read → out ≡ line text ++ below → Shows options text out read
 
 -- ---- a text
-
--- no byte is LF
-abbrev pub IsUnbroken : List ℕ → Type 0
-IsUnbroken text = AllByRecursion (λ b. b ≢ 10) text
 
 -- the lines of a text: LF ends each, except that a non-empty last line may lack it
 pub data AreLines (text : List ℕ) (lines : List (List ℕ)) : Type 0 where

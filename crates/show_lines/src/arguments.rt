@@ -3,7 +3,7 @@
 ghost use Rattle.std.specs.Prelude.{◌≡◌, ◌==◌, [], IfOk, map, drop, string_bytes};
 ghost use Rattle.std.specs.List.{before_first};
 ghost use Rattle.clap.specs.Words.{found_of, kind_of};
-ghost use Rattle.show_lines.specs.Arguments.{IsAnswer, IsWrong, default_options, intent};
+ghost use Rattle.show_lines.specs.Arguments.{IsAnswer, IsWrong, RunsOrClashes, default_options, intent};
 ghost use Rattle.show_lines.specs.declared.arguments.Request.TheVariants.{Run};
 ghost use Rattle.show_lines.specs.CommandLine.{Chosen, IsNlshow, Reports};
 
@@ -29,7 +29,7 @@ pub enum Format {
 pub struct Options {
     /// How lists and messages are printed.
     pub format: Format,
-    /// Whether to report if each list is canonical.
+    /// Whether to report if each list is canonical. Without effect in the debug form.
     pub check: bool,
 }
 
@@ -52,8 +52,21 @@ pub fn parse(alloc: Global, arguments: &Vec<String>) -> Result<Request, AllocErr
     ensures alone { drop 1 arguments.now.items ≡ [] → IfOk result (λ request. request ≡ Run default_options) }
 {
     match command(alloc)?.try_get_matches_from(arguments.as_slice()) {
-        Ok(matches) => Ok(Request::Run(chosen(&matches))),
+        Ok(matches) => settled(alloc, chosen(&matches)),
         Err(error) => reported(alloc, &error),
+    }
+}
+
+/// Returns the request for a run with these options, or for a wrong argument: the debug form has no `--check`.
+fn settled(alloc: Global, options: Options) -> Result<Request, AllocError>
+    ensures { IfOk result (RunsOrClashes options.format options.check) }
+{
+    match (options.format, options.check) {
+        (Format::Debug, true) => wrong(
+            alloc,
+            "error: the argument '--format debug' cannot be used with '--check'",
+        ),
+        _ => Ok(Request::Run(options)),
     }
 }
 

@@ -3,7 +3,7 @@
 ghost use Rattle.std.specs.Prelude.{◌≡◌, ◌++◌, length, IfOk, OnOk, string_bytes};
 ghost use Rattle.netlink_packet_route.specs.Family.{table_of};
 ghost use Rattle.netlink_packet_route.specs.Report.{fault_line};
-ghost use Rattle.show_lines.specs.List.{Adds, AddsLines, ShowsList};
+ghost use Rattle.show_lines.specs.List.{Adds, AddsLines, ShowsList, unbroken};
 
 use link_messages::{Part, Payload};
 use netlink_packet_route::by_family;
@@ -63,7 +63,7 @@ fn push_fault(
     writeln!(text, "{indent}fault at {at}: {fault}")
 }
 
-/// Appends a line for each value.
+/// Appends a line for each value: what `{:?}` prints.
 fn push_values<F: Debug>(
     alloc: Global,
     text: &mut String,
@@ -78,8 +78,21 @@ fn push_values<F: Debug>(
         write!(one, "{value:?}")?;
         text.push_str(indent)?;
         text.push_str("  ")?;
-        text.push_str(one.as_str())?;
+        push_unbroken(text, one.as_str())?;
         text.push_str("\n")?;
     }
     Ok(())
+}
+
+/// Appends `words`, with `\n` in place of each LF, so that they stay on one line.
+fn push_unbroken(text: &mut String, words: &str) -> Result<(), AllocError>
+    ensures { OnOk result (string_bytes text.new ≡ string_bytes text.old ++ unbroken words.now) }
+{
+    let mut rest = words;
+    while let Some((line, after)) = rest.split_once('\n') {
+        text.push_str(line)?;
+        text.push_str("\\n")?;
+        rest = after;
+    }
+    text.push_str(rest)
 }

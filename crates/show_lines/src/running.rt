@@ -1,8 +1,9 @@
 //! Runs the program on any reader and writer.
 
 ghost use Rattle.std.specs.Prelude.{◌≡◌, ◌⊎◌, ◌<◌, ◌++◌, [], IfOk, MatchOption};
+ghost use Rattle.std.specs.Io.{ReadsAtMost};
 ghost use Rattle.std.specs.Io.Buffered.{writer_buffer, writer_contents, writer_inner};
-ghost use Rattle.std.specs.Io.KnownBytes.{Keeps};
+ghost use Rattle.std.specs.Io.KnownBytes.{Keeps, ReadConsumes};
 ghost use Rattle.netlink_packet_route.specs.Report.{line};
 ghost use Rattle.show_lines.specs.Show.{IsUnbroken};
 ghost use Rattle.show_lines.specs.Progress.{held_of, Grows, WritesLine, WritesPiece, WritesRest, OnMemory};
@@ -16,6 +17,7 @@ use crate::held::Held;
 use crate::showing::show;
 use program::{finish, print_no_memory, print_read_fault};
 use std::alloc::{AllocError, Global};
+use std::io;
 use std::io::{BufWriter, Read, Write};
 
 /// The maximum number of bytes of one read.
@@ -29,7 +31,8 @@ pub(crate) enum Stop {
     Writer,
 }
 
-/// Reads lines up to the end of `reader`, writes the output for each and flushes it. Returns the exit status:
+/// Reads lines up to the end of `reader`, writes the output for each and flushes it. Whenever it reads, the output for all
+/// lines that it has read is written, and nothing is left in the buffer of `writer`. Returns the exit status:
 ///
 /// - 0 if no line has an error: all lists and messages decode, and all lists after `check` are canonical;
 /// - 1 if a line has an error;
@@ -63,25 +66,29 @@ pub fn run<R: Read, W: Write + Drop>(
 }
 
 /// Processes all lines of `reader`; the last one may lack its LF. Returns whether no line has an error.
-fn show_all<R: Read, W: Write>(
+fn show_all<R: Read, W: Write + Drop>(
     alloc: Global,
     options: Options,
     reader: &mut R,
-    writer: &mut W,
+    writer: &mut BufWriter<W>,
 ) -> Result<bool, Stop>
     ensures shown { IfOk result (Runs options (R.remaining reader.old) (R.remaining reader.new)
-        (W.contents writer.old) (W.contents writer.new)) }
-    ensures memory { OnMemory result (Grows (W.contents writer.old) (W.contents writer.new)) }
+        (writer_contents W.contents writer.old) (writer_contents W.contents writer.new)) }
+    ensures memory { OnMemory result
+        (Grows (writer_contents W.contents writer.old) (writer_contents W.contents writer.new)) }
 {
     let mut buffer = match vec![in alloc; 0u8; CHUNK] {
         Ok(buffer) => buffer,
         Err(_) => return Err(Stop::Memory),
     };
+    if writer.flush().is_err() {
+        return Err(Stop::Writer);
+    }
     let chunk = buffer.as_mut_slice();
     let mut held = Held::new(alloc);
     let mut whole = true;
     for _ in 0..u64::MAX {
-        let count = match reader.read(chunk) {
+        let count = match read_more(reader, chunk, writer) {
             Ok(0) => return end_text(alloc, options, &held, whole, writer),
             Ok(count) => count,
             Err(_) => return Err(Stop::Reader),
@@ -95,18 +102,34 @@ fn show_all<R: Read, W: Write>(
     Err(Stop::Reader)
 }
 
-/// Processes the lines that end in `chunk`, and keeps what follows its last LF. Returns whether none of these lines has
-/// an error.
-fn feed<W: Write>(
+/// Reads into `chunk`. The output has to be flushed first: a program at the other end of two pipes may write its next
+/// line only after the output for the last one.
+fn read_more<R: Read, W: Write + Drop>(
+    reader: &mut R,
+    chunk: &mut [u8],
+    writer: &BufWriter<W>,
+) -> io::Result<usize>
+    requires { writer_buffer writer.now ≡ [] }
+    ensures bound { ReadsAtMost result chunk.new }
+    ensures bytes { ReadConsumes (R.remaining reader.old) (R.remaining reader.new) result chunk.new }
+{
+    reader.read(chunk)
+}
+
+/// Processes the lines that end in `chunk`, flushes the output, and keeps what follows the last LF. Returns whether none
+/// of these lines has an error.
+fn feed<W: Write + Drop>(
     alloc: Global,
     options: Options,
     held: &mut Held,
     chunk: &[u8],
-    writer: &mut W,
+    writer: &mut BufWriter<W>,
 ) -> Result<bool, Stop>
     ensures shown { IfOk result (WritesPiece options held.old held.new chunk.now
-        (W.contents writer.old) (W.contents writer.new)) }
-    ensures memory { OnMemory result (Grows (W.contents writer.old) (W.contents writer.new)) }
+        (writer_contents W.contents writer.old) (writer_contents W.contents writer.new)) }
+    ensures flushed { IfOk result (λ _. writer_buffer writer.new ≡ []) }
+    ensures memory { OnMemory result
+        (Grows (writer_contents W.contents writer.old) (writer_contents W.contents writer.new)) }
 {
     let mut whole = true;
     let mut rest = chunk;

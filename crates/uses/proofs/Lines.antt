@@ -1,10 +1,9 @@
 -- Lines, printed one after another.
-use Rattle.std.proofs.Common.{◌≡◌, ℕ, ◌+◌, ◌<◌, List, [], ◌∷◌, ◌++◌, length, map, Option, None, Some, refl, sym, ap, subst, ◌∙◌, arith, append_assoc, length-append}
-use Rattle.std.specs.Prelude.{Contains, IsSome}
+use Rattle.std.proofs.Common.{◌≡◌, ℕ, ◌<◌, List, [], ◌∷◌, ◌++◌, length, map, Option, None, Some, refl, sym, ap, subst, ◌∙◌, arith, append_assoc, length-append}
+use Rattle.std.specs.Prelude.{◌==◌, not, filter, IfSome, IsSome}
 use Rattle.std.specs.List.{flat_map}
 use Rattle.std.specs.Io.KnownBytes.{Appends}
 use Rattle.std.proofs.lemmas.List.{append-nil, length-map}
-use Rattle.std.proofs.lemmas.List.Elements.{All-nil, All-push}
 use Rattle.std.proofs.lemmas.Grind.{flat_map-append}
 use Rattle.netlink_packet_route.specs.Report.{line}
 use Rattle.netlink_packet_route.specs.Table.{Table, AttrValue, Gives}
@@ -12,7 +11,7 @@ use Rattle.netlink_packet_route.specs.Frame.{spelled}
 use Rattle.netlink_packet_route.specs.Wire.{FirstFault}
 use Rattle.netlink_packet_route.proofs.Rewritten.{no_more_values}
 use Rattle.netlink_packet_route.specs.declared.link.DecodeFault.{DecodeFault}
-use Rattle.uses.specs.Printing.{IsFront, last_line, PrintsList, PrintsLines}
+use Rattle.uses.specs.Printing.{AreTextsOf, IsFront, IsTextOf, last_line, PrintsList, PrintsLines}
 
 pub none_written : (a : Option (List ℕ)) → Appends a a []
 none_written None = tt
@@ -25,34 +24,45 @@ appends_both (Some s) None c x y h k = absurd h
 appends_both (Some s) (Some t) None x y h k = absurd k
 appends_both (Some s) (Some t) (Some u) x y h k = k ∙ ap (λ l. l ++ y) h ∙ append_assoc s x y
 
-pub no_line : (a : Option (List ℕ)) → PrintsLines 0 a a
-no_line a = ([], refl, All-nil (λ text. ¬ Contains text 10), none_written a)
+pub no_line : {X : Type 0} (debug : X → Option (List ℕ)) (a : Option (List ℕ)) → PrintsLines debug [] a a
+no_line debug a = ([], tt, none_written a)
 
-pub one_more : (n : ℕ) (a b c : Option (List ℕ)) (words : List ℕ) → PrintsLines n a b → ¬ Contains words 10 → Appends b c (line words) → PrintsLines (n + 1) a c
-one_more n a b c words h unbroken w =
+texts_more : {X : Type 0} (debug : X → Option (List ℕ)) (vs : List X) (words : List (List ℕ)) (v : X) (text : List ℕ) → AreTextsOf debug vs words → IsTextOf (debug v) text
+    → AreTextsOf debug (vs ++ v ∷ []) (words ++ text ∷ [])
+texts_more debug [] [] v text h is = (is, tt)
+texts_more debug [] (w ∷ words) v text h is = absurd h
+texts_more debug (x ∷ vs) [] v text h is = absurd h
+texts_more debug (x ∷ vs) (w ∷ words) v text h is = (h.0, texts_more debug vs words v text h.1 is)
+
+pub one_more : {X : Type 0} (debug : X → Option (List ℕ)) (vs : List X) (v : X) (a b c : Option (List ℕ)) (words : List ℕ) → PrintsLines debug vs a b → IsTextOf (debug v) words → Appends b c (line words)
+    → PrintsLines debug (vs ++ v ∷ []) a c
+one_more debug vs v a b c words h is w =
     let text : flat_map line h.0 ++ line words ≡ flat_map line (h.0 ++ words ∷ []) =
     sym (flat_map-append line h.0 (words ∷ []) ∙ ap (λ l. flat_map line h.0 ++ l) (append-nil (line words))) in (
       h.0 ++ words ∷ [],
-      omega (arith, length-append h.0 (words ∷ []), h.1),
-      All-push (λ text. ¬ Contains text 10) h.0 words h.2 unbroken,
-      subst (Appends a c) text (appends_both a b c (flat_map line h.0) (line words) h.3 w),
+      texts_more debug vs h.0 v words h.1 is,
+      subst (Appends a c) text (appends_both a b c (flat_map line h.0) (line words) h.2 w),
     )
 
+-- the text of a value, of what was written for it
+pub text_of : (written : Option (List ℕ)) (all text : List ℕ) → IfSome written (λ w. all ≡ w) → text ≡ filter (λ b. not (b == 10)) all → IfSome written (λ w. text ≡ filter (λ b. not (b == 10)) w)
+text_of None all text h k = tt
+text_of (Some w) all text h k = k ∙ ap (filter (λ b. not (b == 10))) h
+
 -- the values, and then the fault
-pub printed : {X : Type 0} (table : Table) (s : List ℕ) (means : X → AttrValue) (vs shown : List X) (fault : Option (ℕ × DecodeFault)) (a b c : Option (List ℕ)) → IsFront table s (map means vs) fault → shown ≡ vs
-    → PrintsLines (length shown) a b → Appends b c (last_line fault) → PrintsList table s a c
-printed table s means vs shown fault a b c front same h w = (
+pub printed : {X : Type 0} (table : Table) (s : List ℕ) (means : X → AttrValue) (debug : X → Option (List ℕ)) (vs shown : List X) (fault : Option (ℕ × DecodeFault)) (a b c : Option (List ℕ))
+    → IsFront table s (map means vs) fault → shown ≡ vs → PrintsLines debug shown a b → Appends b c (last_line fault) → PrintsList table means debug s a c
+printed table s means debug vs shown fault a b c front same h w = (
   flat_map line h.0 ++ last_line fault,
   record {
-    values = map means vs;
+    values = vs;
     fault = fault;
     front = front;
     words = h.0;
-    each = h.1 ∙ ap length same ∙ sym (length-map vs means);
-    unbroken = h.2;
+    each = subst (λ xs. AreTextsOf debug xs h.0) same h.1;
     text = refl;
   },
-  appends_both a b c (flat_map line h.0) (last_line fault) h.3 w,
+  appends_both a b c (flat_map line h.0) (last_line fault) h.2 w,
 )
 
 -- ---- a list with an error or a value is not empty

@@ -1,9 +1,9 @@
 //! Prints a list.
 
-ghost use Rattle.std.specs.Prelude.{◌<◌, length, Contains, IfOk, IsSome, OnErr, OnOk};
+ghost use Rattle.std.specs.Prelude.{◌<◌, length, IfOk, IsSome, OnErr, OnOk};
 ghost use Rattle.std.specs.Io.KnownBytes.{Appends};
 ghost use Rattle.netlink_packet_route.specs.Report.{line};
-ghost use Rattle.uses.specs.Printing.{last_line, PrintsLines, PrintsList};
+ghost use Rattle.uses.specs.Printing.{last_line, IsTextOf, PrintsLines, PrintsList};
 
 use crate::faults::read_front;
 use netlink_packet_route::link::{Attribute, DecodeFault};
@@ -12,8 +12,8 @@ use std::fmt::Debug;
 use std::io;
 use std::io::Write;
 
-/// Prints each value of a list on a line of its own, up to the first decode error. The last line then reports that
-/// error and its offset.
+/// Prints each value of a list on a line of its own, as `{:?}` does but without newlines, up to the first decode error.
+/// The last line then reports that error and its offset.
 ///
 /// # Errors
 ///
@@ -23,7 +23,8 @@ pub fn print_list<F: Attribute + Debug, W: Write>(
     bytes: &[u8],
     writer: &mut W,
 ) -> io::Result<()>
-    ensures printed { OnOk result (PrintsList F.table bytes.now (W.contents writer.old) (W.contents writer.new)) }
+    ensures printed { OnOk result (PrintsList F.table F.means F.debug_output bytes.now
+        (W.contents writer.old) (W.contents writer.new)) }
     ensures error { OnErr result (0 < length bytes.now) }
 {
     let (values, fault) = read_front::<F>(alloc, bytes)?;
@@ -33,7 +34,7 @@ pub fn print_list<F: Attribute + Debug, W: Write>(
 
 /// Prints a line for each value.
 fn print_values<F: Debug, W: Write>(alloc: Global, values: &[F], writer: &mut W) -> io::Result<()>
-    ensures printed { OnOk result (PrintsLines (length values.now) (W.contents writer.old) (W.contents writer.new)) }
+    ensures printed { OnOk result (PrintsLines F.debug_output values.now (W.contents writer.old) (W.contents writer.new)) }
     ensures error { OnErr result (0 < length values.now) }
 {
     for value in values {
@@ -45,7 +46,7 @@ fn print_values<F: Debug, W: Write>(alloc: Global, values: &[F], writer: &mut W)
 
 /// Formats a value as `{:?}` does, without newlines.
 fn words_of<F: Debug>(alloc: Global, value: &F) -> Result<Vec<u8>, AllocError>
-    ensures { IfOk result (λ words. ¬ Contains words.items 10) }
+    ensures { IfOk result (λ words. IsTextOf (F.debug_output value.now) words.items) }
 {
     let mut words = format!(in alloc; "{value:?}")?.into_bytes();
     words.retain(|byte| *byte != b'\n');

@@ -26,6 +26,7 @@ fn laws_of_tables() {
     laws::fault_equality();
     laws::error_equality();
     laws::frame_equality();
+    laws::label_equality();
 }
 
 #[test]

@@ -372,6 +372,24 @@ fn yields(rt: &impl Abort, alloc: Global, row: (Family, &str), wanted: &[Result<
     holds(rt, is_end, digits);
 }
 
+/// A clone has the same attributes left. The bounds of `size_hint` follow from the number of bytes.
+#[test]
+fn clones(rt: HostRuntime) {
+    let digits = "08000200 03000000 08000300 64000000";
+    let list = bytes(&rt, rt.alloc(), digits);
+    let mut view = views::view_list::<InfoBond>(&list).expect(&rt, digits);
+    holds(&rt, view.size_hint() == (1, Some(4)), digits);
+    let first = view.next().expect(&rt, digits);
+    let same = first.clone().expect(&rt, digits);
+    holds(&rt, same.as_u32() == Some(3), digits);
+    let rest = view.clone().expect(&rt, digits);
+    holds(&rt, rest.size_hint() == (1, Some(2)), digits);
+    holds(&rt, rest.len() == 1 && rest.bytes() == view.bytes(), digits);
+    let mut all = view_all(Family::Bond, &list);
+    holds(&rt, all.next().is_some(), digits);
+    holds(&rt, all.size_hint() == (1, Some(2)), digits);
+}
+
 #[test]
 fn malformed(rt: HostRuntime) {
     let alloc = rt.alloc();

@@ -1,6 +1,7 @@
 //! Tests with readers and writers that count calls, transfer few bytes at a time, or fail.
 
 use crate::running::run;
+use program::{Watched, print_write_fault};
 use std::alloc::Global;
 use std::io;
 use std::io::{BufWriter, Read, Write};
@@ -85,6 +86,8 @@ impl Write for Narrow {
     }
 }
 
+const USAGE: &[u8] = b"usage: nlroute FAMILY | --help | --version\n";
+
 /// Accepts every byte, and fails at each flush.
 #[derive(Drop)]
 struct Stuck {
@@ -101,6 +104,20 @@ impl Write for Stuck {
     }
 }
 
+/// Runs the program, and asserts that it writes nothing to `errors`.
+pub(crate) fn ran<R: Read, W: Write + Drop>(
+    rt: &impl Abort,
+    alloc: Global,
+    argument: &str,
+    reader: &mut R,
+    written: &mut BufWriter<W>,
+) -> u8 {
+    let mut errors = Vec::new(alloc);
+    let status = run(alloc, Some(argument), reader, written, &mut errors);
+    assert!(rt; errors.is_empty());
+    status
+}
+
 /// Puts a buffer before `writer`.
 pub(crate) fn buffered<W: Write + Drop>(rt: &impl Abort, alloc: Global, writer: W) -> BufWriter<W> {
     BufWriter::new(alloc, writer).expect(rt, "a buffer")
@@ -109,10 +126,8 @@ pub(crate) fn buffered<W: Write + Drop>(rt: &impl Abort, alloc: Global, writer: 
 #[test]
 fn slices_and_trickles(rt: HostRuntime) -> Result<(), Fail> {
     let mut written = buffered(&rt, rt.alloc(), Vec::new(rt.alloc()));
-    assert_eq!(rt;
-        run(rt.alloc(), Some("dsa"), &mut &TEXT[..], &mut written),
-        0
-    );
+    let status = ran(&rt, rt.alloc(), "dsa", &mut &TEXT[..], &mut written);
+    assert_eq!(rt; status, 0);
     assert_eq!(rt; written.get_ref().as_slice(), LINES);
 
     let mut reader = Trickle {
@@ -122,7 +137,8 @@ fn slices_and_trickles(rt: HostRuntime) -> Result<(), Fail> {
         reads: 0,
     };
     let mut written = buffered(&rt, rt.alloc(), Vec::new(rt.alloc()));
-    assert_eq!(rt; run(rt.alloc(), Some("dsa"), &mut reader, &mut written), 0);
+    let status = ran(&rt, rt.alloc(), "dsa", &mut reader, &mut written);
+    assert_eq!(rt; status, 0);
     assert_eq!(rt; written.get_ref().as_slice(), LINES);
     assert_eq!(rt; reader.reads, TEXT.len() + 1);
     Ok(())
@@ -130,7 +146,7 @@ fn slices_and_trickles(rt: HostRuntime) -> Result<(), Fail> {
 
 #[test]
 fn names_that_are_no_family(rt: HostRuntime) -> Result<(), Fail> {
-    for name in [None, Some("tap"), Some("DSA"), Some("")] {
+    for name in [None, Some("tap"), Some("DSA"), Some(""), Some("--help=1")] {
         let mut reader = Trickle {
             rest: TEXT,
             most: 1,
@@ -138,14 +154,33 @@ fn names_that_are_no_family(rt: HostRuntime) -> Result<(), Fail> {
             reads: 0,
         };
         let mut written = buffered(&rt, rt.alloc(), Vec::new(rt.alloc()));
-        assert_eq!(rt; run(rt.alloc(), name, &mut reader, &mut written), 2);
-        assert_eq!(rt;
-            written.get_ref().as_slice(),
-            b"usage: nlroute FAMILY\n".as_slice()
-        );
-        assert_eq!(rt; reader.reads, 0);
+        let mut errors = Vec::new(rt.alloc());
+        let status = run(rt.alloc(), name, &mut reader, &mut written, &mut errors);
+        assert!(rt; status == 2 && reader.reads == 0 && written.get_ref().is_empty());
+        assert_eq!(rt; errors.as_slice(), USAGE);
     }
     Ok(())
+}
+
+#[test]
+fn help_and_version(rt: HostRuntime) {
+    for (words, front) in [
+        (["--help", "-h"], USAGE),
+        (["--version", "-V"], b"nlroute 0.3.0\n".as_slice()),
+    ] {
+        for word in words {
+            let mut reader = Trickle {
+                rest: TEXT,
+                most: 1,
+                is_broken: true,
+                reads: 0,
+            };
+            let mut written = buffered(&rt, rt.alloc(), Vec::new(rt.alloc()));
+            let status = ran(&rt, rt.alloc(), word, &mut reader, &mut written);
+            assert!(rt; status == 0 && reader.reads == 0);
+            assert!(rt; written.get_ref().starts_with(front));
+        }
+    }
 }
 
 #[test]
@@ -159,7 +194,8 @@ fn readers_that_fail(rt: HostRuntime) -> Result<(), Fail> {
             reads: 0,
         };
         let mut written = buffered(&rt, rt.alloc(), Vec::new(rt.alloc()));
-        assert_eq!(rt; run(rt.alloc(), Some("dsa"), &mut reader, &mut written), 5);
+        let status = ran(&rt, rt.alloc(), "dsa", &mut reader, &mut written);
+        assert_eq!(rt; status, 5);
         assert_eq!(rt; written.get_ref().as_slice(), b"read fault\n".as_slice());
         assert_eq!(rt; reader.reads, given + 1);
     }
@@ -188,7 +224,7 @@ fn readers_that_give_little(rt: HostRuntime) -> Result<(), Fail> {
             reads: 0,
         };
         let mut written = buffered(&rt, rt.alloc(), Vec::new(rt.alloc()));
-        let status = run(rt.alloc(), Some("dsa"), &mut reader, &mut written);
+        let status = ran(&rt, rt.alloc(), "dsa", &mut reader, &mut written);
         assert!(rt; status == 0 && *written.get_ref() == wanted && reader.reads == reads);
     }
     Ok(())
@@ -198,7 +234,8 @@ fn readers_that_give_little(rt: HostRuntime) -> Result<(), Fail> {
 fn a_reader_without_end(rt: HostRuntime) -> Result<(), Fail> {
     let mut reader = Spaces { reads: 0 };
     let mut written = buffered(&rt, rt.alloc(), Vec::new(rt.alloc()));
-    assert_eq!(rt; run(rt.alloc(), Some("dsa"), &mut reader, &mut written), 2);
+    let status = ran(&rt, rt.alloc(), "dsa", &mut reader, &mut written);
+    assert_eq!(rt; status, 2);
     assert_eq!(rt;
         written.get_ref().as_slice(),
         b"input too long\n".as_slice()
@@ -207,49 +244,77 @@ fn a_reader_without_end(rt: HostRuntime) -> Result<(), Fail> {
     Ok(())
 }
 
-/// Asserts what a writer receives that accepts `most` bytes per call and `room` bytes in total, for every `room` up to
-/// the length of the output: all of the output, with its status, if there is room, and otherwise the first `room`
-/// bytes. No write follows a failure.
-fn is_taken(rt: &impl Abort, alloc: Global, name: Option<&str>, most: usize, whole: (&[u8], u8)) {
-    let (lines, status) = whole;
-    for room in 0..lines.len() + 1 {
-        let narrow = Narrow {
-            taken: Vec::new(alloc),
-            most,
-            room,
-            is_mute: most == 7,
-            failures: 0,
-        };
-        let mut writer = buffered(rt, alloc, narrow);
-        let answer = run(alloc, name, &mut &TEXT[..], &mut writer);
-        let narrow = writer.get_ref();
-        let (wanted, failures) = if room < lines.len() {
-            (5, 1)
+/// Asserts what a writer receives that accepts `most` bytes per call and `space` bytes in total, for every `space` up to
+/// the length of the output: all of the output, with status 0, if there is space, and otherwise the first `space` bytes.
+/// No write follows a failure, which is then reported.
+fn is_taken(rt: &impl Abort, alloc: Global, word: &str, most: usize, lines: &[u8]) {
+    for space in 0..lines.len() + 1 {
+        let narrow = narrow_writer(alloc, most, space);
+        let mut writer = buffered(rt, alloc, Watched::new(narrow));
+        let answer = ran(rt, alloc, word, &mut &TEXT[..], &mut writer);
+        let has_failed = space < lines.len();
+        assert_eq!(rt; answer, if has_failed { 5 } else { 0 });
+        let mut errors = Vec::new(alloc);
+        assert!(rt; print_write_fault(&writer, &mut errors).is_ok());
+        let said = if has_failed {
+            b"write fault\n".as_slice()
         } else {
-            (status, 0)
+            b"".as_slice()
         };
-        assert!(rt; answer == wanted && narrow.failures == failures);
-        assert!(rt; narrow.taken.len() == room && lines.starts_with(&narrow.taken));
+        assert_eq!(rt; errors.as_slice(), said);
+        receives(rt, writer.get_ref().get_ref(), space, lines);
     }
+}
+
+/// A writer that accepts `most` bytes per call and `space` bytes in total.
+fn narrow_writer(alloc: Global, most: usize, space: usize) -> Narrow {
+    Narrow {
+        taken: Vec::new(alloc),
+        most,
+        room: space,
+        is_mute: most == 7,
+        failures: 0,
+    }
+}
+
+/// Asserts that a writer with this space has received as much of the lines, and that no write followed a failure.
+fn receives(rt: &impl Abort, narrow: &Narrow, space: usize, lines: &[u8]) {
+    let failures = if space < lines.len() { 1 } else { 0 };
+    assert!(rt; narrow.failures == failures);
+    assert!(rt; narrow.taken.len() == space && lines.starts_with(&narrow.taken));
 }
 
 #[test]
 fn writers_that_fail(rt: HostRuntime) {
-    let usage = b"usage: nlroute FAMILY\n".as_slice();
+    let alloc = rt.alloc();
     for most in [1, 7, 4096] {
-        is_taken(&rt, rt.alloc(), Some("dsa"), most, (LINES, 0));
-        is_taken(&rt, rt.alloc(), Some("tap"), most, (usage, 2));
-        is_taken(&rt, rt.alloc(), None, most, (usage, 2));
+        is_taken(&rt, alloc, "dsa", most, LINES);
+        is_taken(&rt, alloc, "--version", most, b"nlroute 0.3.0\n");
+        for space in 0..USAGE.len() + 1 {
+            let mut written = buffered(&rt, alloc, Vec::new(alloc));
+            let mut errors = narrow_writer(alloc, most, space);
+            let answer = run(
+                alloc,
+                Some("tap"),
+                &mut &TEXT[..],
+                &mut written,
+                &mut errors,
+            );
+            assert_eq!(&rt; answer, if space < USAGE.len() { 5 } else { 2 });
+            assert!(&rt; written.get_ref().is_empty());
+            receives(&rt, &errors, space, USAGE);
+        }
     }
 }
 
 #[test]
 fn a_writer_that_cannot_flush(rt: HostRuntime) {
-    let usage = b"usage: nlroute FAMILY\n".as_slice();
-    for (name, lines) in [(Some("dsa"), LINES), (Some("tap"), usage), (None, usage)] {
+    for (word, lines) in [("dsa", LINES), ("--version", b"nlroute 0.3.0\n".as_slice())] {
         let taken = Vec::new(rt.alloc());
-        let mut writer = buffered(&rt, rt.alloc(), Stuck { taken });
-        assert_eq!(rt; run(rt.alloc(), name, &mut &TEXT[..], &mut writer), 5);
-        assert_eq!(rt; writer.get_ref().taken.as_slice(), lines);
+        let mut writer = buffered(&rt, rt.alloc(), Watched::new(Stuck { taken }));
+        let status = ran(&rt, rt.alloc(), word, &mut &TEXT[..], &mut writer);
+        assert_eq!(&rt; status, 5);
+        assert!(&rt; writer.get_ref().has_failed());
+        assert_eq!(&rt; writer.get_ref().get_ref().taken.as_slice(), lines);
     }
 }

@@ -1,7 +1,6 @@
 //! Runs the program with the name of each `Family`.
 
-use super::devices::buffered;
-use crate::running::run;
+use super::devices::{buffered, ran};
 
 #[test]
 fn each_family_by_its_name(rt: HostRuntime) {
@@ -59,7 +58,7 @@ fn each_family_by_its_name(rt: HostRuntime) {
         ),
     ] {
         let mut written = buffered(&rt, rt.alloc(), Vec::new(rt.alloc()));
-        let status = run(rt.alloc(), Some(name), &mut text.as_bytes(), &mut written);
+        let status = ran(&rt, rt.alloc(), name, &mut text.as_bytes(), &mut written);
         assert_eq!(rt; status, 0, "for {name}");
         assert_eq!(rt;
             written.get_ref().as_slice(),
@@ -73,7 +72,7 @@ fn each_family_by_its_name(rt: HostRuntime) {
 fn a_fault_by_its_status(rt: HostRuntime) {
     let mut written = buffered(&rt, rt.alloc(), Vec::new(rt.alloc()));
     let mut text = b"05 00 01 00 2a 00 00 00".as_slice();
-    let status = run(rt.alloc(), Some("hsr"), &mut text, &mut written);
+    let status = ran(&rt, rt.alloc(), "hsr", &mut text, &mut written);
     assert_eq!(rt; status, 1);
     assert_eq!(rt;
         written.get_ref().as_slice(),

@@ -24,9 +24,9 @@ fn options(rt: HostRuntime) {
         ("nlshow --format debug", Format::Debug, false),
         ("nlshow --format=plain", Format::Plain, false),
         ("nlshow --format=debug", Format::Debug, false),
-        ("nlshow --check --format debug", Format::Debug, true),
-        ("nlshow --format debug --check", Format::Debug, true),
-        ("nlshow --format=debug --check --", Format::Debug, true),
+        ("nlshow --check --format plain", Format::Plain, true),
+        ("nlshow --format=debug --", Format::Debug, false),
+        ("nlshow --format=plain --check --", Format::Plain, true),
         ("/usr/bin/nlshow --check", Format::Plain, true),
     ] {
         let wanted = Options { format, check };
@@ -80,6 +80,14 @@ fn errors(rt: HostRuntime) {
         (
             "nlshow --format --help",
             "a value is required for '--format <FORMAT>' but none was supplied",
+        ),
+        (
+            "nlshow --check --format debug",
+            "the argument '--format debug' cannot be used with '--check'",
+        ),
+        (
+            "nlshow --format=debug --check --",
+            "the argument '--format debug' cannot be used with '--check'",
         ),
     ] {
         let alloc = rt.alloc();

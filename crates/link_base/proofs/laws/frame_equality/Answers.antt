@@ -1,24 +1,14 @@
-use Rattle.std.proofs.Common.{rules, ◌≡◌, ◌==◌, ◌&&◌, ℕ, Bool, true, false, Option, Some, None, refl, sym, ap, ap₂, true≢false}
+use Rattle.std.proofs.Common.{rules, ◌≡◌, ◌==◌, ◌&&◌, ℕ, Bool, ap, ap₂}
 use Rattle.std.specs.Bool.{Decides}
-use Rattle.std.specs.Option.{option_eq}
 use Rattle.std.specs.Cmp.{unsigned_Decides}
 use Rattle.std.specs.Cmp.Lexicographic.{pointwise_decides}
 use Rattle.link_base.specs.declared.fault.Cause.{Cause}
 use Rattle.link_base.specs.contracts.fault.CausePartialEq.TheImpl.{ghosts}
+use Rattle.link_base.proofs.EqualityLemmas.{two, same}
 use Rattle.link_base.proofs.laws.frame_equality.Goals as goal
 
 causes : (c d : Cause) → Decides (ghosts.eq c d) (c ≡ d)
 causes c d = search rules
-
-two : {P Q : Type 0} (r s : Bool) → Decides r P → Decides s Q → Decides (r && s) (P × Q)
-two true s d e = (λ h. (d.0 refl, e.0 h), λ h. e.1 h.1)
-two false s d e = (λ h. absurd (true≢false (sym h)), λ h. d.1 h.0)
-
-options : {T : Type 0} {E : T → T → Bool} → ((x y : T) → Decides (E x y) (x ≡ y)) → (x y : Option T) → Decides (option_eq E x y) (x ≡ y)
-options d None None = (λ _. refl, λ _. refl)
-options d None (Some y) = (λ h. absurd (true≢false (sym h)), λ h. search rules)
-options d (Some x) None = (λ h. absurd (true≢false (sym h)), λ h. search rules)
-options d (Some x) (Some y) = (λ h. ap Some ((d x y).0 h), λ h. (d x y).1 (search rules))
 
 faults : (x y : ℕ × Cause) → Decides (x.0 == y.0 && ghosts.eq x.1 y.1) (x ≡ y)
 faults x y = let d = two (x.0 == y.0) (ghosts.eq x.1 y.1) (unsigned_Decides x.0 y.0) (causes x.1 y.1) in
@@ -30,4 +20,4 @@ three r s t d e f = let h = two r (s && t) d (two s t e f) in
 
 pub returns-clause-table : goal.returns-clause-table
 returns-clause-table c = λ a b. three _ _ _ (pointwise_decides unsigned_Decides a.bytes.now b.bytes.now)
-    (pointwise_decides unsigned_Decides a.offsets.items b.offsets.items) (options faults a.fault b.fault)
+    (pointwise_decides unsigned_Decides a.offsets.items b.offsets.items) (same faults a.fault b.fault)

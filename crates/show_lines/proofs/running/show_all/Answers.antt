@@ -1,43 +1,49 @@
-use Rattle.std.proofs.Common.{◌<◌, Bool, length, arith, Err}
+use Rattle.std.proofs.Common.{◌<◌, Bool, length, arith, Err, sym, ◌∙◌}
+use Rattle.std.specs.Io.Buffered.{writer_contents}
 use Rattle.show_lines.specs.Progress.{Grows, WritesRest}
 use Rattle.show_lines.specs.Run.{Runs}
 use Rattle.link_show.proofs.MessageLines.{if_ok}
-use Rattle.show_lines.proofs.Steps.{went_none, went_on, went_all, went_grows, went_keeps, read_end, on_memory}
+use Rattle.show_lines.proofs.Steps.{went_none, went_on, went_all, went_grows, went_keeps, read_end, on_memory, not_failed}
 use Rattle.std.specs.Io.KnownBytes.{Keeps}
 use Rattle.show_lines.proofs.running.show_all.Goals as goal
 
 pub loop-init : goal.loop-init
-loop-init g c = went_none c.new-held.result (g.R.Read.remaining c.args.reader.now) (g.W.Write.contents c.args.writer.now) c.new-held.ensures
+loop-init g c =
+    let contents = writer_contents g.W.Write.contents in
+    (went_none c.new-held.result (g.R.Read.remaining c.args.reader.now) (contents c.args.writer.now) (contents c.flush.new.self) c.new-held.ensures c.flush.ensures.bytes, not_failed c.flush.result (sym c.is_err.ensures.value ∙ c.if-is_err.false) c.flush.ensures.ok)
 
 pub loop-preserved : goal.loop-preserved
 loop-preserved g c =
-    went_on c.loop.held c.feed.new.held c.split_at.result.0.now (g.R.Read.remaining c.args.reader.now) (g.R.Read.remaining c.loop.reader) (g.R.Read.remaining c.read.new.self) (g.W.Write.contents c.args.writer.now)
-    (g.W.Write.contents c.loop.writer) (g.W.Write.contents c.feed.new.writer) c.loop.whole c.in-Ok-feed.read c.loop.invariant (rw c.split_at.ensures.front c.in-Ok-read.ensures.bytes.0) c.in-Ok-feed.ensures.shown
+    let contents = writer_contents g.W.Write.contents in (
+      went_on c.loop.held c.feed.new.held c.split_at.result.0.now (g.R.Read.remaining c.args.reader.now) (g.R.Read.remaining c.loop.reader) (g.R.Read.remaining c.read_more.new.reader) (contents c.args.writer.now) (contents c.loop.writer)
+          (contents c.feed.new.writer) c.loop.whole c.in-Ok-feed.read c.loop.invariant.0 (rw c.split_at.ensures.front c.in-Ok-read_more.ensures.bytes.0) c.in-Ok-feed.ensures.shown,
+      c.in-Ok-feed.ensures.flushed,
+    )
 
 pub returns-in-Err-feed-clause-memory : goal.returns-in-Err-feed-clause-memory
 returns-in-Err-feed-clause-memory g c =
-    let w = g.W.Write.contents c.args.writer.now in
-    let v = g.W.Write.contents c.loop.writer in
-    let u = g.W.Write.contents c.feed.new.writer in
+    let w = writer_contents g.W.Write.contents c.args.writer.now in
+    let v = writer_contents g.W.Write.contents c.loop.writer in
+    let u = writer_contents g.W.Write.contents c.feed.new.writer in
     on_memory {X = Bool} (Grows v u) (Grows w u) (Err c.in-Err-feed.stop)
-    (λ h. went_grows c.loop.held (g.R.Read.remaining c.args.reader.now) (g.R.Read.remaining c.loop.reader) w v u c.loop.whole c.loop.invariant h) c.in-Err-feed.ensures.memory
+    (λ h. went_grows c.loop.held (g.R.Read.remaining c.args.reader.now) (g.R.Read.remaining c.loop.reader) w v u c.loop.whole c.loop.invariant.0 h) c.in-Err-feed.ensures.memory
 
 pub returns-in-Ok-eq0-clause-shown : goal.returns-in-Ok-eq0-clause-shown
 returns-in-Ok-eq0-clause-shown g c =
     let r = g.R.Read.remaining c.args.reader.now in
     let s = g.R.Read.remaining c.loop.reader in
-    let t = g.R.Read.remaining c.read.new.self in
-    let w = g.W.Write.contents c.args.writer.now in
-    let v = g.W.Write.contents c.loop.writer in
-    let u = g.W.Write.contents c.end_text.new.writer in
-    let some : 0 < length c.read.new.buf = omega (arith, c.read.auto.buf, c.loop.auto.chunk, c.as_mut_slice-chunk.ensures.len, c.in-Ok.ensures.len) in
-    let end = read_end s t c.in-Ok-eq0.field-0 c.read.new.buf c.in-Ok-eq0.field-0-test c.in-Ok-eq0.ensures.bytes some in
-    if_ok (WritesRest c.args.options c.loop.held c.loop.whole v u) (Runs c.args.options r t w u) c.end_text.result (λ all h. went_all c.loop.held r s t w v u c.loop.whole all c.loop.invariant end.0 end.1 h) c.end_text.ensures.shown
+    let t = g.R.Read.remaining c.read_more.new.reader in
+    let w = writer_contents g.W.Write.contents c.args.writer.now in
+    let v = writer_contents g.W.Write.contents c.loop.writer in
+    let u = writer_contents g.W.Write.contents c.end_text.new.writer in
+    let some : 0 < length c.read_more.new.chunk = omega (arith, c.read_more.auto.chunk, c.loop.auto.chunk, c.as_mut_slice-chunk.ensures.len, c.in-Ok.ensures.len) in
+    let end = read_end s t c.in-Ok-eq0.field-0 c.read_more.new.chunk c.in-Ok-eq0.field-0-test c.in-Ok-eq0.ensures.bytes some in
+    if_ok (WritesRest c.args.options c.loop.held c.loop.whole v u) (Runs c.args.options r t w u) c.end_text.result (λ all h. went_all c.loop.held r s t w v u c.loop.whole all c.loop.invariant.0 end.0 end.1 h) c.end_text.ensures.shown
 
 pub returns-in-Ok-eq0-clause-memory : goal.returns-in-Ok-eq0-clause-memory
 returns-in-Ok-eq0-clause-memory g c =
-    let w = g.W.Write.contents c.args.writer.now in
-    let v = g.W.Write.contents c.loop.writer in
-    let u = g.W.Write.contents c.end_text.new.writer in
+    let w = writer_contents g.W.Write.contents c.args.writer.now in
+    let v = writer_contents g.W.Write.contents c.loop.writer in
+    let u = writer_contents g.W.Write.contents c.end_text.new.writer in
     on_memory (Keeps v u) (Grows w u) c.end_text.result
-    (λ h. went_keeps c.loop.held (g.R.Read.remaining c.args.reader.now) (g.R.Read.remaining c.loop.reader) w v u c.loop.whole c.loop.invariant h) c.end_text.ensures.memory
+    (λ h. went_keeps c.loop.held (g.R.Read.remaining c.args.reader.now) (g.R.Read.remaining c.loop.reader) w v u c.loop.whole c.loop.invariant.0 h) c.end_text.ensures.memory
