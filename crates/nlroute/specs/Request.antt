@@ -15,7 +15,7 @@ IsVersion argument = (argument ≡ Some (codes "--version")) ⊎ (argument ≡ S
 abbrev pub IsNoFamily : Option (List ℕ) → Type 0
 IsNoFamily argument = (family : Family) → argument ≢ Some (family_name family)
 
--- there is not one argument, or it is none that the program has
+-- there is not exactly one argument, or the program does not accept it
 pub record IsWrong (argument : Option (List ℕ)) : Type 0 where
   pub no_family : IsNoFamily argument
   pub no_help : ¬ IsHelp argument

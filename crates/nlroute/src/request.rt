@@ -14,7 +14,7 @@ pub(crate) enum Request {
     Help,
     /// The version.
     Version,
-    /// Nothing that the program has.
+    /// The program does not accept it.
     Wrong,
 }
 

@@ -240,7 +240,8 @@ pub extern "C" fn nlroute_can_bittiming_const(
 /// -5 if `family` is not the number of a `Family`. Of the first value that cannot be written, the first that applies: -9 if
 /// it is an element that does not follow a list of its type, -7 if its form is not that of the attribute type, -8 if its
 /// attribute cannot hold a number, -10 if its bytes are too many, too few, or outside `octets`, -2 if its payload does not
-/// fit in an attribute; a list is too long only if its elements can be written. -4 if all can be written, but `out` is too small. On error `out` is unchanged.
+/// fit in an attribute; a list is too long only if its elements can be written. -4 if all can be written, but `out` is too
+/// small. On error `out` is unchanged.
 #[unsafe(no_mangle)]
 pub extern "C" fn nlroute_write(
     family: u32,
