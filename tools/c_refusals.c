@@ -103,7 +103,7 @@ static ptrdiff_t valuing(size_t room) {
     return (void)room, written == measured ? written : NLROUTE_ABSENT;
 }
 
-/* Returns the length of all texts of values. Long ones are written to the heap first. */
+/* Returns the length of all texts of values. */
 static ptrdiff_t texting(size_t room) {
     char words[64];
     ptrdiff_t count = nlroute_values(family, list, len, values, MOST / 2), sum = 0;
@@ -130,7 +130,7 @@ static const struct {
              {"count", counting, false, false, false},
              {"first_fault", telling, false, false, false},
              {"values and write", valuing, false, false, false},
-             {"text", texting, false, true, false},
+             {"text", texting, false, false, false},
              {"report", reporting, false, true, true}};
 
 /* Returns how many bytes a call with this result, or a failed one, may write, and some more to check. */

@@ -1,7 +1,7 @@
 -- The addresses of a list: one attribute more, and the end.
 use Rattle.std.proofs.Common.{◌≡◌, ◌≢◌, ℕ, ◌-◌, ◌==◌, Bool, true, false, cond, List, [], ◌∷◌, ◌++◌, length, Option, Some, None, Result, Ok, Err, OnOk, refl, sym, ap, subst, ◌∙◌, append_assoc, codes}
-use Rattle.std.specs.Io.KnownBytes.{Appends}
-use Rattle.std.proofs.KnownBytes.{Appends-nil, Appends-trans}
+use Rattle.link_show.specs.Sink.{Output, Gains}
+use Rattle.link_show.specs.Gained.{gains_nothing, gains_more}
 use Rattle.std.proofs.lemmas.List.{append-nil}
 use Rattle.std.proofs.lemmas.Grind.{flat_map-append}
 use Rattle.link_base.specs.declared.buffer.NlaBuffer.{NlaBuffer}
@@ -45,17 +45,17 @@ next_more true texts t separator e = next_push [] (codes " ") texts t
 next_more false texts t separator e = e ∙ ap (next_of [] (codes " ")) (sym (append-nil texts))
 
 -- the addresses before `rest` were written, and this separator precedes the next
-pub record AddressesTo (size : ℕ) (list rest separator : List ℕ) (old new : Option (List ℕ)) : Type 0 where
+pub record AddressesTo (size : ℕ) (list rest separator : List ℕ) (old new : Output) : Type 0 where
   pub items : List Item
   pub walks : Walks (length list) list items rest
-  pub written : Appends old new (joined (codes " ") (addresses_in size items))
+  pub written : Gains old new (joined (codes " ") (addresses_in size items))
   pub next : separator ≡ next_of [] (codes " ") (addresses_in size items)
 
-pub addresses_none : (size : ℕ) (list separator : List ℕ) (w : Option (List ℕ)) → separator ≡ [] → AddressesTo size list list separator w w
-addresses_none size list separator w e = record { items = []; walks = refl; written = Appends-nil w; next = e }
+pub addresses_none : (size : ℕ) (list separator : List ℕ) (w : Output) → separator ≡ [] → AddressesTo size list list separator w w
+addresses_none size list separator w e = record { items = []; walks = refl; written = gains_nothing w; next = e }
 
-pub addresses_more : (size : ℕ) (list rest behind separator next : List ℕ) (old mid new : Option (List ℕ)) (b : NlaBuffer) → AddressesTo size list rest separator old mid → SplitsFirst rest b behind
-    → Appends mid new (address_after size (payload_of b) separator) → next ≡ separator_after size (payload_of b) separator → AddressesTo size list behind next old new
+pub addresses_more : (size : ℕ) (list rest behind separator next : List ℕ) (old mid new : Output) (b : NlaBuffer) → AddressesTo size list rest separator old mid → SplitsFirst rest b behind
+    → Gains mid new (address_after size (payload_of b) separator) → next ≡ separator_after size (payload_of b) separator → AddressesTo size list behind next old new
 addresses_more size list rest behind separator next old mid new b h split written e =
     let item : Item = (length list - length rest, b) in
     let is = length (payload_of b) == size in
@@ -67,8 +67,8 @@ addresses_more size list rest behind separator next old mid new b h split writte
       items = h.items ++ item ∷ [];
       walks = walks_more (length list) list h.items rest b behind h.walks split;
       written =
-          subst (Appends old new) (sym (joined_more is texts t separator h.next) ∙ ap (joined (codes " ")) (sym one))
-          (Appends-trans old mid new (joined (codes " ") texts) (cond is (separator ++ t) []) h.written written);
+          subst (Gains old new) (sym (joined_more is texts t separator h.next) ∙ ap (joined (codes " ")) (sym one))
+          (gains_more old mid new (joined (codes " ") texts) (cond is (separator ++ t) []) h.written written);
       next = e ∙ next_more is texts t separator h.next ∙ ap (next_of [] (codes " ")) (sym one);
     }
 
@@ -90,18 +90,18 @@ some_text [] separator e some = absurd (some e)
 some_text (t ∷ texts) separator e some = refl
 
 -- there are addresses
-pub addresses_all : (size : ℕ) (list rest separator : List ℕ) (old new : Option (List ℕ)) (c : Cause) → AddressesTo size list rest separator old new → frame_fault rest ≡ Some c → separator ≢ []
+pub addresses_all : (size : ℕ) (list rest separator : List ℕ) (old new : Output) (c : Cause) → AddressesTo size list rest separator old new → frame_fault rest ≡ Some c → separator ≢ []
     → WritesAddresses size list old new
 addresses_all size list rest separator old new c h bad some =
     let end = walk_to list rest h.items c h.walks bad in
-    (_, (h.items, (end.0, end.1, refl)), subst (Appends old new) (sym (some_text (addresses_in size h.items) separator h.next some)) h.written)
+    (_, (h.items, (end.0, end.1, refl)), subst (Gains old new) (sym (some_text (addresses_in size h.items) separator h.next some)) h.written)
 
 -- there is none
-pub addresses_empty : {X E : Type 0} (r : Result X E) (size : ℕ) (list rest separator : List ℕ) (old mid new : Option (List ℕ)) (c : Cause) → AddressesTo size list rest separator old mid → frame_fault rest ≡ Some c → separator ≡ []
-    → OnOk r (Appends mid new empty_text) → OnOk r (WritesAddresses size list old new)
+pub addresses_empty : {X E : Type 0} (r : Result X E) (size : ℕ) (list rest separator : List ℕ) (old mid new : Output) (c : Cause) → AddressesTo size list rest separator old mid → frame_fault rest ≡ Some c → separator ≡ []
+    → OnOk r (Gains mid new empty_text) → OnOk r (WritesAddresses size list old new)
 addresses_empty (Ok x) size list rest separator old mid new c h bad empty written =
     let end = walk_to list rest h.items c h.walks bad in
     let none = no_text (addresses_in size h.items) (sym empty ∙ h.next) in
-    let front = subst (λ texts. Appends old mid (joined (codes " ") texts)) none h.written in
-    (_, (h.items, (end.0, end.1, refl)), subst (λ texts. Appends old new (list_text (codes " ") texts)) (sym none) (Appends-trans old mid new [] empty_text front written))
+    let front = subst (λ texts. Gains old mid (joined (codes " ") texts)) none h.written in
+    (_, (h.items, (end.0, end.1, refl)), subst (λ texts. Gains old new (list_text (codes " ") texts)) (sym none) (gains_more old mid new [] empty_text front written))
 addresses_empty (Err x) size list rest separator old mid new c h bad empty written = written

@@ -1,9 +1,10 @@
 -- The words of a set of flags, from a name on.
-use Rattle.std.proofs.Common.{◌≡◌, ◌≢◌, ℕ, ◌+◌, ◌<◌, not, List, ◌∷◌, ◌++◌, map, drop, length, ap, ◌∙◌, slice_index_or, bit_and}
+use Rattle.std.proofs.Common.{◌≡◌, ◌≢◌, ℕ, ◌+◌, ◌<◌, ◌≤◌, not, List, [], codes, ◌∷◌, ◌++◌, map, drop, length, ap, ◌∙◌, slice_index_or, bit_and}
 use Rattle.std.proofs.lemmas.Bool.{cond-true, cond-false, eq-eqb, ne_eqb}
-use Rattle.std.proofs.lemmas.List.{at_drop_more}
+use Rattle.std.proofs.lemmas.List.{at_drop_more, at_drop_all, append-nil}
 use Rattle.link_base.specs.declared.label.Name.{Name}
 use Rattle.link_base.specs.Labels.{names_in}
+use Rattle.link_show.specs.Text.{after, hex_number}
 use Rattle.link_show.specs.Flags.{set_names, last_word, words_of}
 
 -- the names from one on whose bit is set
@@ -27,3 +28,17 @@ pub words_other : (xs : List Name) (i bits left : ℕ) (d : Name) → i < length
 words_other xs i bits left d lt h =
     at_drop_more (λ ys. words_of (names_in ys) bits left) xs i d lt
     ∙ ap (λ ns. map (λ n. n.1) ns ++ last_word left) (set_other (slice_index_or xs i d) (drop (i + 1) xs) bits h)
+
+-- no bit is left
+pub last_none : (separator : List ℕ) (left : ℕ) → left ≡ 0 → after separator (codes "|") (last_word left) ≡ []
+last_none separator left e = ap (after separator (codes "|")) (cond-true _ _ _ (eq-eqb left 0 e))
+
+-- some are left
+pub last_some : (separator : List ℕ) (left : ℕ) → left ≢ 0 → after separator (codes "|") (last_word left) ≡ separator ++ hex_number left
+last_some separator left some =
+    ap (after separator (codes "|")) (cond-false _ _ _ (ne_eqb left 0 some)) ∙ ap (λ t. separator ++ t) (append-nil (hex_number left))
+
+-- no name is left
+pub words_none : (separator : List ℕ) (names : List Name) (i bits left : ℕ) → length names ≤ i
+    → after separator (codes "|") (words_of (names_in (drop i names)) bits left) ≡ after separator (codes "|") (last_word left)
+words_none separator names i bits left none = at_drop_all (λ ys. after separator (codes "|") (words_of (names_in ys) bits left)) names i none

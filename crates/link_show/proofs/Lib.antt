@@ -1,4 +1,7 @@
 pub mod Written
+pub mod Digits
+pub mod Pieced
+pub mod Segments
 pub mod FlagWords
 pub mod Hardware
 pub mod Arrays

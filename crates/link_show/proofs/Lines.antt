@@ -1,7 +1,7 @@
 -- The lines of an attribute, from what was written for its parts.
 use Rattle.std.proofs.Common.{◌≡◌, ◌≢◌, ℕ, List, [], ◌∷◌, ◌++◌, Option, Some, None, Result, Ok, Err, OnOk, refl, sym, ap, subst, ◌∙◌, append_assoc, codes, Bor}
-use Rattle.std.specs.Io.KnownBytes.{Appends}
-use Rattle.std.proofs.KnownBytes.{Appends-trans}
+use Rattle.link_show.specs.Sink.{Output, Gains}
+use Rattle.link_show.specs.Gained.{gains_more}
 use Rattle.link_base.specs.declared.attribute_set.AttributeSet as sets
 use Rattle.link_base.specs.declared.view.View.{View}
 use Rattle.link_base.specs.declared.buffer.NlaBuffer.{NlaBuffer}
@@ -17,46 +17,46 @@ use Rattle.link_show.specs.Value.{Label}
 use Rattle.link_show.specs.List.{indented, head_text, attribute_text, label_for, HasContent, WritesAttribute, WritesElement, WritesFlat, WritesMore, WritesAddresses, WritesNested, WritesElements, WritesValue, ShowsNested, ShowsContent, ShowsFlat, Empty, Elements}
 
 -- a line of its own
-line_of : (old a b c : Option (List ℕ)) (indent text : List ℕ) → Appends old a indent → Appends a b text → Appends b c (10 ∷ []) → Appends old c (indented indent text)
-line_of old a b c indent text first second last = Appends-trans old a c indent (text ++ 10 ∷ []) first (Appends-trans a b c text (10 ∷ []) second last)
+line_of : (old a b c : Output) (indent text : List ℕ) → Gains old a indent → Gains a b text → Gains b c (10 ∷ []) → Gains old c (indented indent text)
+line_of old a b c indent text first second last = gains_more old a c indent (text ++ 10 ∷ []) first (gains_more a b c text (10 ∷ []) second last)
 
 -- an element of a nested list
-pub element_written : {X E : Type 0} (r : Result X E) (indent : List ℕ) (table : Table) (b : NlaBuffer) (old m n o new : Option (List ℕ)) → Appends old m indent → Appends m n (codes "  ")
-    → WritesAttribute table b n o → OnOk r (Appends o new (10 ∷ [])) → OnOk r (WritesElement indent table b old new)
-element_written (Ok x) indent table b old m n o new first second (content, has, third) last = (content, has, Appends-trans old m new indent _ first (line_of m n o new (codes "  ") _ second third last))
+pub element_written : {X E : Type 0} (r : Result X E) (indent : List ℕ) (table : Table) (b : NlaBuffer) (old m n o new : Output) → Gains old m indent → Gains m n (codes "  ")
+    → WritesAttribute table b n o → OnOk r (Gains o new (10 ∷ [])) → OnOk r (WritesElement indent table b old new)
+element_written (Ok x) indent table b old m n o new first second (content, has, third) last = (content, has, gains_more old m new indent _ first (line_of m n o new (codes "  ") _ second third last))
 element_written (Err e) indent table b old m n o new first second third last = last
 
 -- addresses after a space
-pub more_written : {X E : Type 0} (r : Result X E) (list : Bor (List ℕ)) (size : ℕ) (old m new : Option (List ℕ)) → Appends old m (codes " ") → OnOk r (WritesAddresses size list.now m new)
+pub more_written : {X E : Type 0} (r : Result X E) (list : Bor (List ℕ)) (size : ℕ) (old m new : Output) → Gains old m (codes " ") → OnOk r (WritesAddresses size list.now m new)
     → OnOk r (WritesMore (contents.Addresses list size) old new)
-more_written (Ok x) list size old m new first (out, shown, second) = (codes " " ++ out, (out, shown, refl), Appends-trans old m new (codes " ") out first second)
+more_written (Ok x) list size old m new first (out, shown, second) = (codes " " ++ out, (out, shown, refl), gains_more old m new (codes " ") out first second)
 more_written (Err e) list size old m new first second = second
 
 -- an attribute that is no nested list
-pub flat_written : {X E : Type 0} (r : Result X E) (indent : List ℕ) (label : Option Label) (f : ℕ) (content : Content) (old m n o new : Option (List ℕ)) → Appends old m indent
-    → Appends m n (attribute_text label f content) → WritesMore content n o → OnOk r (Appends o new (10 ∷ [])) → OnOk r (WritesFlat indent label f content old new)
+pub flat_written : {X E : Type 0} (r : Result X E) (indent : List ℕ) (label : Option Label) (f : ℕ) (content : Content) (old m n o new : Output) → Gains old m indent
+    → Gains m n (attribute_text label f content) → WritesMore content n o → OnOk r (Gains o new (10 ∷ [])) → OnOk r (WritesFlat indent label f content old new)
 flat_written (Ok x) indent label f content old m n o new first second (more, shown, third) last =
     let text = attribute_text label f content in
-    (indented indent (text ++ more), (more, shown, refl), line_of old m o new indent (text ++ more) first (Appends-trans m n o text more second third) last)
+    (indented indent (text ++ more), (more, shown, refl), line_of old m o new indent (text ++ more) first (gains_more m n o text more second third) last)
 flat_written (Err e) indent label f content old m n o new first second third last = last
 
 -- an empty nested list
-pub nested_empty : {X E : Type 0} (r : Result X E) (indent name : List ℕ) (table : Table) (list : List ℕ) (old m n new : Option (List ℕ)) → list ≡ [] → Appends old m indent → Appends m n name
-    → OnOk r (Appends n new (codes " (empty)\n")) → OnOk r (WritesNested indent name table list old new)
+pub nested_empty : {X E : Type 0} (r : Result X E) (indent name : List ℕ) (table : Table) (list : List ℕ) (old m n new : Output) → list ≡ [] → Gains old m indent → Gains m n name
+    → OnOk r (Gains n new (codes " (empty)\n")) → OnOk r (WritesNested indent name table list old new)
 nested_empty (Ok x) indent name table list old m n new e first second last =
     let more = codes " (empty)" in (
       indented indent (name ++ more),
       Empty e refl,
-      subst (λ t. Appends old new (indent ++ t)) (sym (append_assoc name more (10 ∷ [])))
-          (Appends-trans old m new indent (name ++ (more ++ 10 ∷ [])) first (Appends-trans m n new name (more ++ 10 ∷ []) second last)),
+      subst (λ t. Gains old new (indent ++ t)) (sym (append_assoc name more (10 ∷ [])))
+          (gains_more old m new indent (name ++ (more ++ 10 ∷ [])) first (gains_more m n new name (more ++ 10 ∷ []) second last)),
     )
 nested_empty (Err x) indent name table list old m n new e first second last = last
 
 -- a nested list with elements
-pub nested_written : {X E : Type 0} (r : Result X E) (indent name : List ℕ) (table : Table) (list : List ℕ) (old m n o new : Option (List ℕ)) → list ≢ [] → Appends old m indent → Appends m n name
-    → Appends n o (10 ∷ []) → OnOk r (WritesElements indent table list o new) → OnOk r (WritesNested indent name table list old new)
+pub nested_written : {X E : Type 0} (r : Result X E) (indent name : List ℕ) (table : Table) (list : List ℕ) (old m n o new : Output) → list ≢ [] → Gains old m indent → Gains m n name
+    → Gains n o (10 ∷ []) → OnOk r (WritesElements indent table list o new) → OnOk r (WritesNested indent name table list old new)
 nested_written (Ok x) indent name table list old m n o new some first second third (items, walk, (lines, each, last)) =
-    (indented indent name ++ lines, Elements some items walk lines each refl, Appends-trans old o new (indented indent name) lines (line_of old m n o indent name first second third) last)
+    (indented indent name ++ lines, Elements some items walk lines each refl, gains_more old o new (indented indent name) lines (line_of old m n o indent name first second third) last)
 nested_written (Err x) indent name table list old m n o new some first second third last = last
 
 -- ---- by the shape of the attribute's type
@@ -158,7 +158,7 @@ flat_lines shape indent table b (contents.Addresses u v) out says other shown = 
 flat_lines shape indent table b (contents.Other u) out says other shown = shown
 
 -- the lines of a nested list are those of its attribute
-pub value_nested : {X E T : Type 0} {g : sets.Ghosts T} (r : Result X E) (indent : List ℕ) (table : Table) (b : NlaBuffer) (content : Content) (set : T) (view : View T g) (old new : Option (List ℕ))
+pub value_nested : {X E T : Type 0} {g : sets.Ghosts T} (r : Result X E) (indent : List ℕ) (table : Table) (b : NlaBuffer) (content : Content) (set : T) (view : View T g) (old new : Output)
     → HasContent table b content → ViewsElements (class_at table (kind_of (kind_field_of b))) (payload_of b) set (Some view) → g.rows set ≡ elements_at table (kind_of (kind_field_of b))
     → OnOk r (WritesNested indent (head_text (label_for table b) (kind_field_of b)) (g.rows (set_of view)) (bytes_in view) old new) → OnOk r (WritesValue indent table b old new)
 value_nested {X} {E} {T} {g} (Ok x) indent table b content set view old new has views rows (out, shown, written) =
@@ -177,7 +177,7 @@ value_nested {X} {E} {T} {g} (Ok x) indent table b content set view old new has 
 value_nested (Err e) indent table b content set view old new has views rows h = h
 
 -- the line of another attribute is its own
-pub value_flat : {X E : Type 0} (T : Type 0) (g : sets.Ghosts T) (r : Result X E) (indent : List ℕ) (table : Table) (b : NlaBuffer) (content : Content) (set : T) (old new : Option (List ℕ)) → HasContent table b content
+pub value_flat : {X E : Type 0} (T : Type 0) (g : sets.Ghosts T) (r : Result X E) (indent : List ℕ) (table : Table) (b : NlaBuffer) (content : Content) (set : T) (old new : Output) → HasContent table b content
     → ViewsElements {T = T} {g = g} (class_at table (kind_of (kind_field_of b))) (payload_of b) set None → OnOk r (WritesFlat indent (label_for table b) (kind_field_of b) content old new)
     → OnOk r (WritesValue indent table b old new)
 value_flat T g (Ok x) indent table b content set old new has views (out, shown, written) =

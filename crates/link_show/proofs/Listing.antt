@@ -1,7 +1,7 @@
 -- The lines of lists: one attribute more, and the end.
-use Rattle.std.proofs.Common.{◌≡◌, ◌≢◌, ℕ, ◌+◌, ◌-◌, Bool, true, false, ◌&&◌, List, [], ◌∷◌, ◌++◌, length, Option, Some, None, refl, sym, ap₂, subst, ◌∙◌, inl, inr}
-use Rattle.std.specs.Io.KnownBytes.{Appends}
-use Rattle.std.proofs.KnownBytes.{Appends-nil, Appends-trans}
+use Rattle.std.proofs.Common.{◌≡◌, ◌≢◌, ℕ, ◌+◌, ◌-◌, Bool, true, false, ◌&&◌, List, [], ◌∷◌, ◌++◌, length, Some, None, refl, sym, ap₂, subst, ◌∙◌, inl, inr}
+use Rattle.link_show.specs.Sink.{Output, Gains}
+use Rattle.link_show.specs.Gained.{gains_nothing, gains_more}
 use Rattle.std.proofs.lemmas.List.{append-nil}
 use Rattle.std.proofs.lemmas.List.Folds.{list_all-append}
 use Rattle.std.proofs.lemmas.Grind.{flat_map-append}
@@ -41,18 +41,18 @@ each_more shows xs out x written whole well s h =
 -- ---- the elements of a nested list
 
 -- the lines of the elements before `rest` were written
-pub record ElementsTo (indent : List ℕ) (table : Table) (list rest : List ℕ) (old new : Option (List ℕ)) : Type 0 where
+pub record ElementsTo (indent : List ℕ) (table : Table) (list rest : List ℕ) (old new : Output) : Type 0 where
   pub items : List Item
   pub walks : Walks (length list) list items rest
   pub lines : List ℕ
   pub each : EachShown (ShowsElement indent table) items lines true
-  pub written : Appends old new lines
+  pub written : Gains old new lines
 
-pub elements_none : (indent : List ℕ) (table : Table) (list : List ℕ) (w : Option (List ℕ)) → ElementsTo indent table list list w w
-elements_none indent table list w = record { items = []; walks = refl; lines = []; each = each_none (ShowsElement indent table); written = Appends-nil w }
+pub elements_none : (indent : List ℕ) (table : Table) (list : List ℕ) (w : Output) → ElementsTo indent table list list w w
+elements_none indent table list w = record { items = []; walks = refl; lines = []; each = each_none (ShowsElement indent table); written = gains_nothing w }
 
 -- one more
-pub elements_more : (indent : List ℕ) (table : Table) (list rest next : List ℕ) (old mid new : Option (List ℕ)) (b : NlaBuffer) → ElementsTo indent table list rest old mid → SplitsFirst rest b next
+pub elements_more : (indent : List ℕ) (table : Table) (list rest next : List ℕ) (old mid new : Output) (b : NlaBuffer) → ElementsTo indent table list rest old mid → SplitsFirst rest b next
     → WritesElement indent table b mid new → ElementsTo indent table list next old new
 elements_more indent table list rest next old mid new b h split (content, has, written) =
     let item : Item = (length list - length rest, b) in
@@ -62,38 +62,38 @@ elements_more indent table list rest next old mid new b h split (content, has, w
       walks = walks_more (length list) list h.items rest b next h.walks split;
       lines = h.lines ++ line;
       each = each_more (ShowsElement indent table) h.items h.lines item line true true h.each (content, has, refl, refl);
-      written = Appends-trans old mid new h.lines line h.written written;
+      written = gains_more old mid new h.lines line h.written written;
     }
 
-pub elements_all : (indent : List ℕ) (table : Table) (list rest : List ℕ) (old new : Option (List ℕ)) → ElementsTo indent table list rest old new → rest ≡ [] → WritesElements indent table list old new
+pub elements_all : (indent : List ℕ) (table : Table) (list rest : List ℕ) (old new : Output) → ElementsTo indent table list rest old new → rest ≡ [] → WritesElements indent table list old new
 elements_all indent table list rest old new h e = (h.items, record { rest = rest; walks = h.walks; end = e }, (h.lines, h.each, h.written))
 
 -- ---- a list
 
 -- the lines of the attributes before `rest` were written; or those of all, and the error of a header
-pub data ListTo (indent : List ℕ) (base : ℕ) (table : Table) (list rest : List ℕ) (old new : Option (List ℕ)) (whole : Bool) : Type 0 where
-  Going : (items : List Item) (lines : List ℕ) → Walks (length list) list items rest → EachShown (ShowsItem indent base table) items lines whole → Appends old new lines
+pub data ListTo (indent : List ℕ) (base : ℕ) (table : Table) (list rest : List ℕ) (old new : Output) (whole : Bool) : Type 0 where
+  Going : (items : List Item) (lines : List ℕ) → Walks (length list) list items rest → EachShown (ShowsItem indent base table) items lines whole → Gains old new lines
       → ListTo indent base table list rest old new whole
   Broken : rest ≡ [] → WritesList indent base table list old new whole → ListTo indent base table list rest old new whole
 
-pub list_none : (indent : List ℕ) (base : ℕ) (table : Table) (list : List ℕ) (w : Option (List ℕ)) → ListTo indent base table list list w w true
-list_none indent base table list w = Going [] [] refl (each_none (ShowsItem indent base table)) (Appends-nil w)
+pub list_none : (indent : List ℕ) (base : ℕ) (table : Table) (list : List ℕ) (w : Output) → ListTo indent base table list list w w true
+list_none indent base table list w = Going [] [] refl (each_none (ShowsItem indent base table)) (gains_nothing w)
 
 -- nothing starts with an attribute
 some_left : (b : NlaBuffer) (rest next : List ℕ) → SplitsFirst rest b next → rest ≢ []
 some_left b rest next split e = end_splits 0 rest None b next e split
 
 -- the lines of an item more
-item_more : (indent : List ℕ) (base : ℕ) (table : Table) (list rest next : List ℕ) (old mid new : Option (List ℕ)) (whole well : Bool) (b : NlaBuffer) (out : List ℕ)
-    → ListTo indent base table list rest old mid whole → SplitsFirst rest b next → ShowsItem indent base table (length list - length rest, b) out well → Appends mid new out
+item_more : (indent : List ℕ) (base : ℕ) (table : Table) (list rest next : List ℕ) (old mid new : Output) (whole well : Bool) (b : NlaBuffer) (out : List ℕ)
+    → ListTo indent base table list rest old mid whole → SplitsFirst rest b next → ShowsItem indent base table (length list - length rest, b) out well → Gains mid new out
     → ListTo indent base table list next old new (whole && well)
 item_more indent base table list rest next old mid new whole well b out (Broken e w) split shown written = absurd (some_left b rest next split e)
 item_more indent base table list rest next old mid new whole well b out (Going items lines walks each front) split shown written =
     Going (items ++ (length list - length rest, b) ∷ []) (lines ++ out) (walks_more (length list) list items rest b next walks split)
-    (each_more (ShowsItem indent base table) items lines (length list - length rest, b) out whole well each shown) (Appends-trans old mid new lines out front written)
+    (each_more (ShowsItem indent base table) items lines (length list - length rest, b) out whole well each shown) (gains_more old mid new lines out front written)
 
 -- a value more
-pub value_more : (indent : List ℕ) (base : ℕ) (table : Table) (list rest next : List ℕ) (old mid new : Option (List ℕ)) (whole : Bool) (b : NlaBuffer)
+pub value_more : (indent : List ℕ) (base : ℕ) (table : Table) (list rest next : List ℕ) (old mid new : Output) (whole : Bool) (b : NlaBuffer)
     → ListTo indent base table list rest old mid whole → SplitsFirst rest b next → WritesValue indent table b mid new → ListTo indent base table list next old new whole
 value_more indent base table list rest next old mid new whole b h split (out, shown, written) =
     subst (ListTo indent base table list next old new) (and_true whole)
@@ -104,8 +104,8 @@ and_false true = refl
 and_false false = refl
 
 -- the error of a header ends the list
-broken_more : (indent : List ℕ) (base : ℕ) (table : Table) (list rest : List ℕ) (old mid new : Option (List ℕ)) (whole : Bool) (c : Cause) → ListTo indent base table list rest old mid whole → rest ≢ []
-    → frame_fault rest ≡ Some c → Appends mid new (error_line indent (base + (length list - length rest)) (cause_words false c)) → ListTo indent base table list [] old new false
+broken_more : (indent : List ℕ) (base : ℕ) (table : Table) (list rest : List ℕ) (old mid new : Output) (whole : Bool) (c : Cause) → ListTo indent base table list rest old mid whole → rest ≢ []
+    → frame_fault rest ≡ Some c → Gains mid new (error_line indent (base + (length list - length rest)) (cause_words false c)) → ListTo indent base table list [] old new false
 broken_more indent base table list rest old mid new whole c (Broken e w) some bad written = absurd (some e)
 broken_more indent base table list rest old mid new whole c (Going items lines walks each front) some bad written =
     let out = error_line indent (base + (length list - length rest)) (cause_words false c) in
@@ -121,24 +121,24 @@ broken_more indent base table list rest old mid new whole c (Going items lines w
         joined = refl;
         all = sym (and_false whole);
       },
-      Appends-trans old mid new lines out front written,
+      gains_more old mid new lines out front written,
     )
 
 -- an error more
-pub error_more : (indent : List ℕ) (base : ℕ) (table : Table) (list rest next : List ℕ) (old mid new : Option (List ℕ)) (whole : Bool) (at : ℕ) (fault : DecodeFault)
+pub error_more : (indent : List ℕ) (base : ℕ) (table : Table) (list rest next : List ℕ) (old mid new : Output) (whole : Bool) (at : ℕ) (fault : DecodeFault)
     → ListTo indent base table list rest old mid whole → rest ≢ [] → at ≡ length list - length rest → FaultsFirst table rest fault next
-    → Appends mid new (error_line indent (base + at) (fault_text table fault)) → ListTo indent base table list next old new false
+    → Gains mid new (error_line indent (base + at) (fault_text table fault)) → ListTo indent base table list next old new false
 error_more indent base table list rest next old mid new whole at fault h some place (inl (b, split, gives)) written =
-    let line = subst (λ i. Appends mid new (error_line indent (base + i) (fault_text table fault))) place written in
+    let line = subst (λ i. Gains mid new (error_line indent (base + i) (fault_text table fault))) place written in
     subst (ListTo indent base table list next old new) (and_false whole)
     (item_more indent base table list rest next old mid new whole false b _ h split (Fails fault gives refl refl) line)
 error_more indent base table list rest next old mid new whole at fault h some place (inr (c, bad, is, empty)) written =
-    let line = subst (λ i. Appends mid new (error_line indent (base + i) (fault_text table fault))) place written in
+    let line = subst (λ i. Gains mid new (error_line indent (base + i) (fault_text table fault))) place written in
     subst (λ t. ListTo indent base table list t old new false) (sym empty)
-    (broken_more indent base table list rest old mid new whole c h some bad (subst (λ f. Appends mid new (error_line indent (base + (length list - length rest)) (fault_text table f))) is line))
+    (broken_more indent base table list rest old mid new whole c h some bad (subst (λ f. Gains mid new (error_line indent (base + (length list - length rest)) (fault_text table f))) is line))
 
 -- all is written
-pub list_all_written : (indent : List ℕ) (base : ℕ) (table : Table) (list rest : List ℕ) (old new : Option (List ℕ)) (whole : Bool) → ListTo indent base table list rest old new whole → rest ≡ []
+pub list_all_written : (indent : List ℕ) (base : ℕ) (table : Table) (list rest : List ℕ) (old new : Output) (whole : Bool) → ListTo indent base table list rest old new whole → rest ≡ []
     → WritesList indent base table list old new whole
 list_all_written indent base table list rest old new whole (Broken e w) empty = w
 list_all_written indent base table list rest old new whole (Going items lines walks each front) empty = (

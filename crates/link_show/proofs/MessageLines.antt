@@ -3,8 +3,8 @@ use Rattle.std.proofs.Common.{◌≡◌, ◌≢◌, ℕ, ℤ, pos, negsuc, Bool,
 use Rattle.std.specs.Fmt.{decimal, signed_decimal}
 use Rattle.std.specs.Int.RustNames.{unsigned_abs}
 use Rattle.std.specs.Int.{is_negative}
-use Rattle.std.specs.Io.KnownBytes.{Appends}
-use Rattle.std.proofs.KnownBytes.{Appends-nil, Appends-trans}
+use Rattle.link_show.specs.Sink.{Output, Gains}
+use Rattle.link_show.specs.Gained.{gains_nothing, gains_more}
 use Rattle.std.proofs.lemmas.Bool.{ltb-true, cond-true, cond-false, eq-eqb, ne_eqb}
 use Rattle.link_base.specs.Labels.{name_in}
 use Rattle.link_messages.specs.declared.views.Message.{Message}
@@ -27,14 +27,14 @@ if_ok P Q (Ok x) f h = f x h
 if_ok P Q (Err e) f h = h
 
 -- a name, a text after a space, and LF
-pub line_written : (name text : List ℕ) (old m n new : Option (List ℕ)) → Appends old m (two ++ (name ++ codes " ")) → Appends m n text → Appends n new (10 ∷ []) → Appends old new (indented two (field name text))
+pub line_written : (name text : List ℕ) (old m n new : Output) → Gains old m (two ++ (name ++ codes " ")) → Gains m n text → Gains n new (10 ∷ []) → Gains old new (indented two (field name text))
 line_written name text old m n new first second last =
     let shape : (two ++ (name ++ codes " ")) ++ (text ++ 10 ∷ []) ≡ indented two (field name text) = simp append_assoc in
-    subst (Appends old new) shape (Appends-trans old m new (two ++ (name ++ codes " ")) (text ++ 10 ∷ []) first (Appends-trans m n new text (10 ∷ []) second last))
+    subst (Gains old new) shape (gains_more old m new (two ++ (name ++ codes " ")) (text ++ 10 ∷ []) first (gains_more m n new text (10 ∷ []) second last))
 
 -- likewise, if the last write succeeds
-pub named_line : {X E : Type 0} (r : Result X E) (name text : List ℕ) (old m n new : Option (List ℕ)) → Appends old m (two ++ (name ++ codes " ")) → Appends m n text → OnOk r (Appends n new (10 ∷ []))
-    → OnOk r (Appends old new (indented two (field name text)))
+pub named_line : {X E : Type 0} (r : Result X E) (name text : List ℕ) (old m n new : Output) → Gains old m (two ++ (name ++ codes " ")) → Gains m n text → OnOk r (Gains n new (10 ∷ []))
+    → OnOk r (Gains old new (indented two (field name text)))
 named_line (Ok x) name text old m n new first second last = line_written name text old m n new first second last
 named_line (Err e) name text old m n new first second last = last
 
@@ -100,47 +100,47 @@ link_shape h name = simp append_assoc
 -- ---- the messages of a buffer
 
 -- a message after its first line
-pub message_written : (check : Bool) (m : Message) (old mid new : Option (List ℕ)) (well : Bool) → Appends old mid (message_line m) → Writes (ShowsBody check m) mid new well
+pub message_written : (check : Bool) (m : Message) (old mid new : Output) (well : Bool) → Gains old mid (message_line m) → Writes (ShowsBody check m) mid new well
     → Writes (ShowsMessage check m) old new well
 message_written check m old mid new well first (body, is, second) =
-    (message_line m ++ body, record { body = body; is_body = is; joined = refl }, Appends-trans old mid new (message_line m) body first second)
+    (message_line m ++ body, record { body = body; is_body = is; joined = refl }, gains_more old mid new (message_line m) body first second)
 
 -- the messages before offset `at` were written
-pub record MessagesTo (check : Bool) (s : List ℕ) (at : ℕ) (old new : Option (List ℕ)) (whole : Bool) : Type 0 where
+pub record MessagesTo (check : Bool) (s : List ℕ) (at : ℕ) (old new : Output) (whole : Bool) : Type 0 where
   pub messages : List Message
   pub stand : Stand s 0 messages at
   pub front : List ℕ
   pub each : EachShown (ShowsMessage check) messages front whole
-  pub written : Appends old new front
+  pub written : Gains old new front
 
-pub messages_none : (check : Bool) (s : List ℕ) (w : Option (List ℕ)) → MessagesTo check s 0 w w true
-messages_none check s w = record { messages = []; stand = refl; front = []; each = each_none (ShowsMessage check); written = Appends-nil w }
+pub messages_none : (check : Bool) (s : List ℕ) (w : Output) → MessagesTo check s 0 w w true
+messages_none check s w = record { messages = []; stand = refl; front = []; each = each_none (ShowsMessage check); written = gains_nothing w }
 
 -- one more
-pub messages_more : (check : Bool) (s : List ℕ) (at : ℕ) (m : Message) (old mid new : Option (List ℕ)) (whole well : Bool) → MessagesTo check s at old mid whole → IsMessageAt at (drop at s) m → m.kind ≢ 3
+pub messages_more : (check : Bool) (s : List ℕ) (at : ℕ) (m : Message) (old mid new : Output) (whole well : Bool) → MessagesTo check s at old mid whole → IsMessageAt at (drop at s) m → m.kind ≢ 3
     → Writes (ShowsMessage check m) mid new well → MessagesTo check s m.next old new (whole && well)
 messages_more check s at m old mid new whole well h is other (out, shown, written) = record {
   messages = h.messages ++ m ∷ [];
   stand = stand_more s 0 at h.messages m h.stand (is, other);
   front = h.front ++ out;
   each = each_more (ShowsMessage check) h.messages h.front m out whole well h.each shown;
-  written = Appends-trans old mid new h.front out h.written written;
+  written = gains_more old mid new h.front out h.written written;
 }
 
-ends : (check : Bool) (s : List ℕ) (at : ℕ) (old mid new : Option (List ℕ)) (whole well : Bool) (out : List ℕ) → MessagesTo check s at old mid whole → ShowsEnd check s at out well → Appends mid new out
+ends : (check : Bool) (s : List ℕ) (at : ℕ) (old mid new : Output) (whole well : Bool) (out : List ℕ) → MessagesTo check s at old mid whole → ShowsEnd check s at out well → Gains mid new out
     → Writes (ShowsMessages check s) old new (whole && well)
 ends check s at old mid new whole well out h shown written = (
   h.front ++ out,
   record { messages = h.messages; end = at; stand = h.stand; front = h.front; front_well = whole; each = h.each; last = out; last_well = well; at_end = shown; joined = refl; all = refl },
-  Appends-trans old mid new h.front out h.written written,
+  gains_more old mid new h.front out h.written written,
 )
 
 -- the end of the buffer
-pub messages_all : (check : Bool) (s : List ℕ) (at : ℕ) (old new : Option (List ℕ)) (whole : Bool) → MessagesTo check s at old new whole → drop at s ≡ [] → Writes (ShowsMessages check s) old new whole
-messages_all check s at old new whole h e = subst (Writes (ShowsMessages check s) old new) (and_true whole) (ends check s at old new new whole true [] h (Ended e refl refl) (Appends-nil new))
+pub messages_all : (check : Bool) (s : List ℕ) (at : ℕ) (old new : Output) (whole : Bool) → MessagesTo check s at old new whole → drop at s ≡ [] → Writes (ShowsMessages check s) old new whole
+messages_all check s at old new whole h e = subst (Writes (ShowsMessages check s) old new) (and_true whole) (ends check s at old new new whole true [] h (Ended e refl refl) (gains_nothing new))
 
 -- an NLMSG_DONE
-pub messages_done : (check : Bool) (s : List ℕ) (at : ℕ) (m : Message) (old mid new : Option (List ℕ)) (whole well : Bool) → MessagesTo check s at old mid whole → IsMessageAt at (drop at s) m → m.kind ≡ 3
+pub messages_done : (check : Bool) (s : List ℕ) (at : ℕ) (m : Message) (old mid new : Output) (whole well : Bool) → MessagesTo check s at old mid whole → IsMessageAt at (drop at s) m → m.kind ≡ 3
     → Writes (ShowsMessage check m) mid new well → Writes (ShowsMessages check s) old new (whole && well)
 messages_done check s at m old mid new whole well h is done (out, shown, written) = ends check s at old mid new whole well out h (Done m is done shown) written
 
@@ -149,7 +149,7 @@ and_false true = refl
 and_false false = refl
 
 -- bytes that are no message
-pub messages_broken : (check : Bool) (s : List ℕ) (at : ℕ) (error : MessageError) (old mid new : Option (List ℕ)) (whole : Bool) → MessagesTo check s at old mid whole → drop at s ≢ []
-    → header_fault at (drop at s) ≡ Some error → Appends mid new (message_error_line [] error) → Writes (ShowsMessages check s) old new false
+pub messages_broken : (check : Bool) (s : List ℕ) (at : ℕ) (error : MessageError) (old mid new : Output) (whole : Bool) → MessagesTo check s at old mid whole → drop at s ≢ []
+    → header_fault at (drop at s) ≡ Some error → Gains mid new (message_error_line [] error) → Writes (ShowsMessages check s) old new false
 messages_broken check s at error old mid new whole h some bad written =
     subst (Writes (ShowsMessages check s) old new) (and_false whole) (ends check s at old mid new whole false (message_error_line [] error) h (Broken error some bad refl refl) written)

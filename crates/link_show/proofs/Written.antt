@@ -1,40 +1,40 @@
 -- What a loop has written so far.
-use Rattle.std.proofs.Common.{◌≡◌, ℕ, List, [], ◌∷◌, ◌++◌, Option, Result, Ok, Err, OnOk, refl, sym, ap, subst, ◌∙◌, append_assoc}
-use Rattle.std.specs.Io.KnownBytes.{Appends}
-use Rattle.std.proofs.KnownBytes.{Appends-nil, Appends-trans}
+use Rattle.std.proofs.Common.{◌≡◌, ℕ, List, [], ◌∷◌, ◌++◌, Result, Ok, Err, OnOk, refl, sym, ap, subst, ◌∙◌, append_assoc}
+use Rattle.link_show.specs.Sink.{Output, Gains}
+use Rattle.link_show.specs.Gained.{gains_nothing, gains_more}
 use Rattle.std.proofs.lemmas.List.{append-nil}
 use Rattle.link_show.specs.Text.{after}
 
 -- the front of a text was written, and this is its rest
-pub record WritesFront (old new : Option (List ℕ)) (text rest : List ℕ) : Type 0 where
+pub record WritesFront (old new : Output) (text rest : List ℕ) : Type 0 where
   pub front : List ℕ
-  pub written : Appends old new front
+  pub written : Gains old new front
   pub whole : text ≡ front ++ rest
 
 -- nothing was written yet
-pub none_written : (w : Option (List ℕ)) (text : List ℕ) → WritesFront w w text text
-none_written w text = record { front = []; written = Appends-nil w; whole = refl }
+pub none_written : (w : Output) (text : List ℕ) → WritesFront w w text text
+none_written w text = record { front = []; written = gains_nothing w; whole = refl }
 
 -- one text more was written
-pub one_written : (old mid new : Option (List ℕ)) (text rest t others : List ℕ) → WritesFront old mid text rest → rest ≡ t ++ others → Appends mid new t → WritesFront old new text others
+pub one_written : (old mid new : Output) (text rest t others : List ℕ) → WritesFront old mid text rest → rest ≡ t ++ others → Gains mid new t → WritesFront old new text others
 one_written old mid new text rest t others w e a =
     record {
       front = w.front ++ t;
-      written = Appends-trans old mid new w.front t w.written a;
+      written = gains_more old mid new w.front t w.written a;
       whole = w.whole ∙ ap (λ r. w.front ++ r) e ∙ sym (append_assoc w.front t others);
     }
 
 -- what was written, if the rest is e
-pub same_rest : (old new : Option (List ℕ)) (text rest others : List ℕ) → WritesFront old new text rest → rest ≡ others → WritesFront old new text others
+pub same_rest : (old new : Output) (text rest others : List ℕ) → WritesFront old new text rest → rest ≡ others → WritesFront old new text others
 same_rest old new text rest others w e = subst (WritesFront old new text) e w
 
 -- all was written
-pub all_written : (old new : Option (List ℕ)) (text rest : List ℕ) → WritesFront old new text rest → rest ≡ [] → Appends old new text
-all_written old new text rest w e = subst (Appends old new) (sym (w.whole ∙ ap (λ r. w.front ++ r) e ∙ append-nil w.front)) w.written
+pub all_written : (old new : Output) (text rest : List ℕ) → WritesFront old new text rest → rest ≡ [] → Gains old new text
+all_written old new text rest w e = subst (Gains old new) (sym (w.whole ∙ ap (λ r. w.front ++ r) e ∙ append-nil w.front)) w.written
 
 -- of texts with separators, one more was written, and a separator stands before the next
-pub next_written : (old mid new : Option (List ℕ)) (text first next separator t : List ℕ) (texts others : List (List ℕ))
-    → WritesFront old mid text (after first separator texts) → texts ≡ t ∷ others → Appends mid new (first ++ t) → next ≡ separator
+pub next_written : (old mid new : Output) (text first next separator t : List ℕ) (texts others : List (List ℕ))
+    → WritesFront old mid text (after first separator texts) → texts ≡ t ∷ others → Gains mid new (first ++ t) → next ≡ separator
     → WritesFront old new text (after next separator others)
 next_written old mid new text first next separator t texts others w e a n =
     subst (λ s. WritesFront old new text (after s separator others)) (sym n)
@@ -42,10 +42,10 @@ next_written old mid new text first next separator t texts others w e a n =
     (ap (after first separator) e ∙ sym (append_assoc first t (after separator separator others))) a)
 
 -- of texts with separators, none is left
-pub last_written : (old new : Option (List ℕ)) (text first separator : List ℕ) (texts : List (List ℕ)) → WritesFront old new text (after first separator texts) → texts ≡ [] → Appends old new text
+pub last_written : (old new : Output) (text first separator : List ℕ) (texts : List (List ℕ)) → WritesFront old new text (after first separator texts) → texts ≡ [] → Gains old new text
 last_written old new text first separator texts w e = all_written old new text (after first separator texts) w (ap (after first separator) e)
 
 -- a text was written, and then, unless the call failed, another
-pub then_written : {X E : Type 0} (r : Result X E) (old mid new : Option (List ℕ)) (t more : List ℕ) → Appends old mid t → OnOk r (Appends mid new more) → OnOk r (Appends old new (t ++ more))
-then_written (Ok x) old mid new t more a h = Appends-trans old mid new t more a h
+pub then_written : {X E : Type 0} (r : Result X E) (old mid new : Output) (t more : List ℕ) → Gains old mid t → OnOk r (Gains mid new more) → OnOk r (Gains old new (t ++ more))
+then_written (Ok x) old mid new t more a h = gains_more old mid new t more a h
 then_written (Err e) old mid new t more a h = h

@@ -11,3 +11,6 @@ pub mod List
 pub mod Errno
 pub mod MessageNames
 pub mod Message
+pub mod Pieces
+pub mod Sink
+pub mod Gained

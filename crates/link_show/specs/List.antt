@@ -2,7 +2,7 @@
 use Rattle.std.specs.Prelude.{◌≡◌, ◌≢◌, ℕ, ◌+◌, ◌-◌, ◌==◌, Bool, true, false, ◌&&◌, List, [], ◌∷◌, ◌++◌, length, Option, Some, None, Err, codes, if◌then◌else◌}
 use Rattle.std.specs.Fmt.{decimal}
 use Rattle.std.specs.List.{flat_map, list_all, AllZip}
-use Rattle.std.specs.Io.KnownBytes.{Appends}
+use Rattle.link_show.specs.Sink.{Output, Gains}
 use Rattle.std.specs.Net.Addr.{segments_of}
 use Rattle.std.specs.Net.Text.{ipv4_text, ipv6_text}
 use Rattle.link_base.specs.declared.buffer.NlaBuffer.{NlaBuffer}
@@ -79,8 +79,8 @@ abbrev pub label_for : Table → NlaBuffer → Option Label
 label_for table b = label_at table (kind_of (kind_field_of b))
 
 -- the attribute b in one line was written
-abbrev pub WritesAttribute : Table → NlaBuffer → Option (List ℕ) → Option (List ℕ) → Type 0
-WritesAttribute table b old new = (content : Content) × HasContent table b content × Appends old new (attribute_text (label_for table b) (kind_field_of b) content)
+abbrev pub WritesAttribute : Table → NlaBuffer → Output → Output → Type 0
+WritesAttribute table b old new = (content : Content) × HasContent table b content × Gains old new (attribute_text (label_for table b) (kind_field_of b) content)
 
 -- ---- lists of addresses
 
@@ -107,8 +107,8 @@ abbrev pub separator_after : ℕ → List ℕ → List ℕ → List ℕ
 separator_after size p separator = if length p == size then codes " " else separator
 
 -- they were written
-abbrev pub WritesAddresses : ℕ → List ℕ → Option (List ℕ) → Option (List ℕ) → Type 0
-WritesAddresses size list old new = (out : List ℕ) × ShowsAddresses size list out × Appends old new out
+abbrev pub WritesAddresses : ℕ → List ℕ → Output → Output → Type 0
+WritesAddresses size list old new = (out : List ℕ) × ShowsAddresses size list out × Gains old new out
 
 -- ---- nested lists
 
@@ -171,11 +171,11 @@ pub record ShowsList (indent : List ℕ) (base : ℕ) (table : Table) (list out 
   pub all : whole ≡ (well && is_well fault)
 
 -- what a call writes, and what it returns with it
-abbrev pub Writes : (List ℕ → Bool → Type 0) → Option (List ℕ) → Option (List ℕ) → Bool → Type 0
-Writes shows old new well = (out : List ℕ) × shows out well × Appends old new out
+abbrev pub Writes : (List ℕ → Bool → Type 0) → Output → Output → Bool → Type 0
+Writes shows old new well = (out : List ℕ) × shows out well × Gains old new out
 
 -- they were written
-abbrev pub WritesList : List ℕ → ℕ → Table → List ℕ → Option (List ℕ) → Option (List ℕ) → Bool → Type 0
+abbrev pub WritesList : List ℕ → ℕ → Table → List ℕ → Output → Output → Bool → Type 0
 WritesList indent base table list = Writes (ShowsList indent base table list)
 
 -- whether a list is canonical, if `check` asks; and whether that is well
@@ -197,24 +197,24 @@ pub record ShowsChecked (check : Bool) (indent : List ℕ) (base : ℕ) (table :
   pub all : well ≡ (whole && sound)
 
 -- a list, an attribute, elements: likewise
-abbrev pub WritesValue : List ℕ → Table → NlaBuffer → Option (List ℕ) → Option (List ℕ) → Type 0
-WritesValue indent table b old new = (out : List ℕ) × ShowsValue indent table b out × Appends old new out
+abbrev pub WritesValue : List ℕ → Table → NlaBuffer → Output → Output → Type 0
+WritesValue indent table b old new = (out : List ℕ) × ShowsValue indent table b out × Gains old new out
 
-abbrev pub WritesFlat : List ℕ → Option Label → ℕ → Content → Option (List ℕ) → Option (List ℕ) → Type 0
-WritesFlat indent label f content old new = (out : List ℕ) × ShowsFlat indent label f content out × Appends old new out
+abbrev pub WritesFlat : List ℕ → Option Label → ℕ → Content → Output → Output → Type 0
+WritesFlat indent label f content old new = (out : List ℕ) × ShowsFlat indent label f content out × Gains old new out
 
-abbrev pub WritesMore : Content → Option (List ℕ) → Option (List ℕ) → Type 0
-WritesMore content old new = (more : List ℕ) × ShowsMore content more × Appends old new more
+abbrev pub WritesMore : Content → Output → Output → Type 0
+WritesMore content old new = (more : List ℕ) × ShowsMore content more × Gains old new more
 
-abbrev pub WritesNested : List ℕ → List ℕ → Table → List ℕ → Option (List ℕ) → Option (List ℕ) → Type 0
-WritesNested indent name table list old new = (out : List ℕ) × ShowsNested indent name table list out × Appends old new out
+abbrev pub WritesNested : List ℕ → List ℕ → Table → List ℕ → Output → Output → Type 0
+WritesNested indent name table list old new = (out : List ℕ) × ShowsNested indent name table list out × Gains old new out
 
 -- the lines of all elements of a nested list
-abbrev pub WritesElements : List ℕ → Table → List ℕ → Option (List ℕ) → Option (List ℕ) → Type 0
+abbrev pub WritesElements : List ℕ → Table → List ℕ → Output → Output → Type 0
 WritesElements indent table list old new =
-    (items : List Item) × Walk list items None × ((lines : List ℕ) × EachShown (ShowsElement indent table) items lines true × Appends old new lines)
+    (items : List Item) × Walk list items None × ((lines : List ℕ) × EachShown (ShowsElement indent table) items lines true × Gains old new lines)
 
 -- the line of one
-abbrev pub WritesElement : List ℕ → Table → NlaBuffer → Option (List ℕ) → Option (List ℕ) → Type 0
+abbrev pub WritesElement : List ℕ → Table → NlaBuffer → Output → Output → Type 0
 WritesElement indent table b old new =
-    (content : Content) × HasContent table b content × Appends old new (below indent (attribute_text (label_for table b) (kind_field_of b) content))
+    (content : Content) × HasContent table b content × Gains old new (below indent (attribute_text (label_for table b) (kind_field_of b) content))

@@ -1,6 +1,6 @@
 -- The text of a value, by the form of its content.
 use Rattle.std.specs.Prelude.{Option, Some, None, ◌≡◌, ℕ, ◌%◌, ◌^◌, List, [], ◌∷◌, ◌++◌, Bool, codes, length, nat_lt, if◌then◌else◌, bytes_eq}
-use Rattle.std.specs.Io.KnownBytes.{Appends}
+use Rattle.link_show.specs.Sink.{Output, Gains}
 use Rattle.std.specs.List.{list_any}
 use Rattle.std.specs.Fmt.{signed_decimal}
 use Rattle.std.specs.Net.Addr.{ipv4_octets, segments_of}
@@ -140,7 +140,7 @@ value_text None content = []
 value_text (Some label) content = content_text label content
 
 -- the text of the attribute f of this table, with its payload p, was written
-abbrev pub WritesValue : Table → ℕ → List ℕ → Option (List ℕ) → Option (List ℕ) → Type 0
+abbrev pub WritesValue : Table → ℕ → List ℕ → Output → Output → Type 0
 WritesValue table f p old new =
     (content : Content) × Borrows (class_at table (kind_of f)) p content × (form_of content ≡ form_at table (kind_of f))
-    × Appends old new (value_text (label_at table (kind_of f)) content)
+    × Gains old new (value_text (label_at table (kind_of f)) content)

@@ -1,7 +1,7 @@
 //! Attributes in one line: the name of the attribute type, and the value.
 
 ghost use Rattle.std.specs.Prelude.{◌≡◌, ◌++◌, OnOk};
-ghost use Rattle.std.specs.Io.KnownBytes.{Appends};
+ghost use Rattle.link_show.specs.Sink.{Gains};
 ghost use Rattle.link_base.specs.Labels.{label_in};
 ghost use Rattle.link_base.specs.Buffer.{kind_field_of};
 ghost use Rattle.link_base.specs.Viewed.{set_in, buffer_in};
@@ -9,14 +9,14 @@ ghost use Rattle.link_show.specs.Value.{value_text};
 ghost use Rattle.link_show.specs.List.{flags_after, head_text, has_text, attribute_text, WritesAttribute};
 
 use crate::flags::write_flags;
+use crate::pieces::{Piece, put_pieces};
+use crate::sink::Sink;
 use crate::values::{write_content, write_unlabelled};
 use link_base::NlaBuffer;
 use link_base::attribute_set::AttributeSet;
 use link_base::content::Content;
 use link_base::label::{KindLabel, Name};
 use link_base::view::Value;
-use std::io;
-use std::io::Write;
 
 /// The flags of `nla_type` (`include/uapi/linux/netlink.h`).
 const TYPE_FLAGS: &[Name] = names![
@@ -31,32 +31,32 @@ const TYPE_FLAGS: &[Name] = names![
 /// # Errors
 ///
 /// That of the writer.
-pub fn write_attribute<S: AttributeSet, W: Write>(
+pub fn write_attribute<S: AttributeSet, W: Sink>(
     writer: &mut W,
     value: &Value<'_, S>,
-) -> io::Result<()>
+) -> Result<(), W::Error>
     ensures { OnOk result (WritesAttribute (S.rows (set_in value.now)) (buffer_in value.now)
-        (W.contents writer.old) (W.contents writer.new)) }
+        (W.output writer.old) (W.output writer.new)) }
 {
     write_named(writer, value.label(), value.buffer(), value.content())
 }
 
 /// Writes an attribute with this label and this content in one line.
-#[tactic(auto, using(crate::proofs::Written::then_written), unfolding(crate::specs::List::attribute_text))]
-pub(crate) fn write_named<W: Write>(
+#[tactic(auto, unfolding(crate::specs::List::attribute_text))]
+pub(crate) fn write_named<W: Sink>(
     writer: &mut W,
     label: Option<KindLabel>,
     buffer: NlaBuffer<'_>,
     content: Content<'_>,
-) -> io::Result<()>
-    ensures { OnOk result (Appends (W.contents writer.old) (W.contents writer.new)
+) -> Result<(), W::Error>
+    ensures { OnOk result (Gains (W.output writer.old) (W.output writer.new)
         (attribute_text (label_in label) (kind_field_of buffer.entry) content.entry)) }
 {
     write_head(writer, label, buffer)?;
     if !has_text(content) {
         return Ok(());
     }
-    writer.write_all(b" ")?;
+    writer.put(b" ")?;
     match label {
         Some(label) => write_content(writer, &label, content),
         None => write_unlabelled(writer, content),
@@ -64,34 +64,33 @@ pub(crate) fn write_named<W: Write>(
 }
 
 /// Writes the name of an attribute's type.
-#[tactic(auto, using(crate::proofs::Written::then_written), unfolding(crate::specs::List::head_text))]
-pub(crate) fn write_head<W: Write>(
+#[tactic(auto, unfolding(crate::specs::List::head_text))]
+pub(crate) fn write_head<W: Sink>(
     writer: &mut W,
     label: Option<KindLabel>,
     buffer: NlaBuffer<'_>,
-) -> io::Result<()>
-    ensures { OnOk result (Appends (W.contents writer.old) (W.contents writer.new)
+) -> Result<(), W::Error>
+    ensures { OnOk result (Gains (W.output writer.old) (W.output writer.new)
         (head_text (label_in label) (kind_field_of buffer.entry))) }
 {
     match label {
-        Some(label) => writer.write_all(label.name.as_bytes()),
+        Some(label) => writer.put(label.name.as_bytes()),
         None => {
             let kind = buffer.kind();
-            write!(writer, "type {kind}")?;
+            put_pieces(writer, &[Piece::Text("type "), Piece::Number(kind as u64)])?;
             write_type_flags(writer, buffer.raw_kind() - kind)
         }
     }
 }
 
 /// Writes the flags of an `nla_type` after a space, if it has any.
-#[tactic(auto, using(crate::proofs::Written::then_written))]
-fn write_type_flags<W: Write>(writer: &mut W, flags: u16) -> io::Result<()>
-    ensures { OnOk result (Appends (W.contents writer.old) (W.contents writer.new) (flags_after flags)) }
+fn write_type_flags<W: Sink>(writer: &mut W, flags: u16) -> Result<(), W::Error>
+    ensures { OnOk result (Gains (W.output writer.old) (W.output writer.new) (flags_after flags)) }
 {
     if flags == 0 {
         return Ok(());
     }
-    writer.write_all(b" ")?;
+    writer.put(b" ")?;
     write_flags(writer, TYPE_FLAGS, 2, flags.into())
 }
 

@@ -5,10 +5,10 @@ ghost use Rattle.netlink_packet_route.specs.Family.{table_of};
 ghost use Rattle.link_show.specs.List.{ShowsChecked, ShowsVerdict, Writes};
 
 use crate::lists::write_list;
+use crate::pieces::{Piece, put_pieces};
+use crate::sink::Sink;
 use link_messages::Payload;
 use netlink_packet_route::{Family, FamilySet, first_not_canonical};
-use std::io;
-use std::io::Write;
 
 /// Writes the lines of a list of a `Family`, as [`write_list`](crate::write_list) does, and, if `check` is set, a line
 /// that says whether it is canonical. Returns whether no line is an error, and the list, if it is checked, is canonical.
@@ -16,15 +16,15 @@ use std::io::Write;
 /// # Errors
 ///
 /// That of the writer.
-pub fn write_family_list<W: Write>(
+pub fn write_family_list<W: Sink>(
     writer: &mut W,
     family: Family,
     check: bool,
     indent: &str,
     list: Payload<'_>,
-) -> io::Result<bool>
+) -> Result<bool, W::Error>
     ensures { IfOk result (Writes (ShowsChecked check indent.now list.entry.at (table_of family) list.entry.bytes.now)
-        (W.contents writer.old) (W.contents writer.new)) }
+        (W.output writer.old) (W.output writer.new)) }
 {
     let whole = write_list(writer, FamilySet { family }, indent, list)?;
     if !check {
@@ -39,23 +39,31 @@ pub fn write_family_list<W: Write>(
 /// # Errors
 ///
 /// That of the writer.
-pub fn write_verdict<W: Write>(
+pub fn write_verdict<W: Sink>(
     writer: &mut W,
     family: Family,
     indent: &str,
     list: Payload<'_>,
-) -> io::Result<bool>
+) -> Result<bool, W::Error>
     ensures { IfOk result (Writes (ShowsVerdict true indent.now list.entry.at (table_of family) list.entry.bytes.now)
-        (W.contents writer.old) (W.contents writer.new)) }
+        (W.output writer.old) (W.output writer.new)) }
 {
     match first_not_canonical(family, list.bytes) {
         Some(first) => {
             let at = list.at + first;
-            writeln!(writer, "{indent}not canonical at {at}")?;
+            put_pieces(
+                writer,
+                &[
+                    Piece::Text(indent),
+                    Piece::Text("not canonical at "),
+                    Piece::Number(at as u64),
+                    Piece::Text("\n"),
+                ],
+            )?;
             Ok(false)
         }
         None => {
-            writeln!(writer, "{indent}canonical")?;
+            put_pieces(writer, &[Piece::Text(indent), Piece::Text("canonical\n")])?;
             Ok(true)
         }
     }

@@ -1,16 +1,16 @@
 //! Errors of lists and of attributes.
 
 ghost use Rattle.std.specs.Prelude.{◌≡◌, option_map, OnOk};
-ghost use Rattle.std.specs.Io.KnownBytes.{Appends};
+ghost use Rattle.link_show.specs.Sink.{Gains};
 ghost use Rattle.link_base.specs.Labels.{label_in};
 ghost use Rattle.link_show.specs.Fault.{byte_word, bytes_text, expected_word, cause_words, kind_text, is_array, payload_fault, fault_text};
 
+use crate::pieces::{Piece, put_pieces};
 use crate::sets::ListSet;
+use crate::sink::Sink;
 use link_base::attribute_set::AttributeSet;
 use link_base::label::{Form, KindLabel};
 use link_base::{Cause, DecodeFault};
-use std::io;
-use std::io::Write;
 
 /// Writes an error of a list of attributes of `set`, or of one of them, with the kernel's names of attribute types, such
 /// as `IFLA_BR_HELLO_TIME has 3 bytes, expected 4`.
@@ -18,13 +18,12 @@ use std::io::Write;
 /// # Errors
 ///
 /// That of the writer.
-#[tactic(auto, using(crate::proofs::Written::then_written))]
-pub fn write_fault<S: ListSet, W: Write>(
+pub fn write_fault<S: ListSet, W: Sink>(
     writer: &mut W,
     set: S,
     fault: DecodeFault,
-) -> io::Result<()>
-    ensures { OnOk result (Appends (W.contents writer.old) (W.contents writer.new) (fault_text (S.rows set) fault)) }
+) -> Result<(), W::Error>
+    ensures { OnOk result (Gains (W.output writer.old) (W.output writer.new) (fault_text (S.rows set) fault)) }
 {
     match fault {
         DecodeFault::Frame(cause) | DecodeFault::Payload(cause) => write_cause(
@@ -35,41 +34,40 @@ pub fn write_fault<S: ListSet, W: Write>(
         }
         DecodeFault::NestedFrame { kind, cause } => {
             write_kind(writer, set.label(kind), kind)?;
-            writer.write_all(b": ")?;
+            writer.put(b": ")?;
             write_cause(writer, false, cause)
         }
         DecodeFault::NestedValue { kind, inner, cause } => {
             write_kind(writer, set.label(kind), kind)?;
-            writer.write_all(b": ")?;
+            writer.put(b": ")?;
             write_payload_fault(writer, set.elements(kind).label(inner), inner, cause)
         }
-        DecodeFault::Text => writer.write_all(b"unknown text"),
+        DecodeFault::Text => writer.put(b"unknown text"),
     }
 }
 
 /// Writes the error of a payload of this attribute type.
-#[tactic(auto, using(crate::proofs::Written::then_written))]
-fn write_payload_fault<W: Write>(
+fn write_payload_fault<W: Sink>(
     writer: &mut W,
     label: Option<KindLabel>,
     kind: u16,
     cause: Cause,
-) -> io::Result<()>
-    ensures { OnOk result (Appends (W.contents writer.old) (W.contents writer.new)
+) -> Result<(), W::Error>
+    ensures { OnOk result (Gains (W.output writer.old) (W.output writer.new)
         (payload_fault (label_in label) kind cause)) }
 {
     write_kind(writer, label, kind)?;
-    writer.write_all(b" ")?;
+    writer.put(b" ")?;
     write_cause(writer, is_array(label), cause)
 }
 
 /// Writes the name of an attribute type, or its number, if it has none.
-fn write_kind<W: Write>(writer: &mut W, label: Option<KindLabel>, kind: u16) -> io::Result<()>
-    ensures { OnOk result (Appends (W.contents writer.old) (W.contents writer.new) (kind_text (label_in label) kind)) }
+fn write_kind<W: Sink>(writer: &mut W, label: Option<KindLabel>, kind: u16) -> Result<(), W::Error>
+    ensures { OnOk result (Gains (W.output writer.old) (W.output writer.new) (kind_text (label_in label) kind)) }
 {
     match label {
-        Some(label) => writer.write_all(label.name.as_bytes()),
-        None => write!(writer, "type {kind}"),
+        Some(label) => writer.put(label.name.as_bytes()),
+        None => put_pieces(writer, &[Piece::Text("type "), Piece::Number(kind as u64)]),
     }
 }
 
@@ -84,41 +82,83 @@ fn is_array(label: Option<KindLabel>) -> bool
 }
 
 /// Writes why an attribute, or a payload, is malformed.
-#[tactic(auto, using(crate::proofs::Written::then_written))]
-pub(crate) fn write_cause<W: Write>(writer: &mut W, is_array: bool, cause: Cause) -> io::Result<()>
-    ensures { OnOk result (Appends (W.contents writer.old) (W.contents writer.new) (cause_words is_array cause)) }
+pub(crate) fn write_cause<W: Sink>(
+    writer: &mut W,
+    is_array: bool,
+    cause: Cause,
+) -> Result<(), W::Error>
+    ensures { OnOk result (Gains (W.output writer.old) (W.output writer.new) (cause_words is_array cause)) }
 {
     match cause {
         Cause::ShortFrame { left } => {
             write_bytes(writer, left, " left, too few for an attribute header")
         }
-        Cause::SmallLength { length } => write!(writer, "nla_len {length} is below 4"),
+        Cause::SmallLength { length } => put_pieces(
+            writer,
+            &[
+                Piece::Text("nla_len "),
+                Piece::Number(length as u64),
+                Piece::Text(" is below 4"),
+            ],
+        ),
         Cause::Overrun { length, left } => {
-            write!(writer, "nla_len {length} exceeds the ")?;
+            put_pieces(
+                writer,
+                &[
+                    Piece::Text("nla_len "),
+                    Piece::Number(length as u64),
+                    Piece::Text(" exceeds the "),
+                ],
+            )?;
             write_bytes(writer, left, " left")
         }
         Cause::WrongLength { want, got } => {
             let expected = expected(is_array);
             let bytes = bytes_of(got);
-            write!(writer, "has {got}{bytes}{expected}{want}")
+            put_pieces(
+                writer,
+                &[
+                    Piece::Text("has "),
+                    Piece::Number(got as u64),
+                    Piece::Text(bytes),
+                    Piece::Text(expected),
+                    Piece::Number(want as u64),
+                ],
+            )
         }
         Cause::TooShort { want, got } => {
             let bytes = bytes_of(got);
-            write!(writer, "has {got}{bytes}, expected at least {want}")
+            put_pieces(
+                writer,
+                &[
+                    Piece::Text("has "),
+                    Piece::Number(got as u64),
+                    Piece::Text(bytes),
+                    Piece::Text(", expected at least "),
+                    Piece::Number(want as u64),
+                ],
+            )
         }
         Cause::AddressLength { got } => {
-            writer.write_all(b"has ")?;
+            writer.put(b"has ")?;
             write_bytes(writer, got, ", expected 4 or 16")
         }
     }
 }
 
 /// Writes a number of bytes, and `more`.
-pub(crate) fn write_bytes<W: Write>(writer: &mut W, count: usize, more: &str) -> io::Result<()>
-    ensures { OnOk result (Appends (W.contents writer.old) (W.contents writer.new) (bytes_text count more.now)) }
+pub(crate) fn write_bytes<W: Sink>(writer: &mut W, count: usize, more: &str) -> Result<(), W::Error>
+    ensures { OnOk result (Gains (W.output writer.old) (W.output writer.new) (bytes_text count more.now)) }
 {
     let bytes = bytes_of(count);
-    write!(writer, "{count}{bytes}{more}")
+    put_pieces(
+        writer,
+        &[
+            Piece::Number(count as u64),
+            Piece::Text(bytes),
+            Piece::Text(more),
+        ],
+    )
 }
 
 /// Returns what follows a number of bytes.

@@ -1,15 +1,15 @@
 //! Numbers of enums, and sets of flags, by their names.
 
 ghost use Rattle.std.specs.Prelude.{◌≡◌, ◌-◌, ◌*◌, ◌^◌, ◌==◌, OnOk, codes, option_map};
-ghost use Rattle.std.specs.Io.KnownBytes.{Appends};
+ghost use Rattle.link_show.specs.Sink.{Gains};
 ghost use Rattle.link_base.specs.Labels.{names_in, name_in};
-ghost use Rattle.link_show.specs.Text.{joined};
-ghost use Rattle.link_show.specs.Flags.{enum_text, flags_text, flag_words, unnamed};
+ghost use Rattle.link_show.specs.Text.{after, joined};
+ghost use Rattle.link_show.specs.Flags.{enum_text, flags_text, flag_words, last_word, unnamed};
 
 use crate::octets::write_after;
+use crate::pieces::{Piece, put_number, put_pieces};
+use crate::sink::Sink;
 use link_base::label::Name;
-use std::io;
-use std::io::Write;
 
 /// Writes the number of an enum: its name and the number, such as `802.3ad (4)`, or the number alone if it has no name.
 ///
@@ -17,13 +17,21 @@ use std::io::Write;
 ///
 /// That of the writer.
 #[tactic(auto, unfolding(crate::specs::Flags::enum_text))]
-pub fn write_enum<W: Write>(writer: &mut W, names: &[Name], number: u64) -> io::Result<()>
-    ensures { OnOk result (Appends (W.contents writer.old) (W.contents writer.new)
+pub fn write_enum<W: Sink>(writer: &mut W, names: &[Name], number: u64) -> Result<(), W::Error>
+    ensures { OnOk result (Gains (W.output writer.old) (W.output writer.new)
         (enum_text (names_in names.now) number)) }
 {
     match name_of(names, number) {
-        Some(name) => write!(writer, "{name} ({number})"),
-        None => write!(writer, "{number}"),
+        Some(name) => put_pieces(
+            writer,
+            &[
+                Piece::Text(name),
+                Piece::Text(" ("),
+                Piece::Number(number),
+                Piece::Text(")"),
+            ],
+        ),
+        None => put_number(writer, number),
     }
 }
 
@@ -34,21 +42,21 @@ pub fn write_enum<W: Write>(writer: &mut W, names: &[Name], number: u64) -> io::
 ///
 /// That of the writer.
 #[tactic(auto, unfolding(crate::specs::Flags::flags_text))]
-pub fn write_flags<W: Write>(
+pub fn write_flags<W: Sink>(
     writer: &mut W,
     names: &[Name],
     width: usize,
     bits: u64,
-) -> io::Result<()>
-    ensures { OnOk result (Appends (W.contents writer.old) (W.contents writer.new)
+) -> Result<(), W::Error>
+    ensures { OnOk result (Gains (W.output writer.old) (W.output writer.new)
         (flags_text (names_in names.now) width bits)) }
 {
     let left = without_names(names, bits);
     if bits == 0 {
-        return writer.write_all(b"0");
+        return writer.put(b"0");
     }
     if left != 0 && is_full(bits, width) {
-        return writer.write_all(b"all");
+        return writer.put(b"all");
     }
     write_words(writer, names, bits, left)
 }
@@ -88,9 +96,14 @@ fn without_names(names: &[Name], bits: u64) -> u64
 }
 
 /// Writes the names of the bits that are set, and `left`, the bits that have no name.
-fn write_words<W: Write>(writer: &mut W, names: &[Name], bits: u64, left: u64) -> io::Result<()>
+fn write_words<W: Sink>(
+    writer: &mut W,
+    names: &[Name],
+    bits: u64,
+    left: u64,
+) -> Result<(), W::Error>
     requires { left ≡ unnamed (names_in names.now) bits }
-    ensures { OnOk result (Appends (W.contents writer.old) (W.contents writer.new)
+    ensures { OnOk result (Gains (W.output writer.old) (W.output writer.new)
         (joined (codes "|") (flag_words (names_in names.now) bits))) }
 {
     let mut separator = b"".as_slice();
@@ -100,9 +113,17 @@ fn write_words<W: Write>(writer: &mut W, names: &[Name], bits: u64, left: u64) -
             separator = b"|".as_slice();
         }
     }
-    if left != 0 {
-        writer.write_all(separator)?;
-        write!(writer, "0x{left:x}")?;
+    write_last(writer, separator, left)
+}
+
+/// Writes the bits that have no name after a separator, if there are any.
+fn write_last<W: Sink>(writer: &mut W, separator: &[u8], left: u64) -> Result<(), W::Error>
+    ensures { OnOk result (Gains (W.output writer.old) (W.output writer.new)
+        (after separator.now (codes "|") (last_word left))) }
+{
+    if left == 0 {
+        return Ok(());
     }
-    Ok(())
+    writer.put(separator)?;
+    put_pieces(writer, &[Piece::Text("0x"), Piece::Hex(left)])
 }

@@ -2,7 +2,7 @@
 
 ghost use Rattle.std.specs.Prelude.{false, None, codes, IfOk, OnOk};
 ghost use Rattle.std.specs.Option.{option_copied};
-ghost use Rattle.std.specs.Io.KnownBytes.{Appends};
+ghost use Rattle.link_show.specs.Sink.{Gains};
 ghost use Rattle.link_base.specs.Named.{texts_of};
 ghost use Rattle.link_bridge.specs.Names.{port_state_names};
 ghost use Rattle.link_show.specs.Flags.{enum_text};
@@ -16,22 +16,22 @@ use crate::families::write_family_list;
 use crate::faults::bytes_of;
 use crate::flags::write_enum;
 use crate::links::write_header_fault;
+use crate::pieces::{Piece, put_pieces};
 use crate::quoted::write_quoted;
+use crate::sink::Sink;
 use link_base::NamedNumber;
 use link_bridge::BridgePortState;
 use link_messages::{InfoData, LinkInfo, Payload, Protinfo, announced_port_kind};
 use netlink_packet_route::Family;
-use std::io;
-use std::io::Write;
 
 /// Writes the lines of an `IFLA_LINKINFO`, if there is one.
-pub(crate) fn write_info<W: Write>(
+pub(crate) fn write_info<W: Sink>(
     writer: &mut W,
     info: Option<LinkInfo<'_>>,
     check: bool,
-) -> io::Result<bool>
+) -> Result<bool, W::Error>
     ensures { IfOk result (Writes (ShowsOptionalInfo check info.entry)
-        (W.contents writer.old) (W.contents writer.new)) }
+        (W.output writer.old) (W.output writer.new)) }
 {
     match info {
         Some(info) => {
@@ -47,18 +47,17 @@ pub(crate) fn write_info<W: Write>(
 }
 
 /// Writes the line of a kind of link. A kind that announces a kind of port is written as that.
-#[tactic(auto, using(crate::proofs::Written::then_written))]
-fn write_kind<W: Write>(writer: &mut W, kind: Option<&[u8]>) -> io::Result<()>
-    ensures { OnOk result (Appends (W.contents writer.old) (W.contents writer.new)
+fn write_kind<W: Sink>(writer: &mut W, kind: Option<&[u8]>) -> Result<(), W::Error>
+    ensures { OnOk result (Gains (W.output writer.old) (W.output writer.new)
         (kind_line (option_copied kind.entry))) }
 {
     match kind {
         Some(kind) => match announced_port_kind(kind) {
             Some(port) => write_port_kind(writer, Some(port)),
             None => {
-                writer.write_all(b"  IFLA_INFO_KIND ")?;
+                writer.put(b"  IFLA_INFO_KIND ")?;
                 write_quoted(writer, kind)?;
-                writer.write_all(b"\n")
+                writer.put(b"\n")
             }
         },
         None => Ok(()),
@@ -66,30 +65,29 @@ fn write_kind<W: Write>(writer: &mut W, kind: Option<&[u8]>) -> io::Result<()>
 }
 
 /// Writes the line of a kind of port.
-#[tactic(auto, using(crate::proofs::Written::then_written))]
-fn write_port_kind<W: Write>(writer: &mut W, kind: Option<&[u8]>) -> io::Result<()>
-    ensures { OnOk result (Appends (W.contents writer.old) (W.contents writer.new)
+fn write_port_kind<W: Sink>(writer: &mut W, kind: Option<&[u8]>) -> Result<(), W::Error>
+    ensures { OnOk result (Gains (W.output writer.old) (W.output writer.new)
         (line_of (codes "IFLA_INFO_SLAVE_KIND") quoted (option_copied kind.entry))) }
 {
     match kind {
         Some(kind) => {
-            writer.write_all(b"  IFLA_INFO_SLAVE_KIND ")?;
+            writer.put(b"  IFLA_INFO_SLAVE_KIND ")?;
             write_quoted(writer, kind)?;
-            writer.write_all(b"\n")
+            writer.put(b"\n")
         }
         None => Ok(()),
     }
 }
 
 /// Writes the lines of data, if there is any.
-fn write_data<W: Write>(
+fn write_data<W: Sink>(
     writer: &mut W,
     name: &str,
     data: Option<InfoData<'_>>,
     check: bool,
-) -> io::Result<bool>
+) -> Result<bool, W::Error>
     ensures { IfOk result (Writes (ShowsData check name.now data.entry)
-        (W.contents writer.old) (W.contents writer.new)) }
+        (W.output writer.old) (W.output writer.new)) }
 {
     match data {
         Some(data) => match data.family {
@@ -101,15 +99,15 @@ fn write_data<W: Write>(
 }
 
 /// Writes the lines of a list of a `Family`, if there is one, below its name.
-pub(crate) fn write_part<W: Write>(
+pub(crate) fn write_part<W: Sink>(
     writer: &mut W,
     name: &str,
     family: Family,
     list: Option<Payload<'_>>,
     check: bool,
-) -> io::Result<bool>
+) -> Result<bool, W::Error>
     ensures { IfOk result (Writes (ShowsPart check name.now family list.entry)
-        (W.contents writer.old) (W.contents writer.new)) }
+        (W.output writer.old) (W.output writer.new)) }
 {
     match list {
         Some(list) => write_list_of(writer, name, family, list, check),
@@ -118,13 +116,13 @@ pub(crate) fn write_part<W: Write>(
 }
 
 /// Writes the lines of an `IFLA_PROTINFO`, if there is one.
-pub(crate) fn write_protinfo<W: Write>(
+pub(crate) fn write_protinfo<W: Sink>(
     writer: &mut W,
     protinfo: Option<Protinfo<'_>>,
     check: bool,
-) -> io::Result<bool>
+) -> Result<bool, W::Error>
     ensures { IfOk result (Writes (ShowsProtinfo check protinfo.entry)
-        (W.contents writer.old) (W.contents writer.new)) }
+        (W.output writer.old) (W.output writer.new)) }
 {
     match protinfo {
         Some(Protinfo::List(list)) => {
@@ -140,38 +138,57 @@ pub(crate) fn write_protinfo<W: Write>(
 }
 
 /// Writes the line of an `IFLA_PROTINFO` that is the STP state of a port.
-fn write_state<W: Write>(writer: &mut W, state: u8) -> io::Result<()>
-    ensures { OnOk result (Appends (W.contents writer.old) (W.contents writer.new)
+fn write_state<W: Sink>(writer: &mut W, state: u8) -> Result<(), W::Error>
+    ensures { OnOk result (Gains (W.output writer.old) (W.output writer.new)
         (indented two (field (codes "IFLA_PROTINFO") (enum_text (texts_of port_state_names) state)))) }
 {
-    writer.write_all(b"  IFLA_PROTINFO ")?;
+    writer.put(b"  IFLA_PROTINFO ")?;
     write_enum(writer, BridgePortState::names(), state.into())?;
-    writer.write_all(b"\n")
+    writer.put(b"\n")
 }
 
 /// Writes the lines of a list of a `Family` below its name.
-fn write_list_of<W: Write>(
+fn write_list_of<W: Sink>(
     writer: &mut W,
     name: &str,
     family: Family,
     list: Payload<'_>,
     check: bool,
-) -> io::Result<bool>
+) -> Result<bool, W::Error>
     ensures { IfOk result (Writes (ShowsFamily check name.now family list.entry)
-        (W.contents writer.old) (W.contents writer.new)) }
+        (W.output writer.old) (W.output writer.new)) }
 {
     let set = family.name();
-    writeln!(writer, "  {name} ({set})")?;
+    put_pieces(
+        writer,
+        &[
+            Piece::Text("  "),
+            Piece::Text(name),
+            Piece::Text(" ("),
+            Piece::Text(set),
+            Piece::Text(")\n"),
+        ],
+    )?;
     write_family_list(writer, family, check, "    ", list)
 }
 
 /// Writes the length of data that no attribute set reads.
-fn write_opaque<W: Write>(writer: &mut W, name: &str, data: Payload<'_>) -> io::Result<bool>
+fn write_opaque<W: Sink>(writer: &mut W, name: &str, data: Payload<'_>) -> Result<bool, W::Error>
     ensures { IfOk result (Writes (ShowsPayload false name.now None data.entry)
-        (W.contents writer.old) (W.contents writer.new)) }
+        (W.output writer.old) (W.output writer.new)) }
 {
     let count = data.bytes.len();
     let bytes = bytes_of(count);
-    writeln!(writer, "  {name} ({count}{bytes}, not decoded)")?;
+    put_pieces(
+        writer,
+        &[
+            Piece::Text("  "),
+            Piece::Text(name),
+            Piece::Text(" ("),
+            Piece::Number(count as u64),
+            Piece::Text(bytes),
+            Piece::Text(", not decoded)\n"),
+        ],
+    )?;
     Ok(true)
 }

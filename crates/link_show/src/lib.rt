@@ -1,5 +1,6 @@
 //! The texts of link attributes, for people: of values, of numbers with what they count, of enums and sets of flags by
-//! name, of structs, and of errors. Each call writes to a writer of the caller's, and allocates nothing.
+//! name, of structs, and of errors. Each call writes to a [`Sink`] of the caller's, such as an `io::Write`, and allocates
+//! nothing.
 #![tactic(auto)]
 
 /// Names, each after its number.
@@ -15,7 +16,9 @@ mod errno;
 mod families;
 mod faults;
 mod flags;
+mod front;
 mod info;
+mod ip;
 pub mod laws;
 mod links;
 mod lists;
@@ -24,9 +27,11 @@ mod message_names;
 mod messages;
 mod numbers;
 mod octets;
+mod pieces;
 mod quoted;
 mod replies;
 mod sets;
+mod sink;
 mod structs;
 mod values;
 
@@ -35,6 +40,8 @@ pub use attributes::write_attribute;
 pub use families::{write_family_list, write_verdict};
 pub use faults::write_fault;
 pub use flags::{write_enum, write_flags};
+pub use front::{Words, store_front};
+pub use ip::{write_ipv4, write_ipv6};
 pub use links::write_link;
 pub use lists::write_list;
 pub use message_errors::write_message_error;
@@ -44,5 +51,6 @@ pub use octets::{write_address, write_hex};
 pub use quoted::write_quoted;
 pub use replies::write_acknowledgement;
 pub use sets::ListSet;
+pub use sink::Sink;
 pub use structs::StructText;
 pub use values::{write_content, write_value};

@@ -3,7 +3,7 @@
 ghost use Rattle.std.specs.Prelude.{◌≡◌, ◌++◌, [], codes, IfOk, OnOk};
 ghost use Rattle.std.specs.Fmt.{signed_decimal};
 ghost use Rattle.std.specs.Option.{option_copied};
-ghost use Rattle.std.specs.Io.KnownBytes.{Appends};
+ghost use Rattle.link_show.specs.Sink.{Gains};
 ghost use Rattle.link_base.specs.Labels.{names_in, name_in};
 ghost use Rattle.link_show.specs.Number.{number_text};
 ghost use Rattle.link_show.specs.Flags.{enum_text, flags_text};
@@ -19,12 +19,12 @@ use crate::message_errors::write_message_error;
 use crate::message_names::{ADDRESS_FAMILIES, DEVICE_FLAGS, DEVICE_TYPES, OPERATIONAL_STATES};
 use crate::numbers::write_number;
 use crate::octets::write_address;
+use crate::pieces::{Piece, put_pieces};
 use crate::quoted::write_quoted;
+use crate::sink::Sink;
 use link_base::label::{Name, Quantity};
 use link_messages::{LinkDetails, LinkHeader, MessageError};
 use netlink_packet_route::Family;
-use std::io;
-use std::io::Write;
 
 /// Writes the lines of a message about a link, below its first line: the fields of its `struct ifinfomsg` and its name,
 /// its attributes, and the attribute lists that a `Family` parses. Returns whether no line is an error, and, if `check`
@@ -33,13 +33,13 @@ use std::io::Write;
 /// # Errors
 ///
 /// That of the writer.
-pub fn write_link<W: Write>(
+pub fn write_link<W: Sink>(
     writer: &mut W,
     details: &LinkDetails<'_>,
     check: bool,
-) -> io::Result<bool>
+) -> Result<bool, W::Error>
     ensures { IfOk result (Writes (ShowsLink check details.now)
-        (W.contents writer.old) (W.contents writer.new)) }
+        (W.output writer.old) (W.output writer.new)) }
 {
     write_link_line(writer, &details.header, details.name)?;
     write_attributes(writer, details)?;
@@ -58,13 +58,13 @@ pub fn write_link<W: Write>(
 }
 
 /// Writes the line of a link: its index, its name, and the other fields of the `struct ifinfomsg` that are not zero.
-#[tactic(auto, using(crate::proofs::Written::then_written), unfolding(crate::specs::Message::link_line))]
-fn write_link_line<W: Write>(
+#[tactic(auto, unfolding(crate::specs::Message::link_line))]
+fn write_link_line<W: Sink>(
     writer: &mut W,
     header: &LinkHeader,
     name: Option<&[u8]>,
-) -> io::Result<()>
-    ensures { OnOk result (Appends (W.contents writer.old) (W.contents writer.new)
+) -> Result<(), W::Error>
+    ensures { OnOk result (Gains (W.output writer.old) (W.output writer.new)
         (link_line header.now (option_copied name.entry))) }
 {
     write_index(writer, header)?;
@@ -73,25 +73,25 @@ fn write_link_line<W: Write>(
     write_named(writer, "type", DEVICE_TYPES, header.kind.into())?;
     write_device_flags(writer, "flags", header.flags.into())?;
     write_device_flags(writer, "change", header.change.into())?;
-    writer.write_all(b"\n")
+    writer.put(b"\n")
 }
 
-fn write_index<W: Write>(writer: &mut W, header: &LinkHeader) -> io::Result<()>
-    ensures { OnOk result (Appends (W.contents writer.old) (W.contents writer.new)
+fn write_index<W: Sink>(writer: &mut W, header: &LinkHeader) -> Result<(), W::Error>
+    ensures { OnOk result (Gains (W.output writer.old) (W.output writer.new)
         (codes "  ifindex " ++ signed_decimal header.now.index)) }
 {
     let index = header.index;
-    write!(writer, "  ifindex {index}")
+    put_pieces(writer, &[Piece::Text("  ifindex "), Piece::Signed(index)])
 }
 
 /// Writes a name after a space, if there is one.
-fn write_name<W: Write>(writer: &mut W, name: Option<&[u8]>) -> io::Result<()>
-    ensures { OnOk result (Appends (W.contents writer.old) (W.contents writer.new)
+fn write_name<W: Sink>(writer: &mut W, name: Option<&[u8]>) -> Result<(), W::Error>
+    ensures { OnOk result (Gains (W.output writer.old) (W.output writer.new)
         (name_part (option_copied name.entry))) }
 {
     match name {
         Some(name) => {
-            writer.write_all(b" name ")?;
+            writer.put(b" name ")?;
             write_quoted(writer, name)
         }
         None => Ok(()),
@@ -99,35 +99,58 @@ fn write_name<W: Write>(writer: &mut W, name: Option<&[u8]>) -> io::Result<()>
 }
 
 /// Writes a field that is a number with a name, after a space; nothing if it is 0.
-fn write_named<W: Write>(writer: &mut W, field: &str, names: &[Name], number: u64) -> io::Result<()>
-    ensures { OnOk result (Appends (W.contents writer.old) (W.contents writer.new)
+fn write_named<W: Sink>(
+    writer: &mut W,
+    field: &str,
+    names: &[Name],
+    number: u64,
+) -> Result<(), W::Error>
+    ensures { OnOk result (Gains (W.output writer.old) (W.output writer.new)
         (unless_zero number field.now (named_or [] (name_in (names_in names.now) number) number))) }
 {
     if number == 0 {
         return Ok(());
     }
     match name_of(names, number) {
-        Some(name) => write!(writer, " {field} {name}"),
-        None => write!(writer, " {field} {number}"),
+        Some(name) => put_pieces(
+            writer,
+            &[
+                Piece::Text(" "),
+                Piece::Text(field),
+                Piece::Text(" "),
+                Piece::Text(name),
+            ],
+        ),
+        None => put_pieces(
+            writer,
+            &[
+                Piece::Text(" "),
+                Piece::Text(field),
+                Piece::Text(" "),
+                Piece::Number(number),
+            ],
+        ),
     }
 }
 
 /// Writes a field that is a set of flags of a device, after a space; nothing if none is set.
-#[tactic(auto, using(crate::proofs::Written::then_written))]
-fn write_device_flags<W: Write>(writer: &mut W, field: &str, flags: u64) -> io::Result<()>
-    ensures { OnOk result (Appends (W.contents writer.old) (W.contents writer.new)
+fn write_device_flags<W: Sink>(writer: &mut W, field: &str, flags: u64) -> Result<(), W::Error>
+    ensures { OnOk result (Gains (W.output writer.old) (W.output writer.new)
         (unless_zero flags field.now (flags_text device_flags 4 flags))) }
 {
     if flags == 0 {
         return Ok(());
     }
-    write!(writer, " {field} ")?;
+    put_pieces(
+        writer,
+        &[Piece::Text(" "), Piece::Text(field), Piece::Text(" ")],
+    )?;
     write_flags(writer, DEVICE_FLAGS, 4, flags)
 }
 
 /// Writes the lines of the attributes that every link has.
-fn write_attributes<W: Write>(writer: &mut W, details: &LinkDetails<'_>) -> io::Result<()>
-    ensures { OnOk result (Appends (W.contents writer.old) (W.contents writer.new)
+fn write_attributes<W: Sink>(writer: &mut W, details: &LinkDetails<'_>) -> Result<(), W::Error>
+    ensures { OnOk result (Gains (W.output writer.old) (W.output writer.new)
         (attribute_lines details.now)) }
 {
     write_number_line(writer, "IFLA_MTU", Quantity::Number, details.mtu)?;
@@ -142,75 +165,83 @@ fn write_attributes<W: Write>(writer: &mut W, details: &LinkDetails<'_>) -> io::
     write_state_line(writer, details.operstate)
 }
 
-fn write_number_line<W: Write>(
+fn write_number_line<W: Sink>(
     writer: &mut W,
     name: &str,
     quantity: Quantity,
     number: Option<u32>,
-) -> io::Result<()>
-    ensures { OnOk result (Appends (W.contents writer.old) (W.contents writer.new)
+) -> Result<(), W::Error>
+    ensures { OnOk result (Gains (W.output writer.old) (W.output writer.new)
         (line_of name.now (number_text quantity) number)) }
 {
     match number {
         Some(number) => {
-            write!(writer, "  {name} ")?;
+            put_pieces(
+                writer,
+                &[Piece::Text("  "), Piece::Text(name), Piece::Text(" ")],
+            )?;
             write_number(writer, quantity, number.into())?;
-            writer.write_all(b"\n")
+            writer.put(b"\n")
         }
         None => Ok(()),
     }
 }
 
-#[tactic(auto, using(crate::proofs::Written::then_written))]
-fn write_address_line<W: Write>(writer: &mut W, address: Option<&[u8]>) -> io::Result<()>
-    ensures { OnOk result (Appends (W.contents writer.old) (W.contents writer.new)
+fn write_address_line<W: Sink>(writer: &mut W, address: Option<&[u8]>) -> Result<(), W::Error>
+    ensures { OnOk result (Gains (W.output writer.old) (W.output writer.new)
         (line_of (codes "IFLA_ADDRESS") address_text (option_copied address.entry))) }
 {
     match address {
         Some(address) => {
-            writer.write_all(b"  IFLA_ADDRESS ")?;
+            writer.put(b"  IFLA_ADDRESS ")?;
             write_address(writer, address)?;
-            writer.write_all(b"\n")
+            writer.put(b"\n")
         }
         None => Ok(()),
     }
 }
 
-#[tactic(auto, using(crate::proofs::Written::then_written))]
-fn write_state_line<W: Write>(writer: &mut W, state: Option<u8>) -> io::Result<()>
-    ensures { OnOk result (Appends (W.contents writer.old) (W.contents writer.new)
+fn write_state_line<W: Sink>(writer: &mut W, state: Option<u8>) -> Result<(), W::Error>
+    ensures { OnOk result (Gains (W.output writer.old) (W.output writer.new)
         (line_of (codes "IFLA_OPERSTATE") (enum_text operational_states) state)) }
 {
     match state {
         Some(state) => {
-            writer.write_all(b"  IFLA_OPERSTATE ")?;
+            writer.put(b"  IFLA_OPERSTATE ")?;
             write_enum(writer, OPERATIONAL_STATES, state.into())?;
-            writer.write_all(b"\n")
+            writer.put(b"\n")
         }
         None => Ok(()),
     }
 }
 
 /// Writes the number of attributes that are not written.
-fn write_others<W: Write>(writer: &mut W, count: usize) -> io::Result<()>
-    ensures { OnOk result (Appends (W.contents writer.old) (W.contents writer.new)
+fn write_others<W: Sink>(writer: &mut W, count: usize) -> Result<(), W::Error>
+    ensures { OnOk result (Gains (W.output writer.old) (W.output writer.new)
         (others_line count)) }
 {
     if count == 0 {
         return Ok(());
     }
     if count == 1 {
-        return writer.write_all(b"  1 other attribute\n");
+        return writer.put(b"  1 other attribute\n");
     }
-    writeln!(writer, "  {count} other attributes")
+    put_pieces(
+        writer,
+        &[
+            Piece::Text("  "),
+            Piece::Number(count as u64),
+            Piece::Text(" other attributes\n"),
+        ],
+    )
 }
 
 /// Writes the error of a header among the attributes, if there is one. Returns whether there is none.
-pub(crate) fn write_header_fault<W: Write>(
+pub(crate) fn write_header_fault<W: Sink>(
     writer: &mut W,
     fault: Option<MessageError>,
-) -> io::Result<bool>
-    ensures { IfOk result (λ well. Appends (W.contents writer.old) (W.contents writer.new) (fault_line fault)
+) -> Result<bool, W::Error>
+    ensures { IfOk result (λ well. Gains (W.output writer.old) (W.output writer.new) (fault_line fault)
         × (well ≡ is_sound fault)) }
 {
     match fault {

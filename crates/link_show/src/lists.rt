@@ -1,7 +1,7 @@
 //! Lists, a line for each attribute.
 
 ghost use Rattle.std.specs.Prelude.{◌≡◌, ◌++◌, ◌+◌, ◌<◌, ◌^◌, [], IfOk, OnOk};
-ghost use Rattle.std.specs.Io.KnownBytes.{Appends};
+ghost use Rattle.link_show.specs.Sink.{Gains};
 ghost use Rattle.link_base.specs.Buffer.{kind_field_of};
 ghost use Rattle.link_base.specs.Viewed.{set_in, buffer_in, set_of, bytes_in};
 ghost use Rattle.link_show.specs.Fault.{fault_text};
@@ -12,7 +12,9 @@ ghost use Rattle.link_show.specs.List.{WritesElements, WritesElement};
 use crate::addresses::write_addresses;
 use crate::attributes::{write_attribute, write_head, write_named};
 use crate::faults::write_fault;
+use crate::pieces::{Piece, put_pieces};
 use crate::sets::ListSet;
+use crate::sink::Sink;
 use link_base::attribute_set::AttributeSet;
 use link_base::content::Content;
 use link_base::label::KindLabel;
@@ -20,8 +22,6 @@ use link_base::view::{Value, View};
 use link_base::view_all::ViewAll;
 use link_base::{DecodeFault, NlaBuffer};
 use link_messages::Payload;
-use std::io;
-use std::io::Write;
 
 /// Writes the lines of a list of attributes of `set`: a line for each attribute, below a nested list one for each of its
 /// elements, and one for each error, in order. A malformed attribute hides no other; a malformed header ends the list.
@@ -31,14 +31,14 @@ use std::io::Write;
 /// # Errors
 ///
 /// That of the writer.
-pub fn write_list<S: ListSet, W: Write>(
+pub fn write_list<S: ListSet, W: Sink>(
     writer: &mut W,
     set: S,
     indent: &str,
     list: Payload<'_>,
-) -> io::Result<bool>
+) -> Result<bool, W::Error>
     ensures { IfOk result (WritesList indent.now list.entry.at (S.rows set) list.entry.bytes.now
-        (W.contents writer.old) (W.contents writer.new)) }
+        (W.output writer.old) (W.output writer.new)) }
 {
     let mut whole = true;
     for item in ViewAll::new(list.bytes, set) {
@@ -54,30 +54,37 @@ pub fn write_list<S: ListSet, W: Write>(
 }
 
 /// Writes the line of an error at this offset.
-#[tactic(auto, using(crate::proofs::Written::then_written))]
-fn write_error<S: ListSet, W: Write>(
+fn write_error<S: ListSet, W: Sink>(
     writer: &mut W,
     set: S,
     indent: &str,
     at: usize,
     fault: DecodeFault,
-) -> io::Result<()>
-    ensures { OnOk result (Appends (W.contents writer.old) (W.contents writer.new)
+) -> Result<(), W::Error>
+    ensures { OnOk result (Gains (W.output writer.old) (W.output writer.new)
         (error_line indent.now at (fault_text (S.rows set) fault))) }
 {
-    write!(writer, "{indent}error at {at}: ")?;
+    put_pieces(
+        writer,
+        &[
+            Piece::Text(indent),
+            Piece::Text("error at "),
+            Piece::Number(at as u64),
+            Piece::Text(": "),
+        ],
+    )?;
     write_fault(writer, set, fault)?;
-    writer.write_all(b"\n")
+    writer.put(b"\n")
 }
 
 /// Writes the lines of an attribute.
-fn write_lines<S: ListSet, W: Write>(
+fn write_lines<S: ListSet, W: Sink>(
     writer: &mut W,
     indent: &str,
     value: &Value<'_, S>,
-) -> io::Result<()>
+) -> Result<(), W::Error>
     ensures { OnOk result (WritesValue indent.now (S.rows (set_in value.now)) (buffer_in value.now)
-        (W.contents writer.old) (W.contents writer.new)) }
+        (W.output writer.old) (W.output writer.new)) }
 {
     let label = value.label();
     let buffer = value.buffer();
@@ -89,29 +96,29 @@ fn write_lines<S: ListSet, W: Write>(
 }
 
 /// Writes the line of an attribute that is not a nested list.
-fn write_flat<W: Write>(
+fn write_flat<W: Sink>(
     writer: &mut W,
     indent: &str,
     label: Option<KindLabel>,
     buffer: NlaBuffer<'_>,
     content: Content<'_>,
-) -> io::Result<()>
+) -> Result<(), W::Error>
     ensures { OnOk result (WritesFlat indent.now (label_in label) (kind_field_of buffer.entry) content.entry
-        (W.contents writer.old) (W.contents writer.new)) }
+        (W.output writer.old) (W.output writer.new)) }
 {
-    writer.write_all(indent.as_bytes())?;
+    writer.put(indent.as_bytes())?;
     write_named(writer, label, buffer, content)?;
     write_more(writer, content)?;
-    writer.write_all(b"\n")
+    writer.put(b"\n")
 }
 
 /// Writes the addresses of a list of addresses after a space.
-fn write_more<W: Write>(writer: &mut W, content: Content<'_>) -> io::Result<()>
-    ensures { OnOk result (WritesMore content.entry (W.contents writer.old) (W.contents writer.new)) }
+fn write_more<W: Sink>(writer: &mut W, content: Content<'_>) -> Result<(), W::Error>
+    ensures { OnOk result (WritesMore content.entry (W.output writer.old) (W.output writer.new)) }
 {
     match content {
         Content::Addresses { list, size } => {
-            writer.write_all(b" ")?;
+            writer.put(b" ")?;
             write_addresses(writer, list, size)
         }
         _ => Ok(()),
@@ -119,33 +126,33 @@ fn write_more<W: Write>(writer: &mut W, content: Content<'_>) -> io::Result<()>
 }
 
 /// Writes the name of a nested list, and below it a line for each of its elements.
-fn write_nested<T: AttributeSet, W: Write>(
+fn write_nested<T: AttributeSet, W: Sink>(
     writer: &mut W,
     indent: &str,
     label: Option<KindLabel>,
     buffer: NlaBuffer<'_>,
     elements: View<'_, T>,
-) -> io::Result<()>
+) -> Result<(), W::Error>
     ensures { OnOk result (WritesNested indent.now (head_text (label_in label) (kind_field_of buffer.entry))
-        (T.rows (set_of elements.entry)) (bytes_in elements.entry) (W.contents writer.old) (W.contents writer.new)) }
+        (T.rows (set_of elements.entry)) (bytes_in elements.entry) (W.output writer.old) (W.output writer.new)) }
 {
-    writer.write_all(indent.as_bytes())?;
+    writer.put(indent.as_bytes())?;
     write_head(writer, label, buffer)?;
     if elements.bytes().is_empty() {
-        return writer.write_all(b" (empty)\n");
+        return writer.put(b" (empty)\n");
     }
-    writer.write_all(b"\n")?;
+    writer.put(b"\n")?;
     write_elements(writer, indent, elements)
 }
 
 /// Writes a line for each element of a nested list.
-fn write_elements<T: AttributeSet, W: Write>(
+fn write_elements<T: AttributeSet, W: Sink>(
     writer: &mut W,
     indent: &str,
     elements: View<'_, T>,
-) -> io::Result<()>
+) -> Result<(), W::Error>
     ensures { OnOk result (WritesElements indent.now (T.rows (set_of elements.entry)) (bytes_in elements.entry)
-        (W.contents writer.old) (W.contents writer.new)) }
+        (W.output writer.old) (W.output writer.new)) }
 {
     for element in elements {
         write_element(writer, indent, &element)?;
@@ -154,16 +161,16 @@ fn write_elements<T: AttributeSet, W: Write>(
 }
 
 /// Writes the line of an element.
-fn write_element<T: AttributeSet, W: Write>(
+fn write_element<T: AttributeSet, W: Sink>(
     writer: &mut W,
     indent: &str,
     element: &Value<'_, T>,
-) -> io::Result<()>
+) -> Result<(), W::Error>
     ensures { OnOk result (WritesElement indent.now (T.rows (set_in element.now)) (buffer_in element.now)
-        (W.contents writer.old) (W.contents writer.new)) }
+        (W.output writer.old) (W.output writer.new)) }
 {
-    writer.write_all(indent.as_bytes())?;
-    writer.write_all(b"  ")?;
+    writer.put(indent.as_bytes())?;
+    writer.put(b"  ")?;
     write_attribute(writer, element)?;
-    writer.write_all(b"\n")
+    writer.put(b"\n")
 }

@@ -1,7 +1,7 @@
 //! Messages, and buffers of them.
 
 ghost use Rattle.std.specs.Prelude.{◌≡◌, Bool, codes, IfOk, OnOk};
-ghost use Rattle.std.specs.Io.KnownBytes.{Appends};
+ghost use Rattle.link_show.specs.Sink.{Gains};
 ghost use Rattle.link_base.specs.Labels.{name_in};
 ghost use Rattle.link_messages.specs.Header.{IsAnyLinkType};
 ghost use Rattle.link_show.specs.List.{Writes};
@@ -12,10 +12,10 @@ use crate::flags::{name_of, write_flags};
 use crate::links::write_link;
 use crate::message_errors::write_message_error;
 use crate::message_names::{MESSAGE_TYPES, flag_names};
+use crate::pieces::{Piece, put_pieces};
 use crate::replies::write_acknowledgement;
+use crate::sink::Sink;
 use link_messages::{Message, any_message, link_details, read_acknowledgement};
-use std::io;
-use std::io::Write;
 
 /// The type of the kernel's replies (`include/uapi/linux/netlink.h`).
 const NLMSG_ERROR: u16 = 2;
@@ -39,9 +39,9 @@ const RTM_SETLINK: u16 = 19;
 /// # Errors
 ///
 /// That of the writer.
-pub fn write_messages<W: Write>(writer: &mut W, buffer: &[u8], check: bool) -> io::Result<bool>
+pub fn write_messages<W: Sink>(writer: &mut W, buffer: &[u8], check: bool) -> Result<bool, W::Error>
     ensures { IfOk result (Writes (ShowsMessages check buffer.now)
-        (W.contents writer.old) (W.contents writer.new)) }
+        (W.output writer.old) (W.output writer.new)) }
 {
     let mut whole = true;
     let mut at = 0;
@@ -68,13 +68,13 @@ pub fn write_messages<W: Write>(writer: &mut W, buffer: &[u8], check: bool) -> i
 /// # Errors
 ///
 /// That of the writer.
-pub fn write_message<W: Write>(
+pub fn write_message<W: Sink>(
     writer: &mut W,
     message: &Message<'_>,
     check: bool,
-) -> io::Result<bool>
+) -> Result<bool, W::Error>
     ensures { IfOk result (Writes (ShowsMessage check message.now)
-        (W.contents writer.old) (W.contents writer.new)) }
+        (W.output writer.old) (W.output writer.new)) }
 {
     write_first_line(writer, message)?;
     match message.kind {
@@ -87,39 +87,55 @@ pub fn write_message<W: Write>(
 }
 
 /// Writes the first line of a message: its type and the other fields of its header.
-#[tactic(auto, using(crate::proofs::Written::then_written), unfolding(crate::specs::Message::message_line))]
-fn write_first_line<W: Write>(writer: &mut W, message: &Message<'_>) -> io::Result<()>
-    ensures { OnOk result (Appends (W.contents writer.old) (W.contents writer.new)
+#[tactic(auto, unfolding(crate::specs::Message::message_line))]
+fn write_first_line<W: Sink>(writer: &mut W, message: &Message<'_>) -> Result<(), W::Error>
+    ensures { OnOk result (Gains (W.output writer.old) (W.output writer.new)
         (message_line message.now)) }
 {
     write_type(writer, message.kind.into())?;
     let length = 16 + message.payload.len();
-    write!(writer, " len {length} flags ")?;
+    put_pieces(
+        writer,
+        &[
+            Piece::Text(" len "),
+            Piece::Number(length as u64),
+            Piece::Text(" flags "),
+        ],
+    )?;
     write_flags(writer, flag_names(message.kind), 2, message.flags.into())?;
     let sequence = message.sequence;
     let port = message.port;
-    writeln!(writer, " seq {sequence} pid {port}")
+    put_pieces(
+        writer,
+        &[
+            Piece::Text(" seq "),
+            Piece::Number(sequence as u64),
+            Piece::Text(" pid "),
+            Piece::Number(port as u64),
+            Piece::Text("\n"),
+        ],
+    )
 }
 
-fn write_type<W: Write>(writer: &mut W, kind: u64) -> io::Result<()>
-    ensures { OnOk result (Appends (W.contents writer.old) (W.contents writer.new)
+fn write_type<W: Sink>(writer: &mut W, kind: u64) -> Result<(), W::Error>
+    ensures { OnOk result (Gains (W.output writer.old) (W.output writer.new)
         (named_or (codes "type ") (name_in message_types kind) kind)) }
 {
     match name_of(MESSAGE_TYPES, kind) {
-        Some(name) => writer.write_all(name.as_bytes()),
-        None => write!(writer, "type {kind}"),
+        Some(name) => writer.put(name.as_bytes()),
+        None => put_pieces(writer, &[Piece::Text("type "), Piece::Number(kind as u64)]),
     }
 }
 
 /// Writes the lines of a message about a link, below its first line.
-fn write_about_link<W: Write>(
+fn write_about_link<W: Sink>(
     writer: &mut W,
     message: &Message<'_>,
     check: bool,
-) -> io::Result<bool>
+) -> Result<bool, W::Error>
     requires { IsAnyLinkType message.now.kind }
     ensures { IfOk result (Writes (ShowsBody check message.now)
-        (W.contents writer.old) (W.contents writer.new)) }
+        (W.output writer.old) (W.output writer.new)) }
 {
     match link_details(message) {
         Ok(details) => write_link(writer, &details, check),
@@ -131,10 +147,10 @@ fn write_about_link<W: Write>(
 }
 
 /// Writes the lines of an NLMSG_ERROR, below its first line.
-fn write_reply<W: Write>(writer: &mut W, message: &Message<'_>) -> io::Result<bool>
+fn write_reply<W: Sink>(writer: &mut W, message: &Message<'_>) -> Result<bool, W::Error>
     requires { message.now.kind ≡ 2 }
     ensures { (check : Bool) → IfOk result (Writes (ShowsBody check message.now)
-        (W.contents writer.old) (W.contents writer.new)) }
+        (W.output writer.old) (W.output writer.new)) }
 {
     match read_acknowledgement(message) {
         Ok(reply) => write_acknowledgement(writer, &reply),

@@ -2,32 +2,47 @@
 
 ghost use Rattle.std.specs.Prelude.{◌≡◌, ◌≤◌, ◌+◌, ◌*◌, length, map, codes, OnOk};
 ghost use Rattle.std.specs.Fmt.{decimal};
-ghost use Rattle.std.specs.Io.KnownBytes.{Appends};
+ghost use Rattle.link_show.specs.Sink.{Gains};
 ghost use Rattle.link_base.specs.declared.label.Quantity.TheVariants.{ClockTicks};
 ghost use Rattle.link_show.specs.Number.{number_text, unit_of, array_text, width_of};
 ghost use Rattle.link_show.specs.Text.{joined};
 ghost use Rattle.link_base.specs.Layout.{number_at, numbers_at, numbers_of};
 
+use crate::pieces::{Piece, put_number, put_pieces};
+use crate::sink::Sink;
 use link_base::label::Quantity;
 use link_base::{u16_at, u32_at};
-use std::io;
-use std::io::Write;
 
 /// Writes a number with what it counts, such as `100 ms`, `1500 (15.00 s)` or `ifindex 3`.
 ///
 /// # Errors
 ///
 /// That of the writer.
-pub fn write_number<W: Write>(writer: &mut W, quantity: Quantity, number: u64) -> io::Result<()>
-    ensures { OnOk result (Appends (W.contents writer.old) (W.contents writer.new) (number_text quantity number)) }
+pub fn write_number<W: Sink>(
+    writer: &mut W,
+    quantity: Quantity,
+    number: u64,
+) -> Result<(), W::Error>
+    ensures { OnOk result (Gains (W.output writer.old) (W.output writer.new) (number_text quantity number)) }
 {
     match quantity {
         Quantity::ClockTicks => write_ticks(writer, number),
-        Quantity::InterfaceIndex => write!(writer, "ifindex {number}"),
-        Quantity::Mask => write!(writer, "{number} (0x{number:x})"),
+        Quantity::InterfaceIndex => put_pieces(
+            writer,
+            &[Piece::Text("ifindex "), Piece::Number(number)],
+        ),
+        Quantity::Mask => put_pieces(
+            writer,
+            &[
+                Piece::Number(number),
+                Piece::Text(" (0x"),
+                Piece::Hex(number),
+                Piece::Text(")"),
+            ],
+        ),
         _ => {
             let unit = unit_of(quantity);
-            write!(writer, "{number}{unit}")
+            put_pieces(writer, &[Piece::Number(number), Piece::Text(unit)])
         }
     }
 }
@@ -57,13 +72,13 @@ pub(crate) enum Width {
 /// Writes an array of little-endian numbers, with spaces between them, and what they count after the last; `(empty)` if
 /// there is none.
 #[tactic(auto, unfolding(crate::specs::Number::array_text))]
-pub(crate) fn write_array<W: Write>(
+pub(crate) fn write_array<W: Sink>(
     writer: &mut W,
     quantity: Quantity,
     width: Width,
     bytes: &[u8],
-) -> io::Result<()>
-    ensures { OnOk result (Appends (W.contents writer.old) (W.contents writer.new)
+) -> Result<(), W::Error>
+    ensures { OnOk result (Gains (W.output writer.old) (W.output writer.new)
         (array_text quantity (numbers_of (width_of width) bytes.now))) }
 {
     let count = match width {
@@ -71,28 +86,28 @@ pub(crate) fn write_array<W: Write>(
         Width::Four => bytes.len() / 4,
     };
     if count == 0 {
-        return writer.write_all(b"(empty)");
+        return writer.put(b"(empty)");
     }
     write_numbers(writer, width, count, bytes)?;
-    writer.write_all(unit_of(quantity).as_bytes())
+    writer.put(unit_of(quantity).as_bytes())
 }
 
 /// Writes the first `count` numbers of an array, with spaces between them.
-fn write_numbers<W: Write>(
+fn write_numbers<W: Sink>(
     writer: &mut W,
     width: Width,
     count: usize,
     bytes: &[u8],
-) -> io::Result<()>
+) -> Result<(), W::Error>
     requires { count * width_of width ≤ length bytes.now }
-    ensures { OnOk result (Appends (W.contents writer.old) (W.contents writer.new)
+    ensures { OnOk result (Gains (W.output writer.old) (W.output writer.new)
         (joined (codes " ") (map decimal (numbers_at (width_of width) count 0 bytes.now)))) }
 {
     let mut separator = b"".as_slice();
     for i in 0..count {
         let number = number_at(bytes, width, i);
-        writer.write_all(separator)?;
-        write!(writer, "{number}")?;
+        writer.put(separator)?;
+        put_number(writer, number as u64)?;
         separator = b" ".as_slice();
     }
     Ok(())
@@ -110,11 +125,22 @@ fn number_at(bytes: &[u8], width: Width, index: usize) -> u32
 }
 
 /// Writes clock ticks, which are hundredths of a second, and how many seconds they are.
-fn write_ticks<W: Write>(writer: &mut W, ticks: u64) -> io::Result<()>
-    ensures { OnOk result (Appends (W.contents writer.old) (W.contents writer.new) (number_text ClockTicks ticks)) }
+fn write_ticks<W: Sink>(writer: &mut W, ticks: u64) -> Result<(), W::Error>
+    ensures { OnOk result (Gains (W.output writer.old) (W.output writer.new) (number_text ClockTicks ticks)) }
 {
     let seconds = ticks / 100;
     let tenths = ticks / 10 % 10;
     let hundredths = ticks % 10;
-    write!(writer, "{ticks} ({seconds}.{tenths}{hundredths} s)")
+    put_pieces(
+        writer,
+        &[
+            Piece::Number(ticks),
+            Piece::Text(" ("),
+            Piece::Number(seconds),
+            Piece::Text("."),
+            Piece::Number(tenths),
+            Piece::Number(hundredths),
+            Piece::Text(" s)"),
+        ],
+    )
 }

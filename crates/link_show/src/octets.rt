@@ -1,26 +1,26 @@
 //! Bytes: hardware addresses, and bytes in hexadecimal.
 
 ghost use Rattle.std.specs.Prelude.{◌++◌, OnOk};
-ghost use Rattle.std.specs.Io.KnownBytes.{Appends};
+ghost use Rattle.link_show.specs.Sink.{Gains};
 ghost use Rattle.link_show.specs.Octets.{byte_text, hex_text, address_text};
 
-use std::io;
-use std::io::Write;
+use crate::pieces::hex_digit;
+use crate::sink::Sink;
 
 /// Writes a hardware address of any length, such as `02:00:00:00:00:01`; `(empty)` if it has no bytes.
 ///
 /// # Errors
 ///
 /// That of the writer.
-pub fn write_address<W: Write>(writer: &mut W, address: &[u8]) -> io::Result<()>
-    ensures { OnOk result (Appends (W.contents writer.old) (W.contents writer.new) (address_text address.now)) }
+pub fn write_address<W: Sink>(writer: &mut W, address: &[u8]) -> Result<(), W::Error>
+    ensures { OnOk result (Gains (W.output writer.old) (W.output writer.new) (address_text address.now)) }
 {
     if address.is_empty() {
-        return writer.write_all(b"(empty)");
+        return writer.put(b"(empty)");
     }
     let mut separator = b"".as_slice();
     for byte in address {
-        writer.write_all(separator)?;
+        writer.put(separator)?;
         write_byte(writer, *byte)?;
         separator = b":".as_slice();
     }
@@ -32,8 +32,8 @@ pub fn write_address<W: Write>(writer: &mut W, address: &[u8]) -> io::Result<()>
 /// # Errors
 ///
 /// That of the writer.
-pub fn write_hex<W: Write>(writer: &mut W, bytes: &[u8]) -> io::Result<()>
-    ensures { OnOk result (Appends (W.contents writer.old) (W.contents writer.new) (hex_text bytes.now)) }
+pub fn write_hex<W: Sink>(writer: &mut W, bytes: &[u8]) -> Result<(), W::Error>
+    ensures { OnOk result (Gains (W.output writer.old) (W.output writer.new) (hex_text bytes.now)) }
 {
     for byte in bytes {
         write_byte(writer, *byte)?;
@@ -41,18 +41,20 @@ pub fn write_hex<W: Write>(writer: &mut W, bytes: &[u8]) -> io::Result<()>
     Ok(())
 }
 
-pub(crate) fn write_byte<W: Write>(writer: &mut W, byte: u8) -> io::Result<()>
-    ensures { OnOk result (Appends (W.contents writer.old) (W.contents writer.new) (byte_text byte)) }
+pub(crate) fn write_byte<W: Sink>(writer: &mut W, byte: u8) -> Result<(), W::Error>
+    ensures { OnOk result (Gains (W.output writer.old) (W.output writer.new) (byte_text byte)) }
 {
-    let high = byte / 16;
-    let low = byte % 16;
-    write!(writer, "{high:x}{low:x}")
+    writer.put(&[hex_digit(byte / 16), hex_digit(byte % 16)])
 }
 
 /// Writes a text after a separator.
-pub(crate) fn write_after<W: Write>(writer: &mut W, separator: &[u8], text: &[u8]) -> io::Result<()>
-    ensures { OnOk result (Appends (W.contents writer.old) (W.contents writer.new) (separator.now ++ text.now)) }
+pub(crate) fn write_after<W: Sink>(
+    writer: &mut W,
+    separator: &[u8],
+    text: &[u8],
+) -> Result<(), W::Error>
+    ensures { OnOk result (Gains (W.output writer.old) (W.output writer.new) (separator.now ++ text.now)) }
 {
-    writer.write_all(separator)?;
-    writer.write_all(text)
+    writer.put(separator)?;
+    writer.put(text)
 }

@@ -1,13 +1,12 @@
 //! Bytes between quotes.
 
 ghost use Rattle.std.specs.Prelude.{OnOk};
-ghost use Rattle.std.specs.Io.KnownBytes.{Appends};
+ghost use Rattle.link_show.specs.Sink.{Gains};
 ghost use Rattle.std.specs.List.{flat_map};
 ghost use Rattle.link_show.specs.Quoted.{quoted_byte, quoted};
 
 use crate::octets::write_byte;
-use std::io;
-use std::io::Write;
+use crate::sink::Sink;
 
 /// Writes bytes between quotes: printable ASCII characters as they are, but `"` and `\` after a backslash, and every other
 /// byte as `\xNN`.
@@ -15,16 +14,16 @@ use std::io::Write;
 /// # Errors
 ///
 /// That of the writer.
-pub fn write_quoted<W: Write>(writer: &mut W, bytes: &[u8]) -> io::Result<()>
-    ensures { OnOk result (Appends (W.contents writer.old) (W.contents writer.new) (quoted bytes.now)) }
+pub fn write_quoted<W: Sink>(writer: &mut W, bytes: &[u8]) -> Result<(), W::Error>
+    ensures { OnOk result (Gains (W.output writer.old) (W.output writer.new) (quoted bytes.now)) }
 {
-    writer.write_all(b"\"")?;
+    writer.put(b"\"")?;
     write_quoted_bytes(writer, bytes)?;
-    writer.write_all(b"\"")
+    writer.put(b"\"")
 }
 
-fn write_quoted_bytes<W: Write>(writer: &mut W, bytes: &[u8]) -> io::Result<()>
-    ensures { OnOk result (Appends (W.contents writer.old) (W.contents writer.new) (flat_map quoted_byte bytes.now)) }
+fn write_quoted_bytes<W: Sink>(writer: &mut W, bytes: &[u8]) -> Result<(), W::Error>
+    ensures { OnOk result (Gains (W.output writer.old) (W.output writer.new) (flat_map quoted_byte bytes.now)) }
 {
     for byte in bytes {
         write_quoted_byte(writer, *byte)?;
@@ -32,15 +31,15 @@ fn write_quoted_bytes<W: Write>(writer: &mut W, bytes: &[u8]) -> io::Result<()>
     Ok(())
 }
 
-fn write_quoted_byte<W: Write>(writer: &mut W, byte: u8) -> io::Result<()>
-    ensures { OnOk result (Appends (W.contents writer.old) (W.contents writer.new) (quoted_byte byte)) }
+fn write_quoted_byte<W: Sink>(writer: &mut W, byte: u8) -> Result<(), W::Error>
+    ensures { OnOk result (Gains (W.output writer.old) (W.output writer.new) (quoted_byte byte)) }
 {
     match byte {
-        b'"' => writer.write_all(b"\\\""),
-        b'\\' => writer.write_all(b"\\\\"),
-        b' '..=b'~' => writer.write_all(&[byte]),
+        b'"' => writer.put(b"\\\""),
+        b'\\' => writer.put(b"\\\\"),
+        b' '..=b'~' => writer.put(&[byte]),
         _ => {
-            writer.write_all(b"\\x")?;
+            writer.put(b"\\x")?;
             write_byte(writer, byte)
         }
     }

@@ -5,17 +5,17 @@ ghost use Rattle.std.specs.Fmt.{decimal};
 ghost use Rattle.std.specs.Option.{option_copied};
 ghost use Rattle.std.specs.Int.{is_negative};
 ghost use Rattle.std.specs.Int.RustNames.{unsigned_abs};
-ghost use Rattle.std.specs.Io.KnownBytes.{Appends};
+ghost use Rattle.link_show.specs.Sink.{Gains};
 ghost use Rattle.link_show.specs.Quoted.{quoted};
 ghost use Rattle.link_show.specs.Message.{reply_lines, is_sound, errno_name, result_line, error_number_line, line_of};
 
 use crate::errno::ERRNOS;
 use crate::flags::name_of;
 use crate::links::write_header_fault;
+use crate::pieces::{Piece, put_pieces};
 use crate::quoted::write_quoted;
+use crate::sink::Sink;
 use link_messages::Acknowledgement;
-use std::io;
-use std::io::Write;
 
 /// Writes the lines of an NLMSG_ERROR, below its first line: `ack`, or the error by its name and number; and what the
 /// kernel says of it. Returns whether no line is an error of the message itself.
@@ -23,11 +23,11 @@ use std::io::Write;
 /// # Errors
 ///
 /// That of the writer.
-pub fn write_acknowledgement<W: Write>(
+pub fn write_acknowledgement<W: Sink>(
     writer: &mut W,
     reply: &Acknowledgement<'_>,
-) -> io::Result<bool>
-    ensures { IfOk result (λ well. Appends (W.contents writer.old) (W.contents writer.new) (reply_lines reply.now)
+) -> Result<bool, W::Error>
+    ensures { IfOk result (λ well. Gains (W.output writer.old) (W.output writer.new) (reply_lines reply.now)
         × (well ≡ is_sound reply.now.fault)) }
 {
     write_result(writer, reply)?;
@@ -38,13 +38,13 @@ pub fn write_acknowledgement<W: Write>(
 }
 
 /// Writes the line of the result of a request: `ack` for 0, otherwise an error.
-fn write_result<W: Write>(writer: &mut W, reply: &Acknowledgement<'_>) -> io::Result<()>
-    ensures { OnOk result (Appends (W.contents writer.old) (W.contents writer.new)
+fn write_result<W: Sink>(writer: &mut W, reply: &Acknowledgement<'_>) -> Result<(), W::Error>
+    ensures { OnOk result (Gains (W.output writer.old) (W.output writer.new)
         (result_line reply.now.error)) }
 {
     let number = errno_of(reply);
     if number == 0 {
-        return writer.write_all(b"  ack\n");
+        return writer.put(b"  ack\n");
     }
     write_errno(writer, errno_name(reply), reply)
 }
@@ -74,44 +74,68 @@ fn errno_name(reply: &Acknowledgement<'_>) -> Option<&'static str>
 }
 
 /// Writes the line of an error, with its name if it has one.
-fn write_errno<W: Write>(
+fn write_errno<W: Sink>(
     writer: &mut W,
     name: Option<&str>,
     reply: &Acknowledgement<'_>,
-) -> io::Result<()>
-    ensures { OnOk result (Appends (W.contents writer.old) (W.contents writer.new)
+) -> Result<(), W::Error>
+    ensures { OnOk result (Gains (W.output writer.old) (W.output writer.new)
         (error_number_line (option_map (λ text. text.now) name.entry) reply.now.error)) }
 {
     let error = reply.error;
     match name {
-        Some(name) => writeln!(writer, "  error {name} ({error})"),
-        None => writeln!(writer, "  error ({error})"),
+        Some(name) => put_pieces(
+            writer,
+            &[
+                Piece::Text("  error "),
+                Piece::Text(name),
+                Piece::Text(" ("),
+                Piece::Signed(error),
+                Piece::Text(")\n"),
+            ],
+        ),
+        None => put_pieces(
+            writer,
+            &[
+                Piece::Text("  error ("),
+                Piece::Signed(error),
+                Piece::Text(")\n"),
+            ],
+        ),
     }
 }
 
 /// Writes the kernel's text, if there is one.
-#[tactic(auto, using(crate::proofs::Written::then_written))]
-fn write_message<W: Write>(writer: &mut W, text: Option<&[u8]>) -> io::Result<()>
-    ensures { OnOk result (Appends (W.contents writer.old) (W.contents writer.new)
+fn write_message<W: Sink>(writer: &mut W, text: Option<&[u8]>) -> Result<(), W::Error>
+    ensures { OnOk result (Gains (W.output writer.old) (W.output writer.new)
         (line_of (codes "message") quoted (option_copied text.entry))) }
 {
     match text {
         Some(text) => {
-            writer.write_all(b"  message ")?;
+            writer.put(b"  message ")?;
             write_quoted(writer, text)?;
-            writer.write_all(b"\n")
+            writer.put(b"\n")
         }
         None => Ok(()),
     }
 }
 
 /// Writes a number after its name, if there is one.
-fn write_number<W: Write>(writer: &mut W, name: &str, number: Option<u32>) -> io::Result<()>
-    ensures { OnOk result (Appends (W.contents writer.old) (W.contents writer.new)
+fn write_number<W: Sink>(writer: &mut W, name: &str, number: Option<u32>) -> Result<(), W::Error>
+    ensures { OnOk result (Gains (W.output writer.old) (W.output writer.new)
         (line_of name.now decimal number)) }
 {
     match number {
-        Some(number) => writeln!(writer, "  {name} {number}"),
+        Some(number) => put_pieces(
+            writer,
+            &[
+                Piece::Text("  "),
+                Piece::Text(name),
+                Piece::Text(" "),
+                Piece::Number(number as u64),
+                Piece::Text("\n"),
+            ],
+        ),
         None => Ok(()),
     }
 }

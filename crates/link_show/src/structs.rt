@@ -1,7 +1,7 @@
 //! Structs, by the kernel's names of their fields.
 
 ghost use Rattle.std.specs.Prelude.{◌≡◌, ℕ, List, map, OnOk};
-ghost use Rattle.std.specs.Io.KnownBytes.{Appends};
+ghost use Rattle.link_show.specs.Sink.{Gains};
 ghost use Rattle.link_show.specs.Flags.{flags_text};
 ghost use Rattle.link_show.specs.Value.{masked_text, four_bytes};
 ghost use Rattle.link_base.specs.Labels.{names_in};
@@ -9,6 +9,8 @@ ghost use Rattle.link_show.specs.Structs.{struct_text, field, number_field, numb
 
 use crate::flags::write_flags;
 use crate::octets::{write_address, write_byte, write_hex};
+use crate::pieces::{Piece, put_pieces};
+use crate::sink::Sink;
 use bitflags::Flags;
 use link_base::PayloadStruct;
 use link_base::flag_laws::FlagSet;
@@ -17,8 +19,6 @@ use link_bridge::{
     BridgeBooleanOptionFlags, BridgeBooleanOptions, BridgeId, BridgeVlanInfo, BridgeVlanInfoFlags,
 };
 use link_vlan_can::{CanBerrCounter, CanBitTiming, CanClock, CanCtrlMode, CanCtrlModeFlags};
-use std::io;
-use std::io::Write;
 
 /// A struct whose fields have a text.
 pub trait StructText: PayloadStruct {
@@ -30,17 +30,17 @@ pub trait StructText: PayloadStruct {
     /// # Errors
     ///
     /// That of the writer.
-    fn write_text<W: Write>(&self, writer: &mut W) -> io::Result<()>
-        ensures { OnOk result (Appends (W.contents writer.old) (W.contents writer.new) (text self.now)) };
+    fn write_text<W: Sink>(&self, writer: &mut W) -> Result<(), W::Error>
+        ensures { OnOk result (Gains (W.output writer.old) (W.output writer.new) (text self.now)) };
 }
 
 /// Writes the struct in a payload, or, if the length of the payload is not accepted, its bytes.
 #[tactic(auto, unfolding(crate::specs::Structs::struct_text))]
-pub(crate) fn write_struct<S: StructText, W: Write>(
+pub(crate) fn write_struct<S: StructText, W: Sink>(
     writer: &mut W,
     payload: &[u8],
-) -> io::Result<()>
-    ensures { OnOk result (Appends (W.contents writer.old) (W.contents writer.new)
+) -> Result<(), W::Error>
+    ensures { OnOk result (Gains (W.output writer.old) (W.output writer.new)
         (struct_text S.extent S.value_of S.text payload.now)) }
 {
     match S::parse_payload(payload) {
@@ -55,48 +55,54 @@ pub(crate) struct NumberField(pub(crate) &'static str, pub(crate) u32);
 
 /// Writes fields that are numbers, each after its name.
 #[tactic(auto, unfolding(crate::specs::Structs::number_fields))]
-pub(crate) fn write_numbers<W: Write>(writer: &mut W, fields: &[NumberField]) -> io::Result<()>
-    ensures { OnOk result (Appends (W.contents writer.old) (W.contents writer.new)
+pub(crate) fn write_numbers<W: Sink>(writer: &mut W, fields: &[NumberField]) -> Result<(), W::Error>
+    ensures { OnOk result (Gains (W.output writer.old) (W.output writer.new)
         (number_fields (map number_field fields.now))) }
 {
     let mut separator = b"".as_slice();
     for field in fields {
         let NumberField(name, number) = *field;
-        writer.write_all(separator)?;
-        write!(writer, "{name} {number}")?;
+        writer.put(separator)?;
+        put_pieces(
+            writer,
+            &[
+                Piece::Text(name),
+                Piece::Text(" "),
+                Piece::Number(number as u64),
+            ],
+        )?;
         separator = b" ".as_slice();
     }
     Ok(())
 }
 
 /// Writes a field that is a set of flags, after its name.
-fn write_flags_field<F: FlagSet, W: Write>(
+fn write_flags_field<F: FlagSet, W: Sink>(
     writer: &mut W,
     name: &str,
     width: usize,
     bits: u64,
-) -> io::Result<()>
-    ensures { OnOk result (Appends (W.contents writer.old) (W.contents writer.new)
+) -> Result<(), W::Error>
+    ensures { OnOk result (Gains (W.output writer.old) (W.output writer.new)
         (field name.now (flags_text F.bit_names width bits))) }
 {
-    write!(writer, "{name} ")?;
+    put_pieces(writer, &[Piece::Text(name), Piece::Text(" ")])?;
     write_flags(writer, F::names(), width, bits)
 }
 
 /// Writes a set of flags, and which of them count.
-#[tactic(auto, using(crate::proofs::Written::then_written))]
-pub(crate) fn write_masked<W: Write>(
+pub(crate) fn write_masked<W: Sink>(
     writer: &mut W,
     names: &[Name],
     flags: u32,
     mask: u32,
-) -> io::Result<()>
-    ensures { OnOk result (Appends (W.contents writer.old) (W.contents writer.new)
+) -> Result<(), W::Error>
+    ensures { OnOk result (Gains (W.output writer.old) (W.output writer.new)
         (masked_text (names_in names.now) (four_bytes flags) (four_bytes mask))) }
 {
-    writer.write_all(b"flags ")?;
+    writer.put(b"flags ")?;
     write_flags(writer, names, 4, flags.into())?;
-    writer.write_all(b" mask ")?;
+    writer.put(b" mask ")?;
     write_flags(writer, names, 4, mask.into())
 }
 
@@ -106,11 +112,11 @@ impl StructText for BridgeId {
 
     ghost text = { bridge_id_text };
 
-    fn write_text<W: Write>(&self, writer: &mut W) -> io::Result<()> {
+    fn write_text<W: Sink>(&self, writer: &mut W) -> Result<(), W::Error> {
         let [high, low] = self.priority.to_be_bytes();
         write_byte(writer, high)?;
         write_byte(writer, low)?;
-        writer.write_all(b".")?;
+        writer.put(b".")?;
         write_address(writer, &self.address)
     }
 }
@@ -121,10 +127,16 @@ impl StructText for BridgeVlanInfo {
 
     ghost text = { vlan_info_text };
 
-    #[tactic(auto, using(crate::proofs::Written::then_written))]
-    fn write_text<W: Write>(&self, writer: &mut W) -> io::Result<()> {
+    fn write_text<W: Sink>(&self, writer: &mut W) -> Result<(), W::Error> {
         let vid = self.vid;
-        write!(writer, "vid {vid} ")?;
+        put_pieces(
+            writer,
+            &[
+                Piece::Text("vid "),
+                Piece::Number(vid as u64),
+                Piece::Text(" "),
+            ],
+        )?;
         write_flags_field::<BridgeVlanInfoFlags, W>(writer, "flags", 2, self.flags.bits().into())
     }
 }
@@ -135,15 +147,14 @@ impl StructText for BridgeBooleanOptions {
 
     ghost text = { options_text };
 
-    #[tactic(auto, using(crate::proofs::Written::then_written))]
-    fn write_text<W: Write>(&self, writer: &mut W) -> io::Result<()> {
+    fn write_text<W: Sink>(&self, writer: &mut W) -> Result<(), W::Error> {
         write_flags_field::<BridgeBooleanOptionFlags, W>(
             writer,
             "value",
             4,
             self.value.bits().into(),
         )?;
-        writer.write_all(b" ")?;
+        writer.put(b" ")?;
         write_flags_field::<BridgeBooleanOptionFlags, W>(writer, "mask", 4, self.mask.bits().into())
     }
 }
@@ -154,10 +165,9 @@ impl StructText for CanCtrlMode {
 
     ghost text = { ctrl_mode_text };
 
-    #[tactic(auto, using(crate::proofs::Written::then_written))]
-    fn write_text<W: Write>(&self, writer: &mut W) -> io::Result<()> {
+    fn write_text<W: Sink>(&self, writer: &mut W) -> Result<(), W::Error> {
         write_flags_field::<CanCtrlModeFlags, W>(writer, "mask", 4, self.mask.bits().into())?;
-        writer.write_all(b" ")?;
+        writer.put(b" ")?;
         write_flags_field::<CanCtrlModeFlags, W>(writer, "flags", 4, self.flags.bits().into())
     }
 }
@@ -168,7 +178,7 @@ impl StructText for CanBitTiming {
 
     ghost text = { bit_timing_text };
 
-    fn write_text<W: Write>(&self, writer: &mut W) -> io::Result<()> {
+    fn write_text<W: Sink>(&self, writer: &mut W) -> Result<(), W::Error> {
         write_numbers(
             writer,
             &[
@@ -191,7 +201,7 @@ impl StructText for CanClock {
 
     ghost text = { clock_text };
 
-    fn write_text<W: Write>(&self, writer: &mut W) -> io::Result<()> {
+    fn write_text<W: Sink>(&self, writer: &mut W) -> Result<(), W::Error> {
         write_numbers(writer, &[NumberField("freq", self.freq)])
     }
 }
@@ -202,7 +212,7 @@ impl StructText for CanBerrCounter {
 
     ghost text = { berr_counter_text };
 
-    fn write_text<W: Write>(&self, writer: &mut W) -> io::Result<()> {
+    fn write_text<W: Sink>(&self, writer: &mut W) -> Result<(), W::Error> {
         write_numbers(
             writer,
             &[

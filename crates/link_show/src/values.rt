@@ -1,7 +1,7 @@
 //! Values, by the form of their content.
 
-ghost use Rattle.std.specs.Prelude.{◌≤◌, ◌∷◌, [], length, codes, None, OnOk};
-ghost use Rattle.std.specs.Io.KnownBytes.{Appends};
+ghost use Rattle.std.specs.Prelude.{◌≡◌, ◌≤◌, ◌∷◌, [], length, codes, None, OnOk};
+ghost use Rattle.link_show.specs.Sink.{Gains};
 ghost use Rattle.std.specs.Net.Addr.{segments_of};
 ghost use Rattle.std.specs.Net.Text.{ipv6_text};
 ghost use Rattle.link_base.specs.IpAddress.{sixteen_octets};
@@ -10,14 +10,18 @@ ghost use Rattle.link_show.specs.Structs.{number_fields};
 ghost use Rattle.link_show.specs.Value.{can_state_names, unsigned_text, struct_of, limit_fields, limits_text, four_bytes};
 ghost use Rattle.link_show.specs.Value.{protocol_text, other_text, content_text, value_text, WritesValue};
 ghost use Rattle.link_base.specs.Labels.{label_of};
+ghost use Rattle.link_base.specs.Named.{text_of};
+ghost use Rattle.link_base.specs.Protocol.{vlan_protocols, protocol_number};
 ghost use Rattle.link_base.specs.Buffer.{kind_field_of};
 ghost use Rattle.link_base.specs.Viewed.{set_in, buffer_in, payload_in};
 
-use crate::addresses::write_ipv6;
 use crate::flags::{write_enum, write_flags};
+use crate::ip::{write_ipv4, write_ipv6};
 use crate::numbers::{Width, write_array, write_number};
 use crate::octets::{write_address, write_hex};
+use crate::pieces::{Piece, put_pieces};
 use crate::quoted::write_quoted;
+use crate::sink::Sink;
 use crate::structs::{NumberField, write_masked, write_numbers, write_struct};
 use link_base::attribute_set::AttributeSet;
 use link_base::content::Content;
@@ -26,8 +30,6 @@ use link_base::view::Value;
 use link_base::{Address, VlanProtocol, u32_at};
 use link_bridge::{BridgeBooleanOptions, BridgeId, BridgeVlanInfo};
 use link_vlan_can::{CanBerrCounter, CanBitTiming, CanClock, CanCtrlMode};
-use std::io;
-use std::io::Write;
 use std::net::Ipv6Addr;
 
 /// The names of `enum can_state` (`include/uapi/linux/can/netlink.h`), without their prefix.
@@ -46,12 +48,12 @@ const CAN_STATES: &[Name] = names![
 /// # Errors
 ///
 /// That of the writer.
-pub fn write_value<S: AttributeSet, W: Write>(
+pub fn write_value<S: AttributeSet, W: Sink>(
     writer: &mut W,
     value: &Value<'_, S>,
-) -> io::Result<()>
+) -> Result<(), W::Error>
     ensures { OnOk result (WritesValue (S.rows (set_in value.now)) (kind_field_of (buffer_in value.now)) (payload_in value.now)
-        (W.contents writer.old) (W.contents writer.new)) }
+        (W.output writer.old) (W.output writer.new)) }
 {
     let content = value.content();
     match value.label() {
@@ -61,8 +63,11 @@ pub fn write_value<S: AttributeSet, W: Write>(
 }
 
 /// Writes the content of an attribute whose type has no row.
-pub(crate) fn write_unlabelled<W: Write>(writer: &mut W, content: Content<'_>) -> io::Result<()>
-    ensures { OnOk result (Appends (W.contents writer.old) (W.contents writer.new) (value_text None content.entry)) }
+pub(crate) fn write_unlabelled<W: Sink>(
+    writer: &mut W,
+    content: Content<'_>,
+) -> Result<(), W::Error>
+    ensures { OnOk result (Gains (W.output writer.old) (W.output writer.new) (value_text None content.entry)) }
 {
     match content {
         Content::Other(payload) => write_other(writer, payload),
@@ -76,17 +81,17 @@ pub(crate) fn write_unlabelled<W: Write>(writer: &mut W, content: Content<'_>) -
 /// # Errors
 ///
 /// That of the writer.
-pub fn write_content<W: Write>(
+pub fn write_content<W: Sink>(
     writer: &mut W,
     label: &KindLabel,
     content: Content<'_>,
-) -> io::Result<()>
-    ensures { OnOk result (Appends (W.contents writer.old) (W.contents writer.new)
+) -> Result<(), W::Error>
+    ensures { OnOk result (Gains (W.output writer.old) (W.output writer.new)
         (content_text (label_of label.now) content.entry)) }
 {
     match content {
         Content::Nothing | Content::Addresses { .. } | Content::List(_) => Ok(()),
-        Content::Bool(is_on) => writer.write_all(if is_on {
+        Content::Bool(is_on) => writer.put(if is_on {
             b"on".as_slice()
         } else {
             b"off".as_slice()
@@ -97,7 +102,7 @@ pub fn write_content<W: Write>(
             label.quantity,
             number,
         ),
-        Content::Signed(number) => write!(writer, "{number}"),
+        Content::Signed(number) => put_pieces(writer, &[Piece::Signed(number)]),
         Content::Enum { number, .. } => write_enum(writer, label.names, number),
         Content::Flags { bits, width } => write_flags(writer, label.names, width, bits),
         Content::LowFlags(bits) => write_flags(writer, label.names, 1, bits.into()),
@@ -105,7 +110,7 @@ pub fn write_content<W: Write>(
         Content::Pair(from, to) => write_pair(writer, from, to),
         Content::Protocol(protocol) => write_protocol(writer, protocol),
         Content::Mac(address) => write_address(writer, &address),
-        Content::Ipv4(address) => write!(writer, "{address}"),
+        Content::Ipv4(address) => write_ipv4(writer, &address.octets()),
         Content::Ipv6(address) => write_ipv6_address(writer, address),
         Content::Bytes(bytes) => write_address(writer, bytes),
         Content::Struct(payload) => write_struct_of(writer, label.name, payload),
@@ -116,15 +121,15 @@ pub fn write_content<W: Write>(
     }
 }
 
-fn write_pair<W: Write>(writer: &mut W, from: u32, to: u32) -> io::Result<()>
-    ensures { OnOk result (Appends (W.contents writer.old) (W.contents writer.new)
+fn write_pair<W: Sink>(writer: &mut W, from: u32, to: u32) -> Result<(), W::Error>
+    ensures { OnOk result (Gains (W.output writer.old) (W.output writer.new)
         (number_fields ((codes "from", four_bytes from) ∷ (codes "to", four_bytes to) ∷ []))) }
 {
     write_numbers(writer, &[NumberField("from", from), NumberField("to", to)])
 }
 
-fn write_ipv6_address<W: Write>(writer: &mut W, address: Ipv6Addr) -> io::Result<()>
-    ensures { OnOk result (Appends (W.contents writer.old) (W.contents writer.new)
+fn write_ipv6_address<W: Sink>(writer: &mut W, address: Ipv6Addr) -> Result<(), W::Error>
+    ensures { OnOk result (Gains (W.output writer.old) (W.output writer.new)
         (ipv6_text (segments_of (sixteen_octets address)))) }
 {
     let mut octets = [0; 16];
@@ -132,31 +137,47 @@ fn write_ipv6_address<W: Write>(writer: &mut W, address: Ipv6Addr) -> io::Result
     write_ipv6(writer, &octets)
 }
 
-fn write_protocol<W: Write>(writer: &mut W, protocol: VlanProtocol) -> io::Result<()>
-    ensures { OnOk result (Appends (W.contents writer.old) (W.contents writer.new) (protocol_text protocol)) }
+fn write_protocol<W: Sink>(writer: &mut W, protocol: VlanProtocol) -> Result<(), W::Error>
+    ensures { OnOk result (Gains (W.output writer.old) (W.output writer.new) (protocol_text protocol)) }
 {
     let number = u16::from(protocol);
-    write!(writer, "{protocol} (0x{number:x})")
+    put_pieces(
+        writer,
+        &[
+            Piece::Text(protocol_name(protocol)),
+            Piece::Text(" (0x"),
+            Piece::Hex(number as u64),
+            Piece::Text(")"),
+        ],
+    )
+}
+
+fn protocol_name(protocol: VlanProtocol) -> &'static str
+    ensures { result.now ≡ text_of vlan_protocols.labels (protocol_number protocol) }
+{
+    match protocol {
+        VlanProtocol::Ieee8021Q => "802.1Q",
+        VlanProtocol::Ieee8021Ad => "802.1ad",
+    }
 }
 
 /// Writes the limits of a CAN controller.
-#[tactic(auto, using(crate::proofs::Written::then_written))]
-fn write_limits<W: Write>(writer: &mut W, name: &[u8], numbers: &[u8]) -> io::Result<()>
-    ensures { OnOk result (Appends (W.contents writer.old) (W.contents writer.new)
+fn write_limits<W: Sink>(writer: &mut W, name: &[u8], numbers: &[u8]) -> Result<(), W::Error>
+    ensures { OnOk result (Gains (W.output writer.old) (W.output writer.new)
         (limits_text name.now numbers.now)) }
 {
-    writer.write_all(b"name ")?;
+    writer.put(b"name ")?;
     write_quoted(writer, name)?;
-    writer.write_all(b" ")?;
+    writer.put(b" ")?;
     if numbers.len() < 32 {
         return write_hex(writer, numbers);
     }
     write_limit_numbers(writer, numbers)
 }
 
-fn write_limit_numbers<W: Write>(writer: &mut W, numbers: &[u8]) -> io::Result<()>
+fn write_limit_numbers<W: Sink>(writer: &mut W, numbers: &[u8]) -> Result<(), W::Error>
     requires { 32 ≤ length numbers.now }
-    ensures { OnOk result (Appends (W.contents writer.old) (W.contents writer.new)
+    ensures { OnOk result (Gains (W.output writer.old) (W.output writer.new)
         (number_fields (limit_fields numbers.now))) }
 {
     write_numbers(
@@ -175,25 +196,25 @@ fn write_limit_numbers<W: Write>(writer: &mut W, numbers: &[u8]) -> io::Result<(
 }
 
 /// Writes the payload of an attribute whose type has no row.
-fn write_other<W: Write>(writer: &mut W, payload: &[u8]) -> io::Result<()>
-    ensures { OnOk result (Appends (W.contents writer.old) (W.contents writer.new) (other_text payload.now)) }
+fn write_other<W: Sink>(writer: &mut W, payload: &[u8]) -> Result<(), W::Error>
+    ensures { OnOk result (Gains (W.output writer.old) (W.output writer.new) (other_text payload.now)) }
 {
     if payload.is_empty() {
-        return writer.write_all(b"(empty)");
+        return writer.put(b"(empty)");
     }
-    writer.write_all(b"hex ")?;
+    writer.put(b"hex ")?;
     write_hex(writer, payload)
 }
 
 /// Writes an unsigned number of an attribute type. `IFLA_CAN_STATE` is an enum, though its table has it as a number.
 #[tactic(auto, unfolding(crate::specs::Value::unsigned_text))]
-fn write_unsigned<W: Write>(
+fn write_unsigned<W: Sink>(
     writer: &mut W,
     name: &str,
     quantity: Quantity,
     number: u64,
-) -> io::Result<()>
-    ensures { OnOk result (Appends (W.contents writer.old) (W.contents writer.new) (unsigned_text name.now quantity number)) }
+) -> Result<(), W::Error>
+    ensures { OnOk result (Gains (W.output writer.old) (W.output writer.new) (unsigned_text name.now quantity number)) }
 {
     if name == "IFLA_CAN_STATE" {
         return write_can_state(writer, number);
@@ -201,16 +222,16 @@ fn write_unsigned<W: Write>(
     write_number(writer, quantity, number)
 }
 
-fn write_can_state<W: Write>(writer: &mut W, state: u64) -> io::Result<()>
-    ensures { OnOk result (Appends (W.contents writer.old) (W.contents writer.new) (enum_text can_state_names state)) }
+fn write_can_state<W: Sink>(writer: &mut W, state: u64) -> Result<(), W::Error>
+    ensures { OnOk result (Gains (W.output writer.old) (W.output writer.new) (enum_text can_state_names state)) }
 {
     write_enum(writer, CAN_STATES, state)
 }
 
 /// Writes the struct that is the payload of an attribute type, or its bytes, if it is none that is known.
 #[tactic(auto, unfolding(crate::specs::Value::struct_of))]
-fn write_struct_of<W: Write>(writer: &mut W, name: &str, payload: &[u8]) -> io::Result<()>
-    ensures { OnOk result (Appends (W.contents writer.old) (W.contents writer.new) (struct_of name.now payload.now)) }
+fn write_struct_of<W: Sink>(writer: &mut W, name: &str, payload: &[u8]) -> Result<(), W::Error>
+    ensures { OnOk result (Gains (W.output writer.old) (W.output writer.new) (struct_of name.now payload.now)) }
 {
     match name {
         "IFLA_BR_ROOT_ID" | "IFLA_BR_BRIDGE_ID" | "IFLA_BRPORT_ROOT_ID" | "IFLA_BRPORT_BRIDGE_ID" =>

@@ -80,8 +80,7 @@ enum nlroute_refusal {
                                error */
     NLROUTE_TOO_LONG = -2,  /* an otherwise valid attribute would have a payload of more than 65531 bytes */
     NLROUTE_NO_MEMORY = -3, /* an allocation failed (not proved: that this is the only reason for the code); returned by
-                               nlroute_rewrite(), nlroute_rewrite_streaming(), nlroute_text(), nlroute_fault_text() and
-                               nlroute_report() only */
+                               nlroute_rewrite(), nlroute_rewrite_streaming() and nlroute_report() only */
     NLROUTE_NO_ROOM = -4,   /* the output buffer is too small; each function specifies the size that it needs */
     NLROUTE_NO_FAMILY = -5, /* family is not one of the numbers above */
     NLROUTE_ABSENT = -6,    /* the list does not have what was looked up, or has no error; a number or a bit has no
@@ -388,7 +387,7 @@ ptrdiff_t nlroute_measure(uint32_t family, const struct nlroute_value *values, s
 /*
  * Texts. The functions below store a text as snprintf() does. The buffer `text` has room bytes; it gets the first
  * bytes of the text, at most room - 1, and a NUL after them. Its rest is unchanged, and if room is 0, nothing is
- * written. Returns the length of the whole text, without the NUL.
+ * written. Returns the length of the whole text, without the NUL, at most PTRDIFF_MAX. None of them allocates.
  *
  * On error the buffer gets the empty text: a NUL, if room is not 0.
  *
@@ -401,7 +400,7 @@ ptrdiff_t nlroute_measure(uint32_t family, const struct nlroute_value *values, s
 /*
  * Stores the name of an attribute type: the kernel's constant, such as "IFLA_BR_FORWARD_DELAY", or "type 99" if the
  * type is not known. The fields kind, inner and depth of the value select the type. An address of a list or a number
- * of an array has an index in place of a type: "[3]". Does not allocate, and returns no error but NLROUTE_NO_FAMILY.
+ * of an array has an index in place of a type: "[3]". Returns no error but NLROUTE_NO_FAMILY.
  */
 ptrdiff_t nlroute_kind_name(uint32_t family, const struct nlroute_value *value, char *text, size_t room);
 
@@ -412,16 +411,15 @@ ptrdiff_t nlroute_kind_name(uint32_t family, const struct nlroute_value *value, 
  *
  * The field form selects the fields that are written. The fields kind, inner and depth select the unit of a number,
  * the names of numbers and bits, and the width of a set of flags, all of whose bits are "all". The len bytes at octets
- * are the list that the value was read from. Allocates only if the text is longer than NLROUTE_TEXT_ROOM (not proved).
+ * are the list that the value was read from.
  *
- * Returns the first of these that applies, for a value of nlroute_values() none but the last:
+ * Returns the first of these that applies, for a value of nlroute_values() none:
  * - NLROUTE_BAD_FORM if form is NLROUTE_FORM_OF_KIND, or not one of enum nlroute_form;
  * - NLROUTE_BAD_NUMBER if the attribute cannot hold number or second: a boolean is 0 or 1, a VLAN protocol 0x8100 or
  *   0x88A8, a VLAN ID, its flags, a priority or an error counter less than 65536, flags with a mask, a priority that is
  *   mapped, or a frequency less than 2^32;
  * - NLROUTE_BAD_OCTETS if the form is NLROUTE_FORM_BITTIMING (NLROUTE_FORM_BITTIMING_CONST) and length is not 32 (48),
- *   or if it is one of these two, NLROUTE_FORM_BYTES or NLROUTE_FORM_UNKNOWN, and len is less than offset + length;
- * - NLROUTE_NO_MEMORY if an allocation fails.
+ *   or if it is one of these two, NLROUTE_FORM_BYTES or NLROUTE_FORM_UNKNOWN, and len is less than offset + length.
  */
 ptrdiff_t nlroute_text(uint32_t family, const struct nlroute_value *value, const uint8_t *octets, size_t len,
                        char *text, size_t room);
@@ -488,14 +486,11 @@ ptrdiff_t nlroute_first_fault(uint32_t family, const uint8_t *bytes, size_t len,
 
 /*
  * Stores the text of an error, as nlshow prints it: "error at 8: IFLA_BR_HELLO_TIME has 3 bytes, expected 4". Stored
- * and returned as described under "Texts" above. Allocates only if the text is longer than NLROUTE_TEXT_ROOM (not
- * proved).
+ * and returned as described under "Texts" above.
  *
- * Returns
- * - NLROUTE_BAD_FORM if and only if place is not one of enum nlroute_place, cause not one of enum nlroute_cause, or
- *   kind or inner greater than 65535, or likewise first, for NLROUTE_SMALL_LENGTH and NLROUTE_OVERRUN; never for a
- *   struct that nlroute_first_fault() stored;
- * - NLROUTE_NO_MEMORY if an allocation fails.
+ * Returns NLROUTE_BAD_FORM if and only if place is not one of enum nlroute_place, cause not one of enum nlroute_cause,
+ * or kind or inner greater than 65535, or likewise first, for NLROUTE_SMALL_LENGTH and NLROUTE_OVERRUN; never for a
+ * struct that nlroute_first_fault() stored.
  */
 ptrdiff_t nlroute_fault_text(uint32_t family, const struct nlroute_fault *fault, char *text, size_t room);
 

@@ -8,3 +8,4 @@ pub mod ErrorTexts
 pub mod FirstErrors
 pub mod NameTexts
 pub mod HeldTexts
+pub mod CutTexts

@@ -7,9 +7,9 @@ use Rattle.netlink_packet_route.specs.declared.family.Family.{Family}
 use Rattle.link_show.specs.Value.{Label, form_in}
 use Rattle.link_flat.specs.declared.entry.Entry.{Entry}
 use Rattle.nlroute_ffi.specs.declared.refusal.Refusal.{Refusal}
-use Rattle.nlroute_ffi.specs.declared.refusal.Refusal.TheVariants.{Memory, BadForm, BadNumber, BadOctets}
+use Rattle.nlroute_ffi.specs.declared.refusal.Refusal.TheVariants.{BadForm, BadNumber, BadOctets}
 use Rattle.link_write.specs.FlagWidth.{flags_width}
-use Rattle.nlroute_ffi.specs.Buffers.{Stores, WordsAnswers}
+use Rattle.nlroute_ffi.specs.Buffers.{StoresText}
 use Rattle.nlroute_ffi.specs.ValueText.{is_form, holds_numbers, is_lent, has_size, octets_of, LendsOctets, LendsNone, TextAnswers, entry_text, label_with}
 
 -- what holds if a result is `Ok`, and it is
@@ -27,17 +27,15 @@ octets_lent form e octets n is holds sized lent within same = (
   ap (λ m. take m (drop e.offset octets)) same ∙ sym (ap (λ b. cond b (take e.length (drop e.offset octets)) []) lent),
 )
 
--- the text of an entry, or that an allocation failed
-pub text_answered : (family : Family) (e : Entry) (octets p : List ℕ) (label : Label) (width : ℕ) (old new : List ℕ) (r : Result ℕ Refusal) → LendsOctets (form_in label) e octets p → label ≡ label_with family e → width ≡ flags_width family e
-    → WordsAnswers (entry_text label width e p) old new r → TextAnswers e octets old new family r
-text_answered family e octets p label width old new (Ok n) lends is wide h = (
+-- the text of an entry
+pub text_answered : (family : Family) (e : Entry) (octets p : List ℕ) (label : Label) (width : ℕ) (old new : List ℕ) (n : ℕ) → LendsOctets (form_in label) e octets p → label ≡ label_with family e → width ≡ flags_width family e
+    → StoresText (entry_text label width e p) old new n → TextAnswers e octets old new family (Ok n)
+text_answered family e octets p label width old new n lends is wide h = (
   lends.0,
   subst (λ l. holds_numbers (form_in l) e ≡ true) is lends.1,
   lends.2,
-  subst (λ words. Stores words old new n) (ap₂ (λ l s. entry_text l width e s) is lends.3 ∙ ap (λ w. entry_text (label_with family e) w e (octets_of e octets)) wide) h,
+  subst (λ words. StoresText words old new n) (ap₂ (λ l s. entry_text l width e s) is lends.3 ∙ ap (λ w. entry_text (label_with family e) w e (octets_of e octets)) wide) h,
 )
-text_answered family e octets p label width old new (Err Memory) lends is wide h = tt
-text_answered family e octets p label width old new (Err refusal) lends is wide h = absurd h
 
 -- or why it has none
 pub text_refused : (family : Family) (e : Entry) (octets : List ℕ) (label : Label) (old new : List ℕ) (refusal : Refusal) → LendsNone (form_in label) e octets refusal → label ≡ label_with family e → TextAnswers e octets old new family (Err refusal)

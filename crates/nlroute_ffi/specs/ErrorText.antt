@@ -11,9 +11,9 @@ use Rattle.netlink_packet_route.specs.Family.{table_of}
 use Rattle.link_show.specs.Fault.{fault_text}
 use Rattle.nlroute_ffi.specs.declared.fault.FirstError.{FirstError}
 use Rattle.nlroute_ffi.specs.declared.refusal.Refusal.{Refusal}
-use Rattle.nlroute_ffi.specs.declared.refusal.Refusal.TheVariants.{BadForm, Memory}
+use Rattle.nlroute_ffi.specs.declared.refusal.Refusal.TheVariants.{BadForm}
 use Rattle.nlroute_ffi.specs.Numbers.{short_frame, small_length, overrun, wrong_length, too_short, address_length, frame, payload, element_frame, element_payload}
-use Rattle.nlroute_ffi.specs.Buffers.{Stores}
+use Rattle.nlroute_ffi.specs.Buffers.{StoresText}
 
 -- the causes with an `nla_len`, which is a `u16`
 abbrev pub small_cause : ℕ → Option Cause
@@ -80,9 +80,8 @@ FaultOccurs fault = ⊥
 abbrev pub error_text : Table → ℕ → DecodeFault → List ℕ
 error_text table at fault = codes "error at " ++ (decimal at ++ (codes ": " ++ fault_text table fault))
 
--- the buffer has the text of the error; or the struct has none, or an allocation failed
+-- the buffer has the text of the error; or the struct has none
 abbrev pub ErrorTextAnswers : FirstError → List ℕ → List ℕ → Family → Result ℕ Refusal → Type 0
-ErrorTextAnswers e old new family (Ok n) = (fault : DecodeFault) × (fault_of e ≡ Some fault) × Stores (error_text (table_of family) e.at fault) old new n
+ErrorTextAnswers e old new family (Ok n) = (fault : DecodeFault) × (fault_of e ≡ Some fault) × StoresText (error_text (table_of family) e.at fault) old new n
 ErrorTextAnswers e old new family (Err BadForm) = fault_of e ≡ None
-ErrorTextAnswers e old new family (Err Memory) = Unit {0}
 ErrorTextAnswers e old new family (Err refusal) = ⊥

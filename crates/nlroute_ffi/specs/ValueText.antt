@@ -20,9 +20,9 @@ use Rattle.link_show.specs.Value.{Label, name_in, quantity_in, form_in, names_of
 use Rattle.link_flat.specs.declared.entry.Entry.{Entry}
 use Rattle.link_flat.specs.Forms.{form_bool, form_unsigned, form_signed, form_named, form_flags, form_masked, form_mac, form_ipv4, form_ipv6, form_bridge_id, form_vlan_info, form_qos_mapping, form_berr_counter, form_bittiming, form_bittiming_const, form_bytes, form_unknown}
 use Rattle.nlroute_ffi.specs.declared.refusal.Refusal.{Refusal}
-use Rattle.nlroute_ffi.specs.declared.refusal.Refusal.TheVariants.{BadForm, BadNumber, BadOctets, Memory}
+use Rattle.nlroute_ffi.specs.declared.refusal.Refusal.TheVariants.{BadForm, BadNumber, BadOctets}
 use Rattle.link_write.specs.FlagWidth.{flags_width}
-use Rattle.nlroute_ffi.specs.Buffers.{Stores}
+use Rattle.nlroute_ffi.specs.Buffers.{StoresText}
 use Rattle.nlroute_ffi.specs.Names.{label_for}
 
 -- a number of two bytes
@@ -170,6 +170,5 @@ value_text family e octets = entry_text (label_with family e) (flags_width famil
 -- the buffer has the text; or why not
 abbrev pub TextAnswers : Entry → List ℕ → List ℕ → List ℕ → Family → Result ℕ Refusal → Type 0
 TextAnswers e octets old new family (Ok n) =
-    (is_form e.form ≡ true) × (holds_numbers (form_in (label_with family e)) e ≡ true) × (has_octets e octets ≡ true) × Stores (value_text family e octets) old new n
-TextAnswers e octets old new family (Err Memory) = Unit {0}
+    (is_form e.form ≡ true) × (holds_numbers (form_in (label_with family e)) e ≡ true) × (has_octets e octets ≡ true) × StoresText (value_text family e octets) old new n
 TextAnswers e octets old new family (Err refusal) = LendsNone (form_in (label_with family e)) e octets refusal

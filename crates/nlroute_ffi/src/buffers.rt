@@ -1,31 +1,10 @@
 //! Texts in a caller's buffer.
 
-ghost use Rattle.std.specs.Prelude.{◌≡◌, ◌<◌, ◌^◌, [], ℕ, List, Err, IfOk, OnOk, OnErr};
-ghost use Rattle.std.specs.Io.KnownBytes.{Appends};
-ghost use Rattle.nlroute_ffi.specs.Buffers.{cut_text, Stores, WordsAnswers};
+ghost use Rattle.std.specs.Prelude.{◌≡◌, ◌<◌, ◌^◌, [], Err};
+ghost use Rattle.nlroute_ffi.specs.Buffers.{cut_text, Stores, StoresText};
 
 use crate::refusal::Refusal;
-use arrayvec::ArrayVec;
-use std::alloc::Global;
-use std::io;
-use std::io::Write;
-
-/// How many bytes of a text are written without an allocation: `NLROUTE_TEXT_ROOM` of the header.
-const ROOM: usize = 256;
-
-/// A text that is written to a writer.
-pub(crate) trait Words {
-    /// The text.
-    ghost words: { Self → List ℕ };
-
-    /// Writes the text.
-    ///
-    /// # Errors
-    ///
-    /// That of the writer.
-    fn write_words<W: Write>(&self, writer: &mut W) -> io::Result<()>
-        ensures { OnOk result (Appends (W.contents writer.old) (W.contents writer.new) (words self.now)) };
-}
+use link_show::{Words, store_front};
 
 /// Stores a text at the start of `buffer`, as far as there is room before a NUL, and the NUL. Returns the length of
 /// the whole text; the rest of `buffer` is unchanged.
@@ -51,40 +30,15 @@ pub(crate) fn refuse(refusal: Refusal, buffer: &mut [u8]) -> Result<usize, Refus
     Err(refusal)
 }
 
-/// Stores a text as [`store`] does. Allocates only if the text is longer than `ROOM`.
-///
-/// # Errors
-///
-/// `Memory` if an allocation fails. Then `buffer` has the empty text.
-pub(crate) fn store_words<T: Words>(
-    alloc: Global,
-    words: &T,
-    buffer: &mut [u8],
-) -> Result<usize, Refusal>
-    ensures answer { WordsAnswers (T.words words.now) buffer.old buffer.new result }
-    ensures bounded { IfOk result (λ n. n < 2 ^ 63) }
-    ensures empty { OnErr result (buffer.new ≡ cut_text [] buffer.old) }
+/// Stores a text as [`store`] does. Returns its length, at most `isize::MAX`.
+pub(crate) fn store_words<T: Words>(words: &T, buffer: &mut [u8]) -> usize
+    ensures stored { StoresText (T.words words.now) buffer.old buffer.new result }
+    ensures bounded { result < 2 ^ 63 }
 {
-    let mut short = ArrayVec::<u8, ROOM>::new();
-    match words.write_words(&mut short) {
-        Ok(()) => Ok(store(short.as_slice(), buffer)),
-        Err(_) => store_long(alloc, words, buffer),
+    let room = buffer.len().saturating_sub(1);
+    let count = store_front(words, &mut buffer[..room]);
+    if !buffer.is_empty() {
+        buffer[count.min(room)] = 0;
     }
-}
-
-/// Stores a text as [`store`] does.
-///
-/// # Errors
-///
-/// `Memory` if an allocation fails. Then `buffer` has the empty text.
-fn store_long<T: Words>(alloc: Global, words: &T, buffer: &mut [u8]) -> Result<usize, Refusal>
-    ensures answer { WordsAnswers (T.words words.now) buffer.old buffer.new result }
-    ensures bounded { IfOk result (λ n. n < 2 ^ 63) }
-    ensures empty { OnErr result (buffer.new ≡ cut_text [] buffer.old) }
-{
-    let mut long = Vec::new(alloc);
-    match words.write_words(&mut long) {
-        Ok(()) => Ok(store(long.as_slice(), buffer)),
-        Err(_) => refuse(Refusal::Memory, buffer),
-    }
+    count.min(isize::MAX as usize)
 }

@@ -5,15 +5,13 @@ ghost use Rattle.netlink_packet_route.specs.Family.{table_of};
 ghost use Rattle.nlroute_ffi.specs.Buffers.{cut_text};
 ghost use Rattle.nlroute_ffi.specs.ErrorText.{fault_of, error_text, ErrorTextAnswers};
 
-use crate::buffers::{Words, refuse, store_words};
+use crate::buffers::{refuse, store_words};
 use crate::fault::{FirstError, fault_of};
 use crate::refusal::Refusal;
-use link_show::write_fault;
+use itoa::Buffer;
+use link_show::{Sink, Words, write_fault};
 use netlink_packet_route::link::DecodeFault;
 use netlink_packet_route::{Family, FamilySet};
-use std::alloc::Global;
-use std::io;
-use std::io::Write;
 
 /// An error in a list of an attribute set, at an offset.
 #[derive(Drop)]
@@ -26,10 +24,10 @@ struct ErrorWords {
 impl Words for ErrorWords {
     ghost words = { λ error. error_text (table_of error.family) error.at error.fault };
 
-    #[tactic(auto, using(link_show::proofs::Written::then_written))]
-    fn write_words<W: Write>(&self, writer: &mut W) -> io::Result<()> {
-        let at = self.at;
-        write!(writer, "error at {at}: ")?;
+    fn write_words<W: Sink>(&self, writer: &mut W) -> Result<(), W::Error> {
+        writer.put(b"error at ")?;
+        writer.put(Buffer::new().format(self.at).as_bytes())?;
+        writer.put(b": ")?;
         write_fault(
             writer,
             FamilySet {
@@ -44,10 +42,8 @@ impl Words for ErrorWords {
 ///
 /// # Errors
 ///
-/// `BadForm` if the numbers of `error` are not those of an error in a list, `Memory` if an allocation fails. Then
-/// `buffer` has the empty text.
+/// `BadForm` if the numbers of `error` are not those of an error in a list. Then `buffer` has the empty text.
 pub(crate) fn store_error_text(
-    alloc: Global,
     family: Family,
     error: &FirstError,
     buffer: &mut [u8],
@@ -58,7 +54,7 @@ pub(crate) fn store_error_text(
 {
     let at = error.at;
     match fault_of(error) {
-        Some(fault) => store_words(alloc, &ErrorWords { family, at, fault }, buffer),
+        Some(fault) => Ok(store_words(&ErrorWords { family, at, fault }, buffer)),
         None => refuse(Refusal::BadForm, buffer),
     }
 }

@@ -299,26 +299,20 @@ pub extern "C" fn nlroute_kind_name(family: u32, value: &Entry, out: &mut [u8]) 
 }
 
 /// Stores the text of `value` in `out`, as far as there is room before a NUL, and the NUL. `octets` are the bytes of
-/// the list. Returns the length of the whole text. Allocates only if the text is long.
+/// the list. Returns the length of the whole text, at most `isize::MAX`. Does not allocate.
 ///
 /// # Errors
 ///
 /// -5 if `family` is not the number of a `Family`; otherwise the first that applies: -7 if `value` has no form, -8 if its
-/// attribute cannot hold its numbers, -10 if its octets have a wrong length or are not within `octets`; -3 if an allocation
-/// fails. Then `out` has the empty text.
+/// attribute cannot hold its numbers, -10 if its octets have a wrong length or are not within `octets`. Then `out` has the
+/// empty text.
 #[unsafe(no_mangle)]
-pub extern "C" fn nlroute_text(
-    alloc: Global,
-    family: u32,
-    value: &Entry,
-    octets: &[u8],
-    out: &mut [u8],
-) -> isize
+pub extern "C" fn nlroute_text(family: u32, value: &Entry, octets: &[u8], out: &mut [u8]) -> isize
     ensures answer { AnswersBy family (TextAnswers value.now octets.now out.old out.new) result }
     ensures empty { result <ℤ pos 0 → out.new ≡ cut_text [] out.old }
 {
     match Family::from_number(family) {
-        Some(family) => answer_of(store_value_text(alloc, family, value, octets, out)),
+        Some(family) => answer_of(store_value_text(family, value, octets, out)),
         None => answer_of(refuse(Refusal::NoFamily, out)),
     }
 }
@@ -358,25 +352,20 @@ pub extern "C" fn nlroute_flag_name(family: u32, value: &Entry, bit: u32, out: &
 }
 
 /// Stores the text of an error in `out`, as far as there is room before a NUL, and the NUL, such as `error at 8:
-/// IFLA_BR_HELLO_TIME has 3 bytes, expected 4`. Returns the length of the whole text. Allocates only if the text is
-/// long.
+/// IFLA_BR_HELLO_TIME has 3 bytes, expected 4`. Returns the length of the whole text, at most `isize::MAX`. Does not
+/// allocate.
 ///
 /// # Errors
 ///
-/// -3 if an allocation fails, -5 if `family` is not the number of a `Family`, -7 if the numbers are not those of an
-/// error in a list. Then `out` has the empty text.
+/// -5 if `family` is not the number of a `Family`, -7 if the numbers are not those of an error in a list. Then `out` has
+/// the empty text.
 #[unsafe(no_mangle)]
-pub extern "C" fn nlroute_fault_text(
-    alloc: Global,
-    family: u32,
-    fault: &FirstError,
-    out: &mut [u8],
-) -> isize
+pub extern "C" fn nlroute_fault_text(family: u32, fault: &FirstError, out: &mut [u8]) -> isize
     ensures answer { AnswersBy family (ErrorTextAnswers fault.now out.old out.new) result }
     ensures empty { result <ℤ pos 0 → out.new ≡ cut_text [] out.old }
 {
     match Family::from_number(family) {
-        Some(family) => answer_of(store_error_text(alloc, family, fault, out)),
+        Some(family) => answer_of(store_error_text(family, fault, out)),
         None => answer_of(refuse(Refusal::NoFamily, out)),
     }
 }

@@ -422,7 +422,7 @@ fn texts(rt: HostRuntime) {
             ..BLANK
         };
         let mut out = [0xFF; 32];
-        let answer = nlroute_text(rt.alloc(), family, &value, &octets, &mut out);
+        let answer = nlroute_text(family, &value, &octets, &mut out);
         let is_so = holds_text(answer, &out, wanted);
         holds_of(&rt, is_so, wanted);
     }
@@ -434,10 +434,10 @@ fn texts(rt: HostRuntime) {
         ..BLANK
     };
     let mut out = [0xFF; 8];
-    assert!(rt; nlroute_text(rt.alloc(), 3, &long, &many, &mut out) == 604);
+    assert!(rt; nlroute_text(3, &long, &many, &mut out) == 604);
     assert!(rt; out == *b"hex aba\0");
-    assert!(rt; nlroute_text(rt.alloc(), 3, &long, &octets, &mut out) == -10 && out[0] == 0);
-    assert!(rt; nlroute_text(rt.alloc(), 3, &BLANK, &octets, &mut out) == -7 && out[0] == 0);
+    assert!(rt; nlroute_text(3, &long, &octets, &mut out) == -10 && out[0] == 0);
+    assert!(rt; nlroute_text(3, &BLANK, &octets, &mut out) == -7 && out[0] == 0);
 }
 
 /// An element of an attribute of type `kind`, and a set of flags.
@@ -509,7 +509,7 @@ fn texts_of_flags(rt: HostRuntime) {
     ];
     for (family, value, wanted) in rows {
         let mut out = [0xFF; 32];
-        let answer = nlroute_text(rt.alloc(), family, &value, &[], &mut out);
+        let answer = nlroute_text(family, &value, &[], &mut out);
         let is_so = holds_text(answer, &out, wanted);
         holds_of(&rt, is_so, wanted);
     }
@@ -553,7 +553,7 @@ fn values_without_a_text(rt: HostRuntime) {
             ..BLANK
         };
         let mut out = [0xFF; 8];
-        let answer = nlroute_text(rt.alloc(), family, &value, &octets, &mut out);
+        let answer = nlroute_text(family, &value, &octets, &mut out);
         holds(&rt, answer == wanted && out[0] == 0, family, wanted);
     }
 }
@@ -562,9 +562,9 @@ fn values_without_a_text(rt: HostRuntime) {
 fn texts_of_errors(rt: HostRuntime) {
     let mut error = NO_ERROR;
     let mut out = [0xFF; 96];
-    assert!(rt; nlroute_fault_text(rt.alloc(), 5, &error, &mut out) == -7 && out[0] == 0);
+    assert!(rt; nlroute_fault_text(5, &error, &mut out) == -7 && out[0] == 0);
     assert!(rt; nlroute_first_fault(5, &[11, 0, 3, 0, 7, 0, 1, 0, 1, 2, 3], &mut error) == 0);
-    let answer = nlroute_fault_text(rt.alloc(), 5, &error, &mut out);
+    let answer = nlroute_fault_text(5, &error, &mut out);
     let wanted = "error at 0: IFLA_VLAN_EGRESS_QOS: IFLA_VLAN_QOS_MAPPING has 3 bytes, expected 8";
     assert!(rt; holds_text(answer, &out, wanted));
 }

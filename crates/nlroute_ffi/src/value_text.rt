@@ -3,7 +3,7 @@
 ghost use Rattle.std.specs.Prelude.{◌≡◌, ◌<◌, ◌^◌, ◌==◌, if◌then◌else◌, [], ◌∷◌, length, take, drop, codes, IfOk, OnOk, OnErr, MatchResult};
 ghost use Rattle.std.specs.Fmt.{signed_decimal};
 ghost use Rattle.std.specs.Int.{w64, cast_signed};
-ghost use Rattle.std.specs.Io.KnownBytes.{Appends};
+ghost use Rattle.link_show.specs.Sink.{Gains};
 ghost use Rattle.std.specs.Net.Addr.{segments_of};
 ghost use Rattle.std.specs.Net.Text.{ipv4_text, ipv6_text};
 ghost use Rattle.link_base.specs.Class.{AtLeast};
@@ -20,11 +20,12 @@ ghost use Rattle.nlroute_ffi.specs.ValueText.{entry_text, fields_text, octets_te
 ghost use Rattle.nlroute_ffi.specs.ValueText.{holds_numbers, holds_unsigned, holds_named, has_size};
 ghost use Rattle.nlroute_ffi.specs.ValueText.{label_or_plain, is_lent, LendsOctets, LendsNone, TextAnswers};
 
-use crate::buffers::{Words, refuse, store_words};
+use crate::buffers::{refuse, store_words};
 use crate::names::label_of;
 use crate::refusal::Refusal;
 use crate::timing::before_nul;
 use bitflags::Flags;
+use itoa::Buffer;
 use link_base::content::Content;
 use link_base::label::{Form, KindLabel, Quantity};
 use link_base::{PayloadStruct, VlanProtocol};
@@ -32,14 +33,13 @@ use link_bridge::{
     BridgeBooleanOptionFlags, BridgeBooleanOptions, BridgeId, BridgeVlanInfo, BridgeVlanInfoFlags,
 };
 use link_flat::{Entry, forms};
-use link_show::{StructText, write_address, write_content, write_enum, write_flags, write_hex};
+use link_show::{
+    Sink, StructText, Words, write_address, write_content, write_enum, write_flags, write_hex,
+    write_ipv4, write_ipv6,
+};
 use link_vlan_can::{CanBerrCounter, CanBitTiming, CanClock, CanCtrlMode, CanCtrlModeFlags};
 use link_write::flags_width;
 use netlink_packet_route::Family;
-use std::alloc::Global;
-use std::io;
-use std::io::Write;
-use std::net::{Ipv4Addr, Ipv6Addr};
 
 /// What is known of a type without a row.
 const PLAIN: KindLabel = KindLabel {
@@ -62,7 +62,7 @@ struct ValueWords<'a> {
 impl Words for ValueWords<'_> {
     ghost words = { λ words. entry_text (label_of words.label) words.width words.value.now words.octets.now };
 
-    fn write_words<W: Write>(&self, writer: &mut W) -> io::Result<()> {
+    fn write_words<W: Sink>(&self, writer: &mut W) -> Result<(), W::Error> {
         write_entry(writer, &self.label, self.width, self.value, self.octets)
     }
 }
@@ -72,10 +72,8 @@ impl Words for ValueWords<'_> {
 /// # Errors
 ///
 /// The first that applies: `BadForm` if `value` has no form, `BadNumber` if its attribute cannot hold its numbers,
-/// `BadOctets` if its octets have a wrong length or are not within `octets`; `Memory` if an allocation fails. Then `buffer`
-/// has the empty text.
+/// `BadOctets` if its octets have a wrong length or are not within `octets`. Then `buffer` has the empty text.
 pub(crate) fn store_value_text(
-    alloc: Global,
     family: Family,
     value: &Entry,
     octets: &[u8],
@@ -88,8 +86,7 @@ pub(crate) fn store_value_text(
     let label = label_or_plain(label_of(family, value));
     let width = flags_width(family, value);
     match octets_of(label.form, value, octets) {
-        Ok(octets) => store_words(
-            alloc,
+        Ok(octets) => Ok(store_words(
             &ValueWords {
                 label,
                 width,
@@ -97,7 +94,7 @@ pub(crate) fn store_value_text(
                 octets,
             },
             buffer,
-        ),
+        )),
         Err(refusal) => refuse(refusal, buffer),
     }
 }
@@ -198,14 +195,14 @@ fn is_lent(form: u8) -> bool
 
 /// Writes the text of an entry that refers to these bytes. `label` is that of its type, of which a set of flags has `width`
 /// bytes.
-fn write_entry<W: Write>(
+fn write_entry<W: Sink>(
     writer: &mut W,
     label: &KindLabel,
     width: usize,
     value: &Entry,
     octets: &[u8],
-) -> io::Result<()>
-    ensures { OnOk result (Appends (W.contents writer.old) (W.contents writer.new)
+) -> Result<(), W::Error>
+    ensures { OnOk result (Gains (W.output writer.old) (W.output writer.new)
         (entry_text (label_of label.now) width value.now octets.now)) }
 {
     let number = value.number;
@@ -224,13 +221,13 @@ fn write_entry<W: Write>(
 }
 
 /// Writes the text of an entry whose form is not that of a number or a set of flags.
-fn write_fields<W: Write>(
+fn write_fields<W: Sink>(
     writer: &mut W,
     label: &KindLabel,
     value: &Entry,
     octets: &[u8],
-) -> io::Result<()>
-    ensures { OnOk result (Appends (W.contents writer.old) (W.contents writer.new)
+) -> Result<(), W::Error>
+    ensures { OnOk result (Gains (W.output writer.old) (W.output writer.new)
         (fields_text value.now.form value.now octets.now)) }
 {
     let number = value.number;
@@ -251,13 +248,13 @@ fn write_fields<W: Write>(
 }
 
 /// Writes bytes of a list by the form of the entry that refers to them, and nothing for other forms.
-fn write_octets<W: Write>(
+fn write_octets<W: Sink>(
     writer: &mut W,
     label: &KindLabel,
     form: u8,
     octets: &[u8],
-) -> io::Result<()>
-    ensures { OnOk result (Appends (W.contents writer.old) (W.contents writer.new) (octets_text form octets.now)) }
+) -> Result<(), W::Error>
+    ensures { OnOk result (Gains (W.output writer.old) (W.output writer.new) (octets_text form octets.now)) }
 {
     match form {
         forms::BITTIMING => write_timing(writer, octets),
@@ -268,19 +265,19 @@ fn write_octets<W: Write>(
     }
 }
 
-fn write_bool<W: Write>(writer: &mut W, number: u64) -> io::Result<()>
-    ensures { OnOk result (Appends (W.contents writer.old) (W.contents writer.new)
+fn write_bool<W: Sink>(writer: &mut W, number: u64) -> Result<(), W::Error>
+    ensures { OnOk result (Gains (W.output writer.old) (W.output writer.new)
         (if number == 0 then codes "off" else codes "on")) }
 {
     if number == 0 {
-        writer.write_all(b"off")
+        writer.put(b"off")
     } else {
-        writer.write_all(b"on")
+        writer.put(b"on")
     }
 }
 
-fn write_vlan_info<W: Write>(writer: &mut W, id: u16, bits: u32) -> io::Result<()>
-    ensures { OnOk result (Appends (W.contents writer.old) (W.contents writer.new)
+fn write_vlan_info<W: Sink>(writer: &mut W, id: u16, bits: u32) -> Result<(), W::Error>
+    ensures { OnOk result (Gains (W.output writer.old) (W.output writer.new)
         (vlan_info_text (record { flags = record { 0 = two_bytes bits }; vid = id }))) }
 {
     let flags = BridgeVlanInfoFlags::from_bits_retain(low_half(bits.into()));
@@ -303,8 +300,8 @@ fn low_word(number: u64) -> u32
 }
 
 /// Writes an unsigned number: of a struct, the frequency of a CAN controller.
-fn write_unsigned<W: Write>(writer: &mut W, label: &KindLabel, number: u64) -> io::Result<()>
-    ensures { OnOk result (Appends (W.contents writer.old) (W.contents writer.new)
+fn write_unsigned<W: Sink>(writer: &mut W, label: &KindLabel, number: u64) -> Result<(), W::Error>
+    ensures { OnOk result (Gains (W.output writer.old) (W.output writer.new)
         (unsigned_by label.now.form (label_of label.now) number)) }
 {
     match label.form {
@@ -316,17 +313,16 @@ fn write_unsigned<W: Write>(writer: &mut W, label: &KindLabel, number: u64) -> i
     }
 }
 
-fn write_signed<W: Write>(writer: &mut W, number: u64) -> io::Result<()>
-    ensures { OnOk result (Appends (W.contents writer.old) (W.contents writer.new)
+fn write_signed<W: Sink>(writer: &mut W, number: u64) -> Result<(), W::Error>
+    ensures { OnOk result (Gains (W.output writer.old) (W.output writer.new)
         (signed_decimal (cast_signed w64 number))) }
 {
-    let number = number.cast_signed();
-    write!(writer, "{number}")
+    writer.put(Buffer::new().format(number.cast_signed()).as_bytes())
 }
 
 /// Writes a number that may have a name.
-fn write_named<W: Write>(writer: &mut W, label: &KindLabel, number: u64) -> io::Result<()>
-    ensures { OnOk result (Appends (W.contents writer.old) (W.contents writer.new)
+fn write_named<W: Sink>(writer: &mut W, label: &KindLabel, number: u64) -> Result<(), W::Error>
+    ensures { OnOk result (Gains (W.output writer.old) (W.output writer.new)
         (named_by label.now.form (label_of label.now) number)) }
 {
     match label.form {
@@ -336,8 +332,8 @@ fn write_named<W: Write>(writer: &mut W, label: &KindLabel, number: u64) -> io::
     }
 }
 
-fn write_protocol<W: Write>(writer: &mut W, label: &KindLabel, number: u16) -> io::Result<()>
-    ensures { OnOk result (Appends (W.contents writer.old) (W.contents writer.new)
+fn write_protocol<W: Sink>(writer: &mut W, label: &KindLabel, number: u16) -> Result<(), W::Error>
+    ensures { OnOk result (Gains (W.output writer.old) (W.output writer.new)
         (protocol_text (value_of vlan_protocols number))) }
 {
     write_content(writer, label, Content::Protocol(VlanProtocol::from(number)))
@@ -354,13 +350,13 @@ fn width_by(form: Form, width: usize) -> usize
 }
 
 /// Writes flags and a mask.
-fn write_masked<W: Write>(
+fn write_masked<W: Sink>(
     writer: &mut W,
     label: &KindLabel,
     flags: u32,
     mask: u32,
-) -> io::Result<()>
-    ensures { OnOk result (Appends (W.contents writer.old) (W.contents writer.new)
+) -> Result<(), W::Error>
+    ensures { OnOk result (Gains (W.output writer.old) (W.output writer.new)
         (masked_by label.now.form (label_of label.now) (four_bytes flags) (four_bytes mask))) }
 {
     match label.form {
@@ -370,13 +366,13 @@ fn write_masked<W: Write>(
 }
 
 /// Writes the modes of a CAN controller, or the options of a bridge.
-fn write_masked_struct<W: Write>(
+fn write_masked_struct<W: Sink>(
     writer: &mut W,
     name: &str,
     flags: u32,
     mask: u32,
-) -> io::Result<()>
-    ensures { OnOk result (Appends (W.contents writer.old) (W.contents writer.new)
+) -> Result<(), W::Error>
+    ensures { OnOk result (Gains (W.output writer.old) (W.output writer.new)
         (masked_struct name.now (four_bytes flags) (four_bytes mask))) }
 {
     if name == "IFLA_CAN_CTRLMODE" {
@@ -393,33 +389,21 @@ fn write_masked_struct<W: Write>(
     .write_text(writer)
 }
 
-fn write_pair<W: Write>(writer: &mut W, label: &KindLabel, from: u32, to: u32) -> io::Result<()>
-    ensures { OnOk result (Appends (W.contents writer.old) (W.contents writer.new)
+fn write_pair<W: Sink>(
+    writer: &mut W,
+    label: &KindLabel,
+    from: u32,
+    to: u32,
+) -> Result<(), W::Error>
+    ensures { OnOk result (Gains (W.output writer.old) (W.output writer.new)
         (number_fields ((codes "from", four_bytes from) ∷ (codes "to", four_bytes to) ∷ []))) }
 {
     write_content(writer, label, Content::Pair(from, to))
 }
 
-fn write_ipv4<W: Write>(writer: &mut W, octets: &[u8]) -> io::Result<()>
-    requires { length octets.now ≡ 4 }
-    ensures { OnOk result (Appends (W.contents writer.old) (W.contents writer.new) (ipv4_text octets.now)) }
-{
-    let octets: Result<[u8; 4], _> = octets.try_into();
-    let address = Ipv4Addr::from_octets(octets.unwrap());
-    write!(writer, "{address}")
-}
-
-fn write_ipv6<W: Write>(writer: &mut W, octets: &[u8; 16]) -> io::Result<()>
-    ensures { OnOk result (Appends (W.contents writer.old) (W.contents writer.new)
-        (ipv6_text (segments_of octets.now))) }
-{
-    let address = Ipv6Addr::from_octets(*octets);
-    write!(writer, "{address}")
-}
-
-fn write_bridge_id<W: Write>(writer: &mut W, number: u16, octets: &[u8]) -> io::Result<()>
+fn write_bridge_id<W: Sink>(writer: &mut W, number: u16, octets: &[u8]) -> Result<(), W::Error>
     requires { length octets.now ≡ 6 }
-    ensures { OnOk result (Appends (W.contents writer.old) (W.contents writer.new)
+    ensures { OnOk result (Gains (W.output writer.old) (W.output writer.new)
         (bridge_id_text (record { priority = number; address = octets.now }))) }
 {
     let address: Result<[u8; 6], _> = octets.try_into();
@@ -432,8 +416,8 @@ fn write_bridge_id<W: Write>(writer: &mut W, number: u16, octets: &[u8]) -> io::
 
 /// Writes a bit timing, or, if there are too few bytes, the bytes.
 #[tactic(auto, unfolding(link_show::specs::Structs::struct_text))]
-fn write_timing<W: Write>(writer: &mut W, octets: &[u8]) -> io::Result<()>
-    ensures { OnOk result (Appends (W.contents writer.old) (W.contents writer.new)
+fn write_timing<W: Sink>(writer: &mut W, octets: &[u8]) -> Result<(), W::Error>
+    ensures { OnOk result (Gains (W.output writer.old) (W.output writer.new)
         (struct_text (AtLeast 32) timing_of bit_timing_text octets.now)) }
 {
     match CanBitTiming::parse_payload(octets) {
@@ -443,8 +427,8 @@ fn write_timing<W: Write>(writer: &mut W, octets: &[u8]) -> io::Result<()>
 }
 
 /// Writes the limits of a bit timing: the name in the first 16 bytes, and the numbers in the next 32.
-fn write_limits<W: Write>(writer: &mut W, label: &KindLabel, octets: &[u8]) -> io::Result<()>
-    ensures { OnOk result (Appends (W.contents writer.old) (W.contents writer.new)
+fn write_limits<W: Sink>(writer: &mut W, label: &KindLabel, octets: &[u8]) -> Result<(), W::Error>
+    ensures { OnOk result (Gains (W.output writer.old) (W.output writer.new)
         (limits_text (before_nul (take 16 octets.now)) (take 32 (drop 16 octets.now)))) }
 {
     let name = before_nul(front(octets, 16));

@@ -3,6 +3,7 @@
 ghost use Rattle.std.specs.Prelude.{◌≡◌, ◌++◌, ℕ, List, false, IfOk};
 ghost use Rattle.std.specs.Io.KnownBytes.{Appends, Keeps};
 ghost use Rattle.link_show.specs.List.{Writes};
+ghost use Rattle.link_show.specs.Sink.{Whole};
 ghost use Rattle.netlink_packet_route.specs.Report.{line};
 ghost use Rattle.show_lines.specs.Show.{ShowsPlain};
 ghost use Rattle.show_lines.specs.Progress.{WritesBelow, OnMemory};
@@ -79,7 +80,7 @@ fn write_asked<W: Write>(
     bytes: &[u8],
 ) -> io::Result<bool>
     ensures { IfOk result (Writes (ShowsPlain check asked bytes.now)
-        (W.contents writer.old) (W.contents writer.new)) }
+        (Whole (W.contents writer.old)) (Whole (W.contents writer.new))) }
 {
     match asked {
         Asked::Messages => write_messages(writer, bytes, check),

@@ -1,5 +1,5 @@
 use Rattle.std.proofs.Common.{true, [], ◌++◌, refl, sym, subst}
-use Rattle.std.proofs.KnownBytes.{Appends-trans}
+use Rattle.link_show.specs.Gained.{gains_more}
 use Rattle.std.proofs.lemmas.List.{append-nil}
 use Rattle.netlink_packet_route.specs.Family.{table_of}
 use Rattle.link_show.specs.List.{ShowsVerdict, Unasked}
@@ -27,7 +27,7 @@ pub returns : goal.returns
 returns g c =
     let (lines, shown, first) = c.in_ok-whole.ensures in
     let (verdict, judged, second) = c.in_ok-canonical.ensures in
-    let contents = g.W.Write.contents in (
+    let output = g.W.Sink.output in (
       lines ++ verdict,
       record {
         lines = lines;
@@ -39,5 +39,5 @@ returns g c =
         joined = refl;
         all = refl;
       },
-      Appends-trans (contents c.args.writer.now) (contents c.write_list.new.writer) (contents c.write_verdict.new.writer) lines verdict first second,
+      gains_more (output c.args.writer.now) (output c.write_list.new.writer) (output c.write_verdict.new.writer) lines verdict first second,
     )

@@ -1,24 +1,24 @@
 use Rattle.std.proofs.Common.{◌++◌, ◌&&◌, List, ℕ, refl, ap, sym, subst, codes}
 use Rattle.std.specs.Option.{option_copied}
-use Rattle.std.specs.Io.KnownBytes.{Appends}
-use Rattle.std.proofs.KnownBytes.{Appends-trans}
+use Rattle.link_show.specs.Sink.{Gains}
+use Rattle.link_show.specs.Gained.{gains_more}
 use Rattle.link_show.specs.Quoted.{quoted}
 use Rattle.link_show.specs.Message.{ShowsOptionalInfo, kind_line, line_of, fault_line}
 use Rattle.link_show.proofs.info.write_info.Goals as goal
 
 pub returns-in_ok-end-in-Some : goal.returns-in_ok-end-in-Some
 returns-in_ok-end-in-Some g c =
-    let contents = g.W.Write.contents in
+    let output = g.W.Sink.output in
     let info = c.in-Some.info in
     let (link, is_link, second) = c.in_ok-data-in-Some.ensures in
     let (port, is_port, fourth) = c.in_ok-port-in-Some.ensures in
     let (last, sound) = c.in_ok-end-in-Some.ensures in
-    let old = contents c.args.writer.now in
-    let a = contents c.write_kind.new.writer in
-    let b = contents c.write_data.new.writer in
-    let e = contents c.write_port_kind.new.writer in
-    let f = contents c.write_data-in-Some.new.writer in
-    let new = contents c.write_header_fault.new.writer in
+    let old = output c.args.writer.now in
+    let a = output c.write_kind.new.writer in
+    let b = output c.write_data.new.writer in
+    let e = output c.write_port_kind.new.writer in
+    let f = output c.write_data-in-Some.new.writer in
+    let new = output c.write_header_fault.new.writer in
     let kind = kind_line (option_copied info.kind) in
     let port_kind = line_of (codes "IFLA_INFO_SLAVE_KIND") quoted (option_copied info.port_kind) in
     let t5 = fault_line info.fault in
@@ -26,7 +26,7 @@ returns-in_ok-end-in-Some g c =
     let t3 = port_kind ++ t4 in
     let t2 = link ++ t3 in
     let well = (c.in_ok-data-in-Some.data && c.in_ok-port-in-Some.port) && c.in_ok-end-in-Some.end in
-    subst (λ o. (out : List ℕ) × ShowsOptionalInfo c.args.check o out well × Appends old new out) (sym c.in-Some.is) (
+    subst (λ o. (out : List ℕ) × ShowsOptionalInfo c.args.check o out well × Gains old new out) (sym c.in-Some.is) (
       kind ++ t2,
       record {
         of_link = link;
@@ -38,6 +38,6 @@ returns-in_ok-end-in-Some g c =
         joined = refl;
         all = ap (λ w. (c.in_ok-data-in-Some.data && c.in_ok-port-in-Some.port) && w) sound;
       },
-      Appends-trans old a new kind t2 c.in_ok-write_kind-in-Some.ensures
-          (Appends-trans a b new link t3 second (Appends-trans b e new port_kind t4 c.in_ok-write_port_kind-in-Some.ensures (Appends-trans e f new port t5 fourth last))),
+      gains_more old a new kind t2 c.in_ok-write_kind-in-Some.ensures
+          (gains_more a b new link t3 second (gains_more b e new port_kind t4 c.in_ok-write_port_kind-in-Some.ensures (gains_more e f new port t5 fourth last))),
     )

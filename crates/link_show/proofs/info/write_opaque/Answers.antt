@@ -1,6 +1,6 @@
 use Rattle.std.proofs.Common.{◌++◌, length, refl, ap, subst, ◌∙◌, codes}
 use Rattle.std.specs.Fmt.{decimal}
-use Rattle.std.specs.Io.KnownBytes.{Appends}
+use Rattle.link_show.specs.Sink.{Gains}
 use Rattle.link_show.specs.Structs.{field}
 use Rattle.link_show.specs.List.{indented}
 use Rattle.link_show.specs.Message.{two, opaque_text}
@@ -12,4 +12,4 @@ returns g c =
     let name = c.args.name.now in
     let n = length c.args.data.bytes.now in
     let text = ap (λ b. two ++ (name ++ (codes " (" ++ (decimal n ++ (b ++ codes ", not decoded)\n"))))) c.bytes_of-bytes.ensures ∙ opaque_line name n in
-    (indented two (field name (opaque_text n)), (refl, refl), subst (Appends (g.W.Write.contents c.args.writer.now) (g.W.Write.contents c.writeln.new.self)) text c.in_ok-writeln.ensures.bytes)
+    (indented two (field name (opaque_text n)), (refl, refl), subst (Gains (g.W.Sink.output c.args.writer.now) (g.W.Sink.output c.put_pieces.new.writer)) text c.in_ok-put_pieces.ensures)

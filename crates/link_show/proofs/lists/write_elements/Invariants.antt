@@ -6,4 +6,4 @@ use Rattle.link_show.proofs.lists.write_elements.Given as goal
 abbrev pub invariant-loop-element : goal.invariant-loop-element
 invariant-loop-element g l =
     (set_of l.element-iterator ≡ set_of l.fn.elements)
-    × ElementsTo l.indent (g.T.AttributeSet.rows (set_of l.fn.elements)) (bytes_in l.fn.elements) (bytes_in l.element-iterator) (g.W.Write.contents l.fn.writer) (g.W.Write.contents l.writer)
+    × ElementsTo l.indent (g.T.AttributeSet.rows (set_of l.fn.elements)) (bytes_in l.fn.elements) (bytes_in l.element-iterator) (g.W.Sink.output l.fn.writer) (g.W.Sink.output l.writer)

@@ -11,8 +11,8 @@ pub returns-in-Some : goal.returns-in-Some
 returns-in-Some g c =
     let x = c.args.value.now in
     let r = c.write_nested.result in
-    let old = g.W.Write.contents c.args.writer.now in
-    let new = g.W.Write.contents c.write_nested.new.writer in
+    let old = g.W.Sink.output c.args.writer.now in
+    let new = g.W.Sink.output c.write_nested.new.writer in
     let indent = c.args.indent.now in
     let rows = g.S.Elements.AttributeSet.rows (set_of c.in-Some.elements) in
     let list = bytes_in c.in-Some.elements in
@@ -26,8 +26,8 @@ pub returns-in-None : goal.returns-in-None
 returns-in-None g c =
     let x = c.args.value.now in
     let r = c.write_flat.result in
-    let old = g.W.Write.contents c.args.writer.now in
-    let new = g.W.Write.contents c.write_flat.new.writer in
+    let old = g.W.Sink.output c.args.writer.now in
+    let new = g.W.Sink.output c.write_flat.new.writer in
     let indent = c.args.indent.now in
     let content = c.content-content.result in
     let named = subst (λ b. OnOk r (WritesFlat indent (label_in c.label-label.result) (kind_field_of b) content old new)) c.buffer-buffer.ensures c.write_flat.ensures in

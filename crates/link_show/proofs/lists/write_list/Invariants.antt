@@ -6,4 +6,4 @@ use Rattle.link_show.proofs.lists.write_list.Given as goal
 abbrev pub invariant-loop-item : goal.invariant-loop-item
 invariant-loop-item g l =
     (all_set_of l.item-iterator ≡ l.set) × (whole_of l.item-iterator ≡ l.list.bytes.now)
-    × ListTo l.indent l.list.at (g.S.AttributeSet.rows l.set) l.list.bytes.now (left_of l.item-iterator) (g.W.Write.contents l.fn.writer) (g.W.Write.contents l.writer) l.whole
+    × ListTo l.indent l.list.at (g.S.AttributeSet.rows l.set) l.list.bytes.now (left_of l.item-iterator) (g.W.Sink.output l.fn.writer) (g.W.Sink.output l.writer) l.whole

@@ -6,8 +6,8 @@ use Rattle.link_show.proofs.messages.write_about_link.Goals as goal
 
 pub returns-in-Ok : goal.returns-in-Ok
 returns-in-Ok g c =
-    let old = g.W.Write.contents c.args.writer.now in
-    let new = g.W.Write.contents c.write_link.new.writer in
+    let old = g.W.Sink.output c.args.writer.now in
+    let new = g.W.Sink.output c.write_link.new.writer in
     if_ok (Writes (ShowsLink c.args.check c.in-Ok.details) old new) (Writes (ShowsBody c.args.check c.args.message.now) old new) c.write_link.result
     (λ well h. (h.0, Link c.in-Ok.details c.in-Ok.ensures h.1, h.2)) c.write_link.ensures
 

@@ -1,5 +1,5 @@
 use Rattle.std.proofs.Common.{codes}
-use Rattle.std.proofs.KnownBytes.{Appends-trans}
+use Rattle.link_show.specs.Gained.{gains_more}
 use Rattle.link_show.specs.Number.{width_of}
 use Rattle.link_show.proofs.Arrays.{numbers_more}
 use Rattle.link_show.proofs.Written.{next_written}
@@ -9,4 +9,4 @@ pub loop-i-preserved : goal.loop-i-preserved
 loop-i-preserved g c =
     next_written _ _ _ _ _ _ (codes " ") _ _ _ c.loop-i.invariant
     (numbers_more (width_of c.args.width) c.args.count c.loop-i.i c.number_at-number.result c.args.bytes.now c.loop-i-test.true c.number_at-number.ensures)
-    (Appends-trans _ _ _ _ _ c.in_ok-write_all.ensures.bytes c.in_ok-write.ensures.bytes) c.as_slice-separator-in-loop-i.ensures
+    (gains_more _ _ _ _ _ c.in_ok-put.ensures c.in_ok-put_number.ensures) c.as_slice-separator-in-loop-i.ensures

@@ -8,5 +8,5 @@ use Rattle.link_show.proofs.numbers.write_numbers.Given as goal
 
 abbrev pub invariant-loop-i : goal.invariant-loop-i
 invariant-loop-i g l =
-    WritesFront (g.W.Write.contents l.fn.writer) (g.W.Write.contents l.writer) (joined (codes " ") (map decimal (numbers_at (width_of l.width) l.count 0 l.bytes)))
+    WritesFront (g.W.Sink.output l.fn.writer) (g.W.Sink.output l.writer) (joined (codes " ") (map decimal (numbers_at (width_of l.width) l.count 0 l.bytes)))
     (after l.separator (codes " ") (map decimal (numbers_at (width_of l.width) (l.count - l.i) (l.i * width_of l.width) l.bytes)))

@@ -6,5 +6,5 @@ use Rattle.link_show.proofs.octets.write_address.Given as goal
 
 abbrev pub invariant-loop-byte : goal.invariant-loop-byte
 invariant-loop-byte g l =
-    WritesFront (g.W.Write.contents l.fn.writer) (g.W.Write.contents l.writer) (joined (codes ":") (map byte_text l.address))
+    WritesFront (g.W.Sink.output l.fn.writer) (g.W.Sink.output l.writer) (joined (codes ":") (map byte_text l.address))
     (after l.separator (codes ":") (map byte_text (drop l.byte-index l.address)))

@@ -1,6 +1,6 @@
 use Rattle.std.proofs.Common.{map, codes}
 use Rattle.std.specs.Fmt.{decimal}
-use Rattle.std.proofs.KnownBytes.{Appends-trans}
+use Rattle.link_show.specs.Gained.{gains_more}
 use Rattle.std.proofs.lemmas.List.{at_drop_more}
 use Rattle.link_show.specs.Structs.{field, number_field}
 use Rattle.link_show.proofs.Written.{next_written}
@@ -10,4 +10,4 @@ pub loop-field-preserved : goal.loop-field-preserved
 loop-field-preserved g c =
     next_written _ _ _ _ _ _ (codes " ") _ _ _ c.loop-field.invariant
     (at_drop_more (λ ys. map (λ f. field f.0 (decimal f.1)) (map number_field ys)) c.args.fields.now c.loop-field.field-index _ c.loop-field-test.true)
-    (Appends-trans _ _ _ _ _ c.in_ok-write_all.ensures.bytes c.in_ok-write.ensures.bytes) c.as_slice-separator-in-loop-field.ensures
+    (gains_more _ _ _ _ _ c.in_ok-put.ensures c.in_ok-put_pieces.ensures) c.as_slice-separator-in-loop-field.ensures

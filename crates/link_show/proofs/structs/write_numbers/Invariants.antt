@@ -7,5 +7,5 @@ use Rattle.link_show.proofs.structs.write_numbers.Given as goal
 
 abbrev pub invariant-loop-field : goal.invariant-loop-field
 invariant-loop-field g l =
-    WritesFront (g.W.Write.contents l.fn.writer) (g.W.Write.contents l.writer) (joined (codes " ") (map (λ f. field f.0 (decimal f.1)) (map number_field l.fields)))
+    WritesFront (g.W.Sink.output l.fn.writer) (g.W.Sink.output l.writer) (joined (codes " ") (map (λ f. field f.0 (decimal f.1)) (map number_field l.fields)))
     (after l.separator (codes " ") (map (λ f. field f.0 (decimal f.1)) (map number_field (drop l.field-index l.fields))))

@@ -1,0 +1,10 @@
+use Rattle.link_base.specs.Labels.{label_in}
+use Rattle.link_base.specs.Viewed.{set_in, buffer_in}
+use Rattle.link_show.proofs.ValueTexts.{attribute_written}
+use Rattle.link_show.proofs.attributes.write_attribute.Goals as goal
+
+pub returns : goal.returns
+returns g c =
+    let x = c.args.value.now in
+    attribute_written c.write_named.result (g.S.AttributeSet.rows (set_in x)) (buffer_in x) c.buffer.result (label_in c.label.result) c.content.result (g.W.Sink.output c.args.writer.now)
+    (g.W.Sink.output c.write_named.new.writer) (record { decodes = x.decodes; borrows = c.content.ensures.content; form = c.content.ensures.form }) c.label.ensures c.buffer.ensures c.write_named.ensures
