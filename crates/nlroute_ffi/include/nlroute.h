@@ -426,7 +426,7 @@ ptrdiff_t nlroute_text(uint32_t family, const struct nlroute_value *value, const
 
 /*
  * Stores the name of the number of a value, such as "802.3ad". The fields kind, inner and depth select the attribute
- * type. Enums, VLAN protocols and the states of CAN controllers have names. Does not allocate.
+ * type. Enums, VLAN protocols and the states of CAN controllers have names.
  *
  * Returns NLROUTE_ABSENT if and only if the number has no name.
  */
@@ -434,7 +434,7 @@ ptrdiff_t nlroute_number_name(uint32_t family, const struct nlroute_value *value
 
 /*
  * Stores the name of a bit of the flags of an attribute type, such as "LACP_ACTIVITY" for bit 0. The fields kind,
- * inner and depth of the value select the type. Does not allocate.
+ * inner and depth of the value select the type.
  *
  * Returns NLROUTE_ABSENT if and only if the bit has no name.
  */
@@ -486,7 +486,7 @@ ptrdiff_t nlroute_first_fault(uint32_t family, const uint8_t *bytes, size_t len,
 
 /*
  * Stores the text of an error, as nlshow prints it: "error at 8: IFLA_BR_HELLO_TIME has 3 bytes, expected 4". Stored
- * and returned as described under "Texts" above.
+ * and returned as described under "Texts" above. Does not allocate.
  *
  * Returns NLROUTE_BAD_FORM if and only if place is not one of enum nlroute_place, cause not one of enum nlroute_cause,
  * or kind or inner greater than 65535, or likewise first, for NLROUTE_SMALL_LENGTH and NLROUTE_OVERRUN; never for a
