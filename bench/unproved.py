@@ -2,7 +2,7 @@
 """unproved.py [FOLDER [OBJECT]]: builds a static library or a program without proofs, to measure or try code before it is proved. FOLDER is bench/calls,
 the default, or a static library or a program of crates.txt, as crates/nlroute_ffi. The result is bench/out/libNAME.a or bench/out/NAME. Use it for nothing
 else: nothing shows that it does what it should. `tools/install.sh --fast` installs such builds. With OBJECT, the result is this object file, with the counters
-of libFuzzer; so tools/fuzz/views/run.sh builds tools/fuzz/views.
+of libFuzzer; so extra/fuzz/run.sh builds extra/fuzz/views.
 
 `rt lib` and `rt run` build only what is proved. `rt try` compiles a program without proofs, but with checks, and `rt try --test` what the tests reach. So
 this runs it on a copy of the repository, with a copy of the kit, made of links, whose clang keeps the LLVM module and stops. From the module it removes the

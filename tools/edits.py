@@ -1,10 +1,10 @@
-"""Edits of source files, the files that hold them, and the functions that they turn.
+"""Edits of the code, the files that hold them, and the functions that they change.
 
-A file mutants.edits holds the mutants of a crate: a heading `## NAME` for each, and below it the lines of its edit. Each
-is a line `file:`, `old:`, `new:`, `goal:` or `at:` with a text, or a blank one.
+A file mutants.edits has a heading `## NAME` for each mutant, and below it the lines of its edit. Each is a line `file:`,
+`old:`, `new:`, `goal:` or `at:` with a text, or a blank one.
 
-A source file is read by its layout, which `rt fmt` gives it: a function's body stands between a line that ends in `{`
-and a line that is `}`, both indented as the line of its `fn`, or is a line `{}` indented so.
+A source file is read by the layout that `rt fmt` gives it: a function's body is between a line that ends in `{` and a
+line that is `}`, both indented as the line of its `fn`, or is a line `{}` indented so.
 """
 import os
 import re
@@ -19,53 +19,75 @@ class EditError(Exception):
     """Why an edit cannot be read or applied."""
 
 
-class Entry:
-    """A heading of a file mutants.edits, with its line, the text of the edit below it, and what is wrong with these."""
-
-    def __init__(self, line, heading, names):
-        self.line, self.lines, self.wrong = line, [], ""
-        found = HEADING.fullmatch(heading)
-        self.name = found[1] if found else heading.removeprefix("##").strip()
-        if not found:
-            self.wrong = "a heading is '## ' and a name of letters, digits, _ and -"
-        elif self.name in names:
-            self.wrong = f"line {names[self.name]} has the same heading"
-        names.setdefault(self.name, line)
-
-    def edit(self):
-        return "".join(f"{it}\n" for it in self.lines)
-
-    def add(self, number, line):
-        if not self.wrong and line.strip() and not EDIT_LINE.match(line):
-            self.wrong = f"line {number} is no line 'file:', 'old:', 'new:', 'goal:' or 'at:' with a text"
-        if line.strip():
-            self.lines.append(line)
-
-
 def entries_of(text):
-    """The mutants of a file mutants.edits, each an Entry. What stands before the first heading is one that is wrong."""
-    found, names = [], {}
+    """The mutants of a file mutants.edits: [(line, name, edit, what is wrong with them)]."""
+    found, lines = [], {}
     for number, line in enumerate(text.split("\n"), 1):
-        if line.startswith("##"):
-            found.append(Entry(number, line, names))
-        elif found:
-            found[-1].add(number, line)
+        if line.startswith("##") or line.strip() and not found:
+            name = HEADING.fullmatch(line)
+            wrong = "" if name else "this is no heading '## NAME', with letters, digits, _ and - in its name"
+            if name and name[1] in lines:
+                wrong = f"line {lines[name[1]]} has the same heading"
+            found.append([number, name[1] if name else "", "", wrong])
+            lines.setdefault(found[-1][1], number)
         elif line.strip():
-            found.append(Entry(number, "", {}))
-            found[-1].wrong = "a text stands before the first heading '## NAME'"
-    if not found:
-        found.append(Entry(1, "", {}))
-        found[-1].wrong = "the file has no mutant"
-    return found
+            found[-1][2] += f"{line}\n"
+            if not EDIT_LINE.match(line):
+                why = f"line {number} is no line 'file:', 'old:', 'new:', 'goal:' or 'at:' with a text"
+                found[-1][3] = found[-1][3] or why
+    return found or [[1, "", "", "the file has no mutant"]]
+
+
+def values_of(edit, word):
+    """The texts of an edit's lines that begin with a word, as in `at: TEXT`."""
+    return re.findall(rf"^{word}: (\S+)$", edit, re.MULTILINE)
+
+
+def edited_texts(edit, folder, before=None):
+    """The texts of the files that the edit changes, by their path in the folder of the crate, and of those that edits
+    before it changed."""
+    path, old, pairs, texts = "", None, 0, dict(before or {})
+    for line in edit.split("\n"):
+        word, _, rest = line.partition(":")
+        rest = rest.removeprefix(" ")
+        if old is not None and word != "new":
+            raise EditError("an 'old:' line has no 'new:' line")
+        if word == "file":
+            path = rest.strip()
+            if os.path.normpath(path) != path or not path.startswith(("src/", "specs/", "proofs/")):
+                raise EditError("a 'file:' line names no file below src/, specs/ or proofs/")
+            if path not in texts:
+                texts[path] = text_of(folder, path)
+        elif word == "old":
+            old = rest
+        elif word == "new":
+            if not path or not old:
+                raise EditError("a 'new:' line is before any 'file:' or 'old:' line")
+            found = texts[path].count(old)
+            if found != 1:
+                raise EditError(f"its old text is in {path} {found} times, and not once: adapt or drop the edit")
+            if old.endswith("{") and rest.startswith(old):
+                # what is first in a body takes a line of its own
+                rest = f"{old}\n{rest[len(old) :]}"
+            texts[path], old, pairs = texts[path].replace(old, rest), None, pairs + 1
+    if not pairs:
+        raise EditError("it has no 'old:' and 'new:' pair")
+    return texts
+
+
+def text_of(folder, path):
+    if not os.path.isfile(f"{folder}/{path}"):
+        raise EditError(f"there is no file {path}")
+    with open(f"{folder}/{path}", encoding="utf-8") as file:
+        return file.read()
 
 
 class Function:
     """A function with a body: the lines where its attributes begin and its body opens and ends, counted from 0."""
 
-    def __init__(self, blocks, name, is_of_trait, head, opening, end, lines):
-        self.blocks, self.name, self.is_of_trait = blocks, name, is_of_trait
-        self.head, self.opening, self.end = head, opening, end
-        self.top, self.lines = lines[head : opening + 1], lines[opening + 1 : end]
+    def __init__(self, blocks, name, head, opening, end, lines):
+        self.blocks, self.name, self.head, self.opening, self.end = blocks, name, head, opening, end
+        self.lines = lines[opening + 1 : end]
 
     def has_line(self, number):
         """Whether a line, counted from 1, is one of its own."""
@@ -75,12 +97,6 @@ class Function:
         """Its name as a check prints it, below the crate: module, type and trait, function."""
         return "::".join(it for it in [module_of(file), *self.blocks, self.name] if it)
 
-    def renamed(self, name, body):
-        """The lines of a function with its contract, and with this name and body."""
-        at, fn = next((at, fn) for at, fn in enumerate(map(FN.match, self.top)) if fn)
-        head = self.top[at][: fn.start(2)] + name + self.top[at][fn.end(2) :]
-        return [*self.top[:at], head, *self.top[at + 1 :], *body, fn[1] + "}"]
-
 
 def module_of(file):
     """The module of a source file, or '' for the root and for what is no source file."""
@@ -88,40 +104,9 @@ def module_of(file):
     return "" if not inside or inside[1] in ("lib", "main") else inside[1].replace("/", "::")
 
 
-def edited_texts(edit, folder, before=None):
-    """The texts of the files that the edit changes, by their path in the folder of the crate, and of those that edits
-    before it changed."""
-    path, old, pairs, texts = "", None, 0, dict(before or {})
-    for line in edit.split("\n"):
-        if line.startswith("file: "):
-            path = line[len("file: ") :].strip()
-            if os.path.normpath(path) != path or not path.startswith(("src/", "specs/", "proofs/")):
-                raise EditError("a 'file:' line names no file below src/, specs/ or proofs/")
-        elif line.startswith("old: "):
-            if old is not None:
-                raise EditError("an 'old:' line has no 'new:' line")
-            old = line[len("old: ") :]
-        elif line.startswith("new:"):
-            new = re.sub(r"\A ", "", line[len("new:") :])
-            if not path or not old:
-                raise EditError("a 'new:' line stands before any 'file:' or 'old:' line")
-            if path not in texts:
-                if not os.path.isfile(f"{folder}/{path}"):
-                    raise EditError(f"there is no file {path}")
-                with open(f"{folder}/{path}", encoding="utf-8") as file:
-                    texts[path] = file.read()
-            found = texts[path].count(old)
-            if found != 1:
-                raise EditError(f"an 'old:' text is in {path} {found} times, and not once")
-            if old.endswith("{") and new.startswith(old):
-                # what stands first in a body takes a line of its own
-                new = old + "\n" + new[len(old) :]
-            texts[path], old, pairs = texts[path].replace(old, new), None, pairs + 1
-    if old is not None:
-        raise EditError("an 'old:' line has no 'new:' line")
-    if not pairs:
-        raise EditError("it has no 'old:' and 'new:' pair")
-    return texts
+def functions_in(file, text):
+    """The functions of a source file by their paths."""
+    return {it.path(file): it for it in functions_of(text)}
 
 
 def functions_of(text):
@@ -136,14 +121,12 @@ def functions_of(text):
             opening = opening_of(lines, at, fn[1])
             end = end_of(lines, opening, fn[1]) if opening is not None else None
             if end is not None:
-                names, of_trait = [it for _, it, _ in blocks], any(it for _, _, it in blocks)
-                found.append(Function(names, fn[2], of_trait, top_of(lines, at), opening, end, lines))
+                found.append(Function([it for _, it in blocks], fn[2], top_of(lines, at), opening, end, lines))
                 at = end
         elif block:
             opening = opening_of(lines, at, block[1])
             if opening is not None:
-                header = " ".join(lines[at : opening + 1]).strip()
-                blocks.append((block[1], block_name(block[2], header), is_of_trait(block[2], header)))
+                blocks.append((block[1], block_name(block[2], " ".join(lines[at : opening + 1]))))
                 at = opening
         at += 1
     return found
@@ -175,17 +158,9 @@ def end_of(lines, opening, indent):
     return next((it for it in range(opening + 1, len(lines)) if lines[it] == indent + "}"), None)
 
 
-def skeleton(text):
-    """The text without the bodies of functions."""
-    lines = text.split("\n")
-    for it in reversed(functions_of(text)):
-        del lines[it.opening + 1 : it.end]
-    return "\n".join(lines)
-
-
 def block_name(kind, header):
-    """How a check names an impl, a trait or a module: an impl of a trait by type and trait, as in U16FromLength. The
-    parameters of such an impl have no part in its name, unless one is the whole type, which is named Any."""
+    """How a check names an impl, a trait or a module: an impl of a trait by type and trait, as U16FromLength. Its
+    parameters have no part in that, unless one is the whole type: Any."""
     head = re.split(r"\bwhere\b|\{", header, maxsplit=1)[0]
     head = head[re.search(rf"\b{kind}\b", head).end() :]
     if kind != "impl":
@@ -193,21 +168,13 @@ def block_name(kind, header):
     listed, head = parameters_and_rest(head)
     own = {re.match(r"(?:const\s+)?('?\w+)", it)[1] for it in listed}
     trait, is_of_trait, of = head.rpartition(" for ")
-    if not is_of_trait:
-        base, _, arguments = of.partition("<")
-        listed = [it for it in parts_of(arguments.strip().removesuffix(">")) if not it.startswith("'")]
-        # (one of a type with these very arguments)
-        words = [] if all(it in own for it in listed) else re.findall(r"(?<!')\b\w+", " ".join(listed))
-        return "+".join([type_name(base, own), *words])
-    return (type_name(of, own) or "Any") + type_name(trait, own)
-
-
-def is_of_trait(kind, header):
-    """Whether a block is a trait, or an impl of one, which has no other functions than the trait says."""
-    if kind != "impl":
-        return kind == "trait"
-    head = re.split(r"\bwhere\b|\{", header, maxsplit=1)[0]
-    return " for " in parameters_and_rest(head[re.search(r"\bimpl\b", head).end() :])[1]
+    if is_of_trait:
+        return (type_name(of, own) or "Any") + type_name(trait, own)
+    base, _, arguments = of.partition("<")
+    listed = [it for it in parts_of(arguments.strip().removesuffix(">")) if not it.startswith("'")]
+    # (one of a type with these very arguments)
+    words = [] if all(it in own for it in listed) else re.findall(r"(?<!')\b\w+", " ".join(listed))
+    return "+".join([type_name(base, own), *words])
 
 
 def parameters_and_rest(head):

@@ -5,12 +5,9 @@ a wrong argument or `--version`.
 usage: tools/refusals.py
 
 The calls are the lines of crates/refusals/stdin: each begins with the number of allocations that the call makes, and
-what the call returns is in stdout beside it. The program `refusals` makes each call in a run of its own, under the
-malloc of refusals.c. With memory a call makes as many allocations as its line says, and returns what stdout says. Then
-the first allocation and all after it fail, in the next run the second and all after it, and so on to the last. Each of
-these runs returns the error of the call for a failed allocation, and makes no other allocation after the one that
-failed.
-
+what it returns is in stdout beside it. The program `refusals` makes each call in a run of its own, under the malloc of
+refusals.c. Then the first allocation and all after it fail, in the next run the second and all after it, and so on to the
+last. Each of these runs returns the error of the call for a failed allocation, and makes no other allocation after it.
 `nlroute` runs in the same way for each `report`, from its start, and for the lines that it prints without a report, as
 `nlshow` does for a wrong argument and for its version.
 
@@ -34,20 +31,16 @@ MARK = "7654321"
 # How many bytes of what a call returns `refusals` prints.
 MOST = 300
 # What a call returns if an allocation fails.
-ERROR, ALLOC_ERROR = "Err(Memory(AllocError))", "Err(AllocError)"
-WANTING = {
-    **dict.fromkeys(["read_list", "write_list", "parse"], ERROR),
-    **dict.fromkeys(["rewrite", "rewrite_streaming", "rewrite_to_slice", "rewrite_to_slice_short"], ERROR),
-    **dict.fromkeys(["VecAfSpecBridge::parse", "VecLinkProtoInfoBridge::parse"], ERROR),
-    **dict.fromkeys(["report", "try_clone", "FrameTable::walk"], ALLOC_ERROR),
-    **dict.fromkeys(["expand_buffer_if_small", "CanBitTimingConst::new"], ALLOC_ERROR),
-}
+LISTS = "read_list write_list parse rewrite rewrite_streaming rewrite_to_slice rewrite_to_slice_short"
+LISTS += " VecAfSpecBridge::parse VecLinkProtoInfoBridge::parse"
+OTHERS = "report try_clone FrameTable::walk expand_buffer_if_small CanBitTimingConst::new"
+WANTING = dict.fromkeys(LISTS.split(), "Err(Memory(AllocError))") | dict.fromkeys(OTHERS.split(), "Err(AllocError)")
 
 
 def printed(text, status):
     """A run of a program, as `refusals` prints what `report` returns."""
     said = 'Ok(("' + text.replace("\n", "\\n") + f'", {status}))'
-    return f"  {said[:MOST]} and {len(said) - MOST} bytes more" if len(said) > MOST else f"  {said}"
+    return f"  {said[:MOST]}" + f" and {len(said) - MOST} bytes more" * (len(said) > MOST)
 
 
 NO_MEMORY = printed("no memory\n", 4)
@@ -83,25 +76,19 @@ class Refuser:
         if held != 0 or marks != 2 * is_call:
             return f"blocks that are held: {held}, marks: {marks}", requests
         text = (ran.stdout + ran.stderr).decode(errors="replace")
-        if not is_call:
-            text = printed(text, ran.returncode)
-        elif ran.returncode != 0:
-            text += f"status {ran.returncode}"
-        return text, requests
+        if is_call:
+            return text + f"status {ran.returncode}" * (ran.returncode != 0), requests
+        return printed(text, ran.returncode), requests
 
     def refuse_each(self, words, given, answer, wanting, allocations):
         """Makes each allocation fail in turn, and returns what does not hold, or None."""
-        said, requests = self.run(words, given)
-        if said != answer:
-            return f"with memory it answers {said}"
-        if requests != allocations:
-            return f"it makes {requests} allocations, and not {allocations}"
-        for place in range(1, allocations + 1):
+        for place in range(allocations + 1):
             said, requests = self.run(words, given, place)
-            if said != wanting:
-                return f"if allocation {place} fails, it answers {said}"
-            if requests != place:
-                return f"if allocation {place} fails, it makes {requests - place} more"
+            what = f"if allocation {place} fails" if place else "with memory"
+            if said != (wanting if place else answer):
+                return f"{what} it answers {said}"
+            if requests != (place or allocations):
+                return f"{what} it makes {requests} allocations, and not {place or allocations}"
         return None
 
 
@@ -111,76 +98,54 @@ def calls():
         lines = [it for it in file.read().splitlines() if it and not it.startswith("#")]
     with open(f"{ROOT}/crates/refusals/stdout", encoding="utf-8") as file:
         shown = file.read().splitlines()
-    assert shown[::2] == lines, "stdout has other lines than stdin"
-    assert len(shown) == 2 * len(lines), "stdout has a line too many"
+    assert shown[::2] == lines and len(shown) == 2 * len(lines), "stdout has other lines than stdin"
     for line, answer in zip(lines, shown[1::2]):
         allocations, call = line.split(" ", 1)
         yield int(allocations), call, answer
 
 
-def digits(words):
-    """The hex digits of the words of a line that say bytes."""
-    parts = [it.rpartition("*") for it in words]
-    return "".join(it[2] * int(it[0] or 1) for it in parts)
-
-
-def try_call(refuser, allocations, call, answer):
-    line = f"{allocations} {call}\n"
-    # (there is no error for a call that never makes an allocation)
-    wanting = f"{line}  {WANTING.get(call.split()[0])}\n"
-    return refuser.refuse_each(["refusals"], line.encode(), f"{line}{answer}\n", wanting, allocations)
-
-
-def arguments(words):
+def for_arguments(words):
     """How many allocations a program makes for its arguments, at most four with its own name, as the kit reads them:
     one for each, one to see that none follows, and one for each of two lists."""
     return len(words) + 3
 
 
-def reading(text):
+def for_reading(text):
     """How many allocations `nlroute` makes to read a text, by 4,096 bytes at most: its buffer doubles."""
     return ((len(text) - 1) // 4096).bit_length() + 1 if text else 0
 
 
-def try_nlroute(refuser, allocations, call, answer):
-    """A run of `nlroute`, on what a call of `report` names."""
-    _, family, *words = call.split()
-    text = digits(words).encode()
-    words = ["nlroute", family]
-    allocations += arguments(words) + reading(text)
-    return refuser.refuse_each(words, text, answer, NO_MEMORY, allocations)
-
-
-def try_lines(refuser):
-    """The lines that the programs print without a report. `nlroute` makes no allocation but those for its arguments;
-    `nlshow` makes others, in `clap` and for the lines."""
-    folder = os.open(ROOT, os.O_RDONLY)  # reading from it fails
-    unknown = printed(
-        "error: unexpected argument 'dsa' found\n"
-        "usage: nlshow [--format plain|debug] [--check] | --help | --version\n",
-        2,
-    )
-    usage = printed("usage: nlroute FAMILY | --help | --version\n", 2)
-    for words, given, answer, others in (
-        (["nlroute"], b"", usage, 0),
-        (["nlroute", "tap"], b"", usage, 0),
-        (["nlroute", "tap", "dsa"], b"", usage, 0),
-        (["nlroute", "--version"], b"", printed("nlroute 0.3.0\n", 0), 0),
-        (["nlroute", "dsa"], folder, printed("read fault\n", 5), 0),
-        (["nlshow", "dsa"], b"", unknown, 15),
-        (["nlshow", "--version"], b"", printed("nlshow 0.3.0\n", 0), 8),
-    ):
-        yield " ".join(words), refuser.refuse_each(words, given, answer, NO_MEMORY, arguments(words) + others)
-    os.close(folder)
-
-
-def try_all(refuser):
-    """What was tried, each with what does not hold."""
+def runs_of_calls():
+    """For each call the arguments of `refuse_each`, and for each `report` also those of a run of `nlroute`."""
     for allocations, call, answer in calls():
-        yield call, try_call(refuser, allocations, call, answer)
+        line = f"{allocations} {call}\n"
+        # (there is no error for a call that never makes an allocation)
+        wanting = f"{line}  {WANTING.get(call.split()[0])}\n"
+        yield ["refusals"], line.encode(), f"{line}{answer}\n", wanting, allocations
         if call.startswith("report"):
-            yield call.replace("report", "nlroute"), try_nlroute(refuser, allocations, call, answer)
-    yield from try_lines(refuser)
+            # (of hex digits, `N*DIGITS` are N times those digits)
+            _, family, *parts = call.split()
+            text = "".join(it[2] * int(it[0] or 1) for it in (part.rpartition("*") for part in parts)).encode()
+            words = ["nlroute", family]
+            yield words, text, answer, NO_MEMORY, allocations + for_arguments(words) + for_reading(text)
+
+
+def runs_of_programs(folder):
+    """The lines that the programs print without a report. `nlroute` makes no allocation but those for its arguments;
+    `nlshow` makes others, in `clap` and for the lines. Reading from a folder fails."""
+    unknown = "error: unexpected argument 'dsa' found\n"
+    unknown += "usage: nlshow [--format plain|debug] [--check] | --help | --version\n"
+    usage = "usage: nlroute FAMILY | --help | --version\n"
+    for words, given, text, status, others in (
+        (["nlroute"], b"", usage, 2, 0),
+        (["nlroute", "tap"], b"", usage, 2, 0),
+        (["nlroute", "tap", "dsa"], b"", usage, 2, 0),
+        (["nlroute", "--version"], b"", "nlroute 0.3.0\n", 0, 0),
+        (["nlroute", "dsa"], folder, "read fault\n", 5, 0),
+        (["nlshow", "dsa"], b"", unknown, 2, 15),
+        (["nlshow", "--version"], b"", "nlshow 0.3.0\n", 0, 8),
+    ):
+        yield words, given, printed(text, status), NO_MEMORY, for_arguments(words) + others
 
 
 def main():
@@ -189,20 +154,21 @@ def main():
         print("refusals: there is no cc" if not lacking else f"refusals: rt ci has not built {', '.join(lacking)}")
         print("0 passed, 1 failed")
         return 1
-    passed = failed = 0
+    results = []
     with tempfile.TemporaryDirectory(prefix="refusals-") as room:
         malloc = f"{room}/malloc.so"
-        source = f"{ROOT}/tools/refusals.c"
         flags = ["-std=c11", "-O2", "-Wall", "-Wextra", "-Werror", "-shared", "-fPIC"]
-        subprocess.run(["cc", *flags, "-o", malloc, source], check=True)
+        subprocess.run(["cc", *flags, "-o", malloc, f"{ROOT}/tools/refusals.c"], check=True)
         refuser = Refuser(malloc)
-        for line, wrong in try_all(refuser):
+        folder = os.open(ROOT, os.O_RDONLY)
+        for words, given, *wanted in [*runs_of_calls(), *runs_of_programs(folder)]:
+            wrong = refuser.refuse_each(words, given, *wanted)
+            results.append(not wrong)
             if wrong:
-                print(f"FAILED {line[:100]}: {wrong}")
-            passed, failed = passed + (not wrong), failed + bool(wrong)
+                print(f"FAILED {' '.join(words)} {str(given)[:100]}: {wrong}")
     print(f"{refuser.refusals} runs in which an allocation fails")
-    print(f"{passed} passed, {failed} failed")
-    return 1 if failed else 0
+    print(f"{sum(results)} passed, {results.count(False)} failed")
+    return 0 if all(results) else 1
 
 
 if __name__ == "__main__":

@@ -1,5 +1,6 @@
 #!/usr/bin/env python3
-"""Tests of tools/pages.py: a small tree with a right page passes, and each mistake in it is found at its line.
+"""Tests of tools/pages.py and families.py: a small tree with right pages passes, and each mistake in it is found at its
+line. Each case of CASES is a change of one file, and what is then found.
 
 Its last line is 'N passed, M failed', and its status 0 only if nothing failed.
 """
@@ -8,7 +9,6 @@ import io
 import os
 import sys
 import tempfile
-import unittest
 
 sys.dont_write_bytecode = True
 sys.path.insert(0, os.path.dirname(os.path.realpath(__file__)))
@@ -16,56 +16,11 @@ import families  # noqa: E402
 import pages  # noqa: E402
 
 # Files of the small tree below that have no list of attribute sets.
-UNLISTED = {
-    "README.md",
-    *(f"docs/{it}.md" for it in ("CLAIMS", "CALLING", "DIFFERENCES")),
-    "crates/refusals/stdin",
-    "runs/debug/",
-}
+UNLISTED = "README.md docs/CLAIMS.md docs/CALLING.md docs/DIFFERENCES.md crates/refusals/stdin runs/debug/".split()
 families.LISTS = [it for it in families.LISTS if it[0] not in UNLISTED]
 LISTED = dict(families.LISTS)
 
-SOURCE = """\
-pub struct Pair(u8, u8);
-
-impl Pair {
-    /// Its length.
-    pub fn len_of(&self) -> usize
-        requires { IsPair self.now }
-        ensures length { result ≡
-            2 }
-    {
-        let one = 1;
-        one + 1
-    }
-}
-"""
-
-OTHERS = """\
-pub trait Small {
-    ghost small = { λ s. s < 2 };
-
-    fn len_of(&self) -> usize
-        ensures { result ≡ 1 };
-}
-"""
-
-# Its blocks begin at line 3 and at line 9.
-CLAIMS = """\
-# Claims
-
-```text
-Pair::len_of   length  result
-                       ≡ 2
-Small          small   λ s. s < 2
-```
-
-```text
-Small::len_of  –       result ≡ 1
-```
-"""
-
-# The lines of the page are named in the tests.
+# The lines of these pages are named in the cases.
 PAGE = """\
 # Pairs, `one` by one
 
@@ -89,332 +44,243 @@ It has the clause `ensures length { result ≡ 2 }`, and `requires { .. }`.
 | `std::mem::swap`, `to_string()` | in `std` |
 
 - 2<!-- count: tests of pairs --> tests, three<!-- count: mutants --> mutants, one<!-- count: mutants of definitions
-  --> of definitions, 1<!-- count: must-fail edits --> must-fail edit. Once there were 275<!-- count: past --> mutants.
+  --> of definitions, 1<!-- count: must-fail edits --> must-fail edit. The other names are `IsPair` and `nla_type`.
 - 1,001<!-- count: calls that allocate --> calls allocate, 1<!-- count: calls that do not allocate --> does not.
 - 2<!-- count: lists of plain --> lists, one<!-- count: check lines of plain --> `check`, 4<!-- count: runs --> runs,
-  1<!-- count: message lines of plain --> message, 2<!-- count: other lines of plain --> others.
+  1<!-- count: message lines of plain --> message, 2<!-- count: tap lines of plain --> others.
 
-`frames`, [x](docs/CALLING.md "frames"), <!-- frames --> and a *record* of records.
+```text
+src/lib.rt   len_of: IsPair, IsPairPair, NAME.rt, ./made/by_rt.rt
+```
+
+### Pairs: `Pair`, `pair_table`
+
+```text
+1  PAIR_AGE   Age   u32 as Seconds: of both
+2  PAIR_ENDS  Ends  Nested false end_rows
+3  PAIR_KIND  Kind  as Age
+```
+
+### `end_rows`
+
+```text
+1  END_INDEX  Index  u32_enum as Index
+```
 """
+CALLING = "# Calling\n\n## What *is* a `Pair`?\n\n## What is a pair\n\n[Back](../README.md), [down](../crates/pairs).\n"
+LEFT = 1800 - len(CALLING.split())
+CLAIMS = """\
+# Claims
 
-CALLING = """\
-# Calling
+```text
+Pair::len_of   length  result
+                       ≡ 2
+Small          small   λ s. s < 2
+```
 
-## What *is* a `Pair`?
-
-## What is a pair
-
-[Back](../README.md), [down](../crates/pairs).
+```text
+Small::len_of  –       result ≡ 1
+```
 """
+SOURCE = """\
+pub struct Pair(u8, u8);
 
+impl Pair {
+    /// Its length.
+    pub fn len_of(&self) -> usize
+        requires { IsPair self.now }
+        ensures length { result ≡
+            2 }
+    {
+        let one = 1;
+        one + 1
+    }
+}
+"""
+SMALL = """\
+pub trait Small {
+    ghost small = { λ s. s < 2 };
+
+    fn len_of(&self) -> usize
+        ensures { result ≡ 1 };
+}
+"""
+KINDS = """\
+rows! {
+    PAIR_AGE = 1, Age: u32 as Seconds;
+    PAIR_ENDS = 2 | NLA_F_NESTED, Ends(first, last): NestedList<End>;
+    PAIR_KIND = 3, Kind: u32;
+}
+rows! {
+    END_INDEX = 1, Index: Named<End> as Index;
+}
+"""
+TABLES = """\
+use Rattle.link_pairs.specs.Pair.{pair_table}
+pair_table : Table
+pair_table =
+    row_in Seconds 1 "PAIR_AGE" u32 ∷
+    nested_row 2 "PAIR_ENDS" false end_rows ∷
+    row 3 "PAIR_KIND" u32 ∷ []
+
+end_rows = leaf_row_in Index 1 "END_INDEX" (u32_enum ends) ∷ []
+"""
 # The list of attribute sets, and lists that agree with it.
 FAMILIES = """\
             Dsa   "dsa"   InfoDsa  0  InfoKind (b"dsa")
             Vlan  "vlan"  InfoVlan 1  BridgeAttribute (IFLA_VLAN)
 """
-HEADER = "enum {\n    NLROUTE_DSA = 0,\n    NLROUTE_VLAN = 1 /* last */\n};\n"
-NAMES = 'names[2] = {"dsa", "vlan"};\nwhile (family < 2) continue;\n'
-
+LIB, SPEC, REFUSED = "crates/pairs/src/lib.rt", "crates/pairs/specs/Pair.antt", "extra/c_refusals.c"
+HEADER, RUN = "crates/nlroute_ffi/include/nlroute.h", "runs/plain/more/vlan"
+ROUTE = "crates/netlink_packet_route"
 TREE = {
     "README.md": PAGE,
-    "CHANGELOG.md": "# Changes\n\n12 tests, 13 mutants.\n" + 2000 * "word ",
+    "CHANGELOG.md": "# Changes\n\n12 tests, 13 mutants of `old_name`.\n" + 2000 * "word ",
     "docs/CALLING.md": CALLING,
     "docs/CLAIMS.md": CLAIMS,
-    "crates/pairs/src/lib.rt": SOURCE,
-    "crates/pairs/src/small.rt": OTHERS,
+    "docs/DIFFERENCES.md": "# Others\n\n`other_name`\n",
+    LIB: SOURCE,
+    SPEC: TABLES,
+    "crates/pairs/src/small.rt": SMALL,
+    "crates/pairs/src/kinds.rt": KINDS,
     "crates/pairs/src/tests.rt": "#[test]\nfn one() {}\n\n#[test]\nfn two() {}\n// no #[test]\n",
-    "crates/pairs/mutants/gives_one.edit": "file: src/lib.rt\nold: one + 1\nnew: one\n",
-    "crates/pairs/mutants.edits": "# Mutants\n\n## gives_two\nfile: src/lib.rt\n\n## means_two\nfile: specs/Lib.antt\n",
+    "crates/pairs/mutants.edits": "# Mutants\n\n## a\nfile: src/lib.rt\n\n## b\nfile: specs/Lib.antt\n",
+    "crates/small/mutants.edits": "## c\nfile: src/lib.rt\n",
     "crates/pairs/must-fail/gives_three.edit": "file: src/lib.rt\nold: one + 1\nnew: 3\n",
+    "crates/pairs/out/made.md": "",
     "crates/refusals/stdin": "# Calls\n\n" + 1001 * "12 read_list dsa 00\n" + "0 read_list dsa\n",
-    "crates/netlink_packet_route/src/family.rt": FAMILIES,
-    "crates/nlroute_ffi/include/nlroute.h": HEADER,
-    "tools/c_refusals.c": NAMES,
-    "runs/plain/lists": "program: nlshow\n\n# Lists\n> dsa 00\ndsa 00\n\n> check dsa\n< message 00\n< tap\n> messages\n",
-    "runs/plain/more/vlan": "program: nlshow\n\n> vlan 00\n",
+    f"{ROUTE}/src/family.rt": FAMILIES,
+    f"{ROUTE}/specs/Family.antt": "use Rattle.link_pairs.specs.Pair.{pair_table}\n",
+    f"{ROUTE}/specs/Lib.antt": "pub use Rattle.link_pairs.specs.Pair\n",
+    HEADER: "enum {\n    NLROUTE_DSA = 0,\n    NLROUTE_VLAN = 1 /* last */\n};\n",
+    REFUSED: 'names[2] = {"dsa", "vlan"};\nwhile (family < 2) continue;\n',
+    "runs/plain/lists": "program: nlshow\n\n# Lists\n> dsa 00\ndsa 00\n\n> check dsa\n< message 00\n< tap\n> tap\n",
+    RUN: "program: nlshow\n\n> vlan 00\n",
     "runs/plain/other": "program: nlroute\n\n< dsa 00\n",
     "runs/debug/other": "# dsa 00\nprogram: nlshow\n\n",
-    "crates/pairs/out/made.md": "",
 }
 
 NO_PART = "the sample is not a part of crates/pairs/src/lib.rt from this line on"
+DIFFERS = f"11: {NO_PART}: its line 11 differs"
+MARK, NO_MARK = "<!-- from: crates/pairs/src/lib.rt -->", "5: `{}` is not a mark `<!-- from: PATH -->` above a code block"
+NO_LINK, NO_FILE, NO_NAME = "3: the link leads to {}, which does not exist", "there is no file `{}`", "no source has the name `{}`"
+NO_CLAUSE = "15: no .rt file has the clause `{}`"
+NO_PROMISE = "{}: no contract of `{}` has the clause {} as the page has it"
+NOT_COUNT = "{} is not the count of {}"
+IN_CODE, IN_TABLE = "{}: src/ has no row `{}`, but {}", "{}: row {} is `{}`"
+NO_SET = "1: the list does not have vlan as families! has it: no text is as {}"
+# For each file that is changed: its old text, the new one, and what is then found. If the page of a finding is not
+# named, it is README.md.
+CASES = [
+    ("README.md", "    one + 1\n}\n", "    one + 2\n}\n", DIFFERS),
+    ("README.md", "    one + 1\n}\n", "   one + 1\n}\n", DIFFERS),
+    ("README.md", "    one + 1\n}\n", "}\n", DIFFERS),
+    (LIB, "        one + 1\n", "        one + 2\n", DIFFERS),
+    ("README.md", "pub fn len_of(&self) -> usize\n", "pub fn len(&self) -> usize\n", f"7: {NO_PART}"),
+    ("README.md", "    let one = 1;\n    one + 1\n}\n", "    let one = 1;\n...\n    one + 1\n"),
+    ("README.md", "{\n    let one = 1;\n    one + 1\n}\n", "    one + 1\n...\n    let one = 1;\n", f"11: {NO_PART}"),
+    ("README.md", PAGE[PAGE.index("pub") : PAGE.index("}\n```")] + "}\n", "", "6: the code block is empty"),
+    ("README.md", MARK, MARK.replace("src/", ""), "5: there is no file crates/pairs/lib.rt"),
+    ("README.md", "from: crates", "from crates", NO_MARK.format(MARK.replace(":", ""))),
+    ("README.md", "```rust\n", "A line.\n\n```rust\n", NO_MARK.format(MARK)),
+    ("README.md", "result ≡ 2 }`", "result ≡ 3 }`", NO_CLAUSE.format("ensures length { result ≡ 3 }")),
+    ("README.md", "requires { .. }`", "requires { .. } ensures one`", NO_CLAUSE.format("requires { .. } ensures one")),
+    ("docs/CLAIMS.md", "≡ 2", "≡ 3", "docs/CLAIMS.md:" + NO_PROMISE.format(4, "Pair::len_of", "length")),
+    ("docs/CLAIMS.md", "length ", "longer ", "docs/CLAIMS.md:" + NO_PROMISE.format(4, "Pair::len_of", "longer")),
+    ("docs/CLAIMS.md", "s < 2", "s < 3", "docs/CLAIMS.md:" + NO_PROMISE.format(6, "Small", "small")),
+    ("docs/CLAIMS.md", "≡ 1", "≡ 2", "docs/CLAIMS.md:" + NO_PROMISE.format(10, "Small::len_of", "–")),
+    ("crates/pairs/src/small.rt", "≡ 1 }", "≡ 1 } ensures more { 0 < result }",
+     "docs/CLAIMS.md:10: `Small::len_of` has 2 clauses, and the page has 1"),
+    ("README.md", "docs/CALLING.md#", "docs/CALLS.md#", NO_LINK.format("docs/CALLS.md")),
+    ("README.md", "(crates/pairs/src/lib.rt)", "(crates/pairs/out/made.md)", NO_LINK.format("crates/pairs/out/made.md")),
+    ("docs/CALLING.md", "/pairs", "/pair", "docs/CALLING.md:7" + NO_LINK.format("crates/pair")[1:]),
+    ("README.md", "(#pairs-one-by-one)", "(#pairs)", "3: `#pairs` is not a heading of README.md"),
+    ("README.md", "#what-is-a-pair", "#what-is-a-pair-1"),
+    ("README.md", "#what-is-a-pair", "#what-is-a-pair-2", "3: `#what-is-a-pair-2` is not a heading of docs/CALLING.md"),
+    ("README.md", "`src/lib.rt`", "`src/main.rt`", "19: " + NO_FILE.format("src/main.rt")),
+    ("README.md", "`crates/pairs`", "`crates/pair`", "19: " + NO_FILE.format("crates/pair")),
+    ("README.md", "`src/lib.rt`", "`tests.py`", "19: " + NO_FILE.format("tests.py")),
+    ("README.md", "src/lib.rt   ", "src/lip.rt   ", "29: " + NO_FILE.format("src/lip.rt")),
+    *(("README.md", "`src/lib.rt`", f"`{it}`") for it in "crates/NAME/src docs/*.md src/{a,b}.rt net/a.c linux/a.h out/pairs 1/2".split()),
+    ("README.md", "pairs::len_of`", "pairs::length`", "19: there is no function `length`, which `pairs::length` names"),
+    ("README.md", "`len_of(pair)`", "`length(pair)`", "19: there is no function `length`, which `length(pair)` names"),
+    *(("README.md", "`nla_type`", f"`{it}`", "23: " + NO_NAME.format(it.split("::")[-1])) for it in ("len_off", "IsPairs", "Pair::is_pair")),
+    *(("README.md", "`nla_type`", f"`{it}`") for it in ("len_of", "PAIR_LEN", "pair", "Pairs")),
+    ("README.md", "len_of: ", "len_off: ", "29: " + NO_NAME.format("len_off")),
+    ("README.md", "IsPairPair", "IsPairPairs", "29: " + NO_NAME.format("IsPairPairs")),
+    ("README.md", "1  PAIR_AGE ", "2  PAIR_AGE ", IN_CODE.format(35, "2 PAIR_AGE Age as Seconds", "1 PAIR_AGE Age as Seconds"),
+     IN_TABLE.format(35, "2 of pair_table", "PAIR_ENDS Nested false end_rows")),
+    ("README.md", "  Ends ", "  Kind ", IN_CODE.format(36, "2 PAIR_ENDS Kind", "2 PAIR_ENDS Ends, 3 PAIR_KIND Kind")),
+    ("README.md", "Nested false", "Nested true", IN_TABLE.format(36, "2 of pair_table", "PAIR_ENDS Nested false end_rows")),
+    ("README.md", "u32 as Seconds", "u32", IN_CODE.format(35, "1 PAIR_AGE Age", "1 PAIR_AGE Age as Seconds"),
+     IN_TABLE.format(35, "1 of pair_table", "PAIR_AGE u32 as Seconds")),
+    (SPEC, "row_in Index", "row_in Seconds", IN_TABLE.format(43, "1 of end_rows", "END_INDEX u32_enum ends as Seconds")),
+    (SPEC, "leaf_row_in Index 1", "leaf_row_in Index 2", IN_TABLE.format(43, "1 of end_rows", "no row")),
+    ("crates/pairs/src/kinds.rt", " as Index", "", IN_CODE.format(43, "1 END_INDEX Index as Index", "1 END_INDEX Index")),
+    ("README.md", "- 2<!-- count: t", "- 3<!-- count: t", "22: " + NOT_COUNT.format(3, "tests of pairs, which is 2")),
+    ("README.md", "three<", "two<", "22: " + NOT_COUNT.format("two", "mutants, which is 3")),
+    ("README.md", "1,001", "1,002", "24: " + NOT_COUNT.format("1,002", "calls that allocate, which is 1,001")),
+    ("README.md", "  1<", "  2<", "26: " + NOT_COUNT.format(2, "message lines of plain, which is 1")),
+    ("README.md", "4<!-- count: runs -->", "3<!-- count: runs of plain -->"),
+    (RUN, "> vlan 00\n", "> vlan 00\n< vlan\nvlan\n", "25: " + NOT_COUNT.format(2, "lists of plain, which is 3")),
+    ("crates/pairs/src/tests.rt", "fn two", "#[test]\nfn three() {}\nfn two", "22: " + NOT_COUNT.format(2, "tests of pairs, which is 3")),
+    ("README.md", "mutants -->", "mutant -->", "22: `<!-- count: mutant -->` does not name a count"),
+    ("README.md", "three<", "some<", "22: there is no number before `<!-- count: mutants -->`"),
+    *(("README.md", "The other names", it, f"23: '{it}' has no mark `<!-- count: NAME -->` after the number")
+      for it in ("8 tests", "275 mutants", "1 must-fail edit")),
+    ("docs/CALLING.md", CALLING, CALLING + LEFT * "word "),
+    ("docs/CALLING.md", CALLING, CALLING + (LEFT + 1) * "word ", "docs/CALLING.md:1: the page has 1,801 words, and its budget is 1,800"),
+    ("docs/CALLING.md", CALLING, CALLING + LEFT * "word " + "\n\n```text\nword\n```\n\n<!-- word -->\n"),
+    ("bench/README.md", "", "word " * 601, "bench/README.md:1: the page has 601 words, and its budget is 600"),
+    ("docs/NEW.md", "", "# New\n", "docs/NEW.md:1: the page has no budget in tools/pages.py"),
+    (HEADER, "NLROUTE_VLAN = 1", "NLROUTE_VLAN = 2", f"{HEADER}:{NO_SET.format(LISTED[HEADER])}"),
+    (REFUSED, '"vlan"', '"van"', f"{REFUSED}:{NO_SET.format(LISTED[REFUSED])}"),
+    (REFUSED, '"dsa", "vlan"', '"vlan", "dsa"', f"{REFUSED}:1: vlan is not in the order of families!"),
+    (REFUSED, "family < 2", "family < 3", f"{REFUSED}:2: 3 is not the number of attribute sets, which is 2"),
+    (RUN, "> vlan 00", "> vlan zz", f"runs/plain/:{NO_SET.format(LISTED['runs/plain/'])}"),
+    (f"{ROUTE}/src/family.rt", "1  Bridge", "2  Bridge",
+     f"{ROUTE}/src/family.rt:1: the numbers of attribute sets do not go from 0 in order", f"{HEADER}:{NO_SET.format(LISTED[HEADER])}"),
+    (f"{ROUTE}/src/family.rt", FAMILIES, "\n", f"{ROUTE}/src/family.rt:1: there is no list of attribute sets",
+     "25: `<!-- count: lists of plain -->` does not name a count",
+     f"{REFUSED}:1: 2 is not the number of attribute sets, which is 0", f"{REFUSED}:2: 2 is not the number of attribute sets, which is 0"),
+    (f"{ROUTE}/specs/Lib.antt", "specs.Pair", "specs.Pairs",
+     f"{ROUTE}/specs/Lib.antt:1: it does not hand on Rattle.link_pairs.specs.Pair, which {ROUTE}/specs/Family.antt uses"),
+]
 
 
-class Pages(unittest.TestCase):
-    def said(self, tree, *named):
-        """What is said of the pages of a tree, except the last line, which has to agree with it."""
-        with tempfile.TemporaryDirectory(prefix="pages-test-") as root:
-            for path, text in tree.items():
-                os.makedirs(os.path.dirname(f"{root}/{path}"), exist_ok=True)
-                with open(f"{root}/{path}", "w", encoding="utf-8") as file:
-                    file.write(text)
-            with contextlib.redirect_stdout(io.StringIO()) as said:
-                status = pages.check(root, list(named))
-        *lines, last = said.getvalue().splitlines()
-        self.assertRegex(last, r"\A\d+ passed, \d+ failed\Z")
-        self.assertEqual((not lines, not lines), (status == 0, last.endswith(" 0 failed")), lines)
-        return lines
+def said(tree, *named):
+    """What is said of the pages of a tree, and the status."""
+    with tempfile.TemporaryDirectory(prefix="pages-test-") as root:
+        for path, text in tree.items():
+            os.makedirs(os.path.dirname(f"{root}/{path}"), exist_ok=True)
+            with open(f"{root}/{path}", "w", encoding="utf-8") as file:
+                file.write(text)
+        with contextlib.redirect_stdout(io.StringIO()) as printed:
+            status = pages.check(root, list(named))
+    return printed.getvalue().splitlines(), status
 
-    def finds(self, wanted, old, new, path="README.md"):
-        """Checks that a change of a file, whose old text it has once, is found as wanted, and nothing else is."""
-        self.assertEqual(1, TREE[path].count(old), old)
-        lines = self.said(TREE | {path: TREE[path].replace(old, new)})
-        self.assertEqual([wanted], lines)
 
-    def test_right_pages_pass(self):
-        self.assertEqual([], self.said(TREE))
-        self.assertEqual([], self.said(TREE, "README.md", "docs/CALLING.md"))
-
-    def test_a_page_that_is_named_exists(self):
-        self.assertEqual(["docs/MODEL.md:1: there is no such page"], self.said(TREE, "docs/MODEL.md"))
-
-    def test_a_sample_is_verbatim(self):
-        changed = f"README.md:11: {NO_PART}: its line 11 differs"
-        self.finds(changed, "    one + 1\n}\n", "    one + 2\n}\n")
-        self.finds(changed, "    one + 1\n}\n", "   one + 1\n}\n")
-        self.finds(changed, "    one + 1\n}\n", "}\n")
-        self.finds(f"README.md:7: {NO_PART}", "pub fn len_of(&self) -> usize\n", "pub fn len(&self) -> usize\n")
-        self.finds(changed, "        one + 1\n", "        one + 2\n", "crates/pairs/src/lib.rt")
-
-    def test_the_parts_of_a_sample_are_in_order(self):
-        first, then = "    one + 1\n", "    let one = 1;\n"
-        part = PAGE[PAGE.index("pub fn") : PAGE.index("}\n```")]
-        for block, wanted in {
-            then + "...\n" + first: [],
-            first + "...\n" + then: [f"README.md:9: {NO_PART}"],
-        }.items():
-            self.assertEqual(wanted, self.said(TREE | {"README.md": PAGE.replace(part + "}\n", block)}))
-
-    def test_a_sample_names_its_file(self):
-        mark = "<!-- from: crates/pairs/src/lib.rt -->"
-        self.finds("README.md:5: there is no file crates/pairs/lib.rt", mark, "<!-- from: crates/pairs/lib.rt -->")
-        for old, new, said in (
-            ("from: crates", "from crates", mark.replace("from:", "from")),
-            ("```rust\n", "A line.\n\n```rust\n", mark),
-        ):
-            self.finds(f"README.md:5: `{said}` is not a mark `<!-- from: PATH -->` above a code block", old, new)
-
-    def test_a_clause_is_in_a_source(self):
-        wanted = "README.md:15: no .rt file has the clause `{}`"
-        self.finds(wanted.format("ensures length { result ≡ 3 }"), "result ≡ 2 }`", "result ≡ 3 }`")
-        self.finds(wanted.format("requires { .. } ensures one"), "requires { .. }`", "requires { .. } ensures one`")
-
-    def test_a_table_of_clauses_is_that_of_the_contracts(self):
-        wanted = "docs/CLAIMS.md:{}: no contract of `{}` has the clause {} as the page has it"
-        for line, old, name, clause, new in (
-            (4, "≡ 2", "Pair::len_of", "length", "≡ 3"),
-            (4, "length ", "Pair::len_of", "longer", "longer "),
-            (6, "s < 2", "Small", "small", "s < 3"),
-            (10, "≡ 1", "Small::len_of", "–", "≡ 2"),
-        ):
-            self.finds(wanted.format(line, name, clause), old, new, "docs/CLAIMS.md")
-        clause = "ensures { result ≡ 1 }"
-        more = "docs/CLAIMS.md:10: `Small::len_of` has 2 clauses, and the page has 1"
-        self.finds(more, clause, f"{clause}\n        ensures more {{ 0 < result }}", "crates/pairs/src/small.rt")
-
-    def test_a_link_leads_somewhere(self):
-        wanted = "README.md:3: the link leads to {}, which does not exist"
-        self.finds(wanted.format("docs/CALLS.md"), "docs/CALLING.md#", "docs/CALLS.md#")
-        self.finds(wanted.format("crates/pairs/out/made.md"), "(crates/pairs/src/lib.rt)", "(crates/pairs/out/made.md)")
-        there = wanted.format("crates/pair").replace("README.md:3", "docs/CALLING.md:7")
-        self.finds(there, "/pairs", "/pair", "docs/CALLING.md")
-
-    def test_an_anchor_is_a_heading(self):
-        self.finds("README.md:3: `#pairs` is not a heading of README.md", "(#pairs-one-by-one)", "(#pairs)")
-        text = PAGE.replace("#what-is-a-pair", "#what-is-a-pair-1")
-        self.assertEqual([], self.said(TREE | {"README.md": text}))
-        text = PAGE.replace("#what-is-a-pair", "#what-is-a-pair-2")
-        wanted = "README.md:3: `#what-is-a-pair-2` is not a heading of docs/CALLING.md"
-        self.assertEqual([wanted], self.said(TREE | {"README.md": text}))
-
-    def test_a_file_exists(self):
-        self.finds("README.md:19: there is no file `src/main.rt`", "`src/lib.rt`", "`src/main.rt`")
-        self.finds("README.md:19: there is no file `crates/pair`", "`crates/pairs`", "`crates/pair`")
-        self.finds("README.md:19: there is no file `tests.py`", "`src/lib.rt`", "`tests.py`")
-        for other in "crates/NAME/src docs/*.md src/{a,b}.rt net/core/dev.c linux/if_link.h out/pairs 1/2".split():
-            self.assertEqual([], self.said(TREE | {"README.md": PAGE.replace("`src/lib.rt`", f"`{other}`")}), other)
-
-    def test_a_function_exists(self):
-        wanted = "README.md:19: there is no function `{}`, which `{}` names"
-        self.finds(wanted.format("length", "pairs::length"), "pairs::len_of`", "pairs::length`")
-        self.finds(wanted.format("length", "length(pair)"), "`len_of(pair)`", "`length(pair)`")
-
-    def test_a_name_is_in_a_source(self):
-        for name in ("len_off", "IsPairs", "Pair::is_pair"):
-            wanted = f"README.md:28: no source has the name `{name.split('::')[-1]}`"
-            self.finds(wanted, "a *record* of records", f"`{name}`")
-        for other in ("len_of", "IsPair", "nla_type", "PAIR_LEN", "pair", "Pairs"):
-            self.assertEqual([], self.said(TREE | {"README.md": PAGE + f"\n`{other}`\n"}), other)
-        for path in ("CHANGELOG.md", "docs/DIFFERENCES.md"):
-            self.assertEqual([], self.said(TREE | {path: "# Others\n\n`len_off`\n"}), path)
-
-    def test_blocks_of_text_have_names_of_the_tree(self):
-        block = "\n```text\nsrc/lib.rt   len_of: IsPair, IsPairPair, NAME.rt, ./made/by_rt.rt\n```\n"
-        self.assertEqual([], self.said(TREE | {"README.md": PAGE + block}))
-        for old, new, wanted in (
-            ("src/lib.rt", "src/lip.rt", "there is no file `src/lip.rt`"),
-            ("len_of", "len_off", "no source has the name `len_off`"),
-            ("IsPairPair", "IsPairPairs", "no source has the name `IsPairPairs`"),
-        ):
-            lines = self.said(TREE | {"README.md": PAGE + block.replace(old, new)})
-            self.assertEqual([f"README.md:31: {wanted}"], lines)
-
-    def test_rows_of_attribute_types_are_those_of_the_sources(self):
-        block = """
-            ### Pairs: `Pair`, `pair_table`
-
-            ```text
-            1  PAIR_LEN   Len    u16: bytes
-            2  PAIR_ENDS  Ends   Nested false end_rows
-            3  PAIR_KIND  Other  as Len
-            ```
-            """.replace("            ", "")
-        spec = "pair_table : Table\npair_table =\n    row 1 \"PAIR_LEN\" u16 ∷\n"
-        source = "const PAIR_KIND: u16 = 3;\n"
-        more = {
-            "crates/pairs/specs/Pair.antt": spec
-            + "    nested_row 2 \"PAIR_ENDS\" false end_rows ∷\n    row 3 \"PAIR_KIND\" bytes ∷ []\n",
-            "crates/pairs/src/kinds.rt": source + "match self {\n    Pair::Other => PAIR_KIND,\n}\n"
-            "rows! {\n    PAIR_LEN = 1, Len: u16;\n    PAIR_ENDS = 2 | NLA_F_NESTED, Ends(first, last): NestedList<End>;\n}\n",
-        }
-        self.assertEqual([], self.said(TREE | more | {"README.md": PAGE + block}))
-        for old, new, wanted in (
-            ("1  PAIR_LEN ", "2  PAIR_LEN ", "33: PAIR_LEN is 1 in the sources"),
-            ("  Ends ", "  Other ", "34: no source has the variant Other for PAIR_ENDS"),
-            ("u16", "u32", "33: row 1 of pair_table does not have the shape u32"),
-            ("Nested false", "Nested true", "34: row 2 of pair_table does not have the shape Nested true end_rows"),
-        ):
-            lines = self.said(TREE | more | {"README.md": PAGE + block.replace(old, new)})
-            self.assertEqual([f"README.md:{wanted}"], lines)
-        more["crates/pairs/specs/Pair.antt"] = more["crates/pairs/specs/Pair.antt"].replace("PAIR_ENDS", "PAIR_END")
-        lines = self.said(TREE | more | {"README.md": PAGE + block})
-        self.assertEqual(["README.md:34: row 2 of pair_table does not have the name PAIR_ENDS"], lines)
-
-    def test_quantities_of_attribute_types_are_those_of_the_sources(self):
-        block = """
-            ### Pairs: `Pair`, `pair_table`
-
-            ```text
-            1  PAIR_AGE  Age   u32 as Seconds: of both
-            2  PAIR_LEN  Len   u16
-            ```
-
-            ### `end_rows`
-
-            ```text
-            1  END_INDEX  Index  u32_enum as Index
-            ```
-            """.replace("            ", "")
-        spec, code = "crates/pairs/specs/Pair.antt", "crates/pairs/src/kinds.rt"
-        more = {
-            spec: "pair_table =\n    row_in Seconds 1 \"PAIR_AGE\" u32 ∷\n    row 2 \"PAIR_LEN\" u16 ∷ []\n\n"
-            "end_rows = leaf_row_in Index 1 \"END_INDEX\" (u32_enum ends) ∷ []\n",
-            code: "rows! {\n    PAIR_AGE = 1, Age: u32 as Seconds;\n    PAIR_LEN = 2, Len: u16;\n}\n"
-            "rows! {\n    END_INDEX = 1, Index: Named<End> as Index;\n}\n",
-        }
-        page = {"README.md": PAGE + block}
-        self.assertEqual([], self.said(TREE | more | page))
-        age, index = ("PAIR_AGE in src/", "row 1 of pair_table"), ("END_INDEX in src/", "row 1 of end_rows")
-        for path, old, new, line, quantity, wanted in (
-            ("README.md", " as Seconds", "", 33, "the quantity Seconds", age),
-            ("README.md", "as Index", "as Seconds", 40, "the quantity Index", index),
-            ("README.md", "  u16\n", "  u16 as Seconds\n", 34, "no quantity", ("PAIR_LEN in src/", "row 2 of pair_table")),
-            (spec, "row_in Seconds 1", "row 1", 33, "no quantity", age[1:]),
-            (spec, "row_in Index", "row_in Seconds", 40, "the quantity Seconds", index[1:]),
-            (code, " as Seconds", "", 33, "no quantity", age[:1]),
-            (code, "as Index", "as Seconds", 40, "the quantity Seconds", index[:1]),
-        ):
-            tree = TREE | more | page
-            self.assertEqual(1, tree[path].count(old), old)
-            found = self.said(tree | {path: tree[path].replace(old, new)})
-            self.assertEqual([f"README.md:{line}: {it} has {quantity}" for it in wanted], found)
-
-    def test_a_marked_number_is_that_of_the_tree(self):
-        wanted = "README.md:{}: {} is not the count of {}"
-        self.finds(wanted.format(22, 3, "tests of pairs, which is 2"), "- 2<!-- count: t", "- 3<!-- count: t")
-        self.finds(wanted.format(22, "two", "mutants, which is 3"), "three<", "two<")
-        self.finds(wanted.format(24, "1,002", "calls that allocate, which is 1,001"), "1,001", "1,002")
-        self.finds(wanted.format(26, 2, "message lines of plain, which is 1"), "  1<", "  2<")
-        run = "runs/plain/more/vlan"
-        self.finds(wanted.format(25, 2, "lists of plain, which is 3"), "> vlan 00\n", "> vlan 00\n< vlan\nvlan\n", run)
-        more = self.said(TREE | {"runs/other/one": "program: nlshow\n"})
-        self.assertEqual([wanted.format(25, 4, "runs, which is 5")], more)
-        page = PAGE.replace("4<!-- count: runs -->", "3<!-- count: runs of plain -->")
-        self.assertEqual([], self.said(TREE | {"README.md": page}))
-        test = "#[test]\nfn one() {}\n"
-        self.finds(wanted.format(22, 2, "tests of pairs, which is 3"), test, test + test, "crates/pairs/src/tests.rt")
-
-    def test_a_mark_names_a_count_and_follows_a_number(self):
-        self.finds("README.md:22: `<!-- count: mutant -->` does not name a count", "mutants -->", "mutant -->")
-        self.finds("README.md:22: there is no number before `<!-- count: mutants -->`", "three<", "some<")
-
-    def test_a_number_of_tests_or_mutants_has_a_mark(self):
-        for number in ("8 tests", "275 mutants", "1 must-fail edit"):
-            wanted = f"README.md:28: '{number}' has no mark `<!-- count: NAME -->` after the number"
-            self.finds(wanted, "a *record* of records", number)
-
-    def test_a_page_keeps_its_budget(self):
-        more = "word " * (1800 - len(CALLING.split()))
-        self.assertEqual([], self.said(TREE | {"docs/CALLING.md": CALLING + more}))
-        wanted = "docs/CALLING.md:1: the page has 1,801 words, and its budget is 1,800"
-        self.assertEqual([wanted], self.said(TREE | {"docs/CALLING.md": f"{CALLING}{more}`word`"}))
-        free = "\n\n```text\nword\n```\n\n<!-- word -->\n"
-        self.assertEqual([], self.said(TREE | {"docs/CALLING.md": CALLING + more + free}))
-        small = {"bench/README.md": "word " * 601, "crates/pairs/README.md": "word " * 600}
-        self.assertEqual(["bench/README.md:1: the page has 601 words, and its budget is 600"], self.said(TREE | small))
-
-    def test_a_page_has_a_budget(self):
-        wanted = "docs/NEW.md:1: the page has no budget in tools/pages.py"
-        self.assertEqual([wanted], self.said(TREE | {"docs/NEW.md": "# New\n"}))
-
-    def test_lists_of_attribute_sets_agree(self):
-        header, refused = "crates/nlroute_ffi/include/nlroute.h", "tools/c_refusals.c"
-        vlan = f"{header}:1: the list does not have vlan as families! has it: no text is as {LISTED[header]}"
-        self.finds(vlan, "NLROUTE_VLAN = 1", "NLROUTE_VLAN = 2", header)
-        self.finds(vlan, "NLROUTE_VLAN = 1", "NLROUTE_VLANS = 1", header)
-        self.finds(f"{refused}:1: the list does not have vlan as families! has it: no text is as {LISTED[refused]}", '"vlan"', '"van"', refused)
-        self.finds(f"{refused}:1: vlan is not in the order of families!", '"dsa", "vlan"', '"vlan", "dsa"', refused)
-        self.finds(f"{refused}:2: 3 is not the number of attribute sets, which is 2", "family < 2", "family < 3", refused)
-        found = self.said(TREE | {"crates/netlink_packet_route/src/family.rt": FAMILIES.replace("1  Bridge", "2  Bridge")})
-        gap = "crates/netlink_packet_route/src/family.rt:1: the numbers of attribute sets do not go from 0 in order"
-        self.assertEqual([gap, vlan], found)
-        wanted = f"runs/plain/:1: the list does not have vlan as families! has it: no text is as {LISTED['runs/plain/']}"
-        self.finds(wanted, "> vlan 00", "> vlan zz", "runs/plain/more/vlan")
-        page = {"docs/PROGRAMS.md": "| `dsa` | `IFLA_INFO_DATA` |\n| `vlan` | `IFLA_VLAN` |\n"}
-        self.assertEqual([], self.said(TREE | page))
-        page["docs/PROGRAMS.md"] = page["docs/PROGRAMS.md"].replace("IFLA_VLAN", "IFLA_VLANS")
-        wanted = f"docs/PROGRAMS.md:1: the list does not have vlan as families! has it: no text is as {LISTED['docs/PROGRAMS.md']}"
-        self.assertIn(wanted, self.said(TREE | page))
-
-    def test_the_definitions_of_attribute_sets_are_handed_on(self):
-        defined, handed_on = (f"crates/netlink_packet_route/specs/{it}.antt" for it in ("Family", "Lib"))
-        more = {defined: "use Rattle.link_pairs.specs.Pair.{pair_table}\n", handed_on: "pub use Rattle.link_pairs.specs.Pair\n"}
-        self.assertEqual([], self.said(TREE | more))
-        more[handed_on] = "pub use Rattle.link_pairs.specs.Pairs\n"
-        wanted = f"{handed_on}:1: it does not hand on Rattle.link_pairs.specs.Pair, which {defined} uses"
-        self.assertEqual([wanted], self.said(TREE | more))
-
-    def test_there_is_a_list_of_attribute_sets(self):
-        wanted = "crates/netlink_packet_route/src/family.rt:1: there is no list of attribute sets"
-        found = self.said(TREE | {"crates/netlink_packet_route/src/family.rt": ""})
-        self.assertIn(wanted, found)
-
-    def test_a_word_does_not_come_back(self):
-        for word, write in (
-            ("Frames", "attribute"),
-            ("exactly\nif", "if and only if"),
-            ("a list stands\n  in", "is, depends on, represents, follows"),
-            ("that are no list", "is not a"),
-        ):
-            said = " ".join(word.split()).removeprefix("a list ").removeprefix("that ").removesuffix(" list")
-            self.finds(f"README.md:28: '{said}': write {write}", "a *record* of records", word)
-        for kept in ("Ethernet frames", "edition 2021", "`frame`", "a *frame* or frames", "is no more", "there is no"):
-            page = PAGE.replace("a *record* of records", kept)
-            self.assertEqual([], self.said(TREE | {"README.md": page}), kept)
+def failures():
+    """What is not found as wanted, for each case, or None."""
+    rules = len(pages.RULES)
+    for named, wanted in (
+        ([], f"{5 * rules + 1} passed, 0 failed"),
+        (["README.md", "docs/CALLING.md"], f"{2 * rules} passed, 0 failed"),
+        (["docs/MODEL.md"], "docs/MODEL.md:1: there is no such page\n0 passed, 1 failed"),
+    ):
+        found = "\n".join(said(TREE, *named)[0])
+        yield None if found == wanted else f"{named}: {found}"
+    for path, old, new, *wanted in CASES:
+        text = TREE.get(path, "")
+        (*lines, last), status = said(TREE | {path: text.replace(old, new) if text else new})
+        wanted = sorted(f"README.md:{it}" if it[:1].isdigit() else it for it in wanted)
+        is_told = (status == 0, last.endswith(" 0 failed")) == (not lines, not lines)
+        is_once = text.count(old) == 1 or not text
+        yield None if is_told and is_once and sorted(lines) == wanted else f"{path}, {old!r}: {lines}, {last}, not {wanted}"
 
 
 if __name__ == "__main__":
-    ran = unittest.main(exit=False).result
-    failed = len(ran.failures) + len(ran.errors)
-    print(f"{ran.testsRun - failed} passed, {failed} failed")
-    sys.exit(1 if failed else 0)
+    results = [*failures()]
+    print(*(f"FAILED {it}" for it in results if it), sep="\n", end="\n" if any(results) else "")
+    print(f"{results.count(None)} passed, {len(results) - results.count(None)} failed")
+    sys.exit(1 if any(results) else 0)

@@ -1,18 +1,20 @@
-"""Verdicts that earlier runs of tools/mutants.py kept.
+"""The file mutants.verdicts of a crate, which tells what the prover refused, so that CI need not try everything again.
 
-A mutant that was refused once is refused as long as nothing changes on which that depends: the text of its edit, the
-files and the lines of crates.txt of its crate and of those below, the toolchain, and the tools that judge. Only such
-verdicts are kept, in one file a crate. A file that is damaged, or is of other sums, holds none.
+    depends logic dac8208d650f15bf           what the verdicts depend on, each with a sum: the prover's logic, these tools,
+    depends link_base 1f0c83d5a2e96b47       and each crate from the lowest to this one, without its tests
+    seconds 312                              of a processor, when all were tried last
+    refused NAME 9b2d41c07e6f5a38 GOAL       a mutant, a sum of its edit, and the goal that was not proved
+    sum 77ab10c2d3e4f596                     of all lines above
+
+A verdict holds as long as all that it depends on, and its edit, have these sums.
 """
-import contextlib
 import hashlib
-import json
 import os
+import re
 import subprocess
-import tempfile
-import threading
 
-TOOLS = ("mutants.py", "edits.py", "crates.py", "verdicts.py")
+TOOLS = ("mutants.py", "edits.py", "checks.py", "crates.py")
+HEAD = "# tools/mutants.py writes this file: what each mutant of this crate was refused by. Its docstring says when.\n"
 
 
 def sum_of(*texts):
@@ -21,14 +23,7 @@ def sum_of(*texts):
     for it in texts:
         data = it.encode() if isinstance(it, str) else it
         found.update(b"%d:" % len(data) + data)
-    return found.hexdigest()
-
-
-def judges():
-    """What judges: the toolchain as it names itself, with its kit, and the texts of the tools."""
-    here = os.path.dirname(os.path.realpath(__file__))
-    toolchain = subprocess.run(["rt", "--version"], stdout=subprocess.PIPE, check=True).stdout
-    return [toolchain, *(bytes_of(f"{here}/{it}") for it in TOOLS)]
+    return found.hexdigest()[:16]
 
 
 def bytes_of(path):
@@ -36,46 +31,57 @@ def bytes_of(path):
         return file.read()
 
 
-def sum_of_crate(crate, judged_by):
-    """The sum of all that a verdict on a mutant of the crate depends on, but the mutant's own edit."""
-    texts = list(judged_by)
-    for it in [*crate.below(), crate]:
-        texts += [it.line, *(text for path in it.files() for text in (path, bytes_of(f"{it.folder}/{path}"))), ""]
-    return sum_of(*texts)
+def judges():
+    """What judges: the prover as it names itself, and a sum of the tools."""
+    said = subprocess.run(["rt", "--version"], stdout=subprocess.PIPE, text=True, check=True).stdout
+    here = os.path.dirname(os.path.realpath(__file__))
+    logic = re.search(r"\blogic (\S+)", said)
+    return {"logic": logic[1] if logic else sum_of(said), "tools": sum_of(*(bytes_of(f"{here}/{it}") for it in TOOLS))}
+
+
+def sum_of_crate(crate):
+    """A sum of the crate's own: its line of crates.txt and its files."""
+    files = [it for it in crate.files() if not it.startswith("src/tests")]
+    return sum_of(crate.line, *(text for it in files for text in (it, bytes_of(f"{crate.folder}/{it}"))))
 
 
 class Verdicts:
-    """The mutants of a crate that are known to be refused, by a sum of their edits, each with what refused it."""
+    """The verdicts of a crate: `refused`, {name: (sum of the edit, goal)}, and `seconds`. If the file is damaged, `wrong`
+    says so; if something has changed on which they depend, `changed` names it. In both cases they hold no more."""
 
-    def __init__(self, folder, crate, judged_by):
-        self.folder, self.path, self.crate, self.judged_by = folder, f"{folder}/{crate.name}.json", crate, judged_by
-        self.of, self.lock = sum_of_crate(crate, judged_by), threading.Lock()
-        self.refused = self.read()
+    def __init__(self, crate, judged_by):
+        self.path = f"{crate.folder}/mutants.verdicts"
+        self.depends = {**judged_by, **{it.name: sum_of_crate(it) for it in [*crate.below(), crate]}}
+        self.refused, self.seconds, self.changed, self.wrong = {}, 0, ["mutants.verdicts"], ""
+        if os.path.exists(self.path):
+            self.read(bytes_of(self.path).decode(errors="replace"))
 
-    def read(self):
-        try:
-            with open(self.path, encoding="utf-8") as file:
-                found = json.load(file)
-            refused = found["refused"]
-            is_whole = found["sum"] == sum_of(json.dumps(refused, sort_keys=True))
-            return refused if is_whole and found["of"] == self.of else {}
-        except (OSError, ValueError, TypeError, LookupError, RecursionError):
-            return {}
+    def read(self, text):
+        lines, depends, refused = text.removesuffix("\n").split("\n"), {}, {}
+        above = "".join(f"{it}\n" for it in lines[:-1])
+        if lines[-1] != f"sum {sum_of(above)}":
+            self.wrong = "its lines are not those that tools/mutants.py wrote"
+            return
+        for word, *rest in (it.split(" ", 3) for it in lines[:-1]):
+            if word == "depends":
+                depends[rest[0]] = rest[1]
+            elif word == "seconds":
+                self.seconds = int(rest[0])
+            elif word == "refused":
+                refused[rest[0]] = (rest[1], rest[2])
+        names = [*depends, *(it for it in self.depends if it not in depends)]
+        self.changed = [it for it in names if depends.get(it) != self.depends.get(it)]
+        self.refused = {} if self.changed else refused
 
-    def of_edit(self, edit):
-        """What refused the edit, or None if that is not known."""
-        return self.refused.get(sum_of(edit))
+    def goal_of(self, name, edit):
+        """The goal by which this edit was refused, or None if that is not known."""
+        of, goal = self.refused.get(name, ("", ""))
+        return goal if of == sum_of(edit) else None
 
-    def keep(self, refused):
-        """Keeps these edits, each with what refused it, unless a file of the crates has changed meanwhile."""
-        with self.lock, contextlib.suppress(OSError):
-            if sum_of_crate(self.crate, self.judged_by) != self.of:
-                return
-            # (another run may have kept some meanwhile)
-            self.refused = {**self.read(), **self.refused, **{sum_of(edit): text for edit, text in refused.items()}}
-            told = {"of": self.of, "sum": sum_of(json.dumps(self.refused, sort_keys=True)), "refused": self.refused}
-            os.makedirs(self.folder, exist_ok=True)
-            handle, part = tempfile.mkstemp(prefix=f"{self.crate.name}-", suffix=".part", dir=self.folder)
-            with os.fdopen(handle, "w", encoding="utf-8") as file:
-                json.dump(told, file, indent=1)
-            os.replace(part, self.path)
+    def write(self, refused, seconds):
+        """Writes these verdicts, {name: (edit, goal)}, in the place of all that the file has."""
+        lines = [HEAD, *(f"depends {name} {of}\n" for name, of in self.depends.items()), f"seconds {seconds}\n"]
+        lines += [f"refused {name} {sum_of(edit)} {goal}\n" for name, (edit, goal) in sorted(refused.items())]
+        with open(f"{self.path}.part", "w", encoding="utf-8") as file:
+            file.write("".join(lines) + f"sum {sum_of(''.join(lines))}\n")
+        os.replace(f"{self.path}.part", self.path)

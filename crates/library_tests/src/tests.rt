@@ -1,26 +1,15 @@
 //! The tests, and the functions that several of them use.
 
-mod canonical;
-mod counts;
+mod can_names;
 mod flags;
 mod frames;
-mod laws;
-mod limits;
-mod lists;
 mod names;
 mod payloads;
-mod prefixes;
 mod records;
-mod reports;
-mod rewritings;
-mod room;
-mod surface;
-mod tables;
 mod texts;
 mod values;
-mod views;
 
-use crate::{decodes_to, encodes_to, fails_with, limits_digits};
+use crate::{decodes_to, encodes_to, fails_with};
 use netlink_packet_route::hex_text;
 use netlink_packet_route::link::{
     Attribute, DecodeError, DecodeFault, ListFault, NlaBuffer, TryClone,
@@ -36,11 +25,6 @@ fn holds(rt: &impl Abort, is_so: bool, row: &str) {
 /// Decodes hex digits, which may have spaces among them.
 fn bytes(rt: &impl Abort, alloc: Global, digits: &str) -> Vec<u8> {
     hex_text::decode(alloc, digits.as_bytes()).expect(rt, digits)
-}
-
-/// Returns the digits of `limits_digits`.
-fn can_limits(rt: &impl Abort, alloc: Global, header: &str, field: &str) -> String {
-    limits_digits(alloc, header, field).expect(rt, field)
 }
 
 /// Returns a vector of these items.
@@ -75,11 +59,14 @@ fn is_written<F: Attribute>(rt: &impl Abort, alloc: Global, digits: &str, value:
     holds(rt, buffer.as_slice() == wanted.as_slice(), digits);
 }
 
-/// Asserts that the bytes decode to this value, and that the value is encoded as these bytes.
-fn is_kept<F: Attribute + TryClone>(rt: &impl Abort, alloc: Global, digits: &str, value: F) {
-    let copy = value.try_clone(alloc).expect(rt, digits);
-    reads_as(rt, alloc, digits, value);
-    is_written(rt, alloc, digits, copy);
+/// Asserts for each row that the bytes decode to this value, and that the value is encoded as these bytes.
+fn are_kept<F: Attribute + TryClone>(rt: &impl Abort, alloc: Global, rows: &[(&str, F)]) {
+    for (digits, value) in rows {
+        let wanted = value.try_clone(alloc).expect(rt, digits);
+        reads_as(rt, alloc, digits, wanted);
+        let copy = value.try_clone(alloc).expect(rt, digits);
+        is_written(rt, alloc, digits, copy);
+    }
 }
 
 /// Asserts that the bytes of each row are one attribute, which has this decode error, alone and as a list.

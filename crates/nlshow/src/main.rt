@@ -14,10 +14,10 @@
 #[cfg(test)]
 mod tests;
 
-ghost use Rattle.std.specs.Prelude.{◌≡◌, ◌≢◌, [], IfOk, MatchOption, codes, drop, map, string_bytes};
+ghost use Rattle.std.specs.Prelude.{◌≡◌, ◌≢◌, [], IfOk, MatchOption, codes};
 ghost use Rattle.std.specs.Io.Buffered.{writer_buffer, writer_contents, writer_inner};
 ghost use Rattle.program.specs.Printing.{PrintsOrFails};
-ghost use Rattle.show_lines.specs.Arguments.{IsAnswer, IsError, IsWrong, intent, reply_status, reply_text};
+ghost use Rattle.show_lines.specs.Arguments.{IsError, IsRequest, IsWrong, reply_status, reply_text};
 
 use program::{
     Watched, collect_arguments, print, print_error, print_no_memory, print_write_fault, unbuffered,
@@ -62,7 +62,7 @@ fn main(rt: HostRuntime) -> ExitCode {
 fn request_of(alloc: Global, words: Option<Vec<String>>) -> Result<Request, AllocError>
     ensures { IfOk result (λ request. MatchOption words
         (IsWrong (codes "error: an argument is not UTF-8") request)
-        (λ given. IsAnswer (intent (drop 1 (map string_bytes given.items))) request)) }
+        (λ _. IsRequest request)) }
 {
     match words {
         Some(words) => parse(alloc, &words),

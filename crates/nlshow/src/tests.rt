@@ -2,7 +2,6 @@
 //! at a time. Also tests of `show_lines`, `link_messages` and `uses`, which have none of their own, since a crate with tests
 //! is proved twice.
 
-mod arguments;
 mod callers;
 mod replies;
 mod walks;

@@ -1,14 +1,6 @@
 pub mod Cuts
-pub mod Each
 pub mod Links
-pub mod Names
-pub mod Texts
+pub mod Requests
 pub mod Steps
-pub mod ClapRequests
-pub mod ClapTurns
-pub mod ClapMistakes
-pub mod ClapRows
-pub mod ClapWalks
-pub mod FirstLine
 pub mod Unbroken
 pub mod Printed

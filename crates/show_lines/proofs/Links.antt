@@ -1,18 +1,15 @@
 -- Messages, shown one after another.
-use Rattle.std.proofs.Common.{◌≡◌, ℕ, Bool, true, false, ◌&&◌, List, [], ◌∷◌, ◌++◌, drop, None, Ok, Err, refl, sym, ap, ◌∙◌, append_assoc, codes}
+use Rattle.std.proofs.Common.{◌≡◌, ℕ, Bool, true, ◌&&◌, List, [], ◌∷◌, ◌++◌, refl, sym, ap, ◌∙◌, append_assoc, codes}
 use Rattle.std.specs.Option.{option_copied}
+use Rattle.std.proofs.Math.Bool.{and_assoc}
 use Rattle.std.proofs.lemmas.List.{append-nil}
 use Rattle.link_messages.specs.declared.views.Message.{Message}
 use Rattle.link_messages.specs.declared.link.Link.{Link}
-use Rattle.link_messages.specs.declared.message.MessageError.{MessageError}
-use Rattle.link_messages.specs.Message.{NextMessage, Stand}
-use Rattle.show_lines.specs.List.{Adds}
+use Rattle.link_messages.specs.Message.{Stand}
 use Rattle.link_show.specs.List.{EachShown}
-use Rattle.show_lines.specs.Messages.{error_line, AddsHead, ShowsPart, ShowsLink, ShowsMessage, ShowsMessages, Ended, Broken}
-use Rattle.link_show.proofs.Listing.{and_true, and_false, each_none, each_more}
-use Rattle.show_lines.proofs.Each.{and_assoc}
-
--- ---- the lists of a link
+use Rattle.link_show.proofs.Listing.{and_true, each_none, each_more}
+use Rattle.show_lines.specs.List.{Adds}
+use Rattle.show_lines.specs.Messages.{AddsHead, ShowsPart, ShowsLink, ShowsMessage, ShowsMessages, ShowsEnd}
 
 -- the line of a link, and then its lists
 pub link_shown : (link : Link) (t a b c d e : List ℕ) (p q r s : Bool) → AddsHead link.index (option_copied link.name) t a → Adds (ShowsPart (codes "IFLA_LINKINFO") link.info_data) a b p
@@ -39,9 +36,7 @@ link_shown link t a b c d e p q r s h i j k l =
       long ∙ shift,
     )
 
--- ---- the messages of a buffer
-
--- those up to an offset were shown
+-- the messages of a buffer up to an offset were shown
 pub record ShownTo (s : List ℕ) (at : ℕ) (out : List ℕ) (whole : Bool) : Type 0 where
   pub messages : List Message
   pub stand : Stand s 0 messages at
@@ -55,51 +50,14 @@ pub one_shown : (s : List ℕ) (at : ℕ) (m : Message) (t u v : List ℕ) (whol
     → Adds (ShownTo s m.next) t v (whole && read)
 one_shown s at m t u v whole read more h k = (
   h.0 ++ k.0,
-  record {
-    messages = h.1.messages ++ m ∷ [];
-    stand = more h.1.messages h.1.stand;
-    each = each_more ShowsMessage h.1.messages h.0 m k.0 whole read h.1.each k.1;
-  },
-  k.2 ∙ ap (λ x. x ++ k.0) h.2 ∙ append_assoc (t) h.0 k.0,
+  record { messages = h.1.messages ++ m ∷ []; stand = more h.1.messages h.1.stand; each = each_more ShowsMessage h.1.messages h.0 m k.0 whole read h.1.each k.1 },
+  k.2 ∙ ap (λ x. x ++ k.0) h.2 ∙ append_assoc t h.0 k.0,
 )
 
--- the end of the buffer
-pub all_shown : (s : List ℕ) (at : ℕ) (t u : List ℕ) (whole : Bool) → Adds (ShownTo s at) t u whole → NextMessage at (drop at s) (Ok None) → Adds (ShowsMessages s) t u whole
-all_shown s at t u whole h end = (
-  h.0,
-  record {
-    messages = h.1.messages;
-    end = at;
-    stand = h.1.stand;
-    front = h.0;
-    front_read = whole;
-    each = h.1.each;
-    last = [];
-    last_read = true;
-    at_end = Ended end refl refl;
-    joined = sym (append-nil h.0);
-    all = sym (and_true whole);
-  },
-  h.2,
-)
-
--- a bad header
-pub broken_shown : (s : List ℕ) (at : ℕ) (t u v : List ℕ) (whole : Bool) (error : MessageError) → Adds (ShownTo s at) t u whole → NextMessage at (drop at s) (Err error)
-    → v ≡ u ++ error_line error → Adds (ShowsMessages s) t v false
-broken_shown s at t u v whole error h bad e = (
-  h.0 ++ error_line error,
-  record {
-    messages = h.1.messages;
-    end = at;
-    stand = h.1.stand;
-    front = h.0;
-    front_read = whole;
-    each = h.1.each;
-    last = error_line error;
-    last_read = false;
-    at_end = Broken error bad refl refl;
-    joined = refl;
-    all = sym (and_false whole);
-  },
-  e ∙ ap (λ x. x ++ error_line error) h.2 ∙ append_assoc (t) h.0 (error_line error),
+-- the end of the buffer, or a bad header
+pub all_shown : (s : List ℕ) (at : ℕ) (t u v last : List ℕ) (whole read all : Bool) → Adds (ShownTo s at) t u whole → ShowsEnd s at last read → v ≡ u ++ last → all ≡ (whole && read) → Adds (ShowsMessages s) t v all
+all_shown s at t u v last whole read all h end e both = (
+  h.0 ++ last,
+  record { messages = h.1.messages; end = at; stand = h.1.stand; front = h.0; front_read = whole; each = h.1.each; last = last; last_read = read; at_end = end; joined = refl; all = both },
+  e ∙ ap (λ x. x ++ last) h.2 ∙ append_assoc t h.0 last,
 )

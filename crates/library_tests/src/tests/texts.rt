@@ -1,13 +1,10 @@
-//! Tests the `Display` output of errors, and `Debug` output.
+//! Tests texts that no contract covers: the `Display` output of errors, and `Debug` output.
 
 use crate::tests::{holds, list};
-use bitflags::Flags;
 use netlink_packet_route::hex_text::HexError;
 use netlink_packet_route::link::{
-    AfSpecBridge, BondAdInfo, BondMode, BridgeMode, CanCtrlModeFlags, Cause, DecodeError,
-    DecodeFault, DefaultNla, FrameTable, InfoBond, InfoDsa, LacpState, LinkProtoInfoBridge,
-    ListError, NlaBuffer, NlasIterator, VecAfSpecBridge, VecLinkProtoInfoBridge, VlanFlags,
-    VlanProtocol, WriteError,
+    AfSpecBridge, BridgeMode, Cause, DecodeError, DecodeFault, DefaultNla, FrameTable, ListError,
+    NlaBuffer, NlasIterator, VecAfSpecBridge, WriteError,
 };
 use netlink_packet_route::{Family, RewriteError};
 use std::alloc::{AllocError, Global};
@@ -22,22 +19,6 @@ fn are_displayed<T: Display>(rt: &impl Abort, alloc: Global, rows: &[(T, &str)])
     }
 }
 
-#[test]
-fn causes(rt: HostRuntime) {
-    are_displayed(
-        &rt,
-        rt.alloc(),
-        &[
-            (Cause::ShortFrame { left: 3 }, "short frame 3"),
-            (Cause::SmallLength { length: 0 }, "small length 0"),
-            (Cause::Overrun { length: 9, left: 8 }, "overrun 9 8"),
-            (Cause::WrongLength { want: 4, got: 1 }, "wrong length 4 1"),
-            (Cause::TooShort { want: 8, got: 7 }, "too short 8 7"),
-            (Cause::AddressLength { got: 5 }, "address length 5"),
-        ],
-    );
-}
-
 const CAUSE: Cause = Cause::Overrun { length: 9, left: 6 };
 
 const OF_ELEMENT: DecodeFault = DecodeFault::NestedValue {
@@ -47,51 +28,17 @@ const OF_ELEMENT: DecodeFault = DecodeFault::NestedValue {
 };
 
 #[test]
-fn faults(rt: HostRuntime) {
-    let of_value = DecodeFault::Value {
-        kind: 46,
-        cause: CAUSE,
-    };
-    let of_list = DecodeFault::NestedFrame {
-        kind: 8,
-        cause: CAUSE,
-    };
-    are_displayed(
-        &rt,
-        rt.alloc(),
-        &[
-            (DecodeFault::Frame(CAUSE), "overrun 9 6"),
-            (of_value, "kind 46: overrun 9 6"),
-            (of_list, "kind 8: list: overrun 9 6"),
-            (OF_ELEMENT, "kind 3: list: kind 16383: overrun 9 6"),
-            (DecodeFault::Payload(CAUSE), "overrun 9 6"),
-            (DecodeFault::Text, "unknown text"),
-        ],
-    );
-}
-
-#[test]
 fn errors(rt: HostRuntime) {
     let alloc = rt.alloc();
-    are_displayed(
-        &rt,
-        alloc,
-        &[
-            (DecodeError::Memory(AllocError), "no memory"),
-            (
-                DecodeError::Fault(OF_ELEMENT),
-                "kind 3: list: kind 16383: overrun 9 6",
-            ),
-            (DecodeError::Fault(DecodeFault::Text), "unknown text"),
-        ],
-    );
-    let fault = ListError::Fault {
-        at: 65536,
-        fault: OF_ELEMENT,
-    };
+    let text = "kind 3: list: kind 16383: overrun 9 6";
+    let memory = DecodeError::Memory(AllocError);
+    let fault = DecodeError::Fault(OF_ELEMENT);
+    are_displayed(&rt, alloc, &[(memory, "no memory"), (fault, text)]);
+    let (at, fault) = (65536, OF_ELEMENT);
     let text = "fault at 65536: kind 3: list: kind 16383: overrun 9 6";
     let memory = ListError::Memory(AllocError);
-    are_displayed(&rt, alloc, &[(memory, "no memory"), (fault, text)]);
+    let of_list = ListError::Fault { at, fault };
+    are_displayed(&rt, alloc, &[(memory, "no memory"), (of_list, text)]);
     let memory = WriteError::Memory(AllocError);
     let long = WriteError::TooLong { index: 7 };
     are_displayed(
@@ -107,10 +54,7 @@ fn errors(rt: HostRuntime) {
     );
     let memory = RewriteError::Memory(AllocError);
     let long = RewriteError::TooLong { index: 7 };
-    let fault = RewriteError::Fault {
-        at: 65536,
-        fault: OF_ELEMENT,
-    };
+    let fault = RewriteError::Fault { at, fault };
     are_displayed(
         &rt,
         alloc,
@@ -131,7 +75,6 @@ fn is_debugged<T: Debug + Drop>(rt: &impl Abort, alloc: Global, value: T, wanted
 #[test]
 fn debug_texts_of_errors(rt: HostRuntime) {
     let alloc = rt.alloc();
-    is_debugged(&rt, alloc, CAUSE, "Overrun { length: 9, left: 6 }");
     let fault = DecodeFault::Value {
         kind: 46,
         cause: CAUSE,
@@ -140,49 +83,24 @@ fn debug_texts_of_errors(rt: HostRuntime) {
     is_debugged(&rt, alloc, DecodeError::Fault(fault), wanted);
     let memory = DecodeError::Memory(AllocError);
     is_debugged(&rt, alloc, memory, "Memory(AllocError)");
-    let fault = DecodeFault::Text;
-    let of_list = ListError::Fault { at: 8, fault };
+    let (at, fault) = (8, DecodeFault::Text);
+    let of_list = ListError::Fault { at, fault };
     is_debugged(&rt, alloc, of_list, "Fault { at: 8, fault: Text }");
     let long = WriteError::TooLong { index: 2 };
     is_debugged(&rt, alloc, long, "TooLong { index: 2 }");
-    let of_bytes = RewriteError::Fault { at: 8, fault };
+    let of_bytes = RewriteError::Fault { at, fault };
     is_debugged(&rt, alloc, of_bytes, "Fault { at: 8, fault: Text }");
+    is_debugged(&rt, alloc, HexError::BadHex, "BadHex");
 }
 
+/// What `nlshow --format debug` does not print.
 #[test]
-fn debug_texts_of_values(rt: HostRuntime) {
+fn debug_texts(rt: HostRuntime) {
     let alloc = rt.alloc();
-    is_debugged(&rt, alloc, InfoDsa::Conduit(42), "Conduit(42)");
-    let mode = InfoBond::Mode(BondMode::Other(9));
-    is_debugged(&rt, alloc, mode, "Mode(Other(9))");
-    let element = BondAdInfo::NumPorts(2);
-    is_debugged(&rt, alloc, element, "NumPorts(2)");
-    let protocol = VlanProtocol::Ieee8021Ad;
-    is_debugged(&rt, alloc, protocol, "Ieee8021Ad");
-    let flags = VlanFlags::from_bits_retain(3);
-    is_debugged(&rt, alloc, flags, "VlanFlags(3)");
-    let modes = CanCtrlModeFlags::from_bits_retain(33);
-    is_debugged(&rt, alloc, modes, "CanCtrlModeFlags(33)");
-    let state = LacpState::from_bits_retain(5);
-    is_debugged(&rt, alloc, state, "LacpState(5)");
     is_debugged(&rt, alloc, Family::BondPort, "BondPort");
-}
-
-#[test]
-fn debug_texts_of_lists(rt: HostRuntime) {
-    let alloc = rt.alloc();
     let mode = AfSpecBridge::Mode(BridgeMode::Vepa);
     let af_spec = VecAfSpecBridge(list(&rt, alloc, [mode]));
     is_debugged(&rt, alloc, af_spec, "VecAfSpecBridge([Mode(Vepa)])");
-    let neighbors = LinkProtoInfoBridge::NeighForwardGrat(false);
-    let information = VecLinkProtoInfoBridge(list(&rt, alloc, [neighbors]));
-    let wanted = "VecLinkProtoInfoBridge([NeighForwardGrat(false)])";
-    is_debugged(&rt, alloc, information, wanted);
-}
-
-#[test]
-fn debug_texts_of_frames(rt: HostRuntime) {
-    let alloc = rt.alloc();
     let frame = NlaBuffer::new_checked(&[6, 0, 99, 0, 222, 173]).expect(&rt, "a frame");
     let wanted = "NlaBuffer { kind_field: 99, payload: [222, 173] }";
     is_debugged(&rt, alloc, frame, wanted);

@@ -1,6 +1,6 @@
 use Rattle.std.proofs.Common.{subst, sym}
 use Rattle.std.specs.Str.{IsUtf8}
-use Rattle.show_lines.proofs.Names.{name_utf8}
+use Rattle.show_lines.proofs.Cuts.{name_utf8}
 use Rattle.show_lines.proofs.asking.family_of.Goals as goal
 
 pub returns-in-Err-clause-none : goal.returns-in-Err-clause-none

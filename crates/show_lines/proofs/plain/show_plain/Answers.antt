@@ -1,11 +1,18 @@
-use Rattle.std.proofs.Common.{◌≡◌, ◌++◌, false, refl, sym, subst, codes}
+use Rattle.std.proofs.Common.{◌≡◌, ◌++◌, ℕ, Bool, false, List, Result, Ok, Err, IsErr, refl, sym, subst, codes}
+use Rattle.std.proofs.lemmas.Result.{IfOk-from_err}
+use Rattle.hex.specs.declared.error.FromHexError.{FromHexError}
 use Rattle.std.specs.Io.KnownBytes.{Appends}
 use Rattle.netlink_packet_route.specs.Report.{line}
-use Rattle.show_lines.specs.Show.{ShowsPlain, ShowsDigits, Known, Unknown}
+use Rattle.show_lines.specs.declared.asking.Asked.{Asked}
+use Rattle.show_lines.specs.Show.{Form, ShowsPlain, ShowsDigits, Known, Unknown}
 use Rattle.show_lines.specs.Progress.{WritesBelow}
 use Rattle.link_show.proofs.MessageLines.{if_ok}
-use Rattle.show_lines.proofs.Cuts.{bad_digits}
 use Rattle.show_lines.proofs.plain.show_plain.Goals as goal
+
+-- digits that are not valid hex
+bad_digits : (form : Form) (asked : Asked) (r : Result (List ℕ) FromHexError) (out : List ℕ) (read : Bool) → IsErr r → out ≡ line (codes "bad hex") → read ≡ false → ShowsDigits form asked r out read
+bad_digits form asked (Ok s) out read bad o e = IfOk-from_err {E = FromHexError} (Ok s) (λ t. ShowsDigits form asked (Ok t) out read) bad
+bad_digits form asked (Err x) out read bad o e = (o, e)
 
 pub returns-in-None-clause-shown : goal.returns-in-None-clause-shown
 returns-in-None-clause-shown g c =

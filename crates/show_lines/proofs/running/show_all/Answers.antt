@@ -3,7 +3,7 @@ use Rattle.std.specs.Io.Buffered.{writer_contents}
 use Rattle.show_lines.specs.Progress.{Grows, WritesRest}
 use Rattle.show_lines.specs.Run.{Runs}
 use Rattle.link_show.proofs.MessageLines.{if_ok}
-use Rattle.show_lines.proofs.Steps.{went_none, went_on, went_all, went_grows, went_keeps, read_end, on_memory, not_failed}
+use Rattle.show_lines.proofs.Steps.{went_none, went_on, went_all, went_grows, keeps_grow, read_end, on_memory, not_failed}
 use Rattle.std.specs.Io.KnownBytes.{Keeps}
 use Rattle.show_lines.proofs.running.show_all.Goals as goal
 
@@ -46,4 +46,4 @@ returns-in-Ok-eq0-clause-memory g c =
     let v = writer_contents g.W.Write.contents c.loop.writer in
     let u = writer_contents g.W.Write.contents c.end_text.new.writer in
     on_memory (Keeps v u) (Grows w u) c.end_text.result
-    (λ h. went_keeps c.loop.held (g.R.Read.remaining c.args.reader.now) (g.R.Read.remaining c.loop.reader) w v u c.loop.whole c.loop.invariant.0 h) c.end_text.ensures.memory
+    (λ h. went_grows c.loop.held (g.R.Read.remaining c.args.reader.now) (g.R.Read.remaining c.loop.reader) w v u c.loop.whole c.loop.invariant.0 (keeps_grow v u h)) c.end_text.ensures.memory

@@ -1,7 +1,7 @@
 use Rattle.std.proofs.Common.{◌∙◌, sym, rules, tests, nat_eq}
 use Rattle.std.proofs.lemmas.Iterator.{YieldsList-from_slice}
 use Rattle.std.proofs.lemmas.Iterator.Search.{position_from_yields_List}
-use Rattle.show_lines.proofs.Names.{first_line}
+use Rattle.show_lines.proofs.Cuts.{first_line}
 use Rattle.show_lines.proofs.running.split_line.Goals as goal
 
 pub returns : goal.returns

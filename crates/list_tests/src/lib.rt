@@ -1,0 +1,7 @@
+//! The tests of calls on whole lists: re-encoding, canonical form, counts, reports, views, and the theorems. The tests
+//! of attributes and their values are in `library_tests`, whose first page says how to add a test. The two are apart so
+//! that they are proved side by side.
+#![tactic(auto)]
+
+#[cfg(test)]
+mod tests;

@@ -1,0 +1,123 @@
+#!/usr/bin/env python3
+"""Gives `nlshow` random lists and messages, and checks what it prints.
+
+usage: extra/random_lines.py [--binary PATH] [--lines N] [--seed S]
+
+A list is of any attribute set, of random attributes; a message is one of runs/ with some bytes changed. For each:
+
+- every line of the plain form that does not repeat the input is printable ASCII;
+- the plain form has a line `error at` if and only if the debug form has an error, and the first is at the same offset;
+- without an error, a list has as many lines in the plain form as in the debug form, but for elements of nested lists;
+- with `--check`, there is one line more for each list;
+- the exit status is 0 or 1, and nothing is written to standard error.
+
+CI does not run it. The last line is 'N lines passed, M failed', and the status 0 only if all passed.
+"""
+import argparse
+import random
+import re
+import subprocess
+import sys
+from pathlib import Path
+
+sys.dont_write_bytecode = True
+ROOT = Path(__file__).resolve().parents[1]
+sys.path.insert(0, f"{ROOT}/tools")
+from families import names  # noqa: E402
+from runs import Run, runs_of  # noqa: E402
+
+SETS = names()
+LIST = re.compile(rf"^(?:check )?({'|'.join(SETS)})\b((?:[0-9a-fA-F]{{2}}|[ \t])*)$", re.MULTILINE)
+ERROR = re.compile(rb"^ *error at (\d+):", re.MULTILINE)
+FAULT = re.compile(rb"^fault at (\d+):", re.MULTILINE)
+
+
+def attribute(depth=0):
+    """An attribute, mostly of a small type and length; at times its length is wrong."""
+    kind = random.choice([random.randrange(20), random.randrange(70), random.randrange(65536)])
+    if depth < 2 and random.random() < 0.2:
+        payload = attributes(4, depth + 1)
+    else:
+        payload = random.randbytes(random.choice([0, 1, 2, 3, 4, 4, 4, 6, 8, 8, 16, 48, random.randrange(60)]))
+    length = 4 + len(payload) if random.random() > 0.03 else random.randrange(65536)
+    return length.to_bytes(2, "little") + kind.to_bytes(2, "little") + payload + bytes(-len(payload) % 4)
+
+
+def attributes(most, depth=0):
+    return b"".join(attribute(depth) for _ in range(random.randrange(most)))
+
+
+def random_list():
+    """The name of an attribute set, and some attributes."""
+    return random.choice(SETS), attributes(5)
+
+
+def stored():
+    """The input of all runs."""
+    files = [Path(ROOT, "runs", it).read_bytes() for it in runs_of(ROOT)]
+    return "\n".join(Run(it).stdin.decode(errors="replace") for it in files)
+
+
+def lists_of(text):
+    """The lists of a text, each once: the name of the set, and the bytes."""
+    return [*dict.fromkeys((name, bytes.fromhex(digits)) for name, digits in LIST.findall(text))]
+
+
+def changed(message):
+    """A message with some bytes changed; at times it is cut, or has another type or other flags."""
+    data = bytearray(message)
+    for _ in range(random.randrange(4)):
+        data[random.randrange(len(data))] = random.randrange(256)
+    if len(data) >= 8 and random.random() < 0.3:
+        data[4:6] = random.choice([2, 3, 16, 17, 18, 19]).to_bytes(2, "little")
+        data[6:8] = random.randrange(65536).to_bytes(2, "little")
+    return bytes(data[: random.randrange(len(data) + 1)] if random.random() < 0.2 else data)
+
+
+def shown(binary, lines, *arguments):
+    """What the program prints below each line. A number before each line tells where the output of the next begins."""
+    given = "".join(f"{it}\ntap {number}\n" for number, it in enumerate(lines))
+    ran = subprocess.run([binary, *arguments], input=given.encode(), capture_output=True)
+    if ran.returncode not in (0, 1) or ran.stderr:
+        sys.exit(f"status {ran.returncode}: {ran.stderr[:200]}")
+    parts = re.split(rb"^tap \d+\nno such family\n", ran.stdout, flags=re.MULTILINE)[:-1]
+    return [it.split(b"\n", 1)[1] for it in parts]
+
+
+def is_right(line, plain, checked, debug):
+    error, fault = ERROR.search(plain), FAULT.search(debug)
+    is_printable = all(it == 10 or 32 <= it <= 126 for it in plain)
+    if line.startswith("message"):
+        return is_printable and len(checked) >= len(plain)
+    is_same = (error and error[1]) == (fault and fault[1])
+    is_checked = checked.startswith(plain) and checked.count(b"\n") == plain.count(b"\n") + 1
+    count = len(re.findall(rb"^  \S", plain, re.MULTILINE))
+    return is_printable and is_same and is_checked and (bool(error) or count == debug.count(b"\n"))
+
+
+def options(lines, **others):
+    """The options of the command line, with the default number of lines, and the defaults of other options."""
+    parser = argparse.ArgumentParser()
+    for name, default in {"binary": f"{ROOT}/crates/nlshow/out/nlshow", "lines": lines, "seed": 1, **others}.items():
+        parser.add_argument(f"--{name}", type=type(default), default=default)
+    asked = parser.parse_args()
+    random.seed(asked.seed)
+    return asked
+
+
+def main():
+    asked, lines = options(20000), []
+    given = [bytes.fromhex(it) for it in re.findall(r"^message ((?:[0-9a-f]{2})+)$", stored(), re.MULTILINE)]
+    for _ in range(asked.lines):
+        name, data = random_list() if random.random() < 0.6 else ("message", changed(random.choice(given)))
+        lines.append(f"{name} {data.hex()}")
+    forms = [shown(asked.binary, lines, *it) for it in ((), ("--check",), ("--format", "debug"))]
+    wrong = [it for it in zip(lines, *forms) if not is_right(*it)]
+    for line, *texts in wrong[:3]:
+        print(line, *(it.decode(errors="replace") for it in texts), sep="\n")
+    print(f"{len(lines) - len(wrong)} lines passed, {len(wrong)} failed")
+    return 1 if wrong else 0
+
+
+if __name__ == "__main__":
+    sys.exit(main())

@@ -1,0 +1,162 @@
+#!/bin/sh
+# Tests tools/install.sh and extra/dist.sh, with an unproved build. Not part of CI, since it needs pkg-config. It takes
+# four minutes. It needs cc and ld as install.sh does, pkg-config, and GNU tar; man, g++, clang and clang++ if they are
+# there.
+#
+# It installs into a temporary folder, packs that, and unpacks it in another place. What is there is compiled with, run,
+# formatted, and compared with the headers, as each function below says.
+#
+# Prints a line `ok ..` or `FAILED ..` for each test. The last line is 'N passed, M failed', and the status 0 only if
+# nothing failed.
+set -eu
+
+cd "$(dirname "$0")/.."
+room=$(mktemp -d)
+trap 'rm -rf "$room"' EXIT
+trap 'exit 1' INT TERM
+passed=0
+failed=0
+
+# Runs a command, the words after the name of the test, and counts whether it succeeds. A function ends at the first
+# command that fails: inside `if`, it would not.
+check() {
+    name=$1
+    shift
+    set +e
+    (set -e && "$@") >"$room/said" 2>&1
+    status=$?
+    set -e
+    if [ "$status" = 0 ]; then
+        echo "ok $name"
+        passed=$((passed + 1))
+    else
+        echo "FAILED $name"
+        cat "$room/said"
+        failed=$((failed + 1))
+    fi
+}
+
+# Compiles calls.c with compiler and flags $1, without warnings, and links it with the words after it. pkg-config gives
+# several words.
+compile() {
+    compiler=$1
+    shift
+    # shellcheck disable=SC2046,SC2086
+    $compiler -Wall -Wextra -pedantic -Werror -O2 -o "$room/calls" $(pkg-config --cflags nlroute) \
+        crates/nlroute_ffi/examples/calls.c -x none "$@"
+    readelf -d "$room/calls" >"$room/needed"
+}
+
+# calls.c with the archive. The program needs no shared object.
+static() {
+    compile "$1" -Wl,--wrap=malloc,--wrap=realloc "$tree/lib/libnlroute.a"
+    if grep -q libnlroute "$room/needed"; then exit 1; fi
+    "$room/calls"
+}
+
+# calls.c with the shared object, whose allocations --wrap does not reach: the program's own malloc() serves both.
+shared() {
+    # shellcheck disable=SC2046
+    compile "$1" "$room/malloc.o" $(pkg-config --libs nlroute)
+    grep -q "libnlroute.so.$series" "$room/needed"
+    LD_LIBRARY_PATH=$tree/lib "$room/calls"
+}
+
+cc -c -O2 -fno-builtin -x c -o "$room/malloc.o" - <<'END'
+#include <stddef.h>
+void *__libc_malloc(size_t), *__libc_realloc(void *, size_t), *__wrap_malloc(size_t), *__wrap_realloc(void *, size_t);
+void *__real_malloc(size_t size) { return __libc_malloc(size); }
+void *__real_realloc(void *old, size_t size) { return __libc_realloc(old, size); }
+void *malloc(size_t size) { return __wrap_malloc(size); }
+void *realloc(void *old, size_t size) { return __wrap_realloc(old, size); }
+END
+
+# The example of the page, compiled by the command of the page.
+example() (
+    page=$PWD/crates/nlroute_ffi/README.md
+    cd "$room"
+    awk '/^```c$/ { on = 1; next } /^```$/ { on = 0 } on' "$page" >main.c
+    eval "$(grep '^cc main.c ' "$page")"
+    LD_LIBRARY_PATH=$tree/lib ./a.out >said_by_page
+    grep -qxF "$(cat said_by_page)" "$page"
+)
+
+# Compares what nm prints of a library with the names that the headers declare as functions, but for those they define.
+exports() {
+    cat crates/nlroute_ffi/include/*.h | grep -v '^static' |
+        sed -n 's/^[A-Za-z].*[ *]\(nlroute_[a-z0-9_]*\)(.*/\1/p' | sort >"$room/declared"
+    grep -qx nlroute_rewrite "$room/declared"
+    nm --defined-only "$@" | sed -n 's/^[0-9a-f]* [A-Z] //p' | sort | diff - "$room/declared"
+}
+
+# Calls with wrong arguments have the status 2, and say why.
+wrong_calls() {
+    for it in "" "--fast" "--slow" "one two"; do
+        # shellcheck disable=SC2086
+        status=0 && { tools/install.sh $it 2>"$room/usage" || status=$?; }
+        test "$status" = 2 -a -s "$room/usage"
+    done
+    status=0 && { DESTDIR=$room/wrong tools/install.sh relative || status=$?; }
+    test "$status" = 2 -a ! -e "$room/wrong"
+}
+
+# Runs a program, with the arguments after it, on the input in its crate.
+runs() {
+    "$tree/bin/$@" <"crates/$1/stdin" | diff - "crates/$1/stdout"
+}
+
+man_page() {
+    man --warnings=w -E UTF-8 -l -Tutf8 -Z "$tree/share/man/man1/$1" 2>&1 >/dev/null | diff - /dev/null
+}
+
+# The same files, wherever they were installed.
+is_moved() {
+    for it in bin include lib share; do
+        diff -r "$staged/$it" "$tree/$it"
+    done
+}
+
+# Packing again, at another time, gives the same bytes.
+same_tar() {
+    touch "$staged/lib/"*
+    (umask 077 && TZ=UTC-5 extra/dist.sh "$staged" "$room/again")
+    cmp "$tar" "$room/again/${tar##*/}"
+}
+
+staged=$room/staged/opt/nlroute
+DESTDIR=$room/staged tools/install.sh --fast /opt/nlroute 2>"$room/warned" || {
+    cat "$room/warned"
+    exit 1
+}
+check "--fast says that nothing is proved" grep -q 'nothing of it is proved' "$room/warned"
+tar=$(extra/dist.sh "$staged" "$room/packed" | tail -n 1)
+mkdir "$room/moved"
+tar -xf "$tar" -C "$room/moved"
+tree=$(echo "$room"/moved/*)
+check "the name of the tar says so too" test "${tar%-unproved-*}" != "$tar"
+check "the tar has the installed files" is_moved
+check "the same tar at another time" same_tar
+# what follows must not use the files in their first place
+rm -rf "$room/staged"
+export PKG_CONFIG_PATH="$tree/lib/pkgconfig"
+version=$(pkg-config --modversion nlroute)
+series=${version%.*}
+check "README, LICENSE and licences" test -s "$tree/README" -a -s "$tree/LICENSE" -a -d "$tree/licences/bitflags"
+check "a wrong call of install.sh" wrong_calls
+check "the archive exports what the headers declare" exports -g "$tree/lib/libnlroute.a"
+check "the shared object exports what they declare" exports -D "$tree/lib/libnlroute.so"
+for it in "gcc -std=c11" "g++ -std=c++17 -x c++" "clang -std=c11" "clang++ -std=c++17 -x c++"; do
+    command -v "${it%% *}" >/dev/null || { echo "skipped: there is no ${it%% *}" && continue; }
+    check "calls.c, static, $it" static "$it"
+    check "calls.c, shared, $it" shared "$it"
+done
+check "the example of the page" example
+check "nlroute" runs nlroute dsa
+check "nlshow" runs nlshow
+command -v man >/dev/null || echo "skipped: there is no man"
+for it in nlroute nlshow; do
+    ! command -v man >/dev/null || check "$it.1" man_page "$it.1"
+done
+
+echo "$passed passed, $failed failed"
+[ "$failed" = 0 ]
