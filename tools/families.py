@@ -19,6 +19,8 @@ LISTS = [
     ("crates/nlroute_ffi/include/nlroute.h", r"^ *NLROUTE_{NAME} = {number}\b"),
     ("crates/nlroute_ffi/examples/calls.c", r'\{{NLROUTE_{NAME},\s+"{name}",'),
     ("crates/nlroute_ffi/examples/calls.rs", r"^ *{variant} = {number},$"),
+    ("bindings/rust/src/scope.rs", r"^ *{variant} = {number},$"),
+    ("bindings/python/nlroute/_kinds.py", r"^    {NAME} = {number}$"),
     ("extra/c_refusals.c", r'"{name}"'),
     ("crates/nlroute_ffi/src/tests.rt", r"^ *(?:\(|\(\n *){number},\s+&(?:\[\d|TWO, &\[)"),
     ("crates/nlroute_ffi/README.md", r"`{name}` {number}\b"),

@@ -55,8 +55,8 @@ PAGES = re.compile(r"(README|CONTRIBUTING|CHANGELOG)\.md|docs/[^/]+\.md|(bench|t
 BUDGETS = {
     "README.md": 1500, "CONTRIBUTING.md": 1850, "crates/nlroute_ffi/README.md": 1200, "docs/ARCHITECTURE.md": 2150,
     "docs/ASSURANCE.md": 1350, "docs/CALLING.md": 1800, "docs/CLAIMS.md": 3050, "docs/DEBUG.md": 700,
-    "docs/DECISIONS.md": 7350, "docs/DIFFERENCES.md": 3000, "docs/MESSAGES.md": 2800, "docs/MODEL.md": 4700,
-    "docs/PROGRAMS.md": 1650,
+    "docs/DECISIONS.md": 7500, "docs/DIFFERENCES.md": 3000, "docs/MESSAGES.md": 2800, "docs/MODEL.md": 4700,
+    "docs/PROGRAMS.md": 1650, "docs/PYTHON.md": 900, "docs/RUST.md": 900,
 }  # fmt: skip
 SMALL_BUDGET = 600
 HISTORY, COMPARISON, CLAIMS = "CHANGELOG.md", "docs/DIFFERENCES.md", "docs/CLAIMS.md"
@@ -71,7 +71,7 @@ ELSEWHERE = re.compile(
 )
 # Names of std, of C, of the kit and of Linux.
 OTHER_NAMES = re.compile(
-    r"as_slice|clone|collect|from|into|iter|len|main|malloc|printf|repr|to_string|(ifi|nla|nlmsg|rtnl|sockaddr)_\w+"
+    r"as_slice|bond_miimon|clone|collect|from|get_attrs?|into|iter|len|main|malloc|printf|repr|to_string|(ifi|nla|nlmsg|rtnl|sockaddr)_\w+"
 )
 
 FENCE = re.compile(r"\s*(`{3,}|~{3,})(.*)")

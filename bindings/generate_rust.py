@@ -1,0 +1,175 @@
+"""Writes rust/src/kinds.rs from the model: attribute types as keys, enums, sets of flags, forms and error codes."""
+from model import camel
+
+# The types of values, by form. Numbers, enums, flags and lists have their own.
+PLAIN = {
+    "empty": "()",
+    "bool": "bool",
+    "mac": "Mac",
+    "ipv4": "Ipv4Addr",
+    "ipv6": "Ipv6Addr",
+    "bridge_id": "BridgeId",
+    "vlan_info": "VlanInfo",
+    "qos_mapping": "QosMapping",
+    "berr_counter": "BerrCounter",
+    "bittiming": "CanBitTiming",
+    "bittiming_const": "CanBitTimingConst",
+    "bytes": "Vec<u8>",
+}
+# The kernel's header of a constant, by its start. All others are in if_link.h.
+HEADERS = {"IFLA_BRIDGE_": "if_bridge.h", "BRIDGE_QUERIER_": "if_bridge.h", "IFLA_CAN_": "can/netlink.h"}
+TOP = """\
+//! Attribute types as keys, and the enums and sets of flags of their values. Written by bindings/generate.py.
+use crate::macros::{{elements, flags, named, scope}};
+use crate::*;
+use std::net::{{Ipv4Addr, Ipv6Addr}};
+
+/// `NLROUTE_VERSION` of the header.
+pub(crate) const VERSION: u32 = {version:#08x};
+
+/// The numbers of `enum nlroute_form`.
+pub(crate) mod form {{
+{forms}}}
+
+/// The numbers of `enum nlroute_refusal`.
+pub(crate) mod refusal {{
+{refusals}}}
+
+/// The types of elements that are all alike.
+pub(crate) mod item {{
+{items}}}
+
+/// Returns the meaning of an error code, as `nlroute_refusal_text()`.
+pub(crate) fn refusal_text(code: isize) -> &'static str {{
+    match code {{
+{texts}        _ => "unknown error",
+    }}
+}}
+"""
+
+
+def text(model):
+    """Returns the text of kinds.rs."""
+    seen = set()
+    parts = [top(model), *(type_text(it, model) for it in model.types)]
+    for of in model.sets:
+        keys = [it.name for it in of.attributes]
+        body = set_text(of)
+        # Two sets have an attribute of this name: the second one has a module
+        if seen.intersection(keys):
+            body = module(of, body)
+        seen.update(keys)
+        parts.append(f"scope! {{\n{comment(scope_comment(of))}    {camel(of.name)} = {of.number};\n}}\n")
+        parts.append(body)
+    parts.append(visits(model))
+    return "\n".join(parts)
+
+
+def top(model):
+    """Returns the constants of the header."""
+    items = {it.item.name: it.item.kind for of in model.sets for it in of.attributes if it.item and it.item.name}
+    return TOP.format(
+        items="".join(f"    pub const {name}: u16 = {kind};\n" for name, kind in items.items()),
+        version=model.version,
+        forms="".join(f"    pub const {it.upper()}: u8 = {number};\n" for it, number in model.forms.items() if number),
+        refusals="".join(f"    pub const {it.name}: isize = {it.code};\n" for it in model.refusals),
+        texts="".join(f"        refusal::{it.name} => \"{it.text}\",\n" for it in model.refusals),
+    )
+
+
+def comment(words, indent="    "):
+    """Returns a doc comment in lines that are not too long."""
+    lines, line = [], ""
+    for word in words.split(" "):
+        if line and len(indent) + len(line) + len(word) > 112:
+            lines, line = [*lines, line], ""
+        line = f"{line} {word}" if line else word
+    return "".join(f"{indent}/// {it}\n" for it in [*lines, line])
+
+
+def users(type_, model):
+    """Yields the paths of the keys that have an enum or flags."""
+    for of in model.sets:
+        for attribute in of.attributes:
+            for it in (attribute, *attribute.elements):
+                if it.type == type_:
+                    yield it.name
+
+
+def type_text(type_, model):
+    """Returns an enum or a set of flags."""
+    of = ", ".join(f"[`{name}`]" for name in users(type_, model))
+    what = "Represents flags of" if type_.is_flags else "Represents the number of"
+    kept = "Bits without a name are kept." if type_.is_flags else "Numbers without a name are kept."
+    lines = []
+    for it in type_.names:
+        name = "" if type_.is_flags else f', "{it.text}"'
+        lines.append(f"    {it.constant} = {it.number}{name};\n")
+    macro = "flags" if type_.is_flags else "named"
+    return f"{macro}! {{\n{comment(f'{what} {of}. {kept}')}    {type_.name}: u{type_.bits};\n{''.join(lines)}}}\n"
+
+
+def scope_comment(of):
+    """Returns the comment for the type of a set."""
+    return f"Represents the attribute set [`Family::{camel(of.name)}`] in types."
+
+
+def rust_type(it):
+    """Returns the type of the values of an attribute."""
+    if it.item:
+        return f"Vec<{rust_type(it.item)}>"
+    if it.form == "list":
+        return f"Nested<{camel(it.name)}>"
+    if it.form in ("unsigned", "signed"):
+        return f"{it.form[0].replace('s', 'i')}{it.bits}"
+    if it.form in ("named", "flags"):
+        return it.type.name
+    if it.form == "masked":
+        return f"Masked<{it.type.name}>"
+    return PLAIN[it.form]
+
+
+def header(name):
+    """Returns the kernel's header that has a constant."""
+    found = next((file for start, file in HEADERS.items() if name.startswith(start)), "if_link.h")
+    return f"include/uapi/linux/{found}"
+
+
+def key(it, scope, of):
+    """Returns the constant for an attribute or an element."""
+    words = f"Selects `{it.name}` of {of} (`{header(it.name)}`)."
+    if it.example:
+        words += f" 100 is printed as `{it.example}`."
+    return f"{comment(words, '')}pub const {it.name}: Key<{scope}, {rust_type(it)}> = Key::new({it.kind});\n"
+
+
+def set_text(of):
+    """Returns the keys of a set, and its lists of elements."""
+    scope, parts = camel(of.name), []
+    for it in of.attributes:
+        if it.elements:
+            words = comment(f"Represents the elements of [`{it.name}`] in types.")
+            parts.append(f"elements! {{\n{words}    {camel(it.name)} of {scope} = {it.kind};\n}}\n")
+        parts.append(key(it, scope, f"[`{scope}`]"))
+        parts.extend(key(that, camel(it.name), f"[`{it.name}`]") for that in it.elements)
+    return "".join(parts)
+
+
+def module(of, body):
+    """Returns a set as a module of its own."""
+    inner = "".join(f"    {line}\n" if line else "\n" for line in body.splitlines())
+    words = comment(f"Has the keys of [`{camel(of.name)}`], of which other sets have some with the same names.", "")
+    return f"{words}pub mod {of.name} {{\n    use crate::*;\n\n{inner}}}\n"
+
+
+def visits(model):
+    """Returns a function that calls a visitor for each key, for tests."""
+    seen, lines = set(), []
+    for of in model.sets:
+        for it in of.attributes:
+            path = f"{of.name}::{it.name}" if it.name in seen else it.name
+            seen.add(it.name)
+            lines.append(f'    visitor.attribute("{it.name}", {path});\n')
+            lines.extend(f'    visitor.element({path}, "{that.name}", {that.name});\n' for that in it.elements)
+    head = "pub(crate) fn visit_keys(visitor: &mut impl crate::tests::Visitor) {\n"
+    return f"/// Calls a visitor for each key.\n#[cfg(test)]\n{head}{''.join(lines)}}}\n"

@@ -1,0 +1,97 @@
+"""Asks the installed C library, by ctypes, what it knows of attribute types.
+
+The library is $NLROUTE_LIB_DIR/libnlroute.so if that variable is set, and otherwise what pkg-config finds.
+"""
+import ctypes
+import os
+import subprocess
+import sys
+from ctypes import POINTER, byref, c_char_p, c_size_t, c_ssize_t, c_uint8, c_uint16, c_uint32, c_uint64
+
+BAD_FORM, ABSENT = -7, -6
+TEXT_ROOM = 4096
+
+
+class Value(ctypes.Structure):
+    """struct nlroute_value."""
+
+    _fields_ = [
+        ("kind", c_uint16),
+        ("inner", c_uint16),
+        ("flags", c_uint16),
+        ("form", c_uint8),
+        ("depth", c_uint8),
+        ("second", c_uint32),
+        ("length", c_uint32),
+        ("number", c_uint64),
+        ("offset", c_uint64),
+        ("octets", c_uint8 * 16),
+    ]
+
+
+SIGNATURES = {
+    "nlroute_version": (c_uint32,),
+    "nlroute_measure": (c_ssize_t, c_uint32, POINTER(Value), c_size_t, c_char_p, c_size_t, POINTER(c_size_t)),
+    "nlroute_kind_name": (c_ssize_t, c_uint32, POINTER(Value), c_char_p, c_size_t),
+    "nlroute_number_name": (c_ssize_t, c_uint32, POINTER(Value), c_char_p, c_size_t),
+    "nlroute_flag_name": (c_ssize_t, c_uint32, POINTER(Value), c_uint32, c_char_p, c_size_t),
+    "nlroute_text": (c_ssize_t, c_uint32, POINTER(Value), c_char_p, c_size_t, c_char_p, c_size_t),
+}
+
+
+def path():
+    """Returns the path of the library, or ends the program with a message that says how to install it."""
+    folder = os.environ.get("NLROUTE_LIB_DIR")
+    if not folder:
+        command = [os.environ.get("PKG_CONFIG", "pkg-config"), "--variable=libdir", "nlroute"]
+        try:
+            folder = subprocess.run(command, stdout=subprocess.PIPE, text=True, check=False).stdout.strip()
+        except OSError as error:
+            sys.exit(f"generate.py: {error}. Install pkg-config, or set NLROUTE_LIB_DIR")
+    found = os.path.join(folder, "libnlroute.so")
+    if not folder or not os.path.exists(found):
+        sys.exit("generate.py: no libnlroute.so: run tools/install.sh PREFIX, and set NLROUTE_LIB_DIR to PREFIX/lib")
+    return found
+
+
+class Library:
+    """The questions that the generator asks. A family is a number of enum nlroute_family."""
+
+    def __init__(self, file=None):
+        self.c = ctypes.CDLL(file or path())
+        for name, (result, *arguments) in SIGNATURES.items():
+            function = getattr(self.c, name)
+            function.restype, function.argtypes = result, arguments
+        self.room = ctypes.create_string_buffer(TEXT_ROOM)
+
+    def version(self):
+        """Returns NLROUTE_VERSION of the library."""
+        return self.c.nlroute_version()
+
+    def measure(self, family, values):
+        """Returns the number of bytes of the list of these values, or an error code."""
+        array = (Value * len(values))(*values)
+        return self.c.nlroute_measure(family, array, len(values), b"", 0, byref(c_size_t()))
+
+    def text(self, family, value):
+        """Returns the text of a value."""
+        return self._stored(self.c.nlroute_text(family, byref(value), b"", 0, self.room, TEXT_ROOM))
+
+    def kind_name(self, family, value):
+        """Returns the kernel's constant of an attribute type, `type 99`, or `[3]` for an element without a type."""
+        return self._stored(self.c.nlroute_kind_name(family, byref(value), self.room, TEXT_ROOM))
+
+    def number_name(self, family, value):
+        """Returns the name of the number of a value, or None."""
+        return self._stored(self.c.nlroute_number_name(family, byref(value), self.room, TEXT_ROOM))
+
+    def flag_name(self, family, value, bit):
+        """Returns the name of a bit of the flags of a value, or None."""
+        return self._stored(self.c.nlroute_flag_name(family, byref(value), bit, self.room, TEXT_ROOM))
+
+    def _stored(self, length):
+        if length == ABSENT:
+            return None
+        if not 0 <= length < TEXT_ROOM:
+            raise RuntimeError(f"the library returns {length} for a text")
+        return self.room.value.decode("utf-8")

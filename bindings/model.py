@@ -1,0 +1,263 @@
+"""The model that the generators write from: attribute sets, attributes with their elements, enums and sets of flags.
+
+`ask` makes it. Constants of the C API are read from its header; the rest is asked of the library:
+
+- the form of an attribute type is the one for which nlroute_measure() does not return NLROUTE_BAD_FORM;
+- the width of a number is the least whose greatest number can be written, while the next number cannot;
+- names are those of nlroute_kind_name(), nlroute_number_name() and nlroute_flag_name().
+
+Only the names of some types and constants are chosen here: TYPES and CONSTANTS.
+"""
+import os
+import re
+from dataclasses import dataclass
+
+from library import BAD_FORM, Value
+
+HEADER = os.path.join(os.path.dirname(os.path.realpath(__file__)), "../crates/nlroute_ffi/include/nlroute.h")
+# Names of types. Otherwise the type has the name of the first attribute that has it: IFLA_BOND_MODE gives BondMode.
+TYPES = {
+    "IFLA_BOND_ALL_SLAVES_ACTIVE": "BondAllPortsActive",
+    "IFLA_BOND_SLAVE_STATE": "BondPortState",
+    "IFLA_BOND_SLAVE_MII_STATUS": "MiiStatus",
+    "IFLA_BOND_SLAVE_AD_ACTOR_OPER_PORT_STATE": "LacpState",
+    "IFLA_BOND_SLAVE_AD_CHURN_ACTOR_STATE": "ChurnState",
+    "IFLA_BR_STP_STATE": "BridgeStpState",
+    "IFLA_BR_STP_MODE": "BridgeStpMode",
+    "IFLA_BR_VLAN_PROTOCOL": "VlanProtocol",
+    "IFLA_BR_MCAST_ROUTER": "McastRouter",
+    "IFLA_BR_MULTI_BOOLOPT": "BridgeBoolOpt",
+    "IFLA_BRPORT_STATE": "BridgePortState",
+    "IFLA_BRIDGE_VLAN_INFO": "BridgeVlanFlags",
+    "IFLA_CAN_CTRLMODE": "CanCtrlMode",
+}
+# Names of constants. Otherwise a constant has its text in capitals, with _ for what no identifier may have.
+CONSTANTS = {"802.3ad": "IEEE8023AD", "802.1Q": "IEEE8021Q", "802.1ad": "IEEE8021AD", "3_SAMPLES": "TRIPLE_SAMPLES"}
+# Attribute types and elements that are tried; the numbers of the kernel's enums and bits that may have a name.
+KINDS, NUMBERS, BITS = range(64), range(1 << 16), range(32)
+NUMERIC = {"unsigned", "signed", "named", "flags", "masked"}
+WITH_FLAGS = {"flags", "masked", "vlan_info"}
+
+
+@dataclass(frozen=True)
+class Name:
+    """A number of an enum, or a bit of a set of flags, that has a name."""
+
+    number: int
+    text: str  # 802.3ad
+    constant: str  # IEEE8023AD
+
+
+@dataclass(frozen=True)
+class Type:
+    """An enum or a set of flags. Two attributes with the same width and names share one."""
+
+    name: str  # BondMode
+    is_flags: bool
+    bits: int
+    names: tuple[Name, ...]
+
+
+@dataclass(frozen=True)
+class Attribute:
+    """An attribute type, or the type of an element of a list.
+
+    A list has either `elements`, whose types differ, or one `item`: addresses, numbers or mappings, any number of them.
+    The name of an item is empty if items have an index in place of an attribute type.
+    """
+
+    name: str  # IFLA_BOND_MODE
+    kind: int
+    form: str  # that of enum nlroute_form, in small letters: named
+    bits: int | None = None  # width of the number, if the form has one
+    type: Type | None = None  # for the forms named, flags, masked and vlan_info
+    example: str | None = None  # for numbers with a unit: how 100 is printed, such as `100 (1.00 s)`
+    elements: tuple["Attribute", ...] = ()
+    item: "Attribute | None" = None
+
+
+@dataclass(frozen=True)
+class Set:
+    """An attribute set."""
+
+    name: str  # bond_port
+    number: int
+    attributes: tuple[Attribute, ...]
+
+
+@dataclass(frozen=True)
+class Refusal:
+    """An error code."""
+
+    name: str  # BAD_FORM
+    code: int
+    text: str
+
+
+@dataclass(frozen=True)
+class Model:
+    """What the generators write: a constant of the header is without NLROUTE_, and a form in small letters."""
+
+    version: int
+    forms: dict[str, int]
+    refusals: tuple[Refusal, ...]
+    places: dict[str, int]
+    causes: dict[str, int]
+    sets: tuple[Set, ...]
+    types: tuple[Type, ...]
+
+
+def camel(constant):
+    """Returns IFLA_BOND_AD_INFO as BondAdInfo."""
+    return "".join(word.capitalize() for word in constant.removeprefix("IFLA_").split("_"))
+
+
+def constant(text):
+    """Returns the name of the constant for the name of a number or a bit."""
+    return CONSTANTS.get(text) or re.sub(r"\W", "_", text).upper()
+
+
+def enum_of(header, name, prefix="NLROUTE_"):
+    """Returns the constants of an enum of the header, without the prefix, with their numbers."""
+    body = re.search(rf"^enum {name} {{(.*?)^}};", header, re.MULTILINE | re.DOTALL)[1]
+    return {it[1]: int(it[2]) for it in re.finditer(rf"^ +{prefix}(\w+) = (-?\d+)", body, re.MULTILINE)}
+
+
+def refusals_of(header):
+    """Returns the error codes of the header with their texts."""
+    texts = dict(re.findall(r'^ +case NLROUTE_(\w+): return "(.*)";$', header, re.MULTILINE))
+    return tuple(Refusal(name, code, texts[name]) for name, code in enum_of(header, "nlroute_refusal").items())
+
+
+def ask(library):
+    """Returns the model of a library."""
+    with open(HEADER, encoding="utf-8") as file:
+        header = file.read()
+    version = int(re.search(r"^#define NLROUTE_VERSION (0x\w+)u$", header, re.MULTILINE)[1], 16)
+    if library.version() != version:
+        raise SystemExit(f"generate.py: the library has the version {library.version():#08x}, nlroute.h {version:#08x}")
+    forms = {name.lower(): number for name, number in enum_of(header, "nlroute_form", "NLROUTE_FORM_").items()}
+    types = {}
+    families = enum_of(header, "nlroute_family").items()
+    sets = tuple(Asker(library, family, forms, types).set(name.lower()) for name, family in families)
+    return Model(
+        version=version,
+        forms=forms,
+        refusals=refusals_of(header),
+        places=enum_of(header, "nlroute_place"),
+        causes=enum_of(header, "nlroute_cause"),
+        sets=sets,
+        types=tuple(types.values()),
+    )
+
+
+class Asker:
+    """Asks for the attributes of one set. `types` has the enums and flags of all sets so far."""
+
+    def __init__(self, library, family, forms, types):
+        self.library, self.family, self.forms, self.types = library, family, forms, types
+
+    def set(self, name):
+        """Returns the set with all its attributes."""
+        attributes = (self.attribute(kind) for kind in KINDS)
+        return Set(name, self.family, tuple(it for it in attributes if it))
+
+    def measure(self, value):
+        """Returns what nlroute_measure() returns for a value, with its list before it if it is an element."""
+        above = [Value(kind=value.kind, form=self.forms["list"])] if value.depth else []
+        return self.library.measure(self.family, [*above, value])
+
+    def form(self, kind, inner):
+        """Returns the form of an attribute type or an element, or None if the library does not know it."""
+        known = (name for name in self.forms if name not in ("of_kind", "unknown"))
+        fit = [name for name in known if self.measure(self.value(kind, inner, form=self.forms[name])) != BAD_FORM]
+        if len(fit) > 1:
+            raise RuntimeError(f"attribute type {kind} of set {self.family} has the forms {fit}")
+        return fit[0] if fit else None
+
+    @staticmethod
+    def value(kind, inner, **fields):
+        """Returns a value of an attribute type, or of an element if there is an `inner`."""
+        return Value(kind=kind, inner=inner or 0, depth=int(inner is not None), **fields)
+
+    def attribute(self, kind, inner=None):
+        """Returns an attribute type, or an element of one, or None."""
+        form = self.form(kind, inner)
+        if not form:
+            return None
+        value = self.value(kind, inner, form=self.forms[form])
+        name = self.library.kind_name(self.family, value)
+        names = self.names(value, form)
+        bits = self.bits(value, form, names)
+        return Attribute(
+            name="" if name.startswith("[") else name,
+            kind=kind if inner is None else inner,
+            form=form,
+            bits=bits,
+            type=self.type(name, form, bits, names),
+            example=self.example(value, form),
+            **(self.elements(kind) if form == "list" else {}),
+        )
+
+    def elements(self, kind):
+        """Returns the elements of a list: `item` if all are alike, or `elements`."""
+        first = self.attribute(kind, 0)
+        if first and not first.name:
+            return {"item": first}
+        found = tuple(it for it in (self.attribute(kind, inner) for inner in KINDS) if it)
+        if [it.form for it in found] == ["qos_mapping"]:
+            return {"item": found[0]}
+        return {"elements": found}
+
+    def names(self, value, form):
+        """Returns the names of the numbers or bits of an attribute type."""
+        found = ()
+        if form == "named":
+            texts = ((number, self.number_name(value, number)) for number in NUMBERS)
+            found = tuple(Name(number, text, constant(text)) for number, text in texts if text)
+        elif form in WITH_FLAGS:
+            texts = ((bit, self.library.flag_name(self.family, value, bit)) for bit in BITS)
+            found = tuple(Name(bit, text, constant(text)) for bit, text in texts if text)
+        return found
+
+    def number_name(self, value, number):
+        """Returns the name of a number of an enum, or None."""
+        value.number = number
+        return self.library.number_name(self.family, value)
+
+    def bits(self, value, form, names):
+        """Returns the width of the number of an attribute type, of the flags for a struct that has flags, or None."""
+        if form not in NUMERIC and form != "vlan_info":
+            return None
+        field = "second" if form == "vlan_info" else "number"
+        for bits in (8, 16, 32, 64):
+            greatest = (1 << (bits - int(form == "signed"))) - 1
+            if self.takes(value, field, greatest) and not self.takes(value, field, greatest + 1):
+                return bits
+        # only numbers with a name can be written
+        return next(bits for bits in (8, 16, 32, 64) if names[-1].number >> bits == 0)
+
+    def takes(self, value, field, number):
+        """Returns whether the value can be written with this number."""
+        width = 8 * getattr(Value, field).size
+        if number >> width:
+            return False
+        other = Value.from_buffer_copy(value)
+        setattr(other, field, number)
+        return self.measure(other) >= 0
+
+    def type(self, name, form, bits, names):
+        """Returns the enum or the flags of an attribute type: the one that has these names, or a new one."""
+        if form != "named" and form not in WITH_FLAGS:
+            return None
+        key = (form in WITH_FLAGS, bits, names)
+        return self.types.setdefault(key, Type(TYPES.get(name) or camel(name), *key))
+
+    def example(self, value, form):
+        """Returns how the number 100 is printed, if it is printed with a unit."""
+        if form not in ("unsigned", "signed"):
+            return None
+        other = Value.from_buffer_copy(value)
+        other.number = 100
+        text = self.library.text(self.family, other)
+        return text if text != "100" else None

@@ -1,0 +1,61 @@
+"""Exceptions."""
+from __future__ import annotations
+
+from typing import Any
+
+from ._kinds import Cause, Code, Place
+
+
+class Error(ValueError):
+    """A list cannot be read or written."""
+
+
+class Fault(Error):
+    """The bytes are not a list of this attribute set. The text is that of `nlshow`.
+
+    >>> import nlroute
+    >>> try:
+    ...     nlroute.read(nlroute.Family.BOND, bytes.fromhex("0500010004000000 0700030001020300"))
+    ... except nlroute.Fault as fault:
+    ...     print(fault, fault.at, fault.place.name, fault.cause.name, fault.kind, fault.numbers, sep=", ")
+    error at 8: IFLA_BOND_MIIMON has 3 bytes, expected 4, 8, PAYLOAD, WRONG_LENGTH, 3, (4, 3)
+    """
+
+    at: int  # offset of the attribute in the list, in bytes
+    place: Place  # its part that is malformed
+    cause: Cause
+    kind: int  # attribute type, 0 for a malformed header of an attribute
+    inner: int  # type of the element, if its payload is malformed
+    numbers: tuple[int, int]  # those of the cause, in bytes
+
+    def __init__(self, text: str, at: int, place: Place, cause: Cause, kind: int, inner: int, numbers: tuple[int, int]):
+        super().__init__(text)
+        self.at, self.place, self.cause, self.kind, self.inner, self.numbers = at, place, cause, kind, inner, numbers
+
+    def __reduce__(self) -> tuple[Any, ...]:
+        fields = self.at, self.place, self.cause, self.kind, self.inner, self.numbers
+        return type(self), (str(self), *fields)
+
+
+class WriteError(Error):
+    """A value cannot be written.
+
+    >>> from nlroute import List, Family, WriteError
+    >>> bond = List(Family.BOND, {"IFLA_BOND_MODE": "802.3ad", "IFLA_BOND_MIIMON": 1 << 32})
+    >>> try:
+    ...     bytes(bond)
+    ... except WriteError as error:
+    ...     print(error, error.index, error.code.name, sep=", ")
+    IFLA_BOND_MIIMON: the attribute cannot hold the number, 1, BAD_NUMBER
+    """
+
+    name: str  # of the attribute or the element
+    index: int  # of the attribute in the list
+    code: Code
+
+    def __init__(self, name: str, index: int, code: Code):
+        super().__init__(f"{name}: {code.text}")
+        self.name, self.index, self.code = name, index, code
+
+    def __reduce__(self) -> tuple[Any, ...]:
+        return type(self), (self.name, self.index, self.code)

@@ -1,0 +1,131 @@
+"""Loads libnlroute, and calls it.
+
+The calls keep the interpreter's lock (`PyDLL`): they take microseconds, and no other thread changes an input meanwhile.
+Inputs are `bytes`, which nothing changes; outputs are new buffers, which nobody else has.
+"""
+from __future__ import annotations
+
+import ctypes
+import os
+from collections.abc import Callable
+from typing import Any
+
+from ._errors import Error, Fault, WriteError
+from ._kinds import VERSION, Cause, Code, Family, Place
+from ._records import FAULT, VALUE, buffer
+
+SONAME = f"libnlroute.so.{VERSION >> 16}.{VERSION >> 8 & 255}"
+FAMILY, BYTES, SIZE, OUT = ctypes.c_uint32, ctypes.c_char_p, ctypes.c_size_t, ctypes.c_void_p
+SIGNATURES: dict[str, list[Any]] = {
+    "nlroute_values": [FAMILY, BYTES, SIZE, OUT, SIZE],
+    "nlroute_first_fault": [FAMILY, BYTES, SIZE, OUT],
+    "nlroute_fault_text": [FAMILY, BYTES, OUT, SIZE],
+    "nlroute_kind_name": [FAMILY, BYTES, OUT, SIZE],
+    "nlroute_text": [FAMILY, BYTES, BYTES, SIZE, OUT, SIZE],
+    "nlroute_write": [FAMILY, BYTES, SIZE, BYTES, SIZE, OUT, SIZE],
+    "nlroute_measure": [FAMILY, BYTES, SIZE, BYTES, SIZE, OUT],
+}
+ADVICE = f"Install {SONAME} where the system finds it (ldconfig, LD_LIBRARY_PATH), or set NLROUTE_LIBRARY to its path."
+
+
+def load() -> ctypes.PyDLL:
+    """Loads the library: $NLROUTE_LIBRARY, the one in this package, or the system's."""
+    packed = os.path.join(os.path.dirname(__file__), SONAME)
+    path = os.environ.get("NLROUTE_LIBRARY") or (packed if os.path.exists(packed) else SONAME)
+    try:
+        library = ctypes.PyDLL(path)
+        version = library.nlroute_version
+        for name, arguments in SIGNATURES.items():
+            function = getattr(library, name)
+            function.argtypes, function.restype = arguments, ctypes.c_ssize_t
+    except (OSError, AttributeError) as error:
+        raise ImportError(f"{error}. {ADVICE}") from None
+    version.argtypes, version.restype = [], ctypes.c_uint32
+    if version() >> 8 != VERSION >> 8:
+        raise ImportError(f"{path} has the version {version():#08x}, expected {VERSION:#08x}. {ADVICE}")
+    return library
+
+
+LIBRARY = load()
+VALUES = LIBRARY.nlroute_values
+TEXT = ctypes.c_char * 256  # enough for most texts
+
+
+def whole(data: bytes | bytearray | memoryview) -> bytes:
+    """Returns bytes, and copies what could change. A `str` or an `int` is a TypeError."""
+    return data if type(data) is bytes else bytes(memoryview(data))
+
+
+def values(family: Family, data: bytes) -> memoryview:
+    """Returns the records of a list. Raises Fault."""
+    places = len(data) // 8 + 1  # enough for nearly every list, and len / 2 for all
+    while True:
+        out = buffer(VALUE.size * places)
+        count = VALUES(family, data, len(data), out, places)
+        if count >= 0:
+            return memoryview(out).cast("B")[: count * VALUE.size]
+        if count != Code.NO_ROOM:
+            raise fault(family, data) if count == Code.HAS_FAULT else unexpected(count)
+        places = len(data) // 2
+
+
+def fault(family: Family, data: bytes) -> Fault:
+    """Returns the first error of a malformed list."""
+    out = buffer(FAULT.size)
+    code = LIBRARY.nlroute_first_fault(family, data, len(data), out)
+    if code:
+        raise unexpected(code)
+    raw = ctypes.string_at(out, FAULT.size)
+    at, first, second, place, kind, inner, cause = FAULT.unpack(raw)
+    words = text_of(LIBRARY.nlroute_fault_text, family, raw)
+    return Fault(words, at, Place(place), Cause(cause), kind, inner, (first, second))
+
+
+def text_of(function: Callable[..., int], *arguments: Any) -> str:
+    """Returns the text that a function stores as snprintf() does."""
+    out, room = TEXT(), ctypes.sizeof(TEXT)
+    while True:
+        length = function(*arguments, out, room)
+        if length < 0:
+            raise unexpected(length)
+        if length < room:
+            return out.value.decode()
+        room = length + 1
+        out = ctypes.create_string_buffer(room)
+
+
+def kind_name(family: Family, raw: bytes) -> str:
+    """Returns the name of the attribute type of a record."""
+    return text_of(LIBRARY.nlroute_kind_name, family, raw)
+
+
+def value_text(family: Family, raw: bytes, data: bytes) -> str:
+    """Returns the text of a record of a list."""
+    return text_of(LIBRARY.nlroute_text, family, raw, data, len(data))
+
+
+def write(family: Family, records: bytes, octets: bytes, owners: list[tuple[int, str]]) -> bytes:
+    """Returns the list of these records. `owners` has the attribute's index, and a name, for each.
+
+    Raises WriteError.
+    """
+    count = len(records) // VALUE.size
+    # 4 bytes of header, at most 16 of content or those of octets, and at most 3 of padding for each
+    room = 24 * count + len(octets)
+    out = buffer(room)
+    length = LIBRARY.nlroute_write(family, records, count, octets, len(octets), out, room)
+    if length >= 0:
+        return ctypes.string_at(out, length)
+    at = ctypes.c_size_t()
+    code = LIBRARY.nlroute_measure(family, records, count, octets, len(octets), ctypes.byref(at))
+    if code >= 0 or at.value >= count:
+        raise unexpected(length)
+    index, name = owners[at.value]
+    raise WriteError(name, index, Code(code))
+
+
+def unexpected(code: int) -> Exception:
+    """Returns the exception for an error code that no input leads to."""
+    if code == Code.NO_MEMORY:
+        return MemoryError()
+    return Error(str(Code(code)))

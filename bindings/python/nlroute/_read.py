@@ -1,0 +1,179 @@
+"""Makes values of the records that the library stores for a list."""
+from __future__ import annotations
+
+import struct
+from collections.abc import Callable, Iterator
+from ipaddress import IPv4Address, IPv6Address
+from typing import Any
+
+from ._kinds import Family, Form
+from ._library import kind_name, value_text, values, whole
+from ._records import HEAD, VALUE, Record, record
+from ._tables import TABLES, Table
+from ._types import (
+    Attribute,
+    BerrCounter,
+    BridgeId,
+    CanBitTiming,
+    CanBitTimingConst,
+    Content,
+    Mac,
+    Masked,
+    QosMapping,
+    Row,
+    Unknown,
+    VlanInfo,
+)
+
+Nested = Callable[[Table, "list[Attribute]"], Any]
+SIGN = 1 << 63
+
+
+def attributes(table: Table, data: bytes, nested: Nested) -> list[Attribute]:
+    """Returns the attributes of a list. `nested` makes the value of a nested list. Raises Fault."""
+    raw = values(table.family, data)
+    ready, numbers, new = table.ready, table.numbers, tuple.__new__
+    found: list[Attribute] = []
+    passed = 0  # elements so far
+    pairs = HEAD.iter_unpack(raw)
+    for pair in pairs:
+        item = ready.get(pair)
+        if item is None:
+            name = numbers.get(pair[0])
+            if name is not None:
+                item = new(Attribute, (name, pair[1]))
+            else:
+                item, count = attribute(table, raw, len(found) + passed, data, nested)
+                passed += count
+                for _ in range(count):
+                    next(pairs)
+        found.append(item)
+    return found
+
+
+def attribute(table: Table, raw: memoryview, index: int, data: bytes, nested: Nested) -> tuple[Attribute, int]:
+    """Returns the attribute that a record begins, and how many elements follow the record."""
+    it = record(raw, index)
+    row = table.by_kind.get(it.kind)
+    if it.form != Form.LIST or row is None:
+        return Attribute(table.name(it.kind), content(row, it, data)), 0
+    elements = raw[(index + 1) * VALUE.size : (index + 1 + it.number) * VALUE.size]
+    if row.item:
+        return Attribute(row.name, list(items(row.item, elements, data))), it.number
+    below = table.below[it.kind]
+    return Attribute(row.name, nested(below, list(inner(below, elements, data)))), it.number
+
+
+def inner(table: Table, raw: memoryview, data: bytes) -> Iterator[Attribute]:
+    """Yields the elements of a nested list."""
+    for index, pair in enumerate(HEAD.iter_unpack(raw)):
+        item = table.ready.get(pair)
+        if item is None:
+            name = table.numbers.get(pair[0])
+            if name is not None:
+                item = Attribute(name, pair[1])
+            else:
+                it = record(raw, index)
+                item = Attribute(table.name(it.inner), content(table.by_kind.get(it.inner), it, data))
+        yield item
+
+
+def items(row: Row, raw: memoryview, data: bytes) -> Iterator[Content]:
+    """Yields the addresses, numbers or mappings of a list."""
+    if row.form == Form.UNSIGNED:
+        yield from (number for _, number in HEAD.iter_unpack(raw))
+        return
+    for fields in VALUE.iter_unpack(raw):
+        it = Record._make(fields)
+        if it.form == Form.UNKNOWN:
+            yield Unknown(payload(it, data), it.flags, it.inner)
+        else:
+            yield content(row, it, data)
+
+
+def payload(it: Record, data: bytes) -> bytes:
+    """Returns the bytes that a record refers to."""
+    return data[it.offset : it.offset + it.length]
+
+
+def typed(row: Row | None, number: int) -> int:
+    """Returns a number as a member of the row's enum, or as its set of flags."""
+    return row.type(number) if row and row.type else number
+
+
+def mac(it: Record) -> Mac:
+    """Returns the address of a record, without the checks of Mac()."""
+    return bytes.__new__(Mac, it.octets[:6])
+
+
+def limits(row: Row | None, it: Record, data: bytes) -> CanBitTimingConst:
+    """Returns the limits of a CAN controller. Its name ends before the first NUL."""
+    name, *numbers = struct.unpack("=16s8I", payload(it, data))
+    return CanBitTimingConst(name.split(b"\0")[0].decode(errors="surrogateescape"), *numbers)
+
+
+# How the content of a value is made, by its form.
+CONTENTS: dict[int, Callable[[Row | None, Record, bytes], Content]] = {
+    Form.EMPTY: lambda row, it, data: None,
+    Form.BOOL: lambda row, it, data: it.number != 0,
+    Form.UNSIGNED: lambda row, it, data: it.number,
+    Form.SIGNED: lambda row, it, data: (it.number ^ SIGN) - SIGN,
+    Form.NAMED: lambda row, it, data: typed(row, it.number),
+    Form.FLAGS: lambda row, it, data: typed(row, it.number),
+    Form.MASKED: lambda row, it, data: Masked(typed(row, it.number), typed(row, it.second)),
+    Form.MAC: lambda row, it, data: mac(it),
+    Form.IPV4: lambda row, it, data: IPv4Address(it.octets[:4]),
+    Form.IPV6: lambda row, it, data: IPv6Address(it.octets),
+    Form.BRIDGE_ID: lambda row, it, data: BridgeId(it.number, mac(it)),
+    Form.VLAN_INFO: lambda row, it, data: VlanInfo(it.number, typed(row, it.second)),
+    Form.QOS_MAPPING: lambda row, it, data: QosMapping(it.number, it.second),
+    Form.BERR_COUNTER: lambda row, it, data: BerrCounter(it.number, it.second),
+    Form.BITTIMING: lambda row, it, data: CanBitTiming(*struct.unpack("=8I", payload(it, data))),
+    Form.BITTIMING_CONST: limits,
+    Form.BYTES: lambda row, it, data: payload(it, data),
+    Form.UNKNOWN: lambda row, it, data: Unknown(payload(it, data), it.flags),
+}
+
+
+def content(row: Row | None, it: Record, data: bytes) -> Content:
+    """Returns the content of a value that is not a list."""
+    return CONTENTS[it.form](row, it, data)
+
+
+def lines(table: Table, data: bytes | bytearray | memoryview) -> Iterator[str]:
+    """Yields the lines of a list, as `nlshow` prints them."""
+    data = whole(data)
+    raw = bytes(values(table.family, data))
+    records = [raw[at : at + VALUE.size] for at in range(0, len(raw), VALUE.size)]
+    at = 0
+    while at < len(records):
+        it = record(records[at], 0)
+        count = it.number if it.form == Form.LIST else 0
+        elements = records[at + 1 : at + 1 + count]
+        at += 1 + count
+        row = table.by_kind.get(it.kind)
+        first = line(table.family, records[at - 1 - count], row.name if row else "", data)
+        if it.form != Form.LIST:
+            yield first
+        elif not elements:
+            yield f"{first} (empty)"
+        elif row and row.item and not row.item.name:
+            # the unit of numbers is after the last one
+            texts = [value_text(table.family, element, data) for element in elements]
+            yield " ".join([first, *(it.split(" ", 1)[0] for it in texts[:-1]), texts[-1]])
+        else:
+            yield first
+            yield from (f"  {line(table.family, element, '', data)}" for element in elements)
+
+
+def line(family: Family, raw: bytes, name: str, data: bytes) -> str:
+    """Returns the name and the text of a value. `name` may be empty."""
+    words = value_text(family, raw, data)
+    title = (name or kind_name(family, raw)) + nla_flags(record(raw, 0).flags)
+    return f"{title} {words}" if words else title
+
+
+def nla_flags(flags: int) -> str:
+    """Returns the flags of an unknown attribute type, after a space."""
+    names = [name for bit, name in ((0x4000, "NLA_F_NET_BYTEORDER"), (0x8000, "NLA_F_NESTED")) if flags & bit]
+    return " " + "|".join(names) if names else ""

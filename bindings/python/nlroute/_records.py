@@ -1,0 +1,51 @@
+"""The structs of nlroute.h as bytes, and buffers for them."""
+from __future__ import annotations
+
+import ctypes
+import struct
+from typing import Any, NamedTuple
+
+
+class Record(NamedTuple):
+    """The fields of `struct nlroute_value`; `second` is also `mask`."""
+
+    kind: int
+    inner: int
+    flags: int
+    form: int
+    depth: int
+    second: int
+    length: int
+    number: int
+    offset: int
+    octets: bytes
+
+
+VALUE = struct.Struct("=HHHBBIIQQ16s")
+# The same, but kind, inner, flags, form and depth as one number, and only the field `number` besides.
+HEAD = struct.Struct("=Q8xQ24x")
+FAULT = struct.Struct("=QQQIIII")
+assert VALUE.size == HEAD.size == 48 and FAULT.size == 40
+
+
+def record(raw: bytes | memoryview, index: int) -> Record:
+    """Returns a record of an array of them."""
+    return Record._make(VALUE.unpack_from(raw, index * VALUE.size))
+
+
+def head(kind: int, form: int, list_kind: int | None) -> int:
+    """Returns the first number of HEAD for an attribute or, with the type of its list, an element."""
+    first = (kind, 0, 0, form, 0) if list_kind is None else (list_kind, kind, 0, form, 1)
+    return int(HEAD.unpack(VALUE.pack(*first, 0, 0, 0, 0, b""))[0])
+
+
+# An array type for each power of two: ctypes would make a type for each new length.
+ARRAYS: dict[int, Any] = {}
+
+
+def buffer(length: int) -> Any:
+    """Returns a new buffer of at least `length` bytes, aligned for every struct."""
+    bits = length.bit_length()
+    if bits not in ARRAYS:
+        ARRAYS[bits] = ctypes.c_uint64 * (1 + (1 << bits) // 8)
+    return ARRAYS[bits]()

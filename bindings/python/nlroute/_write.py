@@ -1,0 +1,223 @@
+"""Makes records of values, for the library to write."""
+from __future__ import annotations
+
+import struct
+from collections.abc import Callable, Iterable, Iterator, Mapping
+from ipaddress import AddressValueError, IPv4Address, IPv6Address
+from operator import index as whole_number
+from typing import Any, Union
+
+from ._errors import WriteError
+from ._kinds import Code, Form
+from ._records import VALUE
+from ._tables import Table
+from ._types import Attribute, Mac, Name, Named, Row, Unknown
+
+Values = Union[Mapping[Any, Any], Iterable[tuple[Name, Any]]]  # (the keys of a mapping are names)
+# number, second, length, octets and flags of a record, and the bytes that it refers to.
+Fields = tuple[int, int, int, bytes, int, bytes]
+NAME_ROOM = 16  # of struct can_bittiming_const
+
+
+def pairs(values: Values, title: str = "") -> Iterator[tuple[Any, Any]]:
+    """Yields the names and values of a mapping, a list of attributes, or other pairs. `title` is for errors."""
+    for item in values.items() if isinstance(values, Mapping) else values:
+        if not isinstance(item, (tuple, list)) or len(item) != 2:
+            raise TypeError(f"{title}expected a name and a value, not {item!r}")
+        yield item[0], item[1]
+
+
+class Writer:
+    """The records of attributes, the bytes that they refer to, and which attribute each record is of."""
+
+    def __init__(self, table: Table) -> None:
+        self.table = table
+        self.records: list[bytes] = []
+        self.octets = bytearray()
+        self.owners: list[tuple[int, str]] = []
+
+    def add_all(self, items: list[Attribute]) -> WriteError | None:
+        """Adds attributes up to the first that no record can have, and returns the error for it.
+
+        Raises TypeError, ValueError or KeyError.
+        """
+        for index, item in enumerate(items):
+            before = len(self.records)
+            try:
+                self.add(index, item)
+            except WriteError as error:
+                del self.records[before:], self.owners[before:]
+                return error
+        return None
+
+    def add(self, index: int, attribute: Attribute) -> None:
+        """Adds the attribute that has this index in its list. Raises as add_all() does, and WriteError."""
+        name, value = attribute
+        row = self.table.row(name)
+        if row.form != Form.LIST:
+            self.put(index, row, (row.kind, 0, 0), value)
+            return
+        at = len(self.records)
+        self.records.append(b"")
+        self.owners.append((index, row.name))
+        for number, (it, title, content) in enumerate(self.elements(row, value)):
+            # (the library does not use the index of an item, so it may be cut)
+            inner = it.kind if it.name else number & 0xFFFF
+            self.put(index, it, (row.kind, inner, 1), content, title)
+        count = len(self.records) - at - 1
+        self.records[at] = VALUE.pack(row.kind, 0, 0, Form.LIST, 0, 0, 0, count, 0, b"")
+
+    def elements(self, row: Row, value: Any) -> Iterator[tuple[Row, str, Any]]:
+        """Yields the row, a name, and the content of each element of a list."""
+        # (an iterator could be written once only)
+        wrong = (str, bytes, bytearray, memoryview, Iterator) + ((Mapping,) if row.item else ())
+        if isinstance(value, wrong) or not isinstance(value, Iterable):
+            raise TypeError(f"{row.name}: expected a list, not {value!r}")
+        if row.item:
+            for number, item in enumerate(value):
+                if row.item.name and isinstance(item, Unknown) and item.kind is not None:
+                    yield Row(f"type {item.kind}", item.kind, Form.UNKNOWN), f"type {item.kind}", item
+                else:
+                    yield row.item, row.item.name or f"{row.name}[{number}]", item
+            return
+        below = self.table.below[row.kind]
+        for name, item in pairs(value, f"{row.name}: "):
+            yield below.row(name), name, item
+
+    def put(self, index: int, row: Row, place: tuple[int, int, int], value: Any, name: str = "") -> None:
+        """Adds a record. `place` has its fields kind, inner and depth."""
+        name = name or row.name
+        try:
+            number, second, length, octets, flags, carried = FIELDS[row.form](row, value)
+        except Unfit as error:
+            raise WriteError(name, index, error.code) from None
+        except AddressValueError as error:
+            raise AddressValueError(f"{name}: {error}") from None
+        except (TypeError, ValueError) as error:
+            raise (TypeError if isinstance(error, TypeError) else ValueError)(f"{name}: {error}") from None
+        kind, inner, depth = place
+        offset = len(self.octets)
+        self.octets += carried
+        try:
+            packed = VALUE.pack(kind, inner, flags, row.form, depth, second, length, number, offset, octets)
+        except struct.error:
+            raise WriteError(name, index, Code.BAD_NUMBER) from None
+        self.records.append(packed)
+        self.owners.append((index, name))
+
+
+class Unfit(Exception):
+    """A value that no record can have."""
+
+    def __init__(self, code: Code) -> None:
+        self.code = code
+
+
+def parts(value: Any, what: str, count: int) -> tuple[Any, ...]:
+    """Returns the fields of a tuple. Raises TypeError if it is not one, or has another number of fields."""
+    if not isinstance(value, tuple) or len(value) != count:
+        raise TypeError(f"expected {what}, not {value!r}")
+    return value
+
+
+def empty(row: Row, value: Any) -> Fields:
+    if value is not None:
+        raise TypeError(f"expected None, not {value!r}")
+    return 0, 0, 0, b"", 0, b""
+
+
+def carried(content: bytes, flags: int = 0) -> Fields:
+    return 0, 0, len(content), b"", flags, content
+
+
+def number(row: Row, value: Any) -> Fields:
+    if isinstance(value, str) and row.type and issubclass(row.type, Named):
+        value = row.type(value)
+    return whole_number(value), 0, 0, b"", 0, b""
+
+
+def signed(row: Row, value: Any) -> Fields:
+    it = whole_number(value)
+    if not -(1 << 63) <= it < 1 << 63:
+        raise Unfit(Code.BAD_NUMBER)
+    return it & (1 << 64) - 1, 0, 0, b"", 0, b""
+
+
+def two(what: str) -> Callable[[Row, Any], Fields]:
+    """Returns the function for a tuple of two numbers."""
+
+    def fields(row: Row, value: Any) -> Fields:
+        first, second = parts(value, what, 2)
+        return whole_number(first), whole_number(second), 0, b"", 0, b""
+
+    return fields
+
+
+def address(make: Callable[[Any], bytes]) -> Callable[[Row, Any], Fields]:
+    """Returns the function for an address."""
+
+    def fields(row: Row, value: Any) -> Fields:
+        octets = make(value)
+        return 0, 0, len(octets), octets, 0, b""
+
+    return fields
+
+
+def bridge_id(row: Row, value: Any) -> Fields:
+    priority, octets = parts(value, "BridgeId", 2)
+    return whole_number(priority), 0, 8, Mac(octets), 0, b""
+
+
+def words(layout: str, *fields: Any) -> bytes:
+    """Returns a struct. Raises Unfit if one of its numbers is out of range."""
+    try:
+        return struct.pack(layout, *fields)
+    except struct.error:
+        raise Unfit(Code.BAD_NUMBER) from None
+
+
+def timing(row: Row, value: Any) -> Fields:
+    return carried(words("=8I", *map(whole_number, parts(value, "CanBitTiming", 8))))
+
+
+def limits(row: Row, value: Any) -> Fields:
+    name, *numbers = parts(value, "CanBitTimingConst", 9)
+    if not isinstance(name, str) or "\0" in name:
+        raise (ValueError if isinstance(name, str) else TypeError)(f"{name!r} is not a name")
+    octets = name.encode(errors="surrogateescape")
+    if len(octets) > NAME_ROOM:
+        raise Unfit(Code.TOO_LONG)
+    return carried(words(f"={NAME_ROOM}s8I", octets, *map(whole_number, numbers)))
+
+
+def octets_of(value: Any) -> bytes:
+    return bytes(memoryview(value))
+
+
+def unknown(row: Row, value: Any) -> Fields:
+    if isinstance(value, Unknown):
+        return carried(octets_of(value.payload), whole_number(value.flags))
+    return carried(octets_of(value))
+
+
+# The fields of a value, by the form of its attribute type.
+FIELDS: dict[int, Callable[[Row, Any], Fields]] = {
+    Form.EMPTY: empty,
+    Form.BOOL: number,
+    Form.UNSIGNED: number,
+    Form.SIGNED: signed,
+    Form.NAMED: number,
+    Form.FLAGS: number,
+    Form.MASKED: two("Masked"),
+    Form.MAC: address(Mac),
+    Form.IPV4: address(lambda value: IPv4Address(value).packed),
+    Form.IPV6: address(lambda value: IPv6Address(value).packed),
+    Form.BRIDGE_ID: bridge_id,
+    Form.VLAN_INFO: two("VlanInfo"),
+    Form.QOS_MAPPING: two("QosMapping"),
+    Form.BERR_COUNTER: two("BerrCounter"),
+    Form.BITTIMING: timing,
+    Form.BITTIMING_CONST: limits,
+    Form.BYTES: lambda row, value: carried(octets_of(value)),
+    Form.UNKNOWN: unknown,
+}

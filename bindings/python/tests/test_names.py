@@ -1,0 +1,124 @@
+"""Names, numbers and texts: those of nlroute_kinds.h, of runs/plain, and of the kernel's headers."""
+import ctypes
+import doctest
+import os
+import re
+import unittest
+
+import nlroute
+from nlroute import *
+from nlroute import _kinds, _tables
+
+TOP = os.path.dirname(os.path.dirname(os.path.dirname(os.path.dirname(os.path.realpath(__file__)))))
+GROUP = re.compile(r"/\* (?:Attributes of NLROUTE_|Elements of )([^*]*)\. \*/\nenum \{\n([^}]*)\n\};")
+TYPE = re.compile(r"NLROUTE_(\w+) = (\d+),? /\* (.*) \*/")
+LIST = re.compile(r"^> ([a-z_]+) ((?:[0-9a-f]| )*)$")
+# Bits and numbers of the kernel's headers: if_bonding.h, if_vlan.h, can/netlink.h, if_bridge.h, bond_3ad.h.
+KERNEL = [
+    (BondMode.IEEE8023AD, 4),
+    (BondMode.BALANCE_ALB, 6),
+    (VlanFlags.GVRP, 2),
+    (VlanFlags.BRIDGE_BINDING, 16),
+    (VlanProtocol.IEEE8021Q, 0x8100),
+    (CanCtrlMode.LISTENONLY, 2),
+    (CanCtrlMode.FD, 0x20),
+    (CanState.BUS_OFF, 3),
+    (BridgeVlanFlags.UNTAGGED, 4),
+    (LacpState.AGGREGATION, 4),
+    (BridgePortState.FORWARDING, 3),
+]  # fmt: skip
+
+
+def form_of(row):
+    """Returns the form of a row in the words of nlroute_kinds.h."""
+    names = {number: name for name, number in vars(_kinds.Form).items()}
+    if not row.item:
+        return "LIST of attributes" if row.elements else names[row.form]
+    return f"LIST of {names[row.item.form]}" if not row.item.name else "LIST of attributes"
+
+
+def runs():
+    """Yields each list of runs/plain with the lines that nlshow prints for it."""
+    folder = os.path.join(TOP, "runs/plain")
+    for name in sorted(os.listdir(folder)):
+        with open(os.path.join(folder, name), encoding="utf-8") as file:
+            lines = [line for line in file.read().split("\n") if line and line[0] in " >"]
+        at = [index for index, line in enumerate(lines) if line[0] == ">"] + [len(lines)]
+        for start, end in zip(at, at[1:]):
+            found = LIST.match(lines[start])
+            if found and found[1].upper() in Family.__members__ and not len(found[2].replace(" ", "")) % 2:
+                yield Family[found[1].upper()], bytes.fromhex(found[2]), [it[2:] for it in lines[start + 1 : end]]
+
+
+def rewritten(family, data):
+    """Returns what nlroute_rewrite() writes."""
+    library = nlroute._library.LIBRARY
+    library.nlroute_rewrite.argtypes = library.nlroute_values.argtypes
+    out = ctypes.create_string_buffer(len(data) + 4)
+    length = library.nlroute_rewrite(family, data, len(data), out, len(data) + 4)
+    return out.raw[:length]
+
+
+class Names(unittest.TestCase):
+    def test_header(self):
+        with open(os.path.join(TOP, "crates/nlroute_ffi/include/nlroute_kinds.h"), encoding="utf-8") as file:
+            groups = GROUP.findall(file.read())
+        rows = {(table.title, row.name): row for table in _tables.TABLES.values() for row in table.by_name.values()}
+        for table in _tables.TABLES.values():
+            for row in table.by_kind.values():
+                rows |= {(row.name, it.name): it for it in row.elements}
+                if row.item and row.item.name:
+                    rows[row.name, row.item.name] = row.item
+        seen = set()
+        for titles, body in groups:
+            for title in re.split(r" and |, ", titles):
+                for name, number, form in TYPE.findall(body):
+                    row = rows[title, name]
+                    self.assertEqual((row.kind, form_of(row)), (int(number), form), name)
+                    self.assertEqual(getattr(nlroute, name), name)
+                    seen.add((title, name))
+        # IFLA_PROTINFO has a type of bridge ports, which the header has once
+        self.assertEqual({title for title, _ in set(rows) - seen}, {"PROTO_BRIDGE"})
+
+    def test_kernel(self):
+        for member, number in KERNEL:
+            self.assertEqual(member, number)
+
+    def test_runs(self):
+        count = 0
+        for family, data, lines in runs():
+            errors = [line.strip() for line in lines if line.strip().startswith("error at ")]
+            count += 1
+            with self.subTest(family=family.name, data=data.hex()):
+                if errors:
+                    with self.assertRaises(Fault) as caught:
+                        text(family, data)
+                    self.assertEqual(str(caught.exception), errors[0])
+                    self.assertEqual(caught.exception.at, int(re.match(r"error at (\d+)", errors[0])[1]))
+                else:
+                    self.assertEqual(text(family, data).splitlines(), lines)
+                    self.assertEqual(str(read(family, data)), text(family, rewritten(family, data)))
+        self.assertGreater(count, 100)
+
+    def test_long_text(self):
+        data = bytes.fromhex("e8036300") + bytes(996)
+        self.assertEqual(text(Family.BOND, data), "type 99 hex " + "00" * 996)
+
+
+class Memory(unittest.TestCase):
+    def test_numbers_without_a_name_are_not_stored(self):
+        for make in (VlanFlags, BondMode):
+            before = len(make._value2member_map_)
+            for number in range(1000, 1064):
+                self.assertEqual(make(number), number)
+            self.assertLessEqual(len(make._value2member_map_), before + 32)
+
+
+def load_tests(loader, tests, pattern):
+    tests.addTests(doctest.DocTestSuite(nlroute))
+    tests.addTests(doctest.DocTestSuite(nlroute._list))
+    return tests
+
+
+if __name__ == "__main__":
+    unittest.main()

@@ -1,0 +1,244 @@
+//! Errors of reading and writing.
+
+use crate::kinds::{refusal, refusal_text};
+use crate::scope::Family;
+use crate::sys::{self, RawFault};
+use std::fmt;
+
+/// Reports why a list cannot be read or written. Both other errors convert to it, so `?` serves in a function that does
+/// both.
+#[derive(Clone, Debug, PartialEq, Eq)]
+#[non_exhaustive]
+pub enum Error {
+    /// Reports a list that is malformed.
+    Read(Fault),
+    /// Reports a value that cannot be written.
+    Write(WriteError),
+}
+
+/// Reports the first error of a list that is malformed.
+///
+/// `Display` writes what `nlshow` prints: `error at 8: IFLA_BR_HELLO_TIME has 3 bytes, expected 4`.
+#[derive(Clone, Copy, PartialEq, Eq, Hash)]
+pub struct Fault {
+    family: Family,
+    raw: RawFault,
+}
+
+/// Locates an error. `kind` and `inner` are attribute types without flags.
+#[derive(Clone, Copy, Debug, PartialEq, Eq, Hash)]
+#[non_exhaustive]
+pub enum Place {
+    /// Locates it in the header or the length of an attribute.
+    Frame,
+    /// Locates it in the payload of an attribute.
+    Payload {
+        /// Holds the type of the attribute.
+        kind: u16,
+    },
+    /// Locates it in the header or the length of an element of a list.
+    ElementFrame {
+        /// Holds the type of the list.
+        kind: u16,
+    },
+    /// Locates it in the payload of an element of a list.
+    ElementPayload {
+        /// Holds the type of the list.
+        kind: u16,
+        /// Holds the type of the element.
+        inner: u16,
+    },
+}
+
+/// Tells what is wrong. All numbers are in bytes.
+#[derive(Clone, Copy, Debug, PartialEq, Eq, Hash)]
+#[non_exhaustive]
+pub enum Cause {
+    /// Tells that fewer than the four bytes of a header are left.
+    ShortFrame {
+        /// Holds how many are left.
+        left: u64,
+    },
+    /// Tells that `nla_len` is less than four.
+    SmallLength {
+        /// Holds that `nla_len`.
+        nla_len: u64,
+    },
+    /// Tells that `nla_len` is greater than what is left.
+    Overrun {
+        /// Holds that `nla_len`.
+        nla_len: u64,
+        /// Holds how many bytes are left.
+        left: u64,
+    },
+    /// Tells that a payload has a wrong length.
+    WrongLength {
+        /// Holds the correct length or, for an array of numbers, the size of one, which divides a correct length.
+        expected: u64,
+        /// Holds the length of the payload.
+        actual: u64,
+    },
+    /// Tells that a payload is too short.
+    TooShort {
+        /// Holds the least length.
+        least: u64,
+        /// Holds the length of the payload.
+        actual: u64,
+    },
+    /// Holds the number of a cause that this version of the crate does not know.
+    Other(u32),
+}
+
+impl Fault {
+    pub(crate) fn new(family: Family, raw: RawFault) -> Self {
+        Fault { family, raw }
+    }
+
+    /// Returns the offset in the list, in bytes, of the attribute that has the error.
+    pub fn at(&self) -> usize {
+        usize::try_from(self.raw.at).unwrap_or(usize::MAX)
+    }
+
+    /// Returns the part that is malformed.
+    pub fn place(&self) -> Place {
+        let [kind, inner] = [self.raw.kind, self.raw.inner].map(|it| it as u16); // attribute types have 14 bits
+        match self.raw.place {
+            1 => Place::Payload { kind },
+            2 => Place::ElementFrame { kind },
+            3 => Place::ElementPayload { kind, inner },
+            _ => Place::Frame,
+        }
+    }
+
+    /// Returns what is wrong with it.
+    pub fn cause(&self) -> Cause {
+        let RawFault { first, second, .. } = self.raw;
+        match self.raw.cause {
+            1 => Cause::ShortFrame { left: first },
+            2 => Cause::SmallLength { nla_len: first },
+            3 => Cause::Overrun { nla_len: first, left: second },
+            4 => Cause::WrongLength { expected: first, actual: second },
+            5 => Cause::TooShort { least: first, actual: second },
+            other => Cause::Other(other),
+        }
+    }
+}
+
+impl fmt::Display for Fault {
+    fn fmt(&self, f: &mut fmt::Formatter<'_>) -> fmt::Result {
+        sys::fault_text(self.family as u32, &self.raw).fmt(f)
+    }
+}
+
+impl fmt::Debug for Fault {
+    fn fmt(&self, f: &mut fmt::Formatter<'_>) -> fmt::Result {
+        f.debug_struct("Fault")
+            .field("family", &self.family)
+            .field("at", &self.at())
+            .field("place", &self.place())
+            .field("cause", &self.cause())
+            .finish()
+    }
+}
+
+/// Reports the first value that cannot be written.
+///
+/// `Display` writes its name and the reason: `IFLA_VLAN_PROTOCOL: the attribute cannot hold the number`.
+#[derive(Clone, Debug, PartialEq, Eq, Hash)]
+#[non_exhaustive]
+pub struct WriteError {
+    /// Holds the zero-based index in the list of the attribute, or of the attribute that has the element.
+    pub index: usize,
+    /// Holds the kernel's constant for the attribute or the element, or `type 99`.
+    pub name: String,
+    /// Holds the reason.
+    pub code: Code,
+}
+
+/// Tells why a value cannot be written.
+#[derive(Clone, Copy, Debug, PartialEq, Eq, Hash)]
+#[non_exhaustive]
+pub enum Code {
+    /// Tells that the payload would have more than 65,531 bytes.
+    TooLong,
+    /// Tells that a value of [`push_unknown`](crate::List::push_unknown) has a type that is known.
+    BadForm,
+    /// Tells that the attribute cannot hold the number, such as a VLAN protocol that is neither 0x8100 nor 0x88A8.
+    BadNumber,
+    /// Tells that an element does not follow its list. The types of this crate exclude it.
+    BadElement,
+    /// Tells that bytes of a value are missing. The types of this crate exclude it.
+    BadOctets,
+    /// Holds another error code of the C library: -3 if an allocation failed.
+    Other(isize),
+}
+
+impl From<isize> for Code {
+    /// Converts an error code of the C library.
+    fn from(code: isize) -> Self {
+        match code {
+            refusal::TOO_LONG => Code::TooLong,
+            refusal::BAD_FORM => Code::BadForm,
+            refusal::BAD_NUMBER => Code::BadNumber,
+            refusal::BAD_ELEMENT => Code::BadElement,
+            refusal::BAD_OCTETS => Code::BadOctets,
+            other => Code::Other(other),
+        }
+    }
+}
+
+impl fmt::Display for Code {
+    fn fmt(&self, f: &mut fmt::Formatter<'_>) -> fmt::Result {
+        f.write_str(refusal_text(match *self {
+            Code::TooLong => refusal::TOO_LONG,
+            Code::BadForm => refusal::BAD_FORM,
+            Code::BadNumber => refusal::BAD_NUMBER,
+            Code::BadElement => refusal::BAD_ELEMENT,
+            Code::BadOctets => refusal::BAD_OCTETS,
+            Code::Other(code) => code,
+        }))
+    }
+}
+
+impl fmt::Display for WriteError {
+    fn fmt(&self, f: &mut fmt::Formatter<'_>) -> fmt::Result {
+        write!(f, "{}: {}", self.name, self.code)
+    }
+}
+
+impl fmt::Display for Error {
+    fn fmt(&self, f: &mut fmt::Formatter<'_>) -> fmt::Result {
+        match self {
+            Error::Read(fault) => fault.fmt(f),
+            Error::Write(error) => error.fmt(f),
+        }
+    }
+}
+
+impl std::error::Error for Fault {}
+impl std::error::Error for WriteError {}
+impl std::error::Error for Error {}
+
+impl From<Fault> for Error {
+    fn from(fault: Fault) -> Self {
+        Error::Read(fault)
+    }
+}
+
+impl From<WriteError> for Error {
+    fn from(error: WriteError) -> Self {
+        Error::Write(error)
+    }
+}
+
+/// Reports a string that is not a MAC address.
+#[derive(Clone, Debug, PartialEq, Eq)]
+pub struct ParseMacError(pub(crate) ());
+
+impl fmt::Display for ParseMacError {
+    fn fmt(&self, f: &mut fmt::Formatter<'_>) -> fmt::Result {
+        f.write_str("a MAC address has six numbers of one or two hexadecimal digits, separated by colons")
+    }
+}
+
+impl std::error::Error for ParseMacError {}

@@ -1,0 +1,97 @@
+//! Reads, prints and writes lists of netlink link attributes, such as the payload of `IFLA_INFO_DATA`.
+//!
+//! The work is done by the C library nlroute, whose parsers and writers are proved to meet their contracts. This crate
+//! adds types: a [`Key`] knows its attribute set and the type of its values, so a wrong one does not compile.
+//!
+//! ```
+//! use nlroute::*;
+//!
+//! // IFLA_BOND_MODE 4 and IFLA_BOND_MIIMON 100, as Linux sends them
+//! let bytes = [5, 0, 1, 0, 4, 0, 0, 0, 8, 0, 3, 0, 100, 0, 0, 0];
+//! let mut bond = List::<Bond>::read(&bytes)?;
+//! assert_eq!(bond.get(IFLA_BOND_MODE), Some(BondMode::IEEE8023AD));
+//!
+//! bond.set(IFLA_BOND_MIIMON, 200);
+//! assert_eq!(bond.to_string(), "IFLA_BOND_MODE 802.3ad (4)\nIFLA_BOND_MIIMON 200 ms\n");
+//! assert_eq!(bond.to_bytes()?, [5, 0, 1, 0, 4, 0, 0, 0, 8, 0, 3, 0, 200, 0, 0, 0]);
+//! # Ok::<(), nlroute::Error>(())
+//! ```
+//!
+//! To look up one attribute, [`find`] does not allocate:
+//!
+//! ```
+//! # use nlroute::*;
+//! # let bytes = [5, 0, 1, 0, 4, 0, 0, 0, 8, 0, 3, 0, 100, 0, 0, 0];
+//! assert_eq!(find(&bytes, IFLA_BOND_MIIMON)?, Some(100));
+//! # Ok::<(), nlroute::Fault>(())
+//! ```
+//!
+//! # What does not compile
+//!
+//! A value of another type (`IFLA_BOND_MIIMON` is a `u32`):
+//!
+//! ```compile_fail,E0308
+//! # use nlroute::*;
+//! List::<Bond>::new().set(IFLA_BOND_MIIMON, true);
+//! ```
+//!
+//! A key of another attribute set:
+//!
+//! ```compile_fail,E0308
+//! # use nlroute::*;
+//! List::<Bond>::new().set(IFLA_BR_FORWARD_DELAY, 700);
+//! ```
+//!
+//! A key of an element, outside of the list that has it:
+//!
+//! ```compile_fail,E0308
+//! # use nlroute::*;
+//! List::<Bond>::new().get(IFLA_BOND_AD_INFO_AGGREGATOR);
+//! ```
+//!
+//! A number of another width:
+//!
+//! ```compile_fail,E0308
+//! # use nlroute::*;
+//! # let number = 1u64 << 40;
+//! List::<Bond>::new().set(IFLA_BOND_MIIMON, number);
+//! ```
+//!
+//! # Threads
+//!
+//! The library has no state, and all types are plain data: they are `Send` and `Sync`.
+
+#![deny(unsafe_code)]
+#![warn(missing_docs, missing_debug_implementations)]
+
+mod error;
+mod field;
+mod kinds;
+mod list;
+mod macros;
+mod scope;
+#[allow(unsafe_code)]
+mod sys;
+#[cfg(test)]
+mod tests;
+mod types;
+mod value;
+
+pub use error::{Cause, Code, Error, Fault, ParseMacError, Place, WriteError};
+pub use field::Field;
+pub use kinds::*;
+pub use list::{find, find_in, List, Nested};
+pub use scope::{Any, Family, Key, Scope, Set};
+pub use types::{BerrCounter, BridgeId, CanBitTiming, CanBitTimingConst, Mac, Masked, QosMapping, VlanInfo};
+pub use value::{Content, Iter, Value};
+
+/// Returns whether the library that is linked has the version of this crate.
+///
+/// With a shared library this is always so, since its name has the version. A static library may be of another one.
+///
+/// ```
+/// assert!(nlroute::is_compatible());
+/// ```
+pub fn is_compatible() -> bool {
+    sys::version() >> 8 == kinds::VERSION >> 8
+}

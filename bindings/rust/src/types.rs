@@ -1,0 +1,219 @@
+//! Types of values that are structs of the kernel or addresses.
+
+use crate::error::ParseMacError;
+use crate::BridgeVlanFlags;
+use std::borrow::Cow;
+use std::fmt;
+use std::str::FromStr;
+
+/// Represents a MAC address (`ETH_ALEN` bytes).
+///
+/// ```
+/// let address: nlroute::Mac = "01:80:c2:00:00:0e".parse()?;
+/// assert_eq!(address, nlroute::Mac([1, 0x80, 0xc2, 0, 0, 0xe]));
+/// assert_eq!(address.to_string(), "01:80:c2:00:00:0e");
+/// # Ok::<(), nlroute::ParseMacError>(())
+/// ```
+#[derive(Clone, Copy, PartialEq, Eq, Hash, PartialOrd, Ord, Default)]
+pub struct Mac(
+    /// Is the address, in the order of transmission.
+    pub [u8; 6],
+);
+
+impl fmt::Display for Mac {
+    fn fmt(&self, f: &mut fmt::Formatter<'_>) -> fmt::Result {
+        let [a, b, c, d, e, last] = self.0;
+        write!(f, "{a:02x}:{b:02x}:{c:02x}:{d:02x}:{e:02x}:{last:02x}")
+    }
+}
+
+impl fmt::Debug for Mac {
+    fn fmt(&self, f: &mut fmt::Formatter<'_>) -> fmt::Result {
+        fmt::Display::fmt(self, f)
+    }
+}
+
+impl FromStr for Mac {
+    type Err = ParseMacError;
+
+    /// Parses six numbers of one or two hexadecimal digits, separated by colons.
+    ///
+    /// # Errors
+    ///
+    /// Returns [`ParseMacError`] for any other string.
+    fn from_str(text: &str) -> Result<Mac, ParseMacError> {
+        let mut octets = [0; 6];
+        let mut parts = text.split(':');
+        for octet in &mut octets {
+            *octet = parts.next().and_then(octet_of).ok_or(ParseMacError(()))?;
+        }
+        match parts.next() {
+            None => Ok(Mac(octets)),
+            Some(_) => Err(ParseMacError(())),
+        }
+    }
+}
+
+/// Returns the number of one or two hexadecimal digits.
+fn octet_of(digits: &str) -> Option<u8> {
+    let is_number = matches!(digits.len(), 1 | 2) && digits.bytes().all(|digit| digit.is_ascii_hexdigit());
+    is_number.then(|| u8::from_str_radix(digits, 16).ok()).flatten()
+}
+
+/// Holds flags, and a mask of those that a request sets or clears (`struct ifla_vlan_flags`, `struct can_ctrlmode`,
+/// `struct br_boolopt_multi`).
+#[derive(Clone, Copy, Debug, PartialEq, Eq, Hash, Default)]
+pub struct Masked<F> {
+    /// Holds the flags.
+    pub flags: F,
+    /// Holds the flags that count.
+    pub mask: F,
+}
+
+/// Identifies a bridge (`struct ifla_bridge_id`).
+#[derive(Clone, Copy, Debug, PartialEq, Eq, Hash, Default)]
+pub struct BridgeId {
+    /// Holds the priority, which is compared first; lower is better.
+    pub priority: u16,
+    /// Holds the MAC address.
+    pub address: Mac,
+}
+
+/// Describes a VLAN of a bridge or its port (`struct bridge_vlan_info`).
+#[derive(Clone, Copy, Debug, PartialEq, Eq, Hash, Default)]
+pub struct VlanInfo {
+    /// Holds the VLAN ID.
+    pub vid: u16,
+    /// Holds the flags.
+    pub flags: BridgeVlanFlags,
+}
+
+/// Maps a priority of packets to one of VLAN headers, or the reverse (`struct ifla_vlan_qos_mapping`).
+///
+/// A list of mappings is a `Vec`. Elements of other types are not in it; [`Value::elements`](crate::Value::elements)
+/// has them too.
+#[derive(Clone, Copy, Debug, PartialEq, Eq, Hash, Default)]
+pub struct QosMapping {
+    /// Holds the priority that is mapped.
+    pub from: u32,
+    /// Holds the priority that it is mapped to.
+    pub to: u32,
+}
+
+/// Counts bus errors of a CAN controller (`struct can_berr_counter`).
+#[derive(Clone, Copy, Debug, PartialEq, Eq, Hash, Default)]
+pub struct BerrCounter {
+    /// Counts errors when transmitting.
+    pub txerr: u16,
+    /// Counts errors when receiving.
+    pub rxerr: u16,
+}
+
+/// Holds the bit timing of a CAN controller (`struct can_bittiming` of `linux/can/netlink.h`).
+#[repr(C)]
+#[derive(Clone, Copy, Debug, PartialEq, Eq, Hash, Default)]
+pub struct CanBitTiming {
+    /// Holds the bit rate, in bits per second.
+    pub bitrate: u32,
+    /// Holds the sample point, in tenths of a percent.
+    pub sample_point: u32,
+    /// Holds the time quantum, in nanoseconds.
+    pub tq: u32,
+    /// Holds the propagation segment, in time quanta.
+    pub prop_seg: u32,
+    /// Holds the first phase buffer segment, in time quanta.
+    pub phase_seg1: u32,
+    /// Holds the second phase buffer segment, in time quanta.
+    pub phase_seg2: u32,
+    /// Holds the synchronization jump width, in time quanta.
+    pub sjw: u32,
+    /// Holds the prescaler of the bit rate.
+    pub brp: u32,
+}
+
+impl CanBitTiming {
+    /// Returns the payload of the attribute.
+    pub(crate) fn payload(&self) -> Vec<u8> {
+        let numbers = [
+            self.bitrate,
+            self.sample_point,
+            self.tq,
+            self.prop_seg,
+            self.phase_seg1,
+            self.phase_seg2,
+            self.sjw,
+            self.brp,
+        ];
+        numbers.iter().flat_map(|number| number.to_le_bytes()).collect()
+    }
+}
+
+/// Holds the limits of the bit timing of a CAN controller (`struct can_bittiming_const` of `linux/can/netlink.h`).
+///
+/// A name of more than 16 bytes does not compile:
+///
+/// ```compile_fail,E0308
+/// # use nlroute::CanBitTimingConst;
+/// CanBitTimingConst { name: *b"seventeen bytes..", ..CanBitTimingConst::default() };
+/// ```
+#[repr(C)]
+#[derive(Clone, Copy, Debug, PartialEq, Eq, Hash, Default)]
+pub struct CanBitTimingConst {
+    /// Holds the name of the controller, up to the first NUL. When written, what is not UTF-8 becomes U+FFFD, and the
+    /// result is truncated to 15 bytes.
+    pub name: [u8; 16],
+    /// Holds the minimum of the first time segment, in time quanta.
+    pub tseg1_min: u32,
+    /// Holds the maximum of the first time segment, in time quanta.
+    pub tseg1_max: u32,
+    /// Holds the minimum of the second time segment, in time quanta.
+    pub tseg2_min: u32,
+    /// Holds the maximum of the second time segment, in time quanta.
+    pub tseg2_max: u32,
+    /// Holds the maximum of the synchronization jump width, in time quanta.
+    pub sjw_max: u32,
+    /// Holds the minimum of the prescaler.
+    pub brp_min: u32,
+    /// Holds the maximum of the prescaler.
+    pub brp_max: u32,
+    /// Holds the steps of the prescaler.
+    pub brp_inc: u32,
+}
+
+impl CanBitTimingConst {
+    /// Returns the name of the controller, with U+FFFD in place of what is not UTF-8.
+    pub fn name(&self) -> Cow<'_, str> {
+        let end = self.name.iter().position(|&byte| byte == 0).unwrap_or(self.name.len());
+        String::from_utf8_lossy(&self.name[..end])
+    }
+
+    /// Returns the payload of the attribute.
+    pub(crate) fn payload(&self) -> Vec<u8> {
+        let numbers = [
+            self.tseg1_min,
+            self.tseg1_max,
+            self.tseg2_min,
+            self.tseg2_max,
+            self.sjw_max,
+            self.brp_min,
+            self.brp_max,
+            self.brp_inc,
+        ];
+        self.name.into_iter().chain(numbers.iter().flat_map(|number| number.to_le_bytes())).collect()
+    }
+}
+
+/// Writes the names of flags, and in hexadecimal the bits that have none.
+pub(crate) fn write_flags(f: &mut fmt::Formatter<'_>, flags: u32, names: &[(u32, &str)]) -> fmt::Result {
+    let mut separator = "";
+    let mut rest = flags;
+    for (bit, name) in names.iter().filter(|(bit, _)| flags >> bit & 1 == 1) {
+        write!(f, "{separator}{name}")?;
+        separator = "|";
+        rest &= !(1 << bit);
+    }
+    if rest != 0 || flags == 0 {
+        write!(f, "{separator}{rest:#x}")?;
+    }
+    Ok(())
+}

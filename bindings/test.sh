@@ -1,0 +1,189 @@
+#!/bin/sh
+# test.sh [PREFIX]: builds and tests the bindings for Rust and Python with the library that tools/install.sh has
+# installed in the folder PREFIX or, if none is named, in $NLROUTE_PREFIX. Without both, it first installs an unproved
+# build in a temporary folder: three to four minutes more.
+#
+# It needs cc. What needs python3 from 3.11 on, cargo, clippy, pip, mypy or pyroute2 is skipped if that is missing, and a
+# line says so. It uses no network.
+#
+# Prints a line `ok ..` or `FAILED ..` for each check. The last line is 'N passed, M failed', and the status 0 only if
+# nothing failed.
+set -eu
+
+[ $# -le 1 ] || {
+    echo "usage: bindings/test.sh [PREFIX]" >&2
+    exit 2
+}
+prefix=${1-${NLROUTE_PREFIX-}}
+[ -z "$prefix" ] || prefix=$(cd "$prefix" && pwd)
+cd "$(dirname "$0")/.."
+room=$(mktemp -d)
+trap 'rm -rf "$room"' EXIT
+trap 'exit 1' INT TERM
+passed=0
+failed=0
+
+# Runs a command, the words after the name of the check, and counts whether it succeeds. A function ends at the first
+# command that fails: inside `if`, it would not.
+check() {
+    name=$1
+    shift
+    set +e
+    (set -e && "$@") >"$room/said" 2>&1
+    status=$?
+    set -e
+    if [ "$status" = 0 ]; then
+        echo "ok $name"
+        passed=$((passed + 1))
+    else
+        echo "FAILED $name"
+        cat "$room/said"
+        failed=$((failed + 1))
+    fi
+}
+
+# Whether a command succeeds, which shows that what it needs is there. Otherwise says what is skipped.
+has() {
+    what=$1
+    shift
+    "$@" >/dev/null 2>&1 || {
+        echo "skipped: there is no $what" >&2
+        return 1
+    }
+}
+
+# Runs Python on the package of this tree or, with FOLDER, on the one that is installed there.
+python() {
+    PYTHONPATH=${folder-$top/bindings/python} PYTHONDONTWRITEBYTECODE=1 python3 -W error "$@"
+}
+
+python_tests() {
+    cd bindings/python
+    python -m unittest discover -s tests -t tests
+}
+
+python_doctests() {
+    python -c 'import doctest, nlroute, sys; sys.exit(doctest.testmod(nlroute).failed)'
+}
+
+# The samples of the page print what the page says.
+python_page() {
+    python bindings/python/page.py docs/PYTHON.md
+}
+
+# Whether this machine has sockets of that kind.
+netlink() {
+    python3 -c 'import socket as s; s.socket(s.AF_NETLINK, s.SOCK_RAW, s.NETLINK_ROUTE)'
+}
+
+prints_links() {
+    "$@" >"$room/links"
+    grep -q '^1: lo$' "$room/links"
+}
+
+types() {
+    cd bindings/python
+    MYPYPATH=$PWD mypy --strict --cache-dir "$room/mypy" nlroute
+    MYPYPATH=$PWD mypy --strict --cache-dir "$room/mypy" tests/typed.py examples/links.py
+}
+
+# Installs the package without a library, and imports it with one that is named, and without.
+package() {
+    python3 -m pip install -q --no-index --target "$room/plain" bindings/python
+    folder=$room/plain
+    cd "$room"
+    python -c 'import nlroute; assert nlroute.__file__.startswith("'"$room"'/plain/"); nlroute.Family.BOND'
+    if NLROUTE_LIBRARY='' LD_LIBRARY_PATH='' python -c 'import nlroute' 2>"$room/missing"; then
+        ldconfig -p | grep -q 'libnlroute\.so'
+    else
+        grep -q '^ImportError: .*NLROUTE_LIBRARY' "$room/missing"
+    fi
+    if NLROUTE_LIBRARY=libc.so.6 python -c 'import nlroute' 2>"$room/missing"; then exit 1; fi
+    grep -q '^ImportError: .*nlroute_version' "$room/missing"
+}
+
+# Makes the wheel with the library twice: it has the same bytes, and needs nothing but itself.
+wheel() {
+    for it in one two; do
+        NLROUTE_LIB=$NLROUTE_LIB_DIR/libnlroute.so python3 -m pip wheel -q --no-index -w "$room/$it" bindings/python
+    done
+    set -- "$room"/one/nlroute-*-manylinux_*.whl
+    cmp "$1" "$room/two/${1##*/}"
+    python3 -m pip install -q --no-index --target "$room/whole" "$1"
+    folder=$room/whole
+    cd "$room"
+    unset NLROUTE_LIBRARY LD_LIBRARY_PATH
+    program='import nlroute; print(nlroute.text(nlroute.Family.BOND, bytes.fromhex("0800030064000000")))'
+    test "$(python -c "$program")" = "IFLA_BOND_MIIMON 100 ms"
+}
+
+in_crate() {
+    cd bindings/rust
+    "$@"
+}
+
+static_crate() {
+    cd bindings/rust
+    NLROUTE_STATIC=1 LD_LIBRARY_PATH='' CARGO_TARGET_DIR=$room/static cargo test --offline --quiet --tests
+}
+
+# Without a library, the build fails, and says what to do.
+no_library() {
+    cd bindings/rust
+    if NLROUTE_LIB_DIR='' PKG_CONFIG_PATH='' PKG_CONFIG_LIBDIR=$room CARGO_TARGET_DIR=$room/none \
+        cargo build --offline 2>"$room/missing"; then exit 1; fi
+    grep -q 'tools/install.sh' "$room/missing"
+}
+
+top=$PWD
+if [ -z "$prefix" ]; then
+    prefix=$room/prefix
+    echo "installing an unproved build of the library"
+    tools/install.sh --fast "$prefix" >"$room/said" 2>&1 || {
+        cat "$room/said"
+        exit 1
+    }
+fi
+began=$(date +%s)
+export NLROUTE_LIB_DIR="$prefix/lib" LD_LIBRARY_PATH="$prefix/lib" PKG_CONFIG_PATH="$prefix/lib/pkgconfig"
+export NLROUTE_LIBRARY="$prefix/lib/libnlroute.so" CARGO_TARGET_DIR="$room/target"
+
+if has "python3 from 3.11 on" python3 -c 'import sys; sys.exit(sys.version_info < (3, 11))'; then
+    check "generate.py: the tables are those of the library" bindings/generate.py --check
+    check "python: tests" python_tests
+    check "python: doctests" python_doctests
+    check "python: the samples of docs/PYTHON.md" python_page
+    if has "netlink socket" netlink; then
+        check "python: the links of this machine" prints_links python bindings/python/examples/links.py
+    fi
+    if has mypy mypy --version; then check "python: mypy" types; fi
+    if has pip python3 -m pip --version; then
+        check "python: the package" package
+        check "python: a wheel with the library" wheel
+    fi
+    # Debian's package is for Debian's Python
+    for it in python3 /usr/bin/python3; do
+        if "$it" -c 'import pyroute2' 2>/dev/null; then break; fi
+    done
+    if has pyroute2 "$it" -c 'import pyroute2'; then
+        check "python: five times as fast as pyroute2" "$it" bindings/python/speed.py --check
+    fi
+fi
+if has cargo cargo --version; then
+    check "rust: tests" in_crate cargo test --offline --quiet
+    check "rust: tests with the static library" static_crate
+    check "rust: pages of the crate" in_crate env RUSTDOCFLAGS='-D warnings' cargo doc --offline --quiet --no-deps
+    if has clippy cargo clippy --version; then
+        check "rust: clippy" in_crate cargo clippy --offline --quiet --all-targets -- -D warnings
+    fi
+    if has "netlink socket" netlink; then
+        check "rust: the links of this machine" prints_links in_crate cargo run --offline --quiet --example links
+    fi
+    check "rust: a build without the library" no_library
+    check "rust, python and c: random lists" bindings/compare.py
+else
+    check "python and c: random lists" bindings/compare.py --without-rust
+fi
+echo "the checks took $(($(date +%s) - began)) s"
+echo "$passed passed, $failed failed"
+[ "$failed" = 0 ]
