@@ -54,7 +54,7 @@ PAGES = re.compile(r"(README|CONTRIBUTING|CHANGELOG)\.md|docs/[^/]+\.md|(bench|t
 # The most words that a page may have. Any other README.md below the top has SMALL_BUDGET, and CHANGELOG.md has none.
 BUDGETS = {
     "README.md": 1500, "CONTRIBUTING.md": 1850, "crates/nlroute_ffi/README.md": 1200, "docs/ARCHITECTURE.md": 2150,
-    "docs/ASSURANCE.md": 1350, "docs/CALLING.md": 1800, "docs/CLAIMS.md": 3050, "docs/DEBUG.md": 700,
+    "docs/ASSURANCE.md": 1400, "docs/CALLING.md": 1800, "docs/CLAIMS.md": 3050, "docs/DEBUG.md": 700,
     "docs/DECISIONS.md": 7500, "docs/DIFFERENCES.md": 3000, "docs/MESSAGES.md": 2800, "docs/MODEL.md": 4700,
     "docs/PROGRAMS.md": 1650, "docs/PYTHON.md": 900, "docs/RUST.md": 900,
 }  # fmt: skip
