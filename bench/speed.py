@@ -4,10 +4,13 @@ of the Rust crate (original.tsv). Instructions do not depend on how busy the mac
 Needs cc and valgrind (Debian's packages gcc and valgrind)."""
 import functools, os, re, subprocess, sys, tempfile
 here = os.path.dirname(os.path.abspath(__file__))
+sys.dont_write_bytecode = True
+sys.path.insert(0, f"{here}/../tools")
+from families import names
 libs, lists = [it for it in sys.argv[1:] if it.endswith(".a")], [it for it in sys.argv[1:] if not it.endswith(".a")]
 if not libs: sys.exit(__doc__)
 kit = os.path.dirname(subprocess.run(["rt", "doc"], capture_output=True, text=True, check=True).stdout.strip())
-number = {f: i for i, f in enumerate("af_spec_bridge bond bond_port bridge bridge_port vlan can dsa hsr proto_bridge".split())}
+number = {f: i for i, f in enumerate(names())}
 rows = [line.split("\t") for line in open(f"{here}/original.tsv").read().splitlines()[1:]]
 for it in lists:
     if it not in [row[0] for row in rows]: sys.exit(f"speed.py: there is no list {it}")

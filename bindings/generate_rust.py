@@ -1,4 +1,6 @@
 """Writes rust/src/kinds.rs from the model: attribute types as keys, enums, sets of flags, forms and error codes."""
+import re
+
 from model import camel
 
 # The types of values, by form. Numbers, enums, flags and lists have their own.
@@ -20,7 +22,7 @@ PLAIN = {
 HEADERS = {"IFLA_BRIDGE_": "if_bridge.h", "BRIDGE_QUERIER_": "if_bridge.h", "IFLA_CAN_": "can/netlink.h"}
 TOP = """\
 //! Attribute types as keys, and the enums and sets of flags of their values. Written by bindings/generate.py.
-use crate::macros::{{elements, flags, named, scope}};
+use crate::macros::{{elements, families, flags, named, scope}};
 use crate::*;
 use std::net::{{Ipv4Addr, Ipv6Addr}};
 
@@ -51,7 +53,7 @@ pub(crate) fn refusal_text(code: isize) -> &'static str {{
 def text(model):
     """Returns the text of kinds.rs."""
     seen = set()
-    parts = [top(model), *(type_text(it, model) for it in model.types)]
+    parts = [top(model), families(model), *(type_text(it, model) for it in model.types)]
     for of in model.sets:
         keys = [it.name for it in of.attributes]
         body = set_text(of)
@@ -59,7 +61,7 @@ def text(model):
         if seen.intersection(keys):
             body = module(of, body)
         seen.update(keys)
-        parts.append(f"scope! {{\n{comment(scope_comment(of))}    {camel(of.name)} = {of.number};\n}}\n")
+        parts.append(f"scope! {{\n{comment(scope_comment(of))}    {camel(of.name)};\n}}\n")
         parts.append(body)
     parts.append(visits(model))
     return "\n".join(parts)
@@ -85,6 +87,15 @@ def comment(words, indent="    "):
             lines, line = [*lines, line], ""
         line = f"{line} {word}" if line else word
     return "".join(f"{indent}/// {it}\n" for it in [*lines, line])
+
+
+def families(model):
+    """Returns the enum of attribute sets."""
+    rows = ""
+    for of in model.sets:
+        words = re.sub(r"\b[A-Z]+_[A-Z_]+\b", r"`\g<0>`", of.words)
+        rows += f"{comment(f'Names {words}.')}    {camel(of.name)} = {of.number}, \"{of.name}\";\n"
+    return f"families! {{\n{rows}}}\n"
 
 
 def users(type_, model):

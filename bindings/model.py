@@ -82,6 +82,7 @@ class Set:
 
     name: str  # bond_port
     number: int
+    words: str  # IFLA_INFO_SLAVE_DATA of a bond port
     attributes: tuple[Attribute, ...]
 
 
@@ -139,7 +140,8 @@ def ask(library):
     forms = {name.lower(): number for name, number in enum_of(header, "nlroute_form", "NLROUTE_FORM_").items()}
     types = {}
     families = enum_of(header, "nlroute_family").items()
-    sets = tuple(Asker(library, family, forms, types).set(name.lower()) for name, family in families)
+    words = dict(re.findall(r"^    NLROUTE_(\w+) = \d+,? /\* (.*) \*/$", header, re.MULTILINE))
+    sets = tuple(Asker(library, family, forms, types).set(name.lower(), words[name]) for name, family in families)
     return Model(
         version=version,
         forms=forms,
@@ -157,10 +159,10 @@ class Asker:
     def __init__(self, library, family, forms, types):
         self.library, self.family, self.forms, self.types = library, family, forms, types
 
-    def set(self, name):
+    def set(self, name, words):
         """Returns the set with all its attributes."""
         attributes = (self.attribute(kind) for kind in KINDS)
-        return Set(name, self.family, tuple(it for it in attributes if it))
+        return Set(name, self.family, words, tuple(it for it in attributes if it))
 
     def measure(self, value):
         """Returns what nlroute_measure() returns for a value, with its list before it if it is an element."""

@@ -1,6 +1,6 @@
 /*
  * Calls the functions of nlroute.h while allocations fail, and with buffers that are a little too short. Standard input
- * has one list per line: the name of an attribute set, a space, and hex digits. Lines that begin with # are ignored.
+ * has one list per line: the number of an attribute set, a space, and hex digits. Lines that begin with # are ignored.
  *
  * For each list and function, the first allocation and all later ones fail, then the second and all later ones, and so
  * on. No function may allocate again after that, and those for counts, errors, values and writing may not allocate at
@@ -43,9 +43,6 @@ void __wrap_free(void *block) {
     __real_free(block);
 }
 
-static const char *const names[10] = {"af_spec_bridge", "bond", "bond_port", "bridge", "bridge_port",
-                                      "vlan",           "can",  "dsa",       "hsr",    "proto_bridge"};
-
 static _Alignas(uint64_t) uint8_t out[ROOM];
 static uint8_t list[MOST], whole[ROOM];
 static char text[2 * MOST + 64];
@@ -55,7 +52,7 @@ static unsigned long lists, refusals, shorts, failed;
 
 static void check(bool holds, const char *call, const char *what, unsigned long n) {
     if (holds) return;
-    printf("FAILED %s of %s, %zu bytes: %s, at %lu\n", call, names[family], len, what, n);
+    printf("FAILED %s of set %u, %zu bytes: %s, at %lu\n", call, family, len, what, n);
     failed++;
 }
 
@@ -162,13 +159,13 @@ static int value(char digit) { return digit <= '9' ? digit - '0' : digit - 'a' +
 
 /* Parses the attribute set and the list of a line. Returns whether the line has one. */
 static bool take(char *line) {
-    char *digits = strchr(line, ' ');
-    if (line[0] == '#' || digits == NULL) return false;
-    *digits++ = 0;
-    for (family = 0; family < 10 && strcmp(line, names[family]); family++) continue;
+    char *digits;
+    if (line[0] == '#' || strchr(line, ' ') == NULL) return false;
+    family = (uint32_t)strtoul(line, &digits, 10);
+    bool is_set = *digits++ == ' ' && nlroute_count(family, list, 0) == 0;
     size_t count = strcspn(digits, "\n");
     len = count / 2;
-    if (family == 10 || count % 2 || len > MOST || strspn(digits, "0123456789abcdef") != count) {
+    if (!is_set || count % 2 || len > MOST || strspn(digits, "0123456789abcdef") != count) {
         check(false, "a line", "no list of a family", 0);
         return false;
     }

@@ -20,4 +20,12 @@ python3 ../../bench/make_lists.py "$room/lists" || exit 1
         echo "$family $(cat "$room/lists/$list.hex")"
     done
     cat ../../docs/captured.txt
-} | "$room/c_refusals"
+} | python3 -B -c '
+import sys
+sys.path.insert(0, "../../tools")
+from families import names
+sets = names()
+for line in sys.stdin:
+    name, blank, digits = line.partition(" ")
+    print(sets.index(name) if name in sets else name, digits, sep=blank, end="")
+' | "$room/c_refusals"

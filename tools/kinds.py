@@ -5,7 +5,7 @@ values.
 usage: tools/kinds.py [--check | --compare]
 
 The types are those of the tables in specs/, whose rows are what the contracts cover. A row names its payloads by a word
-of link_base/specs/Payloads.antt, which has the form; link_flat/specs/Detail.antt has the struct of an attribute type.
+of link_base/specs/Payloads.antt, which has the form; of a struct, the row has the layout too.
 
 With --check it says whether the header is what would be written, and ends with 'N passed, M failed'; CI does this. With
 --compare, each type that the kernel's headers of this machine have is compared with theirs, by the C compiler.
@@ -16,40 +16,21 @@ import sys
 import textwrap
 
 sys.dont_write_bytecode = True
+from families import families  # noqa: E402
 from pages import ROOT, Tree  # noqa: E402
 
 HEADER = "crates/nlroute_ffi/include/nlroute_kinds.h"
-# The tables of specs/, in the order of the header, and what has the attributes.
-TABLES = {
-    "bond_table": "NLROUTE_BOND",
-    "ad_info_rows": "elements of IFLA_BOND_AD_INFO",
-    "bond_port_table": "NLROUTE_BOND_PORT",
-    "bridge_table": "NLROUTE_BRIDGE",
-    "querier_rows": "elements of IFLA_BR_MCAST_QUERIER_STATE",
-    "bridge_port_table": "NLROUTE_BRIDGE_PORT",
-    "proto_info_table": "NLROUTE_PROTO_BRIDGE",
-    "af_spec_table": "NLROUTE_AF_SPEC_BRIDGE",
-    "tunnel_rows": "elements of IFLA_BRIDGE_VLAN_TUNNEL_INFO",
-    "vlan_table": "NLROUTE_VLAN",
-    "mapping_rows": "elements of IFLA_VLAN_EGRESS_QOS and IFLA_VLAN_INGRESS_QOS",
-    "can_table": "NLROUTE_CAN",
-    "tdc_rows": "elements of IFLA_CAN_TDC",
-    "mode_rows": "elements of IFLA_CAN_CTRLMODE_EXT",
-    "dsa_table": "NLROUTE_DSA",
-    "hsr_table": "NLROUTE_HSR",
-}
-WORD = re.compile(r"^(\w+)(?: \w+)* = (?:plain |record \{.* form = )?forms\.(\w+)|^(\w+)(?: \w+)* = enum_of", re.MULTILINE)
-DETAILS = re.compile(r"^details (\w+) = (.*) ∷ \[\]$", re.MULTILINE)
-# The forms of the header, by those of the tables, and by what the kernel's headers say of a struct or a number.
+WORD = re.compile(r"^(\w+)(?: \w+)* = (?:plain |record \{ form = )\(?forms\.(\w+)", re.MULTILINE)
+# The forms of the header, by those of the tables, and by the layouts of structs.
 FORMS = {
-    "Nothing": "EMPTY", "Bool": "BOOL", "Unsigned": "UNSIGNED", "Signed": "SIGNED", "Enum": "NAMED", "Protocol": "NAMED",
-    "Flags": "FLAGS", "LowFlags": "FLAGS", "MaskedFlags": "MASKED", "Pair": "QOS_MAPPING", "Mac": "MAC", "Ipv4": "IPV4",
-    "Ipv6": "IPV6", "Bytes": "BYTES", "Limits": "BITTIMING_CONST", "U16s": "LIST of UNSIGNED",
+    "Nothing": "EMPTY", "Bool": "BOOL", "Unsigned": "UNSIGNED", "Coded": "NAMED", "Signed": "SIGNED", "Enum": "NAMED",
+    "Protocol": "NAMED", "Flags": "FLAGS", "LowFlags": "FLAGS", "MaskedFlags": "MASKED", "Pair": "QOS_MAPPING", "Mac": "MAC",
+    "Ipv4": "IPV4", "Ipv6": "IPV6", "Bytes": "BYTES", "Limits": "BITTIMING_CONST", "U16s": "LIST of UNSIGNED",
     "U32s": "LIST of UNSIGNED",
 }  # fmt: skip
 STRUCTS = {
-    "BridgeId": "BRIDGE_ID", "VlanInfo": "VLAN_INFO", "Options": "MASKED", "BitTiming": "BITTIMING", "Clock": "UNSIGNED",
-    "State": "NAMED", "Modes": "MASKED", "ErrorCounters": "BERR_COUNTER",
+    "BridgeId": "BRIDGE_ID", "VlanInfo": "VLAN_INFO", "BooleanOptions": "MASKED", "BitTiming": "BITTIMING",
+    "Clock": "UNSIGNED", "CtrlMode": "MASKED", "BerrCounter": "BERR_COUNTER",
 }  # fmt: skip
 KERNEL = "#include <linux/if_link.h>\n#include <linux/if_bridge.h>\n#include <linux/can/netlink.h>\n"
 TOP = """\
@@ -64,22 +45,25 @@ TOP = """\
 
 
 def tables():
-    """What has the attributes, and the rows, for each table: numbers, names and forms, in its order."""
+    """What has the attributes, and the rows, for each attribute set, then for each of its nested lists: numbers, names and
+    forms, in the order of the table."""
     tree = Tree(ROOT)
-    found = WORD.finditer(tree.text("crates/link_base/specs/Payloads.antt"))
-    form_of = {it[1] or it[3]: FORMS.get(it[2] or "Enum") for it in found}
-    # (structs, and numbers that are enums in the kernel, depend on the attribute set and the type)
-    details = dict(DETAILS.findall(tree.text("crates/link_flat/specs/Detail.antt")))
-    of_set = {"bridge_table": "Bridge", "bridge_port_table": "BridgePort", "af_spec_table": "AfSpecBridge", "can_table": "Can"}
+    form_of = {word: FORMS.get(form) for word, form in WORD.findall(tree.text("crates/link_base/specs/Payloads.antt"))}
     lists = {"Nested": "LIST of attributes", "Addresses 4": "LIST of IPV4", "Addresses 16": "LIST of IPV6"}
-    for table, owner in TABLES.items():
-        structs = dict(re.findall(r"\((\d+), (\w+)\)", details.get(of_set.get(table), "")))
-        rows = []
+
+    def rows(table):
         for number, (name, _, shape) in tree.tables[table].items():
-            word = shape.split()[0]
-            form = STRUCTS.get(structs.get(number)) or lists.get(word) or lists.get(shape) or form_of[word]
-            rows.append((int(number), name, form))
-        yield owner, rows
+            word, *more = shape.split()
+            yield int(number), name, STRUCTS.get((more or [""])[0]) or lists.get(word) or lists.get(shape) or form_of[word]
+
+    for family in families(tree.text):
+        yield f"NLROUTE_{family['NAME']}", [*rows(family["table"])]
+        owners = {}
+        for name, _, shape in tree.tables[family["table"]].values():
+            if shape.startswith("Nested "):
+                owners.setdefault(shape.split()[-1], []).append(name)
+        for table, names in owners.items():
+            yield f"elements of {' and '.join(names)}", [*rows(table)]
 
 
 def text():

@@ -26,8 +26,8 @@ those that are named. Each page is checked by nine rules:
   tests, mutants or edits has a mark, except in CHANGELOG.md.
 - budget: the page has no more words than BUDGETS allows. Code blocks and comments do not count.
 
-Unless pages are named, the lists of attribute sets in C, in other languages and on pages are compared with the list in
-family.rt, as tools/families.py says. This counts as one more check.
+Unless pages are named, the lists of attribute sets in C, in help texts, on pages and in runs are compared with the list
+in family.rt, as tools/families.py says. This counts as one more check.
 
 The names of counts are `tests`, `mutants`, `must-fail edits` and those `of CRATE`: the functions with `#[test]`, the
 headings `## NAME` of mutants.edits, and the files must-fail/*.edit; `mutants of definitions`: those of files in specs/;
@@ -238,7 +238,8 @@ class Tree:
         lists = {"nested_": "Nested ", "address_": "Addresses "}
         for text in self.of(r"crates/[^/]+/specs/.*\.antt"):
             for table, body in re.findall(r"^(\w+) =(.*(?:\n[ \t].*|\n)*)", re.sub(r"--.*", "", text), re.MULTILINE):
-                found = ROW_OF_TABLE.findall(" ".join(body.split()))
+                # (a variant may be named with its module, as `layouts.Clock`)
+                found = ROW_OF_TABLE.findall(re.sub(r"\b[a-z]+\.(?=[A-Z])", "", " ".join(body.split())))
                 here = {number: (name, unit, lists.get(of, "") + shape) for of, unit, number, name, shape in found}
                 tables |= {table: here} if here else {}
         return tables

@@ -16,9 +16,9 @@ import families  # noqa: E402
 import pages  # noqa: E402
 
 # Files of the small tree below that have no list of attribute sets.
-UNLISTED = "README.md docs/CLAIMS.md docs/CALLING.md docs/DIFFERENCES.md crates/refusals/stdin runs/debug/".split()
-families.LISTS = [it for it in families.LISTS if it[0] not in UNLISTED]
-LISTED = dict(families.LISTS)
+UNLISTED = "README.md crates/refusals/stdin runs/debug/".split()
+families.LISTS, families.COVERED = ([it for it in them if it[0] not in UNLISTED] for them in (families.LISTS, families.COVERED))
+LISTED = {path: pattern for path, pattern, *_ in families.LISTS + families.COVERED}
 
 # The lines of these pages are named in the cases.
 PAGE = """\
@@ -130,8 +130,9 @@ FAMILIES = """\
             Dsa   "dsa"   InfoDsa  0  InfoKind (b"dsa")
             Vlan  "vlan"  InfoVlan 1  BridgeAttribute (IFLA_VLAN)
 """
-LIB, SPEC, REFUSED = "crates/pairs/src/lib.rt", "crates/pairs/specs/Pair.antt", "extra/c_refusals.c"
+LIB, SPEC, MAN = "crates/pairs/src/lib.rt", "crates/pairs/specs/Pair.antt", "docs/nlroute.1"
 HEADER, RUN = "crates/nlroute_ffi/include/nlroute.h", "runs/plain/more/vlan"
+LINKS = "crates/nlroute_ffi/examples/links.c"
 ROUTE = "crates/netlink_packet_route"
 TREE = {
     "README.md": PAGE,
@@ -153,8 +154,9 @@ TREE = {
     f"{ROUTE}/specs/Family.antt": "use Rattle.link_pairs.specs.Pair.{pair_table}\n",
     f"{ROUTE}/specs/Lib.antt": "pub use Rattle.link_pairs.specs.Pair\n",
     HEADER: "enum {\n    NLROUTE_DSA = 0,\n    NLROUTE_VLAN = 1 /* last */\n};\n",
-    REFUSED: 'names[2] = {"dsa", "vlan"};\nwhile (family < 2) continue;\n',
+    MAN: ".TP\n.BR dsa \", \" vlan\n",
     "runs/plain/lists": "program: nlshow\n\n# Lists\n> dsa 00\ndsa 00\n\n> check dsa\n< message 00\n< tap\n> tap\n",
+    LINKS: '{"dsa", NLROUTE_DSA},\n',
     RUN: "program: nlshow\n\n> vlan 00\n",
     "runs/plain/other": "program: nlroute\n\n< dsa 00\n",
     "runs/debug/other": "# dsa 00\nprogram: nlshow\n\n",
@@ -168,7 +170,7 @@ NO_CLAUSE = "15: no .rt file has the clause `{}`"
 NO_PROMISE = "{}: no contract of `{}` has the clause {} as the page has it"
 NOT_COUNT = "{} is not the count of {}"
 IN_CODE, IN_TABLE = "{}: src/ has no row `{}`, but {}", "{}: row {} is `{}`"
-NO_SET = "1: the list does not have vlan as families! has it: no text is as {}"
+NO_SET = "1: it does not have vlan as families! has it: no text is as {}"
 # For each file that is changed: its old text, the new one, and what is then found. If the page of a finding is not
 # named, it is README.md.
 CASES = [
@@ -234,15 +236,13 @@ CASES = [
     ("bench/README.md", "", "word " * 601, "bench/README.md:1: the page has 601 words, and its budget is 600"),
     ("docs/NEW.md", "", "# New\n", "docs/NEW.md:1: the page has no budget in tools/pages.py"),
     (HEADER, "NLROUTE_VLAN = 1", "NLROUTE_VLAN = 2", f"{HEADER}:{NO_SET.format(LISTED[HEADER])}"),
-    (REFUSED, '"vlan"', '"van"', f"{REFUSED}:{NO_SET.format(LISTED[REFUSED])}"),
-    (REFUSED, '"dsa", "vlan"', '"vlan", "dsa"', f"{REFUSED}:1: vlan is not in the order of families!"),
-    (REFUSED, "family < 2", "family < 3", f"{REFUSED}:2: 3 is not the number of attribute sets, which is 2"),
+    (MAN, "vlan", "van", f"{MAN}:{NO_SET.format(LISTED[MAN])}"),
+    (LINKS, '"dsa", NLROUTE_DSA', '"dsa", NLROUTE_VLAN', f"{LINKS}:{NO_SET.format(LISTED[LINKS])}".replace("vlan", "dsa")),
     (RUN, "> vlan 00", "> vlan zz", f"runs/plain/:{NO_SET.format(LISTED['runs/plain/'])}"),
     (f"{ROUTE}/src/family.rt", "1  Bridge", "2  Bridge",
      f"{ROUTE}/src/family.rt:1: the numbers of attribute sets do not go from 0 in order", f"{HEADER}:{NO_SET.format(LISTED[HEADER])}"),
     (f"{ROUTE}/src/family.rt", FAMILIES, "\n", f"{ROUTE}/src/family.rt:1: there is no list of attribute sets",
-     "25: `<!-- count: lists of plain -->` does not name a count",
-     f"{REFUSED}:1: 2 is not the number of attribute sets, which is 0", f"{REFUSED}:2: 2 is not the number of attribute sets, which is 0"),
+     "25: `<!-- count: lists of plain -->` does not name a count"),
     (f"{ROUTE}/specs/Lib.antt", "specs.Pair", "specs.Pairs",
      f"{ROUTE}/specs/Lib.antt:1: it does not hand on Rattle.link_pairs.specs.Pair, which {ROUTE}/specs/Family.antt uses"),
 ]

@@ -1,9 +1,9 @@
 //! Folds the contents of attributes into a number, so that the compiler can leave none out.
 
 use link_base::Attribute;
-use link_base::attribute_set::{AttributeSet, ElementSet, Set};
-use link_base::content::Content;
-use link_base::view::{Value, View};
+use link_base::views::attribute_set::{AttributeSet, ElementSet, Set};
+use link_base::views::content::Content;
+use link_base::views::view::{Value, View};
 
 /// An attribute whose nested list, if it has one, is folded too.
 trait Nested {
@@ -48,6 +48,7 @@ fn folded<N: Nested>(attribute: &N, content: Content<'_>) -> u64 {
         Content::Nothing => 0,
         Content::Bool(flag) => u64::from(flag),
         Content::Unsigned { number, .. } => number,
+        Content::Coded { number, .. } => number,
         Content::Signed(number) => u64::from(number.cast_unsigned()),
         Content::Enum { number, .. } => number,
         Content::Flags { bits, .. } => bits,
@@ -59,7 +60,7 @@ fn folded<N: Nested>(attribute: &N, content: Content<'_>) -> u64 {
         Content::Ipv4(address) => u64::from(address.to_bits()),
         Content::Ipv6(address) => folded_words(&address.octets()),
         Content::Bytes(bytes) => folded_bytes(bytes),
-        Content::Struct(bytes) => folded_bytes(bytes),
+        Content::Struct { bytes, .. } => folded_bytes(bytes),
         Content::U16s(bytes) => folded_halves(bytes),
         Content::U32s(bytes) => folded_words(bytes),
         Content::Limits { name, numbers } => {
@@ -67,7 +68,7 @@ fn folded<N: Nested>(attribute: &N, content: Content<'_>) -> u64 {
         }
         Content::Addresses { list, size: 16 } => folded_ipv6(list),
         Content::Addresses { list, .. } => folded_ipv4(list),
-        Content::List(_) => attribute.folded_elements(),
+        Content::List { .. } => attribute.folded_elements(),
         Content::Other(bytes) => folded_bytes(bytes),
     }
 }

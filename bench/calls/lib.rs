@@ -7,7 +7,7 @@ mod folding;
 mod tests;
 
 use crate::folding::folded_list;
-use link_base::viewing::view_list;
+use link_base::views::viewing::view_list;
 use link_base::{Attribute, ListError, check_list, read_list};
 use netlink_packet_route::{Family, by_family};
 use std::alloc::Global;

@@ -19,8 +19,8 @@ enum { MOST = 1 << 17, PAGE = 1 << 12, ROOM = 1 << 22, LENT = 0xA5, TEXTS = 64 }
 /* Ends of rooms for lists, texts, lent buffers and values, the start of one for lists, and room for two rewritings. */
 static uint8_t *list_end, *odd_start, *text_end, *lent_end, *values_end, *once, *twice;
 
-/* The attribute set, and the list or the bytes that values refer to. */
-static uint32_t family;
+/* How many attribute sets there are, the one at hand, and the list or the bytes that values refer to. */
+static uint32_t families, family;
 static const uint8_t *bytes;
 static size_t len;
 
@@ -41,6 +41,7 @@ int LLVMFuzzerInitialize(int *argc, char ***argv) {
     list_end = room_end(), odd_start = room_end() - ROOM, text_end = room_end(), lent_end = room_end();
     values_end = room_end(), once = malloc(MOST + 4), twice = malloc(MOST + 4);
     must(once && twice, "there is memory");
+    while (nlroute_count(families, list_end, 0) == 0) families++;
     return 0;
 }
 
@@ -213,7 +214,7 @@ static void reported(ptrdiff_t answer, bool same) {
 
 int LLVMFuzzerTestOneInput(const uint8_t *data, size_t size) {
     if (size == 0 || size - 1 > MOST) return 0;
-    family = data[0] % 10;
+    family = (data[0] & 0x7F) % families;
     if (data[0] & 0x80) return any_values(data + 1, size - 1), 0;
     len = size - 1, bytes = memcpy(list_end - len, data + 1, len);
     uint8_t *odd = memcpy(odd_start + !((uintptr_t)bytes & 1), bytes, len);

@@ -147,12 +147,13 @@ fn written(input: &Input) -> Result<Result<Vec<u8>, WriteError>, Fault> {
             let timing = CanBitTiming { bitrate: number, sample_point: 875, ..CanBitTiming::default() };
             list.set(IFLA_CAN_BITTIMING, timing).push(IFLA_CAN_RESTART_MS, number);
         }),
-        Family::AfSpecBridge => changed::<AfSpecBridge>(input, |_| ()),
-        Family::BondPort => changed::<BondPort>(input, |_| ()),
-        Family::BridgePort => changed::<BridgePort>(input, |_| ()),
-        Family::Dsa => changed::<Dsa>(input, |_| ()),
-        Family::Hsr => changed::<Hsr>(input, |_| ()),
-        _ => changed::<ProtoBridge>(input, |_| ()),
+        family => {
+            let mut bytes = input.bytes.clone();
+            bytes.resize((bytes.len() + 3) / 4 * 4, 0);
+            bytes.extend([8, 0, 99, 0x80]);
+            bytes.extend(number.to_le_bytes());
+            Ok(List::read_any(family, &bytes)?.to_bytes())
+        }
     }
 }
 

@@ -1,8 +1,8 @@
 //! Errors of reading and writing.
 
 use crate::kinds::{refusal, refusal_text};
-use crate::scope::Family;
 use crate::sys::{self, RawFault};
+use crate::Family;
 use std::fmt;
 
 /// Reports why a list cannot be read or written. Both other errors convert to it, so `?` serves in a function that does

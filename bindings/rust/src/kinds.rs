@@ -1,5 +1,5 @@
 //! Attribute types as keys, and the enums and sets of flags of their values. Written by bindings/generate.py.
-use crate::macros::{elements, flags, named, scope};
+use crate::macros::{elements, families, flags, named, scope};
 use crate::*;
 use std::net::{Ipv4Addr, Ipv6Addr};
 
@@ -63,6 +63,29 @@ pub(crate) fn refusal_text(code: isize) -> &'static str {
         refusal::BAD_OCTETS => "the bytes of the value are not in the input, or have a wrong length",
         _ => "unknown error",
     }
+}
+
+families! {
+    /// Names `IFLA_AF_SPEC` in `AF_BRIDGE` messages.
+    AfSpecBridge = 0, "af_spec_bridge";
+    /// Names `IFLA_INFO_DATA` of a bond.
+    Bond = 1, "bond";
+    /// Names `IFLA_INFO_SLAVE_DATA` of a bond port.
+    BondPort = 2, "bond_port";
+    /// Names `IFLA_INFO_DATA` of a bridge.
+    Bridge = 3, "bridge";
+    /// Names `IFLA_INFO_SLAVE_DATA` of a bridge port.
+    BridgePort = 4, "bridge_port";
+    /// Names `IFLA_INFO_DATA` of a VLAN device.
+    Vlan = 5, "vlan";
+    /// Names `IFLA_INFO_DATA` of a CAN controller.
+    Can = 6, "can";
+    /// Names `IFLA_INFO_DATA` of a DSA port.
+    Dsa = 7, "dsa";
+    /// Names `IFLA_INFO_DATA` of an HSR or PRP device.
+    Hsr = 8, "hsr";
+    /// Names `IFLA_PROTINFO` in `AF_BRIDGE` messages: attribute type 45 only.
+    ProtoBridge = 9, "proto_bridge";
 }
 
 named! {
@@ -316,7 +339,7 @@ named! {
 
 scope! {
     /// Represents the attribute set [`Family::AfSpecBridge`] in types.
-    AfSpecBridge = 0;
+    AfSpecBridge;
 }
 
 /// Selects `IFLA_BRIDGE_FLAGS` of [`AfSpecBridge`] (`include/uapi/linux/if_bridge.h`).
@@ -340,7 +363,7 @@ pub const IFLA_BRIDGE_VLAN_TUNNEL_FLAGS: Key<BridgeVlanTunnelInfo, BridgeVlanFla
 
 scope! {
     /// Represents the attribute set [`Family::Bond`] in types.
-    Bond = 1;
+    Bond;
 }
 
 /// Selects `IFLA_BOND_MODE` of [`Bond`] (`include/uapi/linux/if_link.h`).
@@ -428,7 +451,7 @@ pub const IFLA_BOND_LACP_STRICT: Key<Bond, bool> = Key::new(34);
 
 scope! {
     /// Represents the attribute set [`Family::BondPort`] in types.
-    BondPort = 2;
+    BondPort;
 }
 
 /// Selects `IFLA_BOND_SLAVE_STATE` of [`BondPort`] (`include/uapi/linux/if_link.h`).
@@ -458,7 +481,7 @@ pub const IFLA_BOND_SLAVE_AD_CHURN_PARTNER_STATE: Key<BondPort, ChurnState> = Ke
 
 scope! {
     /// Represents the attribute set [`Family::Bridge`] in types.
-    Bridge = 3;
+    Bridge;
 }
 
 /// Selects `IFLA_BR_FORWARD_DELAY` of [`Bridge`] (`include/uapi/linux/if_link.h`). 100 is printed as `100 (1.00 s)`.
@@ -589,7 +612,7 @@ pub const IFLA_BR_STP_MODE: Key<Bridge, BridgeStpMode> = Key::new(50);
 
 scope! {
     /// Represents the attribute set [`Family::BridgePort`] in types.
-    BridgePort = 4;
+    BridgePort;
 }
 
 /// Selects `IFLA_BRPORT_STATE` of [`BridgePort`] (`include/uapi/linux/if_link.h`).
@@ -689,7 +712,7 @@ pub const IFLA_BRPORT_NEIGH_FORWARD_GRAT: Key<BridgePort, bool> = Key::new(45);
 
 scope! {
     /// Represents the attribute set [`Family::Vlan`] in types.
-    Vlan = 5;
+    Vlan;
 }
 
 /// Selects `IFLA_VLAN_ID` of [`Vlan`] (`include/uapi/linux/if_link.h`).
@@ -705,14 +728,14 @@ pub const IFLA_VLAN_PROTOCOL: Key<Vlan, VlanProtocol> = Key::new(5);
 
 scope! {
     /// Represents the attribute set [`Family::Can`] in types.
-    Can = 6;
+    Can;
 }
 
 /// Selects `IFLA_CAN_BITTIMING` of [`Can`] (`include/uapi/linux/can/netlink.h`).
 pub const IFLA_CAN_BITTIMING: Key<Can, CanBitTiming> = Key::new(1);
 /// Selects `IFLA_CAN_BITTIMING_CONST` of [`Can`] (`include/uapi/linux/can/netlink.h`).
 pub const IFLA_CAN_BITTIMING_CONST: Key<Can, CanBitTimingConst> = Key::new(2);
-/// Selects `IFLA_CAN_CLOCK` of [`Can`] (`include/uapi/linux/can/netlink.h`). 100 is printed as `freq 100`.
+/// Selects `IFLA_CAN_CLOCK` of [`Can`] (`include/uapi/linux/can/netlink.h`). 100 is printed as `freq 100 Hz`.
 pub const IFLA_CAN_CLOCK: Key<Can, u32> = Key::new(3);
 /// Selects `IFLA_CAN_STATE` of [`Can`] (`include/uapi/linux/can/netlink.h`).
 pub const IFLA_CAN_STATE: Key<Can, CanState> = Key::new(4);
@@ -773,7 +796,7 @@ pub const IFLA_CAN_CTRLMODE_SUPPORTED: Key<CanCtrlmodeExt, CanCtrlMode> = Key::n
 
 scope! {
     /// Represents the attribute set [`Family::Dsa`] in types.
-    Dsa = 7;
+    Dsa;
 }
 
 /// Selects `IFLA_DSA_CONDUIT` of [`Dsa`] (`include/uapi/linux/if_link.h`). 100 is printed as `ifindex 100`.
@@ -781,7 +804,7 @@ pub const IFLA_DSA_CONDUIT: Key<Dsa, u32> = Key::new(1);
 
 scope! {
     /// Represents the attribute set [`Family::Hsr`] in types.
-    Hsr = 8;
+    Hsr;
 }
 
 /// Selects `IFLA_HSR_SLAVE1` of [`Hsr`] (`include/uapi/linux/if_link.h`). 100 is printed as `ifindex 100`.
@@ -803,7 +826,7 @@ pub const IFLA_HSR_INTERLINK: Key<Hsr, u32> = Key::new(8);
 
 scope! {
     /// Represents the attribute set [`Family::ProtoBridge`] in types.
-    ProtoBridge = 9;
+    ProtoBridge;
 }
 
 /// Has the keys of [`ProtoBridge`], of which other sets have some with the same names.

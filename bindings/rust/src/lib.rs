@@ -81,7 +81,7 @@ pub use error::{Cause, Code, Error, Fault, ParseMacError, Place, WriteError};
 pub use field::Field;
 pub use kinds::*;
 pub use list::{find, find_in, List, Nested};
-pub use scope::{Any, Family, Key, Scope, Set};
+pub use scope::{Any, Key, Scope, Set};
 pub use types::{BerrCounter, BridgeId, CanBitTiming, CanBitTimingConst, Mac, Masked, QosMapping, VlanInfo};
 pub use value::{Content, Iter, Value};
 

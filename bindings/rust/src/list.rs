@@ -3,9 +3,10 @@
 use crate::error::{Fault, WriteError};
 use crate::field::{Field, Store};
 use crate::kinds::form;
-use crate::scope::{Any, Family, Key, Scope, Set};
+use crate::scope::{Any, Key, Scope, Set};
 use crate::sys::{self, Raw};
 use crate::value::{Iter, Value};
+use crate::Family;
 use std::borrow::Cow;
 use std::fmt;
 use std::marker::PhantomData;

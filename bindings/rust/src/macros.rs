@@ -1,4 +1,37 @@
-//! Macros by which kinds.rs defines enums, sets of flags and scopes.
+//! Macros by which kinds.rs defines attribute sets, enums, sets of flags and scopes.
+
+/// Defines the attribute sets, with their numbers in the library.
+macro_rules! families {
+    ($($(#[$doc:meta])* $family:ident = $number:literal, $name:literal;)*) => {
+        /// Names an attribute set at run time.
+        ///
+        /// The kind of a link (`IFLA_INFO_KIND`) and the attribute that holds the list determine it. A type implements
+        /// [`Set`] for each, of the same name.
+        #[derive(Clone, Copy, Debug, PartialEq, Eq, Hash, PartialOrd, Ord)]
+        #[non_exhaustive]
+        pub enum Family {
+            $($(#[$doc])* $family = $number,)*
+        }
+
+        impl Family {
+            /// Lists all attribute sets.
+            pub const ALL: [Family; [$($number),*].len()] = [$(Family::$family),*];
+
+            /// Returns the name that `nlshow` uses, such as `bond_port`.
+            pub fn name(self) -> &'static str {
+                match self {
+                    $(Family::$family => $name,)*
+                }
+            }
+
+            /// Returns the attribute set that has a [`name`](Family::name), or `None`. For sets in `IFLA_INFO_DATA`,
+            /// this is the name in `IFLA_INFO_KIND`.
+            pub fn from_name(name: &str) -> Option<Family> {
+                Family::ALL.into_iter().find(|family| family.name() == name)
+            }
+        }
+    };
+}
 
 /// Defines an enum of the kernel: a number, of which some have names.
 macro_rules! named {
@@ -151,7 +184,7 @@ macro_rules! flags {
 
 /// Defines the type of an attribute set.
 macro_rules! scope {
-    ($(#[$doc:meta])* $type:ident = $number:literal;) => {
+    ($(#[$doc:meta])* $type:ident;) => {
         $(#[$doc])*
         #[derive(Clone, Copy, Debug)]
         pub enum $type {}
@@ -162,9 +195,6 @@ macro_rules! scope {
         }
         impl $crate::Scope for $type {}
         impl $crate::Set for $type {}
-
-        // The library has this number for the set.
-        const _: () = assert!($crate::Family::$type as u32 == $number);
     };
 }
 
@@ -183,4 +213,4 @@ macro_rules! elements {
     };
 }
 
-pub(crate) use {elements, flags, named, scope};
+pub(crate) use {elements, families, flags, named, scope};

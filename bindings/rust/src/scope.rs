@@ -1,75 +1,8 @@
-//! Attribute sets, as numbers and as types, and keys.
+//! Attribute sets as types, and keys.
 
+use crate::Family;
 use std::fmt;
 use std::marker::PhantomData;
-
-/// Names an attribute set at run time.
-///
-/// The kind of a link (`IFLA_INFO_KIND`) and the attribute that holds the list determine it. A type implements [`Set`]
-/// for each, of the same name.
-#[derive(Clone, Copy, Debug, PartialEq, Eq, Hash, PartialOrd, Ord)]
-#[non_exhaustive]
-pub enum Family {
-    /// Names `IFLA_AF_SPEC` of a bridge or its port, in an `AF_BRIDGE` message.
-    AfSpecBridge = 0,
-    /// Names `IFLA_INFO_DATA` of a bond.
-    Bond = 1,
-    /// Names `IFLA_INFO_SLAVE_DATA` of a port of a bond.
-    BondPort = 2,
-    /// Names `IFLA_INFO_DATA` of a bridge.
-    Bridge = 3,
-    /// Names `IFLA_INFO_SLAVE_DATA` of a bridge port.
-    BridgePort = 4,
-    /// Names `IFLA_INFO_DATA` of a VLAN device.
-    Vlan = 5,
-    /// Names `IFLA_INFO_DATA` of a CAN controller.
-    Can = 6,
-    /// Names `IFLA_INFO_DATA` of a DSA port.
-    Dsa = 7,
-    /// Names `IFLA_INFO_DATA` of an HSR or PRP device.
-    Hsr = 8,
-    /// Names `IFLA_PROTINFO` of a bridge port, in an `AF_BRIDGE` message. It knows attribute type 45 only; read the
-    /// list as [`Family::BridgePort`] for all others.
-    ProtoBridge = 9,
-}
-
-impl Family {
-    /// Lists all attribute sets.
-    pub const ALL: [Family; 10] = [
-        Family::AfSpecBridge,
-        Family::Bond,
-        Family::BondPort,
-        Family::Bridge,
-        Family::BridgePort,
-        Family::Vlan,
-        Family::Can,
-        Family::Dsa,
-        Family::Hsr,
-        Family::ProtoBridge,
-    ];
-
-    /// Returns the name that `nlshow` uses, such as `bond_port`.
-    pub fn name(self) -> &'static str {
-        match self {
-            Family::AfSpecBridge => "af_spec_bridge",
-            Family::Bond => "bond",
-            Family::BondPort => "bond_port",
-            Family::Bridge => "bridge",
-            Family::BridgePort => "bridge_port",
-            Family::Vlan => "vlan",
-            Family::Can => "can",
-            Family::Dsa => "dsa",
-            Family::Hsr => "hsr",
-            Family::ProtoBridge => "proto_bridge",
-        }
-    }
-
-    /// Returns the attribute set that has a [`name`](Family::name), or `None`. For sets in `IFLA_INFO_DATA`, this is the
-    /// name in `IFLA_INFO_KIND`.
-    pub fn from_name(name: &str) -> Option<Family> {
-        Family::ALL.into_iter().find(|family| family.name() == name)
-    }
-}
 
 /// Describes a scope to the crate. No other crate can implement it.
 pub trait Described {

@@ -2,9 +2,9 @@
 
 use crate::field::Stored;
 use crate::kinds::form;
-use crate::scope::Family;
 use crate::sys::{self, Raw};
 use crate::types::{BerrCounter, BridgeId, CanBitTiming, CanBitTimingConst, Mac, Masked, QosMapping, VlanInfo};
+use crate::Family;
 use std::fmt;
 use std::iter::FusedIterator;
 use std::net::{Ipv4Addr, Ipv6Addr};

@@ -63,21 +63,22 @@ fn lists_are_written_as_nlroute_rewrite_writes_them() {
 
 #[test]
 fn lists_of_the_benchmarks_are_written_unchanged() {
-    let families = [
-        ("bond", Family::Bond),
-        ("bond_port12", Family::BondPort),
-        ("bridge", Family::Bridge),
-        ("bridge_port", Family::BridgePort),
-        ("can", Family::Can),
-        ("dsa1", Family::Dsa),
-        ("hsr8", Family::Hsr),
-    ];
-    for (name, family) in families {
-        let digits = std::fs::read_to_string(in_repository(&format!("bench/lists/{name}.hex"))).expect("it is there");
+    // the first line has titles; each other one has the names of a list and of its set
+    let table = std::fs::read_to_string(in_repository("bench/original.tsv")).expect("it is there");
+    let rows = table.lines().skip(1).map(|line| line.split('\t').collect::<Vec<_>>());
+    let mut count = 0;
+    for row in rows {
+        let (name, family) = (row[0], Family::from_name(row[1]).expect("it is a set"));
+        let digits = match std::fs::read_to_string(in_repository(&format!("bench/lists/{name}.hex"))) {
+            Ok(digits) => digits,
+            Err(_) => continue, // make_lists.py makes this one
+        };
+        count += 1;
         let bytes = hex(&digits).expect("it has hex digits");
         let list = List::read_any(family, &bytes).expect("it is well-formed");
         assert_eq!(Ok(list.to_bytes().expect("all values fit")), rewritten(family, &bytes), "{name}");
     }
+    assert_eq!(count, 7);
 }
 
 /// Calls what takes bytes from elsewhere, and compares it with the C library.

@@ -5,7 +5,7 @@ ghost use Rattle.std.specs.List.{AllByRecursion};
 ghost use Rattle.link_base.specs.Table.{Gives, Fits, written_list};
 ghost use Rattle.link_base.specs.Wire.{Wire, FirstFault};
 
-use link_base::laws::{equality, fault_equality};
+use link_base::lists::laws::{equality, fault_equality};
 use netlink_packet_route::link::{Attribute, ListError, ListFault, read_list, write_list};
 use std::alloc::Global;
 

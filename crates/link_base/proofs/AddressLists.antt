@@ -6,8 +6,8 @@ use Rattle.std.proofs.lemmas.List.{length-map, length-take, append-nil}
 use Rattle.std.proofs.lemmas.Grind.{flat_map-append}
 use Rattle.std.proofs.lemmas.List.Elements.{filter-append}
 use Rattle.std.proofs.Math.Nat.{suc-mul, add-mul, mul-le-mul, mul-le-mul_right}
-use Rattle.link_base.specs.declared.fault.Cause.{Cause}
-use Rattle.link_base.specs.declared.fault.DecodeFault.TheVariants as faults
+use Rattle.link_base.specs.declared.wire.fault.Cause.{Cause}
+use Rattle.link_base.specs.declared.wire.fault.DecodeFault.TheVariants as faults
 use Rattle.link_base.specs.Frame.{BeginsWith, bare, frame_bytes, frame_fault, spelled, pad}
 use Rattle.link_base.specs.Wire.{whole}
 use Rattle.link_base.specs.Table.{Case, Listed, Addresses, PayloadGives, ShapeGives, of_length, addresses_from}

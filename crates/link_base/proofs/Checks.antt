@@ -1,9 +1,9 @@
 -- Checks: a length that is accepted or rejected; a list that is checked one attribute at a time; lists in payloads.
 use Rattle.std.proofs.Common.{◌≡◌, ℕ, ◌%◌, Bool, List, [], ◌∷◌, length, map, None, Some, Ok, Err, refl, sym, ap, ◌∙◌, inl, inr}
 use Rattle.std.specs.List.{AllZip, AllByRecursion}
-use Rattle.link_base.specs.declared.fault.Cause.{Cause}
-use Rattle.link_base.specs.declared.fault.DecodeFault.{DecodeFault}
-use Rattle.link_base.specs.declared.fault.DecodeFault.TheVariants as faults
+use Rattle.link_base.specs.declared.wire.fault.Cause.{Cause}
+use Rattle.link_base.specs.declared.wire.fault.DecodeFault.{DecodeFault}
+use Rattle.link_base.specs.declared.wire.fault.DecodeFault.TheVariants as faults
 use Rattle.link_base.specs.Class.{Extent, Multiple, Class, length_cause, unless, extent, meant}
 use Rattle.link_base.specs.Frame.{Frame}
 use Rattle.link_base.specs.Wire.{Wire, FirstFault, FaultsHere, FrameGives}

@@ -2,8 +2,8 @@
 use Rattle.std.proofs.Common.{◌≡◌, ℕ, ◌≤◌, List, [], ◌∷◌, length, map, None, Result, Ok, Err, refl, sym, ap, subst, ◌∙◌, arith, length-append}
 use Rattle.std.specs.List.{AllByRecursion}
 use Rattle.link_base.specs.Number.{IsBytes}
-use Rattle.link_base.specs.declared.fault.Cause.{Cause}
-use Rattle.link_base.specs.declared.fault.DecodeFault.{DecodeFault}
+use Rattle.link_base.specs.declared.wire.fault.Cause.{Cause}
+use Rattle.link_base.specs.declared.wire.fault.DecodeFault.{DecodeFault}
 use Rattle.link_base.specs.Frame.{Frame, Frames, pad, frame_bytes, spelled}
 use Rattle.link_base.specs.Class
 use Rattle.link_base.specs.Class.{Class, Value, class_value, written, extent, length_cause, meant}
@@ -13,7 +13,7 @@ use Rattle.link_base.specs.Held.{IsOctets, ContentInRange, ContentHidesNone, Con
 use Rattle.link_base.specs.Lawful.{IsReading}
 use Rattle.link_base.proofs.Cuts.{one_cut_lem}
 use Rattle.link_base.proofs.FrameBytes.{length-frame_bytes}
-use Rattle.link_base.proofs.Classes.{accepted_meaning, value_of_accepted, tidy_iff, written_short}
+use Rattle.link_base.proofs.ClassLemmas.{accepted_meaning, value_of_accepted, tidy_iff, written_short}
 use Rattle.link_base.proofs.Values.{meant_in_range, meant_canon, back, written_bytes, uncut_stays, cut_canonical, cut_again, length-cut}
 use Rattle.link_base.proofs.Readings.{ok, same_ok, ReadEach, reads_some, reads_one}
 use Rattle.link_base.proofs.Written.{AreFrames-complete, IsKnown, known_of, all_each, bytes-written, wire_written, uncut_each, are_read}

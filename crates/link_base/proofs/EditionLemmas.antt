@@ -1,13 +1,13 @@
 -- Two versions of a table agree on lists without attributes of the types that the second adds.
-use Rattle.std.proofs.Common.{◌≡◌, ℕ, Bool, true, false, not, cond, List, [], ◌∷◌, ◌++◌, Some, Result, Ok, Err, refl, sym, ap, subst, ◌∙◌, inl, inr, true≢false, append_assoc}
+use Rattle.std.proofs.Common.{◌≡◌, ℕ, Bool, true, false, not, cond, List, [], ◌∷◌, ◌++◌, Some, option_map, Result, Ok, Err, refl, sym, ap, subst, ◌∙◌, inl, inr, true≢false, append_assoc}
 use Rattle.std.specs.Prelude.{◌==◌}
 use Rattle.std.specs.List.{AllByRecursion}
 use Rattle.std.proofs.lemmas.Bool.{cond_both, cond-false, eqb-true}
-use Rattle.link_base.specs.declared.fault.DecodeFault.{DecodeFault}
+use Rattle.link_base.specs.declared.wire.fault.DecodeFault.{DecodeFault}
 use Rattle.link_base.specs.Frame.{Frame, IsComplete, AreFrames, kind_of, frame_bytes, spelled}
 use Rattle.link_base.specs.Class.{is_listed}
 use Rattle.link_base.specs.Wire.{Reading, FaultsHere, Reads, IsCanonicalFrame, CanonicalBy}
-use Rattle.link_base.specs.Table.{Row, class_at, Table, AttrValue, GivesBy, Gives, allows_by, Allows}
+use Rattle.link_base.specs.Table.{Row, row_at, class_at, Table, AttrValue, GivesBy, Gives, allows_by, Allows}
 use Rattle.link_base.specs.Editions.{among, without, kinds_of, StandsIn, AreEditions}
 use Rattle.link_base.proofs.Cuts.{IsFrame-complete, AreFrames-head}
 use Rattle.link_base.proofs.Readings.{ReadEach, HaveValues}
@@ -22,13 +22,16 @@ other_kind kinds j k h e true is =
     absurd (true≢false (sym (ap not h) ∙ sym listed ∙ e))
 
 -- an attribute type that is not listed keeps its row
-same_row : {C : Type 0} (kinds : List ℕ) (rows : List (Row C)) (k : ℕ) → is_listed kinds k ≡ false → class_at (without kinds rows) k ≡ class_at rows k
-same_row kinds [] k h = refl
-same_row kinds (r ∷ rows) k h =
-    let later = same_row kinds rows k h in
-    cond_both (not (is_listed kinds r.kind)) (r ∷ without kinds rows) (without kinds rows) (λ t. class_at t k ≡ class_at (r ∷ rows) k)
-    (λ kept. ap (λ o. cond (r.kind == k) (Some r.class) o) later)
+keeps_row : {C : Type 0} (kinds : List ℕ) (rows : List (Row C)) (k : ℕ) → is_listed kinds k ≡ false → row_at (without kinds rows) k ≡ row_at rows k
+keeps_row kinds [] k h = refl
+keeps_row kinds (r ∷ rows) k h =
+    let later = keeps_row kinds rows k h in
+    cond_both (not (is_listed kinds r.kind)) (r ∷ without kinds rows) (without kinds rows) (λ t. row_at t k ≡ row_at (r ∷ rows) k)
+    (λ kept. ap (λ o. cond (r.kind == k) (Some r) o) later)
     (λ dropped. later ∙ sym (cond-false (r.kind == k) _ _ (other_kind kinds r.kind k h dropped (r.kind == k) refl)))
+
+same_row : {C : Type 0} (kinds : List ℕ) (rows : List (Row C)) (k : ℕ) → is_listed kinds k ≡ false → class_at (without kinds rows) k ≡ class_at rows k
+same_row kinds rows k h = ap (λ o. option_map (λ r. r.class) o) (keeps_row kinds rows k h)
 
 -- ---- frames
 

@@ -1,8 +1,8 @@
 -- Nested lists: their attributes decode, by the table of the nested list.
 use Rattle.std.proofs.Common.{◌≡◌, ℕ, Bool, List, [], ◌∷◌, map, Option, Some, None, Result, Ok, Err, Bor, sym, ap, subst, ◌∙◌}
 use Rattle.std.specs.List.{AllZip}
-use Rattle.link_base.specs.declared.content.Content.TheVariants as borrowed
-use Rattle.link_base.specs.declared.fault.DecodeFault.{DecodeFault}
+use Rattle.link_base.specs.declared.views.content.Content.TheVariants as borrowed
+use Rattle.link_base.specs.declared.wire.fault.DecodeFault.{DecodeFault}
 use Rattle.link_base.specs.Class.{Class, Unsigned, Signed, Truth, Octets, Bytes, Many, Named, Protocol, Low, Empty, Limits, class_value}
 use Rattle.link_base.specs.Frame.{Frame, kind_of}
 use Rattle.link_base.specs.Wire.{Reads}
@@ -39,27 +39,27 @@ lifted_list : (rows : Rows) (flagged : Bool) (k : ℕ) (p : List ℕ) (v : AttrV
 lifted_list rows flagged k p v (Err e) h is = absurd cc
 lifted_list rows flagged k p v (Ok vs) h is = record { values = map lift vs; wire = record { frames = h.frames; string = h.string; values = lifted_each rows h.frames vs h.values } }
 
-no_list : (c : Class) (p : List ℕ) (bytes : Bor (List ℕ)) → Borrows (Some (One c)) p (borrowed.List bytes) → ⊥
-no_list (Unsigned n) p bytes h = h
-no_list Signed p bytes h = h
-no_list Truth p bytes h = h
-no_list (Octets e) p bytes h = h
-no_list Bytes p bytes h = h
-no_list (Many n) p bytes h = h
-no_list (Named n listed) p bytes h = h
-no_list Protocol p bytes h = h
-no_list Low p bytes h = h
-no_list Empty p bytes h = h
-no_list Limits p bytes h = h
+no_list : (c : Class) (p : List ℕ) (bytes : Bor (List ℕ)) (told : Bool) → Borrows (Some (One c)) p (borrowed.List bytes told) → ⊥
+no_list (Unsigned n) p bytes told h = h
+no_list Signed p bytes told h = h
+no_list Truth p bytes told h = h
+no_list (Octets e) p bytes told h = h
+no_list Bytes p bytes told h = h
+no_list (Many n) p bytes told h = h
+no_list (Named n listed) p bytes told h = h
+no_list Protocol p bytes told h = h
+no_list Low p bytes told h = h
+no_list Empty p bytes told h = h
+no_list Limits p bytes told h = h
 
-list_by : (o : Option Shape) (f : ℕ) (p : List ℕ) (v : AttrValue) (bytes : Bor (List ℕ)) → GivesBy o f p (Ok v) → Borrows o p (borrowed.List bytes) → Decodes (elements_by o) bytes.now
-list_by None f p v bytes given h = absurd h
-list_by (Some (One c)) f p v bytes given h = absurd (no_list c p bytes h)
-list_by (Some (Addresses n)) f p v bytes given h = absurd h
-list_by (Some (Nested flagged rows)) f p v bytes given h =
+list_by : (o : Option Shape) (f : ℕ) (p : List ℕ) (v : AttrValue) (bytes : Bor (List ℕ)) (told : Bool) → GivesBy o f p (Ok v) → Borrows o p (borrowed.List bytes told) → Decodes (elements_by o) bytes.now
+list_by None f p v bytes told given h = absurd h
+list_by (Some (One c)) f p v bytes told given h = absurd (no_list c p bytes told h)
+list_by (Some (Addresses n)) f p v bytes told given h = absurd h
+list_by (Some (Nested flagged rows)) f p v bytes told given h =
     subst (Decodes (lift_table rows)) (sym h) (lifted_list rows flagged (kind_of f) p v given.0 given.1 given.2)
 
 -- the attributes of a nested list that decodes
-pub elements_decode : (table : Table) (f : ℕ) (p : List ℕ) (bytes : Bor (List ℕ)) → HasValue table f p → Borrows (class_at table (kind_of f)) p (borrowed.List bytes)
+pub elements_decode : (table : Table) (f : ℕ) (p : List ℕ) (bytes : Bor (List ℕ)) (told : Bool) → HasValue table f p → Borrows (class_at table (kind_of f)) p (borrowed.List bytes told)
     → HasValues (elements_at table (kind_of f)) bytes.now
-elements_decode table f p bytes has h none = has (λ v. none (list_by (class_at table (kind_of f)) f p v.0 bytes v.1 h))
+elements_decode table f p bytes told has h none = has (λ v. none (list_by (class_at table (kind_of f)) f p v.0 bytes told v.1 h))

@@ -5,7 +5,7 @@ use Rattle.std.proofs.lemmas.Bool.{cond-false, ltb-false, le-ltb}
 use Rattle.link_base.proofs.FrameAtFront.{begins_by, begins_with, splits, step_of}
 use Rattle.link_base.specs.Number.{IsBytes, number}
 use Rattle.link_base.specs.Frame.{Frame, BeginsWith, bare, IsFrame, IsComplete, frame_bytes, pad, frame_fault}
-use Rattle.link_base.specs.declared.fault.Cause.{Cause}
+use Rattle.link_base.specs.declared.wire.fault.Cause.{Cause}
 
 -- the concatenation of bytes consists of bytes
 pub bytes-append : (xs ys : List ℕ) → IsBytes xs → IsBytes ys → IsBytes (xs ++ ys)

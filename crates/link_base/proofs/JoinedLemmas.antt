@@ -1,7 +1,7 @@
 -- The concatenation of two lists, if the first decodes and its length is a multiple of four.
 use Rattle.std.proofs.Common.{◌≡◌, ℕ, ◌+◌, ◌-◌, ◌%◌, ◌≤◌, List, [], ◌∷◌, ◌++◌, length, Ok, sym, ap, ap₂, ◌∙◌, arith, append_assoc, length-append}
 use Rattle.std.specs.List.{AllByRecursion}
-use Rattle.link_base.specs.declared.fault.DecodeFault.{DecodeFault}
+use Rattle.link_base.specs.declared.wire.fault.DecodeFault.{DecodeFault}
 use Rattle.link_base.specs.Frame.{Frame, IsComplete, AreFrames, frame_bytes, spelled, pad}
 use Rattle.link_base.specs.Wire.{Reading, FrameGives, Wire, FirstFault}
 use Rattle.link_base.proofs.FrameBytes.{length-frame_bytes, length-complete}

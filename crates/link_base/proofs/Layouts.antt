@@ -1,30 +1,32 @@
 -- Consecutive numbers of one width, parsed and written one at a time.
-use Rattle.std.proofs.Common.{◌≡◌, ℕ, zero, suc, ◌+◌, ◌-◌, ◌*◌, ◌≤◌, ◌<◌, List, [], ◌∷◌, ◌++◌, length, take, drop, get_or, sym, ap, ap₂, subst, ◌∙◌, arith, length-append, drop-drop}
+use Rattle.std.proofs.Common.{◌≡◌, ℕ, zero, suc, ◌+◌, ◌-◌, ◌*◌, ◌≤◌, ◌<◌, List, [], ◌∷◌, ◌++◌, length, map, take, drop, get_or, sym, ap, ap₂, subst, ◌∙◌, arith, length-append, drop-drop}
 use Rattle.std.proofs.Math.Nat.{mul-suc}
 use Rattle.std.proofs.Math.Seq.{take-add}
-use Rattle.std.proofs.lemmas.List.{append-nil, take_more, take-append-drop, length-take}
+use Rattle.std.proofs.lemmas.List.{append-nil, map-append, take_all, take_more, take-append-drop, length-take}
 use Rattle.std.proofs.lemmas.Grind.{flat_map-append}
+use Rattle.std.proofs.lemmas.List.Folds.{flat_map-map}
 use borrow.Rule.Slice.PartMut.{put_mid}
-use Rattle.link_base.specs.Number.{bytes_of}
+use Rattle.link_base.specs.Number.{number, bytes_of}
 use Rattle.link_base.specs.Held.{IsOctets}
 use Rattle.link_base.specs.Answers.{OverwritesFront}
-use Rattle.link_base.specs.Layout.{number_at, numbers_at, octets_of}
+use Rattle.link_base.specs.Layout.{number_at, numbers_at, octets_of, octets_by}
 use Rattle.link_base.proofs.Numbers.{length-bytes_of, IsBytes-bytes_of}
 use Rattle.link_base.proofs.FrameBytes.{bytes-append}
 use Rattle.link_base.proofs.Emit.{frame_after}
 
 -- n numbers take `width * n` bytes, and are written as bytes
-pub IsOctets-numbers : (width : ℕ) (xs : List ℕ) → IsOctets (width * length xs) (octets_of width xs)
-IsOctets-numbers width [] = (omega arith, tt)
-IsOctets-numbers width (x ∷ xs) =
-    let rest = IsOctets-numbers width xs in (
-      omega (arith, length-append (bytes_of width x) (octets_of width xs), length-bytes_of width x, rest.0, mul-suc width (length xs)),
-      bytes-append (bytes_of width x) (octets_of width xs) (IsBytes-bytes_of width x) rest.1,
+pub IsOctets-numbers : {A : Type 0} (width : ℕ) (value : A → ℕ) (xs : List A) → IsOctets (width * length xs) (octets_by width value xs)
+IsOctets-numbers width value [] = (omega arith, tt)
+IsOctets-numbers width value (x ∷ xs) =
+    let first = bytes_of width (value x) in
+    let rest = IsOctets-numbers width value xs in (
+      omega (arith, length-append first (octets_by width value xs), length-bytes_of width (value x), rest.0, mul-suc width (length xs)),
+      bytes-append first (octets_by width value xs) (IsBytes-bytes_of width (value x)) rest.1,
     )
 
 -- the number of bytes of consecutive numbers
 pub numbers_len : (width : ℕ) (xs : List ℕ) → length (octets_of width xs) ≡ width * length xs
-numbers_len width xs = (IsOctets-numbers width xs).0
+numbers_len width xs = (IsOctets-numbers width (λ n. n) xs).0
 
 module _ (width : ℕ) where
   -- ---- parsing
@@ -67,32 +69,49 @@ module _ (width : ℕ) where
         octets = ap (octets_of width) more ∙ octets_more xs x i offset p so_far.octets bytes;
       })
 
+module _ {A : Type 0} (width : ℕ) (value : A → ℕ) where
+  -- ---- parsing
+
+  -- one more value has been parsed
+  pub value_read : (i size : ℕ) (p : List ℕ) (xs ys : List A) (x : A) → size ≡ width → value x ≡ number (take (size * i + size - size * i) (drop (size * i) p))
+      → bytes_of width (value x) ≡ take (size * i + size - size * i) (drop (size * i) p) → ys ≡ xs ++ x ∷ [] → AreRead width i 0 p (map value xs) → AreRead width (i + 1) 0 p (map value ys)
+  value_read i size p xs ys x e told octets more so_far =
+      let at : size * i ≡ 0 + width * i = omega (arith, ap (λ n. n * i) e) in
+      let len : size * i + size - size * i ≡ width = omega (arith, e) in
+      read_more width i 0 (size * i) p (map value xs) (map value ys) (value x) at
+      (told ∙ ap (λ n. number (take n (drop (size * i) p))) len) (octets ∙ ap (λ n. take n (drop (size * i) p)) len)
+      (ap (map value) more ∙ map-append value xs (x ∷ [])) so_far
+
+  -- all of them have been parsed
+  pub values_read : (i : ℕ) (p : List ℕ) (xs : List A) → width * i ≡ length p → AreRead width i 0 p (map value xs) → octets_by width value xs ≡ p
+  values_read i p xs whole all = sym (flat_map-map (bytes_of width) value xs) ∙ all.octets ∙ take_all (width * i) p (omega (arith, whole))
+
   -- ---- writing
 
   -- the bytes after one more number of a list
-  octets_taken : (xs : List ℕ) (i : ℕ) → i < length xs → octets_of width (take (i + 1) xs) ≡ octets_of width (take i xs) ++ bytes_of width (get_or xs i 0)
-  octets_taken xs i lt =
-      let x = get_or xs i 0 in
-      let text = octets_of width (take i xs) in
-      ap (octets_of width) (take_more xs i 0 lt) ∙ flat_map-append (bytes_of width) (take i xs) (x ∷ []) ∙ ap (λ t. text ++ t) (append-nil (bytes_of width x))
+  octets_taken : (xs : List A) (i : ℕ) (x : A) → i < length xs → x ≡ get_or xs i x → octets_by width value (take (i + 1) xs) ≡ octets_by width value (take i xs) ++ bytes_of width (value x)
+  octets_taken xs i x lt is =
+      let text = octets_by width value (take i xs) in
+      ap (octets_by width value) (take_more xs i x lt ∙ ap (λ y. take i xs ++ y ∷ []) (sym is)) ∙ flat_map-append (λ y. bytes_of width (value y)) (take i xs) (x ∷ [])
+      ∙ ap (λ t. text ++ t) (append-nil (bytes_of width (value x)))
 
   -- the bytes of the first numbers of a list are no longer than those of all
-  octets_room : (xs : List ℕ) (i : ℕ) → length (octets_of width (take i xs)) ≤ width * length xs
+  octets_room : (xs : List A) (i : ℕ) → length (octets_by width value (take i xs)) ≤ width * length xs
   octets_room xs i =
       let front = take i xs in
       let back = drop i xs in
-      let all = ap (octets_of width) (sym (take-append-drop i xs)) ∙ flat_map-append (bytes_of width) front back in
-      omega (arith, ap length all, length-append (octets_of width front) (octets_of width back), (IsOctets-numbers width xs).0)
+      let all = ap (octets_by width value) (sym (take-append-drop i xs)) ∙ flat_map-append (λ y. bytes_of width (value y)) front back in
+      omega (arith, ap length all, length-append (octets_by width value front) (octets_by width value back), (IsOctets-numbers width value xs).0)
 
   -- the buffer after one more number
-  pub number_after : (b0 b b' xs sub : List ℕ) (i at : ℕ) → i < length xs → width * length xs ≤ length b0 → at ≡ width * i
-      → OverwritesFront b0 b (octets_of width (take i xs)) → OverwritesFront (take (length b - at) (drop at b)) sub (bytes_of width (get_or xs i 0))
-      → b' ≡ put_mid at (length b - at) b sub → OverwritesFront b0 b' (octets_of width (take (i + 1) xs))
-  number_after b0 b b' xs sub i at lt room place so_far here e =
-      let text = octets_of width (take i xs) in
-      let bytes = bytes_of width (get_or xs i 0) in
-      let more = octets_taken xs i lt in
+  pub number_after : (b0 b b' sub : List ℕ) (xs : List A) (i at : ℕ) (x : A) → i < length xs → x ≡ get_or xs i x → width * length xs ≤ length b0 → at ≡ width * i
+      → OverwritesFront b0 b (octets_by width value (take i xs)) → OverwritesFront (take (length b - at) (drop at b)) sub (bytes_of width (value x))
+      → b' ≡ put_mid at (length b - at) b sub → OverwritesFront b0 b' (octets_by width value (take (i + 1) xs))
+  number_after b0 b b' sub xs i at x lt is room place so_far here e =
+      let text = octets_by width value (take i xs) in
+      let bytes = bytes_of width (value x) in
+      let more = octets_taken xs i x lt is in
       let taken : length (take i xs) ≡ i = omega (arith, length-take i xs) in
-      let size = (IsOctets-numbers width (take i xs)).0 ∙ ap (λ n. width * n) taken in
+      let size = (IsOctets-numbers width value (take i xs)).0 ∙ ap (λ n. width * n) taken in
       let fits : length text + length bytes ≤ length b0 = omega (arith, room, ap length more, length-append text bytes, octets_room xs (i + 1)) in
       rw more (frame_after b0 b b' text bytes sub at so_far (place ∙ sym size) fits here e)

@@ -2,14 +2,14 @@
 use Rattle.std.proofs.Common.{◌≡◌, ◌↔◌, ℕ, ◌<◌, ◌≤◌, List, length, Option, Some, None, Result, Ok, Err, refl, sym, ap, subst, ◌∙◌, arith}
 use Rattle.link_base.specs.OneForm.{leaf_form}
 use Rattle.link_base.specs.Number.{IsBytes}
-use Rattle.link_base.specs.declared.fault.Cause.{Cause}
+use Rattle.link_base.specs.declared.wire.fault.Cause.{Cause}
 use Rattle.link_base.specs.Frame.{kind_of}
 use Rattle.link_base.specs.Class
 use Rattle.link_base.specs.Class.{Class, Value, class_value, written, extent, length_cause, meant, IsCanonicalPayload}
 use Rattle.link_base.specs.Table.{Case, Other, class_at, Rows, Leaf, leaf_case, leaf_by, LeafGives, leaf_field, leaf_payload, leaf_canon, leaf_cut, leaf_allows_by, LeafAllows}
 use Rattle.link_base.specs.Held.{LeafInRangeBy, LeafInRange, LeafHidesNone, LeafIsUncut}
 use Rattle.link_base.specs.Lawful.{IsReading, IsHolding, IsWriting}
-use Rattle.link_base.proofs.Classes.{accepted_meaning, value_of_accepted, tidy_iff, written_short}
+use Rattle.link_base.proofs.ClassLemmas.{accepted_meaning, value_of_accepted, tidy_iff, written_short}
 use Rattle.link_base.proofs.Values.{meant_in_range, meant_canon, back, written_bytes, uncut_stays, cut_canonical, cut_again, length-cut}
 use Rattle.link_base.proofs.Readings.{ok, same_ok}
 

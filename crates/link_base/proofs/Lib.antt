@@ -4,7 +4,7 @@ pub mod Cuts
 pub mod Readings
 pub mod LossyLemmas
 pub mod NameLemmas
-pub mod Classes
+pub mod ClassLemmas
 pub mod Values
 pub mod Written
 pub mod Rewritings
@@ -27,6 +27,7 @@ pub mod SkipLemmas
 pub mod JoinedLemmas
 pub mod EditionLemmas
 pub mod LimitLemmas
+pub mod Coherence
 pub mod PlainLemmas
 pub mod EqualityLemmas
 pub mod ItemLemmas
@@ -34,7 +35,7 @@ pub mod Naming
 pub mod NamedPayloads
 pub mod FlagLemmas
 pub mod Layouts
-pub mod Views
+pub mod ViewLemmas
 pub mod ViewWalks
 pub mod Elements
 pub mod Entries

@@ -1,18 +1,18 @@
 -- A table without lists decodes and writes as the table it is lifted to.
-use Rattle.std.proofs.Common.{◌≡◌, ℕ, ◌≤◌, Bool, true, false, cond, List, [], ◌∷◌, ◌++◌, length, map, Option, Some, None, Result, Ok, Err, refl, sym, ap, ap₂, subst, ◌∙◌, arith, inl, inr}
+use Rattle.std.proofs.Common.{◌≡◌, ℕ, ◌≤◌, Bool, true, false, cond, List, [], ◌∷◌, ◌++◌, length, map, Option, Some, None, option_map, Result, Ok, Err, refl, sym, ap, ap₂, subst, ◌∙◌, arith, inl, inr}
 use Rattle.std.specs.Prelude.{◌==◌, ◌↔◌}
 use Rattle.std.specs.List.{AllZip, AllByRecursion}
 use Rattle.std.proofs.lemmas.List.{length-append}
-use Rattle.link_base.specs.declared.fault.Cause.{Cause}
-use Rattle.link_base.specs.declared.fault.DecodeFault.{DecodeFault}
-use Rattle.link_base.specs.declared.fault.ListError.{ListError}
-use Rattle.link_base.specs.declared.fault.ListError.TheVariants as list_errors
+use Rattle.link_base.specs.declared.wire.fault.Cause.{Cause}
+use Rattle.link_base.specs.declared.wire.fault.DecodeFault.{DecodeFault}
+use Rattle.link_base.specs.declared.wire.fault.ListError.{ListError}
+use Rattle.link_base.specs.declared.wire.fault.ListError.TheVariants as list_errors
 use Rattle.link_base.specs.Frame.{Frame, kind_of, frame_bytes}
 use Rattle.link_base.specs.Class.{Class, Value, class_value}
 use Rattle.link_base.specs.Wire.{Wire, FirstFault, FaultsHere, IsCanonicalFrame, CanonicalBy, whole}
-use Rattle.link_base.specs.Table.{Rows, class_at, Leaf, Case, Other, LeafGives, leaf_by, leaf_case, leaf_field, leaf_payload, written_leaves, Shape, One, Single, Inner, Table, AttrValue, Gives, GivesBy, single_case, ListGives, written_list, written_kind, written_payload, Fits, leaf_allows_by, LeafAllows, allows_by, Allows, Canonical}
+use Rattle.link_base.specs.Table.{Row, Rows, row_at, class_at, Leaf, Case, Other, LeafGives, leaf_by, leaf_case, leaf_field, leaf_payload, written_leaves, Shape, One, Single, Inner, Table, AttrValue, Gives, GivesBy, single_case, ListGives, written_list, written_kind, written_payload, Fits, leaf_allows_by, LeafAllows, allows_by, Allows, Canonical}
 use Rattle.link_base.specs.Held.{LeafInRange, LeafInRangeBy, IsInRange, InRangeBy}
-use Rattle.link_base.specs.Lift.{lift, lift_table}
+use Rattle.link_base.specs.Lift.{lift, lift_row, lift_table}
 use Rattle.link_base.specs.Answers.{Fails, ListFails, nested_error}
 use Rattle.link_base.proofs.Emit.{length-whole_bytes}
 
@@ -22,13 +22,20 @@ abbrev pub lift_option : Option Class → Option Shape
 lift_option None = None
 lift_option (Some c) = Some (One c)
 
-choose : (b : Bool) (c : Class) (o : Option Class) → cond b (Some (One c)) (lift_option o) ≡ lift_option (cond b (Some c) o)
-choose true c o = refl
-choose false c o = refl
+choose : (b : Bool) (r : Row Class) (o : Option (Row Class)) → cond b (Some (lift_row r)) (option_map lift_row o) ≡ option_map lift_row (cond b (Some r) o)
+choose true r o = refl
+choose false r o = refl
+
+pub row_at-lift : (rows : Rows) (k : ℕ) → row_at (lift_table rows) k ≡ option_map lift_row (row_at rows k)
+row_at-lift [] k = refl
+row_at-lift (r ∷ rows) k = ap (λ (o : Option (Row Shape)). cond (r.kind == k) (Some (lift_row r)) o) (row_at-lift rows k) ∙ choose (r.kind == k) r (row_at rows k)
+
+mapped : (o : Option (Row Class)) → option_map (λ (r : Row Shape). r.class) (option_map lift_row o) ≡ lift_option (option_map (λ (r : Row Class). r.class) o)
+mapped None = refl
+mapped (Some r) = refl
 
 pub class_at-lift : (rows : Rows) (k : ℕ) → class_at (lift_table rows) k ≡ lift_option (class_at rows k)
-class_at-lift [] k = refl
-class_at-lift (r ∷ rows) k = ap (λ (o : Option Shape). cond (r.kind == k) (Some (One r.class)) o) (class_at-lift rows k) ∙ choose (r.kind == k) r.class (class_at rows k)
+class_at-lift rows k = ap (λ (o : Option (Row Shape)). option_map (λ r. r.class) o) (row_at-lift rows k) ∙ mapped (row_at rows k)
 
 -- ---- one attribute
 

@@ -1,18 +1,19 @@
 -- Which decoded values do not fit.
-use Rattle.std.proofs.Common.{◌≡◌, ℕ, ◌+◌, ◌*◌, ◌<◌, ◌≤◌, Bool, true, List, [], ◌∷◌, length, Some, None, Ok, refl, sym, ap, subst, ◌∙◌, arith, ⊎_elim, length-append, length-take}
-use Rattle.std.specs.Prelude.{nat_lt, nat_le, ◌==◌, ◌||◌, ◌↔◌}
-use Rattle.std.specs.List.{AllByRecursion}
+use Rattle.std.proofs.Common.{◌≡◌, ℕ, ◌+◌, ◌*◌, ◌<◌, ◌≤◌, Bool, true, List, [], ◌∷◌, length, Option, Some, None, option_map, Ok, refl, sym, ap, subst, ◌∙◌, arith, ⊎_elim, length-append, length-take}
+use Rattle.std.specs.Prelude.{nat_lt, nat_le, ◌==◌, ◌||◌, ◌&&◌, ◌↔◌}
+use Rattle.std.specs.List.{AllByRecursion, list_all}
 use Rattle.std.proofs.lemmas.Bool.{cases_Bool, cond-true, cond-false, and_parts, or_cases, eqb-true, cases_lt, false≢true, ltb-false}
 use Rattle.link_base.specs.Number.{IsBytes, number}
-use Rattle.link_base.specs.declared.fault.Cause.TheVariants.{TooShort, WrongLength}
+use Rattle.link_base.specs.declared.wire.fault.Cause.TheVariants.{TooShort, WrongLength}
 use Rattle.link_base.specs.Frame.{Frame, Frames, AreFrames, kind_of, pad, frame_bytes, spelled}
 use Rattle.link_base.specs.Wire.{whole}
 use Rattle.link_base.specs.Class.{Exactly, AtLeast, Fixed, Multiple, Class, Unsigned, Signed, Truth, Octets, Bytes, Many, Named, Protocol, Low, Empty, Limits, extent, length_cause, meant, written}
-use Rattle.link_base.specs.Table.{Row, class_at, Rows, Leaf, LeafGives, leaf_field, leaf_payload, written_leaves, Shape, One, Nested, Addresses, Content, Table, AttrValue, of_length, Gives, addresses_from, content_payload, Fits}
+use Rattle.link_base.specs.Table.{Row, row_at, class_at, Rows, Leaf, LeafGives, leaf_field, leaf_payload, written_leaves, Shape, One, Nested, Addresses, Content, Table, AttrValue, of_length, Gives, addresses_from, content_payload, Fits}
+use Rattle.link_base.specs.Coherent.{is_shape_of}
 use Rattle.link_base.specs.Held.{IsOctets}
-use Rattle.link_base.specs.WellFormed.{is_class, is_kept, are_rows, is_nested_class, is_shape, is_table, IsOverfull}
+use Rattle.link_base.specs.WellFormed.{is_class, is_kept, are_rows, is_nested_class, has_text, rows_in, is_shape, is_row, is_table, IsOverfull}
 use Rattle.link_base.proofs.Numbers.{length-bytes_of}
-use Rattle.link_base.proofs.Classes.{exactly, written_short, written-named, none_else}
+use Rattle.link_base.proofs.ClassLemmas.{exactly, written_short, written-named, none_else}
 use Rattle.link_base.proofs.FrameBytes.{length-frame_bytes, length-complete}
 use Rattle.link_base.proofs.Readings.{ReadEach}
 use Rattle.link_base.proofs.Written.{known_of}
@@ -51,23 +52,32 @@ kept_length Limits p k e = absurd (false≢true k)
 -- ---- rows
 
 -- a row that is found passes the test that all rows pass
-row_passes : {C : Type 0} (test : C → Bool) (least : ℕ) (rows : List (Row C)) (k : ℕ) (c : C) → are_rows test least rows ≡ true → class_at rows k ≡ Some c → test c ≡ true
+pub row_passes : {C : Type 0} (test : Row C → Bool) (least : ℕ) (rows : List (Row C)) (k : ℕ) (c : Row C) → are_rows test least rows ≡ true → row_at rows k ≡ Some c → test c ≡ true
 row_passes test least [] k c h e = absurd cc
 row_passes test least (r ∷ rows) k c h e =
     let first = and_parts (nat_le least r.kind) _ h in
     let second = and_parts (nat_lt r.kind 16384) _ first.1 in
-    let third = and_parts (test r.class) (are_rows test (r.kind + 1) rows) second.1 in
+    let third = and_parts (test r) (are_rows test (r.kind + 1) rows) second.1 in
     ⊎_elim
     (λ holds.
-    let is : Some r.class ≡ Some c = sym (cond-true (r.kind == k) (Some r.class) (class_at rows k) holds) ∙ e in
-    let same : r.class ≡ c = cc in
+    let is : Some r ≡ Some c = sym (cond-true (r.kind == k) (Some r) (row_at rows k) holds) ∙ e in
+    let same : r ≡ c = cc in
     subst (λ d. test d ≡ true) same third.0)
-    (λ fails. row_passes test (r.kind + 1) rows k c third.1 (sym (cond-false (r.kind == k) (Some r.class) (class_at rows k) fails) ∙ e))
+    (λ fails. row_passes test (r.kind + 1) rows k c third.1 (sym (cond-false (r.kind == k) (Some r) (row_at rows k) fails) ∙ e))
     (cases_Bool (r.kind == k))
+
+-- what all rows pass by their class, that of an attribute type passes
+class_passes : {C : Type 0} (test : Row C → Bool) (part : C → Bool) (least : ℕ) (rows : List (Row C)) (k : ℕ) (c : C) → ((r : Row C) → test r ≡ true → part r.class ≡ true) → are_rows test least rows ≡ true → class_at rows k ≡ Some c → part c ≡ true
+class_passes test part least rows k c implies h e = by_row (row_at rows k) refl e where
+  by_row : (o : Option (Row _)) → row_at rows k ≡ o → option_map (λ r. r.class) o ≡ Some c → part c ≡ true
+  by_row None at is = absurd cc
+  by_row (Some r) at is =
+      let same : r.class ≡ c = cc in
+      subst (λ d. part d ≡ true) same (implies r (row_passes test least rows k r h at))
 
 -- the classes in a nested list are kept
 abbrev AreKept : Rows → Type 0
-AreKept rows = are_rows is_nested_class 0 rows ≡ true
+AreKept rows = are_rows (λ r. is_nested_class r.class) 0 rows ≡ true
 
 -- an attribute of a nested list is written with the length of the decoded one
 leaf_kept : (rows : Rows) (f : ℕ) (p : List ℕ) (v : Leaf) → AreKept rows → LeafGives rows f p (Ok v) → length (leaf_payload v) ≡ length p
@@ -77,7 +87,7 @@ leaf_kept rows f p v k h = go (leaf_read (class_at rows (kind_of f)) f p v h)
     go : LeafRead (class_at rows (kind_of f)) f p v → length (leaf_payload v) ≡ length p
     go (no_row e is) = ap (λ w. length (leaf_payload w)) is
     go (a_row c e a is) =
-        let kept = and_parts (is_class c) (is_kept c) (row_passes is_nested_class 0 rows (kind_of f) c k e) in
+        let kept = and_parts (is_class c) (is_kept c) (class_passes (λ r. is_nested_class r.class) is_nested_class 0 rows (kind_of f) c (λ r h. h) k e) in
         ap (λ w. length (leaf_payload w)) is ∙ kept_length c p kept.1 a
 
 -- a nested list is written with the length of the decoded one, padded
@@ -159,4 +169,4 @@ limit table f p v sound hp hl h = go (attr_read (class_at table (kind_of f)) f p
     go (tables.a_row s c e m is) =
         subst (λ o. ¬ (Fits v) ↔ IsOverfull o p) (sym e)
         (subst (λ w. ¬ (Fits w) ↔ IsOverfull (Some s) p) (sym is)
-        (content_limit s p c (row_passes is_shape 0 table (kind_of f) s sound e) hp hl m))
+        (content_limit s p c (class_passes is_row is_shape 0 table (kind_of f) s (λ r h. (and_parts (is_shape r.class) (is_shape_of r.form r.names r.class && (has_text r && list_all has_text (rows_in r.class))) h).0) sound e) hp hl m))

@@ -1,12 +1,9 @@
 -- Numbers that may have names, as payloads.
-use Rattle.std.proofs.Common.{◌≡◌, ℕ, List, length, Option, None, Some, Ok, refl, sym, ap, ◌∙◌}
+use Rattle.std.proofs.Common.{◌≡◌, ℕ, List, length, refl, sym, ap, ◌∙◌}
 use Rattle.std.proofs.lemmas.Bool.{cond_both, cond-true, cond-false}
-use Rattle.link_base.specs.declared.fault.Cause.{Cause}
 use Rattle.link_base.specs.Number.{bytes_of}
-use Rattle.link_base.specs.Class.{Value, Name, Unlisted, is_listed, named, unless, written}
+use Rattle.link_base.specs.Class.{Name, Unlisted, is_listed, named, written}
 use Rattle.link_base.specs.Named.{Seen, Listed, Free, number_of, seen_of, seen_value}
-use Rattle.link_base.specs.Table.{Case, Single, single_case}
-use Rattle.link_base.specs.Answers.{payload_result}
 use Rattle.link_base.proofs.Numbers.{length-bytes_of}
 
 -- what is written is the number, named or not
@@ -23,9 +20,3 @@ seen_named n listed d =
     cond_both (is_listed listed d) (Listed d) (Free d) (λ s. seen_value n listed s ≡ named n listed d)
     (λ e. sym (cond-true (is_listed listed d) (Name n d) (Unlisted n listed d) e))
     (λ e. sym (cond-false (is_listed listed d) (Name n d) (Unlisted n listed d) e))
-
--- the value for a number that was parsed is the one that the payload means
-pub read_named : (k n : ℕ) (listed : List ℕ) (d m : ℕ) (cause : Option Cause) (v : Value) → Ok d ≡ payload_result (unless cause m) → v ≡ named n listed d
-    → Ok (Case k (Single v)) ≡ single_case k (unless cause (named n listed m))
-read_named k n listed d m None v read same = cc
-read_named k n listed d m (Some c) v read same = absurd cc

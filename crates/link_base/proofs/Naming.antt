@@ -10,12 +10,20 @@ use Rattle.std.proofs.lemmas.Bool.{both_ways, cond-true, cond-false, cond_both, 
 use Rattle.std.proofs.lemmas.Slice.Eq.{bytes_eq-Decides}
 use Rattle.std.proofs.lemmas.Fmt.{decimal_digit, decimal_is_IsNumeral}
 use Rattle.std.proofs.lemmas.Str.Parse.{digit_from_value, without_leading_plus_none}
-use Rattle.link_base.specs.declared.fault.DecodeError.{DecodeError}
+use Rattle.link_base.specs.declared.wire.fault.DecodeError.{DecodeError}
 use Rattle.link_base.specs.Class as class
 use Rattle.link_base.specs.Class.{is_listed}
 use Rattle.link_base.specs.Named.{Label, Naming, Bare, Accepted, NoText, TextOrDigit, TextOrNumber, AnyCase, numbers_of, case_of, value_of, Seen, Listed, Free, number_of, seen_of, IsSeen, seen_value, seen_canon, text_of, free_text, displayed, lower, WritesNumber, HasLabel, AcceptsBy, Accepts, ReadsText, all_labels, are_distinct, begins_number, are_told_apart, is_naming}
 
 -- ---- numbers
+
+-- the numbers of labels
+abbrev numbers_in : {T : Type 0} → List (Label T) → List ℕ
+numbers_in labels = map {A = ℕ × List ℕ} (λ x. x.0) (map (λ l. (l.number, l.text)) labels)
+
+same_numbers : {T : Type 0} (labels : List (Label T)) → numbers_in labels ≡ map (λ l. l.number) labels
+same_numbers [] = refl
+same_numbers (l ∷ labels) = ap (λ ns. l.number ∷ ns) (same_numbers labels)
 
 -- the number of what a number decodes to
 number_of-seen : (listed : List ℕ) (d : ℕ) → number_of (seen_of listed d) ≡ d
@@ -24,16 +32,16 @@ number_of-seen listed d = cond_both (is_listed listed d) (Listed d) (Free d) (λ
 module _ {T : Type 0} (seen : T → Seen) (other : ℕ → T) where
   -- what the value for a number holds
   case_seen : (labels : List (Label T)) → AllByRecursion (λ l. seen l.case ≡ Listed l.number) labels → ((d : ℕ) → seen (other d) ≡ Free d)
-      → (d : ℕ) → seen (case_of labels other d) ≡ seen_of (map (λ l. l.number) labels) d
+      → (d : ℕ) → seen (case_of labels other d) ≡ seen_of (numbers_in labels) d
   case_seen [] h free d = free d
   case_seen (l ∷ labels) h free d =
       ⊎_elim
       (λ e.
       ap seen (cond-true (l.number == d) l.case (case_of labels other d) e) ∙ h.0 ∙ ap Listed (eqb-true l.number d e)
-      ∙ sym (cond-true (l.number == d || is_listed (map (λ m. m.number) labels) d) (Listed d) (Free d) (or_left _ _ e)))
+      ∙ sym (cond-true (l.number == d || is_listed (numbers_in labels) d) (Listed d) (Free d) (or_left _ _ e)))
       (λ e.
       ap seen (cond-false (l.number == d) l.case (case_of labels other d) e) ∙ case_seen labels h.1 free d
-      ∙ ap (λ b. cond (b || is_listed (map (λ m. m.number) labels) d) (Listed d) (Free d)) (sym e))
+      ∙ ap (λ b. cond (b || is_listed (numbers_in labels) d) (Listed d) (Free d)) (sym e))
       (cases_Bool (l.number == d))
 
 -- the value that holds this
@@ -84,14 +92,14 @@ different names seen a b h k e = value_is names a (seen a) h ∙ ap (is_value na
 -- ---- `Display` output is accepted
 
 -- the first label of a number
-first_label : {T : Type 0} (l : Label T) (labels : List (Label T)) (other : ℕ → T) (d : ℕ) (b : Bool) → (b || is_listed (map (λ m. m.number) labels) d) ≡ true
-    → (is_listed (map (λ m. m.number) labels) d ≡ true → HasLabel labels (case_of labels other d) (λ m. text_of labels d ≡ m.text))
+first_label : {T : Type 0} (l : Label T) (labels : List (Label T)) (other : ℕ → T) (d : ℕ) (b : Bool) → (b || is_listed (numbers_in labels) d) ≡ true
+    → (is_listed (numbers_in labels) d ≡ true → HasLabel labels (case_of labels other d) (λ m. text_of labels d ≡ m.text))
     → HasLabel (l ∷ labels) (cond b l.case (case_of labels other d)) (λ m. cond b l.text (text_of labels d) ≡ m.text)
 first_label l labels other d true h rest = inl (refl, refl)
 first_label l labels other d false h rest = inr (rest h)
 
 -- the value for a number that has a name has a label with its string
-has_text : {T : Type 0} (labels : List (Label T)) (other : ℕ → T) (d : ℕ) → is_listed (map (λ m. m.number) labels) d ≡ true
+has_text : {T : Type 0} (labels : List (Label T)) (other : ℕ → T) (d : ℕ) → is_listed (numbers_in labels) d ≡ true
     → HasLabel labels (case_of labels other d) (λ m. text_of labels d ≡ m.text)
 has_text [] other d h = absurd (false≢true h)
 has_text (l ∷ labels) other d h = first_label l labels other d (l.number == d) h (has_text labels other d)
@@ -252,7 +260,7 @@ module _ {T : Type 0} (names : Naming T) (is : is_naming names ≡ true) where
       let number : (u : T) → HasLabel names.labels u (λ l. text ≡ decimal l.number) → HasLabel names.labels u (λ l. l.number ≡ slice_index text 0 - 48) =
       λ u j. with_test _ names.labels u _ _ all
       (λ l test e. digit_number l.number text (digit_text l.number text (and_parts _ _ test).0 e)) j in
-      one_label (λ a b. a == b) same_number (λ l. l.number) (slice_index text 0 - 48) names.labels v w parts.0 (number v h) (number w i)
+      one_label (λ a b. a == b) same_number (λ l. l.number) (slice_index text 0 - 48) names.labels v w (subst (λ ns. are_distinct (λ a b. a == b) ns ≡ true) (same_numbers names.labels) parts.0) (number v h) (number w i)
 
   -- the string of a label is not a number
   text_or_number : (text : List ℕ) (v : T) (bits d : ℕ) → names.accepted ≡ TextOrNumber bits → HasLabel (all_labels names) v (λ l. text ≡ l.text) → WritesNumber bits text d → ⊥

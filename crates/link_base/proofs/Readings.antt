@@ -3,9 +3,9 @@ use Rattle.std.proofs.Common.{◌≡◌, ℕ, zero, suc, ◌+◌, ◌<◌, ◌�
 use Rattle.std.specs.List.{AllZip, AllByRecursion}
 use Rattle.std.proofs.lemmas.List.{nil_from_length}
 use Rattle.link_base.specs.Number.{IsBytes}
-use Rattle.link_base.specs.declared.fault.Cause.{Cause}
-use Rattle.link_base.specs.declared.fault.DecodeFault.{DecodeFault}
-use Rattle.link_base.specs.declared.fault.DecodeFault.TheVariants as faults
+use Rattle.link_base.specs.declared.wire.fault.Cause.{Cause}
+use Rattle.link_base.specs.declared.wire.fault.DecodeFault.{DecodeFault}
+use Rattle.link_base.specs.declared.wire.fault.DecodeFault.TheVariants as faults
 use Rattle.link_base.specs.Frame.{Frame, IsFrame, IsComplete, AreFrames, frame_bytes, spelled, frame_fault}
 use Rattle.link_base.specs.Wire.{Reading, FrameGives, Wire, FirstFault, FaultsHere, Reads}
 use Rattle.link_base.specs.Lawful.{IsReading}

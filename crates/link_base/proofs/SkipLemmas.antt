@@ -2,10 +2,10 @@
 use Rattle.std.proofs.Common.{◌≡◌, ◌≢◌, ℕ, ◌+◌, ◌≤◌, true, false, List, [], ◌∷◌, ◌++◌, length, take, drop, suc, Option, Some, None, Result, Ok, refl, sym, ap, subst, ◌∙◌, arith}
 use Rattle.std.specs.List.{AllZip}
 use Rattle.std.proofs.lemmas.List.{length-append, length-take}
-use Rattle.link_base.specs.declared.content.Content.{Content as Borrowed}
-use Rattle.link_base.specs.declared.content.Content.TheVariants as borrowed
-use Rattle.link_base.specs.declared.fault.Cause.{Cause}
-use Rattle.link_base.specs.declared.fault.DecodeFault.{DecodeFault}
+use Rattle.link_base.specs.declared.views.content.Content.{Content as Borrowed}
+use Rattle.link_base.specs.declared.views.content.Content.TheVariants as borrowed
+use Rattle.link_base.specs.declared.wire.fault.Cause.{Cause}
+use Rattle.link_base.specs.declared.wire.fault.DecodeFault.{DecodeFault}
 use Rattle.link_base.specs.Class.{Class, Value, extent, length_cause, unless, meant}
 use Rattle.link_base.specs.Number.{IsBytes}
 use Rattle.link_base.specs.Frame.{Frame, BeginsWith, bare, kind_of, pad, frame_bytes, spelled}
@@ -75,11 +75,12 @@ module _ {V : Type 0} (gives : Reading V) (s : List ℕ) where
 
 -- a content that is a nested list
 list_told : (content : Borrowed) (p : List ℕ) → SaysList content p → is_list content ≡ true
-list_told (borrowed.List l) p h = refl
+list_told (borrowed.List l flagged) p h = refl
 list_told (borrowed.Addresses l size) p h = refl
 list_told borrowed.Nothing p h = elim h [ ]
 list_told (borrowed.Bool b) p h = elim h [ ]
 list_told (borrowed.Unsigned x n) p h = elim h [ ]
+list_told (borrowed.Coded x n) p h = elim h [ ]
 list_told (borrowed.Signed z) p h = elim h [ ]
 list_told (borrowed.Enum d n) p h = elim h [ ]
 list_told (borrowed.Flags x n) p h = elim h [ ]
@@ -91,7 +92,7 @@ list_told (borrowed.Mac a) p h = elim h [ ]
 list_told (borrowed.Ipv4 a) p h = elim h [ ]
 list_told (borrowed.Ipv6 a) p h = elim h [ ]
 list_told (borrowed.Bytes b) p h = elim h [ ]
-list_told (borrowed.Struct b) p h = elim h [ ]
+list_told (borrowed.Struct layout b) p h = elim h [ ]
 list_told (borrowed.U16s b) p h = elim h [ ]
 list_told (borrowed.U32s b) p h = elim h [ ]
 list_told (borrowed.Limits name numbers) p h = elim h [ ]
@@ -99,11 +100,12 @@ list_told (borrowed.Other b) p h = elim h [ ]
 
 -- a content that is a list of addresses
 addresses_told : (content : Borrowed) (n : ℕ) (p : List ℕ) → SaysAddresses content n p → is_list content ≡ true
-addresses_told (borrowed.List l) n p h = refl
+addresses_told (borrowed.List l flagged) n p h = refl
 addresses_told (borrowed.Addresses l size) n p h = refl
 addresses_told borrowed.Nothing n p h = elim h [ ]
 addresses_told (borrowed.Bool b) n p h = elim h [ ]
 addresses_told (borrowed.Unsigned x m) n p h = elim h [ ]
+addresses_told (borrowed.Coded x m) n p h = elim h [ ]
 addresses_told (borrowed.Signed z) n p h = elim h [ ]
 addresses_told (borrowed.Enum d m) n p h = elim h [ ]
 addresses_told (borrowed.Flags x m) n p h = elim h [ ]
@@ -115,7 +117,7 @@ addresses_told (borrowed.Mac a) n p h = elim h [ ]
 addresses_told (borrowed.Ipv4 a) n p h = elim h [ ]
 addresses_told (borrowed.Ipv6 a) n p h = elim h [ ]
 addresses_told (borrowed.Bytes b) n p h = elim h [ ]
-addresses_told (borrowed.Struct b) n p h = elim h [ ]
+addresses_told (borrowed.Struct layout b) n p h = elim h [ ]
 addresses_told (borrowed.U16s b) n p h = elim h [ ]
 addresses_told (borrowed.U32s b) n p h = elim h [ ]
 addresses_told (borrowed.Limits name numbers) n p h = elim h [ ]

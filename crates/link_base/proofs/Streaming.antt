@@ -7,12 +7,12 @@ use Rattle.std.proofs.lemmas.Grind.{flat_map-append}
 use Rattle.std.proofs.Math.Seq.{drop-append-add}
 use borrow.Rule.Slice.PartMut.{put_mid}
 use Rattle.link_base.specs.Number.{IsBytes}
-use Rattle.link_base.specs.declared.fault.Cause.{Cause}
-use Rattle.link_base.specs.declared.fault.DecodeFault.TheVariants as faults
-use Rattle.link_base.specs.declared.fault.DecodeError.{DecodeError}
-use Rattle.link_base.specs.declared.fault.DecodeError.TheVariants as errors
-use Rattle.link_base.specs.declared.fault.ListError.{ListError}
-use Rattle.link_base.specs.declared.fault.ListError.TheVariants as list_errors
+use Rattle.link_base.specs.declared.wire.fault.Cause.{Cause}
+use Rattle.link_base.specs.declared.wire.fault.DecodeFault.TheVariants as faults
+use Rattle.link_base.specs.declared.wire.fault.DecodeError.{DecodeError}
+use Rattle.link_base.specs.declared.wire.fault.DecodeError.TheVariants as errors
+use Rattle.link_base.specs.declared.wire.fault.ListError.{ListError}
+use Rattle.link_base.specs.declared.wire.fault.ListError.TheVariants as list_errors
 use Rattle.link_base.specs.Frame.{Frame, BeginsWith, bare, spelled, pad, frame_fault, max_payload}
 use Rattle.link_base.specs.Wire.{Reading, Wire, FirstFault, FrameGives}
 use Rattle.link_base.specs.Table.{Table, AttrValue, Gives, TakesMemory, Fits, written_payload, written_frame, written_list}

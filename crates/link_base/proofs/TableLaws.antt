@@ -2,7 +2,7 @@
 use Rattle.std.proofs.Common.{◌≡◌, ℕ, ◌+◌, ◌<◌, ◌≤◌, true, false, List, length, Option, Some, None, Result, Ok, refl, sym, ap, subst, ◌∙◌, arith}
 use Rattle.link_base.specs.OneForm.{attr_form}
 use Rattle.link_base.specs.Number.{IsBytes}
-use Rattle.link_base.specs.declared.fault.DecodeFault.{DecodeFault}
+use Rattle.link_base.specs.declared.wire.fault.DecodeFault.{DecodeFault}
 use Rattle.link_base.specs.Frame.{kind_of, pad}
 use Rattle.link_base.specs.Table.{Case, Other, class_at, Shape, One, Nested, Addresses, Content, Table, AttrValue, ShapeGives, GivesBy, Gives, content_flag, content_payload, written_kind, written_payload, Fits, content_canon, canon, content_cut, cut, IsCanonicalContent, shape_flag, allows_by, Allows}
 use Rattle.link_base.specs.Held.{ContentInRange, ContentHidesNone, InRangeBy, IsInRange, HidesNoneBy, HidesNone, AttrIsUncut}

@@ -5,19 +5,19 @@ use Rattle.std.proofs.lemmas.Bool.{cases_lt}
 use Rattle.std.proofs.lemmas.List.{append-nil, length-append}
 use Rattle.std.proofs.lemmas.Grind.{flat_map-append}
 use Rattle.std.proofs.Math.Seq.{drop-append_seam}
-use Rattle.link_base.specs.declared.fault.Cause.{Cause}
-use Rattle.link_base.specs.declared.fault.DecodeFault.{DecodeFault}
-use Rattle.link_base.specs.declared.fault.DecodeFault.TheVariants as faults
-use Rattle.link_base.specs.declared.fault.DecodeError.{DecodeError}
-use Rattle.link_base.specs.declared.fault.DecodeError.TheVariants as errors
+use Rattle.link_base.specs.declared.wire.fault.Cause.{Cause}
+use Rattle.link_base.specs.declared.wire.fault.DecodeFault.{DecodeFault}
+use Rattle.link_base.specs.declared.wire.fault.DecodeFault.TheVariants as faults
+use Rattle.link_base.specs.declared.wire.fault.DecodeError.{DecodeError}
+use Rattle.link_base.specs.declared.wire.fault.DecodeError.TheVariants as errors
 use Rattle.link_base.specs.Frame.{Frame, BeginsWith, bare, IsComplete, AreFrames, frame_bytes, spelled, frame_fault}
 use Rattle.link_base.specs.FrameOffsets.{starts, FramesOrFault, Finds}
 use Rattle.link_base.specs.Wire.{Reading, Wire, FirstFault, FrameGives}
 use Rattle.link_base.specs.Answers.{Fails, ListFails, ListAnswers, ListFaultUnless, OnListMemory, list_error}
 use Rattle.link_base.specs.Table.{Table, AttrValue, Gives, Decodes}
 use Rattle.link_base.specs.Lawful.{IsReading}
-use Rattle.link_base.specs.declared.fault.ListError.{ListError}
-use Rattle.link_base.specs.declared.fault.ListError.TheVariants as list_errors
+use Rattle.link_base.specs.declared.wire.fault.ListError.{ListError}
+use Rattle.link_base.specs.declared.wire.fault.ListError.TheVariants as list_errors
 use Rattle.link_base.proofs.Cuts.{AreFrames-head, SameFront-frames}
 use Rattle.link_base.proofs.FrameBytes.{frame_fault-frame}
 use Rattle.link_base.proofs.Walking.{cut_of, length-starts}

@@ -17,7 +17,7 @@ use Rattle.link_base.proofs.NameLemmas.{name_of-field, cut_is_canonical_lem, cut
 use Rattle.link_base.proofs.LossyLemmas.{IsUtf8-lossy}
 use Rattle.link_base.proofs.Numbers.{number-bytes_of, length-bytes_of, IsBytes-bytes_of}
 use Rattle.link_base.proofs.FrameBytes.{bytes-append}
-use Rattle.link_base.proofs.Classes.{exactly, size_reached, at_size, multiple, at_multiple, value_of_accepted, number_in, length-name_field, written-named, canon-named, cut-named}
+use Rattle.link_base.proofs.ClassLemmas.{exactly, size_reached, at_size, multiple, at_multiple, value_of_accepted, number_in, length-name_field, written-named, canon-named, cut-named}
 
 -- ---- bytes
 

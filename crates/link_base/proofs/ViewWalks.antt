@@ -3,13 +3,13 @@ use Rattle.std.proofs.Common.{◌≡◌, ◌≢◌, ◌⊎◌, ℕ, suc, ◌+◌
 use Rattle.std.proofs.lemmas.List.{length-append}
 use Rattle.std.specs.Iterator.{Yields, Drains}
 use Rattle.std.specs.List.{AllZip, AllByRecursion}
-use Rattle.link_base.specs.declared.attribute_set.AttributeSet as sets
-use Rattle.link_base.specs.declared.view.View.{View}
-use Rattle.link_base.specs.declared.view.Value.{Value}
-use Rattle.link_base.specs.declared.view_all.ViewAll.{ViewAll}
-use Rattle.link_base.specs.declared.fault.ListFault.{ListFault}
-use Rattle.link_base.specs.declared.fault.DecodeFault.{DecodeFault}
-use Rattle.link_base.specs.declared.fault.Cause.{Cause}
+use Rattle.link_base.specs.declared.views.attribute_set.AttributeSet as sets
+use Rattle.link_base.specs.declared.views.view.View.{View}
+use Rattle.link_base.specs.declared.views.view.Value.{Value}
+use Rattle.link_base.specs.declared.views.view_all.ViewAll.{ViewAll}
+use Rattle.link_base.specs.declared.wire.fault.ListFault.{ListFault}
+use Rattle.link_base.specs.declared.wire.fault.DecodeFault.{DecodeFault}
+use Rattle.link_base.specs.declared.wire.fault.Cause.{Cause}
 use Rattle.link_base.specs.Frame.{Frame, Frames, IsFrame, IsComplete, frame_bytes, spelled, frame_fault}
 use Rattle.link_base.specs.Wire.{Wire, FaultsHere, FrameGives, Reads, IsCanonicalFrame}
 use Rattle.link_base.specs.Number.{IsBytes}
@@ -24,7 +24,7 @@ use Rattle.link_base.proofs.Readings.{NextFrames-more, reads_some, not_both, no_
 use Rattle.link_base.proofs.TableLaws.{lawful}
 use Rattle.link_base.proofs.Walking.{some_bytes}
 use Rattle.link_base.proofs.ItemLemmas.{one_more, one_last}
-use Rattle.link_base.proofs.Views.{first_frame, first_value, frames_none, split_of, values_rest}
+use Rattle.link_base.proofs.ViewLemmas.{first_frame, first_value, frames_none, split_of, values_rest}
 
 -- nothing has no values
 values_none : (table : Table) (vs : List AttrValue) → Wire (Gives table) [] vs → vs ≡ []

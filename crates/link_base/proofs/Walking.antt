@@ -6,7 +6,7 @@ use Rattle.std.proofs.lemmas.Bool.{cases_lt}
 use Rattle.std.proofs.lemmas.Grind.{flat_map-append}
 use Rattle.std.proofs.Math.ListN.{get_or-append}
 use Rattle.std.proofs.Math.Seq.{drop-append_seam, get_or-append_seam}
-use Rattle.link_base.specs.declared.fault.Cause.{Cause}
+use Rattle.link_base.specs.declared.wire.fault.Cause.{Cause}
 use Rattle.link_base.specs.Frame.{Frame, IsFrame, IsComplete, AreFrames, frame_bytes, spelled, frame_fault}
 use Rattle.link_base.specs.FrameOffsets.{starts, FramesOrFault, FindsBefore, Finds, BeginFrames}
 use Rattle.link_base.proofs.FrameAtFront.{Splits}

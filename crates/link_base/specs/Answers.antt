@@ -2,17 +2,17 @@
 use Rattle.std.specs.Prelude.{◌≡◌, ℕ, ◌-◌, ◌<◌, ◌^◌, min, List, ◌∷◌, ◌++◌, length, drop, Result, Ok, Err}
 use Rattle.std.specs.List.{AllByRecursion}
 use Rattle.std.specs.Global.{Vec}
-use Rattle.link_base.specs.declared.fault.Cause.{Cause}
-use Rattle.link_base.specs.declared.fault.DecodeFault.{DecodeFault}
-use Rattle.link_base.specs.declared.fault.DecodeFault.TheVariants as faults
-use Rattle.link_base.specs.declared.fault.DecodeError.{DecodeError}
-use Rattle.link_base.specs.declared.fault.DecodeError.TheVariants as errors
-use Rattle.link_base.specs.declared.fault.ListError.{ListError}
-use Rattle.link_base.specs.declared.fault.ListError.TheVariants as list_errors
-use Rattle.link_base.specs.declared.fault.WriteError.{WriteError}
-use Rattle.link_base.specs.declared.fault.WriteError.TheVariants as write_errors
-use Rattle.link_base.specs.declared.fault.RewriteError.{RewriteError}
-use Rattle.link_base.specs.declared.fault.RewriteError.TheVariants as rewrite_errors
+use Rattle.link_base.specs.declared.wire.fault.Cause.{Cause}
+use Rattle.link_base.specs.declared.wire.fault.DecodeFault.{DecodeFault}
+use Rattle.link_base.specs.declared.wire.fault.DecodeFault.TheVariants as faults
+use Rattle.link_base.specs.declared.wire.fault.DecodeError.{DecodeError}
+use Rattle.link_base.specs.declared.wire.fault.DecodeError.TheVariants as errors
+use Rattle.link_base.specs.declared.wire.fault.ListError.{ListError}
+use Rattle.link_base.specs.declared.wire.fault.ListError.TheVariants as list_errors
+use Rattle.link_base.specs.declared.wire.fault.WriteError.{WriteError}
+use Rattle.link_base.specs.declared.wire.fault.WriteError.TheVariants as write_errors
+use Rattle.link_base.specs.declared.wire.fault.RewriteError.{RewriteError}
+use Rattle.link_base.specs.declared.wire.fault.RewriteError.TheVariants as rewrite_errors
 use Rattle.link_base.specs.Frame.{max_payload}
 use Rattle.link_base.specs.Wire.{Reading, Wire, FirstFault}
 use Rattle.link_base.specs.Table.{AttrValue, written_payload, written_list, Fits, nested_fault}

@@ -1,10 +1,11 @@
 -- What views borrow: the content of an attribute that decodes.
 use Rattle.std.specs.Prelude.{◌≡◌, ℕ, Bool, true, false, List, [], ◌∷◌, length, take, drop, Option, Some, None, Ok}
-use Rattle.link_base.specs.declared.content.Content.{Content as Borrowed}
-use Rattle.link_base.specs.declared.content.Content.TheVariants as borrowed
-use Rattle.link_base.specs.declared.label.Form.{Form}
-use Rattle.link_base.specs.declared.label.Form.TheVariants as forms
+use Rattle.link_base.specs.declared.views.content.Content.{Content as Borrowed}
+use Rattle.link_base.specs.declared.views.content.Content.TheVariants as borrowed
+use Rattle.link_base.specs.declared.rows.form.Form.{Form}
+use Rattle.link_base.specs.declared.rows.form.Form.TheVariants as forms
 use Rattle.link_base.specs.Class.{Value, Limits, Number, Integer, Boolean, Raw, Name, Unlisted, EtherType, LowByte, Nothing, extent, length_cause, meant}
+use Rattle.link_base.specs.Forms.{bytes_in}
 use Rattle.link_base.specs.IpAddress.{four_octets, sixteen_octets}
 use Rattle.link_base.specs.Layout.{octets_of}
 use Rattle.link_base.specs.Name.{before_nul}
@@ -21,10 +22,11 @@ told v = v
 abbrev pub Says : Borrowed → Value → Type 0
 Says borrowed.Nothing v = v ≡ Nothing
 Says (borrowed.Bool b) v = v ≡ Boolean b
-Says (borrowed.Unsigned x n) v = v ≡ Number n x
+Says (borrowed.Unsigned x w) v = v ≡ Number (bytes_in w) x
+Says (borrowed.Coded x w) v = v ≡ Number (bytes_in w) x
 Says (borrowed.Signed z) v = v ≡ Integer z
-Says (borrowed.Enum d n) v = told v ≡ Name n d
-Says (borrowed.Flags x n) v = v ≡ Number n x
+Says (borrowed.Enum d w) v = told v ≡ Name (bytes_in w) d
+Says (borrowed.Flags x w) v = v ≡ Number (bytes_in w) x
 Says (borrowed.LowFlags b) v = v ≡ LowByte b
 Says (borrowed.MaskedFlags flags mask) v = v ≡ Raw (octets_of 4 (flags ∷ mask ∷ []))
 Says (borrowed.Pair a b) v = v ≡ Raw (octets_of 4 (a ∷ b ∷ []))
@@ -33,7 +35,7 @@ Says (borrowed.Mac a) v = v ≡ Raw a
 Says (borrowed.Ipv4 a) v = v ≡ Raw (four_octets a)
 Says (borrowed.Ipv6 a) v = v ≡ Raw (sixteen_octets a)
 Says (borrowed.Bytes p) v = v ≡ Raw p.now
-Says (borrowed.Struct p) v = v ≡ Raw p.now
+Says (borrowed.Struct layout p) v = v ≡ Raw p.now
 Says (borrowed.U16s p) v = v ≡ Raw p.now
 Says (borrowed.U32s p) v = v ≡ Raw p.now
 Says content v = ⊥
@@ -50,7 +52,7 @@ SaysAddresses content n p = ⊥
 
 -- a borrowed content is the nested list in this payload
 abbrev pub SaysList : Borrowed → List ℕ → Type 0
-SaysList (borrowed.List list) p = list.now ≡ p
+SaysList (borrowed.List list flagged) p = list.now ≡ p
 SaysList content p = ⊥
 
 -- a borrowed content is this payload of an attribute without a row
@@ -70,10 +72,11 @@ Borrows (Some (Addresses n)) p content = SaysAddresses content n p
 abbrev pub form_of : Borrowed → Option Form
 form_of borrowed.Nothing = Some forms.Nothing
 form_of (borrowed.Bool b) = Some forms.Bool
-form_of (borrowed.Unsigned x n) = Some forms.Unsigned
+form_of (borrowed.Unsigned x w) = Some (forms.Unsigned w)
+form_of (borrowed.Coded x w) = Some (forms.Coded w)
 form_of (borrowed.Signed z) = Some forms.Signed
-form_of (borrowed.Enum d n) = Some forms.Enum
-form_of (borrowed.Flags x n) = Some forms.Flags
+form_of (borrowed.Enum d w) = Some (forms.Enum w)
+form_of (borrowed.Flags x w) = Some (forms.Flags w)
 form_of (borrowed.LowFlags b) = Some forms.LowFlags
 form_of (borrowed.MaskedFlags flags mask) = Some forms.MaskedFlags
 form_of (borrowed.Pair a b) = Some forms.Pair
@@ -82,17 +85,17 @@ form_of (borrowed.Mac a) = Some forms.Mac
 form_of (borrowed.Ipv4 a) = Some forms.Ipv4
 form_of (borrowed.Ipv6 a) = Some forms.Ipv6
 form_of (borrowed.Bytes p) = Some forms.Bytes
-form_of (borrowed.Struct p) = Some forms.Struct
+form_of (borrowed.Struct layout p) = Some (forms.Struct layout)
 form_of (borrowed.U16s p) = Some forms.U16s
 form_of (borrowed.U32s p) = Some forms.U32s
 form_of (borrowed.Limits name numbers) = Some forms.Limits
-form_of (borrowed.Addresses list size) = Some forms.Addresses
-form_of (borrowed.List list) = Some forms.List
+form_of (borrowed.Addresses list size) = Some (forms.Addresses size)
+form_of (borrowed.List list flagged) = Some (forms.List flagged)
 form_of (borrowed.Other p) = None
 
 -- a borrowed content is a nested list, or a list of addresses
 abbrev pub is_list : Borrowed → Bool
-is_list (borrowed.List list) = true
+is_list (borrowed.List list flagged) = true
 is_list (borrowed.Addresses list size) = true
 is_list content = false
 

@@ -1,10 +1,10 @@
 -- One frame of a list, as `NlaBuffer` represents it.
 use Rattle.std.specs.Prelude.{◌≡◌, ℕ, ◌+◌, List, Some, min, length, drop}
-use Rattle.link_base.specs.declared.buffer.NlaBuffer.{NlaBuffer}
-use Rattle.link_base.specs.declared.fault.DecodeError.{DecodeError}
-use Rattle.link_base.specs.declared.fault.DecodeError.TheVariants as errors
-use Rattle.link_base.specs.declared.fault.DecodeFault.TheVariants as faults
-use Rattle.link_base.specs.declared.fault.Cause.{Cause}
+use Rattle.link_base.specs.declared.wire.buffer.NlaBuffer.{NlaBuffer}
+use Rattle.link_base.specs.declared.wire.fault.DecodeError.{DecodeError}
+use Rattle.link_base.specs.declared.wire.fault.DecodeError.TheVariants as errors
+use Rattle.link_base.specs.declared.wire.fault.DecodeFault.TheVariants as faults
+use Rattle.link_base.specs.declared.wire.fault.Cause.{Cause}
 use Rattle.link_base.specs.Frame.{Frame, BeginsWith, bare, pad, frame_fault}
 use Rattle.link_base.specs.Table.{Shape, allows_by}
 

@@ -5,8 +5,8 @@ use Rattle.std.specs.List.{list_any}
 use Rattle.std.specs.Str.{IsUtf8}
 use Rattle.link_base.specs.Number.{IsBytes, number, bytes_of, bound}
 use Rattle.link_base.specs.Name.{name_of, name_field, cut_name, HasNoNul, IsNameField}
-use Rattle.link_base.specs.declared.fault.Cause.{Cause}
-use Rattle.link_base.specs.declared.fault.Cause.TheVariants.{WrongLength, TooShort}
+use Rattle.link_base.specs.declared.wire.fault.Cause.{Cause}
+use Rattle.link_base.specs.declared.wire.fault.Cause.TheVariants.{WrongLength, TooShort}
 
 -- ---- lengths
 

@@ -1,6 +1,6 @@
 -- The meaning of an attribute of any type.
 use Rattle.std.specs.Prelude.{[]}
-use Rattle.link_base.specs.declared.default_nla.DefaultNla.{DefaultNla}
+use Rattle.link_base.specs.declared.rows.default_nla.DefaultNla.{DefaultNla}
 use Rattle.link_base.specs.Table.{Table, Attr, Other}
 
 -- its `nla_type` and its payload

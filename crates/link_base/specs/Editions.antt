@@ -1,7 +1,7 @@
 -- Two versions of a table: the second has rows for attribute types that have none in the first.
 use Rattle.std.specs.Prelude.{◌≡◌, ◌↔◌, ℕ, not, false, List, ◌++◌, map, Result}
 use Rattle.std.specs.List.{filter, AllByRecursion}
-use Rattle.link_base.specs.declared.fault.DecodeFault.{DecodeFault}
+use Rattle.link_base.specs.declared.wire.fault.DecodeFault.{DecodeFault}
 use Rattle.link_base.specs.Frame.{Frame, IsComplete, BeginsWith, kind_of, spelled}
 use Rattle.link_base.specs.Class.{is_listed}
 use Rattle.link_base.specs.Wire.{Reads}

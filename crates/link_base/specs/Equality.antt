@@ -13,10 +13,10 @@ use denote.Struct.Values.{Values}
 use denote.Enum.Declared.{Record, Choice, declared}
 use denote.Enum.Bare.{sameb}
 use denote.Enum.Compared.{Each, by}
-use Rattle.link_base.specs.declared.default_nla.DefaultNla.{DefaultNla}
-use Rattle.link_base.specs.declared.vlan_protocol.VlanProtocol.{VlanProtocol}
-use Rattle.link_base.specs.declared.vlan_protocol.VlanProtocol.TheVariants.{Ieee8021Q, Ieee8021Ad}
-use Rattle.link_base.specs.contracts.vlan_protocol.VlanProtocol.{enum}
+use Rattle.link_base.specs.declared.rows.default_nla.DefaultNla.{DefaultNla}
+use Rattle.link_base.specs.declared.names.vlan_protocol.VlanProtocol.{VlanProtocol}
+use Rattle.link_base.specs.declared.names.vlan_protocol.VlanProtocol.TheVariants.{Ieee8021Q, Ieee8021Ad}
+use Rattle.link_base.specs.contracts.names.vlan_protocol.VlanProtocol.{enum}
 use Rattle.link_base.specs.Table.{Leaf, AttrValue, Case, Other, Single, Inner, Listed}
 use Rattle.std.specs.declared.net.ipv4_addr.Ipv4Addr.{Ipv4Addr}
 use Rattle.std.specs.declared.net.ipv6_addr.Ipv6Addr.{Ipv6Addr}

@@ -1,7 +1,10 @@
 -- Small tables for worked examples.
-use Rattle.std.specs.Prelude.{◌≡◌, ℕ, true, false, List, [], ◌∷◌, ◌++◌, replicate}
-use Rattle.link_base.specs.Payloads.{u32, ipv4, pair, no_value}
-use Rattle.link_base.specs.Table.{Table, AttrValue, row, nested_row, address_row, leaf_row, Gives, written_list}
+use Rattle.std.specs.Prelude.{◌≡◌, ℕ, true, false, List, [], ◌∷◌, ◌++◌, codes, replicate}
+use Rattle.link_base.specs.declared.rows.form.Form.{Form}
+use Rattle.link_base.specs.declared.rows.label.Quantity.TheVariants as quantities
+use Rattle.link_base.specs.Payloads.{u32, u16s, ipv4, pair, no_value}
+use Rattle.link_base.specs.WellFormed.{is_table}
+use Rattle.link_base.specs.Table.{Shape, Table, AttrValue, row, row_of, nested_row, address_row, leaf_row, Gives, written_list}
 use Rattle.link_base.specs.Wire.{Wire}
 
 -- s decodes to these values, and out is written for them
@@ -28,3 +31,19 @@ pairs = nested_row 3 "PAIRS" false (leaf_row 1 "PAIR" pair ∷ []) ∷ []
 -- the letter a thirteen times, then these bytes
 abbrev pub after_letters : List ℕ → List ℕ
 after_letters bytes = replicate 13 0x61 ++ bytes
+
+-- attribute type 1, with this form, these names, and payloads of this shape
+abbrev pub one_row : Form → List (ℕ × List ℕ) → Shape → Table
+one_row form names shape = row_of quantities.Number 1 (codes "ROW") form names shape ∷ []
+
+-- attribute type 3: a list with an array
+abbrev pub arrays : Table
+arrays = nested_row 3 "ARRAYS" false (leaf_row 1 "ARRAY" u16s ∷ []) ∷ []
+
+-- attribute type 1, whose name is no text
+abbrev pub nameless : Table
+nameless = row 1 "\n" u32 ∷ []
+
+-- a table that is not well formed
+abbrev pub IsRefused : Table → Type 0
+IsRefused table = is_table table ≡ false

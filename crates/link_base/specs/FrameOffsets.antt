@@ -1,7 +1,7 @@
 -- The results of a pass over the headers of a list.
 use Rattle.std.specs.Prelude.{◌≡◌, ◌⊎◌, ℕ, ◌+◌, ◌<◌, ◌≤◌, List, [], ◌∷◌, ◌++◌, length, drop, slice_index_or, Option, Some, None}
 use Rattle.std.specs.List.{AllByRecursion}
-use Rattle.link_base.specs.declared.fault.Cause.{Cause}
+use Rattle.link_base.specs.declared.wire.fault.Cause.{Cause}
 use Rattle.link_base.specs.Frame.{Frame, Frames, AreFrames, IsComplete, frame_bytes, spelled, frame_fault}
 
 -- the offsets of consecutive frames, the first of which is at `at`

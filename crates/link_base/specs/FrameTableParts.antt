@@ -1,8 +1,8 @@
 -- The parts of a `FrameTable`.
 use Rattle.std.specs.Prelude.{ℕ, List, drop, Option, slice_index_or}
-use Rattle.link_base.specs.declared.fault.Cause.{Cause}
-use Rattle.link_base.specs.declared.buffer.NlaBuffer.{NlaBuffer}
-use Rattle.link_base.specs.declared.frame_table.FrameTable.{FrameTable}
+use Rattle.link_base.specs.declared.wire.fault.Cause.{Cause}
+use Rattle.link_base.specs.declared.wire.buffer.NlaBuffer.{NlaBuffer}
+use Rattle.link_base.specs.declared.wire.frame_table.FrameTable.{FrameTable}
 use Rattle.link_base.specs.Frame.{BeginsWith}
 use Rattle.link_base.specs.Buffer.{frame_of}
 

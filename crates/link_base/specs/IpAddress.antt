@@ -5,8 +5,8 @@ use Rattle.std.specs.declared.net.ip_addr.IpAddr.TheVariants.{V4, V6}
 use Rattle.std.specs.declared.net.ipv4_addr.Ipv4Addr.{Ipv4Addr}
 use Rattle.std.specs.declared.net.ipv6_addr.Ipv6Addr.{Ipv6Addr}
 use Rattle.std.specs.Net.Addr.{ipv4_octets, ipv6_octets}
-use Rattle.link_base.specs.declared.fault.Cause.TheVariants.{AddressLength}
-use Rattle.link_base.specs.declared.fault.DecodeError.{DecodeError}
+use Rattle.link_base.specs.declared.wire.fault.Cause.TheVariants.{AddressLength}
+use Rattle.link_base.specs.declared.wire.fault.DecodeError.{DecodeError}
 use Rattle.link_base.specs.Answers.{refused}
 
 -- the IP address with these octets, 4 or 16; or the error `AddressLength` for any other length

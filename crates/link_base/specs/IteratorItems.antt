@@ -1,12 +1,12 @@
 -- The items of an iterator over attributes.
 use Rattle.std.specs.Prelude.{◌≡◌, ◌≢◌, ◌⊎◌, ℕ, ◌+◌, ◌/◌, ◌<◌, ◌≤◌, min, List, [], ◌∷◌, ◌++◌, length, map, Option, Some, None, Result, Ok, Err}
 use Rattle.std.specs.List.{AllByRecursion}
-use Rattle.link_base.specs.declared.buffer.NlaBuffer.{NlaBuffer}
-use Rattle.link_base.specs.declared.iterator.NlasIterator.{NlasIterator}
-use Rattle.link_base.specs.declared.fault.DecodeError.{DecodeError}
-use Rattle.link_base.specs.declared.fault.DecodeError.TheVariants as errors
-use Rattle.link_base.specs.declared.fault.DecodeFault.TheVariants as faults
-use Rattle.link_base.specs.declared.fault.Cause.{Cause}
+use Rattle.link_base.specs.declared.wire.buffer.NlaBuffer.{NlaBuffer}
+use Rattle.link_base.specs.declared.wire.iterator.NlasIterator.{NlasIterator}
+use Rattle.link_base.specs.declared.wire.fault.DecodeError.{DecodeError}
+use Rattle.link_base.specs.declared.wire.fault.DecodeError.TheVariants as errors
+use Rattle.link_base.specs.declared.wire.fault.DecodeFault.TheVariants as faults
+use Rattle.link_base.specs.declared.wire.fault.Cause.{Cause}
 use Rattle.link_base.specs.Frame.{Frame, Frames, IsComplete, spelled, frame_fault}
 use Rattle.link_base.specs.Buffer.{kind_field_of, payload_of, IsFrameFault, SplitsFirst}
 

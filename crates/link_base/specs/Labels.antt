@@ -1,9 +1,9 @@
 -- What is known of attribute types besides their payloads, as functions return it.
 use Rattle.std.specs.Prelude.{ℕ, ◌==◌, List, [], ◌∷◌, map, Option, Some, None, if◌then◌else◌}
-use Rattle.link_base.specs.declared.label.Quantity.{Quantity}
-use Rattle.link_base.specs.declared.label.Form.{Form}
-use Rattle.link_base.specs.declared.label.Name.{Name}
-use Rattle.link_base.specs.declared.label.KindLabel.{KindLabel}
+use Rattle.link_base.specs.declared.rows.label.Quantity.{Quantity}
+use Rattle.link_base.specs.declared.rows.form.Form.{Form}
+use Rattle.link_base.specs.declared.rows.label.Name.{Name}
+use Rattle.link_base.specs.declared.rows.label.KindLabel.{KindLabel}
 
 -- a name, with its number
 abbrev pub named : Name → ℕ × List ℕ

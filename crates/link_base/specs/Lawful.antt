@@ -2,7 +2,7 @@
 use Rattle.std.specs.Prelude.{◌≡◌, ℕ, ◌<◌, ◌≤◌, List, length, Result, Ok}
 use Rattle.link_base.specs.Number.{IsBytes}
 use Rattle.link_base.specs.Frame.{pad, max_payload}
-use Rattle.link_base.specs.declared.fault.DecodeFault.{DecodeFault}
+use Rattle.link_base.specs.declared.wire.fault.DecodeFault.{DecodeFault}
 use Rattle.link_base.specs.Wire.{Reading, FitsBy}
 use Rattle.link_base.specs.Table.{Table, Gives, written_kind, written_payload, canon, cut, Allows}
 use Rattle.link_base.specs.Held.{IsInRange, HidesNone, AttrIsUncut}

@@ -19,3 +19,7 @@ numbers_of width p = numbers_at width (length p / width) 0 p
 -- the bytes of consecutive numbers, `width` for each
 abbrev pub octets_of : ℕ → List ℕ → List ℕ
 octets_of width numbers = flat_map (bytes_of width) numbers
+
+-- the same of values that are numbers
+abbrev pub octets_by : {A : Type 0} → ℕ → (A → ℕ) → List A → List ℕ
+octets_by width value xs = flat_map (λ x. bytes_of width (value x)) xs

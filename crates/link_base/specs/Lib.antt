@@ -2,9 +2,11 @@ pub mod Number
 pub mod Frame
 pub mod Name
 pub mod Class
+pub mod Forms
 pub mod Payloads
 pub mod Wire
 pub mod Table
+pub mod Coherent
 pub mod Editions
 pub mod Held
 pub mod WellFormed
@@ -26,6 +28,7 @@ pub mod FrameTableParts
 pub mod Lift
 pub mod Borrowed
 pub mod Labels
+pub mod Fields
 pub mod Equality
 pub mod OneForm
 pub mod DefaultLawful

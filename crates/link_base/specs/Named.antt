@@ -6,9 +6,9 @@ use Rattle.std.specs.List.{list_any, list_all}
 use Rattle.std.specs.Str.{bytes_eq}
 use Rattle.std.specs.Str.Parse.{IsNumeral, digits_value, without_leading_plus}
 use Rattle.link_base.specs.Class.{Value, Name, Unlisted, is_listed}
-use Rattle.link_base.specs.declared.fault.DecodeError.{DecodeError}
-use Rattle.link_base.specs.declared.fault.DecodeError.TheVariants as errors
-use Rattle.link_base.specs.declared.fault.DecodeFault.TheVariants as faults
+use Rattle.link_base.specs.declared.wire.fault.DecodeError.{DecodeError}
+use Rattle.link_base.specs.declared.wire.fault.DecodeError.TheVariants as errors
+use Rattle.link_base.specs.declared.wire.fault.DecodeFault.TheVariants as faults
 
 -- a number that has a name: its variant, its `Display` output, the number
 pub record Label (T : Type 0) : Type 0 where
@@ -44,13 +44,13 @@ pub record Naming (T : Type 0) : Type 0 where
   pub other_text : OtherText
   pub accepted : Accepted
 
--- the numbers that have names
-abbrev pub numbers_of : {T : Type 0} → Naming T → List ℕ
-numbers_of names = map (λ l. l.number) names.labels
-
 -- the numbers that have names, each with its `Display` output
 abbrev pub texts_of : {T : Type 0} → Naming T → List (ℕ × List ℕ)
 texts_of names = map (λ l. (l.number, l.text)) names.labels
+
+-- the numbers that have names
+abbrev pub numbers_of : {T : Type 0} → Naming T → List ℕ
+numbers_of names = map (λ x. x.0) (texts_of names)
 
 -- the displayed names and the additional ones
 abbrev pub all_labels : {T : Type 0} → Naming T → List (Label T)

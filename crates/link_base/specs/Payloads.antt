@@ -1,107 +1,155 @@
--- What a row of a table says of payloads: their class, the form of their values, and the names of numbers or bits.
-use Rattle.std.specs.Prelude.{ℕ, List, []}
-use Rattle.link_base.specs.declared.label.Form.{Form}
-use Rattle.link_base.specs.declared.label.Form.TheVariants as forms
-use Rattle.link_base.specs.Class.{Extent, Exactly, Class, Unsigned, Signed, Truth, Octets, Bytes, Many, Named, Protocol, Low, Empty, Limits}
-use Rattle.link_base.specs.Named.{Naming, numbers_of, texts_of}
+-- What a row of a table says of payloads: the form of their values, the names of numbers or bits, and, by these, their
+-- class.
+use Rattle.std.specs.Prelude.{ℕ, Bool, true, false, List, [], map}
+use Rattle.link_base.specs.declared.rows.form.Width.TheVariants.{One, Two, Four, Eight}
+use Rattle.link_base.specs.declared.rows.form.Layout.{Layout}
+use Rattle.link_base.specs.declared.rows.form.Form.{Form}
+use Rattle.link_base.specs.declared.rows.form.Form.TheVariants as forms
+use Rattle.link_base.specs.Class.{Exactly, Class, Unsigned, Signed, Truth, Octets, Bytes, Many, Named, Protocol, Low, Empty, Limits}
+use Rattle.link_base.specs.Named.{Naming, texts_of}
+use Rattle.link_base.specs.Protocol.{vlan_protocols}
+use Rattle.link_base.specs.Forms.{bytes_in}
+use Rattle.link_base.specs.Forms.{layout_extent}
 
--- a class of payloads, the form of its values, and the names of its numbers or of its bits, each with its number
+-- the form of the values, and the names of their numbers or of their bits, each with its number
 pub record Payloads : Type 0 where
-  pub class : Class
   pub form : Form
   pub names : List (ℕ × List ℕ)
 
+-- the class of the payloads of a form that is no list
+abbrev pub class_by : Form → List (ℕ × List ℕ) → Class
+class_by forms.Nothing names = Empty
+class_by forms.Bool names = Truth
+class_by (forms.Unsigned w) names = Unsigned (bytes_in w)
+class_by (forms.Coded w) names = Unsigned (bytes_in w)
+class_by forms.Signed names = Signed
+class_by (forms.Enum w) names = Named (bytes_in w) (map (λ x. x.0) names)
+class_by (forms.Flags w) names = Unsigned (bytes_in w)
+class_by forms.LowFlags names = Low
+class_by forms.MaskedFlags names = Octets (Exactly 8)
+class_by forms.Pair names = Octets (Exactly 8)
+class_by forms.Protocol names = Protocol
+class_by forms.Mac names = Octets (Exactly 6)
+class_by forms.Ipv4 names = Octets (Exactly 4)
+class_by forms.Ipv6 names = Octets (Exactly 16)
+class_by forms.Bytes names = Bytes
+class_by (forms.Struct layout) names = Octets (layout_extent layout)
+class_by forms.U16s names = Many 2
+class_by forms.U32s names = Many 4
+class_by forms.Limits names = Limits
+class_by (forms.Addresses n) names = Bytes
+class_by (forms.List flagged) names = Bytes
+
+-- the class of these payloads
+abbrev pub class_of : Payloads → Class
+class_of p = class_by p.form p.names
+
+-- payloads of the form are written with one size
+abbrev pub is_fixed : Form → Bool
+is_fixed forms.Bytes = false
+is_fixed forms.U16s = false
+is_fixed forms.U32s = false
+is_fixed forms.Limits = false
+is_fixed (forms.Addresses n) = false
+is_fixed (forms.List flagged) = false
+is_fixed form = true
+
 -- without names
-abbrev pub plain : Form → Class → Payloads
-plain form c = record { class = c; form = form; names = [] }
+abbrev pub plain : Form → Payloads
+plain form = record { form = form; names = [] }
 
 -- ---- the words of rows: unsigned and signed numbers, and booleans
 
 abbrev pub u8 : Payloads
-u8 = plain forms.Unsigned (Unsigned 1)
+u8 = plain (forms.Unsigned One)
 
 abbrev pub u16 : Payloads
-u16 = plain forms.Unsigned (Unsigned 2)
+u16 = plain (forms.Unsigned Two)
 
 abbrev pub u32 : Payloads
-u32 = plain forms.Unsigned (Unsigned 4)
+u32 = plain (forms.Unsigned Four)
 
 abbrev pub u64 : Payloads
-u64 = plain forms.Unsigned (Unsigned 8)
+u64 = plain (forms.Unsigned Eight)
 
 abbrev pub i32 : Payloads
-i32 = plain forms.Signed Signed
+i32 = plain forms.Signed
 
 abbrev pub truth : Payloads
-truth = plain forms.Bool Truth
+truth = plain forms.Bool
 
 -- ---- enums, with the names of their numbers
 
-abbrev pub enum_of : {T : Type 0} → ℕ → Naming T → Payloads
-enum_of n names = record { class = Named n (numbers_of names); form = forms.Enum; names = texts_of names }
-
 abbrev pub u8_enum : {T : Type 0} → Naming T → Payloads
-u8_enum names = enum_of 1 names
+u8_enum names = record { form = forms.Enum One; names = texts_of names }
 
 abbrev pub u16_enum : {T : Type 0} → Naming T → Payloads
-u16_enum names = enum_of 2 names
+u16_enum names = record { form = forms.Enum Two; names = texts_of names }
 
 abbrev pub u32_enum : {T : Type 0} → Naming T → Payloads
-u32_enum names = enum_of 4 names
+u32_enum names = record { form = forms.Enum Four; names = texts_of names }
+
+-- a number of an enum of the headers, for which Rust has no enum
+abbrev pub u32_coded : List (ℕ × List ℕ) → Payloads
+u32_coded names = record { form = forms.Coded Four; names = names }
 
 -- ---- sets of flags, with the names of their bits
 
 abbrev pub u8_flags : List (ℕ × List ℕ) → Payloads
-u8_flags names = record { class = Unsigned 1; form = forms.Flags; names = names }
+u8_flags names = record { form = forms.Flags One; names = names }
 
 abbrev pub u16_flags : List (ℕ × List ℕ) → Payloads
-u16_flags names = record { class = Unsigned 2; form = forms.Flags; names = names }
+u16_flags names = record { form = forms.Flags Two; names = names }
 
 abbrev pub u32_flags : List (ℕ × List ℕ) → Payloads
-u32_flags names = record { class = Unsigned 4; form = forms.Flags; names = names }
+u32_flags names = record { form = forms.Flags Four; names = names }
 
 -- a set of one byte, in two bytes
 abbrev pub low_flags : List (ℕ × List ℕ) → Payloads
-low_flags names = record { class = Low; form = forms.LowFlags; names = names }
+low_flags names = record { form = forms.LowFlags; names = names }
 
 -- a set, and a mask
 abbrev pub masked_flags : List (ℕ × List ℕ) → Payloads
-masked_flags names = record { class = Octets (Exactly 8); form = forms.MaskedFlags; names = names }
+masked_flags names = record { form = forms.MaskedFlags; names = names }
 
 -- ---- addresses, structs, and bytes
 
 abbrev pub mac : Payloads
-mac = plain forms.Mac (Octets (Exactly 6))
+mac = plain forms.Mac
 
 abbrev pub ipv4 : Payloads
-ipv4 = plain forms.Ipv4 (Octets (Exactly 4))
+ipv4 = plain forms.Ipv4
 
 abbrev pub ipv6 : Payloads
-ipv6 = plain forms.Ipv6 (Octets (Exactly 16))
+ipv6 = plain forms.Ipv6
 
 abbrev pub vlan_protocol : Payloads
-vlan_protocol = plain forms.Protocol Protocol
+vlan_protocol = record { form = forms.Protocol; names = texts_of vlan_protocols }
 
 -- two `u32`s
 abbrev pub pair : Payloads
-pair = plain forms.Pair (Octets (Exactly 8))
+pair = plain forms.Pair
 
 -- a fixed-layout struct
-abbrev pub struct_of : Extent → Payloads
-struct_of e = plain forms.Struct (Octets e)
+abbrev pub struct_of : Layout → Payloads
+struct_of layout = plain (forms.Struct layout)
+
+-- one with sets of flags, and the names of their bits
+abbrev pub flags_struct : Layout → List (ℕ × List ℕ) → Payloads
+flags_struct layout names = record { form = forms.Struct layout; names = names }
 
 -- the limits of a CAN controller
 abbrev pub limits : Payloads
-limits = plain forms.Limits Limits
+limits = plain forms.Limits
 
 abbrev pub u16s : Payloads
-u16s = plain forms.U16s (Many 2)
+u16s = plain forms.U16s
 
 abbrev pub u32s : Payloads
-u32s = plain forms.U32s (Many 4)
+u32s = plain forms.U32s
 
 abbrev pub bytes : Payloads
-bytes = plain forms.Bytes Bytes
+bytes = plain forms.Bytes
 
 abbrev pub no_value : Payloads
-no_value = plain forms.Nothing Empty
+no_value = plain forms.Nothing

@@ -1,7 +1,7 @@
 -- The protocols of VLAN tags: their names, and their EtherTypes.
 use Rattle.std.specs.Prelude.{ℕ, [], ◌∷◌, codes}
-use Rattle.link_base.specs.declared.vlan_protocol.VlanProtocol.{VlanProtocol}
-use Rattle.link_base.specs.declared.vlan_protocol.VlanProtocol.TheVariants.{Ieee8021Q, Ieee8021Ad}
+use Rattle.link_base.specs.declared.names.vlan_protocol.VlanProtocol.{VlanProtocol}
+use Rattle.link_base.specs.declared.names.vlan_protocol.VlanProtocol.TheVariants.{Ieee8021Q, Ieee8021Ad}
 use Rattle.link_base.specs.Named.{Naming, label, Bare, AnyCase}
 
 -- ETH_P_8021Q and ETH_P_8021AD; every other number becomes 802.1Q, so that none is displayed as a number

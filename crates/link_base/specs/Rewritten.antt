@@ -1,9 +1,9 @@
 -- Lists and attributes that are re-encoded in one pass.
 use Rattle.std.specs.Prelude.{◌≡◌, ◌<◌, ◌≤◌, ℕ, Bool, IsTrue, List, ◌++◌, length, Option, Some, None, Result, Ok, Err}
 use Rattle.std.specs.List.{AllByRecursion}
-use Rattle.link_base.specs.declared.fault.DecodeError.{DecodeError}
-use Rattle.link_base.specs.declared.fault.RewriteError.{RewriteError}
-use Rattle.link_base.specs.declared.fault.RewriteError.TheVariants as errors
+use Rattle.link_base.specs.declared.wire.fault.DecodeError.{DecodeError}
+use Rattle.link_base.specs.declared.wire.fault.RewriteError.{RewriteError}
+use Rattle.link_base.specs.declared.wire.fault.RewriteError.TheVariants as errors
 use Rattle.link_base.specs.Frame.{Frame, IsComplete, BeginsWith, spelled, max_payload}
 use Rattle.link_base.specs.Wire.{Wire, FirstFault, FrameGives}
 use Rattle.link_base.specs.Table.{Table, AttrValue, Gives, Rewriting, TakesMemory, Fits, written_payload, written_frame}

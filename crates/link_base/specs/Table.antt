@@ -1,18 +1,18 @@
 -- Tables of attributes: what `nla_type` and a payload decode to, and how a value is written.
-use Rattle.std.specs.Prelude.{◌≡◌, ℕ, ◌+◌, ◌<◌, ◌==◌, Bool, List, [], ◌∷◌, length, map, Option, Some, None, Result, Ok, Err, codes, if◌then◌else◌}
+use Rattle.std.specs.Prelude.{option_map, ◌≡◌, ℕ, ◌+◌, ◌<◌, ◌==◌, Bool, List, [], ◌∷◌, length, map, Option, Some, None, Result, Ok, Err, codes, if◌then◌else◌}
 use Prim.Native.String.{String}
 use Rattle.std.specs.List.{filter, AllByRecursion}
-use Rattle.link_base.specs.declared.fault.Cause.{Cause}
-use Rattle.link_base.specs.declared.fault.DecodeFault.{DecodeFault}
-use Rattle.link_base.specs.declared.fault.DecodeFault.TheVariants as faults
-use Rattle.link_base.specs.declared.label.Quantity.{Quantity}
-use Rattle.link_base.specs.declared.label.Quantity.TheVariants as quantities
-use Rattle.link_base.specs.declared.label.Form.{Form}
-use Rattle.link_base.specs.declared.label.Form.TheVariants as forms
+use Rattle.link_base.specs.declared.wire.fault.Cause.{Cause}
+use Rattle.link_base.specs.declared.wire.fault.DecodeFault.{DecodeFault}
+use Rattle.link_base.specs.declared.wire.fault.DecodeFault.TheVariants as faults
+use Rattle.link_base.specs.declared.rows.label.Quantity.{Quantity}
+use Rattle.link_base.specs.declared.rows.label.Quantity.TheVariants as quantities
+use Rattle.link_base.specs.declared.rows.form.Form.{Form}
+use Rattle.link_base.specs.declared.rows.form.Form.TheVariants as forms
 use Rattle.link_base.specs.Frame.{Frame, IsComplete, kind_of, kind_limit, frame_bytes, spelled}
 use Rattle.link_base.specs.Class
 use Rattle.link_base.specs.Class.{Class, Value, class_value, written, IsCanonicalPayload}
-use Rattle.link_base.specs.Payloads.{Payloads}
+use Rattle.link_base.specs.Payloads.{Payloads, class_of}
 use Rattle.link_base.specs.Wire.{Reading, Reads, Wire, CanonicalBy, FirstOtherBy, RewritingBy, written_by, FitsBy, whole}
 
 -- ---- rows, and attributes of a table
@@ -21,31 +21,37 @@ use Rattle.link_base.specs.Wire.{Reading, Reads, Wire, CanonicalBy, FirstOtherBy
 -- its numbers or bits, and what its payloads are
 pub record Row (C : Type 0) : Type 0 where
   pub kind : ℕ
-  pub name : String
+  pub name : List ℕ
   pub quantity : Quantity
   pub form : Form
   pub names : List (ℕ × List ℕ)
   pub class : C
 
 -- a row for this attribute type, whose payloads are those of c
-abbrev pub row_of : {C : Type 0} → Quantity → ℕ → String → Form → List (ℕ × List ℕ) → C → Row C
+abbrev pub row_of : {C : Type 0} → Quantity → ℕ → List ℕ → Form → List (ℕ × List ℕ) → C → Row C
 row_of q k name form names c = record { kind = k; name = name; quantity = q; form = form; names = names; class = c }
+
+-- the row of an attribute type
+abbrev pub row_at : {C : Type 0} → List (Row C) → ℕ → Option (Row C)
+row_at [] k = None
+row_at (r ∷ rows) k = if r.kind == k then Some r else row_at rows k
 
 -- what the payloads of an attribute type are, if it has a row
 abbrev pub class_at : {C : Type 0} → List (Row C) → ℕ → Option C
-class_at [] k = None
-class_at (r ∷ rows) k = if r.kind == k then Some r.class else class_at rows k
+class_at rows k = option_map (λ r. r.class) (row_at rows k)
 
 -- the form of the values of an attribute type, if it has a row
 abbrev pub form_at : {C : Type 0} → List (Row C) → ℕ → Option Form
-form_at [] k = None
-form_at (r ∷ rows) k = if r.kind == k then Some r.form else form_at rows k
+form_at rows k = option_map (λ r. r.form) (row_at rows k)
+
+-- what a row says of its attribute type besides its payloads
+abbrev pub label_by : {C : Type 0} → Row C → List ℕ × Quantity × Form × List (ℕ × List ℕ)
+label_by r = (r.name, r.quantity, r.form, r.names)
 
 -- the name of an attribute type, what its numbers count, the form of its values, and the names of its numbers or bits,
 -- if it has a row
 abbrev pub label_at : {C : Type 0} → List (Row C) → ℕ → Option (List ℕ × Quantity × Form × List (ℕ × List ℕ))
-label_at [] k = None
-label_at (r ∷ rows) k = if r.kind == k then Some (codes r.name, r.quantity, r.form, r.names) else label_at rows k
+label_at rows k = option_map label_by (row_at rows k)
 
 -- an attribute: the variant for an attribute type that has a row (`Case`), or any other `nla_type` and payload
 pub data Attr (V : Type 0) : Type 0 where
@@ -60,10 +66,10 @@ Rows = List (Row Class)
 
 -- a row of such a table: the attribute type, its name, and its payloads; then likewise for numbers that count something
 abbrev pub leaf_row : ℕ → String → Payloads → Row Class
-leaf_row k name p = row_of quantities.Number k name p.form p.names p.class
+leaf_row k name p = row_of quantities.Number k (codes name) p.form p.names (class_of p)
 
 abbrev pub leaf_row_in : Quantity → ℕ → String → Payloads → Row Class
-leaf_row_in q k name p = row_of q k name p.form p.names p.class
+leaf_row_in q k name p = row_of q k (codes name) p.form p.names (class_of p)
 
 -- an attribute of a table without lists
 abbrev pub Leaf : Type 0
@@ -109,18 +115,18 @@ pub data Shape : Type 0 where
 
 -- a row for an attribute type whose payloads have one class; then likewise for numbers that count something
 abbrev pub row : ℕ → String → Payloads → Row Shape
-row k name p = row_of quantities.Number k name p.form p.names (One p.class)
+row k name p = row_of quantities.Number k (codes name) p.form p.names (One (class_of p))
 
 abbrev pub row_in : Quantity → ℕ → String → Payloads → Row Shape
-row_in q k name p = row_of q k name p.form p.names (One p.class)
+row_in q k name p = row_of q k (codes name) p.form p.names (One (class_of p))
 
 -- a row for an attribute type whose payloads are nested lists, and whether they are written with the nested flag; then
 -- for lists of addresses of n bytes each
 abbrev pub nested_row : ℕ → String → Bool → Rows → Row Shape
-nested_row k name flagged rows = row_of quantities.Number k name forms.List [] (Nested flagged rows)
+nested_row k name flagged rows = row_of quantities.Number k (codes name) (forms.List flagged) [] (Nested flagged rows)
 
 abbrev pub address_row : ℕ → String → ℕ → Row Shape
-address_row k name n = row_of quantities.Number k name forms.Addresses [] (Addresses n)
+address_row k name n = row_of quantities.Number k (codes name) (forms.Addresses n) [] (Addresses n)
 
 -- the content of an attribute
 pub data Content : Type 0 where
@@ -286,12 +292,6 @@ IsCanonicalContent (Addresses n) p = AreAddresses n p
 abbrev pub shape_flag : Shape → ℕ
 shape_flag (Nested flagged rows) = nested_flag flagged
 shape_flag shape = 0
-
--- what a table says of an attribute type, if it has a row: as `label_at`, then its shape and the flag of its shape
-abbrev pub entry_at : Table → ℕ → Option (List ℕ × Quantity × Form × List (ℕ × List ℕ) × Shape × ℕ)
-entry_at [] k = None
-entry_at (r ∷ rows) k = if r.kind == k
-    then Some (codes r.name, r.quantity, r.form, r.names, r.class, shape_flag r.class) else entry_at rows k
 
 -- `nla_type` is the attribute type of the row with the flag of its shape, and the payload is canonical; or no row has
 -- the attribute type

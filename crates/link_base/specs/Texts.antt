@@ -1,10 +1,10 @@
 -- The `Display` output of `Cause` and `DecodeFault`.
 use Rattle.std.specs.Prelude.{ℕ, List, ◌++◌, codes}
 use Rattle.std.specs.Fmt.{decimal}
-use Rattle.link_base.specs.declared.fault.Cause.{Cause}
-use Rattle.link_base.specs.declared.fault.Cause.TheVariants.{ShortFrame, SmallLength, Overrun, WrongLength, TooShort, AddressLength}
-use Rattle.link_base.specs.declared.fault.DecodeFault.{DecodeFault}
-use Rattle.link_base.specs.declared.fault.DecodeFault.TheVariants.{Frame, Value, NestedFrame, NestedValue, Payload, Text}
+use Rattle.link_base.specs.declared.wire.fault.Cause.{Cause}
+use Rattle.link_base.specs.declared.wire.fault.Cause.TheVariants.{ShortFrame, SmallLength, Overrun, WrongLength, TooShort, AddressLength}
+use Rattle.link_base.specs.declared.wire.fault.DecodeFault.{DecodeFault}
+use Rattle.link_base.specs.declared.wire.fault.DecodeFault.TheVariants.{Frame, Value, NestedFrame, NestedValue, Payload, Text}
 
 -- why an attribute or a payload is malformed
 abbrev pub cause_text : Cause → List ℕ

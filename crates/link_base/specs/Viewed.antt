@@ -1,18 +1,18 @@
 -- Views of lists: the attributes of a list that decodes.
 use Rattle.std.specs.Prelude.{◌≡◌, ◌≢◌, ◌⊎◌, ℕ, ◌+◌, ◌-◌, ◌==◌, Bool, true, false, List, [], ◌∷◌, ◌++◌, length, map, reverse, Option, Some, None, Result, Ok, Err, if◌then◌else◌}
 use Rattle.std.specs.List.{AllZip, AllByRecursion}
-use Rattle.link_base.specs.declared.attribute_set.AttributeSet as sets
-use Rattle.link_base.specs.declared.attribute_set.ElementSet.{ElementSet}
-use Rattle.link_base.specs.declared.view.View.{View}
-use Rattle.link_base.specs.declared.view.Value.{Value as Item}
-use Rattle.link_base.specs.declared.view_all.ViewAll.{ViewAll}
-use Rattle.link_base.specs.declared.buffer.NlaBuffer.{NlaBuffer}
-use Rattle.link_base.specs.declared.label.Form.{Form}
-use Rattle.link_base.specs.declared.label.Form.TheVariants as forms
-use Rattle.link_base.specs.declared.fault.ListFault.{ListFault}
-use Rattle.link_base.specs.declared.fault.DecodeFault.{DecodeFault}
-use Rattle.link_base.specs.declared.fault.DecodeFault.TheVariants as faults
-use Rattle.link_base.specs.declared.fault.Cause.{Cause}
+use Rattle.link_base.specs.declared.views.attribute_set.AttributeSet as sets
+use Rattle.link_base.specs.declared.views.attribute_set.ElementSet.{ElementSet}
+use Rattle.link_base.specs.declared.views.view.View.{View}
+use Rattle.link_base.specs.declared.views.view.Value.{Value as Item}
+use Rattle.link_base.specs.declared.views.view_all.ViewAll.{ViewAll}
+use Rattle.link_base.specs.declared.wire.buffer.NlaBuffer.{NlaBuffer}
+use Rattle.link_base.specs.declared.rows.form.Form.{Form}
+use Rattle.link_base.specs.declared.rows.form.Form.TheVariants as forms
+use Rattle.link_base.specs.declared.wire.fault.ListFault.{ListFault}
+use Rattle.link_base.specs.declared.wire.fault.DecodeFault.{DecodeFault}
+use Rattle.link_base.specs.declared.wire.fault.DecodeFault.TheVariants as faults
+use Rattle.link_base.specs.declared.wire.fault.Cause.{Cause}
 use Rattle.link_base.specs.Number.{number}
 use Rattle.link_base.specs.Class.{Extent, Exactly, accepted, value_only}
 use Rattle.link_base.specs.Wire.{Wire, FirstFault}
@@ -192,11 +192,12 @@ ViewsElementsOf shape k p None = Unit {0}
 
 -- whether a form is that of unsigned numbers; then likewise of structs
 abbrev pub is_unsigned : Option Form → Bool
-is_unsigned (Some forms.Unsigned) = true
+is_unsigned (Some (forms.Unsigned w)) = true
+is_unsigned (Some (forms.Coded w)) = true
 is_unsigned form = false
 
 abbrev pub is_struct : Option Form → Bool
-is_struct (Some forms.Struct) = true
+is_struct (Some (forms.Struct layout)) = true
 is_struct form = false
 
 -- the unsigned number in a payload of this form, if it has n bytes

@@ -4,7 +4,8 @@ use Rattle.std.specs.List.{list_all}
 use Rattle.link_base.specs.Number.{bound}
 use Rattle.link_base.specs.Frame.{kind_limit}
 use Rattle.link_base.specs.Class.{Extent, AtLeast, Multiple, Class, Octets, Many, Named, Empty, Limits}
-use Rattle.link_base.specs.Table.{Row, Shape, One, Nested, Addresses, Table}
+use Rattle.link_base.specs.Coherent.{is_shape_of}
+use Rattle.link_base.specs.Table.{Row, Rows, Shape, One, Nested, Addresses, Table}
 
 -- the extent is a number of bytes, not a multiple of one
 abbrev pub is_record : Extent → Bool
@@ -28,9 +29,9 @@ is_kept Limits = false
 is_kept c = true
 
 -- rows of strictly increasing attribute types below `kind_limit`, each of which passes a test
-abbrev pub are_rows : {C : Type 0} → (C → Bool) → ℕ → List (Row C) → Bool
+abbrev pub are_rows : {C : Type 0} → (Row C → Bool) → ℕ → List (Row C) → Bool
 are_rows test least [] = true
-are_rows test least (r ∷ rows) = nat_le least r.kind && (nat_lt r.kind kind_limit && (test r.class && are_rows test (r.kind + 1) rows))
+are_rows test least (r ∷ rows) = nat_le least r.kind && (nat_lt r.kind kind_limit && (test r && are_rows test (r.kind + 1) rows))
 
 -- a class that a row of a nested list may have: the written payload is as long as the decoded one
 abbrev pub is_nested_class : Class → Bool
@@ -39,12 +40,30 @@ is_nested_class c = is_class c && is_kept c
 -- a single value, a nested list whose rows keep the length of payloads, or addresses of 4 or 16 bytes
 abbrev pub is_shape : Shape → Bool
 is_shape (One c) = is_class c
-is_shape (Nested flagged rows) = are_rows is_nested_class 0 rows
+is_shape (Nested flagged rows) = are_rows (λ r. is_nested_class r.class) 0 rows
 is_shape (Addresses n) = n == 4 || n == 16
+
+-- a printable ASCII character
+abbrev pub is_printable : ℕ → Bool
+is_printable b = nat_lt 31 b && nat_lt b 127
+
+-- the name of a row, and those of its numbers or bits, are printable
+abbrev pub has_text : {C : Type 0} → Row C → Bool
+has_text r = list_all is_printable r.name && list_all (λ x. list_all is_printable x.1) r.names
+
+-- the rows of nested lists
+abbrev pub rows_in : Shape → Rows
+rows_in (One c) = []
+rows_in (Nested flagged rows) = rows
+rows_in (Addresses n) = []
+
+-- such a shape, which goes with the form, and printable names
+abbrev pub is_row : Row Shape → Bool
+is_row r = is_shape r.class && (is_shape_of r.form r.names r.class && (has_text r && list_all has_text (rows_in r.class)))
 
 -- the table is well formed
 abbrev pub is_table : Table → Bool
-is_table table = are_rows is_shape 0 table
+is_table table = are_rows is_row 0 table
 
 -- a nested list in a payload of 65529 bytes or more: its last element lacks padding, and with it there would be 65532
 abbrev pub IsOverfull : Option Shape → List ℕ → Type 0

@@ -1,9 +1,9 @@
 -- The grammars of lists, for any way to decode one attribute.
 use Rattle.std.specs.Prelude.{◌≡◌, ◌⊎◌, ℕ, ◌<◌, ◌≤◌, List, ◌++◌, length, replicate, Some, Result, Ok, Err}
 use Rattle.std.specs.List.{flat_map, AllZip, AllByRecursion}
-use Rattle.link_base.specs.declared.fault.Cause.{Cause}
-use Rattle.link_base.specs.declared.fault.DecodeFault.{DecodeFault}
-use Rattle.link_base.specs.declared.fault.DecodeFault.TheVariants as faults
+use Rattle.link_base.specs.declared.wire.fault.Cause.{Cause}
+use Rattle.link_base.specs.declared.wire.fault.DecodeFault.{DecodeFault}
+use Rattle.link_base.specs.declared.wire.fault.DecodeFault.TheVariants as faults
 use Rattle.link_base.specs.Frame.{Frame, Frames, IsComplete, BeginsWith, frame_bytes, spelled, gap, frame_fault, max_payload}
 
 -- How attributes decode: from `nla_type` and a payload to a value or an error.

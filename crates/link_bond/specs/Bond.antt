@@ -3,7 +3,7 @@ use Rattle.std.specs.Prelude.{[], ◌∷◌, map, false}
 use Rattle.link_base.specs.Class.{Number, Boolean, Raw}
 use Rattle.link_base.specs.Payloads.{u8, u16, u32, truth, u8_enum, u32_enum, mac}
 use Rattle.link_base.specs.Named.{numbers_of, seen_value}
-use Rattle.link_base.specs.declared.label.Quantity.TheVariants.{InterfaceIndex, Milliseconds, Seconds}
+use Rattle.link_base.specs.declared.rows.label.Quantity.TheVariants.{InterfaceIndex, Milliseconds, Seconds}
 use Rattle.link_base.specs.Table.{Table, AttrValue, Case, Single, Inner, Listed, row, row_in, nested_row, address_row}
 use Rattle.link_base.specs.IpAddress.{four_octets, sixteen_octets}
 use Rattle.link_base.specs.Default.{default_means}

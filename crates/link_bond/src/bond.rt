@@ -20,9 +20,9 @@ pub use arp_all_targets::BondArpAllTargets;
 pub use arp_validate::BondArpValidate;
 pub use fail_over_mac::BondFailOverMac;
 pub use lacp_rate::BondLacpRate;
-use link_base::content::Content;
-use link_base::label::KindLabel;
-use link_base::rows::{self, AttributeRows, RowVisitor};
+use link_base::rows::by_rows::{self, AttributeRows, RowVisitor};
+use link_base::rows::label::KindLabel;
+use link_base::views::content::Content;
 use link_base::{
     AddressList, Attribute, DecodeError, DecodeFault, DefaultNla, Meaning, Named, NestedList, Nla,
     NlaBuffer, Parseable, Place, TryClone,
@@ -223,20 +223,20 @@ impl Attribute for InfoBond {
 
     #[inline(always)]
     fn check(buffer: &NlaBuffer<'_>) -> Result<(), DecodeFault> {
-        rows::check::<Self>(buffer)
+        by_rows::check::<Self>(buffer)
     }
 
     #[inline(always)]
     fn borrow<'a>(list: Option<u16>, buffer: &NlaBuffer<'a>) -> Content<'a> {
-        rows::borrow::<Self>(list, buffer)
+        by_rows::borrow::<Self>(list, buffer)
     }
 
     fn label(list: Option<u16>, kind: u16) -> Option<KindLabel> {
-        rows::label::<Self>(list, kind)
+        by_rows::label::<Self>(list, kind)
     }
 
     fn canonical(buffer: &NlaBuffer<'_>) -> bool {
-        rows::canonical::<Self>(buffer)
+        by_rows::canonical::<Self>(buffer)
     }
 
     ghost lawful = { lawful bond_table };

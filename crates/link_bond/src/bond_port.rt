@@ -9,9 +9,9 @@ mod port_state;
 
 pub use churn_state::ChurnState;
 pub use lacp_state::LacpState;
-use link_base::content::Content;
-use link_base::label::KindLabel;
-use link_base::rows::{self, AttributeRows, RowVisitor};
+use link_base::rows::by_rows::{self, AttributeRows, RowVisitor};
+use link_base::rows::label::KindLabel;
+use link_base::views::content::Content;
 use link_base::{
     Attribute, DecodeError, DecodeFault, DefaultNla, FlagBits, LowFlagBits, Meaning, Named, Nla,
     NlaBuffer, Parseable, Place, TryClone,
@@ -131,20 +131,20 @@ impl Attribute for InfoBondPort {
 
     #[inline(always)]
     fn check(buffer: &NlaBuffer<'_>) -> Result<(), DecodeFault> {
-        rows::check::<Self>(buffer)
+        by_rows::check::<Self>(buffer)
     }
 
     #[inline(always)]
     fn borrow<'a>(list: Option<u16>, buffer: &NlaBuffer<'a>) -> Content<'a> {
-        rows::borrow::<Self>(list, buffer)
+        by_rows::borrow::<Self>(list, buffer)
     }
 
     fn label(list: Option<u16>, kind: u16) -> Option<KindLabel> {
-        rows::label::<Self>(list, kind)
+        by_rows::label::<Self>(list, kind)
     }
 
     fn canonical(buffer: &NlaBuffer<'_>) -> bool {
-        rows::canonical::<Self>(buffer)
+        by_rows::canonical::<Self>(buffer)
     }
 
     ghost lawful = { lawful bond_port_table };

@@ -2,6 +2,7 @@
 use Rattle.std.specs.Prelude.{◌≡◌, ◌-◌, ◌^◌, ℕ, List, [], ◌∷◌, codes, refl}
 use Rattle.bitflags.specs.Sets.{Row, known_from, known_bits}
 use Rattle.link_base.specs.Layout.{number_at, octets_of}
+use Rattle.link_base.specs.Fields.{PartValue, PartNumber}
 use Rattle.link_bridge.specs.declared.bridge_boolopt.flags.BridgeBooleanOptionFlags.{BridgeBooleanOptionFlags}
 use Rattle.link_bridge.specs.declared.bridge_boolopt.BridgeBooleanOptions.{BridgeBooleanOptions}
 
@@ -44,3 +45,7 @@ options_of p = record { value = options_at 0 p; mask = options_at 4 p }
 -- the bytes of options
 abbrev pub options_octets : BridgeBooleanOptions → List ℕ
 options_octets options = octets_of 4 (option_bits options.value ∷ option_bits options.mask ∷ [])
+
+-- what their fields hold
+abbrev pub options_held : BridgeBooleanOptions → List PartValue
+options_held options = PartNumber (option_bits options.value) ∷ PartNumber (option_bits options.mask) ∷ []

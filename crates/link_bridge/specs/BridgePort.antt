@@ -2,8 +2,9 @@
 use Rattle.std.specs.Prelude.{ℕ, List, [], ◌∷◌}
 use Rattle.link_base.specs.Class.{AtLeast, Number, Boolean, Raw, Nothing}
 use Rattle.link_base.specs.Payloads.{u16, u32, u64, truth, u8_enum, struct_of, no_value}
+use Rattle.link_base.specs.declared.rows.form.Layout.TheVariants as layouts
 use Rattle.link_base.specs.Named.{numbers_of, seen_value}
-use Rattle.link_base.specs.declared.label.Quantity.TheVariants.{ClockTicks, InterfaceIndex, Mask}
+use Rattle.link_base.specs.declared.rows.label.Quantity.TheVariants.{ClockTicks, InterfaceIndex, Mask}
 use Rattle.link_base.specs.Table.{Table, AttrValue, Case, Single, row, row_in}
 use Rattle.link_base.specs.Default.{default_means}
 use Rattle.link_bridge.specs.Names.{port_state_names, port_state_seen, router_type_names, router_type_seen}
@@ -26,8 +27,8 @@ bridge_port_table =
     row 10 "IFLA_BRPORT_PROXYARP" truth ∷
     row 11 "IFLA_BRPORT_LEARNING_SYNC" truth ∷
     row 12 "IFLA_BRPORT_PROXYARP_WIFI" truth ∷
-    row 13 "IFLA_BRPORT_ROOT_ID" (struct_of (AtLeast 8)) ∷
-    row 14 "IFLA_BRPORT_BRIDGE_ID" (struct_of (AtLeast 8)) ∷
+    row 13 "IFLA_BRPORT_ROOT_ID" (struct_of layouts.BridgeId) ∷
+    row 14 "IFLA_BRPORT_BRIDGE_ID" (struct_of layouts.BridgeId) ∷
     row_in Mask 15 "IFLA_BRPORT_DESIGNATED_PORT" u16 ∷
     row 16 "IFLA_BRPORT_DESIGNATED_COST" u16 ∷
     row_in Mask 17 "IFLA_BRPORT_ID" u16 ∷
@@ -77,8 +78,8 @@ bridge_port_table_first =
     row 9 "IFLA_BRPORT_UNICAST_FLOOD" truth ∷
     row 10 "IFLA_BRPORT_PROXYARP" truth ∷
     row 12 "IFLA_BRPORT_PROXYARP_WIFI" truth ∷
-    row 13 "IFLA_BRPORT_ROOT_ID" (struct_of (AtLeast 8)) ∷
-    row 14 "IFLA_BRPORT_BRIDGE_ID" (struct_of (AtLeast 8)) ∷
+    row 13 "IFLA_BRPORT_ROOT_ID" (struct_of layouts.BridgeId) ∷
+    row 14 "IFLA_BRPORT_BRIDGE_ID" (struct_of layouts.BridgeId) ∷
     row_in Mask 15 "IFLA_BRPORT_DESIGNATED_PORT" u16 ∷
     row 16 "IFLA_BRPORT_DESIGNATED_COST" u16 ∷
     row_in Mask 17 "IFLA_BRPORT_ID" u16 ∷

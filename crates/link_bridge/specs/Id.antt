@@ -1,6 +1,7 @@
 -- Bridge IDs: what payloads mean, and the bytes of values.
-use Rattle.std.specs.Prelude.{ℕ, List, ◌++◌, take, drop, reverse}
+use Rattle.std.specs.Prelude.{ℕ, List, [], ◌∷◌, ◌++◌, take, drop, reverse}
 use Rattle.link_base.specs.Number.{number, bytes_of}
+use Rattle.link_base.specs.Fields.{PartValue, PartNumber, PartOctets}
 use Rattle.link_bridge.specs.declared.bridge.id.BridgeId.{BridgeId}
 use Rattle.link_bridge.specs.declared.bridge.id.BridgeIdBuffer.{BridgeIdBuffer}
 
@@ -11,6 +12,10 @@ id_of p = record { priority = number (reverse (take 2 p)); address = take 6 (dro
 -- the bytes of an ID
 abbrev pub id_octets : BridgeId → List ℕ
 id_octets id = reverse (bytes_of 2 id.priority) ++ id.address
+
+-- what its fields hold
+abbrev pub id_held : BridgeId → List PartValue
+id_held id = PartNumber id.priority ∷ PartOctets id.address ∷ []
 
 -- the bytes of the two fields of an ID
 abbrev pub buffer_of : BridgeId → BridgeIdBuffer

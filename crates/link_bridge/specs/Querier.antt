@@ -3,7 +3,7 @@ use Rattle.std.specs.Prelude.{[], ◌∷◌}
 use Rattle.link_base.specs.Class.{Number, Raw}
 use Rattle.link_base.specs.Payloads.{u32, u64, ipv4, ipv6}
 use Rattle.link_base.specs.IpAddress.{four_octets, sixteen_octets}
-use Rattle.link_base.specs.declared.label.Quantity.TheVariants.{ClockTicks, InterfaceIndex}
+use Rattle.link_base.specs.declared.rows.label.Quantity.TheVariants.{ClockTicks, InterfaceIndex}
 use Rattle.link_base.specs.Table.{Rows, Leaf, Case, leaf_row, leaf_row_in}
 use Rattle.link_base.specs.Default.{default_means}
 use Rattle.link_bridge.specs.declared.bridge.querier.BridgeQuerierState.{BridgeQuerierState}

@@ -2,6 +2,7 @@
 use Rattle.std.specs.Prelude.{◌≡◌, ◌-◌, ◌^◌, ℕ, List, [], ◌∷◌, codes, refl}
 use Rattle.bitflags.specs.Sets.{Row, known_from, known_bits}
 use Rattle.link_base.specs.Layout.{number_at, octets_of}
+use Rattle.link_base.specs.Fields.{PartValue, PartNumber}
 use Rattle.link_bridge.specs.declared.af_spec.vlan_info_flags.BridgeVlanInfoFlags.{BridgeVlanInfoFlags}
 use Rattle.link_bridge.specs.declared.af_spec.vlan_info.BridgeVlanInfo.{BridgeVlanInfo}
 
@@ -44,3 +45,7 @@ vlan_info_of p = record { flags = record { 0 = number_at 2 0 p }; vid = number_a
 -- the bytes of a VLAN
 abbrev pub vlan_info_octets : BridgeVlanInfo → List ℕ
 vlan_info_octets info = octets_of 2 (vlan_info_bits info.flags ∷ info.vid ∷ [])
+
+-- what its fields hold
+abbrev pub vlan_info_held : BridgeVlanInfo → List PartValue
+vlan_info_held info = PartNumber info.vid ∷ PartNumber (vlan_info_bits info.flags) ∷ []

@@ -13,9 +13,9 @@ mod vlan_info;
 mod vlan_info_flags;
 
 pub use flag::BridgeFlag;
-use link_base::content::Content;
-use link_base::label::KindLabel;
-use link_base::rows::{self, AttributeRows, RowVisitor};
+use link_base::rows::by_rows::{self, AttributeRows, RowVisitor};
+use link_base::rows::label::KindLabel;
+use link_base::views::content::Content;
 use link_base::{
     Attribute, DecodeError, DecodeFault, DefaultNla, ListError, Meaning, Named, NestedList, Nla,
     NlaBuffer, Parseable, Place, Struct, TryClone, read_list,
@@ -130,20 +130,20 @@ impl Attribute for AfSpecBridge {
 
     #[inline(always)]
     fn check(buffer: &NlaBuffer<'_>) -> Result<(), DecodeFault> {
-        rows::check::<Self>(buffer)
+        by_rows::check::<Self>(buffer)
     }
 
     #[inline(always)]
     fn borrow<'a>(list: Option<u16>, buffer: &NlaBuffer<'a>) -> Content<'a> {
-        rows::borrow::<Self>(list, buffer)
+        by_rows::borrow::<Self>(list, buffer)
     }
 
     fn label(list: Option<u16>, kind: u16) -> Option<KindLabel> {
-        rows::label::<Self>(list, kind)
+        by_rows::label::<Self>(list, kind)
     }
 
     fn canonical(buffer: &NlaBuffer<'_>) -> bool {
-        rows::canonical::<Self>(buffer)
+        by_rows::canonical::<Self>(buffer)
     }
 
     ghost lawful = { lawful af_spec_table };

@@ -1,15 +1,19 @@
 //! Boolean options of a bridge.
 
-ghost use Rattle.std.specs.Prelude.{◌≡◌, take, IfOk};
+ghost use Rattle.std.specs.Prelude.{refl, ◌≡◌, take, IfOk};
+ghost use Rattle.link_base.specs.declared.rows.form.Layout.TheVariants as layouts;
 ghost use Rattle.link_base.specs.Class.{accepted, Fixed};
 ghost use Rattle.link_base.specs.Answers.{payload_result};
-ghost use Rattle.link_bridge.specs.BooleanOptions.{options_of, options_octets};
+ghost use Rattle.link_bridge.specs.BooleanOptions.{option_bit_names, options_of, options_octets, options_held};
 
 mod flags;
 
 use bitflags::Flags;
 pub use flags::BridgeBooleanOptionFlags;
-use link_base::{DecodeError, Emitable, Lengths, PayloadStruct, check_length, emit_u32s, u32s_at};
+use link_base::names::flag_laws::FlagSet;
+use link_base::rows::form::Layout;
+use link_base::rows::label::Name;
+use link_base::{DecodeError, Emitable, PayloadStruct, check_length, emit_numbers, u32s_at};
 
 /// Length of the options as a payload, in bytes.
 const SIZE: usize = 8;
@@ -53,20 +57,28 @@ impl Emitable for BridgeBooleanOptions {
     }
 
     fn emit(&self, buffer: &mut [u8]) {
-        emit_u32s(buffer, &[self.value.bits(), self.mask.bits()]);
+        emit_numbers(buffer, &[self.value.bits(), self.mask.bits()]);
     }
 }
 
 impl PayloadStruct for BridgeBooleanOptions {
-    ghost extent = { Fixed 8 };
+    const LAYOUT: Layout = Layout::BooleanOptions;
+
+    ghost LAYOUT = { layouts.BooleanOptions };
 
     ghost value_of = { options_of };
 
     ghost octets = { options_octets };
 
+    ghost held = { options_held };
+
+    ghost told = { λ _. refl };
+
+    ghost bit_names = { option_bit_names };
+
     #[inline]
-    fn lengths() -> Lengths {
-        Lengths::Fixed(SIZE)
+    fn names() -> &'static [Name] {
+        BridgeBooleanOptionFlags::names()
     }
 
     #[inline]

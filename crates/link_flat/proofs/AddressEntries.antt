@@ -3,10 +3,10 @@ use Rattle.std.proofs.Common.{◌≡◌, ℕ, ◌+◌, ◌-◌, ◌*◌, ◌≤�
 use Rattle.std.specs.List.{filter}
 use Rattle.std.proofs.lemmas.List.{append-nil, length-append}
 use Rattle.std.proofs.lemmas.List.Elements.{filter-append}
-use Rattle.link_base.specs.declared.buffer.NlaBuffer.{NlaBuffer}
+use Rattle.link_base.specs.declared.wire.buffer.NlaBuffer.{NlaBuffer}
 use Rattle.link_base.specs.Buffer.{payload_of, SplitsFirst}
 use Rattle.link_messages.specs.Walk.{Item, Walks}
-use Rattle.link_base.proofs.Views.{split_less}
+use Rattle.link_base.proofs.ViewLemmas.{split_less}
 use Rattle.link_messages.proofs.Walking.{walks_more}
 use Rattle.link_flat.specs.declared.entry.Entry.{Entry}
 use Rattle.link_flat.specs.Entry.{placed}

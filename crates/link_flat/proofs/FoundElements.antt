@@ -5,22 +5,19 @@ use Rattle.std.specs.List.{AllZip, filter, last_or}
 use Rattle.std.proofs.lemmas.List.{append-nil, length-append}
 use Rattle.std.proofs.lemmas.List.Elements.{filter-append}
 use Rattle.std.proofs.lemmas.Bool.{eq-eqb, ne_eqb}
-use Rattle.link_base.specs.declared.buffer.NlaBuffer.{NlaBuffer}
-use Rattle.link_base.specs.declared.content.Content.{Content}
-use Rattle.link_base.specs.declared.content.Content.TheVariants as contents
+use Rattle.link_base.specs.declared.wire.buffer.NlaBuffer.{NlaBuffer}
+use Rattle.link_base.specs.declared.views.content.Content.{Content}
+use Rattle.link_base.specs.declared.views.content.Content.TheVariants as contents
 use Rattle.link_base.specs.Frame.{kind_of}
 use Rattle.link_base.specs.Buffer.{kind_field_of, payload_of, SplitsFirst}
 use Rattle.link_base.specs.Layout.{number_at, numbers_at, numbers_of}
 use Rattle.link_base.specs.Table.{Table, Shape, Addresses, class_at}
 use Rattle.link_base.specs.Borrowed.{Borrows, form_of, elements_at}
-use Rattle.link_base.proofs.Views.{split_less}
+use Rattle.link_base.proofs.ViewLemmas.{split_less}
 use Rattle.link_messages.specs.Walk.{Item, Walks, Walk}
 use Rattle.link_messages.specs.BeforeFault.{seen_of, last_item}
 use Rattle.link_messages.proofs.Walking.{walks_more, walk_unique}
-use Rattle.netlink_packet_route.specs.declared.family.Family.{Family}
-use Rattle.netlink_packet_route.specs.Family.{table_of}
 use Rattle.link_flat.specs.declared.entry.Entry.{Entry}
-use Rattle.link_flat.specs.declared.detail.Detail.TheVariants.{Plain}
 use Rattle.link_flat.specs.Flat.{HasContent, indexed, number_entry, number_entries, address_entry, AreAddresses, IsElement, AreElements, Elements, IsGroup}
 use Rattle.link_flat.specs.Finding.{last_inner, IsOneElement, IsLastElement, IsElementFound}
 use Rattle.link_flat.proofs.LastAttribute.{has_kind}
@@ -68,7 +65,7 @@ module _ (table : Table) (k at : ℕ) where
   one_last i (x ∷ items) [] o found h is = absurd h
   one_last i (x ∷ items) (e ∷ es) o found h is =
       let (content, has, built) = h.0 in
-      let inner : e.inner ≡ kind_of (kind_field_of x.1) = ap (λ d. d.inner) built ∙ (keeps_filled Plain (kind_field_of x.1) content 0 _).inner in
+      let inner : e.inner ≡ kind_of (kind_field_of x.1) = ap (λ d. d.inner) built ∙ (keeps_filled (kind_field_of x.1) content 0 _).inner in
       let test : is_inner i e ≡ has_kind i x = ap (λ n. n == i) inner in
       let b = has_kind i x in
       let rest = one_last i items es (cond b (Some x) o) (cond b (Some e) found) h.1 (one_if b x e o found h.0 is) in
@@ -214,10 +211,10 @@ module _ (k at n i : ℕ) where
 -- the elements of one content are those of another of the same payload
 module _ (table : Table) (k at : ℕ) (o : Option Shape) (p : List ℕ) (es : List Entry) where
   pub moved_elements : (x y : Content) → form_of x ≡ form_of y → Borrows o p x → Borrows o p y → Elements table k at y es → Elements table k at x es
-  moved_elements (contents.List l) (contents.List m) form a b h =
-      let same : m.now ≡ l.now = list_payload o p m b ∙ sym (list_payload o p l a) in
+  moved_elements (contents.List l told) (contents.List m said) form a b h =
+      let same : m.now ≡ l.now = list_payload o p m said b ∙ sym (list_payload o p l told a) in
       subst (λ t. AreElements (elements_at table k) k at t es) same h
-  moved_elements (contents.List l) y form a b h = absurd cc
+  moved_elements (contents.List l told) y form a b h = absurd cc
   moved_elements (contents.Addresses l n) (contents.Addresses m n') form a b h =
       let one = address_list o p l n a in
       let two = address_list o p m n' b in
@@ -229,7 +226,7 @@ module _ (table : Table) (k at : ℕ) (o : Option Shape) (p : List ℕ) (es : Li
   moved_elements (contents.U16s l) y form a b h = absurd cc
   moved_elements (contents.U32s l) (contents.U32s m) form a b h = h ∙ ap (number_entries k at 4) (sym (u32s_bytes o p l m a b))
   moved_elements (contents.U32s l) y form a b h = absurd cc
-  moved_elements x (contents.List m) form a b h = absurd cc
+  moved_elements x (contents.List m said) form a b h = absurd cc
   moved_elements x (contents.Addresses m n) form a b h = absurd cc
   moved_elements x (contents.U16s m) form a b h = absurd cc
   moved_elements x (contents.U32s m) form a b h = absurd cc
@@ -237,18 +234,17 @@ module _ (table : Table) (k at : ℕ) (o : Option Shape) (p : List ℕ) (es : Li
 
 -- a content that is neither a list nor an array has no last element
 pub none_last : (table : Table) (k at i : ℕ) (x : Content) → ((p : Bor (List ℕ)) → x ≡ contents.U16s p → ⊥) → ((p : Bor (List ℕ)) → x ≡ contents.U32s p → ⊥) → ((p : Bor (List ℕ)) (n : ℕ) → x ≡ contents.Addresses p n → ⊥)
-    → ((p : Bor (List ℕ)) → x ≡ contents.List p → ⊥) → IsLastElement table k at x i None
+    → ((p : Bor (List ℕ)) (told : Bool) → x ≡ contents.List p told → ⊥) → IsLastElement table k at x i None
 none_last table k at i (contents.U16s p) a b c d = absurd (a p refl)
 none_last table k at i (contents.U32s p) a b c d = absurd (b p refl)
 none_last table k at i (contents.Addresses p n) a b c d = absurd (c p n refl)
-none_last table k at i (contents.List p) a b c d = absurd (d p refl)
+none_last table k at i (contents.List p told) a b c d = absurd (d p told refl)
 none_last table k at i x a b c d = ([], refl, refl)
 
 -- the elements in a group are those of every content of the attribute
-pub group_elements : (family : Family) (at : ℕ) (b : NlaBuffer) (content : Content) (e : Entry) (es : List Entry) → HasContent (table_of family) b content → IsGroup family (at, b) (e ∷ es)
-    → Elements (table_of family) (kind_of (kind_field_of b)) (at + 4) content es
-group_elements family at b content e es has (other, its, (below, elements, is)) =
-    let table = table_of family in
+pub group_elements : (table : Table) (at : ℕ) (b : NlaBuffer) (content : Content) (e : Entry) (es : List Entry) → HasContent table b content → IsGroup table (at, b) (e ∷ es)
+    → Elements table (kind_of (kind_field_of b)) (at + 4) content es
+group_elements table at b content e es has (other, its, (below, elements, is)) =
     let k = kind_of (kind_field_of b) in
     let same : es ≡ below = cc in
     subst (Elements table k (at + 4) content) (sym same)
@@ -256,11 +252,12 @@ group_elements family at b content e es has (other, its, (below, elements, is)) 
 
 -- the last element in a content is the last of its entries
 last_of : (table : Table) (k at i : ℕ) (content : Content) (found : Option Entry) (es : List Entry) → IsLastElement table k at content i found → Elements table k at content es → found ≡ last_inner i es
-last_of table k at i (contents.List list) found es h elements = nested_found (elements_at table k) k at i list.now found h es elements
+last_of table k at i (contents.List list told) found es h elements = nested_found (elements_at table k) k at i list.now found h es elements
 last_of table k at i (contents.Addresses list n) found es (mine, are, is) elements = is ∙ ap (last_inner i) (one_address_list k at n list.now list.now mine es refl are elements)
 last_of table k at i contents.Nothing found es (mine, are, is) elements = is ∙ ap (last_inner i) (are ∙ sym elements)
 last_of table k at i (contents.Bool b) found es (mine, are, is) elements = is ∙ ap (last_inner i) (are ∙ sym elements)
 last_of table k at i (contents.Unsigned x n) found es (mine, are, is) elements = is ∙ ap (last_inner i) (are ∙ sym elements)
+last_of table k at i (contents.Coded x n) found es (mine, are, is) elements = is ∙ ap (last_inner i) (are ∙ sym elements)
 last_of table k at i (contents.Signed z) found es (mine, are, is) elements = is ∙ ap (last_inner i) (are ∙ sym elements)
 last_of table k at i (contents.Enum x n) found es (mine, are, is) elements = is ∙ ap (last_inner i) (are ∙ sym elements)
 last_of table k at i (contents.Flags x n) found es (mine, are, is) elements = is ∙ ap (last_inner i) (are ∙ sym elements)
@@ -272,13 +269,13 @@ last_of table k at i (contents.Mac a) found es (mine, are, is) elements = is ∙
 last_of table k at i (contents.Ipv4 a) found es (mine, are, is) elements = is ∙ ap (last_inner i) (are ∙ sym elements)
 last_of table k at i (contents.Ipv6 a) found es (mine, are, is) elements = is ∙ ap (last_inner i) (are ∙ sym elements)
 last_of table k at i (contents.Bytes p) found es (mine, are, is) elements = is ∙ ap (last_inner i) (are ∙ sym elements)
-last_of table k at i (contents.Struct p) found es (mine, are, is) elements = is ∙ ap (last_inner i) (are ∙ sym elements)
+last_of table k at i (contents.Struct layout p) found es (mine, are, is) elements = is ∙ ap (last_inner i) (are ∙ sym elements)
 last_of table k at i (contents.U16s p) found es (mine, are, is) elements = is ∙ ap (last_inner i) (are ∙ sym elements)
 last_of table k at i (contents.U32s p) found es (mine, are, is) elements = is ∙ ap (last_inner i) (are ∙ sym elements)
 last_of table k at i (contents.Limits a b) found es (mine, are, is) elements = is ∙ ap (last_inner i) (are ∙ sym elements)
 last_of table k at i (contents.Other p) found es (mine, are, is) elements = is ∙ ap (last_inner i) (are ∙ sym elements)
 
 -- what is found in an attribute is the last element among its entries
-pub found_in_group : (family : Family) (x : Item) (i : ℕ) (found : Option Entry) (e : Entry) (es : List Entry) → IsElementFound family (Some x) i found → IsGroup family x (e ∷ es) → found ≡ last_inner i es
-found_in_group family x i found e es (content, has, last) group =
-    last_of (table_of family) (kind_of (kind_field_of x.1)) (x.0 + 4) i content found es last (group_elements family x.0 x.1 content e es has group)
+pub found_in_group : (table : Table) (x : Item) (i : ℕ) (found : Option Entry) (e : Entry) (es : List Entry) → IsElementFound table (Some x) i found → IsGroup table x (e ∷ es) → found ≡ last_inner i es
+found_in_group table x i found e es (content, has, last) group =
+    last_of table (kind_of (kind_field_of x.1)) (x.0 + 4) i content found es last (group_elements table x.0 x.1 content e es has group)

@@ -5,15 +5,15 @@ use Rattle.std.specs.Option.{option_map}
 use Rattle.std.specs.List.{filter, last_or}
 use Rattle.std.proofs.lemmas.List.{append-nil}
 use Rattle.std.proofs.lemmas.List.Elements.{filter-append}
-use Rattle.link_base.specs.declared.attribute_set.AttributeSet as sets
-use Rattle.link_base.specs.declared.view.Value.{Value}
+use Rattle.link_base.specs.declared.views.attribute_set.AttributeSet as sets
+use Rattle.link_base.specs.declared.views.view.Value.{Value}
 use Rattle.link_base.specs.Frame.{kind_of}
 use Rattle.link_base.specs.Buffer.{kind_field_of, payload_of, SplitsFirst}
+use Rattle.link_base.specs.Table.{Table}
 use Rattle.link_base.specs.Viewed.{buffer_in, kind_in, payload_in, set_in}
 use Rattle.link_messages.specs.Walk.{Item, Walks, Walk}
 use Rattle.link_messages.specs.BeforeFault.{last_item}
 use Rattle.link_messages.proofs.Walking.{walks_more, split_short}
-use Rattle.netlink_packet_route.specs.declared.family.Family.{Family}
 use Rattle.link_flat.specs.declared.entry.Entry.{Entry}
 use Rattle.link_flat.specs.Entry.{placed}
 use Rattle.link_flat.specs.Flat.{head_entry, IsGroup, Puts}
@@ -98,12 +98,12 @@ module _ {S : Type 0} {g : sets.Ghosts S} (k : ℕ) (list : List ℕ) (set : S) 
   found_within (Some x) h = h.1
 
 -- the entry of an attribute is in the only place
-pub only_place : (family : Family) (x : Item) (old new : List Entry) (default : Entry) (next : ℕ) → length old ≡ 1
-    → (group : List Entry) × IsGroup family x group × Puts old new 0 group next × (2 * length group ≤ 4 + length (payload_of x.1)) → IsEntryOf family x (get_or new 0 default)
-only_place family x [] new default next one h = absurd (omega (arith, one))
-only_place family x (o ∷ []) new default next one (group, (content, has, (below, elements, joined)), puts, fewer) =
-    let head : Entry = head_entry family x content (length below) in
+pub only_place : (table : Table) (x : Item) (old new : List Entry) (default : Entry) (next : ℕ) → length old ≡ 1
+    → (group : List Entry) × IsGroup table x group × Puts old new 0 group next × (2 * length group ≤ 4 + length (payload_of x.1)) → IsEntryOf table x (get_or new 0 default)
+only_place table x [] new default next one h = absurd (omega (arith, one))
+only_place table x (o ∷ []) new default next one (group, (content, has, (below, elements, joined)), puts, fewer) =
+    let head : Entry = head_entry x content (length below) in
     let stored : new ≡ head ∷ [] = puts.0 ∙ ap (placed (o ∷ []) 0) joined ∙ placed_past (head ∷ []) 1 below (omega arith) in
     let same : get_or new 0 default ≡ head = ap (λ t. get_or t 0 default) stored in
     (below, (content, has, (below, elements, ap (λ d. d ∷ below) same)))
-only_place family x (o ∷ p ∷ old) new default next one h = absurd (omega (arith, one))
+only_place table x (o ∷ p ∷ old) new default next one h = absurd (omega (arith, one))

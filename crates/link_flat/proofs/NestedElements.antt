@@ -2,11 +2,11 @@
 use Rattle.std.proofs.Common.{◌≡◌, ℕ, ◌+◌, ◌-◌, ◌*◌, ◌≤◌, List, [], ◌∷◌, ◌++◌, length, refl, sym, ap₂, subst, ◌∙◌, arith, set}
 use Rattle.std.specs.List.{AllZip}
 use Rattle.std.proofs.lemmas.List.{length-append}
-use Rattle.link_base.specs.declared.buffer.NlaBuffer.{NlaBuffer}
+use Rattle.link_base.specs.declared.wire.buffer.NlaBuffer.{NlaBuffer}
 use Rattle.link_base.specs.Buffer.{SplitsFirst}
 use Rattle.link_base.specs.Table.{Table}
 use Rattle.link_messages.specs.Walk.{Item, Walks}
-use Rattle.link_base.proofs.Views.{split_less}
+use Rattle.link_base.proofs.ViewLemmas.{split_less}
 use Rattle.link_messages.proofs.Walking.{walks_more}
 use Rattle.link_flat.specs.declared.entry.Entry.{Entry}
 use Rattle.link_flat.specs.Flat.{IsElement, AreElements, Puts}

@@ -2,8 +2,8 @@
 use Rattle.std.proofs.Common.{◌≡◌, ℕ, ◌≤◌, Bool, true, false, cond, List, [], ◌∷◌, length, take, map, Option, Some, None, Ok, Err, refl, sym, ap, subst, arith, Bor}
 use Rattle.std.specs.List.{AllZip}
 use Rattle.std.proofs.lemmas.List.{length-take}
-use Rattle.link_base.specs.declared.content.Content.{Content}
-use Rattle.link_base.specs.declared.content.Content.TheVariants as contents
+use Rattle.link_base.specs.declared.views.content.Content.{Content}
+use Rattle.link_base.specs.declared.views.content.Content.TheVariants as contents
 use Rattle.link_base.specs.Number.{number}
 use Rattle.link_base.specs.Class as classes
 use Rattle.link_base.specs.Class.{Class, Value, Raw, Name, Unlisted, meant, named, is_listed, size_of}
@@ -14,21 +14,21 @@ use Rattle.link_base.specs.Borrowed.{HasValue, HasValues, Borrows}
 use Rattle.link_flat.specs.Flat.{Elements}
 
 -- the bytes of a nested list are its payload
-pub list_payload : (o : Option Shape) (p : List ℕ) (bytes : Bor (List ℕ)) → Borrows o p (contents.List bytes) → bytes.now ≡ p
-list_payload None p bytes h = absurd h
-list_payload (Some (Nested flagged rows)) p bytes h = h
-list_payload (Some (Addresses n)) p bytes h = absurd h
-list_payload (Some (One (classes.Unsigned n))) p bytes h = absurd h
-list_payload (Some (One classes.Signed)) p bytes h = absurd h
-list_payload (Some (One classes.Truth)) p bytes h = absurd h
-list_payload (Some (One (classes.Octets e))) p bytes h = absurd h
-list_payload (Some (One classes.Bytes)) p bytes h = absurd h
-list_payload (Some (One (classes.Many n))) p bytes h = absurd h
-list_payload (Some (One (classes.Named n listed))) p bytes h = absurd h
-list_payload (Some (One classes.Protocol)) p bytes h = absurd h
-list_payload (Some (One classes.Low)) p bytes h = absurd h
-list_payload (Some (One classes.Empty)) p bytes h = absurd h
-list_payload (Some (One classes.Limits)) p bytes h = absurd h
+pub list_payload : (o : Option Shape) (p : List ℕ) (bytes : Bor (List ℕ)) (told : Bool) → Borrows o p (contents.List bytes told) → bytes.now ≡ p
+list_payload None p bytes told h = absurd h
+list_payload (Some (Nested flagged rows)) p bytes told h = h
+list_payload (Some (Addresses n)) p bytes told h = absurd h
+list_payload (Some (One (classes.Unsigned n))) p bytes told h = absurd h
+list_payload (Some (One classes.Signed)) p bytes told h = absurd h
+list_payload (Some (One classes.Truth)) p bytes told h = absurd h
+list_payload (Some (One (classes.Octets e))) p bytes told h = absurd h
+list_payload (Some (One classes.Bytes)) p bytes told h = absurd h
+list_payload (Some (One (classes.Many n))) p bytes told h = absurd h
+list_payload (Some (One (classes.Named n listed))) p bytes told h = absurd h
+list_payload (Some (One classes.Protocol)) p bytes told h = absurd h
+list_payload (Some (One classes.Low)) p bytes told h = absurd h
+list_payload (Some (One classes.Empty)) p bytes told h = absurd h
+list_payload (Some (One classes.Limits)) p bytes told h = absurd h
 
 -- a content that is a list of addresses
 pub record IsAddressList (o : Option Shape) (p : List ℕ) (list : Bor (List ℕ)) (size : ℕ) : Type 0 where
@@ -132,9 +132,9 @@ addresses_decode table f p list size has h none =
 
 -- a content that is neither a list nor an array has no elements
 pub no_elements : (table : Table) (k at : ℕ) (x : Content) → ((p : Bor (List ℕ)) → x ≡ contents.U16s p → ⊥) → ((p : Bor (List ℕ)) → x ≡ contents.U32s p → ⊥)
-    → ((p : Bor (List ℕ)) (n : ℕ) → x ≡ contents.Addresses p n → ⊥) → ((p : Bor (List ℕ)) → x ≡ contents.List p → ⊥) → Elements table k at x []
+    → ((p : Bor (List ℕ)) (n : ℕ) → x ≡ contents.Addresses p n → ⊥) → ((p : Bor (List ℕ)) (told : Bool) → x ≡ contents.List p told → ⊥) → Elements table k at x []
 no_elements table k at (contents.U16s p) a b c d = absurd (a p refl)
 no_elements table k at (contents.U32s p) a b c d = absurd (b p refl)
 no_elements table k at (contents.Addresses p n) a b c d = absurd (c p n refl)
-no_elements table k at (contents.List p) a b c d = absurd (d p refl)
+no_elements table k at (contents.List p told) a b c d = absurd (d p told refl)
 no_elements table k at x a b c d = refl

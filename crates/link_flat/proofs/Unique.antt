@@ -1,9 +1,9 @@
 -- A list has one array of entries only.
 use Rattle.std.proofs.Common.{◌≡◌, ℕ, ◌+◌, ◌==◌, true, false, cond, List, [], ◌∷◌, length, map, Option, Some, None, refl, sym, ap, ap₂, subst, ◌∙◌}
 use Rattle.std.specs.List.{AllZip, filter, flat_map}
-use Rattle.link_base.specs.declared.buffer.NlaBuffer.{NlaBuffer}
-use Rattle.link_base.specs.declared.content.Content.{Content}
-use Rattle.link_base.specs.declared.content.Content.TheVariants as contents
+use Rattle.link_base.specs.declared.wire.buffer.NlaBuffer.{NlaBuffer}
+use Rattle.link_base.specs.declared.views.content.Content.{Content}
+use Rattle.link_base.specs.declared.views.content.Content.TheVariants as contents
 use Rattle.link_base.specs.Frame.{kind_of}
 use Rattle.link_base.specs.Buffer.{kind_field_of, payload_of}
 use Rattle.link_base.specs.Table.{Table, Shape, Addresses, class_at, form_at}
@@ -11,12 +11,8 @@ use Rattle.link_base.specs.Borrowed.{Borrows, form_of, elements_at}
 use Rattle.link_messages.specs.Walk.{Item}
 use Rattle.link_messages.specs.BeforeFault.{seen_of}
 use Rattle.link_messages.proofs.Walking.{walk_unique}
-use Rattle.netlink_packet_route.specs.declared.family.Family.{Family}
-use Rattle.netlink_packet_route.specs.Family.{table_of}
 use Rattle.link_flat.specs.declared.entry.Entry.{Entry}
-use Rattle.link_flat.specs.declared.detail.Detail.TheVariants.{Plain}
 use Rattle.link_flat.specs.Entry.{blank}
-use Rattle.link_flat.specs.Detail.{detail_of}
 use Rattle.link_flat.specs.Content.{filled}
 use Rattle.link_flat.specs.Flat.{HasContent, indexed, address_entry, is_address, AreAddresses, number_entries, IsElement, AreElements, Elements, head_entry, IsGroup, Flat}
 use Rattle.link_flat.proofs.Shapes.{list_payload, address_list}
@@ -57,10 +53,10 @@ one_element table k at x y e e' same (content, has, is) (other, its, that) =
     let p : payload_of x.1 ≡ payload_of y.1 = ap (λ s. s.2) same in
     let g = kind_field_of y.1 in
     let place_of : Entry = blank k (kind_of g) 1 (at + (y.0 + 4)) (length (payload_of y.1)) in
-    let here : filled Plain (kind_field_of x.1) content 0 (blank k (kind_of (kind_field_of x.1)) 1 (at + (x.0 + 4)) (length (payload_of x.1))) ≡ filled Plain g content 0 place_of =
-    λ i. filled Plain (f i) content 0 (blank k (kind_of (f i)) 1 (at + (place i + 4)) (length (p i))) in
+    let here : filled (kind_field_of x.1) content 0 (blank k (kind_of (kind_field_of x.1)) 1 (at + (x.0 + 4)) (length (payload_of x.1))) ≡ filled g content 0 place_of =
+    λ i. filled (f i) content 0 (blank k (kind_of (f i)) 1 (at + (place i + 4)) (length (p i))) in
     is ∙ here
-    ∙ same_filled Plain g 0 place_of (class_at table (kind_of g)) (payload_of y.1) content other (same_form table x.1 y.1 f p content other has its) (moved table x.1 y.1 f p content has) its.borrows
+    ∙ same_filled g 0 place_of (class_at table (kind_of g)) (payload_of y.1) content other (same_form table x.1 y.1 f p content other has its) (moved table x.1 y.1 f p content has) its.borrows
     ∙ sym that
 
 pub one_nested : (table : Table) (k at : ℕ) (list other : List ℕ) (es es' : List Entry) → list ≡ other → AreElements table k at list es → AreElements table k at other es' → es ≡ es'
@@ -92,8 +88,8 @@ one_address_list k at n list other es es' same h (items', walk', that) =
 -- the elements of two contents of one payload
 module _ (table : Table) (k at : ℕ) (o : Option Shape) (p : List ℕ) (es es' : List Entry) where
   one_below : (x y : Content) → form_of x ≡ form_of y → Borrows o p x → Borrows o p y → Elements table k at x es → Elements table k at y es' → es ≡ es'
-  one_below (contents.List l) (contents.List m) form a b h h' = one_nested (elements_at table k) k at l.now m.now es es' (list_payload o p l a ∙ sym (list_payload o p m b)) h h'
-  one_below (contents.List l) y form a b h h' = absurd cc
+  one_below (contents.List l told) (contents.List m said) form a b h h' = one_nested (elements_at table k) k at l.now m.now es es' (list_payload o p l told a ∙ sym (list_payload o p m said b)) h h'
+  one_below (contents.List l told) y form a b h h' = absurd cc
   one_below (contents.Addresses l n) (contents.Addresses m n') form a b h h' =
       let one = address_list o p l n a in
       let two = address_list o p m n' b in
@@ -105,7 +101,7 @@ module _ (table : Table) (k at : ℕ) (o : Option Shape) (p : List ℕ) (es es' 
   one_below (contents.U16s l) y form a b h h' = absurd cc
   one_below (contents.U32s l) (contents.U32s m) form a b h h' = h ∙ ap (number_entries k at 4) (u32s_bytes o p l m a b) ∙ sym h'
   one_below (contents.U32s l) y form a b h h' = absurd cc
-  one_below x (contents.List m) form a b h h' = absurd cc
+  one_below x (contents.List m said) form a b h h' = absurd cc
   one_below x (contents.Addresses m n) form a b h h' = absurd cc
   one_below x (contents.U16s m) form a b h h' = absurd cc
   one_below x (contents.U32s m) form a b h h' = absurd cc
@@ -113,9 +109,8 @@ module _ (table : Table) (k at : ℕ) (o : Option Shape) (p : List ℕ) (es es' 
 
 -- ---- attributes
 
-pub one_group : (family : Family) (x y : Item) (es es' : List Entry) → seen_of x ≡ seen_of y → IsGroup family x es → IsGroup family y es' → es ≡ es'
-one_group family x y es es' same (content, has, (below, elements, is)) (other, its, (below', elements', that)) =
-    let table = table_of family in
+pub one_group : (table : Table) (x y : Item) (es es' : List Entry) → seen_of x ≡ seen_of y → IsGroup table x es → IsGroup table y es' → es ≡ es'
+one_group table x y es es' same (content, has, (below, elements, is)) (other, its, (below', elements', that)) =
     let place : x.0 ≡ y.0 = ap (λ s. s.0) same in
     let f : kind_field_of x.1 ≡ kind_field_of y.1 = ap (λ s. s.1) same in
     let p : payload_of x.1 ≡ payload_of y.1 = ap (λ s. s.2) same in
@@ -127,15 +122,15 @@ one_group family x y es es' same (content, has, (below, elements, is)) (other, i
     subst (λ n. Elements table (kind_of g) (n + 4) content below) place (subst (λ h. Elements table (kind_of h) (x.0 + 4) content below) f elements) in
     let one : below ≡ below' = one_below table (kind_of g) (y.0 + 4) o (payload_of y.1) below below' content other form borrows its.borrows moved_elements elements' in
     let entry : Entry = blank (kind_of g) 0 0 (y.0 + 4) (length (payload_of y.1)) in
-    let here : head_entry family x content (length below) ≡ filled (detail_of family (kind_of g)) g content (length below') entry =
-    λ i. filled (detail_of family (kind_of (f i))) (f i) content (length (one i)) (blank (kind_of (f i)) 0 0 (place i + 4) (length (p i))) in
-    let heads : head_entry family x content (length below) ≡ head_entry family y other (length below') =
-    here ∙ same_filled (detail_of family (kind_of g)) g (length below') entry o (payload_of y.1) content other form borrows its.borrows in
+    let here : head_entry x content (length below) ≡ filled g content (length below') entry =
+    λ i. filled (f i) content (length (one i)) (blank (kind_of (f i)) 0 0 (place i + 4) (length (p i))) in
+    let heads : head_entry x content (length below) ≡ head_entry y other (length below') =
+    here ∙ same_filled g (length below') entry o (payload_of y.1) content other form borrows its.borrows in
     is ∙ ap₂ (λ e t. e ∷ t) heads one ∙ sym that
 
 -- a list has one array of entries
-pub one_flat : (family : Family) (s : List ℕ) (es es' : List Entry) → Flat family s es → Flat family s es' → es ≡ es'
-one_flat family s es es' h k =
+pub one_flat : (table : Table) (s : List ℕ) (es es' : List Entry) → Flat table s es → Flat table s es' → es ≡ es'
+one_flat table s es es' h k =
     let seen = (walk_unique s h.items k.items None None h.walk k.walk).0 in
-    let groups : h.groups ≡ k.groups = zip_one seen_of (IsGroup family) (one_group family) h.items k.items h.groups k.groups seen h.each k.each in
+    let groups : h.groups ≡ k.groups = zip_one seen_of (IsGroup table) (one_group table) h.items k.items h.groups k.groups seen h.each k.each in
     h.joined ∙ ap (λ t. flat_map (λ g. g) t) groups ∙ sym k.joined

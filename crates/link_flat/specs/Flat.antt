@@ -1,10 +1,10 @@
 -- A list as an array of entries: one for each attribute, and after an attribute that is a list one for each element.
 use Rattle.std.specs.Prelude.{◌≡◌, ℕ, ◌+◌, ◌*◌, ◌==◌, Bool, List, [], ◌∷◌, ◌++◌, length, take, drop, None, Result, Ok, Err, if◌then◌else◌}
 use Rattle.std.specs.List.{AllZip, filter, flat_map}
-use Rattle.link_base.specs.declared.buffer.NlaBuffer.{NlaBuffer}
-use Rattle.link_base.specs.declared.content.Content.{Content}
-use Rattle.link_base.specs.declared.content.Content.TheVariants as contents
-use Rattle.link_base.specs.declared.fault.ListFault.{ListFault}
+use Rattle.link_base.specs.declared.wire.buffer.NlaBuffer.{NlaBuffer}
+use Rattle.link_base.specs.declared.views.content.Content.{Content}
+use Rattle.link_base.specs.declared.views.content.Content.TheVariants as contents
+use Rattle.link_base.specs.declared.wire.fault.ListFault.{ListFault}
 use Rattle.link_base.specs.Frame.{kind_of}
 use Rattle.link_base.specs.Buffer.{kind_field_of, payload_of}
 use Rattle.link_base.specs.Table.{Table, Gives, class_at, form_at}
@@ -12,15 +12,9 @@ use Rattle.link_base.specs.Wire.{FirstFault}
 use Rattle.link_base.specs.Borrowed.{HasValue, Borrows, form_of, elements_at}
 use Rattle.link_base.specs.Layout.{numbers_of}
 use Rattle.link_messages.specs.Walk.{Item, Walk}
-use Rattle.netlink_packet_route.specs.declared.family.Family.{Family}
-use Rattle.netlink_packet_route.specs.Family.{table_of}
 use Rattle.link_flat.specs.declared.entry.Entry.{Entry}
-use Rattle.link_flat.specs.declared.arrays.Width.{Width}
-use Rattle.link_flat.specs.declared.arrays.Width.TheVariants.{Two, Four}
-use Rattle.link_flat.specs.declared.detail.Detail.TheVariants.{Plain}
 use Rattle.link_flat.specs.Forms.{form_unsigned, form_ipv4, form_ipv6}
 use Rattle.link_flat.specs.Entry.{blank, padded, placed}
-use Rattle.link_flat.specs.Detail.{detail_of}
 use Rattle.link_flat.specs.Content.{filled}
 
 -- the attribute b decodes, in a list of this table, and this is its content
@@ -35,11 +29,6 @@ pub record HasContent (table : Table) (b : NlaBuffer) (content : Content) : Type
 abbrev pub indexed : {A : Type 0} → (ℕ → A → Entry) → ℕ → List A → List Entry
 indexed f i [] = []
 indexed f i (x ∷ xs) = f i x ∷ indexed f (i + 1) xs
-
--- how many bytes a number has
-abbrev pub width_of : Width → ℕ
-width_of Two = 2
-width_of Four = 4
 
 -- the numbers of `width` bytes each in an array that starts at an offset; k is the attribute type
 abbrev pub number_entry : ℕ → ℕ → ℕ → ℕ → ℕ → Entry
@@ -65,7 +54,7 @@ AreAddresses k at n list es =
 abbrev pub IsElement : Table → ℕ → ℕ → NlaBuffer → Entry → Type 0
 IsElement table k offset b e =
     let f = kind_field_of b in
-    (content : Content) × HasContent table b content × (e ≡ filled Plain f content 0 (blank k (kind_of f) 1 offset (length (payload_of b))))
+    (content : Content) × HasContent table b content × (e ≡ filled f content 0 (blank k (kind_of f) 1 offset (length (payload_of b))))
 
 -- the elements of a nested list that starts at an offset
 abbrev pub AreElements : Table → ℕ → ℕ → List ℕ → List Entry → Type 0
@@ -73,7 +62,7 @@ AreElements table k at list es = (items : List Item) × Walk list items None × 
 
 -- the elements of a content that is a list and starts at an offset; none for other contents
 abbrev pub Elements : Table → ℕ → ℕ → Content → List Entry → Type 0
-Elements table k at (contents.List list) es = AreElements (elements_at table k) k at list.now es
+Elements table k at (contents.List list flagged) es = AreElements (elements_at table k) k at list.now es
 Elements table k at (contents.Addresses list size) es = AreAddresses k at size list.now es
 Elements table k at (contents.U16s p) es = es ≡ number_entries k at 2 p.now
 Elements table k at (contents.U32s p) es = es ≡ number_entries k at 4 p.now
@@ -82,23 +71,23 @@ Elements table k at content es = es ≡ []
 -- ---- lists
 
 -- the entry of an attribute of a list with this content; of a list, n elements follow
-abbrev pub head_entry : Family → Item → Content → ℕ → Entry
-head_entry family x content n =
+abbrev pub head_entry : Item → Content → ℕ → Entry
+head_entry x content n =
     let f = kind_field_of x.1 in
-    filled (detail_of family (kind_of f)) f content n (blank (kind_of f) 0 0 (x.0 + 4) (length (payload_of x.1)))
+    filled f content n (blank (kind_of f) 0 0 (x.0 + 4) (length (payload_of x.1)))
 
 -- the entries of an attribute: its own, and those of its elements
-abbrev pub IsGroup : Family → Item → List Entry → Type 0
-IsGroup family x es =
-    (content : Content) × HasContent (table_of family) x.1 content
-    × ((elements : List Entry) × Elements (table_of family) (kind_of (kind_field_of x.1)) (x.0 + 4) content elements × (es ≡ head_entry family x content (length elements) ∷ elements))
+abbrev pub IsGroup : Table → Item → List Entry → Type 0
+IsGroup table x es =
+    (content : Content) × HasContent table x.1 content
+    × ((elements : List Entry) × Elements table (kind_of (kind_field_of x.1)) (x.0 + 4) content elements × (es ≡ head_entry x content (length elements) ∷ elements))
 
 -- the entries of a list
-pub record Flat (family : Family) (list : List ℕ) (es : List Entry) : Type 0 where
+pub record Flat (table : Table) (list : List ℕ) (es : List Entry) : Type 0 where
   pub items : List Item
   pub walk : Walk list items None
   pub groups : List (List Entry)
-  pub each : AllZip (IsGroup family) items groups
+  pub each : AllZip (IsGroup table) items groups
   pub joined : es ≡ flat_map (λ group. group) groups
 
 -- ---- places
@@ -109,6 +98,6 @@ Puts old new first es next = (new ≡ placed old first es) × (next ≡ first + 
 
 -- the number of entries of a list, which are in the first places, as far as there are places; the other places are
 -- unchanged. Or the first error of the list; then all places are unchanged
-abbrev pub Flattens : Family → List ℕ → List Entry → List Entry → Result ℕ ListFault → Type 0
-Flattens family list old new (Ok n) = (es : List Entry) × Flat family list es × (n ≡ length es) × (new ≡ take (length old) es ++ drop (length es) old)
-Flattens family list old new (Err e) = FirstFault (Gives (table_of family)) list e.at e.fault × (new ≡ old)
+abbrev pub Flattens : Table → List ℕ → List Entry → List Entry → Result ℕ ListFault → Type 0
+Flattens table list old new (Ok n) = (es : List Entry) × Flat table list es × (n ≡ length es) × (new ≡ take (length old) es ++ drop (length es) old)
+Flattens table list old new (Err e) = FirstFault (Gives table) list e.at e.fault × (new ≡ old)

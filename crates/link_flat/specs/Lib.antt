@@ -1,6 +1,5 @@
 pub mod Forms
 pub mod Entry
-pub mod Detail
 pub mod Content
 pub mod Flat
 pub mod Finding

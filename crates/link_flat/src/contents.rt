@@ -2,48 +2,36 @@
 
 ghost use Rattle.std.specs.Prelude.{◌≡◌, ◌≤◌, take, drop, reverse, length};
 ghost use Rattle.link_base.specs.Number.{number};
-ghost use Rattle.link_base.specs.Frame.{kind_of};
 ghost use Rattle.link_base.specs.IpAddress.{four_octets, sixteen_octets};
 ghost use Rattle.link_flat.specs.Forms.{form_ipv4, form_ipv6, form_bridge_id};
 ghost use Rattle.link_flat.specs.Entry.{padded};
-ghost use Rattle.link_flat.specs.Detail.{detail_within};
-ghost use Rattle.link_flat.specs.Content.{word, number_form, with_struct, filled};
+ghost use Rattle.link_flat.specs.Content.{word, with_struct, filled};
 
-use crate::detail::{Detail, detail_within};
 use crate::entry::Entry;
 use crate::forms;
-use link_base::content::Content;
+use link_base::rows::form::Layout;
+use link_base::views::content::Content;
 use link_base::{NLA_TYPE_MASK, u16_at, u32_at};
-use netlink_packet_route::Family;
 use std::net::{Ipv4Addr, Ipv6Addr};
 
 /// Stores the content of an attribute whose `nla_type` is `kind_field` in the entry `place`. `start` has set what does
-/// not depend on the content. The attribute is one of a list of `family`, or an element of another attribute if `family`
-/// is `None`. If it is a list, `below` elements follow.
+/// not depend on the content. If the attribute is a list, `below` elements follow.
 #[inline(always)]
-pub(crate) fn fill(
-    place: &mut Entry,
-    family: Option<Family>,
-    kind_field: u16,
-    content: Content<'_>,
-    below: usize,
-)
-    ensures { place.new ≡ filled (detail_within family (kind_of kind_field)) kind_field content.entry below
-        (record place.old { number = 0 }) }
+pub(crate) fn fill(place: &mut Entry, kind_field: u16, content: Content<'_>, below: usize)
+    ensures { place.new ≡ filled kind_field content.entry below (record place.old { number = 0 }) }
 {
-    let kind = kind_field & NLA_TYPE_MASK;
     match content {
         Content::Nothing => {
             place.hold(forms::EMPTY, 0);
             place.length = 0;
         }
         Content::Bool(is_on) => place.hold(forms::BOOL, is_on.into()),
-        Content::Unsigned { number, .. } => place.hold(
-            number_form(detail_within(family, kind)),
+        Content::Unsigned { number, .. } => place.hold(forms::UNSIGNED, number),
+        Content::Coded { number, .. } | Content::Enum { number, .. } => place.hold(
+            forms::NAMED,
             number,
         ),
         Content::Signed(number) => place.hold(forms::SIGNED, i64::from(number).cast_unsigned()),
-        Content::Enum { number, .. } => place.hold(forms::NAMED, number),
         Content::Flags { bits, .. } => place.hold(forms::FLAGS, bits),
         Content::LowFlags(bits) => place.hold(forms::FLAGS, bits.into()),
         Content::MaskedFlags { flags, mask } => place.hold_both(forms::MASKED, flags, mask),
@@ -53,28 +41,17 @@ pub(crate) fn fill(
         Content::Ipv4(address) => hold_ipv4(place, address),
         Content::Ipv6(address) => hold_ipv6(place, address),
         Content::Bytes(_) => place.hold(forms::BYTES, 0),
-        Content::Struct(bytes) => fill_struct(place, detail_within(family, kind), bytes),
+        Content::Struct { layout, bytes } => fill_struct(place, layout, bytes),
         Content::Limits { .. } => {
             place.hold(forms::BITTIMING_CONST, 0);
             place.length = 48;
         }
-        Content::U16s(_) | Content::U32s(_) | Content::Addresses { .. } | Content::List(_) =>
+        Content::U16s(_) | Content::U32s(_) | Content::Addresses { .. } | Content::List { .. } =>
             place.hold(forms::LIST, below as u64),
         Content::Other(_) => {
             place.hold(forms::UNKNOWN, 0);
-            place.flags = kind_field - kind;
+            place.flags = kind_field - (kind_field & NLA_TYPE_MASK);
         }
-    }
-}
-
-/// Returns the form of an unsigned number.
-#[inline(always)]
-fn number_form(detail: Detail) -> u8
-    ensures { result ≡ number_form detail }
-{
-    match detail {
-        Detail::State => forms::NAMED,
-        _ => forms::UNSIGNED,
     }
 }
 
@@ -94,39 +71,44 @@ fn hold_ipv6(place: &mut Entry, address: Ipv6Addr)
     place.hold_octets(forms::IPV6, 0, &address.octets());
 }
 
-/// Stores the struct in these bytes in the entry of its attribute; the bytes, if they are no struct.
+/// Stores the struct in these bytes in the entry of its attribute; the bytes, if they are too few, or if the fields are not
+/// known.
 #[inline(always)]
-fn fill_struct(place: &mut Entry, detail: Detail, bytes: &[u8])
-    ensures { place.new ≡ with_struct detail bytes.now (record place.old { number = 0 }) }
+fn fill_struct(place: &mut Entry, layout: Layout, bytes: &[u8])
+    ensures { place.new ≡ with_struct layout bytes.now (record place.old { number = 0 }) }
 {
     let length = bytes.len();
-    match detail {
-        Detail::BridgeId if length >= 8 => fill_bridge_id(place, bytes),
-        Detail::VlanInfo if length >= 4 => {
+    match layout {
+        Layout::BridgeId if length >= 8 => fill_bridge_id(place, bytes),
+        Layout::VlanInfo if length >= 4 => {
             let (flags, id) = (u16_at(bytes, 0), u16_at(bytes, 2));
             place.length = 4;
             place.hold_both(forms::VLAN_INFO, id.into(), flags.into());
         }
-        Detail::Options if length >= 8 => {
+        Layout::BooleanOptions if length >= 8 => {
             place.length = 8;
             place.hold_both(forms::MASKED, u32_at(bytes, 0), u32_at(bytes, 4));
         }
-        Detail::BitTiming if length >= 32 => {
+        Layout::BitTiming if length >= 32 => {
             place.hold(forms::BITTIMING, 0);
             place.length = 32;
         }
-        Detail::Clock if length >= 4 => {
+        Layout::Clock if length >= 4 => {
             place.length = 4;
             place.hold(forms::UNSIGNED, u32_at(bytes, 0).into());
         }
-        Detail::Modes if length >= 8 => {
+        Layout::CtrlMode if length >= 8 => {
             place.length = 8;
             place.hold_both(forms::MASKED, u32_at(bytes, 4), u32_at(bytes, 0));
         }
-        Detail::ErrorCounters if length >= 4 => {
+        Layout::BerrCounter if length >= 4 => {
             let (sent, received) = (u16_at(bytes, 0), u16_at(bytes, 2));
             place.length = 4;
             place.hold_both(forms::BERR_COUNTER, sent.into(), received.into());
+        }
+        Layout::Other(_) if length < place.length as usize => {
+            place.hold(forms::BYTES, 0);
+            place.length = length as u32;
         }
         _ => place.hold(forms::BYTES, 0),
     }

@@ -1,7 +1,7 @@
 //! The entries of the elements of lists.
 
 ghost use Rattle.std.specs.Prelude.{◌≡◌, ◌≤◌, ◌<◌, ◌+◌, ◌-◌, ◌*◌, ◌^◌, ◌==◌, List, [], MatchOption, length, slice_set, if◌then◌else◌};
-ghost use Rattle.link_base.specs.declared.buffer.NlaBuffer.{NlaBuffer};
+ghost use Rattle.link_base.specs.declared.wire.buffer.NlaBuffer.{NlaBuffer};
 ghost use Rattle.link_base.specs.Buffer.{payload_of, SplitsFirst};
 ghost use Rattle.link_base.specs.Frame.{max_payload};
 ghost use Rattle.link_base.specs.Viewed.{bytes_in, set_of, set_in, buffer_in};
@@ -12,9 +12,9 @@ use crate::contents::fill;
 use crate::entry::Entry;
 use crate::forms;
 use crate::octets::{four, padded, sixteen};
-use link_base::attribute_set::{AttributeSet, Set};
-use link_base::view::{Value, View};
-use link_base::{DefaultNla, NlaBuffer, u16_at};
+use link_base::views::attribute_set::{AttributeSet, Set};
+use link_base::views::view::{Value, View};
+use link_base::{DefaultNla, MAX_PAYLOAD, NlaBuffer, u16_at};
 
 /// Stores the elements of a nested list whose attribute type is `kind` and whose bytes start at offset `at`, the first in
 /// the place `first`. Returns the place after them.
@@ -81,7 +81,7 @@ fn fill_element<T: AttributeSet>(
     let length = buffer.value_length() as u32;
     // Before the content is read: the compiler then stores each content where it reads it.
     place.start(kind, element.kind(), 1, offset as u64, length);
-    fill(place, None, buffer.raw_kind(), element.content(), 0);
+    fill(place, buffer.raw_kind(), element.content(), 0);
 }
 
 /// Returns the entry of an element of a nested list, whose payload starts at this offset.
@@ -162,7 +162,7 @@ fn put_each_address(
 /// on this.
 #[inline(always)]
 fn starts_with_size(bytes: &[u8], size: usize) -> bool {
-    if size > 65531 || bytes.len() < size + 4 {
+    if size > MAX_PAYLOAD || bytes.len() < size + 4 {
         return false;
     }
     usize::from(u16_at(bytes, 0)) == size + 4

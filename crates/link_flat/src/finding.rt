@@ -5,14 +5,15 @@ ghost use Rattle.std.specs.Option.{option_map};
 ghost use Rattle.link_base.specs.Viewed.{bytes_in, set_of, set_in, buffer_in, kind_in, payload_in};
 ghost use Rattle.link_messages.specs.Walk.{Item, Walk};
 ghost use Rattle.link_messages.specs.BeforeFault.{last_item};
+ghost use Rattle.netlink_packet_route.specs.Family.{table_of};
 ghost use Rattle.netlink_packet_route.specs.Views.{family_in};
 ghost use Rattle.link_flat.specs.Finding.{item_of, IsEntryOf, IsLastOf, Finds};
 
 use crate::entry::Entry;
 use crate::flattening::put_group;
 use link_base::ListFault;
-use link_base::attribute_set::AttributeSet;
-use link_base::view::{Value, View};
+use link_base::views::attribute_set::AttributeSet;
+use link_base::views::view::{Value, View};
 use netlink_packet_route::{Family, FamilyElements, FamilySet, view_list};
 
 /// Returns the entry of the last attribute of type `kind` in a list, as `flatten` stores it; `None` if there is none. Unless
@@ -22,7 +23,7 @@ use netlink_packet_route::{Family, FamilyElements, FamilySet, view_list};
 ///
 /// The first error in the list, with the byte offset of its attribute.
 pub fn find(family: Family, bytes: &[u8], kind: u16) -> Result<Option<Entry>, ListFault>
-    ensures { Finds family kind bytes.now result }
+    ensures { Finds (table_of family) kind bytes.now result }
 {
     match view_list(family, bytes) {
         Ok(list) => Ok(find_in_view(list, kind)),
@@ -32,7 +33,7 @@ pub fn find(family: Family, bytes: &[u8], kind: u16) -> Result<Option<Entry>, Li
 
 /// Returns the entry of the last attribute of type `kind` of a view.
 fn find_in_view(list: View<'_, FamilySet>, kind: u16) -> Option<Entry>
-    ensures { IsLastOf (family_in (set_of list.entry)) kind (bytes_in list.entry) result }
+    ensures { IsLastOf (table_of (family_in (set_of list.entry))) kind (bytes_in list.entry) result }
 {
     match last_value(list, kind) {
         Some((at, value)) => Some(entry_of(at, &value)),
@@ -82,18 +83,11 @@ fn later<'a, S: AttributeSet>(
 /// Returns the entry of an attribute that starts at this offset.
 fn entry_of(at: usize, value: &Value<'_, FamilySet>) -> Entry
     requires { at + (4 + length (payload_in value.now)) < 2 ^ 63 }
-    ensures { IsEntryOf (family_in (set_in value.now)) (at, buffer_in value.now) result }
+    ensures { IsEntryOf (table_of (family_in (set_in value.now))) (at, buffer_in value.now) result }
 {
     let family = value.set().family;
     let list = value.kind();
     let mut place = [Entry::blank(0, 0, 0, 0, 0)];
-    put_group(
-        &mut place,
-        family,
-        at,
-        0,
-        value,
-        FamilyElements { family, list },
-    );
+    put_group(&mut place, at, 0, value, FamilyElements { family, list });
     place[0]
 }

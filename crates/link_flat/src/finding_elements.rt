@@ -1,6 +1,7 @@
 //! Elements looked up in a list.
 
 ghost use Rattle.std.specs.Prelude.{◌≡◌, ◌≤◌, ◌<◌, ◌+◌, ◌^◌, ◌==◌, List, Some, None, length, if◌then◌else◌};
+ghost use Rattle.link_base.specs.Forms.{bytes_in as bytes_of_width};
 ghost use Rattle.link_base.specs.Frame.{max_payload, kind_of};
 ghost use Rattle.link_base.specs.Buffer.{kind_field_of, payload_of};
 ghost use Rattle.link_base.specs.Viewed.{bytes_in, set_of, set_in, buffer_in, payload_in};
@@ -9,17 +10,17 @@ ghost use Rattle.netlink_packet_route.specs.Views.{family_in};
 ghost use Rattle.link_flat.specs.declared.entry.Entry.{Entry};
 ghost use Rattle.link_messages.specs.Walk.{Item, Walk};
 ghost use Rattle.link_messages.specs.BeforeFault.{last_item};
-ghost use Rattle.link_flat.specs.Flat.{HasContent, AreAddresses, number_entries, address_entry, width_of};
+ghost use Rattle.link_flat.specs.Flat.{HasContent, AreAddresses, number_entries, address_entry};
 ghost use Rattle.link_flat.specs.Finding.{last_inner, IsOneElement, IsLastElement, IsElementFound, IsLastIn, FindsIn};
 
-use crate::arrays::{Width, count_of, number_entry};
+use crate::arrays::{count_of, number_entry};
 use crate::elements::{address_entry, element_entry};
 use crate::entry::Entry;
 use crate::finding::last_value;
-use link_base::attribute_set::{AttributeSet, Set};
-use link_base::content::Content;
-use link_base::view::{Value, View};
-use link_base::{DefaultNla, ListFault, NlaBuffer};
+use link_base::views::attribute_set::{AttributeSet, Set};
+use link_base::views::content::Content;
+use link_base::views::view::{Value, View};
+use link_base::{DefaultNla, ListFault, NlaBuffer, Word};
 use netlink_packet_route::{Family, FamilyElements, FamilySet, view_list};
 
 /// Returns the entry of the last element `inner` of the last attribute of type `kind` in a list, as `flatten` stores it;
@@ -35,7 +36,7 @@ pub fn find_in(
     kind: u16,
     inner: u16,
 ) -> Result<Option<Entry>, ListFault>
-    ensures { FindsIn family kind inner bytes.now result }
+    ensures { FindsIn (table_of family) kind inner bytes.now result }
 {
     match view_list(family, bytes) {
         Ok(list) => Ok(find_in_view(list, kind, inner)),
@@ -45,7 +46,7 @@ pub fn find_in(
 
 /// Returns the entry of the last element `inner` of the last attribute of type `kind` of a view.
 fn find_in_view(list: View<'_, FamilySet>, kind: u16, inner: u16) -> Option<Entry>
-    ensures { IsLastIn (family_in (set_of list.entry)) kind inner (bytes_in list.entry) result }
+    ensures { IsLastIn (table_of (family_in (set_of list.entry))) kind inner (bytes_in list.entry) result }
 {
     match last_value(list, kind) {
         Some((at, value)) => find_in_value(at, &value, inner),
@@ -56,7 +57,7 @@ fn find_in_view(list: View<'_, FamilySet>, kind: u16, inner: u16) -> Option<Entr
 /// Returns the entry of the last element `inner` of an attribute that starts at this offset.
 fn find_in_value(at: usize, value: &Value<'_, FamilySet>, inner: u16) -> Option<Entry>
     requires { at + (4 + length (payload_in value.now)) < 2 ^ 63 }
-    ensures { IsElementFound (family_in (set_in value.now)) (Some (at, buffer_in value.now)) inner result }
+    ensures { IsElementFound (table_of (family_in (set_in value.now))) (Some (at, buffer_in value.now)) inner result }
 {
     find_in_content(
         value.set().family,
@@ -81,10 +82,10 @@ fn find_in_content(
 {
     let kind = buffer.kind();
     match content {
-        Content::List(bytes) => find_nested(
+        Content::List { list, .. } => find_nested(
             kind,
             at,
-            View::of_checked(bytes, FamilyElements { family, list: kind }),
+            View::of_checked(list, FamilyElements { family, list: kind }),
             inner,
         ),
         Content::Addresses { list, size } => find_address(
@@ -94,8 +95,8 @@ fn find_in_content(
             size,
             inner,
         ),
-        Content::U16s(bytes) => find_number(kind, at, Width::Two, bytes, inner),
-        Content::U32s(bytes) => find_number(kind, at, Width::Four, bytes, inner),
+        Content::U16s(bytes) => find_number::<u16>(kind, at, bytes, inner),
+        Content::U32s(bytes) => find_number::<u32>(kind, at, bytes, inner),
         _ => None,
     }
 }
@@ -118,14 +119,14 @@ fn find_nested<T: AttributeSet>(
 }
 
 /// Returns the entry of the number at an index of an array.
-fn find_number(kind: u16, at: usize, width: Width, bytes: &[u8], inner: u16) -> Option<Entry>
+fn find_number<W: Word>(kind: u16, at: usize, bytes: &[u8], inner: u16) -> Option<Entry>
     requires short { length bytes.now ≤ max_payload }
     requires offset { at + length bytes.now < 2 ^ 63 }
-    ensures { result ≡ last_inner inner (number_entries kind at (width_of width) bytes.now) }
+    ensures { result ≡ last_inner inner (number_entries kind at (bytes_of_width W.WIDTH) bytes.now) }
 {
     let index = usize::from(inner);
-    if index < count_of(width, bytes) {
-        return Some(number_entry(kind, at, width, index, bytes));
+    if index < count_of::<W>(bytes) {
+        return Some(number_entry::<W>(kind, at, index, bytes));
     }
     None
 }

@@ -10,13 +10,13 @@ ghost use Rattle.link_flat.specs.declared.entry.Entry.{Entry};
 ghost use Rattle.link_flat.specs.Entry.{blank};
 ghost use Rattle.link_flat.specs.Flat.{HasContent, Elements, head_entry, IsGroup, Flat, Puts, Flattens};
 
-use crate::arrays::{Width, put_numbers};
+use crate::arrays::put_numbers;
 use crate::contents::fill;
 use crate::elements::{put_addresses, put_elements};
 use crate::entry::Entry;
-use link_base::attribute_set::{AttributeSet, ElementSet, Set};
-use link_base::content::Content;
-use link_base::view::{Value, View};
+use link_base::views::attribute_set::{AttributeSet, ElementSet, Set};
+use link_base::views::content::Content;
+use link_base::views::view::{Value, View};
 use link_base::{Attribute, DefaultNla, ListFault, NlaBuffer, check_list};
 use netlink_packet_route::{Family, by_family};
 
@@ -29,35 +29,29 @@ use netlink_packet_route::{Family, by_family};
 /// The first error in the list, with the byte offset of its attribute. Then all places are unchanged.
 #[inline(always)]
 pub fn flatten(family: Family, bytes: &[u8], places: &mut [Entry]) -> Result<usize, ListFault>
-    ensures entries { Flattens family bytes.now places.old places.new result }
+    ensures entries { Flattens (table_of family) bytes.now places.old places.new result }
     ensures bounded { IfOk result (λ n. 2 * n ≤ length bytes.now) }
 {
-    by_family!(family, flatten_list(places, family, bytes))
+    by_family!(family, flatten_list(places, bytes))
 }
 
 /// Stores the entries of a list of attributes of the type `F`, as [`flatten`] does for a `Family`.
 #[inline(always)]
-fn flatten_list<F: Attribute>(
-    places: &mut [Entry],
-    family: Family,
-    bytes: &[u8],
-) -> Result<usize, ListFault>
-    requires table { F.table ≡ table_of family }
-    ensures entries { Flattens family bytes.now places.old places.new result }
+fn flatten_list<F: Attribute>(places: &mut [Entry], bytes: &[u8]) -> Result<usize, ListFault>
+    ensures entries { Flattens F.table bytes.now places.old places.new result }
     ensures bounded { IfOk result (λ n. 2 * n ≤ length bytes.now) }
 {
     match check_list::<F>(bytes) {
-        Ok(_) => Ok(put_list::<F>(places, family, bytes)),
+        Ok(_) => Ok(put_list::<F>(places, bytes)),
         Err(fault) => Err(fault),
     }
 }
 
 /// Stores the entries of a list that decodes, as far as there are places. Returns their number.
 #[inline(never)]
-fn put_list<F: Attribute>(places: &mut [Entry], family: Family, bytes: &[u8]) -> usize
-    requires table { F.table ≡ table_of family }
-    requires decodes { HasValues F.table bytes.now }
-    ensures { (es : List Entry) × Flat family bytes.now es
+fn put_list<F: Attribute>(places: &mut [Entry], bytes: &[u8]) -> usize
+    requires { HasValues F.table bytes.now }
+    ensures { (es : List Entry) × Flat F.table bytes.now es
         × Puts places.old places.new 0 es result × (2 * length es ≤ length bytes.now) }
 {
     let mut rest = View::of_checked(bytes, Set::<F>::new());
@@ -68,8 +62,8 @@ fn put_list<F: Attribute>(places: &mut [Entry], family: Family, bytes: &[u8]) ->
             let at = bytes.len() - rest.bytes().len();
             match rest.next() {
                 Some(value) => {
-                    if !fill_single(&mut places[next], family, at, &value) {
-                        next = put_value(places, family, at, next, value);
+                    if !fill_single(&mut places[next], at, &value) {
+                        next = put_value(places, at, next, value);
                         continue 'values;
                     }
                     next += 1;
@@ -79,7 +73,7 @@ fn put_list<F: Attribute>(places: &mut [Entry], family: Family, bytes: &[u8]) ->
         }
         let at = bytes.len() - rest.bytes().len();
         match rest.next() {
-            Some(value) => next = put_value(places, family, at, next, value),
+            Some(value) => next = put_value(places, at, next, value),
             None => return next,
         }
     }
@@ -90,41 +84,34 @@ fn put_list<F: Attribute>(places: &mut [Entry], family: Family, bytes: &[u8]) ->
 #[inline(always)]
 fn put_value<F: Attribute>(
     places: &mut [Entry],
-    family: Family,
     at: usize,
     first: usize,
     value: Value<'_, Set<F>>,
 ) -> usize
-    requires table { F.table ≡ table_of family }
     requires offset { at + (4 + length (payload_in value)) < 2 ^ 63 }
     requires place { first + (4 + length (payload_in value)) < 2 ^ 63 }
-    ensures { (es : List Entry) × IsGroup family (at, buffer_in value.entry) es
+    ensures { (es : List Entry) × IsGroup F.table (at, buffer_in value.entry) es
         × Puts places.old places.new first es result × (2 * length es ≤ 4 + length (payload_in value.entry)) }
 {
     let elements = ElementSet::<F>::new(value.kind());
-    put_group(places, family, at, first, &value, elements)
+    put_group(places, at, first, &value, elements)
 }
 
 /// Stores the entry of an attribute that starts at this offset in `place`, and returns true, unless it is a list. If it is,
 /// the entry is not complete.
 #[inline(always)]
-fn fill_single<F: Attribute>(
-    place: &mut Entry,
-    family: Family,
-    at: usize,
-    value: &Value<'_, Set<F>>,
-) -> bool
-    requires table { F.table ≡ table_of family }
-    requires offset { at + (4 + length (payload_in value.now)) < 2 ^ 63 }
-    ensures { IsTrue result → IsGroup family (at, buffer_in value.now) (place.new ∷ []) }
+fn fill_single<F: Attribute>(place: &mut Entry, at: usize, value: &Value<'_, Set<F>>) -> bool
+    requires { at + (4 + length (payload_in value.now)) < 2 ^ 63 }
+    ensures { IsTrue result → IsGroup F.table (at, buffer_in value.now) (place.new ∷ []) }
 {
     let buffer = value.buffer();
     // Before the content is read: the compiler then stores each content where it reads it.
     start_head(place, at, &buffer);
     match value.content() {
-        Content::List(_) | Content::Addresses { .. } | Content::U16s(_) | Content::U32s(_) => false,
+        Content::List { .. } | Content::Addresses { .. } | Content::U16s(_) | Content::U32s(_) =>
+            false,
         content => {
-            fill(place, Some(family), buffer.raw_kind(), content, 0);
+            fill(place, buffer.raw_kind(), content, 0);
             true
         }
     }
@@ -135,32 +122,22 @@ fn fill_single<F: Attribute>(
 #[inline(never)]
 pub(crate) fn put_group<S: AttributeSet, E: AttributeSet>(
     places: &mut [Entry],
-    family: Family,
     at: usize,
     first: usize,
     value: &Value<'_, S>,
     elements: E,
 ) -> usize
-    requires table { S.rows (set_in value.now) ≡ table_of family }
-    requires elements { E.rows elements ≡ elements_at (table_of family) (kind_in value.now) }
+    requires elements { E.rows elements ≡ elements_at (S.rows (set_in value.now)) (kind_in value.now) }
     requires offset { at + (4 + length (payload_in value.now)) < 2 ^ 63 }
     requires place { first + (4 + length (payload_in value.now)) < 2 ^ 63 }
-    ensures { (es : List Entry) × IsGroup family (at, buffer_in value.now) es
+    ensures { (es : List Entry) × IsGroup (S.rows (set_in value.now)) (at, buffer_in value.now) es
         × Puts places.old places.new first es result × (2 * length es ≤ 4 + length (payload_in value.now)) }
 {
     let buffer = value.buffer();
     let content = value.content();
-    let next = put_below(
-        places,
-        family,
-        at + 4,
-        first + 1,
-        &buffer,
-        content,
-        elements,
-    );
+    let next = put_below(places, at + 4, first + 1, value, content, elements);
     let below = next - (first + 1);
-    store_head(places, family, at, first, &buffer, content, below);
+    store_head(places, at, first, &buffer, content, below);
     next
 }
 
@@ -169,7 +146,6 @@ pub(crate) fn put_group<S: AttributeSet, E: AttributeSet>(
 #[inline(always)]
 fn store_head(
     places: &mut [Entry],
-    family: Family,
     at: usize,
     first: usize,
     buffer: &NlaBuffer<'_>,
@@ -177,10 +153,10 @@ fn store_head(
     below: usize,
 )
     requires { at + (4 + length (payload_of buffer.now)) < 2 ^ 63 }
-    ensures { places.new ≡ slice_set places.old first (head_entry family (at, buffer.now) content.entry below) }
+    ensures { places.new ≡ slice_set places.old first (head_entry (at, buffer.now) content.entry below) }
 {
     if first < places.len() {
-        fill_head(&mut places[first], family, at, buffer, content, below);
+        fill_head(&mut places[first], at, buffer, content, below);
     }
 }
 
@@ -188,17 +164,16 @@ fn store_head(
 #[inline(always)]
 fn fill_head(
     place: &mut Entry,
-    family: Family,
     at: usize,
     buffer: &NlaBuffer<'_>,
     content: Content<'_>,
     below: usize,
 )
     requires { at + (4 + length (payload_of buffer.now)) < 2 ^ 63 }
-    ensures { place.new ≡ head_entry family (at, buffer.now) content.entry below }
+    ensures { place.new ≡ head_entry (at, buffer.now) content.entry below }
 {
     start_head(place, at, buffer);
-    fill(place, Some(family), buffer.raw_kind(), content, below);
+    fill(place, buffer.raw_kind(), content, below);
 }
 
 /// Sets all fields of `place` except the number to those of the entry of an attribute that starts at this offset, without its
@@ -215,33 +190,32 @@ fn start_head(place: &mut Entry, at: usize, buffer: &NlaBuffer<'_>)
 }
 
 /// Stores the entries of the elements of an attribute whose payload starts at offset `at`, if its content is a list; the
-/// first in the place `first`. Returns the place after them.
+/// first in the place `first`. Returns the place after them. `elements` is the set of its elements.
 #[inline(always)]
-fn put_below<E: AttributeSet>(
+fn put_below<S: AttributeSet, E: AttributeSet>(
     places: &mut [Entry],
-    family: Family,
     at: usize,
     first: usize,
-    buffer: &NlaBuffer<'_>,
+    value: &Value<'_, S>,
     content: Content<'_>,
     elements: E,
 ) -> usize
-    requires content { HasContent (table_of family) buffer.now content }
-    requires elements { E.rows elements ≡ elements_at (table_of family) (kind_of (kind_field_of buffer.now)) }
-    requires offset { at + length (payload_of buffer.now) < 2 ^ 63 }
-    requires place { first + length (payload_of buffer.now) < 2 ^ 63 }
+    requires content { HasContent (S.rows (set_in value.now)) (buffer_in value.now) content }
+    requires elements { E.rows elements ≡ elements_at (S.rows (set_in value.now)) (kind_in value.now) }
+    requires offset { at + length (payload_in value.now) < 2 ^ 63 }
+    requires place { first + length (payload_in value.now) < 2 ^ 63 }
     ensures { (es : List Entry)
-        × Elements (table_of family) (kind_of (kind_field_of buffer.now)) at content.entry es
-        × Puts places.old places.new first es result × (2 * length es ≤ length (payload_of buffer.now)) }
+        × Elements (S.rows (set_in value.now)) (kind_in value.now) at content.entry es
+        × Puts places.old places.new first es result × (2 * length es ≤ length (payload_in value.now)) }
 {
-    let kind = buffer.kind();
+    let kind = value.kind();
     match content {
-        Content::List(bytes) => put_elements(
+        Content::List { list, .. } => put_elements(
             places,
             kind,
             at,
             first,
-            View::of_checked(bytes, elements),
+            View::of_checked(list, elements),
         ),
         Content::Addresses { list, size } => put_addresses(
             places,
@@ -251,8 +225,8 @@ fn put_below<E: AttributeSet>(
             View::of_checked(list, Set::<DefaultNla>::new()),
             size,
         ),
-        Content::U16s(bytes) => put_numbers(places, kind, at, first, Width::Two, bytes),
-        Content::U32s(bytes) => put_numbers(places, kind, at, first, Width::Four, bytes),
+        Content::U16s(bytes) => put_numbers::<u16>(places, kind, at, first, bytes),
+        Content::U32s(bytes) => put_numbers::<u32>(places, kind, at, first, bytes),
         _ => first,
     }
 }

@@ -6,7 +6,6 @@
 
 mod arrays;
 mod contents;
-pub mod detail;
 mod elements;
 mod entry;
 mod finding;

@@ -4,7 +4,7 @@ use Rattle.std.specs.List.{AllZip, filter}
 use Rattle.std.proofs.lemmas.Bool.{ne_eqb}
 use Rattle.std.proofs.lemmas.List.{append-nil}
 use Rattle.std.proofs.lemmas.List.Elements.{filter-append}
-use Rattle.link_messages.specs.declared.views.Message.{Message}
+use Rattle.link_messages.specs.declared.buffer_parts.Message.{Message}
 use Rattle.link_messages.specs.declared.link.Link.{Link}
 use Rattle.link_messages.specs.declared.message.MessageError.{MessageError}
 use Rattle.link_messages.specs.declared.message.MessageError.TheVariants as errors

@@ -1,20 +1,19 @@
 -- The attributes of a list up to its first malformed header: one more, and that there is one walk only.
-use Rattle.std.proofs.Common.{◌≡◌, ℕ, ◌+◌, ◌-◌, ◌<◌, ◌≤◌, Bool, true, false, cond, List, [], ◌∷◌, ◌++◌, length, map, drop, min, Option, Some, None, refl, sym, subst, ap, ap₂, ◌∙◌, arith}
+use Rattle.std.proofs.Common.{◌≡◌, ℕ, ◌+◌, ◌-◌, ◌<◌, ◌≤◌, ◌==◌, Bool, true, false, cond, List, [], ◌∷◌, ◌++◌, length, map, drop, min, Option, Some, None, refl, sym, subst, ap, ap₂, ◌∙◌, arith}
 use Rattle.std.specs.Prelude.{nat_eq}
 use Rattle.std.specs.Option.{option_map}
 use Rattle.std.specs.List.{filter, last_or}
-use Rattle.std.proofs.lemmas.List.{append-nil, length-append, length-drop, length-map}
+use Rattle.std.proofs.lemmas.Bool.{eqb-true, eqb-false}
+use Rattle.std.proofs.lemmas.List.{append-nil, length-append, length-drop, length-map, nil_from_length}
 use Rattle.std.proofs.lemmas.List.Elements.{filter-append}
-use Rattle.link_base.specs.declared.buffer.NlaBuffer.{NlaBuffer}
-use Rattle.link_base.specs.declared.fault.Cause.{Cause}
+use Rattle.link_base.specs.declared.wire.buffer.NlaBuffer.{NlaBuffer}
+use Rattle.link_base.specs.declared.wire.fault.Cause.{Cause}
 use Rattle.link_base.specs.Frame.{kind_of, pad, frame_fault}
 use Rattle.link_base.specs.Buffer.{SplitsFirst, kind_field_of, payload_of, frame_of}
 use Rattle.link_base.proofs.Cuts.{SameFront-frames}
 use Rattle.link_base.proofs.FrameBytes.{frame_fault-frame}
-use Rattle.link_messages.specs.declared.views.Payload.{Payload}
-use Rattle.link_messages.specs.Finding.{Stretch, stretch_of}
 use Rattle.link_messages.specs.Walk.{Item, Walks, IsEnd, Walk}
-use Rattle.link_messages.specs.BeforeFault.{OfWalk, Seen, seen_of, Typed, last_item, typed_at, typed_of, latest, latest_typed}
+use Rattle.link_messages.specs.BeforeFault.{OfWalk, Seen, seen_of, Typed, last_item, typed_at, latest, latest_typed}
 
 -- ---- one attribute more
 
@@ -81,12 +80,12 @@ map_when : {A B : Type 0} (f : A → B) (b : Bool) (x : A) (o : Option A) → op
 map_when f true x o = refl
 map_when f false x o = refl
 
-map_twice : {A B C : Type 0} (f : A → B) (g : B → C) (o : Option A) → option_map (λ x. g (f x)) o ≡ option_map g (option_map f o)
+pub map_twice : {A B C : Type 0} (f : A → B) (g : B → C) (o : Option A) → option_map (λ x. g (f x)) o ≡ option_map g (option_map f o)
 map_twice f g None = refl
 map_twice f g (Some x) = refl
 
 -- the last element of a list with a property that is a property of the element's view
-last-view : {A B : Type 0} (f : A → B) (p : B → Bool) (o : Option A) (xs : List A) → option_map f (last_or o (filter (λ x. p (f x)) xs)) ≡ last_or (option_map f o) (filter p (map f xs))
+pub last-view : {A B : Type 0} (f : A → B) (p : B → Bool) (o : Option A) (xs : List A) → option_map f (last_or o (filter (λ x. p (f x)) xs)) ≡ last_or (option_map f o) (filter p (map f xs))
 last-view f p o [] = refl
 last-view f p o (x ∷ xs) =
     elim (p (f x)) as (λ b. option_map f (last_or o (cond b (x ∷ filter (λ x. p (f x)) xs) (filter (λ x. p (f x)) xs))) ≡ last_or (option_map f o) (cond b (f x ∷ filter p (map f xs)) (filter p (map f xs)))) [
@@ -105,15 +104,21 @@ unfolding latest_of typed_seen
 latest-seen base kind items =
     map_twice seen_of (typed_seen base) (last_item kind items) ∙ ap (option_map (typed_seen base)) (last-view seen_of (λ x. nat_eq (kind_of x.1) kind) None items)
 
--- the walk as far as the bytes `rest`, and the last attribute of the type in it
-pub record Reached (list : Stretch) (kind : ℕ) (found : Option Typed) (rest : List ℕ) : Type 0 where
-  pub items : List Item
-  pub walks : Walks (length list.1) list.1 items rest
-  pub within : length rest ≤ length list.1
-  pub last : found ≡ latest_typed list.0 kind items
+-- it depends only on what is seen of attributes
+pub latest_same : (base kind : ℕ) (xs ys : List Item) → map seen_of xs ≡ map seen_of ys → latest_typed base kind xs ≡ latest_typed base kind ys
+latest_same base kind xs ys e = latest-seen base kind xs ∙ ap (latest_of base kind) e ∙ sym (latest-seen base kind ys)
 
-pub reached_none : (list : Stretch) (kind : ℕ) → Reached list kind None list.1
-reached_none list kind = record { items = []; walks = refl; within = omega arith; last = refl }
+pub latest_more : (base kind i : ℕ) (b : NlaBuffer) (found more : Option Typed) (items : List Item) → more ≡ cond (nat_eq (kind_of (kind_field_of b)) kind) (Some (kind_field_of b, (base + i + 4, payload_of b))) found
+    → found ≡ latest_typed base kind items → more ≡ latest_typed base kind (items ++ (i, b) ∷ [])
+latest_more base kind i b found more items e h =
+    let is_of = nat_eq (kind_of (kind_field_of b)) kind in
+    e ∙ ap (cond is_of (Some (typed_at base (i, b)))) h ∙ sym (map_when (typed_at base) is_of (i, b) (last_item kind items)) ∙ ap (option_map (typed_at base)) (sym (last_item-push kind items (i, b)))
+
+-- the payload without its `nla_type`
+pub latest-typed : (base kind : ℕ) (items : List Item) → latest base kind items ≡ option_map (λ x. x.1) (latest_typed base kind items)
+latest-typed base kind items = map_twice (typed_at base) (λ x. x.1) (last_item kind items)
+
+-- ---- a loop over the attributes
 
 -- an attribute and its header are in the bytes that they are taken from, and what follows is shorter
 pub split_short : (s : List ℕ) (b : NlaBuffer) (u : List ℕ) → SplitsFirst s b u → (4 + length (payload_of b) ≤ length s) × (length u < length s)
@@ -122,71 +127,47 @@ split_short s b u h =
     let whole : 4 + length (payload_of b) ≤ length s = omega (arith, ap length h.0.string, length-append (payload_of b ++ []) h.0.rest, length-append (payload_of b) []) in
     (whole, omega (arith, ap length h.1, length-drop step s))
 
-pub reached_more : (list : Stretch) (kind : ℕ) (found more : Option Typed) (rest next : List ℕ) (b : NlaBuffer) → Reached list kind found rest → SplitsFirst rest b next
-    → more ≡ cond (nat_eq (kind_of (kind_field_of b)) kind) (Some (kind_field_of b, (list.0 + (length list.1 - length rest) + 4, payload_of b))) found → Reached list kind more next
-reached_more list kind found more rest next b r split e =
-    let n = length list.1 in
-    let x : Item = (n - length rest, b) in
-    let short = split_short rest b next split in
-    let is_of = nat_eq (kind_of (kind_field_of b)) kind in
-    record {
-      items = r.items ++ x ∷ [];
-      walks = walks_more n list.1 r.items rest b next r.walks split;
-      within = omega (arith, short.1, r.within);
-      last = e ∙ ap (cond is_of (Some (typed_at list.0 x))) r.last ∙ sym (map_when (typed_at list.0) is_of x (last_item kind r.items)) ∙ ap (option_map (typed_at list.0)) (sym (last_item-push kind r.items x));
-    }
-
--- the end of a walk at bytes that do not start with an attribute
-pub ended : (n : ℕ) (rest : List ℕ) (cause : Cause) → frame_fault rest ≡ Some cause → (fault : Option (ℕ × Cause)) × IsEnd n rest fault
-ended n [] cause h = (None, refl)
-ended n (b ∷ s) cause h = (Some (n - length (b ∷ s), cause), (λ e. cc, refl, h))
-
--- what was found in one walk is found in every walk
-pub reached_end : (list : Stretch) (kind : ℕ) (found : Option Typed) (rest : List ℕ) (cause : Cause) → Reached list kind found rest → frame_fault rest ≡ Some cause
-    → OfWalk list.1 (λ items _. found ≡ latest_typed list.0 kind items)
-reached_end list kind found rest cause r h = λ items fault walk.
-    let end = ended (length list.1) rest cause h in
-    let same = walk_unique list.1 r.items items end.0 fault (record { rest = rest; walks = r.walks; end = end.1 }) walk in
-    r.last ∙ latest-seen list.0 kind r.items ∙ ap (latest_of list.0 kind) same.0 ∙ sym (latest-seen list.0 kind items)
-
--- the payload without its `nla_type`
-latest-typed : (base kind : ℕ) (items : List Item) → latest base kind items ≡ option_map (λ x. x.1) (latest_typed base kind items)
-latest-typed base kind items = map_twice (typed_at base) (λ x. x.1) (last_item kind items)
-
-pub payload_found : (base kind : ℕ) (items : List Item) (result found : Option (ℕ × Payload)) → result ≡ found → option_map typed_of result ≡ latest_typed base kind items
-    → option_map (λ x. stretch_of x.1) found ≡ latest base kind items
-payload_found base kind items result found is last =
-    map_twice typed_of (λ x. x.1) found ∙ ap (λ o. option_map (λ x. x.1) (option_map typed_of o)) (sym is) ∙ ap (option_map (λ x. x.1)) last ∙ sym (latest-typed base kind items)
-
--- ---- the number of attributes, and the error
-
--- the walk as far as the bytes `rest`
-pub record Counted (list : List ℕ) (count : ℕ) (rest : List ℕ) : Type 0 where
+-- the attributes before the bytes `rest` of a list, and a value that depends on them
+pub record Reached {A : Type 0} (of : List Item → A) (list : List ℕ) (value : A) (rest : List ℕ) : Type 0 where
   pub items : List Item
   pub walks : Walks (length list) list items rest
-  pub counts : count ≡ length items
-  pub room : count + length rest ≤ length list
+  pub room : length items + length rest ≤ length list
+  pub is : value ≡ of items
 
-pub counted_none : (list : List ℕ) → Counted list 0 list
-counted_none list = record { items = []; walks = refl; counts = refl; room = omega arith }
+pub reached_none : {A : Type 0} (of : List Item → A) (list : List ℕ) (value : A) → value ≡ of [] → Reached of list value list
+reached_none of list value e = record { items = []; walks = refl; room = omega arith; is = e }
 
-pub counted_more : (list : List ℕ) (count : ℕ) (rest next : List ℕ) (b : NlaBuffer) → Counted list count rest → SplitsFirst rest b next → Counted list (count + 1) next
-counted_more list count rest next b r split =
-    let n = length list in
-    let x : Item = (n - length rest, b) in
+-- one attribute more
+pub reached_more : {A : Type 0} (of : List Item → A) (list rest next : List ℕ) (value more : A) (b : NlaBuffer) → Reached of list value rest → SplitsFirst rest b next
+    → ((items : List Item) → value ≡ of items → more ≡ of (items ++ (length list - length rest, b) ∷ [])) → Reached of list more next
+reached_more of list rest next value more b r split step =
+    let x : Item = (length list - length rest, b) in
     let short = split_short rest b next split in
     record {
       items = r.items ++ x ∷ [];
-      walks = walks_more n list r.items rest b next r.walks split;
-      counts = omega (arith, r.counts, length-append r.items (x ∷ []));
-      room = omega (arith, short.1, r.room);
+      walks = walks_more (length list) list r.items rest b next r.walks split;
+      room = omega (arith, short.1, r.room, length-append r.items (x ∷ []));
+      is = step r.items r.is;
     }
 
-pub counted_walk : (list : List ℕ) (count : ℕ) (rest : List ℕ) (fault : Option (ℕ × Cause)) → Counted list count rest → IsEnd (length list) rest fault → (items : List Item) × (fault : Option (ℕ × Cause)) × Walk list items fault
-counted_walk list count rest fault r end = (r.items, fault, record { rest = rest; walks = r.walks; end = end })
+-- the end of the list, and a malformed header
+pub at_end : (n : ℕ) (rest : List ℕ) → (length rest == 0) ≡ true → IsEnd n rest None
+at_end n rest e = nil_from_length rest (eqb-true (length rest) 0 e)
 
-pub counted_all : (list : List ℕ) (count : ℕ) (rest : List ℕ) (end_fault : Option (ℕ × Cause)) → Counted list count rest → IsEnd (length list) rest end_fault
-    → OfWalk list (λ items fault. (count ≡ length items) × (end_fault ≡ fault))
-counted_all list count rest end_fault r end = λ items fault walk.
-    let same = walk_unique list r.items items end_fault fault (record { rest = rest; walks = r.walks; end = end }) walk in
-    (r.counts ∙ sym (length-map r.items seen_of) ∙ ap length same.0 ∙ length-map items seen_of, same.1)
+pub at_fault : (n : ℕ) (rest : List ℕ) (cause : Cause) → (length rest == 0) ≡ false → frame_fault rest ≡ Some cause → IsEnd n rest (Some (n - length rest, cause))
+at_fault n rest cause e fault = (λ none. eqb-false (length rest) 0 e (ap length none), refl, fault)
+
+pub reached_walk : {A : Type 0} (of : List Item → A) (list rest : List ℕ) (value : A) (fault : Option (ℕ × Cause)) → Reached of list value rest → IsEnd (length list) rest fault
+    → (items : List Item) × (stop : Option (ℕ × Cause)) × Walk list items stop
+reached_walk of list rest value fault r end = (r.items, fault, record { rest = rest; walks = r.walks; end = end })
+
+-- what holds of one walk holds of every walk, if it depends only on what is seen of attributes
+pub reached_all : {A : Type 0} (of : List Item → A) (list rest : List ℕ) (value : A) (fault : Option (ℕ × Cause)) → ((xs ys : List Item) → map seen_of xs ≡ map seen_of ys → of xs ≡ of ys) → Reached of list value rest
+    → IsEnd (length list) rest fault → OfWalk list (λ items stop. (value ≡ of items) × (fault ≡ stop))
+reached_all of list rest value fault seen r end = λ items stop walk.
+    let same = walk_unique list r.items items fault stop (record { rest = rest; walks = r.walks; end = end }) walk in
+    (r.is ∙ seen r.items items same.0, same.1)
+
+-- so does the number of attributes
+pub count_same : (xs ys : List Item) → map seen_of xs ≡ map seen_of ys → length xs ≡ length ys
+count_same xs ys e = sym (length-map xs seen_of) ∙ ap length e ∙ length-map ys seen_of

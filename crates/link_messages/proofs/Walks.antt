@@ -1,26 +1,30 @@
--- The loop over the attributes of a list.
-use Rattle.std.proofs.Common.{◌≡◌, ◌≢◌, ◌⊎◌, ℕ, ◌+◌, ◌-◌, ◌<◌, Bool, true, false, cond, List, [], ◌∷◌, ◌++◌, length, take, drop, min, Option, Some, None, refl, sym, ap, ◌∙◌, arith, inl, inr, append_assoc}
+-- A walk over a list, as frames.
+use Rattle.std.proofs.Common.{◌≡◌, ◌≢◌, ◌⊎◌, ℕ, ◌+◌, ◌-◌, ◌<◌, ◌≤◌, List, [], ◌∷◌, ◌++◌, length, map, take, drop, min, Option, Some, None, refl, sym, subst, ap, ap₂, ◌∙◌, arith, inl, inr, append_assoc}
 use Rattle.std.specs.Prelude.{nat_eq}
 use Rattle.std.specs.Option.{option_map}
 use Rattle.std.specs.List.{filter, last_or, AllByRecursion}
-use Rattle.std.proofs.lemmas.List.{append-nil, length-append, length-take, length-drop, take-append-drop, drop-drop, drop_at, nil_from_length}
 use Rattle.std.proofs.lemmas.Bool.{cases_lt}
-use Rattle.std.proofs.lemmas.List.Elements.{filter-append}
-use Rattle.std.proofs.lemmas.Grind.{flat_map-append}
-use Rattle.netlink_packet_route.specs.Frame.{Frame, BeginsWith, bare, IsFrame, IsComplete, AreFrames, kind_of, pad, frame_bytes, spelled, frame_fault}
+use Rattle.std.proofs.lemmas.List.{append-nil, length-append, length-take, length-drop, take-append-drop, drop-drop, drop_at, nil_from_length}
+use Rattle.link_base.specs.declared.wire.fault.Cause.{Cause}
+use Rattle.netlink_packet_route.specs.Frame.{Frame, BeginsWith, bare, IsFrame, IsComplete, AreFrames, kind_of, pad, frame_bytes, spelled}
+use Rattle.netlink_packet_route.specs.Buffer.{kind_field_of, payload_of}
+use Rattle.link_messages.specs.declared.message.MessageError.{MessageError}
 use Rattle.link_messages.specs.declared.message.MessageError.TheVariants as errors
 use Rattle.link_messages.specs.Finding.{Stretch, placed, last_of, Finds, IsFrameFault}
+use Rattle.link_messages.specs.Walk.{Item, Walks, Walk}
+use Rattle.link_messages.specs.BeforeFault.{Typed, typed_at, latest, error_at}
+use Rattle.link_messages.proofs.Walking.{map_twice, last-view, latest-typed}
 
 -- ---- the frame at the front, with the padding that is there
 
 -- a frame at the front of some bytes, and what follows it: where that is not empty, the frame has all its padding
-pub record Splits (s : List ℕ) (f : ℕ) (p next : List ℕ) : Type 0 where
-  pub padding : List ℕ
-  pub is : IsFrame (record { kind_field = f; payload = p; padding = padding })
-  pub string : s ≡ frame_bytes (record { kind_field = f; payload = p; padding = padding }) ++ next
-  pub last : (next ≡ []) ⊎ IsComplete (record { kind_field = f; payload = p; padding = padding })
+record Splits (s : List ℕ) (f : ℕ) (p next : List ℕ) : Type 0 where
+  padding : List ℕ
+  is : IsFrame (record { kind_field = f; payload = p; padding = padding })
+  string : s ≡ frame_bytes (record { kind_field = f; payload = p; padding = padding }) ++ next
+  last : (next ≡ []) ⊎ IsComplete (record { kind_field = f; payload = p; padding = padding })
 
-pub splits : (s : List ℕ) (f : ℕ) (p next : List ℕ) → BeginsWith s (bare f p) → next ≡ drop (min (pad (4 + length p)) (length s)) s → Splits s f p next
+splits : (s : List ℕ) (f : ℕ) (p next : List ℕ) → BeginsWith s (bare f p) → next ≡ drop (min (pad (4 + length p)) (length s)) s → Splits s f p next
 splits s f p next b e =
     let front = frame_bytes (bare f p) in
     let step = min (pad (4 + length p)) (length s) in
@@ -42,116 +46,112 @@ splits s f p next b e =
       ];
     }
 
--- ---- the last of a kind among frames and one more
+-- ---- the frames of a walk
 
-spelled-push : (xs : List Frame) (x : Frame) → spelled (xs ++ x ∷ []) ≡ spelled xs ++ frame_bytes x
-spelled-push xs x = flat_map-append frame_bytes xs (x ∷ []) ∙ ap (λ t. spelled xs ++ t) (append-nil (frame_bytes x))
+-- frames before the bytes t; all of them are complete if anything is left
+abbrev AreBefore : List ℕ → List Frame → Type 0
+AreBefore t frames = ((t ≡ []) × AreFrames frames) ⊎ AllByRecursion IsComplete frames
 
-placed-push : (at : ℕ) (xs : List Frame) (x : Frame) → placed at (xs ++ x ∷ []) ≡ placed at xs ++ (at + length (spelled xs) + 4, x) ∷ []
-placed-push at [] x = let e : at + 4 ≡ at + 0 + 4 = omega arith in ap (λ i. (i, x) ∷ []) e
-placed-push at (y ∷ xs) x =
-    let next = at + length (frame_bytes y) in
-    let e : next + length (spelled xs) + 4 ≡ at + length (frame_bytes y ++ spelled xs) + 4 = omega (arith, length-append (frame_bytes y) (spelled xs)) in
-    ap (λ t. (at + 4, y) ∷ t) (placed-push next xs x ∙ ap (λ i. placed next xs ++ (i, x) ∷ []) e)
-
-last_or-push : {A : Type 0} (o : Option A) (xs : List A) (x : A) → last_or o (xs ++ x ∷ []) ≡ Some x
-last_or-push o [] x = refl
-last_or-push o (y ∷ xs) x = last_or-push (Some y) xs x
-
-abbrev last_seen : List (ℕ × Frame) → Option Stretch
-last_seen ps = option_map (λ p. (p.0, p.1.payload)) (last_or None ps)
-
-last_seen-push : (b : Bool) (ps : List (ℕ × Frame)) (p : ℕ × Frame) → last_seen (ps ++ cond b (p ∷ []) []) ≡ cond b (Some (p.0, p.1.payload)) (last_seen ps)
-last_seen-push true ps p = ap (option_map (λ q. (q.0, q.1.payload))) (last_or-push None ps p)
-last_seen-push false ps p = ap last_seen (append-nil ps)
-
-last_of-push : (kind at : ℕ) (xs : List Frame) (x : Frame)
-    → last_of kind at (xs ++ x ∷ []) ≡ cond (nat_eq (kind_of x.kind_field) kind) (Some (at + length (spelled xs) + 4, x.payload)) (last_of kind at xs)
-last_of-push kind at xs x =
-    let is_of : ℕ × Frame → Bool = λ p. nat_eq (kind_of p.1.kind_field) kind in
-    let p : ℕ × Frame = (at + length (spelled xs) + 4, x) in
-    ap (λ ps. last_seen (filter is_of ps)) (placed-push at xs x)
-    ∙ ap last_seen (filter-append is_of (placed at xs) (p ∷ []))
-    ∙ last_seen-push (is_of p) (filter is_of (placed at xs)) p
-
--- ---- frames and one more
+complete_then : (x : Frame) (xs : List Frame) → IsComplete x → AreFrames xs → AreFrames (x ∷ xs)
+complete_then x [] h are = record { kind_field = h.kind_field; payload = h.payload; padding = omega (arith, h.padding) }
+complete_then x (y ∷ xs) h are = (h, are)
 
 complete_frames : (xs : List Frame) → AllByRecursion IsComplete xs → AreFrames xs
 complete_frames [] h = tt
-complete_frames (x ∷ []) h = record { kind_field = h.0.kind_field; payload = h.0.payload; padding = omega (arith, h.0.padding) }
-complete_frames (x ∷ y ∷ xs) h = (h.0, complete_frames (y ∷ xs) h.1)
+complete_frames (x ∷ xs) h = complete_then x xs h.0 (complete_frames xs h.1)
 
-frames_push : (xs : List Frame) (x : Frame) → AllByRecursion IsComplete xs → IsFrame x → AreFrames (xs ++ x ∷ [])
-frames_push [] x h is = is
-frames_push (y ∷ []) x h is = (h.0, is)
-frames_push (y ∷ z ∷ xs) x h is = (h.0, frames_push (z ∷ xs) x h.1 is)
+-- a frame before others
+frame_then : (x : Frame) (xs : List Frame) (next t : List ℕ) → IsFrame x → (next ≡ []) ⊎ IsComplete x → next ≡ spelled xs ++ t → AreBefore t xs → AreBefore t (x ∷ xs)
+frame_then x [] next t is (inl e) string h = inl (sym string ∙ e, is)
+frame_then x (y ∷ xs) next t is (inl e) string h = let none : [] ≡ spelled (y ∷ xs) ++ t = sym e ∙ string in absurd (cc)
+frame_then x xs next t is (inr complete) string (inl h) = inl (h.0, complete_then x xs complete h.1)
+frame_then x xs next t is (inr complete) string (inr h) = inr (complete, h)
 
-complete_push : (xs : List Frame) (x : Frame) → AllByRecursion IsComplete xs → IsComplete x → AllByRecursion IsComplete (xs ++ x ∷ [])
-complete_push [] x h is = (is, tt)
-complete_push (y ∷ xs) x h is = (h.0, complete_push xs x h.1 is)
+-- what is seen of a frame at an offset
+abbrev typed_in : ℕ × Frame → Typed
+typed_in p = (p.1.kind_field, (p.0, p.1.payload))
 
--- ---- the loop
+-- the frames that a walk goes over from the bytes s on, of a list of n bytes at offset `base`
+record HasFrames (base n : ℕ) (s : List ℕ) (items : List Item) (t : List ℕ) : Type 0 where
+  frames : List Frame
+  string : s ≡ spelled frames ++ t
+  before : AreBefore t frames
+  seen : map typed_in (placed (base + (n - length s)) frames) ≡ map (typed_at base) items
 
--- the frames before the rest, all of them complete where anything is left; and the last of the kind among them
-pub record Walked (list : Stretch) (kind : ℕ) (found : Option Stretch) (rest : List ℕ) : Type 0 where
-  pub front : List Frame
-  pub string : list.1 ≡ spelled front ++ rest
-  pub frames : ((rest ≡ []) × AreFrames front) ⊎ AllByRecursion IsComplete front
-  pub last : found ≡ last_of kind list.0 front
-
-pub walked_none : (list : Stretch) (kind : ℕ) → Walked list kind None list.1
-walked_none list kind = record { front = []; string = refl; frames = inr tt; last = refl }
-
-all_complete : (rest : List ℕ) (front : List Frame) → ((rest ≡ []) × AreFrames front) ⊎ AllByRecursion IsComplete front → rest ≢ [] → AllByRecursion IsComplete front
-all_complete rest front (inl h) some = absurd (some h.0)
-all_complete rest front (inr h) some = h
-
-still_frames : (next : List ℕ) (front : List Frame) (x : Frame) → AllByRecursion IsComplete front → IsFrame x → (next ≡ []) ⊎ IsComplete x
-    → ((next ≡ []) × AreFrames (front ++ x ∷ [])) ⊎ AllByRecursion IsComplete (front ++ x ∷ [])
-still_frames next front x h is (inl e) = inl (e, frames_push front x h is)
-still_frames next front x h is (inr complete) = inr (complete_push front x h complete)
-
--- one frame more
-pub walked_more : (list : Stretch) (kind : ℕ) (found more : Option Stretch) (rest next : List ℕ) (f : ℕ) (p : List ℕ) → Walked list kind found rest → rest ≢ [] → Splits rest f p next
-    → more ≡ cond (nat_eq (kind_of f) kind) (Some (list.0 + (length list.1 - length rest) + 4, p)) found → Walked list kind more next
-walked_more list kind found more rest next f p w some split e =
-    let x : Frame = record { kind_field = f; payload = p; padding = split.padding } in
-    let cut : list.1 ≡ spelled w.front ++ (frame_bytes x ++ next) = w.string ∙ ap (λ t. spelled w.front ++ t) split.string in
-    let at : list.0 + (length list.1 - length rest) + 4 ≡ list.0 + length (spelled w.front) + 4 = omega (arith, ap length w.string, length-append (spelled w.front) rest) in
+has_frames : (base n : ℕ) (s : List ℕ) (items : List Item) (t : List ℕ) → length s ≤ n → Walks n s items t → HasFrames base n s items t
+has_frames base n s [] t short h = record { frames = []; string = h; before = inr tt; seen = refl }
+has_frames base n s (x ∷ items) t short (at, (next, split, walks)) =
+    let one = splits s (kind_field_of x.1) (payload_of x.1) next split.0 split.1 in
+    let f : Frame = record { kind_field = kind_field_of x.1; payload = payload_of x.1; padding = one.padding } in
+    let whole : length s ≡ length (frame_bytes f) + length next = ap length one.string ∙ length-append (frame_bytes f) next in
+    let more = has_frames base n next items t (omega (arith, short, whole)) walks in
+    let behind : base + (n - length s) + length (frame_bytes f) ≡ base + (n - length next) = omega (arith, short, whole) in
     record {
-      front = w.front ++ x ∷ [];
-      string = cut ∙ sym (append_assoc (spelled w.front) (frame_bytes x) next) ∙ ap (λ t. t ++ next) (sym (spelled-push w.front x));
-      frames = still_frames next w.front x (all_complete rest w.front w.frames some) split.is split.last;
-      last = e ∙ ap (λ i. cond (nat_eq (kind_of f) kind) (Some (i, p)) found) at ∙ ap (λ o. cond (nat_eq (kind_of f) kind) (Some (list.0 + length (spelled w.front) + 4, p)) o) w.last
-          ∙ sym (last_of-push kind list.0 w.front x);
+      frames = f ∷ more.frames;
+      string = one.string ∙ ap (λ r. frame_bytes f ++ r) more.string ∙ sym (append_assoc (frame_bytes f) (spelled more.frames) t);
+      before = frame_then f more.frames next t one.is one.last more.string more.before;
+      seen = ap₂ (λ i rest. (kind_field_of x.1, (base + i + 4, payload_of x.1)) ∷ rest) (sym at) (ap (λ i. map typed_in (placed i more.frames)) behind ∙ more.seen);
     }
 
-are_frames : (rest : List ℕ) (front : List Frame) → ((rest ≡ []) × AreFrames front) ⊎ AllByRecursion IsComplete front → AreFrames front
-are_frames rest front (inl h) = h.1
-are_frames rest front (inr h) = complete_frames front h
+-- those of the whole list
+all_frames : (list : Stretch) (items : List Item) (t : List ℕ) → Walks (length list.1) list.1 items t → HasFrames list.0 (length list.1) list.1 items t
+all_frames list items t h = has_frames list.0 (length list.1) list.1 items t (omega arith) h
 
--- at the end
-pub walked_all : (list : Stretch) (kind : ℕ) (found : Option Stretch) (rest : List ℕ) → Walked list kind found rest → rest ≡ [] → Finds list kind found
-walked_all list kind found rest w e = record {
-  frames = w.front;
-  string = record { frames = are_frames rest w.front w.frames; string = w.string ∙ ap (λ t. spelled w.front ++ t) e ∙ append-nil (spelled w.front) };
-  last = w.last;
-}
+-- the last of a type among them is the last of that type among the attributes
+last_frame : (kind : ℕ) (list : Stretch) (items : List Item) (t : List ℕ) (h : HasFrames list.0 (length list.1) list.1 items t) → latest list.0 kind items ≡ last_of kind list.0 h.frames
+last_frame kind list items t h =
+    let base = list.0 in
+    let is_of : Typed → _ = λ x. nat_eq (kind_of x.0) kind in
+    let start : base + (length list.1 - length list.1) ≡ base = omega arith in
+    let found = last_or None (filter (λ p. is_of (typed_in p)) (placed base h.frames)) in
+    latest-typed base kind items
+    ∙ ap (option_map (λ x. x.1)) (
+    last-view (typed_at base) is_of None items ∙ ap (λ xs. last_or None (filter is_of xs)) (sym h.seen ∙ ap (λ i. map typed_in (placed i h.frames)) start)
+    ∙ sym (last-view typed_in is_of None (placed base h.frames))
+    )
+    ∙ sym (map_twice typed_in (λ x. x.1) found)
+
+-- a walk to the end of a list finds the last attribute of each type
+walk_finds : (list : Stretch) (kind : ℕ) (items : List Item) → Walk list.1 items None → Finds list kind (latest list.0 kind items)
+walk_finds list kind items w =
+    let h = all_frames list items w.rest w.walks in
+    record {
+      frames = h.frames;
+      string = record {
+        frames = elim h.before [ inl e ↦ e.1 | inr all ↦ complete_frames h.frames all ];
+        string = h.string ∙ ap (λ t. spelled h.frames ++ t) w.end ∙ append-nil (spelled h.frames);
+      };
+      last = last_frame kind list items w.rest h;
+    }
 
 some_bytes : (s : List ℕ) → s ≢ [] → 0 < length s
 some_bytes [] e = absurd (e refl)
 some_bytes (b ∷ s) e = omega arith
 
--- where a frame is bad
-pub walked_fault : (list : Stretch) (kind : ℕ) (found : Option Stretch) (rest : List ℕ) (at : ℕ) (error : _) → Walked list kind found rest → rest ≢ [] → at ≡ list.0 + (length list.1 - length rest)
-    → (cause : _) × (frame_fault rest ≡ Some cause) × (error ≡ errors.Frame at cause) → IsFrameFault list error
-walked_fault list kind found rest at error w some place (cause, fault, is) = record {
-  front = w.front;
-  rest = rest;
-  string = w.string;
-  complete = all_complete rest w.front w.frames some;
-  some = some_bytes rest some;
-  cause = cause;
-  fault = fault;
-  is = let e : at ≡ list.0 + length (spelled w.front) = omega (arith, place, ap length w.string, length-append (spelled w.front) rest) in is ∙ ap (λ i. errors.Frame i cause) e;
-}
+-- a walk to a malformed header
+walk_faults : (list : Stretch) (items : List Item) (fault : ℕ × Cause) → Walk list.1 items (Some fault) → IsFrameFault list (errors.Frame (list.0 + fault.0) fault.1)
+walk_faults list items fault w =
+    let h = all_frames list items w.rest w.walks in
+    let place : list.0 + fault.0 ≡ list.0 + length (spelled h.frames) = omega (arith, w.end.1, ap length h.string, length-append (spelled h.frames) w.rest) in
+    record {
+      front = h.frames;
+      rest = w.rest;
+      string = h.string;
+      complete = elim h.before [ inl e ↦ absurd (w.end.0 e.0) | inr all ↦ all ];
+      some = some_bytes w.rest w.end.0;
+      cause = fault.1;
+      fault = w.end.2;
+      is = ap (λ i. errors.Frame i fault.1) place;
+    }
+
+-- likewise, by what is known of the end of the walk
+pub ends_whole : (list : Stretch) (kind : ℕ) (items : List Item) (fault : Option (ℕ × Cause)) (found : Option Stretch) → Walk list.1 items fault → None ≡ error_at list.0 fault → found ≡ latest list.0 kind items
+    → Finds list kind found
+ends_whole list kind items None found w e h = subst (Finds list kind) (sym h) (walk_finds list kind items w)
+ends_whole list kind items (Some fault) found w e h = absurd cc
+
+pub ends_broken : (list : Stretch) (items : List Item) (fault : Option (ℕ × Cause)) (error : MessageError) → Walk list.1 items fault → Some error ≡ error_at list.0 fault → IsFrameFault list error
+ends_broken list items None error w e = absurd cc
+ends_broken list items (Some fault) error w e =
+    let same : error ≡ errors.Frame (list.0 + fault.0) fault.1 = cc in
+    subst (IsFrameFault list) (sym same) (walk_faults list items fault w)

@@ -2,7 +2,7 @@
 use Rattle.std.specs.Prelude.{◌≡◌, ◌≢◌, ℕ, ◌+◌, ◌<◌, ◌≤◌, ◌==◌, List, length, take, drop, min, max, Option, if◌then◌else◌}
 use Rattle.std.specs.Int.RustNames.{bit_and}
 use Rattle.std.specs.Option.{option_copied}
-use Rattle.link_base.specs.declared.fault.Cause.{Cause}
+use Rattle.link_base.specs.declared.wire.fault.Cause.{Cause}
 use Rattle.netlink_packet_route.specs.Class.{integer}
 use Rattle.netlink_packet_route.specs.Frame.{pad}
 use Rattle.netlink_packet_route.specs.Number.{number}

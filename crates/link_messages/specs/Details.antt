@@ -1,7 +1,7 @@
 -- What a message about a link has, up to the first malformed header (`include/uapi/linux/if_link.h`).
 use Rattle.std.specs.Prelude.{◌≡◌, ◌≢◌, ℕ, ◌+◌, ◌==◌, Bool, List, [], ◌∷◌, length, Option, Some, None, is_some, count_by, IsBitSet, if◌then◌else◌}
 use Rattle.std.specs.Option.{option_map, option_copied}
-use Rattle.link_base.specs.declared.fault.Cause.{Cause}
+use Rattle.link_base.specs.declared.wire.fault.Cause.{Cause}
 use Rattle.link_messages.specs.declared.details.LinkDetails.{LinkDetails}
 use Rattle.link_messages.specs.declared.details.Protinfo.{Protinfo}
 use Rattle.link_messages.specs.declared.details.Protinfo.TheVariants as protinfos

@@ -1,7 +1,7 @@
 -- The links of all messages of a buffer.
 use Rattle.std.specs.Prelude.{◌⊎◌, ℕ, ◌<◌, ◌==◌, ◌||◌, Bool, List, length, drop, Some, None, Ok, Err}
 use Rattle.std.specs.List.{AllZip, filter}
-use Rattle.link_messages.specs.declared.views.Message.{Message}
+use Rattle.link_messages.specs.declared.buffer_parts.Message.{Message}
 use Rattle.link_messages.specs.declared.link.Link.{Link}
 use Rattle.link_messages.specs.declared.message.MessageError.{MessageError}
 use Rattle.link_messages.specs.declared.dump.DumpError.{DumpError}

@@ -3,7 +3,7 @@ use Rattle.std.specs.Prelude.{◌≡◌, ℕ, ◌+◌, ◌<◌, ◌==◌, List, 
 use Rattle.std.specs.Option.{option_map}
 use Rattle.std.specs.List.{filter, last_or, AllByRecursion}
 use Rattle.netlink_packet_route.specs.Frame.{Frame, Frames, IsComplete, kind_of, frame_bytes, spelled, frame_fault}
-use Rattle.link_messages.specs.declared.views.Payload.{Payload}
+use Rattle.link_messages.specs.declared.buffer_parts.Payload.{Payload}
 use Rattle.link_messages.specs.declared.message.MessageError.{MessageError}
 use Rattle.link_messages.specs.declared.message.MessageError.TheVariants as errors
 

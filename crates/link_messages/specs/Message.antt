@@ -4,7 +4,7 @@ use Rattle.std.specs.Fmt.{decimal}
 use Rattle.netlink_packet_route.specs.Number.{number, bytes_of}
 use Rattle.netlink_packet_route.specs.Frame.{pad}
 use Rattle.netlink_packet_route.specs.Texts.{cause_text}
-use Rattle.link_messages.specs.declared.views.Message.{Message}
+use Rattle.link_messages.specs.declared.buffer_parts.Message.{Message}
 use Rattle.link_messages.specs.declared.message.MessageError.{MessageError}
 use Rattle.link_messages.specs.declared.message.MessageError.TheVariants as errors
 

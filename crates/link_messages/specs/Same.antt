@@ -1,7 +1,7 @@
 -- Messages, links and replies that are the same, whose bytes may be borrowed from two buffers.
 use Rattle.std.specs.Prelude.{◌≡◌, Option, Some, None}
 use Rattle.std.specs.Option.{option_map, option_copied}
-use Rattle.link_messages.specs.declared.views.Message.{Message}
+use Rattle.link_messages.specs.declared.buffer_parts.Message.{Message}
 use Rattle.link_messages.specs.declared.link.Link.{Link}
 use Rattle.link_messages.specs.declared.acknowledgement.Acknowledgement.{Acknowledgement}
 use Rattle.link_messages.specs.declared.info.InfoData.{InfoData}

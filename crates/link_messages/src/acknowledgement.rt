@@ -8,14 +8,14 @@ ghost use Rattle.link_messages.specs.Acknowledgement.{IsAcknowledgement, IsNoAck
 ghost use Rattle.link_messages.specs.Acknowledgement.{attributes_start, attributes_of};
 
 use crate::before_fault::count_before_fault;
+use crate::buffer_parts::{Message, Payload};
 use crate::fields::{name_of_kind, u32_of_kind};
-use crate::message::{MessageError, u32_at};
-use crate::views::{Message, Payload};
+use crate::message::MessageError;
+use crate::message_types::NLMSG_ERROR;
+use link_base::u32_at;
 use netlink_packet_route::link::padded;
 
-// Types of messages, flags of an NLMSG_ERROR, and types of its attributes (`include/uapi/linux/netlink.h`).
-
-const NLMSG_ERROR: u16 = 2;
+// Flags of an NLMSG_ERROR, and types of its attributes (`include/uapi/linux/netlink.h`).
 
 const NLM_F_CAPPED: u16 = 0x100;
 

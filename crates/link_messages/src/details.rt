@@ -9,13 +9,13 @@ ghost use Rattle.link_messages.specs.BeforeFault.{OfWalk, latest, latest_typed};
 ghost use Rattle.link_messages.specs.Info.{IsInfo};
 ghost use Rattle.link_messages.specs.Details.{HasDetails, IsDetails, HasFields, IsProtinfo, Both, in_bridge, fields_of};
 
-use crate::before_fault::{count_before_fault, last_before_fault, last_typed};
+use crate::before_fault::{count_before_fault, last_before_fault, walk_for};
+use crate::buffer_parts::{Message, Payload};
 use crate::fields::{bytes_of_kind, name_of_kind, u8_of_kind, u32_of_kind};
 use crate::header::{LinkHeader, link_header};
 use crate::info::{LinkInfo, info_of};
 use crate::link::{AF_BRIDGE, IFLA_AF_SPEC, IFLA_IFNAME, IFLA_LINKINFO, IFLA_PROTINFO};
 use crate::message::MessageError;
-use crate::views::{Message, Payload};
 use netlink_packet_route::link::NLA_F_NESTED;
 
 // Types of attributes of a message (`include/uapi/linux/if_link.h`); others are in `link`.
@@ -171,7 +171,7 @@ fn protinfo_in<'a>(list: Payload<'a>, address_family: u8) -> Option<Protinfo<'a>
     if address_family != AF_BRIDGE {
         return None;
     }
-    match last_typed(list, IFLA_PROTINFO) {
+    match walk_for(list, IFLA_PROTINFO).0 {
         Some((raw_kind, payload)) => Some(protinfo_of(raw_kind, payload)),
         None => None,
     }

@@ -6,8 +6,8 @@ ghost use Rattle.link_messages.specs.Finding.{stretch_of};
 ghost use Rattle.link_messages.specs.BeforeFault.{OfWalk, latest, name_in, number_in};
 
 use crate::before_fault::last_before_fault;
+use crate::buffer_parts::Payload;
 use crate::link::without_nul;
-use crate::views::Payload;
 
 /// Returns the payload of the last attribute of type `kind`.
 pub(crate) fn bytes_of_kind<'a>(list: Payload<'a>, kind: u16) -> Option<&'a [u8]>

@@ -6,13 +6,11 @@ ghost use Rattle.link_messages.specs.Finding.{stretch_of};
 ghost use Rattle.link_messages.specs.Link.{attributes_of};
 ghost use Rattle.link_messages.specs.Header.{IsAnyLinkType, IsLinkHeader, HasLinkHeader, HasNoLinkHeader};
 
+use crate::buffer_parts::{Message, Payload};
 use crate::link::{index_of, is_link_type};
 use crate::message::MessageError;
-use crate::views::{Message, Payload};
+use crate::message_types::RTM_GETLINK;
 use link_base::{u16_at, u32_at};
-
-/// The type of a request for a link (`include/uapi/linux/rtnetlink.h`).
-const RTM_GETLINK: u16 = 18;
 
 /// The fields of a `struct ifinfomsg` (`include/uapi/linux/rtnetlink.h`).
 #[derive(Clone, Copy, Debug, PartialEq, Eq)]

@@ -7,10 +7,10 @@ ghost use Rattle.link_messages.specs.Finding.{stretch_of};
 ghost use Rattle.link_messages.specs.Info.{announced, data_of, port_kind_of, IsFamilyFor, IsInfo};
 
 use crate::before_fault::{count_before_fault, last_before_fault};
+use crate::buffer_parts::Payload;
 use crate::fields::name_of_kind;
 use crate::link::{IFLA_INFO_DATA, IFLA_INFO_KIND, IFLA_INFO_SLAVE_DATA, IFLA_INFO_SLAVE_KIND};
 use crate::message::MessageError;
-use crate::views::Payload;
 use netlink_packet_route::Family;
 
 /// The data of a link or of a port, and the `Family` that parses it.

@@ -1,11 +1,11 @@
 //! Theorems about messages and links. The functions have empty bodies.
 
 ghost use Rattle.std.specs.Prelude.{◌≡◌, ◌↔◌, ℕ, List, [], ◌∷◌, ◌++◌, drop, map, Option, Some, Ok, IsTrue, IfSome};
-ghost use Rattle.link_base.specs.declared.fault.Cause.{Cause};
+ghost use Rattle.link_base.specs.declared.wire.fault.Cause.{Cause};
 ghost use Rattle.netlink_packet_route.specs.declared.family.Family.{Family};
 ghost use Rattle.netlink_packet_route.specs.Family.{holder_of};
-ghost use Rattle.link_messages.specs.declared.views.Message.{Message};
-ghost use Rattle.link_messages.specs.declared.views.Payload.{Payload};
+ghost use Rattle.link_messages.specs.declared.buffer_parts.Message.{Message};
+ghost use Rattle.link_messages.specs.declared.buffer_parts.Payload.{Payload};
 ghost use Rattle.link_messages.specs.declared.message.MessageError.{MessageError};
 ghost use Rattle.link_messages.specs.declared.link.Part.{Part};
 ghost use Rattle.link_messages.specs.declared.link.Link.{Link};
@@ -25,13 +25,13 @@ ghost use Rattle.link_messages.specs.Same.{IsSameMessage, IsSameLink, IsSameAckn
 ghost use Rattle.link_messages.specs.Same.{IsSameData, IsSameInfo, IsSameProtinfo, IsSameDetails};
 
 use crate::acknowledgement::Acknowledgement;
+use crate::buffer_parts::{Message, Payload};
 use crate::details::{LinkDetails, Protinfo};
 use crate::dump::DumpError;
 use crate::header::LinkHeader;
 use crate::info::{InfoData, LinkInfo};
 use crate::link::{Link, Part};
 use crate::message::MessageError;
-use crate::views::{Message, Payload};
 
 /// States that consecutive messages and the next message are consecutive messages again. A loop over a buffer uses this
 /// as its step.

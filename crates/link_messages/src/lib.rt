@@ -15,7 +15,7 @@
 //! - [`link_details`] parses what a printer shows, [`LinkDetails`]. Malformed attributes are not an error: it parses what
 //!   comes before, and reports the first malformed header. [`last_before_fault`] and [`count_before_fault`] do the same
 //!   for one attribute type, and for the number of attributes.
-//! - [`laws`] has theorems about these types.
+//! - [`message_types`] has the types of messages, such as RTM_NEWLINK, and [`laws`] theorems about these types.
 //!
 //! Messages, links and lists borrow the buffer; nothing is copied. Each has its offset in the buffer, and each
 //! [`MessageError`] has the offset of the bytes that caused it. Only `read_links` allocates: the `Vec` that it returns.
@@ -25,6 +25,7 @@
 
 mod acknowledgement;
 mod before_fault;
+mod buffer_parts;
 mod details;
 mod dump;
 mod fields;
@@ -34,10 +35,11 @@ mod info;
 pub mod laws;
 mod link;
 mod message;
-mod views;
+pub mod message_types;
 
 pub use acknowledgement::{Acknowledgement, read_acknowledgement};
 pub use before_fault::{count_before_fault, last_before_fault};
+pub use buffer_parts::{Message, Payload};
 pub use details::{LinkDetails, Protinfo, link_details};
 pub use dump::{DumpError, read_links};
 pub use finding::{find_in, last_of_kind};
@@ -45,4 +47,3 @@ pub use header::{LinkHeader, link_header};
 pub use info::{InfoData, LinkInfo, announced_port_kind};
 pub use link::{Link, Part, read_link};
 pub use message::{MessageError, any_message, next_message};
-pub use views::{Message, Payload};

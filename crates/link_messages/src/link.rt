@@ -9,18 +9,11 @@ ghost use Rattle.netlink_packet_route.specs.Family.{InfoKind, PortKind};
 ghost use Rattle.link_messages.specs.Link.{IsInfoPart, IsBridgePart, IsFamilyBeside, IsLink, IsLinkFault};
 ghost use Rattle.link_messages.specs.Link.{IsAbout, IsAboutNone, IsLinkType, part_of, without_nul};
 
+use crate::buffer_parts::{Message, Payload};
 use crate::finding::{find_in, last_of_kind};
 use crate::message::MessageError;
-use crate::views::{Message, Payload};
+use crate::message_types::{RTM_DELLINK, RTM_NEWLINK, RTM_SETLINK};
 use netlink_packet_route::Family;
-
-// Types of messages (`include/uapi/linux/rtnetlink.h`).
-
-const RTM_NEWLINK: u16 = 16;
-
-const RTM_DELLINK: u16 = 17;
-
-const RTM_SETLINK: u16 = 19;
 
 /// The address family of bridges and bridge ports (`include/linux/socket.h`).
 pub(crate) const AF_BRIDGE: u8 = 7;

@@ -1,17 +1,14 @@
 //! The messages of a buffer, one at a time, and why one could not be parsed.
 
-ghost use Rattle.std.specs.Prelude.{◌≡◌, ◌+◌, ◌<◌, ◌≤◌, ◌^◌, length, take, drop, Some, MatchResult};
-ghost use Rattle.netlink_packet_route.specs.Number.{bytes_of};
-ghost use Rattle.netlink_packet_route.specs.Layout.{number_at};
+ghost use Rattle.std.specs.Prelude.{◌≡◌, ◌+◌, ◌<◌, ◌^◌, length, drop, Some, MatchResult};
 ghost use Rattle.link_messages.specs.Message.{IsMessageAt, NextOfAny, NextMessage, header_fault, error_text};
 
-use crate::views::Message;
+use crate::buffer_parts::Message;
+use crate::message_types::NLMSG_DONE;
+use link_base::{u16_at, u32_at};
 use netlink_packet_route::link::{Cause, padded};
 use std::error::Error;
 use std::fmt;
-
-/// The type of the message that ends a dump (`include/uapi/linux/netlink.h`).
-const NLMSG_DONE: u16 = 3;
 
 /// Why a message, or its contents, could not be parsed. `at` is an offset in the buffer.
 #[derive(Clone, Copy, Debug, PartialEq, Eq)]
@@ -123,26 +120,4 @@ fn message_at(bytes: &[u8], at: usize) -> Result<Message<'_>, MessageError>
         payload: &bytes[16..end],
         next: at + padded(end).min(left),
     })
-}
-
-/// Reads the little-endian `u16` at an offset.
-fn u16_at(bytes: &[u8], offset: usize) -> u16
-    requires { offset + 2 ≤ length bytes.now }
-    ensures { bytes_of 2 result ≡ take 2 (drop offset bytes.now) }
-{
-    u16::from_le_bytes([bytes[offset], bytes[offset + 1]])
-}
-
-/// Reads the little-endian `u32` at an offset.
-pub(crate) fn u32_at(bytes: &[u8], offset: usize) -> u32
-    requires { offset + 4 ≤ length bytes.now }
-    ensures value { result ≡ number_at 4 offset bytes.now }
-    ensures octets { bytes_of 4 result ≡ take 4 (drop offset bytes.now) }
-{
-    u32::from_le_bytes([
-        bytes[offset],
-        bytes[offset + 1],
-        bytes[offset + 2],
-        bytes[offset + 3],
-    ])
 }

@@ -2,7 +2,7 @@
 use Rattle.std.proofs.Common.{◌≡◌, ◌≢◌, ℕ, ◌+◌, ◌<◌, ◌≤◌, not, List, [], codes, ◌∷◌, ◌++◌, map, drop, length, ap, ◌∙◌, slice_index_or, bit_and}
 use Rattle.std.proofs.lemmas.Bool.{cond-true, cond-false, eq-eqb, ne_eqb}
 use Rattle.std.proofs.lemmas.List.{at_drop_more, at_drop_all, append-nil}
-use Rattle.link_base.specs.declared.label.Name.{Name}
+use Rattle.link_base.specs.declared.rows.label.Name.{Name}
 use Rattle.link_base.specs.Labels.{names_in}
 use Rattle.link_show.specs.Text.{after, hex_number}
 use Rattle.link_show.specs.Flags.{set_names, last_word, words_of}

@@ -5,6 +5,7 @@ pub mod Segments
 pub mod FlagWords
 pub mod Hardware
 pub mod Arrays
+pub mod StructFields
 pub mod ValueTexts
 pub mod Lines
 pub mod Listing

@@ -4,10 +4,10 @@ use Rattle.std.specs.List.{flat_map, AllZip, AllByRecursion}
 use Rattle.std.specs.Net.Addr.{segments_of}
 use Rattle.std.proofs.lemmas.List.{append-nil}
 use Rattle.std.proofs.lemmas.Grind.{flat_map-append}
-use Rattle.link_base.specs.declared.buffer.NlaBuffer.{NlaBuffer}
-use Rattle.link_base.specs.declared.content.Content.{Content}
-use Rattle.link_base.specs.declared.content.Content.TheVariants as contents
-use Rattle.link_base.specs.declared.fault.Cause.{Cause}
+use Rattle.link_base.specs.declared.wire.buffer.NlaBuffer.{NlaBuffer}
+use Rattle.link_base.specs.declared.views.content.Content.{Content}
+use Rattle.link_base.specs.declared.views.content.Content.TheVariants as contents
+use Rattle.link_base.specs.declared.wire.fault.Cause.{Cause}
 use Rattle.link_base.specs.Number.{IsBytes}
 use Rattle.link_base.specs.Frame.{kind_of}
 use Rattle.link_base.specs.Buffer.{kind_field_of, payload_of, frame_of}
@@ -146,22 +146,13 @@ addresses_text size list out h (items, (fault, walk, is)) =
 
 not_one : (c : Class) (p : List ℕ) (content : Content) → (Says content (meant c p) → ⊥) → (SaysLimits content p → ⊥) → Borrows (Some (One c)) p content → ⊥
 not_one classes.Limits p content h k says = k says
-not_one (classes.Unsigned n) p content h k says = h says
-not_one classes.Signed p content h k says = h says
-not_one classes.Truth p content h k says = h says
-not_one (classes.Octets e) p content h k says = h says
-not_one classes.Bytes p content h k says = h says
-not_one (classes.Many n) p content h k says = h says
-not_one (classes.Named n listed) p content h k says = h says
-not_one classes.Protocol p content h k says = h says
-not_one classes.Low p content h k says = h says
-not_one classes.Empty p content h k says = h says
+not_one c p content h k says = h says
 
-list_bytes : (shape : Option Shape) (p : List ℕ) (list : _) → IsBytes p → Borrows shape p (contents.List list) → IsBytes list.now
-list_bytes None p list h says = absurd says
-list_bytes (Some (One c)) p list h says = absurd (not_one c p (contents.List list) (λ e. e) (λ e. e) says)
-list_bytes (Some (Nested flagged rows)) p list h says = subst IsBytes (sym says) h
-list_bytes (Some (Addresses n)) p list h says = absurd says
+list_bytes : (shape : Option Shape) (p : List ℕ) (list : _) (flagged : Bool) → IsBytes p → Borrows shape p (contents.List list flagged) → IsBytes list.now
+list_bytes None p list told h says = absurd says
+list_bytes (Some (One c)) p list told h says = absurd (not_one c p (contents.List list told) (λ e. e) (λ e. e) says)
+list_bytes (Some (Nested flagged rows)) p list told h says = subst IsBytes (sym says) h
+list_bytes (Some (Addresses n)) p list told h says = absurd says
 
 address_bytes : (shape : Option Shape) (p : List ℕ) (list : _) (size : ℕ) → IsBytes p → Borrows shape p (contents.Addresses list size) → IsBytes list.now
 address_bytes None p list size h says = absurd says
@@ -194,32 +185,14 @@ module _ (indent : List ℕ) (spaces : IsText indent) where
 
   content_texts : (table : Table) (b : NlaBuffer) (content : Content) (out : List ℕ) → has_texts table ≡ true → IsBytes (payload_of b) → HasContent table b content
       → ShowsContent indent table b content out → AreTexts out
-  content_texts table b (contents.List list) out h k has shown =
+  content_texts table b (contents.List list flagged) out h k has shown =
       nested_texts (head_text (label_for table b) (kind_field_of b)) (elements_at table (kind_of (kind_field_of b))) list.now out
       (head_is_text (label_for table b) (kind_field_of b) (named_text table b h)) (elements_text table (kind_of (kind_field_of b)) h)
-      (list_bytes _ (payload_of b) list k has.borrows) shown
+      (list_bytes _ (payload_of b) list flagged k has.borrows) shown
   content_texts table b (contents.Addresses list size) out h k has shown =
       flat_texts table b (contents.Addresses list size) out h k has (λ more (t, addresses, is). subst IsText (sym is)
       (and {s = codes " "} (text refl) (addresses_text size list.now t (address_bytes _ (payload_of b) list size k has.borrows) addresses))) shown
-  content_texts table b contents.Nothing out h k has shown = flat_texts table b contents.Nothing out h k has alone shown
-  content_texts table b (contents.Bool u) out h k has shown = flat_texts table b (contents.Bool u) out h k has alone shown
-  content_texts table b (contents.Unsigned u v) out h k has shown = flat_texts table b (contents.Unsigned u v) out h k has alone shown
-  content_texts table b (contents.Signed u) out h k has shown = flat_texts table b (contents.Signed u) out h k has alone shown
-  content_texts table b (contents.Enum u v) out h k has shown = flat_texts table b (contents.Enum u v) out h k has alone shown
-  content_texts table b (contents.Flags u v) out h k has shown = flat_texts table b (contents.Flags u v) out h k has alone shown
-  content_texts table b (contents.LowFlags u) out h k has shown = flat_texts table b (contents.LowFlags u) out h k has alone shown
-  content_texts table b (contents.MaskedFlags u v) out h k has shown = flat_texts table b (contents.MaskedFlags u v) out h k has alone shown
-  content_texts table b (contents.Pair u v) out h k has shown = flat_texts table b (contents.Pair u v) out h k has alone shown
-  content_texts table b (contents.Protocol u) out h k has shown = flat_texts table b (contents.Protocol u) out h k has alone shown
-  content_texts table b (contents.Mac u) out h k has shown = flat_texts table b (contents.Mac u) out h k has alone shown
-  content_texts table b (contents.Ipv4 u) out h k has shown = flat_texts table b (contents.Ipv4 u) out h k has alone shown
-  content_texts table b (contents.Ipv6 u) out h k has shown = flat_texts table b (contents.Ipv6 u) out h k has alone shown
-  content_texts table b (contents.Bytes u) out h k has shown = flat_texts table b (contents.Bytes u) out h k has alone shown
-  content_texts table b (contents.Struct u) out h k has shown = flat_texts table b (contents.Struct u) out h k has alone shown
-  content_texts table b (contents.U16s u) out h k has shown = flat_texts table b (contents.U16s u) out h k has alone shown
-  content_texts table b (contents.U32s u) out h k has shown = flat_texts table b (contents.U32s u) out h k has alone shown
-  content_texts table b (contents.Limits u v) out h k has shown = flat_texts table b (contents.Limits u v) out h k has alone shown
-  content_texts table b (contents.Other u) out h k has shown = flat_texts table b (contents.Other u) out h k has alone shown
+  content_texts table b content out h k has shown = flat_texts table b content out h k has alone shown
 
   -- ---- lists
 

@@ -1,12 +1,12 @@
 -- The lines of an attribute, from what was written for its parts.
-use Rattle.std.proofs.Common.{◌≡◌, ◌≢◌, ℕ, List, [], ◌∷◌, ◌++◌, Option, Some, None, Result, Ok, Err, OnOk, refl, sym, ap, subst, ◌∙◌, append_assoc, codes, Bor}
+use Rattle.std.proofs.Common.{◌≡◌, ◌≢◌, ℕ, Bool, List, [], ◌∷◌, ◌++◌, Option, Some, None, Result, Ok, Err, OnOk, refl, sym, ap, subst, ◌∙◌, append_assoc, codes, Bor}
 use Rattle.link_show.specs.Sink.{Output, Gains}
 use Rattle.link_show.specs.Gained.{gains_more}
-use Rattle.link_base.specs.declared.attribute_set.AttributeSet as sets
-use Rattle.link_base.specs.declared.view.View.{View}
-use Rattle.link_base.specs.declared.buffer.NlaBuffer.{NlaBuffer}
-use Rattle.link_base.specs.declared.content.Content.{Content}
-use Rattle.link_base.specs.declared.content.Content.TheVariants as contents
+use Rattle.link_base.specs.declared.views.attribute_set.AttributeSet as sets
+use Rattle.link_base.specs.declared.views.view.View.{View}
+use Rattle.link_base.specs.declared.wire.buffer.NlaBuffer.{NlaBuffer}
+use Rattle.link_base.specs.declared.views.content.Content.{Content}
+use Rattle.link_base.specs.declared.views.content.Content.TheVariants as contents
 use Rattle.link_base.specs.Class as classes
 use Rattle.link_base.specs.Frame.{kind_of}
 use Rattle.link_base.specs.Buffer.{kind_field_of, payload_of}
@@ -91,71 +91,23 @@ none_nested T g (Some (Addresses n)) p set h is = is
 -- the lines of an attribute, by its content: those of a nested list, or the line of another
 nested_lines : (shape : Option Shape) (indent : List ℕ) (table : Table) (b : NlaBuffer) (content : Content) (list : List ℕ) (out : List ℕ) → Borrows shape (payload_of b) content
     → IsNested shape → list ≡ payload_of b → ShowsNested indent (head_text (label_for table b) (kind_field_of b)) (elements_at table (kind_of (kind_field_of b))) list out → ShowsContent indent table b content out
-nested_lines (Some (Nested flagged rows)) indent table b (contents.List list) p out says is e shown = subst (λ l. ShowsNested indent (head_text (label_for table b) (kind_field_of b)) (elements_at table (kind_of (kind_field_of b))) l out) (e ∙ sym says) shown
-nested_lines (Some (Nested flagged rows)) indent table b contents.Nothing list out says is e shown = absurd says
-nested_lines (Some (Nested flagged rows)) indent table b (contents.Bool u) list out says is e shown = absurd says
-nested_lines (Some (Nested flagged rows)) indent table b (contents.Unsigned u v) list out says is e shown = absurd says
-nested_lines (Some (Nested flagged rows)) indent table b (contents.Signed u) list out says is e shown = absurd says
-nested_lines (Some (Nested flagged rows)) indent table b (contents.Enum u v) list out says is e shown = absurd says
-nested_lines (Some (Nested flagged rows)) indent table b (contents.Flags u v) list out says is e shown = absurd says
-nested_lines (Some (Nested flagged rows)) indent table b (contents.LowFlags u) list out says is e shown = absurd says
-nested_lines (Some (Nested flagged rows)) indent table b (contents.MaskedFlags u v) list out says is e shown = absurd says
-nested_lines (Some (Nested flagged rows)) indent table b (contents.Pair u v) list out says is e shown = absurd says
-nested_lines (Some (Nested flagged rows)) indent table b (contents.Protocol u) list out says is e shown = absurd says
-nested_lines (Some (Nested flagged rows)) indent table b (contents.Mac u) list out says is e shown = absurd says
-nested_lines (Some (Nested flagged rows)) indent table b (contents.Ipv4 u) list out says is e shown = absurd says
-nested_lines (Some (Nested flagged rows)) indent table b (contents.Ipv6 u) list out says is e shown = absurd says
-nested_lines (Some (Nested flagged rows)) indent table b (contents.Bytes u) list out says is e shown = absurd says
-nested_lines (Some (Nested flagged rows)) indent table b (contents.Struct u) list out says is e shown = absurd says
-nested_lines (Some (Nested flagged rows)) indent table b (contents.U16s u) list out says is e shown = absurd says
-nested_lines (Some (Nested flagged rows)) indent table b (contents.U32s u) list out says is e shown = absurd says
-nested_lines (Some (Nested flagged rows)) indent table b (contents.Limits u v) list out says is e shown = absurd says
-nested_lines (Some (Nested flagged rows)) indent table b (contents.Addresses u v) list out says is e shown = absurd says
-nested_lines (Some (Nested flagged rows)) indent table b (contents.Other u) list out says is e shown = absurd says
+nested_lines (Some (Nested flagged rows)) indent table b (contents.List list told) p out says is e shown = subst (λ l. ShowsNested indent (head_text (label_for table b) (kind_field_of b)) (elements_at table (kind_of (kind_field_of b))) l out) (e ∙ sym says) shown
+nested_lines (Some (Nested flagged rows)) indent table b content list out says is e shown = absurd says
 nested_lines None indent table b content list out says is e shown = absurd is
 nested_lines (Some (One c)) indent table b content list out says is e shown = absurd is
 nested_lines (Some (Addresses n)) indent table b content list out says is e shown = absurd is
 
 -- no other content is a nested list
-no_list : (shape : Option Shape) (p : List ℕ) (list : Bor (List ℕ)) → Borrows shape p (contents.List list) → ¬ IsNested shape → ⊥
-no_list None p list says other = says
-no_list (Some (One (classes.Unsigned n))) p list says other = says
-no_list (Some (One classes.Signed)) p list says other = says
-no_list (Some (One classes.Truth)) p list says other = says
-no_list (Some (One (classes.Octets e))) p list says other = says
-no_list (Some (One classes.Bytes)) p list says other = says
-no_list (Some (One (classes.Many n))) p list says other = says
-no_list (Some (One (classes.Named n d))) p list says other = says
-no_list (Some (One classes.Protocol)) p list says other = says
-no_list (Some (One classes.Low)) p list says other = says
-no_list (Some (One classes.Empty)) p list says other = says
-no_list (Some (One classes.Limits)) p list says other = says
-no_list (Some (Nested flagged rows)) p list says other = other tt
-no_list (Some (Addresses n)) p list says other = says
+no_list : (shape : Option Shape) (p : List ℕ) (list : Bor (List ℕ)) (told : Bool) → Borrows shape p (contents.List list told) → ¬ IsNested shape → ⊥
+no_list (Some (Nested flagged rows)) p list told says other = other tt
+no_list (Some (One classes.Limits)) p list told says other = says
+no_list (Some (One c)) p list told says other = says
+no_list shape p list told says other = says
 
 flat_lines : (shape : Option Shape) (indent : List ℕ) (table : Table) (b : NlaBuffer) (content : Content) (out : List ℕ) → Borrows shape (payload_of b) content → ¬ IsNested shape
     → ShowsFlat indent (label_for table b) (kind_field_of b) content out → ShowsContent indent table b content out
-flat_lines shape indent table b (contents.List list) out says other shown = absurd (no_list shape (payload_of b) list says other)
-flat_lines shape indent table b contents.Nothing out says other shown = shown
-flat_lines shape indent table b (contents.Bool u) out says other shown = shown
-flat_lines shape indent table b (contents.Unsigned u v) out says other shown = shown
-flat_lines shape indent table b (contents.Signed u) out says other shown = shown
-flat_lines shape indent table b (contents.Enum u v) out says other shown = shown
-flat_lines shape indent table b (contents.Flags u v) out says other shown = shown
-flat_lines shape indent table b (contents.LowFlags u) out says other shown = shown
-flat_lines shape indent table b (contents.MaskedFlags u v) out says other shown = shown
-flat_lines shape indent table b (contents.Pair u v) out says other shown = shown
-flat_lines shape indent table b (contents.Protocol u) out says other shown = shown
-flat_lines shape indent table b (contents.Mac u) out says other shown = shown
-flat_lines shape indent table b (contents.Ipv4 u) out says other shown = shown
-flat_lines shape indent table b (contents.Ipv6 u) out says other shown = shown
-flat_lines shape indent table b (contents.Bytes u) out says other shown = shown
-flat_lines shape indent table b (contents.Struct u) out says other shown = shown
-flat_lines shape indent table b (contents.U16s u) out says other shown = shown
-flat_lines shape indent table b (contents.U32s u) out says other shown = shown
-flat_lines shape indent table b (contents.Limits u v) out says other shown = shown
-flat_lines shape indent table b (contents.Addresses u v) out says other shown = shown
-flat_lines shape indent table b (contents.Other u) out says other shown = shown
+flat_lines shape indent table b (contents.List list told) out says other shown = absurd (no_list shape (payload_of b) list told says other)
+flat_lines shape indent table b content out says other shown = shown
 
 -- the lines of a nested list are those of its attribute
 pub value_nested : {X E T : Type 0} {g : sets.Ghosts T} (r : Result X E) (indent : List ℕ) (table : Table) (b : NlaBuffer) (content : Content) (set : T) (view : View T g) (old new : Output)

@@ -5,9 +5,9 @@ use Rattle.link_show.specs.Gained.{gains_nothing, gains_more}
 use Rattle.std.proofs.lemmas.List.{append-nil}
 use Rattle.std.proofs.lemmas.List.Folds.{list_all-append}
 use Rattle.std.proofs.lemmas.Grind.{flat_map-append}
-use Rattle.link_base.specs.declared.buffer.NlaBuffer.{NlaBuffer}
-use Rattle.link_base.specs.declared.fault.Cause.{Cause}
-use Rattle.link_base.specs.declared.fault.DecodeFault.{DecodeFault}
+use Rattle.link_base.specs.declared.wire.buffer.NlaBuffer.{NlaBuffer}
+use Rattle.link_base.specs.declared.wire.fault.Cause.{Cause}
+use Rattle.link_base.specs.declared.wire.fault.DecodeFault.{DecodeFault}
 use Rattle.link_base.specs.Frame.{frame_fault}
 use Rattle.link_base.specs.Buffer.{SplitsFirst}
 use Rattle.link_base.specs.Table.{Table}

@@ -7,7 +7,7 @@ use Rattle.link_show.specs.Sink.{Output, Gains}
 use Rattle.link_show.specs.Gained.{gains_nothing, gains_more}
 use Rattle.std.proofs.lemmas.Bool.{ltb-true, cond-true, cond-false, eq-eqb, ne_eqb}
 use Rattle.link_base.specs.Labels.{name_in}
-use Rattle.link_messages.specs.declared.views.Message.{Message}
+use Rattle.link_messages.specs.declared.buffer_parts.Message.{Message}
 use Rattle.link_messages.specs.declared.message.MessageError.{MessageError}
 use Rattle.link_messages.specs.declared.message.MessageError.TheVariants as errors
 use Rattle.link_messages.specs.declared.header.LinkHeader.{LinkHeader}

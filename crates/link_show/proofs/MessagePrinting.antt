@@ -1,21 +1,21 @@
 -- The lines of messages are printable.
-use Rattle.std.proofs.Common.{◌≡◌, ℕ, suc, ℤ, pos, negsuc, ◌+◌, ◌==◌, Bool, true, false, List, [], ◌∷◌, ◌++◌, drop, Option, Some, None, option_map, if◌then◌else◌, unsigned_abs, refl, sym, subst, codes}
-use Rattle.std.specs.Fmt.{decimal, signed_decimal}
-use Rattle.std.specs.List.{filter, last_or, AllByRecursion}
+use Rattle.std.proofs.Common.{◌≡◌, ℕ, suc, ℤ, pos, negsuc, ◌+◌, ◌==◌, Bool, true, false, List, [], ◌∷◌, ◌++◌, drop, Option, Some, None, option_map, unsigned_abs, refl, sym, subst, codes}
+use Rattle.std.specs.Fmt.{signed_decimal}
+use Rattle.std.specs.List.{filter, last_or, list_all, AllByRecursion}
 use Rattle.std.specs.Option.{option_copied}
-use Rattle.link_base.specs.declared.label.Quantity.TheVariants.{Number, InterfaceIndex}
+use Rattle.link_base.specs.declared.rows.label.Quantity.TheVariants.{Number, InterfaceIndex}
 use Rattle.link_base.specs.Labels as Labels
-use Rattle.link_base.specs.Named.{texts_of}
 use Rattle.link_base.specs.Number.{IsBytes}
 use Rattle.link_base.specs.Frame.{kind_of}
 use Rattle.link_base.specs.Buffer.{kind_field_of}
+use Rattle.link_base.specs.WellFormed.{is_printable}
 use Rattle.link_base.proofs.FrameBytes.{bytes-front}
-use Rattle.link_bridge.specs.Names.{port_state_names}
 use Rattle.netlink_packet_route.specs.declared.family.Family.{Family}
 use Rattle.netlink_packet_route.specs.declared.family.Family.TheVariants as families
 use Rattle.netlink_packet_route.specs.Family.{family_name, table_of}
-use Rattle.link_messages.specs.declared.views.Message.{Message}
-use Rattle.link_messages.specs.declared.views.Payload.{Payload}
+use Rattle.netlink_packet_route.proofs.Families.{each_family, families_formed}
+use Rattle.link_messages.specs.declared.buffer_parts.Message.{Message}
+use Rattle.link_messages.specs.declared.buffer_parts.Payload.{Payload}
 use Rattle.link_messages.specs.declared.message.MessageError.{MessageError}
 use Rattle.link_messages.specs.declared.message.MessageError.TheVariants as errors
 use Rattle.link_messages.specs.declared.header.LinkHeader.{LinkHeader}
@@ -37,10 +37,10 @@ use Rattle.link_show.specs.Octets.{address_text}
 use Rattle.link_show.specs.Quoted.{quoted}
 use Rattle.link_show.specs.Errno.{errno_names}
 use Rattle.link_show.specs.MessageNames.{message_types, common_flags, new_flags, get_flags, delete_flags, error_flags, flags_of, address_families, device_types, device_flags, operational_states}
-use Rattle.link_show.specs.Message.{two, four, reason_text, offset_of, message_error_line, named_or, message_line, unless_zero, name_part, header_parts, link_line, line_of, opaque_text, ShowsFamily, ShowsPayload, kind_or_port, kind_line, ShowsData, fault_line, ShowsInfo, ShowsOptionalInfo, ShowsPart, ShowsProtinfo, attribute_lines, others_line, ShowsLink, number_after, error_number_line, errno_name, result_line, reply_lines, ShowsBody, Link, Reply, NoLink, NoReply, Other, ShowsMessage, ShowsEnd, Ended, Done, Broken, ShowsMessages}
-use Rattle.link_show.specs.Printable.{IsText, AreTexts, are_text_names, has_texts}
+use Rattle.link_show.specs.Message.{two, four, reason_text, offset_of, message_error_line, named_or, message_line, unless_zero, name_part, header_parts, link_line, line_of, opaque_text, ShowsFamily, ShowsPayload, kind_or_port, kind_line, ShowsData, fault_line, ShowsInfo, ShowsOptionalInfo, ShowsPart, state_names, ShowsProtinfo, attribute_lines, others_line, ShowsLink, number_after, error_number_line, errno_name, result_line, reply_lines, ShowsBody, Link, Reply, NoLink, NoReply, Other, ShowsMessage, ShowsEnd, Ended, Done, Broken, ShowsMessages}
+use Rattle.link_show.specs.Printable.{IsText, AreTexts, has_texts}
 use Rattle.link_show.proofs.Printing.{text, none, and, either, decimal_text, signed_text, address_digits, quoted_text}
-use Rattle.link_show.proofs.ValuePrinting.{EachName, OnText, choose, each_name, name_found, enum_is_text, number_is_text, flags_is_text, field_text, bytes_is_text, cause_is_text}
+use Rattle.link_show.proofs.ValuePrinting.{EachName, OnText, are_text_names, choose, each_name, name_found, label_is_text, formed_texts, enum_is_text, number_is_text, flags_is_text, field_is_text, bytes_is_text, cause_is_text}
 use Rattle.link_show.proofs.LinePrinting.{no_texts, and_texts, line_end, line_and, line_texts, indented_texts, error_texts, either_texts, each_texts, drop_bytes, ItemBytes, walk_bytes, checked_texts}
 
 -- ---- errors
@@ -72,14 +72,15 @@ named_or_text word (Some name) n w h = h
 names_for : (names : List (ℕ × List ℕ)) (word : List ℕ) (n : ℕ) → EachName names → IsText word → IsText (named_or word (Labels.name_in names n) n)
 names_for names word n h w = named_or_text word (Labels.name_in names n) n w (name_found names h n)
 
+-- the names of the flags of every type
 flags_of_text : (kind : ℕ) → EachName (flags_of kind)
 flags_of_text kind =
     let more : (some : List (ℕ × List ℕ)) → are_text_names (common_flags ++ some) ≡ true → EachName (common_flags ++ some) = λ some h. each_name (common_flags ++ some) h in
-    choose EachName (kind == 16) (common_flags ++ new_flags) (if kind == 19 then common_flags ++ new_flags else (if kind == 18 then common_flags ++ get_flags else (if kind == 17 then common_flags ++ delete_flags else (if kind == 2 then common_flags ++ error_flags else common_flags)))) (more new_flags refl)
-    (choose EachName (kind == 19) (common_flags ++ new_flags) (if kind == 18 then common_flags ++ get_flags else (if kind == 17 then common_flags ++ delete_flags else (if kind == 2 then common_flags ++ error_flags else common_flags))) (more new_flags refl)
-    (choose EachName (kind == 18) (common_flags ++ get_flags) (if kind == 17 then common_flags ++ delete_flags else (if kind == 2 then common_flags ++ error_flags else common_flags)) (more get_flags refl)
-    (choose EachName (kind == 17) (common_flags ++ delete_flags) (if kind == 2 then common_flags ++ error_flags else common_flags) (more delete_flags refl)
-    (choose EachName (kind == 2) (common_flags ++ error_flags) common_flags (more error_flags refl) (each_name common_flags refl)))))
+    choose EachName (kind == 16) _ _ (more new_flags refl)
+    (choose EachName (kind == 19) _ _ (more new_flags refl)
+    (choose EachName (kind == 18) _ _ (more get_flags refl)
+    (choose EachName (kind == 17) _ _ (more delete_flags refl)
+    (choose EachName (kind == 2) _ _ (more error_flags refl) (each_name common_flags refl)))))
 
 message_line_texts : (m : Message) → AreTexts (message_line m)
 unfolding message_line
@@ -98,11 +99,11 @@ message_line_texts m =
 -- ---- the line of a link
 
 unless_text : (n : ℕ) (name t : List ℕ) → IsText name → IsText t → IsText (unless_zero n name t)
-unless_text n name t h k = either (n == 0) none (and {s = codes " "} (text refl) (field_text name h k))
+unless_text n name t h k = either (n == 0) none (and {s = codes " "} (text refl) (field_is_text name h k))
 
 name_text : (name : Option (List ℕ)) → IsText (name_part name)
 name_text None = none
-name_text (Some name) = and {s = codes " "} (text refl) (field_text (codes "name") (text refl) (quoted_text name))
+name_text (Some name) = and {s = codes " "} (text refl) (field_is_text (codes "name") (text refl) (quoted_text name))
 
 device_text : (bits : ℕ) → IsText (flags_text device_flags 4 bits)
 device_text bits = flags_is_text device_flags 4 bits (each_name device_flags refl)
@@ -121,34 +122,16 @@ link_line_texts h name = indented_texts two (text refl) (and {s = codes "ifindex
 
 line_of_texts : {A : Type 0} (name : List ℕ) (of : A → List ℕ) (x : Option A) → IsText name → ((a : A) → IsText (of a)) → AreTexts (line_of name of x)
 line_of_texts name of None h k = no_texts
-line_of_texts name of (Some a) h k = indented_texts two (text refl) (field_text name h (k a))
+line_of_texts name of (Some a) h k = indented_texts two (text refl) (field_is_text name h (k a))
 
 opaque_is_text : (n : ℕ) → IsText (opaque_text n)
 opaque_is_text n = and {s = codes "("} (text refl) (bytes_is_text n (text refl))
 
 family_is_text : (family : Family) → IsText (family_name family)
-family_is_text families.AfSpecBridge = text refl
-family_is_text families.Bond = text refl
-family_is_text families.BondPort = text refl
-family_is_text families.Bridge = text refl
-family_is_text families.BridgePort = text refl
-family_is_text families.Can = text refl
-family_is_text families.Dsa = text refl
-family_is_text families.Hsr = text refl
-family_is_text families.ProtoBridge = text refl
-family_is_text families.Vlan = text refl
+family_is_text family = text (each_family (λ family. list_all is_printable (family_name family)) refl family)
 
 pub family_has_texts : (family : Family) → has_texts (table_of family) ≡ true
-family_has_texts families.AfSpecBridge = refl
-family_has_texts families.Bond = refl
-family_has_texts families.BondPort = refl
-family_has_texts families.Bridge = refl
-family_has_texts families.BridgePort = refl
-family_has_texts families.Can = refl
-family_has_texts families.Dsa = refl
-family_has_texts families.Hsr = refl
-family_has_texts families.ProtoBridge = refl
-family_has_texts families.Vlan = refl
+family_has_texts family = formed_texts (table_of family) (families_formed family)
 
 -- the payload consists of bytes
 abbrev PayloadBytes : Payload → Type 0
@@ -162,12 +145,12 @@ OnSome P (Some a) = P a
 family_texts : (check : Bool) (name : List ℕ) (family : Family) (p : Payload) (out : List ℕ) (well : Bool) → IsText name → PayloadBytes p → ShowsFamily check name family p out well → AreTexts out
 family_texts check name family p out well n h (lines, shown, is) =
     subst AreTexts (sym is) (
-    and_texts (indented_texts two (text refl) (field_text name n (and {s = codes "("} (text refl) (and (family_is_text family) (text refl)))))
+    and_texts (indented_texts two (text refl) (field_is_text name n (and {s = codes "("} (text refl) (and (family_is_text family) (text refl)))))
     (checked_texts four (text refl) check p.at (table_of family) p.bytes.now lines well (family_has_texts family) h shown)
     )
 
 payload_texts : (check : Bool) (name : List ℕ) (family : Option Family) (p : Payload) (out : List ℕ) (well : Bool) → IsText name → PayloadBytes p → ShowsPayload check name family p out well → AreTexts out
-payload_texts check name None p out well n h (is, e) = subst AreTexts (sym is) (indented_texts two (text refl) (field_text name n (opaque_is_text _)))
+payload_texts check name None p out well n h (is, e) = subst AreTexts (sym is) (indented_texts two (text refl) (field_is_text name n (opaque_is_text _)))
 payload_texts check name (Some family) p out well n h shown = family_texts check name family p out well n h shown
 
 -- ---- IFLA_LINKINFO
@@ -180,8 +163,8 @@ record InfoBytes (info : LinkInfo) : Type 0 where
   of_port : OnSome DataBytes info.port_data
 
 kind_or_port_texts : (port : Option (List ℕ)) (kind : List ℕ) → AreTexts (kind_or_port port kind)
-kind_or_port_texts None kind = indented_texts two (text refl) (field_text (codes "IFLA_INFO_KIND") (text refl) (quoted_text kind))
-kind_or_port_texts (Some port) kind = indented_texts two (text refl) (field_text (codes "IFLA_INFO_SLAVE_KIND") (text refl) (quoted_text port))
+kind_or_port_texts None kind = indented_texts two (text refl) (field_is_text (codes "IFLA_INFO_KIND") (text refl) (quoted_text kind))
+kind_or_port_texts (Some port) kind = indented_texts two (text refl) (field_is_text (codes "IFLA_INFO_SLAVE_KIND") (text refl) (quoted_text port))
 
 kind_line_texts : (kind : Option (List ℕ)) → AreTexts (kind_line kind)
 kind_line_texts None = no_texts
@@ -215,11 +198,15 @@ ProtinfoBytes (protinfos.List p) = PayloadBytes p
 ProtinfoBytes (protinfos.State n) = Unit {0}
 ProtinfoBytes (protinfos.Other p) = PayloadBytes p
 
+state_texts : EachName state_names
+unfolding state_names
+state_texts = (label_is_text (table_of families.BridgePort) 1 (family_has_texts families.BridgePort)).1
+
 protinfo_texts : (check : Bool) (found : Option Protinfo) (out : List ℕ) (well : Bool) → OnSome ProtinfoBytes found → ShowsProtinfo check found out well → AreTexts out
 protinfo_texts check None out well h (is, e) = subst AreTexts (sym is) no_texts
 protinfo_texts check (Some (protinfos.List p)) out well h shown = family_texts check (codes "IFLA_PROTINFO") families.BridgePort p out well (text refl) h shown
 protinfo_texts check (Some (protinfos.State n)) out well h (is, e) =
-    subst AreTexts (sym is) (indented_texts two (text refl) (field_text (codes "IFLA_PROTINFO") (text refl) (enum_is_text (texts_of port_state_names) n (each_name (texts_of port_state_names) refl))))
+    subst AreTexts (sym is) (indented_texts two (text refl) (field_is_text (codes "IFLA_PROTINFO") (text refl) (enum_is_text state_names n state_texts)))
 protinfo_texts check (Some (protinfos.Other p)) out well h shown = payload_texts check (codes "IFLA_PROTINFO") None p out well (text refl) h shown
 
 -- ---- a message about a link
@@ -345,7 +332,7 @@ number_after_text None number h k = and {s = codes "("} (text refl) (and k (text
 number_after_text (Some name) number h k = and h (and {s = codes " ("} (text refl) (and k (text refl)))
 
 error_number_texts : (name : Option (List ℕ)) (e : ℤ) → OnText name → AreTexts (error_number_line name e)
-error_number_texts name e h = indented_texts two (text refl) (field_text (codes "error") (text refl) (number_after_text name (signed_decimal e) h (signed_text e)))
+error_number_texts name e h = indented_texts two (text refl) (field_is_text (codes "error") (text refl) (number_after_text name (signed_decimal e) h (signed_text e)))
 
 errno_text : (e : ℤ) → OnText (errno_name e)
 errno_text (pos n) = tt
@@ -361,8 +348,8 @@ reply_texts : (a : Acknowledgement) → AreTexts (reply_lines a)
 reply_texts a =
     and_texts (result_texts a.error)
     (and_texts (line_of_texts (codes "message") quoted (option_copied a.text) (text refl) quoted_text)
-    (and_texts (line_of_texts (codes "offset") decimal a.offset (text refl) decimal_text)
-    (and_texts (line_of_texts (codes "missing type") decimal a.missing_type (text refl) decimal_text) (fault_texts a.fault))))
+    (and_texts (line_of_texts (codes "offset") (number_text Number) a.offset (text refl) (number_is_text Number))
+    (and_texts (line_of_texts (codes "missing type") (number_text Number) a.missing_type (text refl) (number_is_text Number)) (fault_texts a.fault))))
 
 -- ---- messages
 

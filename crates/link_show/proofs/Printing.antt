@@ -10,7 +10,8 @@ use Rattle.std.proofs.NetLemmas.Alphabet.{IsHexOrColon, All-hex_groups_text}
 use Rattle.std.proofs.NetLemmas.Texts.{AllSegments}
 use Rattle.link_show.specs.Text.{after, joined, hex, list_text}
 use Rattle.link_show.specs.Octets.{byte_text, hex_text, address_text}
-use Rattle.link_show.specs.Quoted.{is_printable, quoted_byte, quoted}
+use Rattle.link_base.specs.WellFormed.{is_printable}
+use Rattle.link_show.specs.Quoted.{quoted_byte, quoted}
 use Rattle.link_show.specs.Printable.{IsText}
 
 -- ---- texts

@@ -2,8 +2,8 @@
 use Rattle.std.proofs.Common.{◌≡◌, ℕ, List, Option, Some, None, Result, Ok, Err, OnOk, ◌++◌, ◌∙◌, true, codes, ap, subst}
 use Rattle.std.proofs.lemmas.Bool.{cond-true}
 use Rattle.link_show.specs.Sink.{Output, Gains}
-use Rattle.link_base.specs.declared.content.Content.{Content}
-use Rattle.link_base.specs.declared.buffer.NlaBuffer.{NlaBuffer}
+use Rattle.link_base.specs.declared.views.content.Content.{Content}
+use Rattle.link_base.specs.declared.wire.buffer.NlaBuffer.{NlaBuffer}
 use Rattle.link_base.specs.Buffer.{kind_field_of}
 use Rattle.link_base.specs.Frame.{kind_of}
 use Rattle.link_base.specs.Table.{Table, class_at, form_at, label_at}

@@ -1,12 +1,11 @@
 -- The texts of errors.
-use Rattle.std.specs.Prelude.{ℕ, ◌==◌, List, ◌++◌, Bool, true, false, Option, Some, None, codes, if◌then◌else◌}
+use Rattle.std.specs.Prelude.{ℕ, ◌==◌, List, ◌++◌, Bool, false, Option, Some, None, codes, if◌then◌else◌}
 use Rattle.std.specs.Fmt.{decimal}
-use Rattle.link_base.specs.declared.fault.Cause.{Cause}
-use Rattle.link_base.specs.declared.fault.Cause.TheVariants as causes
-use Rattle.link_base.specs.declared.fault.DecodeFault.{DecodeFault}
-use Rattle.link_base.specs.declared.fault.DecodeFault.TheVariants as faults
-use Rattle.link_base.specs.declared.label.Form.{Form}
-use Rattle.link_base.specs.declared.label.Form.TheVariants as forms
+use Rattle.link_base.specs.declared.wire.fault.Cause.{Cause}
+use Rattle.link_base.specs.declared.wire.fault.Cause.TheVariants as causes
+use Rattle.link_base.specs.declared.wire.fault.DecodeFault.{DecodeFault}
+use Rattle.link_base.specs.declared.wire.fault.DecodeFault.TheVariants as faults
+use Rattle.link_base.specs.Coherent.{is_array as is_array_form}
 use Rattle.link_base.specs.Table.{Table, label_at}
 use Rattle.link_base.specs.Borrowed.{elements_at}
 use Rattle.link_show.specs.Value.{Label, name_in, form_in}
@@ -37,11 +36,6 @@ kind_text None k = codes "type " ++ decimal k
 kind_text (Some label) k = name_in label
 
 -- whether payloads are arrays of numbers
-abbrev pub is_array_form : Form → Bool
-is_array_form forms.U16s = true
-is_array_form forms.U32s = true
-is_array_form form = false
-
 abbrev pub is_array : Option Label → Bool
 is_array None = false
 is_array (Some label) = is_array_form (form_in label)

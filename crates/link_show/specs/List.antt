@@ -5,11 +5,11 @@ use Rattle.std.specs.List.{flat_map, list_all, AllZip}
 use Rattle.link_show.specs.Sink.{Output, Gains}
 use Rattle.std.specs.Net.Addr.{segments_of}
 use Rattle.std.specs.Net.Text.{ipv4_text, ipv6_text}
-use Rattle.link_base.specs.declared.buffer.NlaBuffer.{NlaBuffer}
-use Rattle.link_base.specs.declared.content.Content.{Content}
-use Rattle.link_base.specs.declared.content.Content.TheVariants as contents
-use Rattle.link_base.specs.declared.fault.Cause.{Cause}
-use Rattle.link_base.specs.declared.fault.DecodeFault.{DecodeFault}
+use Rattle.link_base.specs.declared.wire.buffer.NlaBuffer.{NlaBuffer}
+use Rattle.link_base.specs.declared.views.content.Content.{Content}
+use Rattle.link_base.specs.declared.views.content.Content.TheVariants as contents
+use Rattle.link_base.specs.declared.wire.fault.Cause.{Cause}
+use Rattle.link_base.specs.declared.wire.fault.DecodeFault.{DecodeFault}
 use Rattle.link_base.specs.Frame.{kind_of}
 use Rattle.link_base.specs.Buffer.{kind_field_of, payload_of}
 use Rattle.link_base.specs.Table.{Table, Gives, Canonical, FirstNotCanonical, class_at, form_at, label_at}
@@ -61,7 +61,7 @@ head_text (Some label) f = name_in label
 abbrev pub has_text : Content → Bool
 has_text contents.Nothing = false
 has_text (contents.Addresses list size) = false
-has_text (contents.List list) = false
+has_text (contents.List list flagged) = false
 has_text content = true
 
 -- an attribute in one line: its name, and its content, if that has a text
@@ -136,7 +136,7 @@ ShowsFlat indent label f content out = (more : List ℕ) × ShowsMore content mo
 
 -- the lines of an attribute with this content
 abbrev pub ShowsContent : List ℕ → Table → NlaBuffer → Content → List ℕ → Type 0
-ShowsContent indent table b (contents.List list) out =
+ShowsContent indent table b (contents.List list flagged) out =
     ShowsNested indent (head_text (label_for table b) (kind_field_of b)) (elements_at table (kind_of (kind_field_of b))) list.now out
 ShowsContent indent table b content out = ShowsFlat indent (label_for table b) (kind_field_of b) content out
 

@@ -3,15 +3,14 @@ use Rattle.std.specs.Prelude.{◌≡◌, ◌≢◌, ℕ, suc, ℤ, pos, negsuc, 
 use Rattle.std.specs.Fmt.{decimal, signed_decimal}
 use Rattle.std.specs.Int.RustNames.{unsigned_abs}
 use Rattle.std.specs.Option.{option_copied}
-use Rattle.link_base.specs.declared.label.Quantity.TheVariants.{Number, InterfaceIndex}
+use Rattle.link_base.specs.declared.rows.label.Quantity.TheVariants.{Number, InterfaceIndex}
 use Rattle.link_base.specs.Labels.{name_in}
-use Rattle.link_base.specs.Named.{texts_of}
-use Rattle.link_bridge.specs.Names.{port_state_names}
+use Rattle.link_base.specs.Table.{label_at}
 use Rattle.netlink_packet_route.specs.declared.family.Family.{Family}
 use Rattle.netlink_packet_route.specs.declared.family.Family.TheVariants.{AfSpecBridge, BridgePort}
 use Rattle.netlink_packet_route.specs.Family.{family_name, table_of}
-use Rattle.link_messages.specs.declared.views.Message.{Message}
-use Rattle.link_messages.specs.declared.views.Payload.{Payload}
+use Rattle.link_messages.specs.declared.buffer_parts.Message.{Message}
+use Rattle.link_messages.specs.declared.buffer_parts.Payload.{Payload}
 use Rattle.link_messages.specs.declared.message.MessageError.{MessageError}
 use Rattle.link_messages.specs.declared.message.MessageError.TheVariants as errors
 use Rattle.link_messages.specs.declared.header.LinkHeader.{LinkHeader}
@@ -31,6 +30,7 @@ use Rattle.link_show.specs.Flags.{enum_text, flags_text}
 use Rattle.link_show.specs.Octets.{address_text}
 use Rattle.link_show.specs.Quoted.{quoted}
 use Rattle.link_show.specs.Structs.{field}
+use Rattle.link_show.specs.Value.{Label, names_of}
 use Rattle.link_show.specs.Fault.{bytes_text, cause_words}
 use Rattle.link_show.specs.List.{indented, error_line, EachShown, ShowsChecked}
 use Rattle.link_show.specs.Errno.{errno_names}
@@ -172,10 +172,19 @@ abbrev pub ShowsPart : Bool → List ℕ → Family → Option Payload → List 
 ShowsPart check name family None out well = (out ≡ []) × (well ≡ true)
 ShowsPart check name family (Some p) out well = ShowsFamily check name family p out well
 
+-- the names of what is known of an attribute type
+abbrev names_in : Option Label → List (ℕ × List ℕ)
+names_in None = []
+names_in (Some label) = names_of label
+
+-- the names of the STP states of bridge ports: those of IFLA_BRPORT_STATE
+unfoldable pub state_names : List (ℕ × List ℕ)
+state_names = names_in (label_at (table_of BridgePort) 1)
+
 abbrev pub ShowsProtinfo : Bool → Option Protinfo → List ℕ → Bool → Type 0
 ShowsProtinfo check None out well = (out ≡ []) × (well ≡ true)
 ShowsProtinfo check (Some (protinfos.List p)) out well = ShowsFamily check (codes "IFLA_PROTINFO") BridgePort p out well
-ShowsProtinfo check (Some (protinfos.State n)) out well = (out ≡ indented two (field (codes "IFLA_PROTINFO") (enum_text (texts_of port_state_names) n))) × (well ≡ true)
+ShowsProtinfo check (Some (protinfos.State n)) out well = (out ≡ indented two (field (codes "IFLA_PROTINFO") (enum_text state_names n))) × (well ≡ true)
 ShowsProtinfo check (Some (protinfos.Other p)) out well = ShowsPayload check (codes "IFLA_PROTINFO") None p out well
 
 -- ---- a message about a link
@@ -237,8 +246,8 @@ abbrev pub reply_lines : Acknowledgement → List ℕ
 reply_lines a =
     result_line a.error
     ++ (line_of (codes "message") quoted (option_copied a.text)
-    ++ (line_of (codes "offset") decimal a.offset
-    ++ (line_of (codes "missing type") decimal a.missing_type
+    ++ (line_of (codes "offset") (number_text Number) a.offset
+    ++ (line_of (codes "missing type") (number_text Number) a.missing_type
     ++ fault_line a.fault)))
 
 -- ---- a message

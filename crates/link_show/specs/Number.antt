@@ -1,10 +1,8 @@
 -- Numbers, with what they count.
 use Rattle.std.specs.Prelude.{ℕ, ◌/◌, ◌%◌, List, [], ◌∷◌, ◌++◌, map, codes}
 use Rattle.std.specs.Fmt.{decimal}
-use Rattle.link_base.specs.declared.label.Quantity.{Quantity}
-use Rattle.link_base.specs.declared.label.Quantity.TheVariants as quantities
-use Rattle.link_show.specs.declared.numbers.Width.{Width}
-use Rattle.link_show.specs.declared.numbers.Width.TheVariants.{Two, Four}
+use Rattle.link_base.specs.declared.rows.label.Quantity.{Quantity}
+use Rattle.link_base.specs.declared.rows.label.Quantity.TheVariants as quantities
 use Rattle.link_show.specs.Text.{hex_number, empty_text, joined}
 
 -- clock ticks, which are hundredths of a second, in seconds
@@ -21,6 +19,8 @@ unit_of quantities.Milliseconds = codes " ms"
 unit_of quantities.Seconds = codes " s"
 unit_of quantities.BitsPerSecond = codes " bit/s"
 unit_of quantities.Ohms = codes " ohm"
+unit_of quantities.Nanoseconds = codes " ns"
+unit_of quantities.Hertz = codes " Hz"
 unit_of quantity = []
 
 -- a number that counts something
@@ -34,8 +34,3 @@ number_text quantity n = decimal n ++ unit_of quantity
 unfoldable pub array_text : Quantity → List ℕ → List ℕ
 array_text quantity [] = empty_text
 array_text quantity (n ∷ numbers) = joined (codes " ") (map decimal (n ∷ numbers)) ++ unit_of quantity
-
--- how many bytes a number has
-abbrev pub width_of : Width → ℕ
-width_of Two = 2
-width_of Four = 4

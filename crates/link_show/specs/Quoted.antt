@@ -1,11 +1,8 @@
 -- Bytes between quotes.
-use Rattle.std.specs.Prelude.{ℕ, ◌==◌, ◌&&◌, nat_lt, List, [], ◌∷◌, ◌++◌, Bool, if◌then◌else◌}
+use Rattle.std.specs.Prelude.{ℕ, ◌==◌, List, [], ◌∷◌, ◌++◌, if◌then◌else◌}
 use Rattle.std.specs.List.{flat_map}
+use Rattle.link_base.specs.WellFormed.{is_printable}
 use Rattle.link_show.specs.Octets.{byte_text}
-
--- whether a byte is a printable ASCII character
-abbrev pub is_printable : ℕ → Bool
-is_printable b = nat_lt 31 b && nat_lt b 127
 
 -- a byte between quotes: `"` and `\` after a backslash, other printable characters as they are, and the rest as \xNN
 abbrev pub quoted_byte : ℕ → List ℕ

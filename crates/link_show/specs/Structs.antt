@@ -1,78 +1,87 @@
 -- Structs, by the kernel's names of their fields.
-use Rattle.std.specs.Prelude.{ℕ, ◌/◌, ◌%◌, List, [], ◌∷◌, ◌++◌, map, Result, Ok, Err, codes}
-use Rattle.std.specs.Fmt.{decimal}
-use Rattle.link_base.specs.declared.fault.Cause.{Cause}
-use Rattle.link_base.specs.Class.{Extent, accepted}
-use Rattle.link_bridge.specs.declared.bridge.id.BridgeId.{BridgeId}
-use Rattle.link_bridge.specs.declared.bridge_boolopt.BridgeBooleanOptions.{BridgeBooleanOptions}
-use Rattle.link_bridge.specs.declared.af_spec.vlan_info.BridgeVlanInfo.{BridgeVlanInfo}
-use Rattle.link_bridge.specs.BooleanOptions.{option_bits, option_bit_names}
-use Rattle.link_bridge.specs.VlanInfo.{vlan_info_bits, vlan_info_bit_names}
-use Rattle.link_vlan_can.specs.declared.can_records.CanBitTiming.{CanBitTiming}
-use Rattle.link_vlan_can.specs.declared.can_records.CanClock.{CanClock}
-use Rattle.link_vlan_can.specs.declared.can_records.CanCtrlMode.{CanCtrlMode}
-use Rattle.link_vlan_can.specs.declared.can_records.CanBerrCounter.{CanBerrCounter}
-use Rattle.link_vlan_can.specs.CanFlags.{mode_bits, mode_bit_names}
-use Rattle.link_show.specs.declared.structs.NumberField.{NumberField}
+use Rattle.std.specs.Prelude.{ℕ, ◌+◌, ◌-◌, ◌%◌, ◌^◌, Bool, List, [], ◌∷◌, ◌++◌, map, take, drop, length, nat_lt, nat_le, codes, if◌then◌else◌}
+use Rattle.std.specs.List.{list_all}
+use Rattle.link_base.specs.declared.rows.form.Form.TheVariants as forms
+use Rattle.link_base.specs.declared.rows.form.Layout.{Layout}
+use Rattle.link_base.specs.declared.rows.form.Layout.TheVariants as layouts
+use Rattle.link_base.specs.declared.rows.fields.Part.{Part}
+use Rattle.link_base.specs.declared.rows.fields.Part.TheVariants as parts
+use Rattle.link_base.specs.Number.{number}
+use Rattle.link_base.specs.Layout.{octets_of}
+use Rattle.link_base.specs.Name.{before_nul}
+use Rattle.link_base.specs.Forms.{bytes_in}
+use Rattle.link_base.specs.Fields.{FieldTold, fields_of}
 use Rattle.link_show.specs.Text.{joined}
+use Rattle.link_show.specs.Number.{number_text}
 use Rattle.link_show.specs.Flags.{flags_text}
-use Rattle.link_show.specs.Octets.{byte_text, address_text, hex_text}
+use Rattle.link_show.specs.Octets.{address_text, hex_text}
+use Rattle.link_show.specs.Quoted.{quoted}
 
 -- the name of a field, and its text
 abbrev pub field : List ℕ → List ℕ → List ℕ
 field name text = name ++ (codes " " ++ text)
 
--- the name and the number of a field
-abbrev pub number_field : NumberField → List ℕ × ℕ
-number_field f = (f.0.now, f.1)
-
--- fields with numbers, each with its name
-unfoldable pub number_fields : List (List ℕ × ℕ) → List ℕ
-number_fields fields = joined (codes " ") (map (λ f. field f.0 (decimal f.1)) fields)
-
 -- two fields
 abbrev pub two_fields : List ℕ → List ℕ → List ℕ
 two_fields first second = first ++ (codes " " ++ second)
 
--- the priority as four digits, and the address
-abbrev pub bridge_id_text : BridgeId → List ℕ
-bridge_id_text id = byte_text (id.priority / 256) ++ (byte_text (id.priority % 256) ++ (codes "." ++ address_text id.address))
+-- ---- a field of a table
 
-abbrev pub vlan_info_text : BridgeVlanInfo → List ℕ
-vlan_info_text info = two_fields (field (codes "vid") (decimal info.vid)) (field (codes "flags") (flags_text vlan_info_bit_names 2 (vlan_info_bits info.flags)))
+-- how many bytes it has
+abbrev pub size_of : Part → ℕ
+size_of (parts.Number w q) = bytes_in w
+size_of (parts.BigEndian w) = bytes_in w
+size_of (parts.Flags w) = bytes_in w
+size_of parts.Mac = 6
+size_of (parts.Name size) = size
 
-abbrev pub options_text : BridgeBooleanOptions → List ℕ
-options_text options =
-    two_fields (field (codes "value") (flags_text option_bit_names 4 (option_bits options.value)))
-    (field (codes "mask") (flags_text option_bit_names 4 (option_bits options.mask)))
+-- what its bytes say; the names are those of bits
+abbrev pub part_text : List (ℕ × List ℕ) → Part → List ℕ → List ℕ
+part_text names (parts.Number w q) bytes = number_text q (number bytes)
+part_text names (parts.BigEndian w) bytes = hex_text bytes
+part_text names (parts.Flags w) bytes = flags_text names (bytes_in w) (number bytes)
+part_text names parts.Mac bytes = address_text bytes
+part_text names (parts.Name size) bytes = quoted (before_nul bytes)
 
-abbrev pub ctrl_mode_text : CanCtrlMode → List ℕ
-ctrl_mode_text mode =
-    two_fields (field (codes "mask") (flags_text mode_bit_names 4 (mode_bits mode.mask)))
-    (field (codes "flags") (flags_text mode_bit_names 4 (mode_bits mode.flags)))
+-- p, the bytes of a struct from offset `start` on, has the field
+abbrev pub has_field : ℕ → List ℕ → FieldTold → Bool
+has_field start p f = nat_le (f.1 - start + size_of f.2) (length p)
 
-abbrev pub bit_timing_text : CanBitTiming → List ℕ
-bit_timing_text timing =
-    number_fields (
-    (codes "bitrate", timing.bitrate) ∷
-    (codes "sample_point", timing.sample_point) ∷
-    (codes "tq", timing.tq) ∷
-    (codes "prop_seg", timing.prop_seg) ∷
-    (codes "phase_seg1", timing.phase_seg1) ∷
-    (codes "phase_seg2", timing.phase_seg2) ∷
-    (codes "sjw", timing.sjw) ∷
-    (codes "brp", timing.brp) ∷ [])
+-- the field after its name
+abbrev pub field_text : ℕ → List (ℕ × List ℕ) → List ℕ → FieldTold → List ℕ
+field_text start names p f = field f.0 (part_text names f.2 (take (size_of f.2) (drop (f.1 - start) p)))
 
-abbrev pub clock_text : CanClock → List ℕ
-clock_text clock = number_fields ((codes "freq", clock.freq) ∷ [])
+-- ---- structs
 
-abbrev pub berr_counter_text : CanBerrCounter → List ℕ
-berr_counter_text counter = number_fields ((codes "txerr", counter.txerr) ∷ (codes "rxerr", counter.rxerr) ∷ [])
+abbrev pub has_fields : List FieldTold → ℕ → List ℕ → Bool
+has_fields fields start p = list_all (has_field start p) fields
 
--- a struct in a payload, if its length is accepted, or else the bytes of the payload
-abbrev pub read_text : {A : Type 0} → (A → List ℕ) → List ℕ → Result A Cause → List ℕ
-read_text text p (Ok value) = text value
-read_text text p (Err cause) = hex_text p
+-- fields of a struct, whose bytes from offset `start` on are p; the bytes, if they lack one of the fields
+unfoldable pub fields_text : List FieldTold → ℕ → List (ℕ × List ℕ) → List ℕ → List ℕ
+fields_text fields start names p = if has_fields fields start p then joined (codes " ") (map (field_text start names p) fields) else hex_text p
 
-unfoldable pub struct_text : {A : Type 0} → Extent → (List ℕ → A) → (A → List ℕ) → List ℕ → List ℕ
-struct_text e meaning text p = read_text text p (accepted e meaning p)
+-- a bridge identifier: the priority as four digits, and the address
+unfoldable pub bridge_id_text : List ℕ → List ℕ
+bridge_id_text p = if nat_lt (length p) 8 then hex_text p else hex_text (take 2 p) ++ (codes "." ++ address_text (take 6 (drop 2 p)))
+
+-- the struct that p starts with; the bytes, if the fields are not known
+abbrev pub struct_text : Layout → List (ℕ × List ℕ) → List ℕ → List ℕ
+struct_text layouts.BridgeId names p = bridge_id_text p
+struct_text (layouts.Other lengths) names p = hex_text p
+struct_text layout names p = fields_text (fields_of (forms.Struct layout)) 0 names p
+
+-- two consecutive numbers
+abbrev pub pair_text : ℕ → ℕ → List ℕ
+pair_text from to = fields_text (fields_of forms.Pair) 0 [] (octets_of 4 (from ∷ to ∷ []))
+
+-- the limits of a CAN controller: its name, and the bytes of the numbers, which follow those of the name
+abbrev pub limits_text : List ℕ → List ℕ → List ℕ
+limits_text name p = two_fields (field (codes "name") (quoted name)) (fields_text (drop 1 (fields_of forms.Limits)) 16 [] p)
+
+-- a number of four bytes, as its bytes tell it: the content of an attribute is known by its payload
+abbrev pub four_bytes : ℕ → ℕ
+four_bytes n = n % 2 ^ 32
+
+-- a set of flags, and which of them count
+abbrev pub masked_text : List (ℕ × List ℕ) → ℕ → ℕ → List ℕ
+masked_text names flags mask = two_fields (field (codes "flags") (flags_text names 4 flags)) (field (codes "mask") (flags_text names 4 mask))

@@ -1,6 +1,6 @@
 //! Lists of IP addresses.
 
-ghost use Rattle.std.specs.Prelude.{◌≡◌, length, IfOk, OnOk};
+ghost use Rattle.std.specs.Prelude.{◌≡◌, IfOk, OnOk};
 ghost use Rattle.link_show.specs.Sink.{Gains};
 ghost use Rattle.link_show.specs.List.{ip_text, address_after, separator_after, WritesAddresses};
 

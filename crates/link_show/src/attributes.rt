@@ -1,11 +1,10 @@
 //! Attributes in one line: the name of the attribute type, and the value.
 
-ghost use Rattle.std.specs.Prelude.{◌≡◌, ◌++◌, OnOk};
+ghost use Rattle.std.specs.Prelude.{◌≡◌, OnOk};
 ghost use Rattle.link_show.specs.Sink.{Gains};
 ghost use Rattle.link_base.specs.Labels.{label_in};
 ghost use Rattle.link_base.specs.Buffer.{kind_field_of};
 ghost use Rattle.link_base.specs.Viewed.{set_in, buffer_in};
-ghost use Rattle.link_show.specs.Value.{value_text};
 ghost use Rattle.link_show.specs.List.{flags_after, head_text, has_text, attribute_text, WritesAttribute};
 
 use crate::flags::write_flags;
@@ -13,10 +12,11 @@ use crate::pieces::{Piece, put_pieces};
 use crate::sink::Sink;
 use crate::values::{write_content, write_unlabelled};
 use link_base::NlaBuffer;
-use link_base::attribute_set::AttributeSet;
-use link_base::content::Content;
-use link_base::label::{KindLabel, Name};
-use link_base::view::Value;
+use link_base::rows::form::Width;
+use link_base::rows::label::{KindLabel, Name};
+use link_base::views::attribute_set::AttributeSet;
+use link_base::views::content::Content;
+use link_base::views::view::Value;
 
 /// The flags of `nla_type` (`include/uapi/linux/netlink.h`).
 const TYPE_FLAGS: &[Name] = names![
@@ -38,12 +38,12 @@ pub fn write_attribute<S: AttributeSet, W: Sink>(
     ensures { OnOk result (WritesAttribute (S.rows (set_in value.now)) (buffer_in value.now)
         (W.output writer.old) (W.output writer.new)) }
 {
-    write_named(writer, value.label(), value.buffer(), value.content())
+    write_in_one_line(writer, value.label(), value.buffer(), value.content())
 }
 
 /// Writes an attribute with this label and this content in one line.
 #[tactic(auto, unfolding(crate::specs::List::attribute_text))]
-pub(crate) fn write_named<W: Sink>(
+pub(crate) fn write_in_one_line<W: Sink>(
     writer: &mut W,
     label: Option<KindLabel>,
     buffer: NlaBuffer<'_>,
@@ -91,7 +91,7 @@ fn write_type_flags<W: Sink>(writer: &mut W, flags: u16) -> Result<(), W::Error>
         return Ok(());
     }
     writer.put(b" ")?;
-    write_flags(writer, TYPE_FLAGS, 2, flags.into())
+    write_flags(writer, TYPE_FLAGS, Width::Two, flags.into())
 }
 
 /// Checks whether a content is written after the name.
@@ -99,7 +99,7 @@ fn has_text(content: Content<'_>) -> bool
     ensures { result ≡ has_text content.entry }
 {
     match content {
-        Content::Nothing | Content::Addresses { .. } | Content::List(_) => false,
+        Content::Nothing | Content::Addresses { .. } | Content::List { .. } => false,
         _ => true,
     }
 }

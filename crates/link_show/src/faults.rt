@@ -1,6 +1,6 @@
 //! Errors of lists and of attributes.
 
-ghost use Rattle.std.specs.Prelude.{◌≡◌, option_map, OnOk};
+ghost use Rattle.std.specs.Prelude.{◌≡◌, OnOk};
 ghost use Rattle.link_show.specs.Sink.{Gains};
 ghost use Rattle.link_base.specs.Labels.{label_in};
 ghost use Rattle.link_show.specs.Fault.{byte_word, bytes_text, expected_word, cause_words, kind_text, is_array, payload_fault, fault_text};
@@ -8,8 +8,9 @@ ghost use Rattle.link_show.specs.Fault.{byte_word, bytes_text, expected_word, ca
 use crate::pieces::{Piece, put_pieces};
 use crate::sets::ListSet;
 use crate::sink::Sink;
-use link_base::attribute_set::AttributeSet;
-use link_base::label::{Form, KindLabel};
+use link_base::rows::form::Form;
+use link_base::rows::label::KindLabel;
+use link_base::views::attribute_set::AttributeSet;
 use link_base::{Cause, DecodeFault};
 
 /// Writes an error of a list of attributes of `set`, or of one of them, with the kernel's names of attribute types, such
@@ -33,12 +34,12 @@ pub fn write_fault<S: ListSet, W: Sink>(
             write_payload_fault(writer, set.label(kind), kind, cause)
         }
         DecodeFault::NestedFrame { kind, cause } => {
-            write_kind(writer, set.label(kind), kind)?;
+            write_type_name(writer, set.label(kind), kind)?;
             writer.put(b": ")?;
             write_cause(writer, false, cause)
         }
         DecodeFault::NestedValue { kind, inner, cause } => {
-            write_kind(writer, set.label(kind), kind)?;
+            write_type_name(writer, set.label(kind), kind)?;
             writer.put(b": ")?;
             write_payload_fault(writer, set.elements(kind).label(inner), inner, cause)
         }
@@ -56,13 +57,17 @@ fn write_payload_fault<W: Sink>(
     ensures { OnOk result (Gains (W.output writer.old) (W.output writer.new)
         (payload_fault (label_in label) kind cause)) }
 {
-    write_kind(writer, label, kind)?;
+    write_type_name(writer, label, kind)?;
     writer.put(b" ")?;
     write_cause(writer, is_array(label), cause)
 }
 
 /// Writes the name of an attribute type, or its number, if it has none.
-fn write_kind<W: Sink>(writer: &mut W, label: Option<KindLabel>, kind: u16) -> Result<(), W::Error>
+fn write_type_name<W: Sink>(
+    writer: &mut W,
+    label: Option<KindLabel>,
+    kind: u16,
+) -> Result<(), W::Error>
     ensures { OnOk result (Gains (W.output writer.old) (W.output writer.new) (kind_text (label_in label) kind)) }
 {
     match label {

@@ -1,15 +1,17 @@
 //! Numbers of enums, and sets of flags, by their names.
 
-ghost use Rattle.std.specs.Prelude.{◌≡◌, ◌-◌, ◌*◌, ◌^◌, ◌==◌, OnOk, codes, option_map};
+ghost use Rattle.std.specs.Prelude.{◌≡◌, OnOk, codes};
 ghost use Rattle.link_show.specs.Sink.{Gains};
-ghost use Rattle.link_base.specs.Labels.{names_in, name_in};
+ghost use Rattle.link_base.specs.Forms.{bytes_in};
+ghost use Rattle.link_base.specs.Labels.{names_in};
 ghost use Rattle.link_show.specs.Text.{after, joined};
 ghost use Rattle.link_show.specs.Flags.{enum_text, flags_text, flag_words, last_word, unnamed};
 
 use crate::octets::write_after;
 use crate::pieces::{Piece, put_number, put_pieces};
 use crate::sink::Sink;
-use link_base::label::Name;
+use link_base::rows::form::Width;
+use link_base::rows::label::{Name, name_of};
 
 /// Writes the number of an enum: its name and the number, such as `802.3ad (4)`, or the number alone if it has no name.
 ///
@@ -35,7 +37,7 @@ pub fn write_enum<W: Sink>(writer: &mut W, names: &[Name], number: u64) -> Resul
     }
 }
 
-/// Writes a set of flags of `width` bytes: the names of the bits that are set, lowest bit first, joined by vertical bars,
+/// Writes a set of flags of this width: the names of the bits that are set, lowest bit first, joined by vertical bars,
 /// then the bits without a name, together in hexadecimal. No bit is `0`, and every bit, if some have no name, is `all`.
 ///
 /// # Errors
@@ -45,43 +47,20 @@ pub fn write_enum<W: Sink>(writer: &mut W, names: &[Name], number: u64) -> Resul
 pub fn write_flags<W: Sink>(
     writer: &mut W,
     names: &[Name],
-    width: usize,
+    width: Width,
     bits: u64,
 ) -> Result<(), W::Error>
     ensures { OnOk result (Gains (W.output writer.old) (W.output writer.new)
-        (flags_text (names_in names.now) width bits)) }
+        (flags_text (names_in names.now) (bytes_in width) bits)) }
 {
     let left = without_names(names, bits);
     if bits == 0 {
         return writer.put(b"0");
     }
-    if left != 0 && is_full(bits, width) {
+    if left != 0 && bits == width.most() {
         return writer.put(b"all");
     }
     write_words(writer, names, bits, left)
-}
-
-/// Returns the name of a number; `None` if it has none.
-pub(crate) fn name_of(names: &[Name], number: u64) -> Option<&'static str>
-    ensures { option_map (λ text. text.now) result ≡ name_in (names_in names.now) number }
-{
-    for name in names {
-        if name.number == number {
-            return Some(name.text);
-        }
-    }
-    None
-}
-
-/// Checks whether every bit of `width` bytes is set.
-fn is_full(bits: u64, width: usize) -> bool
-    ensures { result ≡ (bits == 2 ^ (8 * width) - 1) }
-{
-    match width {
-        0..=7 => bits == (1u64 << (8 * width)) - 1,
-        8 => bits == u64::MAX,
-        _ => false,
-    }
 }
 
 /// Returns the bits that have no name.

@@ -3,26 +3,22 @@
 ghost use Rattle.std.specs.Prelude.{false, None, codes, IfOk, OnOk};
 ghost use Rattle.std.specs.Option.{option_copied};
 ghost use Rattle.link_show.specs.Sink.{Gains};
-ghost use Rattle.link_base.specs.Named.{texts_of};
-ghost use Rattle.link_bridge.specs.Names.{port_state_names};
 ghost use Rattle.link_show.specs.Flags.{enum_text};
 ghost use Rattle.link_show.specs.Structs.{field};
-ghost use Rattle.link_show.specs.Quoted.{quoted};
 ghost use Rattle.link_show.specs.List.{indented, Writes};
 ghost use Rattle.link_show.specs.Message.{ShowsOptionalInfo, ShowsData, ShowsPart, ShowsProtinfo, ShowsFamily, ShowsPayload};
-ghost use Rattle.link_show.specs.Message.{two, kind_line, line_of};
+ghost use Rattle.link_show.specs.Message.{two, kind_line, state_names};
 
 use crate::families::write_family_list;
 use crate::faults::bytes_of;
 use crate::flags::write_enum;
-use crate::links::write_header_fault;
+use crate::links::{write_header_fault, write_quoted_line};
 use crate::pieces::{Piece, put_pieces};
-use crate::quoted::write_quoted;
 use crate::sink::Sink;
 use link_base::NamedNumber;
-use link_bridge::BridgePortState;
 use link_messages::{InfoData, LinkInfo, Payload, Protinfo, announced_port_kind};
 use netlink_packet_route::Family;
+use netlink_packet_route::link::BridgePortState;
 
 /// Writes the lines of an `IFLA_LINKINFO`, if there is one.
 pub(crate) fn write_info<W: Sink>(
@@ -35,9 +31,9 @@ pub(crate) fn write_info<W: Sink>(
 {
     match info {
         Some(info) => {
-            write_kind(writer, info.kind)?;
+            write_info_kind(writer, info.kind)?;
             let data = write_data(writer, "IFLA_INFO_DATA", info.data, check)?;
-            write_port_kind(writer, info.port_kind)?;
+            write_quoted_line(writer, "IFLA_INFO_SLAVE_KIND", info.port_kind)?;
             let port = write_data(writer, "IFLA_INFO_SLAVE_DATA", info.port_data, check)?;
             let end = write_header_fault(writer, info.fault)?;
             Ok(data & port & end)
@@ -46,35 +42,16 @@ pub(crate) fn write_info<W: Sink>(
     }
 }
 
-/// Writes the line of a kind of link. A kind that announces a kind of port is written as that.
-fn write_kind<W: Sink>(writer: &mut W, kind: Option<&[u8]>) -> Result<(), W::Error>
+/// Writes the line of an `IFLA_INFO_KIND`. A kind that announces a kind of port is written as that.
+fn write_info_kind<W: Sink>(writer: &mut W, kind: Option<&[u8]>) -> Result<(), W::Error>
     ensures { OnOk result (Gains (W.output writer.old) (W.output writer.new)
         (kind_line (option_copied kind.entry))) }
 {
     match kind {
-        Some(kind) => match announced_port_kind(kind) {
-            Some(port) => write_port_kind(writer, Some(port)),
-            None => {
-                writer.put(b"  IFLA_INFO_KIND ")?;
-                write_quoted(writer, kind)?;
-                writer.put(b"\n")
-            }
+        Some(name) => match announced_port_kind(name) {
+            Some(port) => write_quoted_line(writer, "IFLA_INFO_SLAVE_KIND", Some(port)),
+            None => write_quoted_line(writer, "IFLA_INFO_KIND", kind),
         },
-        None => Ok(()),
-    }
-}
-
-/// Writes the line of a kind of port.
-fn write_port_kind<W: Sink>(writer: &mut W, kind: Option<&[u8]>) -> Result<(), W::Error>
-    ensures { OnOk result (Gains (W.output writer.old) (W.output writer.new)
-        (line_of (codes "IFLA_INFO_SLAVE_KIND") quoted (option_copied kind.entry))) }
-{
-    match kind {
-        Some(kind) => {
-            writer.put(b"  IFLA_INFO_SLAVE_KIND ")?;
-            write_quoted(writer, kind)?;
-            writer.put(b"\n")
-        }
         None => Ok(()),
     }
 }
@@ -140,7 +117,7 @@ pub(crate) fn write_protinfo<W: Sink>(
 /// Writes the line of an `IFLA_PROTINFO` that is the STP state of a port.
 fn write_state<W: Sink>(writer: &mut W, state: u8) -> Result<(), W::Error>
     ensures { OnOk result (Gains (W.output writer.old) (W.output writer.new)
-        (indented two (field (codes "IFLA_PROTINFO") (enum_text (texts_of port_state_names) state)))) }
+        (indented two (field (codes "IFLA_PROTINFO") (enum_text state_names state)))) }
 {
     writer.put(b"  IFLA_PROTINFO ")?;
     write_enum(writer, BridgePortState::names(), state.into())?;

@@ -6,7 +6,7 @@
 /// Names, each after its number.
 macro_rules! names {
     ($($number:literal $text:literal)*) => {
-        &[$(link_base::label::Name { number: $number, text: $text },)*]
+        &[$(link_base::rows::label::Name { number: $number, text: $text },)*]
     };
 }
 
@@ -52,5 +52,5 @@ pub use quoted::write_quoted;
 pub use replies::write_acknowledgement;
 pub use sets::ListSet;
 pub use sink::Sink;
-pub use structs::StructText;
+pub use structs::write_struct;
 pub use values::{write_content, write_value};

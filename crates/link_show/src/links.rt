@@ -8,12 +8,13 @@ ghost use Rattle.link_base.specs.Labels.{names_in, name_in};
 ghost use Rattle.link_show.specs.Number.{number_text};
 ghost use Rattle.link_show.specs.Flags.{enum_text, flags_text};
 ghost use Rattle.link_show.specs.Octets.{address_text};
+ghost use Rattle.link_show.specs.Quoted.{quoted};
 ghost use Rattle.link_show.specs.List.{Writes};
 ghost use Rattle.link_show.specs.MessageNames.{device_flags, operational_states};
 ghost use Rattle.link_show.specs.Message.{ShowsLink, link_line, name_part, unless_zero, named_or, attribute_lines, line_of};
 ghost use Rattle.link_show.specs.Message.{others_line, fault_line, is_sound};
 
-use crate::flags::{name_of, write_enum, write_flags};
+use crate::flags::{write_enum, write_flags};
 use crate::info::{write_info, write_part, write_protinfo};
 use crate::message_errors::write_message_error;
 use crate::message_names::{ADDRESS_FAMILIES, DEVICE_FLAGS, DEVICE_TYPES, OPERATIONAL_STATES};
@@ -22,7 +23,8 @@ use crate::octets::write_address;
 use crate::pieces::{Piece, put_pieces};
 use crate::quoted::write_quoted;
 use crate::sink::Sink;
-use link_base::label::{Name, Quantity};
+use link_base::rows::form::Width;
+use link_base::rows::label::{Name, Quantity, name_of};
 use link_messages::{LinkDetails, LinkHeader, MessageError};
 use netlink_packet_route::Family;
 
@@ -69,8 +71,8 @@ fn write_link_line<W: Sink>(
 {
     write_index(writer, header)?;
     write_name(writer, name)?;
-    write_named(writer, "family", ADDRESS_FAMILIES, header.family.into())?;
-    write_named(writer, "type", DEVICE_TYPES, header.kind.into())?;
+    write_named_field(writer, "family", ADDRESS_FAMILIES, header.family.into())?;
+    write_named_field(writer, "type", DEVICE_TYPES, header.kind.into())?;
     write_device_flags(writer, "flags", header.flags.into())?;
     write_device_flags(writer, "change", header.change.into())?;
     writer.put(b"\n")
@@ -99,7 +101,7 @@ fn write_name<W: Sink>(writer: &mut W, name: Option<&[u8]>) -> Result<(), W::Err
 }
 
 /// Writes a field that is a number with a name, after a space; nothing if it is 0.
-fn write_named<W: Sink>(
+fn write_named_field<W: Sink>(
     writer: &mut W,
     field: &str,
     names: &[Name],
@@ -145,7 +147,7 @@ fn write_device_flags<W: Sink>(writer: &mut W, field: &str, flags: u64) -> Resul
         writer,
         &[Piece::Text(" "), Piece::Text(field), Piece::Text(" ")],
     )?;
-    write_flags(writer, DEVICE_FLAGS, 4, flags)
+    write_flags(writer, DEVICE_FLAGS, Width::Four, flags)
 }
 
 /// Writes the lines of the attributes that every link has.
@@ -165,7 +167,8 @@ fn write_attributes<W: Sink>(writer: &mut W, details: &LinkDetails<'_>) -> Resul
     write_state_line(writer, details.operstate)
 }
 
-fn write_number_line<W: Sink>(
+/// Writes the line of a number that an attribute has, if it is there.
+pub(crate) fn write_number_line<W: Sink>(
     writer: &mut W,
     name: &str,
     quantity: Quantity,
@@ -181,6 +184,28 @@ fn write_number_line<W: Sink>(
                 &[Piece::Text("  "), Piece::Text(name), Piece::Text(" ")],
             )?;
             write_number(writer, quantity, number.into())?;
+            writer.put(b"\n")
+        }
+        None => Ok(()),
+    }
+}
+
+/// Writes the line of bytes that an attribute has, between quotes, if it is there.
+pub(crate) fn write_quoted_line<W: Sink>(
+    writer: &mut W,
+    name: &str,
+    bytes: Option<&[u8]>,
+) -> Result<(), W::Error>
+    ensures { OnOk result (Gains (W.output writer.old) (W.output writer.new)
+        (line_of name.now quoted (option_copied bytes.entry))) }
+{
+    match bytes {
+        Some(bytes) => {
+            put_pieces(
+                writer,
+                &[Piece::Text("  "), Piece::Text(name), Piece::Text(" ")],
+            )?;
+            write_quoted(writer, bytes)?;
             writer.put(b"\n")
         }
         None => Ok(()),

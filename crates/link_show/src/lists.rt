@@ -1,6 +1,6 @@
 //! Lists, a line for each attribute.
 
-ghost use Rattle.std.specs.Prelude.{◌≡◌, ◌++◌, ◌+◌, ◌<◌, ◌^◌, [], IfOk, OnOk};
+ghost use Rattle.std.specs.Prelude.{IfOk, OnOk};
 ghost use Rattle.link_show.specs.Sink.{Gains};
 ghost use Rattle.link_base.specs.Buffer.{kind_field_of};
 ghost use Rattle.link_base.specs.Viewed.{set_in, buffer_in, set_of, bytes_in};
@@ -10,16 +10,16 @@ ghost use Rattle.link_show.specs.List.{head_text, error_line, WritesList, Writes
 ghost use Rattle.link_show.specs.List.{WritesElements, WritesElement};
 
 use crate::addresses::write_addresses;
-use crate::attributes::{write_attribute, write_head, write_named};
+use crate::attributes::{write_attribute, write_head, write_in_one_line};
 use crate::faults::write_fault;
 use crate::pieces::{Piece, put_pieces};
 use crate::sets::ListSet;
 use crate::sink::Sink;
-use link_base::attribute_set::AttributeSet;
-use link_base::content::Content;
-use link_base::label::KindLabel;
-use link_base::view::{Value, View};
-use link_base::view_all::ViewAll;
+use link_base::rows::label::KindLabel;
+use link_base::views::attribute_set::AttributeSet;
+use link_base::views::content::Content;
+use link_base::views::view::{Value, View};
+use link_base::views::view_all::ViewAll;
 use link_base::{DecodeFault, NlaBuffer};
 use link_messages::Payload;
 
@@ -107,7 +107,7 @@ fn write_flat<W: Sink>(
         (W.output writer.old) (W.output writer.new)) }
 {
     writer.put(indent.as_bytes())?;
-    write_named(writer, label, buffer, content)?;
+    write_in_one_line(writer, label, buffer, content)?;
     write_more(writer, content)?;
     writer.put(b"\n")
 }

@@ -4,80 +4,60 @@ ghost use Rattle.std.specs.Prelude.{◌≡◌};
 ghost use Rattle.link_base.specs.Labels.{names_in};
 ghost use Rattle.link_show.specs.MessageNames.{flags_of};
 
-use link_base::label::Name;
+use link_base::rows::label::Name;
+use link_messages::message_types::{
+    NLMSG_DONE, NLMSG_ERROR, NLMSG_NOOP, NLMSG_OVERRUN, RTM_DELLINK, RTM_GETLINK, RTM_NEWLINK,
+    RTM_SETLINK,
+};
+
+/// Names of types of messages: those of the constants.
+macro_rules! types {
+    ($($kind:ident)*) => {
+        &[$(Name { number: $kind as u64, text: stringify!($kind) },)*]
+    };
+}
 
 /// Types of messages (`include/uapi/linux/netlink.h`, `rtnetlink.h`).
-pub(crate) const MESSAGE_TYPES: &[Name] = names![
-    1 "NLMSG_NOOP"
-    2 "NLMSG_ERROR"
-    3 "NLMSG_DONE"
-    4 "NLMSG_OVERRUN"
-    16 "RTM_NEWLINK"
-    17 "RTM_DELLINK"
-    18 "RTM_GETLINK"
-    19 "RTM_SETLINK"
+pub(crate) const MESSAGE_TYPES: &[Name] = types![
+    NLMSG_NOOP
+    NLMSG_ERROR
+    NLMSG_DONE
+    NLMSG_OVERRUN
+    RTM_NEWLINK
+    RTM_DELLINK
+    RTM_GETLINK
+    RTM_SETLINK
 ];
 
-/// Flags of all messages (`NLM_F_`, `include/uapi/linux/netlink.h`).
-pub(crate) const COMMON_FLAGS: &[Name] = names![
-    0x1 "REQUEST"
-    0x2 "MULTI"
-    0x4 "ACK"
-    0x8 "ECHO"
-    0x10 "DUMP_INTR"
-    0x20 "DUMP_FILTERED"
-];
+/// Flags of all messages (`NLM_F_`, `include/uapi/linux/netlink.h`), and then these.
+macro_rules! flags {
+    ($($number:literal $text:literal)*) => {
+        names![
+            0x1 "REQUEST"
+            0x2 "MULTI"
+            0x4 "ACK"
+            0x8 "ECHO"
+            0x10 "DUMP_INTR"
+            0x20 "DUMP_FILTERED"
+            $($number $text)*
+        ]
+    };
+}
+
+/// Flags of messages of other types than those below.
+const COMMON_FLAGS: &[Name] = flags![];
 
 /// Flags of messages that make or change a link.
-pub(crate) const NEW_FLAGS: &[Name] = names![
-    0x1 "REQUEST"
-    0x2 "MULTI"
-    0x4 "ACK"
-    0x8 "ECHO"
-    0x10 "DUMP_INTR"
-    0x20 "DUMP_FILTERED"
-    0x100 "REPLACE"
-    0x200 "EXCL"
-    0x400 "CREATE"
-    0x800 "APPEND"
-];
+const NEW_FLAGS: &[Name] = flags![0x100 "REPLACE" 0x200 "EXCL" 0x400 "CREATE" 0x800 "APPEND"];
 
 /// Flags of messages that ask for links.
-pub(crate) const GET_FLAGS: &[Name] = names![
-    0x1 "REQUEST"
-    0x2 "MULTI"
-    0x4 "ACK"
-    0x8 "ECHO"
-    0x10 "DUMP_INTR"
-    0x20 "DUMP_FILTERED"
-    0x100 "ROOT"
-    0x200 "MATCH"
-    0x400 "ATOMIC"
-];
+const GET_FLAGS: &[Name] = flags![0x100 "ROOT" 0x200 "MATCH" 0x400 "ATOMIC"];
 
 /// Flags of messages that delete a link.
-pub(crate) const DELETE_FLAGS: &[Name] = names![
-    0x1 "REQUEST"
-    0x2 "MULTI"
-    0x4 "ACK"
-    0x8 "ECHO"
-    0x10 "DUMP_INTR"
-    0x20 "DUMP_FILTERED"
-    0x100 "NONREC"
-    0x200 "BULK"
-];
+const DELETE_FLAGS: &[Name] = flags![0x100 "NONREC" 0x200 "BULK"];
 
 /// Flags of NLMSG_ERROR.
-pub(crate) const ERROR_FLAGS: &[Name] = names![
-    0x1 "REQUEST"
-    0x2 "MULTI"
-    0x4 "ACK"
-    0x8 "ECHO"
-    0x10 "DUMP_INTR"
-    0x20 "DUMP_FILTERED"
-    0x100 "CAPPED"
-    0x200 "ACK_TLVS"
-];
+const ERROR_FLAGS: &[Name] = flags![0x100 "CAPPED" 0x200 "ACK_TLVS"];
 
 /// Address families (`AF_`, `include/linux/socket.h`) that are written by name.
 pub(crate) const ADDRESS_FAMILIES: &[Name] = names![
@@ -131,10 +111,10 @@ pub(crate) fn flag_names(kind: u16) -> &'static [Name]
     ensures { names_in result.now ≡ flags_of kind }
 {
     match kind {
-        16 | 19 => NEW_FLAGS,
-        18 => GET_FLAGS,
-        17 => DELETE_FLAGS,
-        2 => ERROR_FLAGS,
+        RTM_NEWLINK | RTM_SETLINK => NEW_FLAGS,
+        RTM_GETLINK => GET_FLAGS,
+        RTM_DELLINK => DELETE_FLAGS,
+        NLMSG_ERROR => ERROR_FLAGS,
         _ => COMMON_FLAGS,
     }
 }

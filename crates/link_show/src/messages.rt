@@ -8,30 +8,19 @@ ghost use Rattle.link_show.specs.List.{Writes};
 ghost use Rattle.link_show.specs.MessageNames.{message_types};
 ghost use Rattle.link_show.specs.Message.{ShowsMessages, ShowsMessage, ShowsBody, message_line, named_or};
 
-use crate::flags::{name_of, write_flags};
+use crate::flags::write_flags;
 use crate::links::write_link;
 use crate::message_errors::write_message_error;
 use crate::message_names::{MESSAGE_TYPES, flag_names};
 use crate::pieces::{Piece, put_pieces};
 use crate::replies::write_acknowledgement;
 use crate::sink::Sink;
+use link_base::rows::form::Width;
+use link_base::rows::label::name_of;
+use link_messages::message_types::{
+    NLMSG_DONE, NLMSG_ERROR, RTM_DELLINK, RTM_GETLINK, RTM_NEWLINK, RTM_SETLINK,
+};
 use link_messages::{Message, any_message, link_details, read_acknowledgement};
-
-/// The type of the kernel's replies (`include/uapi/linux/netlink.h`).
-const NLMSG_ERROR: u16 = 2;
-
-/// The type of the message that ends a dump (`include/uapi/linux/netlink.h`).
-const NLMSG_DONE: u16 = 3;
-
-// Types of messages about links (`include/uapi/linux/rtnetlink.h`).
-
-const RTM_NEWLINK: u16 = 16;
-
-const RTM_DELLINK: u16 = 17;
-
-const RTM_GETLINK: u16 = 18;
-
-const RTM_SETLINK: u16 = 19;
 
 /// Writes the lines of the messages of a buffer, up to its end or to an NLMSG_DONE. Returns whether no line is an error,
 /// and, if `check` is set, all lists are canonical.
@@ -102,7 +91,12 @@ fn write_first_line<W: Sink>(writer: &mut W, message: &Message<'_>) -> Result<()
             Piece::Text(" flags "),
         ],
     )?;
-    write_flags(writer, flag_names(message.kind), 2, message.flags.into())?;
+    write_flags(
+        writer,
+        flag_names(message.kind),
+        Width::Two,
+        message.flags.into(),
+    )?;
     let sequence = message.sequence;
     let port = message.port;
     put_pieces(

@@ -3,14 +3,17 @@
 ghost use Rattle.std.specs.Prelude.{◌≡◌, ◌≤◌, ◌+◌, ◌*◌, length, map, codes, OnOk};
 ghost use Rattle.std.specs.Fmt.{decimal};
 ghost use Rattle.link_show.specs.Sink.{Gains};
-ghost use Rattle.link_base.specs.declared.label.Quantity.TheVariants.{ClockTicks};
-ghost use Rattle.link_show.specs.Number.{number_text, unit_of, array_text, width_of};
+ghost use Rattle.link_base.specs.declared.rows.label.Quantity.TheVariants.{ClockTicks};
+ghost use Rattle.link_show.specs.Number.{number_text, unit_of, array_text};
 ghost use Rattle.link_show.specs.Text.{joined};
+ghost use Rattle.link_base.specs.Forms.{bytes_in};
+ghost use Rattle.link_base.specs.Number.{number};
 ghost use Rattle.link_base.specs.Layout.{number_at, numbers_at, numbers_of};
 
 use crate::pieces::{Piece, put_number, put_pieces};
 use crate::sink::Sink;
-use link_base::label::Quantity;
+use link_base::rows::form::Width;
+use link_base::rows::label::Quantity;
 use link_base::{u16_at, u32_at};
 
 /// Writes a number with what it counts, such as `100 ms`, `1500 (15.00 s)` or `ifindex 3`.
@@ -56,17 +59,10 @@ fn unit_of(quantity: Quantity) -> &'static str
         Quantity::Seconds => " s",
         Quantity::BitsPerSecond => " bit/s",
         Quantity::Ohms => " ohm",
+        Quantity::Nanoseconds => " ns",
+        Quantity::Hertz => " Hz",
         _ => "",
     }
-}
-
-/// The width of a number.
-#[derive(Clone, Copy)]
-pub(crate) enum Width {
-    /// Two bytes.
-    Two,
-    /// Four bytes.
-    Four,
 }
 
 /// Writes an array of little-endian numbers, with spaces between them, and what they count after the last; `(empty)` if
@@ -79,12 +75,9 @@ pub(crate) fn write_array<W: Sink>(
     bytes: &[u8],
 ) -> Result<(), W::Error>
     ensures { OnOk result (Gains (W.output writer.old) (W.output writer.new)
-        (array_text quantity (numbers_of (width_of width) bytes.now))) }
+        (array_text quantity (numbers_of (bytes_in width) bytes.now))) }
 {
-    let count = match width {
-        Width::Two => bytes.len() / 2,
-        Width::Four => bytes.len() / 4,
-    };
+    let count = bytes.len() / width.size();
     if count == 0 {
         return writer.put(b"(empty)");
     }
@@ -99,28 +92,41 @@ fn write_numbers<W: Sink>(
     count: usize,
     bytes: &[u8],
 ) -> Result<(), W::Error>
-    requires { count * width_of width ≤ length bytes.now }
+    requires { count * bytes_in width ≤ length bytes.now }
     ensures { OnOk result (Gains (W.output writer.old) (W.output writer.new)
-        (joined (codes " ") (map decimal (numbers_at (width_of width) count 0 bytes.now)))) }
+        (joined (codes " ") (map decimal (numbers_at (bytes_in width) count 0 bytes.now)))) }
 {
     let mut separator = b"".as_slice();
     for i in 0..count {
-        let number = number_at(bytes, width, i);
+        let number = number_at(width, i, bytes);
         writer.put(separator)?;
-        put_number(writer, number as u64)?;
+        put_number(writer, number)?;
         separator = b" ".as_slice();
     }
     Ok(())
 }
 
 /// Reads the number at an index of an array.
-fn number_at(bytes: &[u8], width: Width, index: usize) -> u32
-    requires { (index + 1) * width_of width ≤ length bytes.now }
-    ensures { result ≡ number_at (width_of width) (index * width_of width) bytes.now }
+fn number_at(width: Width, index: usize, bytes: &[u8]) -> u64
+    requires { (index + 1) * bytes_in width ≤ length bytes.now }
+    ensures { result ≡ number_at (bytes_in width) (index * bytes_in width) bytes.now }
+{
+    let at = index * width.size();
+    number_of(width, &bytes[at..at + width.size()])
+}
+
+/// Reads a little-endian number, which must have all of `bytes`.
+pub(crate) fn number_of(width: Width, bytes: &[u8]) -> u64
+    requires { length bytes.now ≡ bytes_in width }
+    ensures { result ≡ number bytes.now }
 {
     match width {
-        Width::Two => u16_at(bytes, 2 * index).into(),
-        Width::Four => u32_at(bytes, 4 * index),
+        Width::One => bytes[0].into(),
+        Width::Two => u16_at(bytes, 0).into(),
+        Width::Four => u32_at(bytes, 0).into(),
+        Width::Eight => u64::from_le_bytes([
+            bytes[0], bytes[1], bytes[2], bytes[3], bytes[4], bytes[5], bytes[6], bytes[7],
+        ]),
     }
 }
 

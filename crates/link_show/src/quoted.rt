@@ -1,8 +1,9 @@
 //! Bytes between quotes.
 
-ghost use Rattle.std.specs.Prelude.{OnOk};
+ghost use Rattle.std.specs.Prelude.{◌≡◌, OnOk};
 ghost use Rattle.link_show.specs.Sink.{Gains};
 ghost use Rattle.std.specs.List.{flat_map};
+ghost use Rattle.link_base.specs.Name.{before_nul};
 ghost use Rattle.link_show.specs.Quoted.{quoted_byte, quoted};
 
 use crate::octets::write_byte;
@@ -20,6 +21,24 @@ pub fn write_quoted<W: Sink>(writer: &mut W, bytes: &[u8]) -> Result<(), W::Erro
     writer.put(b"\"")?;
     write_quoted_bytes(writer, bytes)?;
     writer.put(b"\"")
+}
+
+/// Writes the bytes before the first NUL between quotes, or all of them if there is none.
+pub(crate) fn write_name<W: Sink>(writer: &mut W, bytes: &[u8]) -> Result<(), W::Error>
+    ensures { OnOk result (Gains (W.output writer.old) (W.output writer.new) (quoted (before_nul bytes.now))) }
+{
+    write_quoted(writer, before_nul(bytes))
+}
+
+fn before_nul(bytes: &[u8]) -> &[u8]
+    ensures { result.now ≡ before_nul bytes.now }
+{
+    for i in 0..bytes.len() {
+        if bytes[i] == 0 {
+            return &bytes[..i];
+        }
+    }
+    bytes
 }
 
 fn write_quoted_bytes<W: Sink>(writer: &mut W, bytes: &[u8]) -> Result<(), W::Error>

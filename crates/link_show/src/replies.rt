@@ -1,20 +1,16 @@
 //! The kernel's replies.
 
-ghost use Rattle.std.specs.Prelude.{◌≡◌, codes, option_map, IfOk, OnOk};
-ghost use Rattle.std.specs.Fmt.{decimal};
-ghost use Rattle.std.specs.Option.{option_copied};
+ghost use Rattle.std.specs.Prelude.{◌≡◌, option_map, IfOk, OnOk};
 ghost use Rattle.std.specs.Int.{is_negative};
 ghost use Rattle.std.specs.Int.RustNames.{unsigned_abs};
 ghost use Rattle.link_show.specs.Sink.{Gains};
-ghost use Rattle.link_show.specs.Quoted.{quoted};
-ghost use Rattle.link_show.specs.Message.{reply_lines, is_sound, errno_name, result_line, error_number_line, line_of};
+ghost use Rattle.link_show.specs.Message.{reply_lines, is_sound, errno_name, result_line, error_number_line};
 
 use crate::errno::ERRNOS;
-use crate::flags::name_of;
-use crate::links::write_header_fault;
+use crate::links::{write_header_fault, write_number_line, write_quoted_line};
 use crate::pieces::{Piece, put_pieces};
-use crate::quoted::write_quoted;
 use crate::sink::Sink;
+use link_base::rows::label::{Quantity, name_of};
 use link_messages::Acknowledgement;
 
 /// Writes the lines of an NLMSG_ERROR, below its first line: `ack`, or the error by its name and number; and what the
@@ -31,9 +27,9 @@ pub fn write_acknowledgement<W: Sink>(
         × (well ≡ is_sound reply.now.fault)) }
 {
     write_result(writer, reply)?;
-    write_message(writer, reply.text)?;
-    write_number(writer, "offset", reply.offset)?;
-    write_number(writer, "missing type", reply.missing_type)?;
+    write_quoted_line(writer, "message", reply.text)?;
+    write_number_line(writer, "offset", Quantity::Number, reply.offset)?;
+    write_number_line(writer, "missing type", Quantity::Number, reply.missing_type)?;
     write_header_fault(writer, reply.fault)
 }
 
@@ -102,40 +98,5 @@ fn write_errno<W: Sink>(
                 Piece::Text(")\n"),
             ],
         ),
-    }
-}
-
-/// Writes the kernel's text, if there is one.
-fn write_message<W: Sink>(writer: &mut W, text: Option<&[u8]>) -> Result<(), W::Error>
-    ensures { OnOk result (Gains (W.output writer.old) (W.output writer.new)
-        (line_of (codes "message") quoted (option_copied text.entry))) }
-{
-    match text {
-        Some(text) => {
-            writer.put(b"  message ")?;
-            write_quoted(writer, text)?;
-            writer.put(b"\n")
-        }
-        None => Ok(()),
-    }
-}
-
-/// Writes a number after its name, if there is one.
-fn write_number<W: Sink>(writer: &mut W, name: &str, number: Option<u32>) -> Result<(), W::Error>
-    ensures { OnOk result (Gains (W.output writer.old) (W.output writer.new)
-        (line_of name.now decimal number)) }
-{
-    match number {
-        Some(number) => put_pieces(
-            writer,
-            &[
-                Piece::Text("  "),
-                Piece::Text(name),
-                Piece::Text(" "),
-                Piece::Number(number as u64),
-                Piece::Text("\n"),
-            ],
-        ),
-        None => Ok(()),
     }
 }

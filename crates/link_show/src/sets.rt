@@ -4,7 +4,7 @@ ghost use Rattle.std.specs.Prelude.{◌≡◌};
 ghost use Rattle.link_base.specs.Borrowed.{elements_at};
 
 use link_base::Attribute;
-use link_base::attribute_set::{AttributeSet, CheckedSet, ElementSet, Set};
+use link_base::views::attribute_set::{AttributeSet, CheckedSet, ElementSet, Set};
 use netlink_packet_route::{FamilyElements, FamilySet};
 
 /// A set of attributes, with those in its nested lists.

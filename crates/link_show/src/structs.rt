@@ -1,93 +1,160 @@
 //! Structs, by the kernel's names of their fields.
 
-ghost use Rattle.std.specs.Prelude.{◌≡◌, ℕ, List, map, OnOk};
+ghost use Rattle.std.specs.Prelude.{◌≡◌, true, length, OnOk};
 ghost use Rattle.link_show.specs.Sink.{Gains};
-ghost use Rattle.link_show.specs.Flags.{flags_text};
-ghost use Rattle.link_show.specs.Value.{masked_text, four_bytes};
+ghost use Rattle.link_show.specs.Structs.{size_of, has_field, has_fields, part_text, field_text, fields_text, struct_text, bridge_id_text};
+ghost use Rattle.link_show.specs.Structs.{masked_text, pair_text, limits_text, four_bytes};
+ghost use Rattle.link_base.specs.Fields.{field_told, fields_in};
 ghost use Rattle.link_base.specs.Labels.{names_in};
-ghost use Rattle.link_show.specs.Structs.{struct_text, field, number_field, number_fields};
 
 use crate::flags::write_flags;
-use crate::octets::{write_address, write_byte, write_hex};
+use crate::numbers::{number_of, write_number};
+use crate::octets::{write_address, write_hex};
 use crate::pieces::{Piece, put_pieces};
+use crate::quoted::{write_name, write_quoted};
 use crate::sink::Sink;
-use bitflags::Flags;
-use link_base::PayloadStruct;
-use link_base::flag_laws::FlagSet;
-use link_base::label::Name;
-use link_bridge::{
-    BridgeBooleanOptionFlags, BridgeBooleanOptions, BridgeId, BridgeVlanInfo, BridgeVlanInfoFlags,
-};
-use link_vlan_can::{CanBerrCounter, CanBitTiming, CanClock, CanCtrlMode, CanCtrlModeFlags};
+use link_base::emit_u32_pair;
+use link_base::rows::fields::{Field, Part};
+use link_base::rows::form::{Form, Layout, Width};
+use link_base::rows::label::Name;
 
-/// A struct whose fields have a text.
-pub trait StructText: PayloadStruct {
-    /// The text of a value.
-    ghost text: { Self → List ℕ };
-
-    /// Writes the fields, each with its name in the kernel's headers.
-    ///
-    /// # Errors
-    ///
-    /// That of the writer.
-    fn write_text<W: Sink>(&self, writer: &mut W) -> Result<(), W::Error>
-        ensures { OnOk result (Gains (W.output writer.old) (W.output writer.new) (text self.now)) };
-}
-
-/// Writes the struct in a payload, or, if the length of the payload is not accepted, its bytes.
-#[tactic(auto, unfolding(crate::specs::Structs::struct_text))]
-pub(crate) fn write_struct<S: StructText, W: Sink>(
+/// Writes the struct that `bytes` start with: each field after its name in the kernel's headers, such as
+/// `txerr 1 rxerr 2`; a bridge identifier as `8000.02:00:00:00:00:01`. `names` are those of the bits of its flags. Writes
+/// the bytes in hexadecimal if there are too few, or if the fields are not known.
+///
+/// # Errors
+///
+/// That of the writer.
+pub fn write_struct<W: Sink>(
     writer: &mut W,
-    payload: &[u8],
+    layout: Layout,
+    names: &[Name],
+    bytes: &[u8],
 ) -> Result<(), W::Error>
     ensures { OnOk result (Gains (W.output writer.old) (W.output writer.new)
-        (struct_text S.extent S.value_of S.text payload.now)) }
+        (struct_text layout (names_in names.now) bytes.now)) }
 {
-    match S::parse_payload(payload) {
-        Ok(value) => value.write_text(writer),
-        Err(_) => write_hex(writer, payload),
+    match layout {
+        Layout::BridgeId => write_bridge_id(writer, bytes),
+        Layout::Other(_) => write_hex(writer, bytes),
+        _ => write_fields(writer, Form::Struct(layout).fields(), 0, names, bytes),
     }
 }
 
-/// A field that is a number: its name, and the number.
-#[derive(Clone, Copy)]
-pub(crate) struct NumberField(pub(crate) &'static str, pub(crate) u32);
-
-/// Writes fields that are numbers, each after its name.
-#[tactic(auto, unfolding(crate::specs::Structs::number_fields))]
-pub(crate) fn write_numbers<W: Sink>(writer: &mut W, fields: &[NumberField]) -> Result<(), W::Error>
-    ensures { OnOk result (Gains (W.output writer.old) (W.output writer.new)
-        (number_fields (map number_field fields.now))) }
+/// Writes the priority of a bridge identifier as four hexadecimal digits, and its address.
+#[tactic(auto, unfolding(crate::specs::Structs::bridge_id_text))]
+fn write_bridge_id<W: Sink>(writer: &mut W, bytes: &[u8]) -> Result<(), W::Error>
+    ensures { OnOk result (Gains (W.output writer.old) (W.output writer.new) (bridge_id_text bytes.now)) }
 {
+    if bytes.len() < 8 {
+        return write_hex(writer, bytes);
+    }
+    write_hex(writer, &bytes[..2])?;
+    writer.put(b".")?;
+    write_address(writer, &bytes[2..8])
+}
+
+/// Writes fields of a struct. `bytes` are those of the struct from offset `start` on. If a field is not within them, they
+/// are written in hexadecimal.
+#[tactic(auto, unfolding(crate::specs::Structs::fields_text))]
+fn write_fields<W: Sink>(
+    writer: &mut W,
+    fields: &[Field],
+    start: usize,
+    names: &[Name],
+    bytes: &[u8],
+) -> Result<(), W::Error>
+    ensures { OnOk result (Gains (W.output writer.old) (W.output writer.new)
+        (fields_text (fields_in fields.now) start (names_in names.now) bytes.now)) }
+{
+    if !has_fields(fields, start, bytes) {
+        return write_hex(writer, bytes);
+    }
     let mut separator = b"".as_slice();
     for field in fields {
-        let NumberField(name, number) = *field;
         writer.put(separator)?;
-        put_pieces(
-            writer,
-            &[
-                Piece::Text(name),
-                Piece::Text(" "),
-                Piece::Number(number as u64),
-            ],
-        )?;
+        write_field(writer, field, start, names, bytes)?;
         separator = b" ".as_slice();
     }
     Ok(())
 }
 
-/// Writes a field that is a set of flags, after its name.
-fn write_flags_field<F: FlagSet, W: Sink>(
-    writer: &mut W,
-    name: &str,
-    width: usize,
-    bits: u64,
-) -> Result<(), W::Error>
-    ensures { OnOk result (Gains (W.output writer.old) (W.output writer.new)
-        (field name.now (flags_text F.bit_names width bits))) }
+/// Checks whether all fields are within the bytes of a struct from offset `start` on.
+fn has_fields(fields: &[Field], start: usize, bytes: &[u8]) -> bool
+    ensures { result ≡ has_fields (fields_in fields.now) start bytes.now }
 {
+    for field in fields {
+        if !has_field(field, start, bytes) {
+            return false;
+        }
+    }
+    true
+}
+
+/// Checks whether a field is within the bytes of a struct from offset `start` on.
+fn has_field(field: &Field, start: usize, bytes: &[u8]) -> bool
+    ensures { result ≡ has_field start bytes.now (field_told field.now) }
+{
+    let size = size_of(field.part);
+    size <= bytes.len() && field.offset.saturating_sub(start) <= bytes.len() - size
+}
+
+/// Returns the length of a field.
+fn size_of(part: Part) -> usize
+    ensures { result ≡ size_of part }
+{
+    match part {
+        Part::Number { width, .. } | Part::BigEndian { width } | Part::Flags { width } => {
+            width.size()
+        }
+        Part::Mac => 6,
+        Part::Name { size } => size,
+    }
+}
+
+/// Writes a field after its name.
+fn write_field<W: Sink>(
+    writer: &mut W,
+    field: &Field,
+    start: usize,
+    names: &[Name],
+    bytes: &[u8],
+) -> Result<(), W::Error>
+    requires { has_field start bytes.now (field_told field.now) ≡ true }
+    ensures { OnOk result (Gains (W.output writer.old) (W.output writer.new)
+        (field_text start (names_in names.now) bytes.now (field_told field.now))) }
+{
+    let name = field.name;
+    let at = field.offset.saturating_sub(start);
     put_pieces(writer, &[Piece::Text(name), Piece::Text(" ")])?;
-    write_flags(writer, F::names(), width, bits)
+    write_part(
+        writer,
+        field.part,
+        names,
+        &bytes[at..at + size_of(field.part)],
+    )
+}
+
+/// Writes what a field with these bytes holds.
+fn write_part<W: Sink>(
+    writer: &mut W,
+    part: Part,
+    names: &[Name],
+    bytes: &[u8],
+) -> Result<(), W::Error>
+    requires { length bytes.now ≡ size_of part }
+    ensures { OnOk result (Gains (W.output writer.old) (W.output writer.new)
+        (part_text (names_in names.now) part bytes.now)) }
+{
+    match part {
+        Part::Number { width, quantity } => {
+            write_number(writer, quantity, number_of(width, bytes))
+        }
+        Part::BigEndian { .. } => write_hex(writer, bytes),
+        Part::Flags { width } => write_flags(writer, names, width, number_of(width, bytes)),
+        Part::Mac => write_address(writer, bytes),
+        Part::Name { .. } => write_name(writer, bytes),
+    }
 }
 
 /// Writes a set of flags, and which of them count.
@@ -101,124 +168,30 @@ pub(crate) fn write_masked<W: Sink>(
         (masked_text (names_in names.now) (four_bytes flags) (four_bytes mask))) }
 {
     writer.put(b"flags ")?;
-    write_flags(writer, names, 4, flags.into())?;
+    write_flags(writer, names, Width::Four, flags.into())?;
     writer.put(b" mask ")?;
-    write_flags(writer, names, 4, mask.into())
+    write_flags(writer, names, Width::Four, mask.into())
 }
 
-/// The priority as four hexadecimal digits, and the address, such as `8000.02:00:00:00:00:01`.
-impl StructText for BridgeId {
-    ghost use Rattle.link_show.specs.Structs.{bridge_id_text};
-
-    ghost text = { bridge_id_text };
-
-    fn write_text<W: Sink>(&self, writer: &mut W) -> Result<(), W::Error> {
-        let [high, low] = self.priority.to_be_bytes();
-        write_byte(writer, high)?;
-        write_byte(writer, low)?;
-        writer.put(b".")?;
-        write_address(writer, &self.address)
-    }
+/// Writes two consecutive numbers.
+pub(crate) fn write_pair<W: Sink>(writer: &mut W, from: u32, to: u32) -> Result<(), W::Error>
+    ensures { OnOk result (Gains (W.output writer.old) (W.output writer.new) (pair_text from to)) }
+{
+    let mut bytes = [0; 8];
+    emit_u32_pair(&mut bytes, from, to);
+    write_fields(writer, Form::Pair.fields(), 0, &[], &bytes)
 }
 
-/// Such as `vid 10 flags PVID|UNTAGGED`.
-impl StructText for BridgeVlanInfo {
-    ghost use Rattle.link_show.specs.Structs.{vlan_info_text};
-
-    ghost text = { vlan_info_text };
-
-    fn write_text<W: Sink>(&self, writer: &mut W) -> Result<(), W::Error> {
-        let vid = self.vid;
-        put_pieces(
-            writer,
-            &[
-                Piece::Text("vid "),
-                Piece::Number(vid as u64),
-                Piece::Text(" "),
-            ],
-        )?;
-        write_flags_field::<BridgeVlanInfoFlags, W>(writer, "flags", 2, self.flags.bits().into())
-    }
-}
-
-/// Such as `value NO_LL_LEARN mask NO_LL_LEARN|MST_ENABLE`.
-impl StructText for BridgeBooleanOptions {
-    ghost use Rattle.link_show.specs.Structs.{options_text};
-
-    ghost text = { options_text };
-
-    fn write_text<W: Sink>(&self, writer: &mut W) -> Result<(), W::Error> {
-        write_flags_field::<BridgeBooleanOptionFlags, W>(
-            writer,
-            "value",
-            4,
-            self.value.bits().into(),
-        )?;
-        writer.put(b" ")?;
-        write_flags_field::<BridgeBooleanOptionFlags, W>(writer, "mask", 4, self.mask.bits().into())
-    }
-}
-
-/// Such as `mask LOOPBACK|FD flags FD`.
-impl StructText for CanCtrlMode {
-    ghost use Rattle.link_show.specs.Structs.{ctrl_mode_text};
-
-    ghost text = { ctrl_mode_text };
-
-    fn write_text<W: Sink>(&self, writer: &mut W) -> Result<(), W::Error> {
-        write_flags_field::<CanCtrlModeFlags, W>(writer, "mask", 4, self.mask.bits().into())?;
-        writer.put(b" ")?;
-        write_flags_field::<CanCtrlModeFlags, W>(writer, "flags", 4, self.flags.bits().into())
-    }
-}
-
-/// Such as `bitrate 250000 sample_point 875 tq 250 prop_seg 6 phase_seg1 7 phase_seg2 2 sjw 1 brp 2`.
-impl StructText for CanBitTiming {
-    ghost use Rattle.link_show.specs.Structs.{bit_timing_text};
-
-    ghost text = { bit_timing_text };
-
-    fn write_text<W: Sink>(&self, writer: &mut W) -> Result<(), W::Error> {
-        write_numbers(
-            writer,
-            &[
-                NumberField("bitrate", self.bitrate),
-                NumberField("sample_point", self.sample_point),
-                NumberField("tq", self.tq),
-                NumberField("prop_seg", self.prop_seg),
-                NumberField("phase_seg1", self.phase_seg1),
-                NumberField("phase_seg2", self.phase_seg2),
-                NumberField("sjw", self.sjw),
-                NumberField("brp", self.brp),
-            ],
-        )
-    }
-}
-
-/// Such as `freq 8000000`.
-impl StructText for CanClock {
-    ghost use Rattle.link_show.specs.Structs.{clock_text};
-
-    ghost text = { clock_text };
-
-    fn write_text<W: Sink>(&self, writer: &mut W) -> Result<(), W::Error> {
-        write_numbers(writer, &[NumberField("freq", self.freq)])
-    }
-}
-
-/// Such as `txerr 1 rxerr 2`.
-impl StructText for CanBerrCounter {
-    ghost use Rattle.link_show.specs.Structs.{berr_counter_text};
-
-    ghost text = { berr_counter_text };
-
-    fn write_text<W: Sink>(&self, writer: &mut W) -> Result<(), W::Error> {
-        write_numbers(
-            writer,
-            &[
-                NumberField("txerr", self.txerr.into()),
-                NumberField("rxerr", self.rxerr.into()),
-            ],
-        )
-    }
+/// Writes the limits of a CAN controller: its name, and the numbers, whose bytes are behind those of the name.
+pub(crate) fn write_limits<W: Sink>(
+    writer: &mut W,
+    name: &[u8],
+    numbers: &[u8],
+) -> Result<(), W::Error>
+    ensures { OnOk result (Gains (W.output writer.old) (W.output writer.new) (limits_text name.now numbers.now)) }
+{
+    writer.put(b"name ")?;
+    write_quoted(writer, name)?;
+    writer.put(b" ")?;
+    write_fields(writer, &Form::Limits.fields()[1..], 16, &[], numbers)
 }

@@ -1,49 +1,45 @@
 -- What is read of the elements that entries spell.
-use Rattle.std.proofs.Common.{◌≡◌, inl, inr, ℕ, ◌+◌, ◌-◌, ◌*◌, ◌/◌, ◌%◌, ◌<◌, ◌≤◌, ◌==◌, ◌&&◌, true, false, cond, min, List, [], ◌∷◌, ◌++◌, length, take, drop, Some, None, Ok, refl, sym, ap, ap₂, subst, ◌∙◌, arith, take_at, drop-drop}
-use Rattle.std.specs.Prelude.{IsTrue}
+use Rattle.std.proofs.Common.{◌≡◌, inl, inr, ℕ, ◌+◌, ◌-◌, ◌*◌, ◌/◌, ◌%◌, ◌<◌, ◌≤◌, ◌==◌, ◌&&◌, Bool, true, false, cond, min, List, [], ◌∷◌, ◌++◌, length, take, drop, Ok, refl, sym, ap, ap₂, subst, ◌∙◌, arith, take_at, drop-drop}
 use Rattle.std.specs.List.{AllZip, AllByRecursion, filter}
 use Rattle.std.proofs.lemmas.Bool.{cases_Bool, eqb-true, eq-eqb}
 use Rattle.std.proofs.lemmas.List.{length-append, length-take, drop_at}
-use Rattle.link_base.specs.declared.buffer.NlaBuffer.{NlaBuffer}
+use Rattle.link_base.specs.declared.wire.buffer.NlaBuffer.{NlaBuffer}
+use Rattle.link_base.specs.declared.rows.form.Width.{Width}
 use Rattle.link_base.specs.Number.{number}
 use Rattle.link_base.specs.Layout.{numbers_at}
+use Rattle.link_base.specs.Forms.{bytes_in}
 use Rattle.link_base.specs.Frame.{kind_of, frame_bytes, pad}
 use Rattle.link_base.specs.Wire.{whole}
-use Rattle.link_base.specs.Table.{Rows, One, Table, class_at, form_at}
-use Rattle.link_base.specs.Lift.{lift_table}
+use Rattle.link_base.specs.Table.{Table}
 use Rattle.link_base.specs.Buffer.{kind_field_of, payload_of as payload_after, frame_of, SplitsFirst}
+use Rattle.link_base.specs.WellFormed.{is_table}
 use Rattle.link_base.proofs.Cuts.{SameFront-frames, IsFrame-complete}
 use Rattle.link_base.proofs.FrameBytes.{length-frame_bytes, length-complete}
-use Rattle.link_base.proofs.Lifted.{lift_option, class_at-lift}
 use Rattle.link_base.proofs.Written.{IsComplete-whole}
 use Rattle.link_messages.specs.Walk.{Item, Walks}
 use Rattle.link_messages.proofs.Walking.{split_short}
 use Rattle.link_flat.specs.declared.entry.Entry.{Entry}
-use Rattle.link_flat.specs.declared.detail.Detail.TheVariants as details
 use Rattle.link_flat.specs.Forms.{form_unsigned, form_ipv4, form_ipv6}
 use Rattle.link_flat.specs.Entry.{blank, padded}
 use Rattle.link_flat.specs.Flat.{indexed, number_entry, number_entries, address_entry, is_address, IsElement}
-use Rattle.link_flat.proofs.OneContent.{value_at, fields_by, filled_by}
 use Rattle.link_flat.proofs.EntryFields.{AreBelow, keeps_filled}
-use Rattle.link_write.specs.declared.fields.Width.{Width}
-use Rattle.link_write.specs.declared.fields.Width.TheVariants as widths
 use Rattle.link_write.specs.declared.fields.Fields.{Fields}
 use Rattle.link_write.specs.declared.fields.Fields.TheVariants as fields
 use Rattle.link_write.specs.declared.misfit.Misfit.TheVariants.{BadElement}
-use Rattle.link_write.specs.Fields.{size_of, any_number, ip_address, row_fields, fields_at, fields_in}
-use Rattle.link_write.specs.Payload.{form_in, has_form, payload_of, field_of}
-use Rattle.link_write.specs.Spelled.{Spelling, alone, before, element_content, element_of, elements_of, begins_well}
-use Rattle.link_write.specs.Agreement.{IsEntry, SameContent, IsSame, element_fields, SameInner}
-use Rattle.link_write.proofs.RowFits.{fits_leaves, look_up_leaf}
+use Rattle.link_write.specs.Fields.{any_number, ip_address, fields_at}
+use Rattle.link_write.specs.Payload.{payload_of, field_of}
+use Rattle.link_write.specs.Spelled.{alone, before, element_content, element_of, elements_of, begins_well}
+use Rattle.link_write.specs.Agreement.{IsEntry, IsSame, element_fields, SameInner}
+use Rattle.link_write.proofs.RowForms.{is_list, with_kind, field_kind, array_width}
 use Rattle.link_write.proofs.Spellings.{frame_low}
 use Rattle.link_write.proofs.BackValues.{StandsAt}
 use Rattle.link_write.proofs.BackArrays.{bytes_of_item, element_right, elements_next}
-use Rattle.link_write.proofs.BackElements.{plain_field, row_kind, with_kind}
 use Rattle.link_write.proofs.Located.{Located, located_in, Suffix, suffix_payload, suffix_rest}
-use Rattle.link_write.proofs.WrittenLists.{before_ok, alone_ok}
+use Rattle.link_write.proofs.WrittenLists.{same_spells, if_held, both_true, form_held, before_ok, alone_ok, framed_ok}
 use Rattle.link_write.proofs.WrittenSizes.{number_size}
-use Rattle.link_write.proofs.WrittenAttributes.{framed_ok}
-use Rattle.link_write.proofs.AgreeClasses.{if_held, both_true, form_held, IsRead, number_read, address_is, address_read, class_read, unknown_held}
+use Rattle.link_write.proofs.WrittenFields.{field_held, field_low}
+use Rattle.link_write.proofs.AgreeClasses.{number_read, address_is, address_read}
+use Rattle.link_write.proofs.AgreeSingles.{same_content, same_of, entry_read, single_read}
 
 -- ---- the first attribute of some bytes
 
@@ -76,12 +72,6 @@ pub not_empty : (f : ℕ) (p t s : List ℕ) → s ≡ frame_bytes (whole f p) +
 not_empty f p t s is none = absurd (omega (arith, ap length is, ap length none, length-append (frame_bytes (whole f p)) t, length-frame_bytes (whole f p)))
 
 -- ---- elements, one by one
-
-abbrev spells : List ℕ → Spelling
-spells s = Ok s
-
-pub same_spells : (p q : List ℕ) → spells p ≡ Ok q → p ≡ q
-same_spells p q e = cc
 
 -- an element that was written, and others
 pub record Goes (table : Table) (own : Fields) (k i : ℕ) (octets : List ℕ) (e : Entry) (es : List Entry) (s : List ℕ) : Type 0 where
@@ -170,36 +160,27 @@ pub record ElementAs (table : Table) (own : Fields) (k : ℕ) (octets list : Lis
   pub same : IsSame (element_fields table own e) octets e list r
   pub inner : SameInner own e r
 
-pub same_of : (own row : Fields) (octets list : List ℕ) (e r full : Entry) → own ≡ row → r ≡ full → r.kind ≡ e.kind → r.depth ≡ e.depth → has_form own e ≡ true → IsRead row octets e list full → IsSame own octets e list r
-same_of own row octets list e r full looked is kind depth given read = record {
-  kind = kind;
-  depth = depth;
-  form = ap (λ x. x.form) is ∙ read.0 ∙ ap form_in (sym looked);
-  given = given;
-  content = subst (λ o. SameContent o octets e list r) (sym looked) (subst (λ x. SameContent row octets e list x) (sym is) read.1);
-}
-
 -- ---- numbers
 
 module _ (table : Table) (w : Width) (k at : ℕ) (octets list : List ℕ) where
-  numbers_length : (i : ℕ) (es : List Entry) (s : List ℕ) → AreBelow es → AllByRecursion IsEntry es → elements_of table (fields.Numbers w) k octets i es ≡ Ok s → length s ≡ length es * size_of w
+  numbers_length : (i : ℕ) (es : List Entry) (s : List ℕ) → AreBelow es → AllByRecursion IsEntry es → elements_of table (fields.Numbers w) k octets i es ≡ Ok s → length s ≡ length es * bytes_in w
   numbers_length i [] s deep held h = let none = same_spells [] s h in omega (arith, ap length none)
   numbers_length i (e ∷ es) s deep held h =
       let one = goes table (fields.Numbers w) k octets i e es s (ap (λ n. n == 0) deep.0) h in
-      let size = number_size e octets one.here held.0.octets form_unsigned w one.content in
+      let size = number_size e octets one.here held.0.octets form_unsigned w _ one.content in
       let rest = numbers_length (i + 1) es one.others deep.1 held.1 one.later in
       omega (arith, ap length one.is, length-append one.here one.others, size, rest)
 
   numbers_same : (i j o : ℕ) (es : List Entry) (s p : List ℕ) → AreBelow es → AllByRecursion IsEntry es → elements_of table (fields.Numbers w) k octets i es ≡ Ok s → drop o p ≡ s
-      → AllZip (ElementAs table (fields.Numbers w) k octets list) es (indexed (number_entry k at (size_of w)) j (numbers_at (size_of w) (length es) o p))
+      → AllZip (ElementAs table (fields.Numbers w) k octets list) es (indexed (number_entry k at (bytes_in w)) j (numbers_at (bytes_in w) (length es) o p))
   numbers_same i j o [] s p deep held h place = tt
   numbers_same i j o (e ∷ es) s p deep held h place =
       let one = goes table (fields.Numbers w) k octets i e es s (ap (λ n. n == 0) deep.0) h in
       let read = number_read e octets one.here held.0 form_unsigned w one.content in
-      let size = number_size e octets one.here held.0.octets form_unsigned w one.content in
-      let front : take (size_of w) (drop o p) ≡ one.here = ap (take (size_of w)) (place ∙ one.is) ∙ take_at one.here one.others (size_of w) size in
-      let back : drop (o + size_of w) p ≡ one.others = sym (drop-drop (size_of w) o p) ∙ ap (drop (size_of w)) (place ∙ one.is) ∙ drop_at one.here one.others (size_of w) size in
-      let same : IsSame (any_number form_unsigned w) octets e list (number_entry k at (size_of w) j (number (take (size_of w) (drop o p)))) = record {
+      let size = number_size e octets one.here held.0.octets form_unsigned w _ one.content in
+      let front : take (bytes_in w) (drop o p) ≡ one.here = ap (take (bytes_in w)) (place ∙ one.is) ∙ take_at one.here one.others (bytes_in w) size in
+      let back : drop (o + bytes_in w) p ≡ one.others = sym (drop-drop (bytes_in w) o p) ∙ ap (drop (bytes_in w)) (place ∙ one.is) ∙ drop_at one.here one.others (bytes_in w) size in
+      let same : IsSame (any_number form_unsigned w) octets e list (number_entry k at (bytes_in w) j (number (take (bytes_in w) (drop o p)))) = record {
         kind = sym one.kind;
         depth = sym one.deep;
         form = refl;
@@ -212,30 +193,24 @@ module _ (table : Table) (w : Width) (k at : ℕ) (octets list : List ℕ) where
           same = same;
           inner = tt;
         },
-        numbers_same (i + 1) (j + 1) (o + size_of w) es one.others p deep.1 held.1 one.later back,
+        numbers_same (i + 1) (j + 1) (o + bytes_in w) es one.others p deep.1 held.1 one.later back,
       )
 
-module _ (table : Table) (k at : ℕ) (octets list : List ℕ) (es : List Entry) (s : List ℕ) (deep : AreBelow es) (held : AllByRecursion IsEntry es) where
-  pub u16s_same : elements_of table (fields.Numbers widths.Two) k octets 0 es ≡ Ok s → AllZip (ElementAs table (fields.Numbers widths.Two) k octets list) es (number_entries k at 2 s)
-  u16s_same h =
-      let size = numbers_length table widths.Two k at octets list 0 es s deep held h in
-      let count : length es ≡ length s / 2 = omega (arith, size) in
-      subst (λ m. AllZip (ElementAs table (fields.Numbers widths.Two) k octets list) es (indexed (number_entry k at 2) 0 (numbers_at 2 m 0 s))) count
-      (numbers_same table widths.Two k at octets list 0 0 0 es s s deep held h refl)
+count_of : (wide : Bool) (m n : ℕ) → n ≡ m * bytes_in (array_width wide) → m ≡ n / bytes_in (array_width wide)
+count_of true m n h = omega (arith, h)
+count_of false m n h = omega (arith, h)
 
-  pub u32s_same : elements_of table (fields.Numbers widths.Four) k octets 0 es ≡ Ok s → AllZip (ElementAs table (fields.Numbers widths.Four) k octets list) es (number_entries k at 4 s)
-  u32s_same h =
-      let size = numbers_length table widths.Four k at octets list 0 es s deep held h in
-      let count : length es ≡ length s / 4 = omega (arith, size) in
-      subst (λ m. AllZip (ElementAs table (fields.Numbers widths.Four) k octets list) es (indexed (number_entry k at 4) 0 (numbers_at 4 m 0 s))) count
-      (numbers_same table widths.Four k at octets list 0 0 0 es s s deep held h refl)
+pub array_same : (table : Table) (wide : Bool) (k at : ℕ) (octets list : List ℕ) (es : List Entry) (s : List ℕ) → AreBelow es → AllByRecursion IsEntry es → elements_of table (fields.Numbers (array_width wide)) k octets 0 es ≡ Ok s
+    → AllZip (ElementAs table (fields.Numbers (array_width wide)) k octets list) es (number_entries k at (bytes_in (array_width wide)) s)
+array_same table wide k at octets list es s deep held h =
+    let w = array_width wide in
+    let count = count_of wide (length es) (length s) (numbers_length table w k at octets list 0 es s deep held h) in
+    subst (λ m. AllZip (ElementAs table (fields.Numbers w) k octets list) es (indexed (number_entry k at (bytes_in w)) 0 (numbers_at (bytes_in w) m 0 s))) count
+    (numbers_same table w k at octets list 0 0 0 es s s deep held h refl)
 
 -- ---- addresses
 
 module _ (table : Table) (n k at : ℕ) (octets list : List ℕ) (few : n ≤ 16) where
-  abbrev address_at : ℕ → Item → Entry
-  address_at i x = address_entry k i (at + (x.0 + 4)) (bytes_of_item x)
-
   pub addresses_same : (m i j : ℕ) (es : List Entry) (s : List ℕ) (items : List Item) (u : List ℕ) → AreBelow es → AllByRecursion IsEntry es → elements_of table (fields.Addresses n) k octets i es ≡ Ok s
       → Walks m s items u → u ≡ [] → AllZip (ElementAs table (fields.Addresses n) k octets list) es (indexed (λ i x. address_entry k i (at + (x.0 + 4)) (bytes_of_item x)) j (filter (is_address n) items))
   addresses_same m i j [] s [] u deep held h walks last = tt
@@ -271,91 +246,58 @@ module _ (table : Table) (n k at : ℕ) (octets list : List ℕ) (few : n ≤ 16
       subst (λ b. AllZip (ElementAs table (fields.Addresses n) k octets list) (e ∷ es) (indexed (λ i x. address_entry k i (at + (x.0 + 4)) (bytes_of_item x)) j (cond b (x ∷ filter (is_address n) items) (filter (is_address n) items)))) (sym right)
       (this, rest)
 
--- ---- nested lists
+-- ---- nested lists, in which there are no lists
 
-module _ (rows : Rows) (fit : IsTrue (fits_leaves rows)) (flag k : ℕ) (octets list : List ℕ) where
+module _ (table : Table) (formed : is_table table ≡ true) (single : (j : ℕ) → is_list (fields_at table j) ≡ false) (flag k : ℕ) (octets list : List ℕ) where
   abbrev own_of : Entry → Fields
-  own_of e = fields_at (lift_table rows) details.Plain e.inner
+  own_of e = fields_at table e.inner
 
   -- its `nla_type`
-  leaf_low : (e : Entry) (q : List ℕ) → IsEntry e → payload_of (fields_at (lift_table rows) details.Plain e.inner) (with_kind e e.inner) octets ≡ Ok q
-      → (field_of (fields_at (lift_table rows) details.Plain e.inner) e.inner e < 65536) × (kind_of (field_of (fields_at (lift_table rows) details.Plain e.inner) e.inner e) ≡ e.inner)
-  leaf_low e q held h =
-      elim (look_up_leaf rows e.inner fit) [
-        | inl none ↦
-            let looked : own_of e ≡ fields.Unknown = ap (fields_in details.Plain) none.entry in
-            let plain = unknown_held (with_kind e e.inner) octets q (ap (λ o. payload_of o (with_kind e e.inner) octets) (sym looked) ∙ h) in
-            let field : field_of (own_of e) e.inner e ≡ e.inner + e.flags = ap (λ o. field_of o e.inner e) looked in
-            let low = plain.low in
-            let flags = plain.flags in
-            let most = held.flags in
-            (omega (arith, field, low, flags, most), omega (arith, field, low, flags, most))
-        | inr has ↦
-            let field : field_of (own_of e) e.inner e ≡ e.inner = ap (λ o. field_of o e.inner e) has.fields ∙ plain_field details.Plain has.form has.class e.inner e in
-            let low = has.low in
-            (omega (arith, field, low), omega (arith, field, low))
-      ]
+  element_field : (e : Entry) (q : List ℕ) → IsEntry e → payload_of (fields_at table e.inner) (with_kind e e.inner) octets ≡ Ok q
+      → (field_of (fields_at table e.inner) e.inner e < 65536) × (kind_of (field_of (fields_at table e.inner) e.inner e) ≡ e.inner)
+  element_field e q held h =
+      let x : Entry = with_kind e e.inner in
+      subst (λ f. (f < 65536) × (kind_of f ≡ e.inner)) (field_kind (own_of e) e.inner e e.inner)
+      (field_low e.inner e.flags (field_of (own_of e) e.inner x) (field_held table formed x octets q h) held.flags)
 
-  leaf_same : (offset : ℕ) (e r : Entry) (b : NlaBuffer) (q : List ℕ) → IsEntry e → e.depth ≡ 1 → e.kind ≡ k → payload_of (fields_at (lift_table rows) details.Plain e.inner) (with_kind e e.inner) octets ≡ Ok q
-      → kind_field_of b ≡ field_of (fields_at (lift_table rows) details.Plain e.inner) e.inner e → payload_after b ≡ q → length q ≤ 65531 → Located list offset q → IsElement (lift_table rows) k offset b r
-      → ElementAs (lift_table rows) (fields.List flag) k octets list e r
-  leaf_same offset e r b q held deep same_kind payload field bytes short stands element =
-      let table = lift_table rows in
+  element_same : (offset : ℕ) (e r : Entry) (b : NlaBuffer) (q : List ℕ) → IsEntry e → e.depth ≡ 1 → e.kind ≡ k → payload_of (fields_at table e.inner) (with_kind e e.inner) octets ≡ Ok q
+      → kind_field_of b ≡ field_of (fields_at table e.inner) e.inner e → payload_after b ≡ q → length q ≤ 65531 → Located list offset q → IsElement table k offset b r → ElementAs table (fields.List flag) k octets list e r
+  element_same offset e r b q held deep same_kind payload field bytes short stands (content, has, is) =
+      let own = own_of e in
+      let x : Entry = with_kind e e.inner in
       let f = kind_field_of b in
-      let content = element.0 in
-      let kind : kind_of f ≡ e.inner = ap kind_of field ∙ (leaf_low e q held payload).1 in
-      let keeps = keeps_filled details.Plain f content 0 (blank k (kind_of f) 1 offset (length (payload_after b))) in
+      let kind : kind_of f ≡ e.inner = ap kind_of field ∙ (element_field e q held payload).1 in
+      let keeps = keeps_filled f content 0 (blank k (kind_of f) 1 offset (length (payload_after b))) in
       let bare : Entry = blank k e.inner 1 offset (length q) in
       let at : StandsAt bare list q = record { size = refl; within = stands.within; short = short; is = stands.is } in
-      let given = form_held (own_of e) (with_kind e e.inner) octets q payload in
-      let by_form : r ≡ fields_by details.Plain f (form_at table e.inner) (value_at (class_at table e.inner) q) 0 bare =
-      element.2 ∙ filled_by details.Plain f 0 (blank k (kind_of f) 1 offset (length (payload_after b))) (class_at table (kind_of f)) (payload_after b) content element.1.borrows
-      ∙ ap (λ m. fields_by details.Plain f m (value_at (class_at table (kind_of f)) (payload_after b)) 0 (blank k (kind_of f) 1 offset (length (payload_after b)))) element.1.form
-      ∙ (λ i. fields_by details.Plain f (form_at table (kind i)) (value_at (class_at table (kind i)) (bytes i)) 0 (blank k (kind i) 1 offset (length (bytes i)))) in
-      let read : IsSame (own_of e) octets e list r =
-      elim (look_up_leaf rows e.inner fit) [
-        | inl none ↦
-            let looked : own_of e ≡ fields.Unknown = ap (fields_in details.Plain) none.entry in
-            let plain = unknown_held (with_kind e e.inner) octets q (ap (λ o. payload_of o (with_kind e e.inner) octets) (sym looked) ∙ payload) in
-            let full = fields_by details.Plain f None (value_at (class_at table e.inner) q) 0 bare in
-            let is : r ≡ full = by_form ∙ ap (λ m. fields_by details.Plain f m (value_at (class_at table e.inner) q) 0 bare) none.named in
-            let sum : f ≡ e.inner + e.flags = field ∙ ap (λ o. field_of o e.inner e) looked in
-            let flags : f - kind_of f ≡ e.flags = omega (arith, kind, sum) in
-            same_of (own_of e) fields.Unknown octets list e r full looked is (ap (λ x. x.kind) element.2 ∙ keeps.kind ∙ sym same_kind) (ap (λ x. x.depth) element.2 ∙ keeps.depth ∙ sym deep) given
-            (refl, (flags, stands.is ∙ plain.is))
-        | inr has ↦
-            let c = has.class in
-            let row = row_fields details.Plain has.form (One c) 0 in
-            let right : payload_of row e octets ≡ Ok q = sym (row_kind has.form c e.inner e octets) ∙ ap (λ o. payload_of o (with_kind e e.inner) octets) (sym has.fields) ∙ payload in
-            let shape : class_at table e.inner ≡ Some (One c) = class_at-lift rows e.inner ∙ ap lift_option has.is in
-            let full = fields_by details.Plain f (Some has.form) (value_at (Some (One c)) q) 0 bare in
-            let is : r ≡ full = by_form ∙ ap₂ (λ m o. fields_by details.Plain f m (value_at o q) 0 bare) has.named shape in
-            same_of (own_of e) row octets list e r full has.fields is (ap (λ x. x.kind) element.2 ∙ keeps.kind ∙ sym same_kind) (ap (λ x. x.depth) element.2 ∙ keeps.depth ∙ sym deep) given
-            (class_read e octets q held f 0 list bare at details.Plain has.form c has.fits has.single right)
-      ] in
+      let entry = is ∙ entry_read table b content has 0 (λ j m. blank k j 1 offset m) e.inner q kind bytes in
+      let whole_entry : IsEntry x = record { flags = held.flags; second = held.second; number = held.number; octets = held.octets } in
+      let read = single_read table formed x octets q whole_entry payload f 0 list bare at (field ∙ sym (field_kind own e.inner e e.inner)) kind (single e.inner) in
       record {
         deep = deep;
         kind = same_kind;
-        same = read;
-        inner = ap (λ x. x.inner) element.2 ∙ keeps.inner ∙ kind;
+        same =
+            same_of own octets list e r _ entry (ap (λ y. y.kind) is ∙ keeps.kind ∙ sym same_kind) (ap (λ y. y.depth) is ∙ keeps.depth ∙ sym deep) (form_held own x octets q payload)
+            (read.0, same_content own e e.inner octets list _ read.1);
+        inner = ap (λ y. y.inner) is ∙ keeps.inner ∙ kind;
       }
 
   pub nested_same : (at : ℕ) (p : List ℕ) → length p ≤ 65531 → Located list at p → (i : ℕ) (es : List Entry) (s : List ℕ) (items : List Item) (t : List ℕ) (rs : List Entry) → AreBelow es → AllByRecursion IsEntry es
-      → elements_of (lift_table rows) (fields.List flag) k octets i es ≡ Ok s → Walks (length p) s items t → t ≡ [] → Suffix p s → AllZip (λ x r. IsElement (lift_table rows) k (at + (x.0 + 4)) x.1 r) items rs
-      → AllZip (ElementAs (lift_table rows) (fields.List flag) k octets list) es rs
+      → elements_of table (fields.List flag) k octets i es ≡ Ok s → Walks (length p) s items t → t ≡ [] → Suffix p s → AllZip (λ x r. IsElement table k (at + (x.0 + 4)) x.1 r) items rs
+      → AllZip (ElementAs table (fields.List flag) k octets list) es rs
   nested_same at p few here i [] s [] t [] deep held h walks last suffix each = tt
   nested_same at p few here i [] s [] t (r ∷ rs) deep held h walks last suffix each = absurd each
   nested_same at p few here i [] s (x ∷ items) t rs deep held h walks last suffix each = absurd (no_first s x.1 walks.1.0 (sym (same_spells [] s h)) walks.1.1)
   nested_same at p few here i (e ∷ es) s [] t rs deep held h walks last suffix each =
-      let one = goes (lift_table rows) (fields.List flag) k octets i e es s (ap (λ n. n == 0) deep.0) h in
+      let one = goes table (fields.List flag) k octets i e es s (ap (λ n. n == 0) deep.0) h in
       let (q, payload, text) = framed_ok (field_of (own_of e) e.inner e) (payload_of (own_of e) (with_kind e e.inner) octets) one.here one.content in
       absurd (not_empty (field_of (own_of e) e.inner e) q one.others s (one.is ∙ ap (λ t. t ++ one.others) text) (walks ∙ last))
   nested_same at p few here i (e ∷ es) s (x ∷ items) t [] deep held h walks last suffix each = absurd each
   nested_same at p few here i (e ∷ es) s (x ∷ items) t (r ∷ rs) deep held h walks last suffix each =
-      let one = goes (lift_table rows) (fields.List flag) k octets i e es s (ap (λ n. n == 0) deep.0) h in
+      let one = goes table (fields.List flag) k octets i e es s (ap (λ n. n == 0) deep.0) h in
       let (q, payload, text) = framed_ok (field_of (own_of e) e.inner e) (payload_of (own_of e) (with_kind e e.inner) octets) one.here one.content in
       let f = field_of (own_of e) e.inner e in
-      let low = (leaf_low e q held.0 payload).0 in
+      let low = (element_field e q held.0 payload).0 in
       let small = suffix.low in
       let short : length q ≤ 65531 = omega (arith, few, small, ap length one.is, length-append one.here one.others, ap length text, length-frame_bytes (whole f q)) in
       let u = walks.1.0 in
@@ -364,7 +306,7 @@ module _ (rows : Rows) (fit : IsTrue (fits_leaves rows)) (flag k : ℕ) (octets 
       let place : x.0 + 4 ≡ length p - length s + 4 = ap (λ n. n + 4) walks.0 in
       let inside : Located p (x.0 + 4) (payload_after x.1) = subst (λ n. Located p n (payload_after x.1)) (sym place) (suffix_payload p s x.1 u suffix split) in
       let stands : Located list (at + (x.0 + 4)) q = subst (λ b. Located list (at + (x.0 + 4)) b) first.payload (located_in list p (payload_after x.1) at (x.0 + 4) here inside) in
-      let this = leaf_same (at + (x.0 + 4)) e r x.1 q held.0 one.deep one.kind payload first.field first.payload short stands each.0 in (
+      let this = element_same (at + (x.0 + 4)) e r x.1 q held.0 one.deep one.kind payload first.field first.payload short stands each.0 in (
         this,
         nested_same at p few here (i + 1) es one.others items t rs deep.1 held.1 one.later (subst (λ y. Walks (length p) y items t) first.rest walks.1.2) last (subst (λ y. Suffix p y) first.rest (suffix_rest p s x.1 u suffix split)) each.1,
       )

@@ -1,8 +1,10 @@
 -- Elements that were read spell what a rewriting writes: numbers and addresses.
-use Rattle.std.proofs.Common.{◌≡◌, ℕ, zero, suc, ◌+◌, ◌*◌, ◌/◌, ◌%◌, ◌<◌, ◌≤◌, ◌==◌, ◌&&◌, true, false, cond, List, [], ◌∷◌, ◌++◌, length, drop, map, inl, inr, Ok, Err, refl, sym, ap, ap₂, subst, ◌∙◌, arith, drop-drop}
+use Rattle.std.proofs.Common.{◌≡◌, ℕ, zero, suc, ◌+◌, ◌*◌, ◌/◌, ◌%◌, ◌<◌, ◌≤◌, ◌==◌, ◌&&◌, Bool, true, false, cond, List, [], ◌∷◌, ◌++◌, length, drop, map, inl, inr, Ok, Err, refl, sym, ap, ap₂, subst, ◌∙◌, arith, drop-drop}
 use Rattle.std.specs.List.{AllZip, AllByRecursion, filter}
 use Rattle.std.proofs.lemmas.Bool.{cases_Bool, eqb-true, eq-eqb}
 use Rattle.std.proofs.lemmas.List.{nil_from_length, length-drop, take-append-drop}
+use Rattle.link_base.specs.declared.rows.form.Width.{Width}
+use Rattle.link_base.specs.Forms.{bytes_in}
 use Rattle.link_base.specs.Number.{IsBytes, bytes_of, bound}
 use Rattle.link_base.specs.Layout.{numbers_at, numbers_of, octets_of}
 use Rattle.link_base.specs.Frame.{Frame, Frames, frame_bytes, spelled}
@@ -11,20 +13,19 @@ use Rattle.link_base.specs.Table.{Table, addresses_from}
 use Rattle.link_base.specs.Wire.{Reading, FrameGives, Wire}
 use Rattle.link_base.specs.Table.{of_length, PayloadGives}
 use Rattle.link_base.specs.Buffer.{kind_field_of, payload_of as payload_after}
-use Rattle.link_base.proofs.Views.{first_value, split_of, frames_none}
+use Rattle.link_base.proofs.ViewLemmas.{first_value, split_of, frames_none}
 use Rattle.link_base.proofs.Readings.{same_ok}
 use Rattle.link_messages.specs.Walk.{Item, Walks}
 use Rattle.link_flat.specs.declared.entry.Entry.{Entry}
 use Rattle.link_flat.specs.Forms.{form_unsigned, form_ipv4, form_ipv6}
 use Rattle.link_flat.specs.Flat.{indexed, number_entry, number_entries, address_entry, is_address}
-use Rattle.link_write.specs.declared.fields.Width.{Width}
-use Rattle.link_write.specs.declared.fields.Width.TheVariants as widths
 use Rattle.link_write.specs.declared.fields.Fields.{Fields}
 use Rattle.link_write.specs.declared.fields.Fields.TheVariants as fields
 use Rattle.link_write.specs.declared.misfit.Misfit.TheVariants.{BadElement}
-use Rattle.link_write.specs.Fields.{size_of, any_number, ip_address}
+use Rattle.link_write.specs.Fields.{any_number, ip_address}
 use Rattle.link_write.specs.Payload.{payload_of}
 use Rattle.link_write.specs.Spelled.{alone, before, framed, element_content, element_of, elements_of, begins_well}
+use Rattle.link_write.proofs.RowForms.{array_width}
 use Rattle.link_write.proofs.BackValues.{number_back, at_back, at_below, address_back}
 
 -- no elements where an attribute begins, or nothing
@@ -47,14 +48,14 @@ elements_next table own k i e es octets s t deep here others =
 -- ---- numbers
 
 module _ (table : Table) (w : Width) (k at : ℕ) (octets : List ℕ) (rest : List Entry) (end : begins_well rest ≡ true) where
-  numbers_spelled : (i j : ℕ) (xs : List ℕ) → AllByRecursion (λ x. x < bound (size_of w)) xs
-      → elements_of table (fields.Numbers w) k octets i (indexed (number_entry k at (size_of w)) j xs ++ rest) ≡ Ok (octets_of (size_of w) xs)
+  numbers_spelled : (i j : ℕ) (xs : List ℕ) → AllByRecursion (λ x. x < bound (bytes_in w)) xs
+      → elements_of table (fields.Numbers w) k octets i (indexed (number_entry k at (bytes_in w)) j xs ++ rest) ≡ Ok (octets_of (bytes_in w) xs)
   numbers_spelled i j [] h = elements_end table (fields.Numbers w) k octets i rest end
   numbers_spelled i j (x ∷ xs) h =
-      let e = number_entry k at (size_of w) j x in
-      let here : payload_of (any_number form_unsigned w) e octets ≡ Ok (bytes_of (size_of w) x) = number_back form_unsigned w e octets refl h.0 in
-      elements_next table (fields.Numbers w) k i e (indexed (number_entry k at (size_of w)) (j + 1) xs ++ rest) octets (bytes_of (size_of w) x) (octets_of (size_of w) xs) refl
-      (element_right table (fields.Numbers w) k i e octets (bytes_of (size_of w) x) refl refl here)
+      let e = number_entry k at (bytes_in w) j x in
+      let here : payload_of (any_number form_unsigned w) e octets ≡ Ok (bytes_of (bytes_in w) x) = number_back form_unsigned w e octets refl h.0 in
+      elements_next table (fields.Numbers w) k i e (indexed (number_entry k at (bytes_in w)) (j + 1) xs ++ rest) octets (bytes_of (bytes_in w) x) (octets_of (bytes_in w) xs) refl
+      (element_right table (fields.Numbers w) k i e octets (bytes_of (bytes_in w) x) refl refl here)
       (numbers_spelled (i + 1) (j + 1) xs h.1)
 
 -- consecutive numbers are in range, and their bytes are the payload
@@ -70,16 +71,19 @@ module _ (width : ℕ) (p : List ℕ) (bytes : IsBytes p) where
       ap₂ (λ a b. a ++ b) (at_back width offset p bytes (omega (arith, h))) (others ∙ sym (drop-drop width offset p)) ∙ take-append-drop width (drop offset p)
 
 -- an array of numbers
-module _ (table : Table) (k at : ℕ) (p octets : List ℕ) (rest : List Entry) (bytes : IsBytes p) (end : begins_well rest ≡ true) where
-  pub u16s_spelled : length p % 2 ≡ 0 → elements_of table (fields.Numbers widths.Two) k octets 0 (number_entries k at 2 p ++ rest) ≡ Ok p
-  u16s_spelled whole_numbers =
-      numbers_spelled table widths.Two k at octets rest end 0 0 (numbers_of 2 p) (numbers_below 2 p bytes (length p / 2) 0 (omega (arith, whole_numbers)))
-      ∙ ap Ok (numbers_bytes 2 p bytes (length p / 2) 0 (omega (arith, whole_numbers)))
+whole_numbers : (wide : Bool) (n : ℕ) → n % bytes_in (array_width wide) ≡ 0 → n / bytes_in (array_width wide) * bytes_in (array_width wide) ≡ n
+whole_numbers true n h = omega (arith, h)
+whole_numbers false n h = omega (arith, h)
 
-  pub u32s_spelled : length p % 4 ≡ 0 → elements_of table (fields.Numbers widths.Four) k octets 0 (number_entries k at 4 p ++ rest) ≡ Ok p
-  u32s_spelled whole_numbers =
-      numbers_spelled table widths.Four k at octets rest end 0 0 (numbers_of 4 p) (numbers_below 4 p bytes (length p / 4) 0 (omega (arith, whole_numbers)))
-      ∙ ap Ok (numbers_bytes 4 p bytes (length p / 4) 0 (omega (arith, whole_numbers)))
+pub array_spelled : (table : Table) (wide : Bool) (k at : ℕ) (p octets : List ℕ) (rest : List Entry) → IsBytes p → begins_well rest ≡ true → length p % bytes_in (array_width wide) ≡ 0
+    → elements_of table (fields.Numbers (array_width wide)) k octets 0 (number_entries k at (bytes_in (array_width wide)) p ++ rest) ≡ Ok p
+array_spelled table wide k at p octets rest bytes end even =
+    let w = array_width wide in
+    let width = bytes_in w in
+    let count = length p / width in
+    let all : 0 + count * width ≡ length p = omega (arith, whole_numbers wide (length p) even) in
+    numbers_spelled table w k at octets rest end 0 0 (numbers_of width p) (numbers_below width p bytes count 0 (omega (arith, all)))
+    ∙ ap Ok (numbers_bytes width p bytes count 0 all)
 
 -- ---- addresses
 

@@ -1,28 +1,24 @@
 -- An entry that was read spells what a rewriting writes: payloads of one class.
-use Rattle.std.proofs.Common.{◌≡◌, inl, inr, ℕ, suc, ◌+◌, ◌-◌, ◌*◌, ◌/◌, ◌%◌, ◌<◌, ◌≤◌, ◌==◌, ◌&&◌, ◌||◌, Bool, true, false, cond, pos, negsuc, List, [], ◌∷◌, ◌++◌, length, take, drop, reverse, replicate, Ok, Err, refl, sym, ap, ap₂, subst, ◌∙◌, arith, take_all, take_at, take-take}
-use Rattle.std.specs.Prelude.{IsTrue, nat_le, nat_lt, slice_index}
+use Rattle.std.proofs.Common.{◌≡◌, inl, inr, ℕ, suc, ◌+◌, ◌-◌, ◌*◌, ◌/◌, ◌%◌, ◌<◌, ◌≤◌, ◌==◌, ◌&&◌, ◌||◌, Bool, true, false, cond, pos, negsuc, List, [], ◌∷◌, ◌++◌, length, take, drop, reverse, replicate, Option, Ok, Err, sym, ap, ap₂, subst, ◌∙◌, arith, take_all, take_at, take-take}
+use Rattle.std.specs.Prelude.{nat_le, nat_lt, slice_index}
 use Rattle.std.specs.Int.{w32, w64, cast_signed, cast_unsigned}
 use mir.Val.{sel}
-use Rattle.std.proofs.lemmas.Bool.{cases_lt, eqb-true, eq-eqb, le-leb, lt-ltb, le-ltb}
+use Rattle.std.proofs.lemmas.Bool.{cases_lt, eq-eqb, le-leb, lt-ltb, le-ltb}
 use Rattle.std.proofs.lemmas.List.{length-take, length-drop, take-append-drop}
+use Rattle.link_base.specs.declared.rows.form.Width.{Width}
+use Rattle.link_base.specs.Forms.{bytes_in}
 use Rattle.link_base.specs.Number.{IsBytes, number, bytes_of, bound}
 use Rattle.link_base.specs.Layout.{number_at}
-use Rattle.link_base.specs.Class as classes
-use Rattle.link_base.specs.Class.{Class, Exactly, AtLeast, Fixed, Multiple, extent, length_cause, meant, written, is_listed, ether_type, size_of as kept_of}
-use Rattle.link_base.specs.Table.{One}
 use Rattle.link_base.proofs.Numbers.{number_below, bytes_of-number}
 use Rattle.link_base.proofs.Values.{bytes-take, bytes-drop}
 use Rattle.link_flat.specs.declared.entry.Entry.{Entry}
 use Rattle.link_flat.specs.Entry.{padded}
-use Rattle.link_write.specs.declared.fields.Width.{Width}
-use Rattle.link_write.specs.declared.fields.Width.TheVariants as widths
 use Rattle.link_write.specs.declared.fields.Fields.{Fields}
 use Rattle.link_write.specs.declared.fields.Fields.TheVariants as fields
 use Rattle.link_write.specs.declared.misfit.Misfit.{Misfit}
 use Rattle.link_write.specs.declared.misfit.Misfit.TheVariants.{TooLong, BadForm, BadNumber, BadOctets}
-use Rattle.link_write.specs.Fields.{size_of, most_of, width_by, any_number}
-use Rattle.link_write.specs.Payload.{form_in, is_implied, is_i32, only_if, passed, passed_exactly, content_of, payload_of, pair_of}
-use Rattle.link_write.proofs.RowFits.{is_width}
+use Rattle.link_write.specs.Fields.{any_number}
+use Rattle.link_write.specs.Payload.{form_in, is_implied, is_i32, only_if, has_size, passed, content_of, payload_of, pair_of}
 
 -- the payload p is at the offset of the entry e in the list
 pub record StandsAt (e : Entry) (list p : List ℕ) : Type 0 where
@@ -42,58 +38,26 @@ ok_if b m p h = ap (λ t. cond t (Ok p) (Err m)) h
 
 -- ---- numbers
 
-pub number_back : (form : ℕ) (w : Width) (e : Entry) (octets : List ℕ) → e.form ≡ form → e.number < bound (size_of w) → payload_of (any_number form w) e octets ≡ Ok (bytes_of (size_of w) e.number)
+pub number_back : (form : ℕ) (w : Width) (e : Entry) (octets : List ℕ) → e.form ≡ form → e.number < bound (bytes_in w) → payload_of (any_number form w) e octets ≡ Ok (bytes_of (bytes_in w) e.number)
 number_back form w e octets same low =
-    right_form (any_number form w) e octets same ∙ ok_if (nat_le e.number (most_of w)) BadNumber (bytes_of (size_of w) e.number) (le-leb e.number (most_of w) (omega (arith, low)))
+    let most = bound (bytes_in w) - 1 in
+    right_form (any_number form w) e octets same ∙ ok_if (nat_le e.number most) BadNumber (bytes_of (bytes_in w) e.number) (le-leb e.number most (omega (arith, low)))
 
-widths_by : (n : ℕ) (a b c d : Bool) → (a ≡ true → n ≡ 1) → (b ≡ true → n ≡ 2) → (c ≡ true → n ≡ 4) → (d ≡ true → n ≡ 8) → IsTrue (a || (b || (c || d))) → (w : Width) × (n ≡ size_of w)
-widths_by n true b c d one two four eight h = (widths.One, one refl)
-widths_by n false true c d one two four eight h = (widths.Two, two refl)
-widths_by n false false true d one two four eight h = (widths.Four, four refl)
-widths_by n false false false true one two four eight h = (widths.Eight, eight refl)
-widths_by n false false false false one two four eight h = absurd cc
-
-pub width_in : (n : ℕ) → IsTrue (is_width n) → (w : Width) × (n ≡ size_of w)
-width_in n h = widths_by n (n == 1) (n == 2) (n == 4) (n == 8) (eqb-true n 1) (eqb-true n 2) (eqb-true n 4) (eqb-true n 8) h
-
-pub width_unsigned : (w : Width) → width_by (One (classes.Unsigned (size_of w))) ≡ w
-width_unsigned widths.One = refl
-width_unsigned widths.Two = refl
-width_unsigned widths.Four = refl
-width_unsigned widths.Eight = refl
-
-pub width_named : (listed : List ℕ) (w : Width) → width_by (One (classes.Named (size_of w) listed)) ≡ w
-width_named listed widths.One = refl
-width_named listed widths.Two = refl
-width_named listed widths.Four = refl
-width_named listed widths.Eight = refl
-
-pub unsigned_back : (form m : ℕ) (p : List ℕ) (e : Entry) (octets : List ℕ) → IsTrue (is_width m) → IsBytes p → length p ≡ m → e.form ≡ form → e.number ≡ number p
-    → payload_of (any_number form (width_by (One (classes.Unsigned m)))) e octets ≡ Ok (bytes_of m (number p))
-unsigned_back form m p e octets fits bytes size same is =
-    let (w, at) = width_in m fits in
-    let low : number p < bound (size_of w) = subst (λ k. number p < bound k) (size ∙ at) (number_below p bytes) in
-    ap (λ v. payload_of (any_number form v) e octets) (ap (λ k. width_by (One (classes.Unsigned k))) at ∙ width_unsigned w)
-    ∙ number_back form w e octets same (subst (λ x. x < bound (size_of w)) (sym is) low)
-    ∙ ap₂ (λ k x. Ok (bytes_of k x)) (sym at) is
-
-pub named_back : (form m : ℕ) (listed p : List ℕ) (e : Entry) (octets : List ℕ) → IsTrue (is_width m) → IsBytes p → length p ≡ m → e.form ≡ form → e.number ≡ number p
-    → payload_of (any_number form (width_by (One (classes.Named m listed)))) e octets ≡ Ok (bytes_of m (number p))
-named_back form m listed p e octets fits bytes size same is =
-    let (w, at) = width_in m fits in
-    let low : number p < bound (size_of w) = subst (λ k. number p < bound k) (size ∙ at) (number_below p bytes) in
-    ap (λ v. payload_of (any_number form v) e octets) (ap (λ k. width_by (One (classes.Named k listed))) at ∙ width_named listed w)
-    ∙ number_back form w e octets same (subst (λ x. x < bound (size_of w)) (sym is) low)
-    ∙ ap₂ (λ k x. Ok (bytes_of k x)) (sym at) is
+-- the number of a whole payload
+pub whole_number : (form : ℕ) (w : Width) (p : List ℕ) (e : Entry) (octets : List ℕ) → IsBytes p → length p ≡ bytes_in w → e.form ≡ form → e.number ≡ number p
+    → payload_of (any_number form w) e octets ≡ Ok (bytes_of (bytes_in w) (number p))
+whole_number form w p e octets bytes size same is =
+    let low : number p < bound (bytes_in w) = subst (λ n. number p < bound n) size (number_below p bytes) in
+    number_back form w e octets same (subst (λ x. x < bound (bytes_in w)) (sym is) low) ∙ ap (λ x. Ok (bytes_of (bytes_in w) x)) is
 
 -- ---- bytes that were passed in
 
-pub passed_back : (e : Entry) (list p : List ℕ) → StandsAt e list p → passed e list ≡ Ok p
-passed_back e list p at =
+pub passed_back : (size : Option ℕ) (e : Entry) (list p : List ℕ) → StandsAt e list p → has_size size e ≡ true → passed size e list ≡ Ok p
+passed_back size e list p at sized =
     let fit : nat_le (e.offset + e.length) (length list) ≡ true = le-leb (e.offset + e.length) (length list) (omega (arith, at.within, at.size)) in
     let short : nat_le e.length 65531 ≡ true = le-leb e.length 65531 (omega (arith, at.short, at.size)) in
     let cut : take e.length (drop e.offset list) ≡ p = ap (λ n. take n (drop e.offset list)) at.size ∙ at.is in
-    ap (λ b. cond b (only_if (nat_le e.length 65531) TooLong (take e.length (drop e.offset list))) (Err BadOctets)) fit
+    ap₂ (λ a b. cond (a && b) (only_if (nat_le e.length 65531) TooLong (take e.length (drop e.offset list))) (Err BadOctets)) sized fit
     ∙ ap (λ b. cond b (Ok (take e.length (drop e.offset list))) (Err TooLong)) short ∙ ap Ok cut
 
 -- ---- numbers in structs
@@ -139,9 +103,6 @@ pub address_back : (form n : ℕ) (e : Entry) (octets q : List ℕ) → e.form �
 address_back form n e octets q same size len few is =
     right_form (fields.Address form n) e octets same ∙ ok_if (e.length == n) BadOctets (take n e.octets) (eq-eqb e.length n size)
     ∙ ap Ok (ap (take n) is ∙ padded_back q n len few)
-
-pub passed_exactly_back : (n : ℕ) (e : Entry) (list p : List ℕ) → StandsAt e list p → length p ≡ n → passed_exactly n e list ≡ Ok p
-passed_exactly_back n e list p at size = ap (λ b. cond b (passed e list) (Err BadOctets)) (eq-eqb e.length n (at.size ∙ size)) ∙ passed_back e list p at
 
 -- a signed number
 low4 : (x y : ℕ) → y ≡ x + 18446744069414584320 → bytes_of 4 y ≡ bytes_of 4 x

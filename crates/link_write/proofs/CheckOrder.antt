@@ -1,7 +1,7 @@
 -- The errors of entries, in order.
-use Rattle.std.proofs.Common.{◌≡◌, ℕ, ◌+◌, ◌^◌, ◌%◌, ◌≤◌, ◌==◌, ◌&&◌, ◌||◌, Bool, true, false, cond, List, [], ◌++◌, length, take, drop, reverse, Option, Result, Ok, Err, refl, ap, ◌∙◌, arith}
+use Rattle.std.proofs.Common.{◌≡◌, ℕ, ◌^◌, ◌%◌, ◌==◌, ◌&&◌, ◌||◌, Bool, true, false, cond, List, [], ◌++◌, take, drop, reverse, Some, None, Result, Ok, Err, refl, ◌∙◌}
 use Rattle.std.specs.Prelude.{nat_lt, nat_le}
-use Rattle.std.proofs.lemmas.Bool.{eqb-true, le-leb}
+use Rattle.link_base.specs.Forms.{bytes_in}
 use Rattle.link_base.specs.Number.{bytes_of}
 use Rattle.link_base.specs.Frame.{kind_limit, max_payload}
 use Rattle.link_flat.specs.declared.entry.Entry.{Entry}
@@ -9,8 +9,7 @@ use Rattle.link_write.specs.declared.fields.Fields.{Fields}
 use Rattle.link_write.specs.declared.fields.Fields.TheVariants as fields
 use Rattle.link_write.specs.declared.misfit.Misfit.{Misfit}
 use Rattle.link_write.specs.declared.misfit.Misfit.TheVariants.{TooLong, BadForm, BadNumber, BadOctets}
-use Rattle.link_write.specs.Fields.{size_of}
-use Rattle.link_write.specs.Payload.{has_form, only_if, passed, passed_exactly, rewritten, is_i32, pair_of, payload_of}
+use Rattle.link_write.specs.Payload.{has_form, only_if, passed, rewritten, is_i32, pair_of, payload_of}
 use Rattle.link_write.specs.Order.{is_passed, first_of, first_misfit, misfit_in}
 
 -- ---- tests
@@ -47,16 +46,6 @@ of_passed true true false d p = refl
 of_passed true false b d p = refl
 of_passed false a b d p = refl
 
--- or bytes of one length
-of_exactly : (n : ℕ) → n ≤ 65531 → (h : Bool) (e : Entry) (octets : List ℕ) → misfit_in (cond h (passed_exactly n e octets) (Err BadForm)) ≡ first_of h true ((e.length == n) && is_passed e octets) true
-of_exactly n few h e octets = by_test (e.length == n) refl h where
-  by_test : (b : Bool) → (e.length == n) ≡ b → (h : Bool) → misfit_in (cond h (cond b (passed e octets) (Err BadOctets)) (Err BadForm)) ≡ first_of h true (b && is_passed e octets) true
-  by_test true same h =
-      let short : nat_le e.length 65531 ≡ true = le-leb e.length 65531 (omega (arith, eqb-true e.length n same, few)) in
-      of_passed h true (is_passed e octets) (nat_le e.length 65531) (take e.length (drop e.offset octets)) ∙ ap (first_of h true (is_passed e octets)) short
-  by_test false other true = refl
-  by_test false other false = refl
-
 -- what is written in place of bytes has their error
 of_rewritten : (r : Result (List ℕ) Misfit) → misfit_in (rewritten r) ≡ misfit_in r
 of_rewritten (Ok p) = refl
@@ -70,7 +59,7 @@ same_error false r = refl
 
 pub in_order : (own : Fields) (e : Entry) (octets : List ℕ) → misfit_in (payload_of own e octets) ≡ first_misfit own e octets
 in_order fields.Empty e octets = of_form (has_form fields.Empty e) []
-in_order (fields.Number form width most) e octets = of_number (has_form (fields.Number form width most) e) (nat_le e.number most) (bytes_of (size_of width) e.number)
+in_order (fields.Number form width most) e octets = of_number (has_form (fields.Number form width most) e) (nat_le e.number most) (bytes_of (bytes_in width) e.number)
 in_order fields.Signed e octets = of_number (has_form fields.Signed e) (is_i32 e.number) (bytes_of 4 e.number)
 in_order (fields.Shorts form second_first) e octets =
     of_number (has_form (fields.Shorts form second_first) e) (nat_lt e.number (2 ^ 16) && nat_lt e.second (2 ^ 16)) (pair_of second_first (bytes_of 2 e.number) (bytes_of 2 e.second))
@@ -78,11 +67,11 @@ in_order (fields.Words form second_first) e octets = of_number (has_form (fields
 in_order fields.Protocol e octets = of_number (has_form fields.Protocol e) ((e.number == 0x8100) || (e.number == 0x88A8)) (reverse (bytes_of 2 e.number))
 in_order (fields.Address form size) e octets = of_octets (has_form (fields.Address form size) e) (e.length == size) (take size e.octets)
 in_order fields.BridgeId e octets = of_both (has_form fields.BridgeId e) (nat_lt e.number (2 ^ 16)) (e.length == 8) (reverse (bytes_of 2 e.number) ++ take 6 e.octets)
-in_order fields.Bytes e octets = of_passed (has_form fields.Bytes e) true (is_passed e octets) (nat_le e.length max_payload) (take e.length (drop e.offset octets))
-in_order fields.BitTiming e octets = of_exactly 32 (omega arith) (has_form fields.BitTiming e) e octets
-in_order fields.Limits e octets = same_error (has_form fields.Limits e) (passed_exactly 48 e octets) ∙ of_exactly 48 (omega arith) (has_form fields.Limits e) e octets
+in_order (fields.Passed form size) e octets = of_passed (has_form (fields.Passed form size) e) true (is_passed size e octets) (nat_le e.length max_payload) (take e.length (drop e.offset octets))
+in_order fields.Limits e octets =
+    same_error (has_form fields.Limits e) (passed (Some 48) e octets) ∙ of_passed (has_form fields.Limits e) true (is_passed (Some 48) e octets) (nat_le e.length max_payload) (take e.length (drop e.offset octets))
 in_order (fields.Numbers width) e octets = of_form (has_form (fields.Numbers width) e) []
 in_order (fields.Addresses size) e octets = of_form (has_form (fields.Addresses size) e) []
 in_order (fields.List flag) e octets = of_form (has_form (fields.List flag) e) []
 in_order fields.Unknown e octets =
-    of_passed (has_form fields.Unknown e) (nat_lt e.kind kind_limit && (e.flags % kind_limit == 0)) (is_passed e octets) (nat_le e.length max_payload) (take e.length (drop e.offset octets))
+    of_passed (has_form fields.Unknown e) (nat_lt e.kind kind_limit && (e.flags % kind_limit == 0)) (is_passed None e octets) (nat_le e.length max_payload) (take e.length (drop e.offset octets))

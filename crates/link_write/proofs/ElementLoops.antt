@@ -3,8 +3,8 @@ use Rattle.std.proofs.Common.{◌≡◌, ◌≢◌, ℕ, suc, ◌+◌, ◌-◌, 
 use Rattle.std.proofs.lemmas.Bool.{eq-eqb, ne_eqb}
 use Rattle.std.proofs.lemmas.List.{length-drop}
 use Rattle.std.proofs.Math.Seq.{take-length}
+use Rattle.link_base.specs.Table.{Table}
 use Rattle.link_base.specs.Borrowed.{elements_at}
-use Rattle.netlink_packet_route.specs.declared.family.Family.{Family}
 use Rattle.netlink_packet_route.specs.Family.{table_of}
 use Rattle.link_flat.specs.declared.entry.Entry.{Entry}
 use Rattle.link_write.specs.declared.spelling.Elements.{Elements}
@@ -40,23 +40,23 @@ module _ (s : Elements) (i : ℕ) (d : Entry) where
 
 -- ---- attributes
 
-module _ (family : Family) (octets : List ℕ) (es : List Entry) where
+module _ (table : Table) (octets : List ℕ) (es : List Entry) where
   -- the attributes from entry i on
   abbrev pub entries_from : ℕ → Spelling
-  entries_from i = entries_of family octets (drop i es)
+  entries_from i = entries_of table octets (drop i es)
 
-  pub entry_next : (i : ℕ) → i < length es → entries_from i ≡ before (entry_of family octets (get_or es i no_entry) (drop (i + 1) es)) (entries_from (i + 1))
-  entry_next i lt = ap (entries_of family octets) (split_at es i no_entry lt)
+  pub entry_next : (i : ℕ) → i < length es → entries_from i ≡ before (entry_of table octets (get_or es i no_entry) (drop (i + 1) es)) (entries_from (i + 1))
+  entry_next i lt = ap (entries_of table octets) (split_at es i no_entry lt)
 
   -- an attribute, and an element that its list adds
-  pub entry_here : (i : ℕ) (r : Spelling) → (get_or es i no_entry).depth ≡ 0 → r ≡ attribute_of family octets (get_or es i no_entry) (take (length es - (i + 1)) (drop (i + 1) es))
-      → entry_of family octets (get_or es i no_entry) (drop (i + 1) es) ≡ r
+  pub entry_here : (i : ℕ) (r : Spelling) → (get_or es i no_entry).depth ≡ 0 → r ≡ attribute_of table octets (get_or es i no_entry) (take (length es - (i + 1)) (drop (i + 1) es))
+      → entry_of table octets (get_or es i no_entry) (drop (i + 1) es) ≡ r
   entry_here i r flat is =
       let e = get_or es i no_entry in
       let below = drop (i + 1) es in
-      ap (λ b. cond b (attribute_of family octets e below) (Ok [])) (eq-eqb e.depth 0 flat) ∙ ap (attribute_of family octets e) (sym (rest_of es (i + 1))) ∙ sym is
+      ap (λ b. cond b (attribute_of table octets e below) (Ok [])) (eq-eqb e.depth 0 flat) ∙ ap (attribute_of table octets e) (sym (rest_of es (i + 1))) ∙ sym is
 
-  pub entry_skipped : (i : ℕ) → (get_or es i no_entry).depth ≢ 0 → entry_of family octets (get_or es i no_entry) (drop (i + 1) es) ≡ Ok []
+  pub entry_skipped : (i : ℕ) → (get_or es i no_entry).depth ≢ 0 → entry_of table octets (get_or es i no_entry) (drop (i + 1) es) ≡ Ok []
   entry_skipped i deep =
       let e = get_or es i no_entry in
-      ap (λ b. cond b (attribute_of family octets e (drop (i + 1) es)) (Ok [])) (ne_eqb e.depth 0 deep)
+      ap (λ b. cond b (attribute_of table octets e (drop (i + 1) es)) (Ok [])) (ne_eqb e.depth 0 deep)

@@ -1,11 +1,10 @@
-pub mod Accepted
-pub mod NestedKinds
 pub mod Spellings
 pub mod ElementLoops
 pub mod WrittenNames
-pub mod RowFits
+pub mod RowForms
 pub mod BackValues
 pub mod BackClasses
+pub mod BackSingles
 pub mod Located
 pub mod BackArrays
 pub mod BackElements
@@ -13,9 +12,11 @@ pub mod BackAttributes
 pub mod BackLists
 pub mod WrittenLists
 pub mod WrittenSizes
+pub mod WrittenFields
 pub mod WrittenAttributes
 pub mod WrittenDecodes
 pub mod AgreeClasses
+pub mod AgreeSingles
 pub mod AgreeElements
 pub mod AgreeAttributes
 pub mod AgreeLists

@@ -1,7 +1,7 @@
 -- Bytes at an offset in a list: the payloads of its attributes, and of their elements.
 use Rattle.std.proofs.Common.{◌≡◌, ℕ, ◌+◌, ◌-◌, ◌≤◌, min, List, ◌++◌, length, take, drop, refl, sym, ap, ◌∙◌, arith, take_all, take_at, take-take, drop-drop}
 use Rattle.std.proofs.lemmas.List.{append-nil, length-drop, drop-take}
-use Rattle.link_base.specs.declared.buffer.NlaBuffer.{NlaBuffer}
+use Rattle.link_base.specs.declared.wire.buffer.NlaBuffer.{NlaBuffer}
 use Rattle.link_base.specs.Frame.{pad}
 use Rattle.link_base.specs.Buffer.{SplitsFirst, payload_of}
 use Rattle.link_messages.proofs.Walking.{split_short}

@@ -4,12 +4,8 @@ use Rattle.link_base.specs.Class as classes
 use Rattle.link_base.specs.Class.{meant, written}
 use Rattle.link_base.specs.Table.{Table}
 use Rattle.link_base.specs.Borrowed.{elements_at}
-use Rattle.netlink_packet_route.specs.declared.family.Family.{Family}
-use Rattle.netlink_packet_route.specs.Family.{table_of}
-use Rattle.link_flat.specs.declared.detail.Detail.TheVariants as details
 use Rattle.link_flat.specs.declared.entry.Entry.{Entry}
 use Rattle.link_flat.specs.Forms.{form_unsigned}
-use Rattle.link_flat.specs.Detail.{detail_of}
 use Rattle.link_write.specs.declared.fields.Fields.{Fields}
 use Rattle.link_write.specs.declared.fields.Fields.TheVariants as fields
 use Rattle.link_write.specs.Fields.{any_number, ip_address, fields_at}
@@ -37,8 +33,7 @@ SameContent (fields.Words form second_first) octets e list r = (r.number ≡ e.n
 SameContent fields.Protocol octets e list r = r.number ≡ e.number
 SameContent (fields.Address form size) octets e list r = take size r.octets ≡ take size e.octets
 SameContent fields.BridgeId octets e list r = (r.number ≡ e.number) × (take 6 r.octets ≡ take 6 e.octets)
-SameContent fields.Bytes octets e list r = referred r list ≡ referred e octets
-SameContent fields.BitTiming octets e list r = referred r list ≡ referred e octets
+SameContent (fields.Passed form size) octets e list r = referred r list ≡ referred e octets
 SameContent fields.Limits octets e list r = referred r list ≡ written (meant classes.Limits (referred e octets))
 SameContent (fields.Numbers width) octets e list r = Unit {0}
 SameContent (fields.Addresses size) octets e list r = Unit {0}
@@ -53,22 +48,18 @@ pub record IsSame (own : Fields) (octets : List ℕ) (e : Entry) (list : List �
   pub given : has_form own e ≡ true
   pub content : SameContent own octets e list r
 
--- the fields of an attribute
-abbrev pub attribute_fields : Family → Entry → Fields
-attribute_fields family e = fields_at (table_of family) (detail_of family e.kind) e.kind
-
 -- those of an element of a list with these fields; `table` has the rows of its elements
 abbrev pub element_fields : Table → Fields → Entry → Fields
 element_fields table (fields.Numbers width) e = any_number form_unsigned width
 element_fields table (fields.Addresses size) e = ip_address size
-element_fields table (fields.List flag) e = fields_at table details.Plain e.inner
+element_fields table (fields.List flag) e = fields_at table e.inner
 element_fields table own e = fields.Empty
 
 -- those of an entry
-abbrev pub own_fields : Family → Entry → Fields
-own_fields family e =
-    let attribute = attribute_fields family e in
-    if e.depth == 0 then attribute else element_fields (elements_at (table_of family) e.kind) attribute e
+abbrev pub own_fields : Table → Entry → Fields
+own_fields table e =
+    let attribute = fields_at table e.kind in
+    if e.depth == 0 then attribute else element_fields (elements_at table e.kind) attribute e
 
 -- elements of a nested list have the same type of their own
 abbrev pub SameInner : Fields → Entry → Entry → Type 0
@@ -76,6 +67,6 @@ SameInner (fields.List flag) e r = r.inner ≡ e.inner
 SameInner own e r = Unit {0}
 
 -- the entry r of the list is what was written for e, which refers to the octets
-pub record Agrees (family : Family) (octets list : List ℕ) (e r : Entry) : Type 0 where
-  pub same : IsSame (own_fields family e) octets e list r
-  pub inner : e.depth ≡ 1 → SameInner (attribute_fields family e) e r
+pub record Agrees (table : Table) (octets list : List ℕ) (e r : Entry) : Type 0 where
+  pub same : IsSame (own_fields table e) octets e list r
+  pub inner : e.depth ≡ 1 → SameInner (fields_at table e.kind) e r

@@ -6,7 +6,7 @@ use Rattle.link_write.specs.declared.fields.Fields.{Fields}
 use Rattle.link_write.specs.declared.fields.Fields.TheVariants as fields
 use Rattle.link_write.specs.declared.misfit.Misfit.{Misfit}
 use Rattle.link_write.specs.declared.misfit.Misfit.TheVariants.{TooLong, BadForm, BadNumber, BadOctets}
-use Rattle.link_write.specs.Payload.{is_i32, has_form}
+use Rattle.link_write.specs.Payload.{is_i32, has_form, has_size}
 
 -- whether an attribute with these fields can hold the numbers of an entry; without a row, these are its type and flags
 abbrev pub holds_numbers : Fields → Entry → Bool
@@ -19,23 +19,23 @@ holds_numbers fields.BridgeId e = nat_lt e.number (2 ^ 16)
 holds_numbers fields.Unknown e = nat_lt e.kind kind_limit && (e.flags % kind_limit == 0)
 holds_numbers own e = true
 
--- whether the bytes that an entry refers to were passed in
-abbrev pub is_passed : Entry → List ℕ → Bool
-is_passed e octets = nat_le (e.offset + e.length) (length octets)
+-- whether the bytes that an entry refers to were passed in, and are as many as there must be
+abbrev pub is_passed : Option ℕ → Entry → List ℕ → Bool
+is_passed size e octets = has_size size e && nat_le (e.offset + e.length) (length octets)
 
 -- whether the octets of an entry have the length of an attribute with these fields, and its bytes were passed in
 abbrev pub has_octets : Fields → Entry → List ℕ → Bool
 has_octets (fields.Address form size) e octets = e.length == size
 has_octets fields.BridgeId e octets = e.length == 8
-has_octets fields.Bytes e octets = is_passed e octets
-has_octets fields.BitTiming e octets = (e.length == 32) && is_passed e octets
-has_octets fields.Limits e octets = (e.length == 48) && is_passed e octets
-has_octets fields.Unknown e octets = is_passed e octets
+has_octets (fields.Passed form size) e octets = is_passed size e octets
+has_octets fields.Limits e octets = is_passed (Some 48) e octets
+has_octets fields.Unknown e octets = is_passed None e octets
 has_octets own e octets = true
 
 -- whether the bytes that an entry refers to fit in an attribute
 abbrev pub is_short : Fields → Entry → Bool
-is_short fields.Bytes e = nat_le e.length max_payload
+is_short (fields.Passed form size) e = nat_le e.length max_payload
+is_short fields.Limits e = nat_le e.length max_payload
 is_short fields.Unknown e = nat_le e.length max_payload
 is_short own e = true
 

@@ -1,19 +1,19 @@
 -- The payloads that entries spell.
-use Rattle.std.specs.Prelude.{ℕ, ◌+◌, ◌-◌, ◌^◌, ◌%◌, ◌==◌, ◌&&◌, ◌||◌, Bool, true, false, List, [], ◌++◌, length, take, drop, reverse, Result, Ok, Err, nat_lt, nat_le, if◌then◌else◌}
+use Rattle.std.specs.Prelude.{ℕ, ◌+◌, ◌-◌, ◌^◌, ◌%◌, ◌==◌, ◌&&◌, ◌||◌, Bool, true, false, List, [], ◌++◌, length, take, drop, reverse, Option, Some, None, Result, Ok, Err, nat_lt, nat_le, if◌then◌else◌}
 use Rattle.std.specs.Borrow.{Bor}
+use Rattle.link_base.specs.Forms.{bytes_in as width_of}
 use Rattle.link_base.specs.Number.{bytes_of}
 use Rattle.link_base.specs.Frame.{kind_limit, max_payload}
 use Rattle.link_base.specs.Class as classes
 use Rattle.link_base.specs.Class.{meant, written}
 use Rattle.link_flat.specs.declared.entry.Entry.{Entry}
-use Rattle.link_flat.specs.Forms.{form_empty, form_signed, form_named, form_bridge_id, form_bittiming, form_bittiming_const, form_bytes, form_list, form_unknown}
+use Rattle.link_flat.specs.Forms.{form_empty, form_signed, form_named, form_bridge_id, form_bittiming_const, form_list, form_unknown}
 use Rattle.link_write.specs.declared.fields.Fields.{Fields}
 use Rattle.link_write.specs.declared.fields.Fields.TheVariants as fields
 use Rattle.link_write.specs.declared.misfit.Misfit.{Misfit}
 use Rattle.link_write.specs.declared.misfit.Misfit.TheVariants.{TooLong, BadForm, BadNumber, BadOctets}
 use Rattle.link_write.specs.declared.payload.Payload.{Payload}
 use Rattle.link_write.specs.declared.payload.Payload.TheVariants as payloads
-use Rattle.link_write.specs.Fields.{size_of}
 
 -- ---- forms
 
@@ -27,8 +27,7 @@ form_in (fields.Words form second_first) = form
 form_in fields.Protocol = form_named
 form_in (fields.Address form size) = form
 form_in fields.BridgeId = form_bridge_id
-form_in fields.Bytes = form_bytes
-form_in fields.BitTiming = form_bittiming
+form_in (fields.Passed form size) = form
 form_in fields.Limits = form_bittiming_const
 form_in (fields.Numbers width) = form_list
 form_in (fields.Addresses size) = form_list
@@ -50,16 +49,17 @@ has_form own e = (e.form == form_in own) || ((e.form == 0) && is_implied own)
 abbrev pub only_if : Bool → Misfit → List ℕ → Result (List ℕ) Misfit
 only_if test misfit p = if test then Ok p else Err misfit
 
+-- whether an entry refers to as many bytes as there must be, if their number is fixed
+abbrev pub has_size : Option ℕ → Entry → Bool
+has_size None e = true
+has_size (Some n) e = e.length == n
+
 -- the bytes that an entry refers to, of those passed in
-abbrev pub passed : Entry → List ℕ → Result (List ℕ) Misfit
-passed e octets =
-    if nat_le (e.offset + e.length) (length octets)
+abbrev pub passed : Option ℕ → Entry → List ℕ → Result (List ℕ) Misfit
+passed size e octets =
+    if has_size size e && nat_le (e.offset + e.length) (length octets)
     then only_if (nat_le e.length max_payload) TooLong (take e.length (drop e.offset octets))
     else Err BadOctets
-
--- likewise, if they are n
-abbrev pub passed_exactly : ℕ → Entry → List ℕ → Result (List ℕ) Misfit
-passed_exactly n e octets = if e.length == n then passed e octets else Err BadOctets
 
 -- the limits of a CAN controller, as a rewriting writes them
 abbrev pub rewritten : Result (List ℕ) Misfit → Result (List ℕ) Misfit
@@ -77,20 +77,19 @@ pair_of second_first number second = if second_first then second ++ number else 
 -- the payload, without elements
 abbrev pub content_of : Fields → Entry → List ℕ → Result (List ℕ) Misfit
 content_of fields.Empty e octets = Ok []
-content_of (fields.Number form width most) e octets = only_if (nat_le e.number most) BadNumber (bytes_of (size_of width) e.number)
+content_of (fields.Number form width most) e octets = only_if (nat_le e.number most) BadNumber (bytes_of (width_of width) e.number)
 content_of fields.Signed e octets = only_if (is_i32 e.number) BadNumber (bytes_of 4 e.number)
 content_of (fields.Shorts form second_first) e octets = only_if (nat_lt e.number (2 ^ 16) && nat_lt e.second (2 ^ 16)) BadNumber (pair_of second_first (bytes_of 2 e.number) (bytes_of 2 e.second))
 content_of (fields.Words form second_first) e octets = only_if (nat_lt e.number (2 ^ 32)) BadNumber (pair_of second_first (bytes_of 4 e.number) (bytes_of 4 e.second))
 content_of fields.Protocol e octets = only_if ((e.number == 0x8100) || (e.number == 0x88A8)) BadNumber (reverse (bytes_of 2 e.number))
 content_of (fields.Address form size) e octets = only_if (e.length == size) BadOctets (take size e.octets)
 content_of fields.BridgeId e octets = if nat_lt e.number (2 ^ 16) then only_if (e.length == 8) BadOctets (reverse (bytes_of 2 e.number) ++ take 6 e.octets) else Err BadNumber
-content_of fields.Bytes e octets = passed e octets
-content_of fields.BitTiming e octets = passed_exactly 32 e octets
-content_of fields.Limits e octets = rewritten (passed_exactly 48 e octets)
+content_of (fields.Passed form size) e octets = passed size e octets
+content_of fields.Limits e octets = rewritten (passed (Some 48) e octets)
 content_of (fields.Numbers width) e octets = Ok []
 content_of (fields.Addresses size) e octets = Ok []
 content_of (fields.List flag) e octets = Ok []
-content_of fields.Unknown e octets = if nat_lt e.kind kind_limit && (e.flags % kind_limit == 0) then passed e octets else Err BadNumber
+content_of fields.Unknown e octets = if nat_lt e.kind kind_limit && (e.flags % kind_limit == 0) then passed None e octets else Err BadNumber
 
 -- likewise, if the form is that of the attribute type
 abbrev pub payload_of : Fields → Entry → List ℕ → Result (List ℕ) Misfit

@@ -5,12 +5,8 @@ use Rattle.link_base.specs.Wire.{whole}
 use Rattle.link_base.specs.Table.{Table}
 use Rattle.link_base.specs.Borrowed.{elements_at}
 use Rattle.link_base.specs.Answers.{OverwritesFront, capped}
-use Rattle.netlink_packet_route.specs.declared.family.Family.{Family}
-use Rattle.netlink_packet_route.specs.Family.{table_of}
-use Rattle.link_flat.specs.declared.detail.Detail.TheVariants as details
 use Rattle.link_flat.specs.declared.entry.Entry.{Entry}
 use Rattle.link_flat.specs.Forms.{form_unsigned}
-use Rattle.link_flat.specs.Detail.{detail_of}
 use Rattle.link_write.specs.declared.fields.Fields.{Fields}
 use Rattle.link_write.specs.declared.fields.Fields.TheVariants as fields
 use Rattle.link_write.specs.declared.misfit.Misfit.{Misfit}
@@ -51,7 +47,7 @@ abbrev pub element_content : Table → Fields → ℕ → Entry → List ℕ →
 element_content table (fields.Numbers width) i e octets = payload_of (any_number form_unsigned width) e octets
 element_content table (fields.Addresses size) i e octets = framed i (payload_of (ip_address size) e octets)
 element_content table (fields.List flag) i e octets =
-    let own = fields_at table details.Plain e.inner in
+    let own = fields_at table e.inner in
     framed (field_of own e.inner e) (payload_of own (record e { kind = e.inner }) octets)
 element_content table list i e octets = Err BadElement
 
@@ -72,17 +68,17 @@ elements_of table list k octets i (e ∷ es) =
 abbrev pub attribute_by : Table → Fields → List ℕ → Entry → List Entry → Spelling
 attribute_by table own octets e es = fitted (field_of own e.kind e) (before (alone (payload_of own e octets)) (elements_of (elements_at table e.kind) own e.kind octets 0 es))
 
--- an attribute of a list of this family, and its elements
-abbrev pub attribute_of : Family → List ℕ → Entry → List Entry → Spelling
-attribute_of family octets e es = let table = table_of family in attribute_by table (fields_at table (detail_of family e.kind) e.kind) octets e es
+-- an attribute of a list of this table, and its elements
+abbrev pub attribute_of : Table → List ℕ → Entry → List Entry → Spelling
+attribute_of table octets e es = attribute_by table (fields_at table e.kind) octets e es
 
 -- what an entry adds to a list: an attribute adds its elements too
-abbrev pub entry_of : Family → List ℕ → Entry → List Entry → Spelling
-entry_of family octets e es = if e.depth == 0 then attribute_of family octets e es else Ok []
+abbrev pub entry_of : Table → List ℕ → Entry → List Entry → Spelling
+entry_of table octets e es = if e.depth == 0 then attribute_of table octets e es else Ok []
 
-abbrev pub entries_of : Family → List ℕ → List Entry → Spelling
-entries_of family octets [] = Ok []
-entries_of family octets (e ∷ es) = before (entry_of family octets e es) (entries_of family octets es)
+abbrev pub entries_of : Table → List ℕ → List Entry → Spelling
+entries_of table octets [] = Ok []
+entries_of table octets (e ∷ es) = before (entry_of table octets e es) (entries_of table octets es)
 
 -- whether the first entry is an attribute, if there is one
 abbrev pub begins_well : List Entry → Bool
@@ -90,8 +86,8 @@ begins_well [] = true
 begins_well (e ∷ es) = e.depth == 0
 
 -- the list
-abbrev pub spelled_by : Family → List ℕ → List Entry → Spelling
-spelled_by family octets es = if begins_well es then entries_of family octets es else Err (0, BadElement)
+abbrev pub spelled_by : Table → List ℕ → List Entry → Spelling
+spelled_by table octets es = if begins_well es then entries_of table octets es else Err (0, BadElement)
 
 -- ---- results
 

@@ -21,14 +21,14 @@ use crate::misfit::{Misfit, MisfitAt};
 /// For the entries of a list and its bytes, [`write`](crate::write) writes what
 /// [`rewrite`](netlink_packet_route::rewrite) returns for the list.
 pub fn written_back()
-    ensures { (family : Family) (list written : List ℕ) (es : List Entry) → IsBytes list → Flat family list es
-        → Rewriting (table_of family) list written → spelled_by family list es ≡ Ok written }
+    ensures { (family : Family) (list written : List ℕ) (es : List Entry) → IsBytes list → Flat (table_of family) list es
+        → Rewriting (table_of family) list written → spelled_by (table_of family) list es ≡ Ok written }
 {}
 
 /// What [`write`](crate::write) writes decodes. Entries have sixteen octets, as the type has.
 pub fn written_decodes()
     ensures { (family : Family) (octets written : List ℕ) (es : List Entry) → AllByRecursion (λ e. length e.octets ≡ 16) es
-        → spelled_by family octets es ≡ Ok written → Decodes (table_of family) written }
+        → spelled_by (table_of family) octets es ≡ Ok written → Decodes (table_of family) written }
 {}
 
 /// The entries of what [`write`](crate::write) writes are the entries that it was passed, one by one: the same types,
@@ -36,8 +36,8 @@ pub fn written_decodes()
 /// indexes of addresses and numbers.
 pub fn written_read()
     ensures { (family : Family) (octets written : List ℕ) (es read : List Entry) → AllByRecursion IsEntry es
-        → spelled_by family octets es ≡ Ok written → Flat family written read
-        → AllZip (Agrees family octets written) es read }
+        → spelled_by (table_of family) octets es ≡ Ok written → Flat (table_of family) written read
+        → AllZip (Agrees (table_of family) octets written) es read }
 {}
 
 /// Of several errors of an entry, without its elements, the first is returned of `BadForm`, `BadNumber`, `BadOctets` and

@@ -1,27 +1,19 @@
 //! The payloads that entries spell.
 
-ghost use Rattle.std.specs.Prelude.{◌≡◌, ◌≤◌, ◌^◌, [], ◌==◌, ◌&&◌, ◌||◌, nat_lt, nat_le, length, take, reverse, IfOk};
+ghost use Rattle.std.specs.Prelude.{◌≡◌, ◌≤◌, ◌^◌, [], ◌==◌, ◌&&◌, ◌||◌, Some, nat_lt, nat_le, length, take, reverse, IfOk, IfSome};
 ghost use Rattle.link_base.specs.Number.{bytes_of};
 ghost use Rattle.link_base.specs.Class.{Limits, meant, written};
 ghost use Rattle.link_base.specs.Frame.{max_payload};
 ghost use Rattle.link_base.specs.Answers.{OverwritesFront};
-ghost use Rattle.link_write.specs.Fields.{size_of};
-ghost use Rattle.link_write.specs.Payload.{has_form, form_in, is_implied, only_if, passed, passed_exactly, rewritten, is_i32, pair_of, content_of, payload_of, bytes_in, bytes_told, slice_told};
+ghost use Rattle.link_base.specs.Forms.{bytes_in as width_of};
+ghost use Rattle.link_write.specs.Payload.{has_form, form_in, is_implied, only_if, has_size, passed, rewritten, is_i32, pair_of, content_of, payload_of, bytes_in, bytes_told, slice_told};
 
-use crate::fields::{Fields, Width};
+use crate::fields::Fields;
 use crate::misfit::Misfit;
 use crate::name::written_name;
-use link_base::NLA_TYPE_MASK;
+use link_base::rows::form::Width;
+use link_base::{MAX_PAYLOAD, NLA_TYPE_MASK, VlanProtocol};
 use link_flat::{Entry, forms};
-
-/// The maximum length of a payload in bytes.
-const MAX_PAYLOAD: u32 = 65531;
-
-/// The 802.1Q protocol (`ETH_P_8021Q`, `include/uapi/linux/if_ether.h`).
-const ETH_P_8021Q: u64 = 0x8100;
-
-/// The 802.1ad protocol (`ETH_P_8021AD`, `include/uapi/linux/if_ether.h`).
-const ETH_P_8021AD: u64 = 0x88A8;
 
 /// The bytes of a payload.
 #[derive(Clone, Copy)]
@@ -111,12 +103,11 @@ fn form_in(fields: Fields) -> u8
         Fields::Number { form, .. }
         | Fields::Shorts { form, .. }
         | Fields::Words { form, .. }
-        | Fields::Address { form, .. } => form,
+        | Fields::Address { form, .. }
+        | Fields::Passed { form, .. } => form,
         Fields::Signed => forms::SIGNED,
         Fields::Protocol => forms::NAMED,
         Fields::BridgeId => forms::BRIDGE_ID,
-        Fields::Bytes => forms::BYTES,
-        Fields::BitTiming => forms::BITTIMING,
         Fields::Limits => forms::BITTIMING_CONST,
         Fields::Numbers { .. } | Fields::Addresses { .. } | Fields::List { .. } => forms::LIST,
         Fields::Unknown => forms::UNKNOWN,
@@ -150,8 +141,7 @@ fn content<'a>(fields: Fields, entry: &Entry, octets: &'a [u8]) -> Result<Payloa
         Fields::Protocol => protocol(entry.number),
         Fields::Address { size, .. } => address(entry, size),
         Fields::BridgeId => bridge_id(entry),
-        Fields::Bytes => whole(passed(entry, octets)),
-        Fields::BitTiming => whole(passed_exactly(32, entry, octets)),
+        Fields::Passed { size, .. } => whole(passed(size, entry, octets)),
         Fields::Limits => limits(entry, octets),
         Fields::Unknown => unknown(entry, octets),
     }
@@ -164,7 +154,7 @@ fn content<'a>(fields: Fields, entry: &Entry, octets: &'a [u8]) -> Result<Payloa
 /// `BadNumber` if it is greater than `most`.
 #[inline]
 fn number<'a>(number: u64, width: Width, most: u64) -> Result<Payload<'a>, Misfit>
-    ensures { bytes_told result ≡ only_if (nat_le number most) Misfit.BadNumber (bytes_of (size_of width) number) }
+    ensures { bytes_told result ≡ only_if (nat_le number most) Misfit.BadNumber (bytes_of (width_of width) number) }
 {
     if number > most {
         return Err(Misfit::BadNumber);
@@ -175,7 +165,7 @@ fn number<'a>(number: u64, width: Width, most: u64) -> Result<Payload<'a>, Misfi
 /// Returns the low bytes of a number, little-endian.
 #[inline]
 fn low_bytes<'a>(number: u64, width: Width) -> Payload<'a>
-    ensures { bytes_in result ≡ bytes_of (size_of width) number }
+    ensures { bytes_in result ≡ bytes_of (width_of width) number }
 {
     let [a, b, c, d, e, f, g, h] = number.to_le_bytes();
     let octets = [a, b, c, d, e, f, g, h, 0, 0, 0, 0, 0, 0, 0, 0];
@@ -255,13 +245,17 @@ fn protocol<'a>(number: u64) -> Result<Payload<'a>, Misfit>
     ensures { bytes_told result ≡ only_if ((number == 0x8100) || (number == 0x88A8)) Misfit.BadNumber
         (reverse (bytes_of 2 number)) }
 {
-    let octets = if number == ETH_P_8021Q {
-        [0x81, 0x00, 0, 0, 0, 0, 0, 0, 0, 0, 0, 0, 0, 0, 0, 0]
-    } else if number == ETH_P_8021AD {
-        [0x88, 0xA8, 0, 0, 0, 0, 0, 0, 0, 0, 0, 0, 0, 0, 0, 0]
+    let customer = u16::from(VlanProtocol::Ieee8021Q);
+    let provider = u16::from(VlanProtocol::Ieee8021Ad);
+    let ether_type = if number == u64::from(customer) {
+        customer
+    } else if number == u64::from(provider) {
+        provider
     } else {
         return Err(Misfit::BadNumber);
     };
+    let [a, b] = ether_type.to_be_bytes();
+    let octets = [a, b, 0, 0, 0, 0, 0, 0, 0, 0, 0, 0, 0, 0, 0, 0];
     Ok(Payload::Held { octets, length: 2 })
 }
 
@@ -303,41 +297,40 @@ fn bridge_id<'a>(entry: &Entry) -> Result<Payload<'a>, Misfit>
     Ok(Payload::Held { octets, length: 8 })
 }
 
-/// Returns the bytes that an entry refers to.
+/// Checks whether an entry refers to `size` bytes, if it is given.
+#[inline]
+fn has_size(size: Option<usize>, entry: &Entry) -> bool
+    ensures { result ≡ has_size size entry.now }
+{
+    match size {
+        Some(size) => entry.length as usize == size,
+        None => true,
+    }
+}
+
+/// Returns the bytes that an entry refers to, which must be `size` if it is given.
 ///
 /// # Errors
 ///
-/// `BadOctets` if they are not within `octets`, `TooLong` if they do not fit in an attribute.
-fn passed<'a>(entry: &Entry, octets: &'a [u8]) -> Result<&'a [u8], Misfit>
-    ensures value { slice_told result ≡ passed entry.now octets.now }
+/// `BadOctets` if they are not `size`, or not within `octets`; `TooLong` if they do not fit in an attribute.
+fn passed<'a>(size: Option<usize>, entry: &Entry, octets: &'a [u8]) -> Result<&'a [u8], Misfit>
+    ensures value { slice_told result ≡ passed size entry.now octets.now }
     ensures short { IfOk result (λ p. length p.now ≤ max_payload) }
-    ensures size { IfOk result (λ p. length p.now ≡ entry.now.length) }
+    ensures size { IfOk result (λ p. IfSome size (λ n. length p.now ≡ n)) }
 {
+    if !has_size(size, entry) {
+        return Err(Misfit::BadOctets);
+    }
     let all = octets.len() as u64;
     if entry.offset > all || all - entry.offset < u64::from(entry.length) {
         return Err(Misfit::BadOctets);
     }
-    if entry.length > MAX_PAYLOAD {
+    if entry.length as usize > MAX_PAYLOAD {
         return Err(Misfit::TooLong);
     }
     let start = entry.offset as usize;
     let end = start + entry.length as usize;
     Ok(&octets[start..end])
-}
-
-/// Returns the `size` bytes that an entry refers to.
-///
-/// # Errors
-///
-/// `BadOctets` if they are not `size`; otherwise as for `passed`.
-fn passed_exactly<'a>(size: u32, entry: &Entry, octets: &'a [u8]) -> Result<&'a [u8], Misfit>
-    ensures value { slice_told result ≡ passed_exactly size entry.now octets.now }
-    ensures size { IfOk result (λ p. length p.now ≡ size) }
-{
-    if entry.length != size {
-        return Err(Misfit::BadOctets);
-    }
-    passed(entry, octets)
 }
 
 /// Returns the bytes, if there are any, as a payload.
@@ -359,12 +352,12 @@ fn whole<'a>(bytes: Result<&'a [u8], Misfit>) -> Result<Payload<'a>, Misfit>
 ///
 /// # Errors
 ///
-/// As for `passed_exactly`.
+/// As for `passed`.
 fn limits<'a>(entry: &Entry, octets: &'a [u8]) -> Result<Payload<'a>, Misfit>
-    ensures value { bytes_told result ≡ rewritten (passed_exactly 48 entry.now octets.now) }
+    ensures value { bytes_told result ≡ rewritten (passed (Some 48) entry.now octets.now) }
     ensures short { IfOk result (λ p. length (bytes_in p) ≤ max_payload) }
 {
-    match passed_exactly(48, entry, octets) {
+    match passed(Some(48), entry, octets) {
         Ok(bytes) => Ok(Payload::Limits(rewritten(bytes))),
         Err(misfit) => Err(misfit),
     }
@@ -393,5 +386,5 @@ fn unknown<'a>(entry: &Entry, octets: &'a [u8]) -> Result<Payload<'a>, Misfit>
     if entry.kind > NLA_TYPE_MASK || entry.flags & NLA_TYPE_MASK != 0 {
         return Err(Misfit::BadNumber);
     }
-    whole(passed(entry, octets))
+    whole(passed(None, entry, octets))
 }

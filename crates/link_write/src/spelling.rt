@@ -5,6 +5,7 @@ ghost use Rattle.link_base.specs.Frame.{max_payload};
 ghost use Rattle.link_base.specs.Default.{default_table};
 ghost use Rattle.link_base.specs.Table.{Other};
 ghost use Rattle.link_base.specs.Answers.{OverwritesFront, capped};
+ghost use Rattle.netlink_packet_route.specs.Family.{table_of};
 ghost use Rattle.link_write.specs.Payload.{bytes_in, bytes_told, field_of};
 ghost use Rattle.link_write.specs.Spelled.{attribute_of, framed, measured};
 ghost use Rattle.link_write.specs.Elements.{text_of, spelled_in, element_in};
@@ -13,13 +14,9 @@ use crate::fields::{Fields, any_number, ip_address};
 use crate::misfit::{Misfit, MisfitAt};
 use crate::payload::{Payload, payload_of};
 use crate::row::{element_fields, fields_of};
-use link_base::{Meaning, Nla};
-use link_flat::detail::detail_of;
+use link_base::{MAX_PAYLOAD, Meaning, Nla};
 use link_flat::{Entry, forms};
 use netlink_packet_route::Family;
-
-/// The maximum length of a payload in bytes.
-const MAX_PAYLOAD: usize = 65531;
 
 /// An attribute without elements.
 #[derive(Drop)]
@@ -264,11 +261,11 @@ impl<'a> Group<'a> {
         entries: &'a [Entry],
         octets: &'a [u8],
     ) -> Result<Self, MisfitAt>
-        ensures value { group_told result ≡ attribute_of family octets.now entry.now entries.now }
+        ensures value { group_told result ≡ attribute_of (table_of family) octets.now entry.now entries.now }
         ensures index { IfErr result (λ e. e.index < 1 + length entries.now) }
     {
         let kind = entry.kind;
-        let own = fields_of(family, detail_of(family, kind), kind);
+        let own = fields_of(family, kind);
         let payload = match payload_of(own, entry, octets) {
             Ok(payload) => payload,
             Err(misfit) => return Err(MisfitAt { index: 0, misfit }),

@@ -2,6 +2,7 @@
 
 ghost use Rattle.std.specs.Prelude.{◌≡◌, ◌≤◌, length, IsTrue, is_ok};
 ghost use Rattle.link_base.specs.Answers.{OverwritesFront};
+ghost use Rattle.netlink_packet_route.specs.Family.{table_of};
 ghost use Rattle.link_write.specs.Spelled.{begins_well, entries_of, spelled_by, measured, Stores};
 ghost use Rattle.link_write.specs.Elements.{text_of};
 
@@ -17,7 +18,7 @@ use netlink_packet_route::Family;
 ///
 /// The first entry that cannot be written.
 pub fn measure(family: Family, entries: &[Entry], octets: &[u8]) -> Result<usize, MisfitAt>
-    ensures { result ≡ measured (spelled_by family octets.now entries.now) }
+    ensures { result ≡ measured (spelled_by (table_of family) octets.now entries.now) }
 {
     if !begins_well(entries) {
         return Err(MisfitAt {
@@ -40,7 +41,7 @@ pub fn write(
     octets: &[u8],
     out: &mut [u8],
 ) -> Result<Option<usize>, MisfitAt>
-    ensures { Stores (spelled_by family octets.now entries.now) out.old out.new result }
+    ensures { Stores (spelled_by (table_of family) octets.now entries.now) out.old out.new result }
 {
     match measure(family, entries, octets) {
         Ok(len) => {
@@ -68,7 +69,7 @@ fn begins_well(entries: &[Entry]) -> bool
 ///
 /// The first entry that cannot be written.
 fn measure_entries(family: Family, entries: &[Entry], octets: &[u8]) -> Result<usize, MisfitAt>
-    ensures { result ≡ measured (entries_of family octets.now entries.now) }
+    ensures { result ≡ measured (entries_of (table_of family) octets.now entries.now) }
 {
     let mut len = 0usize;
     for i in 0..entries.len() {
@@ -89,9 +90,9 @@ fn measure_entries(family: Family, entries: &[Entry], octets: &[u8]) -> Result<u
 
 /// Writes the attributes that entries spell to the start of `out`. All of them can be written, and `out` is long enough.
 fn put_entries(family: Family, entries: &[Entry], octets: &[u8], out: &mut [u8])
-    requires spelled { IsTrue (is_ok (entries_of family octets.now entries.now)) }
-    requires room { length (text_of (entries_of family octets.now entries.now)) ≤ length out.old }
-    ensures { OverwritesFront out.old out.new (text_of (entries_of family octets.now entries.now)) }
+    requires spelled { IsTrue (is_ok (entries_of (table_of family) octets.now entries.now)) }
+    requires room { length (text_of (entries_of (table_of family) octets.now entries.now)) ≤ length out.old }
+    ensures { OverwritesFront out.old out.new (text_of (entries_of (table_of family) octets.now entries.now)) }
 {
     let mut at = 0usize;
     for i in 0..entries.len() {

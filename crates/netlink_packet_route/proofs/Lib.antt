@@ -1,2 +1,3 @@
+pub mod Families
 pub mod Rewritten
 pub mod Reported

@@ -9,10 +9,10 @@ use Rattle.link_base.specs.Table.{Table, AttrValue, Gives, Fits, Decodes, Canoni
 use Rattle.link_base.specs.Lawful.{IsLawful}
 use Rattle.link_base.specs.Rewritten.{AnswersBy, RewrittenInto, IsUnfit}
 use Rattle.link_base.specs.Answers.{IsFirstUnfit, WriteAnswers, OnRewriteMemory, of_writing}
-use Rattle.link_base.specs.declared.fault.WriteError.{WriteError}
-use Rattle.link_base.specs.declared.fault.WriteError.TheVariants as write_errors
-use Rattle.link_base.specs.declared.fault.RewriteError.{RewriteError}
-use Rattle.link_base.specs.declared.fault.RewriteError.TheVariants as errors
+use Rattle.link_base.specs.declared.wire.fault.WriteError.{WriteError}
+use Rattle.link_base.specs.declared.wire.fault.WriteError.TheVariants as write_errors
+use Rattle.link_base.specs.declared.wire.fault.RewriteError.{RewriteError}
+use Rattle.link_base.specs.declared.wire.fault.RewriteError.TheVariants as errors
 use Rattle.link_base.proofs.Cuts.{AreFrames-head}
 use Rattle.link_base.proofs.FrameBytes.{frame_fault-frame, length-frame_bytes}
 use Rattle.link_base.proofs.Readings.{one_values, not_both}

@@ -7,12 +7,14 @@ pub mod Views
 pub use Rattle.link_base.specs.Number
 pub use Rattle.link_base.specs.Frame
 pub use Rattle.link_base.specs.Class
+pub use Rattle.link_base.specs.Forms
 pub use Rattle.link_base.specs.Payloads
 pub use Rattle.link_base.specs.Wire
 pub use Rattle.link_base.specs.Table
 pub use Rattle.link_base.specs.Lift
 pub use Rattle.link_base.specs.Editions
 pub use Rattle.link_base.specs.Held
+pub use Rattle.link_base.specs.Coherent
 pub use Rattle.link_base.specs.WellFormed
 pub use Rattle.link_base.specs.Lawful
 pub use Rattle.link_base.specs.Equality
@@ -21,6 +23,7 @@ pub use Rattle.link_base.specs.Answers
 pub use Rattle.link_base.specs.Checked
 pub use Rattle.link_base.specs.Borrowed
 pub use Rattle.link_base.specs.Labels
+pub use Rattle.link_base.specs.Fields
 pub use Rattle.link_base.specs.Viewed
 pub use Rattle.link_base.specs.Storing
 pub use Rattle.link_base.specs.Rewritten
@@ -43,7 +46,8 @@ pub use Rattle.link_bridge.specs.BridgePort
 pub use Rattle.link_bridge.specs.VlanInfo
 pub use Rattle.link_bridge.specs.AfSpec
 pub use Rattle.link_bridge.specs.ProtoInfo
-pub use Rattle.link_vlan_can.specs.Vlan
-pub use Rattle.link_vlan_can.specs.Can
-pub use Rattle.link_vlan_can.specs.Dsa
-pub use Rattle.link_vlan_can.specs.Hsr
+pub use Rattle.link_devices.specs.Vlan
+pub use Rattle.link_devices.specs.CanState
+pub use Rattle.link_devices.specs.Can
+pub use Rattle.link_devices.specs.Dsa
+pub use Rattle.link_devices.specs.Hsr

@@ -4,7 +4,7 @@ use Rattle.std.specs.List.{flat_map, AllByRecursion}
 use Rattle.std.specs.Fmt.{decimal}
 use Rattle.hex.specs.Hex.{decode_of, encode_lower}
 use Rattle.hex.specs.declared.error.FromHexError.{FromHexError}
-use Rattle.link_base.specs.declared.fault.DecodeFault.{DecodeFault}
+use Rattle.link_base.specs.declared.wire.fault.DecodeFault.{DecodeFault}
 use Rattle.link_base.specs.Wire.{Wire, FirstFault}
 use Rattle.link_base.specs.Table.{Table, AttrValue, Gives, Fits, written_kind, written_payload, written_list}
 use Rattle.link_base.specs.Texts.{fault_text}

@@ -2,8 +2,8 @@
 use Rattle.std.specs.Prelude.{◌≡◌, ◌↔◌, ℕ, ◌<◌, ◌≤◌, List, map, length, take, Option, Some, None, Result, Ok, Err}
 use Rattle.std.specs.Global.{Vec}
 use Rattle.std.specs.List.{AllByRecursion}
-use Rattle.link_base.specs.declared.fault.RewriteError.{RewriteError}
-use Rattle.link_base.specs.declared.fault.RewriteError.TheVariants as errors
+use Rattle.link_base.specs.declared.wire.fault.RewriteError.{RewriteError}
+use Rattle.link_base.specs.declared.wire.fault.RewriteError.TheVariants as errors
 use Rattle.link_base.specs.Wire.{Wire}
 use Rattle.link_base.specs.Table.{Table, AttrValue, Gives, Canonical, Rewriting, Fits, written_list, cut}
 use Rattle.link_base.specs.Answers.{OverwritesFront}

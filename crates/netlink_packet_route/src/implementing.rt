@@ -6,23 +6,26 @@
 //! depend on the crate that defines it, so list `link_base` in `crates.txt` too.
 
 // The traits of an attribute set, what their methods take and return, and the functions that `by_rows!` calls.
-pub use link_base::content::Content;
-pub use link_base::label::{Form, KindLabel, Name, Quantity};
+pub use link_base::rows::by_rows;
+pub use link_base::rows::fields::{Field, Part};
+pub use link_base::rows::form::{Form, Layout, Width};
+pub use link_base::rows::label::{KindLabel, Name, Quantity};
+pub use link_base::views::content::Content;
 pub use link_base::{
     Attribute, Cause, DecodeError, DecodeFault, DefaultNla, ListError, Meaning, NLA_F_NESTED,
-    NestedAttribute, Nla, NlaBuffer, Parseable, Place, TryClone, keep, rows,
+    NestedAttribute, Nla, NlaBuffer, Parseable, Place, TryClone, keep,
 };
 
 // The classes of payloads, and the traits of enums, sets of flags and structs.
-pub use link_base::flag_laws::{FlagSet, KnownBits};
+pub use link_base::names::flag_laws::{self, FlagSet, KnownBits};
+pub use link_base::names::named_laws;
 pub use link_base::{
-    Address, AddressList, Emitable, FlagBits, Lengths, LowFlagBits, MaskedFlags, Named,
-    NamedNumber, NestedList, OneAddress, PayloadClass, PayloadStruct, Struct, VlanProtocol,
-    flag_laws, named_laws,
+    Address, AddressList, Coded, Emitable, FixedSize, FlagBits, Lengths, LowFlagBits, MaskedFlags,
+    Named, NamedNumber, NestedList, NumberNames, PayloadClass, PayloadStruct, Struct, VlanProtocol,
 };
 
 // Parse and write the fields of a struct.
 pub use link_base::{
-    check_at_least, check_exactly, check_length, emit_mac, emit_u16, emit_u16_be, emit_u32,
-    emit_u32s, emit_u64, u16_at, u32_at, u32s_at,
+    check_at_least, check_exactly, check_length, emit_mac, emit_numbers, emit_u16, emit_u16_be,
+    emit_u32, emit_u64, u16_at, u32_at, u32s_at,
 };

@@ -4,11 +4,12 @@
 pub use crate::rewriting::rewrite_as;
 pub use crate::rewriting_streaming::rewrite_streaming_as;
 pub use crate::rewriting_to_slice::rewrite_to_slice_as;
+pub use link_base::lists::laws;
 pub use link_base::{
     Attribute, Cause, DecodeError, DecodeFault, DefaultNla, Emitable, FrameTable, ListError,
     ListFault, NLA_F_NESTED, NLA_F_NET_BYTEORDER, NLA_TYPE_MASK, Nla, NlaBuffer, NlasIterator,
     Parseable, RewriteError, TryClone, VlanProtocol, WriteError, check_list, emit_i32, emit_list,
-    emit_u16, emit_u16_be, emit_u32, emit_u64, expand_buffer_if_small, first_not_canonical, laws,
+    emit_u16, emit_u16_be, emit_u32, emit_u64, expand_buffer_if_small, first_not_canonical,
     list_fits, list_is_canonical, list_len, padded, parse_i32, parse_ip, parse_mac, parse_u8,
     parse_u16, parse_u16_be, parse_u32, parse_u64, read_list, write_list,
 };
@@ -23,7 +24,7 @@ pub use link_bridge::{
     BridgeStpMode, BridgeStpState, BridgeVlanInfo, BridgeVlanInfoFlags, BridgeVlanTunnelInfo,
     InfoBridge, InfoBridgePort, LinkProtoInfoBridge, VecAfSpecBridge, VecLinkProtoInfoBridge,
 };
-pub use link_vlan_can::{
+pub use link_devices::{
     CanBerrCounter, CanBitTiming, CanBitTimingConst, CanClock, CanCtrlMode, CanCtrlModeExt,
     CanCtrlModeFlags, CanTdc, HsrProtocol, InfoCan, InfoDsa, InfoHsr, InfoVlan, VlanFlags,
     VlanQosMapping,

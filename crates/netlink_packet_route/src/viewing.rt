@@ -14,11 +14,11 @@ ghost use Rattle.netlink_packet_route.specs.Views.{family_in, elements_in, eleme
 use crate::by_family;
 use crate::counting::count_values;
 use crate::family::Family;
-use link_base::attribute_set::{AttributeSet, CheckedSet};
-use link_base::content::Content;
-use link_base::label::KindLabel;
-use link_base::view::{Value, View};
-use link_base::view_all::ViewAll;
+use link_base::rows::label::KindLabel;
+use link_base::views::attribute_set::{AttributeSet, CheckedSet};
+use link_base::views::content::Content;
+use link_base::views::view::{Value, View};
+use link_base::views::view_all::ViewAll;
 use link_base::{Attribute, DecodeFault, ListFault, NlaBuffer};
 
 /// The attributes in the lists of a `Family`.

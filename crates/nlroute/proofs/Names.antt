@@ -1,8 +1,10 @@
 -- No option is the name of a Family: names begin with a letter, options with a dash. And --help is not --version.
-use Rattle.std.proofs.Common.{◌≡◌, ◌≤◌, ℕ, List, [], ◌∷◌, Option, Some, None, inl, inr, ap, arith}
+use Rattle.std.proofs.Common.{◌≡◌, ◌≤◌, ℕ, List, [], ◌∷◌, Option, Some, None, inl, inr, refl, ap, arith}
+use Rattle.std.specs.Prelude.{nat_le}
+use Rattle.std.proofs.lemmas.Bool.{leb-true}
 use Rattle.netlink_packet_route.specs.declared.family.Family.{Family}
-use Rattle.netlink_packet_route.specs.declared.family.Family.TheVariants.{AfSpecBridge, Bond, BondPort, Bridge, BridgePort, Vlan, Can, Dsa, Hsr, ProtoBridge}
 use Rattle.netlink_packet_route.specs.Family.{family_name}
+use Rattle.netlink_packet_route.proofs.Families.{each_family}
 use Rattle.nlroute.specs.Request.{IsHelp, IsVersion, IsNoFamily}
 
 -- the first byte, or 0 if there is none
@@ -13,16 +15,7 @@ first (Some (b ∷ rest)) = b
 
 letter : (family : Family) → 97 ≤ first (Some (family_name family))
 unfolding first
-letter AfSpecBridge = omega (arith)
-letter Bond = omega (arith)
-letter BondPort = omega (arith)
-letter Bridge = omega (arith)
-letter BridgePort = omega (arith)
-letter Vlan = omega (arith)
-letter Can = omega (arith)
-letter Dsa = omega (arith)
-letter Hsr = omega (arith)
-letter ProtoBridge = omega (arith)
+letter family = leb-true 97 (first (Some (family_name family))) (each_family (λ family. nat_le 97 (first (Some (family_name family)))) refl family)
 
 dashed : (argument : Option (List ℕ)) → first argument ≡ 45 → IsNoFamily argument
 dashed argument dash family named = absurd (omega (arith, letter family, ap first named, dash))

@@ -1,8 +1,7 @@
 //! Reads a list of link attributes in hex, and prints its attributes and the re-encoded list.
 //!
-//! Usage: `nlroute FAMILY | --help | --version`, where FAMILY is `af_spec_bridge`, `bond`, `bond_port`, `bridge`,
-//! `bridge_port`, `vlan`, `can`, `dsa`, `hsr` or `proto_bridge`. The input is read from standard input. A wrong argument
-//! and a failed write are reported on standard error.
+//! Usage: `nlroute FAMILY | --help | --version`, where FAMILY is the name of a `Family`. The input is read from standard
+//! input. A wrong argument and a failed write are reported on standard error.
 #![tactic(auto)]
 
 mod arguments;

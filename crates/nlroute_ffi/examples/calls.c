@@ -41,44 +41,41 @@ static bool are_lent(const void *bytes, size_t len) {
 static const uint8_t vlan[32] = {6, 0, 5, 0, 0x88, 0xA8, 0, 0, 6,  0, 1, 0, 5, 0, 0, 0,
                                  16, 0, 3, 0, 12,   0,    1, 0, 1, 0, 0, 0, 2, 0, 0, 0};
 
-/* Input that only one attribute set re-encodes as this output. The first byte of each is its length. */
+/* For each attribute set, by its number, input that only this one re-encodes as this output. Their first byte is a length. */
 static const struct {
-    uint32_t family;
-    const char *name;
     uint8_t bytes[17], wanted[17];
 } rows[] = {
-    {NLROUTE_AF_SPEC_BRIDGE, "af_spec_bridge", {6, 6, 0, 0, 0x80, 2, 0}, {8, 6, 0, 0, 0, 2, 0, 0, 0}},
-    {NLROUTE_BOND, "bond", {8, 5, 0, 34, 0, 2, 0, 0, 0}, {8, 5, 0, 34, 0, 1, 0, 0, 0}},
-    {NLROUTE_BOND_PORT, "bond_port", {8, 6, 0, 8, 0, 63, 1, 0, 0}, {8, 6, 0, 8, 0, 63, 0, 0, 0}},
-    {NLROUTE_BRIDGE, "bridge", {8, 7, 0, 21, 0, 1, 2, 3, 0}, {4, 4, 0, 21, 0}},
-    {NLROUTE_BRIDGE_PORT, "bridge_port", {8, 6, 0, 24, 0, 1, 2, 0, 0}, {4, 4, 0, 24, 0}},
-    {NLROUTE_VLAN, "vlan", {8, 6, 0, 5, 0, 145, 0, 0, 0}, {8, 6, 0, 5, 0, 129, 0, 0, 0}},
-    {NLROUTE_CAN, "can", {10, 10, 0, 8, 0, 1, 0, 2, 0, 9, 9}, {8, 8, 0, 8, 0, 1, 0, 2, 0}},
-    {NLROUTE_DSA, "dsa", {12, 8, 0, 1, 0x80, 42, 0, 0, 0, 4, 0, 2, 0x80}, {12, 8, 0, 1, 0, 42, 0, 0, 0, 4, 0, 2, 0x80}},
-    {NLROUTE_HSR, "hsr", {8, 5, 0, 3, 0x40, 9, 0, 0, 0}, {8, 5, 0, 3, 0, 9, 0, 0, 0}},
-    {NLROUTE_PROTO_BRIDGE,
-     "proto_bridge",
-     {12, 5, 0, 45, 0, 2, 0, 0, 0, 4, 0, 24, 0x80},
-     {12, 5, 0, 45, 0, 1, 0, 0, 0, 4, 0, 24, 0x80}},
+    {{6, 6, 0, 0, 0x80, 2, 0}, {8, 6, 0, 0, 0, 2, 0, 0, 0}},
+    {{8, 5, 0, 34, 0, 2, 0, 0, 0}, {8, 5, 0, 34, 0, 1, 0, 0, 0}},
+    {{8, 6, 0, 8, 0, 63, 1, 0, 0}, {8, 6, 0, 8, 0, 63, 0, 0, 0}},
+    {{8, 7, 0, 21, 0, 1, 2, 3, 0}, {4, 4, 0, 21, 0}},
+    {{8, 6, 0, 24, 0, 1, 2, 0, 0}, {4, 4, 0, 24, 0}},
+    {{8, 6, 0, 5, 0, 145, 0, 0, 0}, {8, 6, 0, 5, 0, 129, 0, 0, 0}},
+    {{10, 10, 0, 8, 0, 1, 0, 2, 0, 9, 9}, {8, 8, 0, 8, 0, 1, 0, 2, 0}},
+    {{12, 8, 0, 1, 0x80, 42, 0, 0, 0, 4, 0, 2, 0x80}, {12, 8, 0, 1, 0, 42, 0, 0, 0, 4, 0, 2, 0x80}},
+    {{8, 5, 0, 3, 0x40, 9, 0, 0, 0}, {8, 5, 0, 3, 0, 9, 0, 0, 0}},
+    {{12, 5, 0, 45, 0, 2, 0, 0, 0, 4, 0, 24, 0x80}, {12, 5, 0, 45, 0, 1, 0, 0, 0, 4, 0, 24, 0x80}},
 };
 
-/* Returns the number of the only attribute set that re-encodes bytes as wanted, or 10 if there is not exactly one. */
+/* How many attribute sets there are; no set has this number. */
+enum { FAMILIES = sizeof rows / sizeof rows[0] };
+
+/* Returns the number of the only attribute set that re-encodes bytes as wanted, or FAMILIES if there is not exactly one. */
 static uint32_t only_family(const uint8_t *bytes, const uint8_t *wanted) {
-    uint32_t found = 10;
-    for (uint32_t family = 0; family < 10; family++) {
+    uint32_t found = FAMILIES;
+    for (uint32_t family = 0; family < FAMILIES; family++) {
         uint8_t out[16];
         memset(out, 0xFF, sizeof out);
         ptrdiff_t answer = nlroute_rewrite(family, bytes + 1, bytes[0], out, sizeof out);
         if (answer != wanted[0] || memcmp(out, wanted + 1, wanted[0])) continue;
-        if (found != 10) return 10;
+        if (found != FAMILIES) return FAMILIES;
         found = family;
     }
     return found;
 }
 
 static void families(void) {
-    for (size_t i = 0; i < sizeof rows / sizeof rows[0]; i++)
-        check(rows[i].family == i && only_family(rows[i].bytes, rows[i].wanted) == i, rows[i].name);
+    for (uint32_t i = 0; i < FAMILIES; i++) check(only_family(rows[i].bytes, rows[i].wanted) == i, "a set by its number");
 }
 
 static void rewriting(void) {
@@ -100,11 +97,11 @@ static void judging(void) {
     check(is_so, "a request is canonical, and no memory is taken to tell");
     check(empty, "no bytes are canonical");
     check(!nlroute_is_canonical(NLROUTE_VLAN, vlan, 30), "with a fault it is not");
-    for (size_t i = 0; i < sizeof rows / sizeof rows[0]; i++) {
-        bool first = !nlroute_is_canonical(rows[i].family, rows[i].bytes + 1, rows[i].bytes[0]);
-        check(first && nlroute_is_canonical(rows[i].family, rows[i].wanted + 1, rows[i].wanted[0]), rows[i].name);
+    for (uint32_t i = 0; i < FAMILIES; i++) {
+        bool first = !nlroute_is_canonical(i, rows[i].bytes + 1, rows[i].bytes[0]);
+        check(first && nlroute_is_canonical(i, rows[i].wanted + 1, rows[i].wanted[0]), "output is canonical, input not");
     }
-    check(!nlroute_is_canonical(10, vlan, 32), "nothing is canonical for number 10");
+    check(!nlroute_is_canonical(FAMILIES, vlan, 32), "nothing is canonical for the number of no set");
 }
 
 static void refusals(void) {
@@ -114,7 +111,7 @@ static void refusals(void) {
     ptrdiff_t grown = nlroute_rewrite(NLROUTE_VLAN, grows, sizeof grows, out, sizeof out);
     check(grown == NLROUTE_TOO_LONG, "-2 for a list that grows");
     check(nlroute_rewrite(NLROUTE_VLAN, vlan, 32, out, 31) == NLROUTE_NO_ROOM, "-4 with room for all but a byte");
-    check(nlroute_rewrite(10, vlan, 32, out, 40) == NLROUTE_NO_FAMILY, "-5 for number 10");
+    check(nlroute_rewrite(FAMILIES, vlan, 32, out, 40) == NLROUTE_NO_FAMILY, "-5 for the number of no set");
     check(nlroute_rewrite(UINT32_MAX, vlan, 32, out, 40) == NLROUTE_NO_FAMILY, "-5 for the greatest number");
     memory_is_out = true;
     ptrdiff_t rewritten = nlroute_rewrite(NLROUTE_VLAN, vlan, 32, out, 40);
@@ -123,7 +120,7 @@ static void refusals(void) {
     check(rewritten == NLROUTE_NO_MEMORY, "-3 without memory");
     check(counted == 3 && empty == 0, "no memory for a count, or for no values");
     check(are_lent(out, sizeof out), "nothing was written");
-    check(nlroute_count(NLROUTE_VLAN, vlan, 30) == -1 && nlroute_count(10, vlan, 32) == -5, "-1 and -5 of a count");
+    check(nlroute_count(NLROUTE_VLAN, vlan, 30) == -1 && nlroute_count(FAMILIES, vlan, 32) == -5, "-1 and -5 of a count");
 }
 
 /* Checks nlroute_rewrite_streaming(): it builds no list of values, so only values that own heap memory allocate. */
@@ -133,7 +130,7 @@ static void value_by_value(void) {
     memset(out, 0xFF, sizeof out);
     ptrdiff_t small = nlroute_rewrite_streaming(NLROUTE_VLAN, vlan, 32, out, 31);
     check(small == NLROUTE_NO_ROOM, "-4 with room for all but a byte, value by value");
-    check(nlroute_rewrite_streaming(10, vlan, 32, out, 40) == NLROUTE_NO_FAMILY, "-5 value by value");
+    check(nlroute_rewrite_streaming(FAMILIES, vlan, 32, out, 40) == NLROUTE_NO_FAMILY, "-5 value by value");
     check(are_lent(out, sizeof out), "nothing was written then");
     ptrdiff_t answer = nlroute_rewrite_streaming(NLROUTE_VLAN, vlan, 32, out, 40);
     check(answer == 32 && !memcmp(out, vlan, 32) && are_lent(out + 32, 8), "a request is rewritten value by value");
@@ -180,7 +177,7 @@ static void values(void) {
     check(nlroute_values(NLROUTE_BRIDGE, bridge, 37, v, 6) == NLROUTE_HAS_FAULT, "-1 of values");
     memset(&found, 0xFF, sizeof found);
     check(nlroute_find(NLROUTE_BRIDGE, bridge, sizeof bridge, 2, &found) == NLROUTE_ABSENT, "-6 for what is not there");
-    check(nlroute_find_in(10, bridge, sizeof bridge, 47, 1, &found) == NLROUTE_NO_FAMILY, "-5 of an element");
+    check(nlroute_find_in(FAMILIES, bridge, sizeof bridge, 47, 1, &found) == NLROUTE_NO_FAMILY, "-5 of an element");
     check(are_lent(&found, sizeof found), "nothing was found");
     bool is_found = !nlroute_find(NLROUTE_BRIDGE, bridge, sizeof bridge, 1, &found);
     check(is_found && !memcmp(&found, v, sizeof found), "the delay is found");
@@ -288,7 +285,7 @@ static void names(void) {
     mode.number = 7;
     check(nlroute_number_name(NLROUTE_BOND, &mode, text, 40) == NLROUTE_ABSENT && text[0] == 0, "-6 of a number");
     text[0] = 'x';
-    check(nlroute_kind_name(10, &mode, text, 40) == NLROUTE_NO_FAMILY && text[0] == 0, "-5 of a name");
+    check(nlroute_kind_name(FAMILIES, &mode, text, 40) == NLROUTE_NO_FAMILY && text[0] == 0, "-5 of a name");
 
     struct nlroute_value state = value(NLROUTE_IFLA_CAN_STATE, NLROUTE_FORM_NAMED, 3, 0);
     memset(text, 0xFF, sizeof text);
@@ -350,12 +347,12 @@ static void texts(void) {
                 "flags GVRP|LOOSE_BINDING mask all");
     check_value(NLROUTE_VLAN, element(NLROUTE_IFLA_VLAN_EGRESS_QOS, 1, NLROUTE_FORM_QOS_MAPPING, 5, 6), "from 5 to 6");
     check_value(NLROUTE_CAN, with_length(value(NLROUTE_IFLA_CAN_BITTIMING, NLROUTE_FORM_BITTIMING, 0, 0), 16, 32),
-                "bitrate 0 sample_point 1 tq 2 prop_seg 3 phase_seg1 4 phase_seg2 5 sjw 6 brp 7");
+                "bitrate 0 bit/s sample_point 1 tq 2 ns prop_seg 3 phase_seg1 4 phase_seg2 5 sjw 6 brp 7");
     check_value(NLROUTE_CAN,
                 with_length(value(NLROUTE_IFLA_CAN_BITTIMING_CONST, NLROUTE_FORM_BITTIMING_CONST, 0, 0), 0, 48),
                 "name \"mcp251x\" tseg1_min 0 tseg1_max 1 tseg2_min 2 tseg2_max 3 sjw_max 4 "
                 "brp_min 5 brp_max 6 brp_inc 7");
-    check_value(NLROUTE_CAN, value(NLROUTE_IFLA_CAN_CLOCK, NLROUTE_FORM_UNSIGNED, 8000000, 0), "freq 8000000");
+    check_value(NLROUTE_CAN, value(NLROUTE_IFLA_CAN_CLOCK, NLROUTE_FORM_UNSIGNED, 8000000, 0), "freq 8000000 Hz");
     check_value(NLROUTE_CAN, value(NLROUTE_IFLA_CAN_STATE, NLROUTE_FORM_NAMED, 0, 0), "ERROR-ACTIVE (0)");
     check_value(NLROUTE_CAN, value(NLROUTE_IFLA_CAN_CTRLMODE, NLROUTE_FORM_MASKED, 0x21, 0),
                 "mask 0 flags LOOPBACK|FD");
@@ -378,7 +375,7 @@ static void texts(void) {
     check(nlroute_text(NLROUTE_VLAN, &v, bytes, 129, text, sizeof text) == NLROUTE_BAD_OCTETS, "-10 of a text");
     v.form = 20;
     check(nlroute_text(NLROUTE_VLAN, &v, bytes, 130, text, sizeof text) == NLROUTE_BAD_FORM, "-7 of a text");
-    check(nlroute_text(10, &v, bytes, 130, text, sizeof text) == NLROUTE_NO_FAMILY && text[0] == 0, "-5 of a text");
+    check(nlroute_text(FAMILIES, &v, bytes, 130, text, sizeof text) == NLROUTE_NO_FAMILY && text[0] == 0, "-5 of a text");
     v = value(2, NLROUTE_FORM_VLAN_INFO, 65536, 0);
     check(nlroute_text(NLROUTE_AF_SPEC_BRIDGE, &v, bytes, 130, text, sizeof text) == NLROUTE_BAD_NUMBER, "-8 of a text");
 }
@@ -405,7 +402,7 @@ static void texts_of_faults(void) {
     fault.cause = 7;
     check(nlroute_fault_text(NLROUTE_CAN, &fault, text, sizeof text) == NLROUTE_BAD_FORM && text[0] == 0,
           "-7 of an error");
-    check(nlroute_fault_text(10, &fault, text, sizeof text) == NLROUTE_NO_FAMILY, "-5 of the text of an error");
+    check(nlroute_fault_text(FAMILIES, &fault, text, sizeof text) == NLROUTE_NO_FAMILY, "-5 of the text of an error");
 }
 
 /* A payload of one byte where four are required, and a truncated header after it. */
@@ -427,7 +424,7 @@ static void faults(void) {
     ptrdiff_t answer = nlroute_first_fault(NLROUTE_VLAN, vlan, 32, &first);
     memory_is_out = false;
     check(answer == NLROUTE_ABSENT, "-6 for no fault, without memory");
-    check(nlroute_first_fault(10, vlan, 30, &first) == NLROUTE_NO_FAMILY, "-5 of a fault");
+    check(nlroute_first_fault(FAMILIES, vlan, 30, &first) == NLROUTE_NO_FAMILY, "-5 of a fault");
     check(are_lent(&first, sizeof first), "no fault was stored");
     memory_is_out = true;
     answer = nlroute_first_fault(NLROUTE_VLAN, vlan, 30, &first);
@@ -463,7 +460,7 @@ static void reports(void) {
     ptrdiff_t answer = nlroute_report(NLROUTE_DSA, (const uint8_t *)"00", 2, out, 4, &code);
     memory_is_out = false;
     check(answer == NLROUTE_NO_MEMORY, "-3 of a report");
-    check(nlroute_report(10, vlan, 0, out, 4, &code) == NLROUTE_NO_FAMILY, "-5 of a report");
+    check(nlroute_report(FAMILIES, vlan, 0, out, 4, &code) == NLROUTE_NO_FAMILY, "-5 of a report");
     check(are_lent(out, sizeof out) && code == 0xFF, "neither text nor status was put");
 }
 

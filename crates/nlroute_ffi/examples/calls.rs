@@ -1,21 +1,12 @@
 //! Calls the functions of nlroute.h from Rust, through safe functions over slices. Prints a line `ok ..` for each check
 //! that succeeds, and `FAILED ..` for each that fails.
 
-/// The attribute sets and their numbers.
+/// The attribute sets of this program, with their numbers in `nlroute.h`.
 #[derive(Clone, Copy, Debug, PartialEq, Eq)]
 #[repr(u32)]
-#[allow(dead_code)]
 pub enum Family {
-    AfSpecBridge = 0,
     Bond = 1,
-    BondPort = 2,
-    Bridge = 3,
-    BridgePort = 4,
-    Vlan = 5,
-    Can = 6,
     Dsa = 7,
-    Hsr = 8,
-    ProtoBridge = 9,
 }
 
 /// Why a function returns no length and no count.

@@ -57,15 +57,15 @@ uint32_t nlroute_version(void);
 /* The attribute sets. */
 enum nlroute_family {
     NLROUTE_AF_SPEC_BRIDGE = 0, /* IFLA_AF_SPEC in AF_BRIDGE messages */
-    NLROUTE_BOND = 1,
-    NLROUTE_BOND_PORT = 2,
-    NLROUTE_BRIDGE = 3,
-    NLROUTE_BRIDGE_PORT = 4,
-    NLROUTE_VLAN = 5,
-    NLROUTE_CAN = 6,
-    NLROUTE_DSA = 7,
-    NLROUTE_HSR = 8,
-    NLROUTE_PROTO_BRIDGE = 9 /* IFLA_PROTINFO in AF_BRIDGE messages */
+    NLROUTE_BOND = 1, /* IFLA_INFO_DATA of a bond */
+    NLROUTE_BOND_PORT = 2, /* IFLA_INFO_SLAVE_DATA of a bond port */
+    NLROUTE_BRIDGE = 3, /* IFLA_INFO_DATA of a bridge */
+    NLROUTE_BRIDGE_PORT = 4, /* IFLA_INFO_SLAVE_DATA of a bridge port */
+    NLROUTE_VLAN = 5, /* IFLA_INFO_DATA of a VLAN device */
+    NLROUTE_CAN = 6, /* IFLA_INFO_DATA of a CAN controller */
+    NLROUTE_DSA = 7, /* IFLA_INFO_DATA of a DSA port */
+    NLROUTE_HSR = 8, /* IFLA_INFO_DATA of an HSR or PRP device */
+    NLROUTE_PROTO_BRIDGE = 9 /* IFLA_PROTINFO in AF_BRIDGE messages: attribute type 45 only */
 };
 
 /*
@@ -406,8 +406,8 @@ ptrdiff_t nlroute_kind_name(uint32_t family, const struct nlroute_value *value, 
 
 /*
  * Stores the text of a value, as nlshow prints it after the name: "1500 (15.00 s)", "802.3ad (4)",
- * "02:00:00:00:00:01", "flags GVRP mask GVRP". For an element it is the text of the element only: "120 ohm",
- * "10.0.0.1". It is "" for a list and for NLROUTE_FORM_EMPTY, and "hex dead" for NLROUTE_FORM_UNKNOWN.
+ * "02:00:00:00:00:01", "flags GVRP mask GVRP", "freq 8000000 Hz". For an element it is the text of the element only:
+ * "120 ohm", "10.0.0.1". It is "" for a list and for NLROUTE_FORM_EMPTY, and "hex dead" for NLROUTE_FORM_UNKNOWN.
  *
  * The field form selects the fields that are written. The fields kind, inner and depth select the unit of a number,
  * the names of numbers and bits, and the width of a set of flags, all of whose bits are "all". The len bytes at octets

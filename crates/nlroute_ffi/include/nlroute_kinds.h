@@ -6,6 +6,21 @@
 #ifndef NLROUTE_KINDS_H
 #define NLROUTE_KINDS_H
 
+/* Attributes of NLROUTE_AF_SPEC_BRIDGE. */
+enum {
+    NLROUTE_IFLA_BRIDGE_FLAGS = 0, /* NAMED */
+    NLROUTE_IFLA_BRIDGE_MODE = 1, /* NAMED */
+    NLROUTE_IFLA_BRIDGE_VLAN_INFO = 2, /* VLAN_INFO */
+    NLROUTE_IFLA_BRIDGE_VLAN_TUNNEL_INFO = 3 /* LIST of attributes */
+};
+
+/* Elements of IFLA_BRIDGE_VLAN_TUNNEL_INFO. */
+enum {
+    NLROUTE_IFLA_BRIDGE_VLAN_TUNNEL_ID = 1, /* UNSIGNED */
+    NLROUTE_IFLA_BRIDGE_VLAN_TUNNEL_VID = 2, /* UNSIGNED */
+    NLROUTE_IFLA_BRIDGE_VLAN_TUNNEL_FLAGS = 3 /* FLAGS */
+};
+
 /* Attributes of NLROUTE_BOND. */
 enum {
     NLROUTE_IFLA_BOND_MODE = 1, /* NAMED */
@@ -180,26 +195,6 @@ enum {
     NLROUTE_IFLA_BRPORT_NEIGH_FORWARD_GRAT = 45 /* BOOL */
 };
 
-/*
- * NLROUTE_PROTO_BRIDGE knows NLROUTE_IFLA_BRPORT_NEIGH_FORWARD_GRAT only. Every other attribute of an IFLA_PROTINFO has
- * UNKNOWN there. Read the list with NLROUTE_BRIDGE_PORT: its attributes then have the forms above.
- */
-
-/* Attributes of NLROUTE_AF_SPEC_BRIDGE. */
-enum {
-    NLROUTE_IFLA_BRIDGE_FLAGS = 0, /* NAMED */
-    NLROUTE_IFLA_BRIDGE_MODE = 1, /* NAMED */
-    NLROUTE_IFLA_BRIDGE_VLAN_INFO = 2, /* VLAN_INFO */
-    NLROUTE_IFLA_BRIDGE_VLAN_TUNNEL_INFO = 3 /* LIST of attributes */
-};
-
-/* Elements of IFLA_BRIDGE_VLAN_TUNNEL_INFO. */
-enum {
-    NLROUTE_IFLA_BRIDGE_VLAN_TUNNEL_ID = 1, /* UNSIGNED */
-    NLROUTE_IFLA_BRIDGE_VLAN_TUNNEL_VID = 2, /* UNSIGNED */
-    NLROUTE_IFLA_BRIDGE_VLAN_TUNNEL_FLAGS = 3 /* FLAGS */
-};
-
 /* Attributes of NLROUTE_VLAN. */
 enum {
     NLROUTE_IFLA_VLAN_ID = 1, /* UNSIGNED */
@@ -269,5 +264,10 @@ enum {
     NLROUTE_IFLA_HSR_PROTOCOL = 7, /* NAMED */
     NLROUTE_IFLA_HSR_INTERLINK = 8 /* UNSIGNED */
 };
+
+/*
+ * NLROUTE_PROTO_BRIDGE knows NLROUTE_IFLA_BRPORT_NEIGH_FORWARD_GRAT only. Every other attribute of an IFLA_PROTINFO has
+ * UNKNOWN there. Read the list with NLROUTE_BRIDGE_PORT: its attributes then have the forms above.
+ */
 
 #endif

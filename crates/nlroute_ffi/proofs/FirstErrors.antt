@@ -1,11 +1,11 @@
 -- The first error of a list is an error that a struct has numbers for.
 use Rattle.std.proofs.Common.{◌≡◌, inl, inr, ℕ, ◌%◌, ◌<◌, ◌==◌, Bool, true, false, cond, nat_lt, List, [], ◌∷◌, length, take, Option, Some, None, Result, Ok, Err, refl, sym, subst, arith}
 use Rattle.std.proofs.Math.Nat.{mod-lt}
-use Rattle.link_base.specs.declared.fault.Cause.{Cause}
-use Rattle.link_base.specs.declared.fault.Cause.TheVariants.{ShortFrame, SmallLength, Overrun, WrongLength, TooShort}
-use Rattle.link_base.specs.declared.fault.Cause.TheVariants as causes
-use Rattle.link_base.specs.declared.fault.DecodeFault.{DecodeFault}
-use Rattle.link_base.specs.declared.fault.DecodeFault.TheVariants as faults
+use Rattle.link_base.specs.declared.wire.fault.Cause.{Cause}
+use Rattle.link_base.specs.declared.wire.fault.Cause.TheVariants.{ShortFrame, SmallLength, Overrun, WrongLength, TooShort}
+use Rattle.link_base.specs.declared.wire.fault.Cause.TheVariants as causes
+use Rattle.link_base.specs.declared.wire.fault.DecodeFault.{DecodeFault}
+use Rattle.link_base.specs.declared.wire.fault.DecodeFault.TheVariants as faults
 use Rattle.link_base.specs.Number.{IsBytes, number}
 use Rattle.link_base.specs.Frame.{frame_fault, kind_of, spelled}
 use Rattle.link_base.specs.Class.{Class, Value, Extent, Exactly, AtLeast, Fixed, Multiple, extent, length_cause, unless, meant, class_value}

@@ -3,9 +3,9 @@ pub mod Stored
 pub mod Texts
 pub mod StructTexts
 pub mod EntryTexts
+pub mod HeldTexts
 pub mod AttributeTexts
 pub mod ErrorTexts
 pub mod FirstErrors
 pub mod NameTexts
-pub mod HeldTexts
 pub mod CutTexts

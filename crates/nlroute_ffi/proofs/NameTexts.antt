@@ -1,34 +1,80 @@
 -- The names of numbers and bits are those in the texts of values.
-use Rattle.std.proofs.Common.{◌≡◌, ◌≢◌, ℕ, zero, suc, ◌+◌, ◌-◌, ◌*◌, ◌^◌, ◌<◌, ◌==◌, ◌&&◌, ◌||◌, Bool, true, false, cond, not, List, [], ◌∷◌, ◌++◌, map, Option, Some, None, refl, sym, ap, ap₂, subst, ◌∙◌, arith, codes}
-use Rattle.std.specs.Prelude.{bytes_eq}
+use Rattle.std.proofs.Common.{◌≡◌, ◌≢◌, ℕ, zero, suc, ◌+◌, ◌-◌, ◌*◌, ◌^◌, ◌<◌, ◌==◌, ◌&&◌, ◌||◌, Bool, true, false, cond, not, List, [], ◌∷◌, ◌++◌, map, Option, Some, None, option_map, refl, sym, ap, ap₂, subst, ◌∙◌, arith, codes}
 use Rattle.std.specs.Fmt.{decimal}
+use Rattle.std.specs.Str.{bytes_eq}
 use Rattle.std.specs.List.{list_all}
 use Rattle.std.specs.Int.RustNames.{bit_and}
-use Rattle.std.proofs.lemmas.Bool.{eqb-true, eq-eqb, ne_eqb, lt-ltb}
+use Rattle.std.proofs.lemmas.Bool.{and_parts, eqb-true, eq-eqb, ne_eqb, lt-ltb}
 use Rattle.std.proofs.lemmas.List.{append-nil}
 use Rattle.std.proofs.lemmas.Nat.{pow_pos, pow-add}
-use Rattle.link_base.specs.declared.label.Form.{Form}
-use Rattle.link_base.specs.declared.label.Form.TheVariants as forms
-use Rattle.link_base.specs.declared.content.Content.TheVariants as contents
-use Rattle.link_base.specs.declared.vlan_protocol.VlanProtocol.{VlanProtocol}
-use Rattle.link_base.specs.declared.vlan_protocol.VlanProtocol.TheVariants.{Ieee8021Q, Ieee8021Ad}
+use Rattle.std.proofs.lemmas.Slice.Eq.{bytes_eq-Decides}
+use Rattle.link_base.specs.declared.rows.form.Width.{Width}
+use Rattle.link_base.specs.declared.rows.form.Form.{Form}
+use Rattle.link_base.specs.declared.rows.form.Form.TheVariants as forms
+use Rattle.link_base.specs.declared.views.content.Content.TheVariants as contents
+use Rattle.link_base.specs.declared.names.vlan_protocol.VlanProtocol.{VlanProtocol}
+use Rattle.link_base.specs.declared.names.vlan_protocol.VlanProtocol.TheVariants.{Ieee8021Q, Ieee8021Ad}
 use Rattle.link_base.specs.Labels.{name_in}
-use Rattle.link_base.specs.Protocol.{protocol_number}
-use Rattle.link_base.specs.Table.{Row, Shape, Table, class_at, label_at}
+use Rattle.link_base.specs.Named.{text_of}
+use Rattle.link_base.specs.Protocol.{protocol_number, vlan_protocols}
+use Rattle.link_base.specs.Table.{Row, Shape, Table, row_at, label_at, label_by}
 use Rattle.link_base.specs.Borrowed.{elements_by, elements_at}
 use Rattle.netlink_packet_route.specs.declared.family.Family.{Family}
-use Rattle.netlink_packet_route.specs.declared.family.Family.TheVariants as families
 use Rattle.netlink_packet_route.specs.Family.{table_of}
+use Rattle.netlink_packet_route.proofs.Families.{each_family}
 use Rattle.link_flat.specs.declared.entry.Entry.{Entry}
 use Rattle.link_show.specs.Text.{joined, hex_number}
+use Rattle.link_show.specs.Number.{beside}
 use Rattle.link_show.specs.Flags.{named_text, enum_text, set_names, unnamed, last_word, flag_words, is_all, flags_text}
-use Rattle.link_show.specs.Value.{Label, form_in, names_of, can_state_names, unsigned_text, content_text}
-use Rattle.link_show.specs.Value.{name_in as type_name}
-use Rattle.nlroute_ffi.specs.Names.{is_indexed, label_for, plain_names, number_names_by, number_name, bit_names_by, flag_name}
+use Rattle.link_show.specs.Value.{Label, form_in, names_of, protocol_text, content_text}
+use Rattle.nlroute_ffi.specs.Names.{is_indexed, label_for, number_names_by, number_name, bit_names_by, flag_name}
 use Rattle.nlroute_ffi.specs.Shown.{IsWithName, IsByName}
 
-some_same : {A : Type 0} {a b : A} → Some a ≡ Some b → a ≡ b
-some_same e = cc
+-- ---- attribute types
+
+-- what holds of each row holds of that of an attribute type
+row_checked : {C : Type 0} (test : Row C → Bool) (rows : List (Row C)) (k : ℕ) (r : Row C) → list_all test rows ≡ true → row_at rows k ≡ Some r → test r ≡ true
+row_checked test [] k r h at = absurd cc
+row_checked test (first ∷ rows) k r h at = by_test (first.kind == k) at (row_checked test rows k r (and_parts (test first) (list_all test rows) h).1) where
+  by_test : (b : Bool) → cond b (Some first) (row_at rows k) ≡ Some r → (row_at rows k ≡ Some r → test r ≡ true) → test r ≡ true
+  by_test true is rest = let same : first ≡ r = cc in subst (λ q. test q ≡ true) same (and_parts (test first) (list_all test rows) h).0
+  by_test false is rest = rest is
+
+-- a test of what is known of each attribute type
+module _ (test : Label → Bool) where
+  abbrev rows_pass : Table → Bool
+  rows_pass table = list_all (λ r. test (label_by r)) table
+
+  abbrev elements_pass : Option Shape → Bool
+  elements_pass o = rows_pass (elements_by o)
+
+  -- also of those of nested lists
+  abbrev types_pass : Table → Bool
+  types_pass table = rows_pass table && list_all (λ r. elements_pass (Some r.class)) table
+
+  label_passes : (table : Table) (k : ℕ) (label : Label) → rows_pass table ≡ true → label_at table k ≡ Some label → test label ≡ true
+  label_passes table k label h at = by_row (row_at table k) refl at where
+    by_row : (o : Option (Row Shape)) → row_at table k ≡ o → option_map label_by o ≡ Some label → test label ≡ true
+    by_row None row is = absurd cc
+    by_row (Some r) row is = let same : label_by r ≡ label = cc in subst (λ l. test l ≡ true) same (row_checked (λ q. test (label_by q)) table k r h row)
+
+  nested_pass : (table : Table) (k : ℕ) → list_all (λ r. elements_pass (Some r.class)) table ≡ true → rows_pass (elements_at table k) ≡ true
+  nested_pass table k h = by_row (row_at table k) refl where
+    by_row : (o : Option (Row Shape)) → row_at table k ≡ o → elements_pass (option_map (λ r. r.class) o) ≡ true
+    by_row None row = refl
+    by_row (Some r) row = row_checked (λ q. elements_pass (Some q.class)) table k r h row
+
+  type_passes : (family : Family) → types_pass (table_of family) ≡ true → (e : Entry) (label : Label) → label_for family e ≡ Some label → test label ≡ true
+  type_passes family h e label at = by_test ((e.depth == 0) || is_indexed family e) at where
+    table : Table
+    table = table_of family
+
+    both : (rows_pass table ≡ true) × (list_all (λ r. elements_pass (Some r.class)) table ≡ true)
+    both = and_parts (rows_pass table) (list_all (λ r. elements_pass (Some r.class)) table) h
+
+    by_test : (b : Bool) → cond b (label_at table e.kind) (label_at (elements_at table e.kind) e.inner) ≡ Some label → test label ≡ true
+    by_test true at = label_passes table e.kind label both.0 at
+    by_test false at = label_passes (elements_at table e.kind) e.inner label (nested_pass table e.kind both.1) at
 
 -- ---- numbers
 
@@ -40,48 +86,17 @@ enum_shown : (names : List (ℕ × List ℕ)) (n : ℕ) → IsWithName (name_in 
 unfolding enum_text
 enum_shown names n = with_name (name_in names n) n
 
-pub enums_shown : (label : Label) (n width : ℕ) → form_in label ≡ forms.Enum → IsWithName (number_name (Some label) n) (decimal n) (content_text label (contents.Enum n width))
+pub enums_shown : (label : Label) (n : ℕ) (width : Width) → form_in label ≡ forms.Enum width → IsWithName (number_name (Some label) n) (decimal n) (content_text label (contents.Enum n width))
 enums_shown label n width form = subst (λ f. IsWithName (name_in (number_names_by f label) n) (decimal n) (enum_text (names_of label) n)) (sym form) (enum_shown (names_of label) n)
 
-state_shown : (b : Bool) (names : List (ℕ × List ℕ)) (n : ℕ) (other : List ℕ) → b ≡ true → IsWithName (name_in (cond b names []) n) (decimal n) (cond b (enum_text names n) other)
-state_shown true names n other e = enum_shown names n
-state_shown false names n other e = absurd cc
-
-plain_shown : (label : Label) (n : ℕ) → bytes_eq (type_name label) (codes "IFLA_CAN_STATE") ≡ true → IsWithName (name_in (plain_names (type_name label)) n) (decimal n) (unsigned_text (type_name label) label.1 n)
-unfolding unsigned_text
-plain_shown label n is = state_shown (bytes_eq (type_name label) (codes "IFLA_CAN_STATE")) can_state_names n _ is
-
-pub states_shown : (label : Label) (n width : ℕ) → form_in label ≡ forms.Unsigned → type_name label ≡ codes "IFLA_CAN_STATE" → IsWithName (number_name (Some label) n) (decimal n) (content_text label (contents.Unsigned n width))
-states_shown label n width form name =
-    let is : bytes_eq (type_name label) (codes "IFLA_CAN_STATE") ≡ true = ap (λ t. bytes_eq t (codes "IFLA_CAN_STATE")) name in
-    subst (λ f. IsWithName (name_in (number_names_by f label) n) (decimal n) (unsigned_text (type_name label) label.1 n)) (sym form) (plain_shown label n is)
-
-protocol_shown : (label : Label) (p : VlanProtocol) → IsWithName (name_in (number_names_by forms.Protocol label) (protocol_number p)) (hex_number (protocol_number p)) (content_text label (contents.Protocol p))
-protocol_shown label Ieee8021Q = refl
-protocol_shown label Ieee8021Ad = refl
-
-pub protocols_shown : (label : Label) (p : VlanProtocol) → form_in label ≡ forms.Protocol
-    → IsWithName (number_name (Some label) (protocol_number p)) (hex_number (protocol_number p)) (content_text label (contents.Protocol p))
-protocols_shown label p form =
-    subst (λ f. IsWithName (name_in (number_names_by f label) (protocol_number p)) (hex_number (protocol_number p)) (content_text label (contents.Protocol p))) (sym form) (protocol_shown label p)
+pub coded_shown : (label : Label) (n : ℕ) (width : Width) → form_in label ≡ forms.Coded width → IsWithName (number_name (Some label) n) (decimal n) (content_text label (contents.Coded n width))
+coded_shown label n width form = subst (λ f. IsWithName (name_in (number_names_by f label) n) (decimal n) (enum_text (names_of label) n)) (sym form) (enum_shown (names_of label) n)
 
 -- ---- bits
-
-and_left : (a b : Bool) → (a && b) ≡ true → a ≡ true
-and_left true b h = refl
-and_left false b h = absurd cc
-
-and_right : (a b : Bool) → (a && b) ≡ true → b ≡ true
-and_right true b h = h
-and_right false b h = absurd cc
 
 and_false : (a : Bool) → (a && false) ≡ false
 and_false true = refl
 and_false false = refl
-
-is_not : (a : Bool) → not a ≡ true → a ≡ false
-is_not true h = absurd cc
-is_not false h = refl
 
 -- a number that has no bit of these
 abbrev is_clear : List (ℕ × List ℕ) → ℕ → Bool
@@ -119,8 +134,8 @@ told_passed None x names n h told = (ap (map (λ y. y.1)) (set_passed x names n 
 clear_set : (names : List (ℕ × List ℕ)) (n : ℕ) → is_clear names n ≡ true → set_names names n ≡ []
 clear_set [] n h = refl
 clear_set (x ∷ names) n h =
-    let rest = and_right (not (x.0 == n)) ((bit_and n x.0 == 0) && is_clear names n) h in
-    set_passed x names n (and_left (bit_and n x.0 == 0) (is_clear names n) rest) ∙ clear_set names n (and_right (bit_and n x.0 == 0) (is_clear names n) rest)
+    let rest = and_parts (bit_and n x.0 == 0) (is_clear names n) (and_parts (not (x.0 == n)) ((bit_and n x.0 == 0) && is_clear names n) h).1 in
+    set_passed x names n rest.0 ∙ clear_set names n rest.1
 
 single_told : (names : List (ℕ × List ℕ)) (n : ℕ) → n ≢ 0 → is_single names n ≡ true → Told (name_in names n) names n
 single_told [] n some h = (refl, refl)
@@ -128,14 +143,15 @@ single_told (x ∷ names) n some h = by_test (x.0 == n) refl h (single_told name
   by_test : (b : Bool) → (x.0 == n) ≡ b → cond b ((bit_and n n == n) && is_clear names n) ((bit_and n x.0 == 0) && is_single names n) ≡ true
       → (is_single names n ≡ true → Told (name_in names n) names n) → Told (cond b (Some x.1) (name_in names n)) (x ∷ names) n
   by_test true e h more =
-      let all : bit_and n x.0 ≡ n = ap (bit_and n) (eqb-true x.0 n e) ∙ eqb-true (bit_and n n) n (and_left (bit_and n n == n) (is_clear names n) h) in
+      let both = and_parts (bit_and n n == n) (is_clear names n) h in
+      let all : bit_and n x.0 ≡ n = ap (bit_and n) (eqb-true x.0 n e) ∙ eqb-true (bit_and n n) n both.0 in
       let set : (bit_and n x.0 == 0) ≡ false = ne_eqb (bit_and n x.0) 0 (λ z. some (sym all ∙ z)) in
       let none : n - bit_and n x.0 ≡ 0 = omega (arith, all) in (
         ap (λ b. map (λ y. y.1) (cond (not b) (x ∷ set_names names n) (set_names names n))) set
-            ∙ ap (λ t. x.1 ∷ map (λ y. y.1) t) (clear_set names n (and_right (bit_and n n == n) (is_clear names n) h)),
+            ∙ ap (λ t. x.1 ∷ map (λ y. y.1) t) (clear_set names n both.1),
         ap (unnamed names) none ∙ unnamed_none names,
       )
-  by_test false e h more = told_passed (name_in names n) x names n (and_left (bit_and n x.0 == 0) (is_single names n) h) (more (and_right (bit_and n x.0 == 0) (is_single names n) h))
+  by_test false e h more = let both = and_parts (bit_and n x.0 == 0) (is_single names n) h in told_passed (name_in names n) x names n both.0 (more both.1)
 
 -- one bit is not all bits of some bytes
 not_full : (bit width : ℕ) → 2 ^ bit ≢ 2 ^ (8 * width) - 1
@@ -180,70 +196,56 @@ each_single (suc b) names = is_single names (2 ^ b) && each_single b names
 
 one_single : (n : ℕ) (names : List (ℕ × List ℕ)) → each_single n names ≡ true → (b : ℕ) → b < n → is_single names (2 ^ b) ≡ true
 one_single zero names h b low = absurd (omega (arith, low))
-one_single (suc m) names h b low = by_test (b == m) refl (one_single m names (and_right (is_single names (2 ^ m)) (each_single m names) h) b) where
+one_single (suc m) names h b low = by_test (b == m) refl (one_single m names both.1 b) where
+  both : (is_single names (2 ^ m) ≡ true) × (each_single m names ≡ true)
+  both = and_parts (is_single names (2 ^ m)) (each_single m names) h
+
   by_test : (t : Bool) → (b == m) ≡ t → (b < m → is_single names (2 ^ b) ≡ true) → is_single names (2 ^ b) ≡ true
-  by_test true e more = ap (λ k. is_single names (2 ^ k)) (eqb-true b m e) ∙ and_left (is_single names (2 ^ m)) (each_single m names) h
+  by_test true e more = ap (λ k. is_single names (2 ^ k)) (eqb-true b m e) ∙ both.0
   by_test false e more = let other : b ≢ m = λ z. let yes : (b == m) ≡ true = eq-eqb b m z in absurd cc in more (omega arith)
 
 abbrev is_plain : Label → Bool
 is_plain label = each_single 64 (bit_names_by (form_in label) label)
-
-abbrev row_label : {C : Type 0} → Row C → Label
-row_label r = (codes r.name, r.quantity, r.form, r.names)
-
-label_plain : {C : Type 0} (rows : List (Row C)) (k : ℕ) (label : Label) → list_all (λ r. is_plain (row_label r)) rows ≡ true → label_at rows k ≡ Some label → is_plain label ≡ true
-label_plain [] k label h at = absurd cc
-label_plain (r ∷ rows) k label h at = by_test (r.kind == k) at (label_plain rows k label (and_right (is_plain (row_label r)) (list_all (λ q. is_plain (row_label q)) rows) h)) where
-  by_test : (b : Bool) → cond b (Some (row_label r)) (label_at rows k) ≡ Some label → (label_at rows k ≡ Some label → is_plain label ≡ true) → is_plain label ≡ true
-  by_test true at more = let same : row_label r ≡ label = some_same at in subst (λ l. is_plain l ≡ true) same (and_left (is_plain (row_label r)) (list_all (λ q. is_plain (row_label q)) rows) h)
-  by_test false at more = more at
-
-family_plain : (family : Family) → list_all (λ r. is_plain (row_label r)) (table_of family) ≡ true
-family_plain families.AfSpecBridge = refl
-family_plain families.Bond = refl
-family_plain families.BondPort = refl
-family_plain families.Bridge = refl
-family_plain families.BridgePort = refl
-family_plain families.Can = refl
-family_plain families.Dsa = refl
-family_plain families.Hsr = refl
-family_plain families.ProtoBridge = refl
-family_plain families.Vlan = refl
-
-abbrev elements_plain_by : Option Shape → Bool
-elements_plain_by o = list_all (λ r. is_plain (row_label r)) (elements_by o)
-
-elements_plain : (family : Family) → list_all (λ r. elements_plain_by (Some r.class)) (table_of family) ≡ true
-elements_plain families.AfSpecBridge = refl
-elements_plain families.Bond = refl
-elements_plain families.BondPort = refl
-elements_plain families.Bridge = refl
-elements_plain families.BridgePort = refl
-elements_plain families.Can = refl
-elements_plain families.Dsa = refl
-elements_plain families.Hsr = refl
-elements_plain families.ProtoBridge = refl
-elements_plain families.Vlan = refl
-
-class_plain : (rows : Table) (k : ℕ) → list_all (λ r. elements_plain_by (Some r.class)) rows ≡ true → elements_plain_by (class_at rows k) ≡ true
-class_plain [] k h = refl
-class_plain (r ∷ rows) k h = by_test (r.kind == k) (class_plain rows k (and_right (elements_plain_by (Some r.class)) (list_all (λ q. elements_plain_by (Some q.class)) rows) h)) where
-  by_test : (b : Bool) → elements_plain_by (class_at rows k) ≡ true → elements_plain_by (cond b (Some r.class) (class_at rows k)) ≡ true
-  by_test true more = and_left (elements_plain_by (Some r.class)) (list_all (λ q. elements_plain_by (Some q.class)) rows) h
-  by_test false more = more
-
-type_plain : (family : Family) (e : Entry) (label : Label) → label_for family e ≡ Some label → is_plain label ≡ true
-type_plain family e label at = by_test ((e.depth == 0) || is_indexed family e) at where
-  by_test : (b : Bool) → cond b (label_at (table_of family) e.kind) (label_at (elements_at (table_of family) e.kind) e.inner) ≡ Some label → is_plain label ≡ true
-  by_test true at = label_plain (table_of family) e.kind label (family_plain family) at
-  by_test false at = label_plain (elements_at (table_of family) e.kind) e.inner label (class_plain (table_of family) e.kind (elements_plain family)) at
 
 -- a bit of an attribute type is written by its name
 pub bits_shown : (family : Family) (e : Entry) (label : Label) (bit width : ℕ) → label_for family e ≡ Some label → bit < 64
     → IsByName (flag_name (Some label) bit) (hex_number (2 ^ bit)) (flags_text (bit_names_by (form_in label) label) width (2 ^ bit))
 bits_shown family e label bit width at low =
     let names = bit_names_by (form_in label) label in
-    let single = one_single 64 names (type_plain family e label at) bit low in
+    let plain : is_plain label ≡ true = type_passes is_plain family (each_family (λ family. types_pass is_plain (table_of family)) refl family) e label at in
+    let single = one_single 64 names plain bit low in
     let told = single_told names (2 ^ bit) (λ z. omega (arith, pow_pos bit, z)) single in
     subst (λ o. IsByName o (hex_number (2 ^ bit)) (flags_text names width (2 ^ bit))) (sym (ap (λ b. cond b (name_in names (2 ^ bit)) None) (lt-ltb bit 64 low)))
     (bit_told (name_in names (2 ^ bit)) names width bit told)
+
+-- ---- VLAN protocols
+
+abbrev is_text : Option (List ℕ) → List ℕ → Bool
+is_text None text = false
+is_text (Some name) text = bytes_eq name text
+
+-- a protocol has its name among these
+abbrev has_name : List (ℕ × List ℕ) → VlanProtocol → Bool
+has_name names p = is_text (name_in names (protocol_number p)) (text_of vlan_protocols.labels (protocol_number p))
+
+abbrev has_protocols : Form → List (ℕ × List ℕ) → Bool
+has_protocols forms.Protocol names = has_name names Ieee8021Q && has_name names Ieee8021Ad
+has_protocols form names = true
+
+abbrev is_told : Label → Bool
+is_told label = has_protocols (form_in label) (names_of label)
+
+one_named : (names : List (ℕ × List ℕ)) (p : VlanProtocol) → has_protocols forms.Protocol names ≡ true → has_name names p ≡ true
+one_named names Ieee8021Q h = (and_parts (has_name names Ieee8021Q) (has_name names Ieee8021Ad) h).0
+one_named names Ieee8021Ad h = (and_parts (has_name names Ieee8021Q) (has_name names Ieee8021Ad) h).1
+
+protocol_told : (o : Option (List ℕ)) (p : VlanProtocol) → is_text o (text_of vlan_protocols.labels (protocol_number p)) ≡ true → IsWithName o (hex_number (protocol_number p)) (protocol_text p)
+protocol_told None p h = absurd cc
+protocol_told (Some name) p h = ap (λ t. beside t (hex_number (protocol_number p))) (sym ((bytes_eq-Decides name (text_of vlan_protocols.labels (protocol_number p))).0 h))
+
+pub protocols_shown : (family : Family) (e : Entry) (label : Label) (p : VlanProtocol) → label_for family e ≡ Some label → form_in label ≡ forms.Protocol
+    → IsWithName (number_name (Some label) (protocol_number p)) (hex_number (protocol_number p)) (content_text label (contents.Protocol p))
+protocols_shown family e label p at form =
+    let told : is_told label ≡ true = type_passes is_told family (each_family (λ family. types_pass is_told (table_of family)) refl family) e label at in
+    subst (λ f. IsWithName (name_in (number_names_by f label) (protocol_number p)) (hex_number (protocol_number p)) (protocol_text p)) (sym form)
+    (protocol_told (name_in (names_of label) (protocol_number p)) p (one_named (names_of label) p (subst (λ f. has_protocols f (names_of label) ≡ true) form told)))

@@ -2,13 +2,12 @@
 use Rattle.std.proofs.Common.{◌≡◌, ℕ, ◌+◌, ◌≤◌, ◌&&◌, true, false, cond, not, nat_lt, List, [], length, take, drop, Result, Ok, Err, sym, ap, ap₂, subst, ◌∙◌}
 use Rattle.std.proofs.lemmas.Bool.{le-ltb}
 use Rattle.std.specs.Prelude.{IsOk, OnOk}
-use Rattle.link_base.specs.declared.label.Form.{Form}
+use Rattle.link_base.specs.declared.rows.form.Form.{Form}
 use Rattle.netlink_packet_route.specs.declared.family.Family.{Family}
 use Rattle.link_show.specs.Value.{Label, form_in}
 use Rattle.link_flat.specs.declared.entry.Entry.{Entry}
 use Rattle.nlroute_ffi.specs.declared.refusal.Refusal.{Refusal}
 use Rattle.nlroute_ffi.specs.declared.refusal.Refusal.TheVariants.{BadForm, BadNumber, BadOctets}
-use Rattle.link_write.specs.FlagWidth.{flags_width}
 use Rattle.nlroute_ffi.specs.Buffers.{StoresText}
 use Rattle.nlroute_ffi.specs.ValueText.{is_form, holds_numbers, is_lent, has_size, octets_of, LendsOctets, LendsNone, TextAnswers, entry_text, label_with}
 
@@ -28,13 +27,13 @@ octets_lent form e octets n is holds sized lent within same = (
 )
 
 -- the text of an entry
-pub text_answered : (family : Family) (e : Entry) (octets p : List ℕ) (label : Label) (width : ℕ) (old new : List ℕ) (n : ℕ) → LendsOctets (form_in label) e octets p → label ≡ label_with family e → width ≡ flags_width family e
-    → StoresText (entry_text label width e p) old new n → TextAnswers e octets old new family (Ok n)
-text_answered family e octets p label width old new n lends is wide h = (
+pub text_answered : (family : Family) (e : Entry) (octets p : List ℕ) (label : Label) (old new : List ℕ) (n : ℕ) → LendsOctets (form_in label) e octets p → label ≡ label_with family e → StoresText (entry_text label e p) old new n
+    → TextAnswers e octets old new family (Ok n)
+text_answered family e octets p label old new n lends is h = (
   lends.0,
   subst (λ l. holds_numbers (form_in l) e ≡ true) is lends.1,
   lends.2,
-  subst (λ words. StoresText words old new n) (ap₂ (λ l s. entry_text l width e s) is lends.3 ∙ ap (λ w. entry_text (label_with family e) w e (octets_of e octets)) wide) h,
+  subst (λ words. StoresText words old new n) (ap₂ (λ l s. entry_text l e s) is lends.3) h,
 )
 
 -- or why it has none

@@ -43,30 +43,30 @@ CountAnswers s table (Err refusal) = ⊥
 
 -- the number of entries of the list, which has at least two bytes for each; or why there is none
 abbrev pub PlacesAnswers : List ℕ → Family → Result ℕ Refusal → Type 0
-PlacesAnswers s family (Ok n) = (es : List Entry) × Flat family s es × (n ≡ length es) × (2 * n ≤ length s)
+PlacesAnswers s family (Ok n) = (es : List Entry) × Flat (table_of family) s es × (n ≡ length es) × (2 * n ≤ length s)
 PlacesAnswers s family (Err Fault) = HasFault (table_of family) s
 PlacesAnswers s family (Err refusal) = ⊥
 
 -- the entries of the list are in the first places, and the other places are unchanged; or why not. NoRoom: there are more
 -- entries than places, and the places hold the first of them
 abbrev pub ValuesAnswers : List ℕ → List Entry → List Entry → Family → Result ℕ Refusal → Type 0
-ValuesAnswers s old new family (Ok n) = (es : List Entry) × Flat family s es × (n ≡ length es) × (n ≤ length old) × (new ≡ es ++ drop n old)
+ValuesAnswers s old new family (Ok n) = (es : List Entry) × Flat (table_of family) s es × (n ≡ length es) × (n ≤ length old) × (new ≡ es ++ drop n old)
 ValuesAnswers s old new family (Err Fault) = HasFault (table_of family) s × (new ≡ old)
-ValuesAnswers s old new family (Err NoRoom) = (es : List Entry) × Flat family s es × (length old < length es) × (new ≡ take (length old) es)
+ValuesAnswers s old new family (Err NoRoom) = (es : List Entry) × Flat (table_of family) s es × (length old < length es) × (new ≡ take (length old) es)
 ValuesAnswers s old new family (Err refusal) = ⊥
 
 -- the entry of the last attribute of type k; or why there is none
 abbrev pub FindAnswers : List ℕ → ℕ → Entry → Family → Result ℕ Refusal → Type 0
-FindAnswers s k value family (Ok n) = (n ≡ 0) × Finds family k s (Ok (Some value))
+FindAnswers s k value family (Ok n) = (n ≡ 0) × Finds (table_of family) k s (Ok (Some value))
 FindAnswers s k value family (Err Fault) = HasFault (table_of family) s
-FindAnswers s k value family (Err Absent) = Finds family k s (Ok None)
+FindAnswers s k value family (Err Absent) = Finds (table_of family) k s (Ok None)
 FindAnswers s k value family (Err refusal) = ⊥
 
 -- the entry of the last element i of the last attribute of type k; or why there is none
 abbrev pub FindInAnswers : List ℕ → ℕ → ℕ → Entry → Family → Result ℕ Refusal → Type 0
-FindInAnswers s k i value family (Ok n) = (n ≡ 0) × FindsIn family k i s (Ok (Some value))
+FindInAnswers s k i value family (Ok n) = (n ≡ 0) × FindsIn (table_of family) k i s (Ok (Some value))
 FindInAnswers s k i value family (Err Fault) = HasFault (table_of family) s
-FindInAnswers s k i value family (Err Absent) = FindsIn family k i s (Ok None)
+FindInAnswers s k i value family (Err Absent) = FindsIn (table_of family) k i s (Ok None)
 FindInAnswers s k i value family (Err refusal) = ⊥
 
 -- ---- checking

@@ -1,20 +1,14 @@
 -- The version, and the names of attribute types, of the numbers of enums, and of the bits of sets of flags.
-use Rattle.std.specs.Prelude.{ℕ, ◌^◌, ◌==◌, ◌&&◌, ◌||◌, Bool, true, false, not, List, [], ◌++◌, Option, Some, None, Result, Ok, Err, codes, nat_lt, bytes_eq, if◌then◌else◌}
+use Rattle.std.specs.Prelude.{ℕ, ◌^◌, ◌==◌, ◌&&◌, ◌||◌, Bool, true, false, not, List, [], ◌++◌, Option, Some, None, Result, Ok, Err, codes, nat_lt, if◌then◌else◌}
 use Rattle.std.specs.Fmt.{decimal}
-use Rattle.link_base.specs.declared.label.Form.{Form}
-use Rattle.link_base.specs.declared.label.Form.TheVariants as forms
+use Rattle.link_base.specs.declared.rows.form.Form.{Form}
+use Rattle.link_base.specs.declared.rows.form.Form.TheVariants as forms
 use Rattle.link_base.specs.Labels.{name_in}
-use Rattle.link_base.specs.Named.{texts_of}
-use Rattle.link_base.specs.Protocol.{vlan_protocols}
 use Rattle.link_base.specs.Table.{label_at}
 use Rattle.link_base.specs.Borrowed.{elements_at}
-use Rattle.link_bridge.specs.VlanInfo.{vlan_info_bit_names}
-use Rattle.link_bridge.specs.BooleanOptions.{option_bit_names}
-use Rattle.link_vlan_can.specs.CanFlags.{mode_bit_names}
 use Rattle.netlink_packet_route.specs.declared.family.Family.{Family}
 use Rattle.netlink_packet_route.specs.Family.{table_of}
-use Rattle.link_show.specs.Value.{Label, form_in, names_of, can_state_names}
-use Rattle.link_show.specs.Value.{name_in as type_name}
+use Rattle.link_show.specs.Value.{Label, form_in, names_of}
 use Rattle.link_show.specs.Fault.{kind_text}
 use Rattle.link_flat.specs.declared.entry.Entry.{Entry}
 use Rattle.nlroute_ffi.specs.declared.refusal.Refusal.{Refusal}
@@ -28,7 +22,7 @@ version = 0x000300
 
 -- whether the elements of an attribute type are addresses or numbers, which have an index in place of a type
 abbrev pub has_indices : Form → Bool
-has_indices forms.Addresses = true
+has_indices (forms.Addresses n) = true
 has_indices forms.U16s = true
 has_indices forms.U32s = true
 has_indices form = false
@@ -61,15 +55,11 @@ abbrev pub KindNameAnswers : Entry → List ℕ → List ℕ → Family → Resu
 KindNameAnswers e old new family (Ok n) = Stores (kind_name family e) old new n
 KindNameAnswers e old new family (Err refusal) = ⊥
 
--- the names of the numbers of an attribute type that is not an enum in its table: of the states of a CAN controller
-abbrev pub plain_names : List ℕ → List (ℕ × List ℕ)
-plain_names name = if bytes_eq name (codes "IFLA_CAN_STATE") then can_state_names else []
-
--- the names of the numbers of an attribute type: of an enum, a VLAN protocol, or the state of a CAN controller
+-- the names of the numbers of an attribute type: of an enum, or a VLAN protocol
 abbrev pub number_names_by : Form → Label → List (ℕ × List ℕ)
-number_names_by forms.Enum label = names_of label
-number_names_by forms.Protocol label = texts_of vlan_protocols
-number_names_by forms.Unsigned label = plain_names (type_name label)
+number_names_by (forms.Enum w) label = names_of label
+number_names_by (forms.Coded w) label = names_of label
+number_names_by forms.Protocol label = names_of label
 number_names_by form label = []
 
 abbrev pub number_name : Option Label → ℕ → Option (List ℕ)
@@ -79,20 +69,12 @@ number_name (Some label) n = name_in (number_names_by (form_in label) label) n
 abbrev pub NumberNameAnswers : Entry → List ℕ → List ℕ → Family → Result ℕ Refusal → Type 0
 NumberNameAnswers e old new family result = NameAnswers (number_name (label_for family e) e.number) old new result
 
--- the names of the bits in a struct of an attribute type
-abbrev pub struct_bit_names : List ℕ → List (ℕ × List ℕ)
-struct_bit_names name =
-    if bytes_eq name (codes "IFLA_BRIDGE_VLAN_INFO") then vlan_info_bit_names
-    else (if bytes_eq name (codes "IFLA_BR_MULTI_BOOLOPT") then option_bit_names
-    else (if bytes_eq name (codes "IFLA_CAN_CTRLMODE") then mode_bit_names
-    else []))
-
 -- the names of the bits of an attribute type: of a set of flags, or of those in a struct
 abbrev pub bit_names_by : Form → Label → List (ℕ × List ℕ)
-bit_names_by forms.Flags label = names_of label
+bit_names_by (forms.Flags w) label = names_of label
 bit_names_by forms.LowFlags label = names_of label
 bit_names_by forms.MaskedFlags label = names_of label
-bit_names_by forms.Struct label = struct_bit_names (type_name label)
+bit_names_by (forms.Struct layout) label = names_of label
 bit_names_by form label = []
 
 -- the name of a bit, which counts from 0; a set of flags has at most 64

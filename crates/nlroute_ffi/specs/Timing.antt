@@ -1,7 +1,10 @@
 -- The structs of a CAN controller that a value refers to.
-use Rattle.std.specs.Prelude.{◌≡◌, ◌≢◌, ℕ, ℤ, ◌+◌, ◌≤◌, List, [], ◌∷◌, length, take, drop, Result, Ok, Err}
-use Rattle.netlink_packet_route.specs.Layout.{numbers_at}
-use Rattle.netlink_packet_route.specs.Name.{before_nul}
+use Rattle.std.specs.Prelude.{◌≡◌, ◌≢◌, ℕ, ℤ, ◌+◌, ◌≤◌, List, [], ◌∷◌, length, map, take, drop, codes, Result, Ok, Err}
+use Rattle.link_base.specs.declared.rows.form.Form.{Form}
+use Rattle.link_base.specs.declared.rows.form.Form.TheVariants as forms
+use Rattle.link_base.specs.declared.rows.form.Layout.TheVariants as layouts
+use Rattle.link_base.specs.Fields.{PartValue, PartNumber, PartOctets, part_at, fields_of}
+use Rattle.link_base.specs.Name.{before_nul}
 use Rattle.link_flat.specs.declared.entry.Entry.{Entry}
 use Rattle.link_flat.specs.Forms.{form_bittiming, form_bittiming_const}
 use Rattle.link_flat.specs.Entry.{padded}
@@ -21,29 +24,54 @@ pub record RefersTo (value : Entry) (expected n : ℕ) (octets : List ℕ) : Typ
   pub size : value.length ≡ n
   pub within : value.offset + n ≤ length octets
 
--- where they start; or why there are none
-abbrev pub PlaceAnswers : Entry → ℕ → ℕ → List ℕ → Result ℕ Refusal → Type 0
-PlaceAnswers value form n octets (Ok at) = RefersTo value form n octets × (at ≡ value.offset)
-PlaceAnswers value form n octets (Err BadForm) = value.form ≢ form
-PlaceAnswers value form n octets (Err BadOctets) = (value.form ≡ form) × ¬ (RefersTo value form n octets)
-PlaceAnswers value form n octets (Err refusal) = ⊥
+-- or why there are none
+abbrev pub RefersNot : Entry → ℕ → ℕ → List ℕ → Refusal → Type 0
+RefersNot value form n octets BadForm = value.form ≢ form
+RefersNot value form n octets BadOctets = (value.form ≡ form) × ¬ (RefersTo value form n octets)
+RefersNot value form n octets refusal = ⊥
 
--- the fields of a bit timing, in order
-abbrev pub timing_fields : BitTiming → List ℕ
-timing_fields t = t.bitrate ∷ t.sample_point ∷ t.tq ∷ t.prop_seg ∷ t.phase_seg1 ∷ t.phase_seg2 ∷ t.sjw ∷ t.brp ∷ []
+-- these octets
+abbrev pub referred : ℕ → Entry → List ℕ → List ℕ
+referred n value octets = take n (drop value.offset octets)
 
--- those of limits, without the name
-abbrev pub limit_fields : TimingLimits → List ℕ
-limit_fields l = l.tseg1_min ∷ l.tseg1_max ∷ l.tseg2_min ∷ l.tseg2_max ∷ l.sjw_max ∷ l.brp_min ∷ l.brp_max ∷ l.brp_inc ∷ []
+-- what the fields of a struct hold in a payload, each after its name
+abbrev pub named_fields : Form → List ℕ → List (List ℕ × PartValue)
+named_fields form p = map (λ f. (f.0, part_at f.1 f.2 p)) (fields_of form)
 
--- the bit timing that a value refers to: eight little-endian `u32`s; or why there is none
+-- the fields of a bit timing
+abbrev pub timing_fields : BitTiming → List (List ℕ × PartValue)
+timing_fields t =
+    (codes "bitrate", PartNumber t.bitrate) ∷
+    (codes "sample_point", PartNumber t.sample_point) ∷
+    (codes "tq", PartNumber t.tq) ∷
+    (codes "prop_seg", PartNumber t.prop_seg) ∷
+    (codes "phase_seg1", PartNumber t.phase_seg1) ∷
+    (codes "phase_seg2", PartNumber t.phase_seg2) ∷
+    (codes "sjw", PartNumber t.sjw) ∷
+    (codes "brp", PartNumber t.brp) ∷ []
+
+-- those of limits, with this name
+abbrev pub limit_fields : List ℕ → TimingLimits → List (List ℕ × PartValue)
+limit_fields name l =
+    (codes "name", PartOctets name) ∷
+    (codes "tseg1_min", PartNumber l.tseg1_min) ∷
+    (codes "tseg1_max", PartNumber l.tseg1_max) ∷
+    (codes "tseg2_min", PartNumber l.tseg2_min) ∷
+    (codes "tseg2_max", PartNumber l.tseg2_max) ∷
+    (codes "sjw_max", PartNumber l.sjw_max) ∷
+    (codes "brp_min", PartNumber l.brp_min) ∷
+    (codes "brp_max", PartNumber l.brp_max) ∷
+    (codes "brp_inc", PartNumber l.brp_inc) ∷ []
+
+-- the bit timing that a value refers to, field by field; or why there is none
 abbrev pub TimingAnswers : Entry → List ℕ → BitTiming → Result ℕ Refusal → Type 0
-TimingAnswers value octets timing (Ok n) = (n ≡ 0) × RefersTo value form_bittiming 32 octets × (timing_fields timing ≡ numbers_at 4 8 value.offset octets)
-TimingAnswers value octets timing (Err refusal) = PlaceAnswers value form_bittiming 32 octets (Err refusal)
+TimingAnswers value octets timing (Ok n) =
+    (n ≡ 0) × RefersTo value form_bittiming 32 octets × (timing_fields timing ≡ named_fields (forms.Struct layouts.BitTiming) (referred 32 value octets))
+TimingAnswers value octets timing (Err refusal) = RefersNot value form_bittiming 32 octets refusal
 
--- the limits: the name field up to its first NUL, at most 15 bytes, and zeros; then eight little-endian `u32`s
+-- the limits, field by field: of the name, at most 15 bytes, and zeros
 abbrev pub LimitsAnswers : Entry → List ℕ → TimingLimits → Result ℕ Refusal → Type 0
 LimitsAnswers value octets limits (Ok n) =
-    (n ≡ 0) × RefersTo value form_bittiming_const 48 octets × (limits.name ≡ padded (before_nul (take 15 (drop value.offset octets))))
-    × (limit_fields limits ≡ numbers_at 4 8 (value.offset + 16) octets)
-LimitsAnswers value octets limits (Err refusal) = PlaceAnswers value form_bittiming_const 48 octets (Err refusal)
+    let name = before_nul (take 16 (referred 48 value octets)) in
+    (n ≡ 0) × RefersTo value form_bittiming_const 48 octets × (limits.name ≡ padded (take 15 name)) × (limit_fields name limits ≡ named_fields forms.Limits (referred 48 value octets))
+LimitsAnswers value octets limits (Err refusal) = RefersNot value form_bittiming_const 48 octets refusal

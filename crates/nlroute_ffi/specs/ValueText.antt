@@ -1,27 +1,31 @@
 -- The texts of values.
-use Rattle.std.specs.Prelude.{◌≡◌, ℕ, ◌+◌, ◌%◌, ◌^◌, ◌==◌, ◌&&◌, ◌||◌, Bool, true, false, not, List, [], ◌∷◌, take, drop, length, Option, Some, None, Result, Ok, Err, codes, nat_lt, bytes_eq, if◌then◌else◌}
+use Rattle.std.specs.Prelude.{◌≡◌, ℕ, ◌+◌, ◌%◌, ◌^◌, ◌==◌, ◌&&◌, ◌||◌, Bool, true, false, not, List, [], ◌++◌, take, drop, reverse, length, Option, Some, None, Result, Ok, Err, nat_lt, if◌then◌else◌}
+use Rattle.std.specs.Borrow.{Bor}
 use Rattle.std.specs.Fmt.{signed_decimal}
 use Rattle.std.specs.Int.{w64, cast_signed}
 use Rattle.std.specs.Net.Addr.{segments_of}
-use Rattle.std.specs.Net.Text.{ipv4_text, ipv6_text}
-use Rattle.link_base.specs.declared.label.Form.{Form}
-use Rattle.link_base.specs.declared.label.Form.TheVariants as forms
-use Rattle.link_base.specs.declared.label.Quantity.TheVariants as quantities
-use Rattle.link_base.specs.Class.{AtLeast}
+use Rattle.link_base.specs.declared.rows.form.Form.{Form}
+use Rattle.link_base.specs.declared.rows.form.Form.TheVariants as forms
+use Rattle.link_base.specs.declared.rows.form.Layout.{Layout}
+use Rattle.link_base.specs.declared.rows.form.Layout.TheVariants as layouts
+use Rattle.link_base.specs.declared.rows.form.Width.{Width}
+use Rattle.link_base.specs.declared.rows.form.Width.TheVariants.{One, Four, Eight}
+use Rattle.link_base.specs.declared.rows.label.Quantity.TheVariants as quantities
+use Rattle.link_base.specs.declared.views.content.Content.{Content}
+use Rattle.link_base.specs.declared.views.content.Content.TheVariants as contents
 use Rattle.link_base.specs.Name.{before_nul}
 use Rattle.link_base.specs.Named.{value_of}
+use Rattle.link_base.specs.Number.{bytes_of}
 use Rattle.link_base.specs.Protocol.{vlan_protocols}
-use Rattle.link_vlan_can.specs.CanRecords.{timing_of}
+use Rattle.link_bridge.specs.VlanInfo.{vlan_info_bit_names}
+use Rattle.link_bridge.specs.BooleanOptions.{option_bit_names}
 use Rattle.netlink_packet_route.specs.declared.family.Family.{Family}
-use Rattle.link_show.specs.Flags.{enum_text, flags_text}
-use Rattle.link_show.specs.Octets.{address_text}
-use Rattle.link_show.specs.Structs.{number_fields, struct_text, bridge_id_text, vlan_info_text, options_text, ctrl_mode_text, bit_timing_text, clock_text, berr_counter_text}
-use Rattle.link_show.specs.Value.{Label, name_in, quantity_in, form_in, names_of, four_bytes, unsigned_text, limits_text, masked_text, protocol_text, other_text}
+use Rattle.link_show.specs.Structs.{four_bytes}
+use Rattle.link_show.specs.Value.{Label, form_in, names_of, content_text, other_text}
 use Rattle.link_flat.specs.declared.entry.Entry.{Entry}
 use Rattle.link_flat.specs.Forms.{form_bool, form_unsigned, form_signed, form_named, form_flags, form_masked, form_mac, form_ipv4, form_ipv6, form_bridge_id, form_vlan_info, form_qos_mapping, form_berr_counter, form_bittiming, form_bittiming_const, form_bytes, form_unknown}
 use Rattle.nlroute_ffi.specs.declared.refusal.Refusal.{Refusal}
 use Rattle.nlroute_ffi.specs.declared.refusal.Refusal.TheVariants.{BadForm, BadNumber, BadOctets}
-use Rattle.link_write.specs.FlagWidth.{flags_width}
 use Rattle.nlroute_ffi.specs.Buffers.{StoresText}
 use Rattle.nlroute_ffi.specs.Names.{label_for}
 
@@ -37,7 +41,7 @@ is_form n = nat_lt 0 n && nat_lt n 20
 
 -- whether an unsigned number has a text: that of a struct, the frequency of a CAN controller, is a `u32`
 abbrev pub holds_unsigned : Form → ℕ → Bool
-holds_unsigned forms.Struct n = nat_lt n (2 ^ 32)
+holds_unsigned (forms.Struct layout) n = nat_lt n (2 ^ 32)
 holds_unsigned form n = true
 
 -- whether a number that may have a name has a text: a VLAN protocol is 802.1Q or 802.1ad
@@ -86,70 +90,147 @@ LendsNone form e octets BadNumber = (is_form e.form ≡ true) × (holds_numbers 
 LendsNone form e octets BadOctets = (is_form e.form ≡ true) × (holds_numbers form e ≡ true) × (has_octets e octets ≡ false)
 LendsNone form e octets refusal = ⊥
 
--- ---- texts by form
+-- ---- forms
 
--- an unsigned number: of a struct, the frequency of a CAN controller
-abbrev pub unsigned_by : Form → Label → ℕ → List ℕ
-unsigned_by forms.Struct label n = clock_text (record { freq = four_bytes n })
-unsigned_by form label n = unsigned_text (name_in label) (quantity_in label) n
+-- the text of an unsigned number: of a struct, it is the frequency of a CAN controller
+abbrev pub unsigned_form : Form → Form
+unsigned_form (forms.Unsigned w) = forms.Unsigned w
+unsigned_form (forms.Coded w) = forms.Coded w
+unsigned_form (forms.Struct layout) = forms.Struct layouts.Clock
+unsigned_form own = forms.Unsigned Eight
 
--- a number that may have a name: VLAN protocols and states of CAN controllers have theirs elsewhere than in the table
-abbrev pub named_by : Form → Label → ℕ → List ℕ
-named_by forms.Protocol label n = protocol_text (value_of vlan_protocols (two_bytes n))
-named_by forms.Unsigned label n = unsigned_text (name_in label) (quantity_in label) n
-named_by form label n = enum_text (names_of label) n
+-- that of a number that may have a name
+abbrev pub named_form : Form → Form
+named_form (forms.Unsigned w) = forms.Unsigned w
+named_form (forms.Coded w) = forms.Coded w
+named_form (forms.Enum w) = forms.Enum w
+named_form forms.Protocol = forms.Protocol
+named_form own = forms.Enum Eight
 
--- how many bytes of a set of flags have flags, if it has n bytes
-abbrev pub width_by : Form → ℕ → ℕ
-width_by forms.LowFlags n = 1
-width_by form n = n
+-- the width of a set of flags: that of the numbers of the type; eight bytes if it has no numbers
+abbrev pub flags_width : Form → Width
+flags_width forms.Bool = One
+flags_width (forms.Unsigned w) = w
+flags_width (forms.Coded w) = w
+flags_width (forms.Enum w) = w
+flags_width (forms.Flags w) = w
+flags_width forms.LowFlags = One
+flags_width (forms.Struct layouts.Clock) = Four
+flags_width own = Eight
 
--- flags and a mask: of a struct, the modes of a CAN controller or the options of a bridge
-abbrev pub masked_struct : List ℕ → ℕ → ℕ → List ℕ
-masked_struct name flags mask =
-    if bytes_eq name (codes "IFLA_CAN_CTRLMODE") then ctrl_mode_text (record { mask = record { 0 = mask }; flags = record { 0 = flags } })
-    else options_text (record { value = record { 0 = flags }; mask = record { 0 = mask } })
+-- that of flags and a mask: of a struct, they are the modes of a CAN controller or the options of a bridge
+abbrev pub masked_form : Form → Form
+masked_form (forms.Struct layouts.CtrlMode) = forms.Struct layouts.CtrlMode
+masked_form (forms.Struct layout) = forms.Struct layouts.BooleanOptions
+masked_form own = forms.MaskedFlags
 
-abbrev pub masked_by : Form → Label → ℕ → ℕ → List ℕ
-masked_by forms.Struct label flags mask = masked_struct (name_in label) flags mask
-masked_by form label flags mask = masked_text (names_of label) flags mask
+-- that of bytes of the list
+abbrev pub bytes_form : Form → Form
+bytes_form (forms.Struct (layouts.Other lengths)) = forms.Struct (layouts.Other lengths)
+bytes_form own = forms.Bytes
 
--- the text of bytes of the list, by the form of the entry that refers to them; empty for other forms
-abbrev pub octets_text : ℕ → List ℕ → List ℕ
-octets_text form p =
-    if form == form_bittiming then struct_text (AtLeast 32) timing_of bit_timing_text p
-    else (if form == form_bittiming_const then limits_text (before_nul (take 16 p)) (take 32 (drop 16 p))
-    else (if form == form_bytes then address_text p
-    else (if form == form_unknown then other_text p
-    else [])))
+-- the form whose text an entry with this code has, if that of its type is `own`
+abbrev pub text_form : ℕ → Form → Form
+text_form code own =
+    if code == form_bool then forms.Bool
+    else (if code == form_unsigned then unsigned_form own
+    else (if code == form_named then named_form own
+    else (if code == form_flags then forms.Flags (flags_width own)
+    else (if code == form_masked then masked_form own
+    else (if code == form_mac then forms.Mac
+    else (if code == form_ipv4 then forms.Ipv4
+    else (if code == form_ipv6 then forms.Ipv6
+    else (if code == form_bridge_id then forms.Struct layouts.BridgeId
+    else (if code == form_vlan_info then forms.Struct layouts.VlanInfo
+    else (if code == form_qos_mapping then forms.Pair
+    else (if code == form_berr_counter then forms.Struct layouts.BerrCounter
+    else (if code == form_bittiming then forms.Struct layouts.BitTiming
+    else (if code == form_bittiming_const then forms.Limits
+    else (if code == form_bytes then bytes_form own
+    else forms.Nothing))))))))))))))
 
--- the text of an address or a struct in the fields of an entry; for other forms that of the bytes
-abbrev pub fields_text : ℕ → Entry → List ℕ → List ℕ
-fields_text form e p =
-    if form == form_mac then address_text (take 6 e.octets)
-    else (if form == form_ipv4 then ipv4_text (take 4 e.octets)
-    else (if form == form_ipv6 then ipv6_text (segments_of e.octets)
-    else (if form == form_bridge_id then bridge_id_text (record { priority = two_bytes e.number; address = take 6 e.octets })
-    else (if form == form_vlan_info then vlan_info_text (record { flags = record { 0 = two_bytes e.second }; vid = two_bytes e.number })
-    else (if form == form_qos_mapping then number_fields ((codes "from", four_bytes e.number) ∷ (codes "to", four_bytes e.second) ∷ [])
-    else (if form == form_berr_counter then berr_counter_text (record { txerr = two_bytes e.number; rxerr = two_bytes e.second })
-    else octets_text form p))))))
+-- the names of numbers or bits in a text of this form: those of the type, if its form has names of the same kind
+abbrev pub own_names : Form → List (ℕ × List ℕ) → List (ℕ × List ℕ)
+own_names (forms.Coded w) names = []
+own_names forms.Protocol names = []
+own_names (forms.Struct layout) names = []
+own_names own names = names
 
--- the text of a number or a set of flags, by what is known of the type, of which a set of flags has `width` bytes; for
--- other forms that of the fields
-abbrev pub text_by : ℕ → Label → ℕ → Entry → List ℕ → List ℕ
-text_by form label width e p =
-    if form == form_bool then (if e.number == 0 then codes "off" else codes "on")
-    else (if form == form_unsigned then unsigned_by (form_in label) label e.number
-    else (if form == form_signed then signed_decimal (cast_signed w64 e.number)
-    else (if form == form_named then named_by (form_in label) label e.number
-    else (if form == form_flags then flags_text (names_of label) (width_by (form_in label) width) e.number
-    else (if form == form_masked then masked_by (form_in label) label (four_bytes e.number) (four_bytes e.second)
-    else fields_text form e p)))))
+abbrev pub vlan_names : Form → List (ℕ × List ℕ) → List (ℕ × List ℕ)
+vlan_names (forms.Struct layouts.VlanInfo) names = names
+vlan_names own names = vlan_info_bit_names
 
--- the text of an entry that refers to these bytes
-abbrev pub entry_text : Label → ℕ → Entry → List ℕ → List ℕ
-entry_text label width e p = text_by e.form label width e p
+abbrev pub option_names : Form → List (ℕ × List ℕ) → List (ℕ × List ℕ)
+option_names (forms.Struct layouts.BooleanOptions) names = names
+option_names own names = option_bit_names
+
+abbrev pub text_names : Form → Form → List (ℕ × List ℕ) → List (ℕ × List ℕ)
+text_names (forms.Enum w) own names = own_names own names
+text_names (forms.Flags w) own names = own_names own names
+text_names forms.MaskedFlags own names = own_names own names
+text_names (forms.Struct layouts.VlanInfo) own names = vlan_names own names
+text_names (forms.Struct layouts.BooleanOptions) own names = option_names own names
+text_names form own names = names
+
+-- ---- contents
+
+-- the bytes of a struct in the fields of an entry; none if they are in the list
+abbrev pub held : Form → Entry → List ℕ
+held (forms.Struct layouts.BridgeId) e = reverse (bytes_of 2 e.number) ++ take 6 e.octets
+held (forms.Struct layouts.VlanInfo) e = bytes_of 2 e.second ++ bytes_of 2 e.number
+held (forms.Struct layouts.BooleanOptions) e = bytes_of 4 e.number ++ bytes_of 4 e.second
+held (forms.Struct layouts.Clock) e = bytes_of 4 e.number
+held (forms.Struct layouts.CtrlMode) e = bytes_of 4 e.second ++ bytes_of 4 e.number
+held (forms.Struct layouts.BerrCounter) e = bytes_of 2 e.number ++ bytes_of 2 e.second
+held form e = []
+
+-- the bytes of a struct: those of the list, p, or those of the fields of an entry
+abbrev pub struct_bytes : Layout → List ℕ → List ℕ → List ℕ
+struct_bytes layouts.BitTiming fields p = p
+struct_bytes (layouts.Other lengths) fields p = p
+struct_bytes layout fields p = fields
+
+-- bytes, as a content borrows them
+abbrev pub lent : List ℕ → Bor (List ℕ)
+lent p = record { ref_ptr = (0, 0); now = p }
+
+-- the content of an entry of this form, which has p in the list
+abbrev pub content_of : Form → Entry → List ℕ → Content
+content_of forms.Bool e p = contents.Bool (not (e.number == 0))
+content_of (forms.Unsigned w) e p = contents.Unsigned e.number w
+content_of (forms.Coded w) e p = contents.Coded e.number w
+content_of (forms.Enum w) e p = contents.Enum e.number w
+content_of (forms.Flags w) e p = contents.Flags e.number w
+content_of forms.MaskedFlags e p = contents.MaskedFlags (four_bytes e.number) e.second
+content_of forms.Pair e p = contents.Pair (four_bytes e.number) e.second
+content_of forms.Protocol e p = contents.Protocol (value_of vlan_protocols (two_bytes e.number))
+content_of forms.Mac e p = contents.Mac (take 6 e.octets)
+content_of forms.Ipv4 e p = contents.Ipv4 (record { octets = take 4 e.octets })
+content_of forms.Ipv6 e p = contents.Ipv6 (record { segments = segments_of e.octets })
+content_of forms.Bytes e p = contents.Bytes (lent p)
+content_of (forms.Struct layout) e p = contents.Struct layout (lent (struct_bytes layout (held (forms.Struct layout) e) p))
+content_of forms.Limits e p = contents.Limits (lent (before_nul (take 16 p))) (lent (take 32 (drop 16 p)))
+content_of form e p = contents.Nothing
+
+-- ---- texts
+
+-- what is known of a type, with other names
+abbrev pub with_names : List (ℕ × List ℕ) → Label → Label
+with_names names label = (label.0, label.1, label.2, names)
+
+-- the text of an entry by its form, in an attribute whose type has the form `own`
+abbrev pub text_as : Form → Form → Label → Entry → List ℕ → List ℕ
+text_as form own label e p = content_text (with_names (text_names form own (names_of label)) label) (content_of form e p)
+
+-- the text of an entry, which has p in the list; a signed number may have eight bytes
+abbrev pub entry_by : Form → Label → Entry → List ℕ → List ℕ
+entry_by own label e p =
+    if e.form == form_signed then signed_decimal (cast_signed w64 e.number)
+    else (if e.form == form_unknown then other_text p
+    else text_as (text_form e.form own) own label e p)
+
+abbrev pub entry_text : Label → Entry → List ℕ → List ℕ
+entry_text label e p = entry_by (form_in label) label e p
 
 -- what is known of a type without a row: the text depends on the form only
 abbrev pub plain_label : Label
@@ -165,7 +246,7 @@ label_with family e = label_or_plain (label_for family e)
 
 -- the text of an entry of a list of this attribute set, where `octets` are the bytes of the list
 abbrev pub value_text : Family → Entry → List ℕ → List ℕ
-value_text family e octets = entry_text (label_with family e) (flags_width family e) e (octets_of e octets)
+value_text family e octets = entry_text (label_with family e) e (octets_of e octets)
 
 -- the buffer has the text; or why not
 abbrev pub TextAnswers : Entry → List ℕ → List ℕ → List ℕ → Family → Result ℕ Refusal → Type 0

@@ -1,6 +1,7 @@
 -- The results of writing lists from arrays of values.
 use Rattle.std.specs.Prelude.{◌≡◌, ℕ, ◌<◌, ◌≤◌, ◌^◌, List, length, Result, Ok, Err}
 use Rattle.netlink_packet_route.specs.declared.family.Family.{Family}
+use Rattle.netlink_packet_route.specs.Family.{table_of}
 use Rattle.netlink_packet_route.specs.Rewrite.{StandsInFront}
 use Rattle.link_flat.specs.declared.entry.Entry.{Entry}
 use Rattle.link_write.specs.declared.misfit.Misfit.{Misfit}
@@ -27,7 +28,7 @@ Written spelling old new result = ⊥
 
 -- of the list that these entries spell
 abbrev pub WriteAnswers : List Entry → List ℕ → List ℕ → List ℕ → Family → Result ℕ Refusal → Type 0
-WriteAnswers es octets old new family result = Written (spelled_by family octets es) old new result
+WriteAnswers es octets old new family result = Written (spelled_by (table_of family) octets es) old new result
 
 -- the length of the list, or that no buffer is so long, and the index is unchanged; or the index is that of the first entry
 -- that cannot be written
@@ -38,4 +39,4 @@ Measured (Err e) old new (Err refusal) = (refusal ≡ refusal_for e.1) × (new �
 Measured spelling old new result = ⊥
 
 abbrev pub MeasureAnswers : List Entry → List ℕ → ℕ → ℕ → Family → Result ℕ Refusal → Type 0
-MeasureAnswers es octets old new family result = Measured (spelled_by family octets es) old new result
+MeasureAnswers es octets old new family result = Measured (spelled_by (table_of family) octets es) old new result

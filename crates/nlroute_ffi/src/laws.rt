@@ -1,12 +1,13 @@
 //! Theorems about texts. The functions have empty bodies; each states its theorem as its contract.
 
-ghost use Rattle.std.specs.Prelude.{◌≡◌, ◌≢◌, ◌<◌, ◌^◌, ℕ, List, Some, Result, codes};
+ghost use Rattle.std.specs.Prelude.{◌≡◌, ◌≢◌, ◌<◌, ◌^◌, ℕ, Bool, List, Some, Result};
 ghost use Rattle.std.specs.Fmt.{decimal};
 ghost use Rattle.std.specs.List.{AllZip};
-ghost use Rattle.link_base.specs.declared.buffer.NlaBuffer.{NlaBuffer};
-ghost use Rattle.link_base.specs.declared.content.Content.TheVariants as contents;
-ghost use Rattle.link_base.specs.declared.label.Form.TheVariants as forms;
-ghost use Rattle.link_base.specs.declared.vlan_protocol.VlanProtocol.{VlanProtocol};
+ghost use Rattle.link_base.specs.declared.wire.buffer.NlaBuffer.{NlaBuffer};
+ghost use Rattle.link_base.specs.declared.views.content.Content.TheVariants as contents;
+ghost use Rattle.link_base.specs.declared.rows.form.Form.TheVariants as forms;
+ghost use Rattle.link_base.specs.declared.rows.form.Width.{Width};
+ghost use Rattle.link_base.specs.declared.names.vlan_protocol.VlanProtocol.{VlanProtocol};
 ghost use Rattle.link_base.specs.Borrowed.{elements_at};
 ghost use Rattle.link_base.specs.Number.{IsBytes};
 ghost use Rattle.link_base.specs.Protocol.{protocol_number};
@@ -15,7 +16,6 @@ ghost use Rattle.link_base.specs.Wire.{FirstFault};
 ghost use Rattle.link_show.specs.Flags.{flags_text};
 ghost use Rattle.link_show.specs.Text.{hex_number};
 ghost use Rattle.link_show.specs.Value.{Label, form_in, content_text};
-ghost use Rattle.link_show.specs.Value.{name_in as type_name};
 ghost use Rattle.netlink_packet_route.specs.declared.family.Family.{Family};
 ghost use Rattle.netlink_packet_route.specs.Family.{table_of};
 ghost use Rattle.link_flat.specs.declared.entry.Entry.{Entry};
@@ -34,14 +34,14 @@ use crate::refusal::Refusal;
 /// States that the entry of each attribute of a list has the text that `link_show` specifies for the attribute; an array
 /// of numbers has none.
 pub fn texts_of_attributes()
-    ensures { (family : Family) (list : List ℕ) (es : List Entry) → IsBytes list → (flat : Flat family list es)
+    ensures { (family : Family) (list : List ℕ) (es : List Entry) → IsBytes list → (flat : Flat (table_of family) list es)
         → AllZip (HeadHasText family list) flat.items flat.groups }
 {}
 
 /// States the same of each element of a nested list.
 pub fn texts_of_elements()
-    ensures { (family : Family) (list : List ℕ) (kind offset : ℕ) (b : NlaBuffer) (e : Entry) → IsBytes list
-        → form_at (table_of family) kind ≡ Some forms.List → IsAt list offset b
+    ensures { (family : Family) (list : List ℕ) (kind offset : ℕ) (flagged : Bool) (b : NlaBuffer) (e : Entry)
+        → IsBytes list → form_at (table_of family) kind ≡ Some (forms.List flagged) → IsAt list offset b
         → IsElement (elements_at (table_of family) kind) kind offset b e
         → IsTextOf (elements_at (table_of family) kind) b (value_text family e list) }
 {}
@@ -67,15 +67,14 @@ pub fn first_errors()
         → result ≢ Err Refusal.BadForm }
 {}
 
-/// States that a number has the name that `link_show` writes before it: of an enum, the state of a CAN controller, or a VLAN
-/// protocol.
+/// States that a number has the name that `link_show` writes before it: of an enum, or a VLAN protocol.
 pub fn names_of_numbers()
-    ensures enums { (label : Label) (n width : ℕ) → form_in label ≡ forms.Enum
+    ensures enums { (label : Label) (n : ℕ) (width : Width) → form_in label ≡ forms.Enum width
         → IsWithName (number_name (Some label) n) (decimal n) (content_text label (contents.Enum n width)) }
-    ensures states { (label : Label) (n width : ℕ) → form_in label ≡ forms.Unsigned
-        → type_name label ≡ codes "IFLA_CAN_STATE"
-        → IsWithName (number_name (Some label) n) (decimal n) (content_text label (contents.Unsigned n width)) }
-    ensures protocols { (label : Label) (p : VlanProtocol) → form_in label ≡ forms.Protocol
+    ensures coded { (label : Label) (n : ℕ) (width : Width) → form_in label ≡ forms.Coded width
+        → IsWithName (number_name (Some label) n) (decimal n) (content_text label (contents.Coded n width)) }
+    ensures protocols { (family : Family) (e : Entry) (label : Label) (p : VlanProtocol) → label_for family e ≡ Some label
+        → form_in label ≡ forms.Protocol
         → IsWithName (number_name (Some label) (protocol_number p)) (hex_number (protocol_number p))
         (content_text label (contents.Protocol p)) }
 {}
@@ -90,10 +89,10 @@ pub fn names_of_bits()
 /// States that the entry of each attribute of a list, and that of each element of a nested list, an array or a list of
 /// addresses, has a text: `nlroute_text` returns neither -7, -8 nor -10 for them.
 pub fn entries_have_texts()
-    ensures attributes { (family : Family) (list : List ℕ) (es : List Entry) → IsBytes list → (flat : Flat family list es)
+    ensures attributes { (family : Family) (list : List ℕ) (es : List Entry) → IsBytes list → (flat : Flat (table_of family) list es)
         → AllZip (HeadIsTold family list) flat.items flat.groups }
-    ensures elements { (family : Family) (list : List ℕ) (kind offset : ℕ) (b : NlaBuffer) (e : Entry) → IsBytes list
-        → form_at (table_of family) kind ≡ Some forms.List → IsAt list offset b
+    ensures elements { (family : Family) (list : List ℕ) (kind offset : ℕ) (flagged : Bool) (b : NlaBuffer) (e : Entry)
+        → IsBytes list → form_at (table_of family) kind ≡ Some (forms.List flagged) → IsAt list offset b
         → IsElement (elements_at (table_of family) kind) kind offset b e → HasText family list e }
     ensures numbers { (family : Family) (list : List ℕ) (kind at width i n : ℕ) → n < 2 ^ 32
         → HasText family list (number_entry kind at width i n) }

@@ -2,25 +2,19 @@
 
 ghost use Rattle.std.specs.Prelude.{◌≡◌, ◌≤◌, ◌+◌, ◌<◌, ◌^◌, ◌++◌, [], List, length, option_map, IfOk, OnErr};
 ghost use Rattle.std.specs.Fmt.{decimal};
-ghost use Rattle.link_base.specs.Labels.{label_in, label_of, name_in, names_in};
-ghost use Rattle.link_base.specs.Named.{texts_of};
-ghost use Rattle.link_base.specs.Protocol.{vlan_protocols};
-ghost use Rattle.link_show.specs.Value.{can_state_names};
+ghost use Rattle.link_base.specs.Labels.{label_in};
 ghost use Rattle.nlroute_ffi.specs.Buffers.{cut_text, Stores};
-ghost use Rattle.nlroute_ffi.specs.Names.{is_indexed, has_indices, label_for, own_kind, number_name, plain_names};
-ghost use Rattle.nlroute_ffi.specs.Names.{flag_name, bit_names_by, struct_bit_names};
+ghost use Rattle.nlroute_ffi.specs.Names.{is_indexed, has_indices, label_for, own_kind, number_name, flag_name};
 ghost use Rattle.nlroute_ffi.specs.Names.{kind_name, NumberNameAnswers, FlagNameAnswers};
 
 use crate::buffers::{refuse, store};
 use crate::refusal::Refusal;
 use arrayvec::ArrayVec;
 use itoa::Buffer;
-use link_base::attribute_set::AttributeSet;
-use link_base::flag_laws::FlagSet;
-use link_base::label::{Form, KindLabel, Name};
-use link_bridge::{BridgeBooleanOptionFlags, BridgeVlanInfoFlags};
+use link_base::rows::form::Form;
+use link_base::rows::label::KindLabel;
+use link_base::views::attribute_set::AttributeSet;
 use link_flat::Entry;
-use link_vlan_can::CanCtrlModeFlags;
 use netlink_packet_route::{Family, FamilyElements, FamilySet};
 
 /// Stores the name of the attribute type of `value`; for an address of a list or a number of an array, its index.
@@ -113,7 +107,7 @@ fn has_indices(form: Form) -> bool
     ensures { result ≡ has_indices form }
 {
     match form {
-        Form::Addresses | Form::U16s | Form::U32s => true,
+        Form::Addresses { .. } | Form::U16s | Form::U32s => true,
         _ => false,
     }
 }
@@ -150,50 +144,13 @@ fn append(text: &mut ArrayVec<u8, 16>, part: &str)
     let _ = text.try_extend_from_slice(part.as_bytes());
 }
 
-/// Returns the name of a number of an attribute type: of an enum, a VLAN protocol, or the state of a CAN controller.
+/// Returns the name of a number of an attribute type: of an enum, or a VLAN protocol.
 fn number_name(label: Option<KindLabel>, number: u64) -> Option<&'static str>
     ensures { option_map (λ name. name.now) result ≡ number_name (label_in label) number }
 {
     let label = label?;
     match label.form {
-        Form::Enum => label.name_of(number),
-        Form::Protocol => protocol_name(number),
-        Form::Unsigned => plain_name(label.name, number),
-        _ => None,
-    }
-}
-
-/// Returns the name of a number that is not an enum in its table.
-fn plain_name(name: &str, number: u64) -> Option<&'static str>
-    ensures { option_map (λ found. found.now) result ≡ name_in (plain_names name.now) number }
-{
-    if name == "IFLA_CAN_STATE" {
-        return state_name(number);
-    }
-    None
-}
-
-fn protocol_name(number: u64) -> Option<&'static str>
-    ensures { option_map (λ name. name.now) result ≡ name_in (texts_of vlan_protocols) number }
-{
-    match number {
-        0x8100 => Some("802.1Q"),
-        0x88A8 => Some("802.1ad"),
-        _ => None,
-    }
-}
-
-/// Returns the name of a number of `enum can_state` (`include/uapi/linux/can/netlink.h`), without its prefix.
-fn state_name(number: u64) -> Option<&'static str>
-    ensures { option_map (λ name. name.now) result ≡ name_in can_state_names number }
-{
-    match number {
-        0 => Some("ERROR-ACTIVE"),
-        1 => Some("ERROR-WARNING"),
-        2 => Some("ERROR-PASSIVE"),
-        3 => Some("BUS-OFF"),
-        4 => Some("STOPPED"),
-        5 => Some("SLEEPING"),
+        Form::Enum(_) | Form::Coded(_) | Form::Protocol => label.name_of(number),
         _ => None,
     }
 }
@@ -206,30 +163,9 @@ fn flag_name(label: Option<KindLabel>, bit: u32) -> Option<&'static str>
     if bit >= 64 {
         return None;
     }
-    let label = KindLabel {
-        names: bit_names(&label),
-        ..label
-    };
-    label.name_of(1 << bit)
-}
-
-fn bit_names(label: &KindLabel) -> &'static [Name]
-    ensures { names_in result.now ≡ bit_names_by label.now.form (label_of label.now) }
-{
+    let set = 1 << bit;
     match label.form {
-        Form::Flags | Form::LowFlags | Form::MaskedFlags => label.names,
-        Form::Struct => struct_bit_names(label.name),
-        _ => &[],
-    }
-}
-
-fn struct_bit_names(name: &str) -> &'static [Name]
-    ensures { names_in result.now ≡ struct_bit_names name.now }
-{
-    match name {
-        "IFLA_BRIDGE_VLAN_INFO" => BridgeVlanInfoFlags::names(),
-        "IFLA_BR_MULTI_BOOLOPT" => BridgeBooleanOptionFlags::names(),
-        "IFLA_CAN_CTRLMODE" => CanCtrlModeFlags::names(),
-        _ => &[],
+        Form::Flags(_) | Form::LowFlags | Form::MaskedFlags | Form::Struct(_) => label.name_of(set),
+        _ => None,
     }
 }

@@ -1,10 +1,10 @@
 //! The structs of a CAN controller that a value refers to.
 
-ghost use Rattle.std.specs.Prelude.{◌≡◌, IfOk, OnErr};
-ghost use Rattle.netlink_packet_route.specs.Name.{before_nul};
-ghost use Rattle.nlroute_ffi.specs.Timing.{PlaceAnswers, TimingAnswers, LimitsAnswers};
+ghost use Rattle.std.specs.Prelude.{◌≡◌, length, take, IfOk, OnErr, MatchResult};
+ghost use Rattle.nlroute_ffi.specs.Timing.{RefersTo, RefersNot, referred, TimingAnswers, LimitsAnswers};
 
 use crate::refusal::Refusal;
+use link_devices::name_bytes;
 use link_flat::octets::padded;
 use link_flat::{Entry, forms};
 use netlink_packet_route::implementing::u32s_at;
@@ -78,8 +78,8 @@ pub(crate) fn bit_timing(
     ensures zero { IfOk result (λ n. n ≡ 0) }
     ensures unchanged { OnErr result (timing.new ≡ timing.old) }
 {
-    match place_of(value, forms::BITTIMING, TIMING, octets) {
-        Ok(at) => {
+    match bytes_of(value, forms::BITTIMING, TIMING, octets) {
+        Ok(bytes) => {
             let [
                 bitrate,
                 sample_point,
@@ -89,7 +89,7 @@ pub(crate) fn bit_timing(
                 phase_seg2,
                 sjw,
                 brp,
-            ] = u32s_at::<8>(octets, at);
+            ] = u32s_at::<8>(bytes, 0);
             *timing = BitTiming {
                 bitrate,
                 sample_point,
@@ -121,9 +121,9 @@ pub(crate) fn timing_limits(
     ensures zero { IfOk result (λ n. n ≡ 0) }
     ensures unchanged { OnErr result (limits.new ≡ limits.old) }
 {
-    match place_of(value, forms::BITTIMING_CONST, LIMITS, octets) {
-        Ok(at) => {
-            let name = padded(before_nul(&octets[at..at + NAME - 1]));
+    match bytes_of(value, forms::BITTIMING_CONST, LIMITS, octets) {
+        Ok(bytes) => {
+            let name = padded(front(name_bytes(&bytes[..NAME]), NAME - 1));
             let [
                 tseg1_min,
                 tseg1_max,
@@ -133,7 +133,7 @@ pub(crate) fn timing_limits(
                 brp_min,
                 brp_max,
                 brp_inc,
-            ] = u32s_at::<8>(octets, at + NAME);
+            ] = u32s_at::<8>(bytes, NAME);
             *limits = TimingLimits {
                 name,
                 tseg1_min,
@@ -151,32 +151,31 @@ pub(crate) fn timing_limits(
     }
 }
 
-/// Returns where the octets of `value` start.
+/// Returns the octets of `value`.
 ///
 /// # Errors
 ///
-/// `BadForm` if `value` has another form, `BadOctets` if its octets are not `length` of `octets`.
-fn place_of(value: &Entry, form: u8, length: u32, octets: &[u8]) -> Result<usize, Refusal>
-    ensures { PlaceAnswers value.now form length octets.now result }
+/// `BadForm` if `value` has another form, `BadOctets` if its octets are not `size` of `octets`.
+fn bytes_of<'a>(value: &Entry, form: u8, size: u32, octets: &'a [u8]) -> Result<&'a [u8], Refusal>
+    ensures value { MatchResult result
+        (λ p. RefersTo value.now form size octets.now × (p.now ≡ referred size value.now octets.now))
+        (RefersNot value.now form size octets.now) }
+    ensures whole { IfOk result (λ p. length p.now ≡ size) }
 {
     if value.form != form {
         return Err(Refusal::BadForm);
     }
     let room = octets.len() as u64;
-    if value.length != length || value.offset > room || room - value.offset < u64::from(length) {
+    if value.length != size || value.offset > room || room - value.offset < u64::from(size) {
         return Err(Refusal::BadOctets);
     }
-    Ok(value.offset as usize)
+    let start = value.offset as usize;
+    Ok(&octets[start..start + size as usize])
 }
 
-/// Returns the bytes of a field before the first NUL, or all of them if there is none.
-pub(crate) fn before_nul(field: &[u8]) -> &[u8]
-    ensures { result.now ≡ before_nul field.now }
+/// Returns the first `count` bytes, or all if there are fewer.
+pub(crate) fn front(bytes: &[u8], count: usize) -> &[u8]
+    ensures { result.now ≡ take count bytes.now }
 {
-    for (i, byte) in field.iter().enumerate() {
-        if *byte == 0 {
-            return &field[..i];
-        }
-    }
-    field
+    &bytes[..bytes.len().min(count)]
 }

@@ -1,45 +1,36 @@
 //! The texts of values.
 
-ghost use Rattle.std.specs.Prelude.{◌≡◌, ◌<◌, ◌^◌, ◌==◌, if◌then◌else◌, [], ◌∷◌, length, take, drop, codes, IfOk, OnOk, OnErr, MatchResult};
+ghost use Rattle.std.specs.Prelude.{◌≡◌, ◌<◌, ◌^◌, [], length, take, drop, IfOk, OnOk, OnErr, MatchResult};
 ghost use Rattle.std.specs.Fmt.{signed_decimal};
 ghost use Rattle.std.specs.Int.{w64, cast_signed};
+ghost use Rattle.std.specs.Net.Addr.{ipv4_octets};
+ghost use Rattle.link_base.specs.Labels.{label_of, label_in, names_in};
 ghost use Rattle.link_show.specs.Sink.{Gains};
-ghost use Rattle.std.specs.Net.Addr.{segments_of};
-ghost use Rattle.std.specs.Net.Text.{ipv4_text, ipv6_text};
-ghost use Rattle.link_base.specs.Class.{AtLeast};
-ghost use Rattle.link_base.specs.Labels.{label_of, label_in};
-ghost use Rattle.link_base.specs.Name.{before_nul};
-ghost use Rattle.link_base.specs.Named.{value_of};
-ghost use Rattle.link_base.specs.Protocol.{vlan_protocols};
-ghost use Rattle.link_vlan_can.specs.CanRecords.{timing_of};
-ghost use Rattle.link_show.specs.Structs.{number_fields, struct_text, bridge_id_text, bit_timing_text, vlan_info_text};
-ghost use Rattle.link_show.specs.Value.{four_bytes, limits_text, protocol_text};
+ghost use Rattle.link_show.specs.Structs.{four_bytes};
+ghost use Rattle.link_show.specs.Value.{Label, content_text};
 ghost use Rattle.nlroute_ffi.specs.Buffers.{cut_text};
-ghost use Rattle.nlroute_ffi.specs.ValueText.{two_bytes, unsigned_by, named_by, width_by, masked_by, masked_struct};
-ghost use Rattle.nlroute_ffi.specs.ValueText.{entry_text, fields_text, octets_text};
 ghost use Rattle.nlroute_ffi.specs.ValueText.{holds_numbers, holds_unsigned, holds_named, has_size};
 ghost use Rattle.nlroute_ffi.specs.ValueText.{label_or_plain, is_lent, LendsOctets, LendsNone, TextAnswers};
+ghost use Rattle.nlroute_ffi.specs.ValueText.{unsigned_form, named_form, masked_form, bytes_form, flags_width, text_form};
+ghost use Rattle.nlroute_ffi.specs.ValueText.{own_names, vlan_names, option_names, text_names};
+ghost use Rattle.nlroute_ffi.specs.ValueText.{two_bytes, held, struct_bytes, content_of, text_as, entry_text};
 
 use crate::buffers::{refuse, store_words};
 use crate::names::label_of;
 use crate::refusal::Refusal;
-use crate::timing::before_nul;
-use bitflags::Flags;
+use crate::timing::front;
 use itoa::Buffer;
-use link_base::content::Content;
-use link_base::label::{Form, KindLabel, Quantity};
-use link_base::{PayloadStruct, VlanProtocol};
-use link_bridge::{
-    BridgeBooleanOptionFlags, BridgeBooleanOptions, BridgeId, BridgeVlanInfo, BridgeVlanInfoFlags,
-};
+use link_base::VlanProtocol;
+use link_base::names::flag_laws::FlagSet;
+use link_base::rows::form::{Form, Layout, Width};
+use link_base::rows::label::{KindLabel, Name, Quantity};
+use link_base::views::content::Content;
+use link_bridge::{BridgeBooleanOptionFlags, BridgeVlanInfoFlags};
+use link_devices::name_bytes;
 use link_flat::{Entry, forms};
-use link_show::{
-    Sink, StructText, Words, write_address, write_content, write_enum, write_flags, write_hex,
-    write_ipv4, write_ipv6,
-};
-use link_vlan_can::{CanBerrCounter, CanBitTiming, CanClock, CanCtrlMode, CanCtrlModeFlags};
-use link_write::flags_width;
+use link_show::{Sink, Words, write_content};
 use netlink_packet_route::Family;
+use std::net::{Ipv4Addr, Ipv6Addr};
 
 /// What is known of a type without a row.
 const PLAIN: KindLabel = KindLabel {
@@ -49,21 +40,19 @@ const PLAIN: KindLabel = KindLabel {
     names: &[],
 };
 
-/// The text of a value: what is known of its type, how many bytes a set of flags of this type has, its entry, and the bytes
-/// that it refers to.
+/// The text of a value: what is known of its type, its entry, and the bytes that it refers to.
 #[derive(Drop)]
 struct ValueWords<'a> {
     label: KindLabel,
-    width: usize,
     value: &'a Entry,
     octets: &'a [u8],
 }
 
 impl Words for ValueWords<'_> {
-    ghost words = { λ words. entry_text (label_of words.label) words.width words.value.now words.octets.now };
+    ghost words = { λ words. entry_text (label_of words.label) words.value.now words.octets.now };
 
     fn write_words<W: Sink>(&self, writer: &mut W) -> Result<(), W::Error> {
-        write_entry(writer, &self.label, self.width, self.value, self.octets)
+        write_entry(writer, &self.label, self.value, self.octets)
     }
 }
 
@@ -84,12 +73,10 @@ pub(crate) fn store_value_text(
     ensures empty { OnErr result (buffer.new ≡ cut_text [] buffer.old) }
 {
     let label = label_or_plain(label_of(family, value));
-    let width = flags_width(family, value);
     match octets_of(label.form, value, octets) {
         Ok(octets) => Ok(store_words(
             &ValueWords {
                 label,
-                width,
                 value,
                 octets,
             },
@@ -157,7 +144,7 @@ fn holds_unsigned(form: Form, number: u64) -> bool
     ensures { result ≡ holds_unsigned form number }
 {
     match form {
-        Form::Struct => number < 0x1_0000_0000,
+        Form::Struct(_) => number < 0x1_0000_0000,
         _ => true,
     }
 }
@@ -193,95 +180,260 @@ fn is_lent(form: u8) -> bool
     }
 }
 
-/// Writes the text of an entry that refers to these bytes. `label` is that of its type, of which a set of flags has `width`
-/// bytes.
+/// Writes the text of an entry that refers to these bytes. `label` is that of its type.
 fn write_entry<W: Sink>(
     writer: &mut W,
     label: &KindLabel,
-    width: usize,
     value: &Entry,
     octets: &[u8],
 ) -> Result<(), W::Error>
     ensures { OnOk result (Gains (W.output writer.old) (W.output writer.new)
-        (entry_text (label_of label.now) width value.now octets.now)) }
+        (entry_text (label_of label.now) value.now octets.now)) }
 {
-    let number = value.number;
     match value.form {
-        forms::BOOL => write_bool(writer, number),
-        forms::UNSIGNED => write_unsigned(writer, label, number),
-        forms::SIGNED => write_signed(writer, number),
-        forms::NAMED => write_named(writer, label, number),
-        forms::FLAGS => {
-            let width = width_by(label.form, width);
-            write_flags(writer, label.names, width, number)
-        }
-        forms::MASKED => write_masked(writer, label, low_word(number), value.second),
-        _ => write_fields(writer, label, value, octets),
+        forms::SIGNED => write_signed(writer, value.number),
+        forms::UNKNOWN => write_content(writer, label, Content::Other(octets)),
+        code => write_as(writer, text_form(code, label.form), label, value, octets),
     }
 }
 
-/// Writes the text of an entry whose form is not that of a number or a set of flags.
-fn write_fields<W: Sink>(
+/// Writes a signed number, which may have eight bytes.
+fn write_signed<W: Sink>(writer: &mut W, number: u64) -> Result<(), W::Error>
+    ensures { OnOk result (Gains (W.output writer.old) (W.output writer.new)
+        (signed_decimal (cast_signed w64 number))) }
+{
+    writer.put(Buffer::new().format(number.cast_signed()).as_bytes())
+}
+
+/// Writes the text of an entry as that of a content of this form. `label` is that of its type.
+fn write_as<W: Sink>(
     writer: &mut W,
+    form: Form,
     label: &KindLabel,
     value: &Entry,
     octets: &[u8],
 ) -> Result<(), W::Error>
     ensures { OnOk result (Gains (W.output writer.old) (W.output writer.new)
-        (fields_text value.now.form value.now octets.now)) }
+        (text_as form label.now.form (label_of label.now) value.now octets.now)) }
 {
-    let number = value.number;
-    match value.form {
-        forms::MAC => write_address(writer, &value.octets[..6]),
-        forms::IPV4 => write_ipv4(writer, &value.octets[..4]),
-        forms::IPV6 => write_ipv6(writer, &value.octets),
-        forms::BRIDGE_ID => write_bridge_id(writer, low_half(number), &value.octets[..6]),
-        forms::VLAN_INFO => write_vlan_info(writer, low_half(number), value.second),
-        forms::QOS_MAPPING => write_pair(writer, label, low_word(number), value.second),
-        forms::BERR_COUNTER => {
-            let txerr = low_half(number);
-            let rxerr = low_half(value.second.into());
-            CanBerrCounter { txerr, rxerr }.write_text(writer)
-        }
-        _ => write_octets(writer, label, value.form, octets),
+    let label = KindLabel {
+        names: text_names(form, label),
+        ..*label
+    };
+    let (held, size) = held_bytes(form, value);
+    let content = content_of(form, value, front(&held, size), octets);
+    write_content(writer, &label, content)
+}
+
+/// Returns the form whose text an entry with this code has, if the form of its type is `own`.
+fn text_form(code: u8, own: Form) -> Form
+    ensures { result ≡ text_form code own }
+{
+    match code {
+        forms::BOOL => Form::Bool,
+        forms::UNSIGNED => unsigned_form(own),
+        forms::NAMED => named_form(own),
+        forms::FLAGS => Form::Flags(flags_width(own)),
+        forms::MASKED => masked_form(own),
+        forms::MAC => Form::Mac,
+        forms::IPV4 => Form::Ipv4,
+        forms::IPV6 => Form::Ipv6,
+        forms::BRIDGE_ID => Form::Struct(Layout::BridgeId),
+        forms::VLAN_INFO => Form::Struct(Layout::VlanInfo),
+        forms::QOS_MAPPING => Form::Pair,
+        forms::BERR_COUNTER => Form::Struct(Layout::BerrCounter),
+        forms::BITTIMING => Form::Struct(Layout::BitTiming),
+        forms::BITTIMING_CONST => Form::Limits,
+        forms::BYTES => bytes_form(own),
+        _ => Form::Nothing,
     }
 }
 
-/// Writes bytes of a list by the form of the entry that refers to them, and nothing for other forms.
-fn write_octets<W: Sink>(
-    writer: &mut W,
-    label: &KindLabel,
-    form: u8,
-    octets: &[u8],
-) -> Result<(), W::Error>
-    ensures { OnOk result (Gains (W.output writer.old) (W.output writer.new) (octets_text form octets.now)) }
+/// Returns the form of the text of an unsigned number: of a struct, it is the frequency of a CAN controller.
+fn unsigned_form(own: Form) -> Form
+    ensures { result ≡ unsigned_form own }
+{
+    match own {
+        Form::Unsigned(_) | Form::Coded(_) => own,
+        Form::Struct(_) => Form::Struct(Layout::Clock),
+        _ => Form::Unsigned(Width::Eight),
+    }
+}
+
+/// Returns the form of the text of a number that may have a name.
+fn named_form(own: Form) -> Form
+    ensures { result ≡ named_form own }
+{
+    match own {
+        Form::Unsigned(_) | Form::Coded(_) | Form::Enum(_) | Form::Protocol => own,
+        _ => Form::Enum(Width::Eight),
+    }
+}
+
+/// Returns the width of a set of flags: that of the numbers of the type; eight bytes if it has no numbers.
+fn flags_width(own: Form) -> Width
+    ensures { result ≡ flags_width own }
+{
+    match own {
+        Form::Unsigned(width) | Form::Coded(width) | Form::Enum(width) | Form::Flags(width) =>
+            width,
+        Form::Bool | Form::LowFlags => Width::One,
+        Form::Struct(Layout::Clock) => Width::Four,
+        _ => Width::Eight,
+    }
+}
+
+/// Returns the form of the text of flags and a mask: of a struct, they are the modes of a CAN controller or the options of a
+/// bridge.
+fn masked_form(own: Form) -> Form
+    ensures { result ≡ masked_form own }
+{
+    match own {
+        Form::Struct(Layout::CtrlMode) => own,
+        Form::Struct(_) => Form::Struct(Layout::BooleanOptions),
+        _ => Form::MaskedFlags,
+    }
+}
+
+/// Returns the form of the text of bytes of the list.
+fn bytes_form(own: Form) -> Form
+    ensures { result ≡ bytes_form own }
+{
+    match own {
+        Form::Struct(Layout::Other(_)) => own,
+        _ => Form::Bytes,
+    }
+}
+
+/// Returns the names of numbers or bits in a text of this form. `label` is that of the type.
+fn text_names(form: Form, label: &KindLabel) -> &'static [Name]
+    ensures { names_in result.now ≡ text_names form label.now.form (names_in label.now.names.now) }
 {
     match form {
-        forms::BITTIMING => write_timing(writer, octets),
-        forms::BITTIMING_CONST => write_limits(writer, label, octets),
-        forms::BYTES => write_address(writer, octets),
-        forms::UNKNOWN => write_content(writer, label, Content::Other(octets)),
-        _ => Ok(()),
+        Form::Enum(_) | Form::Flags(_) | Form::MaskedFlags => own_names(label),
+        Form::Struct(Layout::VlanInfo) => vlan_names(label),
+        Form::Struct(Layout::BooleanOptions) => option_names(label),
+        _ => label.names,
     }
 }
 
-fn write_bool<W: Sink>(writer: &mut W, number: u64) -> Result<(), W::Error>
-    ensures { OnOk result (Gains (W.output writer.old) (W.output writer.new)
-        (if number == 0 then codes "off" else codes "on")) }
+/// Returns the names of a type, if they are those of an enum or a set of flags.
+fn own_names(label: &KindLabel) -> &'static [Name]
+    ensures { names_in result.now ≡ own_names label.now.form (names_in label.now.names.now) }
 {
-    if number == 0 {
-        writer.put(b"off")
-    } else {
-        writer.put(b"on")
+    match label.form {
+        Form::Coded(_) | Form::Protocol | Form::Struct(_) => &[],
+        _ => label.names,
     }
 }
 
-fn write_vlan_info<W: Sink>(writer: &mut W, id: u16, bits: u32) -> Result<(), W::Error>
-    ensures { OnOk result (Gains (W.output writer.old) (W.output writer.new)
-        (vlan_info_text (record { flags = record { 0 = two_bytes bits }; vid = id }))) }
+/// Returns the names of the flags of a bridge VLAN.
+fn vlan_names(label: &KindLabel) -> &'static [Name]
+    ensures { names_in result.now ≡ vlan_names label.now.form (names_in label.now.names.now) }
 {
-    let flags = BridgeVlanInfoFlags::from_bits_retain(low_half(bits.into()));
-    BridgeVlanInfo { flags, vid: id }.write_text(writer)
+    match label.form {
+        Form::Struct(Layout::VlanInfo) => label.names,
+        _ => BridgeVlanInfoFlags::names(),
+    }
+}
+
+/// Returns the names of the options of a bridge.
+fn option_names(label: &KindLabel) -> &'static [Name]
+    ensures { names_in result.now ≡ option_names label.now.form (names_in label.now.names.now) }
+{
+    match label.form {
+        Form::Struct(Layout::BooleanOptions) => label.names,
+        _ => BridgeBooleanOptionFlags::names(),
+    }
+}
+
+/// Returns the bytes of a struct in the fields of `value`, zeros after them, and their number: 0 if they are in the list.
+fn held_bytes(form: Form, value: &Entry) -> ([u8; 8], usize)
+    ensures { take result.1 result.0 ≡ held form value.now }
+{
+    let [a, b, c, d, _, _, _, _] = value.number.to_le_bytes();
+    let [e, f, g, h] = value.second.to_le_bytes();
+    let octets = &value.octets;
+    match form {
+        Form::Struct(Layout::BridgeId) => (
+            [
+                b, a, octets[0], octets[1], octets[2], octets[3], octets[4], octets[5],
+            ],
+            8,
+        ),
+        Form::Struct(Layout::VlanInfo) => ([e, f, a, b, 0, 0, 0, 0], 4),
+        Form::Struct(Layout::BooleanOptions) => ([a, b, c, d, e, f, g, h], 8),
+        Form::Struct(Layout::Clock) => ([a, b, c, d, 0, 0, 0, 0], 4),
+        Form::Struct(Layout::CtrlMode) => ([e, f, g, h, a, b, c, d], 8),
+        Form::Struct(Layout::BerrCounter) => ([a, b, e, f, 0, 0, 0, 0], 4),
+        _ => ([0; 8], 0),
+    }
+}
+
+/// Returns the content of an entry of this form. `fields` has the bytes of a struct in its fields, and `octets` those that
+/// it refers to.
+fn content_of<'a>(form: Form, value: &Entry, fields: &'a [u8], octets: &'a [u8]) -> Content<'a>
+    requires { fields.now ≡ held form value.now }
+    ensures { (label : Label) → content_text label result ≡ content_text label (content_of form value.now octets.now) }
+{
+    let number = value.number;
+    match form {
+        Form::Bool => Content::Bool(number != 0),
+        Form::Unsigned(width) => Content::Unsigned { number, width },
+        Form::Coded(width) => Content::Coded { number, width },
+        Form::Enum(width) => Content::Enum { number, width },
+        Form::Flags(width) => Content::Flags {
+            bits: number,
+            width,
+        },
+        Form::MaskedFlags => Content::MaskedFlags {
+            flags: low_word(number),
+            mask: value.second,
+        },
+        Form::Pair => Content::Pair(low_word(number), value.second),
+        Form::Protocol => Content::Protocol(VlanProtocol::from(low_half(number))),
+        Form::Mac => Content::Mac(mac_of(&value.octets[..6])),
+        Form::Ipv4 => Content::Ipv4(ipv4_of(&value.octets[..4])),
+        Form::Ipv6 => Content::Ipv6(Ipv6Addr::from_octets(value.octets)),
+        Form::Bytes => Content::Bytes(octets),
+        Form::Struct(layout) => Content::Struct {
+            layout,
+            bytes: struct_bytes(layout, fields, octets),
+        },
+        Form::Limits => Content::Limits {
+            name: name_bytes(front(octets, 16)),
+            numbers: front(behind(octets, 16), 32),
+        },
+        _ => Content::Nothing,
+    }
+}
+
+/// Returns the bytes of a struct: those of the list, or those of the fields of an entry.
+fn struct_bytes<'a>(layout: Layout, fields: &'a [u8], octets: &'a [u8]) -> &'a [u8]
+    ensures { result.now ≡ struct_bytes layout fields.now octets.now }
+{
+    match layout {
+        Layout::BitTiming | Layout::Other(_) => octets,
+        _ => fields,
+    }
+}
+
+/// Returns a hardware address.
+fn mac_of(octets: &[u8]) -> [u8; 6]
+    requires { length octets.now ≡ 6 }
+    ensures { result ≡ octets.now }
+{
+    let address: Result<[u8; 6], _> = octets.try_into();
+    address.unwrap()
+}
+
+/// Returns an IPv4 address.
+fn ipv4_of(octets: &[u8]) -> Ipv4Addr
+    requires { length octets.now ≡ 4 }
+    ensures { ipv4_octets result ≡ octets.now }
+{
+    let address: Result<[u8; 4], _> = octets.try_into();
+    Ipv4Addr::from_octets(address.unwrap())
 }
 
 /// Returns a number modulo 2^16.
@@ -293,154 +445,9 @@ fn low_half(number: u64) -> u16
 
 /// Returns a number modulo 2^32.
 fn low_word(number: u64) -> u32
-    ensures value { result ≡ four_bytes number }
-    ensures same { four_bytes result ≡ four_bytes number }
+    ensures { result ≡ four_bytes number }
 {
     (number % 0x1_0000_0000) as u32
-}
-
-/// Writes an unsigned number: of a struct, the frequency of a CAN controller.
-fn write_unsigned<W: Sink>(writer: &mut W, label: &KindLabel, number: u64) -> Result<(), W::Error>
-    ensures { OnOk result (Gains (W.output writer.old) (W.output writer.new)
-        (unsigned_by label.now.form (label_of label.now) number)) }
-{
-    match label.form {
-        Form::Struct => CanClock {
-            freq: low_word(number),
-        }
-        .write_text(writer),
-        _ => write_content(writer, label, Content::Unsigned { number, width: 8 }),
-    }
-}
-
-fn write_signed<W: Sink>(writer: &mut W, number: u64) -> Result<(), W::Error>
-    ensures { OnOk result (Gains (W.output writer.old) (W.output writer.new)
-        (signed_decimal (cast_signed w64 number))) }
-{
-    writer.put(Buffer::new().format(number.cast_signed()).as_bytes())
-}
-
-/// Writes a number that may have a name.
-fn write_named<W: Sink>(writer: &mut W, label: &KindLabel, number: u64) -> Result<(), W::Error>
-    ensures { OnOk result (Gains (W.output writer.old) (W.output writer.new)
-        (named_by label.now.form (label_of label.now) number)) }
-{
-    match label.form {
-        Form::Protocol => write_protocol(writer, label, low_half(number)),
-        Form::Unsigned => write_content(writer, label, Content::Unsigned { number, width: 8 }),
-        _ => write_enum(writer, label.names, number),
-    }
-}
-
-fn write_protocol<W: Sink>(writer: &mut W, label: &KindLabel, number: u16) -> Result<(), W::Error>
-    ensures { OnOk result (Gains (W.output writer.old) (W.output writer.new)
-        (protocol_text (value_of vlan_protocols number))) }
-{
-    write_content(writer, label, Content::Protocol(VlanProtocol::from(number)))
-}
-
-/// Returns how many bytes of a set of flags have flags, if it has `width` bytes.
-fn width_by(form: Form, width: usize) -> usize
-    ensures { result ≡ width_by form width }
-{
-    match form {
-        Form::LowFlags => 1,
-        _ => width,
-    }
-}
-
-/// Writes flags and a mask.
-fn write_masked<W: Sink>(
-    writer: &mut W,
-    label: &KindLabel,
-    flags: u32,
-    mask: u32,
-) -> Result<(), W::Error>
-    ensures { OnOk result (Gains (W.output writer.old) (W.output writer.new)
-        (masked_by label.now.form (label_of label.now) (four_bytes flags) (four_bytes mask))) }
-{
-    match label.form {
-        Form::Struct => write_masked_struct(writer, label.name, flags, mask),
-        _ => write_content(writer, label, Content::MaskedFlags { flags, mask }),
-    }
-}
-
-/// Writes the modes of a CAN controller, or the options of a bridge.
-fn write_masked_struct<W: Sink>(
-    writer: &mut W,
-    name: &str,
-    flags: u32,
-    mask: u32,
-) -> Result<(), W::Error>
-    ensures { OnOk result (Gains (W.output writer.old) (W.output writer.new)
-        (masked_struct name.now (four_bytes flags) (four_bytes mask))) }
-{
-    if name == "IFLA_CAN_CTRLMODE" {
-        return CanCtrlMode {
-            mask: CanCtrlModeFlags::from_bits_retain(mask),
-            flags: CanCtrlModeFlags::from_bits_retain(flags),
-        }
-        .write_text(writer);
-    }
-    BridgeBooleanOptions {
-        value: BridgeBooleanOptionFlags::from_bits_retain(flags),
-        mask: BridgeBooleanOptionFlags::from_bits_retain(mask),
-    }
-    .write_text(writer)
-}
-
-fn write_pair<W: Sink>(
-    writer: &mut W,
-    label: &KindLabel,
-    from: u32,
-    to: u32,
-) -> Result<(), W::Error>
-    ensures { OnOk result (Gains (W.output writer.old) (W.output writer.new)
-        (number_fields ((codes "from", four_bytes from) ∷ (codes "to", four_bytes to) ∷ []))) }
-{
-    write_content(writer, label, Content::Pair(from, to))
-}
-
-fn write_bridge_id<W: Sink>(writer: &mut W, number: u16, octets: &[u8]) -> Result<(), W::Error>
-    requires { length octets.now ≡ 6 }
-    ensures { OnOk result (Gains (W.output writer.old) (W.output writer.new)
-        (bridge_id_text (record { priority = number; address = octets.now }))) }
-{
-    let address: Result<[u8; 6], _> = octets.try_into();
-    BridgeId {
-        priority: number,
-        address: address.unwrap(),
-    }
-    .write_text(writer)
-}
-
-/// Writes a bit timing, or, if there are too few bytes, the bytes.
-#[tactic(auto, unfolding(link_show::specs::Structs::struct_text))]
-fn write_timing<W: Sink>(writer: &mut W, octets: &[u8]) -> Result<(), W::Error>
-    ensures { OnOk result (Gains (W.output writer.old) (W.output writer.new)
-        (struct_text (AtLeast 32) timing_of bit_timing_text octets.now)) }
-{
-    match CanBitTiming::parse_payload(octets) {
-        Ok(timing) => timing.write_text(writer),
-        Err(_) => write_hex(writer, octets),
-    }
-}
-
-/// Writes the limits of a bit timing: the name in the first 16 bytes, and the numbers in the next 32.
-fn write_limits<W: Sink>(writer: &mut W, label: &KindLabel, octets: &[u8]) -> Result<(), W::Error>
-    ensures { OnOk result (Gains (W.output writer.old) (W.output writer.new)
-        (limits_text (before_nul (take 16 octets.now)) (take 32 (drop 16 octets.now)))) }
-{
-    let name = before_nul(front(octets, 16));
-    let numbers = front(behind(octets, 16), 32);
-    write_content(writer, label, Content::Limits { name, numbers })
-}
-
-/// Returns the first `count` bytes, or all if there are fewer.
-fn front(octets: &[u8], count: usize) -> &[u8]
-    ensures { result.now ≡ take count octets.now }
-{
-    &octets[..octets.len().min(count)]
 }
 
 /// Returns the bytes after the first `count`.

@@ -2,8 +2,7 @@
 //!
 //! Usage: `nlshow [--format plain|debug] [--check] | --help | --version`. Each line of standard input is one of
 //!
-//! - `FAMILY HEX`: the bytes of a list. FAMILY is `af_spec_bridge`, `bond`, `bond_port`, `bridge`, `bridge_port`,
-//!   `vlan`, `can`, `dsa`, `hsr` or `proto_bridge`;
+//! - `FAMILY HEX`: the bytes of a list. FAMILY is the name of a `Family`;
 //! - `check FAMILY HEX`: the same; reports whether the list is canonical;
 //! - `message HEX`: the bytes of messages.
 //!

@@ -6,7 +6,7 @@ use Rattle.bstr.specs.Show.{debug_text}
 use Rattle.netlink_packet_route.specs.declared.family.Family.{Family}
 use Rattle.netlink_packet_route.specs.Family.{family_name, table_of}
 use Rattle.netlink_packet_route.specs.Report.{line}
-use Rattle.link_messages.specs.declared.views.Message.{Message}
+use Rattle.link_messages.specs.declared.buffer_parts.Message.{Message}
 use Rattle.link_messages.specs.declared.link.Link.{Link}
 use Rattle.link_messages.specs.declared.link.Part.{Part}
 use Rattle.link_messages.specs.declared.message.MessageError.{MessageError}

@@ -4,6 +4,7 @@ use Rattle.std.specs.List.{flat_map, AllByRecursion}
 use Rattle.std.specs.Io.KnownBytes.{Appends, Keeps}
 use Rattle.netlink_packet_route.specs.Report.{line, most_text}
 use Rattle.show_lines.specs.declared.arguments.Options.{Options}
+use Rattle.show_lines.specs.declared.asking.Asked.{Asked}
 use Rattle.show_lines.specs.declared.running.Stop.{Stop}
 use Rattle.show_lines.specs.declared.running.Stop.TheVariants.{Memory, Reader, Writer}
 use Rattle.link_show.specs.List.{EachShown}
@@ -46,6 +47,10 @@ WritesLine options text held_before held_after read = (out : List ℕ) × Shows 
 -- a line that is not ignored was written, and the output that follows it
 abbrev pub WritesBelow : Form → List ℕ → Option (List ℕ) → Option (List ℕ) → Bool → Type 0
 WritesBelow form text held_before held_after read = (below : List ℕ) × ShowsBelow form text below read × Appends held_before held_after (line text ++ below)
+
+-- a line was written, and the output of its command for these bytes
+abbrev pub WritesAnswer : Form → Asked → List ℕ → List ℕ → Option (List ℕ) → Option (List ℕ) → Bool → Type 0
+WritesAnswer form asked bytes text held_before held_after read = (below : List ℕ) × form asked bytes below read × Appends held_before held_after (line text ++ below)
 
 -- the output for what follows the last LF was written, if that is not empty; and whether no line has an error
 abbrev pub WritesRest : Options → List ℕ → Bool → Option (List ℕ) → Option (List ℕ) → Bool → Type 0

@@ -1,9 +1,9 @@
 //! Parses the command at the start of an input line.
 
-ghost use Rattle.std.specs.Prelude.{◌≡◌, ◌≢◌, ◌++◌, IfSome, IfNone, MatchOption};
+ghost use Rattle.std.specs.Prelude.{◌≡◌, ◌≢◌, IfSome, IfNone, MatchOption};
 ghost use Rattle.netlink_packet_route.specs.Family.{family_name};
 ghost use Rattle.show_lines.specs.declared.asking.Asked.{Asked};
-ghost use Rattle.show_lines.specs.Show.{IsBlank, IsApart, IsCut, Asks, AsksNothing, IsSolidFirst};
+ghost use Rattle.show_lines.specs.Show.{IsCut, Asks, AsksNothing, IsSolidFirst};
 
 use netlink_packet_route::Family;
 use netlink_packet_route::hex_text::is_space;

@@ -6,6 +6,7 @@
 
 mod arguments;
 mod asking;
+mod debug;
 mod held;
 mod lists;
 mod messages;
@@ -13,7 +14,6 @@ mod plain;
 mod replies;
 mod running;
 mod showing;
-mod verdicts;
 
 pub use arguments::{Format, Options, Request, parse, wrong};
 pub use replies::{Reply, USAGE, VERSION};

@@ -7,7 +7,7 @@ ghost use Rattle.netlink_packet_route.specs.Wire.{FirstFault};
 ghost use Rattle.uses.specs.Ipvlan.{ipvlan_table, ipvlan_means};
 ghost use Rattle.uses.specs.Reading.{IsLastNumber};
 
-use netlink_packet_route::implementing::rows::{self, AttributeRows, RowVisitor};
+use netlink_packet_route::implementing::by_rows::{self, AttributeRows, RowVisitor};
 use netlink_packet_route::implementing::{
     Attribute, Content, DecodeError, DecodeFault, DefaultNla, KindLabel, Meaning, Nla, NlaBuffer,
     Parseable, Place, TryClone,
@@ -87,20 +87,20 @@ impl Attribute for InfoIpvlan {
     ghost use Rattle.uses.specs.contracts.ipvlan.InfoIpvlan.{enum};
 
     fn check(buffer: &NlaBuffer<'_>) -> Result<(), DecodeFault> {
-        rows::check::<Self>(buffer)
+        by_rows::check::<Self>(buffer)
     }
 
     #[inline(always)]
     fn borrow<'a>(list: Option<u16>, buffer: &NlaBuffer<'a>) -> Content<'a> {
-        rows::borrow::<Self>(list, buffer)
+        by_rows::borrow::<Self>(list, buffer)
     }
 
     fn label(list: Option<u16>, kind: u16) -> Option<KindLabel> {
-        rows::label::<Self>(list, kind)
+        by_rows::label::<Self>(list, kind)
     }
 
     fn canonical(buffer: &NlaBuffer<'_>) -> bool {
-        rows::canonical::<Self>(buffer)
+        by_rows::canonical::<Self>(buffer)
     }
 
     ghost lawful = { lawful ipvlan_table };

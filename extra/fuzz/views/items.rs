@@ -1,9 +1,10 @@
 //! Compares attributes of a view with their values.
 
 use crate::{COUNT, FORM, FOUND, LABEL, NO_MEMORY, NUMBER, VALUE, expect};
-use link_base::attribute_set::AttributeSet;
-use link_base::content::Content;
-use link_base::view::{Value, View};
+use link_base::rows::form::Width;
+use link_base::views::attribute_set::AttributeSet;
+use link_base::views::content::Content;
+use link_base::views::view::{Value, View};
 use link_base::{Attribute, DecodeError, NlaBuffer};
 use std::alloc::Global;
 
@@ -50,14 +51,14 @@ pub(crate) fn is_viewed<S: AttributeSet, E: Attribute>(
 
 /// Checks the numbers of an attribute: there is one if and only if the content is an unsigned number of this width.
 fn are_numbers<S: AttributeSet>(item: &Value<'_, S>, content: Content<'_>) -> bool {
-    let of_width = |size: usize| match content {
-        Content::Unsigned { number, width } if width == size => Some(number),
+    let of_width = |size: Width| match content {
+        Content::Unsigned { number, width } | Content::Coded { number, width } if width == size => Some(number),
         _ => None,
     };
-    item.as_u8().map(u64::from) == of_width(1)
-        && item.as_u16().map(u64::from) == of_width(2)
-        && item.as_u32().map(u64::from) == of_width(4)
-        && item.as_u64() == of_width(8)
+    item.as_u8().map(u64::from) == of_width(Width::One)
+        && item.as_u16().map(u64::from) == of_width(Width::Two)
+        && item.as_u32().map(u64::from) == of_width(Width::Four)
+        && item.as_u64() == of_width(Width::Eight)
 }
 
 /// Checks `first` and `find` of a view, for the types of the first attributes, and for others.

@@ -3,9 +3,10 @@
 use crate::items::{are_viewed, is_viewed};
 use crate::nested::Nested;
 use crate::{CANONICAL, CHECK, COUNT, ERROR, FIRST, ITEM, NO_MEMORY, expect};
+use link_base::views::viewing;
 use link_base::{
     Attribute, DecodeError, DecodeFault, ListError, ListFault, NlaBuffer, NlasIterator, check_list,
-    list_is_canonical, padded, read_list, viewing,
+    list_is_canonical, padded, read_list,
 };
 use netlink_packet_route::{Family, first_not_canonical, view_all, view_list};
 use std::alloc::Global;

@@ -4,9 +4,9 @@ ghost use Rattle.std.specs.Prelude.{refl, false};
 ghost use Rattle.link_base.specs.Lift.{lift, lift_table};
 ghost use Rattle.link_bond.specs.AdInfo.{ad_info_rows, ad_info_leaf};
 
-use link_base::content::Content;
-use link_base::label::KindLabel;
-use link_base::rows::{self, AttributeRows, RowVisitor};
+use link_base::rows::by_rows::{self, AttributeRows, RowVisitor};
+use link_base::rows::label::KindLabel;
+use link_base::views::content::Content;
 use link_base::{
     Attribute, DecodeError, DecodeFault, DefaultNla, Meaning, NestedAttribute, Nla, NlaBuffer,
     Parseable, Place, TryClone,
@@ -93,20 +93,20 @@ impl Attribute for BondAdInfo {
     ghost use Rattle.link_bond.specs.contracts.bond.ad_info.BondAdInfo.{enum};
 
     fn check(buffer: &NlaBuffer<'_>) -> Result<(), DecodeFault> {
-        rows::check::<Self>(buffer)
+        by_rows::check::<Self>(buffer)
     }
 
     #[inline]
     fn borrow<'a>(list: Option<u16>, buffer: &NlaBuffer<'a>) -> Content<'a> {
-        rows::borrow::<Self>(list, buffer)
+        by_rows::borrow::<Self>(list, buffer)
     }
 
     fn label(list: Option<u16>, kind: u16) -> Option<KindLabel> {
-        rows::label::<Self>(list, kind)
+        by_rows::label::<Self>(list, kind)
     }
 
     fn canonical(buffer: &NlaBuffer<'_>) -> bool {
-        rows::canonical::<Self>(buffer)
+        by_rows::canonical::<Self>(buffer)
     }
 
     ghost lawful = { lawful (lift_table ad_info_rows) };
@@ -119,7 +119,9 @@ impl Attribute for BondAdInfo {
 impl NestedAttribute for BondAdInfo {
     ghost rows = { ad_info_rows };
 
-    ghost flagged = { false };
+    const FLAGGED: bool = false;
+
+    ghost FLAGGED = { false };
 
     ghost leaf = { ad_info_leaf };
 

@@ -5,7 +5,7 @@ ghost use Rattle.link_base.specs.Named.{value_of, number_of, displayed, ReadsTex
 ghost use Rattle.link_base.specs.Equality.{of_cases, thorough_fields};
 ghost use Rattle.link_bond.specs.Names.{lacp_rate_names, lacp_rate_seen, lacp_rate_cases};
 
-use link_base::label::Name;
+use link_base::rows::label::Name;
 use link_base::{DecodeError, NamedNumber};
 use std::fmt;
 use std::str::FromStr;

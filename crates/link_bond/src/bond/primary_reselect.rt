@@ -5,7 +5,7 @@ ghost use Rattle.link_base.specs.Named.{value_of, number_of, displayed, ReadsTex
 ghost use Rattle.link_base.specs.Equality.{of_cases, thorough_fields};
 ghost use Rattle.link_bond.specs.Names.{primary_reselect_names, primary_reselect_seen, primary_reselect_cases};
 
-use link_base::label::Name;
+use link_base::rows::label::Name;
 use link_base::{DecodeError, NamedNumber};
 use std::fmt;
 use std::str::FromStr;

@@ -1,8 +1,8 @@
 //! The state of one side of an LACP link.
 
 use bitflags::{Flag, Flags};
-use link_base::flag_laws::{FlagSet, KnownBits};
-use link_base::label::Name;
+use link_base::names::flag_laws::{FlagSet, KnownBits};
+use link_base::rows::label::Name;
 
 /// The state of one side of a link in LACP, the actor or the partner (`LACP_STATE_*`,
 /// `include/uapi/linux/if_bonding.h`). Each of the eight bits has a name.

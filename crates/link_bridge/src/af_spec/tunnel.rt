@@ -5,9 +5,9 @@ ghost use Rattle.link_base.specs.Lift.{lift, lift_table};
 ghost use Rattle.link_bridge.specs.TunnelInfo.{tunnel_rows, tunnel_leaf};
 
 use crate::af_spec::vlan_info_flags::BridgeVlanInfoFlags;
-use link_base::content::Content;
-use link_base::label::KindLabel;
-use link_base::rows::{self, AttributeRows, RowVisitor};
+use link_base::rows::by_rows::{self, AttributeRows, RowVisitor};
+use link_base::rows::label::KindLabel;
+use link_base::views::content::Content;
 use link_base::{
     Attribute, DecodeError, DecodeFault, DefaultNla, FlagBits, Meaning, NestedAttribute, Nla,
     NlaBuffer, Parseable, Place, TryClone,
@@ -89,20 +89,20 @@ impl Attribute for BridgeVlanTunnelInfo {
     ghost use Rattle.link_bridge.specs.contracts.af_spec.tunnel.BridgeVlanTunnelInfo.{enum};
 
     fn check(buffer: &NlaBuffer<'_>) -> Result<(), DecodeFault> {
-        rows::check::<Self>(buffer)
+        by_rows::check::<Self>(buffer)
     }
 
     #[inline]
     fn borrow<'a>(list: Option<u16>, buffer: &NlaBuffer<'a>) -> Content<'a> {
-        rows::borrow::<Self>(list, buffer)
+        by_rows::borrow::<Self>(list, buffer)
     }
 
     fn label(list: Option<u16>, kind: u16) -> Option<KindLabel> {
-        rows::label::<Self>(list, kind)
+        by_rows::label::<Self>(list, kind)
     }
 
     fn canonical(buffer: &NlaBuffer<'_>) -> bool {
-        rows::canonical::<Self>(buffer)
+        by_rows::canonical::<Self>(buffer)
     }
 
     ghost lawful = { lawful (lift_table tunnel_rows) };
@@ -115,7 +115,9 @@ impl Attribute for BridgeVlanTunnelInfo {
 impl NestedAttribute for BridgeVlanTunnelInfo {
     ghost rows = { tunnel_rows };
 
-    ghost flagged = { false };
+    const FLAGGED: bool = false;
+
+    ghost FLAGGED = { false };
 
     ghost leaf = { tunnel_leaf };
 

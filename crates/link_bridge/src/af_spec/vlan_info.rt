@@ -2,7 +2,10 @@
 
 use crate::af_spec::vlan_info_flags::BridgeVlanInfoFlags;
 use bitflags::Flags;
-use link_base::{DecodeError, Lengths, PayloadStruct, check_exactly, u16_at};
+use link_base::names::flag_laws::FlagSet;
+use link_base::rows::form::Layout;
+use link_base::rows::label::Name;
+use link_base::{DecodeError, PayloadStruct, check_exactly, u16_at};
 
 /// A VLAN of a bridge or bridge port, or one end of a range of VLANs (`struct bridge_vlan_info`,
 /// `include/uapi/linux/if_bridge.h`): two `u16`s.
@@ -60,18 +63,27 @@ impl TryFrom<&[u8]> for BridgeVlanInfo {
 }
 
 impl PayloadStruct for BridgeVlanInfo {
-    ghost use Rattle.link_base.specs.Class.{Exactly};
-    ghost use Rattle.link_bridge.specs.VlanInfo.{vlan_info_of, vlan_info_octets};
+    ghost use Rattle.std.specs.Prelude.{refl};
+    ghost use Rattle.link_base.specs.declared.rows.form.Layout.TheVariants as layouts;
+    ghost use Rattle.link_bridge.specs.VlanInfo.{vlan_info_of, vlan_info_octets, vlan_info_held, vlan_info_bit_names};
 
-    ghost extent = { Exactly 4 };
+    const LAYOUT: Layout = Layout::VlanInfo;
+
+    ghost LAYOUT = { layouts.VlanInfo };
 
     ghost value_of = { vlan_info_of };
 
     ghost octets = { vlan_info_octets };
 
+    ghost held = { vlan_info_held };
+
+    ghost told = { λ _. refl };
+
+    ghost bit_names = { vlan_info_bit_names };
+
     #[inline]
-    fn lengths() -> Lengths {
-        Lengths::Exactly(BridgeVlanInfo::LENGTH)
+    fn names() -> &'static [Name] {
+        BridgeVlanInfoFlags::names()
     }
 
     #[inline]

@@ -1,8 +1,8 @@
 //! The flags of a bridge VLAN.
 
 use bitflags::{Flag, Flags};
-use link_base::flag_laws::{FlagSet, KnownBits};
-use link_base::label::Name;
+use link_base::names::flag_laws::{FlagSet, KnownBits};
+use link_base::rows::label::Name;
 
 /// Flags of a VLAN of a bridge or bridge port (`BRIDGE_VLAN_INFO_*`, `include/uapi/linux/if_bridge.h`). Unnamed bits
 /// are kept.

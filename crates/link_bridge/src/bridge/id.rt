@@ -1,13 +1,14 @@
 //! Bridge IDs.
 
-ghost use Rattle.std.specs.Prelude.{◌≡◌, take, IfOk};
+ghost use Rattle.std.specs.Prelude.{refl, ◌≡◌, take, IfOk};
+ghost use Rattle.link_base.specs.declared.rows.form.Layout.TheVariants as layouts;
 ghost use Rattle.link_base.specs.Class.{accepted, AtLeast};
 ghost use Rattle.link_base.specs.Answers.{payload_result};
-ghost use Rattle.link_bridge.specs.Id.{id_of, id_octets};
+ghost use Rattle.link_bridge.specs.Id.{id_of, id_octets, id_held};
 
-use link_base::{
-    DecodeError, Emitable, Lengths, PayloadStruct, check_at_least, emit_mac, emit_u16_be,
-};
+use link_base::rows::form::Layout;
+use link_base::rows::label::Name;
+use link_base::{DecodeError, Emitable, PayloadStruct, check_at_least, emit_mac, emit_u16_be};
 
 /// Length of a bridge ID as a payload, in bytes.
 const SIZE: usize = 8;
@@ -58,15 +59,21 @@ impl Emitable for BridgeId {
 }
 
 impl PayloadStruct for BridgeId {
-    ghost extent = { AtLeast 8 };
+    const LAYOUT: Layout = Layout::BridgeId;
+
+    ghost LAYOUT = { layouts.BridgeId };
 
     ghost value_of = { id_of };
 
     ghost octets = { id_octets };
 
+    ghost held = { id_held };
+
+    ghost told = { λ _. refl };
+
     #[inline]
-    fn lengths() -> Lengths {
-        Lengths::AtLeast(SIZE)
+    fn names() -> &'static [Name] {
+        &[]
     }
 
     #[inline]

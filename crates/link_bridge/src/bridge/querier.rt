@@ -1,11 +1,11 @@
 //! The multicast queriers known to a bridge.
 
-use link_base::content::Content;
-use link_base::label::KindLabel;
-use link_base::rows::{self, AttributeRows, RowVisitor};
+use link_base::rows::by_rows::{self, AttributeRows, RowVisitor};
+use link_base::rows::label::KindLabel;
+use link_base::views::content::Content;
 use link_base::{
     Attribute, DecodeError, DecodeFault, DefaultNla, Meaning, NestedAttribute, Nla, NlaBuffer,
-    OneAddress, Parseable, Place, TryClone,
+    Parseable, Place, TryClone,
 };
 use std::alloc::{AllocError, Global};
 use std::net::{Ipv4Addr, Ipv6Addr};
@@ -34,10 +34,10 @@ pub enum BridgeQuerierState {
 macro_rules! rows {
     ($call:ident($($argument:tt)*)) => {
         link_base::by_rows! { $call($($argument)*)
-            BRIDGE_QUERIER_IP_ADDRESS = 1, Ipv4Address: OneAddress<Ipv4Addr>;
+            BRIDGE_QUERIER_IP_ADDRESS = 1, Ipv4Address: Ipv4Addr;
             BRIDGE_QUERIER_IP_PORT = 2, Ipv4Port: u32 as InterfaceIndex;
             BRIDGE_QUERIER_IP_OTHER_TIMER = 3, Ipv4OtherTimer: u64 as ClockTicks;
-            BRIDGE_QUERIER_IPV6_ADDRESS = 5, Ipv6Address: OneAddress<Ipv6Addr>;
+            BRIDGE_QUERIER_IPV6_ADDRESS = 5, Ipv6Address: Ipv6Addr;
             BRIDGE_QUERIER_IPV6_PORT = 6, Ipv6Port: u32 as InterfaceIndex;
             BRIDGE_QUERIER_IPV6_OTHER_TIMER = 7, Ipv6OtherTimer: u64 as ClockTicks;
         }
@@ -99,20 +99,20 @@ impl Attribute for BridgeQuerierState {
     ghost use Rattle.link_bridge.specs.contracts.bridge.querier.BridgeQuerierState.{enum};
 
     fn check(buffer: &NlaBuffer<'_>) -> Result<(), DecodeFault> {
-        rows::check::<Self>(buffer)
+        by_rows::check::<Self>(buffer)
     }
 
     #[inline]
     fn borrow<'a>(list: Option<u16>, buffer: &NlaBuffer<'a>) -> Content<'a> {
-        rows::borrow::<Self>(list, buffer)
+        by_rows::borrow::<Self>(list, buffer)
     }
 
     fn label(list: Option<u16>, kind: u16) -> Option<KindLabel> {
-        rows::label::<Self>(list, kind)
+        by_rows::label::<Self>(list, kind)
     }
 
     fn canonical(buffer: &NlaBuffer<'_>) -> bool {
-        rows::canonical::<Self>(buffer)
+        by_rows::canonical::<Self>(buffer)
     }
 
     ghost lawful = { lawful (lift_table querier_rows) };
@@ -128,7 +128,9 @@ impl NestedAttribute for BridgeQuerierState {
 
     ghost rows = { querier_rows };
 
-    ghost flagged = { true };
+    const FLAGGED: bool = true;
+
+    ghost FLAGGED = { true };
 
     ghost leaf = { querier_leaf };
 

@@ -1,8 +1,8 @@
 //! Boolean options of a bridge, as flags.
 
 use bitflags::{Flag, Flags};
-use link_base::flag_laws::{FlagSet, KnownBits};
-use link_base::label::Name;
+use link_base::names::flag_laws::{FlagSet, KnownBits};
+use link_base::rows::label::Name;
 
 /// Boolean options of a bridge (`BR_BOOLOPT_*`, `include/uapi/linux/if_bridge.h`). Unnamed bits are kept.
 #[derive(Clone, Copy, Debug, Default, PartialEq, Eq)]

@@ -1,13 +1,14 @@
 //! Calls each theorem and each worked example: the theorems about attributes for each attribute set, for a nested one and
 //! for `DefaultNla`, the others for at least one type.
 
-use link_base::{examples, flag_laws, named_laws, view_laws};
+use link_base::lists::examples;
+use link_base::names::{flag_laws, named_laws};
+use link_base::views::view_laws;
 use netlink_packet_route::link::{
-    AfSpecBridge, Attribute, BondMode, BridgeMulticastRouterType, DefaultNla, InfoBond,
-    InfoBondPort, InfoBridge, InfoBridgePort, InfoCan, InfoDsa, InfoHsr, InfoVlan, LacpState,
-    LinkProtoInfoBridge, VlanFlags, VlanQosMapping, laws,
+    Attribute, BondMode, BridgeMulticastRouterType, DefaultNla, LacpState, VlanFlags,
+    VlanQosMapping, laws,
 };
-use netlink_packet_route::{Family, view_all, view_list};
+use netlink_packet_route::{Family, families, link, view_all, view_list};
 
 #[test]
 fn laws_of_tables() {
@@ -46,23 +47,21 @@ fn laws_of_attribute_sets() {
     netlink_packet_route::laws::equality();
     netlink_packet_route::laws::second_rewriting();
     link_bridge::laws::profiles();
-    link_vlan_can::laws::profiles();
+    link_devices::laws::profiles();
+}
+
+/// Calls the theorems for each attribute set.
+macro_rules! laws_of_each {
+    ($($variant:ident $name:tt $attributes:ident $number:tt $holder:ident $held:tt)*) => {
+        $(laws_of::<link::$attributes>();)*
+    };
 }
 
 #[test]
 fn laws_of_attributes() {
     laws_of::<DefaultNla>();
-    laws_of::<InfoBond>();
-    laws_of::<InfoBondPort>();
-    laws_of::<InfoBridge>();
-    laws_of::<InfoBridgePort>();
-    laws_of::<AfSpecBridge>();
-    laws_of::<LinkProtoInfoBridge>();
-    laws_of::<InfoVlan>();
     laws_of::<VlanQosMapping>();
-    laws_of::<InfoCan>();
-    laws_of::<InfoDsa>();
-    laws_of::<InfoHsr>();
+    families!([laws_of_each]);
 }
 
 /// Calls each theorem about attributes, for one type.
@@ -105,8 +104,8 @@ fn laws_of_flags() {
     link_bridge::laws::boolean_option_bits();
     link_bridge::laws::default_options();
     link_bridge::laws::vlan_info_flag_bits();
-    link_vlan_can::laws::vlan_flag_bits();
-    link_vlan_can::laws::can_mode_bits();
+    link_devices::laws::vlan_flag_bits();
+    link_devices::laws::can_mode_bits();
 }
 
 #[test]

@@ -3,7 +3,7 @@
 ghost use Rattle.std.specs.Prelude.{◌≡◌, ◌+◌, length};
 ghost use Rattle.link_base.specs.Frame.{pad};
 
-use crate::tests::{bytes, filled, holds, list_of};
+use crate::tests::{CANONICAL, bytes, filled, holds, list_of};
 use netlink_packet_route::link::{Cause, DecodeFault};
 use netlink_packet_route::{
     Family, RewriteError, is_canonical, rewrite, rewrite_streaming, rewrite_to_slice,
@@ -49,47 +49,7 @@ fn lent(rt: &impl Abort, alloc: Global, list: &[u8]) -> Vec<u8>
 
 #[test]
 fn lists_that_stay(rt: HostRuntime) {
-    are_rewritten(
-        &rt,
-        rt.alloc(),
-        &[
-            "dsa",
-            "dsa 08000100 2a000000",
-            "dsa 04000000",
-            "dsa 08000100 01000000 0400ff3f",
-            "hsr 0a000400 01154e00 01000000",
-            "hsr 08000800 07000000 06000500 34120000 05006340 01000000",
-            "vlan 060063c0 dead0000",
-            "vlan 0c000200 01000000 1f000000",
-            "vlan 06000500 88a80000",
-            "vlan 0c000300 080009c0 01020304",
-            "vlan 06006300 dead0000 10000300 0c000100 01000000 02000000",
-            "vlan 04000300 04000400",
-            "bond 05000100 09000000",
-            "bond 04000800",
-            "bond 14000800 08000000 0a000001 08000100 0a000002",
-            "bond 0c001700 06000100 07000000",
-            "bond_port 06000800 3f000000",
-            "bond_port 08000900 ffffffff",
-            "bond_port 0a000400 02000000 00010000",
-            "bridge 04001500",
-            "bridge 06000800 81000000",
-            "bridge 0c000b00 80000200 00000001",
-            "bridge 0c002e00 01000000 03000000",
-            "bridge 0c002f80 08000100 c0a80001",
-            "bridge_port 05000b00 01000000",
-            "bridge_port 06001ac0 dead0000 05002d00 01000000",
-            "af_spec_bridge 06000000 02000000 08000200 06000100",
-            "af_spec_bridge 1c000300 08000100 64000000 06000200 0a000000 06000300 00000000",
-            "af_spec_bridge 04000400 04000680",
-            "proto_bridge 05000400 07000000 05002d00 00000000",
-            "can 08000800 01000200",
-            "can 0c000500 21000000 20000000",
-            "can 08000c00 78000000 0c000d00 48e80100 a0860100 04000e00",
-            "can 0c001080 08000700 03000000",
-            "can 06000b00 78000000 06001240 01000000",
-        ],
-    );
+    are_rewritten(&rt, rt.alloc(), &CANONICAL);
 }
 
 #[test]

@@ -1,70 +1,44 @@
 //! Runs the program with the name of each `Family`.
 
 use super::devices::{buffered, ran};
+use netlink_packet_route::{Family, families, report};
 
+/// For each attribute set, an input whose output shows how this set decodes.
+const INPUTS: [&str; 10] = [
+    "06 00 00 80 02 00 00 00",
+    "05 00 06 00 02 00 00 00",
+    "06 00 08 00 3f 01 00 00",
+    "07 00 15 00 01 02 03 00",
+    "06 00 18 00 01 02 00 00",
+    "06 00 05 00 91 00 00 00",
+    "0a 00 08 00 01 00 02 00 ff ff 00 00",
+    "08 00 01 80 2a 00 00 00 08 00 02 00 00 00 00 00",
+    "05 00 07 40 01 00 00 00",
+    "05 00 2d 00 02 00 00 00 06 00 18 00 01 02 00 00",
+];
+
+macro_rules! all {
+    ($($variant:ident $name:tt $attributes:ident $number:tt $holder:ident $held:tt)*) => {
+        [$(Family::$variant),*]
+    };
+}
+
+/// The output is that of `report`, which `list_tests` compares with outputs that were computed by hand.
 #[test]
 fn each_family_by_its_name(rt: HostRuntime) {
-    // for each name, an input whose output shows how its attribute set decodes
-    for (name, text, wanted) in [
-        (
-            "af_spec_bridge",
-            "06 00 00 80 02 00 00 00",
-            "attr 0 len 2\nout 0600000002000000\nchanged\n",
-        ),
-        (
-            "bond",
-            "05 00 06 00 02 00 00 00",
-            "attr 6 len 1\nout 0500060001000000\nchanged\n",
-        ),
-        (
-            "bond_port",
-            "06 00 08 00 3f 01 00 00",
-            "attr 8 len 2\nout 060008003f000000\nchanged\n",
-        ),
-        (
-            "bridge",
-            "07 00 15 00 01 02 03 00",
-            "attr 21 len 0\nout 04001500\nchanged\n",
-        ),
-        (
-            "bridge_port",
-            "06 00 18 00 01 02 00 00",
-            "attr 24 len 0\nout 04001800\nchanged\n",
-        ),
-        (
-            "vlan",
-            "06 00 05 00 91 00 00 00",
-            "attr 5 len 2\nout 0600050081000000\nchanged\n",
-        ),
-        (
-            "can",
-            "0a 00 08 00 01 00 02 00 ff ff 00 00",
-            "attr 8 len 4\nout 0800080001000200\nchanged\n",
-        ),
-        (
-            "dsa",
-            "08 00 01 80 2a 00 00 00 08 00 02 00 00 00 00 00",
-            "attr 1 len 4\nattr 2 len 4\nout 080001002a0000000800020000000000\nchanged\n",
-        ),
-        (
-            "hsr",
-            "05 00 07 40 01 00 00 00",
-            "attr 7 len 1\nout 0500070001000000\nchanged\n",
-        ),
-        (
-            "proto_bridge",
-            "05 00 2d 00 02 00 00 00 06 00 18 00 01 02 00 00",
-            "attr 45 len 1\nattr 24 len 2\nout 05002d00010000000600180001020000\nchanged\n",
-        ),
-    ] {
-        let mut written = buffered(&rt, rt.alloc(), Vec::new(rt.alloc()));
-        let status = ran(&rt, rt.alloc(), name, &mut text.as_bytes(), &mut written);
-        assert_eq!(rt; status, 0, "for {name}");
-        assert_eq!(rt;
-            written.get_ref().as_slice(),
-            wanted.as_bytes(),
-            "for {name}"
-        );
+    for family in families!([all]) {
+        for text in INPUTS {
+            let (wanted, code) = report(rt.alloc(), family, text.as_bytes()).expect(&rt, text);
+            let mut written = buffered(&rt, rt.alloc(), Vec::new(rt.alloc()));
+            let name = family.name();
+            let status = ran(&rt, rt.alloc(), name, &mut text.as_bytes(), &mut written);
+            assert_eq!(rt; status, code, "for {name} and {text}");
+            assert_eq!(rt;
+                written.get_ref().as_slice(),
+                wanted.as_bytes(),
+                "for {name} and {text}"
+            );
+        }
     }
 }
 

@@ -1,7 +1,7 @@
 use Rattle.std.proofs.Common.{subst, sym, ◌∙◌, true≢false}
 use Rattle.link_base.specs.Table.{Gives}
 use Rattle.link_base.specs.Wire.{FirstFault}
-use Rattle.link_base.specs.declared.fault.ListFault.{ListFault}
+use Rattle.link_base.specs.declared.wire.fault.ListFault.{ListFault}
 use Rattle.library_tests.proofs.comparing.fails_with.Goals.{in-Err-Fault, in_default, in_default-2}
 use Rattle.library_tests.proofs.comparing.fails_with.Goals as goal
 

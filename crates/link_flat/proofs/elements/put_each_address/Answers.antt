@@ -1,6 +1,6 @@
 use Rattle.std.proofs.Common.{◌≡◌, ◌+◌, ◌-◌, length, ap, arith}
 use Rattle.link_base.specs.Viewed.{bytes_in}
-use Rattle.link_base.proofs.Views.{split_less}
+use Rattle.link_base.proofs.ViewLemmas.{split_less}
 use Rattle.link_flat.proofs.AddressEntries.{addresses_more}
 use Rattle.link_flat.proofs.elements.put_each_address.Goals as goal
 

@@ -13,11 +13,11 @@ pub of_checked-requires : goal.of_checked-requires
 of_checked-requires c =
     let table = table_of c.args.family in
     let b = c.args.buffer.now in
-    let bytes = c.in-List.bytes in
+    let bytes = c.in-List.list in
     let shape = class_at table (kind_of (kind_field_of b)) in
     let borrows = subst (Borrows shape (payload_of b)) c.in-List.is c.requires.content.borrows in
     subst (λ k. HasValues (elements_at table k) bytes.now) (sym c.kind-kind.ensures)
-    (elements_decode table (kind_field_of b) (payload_of b) bytes c.requires.content.decodes borrows)
+    (elements_decode table (kind_field_of b) (payload_of b) bytes c.in-List.flagged c.requires.content.decodes borrows)
 
 pub of_checked-requires-in-Addresses : goal.of_checked-requires-in-Addresses
 of_checked-requires-in-Addresses c =

@@ -1,5 +1,5 @@
 use Rattle.std.proofs.Common.{◌+◌, subst}
-use Rattle.link_base.specs.declared.buffer.NlaBuffer.{NlaBuffer}
+use Rattle.link_base.specs.declared.wire.buffer.NlaBuffer.{NlaBuffer}
 use Rattle.link_base.specs.Frame.{kind_of}
 use Rattle.link_base.specs.Buffer.{kind_field_of}
 use Rattle.link_base.specs.Viewed.{set_in, buffer_in}

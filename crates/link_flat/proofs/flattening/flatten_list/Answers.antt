@@ -2,8 +2,8 @@ use Rattle.std.proofs.Common.{◌∙◌, arith}
 use Rattle.link_flat.proofs.Groups.{placed_whole}
 use Rattle.link_flat.proofs.flattening.flatten_list.Goals as goal
 
-pub put_list-requires-clause-decodes : goal.put_list-requires-clause-decodes
-put_list-requires-clause-decodes g c none = let list = c.in-Ok.ensures.answer in none (record { values = list.0; wire = list.1 })
+pub put_list-requires : goal.put_list-requires
+put_list-requires g c none = let list = c.in-Ok.ensures.answer in none (record { values = list.0; wire = list.1 })
 
 pub returns-in-Ok-clause-entries : goal.returns-in-Ok-clause-entries
 returns-in-Ok-clause-entries g c =

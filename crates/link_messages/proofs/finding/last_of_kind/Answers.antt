@@ -1,22 +1,17 @@
-use Rattle.std.proofs.Common.{◌≢◌, [], length, ap, sym, ◌∙◌}
-use Rattle.std.proofs.lemmas.Bool.{eqb-true, eqb-false}
-use Rattle.std.proofs.lemmas.List.{nil_from_length}
+use Rattle.std.proofs.Common.{sym, ap, ◌∙◌}
 use Rattle.std.specs.Option.{option_map}
-use Rattle.netlink_packet_route.specs.Buffer.{kind_field_of, payload_of}
 use Rattle.link_messages.specs.Finding.{stretch_of}
-use Rattle.link_messages.proofs.Walks.{splits, walked_more, walked_all}
+use Rattle.link_messages.proofs.Walking.{latest-typed}
+use Rattle.link_messages.proofs.Walks.{ends_whole, ends_broken}
 use Rattle.link_messages.proofs.finding.last_of_kind.Goals as goal
 
-pub loop-rest-preserved : goal.loop-rest-preserved
-loop-rest-preserved c =
-    let rest = c.loop-rest.rest.now in
-    let frame = c.in-Ok.frame in
-    let after = c.in-Ok.after.now in
-    let some : rest ≢ [] = λ e. eqb-false (length rest) 0 (sym c.is_empty.ensures ∙ c.loop-rest-test.true) (ap length e) in
-    walked_more (stretch_of c.args.list) c.args.kind (option_map stretch_of c.loop-rest.found) _ rest after (kind_field_of frame) (payload_of frame) c.loop-rest.invariant some
-    (splits rest (kind_field_of frame) (payload_of frame) after c.in-Ok.ensures.0 c.in-Ok.ensures.1) c.later-found.ensures
+pub returns-in_default-Some : goal.returns-in_default-Some
+returns-in_default-Some c =
+    let (items, fault, walk) = c.walk_for.ensures.walk in
+    ends_broken (stretch_of c.args.list) items fault c.in_default-Some.error walk (sym c.in_default-Some.is-1 ∙ c.walk_for.ensures.error items fault walk)
 
-pub returns : goal.returns
-returns c =
-    let rest = c.loop-rest.rest.now in
-    walked_all (stretch_of c.args.list) c.args.kind (option_map stretch_of c.loop-rest.found) rest c.loop-rest.invariant (nil_from_length rest (eqb-true (length rest) 0 (sym c.is_empty.ensures ∙ c.loop-rest-test.false)))
+pub returns-in_default-None : goal.returns-in_default-None
+returns-in_default-None c =
+    let (items, fault, walk) = c.walk_for.ensures.walk in
+    ends_whole (stretch_of c.args.list) c.args.kind items fault (option_map stretch_of c.payload_in.result) walk (sym c.in_default-None.is-1 ∙ c.walk_for.ensures.error items fault walk)
+    (c.payload_in.ensures ∙ ap (option_map (λ x. x.1)) (c.walk_for.ensures.last items fault walk) ∙ sym (latest-typed c.args.list.at c.args.kind items))

@@ -8,14 +8,14 @@ use Rattle.std.specs.Cmp.{unsigned_Decides, signed_Decides}
 use Rattle.std.specs.Cmp.Lexicographic.{pointwise_decides}
 use Rattle.netlink_packet_route.specs.declared.family.Family.{Family}
 use Rattle.netlink_packet_route.specs.contracts.family.FamilyPartialEq.TheImpl as of_family
-use Rattle.link_messages.specs.contracts.views.PayloadPartialEq.TheImpl as of_payload
+use Rattle.link_messages.specs.contracts.buffer_parts.PayloadPartialEq.TheImpl as of_payload
 use Rattle.link_messages.specs.contracts.link.PartPartialEq.TheImpl as of_part
 use Rattle.link_messages.specs.contracts.message.MessageErrorPartialEq.TheImpl as of_error
 use Rattle.link_messages.specs.contracts.info.InfoDataPartialEq.TheImpl as of_data
 use Rattle.link_messages.specs.contracts.info.LinkInfoPartialEq.TheImpl as of_info
 use Rattle.link_messages.specs.contracts.header.LinkHeaderPartialEq.TheImpl as of_header
 use Rattle.link_messages.specs.contracts.details.ProtinfoPartialEq.TheImpl as of_protinfo
-use Rattle.link_messages.specs.declared.views.Payload.{Payload}
+use Rattle.link_messages.specs.declared.buffer_parts.Payload.{Payload}
 use Rattle.link_messages.specs.declared.info.InfoData.{InfoData}
 use Rattle.link_messages.specs.declared.info.LinkInfo.{LinkInfo}
 use Rattle.link_messages.specs.declared.header.LinkHeader.{LinkHeader}

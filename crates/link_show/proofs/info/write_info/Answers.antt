@@ -14,9 +14,9 @@ returns-in_ok-end-in-Some g c =
     let (port, is_port, fourth) = c.in_ok-port-in-Some.ensures in
     let (last, sound) = c.in_ok-end-in-Some.ensures in
     let old = output c.args.writer.now in
-    let a = output c.write_kind.new.writer in
+    let a = output c.write_info_kind.new.writer in
     let b = output c.write_data.new.writer in
-    let e = output c.write_port_kind.new.writer in
+    let e = output c.write_quoted_line.new.writer in
     let f = output c.write_data-in-Some.new.writer in
     let new = output c.write_header_fault.new.writer in
     let kind = kind_line (option_copied info.kind) in
@@ -38,6 +38,6 @@ returns-in_ok-end-in-Some g c =
         joined = refl;
         all = ap (λ w. (c.in_ok-data-in-Some.data && c.in_ok-port-in-Some.port) && w) sound;
       },
-      gains_more old a new kind t2 c.in_ok-write_kind-in-Some.ensures
-          (gains_more a b new link t3 second (gains_more b e new port_kind t4 c.in_ok-write_port_kind-in-Some.ensures (gains_more e f new port t5 fourth last))),
+      gains_more old a new kind t2 c.in_ok-write_info_kind-in-Some.ensures
+          (gains_more a b new link t3 second (gains_more b e new port_kind t4 c.in_ok-write_quoted_line-in-Some.ensures (gains_more e f new port t5 fourth last))),
     )

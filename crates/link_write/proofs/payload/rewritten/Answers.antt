@@ -1,7 +1,7 @@
 use Rattle.std.proofs.Common.{◌≡◌, ◌-◌, ◌++◌, ◌∙◌, length, take, drop, replicate, refl, ap, ap₂, arith}
 use Rattle.std.proofs.lemmas.List.{length-append, length-take, length-drop}
 use Rattle.link_base.specs.Name.{name_of, name_field}
-use Rattle.link_base.proofs.Classes.{length-name_field}
+use Rattle.link_base.proofs.ClassLemmas.{length-name_field}
 use Rattle.link_write.proofs.WrittenNames.{put_back}
 use Rattle.link_write.proofs.payload.rewritten.Goals as goal
 

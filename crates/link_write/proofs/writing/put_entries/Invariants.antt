@@ -1,5 +1,6 @@
 use Rattle.std.proofs.Common.{◌≡◌, List, ℕ, length}
 use Rattle.link_base.specs.Answers.{OverwritesFront}
+use Rattle.netlink_packet_route.specs.Family.{table_of}
 use Rattle.link_write.specs.Spelled.{entries_of}
 use Rattle.link_write.proofs.Spellings.{Reached}
 use Rattle.link_write.proofs.ElementLoops.{entries_from}
@@ -8,4 +9,4 @@ use Rattle.link_write.proofs.writing.put_entries.Given as goal
 abbrev pub invariant-loop-i : goal.invariant-loop-i
 invariant-loop-i l =
     (text : List ℕ) × (l.at ≡ length text) × OverwritesFront l.fn.out l.out text
-    × Reached (entries_of l.family l.octets l.entries) text l.i (entries_from l.family l.octets l.entries l.i)
+    × Reached (entries_of (table_of l.family) l.octets l.entries) text l.i (entries_from (table_of l.family) l.octets l.entries l.i)

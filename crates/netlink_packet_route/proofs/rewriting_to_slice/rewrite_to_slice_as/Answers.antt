@@ -3,7 +3,7 @@ use Rattle.std.proofs.lemmas.Result.{err_from_is_err_and}
 use Rattle.std.specs.List.{AllByRecursion}
 use Rattle.link_base.specs.Table.{Fits, written_list}
 use Rattle.link_base.specs.Answers.{OverwritesFront, IsFirstUnfit, of_reading}
-use Rattle.link_base.specs.declared.fault.RewriteError.TheVariants as errors
+use Rattle.link_base.specs.declared.wire.fault.RewriteError.TheVariants as errors
 use Rattle.link_base.proofs.Numbers.{IsBytes-index}
 use Rattle.link_base.proofs.Streaming.{fails_by}
 use Rattle.netlink_packet_route.specs.Rewrite.{WritesOrLacksRoom, KeepsOrLacksRoom}

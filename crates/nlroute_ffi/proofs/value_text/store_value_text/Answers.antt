@@ -5,8 +5,7 @@ use Rattle.nlroute_ffi.proofs.value_text.store_value_text.Goals as goal
 
 pub returns-in-Ok-clause-answer : goal.returns-in-Ok-clause-answer
 returns-in-Ok-clause-answer c =
-    text_answered c.args.family c.args.value.now c.args.octets.now c.in-Ok.octets.now _ _ _ _ c.store_words.result c.in-Ok.ensures (c.label_or_plain-label.ensures ∙ ap label_or_plain c.label_of.ensures) c.flags_width-width.ensures
-    c.store_words.ensures.stored
+    text_answered c.args.family c.args.value.now c.args.octets.now c.in-Ok.octets.now _ _ _ c.store_words.result c.in-Ok.ensures (c.label_or_plain-label.ensures ∙ ap label_or_plain c.label_of.ensures) c.store_words.ensures.stored
 
 pub returns-in-Err-clause-answer : goal.returns-in-Err-clause-answer
 returns-in-Err-clause-answer c =

@@ -5,8 +5,6 @@ use Rattle.link_base.specs.Frame.{frame_bytes, max_payload}
 use Rattle.link_base.specs.Wire.{whole}
 use Rattle.link_base.specs.Borrowed.{elements_at}
 use Rattle.netlink_packet_route.specs.Family.{table_of}
-use Rattle.link_flat.specs.Detail.{detail_of}
-use Rattle.link_write.specs.Fields.{fields_at}
 use Rattle.link_write.specs.Payload.{payload_of, field_of, bytes_in}
 use Rattle.link_write.specs.Spelled.{elements_of, attribute_by}
 use Rattle.link_write.specs.Elements.{text_of}
@@ -23,10 +21,9 @@ returns-then-size-gt-MAX_PAYLOAD-clause-value c =
     let others = elements_of (elements_at table e.kind) own e.kind octets 0 es in
     let p = bytes_in c.in-Ok.payload in
     let (text, is, count) = measured_ok others c.in-Ok-measure.below c.in-Ok-measure.ensures.value in
-    let looked : own ≡ fields_at table (detail_of c.args.family e.kind) e.kind = c.fields_of-own.ensures ∙ ap (λ d. fields_at table d e.kind) c.detail_of.ensures in
     let long : max_payload < length (p ++ text) = omega (arith, length-append p text, count, c.size.ensures, c.saturating_add-size.ensures, c.if-size-gt-MAX_PAYLOAD.true) in
     sym (fitted_long (field_of own e.kind e) (payload_of own e octets) others p text (sym c.in-Ok.ensures.value) is long)
-    ∙ ap (λ o. attribute_by table o octets e es) looked
+    ∙ ap (λ o. attribute_by table o octets e es) c.fields_of-own.ensures
 
 pub invariant_of-result : goal.invariant_of-result
 invariant_of-result c =
@@ -52,11 +49,10 @@ returns-clause-value c =
     let others = elements_of (elements_at table e.kind) own e.kind octets 0 es in
     let p = bytes_in c.in-Ok.payload in
     let (text, is, count) = measured_ok others c.in-Ok-measure.below c.in-Ok-measure.ensures.value in
-    let looked : own ≡ fields_at table (detail_of c.args.family e.kind) e.kind = c.fields_of-own.ensures ∙ ap (λ d. fields_at table d e.kind) c.detail_of.ensures in
     let short : length (p ++ text) ≤ max_payload = omega (arith, length-append p text, count, c.size.ensures, c.saturating_add-size.ensures, c.if-size-gt-MAX_PAYLOAD.false) in
     let f = field_of own e.kind e in
     let all = p ++ text_of others in
     let kind : frame_bytes (whole c.field_of.result all) ≡ frame_bytes (whole f all) = ap (λ k. frame_bytes (whole k all)) c.field_of.ensures ∙ frame_low f all in
     let bytes : frame_bytes (whole f all) ≡ frame_bytes (whole f (p ++ text)) = ap (λ s. frame_bytes (whole f (p ++ text_of s))) is in
     ap Ok (kind ∙ bytes) ∙ sym (fitted_all f (payload_of own e octets) others p text (sym c.in-Ok.ensures.value) is short)
-    ∙ ap (λ o. attribute_by table o octets e es) looked
+    ∙ ap (λ o. attribute_by table o octets e es) c.fields_of-own.ensures

@@ -1,5 +1,0 @@
-use Rattle.link_base.proofs.ItemLemmas.{whole_run}
-use Rattle.link_base.proofs.laws.items.Goals as goal
-
-pub returns : goal.returns
-returns c = whole_run

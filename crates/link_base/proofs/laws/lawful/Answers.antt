@@ -1,5 +1,0 @@
-use Rattle.link_base.proofs.TableLaws.{lawful}
-use Rattle.link_base.proofs.laws.lawful.Goals as goal
-
-pub returns : goal.returns
-returns c = lawful

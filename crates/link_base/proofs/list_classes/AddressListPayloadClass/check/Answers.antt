@@ -1,4 +1,0 @@
-use Rattle.link_base.proofs.list_classes.AddressListPayloadClass.check.Goals as goal
-
-pub returns : goal.returns
-returns g c = c.check_elements.ensures g.A.Address.SIZE

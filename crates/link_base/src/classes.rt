@@ -1,0 +1,16 @@
+//! Classes of payloads: how each is checked, decoded, encoded, and borrowed.
+
+pub(crate) mod address_list;
+pub(crate) mod coded;
+pub(crate) mod fixed_size;
+pub(crate) mod flags_class;
+pub(crate) mod lengths;
+pub(crate) mod list_classes;
+pub(crate) mod named_class;
+pub(crate) mod number_lists;
+pub(crate) mod payload_class;
+pub(crate) mod records;
+pub(crate) mod scalar_classes;
+pub(crate) mod scalars;
+pub(crate) mod struct_class;
+pub(crate) mod word;

@@ -1,0 +1,76 @@
+//! Numbers of enums of the kernel's headers for which Rust has no enum.
+
+ghost use Rattle.std.specs.Prelude.{◌≡◌, ℕ, List, refl};
+ghost use Rattle.link_base.specs.Class.{Number};
+ghost use Rattle.link_base.specs.Forms.{bytes_in};
+ghost use Rattle.link_base.specs.Labels.{names_in};
+ghost use Rattle.link_base.specs.declared.rows.form.Form.TheVariants as forms;
+
+use crate::classes::fixed_size::FixedSize;
+use crate::classes::word::Word;
+use crate::rows::form::Form;
+use crate::rows::label::Name;
+use crate::views::content::Content;
+use std::marker::PhantomData;
+
+/// An enum of the kernel's headers whose values are plain numbers in Rust.
+pub trait NumberNames {
+    /// The numbers.
+    type Number: Word;
+
+    /// The names of the numbers.
+    ghost names: { List (ℕ × List ℕ) };
+
+    /// Returns the names of the numbers.
+    fn names() -> &'static [Name]
+        ensures { names_in result.now ≡ Self.names };
+}
+
+/// The class of payloads that are such a number.
+pub struct Coded<N> {
+    of: PhantomData<N>,
+}
+
+impl<N: NumberNames> FixedSize for Coded<N> {
+    type Value = N::Number;
+
+    const FORM: Form = Form::Coded(N::Number::WIDTH);
+
+    ghost FORM = { forms.Coded N.Number.WIDTH };
+
+    ghost names = { N.names };
+
+    ghost fixed = { refl };
+
+    ghost told = { λ value. Number (bytes_in N.Number.WIDTH) (N.Number.value value) };
+
+    #[inline]
+    fn names() -> &'static [Name] {
+        N::names()
+    }
+
+    #[inline]
+    fn load(payload: &[u8]) -> N::Number {
+        N::Number::from_bytes(payload)
+    }
+
+    #[inline]
+    fn content<'a>(payload: &'a [u8]) -> Content<'a> {
+        Content::Coded {
+            number: N::Number::from_bytes(payload).number(),
+            width: N::Number::WIDTH,
+        }
+    }
+
+    #[inline]
+    #[tactic(auto, using(crate::proofs::Numbers::bytes_len))]
+    fn len(_value: &N::Number) -> usize {
+        N::Number::WIDTH.size()
+    }
+
+    #[inline]
+    #[tactic(auto, using(crate::proofs::Numbers::bytes_len))]
+    fn store(value: &N::Number, buffer: &mut [u8]) {
+        value.emit(buffer);
+    }
+}

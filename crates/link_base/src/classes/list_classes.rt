@@ -1,0 +1,324 @@
+//! Lists as payloads: bytes, arrays of numbers, lists of IP addresses, and nested lists.
+
+ghost use Rattle.std.specs.Prelude.{refl, map};
+ghost use Rattle.link_base.specs.Class.{Bytes, Many, Raw};
+ghost use Rattle.link_base.specs.Layout.{octets_of};
+ghost use Rattle.link_base.specs.Table.{One, Single, Addresses, Listed, Nested, Inner};
+ghost use Rattle.link_base.specs.declared.rows.form.Form.TheVariants as forms;
+
+use crate::classes::address_list::{Address, addresses_len, emit_addresses, read_addresses};
+use crate::classes::lengths::{Lengths, check_numbers};
+use crate::classes::number_lists::{emit_numbers, numbers_len, parse_numbers};
+use crate::classes::payload_class::PayloadClass;
+use crate::lists::canonical::{are_numbers, is_address_list, is_bytes, is_nested};
+use crate::lists::checking::{check_elements, check_nested};
+use crate::rows::default_nla::DefaultNla;
+use crate::rows::form::Form;
+use crate::rows::label::Name;
+use crate::rows::nested::{NestedAttribute, emit_nested, nested_len, read_nested};
+use crate::rows::try_clone::{TryClone, try_clone_list};
+use crate::views::content::Content;
+use crate::wire::buffer::NlaBuffer;
+use crate::wire::fault::{DecodeError, DecodeFault};
+use std::alloc::{AllocError, Global};
+use std::marker::PhantomData;
+
+impl PayloadClass for Vec<u8> {
+    type Value = Vec<u8>;
+
+    type Element = DefaultNla;
+
+    const FORM: Form = Form::Bytes;
+
+    ghost FORM = { forms.Bytes };
+
+    ghost shape = { One Bytes };
+
+    ghost content = { λ bytes. Single (Raw bytes.items) };
+
+    fn elements() {}
+
+    #[inline]
+    fn names() -> &'static [Name] {
+        &[]
+    }
+
+    #[inline]
+    fn read(alloc: Global, _kind: u16, payload: &[u8]) -> Result<Vec<u8>, DecodeError> {
+        Vec::from_slice(alloc, payload).map_err(DecodeError::Memory)
+    }
+
+    #[inline]
+    fn check(kind: u16, payload: &[u8]) -> Result<(), DecodeFault> {
+        Lengths::AtLeast(0).check(kind, payload)
+    }
+
+    #[inline]
+    fn borrow<'a>(payload: &'a [u8]) -> Content<'a> {
+        Content::Bytes(payload)
+    }
+
+    #[inline]
+    fn size(bytes: &Vec<u8>) -> usize {
+        bytes.len()
+    }
+
+    #[inline]
+    fn emit(bytes: &Vec<u8>, buffer: &mut [u8]) {
+        buffer.copy_from_slice(bytes);
+    }
+
+    #[inline]
+    fn is_canonical(buffer: &NlaBuffer<'_>) -> bool {
+        is_bytes(buffer)
+    }
+
+    #[inline]
+    fn try_clone(alloc: Global, bytes: &Vec<u8>) -> Result<Vec<u8>, AllocError> {
+        Vec::from_slice(alloc, bytes)
+    }
+}
+
+impl PayloadClass for Vec<u16> {
+    type Value = Vec<u16>;
+
+    type Element = DefaultNla;
+
+    const FORM: Form = Form::U16s;
+
+    ghost FORM = { forms.U16s };
+
+    ghost shape = { One (Many 2) };
+
+    ghost content = { λ numbers. Single (Raw (octets_of 2 numbers.items)) };
+
+    fn elements() {}
+
+    #[inline]
+    fn names() -> &'static [Name] {
+        &[]
+    }
+
+    #[inline]
+    fn read(alloc: Global, _kind: u16, payload: &[u8]) -> Result<Vec<u16>, DecodeError> {
+        parse_numbers(alloc, payload)
+    }
+
+    #[inline]
+    fn check(kind: u16, payload: &[u8]) -> Result<(), DecodeFault> {
+        check_numbers(kind, payload, 2)
+    }
+
+    #[inline]
+    fn borrow<'a>(payload: &'a [u8]) -> Content<'a> {
+        Content::U16s(payload)
+    }
+
+    #[inline]
+    fn size(numbers: &Vec<u16>) -> usize {
+        numbers_len(numbers)
+    }
+
+    #[inline]
+    #[tactic(auto, using(crate::proofs::Layouts::numbers_len))]
+    fn emit(numbers: &Vec<u16>, buffer: &mut [u8]) {
+        emit_numbers(buffer, numbers);
+    }
+
+    #[inline]
+    fn is_canonical(buffer: &NlaBuffer<'_>) -> bool {
+        are_numbers(buffer, 2)
+    }
+
+    #[inline]
+    fn try_clone(alloc: Global, numbers: &Vec<u16>) -> Result<Vec<u16>, AllocError> {
+        Vec::from_slice(alloc, numbers)
+    }
+}
+
+impl PayloadClass for Vec<u32> {
+    type Value = Vec<u32>;
+
+    type Element = DefaultNla;
+
+    const FORM: Form = Form::U32s;
+
+    ghost FORM = { forms.U32s };
+
+    ghost shape = { One (Many 4) };
+
+    ghost content = { λ numbers. Single (Raw (octets_of 4 numbers.items)) };
+
+    fn elements() {}
+
+    #[inline]
+    fn names() -> &'static [Name] {
+        &[]
+    }
+
+    #[inline]
+    fn read(alloc: Global, _kind: u16, payload: &[u8]) -> Result<Vec<u32>, DecodeError> {
+        parse_numbers(alloc, payload)
+    }
+
+    #[inline]
+    fn check(kind: u16, payload: &[u8]) -> Result<(), DecodeFault> {
+        check_numbers(kind, payload, 4)
+    }
+
+    #[inline]
+    fn borrow<'a>(payload: &'a [u8]) -> Content<'a> {
+        Content::U32s(payload)
+    }
+
+    #[inline]
+    fn size(numbers: &Vec<u32>) -> usize {
+        numbers_len(numbers)
+    }
+
+    #[inline]
+    #[tactic(auto, using(crate::proofs::Layouts::numbers_len))]
+    fn emit(numbers: &Vec<u32>, buffer: &mut [u8]) {
+        emit_numbers(buffer, numbers);
+    }
+
+    #[inline]
+    fn is_canonical(buffer: &NlaBuffer<'_>) -> bool {
+        are_numbers(buffer, 4)
+    }
+
+    #[inline]
+    fn try_clone(alloc: Global, numbers: &Vec<u32>) -> Result<Vec<u32>, AllocError> {
+        Vec::from_slice(alloc, numbers)
+    }
+}
+
+/// The class of payloads that are a list of IP addresses.
+pub struct AddressList<A> {
+    of: PhantomData<A>,
+}
+
+impl<A: Address + Eq + Drop> PayloadClass for AddressList<A> {
+    type Value = Vec<A>;
+
+    type Element = DefaultNla;
+
+    const FORM: Form = Form::Addresses { size: A::SIZE };
+
+    ghost FORM = { forms.Addresses A.SIZE };
+
+    ghost shape = { Addresses A.SIZE };
+
+    ghost content = { λ addresses. Listed (map A.octets addresses.items) };
+
+    fn elements() {}
+
+    #[inline]
+    fn names() -> &'static [Name] {
+        &[]
+    }
+
+    #[inline]
+    fn read(alloc: Global, kind: u16, payload: &[u8]) -> Result<Vec<A>, DecodeError> {
+        read_addresses(alloc, kind, payload)
+    }
+
+    #[inline]
+    fn check(kind: u16, payload: &[u8]) -> Result<(), DecodeFault> {
+        check_elements(kind, payload)
+    }
+
+    #[inline]
+    fn borrow<'a>(payload: &'a [u8]) -> Content<'a> {
+        Content::Addresses {
+            list: payload,
+            size: A::SIZE,
+        }
+    }
+
+    #[inline]
+    fn size(addresses: &Vec<A>) -> usize {
+        addresses_len(addresses)
+    }
+
+    #[inline]
+    fn emit(addresses: &Vec<A>, buffer: &mut [u8]) {
+        emit_addresses(addresses, buffer);
+    }
+
+    #[inline]
+    fn is_canonical(buffer: &NlaBuffer<'_>) -> bool {
+        is_address_list(buffer, A::SIZE)
+    }
+
+    #[inline]
+    fn try_clone(alloc: Global, addresses: &Vec<A>) -> Result<Vec<A>, AllocError> {
+        Vec::from_slice(alloc, addresses)
+    }
+}
+
+/// The class of payloads that are a list of attributes of type `E`.
+pub struct NestedList<E> {
+    of: PhantomData<E>,
+}
+
+impl<E: NestedAttribute + TryClone> PayloadClass for NestedList<E> {
+    type Value = Vec<E>;
+
+    type Element = E;
+
+    const FORM: Form = Form::List {
+        flagged: E::FLAGGED,
+    };
+
+    ghost FORM = { forms.List E.FLAGGED };
+
+    ghost shape = { Nested E.FLAGGED E.rows };
+
+    ghost content = { λ values. Inner E.FLAGGED (map E.leaf values.items) };
+
+    fn elements() {}
+
+    #[inline]
+    fn names() -> &'static [Name] {
+        &[]
+    }
+
+    #[inline]
+    fn read(alloc: Global, kind: u16, payload: &[u8]) -> Result<Vec<E>, DecodeError> {
+        read_nested(alloc, kind, payload)
+    }
+
+    #[inline]
+    fn check(kind: u16, payload: &[u8]) -> Result<(), DecodeFault> {
+        check_nested::<E>(kind, payload)
+    }
+
+    #[inline]
+    fn borrow<'a>(payload: &'a [u8]) -> Content<'a> {
+        Content::List {
+            list: payload,
+            flagged: E::FLAGGED,
+        }
+    }
+
+    #[inline]
+    fn size(values: &Vec<E>) -> usize {
+        nested_len(values)
+    }
+
+    #[inline]
+    fn emit(values: &Vec<E>, buffer: &mut [u8]) {
+        emit_nested(values, buffer);
+    }
+
+    #[inline]
+    fn is_canonical(buffer: &NlaBuffer<'_>) -> bool {
+        is_nested::<E>(buffer)
+    }
+
+    #[inline]
+    fn try_clone(alloc: Global, values: &Vec<E>) -> Result<Vec<E>, AllocError> {
+        try_clone_list(alloc, values)
+    }
+}

@@ -1,0 +1,164 @@
+//! Forms of values: what the bytes of a payload mean.
+
+ghost use Rattle.std.specs.Prelude.{◌≡◌, ◌<◌, ◌≤◌, ◌-◌};
+ghost use Rattle.link_base.specs.Number.{bound};
+ghost use Rattle.link_base.specs.Forms.{bytes_in, extent_of, layout_extent};
+
+use crate::classes::lengths::Lengths;
+
+/// The width of a number.
+#[derive(Clone, Copy, Debug, PartialEq, Eq)]
+pub enum Width {
+    /// One byte.
+    One,
+    /// Two bytes.
+    Two,
+    /// Four bytes.
+    Four,
+    /// Eight bytes.
+    Eight,
+}
+
+impl Width {
+    /// Returns the number of bytes.
+    #[inline]
+    pub const fn size(self) -> usize
+        ensures value { result ≡ bytes_in self }
+        ensures some { 0 < result }
+        ensures few { result ≤ 8 }
+    {
+        match self {
+            Width::One => 1,
+            Width::Two => 2,
+            Width::Four => 4,
+            Width::Eight => 8,
+        }
+    }
+
+    /// Returns the greatest unsigned number of this width.
+    #[inline]
+    pub const fn most(self) -> u64
+        ensures { result ≡ bound (bytes_in self) - 1 }
+    {
+        match self {
+            Width::One => 0xFF,
+            Width::Two => 0xFFFF,
+            Width::Four => 0xFFFF_FFFF,
+            Width::Eight => 0xFFFF_FFFF_FFFF_FFFF,
+        }
+    }
+}
+
+/// A fixed-layout struct of the kernel's headers.
+#[derive(Clone, Copy, Debug, PartialEq, Eq)]
+pub enum Layout {
+    /// A bridge ID: the priority and the address (`struct ifla_bridge_id`, `include/uapi/linux/if_link.h`).
+    BridgeId,
+    /// A VLAN of a bridge: the flags and the VLAN ID (`struct bridge_vlan_info`, `include/uapi/linux/if_bridge.h`).
+    VlanInfo,
+    /// Boolean options of a bridge (`struct br_boolopt_multi`, `include/uapi/linux/if_bridge.h`).
+    BooleanOptions,
+    /// A bit timing (`struct can_bittiming`, `include/uapi/linux/can/netlink.h`).
+    BitTiming,
+    /// A clock (`struct can_clock`, `include/uapi/linux/can/netlink.h`).
+    Clock,
+    /// Modes of a CAN controller (`struct can_ctrlmode`, `include/uapi/linux/can/netlink.h`).
+    CtrlMode,
+    /// Error counters (`struct can_berr_counter`, `include/uapi/linux/can/netlink.h`).
+    BerrCounter,
+    /// Any other struct: what its fields are is not known.
+    Other(Lengths),
+}
+
+impl Layout {
+    /// Returns the lengths of payloads that are accepted.
+    #[inline]
+    pub const fn lengths(self) -> Lengths
+        ensures { extent_of result ≡ layout_extent self }
+    {
+        match self {
+            Layout::BridgeId => Lengths::AtLeast(8),
+            Layout::VlanInfo => Lengths::Exactly(4),
+            Layout::BooleanOptions => Lengths::Fixed(8),
+            Layout::BitTiming => Lengths::AtLeast(32),
+            Layout::Clock => Lengths::Fixed(4),
+            Layout::CtrlMode => Lengths::AtLeast(8),
+            Layout::BerrCounter => Lengths::AtLeast(4),
+            Layout::Other(lengths) => lengths,
+        }
+    }
+}
+
+/// The form of an attribute's content: the variant of `Content` that a view returns for it, with the width, the struct,
+/// the size or the flag that tell how the bytes of the payload are read and written.
+#[derive(Clone, Copy, Debug, PartialEq, Eq)]
+pub enum Form {
+    /// No value: the payload is ignored.
+    Nothing,
+    /// A boolean.
+    Bool,
+    /// An unsigned number.
+    Unsigned(Width),
+    /// The number of an enum of the kernel's headers, for which Rust has no enum.
+    Coded(Width),
+    /// A signed number.
+    Signed,
+    /// The number of an enum.
+    Enum(Width),
+    /// A set of flags.
+    Flags(Width),
+    /// A set of flags of one byte, in two bytes.
+    LowFlags,
+    /// A set of flags, and a mask.
+    MaskedFlags,
+    /// Two consecutive `u32`s.
+    Pair,
+    /// A VLAN protocol.
+    Protocol,
+    /// A hardware address.
+    Mac,
+    /// An IPv4 address.
+    Ipv4,
+    /// An IPv6 address.
+    Ipv6,
+    /// Bytes.
+    Bytes,
+    /// A fixed-layout struct.
+    Struct(Layout),
+    /// An array of `u16`s.
+    U16s,
+    /// An array of `u32`s.
+    U32s,
+    /// The limits of a CAN controller.
+    Limits,
+    /// A list of addresses of `size` bytes each.
+    Addresses { size: usize },
+    /// A nested list, and whether it is written with the nested flag.
+    List { flagged: bool },
+}
+
+impl Form {
+    ghost use Rattle.std.specs.Prelude.{ℕ, List, true};
+    ghost use Rattle.link_base.specs.Class.{extent};
+    ghost use Rattle.link_base.specs.Payloads.{class_by, is_fixed};
+
+    /// Returns the lengths of the payloads that are accepted, of a form that is written with one size.
+    #[inline]
+    pub const fn lengths(self) -> Lengths
+        ensures { (names : List (ℕ × List ℕ)) → is_fixed self ≡ true → extent_of result ≡ extent (class_by self names) }
+    {
+        match self {
+            Form::Bool => Lengths::Exactly(1),
+            Form::Unsigned(width) | Form::Coded(width) | Form::Enum(width) | Form::Flags(width) => {
+                Lengths::Exactly(width.size())
+            }
+            Form::LowFlags | Form::Protocol => Lengths::Exactly(2),
+            Form::Signed | Form::Ipv4 => Lengths::Exactly(4),
+            Form::Mac => Lengths::Exactly(6),
+            Form::MaskedFlags | Form::Pair => Lengths::Exactly(8),
+            Form::Ipv6 => Lengths::Exactly(16),
+            Form::Struct(layout) => layout.lengths(),
+            _ => Lengths::AtLeast(0),
+        }
+    }
+}

@@ -1,0 +1,9 @@
+//! Lists that are read where they lie, without a copy.
+
+pub mod attribute_set;
+pub mod content;
+pub(crate) mod typed;
+pub mod view;
+pub mod view_all;
+pub mod view_laws;
+pub mod viewing;

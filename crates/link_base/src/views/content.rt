@@ -1,0 +1,92 @@
+//! The contents of attributes, as views borrow them.
+
+ghost use Rattle.std.specs.Prelude.{◌≡◌};
+
+use crate::names::vlan_protocol::VlanProtocol;
+use crate::rows::form::{Form, Layout, Width};
+use std::net::{Ipv4Addr, Ipv6Addr};
+
+/// The content of an attribute. Slices are parts of the input; nothing is allocated.
+#[derive(Clone, Copy, Debug)]
+pub enum Content<'a> {
+    /// No value: the payload is ignored.
+    Nothing,
+    /// A boolean: true if the byte is not zero.
+    Bool(bool),
+    /// An unsigned number.
+    Unsigned { number: u64, width: Width },
+    /// The number of an enum of the kernel's headers, for which Rust has no enum. It may have no name.
+    Coded { number: u64, width: Width },
+    /// A signed number of four bytes.
+    Signed(i32),
+    /// The number of an enum. It may have no name.
+    Enum { number: u64, width: Width },
+    /// A set of flags.
+    Flags { bits: u64, width: Width },
+    /// A set of flags of one byte; the second byte of the payload is ignored.
+    LowFlags(u8),
+    /// A set of flags, and a mask.
+    MaskedFlags { flags: u32, mask: u32 },
+    /// Two consecutive `u32`s.
+    Pair(u32, u32),
+    /// A VLAN protocol.
+    Protocol(VlanProtocol),
+    /// A hardware address.
+    Mac([u8; 6]),
+    /// An IPv4 address.
+    Ipv4(Ipv4Addr),
+    /// An IPv6 address.
+    Ipv6(Ipv6Addr),
+    /// Bytes.
+    Bytes(&'a [u8]),
+    /// The bytes of a fixed-layout struct, without additional bytes of the payload.
+    Struct { layout: Layout, bytes: &'a [u8] },
+    /// The bytes of an array of little-endian `u16`s.
+    U16s(&'a [u8]),
+    /// The bytes of an array of little-endian `u32`s.
+    U32s(&'a [u8]),
+    /// The limits of a CAN controller: its name, which ends before the first NUL and may not be UTF-8, and the 32 bytes
+    /// of the eight numbers, which are little-endian `u32`s.
+    Limits { name: &'a [u8], numbers: &'a [u8] },
+    /// The bytes of a list of attributes, each of which holds an address. Skip those whose payload is not `size` bytes
+    /// long: they are not addresses.
+    Addresses { list: &'a [u8], size: usize },
+    /// The bytes of a nested list, and whether it is written with the nested flag.
+    List { list: &'a [u8], flagged: bool },
+    /// The payload of an attribute whose type has no row. `Value::buffer` has its flags.
+    Other(&'a [u8]),
+}
+
+impl<'a> Content<'a> {
+    ghost use Rattle.link_base.specs.Borrowed.{form_of};
+
+    /// Returns the form; `None` for the payload of an attribute whose type has no row.
+    pub fn form(&self) -> Option<Form>
+        ensures { result ≡ form_of self.now }
+    {
+        Some(match *self {
+            Content::Nothing => Form::Nothing,
+            Content::Bool(_) => Form::Bool,
+            Content::Unsigned { width, .. } => Form::Unsigned(width),
+            Content::Coded { width, .. } => Form::Coded(width),
+            Content::Signed(_) => Form::Signed,
+            Content::Enum { width, .. } => Form::Enum(width),
+            Content::Flags { width, .. } => Form::Flags(width),
+            Content::LowFlags(_) => Form::LowFlags,
+            Content::MaskedFlags { .. } => Form::MaskedFlags,
+            Content::Pair(_, _) => Form::Pair,
+            Content::Protocol(_) => Form::Protocol,
+            Content::Mac(_) => Form::Mac,
+            Content::Ipv4(_) => Form::Ipv4,
+            Content::Ipv6(_) => Form::Ipv6,
+            Content::Bytes(_) => Form::Bytes,
+            Content::Struct { layout, .. } => Form::Struct(layout),
+            Content::U16s(_) => Form::U16s,
+            Content::U32s(_) => Form::U32s,
+            Content::Limits { .. } => Form::Limits,
+            Content::Addresses { size, .. } => Form::Addresses { size },
+            Content::List { flagged, .. } => Form::List { flagged },
+            Content::Other(_) => return None,
+        })
+    }
+}

@@ -1,0 +1,92 @@
+//! Numbers and structs of attributes, as views read them.
+
+ghost use Rattle.std.specs.Prelude.{◌≡◌, option_map};
+ghost use Rattle.link_base.specs.Table.{form_at};
+ghost use Rattle.link_base.specs.Forms.{bytes_in, layout_extent};
+ghost use Rattle.link_base.specs.Viewed.{is_unsigned, is_struct};
+
+use crate::classes::struct_class::PayloadStruct;
+use crate::classes::word::Word;
+use crate::rows::form::Form;
+use crate::views::attribute_set::AttributeSet;
+use crate::views::view::Value;
+
+impl<'a, S: AttributeSet> Value<'a, S> {
+    ghost use Rattle.link_base.specs.Viewed.{set_in, kind_in, payload_in, unsigned_in, struct_in};
+
+    /// Returns the number if the payload is an unsigned number of one byte.
+    #[inline]
+    pub fn as_u8(&self) -> Option<u8>
+        ensures { result ≡ unsigned_in 1 (form_at (S.rows (set_in self.now)) (kind_in self.now))
+            (payload_in self.now) }
+    {
+        self.number()
+    }
+
+    /// Returns the number if the payload is an unsigned number of two bytes.
+    #[inline]
+    pub fn as_u16(&self) -> Option<u16>
+        ensures { result ≡ unsigned_in 2 (form_at (S.rows (set_in self.now)) (kind_in self.now))
+            (payload_in self.now) }
+    {
+        self.number()
+    }
+
+    /// Returns the number if the payload is an unsigned number of four bytes.
+    #[inline]
+    pub fn as_u32(&self) -> Option<u32>
+        ensures { result ≡ unsigned_in 4 (form_at (S.rows (set_in self.now)) (kind_in self.now))
+            (payload_in self.now) }
+    {
+        self.number()
+    }
+
+    /// Returns the number if the payload is an unsigned number of eight bytes.
+    #[inline]
+    pub fn as_u64(&self) -> Option<u64>
+        ensures { result ≡ unsigned_in 8 (form_at (S.rows (set_in self.now)) (kind_in self.now))
+            (payload_in self.now) }
+    {
+        self.number()
+    }
+
+    /// Returns the struct in the payload; `None` if the payload is not a struct, or has a length that `T` rejects. `T` must
+    /// be the struct of the attribute type: another struct of the same length reads the same bytes.
+    #[inline]
+    pub fn as_struct<T: PayloadStruct>(&self) -> Option<T>
+        ensures { result ≡ struct_in (layout_extent T.LAYOUT) T.value_of (form_at (S.rows (set_in self.now)) (kind_in self.now))
+            (payload_in self.now) }
+    {
+        if has_struct(self.content().form()) {
+            T::parse_payload(self.buffer().value()).ok()
+        } else {
+            None
+        }
+    }
+
+    #[inline]
+    fn number<W: Word>(&self) -> Option<W>
+        ensures { option_map W.value result ≡ unsigned_in (bytes_in W.WIDTH)
+            (form_at (S.rows (set_in self.now)) (kind_in self.now)) (payload_in self.now) }
+    {
+        if has_number(self.content().form()) {
+            W::parse(self.buffer().value()).ok()
+        } else {
+            None
+        }
+    }
+}
+
+#[inline]
+fn has_number(form: Option<Form>) -> bool
+    ensures { result ≡ is_unsigned form }
+{
+    matches!(form, Some(Form::Unsigned(_) | Form::Coded(_)))
+}
+
+#[inline]
+fn has_struct(form: Option<Form>) -> bool
+    ensures { result ≡ is_struct form }
+{
+    matches!(form, Some(Form::Struct(_)))
+}

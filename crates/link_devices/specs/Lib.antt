@@ -1,0 +1,10 @@
+pub mod VlanFlags
+pub mod Vlan
+pub mod Dsa
+pub mod Hsr
+pub mod CanFlags
+pub mod CanState
+pub mod Can
+pub mod CanRecords
+pub mod CanLimits
+pub mod CanEquality

@@ -1,9 +1,0 @@
-pub mod VlanFlags
-pub mod Vlan
-pub mod Dsa
-pub mod Hsr
-pub mod CanFlags
-pub mod Can
-pub mod CanRecords
-pub mod CanLimits
-pub mod CanEquality
