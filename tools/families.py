@@ -2,7 +2,7 @@
 
 The list is the macro `families!` of crates/netlink_packet_route/src/family.rt: a row has the variant of `Family`, the
 name, the enum of attributes, the number in C, and what holds the list in a message. The prover compares it with
-specs/Family.antt. The files of LISTS have lists of their own, which no prover sees: the header in C, help texts, and
+specs/Family.antt. The files of LISTS have lists of their own, which no prover sees: the header in C, an example, and
 pages. bindings/generate.py reads the header. COVERED is what the runs have for each attribute set.
 """
 import os
@@ -21,8 +21,6 @@ TABLE = re.compile(r'^family_row \w+ = row \(codes "(\w+)"\) .* (\w+)$', re.MULT
 LISTS = [
     ("crates/nlroute_ffi/include/nlroute.h", r"^ *NLROUTE_{NAME} = {number}\b"),
     ("crates/nlroute_ffi/examples/links.c", r'\{{"\w+", NLROUTE_{NAME}\}}', "IFLA_INFO_"),
-    ("crates/nlroute/src/running.rt", r"^  FAMILY .*\b{name}\b"),
-    ("crates/show_lines/src/replies.rt", r"^FAMILY is .*\b{name}\b"),
     ("README.md", r"^\| `{name}` \|.*`{holder}`.*\| `{attributes}` \|$"),
     ("docs/nlroute.1", r"^\.BR? .*\b{name}\b"),
     ("docs/MODEL.md", r"^### .*`{attributes}`, `{table}`"),
@@ -32,8 +30,6 @@ COVERED = [
     ("runs/debug/", r"^> check {name}$"),
     ("runs/debug/", r"^  IFLA_\w+ {name}\n    \w"),
     ("runs/plain/", r"^> {name} [0-9a-f]"),
-    ("crates/refusals/stdin", r"^0 read_list {name}$"),
-    ("crates/refusals/stdin", r"^0 write_list {name}$"),
 ]
 HOLDERS = {"InfoKind": "IFLA_INFO_DATA", "PortKind": "IFLA_INFO_SLAVE_DATA"}
 

@@ -26,8 +26,9 @@ FORMS = {
     "Nothing": "EMPTY", "Bool": "BOOL", "Unsigned": "UNSIGNED", "Coded": "NAMED", "Signed": "SIGNED", "Enum": "NAMED",
     "Protocol": "NAMED", "Flags": "FLAGS", "LowFlags": "FLAGS", "MaskedFlags": "MASKED", "Pair": "QOS_MAPPING", "Mac": "MAC",
     "Ipv4": "IPV4", "Ipv6": "IPV6", "Bytes": "BYTES", "Limits": "BITTIMING_CONST", "U16s": "LIST of UNSIGNED",
-    "U32s": "LIST of UNSIGNED",
+    "U32s": "LIST of UNSIGNED", "Struct": "BYTES",
 }  # fmt: skip
+# The structs that have forms of their own.
 STRUCTS = {
     "BridgeId": "BRIDGE_ID", "VlanInfo": "VLAN_INFO", "BooleanOptions": "MASKED", "BitTiming": "BITTIMING",
     "Clock": "UNSIGNED", "CtrlMode": "MASKED", "BerrCounter": "BERR_COUNTER",

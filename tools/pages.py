@@ -26,7 +26,7 @@ those that are named. Each page is checked by nine rules:
   tests, mutants or edits has a mark, except in CHANGELOG.md.
 - budget: the page has no more words than BUDGETS allows. Code blocks and comments do not count.
 
-Unless pages are named, the lists of attribute sets in C, in help texts, on pages and in runs are compared with the list
+Unless pages are named, the lists of attribute sets in C, on pages and in runs are compared with the list
 in family.rt, as tools/families.py says. This counts as one more check.
 
 The names of counts are `tests`, `mutants`, `must-fail edits` and those `of CRATE`: the functions with `#[test]`, the
@@ -53,9 +53,9 @@ ROOT = os.path.dirname(os.path.dirname(os.path.realpath(__file__)))
 PAGES = re.compile(r"(README|CONTRIBUTING|CHANGELOG)\.md|docs/[^/]+\.md|(bench|tools|extra|crates/[^/]+)/README\.md")
 # The most words that a page may have. Any other README.md below the top has SMALL_BUDGET, and CHANGELOG.md has none.
 BUDGETS = {
-    "README.md": 1500, "CONTRIBUTING.md": 1850, "crates/nlroute_ffi/README.md": 1200, "docs/ARCHITECTURE.md": 2150,
+    "README.md": 1520, "CONTRIBUTING.md": 1870, "crates/nlroute_ffi/README.md": 1200, "docs/ARCHITECTURE.md": 2150,
     "docs/ASSURANCE.md": 1400, "docs/CALLING.md": 1800, "docs/CLAIMS.md": 3050, "docs/DEBUG.md": 700,
-    "docs/DECISIONS.md": 7500, "docs/DIFFERENCES.md": 3000, "docs/MESSAGES.md": 2800, "docs/MODEL.md": 4700,
+    "docs/DECISIONS.md": 7500, "docs/DIFFERENCES.md": 3000, "docs/MESSAGES.md": 2800, "docs/MODEL.md": 4800,
     "docs/PROGRAMS.md": 1650, "docs/PYTHON.md": 900, "docs/RUST.md": 900,
 }  # fmt: skip
 SMALL_BUDGET = 600

@@ -25,7 +25,8 @@ With `stdout: full`, the standard output is /dev/full, where each write fails. E
 
 So the output of `nlshow` is written as it is printed, with a mark at each line that it repeats. `>+ TEXT`, `<+ TEXT`,
 `|+ TEXT` and `!+ TEXT` are texts without LF, and `>* N TEXT` and so on are N times the text, without LF. Texts are
-bytes: a tab, a CR, or a blank at the end of a line counts.
+bytes: a tab, a CR, or a blank at the end of a line counts. In the output, `{FAMILIES}` stands for the names of the
+attribute sets, as in `bond, bridge or vlan`.
 
 The program is the one that `rt ci` has built in crates/PROGRAM/out, or that of --binary: bench/unproved.py builds one
 in a minute, bench/out/nlshow. For a run that fails, the first lines that differ are printed, after the number of the
@@ -39,9 +40,15 @@ import shlex
 import subprocess
 import sys
 
+sys.dont_write_bytecode = True
+sys.path.insert(0, os.path.dirname(os.path.realpath(__file__)))
+from families import names  # noqa: E402
+
 ROOT = os.path.dirname(os.path.dirname(os.path.realpath(__file__)))
 HEAD = re.compile(rb"(program|arguments|status|stdout): ?(.*)")
 MARKED = re.compile(rb"[<>|!](?:(\+)|\* (\d+))?(?: (.*))?", re.DOTALL)
+*FIRST, LAST = names()
+FAMILIES = f"{', '.join(FIRST)} or {LAST}".encode()
 # The most seconds that a program may take.
 SECONDS = 60
 # How many lines that differ are printed, and how many characters of a line.
@@ -97,7 +104,7 @@ class Run:
         elif mark and mark not in b"#<":
             if self.full:
                 raise ValueError("there is output, but stdout is full")
-            self.stdout.append((number, text))
+            self.stdout.append((number, text.replace(b"{FAMILIES}", FAMILIES)))
 
 
 def difference(parts, printed):

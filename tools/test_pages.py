@@ -16,7 +16,7 @@ import families  # noqa: E402
 import pages  # noqa: E402
 
 # Files of the small tree below that have no list of attribute sets.
-UNLISTED = "README.md crates/refusals/stdin runs/debug/".split()
+UNLISTED = "README.md runs/debug/".split()
 families.LISTS, families.COVERED = ([it for it in them if it[0] not in UNLISTED] for them in (families.LISTS, families.COVERED))
 LISTED = {path: pattern for path, pattern, *_ in families.LISTS + families.COVERED}
 

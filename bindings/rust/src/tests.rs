@@ -53,7 +53,7 @@ samples! {
         name: *b"mcp251xfd\0\0\0\0\0\0\0", tseg1_min: 1, tseg1_max: 2, tseg2_min: 3, tseg2_max: 4, sjw_max: 5,
         brp_min: 6, brp_max: 7, brp_inc: 8,
     };
-    Vec<u8>: vec![1, 2, 3];
+    Vec<u8>: vec![1, 2, 3, 4, 5, 6, 7, 8];
     Vec<u16>: vec![0, 1, u16::MAX];
     Vec<u32>: vec![0, 1, u32::MAX];
     Vec<Ipv4Addr>: vec![Ipv4Addr::LOCALHOST, Ipv4Addr::BROADCAST];

@@ -2,12 +2,12 @@
 use Rattle.std.proofs.Common.{◌≡◌, ◌≢◌, ◌↔◌, ℕ, suc, ◌+◌, ◌-◌, ◌<◌, ◌≤◌, List, [], ◌∷◌, ◌++◌, length, take, drop, get_or, replicate, refl, sym, ap, ap₂, subst, ◌∙◌, arith, None, append_assoc, length-append}
 use Rattle.std.specs.Prelude.{Bool, true, false, not, Option, Some, is_some, IsTrue, MatchOption}
 use Rattle.std.specs.List.{AllByRecursion}
-use Rattle.std.proofs.lemmas.List.{append-nil, append_cancel_left, length-replicate, length-take, take-append-drop, get_or-replicate}
+use Rattle.std.proofs.lemmas.List.{append_cancel_left, length-replicate, length-take, take-append-drop, get_or-replicate}
 use Rattle.std.proofs.Math.Seq.{drop-append_seam, take-append_seam}
-use Rattle.link_base.specs.Frame.{Frame, BeginsWith, bare, IsComplete, frame_bytes, spelled, gap, frame_fault}
+use Rattle.link_base.specs.Frame.{Frame, BeginsWith, bare, IsComplete, frame_bytes, spelled, gap}
 use Rattle.link_base.specs.Wire.{whole, SplitsWhole, IsCanonicalFrame, CanonicalBy, FirstOtherBy}
-use Rattle.link_base.specs.Table.{AreAddresses, addresses_from}
-use Rattle.link_base.proofs.FrameBytes.{frame_fault-frame, length-frame_bytes}
+use Rattle.link_base.specs.Table.{addresses_from}
+use Rattle.link_base.proofs.FrameBytes.{length-frame_bytes}
 use Rattle.link_base.proofs.Cuts.{SameFront, SameFront-frames, IsFrame-complete}
 use Rattle.link_base.proofs.Walking.{spelled-push, some_bytes}
 use Rattle.link_base.proofs.Written.{all_append}
@@ -52,10 +52,6 @@ whole_even s f p b none =
     let empty : take (gap p) tail ≡ [] = ap (λ g. take g tail) none in
     let found = whole_front s f p b (omega (arith, none)) (λ k lt. absurd (omega (arith, lt, ap length empty))) in
     subst (λ g. SplitsWhole s f p (drop g tail)) none found
-
--- bytes that start with a whole frame have no malformed header
-pub whole_no_fault : (s : List ℕ) (f : ℕ) (p rest : List ℕ) → SplitsWhole s f p rest → frame_fault s ≡ None
-whole_no_fault s f p rest w = ap frame_fault w.1 ∙ frame_fault-frame (whole f p) rest (IsFrame-complete (whole f p) w.0)
 
 same_begin : (s : List ℕ) (f g : ℕ) (p q rest : List ℕ) (b : BeginsWith s (bare f p)) → SplitsWhole s g q rest → SameFront (bare f p) (whole g q) b.rest rest
 same_begin s f g p q rest b w = SameFront-frames (bare f p) (whole g q) b.rest rest b.is (IsFrame-complete (whole g q) w.0) (sym b.string ∙ w.1)
@@ -108,9 +104,6 @@ module _ (allows : ℕ → List ℕ → Type 0) where
     pub string : s ≡ spelled front ++ rest
     pub each : AllByRecursion (IsCanonicalFrame allows) front
 
-  pub passed_none : (s : List ℕ) → Passed s s
-  passed_none s = record { front = []; string = refl; each = tt }
-
   -- one more frame
   pub passed_more : (s rest next : List ℕ) (f : ℕ) (p : List ℕ) → Passed s rest → SplitsWhole rest f p next → allows f p → Passed s next
   passed_more s rest next f p w split allowed =
@@ -121,16 +114,9 @@ module _ (allows : ℕ → List ℕ → Type 0) where
         each = all_append (IsCanonicalFrame allows) w.front (x ∷ []) w.each (record { complete = split.0; zeros = refl; allowed = allowed }, tt);
       }
 
-  -- at the end
-  pub passed_all : (s rest : List ℕ) → Passed s rest → rest ≡ [] → CanonicalBy allows s
-  passed_all s rest w e = record { frames = w.front; string = w.string ∙ ap (λ t. spelled w.front ++ t) e ∙ append-nil (spelled w.front); each = w.each }
-
   -- the bytes do not start with a canonical frame
   abbrev pub NoneHere : List ℕ → Type 0
   NoneHere rest = (x : Frame) (after : List ℕ) → rest ≡ frame_bytes x ++ after → ¬ (IsCanonicalFrame allows x)
-
-  pub none_whole : (rest : List ℕ) → ((f : ℕ) (p after : List ℕ) → ¬ (SplitsWhole rest f p after)) → NoneHere rest
-  none_whole rest none x after e h = none x.kind_field x.payload after (canonical_whole rest x after h e)
 
   pub none_allowed : (rest next : List ℕ) (f : ℕ) (p : List ℕ) → SplitsWhole rest f p next → ¬ (allows f p) → NoneHere rest
   none_allowed rest next f p w not x after e h =
@@ -181,10 +167,6 @@ pub record AreElements (i n : ℕ) (p : List ℕ) : Type 0 where
   pub each : AllByRecursion (λ a. length a ≡ n) addresses
   pub complete : AllByRecursion IsComplete (addresses_from i addresses)
   pub string : p ≡ spelled (addresses_from i addresses)
-
-pub elements_all : (n : ℕ) (p : List ℕ) → AreAddresses n p ↔ AreElements 0 n p
-elements_all n p =
-    (λ h. record { addresses = h.addresses; each = h.each; complete = h.complete; string = h.string }, λ h. record { addresses = h.addresses; each = h.each; complete = h.complete; string = h.string })
 
 pub elements_none : (i n : ℕ) (p : List ℕ) → p ≡ [] → AreElements i n p
 elements_none i n p e = record { addresses = []; each = tt; complete = tt; string = e }

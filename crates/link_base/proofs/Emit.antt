@@ -1,5 +1,5 @@
 -- A frame is written in three parts, and a list one frame at a time.
-use Rattle.std.proofs.Common.{◌≡◌, ℕ, ◌+◌, ◌-◌, ◌*◌, ◌/◌, ◌^◌, ◌≤◌, ◌<◌, min, List, [], ◌∷◌, ◌++◌, length, take, drop, get_or, map, zero, suc, refl, sym, ap, subst, ◌∙◌, append_assoc, arith}
+use Rattle.std.proofs.Common.{◌≡◌, ℕ, ◌+◌, ◌-◌, ◌≤◌, ◌<◌, List, [], ◌∷◌, ◌++◌, length, take, drop, get_or, map, zero, suc, refl, sym, ap, subst, ◌∙◌, append_assoc, arith}
 use Rattle.std.specs.Prelude.{replicate}
 use Rattle.std.specs.List.{AllByRecursion}
 use borrow.Rule.Slice.PartMut.{put_mid}
@@ -11,7 +11,7 @@ use Rattle.link_base.specs.Number.{bytes_of}
 use Rattle.link_base.specs.Frame.{frame_bytes, gap, pad}
 use Rattle.link_base.specs.Wire.{whole}
 use Rattle.link_base.specs.Table.{AttrValue, written_payload, written_frame, written_list, Fits}
-use Rattle.link_base.specs.Answers.{OverwritesFront, IsFirstUnfit, capped}
+use Rattle.link_base.specs.Answers.{OverwritesFront, IsFirstUnfit}
 
 -- a written frame has the length of its header and payload, rounded up to four
 pub length-whole_bytes : (f : ℕ) (p : List ℕ) → length (frame_bytes (whole f p)) ≡ pad (4 + length p)
@@ -110,10 +110,6 @@ frame_after b0 b b' text frame sub at so_far e-at room e-sub e-b' =
     let far : drop (length frame) (drop (length text) b0) ≡ drop (length (text ++ frame)) b0 = drop-drop (length frame) (length text) b0 ∙ ap (λ (n : ℕ). drop n b0) (sym (length-append text frame)) in
     let part : sub ≡ frame ++ drop (length (text ++ frame)) b0 = e-sub ∙ ap (λ (t : List ℕ). frame ++ drop (length frame) t) all ∙ ap (λ (t : List ℕ). frame ++ t) far in
     e-b' ∙ rw (front, past, part) (simp (append_assoc, append-nil))
-
--- the length of a list after one more frame
-pub measured_more : (n size : ℕ) (text frame : List ℕ) → n ≡ capped (length text) → length frame ≡ (size + 7) / 4 * 4 → min (n + (size + 7) / 4 * 4) (2 ^ 64 - 1) ≡ capped (length (text ++ frame))
-measured_more n size text frame e len = omega (arith, e, len, length-append text frame)
 
 -- if one value does not fit, not all fit
 pub not_all_fit : (vs : List AttrValue) (i : ℕ) → IsFirstUnfit vs i → AllByRecursion Fits vs → ⊥

@@ -48,5 +48,8 @@ borrows_row table k f p content r row same h e = (
   e ∙ sym (ap (form_at table) same ∙ form_of_row table k r row),
 )
 
+pub by_row : (Holds : Option (Row Shape) → Type 0) (table : Table) (k f : ℕ) (row : Option (Row Shape)) → row_at table k ≡ row → kind_of f ≡ k → Holds row → Holds (row_at table (kind_of f))
+by_row Holds table k f row e same h = subst Holds (sym (ap (row_at table) same ∙ e)) h
+
 pub elements_of_row : (table : Table) (k : ℕ) (r : Row Shape) → row_at table k ≡ Some r → elements_at table k ≡ elements_by (Some r.class)
 elements_of_row table k r row = ap elements_by (class_of_row table k r row)

@@ -39,3 +39,4 @@ pub mod ViewLemmas
 pub mod ViewWalks
 pub mod Elements
 pub mod Entries
+pub mod NulLemmas

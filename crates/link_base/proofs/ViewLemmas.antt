@@ -149,9 +149,6 @@ split_less s b t h =
 abbrev pub Counting : List ℕ → List ℕ → ℕ → Type 0
 Counting s rest count = (xs : List Frame) → Frames s xs → (ys : List Frame) × Frames rest ys × (length xs ≡ count + length ys)
 
-pub counting_none : (s : List ℕ) → Counting s s 0
-counting_none s xs w = (xs, w, omega arith)
-
 pub counting_more : (s rest next : List ℕ) (count : ℕ) (f : ℕ) (p : List ℕ) → Counting s rest count → Splits rest f p next → Counting s next (count + 1)
 counting_more s rest next count f p so split xs w =
     let left = so xs w in
@@ -166,9 +163,6 @@ counting_all s rest count so e xs w =
 -- the frames that were passed have another attribute type
 abbrev pub Seeking : ℕ → List ℕ → List ℕ → Type 0
 Seeking k s rest = (xs : List Frame) → Frames s xs → (ys : List Frame) × Frames rest ys × (first_of k xs ≡ first_of k ys)
-
-pub seeking_none : (k : ℕ) (s : List ℕ) → Seeking k s s
-seeking_none k s xs w = (xs, w, refl)
 
 -- a frame of another attribute type
 passed : (k : ℕ) (x : Frame) (ys : List Frame) → kind_of x.kind_field ≢ k → first_of k (x ∷ ys) ≡ first_of k ys
@@ -208,9 +202,6 @@ seeking_all k s rest so e xs w =
 -- the last of the frames that were passed is the one that was found
 abbrev pub Keeping : ℕ → List ℕ → List ℕ → Option (ℕ × List ℕ) → Type 0
 Keeping k s rest found = (xs : List Frame) → Frames s xs → (front ys : List Frame) × Frames rest ys × (xs ≡ front ++ ys) × (found ≡ last_of k front)
-
-pub keeping_none : (k : ℕ) (s : List ℕ) → Keeping k s s none_pair
-keeping_none k s xs w = ([], xs, w, refl, refl)
 
 last_push : (k : ℕ) (front : List Frame) (x : Frame) → last_of k (front ++ x ∷ []) ≡ first_of k (x ∷ reverse front)
 last_push k front x = ap (first_of k) (reverse-append front (x ∷ []))

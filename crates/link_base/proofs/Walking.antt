@@ -102,10 +102,6 @@ cut_of s xs (Some fault) (rest, complete, string, left, bad, place) = (rest, com
 
 -- ---- a table while it is filled
 
--- no frame yet
-pub before_none : (s offsets : List ℕ) → offsets ≡ [] → FindsBefore s offsets s
-before_none s offsets e = record { frames = []; string = refl; all = inr tt; places = e }
-
 -- each frame has at least four bytes
 least_bytes : (xs : List Frame) → 4 * length xs ≤ length (spelled xs)
 least_bytes [] = omega arith
@@ -147,14 +143,6 @@ pub before_all : (s offsets rest : List ℕ) → FindsBefore s offsets rest → 
 before_all s offsets rest w e = record {
   frames = w.frames;
   all = record { frames = are_frames rest w.frames w.all; string = w.string ∙ ap (λ t. spelled w.frames ++ t) e ∙ append-nil (spelled w.frames) };
-  places = w.places;
-}
-
--- at a malformed header
-pub before_fault : (s offsets rest : List ℕ) (at : ℕ) (cause : Cause) → FindsBefore s offsets rest → rest ≢ [] → at ≡ length s - length rest → frame_fault rest ≡ Some cause → Finds s offsets (Some (at, cause))
-before_fault s offsets rest at cause w some place fault = record {
-  frames = w.frames;
-  all = (rest, all_complete rest w.frames w.all some, w.string, some_bytes rest some, fault, place ∙ before_at s offsets rest w);
   places = w.places;
 }
 

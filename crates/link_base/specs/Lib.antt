@@ -3,6 +3,7 @@ pub mod Frame
 pub mod Name
 pub mod Class
 pub mod Forms
+pub mod Fields
 pub mod Payloads
 pub mod Wire
 pub mod Table
@@ -28,7 +29,7 @@ pub mod FrameTableParts
 pub mod Lift
 pub mod Borrowed
 pub mod Labels
-pub mod Fields
+pub mod Known
 pub mod Equality
 pub mod OneForm
 pub mod DefaultLawful

@@ -17,7 +17,9 @@ pub use classes::list_classes::{AddressList, NestedList};
 pub use classes::named_class::Named;
 pub use classes::number_lists::{emit_numbers, numbers_len, parse_numbers};
 pub use classes::payload_class::PayloadClass;
-pub use classes::records::{check_at_least, check_exactly, check_length, u16_at, u32_at, u32s_at};
+pub use classes::records::{
+    before_nul, check_at_least, check_exactly, check_length, u16_at, u32_at, u32s_at,
+};
 pub use classes::scalars::{
     emit_i32, emit_low, emit_mac, emit_u8, emit_u16, emit_u16_be, emit_u32, emit_u32_pair,
     emit_u64, parse_i32, parse_ip, parse_mac, parse_u8, parse_u16, parse_u16_be, parse_u32,

@@ -22,7 +22,7 @@ pub use fail_over_mac::BondFailOverMac;
 pub use lacp_rate::BondLacpRate;
 use link_base::rows::by_rows::{self, AttributeRows, RowVisitor};
 use link_base::rows::label::KindLabel;
-use link_base::views::content::Content;
+use link_base::views::content::{Content, Known};
 use link_base::{
     AddressList, Attribute, DecodeError, DecodeFault, DefaultNla, Meaning, Named, NestedList, Nla,
     NlaBuffer, Parseable, Place, TryClone,
@@ -229,6 +229,11 @@ impl Attribute for InfoBond {
     #[inline(always)]
     fn borrow<'a>(list: Option<u16>, buffer: &NlaBuffer<'a>) -> Content<'a> {
         by_rows::borrow::<Self>(list, buffer)
+    }
+
+    #[inline(always)]
+    fn known<'a>(list: Option<u16>, buffer: &NlaBuffer<'a>) -> Known<'a> {
+        by_rows::known::<Self>(list, buffer)
     }
 
     fn label(list: Option<u16>, kind: u16) -> Option<KindLabel> {

@@ -15,7 +15,7 @@ mod vlan_info_flags;
 pub use flag::BridgeFlag;
 use link_base::rows::by_rows::{self, AttributeRows, RowVisitor};
 use link_base::rows::label::KindLabel;
-use link_base::views::content::Content;
+use link_base::views::content::{Content, Known};
 use link_base::{
     Attribute, DecodeError, DecodeFault, DefaultNla, ListError, Meaning, Named, NestedList, Nla,
     NlaBuffer, Parseable, Place, Struct, TryClone, read_list,
@@ -136,6 +136,11 @@ impl Attribute for AfSpecBridge {
     #[inline(always)]
     fn borrow<'a>(list: Option<u16>, buffer: &NlaBuffer<'a>) -> Content<'a> {
         by_rows::borrow::<Self>(list, buffer)
+    }
+
+    #[inline(always)]
+    fn known<'a>(list: Option<u16>, buffer: &NlaBuffer<'a>) -> Known<'a> {
+        by_rows::known::<Self>(list, buffer)
     }
 
     fn label(list: Option<u16>, kind: u16) -> Option<KindLabel> {

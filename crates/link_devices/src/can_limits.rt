@@ -1,7 +1,7 @@
 //! The bit timing limits of a CAN controller, with the controller's name.
 
 ghost use Rattle.std.specs.Prelude.{◌≡◌, ◌≤◌, [], length, take, drop, IfOk, IsTrue, string_bytes};
-ghost use Rattle.link_base.specs.Name.{before_nul, name_of, name_field};
+ghost use Rattle.link_base.specs.Name.{name_of, name_field};
 ghost use Rattle.link_base.specs.Class.{Limits, IsInRange, written};
 ghost use Rattle.link_base.specs.declared.rows.form.Form.TheVariants as forms;
 ghost use Rattle.link_base.specs.Table.{One, Single};
@@ -13,8 +13,8 @@ use link_base::rows::form::Form;
 use link_base::rows::label::Name;
 use link_base::views::content::Content;
 use link_base::{
-    DecodeError, DecodeFault, DefaultNla, Lengths, NlaBuffer, PayloadClass, check_at_least,
-    emit_numbers, is_limits, u32s_at,
+    DecodeError, DecodeFault, DefaultNla, Lengths, NlaBuffer, PayloadClass, before_nul,
+    check_at_least, emit_numbers, is_limits, u32s_at,
 };
 use std::alloc::{AllocError, Global};
 
@@ -189,7 +189,7 @@ impl PayloadClass for CanBitTimingConst {
     #[inline]
     fn borrow<'a>(payload: &'a [u8]) -> Content<'a> {
         Content::Limits {
-            name: name_bytes(&payload[..NAME]),
+            name: before_nul(&payload[..NAME]),
             numbers: &payload[NAME..48],
         }
     }
@@ -213,15 +213,6 @@ impl PayloadClass for CanBitTimingConst {
     }
 }
 
-/// Returns the bytes of a field before the first NUL, or all of them if there is none.
-#[inline]
-pub fn name_bytes<'a>(field: &'a [u8]) -> &'a [u8]
-    ensures { result.now ≡ before_nul field.now }
-{
-    let end = field.find_byte(0).unwrap_or(field.len());
-    &field[..end]
-}
-
 /// Decodes the bytes of a field before the first NUL, or all of them if there is none.
 ///
 /// # Errors
@@ -230,7 +221,7 @@ pub fn name_bytes<'a>(field: &'a [u8]) -> &'a [u8]
 fn read_name(alloc: Global, field: &[u8]) -> Result<String, AllocError>
     ensures { IfOk result (λ name. string_bytes name ≡ name_of field.now) }
 {
-    let text = name_bytes(field);
+    let text = before_nul(field);
     let mut name = String::new(alloc);
     text.to_str_lossy_into(&mut name)?;
     Ok(name)

@@ -4,8 +4,8 @@ ghost use Rattle.std.specs.Prelude.{◌≡◌, option_map};
 ghost use Rattle.link_base.specs.Class.{AtLeast, accepted, value_only};
 ghost use Rattle.link_devices.specs.CanLimits.{limits_seen, limits_shown};
 
-use crate::can_limits::{NAME, name_bytes};
-use link_base::u32s_at;
+use crate::can_limits::NAME;
+use link_base::{before_nul, u32s_at};
 
 /// The bit timing limits of a CAN controller (`struct can_bittiming_const`, `include/uapi/linux/can/netlink.h`) in a
 /// payload. Nothing is allocated; `CanBitTimingConst` is the value that `parse` returns.
@@ -41,7 +41,7 @@ impl<'a> CanBitTimingLimits<'a> {
         if payload.len() < 48 {
             return None;
         }
-        let name = name_bytes(&payload[..NAME]);
+        let name = before_nul(&payload[..NAME]);
         let [
             tseg1_min,
             tseg1_max,

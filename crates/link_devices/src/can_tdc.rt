@@ -6,7 +6,7 @@ ghost use Rattle.link_devices.specs.Can.{tdc_rows, tdc_leaf};
 
 use link_base::rows::by_rows::{self, AttributeRows, RowVisitor};
 use link_base::rows::label::KindLabel;
-use link_base::views::content::Content;
+use link_base::views::content::{Content, Known};
 use link_base::{
     Attribute, DecodeError, DecodeFault, DefaultNla, Meaning, NestedAttribute, Nla, NlaBuffer,
     Parseable, Place, TryClone,
@@ -114,6 +114,11 @@ impl Attribute for CanTdc {
     #[inline]
     fn borrow<'a>(list: Option<u16>, buffer: &NlaBuffer<'a>) -> Content<'a> {
         by_rows::borrow::<Self>(list, buffer)
+    }
+
+    #[inline]
+    fn known<'a>(list: Option<u16>, buffer: &NlaBuffer<'a>) -> Known<'a> {
+        by_rows::known::<Self>(list, buffer)
     }
 
     fn label(list: Option<u16>, kind: u16) -> Option<KindLabel> {

@@ -9,7 +9,7 @@ ghost use Rattle.link_devices.specs.Hsr.{hsr_table, hsr_means};
 
 use link_base::rows::by_rows::{self, AttributeRows, RowVisitor};
 use link_base::rows::label::{KindLabel, Name};
-use link_base::views::content::Content;
+use link_base::views::content::{Content, Known};
 use link_base::{
     Attribute, DecodeError, DecodeFault, DefaultNla, Meaning, Named, NamedNumber, Nla, NlaBuffer,
     Parseable, Place, TryClone,
@@ -189,6 +189,11 @@ impl Attribute for InfoHsr {
     #[inline(always)]
     fn borrow<'a>(list: Option<u16>, buffer: &NlaBuffer<'a>) -> Content<'a> {
         by_rows::borrow::<Self>(list, buffer)
+    }
+
+    #[inline(always)]
+    fn known<'a>(list: Option<u16>, buffer: &NlaBuffer<'a>) -> Known<'a> {
+        by_rows::known::<Self>(list, buffer)
     }
 
     fn label(list: Option<u16>, kind: u16) -> Option<KindLabel> {

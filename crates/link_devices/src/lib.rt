@@ -17,7 +17,7 @@ mod vlan_flags;
 
 pub use can::InfoCan;
 pub use can_flags::CanCtrlModeFlags;
-pub use can_limits::{CanBitTimingConst, name_bytes};
+pub use can_limits::CanBitTimingConst;
 pub use can_limits_seen::CanBitTimingLimits;
 pub use can_modes::CanCtrlModeExt;
 pub use can_records::{CanBerrCounter, CanBitTiming, CanClock, CanCtrlMode};

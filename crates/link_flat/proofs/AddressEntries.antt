@@ -10,7 +10,7 @@ use Rattle.link_base.proofs.ViewLemmas.{split_less}
 use Rattle.link_messages.proofs.Walking.{walks_more}
 use Rattle.link_flat.specs.declared.entry.Entry.{Entry}
 use Rattle.link_flat.specs.Entry.{placed}
-use Rattle.link_flat.specs.Flat.{indexed, address_entry, is_address, AreAddresses, Puts}
+use Rattle.link_flat.specs.Flat.{indexed, address_entry, is_address, Puts}
 use Rattle.link_flat.proofs.Placed.{placed_more, indexed_more, length-indexed}
 
 module _ (k at n : ℕ) where
@@ -40,9 +40,6 @@ module _ (k at n : ℕ) where
     pub walks : Walks (length list) list items rest
     pub puts : Puts old new first (entries_of items) next
     pub room : 2 * length (entries_of items) + length rest ≤ length list
-
-  pub addresses_none : (list : List ℕ) (old : List Entry) (first : ℕ) → AddressesTo list list old old first first
-  addresses_none list old first = record { items = []; walks = refl; puts = (refl, omega arith); room = omega arith }
 
   more_by : (b : Bool) (list rest after : List ℕ) (old mid new : List Entry) (first next next' offset : ℕ) (x : NlaBuffer) → (length (payload_of x) == n) ≡ b
       → AddressesTo list rest old mid first next → SplitsFirst rest x after → offset ≡ at + ((length list - length rest) + 4) → next' ≡ cond b (next + 1) next
@@ -79,9 +76,3 @@ module _ (k at n : ℕ) where
       → new ≡ cond (length (payload_of x) == n) (set mid next (address_entry k (next - first) offset (payload_of x))) mid → AddressesTo list after old new first next'
   addresses_more list rest after old mid new first next next' offset x h split place e stored =
       more_by (length (payload_of x) == n) list rest after old mid new first next next' offset x refl h split place e stored
-
-  -- all are
-  pub addresses_all : (list rest : List ℕ) (old new : List Entry) (first next : ℕ) → AddressesTo list rest old new first next → rest ≡ []
-      → (es : List Entry) × AreAddresses k at n list es × Puts old new first es next × (2 * length es ≤ length list)
-  addresses_all list rest old new first next h end =
-      (entries_of h.items, (h.items, record { rest = rest; walks = h.walks; end = end }, refl), h.puts, omega (arith, h.room))

@@ -42,7 +42,7 @@ keeps_struct layouts.BitTiming p e = keeps_if _ _ _ e (record { kind = refl; inn
 keeps_struct layouts.Clock p e = keeps_if _ _ _ e (record { kind = refl; inner = refl; depth = refl }) (record { kind = refl; inner = refl; depth = refl })
 keeps_struct layouts.CtrlMode p e = keeps_if _ _ _ e (record { kind = refl; inner = refl; depth = refl }) (record { kind = refl; inner = refl; depth = refl })
 keeps_struct layouts.BerrCounter p e = keeps_if _ _ _ e (record { kind = refl; inner = refl; depth = refl }) (record { kind = refl; inner = refl; depth = refl })
-keeps_struct (layouts.Other lengths) p e = record { kind = refl; inner = refl; depth = refl }
+keeps_struct layout p e = record { kind = refl; inner = refl; depth = refl }
 
 pub keeps_filled : (f : ℕ) (x : Content) (n : ℕ) (e : Entry) → Keeps e (filled f x n e)
 keeps_filled f (contents.Struct layout p) n e = keeps_struct layout p.now e

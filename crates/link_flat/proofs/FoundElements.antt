@@ -164,9 +164,6 @@ module _ (k at n i : ℕ) where
     pub last : found ≡ last_inner i (entries_of k at n items)
     pub room : index + length rest ≤ length list
 
-  pub address_none : (list : List ℕ) → AddressTo list list 0 None
-  address_none list = record { items = []; walks = refl; count = refl; last = refl; room = omega arith }
-
   more_by : (b : Bool) (list rest after : List ℕ) (index index' : ℕ) (found found' : Option Entry) (offset : ℕ) (x : NlaBuffer) → (length (payload_of x) == n) ≡ b → AddressTo list rest index found
       → SplitsFirst rest x after → offset ≡ at + ((length list - length rest) + 4) → found' ≡ cond b (cond (index == i) (Some (address_entry k index offset (payload_of x))) found) found
       → index' ≡ cond b (index + 1) index → AddressTo list after index' found'

@@ -12,7 +12,7 @@ use Rattle.link_messages.specs.Walk.{Item, Walks}
 use Rattle.link_messages.proofs.Walking.{walks_more, split_short}
 use Rattle.link_flat.specs.declared.entry.Entry.{Entry}
 use Rattle.link_flat.specs.Entry.{placed}
-use Rattle.link_flat.specs.Flat.{HasContent, Elements, head_entry, IsGroup, Flat, Puts}
+use Rattle.link_flat.specs.Flat.{HasContent, Elements, head_entry, IsGroup, Puts}
 use Rattle.link_flat.proofs.Placed.{placed-append, placed_before, zip_more}
 
 -- the entries of an attribute: those of its elements were stored before its own
@@ -92,16 +92,6 @@ groups_more table list rest after old mid new next next' at b h split place (gro
       );
       room = omega (arith, split_room rest b after split, h.room, fewer, ap length one, length-append front group);
     }
-
--- those of all attributes are
-pub groups_all : (table : Table) (list rest : List ℕ) (old new : List Entry) (next : ℕ) → GroupsTo table list rest old new next → rest ≡ []
-    → (es : List Entry) × Flat table list es × Puts old new 0 es next × (2 * length es ≤ length list)
-groups_all table list rest old new next h end = (
-  joined h.groups,
-  record { items = h.items; walk = record { rest = rest; walks = h.walks; end = end }; groups = h.groups; each = h.each; joined = refl },
-  h.puts,
-  omega (arith, h.room),
-)
 
 -- ---- the places in one piece
 

@@ -9,7 +9,7 @@ use Rattle.link_messages.specs.Walk.{Item, Walks}
 use Rattle.link_base.proofs.ViewLemmas.{split_less}
 use Rattle.link_messages.proofs.Walking.{walks_more}
 use Rattle.link_flat.specs.declared.entry.Entry.{Entry}
-use Rattle.link_flat.specs.Flat.{IsElement, AreElements, Puts}
+use Rattle.link_flat.specs.Flat.{IsElement, Puts}
 use Rattle.link_flat.proofs.Placed.{placed_more, zip_more}
 
 -- the elements before `rest` are stored
@@ -40,9 +40,3 @@ elements_more table k at list rest after old mid new first next offset b e h spl
       );
       room = omega (arith, split_less rest b after split, h.room, length-append h.entries (e ∷ []));
     }
-
--- all are
-pub elements_all : (table : Table) (k at : ℕ) (list rest : List ℕ) (old new : List Entry) (first next : ℕ) → ElementsTo table k at list rest old new first next → rest ≡ []
-    → (es : List Entry) × AreElements table k at list es × Puts old new first es next × (2 * length es ≤ length list)
-elements_all table k at list rest old new first next h end =
-    (h.entries, (h.items, record { rest = rest; walks = h.walks; end = end }, h.each), h.puts, omega (arith, h.room))

@@ -18,7 +18,7 @@ use Rattle.link_flat.specs.Entry.{padded}
 abbrev pub whole : ℕ → List ℕ → Entry → Entry → Entry
 whole n p full e = if nat_lt (length p) n then record e { form = form_bytes } else record full { length = n }
 
--- an entry for a struct with these bytes; one for the bytes, if they are too few, or if the fields are not known
+-- an entry for a struct with these bytes; one for the bytes, if they are too few, or if the struct has no form of its own
 abbrev pub with_struct : Layout → List ℕ → Entry → Entry
 with_struct layouts.BridgeId p e = whole 8 p (record e { form = form_bridge_id; number = number (reverse (take 2 p)); octets = padded (take 6 (drop 2 p)) }) e
 with_struct layouts.VlanInfo p e = whole 4 p (record e { form = form_vlan_info; number = number_at 2 2 p; second = number_at 2 0 p }) e
@@ -27,7 +27,7 @@ with_struct layouts.BitTiming p e = whole 32 p (record e { form = form_bittiming
 with_struct layouts.Clock p e = whole 4 p (record e { form = form_unsigned; number = number_at 4 0 p }) e
 with_struct layouts.CtrlMode p e = whole 8 p (record e { form = form_masked; number = number_at 4 4 p; second = number_at 4 0 p }) e
 with_struct layouts.BerrCounter p e = whole 4 p (record e { form = form_berr_counter; number = number_at 2 0 p; second = number_at 2 2 p }) e
-with_struct (layouts.Other lengths) p e = record e { form = form_bytes; length = min e.length (length p) }
+with_struct layout p e = record e { form = form_bytes; length = min e.length (length p) }
 
 -- a `u32` of a content; in the logic, such a number has no limit
 abbrev pub word : ℕ → ℕ

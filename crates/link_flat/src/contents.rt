@@ -71,8 +71,8 @@ fn hold_ipv6(place: &mut Entry, address: Ipv6Addr)
     place.hold_octets(forms::IPV6, 0, &address.octets());
 }
 
-/// Stores the struct in these bytes in the entry of its attribute; the bytes, if they are too few, or if the fields are not
-/// known.
+/// Stores the struct in these bytes in the entry of its attribute; the bytes, if they are too few, or if the struct has no
+/// form of its own.
 #[inline(always)]
 fn fill_struct(place: &mut Entry, layout: Layout, bytes: &[u8])
     ensures { place.new ≡ with_struct layout bytes.now (record place.old { number = 0 }) }
@@ -106,7 +106,14 @@ fn fill_struct(place: &mut Entry, layout: Layout, bytes: &[u8])
             place.length = 4;
             place.hold_both(forms::BERR_COUNTER, sent.into(), received.into());
         }
-        Layout::Other(_) if length < place.length as usize => {
+        Layout::BridgeId
+        | Layout::VlanInfo
+        | Layout::BooleanOptions
+        | Layout::BitTiming
+        | Layout::Clock
+        | Layout::CtrlMode
+        | Layout::BerrCounter => place.hold(forms::BYTES, 0),
+        _ if length < place.length as usize => {
             place.hold(forms::BYTES, 0);
             place.length = length as u32;
         }

@@ -1,9 +1,8 @@
 -- The parts of a link, and the lists of every Family.
-use Rattle.std.proofs.Common.{◌≡◌, ◌≢◌, ◌⊎◌, ℕ, List, Option, Some, None, Bool, true, false, cond, refl, sym, subst, ap, ◌∙◌, inl, inr, eq-eqb, arith}
+use Rattle.std.proofs.Common.{◌≡◌, ◌⊎◌, ℕ, List, Option, Some, None, Bool, true, false, cond, refl, sym, subst, ap, ◌∙◌, inl, inr, eq-eqb, arith}
 use Rattle.std.specs.Prelude.{IfSome}
 use Rattle.std.specs.Option.{option_map, option_zip, option_and_then}
 use Rattle.std.specs.Str.{bytes_eq}
-use Rattle.std.proofs.lemmas.Bool.{ne_eqb}
 use Rattle.std.proofs.lemmas.Slice.Eq.{bytes_eq-Decides}
 use Rattle.netlink_packet_route.specs.declared.family.Family.{Family}
 use Rattle.netlink_packet_route.specs.declared.family.Family.TheVariants.{AfSpecBridge, ProtoBridge}
@@ -26,16 +25,6 @@ bridge_part_by kind address_family list family payload part e is_family finds is
   finds = subst (λ b. FindsIn (cond b (Some list) None) kind payload) (sym (eq-eqb address_family 7 e)) finds;
   is_family = is_family;
   is = is;
-}
-
--- and in another message
-pub no_bridge_part : (kind address_family : ℕ) (list : Stretch) (family : Option Family) → address_family ≢ 7 → IsFamilyOf (BridgeAttribute kind) family → IsBridgePart kind address_family list None
-no_bridge_part kind address_family list family ne is_family = record {
-  payload = None;
-  family = family;
-  finds = subst (λ b. FindsIn (cond b (Some list) None) kind None) (sym (ne_eqb address_family 7 ne)) refl;
-  is_family = is_family;
-  is = sym (zip_none family None refl);
 }
 
 -- ---- the lists of every Family

@@ -1,7 +1,7 @@
 -- The addresses of a list: one attribute more, and the end.
 use Rattle.std.proofs.Common.{◌≡◌, ◌≢◌, ℕ, ◌-◌, ◌==◌, Bool, true, false, cond, List, [], ◌∷◌, ◌++◌, length, Option, Some, None, Result, Ok, Err, OnOk, refl, sym, ap, subst, ◌∙◌, append_assoc, codes}
 use Rattle.link_show.specs.Sink.{Output, Gains}
-use Rattle.link_show.specs.Gained.{gains_nothing, gains_more}
+use Rattle.link_show.specs.Gained.{gains_more}
 use Rattle.std.proofs.lemmas.List.{append-nil}
 use Rattle.std.proofs.lemmas.Grind.{flat_map-append}
 use Rattle.link_base.specs.declared.wire.buffer.NlaBuffer.{NlaBuffer}
@@ -50,9 +50,6 @@ pub record AddressesTo (size : ℕ) (list rest separator : List ℕ) (old new : 
   pub walks : Walks (length list) list items rest
   pub written : Gains old new (joined (codes " ") (addresses_in size items))
   pub next : separator ≡ next_of [] (codes " ") (addresses_in size items)
-
-pub addresses_none : (size : ℕ) (list separator : List ℕ) (w : Output) → separator ≡ [] → AddressesTo size list list separator w w
-addresses_none size list separator w e = record { items = []; walks = refl; written = gains_nothing w; next = e }
 
 pub addresses_more : (size : ℕ) (list rest behind separator next : List ℕ) (old mid new : Output) (b : NlaBuffer) → AddressesTo size list rest separator old mid → SplitsFirst rest b behind
     → Gains mid new (address_after size (payload_of b) separator) → next ≡ separator_after size (payload_of b) separator → AddressesTo size list behind next old new

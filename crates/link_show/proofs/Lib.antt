@@ -3,7 +3,6 @@ pub mod Digits
 pub mod Pieced
 pub mod Segments
 pub mod FlagWords
-pub mod Hardware
 pub mod Arrays
 pub mod StructFields
 pub mod ValueTexts

@@ -73,12 +73,6 @@ pub errno_positive : (e : ℤ) → is_negative e ≡ false → None ≡ errno_na
 errno_positive (pos n) h = refl
 errno_positive (negsuc n) h = absurd (true≢false h)
 
-pub named_error : (e : ℤ) (name : List ℕ) → codes "  error " ++ (name ++ (codes " (" ++ (signed_decimal e ++ codes ")\n"))) ≡ error_number_line (Some name) e
-named_error e name = simp append_assoc
-
-pub bare_error : (e : ℤ) → codes "  error (" ++ (signed_decimal e ++ codes ")\n") ≡ error_number_line None e
-bare_error e = simp append_assoc
-
 pub small_length : (indent : List ℕ) (at size : ℕ) → indent ++ (codes "error at " ++ (decimal at ++ (codes ": nlmsg_len " ++ (decimal size ++ codes " is below 16\n")))) ≡ message_error_line indent (errors.SmallLength at size)
 unfolding message_error_line
 small_length indent at size = simp append_assoc

@@ -34,9 +34,6 @@ either false h k = k
 
 -- ---- several texts
 
-abbrev pub EachText : List (List ℕ) → Type 0
-EachText texts = AllByRecursion IsText texts
-
 pub after_text : (first separator : List ℕ) (texts : List (List ℕ)) → IsText first → IsText separator → AllByRecursion IsText texts → IsText (after first separator texts)
 after_text first separator [] f s h = none
 after_text first separator (t ∷ texts) f s h = and f (and h.0 (after_text separator separator texts s s h.1))

@@ -4,8 +4,7 @@ use Rattle.std.specs.List.{flat_map}
 use Rattle.std.specs.Net.Addr.{IsIpv4Mapped, octets_of}
 use Rattle.std.proofs.lemmas.List.{take_all}
 use Rattle.std.proofs.lemmas.Slice.Eq.{bytes_eq-Decides}
-use Rattle.std.specs.Net.Text.{hex, groups_text, longest_zero_run, compressed_text, hex_groups_text, dotted_text, ipv4_text, ipv6_text}
-use Rattle.std.specs.Fmt.{decimal}
+use Rattle.std.specs.Net.Text.{hex, groups_text, longest_zero_run, compressed_text, hex_groups_text, ipv4_text, ipv6_text}
 use Rattle.std.proofs.lemmas.Bool.{cond-true, cond-false, lt-ltb, le-ltb}
 use Rattle.link_show.specs.Text.{after, joined}
 
@@ -52,8 +51,3 @@ unmapped_text segments other =
     let mapped : List ℕ = 0 ∷ 0 ∷ 0 ∷ 0 ∷ 0 ∷ 0xffff ∷ [] in
     let no : bytes_eq (take 6 segments) mapped ≡ false = grind (arith, bytes_eq-Decides (take 6 segments) mapped, other) in
     cond-false _ _ _ no
-
--- four numbers with dots between them, as pieces have them
-pub dotted : (a b c d : ℕ)
-    → decimal a ++ (codes "." ++ (decimal b ++ (codes "." ++ (decimal c ++ (codes "." ++ decimal d))))) ≡ dotted_text a b c d
-dotted a b c d = grind (arith, append_assoc)

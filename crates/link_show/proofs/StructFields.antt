@@ -1,9 +1,10 @@
 -- The fields of structs, from the table of fields.
-use Rattle.std.proofs.Common.{◌≡◌, ℕ, zero, suc, ◌+◌, ◌-◌, ◌<◌, true, List, [], ◌∷◌, ◌++◌, length, take, drop, slice_index_or, refl, sym, ap, ap₂, ◌∙◌, arith, append_assoc, codes}
+use Rattle.std.proofs.Common.{◌≡◌, ℕ, zero, suc, ◌+◌, ◌-◌, ◌<◌, true, List, [], ◌∷◌, ◌++◌, length, take, drop, slice_index_or, refl, sym, ap, ap₂, ◌∙◌, arith, codes}
 use Rattle.std.proofs.lemmas.Bool.{and_parts}
 use Rattle.std.proofs.lemmas.List.{take_rest}
 use Rattle.link_base.specs.declared.rows.fields.Field.{Field}
-use Rattle.link_base.specs.Fields.{FieldTold, field_told, fields_in}
+use Rattle.link_base.specs.Forms.{FieldTold}
+use Rattle.link_base.specs.Fields.{field_told, fields_in}
 use Rattle.link_show.specs.Structs.{has_field, has_fields}
 
 -- each field is there, if all are
@@ -13,10 +14,10 @@ field_there (f ∷ fields) zero d start p h all = (and_parts (has_field start p 
 field_there (f ∷ fields) (suc i) d start p h all = field_there fields i d start p (omega (arith, h)) (and_parts (has_field start p (field_told f)) (has_fields (fields_in fields) start p) all).1
 
 -- the text of a field, whose bytes were cut out at a place that was worked out
-pub field_cut : (name : List ℕ) (text : List ℕ → List ℕ) (p : List ℕ) (at size place n : ℕ) → place ≡ at → n ≡ size → name ++ (codes " " ++ text (take size (drop at p))) ≡ (name ++ codes " ") ++ text (take (place + n - place) (drop place p))
-field_cut name text p at size place n e h =
+pub field_cut : (name named : List ℕ) (text : List ℕ → List ℕ) (p : List ℕ) (at size place n : ℕ) → named ≡ name → place ≡ at → n ≡ size → name ++ (codes " " ++ text (take size (drop at p))) ≡ named ++ (codes " " ++ text (take (place + n - place) (drop place p)))
+field_cut name named text p at size place n is e h =
     let length : place + n - place ≡ size = omega (arith, h) in
-    sym (append_assoc name (codes " ") (text (take (place + n - place) (drop place p))) ∙ ap (λ t. name ++ (codes " " ++ text t)) (ap₂ (λ k m. take k (drop m p)) length e))
+    sym (ap₂ (λ m t. m ++ (codes " " ++ text t)) is (ap₂ (λ k m. take k (drop m p)) length e))
 
 later_told : (fields : List Field) → fields_in (drop 1 fields) ≡ drop 1 (fields_in fields)
 later_told [] = refl

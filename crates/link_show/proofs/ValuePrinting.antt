@@ -24,8 +24,7 @@ use Rattle.link_base.specs.declared.rows.fields.Part.TheVariants as parts
 use Rattle.link_base.specs.Class.{Octets, Bytes, Many, Named, Limits, Raw, Name, Unlisted, named, size_of, is_listed}
 use Rattle.link_base.specs.Number.{IsBytes, number}
 use Rattle.link_base.specs.Frame.{kind_limit}
-use Rattle.link_base.specs.Forms.{bytes_in}
-use Rattle.link_base.specs.Fields.{FieldTold, fields_of}
+use Rattle.link_base.specs.Forms.{FieldTold, bytes_in, fields_of}
 use Rattle.link_base.specs.IpAddress.{sixteen_octets}
 use Rattle.link_base.specs.Labels as Labels
 use Rattle.link_base.specs.Name.{before_nul}

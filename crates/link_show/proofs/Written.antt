@@ -41,10 +41,6 @@ next_written old mid new text first next separator t texts others w e a n =
     (one_written old mid new text (after first separator texts) (first ++ t) (after separator separator others) w
     (ap (after first separator) e ∙ sym (append_assoc first t (after separator separator others))) a)
 
--- of texts with separators, none is left
-pub last_written : (old new : Output) (text first separator : List ℕ) (texts : List (List ℕ)) → WritesFront old new text (after first separator texts) → texts ≡ [] → Gains old new text
-last_written old new text first separator texts w e = all_written old new text (after first separator texts) w (ap (after first separator) e)
-
 -- a text was written, and then, unless the call failed, another
 pub then_written : {X E : Type 0} (r : Result X E) (old mid new : Output) (t more : List ℕ) → Gains old mid t → OnOk r (Gains mid new more) → OnOk r (Gains old new (t ++ more))
 then_written (Ok x) old mid new t more a h = gains_more old mid new t more a h

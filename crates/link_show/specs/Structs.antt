@@ -9,8 +9,7 @@ use Rattle.link_base.specs.declared.rows.fields.Part.TheVariants as parts
 use Rattle.link_base.specs.Number.{number}
 use Rattle.link_base.specs.Layout.{octets_of}
 use Rattle.link_base.specs.Name.{before_nul}
-use Rattle.link_base.specs.Forms.{bytes_in}
-use Rattle.link_base.specs.Fields.{FieldTold, fields_of}
+use Rattle.link_base.specs.Forms.{FieldTold, bytes_in, fields_of}
 use Rattle.link_show.specs.Text.{joined}
 use Rattle.link_show.specs.Number.{number_text}
 use Rattle.link_show.specs.Flags.{flags_text}

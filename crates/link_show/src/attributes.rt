@@ -38,7 +38,8 @@ pub fn write_attribute<S: AttributeSet, W: Sink>(
     ensures { OnOk result (WritesAttribute (S.rows (set_in value.now)) (buffer_in value.now)
         (W.output writer.old) (W.output writer.new)) }
 {
-    write_in_one_line(writer, value.label(), value.buffer(), value.content())
+    let known = value.known();
+    write_in_one_line(writer, known.label, value.buffer(), known.content)
 }
 
 /// Writes an attribute with this label and this content in one line.

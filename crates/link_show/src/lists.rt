@@ -86,12 +86,11 @@ fn write_lines<S: ListSet, W: Sink>(
     ensures { OnOk result (WritesValue indent.now (S.rows (set_in value.now)) (buffer_in value.now)
         (W.output writer.old) (W.output writer.new)) }
 {
-    let label = value.label();
+    let known = value.known();
     let buffer = value.buffer();
-    let content = value.content();
-    match value.elements_as(value.set().elements(value.kind())) {
-        Some(elements) => write_nested(writer, indent, label, buffer, elements),
-        None => write_flat(writer, indent, label, buffer, content),
+    match value.elements_in(known.content, value.set().elements(value.kind())) {
+        Some(elements) => write_nested(writer, indent, known.label, buffer, elements),
+        None => write_flat(writer, indent, known.label, buffer, known.content),
     }
 }
 

@@ -44,8 +44,8 @@ pub fn write_number<W: Sink>(
             ],
         ),
         _ => {
-            let unit = unit_of(quantity);
-            put_pieces(writer, &[Piece::Number(number), Piece::Text(unit)])
+            put_number(writer, number)?;
+            writer.put(unit_of(quantity).as_bytes())
         }
     }
 }

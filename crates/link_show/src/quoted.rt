@@ -8,6 +8,7 @@ ghost use Rattle.link_show.specs.Quoted.{quoted_byte, quoted};
 
 use crate::octets::write_byte;
 use crate::sink::Sink;
+use link_base::before_nul;
 
 /// Writes bytes between quotes: printable ASCII characters as they are, but `"` and `\` after a backslash, and every other
 /// byte as `\xNN`.
@@ -28,17 +29,6 @@ pub(crate) fn write_name<W: Sink>(writer: &mut W, bytes: &[u8]) -> Result<(), W:
     ensures { OnOk result (Gains (W.output writer.old) (W.output writer.new) (quoted (before_nul bytes.now))) }
 {
     write_quoted(writer, before_nul(bytes))
-}
-
-fn before_nul(bytes: &[u8]) -> &[u8]
-    ensures { result.now ≡ before_nul bytes.now }
-{
-    for i in 0..bytes.len() {
-        if bytes[i] == 0 {
-            return &bytes[..i];
-        }
-    }
-    bytes
 }
 
 fn write_quoted_bytes<W: Sink>(writer: &mut W, bytes: &[u8]) -> Result<(), W::Error>

@@ -10,7 +10,6 @@ ghost use Rattle.link_base.specs.Labels.{names_in};
 use crate::flags::write_flags;
 use crate::numbers::{number_of, write_number};
 use crate::octets::{write_address, write_hex};
-use crate::pieces::{Piece, put_pieces};
 use crate::quoted::{write_name, write_quoted};
 use crate::sink::Sink;
 use link_base::emit_u32_pair;
@@ -126,7 +125,8 @@ fn write_field<W: Sink>(
 {
     let name = field.name;
     let at = field.offset.saturating_sub(start);
-    put_pieces(writer, &[Piece::Text(name), Piece::Text(" ")])?;
+    writer.put(name.as_bytes())?;
+    writer.put(b" ")?;
     write_part(
         writer,
         field.part,

@@ -40,10 +40,10 @@ pub fn write_value<S: AttributeSet, W: Sink>(
     ensures { OnOk result (WritesValue (S.rows (set_in value.now)) (kind_field_of (buffer_in value.now)) (payload_in value.now)
         (W.output writer.old) (W.output writer.new)) }
 {
-    let content = value.content();
-    match value.label() {
-        Some(label) => write_content(writer, &label, content),
-        None => write_unlabelled(writer, content),
+    let known = value.known();
+    match known.label {
+        Some(label) => write_content(writer, &label, known.content),
+        None => write_unlabelled(writer, known.content),
     }
 }
 

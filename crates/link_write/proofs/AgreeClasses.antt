@@ -209,9 +209,9 @@ module _ (e : Entry) (octets p : List ℕ) (held : IsEntry e) where
         whole_read (IsRead (struct_fields layouts.Clock) octets e list) 4 p _ _ size (refl, read)
     struct_read layouts.CtrlMode h size = whole_read (IsRead (struct_fields layouts.CtrlMode) octets e list) 8 p _ _ size (refl, swapped_read _ h)
     struct_read layouts.BerrCounter h size = whole_read (IsRead (struct_fields layouts.BerrCounter) octets e list) 4 p _ _ size (refl, counters_read _ h)
-    struct_read (layouts.Other lengths) h size =
+    struct_read layout h size =
         let whole : length p ≡ min bare.length (length p) = omega (arith, at.size) in
-        (refl, front_is (min bare.length (length p)) whole ∙ referred_is (Some (size_of (layout_extent (layouts.Other lengths)))) (content_ok (struct_fields (layouts.Other lengths)) e octets p h))
+        (refl, front_is (min bare.length (length p)) whole ∙ referred_is (Some (size_of (layout_extent layout))) (content_ok (struct_fields layout) e octets p h))
 
     -- two words
     pair_read : (code : ℕ) → payload_of (fields.Words code false) e octets ≡ Ok p → (number_at 4 0 (take 8 p) ≡ e.number) × (number_at 4 4 (take 8 p) ≡ e.second)

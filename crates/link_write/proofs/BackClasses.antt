@@ -13,7 +13,7 @@ use Rattle.link_base.specs.Layout.{number_at}
 use Rattle.link_base.specs.Name.{name_of, name_field}
 use Rattle.link_base.specs.Class as classes
 use Rattle.link_base.specs.Class.{Extent, Exactly, extent, length_cause, meant, written, is_listed, size_of}
-use Rattle.link_base.specs.Forms.{bytes_in, extent_of, layout_extent}
+use Rattle.link_base.specs.Forms.{bytes_in, layout_extent}
 use Rattle.link_base.specs.Payloads.{class_by}
 use Rattle.link_base.proofs.Values.{bytes-take, meant_in_range}
 use Rattle.link_base.proofs.Numbers.{number_below}
@@ -115,9 +115,9 @@ module _ (f n : ℕ) (e : Entry) (list p : List ℕ) (bytes : IsBytes p) (at : S
   struct_back layouts.Clock ok = let all = kept (layout_extent layouts.Clock) ok in clock_back e list (take 4 p) all.1 all.0
   struct_back layouts.CtrlMode ok = let all = kept (layout_extent layouts.CtrlMode) ok in modes_back e list (take 8 p) all.1 all.0
   struct_back layouts.BerrCounter ok = let all = kept (layout_extent layouts.BerrCounter) ok in counters_back e list (take 4 p) all.1 all.0
-  struct_back (layouts.Other lengths) ok =
-      let m = size_of (extent_of lengths) in
-      let enough = size_reached (extent_of lengths) (length p) ok in
+  struct_back layout ok =
+      let m = size_of (layout_extent layout) in
+      let enough = size_reached (layout_extent layout) (length p) ok in
       let size : min e.length (length (take m p)) ≡ m = omega (arith, at.size, enough, length-take m p) in
       part_back form_bytes m (record e { form = form_bytes; length = min e.length (length (take m p)) }) enough refl refl size
 

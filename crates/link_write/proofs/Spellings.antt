@@ -9,8 +9,7 @@ use Rattle.link_base.specs.Wire.{whole}
 use Rattle.link_base.specs.Answers.{OverwritesFront, capped}
 use Rattle.link_write.specs.declared.misfit.Misfit.{Misfit}
 use Rattle.link_write.specs.declared.misfit.Misfit.TheVariants.{TooLong}
-use Rattle.link_write.specs.declared.misfit.MisfitAt.{MisfitAt}
-use Rattle.link_write.specs.Spelled.{Spelling, alone, before, framed, fitted, at_fault, measured}
+use Rattle.link_write.specs.Spelled.{Spelling, alone, before, fitted, measured}
 use Rattle.link_write.specs.Elements.{text_of}
 
 -- these bytes of i entries, then what the others spell
@@ -31,9 +30,6 @@ after-more text s i (Err e) = let same : i + (e.0 + 1) ≡ i + 1 + e.0 = omega a
 -- the whole, after these bytes of i entries
 pub record Reached (whole : Spelling) (text : List ℕ) (i : ℕ) (others : Spelling) : Type 0 where
   pub is : whole ≡ after text i others
-
-pub reached_none : (s : Spelling) → Reached s [] 0 s
-reached_none s = record { is = after-none s }
 
 pub reached_more : (whole others : Spelling) (text s : List ℕ) (i : ℕ) (here : Spelling) → Reached whole text i (before here others) → here ≡ Ok s → Reached whole (text ++ s) (i + 1) others
 reached_more whole others text s i here h e = record { is = h.is ∙ ap (λ x. after text i (before x others)) e ∙ after-more text s i others }
@@ -69,27 +65,12 @@ frame_low f p = ap (λ b. bytes_of 2 (4 + length p) ++ (b ++ (p ++ replicate (ga
     low : (f : ℕ) → bytes_of 2 (f % 65536) ≡ bytes_of 2 f
     low f = let one : f % 65536 % 256 ≡ f % 256 = omega arith in let two : f % 65536 / 256 % 256 ≡ f / 256 % 256 = omega arith in ap₂ (λ a b. a ∷ b ∷ []) one two
 
-pub framed_low : (f : ℕ) (r : Result (List ℕ) Misfit) → framed (f % 65536) r ≡ framed f r
-framed_low f (Ok p) = ap Ok (frame_low f p)
-framed_low f (Err misfit) = refl
-
 -- ---- what was measured
-
-pub measured_all : (whole others : Spelling) (text : List ℕ) (i n : ℕ) → Reached whole text i others → others ≡ Ok [] → n ≡ capped (length text) → Ok n ≡ measured whole
-measured_all whole others text i n h e size = ap Ok size ∙ sym (ap measured (reached_all whole others text i h e))
-
-pub measured_error : (whole others : Spelling) (text : List ℕ) (i j k : ℕ) (misfit : Misfit) (here : Spelling) → Reached whole text i (before here others) → here ≡ Err (j, misfit) → k ≡ i + j
-    → Err (at_fault (k, misfit)) ≡ measured whole
-measured_error whole others text i j k misfit here h e same = ap (λ n. Err (at_fault (n, misfit))) same ∙ sym (ap measured (reached_error whole others text i j misfit here h e))
 
 -- the bytes of a length that was measured
 pub measured_ok : (s : Spelling) (n : ℕ) → Ok n ≡ measured s → (text : List ℕ) × (s ≡ Ok text) × (n ≡ capped (length text))
 measured_ok (Ok text) n e = (text, refl, cc)
 measured_ok (Err x) n e = absurd cc
-
-pub measured_err : (s : Spelling) (x : MisfitAt) → Err x ≡ measured s → s ≡ Err (x.index, x.misfit)
-measured_err (Ok text) x e = absurd cc
-measured_err (Err y) x e = let same : x ≡ at_fault y = cc in ap (λ z. Err (z.index, z.misfit)) (sym same)
 
 -- an entry that adds nothing
 pub reached_skip : (whole others : Spelling) (text : List ℕ) (i : ℕ) (here : Spelling) → Reached whole text i (before here others) → here ≡ Ok [] → Reached whole text (i + 1) others
@@ -98,12 +79,6 @@ reached_skip whole others text i here h e = subst (λ t. Reached whole t (i + 1)
 -- ---- attributes with their elements
 
 module _ (f : ℕ) (own : Result (List ℕ) Misfit) (others : Spelling) where
-  pub fitted_own : (misfit : Misfit) → own ≡ Err misfit → fitted f (before (alone own) others) ≡ Err (0, misfit)
-  fitted_own misfit e = ap (λ r. fitted f (before (alone r) others)) e
-
-  pub fitted_other : (p : List ℕ) (i : ℕ) (misfit : Misfit) → own ≡ Ok p → others ≡ Err (i, misfit) → fitted f (before (alone own) others) ≡ Err (i + 1, misfit)
-  fitted_other p i misfit e e' = ap₂ (λ r s. fitted f (before (alone r) s)) e e'
-
   pub fitted_long : (p t : List ℕ) → own ≡ Ok p → others ≡ Ok t → max_payload < length (p ++ t) → fitted f (before (alone own) others) ≡ Err (0, TooLong)
   fitted_long p t e e' long = ap₂ (λ r s. fitted f (before (alone r) s)) e e' ∙ ap (λ b. cond b (Ok (frame_bytes (whole f (p ++ t)))) (Err (0, TooLong))) (lt-leb (length (p ++ t)) max_payload long)
 

@@ -74,7 +74,7 @@ module _ (e : Entry) (octets p : List ℕ) (held : length e.octets ≡ 16) where
   struct_size layouts.Clock h = number_size _ widths.Four _ h
   struct_size layouts.CtrlMode h = words_size _ true h
   struct_size layouts.BerrCounter h = shorts_size _ false h
-  struct_size (layouts.Other lengths) h = exactly_size _ e octets p (content_ok (struct_fields (layouts.Other lengths)) e octets p h)
+  struct_size layout h = exactly_size _ e octets p (content_ok (struct_fields layout) e octets p h)
 
   -- any length is accepted
   any_size : length_cause (AtLeast 0) (length p) ≡ None

@@ -8,7 +8,7 @@ use Rattle.link_base.specs.declared.rows.form.Form.{Form}
 use Rattle.link_base.specs.declared.rows.form.Form.TheVariants as forms
 use Rattle.link_base.specs.Number.{bound}
 use Rattle.link_base.specs.Class.{size_of}
-use Rattle.link_base.specs.Forms.{bytes_in, extent_of}
+use Rattle.link_base.specs.Forms.{bytes_in, layout_extent}
 use Rattle.link_base.specs.Table.{Table, form_at, nested_flag}
 use Rattle.link_flat.specs.Forms.{form_bool, form_unsigned, form_named, form_flags, form_masked, form_mac, form_ipv4, form_ipv6, form_vlan_info, form_qos_mapping, form_berr_counter, form_bittiming, form_bytes}
 use Rattle.link_write.specs.declared.fields.Fields.{Fields}
@@ -31,7 +31,7 @@ struct_fields layouts.BitTiming = fields.Passed form_bittiming (Some 32)
 struct_fields layouts.Clock = any_number form_unsigned widths.Four
 struct_fields layouts.CtrlMode = fields.Words form_masked true
 struct_fields layouts.BerrCounter = fields.Shorts form_berr_counter false
-struct_fields (layouts.Other lengths) = fields.Passed form_bytes (Some (size_of (extent_of lengths)))
+struct_fields layout = fields.Passed form_bytes (Some (size_of (layout_extent layout)))
 
 -- for an attribute type whose values have this form
 abbrev pub row_fields : Form → Fields

@@ -164,6 +164,6 @@ fn struct_fields(layout: Layout) -> Fields
         Layout::Clock => any_number(forms::UNSIGNED, Width::Four),
         Layout::CtrlMode => words(forms::MASKED, true),
         Layout::BerrCounter => shorts(forms::BERR_COUNTER, false),
-        Layout::Other(lengths) => passed(forms::BYTES, Some(lengths.kept())),
+        _ => passed(forms::BYTES, Some(layout.lengths().kept())),
     }
 }

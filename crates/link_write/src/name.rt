@@ -1,9 +1,10 @@
 //! The name of a CAN controller, as a rewriting writes it.
 
 ghost use Rattle.std.specs.Prelude.{◌≡◌, ◌≤◌, ◌+◌, ◌-◌, ◌++◌, length, take, drop, min};
-ghost use Rattle.link_base.specs.Name.{before_nul, name_of, name_field};
+ghost use Rattle.link_base.specs.Name.{name_of, name_field};
 
 use bstr::ByteSlice;
+use link_base::before_nul;
 
 /// Length of a name in bytes, without the NUL at the end of its field.
 const NAME: usize = 15;
@@ -32,16 +33,4 @@ fn put_text(name: &mut [u8; 16], end: usize, text: &[u8]) -> usize
     let count = text.len().min(NAME - end);
     name[end..end + count].copy_from_slice(&text[..count]);
     end + count
-}
-
-/// Returns the bytes of a field before the first NUL, or all of them if there is none.
-fn before_nul(field: &[u8]) -> &[u8]
-    ensures { result.now ≡ before_nul field.now }
-{
-    for (i, byte) in field.iter().enumerate() {
-        if *byte == 0 {
-            return &field[..i];
-        }
-    }
-    field
 }

@@ -90,6 +90,32 @@ macro_rules! call_by_family {
     };
 }
 
+/// A text with the names of the attribute sets in it: `with_names!("before ", " after")` is a literal such as
+/// `before bond, bridge or vlan after`.
+#[macro_export]
+macro_rules! with_names {
+    ($before:literal, $after:literal) => {
+        $crate::families!([$crate::names_between] $before $after [])
+    };
+}
+
+/// The text of `with_names!`.
+#[macro_export]
+macro_rules! names_between {
+    ($before:literal $after:literal []
+        $variant:ident $name:tt $attributes:ident $number:tt $holder:ident $held:tt $($rows:tt)*) => {
+        $crate::names_between!($before $after [$name] $($rows)*)
+    };
+    ($before:literal $after:literal [$($names:tt)*]
+        $variant:ident $name:tt $attributes:ident $number:tt $holder:ident $held:tt) => {
+        concat!($before, $($names,)* " or ", $name, $after)
+    };
+    ($before:literal $after:literal [$($names:tt)*]
+        $variant:ident $name:tt $attributes:ident $number:tt $holder:ident $held:tt $($rows:tt)*) => {
+        $crate::names_between!($before $after [$($names)* ", " $name] $($rows)*)
+    };
+}
+
 macro_rules! name_of {
     ($family:ident $($variant:ident $name:tt $attributes:ident $number:tt $holder:ident $held:tt)*) => {
         match $family {

@@ -10,7 +10,7 @@ pub use link_base::rows::by_rows;
 pub use link_base::rows::fields::{Field, Part};
 pub use link_base::rows::form::{Form, Layout, Width};
 pub use link_base::rows::label::{KindLabel, Name, Quantity};
-pub use link_base::views::content::Content;
+pub use link_base::views::content::{Content, Known};
 pub use link_base::{
     Attribute, Cause, DecodeError, DecodeFault, DefaultNla, ListError, Meaning, NLA_F_NESTED,
     NestedAttribute, Nla, NlaBuffer, Parseable, Place, TryClone, keep,

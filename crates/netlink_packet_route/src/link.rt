@@ -13,6 +13,7 @@ pub use link_base::{
     list_fits, list_is_canonical, list_len, padded, parse_i32, parse_ip, parse_mac, parse_u8,
     parse_u16, parse_u16_be, parse_u32, parse_u64, read_list, write_list,
 };
+// the attribute sets
 pub use link_bond::{
     BondAdInfo, BondAdSelect, BondAllPortActive, BondArpAllTargets, BondArpValidate,
     BondFailOverMac, BondLacpRate, BondMode, BondPortState, BondPrimaryReselect,

@@ -5,7 +5,7 @@ pub use link_base::rows::fields::{Field, Part};
 pub use link_base::rows::form::{Form, Layout, Width};
 pub use link_base::rows::label::{KindLabel, Name, Quantity};
 pub use link_base::views::attribute_set::{AttributeSet, CheckedSet, ElementSet, Set};
-pub use link_base::views::content::Content;
+pub use link_base::views::content::{Content, Known};
 pub use link_base::views::view::{Value, View};
 pub use link_base::views::view_all::ViewAll;
 pub use link_base::views::view_laws;

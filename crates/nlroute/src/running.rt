@@ -12,7 +12,7 @@ ghost use Rattle.nlroute.specs.Run.{RunsFor, IsRead, IsAllRead, usage_line};
 ghost use Rattle.program.specs.Printing.{PrintsOrFails, no_memory_line};
 
 use crate::request::{Request, request_of};
-use netlink_packet_route::{Family, MOST_TEXT, report};
+use netlink_packet_route::{Family, MOST_TEXT, report, with_names};
 use program::{print, print_error, print_no_memory, print_read_fault};
 use std::alloc::Global;
 use std::io::{BufWriter, Read, Write};
@@ -24,12 +24,14 @@ const MOST_READ: usize = MOST_TEXT + 1;
 const USAGE: &str = "usage: nlroute FAMILY | --help | --version\n";
 
 /// The help text.
-const HELP: &str = "\
+const HELP: &str = with_names!(
+    "\
 usage: nlroute FAMILY | --help | --version
 
 Decodes a list of link attributes and encodes it again.
 
-  FAMILY         af_spec_bridge, bond, bond_port, bridge, bridge_port, vlan, can, dsa, hsr or proto_bridge
+  FAMILY         ",
+    "
   -h, --help     print this text
   -V, --version  print the version
 
@@ -37,7 +39,8 @@ Standard input has the list in hex digits. White space is ignored.
 
 Status: 0 if the list was decoded and encoded, 1 if it is malformed, 2 for a wrong argument or input, 3 if a value does not
 fit, 4 if an allocation fails, 5 if reading or writing fails.
-";
+"
+);
 
 /// The name and the version of the program.
 const VERSION: &str = "nlroute 0.3.0\n";

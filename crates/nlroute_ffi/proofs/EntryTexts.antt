@@ -17,11 +17,10 @@ use Rattle.link_base.specs.declared.rows.form.Layout.{Layout}
 use Rattle.link_base.specs.declared.names.vlan_protocol.VlanProtocol.{VlanProtocol}
 use Rattle.link_base.specs.declared.names.vlan_protocol.VlanProtocol.TheVariants.{Ieee8021Q, Ieee8021Ad}
 use Rattle.link_base.specs.Number.{IsBytes, bytes_of}
-use Rattle.link_base.specs.Fields.{fields_of}
 use Rattle.link_base.specs.Name.{before_nul}
 use Rattle.link_base.specs.Class as classes
 use Rattle.link_base.specs.Class.{Exactly, AtLeast, meant, size_of, IsInRange}
-use Rattle.link_base.specs.Forms.{layout_extent}
+use Rattle.link_base.specs.Forms.{fields_of, layout_extent}
 use Rattle.link_base.specs.Payloads.{class_by}
 use Rattle.link_base.specs.Coherent.{is_single, IsShapeOf}
 use Rattle.link_base.specs.Table.{Shape, One, Nested, Addresses}

@@ -88,7 +88,7 @@ module _ (f n : ℕ) (e : Entry) (p list : List ℕ) (size : e.length ≡ length
     struct_held layouts.BerrCounter is =
         whole_held layouts.BerrCounter 4 (record e { form = form_berr_counter; number = number_at 2 0 s; second = number_at 2 2 s }) is
         (record { is = refl; numbers = both _ _ (two_below 0 (omega (arith, is))) (two_below 2 (omega (arith, is))); octets = refl })
-    struct_held (layouts.Other lengths) is = record { is = refl; numbers = refl; octets = has_all (min e.length (length s)) (omega (arith, few)) }
+    struct_held layout is = record { is = refl; numbers = refl; octets = has_all (min e.length (length s)) (omega (arith, few)) }
 
   module _ (names : List (ℕ × List ℕ)) (shape : Shape) (bytes : IsBytes p) (accepted : IsAccepted shape p) where
     held_own : (x : Content) → form_of x ≡ Some (own_form x) → IsShapeOf (own_form x) names shape → Borrows (Some shape) p x → Held (own_form x) list (filled f x n e)

@@ -65,5 +65,5 @@ module _ (label : Label) (e : Entry) (s list : List ℕ) (bytes : IsBytes s) (le
   struct_shown layouts.BerrCounter size =
       ap (text_in layouts.BerrCounter) (whole_is 4 s (record e { form = form_berr_counter; number = number_at 2 0 s; second = number_at 2 2 s }) e size)
       ∙ ap (text_of layouts.BerrCounter) (pair_back 2 s bytes size)
-  struct_shown (layouts.Other lengths) size =
-      let all : min e.length (length s) ≡ length s = omega (arith, few) in ap (text_of (layouts.Other lengths)) (ap (λ n. take n (drop e.offset list)) all ∙ lends)
+  struct_shown layout size =
+      let all : min e.length (length s) ≡ length s = omega (arith, few) in ap (text_of layout) (ap (λ n. take n (drop e.offset list)) all ∙ lends)

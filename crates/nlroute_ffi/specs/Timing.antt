@@ -3,7 +3,8 @@ use Rattle.std.specs.Prelude.{◌≡◌, ◌≢◌, ℕ, ℤ, ◌+◌, ◌≤◌
 use Rattle.link_base.specs.declared.rows.form.Form.{Form}
 use Rattle.link_base.specs.declared.rows.form.Form.TheVariants as forms
 use Rattle.link_base.specs.declared.rows.form.Layout.TheVariants as layouts
-use Rattle.link_base.specs.Fields.{PartValue, PartNumber, PartOctets, part_at, fields_of}
+use Rattle.link_base.specs.Forms.{fields_of}
+use Rattle.link_base.specs.Fields.{PartValue, PartNumber, PartOctets, part_at}
 use Rattle.link_base.specs.Name.{before_nul}
 use Rattle.link_flat.specs.declared.entry.Entry.{Entry}
 use Rattle.link_flat.specs.Forms.{form_bittiming, form_bittiming_const}

@@ -124,9 +124,16 @@ masked_form (forms.Struct layouts.CtrlMode) = forms.Struct layouts.CtrlMode
 masked_form (forms.Struct layout) = forms.Struct layouts.BooleanOptions
 masked_form own = forms.MaskedFlags
 
--- that of bytes of the list
+-- that of bytes of the list: of a struct without a form of its own, they are its bytes
 abbrev pub bytes_form : Form → Form
-bytes_form (forms.Struct (layouts.Other lengths)) = forms.Struct (layouts.Other lengths)
+bytes_form (forms.Struct layouts.BridgeId) = forms.Bytes
+bytes_form (forms.Struct layouts.VlanInfo) = forms.Bytes
+bytes_form (forms.Struct layouts.BooleanOptions) = forms.Bytes
+bytes_form (forms.Struct layouts.BitTiming) = forms.Bytes
+bytes_form (forms.Struct layouts.Clock) = forms.Bytes
+bytes_form (forms.Struct layouts.CtrlMode) = forms.Bytes
+bytes_form (forms.Struct layouts.BerrCounter) = forms.Bytes
+bytes_form (forms.Struct layout) = forms.Struct layout
 bytes_form own = forms.Bytes
 
 -- the form whose text an entry with this code has, if that of its type is `own`
@@ -186,9 +193,13 @@ held form e = []
 
 -- the bytes of a struct: those of the list, p, or those of the fields of an entry
 abbrev pub struct_bytes : Layout → List ℕ → List ℕ → List ℕ
-struct_bytes layouts.BitTiming fields p = p
-struct_bytes (layouts.Other lengths) fields p = p
-struct_bytes layout fields p = fields
+struct_bytes layouts.BridgeId fields p = fields
+struct_bytes layouts.VlanInfo fields p = fields
+struct_bytes layouts.BooleanOptions fields p = fields
+struct_bytes layouts.Clock fields p = fields
+struct_bytes layouts.CtrlMode fields p = fields
+struct_bytes layouts.BerrCounter fields p = fields
+struct_bytes layout fields p = p
 
 -- bytes, as a content borrows them
 abbrev pub lent : List ℕ → Bor (List ℕ)

@@ -96,7 +96,7 @@ fn families_by_number(rt: HostRuntime) {
             answer,
         );
     }
-    assert!(rt; nlroute_is_canonical(7, &[]) && !nlroute_is_canonical(10, &[]));
+    assert!(rt; nlroute_is_canonical(7, &[]) && !nlroute_is_canonical(99, &[]));
 }
 
 #[test]
@@ -111,7 +111,7 @@ fn refusals(rt: HostRuntime) {
         (7, &[], 0, 0),
         (7, &TWO[..7], 0, -1),
         (5, &long, 0, -2),
-        (10, &TWO, 12, -5),
+        (99, &TWO, 12, -5),
         (256, &TWO, 12, -5),
         (u32::MAX, &[], 0, -5),
     ];
@@ -133,8 +133,8 @@ fn value_by_value(rt: HostRuntime) {
         (7, &TWO[..7], 7, -4),
         (7, &TWO[..7], 8, -1),
         (7, &[], 0, 0),
-        (10, &TWO, 12, -5),
-        (10, &TWO, 0, -5),
+        (99, &TWO, 12, -5),
+        (99, &TWO, 0, -5),
     ];
     for (family, bytes, room, answer) in rows {
         let mut out = LENT;
@@ -159,7 +159,7 @@ fn counts(rt: HostRuntime) {
             ],
             3,
         ),
-        (10, &[], -5),
+        (99, &[], -5),
     ];
     for (family, bytes, answer) in rows {
         let is_so = nlroute_count(family, bytes) == answer;
@@ -191,7 +191,7 @@ fn faults(rt: HostRuntime) {
     }
     let mut error = NO_ERROR;
     let is_absent = nlroute_first_fault(7, &TWO, &mut error) == -6;
-    assert!(rt; nlroute_first_fault(10, &[], &mut error) == -5);
+    assert!(rt; nlroute_first_fault(99, &[], &mut error) == -5);
     let is_left = error.at == u64::MAX && error.cause == u32::MAX;
     assert!(rt; is_absent && is_left);
 }
@@ -234,7 +234,7 @@ fn reports(rt: HostRuntime) {
 #[test]
 fn a_report_of_no_family(rt: HostRuntime) {
     let (mut out, mut code) = (LENT, 9);
-    let answer = nlroute_report(rt.alloc(), 10, b"zz", &mut out, &mut code);
+    let answer = nlroute_report(rt.alloc(), 99, b"zz", &mut out, &mut code);
     assert!(rt; answer == -5 && out == LENT && code == 9);
 }
 
@@ -272,7 +272,7 @@ fn stored_values(rt: HostRuntime) {
     );
     assert!(rt; nlroute_values(5, &MAPPED, &mut places[..2]) == -4);
     assert!(rt;
-        nlroute_values(5, &MAPPED[..5], &mut places) == -1 && nlroute_places(10, &[]) == -5
+        nlroute_values(5, &MAPPED[..5], &mut places) == -1 && nlroute_places(99, &[]) == -5
     );
     let mut value = BLANK;
     assert!(rt; nlroute_find(5, &MAPPED, 1, &mut value) == 0 && value.number == 7);
@@ -399,7 +399,7 @@ fn names(rt: HostRuntime) {
     assert!(rt; holds_text(answer, &out, "LACP_ACTIVITY"));
     let is_absent = nlroute_number_name(2, &state, &mut out) == -6 && out[0] == 0;
     assert!(rt; is_absent && nlroute_flag_name(2, &state, 8, &mut out) == -6);
-    assert!(rt; nlroute_kind_name(10, &mode, &mut out) == -5 && out[0] == 0);
+    assert!(rt; nlroute_kind_name(99, &mode, &mut out) == -5 && out[0] == 0);
 }
 
 #[test]

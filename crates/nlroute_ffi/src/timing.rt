@@ -4,7 +4,7 @@ ghost use Rattle.std.specs.Prelude.{◌≡◌, length, take, IfOk, OnErr, MatchR
 ghost use Rattle.nlroute_ffi.specs.Timing.{RefersTo, RefersNot, referred, TimingAnswers, LimitsAnswers};
 
 use crate::refusal::Refusal;
-use link_devices::name_bytes;
+use link_base::before_nul;
 use link_flat::octets::padded;
 use link_flat::{Entry, forms};
 use netlink_packet_route::implementing::u32s_at;
@@ -123,7 +123,7 @@ pub(crate) fn timing_limits(
 {
     match bytes_of(value, forms::BITTIMING_CONST, LIMITS, octets) {
         Ok(bytes) => {
-            let name = padded(front(name_bytes(&bytes[..NAME]), NAME - 1));
+            let name = padded(front(before_nul(&bytes[..NAME]), NAME - 1));
             let [
                 tseg1_min,
                 tseg1_max,

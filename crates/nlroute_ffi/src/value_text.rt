@@ -20,13 +20,12 @@ use crate::names::label_of;
 use crate::refusal::Refusal;
 use crate::timing::front;
 use itoa::Buffer;
-use link_base::VlanProtocol;
 use link_base::names::flag_laws::FlagSet;
 use link_base::rows::form::{Form, Layout, Width};
 use link_base::rows::label::{KindLabel, Name, Quantity};
 use link_base::views::content::Content;
+use link_base::{VlanProtocol, before_nul};
 use link_bridge::{BridgeBooleanOptionFlags, BridgeVlanInfoFlags};
-use link_devices::name_bytes;
 use link_flat::{Entry, forms};
 use link_show::{Sink, Words, write_content};
 use netlink_packet_route::Family;
@@ -295,12 +294,21 @@ fn masked_form(own: Form) -> Form
     }
 }
 
-/// Returns the form of the text of bytes of the list.
+/// Returns the form of the text of bytes of the list: of a struct without a form of its own, they are its bytes.
 fn bytes_form(own: Form) -> Form
     ensures { result ≡ bytes_form own }
 {
     match own {
-        Form::Struct(Layout::Other(_)) => own,
+        Form::Struct(
+            Layout::BridgeId
+            | Layout::VlanInfo
+            | Layout::BooleanOptions
+            | Layout::BitTiming
+            | Layout::Clock
+            | Layout::CtrlMode
+            | Layout::BerrCounter,
+        ) => Form::Bytes,
+        Form::Struct(_) => own,
         _ => Form::Bytes,
     }
 }
@@ -401,7 +409,7 @@ fn content_of<'a>(form: Form, value: &Entry, fields: &'a [u8], octets: &'a [u8])
             bytes: struct_bytes(layout, fields, octets),
         },
         Form::Limits => Content::Limits {
-            name: name_bytes(front(octets, 16)),
+            name: before_nul(front(octets, 16)),
             numbers: front(behind(octets, 16), 32),
         },
         _ => Content::Nothing,
@@ -413,8 +421,13 @@ fn struct_bytes<'a>(layout: Layout, fields: &'a [u8], octets: &'a [u8]) -> &'a [
     ensures { result.now ≡ struct_bytes layout fields.now octets.now }
 {
     match layout {
-        Layout::BitTiming | Layout::Other(_) => octets,
-        _ => fields,
+        Layout::BridgeId
+        | Layout::VlanInfo
+        | Layout::BooleanOptions
+        | Layout::Clock
+        | Layout::CtrlMode
+        | Layout::BerrCounter => fields,
+        _ => octets,
     }
 }
 

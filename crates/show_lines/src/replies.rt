@@ -3,11 +3,14 @@
 ghost use Rattle.std.specs.Prelude.{◌≡◌};
 ghost use Rattle.show_lines.specs.Arguments.{reply_status, reply_text};
 
+use netlink_packet_route::with_names;
+
 /// The usage line.
 pub const USAGE: &str = "usage: nlshow [--format plain|debug] [--check] | --help | --version\n";
 
 /// The help text.
-const HELP: &str = "\
+const HELP: &str = with_names!(
+    "\
 usage: nlshow [--format plain|debug] [--check] | --help | --version
 
 Prints the values of lists of link attributes, and of the lists in link messages.
@@ -22,11 +25,13 @@ Each line of standard input is one of
   FAMILY HEX        the bytes of a list
   check FAMILY HEX  the same; reports whether the list is canonical
   message HEX       the bytes of messages
-FAMILY is af_spec_bridge, bond, bond_port, bridge, bridge_port, vlan, can, dsa, hsr or proto_bridge.
+FAMILY is ",
+    ".
 White space separates the words. Blank lines, and lines that begin with #, are ignored.
 
 Status: 0 if every line is right, 1 if not, 2 for a wrong argument, 4 if an allocation fails, 5 if reading or writing fails.
-";
+"
+);
 
 /// The name and the version of the program.
 pub const VERSION: &str = "nlshow 0.3.0\n";

@@ -9,8 +9,8 @@ ghost use Rattle.uses.specs.Reading.{IsLastNumber};
 
 use netlink_packet_route::implementing::by_rows::{self, AttributeRows, RowVisitor};
 use netlink_packet_route::implementing::{
-    Attribute, Content, DecodeError, DecodeFault, DefaultNla, KindLabel, Meaning, Nla, NlaBuffer,
-    Parseable, Place, TryClone,
+    Attribute, Content, DecodeError, DecodeFault, DefaultNla, KindLabel, Known, Meaning, Nla,
+    NlaBuffer, Parseable, Place, TryClone,
 };
 use netlink_packet_route::link::ListFault;
 use netlink_packet_route::views::view_list;
@@ -93,6 +93,11 @@ impl Attribute for InfoIpvlan {
     #[inline(always)]
     fn borrow<'a>(list: Option<u16>, buffer: &NlaBuffer<'a>) -> Content<'a> {
         by_rows::borrow::<Self>(list, buffer)
+    }
+
+    #[inline(always)]
+    fn known<'a>(list: Option<u16>, buffer: &NlaBuffer<'a>) -> Known<'a> {
+        by_rows::known::<Self>(list, buffer)
     }
 
     fn label(list: Option<u16>, kind: u16) -> Option<KindLabel> {

@@ -22,7 +22,7 @@ impl Lengths {
     ghost use Rattle.link_base.specs.Forms.{extent_of};
 
     /// Returns the number of bytes that a struct keeps of a payload.
-    #[inline]
+    #[inline(always)]
     pub fn kept(self) -> usize
         ensures { result ≡ size_of (extent_of self) }
     {

@@ -4,10 +4,12 @@ ghost use Rattle.std.specs.Prelude.{◌≡◌, ◌<◌, ◌≤◌, ◌+◌, ◌*
 ghost use Rattle.link_base.specs.Number.{bytes_of};
 ghost use Rattle.link_base.specs.Class.{accepted, AtLeast, Exactly, Fixed, Multiple};
 ghost use Rattle.link_base.specs.Layout.{number_at, numbers_at, octets_of};
+ghost use Rattle.link_base.specs.Name.{before_nul};
 ghost use Rattle.link_base.specs.Answers.{payload_result};
 
 use crate::classes::scalars::wrong_length;
 use crate::wire::fault::{Cause, DecodeError, DecodeFault};
+use bstr::ByteSlice;
 
 /// Checks that a payload has at least `want` bytes.
 ///
@@ -105,4 +107,13 @@ pub fn u32s_at<const N: usize>(bytes: &[u8], offset: usize) -> [u32; N]
         numbers[i] = u32_at(bytes, offset + 4 * i);
     }
     numbers
+}
+
+/// Returns the bytes of a field before the first NUL, or all of them if there is none.
+#[inline]
+pub fn before_nul<'a>(field: &'a [u8]) -> &'a [u8]
+    ensures { result.now ≡ before_nul field.now }
+{
+    let end = field.find_byte(0).unwrap_or(field.len());
+    &field[..end]
 }

@@ -97,7 +97,7 @@ fn has_no_flag(buffer: &NlaBuffer<'_>) -> bool
 }
 
 /// Checks whether an attribute is canonical as a value of a form that is written with one size.
-#[inline]
+#[inline(always)]
 pub fn is_fixed(buffer: &NlaBuffer<'_>, form: Form) -> bool
     ensures { (names : List (ℕ × List ℕ)) → is_fixed form ≡ true
         → (IsTrue result ↔ IsCanonicalAs (One (class_by form names)) buffer.now) }

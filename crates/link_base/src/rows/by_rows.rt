@@ -12,13 +12,16 @@ ghost use Rattle.link_base.specs.Storing.{Puts};
 ghost use Rattle.link_base.specs.Answers.{OnMemory, under_kind};
 ghost use Rattle.link_base.specs.Checked.{Checks};
 ghost use Rattle.link_base.specs.Borrowed.{HasValue, Borrows, form_of, table_within};
+ghost use Rattle.link_base.specs.Known.{Knows};
 
 use crate::classes::payload_class::PayloadClass;
 use crate::rows::attribute::Meaning;
 use crate::rows::label::{KindLabel, Quantity};
 use crate::rows::place::{Place, keep};
-use crate::rows::visitors::{Borrow, BorrowElement, Canonical, Check, ElementLabel, Label};
-use crate::views::content::Content;
+use crate::rows::visitors::{
+    Borrow, BorrowElement, Canonical, Check, ElementLabel, Know, KnowElement, Label,
+};
+use crate::views::content::{Content, Known};
 use crate::wire::buffer::NlaBuffer;
 use crate::wire::fault::{DecodeError, DecodeFault};
 use std::alloc::{AllocError, Global};
@@ -105,6 +108,19 @@ pub fn borrow<'a, F: AttributeRows>(list: Option<u16>, buffer: &NlaBuffer<'a>) -
     match list {
         None => F::visit_row(buffer.kind(), Borrow { buffer }),
         Some(list) => F::visit_row(list, BorrowElement { element: buffer }),
+    }
+}
+
+/// Returns what is known of an attribute, as `Attribute::known`.
+#[inline(always)]
+pub fn known<'a, F: AttributeRows>(list: Option<u16>, buffer: &NlaBuffer<'a>) -> Known<'a>
+    requires { HasValue (table_within F.table list) (kind_field_of buffer.now) (payload_of buffer.now) }
+    ensures { Knows (row_at (table_within F.table list) (kind_of (kind_field_of buffer.now)))
+        (payload_of buffer.now) result }
+{
+    match list {
+        None => F::visit_row(buffer.kind(), Know { buffer }),
+        Some(list) => F::visit_row(list, KnowElement { element: buffer }),
     }
 }
 

@@ -6,7 +6,8 @@ use crate::rows::attribute::{Attribute, Meaning, Nla, Parseable};
 use crate::rows::label::KindLabel;
 use crate::rows::place::Place;
 use crate::rows::try_clone::TryClone;
-use crate::views::content::Content;
+use crate::rows::visitors::known_other;
+use crate::views::content::{Content, Known};
 use crate::wire::buffer::NlaBuffer;
 use crate::wire::fault::{DecodeError, DecodeFault};
 use crate::wire::octets::Octets;
@@ -101,6 +102,11 @@ impl Attribute for DefaultNla {
     #[inline]
     fn borrow<'a>(_list: Option<u16>, buffer: &NlaBuffer<'a>) -> Content<'a> {
         Content::Other(buffer.value())
+    }
+
+    /// Returns the payload, without a label.
+    fn known<'a>(_list: Option<u16>, buffer: &NlaBuffer<'a>) -> Known<'a> {
+        known_other(buffer)
     }
 
     /// Returns `None`: no attribute type has a row.

@@ -1,10 +1,55 @@
-//! Forms of values: what the bytes of a payload mean.
+//! Forms of values: what the bytes of a payload mean, and the fields of structs.
 
 ghost use Rattle.std.specs.Prelude.{◌≡◌, ◌<◌, ◌≤◌, ◌-◌};
 ghost use Rattle.link_base.specs.Number.{bound};
-ghost use Rattle.link_base.specs.Forms.{bytes_in, extent_of, layout_extent};
+ghost use Rattle.link_base.specs.Fields.{fields_in};
+ghost use Rattle.link_base.specs.Forms.{bytes_in, extent_of, fields_of, layout_extent};
+ghost use Rattle.link_base.specs.declared.rows.form.Form.TheVariants as forms;
 
 use crate::classes::lengths::Lengths;
+use crate::rows::fields::{Field, Part};
+use crate::rows::label::Quantity;
+
+/// A field that is a number of four bytes, and counts this.
+macro_rules! number {
+    ($name:literal $offset:literal $quantity:ident) => {
+        Field {
+            name: $name,
+            offset: $offset,
+            part: Part::Number {
+                width: Width::Four,
+                quantity: Quantity::$quantity,
+            },
+        }
+    };
+}
+
+/// A field that is a number of two bytes.
+macro_rules! short {
+    ($name:literal $offset:literal) => {
+        Field {
+            name: $name,
+            offset: $offset,
+            part: Part::Number {
+                width: Width::Two,
+                quantity: Quantity::Number,
+            },
+        }
+    };
+}
+
+/// A field that is a set of flags of this width.
+macro_rules! flags {
+    ($name:literal $offset:literal $width:ident) => {
+        Field {
+            name: $name,
+            offset: $offset,
+            part: Part::Flags {
+                width: Width::$width,
+            },
+        }
+    };
+}
 
 /// The width of a number.
 #[derive(Clone, Copy, Debug, PartialEq, Eq)]
@@ -72,7 +117,7 @@ pub enum Layout {
 
 impl Layout {
     /// Returns the lengths of payloads that are accepted.
-    #[inline]
+    #[inline(always)]
     pub const fn lengths(self) -> Lengths
         ensures { extent_of result ≡ layout_extent self }
     {
@@ -143,7 +188,7 @@ impl Form {
     ghost use Rattle.link_base.specs.Payloads.{class_by, is_fixed};
 
     /// Returns the lengths of the payloads that are accepted, of a form that is written with one size.
-    #[inline]
+    #[inline(always)]
     pub const fn lengths(self) -> Lengths
         ensures { (names : List (ℕ × List ℕ)) → is_fixed self ≡ true → extent_of result ≡ extent (class_by self names) }
     {
@@ -160,5 +205,68 @@ impl Form {
             Form::Struct(layout) => layout.lengths(),
             _ => Lengths::AtLeast(0),
         }
+    }
+
+    /// Returns the fields, in the order in which they are printed; none of a form that is no struct, and of a struct whose
+    /// fields are not known.
+    pub fn fields(self) -> &'static [Field]
+        ensures { fields_in result.now ≡ fields_of self }
+    {
+        match self {
+            Form::Struct(layout) => layout_fields(layout),
+            Form::Pair => &[number!("from" 0 Number), number!("to" 4 Number)],
+            Form::Limits => &[
+                Field {
+                    name: "name",
+                    offset: 0,
+                    part: Part::Name { size: 16 },
+                },
+                number!("tseg1_min" 16 Number),
+                number!("tseg1_max" 20 Number),
+                number!("tseg2_min" 24 Number),
+                number!("tseg2_max" 28 Number),
+                number!("sjw_max" 32 Number),
+                number!("brp_min" 36 Number),
+                number!("brp_max" 40 Number),
+                number!("brp_inc" 44 Number),
+            ],
+            _ => &[],
+        }
+    }
+}
+
+/// Returns the fields of a struct, as `Form::fields`.
+fn layout_fields(layout: Layout) -> &'static [Field]
+    ensures { fields_in result.now ≡ fields_of (forms.Struct layout) }
+{
+    match layout {
+        Layout::BridgeId => &[
+            Field {
+                name: "prio",
+                offset: 0,
+                part: Part::BigEndian { width: Width::Two },
+            },
+            Field {
+                name: "addr",
+                offset: 2,
+                part: Part::Mac,
+            },
+        ],
+        Layout::VlanInfo => &[short!("vid" 2), flags!("flags" 0 Two)],
+        Layout::BooleanOptions => &[flags!("value" 0 Four), flags!("mask" 4 Four)],
+        Layout::BitTiming => &[
+            number!("bitrate" 0 BitsPerSecond),
+            number!("sample_point" 4 Number),
+            number!("tq" 8 Nanoseconds),
+            number!("prop_seg" 12 Number),
+            number!("phase_seg1" 16 Number),
+            number!("phase_seg2" 20 Number),
+            number!("sjw" 24 Number),
+            number!("brp" 28 Number),
+        ],
+        Layout::Clock => &[number!("freq" 0 Hertz)],
+        Layout::CtrlMode => &[flags!("mask" 0 Four), flags!("flags" 4 Four)],
+        Layout::BerrCounter => &[short!("txerr" 0), short!("rxerr" 2)],
+        Layout::Other(_) => &[],
     }
 }

@@ -7,12 +7,13 @@ ghost use Rattle.link_base.specs.Labels.{label_in, label_of};
 ghost use Rattle.link_base.specs.Buffer.{kind_field_of, payload_of};
 ghost use Rattle.link_base.specs.Checked.{Checks};
 ghost use Rattle.link_base.specs.Borrowed.{HasValue, Borrows, elements_at, form_of};
+ghost use Rattle.link_base.specs.Known.{Knows};
 
 use crate::classes::payload_class::PayloadClass;
 use crate::rows::attribute::{Attribute, Meaning};
 use crate::rows::by_rows::RowVisitor;
 use crate::rows::label::{KindLabel, Quantity};
-use crate::views::content::Content;
+use crate::views::content::{Content, Known};
 use crate::wire::buffer::NlaBuffer;
 use crate::wire::fault::DecodeFault;
 
@@ -116,6 +117,84 @@ impl<'a, 'b, F: Meaning> RowVisitor<F> for BorrowElement<'a, 'b> {
     #[tactic(auto, using(crate::proofs::Entries::class_of_none))]
     fn other(self, _list: u16) -> Content<'a> {
         Content::Other(self.element.value())
+    }
+}
+
+/// Returns what is known of an attribute, which must decode.
+#[derive(Drop)]
+pub(crate) struct Know<'a, 'b> {
+    /// The attribute.
+    pub(crate) buffer: &'b NlaBuffer<'a>,
+}
+
+impl<'a, 'b, F: Meaning> RowVisitor<F> for Know<'a, 'b> {
+    type Output = Known<'a>;
+
+    ghost asks = { λ visitor kind. (kind_of (kind_field_of visitor.buffer.now) ≡ kind)
+        × HasValue F.table (kind_field_of visitor.buffer.now) (payload_of visitor.buffer.now) };
+
+    ghost answers = { λ visitor kind result.
+        Knows (row_at F.table (kind_of (kind_field_of visitor.buffer.now))) (payload_of visitor.buffer.now) result };
+
+    #[inline(always)]
+    #[tactic(auto, using(crate::proofs::Entries::class_of_row))]
+    fn row<C: PayloadClass>(self, _kind: u16, name: &'static str, quantity: Quantity) -> Known<'a> {
+        Known {
+            label: Some(label_row::<C>(name, quantity)),
+            content: C::borrow(self.buffer.value()),
+        }
+    }
+
+    #[inline(always)]
+    fn other(self, _kind: u16) -> Known<'a> {
+        known_other(self.buffer)
+    }
+}
+
+/// Returns what is known of an attribute whose type has no row.
+#[inline(always)]
+pub(crate) fn known_other<'a>(buffer: &NlaBuffer<'a>) -> Known<'a>
+    ensures { Knows None (payload_of buffer.now) result }
+{
+    Known {
+        label: None,
+        content: Content::Other(buffer.value()),
+    }
+}
+
+/// Returns what is known of an attribute in a nested list, which must decode. The attribute type is that of the list.
+#[derive(Drop)]
+pub(crate) struct KnowElement<'a, 'b> {
+    /// The attribute in the list.
+    pub(crate) element: &'b NlaBuffer<'a>,
+}
+
+impl<'a, 'b, F: Meaning> RowVisitor<F> for KnowElement<'a, 'b> {
+    type Output = Known<'a>;
+
+    ghost asks = { λ visitor list.
+        HasValue (elements_at F.table list) (kind_field_of visitor.element.now) (payload_of visitor.element.now) };
+
+    ghost answers = { λ visitor list result.
+        Knows (row_at (elements_at F.table list) (kind_of (kind_field_of visitor.element.now)))
+        (payload_of visitor.element.now) result };
+
+    #[inline(always)]
+    #[tactic(auto, using(crate::proofs::Entries::class_of_row))]
+    fn row<C: PayloadClass>(
+        self,
+        _list: u16,
+        _name: &'static str,
+        _quantity: Quantity,
+    ) -> Known<'a> {
+        C::elements();
+        <C::Element as Attribute>::known(None, self.element)
+    }
+
+    #[inline(always)]
+    #[tactic(auto, using(crate::proofs::Entries::class_of_none))]
+    fn other(self, _list: u16) -> Known<'a> {
+        known_other(self.element)
     }
 }
 

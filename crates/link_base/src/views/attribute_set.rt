@@ -2,15 +2,16 @@
 
 ghost use Rattle.std.specs.Prelude.{◌≡◌, ⊤};
 ghost use Rattle.link_base.specs.Frame.{kind_of};
-ghost use Rattle.link_base.specs.Table.{Table, Gives, class_at, form_at, label_at};
+ghost use Rattle.link_base.specs.Table.{Table, Gives, class_at, form_at, label_at, row_at};
 ghost use Rattle.link_base.specs.Labels.{label_in};
 ghost use Rattle.link_base.specs.Buffer.{kind_field_of, payload_of};
 ghost use Rattle.link_base.specs.Borrowed.{HasValue, Borrows, elements_at, form_of};
+ghost use Rattle.link_base.specs.Known.{Knows};
 ghost use Rattle.link_base.specs.Checked.{Checks};
 
 use crate::rows::attribute::Attribute;
 use crate::rows::label::KindLabel;
-use crate::views::content::Content;
+use crate::views::content::{Content, Known};
 use crate::wire::buffer::NlaBuffer;
 use crate::wire::fault::DecodeFault;
 use std::alloc::AllocError;
@@ -27,6 +28,11 @@ pub trait AttributeSet: Copy {
         ensures content { Borrows (class_at (Self.rows self.now) (kind_of (kind_field_of buffer.now)))
             (payload_of buffer.now) result }
         ensures form { form_of result ≡ form_at (Self.rows self.now) (kind_of (kind_field_of buffer.now)) };
+
+    /// Returns the label of an attribute, which must decode, and its content.
+    fn known<'a>(&self, buffer: &NlaBuffer<'a>) -> Known<'a>
+        requires { HasValue (Self.rows self.now) (kind_field_of buffer.now) (payload_of buffer.now) }
+        ensures { Knows (row_at (Self.rows self.now) (kind_of (kind_field_of buffer.now))) (payload_of buffer.now) result };
 
     /// Returns what is known of an attribute type besides its payloads; `None` if no row has the type.
     fn label(&self, kind: u16) -> Option<KindLabel>
@@ -110,6 +116,11 @@ impl<F: Attribute> AttributeSet for Set<F> {
         F::borrow(None, buffer)
     }
 
+    #[inline(always)]
+    fn known<'a>(&self, buffer: &NlaBuffer<'a>) -> Known<'a> {
+        F::known(None, buffer)
+    }
+
     fn label(&self, kind: u16) -> Option<KindLabel> {
         F::label(None, kind)
     }
@@ -130,6 +141,11 @@ impl<F: Attribute> AttributeSet for ElementSet<F> {
     #[inline(always)]
     fn borrow<'a>(&self, buffer: &NlaBuffer<'a>) -> Content<'a> {
         F::borrow(Some(self.list), buffer)
+    }
+
+    #[inline(always)]
+    fn known<'a>(&self, buffer: &NlaBuffer<'a>) -> Known<'a> {
+        F::known(Some(self.list), buffer)
     }
 
     fn label(&self, kind: u16) -> Option<KindLabel> {

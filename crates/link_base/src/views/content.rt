@@ -4,6 +4,7 @@ ghost use Rattle.std.specs.Prelude.{◌≡◌};
 
 use crate::names::vlan_protocol::VlanProtocol;
 use crate::rows::form::{Form, Layout, Width};
+use crate::rows::label::KindLabel;
 use std::net::{Ipv4Addr, Ipv6Addr};
 
 /// The content of an attribute. Slices are parts of the input; nothing is allocated.
@@ -55,6 +56,15 @@ pub enum Content<'a> {
     List { list: &'a [u8], flagged: bool },
     /// The payload of an attribute whose type has no row. `Value::buffer` has its flags.
     Other(&'a [u8]),
+}
+
+/// What is known of an attribute: of its type by the row, and of its payload.
+#[derive(Clone, Copy, Debug)]
+pub struct Known<'a> {
+    /// What is known of the attribute type; `None` if no row has the type.
+    pub label: Option<KindLabel>,
+    /// The content.
+    pub content: Content<'a>,
 }
 
 impl<'a> Content<'a> {

@@ -12,7 +12,7 @@ ghost use Rattle.link_base.specs.Borrowed.{HasValue, HasValues, Borrows, element
 use crate::rows::attribute::Attribute;
 use crate::rows::label::KindLabel;
 use crate::views::attribute_set::{AttributeSet, CheckedSet, ElementSet, Set};
-use crate::views::content::Content;
+use crate::views::content::{Content, Known};
 use crate::wire::buffer::NlaBuffer;
 use crate::wire::fault::DecodeFault;
 use crate::wire::iterator::count_bounds;
@@ -107,6 +107,17 @@ impl<'a, S: AttributeSet> Value<'a, S> {
         self.set.label(self.kind())
     }
 
+    /// Returns the label and the content, by one look-up of the row, and for an element one of its list's.
+    #[inline(always)]
+    pub fn known(&self) -> Known<'a>
+        ensures label { label_in result.label ≡ label_at (S.rows (set_in self.now)) (kind_in self.now) }
+        ensures content { Borrows (class_at (S.rows (set_in self.now)) (kind_in self.now)) (payload_in self.now)
+            result.content }
+        ensures form { form_of result.content ≡ form_at (S.rows (set_in self.now)) (kind_in self.now) }
+    {
+        self.set.known(&self.buffer)
+    }
+
     /// Returns the content.
     #[inline(always)]
     pub fn content(&self) -> Content<'a>
@@ -125,6 +136,27 @@ impl<'a, S: AttributeSet> Value<'a, S> {
             elements result }
     {
         match self.content() {
+            Content::List { list, .. } => Some(View {
+                rest: list,
+                set: elements,
+            }),
+            _ => None,
+        }
+    }
+
+    /// Returns a view of the attributes in a nested list, as `elements_as`. `content` must be what `content` returns.
+    #[inline(always)]
+    pub fn elements_in<T: AttributeSet>(
+        &self,
+        content: Content<'a>,
+        elements: T,
+    ) -> Option<View<'a, T>>
+        requires table { T.rows elements ≡ elements_at (S.rows (set_in self.now)) (kind_in self.now) }
+        requires content { Borrows (class_at (S.rows (set_in self.now)) (kind_in self.now)) (payload_in self.now) content }
+        ensures { ViewsElements (class_at (S.rows (set_in self.now)) (kind_in self.now)) (payload_in self.now)
+            elements result }
+    {
+        match content {
             Content::List { list, .. } => Some(View {
                 rest: list,
                 set: elements,

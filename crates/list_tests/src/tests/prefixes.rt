@@ -2,7 +2,7 @@
 
 use crate::tests::{CANONICAL, bytes, holds};
 use netlink_packet_route::link::NlaBuffer;
-use netlink_packet_route::{Family, families, report};
+use netlink_packet_route::{Family, report};
 use std::alloc::Global;
 use std::process::Abort;
 
@@ -86,20 +86,5 @@ fn prefixes_are(rt: &impl Abort, alloc: Global, row: &str) {
 fn prefixes(rt: HostRuntime) {
     for row in CANONICAL {
         prefixes_are(&rt, rt.alloc(), row);
-    }
-}
-
-macro_rules! all {
-    ($($variant:ident $name:tt $attributes:ident $number:tt $holder:ident $held:tt)*) => {
-        [$(Family::$variant),*]
-    };
-}
-
-#[test]
-fn each_attribute_set_has_a_list(rt: HostRuntime) {
-    for family in families!([all]) {
-        let has_list = CANONICAL.iter().any(|row| row.split_ascii_whitespace().next()
-            == Some(family.name()));
-        holds(&rt, has_list, family.name());
     }
 }

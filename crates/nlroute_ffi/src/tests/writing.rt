@@ -193,5 +193,5 @@ fn values_that_cannot_be_written(rt: HostRuntime) {
     }
     let mut out = [0xFF; 8];
     assert!(rt; nlroute_write(5, &[id], &[], &mut out[..7]) == -4 && out == [0xFF; 8]);
-    assert!(rt; nlroute_write(10, &[id], &[], &mut out) == -5 && out == [0xFF; 8]);
+    assert!(rt; nlroute_write(99, &[id], &[], &mut out) == -5 && out == [0xFF; 8]);
 }

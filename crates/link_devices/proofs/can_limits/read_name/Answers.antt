@@ -6,6 +6,6 @@ use Rattle.link_devices.proofs.can_limits.read_name.Goals as goal
 
 pub returns : goal.returns
 returns c =
-    let text = c.name_bytes-text.result.now in
+    let text = c.before_nul-text.result.now in
     c.in_ok-to_str_lossy_into.ensures.ok refl ∙ ap (λ t. t ++ encode_utf8_all (lossy_chars text)) c.new-name.ensures.bytes
-    ∙ lossy_chars-utf8_lossy text ∙ ap utf8_lossy c.name_bytes-text.ensures
+    ∙ lossy_chars-utf8_lossy text ∙ ap utf8_lossy c.before_nul-text.ensures

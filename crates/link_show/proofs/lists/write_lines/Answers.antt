@@ -16,10 +16,10 @@ returns-in-Some g c =
     let indent = c.args.indent.now in
     let rows = g.S.Elements.AttributeSet.rows (set_of c.in-Some.elements) in
     let list = bytes_in c.in-Some.elements in
-    let named = subst (λ b. OnOk r (WritesNested indent (head_text (label_in c.label-label.result) (kind_field_of b)) rows list old new)) c.buffer-buffer.ensures c.write_nested.ensures in
-    let written = subst (λ l. OnOk r (WritesNested indent (head_text l (kind_field_of (buffer_in x))) rows list old new)) c.label-label.ensures named in
-    value_nested r indent (g.S.AttributeSet.rows (set_in x)) (buffer_in x) c.content-content.result c.elements.result c.in-Some.elements old new
-    (record { decodes = x.decodes; borrows = c.content-content.ensures.content; form = c.content-content.ensures.form }) c.in-Some.ensures
+    let named = subst (λ b. OnOk r (WritesNested indent (head_text (label_in c.known-known.result.label) (kind_field_of b)) rows list old new)) c.buffer-buffer.ensures c.write_nested.ensures in
+    let written = subst (λ l. OnOk r (WritesNested indent (head_text l (kind_field_of (buffer_in x))) rows list old new)) c.known-known.ensures.label named in
+    value_nested r indent (g.S.AttributeSet.rows (set_in x)) (buffer_in x) c.known-known.result.content c.elements.result c.in-Some.elements old new
+    (record { decodes = x.decodes; borrows = c.known-known.ensures.content; form = c.known-known.ensures.form }) c.in-Some.ensures
     (c.elements.ensures ∙ ap₂ (λ s k. elements_at (g.S.AttributeSet.rows s) k) c.set.ensures c.kind.ensures) written
 
 pub returns-in-None : goal.returns-in-None
@@ -29,8 +29,8 @@ returns-in-None g c =
     let old = g.W.Sink.output c.args.writer.now in
     let new = g.W.Sink.output c.write_flat.new.writer in
     let indent = c.args.indent.now in
-    let content = c.content-content.result in
-    let named = subst (λ b. OnOk r (WritesFlat indent (label_in c.label-label.result) (kind_field_of b) content old new)) c.buffer-buffer.ensures c.write_flat.ensures in
-    let written = subst (λ l. OnOk r (WritesFlat indent l (kind_field_of (buffer_in x)) content old new)) c.label-label.ensures named in
+    let content = c.known-known.result.content in
+    let named = subst (λ b. OnOk r (WritesFlat indent (label_in c.known-known.result.label) (kind_field_of b) content old new)) c.buffer-buffer.ensures c.write_flat.ensures in
+    let written = subst (λ l. OnOk r (WritesFlat indent l (kind_field_of (buffer_in x)) content old new)) c.known-known.ensures.label named in
     value_flat _ g.S.Elements.AttributeSet r indent (g.S.AttributeSet.rows (set_in x)) (buffer_in x) content c.elements.result old new
-    (record { decodes = x.decodes; borrows = c.content-content.ensures.content; form = c.content-content.ensures.form }) c.in-None.ensures written
+    (record { decodes = x.decodes; borrows = c.known-known.ensures.content; form = c.known-known.ensures.form }) c.in-None.ensures written

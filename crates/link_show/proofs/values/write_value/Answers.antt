@@ -9,11 +9,11 @@ pub returns-in-Some : goal.returns-in-Some
 returns-in-Some g c =
     let x = c.args.value.now in
     value_written c.write_content.result (g.S.AttributeSet.rows (set_in x)) (kind_field_of (buffer_in x)) (payload_in x) (g.W.Sink.output c.args.writer.now) (g.W.Sink.output c.write_content.new.writer)
-    (label_of c.in-Some.label) c.content-content.result c.content-content.ensures.content c.content-content.ensures.form
-    (sym (ap label_in c.in-Some.is) ∙ c.label.ensures) c.write_content.ensures
+    (label_of c.in-Some.label) c.known-known.result.content c.known-known.ensures.content c.known-known.ensures.form
+    (sym (ap label_in c.in-Some.is) ∙ c.known-known.ensures.label) c.write_content.ensures
 
 pub returns-in-None : goal.returns-in-None
 returns-in-None g c =
     let x = c.args.value.now in
     value_unlabelled c.write_unlabelled.result (g.S.AttributeSet.rows (set_in x)) (kind_field_of (buffer_in x)) (payload_in x) (g.W.Sink.output c.args.writer.now) (g.W.Sink.output c.write_unlabelled.new.writer)
-    c.content-content.result c.content-content.ensures.content c.content-content.ensures.form (sym (ap label_in c.in-None.is) ∙ c.label.ensures) c.write_unlabelled.ensures
+    c.known-known.result.content c.known-known.ensures.content c.known-known.ensures.form (sym (ap label_in c.in-None.is) ∙ c.known-known.ensures.label) c.write_unlabelled.ensures

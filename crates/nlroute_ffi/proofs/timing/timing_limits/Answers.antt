@@ -8,7 +8,7 @@ use Rattle.nlroute_ffi.proofs.timing.timing_limits.Goals as goal
 pub returns-in-Ok-clause-answer : goal.returns-in-Ok-clause-answer
 returns-in-Ok-clause-answer c =
     let (refers, is) = c.in-Ok.ensures.value in
-    let name = c.name_bytes.ensures ∙ ap (λ p. before_nul (take 16 p)) is in
+    let name = c.before_nul.ensures ∙ ap (λ p. before_nul (take 16 p)) is in
     let fields =
     ap₂ (λ p ns. limit_fields (before_nul (take 16 p)) (record {
       name = c.padded-name.result;

@@ -1,6 +1,0 @@
-use Rattle.std.proofs.Common.{◌≡◌, ◌++◌, take, drop}
-use Rattle.link_base.specs.Name.{before_nul}
-use Rattle.link_write.proofs.name.before_nul.Given as goal
-
-abbrev pub invariant-loop-i : goal.invariant-loop-i
-invariant-loop-i l = before_nul l.field ≡ take l.i l.field ++ before_nul (drop l.i l.field)
