@@ -55,7 +55,7 @@ PAGES = re.compile(r"(README|CONTRIBUTING|CHANGELOG)\.md|docs/[^/]+\.md|(bench|t
 BUDGETS = {
     "README.md": 1520, "CONTRIBUTING.md": 1870, "crates/nlroute_ffi/README.md": 1200, "docs/ARCHITECTURE.md": 2150,
     "docs/ASSURANCE.md": 1400, "docs/CALLING.md": 1800, "docs/CLAIMS.md": 3050, "docs/DEBUG.md": 700,
-    "docs/DECISIONS.md": 7500, "docs/DIFFERENCES.md": 3000, "docs/MESSAGES.md": 2800, "docs/MODEL.md": 4800,
+    "docs/DECISIONS.md": 7550, "docs/DIFFERENCES.md": 3000, "docs/MESSAGES.md": 2800, "docs/MODEL.md": 4800,
     "docs/PROGRAMS.md": 1650, "docs/PYTHON.md": 900, "docs/RUST.md": 900,
 }  # fmt: skip
 SMALL_BUDGET = 600
