@@ -53,10 +53,10 @@ ROOT = os.path.dirname(os.path.dirname(os.path.realpath(__file__)))
 PAGES = re.compile(r"(README|CONTRIBUTING|CHANGELOG)\.md|docs/[^/]+\.md|(bench|tools|extra|crates/[^/]+)/README\.md")
 # The most words that a page may have. Any other README.md below the top has SMALL_BUDGET, and CHANGELOG.md has none.
 BUDGETS = {
-    "README.md": 1520, "CONTRIBUTING.md": 1870, "crates/nlroute_ffi/README.md": 1200, "docs/ARCHITECTURE.md": 2150,
+    "README.md": 1520, "CONTRIBUTING.md": 1870, "crates/nlroute_ffi/README.md": 1320, "docs/ARCHITECTURE.md": 2150,
     "docs/ASSURANCE.md": 1400, "docs/CALLING.md": 1800, "docs/CLAIMS.md": 3050, "docs/DEBUG.md": 700,
     "docs/DECISIONS.md": 7550, "docs/DIFFERENCES.md": 3000, "docs/MESSAGES.md": 2800, "docs/MODEL.md": 4800,
-    "docs/PROGRAMS.md": 1650, "docs/PYTHON.md": 900, "docs/RUST.md": 900,
+    "docs/PROGRAMS.md": 1650, "docs/PYTHON.md": 900, "docs/RUST.md": 900, "bench/README.md": 680,
 }  # fmt: skip
 SMALL_BUDGET = 600
 HISTORY, COMPARISON, CLAIMS = "CHANGELOG.md", "docs/DIFFERENCES.md", "docs/CLAIMS.md"

@@ -144,6 +144,7 @@ impl Attribute for InfoBondPort {
         by_rows::known::<Self>(list, buffer)
     }
 
+    #[inline(always)]
     fn label(list: Option<u16>, kind: u16) -> Option<KindLabel> {
         by_rows::label::<Self>(list, kind)
     }

@@ -119,6 +119,7 @@ impl Attribute for LinkProtoInfoBridge {
         by_rows::known::<Self>(list, buffer)
     }
 
+    #[inline(always)]
     fn label(list: Option<u16>, kind: u16) -> Option<KindLabel> {
         by_rows::label::<Self>(list, kind)
     }

@@ -94,6 +94,7 @@ impl Attribute for InfoDsa {
         by_rows::known::<Self>(list, buffer)
     }
 
+    #[inline(always)]
     fn label(list: Option<u16>, kind: u16) -> Option<KindLabel> {
         by_rows::label::<Self>(list, kind)
     }

@@ -263,6 +263,50 @@ static void check_value(uint32_t family, struct nlroute_value v, const char *wan
     check_text(answer, text, sizeof text, wanted);
 }
 
+/* Asks what is known of types, and finds what it is told by its name again. */
+static void asking(void) {
+    struct nlroute_row row;
+    struct nlroute_value type;
+    uint64_t number = 0;
+    char name[NLROUTE_TEXT_ROOM];
+    uint32_t known = 0, told = 0;
+    for (uint32_t family = 0; family < FAMILIES; family++) {
+        ptrdiff_t len = nlroute_family_name(family, name, sizeof name);
+        check(len > 0 && nlroute_family_of(name, (size_t)len) == family, "a set has a name");
+        for (uint32_t kind = 0; kind < 1 << 14; kind++) {
+            type = nlroute_number((uint16_t)kind, 0);
+            if (nlroute_row(family, type.kind, 0, 0, &row) || row.form == NLROUTE_FORM_UNKNOWN) continue;
+            known++;
+            len = nlroute_kind_name(family, &type, name, sizeof name);
+            told += nlroute_kind_of(family, name, (size_t)len) == (ptrdiff_t)kind;
+        }
+    }
+    check(known > 150 && told == known, "each type is found by its name");
+    check(nlroute_family_of("bridges", 7) == NLROUTE_NO_FAMILY, "-5 for the name of no set");
+    check(nlroute_kind_of(NLROUTE_BOND, "IFLA_BOND", 9) == NLROUTE_ABSENT, "-6 for the name of no type");
+    check(!nlroute_row(NLROUTE_BOND, NLROUTE_IFLA_BOND_MODE, 0, 0, &row), "a type has a row");
+    check(row.form == NLROUTE_FORM_NAMED && row.width == 1 && !row.is_list && row.flags == 0, "the row of an enum");
+    check(!nlroute_row(NLROUTE_BOND, NLROUTE_IFLA_BOND_ARP_IP_TARGET, 3, 1, &row), "an address has a row");
+    check(row.form == NLROUTE_FORM_IPV4 && row.width == 4, "the row of an address");
+    ptrdiff_t no_element = nlroute_row(NLROUTE_BOND, NLROUTE_IFLA_BOND_MODE, 0, 1, &row);
+    check(no_element == NLROUTE_BAD_ELEMENT && row.width == 4, "-9 for an element of a number");
+    check(nlroute_kind_of_in(NLROUTE_BOND, NLROUTE_IFLA_BOND_AD_INFO, "IFLA_BOND_AD_INFO_NUM_PORTS", 27) == 2, "an element");
+    type = nlroute_number(NLROUTE_IFLA_BOND_MODE, 0);
+    check(!nlroute_number_of(NLROUTE_BOND, &type, "802.3ad", 7, &number) && number == 4, "a mode by its name");
+    check(nlroute_number_of(NLROUTE_BOND, &type, "802.3", 5, &number) == NLROUTE_ABSENT && number == 4, "-6 for no mode");
+    type.number = 4;
+    memset(name, 0xFF, sizeof name);
+    check_text(nlroute_text(NLROUTE_BOND, &type, NLROUTE_NO_OCTETS, name, sizeof name), name, sizeof name, "802.3ad (4)");
+    for (ptrdiff_t code = -12; code < 2; code++) {
+        memset(name, 0xFF, sizeof name);
+        check_text(nlroute_code_text(code, name, sizeof name), name, sizeof name, nlroute_refusal_text(code));
+    }
+    type = nlroute_bridge_id(NLROUTE_IFLA_BR_BRIDGE_ID, 32768, "\2\0\0\0\0\1");
+    check(type.length == 8 && type.number == 32768 && type.octets[5] == 1, "a bridge ID");
+    type = nlroute_pair(NLROUTE_IFLA_VLAN_QOS_MAPPING, 1, 2);
+    check(type.number == 1 && type.second == 2, "a pair");
+}
+
 static void names(void) {
     check(nlroute_version() == NLROUTE_VERSION, "the version of the header");
     check_name(NLROUTE_BRIDGE, value(NLROUTE_IFLA_BR_FORWARD_DELAY, 0, 0, 0), "IFLA_BR_FORWARD_DELAY");
@@ -471,6 +515,7 @@ int main(void) {
     refusals();
     values();
     timing();
+    asking();
     names();
     texts();
     texts_of_faults();

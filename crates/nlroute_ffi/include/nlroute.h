@@ -88,7 +88,7 @@ enum nlroute_refusal {
     NLROUTE_BAD_FORM = -7,  /* the value has another form than was expected, or than its attribute type; the struct has
                                numbers that the library never stores */
     NLROUTE_BAD_NUMBER = -8,  /* the attribute cannot hold the number */
-    NLROUTE_BAD_ELEMENT = -9, /* an element does not follow a list of its attribute type */
+    NLROUTE_BAD_ELEMENT = -9, /* an element does not follow a list of its attribute type; the type has no elements */
     NLROUTE_BAD_OCTETS = -10  /* the bytes of the value are outside the input, or not as many as its form has */
 };
 
@@ -304,6 +304,25 @@ static inline struct nlroute_value nlroute_flags(uint16_t kind, uint32_t flags, 
     return value;
 }
 
+/*
+ * Two numbers: a priority and the one that it is mapped to, a VLAN ID and its flags, or the counters txerr and rxerr.
+ */
+static inline struct nlroute_value nlroute_pair(uint16_t kind, uint32_t number, uint32_t second)
+{
+    struct nlroute_value value = nlroute_number(kind, number);
+    value.second = second;
+    return value;
+}
+
+/* A bridge ID: the priority, and the address, which has 6 octets. */
+static inline struct nlroute_value nlroute_bridge_id(uint16_t kind, uint16_t priority, const void *address)
+{
+    struct nlroute_value value = nlroute_number(kind, priority);
+    memcpy(value.octets, address, 6);
+    value.length = 8;
+    return value;
+}
+
 /* A MAC, IPv4 or IPv6 address: 6, 4 or 16 octets. */
 static inline struct nlroute_value nlroute_address(uint16_t kind, const void *octets, uint32_t length)
 {
@@ -409,12 +428,13 @@ ptrdiff_t nlroute_kind_name(uint32_t family, const struct nlroute_value *value, 
  * "02:00:00:00:00:01", "flags GVRP mask GVRP", "freq 8000000 Hz". For an element it is the text of the element only:
  * "120 ohm", "10.0.0.1". It is "" for a list and for NLROUTE_FORM_EMPTY, and "hex dead" for NLROUTE_FORM_UNKNOWN.
  *
- * The field form selects the fields that are written. The fields kind, inner and depth select the unit of a number,
+ * The field form selects the fields that are written; NLROUTE_FORM_OF_KIND stands for that of the attribute type, so
+ * what nlroute_write() is going to write can be printed. The fields kind, inner and depth select the unit of a number,
  * the names of numbers and bits, and the width of a set of flags, all of whose bits are "all". The len bytes at octets
- * are the list that the value was read from.
+ * are those that the value refers to, such as the list that it was read from.
  *
  * Returns the first of these that applies, for a value of nlroute_values() none:
- * - NLROUTE_BAD_FORM if form is NLROUTE_FORM_OF_KIND, or not one of enum nlroute_form;
+ * - NLROUTE_BAD_FORM if form is not one of enum nlroute_form, or NLROUTE_FORM_OF_KIND and the type is not known;
  * - NLROUTE_BAD_NUMBER if the attribute cannot hold number or second: a boolean is 0 or 1, a VLAN protocol 0x8100 or
  *   0x88A8, a VLAN ID, its flags, a priority or an error counter less than 65536, flags with a mask, a priority that is
  *   mapped, or a frequency less than 2^32;
@@ -439,6 +459,62 @@ ptrdiff_t nlroute_number_name(uint32_t family, const struct nlroute_value *value
  * Returns NLROUTE_ABSENT if and only if the bit has no name.
  */
 ptrdiff_t nlroute_flag_name(uint32_t family, const struct nlroute_value *value, uint32_t bit, char *text, size_t room);
+
+/*
+ * What is known of attribute sets and attribute types. The functions below do not depend on a list, and do not allocate.
+ * A name is len bytes, without a NUL.
+ */
+
+/* What values of an attribute type hold, and how it is written. */
+struct nlroute_row {
+    uint32_t width;  /* how many bytes hold every number of the type, or each of its two; the length of an address, 8 for
+                        NLROUTE_FORM_BRIDGE_ID, or that of the bytes at offset. 0 if there are none, or any number */
+    uint16_t flags;  /* flags of nla_type that nlroute_write() writes: NLA_F_NESTED for some lists; else 0 */
+    uint8_t form;    /* an nlroute_form; NLROUTE_FORM_UNKNOWN if the type is not known */
+    uint8_t is_list; /* 1 if elements follow, else 0 */
+}; /* 8 bytes, without padding */
+
+/*
+ * Stores in *row what values of type `kind` hold if depth is 0, or those of their element `inner` if depth is 1, and
+ * returns 0. An address of a list or a number of an array may have any index.
+ *
+ * Returns NLROUTE_BAD_ELEMENT if and only if depth is 1 and the values have no elements, or if depth is greater; *row is
+ * then unchanged.
+ */
+NLROUTE_MUST_USE
+ptrdiff_t nlroute_row(uint32_t family, uint16_t kind, uint16_t inner, uint8_t depth, struct nlroute_row *row);
+
+/*
+ * Returns the least attribute type with a name, such as "IFLA_BR_FORWARD_DELAY"; nlroute_kind_of_in() that of an element
+ * in nested lists of type `list`. Each compares the names of up to 16384 types: call it once for a name.
+ *
+ * Returns NLROUTE_ABSENT if and only if no type has the name.
+ */
+NLROUTE_MUST_USE
+ptrdiff_t nlroute_kind_of(uint32_t family, const char *name, size_t len);
+NLROUTE_MUST_USE
+ptrdiff_t nlroute_kind_of_in(uint32_t family, uint16_t list, const char *name, size_t len);
+
+/*
+ * Stores the number of an enum, or the set with the bit, that has a name, such as "802.3ad" or "LACP_ACTIVITY", in
+ * *number, and returns 0. The fields kind, inner and depth of the value select the type, as for nlroute_number_name().
+ *
+ * Returns NLROUTE_ABSENT if and only if no number of the type has the name; *number is then unchanged.
+ */
+NLROUTE_MUST_USE
+ptrdiff_t nlroute_number_of(uint32_t family, const struct nlroute_value *value, const char *name, size_t len,
+                            uint64_t *number);
+
+/*
+ * Stores the name of an attribute set, such as "bridge", as described under "Texts" above. nlroute_family_of() returns
+ * the number of the set with a name, or NLROUTE_NO_FAMILY if there is none. The programs take these names.
+ */
+ptrdiff_t nlroute_family_name(uint32_t family, char *text, size_t room);
+NLROUTE_MUST_USE
+ptrdiff_t nlroute_family_of(const char *name, size_t len);
+
+/* Stores what nlroute_refusal_text() returns, as described under "Texts" above: for programs that load the library. */
+ptrdiff_t nlroute_code_text(ptrdiff_t code, char *text, size_t room);
 
 /*
  * Checks whether a list is canonical: nlroute_rewrite() would output the same bytes. Returns false if the input is

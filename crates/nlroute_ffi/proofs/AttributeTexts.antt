@@ -27,12 +27,12 @@ use Rattle.netlink_packet_route.specs.declared.family.Family.{Family}
 use Rattle.netlink_packet_route.specs.Family.{table_of}
 use Rattle.netlink_packet_route.proofs.Families.{families_formed}
 use Rattle.link_show.specs.Value.{Label, form_in, other_text, value_text as shown_value}
-use Rattle.link_flat.specs.declared.entry.Entry.{Entry}
-use Rattle.link_flat.specs.Forms.{form_ipv4, form_ipv6}
-use Rattle.link_flat.specs.Entry.{blank, padded}
-use Rattle.link_flat.specs.Content.{filled}
-use Rattle.link_flat.specs.Flat.{HasContent, IsElement, IsGroup, Flat, head_entry, number_entry, address_entry}
-use Rattle.link_flat.proofs.EntryFields.{Keeps, keeps_filled}
+use Rattle.link_entries.specs.declared.entry.Entry.{Entry}
+use Rattle.link_entries.specs.Forms.{form_ipv4, form_ipv6}
+use Rattle.link_entries.specs.Entry.{blank, padded}
+use Rattle.link_entries.specs.Content.{filled}
+use Rattle.link_entries.specs.Flat.{HasContent, IsElement, IsGroup, Flat, head_entry, number_entry, address_entry}
+use Rattle.link_entries.proofs.EntryFields.{Keeps, keeps_filled}
 use Rattle.nlroute_ffi.specs.Names.{label_for, has_indices, holds_indices}
 use Rattle.nlroute_ffi.specs.ValueText.{holds_unsigned, holds_numbers, has_octets, entry_text, label_or_plain, label_with, octets_of, value_text}
 use Rattle.nlroute_ffi.specs.Shown.{has_numbers, IsTextOf, HasText, IsAt, HeadHasText, HeadIsTold}

@@ -32,10 +32,10 @@ use Rattle.link_base.proofs.ClassLemmas.{exactly, size_reached}
 use Rattle.link_base.proofs.Values.{meant_in_range, bytes-take}
 use Rattle.link_show.specs.Structs.{fields_text, masked_text}
 use Rattle.link_show.specs.Value.{Label, names_of, content_text}
-use Rattle.link_flat.specs.declared.entry.Entry.{Entry}
-use Rattle.link_flat.specs.Entry.{padded}
-use Rattle.link_flat.specs.Content.{word, filled}
-use Rattle.link_write.proofs.BackValues.{padded_back}
+use Rattle.link_entries.specs.declared.entry.Entry.{Entry}
+use Rattle.link_entries.specs.Entry.{padded}
+use Rattle.link_entries.specs.Content.{word, filled}
+use Rattle.link_entries.proofs.BackValues.{padded_back}
 use Rattle.nlroute_ffi.specs.ValueText.{two_bytes, lent, octets_of, entry_by}
 use Rattle.nlroute_ffi.specs.Shown.{has_numbers}
 use Rattle.nlroute_ffi.proofs.StructTexts.{struct_shown}

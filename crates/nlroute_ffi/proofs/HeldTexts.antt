@@ -21,11 +21,11 @@ use Rattle.link_base.specs.Borrowed.{Borrows, IsAccepted, form_of}
 use Rattle.link_base.specs.Protocol.{protocol_number}
 use Rattle.link_base.proofs.ClassLemmas.{size_reached}
 use Rattle.link_base.proofs.Values.{bytes-take}
-use Rattle.link_flat.specs.declared.entry.Entry.{Entry}
-use Rattle.link_flat.specs.Forms.{form_unsigned, form_masked, form_bridge_id, form_vlan_info, form_berr_counter, form_bittiming}
-use Rattle.link_flat.specs.Entry.{padded}
-use Rattle.link_flat.specs.Content.{whole, with_struct, filled}
-use Rattle.link_write.proofs.BackValues.{at_below, be_number}
+use Rattle.link_entries.specs.declared.entry.Entry.{Entry}
+use Rattle.link_entries.specs.Forms.{form_unsigned, form_masked, form_bridge_id, form_vlan_info, form_berr_counter, form_bittiming}
+use Rattle.link_entries.specs.Entry.{padded}
+use Rattle.link_entries.specs.Content.{whole, with_struct, filled}
+use Rattle.link_entries.proofs.BackValues.{at_below, be_number}
 use Rattle.nlroute_ffi.specs.ValueText.{is_form, holds_named, holds_numbers, has_octets}
 use Rattle.nlroute_ffi.proofs.StructTexts.{whole_is}
 use Rattle.nlroute_ffi.proofs.EntryTexts.{own_form, own_is, by_class, AtStart, at_start}

@@ -22,7 +22,7 @@ use Rattle.link_base.specs.Borrowed.{elements_by, elements_at}
 use Rattle.netlink_packet_route.specs.declared.family.Family.{Family}
 use Rattle.netlink_packet_route.specs.Family.{table_of}
 use Rattle.netlink_packet_route.proofs.Families.{each_family}
-use Rattle.link_flat.specs.declared.entry.Entry.{Entry}
+use Rattle.link_entries.specs.declared.entry.Entry.{Entry}
 use Rattle.link_show.specs.Text.{joined, hex_number}
 use Rattle.link_show.specs.Number.{beside}
 use Rattle.link_show.specs.Flags.{named_text, enum_text, set_names, unnamed, last_word, flag_words, is_all, flags_text}

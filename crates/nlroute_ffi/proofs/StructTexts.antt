@@ -11,11 +11,11 @@ use Rattle.link_base.specs.Layout.{number_at}
 use Rattle.link_base.specs.Class.{size_of}
 use Rattle.link_base.specs.Forms.{layout_extent}
 use Rattle.link_base.proofs.Values.{bytes-take}
-use Rattle.link_flat.specs.declared.entry.Entry.{Entry}
-use Rattle.link_flat.specs.Forms.{form_unsigned, form_masked, form_bridge_id, form_vlan_info, form_berr_counter, form_bittiming, form_bytes}
-use Rattle.link_flat.specs.Entry.{padded}
-use Rattle.link_flat.specs.Content.{whole, with_struct}
-use Rattle.link_write.proofs.BackValues.{at_back, padded_back, be_number}
+use Rattle.link_entries.specs.declared.entry.Entry.{Entry}
+use Rattle.link_entries.specs.Forms.{form_unsigned, form_masked, form_bridge_id, form_vlan_info, form_berr_counter, form_bittiming, form_bytes}
+use Rattle.link_entries.specs.Entry.{padded}
+use Rattle.link_entries.specs.Content.{whole, with_struct}
+use Rattle.link_entries.proofs.BackValues.{at_back, padded_back, be_number}
 use Rattle.link_show.specs.Value.{Label, content_text}
 use Rattle.nlroute_ffi.specs.ValueText.{lent, octets_of, entry_by}
 

@@ -5,11 +5,11 @@ use Rattle.std.specs.Prelude.{IsOk, OnOk}
 use Rattle.link_base.specs.declared.rows.form.Form.{Form}
 use Rattle.netlink_packet_route.specs.declared.family.Family.{Family}
 use Rattle.link_show.specs.Value.{Label, form_in}
-use Rattle.link_flat.specs.declared.entry.Entry.{Entry}
+use Rattle.link_entries.specs.declared.entry.Entry.{Entry}
 use Rattle.nlroute_ffi.specs.declared.refusal.Refusal.{Refusal}
 use Rattle.nlroute_ffi.specs.declared.refusal.Refusal.TheVariants.{BadForm, BadNumber, BadOctets}
 use Rattle.nlroute_ffi.specs.Buffers.{StoresText}
-use Rattle.nlroute_ffi.specs.ValueText.{is_form, holds_numbers, is_lent, has_size, octets_of, LendsOctets, LendsNone, TextAnswers, entry_text, label_with}
+use Rattle.nlroute_ffi.specs.ValueText.{is_form, holds_numbers, is_lent, has_size, octets_of, LendsOctets, LendsNone, ToldAnswers, entry_text, label_with}
 
 -- what holds if a result is `Ok`, and it is
 pub on_ok : {T E P : Type 0} (r : Result T E) → IsOk r → OnOk r P → P
@@ -28,7 +28,7 @@ octets_lent form e octets n is holds sized lent within same = (
 
 -- the text of an entry
 pub text_answered : (family : Family) (e : Entry) (octets p : List ℕ) (label : Label) (old new : List ℕ) (n : ℕ) → LendsOctets (form_in label) e octets p → label ≡ label_with family e → StoresText (entry_text label e p) old new n
-    → TextAnswers e octets old new family (Ok n)
+    → ToldAnswers e octets old new family (Ok n)
 text_answered family e octets p label old new n lends is h = (
   lends.0,
   subst (λ l. holds_numbers (form_in l) e ≡ true) is lends.1,
@@ -37,7 +37,7 @@ text_answered family e octets p label old new n lends is h = (
 )
 
 -- or why it has none
-pub text_refused : (family : Family) (e : Entry) (octets : List ℕ) (label : Label) (old new : List ℕ) (refusal : Refusal) → LendsNone (form_in label) e octets refusal → label ≡ label_with family e → TextAnswers e octets old new family (Err refusal)
+pub text_refused : (family : Family) (e : Entry) (octets : List ℕ) (label : Label) (old new : List ℕ) (refusal : Refusal) → LendsNone (form_in label) e octets refusal → label ≡ label_with family e → ToldAnswers e octets old new family (Err refusal)
 text_refused family e octets label old new BadForm none is = none
 text_refused family e octets label old new BadNumber none is = (none.0, subst (λ l. holds_numbers (form_in l) e ≡ false) is none.1)
 text_refused family e octets label old new BadOctets none is = (none.0, subst (λ l. holds_numbers (form_in l) e ≡ true) is none.1, none.2)

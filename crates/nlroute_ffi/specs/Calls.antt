@@ -11,9 +11,9 @@ use Rattle.netlink_packet_route.specs.declared.link.RewriteError.TheVariants as 
 use Rattle.netlink_packet_route.specs.Family.{family_number, table_of}
 use Rattle.netlink_packet_route.specs.Rewrite.{StandsInFront, Rewrites, HasNoRoom}
 use Rattle.netlink_packet_route.specs.Report.{Reports}
-use Rattle.link_flat.specs.declared.entry.Entry.{Entry}
-use Rattle.link_flat.specs.Flat.{Flat}
-use Rattle.link_flat.specs.Finding.{Finds, FindsIn}
+use Rattle.link_entries.specs.declared.entry.Entry.{Entry}
+use Rattle.link_entries.specs.Flat.{Flat}
+use Rattle.link_entries.specs.Finding.{Finds, FindsIn}
 use Rattle.nlroute_ffi.specs.declared.refusal.Refusal.{Refusal}
 use Rattle.nlroute_ffi.specs.declared.refusal.Refusal.TheVariants.{Fault, TooLong, Memory, NoRoom, NoFamily, Absent}
 use Rattle.nlroute_ffi.specs.Numbers.{code_of}

@@ -4,6 +4,7 @@ pub mod Timing
 pub mod Error
 pub mod Buffers
 pub mod Names
+pub mod Lookup
 pub mod ErrorText
 pub mod ValueText
 pub mod Writing

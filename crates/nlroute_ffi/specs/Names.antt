@@ -10,7 +10,7 @@ use Rattle.netlink_packet_route.specs.declared.family.Family.{Family}
 use Rattle.netlink_packet_route.specs.Family.{table_of}
 use Rattle.link_show.specs.Value.{Label, form_in, names_of}
 use Rattle.link_show.specs.Fault.{kind_text}
-use Rattle.link_flat.specs.declared.entry.Entry.{Entry}
+use Rattle.link_entries.specs.declared.entry.Entry.{Entry}
 use Rattle.nlroute_ffi.specs.declared.refusal.Refusal.{Refusal}
 use Rattle.nlroute_ffi.specs.Buffers.{Stores, NameAnswers}
 

@@ -11,7 +11,7 @@ use Rattle.link_show.specs.List.{HasContent, label_for}
 use Rattle.link_messages.specs.Walk.{Item}
 use Rattle.netlink_packet_route.specs.declared.family.Family.{Family}
 use Rattle.netlink_packet_route.specs.Family.{table_of}
-use Rattle.link_flat.specs.declared.entry.Entry.{Entry}
+use Rattle.link_entries.specs.declared.entry.Entry.{Entry}
 use Rattle.nlroute_ffi.specs.ValueText.{is_form, holds_numbers, has_octets, label_with}
 use Rattle.nlroute_ffi.specs.ValueText.{value_text as entry_text}
 

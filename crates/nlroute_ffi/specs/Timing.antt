@@ -6,9 +6,9 @@ use Rattle.link_base.specs.declared.rows.form.Layout.TheVariants as layouts
 use Rattle.link_base.specs.Forms.{fields_of}
 use Rattle.link_base.specs.Fields.{PartValue, PartNumber, PartOctets, part_at}
 use Rattle.link_base.specs.Name.{before_nul}
-use Rattle.link_flat.specs.declared.entry.Entry.{Entry}
-use Rattle.link_flat.specs.Forms.{form_bittiming, form_bittiming_const}
-use Rattle.link_flat.specs.Entry.{padded}
+use Rattle.link_entries.specs.declared.entry.Entry.{Entry}
+use Rattle.link_entries.specs.Forms.{form_bittiming, form_bittiming_const}
+use Rattle.link_entries.specs.Entry.{padded}
 use Rattle.nlroute_ffi.specs.declared.refusal.Refusal.{Refusal}
 use Rattle.nlroute_ffi.specs.declared.refusal.Refusal.TheVariants.{BadForm, BadOctets}
 use Rattle.nlroute_ffi.specs.declared.timing.BitTiming.{BitTiming}

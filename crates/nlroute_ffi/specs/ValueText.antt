@@ -22,8 +22,11 @@ use Rattle.link_bridge.specs.BooleanOptions.{option_bit_names}
 use Rattle.netlink_packet_route.specs.declared.family.Family.{Family}
 use Rattle.link_show.specs.Structs.{four_bytes}
 use Rattle.link_show.specs.Value.{Label, form_in, names_of, content_text, other_text}
-use Rattle.link_flat.specs.declared.entry.Entry.{Entry}
-use Rattle.link_flat.specs.Forms.{form_bool, form_unsigned, form_signed, form_named, form_flags, form_masked, form_mac, form_ipv4, form_ipv6, form_bridge_id, form_vlan_info, form_qos_mapping, form_berr_counter, form_bittiming, form_bittiming_const, form_bytes, form_unknown}
+use Rattle.netlink_packet_route.specs.Family.{table_of}
+use Rattle.link_entries.specs.declared.row.Row.{Row}
+use Rattle.link_entries.specs.Rows.{row_of_type}
+use Rattle.link_entries.specs.declared.entry.Entry.{Entry}
+use Rattle.link_entries.specs.Forms.{form_bool, form_unsigned, form_signed, form_named, form_flags, form_masked, form_mac, form_ipv4, form_ipv6, form_bridge_id, form_vlan_info, form_qos_mapping, form_berr_counter, form_bittiming, form_bittiming_const, form_bytes, form_unknown}
 use Rattle.nlroute_ffi.specs.declared.refusal.Refusal.{Refusal}
 use Rattle.nlroute_ffi.specs.declared.refusal.Refusal.TheVariants.{BadForm, BadNumber, BadOctets}
 use Rattle.nlroute_ffi.specs.Buffers.{StoresText}
@@ -259,8 +262,20 @@ label_with family e = label_or_plain (label_for family e)
 abbrev pub value_text : Family → Entry → List ℕ → List ℕ
 value_text family e octets = entry_text (label_with family e) e (octets_of e octets)
 
--- the buffer has the text; or why not
-abbrev pub TextAnswers : Entry → List ℕ → List ℕ → List ℕ → Family → Result ℕ Refusal → Type 0
-TextAnswers e octets old new family (Ok n) =
+-- the buffer has the text of an entry that has a form; or why not
+abbrev pub ToldAnswers : Entry → List ℕ → List ℕ → List ℕ → Family → Result ℕ Refusal → Type 0
+ToldAnswers e octets old new family (Ok n) =
     (is_form e.form ≡ true) × (holds_numbers (form_in (label_with family e)) e ≡ true) × (has_octets e octets ≡ true) × StoresText (value_text family e octets) old new n
-TextAnswers e octets old new family (Err refusal) = LendsNone (form_in (label_with family e)) e octets refusal
+ToldAnswers e octets old new family (Err refusal) = LendsNone (form_in (label_with family e)) e octets refusal
+
+-- the form of the entries of a type, if it has a row
+abbrev pub row_form : Option Row → ℕ
+row_form None = 0
+row_form (Some row) = if row.form == form_unknown then 0 else row.form
+
+-- an entry whose form is given: 0 stands for that of its type
+abbrev pub with_form : Family → Entry → Entry
+with_form family e = if e.form == 0 then record e { form = row_form (row_of_type (table_of family) e.kind e.inner e.depth) } else e
+
+abbrev pub TextAnswers : Entry → List ℕ → List ℕ → List ℕ → Family → Result ℕ Refusal → Type 0
+TextAnswers e octets old new family result = ToldAnswers (with_form family e) octets old new family result

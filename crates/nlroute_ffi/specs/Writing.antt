@@ -3,10 +3,10 @@ use Rattle.std.specs.Prelude.{◌≡◌, ℕ, ◌<◌, ◌≤◌, ◌^◌, List,
 use Rattle.netlink_packet_route.specs.declared.family.Family.{Family}
 use Rattle.netlink_packet_route.specs.Family.{table_of}
 use Rattle.netlink_packet_route.specs.Rewrite.{StandsInFront}
-use Rattle.link_flat.specs.declared.entry.Entry.{Entry}
-use Rattle.link_write.specs.declared.misfit.Misfit.{Misfit}
-use Rattle.link_write.specs.declared.misfit.Misfit.TheVariants as misfits
-use Rattle.link_write.specs.Spelled.{Spelling, spelled_by}
+use Rattle.link_entries.specs.declared.entry.Entry.{Entry}
+use Rattle.link_entries.specs.declared.misfit.Misfit.{Misfit}
+use Rattle.link_entries.specs.declared.misfit.Misfit.TheVariants as misfits
+use Rattle.link_entries.specs.Spelled.{Spelling, spelled_by}
 use Rattle.nlroute_ffi.specs.declared.refusal.Refusal.{Refusal}
 use Rattle.nlroute_ffi.specs.declared.refusal.Refusal.TheVariants.{TooLong, NoRoom, BadForm, BadNumber, BadElement, BadOctets}
 

@@ -9,6 +9,7 @@ mod error_text;
 mod fault;
 pub mod laws;
 mod lists;
+mod lookup;
 mod names;
 mod refusal;
 mod report;
@@ -28,6 +29,8 @@ ghost use Rattle.nlroute_ffi.specs.Error.{ErrorAnswers};
 ghost use Rattle.nlroute_ffi.specs.Timing.{AnswersWith, TimingAnswers, LimitsAnswers};
 ghost use Rattle.nlroute_ffi.specs.Buffers.{cut_text};
 ghost use Rattle.nlroute_ffi.specs.Names.{version, KindNameAnswers, NumberNameAnswers, FlagNameAnswers};
+ghost use Rattle.nlroute_ffi.specs.Lookup.{FamilyNameAnswers, FamilyOfAnswers, KindOfAnswers, KindOfInAnswers};
+ghost use Rattle.nlroute_ffi.specs.Lookup.{RowAnswers, NumberOfAnswers, CodeTextAnswers};
 ghost use Rattle.nlroute_ffi.specs.ValueText.{TextAnswers};
 ghost use Rattle.nlroute_ffi.specs.ErrorText.{ErrorTextAnswers};
 ghost use Rattle.nlroute_ffi.specs.Writing.{WriteAnswers, MeasureAnswers};
@@ -36,15 +39,16 @@ use crate::buffers::refuse;
 use crate::error_text::store_error_text;
 use crate::fault::{FirstError, store_error};
 use crate::lists::{count, rewrite, rewrite_each};
+use crate::lookup::{family_of, kind_of, number_of, store_family_name, store_row};
 use crate::names::{store_flag_name, store_kind_name, store_number_name};
-use crate::refusal::{Refusal, answer_of};
+use crate::refusal::{Refusal, answer_of, store_code_text};
 use crate::report::report_into;
 use crate::timing::{BitTiming, TimingLimits, bit_timing, timing_limits};
 use crate::value_text::store_value_text;
 use crate::values::{count_places, find_element, find_value, store_values};
 use crate::writing::{measure_values, write_values};
-use link_flat::Entry;
-use netlink_packet_route::{Family, is_canonical};
+use link_entries::{Entry, Row};
+use netlink_packet_route::{Family, FamilyElements, FamilySet, is_canonical};
 use std::alloc::Global;
 
 /// `NLROUTE_VERSION` of the header.
@@ -299,11 +303,11 @@ pub extern "C" fn nlroute_kind_name(family: u32, value: &Entry, out: &mut [u8]) 
 }
 
 /// Stores the text of `value` in `out`, as far as there is room before a NUL, and the NUL. `octets` are the bytes of
-/// the list. Returns the length of the whole text, at most `isize::MAX`. Does not allocate.
+/// the list; the form 0 stands for that of the attribute type. Returns the length of the whole text, at most `isize::MAX`. Does not allocate.
 ///
 /// # Errors
 ///
-/// -5 if `family` is not the number of a `Family`; otherwise the first that applies: -7 if `value` has no form, -8 if its
+/// -5 if `family` is not the number of a `Family`; otherwise the first that applies: -7 if `value` has no form, or the form 0 and a type without a row, -8 if its
 /// attribute cannot hold its numbers, -10 if its octets have a wrong length or are not within `octets`. Then `out` has the
 /// empty text.
 #[unsafe(no_mangle)]
@@ -349,6 +353,113 @@ pub extern "C" fn nlroute_flag_name(family: u32, value: &Entry, bit: u32, out: &
         Some(family) => answer_of(store_flag_name(family, value, bit, out)),
         None => answer_of(refuse(Refusal::NoFamily, out)),
     }
+}
+
+/// Stores the name of the attribute set in `out`, as far as there is room before a NUL, and the NUL, such as `bridge`.
+/// Returns the length of the whole name. Does not allocate.
+///
+/// # Errors
+///
+/// -5 if `family` is not the number of a `Family`. Then `out` has the empty text.
+#[unsafe(no_mangle)]
+pub extern "C" fn nlroute_family_name(family: u32, out: &mut [u8]) -> isize
+    ensures answer { AnswersBy family (FamilyNameAnswers out.old out.new) result }
+    ensures empty { result <ℤ pos 0 → out.new ≡ cut_text [] out.old }
+{
+    match Family::from_number(family) {
+        Some(family) => answer_of(store_family_name(family, out)),
+        None => answer_of(refuse(Refusal::NoFamily, out)),
+    }
+}
+
+/// Returns the number of the attribute set with this name. Does not allocate.
+///
+/// # Errors
+///
+/// -5 if there is none.
+#[unsafe(no_mangle)]
+pub extern "C" fn nlroute_family_of(name: &[u8]) -> isize
+    ensures { AnswersWith (FamilyOfAnswers name.now) result }
+{
+    answer_of(family_of(name))
+}
+
+/// Returns the least attribute type with this name, such as `IFLA_BR_FORWARD_DELAY`. Does not allocate.
+///
+/// # Errors
+///
+/// -5 if `family` is not the number of a `Family`, -6 if no type has the name.
+#[unsafe(no_mangle)]
+pub extern "C" fn nlroute_kind_of(family: u32, name: &[u8]) -> isize
+    ensures { AnswersBy family (KindOfAnswers name.now) result }
+{
+    match Family::from_number(family) {
+        Some(family) => answer_of(kind_of(FamilySet { family }, name)),
+        None => answer_of(Err(Refusal::NoFamily)),
+    }
+}
+
+/// Returns the least type of an element with this name in nested lists of type `list`. Does not allocate.
+///
+/// # Errors
+///
+/// -5 if `family` is not the number of a `Family`, -6 if no element has the name.
+#[unsafe(no_mangle)]
+pub extern "C" fn nlroute_kind_of_in(family: u32, list: u16, name: &[u8]) -> isize
+    ensures { AnswersBy family (KindOfInAnswers list name.now) result }
+{
+    match Family::from_number(family) {
+        Some(family) => answer_of(kind_of(FamilyElements { family, list }, name)),
+        None => answer_of(Err(Refusal::NoFamily)),
+    }
+}
+
+/// Stores in `row` what values of type `kind` hold, or those of its element `inner` if `depth` is 1, and returns 0. Does not
+/// allocate.
+///
+/// # Errors
+///
+/// -5 if `family` is not the number of a `Family`, -9 if values of the type have no elements, or `depth` is greater than 1. On
+/// error `row` is unchanged.
+#[unsafe(no_mangle)]
+pub extern "C" fn nlroute_row(family: u32, kind: u16, inner: u16, depth: u8, row: &mut Row) -> isize
+    ensures answer { AnswersBy family (RowAnswers kind inner depth row.new) result }
+    ensures unchanged { result <ℤ pos 0 → row.new ≡ row.old }
+{
+    match Family::from_number(family) {
+        Some(family) => answer_of(store_row(family, kind, inner, depth, row)),
+        None => answer_of(Err(Refusal::NoFamily)),
+    }
+}
+
+/// Stores in `number` the first number, or bit, of the type of `value` that has this name, and returns 0. Does not allocate.
+///
+/// # Errors
+///
+/// -5 if `family` is not the number of a `Family`, -6 if there is none. On error `number` is unchanged.
+#[unsafe(no_mangle)]
+pub extern "C" fn nlroute_number_of(
+    family: u32,
+    value: &Entry,
+    name: &[u8],
+    number: &mut u64,
+) -> isize
+    ensures answer { AnswersBy family (NumberOfAnswers value.now name.now number.new) result }
+    ensures unchanged { result <ℤ pos 0 → number.new ≡ number.old }
+{
+    match Family::from_number(family) {
+        Some(family) => answer_of(number_of(family, value, name, number)),
+        None => answer_of(Err(Refusal::NoFamily)),
+    }
+}
+
+/// Stores the meaning of an error code in words in `out`, as far as there is room before a NUL, and the NUL. Returns the
+/// length of the whole text. Does not allocate.
+#[unsafe(no_mangle)]
+pub extern "C" fn nlroute_code_text(code: isize, out: &mut [u8]) -> isize
+    ensures { AnswersWith (CodeTextAnswers code out.old out.new) result }
+{
+    answer_of(store_code_text(code, out))
 }
 
 /// Stores the text of an error in `out`, as far as there is room before a NUL, and the NUL, such as `error at 8:

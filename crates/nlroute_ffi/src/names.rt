@@ -14,7 +14,7 @@ use itoa::Buffer;
 use link_base::rows::form::Form;
 use link_base::rows::label::KindLabel;
 use link_base::views::attribute_set::AttributeSet;
-use link_flat::Entry;
+use link_entries::Entry;
 use netlink_packet_route::{Family, FamilyElements, FamilySet};
 
 /// Stores the name of the attribute type of `value`; for an address of a list or a number of an array, its index.

@@ -1,12 +1,14 @@
 //! The error codes.
 
-ghost use Rattle.std.specs.Prelude.{◌≡◌, ◌<◌, ◌^◌};
+ghost use Rattle.std.specs.Prelude.{◌≡◌, ◌≢◌, ◌<◌, ◌^◌, Err, IfOk, MatchOption};
 ghost use Rattle.std.specs.Result.{ForOk};
 ghost use Rattle.nlroute_ffi.specs.Numbers.{code_of};
 ghost use Rattle.nlroute_ffi.specs.Calls.{refusal_of};
+ghost use Rattle.nlroute_ffi.specs.Lookup.{refusal_words, CodeTextAnswers};
 ghost use Rattle.nlroute_ffi.specs.Writing.{refusal_for};
 
-use link_write::Misfit;
+use crate::buffers::store;
+use link_entries::Misfit;
 use netlink_packet_route::RewriteError;
 
 /// Why a function returns no length and no count.
@@ -76,4 +78,55 @@ pub(crate) fn answer_of(outcome: Result<usize, Refusal>) -> isize
         Err(Refusal::BadElement) => -9,
         Err(Refusal::BadOctets) => -10,
     }
+}
+
+/// Returns the `Refusal` with this error code; `None` if there is none.
+fn refusal_with(code: isize) -> Option<Refusal>
+    ensures { MatchOption result ((refusal : Refusal) → code ≢ code_of (Err refusal))
+        (λ refusal. code ≡ code_of (Err refusal)) }
+{
+    match code {
+        -1 => Some(Refusal::Fault),
+        -2 => Some(Refusal::TooLong),
+        -3 => Some(Refusal::Memory),
+        -4 => Some(Refusal::NoRoom),
+        -5 => Some(Refusal::NoFamily),
+        -6 => Some(Refusal::Absent),
+        -7 => Some(Refusal::BadForm),
+        -8 => Some(Refusal::BadNumber),
+        -9 => Some(Refusal::BadElement),
+        -10 => Some(Refusal::BadOctets),
+        _ => None,
+    }
+}
+
+/// Returns the meaning of an error in words, as `nlroute_refusal_text` of the header.
+fn refusal_words(refusal: Refusal) -> &'static str
+    ensures { result.now ≡ refusal_words refusal }
+{
+    match refusal {
+        Refusal::Fault => "the list is malformed",
+        Refusal::TooLong => "a value does not fit in an attribute",
+        Refusal::Memory => "an allocation failed",
+        Refusal::NoRoom => "the buffer is too small",
+        Refusal::NoFamily => "no attribute set has this number",
+        Refusal::Absent => "there is no such attribute, element, name or error",
+        Refusal::BadForm => "the value has another form",
+        Refusal::BadNumber => "the attribute cannot hold the number",
+        Refusal::BadElement => "an element does not follow its list",
+        Refusal::BadOctets => "the bytes of the value are not in the input, or have a wrong length",
+    }
+}
+
+/// Stores the meaning of an error code in words. Returns their length.
+pub(crate) fn store_code_text(code: isize, buffer: &mut [u8]) -> Result<usize, Refusal>
+    ensures answer { CodeTextAnswers code buffer.old buffer.new result }
+    ensures bounded { IfOk result (λ n. n < 2 ^ 63) }
+{
+    let words = match refusal_with(code) {
+        Some(refusal) => refusal_words(refusal),
+        None if code < 0 => "unknown error",
+        None => "no error",
+    };
+    Ok(store(words.as_bytes(), buffer))
 }

@@ -1,5 +1,6 @@
 //! Tests of what no contract covers: that allocations succeed, and each result for inputs that were computed by hand.
 
+mod asking;
 mod writing;
 
 use crate::fault::FirstError;
@@ -10,7 +11,7 @@ use crate::{
     nlroute_kind_name, nlroute_number_name, nlroute_places, nlroute_report, nlroute_rewrite,
     nlroute_rewrite_streaming, nlroute_text, nlroute_values, nlroute_version,
 };
-use link_flat::Entry;
+use link_entries::Entry;
 use std::process::Abort;
 
 /// `IFLA_DSA_CONDUIT` 42, and an attribute of type 2, which DSA does not have. Of the two nested flags, only that of

@@ -5,8 +5,8 @@ ghost use Rattle.nlroute_ffi.specs.Timing.{RefersTo, RefersNot, referred, Timing
 
 use crate::refusal::Refusal;
 use link_base::before_nul;
-use link_flat::octets::padded;
-use link_flat::{Entry, forms};
+use link_entries::octets::padded;
+use link_entries::{Entry, forms};
 use netlink_packet_route::implementing::u32s_at;
 
 /// Length of a `struct can_bittiming` in bytes.

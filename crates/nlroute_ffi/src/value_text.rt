@@ -10,7 +10,7 @@ ghost use Rattle.link_show.specs.Structs.{four_bytes};
 ghost use Rattle.link_show.specs.Value.{Label, content_text};
 ghost use Rattle.nlroute_ffi.specs.Buffers.{cut_text};
 ghost use Rattle.nlroute_ffi.specs.ValueText.{holds_numbers, holds_unsigned, holds_named, has_size};
-ghost use Rattle.nlroute_ffi.specs.ValueText.{label_or_plain, is_lent, LendsOctets, LendsNone, TextAnswers};
+ghost use Rattle.nlroute_ffi.specs.ValueText.{label_or_plain, is_lent, LendsOctets, LendsNone, ToldAnswers, TextAnswers, with_form};
 ghost use Rattle.nlroute_ffi.specs.ValueText.{unsigned_form, named_form, masked_form, bytes_form, flags_width, text_form};
 ghost use Rattle.nlroute_ffi.specs.ValueText.{own_names, vlan_names, option_names, text_names};
 ghost use Rattle.nlroute_ffi.specs.ValueText.{two_bytes, held, struct_bytes, content_of, text_as, entry_text};
@@ -26,7 +26,7 @@ use link_base::rows::label::{KindLabel, Name, Quantity};
 use link_base::views::content::Content;
 use link_base::{VlanProtocol, before_nul};
 use link_bridge::{BridgeBooleanOptionFlags, BridgeVlanInfoFlags};
-use link_flat::{Entry, forms};
+use link_entries::{Entry, forms, row_for};
 use link_show::{Sink, Words, write_content};
 use netlink_packet_route::Family;
 use std::net::{Ipv4Addr, Ipv6Addr};
@@ -55,7 +55,7 @@ impl Words for ValueWords<'_> {
     }
 }
 
-/// Stores the text of a value of a list of `family`, whose bytes are `octets`.
+/// Stores the text of a value of a list of `family`, whose bytes are `octets`. The form 0 stands for that of its type.
 ///
 /// # Errors
 ///
@@ -68,6 +68,38 @@ pub(crate) fn store_value_text(
     buffer: &mut [u8],
 ) -> Result<usize, Refusal>
     ensures answer { TextAnswers value.now octets.now buffer.old buffer.new family result }
+    ensures bounded { IfOk result (λ n. n < 2 ^ 63) }
+    ensures empty { OnErr result (buffer.new ≡ cut_text [] buffer.old) }
+{
+    store_told_text(family, &with_form(family, value), octets, buffer)
+}
+
+/// Returns the entry, with the form of its type if it has none.
+fn with_form(family: Family, value: &Entry) -> Entry
+    ensures { result ≡ with_form family value.now }
+{
+    if value.form != 0 {
+        return *value;
+    }
+    let form = match row_for(family, value.kind, value.inner, value.depth) {
+        Some(row) if row.form != forms::UNKNOWN => row.form,
+        _ => 0,
+    };
+    Entry { form, ..*value }
+}
+
+/// Stores the text of a value that has a form.
+///
+/// # Errors
+///
+/// As for `store_value_text`.
+fn store_told_text(
+    family: Family,
+    value: &Entry,
+    octets: &[u8],
+    buffer: &mut [u8],
+) -> Result<usize, Refusal>
+    ensures answer { ToldAnswers value.now octets.now buffer.old buffer.new family result }
     ensures bounded { IfOk result (λ n. n < 2 ^ 63) }
     ensures empty { OnErr result (buffer.new ≡ cut_text [] buffer.old) }
 {

@@ -4,7 +4,7 @@ ghost use Rattle.std.specs.Prelude.{◌≡◌, ◌≤◌, ◌<◌, ◌*◌, leng
 ghost use Rattle.nlroute_ffi.specs.Calls.{PlacesAnswers, ValuesAnswers, FindAnswers, FindInAnswers};
 
 use crate::refusal::Refusal;
-use link_flat::{Entry, find, find_in, flatten};
+use link_entries::{Entry, count, find, find_in, flatten};
 use netlink_packet_route::Family;
 
 /// Counts the values of a list, and the elements of those that are lists.
@@ -16,7 +16,7 @@ pub(crate) fn count_places(family: Family, bytes: &[u8]) -> Result<usize, Refusa
     ensures answer { PlacesAnswers bytes.now family result }
     ensures bounded { IfOk result (λ n. 2 * n ≤ length bytes.now) }
 {
-    match flatten(family, bytes, &mut []) {
+    match count(family, bytes) {
         Ok(count) => Ok(count),
         Err(_) => Err(Refusal::Fault),
     }

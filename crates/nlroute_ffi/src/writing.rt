@@ -4,8 +4,7 @@ ghost use Rattle.std.specs.Prelude.{◌≡◌, ◌<◌, ◌^◌, IfOk, OnErr};
 ghost use Rattle.nlroute_ffi.specs.Writing.{WriteAnswers, MeasureAnswers};
 
 use crate::refusal::{Refusal, refused_for};
-use link_flat::Entry;
-use link_write::{measure, write};
+use link_entries::{Entry, measure, write};
 use netlink_packet_route::Family;
 
 /// The greatest length of a buffer, `PTRDIFF_MAX`.

@@ -2,7 +2,7 @@
 
 use crate::tests::{BLANK, MAPPED, TWO, holds};
 use crate::{nlroute_measure, nlroute_rewrite, nlroute_values, nlroute_write};
-use link_flat::Entry;
+use link_entries::Entry;
 
 /// Limits of a CAN controller (`IFLA_CAN_BITTIMING_CONST`) with a name that is no UTF-8, and an array of two `u16`s and one of
 /// one `u32` (`IFLA_CAN_TERMINATION_CONST`, `IFLA_CAN_BITRATE_CONST`).

@@ -1,7 +1,7 @@
 use Rattle.std.proofs.Common.{◌≡◌, ◌∙◌, refl, sym, ap, ap₂, take, slice_index_or}
 use Rattle.link_base.specs.declared.rows.form.Form.TheVariants as forms
 use Rattle.link_base.specs.Name.{before_nul}
-use Rattle.link_flat.specs.Entry.{padded}
+use Rattle.link_entries.specs.Entry.{padded}
 use Rattle.nlroute_ffi.specs.Timing.{named_fields, limit_fields}
 use Rattle.nlroute_ffi.proofs.timing.timing_limits.Goals as goal
 

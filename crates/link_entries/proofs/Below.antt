@@ -1,0 +1,53 @@
+-- What follows an attribute: elements, if it is a list.
+use Rattle.std.proofs.Common.{◌≡◌, ◌⊎◌, ℕ, ◌+◌, Bool, true, false, cond, ◌==◌, ◌&&◌, List, [], ◌∷◌, Ok, Err, refl, sym, ap, ◌∙◌, inl, inr}
+use Rattle.link_base.specs.Table.{Table}
+use Rattle.link_entries.specs.declared.entry.Entry.{Entry}
+use Rattle.link_entries.specs.declared.fields.Fields.{Fields}
+use Rattle.link_entries.specs.declared.fields.Fields.TheVariants as fields
+use Rattle.link_entries.specs.declared.misfit.Misfit.TheVariants.{BadElement, BadForm}
+use Rattle.link_entries.specs.Payload.{has_form, content_of, payload_of}
+use Rattle.link_entries.specs.Spelled.{alone, before, begins_well, element_content, element_of, elements_of}
+
+cond_same : {A : Type 0} (b : Bool) (x : A) → cond b x x ≡ x
+cond_same true x = refl
+cond_same false x = refl
+
+-- the next attribute follows at once
+pub none_below : (table : Table) (own : Fields) (k : ℕ) (octets : List ℕ) (es : List Entry) → begins_well es ≡ true → elements_of table own k octets 0 es ≡ Ok []
+none_below table own k octets [] h = refl
+none_below table own k octets (e ∷ es) h = ap (λ b. cond b (Ok []) (before (alone (element_of table own k 0 e octets)) (elements_of table own k octets (0 + 1) es))) h
+
+module _ (table : Table) (k : ℕ) (e : Entry) (octets p : List ℕ) where
+  -- an element follows an attribute that has none
+  refused : (own : Fields) (es : List Entry) → ((x : Entry) → element_content table own 0 x octets ≡ Err BadElement) → begins_well es ≡ false → elements_of table own k octets 0 es ≡ Err (0, BadElement)
+  refused own [] h deep = absurd cc
+  refused own (x ∷ xs) h deep =
+      let b = (x.depth == 1) && (x.kind == k) in
+      let here : element_of table own k 0 x octets ≡ Err BadElement = ap (λ r. cond b r (Err BadElement)) (h x) ∙ cond_same b (Err BadElement) in
+      ap (λ c. cond c (Ok []) (before (alone (element_of table own k 0 x octets)) (elements_of table own k octets (0 + 1) xs))) deep
+      ∙ ap (λ r. before (alone r) (elements_of table own k octets (0 + 1) xs)) here
+
+  -- a list has no payload of its own
+  nothing : (own : Fields) → content_of own e octets ≡ Ok [] → payload_of own e octets ≡ Ok p → p ≡ []
+  nothing own is has = by (has_form own e) (sym (ap (λ r. cond (has_form own e) r (Err BadForm)) is) ∙ has)
+    where
+      by : (b : Bool) → cond b (Ok []) (Err BadForm) ≡ Ok p → p ≡ []
+      by true same = cc
+      by false same = absurd cc
+
+  -- if elements follow, the attribute has no payload of its own, or they cannot be written
+  pub below : (own : Fields) (es : List Entry) → begins_well es ≡ false → payload_of own e octets ≡ Ok p → (p ≡ []) ⊎ (elements_of table own k octets 0 es ≡ Err (0, BadElement))
+  below (fields.Numbers w) es deep has = inl (nothing (fields.Numbers w) refl has)
+  below (fields.Addresses n) es deep has = inl (nothing (fields.Addresses n) refl has)
+  below (fields.List flag) es deep has = inl (nothing (fields.List flag) refl has)
+  below fields.Empty es deep has = inr (refused fields.Empty es (λ x. refl) deep)
+  below (fields.Number form w most) es deep has = inr (refused (fields.Number form w most) es (λ x. refl) deep)
+  below fields.Signed es deep has = inr (refused fields.Signed es (λ x. refl) deep)
+  below (fields.Shorts form second_first) es deep has = inr (refused (fields.Shorts form second_first) es (λ x. refl) deep)
+  below (fields.Words form second_first) es deep has = inr (refused (fields.Words form second_first) es (λ x. refl) deep)
+  below fields.Protocol es deep has = inr (refused fields.Protocol es (λ x. refl) deep)
+  below (fields.Address form size) es deep has = inr (refused (fields.Address form size) es (λ x. refl) deep)
+  below fields.BridgeId es deep has = inr (refused fields.BridgeId es (λ x. refl) deep)
+  below (fields.Passed form size) es deep has = inr (refused (fields.Passed form size) es (λ x. refl) deep)
+  below fields.Limits es deep has = inr (refused fields.Limits es (λ x. refl) deep)
+  below fields.Unknown es deep has = inr (refused fields.Unknown es (λ x. refl) deep)

@@ -1,0 +1,278 @@
+-- The last element of a type or index: of a nested list, of an array, and of a list of addresses.
+use Rattle.std.proofs.Common.{◌≡◌, ◌≢◌, ℕ, zero, suc, ◌+◌, ◌-◌, ◌*◌, ◌/◌, ◌<◌, ◌≤◌, ◌==◌, Bool, true, false, cond, List, [], ◌∷◌, ◌++◌, length, Option, Some, None, refl, sym, ap, ap₂, subst, ◌∙◌, ◌⊎◌, inl, inr, arith, get_or, Bor}
+use Rattle.std.specs.Option.{option_map}
+use Rattle.std.specs.List.{AllZip, filter, last_or}
+use Rattle.std.proofs.lemmas.List.{append-nil, length-append}
+use Rattle.std.proofs.lemmas.List.Elements.{filter-append}
+use Rattle.std.proofs.lemmas.Bool.{eq-eqb, ne_eqb}
+use Rattle.link_base.specs.declared.wire.buffer.NlaBuffer.{NlaBuffer}
+use Rattle.link_base.specs.declared.views.content.Content.{Content}
+use Rattle.link_base.specs.declared.views.content.Content.TheVariants as contents
+use Rattle.link_base.specs.Frame.{kind_of}
+use Rattle.link_base.specs.Buffer.{kind_field_of, payload_of, SplitsFirst}
+use Rattle.link_base.specs.Layout.{number_at, numbers_at, numbers_of}
+use Rattle.link_base.specs.Table.{Table, Shape, Addresses, class_at}
+use Rattle.link_base.specs.Borrowed.{Borrows, form_of, elements_at}
+use Rattle.link_base.proofs.ViewLemmas.{split_less}
+use Rattle.link_messages.specs.Walk.{Item, Walks, Walk}
+use Rattle.link_messages.specs.BeforeFault.{seen_of, last_item}
+use Rattle.link_messages.proofs.Walking.{walks_more, walk_unique}
+use Rattle.link_entries.specs.declared.entry.Entry.{Entry}
+use Rattle.link_entries.specs.Flat.{HasContent, indexed, number_entry, number_entries, address_entry, AreAddresses, IsElement, AreElements, Elements, IsGroup}
+use Rattle.link_entries.specs.Finding.{last_inner, IsOneElement, IsLastElement, IsElementFound}
+use Rattle.link_entries.proofs.LastAttribute.{has_kind}
+use Rattle.link_entries.proofs.EntryFields.{keeps_filled, last_seen}
+use Rattle.link_entries.proofs.Shapes.{list_payload, address_list}
+use Rattle.link_entries.proofs.OneContent.{u16s_bytes, u32s_bytes}
+use Rattle.link_entries.proofs.AddressEntries.{entry_at, entries_of, entries_more}
+use Rattle.link_entries.proofs.Unique.{one_element, one_address_list}
+
+-- whether an entry has this own type or index
+abbrev is_inner : ℕ → Entry → Bool
+is_inner i e = e.inner == i
+
+pass : {A : Type 0} (b : Bool) (o : Option A) (x : A) (xs : List A) → last_or o (cond b (x ∷ xs) xs) ≡ last_or (cond b (Some x) o) xs
+pass true o x xs = refl
+pass false o x xs = refl
+
+last_push : {A : Type 0} (o : Option A) (xs : List A) (x : A) → last_or o (xs ++ x ∷ []) ≡ Some x
+last_push o [] x = refl
+last_push o (y ∷ xs) x = last_push (Some y) xs x
+
+last_when : {A : Type 0} (b : Bool) (xs : List A) (x : A) → last_or None (xs ++ cond b (x ∷ []) []) ≡ cond b (Some x) (last_or None xs)
+last_when true xs x = last_push None xs x
+last_when false xs x = ap (last_or None) (append-nil xs)
+
+-- one entry more
+last_inner_push : (i : ℕ) (es : List Entry) (e : Entry) → last_inner i (es ++ e ∷ []) ≡ cond (e.inner == i) (Some e) (last_inner i es)
+last_inner_push i es e = ap (last_or None) (filter-append (is_inner i) es (e ∷ [])) ∙ last_when (e.inner == i) (filter (is_inner i) es) e
+
+-- ---- nested lists
+
+module _ (table : Table) (k at : ℕ) where
+  -- the entry of an element, if there is one
+  abbrev pub IsOne : Option Item → Option Entry → Type 0
+  IsOne o found = IsOneElement table k at o found
+
+  one_if : (b : Bool) (x : Item) (e : Entry) (o : Option Item) (found : Option Entry) → IsElement table k (at + (x.0 + 4)) x.1 e → IsOne o found → IsOne (cond b (Some x) o) (cond b (Some e) found)
+  one_if true x e o found is h = is
+  one_if false x e o found is h = h
+
+  one_last : (i : ℕ) (items : List Item) (es : List Entry) (o : Option Item) (found : Option Entry) → AllZip (λ x e. IsElement table k (at + (x.0 + 4)) x.1 e) items es → IsOne o found
+      → IsOne (last_or o (filter (has_kind i) items)) (last_or found (filter (is_inner i) es))
+  one_last i [] [] o found h is = is
+  one_last i [] (e ∷ es) o found h is = absurd h
+  one_last i (x ∷ items) [] o found h is = absurd h
+  one_last i (x ∷ items) (e ∷ es) o found h is =
+      let (content, has, built) = h.0 in
+      let inner : e.inner ≡ kind_of (kind_field_of x.1) = ap (λ d. d.inner) built ∙ (keeps_filled (kind_field_of x.1) content 0 _).inner in
+      let test : is_inner i e ≡ has_kind i x = ap (λ n. n == i) inner in
+      let b = has_kind i x in
+      let rest = one_last i items es (cond b (Some x) o) (cond b (Some e) found) h.1 (one_if b x e o found h.0 is) in
+      let entries : last_or found (filter (is_inner i) (e ∷ es)) ≡ last_or (cond b (Some e) found) (filter (is_inner i) es) =
+      ap (λ c. last_or found (cond c (e ∷ filter (is_inner i) es) (filter (is_inner i) es))) test ∙ pass b found e (filter (is_inner i) es) in
+      subst (λ z. IsOne z (last_or found (filter (is_inner i) (e ∷ es)))) (sym (pass b o x (filter (has_kind i) items)))
+      (subst (IsOne (last_or (cond b (Some x) o) (filter (has_kind i) items))) (sym entries) rest)
+
+  same_one : (o o' : Option Item) (e e' : Option Entry) → option_map seen_of o ≡ option_map seen_of o' → IsOne o e → IsOne o' e' → e ≡ e'
+  same_one None None None None same h k = refl
+  same_one None None None (Some e') same h k = absurd k
+  same_one None None (Some e) e' same h k = absurd h
+  same_one None (Some x) e e' same h k = absurd cc
+  same_one (Some x) None e e' same h k = absurd cc
+  same_one (Some x) (Some y) None e' same h k = absurd h
+  same_one (Some x) (Some y) (Some e) None same h k = absurd k
+  same_one (Some x) (Some y) (Some e) (Some e') same h k = let seen : seen_of x ≡ seen_of y = cc in ap (λ d. Some d) (one_element table _ at x y e e' seen h k)
+
+  -- the last element of a type in a nested list
+  pub nested_found : (i : ℕ) (list : List ℕ) (found : Option Entry) → (items : List Item) × Walk list items None × IsOne (last_item i items) found → (es : List Entry) → AreElements table k at list es
+      → found ≡ last_inner i es
+  nested_found i list found (items, walk, is) es (items', walk', each) =
+      let seen = (walk_unique list items items' None None walk walk').0 in
+      let same : option_map seen_of (last_item i items) ≡ option_map seen_of (last_item i items') =
+      last_seen i None items ∙ ap (λ s. last_or None (filter (λ x. kind_of x.1 == i) s)) seen ∙ sym (last_seen i None items') in
+      same_one (last_item i items) (last_item i items') found (last_inner i es) same is (one_last i items' es None None each tt)
+
+-- ---- arrays
+
+module _ {A : Type 0} (f : ℕ → A → Entry) (own : (i : ℕ) (x : A) → (f i x).inner ≡ i) where
+  -- no entry has an index below the first, or above the last
+  none_at : (i j : ℕ) (xs : List A) → (i < j) ⊎ (j + length xs ≤ i) → filter (is_inner i) (indexed f j xs) ≡ []
+  none_at i j [] h = refl
+  none_at i j (x ∷ xs) h =
+      let other : j ≢ i = by h in
+      let no : is_inner i (f j x) ≡ false = ap (λ n. n == i) (own j x) ∙ ne_eqb j i other in
+      ap (λ b. cond b (f j x ∷ filter (is_inner i) (indexed f (j + 1) xs)) (filter (is_inner i) (indexed f (j + 1) xs))) no ∙ none_at i (j + 1) xs (next h)
+    where
+      by : (i < j) ⊎ (j + length (x ∷ xs) ≤ i) → j ≢ i
+      by (inl h) e = omega arith
+      by (inr h) e = omega arith
+
+      next : (i < j) ⊎ (j + length (x ∷ xs) ≤ i) → (i < j + 1) ⊎ (j + 1 + length xs ≤ i)
+      next (inl h) = inl (omega arith)
+      next (inr h) = inr (omega arith)
+
+  -- one entry has an index between
+  one_at : (i j : ℕ) (xs : List A) (d : A) (n : ℕ) → i ≡ j + n → n < length xs → filter (is_inner i) (indexed f j xs) ≡ f i (get_or xs n d) ∷ []
+  one_at i j [] d n e h = absurd (omega arith)
+  one_at i j (x ∷ xs) d zero e h =
+      let here : i ≡ j = omega (arith, e) in
+      let yes : is_inner i (f j x) ≡ true = ap (λ n. n == i) (own j x) ∙ eq-eqb j i (sym here) in
+      ap (λ b. cond b (f j x ∷ filter (is_inner i) (indexed f (j + 1) xs)) (filter (is_inner i) (indexed f (j + 1) xs))) yes
+      ∙ ap₂ (λ m es. f m x ∷ es) (sym here) (none_at i (j + 1) xs (inl (omega arith)))
+  one_at i j (x ∷ xs) d (suc n) e h =
+      let other : j ≢ i = λ same. omega arith in
+      let no : is_inner i (f j x) ≡ false = ap (λ m. m == i) (own j x) ∙ ne_eqb j i other in
+      ap (λ b. cond b (f j x ∷ filter (is_inner i) (indexed f (j + 1) xs)) (filter (is_inner i) (indexed f (j + 1) xs))) no
+      ∙ one_at i (j + 1) xs d n (omega (arith, e)) (omega arith)
+
+get_or-numbers_at : (width n offset i : ℕ) (p : List ℕ) → i < n → get_or (numbers_at width n offset p) i 0 ≡ number_at width (offset + i * width) p
+get_or-numbers_at width zero offset i p h = absurd (omega arith)
+get_or-numbers_at width (suc n) offset zero p h = let here : offset ≡ offset + 0 * width = omega arith in ap (λ at. number_at width at p) here
+get_or-numbers_at width (suc n) offset (suc i) p h =
+    let there : offset + width + i * width ≡ offset + suc i * width = omega arith in
+    get_or-numbers_at width n (offset + width) i p (omega arith) ∙ ap (λ at. number_at width at p) there
+
+length-numbers_at : (width n offset : ℕ) (p : List ℕ) → length (numbers_at width n offset p) ≡ n
+length-numbers_at width zero offset p = refl
+length-numbers_at width (suc n) offset p = let more = length-numbers_at width n (offset + width) p in omega arith
+
+module _ (k at width : ℕ) (p : List ℕ) (i : ℕ) where
+  -- the number at an index
+  pub number_found : i < length p / width → Some (number_entry k at width i (number_at width (i * width) p)) ≡ last_inner i (number_entries k at width p)
+  number_found h =
+      let xs = numbers_of width p in
+      let size = length-numbers_at width (length p / width) 0 p in
+      let one = one_at (number_entry k at width) (λ j x. refl) i 0 xs 0 i (omega arith) (omega (arith, size)) in
+      let is : get_or xs i 0 ≡ number_at width (i * width) p =
+      get_or-numbers_at width (length p / width) 0 i p h ∙ (let here : 0 + i * width ≡ i * width = omega arith in ap (λ o. number_at width o p) here) in
+      sym (ap (last_or None) one ∙ ap (λ x. Some (number_entry k at width i x)) is)
+
+  pub number_absent : length p / width ≤ i → None ≡ last_inner i (number_entries k at width p)
+  number_absent h =
+      let size = length-numbers_at width (length p / width) 0 p in
+      sym (ap (last_or None) (none_at (number_entry k at width) (λ j x. refl) i 0 (numbers_of width p) (inr (omega (arith, size)))))
+
+-- ---- lists of addresses
+
+module _ (k at n i : ℕ) where
+  -- the address at the index among those before `rest`
+  pub record AddressTo (list rest : List ℕ) (index : ℕ) (found : Option Entry) : Type 0 where
+    pub items : List Item
+    pub walks : Walks (length list) list items rest
+    pub count : index ≡ length (entries_of k at n items)
+    pub last : found ≡ last_inner i (entries_of k at n items)
+    pub room : index + length rest ≤ length list
+
+  more_by : (b : Bool) (list rest after : List ℕ) (index index' : ℕ) (found found' : Option Entry) (offset : ℕ) (x : NlaBuffer) → (length (payload_of x) == n) ≡ b → AddressTo list rest index found
+      → SplitsFirst rest x after → offset ≡ at + ((length list - length rest) + 4) → found' ≡ cond b (cond (index == i) (Some (address_entry k index offset (payload_of x))) found) found
+      → index' ≡ cond b (index + 1) index → AddressTo list after index' found'
+  more_by true list rest after index index' found found' offset x is h split place e counted =
+      let item : Item = (length list - length rest, x) in
+      let one = entries_more k at n h.items item true is in
+      let front = entries_of k at n h.items in
+      let last : Entry = entry_at k at n (length front) item in
+      let here : address_entry k index offset (payload_of x) ≡ last = ap₂ (λ j o. address_entry k j o (payload_of x)) h.count place in
+      record {
+        items = h.items ++ item ∷ [];
+        walks = walks_more (length list) list h.items rest x after h.walks split;
+        count = omega (arith, counted, h.count, ap length one, length-append front (last ∷ []));
+        last = e ∙ ap₂ (λ j d. cond (j == i) (Some d) found) h.count here ∙ ap (cond (length front == i) (Some last)) h.last ∙ sym (last_inner_push i front last) ∙ ap (last_inner i) (sym one);
+        room = omega (arith, counted, split_less rest x after split, h.room);
+      }
+  more_by false list rest after index index' found found' offset x is h split place e counted =
+      let item : Item = (length list - length rest, x) in
+      let one = entries_more k at n h.items item false is ∙ append-nil (entries_of k at n h.items) in
+      record {
+        items = h.items ++ item ∷ [];
+        walks = walks_more (length list) list h.items rest x after h.walks split;
+        count = counted ∙ h.count ∙ ap length (sym one);
+        last = e ∙ h.last ∙ ap (last_inner i) (sym one);
+        room = omega (arith, counted, split_less rest x after split, h.room);
+      }
+
+  -- one attribute more
+  pub address_more : (list rest after : List ℕ) (index index' : ℕ) (found found' : Option Entry) (offset : ℕ) (x : NlaBuffer) → AddressTo list rest index found → SplitsFirst rest x after
+      → offset ≡ at + ((length list - length rest) + 4)
+      → found' ≡ cond (length (payload_of x) == n) (cond (index == i) (Some (address_entry k index offset (payload_of x))) found) found
+      → index' ≡ cond (length (payload_of x) == n) (index + 1) index → AddressTo list after index' found'
+  address_more list rest after index index' found found' offset x h split place e counted =
+      more_by (length (payload_of x) == n) list rest after index index' found found' offset x refl h split place e counted
+
+  -- the address at the index in a whole list
+  pub address_found : (list rest : List ℕ) (index : ℕ) (found : Option Entry) → AddressTo list rest index found → rest ≡ [] → (es : List Entry) × AreAddresses k at n list es × (found ≡ last_inner i es)
+  address_found list rest index found h end = (entries_of k at n h.items, (h.items, record { rest = rest; walks = h.walks; end = end }, refl), h.last)
+
+-- ---- contents
+
+-- the elements of one content are those of another of the same payload
+module _ (table : Table) (k at : ℕ) (o : Option Shape) (p : List ℕ) (es : List Entry) where
+  pub moved_elements : (x y : Content) → form_of x ≡ form_of y → Borrows o p x → Borrows o p y → Elements table k at y es → Elements table k at x es
+  moved_elements (contents.List l told) (contents.List m said) form a b h =
+      let same : m.now ≡ l.now = list_payload o p m said b ∙ sym (list_payload o p l told a) in
+      subst (λ t. AreElements (elements_at table k) k at t es) same h
+  moved_elements (contents.List l told) y form a b h = absurd cc
+  moved_elements (contents.Addresses l n) (contents.Addresses m n') form a b h =
+      let one = address_list o p l n a in
+      let two = address_list o p m n' b in
+      let shapes : Some (Addresses n') ≡ Some (Addresses n) = sym two.shape ∙ one.shape in
+      let sizes : n' ≡ n = cc in
+      subst (λ t. AreAddresses k at n t es) (two.payload ∙ sym one.payload) (subst (λ z. AreAddresses k at z m.now es) sizes h)
+  moved_elements (contents.Addresses l n) y form a b h = absurd cc
+  moved_elements (contents.U16s l) (contents.U16s m) form a b h = h ∙ ap (number_entries k at 2) (sym (u16s_bytes o p l m a b))
+  moved_elements (contents.U16s l) y form a b h = absurd cc
+  moved_elements (contents.U32s l) (contents.U32s m) form a b h = h ∙ ap (number_entries k at 4) (sym (u32s_bytes o p l m a b))
+  moved_elements (contents.U32s l) y form a b h = absurd cc
+  moved_elements x (contents.List m said) form a b h = absurd cc
+  moved_elements x (contents.Addresses m n) form a b h = absurd cc
+  moved_elements x (contents.U16s m) form a b h = absurd cc
+  moved_elements x (contents.U32s m) form a b h = absurd cc
+  moved_elements x y form a b h = h
+
+-- a content that is neither a list nor an array has no last element
+pub none_last : (table : Table) (k at i : ℕ) (x : Content) → ((p : Bor (List ℕ)) → x ≡ contents.U16s p → ⊥) → ((p : Bor (List ℕ)) → x ≡ contents.U32s p → ⊥) → ((p : Bor (List ℕ)) (n : ℕ) → x ≡ contents.Addresses p n → ⊥)
+    → ((p : Bor (List ℕ)) (told : Bool) → x ≡ contents.List p told → ⊥) → IsLastElement table k at x i None
+none_last table k at i (contents.U16s p) a b c d = absurd (a p refl)
+none_last table k at i (contents.U32s p) a b c d = absurd (b p refl)
+none_last table k at i (contents.Addresses p n) a b c d = absurd (c p n refl)
+none_last table k at i (contents.List p told) a b c d = absurd (d p told refl)
+none_last table k at i x a b c d = ([], refl, refl)
+
+-- the elements in a group are those of every content of the attribute
+pub group_elements : (table : Table) (at : ℕ) (b : NlaBuffer) (content : Content) (e : Entry) (es : List Entry) → HasContent table b content → IsGroup table (at, b) (e ∷ es)
+    → Elements table (kind_of (kind_field_of b)) (at + 4) content es
+group_elements table at b content e es has (other, its, (below, elements, is)) =
+    let k = kind_of (kind_field_of b) in
+    let same : es ≡ below = cc in
+    subst (Elements table k (at + 4) content) (sym same)
+    (moved_elements table k (at + 4) (class_at table k) (payload_of b) below content other (has.form ∙ sym its.form) has.borrows its.borrows elements)
+
+-- the last element in a content is the last of its entries
+last_of : (table : Table) (k at i : ℕ) (content : Content) (found : Option Entry) (es : List Entry) → IsLastElement table k at content i found → Elements table k at content es → found ≡ last_inner i es
+last_of table k at i (contents.List list told) found es h elements = nested_found (elements_at table k) k at i list.now found h es elements
+last_of table k at i (contents.Addresses list n) found es (mine, are, is) elements = is ∙ ap (last_inner i) (one_address_list k at n list.now list.now mine es refl are elements)
+last_of table k at i contents.Nothing found es (mine, are, is) elements = is ∙ ap (last_inner i) (are ∙ sym elements)
+last_of table k at i (contents.Bool b) found es (mine, are, is) elements = is ∙ ap (last_inner i) (are ∙ sym elements)
+last_of table k at i (contents.Unsigned x n) found es (mine, are, is) elements = is ∙ ap (last_inner i) (are ∙ sym elements)
+last_of table k at i (contents.Coded x n) found es (mine, are, is) elements = is ∙ ap (last_inner i) (are ∙ sym elements)
+last_of table k at i (contents.Signed z) found es (mine, are, is) elements = is ∙ ap (last_inner i) (are ∙ sym elements)
+last_of table k at i (contents.Enum x n) found es (mine, are, is) elements = is ∙ ap (last_inner i) (are ∙ sym elements)
+last_of table k at i (contents.Flags x n) found es (mine, are, is) elements = is ∙ ap (last_inner i) (are ∙ sym elements)
+last_of table k at i (contents.LowFlags x) found es (mine, are, is) elements = is ∙ ap (last_inner i) (are ∙ sym elements)
+last_of table k at i (contents.MaskedFlags x n) found es (mine, are, is) elements = is ∙ ap (last_inner i) (are ∙ sym elements)
+last_of table k at i (contents.Pair x n) found es (mine, are, is) elements = is ∙ ap (last_inner i) (are ∙ sym elements)
+last_of table k at i (contents.Protocol p) found es (mine, are, is) elements = is ∙ ap (last_inner i) (are ∙ sym elements)
+last_of table k at i (contents.Mac a) found es (mine, are, is) elements = is ∙ ap (last_inner i) (are ∙ sym elements)
+last_of table k at i (contents.Ipv4 a) found es (mine, are, is) elements = is ∙ ap (last_inner i) (are ∙ sym elements)
+last_of table k at i (contents.Ipv6 a) found es (mine, are, is) elements = is ∙ ap (last_inner i) (are ∙ sym elements)
+last_of table k at i (contents.Bytes p) found es (mine, are, is) elements = is ∙ ap (last_inner i) (are ∙ sym elements)
+last_of table k at i (contents.Struct layout p) found es (mine, are, is) elements = is ∙ ap (last_inner i) (are ∙ sym elements)
+last_of table k at i (contents.U16s p) found es (mine, are, is) elements = is ∙ ap (last_inner i) (are ∙ sym elements)
+last_of table k at i (contents.U32s p) found es (mine, are, is) elements = is ∙ ap (last_inner i) (are ∙ sym elements)
+last_of table k at i (contents.Limits a b) found es (mine, are, is) elements = is ∙ ap (last_inner i) (are ∙ sym elements)
+last_of table k at i (contents.Other p) found es (mine, are, is) elements = is ∙ ap (last_inner i) (are ∙ sym elements)
+
+-- what is found in an attribute is the last element among its entries
+pub found_in_group : (table : Table) (x : Item) (i : ℕ) (found : Option Entry) (e : Entry) (es : List Entry) → IsElementFound table (Some x) i found → IsGroup table x (e ∷ es) → found ≡ last_inner i es
+found_in_group table x i found e es (content, has, last) group =
+    last_of table (kind_of (kind_field_of x.1)) (x.0 + 4) i content found es last (group_elements table x.0 x.1 content e es has group)

@@ -1,0 +1,152 @@
+-- The row of an attribute type: its fields, and what it says of payloads.
+use Rattle.std.proofs.Common.{◌≡◌, ℕ, ◌<◌, ◌≤◌, ◌==◌, ◌||◌, Bool, true, false, cond, List, Option, Some, None, option_map, inl, inr, refl, sym, ap, ◌∙◌, arith}
+use Rattle.std.proofs.lemmas.Bool.{cases_Bool, eqb-true}
+use Rattle.link_base.specs.declared.rows.form.Width.{Width}
+use Rattle.link_base.specs.declared.rows.form.Width.TheVariants as widths
+use Rattle.link_base.specs.declared.rows.form.Layout.{Layout}
+use Rattle.link_base.specs.declared.rows.form.Layout.TheVariants as layouts
+use Rattle.link_base.specs.declared.rows.form.Form.{Form}
+use Rattle.link_base.specs.declared.rows.form.Form.TheVariants as forms
+use Rattle.link_base.specs.declared.rows.label.KindLabel.{KindLabel}
+use Rattle.link_base.specs.Class.{Many}
+use Rattle.link_base.specs.Forms.{bytes_in}
+use Rattle.link_base.specs.Frame.{kind_limit}
+use Rattle.link_base.specs.Labels.{label_in}
+use Rattle.link_base.specs.Payloads.{class_by}
+use Rattle.link_base.specs.Table.{Row, Rows, Shape, One, Nested, Addresses, Table, row_at, class_at, form_at, label_by, label_at}
+use Rattle.link_base.specs.Borrowed.{elements_at}
+use Rattle.link_base.specs.Coherent.{is_single, is_array, IsShapeOf}
+use Rattle.link_base.specs.WellFormed.{is_shape, is_row, is_table}
+use Rattle.link_base.proofs.Coherence.{row_told, row_kind, row_passes_all, element_single}
+use Rattle.link_entries.specs.declared.entry.Entry.{Entry}
+use Rattle.link_entries.specs.declared.fields.Fields.{Fields}
+use Rattle.link_entries.specs.declared.fields.Fields.TheVariants as fields
+use Rattle.link_entries.specs.Fields.{struct_fields, row_fields, fields_in, fields_at}
+use Rattle.link_entries.specs.Payload.{payload_of, field_of}
+
+-- ---- labels
+
+-- the form in a label is that of the row
+form_told : (l : Option KindLabel) (r : Option (Row Shape)) → label_in l ≡ option_map label_by r → option_map (λ x. x.form) l ≡ option_map (λ x. x.form) r
+form_told None None h = refl
+form_told None (Some r) h = absurd cc
+form_told (Some l) None h = absurd cc
+form_told (Some l) (Some r) h = ap (option_map (λ told. told.2)) h
+
+pub label_fields : (l : Option KindLabel) (table : Table) (k : ℕ) → label_in l ≡ label_at table k → fields_in (option_map (λ x. x.form) l) ≡ fields_at table k
+label_fields l table k h = ap fields_in (form_told l (row_at table k) h)
+
+-- ---- fields
+
+-- the fields of a list: its elements have entries of their own
+abbrev pub is_list : Fields → Bool
+is_list (fields.Numbers width) = true
+is_list (fields.Addresses size) = true
+is_list (fields.List flag) = true
+is_list own = false
+
+-- those of a single value of an attribute type that has a row
+abbrev pub is_value : Fields → Bool
+is_value (fields.Numbers width) = false
+is_value (fields.Addresses size) = false
+is_value (fields.List flag) = false
+is_value fields.Unknown = false
+is_value own = true
+
+pub value_no_list : (own : Fields) → is_value own ≡ true → is_list own ≡ false
+value_no_list (fields.Numbers width) h = absurd cc
+value_no_list (fields.Addresses size) h = absurd cc
+value_no_list (fields.List flag) h = absurd cc
+value_no_list own h = refl
+
+-- its `nla_type` has no flags
+pub value_field : (own : Fields) (k : ℕ) (e : Entry) → is_value own ≡ true → field_of own k e ≡ k
+value_field (fields.List flag) k e h = absurd cc
+value_field fields.Unknown k e h = absurd cc
+value_field own k e h = refl
+
+-- an entry with another type
+abbrev pub with_kind : Entry → ℕ → Entry
+with_kind e k = record e { kind = k }
+
+-- the type of the entry does not matter
+pub value_kind : (own : Fields) (e : Entry) (k : ℕ) (octets : List ℕ) → is_value own ≡ true → payload_of own (with_kind e k) octets ≡ payload_of own e octets
+value_kind fields.Unknown e k octets h = absurd cc
+value_kind (fields.Passed form None) e k octets h = refl
+value_kind (fields.Passed form (Some n)) e k octets h = refl
+value_kind own e k octets h = refl
+
+pub field_kind : (own : Fields) (k : ℕ) (e : Entry) (j : ℕ) → field_of own k (with_kind e j) ≡ field_of own k e
+field_kind fields.Unknown k e j = refl
+field_kind own k e j = refl
+
+pub struct_value : (layout : Layout) → is_value (struct_fields layout) ≡ true
+struct_value layouts.BridgeId = refl
+struct_value layout = refl
+
+pub single_value : (form : Form) → is_single form ≡ true → is_array form ≡ false → is_value (row_fields form) ≡ true
+single_value forms.U16s s a = absurd cc
+single_value forms.U32s s a = absurd cc
+single_value (forms.Addresses size) s a = absurd cc
+single_value (forms.List flagged) s a = absurd cc
+single_value (forms.Struct layout) s a = struct_value layout
+single_value form s a = refl
+
+-- ---- arrays: of two or of four bytes
+
+abbrev pub array_form : Bool → Form
+array_form wide = cond wide forms.U32s forms.U16s
+
+abbrev pub array_width : Bool → Width
+array_width wide = cond wide widths.Four widths.Two
+
+pub array_fields : (wide : Bool) → row_fields (array_form wide) ≡ fields.Numbers (array_width wide)
+array_fields true = refl
+array_fields false = refl
+
+-- ---- rows
+
+-- what the row of an attribute type says of payloads, if there is one
+pub data RowTold (table : Table) (k : ℕ) : Type 0 where
+  NoRow : form_at table k ≡ None → class_at table k ≡ None → RowTold table k
+  OneValue :
+      (form : Form) (names : List (ℕ × List ℕ)) → form_at table k ≡ Some form → class_at table k ≡ Some (One (class_by form names)) → is_value (row_fields form) ≡ true → k < kind_limit → RowTold table k
+  Array : (wide : Bool) → form_at table k ≡ Some (array_form wide) → class_at table k ≡ Some (One (Many (bytes_in (array_width wide)))) → k < kind_limit → RowTold table k
+  AddressList : (n : ℕ) → form_at table k ≡ Some (forms.Addresses n) → class_at table k ≡ Some (Addresses n) → n ≤ 16 → k < kind_limit → RowTold table k
+  NestedList : (flagged : Bool) (rows : Rows) → form_at table k ≡ Some (forms.List flagged) → class_at table k ≡ Some (Nested flagged rows) → k < kind_limit → RowTold table k
+
+few : (n : ℕ) → ((n == 4) || (n == 16)) ≡ true → n ≤ 16
+few n h =
+    elim (cases_Bool (n == 4)) [
+      | inl four ↦ let is = eqb-true n 4 four in omega (arith, is)
+      | inr other ↦ let is = eqb-true n 16 (sym (ap (λ b. b || (n == 16)) other) ∙ h) in omega (arith, is)
+    ]
+
+module _ (table : Table) (k : ℕ) where
+  told_by : (form : Form) (names : List (ℕ × List ℕ)) (shape : Shape) → form_at table k ≡ Some form → class_at table k ≡ Some shape → IsShapeOf form names shape → is_shape shape ≡ true → k < kind_limit → RowTold table k
+  told_by forms.U16s names (One c) named class is ok low = Array false named (class ∙ ap (λ d. Some (One d)) is.1) low
+  told_by forms.U32s names (One c) named class is ok low = Array true named (class ∙ ap (λ d. Some (One d)) is.1) low
+  told_by form names (One c) named class is ok low = OneValue form names named (class ∙ ap (λ d. Some (One d)) is.1) (single_value form is.0 refl) low
+  told_by (forms.List told) names (Nested flagged rows) named class is ok low = NestedList told rows named (class ∙ ap (λ b. Some (Nested b rows)) (sym is.0)) low
+  told_by (forms.Addresses told) names (Addresses n) named class is ok low =
+      let size : told ≡ n = is in
+      let least = few n ok in
+      AddressList told named (class ∙ ap (λ m. Some (Addresses m)) (sym size)) (omega (arith, size, least)) low
+  told_by form names shape named class is ok low = absurd is
+
+  pub row_says : is_table table ≡ true → RowTold table k
+  row_says formed = by_row (row_at table k) refl where
+    by_row : (o : Option (Row Shape)) → row_at table k ≡ o → RowTold table k
+    by_row None at = NoRow (ap (option_map (λ r. r.form)) at) (ap (option_map (λ r. r.class)) at)
+    by_row (Some r) at =
+        told_by r.form r.names r.class (ap (option_map (λ x. x.form)) at) (ap (option_map (λ x. x.class)) at) (row_told table k r formed at) (row_passes_all table k r formed at).shape
+        (row_kind is_row k r 0 table formed at).1
+
+-- in a nested list there are no lists
+pub element_no_list : (table : Table) (k inner : ℕ) → is_table table ≡ true → is_list (fields_at (elements_at table k) inner) ≡ false
+element_no_list table k inner formed = by_row (row_at (elements_at table k) inner) refl where
+  by_row : (o : Option (Row Shape)) → row_at (elements_at table k) inner ≡ o → is_list (fields_in (option_map (λ r. r.form) o)) ≡ false
+  by_row None at = refl
+  by_row (Some r) at =
+      let single = element_single table k inner r formed at in
+      value_no_list (row_fields r.form) (single_value r.form single.1 single.0)

@@ -1,0 +1,32 @@
+use Rattle.std.proofs.Common.{sym, subst}
+use Rattle.link_base.specs.Frame.{kind_of}
+use Rattle.link_base.specs.Buffer.{kind_field_of, payload_of}
+use Rattle.link_base.specs.Table.{class_at}
+use Rattle.link_base.specs.Borrowed.{HasValues, Borrows, elements_at}
+use Rattle.link_base.proofs.Elements.{elements_decode}
+use Rattle.netlink_packet_route.specs.Family.{table_of}
+use Rattle.link_entries.proofs.Shapes.{addresses_decode}
+use Rattle.link_entries.proofs.FoundElements.{none_last}
+use Rattle.link_entries.proofs.finding_elements.find_in_content.Goals as goal
+
+pub of_checked-requires : goal.of_checked-requires
+of_checked-requires c =
+    let table = table_of c.args.family in
+    let b = c.args.buffer.now in
+    let bytes = c.in-List.list in
+    let shape = class_at table (kind_of (kind_field_of b)) in
+    let borrows = subst (Borrows shape (payload_of b)) c.in-List.is c.requires.content.borrows in
+    subst (λ k. HasValues (elements_at table k) bytes.now) (sym c.kind-kind.ensures)
+    (elements_decode table (kind_field_of b) (payload_of b) bytes c.in-List.flagged c.requires.content.decodes borrows)
+
+pub of_checked-requires-in-Addresses : goal.of_checked-requires-in-Addresses
+of_checked-requires-in-Addresses c =
+    let table = table_of c.args.family in
+    let b = c.args.buffer.now in
+    let shape = class_at table (kind_of (kind_field_of b)) in
+    let borrows = subst (Borrows shape (payload_of b)) c.in-Addresses.is c.requires.content.borrows in
+    addresses_decode table (kind_field_of b) (payload_of b) c.in-Addresses.list c.in-Addresses.size c.requires.content.decodes borrows
+
+pub returns-in_default : goal.returns-in_default
+returns-in_default c =
+    none_last (table_of c.args.family) (kind_of (kind_field_of c.args.buffer.now)) c.args.at c.args.inner c.args.content c.in_default.not-U16s c.in_default.not-U32s c.in_default.not-Addresses c.in_default.not-List

@@ -1,0 +1,72 @@
+-- Which fields of an entry make the payload of its attribute.
+use Rattle.std.specs.Prelude.{ℕ, ◌-◌, ◌<◌, ◌==◌, true, false, Option, Some, None, if◌then◌else◌}
+use Rattle.link_base.specs.declared.rows.form.Width.{Width}
+use Rattle.link_base.specs.declared.rows.form.Width.TheVariants as widths
+use Rattle.link_base.specs.declared.rows.form.Layout.{Layout}
+use Rattle.link_base.specs.declared.rows.form.Layout.TheVariants as layouts
+use Rattle.link_base.specs.declared.rows.form.Form.{Form}
+use Rattle.link_base.specs.declared.rows.form.Form.TheVariants as forms
+use Rattle.link_base.specs.Number.{bound}
+use Rattle.link_base.specs.Class.{size_of}
+use Rattle.link_base.specs.Forms.{bytes_in, layout_extent}
+use Rattle.link_base.specs.Table.{Table, form_at, nested_flag}
+use Rattle.link_entries.specs.Forms.{form_bool, form_unsigned, form_named, form_flags, form_masked, form_mac, form_ipv4, form_ipv6, form_vlan_info, form_qos_mapping, form_berr_counter, form_bittiming, form_bytes}
+use Rattle.link_entries.specs.declared.fields.Fields.{Fields}
+use Rattle.link_entries.specs.declared.fields.Fields.TheVariants as fields
+
+-- any number of this width
+abbrev pub any_number : ℕ → Width → Fields
+any_number form width = fields.Number form width (bound (bytes_in width) - 1)
+
+-- an IP address of this size
+abbrev pub ip_address : ℕ → Fields
+ip_address size = fields.Address (if size == 4 then form_ipv4 else form_ipv6) size
+
+-- for a struct
+abbrev pub struct_fields : Layout → Fields
+struct_fields layouts.BridgeId = fields.BridgeId
+struct_fields layouts.VlanInfo = fields.Shorts form_vlan_info true
+struct_fields layouts.BooleanOptions = fields.Words form_masked false
+struct_fields layouts.BitTiming = fields.Passed form_bittiming (Some 32)
+struct_fields layouts.Clock = any_number form_unsigned widths.Four
+struct_fields layouts.CtrlMode = fields.Words form_masked true
+struct_fields layouts.BerrCounter = fields.Shorts form_berr_counter false
+struct_fields layout = fields.Passed form_bytes (Some (size_of (layout_extent layout)))
+
+-- for an attribute type whose values have this form
+abbrev pub row_fields : Form → Fields
+row_fields forms.Nothing = fields.Empty
+row_fields forms.Bool = fields.Number form_bool widths.One 1
+row_fields (forms.Unsigned width) = any_number form_unsigned width
+row_fields (forms.Coded width) = any_number form_named width
+row_fields forms.Signed = fields.Signed
+row_fields (forms.Enum width) = any_number form_named width
+row_fields (forms.Flags width) = any_number form_flags width
+row_fields forms.LowFlags = fields.Number form_flags widths.Two 255
+row_fields forms.MaskedFlags = fields.Words form_masked false
+row_fields forms.Pair = fields.Words form_qos_mapping false
+row_fields forms.Protocol = fields.Protocol
+row_fields forms.Mac = fields.Address form_mac 6
+row_fields forms.Ipv4 = fields.Address form_ipv4 4
+row_fields forms.Ipv6 = fields.Address form_ipv6 16
+row_fields forms.Bytes = fields.Passed form_bytes None
+row_fields (forms.Struct layout) = struct_fields layout
+row_fields forms.U16s = fields.Numbers widths.Two
+row_fields forms.U32s = fields.Numbers widths.Four
+row_fields forms.Limits = fields.Limits
+row_fields (forms.Addresses size) = fields.Addresses size
+row_fields (forms.List flagged) = fields.List (nested_flag flagged)
+
+-- likewise, if the type has a row
+abbrev pub fields_in : Option Form → Fields
+fields_in None = fields.Unknown
+fields_in (Some form) = row_fields form
+
+-- for an attribute type of a list of this table
+abbrev pub fields_at : Table → ℕ → Fields
+fields_at table k = fields_in (form_at table k)
+
+-- the greatest number of a field fits in its width
+abbrev pub IsNarrow : Fields → Type 0
+IsNarrow (fields.Number form width most) = most < bound (bytes_in width)
+IsNarrow own = Unit {0}

@@ -1,0 +1,12 @@
+pub mod Forms
+pub mod Entry
+pub mod Content
+pub mod Flat
+pub mod Finding
+pub mod Fields
+pub mod Payload
+pub mod Rows
+pub mod Order
+pub mod Spelled
+pub mod Stored
+pub mod Agreement

@@ -1,0 +1,419 @@
+//! The payloads that entries spell.
+
+ghost use Rattle.std.specs.Prelude.{◌≡◌, ◌≤◌, ◌<◌, ◌^◌, [], ◌==◌, ◌&&◌, ◌||◌, Some, nat_lt, nat_le, length, take, reverse, IfOk, IfSome};
+ghost use Rattle.link_base.specs.Number.{bytes_of, bound};
+ghost use Rattle.link_base.specs.Class.{Limits, meant, written};
+ghost use Rattle.link_base.specs.Frame.{max_payload};
+ghost use Rattle.link_base.specs.Forms.{bytes_in as width_of};
+ghost use Rattle.link_entries.specs.Fields.{IsNarrow};
+ghost use Rattle.link_entries.specs.Payload.{has_form, form_in, is_implied, only_if, has_size, passed, rewritten, is_i32, pair_of, content_of, payload_of, slice_told};
+ghost use Rattle.link_entries.specs.Stored.{padded, sized, StoresAt, StoresPayload};
+
+use crate::entry::Entry;
+use crate::fields::Fields;
+use crate::forms;
+use crate::misfit::Misfit;
+use crate::name::written_name;
+use crate::storing::{store, store_padding};
+use link_base::rows::form::Width;
+use link_base::{MAX_PAYLOAD, NLA_TYPE_MASK, VlanProtocol};
+
+/// Stores the payload that an entry of type `of_kind` spells, without elements, after the place of its header, and its
+/// padding. Returns its length. `octets` has the bytes that the entry refers to.
+///
+/// # Errors
+///
+/// The first that applies of `BadForm`, `BadNumber`, `BadOctets` and `TooLong`.
+#[inline(always)]
+pub(crate) fn put_payload(
+    fields: Fields,
+    of_kind: u16,
+    entry: &Entry,
+    octets: &[u8],
+    room: &mut [u8],
+) -> Result<usize, Misfit>
+    requires { IsNarrow fields }
+    ensures size { result ≡ sized (payload_of fields (record entry.now { kind = of_kind }) octets.now) }
+    ensures stored { StoresPayload (payload_of fields (record entry.now { kind = of_kind }) octets.now) room.old room.new }
+    ensures short { IfOk result (λ n. n ≤ max_payload) }
+{
+    if !has_form(fields, entry) {
+        return Err(Misfit::BadForm);
+    }
+    put_content(fields, of_kind, entry, octets, room)
+}
+
+/// Checks whether an entry has the form of its attribute type.
+#[inline(always)]
+fn has_form(fields: Fields, entry: &Entry) -> bool
+    ensures { result ≡ has_form fields entry.now }
+{
+    entry.form == form_in(fields) || (entry.form == 0 && is_implied(fields))
+}
+
+/// Returns the form of entries with these fields.
+#[inline(always)]
+pub(crate) fn form_in(fields: Fields) -> u8
+    ensures { result ≡ form_in fields }
+{
+    match fields {
+        Fields::Empty => forms::EMPTY,
+        Fields::Number { form, .. }
+        | Fields::Shorts { form, .. }
+        | Fields::Words { form, .. }
+        | Fields::Address { form, .. }
+        | Fields::Passed { form, .. } => form,
+        Fields::Signed => forms::SIGNED,
+        Fields::Protocol => forms::NAMED,
+        Fields::BridgeId => forms::BRIDGE_ID,
+        Fields::Limits => forms::BITTIMING_CONST,
+        Fields::Numbers { .. } | Fields::Addresses { .. } | Fields::List { .. } => forms::LIST,
+        Fields::Unknown => forms::UNKNOWN,
+    }
+}
+
+/// Checks whether 0 stands for the form of entries with these fields: it does if the attribute type has a row.
+#[inline(always)]
+fn is_implied(fields: Fields) -> bool
+    ensures { result ≡ is_implied fields }
+{
+    !matches!(fields, Fields::Unknown)
+}
+
+/// Stores the payload that an entry of the right form spells, as [`put_payload`] does.
+///
+/// # Errors
+///
+/// `BadNumber`, `BadOctets` or `TooLong`.
+#[inline(always)]
+fn put_content(
+    fields: Fields,
+    of_kind: u16,
+    entry: &Entry,
+    octets: &[u8],
+    room: &mut [u8],
+) -> Result<usize, Misfit>
+    requires { IsNarrow fields }
+    ensures size { result ≡ sized (content_of fields (record entry.now { kind = of_kind }) octets.now) }
+    ensures stored { StoresPayload (content_of fields (record entry.now { kind = of_kind }) octets.now) room.old room.new }
+    ensures short { IfOk result (λ n. n ≤ max_payload) }
+{
+    match fields {
+        Fields::Empty | Fields::Numbers { .. } | Fields::Addresses { .. } | Fields::List { .. } =>
+            Ok(0),
+        Fields::Number { width, most, .. } => put_number(entry.number, width, most, room),
+        Fields::Signed => put_signed(entry.number, room),
+        Fields::Shorts { second_first, .. } => put_shorts(
+            entry.number,
+            entry.second,
+            second_first,
+            room,
+        ),
+        Fields::Words { second_first, .. } => put_words(
+            entry.number,
+            entry.second,
+            second_first,
+            room,
+        ),
+        Fields::Protocol => put_protocol(entry.number, room),
+        Fields::Address { size, .. } => put_address(entry, size, room),
+        Fields::BridgeId => put_bridge_id(entry, room),
+        Fields::Passed { size, .. } => put_passed(size, entry, octets, room),
+        Fields::Limits => put_limits(entry, octets, room),
+        Fields::Unknown => put_unknown(of_kind, entry, octets, room),
+    }
+}
+
+/// Stores the little-endian bytes of a number.
+///
+/// # Errors
+///
+/// `BadNumber` if it is greater than `most`.
+#[inline(always)]
+fn put_number(number: u64, width: Width, most: u64, room: &mut [u8]) -> Result<usize, Misfit>
+    requires { most < bound (width_of width) }
+    ensures size { result ≡ sized (only_if (nat_le number most) Misfit.BadNumber (bytes_of (width_of width) number)) }
+    ensures stored { StoresPayload (only_if (nat_le number most) Misfit.BadNumber (bytes_of (width_of width) number))
+        room.old room.new }
+{
+    if number > most {
+        return Err(Misfit::BadNumber);
+    }
+    let [a, b, c, d, e, f, g, h] = number.to_le_bytes();
+    match width {
+        Width::Eight => store(room, 4, &[a, b, c, d, e, f, g, h]),
+        // The bytes that the width does not have are 0, as is the padding.
+        _ => store(room, 4, &[a, b, c, d]),
+    }
+    Ok(width.size())
+}
+
+/// Stores the little-endian bytes of a signed number.
+///
+/// # Errors
+///
+/// `BadNumber` if it does not fit in 32 bits.
+#[inline(always)]
+fn put_signed(number: u64, room: &mut [u8]) -> Result<usize, Misfit>
+    ensures size { result ≡ sized (only_if (is_i32 number) Misfit.BadNumber (bytes_of 4 number)) }
+    ensures stored { StoresPayload (only_if (is_i32 number) Misfit.BadNumber (bytes_of 4 number)) room.old room.new }
+{
+    if number >= 0x8000_0000 && number < 0xFFFF_FFFF_8000_0000 {
+        return Err(Misfit::BadNumber);
+    }
+    let [a, b, c, d, _, _, _, _] = number.to_le_bytes();
+    store(room, 4, &[a, b, c, d]);
+    Ok(4)
+}
+
+/// Stores the little-endian bytes of two `u16`s.
+///
+/// # Errors
+///
+/// `BadNumber` if one of them does not fit.
+#[inline(always)]
+fn put_shorts(
+    number: u64,
+    second: u32,
+    second_first: bool,
+    room: &mut [u8],
+) -> Result<usize, Misfit>
+    ensures size { result ≡ sized (only_if (nat_lt number (2 ^ 16) && nat_lt second (2 ^ 16)) Misfit.BadNumber
+        (pair_of second_first (bytes_of 2 number) (bytes_of 2 second))) }
+    ensures stored { StoresPayload (only_if (nat_lt number (2 ^ 16) && nat_lt second (2 ^ 16)) Misfit.BadNumber
+        (pair_of second_first (bytes_of 2 number) (bytes_of 2 second))) room.old room.new }
+{
+    if number > 0xFFFF || second > 0xFFFF {
+        return Err(Misfit::BadNumber);
+    }
+    let [a, b] = (number as u16).to_le_bytes();
+    let [c, d] = (second as u16).to_le_bytes();
+    let octets = if second_first {
+        [c, d, a, b]
+    } else {
+        [a, b, c, d]
+    };
+    store(room, 4, &octets);
+    Ok(4)
+}
+
+/// Stores the little-endian bytes of two `u32`s.
+///
+/// # Errors
+///
+/// `BadNumber` if the first does not fit.
+#[inline(always)]
+fn put_words(number: u64, second: u32, second_first: bool, room: &mut [u8]) -> Result<usize, Misfit>
+    ensures size { result ≡ sized (only_if (nat_lt number (2 ^ 32)) Misfit.BadNumber
+        (pair_of second_first (bytes_of 4 number) (bytes_of 4 second))) }
+    ensures stored { StoresPayload (only_if (nat_lt number (2 ^ 32)) Misfit.BadNumber
+        (pair_of second_first (bytes_of 4 number) (bytes_of 4 second))) room.old room.new }
+{
+    if number > 0xFFFF_FFFF {
+        return Err(Misfit::BadNumber);
+    }
+    let [a, b, c, d] = (number as u32).to_le_bytes();
+    let [e, f, g, h] = second.to_le_bytes();
+    let octets = if second_first {
+        [e, f, g, h, a, b, c, d]
+    } else {
+        [a, b, c, d, e, f, g, h]
+    };
+    store(room, 4, &octets);
+    Ok(8)
+}
+
+/// Stores the bytes of an EtherType, in network byte order.
+///
+/// # Errors
+///
+/// `BadNumber` if it is not that of a VLAN protocol.
+fn put_protocol(number: u64, room: &mut [u8]) -> Result<usize, Misfit>
+    ensures size { result ≡ sized (only_if ((number == 0x8100) || (number == 0x88A8)) Misfit.BadNumber
+        (reverse (bytes_of 2 number))) }
+    ensures stored { StoresPayload (only_if ((number == 0x8100) || (number == 0x88A8)) Misfit.BadNumber
+        (reverse (bytes_of 2 number))) room.old room.new }
+{
+    let customer = u16::from(VlanProtocol::Ieee8021Q);
+    let provider = u16::from(VlanProtocol::Ieee8021Ad);
+    let ether_type = if number == u64::from(customer) {
+        customer
+    } else if number == u64::from(provider) {
+        provider
+    } else {
+        return Err(Misfit::BadNumber);
+    };
+    let [a, b] = ether_type.to_be_bytes();
+    store(room, 4, &[a, b, 0, 0]);
+    Ok(2)
+}
+
+/// Stores the octets of an address.
+///
+/// # Errors
+///
+/// `BadOctets` if it has another size.
+#[inline(always)]
+fn put_address(entry: &Entry, size: usize, room: &mut [u8]) -> Result<usize, Misfit>
+    ensures size { result ≡ sized (only_if (entry.now.length == size) Misfit.BadOctets (take size entry.now.octets)) }
+    ensures stored { StoresPayload (only_if (entry.now.length == size) Misfit.BadOctets (take size entry.now.octets))
+        room.old room.new }
+    ensures short { IfOk result (λ n. n ≤ max_payload) }
+{
+    if entry.length as usize != size {
+        return Err(Misfit::BadOctets);
+    }
+    // Copies of known length: those of the addresses that there are.
+    Ok(match size {
+        4 => put_bytes(&entry.octets[..4], room),
+        6 => put_bytes(&entry.octets[..6], room),
+        16 => put_bytes(entry.octets.as_slice(), room),
+        _ => put_bytes(front(&entry.octets, size), room),
+    })
+}
+
+/// Returns the first `length` octets, as far as there are so many.
+#[inline]
+fn front(octets: &[u8; 16], length: usize) -> &[u8]
+    ensures { result.now ≡ take length octets.now }
+{
+    &octets[..length.min(16)]
+}
+
+/// Stores bytes as a payload, with its padding. Returns their number.
+#[inline(always)]
+fn put_bytes(bytes: &[u8], room: &mut [u8]) -> usize
+    requires { length bytes.now ≤ max_payload }
+    ensures size { result ≡ length bytes.now }
+    ensures stored { StoresAt 4 (padded bytes.now) room.old room.new }
+{
+    store(room, 4, bytes);
+    store_padding(room, 4, bytes.len());
+    bytes.len()
+}
+
+/// Stores the bytes of a bridge ID.
+///
+/// # Errors
+///
+/// `BadNumber` if the priority does not fit, `BadOctets` if the length is not 8.
+fn put_bridge_id(entry: &Entry, room: &mut [u8]) -> Result<usize, Misfit>
+    ensures size { result ≡ sized (content_of Fields.BridgeId entry.now []) }
+    ensures stored { StoresPayload (content_of Fields.BridgeId entry.now []) room.old room.new }
+{
+    if entry.number > 0xFFFF {
+        return Err(Misfit::BadNumber);
+    }
+    if entry.length != 8 {
+        return Err(Misfit::BadOctets);
+    }
+    let [a, b] = (entry.number as u16).to_be_bytes();
+    store(room, 4, &[a, b]);
+    store(room, 6, &entry.octets[..6]);
+    Ok(8)
+}
+
+/// Checks whether an entry refers to `size` bytes, if it is given.
+#[inline]
+fn has_size(size: Option<usize>, entry: &Entry) -> bool
+    ensures { result ≡ has_size size entry.now }
+{
+    match size {
+        Some(size) => entry.length as usize == size,
+        None => true,
+    }
+}
+
+/// Returns the bytes that an entry refers to, which must be `size` if it is given.
+///
+/// # Errors
+///
+/// `BadOctets` if they are not `size`, or not within `octets`; `TooLong` if they do not fit in an attribute.
+fn passed<'a>(size: Option<usize>, entry: &Entry, octets: &'a [u8]) -> Result<&'a [u8], Misfit>
+    ensures value { slice_told result ≡ passed size entry.now octets.now }
+    ensures short { IfOk result (λ p. length p.now ≤ max_payload) }
+    ensures size { IfOk result (λ p. IfSome size (λ n. length p.now ≡ n)) }
+{
+    if !has_size(size, entry) {
+        return Err(Misfit::BadOctets);
+    }
+    let all = octets.len() as u64;
+    if entry.offset > all || all - entry.offset < u64::from(entry.length) {
+        return Err(Misfit::BadOctets);
+    }
+    if entry.length as usize > MAX_PAYLOAD {
+        return Err(Misfit::TooLong);
+    }
+    let start = entry.offset as usize;
+    let end = start + entry.length as usize;
+    Ok(&octets[start..end])
+}
+
+/// Stores the bytes that an entry refers to, which must be `size` if it is given.
+///
+/// # Errors
+///
+/// As for `passed`.
+fn put_passed(
+    size: Option<usize>,
+    entry: &Entry,
+    octets: &[u8],
+    room: &mut [u8],
+) -> Result<usize, Misfit>
+    ensures size { result ≡ sized (passed size entry.now octets.now) }
+    ensures stored { StoresPayload (passed size entry.now octets.now) room.old room.new }
+    ensures short { IfOk result (λ n. n ≤ max_payload) }
+{
+    match passed(size, entry, octets) {
+        Ok(bytes) => Ok(put_bytes(bytes, room)),
+        Err(misfit) => Err(misfit),
+    }
+}
+
+/// Stores the limits of a CAN controller that an entry refers to, as a rewriting writes them.
+///
+/// # Errors
+///
+/// As for `passed`.
+fn put_limits(entry: &Entry, octets: &[u8], room: &mut [u8]) -> Result<usize, Misfit>
+    ensures size { result ≡ sized (rewritten (passed (Some 48) entry.now octets.now)) }
+    ensures stored { StoresPayload (rewritten (passed (Some 48) entry.now octets.now)) room.old room.new }
+    ensures short { IfOk result (λ n. n ≤ max_payload) }
+{
+    match passed(Some(48), entry, octets) {
+        Ok(bytes) => {
+            store(room, 4, &rewritten(bytes));
+            Ok(48)
+        }
+        Err(misfit) => Err(misfit),
+    }
+}
+
+/// Returns the limits of a CAN controller as a rewriting writes them.
+fn rewritten(limits: &[u8]) -> [u8; 48]
+    requires { length limits.now ≡ 48 }
+    ensures value { result ≡ written (meant Limits limits.now) }
+    ensures size { length result ≡ 48 }
+{
+    let mut octets = [0; 48];
+    octets[..16].copy_from_slice(&written_name(&limits[..16]));
+    octets[16..].copy_from_slice(&limits[16..]);
+    octets
+}
+
+/// Stores the payload of an attribute of type `of_kind`, which has no row.
+///
+/// # Errors
+///
+/// `BadNumber` if its type or its flags do not fit; otherwise as for `passed`.
+fn put_unknown(of_kind: u16, entry: &Entry, octets: &[u8], room: &mut [u8]) -> Result<usize, Misfit>
+    ensures size { result ≡ sized (content_of Fields.Unknown (record entry.now { kind = of_kind }) octets.now) }
+    ensures stored { StoresPayload (content_of Fields.Unknown (record entry.now { kind = of_kind }) octets.now)
+        room.old room.new }
+    ensures short { IfOk result (λ n. n ≤ max_payload) }
+{
+    if of_kind > NLA_TYPE_MASK || entry.flags & NLA_TYPE_MASK != 0 {
+        return Err(Misfit::BadNumber);
+    }
+    put_passed(None, entry, octets, room)
+}

@@ -1,5 +1,0 @@
-use Rattle.link_flat.proofs.FoundElements.{found_in_group}
-use Rattle.link_flat.proofs.laws.find_in_group.Goals as goal
-
-pub returns : goal.returns
-returns c = found_in_group
