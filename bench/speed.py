@@ -29,7 +29,7 @@ with tempfile.TemporaryDirectory() as d:
         return (refs(name, family, what, 3 * k) - refs(name, family, what, k)) / (2 * k)
     @functools.lru_cache(maxsize=None)
     def empty(what):
-        return instructions("dsa1", "dsa", "loop_out" if what.startswith("rewrite") else "loop")
+        return instructions("dsa1", "dsa", "loop_out" if what in ("rewrite", "rewrite_streaming", "write", "change") else "loop")
     def requests(name, family, what):
         a, b = (list(map(int, re.search(r"calls=(\d+) grows=(\d+)", run(name, family, what, m, (), {"LD_PRELOAD": count}.items()).stderr).groups())) for m in (10, 30))
         return "%.0f+%.0f" % tuple((y - x) / 20 for x, y in zip(a, b))
@@ -39,7 +39,7 @@ with tempfile.TemporaryDirectory() as d:
     for name, family, read, into, owned in rows:
         if lists and name not in lists: continue
         ours = {}
-        for what, other in [("read", read), ("check", read), ("check_and_walk", read), ("values", read), ("rewrite", into), ("rewrite_streaming", into), ("is_canonical", read)]:
+        for what, other in [("read", read), ("check", read), ("check_and_walk", read), ("values", read), ("rewrite", into), ("rewrite_streaming", into), ("is_canonical", read), ("places", read), ("measure", read), ("write", into), ("change", owned)]:
             ran = run(name, family, what, 1)
             if ran.returncode == 3 or ran.stdout.strip() == "-5": continue
             ours[what] = instructions(name, family, what) - empty(what)
