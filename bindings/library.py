@@ -8,7 +8,7 @@ import subprocess
 import sys
 from ctypes import POINTER, byref, c_char_p, c_size_t, c_ssize_t, c_uint8, c_uint16, c_uint32, c_uint64
 
-BAD_FORM, ABSENT = -7, -6
+ABSENT, BAD_ELEMENT = -6, -9
 TEXT_ROOM = 4096
 
 
@@ -29,9 +29,21 @@ class Value(ctypes.Structure):
     ]
 
 
+class Row(ctypes.Structure):
+    """struct nlroute_row."""
+
+    _fields_ = [("width", c_uint32), ("flags", c_uint16), ("form", c_uint8), ("is_list", c_uint8)]
+
+
 SIGNATURES = {
     "nlroute_version": (c_uint32,),
-    "nlroute_measure": (c_ssize_t, c_uint32, POINTER(Value), c_size_t, c_char_p, c_size_t, POINTER(c_size_t)),
+    "nlroute_row": (c_ssize_t, c_uint32, c_uint16, c_uint16, c_uint8, POINTER(Row)),
+    "nlroute_kind_of": (c_ssize_t, c_uint32, c_char_p, c_size_t),
+    "nlroute_kind_of_in": (c_ssize_t, c_uint32, c_uint16, c_char_p, c_size_t),
+    "nlroute_number_of": (c_ssize_t, c_uint32, POINTER(Value), c_char_p, c_size_t, POINTER(c_uint64)),
+    "nlroute_family_name": (c_ssize_t, c_uint32, c_char_p, c_size_t),
+    "nlroute_family_of": (c_ssize_t, c_char_p, c_size_t),
+    "nlroute_code_text": (c_ssize_t, c_ssize_t, c_char_p, c_size_t),
     "nlroute_kind_name": (c_ssize_t, c_uint32, POINTER(Value), c_char_p, c_size_t),
     "nlroute_number_name": (c_ssize_t, c_uint32, POINTER(Value), c_char_p, c_size_t),
     "nlroute_flag_name": (c_ssize_t, c_uint32, POINTER(Value), c_uint32, c_char_p, c_size_t),
@@ -68,10 +80,33 @@ class Library:
         """Returns NLROUTE_VERSION of the library."""
         return self.c.nlroute_version()
 
-    def measure(self, family, values):
-        """Returns the number of bytes of the list of these values, or an error code."""
-        array = (Value * len(values))(*values)
-        return self.c.nlroute_measure(family, array, len(values), b"", 0, byref(c_size_t()))
+    def row(self, family, kind, inner):
+        """Returns the row of an attribute type, or of an element if there is an `inner`; None if the type has no elements."""
+        row = Row()
+        code = self.c.nlroute_row(family, kind, inner or 0, inner is not None, byref(row))
+        return None if code == BAD_ELEMENT else row
+
+    def kind_of(self, family, kind, inner, name):
+        """Returns the attribute type with a name, or that of an element in lists of type `kind`."""
+        text = name.encode()
+        if inner is None:
+            return self.c.nlroute_kind_of(family, text, len(text))
+        return self.c.nlroute_kind_of_in(family, kind, text, len(text))
+
+    def number_of(self, family, value, name):
+        """Returns the number, or the set with the bit, that has a name, or None."""
+        number, text = c_uint64(), name.encode()
+        code = self.c.nlroute_number_of(family, byref(value), text, len(text), byref(number))
+        return None if code == ABSENT else number.value
+
+    def family_name(self, family):
+        """Returns the name of an attribute set, and the number of the set with this name."""
+        name = self._stored(self.c.nlroute_family_name(family, self.room, TEXT_ROOM))
+        return name, self.c.nlroute_family_of(name.encode(), len(name))
+
+    def code_text(self, code):
+        """Returns the meaning of an error code."""
+        return self._stored(self.c.nlroute_code_text(code, self.room, TEXT_ROOM))
 
     def text(self, family, value):
         """Returns the text of a value."""

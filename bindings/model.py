@@ -2,9 +2,10 @@
 
 `ask` makes it. Constants of the C API are read from its header; the rest is asked of the library:
 
-- the form of an attribute type is the one for which nlroute_measure() does not return NLROUTE_BAD_FORM;
-- the width of a number is the least whose greatest number can be written, while the next number cannot;
-- names are those of nlroute_kind_name(), nlroute_number_name() and nlroute_flag_name().
+- nlroute_row() has the form of an attribute type, and the width of its numbers;
+- names are those of nlroute_kind_name(), nlroute_number_name() and nlroute_flag_name(), and nlroute_kind_of(),
+  nlroute_kind_of_in() and nlroute_number_of() have to find what has them;
+- nlroute_code_text() has the meanings of error codes.
 
 Only the names of some types and constants are chosen here: TYPES and CONSTANTS.
 """
@@ -12,7 +13,7 @@ import os
 import re
 from dataclasses import dataclass
 
-from library import BAD_FORM, Value
+from library import Value
 
 HEADER = os.path.join(os.path.dirname(os.path.realpath(__file__)), "../crates/nlroute_ffi/include/nlroute.h")
 # Names of types. Otherwise the type has the name of the first attribute that has it: IFLA_BOND_MODE gives BondMode.
@@ -124,10 +125,19 @@ def enum_of(header, name, prefix="NLROUTE_"):
     return {it[1]: int(it[2]) for it in re.finditer(rf"^ +{prefix}(\w+) = (-?\d+)", body, re.MULTILINE)}
 
 
-def refusals_of(header):
-    """Returns the error codes of the header with their texts."""
+def refusals_of(library, header):
+    """Returns the error codes of the header with their texts, which have to be those of nlroute_refusal_text()."""
     texts = dict(re.findall(r'^ +case NLROUTE_(\w+): return "(.*)";$', header, re.MULTILINE))
-    return tuple(Refusal(name, code, texts[name]) for name, code in enum_of(header, "nlroute_refusal").items())
+    codes = enum_of(header, "nlroute_refusal")
+    for name, code in codes.items():
+        same(library.code_text(code), texts[name], f"the text of {code}")
+    return tuple(Refusal(name, code, texts[name]) for name, code in codes.items())
+
+
+def same(found, wanted, what):
+    """Ends the program if the library contradicts itself or the header."""
+    if found != wanted:
+        raise SystemExit(f"generate.py: {what} is {found!r}, not {wanted!r}")
 
 
 def ask(library):
@@ -145,7 +155,7 @@ def ask(library):
     return Model(
         version=version,
         forms=forms,
-        refusals=refusals_of(header),
+        refusals=refusals_of(library, header),
         places=enum_of(header, "nlroute_place"),
         causes=enum_of(header, "nlroute_cause"),
         sets=sets,
@@ -161,21 +171,14 @@ class Asker:
 
     def set(self, name, words):
         """Returns the set with all its attributes."""
+        same(self.library.family_name(self.family), (name, self.family), f"the name of the set {self.family}")
         attributes = (self.attribute(kind) for kind in KINDS)
         return Set(name, self.family, words, tuple(it for it in attributes if it))
 
-    def measure(self, value):
-        """Returns what nlroute_measure() returns for a value, with its list before it if it is an element."""
-        above = [Value(kind=value.kind, form=self.forms["list"])] if value.depth else []
-        return self.library.measure(self.family, [*above, value])
-
-    def form(self, kind, inner):
-        """Returns the form of an attribute type or an element, or None if the library does not know it."""
-        known = (name for name in self.forms if name not in ("of_kind", "unknown"))
-        fit = [name for name in known if self.measure(self.value(kind, inner, form=self.forms[name])) != BAD_FORM]
-        if len(fit) > 1:
-            raise RuntimeError(f"attribute type {kind} of set {self.family} has the forms {fit}")
-        return fit[0] if fit else None
+    def row(self, kind, inner):
+        """Returns the row of an attribute type or an element, or None if the library does not know it."""
+        row = self.library.row(self.family, kind, inner)
+        return None if row is None or row.form == self.forms["unknown"] else row
 
     @staticmethod
     def value(kind, inner, **fields):
@@ -184,15 +187,20 @@ class Asker:
 
     def attribute(self, kind, inner=None):
         """Returns an attribute type, or an element of one, or None."""
-        form = self.form(kind, inner)
-        if not form:
+        row = self.row(kind, inner)
+        if not row:
             return None
-        value = self.value(kind, inner, form=self.forms[form])
+        form = next(name for name, number in self.forms.items() if number == row.form)
+        value = self.value(kind, inner, form=row.form)
         name = self.library.kind_name(self.family, value)
+        is_indexed = name.startswith("[")
+        if not is_indexed:
+            found = self.library.kind_of(self.family, kind, inner, name)
+            same(found, kind if inner is None else inner, f"the type {name}")
         names = self.names(value, form)
-        bits = self.bits(value, form, names)
+        bits = 8 * row.width if form in NUMERIC or form == "vlan_info" else None
         return Attribute(
-            name="" if name.startswith("[") else name,
+            name="" if is_indexed else name,
             kind=kind if inner is None else inner,
             form=form,
             bits=bits,
@@ -220,33 +228,15 @@ class Asker:
         elif form in WITH_FLAGS:
             texts = ((bit, self.library.flag_name(self.family, value, bit)) for bit in BITS)
             found = tuple(Name(bit, text, constant(text)) for bit, text in texts if text)
+        for it in found:
+            number = it.number if form == "named" else 1 << it.number
+            same(self.library.number_of(self.family, value, it.text), number, f"the number {it.text}")
         return found
 
     def number_name(self, value, number):
         """Returns the name of a number of an enum, or None."""
         value.number = number
         return self.library.number_name(self.family, value)
-
-    def bits(self, value, form, names):
-        """Returns the width of the number of an attribute type, of the flags for a struct that has flags, or None."""
-        if form not in NUMERIC and form != "vlan_info":
-            return None
-        field = "second" if form == "vlan_info" else "number"
-        for bits in (8, 16, 32, 64):
-            greatest = (1 << (bits - int(form == "signed"))) - 1
-            if self.takes(value, field, greatest) and not self.takes(value, field, greatest + 1):
-                return bits
-        # only numbers with a name can be written
-        return next(bits for bits in (8, 16, 32, 64) if names[-1].number >> bits == 0)
-
-    def takes(self, value, field, number):
-        """Returns whether the value can be written with this number."""
-        width = 8 * getattr(Value, field).size
-        if number >> width:
-            return False
-        other = Value.from_buffer_copy(value)
-        setattr(other, field, number)
-        return self.measure(other) >= 0
 
     def type(self, name, form, bits, names):
         """Returns the enum or the flags of an attribute type: the one that has these names, or a new one."""
