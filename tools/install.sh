@@ -9,6 +9,8 @@
 #     lib/pkgconfig/nlroute.pc   finds the other files from its own place: the tree can be moved
 #     bin/, share/man/man1/      the programs nlroute and nlshow
 #
+# LIBDIR names another folder of PREFIX for the library, as lib64 or lib/x86_64-linux-gnu.
+#
 # With --fast the builds are those of bench/unproved.py: they take three to four minutes, and nothing of them is proved.
 # Otherwise the first call takes half an hour or more. If a build fails, nothing is installed.
 # It needs cc, ld, objcopy and ar (Debian's packages gcc, libc6-dev and binutils). CC names another compiler.
@@ -34,6 +36,13 @@ case $1 in
         exit 2
     fi
     into=$PWD/$1
+    ;;
+esac
+libdir=${LIBDIR-lib}
+case /$libdir/ in
+// | *//* | */./* | */../*)
+    echo "install.sh: LIBDIR has to be a folder of PREFIX, such as lib64" >&2
+    exit 2
     ;;
 esac
 cd "$(dirname "$0")/.."
@@ -76,9 +85,9 @@ link() {
 # Writes nlroute.pc.
 describe() {
     cat <<END
-prefix=\${pcfiledir}/../..
+prefix=\${pcfiledir}/../$(echo "$libdir" | sed 's,[^/]*,..,g')
 includedir=\${prefix}/include
-libdir=\${prefix}/lib
+libdir=\${prefix}/$libdir
 
 Name: nlroute
 Description: Lists of netlink link attributes${fast:+ (unproved build)}
@@ -103,11 +112,11 @@ build
     describe >nlroute.pc
 )
 put 644 include crates/nlroute_ffi/include/*.h
-put 644 lib "$room/libnlroute.a"
-put 755 lib "$room/libnlroute.so.$version"
-ln -sf "libnlroute.so.$version" "$into/lib/$name"
-ln -sf "$name" "$into/lib/libnlroute.so"
-put 644 lib/pkgconfig "$room/nlroute.pc"
+put 644 "$libdir" "$room/libnlroute.a"
+put 755 "$libdir" "$room/libnlroute.so.$version"
+ln -sf "libnlroute.so.$version" "$into/$libdir/$name"
+ln -sf "$name" "$into/$libdir/libnlroute.so"
+put 644 "$libdir/pkgconfig" "$room/nlroute.pc"
 put 755 bin "$room/nlroute" "$room/nlshow"
 put 644 share/man/man1 docs/nlroute.1 docs/nlshow.1
 echo "nlroute $version is installed in $into"
