@@ -117,6 +117,29 @@ static void texts(one *it) {
     }
 }
 
+/* What is asked of the type of a value that was read. */
+static void asked(one *it) {
+    struct nlroute_row row;
+    must(nlroute_row(family, it->kind, it->inner, it->depth, &row) == 0, "a value has a row");
+    must(row.form == it->form && row.is_list == (it->form == NLROUTE_FORM_LIST), "of its form");
+    char name[NLROUTE_TEXT_ROOM], text[NLROUTE_TEXT_ROOM];
+    ptrdiff_t size = nlroute_kind_name(family, it, name, sizeof name);
+    if (row.form != NLROUTE_FORM_UNKNOWN && name[0] != '[') {
+        ptrdiff_t kind = it->depth ? nlroute_kind_of_in(family, it->kind, name, (size_t)size)
+                                   : nlroute_kind_of(family, name, (size_t)size);
+        must(kind == (it->depth ? it->inner : it->kind), "a type is found by its name");
+    }
+    uint64_t number;
+    size = nlroute_number_name(family, it, name, sizeof name);
+    if (size >= 0) must(!nlroute_number_of(family, it, name, (size_t)size, &number), "a number has its name");
+    if (size >= 0) must(number == it->number, "and is found by it");
+    struct nlroute_value bare = *it;
+    bare.form = NLROUTE_FORM_OF_KIND;
+    size = nlroute_text(family, &bare, bytes, len, text, sizeof text);
+    if (row.form == NLROUTE_FORM_UNKNOWN) must(size == NLROUTE_BAD_FORM, "an unknown type has no form");
+    else must(size == nlroute_text(family, it, bytes, len, name, sizeof name) && !strcmp(name, text), "the form is that of the type");
+}
+
 /* The values of a list, beside what was answered of a rewriting, whose bytes they are written as. */
 static void valued(ptrdiff_t answer) {
     ptrdiff_t places = nlroute_places(family, bytes, len);
@@ -135,6 +158,7 @@ static void valued(ptrdiff_t answer) {
         struct nlroute_value found;
         one *it = &values[i];
         texts(it);
+        asked(it);
         if (it->depth == 0) of = i;
         ptrdiff_t code = it->depth ? nlroute_find_in(family, bytes, len, it->kind, it->inner, &found)
                                    : nlroute_find(family, bytes, len, it->kind, &found);
