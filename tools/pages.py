@@ -56,7 +56,7 @@ BUDGETS = {
     "README.md": 1520, "CONTRIBUTING.md": 1870, "crates/nlroute_ffi/README.md": 1320, "docs/ARCHITECTURE.md": 2150,
     "docs/ASSURANCE.md": 1400, "docs/CALLING.md": 1800, "docs/CLAIMS.md": 3050, "docs/DEBUG.md": 700,
     "docs/DECISIONS.md": 7550, "docs/DIFFERENCES.md": 3000, "docs/MESSAGES.md": 2800, "docs/MODEL.md": 4800,
-    "docs/PROGRAMS.md": 1650, "docs/PYTHON.md": 900, "docs/RUST.md": 900, "bench/README.md": 680,
+    "docs/PROGRAMS.md": 1650, "docs/PYTHON.md": 900, "docs/RUST.md": 900,
 }  # fmt: skip
 SMALL_BUDGET = 600
 HISTORY, COMPARISON, CLAIMS = "CHANGELOG.md", "docs/DIFFERENCES.md", "docs/CLAIMS.md"
