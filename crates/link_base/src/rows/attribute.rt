@@ -200,7 +200,6 @@ pub trait Attribute: Nla + Parseable + Eq {
 
     /// Returns what is known of an attribute type besides its payloads; `None` if no row has the type. If `list` is
     /// `Some`, the type is one in nested lists of this attribute type.
-    #[inline(always)]
     fn label(list: Option<u16>, kind: u16) -> Option<KindLabel>
         ensures { label_in result ≡ label_at (table_within Self.table list) kind };
 

@@ -102,7 +102,7 @@ impl Attribute for BridgeQuerierState {
         by_rows::check::<Self>(buffer)
     }
 
-    #[inline]
+    #[inline(always)]
     fn borrow<'a>(list: Option<u16>, buffer: &NlaBuffer<'a>) -> Content<'a> {
         by_rows::borrow::<Self>(list, buffer)
     }
