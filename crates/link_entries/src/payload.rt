@@ -228,6 +228,7 @@ fn put_words(number: u64, second: u32, second_first: bool, room: &mut [u8]) -> R
 /// # Errors
 ///
 /// `BadNumber` if it is not that of a VLAN protocol.
+#[inline(always)]
 fn put_protocol(number: u64, room: &mut [u8]) -> Result<usize, Misfit>
     ensures size { result ≡ sized (only_if ((number == 0x8100) || (number == 0x88A8)) Misfit.BadNumber
         (reverse (bytes_of 2 number))) }
@@ -297,6 +298,7 @@ fn put_bytes(bytes: &[u8], room: &mut [u8]) -> usize
 /// # Errors
 ///
 /// `BadNumber` if the priority does not fit, `BadOctets` if the length is not 8.
+#[inline(always)]
 fn put_bridge_id(entry: &Entry, room: &mut [u8]) -> Result<usize, Misfit>
     ensures size { result ≡ sized (content_of Fields.BridgeId entry.now []) }
     ensures stored { StoresPayload (content_of Fields.BridgeId entry.now []) room.old room.new }
@@ -354,6 +356,7 @@ fn passed<'a>(size: Option<usize>, entry: &Entry, octets: &'a [u8]) -> Result<&'
 /// # Errors
 ///
 /// As for `passed`.
+#[inline(always)]
 fn put_passed(
     size: Option<usize>,
     entry: &Entry,
@@ -375,6 +378,7 @@ fn put_passed(
 /// # Errors
 ///
 /// As for `passed`.
+#[inline(always)]
 fn put_limits(entry: &Entry, octets: &[u8], room: &mut [u8]) -> Result<usize, Misfit>
     ensures size { result ≡ sized (rewritten (passed (Some 48) entry.now octets.now)) }
     ensures stored { StoresPayload (rewritten (passed (Some 48) entry.now octets.now)) room.old room.new }
@@ -406,6 +410,7 @@ fn rewritten(limits: &[u8]) -> [u8; 48]
 /// # Errors
 ///
 /// `BadNumber` if its type or its flags do not fit; otherwise as for `passed`.
+#[inline(always)]
 fn put_unknown(of_kind: u16, entry: &Entry, octets: &[u8], room: &mut [u8]) -> Result<usize, Misfit>
     ensures size { result ≡ sized (content_of Fields.Unknown (record entry.now { kind = of_kind }) octets.now) }
     ensures stored { StoresPayload (content_of Fields.Unknown (record entry.now { kind = of_kind }) octets.now)

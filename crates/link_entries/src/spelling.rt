@@ -1,9 +1,7 @@
 //! Attributes and elements that entries spell.
 
-ghost use Rattle.std.specs.Prelude.{◌≡◌, ◌≤◌, ◌<◌, ◌+◌, ◌%◌, [], Ok, length, IfErr};
-ghost use Rattle.link_base.specs.Frame.{max_payload};
+ghost use Rattle.std.specs.Prelude.{◌≡◌, ◌<◌, ◌+◌, ◌%◌, [], Ok, length, IfErr};
 ghost use Rattle.link_base.specs.Borrowed.{elements_at, table_within};
-ghost use Rattle.link_base.specs.Forms.{bytes_in as width_of};
 ghost use Rattle.netlink_packet_route.specs.Family.{table_of};
 ghost use Rattle.link_entries.specs.Fields.{any_number, fields_at, IsNarrow};
 ghost use Rattle.link_entries.specs.Forms.{form_unsigned};
@@ -47,20 +45,22 @@ fn spell_list<F: Attribute>(
 ) -> Result<usize, MisfitAt>
     ensures { Spells (entries_of F.table octets.now entries.now) out.old out.new result }
 {
+    let mut rest = entries;
     let mut len = 0usize;
-    for i in 0..entries.len() {
-        if entries[i].depth == 0 {
+    while let Some((entry, others)) = rest.split_first() {
+        if entry.depth == 0 {
             let from = len.min(out.len());
-            match spell_attribute::<F>(&entries[i], &entries[i + 1..], octets, &mut out[from..]) {
+            match spell_attribute::<F>(entry, others, octets, &mut out[from..]) {
                 Ok(size) => len = len.saturating_add(size),
                 Err(first) => {
                     return Err(MisfitAt {
-                        index: i + first.index,
+                        index: entries.len() - rest.len() + first.index,
                         misfit: first.misfit,
                     });
                 }
             }
         }
+        rest = others;
     }
     Ok(len)
 }
@@ -149,17 +149,19 @@ fn spell_elements<F: Attribute>(
     ensures index { IfErr result (λ e. e.index < length entries.now) }
 {
     let own = fields_of::<F>(None, kind);
+    let mut rest = entries;
     let mut len = 0usize;
-    for i in 0..entries.len() {
-        let entry = &entries[i];
+    while let Some((entry, others)) = rest.split_first() {
         if entry.depth == 0 {
             return Ok(len);
         }
+        let index = entries.len() - rest.len();
         let from = len.min(room.len());
-        match spell_element::<F>(own, kind, i, entry, octets, &mut room[from..]) {
+        match spell_element::<F>(own, kind, index, entry, octets, &mut room[from..]) {
             Ok(size) => len = len.saturating_add(size),
-            Err(misfit) => return Err(MisfitAt { index: i, misfit }),
+            Err(misfit) => return Err(MisfitAt { index, misfit }),
         }
+        rest = others;
     }
     Ok(len)
 }
