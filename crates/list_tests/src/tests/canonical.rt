@@ -1,5 +1,6 @@
 //! Tests which lists are canonical, and the offset of the first attribute that is not.
 
+use crate::is_judged;
 use crate::tests::{bytes, filled, holds, list_of};
 use netlink_packet_route::link::{
     BridgeQuerierState, CanTdc, DefaultNla, InfoDsa, list_is_canonical,
@@ -12,8 +13,7 @@ use std::process::Abort;
 fn are_judged(rt: &impl Abort, alloc: Global, rows: &[(&str, Option<usize>)]) {
     for (line, wanted) in rows {
         let (family, list) = list_of(rt, alloc, line);
-        holds(rt, first_not_canonical(family, &list) == *wanted, line);
-        holds(rt, is_canonical(family, &list) == wanted.is_none(), line);
+        holds(rt, is_judged(family, &list, *wanted), line);
     }
 }
 
