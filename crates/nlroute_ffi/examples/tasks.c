@@ -8,6 +8,7 @@
 
 #include <arpa/inet.h>
 #include <linux/can/netlink.h>
+#include <linux/rtnetlink.h>
 #include <stdio.h>
 #include <stdlib.h>
 #include <string.h>
@@ -91,6 +92,24 @@ static ptrdiff_t querier(const uint8_t *list, size_t len, struct in_addr *addres
     return code;
 }
 
+/* Appends an attribute to a message, whose buffer is zeroed and has room for it. Returns the attribute. */
+static struct rtattr *append(struct nlmsghdr *message, uint16_t type, const void *payload, size_t len) {
+    struct rtattr *attr = (struct rtattr *)((char *)message + NLMSG_ALIGN(message->nlmsg_len));
+    attr->rta_type = type;
+    attr->rta_len = (uint16_t)RTA_LENGTH(len);
+    memcpy(RTA_DATA(attr), payload, len);
+    message->nlmsg_len = (uint32_t)(NLMSG_ALIGN(message->nlmsg_len) + RTA_SPACE(len));
+    return attr;
+}
+
+/* Appends an IFLA_LINKINFO with a list that nlroute_write() wrote, for a device of this kind, such as "bridge". */
+static void append_info(struct nlmsghdr *message, const char *kind, const uint8_t *list, size_t len) {
+    struct rtattr *info = append(message, IFLA_LINKINFO, "", 0);
+    append(message, IFLA_INFO_KIND, kind, strlen(kind));
+    append(message, IFLA_INFO_DATA, list, len);
+    info->rta_len = (uint16_t)((char *)message + message->nlmsg_len - (char *)info);
+}
+
 static int failed;
 
 static void check(bool holds, const char *what) {
@@ -135,5 +154,20 @@ int main(void) {
 
     check(!bit_rate(can, sizeof can, &number) && number == 500000, "a bit rate is read");
     check(!querier(bridge, sizeof bridge, &address) && ntohl(address.s_addr) == 0x0A000001, "a querier is read");
+
+    union {
+        struct nlmsghdr header;
+        uint8_t bytes[128];
+    } message = {.header = {.nlmsg_len = NLMSG_LENGTH(sizeof(struct ifinfomsg)), .nlmsg_type = RTM_NEWLINK}};
+    /* an IFLA_LINKINFO with the kind, the delay, and VLAN filtering */
+    const uint8_t info[36] = {36, 0, 18, 0, 10, 0, 1, 0, 'b', 'r', 'i', 'd', 'g', 'e', 0, 0, 20, 0,
+                              2,  0, 8,  0, 1,  0, 0xDC, 5, 0, 0, 5, 0, 7, 0, 1, 0, 0, 0};
+    const struct nlroute_value request[] = {
+        nlroute_number(NLROUTE_IFLA_BR_FORWARD_DELAY, 1500),
+        nlroute_number(NLROUTE_IFLA_BR_VLAN_FILTERING, 1),
+    };
+    ptrdiff_t written = nlroute_write(NLROUTE_BRIDGE, request, 2, NLROUTE_NO_OCTETS, out, sizeof out);
+    if (written > 0) append_info(&message.header, "bridge", out, (size_t)written);
+    check(message.header.nlmsg_len == 68 && !memcmp(message.bytes + 32, info, sizeof info), "a request is wrapped");
     return failed;
 }
