@@ -1,9 +1,13 @@
 /*
- * Parses, counts, checks, re-encodes and reports lists of netlink link attributes.
+ * Parses, prints, checks, re-encodes and writes lists of netlink link attributes.
  *
  * A list is the payload of an IFLA_INFO_DATA, IFLA_INFO_SLAVE_DATA, IFLA_AF_SPEC or IFLA_PROTINFO attribute. Numbers in
  * lists are little-endian, whatever the byte order of the machine. Return values and outputs are proved to be as
- * described below, for every input; the contracts are in src/lib.rt. What is marked "not proved" is tested only.
+ * described below, for every input; the contracts are in crates/nlroute_ffi/src/lib.rt of the sources. Tested only are
+ * what is marked "not proved", the inline functions, and that a function does not allocate.
+ *
+ * A list is canonical if all padding is present and zero, each nla_type is the one that is written, with its flags, and
+ * each payload is the only encoding of its value.
  *
  * Requirements on the caller:
  * - No pointer is NULL, even for a length of 0. Each is aligned for its type and points to at least as many elements as
@@ -111,7 +115,7 @@ static inline const char *nlroute_refusal_text(ptrdiff_t code)
 }
 
 /*
- * The descriptions below apply if family is one of enum nlroute_family. For any other number, a function
+ * Lists. The descriptions here and below apply if family is one of enum nlroute_family. For any other number, a function
  * returns NLROUTE_NO_FAMILY and writes nothing; nlroute_is_canonical() returns false, and the functions for texts
  * store the empty text.
  */
@@ -147,8 +151,9 @@ ptrdiff_t nlroute_rewrite(uint32_t family, const uint8_t *bytes, size_t len, uin
  *
  * Returns NLROUTE_NO_ROOM if and only if room is less than m, for any input; out is then unchanged. Otherwise
  * NLROUTE_HAS_FAULT and NLROUTE_TOO_LONG are returned as by nlroute_rewrite(). NLROUTE_NO_MEMORY is possible only if
- * the value of some attribute is heap-allocated and that attribute does not follow the first error. These
- * three errors may leave changes in the first m bytes of out, but not after them.
+ * an attribute that does not follow the first error has a value that owns heap memory: a list, bytes, a struct
+ * can_bittiming_const, or one of unknown type. These three errors may leave changes in the first m bytes of out, but not
+ * after them.
  */
 NLROUTE_MUST_USE
 ptrdiff_t nlroute_rewrite_streaming(uint32_t family, const uint8_t *bytes, size_t len, uint8_t *out, size_t room);
@@ -160,6 +165,8 @@ ptrdiff_t nlroute_rewrite_streaming(uint32_t family, const uint8_t *bytes, size_
  */
 NLROUTE_MUST_USE
 ptrdiff_t nlroute_count(uint32_t family, const uint8_t *bytes, size_t len);
+
+/* Values of a list, as an array. The functions below do not allocate. */
 
 /* What a value holds, and in which of its fields. */
 enum nlroute_form {
@@ -282,8 +289,8 @@ ptrdiff_t nlroute_can_bittiming_const(const struct nlroute_value *value, const u
                                       struct can_bittiming_const *limits);
 
 /*
- * Values for nlroute_write(). Each has NLROUTE_FORM_OF_KIND, so the attribute type determines the form; set form for an
- * attribute whose type is not known. Every field that is not an argument is 0.
+ * Values for nlroute_write(). Each of these has NLROUTE_FORM_OF_KIND, so the attribute type determines the form; set form
+ * for an attribute whose type is not known. Every field that is not an argument is 0.
  */
 
 /* A number, a boolean, an enum, or a set of flags without a mask. An attribute without a value has the number 0. */
@@ -410,7 +417,7 @@ ptrdiff_t nlroute_measure(uint32_t family, const struct nlroute_value *values, s
  *
  * On error the buffer gets the empty text: a NUL, if room is not 0.
  *
- * The value need not be one that the library has stored.
+ * You may fill in the value yourself: it need not be one that the library has stored.
  */
 
 /* A buffer of this size holds most texts. Longer ones are of sets with many flags, and of bytes in hex. */
@@ -461,14 +468,14 @@ ptrdiff_t nlroute_number_name(uint32_t family, const struct nlroute_value *value
 ptrdiff_t nlroute_flag_name(uint32_t family, const struct nlroute_value *value, uint32_t bit, char *text, size_t room);
 
 /*
- * What is known of attribute sets and attribute types. The functions below do not depend on a list, and do not allocate.
- * A name is len bytes, without a NUL.
+ * Names and types. The functions below say what is known of attribute sets and attribute types. They do not depend on a
+ * list, and do not allocate. A name is len bytes, without a NUL.
  */
 
 /* What values of an attribute type hold, and how it is written. */
 struct nlroute_row {
-    uint32_t width;  /* how many bytes hold every number of the type, or each of its two; the length of an address, 8 for
-                        NLROUTE_FORM_BRIDGE_ID, or that of the bytes at offset. 0 if there are none, or any number */
+    uint32_t width;  /* bytes of a number of the type, or of each of its two; of an address; of a bridge ID, 8; of the
+                        struct at offset. 0 if there are none, or any number */
     uint16_t flags;  /* flags of nla_type that nlroute_write() writes: NLA_F_NESTED for some lists; else 0 */
     uint8_t form;    /* an nlroute_form; NLROUTE_FORM_UNKNOWN if the type is not known */
     uint8_t is_list; /* 1 if elements follow, else 0 */
@@ -485,8 +492,8 @@ NLROUTE_MUST_USE
 ptrdiff_t nlroute_row(uint32_t family, uint16_t kind, uint16_t inner, uint8_t depth, struct nlroute_row *row);
 
 /*
- * Returns the least attribute type with a name, such as "IFLA_BR_FORWARD_DELAY"; nlroute_kind_of_in() that of an element
- * in nested lists of type `list`. Each compares the names of up to 16384 types: call it once for a name.
+ * Returns the attribute type that has a name, such as "IFLA_BR_FORWARD_DELAY", the lowest if there are several;
+ * nlroute_kind_of_in() that of an element in nested lists of type `list`. Each compares the names of up to 16384 types: call it once for a name.
  *
  * Returns NLROUTE_ABSENT if and only if no type has the name.
  */
@@ -516,13 +523,16 @@ ptrdiff_t nlroute_family_of(const char *name, size_t len);
 /* Stores what nlroute_refusal_text() returns, as described under "Texts" above: for programs that load the library. */
 ptrdiff_t nlroute_code_text(ptrdiff_t code, char *text, size_t room);
 
+/* Checks. These functions look at a list without its values. */
+
 /*
- * Checks whether a list is canonical: nlroute_rewrite() would output the same bytes. Returns false if the input is
+ * Checks whether a list is canonical: then nlroute_rewrite() outputs the same bytes. Returns false if the input is
  * malformed, or if family is not one of enum nlroute_family. Does not allocate.
  */
 NLROUTE_MUST_USE
 bool nlroute_is_canonical(uint32_t family, const uint8_t *bytes, size_t len);
 
+/* The part of a list that is malformed. */
 enum nlroute_place {
     NLROUTE_FRAME = 0,          /* the TLV framing of an attribute of the list: its header or its length */
     NLROUTE_PAYLOAD = 1,        /* the payload of an attribute */
