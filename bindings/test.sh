@@ -68,7 +68,7 @@ python_doctests() {
 
 # The samples of the page print what the page says.
 python_page() {
-    python bindings/python/page.py docs/PYTHON.md
+    python bindings/python/page.py docs/python.md
 }
 
 # Whether this machine has sockets of that kind.
@@ -152,7 +152,7 @@ if has "python3 from 3.11 on" python3 -c 'import sys; sys.exit(sys.version_info 
     check "generate.py: the tables are those of the library" bindings/generate.py --check
     check "python: tests" python_tests
     check "python: doctests" python_doctests
-    check "python: the samples of docs/PYTHON.md" python_page
+    check "python: the samples of docs/python.md" python_page
     if has "netlink socket" netlink; then
         check "python: the links of this machine" prints_links python bindings/python/examples/links.py
     fi

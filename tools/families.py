@@ -23,7 +23,7 @@ LISTS = [
     ("crates/nlroute_ffi/examples/links.c", r'\{{"\w+", NLROUTE_{NAME}\}}', "IFLA_INFO_"),
     ("README.md", r"^\| `{name}` \|.*`{holder}`.*\| `{attributes}` \|$"),
     ("docs/nlroute.1", r"^\.BR? .*\b{name}\b"),
-    ("docs/MODEL.md", r"^### .*`{attributes}`, `{table}`"),
+    ("docs/proofs/MODEL.md", r"^### .*`{attributes}`, `{table}`"),
 ]
 COVERED = [
     ("runs/debug/", r"^> {name} [0-9a-f]"),

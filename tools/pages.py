@@ -3,13 +3,13 @@
 
 usage: tools/pages.py [PAGE..]
 
-The pages are README.md, CONTRIBUTING.md, CHANGELOG.md, docs/*.md and the README.md of bench, tools, extra and crates, or
-those that are named. Each page is checked by nine rules:
+The pages are README.md, CONTRIBUTING.md, CHANGELOG.md, docs/*.md, docs/proofs/*.md and the README.md of bench, tools, extra
+and crates, or those that are named. Each page is checked by nine rules:
 
 - samples: a code block below a line `<!-- from: PATH -->` is a verbatim part of that file. The indentation that its
   lines share may be removed, and blanks at the end of a line do not count. A line `..` or `...` represents any lines.
 - clauses: inline code that begins with `requires ` or `ensures ` is in an .rt file of crates/. White space does not
-  count, and ` .. ` represents any text. In docs/CLAIMS.md, a block of text with the columns function, clause (or –) and
+  count, and ` .. ` represents any text. In docs/proofs/CLAIMS.md, a block of text with the columns function, clause (or –) and
   promise has each promise of that function as its contract has it, or as a `ghost` item of that type has it.
 - links: a relative link leads to a file or folder, and its `#anchor` to a heading of that page.
 - files: inline code that looks like a path, with a slash or one of SUFFIXES, is one: from the top, from the page's
@@ -18,7 +18,7 @@ those that are named. Each page is checked by nine rules:
 - functions: inline code `name(..)`, or `path::name` if the path begins with a crate or a module, names a function of an
   .rt file or of nlroute.h. Those of OTHER_NAMES are skipped.
 - names: a word in snake_case or CamelCase, in inline code or such a block, is in a source: a file of SOURCES. Those of
-  OTHER_NAMES are skipped. So are CHANGELOG.md and docs/DIFFERENCES.md, which have names of the past and of others.
+  OTHER_NAMES are skipped. So are CHANGELOG.md and docs/proofs/DIFFERENCES.md, which have names of the past and of others.
 - rows: a line `3  CONSTANT  Variant  SHAPE as QUANTITY` in such a block is a row of src/, and a row of a table of specs/
   that the heading names. `as QUANTITY` is missing if there is none. What follows a colon or a comma is skipped, and so
   is `as OTHER` in place of a shape.
@@ -26,8 +26,8 @@ those that are named. Each page is checked by nine rules:
   tests, mutants or edits has a mark, except in CHANGELOG.md.
 - budget: the page has no more words than BUDGETS allows. Code blocks and comments do not count.
 
-Unless pages are named, the lists of attribute sets in C, on pages and in runs are compared with the list
-in family.rt, as tools/families.py says. This counts as one more check.
+Unless pages are named, two more checks compare the lists of attribute sets in C, on pages and in runs with the list in
+family.rt, as tools/families.py says, and pages that list all of something with the sources (tools/inventories.py).
 
 The names of counts are `tests`, `mutants`, `must-fail edits` and those `of CRATE`: the functions with `#[test]`, the
 headings `## NAME` of mutants.edits, and the files must-fail/*.edit; `mutants of definitions`: those of files in specs/;
@@ -47,19 +47,20 @@ import urllib.parse
 sys.dont_write_bytecode = True
 sys.path.insert(0, os.path.dirname(os.path.realpath(__file__)))
 import families  # noqa: E402
+import inventories  # noqa: E402
 from runs import Run  # noqa: E402
 
 ROOT = os.path.dirname(os.path.dirname(os.path.realpath(__file__)))
-PAGES = re.compile(r"(README|CONTRIBUTING|CHANGELOG)\.md|docs/[^/]+\.md|(bench|tools|extra|crates/[^/]+)/README\.md")
+PAGES = re.compile(r"(README|CONTRIBUTING|CHANGELOG)\.md|docs/(proofs/)?[^/]+\.md|(bench|tools|extra|crates/[^/]+)/README\.md")
 # The most words that a page may have. Any other README.md below the top has SMALL_BUDGET, and CHANGELOG.md has none.
 BUDGETS = {
-    "README.md": 1520, "CONTRIBUTING.md": 1870, "crates/nlroute_ffi/README.md": 1320, "docs/ARCHITECTURE.md": 2150,
-    "docs/ASSURANCE.md": 1400, "docs/CALLING.md": 1800, "docs/CLAIMS.md": 3050, "docs/DEBUG.md": 700,
-    "docs/DECISIONS.md": 7550, "docs/DIFFERENCES.md": 3000, "docs/MESSAGES.md": 2800, "docs/MODEL.md": 4800,
-    "docs/PROGRAMS.md": 1650, "docs/PYTHON.md": 900, "docs/RUST.md": 900,
+    "README.md": 1300, "CONTRIBUTING.md": 1990, "docs/c.md": 1250, "docs/ARCHITECTURE.md": 1700, "docs/MAP.md": 80,
+    "docs/messages.md": 2000, "docs/programs.md": 1500, "docs/python.md": 900, "docs/rattle.md": 1540,
+    "docs/rust.md": 900, "docs/proofs/ASSURANCE.md": 1150, "docs/proofs/CLAIMS.md": 2200,
+    "docs/proofs/DECISIONS.md": 4950, "docs/proofs/DIFFERENCES.md": 2150, "docs/proofs/MODEL.md": 3650,
 }  # fmt: skip
 SMALL_BUDGET = 600
-HISTORY, COMPARISON, CLAIMS = "CHANGELOG.md", "docs/DIFFERENCES.md", "docs/CLAIMS.md"
+HISTORY, COMPARISON, CLAIMS = "CHANGELOG.md", "docs/proofs/DIFFERENCES.md", "docs/proofs/CLAIMS.md"
 SOURCES = (".rt", ".antt", ".h", ".c", ".rs", ".py", ".sh")
 SUFFIXES = (".rt", ".antt", ".py", ".md", ".h", ".sh", ".edit", ".edits")
 # Paths that are not of this tree: of Linux and C, of Cargo projects, of what tools make, of the kit's pages, and of a
@@ -348,22 +349,41 @@ def clause_tables(page):
         yield from found
 
 
-def unlike_contract(line, name, promises, tree):
-    """How the rows of a function differ from its contract."""
+def head_of(name, promises, tree):
+    """The head of the function that a table of clauses names: of several, that with most of these promises, and then with
+    the fewest others."""
     of, _, last = name.rpartition("::")
     of = "" if of in tree.modules else of or last[:1].isupper() and last
     heads = [head for text, head in tree.heads.get(last, []) if not of or re.search(rf"\b{of}\b", text)]
-    wanted = [f"ensures {clause + ' ' * bool(clause)}{{ {promise} }}" for _, clause, promise in promises]
-    # (of functions of one name it is the one that has the most of them, and then the fewest others)
-    clauses_of = {head: len(re.findall(r"\bensures \w* ?\{", head)) for head in heads}
-    head = max(heads, key=lambda it: (sum(row in it for row in wanted), -clauses_of[it]), default="")
+    wanted = wanted_of(promises)
+    return max(heads, key=lambda it: (sum(row in it for row in wanted), -clauses_in(it)), default="")
+
+
+def wanted_of(promises):
+    """The rows of a function, as its contract has them."""
+    return [f"ensures {clause + ' ' * bool(clause)}{{ {promise} }}" for _, clause, promise in promises]
+
+
+def clauses_in(head):
+    """How many clauses a function has."""
+    return len(re.findall(r"\bensures \w* ?\{", head))
+
+
+def is_ghost(clause, promise, tree):
+    """Whether a type has this ghost item."""
+    ghosts = [f"ghost {clause}{sign} {{ {promise} }}" for sign in (":", " =")]
+    return any(ghost in text for ghost in ghosts for text in tree.sources.values())
+
+
+def unlike_contract(line, name, promises, tree):
+    """How the rows of a function differ from its contract."""
+    head, wanted = head_of(name, promises, tree), wanted_of(promises)
     missing = [row for row, text in zip(promises, wanted) if text not in head]
     for at, clause, promise in missing:
-        ghosts = (f"ghost {clause}{sign} {{ {promise} }}" for sign in (":", " ="))
-        if not any(ghost in text for ghost in ghosts for text in tree.sources.values()):
+        if not is_ghost(clause, promise, tree):
             yield at, f"no contract of `{name}` has the clause {clause or '–'} as the page has it"
-    if not missing and clauses_of[head] > len(promises):
-        yield line, f"`{name}` has {clauses_of[head]} clauses, and the page has {len(promises)}"
+    if not missing and clauses_in(head) > len(promises):
+        yield line, f"`{name}` has {clauses_in(head)} clauses, and the page has {len(promises)}"
 
 
 def links(page, tree):
@@ -486,6 +506,7 @@ def check(root, named):
             results.append([(path, 1, "there is no such page")])
     if not named:
         results.append([*families.disagreements(tree.text_or_none)])
+        results.append([*inventories.missing(tree.files, tree.text)])
     for path, line, message in sorted(it for wrong in results for it in wrong):
         print(f"{path}:{line}: {message}")
     print(f"{results.count([])} passed, {len(results) - results.count([])} failed")

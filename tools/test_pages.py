@@ -13,6 +13,7 @@ import tempfile
 sys.dont_write_bytecode = True
 sys.path.insert(0, os.path.dirname(os.path.realpath(__file__)))
 import families  # noqa: E402
+import inventories  # noqa: E402
 import pages  # noqa: E402
 
 # Files of the small tree below that have no list of attribute sets.
@@ -24,7 +25,7 @@ LISTED = {path: pattern for path, pattern, *_ in families.LISTS + families.COVER
 PAGE = """\
 # Pairs, `one` by one
 
-See [the calls](docs/CALLING.md#what-is-a-pair), [`lib.rt`](crates/pairs/src/lib.rt) and [above](#pairs-one-by-one).
+See [the calls](docs/rattle.md#what-is-a-pair), [`lib.rt`](crates/pairs/src/lib.rt) and [above](#pairs-one-by-one).
 
 <!-- from: crates/pairs/src/lib.rt -->
 ```rust
@@ -68,7 +69,7 @@ src/lib.rt   len_of: IsPair, IsPairPair, NAME.rt, ./made/by_rt.rt
 ```
 """
 CALLING = "# Calling\n\n## What *is* a `Pair`?\n\n## What is a pair\n\n[Back](../README.md), [down](../crates/pairs).\n"
-LEFT = 1800 - len(CALLING.split())
+LEFT = 1540 - len(CALLING.split())
 CLAIMS = """\
 # Claims
 
@@ -137,9 +138,9 @@ ROUTE = "crates/netlink_packet_route"
 TREE = {
     "README.md": PAGE,
     "CHANGELOG.md": "# Changes\n\n12 tests, 13 mutants of `old_name`.\n" + 2000 * "word ",
-    "docs/CALLING.md": CALLING,
-    "docs/CLAIMS.md": CLAIMS,
-    "docs/DIFFERENCES.md": "# Others\n\n`other_name`\n",
+    "docs/rattle.md": CALLING,
+    "docs/proofs/CLAIMS.md": CLAIMS,
+    "docs/proofs/DIFFERENCES.md": "# Others\n\n`other_name`\n",
     LIB: SOURCE,
     SPEC: TABLES,
     "crates/pairs/src/small.rt": SMALL,
@@ -187,18 +188,18 @@ CASES = [
     ("README.md", "```rust\n", "A line.\n\n```rust\n", NO_MARK.format(MARK)),
     ("README.md", "result ≡ 2 }`", "result ≡ 3 }`", NO_CLAUSE.format("ensures length { result ≡ 3 }")),
     ("README.md", "requires { .. }`", "requires { .. } ensures one`", NO_CLAUSE.format("requires { .. } ensures one")),
-    ("docs/CLAIMS.md", "≡ 2", "≡ 3", "docs/CLAIMS.md:" + NO_PROMISE.format(4, "Pair::len_of", "length")),
-    ("docs/CLAIMS.md", "length ", "longer ", "docs/CLAIMS.md:" + NO_PROMISE.format(4, "Pair::len_of", "longer")),
-    ("docs/CLAIMS.md", "s < 2", "s < 3", "docs/CLAIMS.md:" + NO_PROMISE.format(6, "Small", "small")),
-    ("docs/CLAIMS.md", "≡ 1", "≡ 2", "docs/CLAIMS.md:" + NO_PROMISE.format(10, "Small::len_of", "–")),
+    ("docs/proofs/CLAIMS.md", "≡ 2", "≡ 3", "docs/proofs/CLAIMS.md:" + NO_PROMISE.format(4, "Pair::len_of", "length")),
+    ("docs/proofs/CLAIMS.md", "length ", "longer ", "docs/proofs/CLAIMS.md:" + NO_PROMISE.format(4, "Pair::len_of", "longer")),
+    ("docs/proofs/CLAIMS.md", "s < 2", "s < 3", "docs/proofs/CLAIMS.md:" + NO_PROMISE.format(6, "Small", "small")),
+    ("docs/proofs/CLAIMS.md", "≡ 1", "≡ 2", "docs/proofs/CLAIMS.md:" + NO_PROMISE.format(10, "Small::len_of", "–")),
     ("crates/pairs/src/small.rt", "≡ 1 }", "≡ 1 } ensures more { 0 < result }",
-     "docs/CLAIMS.md:10: `Small::len_of` has 2 clauses, and the page has 1"),
-    ("README.md", "docs/CALLING.md#", "docs/CALLS.md#", NO_LINK.format("docs/CALLS.md")),
+     "docs/proofs/CLAIMS.md:10: `Small::len_of` has 2 clauses, and the page has 1"),
+    ("README.md", "docs/rattle.md#", "docs/CALLS.md#", NO_LINK.format("docs/CALLS.md")),
     ("README.md", "(crates/pairs/src/lib.rt)", "(crates/pairs/out/made.md)", NO_LINK.format("crates/pairs/out/made.md")),
-    ("docs/CALLING.md", "/pairs", "/pair", "docs/CALLING.md:7" + NO_LINK.format("crates/pair")[1:]),
+    ("docs/rattle.md", "/pairs", "/pair", "docs/rattle.md:7" + NO_LINK.format("crates/pair")[1:]),
     ("README.md", "(#pairs-one-by-one)", "(#pairs)", "3: `#pairs` is not a heading of README.md"),
     ("README.md", "#what-is-a-pair", "#what-is-a-pair-1"),
-    ("README.md", "#what-is-a-pair", "#what-is-a-pair-2", "3: `#what-is-a-pair-2` is not a heading of docs/CALLING.md"),
+    ("README.md", "#what-is-a-pair", "#what-is-a-pair-2", "3: `#what-is-a-pair-2` is not a heading of docs/rattle.md"),
     ("README.md", "`src/lib.rt`", "`src/main.rt`", "19: " + NO_FILE.format("src/main.rt")),
     ("README.md", "`crates/pairs`", "`crates/pair`", "19: " + NO_FILE.format("crates/pair")),
     ("README.md", "`src/lib.rt`", "`tests.py`", "19: " + NO_FILE.format("tests.py")),
@@ -230,9 +231,9 @@ CASES = [
     ("README.md", "three<", "some<", "22: there is no number before `<!-- count: mutants -->`"),
     *(("README.md", "The other names", it, f"23: '{it}' has no mark `<!-- count: NAME -->` after the number")
       for it in ("8 tests", "275 mutants", "1 must-fail edit")),
-    ("docs/CALLING.md", CALLING, CALLING + LEFT * "word "),
-    ("docs/CALLING.md", CALLING, CALLING + (LEFT + 1) * "word ", "docs/CALLING.md:1: the page has 1,801 words, and its budget is 1,800"),
-    ("docs/CALLING.md", CALLING, CALLING + LEFT * "word " + "\n\n```text\nword\n```\n\n<!-- word -->\n"),
+    ("docs/rattle.md", CALLING, CALLING + LEFT * "word "),
+    ("docs/rattle.md", CALLING, CALLING + (LEFT + 1) * "word ", "docs/rattle.md:1: the page has 1,541 words, and its budget is 1,540"),
+    ("docs/rattle.md", CALLING, CALLING + LEFT * "word " + "\n\n```text\nword\n```\n\n<!-- word -->\n"),
     ("bench/README.md", "", "word " * 601, "bench/README.md:1: the page has 601 words, and its budget is 600"),
     ("docs/NEW.md", "", "# New\n", "docs/NEW.md:1: the page has no budget in tools/pages.py"),
     (HEADER, "NLROUTE_VLAN = 1", "NLROUTE_VLAN = 2", f"{HEADER}:{NO_SET.format(LISTED[HEADER])}"),
@@ -245,6 +246,23 @@ CASES = [
      "25: `<!-- count: lists of plain -->` does not name a count"),
     (f"{ROUTE}/specs/Lib.antt", "specs.Pair", "specs.Pairs",
      f"{ROUTE}/specs/Lib.antt:1: it does not hand on Rattle.link_pairs.specs.Pair, which {ROUTE}/specs/Family.antt uses"),
+]
+
+# Pages that list all of something, with their sources; what is changed there, and what is then missing.
+KEPT = {
+    "crates.txt": "# Crates.\nlink_pairs: bstr\nprogram:\n", "docs/ARCHITECTURE.md": "`link_pairs`, `program`\n",
+    ".ci/run": "before=1\npart rt ci\n    part tools/runs.py\n", "CONTRIBUTING.md": "`rt ci`, then `runs.py`.\n",
+    HEADER: "#define NLROUTE_VERSION 0x00010au\nbool nlroute_is_pair(void);\n", "docs/c.md": "`nlroute_is_pair(..)`\n",
+    "crates/link_pairs/src/lib.rt": "    pub fn pair()\npub(crate) fn hidden()\n", "docs/proofs/CLAIMS.md": "Pair::pair\n",
+    "crates/link_pairs/src/tests/all.rt": "pub fn tested()\n", "README.md": "Version: 0.1.10, unreleased.\n",
+}  # fmt: skip
+LACKING = [
+    ("crates.txt", "program", "programs", "docs/ARCHITECTURE.md: it lacks the crate programs"),
+    (".ci/run", "runs", "kinds", "CONTRIBUTING.md: it lacks the part of CI kinds.py"),
+    (HEADER, "is_pair", "pair", "docs/c.md: it lacks the function nlroute_pair"),
+    ("docs/proofs/CLAIMS.md", "::pair", "::pairs", "docs/proofs/CLAIMS.md: it lacks the public function pair"),
+    (HEADER, "10a", "10b", "README.md: it does not have the version of nlroute.h, 0.1.11"),
+    ("README.md", "", ""),
 ]
 
 
@@ -264,12 +282,16 @@ def failures():
     """What is not found as wanted, for each case, or None."""
     rules = len(pages.RULES)
     for named, wanted in (
-        ([], f"{5 * rules + 1} passed, 0 failed"),
-        (["README.md", "docs/CALLING.md"], f"{2 * rules} passed, 0 failed"),
-        (["docs/MODEL.md"], "docs/MODEL.md:1: there is no such page\n0 passed, 1 failed"),
+        ([], f"{5 * rules + 2} passed, 0 failed"),
+        (["README.md", "docs/rattle.md"], f"{2 * rules} passed, 0 failed"),
+        (["docs/proofs/MODEL.md"], "docs/proofs/MODEL.md:1: there is no such page\n0 passed, 1 failed"),
     ):
         found = "\n".join(said(TREE, *named)[0])
         yield None if found == wanted else f"{named}: {found}"
+    for path, old, new, *wanted in LACKING:
+        tree = KEPT | {path: KEPT[path].replace(old, new)}
+        found = [f"{it}: {message}" for it, _, message in inventories.missing(tree, tree.get)]
+        yield None if found == wanted else f"{path}, {old!r}: {found}, not {wanted}"
     for path, old, new, *wanted in CASES:
         text = TREE.get(path, "")
         (*lines, last), status = said(TREE | {path: text.replace(old, new) if text else new})

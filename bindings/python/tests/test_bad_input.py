@@ -1,4 +1,4 @@
-"""What bad input gets: each row of the table in docs/PYTHON.md, and what follows from it."""
+"""What bad input gets: each row of the table in docs/python.md, and what follows from it."""
 import subprocess
 import sys
 import unittest

@@ -1,0 +1,249 @@
+#!/usr/bin/env python3
+"""Writes what is made from the sources: docs/MAP.md, docs/nlroute.3, and the tables of docs/proofs/CLAIMS.md.
+
+usage: tools/made.py [--check]
+
+MAP.md has the files of the crates, each with the first sentence of its header. A file of src/ begins with lines `//!`, one
+of specs/ or proofs/ with lines `--`. Lib.antt, which only lists the others, and the proofs of single functions, in folders
+below proofs/, are left out. The crates are in the order of crates.txt.
+
+nlroute.3 is the man page of nlroute.h: the declarations, and the comment above each as paragraphs. A comment without
+declarations begins a section, whose name is its first words. What is only for the preprocessor is left out, and of two
+definitions of a macro the one for C++. An inline function has no body there. The example is that of docs/c.md.
+
+A table of CLAIMS.md names functions, and has the clauses of their contracts: name and promise, as the sources have them,
+without `requires`. To add a function to a table, write its name there. Of several functions of one name, it is the one
+that has most of the promises that are there. A row that is in no contract is a ghost item, and stays as it is.
+
+With --check it says which of them is not what would be written, and which files have no header, and ends with 'N passed,
+M failed'; CI does this.
+"""
+import glob
+import re
+import sys
+import textwrap
+
+sys.dont_write_bytecode = True
+from pages import CLAIMS, ROOT, Tree, clause_tables, head_of, is_ghost  # noqa: E402
+
+# ---- docs/MAP.md
+
+TOP = """\
+# The files of the crates
+
+Each file of `src`, `specs` and `proofs`, with the first sentence of its header. `tools/made.py` writes this page.
+[ARCHITECTURE.md](ARCHITECTURE.md) says how the crates fit together.
+"""
+HEADER = {"rt": re.compile(r"(?://!.*\n)+"), "antt": re.compile(r"(?:-- .*\n)+")}
+COLUMN, WIDTH = 34, 118
+
+
+def header(text, suffix):
+    """The first sentence of a file's header; nothing if it has none."""
+    found = HEADER[suffix].match(text)
+    words = " ".join(line[3:].strip() for line in found[0].split("\n")) if found else ""
+    return re.split(r"(?<=\.)\s", words.strip())[0].rstrip(".")
+
+
+def files(crate):
+    """The files of a crate that the page lists: its code, then its definitions, then its lemmas."""
+    code = glob.glob("**/*.rt", root_dir=f"{ROOT}/crates/{crate}/src", recursive=True)
+    yield from (f"src/{it}" for it in sorted(code, key=lambda it: (it not in ("lib.rt", "main.rt"), it)))
+    for part in ("specs", "proofs"):
+        found = sorted(glob.glob("*.antt", root_dir=f"{ROOT}/crates/{crate}/{part}"))
+        yield from (f"{part}/{it}" for it in found if it != "Lib.antt")
+
+
+def row(path, words):
+    """The lines of one file."""
+    lines = textwrap.wrap(words, WIDTH - COLUMN, break_long_words=False)
+    first = f"{path:<{COLUMN - 1}} {lines[0]}" if len(path) < COLUMN else f"{path}\n{' ' * COLUMN}{lines[0]}"
+    return "\n".join([first, *(" " * COLUMN + it for it in lines[1:])])
+
+
+def map_of(tree, ill):
+    """The text of MAP.md. Files without a header are added to `ill`."""
+    parts = [TOP]
+    for crate in re.findall(r"^(\w+)[^:\n#]*:", tree.text("crates.txt"), re.MULTILINE):
+        found = {path: header(tree.text(f"crates/{crate}/{path}"), path.rpartition(".")[2]) for path in files(crate)}
+        ill += [f"crates/{crate}/{path}" for path, words in found.items() if not words]
+        rows = [row(path, words) for path, words in found.items() if words]
+        parts.append(f"## `{crate}`\n\n```text\n" + "\n".join(rows) + "\n```\n")
+    return "\n".join(parts)
+
+
+# ---- docs/nlroute.3
+
+NLROUTE_H = "crates/nlroute_ffi/include/nlroute.h"
+FRONT = """\
+.\\" tools/made.py writes this page from nlroute.h.
+.TH NLROUTE 3 "" "nlroute {version}" "Library Functions Manual"
+.\\" Names are not hyphenated.
+.nh
+.SH NAME
+nlroute \\- parse, print, write and check lists of netlink link attributes
+.SH SYNOPSIS
+.nf
+.B #include <nlroute.h>
+.B #include <nlroute_kinds.h>
+.PP
+.B cc main.c $(pkg\\-config \\-\\-cflags \\-\\-libs nlroute)
+.fi
+.SH DESCRIPTION
+"""
+BACK = """\
+.SH SEE ALSO
+.BR nlroute (1),
+.BR nlshow (1),
+.BR rtnetlink (7)
+"""
+# A comment that begins a line, and what follows it up to an empty line.
+PART = re.compile(r"^/\*(?P<said>(?:[^*]|\*(?!/))*)\*/\n(?P<code>(?:(?!/\*).+\n)*)", re.MULTILINE)
+
+
+def escaped(text):
+    """A text of a man page that is printed as it is."""
+    text = text.replace("\\", "\\e").replace("-", "\\-")
+    return re.sub(r"^(?=[.'])", "\\\\&", text, flags=re.MULTILINE)
+
+
+def paragraphs(comment):
+    """The paragraphs of a comment, and the items of its lists, as a man page has them."""
+    lines = [re.sub(r"^ ?\* ?", "", it).rstrip() for it in comment.strip().split("\n")]
+    found = [["", ""]]
+    for line in lines:
+        is_item, goes_on = line.startswith("- "), found[-1][1] and (line.startswith("  ") or found[-1][0] == ".PP")
+        if is_item or not line or not goes_on:
+            found.append([".IP \\(bu 2" if is_item else ".PP", ""])
+        found[-1][1] += f" {line.removeprefix('- ').strip()}"
+    for macro, words in found:
+        if words.strip():
+            yield f"{macro}\n" + re.sub(r"\b(nlroute_\w+)\(\)", r"\\fB\1\\fP()", escaped(words.strip())) + "\n"
+
+
+def declared(code):
+    """The declarations of some code: without attributes, bodies and what is for the preprocessor."""
+    code = re.sub(r"^#ifdef __cplusplus\n#.*\n#else\n", "", code, flags=re.MULTILINE)
+    code = re.sub(r"^(#(?!define \w+ \S).*|NLROUTE_MUST_USE|struct \w+;)\n", "", code, flags=re.MULTILINE)
+    code = re.sub(r"^static inline (.*?)\n\{\n.*?^\}\n?", r"\1;\n", code, flags=re.MULTILINE | re.DOTALL)
+    return code.replace("NLROUTE_EXTENSION ", "").rstrip()
+
+
+def manual(tree):
+    """The text of nlroute.3."""
+    text = tree.text(NLROUTE_H)
+    version = re.search(r"#define NLROUTE_VERSION 0x(\w\w)(\w\w)(\w\w)u", text)
+    parts = [FRONT.format(version=".".join(str(int(it, 16)) for it in version.groups()))]
+    first, *others = PART.finditer(text)
+    parts += [*paragraphs(first["said"]), ".SH VERSION, SETS AND ERRORS\n"]
+    for part in others:
+        code, said = declared(part["code"]), [*paragraphs(part["said"])]
+        if "#if" in part["code"] and not re.search(r"^#define NLROUTE_NO", code, re.MULTILINE):
+            continue
+        if code:
+            bare = re.sub(r"/\*.*?\*/", "", code, flags=re.DOTALL)
+            names = re.findall(r"\bnlroute_\w+(?=\()|^(?:enum|struct) \w+(?= \{)|(?<=define )\w+", bare, re.MULTILINE)
+            parts.append(f".SS {escaped(', '.join(names))}\n.nf\n{escaped(code)}\n.fi\n")
+        else:
+            title = re.match(r"[^.,]*", re.sub(r"\s+", " ", part["said"].replace("*", " ")).strip())[0]
+            parts.append(f".SH {escaped(title.upper().replace('NLROUTE_WRITE()', 'nlroute_write'))}\n")
+        parts += said
+    return "".join([*parts, ".SH EXAMPLES\n.nf\n", escaped(example(tree)), "\n.fi\n", BACK])
+
+
+def example(tree):
+    """The program of docs/c.md."""
+    return re.search(r"^```c\n(#include.*?)\n```$", tree.text("docs/c.md"), re.MULTILINE | re.DOTALL)[1]
+
+
+# ---- docs/proofs/CLAIMS.md
+
+COLUMNS = 140
+
+
+def promises(head):
+    """The clauses of a function, from its head in one line: names, or –, and promises."""
+    found = []
+    for it in re.finditer(r"\bensures\*? (\w* ?)\{ ", head.split(" fn ")[0]):
+        end, depth = it.end(), 1
+        while depth:
+            depth += {"{": 1, "}": -1}.get(head[end], 0)
+            end += 1
+        if not it[0].startswith("ensures*"):
+            found.append((it[1].strip() or "–", head[it.end() : end - 1].strip()))
+    return found
+
+
+def rows_of(name, rows, tree):
+    """The rows of a function in a table: those of its contract, then those of ghost items, which are there already."""
+    head = head_of(name, rows, tree)
+    own = promises(head) if head else []
+    others = [(clause, promise) for _, clause, promise in rows if (clause, promise) not in own]
+    return own + [it for it in others if is_ghost(*it, tree)]
+
+
+def broken(text, width):
+    """A promise in lines of at most this width, broken where the fewest brackets are open; the first is longer by two."""
+    depths = [text[:at].count("(") - text[:at].count(")") for at in range(len(text))]
+    start, limit = 0, width
+    while len(text) - start > limit:
+        spaces = [at for at in range(start + limit // 2, start + limit + 1) if text[at] == " "]
+        end = min(spaces, key=lambda at: (depths[at], -at), default=text.find(" ", start + limit))
+        if end < 0:
+            break
+        yield text[start:end]
+        start, limit = end + 1, width - 2
+    yield text[start:]
+
+
+def table(functions, tree):
+    """The lines of a table of clauses."""
+    rows = [(name, rows_of(name, found, tree)) for _, name, found in functions]
+    first = max(len(name) for name, _ in rows) + 2
+    second = max([len(clause) for _, found in rows for clause, _ in found], default=0) + 2
+    for name, found in rows:
+        for clause, promise in found:
+            line, *others = broken(promise, COLUMNS - first - second)
+            yield f"{name:<{first}}{clause:<{second}}{line}"
+            yield from (" " * (first + second + 2) + it for it in others)
+            name = ""
+
+
+def claims(tree):
+    """The text of CLAIMS.md with its tables."""
+    page = tree.page(CLAIMS)
+    lines, tables = [*page.lines], {}
+    for line, name, rows in clause_tables(page):
+        start = max(it for it in page.blocks if it < line)
+        tables.setdefault(start, []).append((line, name, rows))
+    for start in sorted(tables, reverse=True):
+        lines[start : start + len(page.blocks[start])] = table(tables[start], tree)
+    return "\n".join(lines)
+
+
+# ---- all of them
+
+
+def main():
+    option = "".join(sys.argv[1:])
+    if option not in ("", "--check"):
+        sys.exit(__doc__)
+    tree, ill = Tree(ROOT), []
+    made = {"docs/MAP.md": map_of(tree, ill), "docs/nlroute.3": manual(tree), CLAIMS: claims(tree)}
+    if not option:
+        for path, text in made.items():
+            with open(f"{ROOT}/{path}", "w", encoding="utf-8") as file:
+                file.write(text)
+        return
+    changed = [path for path, text in made.items() if tree.text(path) != text]
+    for path in ill:
+        print(f"{path}: it has no header")
+    for path in changed:
+        print(f"{path}: it is not what tools/made.py writes: run that")
+    failed = len(changed) + bool(ill)
+    print(f"{len(made) + 1 - failed} passed, {failed} failed")
+    sys.exit(failed > 0)
+
+
+if __name__ == "__main__":
+    main()
