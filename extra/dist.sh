@@ -84,7 +84,7 @@ and without the shared object:
 
   cc -I include main.c lib/libnlroute.a
 
-The man pages: man -l share/man/man1/nlshow.1
+The man pages: man -l share/man/man1/nlshow.1, or share/man/man3/nlroute.3 for the C API
 
 Licence
 
@@ -104,7 +104,7 @@ done
 cd "$prefix"
 tar -cf "$room/files.tar" bin/nlroute bin/nlshow include/nlroute*.h lib/libnlroute.a lib/libnlroute.so \
     "lib/libnlroute.so.$series" "lib/libnlroute.so.$version" lib/pkgconfig/nlroute.pc \
-    share/man/man1/nlroute.1 share/man/man1/nlshow.1
+    share/man/man1/nlroute.1 share/man/man1/nlshow.1 share/man/man3/nlroute.3
 tar -xf "$room/files.tar" -C "$room/$name"
 cd "$room"
 tar --sort=name --format=ustar --owner=0 --group=0 --numeric-owner --mode=u=rwX,go=rX --mtime="@$date" \

@@ -73,7 +73,7 @@ END
 
 # The example of the page, compiled by the command of the page.
 example() (
-    page=$PWD/crates/nlroute_ffi/README.md
+    page=$PWD/docs/c.md
     cd "$room"
     awk '/^```c$/ { on = 1; next } /^```$/ { on = 0 } on' "$page" >main.c
     eval "$(grep '^cc main.c ' "$page")"
@@ -106,7 +106,7 @@ runs() {
 }
 
 man_page() {
-    man --warnings=w -E UTF-8 -l -Tutf8 -Z "$tree/share/man/man1/$1" 2>&1 >/dev/null | diff - /dev/null
+    man --warnings=w -E UTF-8 -l -Tutf8 -Z "$tree/share/man/man${1##*.}/$1" 2>&1 >/dev/null | diff - /dev/null
 }
 
 # The same files, wherever they were installed.
@@ -154,8 +154,8 @@ check "the example of the page" example
 check "nlroute" runs nlroute dsa
 check "nlshow" runs nlshow
 command -v man >/dev/null || echo "skipped: there is no man"
-for it in nlroute nlshow; do
-    ! command -v man >/dev/null || check "$it.1" man_page "$it.1"
+for it in nlroute.1 nlshow.1 nlroute.3; do
+    ! command -v man >/dev/null || check "$it" man_page "$it"
 done
 
 echo "$passed passed, $failed failed"

@@ -7,7 +7,8 @@
 #     lib/libnlroute.so          the same as a shared object. This is a link; the name that programs load has the major
 #                                and minor version
 #     lib/pkgconfig/nlroute.pc   finds the other files from its own place: the tree can be moved
-#     bin/, share/man/man1/      the programs nlroute and nlshow
+#     bin/                       the programs nlroute and nlshow
+#     share/man/                 the man pages nlroute(1), nlshow(1) and nlroute(3)
 #
 # LIBDIR names another folder of PREFIX for the library, as lib64 or lib/x86_64-linux-gnu.
 #
@@ -119,4 +120,5 @@ ln -sf "$name" "$into/$libdir/libnlroute.so"
 put 644 "$libdir/pkgconfig" "$room/nlroute.pc"
 put 755 bin "$room/nlroute" "$room/nlshow"
 put 644 share/man/man1 docs/nlroute.1 docs/nlshow.1
+put 644 share/man/man3 docs/nlroute.3
 echo "nlroute $version is installed in $into"
