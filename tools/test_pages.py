@@ -14,6 +14,7 @@ sys.dont_write_bytecode = True
 sys.path.insert(0, os.path.dirname(os.path.realpath(__file__)))
 import families  # noqa: E402
 import inventories  # noqa: E402
+import made  # noqa: E402
 import pages  # noqa: E402
 
 # Files of the small tree below that have no list of attribute sets.
@@ -265,6 +266,22 @@ LACKING = [
     ("README.md", "", ""),
 ]
 
+# What tools/made.py makes of a head of a file, a comment and a declaration of a header, a contract, and a long promise.
+MADE = [
+    (made.header("//! A pair: `a.b`, and\n//! more. Not this.\n\n//! Nor this.\n", "rt"), "A pair: `a.b`, and more"),
+    (made.header("use A.{b}\n-- Late.\n", "antt"), ""),
+    (made.row("src/lib.rt", "Pairs"), "src/lib.rt" + 24 * " " + "Pairs"),
+    ([*made.paragraphs(" * It calls nlroute_f(), with:\n * - a-b,\n *   and c;\n *\n * .so on\n")],
+     [".PP\nIt calls \\fBnlroute_f\\fP(), with:\n", ".IP \\(bu 2\na\\-b, and c;\n", ".PP\n\\&.so on\n"]),
+    (made.declared("NLROUTE_MUST_USE\nbool f(void);\n#define NLROUTE_A 1\n#ifdef X\n"), "bool f(void);\n#define NLROUTE_A 1"),
+    (made.declared("static inline int f(int a)\n{\n    return a;\n}\n"), "int f(int a);"),
+    (made.declared("#ifdef __cplusplus\n#define A b\n#else\n#define A c d\n#endif\n"), "#define A c d"),
+    (made.promises("f(a: A) requires { x } ensures { y {z} } ensures* w { v } ensures named { u } { body }"),
+     [("–", "y {z}"), ("named", "u")]),
+    ([*made.broken("one (two three) four", 16)], ["one (two three)", "four"]),
+    ([*made.broken("one", 16)], ["one"]),
+]  # fmt: skip
+
 
 def said(tree, *named):
     """What is said of the pages of a tree, and the status."""
@@ -288,6 +305,8 @@ def failures():
     ):
         found = "\n".join(said(TREE, *named)[0])
         yield None if found == wanted else f"{named}: {found}"
+    for found, wanted in MADE:
+        yield None if found == wanted else f"{found!r}, not {wanted!r}"
     for path, old, new, *wanted in LACKING:
         tree = KEPT | {path: KEPT[path].replace(old, new)}
         found = [f"{it}: {message}" for it, _, message in inventories.missing(tree, tree.get)]
