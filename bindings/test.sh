@@ -1,7 +1,7 @@
 #!/bin/sh
 # test.sh [PREFIX]: builds and tests the bindings for Rust and Python with the library that tools/install.sh has
 # installed in the folder PREFIX or, if none is named, in $NLROUTE_PREFIX. Without both, it first installs an unproved
-# build in a temporary folder: three to four minutes more.
+# build in a temporary folder: four to five minutes more.
 #
 # It needs cc. What needs python3 from 3.11 on, cargo, clippy, pip, mypy or pyroute2 is skipped if that is missing, and a
 # line says so. It uses no network.

@@ -12,7 +12,7 @@
 #
 # LIBDIR names another folder of PREFIX for the library, as lib64 or lib/x86_64-linux-gnu.
 #
-# With --fast the builds are those of bench/unproved.py: they take three to four minutes, and nothing of them is proved.
+# With --fast the builds are those of bench/unproved.py: they take four to five minutes, and nothing of them is proved.
 # Otherwise the first call takes half an hour or more. If a build fails, nothing is installed.
 # It needs cc, ld, objcopy and ar (Debian's packages gcc, libc6-dev and binutils). CC names another compiler.
 set -eu
