@@ -1,5 +1,5 @@
 -- The lines of messages, from what was written for their parts.
-use Rattle.std.proofs.Common.{◌≡◌, ◌≢◌, ℕ, ℤ, pos, negsuc, Bool, true, false, true≢false, arith, ◌&&◌, List, [], ◌∷◌, ◌++◌, drop, Option, Some, None, Result, Ok, Err, OnOk, IfOk, refl, sym, ap, subst, ◌∙◌, append_assoc, codes}
+use Rattle.std.proofs.Common.{◌≡◌, ◌≢◌, ℕ, ℤ, pos, negsuc, Bool, true, false, true≢false, arith, ◌&&◌, List, [], ◌∷◌, ◌++◌, drop, Option, None, Result, Ok, Err, OnOk, IfOk, refl, sym, ap, subst, ◌∙◌, append_assoc, codes}
 use Rattle.std.specs.Fmt.{decimal, signed_decimal}
 use Rattle.std.specs.Int.RustNames.{unsigned_abs}
 use Rattle.std.specs.Int.{is_negative}
@@ -8,10 +8,9 @@ use Rattle.link_show.specs.Gained.{gains_nothing, gains_more}
 use Rattle.std.proofs.lemmas.Bool.{ltb-true, cond-true, cond-false, eq-eqb, ne_eqb}
 use Rattle.link_base.specs.Labels.{name_in}
 use Rattle.link_messages.specs.declared.buffer_parts.Message.{Message}
-use Rattle.link_messages.specs.declared.message.MessageError.{MessageError}
 use Rattle.link_messages.specs.declared.message.MessageError.TheVariants as errors
 use Rattle.link_messages.specs.declared.header.LinkHeader.{LinkHeader}
-use Rattle.link_messages.specs.Message.{Stand, IsMessageAt, header_fault}
+use Rattle.link_messages.specs.Message.{Stand, IsMessageAt}
 use Rattle.link_messages.proofs.Messages.{stand_more}
 use Rattle.link_show.specs.Flags.{flags_text}
 use Rattle.link_show.specs.MessageNames.{address_families, device_types, device_flags}
@@ -19,7 +18,7 @@ use Rattle.link_show.specs.Structs.{field}
 use Rattle.link_show.specs.Fault.{bytes_text, byte_word}
 use Rattle.link_show.specs.Errno.{errno_names}
 use Rattle.link_show.specs.List.{indented, EachShown, Writes}
-use Rattle.link_show.specs.Message.{two, name_part, named_or, link_line, unless_zero, others_line, errno_name, result_line, error_number_line, opaque_text, message_line, message_error_line, ShowsBody, ShowsMessage, ShowsMessages, ShowsEnd, Ended, Done, Broken}
+use Rattle.link_show.specs.Message.{two, name_part, named_or, link_line, unless_zero, others_line, errno_name, result_line, error_number_line, opaque_text, message_line, message_error_line, ShowsBody, ShowsMessage, ShowsMessages, ShowsEnd, Ended, Done}
 use Rattle.link_show.proofs.Listing.{and_true, each_none, each_more}
 
 pub if_ok : {X E : Type 0} (P Q : X → Type 0) (r : Result X E) → ((x : X) → P x → Q x) → IfOk r P → IfOk r Q
@@ -121,9 +120,10 @@ messages_more check s at m old mid new whole well h is other (out, shown, writte
   written = gains_more old mid new h.front out h.written written;
 }
 
-ends : (check : Bool) (s : List ℕ) (at : ℕ) (old mid new : Output) (whole well : Bool) (out : List ℕ) → MessagesTo check s at old mid whole → ShowsEnd check s at out well → Gains mid new out
+-- what ends them
+pub messages_end : (check : Bool) (s : List ℕ) (at : ℕ) (old mid new : Output) (whole well : Bool) → MessagesTo check s at old mid whole → Writes (ShowsEnd check s at) mid new well
     → Writes (ShowsMessages check s) old new (whole && well)
-ends check s at old mid new whole well out h shown written = (
+messages_end check s at old mid new whole well h (out, shown, written) = (
   h.front ++ out,
   record { messages = h.messages; end = at; stand = h.stand; front = h.front; front_well = whole; each = h.each; last = out; last_well = well; at_end = shown; joined = refl; all = refl },
   gains_more old mid new h.front out h.written written,
@@ -131,19 +131,9 @@ ends check s at old mid new whole well out h shown written = (
 
 -- the end of the buffer
 pub messages_all : (check : Bool) (s : List ℕ) (at : ℕ) (old new : Output) (whole : Bool) → MessagesTo check s at old new whole → drop at s ≡ [] → Writes (ShowsMessages check s) old new whole
-messages_all check s at old new whole h e = subst (Writes (ShowsMessages check s) old new) (and_true whole) (ends check s at old new new whole true [] h (Ended e refl refl) (gains_nothing new))
+messages_all check s at old new whole h e = subst (Writes (ShowsMessages check s) old new) (and_true whole) (messages_end check s at old new new whole true h ([], Ended e refl refl, gains_nothing new))
 
 -- an NLMSG_DONE
 pub messages_done : (check : Bool) (s : List ℕ) (at : ℕ) (m : Message) (old mid new : Output) (whole well : Bool) → MessagesTo check s at old mid whole → IsMessageAt at (drop at s) m → m.kind ≡ 3
     → Writes (ShowsMessage check m) mid new well → Writes (ShowsMessages check s) old new (whole && well)
-messages_done check s at m old mid new whole well h is done (out, shown, written) = ends check s at old mid new whole well out h (Done m is done shown) written
-
-and_false : (b : Bool) → (b && false) ≡ false
-and_false true = refl
-and_false false = refl
-
--- bytes that are no message
-pub messages_broken : (check : Bool) (s : List ℕ) (at : ℕ) (error : MessageError) (old mid new : Output) (whole : Bool) → MessagesTo check s at old mid whole → drop at s ≢ []
-    → header_fault at (drop at s) ≡ Some error → Gains mid new (message_error_line [] error) → Writes (ShowsMessages check s) old new false
-messages_broken check s at error old mid new whole h some bad written =
-    subst (Writes (ShowsMessages check s) old new) (and_false whole) (ends check s at old mid new whole false (message_error_line [] error) h (Broken error some bad refl refl) written)
+messages_done check s at m old mid new whole well h is done (out, shown, written) = messages_end check s at old mid new whole well h (out, Done m is done shown, written)

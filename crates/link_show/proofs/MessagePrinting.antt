@@ -35,9 +35,10 @@ use Rattle.link_show.specs.Number.{number_text}
 use Rattle.link_show.specs.Flags.{enum_text, flags_text}
 use Rattle.link_show.specs.Octets.{address_text}
 use Rattle.link_show.specs.Quoted.{quoted}
+use Rattle.link_show.specs.Fault.{byte_word}
 use Rattle.link_show.specs.Errno.{errno_names}
 use Rattle.link_show.specs.MessageNames.{message_types, common_flags, new_flags, get_flags, delete_flags, error_flags, flags_of, address_families, device_types, device_flags, operational_states}
-use Rattle.link_show.specs.Message.{two, four, reason_text, offset_of, message_error_line, named_or, message_line, unless_zero, name_part, header_parts, link_line, line_of, opaque_text, ShowsFamily, ShowsPayload, kind_or_port, kind_line, ShowsData, fault_line, ShowsInfo, ShowsOptionalInfo, ShowsPart, state_names, ShowsProtinfo, attribute_lines, others_line, ShowsLink, number_after, error_number_line, errno_name, result_line, reply_lines, ShowsBody, Link, Reply, NoLink, NoReply, Other, ShowsMessage, ShowsEnd, Ended, Done, Broken, ShowsMessages}
+use Rattle.link_show.specs.Message.{two, four, reason_text, offset_of, message_error_line, named_or, message_line, unless_zero, name_part, header_parts, link_line, line_of, opaque_text, ShowsFamily, ShowsPayload, kind_or_port, kind_line, ShowsData, fault_line, ShowsInfo, ShowsOptionalInfo, ShowsPart, state_names, ShowsProtinfo, attribute_lines, others_line, ShowsLink, number_after, error_number_line, errno_name, result_line, reply_lines, ShowsBody, Link, Reply, General, NoLink, NoReply, Other, ShowsMessage, zeros_line, ShowsEnd, Ended, Done, Zeros, Broken, ShowsMessages}
 use Rattle.link_show.specs.Printable.{IsText, AreTexts, has_texts}
 use Rattle.link_show.proofs.Printing.{text, none, and, either, decimal_text, signed_text, address_digits, quoted_text}
 use Rattle.link_show.proofs.ValuePrinting.{EachName, OnText, are_text_names, choose, each_name, name_found, label_is_text, formed_texts, enum_is_text, number_is_text, flags_is_text, field_is_text, bytes_is_text, cause_is_text}
@@ -360,7 +361,8 @@ MessageBytes m = IsBytes m.payload.now
 body_texts : (check : Bool) (m : Message) (out : List ℕ) (well : Bool) → MessageBytes m → ShowsBody check m out well → AreTexts out
 body_texts check m out well h (Link d has shown) = link_texts check d out well (details_bytes m d h has) shown
 body_texts check m out well h (Reply a has is e) = subst AreTexts (sym is) (reply_texts a)
-body_texts check m out well h (NoLink error kind has is e) = subst AreTexts (sym is) (message_error_texts two error (text refl))
+body_texts check m out well h (General kind is e) = subst AreTexts (sym is) no_texts
+body_texts check m out well h (NoLink error kind other has is e) = subst AreTexts (sym is) (message_error_texts two error (text refl))
 body_texts check m out well h (NoReply error kind has is e) = subst AreTexts (sym is) (message_error_texts two error (text refl))
 body_texts check m out well h (Other u v is e) = subst AreTexts (sym is) no_texts
 
@@ -377,10 +379,18 @@ stand_bytes : (s : List ℕ) (at : ℕ) (messages : List Message) (end : ℕ) �
 stand_bytes s at [] end h k = tt
 stand_bytes s at (m ∷ messages) end h k = (at_bytes at (drop at s) m (drop_bytes at s h) k.0.0, stand_bytes s m.next messages end h k.1)
 
+zeros_texts : (at n : ℕ) → AreTexts (zeros_line at n)
+zeros_texts at n =
+    line_texts (
+    line_and (decimal_text n)
+    (line_and {t = codes " zero"} (text refl) (line_and {t = byte_word n} (either (n == 1) (text refl) (text refl)) (line_and {t = codes " at "} (text refl) (line_end (decimal_text at)))))
+    )
+
 end_texts : (check : Bool) (s : List ℕ) (at : ℕ) (out : List ℕ) (well : Bool) → IsBytes s → ShowsEnd check s at out well → AreTexts out
 end_texts check s at out well h (Ended e is w) = subst AreTexts (sym is) no_texts
 end_texts check s at out well h (Done m is kind shown) = message_texts check m out well (at_bytes at (drop at s) m (drop_bytes at s h) is) shown
-end_texts check s at out well h (Broken error some e is w) = subst AreTexts (sym is) (message_error_texts [] error none)
+end_texts check s at out well h (Zeros some zeros is w) = subst AreTexts (sym is) (zeros_texts at _)
+end_texts check s at out well h (Broken error some other e is w) = subst AreTexts (sym is) (message_error_texts [] error none)
 
 pub messages_texts : (check : Bool) (s out : List ℕ) (whole : Bool) → IsBytes s → ShowsMessages check s out whole → AreTexts out
 messages_texts check s out whole h shown =

@@ -1,7 +1,8 @@
 -- The lines of messages about links.
-use Rattle.std.specs.Prelude.{◌≡◌, ◌≢◌, ℕ, suc, ℤ, pos, negsuc, ◌+◌, ◌==◌, Bool, true, false, ◌&&◌, List, [], ◌∷◌, ◌++◌, length, drop, Option, Some, None, codes, if◌then◌else◌}
+use Rattle.std.specs.Prelude.{◌≡◌, ◌≢◌, ℕ, suc, ℤ, pos, negsuc, ◌+◌, ◌<◌, ◌≤◌, ◌==◌, Bool, true, false, ◌&&◌, List, [], ◌∷◌, ◌++◌, length, drop, Option, Some, None, codes, if◌then◌else◌}
 use Rattle.std.specs.Fmt.{decimal, signed_decimal}
 use Rattle.std.specs.Int.RustNames.{unsigned_abs}
+use Rattle.std.specs.List.{AllByRecursion}
 use Rattle.std.specs.Option.{option_copied}
 use Rattle.link_base.specs.declared.rows.label.Quantity.TheVariants.{Number, InterfaceIndex}
 use Rattle.link_base.specs.Labels.{name_in}
@@ -31,7 +32,7 @@ use Rattle.link_show.specs.Octets.{address_text}
 use Rattle.link_show.specs.Quoted.{quoted}
 use Rattle.link_show.specs.Structs.{field}
 use Rattle.link_show.specs.Value.{Label, names_of}
-use Rattle.link_show.specs.Fault.{bytes_text, cause_words}
+use Rattle.link_show.specs.Fault.{byte_word, bytes_text, cause_words}
 use Rattle.link_show.specs.List.{indented, error_line, EachShown, ShowsChecked}
 use Rattle.link_show.specs.Errno.{errno_names}
 use Rattle.link_show.specs.MessageNames.{message_types, flags_of, address_families, device_types, device_flags, operational_states}
@@ -252,11 +253,17 @@ reply_lines a =
 
 -- ---- a message
 
+-- m is an RTM_GETLINK in the general form: it has a `struct rtgenmsg`, which is one byte, and no whole `struct ifinfomsg`,
+-- which is 16 (`include/uapi/linux/rtnetlink.h`)
+abbrev pub IsGeneral : Message → Type 0
+IsGeneral m = (m.kind ≡ 18) × (1 ≤ length m.payload.now) × (length m.payload.now < 16)
+
 -- the lines of a message below its first, and whether none is an error
 pub data ShowsBody (check : Bool) (m : Message) (out : List ℕ) (well : Bool) : Type 0 where
   Link : (d : LinkDetails) → HasDetails m.at (packet_of m) d → ShowsLink check d out well → ShowsBody check m out well
   Reply : (a : Acknowledgement) → IsAcknowledgement m.at (packet_of m) a → out ≡ reply_lines a → well ≡ is_sound a.fault → ShowsBody check m out well
-  NoLink : (error : MessageError) → IsAnyLinkType m.kind → HasNoLinkHeader m.at (packet_of m) error → out ≡ message_error_line two error → well ≡ false → ShowsBody check m out well
+  General : IsGeneral m → out ≡ [] → well ≡ true → ShowsBody check m out well
+  NoLink : (error : MessageError) → IsAnyLinkType m.kind → ¬ IsGeneral m → HasNoLinkHeader m.at (packet_of m) error → out ≡ message_error_line two error → well ≡ false → ShowsBody check m out well
   NoReply : (error : MessageError) → m.kind ≡ 2 → IsNoAcknowledgement m.at (packet_of m) error → out ≡ message_error_line two error → well ≡ false → ShowsBody check m out well
   Other : ¬ IsAnyLinkType m.kind → m.kind ≢ 2 → out ≡ [] → well ≡ true → ShowsBody check m out well
 
@@ -268,11 +275,25 @@ pub record ShowsMessage (check : Bool) (m : Message) (out : List ℕ) (well : Bo
 
 -- ---- a buffer
 
--- what ends the messages of s at offset `at`: its end, the NLMSG_DONE m, or bytes that are no message
+-- all bytes are zero
+abbrev pub AreZeros : List ℕ → Type 0
+AreZeros bytes = AllByRecursion (λ b. b ≡ 0) bytes
+
+-- the bytes r, left at offset `at`, are zeros after a message
+abbrev pub AreZerosAfter : ℕ → List ℕ → Type 0
+AreZerosAfter at r = (0 < at) × AreZeros r
+
+-- the line of n zero bytes at offset `at`
+abbrev pub zeros_line : ℕ → ℕ → List ℕ
+zeros_line at n = decimal n ++ (codes " zero" ++ (byte_word n ++ (codes " at " ++ (decimal at ++ 10 ∷ []))))
+
+-- what ends the messages of s at offset `at`: its end, the NLMSG_DONE m, zeros after a message, or other bytes that are no
+-- message
 pub data ShowsEnd (check : Bool) (s : List ℕ) (at : ℕ) (out : List ℕ) (well : Bool) : Type 0 where
   Ended : drop at s ≡ [] → out ≡ [] → well ≡ true → ShowsEnd check s at out well
   Done : (m : Message) → IsMessageAt at (drop at s) m → m.kind ≡ 3 → ShowsMessage check m out well → ShowsEnd check s at out well
-  Broken : (error : MessageError) → drop at s ≢ [] → header_fault at (drop at s) ≡ Some error → out ≡ message_error_line [] error → well ≡ false → ShowsEnd check s at out well
+  Zeros : drop at s ≢ [] → AreZerosAfter at (drop at s) → out ≡ zeros_line at (length (drop at s)) → well ≡ true → ShowsEnd check s at out well
+  Broken : (error : MessageError) → drop at s ≢ [] → ¬ AreZerosAfter at (drop at s) → header_fault at (drop at s) ≡ Some error → out ≡ message_error_line [] error → well ≡ false → ShowsEnd check s at out well
 
 -- the lines of the messages of a buffer, and whether none is an error and all checked lists are canonical
 pub record ShowsMessages (check : Bool) (s out : List ℕ) (whole : Bool) : Type 0 where

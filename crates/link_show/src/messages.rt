@@ -1,13 +1,16 @@
 //! Messages, and buffers of them.
 
-ghost use Rattle.std.specs.Prelude.{◌≡◌, Bool, codes, IfOk, OnOk};
+ghost use Rattle.std.specs.Prelude.{◌≡◌, ◌↔◌, Bool, IsTrue, drop, codes, IfOk, OnOk};
 ghost use Rattle.link_show.specs.Sink.{Gains};
 ghost use Rattle.link_base.specs.Labels.{name_in};
 ghost use Rattle.link_messages.specs.Header.{IsAnyLinkType};
+ghost use Rattle.link_messages.specs.Message.{NextOfAny};
 ghost use Rattle.link_show.specs.List.{Writes};
 ghost use Rattle.link_show.specs.MessageNames.{message_types};
-ghost use Rattle.link_show.specs.Message.{ShowsMessages, ShowsMessage, ShowsBody, message_line, named_or};
+ghost use Rattle.link_show.specs.Message.{ShowsMessages, ShowsEnd, ShowsMessage, ShowsBody, message_line, named_or};
+ghost use Rattle.link_show.specs.Message.{IsGeneral, AreZerosAfter, zeros_line};
 
+use crate::faults::bytes_of;
 use crate::flags::write_flags;
 use crate::links::write_link;
 use crate::message_errors::write_message_error;
@@ -20,10 +23,10 @@ use link_base::rows::label::name_of;
 use link_messages::message_types::{
     NLMSG_DONE, NLMSG_ERROR, RTM_DELLINK, RTM_GETLINK, RTM_NEWLINK, RTM_SETLINK,
 };
-use link_messages::{Message, any_message, link_details, read_acknowledgement};
+use link_messages::{Message, MessageError, any_message, link_details, read_acknowledgement};
 
-/// Writes the lines of the messages of a buffer, up to its end or to an NLMSG_DONE. Returns whether no line is an error,
-/// and, if `check` is set, all lists are canonical.
+/// Writes the lines of the messages of a buffer, up to its end or to an NLMSG_DONE. Zero bytes after a message are one
+/// line, and no error. Returns whether no line is an error, and, if `check` is set, all lists are canonical.
 ///
 /// # Errors
 ///
@@ -39,8 +42,8 @@ pub fn write_messages<W: Sink>(writer: &mut W, buffer: &[u8], check: bool) -> Re
             Ok(Some(message)) => message,
             Ok(None) => return Ok(whole),
             Err(error) => {
-                write_message_error(writer, "", error)?;
-                return Ok(false);
+                let sound = write_rest(writer, buffer, at, error)?;
+                return Ok(whole & sound);
             }
         };
         let well = write_message(writer, &message, check)?;
@@ -50,6 +53,52 @@ pub fn write_messages<W: Sink>(writer: &mut W, buffer: &[u8], check: bool) -> Re
         }
         at = message.next;
     }
+}
+
+/// Writes the line of the bytes that are left at offset `at`, which are no message: zeros after a message, or an error.
+/// Returns false if it is an error.
+fn write_rest<W: Sink>(
+    writer: &mut W,
+    buffer: &[u8],
+    at: usize,
+    error: MessageError,
+) -> Result<bool, W::Error>
+    requires { NextOfAny at (drop at buffer.now) (Err error) }
+    ensures { (check : Bool) → IfOk result (Writes (ShowsEnd check buffer.now at)
+        (W.output writer.old) (W.output writer.new)) }
+{
+    let rest = &buffer[at..];
+    if are_zeros_after(at, rest) {
+        write_zeros(writer, at, rest.len())?;
+        return Ok(true);
+    }
+    write_message_error(writer, "", error)?;
+    Ok(false)
+}
+
+/// Checks whether the bytes that are left at offset `at` are zeros after a message.
+fn are_zeros_after(at: usize, rest: &[u8]) -> bool
+    ensures { IsTrue result ↔ AreZerosAfter at rest.now }
+{
+    at > 0 && rest.iter().all(|b| *b == 0)
+}
+
+/// Writes the line of `count` zero bytes at offset `at`.
+fn write_zeros<W: Sink>(writer: &mut W, at: usize, count: usize) -> Result<(), W::Error>
+    ensures { OnOk result (Gains (W.output writer.old) (W.output writer.new) (zeros_line at count)) }
+{
+    let bytes = bytes_of(count);
+    put_pieces(
+        writer,
+        &[
+            Piece::Number(count as u64),
+            Piece::Text(" zero"),
+            Piece::Text(bytes),
+            Piece::Text(" at "),
+            Piece::Number(at as u64),
+            Piece::Text("\n"),
+        ],
+    )
 }
 
 /// Writes the lines of a message. Returns whether none is an error, and, if `check` is set, all lists are canonical.
@@ -121,7 +170,7 @@ fn write_type<W: Sink>(writer: &mut W, kind: u64) -> Result<(), W::Error>
     }
 }
 
-/// Writes the lines of a message about a link, below its first line.
+/// Writes the lines of a message about a link, below its first line. A request in the general form has none.
 fn write_about_link<W: Sink>(
     writer: &mut W,
     message: &Message<'_>,
@@ -131,6 +180,9 @@ fn write_about_link<W: Sink>(
     ensures { IfOk result (Writes (ShowsBody check message.now)
         (W.output writer.old) (W.output writer.new)) }
 {
+    if is_general(message) {
+        return Ok(true);
+    }
     match link_details(message) {
         Ok(details) => write_link(writer, &details, check),
         Err(error) => {
@@ -138,6 +190,15 @@ fn write_about_link<W: Sink>(
             Ok(false)
         }
     }
+}
+
+/// Checks whether a message is an RTM_GETLINK in the general form, which has a `struct rtgenmsg` in place of a
+/// `struct ifinfomsg` (`include/uapi/linux/rtnetlink.h`). The kernel takes dump requests with 1 to 15 bytes so;
+/// `getifaddrs` of libc sends 4.
+fn is_general(message: &Message<'_>) -> bool
+    ensures { IsTrue result ↔ IsGeneral message.now }
+{
+    message.kind == RTM_GETLINK && (1..16).contains(&message.payload.len())
 }
 
 /// Writes the lines of an NLMSG_ERROR, below its first line.

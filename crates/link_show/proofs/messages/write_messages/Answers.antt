@@ -1,4 +1,4 @@
-use Rattle.link_show.proofs.MessageLines.{messages_none, messages_more, messages_all, messages_done, messages_broken}
+use Rattle.link_show.proofs.MessageLines.{messages_none, messages_more, messages_end, messages_all, messages_done}
 use Rattle.link_show.proofs.messages.write_messages.Goals as goal
 
 pub loop-message-init : goal.loop-message-init
@@ -23,5 +23,6 @@ returns-in-Ok-None g c =
 
 pub returns-in-Err : goal.returns-in-Err
 returns-in-Err g c =
-    messages_broken c.args.check c.args.buffer.now c.loop-message.at c.in-Err.error (g.W.Sink.output c.args.writer.now) (g.W.Sink.output c.loop-message.writer) (g.W.Sink.output c.write_message_error.new.writer)
-    c.loop-message.whole c.loop-message.invariant c.in-Err.ensures.0 c.in-Err.ensures.1 c.in_ok-write_message_error-in-Err.ensures
+    let output = g.W.Sink.output in
+    messages_end c.args.check c.args.buffer.now c.loop-message.at (output c.args.writer.now) (output c.loop-message.writer) (output c.write_rest.new.writer) c.loop-message.whole
+    c.in_ok-sound-in-Err.sound c.loop-message.invariant (c.in_ok-sound-in-Err.ensures c.args.check)
