@@ -32,7 +32,8 @@ family.rt, as tools/families.py says, and pages that list all of something with 
 The names of counts are `tests`, `mutants`, `must-fail edits` and those `of CRATE`: the functions with `#[test]`, the
 headings `## NAME` of mutants.edits, and the files must-fail/*.edit; `mutants of definitions`: those of files in specs/;
 `calls that allocate`, `calls that do not allocate`: the lines of crates/refusals/stdin; `runs`, `runs of FOLDER`: the
-files of runs/; `lists of FOLDER`, and `WORD lines of FOLDER` for other first words: the input of its runs of `nlshow`.
+runs below runs/; `lists of FOLDER`, and `WORD lines of FOLDER` for other first words: what its runs of `nlshow` have as
+standard input.
 
 The last line is 'N passed, M failed', where each rule counts once for each page, and the status 0 only if all passed.
 """
@@ -48,16 +49,17 @@ sys.dont_write_bytecode = True
 sys.path.insert(0, os.path.dirname(os.path.realpath(__file__)))
 import families  # noqa: E402
 import inventories  # noqa: E402
-from runs import Run  # noqa: E402
+from runs import Run, is_run  # noqa: E402
 
 ROOT = os.path.dirname(os.path.dirname(os.path.realpath(__file__)))
 PAGES = re.compile(r"(README|CONTRIBUTING|CHANGELOG)\.md|docs/(proofs/)?[^/]+\.md|(bench|tools|extra|crates/[^/]+)/README\.md")
 # The most words that a page may have. Any other README.md below the top has SMALL_BUDGET, and CHANGELOG.md has none.
 BUDGETS = {
-    "README.md": 1300, "CONTRIBUTING.md": 1990, "docs/c.md": 1250, "docs/ARCHITECTURE.md": 1700, "docs/MAP.md": 80,
-    "docs/messages.md": 2000, "docs/programs.md": 1500, "docs/python.md": 900, "docs/rattle.md": 1540,
-    "docs/rust.md": 900, "docs/proofs/ASSURANCE.md": 1150, "docs/proofs/CLAIMS.md": 2200,
-    "docs/proofs/DECISIONS.md": 4950, "docs/proofs/DIFFERENCES.md": 2150, "docs/proofs/MODEL.md": 3650,
+    "README.md": 1300, "CONTRIBUTING.md": 1990, "bench/README.md": 700, "docs/c.md": 1250, "docs/ARCHITECTURE.md": 1700,
+    "docs/MAP.md": 80,
+    "docs/messages.md": 2000, "docs/programs.md": 2050, "docs/python.md": 900, "docs/rattle.md": 1540,
+    "docs/rust.md": 900, "docs/proofs/ASSURANCE.md": 1150, "docs/proofs/CLAIMS.md": 2450,
+    "docs/proofs/DECISIONS.md": 5150, "docs/proofs/DIFFERENCES.md": 2150, "docs/proofs/MODEL.md": 3650,
 }  # fmt: skip
 SMALL_BUDGET = 600
 HISTORY, COMPARISON, CLAIMS = "CHANGELOG.md", "docs/proofs/DIFFERENCES.md", "docs/proofs/CLAIMS.md"
@@ -264,10 +266,11 @@ class Tree:
         for call in re.findall(r"(?m)^(\d+) ", self.text_or_none("crates/refusals/stdin") or ""):
             numbers["calls that do not allocate" if call == "0" else "calls that allocate"] += 1
         sets = families.names(self.text_or_none)
-        for path in [it for it in self.files if it.startswith("runs/")]:
-            run, folder = Run(self.text(path).encode()), path.split("/")[1]
+        for path in [it for it in self.files if it.startswith("runs/") and is_run(it)]:
+            with open(f"{self.root}/{path}", "rb") as file:
+                run, folder = Run(file.read()), path.split("/")[1]
             numbers.update(["runs", f"runs of {folder}"])
-            words = [it.split()[0] for it in run.stdin.decode().split("\n") if it.strip() and it[0] != "#"]
+            words = [it.split()[0] for it in run.stdin.decode(errors="replace").split("\n") if it.strip() and it[0] != "#"]
             kinds = ["lists" if it in sets else f"{it} lines" for it in words if run.program == "nlshow"]
             numbers.update(f"{it} of {folder}" for it in kinds)
         return numbers

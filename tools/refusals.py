@@ -133,8 +133,8 @@ def runs_of_calls():
 def runs_of_programs(folder):
     """The lines that the programs print without a report. `nlroute` makes no allocation but those for its arguments;
     `nlshow` makes others, in `clap` and for the lines. Reading from a folder fails."""
-    unknown = "error: unexpected argument 'dsa' found\n"
-    unknown += "usage: nlshow [--format plain|debug] [--check] | --help | --version\n"
+    unknown = "error: unexpected argument '-x' found\n"
+    unknown += "usage: nlshow [--format plain|debug] [--check] [--raw] [FILE].. | --help | --version\n"
     usage = "usage: nlroute FAMILY | --help | --version\n"
     for words, given, text, status, others in (
         (["nlroute"], b"", usage, 2, 0),
@@ -142,8 +142,8 @@ def runs_of_programs(folder):
         (["nlroute", "tap", "dsa"], b"", usage, 2, 0),
         (["nlroute", "--version"], b"", "nlroute 0.3.0\n", 0, 0),
         (["nlroute", "dsa"], folder, "read fault\n", 5, 0),
-        (["nlshow", "dsa"], b"", unknown, 2, 15),
-        (["nlshow", "--version"], b"", "nlshow 0.3.0\n", 0, 8),
+        (["nlshow", "-x"], b"", unknown, 2, 22),
+        (["nlshow", "--version"], b"", "nlshow 0.3.0\n", 0, 9),
     ):
         yield words, given, printed(text, status), NO_MEMORY, for_arguments(words) + others
 

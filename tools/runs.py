@@ -3,7 +3,8 @@
 
 usage: tools/runs.py [--binary PROGRAM=PATH].. [RUN..]
 
-Each file below runs/ is a run. RUN names one, or a folder of runs: `debug/vlan`, `debug`. Without a name, all run.
+Each file below runs/ is a run, except stored input: the files in a folder `inputs`, at any depth. RUN names a run, or a
+folder of runs: `debug/vlan`, `debug`. Without a name, all run.
 
 A run begins with a head, which a blank line ends:
 
@@ -13,7 +14,8 @@ A run begins with a head, which a blank line ends:
     status: 1
 
 `arguments` are split into words as a shell splits them. Without that line there are none, and without `status` it is 0.
-With `stdout: full`, the standard output is /dev/full, where each write fails. Each line below the head is one of:
+With `stdout: full`, the standard output is /dev/full, where each write fails. With `input: PATH`, the standard input is a
+stored file; PATH is relative to the folder of the run. Each line below the head is one of:
 
     > TEXT    a line of the input, which the program repeats in its output
     < TEXT    a line of the input
@@ -22,11 +24,18 @@ With `stdout: full`, the standard output is /dev/full, where each write fails. E
     | TEXT    a line of the output
     TEXT      likewise, if it has none of these marks
     ! TEXT    a line on standard error, where a program prints nothing else
+    = HEX     bytes of the input, without LF. White space among the digits is ignored
+    |= HEX    likewise of the output
+    @ NAME    the input below is that of the file NAME, up to the next such line. `@` returns to standard input
 
 So the output of `nlshow` is written as it is printed, with a mark at each line that it repeats. `>+ TEXT`, `<+ TEXT`,
-`|+ TEXT` and `!+ TEXT` are texts without LF, and `>* N TEXT` and so on are N times the text, without LF. Texts are
-bytes: a tab, a CR, or a blank at the end of a line counts. In the output, `{FAMILIES}` stands for the names of the
-attribute sets, as in `bond, bridge or vlan`.
+`|+ TEXT` and `!+ TEXT` are texts without LF, and `>* N TEXT` and so on are N times the text, without LF. Likewise
+`=* N HEX` and `|=* N HEX` are N times the bytes. Texts and names are bytes: a tab, a CR, or a blank at the end of a line
+counts. In the output, `{FAMILIES}` stands for the names of the attribute sets, as in `bond, bridge or vlan`.
+
+The program runs in a folder of its own, which has the files that `@` begins and those that `files: PATH..` names. PATHs
+are split as `arguments` are, and lead to stored files, as that of `input` does. Each has the last part of its path as
+its name.
 
 The program is the one that `rt ci` has built in crates/PROGRAM/out, or that of --binary: bench/unproved.py builds one
 in a minute, bench/out/nlshow. For a run that fails, the first lines that differ are printed, after the number of the
@@ -39,14 +48,16 @@ import re
 import shlex
 import subprocess
 import sys
+import tempfile
 
 sys.dont_write_bytecode = True
 sys.path.insert(0, os.path.dirname(os.path.realpath(__file__)))
 from families import names  # noqa: E402
 
 ROOT = os.path.dirname(os.path.dirname(os.path.realpath(__file__)))
-HEAD = re.compile(rb"(program|arguments|status|stdout): ?(.*)")
+HEAD = re.compile(rb"(program|arguments|status|stdout|input|files): ?(.*)")
 MARKED = re.compile(rb"[<>|!](?:(\+)|\* (\d+))?(?: (.*))?", re.DOTALL)
+IN_HEX = re.compile(rb"\|?=(?:\* (\d+))? (.*)", re.DOTALL)
 *FIRST, LAST = names()
 FAMILIES = f"{', '.join(FIRST)} or {LAST}".encode()
 # The most seconds that a program may take.
@@ -56,13 +67,15 @@ LINES, WIDTH = 3, 160
 
 
 class Run:
-    """A run: `program`, `arguments`, `status`, and the bytes of `stdin`. `stdout` and `stderr` have what is expected, in
-    parts, each with the number of its line. `full` is true if the standard output is /dev/full. A file that is not a run
-    is a ValueError, which names the line."""
+    """A run: `program`, `arguments`, `status`, and the bytes of `given`: of each file that the run has, by its name, and of
+    standard input, whose name is empty. `input` and `files` are the paths of stored files. `stdout` and `stderr` have what
+    is expected, in parts, each with the number of its line. `full` is true if the standard output is /dev/full. A file
+    that is not a run is a ValueError, which names the line."""
 
     def __init__(self, text):
         self.program, self.arguments, self.status, self.full = None, [], 0, False
-        self.stdin, self.stdout, self.stderr = b"", [], []
+        self.input, self.files, self.name, self.given = None, [], b"", {b"": b""}
+        self.stdout, self.stderr = [], []
         *lines, rest = text.split(b"\n")
         end = lines.index(b"") if b"" in lines else len(lines)
         if rest:
@@ -78,33 +91,66 @@ class Run:
         if self.program is None:
             raise ValueError("line 1: the head names no program")
 
+    @property
+    def stdin(self):
+        return self.given[b""]
+
     def read_head(self, line):
         found = HEAD.fullmatch(line)
         if found:
             key, value = (it.decode(errors="surrogateescape") for it in found.groups())
             if key == "stdout" and value != "full":
                 raise ValueError("stdout can only be full")
-            parts = {"program": str, "arguments": shlex.split, "status": int, "stdout": bool}
-            setattr(self, "full" if key == "stdout" else key, parts[key](value))
+            parts = {"arguments": shlex.split, "files": shlex.split, "status": int, "stdout": bool}
+            setattr(self, "full" if key == "stdout" else key, parts.get(key, str)(value))
         elif not line.startswith(b"#"):
-            raise ValueError("the head has a line that is none of program, arguments, status and stdout")
+            raise ValueError("the head has a line that is none of program, arguments, status, stdout, input and files")
 
     def read_line(self, number, line):
-        mark, text = line[:1], line + b"\n"
-        if mark and mark in b"<>|!":
-            found = MARKED.fullmatch(line)
-            if not found:
-                raise ValueError("no blank follows the mark")
-            part, times, text = found.groups(default=b"")
-            text = text * int(times) if times else text if part else text + b"\n"
-        if not mark or mark in b"#<>":
-            self.stdin += text
+        mark = line[:1]
+        if mark == b"@":
+            self.begin_file(line)
+            return
+        text = text_of(line)
+        if not mark or mark in b"#<>=":
+            self.add_input(text)
         if mark == b"!":
             self.stderr.append((number, text))
-        elif mark and mark not in b"#<":
+        elif mark and mark not in b"#<=":
             if self.full:
                 raise ValueError("there is output, but stdout is full")
             self.stdout.append((number, text.replace(b"{FAMILIES}", FAMILIES)))
+
+    def begin_file(self, line):
+        self.name = line[2:]
+        if line[1:2] not in (b"", b" ") or b"/" in self.name:
+            raise ValueError("`@` takes the name of a file, without a slash, or nothing")
+        if self.name and self.name in self.given:
+            raise ValueError("there is already a file of this name")
+        self.given.setdefault(self.name, b"")
+
+    def add_input(self, text):
+        if self.input is not None and not self.name:
+            raise ValueError("there is standard input, but it is that of `input`")
+        self.given[self.name] += text
+
+
+def text_of(line):
+    """The bytes that a line below the head stands for."""
+    mark = line[:1]
+    if mark == b"=" or line[:2] == b"|=":
+        found = IN_HEX.fullmatch(line)
+    elif mark and mark in b"<>|!":
+        found = MARKED.fullmatch(line)
+    else:
+        return line + b"\n"
+    if not found:
+        raise ValueError("no blank follows the mark")
+    if found.re is IN_HEX:
+        times, digits = found.groups()
+        return bytes.fromhex(digits.decode("latin-1")) * int(times or 1)
+    part, times, text = found.groups(default=b"")
+    return text * int(times) if times else text if part else text + b"\n"
 
 
 def difference(parts, printed):
@@ -136,12 +182,11 @@ def try_run(root, name, binaries):
     try:
         with open(f"{root}/runs/{name}", "rb") as file:
             run = Run(file.read())
-        binary = binaries.get(run.program, f"{root}/crates/{run.program}/out/{run.program}")
+        add_stored(run, os.path.dirname(f"{root}/runs/{name}"))
+        binary = os.path.abspath(binaries.get(run.program, f"{root}/crates/{run.program}/out/{run.program}"))
         if not os.path.isfile(binary):
             return f"rt ci has not built {binary}"
-        with open("/dev/full", "wb") as full:
-            how = {"stdout": full if run.full else subprocess.PIPE, "stderr": subprocess.PIPE, "timeout": SECONDS}
-            ran = subprocess.run([run.program, *run.arguments], executable=binary, input=run.stdin, **how)
+        ran = started(run, binary)
     except ValueError as error:
         return str(error)
     except OSError as error:
@@ -154,11 +199,37 @@ def try_run(root, name, binaries):
     return "\n  ".join(filter(None, wrong)) or None
 
 
+def add_stored(run, folder):
+    """Adds the stored files of a run to those that it gives. Their paths are relative to the folder."""
+    stored = [(os.path.basename(it), it) for it in run.files] + [("", run.input)] * (run.input is not None)
+    for name, path in stored:
+        try:
+            with open(os.path.join(folder, path), "rb") as file:
+                run.given[os.fsencode(name)] = file.read()
+        except OSError as error:
+            raise ValueError(f"the stored file {path}: {error.strerror}") from None
+
+
+def started(run, binary):
+    """The program, after it has run in a folder with the files of the run."""
+    with tempfile.TemporaryDirectory(prefix="runs-") as folder, open("/dev/full", "wb") as full:
+        for name in filter(None, run.given):
+            with open(os.path.join(os.fsencode(folder), name), "wb") as file:
+                file.write(run.given[name])
+        how = {"stdout": full if run.full else subprocess.PIPE, "stderr": subprocess.PIPE, "timeout": SECONDS, "cwd": folder}
+        return subprocess.run([run.program, *run.arguments], executable=binary, input=run.stdin, **how)
+
+
+def is_run(path):
+    """Whether a file below runs/ is a run: no folder on its path is `inputs`."""
+    return "/inputs/" not in f"/{path}"
+
+
 def runs_of(root, name=""):
     """The runs of a name, which is that of a file or a folder below runs/."""
     path = os.path.normpath(f"{root}/runs/{name.removeprefix('runs/')}")
     files = [path] if os.path.isfile(path) else [f"{at}/{it}" for at, _, files in os.walk(path) for it in files]
-    return sorted(os.path.relpath(it, f"{root}/runs") for it in files)
+    return sorted(filter(is_run, (os.path.relpath(it, f"{root}/runs") for it in files)))
 
 
 def check(root, named, binaries):

@@ -161,6 +161,7 @@ TREE = {
     LINKS: '{"dsa", NLROUTE_DSA},\n',
     RUN: "program: nlshow\n\n> vlan 00\n",
     "runs/plain/other": "program: nlroute\n\n< dsa 00\n",
+    "runs/plain/inputs/stored": "program\n",
     "runs/debug/other": "# dsa 00\nprogram: nlshow\n\n",
 }
 
@@ -227,6 +228,8 @@ CASES = [
     ("README.md", "  1<", "  2<", "26: " + NOT_COUNT.format(2, "message lines of plain, which is 1")),
     ("README.md", "4<!-- count: runs -->", "3<!-- count: runs of plain -->"),
     (RUN, "> vlan 00\n", "> vlan 00\n< vlan\nvlan\n", "25: " + NOT_COUNT.format(2, "lists of plain, which is 3")),
+    (RUN, "> vlan 00\n", "> vlan 00\n= ff0a\n= 76 6c 61 6e\n", "25: " + NOT_COUNT.format(2, "lists of plain, which is 3")),
+    (RUN, "> vlan 00\n", "> vlan 00\n@ fi\r\n< vlan\n@ fi\n"),
     ("crates/pairs/src/tests.rt", "fn two", "#[test]\nfn three() {}\nfn two", "22: " + NOT_COUNT.format(2, "tests of pairs, which is 3")),
     ("README.md", "mutants -->", "mutant -->", "22: `<!-- count: mutant -->` does not name a count"),
     ("README.md", "three<", "some<", "22: there is no number before `<!-- count: mutants -->`"),
@@ -235,7 +238,7 @@ CASES = [
     ("docs/rattle.md", CALLING, CALLING + LEFT * "word "),
     ("docs/rattle.md", CALLING, CALLING + (LEFT + 1) * "word ", "docs/rattle.md:1: the page has 1,541 words, and its budget is 1,540"),
     ("docs/rattle.md", CALLING, CALLING + LEFT * "word " + "\n\n```text\nword\n```\n\n<!-- word -->\n"),
-    ("bench/README.md", "", "word " * 601, "bench/README.md:1: the page has 601 words, and its budget is 600"),
+    ("extra/README.md", "", "word " * 601, "extra/README.md:1: the page has 601 words, and its budget is 600"),
     ("docs/NEW.md", "", "# New\n", "docs/NEW.md:1: the page has no budget in tools/pages.py"),
     (HEADER, "NLROUTE_VLAN = 1", "NLROUTE_VLAN = 2", f"{HEADER}:{NO_SET.format(LISTED[HEADER])}"),
     (MAN, "vlan", "van", f"{MAN}:{NO_SET.format(LISTED[MAN])}"),

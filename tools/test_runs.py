@@ -15,7 +15,8 @@ import runs  # noqa: E402
 
 # Programs: `lengths` repeats each line but comments and blank lines, and prints its length below; its status is the
 # number of its arguments. `copy` prints its arguments, a line each, and then its input. `loud` prints its arguments on
-# standard error, or `noise` if there are none. `mute` reports there that it cannot print. `slow` takes its time.
+# standard error, or `noise` if there are none. `mute` reports there that it cannot print. `slow` takes its time. `files`
+# prints the name and the bytes of each file in its folder, without LFs, and then its input.
 PROGRAMS = {
     "lengths": """
 for line in sys.stdin.buffer.read().split(b"\\n"):
@@ -27,6 +28,13 @@ sys.exit(len(sys.argv) - 1)
     "loud": "print(*sys.argv[1:] or ['noise'], sep='\\n', file=sys.stderr)\n",
     "mute": "import os\ntry:\n    os.write(1, b'text')\nexcept OSError as error:\n    print(error.strerror, file=sys.stderr)\n",
     "slow": "import time\ntime.sleep(60)\n",
+    "files": """
+import os
+for name in sorted(os.listdir(b".")):
+    with open(name, "rb") as file:
+        sys.stdout.buffer.write(name + b":" + file.read() + b"|")
+sys.stdout.buffer.write(sys.stdin.buffer.read())
+""",
 }
 HEAD = b"program: lengths\narguments: one two\nstatus: 2\n\n"
 RUN = HEAD + b"# A comment\n> four\n  4 bytes\n\n> seven b\n  7 bytes\n"
@@ -41,8 +49,19 @@ READ = [
     (b"<+ \t\n<* 2 \xff\r\n<\n", b"\t\xff\r\xff\r\n", b"", b""),
     (b"|* 2 a \n|+ b\n| c\n", b"", b"a a bc\n", b""),
     (b"! error\na\n!* 2 b\n!+ c\n!\n", b"", b"a\n", b"error\nbbc\n"),
+    (b"= 00 0aFF\t7f\n=* 3 01 02\n= \n< a\n=* 0 03\n", b"\0\n\xff\x7f\1\2\1\2\1\2a\n", b"", b""),
+    (b"= 61\n|= 62 ff\n|=* 2 00\n|\n|  = 63\n", b"a", b"b\xff\0\0\n = 63\n", b""),
+    (b"@ a\n< in a\n> both\n@\n< in\nout\n", b"in\n", b"both\nout\n", b""),
 ]
-NO_HEAD, NO_BLANK = "the head has a line that is none of program, arguments, status and stdout", "no blank follows the mark"
+# For lines below HEAD: the files that they begin, and standard input.
+GIVEN = [
+    (b"< a\n", {b"": b"a\n"}),
+    (b"@ a b \n< 1\n#2\n\n= 33\n@ \xff\\\"\n@\n= 34\n", {b"": b"4", b"a b ": b"1\n#2\n\n3", b'\xff\\"': b""}),
+    (b"= 31\n@ a\n@\n= 32\n@ b\n=* 2 33\n@ \n= 34\n", {b"": b"124", b"a": b"", b"b": b"33"}),
+]
+NO_HEAD = "the head has a line that is none of program, arguments, status, stdout, input and files"
+NO_BLANK, NO_NAME = "no blank follows the mark", "`@` takes the name of a file, without a slash, or nothing"
+NO_INPUT = "there is standard input, but it is that of `input`"
 # What is no run, and where.
 BAD = [
     (b"", "line 1: the head names no program"),
@@ -54,6 +73,14 @@ BAD = [
     (b"program: lengths\n> a\n", f"line 2: {NO_HEAD}"),
     (HEAD + b"> a\n>b\n", f"line 6: {NO_BLANK}"),
     *((HEAD + it, f"line 5: {NO_BLANK}") for it in (b">*3 a\n", b"<* a\n", b"!a\n")),
+    *((HEAD + it, f"line 5: {NO_BLANK}") for it in (b"=\n", b"=00\n", b"=+ 00\n", b"=* 00\n", b"|=00\n", b">= 00\n")),
+    (HEAD + b"= 00 0\n", "line 5: non-hexadecimal number found in fromhex() arg at position 4"),
+    (HEAD + b"|= 0g\n", "line 5: non-hexadecimal number found in fromhex() arg at position 1"),
+    *((HEAD + it, f"line 5: {NO_NAME}") for it in (b"@a\n", b"@ a/b\n", b"@ /\n")),
+    (HEAD + b"@ a\n@\n@ a\n", "line 7: there is already a file of this name"),
+    (b"program: files\nfiles: 'a\n", "line 2: No closing quotation"),
+    *((b"program: files\ninput: a\n\n" + it, f"line 4: {NO_INPUT}") for it in (b"\n", b"# a\n", b"> a\n", b"= 00\n")),
+    (b"program: files\ninput: a\n\n@ b\n< b\n@\n< c\n", f"line 7: {NO_INPUT}"),
     (b"program: lengths\nstdout: empty\n", "line 2: stdout can only be full"),
     (b"program: lengths\nstdout: full\n\n< a\n| a\n", "line 5: there is output, but stdout is full"),
 ]
@@ -79,11 +106,21 @@ TRIED = [
     (b"program: mute\nstdout: full\n", ["on standard error, at the end", "- (no line)", "+ No space left on device"]),
     (b"program: loud\nstatus: -9\n\nmore\n",
      ["line 4", "- more", "+ (no line)", "on standard error, at the end", "- (no line)", "+ noise", "status 0, expected -9"]),
+    (b"program: files\n\n<+ in\n|+ in\n", []),
+    (b"program: files\n\n@ b\n= 00\n@ a \xc3\n@\n<+ in\n|+ a \n|= c3\n|+ :|b:\n|= 00\n|+ |in\n", []),
+    (b"program: files\nfiles: inputs/raw '../runs/inputs/a b'\n\n@ none\n@\n<+ in\n|+ a b:1|none:|raw:\n|= 000aff\n|+ |in\n", []),
+    (b"program: files\ninput: inputs/raw\n\n@ a\n<+ b\n|+ a:b|\n|= 000aff\n", []),
+    (b"program: files\ninput: inputs/a b\nfiles: 'inputs/a b'\n\n|+ a b:1|1\n", []),
+    (b"program: files\n\n@ a\n|+ b:|\n", ["line 4", "- b:| (without LF)", "+ a:| (without LF)"]),
+    (b"program: files\ninput: raw\n", ["the stored file raw: No such file or directory"]),
+    (b"program: files\nfiles: 'inputs/a b' inputs\n", ["the stored file inputs: Is a directory"]),
     (b"program: lent\n", ["rt ci has not built /crates/lent/out/lent"]),
     (b"program: none\n", ["/none does not run: No such file or directory"]),
     (b"program: slow\n", ["it takes more than 1 s"]),
     (b"program: lengths\n> a\n", [f"line 2: {NO_HEAD}"]),
 ]
+# Stored files, by their paths below runs/.
+STORED = [("inputs/raw", b"\0\n\xff"), ("inputs/a b", b"1"), ("inputs/more/four", RUN), ("some/inputs/five", RUN)]
 # Names of runs, and what is printed.
 NAMED = [
     (["one"], ["1 passed, 0 failed"]),
@@ -91,6 +128,8 @@ NAMED = [
     (["runs/some/", "one"], ["3 passed, 0 failed"]),
     (["some/other/three"], ["1 passed, 0 failed"]),
     ([], ["4 passed, 0 failed"]),
+    *(([it, "one"], [f"FAILED {it}: there is no such run", "1 passed, 1 failed"])
+      for it in ("inputs", "inputs/more/four", "some/inputs/five")),
     (["som", "one"], ["FAILED som: there is no such run", "1 passed, 1 failed"]),
 ]
 
@@ -104,7 +143,7 @@ def write(path, text):
 
 def said(root, *named):
     """What is printed for runs, and whether the status is as the last line."""
-    binaries = {it: f"{root}/{it}" for it in [*PROGRAMS, "none"]}
+    binaries = {it: os.path.relpath(f"{root}/{it}") for it in [*PROGRAMS, "none"]}
     with contextlib.redirect_stdout(io.StringIO()) as printed:
         status = runs.check(root, list(named), binaries)
     lines = printed.getvalue().replace(root, "").splitlines()
@@ -116,6 +155,8 @@ def results():
     for text, *wanted in READ:
         run = runs.Run(HEAD + text)
         yield [run.stdin, *(b"".join(it for _, it in parts) for parts in (run.stdout, run.stderr))], wanted
+    for text, wanted in GIVEN:
+        yield runs.Run(HEAD + text).given, wanted
     for text, wanted in BAD:
         try:
             yield runs.Run(text), wanted
@@ -128,6 +169,8 @@ def results():
         yield said(root), (["FAILED runs: there is no such run", "0 passed, 1 failed"], True)
         for name in ("one", "some/two", "some/other/three", "somewhat"):
             write(f"{root}/runs/{name}", RUN)
+        for name, text in STORED:
+            write(f"{root}/runs/{name}", text)
         for named, wanted in NAMED:
             yield said(root, *named), (wanted, True)
         for text, wanted in TRIED:

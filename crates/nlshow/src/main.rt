@@ -1,31 +1,38 @@
 //! Prints the values of lists of link attributes, and of the lists in link messages.
 //!
-//! Usage: `nlshow [--format plain|debug] [--check] | --help | --version`. Each line of standard input is one of
+//! Usage: `nlshow [--format plain|debug] [--check] [--raw] [FILE].. | --help | --version`. Each FILE, or standard input, is
+//! a capture (pcap or pcapng), or with `--raw` messages, one after another, or has lines. Each line is one of
 //!
 //! - `FAMILY HEX`: the bytes of a list. FAMILY is the name of a `Family`;
 //! - `check FAMILY HEX`: the same; reports whether the list is canonical;
 //! - `message HEX`: the bytes of messages.
 //!
-//! White space separates the words. Blank lines, and lines that begin with `#`, are ignored. Wrong arguments and a failed
-//! write are reported on standard error.
+//! White space separates the words. Blank lines, and lines that begin with `#`, are ignored. The FILE `-` is standard
+//! input. Wrong arguments and a failed write are reported on standard error.
 #![tactic(auto)]
 
 #[cfg(test)]
 mod tests;
 
-ghost use Rattle.std.specs.Prelude.{◌≡◌, ◌≢◌, [], IfOk, MatchOption, codes};
+ghost use Rattle.std.specs.Prelude.{◌≡◌, ◌≢◌, ◌↔◌, ◌∷◌, ◌++◌, [], false, IfOk, IsTrue, MatchOption, OnOk, codes};
 ghost use Rattle.std.specs.Io.Buffered.{writer_buffer, writer_contents, writer_inner};
+ghost use Rattle.std.specs.Io.KnownBytes.{Appends};
+ghost use Rattle.link_show.specs.Quoted.{quoted};
 ghost use Rattle.program.specs.Printing.{PrintsOrFails};
+ghost use Rattle.program.specs.Watched.{has_failed};
 ghost use Rattle.show_lines.specs.Arguments.{IsError, IsRequest, IsWrong, reply_status, reply_text};
 
+use link_show::write_quoted;
 use program::{
     Watched, collect_arguments, print, print_error, print_no_memory, print_write_fault, unbuffered,
 };
-use show_lines::{Reply, Request, parse, run, wrong};
+use show_captures::run;
+use show_lines::{Reply, Request, Task, parse, wrong};
 use std::alloc::{AllocError, Global};
-use std::io;
 use std::io::{BufWriter, Write};
 use std::process::ExitCode;
+use std::rt::Files;
+use std::{fs, io};
 
 fn main(rt: HostRuntime) -> ExitCode {
     let mut errors = rt.stderr();
@@ -35,10 +42,10 @@ fn main(rt: HostRuntime) -> ExitCode {
         Err(error) => Err(error),
     };
     let status = match request {
-        Ok(Request::Run(options)) => {
+        Ok(Request::Run(task)) => {
             match BufWriter::new(rt.alloc(), Watched::new(io::writer(&rt))) {
                 Ok(mut writer) => {
-                    let status = run(rt.alloc(), options, &mut rt.reader(), &mut writer);
+                    let status = run_task(&rt, &task, &mut writer);
                     let _ = print_write_fault(&writer, &mut errors);
                     status
                 }
@@ -67,6 +74,69 @@ fn request_of(alloc: Global, words: Option<Vec<String>>) -> Result<Request, Allo
         Some(words) => parse(alloc, &words),
         None => wrong(alloc, "error: an argument is not UTF-8"),
     }
+}
+
+/// Runs on standard input, or on each file of `task` in order. Nothing more is read after a failed allocation, or when the
+/// writer has failed. Returns the greatest exit status.
+fn run_task<R: Files + Input + AllocGlobal, W: Write + Drop>(
+    rt: &R,
+    task: &Task,
+    writer: &mut BufWriter<Watched<W>>,
+) -> u8 {
+    if task.files.is_empty() {
+        return run(rt.alloc(), task.options, task.raw, &mut rt.reader(), writer);
+    }
+    let mut greatest = 0;
+    for name in &task.files {
+        let status = run_file(rt, task, name.as_str(), writer);
+        greatest = greatest.max(status);
+        if !goes_on(status, writer) {
+            break;
+        }
+    }
+    greatest
+}
+
+/// Returns whether the file after one with this exit status is read: not after a failed allocation, or when the writer has
+/// failed.
+fn goes_on<W: Write + Drop>(status: u8, writer: &BufWriter<Watched<W>>) -> bool
+    ensures { IsTrue result ↔ ((status ≢ 4) × (has_failed (writer_inner writer.now) ≡ false)) }
+{
+    status != 4 && !writer.get_ref().has_failed()
+}
+
+/// Writes the line with the name of a file, and runs on the file; `-` is standard input. Returns the exit status, which is
+/// 5 if the file cannot be opened.
+fn run_file<R: Files + Input + AllocGlobal, W: Write + Drop>(
+    rt: &R,
+    task: &Task,
+    name: &str,
+    writer: &mut BufWriter<W>,
+) -> u8 {
+    if write_name(writer, name).is_err() {
+        return 5;
+    }
+    if name == "-" {
+        return run(rt.alloc(), task.options, task.raw, &mut rt.reader(), writer);
+    }
+    match fs::open(rt, name) {
+        Ok(mut file) => run(rt.alloc(), task.options, task.raw, &mut file, writer),
+        Err(_) => print(writer, "cannot open\n", 5),
+    }
+}
+
+/// Writes the line that precedes the output for a file.
+///
+/// # Errors
+///
+/// That of the writer.
+fn write_name<W: Write>(writer: &mut W, name: &str) -> io::Result<()>
+    ensures { OnOk result (Appends (W.contents writer.old) (W.contents writer.new)
+        (codes "file " ++ (quoted name.now ++ 10 ∷ []))) }
+{
+    writer.write_all(b"file ")?;
+    write_quoted(writer, name.as_bytes())?;
+    writer.write_all(b"\n")
 }
 
 /// Prints a reply: to `errors` what is wrong with the arguments, and any other to `writer`, which is flushed. Returns the

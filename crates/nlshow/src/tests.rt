@@ -3,10 +3,12 @@
 //! is proved twice.
 
 mod callers;
+mod captures;
 mod replies;
 mod walks;
 
-use show_lines::{Format, Options, run};
+use show_captures::run;
+use show_lines::{Format, Options};
 use std::alloc::Global;
 use std::io;
 use std::io::{BufWriter, Read, Write};
@@ -104,7 +106,7 @@ fn buffered<W: Write + Drop>(rt: &impl Abort, alloc: Global, writer: W) -> BufWr
 fn shows(rt: &impl Abort, alloc: Global, text: &[u8], shown: &[u8], status: u8) {
     let mut rest = text;
     let mut written = buffered(rt, alloc, Vec::new(alloc));
-    let answer = run(alloc, DEBUG, &mut rest, &mut written);
+    let answer = run(alloc, DEBUG, false, &mut rest, &mut written);
     assert!(rt; answer == status && written.get_ref().as_slice() == shown);
     let mut trickle = Trickle {
         rest: text,
@@ -112,7 +114,7 @@ fn shows(rt: &impl Abort, alloc: Global, text: &[u8], shown: &[u8], status: u8) 
         is_broken: false,
     };
     let mut written = buffered(rt, alloc, Vec::new(alloc));
-    let answer = run(alloc, DEBUG, &mut trickle, &mut written);
+    let answer = run(alloc, DEBUG, false, &mut trickle, &mut written);
     assert!(rt; answer == status && written.get_ref().as_slice() == shown);
 }
 
@@ -159,54 +161,55 @@ fn readers_and_writers_that_fail(rt: HostRuntime) {
             is_broken: true,
         };
         let mut written = buffered(&rt, rt.alloc(), Vec::new(rt.alloc()));
-        let status = run(rt.alloc(), PLAIN, &mut reader, &mut written);
+        let status = run(rt.alloc(), PLAIN, false, &mut reader, &mut written);
         assert!(&rt; status == 5 && written.get_ref().as_slice() == shown.as_bytes());
     }
     for text in ["", "# dsa", "dsa", "dsa\n"] {
         for takes in [false, true] {
             let mut writer = buffered(&rt, rt.alloc(), Broken { takes });
-            let status = run(rt.alloc(), PLAIN, &mut text.as_bytes(), &mut writer);
+            let status = run(rt.alloc(), PLAIN, false, &mut text.as_bytes(), &mut writer);
             assert_eq!(&rt; status, 5);
         }
     }
 }
 
 /// Input lines, each with its output in the debug form.
-const ROWS: [(&str, &str); 6] = [
-    ("dsa\n", "dsa\n"),
-    ("# dsa 0\n", ""),
-    ("dsa 0800 0100 2a00 0000\n", SHOWN),
-    ("tap\n", "tap\nno such family\n"),
-    ("\n", ""),
-    ("hsr 03\n", "hsr 03\nfault at 0: short frame 1\n"),
+const ROWS: [(&[u8], &str); 6] = [
+    (b"dsa\n", "dsa\n"),
+    (b"# dsa 0\n", ""),
+    (b"dsa 0800 0100 2a00 0000\n", SHOWN),
+    (b"tap\n", "tap\nno such family\n"),
+    (b"\n", ""),
+    (b"hsr 03\n", "hsr 03\nfault at 0: short frame 1\n"),
 ];
 
 /// Input lines, each with its output in the plain form with `--check`.
-const CHECKED_ROWS: [(&str, &str); 6] = [
-    ("dsa\n", "dsa\n  canonical\n"),
+const CHECKED_ROWS: [(&[u8], &str); 6] = [
+    (b"dsa\n", "dsa\n  canonical\n"),
     (
-        "dsa 0800 0100 2a00 0000 03\n",
+        b"dsa 0800 0100 2a00 0000 03\n",
         "dsa 0800 0100 2a00 0000 03\n  IFLA_DSA_CONDUIT ifindex 42\n  error at 8: 1 byte left, too few for an attribute header\n  not canonical at 8\n",
     ),
-    ("tap\n", "tap\nno such family\n"),
-    ("dsa 0\n", "dsa 0\nbad hex\n"),
-    ("check hsr\n", "check hsr\ncanonical\n"),
+    (b"tap\n", "tap\nno such family\n"),
+    (b"dsa 0\n", "dsa 0\nbad hex\n"),
+    (b"check hsr\n", "check hsr\ncanonical\n"),
     (
-        "message 20000000 10000500 01000000 00000000 00000000 03000000 01000000 01000000 20000000 01\n",
+        b"message 20000000 10000500 01000000 00000000 00000000 03000000 01000000 01000000 20000000 01\n",
         "message 20000000 10000500 01000000 00000000 00000000 03000000 01000000 01000000 20000000 01\nRTM_NEWLINK len 32 flags REQUEST|ACK seq 1 pid 0\n  ifindex 3 flags UP change UP\nerror at 32: 5 bytes left, too few for a message header\n",
     ),
 ];
 
 /// Asserts that `run`, reading `text` 1, 2, 3, 7 and 4096 bytes at a time, writes `lines` and returns the status
-/// `end.1`. If `end.0` is true, the reader fails after `text`.
+/// `end.1`. If `end.0` is true, the reader fails after `text`. `how` has the options of the run, and whether it is raw.
 fn is_read(
     rt: &impl Abort,
     alloc: Global,
-    options: Options,
+    how: (Options, bool),
     text: &[u8],
     lines: &[u8],
     end: (bool, u8),
 ) {
+    let (options, raw) = how;
     let (is_broken, status) = end;
     for most in [1, 2, 3, 7, 4096] {
         let mut reader = Trickle {
@@ -215,40 +218,42 @@ fn is_read(
             is_broken,
         };
         let mut written = buffered(rt, alloc, Vec::new(alloc));
-        let answer = run(alloc, options, &mut reader, &mut written);
+        let answer = run(alloc, options, raw, &mut reader, &mut written);
         assert!(rt; answer == status && written.get_ref().as_slice() == lines);
     }
 }
 
-/// Makes the reader fail after each byte of several lines. The output before the failure is that of whole lines.
-fn fails_anywhere(rt: &impl Abort, alloc: Global, options: Options, rows: &[(&str, &str)]) {
+/// Makes the reader fail after each byte of several lines, or other units of an input. The output before the failure is
+/// that of whole units.
+fn fails_anywhere(rt: &impl Abort, alloc: Global, how: (Options, bool), rows: &[(&[u8], &str)]) {
     let mut text = Vec::new(alloc);
     let mut lines = Vec::new(alloc);
-    for (line, shown) in rows {
-        for byte in line.as_bytes() {
-            let mut wanted = lines.clone().expect(rt, line);
-            wanted.extend_from_slice(b"read fault\n").expect(rt, line);
-            is_read(rt, alloc, options, &text, &wanted, (true, 5));
-            text.push(*byte).expect(rt, line);
+    for (unit, shown) in rows {
+        for byte in unit.iter() {
+            let mut wanted = lines.clone().expect(rt, shown);
+            wanted.extend_from_slice(b"read fault\n").expect(rt, shown);
+            is_read(rt, alloc, how, &text, &wanted, (true, 5));
+            text.push(*byte).expect(rt, shown);
         }
-        lines.extend_from_slice(shown.as_bytes()).expect(rt, line);
+        lines.extend_from_slice(shown.as_bytes()).expect(rt, shown);
     }
-    is_read(rt, alloc, options, &text, &lines, (false, 1));
+    is_read(rt, alloc, how, &text, &lines, (false, 1));
 }
 
 #[test]
 fn readers_that_fail_anywhere(rt: HostRuntime) {
-    fails_anywhere(&rt, rt.alloc(), DEBUG, &ROWS);
-    fails_anywhere(&rt, rt.alloc(), CHECKED, &CHECKED_ROWS);
+    fails_anywhere(&rt, rt.alloc(), (DEBUG, false), &ROWS);
+    fails_anywhere(&rt, rt.alloc(), (CHECKED, false), &CHECKED_ROWS);
 }
 
 /// Makes the writer fail at each offset of the output. Everything before is written, and no write follows the failure.
-fn stops_anywhere(rt: &impl Abort, alloc: Global, options: Options, rows: &[(&str, &str)]) {
+fn stops_anywhere(rt: &impl Abort, alloc: Global, how: (Options, bool), rows: &[(&[u8], &str)]) {
+    let (options, raw) = how;
     let mut text = Vec::new(alloc);
     let mut lines = Vec::new(alloc);
-    for (line, shown) in rows {
-        text.extend_from_slice(line.as_bytes()).expect(rt, line);
-        lines.extend_from_slice(shown.as_bytes()).expect(rt, line);
+    for (unit, shown) in rows {
+        text.extend_from_slice(unit).expect(rt, shown);
+        lines.extend_from_slice(shown.as_bytes()).expect(rt, shown);
     }
     for most in [1, 4096] {
         for room in 0..lines.len() + 1 {
@@ -259,7 +264,7 @@ fn stops_anywhere(rt: &impl Abort, alloc: Global, options: Options, rows: &[(&st
                 failures: 0,
             };
             let mut writer = buffered(rt, alloc, narrow);
-            let answer = run(alloc, options, &mut text.as_slice(), &mut writer);
+            let answer = run(alloc, options, raw, &mut text.as_slice(), &mut writer);
             let narrow = writer.get_ref();
             let (wanted, failures) = if room < lines.len() { (5, 1) } else { (1, 0) };
             assert!(rt; answer == wanted && narrow.failures == failures);
@@ -270,6 +275,6 @@ fn stops_anywhere(rt: &impl Abort, alloc: Global, options: Options, rows: &[(&st
 
 #[test]
 fn writers_that_fail_anywhere(rt: HostRuntime) {
-    stops_anywhere(&rt, rt.alloc(), DEBUG, &ROWS);
-    stops_anywhere(&rt, rt.alloc(), CHECKED, &CHECKED_ROWS);
+    stops_anywhere(&rt, rt.alloc(), (DEBUG, false), &ROWS);
+    stops_anywhere(&rt, rt.alloc(), (CHECKED, false), &CHECKED_ROWS);
 }

@@ -21,7 +21,6 @@ use Rattle.show_lines.specs.declared.arguments.Options.{Options}
 use Rattle.show_lines.specs.declared.arguments.Format.TheVariants.{Plain}
 use Rattle.show_lines.specs.Show.{ShowsPlain, ShowsAs, ShowsDigits, ShowsBelow, Known, Unknown, Shows, TooLong, PassedOver, Answered, ShowsAll}
 use Rattle.show_lines.specs.Run.{Runs}
-use Rattle.program.specs.Printing.{FlushesOrFails}
 use Rattle.show_lines.specs.Printed.{AreLinesFrom, IsOneOf, Repeats, Prints}
 use Rattle.show_lines.proofs.Cuts.{all_append, all_each}
 
@@ -84,22 +83,21 @@ module _ (options : Options) (plain : options.format ≡ Plain) where
       made_and (IsOneOf (x ∷ xs)) a.0 (flat_map (λ b. b.0) answers) (made_wider (λ l. l ≡ x) (IsOneOf (x ∷ xs)) a.0 (λ l e. inl e) (line_made x a.0 a.1 h.0))
       (made_wider (IsOneOf xs) (IsOneOf (x ∷ xs)) (flat_map (λ b. b.0) answers) (λ l e. inr e) (answers_made xs answers h.1))
 
-  all_repeats : (text out : List ℕ) (whole : Bool) → ShowsAll options text out whole → Repeats text out
+  pub all_repeats : (text out : List ℕ) (whole : Bool) → ShowsAll options text out whole → Repeats text out
   all_repeats text out whole s = record {
     input = s.lines;
     cut = s.cut;
     made = subst (AreLinesFrom (IsOneOf s.lines)) (sym s.shown.joined) (answers_made s.lines s.shown.answers s.shown.each);
   }
 
--- what a run printed, whose buffer was flushed at the end
-pub finished_prints : (options : Options) (left_before left_after held_before held_mid held_after : Option (List ℕ)) (status result : ℕ) (whole : Bool) → options.format ≡ Plain
-    → Runs options left_before left_after held_before held_mid whole → FlushesOrFails held_mid held_after status result → result < 2 → Prints left_before left_after held_before held_after
-finished_prints options left_before left_after held_before held_mid held_after status result whole plain r (inl (e, kept)) low = record {
+-- what was printed for an input
+pub run_prints : (options : Options) (first : List ℕ) (left_before left_after held_before held_after : Option (List ℕ)) (whole : Bool) → options.format ≡ Plain → Runs options first left_before left_after held_before held_after whole
+    → Prints first left_before left_after held_before held_after
+run_prints options first left_before left_after held_before held_after whole plain r = record {
   text = r.text;
   out = r.out;
   read = r.read;
   end = r.end;
-  written = Appends-kept held_before held_mid held_after r.out r.written kept;
-  lines = all_repeats options plain r.text r.out whole r.shows;
+  written = r.written;
+  lines = all_repeats options plain (first ++ r.text) r.out whole r.shows;
 }
-finished_prints options left_before left_after held_before held_mid held_after status result whole plain r (inr five) low = absurd (omega (arith, five, low))

@@ -1,5 +1,5 @@
 -- Requests that the arguments make.
-use Rattle.std.proofs.Common.{◌≡◌, Bool, true, false, List, ℕ, refl, sym, subst, codes}
+use Rattle.std.proofs.Common.{◌≡◌, Bool, true, false, List, ℕ, Vec, String, Global, refl, sym, subst, codes}
 use Rattle.show_lines.specs.Arguments.{IsRequest, IsWrong, RunsOrClashes}
 use Rattle.show_lines.specs.Show.{IsUnbroken}
 use Rattle.show_lines.specs.declared.arguments.Format.{Format}
@@ -14,10 +14,10 @@ pub is_wrong : (line : List ℕ) (r : Request) → IsUnbroken line → IsWrong l
 is_wrong line (Print (Wrong text)) solid h = (line, solid, h)
 is_wrong line (Print Help) solid h = absurd h
 is_wrong line (Print Version) solid h = absurd h
-is_wrong line (Run options) solid h = absurd h
+is_wrong line (Run task) solid h = absurd h
 
 -- a run, or the clash of two options
-pub is_run : (format : Format) (check : Bool) (r : Request) → RunsOrClashes format check r → IsRequest r
-is_run Debug true r h = let clash = codes "error: the argument '--format debug' cannot be used with '--check'" in is_wrong clash r (unbroken_first clash clash refl) h
-is_run Debug false r h = subst IsRequest (sym h) (λ both. let e : false ≡ true = both.1 in cc)
-is_run Plain check r h = subst IsRequest (sym h) (λ both. let e : Plain ≡ Debug = both.0 in cc)
+pub is_run : (format : Format) (check raw : Bool) (files : Vec (String Global) Global) (r : Request) → RunsOrClashes format check raw files r → IsRequest r
+is_run Debug true raw files r h = let clash = codes "error: the argument '--format debug' cannot be used with '--check'" in is_wrong clash r (unbroken_first clash clash refl) h
+is_run Debug false raw files r h = subst IsRequest (sym h) (λ both. let e : false ≡ true = both.1 in cc)
+is_run Plain check raw files r h = subst IsRequest (sym h) (λ both. let e : Plain ≡ Debug = both.0 in cc)

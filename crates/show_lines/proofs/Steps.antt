@@ -22,11 +22,11 @@ pub record Fed (options : Options) (before after piece rest : List ℕ) (w v : O
   pub cut : piece ≡ done ++ rest
   pub wrote : WritesPiece options before after done w v all
 
--- what was read was shown, but for what is held
-pub record Went (options : Options) (held : List ℕ) (r s w v : Option (List ℕ)) (whole : Bool) : Type 0 where
+-- what was read, and `first` before it, was shown, but for what is held
+pub record Went (options : Options) (first held : List ℕ) (r s w v : Option (List ℕ)) (whole : Bool) : Type 0 where
   pub text : List ℕ
   pub read : Consumes r s text
-  pub wrote : WritesPiece options [] held text w v whole
+  pub wrote : WritesPiece options [] held (first ++ text) w v whole
 
 short : (text : List ℕ) → length (held_of text) ≤ most_text → held_of text ≡ text
 short text le = take_all most_held text (omega (arith, length-take most_held text))
@@ -127,18 +127,22 @@ module _ {options : Options} where
 
   -- ---- the pieces of a text
 
-  -- nothing is read, and what was in the buffer is flushed
-  pub went_none : (held : List ℕ) (r w v : Option (List ℕ)) → held ≡ [] → Keeps w v → Went options held r r w v true
-  went_none held r w v e keeps = record { text = []; read = Consumes-nil r; wrote = ([], goes_on [] held [] tt e, Appends-kept w w v [] (Appends-nil w) keeps) }
+  -- nothing is read behind `first`
+  pub went_none : (first held : List ℕ) (r w v : Option (List ℕ)) (whole : Bool) → WritesPiece options [] held first w v whole → Went options first held r r w v whole
+  went_none first held r w v whole h = record { text = []; read = Consumes-nil r; wrote = subst (λ t. WritesPiece options [] held t w v whole) (sym (append-nil first)) h }
 
   -- one more piece
-  pub went_on : (held after piece : List ℕ) (r s t w v u : Option (List ℕ)) (whole all : Bool) → Went options held r s w v whole → Consumes s t piece → WritesPiece options held after piece v u all → Went options after r t w u (whole && all)
-  went_on held after piece r s t w v u whole all g c h =
-      record { text = g.text ++ piece; read = Consumes-trans r s t g.text piece g.read c; wrote = writes_both [] held after g.text piece w v u whole all g.wrote h }
+  pub went_on : (first held after piece : List ℕ) (r s t w v u : Option (List ℕ)) (whole all : Bool) → Went options first held r s w v whole → Consumes s t piece → WritesPiece options held after piece v u all
+      → Went options first after r t w u (whole && all)
+  went_on first held after piece r s t w v u whole all g c h = record {
+    text = g.text ++ piece;
+    read = Consumes-trans r s t g.text piece g.read c;
+    wrote = subst (λ l. WritesPiece options [] after l w u (whole && all)) (append_assoc first g.text piece) (writes_both [] held after (first ++ g.text) piece w v u whole all g.wrote h);
+  }
 
   -- the end
-  pub went_all : (held : List ℕ) (r s t w v u : Option (List ℕ)) (whole all : Bool) → Went options held r s w v whole → Consumes s t [] → IsAtEnd t → WritesRest options held whole v u all → Runs options r t w u all
-  went_all held r s t w v u whole all g c end h = ended h
+  pub went_all : (first held : List ℕ) (r s t w v u : Option (List ℕ)) (whole all : Bool) → Went options first held r s w v whole → Consumes s t [] → IsAtEnd t → WritesRest options held whole v u all → Runs options first r t w u all
+  went_all first held r s t w v u whole all g c end h = ended h
     where
       out : List ℕ
       out = g.wrote.0
@@ -146,24 +150,24 @@ module _ {options : Options} where
       read : Consumes r t g.text
       read = subst (Consumes r t) (append-nil g.text) (Consumes-trans r s t g.text [] g.read c)
 
-      shown : Shown options g.text out held whole
+      shown : Shown options (first ++ g.text) out held whole
       shown = g.wrote.1 [] [] true (record { lines = []; current = []; cut = refl; unbroken = tt; open_end = tt; is_held = refl; shown = record { answers = []; each = tt; joined = refl; all = refl } })
 
-      ended : WritesRest options held whole v u all → Runs options r t w u all
+      ended : WritesRest options held whole v u all → Runs options first r t w u all
       ended (inl (empty, keeps, same)) =
-          record { text = g.text; out = out; read = read; end = end; shows = subst (ShowsAll options g.text out) (sym same) (ends_here g.text out held whole shown empty); written = Appends-kept w v u out g.wrote.2 keeps }
+          record { text = g.text; out = out; read = read; end = end; shows = subst (ShowsAll options (first ++ g.text) out) (sym same) (ends_here (first ++ g.text) out held whole shown empty); written = Appends-kept w v u out g.wrote.2 keeps }
       ended (inr (some, (well, last, same))) = record {
         text = g.text;
         out = out ++ last.0;
         read = read;
         end = end;
-        shows = subst (ShowsAll options g.text (out ++ last.0)) (sym same) (ends_open g.text out held last.0 whole well shown some last.1);
+        shows = subst (ShowsAll options (first ++ g.text) (out ++ last.0)) (sym same) (ends_open (first ++ g.text) out held last.0 whole well shown some last.1);
         written = Appends-trans w v u out last.0 g.wrote.2 last.2;
       }
 
   -- what was written so far, where memory ran out
-  pub went_grows : (held : List ℕ) (r s w v u : Option (List ℕ)) (whole : Bool) → Went options held r s w v whole → Grows v u → Grows w u
-  went_grows held r s w v u whole g h = (g.wrote.0 ++ h.0, Appends-trans w v u g.wrote.0 h.0 g.wrote.2 h.1)
+  pub went_grows : (first held : List ℕ) (r s w v u : Option (List ℕ)) (whole : Bool) → Went options first held r s w v whole → Grows v u → Grows w u
+  went_grows first held r s w v u whole g h = (g.wrote.0 ++ h.0, Appends-trans w v u g.wrote.0 h.0 g.wrote.2 h.1)
 
 pub keeps_grow : (v u : Option (List ℕ)) → Keeps v u → Grows v u
 keeps_grow v u keeps = ([], Appends-kept v v u [] (Appends-nil v) keeps)
@@ -177,7 +181,3 @@ on_memory P Q (Err Writer) f h = tt
 -- a read of no bytes
 pub read_end : (s t : Option (List ℕ)) (n : ℕ) (buf : List ℕ) → n ≡ 0 → Consumes s t (take n buf) × (n ≡ 0 → 0 < length buf → IsAtEnd t) → 0 < length buf → Consumes s t [] × IsAtEnd t
 read_end s t n buf e h some = (subst (λ k. Consumes s t (take k buf)) e h.0, h.1 e some)
-
-pub not_failed : {X E P : Type 0} (r : Result X E) → is_err r ≡ false → OnOk r P → P
-not_failed (Ok x) is h = h
-not_failed (Err e) is h = absurd (true≢false is)

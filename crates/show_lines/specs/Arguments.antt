@@ -1,5 +1,6 @@
--- What the arguments give: the options of a run, or a text in place of a run.
-use Rattle.std.specs.Prelude.{◌≡◌, ℕ, Bool, true, List, ◌∷◌, ◌++◌, codes, string_bytes}
+-- What the arguments give: a run, or a text in place of a run.
+use Rattle.std.specs.Prelude.{◌≡◌, ℕ, Bool, true, List, ◌∷◌, ◌++◌, Vec, String, codes, string_bytes}
+use Rattle.std.specs.declared.alloc.Global.{Global}
 use Rattle.show_lines.specs.Show.{IsUnbroken}
 use Rattle.show_lines.specs.declared.arguments.Format.{Format}
 use Rattle.show_lines.specs.declared.arguments.Format.TheVariants.{Debug}
@@ -33,13 +34,15 @@ IsWrong line _ = ⊥
 abbrev pub IsAnyWrong : Request → Type 0
 IsAnyWrong request = (line : List ℕ) × IsUnbroken line × IsWrong line request
 
--- the request is a run with this format and check; in the debug form, lists cannot be checked
-abbrev pub RunsOrClashes : Format → Bool → Request → Type 0
-RunsOrClashes Debug true request = IsWrong (codes "error: the argument '--format debug' cannot be used with '--check'") request
-RunsOrClashes format check request = request ≡ Run (record { format = format; check = check })
+-- the request is a run with this format and check, on inputs that are raw or not, of these files; in the debug form, lists
+-- cannot be checked
+abbrev pub RunsOrClashes : Format → Bool → Bool → Vec (String Global) Global → Request → Type 0
+RunsOrClashes Debug true raw files request = IsWrong (codes "error: the argument '--format debug' cannot be used with '--check'") request
+RunsOrClashes format check raw files request =
+    request ≡ Run (record { options = record { format = format; check = check }; raw = raw; files = files })
 
 -- a run that has no `--check` in the debug form, the help text, the version, or what is wrong
 abbrev pub IsRequest : Request → Type 0
-IsRequest (Run options) = ¬ ((options.format ≡ Debug) × (options.check ≡ true))
+IsRequest (Run task) = ¬ ((task.options.format ≡ Debug) × (task.options.check ≡ true))
 IsRequest (Print (Wrong text)) = IsAnyWrong (Print (Wrong text))
 IsRequest (Print _) = Unit {0}

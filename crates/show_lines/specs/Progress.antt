@@ -8,7 +8,7 @@ use Rattle.show_lines.specs.declared.asking.Asked.{Asked}
 use Rattle.show_lines.specs.declared.running.Stop.{Stop}
 use Rattle.show_lines.specs.declared.running.Stop.TheVariants.{Memory, Reader, Writer}
 use Rattle.link_show.specs.List.{EachShown}
-use Rattle.show_lines.specs.Show.{Form, Shows, ShowsBelow, IsUnbroken}
+use Rattle.show_lines.specs.Show.{Form, Shows, ShowsBare, ShowsBelow, IsUnbroken}
 
 -- how many bytes of a line are kept at most: one more than the maximum length of a line
 abbrev pub most_held : ℕ
@@ -51,6 +51,10 @@ WritesBelow form text held_before held_after read = (below : List ℕ) × ShowsB
 -- a line was written, and the output of its command for these bytes
 abbrev pub WritesAnswer : Form → Asked → List ℕ → List ℕ → Option (List ℕ) → Option (List ℕ) → Bool → Type 0
 WritesAnswer form asked bytes text held_before held_after read = (below : List ℕ) × form asked bytes below read × Appends held_before held_after (line text ++ below)
+
+-- the output for messages that are on no line was written
+abbrev pub WritesMessages : Options → List ℕ → Option (List ℕ) → Option (List ℕ) → Bool → Type 0
+WritesMessages options bytes held_before held_after well = (out : List ℕ) × ShowsBare options bytes out well × Appends held_before held_after out
 
 -- the output for what follows the last LF was written, if that is not empty; and whether no line has an error
 abbrev pub WritesRest : Options → List ℕ → Bool → Option (List ℕ) → Option (List ℕ) → Bool → Type 0

@@ -95,6 +95,10 @@ abbrev pub ShowsAs : Format → Bool → Form
 ShowsAs Debug check = ShowsDebug
 ShowsAs Plain check = ShowsPlain check
 
+-- the output for messages that are on no line
+abbrev pub ShowsBare : Options → List ℕ → List ℕ → Bool → Type 0
+ShowsBare options = ShowsAs options.format options.check Messages
+
 -- the output for digits: the one for the bytes that they encode, or `bad hex` if they are not valid hex
 abbrev pub ShowsDigits : Form → Asked → Result (List ℕ) FromHexError → List ℕ → Bool → Type 0
 ShowsDigits form asked (Ok s) out read = form asked s out read

@@ -30,11 +30,22 @@ pub struct Options {
     pub check: bool,
 }
 
+/// What a run reads, and how it prints that.
+#[derive(Debug, Drop)]
+pub struct Task {
+    /// The options.
+    pub options: Options,
+    /// Whether inputs are messages, one after another, in place of lines and captures.
+    pub raw: bool,
+    /// The names of the files to read, in order; `-` is standard input. Without any, standard input is read.
+    pub files: Vec<String>,
+}
+
 /// What the command line asks for.
 #[derive(Debug, Drop)]
 pub enum Request {
-    /// A run with options.
-    Run(Options),
+    /// A run.
+    Run(Task),
     /// A text in place of a run.
     Print(Reply),
 }
@@ -48,21 +59,35 @@ pub fn parse(alloc: Global, arguments: &Vec<String>) -> Result<Request, AllocErr
     ensures { IfOk result IsRequest }
 {
     match command(alloc)?.try_get_matches_from(arguments.as_slice()) {
-        Ok(matches) => settled(alloc, chosen(&matches)),
+        Ok(matches) => settled(
+            alloc,
+            chosen(&matches),
+            matches.get_flag("raw"),
+            named(alloc, &matches)?,
+        ),
         Err(error) => reported(alloc, &error),
     }
 }
 
-/// Returns the request for a run with these options, or for a wrong argument: the debug form has no `--check`.
-fn settled(alloc: Global, options: Options) -> Result<Request, AllocError>
-    ensures { IfOk result (RunsOrClashes options.format options.check) }
+/// Returns the request for this run, or for a wrong argument: the debug form has no `--check`.
+fn settled(
+    alloc: Global,
+    options: Options,
+    raw: bool,
+    files: Vec<String>,
+) -> Result<Request, AllocError>
+    ensures { IfOk result (RunsOrClashes options.format options.check raw files) }
 {
     match (options.format, options.check) {
         (Format::Debug, true) => wrong(
             alloc,
             "error: the argument '--format debug' cannot be used with '--check'",
         ),
-        _ => Ok(Request::Run(options)),
+        _ => Ok(Request::Run(Task {
+            options,
+            raw,
+            files,
+        })),
     }
 }
 
@@ -91,10 +116,18 @@ fn command<'a>(alloc: Global) -> Result<Command<'a>, AllocError> {
     let check = Arg::new(alloc, "check")
         .long("check")
         .action(ArgAction::SetTrue);
+    let raw = Arg::new(alloc, "raw")
+        .long("raw")
+        .action(ArgAction::SetTrue);
+    let files = Arg::new(alloc, "FILE")
+        .action(ArgAction::Append)
+        .num_args(0..);
     Command::new(alloc, "nlshow")
         .version(VERSION)
         .arg(format)?
-        .arg(check)
+        .arg(check)?
+        .arg(raw)?
+        .arg(files)
 }
 
 /// Returns the options in `matches`.
@@ -107,6 +140,21 @@ fn chosen(matches: &ArgMatches<'_>) -> Options {
         format,
         check: matches.get_flag("check"),
     }
+}
+
+/// Returns the names of the files in `matches`.
+///
+/// # Errors
+///
+/// `AllocError` if an allocation fails.
+fn named(alloc: Global, matches: &ArgMatches<'_>) -> Result<Vec<String>, AllocError> {
+    let mut files = Vec::new(alloc);
+    if let Some(names) = matches.get_strs("FILE") {
+        for name in names {
+            files.push(String::from_str(alloc, name)?)?;
+        }
+    }
+    Ok(files)
 }
 
 /// Returns the request that `clap` reports as an error.

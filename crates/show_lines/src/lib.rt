@@ -6,6 +6,7 @@
 
 mod arguments;
 mod asking;
+mod bare;
 mod debug;
 mod held;
 mod lists;
@@ -15,6 +16,7 @@ mod replies;
 mod running;
 mod showing;
 
-pub use arguments::{Format, Options, Request, parse, wrong};
+pub use arguments::{Format, Options, Request, Task, parse, wrong};
+pub use bare::write_bare;
 pub use replies::{Reply, USAGE, VERSION};
-pub use running::run;
+pub use running::{Stop, read_more, show_lines};

@@ -6,30 +6,32 @@ ghost use Rattle.show_lines.specs.Arguments.{reply_status, reply_text};
 use netlink_packet_route::with_names;
 
 /// The usage line.
-pub const USAGE: &str = "usage: nlshow [--format plain|debug] [--check] | --help | --version\n";
+pub const USAGE: &str =
+    "usage: nlshow [--format plain|debug] [--check] [--raw] [FILE].. | --help | --version\n";
 
 /// The help text.
 const HELP: &str = with_names!(
     "\
-usage: nlshow [--format plain|debug] [--check] | --help | --version
+usage: nlshow [--format plain|debug] [--check] [--raw] [FILE].. | --help | --version
 
 Prints the values of lists of link attributes, and of the lists in link messages.
 
   --format plain  print text for people (default)
   --format debug  print values as Rust's `Debug` does
   --check         report whether each list is canonical
+  --raw           read messages, one after another, in place of lines and captures
   -h, --help      print this text
   -V, --version   print the version
 
-Each line of standard input is one of
+Each FILE, or standard input, is a capture (pcap or pcapng), or has lines. Each line is one of
   FAMILY HEX        the bytes of a list
   check FAMILY HEX  the same; reports whether the list is canonical
   message HEX       the bytes of messages
 FAMILY is ",
     ".
-White space separates the words. Blank lines, and lines that begin with #, are ignored.
+White space separates the words. Blank lines, and lines that begin with #, are ignored. The FILE - is standard input.
 
-Status: 0 if every line is right, 1 if not, 2 for a wrong argument, 4 if an allocation fails, 5 if reading or writing fails.
+Status: 0 if all input is right, 1 if not, 2 for a wrong argument, 4 if an allocation fails, 5 if reading or writing fails.
 "
 );
 

@@ -1,92 +1,64 @@
-//! Runs the program on any reader and writer.
+//! Reads lines from any reader, and writes what is printed for them to any writer.
 
-ghost use Rattle.std.specs.Prelude.{◌≡◌, ◌⊎◌, ◌<◌, ◌++◌, [], IfOk, MatchOption};
+ghost use Rattle.std.specs.Prelude.{◌≡◌, ◌<◌, ◌++◌, [], length, IfOk, MatchOption};
 ghost use Rattle.std.specs.Io.{ReadsAtMost};
 ghost use Rattle.std.specs.Io.Buffered.{writer_buffer, writer_contents, writer_inner};
 ghost use Rattle.std.specs.Io.KnownBytes.{Keeps, ReadConsumes};
 ghost use Rattle.netlink_packet_route.specs.Report.{line};
 ghost use Rattle.show_lines.specs.Show.{IsUnbroken};
 ghost use Rattle.show_lines.specs.Progress.{held_of, Grows, WritesLine, WritesPiece, WritesRest, OnMemory};
-ghost use Rattle.show_lines.specs.Run.{RunsFor, Runs, EndsWith};
+ghost use Rattle.show_lines.specs.Run.{Runs};
 ghost use Rattle.show_lines.specs.Printed.{Prints};
 ghost use Rattle.show_lines.specs.declared.arguments.Format.TheVariants.{Plain};
-ghost use Rattle.program.specs.Printing.{no_memory_line};
 
 use crate::arguments::Options;
 use crate::held::Held;
 use crate::showing::show;
-use program::{finish, print_no_memory, print_read_fault};
-use std::alloc::{AllocError, Global};
+use std::alloc::Global;
 use std::io;
 use std::io::{BufWriter, Read, Write};
 
-/// The maximum number of bytes of one read.
-const CHUNK: usize = 65_536;
-
-/// Why a run stopped.
-#[derive(Debug, Drop)]
-pub(crate) enum Stop {
+/// Why a run stopped before its end.
+#[derive(Clone, Copy, Debug, PartialEq, Eq)]
+pub enum Stop {
+    /// An allocation failed.
     Memory,
+    /// The reader failed.
     Reader,
+    /// The writer failed.
     Writer,
 }
 
-/// Reads lines up to the end of `reader`, writes the output for each and flushes it. Whenever it reads, the output for all
-/// lines that it has read is written, and nothing is left in the buffer of `writer`. Returns the exit status:
+/// Processes the lines of `first`, which was read before, and of `reader` up to its end; the last one may lack its LF.
+/// Writes the output for each and flushes it: whenever it reads, the output for all lines that it has read is written, and
+/// nothing is left in the buffer of `writer`. `chunk` is the memory for reads. Returns whether no line has an error.
 ///
-/// - 0 if no line has an error: all lists and messages decode, and all lists after `check` are canonical;
-/// - 1 if a line has an error;
-/// - 4 if an allocation fails;
-/// - 5 if the reader or the writer fails.
-pub fn run<R: Read, W: Write + Drop>(
+/// # Errors
+///
+/// A [`Stop`].
+pub fn show_lines<R: Read, W: Write + Drop>(
     alloc: Global,
     options: Options,
-    reader: &mut R,
-    writer: &mut BufWriter<W>,
-) -> u8
-    ensures report { result < 2 → RunsFor options (R.remaining reader.old) (R.remaining reader.new)
-        (writer_contents W.contents writer.old) (W.contents (writer_inner writer.new)) result }
-    // In the plain form, every line that is written is printable ASCII or a line of the input.
-    ensures printable { result < 2 → options.format ≡ Plain → Prints (R.remaining reader.old) (R.remaining reader.new)
-        (writer_contents W.contents writer.old) (W.contents (writer_inner writer.new)) }
-    // The line `no memory` is the last of the output.
-    ensures memory { result ≡ 4 → EndsWith (writer_contents W.contents writer.old)
-        (W.contents (writer_inner writer.new)) no_memory_line }
-    // Nothing is left in the buffer.
-    ensures empty { result < 5 → writer_buffer writer.new ≡ [] }
-    ensures known { (result < 2) ⊎ ((result ≡ 4) ⊎ (result ≡ 5)) }
-{
-    match show_all(alloc, options, reader, writer) {
-        Ok(true) => finish(writer, 0),
-        Ok(false) => finish(writer, 1),
-        Err(Stop::Memory) => print_no_memory(writer),
-        Err(Stop::Reader) => print_read_fault(writer),
-        Err(Stop::Writer) => 5,
-    }
-}
-
-/// Processes all lines of `reader`; the last one may lack its LF. Returns whether no line has an error.
-fn show_all<R: Read, W: Write + Drop>(
-    alloc: Global,
-    options: Options,
+    first: &[u8],
+    chunk: &mut [u8],
     reader: &mut R,
     writer: &mut BufWriter<W>,
 ) -> Result<bool, Stop>
-    ensures shown { IfOk result (Runs options (R.remaining reader.old) (R.remaining reader.new)
+    requires { 0 < length chunk.old }
+    ensures shown { IfOk result (Runs options first.now (R.remaining reader.old) (R.remaining reader.new)
+        (writer_contents W.contents writer.old) (writer_contents W.contents writer.new)) }
+    // In the plain form, every line that is written is printable ASCII or a line of the input.
+    ensures printable { options.format ≡ Plain → IfOk result (λ _. Prints first.now
+        (R.remaining reader.old) (R.remaining reader.new)
         (writer_contents W.contents writer.old) (writer_contents W.contents writer.new)) }
     ensures memory { OnMemory result
         (Grows (writer_contents W.contents writer.old) (writer_contents W.contents writer.new)) }
 {
-    let mut buffer = match vec![in alloc; 0u8; CHUNK] {
-        Ok(buffer) => buffer,
-        Err(_) => return Err(Stop::Memory),
-    };
-    if writer.flush().is_err() {
-        return Err(Stop::Writer);
-    }
-    let chunk = buffer.as_mut_slice();
     let mut held = Held::new(alloc);
-    let mut whole = true;
+    let mut whole = match feed(alloc, options, &mut held, first, writer) {
+        Ok(read) => read,
+        Err(stop) => return Err(stop),
+    };
     for _ in 0..u64::MAX {
         let count = match read_more(reader, chunk, writer) {
             Ok(0) => return end_text(alloc, options, &held, whole, writer),
@@ -102,9 +74,9 @@ fn show_all<R: Read, W: Write + Drop>(
     Err(Stop::Reader)
 }
 
-/// Reads into `chunk`. The output has to be flushed first: a program at the other end of two pipes may write its next
+/// Reads into `chunk`, as [`Read::read`] does. The output has to be flushed first: a program at the other end of two pipes may write its next
 /// line only after the output for the last one.
-fn read_more<R: Read, W: Write + Drop>(
+pub fn read_more<R: Read, W: Write + Drop>(
     reader: &mut R,
     chunk: &mut [u8],
     writer: &BufWriter<W>,

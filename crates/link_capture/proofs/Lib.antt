@@ -1,0 +1,10 @@
+pub mod Blocks
+pub mod Fronts
+pub mod Longer
+pub mod Nexts
+pub mod Once
+pub mod OptionsOnce
+pub mod Passed
+pub mod ReadingOnce
+pub mod Units
+pub mod UnitsOnce

@@ -1,0 +1,11 @@
+pub mod Block
+pub mod ErrorText
+pub mod Form
+pub mod Front
+pub mod Options
+pub mod Order
+pub mod Pcap
+pub mod Raw
+pub mod Same
+pub mod Told
+pub mod Unit

@@ -1,0 +1,24 @@
+//! Captures of netlink: pcap and pcapng files, and raw streams of messages. An input is cut into units, one behind the
+//! other. A [`Capture`] takes them one at a time from bytes that the caller has read, and returns packets and messages, or
+//! the first error. Nothing allocates. [`laws`] has theorems, such as that there is one reading of each input.
+#![tactic(auto)]
+
+mod capture;
+mod error;
+mod event;
+mod form;
+mod front;
+pub mod laws;
+mod options;
+mod order;
+mod pcap;
+mod pcapng;
+mod raw;
+
+pub use capture::{Capture, Next};
+pub use error::{Bytes, Head, InputError, Size};
+pub use event::{Event, Packet, Time};
+pub use form::Form;
+pub use options::Clock;
+pub use order::Order;
+pub use pcapng::Interface;

@@ -1,0 +1,62 @@
+-- The output for a packet.
+use Rattle.std.specs.Prelude.{◌≡◌, ◌≢◌, ◌<◌, ◌≤◌, ℕ, ◌==◌, Bool, true, false, List, [], ◌∷◌, ◌++◌, length, drop, Option, Some, None, nat_lt, codes, if◌then◌else◌}
+use Rattle.std.specs.Fmt.{decimal}
+use Rattle.byteorder.specs.Endian.{big_number}
+use Rattle.link_base.specs.Labels.{name_in}
+use Rattle.link_capture.specs.ErrorText.{bytes_text}
+use Rattle.link_capture.specs.Told.{Captured}
+use Rattle.netlink_packet_route.specs.Report.{line}
+use Rattle.show_lines.specs.declared.arguments.Options.{Options}
+use Rattle.show_lines.specs.Show.{ShowsBare}
+use Rattle.show_captures.specs.Protocol.{protocols}
+use Rattle.show_captures.specs.Time.{IsTimeText}
+
+-- the link type of netlink, whose header has 16 bytes
+abbrev pub netlink : ℕ
+netlink = 253
+
+-- the protocol of a packet of this link type: the last two bytes of its header, the first of them the highest
+abbrev pub protocol_of : List ℕ → ℕ
+protocol_of bytes = big_number 2 (drop 14 bytes)
+
+-- the length that a packet had, if that is not the captured one
+abbrev pub original_part : ℕ → ℕ → List ℕ
+original_part captured original = if original == captured then [] else codes " of " ++ decimal original
+
+abbrev pub protocol_name : Option (List ℕ) → ℕ → List ℕ
+protocol_name None n = decimal n
+protocol_name (Some name) n = name ++ (codes " (" ++ (decimal n ++ codes ")"))
+
+-- a protocol, if it is not NETLINK_ROUTE
+abbrev pub protocol_part : ℕ → List ℕ
+protocol_part n = if n == 0 then [] else codes " protocol " ++ protocol_name (name_in protocols n) n
+
+-- the link type of a packet, if it is not that of netlink; otherwise its protocol, if it has a header
+abbrev pub type_part : Captured → List ℕ
+type_part p =
+    if p.link_type == netlink then (if nat_lt (length p.bytes) 16 then [] else protocol_part (protocol_of p.bytes))
+    else codes " link type " ++ decimal p.link_type
+
+-- the line of a packet with this number and this text of its time
+abbrev pub packet_line : ℕ → List ℕ → Captured → List ℕ
+packet_line number time p =
+    codes "packet " ++ (decimal number ++ (codes " time " ++ (time ++ (codes " len " ++ (decimal (length p.bytes) ++ (original_part (length p.bytes) p.original ++ (type_part p ++ 10 ∷ [])))))))
+
+-- the error of a packet without a whole header
+abbrev pub short_line : ℕ → List ℕ
+short_line n = codes "  error at 0: " ++ (bytes_text n ++ line (codes ", too few for a cooked header"))
+
+-- the output below the line of a packet, and whether it has no error: none, an error, or its messages
+pub data ShowsBelow (options : Options) (p : Captured) (out : List ℕ) (well : Bool) : Type 0 where
+  Other : p.link_type ≢ netlink → out ≡ [] → well ≡ true → ShowsBelow options p out well
+  Short : p.link_type ≡ netlink → length p.bytes < 16 → out ≡ short_line (length p.bytes) → well ≡ false → ShowsBelow options p out well
+  OtherProtocol : p.link_type ≡ netlink → 16 ≤ length p.bytes → protocol_of p.bytes ≢ 0 → out ≡ [] → well ≡ true → ShowsBelow options p out well
+  Route : p.link_type ≡ netlink → 16 ≤ length p.bytes → protocol_of p.bytes ≡ 0 → ShowsBare options (drop 16 p.bytes) out well → ShowsBelow options p out well
+
+-- the output for a packet with this number
+pub record ShowsPacket (options : Options) (number : ℕ) (p : Captured) (out : List ℕ) (well : Bool) : Type 0 where
+  pub time : List ℕ
+  pub is_time : IsTimeText p.time time
+  pub below : List ℕ
+  pub shown : ShowsBelow options p below well
+  pub joined : out ≡ packet_line number time p ++ below

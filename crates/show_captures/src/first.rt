@@ -1,0 +1,56 @@
+//! The first bytes of an input, which tell its form.
+
+ghost use Rattle.std.specs.Prelude.{◌<◌, ◌≤◌, ◌≡◌, length, true, false, IfOk};
+ghost use Rattle.std.specs.Io.Buffered.{writer_contents};
+ghost use Rattle.std.specs.Io.KnownBytes.{Consumes, IsAtEnd, Keeps};
+ghost use Rattle.show_lines.specs.Progress.{Grows, OnMemory};
+
+use crate::captures::read_on;
+use show_lines::Stop;
+use std::alloc::Global;
+use std::io::{BufWriter, Read, Write};
+
+/// The first bytes of an input, and whether they are all of it.
+#[derive(Drop)]
+pub(crate) struct First {
+    pub(crate) bytes: Vec<u8>,
+    pub(crate) is_last: bool,
+}
+
+/// Reads the first bytes of an input: at least four, unless it has fewer.
+pub(crate) fn read_first<R: Read, W: Write + Drop>(
+    alloc: Global,
+    chunk: &mut [u8],
+    reader: &mut R,
+    writer: &mut BufWriter<W>,
+) -> Result<First, Stop>
+    requires { 0 < length chunk.old }
+    ensures read { IfOk result (λ first. Consumes (R.remaining reader.old) (R.remaining reader.new) first.bytes.items) }
+    ensures last { IfOk result (λ first. first.is_last ≡ true → IsAtEnd (R.remaining reader.new)) }
+    ensures long { IfOk result (λ first. first.is_last ≡ false → 4 ≤ length first.bytes.items) }
+    ensures kept { IfOk result (λ _. Keeps (writer_contents W.contents writer.old) (writer_contents W.contents writer.new)) }
+    ensures room { length chunk.new ≡ length chunk.old }
+    ensures memory { OnMemory result
+        (Grows (writer_contents W.contents writer.old) (writer_contents W.contents writer.new)) }
+{
+    let mut bytes = Vec::new(alloc);
+    for _ in 0..u64::MAX {
+        match read_on(&mut bytes, chunk, reader, writer) {
+            Ok(0) => {
+                return Ok(First {
+                    bytes,
+                    is_last: true,
+                });
+            }
+            Ok(_) => {}
+            Err(stop) => return Err(stop),
+        }
+        if bytes.len() >= 4 {
+            return Ok(First {
+                bytes,
+                is_last: false,
+            });
+        }
+    }
+    Err(Stop::Reader)
+}

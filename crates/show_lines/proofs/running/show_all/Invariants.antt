@@ -1,8 +1,0 @@
-use Rattle.std.proofs.Common.{◌≡◌, []}
-use Rattle.std.specs.Io.Buffered.{writer_contents, writer_buffer}
-use Rattle.show_lines.proofs.Steps.{Went}
-use Rattle.show_lines.proofs.running.show_all.Given as goal
-
-abbrev pub invariant-loop : goal.invariant-loop
-invariant-loop g l =
-    Went l.options l.held (g.R.Read.remaining l.initial.reader) (g.R.Read.remaining l.reader) (writer_contents g.W.Write.contents l.fn.writer) (writer_contents g.W.Write.contents l.writer) l.whole × (writer_buffer l.writer ≡ [])

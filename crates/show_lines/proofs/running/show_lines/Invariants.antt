@@ -1,0 +1,9 @@
+use Rattle.std.proofs.Common.{◌≡◌, ◌<◌, [], length}
+use Rattle.std.specs.Io.Buffered.{writer_contents, writer_buffer}
+use Rattle.show_lines.proofs.Steps.{Went}
+use Rattle.show_lines.proofs.running.show_lines.Given as goal
+
+abbrev pub invariant-loop : goal.invariant-loop
+invariant-loop g l =
+    Went l.options l.initial.first l.held (g.R.Read.remaining l.initial.reader) (g.R.Read.remaining l.reader) (writer_contents g.W.Write.contents l.fn.writer) (writer_contents g.W.Write.contents l.writer) l.whole
+    × (writer_buffer l.writer ≡ []) × (0 < length l.chunk)
