@@ -28,7 +28,7 @@ error_kept state s more error (Cut n gap front short e) final = absurd (not_capt
 error_kept state s more error (Start front) final = start_wrong state s false error front more (follows more)
 error_kept state s more error (Whole n gap front whole taken) final = whole_wrong state s n gap front false error whole taken more (follows more)
 
--- a unit with something behind it stays
+-- a unit that something follows stays
 unit_kept : (state : State) (s more : List ℕ) (told : Told) (size : ℕ) (next : State) → IsUnit state s told size next → drop size s ≢ [] → IsUnit state (s ++ more) told size next
 unit_kept state s more told size next u some =
     let due : u.n + u.gap ≤ length s = elim (cases_lt size (length s)) [
@@ -37,12 +37,12 @@ unit_kept state s more told size next u some =
     ] in
     (whole_unit state s u.n u.gap u.front false size told next (inr due) u.whole u.all u.taken).2 more (follows more)
 
--- where something is left behind units, something is there before them
+-- where something is left after units, something is there before them
 some_before : (state : State) (at : ℕ) (s : List ℕ) (units : List Told) (last : State) (end : ℕ) (left : List ℕ) → Leads state at s units last end left → left ≢ [] → s ≢ []
 some_before state at s [] last end left (_, _, is) some e = some (is ∙ e)
 some_before state at s (told ∷ units) last end left (next, (size, unit, leads)) some e = let b = unit_bounded state s told size next unit in omega (arith, b.0, b.1, ap length e)
 
--- units with something behind them stay
+-- units that something follows stay
 leads_kept : (state : State) (at : ℕ) (s more : List ℕ) (units : List Told) (last : State) (end : ℕ) (left : List ℕ) → Leads state at s units last end left → left ≢ [] → Leads state at (s ++ more) units last end (left ++ more)
 leads_kept state at s more [] last end left (same, offset, is) some = (same, offset, ap (λ t. t ++ more) is)
 leads_kept state at s more (told ∷ units) last end left (next, (size, unit, leads)) some = (

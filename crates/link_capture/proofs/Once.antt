@@ -30,13 +30,13 @@ module _ {S X Y E : Type 0} (size : S → ℕ) (next : S → Y → S) (IsFront :
   at_end s e only [] f run = let ends : f ≡ e = cc (only (Err f) ((end s f).0 run)) in λ i. ([], ends i)
   at_end s e only (x ∷ xs) f run = let (y, first, rest) = (more s x xs f).0 run in absurd (cc (only (Ok (x, y)) first))
 
-  -- where an item is, the run is this item and the one behind it
+  -- where an item is, the run is this item and the one after it
   at_item : (s : S) (x : X) (y : Y) → ((f : Result (X × Y) E) → IsFront s f → f ≡ Ok (x, y)) → (rest : OnlyOne (Runs (next s y))) (xs : List X) (e : E) → IsRun s xs e → ◌≡◌ {A = List X × E} (xs, e) (x ∷ rest.value.0, rest.value.1)
   at_item s x y only rest [] e run = absurd (cc (only (Err e) ((end s e).0 run)))
   at_item s x y only rest (z ∷ xs) e run =
-      let (w, first, behind) = (more s z xs e).0 run in
+      let (w, first, after) = (more s z xs e).0 run in
       let same : ◌≡◌ {A = X × Y} (z, w) (x, y) = cc (only (Ok (z, w)) first) in
-      let others = rest.only (xs, e) (subst (λ p. IsRun (next s p.1) xs e) same behind) in
+      let others = rest.only (xs, e) (subst (λ p. IsRun (next s p.1) xs e) same after) in
       λ i. ((same i).0 ∷ (others i).0, (others i).1)
 
   -- there is one run, by what is at the front and the runs from smaller places

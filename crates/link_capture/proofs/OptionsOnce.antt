@@ -10,7 +10,7 @@ use Rattle.link_capture.specs.Order.{number_at}
 use Rattle.link_capture.specs.Options.{Coded, HasNoOption, HasHeader, BeginsWithOption, AreOptions, IsClock, clock_of}
 use Rattle.link_capture.proofs.Once.{OnlyOne, one_run}
 
--- an option, and the bytes behind it; or the end of the options, and its error
+-- an option, and the bytes after it; or the end of the options, and its error
 abbrev First : Type 0
 First = Result (Coded × List ℕ) (Option InputError)
 
@@ -36,9 +36,9 @@ module _ (order : Order) (s : List ℕ) where
   abbrev overrun : InputError
   overrun = errors.OptionOverrun code size (length (drop 4 s))
 
-  -- the bytes behind a value
-  abbrev behind : List ℕ → List ℕ
-  behind v = drop (4 + (length v + gap (length v))) s
+  -- the bytes after a value
+  abbrev after : List ℕ → List ℕ
+  after v = drop (4 + (length v + gap (length v))) s
 
   -- where there is no option, there is no header of one
   no_header : (c n : ℕ) → HasNoOption order s → HasHeader order s c n → ⊥
@@ -58,18 +58,18 @@ module _ (order : Order) (s : List ℕ) where
   only_overrun header short (Err (Some e)) (c, (n, own, _, is)) = ap (λ x. Err (Some x)) (is ∙ λ i. errors.OptionOverrun (own.2 i) (own.3 i) (length (drop 4 s)))
 
   -- where it is, nothing but the option is first
-  only_option : HasHeader order s code size → 4 + size ≤ length s → (f : First) → IsFirst order s f → f ≡ Ok ((code, value), behind value)
+  only_option : HasHeader order s code size → 4 + size ≤ length s → (f : First) → IsFirst order s f → f ≡ Ok ((code, value), after value)
   only_option header long (Ok (o, rest)) begins =
       let same : o.1 ≡ value = begins.value ∙ ap (λ n. take n (drop 4 s)) begins.header.3 in
-      λ i. Ok ((begins.header.2 i, same i), (begins.behind ∙ ap behind same) i)
+      λ i. Ok ((begins.header.2 i, same i), (begins.after ∙ ap after same) i)
   only_option header long (Err None) h = absurd (no_header code size h header)
   only_option header long (Err (Some e)) (c, (n, own, short, _)) = absurd (omega (arith, short, long, own.3))
 
   -- and the option is first
-  is_option : HasHeader order s code size → 4 + size ≤ length s → BeginsWithOption order s (code, value) (behind value)
+  is_option : HasHeader order s code size → 4 + size ≤ length s → BeginsWithOption order s (code, value) (after value)
   is_option header long =
       let is : length value ≡ size = length-take-le size (drop 4 s) (omega (arith, long, length-drop 4 s)) in
-      record { header = (header.0, header.1, header.2, is); fits = omega (arith, is, long); value = ap (λ n. take n (drop 4 s)) (sym is); behind = refl }
+      record { header = (header.0, header.1, header.2, is); fits = omega (arith, is, long); value = ap (λ n. take n (drop 4 s)) (sym is); after = refl }
 
   -- one thing is first, by cases
   one_by : (length s < 4) ⊎ (4 ≤ length s) → (code ≡ 0) ⊎ (code ≢ 0) → (length s < 4 + size) ⊎ (4 + size ≤ length s) → OnlyOne (IsFirst order s)
@@ -80,7 +80,7 @@ module _ (order : Order) (s : List ℕ) where
       record { value = Err (Some overrun); is = (code, (size, header, short, refl)); only = only_overrun header short }
   one_by (inr long) (inr some) (inr fits) =
       let header : HasHeader order s code size = (long, some, refl, refl) in
-      record { value = Ok ((code, value), behind value); is = is_option header fits; only = only_option header fits }
+      record { value = Ok ((code, value), after value); is = is_option header fits; only = only_option header fits }
 
   -- one thing is first
   one_first : OnlyOne (IsFirst order s)
@@ -88,7 +88,7 @@ module _ (order : Order) (s : List ℕ) where
 
 -- an option has at least four bytes
 shorter : (order : Order) (s : List ℕ) (o : Coded) (rest : List ℕ) → BeginsWithOption order s o rest → length rest < length s
-shorter order s o rest begins = omega (arith, begins.header.0, ap length begins.behind, length-drop (4 + (length o.1 + gap (length o.1))) s)
+shorter order s o rest begins = omega (arith, begins.header.0, ap length begins.after, length-drop (4 + (length o.1 + gap (length o.1))) s)
 
 -- there is one list of options, with its error
 one_list : (order : Order) (s : List ℕ) → OnlyOne (λ (r : List Coded × Option InputError). AreOptions order s r.0 r.1)

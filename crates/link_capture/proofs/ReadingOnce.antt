@@ -11,7 +11,7 @@ use Rattle.link_capture.proofs.UnitsOnce.{Found, IsFound, one_found, unit_bounde
 abbrev Place : Type 0
 Place = State × ℕ × List ℕ
 
--- a unit, with what is known behind it and its length; or what ends the input
+-- a unit, with what is known after it and its length; or what ends the input
 abbrev First : Type 0
 First = Result (Told × (State × ℕ)) (Option (ℕ × InputError))
 
@@ -61,7 +61,7 @@ one_first state at (b ∷ s) = one_left state at (b ∷ s) (λ e. absurd cc)
 
 -- ---- readings
 
--- the place behind a unit
+-- the place after a unit
 abbrev next_place : Place → State × ℕ → Place
 next_place p y = (y.0, p.1 + y.1, drop y.1 p.2)
 
@@ -73,7 +73,7 @@ shorter p told y unit = let b = unit_bounded p.0 p.2 told y.1 y.0 unit in omega 
 no_unit : (p : Place) (fault : Option (ℕ × InputError)) → IsReading p [] fault ↔ IsFirst p (Err fault)
 no_unit p fault = (λ (q, (state, at, left), end). subst (λ (z : Place). IsEnd z.0 z.1 z.2 fault) (λ i. (state i, at i, left i)) end, λ end. (p, (refl, refl, refl), end))
 
--- a reading with a unit, by this and the units behind it
+-- a reading with a unit, by this and the units after it
 one_more : (p : Place) (told : Told) (units : List Told) (fault : Option (ℕ × InputError)) → IsReading p (told ∷ units) fault ↔ ((y : State × ℕ) × IsFirst p (Ok (told, y)) × IsReading (next_place p y) units fault)
 one_more p told units fault = (λ (q, (next, (size, unit, leads)), end). ((next, size), unit, (q, leads, end)), λ ((next, size), unit, (q, leads, end)). (q, (next, (size, unit, leads)), end))
 

@@ -77,7 +77,7 @@ one_taken forms.Messages is u = only_given _
 
 -- ---- the unit at the front, or the error
 
--- a unit, with what is known behind it and its length; or an error
+-- a unit, with what is known after it and its length; or an error
 abbrev pub Found : Type 0
 Found = Result (Told × (State × ℕ)) InputError
 

@@ -9,11 +9,12 @@ use Rattle.link_capture.specs.declared.form.Form.TheVariants.{Blocks}
 use Rattle.link_capture.specs.declared.options.Clock.{Clock}
 use Rattle.link_capture.specs.declared.order.Order.{Order}
 use Rattle.link_capture.specs.declared.pcapng.Interface.{Interface}
+use Rattle.link_capture.specs.Form.{section}
 use Rattle.link_capture.specs.Order.{number_at}
 use Rattle.link_capture.specs.Options.{IsClock}
 use Rattle.link_capture.specs.Told.{Told, Nothing, APacket, State, told_of}
 
--- what is known behind a block, with what it means; or its error
+-- what is known after a block, with what it means; or its error
 abbrev pub After : Type 0
 After = Result (Told × State) InputError
 
@@ -21,7 +22,7 @@ After = Result (Told × State) InputError
 abbrev pub passed : Order → List Interface → After
 passed order is = Ok (Nothing, record { form = Blocks order; interfaces = is })
 
--- what is known behind a block, by what a function returns and the interfaces then
+-- what is known after a block, by what a function returns and the interfaces then
 abbrev pub after_block : Order → List Interface → Result Event InputError → After
 after_block order is (Ok event) = Ok (told_of event, record { form = Blocks order; interfaces = is })
 after_block order is (Err error) = Err error
@@ -97,7 +98,7 @@ packed order is u =
 -- a section header, an enhanced packet, a block that is not read, or one that is passed over
 abbrev pub other : Order → List Interface → List ℕ → ℕ → After
 other order is u kind =
-    if kind == 0x0a0d_0d0a then sectioned order u
+    if kind == section then sectioned order u
     else (if kind == 6 then packed order is u
     else (if (kind == 2) || (kind == 3) then Err (errors.Unread kind)
     else passed order is))

@@ -5,6 +5,10 @@ use Rattle.link_capture.specs.declared.form.Form.{Form}
 use Rattle.link_capture.specs.declared.form.Form.TheVariants.{Pcap, Blocks}
 use Rattle.link_capture.specs.declared.order.Order.TheVariants.{Little, Big}
 
+-- the type of a section header, with which a pcapng file begins. It reads the same in either order
+abbrev pub section : ℕ
+section = 0x0a0d_0d0a
+
 -- the form of files that begin with these four bytes, the first of them the highest
 abbrev pub form_by : ℕ → Option Form
 form_by magic =
@@ -12,7 +16,7 @@ form_by magic =
     else (if magic == 0xa1b2_c3d4 then Some (Pcap Big 6)
     else (if magic == 0x4d3c_b2a1 then Some (Pcap Little 9)
     else (if magic == 0xa1b2_3c4d then Some (Pcap Big 9)
-    else (if magic == 0x0a0d_0d0a then Some (Blocks Little)
+    else (if magic == section then Some (Blocks Little)
     else None))))
 
 -- the form of a file

@@ -11,6 +11,7 @@ use Rattle.link_capture.specs.declared.front.Front.{Front}
 use Rattle.link_capture.specs.declared.front.Front.TheVariants.{Short, Sized, Wrong}
 use Rattle.link_capture.specs.declared.order.Order.{Order}
 use Rattle.link_capture.specs.declared.order.Order.TheVariants.{Little, Big}
+use Rattle.link_capture.specs.Form.{section}
 use Rattle.link_capture.specs.Order.{number_at}
 
 -- the greatest length of a unit
@@ -37,15 +38,11 @@ size_of (forms.Records order digits) = sizes.Record
 size_of (forms.Blocks order) = sizes.Block
 size_of forms.Messages = sizes.Message
 
--- a unit of n bytes, with so many of padding behind it, if its length is not above the greatest
+-- a unit of n bytes, with so many of padding after it, if its length is not above the greatest
 abbrev pub up_to_most : Size → ℕ → ℕ → Front
 up_to_most size n gap = if nat_lt most n then Wrong (errors.Large size n) else Sized n gap
 
 -- ---- blocks
-
--- a section header
-abbrev pub section : ℕ
-section = 0x0a0d_0d0a
 
 -- the order that a byte-order magic shows, if it is one
 abbrev pub order_by : ℕ → Option Order

@@ -22,14 +22,14 @@ HasNoOption order s = (length s < 4) ⊎ (number_at order 2 0 s ≡ 0)
 abbrev pub HasHeader : Order → List ℕ → ℕ → ℕ → Type 0
 HasHeader order s code size = (4 ≤ length s) × (code ≢ 0) × (code ≡ number_at order 2 0 s) × (size ≡ number_at order 2 2 s)
 
--- s starts with an option, which is padded to a multiple of four; and the bytes behind it
+-- s starts with an option, which is padded to a multiple of four; and the bytes after it
 pub record BeginsWithOption (order : Order) (s : List ℕ) (option : Coded) (rest : List ℕ) : Type 0 where
   pub header : HasHeader order s option.0 (length option.1)
   pub fits : 4 + length option.1 ≤ length s
   pub value : option.1 ≡ take (length option.1) (drop 4 s)
-  pub behind : rest ≡ drop (4 + (length option.1 + gap (length option.1))) s
+  pub after : rest ≡ drop (4 + (length option.1 + gap (length option.1))) s
 
--- the length of an option exceeds the bytes that are left behind its header
+-- the length of an option exceeds the bytes that are left after its header
 abbrev pub IsOverrun : Order → List ℕ → InputError → Type 0
 IsOverrun order s error =
     (code : ℕ) × ((size : ℕ) × HasHeader order s code size × (length s < 4 + size) × (error ≡ errors.OptionOverrun code size (length (drop 4 s))))

@@ -8,13 +8,13 @@ use Rattle.link_capture.specs.declared.order.Order.{Order}
 use Rattle.link_capture.specs.Order.{number_at}
 use Rattle.link_capture.specs.Told.{Told, APacket}
 
--- the link type of netlink
+-- the link type of netlink (LINKTYPE_NETLINK)
 abbrev pub netlink : ℕ
 netlink = 253
 
--- the form behind a header: version 2.4, and the link type of netlink
-abbrev pub form_behind : Order → ℕ → List ℕ → Result Form InputError
-form_behind order digits u =
+-- the form of what follows a header: version 2.4, and the link type of netlink
+abbrev pub form_after : Order → ℕ → List ℕ → Result Form InputError
+form_after order digits u =
     let major = number_at order 2 4 u in
     let minor = number_at order 2 6 u in
     let link = number_at order 4 20 u in

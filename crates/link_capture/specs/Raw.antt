@@ -5,7 +5,7 @@ use Rattle.link_capture.specs.Order.{number_at}
 use Rattle.link_capture.specs.Pcap.{nanoseconds}
 use Rattle.link_capture.specs.Told.{Told, AMessage, ATime}
 
--- a time: type 15, and 24 bytes; behind the header, seconds and microseconds
+-- a time: type 15, and 24 bytes; after the header, seconds and microseconds
 abbrev pub streamed : List ℕ → Told
 streamed u =
     if (number_at Little 2 4 u == 15) && (length u == 24)

@@ -31,7 +31,7 @@ told_of (events.Packet p) = APacket (captured_of p)
 told_of (events.Message bytes) = AMessage bytes.now
 told_of (events.Time time) = ATime time
 
--- what is known of an input behind some of its units: how the next one is read, and the interfaces of the section
+-- what is known of an input after some of its units: how the next one is read, and the interfaces of the section
 pub record State : Type 0 where
   pub form : Form
   pub interfaces : List Interface

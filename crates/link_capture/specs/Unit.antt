@@ -13,11 +13,11 @@ use Rattle.link_capture.specs.declared.order.Order.{Order}
 use Rattle.link_capture.specs.declared.pcapng.Interface.{Interface}
 use Rattle.link_capture.specs.Block.{After, IsBlock}
 use Rattle.link_capture.specs.Front.{front_of, head_of, size_of, order_of}
-use Rattle.link_capture.specs.Pcap.{form_behind, recorded}
+use Rattle.link_capture.specs.Pcap.{form_after, recorded}
 use Rattle.link_capture.specs.Raw.{streamed}
 use Rattle.link_capture.specs.Told.{Told, Nothing, State, told_of}
 
--- what is known behind a unit, by what a function returns and the state then
+-- what is known after a unit, by what a function returns and the state then
 abbrev pub after_unit : State → Result Event InputError → After
 after_unit state (Ok event) = Ok (told_of event, state)
 after_unit state (Err error) = Err error
@@ -35,7 +35,7 @@ IsBlockIn (Some order) is u after = IsBlock order is u after
 
 -- what a whole unit u means, in this form and with these interfaces
 abbrev pub IsTakenAs : Form → List Interface → List ℕ → After → Type 0
-IsTakenAs (forms.Pcap order digits) is u after = after ≡ after_pcap is (form_behind order digits u)
+IsTakenAs (forms.Pcap order digits) is u after = after ≡ after_pcap is (form_after order digits u)
 IsTakenAs (forms.Records order digits) is u after = after ≡ Ok (recorded order digits u, record { form = forms.Records order digits; interfaces = is })
 IsTakenAs (forms.Blocks order) is u after = IsBlockIn (order_of order u) is u after
 IsTakenAs forms.Messages is u after = after ≡ Ok (streamed u, record { form = forms.Messages; interfaces = is })
@@ -45,7 +45,7 @@ IsTaken state u after = IsTakenAs state.form state.interfaces u after
 
 -- ---- the unit at the front of the bytes s
 
--- a unit, what it means, how many bytes it has with its padding, and what is known behind it
+-- a unit, what it means, how many bytes it has with its padding, and what is known after it
 pub record IsUnit (state : State) (s : List ℕ) (told : Told) (size : ℕ) (next : State) : Type 0 where
   pub n : ℕ
   pub gap : ℕ
@@ -54,14 +54,14 @@ pub record IsUnit (state : State) (s : List ℕ) (told : Told) (size : ℕ) (nex
   pub taken : IsTaken state (take n s) (Ok (told, next))
   pub all : size ≡ min (n + gap) (length s)
 
--- no unit, and why: the bytes end in the head of one, or behind it; its start has an error; or the whole
+-- no unit, and why: the bytes end in the head of one, or after it; its start has an error; or the whole
 pub data IsError (state : State) (s : List ℕ) (error : InputError) : Type 0 where
   Short : front_of state.form s ≡ fronts.Short → error ≡ errors.Short (head_of state.form) (length s) → IsError state s error
   Cut : (n gap : ℕ) → front_of state.form s ≡ fronts.Sized n gap → length s < n → error ≡ errors.Overrun (size_of state.form) n (length s) → IsError state s error
   Start : front_of state.form s ≡ fronts.Wrong error → IsError state s error
   Whole : (n gap : ℕ) → front_of state.form s ≡ fronts.Sized n gap → n ≤ length s → IsTaken state (take n s) (Err error) → IsError state s error
 
--- an error other than that the bytes end within a unit, in its head or behind it
+-- an error other than that the bytes end within a unit, in its head or after it
 abbrev pub IsFinal : InputError → Type 0
 IsFinal (errors.Short head left) = ⊥
 IsFinal (errors.Overrun size n left) = size ≡ sizes.Captured
@@ -94,10 +94,11 @@ pub data IsTooShort (state : State) (s : List ℕ) : Type 0 where
   Head : front_of state.form s ≡ fronts.Short → IsTooShort state s
   Rest : (n gap : ℕ) → front_of state.form s ≡ fronts.Sized n gap → length s < n + gap → IsTooShort state s
 
--- what is at the front of the bytes s, and what is known then, whatever follows s: nothing, if they are the last
+-- `more` may follow some bytes: nothing does, if they are the last
 abbrev pub Follows : Bool → List ℕ → Type 0
 Follows is_last more = is_last ≡ true → more ≡ []
 
+-- what is at the front of the bytes s, and what is known then, whatever follows s
 abbrev pub IsNext : State → List ℕ → Bool → Next → State → Type 0
 IsNext state s is_last nexts.More new = (new ≡ state) × (is_last ≡ false) × IsTooShort state s
 IsNext state s is_last nexts.End new = (new ≡ state) × (is_last ≡ true) × (s ≡ [])

@@ -18,7 +18,7 @@ use crate::raw::read_message;
 use arrayvec::ArrayVec;
 use std::marker::Model;
 
-/// An input, behind some of its units.
+/// What is known of an input after some of its units: the form of the next one, and the interfaces of the section.
 #[derive(Drop)]
 pub struct Capture {
     form: Form,
@@ -56,7 +56,7 @@ impl Capture {
     }
 
     /// Takes the unit at the front of the input. `bytes` are the first of those that are left, and all of them if `is_last`
-    /// is set. After `Next::Unit`, the next call is to get the bytes behind that unit; after `Next::More`, the same bytes
+    /// is set. After `Next::Unit`, the next call is to get the bytes after that unit; after `Next::More`, the same bytes
     /// and more. The first error of an input does not depend on how many bytes each call gets.
     pub fn next<'a>(&mut self, bytes: &'a [u8], is_last: bool) -> Next<'a>
         ensures { IsNext self.old bytes.now is_last result self.new }
@@ -86,7 +86,7 @@ impl Capture {
         })
     }
 
-    /// Takes a unit of `length` bytes, with `padding` behind it.
+    /// Takes a unit of `length` bytes, with `padding` after it.
     fn sized<'a>(
         &mut self,
         bytes: &'a [u8],

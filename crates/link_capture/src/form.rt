@@ -5,6 +5,9 @@ ghost use Rattle.link_capture.specs.Form.{form_of};
 
 use crate::order::Order;
 
+/// The type of a section header, with which a pcapng file begins. It reads the same in either order.
+pub(crate) const SECTION: u32 = 0x0a0d_0d0a;
+
 /// How the next unit of an input is read.
 #[derive(Clone, Copy, Debug, PartialEq, Eq)]
 pub enum Form {
@@ -44,7 +47,7 @@ impl Form {
                 order: Order::Big,
                 digits: 9,
             }),
-            0x0a0d_0d0a => Some(Form::Blocks {
+            SECTION => Some(Form::Blocks {
                 order: Order::Little,
             }),
             _ => None,

@@ -5,21 +5,18 @@ ghost use Rattle.link_capture.specs.Front.{head_of, head_size, front_of, whole_f
 ghost use Rattle.link_capture.specs.declared.form.Form.TheVariants as forms;
 
 use crate::error::{Head, InputError, Size};
-use crate::form::Form;
+use crate::form::{Form, SECTION};
 use crate::order::Order;
 
 /// The greatest length of a unit.
 const MOST: usize = 1_048_576;
-
-/// The type of a section header. It reads the same in either order.
-pub(crate) const SECTION: u32 = 0x0a0d_0d0a;
 
 /// What the start of a unit says.
 #[derive(Clone, Copy, Debug, PartialEq, Eq)]
 pub(crate) enum Front {
     /// There are too few bytes to say.
     Short,
-    /// The length of the unit, and that of the padding behind it, which may be missing at the end of an input.
+    /// The length of the unit, and that of the padding after it, which may be missing at the end of an input.
     Sized { length: usize, padding: usize },
     /// The unit has an error.
     Wrong(InputError),

@@ -33,7 +33,7 @@ pub fn one_capture()
         → Reads form s xs e → Reads form s ys f → (xs ≡ ys) × (e ≡ f) }
 {}
 
-/// States that the error of an input is that of each longer input too, behind the same units and at the same offset,
+/// States that the error of an input is that of each longer input too, after the same units and at the same offset,
 /// unless it is that the bytes end within a unit.
 pub fn prefix()
     ensures { (form : Form) (s more : List ℕ) (units : List Told) (fault : ℕ × InputError)

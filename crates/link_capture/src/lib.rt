@@ -1,5 +1,5 @@
-//! Captures of netlink: pcap and pcapng files, and raw streams of messages. An input is cut into units, one behind the
-//! other. A [`Capture`] takes them one at a time from bytes that the caller has read, and returns packets and messages, or
+//! Captures of netlink: pcap and pcapng files, and raw streams of messages. An input is cut into units, one after
+//! another. A [`Capture`] takes them one at a time from bytes that the caller has read, and returns packets and messages, or
 //! the first error. Nothing allocates. [`laws`] has theorems, such as that there is one reading of each input.
 #![tactic(auto)]
 
@@ -21,4 +21,5 @@ pub use event::{Event, Packet, Time};
 pub use form::Form;
 pub use options::Clock;
 pub use order::Order;
+pub use pcap::NETLINK;
 pub use pcapng::Interface;

@@ -23,7 +23,7 @@ pub struct Clock {
     pub offset: i64,
 }
 
-/// An option, with the bytes behind it.
+/// An option, with the bytes after it.
 #[derive(Clone, Copy)]
 struct Found<'a> {
     code: u16,

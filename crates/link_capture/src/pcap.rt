@@ -1,7 +1,7 @@
 //! The units of a pcap file.
 
 ghost use Rattle.std.specs.Prelude.{◌≡◌, ◌≤◌, ◌^◌, ◌-◌, length};
-ghost use Rattle.link_capture.specs.Pcap.{form_behind, recorded, nanoseconds};
+ghost use Rattle.link_capture.specs.Pcap.{form_after, recorded, nanoseconds};
 ghost use Rattle.link_capture.specs.Told.{told_of};
 
 use crate::error::InputError;
@@ -10,7 +10,7 @@ use crate::form::Form;
 use crate::order::Order;
 
 /// The link type of netlink (LINKTYPE_NETLINK).
-const NETLINK: u16 = 253;
+pub const NETLINK: u16 = 253;
 
 /// Returns the form of what follows the header of a pcap file.
 ///
@@ -19,7 +19,7 @@ const NETLINK: u16 = 253;
 /// `PcapVersion` if the version is not 2.4; `LinkType` if the link type is not that of netlink.
 pub(crate) fn read_header(order: Order, digits: u8, unit: &[u8]) -> Result<Form, InputError>
     requires { 24 ≤ length unit.now }
-    ensures { result ≡ form_behind order digits unit.now }
+    ensures { result ≡ form_after order digits unit.now }
 {
     let major = order.u16_at(unit, 4);
     let minor = order.u16_at(unit, 6);

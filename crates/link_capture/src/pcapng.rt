@@ -7,7 +7,7 @@ ghost use Rattle.link_capture.specs.declared.error.InputError.TheVariants as err
 
 use crate::error::{InputError, Size};
 use crate::event::{Event, Packet, Time};
-use crate::front::SECTION;
+use crate::form::SECTION;
 use crate::options::{Clock, read_clock};
 use crate::order::Order;
 use crate::pcap::part_of_second;
