@@ -1,4 +1,5 @@
 pub mod Blocks
+pub mod Forms
 pub mod Fronts
 pub mod Longer
 pub mod Nexts

@@ -1,6 +1,7 @@
 -- The forms of inputs.
-use Rattle.std.specs.Prelude.{ℕ, ◌==◌, List, length, Option, Some, None, nat_lt, if◌then◌else◌}
-use Rattle.byteorder.specs.Endian.{big_number}
+use Rattle.std.specs.Prelude.{ℕ, Bool, ◌&&◌, List, [], ◌∷◌, length, Option, option_map, nat_lt, nat_eq}
+use Rattle.std.specs.List.{find, list_any, starts_with}
+use Rattle.byteorder.specs.Endian.{big_bytes}
 use Rattle.link_capture.specs.declared.form.Form.{Form}
 use Rattle.link_capture.specs.declared.form.Form.TheVariants.{Pcap, Blocks}
 use Rattle.link_capture.specs.declared.order.Order.TheVariants.{Little, Big}
@@ -9,16 +10,19 @@ use Rattle.link_capture.specs.declared.order.Order.TheVariants.{Little, Big}
 abbrev pub section : ℕ
 section = 0x0a0d_0d0a
 
--- the form of files that begin with these four bytes, the first of them the highest
-abbrev pub form_by : ℕ → Option Form
-form_by magic =
-    if magic == 0xd4c3_b2a1 then Some (Pcap Little 6)
-    else (if magic == 0xa1b2_c3d4 then Some (Pcap Big 6)
-    else (if magic == 0x4d3c_b2a1 then Some (Pcap Little 9)
-    else (if magic == 0xa1b2_3c4d then Some (Pcap Big 9)
-    else (if magic == section then Some (Blocks Little)
-    else None))))
+-- the magic numbers, which are the first four bytes of files, the highest byte first; and the forms that they tell
+abbrev pub magics : List (ℕ × Form)
+magics =
+    (0xd4c3_b2a1, Pcap Little 6) ∷
+    (0xa1b2_c3d4, Pcap Big 6) ∷
+    (0x4d3c_b2a1, Pcap Little 9) ∷
+    (0xa1b2_3c4d, Pcap Big 9) ∷
+    (section, Blocks Little) ∷ []
 
--- the form of a file
+-- the form of a file that starts with a magic number; none, if it does not
 abbrev pub form_of : List ℕ → Option Form
-form_of s = if nat_lt (length s) 4 then None else form_by (big_number 4 s)
+form_of s = option_map (λ m. m.1) (find (λ m. starts_with nat_eq s (big_bytes 4 m.0)) magics)
+
+-- s is a proper prefix of a magic number
+abbrev pub begins_magic : List ℕ → Bool
+begins_magic s = nat_lt (length s) 4 && list_any (λ m. starts_with nat_eq (big_bytes 4 m.0) s) magics

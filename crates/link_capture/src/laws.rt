@@ -1,6 +1,6 @@
 //! Theorems about inputs. The functions have empty bodies; each states its theorem as its contract.
 
-ghost use Rattle.std.specs.Prelude.{◌≡◌, ◌↔◌, ℕ, List, ◌++◌, Option, Some, IsTrue};
+ghost use Rattle.std.specs.Prelude.{◌≡◌, ◌↔◌, ℕ, List, ◌++◌, Option, Some, None, true, false, IsTrue};
 ghost use Rattle.link_capture.specs.declared.capture.Next.{Next};
 ghost use Rattle.link_capture.specs.declared.error.Head.{Head};
 ghost use Rattle.link_capture.specs.declared.error.InputError.{InputError};
@@ -12,6 +12,7 @@ ghost use Rattle.link_capture.specs.declared.form.Form.{Form};
 ghost use Rattle.link_capture.specs.declared.options.Clock.{Clock};
 ghost use Rattle.link_capture.specs.declared.order.Order.{Order};
 ghost use Rattle.link_capture.specs.declared.pcapng.Interface.{Interface};
+ghost use Rattle.link_capture.specs.Form.{form_of, begins_magic};
 ghost use Rattle.link_capture.specs.Same.{IsSameNext};
 ghost use Rattle.link_capture.specs.Told.{Told, captured_of, told_of};
 ghost use Rattle.link_capture.specs.Unit.{IsFinal, Reads};
@@ -38,6 +39,14 @@ pub fn one_capture()
 pub fn prefix()
     ensures { (form : Form) (s more : List ℕ) (units : List Told) (fault : ℕ × InputError)
         → Reads form s units (Some fault) → IsFinal fault.1 → Reads form (s ++ more) units (Some fault) }
+{}
+
+/// States when the first bytes of a file tell its form ([`Form::of_file`]): whatever follows them, if they are no proper
+/// prefix of a magic number. Otherwise they tell none, and what follows may make them the start of a capture.
+pub fn told_form()
+    ensures told { (s more : List ℕ) → begins_magic s ≡ false → form_of (s ++ more) ≡ form_of s }
+    ensures begun { (s : List ℕ) → begins_magic s ≡ true → (form_of s ≡ None)
+        × ((more : List ℕ) × ((form : Form) × (form_of (s ++ more) ≡ Some form))) }
 {}
 
 /// States that two values of a public type are equal (`==`) if and only if all their fields are. Borrowed bytes are
