@@ -41,7 +41,7 @@ pub fn prefix()
         → Reads form s units (Some fault) → IsFinal fault.1 → Reads form (s ++ more) units (Some fault) }
 {}
 
-/// States when the first bytes of a file tell its form ([`Form::of_file`]): whatever follows them, if they are no proper
+/// States when the first bytes of a file tell its form ([`Form::of_file`]): whatever follows, if they are not a proper
 /// prefix of a magic number. Otherwise they tell none, and what follows may make them the start of a capture.
 pub fn told_form()
     ensures told { (s more : List ℕ) → begins_magic s ≡ false → form_of (s ++ more) ≡ form_of s }
