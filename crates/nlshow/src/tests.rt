@@ -173,8 +173,10 @@ fn readers_and_writers_that_fail(rt: HostRuntime) {
     }
 }
 
-/// Input lines, each with its output in the debug form.
-const ROWS: [(&[u8], &str); 6] = [
+/// Input lines, each with its output in the debug form. The first has fewer than four bytes, and the first two of a magic
+/// number.
+const ROWS: [(&[u8], &str); 7] = [
+    (b"M<\n", "M<\nno such family\n"),
     (b"dsa\n", "dsa\n"),
     (b"# dsa 0\n", ""),
     (b"dsa 0800 0100 2a00 0000\n", SHOWN),
@@ -183,8 +185,9 @@ const ROWS: [(&[u8], &str); 6] = [
     (b"hsr 03\n", "hsr 03\nfault at 0: short frame 1\n"),
 ];
 
-/// Input lines, each with its output in the plain form with `--check`.
-const CHECKED_ROWS: [(&[u8], &str); 6] = [
+/// Input lines, each with its output in the plain form with `--check`. The first has one byte.
+const CHECKED_ROWS: [(&[u8], &str); 7] = [
+    (b"a\n", "a\nno such family\n"),
     (b"dsa\n", "dsa\n  canonical\n"),
     (
         b"dsa 0800 0100 2a00 0000 03\n",

@@ -21,7 +21,7 @@ pub record Went (options : Options) (form : Form) (first held : List ℕ) (place
   pub written : Appends w v out
 
 module _ {options : Options} {form : Form} where
-  -- nothing is read behind `first`
+  -- nothing is read after `first`
   pub went_none : (first held : List ℕ) (place : Place) (r w : Option (List ℕ)) → place ≡ start_of form → held ≡ first → Went options form first held place r r w w true
   went_none first held place r w start same = record {
     text = [];

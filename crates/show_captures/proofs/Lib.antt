@@ -1,4 +1,5 @@
 pub mod Inputs
 pub mod Lines
 pub mod Passing
+pub mod Printing
 pub mod Told

@@ -4,6 +4,7 @@ use Rattle.std.specs.Fmt.{decimal}
 use Rattle.byteorder.specs.Endian.{big_number}
 use Rattle.link_base.specs.Labels.{name_in}
 use Rattle.link_capture.specs.ErrorText.{bytes_text}
+use Rattle.link_capture.specs.Pcap.{netlink}
 use Rattle.link_capture.specs.Told.{Captured}
 use Rattle.netlink_packet_route.specs.Report.{line}
 use Rattle.show_lines.specs.declared.arguments.Options.{Options}
@@ -11,11 +12,8 @@ use Rattle.show_lines.specs.Show.{ShowsBare}
 use Rattle.show_captures.specs.Protocol.{protocols}
 use Rattle.show_captures.specs.Time.{IsTimeText}
 
--- the link type of netlink, whose header has 16 bytes
-abbrev pub netlink : ℕ
-netlink = 253
-
--- the protocol of a packet of this link type: the last two bytes of its header, the first of them the highest
+-- the protocol of a packet of the link type of netlink: the last two bytes of its header, which has 16, the first of them the
+-- highest
 abbrev pub protocol_of : List ℕ → ℕ
 protocol_of bytes = big_number 2 (drop 14 bytes)
 

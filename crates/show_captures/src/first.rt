@@ -1,11 +1,13 @@
 //! The first bytes of an input, which tell its form.
 
-ghost use Rattle.std.specs.Prelude.{◌<◌, ◌≤◌, ◌≡◌, length, true, false, IfOk};
+ghost use Rattle.std.specs.Prelude.{◌<◌, ◌≡◌, length, true, false, IfOk};
 ghost use Rattle.std.specs.Io.Buffered.{writer_contents};
 ghost use Rattle.std.specs.Io.KnownBytes.{Consumes, IsAtEnd, Keeps};
+ghost use Rattle.link_capture.specs.Form.{begins_magic};
 ghost use Rattle.show_lines.specs.Progress.{Grows, OnMemory};
 
 use crate::captures::read_on;
+use link_capture::Form;
 use show_lines::Stop;
 use std::alloc::Global;
 use std::io::{BufWriter, Read, Write};
@@ -17,7 +19,7 @@ pub(crate) struct First {
     pub(crate) is_last: bool,
 }
 
-/// Reads the first bytes of an input: at least four, unless it has fewer.
+/// Reads the first bytes of an input, until they tell its form, or up to its end.
 pub(crate) fn read_first<R: Read, W: Write + Drop>(
     alloc: Global,
     chunk: &mut [u8],
@@ -27,7 +29,7 @@ pub(crate) fn read_first<R: Read, W: Write + Drop>(
     requires { 0 < length chunk.old }
     ensures read { IfOk result (λ first. Consumes (R.remaining reader.old) (R.remaining reader.new) first.bytes.items) }
     ensures last { IfOk result (λ first. first.is_last ≡ true → IsAtEnd (R.remaining reader.new)) }
-    ensures long { IfOk result (λ first. first.is_last ≡ false → 4 ≤ length first.bytes.items) }
+    ensures told { IfOk result (λ first. first.is_last ≡ false → begins_magic first.bytes.items ≡ false) }
     ensures kept { IfOk result (λ _. Keeps (writer_contents W.contents writer.old) (writer_contents W.contents writer.new)) }
     ensures room { length chunk.new ≡ length chunk.old }
     ensures memory { OnMemory result
@@ -45,7 +47,7 @@ pub(crate) fn read_first<R: Read, W: Write + Drop>(
             Ok(_) => {}
             Err(stop) => return Err(stop),
         }
-        if bytes.len() >= 4 {
+        if !Form::needs_more(&bytes) {
             return Ok(First {
                 bytes,
                 is_last: false,

@@ -11,16 +11,13 @@ ghost use Rattle.show_lines.specs.Progress.{Grows, OnMemory};
 use crate::protocols::name_of_protocol;
 use crate::times::time_text;
 use byteorder::{BigEndian, ByteOrder};
-use link_capture::{Bytes, Packet};
+use link_capture::{Bytes, NETLINK, Packet};
 use show_lines::{Options, Stop, write_bare};
 use std::alloc::Global;
 use std::io;
 use std::io::Write;
 
-/// The link type of netlink (LINKTYPE_NETLINK).
-const NETLINK: u16 = 253;
-
-/// The length of the header that packets of this link type have, whose last two bytes are the protocol.
+/// The length of the header that packets of netlink have, whose last two bytes are the protocol.
 const HEADER: usize = 16;
 
 /// Writes the line of a packet, and its messages below it. Returns false if there is an error.

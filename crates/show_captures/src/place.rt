@@ -1,6 +1,6 @@
 //! How far an input is read.
 
-ghost use Rattle.std.specs.Prelude.{◌≡◌, OnOk, IfErr};
+ghost use Rattle.std.specs.Prelude.{◌≡◌, ◌⊎◌, ◌≤◌, ◌+◌, ◌^◌, OnOk, IfErr, IsErr};
 ghost use Rattle.link_capture.specs.Told.{told_of};
 ghost use Rattle.show_captures.specs.Event.{packets_to};
 ghost use Rattle.show_captures.specs.Progress.{Counts, start_of};
@@ -36,10 +36,13 @@ impl Place {
     ///
     /// # Errors
     ///
-    /// `Reader` if the input is longer than 2<sup>64</sup> bytes.
+    /// `Reader` if the offset or the number of packets would be 2<sup>64</sup>. Then nothing is counted.
     pub(crate) fn count(&mut self, event: &Event<'_>, size: usize) -> Result<(), Stop>
         ensures counted { OnOk result (Counts (told_of event.now) size self.old self.new) }
         ensures failed { IfErr result (λ stop. stop ≡ Reader) }
+        ensures full { IsErr result → (2 ^ 64 ≤ self.old.at + size)
+            ⊎ (2 ^ 64 ≤ packets_to self.old.packets (told_of event.now)) }
+        ensures kept { IsErr result → self.new ≡ self.old }
     {
         let Some(at) = self.at.checked_add(size as u64) else {
             return Err(Stop::Reader);

@@ -2,7 +2,7 @@
 
 ghost use Rattle.std.specs.Prelude.{◌≡◌, ◌⊎◌, ◌<◌, [], length, IfOk};
 ghost use Rattle.std.specs.Io.Buffered.{writer_buffer, writer_contents, writer_inner};
-ghost use Rattle.show_captures.specs.Run.{Runs, RunsFrom, RunsFor, EndsWith, form_by};
+ghost use Rattle.show_captures.specs.Run.{Runs, RunsFrom, RunsFor, EndsWith, input_form};
 ghost use Rattle.show_lines.specs.Progress.{Grows, OnMemory};
 ghost use Rattle.program.specs.Printing.{no_memory_line};
 
@@ -106,7 +106,7 @@ fn show_from<R: Read, W: Write + Drop>(
 
 /// Returns the form of an input with these first bytes, or `None` for lines.
 fn form_of(raw: bool, first: &[u8]) -> Option<Form>
-    ensures { result ≡ form_by raw first.now }
+    ensures { result ≡ input_form raw first.now }
 {
     if raw {
         return Some(Form::Messages);

@@ -1,6 +1,6 @@
 //! Writes the output for the units of an input.
 
-ghost use Rattle.std.specs.Prelude.{◌≡◌, ◌≤◌, List, ℕ, suc, length, drop, false, Some, IfOk, IfSome};
+ghost use Rattle.std.specs.Prelude.{◌≡◌, ◌≤◌, ◌^◌, List, ℕ, suc, length, drop, false, Some, IfOk, MatchOption};
 ghost use Rattle.std.specs.Io.KnownBytes.{Appends};
 ghost use Rattle.link_capture.specs.Told.{told_of};
 ghost use Rattle.show_captures.specs.Event.{WritesUnit, ShowsTime, end_line};
@@ -41,7 +41,7 @@ pub(crate) fn write_units<W: Write>(
     let mut used = 0;
     let mut well = true;
     loop {
-        match place.capture.next(behind(bytes, used), is_last) {
+        match place.capture.next(rest_of(bytes, used), is_last) {
             Next::More => return Ok(Turn::More { used, well }),
             Next::End => return Ok(Turn::Done { well }),
             Next::Wrong(error) => return write_error(place.at, error, writer),
@@ -56,8 +56,8 @@ pub(crate) fn write_units<W: Write>(
     }
 }
 
-/// Returns the bytes behind the first `used`.
-fn behind(bytes: &[u8], used: usize) -> &[u8]
+/// Returns the bytes after the first `used`.
+fn rest_of(bytes: &[u8], used: usize) -> &[u8]
     requires { used ≤ length bytes.now }
     ensures { result.now ≡ drop used bytes.now }
 {
@@ -110,9 +110,9 @@ fn write_event<W: Write>(
     }
 }
 
-/// Returns the number of the packet behind so many.
+/// Returns the number of the packet that follows so many, or `None` if it is 2<sup>64</sup>.
 fn next_number(packets: u64) -> Option<u64>
-    ensures { IfSome result (λ number. number ≡ suc packets) }
+    ensures { MatchOption result (2 ^ 64 ≤ suc packets) (λ number. number ≡ suc packets) }
 {
     packets.checked_add(1)
 }

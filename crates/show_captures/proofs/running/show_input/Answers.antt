@@ -3,7 +3,7 @@ use Rattle.std.specs.Io.Buffered.{writer_contents}
 use Rattle.link_show.proofs.MessageLines.{if_ok}
 use Rattle.show_lines.specs.Progress.{Grows}
 use Rattle.show_lines.proofs.Steps.{on_memory}
-use Rattle.show_captures.specs.Run.{Runs, RunsFrom, form_by}
+use Rattle.show_captures.specs.Run.{Runs, RunsFrom, input_form}
 use Rattle.show_captures.proofs.Lines.{kept_grows}
 use Rattle.show_captures.proofs.Told.{runs_on, runs_out}
 use Rattle.show_captures.proofs.running.show_input.Goals as goal
@@ -18,7 +18,7 @@ returns-then-first-clause-shown g c =
     let w = contents c.args.writer.now in
     let v = contents c.read_first.new.writer in
     let u = contents c.show_from.new.writer in
-    let form = c.form_of-form.ensures ∙ ap (form_by c.args.raw) c.deref.ensures.value in
+    let form = c.form_of-form.ensures ∙ ap (input_form c.args.raw) c.deref.ensures.value in
     if_ok (RunsFrom options c.form_of-form.result c.deref-then-first.result.now (Some []) (Some []) v u) (Runs options c.args.raw r s w u) c.show_from.result
     (λ whole h. runs_out {options = options} c.args.raw bytes r s (Some []) w v u whole c.in-Ok-read_first.ensures.read (c.in-Ok-read_first.ensures.last c.if-first.true) c.in-Ok-read_first.ensures.kept
     (subst (λ f. RunsFrom options f bytes (Some []) (Some []) v u whole) form (subst (λ l. RunsFrom options c.form_of-form.result l (Some []) (Some []) v u whole) c.deref-then-first.ensures.value h))) c.show_from.ensures.shown
@@ -40,9 +40,9 @@ returns-clause-shown g c =
     let w = contents c.args.writer.now in
     let v = contents c.read_first.new.writer in
     let u = contents c.show_from-2.new.writer in
-    let form = c.form_of-form.ensures ∙ ap (form_by c.args.raw) c.deref.ensures.value in
+    let form = c.form_of-form.ensures ∙ ap (input_form c.args.raw) c.deref.ensures.value in
     if_ok (RunsFrom options c.form_of-form.result c.deref-2.result.now s t v u) (Runs options c.args.raw r t w u) c.show_from-2.result
-    (λ whole h. runs_on {options = options} c.args.raw bytes r s t w v u whole c.in-Ok-read_first.ensures.read c.in-Ok-read_first.ensures.kept (c.in-Ok-read_first.ensures.long c.if-first.false)
+    (λ whole h. runs_on {options = options} c.args.raw bytes r s t w v u whole c.in-Ok-read_first.ensures.read c.in-Ok-read_first.ensures.kept (c.in-Ok-read_first.ensures.told c.if-first.false)
     (subst (λ f. RunsFrom options f bytes s t v u whole) form (subst (λ l. RunsFrom options c.form_of-form.result l s t v u whole) c.deref-2.ensures.value h))) c.show_from-2.ensures.shown
 
 pub returns-clause-memory : goal.returns-clause-memory

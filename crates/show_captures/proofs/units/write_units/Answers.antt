@@ -25,7 +25,7 @@ returns-in-Wrong-clause-shown g c =
     (λ turn h. subst (WritesUnits c.args.options c.args.is_last c.args.place.now _ c.args.bytes.now w u) (sym h.0) (
       before.1.0 ++ line,
       finishes_wrong c.args.is_last c.args.place.now c.loop-error.place c.args.bytes.now (drop c.loop-error.used c.args.bytes.now) before.1.0 c.in-Wrong.error c.loop-error.well before.1.1
-          (subst (λ l. (more : List ℕ) → Follows c.args.is_last more → ((l ++ more) ≢ []) × IsError c.loop-error.place.capture (l ++ more) c.in-Wrong.error) c.behind.ensures c.in-Wrong.ensures.1),
+          (subst (λ l. (more : List ℕ) → Follows c.args.is_last more → ((l ++ more) ≢ []) × IsError c.loop-error.place.capture (l ++ more) c.in-Wrong.error) c.rest_of.ensures c.in-Wrong.ensures.1),
       Appends-trans w v u before.1.0 line before.1.2 h.1,
     )) c.write_error.ensures.shown
 
@@ -49,7 +49,7 @@ loop-error-preserved g c =
     let v = g.W.Write.contents c.loop-error.writer in
     let u = g.W.Write.contents c.write_unit.new.writer in
     let before = c.loop-error.invariant in
-    let unit = subst (λ l. (0 < c.in-Unit.size) × (c.in-Unit.size ≤ length l) × ((more : List ℕ) → Follows c.args.is_last more → IsUnit c.loop-error.place.capture (l ++ more) (told_of c.in-Unit.event) c.in-Unit.size c.next.new.self)) c.behind.ensures c.in-Unit.ensures in
+    let unit = subst (λ l. (0 < c.in-Unit.size) × (c.in-Unit.size ≤ length l) × ((more : List ℕ) → Follows c.args.is_last more → IsUnit c.loop-error.place.capture (l ++ more) (told_of c.in-Unit.event) c.in-Unit.size c.next.new.self)) c.rest_of.ensures c.in-Unit.ensures in
     let shown = c.in-Ok.ensures.shown in
     let bytes = c.args.bytes.now in
     let used = c.loop-error.used in
