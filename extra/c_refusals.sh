@@ -19,7 +19,8 @@ python3 ../../bench/make_lists.py "$room/lists" || exit 1
     tail -n +2 ../../bench/original.tsv | while IFS="$(printf '\t')" read -r list family _; do
         echo "$family $(cat "$room/lists/$list.hex")"
     done
-    cat ../../docs/captured.txt
+    PYTHONPATH=../../extra python3 -B -c 'from random_lines import captured
+for name, data in captured(): print(name, data.hex())'
 } | python3 -B -c '
 import sys
 sys.path.insert(0, "../../tools")

@@ -16,6 +16,7 @@ CI does not run it. The last line is 'N lines passed, M failed', and the status 
 import argparse
 import random
 import re
+import struct
 import subprocess
 import sys
 from pathlib import Path
@@ -26,7 +27,7 @@ sys.path.insert(0, f"{ROOT}/tools")
 from families import names  # noqa: E402
 from runs import Run, runs_of  # noqa: E402
 
-SETS = names()
+SETS, AF_BRIDGE = names(), 7
 LIST = re.compile(rf"^(?:check )?({'|'.join(SETS)})\b((?:[0-9a-fA-F]{{2}}|[ \t])*)$", re.MULTILINE)
 ERROR = re.compile(rb"^ *error at (\d+):", re.MULTILINE)
 FAULT = re.compile(rb"^fault at (\d+):", re.MULTILINE)
@@ -61,6 +62,28 @@ def stored():
 def lists_of(text):
     """The lists of a text, each once: the name of the set, and the bytes."""
     return [*dict.fromkeys((name, bytes.fromhex(digits)) for name, digits in LIST.findall(text))]
+
+
+def captured():
+    """The lists of the messages in runs/plain/captured, which Linux sent: the name of the set, and the bytes."""
+    text = Path(ROOT, "runs/plain/captured").read_text(encoding="utf-8")
+    for digits in re.findall(r"^> message (\w+)$", text, re.MULTILINE):
+        message = bytes.fromhex(digits)
+        of_link = dict(attributes_of(message[32:]))
+        of_info = dict(attributes_of(of_link.get(18, b"")))
+        names = [of_info.get(it, b"").rstrip(b"\0").decode() for it in (1, 4)]
+        found = [(names[0], of_info.get(2)), (f"{names[1]}_port", of_info.get(5))]
+        if message[16] == AF_BRIDGE:
+            found += [("af_spec_bridge", of_link.get(26)), ("proto_bridge", of_link.get(12))]
+        yield from ((name, data) for name, data in found if name in SETS and data is not None)
+
+
+def attributes_of(data):
+    """The types and payloads of a well-formed list of attributes."""
+    while data:
+        length, kind = struct.unpack_from("<HH", data)
+        yield kind & 0x3FFF, data[4:length]
+        data = data[(length + 3) // 4 * 4 :]
 
 
 def changed(message):

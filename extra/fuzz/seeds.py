@@ -1,8 +1,9 @@
 #!/usr/bin/env python3
-"""seeds.py DIR: the inputs that the fuzzer starts from, as files of DIR.
+"""seeds.py DIR [captures]: the inputs that the fuzzer starts from, as files of DIR.
 
-They are the lists of bench, the payloads that Linux sent (docs/captured.txt) and the lists of the runs of nlshow, each
-behind a byte with the number of its family; and arrays of values to write, behind a byte whose highest bit is set too."""
+They are the lists of bench, those that Linux sent and those of the runs of nlshow, each behind a byte with the number of its
+family; and arrays of values to write, behind a byte whose highest bit is set too. For captures, they are the inputs of
+runs/captures, behind the byte that captures/fuzz.c describes."""
 import struct
 import subprocess
 import sys
@@ -12,7 +13,12 @@ from pathlib import Path
 TOP = Path(__file__).resolve().parents[2]
 sys.dont_write_bytecode = True
 sys.path.insert(0, f"{TOP}/extra")
-from random_lines import SETS, lists_of, stored  # noqa: E402
+sys.path.insert(0, f"{TOP}/extra/fuzz/captures")
+import mutate  # noqa: E402
+from random_lines import SETS, captured, lists_of, stored  # noqa: E402
+
+# The longest input that the fuzzer makes.
+MOST = 1 << 17
 
 
 def of_bench():
@@ -32,10 +38,19 @@ def arrays():
             yield from ((0x80 | family, value), (0x80 | family, value + element))
 
 
+def of_lists():
+    lists = [*of_bench(), *captured(), *lists_of(stored())]
+    return [*((SETS.index(name), data) for name, data in lists), *arrays()]
+
+
+def of_captures():
+    """The inputs, which are read in pieces of up to 1 to 64 bytes."""
+    found = [it for it in mutate.stored() if len(it.data) < MOST]
+    return [(2 * (number % 64) + it.is_raw, it.data) for number, it in enumerate(found)]
+
+
 def main():
-    captured = Path(TOP, "docs/captured.txt").read_text(encoding="utf-8")
-    lists = [*of_bench(), *lists_of(f"{captured}\n{stored()}")]
-    seeds = [*((SETS.index(name), data) for name, data in lists), *arrays()]
+    seeds = of_captures() if sys.argv[2:] == ["captures"] else of_lists()
     Path(sys.argv[1]).mkdir(parents=True, exist_ok=True)
     for number, (first, data) in enumerate(seeds):
         Path(sys.argv[1], f"{number:04}").write_bytes(bytes([first]) + data)
