@@ -1,5 +1,5 @@
 #!/usr/bin/env python3
-"""Writes what is made from the sources: docs/MAP.md, docs/nlroute.3, and the tables of docs/proofs/CLAIMS.md.
+"""Writes what is made from the sources: docs/MAP.md, docs/nlroute.3, docs/captured.pcapng, the tables of CLAIMS.md.
 
 usage: tools/made.py [--check]
 
@@ -15,11 +15,15 @@ A table of CLAIMS.md names functions, and has the clauses of their contracts: na
 without `requires`. To add a function to a table, write its name there. Of several functions of one name, it is the one
 that has most of the promises that are there. A row that is in no contract is a ghost item, and stays as it is.
 
+captured.pcapng has the messages of runs/plain/captured as packets, each with the comment above it. Their times are not
+known, and are 0.
+
 With --check it says which of them is not what would be written, and which files have no header, and ends with 'N passed,
 M failed'; CI does this.
 """
 import glob
 import re
+import struct
 import sys
 import textwrap
 
@@ -221,6 +225,37 @@ def claims(tree):
     return "\n".join(lines)
 
 
+# ---- docs/captured.pcapng
+
+CAPTURED = "runs/plain/captured"
+WHOLE = "Messages about links, as Linux sent them on x86-64. Their times are not known, and are 0."
+MESSAGE = re.compile(r"^((?:# .*\n)+)> message (\w+)\n", re.MULTILINE)
+# What packets of link type 253 begin with: of type PACKET_OUTGOING, ARPHRD_NETLINK, of NETLINK_ROUTE.
+COOKED = struct.pack(">HHIIHH", 4, 824, 0, 0, 0, 0)
+
+
+def padded(data):
+    return data + bytes(-len(data) % 4)
+
+
+def block(kind, body, comment=""):
+    """A block of pcapng, with a comment as its option."""
+    text = comment.encode()
+    options = struct.pack("<HH", 1, len(text)) + padded(text) + bytes(4) if text else b""
+    length = struct.pack("<I", len(body + options) + 12)
+    return struct.pack("<I", kind) + length + body + options + length
+
+
+def capture(text):
+    """A run's messages as a pcapng file: a section, an interface, and a packet for each message."""
+    blocks = [block(0x0A0D0D0A, struct.pack("<IHHq", 0x1A2B3C4D, 1, 0, -1), WHOLE), block(1, struct.pack("<HHI", 253, 0, 0))]
+    for comment, digits in MESSAGE.findall(text):
+        packet = COOKED + bytes.fromhex(digits)
+        head = struct.pack("<5I", 0, 0, 0, len(packet), len(packet))
+        blocks.append(block(6, head + padded(packet), " ".join(comment.replace("#", " ").split())))
+    return b"".join(blocks)
+
+
 # ---- all of them
 
 
@@ -229,13 +264,14 @@ def main():
     if option not in ("", "--check"):
         sys.exit(__doc__)
     tree, ill = Tree(ROOT), []
-    made = {"docs/MAP.md": map_of(tree, ill), "docs/nlroute.3": manual(tree), CLAIMS: claims(tree)}
+    texts = {"docs/MAP.md": map_of(tree, ill), "docs/nlroute.3": manual(tree), CLAIMS: claims(tree)}
+    made = {path: text.encode() for path, text in texts.items()} | {"docs/captured.pcapng": capture(tree.text(CAPTURED))}
     if not option:
-        for path, text in made.items():
-            with open(f"{ROOT}/{path}", "w", encoding="utf-8") as file:
-                file.write(text)
+        for path, data in made.items():
+            with open(f"{ROOT}/{path}", "wb") as file:
+                file.write(data)
         return
-    changed = [path for path, text in made.items() if tree.text(path) != text]
+    changed = [path for path, data in made.items() if tree.data(path) != data]
     for path in ill:
         print(f"{path}: it has no header")
     for path in changed:

@@ -175,6 +175,11 @@ class Tree:
             self.files += [inside + it for it in files_here]
             self.paths |= {inside + it for it in [*files_here, *folders]}
 
+    def data(self, path):
+        """The bytes of a file; nothing if there is none."""
+        with open(f"{self.root}/{path}" if path in self.files else os.devnull, "rb") as file:
+            return file.read()
+
     def text(self, path):
         with open(f"{self.root}/{path}", encoding="utf-8") as file:
             return file.read()

@@ -269,7 +269,7 @@ LACKING = [
     ("README.md", "", ""),
 ]
 
-# What tools/made.py makes of a head of a file, a comment and a declaration of a header, a contract, and a long promise.
+# What tools/made.py makes: heads of files, a row, comments and declarations, contracts, lines of a promise, a packet.
 MADE = [
     (made.header("//! A pair: `a.b`, and\n//! more. Not this.\n\n//! Nor this.\n", "rt"), "A pair: `a.b`, and more"),
     (made.header("use A.{b}\n-- Late.\n", "antt"), ""),
@@ -283,6 +283,7 @@ MADE = [
      [("–", "y {z}"), ("named", "u")]),
     ([*made.broken("one (two three) four", 16)], ["one (two three)", "four"]),
     ([*made.broken("one", 16)], ["one"]),
+    (made.capture("# One\n# two\n> message 01\nNo\n# three\n")[-40:-4], made.COOKED + b"\1\0\0\0\1\0\7\0One two\0\0\0\0\0"),
 ]  # fmt: skip
 
 
