@@ -14,21 +14,12 @@ use crate::buffer_parts::{Message, Payload};
 use crate::fields::{bytes_of_kind, name_of_kind, u8_of_kind, u32_of_kind};
 use crate::header::{LinkHeader, link_header};
 use crate::info::{LinkInfo, info_of};
-use crate::link::{AF_BRIDGE, IFLA_AF_SPEC, IFLA_IFNAME, IFLA_LINKINFO, IFLA_PROTINFO};
+use crate::link_types::{
+    AF_BRIDGE, IFLA_ADDRESS, IFLA_AF_SPEC, IFLA_IFNAME, IFLA_LINK, IFLA_LINKINFO, IFLA_MASTER,
+    IFLA_MTU, IFLA_OPERSTATE, IFLA_PROTINFO,
+};
 use crate::message::MessageError;
 use netlink_packet_route::link::NLA_F_NESTED;
-
-// Types of attributes of a message (`include/uapi/linux/if_link.h`); others are in `link`.
-
-const IFLA_ADDRESS: u16 = 1;
-
-const IFLA_MTU: u16 = 4;
-
-const IFLA_LINK: u16 = 5;
-
-const IFLA_MASTER: u16 = 10;
-
-const IFLA_OPERSTATE: u16 = 16;
 
 /// `IFLA_PROTINFO` of an AF_BRIDGE message: a list or, in its older form, a state.
 #[derive(Clone, Copy, Debug, PartialEq, Eq)]
@@ -178,7 +169,7 @@ fn protinfo_in<'a>(list: Payload<'a>, address_family: u8) -> Option<Protinfo<'a>
 }
 
 /// Parses an `IFLA_PROTINFO` of an AF_BRIDGE message, whose `nla_type` is `raw_kind`.
-fn protinfo_of<'a>(raw_kind: u16, payload: Payload<'a>) -> Protinfo<'a>
+pub fn protinfo_of<'a>(raw_kind: u16, payload: Payload<'a>) -> Protinfo<'a>
     ensures { IsProtinfo (raw_kind, stretch_of payload.entry) result }
 {
     if raw_kind & NLA_F_NESTED != 0 {

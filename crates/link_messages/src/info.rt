@@ -9,7 +9,9 @@ ghost use Rattle.link_messages.specs.Info.{announced, data_of, port_kind_of, IsF
 use crate::before_fault::{count_before_fault, last_before_fault};
 use crate::buffer_parts::Payload;
 use crate::fields::name_of_kind;
-use crate::link::{IFLA_INFO_DATA, IFLA_INFO_KIND, IFLA_INFO_SLAVE_DATA, IFLA_INFO_SLAVE_KIND};
+use crate::link_types::{
+    IFLA_INFO_DATA, IFLA_INFO_KIND, IFLA_INFO_SLAVE_DATA, IFLA_INFO_SLAVE_KIND,
+};
 use crate::message::MessageError;
 use netlink_packet_route::Family;
 
@@ -54,7 +56,7 @@ pub fn announced_port_kind(kind: &[u8]) -> Option<&'static [u8]>
 }
 
 /// Parses the contents of an `IFLA_LINKINFO`, up to the first malformed header.
-pub(crate) fn info_of<'a>(list: Payload<'a>) -> LinkInfo<'a>
+pub fn info_of<'a>(list: Payload<'a>) -> LinkInfo<'a>
     ensures { IsInfo (stretch_of list.entry) result }
 {
     let (_, fault) = count_before_fault(list);

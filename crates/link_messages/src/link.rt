@@ -11,32 +11,13 @@ ghost use Rattle.link_messages.specs.Link.{IsAbout, IsAboutNone, IsLinkType, par
 
 use crate::buffer_parts::{Message, Payload};
 use crate::finding::{find_in, last_of_kind};
+use crate::link_types::{
+    AF_BRIDGE, IFLA_AF_SPEC, IFLA_IFNAME, IFLA_INFO_DATA, IFLA_INFO_KIND, IFLA_INFO_SLAVE_DATA,
+    IFLA_INFO_SLAVE_KIND, IFLA_LINKINFO, IFLA_PROTINFO,
+};
 use crate::message::MessageError;
 use crate::message_types::{RTM_DELLINK, RTM_NEWLINK, RTM_SETLINK};
 use netlink_packet_route::Family;
-
-/// The address family of bridges and bridge ports (`include/linux/socket.h`).
-pub(crate) const AF_BRIDGE: u8 = 7;
-
-// Types of attributes of a message (`include/uapi/linux/if_link.h`).
-
-pub(crate) const IFLA_IFNAME: u16 = 3;
-
-pub(crate) const IFLA_PROTINFO: u16 = 12;
-
-pub(crate) const IFLA_LINKINFO: u16 = 18;
-
-pub(crate) const IFLA_AF_SPEC: u16 = 26;
-
-// Types of attributes of an `IFLA_LINKINFO` (`include/uapi/linux/if_link.h`).
-
-pub(crate) const IFLA_INFO_KIND: u16 = 1;
-
-pub(crate) const IFLA_INFO_DATA: u16 = 2;
-
-pub(crate) const IFLA_INFO_SLAVE_KIND: u16 = 4;
-
-pub(crate) const IFLA_INFO_SLAVE_DATA: u16 = 5;
 
 /// An attribute list, and the `Family` that parses it.
 #[derive(Clone, Copy, Debug, PartialEq, Eq)]
@@ -173,7 +154,7 @@ fn family_of_port(name: Option<Payload<'_>>) -> Option<Family>
 }
 
 /// Returns the bytes of a name without the NUL at their end, if they have one.
-pub(crate) fn without_nul(bytes: &[u8]) -> &[u8]
+pub fn without_nul(bytes: &[u8]) -> &[u8]
     ensures { result.now ≡ without_nul bytes.now }
 {
     bytes.strip_suffix(&[0]).unwrap_or(bytes)

@@ -24,11 +24,11 @@ pub and_true : (b : Bool) → (b && true) ≡ b
 and_true true = refl
 and_true false = refl
 
-pub each_none : {X : Type 0} (shows : X → List ℕ → Bool → Type 0) → EachShown shows [] [] true
+pub each_none : {X Y : Type 0} (shows : X → List Y → Bool → Type 0) → EachShown shows [] [] true
 each_none shows = record { answers = []; each = tt; joined = refl; all = refl }
 
 -- one more
-pub each_more : {X : Type 0} (shows : X → List ℕ → Bool → Type 0) (xs : List X) (out : List ℕ) (x : X) (written : List ℕ) (whole well : Bool) → EachShown shows xs out whole → shows x written well
+pub each_more : {X Y : Type 0} (shows : X → List Y → Bool → Type 0) (xs : List X) (out : List Y) (x : X) (written : List Y) (whole well : Bool) → EachShown shows xs out whole → shows x written well
     → EachShown shows (xs ++ x ∷ []) (out ++ written) (whole && well)
 each_more shows xs out x written whole well s h =
     record {

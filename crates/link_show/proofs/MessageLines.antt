@@ -8,6 +8,7 @@ use Rattle.link_show.specs.Gained.{gains_nothing, gains_more}
 use Rattle.std.proofs.lemmas.Bool.{ltb-true, cond-true, cond-false, eq-eqb, ne_eqb}
 use Rattle.link_base.specs.Labels.{name_in}
 use Rattle.link_messages.specs.declared.buffer_parts.Message.{Message}
+use Rattle.link_messages.specs.declared.message.MessageError.{MessageError}
 use Rattle.link_messages.specs.declared.message.MessageError.TheVariants as errors
 use Rattle.link_messages.specs.declared.header.LinkHeader.{LinkHeader}
 use Rattle.link_messages.specs.Message.{Stand, IsMessageAt}
@@ -18,7 +19,7 @@ use Rattle.link_show.specs.Structs.{field}
 use Rattle.link_show.specs.Fault.{bytes_text, byte_word}
 use Rattle.link_show.specs.Errno.{errno_names}
 use Rattle.link_show.specs.List.{indented, EachShown, Writes}
-use Rattle.link_show.specs.Message.{two, name_part, named_or, link_line, unless_zero, others_line, errno_name, result_line, error_number_line, opaque_text, message_line, message_error_line, ShowsBody, ShowsMessage, ShowsMessages, ShowsEnd, Ended, Done}
+use Rattle.link_show.specs.Message.{two, name_part, named_or, link_line, unless_zero, others_line, errno_name, result_line, error_number_line, opaque_text, message_line, message_error_line, reason_text, offset_of, ShowsBody, ShowsMessage, ShowsMessages, ShowsEnd, Ended, Done}
 use Rattle.link_show.proofs.Listing.{and_true, each_none, each_more}
 
 pub if_ok : {X E : Type 0} (P Q : X → Type 0) (r : Result X E) → ((x : X) → P x → Q x) → IfOk r P → IfOk r Q
@@ -72,14 +73,13 @@ pub errno_positive : (e : ℤ) → is_negative e ≡ false → None ≡ errno_na
 errno_positive (pos n) h = refl
 errno_positive (negsuc n) h = absurd (true≢false h)
 
-pub small_length : (indent : List ℕ) (at size : ℕ) → indent ++ (codes "error at " ++ (decimal at ++ (codes ": nlmsg_len " ++ (decimal size ++ codes " is below 16\n")))) ≡ message_error_line indent (errors.SmallLength at size)
+-- an error with its offset, in the parts in which it is written
+pub error_shape : (indent : List ℕ) (error : MessageError) → message_error_line indent error ≡ (indent ++ (codes "error at " ++ (decimal (offset_of error) ++ codes ": "))) ++ (reason_text error ++ 10 ∷ [])
 unfolding message_error_line
-small_length indent at size = simp append_assoc
+error_shape indent error = simp append_assoc
 
-pub overrun : (indent : List ℕ) (at size left : ℕ) → (indent ++ (codes "error at " ++ (decimal at ++ (codes ": nlmsg_len " ++ (decimal size ++ codes " exceeds the "))))) ++ bytes_text left (codes " left\n")
-    ≡ message_error_line indent (errors.Overrun at size left)
-unfolding message_error_line
-overrun indent at size left = simp append_assoc
+pub overrun : (at size left : ℕ) → (codes "nlmsg_len " ++ (decimal size ++ codes " exceeds the ")) ++ bytes_text left (codes " left") ≡ reason_text (errors.Overrun at size left)
+overrun at size left = simp append_assoc
 
 pub link_shape : (h : LinkHeader) (name : Option (List ℕ)) → (codes "  ifindex " ++ signed_decimal h.index) ++ (name_part name
     ++ (unless_zero h.family (codes "family") (named_or [] (name_in address_families h.family) h.family)

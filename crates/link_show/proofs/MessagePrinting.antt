@@ -46,7 +46,7 @@ use Rattle.link_show.proofs.LinePrinting.{no_texts, and_texts, line_end, line_an
 
 -- ---- errors
 
-reason_is_text : (error : MessageError) → IsText (reason_text error)
+pub reason_is_text : (error : MessageError) → IsText (reason_text error)
 reason_is_text (errors.ShortHeader at left) = bytes_is_text left (text refl)
 reason_is_text (errors.SmallLength at size) = and {s = codes "nlmsg_len "} (text refl) (and (decimal_text size) (text refl))
 reason_is_text (errors.Overrun at size left) =

@@ -36,8 +36,8 @@ abbrev pub error_line : List ℕ → ℕ → List ℕ → List ℕ
 error_line indent at text = indented indent (codes "error at " ++ (decimal at ++ (codes ": " ++ text)))
 
 -- the outputs for several items, in order, and whether all of them are well
-pub record EachShown {X : Type 0} (shows : X → List ℕ → Bool → Type 0) (xs : List X) (out : List ℕ) (whole : Bool) : Type 0 where
-  pub answers : List (List ℕ × Bool)
+pub record EachShown {X Y : Type 0} (shows : X → List Y → Bool → Type 0) (xs : List X) (out : List Y) (whole : Bool) : Type 0 where
+  pub answers : List (List Y × Bool)
   pub each : AllZip (λ x answer. shows x answer.0 answer.1) xs answers
   pub joined : out ≡ flat_map (λ answer. answer.0) answers
   pub all : whole ≡ list_all (λ answer. answer.1) answers

@@ -62,7 +62,7 @@ flags_of kind =
 
 -- address families, with names
 abbrev pub address_families : List (ℕ × List ℕ)
-address_families = (7, codes "AF_BRIDGE") ∷ []
+address_families = (0, codes "AF_UNSPEC") ∷ (7, codes "AF_BRIDGE") ∷ []
 
 -- types of devices, without ARPHRD_
 abbrev pub device_types : List (ℕ × List ℕ)

@@ -49,7 +49,7 @@ fn write_address_of<'a, W: Sink>(
 
 /// Writes an IP address.
 #[tactic(auto, unfolding(crate::specs::List::ip_text))]
-fn write_ip<W: Sink>(writer: &mut W, address: &[u8]) -> Result<(), W::Error>
+pub fn write_ip<W: Sink>(writer: &mut W, address: &[u8]) -> Result<(), W::Error>
     ensures { OnOk result (Gains (W.output writer.old) (W.output writer.new) (ip_text address.now)) }
 {
     match address.len() {

@@ -19,7 +19,7 @@ use link_base::views::content::Content;
 use link_base::views::view::Value;
 
 /// The flags of `nla_type` (`include/uapi/linux/netlink.h`).
-const TYPE_FLAGS: &[Name] = names![
+pub const TYPE_FLAGS: &[Name] = names![
     0x4000 "NLA_F_NET_BYTEORDER"
     0x8000 "NLA_F_NESTED"
 ];

@@ -4,7 +4,7 @@ use link_base::rows::label::Name;
 
 /// The names of errors (`include/uapi/asm-generic/errno-base.h`, `errno.h`). Of two names for one number, this is the
 /// one that the other is defined by.
-pub(crate) const ERRNOS: &[Name] = names![
+pub const ERRNOS: &[Name] = names![
     1 "EPERM"
     2 "ENOENT"
     3 "ESRCH"

@@ -18,7 +18,7 @@ macro_rules! types {
 }
 
 /// Types of messages (`include/uapi/linux/netlink.h`, `rtnetlink.h`).
-pub(crate) const MESSAGE_TYPES: &[Name] = types![
+pub const MESSAGE_TYPES: &[Name] = types![
     NLMSG_NOOP
     NLMSG_ERROR
     NLMSG_DONE
@@ -60,12 +60,13 @@ const DELETE_FLAGS: &[Name] = flags![0x100 "NONREC" 0x200 "BULK"];
 const ERROR_FLAGS: &[Name] = flags![0x100 "CAPPED" 0x200 "ACK_TLVS"];
 
 /// Address families (`AF_`, `include/linux/socket.h`) that are written by name.
-pub(crate) const ADDRESS_FAMILIES: &[Name] = names![
+pub const ADDRESS_FAMILIES: &[Name] = names![
+    0 "AF_UNSPEC"
     7 "AF_BRIDGE"
 ];
 
 /// Types of devices (`ARPHRD_`, `include/uapi/linux/if_arp.h`) that are written by name.
-pub(crate) const DEVICE_TYPES: &[Name] = names![
+pub const DEVICE_TYPES: &[Name] = names![
     1 "ETHER"
     280 "CAN"
     772 "LOOPBACK"
@@ -73,7 +74,7 @@ pub(crate) const DEVICE_TYPES: &[Name] = names![
 ];
 
 /// Flags of devices (`IFF_`, `include/uapi/linux/if.h`).
-pub(crate) const DEVICE_FLAGS: &[Name] = names![
+pub const DEVICE_FLAGS: &[Name] = names![
     0x1 "UP"
     0x2 "BROADCAST"
     0x4 "DEBUG"
@@ -96,7 +97,7 @@ pub(crate) const DEVICE_FLAGS: &[Name] = names![
 ];
 
 /// Operational states (`IF_OPER_`, `include/uapi/linux/if.h`).
-pub(crate) const OPERATIONAL_STATES: &[Name] = names![
+pub const OPERATIONAL_STATES: &[Name] = names![
     0 "UNKNOWN"
     1 "NOTPRESENT"
     2 "DOWN"
@@ -107,7 +108,7 @@ pub(crate) const OPERATIONAL_STATES: &[Name] = names![
 ];
 
 /// Returns the names of the flags of messages of type `kind`.
-pub(crate) fn flag_names(kind: u16) -> &'static [Name]
+pub fn flag_names(kind: u16) -> &'static [Name]
     ensures { names_in result.now ≡ flags_of kind }
 {
     match kind {

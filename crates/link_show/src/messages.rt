@@ -77,7 +77,7 @@ fn write_rest<W: Sink>(
 }
 
 /// Checks whether the bytes that are left at offset `at` are zeros after a message.
-fn are_zeros_after(at: usize, rest: &[u8]) -> bool
+pub fn are_zeros_after(at: usize, rest: &[u8]) -> bool
     ensures { IsTrue result ↔ AreZerosAfter at rest.now }
 {
     at > 0 && rest.iter().all(|b| *b == 0)
@@ -195,7 +195,7 @@ fn write_about_link<W: Sink>(
 /// Checks whether a message is an RTM_GETLINK in the general form, which has a `struct rtgenmsg` in place of a
 /// `struct ifinfomsg` (`include/uapi/linux/rtnetlink.h`). The kernel takes dump requests with 1 to 15 bytes so;
 /// `getifaddrs` of libc sends 4.
-fn is_general(message: &Message<'_>) -> bool
+pub fn is_general(message: &Message<'_>) -> bool
     ensures { IsTrue result ↔ IsGeneral message.now }
 {
     message.kind == RTM_GETLINK && (1..16).contains(&message.payload.len())

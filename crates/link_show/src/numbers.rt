@@ -106,8 +106,8 @@ fn write_numbers<W: Sink>(
     Ok(())
 }
 
-/// Reads the number at an index of an array.
-fn number_at(width: Width, index: usize, bytes: &[u8]) -> u64
+/// Reads the number at an index of an array of little-endian numbers.
+pub fn number_at(width: Width, index: usize, bytes: &[u8]) -> u64
     requires { (index + 1) * bytes_in width ≤ length bytes.now }
     ensures { result ≡ number_at (bytes_in width) (index * bytes_in width) bytes.now }
 {
@@ -116,7 +116,7 @@ fn number_at(width: Width, index: usize, bytes: &[u8]) -> u64
 }
 
 /// Reads a little-endian number, which must have all of `bytes`.
-pub(crate) fn number_of(width: Width, bytes: &[u8]) -> u64
+pub fn number_of(width: Width, bytes: &[u8]) -> u64
     requires { length bytes.now ≡ bytes_in width }
     ensures { result ≡ number bytes.now }
 {

@@ -59,8 +59,8 @@ fn is_errno(reply: &Acknowledgement<'_>) -> bool
     reply.error.is_negative()
 }
 
-/// Returns the name of an errno.
-fn errno_name(reply: &Acknowledgement<'_>) -> Option<&'static str>
+/// Returns the name of the errno in a reply; `None` if it has no name, or is none, because it is not negative.
+pub fn errno_name(reply: &Acknowledgement<'_>) -> Option<&'static str>
     ensures { option_map (λ text. text.now) result ≡ errno_name reply.now.error }
 {
     if is_errno(reply) {

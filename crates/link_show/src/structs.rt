@@ -79,7 +79,7 @@ fn write_fields<W: Sink>(
 }
 
 /// Checks whether all fields are within the bytes of a struct from offset `start` on.
-fn has_fields(fields: &[Field], start: usize, bytes: &[u8]) -> bool
+pub fn has_fields(fields: &[Field], start: usize, bytes: &[u8]) -> bool
     ensures { result ≡ has_fields (fields_in fields.now) start bytes.now }
 {
     for field in fields {
@@ -99,7 +99,7 @@ fn has_field(field: &Field, start: usize, bytes: &[u8]) -> bool
 }
 
 /// Returns the length of a field.
-fn size_of(part: Part) -> usize
+pub fn size_of(part: Part) -> usize
     ensures { result ≡ size_of part }
 {
     match part {

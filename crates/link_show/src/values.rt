@@ -127,7 +127,8 @@ fn write_protocol<W: Sink>(writer: &mut W, protocol: VlanProtocol) -> Result<(),
     )
 }
 
-fn protocol_name(protocol: VlanProtocol) -> &'static str
+/// Returns the name of a VLAN protocol.
+pub fn protocol_name(protocol: VlanProtocol) -> &'static str
     ensures { result.now ≡ text_of vlan_protocols.labels (protocol_number protocol) }
 {
     match protocol {

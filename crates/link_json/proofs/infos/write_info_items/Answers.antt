@@ -1,0 +1,32 @@
+use Rattle.std.proofs.Common.{refl, sym, ◌∙◌, arith}
+use Rattle.link_json.specs.Link.{ShowsAt, ShowsInfoItem}
+use Rattle.link_messages.proofs.Walking.{split_short}
+use Rattle.link_json.proofs.Listing.{list_none, list_more, list_broken, list_all, some_bytes, no_bytes}
+use Rattle.link_json.proofs.infos.write_info_items.Goals as goal
+
+pub loop-rest-init : goal.loop-rest-init
+loop-rest-init c = (omega arith, list_none (ShowsAt (ShowsInfoItem c.args.info.now) c.args.list.at) c.args.list.at c.args.list.bytes.now c.args.sheet.now)
+
+pub write_info_item-requires : goal.write_info_item-requires
+write_info_item-requires c =
+    let room = split_short c.loop-rest.rest.now c.in-Ok.attribute c.in-Ok.after.now c.in-Ok.ensures in
+    omega (arith, room.0, c.loop-rest.invariant.0, c.args.list.within)
+
+pub loop-rest-preserved : goal.loop-rest-preserved
+loop-rest-preserved c =
+    let room = split_short c.loop-rest.rest.now c.in-Ok.attribute c.in-Ok.after.now c.in-Ok.ensures in
+    let written = c.in_ok-well-in-Ok.ensures in (
+      omega (arith, room.1, c.loop-rest.invariant.0),
+      list_more (ShowsAt (ShowsInfoItem c.args.info.now) c.args.list.at) c.args.list.at c.args.list.bytes.now c.loop-rest.rest.now c.in-Ok.after.now c.args.sheet.now c.loop-rest.sheet
+          c.write_info_item.new.sheet c.loop-rest.whole c.in_ok-well-in-Ok.well c.in-Ok.attribute written.0 c.loop-rest.invariant.1 c.in-Ok.ensures (written.0, written.1, refl) written.2,
+    )
+
+pub returns-in-Err : goal.returns-in-Err
+returns-in-Err c =
+    list_broken (ShowsAt (ShowsInfoItem c.args.info.now) c.args.list.at) c.args.list.at c.args.list.bytes.now c.loop-rest.rest.now c.args.sheet.now c.loop-rest.sheet c.write_frame_fault.new.sheet
+    c.loop-rest.whole c.in-Err.cause c.loop-rest.invariant.1 (some_bytes c.loop-rest.rest.now (sym c.is_empty.ensures ∙ c.loop-rest-test.true)) c.in-Err.ensures c.in_ok-write_frame_fault-in-Err.ensures
+
+pub returns : goal.returns
+returns c =
+    list_all (ShowsAt (ShowsInfoItem c.args.info.now) c.args.list.at) c.args.list.at c.args.list.bytes.now c.loop-rest.rest.now c.args.sheet.now c.loop-rest.sheet c.loop-rest.whole
+    c.loop-rest.invariant.1 (no_bytes c.loop-rest.rest.now (sym c.is_empty.ensures ∙ c.loop-rest-test.false))

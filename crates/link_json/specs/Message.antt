@@ -1,0 +1,115 @@
+-- The JSON of messages: a document for each.
+use Rattle.std.specs.Prelude.{◌≡◌, ◌≢◌, ℕ, ◌+◌, Bool, true, false, ◌&&◌, List, [], ◌∷◌, ◌++◌, length, drop, Option, Some, None, codes}
+use Rattle.std.specs.List.{flat_map}
+use Rattle.std.specs.Option.{option_copied}
+use Rattle.std.specs.Io.KnownBytes.{Appends}
+use Rattle.std.specs.Int.RustNames.{unsigned_abs}
+use Rattle.json.specs.Token.{Token}
+use Rattle.json.specs.Json.{Json, null, boolean}
+use Rattle.json.specs.Print.{print}
+use Rattle.json.specs.Tree.{json_tokens}
+use Rattle.link_messages.specs.declared.buffer_parts.Message.{Message}
+use Rattle.link_messages.specs.declared.message.MessageError.{MessageError}
+use Rattle.link_messages.specs.declared.header.LinkHeader.{LinkHeader}
+use Rattle.link_messages.specs.declared.acknowledgement.Acknowledgement.{Acknowledgement}
+use Rattle.link_messages.specs.Message.{Stand, IsMessageAt, header_fault, packet_of}
+use Rattle.link_messages.specs.Header.{IsAnyLinkType, HasLinkHeader, HasNoLinkHeader}
+use Rattle.link_messages.specs.Link.{attributes_of}
+use Rattle.link_messages.specs.Acknowledgement.{IsAcknowledgement, IsNoAcknowledgement}
+use Rattle.link_show.specs.List.{EachShown}
+use Rattle.link_show.specs.Message.{reason_text, offset_of, errno_name, is_sound, IsGeneral, AreZerosAfter}
+use Rattle.link_show.specs.MessageNames.{message_types, flags_of}
+use Rattle.link_json.specs.Doc.{Field, object_of, fields_tokens, number_json, named_json, error_json}
+use Rattle.link_json.specs.Value.{text_json, enum_json, flags_json}
+use Rattle.link_json.specs.Link.{ShowsLink}
+
+-- ---- members
+
+-- the error of a message
+abbrev pub message_error : MessageError → Field
+message_error error = (codes "error", error_json (Some (offset_of error)) (reason_text error))
+
+-- a `struct nlmsghdr`
+abbrev pub message_fields : Message → List Field
+message_fields m =
+    (codes "len", number_json (16 + length m.payload.now)) ∷
+    (codes "type", enum_json message_types m.kind) ∷
+    (codes "flags", flags_json (flags_of m.kind) m.flags) ∷
+    (codes "seq", number_json m.sequence) ∷
+    (codes "pid", number_json m.port) ∷ []
+
+abbrev pub or_null : {A : Type 0} → (A → Json) → Option A → Json
+or_null json None = null
+or_null json (Some x) = json x
+
+-- a reply
+abbrev pub reply_json : Acknowledgement → Json
+reply_json a = object_of (
+    (codes "errno", named_json (unsigned_abs a.error) (errno_name a.error)) ∷
+    (codes "message", or_null text_json (option_copied a.text)) ∷
+    (codes "offset", or_null number_json a.offset) ∷
+    (codes "missing_type", or_null number_json a.missing_type) ∷ [])
+
+-- the error of a header among the attributes of a reply
+abbrev pub fault_fields : Option MessageError → List Field
+fault_fields None = []
+fault_fields (Some error) = message_error error ∷ []
+
+-- what a message is, besides its header, and whether it has no error
+pub data ShowsBody (m : Message) (fields : List Field) (well : Bool) : Type 0 where
+  Link : (h : LinkHeader) → ¬ IsGeneral m → HasLinkHeader (packet_of m) h → (link : Json) → ShowsLink h (attributes_of m.at (packet_of m)) link well
+      → fields ≡ (codes "link", link) ∷ [] → ShowsBody m fields well
+  Reply : (a : Acknowledgement) → IsAcknowledgement m.at (packet_of m) a → fields ≡ fault_fields a.fault ++ (codes "reply", reply_json a) ∷ [] → well ≡ is_sound a.fault → ShowsBody m fields well
+  General : IsGeneral m → fields ≡ [] → well ≡ true → ShowsBody m fields well
+  NoLink : (error : MessageError) → IsAnyLinkType m.kind → ¬ IsGeneral m → HasNoLinkHeader m.at (packet_of m) error → fields ≡ message_error error ∷ [] → well ≡ false → ShowsBody m fields well
+  NoReply : (error : MessageError) → m.kind ≡ 2 → IsNoAcknowledgement m.at (packet_of m) error → fields ≡ message_error error ∷ [] → well ≡ false → ShowsBody m fields well
+  Other : ¬ IsAnyLinkType m.kind → m.kind ≢ 2 → fields ≡ [] → well ≡ true → ShowsBody m fields well
+
+-- ---- documents
+
+-- a document: where it is from, what it says, and whether it has no error
+abbrev pub whole_document : List Field → List Field → Bool → Json
+whole_document place fields well = object_of (place ++ (fields ++ (codes "ok", boolean well) ∷ []))
+
+-- the document of a message
+abbrev pub ShowsDocument : List Field → Message → Json → Bool → Type 0
+ShowsDocument place m j well = (body : List Field) × ShowsBody m body well × (j ≡ whole_document place (message_fields m ++ body) well)
+
+abbrev pub ShowsMessage : List Field → Message → List Json → Bool → Type 0
+ShowsMessage place m js well = (j : Json) × ShowsDocument place m j well × (js ≡ j ∷ [])
+
+-- what ends the messages of s at offset `at`: its end, the NLMSG_DONE m, zeros after a message, or other bytes that are no
+-- message; and the document for it, if it has one. If the end is the first that there is, it has one
+pub data ShowsEnd (place : List Field) (s : List ℕ) (at : ℕ) (js : List Json) (well : Bool) : Type 0 where
+  Ended : drop at s ≡ [] → at ≢ 0 → js ≡ [] → well ≡ true → ShowsEnd place s at js well
+  Empty : drop at s ≡ [] → at ≡ 0 → js ≡ whole_document place [] true ∷ [] → well ≡ true → ShowsEnd place s at js well
+  Done : (m : Message) → IsMessageAt at (drop at s) m → m.kind ≡ 3 → ShowsMessage place m js well → ShowsEnd place s at js well
+  Zeros : drop at s ≢ [] → (error : MessageError) → header_fault at (drop at s) ≡ Some error → AreZerosAfter at (drop at s) → js ≡ [] → well ≡ true → ShowsEnd place s at js well
+  Broken : drop at s ≢ [] → (error : MessageError) → header_fault at (drop at s) ≡ Some error → ¬ AreZerosAfter at (drop at s)
+      → js ≡ whole_document place (message_error error ∷ []) false ∷ [] → well ≡ false → ShowsEnd place s at js well
+
+-- the documents for the messages of a buffer, and whether none has an error
+pub record ShowsMessages (place : List Field) (s : List ℕ) (js : List Json) (whole : Bool) : Type 0 where
+  pub messages : List Message
+  pub end : ℕ
+  pub stand : Stand s 0 messages end
+  pub front : List Json
+  pub front_well : Bool
+  pub each : EachShown (ShowsMessage place) messages front front_well
+  pub last : List Json
+  pub last_well : Bool
+  pub at_end : ShowsEnd place s end last last_well
+  pub joined : js ≡ front ++ last
+  pub all : whole ≡ (front_well && last_well)
+
+-- a document as a line
+abbrev pub document_line : Json → List ℕ
+document_line j = print (json_tokens j) ++ 10 ∷ []
+
+-- members were written, and whether they have no error
+abbrev pub WritesFields : (List Field → Bool → Type 0) → List Token → List Token → Bool → Type 0
+WritesFields shows old new well = (fields : List Field) × shows fields well × (new ≡ old ++ fields_tokens fields)
+
+-- the lines of documents were written
+abbrev pub WritesLines : (List Json → Bool → Type 0) → Option (List ℕ) → Option (List ℕ) → Bool → Type 0
+WritesLines shows held_before held_after well = (js : List Json) × shows js well × Appends held_before held_after (flat_map document_line js)

@@ -1,0 +1,171 @@
+-- The JSON of values, by the form of their content.
+use Rattle.std.specs.Prelude.{ℕ, ◌-◌, true, List, [], ◌∷◌, map, take, drop, Option, Some, None, codes, if◌then◌else◌}
+use Rattle.std.specs.Fmt.{decimal}
+use Rattle.std.specs.Str.{is_utf8}
+use Rattle.std.specs.Net.Addr.{ipv4_octets, segments_of}
+use Rattle.std.specs.Net.Text.{ipv4_text, ipv6_text}
+use Rattle.hex.specs.Hex.{encode_lower}
+use Rattle.json.specs.Json.{Json, boolean, string}
+use Rattle.link_base.specs.declared.wire.buffer.NlaBuffer.{NlaBuffer}
+use Rattle.link_base.specs.declared.views.content.Content.{Content}
+use Rattle.link_base.specs.declared.views.content.Content.TheVariants as contents
+use Rattle.link_base.specs.declared.rows.form.Form.TheVariants as forms
+use Rattle.link_base.specs.declared.rows.form.Layout.{Layout}
+use Rattle.link_base.specs.declared.rows.form.Layout.TheVariants as layouts
+use Rattle.link_base.specs.declared.rows.fields.Part.{Part}
+use Rattle.link_base.specs.declared.rows.fields.Part.TheVariants as parts
+use Rattle.link_base.specs.declared.rows.label.Quantity.{Quantity}
+use Rattle.link_base.specs.declared.rows.label.Quantity.TheVariants as quantities
+use Rattle.link_base.specs.declared.names.vlan_protocol.VlanProtocol.{VlanProtocol}
+use Rattle.link_base.specs.Number.{number}
+use Rattle.link_base.specs.Frame.{kind_of}
+use Rattle.link_base.specs.Buffer.{kind_field_of, payload_of}
+use Rattle.link_base.specs.Forms.{FieldTold, fields_of}
+use Rattle.link_base.specs.IpAddress.{sixteen_octets}
+use Rattle.link_base.specs.Labels.{name_in}
+use Rattle.link_base.specs.Layout.{numbers_of}
+use Rattle.link_base.specs.Name.{before_nul}
+use Rattle.link_base.specs.Protocol.{vlan_protocols, protocol_number}
+use Rattle.link_base.specs.Named.{text_of}
+use Rattle.link_show.specs.Text.{joined}
+use Rattle.link_show.specs.Octets.{byte_text}
+use Rattle.link_show.specs.Flags.{set_names}
+use Rattle.link_show.specs.List.{type_flags}
+use Rattle.link_show.specs.Structs.{size_of, has_fields, bridge_id_text}
+use Rattle.link_show.specs.Value as plain
+use Rattle.link_show.specs.Value.{Label, quantity_in, names_of}
+use Rattle.link_json.specs.Doc.{Field, object_of, array_of, number_json, signed_json, named_json, element_json}
+use Rattle.link_json.specs.Names.{short_name}
+
+-- ---- texts
+
+-- bytes in hexadecimal
+abbrev pub hex_json : List ℕ → Json
+hex_json bytes = string (encode_lower bytes)
+
+-- only that
+abbrev pub opaque_json : List ℕ → Json
+opaque_json bytes = object_of ((codes "hex", hex_json bytes) ∷ [])
+
+-- a text; its bytes in hexadecimal, if it is not UTF-8
+abbrev pub text_json : List ℕ → Json
+text_json text = if is_utf8 text then string text else opaque_json text
+
+-- a hardware address
+abbrev pub address_json : List ℕ → Json
+address_json bytes = string (joined (codes ":") (map byte_text bytes))
+
+-- ---- numbers by name
+
+-- the number of an enum
+abbrev pub enum_json : List (ℕ × List ℕ) → ℕ → Json
+enum_json names n = named_json n (name_in names n)
+
+-- the names of the bits that are set
+abbrev pub names_json : List (ℕ × List ℕ) → ℕ → List Json
+names_json names bits = map (λ x. string x.1) (set_names names bits)
+
+-- a set of flags
+abbrev pub flags_json : List (ℕ × List ℕ) → ℕ → Json
+flags_json names bits = object_of ((codes "number", number_json bits) ∷ (codes "names", array_of (names_json names bits)) ∷ [])
+
+-- a VLAN protocol
+abbrev pub protocol_json : VlanProtocol → Json
+protocol_json p = named_json (protocol_number p) (Some (text_of vlan_protocols.labels (protocol_number p)))
+
+-- a set of flags, and which of them count
+abbrev pub masked_json : List (ℕ × List ℕ) → ℕ → ℕ → Json
+masked_json names flags mask = object_of ((codes "flags", flags_json names flags) ∷ (codes "mask", flags_json names mask) ∷ [])
+
+-- ---- structs
+
+-- what the bytes of a field say; the names are those of bits
+abbrev pub part_json : List (ℕ × List ℕ) → Part → List ℕ → Json
+part_json names (parts.Number w q) bytes = number_json (number bytes)
+part_json names (parts.BigEndian w) bytes = hex_json bytes
+part_json names (parts.Flags w) bytes = flags_json names (number bytes)
+part_json names parts.Mac bytes = address_json bytes
+part_json names (parts.Name size) bytes = text_json (before_nul bytes)
+
+-- the member for a field of a struct, whose bytes from offset `start` on are p
+abbrev pub field_json : ℕ → List (ℕ × List ℕ) → List ℕ → FieldTold → Field
+field_json start names p f = (f.0, part_json names f.2 (take (size_of f.2) (drop (f.1 - start) p)))
+
+-- the members for fields of a struct; its bytes, if they lack one of the fields
+abbrev pub fields_json : List FieldTold → ℕ → List (ℕ × List ℕ) → List ℕ → List Field
+fields_json fields start names p = if has_fields fields start p then map (field_json start names p) fields else (codes "hex", hex_json p) ∷ []
+
+-- the struct that p starts with; the bytes, if the fields are not known
+abbrev pub struct_json : Layout → List (ℕ × List ℕ) → List ℕ → Json
+struct_json layouts.BridgeId names p = string (bridge_id_text p)
+struct_json (layouts.Other lengths) names p = opaque_json p
+struct_json layout names p = object_of (fields_json (fields_of (forms.Struct layout)) 0 names p)
+
+-- two consecutive numbers
+abbrev pub pair_json : ℕ → ℕ → Json
+pair_json from to = object_of ((codes "from", number_json from) ∷ (codes "to", number_json to) ∷ [])
+
+-- the limits of a CAN controller: its name, and the bytes of the numbers, which follow those of the name
+abbrev pub limits_json : List ℕ → List ℕ → Json
+limits_json name p = object_of ((codes "name", text_json name) ∷ fields_json (drop 1 (fields_of forms.Limits)) 16 [] p)
+
+-- ---- contents
+
+-- the value of a content, by what is known of its attribute type; the bytes of a list
+abbrev pub content_json : Label → Content → Json
+content_json label contents.Nothing = boolean true
+content_json label (contents.Bool b) = boolean b
+content_json label (contents.Unsigned n width) = number_json n
+content_json label (contents.Coded n width) = enum_json (names_of label) n
+content_json label (contents.Signed z) = signed_json z
+content_json label (contents.Enum n width) = enum_json (names_of label) n
+content_json label (contents.Flags bits width) = flags_json (names_of label) bits
+content_json label (contents.LowFlags bits) = flags_json (names_of label) bits
+content_json label (contents.MaskedFlags flags mask) = masked_json (names_of label) flags mask
+content_json label (contents.Pair from to) = pair_json from to
+content_json label (contents.Protocol p) = protocol_json p
+content_json label (contents.Mac a) = address_json a
+content_json label (contents.Ipv4 a) = string (ipv4_text (ipv4_octets a))
+content_json label (contents.Ipv6 a) = string (ipv6_text (segments_of (sixteen_octets a)))
+content_json label (contents.Bytes p) = address_json p.now
+content_json label (contents.Struct layout p) = struct_json layout (names_of label) p.now
+content_json label (contents.U16s p) = array_of (map number_json (numbers_of 2 p.now))
+content_json label (contents.U32s p) = array_of (map number_json (numbers_of 4 p.now))
+content_json label (contents.Limits name numbers) = limits_json name.now numbers.now
+content_json label (contents.Addresses list size) = opaque_json list.now
+content_json label (contents.List list flagged) = opaque_json list.now
+content_json label (contents.Other p) = opaque_json p.now
+
+-- what numbers count
+abbrev pub unit_of : Quantity → Option (List ℕ)
+unit_of quantities.ClockTicks = Some (codes "1/100 s")
+unit_of quantities.Milliseconds = Some (codes "ms")
+unit_of quantities.Seconds = Some (codes "s")
+unit_of quantities.BitsPerSecond = Some (codes "bit/s")
+unit_of quantities.Ohms = Some (codes "ohm")
+unit_of quantities.Nanoseconds = Some (codes "ns")
+unit_of quantities.Hertz = Some (codes "Hz")
+unit_of quantity = None
+
+abbrev pub unit_fields : Option (List ℕ) → List Field
+unit_fields None = []
+unit_fields (Some unit) = (codes "unit", string unit) ∷ []
+
+-- an attribute: its name, its value, and the unit, if the value is a number that has one, or several
+abbrev pub labelled_json : List ℕ → Label → Json → Json
+labelled_json prefix label value = element_json (string (short_name prefix (plain.name_in label))) value (unit_fields (unit_of (quantity_in label)))
+
+-- ---- attributes that are not decoded
+
+-- its attribute type, the flags of its `nla_type` f, and its payload p
+abbrev pub raw_json : ℕ → List ℕ → Json
+raw_json f p = object_of ((codes "type", number_json (kind_of f)) ∷ (codes "flags", flags_json type_flags (f - kind_of f)) ∷ (codes "hex", hex_json p) ∷ [])
+
+-- an attribute whose type has no name
+abbrev pub unnamed_json : ℕ → List ℕ → Json
+unnamed_json f p = element_json (string (decimal (kind_of f))) (raw_json f p) []
+
+-- an attribute that is in no list of attributes
+abbrev pub attribute_json : List ℕ → Option Label → NlaBuffer → Content → Json
+attribute_json prefix None b content = unnamed_json (kind_field_of b) (payload_of b)
+attribute_json prefix (Some label) b content = labelled_json prefix label (content_json label content)

@@ -1,0 +1,31 @@
+//! Link attributes and messages as JSON: a document for each message, which is a line.
+//!
+//! [`write_documents`] writes the documents for the messages of a buffer. Each begins with the members of a [`Place`], which
+//! says where it is from. A [`Sheet`] holds a document while it is written, and is used again for the next.
+#![tactic(auto)]
+
+/// Attribute types, each with the name of its constant.
+macro_rules! types {
+    ($($kind:ident)*) => {
+        &[$(Name { number: $kind as u64, text: stringify!($kind) },)*]
+    };
+}
+
+mod documents;
+mod infos;
+mod links;
+mod lists;
+mod messages;
+mod names;
+mod numbers;
+mod parts;
+mod place;
+mod replies;
+mod sheet;
+mod structs;
+mod texts;
+mod values;
+
+pub use messages::{Failure, print_document, write_documents};
+pub use place::Place;
+pub use sheet::Sheet;

@@ -1,0 +1,155 @@
+//! Messages, and buffers of them: a document for each.
+
+ghost use Rattle.std.specs.Prelude.{◌≡◌, ◌++◌, ◌∷◌, [], true, drop, Err, OnOk, IfOk};
+ghost use Rattle.std.specs.Io.KnownBytes.{Appends};
+ghost use Rattle.json.specs.Print.{print};
+ghost use Rattle.link_messages.specs.Message.{NextOfAny};
+ghost use Rattle.link_json.specs.Message.{ShowsMessages, ShowsEnd, ShowsMessage, WritesLines, whole_document, document_line};
+
+use crate::documents::{store_empty, store_error, store_message};
+use crate::place::Place;
+use crate::sheet::Sheet;
+use link_messages::message_types::NLMSG_DONE;
+use link_messages::{Message, MessageError, any_message};
+use link_show::are_zeros_after;
+use std::alloc::Global;
+use std::io::Write;
+
+/// Why documents were not written.
+#[derive(Clone, Copy, Debug, PartialEq, Eq)]
+pub enum Failure {
+    /// An allocation failed.
+    Memory,
+    /// The writer failed.
+    Writer,
+}
+
+/// Writes a line for each message of a buffer, up to its end or to an NLMSG_DONE: its document. Bytes after the messages
+/// that are no message, and not only zeros, have a document with the error; a buffer without a message has one that says
+/// only where it is from. Returns whether none has an error.
+///
+/// # Errors
+///
+/// A [`Failure`]. Lines that were written are complete, unless the writer fails.
+pub fn write_documents<P: Place, W: Write>(
+    alloc: Global,
+    sheet: &mut Sheet,
+    place: &P,
+    buffer: &[u8],
+    writer: &mut W,
+) -> Result<bool, Failure>
+    requires { sheet.old ≡ [] }
+    ensures shown { IfOk result (WritesLines (ShowsMessages (P.fields place.now) buffer.now)
+        (W.contents writer.old) (W.contents writer.new)) }
+    ensures cleared { IfOk result (λ _. sheet.new ≡ []) }
+{
+    let mut whole = true;
+    let mut at = 0;
+    loop {
+        let message = match any_message(buffer, at) {
+            Ok(Some(message)) => message,
+            Ok(None) => {
+                if at == 0 {
+                    write_empty(alloc, sheet, place, writer)?;
+                }
+                return Ok(whole);
+            }
+            Err(error) => {
+                let sound = write_rest(alloc, sheet, place, buffer, at, error, writer)?;
+                return Ok(whole & sound);
+            }
+        };
+        let well = write_line(alloc, sheet, place, &message, writer)?;
+        whole &= well;
+        if message.kind == NLMSG_DONE {
+            return Ok(whole);
+        }
+        at = message.next;
+    }
+}
+
+/// Writes the document for a buffer without a message.
+fn write_empty<P: Place, W: Write>(
+    alloc: Global,
+    sheet: &mut Sheet,
+    place: &P,
+    writer: &mut W,
+) -> Result<(), Failure>
+    requires { sheet.old ≡ [] }
+    ensures shown { OnOk result (Appends (W.contents writer.old) (W.contents writer.new)
+        (document_line (whole_document (P.fields place.now) [] true))) }
+    ensures cleared { OnOk result (sheet.new ≡ []) }
+{
+    match store_empty(sheet, place) {
+        Ok(()) => print_document(alloc, sheet, writer),
+        Err(_) => Err(Failure::Memory),
+    }
+}
+
+/// Writes the document for the bytes that are left at offset `at`, which are no message: an error, or none for zeros after
+/// a message. Returns false if it is an error.
+fn write_rest<P: Place, W: Write>(
+    alloc: Global,
+    sheet: &mut Sheet,
+    place: &P,
+    buffer: &[u8],
+    at: usize,
+    error: MessageError,
+    writer: &mut W,
+) -> Result<bool, Failure>
+    requires empty { sheet.old ≡ [] }
+    requires none { NextOfAny at (drop at buffer.now) (Err error) }
+    ensures shown { IfOk result (WritesLines (ShowsEnd (P.fields place.now) buffer.now at)
+        (W.contents writer.old) (W.contents writer.new)) }
+    ensures cleared { IfOk result (λ _. sheet.new ≡ []) }
+{
+    if are_zeros_after(at, &buffer[at..]) {
+        return Ok(true);
+    }
+    match store_error(sheet, place, error) {
+        Ok(()) => {}
+        Err(_) => return Err(Failure::Memory),
+    }
+    match print_document(alloc, sheet, writer) {
+        Ok(()) => Ok(false),
+        Err(failure) => Err(failure),
+    }
+}
+
+/// Writes the document of a message. Returns whether it has no error.
+fn write_line<P: Place, W: Write>(
+    alloc: Global,
+    sheet: &mut Sheet,
+    place: &P,
+    message: &Message<'_>,
+    writer: &mut W,
+) -> Result<bool, Failure>
+    requires { sheet.old ≡ [] }
+    ensures shown { IfOk result (WritesLines (ShowsMessage (P.fields place.now) message.now)
+        (W.contents writer.old) (W.contents writer.new)) }
+    ensures cleared { IfOk result (λ _. sheet.new ≡ []) }
+{
+    let well = match store_message(sheet, place, message) {
+        Ok(well) => well,
+        Err(_) => return Err(Failure::Memory),
+    };
+    match print_document(alloc, sheet, writer) {
+        Ok(()) => Ok(well),
+        Err(failure) => Err(failure),
+    }
+}
+
+/// Writes the document of a sheet as a line, and clears the sheet.
+pub fn print_document<W: Write>(
+    alloc: Global,
+    sheet: &mut Sheet,
+    writer: &mut W,
+) -> Result<(), Failure>
+    ensures shown { OnOk result (Appends (W.contents writer.old) (W.contents writer.new) (print sheet.old ++ 10 ∷ [])) }
+    ensures cleared { sheet.new ≡ [] }
+{
+    match sheet.write_line(alloc, writer) {
+        Ok(()) => Ok(()),
+        Err(_) => Err(Failure::Writer),
+    }
+}

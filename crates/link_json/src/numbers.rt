@@ -1,0 +1,77 @@
+//! Enums, sets of flags, and arrays of numbers.
+
+ghost use Rattle.std.specs.Prelude.{◌≡◌, ◌++◌, OnOk, map};
+ghost use Rattle.json.specs.Tree.{json_tokens};
+ghost use Rattle.link_base.specs.Forms.{bytes_in};
+ghost use Rattle.link_base.specs.Labels.{names_in};
+ghost use Rattle.link_base.specs.Layout.{numbers_of};
+ghost use Rattle.link_json.specs.Doc.{array_of, number_json};
+ghost use Rattle.link_json.specs.Value.{enum_json, flags_json, masked_json, names_json};
+
+use crate::parts::write_named;
+use crate::sheet::Sheet;
+use link_base::rows::form::Width;
+use link_base::rows::label::{Name, name_of};
+use link_show::number_at;
+use std::alloc::AllocError;
+
+/// Writes the number of an enum, and its name.
+pub(crate) fn write_enum(sheet: &mut Sheet, names: &[Name], number: u64) -> Result<(), AllocError>
+    ensures { OnOk result (sheet.new ≡ sheet.old ++ json_tokens (enum_json (names_in names.now) number)) }
+{
+    write_named(sheet, number, name_of(names, number))
+}
+
+/// Writes a set of flags, and the names of the bits that are set.
+pub(crate) fn write_flags(sheet: &mut Sheet, names: &[Name], bits: u64) -> Result<(), AllocError>
+    ensures { OnOk result (sheet.new ≡ sheet.old ++ json_tokens (flags_json (names_in names.now) bits)) }
+{
+    sheet.begin_object()?;
+    sheet.key("number")?;
+    sheet.number(bits)?;
+    sheet.key("names")?;
+    write_set_names(sheet, names, bits)?;
+    sheet.end_object()
+}
+
+/// Writes the names of the bits that are set.
+fn write_set_names(sheet: &mut Sheet, names: &[Name], bits: u64) -> Result<(), AllocError>
+    ensures { OnOk result (sheet.new ≡ sheet.old ++ json_tokens (array_of (names_json (names_in names.now) bits))) }
+{
+    sheet.begin_array()?;
+    for name in names {
+        if bits & name.number != 0 {
+            sheet.string(name.text)?;
+        }
+    }
+    sheet.end_array()
+}
+
+/// Writes a set of flags, and which of them count.
+pub(crate) fn write_masked(
+    sheet: &mut Sheet,
+    names: &[Name],
+    flags: u32,
+    mask: u32,
+) -> Result<(), AllocError>
+    ensures { OnOk result (sheet.new ≡ sheet.old ++ json_tokens (masked_json (names_in names.now) flags mask)) }
+{
+    sheet.begin_object()?;
+    sheet.key("flags")?;
+    write_flags(sheet, names, flags.into())?;
+    sheet.key("mask")?;
+    write_flags(sheet, names, mask.into())?;
+    sheet.end_object()
+}
+
+/// Writes an array of little-endian numbers.
+pub(crate) fn write_numbers(sheet: &mut Sheet, width: Width, bytes: &[u8]) -> Result<(), AllocError>
+    ensures { OnOk result (sheet.new ≡ sheet.old
+        ++ json_tokens (array_of (map number_json (numbers_of (bytes_in width) bytes.now)))) }
+{
+    sheet.begin_array()?;
+    for i in 0..bytes.len() / width.size() {
+        sheet.number(number_at(width, i, bytes))?;
+    }
+    sheet.end_array()
+}

@@ -1,0 +1,139 @@
+//! A document that is being written.
+
+ghost use Rattle.std.specs.Prelude.{◌≡◌, ◌++◌, ◌∷◌, [], List, OnOk, decimal};
+ghost use Rattle.std.specs.Fmt.{signed_decimal};
+ghost use Rattle.std.specs.Io.KnownBytes.{Appends};
+ghost use Rattle.json.specs.Print.{print};
+ghost use Rattle.json.specs.Token.{Token, tokens_code, begin_object, end_object, begin_array, end_array, key, string, number, boolean, null};
+
+use json::Writer;
+use std::alloc::{AllocError, Global};
+use std::io::Write;
+use std::marker::Model;
+use std::{io, mem};
+
+/// A document that is being written: its tokens so far. A call that fails is out of memory; a part of what it writes may
+/// then be there.
+#[derive(Drop)]
+pub struct Sheet {
+    pub(crate) writer: Writer<Global>,
+    /// The text of a token, before it is written.
+    pub(crate) text: Vec<u8>,
+}
+
+impl Model for Sheet {
+    ghost Value = { List Token };
+
+    ghost coded = { tokens_code };
+
+    ghost view = { λ s. s.writer.tokens };
+
+    ghost invariant = { λ s. s.writer.before ≡ [] };
+}
+
+impl Sheet {
+    /// Returns an empty sheet.
+    pub fn new(alloc: Global) -> Self
+        ensures { result ≡ [] }
+    {
+        Sheet {
+            writer: Writer::new(Vec::new(alloc)),
+            text: Vec::new(alloc),
+        }
+    }
+
+    /// Writes the document as a line, and clears the sheet.
+    ///
+    /// # Errors
+    ///
+    /// That of the writer.
+    pub(crate) fn write_line<W: Write>(&mut self, alloc: Global, writer: &mut W) -> io::Result<()>
+        ensures line { OnOk result (Appends (W.contents writer.old) (W.contents writer.new) (print self.old ++ 10 ∷ [])) }
+        ensures cleared { self.new ≡ [] }
+    {
+        let full = mem::replace(&mut self.writer, Writer::new(Vec::new(alloc)));
+        let mut line = full.into_inner();
+        let result = write_with_end(writer, &line);
+        line.clear();
+        self.writer = Writer::new(line);
+        result
+    }
+
+    /// Begins an object.
+    pub fn begin_object(&mut self) -> Result<(), AllocError>
+        ensures { OnOk result (self.new ≡ self.old ++ begin_object ∷ []) }
+    {
+        self.writer.begin_object()
+    }
+
+    /// Ends an object.
+    pub fn end_object(&mut self) -> Result<(), AllocError>
+        ensures { OnOk result (self.new ≡ self.old ++ end_object ∷ []) }
+    {
+        self.writer.end_object()
+    }
+
+    /// Begins an array.
+    pub(crate) fn begin_array(&mut self) -> Result<(), AllocError>
+        ensures { OnOk result (self.new ≡ self.old ++ begin_array ∷ []) }
+    {
+        self.writer.begin_array()
+    }
+
+    /// Ends an array.
+    pub(crate) fn end_array(&mut self) -> Result<(), AllocError>
+        ensures { OnOk result (self.new ≡ self.old ++ end_array ∷ []) }
+    {
+        self.writer.end_array()
+    }
+
+    /// Writes the key of a member.
+    pub fn key(&mut self, name: &str) -> Result<(), AllocError>
+        ensures { OnOk result (self.new ≡ self.old ++ key name.now ∷ []) }
+    {
+        self.writer.key(name)
+    }
+
+    /// Writes a number.
+    pub fn number(&mut self, n: u64) -> Result<(), AllocError>
+        ensures { OnOk result (self.new ≡ self.old ++ number (decimal n) ∷ []) }
+    {
+        self.writer.u64(n)
+    }
+
+    /// Writes a number that may be negative.
+    pub(crate) fn signed(&mut self, n: i64) -> Result<(), AllocError>
+        ensures { OnOk result (self.new ≡ self.old ++ number (signed_decimal n) ∷ []) }
+    {
+        self.writer.i64(n)
+    }
+
+    /// Writes a boolean.
+    pub fn boolean(&mut self, b: bool) -> Result<(), AllocError>
+        ensures { OnOk result (self.new ≡ self.old ++ boolean b ∷ []) }
+    {
+        self.writer.boolean(b)
+    }
+
+    /// Writes a text.
+    pub fn string(&mut self, text: &str) -> Result<(), AllocError>
+        ensures { OnOk result (self.new ≡ self.old ++ string text.now ∷ []) }
+    {
+        self.writer.string(text)
+    }
+
+    /// Writes null.
+    pub fn null(&mut self) -> Result<(), AllocError>
+        ensures { OnOk result (self.new ≡ self.old ++ null ∷ []) }
+    {
+        self.writer.null()
+    }
+}
+
+/// Writes a line.
+fn write_with_end<W: Write>(writer: &mut W, line: &[u8]) -> io::Result<()>
+    ensures { OnOk result (Appends (W.contents writer.old) (W.contents writer.new) (line.now ++ 10 ∷ [])) }
+{
+    writer.write_all(line)?;
+    writer.write_all(b"\n")
+}

@@ -1,0 +1,130 @@
+//! Values, by the form of their content.
+
+ghost use Rattle.std.specs.Prelude.{◌≡◌, ◌++◌, OnOk, option_map};
+ghost use Rattle.std.specs.Net.Addr.{segments_of};
+ghost use Rattle.std.specs.Net.Text.{ipv6_text};
+ghost use Rattle.json.specs.Json.{string};
+ghost use Rattle.json.specs.Tree.{json_tokens};
+ghost use Rattle.link_base.specs.Buffer.{kind_field_of, payload_of};
+ghost use Rattle.link_base.specs.IpAddress.{sixteen_octets};
+ghost use Rattle.link_base.specs.Labels.{label_of};
+ghost use Rattle.link_json.specs.Doc.{fields_tokens};
+ghost use Rattle.link_json.specs.Value.{content_json, protocol_json, unit_of, unit_fields, raw_json, unnamed_json};
+
+use crate::numbers::{write_enum, write_flags, write_masked, write_numbers};
+use crate::parts::{write_named, write_number_field};
+use crate::sheet::Sheet;
+use crate::structs::{write_limits, write_pair, write_struct};
+use link_base::rows::form::Width;
+use link_base::rows::label::{KindLabel, Quantity};
+use link_base::views::content::Content;
+use link_base::{Address, NlaBuffer, VlanProtocol};
+use link_show::{TYPE_FLAGS, protocol_name};
+use std::alloc::AllocError;
+use std::net::Ipv6Addr;
+
+/// Writes the content of an attribute. `label` is that of the attribute type. Of a list, the bytes are written.
+pub(crate) fn write_content(
+    sheet: &mut Sheet,
+    label: &KindLabel,
+    content: Content<'_>,
+) -> Result<(), AllocError>
+    ensures { OnOk result (sheet.new ≡ sheet.old ++ json_tokens (content_json (label_of label.now) content.entry)) }
+{
+    match content {
+        Content::Nothing => sheet.boolean(true),
+        Content::Bool(is_on) => sheet.boolean(is_on),
+        Content::Unsigned { number, .. } => sheet.number(number),
+        Content::Signed(number) => sheet.signed(number.into()),
+        Content::Coded { number, .. } | Content::Enum { number, .. } => {
+            write_enum(sheet, label.names, number)
+        }
+        Content::Flags { bits, .. } => write_flags(sheet, label.names, bits),
+        Content::LowFlags(bits) => write_flags(sheet, label.names, bits.into()),
+        Content::MaskedFlags { flags, mask } => write_masked(sheet, label.names, flags, mask),
+        Content::Pair(from, to) => write_pair(sheet, from, to),
+        Content::Protocol(protocol) => write_protocol(sheet, protocol),
+        Content::Mac(address) => sheet.address(&address),
+        Content::Ipv4(address) => sheet.ip(&address.octets()),
+        Content::Ipv6(address) => write_ipv6(sheet, address),
+        Content::Bytes(bytes) => sheet.address(bytes),
+        Content::Struct { layout, bytes } => write_struct(sheet, layout, label.names, bytes),
+        Content::U16s(bytes) => write_numbers(sheet, Width::Two, bytes),
+        Content::U32s(bytes) => write_numbers(sheet, Width::Four, bytes),
+        Content::Limits { name, numbers } => write_limits(sheet, name, numbers),
+        Content::Addresses { list, .. } | Content::List { list, .. } => sheet.opaque(list),
+        Content::Other(payload) => sheet.opaque(payload),
+    }
+}
+
+fn write_ipv6(sheet: &mut Sheet, address: Ipv6Addr) -> Result<(), AllocError>
+    ensures { OnOk result (sheet.new ≡ sheet.old ++ json_tokens (string (ipv6_text (segments_of (sixteen_octets address))))) }
+{
+    let mut octets = [0; 16];
+    address.put(&mut octets);
+    sheet.ip(&octets)
+}
+
+fn write_protocol(sheet: &mut Sheet, protocol: VlanProtocol) -> Result<(), AllocError>
+    ensures { OnOk result (sheet.new ≡ sheet.old ++ json_tokens (protocol_json protocol)) }
+{
+    let number = u16::from(protocol);
+    write_named(sheet, number.into(), Some(protocol_name(protocol)))
+}
+
+/// Writes the member with the unit of a number, if it has one.
+pub(crate) fn write_unit(sheet: &mut Sheet, quantity: Quantity) -> Result<(), AllocError>
+    ensures { OnOk result (sheet.new ≡ sheet.old ++ fields_tokens (unit_fields (unit_of quantity))) }
+{
+    match unit_of(quantity) {
+        Some(unit) => {
+            sheet.key("unit")?;
+            sheet.string(unit)
+        }
+        None => Ok(()),
+    }
+}
+
+/// Returns what numbers count.
+fn unit_of(quantity: Quantity) -> Option<&'static str>
+    ensures { option_map (λ text. text.now) result ≡ unit_of quantity }
+{
+    match quantity {
+        Quantity::ClockTicks => Some("1/100 s"),
+        Quantity::Milliseconds => Some("ms"),
+        Quantity::Seconds => Some("s"),
+        Quantity::BitsPerSecond => Some("bit/s"),
+        Quantity::Ohms => Some("ohm"),
+        Quantity::Nanoseconds => Some("ns"),
+        Quantity::Hertz => Some("Hz"),
+        _ => None,
+    }
+}
+
+/// Writes the value of an attribute that is not decoded.
+pub(crate) fn write_raw(sheet: &mut Sheet, buffer: NlaBuffer<'_>) -> Result<(), AllocError>
+    ensures { OnOk result (sheet.new ≡ sheet.old
+        ++ json_tokens (raw_json (kind_field_of buffer.entry) (payload_of buffer.entry))) }
+{
+    let kind = buffer.kind();
+    sheet.begin_object()?;
+    write_number_field(sheet, "type", kind.into())?;
+    sheet.key("flags")?;
+    write_flags(sheet, TYPE_FLAGS, (buffer.raw_kind() - kind).into())?;
+    sheet.key("hex")?;
+    sheet.hex(buffer.value())?;
+    sheet.end_object()
+}
+
+/// Writes an attribute whose type has no name.
+pub(crate) fn write_unnamed(sheet: &mut Sheet, buffer: NlaBuffer<'_>) -> Result<(), AllocError>
+    ensures { OnOk result (sheet.new ≡ sheet.old
+        ++ json_tokens (unnamed_json (kind_field_of buffer.entry) (payload_of buffer.entry))) }
+{
+    sheet.begin_object()?;
+    sheet.key("name")?;
+    sheet.digits(buffer.kind().into())?;
+    sheet.key("value")?;
+    write_raw(sheet, buffer)?;
+    sheet.end_object()
+}
