@@ -6,3 +6,6 @@ pub mod Objects
 pub mod Valued
 pub mod LinkParts
 pub mod DocumentParts
+pub mod OtherParts
+pub mod Depths
+pub mod DocumentDepths

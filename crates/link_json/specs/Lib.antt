@@ -4,3 +4,4 @@ pub mod Value
 pub mod List
 pub mod Link
 pub mod Message
+pub mod Other

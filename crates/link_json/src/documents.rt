@@ -66,7 +66,7 @@ pub(crate) fn store_message<P: Place>(
 }
 
 /// Writes the last member of a document, and ends it.
-fn end_document(sheet: &mut Sheet, well: bool) -> Result<(), AllocError>
+pub(crate) fn end_document(sheet: &mut Sheet, well: bool) -> Result<(), AllocError>
     ensures { OnOk result (sheet.new ≡ sheet.old
         ++ (fields_tokens ((codes "ok", boolean well) ∷ []) ++ end_object ∷ [])) }
 {

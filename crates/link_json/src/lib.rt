@@ -1,7 +1,8 @@
 //! Link attributes and messages as JSON: a document for each message, which is a line.
 //!
 //! [`write_documents`] writes the documents for the messages of a buffer. Each begins with the members of a [`Place`], which
-//! says where it is from. A [`Sheet`] holds a document while it is written, and is used again for the next.
+//! says where it is from. [`write_place`], [`write_fault`], [`write_list_document`] and [`write_check`] write a document that
+//! is not of a message. A [`Sheet`] holds a document while it is written, and is used again for the next.
 #![tactic(auto)]
 
 /// Attribute types, each with the name of its constant.
@@ -13,11 +14,13 @@ macro_rules! types {
 
 mod documents;
 mod infos;
+pub mod laws;
 mod links;
 mod lists;
 mod messages;
 mod names;
 mod numbers;
+mod others;
 mod parts;
 mod place;
 mod replies;
@@ -27,5 +30,7 @@ mod texts;
 mod values;
 
 pub use messages::{Failure, print_document, write_documents};
+pub use others::{write_check, write_fault, write_list_document, write_place};
+pub use parts::{write_named, write_number_field};
 pub use place::Place;
 pub use sheet::Sheet;

@@ -1,8 +1,10 @@
 //! Messages, and buffers of them: a document for each.
 
-ghost use Rattle.std.specs.Prelude.{◌≡◌, ◌++◌, ◌∷◌, [], true, drop, Err, OnOk, IfOk};
+ghost use Rattle.std.specs.Prelude.{◌≡◌, ◌≤◌, ◌++◌, ◌∷◌, [], true, drop, Some, Err, OnOk, IfOk};
 ghost use Rattle.std.specs.Io.KnownBytes.{Appends};
+ghost use Rattle.json.specs.Json.{Json, document};
 ghost use Rattle.json.specs.Print.{print};
+ghost use Rattle.json.specs.Tree.{json_tokens, depth};
 ghost use Rattle.link_messages.specs.Message.{NextOfAny};
 ghost use Rattle.link_json.specs.Message.{ShowsMessages, ShowsEnd, ShowsMessage, WritesLines, whole_document, document_line};
 
@@ -38,10 +40,8 @@ pub fn write_documents<P: Place, W: Write>(
     buffer: &[u8],
     writer: &mut W,
 ) -> Result<bool, Failure>
-    requires { sheet.old ≡ [] }
-    ensures shown { IfOk result (WritesLines (ShowsMessages (P.fields place.now) buffer.now)
+    ensures { IfOk result (WritesLines (ShowsMessages (P.fields place.now) buffer.now)
         (W.contents writer.old) (W.contents writer.new)) }
-    ensures cleared { IfOk result (λ _. sheet.new ≡ []) }
 {
     let mut whole = true;
     let mut at = 0;
@@ -75,11 +75,10 @@ fn write_empty<P: Place, W: Write>(
     place: &P,
     writer: &mut W,
 ) -> Result<(), Failure>
-    requires { sheet.old ≡ [] }
-    ensures shown { OnOk result (Appends (W.contents writer.old) (W.contents writer.new)
+    ensures { OnOk result (Appends (W.contents writer.old) (W.contents writer.new)
         (document_line (whole_document (P.fields place.now) [] true))) }
-    ensures cleared { OnOk result (sheet.new ≡ []) }
 {
+    sheet.clear(alloc);
     match store_empty(sheet, place) {
         Ok(()) => print_document(alloc, sheet, writer),
         Err(_) => Err(Failure::Memory),
@@ -97,15 +96,14 @@ fn write_rest<P: Place, W: Write>(
     error: MessageError,
     writer: &mut W,
 ) -> Result<bool, Failure>
-    requires empty { sheet.old ≡ [] }
-    requires none { NextOfAny at (drop at buffer.now) (Err error) }
-    ensures shown { IfOk result (WritesLines (ShowsEnd (P.fields place.now) buffer.now at)
+    requires { NextOfAny at (drop at buffer.now) (Err error) }
+    ensures { IfOk result (WritesLines (ShowsEnd (P.fields place.now) buffer.now at)
         (W.contents writer.old) (W.contents writer.new)) }
-    ensures cleared { IfOk result (λ _. sheet.new ≡ []) }
 {
     if are_zeros_after(at, &buffer[at..]) {
         return Ok(true);
     }
+    sheet.clear(alloc);
     match store_error(sheet, place, error) {
         Ok(()) => {}
         Err(_) => return Err(Failure::Memory),
@@ -124,11 +122,10 @@ fn write_line<P: Place, W: Write>(
     message: &Message<'_>,
     writer: &mut W,
 ) -> Result<bool, Failure>
-    requires { sheet.old ≡ [] }
-    ensures shown { IfOk result (WritesLines (ShowsMessage (P.fields place.now) message.now)
+    ensures { IfOk result (WritesLines (ShowsMessage (P.fields place.now) message.now)
         (W.contents writer.old) (W.contents writer.new)) }
-    ensures cleared { IfOk result (λ _. sheet.new ≡ []) }
 {
+    sheet.clear(alloc);
     let well = match store_message(sheet, place, message) {
         Ok(well) => well,
         Err(_) => return Err(Failure::Memory),
@@ -139,13 +136,15 @@ fn write_line<P: Place, W: Write>(
     }
 }
 
-/// Writes the document of a sheet as a line, and clears the sheet.
+/// Writes the document of a sheet as a line, and clears the sheet. The line reads back as the document, if that does not
+/// nest deeper than 128 arrays and objects.
 pub fn print_document<W: Write>(
     alloc: Global,
     sheet: &mut Sheet,
     writer: &mut W,
 ) -> Result<(), Failure>
-    ensures shown { OnOk result (Appends (W.contents writer.old) (W.contents writer.new) (print sheet.old ++ 10 ∷ [])) }
+    ensures line { OnOk result (Appends (W.contents writer.old) (W.contents writer.new) (print sheet.old ++ 10 ∷ [])) }
+    ensures reads { (j : Json) → sheet.old ≡ json_tokens j → depth j ≤ 128 → document (print sheet.old) ≡ Some j }
     ensures cleared { sheet.new ≡ [] }
 {
     match sheet.write_line(alloc, writer) {

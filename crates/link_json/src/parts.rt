@@ -19,11 +19,7 @@ pub(crate) fn write_name(sheet: &mut Sheet, name: Option<&str>) -> Result<(), Al
 }
 
 /// Writes a number with its name.
-pub(crate) fn write_named(
-    sheet: &mut Sheet,
-    number: u64,
-    name: Option<&str>,
-) -> Result<(), AllocError>
+pub fn write_named(sheet: &mut Sheet, number: u64, name: Option<&str>) -> Result<(), AllocError>
     ensures { OnOk result (sheet.new ≡ sheet.old ++ json_tokens (named_json number (option_map (λ text. text.now) name.entry))) }
 {
     sheet.begin_object()?;
@@ -35,11 +31,7 @@ pub(crate) fn write_named(
 }
 
 /// Writes a member that is a number.
-pub(crate) fn write_number_field(
-    sheet: &mut Sheet,
-    name: &str,
-    number: u64,
-) -> Result<(), AllocError>
+pub fn write_number_field(sheet: &mut Sheet, name: &str, number: u64) -> Result<(), AllocError>
     ensures { OnOk result (sheet.new ≡ sheet.old ++ fields_tokens ((name.now, number_json number) ∷ [])) }
 {
     sheet.key(name)?;

@@ -3,6 +3,7 @@
 ghost use Rattle.std.specs.Prelude.{◌≡◌, ◌++◌, ◌∷◌, [], List, OnOk, decimal};
 ghost use Rattle.std.specs.Fmt.{signed_decimal};
 ghost use Rattle.std.specs.Io.KnownBytes.{Appends};
+ghost use Rattle.json.specs.Lex.{tokens};
 ghost use Rattle.json.specs.Print.{print};
 ghost use Rattle.json.specs.Token.{Token, tokens_code, begin_object, end_object, begin_array, end_array, key, string, number, boolean, null};
 
@@ -42,21 +43,44 @@ impl Sheet {
         }
     }
 
-    /// Writes the document as a line, and clears the sheet.
+    /// Writes the document as a line, and clears the sheet. The tokens of the line are those of the sheet.
     ///
     /// # Errors
     ///
     /// That of the writer.
     pub(crate) fn write_line<W: Write>(&mut self, alloc: Global, writer: &mut W) -> io::Result<()>
         ensures line { OnOk result (Appends (W.contents writer.old) (W.contents writer.new) (print self.old ++ 10 ∷ [])) }
+        ensures reads_back { tokens (print self.old) ≡ self.old }
         ensures cleared { self.new ≡ [] }
     {
-        let full = mem::replace(&mut self.writer, Writer::new(Vec::new(alloc)));
-        let mut line = full.into_inner();
+        let line = self.take(alloc);
         let result = write_with_end(writer, &line);
+        self.reuse(line);
+        result
+    }
+
+    /// Clears the sheet.
+    pub fn clear(&mut self, alloc: Global)
+        ensures { self.new ≡ [] }
+    {
+        let line = self.take(alloc);
+        self.reuse(line);
+    }
+
+    /// Returns the text of the document, whose tokens are those of the sheet.
+    fn take(&mut self, alloc: Global) -> Vec<u8>
+        ensures text { result.items ≡ print self.old }
+        ensures reads_back { tokens (print self.old) ≡ self.old }
+    {
+        mem::replace(&mut self.writer, Writer::new(Vec::new(alloc))).into_inner()
+    }
+
+    /// Clears the sheet, which then uses the memory of `line`.
+    fn reuse(&mut self, mut line: Vec<u8>)
+        ensures { self.new ≡ [] }
+    {
         line.clear();
         self.writer = Writer::new(line);
-        result
     }
 
     /// Begins an object.

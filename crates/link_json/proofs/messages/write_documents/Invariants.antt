@@ -1,9 +1,9 @@
-use Rattle.std.proofs.Common.{◌≡◌, ◌-◌, [], length}
+use Rattle.std.proofs.Common.{◌-◌, length}
 use Rattle.link_json.proofs.DocumentParts.{LinesTo}
 use Rattle.link_json.proofs.messages.write_documents.Given as goal
 
 abbrev pub invariant-loop-message : goal.invariant-loop-message
-invariant-loop-message g l = LinesTo (g.P.Place.fields l.place) l.buffer l.at (g.W.Write.contents l.fn.writer) (g.W.Write.contents l.writer) l.whole × (l.sheet ≡ [])
+invariant-loop-message g l = LinesTo (g.P.Place.fields l.place) l.buffer l.at (g.W.Write.contents l.fn.writer) (g.W.Write.contents l.writer) l.whole
 
 abbrev pub decreases-loop-message : goal.decreases-loop-message
 decreases-loop-message g l = length l.buffer - l.at

@@ -1,0 +1,5 @@
+use Rattle.link_json.proofs.DocumentDepths.{messages_in}
+use Rattle.link_json.proofs.laws.shallow_messages.Goals as goal
+
+pub returns : goal.returns
+returns c = messages_in
