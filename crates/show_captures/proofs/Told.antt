@@ -8,7 +8,7 @@ use Rattle.link_capture.specs.Form.{begins_magic}
 use Rattle.link_capture.proofs.Forms.{told}
 use Rattle.program.specs.Printing.{FlushesOrFails}
 use Rattle.show_lines.specs.declared.arguments.Options.{Options}
-use Rattle.show_lines.specs.Show.{ShowsAll}
+use Rattle.show_lines.specs.Show.{ShowsAll, by_options}
 use Rattle.show_lines.specs.Printed.{Repeats}
 use Rattle.show_lines.specs.Run as lines
 use Rattle.show_lines.proofs.Printed.{all_repeats}
@@ -31,14 +31,14 @@ module _ {options : Options} where
   from_capture form first r s w v whole h =
       record { text = h.text; out = h.out; read = h.read; shows = h.shows; written = h.written; printable = λ plain more may bytes. capture_texts options plain form (first ++ (h.text ++ more)) h.out whole bytes (h.shows more may) }
 
-  pub from_lines : (first : List ℕ) (r s w v : Option (List ℕ)) (whole : Bool) → lines.Runs options first r s w v whole → RunsFrom options None first r s w v whole
+  pub from_lines : (first : List ℕ) (r s w v : Option (List ℕ)) (whole : Bool) → lines.Runs (by_options options) first r s w v whole → RunsFrom options None first r s w v whole
   from_lines first r s w v whole h = record {
     text = h.text;
     out = h.out;
     read = h.read;
-    shows = λ more may. subst (λ l. ShowsAll options (first ++ l) h.out whole) (sym (all_of more may)) h.shows;
+    shows = λ more may. subst (λ l. ShowsAll (by_options options) (first ++ l) h.out whole) (sym (all_of more may)) h.shown;
     written = h.written;
-    printable = λ plain more may. subst (λ l. Repeats (first ++ l) h.out) (sym (all_of more may)) (all_repeats options plain (first ++ h.text) h.out whole h.shows);
+    printable = λ plain more may. subst (λ l. Repeats (first ++ l) h.out) (sym (all_of more may)) (all_repeats options (first ++ h.text) h.out whole plain h.shown);
   }
     where
       all_of : (more : List ℕ) → MayFollow s more → h.text ++ more ≡ h.text

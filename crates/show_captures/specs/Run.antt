@@ -8,13 +8,13 @@ use Rattle.link_capture.specs.Form.{form_of}
 use Rattle.link_show.specs.Printable.{AreTexts}
 use Rattle.show_lines.specs.declared.arguments.Options.{Options}
 use Rattle.show_lines.specs.declared.arguments.Format.TheVariants.{Plain}
-use Rattle.show_lines.specs.Show.{ShowsAll}
+use Rattle.show_lines.specs.Show.{ShowsAll, by_options}
 use Rattle.show_lines.specs.Printed.{Repeats}
 use Rattle.show_captures.specs.Event.{ShowsCapture}
 
 -- the output for an input: its form, if it is no lines, is that of a raw stream, or by its first bytes
 abbrev pub ShowsForm : Options → Option Form → List ℕ → List ℕ → Bool → Type 0
-ShowsForm options None = ShowsAll options
+ShowsForm options None = ShowsAll (by_options options)
 ShowsForm options (Some form) = ShowsCapture options form
 
 -- the form of an input that begins with s; none, if it has lines

@@ -100,7 +100,7 @@ fn show_from<R: Read, W: Write + Drop>(
 {
     match form {
         Some(form) => show_capture(alloc, options, form, first, chunk, reader, writer),
-        None => show_lines(alloc, options, first, chunk, reader, writer),
+        None => show_lines(alloc, &options, &mut (), first, chunk, reader, writer),
     }
 }
 

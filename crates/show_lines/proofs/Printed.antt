@@ -1,7 +1,6 @@
 -- What is on the lines of the output, in the plain form: lines of the input, and printable ASCII.
-use Rattle.std.proofs.Common.{◌≡◌, ◌⊎◌, ℕ, suc, ◌<◌, slice_index, Bool, true, List, [], ◌∷◌, ◌++◌, Option, Result, Ok, Err, refl, sym, ap₂, subst, ◌∙◌, inl, inr, ⊎_elim, codes, arith}
+use Rattle.std.proofs.Common.{◌≡◌, ◌⊎◌, ℕ, suc, ◌<◌, slice_index, Bool, true, List, [], ◌∷◌, ◌++◌, Result, Ok, Err, refl, sym, ap₂, subst, ◌∙◌, inl, inr, ⊎_elim, codes}
 use Rattle.std.specs.List.{flat_map, AllZip}
-use Rattle.std.proofs.KnownBytes.{Appends-kept}
 use Rattle.std.proofs.lemmas.List.{append-nil}
 use Rattle.std.proofs.lemmas.Grind.{flat_map-append}
 use Rattle.hex.specs.Hex.{decode_of}
@@ -19,9 +18,8 @@ use Rattle.show_lines.specs.declared.asking.Asked.{Asked}
 use Rattle.show_lines.specs.declared.asking.Asked.TheVariants.{Messages, Attributes, Verdict}
 use Rattle.show_lines.specs.declared.arguments.Options.{Options}
 use Rattle.show_lines.specs.declared.arguments.Format.TheVariants.{Plain}
-use Rattle.show_lines.specs.Show.{ShowsPlain, ShowsAs, ShowsDigits, ShowsBelow, Known, Unknown, Shows, TooLong, PassedOver, Answered, ShowsAll}
-use Rattle.show_lines.specs.Run.{Runs}
-use Rattle.show_lines.specs.Printed.{AreLinesFrom, IsOneOf, Repeats, Prints}
+use Rattle.show_lines.specs.Show.{ShowsPlain, ShowsAs, ShowsDigits, ShowsBelow, Known, Unknown, Shows, TooLong, PassedOver, Answered, by_options, numbered, ShowsAll}
+use Rattle.show_lines.specs.Printed.{AreLinesFrom, IsOneOf, Repeats}
 use Rattle.show_lines.proofs.Cuts.{all_append, all_each}
 
 -- ---- lines from somewhere
@@ -75,29 +73,18 @@ module _ (options : Options) (plain : options.format ≡ Plain) where
       let now = subst (λ format. ShowsBelow (ShowsAs format options.check) text below well) plain shown in
       rw is (made_and (λ l. l ≡ text) (line text) below (made_line (λ l. l ≡ text) text refl) (made_texts (λ l. l ≡ text) below (below_texts options.check text below well now)))
 
-  answers_made : (xs : List (List ℕ)) (answers : List (List ℕ × Bool)) → AllZip (λ x a. Shows options x a.0 a.1) xs answers → AreLinesFrom (IsOneOf xs) (flat_map (λ a. a.0) answers)
-  answers_made [] [] h = made_none (IsOneOf [])
-  answers_made [] (a ∷ answers) h = absurd h
-  answers_made (x ∷ xs) [] h = absurd h
-  answers_made (x ∷ xs) (a ∷ answers) h =
+  answers_made : (n : ℕ) (lines : List (List ℕ)) (answers : List (List ℕ × Bool)) → AllZip (λ x a. by_options options x a.0 a.1) (numbered n lines) answers → AreLinesFrom (IsOneOf lines) (flat_map (λ a. a.0) answers)
+  answers_made n [] [] h = made_none (IsOneOf [])
+  answers_made n [] (a ∷ answers) h = absurd h
+  answers_made n (x ∷ xs) [] h = absurd h
+  answers_made n (x ∷ xs) (a ∷ answers) h =
       made_and (IsOneOf (x ∷ xs)) a.0 (flat_map (λ b. b.0) answers) (made_wider (λ l. l ≡ x) (IsOneOf (x ∷ xs)) a.0 (λ l e. inl e) (line_made x a.0 a.1 h.0))
-      (made_wider (IsOneOf xs) (IsOneOf (x ∷ xs)) (flat_map (λ b. b.0) answers) (λ l e. inr e) (answers_made xs answers h.1))
+      (made_wider (IsOneOf xs) (IsOneOf (x ∷ xs)) (flat_map (λ b. b.0) answers) (λ l e. inr e) (answers_made (suc n) xs answers h.1))
 
-  pub all_repeats : (text out : List ℕ) (whole : Bool) → ShowsAll options text out whole → Repeats text out
-  all_repeats text out whole s = record {
-    input = s.lines;
-    cut = s.cut;
-    made = subst (AreLinesFrom (IsOneOf s.lines)) (sym s.shown.joined) (answers_made s.lines s.shown.answers s.shown.each);
-  }
-
--- what was printed for an input
-pub run_prints : (options : Options) (first : List ℕ) (left_before left_after held_before held_after : Option (List ℕ)) (whole : Bool) → options.format ≡ Plain → Runs options first left_before left_after held_before held_after whole
-    → Prints first left_before left_after held_before held_after
-run_prints options first left_before left_after held_before held_after whole plain r = record {
-  text = r.text;
-  out = r.out;
-  read = r.read;
-  end = r.end;
-  written = r.written;
-  lines = all_repeats options plain (first ++ r.text) r.out whole r.shows;
+-- the output for all lines
+pub all_repeats : (options : Options) (text out : List ℕ) (whole : Bool) → options.format ≡ Plain → ShowsAll (by_options options) text out whole → Repeats text out
+all_repeats options text out whole plain s = record {
+  input = s.lines;
+  cut = s.cut;
+  made = subst (AreLinesFrom (IsOneOf s.lines)) (sym s.shown.joined) (answers_made options plain 1 s.lines s.shown.answers s.shown.each);
 }

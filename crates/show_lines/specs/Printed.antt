@@ -1,7 +1,6 @@
 -- What is on the lines of the output, in the plain form.
-use Rattle.std.specs.Prelude.{◌≡◌, ◌⊎◌, ℕ, List, [], ◌∷◌, ◌++◌, Option}
+use Rattle.std.specs.Prelude.{◌≡◌, ◌⊎◌, ℕ, List, [], ◌∷◌}
 use Rattle.std.specs.List.{flat_map, AllByRecursion}
-use Rattle.std.specs.Io.KnownBytes.{Appends, Consumes, IsAtEnd}
 use Rattle.netlink_packet_route.specs.Report.{line}
 use Rattle.link_show.specs.Printable.{IsText}
 use Rattle.show_lines.specs.Show.{AreLines}
@@ -22,13 +21,3 @@ pub record Repeats (text out : List ℕ) : Type 0 where
   pub input : List (List ℕ)
   pub cut : AreLines text input
   pub made : AreLinesFrom (IsOneOf input) out
-
--- the rest of the reader was read up to its end, and every line that was written is printable ASCII or a line of it, behind
--- `first`
-pub record Prints (first : List ℕ) (left_before left_after held_before held_after : Option (List ℕ)) : Type 0 where
-  pub text : List ℕ
-  pub out : List ℕ
-  pub read : Consumes left_before left_after text
-  pub end : IsAtEnd left_after
-  pub written : Appends held_before held_after out
-  pub lines : Repeats (first ++ text) out

@@ -1,5 +1,5 @@
 -- The progress of a run through its input.
-use Rattle.std.specs.Prelude.{◌≡◌, ◌≢◌, ◌⊎◌, ℕ, ◌+◌, Bool, ◌&&◌, List, [], ◌++◌, take, Option, Result, Ok, Err}
+use Rattle.std.specs.Prelude.{◌≡◌, ◌≢◌, ◌⊎◌, ℕ, suc, ◌+◌, Bool, ◌&&◌, List, [], ◌++◌, length, take, Option, Result, Ok, Err}
 use Rattle.std.specs.List.{flat_map, AllByRecursion}
 use Rattle.std.specs.Io.KnownBytes.{Appends, Keeps}
 use Rattle.netlink_packet_route.specs.Report.{line, most_text}
@@ -8,7 +8,7 @@ use Rattle.show_lines.specs.declared.asking.Asked.{Asked}
 use Rattle.show_lines.specs.declared.running.Stop.{Stop}
 use Rattle.show_lines.specs.declared.running.Stop.TheVariants.{Memory, Reader, Writer}
 use Rattle.link_show.specs.List.{EachShown}
-use Rattle.show_lines.specs.Show.{Form, Shows, ShowsBare, ShowsBelow, IsUnbroken}
+use Rattle.show_lines.specs.Show.{Form, Shower, numbered, ShowsBare, ShowsBelow, IsUnbroken}
 
 -- how many bytes of a line are kept at most: one more than the maximum length of a line
 abbrev pub most_held : ℕ
@@ -18,21 +18,26 @@ most_held = most_text + 1
 abbrev pub held_of : List ℕ → List ℕ
 held_of text = take most_held text
 
--- the output of all complete lines is written, and what follows the last LF is kept
-pub record Shown (options : Options) (text out held : List ℕ) (whole : Bool) : Type 0 where
+-- what is kept of a line tells what is shown for it
+abbrev pub IsToldByHeld : Shower → Type 0
+IsToldByHeld shows = (n : ℕ) (text out : List ℕ) (read : Bool) → shows (n, held_of text) out read → shows (n, text) out read
+
+-- the output of all complete lines is written, and what follows the last LF is kept, with the number of its line
+pub record Shown (shows : Shower) (text out : List ℕ) (held : ℕ × List ℕ) (whole : Bool) : Type 0 where
   pub lines : List (List ℕ)
   pub current : List ℕ
   pub cut : text ≡ flat_map line lines ++ current
   pub unbroken : AllByRecursion IsUnbroken lines
   pub open_end : IsUnbroken current
-  pub is_held : held ≡ held_of current
-  pub shown : EachShown (Shows options) lines out whole
+  pub counted : held.0 ≡ suc (length lines)
+  pub is_held : held.1 ≡ held_of current
+  pub shown : EachShown shows (numbered 1 lines) out whole
 
 -- the next piece of the input, after any beginning: what is kept then, what is written, and whether none of the lines
 -- that end in the piece has an error
-abbrev pub Goes : Options → List ℕ → List ℕ → List ℕ → List ℕ → Bool → Type 0
-Goes options before after piece written all =
-    (text out : List ℕ) (whole : Bool) → Shown options text out before whole → Shown options (text ++ piece) (out ++ written) after (whole && all)
+abbrev pub Goes : Shower → ℕ × List ℕ → ℕ × List ℕ → List ℕ → List ℕ → Bool → Type 0
+Goes shows before after piece written all =
+    (text out : List ℕ) (whole : Bool) → Shown shows text out before whole → Shown shows (text ++ piece) (out ++ written) after (whole && all)
 
 -- ---- what functions write
 
@@ -40,9 +45,9 @@ Goes options before after piece written all =
 abbrev pub Grows : Option (List ℕ) → Option (List ℕ) → Type 0
 Grows held_before held_after = (out : List ℕ) × Appends held_before held_after out
 
--- the output for a line was written
-abbrev pub WritesLine : Options → List ℕ → Option (List ℕ) → Option (List ℕ) → Bool → Type 0
-WritesLine options text held_before held_after read = (out : List ℕ) × Shows options text out read × Appends held_before held_after out
+-- the output for a line was written; the line may have its number with it
+abbrev pub WritesLine : {X : Type 0} → (X → List ℕ → Bool → Type 0) → X → Option (List ℕ) → Option (List ℕ) → Bool → Type 0
+WritesLine shows x held_before held_after read = (out : List ℕ) × shows x out read × Appends held_before held_after out
 
 -- a line that is not ignored was written, and the output that follows it
 abbrev pub WritesBelow : Form → List ℕ → Option (List ℕ) → Option (List ℕ) → Bool → Type 0
@@ -57,14 +62,14 @@ abbrev pub WritesMessages : Options → List ℕ → Option (List ℕ) → Optio
 WritesMessages options bytes held_before held_after well = (out : List ℕ) × ShowsBare options bytes out well × Appends held_before held_after out
 
 -- the output for what follows the last LF was written, if that is not empty; and whether no line has an error
-abbrev pub WritesRest : Options → List ℕ → Bool → Option (List ℕ) → Option (List ℕ) → Bool → Type 0
-WritesRest options text whole held_before held_after all =
-    ((text ≡ []) × Keeps held_before held_after × (all ≡ whole))
-    ⊎ ((text ≢ []) × ((read : Bool) × WritesLine options text held_before held_after read × (all ≡ (whole && read))))
+abbrev pub WritesRest : Shower → ℕ × List ℕ → Bool → Option (List ℕ) → Option (List ℕ) → Bool → Type 0
+WritesRest shows held whole held_before held_after all =
+    ((held.1 ≡ []) × Keeps held_before held_after × (all ≡ whole))
+    ⊎ ((held.1 ≢ []) × ((read : Bool) × WritesLine shows held held_before held_after read × (all ≡ (whole && read))))
 
 -- the output for a piece of the input was written
-abbrev pub WritesPiece : Options → List ℕ → List ℕ → List ℕ → Option (List ℕ) → Option (List ℕ) → Bool → Type 0
-WritesPiece options before after piece held_before held_after all = (out : List ℕ) × Goes options before after piece out all × Appends held_before held_after out
+abbrev pub WritesPiece : Shower → ℕ × List ℕ → ℕ × List ℕ → List ℕ → Option (List ℕ) → Option (List ℕ) → Bool → Type 0
+WritesPiece shows before after piece held_before held_after all = (out : List ℕ) × Goes shows before after piece out all × Appends held_before held_after out
 
 -- if the call failed with `Memory`, then P holds
 abbrev pub OnMemory : {X : Type 0} → Result X Stop → Type 0 → Type 0

@@ -1,5 +1,5 @@
 -- The output for a line, and for an input of several lines.
-use Rattle.std.specs.Prelude.{◌≡◌, ◌≢◌, ◌⊎◌, ℕ, ◌<◌, ◌≤◌, Bool, true, false, List, [], ◌∷◌, ◌++◌, length, Result, Ok, Err, codes}
+use Rattle.std.specs.Prelude.{◌≡◌, ◌≢◌, ◌⊎◌, ℕ, suc, ◌<◌, ◌≤◌, Bool, true, false, List, [], ◌∷◌, ◌++◌, length, Result, Ok, Err, codes}
 use Rattle.std.specs.List.{flat_map, AllByRecursion}
 use Rattle.hex.specs.Hex.{decode_of}
 use Rattle.hex.specs.declared.error.FromHexError.{FromHexError}
@@ -123,8 +123,21 @@ pub data AreLines (text : List ℕ) (lines : List (List ℕ)) : Type 0 where
   Open : (front : List (List ℕ)) (last : List ℕ) → AllByRecursion IsUnbroken front → IsUnbroken last → 0 < length last → lines ≡ front ++ last ∷ [] → text ≡ flat_map line front ++ last
       → AreLines text lines
 
+-- what is written for a line with this number, from 1: its output, and whether the line has no error
+abbrev pub Shower : Type 1
+Shower = ℕ × List ℕ → List ℕ → Bool → Type 0
+
+-- by options, which write the same whatever the number of a line
+abbrev pub by_options : Options → Shower
+by_options options x out read = Shows options x.1 out read
+
+-- lines, each with its number, if the first has the number n
+abbrev pub numbered : ℕ → List (List ℕ) → List (ℕ × List ℕ)
+numbered n [] = []
+numbered n (text ∷ lines) = (n, text) ∷ numbered (suc n) lines
+
 -- the outputs for the lines of a text, in order, and whether no line has an error
-pub record ShowsAll (options : Options) (text out : List ℕ) (whole : Bool) : Type 0 where
+pub record ShowsAll (shows : Shower) (text out : List ℕ) (whole : Bool) : Type 0 where
   pub lines : List (List ℕ)
   pub cut : AreLines text lines
-  pub shown : EachShown (Shows options) lines out whole
+  pub shown : EachShown shows (numbered 1 lines) out whole

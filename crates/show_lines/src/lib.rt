@@ -9,14 +9,17 @@ mod asking;
 mod bare;
 mod debug;
 mod held;
+pub mod laws;
 mod lists;
 mod messages;
 mod plain;
 mod replies;
 mod running;
+mod show;
 mod showing;
 
 pub use arguments::{Format, Options, Request, Task, parse, wrong};
 pub use bare::write_bare;
 pub use replies::{Reply, USAGE, VERSION};
 pub use running::{Stop, read_more, show_lines};
+pub use show::ShowLines;

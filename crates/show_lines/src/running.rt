@@ -1,19 +1,16 @@
 //! Reads lines from any reader, and writes what is printed for them to any writer.
 
-ghost use Rattle.std.specs.Prelude.{◌≡◌, ◌<◌, ◌++◌, [], length, IfOk, MatchOption};
+ghost use Rattle.std.specs.Prelude.{◌≡◌, ◌<◌, ◌++◌, suc, [], length, IfOk, MatchOption};
 ghost use Rattle.std.specs.Io.{ReadsAtMost};
 ghost use Rattle.std.specs.Io.Buffered.{writer_buffer, writer_contents, writer_inner};
-ghost use Rattle.std.specs.Io.KnownBytes.{Keeps, ReadConsumes};
+ghost use Rattle.std.specs.Io.KnownBytes.{ReadConsumes};
 ghost use Rattle.netlink_packet_route.specs.Report.{line};
 ghost use Rattle.show_lines.specs.Show.{IsUnbroken};
 ghost use Rattle.show_lines.specs.Progress.{held_of, Grows, WritesLine, WritesPiece, WritesRest, OnMemory};
 ghost use Rattle.show_lines.specs.Run.{Runs};
-ghost use Rattle.show_lines.specs.Printed.{Prints};
-ghost use Rattle.show_lines.specs.declared.arguments.Format.TheVariants.{Plain};
 
-use crate::arguments::Options;
 use crate::held::Held;
-use crate::showing::show;
+use crate::show::ShowLines;
 use std::alloc::Global;
 use std::io;
 use std::io::{BufWriter, Read, Write};
@@ -35,38 +32,35 @@ pub enum Stop {
 ///
 /// # Errors
 ///
-/// A [`Stop`].
-pub fn show_lines<R: Read, W: Write + Drop>(
+/// A [`Stop`]: `Reader` also if the number of the next line would be 2<sup>64</sup>.
+pub fn show_lines<S: ShowLines, R: Read, W: Write + Drop>(
     alloc: Global,
-    options: Options,
+    shown: &S,
+    paper: &mut S::Paper,
     first: &[u8],
     chunk: &mut [u8],
     reader: &mut R,
     writer: &mut BufWriter<W>,
 ) -> Result<bool, Stop>
     requires { 0 < length chunk.old }
-    ensures shown { IfOk result (Runs options first.now (R.remaining reader.old) (R.remaining reader.new)
-        (writer_contents W.contents writer.old) (writer_contents W.contents writer.new)) }
-    // In the plain form, every line that is written is printable ASCII or a line of the input.
-    ensures printable { options.format ≡ Plain → IfOk result (λ _. Prints first.now
-        (R.remaining reader.old) (R.remaining reader.new)
+    ensures shown { IfOk result (Runs (S.shows shown.now) first.now (R.remaining reader.old) (R.remaining reader.new)
         (writer_contents W.contents writer.old) (writer_contents W.contents writer.new)) }
     ensures memory { OnMemory result
         (Grows (writer_contents W.contents writer.old) (writer_contents W.contents writer.new)) }
 {
     let mut held = Held::new(alloc);
-    let mut whole = match feed(alloc, options, &mut held, first, writer) {
+    let mut whole = match feed(alloc, shown, paper, &mut held, first, writer) {
         Ok(read) => read,
         Err(stop) => return Err(stop),
     };
     for _ in 0..u64::MAX {
         let count = match read_more(reader, chunk, writer) {
-            Ok(0) => return end_text(alloc, options, &held, whole, writer),
+            Ok(0) => return end_text(alloc, shown, paper, &held, whole, writer),
             Ok(count) => count,
             Err(_) => return Err(Stop::Reader),
         };
         let (front, _) = chunk.split_at(count);
-        match feed(alloc, options, &mut held, front, writer) {
+        match feed(alloc, shown, paper, &mut held, front, writer) {
             Ok(read) => whole &= read,
             Err(stop) => return Err(stop),
         }
@@ -90,14 +84,15 @@ pub fn read_more<R: Read, W: Write + Drop>(
 
 /// Processes the lines that end in `chunk`, flushes the output, and keeps what follows the last LF. Returns whether none
 /// of these lines has an error.
-fn feed<W: Write + Drop>(
+fn feed<S: ShowLines, W: Write + Drop>(
     alloc: Global,
-    options: Options,
+    shown: &S,
+    paper: &mut S::Paper,
     held: &mut Held,
     chunk: &[u8],
     writer: &mut BufWriter<W>,
 ) -> Result<bool, Stop>
-    ensures shown { IfOk result (WritesPiece options held.old held.new chunk.now
+    ensures shown { IfOk result (WritesPiece (S.shows shown.now) held.old held.new chunk.now
         (writer_contents W.contents writer.old) (writer_contents W.contents writer.new)) }
     ensures flushed { IfOk result (λ _. writer_buffer writer.new ≡ []) }
     ensures memory { OnMemory result
@@ -106,7 +101,7 @@ fn feed<W: Write + Drop>(
     let mut whole = true;
     let mut rest = chunk;
     while let Some((piece, after)) = split_line(rest) {
-        match end_line(alloc, options, held, piece, writer) {
+        match end_line(alloc, shown, paper, held, piece, writer) {
             Ok(read) => whole &= read,
             Err(stop) => return Err(stop),
         }
@@ -134,43 +129,51 @@ fn split_line(bytes: &[u8]) -> Option<(&[u8], &[u8])>
 }
 
 /// Processes the line that ends with `piece`.
-fn end_line<W: Write>(
+fn end_line<S: ShowLines, W: Write>(
     alloc: Global,
-    options: Options,
+    shown: &S,
+    paper: &mut S::Paper,
     held: &mut Held,
     piece: &[u8],
     writer: &mut W,
 ) -> Result<bool, Stop>
-    ensures shown { IfOk result (WritesLine options (held_of (held.old ++ piece.now))
+    ensures shown { IfOk result (WritesLine (S.shows shown.now) (held.old.0, held_of (held.old.1 ++ piece.now))
         (W.contents writer.old) (W.contents writer.new)) }
-    ensures forgotten { IfOk result (λ _. held.new ≡ []) }
-    ensures memory { OnMemory result (Keeps (W.contents writer.old) (W.contents writer.new)) }
+    ensures forgotten { IfOk result (λ _. held.new ≡ (suc held.old.0, [])) }
+    ensures memory { OnMemory result (Grows (W.contents writer.old) (W.contents writer.new)) }
 {
     match held.add(piece) {
         Ok(()) => {}
         Err(_) => return Err(Stop::Memory),
     }
-    let read = show(alloc, options, held.bytes(), writer);
-    held.clear();
-    read
+    let read = match shown.show_line(alloc, paper, held.number(), held.bytes(), writer) {
+        Ok(read) => read,
+        Err(stop) => return Err(stop),
+    };
+    match held.begin_next() {
+        Ok(()) => Ok(read),
+        Err(stop) => Err(stop),
+    }
 }
 
 /// Processes the last line, if it lacks its LF. Returns whether neither this line nor an earlier one has an error.
-fn end_text<W: Write>(
+fn end_text<S: ShowLines, W: Write>(
     alloc: Global,
-    options: Options,
+    shown: &S,
+    paper: &mut S::Paper,
     held: &Held,
     whole: bool,
     writer: &mut W,
 ) -> Result<bool, Stop>
-    ensures shown { IfOk result (WritesRest options held.now whole (W.contents writer.old) (W.contents writer.new)) }
-    ensures memory { OnMemory result (Keeps (W.contents writer.old) (W.contents writer.new)) }
+    ensures shown { IfOk result (WritesRest (S.shows shown.now) held.now whole
+        (W.contents writer.old) (W.contents writer.new)) }
+    ensures memory { OnMemory result (Grows (W.contents writer.old) (W.contents writer.new)) }
 {
     let text = held.bytes();
     if text.is_empty() {
         return Ok(whole);
     }
-    match show(alloc, options, text, writer) {
+    match shown.show_line(alloc, paper, held.number(), text, writer) {
         Ok(read) => Ok(whole & read),
         Err(stop) => Err(stop),
     }

@@ -3,7 +3,7 @@
 ghost use Rattle.std.specs.Prelude.{◌≡◌, ◌++◌, ◌↔◌, false, IsTrue, IfOk, OnOk};
 ghost use Rattle.std.specs.Io.KnownBytes.{Appends, Keeps};
 ghost use Rattle.netlink_packet_route.specs.Report.{line};
-ghost use Rattle.show_lines.specs.Show.{IsPassedOver, ShowsAs};
+ghost use Rattle.show_lines.specs.Show.{IsPassedOver, Shows, ShowsAs};
 ghost use Rattle.show_lines.specs.Progress.{WritesLine, WritesBelow, WritesAnswer, OnMemory};
 
 use crate::arguments::{Format, Options};
@@ -25,7 +25,7 @@ pub(crate) fn show<W: Write>(
     text: &[u8],
     writer: &mut W,
 ) -> Result<bool, Stop>
-    ensures shown { IfOk result (WritesLine options text.now (W.contents writer.old) (W.contents writer.new)) }
+    ensures shown { IfOk result (WritesLine (Shows options) text.now (W.contents writer.old) (W.contents writer.new)) }
     ensures memory { OnMemory result (Keeps (W.contents writer.old) (W.contents writer.new)) }
 {
     if text.len() > MOST_TEXT {

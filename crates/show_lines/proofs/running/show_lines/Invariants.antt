@@ -5,5 +5,5 @@ use Rattle.show_lines.proofs.running.show_lines.Given as goal
 
 abbrev pub invariant-loop : goal.invariant-loop
 invariant-loop g l =
-    Went l.options l.initial.first l.held (g.R.Read.remaining l.initial.reader) (g.R.Read.remaining l.reader) (writer_contents g.W.Write.contents l.fn.writer) (writer_contents g.W.Write.contents l.writer) l.whole
+    Went (g.S.ShowLines.shows l.shown) l.initial.first l.held (g.R.Read.remaining l.initial.reader) (g.R.Read.remaining l.reader) (writer_contents g.W.Write.contents l.fn.writer) (writer_contents g.W.Write.contents l.writer) l.whole
     × (writer_buffer l.writer ≡ []) × (0 < length l.chunk)
