@@ -22,7 +22,7 @@ use Rattle.link_base.specs.Table.{Table}
 use Rattle.link_show.specs.Flags.{set_names}
 use Rattle.link_show.specs.List.{EachShown, label_for, ip_text, type_flags}
 use Rattle.link_base.specs.Name.{before_nul}
-use Rattle.link_show.specs.Structs.{has_fields, size_of}
+use Rattle.link_show.specs.Structs.{has_fields, size_of, four_bytes}
 use Rattle.link_show.specs.Value.{Label, quantity_in, names_of}
 use Rattle.netlink_packet_route.specs.declared.family.Family.{Family}
 use Rattle.link_messages.specs.Walk.{Item}
@@ -110,7 +110,7 @@ content_in_3 label (contents.Signed z) = omega arith
 content_in_3 label (contents.Enum n width) = omega (arith, named_in_1 n (name_in (names_of label) n))
 content_in_3 label (contents.Flags bits width) = omega (arith, flags_in_2 (names_of label) bits)
 content_in_3 label (contents.LowFlags bits) = omega (arith, flags_in_2 (names_of label) bits)
-content_in_3 label (contents.MaskedFlags flags mask) = omega (arith, flags_in_2 (names_of label) flags, flags_in_2 (names_of label) mask)
+content_in_3 label (contents.MaskedFlags flags mask) = omega (arith, flags_in_2 (names_of label) (four_bytes flags), flags_in_2 (names_of label) (four_bytes mask))
 content_in_3 label (contents.Pair from to) = omega arith
 content_in_3 label (contents.Protocol p) = omega arith
 content_in_3 label (contents.Mac a) = omega arith

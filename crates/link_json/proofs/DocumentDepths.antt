@@ -30,7 +30,7 @@ use Rattle.link_json.specs.Value.{text_json, address_json, enum_json}
 use Rattle.link_json.specs.Link.{link_simple, info_simple, or_raw, if_size, ShowsArray, ShowsAt, ShowsAll, ShowsData, ShowsInfoValue, LinkData, PortData, OtherInfo, ShowsInfoItem, ShowsInfo, ShowsProtinfo, ShowsLinkValue, Info, Spec, Ports, OtherLink, ShowsLinkItem, ShowsLink, header_fields}
 use Rattle.link_json.specs.List.{ShowsList}
 use Rattle.link_json.specs.Message.{message_error, message_fields, or_null, reply_json, fault_fields, ShowsBody, Link, Reply, General, NoLink, NoReply, Other, whole_document, ShowsDocument, ShowsMessage, ShowsEnd, Ended, Empty, Done, Zeros, Broken, ShowsMessages}
-use Rattle.link_json.specs.Other.{ShowsListDocument, ShowsCheck, IsCanonical, IsNot, check_document, fault_document}
+use Rattle.link_json.specs.Other.{ShowsListDocument, ShowsCheck, IsCanonical, IsNot, place_document, check_document, fault_document}
 use Rattle.link_json.proofs.Depths.{FieldsIn, EachIn, fields_both, each_both, named_in_1, flags_in_2, text_in_1, raw_in_3, shown_in, list_in, one_in, family_in_6}
 
 -- ---- links
@@ -176,6 +176,9 @@ module _ (place : List Field) (d : ℕ) (more : 12 ≤ d) (placed : FieldsIn d p
   messages_in s js whole h =
       subst (EachIn (d + 1)) (sym h.joined)
       (each_both (d + 1) h.front h.last (shown_in (d + 1) (ShowsMessage place) line_in h.messages h.front h.front_well h.each) (end_in s h.end h.last h.last_well h.at_end))
+
+  pub place_in : depth (place_document place) ≤ d + 1
+  place_in = whole_in [] true (omega arith)
 
   at_in_0 : (at : Option ℕ) → depth (at_json at) ≤ 0
   at_in_0 None = omega arith

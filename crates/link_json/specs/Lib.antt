@@ -5,3 +5,5 @@ pub mod List
 pub mod Link
 pub mod Message
 pub mod Other
+pub mod Ok
+pub mod Line

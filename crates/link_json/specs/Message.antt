@@ -1,5 +1,5 @@
 -- The JSON of messages: a document for each.
-use Rattle.std.specs.Prelude.{◌≡◌, ◌≢◌, ℕ, ◌+◌, Bool, true, false, ◌&&◌, List, [], ◌∷◌, ◌++◌, length, drop, Option, Some, None, codes}
+use Rattle.std.specs.Prelude.{◌≡◌, ◌≢◌, ℕ, ◌+◌, Bool, true, false, ◌&&◌, List, [], ◌∷◌, ◌++◌, length, drop, Option, Some, None, Result, Ok, Err, codes}
 use Rattle.std.specs.List.{flat_map}
 use Rattle.std.specs.Option.{option_copied}
 use Rattle.std.specs.Io.KnownBytes.{Appends}
@@ -19,6 +19,8 @@ use Rattle.link_messages.specs.Acknowledgement.{IsAcknowledgement, IsNoAcknowled
 use Rattle.link_show.specs.List.{EachShown}
 use Rattle.link_show.specs.Message.{reason_text, offset_of, errno_name, is_sound, IsGeneral, AreZerosAfter}
 use Rattle.link_show.specs.MessageNames.{message_types, flags_of}
+use Rattle.link_json.specs.declared.messages.Failure.{Failure}
+use Rattle.link_json.specs.declared.messages.Failure.TheVariants.{Memory, Writer}
 use Rattle.link_json.specs.Doc.{Field, object_of, fields_tokens, number_json, named_json, error_json}
 use Rattle.link_json.specs.Value.{text_json, enum_json, flags_json}
 use Rattle.link_json.specs.Link.{ShowsLink}
@@ -113,3 +115,13 @@ WritesFields shows old new well = (fields : List Field) × shows fields well × 
 -- the lines of documents were written
 abbrev pub WritesLines : (List Json → Bool → Type 0) → Option (List ℕ) → Option (List ℕ) → Bool → Type 0
 WritesLines shows held_before held_after well = (js : List Json) × shows js well × Appends held_before held_after (flat_map document_line js)
+
+-- zero or more whole lines, each of a document, were written
+abbrev pub AddsLines : Option (List ℕ) → Option (List ℕ) → Type 0
+AddsLines held_before held_after = (js : List Json) × Appends held_before held_after (flat_map document_line js)
+
+-- if the call failed with `Memory`, then P holds
+abbrev pub OnMemory : {X : Type 0} → Result X Failure → Type 0 → Type 0
+OnMemory (Ok x) P = Unit {0}
+OnMemory (Err Memory) P = P
+OnMemory (Err Writer) P = Unit {0}

@@ -31,7 +31,7 @@ use Rattle.link_show.specs.Text.{joined}
 use Rattle.link_show.specs.Octets.{byte_text}
 use Rattle.link_show.specs.Flags.{set_names}
 use Rattle.link_show.specs.List.{type_flags}
-use Rattle.link_show.specs.Structs.{size_of, has_fields, bridge_id_text}
+use Rattle.link_show.specs.Structs.{size_of, has_fields, bridge_id_text, four_bytes}
 use Rattle.link_show.specs.Value as plain
 use Rattle.link_show.specs.Value.{Label, quantity_in, names_of}
 use Rattle.link_json.specs.Doc.{Field, object_of, array_of, number_json, signed_json, named_json, element_json}
@@ -121,8 +121,8 @@ content_json label (contents.Signed z) = signed_json z
 content_json label (contents.Enum n width) = enum_json (names_of label) n
 content_json label (contents.Flags bits width) = flags_json (names_of label) bits
 content_json label (contents.LowFlags bits) = flags_json (names_of label) bits
-content_json label (contents.MaskedFlags flags mask) = masked_json (names_of label) flags mask
-content_json label (contents.Pair from to) = pair_json from to
+content_json label (contents.MaskedFlags flags mask) = masked_json (names_of label) (four_bytes flags) (four_bytes mask)
+content_json label (contents.Pair from to) = pair_json (four_bytes from) (four_bytes to)
 content_json label (contents.Protocol p) = protocol_json p
 content_json label (contents.Mac a) = address_json a
 content_json label (contents.Ipv4 a) = string (ipv4_text (ipv4_octets a))

@@ -1,12 +1,13 @@
 //! Messages, and buffers of them: a document for each.
 
-ghost use Rattle.std.specs.Prelude.{◌≡◌, ◌≤◌, ◌++◌, ◌∷◌, [], true, drop, Some, Err, OnOk, IfOk};
-ghost use Rattle.std.specs.Io.KnownBytes.{Appends};
+ghost use Rattle.std.specs.Prelude.{◌≡◌, ◌≤◌, ◌++◌, ◌∷◌, [], true, drop, Some, Err, OnOk, IfOk, IfErr};
+ghost use Rattle.std.specs.Io.KnownBytes.{Appends, Keeps};
 ghost use Rattle.json.specs.Json.{Json, document};
 ghost use Rattle.json.specs.Print.{print};
 ghost use Rattle.json.specs.Tree.{json_tokens, depth};
 ghost use Rattle.link_messages.specs.Message.{NextOfAny};
-ghost use Rattle.link_json.specs.Message.{ShowsMessages, ShowsEnd, ShowsMessage, WritesLines, whole_document, document_line};
+ghost use Rattle.link_json.specs.declared.messages.Failure.TheVariants.{Writer};
+ghost use Rattle.link_json.specs.Message.{ShowsMessages, ShowsEnd, ShowsMessage, WritesLines, AddsLines, OnMemory, whole_document, document_line};
 
 use crate::documents::{store_empty, store_error, store_message};
 use crate::place::Place;
@@ -32,7 +33,7 @@ pub enum Failure {
 ///
 /// # Errors
 ///
-/// A [`Failure`]. Lines that were written are complete, unless the writer fails.
+/// A [`Failure`]. The lines that were written are whole, unless the writer fails.
 pub fn write_documents<P: Place, W: Write>(
     alloc: Global,
     sheet: &mut Sheet,
@@ -40,8 +41,9 @@ pub fn write_documents<P: Place, W: Write>(
     buffer: &[u8],
     writer: &mut W,
 ) -> Result<bool, Failure>
-    ensures { IfOk result (WritesLines (ShowsMessages (P.fields place.now) buffer.now)
+    ensures shown { IfOk result (WritesLines (ShowsMessages (P.fields place.now) buffer.now)
         (W.contents writer.old) (W.contents writer.new)) }
+    ensures memory { OnMemory result (AddsLines (W.contents writer.old) (W.contents writer.new)) }
 {
     let mut whole = true;
     let mut at = 0;
@@ -75,8 +77,9 @@ fn write_empty<P: Place, W: Write>(
     place: &P,
     writer: &mut W,
 ) -> Result<(), Failure>
-    ensures { OnOk result (Appends (W.contents writer.old) (W.contents writer.new)
+    ensures shown { OnOk result (Appends (W.contents writer.old) (W.contents writer.new)
         (document_line (whole_document (P.fields place.now) [] true))) }
+    ensures memory { OnMemory result (Keeps (W.contents writer.old) (W.contents writer.new)) }
 {
     sheet.clear(alloc);
     match store_empty(sheet, place) {
@@ -97,8 +100,9 @@ fn write_rest<P: Place, W: Write>(
     writer: &mut W,
 ) -> Result<bool, Failure>
     requires { NextOfAny at (drop at buffer.now) (Err error) }
-    ensures { IfOk result (WritesLines (ShowsEnd (P.fields place.now) buffer.now at)
+    ensures shown { IfOk result (WritesLines (ShowsEnd (P.fields place.now) buffer.now at)
         (W.contents writer.old) (W.contents writer.new)) }
+    ensures memory { OnMemory result (Keeps (W.contents writer.old) (W.contents writer.new)) }
 {
     if are_zeros_after(at, &buffer[at..]) {
         return Ok(true);
@@ -122,8 +126,9 @@ fn write_line<P: Place, W: Write>(
     message: &Message<'_>,
     writer: &mut W,
 ) -> Result<bool, Failure>
-    ensures { IfOk result (WritesLines (ShowsMessage (P.fields place.now) message.now)
+    ensures shown { IfOk result (WritesLines (ShowsMessage (P.fields place.now) message.now)
         (W.contents writer.old) (W.contents writer.new)) }
+    ensures memory { OnMemory result (Keeps (W.contents writer.old) (W.contents writer.new)) }
 {
     sheet.clear(alloc);
     let well = match store_message(sheet, place, message) {
@@ -137,7 +142,7 @@ fn write_line<P: Place, W: Write>(
 }
 
 /// Writes the document of a sheet as a line, and clears the sheet. The line reads back as the document, if that does not
-/// nest deeper than 128 arrays and objects.
+/// nest deeper than 128 arrays and objects. Never fails with `Memory`.
 pub fn print_document<W: Write>(
     alloc: Global,
     sheet: &mut Sheet,
@@ -146,6 +151,7 @@ pub fn print_document<W: Write>(
     ensures line { OnOk result (Appends (W.contents writer.old) (W.contents writer.new) (print sheet.old ++ 10 ∷ [])) }
     ensures reads { (j : Json) → sheet.old ≡ json_tokens j → depth j ≤ 128 → document (print sheet.old) ≡ Some j }
     ensures cleared { sheet.new ≡ [] }
+    ensures failed { IfErr result (λ failure. failure ≡ Writer) }
 {
     match sheet.write_line(alloc, writer) {
         Ok(()) => Ok(()),

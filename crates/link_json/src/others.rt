@@ -1,11 +1,11 @@
 //! Documents that are not of messages.
 
 ghost use Rattle.std.specs.Prelude.{◌≡◌, ◌++◌, OnOk, IfOk};
-ghost use Rattle.std.specs.Io.KnownBytes.{Appends};
+ghost use Rattle.std.specs.Io.KnownBytes.{Appends, Keeps};
 ghost use Rattle.json.specs.Tree.{json_tokens};
 ghost use Rattle.link_json.specs.Doc.{at_json};
 ghost use Rattle.link_json.specs.List.{WritesValue};
-ghost use Rattle.link_json.specs.Message.{document_line};
+ghost use Rattle.link_json.specs.Message.{OnMemory, document_line};
 ghost use Rattle.link_json.specs.Other.{ShowsListDocument, ShowsCheck, WritesLine, place_document, fault_document, check_document};
 
 use crate::documents::{end_document, store_empty};
@@ -29,8 +29,9 @@ pub fn write_place<P: Place, W: Write>(
     place: &P,
     writer: &mut W,
 ) -> Result<(), Failure>
-    ensures { OnOk result (Appends (W.contents writer.old) (W.contents writer.new)
+    ensures shown { OnOk result (Appends (W.contents writer.old) (W.contents writer.new)
         (document_line (place_document (P.fields place.now)))) }
+    ensures memory { OnMemory result (Keeps (W.contents writer.old) (W.contents writer.new)) }
 {
     sheet.clear(alloc);
     match store_empty(sheet, place) {
@@ -52,8 +53,9 @@ pub fn write_fault<P: Place, W: Write>(
     text: &[u8],
     writer: &mut W,
 ) -> Result<(), Failure>
-    ensures { OnOk result (Appends (W.contents writer.old) (W.contents writer.new)
+    ensures shown { OnOk result (Appends (W.contents writer.old) (W.contents writer.new)
         (document_line (fault_document (P.fields place.now) at text.now))) }
+    ensures memory { OnMemory result (Keeps (W.contents writer.old) (W.contents writer.new)) }
 {
     sheet.clear(alloc);
     match store_fault(sheet, place, at, text) {
@@ -106,8 +108,9 @@ pub fn write_list_document<P: Place, W: Write>(
     bytes: &[u8],
     writer: &mut W,
 ) -> Result<bool, Failure>
-    ensures { IfOk result (WritesLine (ShowsListDocument (P.fields place.now) family bytes.now)
+    ensures shown { IfOk result (WritesLine (ShowsListDocument (P.fields place.now) family bytes.now)
         (W.contents writer.old) (W.contents writer.new)) }
+    ensures memory { OnMemory result (Keeps (W.contents writer.old) (W.contents writer.new)) }
 {
     sheet.clear(alloc);
     let well = match store_list(sheet, place, family, bytes) {
@@ -155,8 +158,9 @@ pub fn write_check<P: Place, W: Write>(
     bytes: &[u8],
     writer: &mut W,
 ) -> Result<bool, Failure>
-    ensures { IfOk result (WritesLine (ShowsCheck (P.fields place.now) family bytes.now)
+    ensures shown { IfOk result (WritesLine (ShowsCheck (P.fields place.now) family bytes.now)
         (W.contents writer.old) (W.contents writer.new)) }
+    ensures memory { OnMemory result (Keeps (W.contents writer.old) (W.contents writer.new)) }
 {
     let first = first_not_canonical(family, bytes);
     sheet.clear(alloc);

@@ -4,7 +4,7 @@ ghost use Rattle.std.specs.Prelude.{◌≡◌, ◌++◌, ◌∷◌, [], true, le
 ghost use Rattle.json.specs.Tree.{json_tokens};
 ghost use Rattle.link_base.specs.Fields.{field_told, fields_in};
 ghost use Rattle.link_base.specs.Labels.{names_in};
-ghost use Rattle.link_show.specs.Structs.{size_of, has_field};
+ghost use Rattle.link_show.specs.Structs.{size_of, has_field, four_bytes};
 ghost use Rattle.link_json.specs.Doc.{fields_tokens};
 ghost use Rattle.link_json.specs.Value.{part_json, field_json, fields_json, struct_json, pair_json, limits_json};
 
@@ -98,7 +98,7 @@ fn write_part(sheet: &mut Sheet, part: Part, names: &[Name], bytes: &[u8]) -> Re
 
 /// Writes two consecutive numbers.
 pub(crate) fn write_pair(sheet: &mut Sheet, from: u32, to: u32) -> Result<(), AllocError>
-    ensures { OnOk result (sheet.new ≡ sheet.old ++ json_tokens (pair_json from to)) }
+    ensures { OnOk result (sheet.new ≡ sheet.old ++ json_tokens (pair_json (four_bytes from) (four_bytes to))) }
 {
     sheet.begin_object()?;
     write_number_field(sheet, "from", from.into())?;

@@ -7,14 +7,14 @@ use Rattle.link_json.specs.Message.{Zeros, Broken, message_error, whole_document
 use Rattle.link_json.proofs.DocumentParts.{sheet_line}
 use Rattle.link_json.proofs.messages.write_rest.Goals as goal
 
-pub returns-then-are_zeros_after : goal.returns-then-are_zeros_after
-returns-then-are_zeros_after g c =
+pub returns-then-are_zeros_after-clause-shown : goal.returns-then-are_zeros_after-clause-shown
+returns-then-are_zeros_after-clause-shown g c =
     let at = c.args.at in
     let zeros = subst (AreZerosAfter at) (take_rest c.args.buffer.now at) (c.are_zeros_after.ensures.0 c.if-are_zeros_after.true) in
     ([], Zeros c.requires.0 c.args.error c.requires.1 zeros refl refl, Appends-nil (g.W.Write.contents c.args.writer.now))
 
-pub returns-in-Ok-print_document : goal.returns-in-Ok-print_document
-returns-in-Ok-print_document g c =
+pub returns-in-Ok-print_document-clause-shown : goal.returns-in-Ok-print_document-clause-shown
+returns-in-Ok-print_document-clause-shown g c =
     let at = c.args.at in
     let other = iff_false c.are_zeros_after.ensures c.if-are_zeros_after.false in
     let some = λ (zeros : AreZerosAfter at (drop at c.args.buffer.now)). other (subst (AreZerosAfter at) (sym (take_rest c.args.buffer.now at)) zeros) in

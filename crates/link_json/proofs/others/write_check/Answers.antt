@@ -3,8 +3,8 @@ use Rattle.link_json.proofs.DocumentParts.{empty_line}
 use Rattle.link_json.proofs.OtherParts.{check_shown}
 use Rattle.link_json.proofs.others.write_check.Goals as goal
 
-pub returns-in-Ok-print_document : goal.returns-in-Ok-print_document
-returns-in-Ok-print_document g c =
+pub returns-in-Ok-print_document-clause-shown : goal.returns-in-Ok-print_document-clause-shown
+returns-in-Ok-print_document-clause-shown g c =
     let contents = g.W.Write.contents in
     let place = g.P.Place.fields c.args.place.now in
     let first = c.first_not_canonical-first.result in
