@@ -84,7 +84,14 @@ fn run_task<R: Files + Input + AllocGlobal, W: Write + Drop>(
     writer: &mut BufWriter<Watched<W>>,
 ) -> u8 {
     if task.files.is_empty() {
-        return run(rt.alloc(), task.options, task.raw, &mut rt.reader(), writer);
+        return run(
+            rt.alloc(),
+            &task.options,
+            &mut (),
+            task.raw,
+            &mut rt.reader(),
+            writer,
+        );
     }
     let mut greatest = 0;
     for name in &task.files {
@@ -117,10 +124,24 @@ fn run_file<R: Files + Input + AllocGlobal, W: Write + Drop>(
         return 5;
     }
     if name == "-" {
-        return run(rt.alloc(), task.options, task.raw, &mut rt.reader(), writer);
+        return run(
+            rt.alloc(),
+            &task.options,
+            &mut (),
+            task.raw,
+            &mut rt.reader(),
+            writer,
+        );
     }
     match fs::open(rt, name) {
-        Ok(mut file) => run(rt.alloc(), task.options, task.raw, &mut file, writer),
+        Ok(mut file) => run(
+            rt.alloc(),
+            &task.options,
+            &mut (),
+            task.raw,
+            &mut file,
+            writer,
+        ),
         Err(_) => print(writer, "cannot open\n", 5),
     }
 }

@@ -106,7 +106,7 @@ fn buffered<W: Write + Drop>(rt: &impl Abort, alloc: Global, writer: W) -> BufWr
 fn shows(rt: &impl Abort, alloc: Global, text: &[u8], shown: &[u8], status: u8) {
     let mut rest = text;
     let mut written = buffered(rt, alloc, Vec::new(alloc));
-    let answer = run(alloc, DEBUG, false, &mut rest, &mut written);
+    let answer = run(alloc, &DEBUG, &mut (), false, &mut rest, &mut written);
     assert!(rt; answer == status && written.get_ref().as_slice() == shown);
     let mut trickle = Trickle {
         rest: text,
@@ -114,7 +114,7 @@ fn shows(rt: &impl Abort, alloc: Global, text: &[u8], shown: &[u8], status: u8) 
         is_broken: false,
     };
     let mut written = buffered(rt, alloc, Vec::new(alloc));
-    let answer = run(alloc, DEBUG, false, &mut trickle, &mut written);
+    let answer = run(alloc, &DEBUG, &mut (), false, &mut trickle, &mut written);
     assert!(rt; answer == status && written.get_ref().as_slice() == shown);
 }
 
@@ -161,13 +161,27 @@ fn readers_and_writers_that_fail(rt: HostRuntime) {
             is_broken: true,
         };
         let mut written = buffered(&rt, rt.alloc(), Vec::new(rt.alloc()));
-        let status = run(rt.alloc(), PLAIN, false, &mut reader, &mut written);
+        let status = run(
+            rt.alloc(),
+            &PLAIN,
+            &mut (),
+            false,
+            &mut reader,
+            &mut written,
+        );
         assert!(&rt; status == 5 && written.get_ref().as_slice() == shown.as_bytes());
     }
     for text in ["", "# dsa", "dsa", "dsa\n"] {
         for takes in [false, true] {
             let mut writer = buffered(&rt, rt.alloc(), Broken { takes });
-            let status = run(rt.alloc(), PLAIN, false, &mut text.as_bytes(), &mut writer);
+            let status = run(
+                rt.alloc(),
+                &PLAIN,
+                &mut (),
+                false,
+                &mut text.as_bytes(),
+                &mut writer,
+            );
             assert_eq!(&rt; status, 5);
         }
     }
@@ -221,7 +235,7 @@ fn is_read(
             is_broken,
         };
         let mut written = buffered(rt, alloc, Vec::new(alloc));
-        let answer = run(alloc, options, raw, &mut reader, &mut written);
+        let answer = run(alloc, &options, &mut (), raw, &mut reader, &mut written);
         assert!(rt; answer == status && written.get_ref().as_slice() == lines);
     }
 }
@@ -267,7 +281,14 @@ fn stops_anywhere(rt: &impl Abort, alloc: Global, how: (Options, bool), rows: &[
                 failures: 0,
             };
             let mut writer = buffered(rt, alloc, narrow);
-            let answer = run(alloc, options, raw, &mut text.as_slice(), &mut writer);
+            let answer = run(
+                alloc,
+                &options,
+                &mut (),
+                raw,
+                &mut text.as_slice(),
+                &mut writer,
+            );
             let narrow = writer.get_ref();
             let (wanted, failures) = if room < lines.len() { (5, 1) } else { (1, 0) };
             assert!(rt; answer == wanted && narrow.failures == failures);

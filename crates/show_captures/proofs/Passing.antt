@@ -9,10 +9,10 @@ use Rattle.link_capture.specs.Told.{Told, State}
 use Rattle.link_capture.specs.Unit.{Leads, IsUnit, IsError, Follows}
 use Rattle.link_show.specs.List.{EachShown}
 use Rattle.link_show.proofs.Listing.{and_false, each_none, each_more}
-use Rattle.show_lines.specs.declared.arguments.Options.{Options}
 use Rattle.show_captures.specs.declared.place.Place.{Place}
 use Rattle.show_captures.specs.Event.{ShowsUnit, counted, packets_in, packets_to, end_line, is_well}
 use Rattle.show_captures.specs.Progress.{Passes, Finishes, Counts}
+use Rattle.show_captures.specs.Shower.{UnitShower}
 
 -- ---- units after units
 
@@ -47,36 +47,36 @@ module _ {X : Type 0} (shows : X → List ℕ → Bool → Type 0) where
     all = ap₂ (λ a b. a && b) h.all k.all ∙ sym (all_both h.answers k.answers);
   }
 
-module _ {options : Options} where
+module _ {shower : UnitShower} where
   -- nothing passes
-  pub passes_none : (is_last : Bool) (place : Place) (s : List ℕ) → Passes options is_last place place s s [] true
-  passes_none is_last place s = record { units = []; leads = λ more follows. (refl, refl, refl); packets = refl; each = each_none (ShowsUnit options) }
+  pub passes_none : (is_last : Bool) (place : Place) (s : List ℕ) → Passes shower is_last place place s s [] true
+  passes_none is_last place s = record { units = []; leads = λ more follows. (refl, refl, refl); packets = refl; each = each_none (ShowsUnit shower) }
 
   -- units, and then others
-  pub passes_both : (is_last : Bool) (a b c : Place) (s t u p q : List ℕ) (v w : Bool) → Passes options is_last a b s t p v → Passes options is_last b c t u q w → Passes options is_last a c s u (p ++ q) (v && w)
+  pub passes_both : (is_last : Bool) (a b c : Place) (s t u p q : List ℕ) (v w : Bool) → Passes shower is_last a b s t p v → Passes shower is_last b c t u q w → Passes shower is_last a c s u (p ++ q) (v && w)
   passes_both is_last a b c s t u p q v w h k = record {
     units = h.units ++ k.units;
     leads = λ more follows. leads_both a.capture a.at (s ++ more) h.units b.capture b.at (t ++ more) k.units c.capture c.at (u ++ more) (h.leads more follows) (k.leads more follows);
     packets = k.packets ∙ ap (λ n. packets_in n k.units) h.packets ∙ sym (packets_both a.packets h.units k.units);
-    each = subst (λ l. EachShown (ShowsUnit options) l (p ++ q) (v && w)) (sym (counted_both a.packets h.units k.units))
-        (each_both (ShowsUnit options) (counted a.packets h.units) (counted (packets_in a.packets h.units) k.units) p q v w h.each (subst (λ n. EachShown (ShowsUnit options) (counted n k.units) q w) h.packets k.each));
+    each = subst (λ l. EachShown (ShowsUnit shower) l (p ++ q) (v && w)) (sym (counted_both a.packets h.units k.units))
+        (each_both (ShowsUnit shower) (counted a.packets h.units) (counted (packets_in a.packets h.units) k.units) p q v w h.each (subst (λ n. EachShown (ShowsUnit shower) (counted n k.units) q w) h.packets k.each));
   }
 
   -- one unit
   pub passes_one : (is_last : Bool) (a b c : Place) (s out : List ℕ) (n : ℕ) (told : Told) (well : Bool) → (b.at ≡ a.at) × (b.packets ≡ a.packets) → n ≤ length s → ((more : List ℕ) → Follows is_last more → IsUnit a.capture (s ++ more) told n b.capture)
-      → Counts told n b c → ShowsUnit options (a.packets, told) out well → Passes options is_last a c s (drop n s) out well
+      → Counts told n b c → ShowsUnit shower (a.packets, told) out well → Passes shower is_last a c s (drop n s) out well
   passes_one is_last a b c s out n told well same within unit counts shown = record {
     units = told ∷ [];
     leads = λ more follows. (b.capture, (n, unit more follows, (counts.capture, counts.at ∙ ap (λ i. i + n) same.0, sym (drop-append-le n s more within))));
     packets = counts.packets ∙ ap (λ k. packets_to k told) same.1;
-    each = one (each_more (ShowsUnit options) [] [] (a.packets, told) out true well (each_none (ShowsUnit options)) shown);
+    each = one (each_more (ShowsUnit shower) [] [] (a.packets, told) out true well (each_none (ShowsUnit shower)) shown);
   }
     where
-      one : EachShown (ShowsUnit options) ((a.packets, told) ∷ []) out (true && well) → EachShown (ShowsUnit options) ((a.packets, told) ∷ []) out well
+      one : EachShown (ShowsUnit shower) ((a.packets, told) ∷ []) out (true && well) → EachShown (ShowsUnit shower) ((a.packets, told) ∷ []) out well
       one h = h
 
   -- more bytes follow those that passed
-  pub passes_longer : (a b : Place) (s t piece out : List ℕ) (well : Bool) → Passes options false a b s t out well → Passes options false a b (s ++ piece) (t ++ piece) out well
+  pub passes_longer : (a b : Place) (s t piece out : List ℕ) (well : Bool) → Passes shower false a b s t out well → Passes shower false a b (s ++ piece) (t ++ piece) out well
   passes_longer a b s t piece out well h = record {
     units = h.units;
     leads = λ more follows. subst (λ l. Leads a.capture a.at l h.units b.capture b.at ((t ++ piece) ++ more)) (sym (append_assoc s piece more))
@@ -86,11 +86,11 @@ module _ {options : Options} where
   }
 
   -- units that pass whatever follows pass too where nothing does
-  pub passes_last : (is_last : Bool) (a b : Place) (s t out : List ℕ) (well : Bool) → Passes options false a b s t out well → Passes options is_last a b s t out well
+  pub passes_last : (is_last : Bool) (a b : Place) (s t out : List ℕ) (well : Bool) → Passes shower false a b s t out well → Passes shower is_last a b s t out well
   passes_last is_last a b s t out well h = record { units = h.units; leads = λ more follows. h.leads more (λ e. absurd (true≢false (sym e))); packets = h.packets; each = h.each }
 
   -- units, and then the end
-  pub finishes_both : (is_last : Bool) (a b : Place) (s t p q : List ℕ) (v w : Bool) → Passes options is_last a b s t p v → Finishes options is_last b t q w → Finishes options is_last a s (p ++ q) (v && w)
+  pub finishes_both : (is_last : Bool) (a b : Place) (s t p q : List ℕ) (v w : Bool) → Passes shower is_last a b s t p v → Finishes shower is_last b t q w → Finishes shower is_last a s (p ++ q) (v && w)
   finishes_both is_last a b s t p q v w h k = record {
     last = k.last;
     left = k.left;
@@ -99,13 +99,13 @@ module _ {options : Options} where
     passes = passes_both is_last a b k.last s t k.left p k.lines v k.well h k.passes;
     fault = k.fault;
     ends = k.ends;
-    joined = ap (λ l. p ++ l) k.joined ∙ sym (append_assoc p k.lines (end_line k.fault));
+    joined = ap (λ l. p ++ l) k.joined ∙ sym (append_assoc p k.lines (end_line shower k.fault));
     all = ap (λ x. v && x) k.all ∙ sym (and_assoc v k.well (is_well k.fault));
   }
 
   -- units, and then an error
-  pub finishes_wrong : (is_last : Bool) (a b : Place) (s t out : List ℕ) (error : InputError) (well : Bool) → Passes options is_last a b s t out well → ((more : List ℕ) → Follows is_last more → ((t ++ more) ≢ []) × IsError b.capture (t ++ more) error)
-      → Finishes options is_last a s (out ++ end_line (Some (b.at, error))) false
+  pub finishes_wrong : (is_last : Bool) (a b : Place) (s t out : List ℕ) (error : InputError) (well : Bool) → Passes shower is_last a b s t out well → ((more : List ℕ) → Follows is_last more → ((t ++ more) ≢ []) × IsError b.capture (t ++ more) error)
+      → Finishes shower is_last a s (out ++ end_line shower (Some (b.at, error))) false
   finishes_wrong is_last a b s t out error well h wrong = record {
     last = b;
     left = t;

@@ -46,10 +46,13 @@ use Rattle.link_show.proofs.MessagePrinting.{messages_texts}
 use Rattle.show_lines.specs.declared.arguments.Options.{Options}
 use Rattle.show_lines.specs.declared.arguments.Format.TheVariants.{Plain}
 use Rattle.show_lines.specs.Show.{ShowsBare}
+use Rattle.show_lines.proofs.Printed.{all_repeats}
 use Rattle.show_captures.specs.Protocol.{protocols}
 use Rattle.show_captures.specs.Time.{IsTimeText, InRange, OutOfRange}
 use Rattle.show_captures.specs.Packet.{original_part, protocol_name, protocol_part, protocol_of, type_part, packet_line, short_line, ShowsBelow, Other, Short, OtherProtocol, Route, ShowsPacket}
-use Rattle.show_captures.specs.Event.{ShowsTime, ShowsUnit, packets_to, counted, end_line, ShowsCapture}
+use Rattle.show_captures.specs.ByOptions.{ShowsTime, units_by_options, by_options}
+use Rattle.show_captures.specs.Event.{ShowsUnit, packets_to, counted, end_line, ShowsCapture}
+use Rattle.show_captures.specs.Run.{ShowsForm, PrintsForm, ShowsInput, input_form}
 
 -- ---- instants
 
@@ -94,7 +97,7 @@ clock_is_text digits t =
     (one {b = 58} refl (and (pad2_text t.minute (omega (arith, t.minute_in))) (one {b = 58} refl (and (pad2_text t.second (omega (arith, t.second_in))) (fraction_is_text digits t.subsec_nanosecond t.subsec_in)))))
 
 instant_is_text : (time : Time) (t : List ℕ) → IsTimeText time t → IsText t
-instant_is_text time t (InRange has clock same is) = subst IsText (sym is) (and (and (date_is_text clock.date) (one {b = 84} refl (clock_is_text time.digits clock.time))) (one {b = 90} refl none))
+instant_is_text time t (InRange has (clock, same, is)) = subst IsText (sym is) (and (and (date_is_text clock.date) (one {b = 84} refl (clock_is_text time.digits clock.time))) (one {b = 90} refl none))
 instant_is_text time t (OutOfRange has is) = subst IsText (sym is) (text refl)
 
 -- ---- errors that end an input
@@ -145,9 +148,9 @@ error_is_text (errors.Resolution n) = and {s = codes "if_tsresol "} (text refl) 
 error_is_text (errors.OffsetLength n) = and {s = codes "if_tsoffset has "} (text refl) (and (count_is_text n) (text refl))
 error_is_text (errors.Interface n) = and {s = codes "interface "} (text refl) (and (decimal_text n) (text refl))
 
-end_texts : (fault : Option (ℕ × InputError)) → AreTexts (end_line fault)
-end_texts None = no_texts
-end_texts (Some fault) = line_texts (line_and {t = codes "input error at "} (text refl) (line_and (decimal_text fault.0) (line_and {t = codes ": "} (text refl) (line_end (error_is_text fault.1)))))
+end_texts : (options : Options) (fault : Option (ℕ × InputError)) → AreTexts (end_line (units_by_options options) fault)
+end_texts options None = no_texts
+end_texts options (Some fault) = line_texts (line_and {t = codes "input error at "} (text refl) (line_and (decimal_text fault.0) (line_and {t = codes ": "} (text refl) (line_end (error_is_text fault.1)))))
 
 -- ---- packets
 
@@ -284,16 +287,23 @@ module _ (options : Options) (plain : options.format ≡ Plain) where
   packet_texts number p out well h shown =
       subst AreTexts (sym shown.joined) (and_texts (line_texts (packet_is_line number shown.time p (instant_is_text p.time shown.time shown.is_time))) (shown_below p shown.below well h shown.shown))
 
-  time_texts : (time : Time) (out : List ℕ) (well : Bool) → ShowsTime time out well → AreTexts out
-  time_texts time out well (t, is_time, is, good) = subst AreTexts (sym is) (line_texts (line_end (and {s = codes "time "} (text refl) (instant_is_text time t is_time))))
+  time_texts : (time : Time) (out : List ℕ) → ShowsTime time out → AreTexts out
+  time_texts time out (t, is_time, is) = subst AreTexts (sym is) (line_texts (line_end (and {s = codes "time "} (text refl) (instant_is_text time t is_time))))
 
-  unit_texts : (x : ℕ × Told) (out : List ℕ) (well : Bool) → HasBytes x.1 → ShowsUnit options x out well → AreTexts out
+  unit_texts : (x : ℕ × Told) (out : List ℕ) (well : Bool) → HasBytes x.1 → ShowsUnit (units_by_options options) x out well → AreTexts out
   unit_texts (n, Nothing) out well h shown = subst AreTexts (sym shown.0) no_texts
   unit_texts (n, APacket p) out well h shown = packet_texts (suc n) p out well h.bytes shown
   unit_texts (n, AMessage bytes) out well h shown = bare_texts bytes out well h.bytes shown
-  unit_texts (n, ATime time) out well h shown = time_texts time out well shown
+  unit_texts (n, ATime time) out well h shown = time_texts time out shown.0
 
-  pub capture_texts : (form : Form) (s out : List ℕ) (whole : Bool) → IsBytes s → ShowsCapture options form s out whole → AreTexts out
+  capture_texts : (form : Form) (s out : List ℕ) (whole : Bool) → IsBytes s → ShowsCapture (units_by_options options) form s out whole → AreTexts out
   capture_texts form s out whole h shown =
       let units = leads_bytes 0 (record { form = form; interfaces = [] }) 0 s shown.units shown.reads.last shown.reads.end shown.reads.left h shown.reads.leads in
-      subst AreTexts (sym shown.joined) (and_texts (each_texts (λ x. HasBytes x.1) (ShowsUnit options) unit_texts (counted 0 shown.units) shown.lines shown.well units shown.each) (end_texts shown.fault))
+      subst AreTexts (sym shown.joined) (and_texts (each_texts (λ x. HasBytes x.1) (ShowsUnit (units_by_options options)) unit_texts (counted 0 shown.units) shown.lines shown.well units shown.each) (end_texts options shown.fault))
+
+  form_prints : (form : Option Form) (s out : List ℕ) (whole : Bool) → ShowsForm (by_options options) form s out whole → PrintsForm form s out
+  form_prints None s out whole shown = all_repeats options s out whole plain shown
+  form_prints (Some form) s out whole shown = λ bytes. capture_texts form s out whole bytes shown
+
+pub input_prints : (options : Options) (raw : Bool) (s out : List ℕ) (whole : Bool) → options.format ≡ Plain → ShowsInput (by_options options) raw s out whole → PrintsForm (input_form raw s) s out
+input_prints options raw s out whole plain shown = form_prints options plain (input_form raw s) s out whole shown

@@ -7,13 +7,10 @@ use Rattle.link_capture.specs.declared.form.Form.{Form}
 use Rattle.link_capture.specs.Form.{begins_magic}
 use Rattle.link_capture.proofs.Forms.{told}
 use Rattle.program.specs.Printing.{FlushesOrFails}
-use Rattle.show_lines.specs.declared.arguments.Options.{Options}
-use Rattle.show_lines.specs.Show.{ShowsAll, by_options}
-use Rattle.show_lines.specs.Printed.{Repeats}
+use Rattle.show_lines.specs.Show.{ShowsAll}
 use Rattle.show_lines.specs.Run as lines
-use Rattle.show_lines.proofs.Printed.{all_repeats}
-use Rattle.show_captures.specs.Run.{RunsCapture, RunsFrom, Runs, RunsFor, ShowsForm, ShowsInput, PrintsForm, MayFollow, input_form}
-use Rattle.show_captures.proofs.Printing.{capture_texts}
+use Rattle.show_captures.specs.Run.{RunsCapture, RunsFrom, Runs, RunsFor, ShowsForm, ShowsInput, MayFollow, input_form}
+use Rattle.show_captures.specs.Shower.{InputShower}
 
 -- what follows bytes that tell the form does not change it
 form_told : (raw : Bool) (first rest : List ℕ) → begins_magic first ≡ false → input_form raw (first ++ rest) ≡ input_form raw first
@@ -26,46 +23,42 @@ empty_left None text h = absurd h
 empty_left (Some left) [] h = refl
 empty_left (Some left) (b ∷ text) h = absurd (omega (arith, ap length h))
 
-module _ {options : Options} where
-  pub from_capture : (form : Form) (first : List ℕ) (r s w v : Option (List ℕ)) (whole : Bool) → RunsCapture options form first r s w v whole → RunsFrom options (Some form) first r s w v whole
+module _ {shower : InputShower} where
+  pub from_capture : (form : Form) (first : List ℕ) (r s w v : Option (List ℕ)) (whole : Bool) → RunsCapture shower.units form first r s w v whole → RunsFrom shower (Some form) first r s w v whole
   from_capture form first r s w v whole h =
-      record { text = h.text; out = h.out; read = h.read; shows = h.shows; written = h.written; printable = λ plain more may bytes. capture_texts options plain form (first ++ (h.text ++ more)) h.out whole bytes (h.shows more may) }
+      record { text = h.text; out = h.out; read = h.read; shows = h.shows; written = h.written }
 
-  pub from_lines : (first : List ℕ) (r s w v : Option (List ℕ)) (whole : Bool) → lines.Runs (by_options options) first r s w v whole → RunsFrom options None first r s w v whole
+  pub from_lines : (first : List ℕ) (r s w v : Option (List ℕ)) (whole : Bool) → lines.Runs shower.lines first r s w v whole → RunsFrom shower None first r s w v whole
   from_lines first r s w v whole h = record {
     text = h.text;
     out = h.out;
     read = h.read;
-    shows = λ more may. subst (λ l. ShowsAll (by_options options) (first ++ l) h.out whole) (sym (all_of more may)) h.shown;
+    shows = λ more may. subst (λ l. ShowsAll shower.lines (first ++ l) h.out whole) (sym (all_of more may)) h.shown;
     written = h.written;
-    printable = λ plain more may. subst (λ l. Repeats (first ++ l) h.out) (sym (all_of more may)) (all_repeats options (first ++ h.text) h.out whole plain h.shown);
   }
     where
       all_of : (more : List ℕ) → MayFollow s more → h.text ++ more ≡ h.text
       all_of more may = ap (λ m. h.text ++ m) (may h.end) ∙ append-nil h.text
 
   -- the first bytes are not all
-  pub runs_on : (raw : Bool) (first : List ℕ) (r s t w v u : Option (List ℕ)) (whole : Bool) → Consumes r s first → Keeps w v → begins_magic first ≡ false → RunsFrom options (input_form raw first) first s t v u whole → Runs options raw r t w u whole
+  pub runs_on : (raw : Bool) (first : List ℕ) (r s t w v u : Option (List ℕ)) (whole : Bool) → Consumes r s first → Keeps w v → begins_magic first ≡ false → RunsFrom shower (input_form raw first) first s t v u whole → Runs shower raw r t w u whole
   runs_on raw first r s t w v u whole read keeps tells h = record {
     text = first ++ h.text;
     out = h.out;
     read = Consumes-trans r s t first h.text read h.read;
-    shows = λ more may. subst (λ l. ShowsInput options raw l h.out whole) (sym (append_assoc first h.text more))
-        (subst (λ f. ShowsForm options f (first ++ (h.text ++ more)) h.out whole) (sym (form_told raw first (h.text ++ more) tells)) (h.shows more may));
+    shows = λ more may. subst (λ l. ShowsInput shower raw l h.out whole) (sym (append_assoc first h.text more))
+        (subst (λ f. ShowsForm shower f (first ++ (h.text ++ more)) h.out whole) (sym (form_told raw first (h.text ++ more) tells)) (h.shows more may));
     written = Appends-trans w v u [] h.out (Appends-kept w w v [] (Appends-nil w) keeps) h.written;
-    printable = λ plain more may. subst (λ l. PrintsForm (input_form raw l) l h.out) (sym (append_assoc first h.text more))
-        (subst (λ f. PrintsForm f (first ++ (h.text ++ more)) h.out) (sym (form_told raw first (h.text ++ more) tells)) (h.printable plain more may));
   }
 
   -- the first bytes are all
-  pub runs_out : (raw : Bool) (first : List ℕ) (r s t w v u : Option (List ℕ)) (whole : Bool) → Consumes r s first → IsAtEnd s → Keeps w v → RunsFrom options (input_form raw first) first (Some []) t v u whole → Runs options raw r s w u whole
+  pub runs_out : (raw : Bool) (first : List ℕ) (r s t w v u : Option (List ℕ)) (whole : Bool) → Consumes r s first → IsAtEnd s → Keeps w v → RunsFrom shower (input_form raw first) first (Some []) t v u whole → Runs shower raw r s w u whole
   runs_out raw first r s t w v u whole read end keeps h = record {
     text = first;
     out = h.out;
     read = read;
-    shows = λ more may. subst (λ l. ShowsInput options raw l h.out whole) (sym (all_of more may)) (subst (λ l. ShowsForm options (input_form raw first) l h.out whole) nothing (h.shows [] (λ e. refl)));
+    shows = λ more may. subst (λ l. ShowsInput shower raw l h.out whole) (sym (all_of more may)) (subst (λ l. ShowsForm shower (input_form raw first) l h.out whole) nothing (h.shows [] (λ e. refl)));
     written = Appends-trans w v u [] h.out (Appends-kept w w v [] (Appends-nil w) keeps) h.written;
-    printable = λ plain more may. subst (λ l. PrintsForm (input_form raw l) l h.out) (sym (all_of more may)) (subst (λ l. PrintsForm (input_form raw first) l h.out) nothing (h.printable plain [] (λ e. refl)));
   }
     where
       all_of : (more : List ℕ) → MayFollow s more → first ++ more ≡ first
@@ -75,7 +68,7 @@ module _ {options : Options} where
       nothing = ap (λ l. first ++ (l ++ [])) (empty_left t h.text h.read) ∙ append-nil first
 
   -- the buffer is written, and the result is the status
-  pub runs_for : (raw : Bool) (r t w v u : Option (List ℕ)) (whole : Bool) (status result : ℕ) → Runs options raw r t w v whole → status ≡ (if whole then 0 else 1) → FlushesOrFails v u status result → result < 2 → RunsFor options raw r t w u result
+  pub runs_for : (raw : Bool) (r t w v u : Option (List ℕ)) (whole : Bool) (status result : ℕ) → Runs shower raw r t w v whole → status ≡ (if whole then 0 else 1) → FlushesOrFails v u status result → result < 2 → RunsFor shower raw r t w u result
   runs_for raw r t w v u whole status result h e (inl (is, keeps)) small =
-      let run : Runs options raw r t w u whole = record { text = h.text; out = h.out; read = h.read; shows = h.shows; written = Appends-kept w v u h.out h.written keeps; printable = h.printable } in (whole, run, is ∙ e)
+      let run : Runs shower raw r t w u whole = record { text = h.text; out = h.out; read = h.read; shows = h.shows; written = Appends-kept w v u h.out h.written keeps } in (whole, run, is ∙ e)
   runs_for raw r t w v u whole status result h e (inr fails) small = absurd (omega (arith, fails, small))

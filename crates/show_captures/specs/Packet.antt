@@ -1,5 +1,5 @@
 -- The output for a packet.
-use Rattle.std.specs.Prelude.{◌≡◌, ◌≢◌, ◌<◌, ◌≤◌, ℕ, ◌==◌, Bool, true, false, List, [], ◌∷◌, ◌++◌, length, drop, Option, Some, None, nat_lt, codes, if◌then◌else◌}
+use Rattle.std.specs.Prelude.{◌≡◌, ◌≢◌, ◌<◌, ◌≤◌, ℕ, ◌==◌, Bool, true, false, List, [], ◌∷◌, ◌++◌, length, drop, Option, Some, None, nat_lt, codes, if◌then◌else◌, ◌⊎◌}
 use Rattle.std.specs.Fmt.{decimal}
 use Rattle.byteorder.specs.Endian.{big_number}
 use Rattle.link_base.specs.Labels.{name_in}
@@ -9,6 +9,8 @@ use Rattle.link_capture.specs.Told.{Captured}
 use Rattle.netlink_packet_route.specs.Report.{line}
 use Rattle.show_lines.specs.declared.arguments.Options.{Options}
 use Rattle.show_lines.specs.Show.{ShowsBare}
+use Rattle.show_captures.specs.declared.packets.Carried.{Carried}
+use Rattle.show_captures.specs.declared.packets.Carried.TheVariants as carried
 use Rattle.show_captures.specs.Protocol.{protocols}
 use Rattle.show_captures.specs.Time.{IsTimeText}
 
@@ -16,6 +18,17 @@ use Rattle.show_captures.specs.Time.{IsTimeText}
 -- highest
 abbrev pub protocol_of : List ℕ → ℕ
 protocol_of bytes = big_number 2 (drop 14 bytes)
+
+-- the protocol of a packet, if it has the link type of netlink and a whole header
+abbrev pub protocol_in : Captured → Option ℕ
+protocol_in p = if p.link_type == netlink then (if nat_lt (length p.bytes) 16 then None else Some (protocol_of p.bytes)) else None
+
+-- what a packet carries: messages of NETLINK_ROUTE after its header; or too few bytes for the header; or another link type
+-- or protocol
+abbrev pub Carries : Captured → Carried → Type 0
+Carries p (carried.Messages bytes) = (p.link_type ≡ netlink) × (16 ≤ length p.bytes) × (protocol_of p.bytes ≡ 0) × (bytes.now ≡ drop 16 p.bytes)
+Carries p (carried.Short n) = (p.link_type ≡ netlink) × (length p.bytes < 16) × (n ≡ length p.bytes)
+Carries p carried.Other = (p.link_type ≢ netlink) ⊎ ((p.link_type ≡ netlink) × (16 ≤ length p.bytes) × (protocol_of p.bytes ≢ 0))
 
 -- the length that a packet had, if that is not the captured one
 abbrev pub original_part : ℕ → ℕ → List ℕ
@@ -44,12 +57,17 @@ packet_line number time p =
 abbrev pub short_line : ℕ → List ℕ
 short_line n = codes "  error at 0: " ++ (bytes_text n ++ line (codes ", too few for a cooked header"))
 
+-- the output for what a packet carries, and whether it has no error: `other` for another link type or protocol; an error, `short`
+-- of the number of its bytes; or that of its messages
+pub data ShowsCarried (messages : List ℕ → List ℕ → Bool → Type 0) (short : ℕ → List ℕ) (other : List ℕ) (p : Captured) (out : List ℕ) (well : Bool) : Type 0 where
+  Other : p.link_type ≢ netlink → out ≡ other → well ≡ true → ShowsCarried messages short other p out well
+  Short : p.link_type ≡ netlink → length p.bytes < 16 → out ≡ short (length p.bytes) → well ≡ false → ShowsCarried messages short other p out well
+  OtherProtocol : p.link_type ≡ netlink → 16 ≤ length p.bytes → protocol_of p.bytes ≢ 0 → out ≡ other → well ≡ true → ShowsCarried messages short other p out well
+  Route : p.link_type ≡ netlink → 16 ≤ length p.bytes → protocol_of p.bytes ≡ 0 → messages (drop 16 p.bytes) out well → ShowsCarried messages short other p out well
+
 -- the output below the line of a packet, and whether it has no error: none, an error, or its messages
-pub data ShowsBelow (options : Options) (p : Captured) (out : List ℕ) (well : Bool) : Type 0 where
-  Other : p.link_type ≢ netlink → out ≡ [] → well ≡ true → ShowsBelow options p out well
-  Short : p.link_type ≡ netlink → length p.bytes < 16 → out ≡ short_line (length p.bytes) → well ≡ false → ShowsBelow options p out well
-  OtherProtocol : p.link_type ≡ netlink → 16 ≤ length p.bytes → protocol_of p.bytes ≢ 0 → out ≡ [] → well ≡ true → ShowsBelow options p out well
-  Route : p.link_type ≡ netlink → 16 ≤ length p.bytes → protocol_of p.bytes ≡ 0 → ShowsBare options (drop 16 p.bytes) out well → ShowsBelow options p out well
+abbrev pub ShowsBelow : Options → Captured → List ℕ → Bool → Type 0
+ShowsBelow options = ShowsCarried (ShowsBare options) short_line []
 
 -- the output for a packet with this number
 pub record ShowsPacket (options : Options) (number : ℕ) (p : Captured) (out : List ℕ) (well : Bool) : Type 0 where

@@ -8,9 +8,10 @@ ghost use Rattle.show_captures.specs.Progress.{ReadsOn};
 ghost use Rattle.show_lines.specs.Progress.{Grows, OnMemory};
 
 use crate::place::Place;
+use crate::show::ShowUnits;
 use crate::units::{Turn, write_units};
 use link_capture::Form;
-use show_lines::{Options, Stop, read_more};
+use show_lines::{Stop, read_more};
 use std::alloc::{AllocError, Global};
 use std::io::{BufWriter, Read, Write};
 
@@ -21,9 +22,10 @@ use std::io::{BufWriter, Read, Write};
 /// # Errors
 ///
 /// A [`Stop`].
-pub(crate) fn show_capture<R: Read, W: Write + Drop>(
+pub(crate) fn show_capture<S: ShowUnits, R: Read, W: Write + Drop>(
     alloc: Global,
-    options: Options,
+    shown: &S,
+    paper: &mut S::Paper,
     form: Form,
     first: &[u8],
     chunk: &mut [u8],
@@ -31,7 +33,7 @@ pub(crate) fn show_capture<R: Read, W: Write + Drop>(
     writer: &mut BufWriter<W>,
 ) -> Result<bool, Stop>
     requires { 0 < length chunk.old }
-    ensures shown { IfOk result (RunsCapture options form first.now (R.remaining reader.old) (R.remaining reader.new)
+    ensures shown { IfOk result (RunsCapture (S.units shown.now) form first.now (R.remaining reader.old) (R.remaining reader.new)
         (writer_contents W.contents writer.old) (writer_contents W.contents writer.new)) }
     ensures memory { OnMemory result
         (Grows (writer_contents W.contents writer.old) (writer_contents W.contents writer.new)) }
@@ -44,7 +46,7 @@ pub(crate) fn show_capture<R: Read, W: Write + Drop>(
     let mut whole = true;
     let mut is_last = false;
     for _ in 0..u64::MAX {
-        match write_units(alloc, options, &mut place, &held, is_last, writer) {
+        match write_units(alloc, shown, paper, &mut place, &held, is_last, writer) {
             Ok(Turn::More { used, well }) => {
                 whole &= well;
                 forget_front(&mut held, used);

@@ -1,11 +1,10 @@
-//! The lines of packets, and what is below them.
+//! What packets carry, and what is written for them.
 
 ghost use Rattle.std.specs.Prelude.{◌≡◌, ◌≢◌, ◌≤◌, ◌++◌, Bool, List, ℕ, suc, length, drop, false, IfOk, OnOk};
 ghost use Rattle.std.specs.Io.KnownBytes.{Appends};
 ghost use Rattle.link_base.specs.Labels.{name_in};
 ghost use Rattle.link_capture.specs.Told.{captured_of};
-ghost use Rattle.show_captures.specs.Event.{WritesUnit};
-ghost use Rattle.show_captures.specs.Packet.{ShowsPacket, ShowsBelow, packet_line, original_part, protocol_part, protocol_name, protocol_of, type_part, short_line};
+ghost use Rattle.show_captures.specs.Packet.{Carries, ShowsPacket, ShowsBelow, packet_line, protocol_in, original_part, protocol_part, protocol_name, protocol_of, type_part, short_line};
 ghost use Rattle.show_lines.specs.Progress.{Grows, OnMemory};
 
 use crate::protocols::name_of_protocol;
@@ -19,6 +18,45 @@ use std::io::Write;
 
 /// The length of the header that packets of netlink have, whose last two bytes are the protocol.
 const HEADER: usize = 16;
+
+/// What a packet carries.
+#[derive(Clone, Copy, Debug, PartialEq, Eq)]
+pub enum Carried<'a> {
+    /// Messages of NETLINK_ROUTE: the bytes after the header.
+    Messages(&'a [u8]),
+    /// So many bytes of the link type of netlink, too few for the header.
+    Short(usize),
+    /// Those of another link type or protocol.
+    Other,
+}
+
+/// Returns what a packet carries.
+pub fn carried_by<'a>(packet: &Packet<'a>) -> Carried<'a>
+    ensures { Carries (captured_of packet.now) result }
+{
+    let bytes = packet.bytes;
+    if packet.link_type != NETLINK {
+        return Carried::Other;
+    }
+    if bytes.len() < HEADER {
+        return Carried::Short(bytes.len());
+    }
+    if protocol_of(bytes) != 0 {
+        return Carried::Other;
+    }
+    Carried::Messages(&bytes[HEADER..])
+}
+
+/// Returns the protocol of a packet, or `None` if it has another link type than that of netlink, or too few bytes for the
+/// header.
+pub fn protocol_in(packet: &Packet<'_>) -> Option<u16>
+    ensures { result ≡ protocol_in (captured_of packet.now) }
+{
+    if packet.link_type != NETLINK || packet.bytes.len() < HEADER {
+        return None;
+    }
+    Some(protocol_of(packet.bytes))
+}
 
 /// Writes the line of a packet, and its messages below it. Returns false if there is an error.
 pub(crate) fn write_packet<W: Write>(
@@ -112,17 +150,11 @@ fn write_below<W: Write>(
         × Appends (W.contents writer.old) (W.contents writer.new) out) }
     ensures memory { OnMemory result (Grows (W.contents writer.old) (W.contents writer.new)) }
 {
-    let bytes = packet.bytes;
-    if packet.link_type != NETLINK {
-        return Ok(true);
+    match carried_by(packet) {
+        Carried::Messages(bytes) => write_bare(alloc, options, bytes, writer),
+        Carried::Short(length) => write_short(length, writer),
+        Carried::Other => Ok(true),
     }
-    if bytes.len() < HEADER {
-        return write_short(bytes.len(), writer);
-    }
-    if protocol_of(bytes) != 0 {
-        return Ok(true);
-    }
-    write_bare(alloc, options, &bytes[HEADER..], writer)
 }
 
 /// Writes the error of a packet with so many bytes, too few for the header.

@@ -39,7 +39,7 @@ const PROTOCOLS: &[Name] = names![
 ];
 
 /// Returns the name of a protocol.
-pub(crate) fn name_of_protocol(protocol: u16) -> Option<&'static str>
+pub fn name_of_protocol(protocol: u16) -> Option<&'static str>
     ensures { option_map (λ text. text.now) result ≡ name_in protocols protocol }
 {
     name_of(PROTOCOLS, protocol.into())

@@ -3,14 +3,15 @@
 ghost use Rattle.std.specs.Prelude.{◌≡◌, ◌⊎◌, ◌<◌, [], length, IfOk};
 ghost use Rattle.std.specs.Io.Buffered.{writer_buffer, writer_contents, writer_inner};
 ghost use Rattle.show_captures.specs.Run.{Runs, RunsFrom, RunsFor, EndsWith, input_form};
+ghost use Rattle.show_captures.specs.Shower.{shower_of};
 ghost use Rattle.show_lines.specs.Progress.{Grows, OnMemory};
-ghost use Rattle.program.specs.Printing.{no_memory_line};
 
 use crate::captures::show_capture;
 use crate::first::read_first;
+use crate::show::ShowUnits;
 use link_capture::Form;
-use program::{finish, print_no_memory, print_read_fault};
-use show_lines::{Options, Stop, show_lines};
+use program::finish;
+use show_lines::{Stop, show_lines};
 use std::alloc::Global;
 use std::io;
 use std::io::{BufWriter, Read, Write};
@@ -27,40 +28,40 @@ const CHUNK: usize = 65_536;
 /// - 1 if a line, a packet, a message or the input has an error;
 /// - 4 if an allocation fails;
 /// - 5 if the reader or the writer fails.
-pub fn run<R: Read, W: Write + Drop>(
+pub fn run<S: ShowUnits, R: Read, W: Write + Drop>(
     alloc: Global,
-    options: Options,
+    shown: &S,
+    paper: &mut S::Paper,
     raw: bool,
     reader: &mut R,
     writer: &mut BufWriter<W>,
 ) -> u8
-    ensures report { result < 2 → RunsFor options raw (R.remaining reader.old) (R.remaining reader.new)
+    ensures report { result < 2 → RunsFor (shower_of S.refused S.answered S.units shown.now) raw (R.remaining reader.old) (R.remaining reader.new)
         (writer_contents W.contents writer.old) (W.contents (writer_inner writer.new)) result }
-    // The line `no memory` is the last of the output.
+    // What says so is the last of the output.
     ensures memory { result ≡ 4 → EndsWith (writer_contents W.contents writer.old)
-        (W.contents (writer_inner writer.new)) no_memory_line }
+        (W.contents (writer_inner writer.new)) (S.ends shown.now) }
     // Nothing is left in the buffer.
     ensures empty { result < 5 → writer_buffer writer.new ≡ [] }
     ensures known { (result < 2) ⊎ ((result ≡ 4) ⊎ (result ≡ 5)) }
 {
-    match show_input(alloc, options, raw, reader, writer) {
+    match show_input(alloc, shown, paper, raw, reader, writer) {
         Ok(true) => finish(writer, 0),
         Ok(false) => finish(writer, 1),
-        Err(Stop::Memory) => print_no_memory(writer),
-        Err(Stop::Reader) => print_read_fault(writer),
-        Err(Stop::Writer) => 5,
+        Err(stop) => shown.end(alloc, paper, stop, writer),
     }
 }
 
 /// Processes an input. Returns whether it has no error.
-fn show_input<R: Read, W: Write + Drop>(
+fn show_input<S: ShowUnits, R: Read, W: Write + Drop>(
     alloc: Global,
-    options: Options,
+    shown: &S,
+    paper: &mut S::Paper,
     raw: bool,
     reader: &mut R,
     writer: &mut BufWriter<W>,
 ) -> Result<bool, Stop>
-    ensures shown { IfOk result (Runs options raw (R.remaining reader.old) (R.remaining reader.new)
+    ensures shown { IfOk result (Runs (shower_of S.refused S.answered S.units shown.now) raw (R.remaining reader.old) (R.remaining reader.new)
         (writer_contents W.contents writer.old) (writer_contents W.contents writer.new)) }
     ensures memory { OnMemory result
         (Grows (writer_contents W.contents writer.old) (writer_contents W.contents writer.new)) }
@@ -77,15 +78,25 @@ fn show_input<R: Read, W: Write + Drop>(
     let form = form_of(raw, &first.bytes);
     if first.is_last {
         let rest = &mut io::empty();
-        return show_from(alloc, options, form, &first.bytes, chunk, rest, writer);
+        return show_from(alloc, shown, paper, form, &first.bytes, chunk, rest, writer);
     }
-    show_from(alloc, options, form, &first.bytes, chunk, reader, writer)
+    show_from(
+        alloc,
+        shown,
+        paper,
+        form,
+        &first.bytes,
+        chunk,
+        reader,
+        writer,
+    )
 }
 
 /// Processes an input in this form, whose first bytes were read before. Returns whether it has no error.
-fn show_from<R: Read, W: Write + Drop>(
+fn show_from<S: ShowUnits, R: Read, W: Write + Drop>(
     alloc: Global,
-    options: Options,
+    shown: &S,
+    paper: &mut S::Paper,
     form: Option<Form>,
     first: &[u8],
     chunk: &mut [u8],
@@ -93,14 +104,14 @@ fn show_from<R: Read, W: Write + Drop>(
     writer: &mut BufWriter<W>,
 ) -> Result<bool, Stop>
     requires { 0 < length chunk.old }
-    ensures shown { IfOk result (RunsFrom options form first.now (R.remaining reader.old) (R.remaining reader.new)
+    ensures shown { IfOk result (RunsFrom (shower_of S.refused S.answered S.units shown.now) form first.now (R.remaining reader.old) (R.remaining reader.new)
         (writer_contents W.contents writer.old) (writer_contents W.contents writer.new)) }
     ensures memory { OnMemory result
         (Grows (writer_contents W.contents writer.old) (writer_contents W.contents writer.new)) }
 {
     match form {
-        Some(form) => show_capture(alloc, options, form, first, chunk, reader, writer),
-        None => show_lines(alloc, &options, &mut (), first, chunk, reader, writer),
+        Some(form) => show_capture(alloc, shown, paper, form, first, chunk, reader, writer),
+        None => show_lines(alloc, shown, paper, first, chunk, reader, writer),
     }
 }
 

@@ -1,4 +1,5 @@
 pub mod Cuts
+pub mod Kept
 pub mod Links
 pub mod Requests
 pub mod Steps

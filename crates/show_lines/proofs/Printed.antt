@@ -18,7 +18,7 @@ use Rattle.show_lines.specs.declared.asking.Asked.{Asked}
 use Rattle.show_lines.specs.declared.asking.Asked.TheVariants.{Messages, Attributes, Verdict}
 use Rattle.show_lines.specs.declared.arguments.Options.{Options}
 use Rattle.show_lines.specs.declared.arguments.Format.TheVariants.{Plain}
-use Rattle.show_lines.specs.Show.{ShowsPlain, ShowsAs, ShowsDigits, ShowsBelow, Known, Unknown, Shows, TooLong, PassedOver, Answered, by_options, numbered, ShowsAll}
+use Rattle.show_lines.specs.Show.{ShowsPlain, ShowsAs, ShowsDigits, TooLong, PassedOver, Known, Unknown, refused_by_options, answered_by_options, by_options, numbered, ShowsAll}
 use Rattle.show_lines.specs.Printed.{AreLinesFrom, IsOneOf, Repeats}
 use Rattle.show_lines.proofs.Cuts.{all_append, all_each}
 
@@ -55,30 +55,31 @@ asked_texts check Messages s out well h shown = messages_texts check s out well 
 asked_texts check (Attributes family) s out well h shown = checked_texts (codes "  ") (is_text refl) check 0 (table_of family) s out well (family_has_texts family) h shown
 asked_texts check (Verdict family) s out well h shown = verdict_texts [] none true 0 (table_of family) s out well shown
 
-digits_texts : (check : Bool) (asked : Asked) (digits : List ℕ) (r : Result (List ℕ) FromHexError) (out : List ℕ) (well : Bool) → decode_of digits ≡ r → ShowsDigits (ShowsPlain check) asked r out well → AreTexts out
-digits_texts check asked digits (Ok s) out well e shown = asked_texts check asked s out well (index_bytes s (decode_of-ok digits s e).3) shown
-digits_texts check asked digits (Err error) out well e (is, bad) = subst AreTexts (sym is) (line_texts (line_end {t = codes "bad hex"} (is_text refl)))
-
-below_texts : (check : Bool) (text out : List ℕ) (well : Bool) → ShowsBelow (ShowsPlain check) text out well → AreTexts out
-below_texts check text out well (Known asked rest asks shown) = digits_texts check asked (digits_of rest) (decode_of (digits_of rest)) out well refl shown
-below_texts check text out well (Unknown asks is bad) = subst AreTexts (sym is) (line_texts (line_end {t = codes "no such family"} (is_text refl)))
-
 -- ---- a line, and all lines
 
 module _ (options : Options) (plain : options.format ≡ Plain) where
-  line_made : (text out : List ℕ) (well : Bool) → Shows options text out well → AreLinesFrom (λ l. l ≡ text) out
-  line_made text out well (TooLong long is bad) = rw is (made_texts (λ l. l ≡ text) (line (codes "input too long")) (line_texts (line_end {t = codes "input too long"} (is_text refl))))
-  line_made text out well (PassedOver short over is good) = rw is (made_none (λ l. l ≡ text))
-  line_made text out well (Answered short over below shown is) =
-      let now = subst (λ format. ShowsBelow (ShowsAs format options.check) text below well) plain shown in
-      rw is (made_and (λ l. l ≡ text) (line text) below (made_line (λ l. l ≡ text) text refl) (made_texts (λ l. l ≡ text) below (below_texts options.check text below well now)))
+  below_made : (text below : List ℕ) → AreTexts below → AreLinesFrom (λ l. l ≡ text) (line text ++ below)
+  below_made text below h = made_and (λ l. l ≡ text) (line text) below (made_line (λ l. l ≡ text) text refl) (made_texts (λ l. l ≡ text) below h)
+
+  digits_made : (x : ℕ × List ℕ) (asked : Asked) (digits : List ℕ) (r : Result (List ℕ) FromHexError) (out : List ℕ) (well : Bool) → decode_of digits ≡ r
+      → ShowsDigits (refused_by_options options) (answered_by_options options) x asked r out well → AreLinesFrom (λ l. l ≡ x.1) out
+  digits_made x asked digits (Ok s) out well e (below, shown, is) =
+      let now = subst (λ format. ShowsAs format options.check asked s below well) plain shown in
+      rw is (below_made x.1 below (asked_texts options.check asked s below well (index_bytes s (decode_of-ok digits s e).3) now))
+  digits_made x asked digits (Err error) out well e (is, bad) = rw is (below_made x.1 (line (codes "bad hex")) (line_texts (line_end {t = codes "bad hex"} (is_text refl))))
+
+  line_made : (x : ℕ × List ℕ) (out : List ℕ) (well : Bool) → by_options options x out well → AreLinesFrom (λ l. l ≡ x.1) out
+  line_made x out well (TooLong long is bad) = rw is (made_texts (λ l. l ≡ x.1) (line (codes "input too long")) (line_texts (line_end {t = codes "input too long"} (is_text refl))))
+  line_made x out well (PassedOver short over is good) = rw is (made_none (λ l. l ≡ x.1))
+  line_made x out well (Known short over asked rest asks shown) = digits_made x asked (digits_of rest) (decode_of (digits_of rest)) out well refl shown
+  line_made x out well (Unknown short over nothing is bad) = rw is (below_made x.1 (line (codes "no such family")) (line_texts (line_end {t = codes "no such family"} (is_text refl))))
 
   answers_made : (n : ℕ) (lines : List (List ℕ)) (answers : List (List ℕ × Bool)) → AllZip (λ x a. by_options options x a.0 a.1) (numbered n lines) answers → AreLinesFrom (IsOneOf lines) (flat_map (λ a. a.0) answers)
   answers_made n [] [] h = made_none (IsOneOf [])
   answers_made n [] (a ∷ answers) h = absurd h
   answers_made n (x ∷ xs) [] h = absurd h
   answers_made n (x ∷ xs) (a ∷ answers) h =
-      made_and (IsOneOf (x ∷ xs)) a.0 (flat_map (λ b. b.0) answers) (made_wider (λ l. l ≡ x) (IsOneOf (x ∷ xs)) a.0 (λ l e. inl e) (line_made x a.0 a.1 h.0))
+      made_and (IsOneOf (x ∷ xs)) a.0 (flat_map (λ b. b.0) answers) (made_wider (λ l. l ≡ x) (IsOneOf (x ∷ xs)) a.0 (λ l e. inl e) (line_made (n, x) a.0 a.1 h.0))
       (made_wider (IsOneOf xs) (IsOneOf (x ∷ xs)) (flat_map (λ b. b.0) answers) (λ l e. inr e) (answers_made (suc n) xs answers h.1))
 
 -- the output for all lines

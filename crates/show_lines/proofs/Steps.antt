@@ -12,9 +12,10 @@ use Rattle.show_lines.specs.declared.running.Stop.{Stop}
 use Rattle.show_lines.specs.declared.running.Stop.TheVariants.{Memory, Reader, Writer}
 use Rattle.link_show.specs.List.{EachShown}
 use Rattle.show_lines.specs.Show.{Shower, numbered, ShowsAll, Ended, Open, IsUnbroken}
-use Rattle.show_lines.specs.Progress.{IsToldByHeld, Shown, Goes, held_of, most_held, Grows, WritesLine, WritesPiece, WritesRest, OnMemory}
+use Rattle.show_lines.specs.Progress.{Shown, Goes, held_of, most_held, Grows, WritesLine, WritesPiece, WritesRest, OnMemory}
 use Rattle.show_lines.specs.Run.{Runs}
 use Rattle.show_lines.proofs.Cuts.{all_append, take_twice}
+use Rattle.show_lines.proofs.Kept.{IsToldByHeld}
 
 -- the part of a piece that stands before the rest was shown
 pub record Fed (shows : Shower) (before after : ℕ × List ℕ) (piece rest : List ℕ) (w v : Option (List ℕ)) (all : Bool) : Type 0 where

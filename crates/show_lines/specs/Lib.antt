@@ -3,6 +3,5 @@ pub mod List
 pub mod Messages
 pub mod Show
 pub mod Progress
-pub mod Kept
 pub mod Run
 pub mod Printed

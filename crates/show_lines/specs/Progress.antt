@@ -8,7 +8,7 @@ use Rattle.show_lines.specs.declared.asking.Asked.{Asked}
 use Rattle.show_lines.specs.declared.running.Stop.{Stop}
 use Rattle.show_lines.specs.declared.running.Stop.TheVariants.{Memory, Reader, Writer}
 use Rattle.link_show.specs.List.{EachShown}
-use Rattle.show_lines.specs.Show.{Form, Shower, numbered, ShowsBare, ShowsBelow, IsUnbroken}
+use Rattle.show_lines.specs.Show.{Form, Shower, numbered, ShowsBare, IsUnbroken}
 
 -- how many bytes of a line are kept at most: one more than the maximum length of a line
 abbrev pub most_held : ℕ
@@ -17,10 +17,6 @@ most_held = most_text + 1
 -- the part of the current line that is kept; the rest does not affect the output
 abbrev pub held_of : List ℕ → List ℕ
 held_of text = take most_held text
-
--- what is kept of a line tells what is shown for it
-abbrev pub IsToldByHeld : Shower → Type 0
-IsToldByHeld shows = (n : ℕ) (text out : List ℕ) (read : Bool) → shows (n, held_of text) out read → shows (n, text) out read
 
 -- the output of all complete lines is written, and what follows the last LF is kept, with the number of its line
 pub record Shown (shows : Shower) (text out : List ℕ) (held : ℕ × List ℕ) (whole : Bool) : Type 0 where
@@ -48,10 +44,6 @@ Grows held_before held_after = (out : List ℕ) × Appends held_before held_afte
 -- the output for a line was written; the line may have its number with it
 abbrev pub WritesLine : {X : Type 0} → (X → List ℕ → Bool → Type 0) → X → Option (List ℕ) → Option (List ℕ) → Bool → Type 0
 WritesLine shows x held_before held_after read = (out : List ℕ) × shows x out read × Appends held_before held_after out
-
--- a line that is not ignored was written, and the output that follows it
-abbrev pub WritesBelow : Form → List ℕ → Option (List ℕ) → Option (List ℕ) → Bool → Type 0
-WritesBelow form text held_before held_after read = (below : List ℕ) × ShowsBelow form text below read × Appends held_before held_after (line text ++ below)
 
 -- a line was written, and the output of its command for these bytes
 abbrev pub WritesAnswer : Form → Asked → List ℕ → List ℕ → Option (List ℕ) → Option (List ℕ) → Bool → Type 0

@@ -1,5 +1,5 @@
 -- The output for a line, and for an input of several lines.
-use Rattle.std.specs.Prelude.{◌≡◌, ◌≢◌, ◌⊎◌, ℕ, suc, ◌<◌, ◌≤◌, Bool, true, false, List, [], ◌∷◌, ◌++◌, length, Result, Ok, Err, codes}
+use Rattle.std.specs.Prelude.{◌≡◌, ◌≢◌, ◌⊎◌, ℕ, suc, ◌<◌, ◌≤◌, Bool, true, false, List, [], ◌∷◌, ◌++◌, length, Option, Some, None, Result, Ok, Err, codes}
 use Rattle.std.specs.List.{flat_map, AllByRecursion}
 use Rattle.hex.specs.Hex.{decode_of}
 use Rattle.hex.specs.declared.error.FromHexError.{FromHexError}
@@ -99,21 +99,51 @@ ShowsAs Plain check = ShowsPlain check
 abbrev pub ShowsBare : Options → List ℕ → List ℕ → Bool → Type 0
 ShowsBare options = ShowsAs options.format options.check Messages
 
--- the output for digits: the one for the bytes that they encode, or `bad hex` if they are not valid hex
-abbrev pub ShowsDigits : Form → Asked → Result (List ℕ) FromHexError → List ℕ → Bool → Type 0
-ShowsDigits form asked (Ok s) out read = form asked s out read
-ShowsDigits form asked (Err e) out read = (out ≡ line (codes "bad hex")) × (read ≡ false)
+-- what is written for a line that is refused: for its number, from 1, its text, unless that is too long, and the reason
+abbrev pub Refused : Type 0
+Refused = ℕ → Option (List ℕ) → List ℕ → List ℕ
 
--- the output that follows a line: the one of its command, or that it has no valid command
-pub data ShowsBelow (form : Form) (text out : List ℕ) (read : Bool) : Type 0 where
-  Known : (asked : Asked) (rest : List ℕ) → Asks text asked rest → ShowsDigits form asked (decode_of (digits_of rest)) out read → ShowsBelow form text out read
-  Unknown : AsksNothing text → out ≡ line (codes "no such family") → read ≡ false → ShowsBelow form text out read
+-- what is written for a line with a command: for its number, from 1, and its text, as a form
+abbrev pub Answered : Type 1
+Answered = ℕ × List ℕ → Form
 
--- the output for a line, and whether the line has no error
-pub data Shows (options : Options) (text out : List ℕ) (read : Bool) : Type 0 where
-  TooLong : most_text < length text → out ≡ line (codes "input too long") → read ≡ false → Shows options text out read
-  PassedOver : length text ≤ most_text → IsPassedOver text → out ≡ [] → read ≡ true → Shows options text out read
-  Answered : length text ≤ most_text → ¬ IsPassedOver text → (below : List ℕ) → ShowsBelow (ShowsAs options.format options.check) text below read → out ≡ line text ++ below → Shows options text out read
+-- the output for the digits of a line: the one for the bytes that they encode, or that they are not valid hex
+abbrev pub ShowsDigits : Refused → Answered → ℕ × List ℕ → Asked → Result (List ℕ) FromHexError → List ℕ → Bool → Type 0
+ShowsDigits refused answered x asked (Ok s) out read = answered x asked s out read
+ShowsDigits refused answered x asked (Err e) out read = (out ≡ refused x.0 (Some x.1) (codes "bad hex")) × (read ≡ false)
+
+-- the output for a line, with its number, and whether the line has no error
+pub data ShowsLine (refused : Refused) (answered : Answered) (x : ℕ × List ℕ) (out : List ℕ) (read : Bool) : Type 0 where
+  TooLong : most_text < length x.1 → out ≡ refused x.0 None (codes "input too long") → read ≡ false → ShowsLine refused answered x out read
+  PassedOver : length x.1 ≤ most_text → IsPassedOver x.1 → out ≡ [] → read ≡ true → ShowsLine refused answered x out read
+  Known : length x.1 ≤ most_text → ¬ IsPassedOver x.1 → (asked : Asked) (rest : List ℕ) → Asks x.1 asked rest → ShowsDigits refused answered x asked (decode_of (digits_of rest)) out read → ShowsLine refused answered x out read
+  Unknown : length x.1 ≤ most_text → ¬ IsPassedOver x.1 → AsksNothing x.1 → out ≡ refused x.0 (Some x.1) (codes "no such family") → read ≡ false → ShowsLine refused answered x out read
+
+-- what is written for a line with this number, from 1: its output, and whether the line has no error
+abbrev pub Shower : Type 1
+Shower = ℕ × List ℕ → List ℕ → Bool → Type 0
+
+-- what is written for a line, by what is written for one that is refused, and for one with a command
+abbrev pub shower_of : {A : Type 0} → (A → Refused) → (A → Answered) → A → Shower
+shower_of refused answered a = ShowsLine (refused a) (answered a)
+
+-- ---- a line, by options
+
+-- a line, unless it is too long, and the reason why it is refused
+abbrev pub refusal : Option (List ℕ) → List ℕ → List ℕ
+refusal None reason = line reason
+refusal (Some text) reason = line text ++ line reason
+
+-- by options, whatever they are, and whatever the number of the line
+abbrev pub refused_by_options : Options → Refused
+refused_by_options options n = refusal
+
+-- by options: the line, and what it asks for
+abbrev pub answered_by_options : Options → Answered
+answered_by_options options x asked s out read = (below : List ℕ) × ShowsAs options.format options.check asked s below read × (out ≡ line x.1 ++ below)
+
+abbrev pub by_options : Options → Shower
+by_options = shower_of refused_by_options answered_by_options
 
 -- ---- a text
 
@@ -122,14 +152,6 @@ pub data AreLines (text : List ℕ) (lines : List (List ℕ)) : Type 0 where
   Ended : AllByRecursion IsUnbroken lines → text ≡ flat_map line lines → AreLines text lines
   Open : (front : List (List ℕ)) (last : List ℕ) → AllByRecursion IsUnbroken front → IsUnbroken last → 0 < length last → lines ≡ front ++ last ∷ [] → text ≡ flat_map line front ++ last
       → AreLines text lines
-
--- what is written for a line with this number, from 1: its output, and whether the line has no error
-abbrev pub Shower : Type 1
-Shower = ℕ × List ℕ → List ℕ → Bool → Type 0
-
--- by options, which write the same whatever the number of a line
-abbrev pub by_options : Options → Shower
-by_options options x out read = Shows options x.1 out read
 
 -- lines, each with its number, if the first has the number n
 abbrev pub numbered : ℕ → List (List ℕ) → List (ℕ × List ℕ)

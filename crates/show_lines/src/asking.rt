@@ -11,7 +11,7 @@ use std::str;
 
 /// The command of an input line.
 #[derive(Clone, Copy)]
-pub(crate) enum Asked {
+pub enum Asked {
     /// `message`: print the links of messages.
     Messages,
     /// A `Family` name: print the attributes of a list.

@@ -7,11 +7,11 @@ ghost use Rattle.show_lines.specs.Show.{ShowsDebug};
 ghost use Rattle.show_lines.specs.Progress.{WritesAnswer, OnMemory};
 
 use crate::asking::Asked;
+use crate::by_options::write_below;
 use crate::lists::push_list;
 use crate::messages::push_messages;
 use crate::plain::write_plain;
 use crate::running::Stop;
-use crate::showing::write_below;
 use link_messages::{Part, Payload};
 use std::alloc::{AllocError, Global};
 use std::io::Write;

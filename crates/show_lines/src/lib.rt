@@ -7,6 +7,7 @@
 mod arguments;
 mod asking;
 mod bare;
+mod by_options;
 mod debug;
 mod held;
 pub mod laws;
@@ -19,6 +20,7 @@ mod show;
 mod showing;
 
 pub use arguments::{Format, Options, Request, Task, parse, wrong};
+pub use asking::Asked;
 pub use bare::write_bare;
 pub use replies::{Reply, USAGE, VERSION};
 pub use running::{Stop, read_more, show_lines};

@@ -5,12 +5,13 @@ ghost use Rattle.std.specs.Io.{ReadsAtMost};
 ghost use Rattle.std.specs.Io.Buffered.{writer_buffer, writer_contents, writer_inner};
 ghost use Rattle.std.specs.Io.KnownBytes.{ReadConsumes};
 ghost use Rattle.netlink_packet_route.specs.Report.{line};
-ghost use Rattle.show_lines.specs.Show.{IsUnbroken};
+ghost use Rattle.show_lines.specs.Show.{IsUnbroken, shower_of};
 ghost use Rattle.show_lines.specs.Progress.{held_of, Grows, WritesLine, WritesPiece, WritesRest, OnMemory};
 ghost use Rattle.show_lines.specs.Run.{Runs};
 
 use crate::held::Held;
 use crate::show::ShowLines;
+use crate::showing::show_line;
 use std::alloc::Global;
 use std::io;
 use std::io::{BufWriter, Read, Write};
@@ -43,7 +44,7 @@ pub fn show_lines<S: ShowLines, R: Read, W: Write + Drop>(
     writer: &mut BufWriter<W>,
 ) -> Result<bool, Stop>
     requires { 0 < length chunk.old }
-    ensures shown { IfOk result (Runs (S.shows shown.now) first.now (R.remaining reader.old) (R.remaining reader.new)
+    ensures shown { IfOk result (Runs (shower_of S.refused S.answered shown.now) first.now (R.remaining reader.old) (R.remaining reader.new)
         (writer_contents W.contents writer.old) (writer_contents W.contents writer.new)) }
     ensures memory { OnMemory result
         (Grows (writer_contents W.contents writer.old) (writer_contents W.contents writer.new)) }
@@ -92,7 +93,7 @@ fn feed<S: ShowLines, W: Write + Drop>(
     chunk: &[u8],
     writer: &mut BufWriter<W>,
 ) -> Result<bool, Stop>
-    ensures shown { IfOk result (WritesPiece (S.shows shown.now) held.old held.new chunk.now
+    ensures shown { IfOk result (WritesPiece (shower_of S.refused S.answered shown.now) held.old held.new chunk.now
         (writer_contents W.contents writer.old) (writer_contents W.contents writer.new)) }
     ensures flushed { IfOk result (λ _. writer_buffer writer.new ≡ []) }
     ensures memory { OnMemory result
@@ -137,7 +138,7 @@ fn end_line<S: ShowLines, W: Write>(
     piece: &[u8],
     writer: &mut W,
 ) -> Result<bool, Stop>
-    ensures shown { IfOk result (WritesLine (S.shows shown.now) (held.old.0, held_of (held.old.1 ++ piece.now))
+    ensures shown { IfOk result (WritesLine (shower_of S.refused S.answered shown.now) (held.old.0, held_of (held.old.1 ++ piece.now))
         (W.contents writer.old) (W.contents writer.new)) }
     ensures forgotten { IfOk result (λ _. held.new ≡ (suc held.old.0, [])) }
     ensures memory { OnMemory result (Grows (W.contents writer.old) (W.contents writer.new)) }
@@ -146,7 +147,7 @@ fn end_line<S: ShowLines, W: Write>(
         Ok(()) => {}
         Err(_) => return Err(Stop::Memory),
     }
-    let read = match shown.show_line(alloc, paper, held.number(), held.bytes(), writer) {
+    let read = match show_line(alloc, shown, paper, held.number(), held.bytes(), writer) {
         Ok(read) => read,
         Err(stop) => return Err(stop),
     };
@@ -165,7 +166,7 @@ fn end_text<S: ShowLines, W: Write>(
     whole: bool,
     writer: &mut W,
 ) -> Result<bool, Stop>
-    ensures shown { IfOk result (WritesRest (S.shows shown.now) held.now whole
+    ensures shown { IfOk result (WritesRest (shower_of S.refused S.answered shown.now) held.now whole
         (W.contents writer.old) (W.contents writer.new)) }
     ensures memory { OnMemory result (Grows (W.contents writer.old) (W.contents writer.new)) }
 {
@@ -173,7 +174,7 @@ fn end_text<S: ShowLines, W: Write>(
     if text.is_empty() {
         return Ok(whole);
     }
-    match shown.show_line(alloc, paper, held.number(), text, writer) {
+    match show_line(alloc, shown, paper, held.number(), text, writer) {
         Ok(read) => Ok(whole & read),
         Err(stop) => Err(stop),
     }

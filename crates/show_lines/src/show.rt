@@ -1,60 +1,64 @@
 //! What is written for the lines of an input.
 
-ghost use Rattle.std.specs.Prelude.{IfOk};
-ghost use Rattle.show_lines.specs.Show.{Shower, by_options};
-ghost use Rattle.show_lines.specs.Progress.{Grows, IsToldByHeld, WritesLine, OnMemory};
-ghost use Rattle.show_lines.specs.Kept.{from_held};
+ghost use Rattle.std.specs.Prelude.{ℕ, List, IfOk};
+ghost use Rattle.std.specs.Option.{option_copied};
+ghost use Rattle.std.specs.Io.KnownBytes.{Appends};
+ghost use Rattle.show_lines.specs.Show.{Refused, Answered};
+ghost use Rattle.show_lines.specs.Progress.{Grows, OnMemory};
 
-use crate::arguments::Options;
+use crate::asking::Asked;
 use crate::running::Stop;
-use crate::showing::show;
 use std::alloc::Global;
 use std::io::Write;
 
-/// A way to write the output for the lines of an input.
+/// A way to write the output for the lines of an input. [`show_lines`](crate::show_lines) parses each line, and calls one of
+/// the two methods for it, unless the line is a comment or blank.
 pub trait ShowLines {
     /// Memory that is used again from line to line.
     type Paper;
 
-    /// What is written for a line with its number, and whether the line has no error.
-    ghost shows: { Self → Shower };
+    /// What is written for a line that is refused.
+    ghost refused: { Self → Refused };
 
-    /// Writes the output for the line with this number, from 1. Returns false if the line has an error.
+    /// What is written for what a line asks for, and whether it has no error.
+    ghost answered: { Self → Answered };
+
+    /// Writes that the line with this number, from 1, is refused, for a reason such as `bad hex`, which has no LF. `text` is
+    /// the line, or `None` if it is too long.
     ///
     /// # Errors
     ///
     /// A [`Stop`].
-    fn show_line<W: Write>(
+    fn refuse<W: Write>(
+        &self,
+        alloc: Global,
+        paper: &mut Self::Paper,
+        number: u64,
+        text: Option<&[u8]>,
+        reason: &str,
+        writer: &mut W,
+    ) -> Result<(), Stop>
+        ensures shown { IfOk result (λ _. Appends (W.contents writer.old) (W.contents writer.new)
+            (refused self.now number (option_copied text.entry) reason.now)) }
+        ensures memory { OnMemory result (Grows (W.contents writer.old) (W.contents writer.new)) };
+
+    /// Writes what the line with this number, from 1, asks for: `asked`, of `bytes`. Returns false if that has an error.
+    ///
+    /// # Errors
+    ///
+    /// A [`Stop`].
+    fn answer<W: Write>(
         &self,
         alloc: Global,
         paper: &mut Self::Paper,
         number: u64,
         text: &[u8],
+        asked: Asked,
+        bytes: &[u8],
         writer: &mut W,
     ) -> Result<bool, Stop>
-        ensures shown { IfOk result (WritesLine (shows self.now) (number, text.now)
-            (W.contents writer.old) (W.contents writer.new)) }
+        ensures shown { IfOk result (λ well. (out : List ℕ)
+            × answered self.now (number, text.now) asked bytes.now out well
+            × Appends (W.contents writer.old) (W.contents writer.new) out) }
         ensures memory { OnMemory result (Grows (W.contents writer.old) (W.contents writer.new)) };
-
-    /// A theorem for the prover: what is kept of a line tells what is shown for it.
-    ghost told: { (a : Self) → IsToldByHeld (shows a) };
-}
-
-impl ShowLines for Options {
-    type Paper = ();
-
-    ghost shows = { by_options };
-
-    fn show_line<W: Write>(
-        &self,
-        alloc: Global,
-        paper: &mut (),
-        number: u64,
-        text: &[u8],
-        writer: &mut W,
-    ) -> Result<bool, Stop> {
-        show(alloc, *self, text, writer)
-    }
-
-    ghost told = { from_held };
 }

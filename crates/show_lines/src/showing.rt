@@ -1,43 +1,41 @@
-//! Produces the output for an input line.
+//! Parses an input line, and has the output for it written.
 
-ghost use Rattle.std.specs.Prelude.{◌≡◌, ◌++◌, ◌↔◌, false, IsTrue, IfOk, OnOk};
-ghost use Rattle.std.specs.Io.KnownBytes.{Appends, Keeps};
-ghost use Rattle.netlink_packet_route.specs.Report.{line};
-ghost use Rattle.show_lines.specs.Show.{IsPassedOver, Shows, ShowsAs};
-ghost use Rattle.show_lines.specs.Progress.{WritesLine, WritesBelow, WritesAnswer, OnMemory};
+ghost use Rattle.std.specs.Prelude.{◌≡◌, ◌≤◌, ◌↔◌, length, false, IsTrue, IfOk};
+ghost use Rattle.std.specs.Option.{option_copied};
+ghost use Rattle.std.specs.Io.KnownBytes.{Appends};
+ghost use Rattle.netlink_packet_route.specs.Report.{most_text};
+ghost use Rattle.show_lines.specs.Show.{IsPassedOver, shower_of};
+ghost use Rattle.show_lines.specs.Progress.{Grows, WritesLine, OnMemory};
 
-use crate::arguments::{Format, Options};
 use crate::asking::Asked;
-use crate::debug::write_debug;
-use crate::plain::write_plain;
 use crate::running::Stop;
+use crate::show::ShowLines;
 use netlink_packet_route::hex_text::{HexError, is_space};
 use netlink_packet_route::{MOST_TEXT, hex_text};
 use std::alloc::Global;
-use std::io;
 use std::io::Write;
 
-/// Writes the output for an input line. Returns false if the line has an error: it is too long, has no valid command or
-/// bad hex, or its bytes do not decode or, for `check`, are not canonical.
-pub(crate) fn show<W: Write>(
+/// Writes the output for the input line with this number, from 1. Returns false if the line has an error: it is too long, has
+/// no valid command or bad hex, or what it asks for has an error.
+pub(crate) fn show_line<S: ShowLines, W: Write>(
     alloc: Global,
-    options: Options,
+    shown: &S,
+    paper: &mut S::Paper,
+    number: u64,
     text: &[u8],
     writer: &mut W,
 ) -> Result<bool, Stop>
-    ensures shown { IfOk result (WritesLine (Shows options) text.now (W.contents writer.old) (W.contents writer.new)) }
-    ensures memory { OnMemory result (Keeps (W.contents writer.old) (W.contents writer.new)) }
+    ensures shown { IfOk result (WritesLine (shower_of S.refused S.answered shown.now) (number, text.now)
+        (W.contents writer.old) (W.contents writer.new)) }
+    ensures memory { OnMemory result (Grows (W.contents writer.old) (W.contents writer.new)) }
 {
     if text.len() > MOST_TEXT {
-        return match writer.write_all(b"input too long\n") {
-            Ok(()) => Ok(false),
-            Err(_) => Err(Stop::Writer),
-        };
+        return refuse(alloc, shown, paper, number, None, "input too long", writer);
     }
     if is_passed_over(text) {
         return Ok(true);
     }
-    show_asked(alloc, options, text, writer)
+    show_asked(alloc, shown, paper, number, text, writer)
 }
 
 fn is_passed_over(text: &[u8]) -> bool
@@ -49,65 +47,52 @@ fn is_passed_over(text: &[u8]) -> bool
     }
 }
 
-/// Writes a line and the output that follows it. Returns false if the line has an error: it has no valid command or bad
-/// hex, or its bytes have an error.
-fn show_asked<W: Write>(
+/// Writes the output for a line that is not ignored. Returns false if it has an error: it has no valid command or bad hex,
+/// or what it asks for has an error.
+fn show_asked<S: ShowLines, W: Write>(
     alloc: Global,
-    options: Options,
+    shown: &S,
+    paper: &mut S::Paper,
+    number: u64,
     text: &[u8],
     writer: &mut W,
 ) -> Result<bool, Stop>
-    ensures shown { IfOk result (WritesBelow (ShowsAs options.format options.check)
-        text.now (W.contents writer.old) (W.contents writer.new)) }
-    ensures memory { OnMemory result (Keeps (W.contents writer.old) (W.contents writer.new)) }
+    requires short { length text.now ≤ most_text }
+    requires asks { ¬ IsPassedOver text.now }
+    ensures shown { IfOk result (WritesLine (shower_of S.refused S.answered shown.now) (number, text.now)
+        (W.contents writer.old) (W.contents writer.new)) }
+    ensures memory { OnMemory result (Grows (W.contents writer.old) (W.contents writer.new)) }
 {
     let (asked, digits) = match Asked::from_line(text) {
         Some(found) => found,
-        None => return refuse(writer, text, "no such family\n"),
+        None => {
+            let reason = "no such family";
+            return refuse(alloc, shown, paper, number, Some(text), reason, writer);
+        }
     };
     match hex_text::decode(alloc, digits) {
-        Ok(bytes) => write_answer(alloc, options, text, asked, &bytes, writer),
+        Ok(bytes) => shown.answer(alloc, paper, number, text, asked, &bytes, writer),
         Err(HexError::Memory(_)) => Err(Stop::Memory),
-        Err(HexError::BadHex) => refuse(writer, text, "bad hex\n"),
+        Err(HexError::BadHex) => refuse(alloc, shown, paper, number, Some(text), "bad hex", writer),
     }
 }
 
-/// Writes a line, and `reason`, which says what is wrong with it.
-fn refuse<W: Write>(writer: &mut W, text: &[u8], reason: &str) -> Result<bool, Stop>
-    ensures shown { IfOk result (λ well. Appends (W.contents writer.old) (W.contents writer.new)
-        (line text.now ++ reason.now) × (well ≡ false)) }
-    ensures memory { OnMemory result (Keeps (W.contents writer.old) (W.contents writer.new)) }
-{
-    match write_below(writer, text, reason) {
-        Ok(()) => Ok(false),
-        Err(_) => Err(Stop::Writer),
-    }
-}
-
-/// Writes a line, and below it what it asks for, in the form that the options name.
-fn write_answer<W: Write>(
+/// Writes that a line is refused, and returns false.
+fn refuse<S: ShowLines, W: Write>(
     alloc: Global,
-    options: Options,
-    text: &[u8],
-    asked: Asked,
-    bytes: &[u8],
+    shown: &S,
+    paper: &mut S::Paper,
+    number: u64,
+    text: Option<&[u8]>,
+    reason: &str,
     writer: &mut W,
 ) -> Result<bool, Stop>
-    ensures shown { IfOk result (WritesAnswer (ShowsAs options.format options.check) asked bytes.now
-        text.now (W.contents writer.old) (W.contents writer.new)) }
-    ensures memory { OnMemory result (Keeps (W.contents writer.old) (W.contents writer.new)) }
+    ensures shown { IfOk result (λ well. Appends (W.contents writer.old) (W.contents writer.new)
+        (S.refused shown.now number (option_copied text.entry) reason.now) × (well ≡ false)) }
+    ensures memory { OnMemory result (Grows (W.contents writer.old) (W.contents writer.new)) }
 {
-    match options.format {
-        Format::Plain => write_plain(writer, text, asked, options.check, bytes),
-        Format::Debug => write_debug(alloc, writer, text, asked, bytes),
+    match shown.refuse(alloc, paper, number, text, reason, writer) {
+        Ok(()) => Ok(false),
+        Err(stop) => Err(stop),
     }
-}
-
-/// Writes `text`, LF, and `below`.
-pub(crate) fn write_below<W: Write>(writer: &mut W, text: &[u8], below: &str) -> io::Result<()>
-    ensures { OnOk result (Appends (W.contents writer.old) (W.contents writer.new) (line text.now ++ below.now)) }
-{
-    writer.write_all(text)?;
-    writer.write_all(b"\n")?;
-    writer.write_all(below.as_bytes())
 }

@@ -19,10 +19,10 @@ pub loop-preserved : goal.loop-preserved
 loop-preserved g c =
     let contents = writer_contents g.W.Write.contents in
     let before = c.loop.invariant in
-    let written = WritesUnits c.args.options c.loop.is_last c.loop.place c.write_units.new.place in
+    let written = WritesUnits (g.S.ShowUnits.units c.args.shown.now) c.loop.is_last c.loop.place c.write_units.new.place in
     let named = subst (written c.loop.held.items (contents c.loop.writer) (contents c.write_units.new.writer)) c.in-Ok-More.field-0-is
     (subst (λ s. written s (contents c.loop.writer) (contents c.write_units.new.writer) c.in-Ok-More.field-0) c.deref.ensures.value c.in-Ok-More.ensures.shown) in
-    let units = subst (λ l. (out : List ℕ) × Passes c.args.options c.loop.is_last c.loop.place c.write_units.new.place c.loop.held.items l out c.in-Ok-More.well × Appends (contents c.loop.writer) (contents c.write_units.new.writer) out) (sym c.forget_front.ensures)
+    let units = subst (λ l. (out : List ℕ) × Passes (g.S.ShowUnits.units c.args.shown.now) c.loop.is_last c.loop.place c.write_units.new.place c.loop.held.items l out c.in-Ok-More.well × Appends (contents c.loop.writer) (contents c.write_units.new.writer) out) (sym c.forget_front.ensures)
     named.2 in (
       went_on c.args.first.now c.loop.held.items c.forget_front.new.held.items c.read_on.new.held.items c.loop.place c.write_units.new.place (g.R.Read.remaining c.args.reader.now) (g.R.Read.remaining c.loop.reader) (g.R.Read.remaining c.read_on.new.reader)
           (contents c.args.writer.now) (contents c.loop.writer) (contents c.write_units.new.writer) (contents c.read_on.new.writer) c.loop.whole c.in-Ok-More.well c.loop.is_last c.in-Ok-read_on.count before.0 named.0 units c.in-Ok-read_on.ensures.kept
@@ -35,7 +35,7 @@ pub returns-in-Ok-Done-clause-shown : goal.returns-in-Ok-Done-clause-shown
 returns-in-Ok-Done-clause-shown g c =
     let contents = writer_contents g.W.Write.contents in
     let before = c.loop.invariant in
-    let written = WritesUnits c.args.options c.loop.is_last c.loop.place c.write_units.new.place in
+    let written = WritesUnits (g.S.ShowUnits.units c.args.shown.now) c.loop.is_last c.loop.place c.write_units.new.place in
     let named = subst (written c.loop.held.items (contents c.loop.writer) (contents c.write_units.new.writer)) c.in-Ok-Done.field-0-is
     (subst (λ s. written s (contents c.loop.writer) (contents c.write_units.new.writer) c.in-Ok-Done.field-0) c.deref.ensures.value c.in-Ok-Done.ensures.shown) in
     went_all c.args.first.now c.loop.held.items c.loop.place (g.R.Read.remaining c.args.reader.now) (g.R.Read.remaining c.loop.reader) (contents c.args.writer.now) (contents c.loop.writer) (contents c.write_units.new.writer) c.loop.whole c.in-Ok-Done.well c.loop.is_last before.0
@@ -60,5 +60,5 @@ returns-in-Err-read_on-clause-memory g c =
     let u = contents c.write_units.new.writer in
     let x = contents c.read_on.new.writer in
     let before = c.loop.invariant.0 in
-    let units = subst (WritesUnits c.args.options c.loop.is_last c.loop.place c.write_units.new.place c.deref.result.now v u) c.in-Ok-More.field-0-is c.in-Ok-More.ensures.shown in
+    let units = subst (WritesUnits (g.S.ShowUnits.units c.args.shown.now) c.loop.is_last c.loop.place c.write_units.new.place c.deref.result.now v u) c.in-Ok-More.field-0-is c.in-Ok-More.ensures.shown in
     on_memory {X = Bool} (Grows u x) (Grows w x) (Err c.in-Err-read_on.stop) (λ more. grows_more w v x before.out before.written (grows_more v u x units.2.0 units.2.2 more)) c.in-Err-read_on.ensures.memory

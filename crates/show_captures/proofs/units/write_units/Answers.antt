@@ -1,6 +1,6 @@
 use Rattle.std.proofs.Common.{◌≡◌, ◌≢◌, ◌<◌, ◌≤◌, ◌&&◌, ℕ, ◌++◌, Bool, List, [], Err, Some, false, refl, sym, subst, arith, length, drop, length-drop}
 use Rattle.link_capture.specs.Unit.{Follows, IsUnit, IsError}
-use Rattle.std.proofs.KnownBytes.{Appends-trans}
+use Rattle.std.proofs.KnownBytes.{Appends-nil, Appends-trans}
 use Rattle.std.proofs.lemmas.List.{drop-drop}
 use Rattle.std.specs.Io.KnownBytes.{Appends}
 use Rattle.link_capture.specs.Told.{told_of}
@@ -9,10 +9,13 @@ use Rattle.show_captures.specs.declared.units.Turn.TheVariants.{Done}
 use Rattle.show_captures.specs.Event.{end_line}
 use Rattle.show_captures.specs.Progress.{Passes, WritesUnits}
 use Rattle.show_captures.proofs.Lines.{grows_more}
-use Rattle.show_captures.proofs.Passing.{passes_one, passes_both, finishes_wrong}
+use Rattle.show_captures.proofs.Passing.{passes_none, passes_one, passes_both, finishes_wrong}
 use Rattle.show_lines.specs.Progress.{Grows}
 use Rattle.show_lines.proofs.Steps.{on_memory}
 use Rattle.show_captures.proofs.units.write_units.Goals as goal
+
+pub loop-error-init : goal.loop-error-init
+loop-error-init g c = (omega arith, ([], passes_none c.args.is_last c.args.place.now c.args.bytes.now, Appends-nil (g.W.Write.contents c.args.writer.now)))
 
 pub returns-in-Wrong-clause-shown : goal.returns-in-Wrong-clause-shown
 returns-in-Wrong-clause-shown g c =
@@ -20,9 +23,9 @@ returns-in-Wrong-clause-shown g c =
     let v = g.W.Write.contents c.loop-error.writer in
     let u = g.W.Write.contents c.write_error.new.writer in
     let before = c.loop-error.invariant in
-    let line = end_line (Some (c.loop-error.place.at, c.in-Wrong.error)) in
-    if_ok (λ turn. (turn ≡ Done false) × Appends v u line) (WritesUnits c.args.options c.args.is_last c.args.place.now _ c.args.bytes.now w u) c.write_error.result
-    (λ turn h. subst (WritesUnits c.args.options c.args.is_last c.args.place.now _ c.args.bytes.now w u) (sym h.0) (
+    let line = end_line (g.S.ShowUnits.units c.args.shown.now) (Some (c.loop-error.place.at, c.in-Wrong.error)) in
+    if_ok (λ turn. (turn ≡ Done false) × Appends v u line) (WritesUnits (g.S.ShowUnits.units c.args.shown.now) c.args.is_last c.args.place.now _ c.args.bytes.now w u) c.write_error.result
+    (λ turn h. subst (WritesUnits (g.S.ShowUnits.units c.args.shown.now) c.args.is_last c.args.place.now _ c.args.bytes.now w u) (sym h.0) (
       before.1.0 ++ line,
       finishes_wrong c.args.is_last c.args.place.now c.loop-error.place c.args.bytes.now (drop c.loop-error.used c.args.bytes.now) before.1.0 c.in-Wrong.error c.loop-error.well before.1.1
           (subst (λ l. (more : List ℕ) → Follows c.args.is_last more → ((l ++ more) ≢ []) × IsError c.loop-error.place.capture (l ++ more) c.in-Wrong.error) c.rest_of.ensures c.in-Wrong.ensures.1),
@@ -54,12 +57,12 @@ loop-error-preserved g c =
     let bytes = c.args.bytes.now in
     let used = c.loop-error.used in
     let size = c.in-Unit.size in
-    let one = passes_one {options = c.args.options} c.args.is_last c.loop-error.place (record { capture = c.next.new.self; at = c.loop-error.place.at; packets = c.loop-error.place.packets }) c.write_unit.new.place (drop used bytes) shown.0.0 size
+    let one = passes_one {shower = g.S.ShowUnits.units c.args.shown.now} c.args.is_last c.loop-error.place (record { capture = c.next.new.self; at = c.loop-error.place.at; packets = c.loop-error.place.packets }) c.write_unit.new.place (drop used bytes) shown.0.0 size
     (told_of c.in-Unit.event) c.in-Ok.read (refl, refl) unit.1 unit.2 shown.1 shown.0.1 in (
       omega (arith, unit.1, before.0, length-drop used bytes),
       (
         before.1.0 ++ shown.0.0,
-        subst (λ l. Passes c.args.options c.args.is_last c.args.place.now c.write_unit.new.place bytes l (before.1.0 ++ shown.0.0) (c.loop-error.well && c.in-Ok.read)) (drop-drop size used bytes)
+        subst (λ l. Passes (g.S.ShowUnits.units c.args.shown.now) c.args.is_last c.args.place.now c.write_unit.new.place bytes l (before.1.0 ++ shown.0.0) (c.loop-error.well && c.in-Ok.read)) (drop-drop size used bytes)
             (passes_both c.args.is_last c.args.place.now c.loop-error.place c.write_unit.new.place bytes (drop used bytes) (drop size (drop used bytes)) before.1.0 shown.0.0 c.loop-error.well c.in-Ok.read before.1.1 one),
         Appends-trans w v u before.1.0 shown.0.0 before.1.2 shown.0.2,
       ),

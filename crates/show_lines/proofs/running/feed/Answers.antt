@@ -1,6 +1,7 @@
 use Rattle.std.proofs.Common.{Bool, Err}
 use Rattle.std.specs.Io.Buffered.{writer_contents}
 use Rattle.show_lines.specs.Progress.{Grows}
+use Rattle.show_lines.proofs.Kept.{from_held}
 use Rattle.show_lines.proofs.Steps.{fed_none, fed_line, fed_all, fed_grows, on_memory}
 use Rattle.show_lines.proofs.running.feed.Goals as goal
 
@@ -9,7 +10,7 @@ loop-piece-init g c = fed_none c.args.held.now c.args.chunk.now (writer_contents
 
 pub loop-piece-preserved : goal.loop-piece-preserved
 loop-piece-preserved g c =
-    fed_line (g.met.S.ShowLines.told c.args.shown.now) c.args.held.now c.loop-piece.held c.end_line.new.held c.args.chunk.now c.loop-piece.rest.now c.in-Some.piece.now c.in-Some.after.now (writer_contents g.W.Write.contents c.args.writer.now) (writer_contents g.W.Write.contents c.loop-piece.writer)
+    fed_line (from_held g.S.ShowLines.refused g.S.ShowLines.answered c.args.shown.now) c.args.held.now c.loop-piece.held c.end_line.new.held c.args.chunk.now c.loop-piece.rest.now c.in-Some.piece.now c.in-Some.after.now (writer_contents g.W.Write.contents c.args.writer.now) (writer_contents g.W.Write.contents c.loop-piece.writer)
     (writer_contents g.W.Write.contents c.end_line.new.writer) c.loop-piece.whole c.in-Ok.read c.loop-piece.invariant c.in-Some.ensures.1 c.in-Some.ensures.0 c.in-Ok.ensures.shown c.in-Ok.ensures.forgotten
 
 pub returns-in-Ok-flush-clause-shown : goal.returns-in-Ok-flush-clause-shown

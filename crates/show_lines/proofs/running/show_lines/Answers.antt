@@ -1,8 +1,10 @@
 use Rattle.std.proofs.Common.{◌<◌, Bool, length, arith, Err, subst}
 use Rattle.std.specs.Io.Buffered.{writer_contents}
+use Rattle.show_lines.specs.Show.{shower_of}
 use Rattle.show_lines.specs.Progress.{Grows, WritesRest, WritesPiece}
 use Rattle.show_lines.specs.Run.{Runs}
 use Rattle.link_show.proofs.MessageLines.{if_ok}
+use Rattle.show_lines.proofs.Kept.{from_held}
 use Rattle.show_lines.proofs.Steps.{went_none, went_on, went_all, went_grows, read_end, on_memory}
 use Rattle.show_lines.proofs.running.show_lines.Goals as goal
 
@@ -10,7 +12,7 @@ pub loop-init : goal.loop-init
 loop-init g c =
     let contents = writer_contents g.W.Write.contents in (
       went_none c.args.first.now c.feed.new.held (g.R.Read.remaining c.args.reader.now) (contents c.args.writer.now) (contents c.feed.new.writer) c.in-Ok.read
-          (subst (λ h. WritesPiece (g.S.ShowLines.shows c.args.shown.now) h c.feed.new.held c.args.first.now (contents c.args.writer.now) (contents c.feed.new.writer) c.in-Ok.read) c.new-held.ensures c.in-Ok.ensures.shown),
+          (subst (λ h. WritesPiece (shower_of g.S.ShowLines.refused g.S.ShowLines.answered c.args.shown.now) h c.feed.new.held c.args.first.now (contents c.args.writer.now) (contents c.feed.new.writer) c.in-Ok.read) c.new-held.ensures c.in-Ok.ensures.shown),
       c.in-Ok.ensures.flushed,
       c.requires,
     )
@@ -34,7 +36,7 @@ returns-in-Err-feed-clause-memory g c =
 
 pub returns-in-Ok-eq0-clause-shown : goal.returns-in-Ok-eq0-clause-shown
 returns-in-Ok-eq0-clause-shown g c =
-    let shows = g.S.ShowLines.shows c.args.shown.now in
+    let shows = shower_of g.S.ShowLines.refused g.S.ShowLines.answered c.args.shown.now in
     let r = g.R.Read.remaining c.args.reader.now in
     let s = g.R.Read.remaining c.loop.reader in
     let t = g.R.Read.remaining c.read_more.new.reader in
@@ -43,7 +45,7 @@ returns-in-Ok-eq0-clause-shown g c =
     let u = writer_contents g.W.Write.contents c.end_text.new.writer in
     let some : 0 < length c.read_more.new.chunk = omega (arith, c.read_more.auto.chunk, c.loop.invariant.2) in
     let end = read_end s t c.in-Ok-eq0.field-0 c.read_more.new.chunk c.in-Ok-eq0.field-0-test c.in-Ok-eq0.ensures.bytes some in
-    if_ok (WritesRest shows c.loop.held c.loop.whole v u) (Runs shows c.args.first.now r t w u) c.end_text.result (λ all h. went_all (g.met.S.ShowLines.told c.args.shown.now) c.args.first.now c.loop.held r s t w v u c.loop.whole all c.loop.invariant.0 end.0 end.1 h) c.end_text.ensures.shown
+    if_ok (WritesRest shows c.loop.held c.loop.whole v u) (Runs shows c.args.first.now r t w u) c.end_text.result (λ all h. went_all (from_held g.S.ShowLines.refused g.S.ShowLines.answered c.args.shown.now) c.args.first.now c.loop.held r s t w v u c.loop.whole all c.loop.invariant.0 end.0 end.1 h) c.end_text.ensures.shown
 
 pub returns-in-Ok-eq0-clause-memory : goal.returns-in-Ok-eq0-clause-memory
 returns-in-Ok-eq0-clause-memory g c =

@@ -1,0 +1,14 @@
+//! Theorems about the output. The functions have empty bodies; each states its theorem as its contract.
+
+ghost use Rattle.std.specs.Prelude.{◌≡◌, ℕ, Bool, List};
+ghost use Rattle.show_captures.specs.ByOptions.{by_options};
+ghost use Rattle.show_captures.specs.Run.{PrintsForm, ShowsInput, input_form};
+ghost use Rattle.show_lines.specs.declared.arguments.Format.TheVariants.{Plain};
+ghost use Rattle.show_lines.specs.declared.arguments.Options.{Options};
+
+/// In the plain form, every line that is written for a capture is printable ASCII, and every line that is written for lines is
+/// printable ASCII or one of them.
+pub fn printable()
+    ensures { (options : Options) (raw : Bool) (s out : List ℕ) (whole : Bool) → options.format ≡ Plain
+        → ShowsInput (by_options options) raw s out whole → PrintsForm (input_form raw s) s out }
+{}

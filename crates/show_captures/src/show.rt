@@ -1,0 +1,176 @@
+//! What is written for the units of an input.
+
+ghost use Rattle.std.specs.Prelude.{◌≡◌, ◌⊎◌, ◌<◌, [], List, ℕ, IfOk, OnOk};
+ghost use Rattle.std.specs.Io.Buffered.{writer_buffer, writer_contents, writer_inner};
+ghost use Rattle.std.specs.Io.KnownBytes.{Appends};
+ghost use Rattle.link_capture.specs.Told.{captured_of};
+ghost use Rattle.program.specs.Printing.{no_memory_line};
+ghost use Rattle.show_captures.specs.ByOptions.{units_by_options};
+ghost use Rattle.show_captures.specs.Shower.{UnitShower};
+ghost use Rattle.show_lines.specs.Progress.{Grows, OnMemory};
+ghost use Rattle.show_lines.specs.declared.running.Stop.TheVariants.{Memory};
+
+use crate::packets::write_packet;
+use crate::times::write_time;
+use link_capture::{InputError, Packet, Time};
+use program::{print_no_memory, print_read_fault};
+use show_lines::{Options, ShowLines, Stop, write_bare};
+use std::alloc::Global;
+use std::io::{BufWriter, Write};
+
+/// A way to write the output for the units of an input.
+pub trait ShowUnits: ShowLines {
+    /// What is written for units.
+    ghost units: { Self → UnitShower };
+
+    /// What is written last if an allocation fails.
+    ghost ends: { Self → List ℕ };
+
+    /// Writes the output for the packet with this number, from 1. Returns false if it has an error.
+    ///
+    /// # Errors
+    ///
+    /// A [`Stop`].
+    fn show_packet<W: Write>(
+        &self,
+        alloc: Global,
+        paper: &mut Self::Paper,
+        number: u64,
+        packet: &Packet<'_>,
+        writer: &mut W,
+    ) -> Result<bool, Stop>
+        ensures shown { IfOk result (λ well. (out : List ℕ)
+            × (units self.now).packets number (captured_of packet.now) out well
+            × Appends (W.contents writer.old) (W.contents writer.new) out) }
+        ensures memory { OnMemory result (Grows (W.contents writer.old) (W.contents writer.new)) };
+
+    /// Writes the output for a message of a raw stream. Returns false if it has an error.
+    ///
+    /// # Errors
+    ///
+    /// A [`Stop`].
+    fn show_messages<W: Write>(
+        &self,
+        alloc: Global,
+        paper: &mut Self::Paper,
+        bytes: &[u8],
+        writer: &mut W,
+    ) -> Result<bool, Stop>
+        ensures shown { IfOk result (λ well. (out : List ℕ)
+            × (units self.now).messages bytes.now out well
+            × Appends (W.contents writer.old) (W.contents writer.new) out) }
+        ensures memory { OnMemory result (Grows (W.contents writer.old) (W.contents writer.new)) };
+
+    /// Writes the output for the record of a time.
+    ///
+    /// # Errors
+    ///
+    /// A [`Stop`].
+    fn show_time<W: Write>(
+        &self,
+        alloc: Global,
+        paper: &mut Self::Paper,
+        time: Time,
+        writer: &mut W,
+    ) -> Result<(), Stop>
+        ensures shown { OnOk result ((out : List ℕ) × (units self.now).times time out
+            × Appends (W.contents writer.old) (W.contents writer.new) out) }
+        ensures memory { OnMemory result (Grows (W.contents writer.old) (W.contents writer.new)) };
+
+    /// Writes the error that ends an input, at this offset.
+    ///
+    /// # Errors
+    ///
+    /// A [`Stop`].
+    fn show_error<W: Write>(
+        &self,
+        alloc: Global,
+        paper: &mut Self::Paper,
+        at: u64,
+        error: InputError,
+        writer: &mut W,
+    ) -> Result<(), Stop>
+        ensures shown { OnOk result (Appends (W.contents writer.old) (W.contents writer.new)
+            ((units self.now).errors at error)) }
+        ensures memory { OnMemory result (Grows (W.contents writer.old) (W.contents writer.new)) };
+
+    /// Writes what a run says at its end if it stopped early, and flushes. Returns the exit status: 4 for `Memory`, 5 for
+    /// `Reader` and `Writer`, and 5 if the writer fails.
+    fn end<W: Write + Drop>(
+        &self,
+        alloc: Global,
+        paper: &mut Self::Paper,
+        stop: Stop,
+        writer: &mut BufWriter<W>,
+    ) -> u8
+        ensures cause { result ≡ 4 → stop ≡ Memory }
+        ensures memory { result ≡ 4 → Appends (writer_contents W.contents writer.old)
+            (W.contents (writer_inner writer.new)) (ends self.now) }
+        ensures empty { result < 5 → writer_buffer writer.new ≡ [] }
+        ensures known { (result ≡ 4) ⊎ (result ≡ 5) };
+}
+
+impl ShowUnits for Options {
+    ghost units = { units_by_options };
+
+    ghost ends = { λ _. no_memory_line };
+
+    fn show_packet<W: Write>(
+        &self,
+        alloc: Global,
+        paper: &mut (),
+        number: u64,
+        packet: &Packet<'_>,
+        writer: &mut W,
+    ) -> Result<bool, Stop> {
+        write_packet(alloc, *self, number, packet, writer)
+    }
+
+    fn show_messages<W: Write>(
+        &self,
+        alloc: Global,
+        paper: &mut (),
+        bytes: &[u8],
+        writer: &mut W,
+    ) -> Result<bool, Stop> {
+        write_bare(alloc, *self, bytes, writer)
+    }
+
+    fn show_time<W: Write>(
+        &self,
+        alloc: Global,
+        paper: &mut (),
+        time: Time,
+        writer: &mut W,
+    ) -> Result<(), Stop> {
+        write_time(time, writer)
+    }
+
+    fn show_error<W: Write>(
+        &self,
+        alloc: Global,
+        paper: &mut (),
+        at: u64,
+        error: InputError,
+        writer: &mut W,
+    ) -> Result<(), Stop> {
+        match writeln!(writer, "input error at {at}: {error}") {
+            Ok(()) => Ok(()),
+            Err(_) => Err(Stop::Writer),
+        }
+    }
+
+    fn end<W: Write + Drop>(
+        &self,
+        alloc: Global,
+        paper: &mut (),
+        stop: Stop,
+        writer: &mut BufWriter<W>,
+    ) -> u8 {
+        match stop {
+            Stop::Memory => print_no_memory(writer),
+            Stop::Reader => print_read_fault(writer),
+            Stop::Writer => 5,
+        }
+    }
+}

@@ -1,0 +1,108 @@
+//! Produces the output for an input line by options.
+
+ghost use Rattle.std.specs.Prelude.{◌++◌, IfOk, OnOk};
+ghost use Rattle.std.specs.Option.{option_copied};
+ghost use Rattle.std.specs.Io.KnownBytes.{Appends, Keeps};
+ghost use Rattle.netlink_packet_route.specs.Report.{line};
+ghost use Rattle.show_lines.specs.Show.{ShowsAs, refusal, refused_by_options, answered_by_options};
+ghost use Rattle.show_lines.specs.Progress.{WritesAnswer, OnMemory};
+
+use crate::arguments::{Format, Options};
+use crate::asking::Asked;
+use crate::debug::write_debug;
+use crate::plain::write_plain;
+use crate::running::Stop;
+use crate::show::ShowLines;
+use std::alloc::Global;
+use std::io;
+use std::io::Write;
+
+impl ShowLines for Options {
+    type Paper = ();
+
+    ghost refused = { refused_by_options };
+
+    ghost answered = { answered_by_options };
+
+    fn refuse<W: Write>(
+        &self,
+        alloc: Global,
+        paper: &mut (),
+        number: u64,
+        text: Option<&[u8]>,
+        reason: &str,
+        writer: &mut W,
+    ) -> Result<(), Stop> {
+        match write_refusal(writer, text, reason) {
+            Ok(()) => Ok(()),
+            Err(_) => Err(Stop::Writer),
+        }
+    }
+
+    fn answer<W: Write>(
+        &self,
+        alloc: Global,
+        paper: &mut (),
+        number: u64,
+        text: &[u8],
+        asked: Asked,
+        bytes: &[u8],
+        writer: &mut W,
+    ) -> Result<bool, Stop> {
+        write_answer(alloc, *self, text, asked, bytes, writer)
+    }
+}
+
+/// Writes a line, unless it is too long, and below it `reason`, which says what is wrong with it.
+fn write_refusal<W: Write>(writer: &mut W, text: Option<&[u8]>, reason: &str) -> io::Result<()>
+    ensures { OnOk result (Appends (W.contents writer.old) (W.contents writer.new)
+        (refusal (option_copied text.entry) reason.now)) }
+{
+    match text {
+        Some(text) => write_lines(writer, text, reason),
+        None => write_line(writer, reason.as_bytes()),
+    }
+}
+
+/// Writes two lines.
+fn write_lines<W: Write>(writer: &mut W, text: &[u8], reason: &str) -> io::Result<()>
+    ensures { OnOk result (Appends (W.contents writer.old) (W.contents writer.new) (line text.now ++ line reason.now)) }
+{
+    write_line(writer, text)?;
+    write_line(writer, reason.as_bytes())
+}
+
+/// Writes a line, and below it what it asks for, in the form that the options name.
+fn write_answer<W: Write>(
+    alloc: Global,
+    options: Options,
+    text: &[u8],
+    asked: Asked,
+    bytes: &[u8],
+    writer: &mut W,
+) -> Result<bool, Stop>
+    ensures shown { IfOk result (WritesAnswer (ShowsAs options.format options.check) asked bytes.now
+        text.now (W.contents writer.old) (W.contents writer.new)) }
+    ensures memory { OnMemory result (Keeps (W.contents writer.old) (W.contents writer.new)) }
+{
+    match options.format {
+        Format::Plain => write_plain(writer, text, asked, options.check, bytes),
+        Format::Debug => write_debug(alloc, writer, text, asked, bytes),
+    }
+}
+
+/// Writes `text`, LF, and `below`.
+pub(crate) fn write_below<W: Write>(writer: &mut W, text: &[u8], below: &str) -> io::Result<()>
+    ensures { OnOk result (Appends (W.contents writer.old) (W.contents writer.new) (line text.now ++ below.now)) }
+{
+    write_line(writer, text)?;
+    writer.write_all(below.as_bytes())
+}
+
+/// Writes `text`, and LF.
+fn write_line<W: Write>(writer: &mut W, text: &[u8]) -> io::Result<()>
+    ensures { OnOk result (Appends (W.contents writer.old) (W.contents writer.new) (line text.now)) }
+{
+    writer.write_all(text)?;
+    writer.write_all(b"\n")
+}
