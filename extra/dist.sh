@@ -71,6 +71,7 @@ Contents
   lib/libnlroute.so       the shared object
   lib/pkgconfig/          its description for pkg-config
   bin/, share/man/        the programs and their man pages
+  share/jq/               a function for jq, which reads what nlshow --format json prints
 
 Use
 
@@ -104,7 +105,7 @@ done
 cd "$prefix"
 tar -cf "$room/files.tar" bin/nlroute bin/nlshow include/nlroute*.h lib/libnlroute.a lib/libnlroute.so \
     "lib/libnlroute.so.$series" "lib/libnlroute.so.$version" lib/pkgconfig/nlroute.pc \
-    share/man/man1/nlroute.1 share/man/man1/nlshow.1 share/man/man3/nlroute.3
+    share/man/man1/nlroute.1 share/man/man1/nlshow.1 share/man/man3/nlroute.3 share/jq/nlshow.jq
 tar -xf "$room/files.tar" -C "$room/$name"
 cd "$room"
 tar --sort=name --format=ustar --owner=0 --group=0 --numeric-owner --mode=u=rwX,go=rX --mtime="@$date" \

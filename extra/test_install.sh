@@ -1,7 +1,7 @@
 #!/bin/sh
 # Tests tools/install.sh and extra/dist.sh, with an unproved build. Not part of CI, since it needs pkg-config. It takes
-# four minutes. It needs cc and ld as install.sh does, pkg-config, and GNU tar; man, g++, clang and clang++ if they are
-# there.
+# four minutes. It needs cc and ld as install.sh does, pkg-config, and GNU tar; man, jq, g++, clang and clang++ if they
+# are there.
 #
 # It installs into a temporary folder, packs that, and unpacks it in another place. What is there is compiled with, run,
 # formatted, and compared with the headers, as each function below says.
@@ -109,6 +109,12 @@ man_page() {
     man --warnings=w -E UTF-8 -l -Tutf8 -Z "$tree/share/man/man${1##*.}/$1" 2>&1 >/dev/null | diff - /dev/null
 }
 
+# jq with the function for documents of nlshow.
+function_of_jq() {
+    echo dsa 08000100 2a000000 | "$tree/bin/nlshow" --format json |
+        jq -L "$tree/share/jq" 'include "nlshow"; .list.attrs | o | .conduit' | grep -qx 42
+}
+
 # The same files, wherever they were installed.
 is_moved() {
     for it in bin include lib share; do
@@ -157,6 +163,9 @@ command -v man >/dev/null || echo "skipped: there is no man"
 for it in nlroute.1 nlshow.1 nlroute.3; do
     ! command -v man >/dev/null || check "$it" man_page "$it"
 done
+
+command -v jq >/dev/null || echo "skipped: there is no jq"
+! command -v jq >/dev/null || check "nlshow.jq" function_of_jq
 
 echo "$passed passed, $failed failed"
 [ "$failed" = 0 ]

@@ -9,6 +9,7 @@
 #     lib/pkgconfig/nlroute.pc   finds the other files from its own place: the tree can be moved
 #     bin/                       the programs nlroute and nlshow
 #     share/man/                 the man pages nlroute(1), nlshow(1) and nlroute(3)
+#     share/jq/nlshow.jq         a function for jq, which reads what `nlshow --format json` prints
 #
 # LIBDIR names another folder of PREFIX for the library, as lib64 or lib/x86_64-linux-gnu.
 #
@@ -121,4 +122,5 @@ put 644 "$libdir/pkgconfig" "$room/nlroute.pc"
 put 755 bin "$room/nlroute" "$room/nlshow"
 put 644 share/man/man1 docs/nlroute.1 docs/nlshow.1
 put 644 share/man/man3 docs/nlroute.3
+put 644 share/jq docs/nlshow.jq
 echo "nlroute $version is installed in $into"

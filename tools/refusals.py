@@ -1,6 +1,6 @@
 #!/usr/bin/env python3
 """Makes the allocations of calls of the libraries fail, one after another, and those of `nlroute`, and of `nlshow` with
-a wrong argument or `--version`.
+a wrong argument, `--version` or `--format json`.
 
 usage: tools/refusals.py
 
@@ -9,7 +9,7 @@ what it returns is in stdout beside it. The program `refusals` makes each call i
 refusals.c. Then the first allocation and all after it fail, in the next run the second and all after it, and so on to the
 last. Each of these runs returns the error of the call for a failed allocation, and makes no other allocation after it.
 `nlroute` runs in the same way for each `report`, from its start, and for the lines that it prints without a report, as
-`nlshow` does for a wrong argument and for its version.
+`nlshow` does for a wrong argument and for its version. As JSON it prints whole documents, which are the front of all.
 
 In every run the caller's bytes and values are unchanged. So are buffers, except where a call wrote to them: at the
 front, as much as it returns, or if `rewrite_streaming` fails, at most the length of the list, rounded up to a multiple of
@@ -81,11 +81,12 @@ class Refuser:
         return printed(text, ran.returncode), requests
 
     def refuse_each(self, words, given, answer, wanting, allocations):
-        """Makes each allocation fail in turn, and returns what does not hold, or None."""
+        """Makes each allocation fail in turn, and returns what does not hold, or None. `wanting` has the answers that are right
+        if an allocation fails."""
         for place in range(allocations + 1):
             said, requests = self.run(words, given, place)
             what = f"if allocation {place} fails" if place else "with memory"
-            if said != (wanting if place else answer):
+            if said not in (wanting if place else [answer]):
                 return f"{what} it answers {said}"
             if requests != (place or allocations):
                 return f"{what} it makes {requests} allocations, and not {place or allocations}"
@@ -121,20 +122,20 @@ def runs_of_calls():
         line = f"{allocations} {call}\n"
         # (there is no error for a call that never makes an allocation)
         wanting = f"{line}  {WANTING.get(call.split()[0])}\n"
-        yield ["refusals"], line.encode(), f"{line}{answer}\n", wanting, allocations
+        yield ["refusals"], line.encode(), f"{line}{answer}\n", [wanting], allocations
         if call.startswith("report"):
             # (of hex digits, `N*DIGITS` are N times those digits)
             _, family, *parts = call.split()
             text = "".join(it[2] * int(it[0] or 1) for it in (part.rpartition("*") for part in parts)).encode()
             words = ["nlroute", family]
-            yield words, text, answer, NO_MEMORY, allocations + for_arguments(words) + for_reading(text)
+            yield words, text, answer, [NO_MEMORY], allocations + for_arguments(words) + for_reading(text)
 
 
 def runs_of_programs(folder):
     """The lines that the programs print without a report. `nlroute` makes no allocation but those for its arguments;
     `nlshow` makes others, in `clap` and for the lines. Reading from a folder fails."""
     unknown = "error: unexpected argument '-x' found\n"
-    unknown += "usage: nlshow [--format plain|debug] [--check] [--raw] [FILE].. | --help | --version\n"
+    unknown += "usage: nlshow [--format plain|debug|json] [--check] [--raw] [FILE].. | --help | --version\n"
     usage = "usage: nlroute FAMILY | --help | --version\n"
     for words, given, text, status, others in (
         (["nlroute"], b"", usage, 2, 0),
@@ -145,7 +146,20 @@ def runs_of_programs(folder):
         (["nlshow", "-x"], b"", unknown, 2, 22),
         (["nlshow", "--version"], b"", "nlshow 0.3.0\n", 0, 9),
     ):
-        yield words, given, printed(text, status), NO_MEMORY, for_arguments(words) + others
+        yield words, given, printed(text, status), [NO_MEMORY], for_arguments(words) + others
+
+
+def runs_of_json():
+    """`nlshow` for lines as JSON. If an allocation fails while it reads its arguments, it prints that; later, it ends after a
+    whole document."""
+    documents = (
+        '{"line":1,"error":{"at":null,"text":"no such family"},"ok":false}\n',
+        '{"line":2,"list":{"family":"dsa","attrs":[{"name":"conduit","value":42}]},"ok":true}\n',
+    )
+    fronts = ["".join(documents[:count]) for count in range(len(documents) + 1)]
+    words = ["nlshow", "--format", "json"]
+    wanting = [NO_MEMORY, *(printed(it, 4) for it in fronts)]
+    yield words, b"tap\ndsa 080001002a000000\n", printed(fronts[-1], 1), wanting, for_arguments(words) + 35
 
 
 def main():
@@ -161,7 +175,7 @@ def main():
         subprocess.run(["cc", *flags, "-o", malloc, f"{ROOT}/tools/refusals.c"], check=True)
         refuser = Refuser(malloc)
         folder = os.open(ROOT, os.O_RDONLY)
-        for words, given, *wanted in [*runs_of_calls(), *runs_of_programs(folder)]:
+        for words, given, *wanted in [*runs_of_calls(), *runs_of_programs(folder), *runs_of_json()]:
             wrong = refuser.refuse_each(words, given, *wanted)
             results.append(not wrong)
             if wrong:

@@ -46,9 +46,9 @@ It has the clause `ensures length { result ≡ 2 }`, and `requires { .. }`.
 | `std::mem::swap`, `to_string()` | in `std` |
 
 - 2<!-- count: tests of pairs --> tests, three<!-- count: mutants --> mutants, one<!-- count: mutants of definitions
-  --> of definitions, 1<!-- count: must-fail edits --> must-fail edit. The other names are `IsPair` and `nla_type`.
+  --> of definitions, 1<!-- count: must-fail edits --> must-fail edit. The other names are `IsPair`, `pair_delay` and `nla_type`.
 - 1,001<!-- count: calls that allocate --> calls allocate, 1<!-- count: calls that do not allocate --> does not.
-- 2<!-- count: lists of plain --> lists, one<!-- count: check lines of plain --> `check`, 4<!-- count: runs --> runs,
+- 2<!-- count: lists of plain --> lists, one<!-- count: check lines of plain --> `check`, 5<!-- count: runs --> runs,
   1<!-- count: message lines of plain --> message, 2<!-- count: tap lines of plain --> others.
 
 ```text
@@ -161,6 +161,7 @@ TREE = {
     LINKS: '{"dsa", NLROUTE_DSA},\n',
     RUN: "program: nlshow\n\n> vlan 00\n",
     "runs/plain/other": "program: nlroute\n\n< dsa 00\n",
+    "runs/json/pairs": 'program: nlshow\n\n< dsa 00\n< vlan 00\n{"name":"pair_delay"}\n',
     "runs/plain/inputs/stored": "program\n",
     "runs/debug/other": "# dsa 00\nprogram: nlshow\n\n",
 }
@@ -212,6 +213,7 @@ CASES = [
     *(("README.md", "`nla_type`", f"`{it}`", "23: " + NO_NAME.format(it.split("::")[-1])) for it in ("len_off", "IsPairs", "Pair::is_pair")),
     *(("README.md", "`nla_type`", f"`{it}`") for it in ("len_of", "PAIR_LEN", "pair", "Pairs")),
     ("README.md", "len_of: ", "len_off: ", "29: " + NO_NAME.format("len_off")),
+    ("runs/json/pairs", "pair_delay", "pair_age", "23: " + NO_NAME.format("pair_delay")),
     ("README.md", "IsPairPair", "IsPairPairs", "29: " + NO_NAME.format("IsPairPairs")),
     ("README.md", "1  PAIR_AGE ", "2  PAIR_AGE ", IN_CODE.format(35, "2 PAIR_AGE Age as Seconds", "1 PAIR_AGE Age as Seconds"),
      IN_TABLE.format(35, "2 of pair_table", "PAIR_ENDS Nested false end_rows")),
@@ -226,7 +228,7 @@ CASES = [
     ("README.md", "three<", "two<", "22: " + NOT_COUNT.format("two", "mutants, which is 3")),
     ("README.md", "1,001", "1,002", "24: " + NOT_COUNT.format("1,002", "calls that allocate, which is 1,001")),
     ("README.md", "  1<", "  2<", "26: " + NOT_COUNT.format(2, "message lines of plain, which is 1")),
-    ("README.md", "4<!-- count: runs -->", "3<!-- count: runs of plain -->"),
+    ("README.md", "5<!-- count: runs -->", "3<!-- count: runs of plain -->"),
     (RUN, "> vlan 00\n", "> vlan 00\n< vlan\nvlan\n", "25: " + NOT_COUNT.format(2, "lists of plain, which is 3")),
     (RUN, "> vlan 00\n", "> vlan 00\n= ff0a\n= 76 6c 61 6e\n", "25: " + NOT_COUNT.format(2, "lists of plain, which is 3")),
     (RUN, "> vlan 00\n", "> vlan 00\n@ fi\r\n< vlan\n@ fi\n"),
@@ -244,6 +246,7 @@ CASES = [
     (MAN, "vlan", "van", f"{MAN}:{NO_SET.format(LISTED[MAN])}"),
     (LINKS, '"dsa", NLROUTE_DSA', '"dsa", NLROUTE_VLAN', f"{LINKS}:{NO_SET.format(LISTED[LINKS])}".replace("vlan", "dsa")),
     (RUN, "> vlan 00", "> vlan zz", f"runs/plain/:{NO_SET.format(LISTED['runs/plain/'])}"),
+    ("runs/json/pairs", "< vlan 00", "< vlan", f"runs/json/:{NO_SET.format(LISTED['runs/json/'])}"),
     (f"{ROUTE}/src/family.rt", "1  Bridge", "2  Bridge",
      f"{ROUTE}/src/family.rt:1: the numbers of attribute sets do not go from 0 in order", f"{HEADER}:{NO_SET.format(LISTED[HEADER])}"),
     (f"{ROUTE}/src/family.rt", FAMILIES, "\n", f"{ROUTE}/src/family.rt:1: there is no list of attribute sets",

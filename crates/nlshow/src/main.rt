@@ -1,6 +1,6 @@
-//! Prints the values of lists of link attributes, and of the lists in link messages.
+//! Prints the values of lists of link attributes, and of the lists in link messages, as text or as JSON.
 //!
-//! Usage: `nlshow [--format plain|debug] [--check] [--raw] [FILE].. | --help | --version`. Each FILE, or standard input, is
+//! Usage: `nlshow [--format plain|debug|json] [--check] [--raw] [FILE].. | --help | --version`. Each FILE, or standard input, is
 //! a capture (pcap or pcapng), or with `--raw` messages, one after another, or has lines. Each line is one of
 //!
 //! - `FAMILY HEX`: the bytes of a list. FAMILY is the name of a `Family`;
@@ -14,7 +14,7 @@
 #[cfg(test)]
 mod tests;
 
-ghost use Rattle.std.specs.Prelude.{◌≡◌, ◌≢◌, ◌↔◌, ◌∷◌, ◌++◌, [], false, IfOk, IsTrue, MatchOption, OnOk, codes};
+ghost use Rattle.std.specs.Prelude.{◌≡◌, ◌≢◌, ◌⊎◌, ◌↔◌, ◌∷◌, ◌++◌, [], false, IfOk, IsTrue, MatchOption, OnOk, codes};
 ghost use Rattle.std.specs.Io.Buffered.{writer_buffer, writer_contents, writer_inner};
 ghost use Rattle.std.specs.Io.KnownBytes.{Appends};
 ghost use Rattle.link_show.specs.Quoted.{quoted};
@@ -22,14 +22,16 @@ ghost use Rattle.program.specs.Printing.{PrintsOrFails};
 ghost use Rattle.program.specs.Watched.{has_failed};
 ghost use Rattle.show_lines.specs.Arguments.{IsError, IsRequest, IsWrong, reply_status, reply_text};
 
+use link_json::Sheet;
 use link_show::write_quoted;
 use program::{
     Watched, collect_arguments, print, print_error, print_no_memory, print_write_fault, unbuffered,
 };
 use show_captures::run;
-use show_lines::{Reply, Request, Task, parse, wrong};
+use show_json::{Json, write_unopened};
+use show_lines::{Output, Reply, Request, Task, parse, wrong};
 use std::alloc::{AllocError, Global};
-use std::io::{BufWriter, Write};
+use std::io::{BufWriter, Read, Write};
 use std::process::ExitCode;
 use std::rt::Files;
 use std::{fs, io};
@@ -49,7 +51,7 @@ fn main(rt: HostRuntime) -> ExitCode {
                     let _ = print_write_fault(&writer, &mut errors);
                     status
                 }
-                Err(_) => print_no_memory(&mut plain),
+                Err(_) => end_without_buffer(&mut plain, task.output),
             }
         }
         Ok(Request::Print(reply)) => print_reply(&mut plain, &mut errors, &reply),
@@ -57,6 +59,16 @@ fn main(rt: HostRuntime) -> ExitCode {
     };
     let _ = print_write_fault(&plain, &mut errors);
     ExitCode::from(status)
+}
+
+/// Prints that an allocation failed, except as JSON. Returns 4, or 5 if the writer fails.
+fn end_without_buffer<W: Write + Drop>(writer: &mut BufWriter<W>, output: Output) -> u8
+    ensures { (result ≡ 4) ⊎ (result ≡ 5) }
+{
+    match output {
+        Output::Text(_) => print_no_memory(writer),
+        Output::Json => 4,
+    }
 }
 
 /// Returns what the command line asks for. `words` is the program's name and the arguments, or `None` if one of them is
@@ -84,11 +96,11 @@ fn run_task<R: Files + Input + AllocGlobal, W: Write + Drop>(
     writer: &mut BufWriter<Watched<W>>,
 ) -> u8 {
     if task.files.is_empty() {
-        return run(
+        return run_on(
             rt.alloc(),
-            &task.options,
-            &mut (),
+            task.output,
             task.raw,
+            None,
             &mut rt.reader(),
             writer,
         );
@@ -112,37 +124,47 @@ fn goes_on<W: Write + Drop>(status: u8, writer: &BufWriter<Watched<W>>) -> bool
     status != 4 && !writer.get_ref().has_failed()
 }
 
-/// Writes the line with the name of a file, and runs on the file; `-` is standard input. Returns the exit status, which is
-/// 5 if the file cannot be opened.
+/// Runs on an input: a file with this name, or standard input. Returns the exit status.
+fn run_on<R: Read, W: Write + Drop>(
+    alloc: Global,
+    output: Output,
+    raw: bool,
+    file: Option<&str>,
+    reader: &mut R,
+    writer: &mut BufWriter<W>,
+) -> u8 {
+    match output {
+        Output::Text(options) => run(alloc, &options, &mut (), raw, reader, writer),
+        Output::Json => {
+            let mut sheet = Sheet::new(alloc);
+            run(alloc, &Json { file }, &mut sheet, raw, reader, writer)
+        }
+    }
+}
+
+/// Writes the line with the name of a file, which JSON does not have, and runs on the file; `-` is standard input. Returns
+/// the exit status, which is 5 if the file cannot be opened.
 fn run_file<R: Files + Input + AllocGlobal, W: Write + Drop>(
     rt: &R,
     task: &Task,
     name: &str,
     writer: &mut BufWriter<W>,
 ) -> u8 {
-    if write_name(writer, name).is_err() {
+    let (alloc, output, raw) = (rt.alloc(), task.output, task.raw);
+    if let Output::Text(_) = output
+        && write_name(writer, name).is_err()
+    {
         return 5;
     }
     if name == "-" {
-        return run(
-            rt.alloc(),
-            &task.options,
-            &mut (),
-            task.raw,
-            &mut rt.reader(),
-            writer,
-        );
+        return run_on(alloc, output, raw, Some(name), &mut rt.reader(), writer);
     }
     match fs::open(rt, name) {
-        Ok(mut file) => run(
-            rt.alloc(),
-            &task.options,
-            &mut (),
-            task.raw,
-            &mut file,
-            writer,
-        ),
-        Err(_) => print(writer, "cannot open\n", 5),
+        Ok(mut file) => run_on(alloc, output, raw, Some(name), &mut file, writer),
+        Err(_) => match output {
+            Output::Text(_) => print(writer, "cannot open\n", 5),
+            Output::Json => write_unopened(alloc, name, writer),
+        },
     }
 }
 

@@ -4,11 +4,12 @@
 
 mod callers;
 mod captures;
+mod documents;
 mod replies;
 mod walks;
 
-use show_captures::run;
-use show_lines::{Format, Options};
+use crate::run_on;
+use show_lines::{Format, Options, Output};
 use std::alloc::Global;
 use std::io;
 use std::io::{BufWriter, Read, Write};
@@ -16,20 +17,20 @@ use std::process::Abort;
 
 const SHOWN: &str = "dsa 0800 0100 2a00 0000\n  Conduit(42)\n";
 
-const PLAIN: Options = Options {
+const PLAIN: Output = Output::Text(Options {
     format: Format::Plain,
     check: false,
-};
+});
 
-const CHECKED: Options = Options {
+const CHECKED: Output = Output::Text(Options {
     format: Format::Plain,
     check: true,
-};
+});
 
-const DEBUG: Options = Options {
+const DEBUG: Output = Output::Text(Options {
     format: Format::Debug,
     check: false,
-};
+});
 
 /// Returns at most `most` bytes per read. After the last byte, it fails if `is_broken`.
 #[derive(Drop)]
@@ -106,7 +107,7 @@ fn buffered<W: Write + Drop>(rt: &impl Abort, alloc: Global, writer: W) -> BufWr
 fn shows(rt: &impl Abort, alloc: Global, text: &[u8], shown: &[u8], status: u8) {
     let mut rest = text;
     let mut written = buffered(rt, alloc, Vec::new(alloc));
-    let answer = run(alloc, &DEBUG, &mut (), false, &mut rest, &mut written);
+    let answer = run_on(alloc, DEBUG, false, None, &mut rest, &mut written);
     assert!(rt; answer == status && written.get_ref().as_slice() == shown);
     let mut trickle = Trickle {
         rest: text,
@@ -114,7 +115,7 @@ fn shows(rt: &impl Abort, alloc: Global, text: &[u8], shown: &[u8], status: u8) 
         is_broken: false,
     };
     let mut written = buffered(rt, alloc, Vec::new(alloc));
-    let answer = run(alloc, &DEBUG, &mut (), false, &mut trickle, &mut written);
+    let answer = run_on(alloc, DEBUG, false, None, &mut trickle, &mut written);
     assert!(rt; answer == status && written.get_ref().as_slice() == shown);
 }
 
@@ -161,24 +162,17 @@ fn readers_and_writers_that_fail(rt: HostRuntime) {
             is_broken: true,
         };
         let mut written = buffered(&rt, rt.alloc(), Vec::new(rt.alloc()));
-        let status = run(
-            rt.alloc(),
-            &PLAIN,
-            &mut (),
-            false,
-            &mut reader,
-            &mut written,
-        );
+        let status = run_on(rt.alloc(), PLAIN, false, None, &mut reader, &mut written);
         assert!(&rt; status == 5 && written.get_ref().as_slice() == shown.as_bytes());
     }
     for text in ["", "# dsa", "dsa", "dsa\n"] {
         for takes in [false, true] {
             let mut writer = buffered(&rt, rt.alloc(), Broken { takes });
-            let status = run(
+            let status = run_on(
                 rt.alloc(),
-                &PLAIN,
-                &mut (),
+                PLAIN,
                 false,
+                None,
                 &mut text.as_bytes(),
                 &mut writer,
             );
@@ -217,16 +211,16 @@ const CHECKED_ROWS: [(&[u8], &str); 7] = [
 ];
 
 /// Asserts that `run`, reading `text` 1, 2, 3, 7 and 4096 bytes at a time, writes `lines` and returns the status
-/// `end.1`. If `end.0` is true, the reader fails after `text`. `how` has the options of the run, and whether it is raw.
+/// `end.1`. If `end.0` is true, the reader fails after `text`. `how` has what the run writes, and whether it is raw.
 fn is_read(
     rt: &impl Abort,
     alloc: Global,
-    how: (Options, bool),
+    how: (Output, bool),
     text: &[u8],
     lines: &[u8],
     end: (bool, u8),
 ) {
-    let (options, raw) = how;
+    let (output, raw) = how;
     let (is_broken, status) = end;
     for most in [1, 2, 3, 7, 4096] {
         let mut reader = Trickle {
@@ -235,20 +229,30 @@ fn is_read(
             is_broken,
         };
         let mut written = buffered(rt, alloc, Vec::new(alloc));
-        let answer = run(alloc, &options, &mut (), raw, &mut reader, &mut written);
+        let answer = run_on(alloc, output, raw, None, &mut reader, &mut written);
         assert!(rt; answer == status && written.get_ref().as_slice() == lines);
+    }
+}
+
+/// What is written if the reader fails.
+fn read_fault(output: Output) -> &'static str {
+    match output {
+        Output::Text(_) => "read fault\n",
+        Output::Json => "{\"error\":{\"at\":null,\"text\":\"read fault\"},\"ok\":false}\n",
     }
 }
 
 /// Makes the reader fail after each byte of several lines, or other units of an input. The output before the failure is
 /// that of whole units.
-fn fails_anywhere(rt: &impl Abort, alloc: Global, how: (Options, bool), rows: &[(&[u8], &str)]) {
+fn fails_anywhere(rt: &impl Abort, alloc: Global, how: (Output, bool), rows: &[(&[u8], &str)]) {
     let mut text = Vec::new(alloc);
     let mut lines = Vec::new(alloc);
     for (unit, shown) in rows {
         for byte in unit.iter() {
             let mut wanted = lines.clone().expect(rt, shown);
-            wanted.extend_from_slice(b"read fault\n").expect(rt, shown);
+            wanted
+                .extend_from_slice(read_fault(how.0).as_bytes())
+                .expect(rt, shown);
             is_read(rt, alloc, how, &text, &wanted, (true, 5));
             text.push(*byte).expect(rt, shown);
         }
@@ -264,8 +268,8 @@ fn readers_that_fail_anywhere(rt: HostRuntime) {
 }
 
 /// Makes the writer fail at each offset of the output. Everything before is written, and no write follows the failure.
-fn stops_anywhere(rt: &impl Abort, alloc: Global, how: (Options, bool), rows: &[(&[u8], &str)]) {
-    let (options, raw) = how;
+fn stops_anywhere(rt: &impl Abort, alloc: Global, how: (Output, bool), rows: &[(&[u8], &str)]) {
+    let (output, raw) = how;
     let mut text = Vec::new(alloc);
     let mut lines = Vec::new(alloc);
     for (unit, shown) in rows {
@@ -281,14 +285,7 @@ fn stops_anywhere(rt: &impl Abort, alloc: Global, how: (Options, bool), rows: &[
                 failures: 0,
             };
             let mut writer = buffered(rt, alloc, narrow);
-            let answer = run(
-                alloc,
-                &options,
-                &mut (),
-                raw,
-                &mut text.as_slice(),
-                &mut writer,
-            );
+            let answer = run_on(alloc, output, raw, None, &mut text.as_slice(), &mut writer);
             let narrow = writer.get_ref();
             let (wanted, failures) = if room < lines.len() { (5, 1) } else { (1, 0) };
             assert!(rt; answer == wanted && narrow.failures == failures);

@@ -1,9 +1,13 @@
 -- What the arguments give: a run, or a text in place of a run.
-use Rattle.std.specs.Prelude.{◌≡◌, ℕ, Bool, true, List, ◌∷◌, ◌++◌, Vec, String, codes, string_bytes}
+use Rattle.std.specs.Prelude.{◌≡◌, ℕ, Bool, true, List, ◌∷◌, ◌++◌, Option, Some, None, Vec, String, codes, string_bytes, if◌then◌else◌}
 use Rattle.std.specs.declared.alloc.Global.{Global}
 use Rattle.show_lines.specs.Show.{IsUnbroken}
-use Rattle.show_lines.specs.declared.arguments.Format.{Format}
-use Rattle.show_lines.specs.declared.arguments.Format.TheVariants.{Debug}
+use Rattle.show_lines.specs.declared.arguments.Form.{Form}
+use Rattle.show_lines.specs.declared.arguments.Form.TheVariants as forms
+use Rattle.show_lines.specs.declared.arguments.Format.TheVariants.{Plain, Debug}
+use Rattle.show_lines.specs.declared.arguments.Output.{Output}
+use Rattle.show_lines.specs.declared.arguments.Output.TheVariants.{Text, Json}
+use Rattle.show_lines.specs.declared.arguments.Task.{Task}
 use Rattle.show_lines.specs.declared.arguments.Request.{Request}
 use Rattle.show_lines.specs.declared.arguments.Request.TheVariants.{Run, Print}
 use Rattle.show_lines.specs.declared.replies.Reply.{Reply}
@@ -34,15 +38,34 @@ IsWrong line _ = ⊥
 abbrev pub IsAnyWrong : Request → Type 0
 IsAnyWrong request = (line : List ℕ) × IsUnbroken line × IsWrong line request
 
--- the request is a run with this format and check, on inputs that are raw or not, of these files; in the debug form, lists
--- cannot be checked
-abbrev pub RunsOrClashes : Format → Bool → Bool → Vec (String Global) Global → Request → Type 0
-RunsOrClashes Debug true raw files request = IsWrong (codes "error: the argument '--format debug' cannot be used with '--check'") request
-RunsOrClashes format check raw files request =
-    request ≡ Run (record { options = record { format = format; check = check }; raw = raw; files = files })
+-- why a form cannot have `--check`, if it cannot
+abbrev pub clash : Form → Option (List ℕ)
+clash (forms.Text Plain) = None
+clash (forms.Text Debug) = Some (codes "error: the argument '--format debug' cannot be used with '--check'")
+clash forms.Json = Some (codes "error: the argument '--format json' cannot be used with '--check'")
+
+-- what a run in this form writes
+abbrev pub output_of : Form → Bool → Output
+output_of (forms.Text format) check = Text (record { format = format; check = check })
+output_of forms.Json check = Json
+
+-- the request is this run, unless there is an error
+abbrev pub RunsUnless : Option (List ℕ) → Task → Request → Type 0
+RunsUnless None task request = request ≡ Run task
+RunsUnless (Some line) task request = IsWrong line request
+
+-- the request is a run in this form, with this check, on inputs that are raw or not, of these files; or the form cannot have
+-- `--check`
+abbrev pub RunsOrClashes : Form → Bool → Bool → Vec (String Global) Global → Request → Type 0
+RunsOrClashes form check raw files = RunsUnless (if check then clash form else None) (record { output = output_of form check; raw = raw; files = files })
+
+-- lists are not checked in the debug form
+abbrev pub ChecksPlain : Output → Type 0
+ChecksPlain (Text options) = ¬ ((options.format ≡ Debug) × (options.check ≡ true))
+ChecksPlain Json = Unit {0}
 
 -- a run that has no `--check` in the debug form, the help text, the version, or what is wrong
 abbrev pub IsRequest : Request → Type 0
-IsRequest (Run task) = ¬ ((task.options.format ≡ Debug) × (task.options.check ≡ true))
+IsRequest (Run task) = ChecksPlain task.output
 IsRequest (Print (Wrong text)) = IsAnyWrong (Print (Wrong text))
 IsRequest (Print _) = Unit {0}

@@ -1,8 +1,8 @@
 //! The command-line arguments.
 
-ghost use Rattle.std.specs.Prelude.{◌≡◌, ◌==◌, IfOk};
+ghost use Rattle.std.specs.Prelude.{◌≡◌, ◌==◌, IfOk, option_map};
 ghost use Rattle.std.specs.List.{before_first};
-ghost use Rattle.show_lines.specs.Arguments.{IsRequest, IsWrong, RunsOrClashes};
+ghost use Rattle.show_lines.specs.Arguments.{IsRequest, IsWrong, RunsOrClashes, clash, output_of};
 
 use crate::replies::{Reply, USAGE, VERSION};
 use clap::error::ErrorKind;
@@ -10,9 +10,9 @@ use clap::{Arg, ArgAction, ArgMatches, Command, Error};
 use std::alloc::{AllocError, Global};
 
 /// The values of `--format`.
-static FORMATS: [&str; 2] = ["plain", "debug"];
+static FORMATS: [&str; 3] = ["plain", "debug", "json"];
 
-/// How lists and messages are printed.
+/// How lists and messages are printed as text.
 #[derive(Clone, Copy, Debug, PartialEq, Eq)]
 pub enum Format {
     /// As text for people.
@@ -21,7 +21,7 @@ pub enum Format {
     Debug,
 }
 
-/// The options of a run.
+/// The options of a run that prints text.
 #[derive(Clone, Copy, Debug, PartialEq, Eq)]
 pub struct Options {
     /// How lists and messages are printed.
@@ -30,11 +30,27 @@ pub struct Options {
     pub check: bool,
 }
 
-/// What a run reads, and how it prints that.
+/// What a run writes.
+#[derive(Clone, Copy, Debug, PartialEq, Eq)]
+pub enum Output {
+    /// Text, by these options.
+    Text(Options),
+    /// A JSON document for each message.
+    Json,
+}
+
+/// A value of `--format`.
+#[derive(Clone, Copy)]
+pub(crate) enum Form {
+    Text(Format),
+    Json,
+}
+
+/// What a run reads, and what it writes for that.
 #[derive(Debug, Drop)]
 pub struct Task {
-    /// The options.
-    pub options: Options,
+    /// What is written.
+    pub output: Output,
     /// Whether inputs are messages, one after another, in place of lines and captures.
     pub raw: bool,
     /// The names of the files to read, in order; `-` is standard input. Without any, standard input is read.
@@ -62,6 +78,7 @@ pub fn parse(alloc: Global, arguments: &Vec<String>) -> Result<Request, AllocErr
         Ok(matches) => settled(
             alloc,
             chosen(&matches),
+            matches.get_flag("check"),
             matches.get_flag("raw"),
             named(alloc, &matches)?,
         ),
@@ -69,25 +86,46 @@ pub fn parse(alloc: Global, arguments: &Vec<String>) -> Result<Request, AllocErr
     }
 }
 
-/// Returns the request for this run, or for a wrong argument: the debug form has no `--check`.
+/// Returns the request for this run, or for a wrong argument: only the plain form has `--check`.
 fn settled(
     alloc: Global,
-    options: Options,
+    form: Form,
+    check: bool,
     raw: bool,
     files: Vec<String>,
 ) -> Result<Request, AllocError>
-    ensures { IfOk result (RunsOrClashes options.format options.check raw files) }
+    ensures { IfOk result (RunsOrClashes form check raw files) }
 {
-    match (options.format, options.check) {
-        (Format::Debug, true) => wrong(
-            alloc,
-            "error: the argument '--format debug' cannot be used with '--check'",
-        ),
-        _ => Ok(Request::Run(Task {
-            options,
-            raw,
-            files,
-        })),
+    if check && let Some(line) = clash_of(form) {
+        return wrong(alloc, line);
+    }
+    Ok(Request::Run(Task {
+        output: output_of(form, check),
+        raw,
+        files,
+    }))
+}
+
+/// Returns why a form cannot have `--check`, if it cannot.
+fn clash_of(form: Form) -> Option<&'static str>
+    ensures { option_map (λ text. text.now) result ≡ clash form }
+{
+    match form {
+        Form::Text(Format::Plain) => None,
+        Form::Text(Format::Debug) => {
+            Some("error: the argument '--format debug' cannot be used with '--check'")
+        }
+        Form::Json => Some("error: the argument '--format json' cannot be used with '--check'"),
+    }
+}
+
+/// Returns what a run in this form writes.
+fn output_of(form: Form, check: bool) -> Output
+    ensures { result ≡ output_of form check }
+{
+    match form {
+        Form::Text(format) => Output::Text(Options { format, check }),
+        Form::Json => Output::Json,
     }
 }
 
@@ -130,15 +168,12 @@ fn command<'a>(alloc: Global) -> Result<Command<'a>, AllocError> {
         .arg(files)
 }
 
-/// Returns the options in `matches`.
-fn chosen(matches: &ArgMatches<'_>) -> Options {
-    let format = match matches.get_str("format") {
-        Some("debug") => Format::Debug,
-        _ => Format::Plain,
-    };
-    Options {
-        format,
-        check: matches.get_flag("check"),
+/// Returns the form in `matches`.
+fn chosen(matches: &ArgMatches<'_>) -> Form {
+    match matches.get_str("format") {
+        Some("json") => Form::Json,
+        Some("debug") => Form::Text(Format::Debug),
+        _ => Form::Text(Format::Plain),
     }
 }
 

@@ -19,7 +19,7 @@ mod running;
 mod show;
 mod showing;
 
-pub use arguments::{Format, Options, Request, Task, parse, wrong};
+pub use arguments::{Format, Options, Output, Request, Task, parse, wrong};
 pub use asking::Asked;
 pub use bare::write_bare;
 pub use replies::{Reply, USAGE, VERSION};

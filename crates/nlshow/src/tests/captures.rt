@@ -111,7 +111,7 @@ const MISSING: &str = "file \"\"\ncannot open\nfile \"\"\ncannot open\n";
 fn files_whose_writer_fails_anywhere(rt: HostRuntime) {
     let alloc = rt.alloc();
     let mut task = Task {
-        options: PLAIN,
+        output: PLAIN,
         raw: false,
         files: Vec::new(alloc),
     };

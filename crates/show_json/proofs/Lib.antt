@@ -1,0 +1,8 @@
+pub mod Failures
+pub mod Instants
+pub mod Sources
+pub mod Written
+pub mod Joined
+pub mod Commands
+pub mod Bounds
+pub mod Inputs

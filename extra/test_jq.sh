@@ -1,0 +1,160 @@
+#!/bin/sh
+# Tests docs/nlshow.jq, and the queries and the document of docs/json.md, with stored captures. Not part of CI, since it
+# needs jq. The argument is `nlshow`; without one, it is the one that `rt run` leaves in crates/nlshow.
+#
+# The documents are those of a start of tcpdump (live40.pcap), of requests (requests.pcap) and of stored messages
+# (captured.pcapng), one after the other. The expected outputs were worked out from what the plain form prints.
+#
+# Prints a line `ok ..` or `FAILED ..` for each test. The last line is 'N passed, M failed', and the status 0 only if
+# nothing failed.
+set -eu
+
+nlshow=$(realpath "${1-$(dirname "$0")/../crates/nlshow/out/nlshow}")
+cd "$(dirname "$0")/.."
+room=$(mktemp -d)
+trap 'rm -rf "$room"' EXIT
+trap 'exit 1' INT TERM
+passed=0
+failed=0
+page=docs/json.md
+
+# Counts whether the file `found` has the expected lines, which are on standard input.
+check() {
+    if diff - "$room/found" >"$room/said"; then
+        echo "ok $1"
+        passed=$((passed + 1))
+    else
+        echo "FAILED $1"
+        cat "$room/said"
+        failed=$((failed + 1))
+    fi
+}
+
+# Tests `o` of an input, which is $1.
+o() {
+    echo "$1" | jq -L docs -c 'include "nlshow"; o' >"$room/found" 2>&1 || true
+    check "o of $1"
+}
+
+# Tests the query of the page below the comment $1.
+query() {
+    grep -A 1 -xF "# $1" "$page" | sed -n 's/^jq /jq -L docs /p' >"$room/query"
+    sh "$room/query" <"$room/documents" >"$room/found" 2>&1 || true
+    asked=$((asked + 1))
+    check "$1"
+}
+
+for it in runs/captures/inputs/live40.pcap runs/captures/inputs/requests.pcap docs/captured.pcapng; do
+    "$nlshow" --format json <"$it" || test $? = 1
+done >"$room/documents"
+
+o '[]' <<'END'
+{}
+END
+o '[{"name":"ifname","value":"br0"},{"name":"mtu","value":1500},{"name":"99","value":{"type":99,"hex":""}}]' <<'END'
+{"ifname":"br0","mtu":1500,"99":{"type":99,"hex":""}}
+END
+o '[{"name":"linkinfo","value":[{"name":"kind","value":"bond"},{"name":"data","value":[{"name":"miimon","value":0,"unit":"ms"}]}]}]' <<'END'
+{"linkinfo":{"kind":"bond","data":{"miimon":0}}}
+END
+o '[{"name":"id","value":1},{"name":"flush","value":false},{"name":"id","value":2}]' <<'END'
+{"id":2,"flush":false}
+END
+o '[{"name":"id","value":1},{"error":{"at":8,"text":"nla_len 3 is below 4"}}]' <<'END'
+{"id":1}
+END
+o '[{"error":{"at":0,"text":"nla_len 3 is below 4"}}]' <<'END'
+{}
+END
+o '[{"name":"bitrate_const","value":[1,2],"unit":"bit/s"},{"name":"arp_ip_target","value":["10.0.0.1"]},{"name":"data","value":[]}]' <<'END'
+{"bitrate_const":[1,2],"arp_ip_target":["10.0.0.1"],"data":{}}
+END
+o '[{"name":"flags","value":{"number":6,"names":["PVID","UNTAGGED"]}}]' <<'END'
+{"flags":{"number":6,"names":["PVID","UNTAGGED"]}}
+END
+o '{"name":"id","value":[]} null "a" [1,2] [[]]' <<'END'
+{"name":"id","value":[]}
+null
+"a"
+[1,2]
+[[]]
+END
+
+asked=0
+query "Links that changed, as the kernel announced them, and when" <<'END'
+2026-11-27T19:06:35.924100Z	4	nlmon0	3776
+2026-11-27T19:06:36.030252Z	5	br0	1500
+2026-11-27T19:06:36.419831Z	6	vb	1500
+2026-11-27T19:06:36.439019Z	7	va	1500
+2026-11-27T19:06:37.013311Z	7	va	1500
+2026-11-27T19:06:37.028317Z	7	va	1500
+2026-11-27T19:06:37.029460Z	5	br0	1500
+2026-11-27T19:06:37.063886Z	7	va	1500
+2026-11-27T19:06:37.065571Z	5	br0	1500
+2026-11-27T19:06:37.482302Z	7	va	1500
+2026-11-27T19:06:37.484254Z	7	va	1500
+END
+query "Links that are gone" <<'END'
+bond0
+END
+query "Requests to set a link up or down" <<'END'
+38	7	up
+19	3	down
+20	3	up
+END
+query "Requests that the kernel rejected, and why" <<'END'
+[11,0,"ENODEV",null]
+[16,0,"ENODEV",null]
+[22,0,"ENODEV",null]
+[35,0,"ENODEV",null]
+END
+query "Bridges, and their forward delay in seconds" <<'END'
+br0	7
+br0	7
+br0	7
+br0	7
+br0	7
+br1	7
+br0	4
+br0	4
+END
+query "Bonds that use LACP" <<'END'
+bond0
+bond0
+bond0
+bond0
+END
+query "VLANs of bridge ports" <<'END'
+[7,1,["PVID","UNTAGGED"]]
+[7,1,["PVID","UNTAGGED"]]
+[3,10,["PVID","UNTAGGED"]]
+[3,100,["RANGE_BEGIN"]]
+[3,200,["RANGE_END"]]
+[3,10,[]]
+[7,1,["PVID","UNTAGGED"]]
+[7,10,[]]
+[7,1,["PVID","UNTAGGED"]]
+[7,10,[]]
+END
+query "All errors, with their offsets" <<'END'
+[51,0,"nlmsg_len 332 exceeds the 329 bytes left"]
+[53,112,"IFLA_DSA_CONDUIT has 1 byte, expected 4"]
+END
+query "How many documents there are of each type" <<'END'
+{"RTM_GETLINK":8,"RTM_NEWLINK":74,"NLMSG_DONE":3,"22":1,"20":2,"NLMSG_ERROR":7,"NETLINK_GENERIC":1,"other":1,"NETLINK_ROUTE":2,"RTM_DELLINK":4,"108":1,"RTM_SETLINK":4}
+END
+query "Milliseconds until the kernel replied" <<'END'
+1795806396	16.312
+1795806397	29.613
+1795806397	72.314
+END
+grep -c '^jq ' "$page" >"$room/found"
+check "each query of the page is tested" <<END
+$asked
+END
+sed -n '/^{"packet": /,/^```$/p' "$page" | sed '$d' | jq -c . >"$room/found"
+jq -c 'select(.packet.number == 4 and .len == 64)' <"$room/documents" >"$room/fourth"
+check "the document of the page" <"$room/fourth"
+
+echo "$passed passed, $failed failed"
+[ "$failed" = 0 ]
