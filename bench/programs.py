@@ -1,5 +1,6 @@
 #!/usr/bin/env python3
-"""Processor time and memory of programs that print messages about links: `nlshow`, tshark, `ip monitor` and pyroute2.
+"""Processor time and memory of programs that print messages about links: `nlshow`, in the plain form and as JSON, tshark,
+`ip monitor` and pyroute2.
 
 usage: bench/programs.py [--binary PATH] [--messages N] [--runs N]
 
@@ -10,7 +11,8 @@ message. For pyroute2, each message is decoded, and printed as `dump` returns it
 First, each program prints a few messages to a pipe. One that does not print each is left out, as are those that are not
 installed (Debian's packages tshark, iproute2, python3-pyroute2). Then each runs five times, or N, in turn, and its output
 is thrown away. The table has the medians: processor time (user and system), the same for a message, and the most resident
-memory; and how many bytes it printed for each of those few messages. Below are the ratios of `nlshow` to tshark and `ip`.
+memory; and how many bytes it printed for each of those few messages. Below are the ratios of `nlshow` to tshark and `ip`,
+and of its JSON to that of tshark.
 
 Unlike instructions, times depend on the machine, and on what else it does. What the programs print differs, too: tshark
 names every top-level attribute, but leaves the data of devices and ports as bytes.
@@ -90,6 +92,7 @@ def programs(binary):
     """The programs by name: the words, the file, and how a message begins in the output."""
     return {
         "nlshow": ([binary], "pcap", rb"^RTM_NEWLINK"),
+        "nlshow --format json": ([binary, "--format", "json"], "pcap", rb'^\{"file":"[^"]+","packet":\{.*"ok":true\}$'),
         "tshark": (["tshark", "-T", "json", "-r"], "pcap", rb'^        "netlink-route": \{'),
         "ip": (["ip", "-d", "monitor", "file"], "rtmon", rb"^\d+: "),
         "pyroute2": ([python(), "-c", PYROUTE2], "rtmon", rb"^\{"),
@@ -129,13 +132,13 @@ def measure(found, folder, runs):
 
 
 def show(taken, printed, count):
-    print(f"{'':<10}{'time':>10}{'a message':>13}{'memory':>12}{'printed':>10}")
+    print(f"{'':<20}{'time':>10}{'a message':>13}{'memory':>12}{'printed':>10}")
     for name, (seconds, memory) in taken.items():
-        print(f"{name:<10}{seconds:>8.2f} s{seconds / count * 1e6:>10.1f} us{memory / 1e6:>9.1f} MB{printed[name]:>8.0f} B")
-    for name in ("tshark", "ip"):
-        if name in taken and "nlshow" in taken:
-            time, memory = (one / other for one, other in zip(taken["nlshow"], taken[name]))
-            print(f"nlshow to {name}: {time:.3f} of the time, {memory:.3f} of the memory")
+        print(f"{name:<20}{seconds:>8.2f} s{seconds / count * 1e6:>10.1f} us{memory / 1e6:>9.1f} MB{printed[name]:>8.0f} B")
+    for one, other in (("nlshow", "tshark"), ("nlshow", "ip"), ("nlshow --format json", "tshark")):
+        if one in taken and other in taken:
+            time, memory = (ours / theirs for ours, theirs in zip(taken[one], taken[other]))
+            print(f"{one} to {other}: {time:.3f} of the time, {memory:.3f} of the memory")
 
 
 def main():
