@@ -94,7 +94,7 @@ query "Links that changed, as the kernel announced them, and when" <<'END'
 2026-11-27T19:06:37.482302Z	7	va	1500
 2026-11-27T19:06:37.484254Z	7	va	1500
 END
-query "Links that are gone" <<'END'
+query "Links that were deleted" <<'END'
 bond0
 END
 query "Requests to set a link up or down" <<'END'

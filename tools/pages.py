@@ -59,7 +59,7 @@ BUDGETS = {
     "README.md": 1300, "CONTRIBUTING.md": 1990, "bench/README.md": 720, "docs/c.md": 1250, "docs/ARCHITECTURE.md": 1700,
     "docs/MAP.md": 80, "docs/json.md": 1150,
     "docs/messages.md": 2000, "docs/programs.md": 2050, "docs/python.md": 900, "docs/rattle.md": 1540,
-    "docs/rust.md": 900, "docs/proofs/ASSURANCE.md": 1150, "docs/proofs/CLAIMS.md": 2800,
+    "docs/rust.md": 900, "docs/proofs/ASSURANCE.md": 1150, "docs/proofs/CLAIMS.md": 2880,
     "docs/proofs/DECISIONS.md": 5350, "docs/proofs/DIFFERENCES.md": 2150, "docs/proofs/MODEL.md": 3650,
 }  # fmt: skip
 SMALL_BUDGET = 600
