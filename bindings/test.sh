@@ -17,30 +17,7 @@ set -eu
 prefix=${1-${NLROUTE_PREFIX-}}
 [ -z "$prefix" ] || prefix=$(cd "$prefix" && pwd)
 cd "$(dirname "$0")/.."
-room=$(mktemp -d)
-trap 'rm -rf "$room"' EXIT
-trap 'exit 1' INT TERM
-passed=0
-failed=0
-
-# Runs a command, the words after the name of the check, and counts whether it succeeds. A function ends at the first
-# command that fails: inside `if`, it would not.
-check() {
-    name=$1
-    shift
-    set +e
-    (set -e && "$@") >"$room/said" 2>&1
-    status=$?
-    set -e
-    if [ "$status" = 0 ]; then
-        echo "ok $name"
-        passed=$((passed + 1))
-    else
-        echo "FAILED $name"
-        cat "$room/said"
-        failed=$((failed + 1))
-    fi
-}
+. tools/counted.sh
 
 # Whether a command succeeds, which shows that what it needs is there. Otherwise says what is skipped.
 has() {

@@ -11,29 +11,18 @@ set -eu
 
 nlshow=$(realpath "${1-$(dirname "$0")/../crates/nlshow/out/nlshow}")
 cd "$(dirname "$0")/.."
-room=$(mktemp -d)
-trap 'rm -rf "$room"' EXIT
-trap 'exit 1' INT TERM
-passed=0
-failed=0
+. tools/counted.sh
 page=docs/json.md
 
-# Counts whether the file `found` has the expected lines, which are on standard input.
-check() {
-    if diff - "$room/found" >"$room/said"; then
-        echo "ok $1"
-        passed=$((passed + 1))
-    else
-        echo "FAILED $1"
-        cat "$room/said"
-        failed=$((failed + 1))
-    fi
+# Checks that the file `found` has the expected lines, which are on standard input.
+finds() {
+    check "$1" diff - "$room/found"
 }
 
 # Tests `o` of an input, which is $1.
 o() {
     echo "$1" | jq -L docs -c 'include "nlshow"; o' >"$room/found" 2>&1 || true
-    check "o of $1"
+    finds "o of $1"
 }
 
 # Tests the query of the page below the comment $1.
@@ -41,7 +30,7 @@ query() {
     grep -A 1 -xF "# $1" "$page" | sed -n 's/^jq /jq -L docs /p' >"$room/query"
     sh "$room/query" <"$room/documents" >"$room/found" 2>&1 || true
     asked=$((asked + 1))
-    check "$1"
+    finds "$1"
 }
 
 for it in runs/captures/inputs/live40.pcap runs/captures/inputs/requests.pcap docs/captured.pcapng; do
@@ -149,12 +138,12 @@ query "Milliseconds until the kernel replied" <<'END'
 1795806397	72.314
 END
 grep -c '^jq ' "$page" >"$room/found"
-check "each query of the page is tested" <<END
+finds "each query of the page is tested" <<END
 $asked
 END
 sed -n '/^{"packet": /,/^```$/p' "$page" | sed '$d' | jq -c . >"$room/found"
 jq -c 'select(.packet.number == 4 and .len == 64)' <"$room/documents" >"$room/fourth"
-check "the document of the page" <"$room/fourth"
+finds "the document of the page" <"$room/fourth"
 
 echo "$passed passed, $failed failed"
 [ "$failed" = 0 ]
