@@ -18,7 +18,7 @@ and crates, or those that are named. Each page is checked by nine rules:
 - functions: inline code `name(..)`, or `path::name` if the path begins with a crate or a module, names a function of an
   .rt file or of nlroute.h. Those of OTHER_NAMES are skipped.
 - names: a word in snake_case or CamelCase, in inline code or such a block, is in a source: a file of SOURCES, or a document
-  of runs/json. Those of OTHER_NAMES are skipped. So are CHANGELOG.md and docs/proofs/DIFFERENCES.md, which have names of the
+  of runs/json. Those of OTHER_NAMES are skipped. So are CHANGELOG.md and docs/DIFFERENCES.md, which have names of the
   past and of others.
 - rows: a line `3  CONSTANT  Variant  SHAPE as QUANTITY` in such a block is a row of src/, and a row of a table of specs/
   that the heading names. `as QUANTITY` is missing if there is none. What follows a colon or a comma is skipped, and so
@@ -60,10 +60,10 @@ BUDGETS = {
     "docs/MAP.md": 80, "docs/json.md": 1150,
     "docs/messages.md": 2000, "docs/programs.md": 2050, "docs/python.md": 900, "docs/rattle.md": 1540,
     "docs/rust.md": 900, "docs/proofs/ASSURANCE.md": 1150, "docs/proofs/CLAIMS.md": 2880,
-    "docs/proofs/DECISIONS.md": 5350, "docs/proofs/DIFFERENCES.md": 2150, "docs/proofs/MODEL.md": 3650,
+    "docs/DECISIONS.md": 5350, "docs/DIFFERENCES.md": 2150, "docs/proofs/MODEL.md": 3650,
 }  # fmt: skip
 SMALL_BUDGET = 600
-HISTORY, COMPARISON, CLAIMS = "CHANGELOG.md", "docs/proofs/DIFFERENCES.md", "docs/proofs/CLAIMS.md"
+HISTORY, COMPARISON, CLAIMS = "CHANGELOG.md", "docs/DIFFERENCES.md", "docs/proofs/CLAIMS.md"
 SOURCES = (".rt", ".antt", ".h", ".c", ".rs", ".py", ".sh")
 SUFFIXES = (".rt", ".antt", ".py", ".md", ".h", ".sh", ".edit", ".edits")
 # Paths that are not of this tree: of Linux and C, of Cargo projects, of what tools make, of the kit's pages, and of a

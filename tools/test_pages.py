@@ -141,7 +141,7 @@ TREE = {
     "CHANGELOG.md": "# Changes\n\n12 tests, 13 mutants of `old_name`.\n" + 2000 * "word ",
     "docs/rattle.md": CALLING,
     "docs/proofs/CLAIMS.md": CLAIMS,
-    "docs/proofs/DIFFERENCES.md": "# Others\n\n`other_name`\n",
+    "docs/DIFFERENCES.md": "# Others\n\n`other_name`\n",
     LIB: SOURCE,
     SPEC: TABLES,
     "crates/pairs/src/small.rt": SMALL,

@@ -10,10 +10,10 @@ use Rattle.link_bond.specs.Bond.{bond_table}
 use Rattle.link_bond.specs.BondPort.{bond_port_table}
 use Rattle.link_bridge.specs.Bridge.{bridge_table}
 use Rattle.link_bridge.specs.BridgePort.{bridge_port_table}
-use Rattle.link_devices.specs.Vlan.{vlan_table}
-use Rattle.link_devices.specs.Can.{can_table}
-use Rattle.link_devices.specs.Dsa.{dsa_table}
-use Rattle.link_devices.specs.Hsr.{hsr_table}
+use Rattle.link_vlan_can.specs.Vlan.{vlan_table}
+use Rattle.link_vlan_can.specs.Can.{can_table}
+use Rattle.link_vlan_can.specs.Dsa.{dsa_table}
+use Rattle.link_vlan_can.specs.Hsr.{hsr_table}
 use Rattle.link_bridge.specs.ProtoInfo.{proto_info_table}
 
 -- what holds the list of an attribute set in a message about a link

@@ -46,8 +46,8 @@ pub use Rattle.link_bridge.specs.BridgePort
 pub use Rattle.link_bridge.specs.VlanInfo
 pub use Rattle.link_bridge.specs.AfSpec
 pub use Rattle.link_bridge.specs.ProtoInfo
-pub use Rattle.link_devices.specs.Vlan
-pub use Rattle.link_devices.specs.CanState
-pub use Rattle.link_devices.specs.Can
-pub use Rattle.link_devices.specs.Dsa
-pub use Rattle.link_devices.specs.Hsr
+pub use Rattle.link_vlan_can.specs.Vlan
+pub use Rattle.link_vlan_can.specs.CanState
+pub use Rattle.link_vlan_can.specs.Can
+pub use Rattle.link_vlan_can.specs.Dsa
+pub use Rattle.link_vlan_can.specs.Hsr

@@ -10,4 +10,4 @@ pub use link_base::views::view::{Value, View};
 pub use link_base::views::view_all::ViewAll;
 pub use link_base::views::view_laws;
 pub use link_base::views::viewing::{view_all, view_list};
-pub use link_devices::CanBitTimingLimits;
+pub use link_vlan_can::CanBitTimingLimits;

@@ -3,7 +3,7 @@
 
 ghost use Rattle.std.specs.Prelude.{◌≡◌, ◌≤◌, ◌++◌, ◌-◌, List, [], None, length, drop, map, replicate, string_bytes};
 ghost use Rattle.std.specs.Prelude.{IfOk, IfNone, OnErr, IsTrue, MatchResult};
-ghost use Rattle.link_devices.specs.CanLimits.{limits_view, limits_with};
+ghost use Rattle.link_vlan_can.specs.CanLimits.{limits_view, limits_with};
 ghost use Rattle.netlink_packet_route.specs.AfSpec.{af_spec_table, af_spec_means};
 ghost use Rattle.netlink_packet_route.specs.Answers.{Answers, ListAnswers, WriteAnswers};
 ghost use Rattle.netlink_packet_route.specs.Answers.{OnMemory, OnListMemory, OnRewriteMemory};

@@ -47,7 +47,7 @@ fn laws_of_attribute_sets() {
     netlink_packet_route::laws::equality();
     netlink_packet_route::laws::second_rewriting();
     link_bridge::laws::profiles();
-    link_devices::laws::profiles();
+    link_vlan_can::laws::profiles();
 }
 
 /// Calls the theorems for each attribute set.
@@ -104,8 +104,8 @@ fn laws_of_flags() {
     link_bridge::laws::boolean_option_bits();
     link_bridge::laws::default_options();
     link_bridge::laws::vlan_info_flag_bits();
-    link_devices::laws::vlan_flag_bits();
-    link_devices::laws::can_mode_bits();
+    link_vlan_can::laws::vlan_flag_bits();
+    link_vlan_can::laws::can_mode_bits();
 }
 
 #[test]

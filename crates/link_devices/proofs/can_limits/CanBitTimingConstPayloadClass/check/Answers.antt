@@ -1,6 +1,0 @@
-use Rattle.std.proofs.Common.{refl}
-use Rattle.link_base.specs.Class.{Limits}
-use Rattle.link_devices.proofs.can_limits.CanBitTimingConstPayloadClass.check.Goals as goal
-
-pub returns : goal.returns
-returns c = c.check.ensures Limits refl

@@ -1,0 +1,45 @@
+//! The states of CAN controllers.
+
+ghost use Rattle.link_vlan_can.specs.CanState.{can_state_names};
+
+use link_base::NumberNames;
+use link_base::rows::label::Name;
+
+/// The states of CAN controllers (`enum can_state`, `include/uapi/linux/can/netlink.h`). A state is a `u32`.
+pub struct CanState;
+
+/// The numbers, and the constants' names without `CAN_STATE_`.
+impl NumberNames for CanState {
+    type Number = u32;
+
+    ghost names = { can_state_names };
+
+    fn names() -> &'static [Name] {
+        &[
+            Name {
+                number: 0,
+                text: "ERROR-ACTIVE",
+            },
+            Name {
+                number: 1,
+                text: "ERROR-WARNING",
+            },
+            Name {
+                number: 2,
+                text: "ERROR-PASSIVE",
+            },
+            Name {
+                number: 3,
+                text: "BUS-OFF",
+            },
+            Name {
+                number: 4,
+                text: "STOPPED",
+            },
+            Name {
+                number: 5,
+                text: "SLEEPING",
+            },
+        ]
+    }
+}
