@@ -1,8 +1,9 @@
 """Pages that list all of something, compared with the sources: a name that they lack is an error.
 
 A list of LISTS is a page, the files that have the names, as a regular expression of their paths, and a pattern whose first
-group is a name. A name is on the page if it is there as a word. VERSIONED has the files that state the version of
-nlroute.h, each with a pattern around it.
+group is a name. In PLACES, the first group of the expression is a name itself. A name is on the page if it is there as a
+word. TRUSTED has each crate of the kit that crates.txt names. VERSIONED has the files that state the version of nlroute.h,
+each with a pattern around it.
 """
 import re
 
@@ -18,6 +19,13 @@ LISTS = [
         "public function",
     ),
 ]
+PLACES = [
+    ("docs/ARCHITECTURE.md", r"runs/(\w+)/.+", "folder of runs"),
+    ("tools/README.md", r"tools/(?!README)([\w.]+)", "file"),
+    ("extra/README.md", r"extra/(?!README)([\w.]+)(?:/.+)?", "file or folder"),
+    ("bench/README.md", r"bench/(?!README)([\w.]+)(?:/.+)?", "file or folder"),
+]
+TRUSTED = "docs/proofs/ASSURANCE.md"
 HEADER = "crates/nlroute_ffi/include/nlroute.h"
 VERSIONED = [
     ("README.md", "Version: {}[,.]"),
@@ -25,18 +33,35 @@ VERSIONED = [
     ("bindings/rust/Cargo.toml", 'version = "{}"'),
     ("bindings/python/pyproject.toml", 'version = "{}"'),
     ("crates/show_lines/src/replies.rt", '"nlshow {}\\\\n"'),
-    ("crates/nlroute/src/running.rt", '"nlroute {}\\\\n"'),
 ]
+
+
+def words_on(page):
+    """The words of a page, with and without the ends that follow a point."""
+    return {*re.findall(r"[\w.]+\w", page)} | {*re.findall(r"\w+", page)}
+
+
+def kit_crates(text):
+    """The crates of the kit that crates.txt names: those that no line of it begins with."""
+    lines = [it.partition("#")[0].partition(":") for it in text.splitlines()]
+    own = {head.split()[0] for head, colon, _ in lines if colon}
+    return {name for _, _, rest in lines for name in rest.split()} - own
+
+
+def names_of(files, text_of):
+    """What pages have to name: the page, what it is, and the names."""
+    for page, sources, pattern, what in LISTS:
+        texts = [text_of(it) for it in files if re.fullmatch(sources, it)]
+        yield page, what, {it for text in texts for it in re.findall(pattern, text, re.MULTILINE)}
+    for page, places, what in PLACES:
+        yield page, what, {found[1] for found in (re.fullmatch(places, it) for it in files) if found}
+    yield TRUSTED, "crate of the kit", kit_crates(text_of("crates.txt") if "crates.txt" in files else "")
 
 
 def missing(files, text_of):
     """What the pages lack: path, line and message. `files` has all paths, and `text_of` gives the text of a file."""
-    for page, sources, pattern, what in LISTS:
-        if page not in files:
-            continue
-        words = {*re.findall(r"[\w.]+\w", text_of(page))} | {*re.findall(r"\w+", text_of(page))}
-        texts = [text_of(it) for it in files if re.fullmatch(sources, it)]
-        for name in sorted({it for text in texts for it in re.findall(pattern, text, re.MULTILINE)} - words):
+    for page, what, names in names_of(files, text_of):
+        for name in sorted(names - words_on(text_of(page))) if page in files else ():
             yield page, 1, f"it lacks the {what} {name}"
     found = re.search(r"#define NLROUTE_VERSION 0x(\w\w)(\w\w)(\w\w)u", text_of(HEADER)) if HEADER in files else None
     version = ".".join(str(int(it, 16)) for it in found.groups()) if found else ""

@@ -182,7 +182,8 @@ class Tree:
             return file.read()
 
     def text(self, path):
-        with open(f"{self.root}/{path}", encoding="utf-8") as file:
+        # (runs have bytes that are not UTF-8)
+        with open(f"{self.root}/{path}", encoding="utf-8", errors="surrogateescape") as file:
             return file.read()
 
     def text_or_none(self, path):

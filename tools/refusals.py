@@ -136,12 +136,12 @@ def runs_of_programs(folder):
     `nlshow` makes others, in `clap` and for the lines. Reading from a folder fails."""
     unknown = "error: unexpected argument '-x' found\n"
     unknown += "usage: nlshow [--format plain|debug|json] [--check] [--raw] [FILE].. | --help | --version\n"
-    usage = "usage: nlroute FAMILY | --help | --version\n"
+    usage = "usage: nlroute FAMILY\n"
     for words, given, text, status, others in (
         (["nlroute"], b"", usage, 2, 0),
         (["nlroute", "tap"], b"", usage, 2, 0),
         (["nlroute", "tap", "dsa"], b"", usage, 2, 0),
-        (["nlroute", "--version"], b"", "nlroute 0.3.0\n", 0, 0),
+        (["nlroute", "--version"], b"", usage, 2, 0),
         (["nlroute", "dsa"], folder, "read fault\n", 5, 0),
         (["nlshow", "-x"], b"", unknown, 2, 22),
         (["nlshow", "--version"], b"", "nlshow 0.3.0\n", 0, 9),

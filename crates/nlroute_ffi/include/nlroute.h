@@ -442,9 +442,10 @@ ptrdiff_t nlroute_kind_name(uint32_t family, const struct nlroute_value *value, 
  *
  * Returns the first of these that applies, for a value of nlroute_values() none:
  * - NLROUTE_BAD_FORM if form is not one of enum nlroute_form, or NLROUTE_FORM_OF_KIND and the type is not known;
- * - NLROUTE_BAD_NUMBER if the attribute cannot hold number or second: a boolean is 0 or 1, a VLAN protocol 0x8100 or
- *   0x88A8, a VLAN ID, its flags, a priority or an error counter less than 65536, flags with a mask, a priority that is
- *   mapped, or a frequency less than 2^32;
+ * - NLROUTE_BAD_NUMBER for a boolean that is neither 0 nor 1, a VLAN protocol that is neither 0x8100 nor 0x88A8, a VLAN
+ *   ID, its flags, a priority or an error counter of 65536 or more, flags with a mask, a priority that is mapped, or a
+ *   frequency of 2^32 or more. Any other number is printed, though the attribute may be too narrow for it: "256" for
+ *   IFLA_BOND_MODE;
  * - NLROUTE_BAD_OCTETS if the form is NLROUTE_FORM_BITTIMING (NLROUTE_FORM_BITTIMING_CONST) and length is not 32 (48),
  *   or if it is one of these two, NLROUTE_FORM_BYTES or NLROUTE_FORM_UNKNOWN, and len is less than offset + length.
  */
@@ -475,7 +476,8 @@ ptrdiff_t nlroute_flag_name(uint32_t family, const struct nlroute_value *value, 
 /* What values of an attribute type hold, and how it is written. */
 struct nlroute_row {
     uint32_t width;  /* bytes of a number of the type, or of each of its two; of an address; of a bridge ID, 8; of the
-                        struct at offset. 0 if there are none, or any number */
+                        struct at offset. 0 if there are none, or any number. A payload may have more bytes than its
+                        number: two for IFLA_BOND_SLAVE_AD_PARTNER_OPER_PORT_STATE, whose width is 1 */
     uint16_t flags;  /* flags of nla_type that nlroute_write() writes: NLA_F_NESTED for some lists; else 0 */
     uint8_t form;    /* an nlroute_form; NLROUTE_FORM_UNKNOWN if the type is not known */
     uint8_t is_list; /* 1 if elements follow, else 0 */
@@ -493,7 +495,8 @@ ptrdiff_t nlroute_row(uint32_t family, uint16_t kind, uint16_t inner, uint8_t de
 
 /*
  * Returns the attribute type that has a name, such as "IFLA_BR_FORWARD_DELAY", the lowest if there are several;
- * nlroute_kind_of_in() that of an element in nested lists of type `list`. Each compares the names of up to 16384 types: call it once for a name.
+ * nlroute_kind_of_in() that of an element in nested lists of type `list`. Each compares the names of up to 16384 types:
+ * call it once for a name.
  *
  * Returns NLROUTE_ABSENT if and only if no type has the name.
  */

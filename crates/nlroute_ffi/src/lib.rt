@@ -1,4 +1,5 @@
-//! The C API: parses and re-encodes lists of link attributes. `include/nlroute.h` declares the functions.
+//! The C API: parses, prints, writes and re-encodes lists of link attributes, and looks up what is known of their types.
+//! `include/nlroute.h` declares the functions.
 //!
 //! A `Family` is passed as its number, from 0 to 9 in the order of [`Family`](netlink_packet_route::Family). A slice is
 //! two arguments in C: a pointer, and the number of elements it points to. The allocator is not an argument in C.

@@ -8,7 +8,8 @@
 //! - `message HEX`: the bytes of messages.
 //!
 //! White space separates the words. Blank lines, and lines that begin with `#`, are ignored. The FILE `-` is standard
-//! input. Wrong arguments and a failed write are reported on standard error.
+//! input. Wrong arguments and a failed write are reported on standard error,
+//! unless nobody reads what is written.
 #![tactic(auto)]
 
 #[cfg(test)]
@@ -25,7 +26,7 @@ ghost use Rattle.show_lines.specs.Arguments.{IsError, IsRequest, IsWrong, reply_
 use link_json::Sheet;
 use link_show::write_quoted;
 use program::{
-    Watched, collect_arguments, print, print_error, print_no_memory, print_write_fault, unbuffered,
+    Watched, collect_arguments, print, print_no_memory, print_text, print_write_fault, unbuffered,
 };
 use show_captures::run;
 use show_json::{Json, write_unopened};
@@ -35,6 +36,9 @@ use std::io::{BufWriter, Read, Write};
 use std::process::ExitCode;
 use std::rt::Files;
 use std::{fs, io};
+
+/// What is wrong if an argument is not UTF-8, as the paths of std are.
+const NOT_UTF8: &str = "error: an argument is not UTF-8; read such a file by nlshow < FILE";
 
 fn main(rt: HostRuntime) -> ExitCode {
     let mut errors = rt.stderr();
@@ -79,12 +83,12 @@ fn end_without_buffer<W: Write + Drop>(writer: &mut BufWriter<W>, output: Output
 /// `AllocError` if an allocation fails.
 fn request_of(alloc: Global, words: Option<Vec<String>>) -> Result<Request, AllocError>
     ensures { IfOk result (λ request. MatchOption words
-        (IsWrong (codes "error: an argument is not UTF-8") request)
+        (IsWrong (codes "error: an argument is not UTF-8; read such a file by nlshow < FILE") request)
         (λ _. IsRequest request)) }
 {
     match words {
         Some(words) => parse(alloc, &words),
-        None => wrong(alloc, "error: an argument is not UTF-8"),
+        None => wrong(alloc, NOT_UTF8),
     }
 }
 
@@ -197,7 +201,7 @@ fn print_reply<W: Write + Drop, E: Write>(
     ensures empty { ¬ IsError reply.now → result ≢ 5 → writer_buffer writer.new ≡ [] }
 {
     match reply {
-        Reply::Wrong(text) => print_error(errors, text.as_str(), reply.status()),
+        Reply::Wrong(text) => print_text(errors, text.as_str(), reply.status()),
         Reply::Help | Reply::Version => print(writer, reply.text(), reply.status()),
     }
 }

@@ -1,5 +1,5 @@
 -- A writer that remembers whether it failed.
-use Rattle.std.specs.Prelude.{◌≡◌, ◌≢◌, ℕ, Bool, List, [], Result, Ok, Err}
+use Rattle.std.specs.Prelude.{◌≡◌, ◌≢◌, ℕ, Bool, true, false, List, [], Result, Ok, Err}
 use Rattle.program.specs.declared.watched.Watched.{Watched}
 
 -- the writer below
@@ -14,3 +14,16 @@ has_failed watched = watched.has_failed
 abbrev pub IsFailedWrite : {E : Type 0} → (E → Type 0) → List ℕ → Result ℕ E → Type 0
 IsFailedWrite counts bytes (Ok n) = (n ≡ 0) × (bytes ≢ [])
 IsFailedWrite counts bytes (Err error) = counts error
+
+-- the result is an error, of this sort
+abbrev pub FailsBy : {A E : Type 0} → (E → Type 0) → Result A E → Type 0
+FailsBy counts (Ok x) = ⊥
+FailsBy counts (Err error) = counts error
+
+-- nobody reads what is written: a write or a flush failed so (EPIPE)
+abbrev pub is_unread : {W : Type 0} → Watched W → Bool
+is_unread watched = watched.is_unread
+
+-- what is written is lost, though somebody reads it
+abbrev pub IsFault : {W : Type 0} → Watched W → Type 0
+IsFault watched = (has_failed watched ≡ true) × (is_unread watched ≡ false)

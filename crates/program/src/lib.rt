@@ -8,6 +8,6 @@ mod watched;
 
 pub use arguments::collect_arguments;
 pub use printing::{
-    finish, print, print_error, print_no_memory, print_read_fault, print_write_fault, unbuffered,
+    finish, print, print_no_memory, print_read_fault, print_text, print_write_fault, unbuffered,
 };
 pub use watched::Watched;

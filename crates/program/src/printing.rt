@@ -1,10 +1,10 @@
 //! The last text that a program prints, and its exit status.
 
-ghost use Rattle.std.specs.Prelude.{◌≡◌, ◌≢◌, [], true, false, IsOk, OnOk};
+ghost use Rattle.std.specs.Prelude.{◌≡◌, ◌≢◌, [], IsOk, OnOk};
 ghost use Rattle.std.specs.Io.Buffered.{writer_buffer, writer_contents, writer_inner};
 ghost use Rattle.std.specs.Io.KnownBytes.{Appends};
 ghost use Rattle.program.specs.Printing.{PrintsOrFails, FlushesOrFails, no_memory_line, write_fault_line};
-ghost use Rattle.program.specs.Watched.{has_failed};
+ghost use Rattle.program.specs.Watched.{IsFault};
 
 use crate::watched::Watched;
 use std::alloc::Global;
@@ -59,17 +59,18 @@ pub fn print_read_fault<W: Write + Drop>(writer: &mut BufWriter<W>) -> u8
     print(writer, "read fault\n", 5)
 }
 
-/// Writes `text` to `errors`, the standard error of a program. Returns `status`, or 5 if the writer fails.
-pub fn print_error<E: Write>(errors: &mut E, text: &str, status: u8) -> u8
-    ensures { PrintsOrFails (E.contents errors.old) (E.contents errors.new) text.now status result }
+/// Writes `text` and flushes `writer`, which may be any. Returns `status`, or 5 if the writer fails.
+pub fn print_text<W: Write>(writer: &mut W, text: &str, status: u8) -> u8
+    ensures { PrintsOrFails (W.contents writer.old) (W.contents writer.new) text.now status result }
 {
-    match errors.write_all(text.as_bytes()) {
-        Ok(()) => status,
-        Err(_) => 5,
+    if writer.write_all(text.as_bytes()).is_err() || writer.flush().is_err() {
+        return 5;
     }
+    status
 }
 
-/// If `writer` has failed, writes a line that says so to `errors`.
+/// If `writer` has failed, writes a line that says so to `errors`; but none if nobody reads what it writes, as after
+/// `| head`.
 ///
 /// # Errors
 ///
@@ -78,11 +79,12 @@ pub fn print_write_fault<W: Write + Drop, E: Write>(
     writer: &BufWriter<Watched<W>>,
     errors: &mut E,
 ) -> io::Result<()>
-    ensures failed { has_failed (writer_inner writer.now) ≡ true
+    ensures failed { IsFault (writer_inner writer.now)
         → OnOk result (Appends (E.contents errors.old) (E.contents errors.new) write_fault_line) }
-    ensures unfailed { has_failed (writer_inner writer.now) ≡ false → IsOk result × (errors.new ≡ errors.old) }
+    ensures silent { ¬ IsFault (writer_inner writer.now) → IsOk result × (errors.new ≡ errors.old) }
 {
-    if writer.get_ref().has_failed() {
+    let watched = writer.get_ref();
+    if watched.has_failed() && !watched.is_unread() {
         errors.write_all(b"write fault\n")
     } else {
         Ok(())

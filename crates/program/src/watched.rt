@@ -4,17 +4,18 @@ ghost use Rattle.std.specs.Prelude.{◌≡◌, ◌≢◌, ◌⊎◌, ◌↔◌, 
 ghost use Rattle.std.specs.Io.{WritesAtMost};
 ghost use Rattle.std.specs.Io.KnownBytes.{Keeps, WriteAppends};
 ghost use Rattle.std.specs.IoError.{error_kind};
-ghost use Rattle.program.specs.Watched.{watched_inner, has_failed, IsFailedWrite};
+ghost use Rattle.program.specs.Watched.{watched_inner, has_failed, is_unread, IsFailedWrite, FailsBy};
 
 use std::io;
 use std::io::{ErrorKind, Write};
 
-/// Passes all bytes on to a writer, and remembers whether it failed. A write that is to be tried again
-/// (`ErrorKind::Interrupted`) does not count.
+/// Passes all bytes on to a writer, and remembers whether it failed, and whether nobody reads what it writes. A write that
+/// is to be tried again (`ErrorKind::Interrupted`) does not count.
 #[derive(Drop)]
 pub struct Watched<W> {
     inner: W,
     has_failed: bool,
+    is_unread: bool,
 }
 
 impl<W> Watched<W> {
@@ -22,10 +23,12 @@ impl<W> Watched<W> {
     pub fn new(inner: W) -> Self
         ensures inner { watched_inner result ≡ inner }
         ensures unfailed { has_failed result ≡ false }
+        ensures read { is_unread result ≡ false }
     {
         Watched {
             inner,
             has_failed: false,
+            is_unread: false,
         }
     }
 
@@ -42,6 +45,13 @@ impl<W> Watched<W> {
     {
         self.has_failed
     }
+
+    /// Returns whether a write or a flush failed because nobody reads what is written (`ErrorKind::BrokenPipe`, EPIPE).
+    pub fn is_unread(&self) -> bool
+        ensures { result ≡ is_unread self.now }
+    {
+        self.is_unread
+    }
 }
 
 impl<W: Write> Write for Watched<W> {
@@ -53,11 +63,16 @@ impl<W: Write> Write for Watched<W> {
             result buf.now }
         ensures failed { IsTrue (has_failed self.new)
             ↔ (IsTrue (has_failed self.old) ⊎ IsFailedWrite (λ error. error_kind error ≢ ErrorKind.Interrupted) buf.now result) }
+        ensures unread { IsTrue (is_unread self.new)
+            ↔ (IsTrue (is_unread self.old) ⊎ FailsBy (λ error. error_kind error ≡ ErrorKind.BrokenPipe) result) }
     {
         let written = self.inner.write(buf);
         match &written {
             Ok(count) => self.has_failed |= *count == 0 && !buf.is_empty(),
-            Err(error) => self.has_failed |= error.kind() != ErrorKind::Interrupted,
+            Err(error) => {
+                self.has_failed |= error.kind() != ErrorKind::Interrupted;
+                self.is_unread |= error.kind() == ErrorKind::BrokenPipe;
+            }
         }
         written
     }
@@ -65,9 +80,14 @@ impl<W: Write> Write for Watched<W> {
     fn flush(&mut self) -> io::Result<()>
         ensures bytes { Keeps (W.contents (watched_inner self.old)) (W.contents (watched_inner self.new)) }
         ensures failed { IsTrue (has_failed self.new) ↔ (IsTrue (has_failed self.old) ⊎ IsErr result) }
+        ensures unread { IsTrue (is_unread self.new)
+            ↔ (IsTrue (is_unread self.old) ⊎ FailsBy (λ error. error_kind error ≡ ErrorKind.BrokenPipe) result) }
     {
         let flushed = self.inner.flush();
-        self.has_failed |= flushed.is_err();
+        if let Err(error) = &flushed {
+            self.has_failed = true;
+            self.is_unread |= error.kind() == ErrorKind::BrokenPipe;
+        }
         flushed
     }
 }

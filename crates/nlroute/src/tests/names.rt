@@ -1,6 +1,7 @@
 //! Runs the program with the name of each `Family`.
 
-use super::devices::{buffered, ran};
+use super::devices::buffered;
+use crate::running::run;
 use netlink_packet_route::{Family, families, report};
 
 /// For each attribute set, an input whose output shows how this set decodes.
@@ -31,7 +32,7 @@ fn each_family_by_its_name(rt: HostRuntime) {
             let (wanted, code) = report(rt.alloc(), family, text.as_bytes()).expect(&rt, text);
             let mut written = buffered(&rt, rt.alloc(), Vec::new(rt.alloc()));
             let name = family.name();
-            let status = ran(&rt, rt.alloc(), name, &mut text.as_bytes(), &mut written);
+            let status = run(rt.alloc(), Some(name), &mut text.as_bytes(), &mut written);
             assert_eq!(rt; status, code, "for {name} and {text}");
             assert_eq!(rt;
                 written.get_ref().as_slice(),
@@ -46,7 +47,7 @@ fn each_family_by_its_name(rt: HostRuntime) {
 fn a_fault_by_its_status(rt: HostRuntime) {
     let mut written = buffered(&rt, rt.alloc(), Vec::new(rt.alloc()));
     let mut text = b"05 00 01 00 2a 00 00 00".as_slice();
-    let status = ran(&rt, rt.alloc(), "hsr", &mut text, &mut written);
+    let status = run(rt.alloc(), Some("hsr"), &mut text, &mut written);
     assert_eq!(rt; status, 1);
     assert_eq!(rt;
         written.get_ref().as_slice(),
