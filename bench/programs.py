@@ -34,7 +34,7 @@ from pathlib import Path
 sys.dont_write_bytecode = True
 ROOT = Path(__file__).resolve().parents[1]
 sys.path.insert(0, f"{ROOT}/tools")
-from runs import Run  # noqa: E402
+from runs import runs_in  # noqa: E402
 
 STORED = ROOT / "runs/plain/captured"
 # The devices that the stored messages refer to, and do not describe. `ip` would ask the kernel for their names each time.
@@ -64,7 +64,8 @@ def described(index, name):
 
 def messages(count):
     """So many messages: names of other devices, and those that are stored, again and again."""
-    lines = Run(STORED.read_bytes()).stdin.decode().splitlines()
+    [run] = runs_in(STORED.read_bytes())
+    lines = run.stdin.decode().splitlines()
     stored = [bytes.fromhex(it.removeprefix("message ")) for it in lines if it.startswith("message ")]
     found = [described(*it) for it in OTHERS.items()]
     return [*found, *(stored[at % len(stored)] for at in range(count))][:count]

@@ -38,7 +38,7 @@ from typing import NamedTuple
 
 sys.dont_write_bytecode = True
 from random_lines import ROOT, SETS, captured, changed, random_list, stored  # noqa: E402
-from runs import Run, add_stored, runs_of  # noqa: E402
+from runs import add_stored, files_of, name_of, runs_of  # noqa: E402
 
 sys.path.insert(0, f"{ROOT}/extra/fuzz/captures")
 import mutate  # noqa: E402
@@ -321,11 +321,8 @@ def check_value(name, value, kind, flags, payload, base):
 
 def of_runs():
     """The inputs of all runs that print what they read."""
-    for name in runs_of(ROOT):
-        path = f"{ROOT}/runs/{name}"
-        with open(path, "rb") as file:
-            run = Run(file.read())
-        add_stored(run, os.path.dirname(path))
+    for file, run in [(file, run) for file in files_of(ROOT) for run in runs_of(ROOT, file)]:
+        add_stored(run, os.path.dirname(f"{ROOT}/runs/{file}"))
         words = [it for it in run.arguments if it != "--check" and not it.startswith("--format=")]
         while "--format" in words:
             at = words.index("--format")
@@ -334,7 +331,7 @@ def of_runs():
         others = {*words} - {*operands}
         if run.program == "nlshow" and run.status != 2 and not run.full and others <= {"--raw"}:
             files = {os.fsdecode(it): data for it, data in run.given.items()}
-            yield Input(name, files.pop(""), "--raw" in words, operands, files)
+            yield Input(name_of(file, run), files.pop(""), "--raw" in words, operands, files)
 
 
 def inputs(count):

@@ -25,7 +25,7 @@ sys.dont_write_bytecode = True
 ROOT = Path(__file__).resolve().parents[1]
 sys.path.insert(0, f"{ROOT}/tools")
 from families import names  # noqa: E402
-from runs import Run, runs_of  # noqa: E402
+from runs import files_of, runs_of  # noqa: E402
 
 SETS, AF_BRIDGE = names(), 7
 LIST = re.compile(rf"^(?:check )?({'|'.join(SETS)})\b((?:[0-9a-fA-F]{{2}}|[ \t])*)$", re.MULTILINE)
@@ -55,8 +55,8 @@ def random_list():
 
 def stored():
     """The input of all runs."""
-    files = [Path(ROOT, "runs", it).read_bytes() for it in runs_of(ROOT)]
-    return "\n".join(Run(it).stdin.decode(errors="replace") for it in files)
+    found = [run for file in files_of(ROOT) for run in runs_of(ROOT, file)]
+    return "\n".join(it.stdin.decode(errors="replace") for it in found)
 
 
 def lists_of(text):

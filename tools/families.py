@@ -31,6 +31,7 @@ COVERED = [
     ("runs/debug/", r"^  IFLA_\w+ {name}\n    \w"),
     ("runs/plain/", r"^> {name} [0-9a-f]"),
     ("runs/json/", r"^< {name} [0-9a-f]"),
+    ("runs/nlroute/", r"^arguments: {name}$"),
 ]
 HOLDERS = {"InfoKind": "IFLA_INFO_DATA", "PortKind": "IFLA_INFO_SLAVE_DATA"}
 

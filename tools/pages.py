@@ -50,7 +50,7 @@ sys.dont_write_bytecode = True
 sys.path.insert(0, os.path.dirname(os.path.realpath(__file__)))
 import families  # noqa: E402
 import inventories  # noqa: E402
-from runs import Run, is_run  # noqa: E402
+from runs import is_run, runs_of  # noqa: E402
 
 ROOT = os.path.dirname(os.path.dirname(os.path.realpath(__file__)))
 PAGES = re.compile(r"(README|CONTRIBUTING|CHANGELOG)\.md|docs/(proofs/)?[^/]+\.md|(bench|tools|extra|crates/[^/]+)/README\.md")
@@ -275,12 +275,12 @@ class Tree:
             numbers["calls that do not allocate" if call == "0" else "calls that allocate"] += 1
         sets = families.names(self.text_or_none)
         for path in [it for it in self.files if it.startswith("runs/") and is_run(it)]:
-            with open(f"{self.root}/{path}", "rb") as file:
-                run, folder = Run(file.read()), path.split("/")[1]
-            numbers.update(["runs", f"runs of {folder}"])
-            words = [it.split()[0] for it in run.stdin.decode(errors="replace").split("\n") if it.strip() and it[0] != "#"]
-            kinds = ["lists" if it in sets else f"{it} lines" for it in words if run.program == "nlshow"]
-            numbers.update(f"{it} of {folder}" for it in kinds)
+            folder = path.split("/")[1]
+            for run in runs_of(self.root, path.removeprefix("runs/")):
+                lines = run.stdin.decode(errors="replace").split("\n") if run.program == "nlshow" else []
+                words = [it.split()[0] for it in lines if it.strip() and it[0] != "#"]
+                kinds = ["lists" if it in sets else f"{it} lines" for it in words]
+                numbers.update(["runs", *(f"{it} of {folder}" for it in ["runs", *kinds])])
         return numbers
 
 

@@ -3,10 +3,10 @@
 
 usage: tools/runs.py [--binary PROGRAM=PATH].. [RUN..]
 
-Each file below runs/ is a run, except stored input: the files in a folder `inputs`, at any depth. RUN names a run, or a
-folder of runs: `debug/vlan`, `debug`. Without a name, all run.
+Each file below runs/ has a run, or several, except stored input: the files in a folder `inputs`, at any depth. RUN names a
+file, or a folder of files: `debug/vlan`, `debug`. Without a name, all run.
 
-A run begins with a head, which a blank line ends:
+A file begins with a head, which a blank line ends:
 
     # A comment of the file. It is not input.
     program: nlshow
@@ -33,16 +33,27 @@ So the output of `nlshow` is written as it is printed, with a mark at each line 
 `=* N HEX` and `|=* N HEX` are N times the bytes. Texts and names are bytes: a tab, a CR, or a blank at the end of a line
 counts. In the output, `{FAMILIES}` stands for the names of the attribute sets, as in `bond, bridge or vlan`.
 
+A file with several runs has each below a line `== TITLE`, with a title of its own:
+
+    == a truncated header
+    status: 1
+    < 08 00 01
+    fault at 0: short frame 3
+
+Directly below the title may be lines of a head and comments, for this run only. Each such line takes the place of that of
+the file's head. The last blank lines of a run are not input. No other line is above the first title.
+
 The program runs in a folder of its own, which has the files that `@` begins and those that `files: PATH..` names. PATHs
 are split as `arguments` are, and lead to stored files, as that of `input` does. Each has the last part of its path as
 its name.
 
 The program is the one that `rt ci` has built in crates/PROGRAM/out, or that of --binary: bench/unproved.py builds one
-in a minute, bench/out/nlshow. For a run that fails, the first lines that differ are printed, after the number of the
-line of the file: after `-` those that are expected, after `+` those of the program. The last line is
-'N passed, M failed', counted in runs, and the status 0 only if all passed.
+in a minute, bench/out/nlshow. For a run that fails, its file (and `:TITLE`, if it has one) and the first lines that differ
+are printed, after the number of the line of the file: after `-` those that are expected, after `+` those of the program.
+The last line is 'N passed, M failed', counted in runs, and the status 0 only if all passed.
 """
 import argparse
+import itertools
 import os
 import re
 import shlex
@@ -60,6 +71,7 @@ MARKED = re.compile(rb"[<>|!](?:(\+)|\* (\d+))?(?: (.*))?", re.DOTALL)
 IN_HEX = re.compile(rb"\|?=(?:\* (\d+))? (.*)", re.DOTALL)
 *FIRST, LAST = names()
 FAMILIES = f"{', '.join(FIRST)} or {LAST}".encode()
+NO_RUN = "there is no such run"
 # The most seconds that a program may take.
 SECONDS = 60
 # How many lines that differ are printed, and how many characters of a line.
@@ -69,25 +81,17 @@ LINES, WIDTH = 3, 160
 class Run:
     """A run: `program`, `arguments`, `status`, and the bytes of `given`: of each file that the run has, by its name, and of
     standard input, whose name is empty. `input` and `files` are the paths of stored files. `stdout` and `stderr` have what
-    is expected, in parts, each with the number of its line. `full` is true if the standard output is /dev/full. A file
-    that is not a run is a ValueError, which names the line."""
+    is expected, in parts, each with the number of its line. `full` is true if the standard output is /dev/full. `title` is
+    empty if the run has a file to itself. It is made of the lines of its head and of those below, with their numbers."""
 
-    def __init__(self, text):
+    def __init__(self, head, lines, title=""):
         self.program, self.arguments, self.status, self.full = None, [], 0, False
         self.input, self.files, self.name, self.given = None, [], b"", {b"": b""}
-        self.stdout, self.stderr = [], []
-        *lines, rest = text.split(b"\n")
-        end = lines.index(b"") if b"" in lines else len(lines)
-        if rest:
-            raise ValueError(f"line {len(lines) + 1}: the last line has no LF")
-        for number, line in enumerate(lines, 1):
-            try:
-                if number <= end:
-                    self.read_head(line)
-                elif number > end + 1:
-                    self.read_line(number, line)
-            except ValueError as error:
-                raise ValueError(f"line {number}: {error}") from None
+        self.stdout, self.stderr, self.title = [], [], title
+        for number, line in head:
+            in_line(number, self.read_head, line)
+        for number, line in lines:
+            in_line(number, self.read_line, number, line)
         if self.program is None:
             raise ValueError("line 1: the head names no program")
 
@@ -135,6 +139,48 @@ class Run:
         self.given[self.name] += text
 
 
+def in_line(number, call, *values):
+    """Makes the call for a line, whose number a ValueError names."""
+    try:
+        return call(*values)
+    except ValueError as error:
+        raise ValueError(f"line {number}: {error}") from None
+
+
+def runs_in(text):
+    """The runs of a file. A file that has none is a ValueError, which names the line."""
+    *lines, rest = text.split(b"\n")
+    if rest:
+        raise ValueError(f"line {len(lines) + 1}: the last line has no LF")
+    end = lines.index(b"") if b"" in lines else len(lines)
+    numbered = [*enumerate(lines, 1)]
+    head, below = numbered[:end], numbered[end + 1 :]
+    starts = [at for at, (_, line) in enumerate(below) if line.startswith(b"==")]
+    if not starts:
+        return [Run(head, below)]
+    for number, line in below[: starts[0]]:
+        if line:
+            raise ValueError(f"line {number}: it belongs to no run, since the first title is below it")
+    found = {}
+    for at, after in zip(starts, [*starts[1:], None]):
+        run = titled(head, below[at:after])
+        if found.setdefault(run.title, run) is not run:
+            raise ValueError(f"line {below[at][0]}: there is already a run with this title")
+    return [*found.values()]
+
+
+def titled(head, lines):
+    """A run of a file with several: that of these lines, whose first has its title."""
+    (number, first), *below = lines
+    title = first[3:].decode(errors="surrogateescape")
+    if first[:3] != b"== " or not title.strip():
+        raise ValueError(f"line {number}: `==` takes a title, after a blank")
+    while below and not below[-1][1]:
+        below.pop()
+    own = [*itertools.takewhile(lambda it: it[1].startswith(b"#") or HEAD.fullmatch(it[1]), below)]
+    return Run(head + own, below[len(own) :], title)
+
+
 def text_of(line):
     """The bytes that a line below the head stands for."""
     mark = line[:1]
@@ -177,15 +223,26 @@ def shown(line, same):
     return ".." * (start > 0) + text[start : start + WIDTH] + ".." * (start + WIDTH < len(text))
 
 
-def try_run(root, name, binaries):
-    """What is wrong with a run, or with what its program does; or None."""
+def tried(root, file, binaries):
+    """For each run of a file, its name, and what is wrong with it or with what its program does, or None."""
     try:
-        with open(f"{root}/runs/{name}", "rb") as file:
-            run = Run(file.read())
-        add_stored(run, os.path.dirname(f"{root}/runs/{name}"))
-        binary = os.path.abspath(binaries.get(run.program, f"{root}/crates/{run.program}/out/{run.program}"))
-        if not os.path.isfile(binary):
-            return f"rt ci has not built {binary}"
+        return [(name_of(file, it), fault_of(root, file, it, binaries)) for it in runs_of(root, file)]
+    except ValueError as error:
+        return [(file, str(error))]
+
+
+def name_of(file, run):
+    """The name of a run, from that of its file."""
+    return f"{file}:{run.title}" if run.title else file
+
+
+def fault_of(root, file, run, binaries):
+    """What is wrong with what the program of a run does, or None."""
+    binary = os.path.abspath(binaries.get(run.program, f"{root}/crates/{run.program}/out/{run.program}"))
+    if not os.path.isfile(binary):
+        return f"rt ci has not built {binary}"
+    try:
+        add_stored(run, os.path.dirname(f"{root}/runs/{file}"))
         ran = started(run, binary)
     except ValueError as error:
         return str(error)
@@ -221,24 +278,29 @@ def started(run, binary):
 
 
 def is_run(path):
-    """Whether a file below runs/ is a run: no folder on its path is `inputs`."""
+    """Whether a file below runs/ has runs: no folder on its path is `inputs`."""
     return "/inputs/" not in f"/{path}"
 
 
-def runs_of(root, name=""):
-    """The runs of a name, which is that of a file or a folder below runs/."""
+def files_of(root, name=""):
+    """The files with the runs of a name, which is that of a file or a folder below runs/."""
     path = os.path.normpath(f"{root}/runs/{name.removeprefix('runs/')}")
     files = [path] if os.path.isfile(path) else [f"{at}/{it}" for at, _, files in os.walk(path) for it in files]
     return sorted(filter(is_run, (os.path.relpath(it, f"{root}/runs") for it in files)))
+
+
+def runs_of(root, file):
+    """The runs of a file below runs/."""
+    with open(f"{root}/runs/{file}", "rb") as read:
+        return runs_in(read.read())
 
 
 def check(root, named, binaries):
     """Tries the runs of these names, or all, and prints what is wrong, and how many passed and failed."""
     results = []
     for name in named or [""]:
-        found = runs_of(root, name)
-        tried = [(it, try_run(root, it, binaries)) for it in found] or [(name or "runs", "there is no such run")]
-        for it, wrong in tried:
+        found = files_of(root, name)
+        for it, wrong in [it for file in found for it in tried(root, file, binaries)] or [(name or "runs", NO_RUN)]:
             results.append(not wrong)
             if wrong:
                 print(f"FAILED {it}: {wrong}")

@@ -48,7 +48,7 @@ It has the clause `ensures length { result ≡ 2 }`, and `requires { .. }`.
 - 2<!-- count: tests of pairs --> tests, three<!-- count: mutants --> mutants, one<!-- count: mutants of definitions
   --> of definitions, 1<!-- count: must-fail edits --> must-fail edit. The other names are `IsPair`, `pair_delay` and `nla_type`.
 - 1,001<!-- count: calls that allocate --> calls allocate, 1<!-- count: calls that do not allocate --> does not.
-- 2<!-- count: lists of plain --> lists, one<!-- count: check lines of plain --> `check`, 5<!-- count: runs --> runs,
+- 2<!-- count: lists of plain --> lists, one<!-- count: check lines of plain --> `check`, 7<!-- count: runs --> runs,
   1<!-- count: message lines of plain --> message, 2<!-- count: tap lines of plain --> others.
 
 ```text
@@ -162,6 +162,7 @@ TREE = {
     RUN: "program: nlshow\n\n> vlan 00\n",
     "runs/plain/other": "program: nlroute\n\n< dsa 00\n",
     "runs/json/pairs": 'program: nlshow\n\n< dsa 00\n< vlan 00\n{"name":"pair_delay"}\n',
+    "runs/nlroute/sets": "program: nlroute\n\n== one set\narguments: dsa\n\n== another\narguments: vlan\n",
     "runs/plain/inputs/stored": "program\n",
     "runs/debug/other": "# dsa 00\nprogram: nlshow\n\n",
 }
@@ -228,10 +229,12 @@ CASES = [
     ("README.md", "three<", "two<", "22: " + NOT_COUNT.format("two", "mutants, which is 3")),
     ("README.md", "1,001", "1,002", "24: " + NOT_COUNT.format("1,002", "calls that allocate, which is 1,001")),
     ("README.md", "  1<", "  2<", "26: " + NOT_COUNT.format(2, "message lines of plain, which is 1")),
-    ("README.md", "5<!-- count: runs -->", "3<!-- count: runs of plain -->"),
+    ("README.md", "7<!-- count: runs -->", "3<!-- count: runs of plain -->"),
     (RUN, "> vlan 00\n", "> vlan 00\n< vlan\nvlan\n", "25: " + NOT_COUNT.format(2, "lists of plain, which is 3")),
     (RUN, "> vlan 00\n", "> vlan 00\n= ff0a\n= 76 6c 61 6e\n", "25: " + NOT_COUNT.format(2, "lists of plain, which is 3")),
     (RUN, "> vlan 00\n", "> vlan 00\n@ fi\r\n< vlan\n@ fi\n"),
+    (RUN, "> vlan 00\n", "== a\n> vlan 00\n== b\nstatus: 1\n> vlan\n",
+     "25: " + NOT_COUNT.format(2, "lists of plain, which is 3"), "25: " + NOT_COUNT.format(7, "runs, which is 8")),
     ("crates/pairs/src/tests.rt", "fn two", "#[test]\nfn three() {}\nfn two", "22: " + NOT_COUNT.format(2, "tests of pairs, which is 3")),
     ("README.md", "mutants -->", "mutant -->", "22: `<!-- count: mutant -->` does not name a count"),
     ("README.md", "three<", "some<", "22: there is no number before `<!-- count: mutants -->`"),
@@ -246,6 +249,7 @@ CASES = [
     (MAN, "vlan", "van", f"{MAN}:{NO_SET.format(LISTED[MAN])}"),
     (LINKS, '"dsa", NLROUTE_DSA', '"dsa", NLROUTE_VLAN', f"{LINKS}:{NO_SET.format(LISTED[LINKS])}".replace("vlan", "dsa")),
     (RUN, "> vlan 00", "> vlan zz", f"runs/plain/:{NO_SET.format(LISTED['runs/plain/'])}"),
+    ("runs/nlroute/sets", "vlan", "vlan x", f"runs/nlroute/:{NO_SET.format(LISTED['runs/nlroute/'])}"),
     ("runs/json/pairs", "< vlan 00", "< vlan", f"runs/json/:{NO_SET.format(LISTED['runs/json/'])}"),
     (f"{ROUTE}/src/family.rt", "1  Bridge", "2  Bridge",
      f"{ROUTE}/src/family.rt:1: the numbers of attribute sets do not go from 0 in order", f"{HEADER}:{NO_SET.format(LISTED[HEADER])}"),

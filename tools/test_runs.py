@@ -59,8 +59,20 @@ GIVEN = [
     (b"@ a b \n< 1\n#2\n\n= 33\n@ \xff\\\"\n@\n= 34\n", {b"": b"4", b"a b ": b"1\n#2\n\n3", b'\xff\\"': b""}),
     (b"= 31\n@ a\n@\n= 32\n@ b\n=* 2 33\n@ \n= 34\n", {b"": b"124", b"a": b"", b"b": b"33"}),
 ]
+# For lines below HEAD: the title, the arguments, the status and the input of each run.
+WORDS = ["one", "two"]
+SEVERAL = [
+    (b"< a\n", ["", WORDS, 2, b"a\n"]),
+    (b"== a b\n< a\nout\n\n\n== c\n> b\n", ["a b", WORDS, 2, b"a\n"], ["c", WORDS, 2, b"b\n"]),
+    # lines of a head below the title, and in the output
+    (b"== a\nstatus: 3\n== b\n", ["a", WORDS, 3, b""], ["b", WORDS, 2, b""]),
+    (b"== a\n# b\narguments: x\nstatus: 0\n#in\n\n> \nstatus: 4\n", ["a", ["x"], 0, b"\n\n"]),
+    (b"\n\n== a\n\n# in\n\n< \n\n", ["a", WORDS, 2, b"\n# in\n\n\n"]),
+    (b"== =\n<+ == b\n= 3d3d\n| == c\n", ["=", WORDS, 2, b"== b=="]),
+]
 NO_HEAD = "the head has a line that is none of program, arguments, status, stdout, input and files"
 NO_BLANK, NO_NAME = "no blank follows the mark", "`@` takes the name of a file, without a slash, or nothing"
+NO_TITLE, NO_RUN = "`==` takes a title, after a blank", "it belongs to no run, since the first title is below it"
 NO_INPUT = "there is standard input, but it is that of `input`"
 # What is no run, and where.
 BAD = [
@@ -78,6 +90,14 @@ BAD = [
     (HEAD + b"|= 0g\n", "line 5: non-hexadecimal number found in fromhex() arg at position 1"),
     *((HEAD + it, f"line 5: {NO_NAME}") for it in (b"@a\n", b"@ a/b\n", b"@ /\n")),
     (HEAD + b"@ a\n@\n@ a\n", "line 7: there is already a file of this name"),
+    *((HEAD + it, f"line 5: {NO_TITLE}") for it in (b"==\n", b"== \n", b"==  \n", b"==a\n")),
+    (HEAD + b"== a\n< b\n===\n", f"line 7: {NO_TITLE}"),
+    (HEAD + b"\n< a\n== b\n", f"line 6: {NO_RUN}"),
+    (HEAD + b"== a\n== b\n< c\n== a\n", "line 8: there is already a run with this title"),
+    (HEAD + b"== a\nstatus: one\n", "line 6: invalid literal for int() with base 10: 'one'"),
+    (HEAD + b"== a\n< b\n>c\n", f"line 7: {NO_BLANK}"),
+    (b"program: lengths\n== a\n", f"line 2: {NO_HEAD}"),
+    (b"# no program\n\n== a\n", "line 1: the head names no program"),
     (b"program: files\nfiles: 'a\n", "line 2: No closing quotation"),
     *((b"program: files\ninput: a\n\n" + it, f"line 4: {NO_INPUT}") for it in (b"\n", b"# a\n", b"> a\n", b"= 00\n")),
     (b"program: files\ninput: a\n\n@ b\n< b\n@\n< c\n", f"line 7: {NO_INPUT}"),
@@ -119,6 +139,28 @@ TRIED = [
     (b"program: slow\n", ["it takes more than 1 s"]),
     (b"program: lengths\n> a\n", [f"line 2: {NO_HEAD}"]),
 ]
+# A file with four runs, of which two fail, and what is printed for it and another one.
+FOUR = b"""program: copy
+
+== no words
+< a
+a
+
+== a word
+arguments: b
+b
+
+== two lines
+> c
+d
+
+== a status
+status: 1
+> e
+"""
+FAILED = [
+    "FAILED it:two lines: line 13", "  - d", "  + (no line)", "FAILED it:a status: status 0, expected 1", "3 passed, 2 failed",
+]
 # Stored files, by their paths below runs/.
 STORED = [("inputs/raw", b"\0\n\xff"), ("inputs/a b", b"1"), ("inputs/more/four", RUN), ("some/inputs/five", RUN)]
 # Names of runs, and what is printed.
@@ -153,13 +195,15 @@ def said(root, *named):
 def results():
     """For each case what is there, and what should be."""
     for text, *wanted in READ:
-        run = runs.Run(HEAD + text)
+        [run] = runs.runs_in(HEAD + text)
         yield [run.stdin, *(b"".join(it for _, it in parts) for parts in (run.stdout, run.stderr))], wanted
     for text, wanted in GIVEN:
-        yield runs.Run(HEAD + text).given, wanted
+        yield runs.runs_in(HEAD + text)[0].given, wanted
+    for text, *wanted in SEVERAL:
+        yield [[it.title, it.arguments, it.status, it.stdin] for it in runs.runs_in(HEAD + text)], wanted
     for text, wanted in BAD:
         try:
-            yield runs.Run(text), wanted
+            yield runs.runs_in(text), wanted
         except ValueError as error:
             yield str(error), wanted
     with tempfile.TemporaryDirectory(prefix="runs-test-") as root:
@@ -178,6 +222,8 @@ def results():
             runs.SECONDS = 1 if b"slow" in text else 60
             wanted = [f"FAILED it: {wanted[0]}", *(f"  {it}" for it in wanted[1:]), "0 passed, 1 failed"] if wanted else []
             yield said(root, "it"), (wanted or ["1 passed, 0 failed"], True)
+        write(f"{root}/runs/it", FOUR)
+        yield said(root, "it", "one"), (FAILED, True)
 
 
 if __name__ == "__main__":

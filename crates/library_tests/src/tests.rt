@@ -5,6 +5,8 @@ mod flags;
 mod frames;
 mod names;
 mod payloads;
+mod public_calls;
+mod public_names;
 mod records;
 mod texts;
 mod values;

@@ -17,8 +17,18 @@ use std::alloc::Global;
 use std::process::Abort;
 
 /// Canonical lists of every attribute set. Each word of digits is an attribute with its padding.
-const CANONICAL: [&str; 25] = [
+const CANONICAL: [&str; 35] = [
     "dsa",
+    "hsr",
+    "vlan",
+    "bond",
+    "bond_port",
+    "bridge",
+    "bridge_port",
+    "af_spec_bridge",
+    "proto_bridge",
+    "can",
+    "dsa 080001002a000000 080001002a000000",
     "dsa 080001002a000000 0400ff3f",
     "dsa 04000000",
     "hsr 0a00040001154e0001000000 05006340ff000000",

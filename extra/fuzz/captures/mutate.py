@@ -36,7 +36,7 @@ sys.dont_write_bytecode = True
 ROOT = Path(__file__).resolve().parents[3]
 sys.path.insert(0, f"{ROOT}/tools")
 import reader  # noqa: E402
-from runs import Run, add_stored, runs_of  # noqa: E402
+from runs import add_stored, files_of, runs_of  # noqa: E402
 
 # How many inputs the program reads, the most seconds that it may take, and how often an input is made shorter.
 BATCH, SECONDS, TRIES = 400, 60, 4000
@@ -59,11 +59,8 @@ class Input(collections.namedtuple("Input", "data is_raw")):
 
 def stored():
     """The inputs of the runs, except lines."""
-    for name in runs_of(ROOT, "captures"):
-        path = f"{ROOT}/runs/{name}"
-        with open(path, "rb") as file:
-            run = Run(file.read())
-        add_stored(run, os.path.dirname(path))
+    for file, run in [(file, run) for file in files_of(ROOT, "captures") for run in runs_of(ROOT, file)]:
+        add_stored(run, os.path.dirname(f"{ROOT}/runs/{file}"))
         found = (Input(it, "--raw" in run.arguments) for it in run.given.values())
         yield from (it for it in found if reader.form_of(*it) != "lines")
 

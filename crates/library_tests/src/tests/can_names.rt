@@ -1,8 +1,8 @@
 //! Tests the name of a CAN controller's limits: what it is decoded to, written as, and re-encoded as.
 
-use crate::tests::{bytes, is_written, reads_as};
+use crate::tests::{bytes, holds, is_written, reads_as};
 use netlink_packet_route::link::{CanBitTimingConst, InfoCan};
-use netlink_packet_route::{Family, is_canonical, rewrite};
+use netlink_packet_route::{Family, is_canonical, report, rewrite};
 use std::alloc::Global;
 use std::process::Abort;
 
@@ -57,6 +57,28 @@ fn whole_fields(rt: HostRuntime) {
         ),
     ] {
         is_name(&rt, rt.alloc(), field, name, written);
+        becomes(&rt, rt.alloc(), [field, written, written]);
+    }
+}
+
+/// A character that fits whole, after letters. The field does not change.
+#[test]
+fn whole_characters(rt: HostRuntime) {
+    let alloc = rt.alloc();
+    for letters in 0..12 {
+        let mut field = String::new(alloc);
+        let mut name = String::new(alloc);
+        for _ in 0..letters {
+            field.push_str("61").expect(&rt, "a letter");
+            name.push('a').expect(&rt, "a letter");
+        }
+        field.push_str("f09f9880").expect(&rt, "a character");
+        name.push('\u{1F600}').expect(&rt, "a character");
+        for _ in letters..12 {
+            field.push_str("00").expect(&rt, "a NUL");
+        }
+        is_name(&rt, alloc, &field, &name, &field);
+        becomes(&rt, alloc, [&field, &field, &field]);
     }
 }
 
@@ -89,16 +111,28 @@ fn ends_of_fields(rt: HostRuntime) {
 }
 
 /// Asserts that limits with the first name field are re-encoded with the second, those with the third, and these as
-/// themselves, and that limits are canonical if and only if they do not change.
+/// themselves, also by `report`, and that limits are canonical if and only if they do not change.
 fn becomes(rt: &impl Abort, alloc: Global, fields: [&str; 3]) {
     let [first, once, twice] = fields;
     for (before, after) in [(first, once), (once, twice), (twice, twice)] {
         let list = bytes(rt, alloc, &limits(rt, alloc, before));
         let wanted = bytes(rt, alloc, &limits(rt, alloc, after));
         let out = rewrite(alloc, Family::Can, &list).expect(rt, before);
-        let is_same = is_canonical(Family::Can, &list) == (list == wanted);
-        assert!(rt; is_same && out == wanted, "in {before}");
+        let is_same = list == wanted;
+        let is_judged = is_canonical(Family::Can, &list) == is_same;
+        assert!(rt; is_judged && out == wanted, "in {before}");
+        let verdict = if is_same { "same\n" } else { "changed\n" };
+        is_reported(rt, alloc, &limits(rt, alloc, before), &wanted, verdict);
     }
+}
+
+/// Asserts that the output of `nlroute` for limits has these bytes and this last line.
+fn is_reported(rt: &impl Abort, alloc: Global, digits: &str, wanted: &[u8], verdict: &str) {
+    let (text, status) = report(alloc, Family::Can, digits.as_bytes()).expect(rt, digits);
+    let rest = text.strip_prefix("attr 2 len 48\nout ");
+    let (out, last) = rest.and_then(|it| it.split_once('\n')).expect(rt, digits);
+    let is_so = bytes(rt, alloc, out).as_slice() == wanted && last == verdict;
+    holds(rt, is_so && status == 0, digits);
 }
 
 /// A name that is longer than the field, or has a NUL in it.

@@ -56,6 +56,7 @@ fn calls<F: Flags<Bits = u32> + Copy + PartialEq>(rt: &impl Abort) {
 #[test]
 fn calls_of_flags(rt: HostRuntime) {
     calls::<VlanFlags>(&rt);
+    assert!(rt; VlanFlags::Gvrp.union(VlanFlags::Mvrp).bits() == 0xA);
     let state = LacpState::LACP_ACTIVITY.union(LacpState::AGGREGATION);
     assert!(rt; state == LacpState::from_bits_retain(5) && LacpState::all().bits() == 0xFF);
 }

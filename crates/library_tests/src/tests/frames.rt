@@ -88,6 +88,21 @@ fn runs(rt: HostRuntime) {
     gives(&rt, alloc, "04000100 09000200 04000300", &[1], overrun);
 }
 
+/// As many frames as there are, from none to a hundred.
+#[test]
+fn counts(rt: HostRuntime) {
+    let mut bytes = Vec::new(rt.alloc());
+    for count in 0..101usize {
+        let frames = NlasIterator::new(&bytes);
+        let whole = frames.filter(|it| it.is_ok()).count();
+        let is_so = whole == count && NlasIterator::new(&bytes).count() == count;
+        assert!(rt; is_so, "for {count}");
+        bytes
+            .extend_from_slice(&[4, 0, 9, 0])
+            .expect(&rt, "a frame");
+    }
+}
+
 #[test]
 fn hints(rt: HostRuntime) {
     for (digits, least, most) in [

@@ -3,8 +3,8 @@
 
 use crate::tests::holds;
 use netlink_packet_route::link::{
-    BondAllPortActive, BondMode, BridgeMulticastRouterType, BridgeStpState, DecodeError,
-    DecodeFault, HsrProtocol, MiiStatus, VlanProtocol,
+    BondAllPortActive, BondLacpRate, BondMode, BondPortState, BridgeMulticastRouterType,
+    BridgeStpState, ChurnState, DecodeError, DecodeFault, HsrProtocol, MiiStatus, VlanProtocol,
 };
 use std::alloc::Global;
 use std::fmt::Display;
@@ -55,6 +55,7 @@ fn texts_or_digits(rt: HostRuntime) {
             (5, BondMode::BalanceTlb, "balance-tlb"),
             (6, BondMode::BalanceAlb, "balance-alb"),
             (7, BondMode::Other(7), "unknown-variant (7)"),
+            (9, BondMode::Other(9), "unknown-variant (9)"),
             (255, BondMode::Other(255), "unknown-variant (255)"),
         ],
     );
@@ -70,6 +71,9 @@ fn texts_or_digits(rt: HostRuntime) {
             ("6", BondMode::BalanceAlb),
         ],
     );
+    let fast = BondLacpRate::Fast;
+    are_read(&rt, &[("fast", fast), ("1", fast)]);
+    are_no_texts::<BondLacpRate>(&rt, &["01", "Fast"]);
     are_no_texts::<BondMode>(
         &rt,
         &[
@@ -112,6 +116,11 @@ fn texts_in_any_case(rt: HostRuntime) {
         ],
     );
     are_no_texts::<MiiStatus>(&rt, &["0", "4", "", "u", "up ", " up", "going down"]);
+    are_read(&rt, &[("ACTIVE", BondPortState::Active)]);
+    are_no_texts::<BondPortState>(&rt, &["0"]);
+    let other = ChurnState::Other(7);
+    are_shown(&rt, rt.alloc(), &[(7u8, other, "7")]);
+    are_no_texts::<ChurnState>(&rt, &["7"]);
 }
 
 #[test]
@@ -182,13 +191,23 @@ fn texts_or_numbers(rt: HostRuntime) {
         &[
             ("kernel_stp", BridgeStpState::KernelStp),
             ("+1", BridgeStpState::KernelStp),
+            ("2", BridgeStpState::UserStp),
+            ("+07", BridgeStpState::Other(7)),
             ("00000000000000000002", BridgeStpState::UserStp),
             ("+004294967295", BridgeStpState::Other(u32::MAX)),
         ],
     );
     are_no_texts::<BridgeStpState>(
         &rt,
-        &["4294967296", "10000000000", "No", "kernel", "user_st"],
+        &[
+            "4294967296",
+            "10000000000",
+            "+",
+            "",
+            "No",
+            "kernel",
+            "user_st",
+        ],
     );
     are_no_texts::<BridgeMulticastRouterType>(
         &rt,

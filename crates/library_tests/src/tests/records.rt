@@ -77,6 +77,10 @@ fn af_spec(rt: HostRuntime) {
     let tunnels = AfSpecBridge::VlanTunnelInfo(tunnels);
     let wanted = VecAfSpecBridge(list(&rt, alloc, [flags, tunnels]));
     assert!(rt; VecAfSpecBridge::parse(alloc, &payload) == Ok(wanted));
+    let flags = AfSpecBridge::Flags(BridgeFlag::LowerDev);
+    let wanted = VecAfSpecBridge(list(&rt, alloc, [flags]));
+    let payload = bytes(&rt, alloc, "06000000 02000000");
+    assert!(rt; VecAfSpecBridge::parse(alloc, &payload) == Ok(wanted));
     let payload = bytes(&rt, alloc, "06000000 02000000 0c000380 08000240 0a000000");
     let cause = Cause::WrongLength { want: 2, got: 4 };
     let fault = DecodeFault::NestedValue {
@@ -100,4 +104,7 @@ fn protocol_information(rt: HostRuntime) {
     let fault = DecodeFault::Value { kind: 45, cause };
     let refused = Err(ListError::Fault { at: 8, fault });
     assert!(rt; VecLinkProtoInfoBridge::parse(alloc, &payload) == refused);
+    let fault = DecodeFault::Frame(Cause::ShortFrame { left: 1 });
+    let refused = Err(ListError::Fault { at: 0, fault });
+    assert!(rt; VecLinkProtoInfoBridge::parse(alloc, &[5]) == refused);
 }

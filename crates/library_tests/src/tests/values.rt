@@ -1,7 +1,8 @@
 //! Tests values of bytes that were decoded by hand, of each class of payloads and of each variant that owns heap memory:
 //! they are parsed, cloned and written.
 
-use crate::tests::{are_kept, are_refused, is_written, list, reads_as};
+use crate::decodes_to;
+use crate::tests::{are_kept, are_refused, bytes, holds, is_written, list, reads_as};
 use bitflags::Flags;
 use netlink_packet_route::link::{
     AfSpecBridge, BondAdInfo, BondArpValidate, BondMode, BridgeBooleanOptionFlags,
@@ -45,6 +46,10 @@ fn dsa(rt: HostRuntime) {
         ],
     );
     reads_as(&rt, alloc, "08000180 2a000000", InfoDsa::Conduit(42));
+    let digits = "08000100 2a000000 08000100 2a000000";
+    let two = [InfoDsa::Conduit(42), InfoDsa::Conduit(42)];
+    let two_bytes = bytes(&rt, alloc, digits);
+    holds(&rt, decodes_to(alloc, &two_bytes, &two), digits);
 }
 
 #[test]
@@ -86,6 +91,9 @@ fn vlan(rt: HostRuntime) {
             ),
         ],
     );
+    // both flags, and no padding
+    let other = InfoVlan::Other(any(&rt, alloc, 0xC063, [0xDE, 0xAD]));
+    reads_as(&rt, alloc, "060063c0 dead", other);
     let other = VlanQosMapping::Other(any(&rt, alloc, 0xC009, [0xDE, 0xAD]));
     are_kept(
         &rt,
@@ -290,6 +298,11 @@ fn bridge(rt: HostRuntime) {
             ("0c002e00 01000000 03000000", options),
             ("0c002f80 08000100 c0a80001", one),
             (
+                "04002f80",
+                InfoBridge::MulticastQuerierState(Vec::new(alloc)),
+            ),
+            ("04002800", InfoBridge::Other(any(&rt, alloc, 40, []))),
+            (
                 "060028c0 01020000",
                 InfoBridge::Other(any(&rt, alloc, 0xC028, [1, 2])),
             ),
@@ -298,6 +311,11 @@ fn bridge(rt: HostRuntime) {
     reads_as(&rt, alloc, "07001500 01020300", InfoBridge::FdbFlush);
     let none = InfoBridge::MulticastQuerierState(Vec::new(alloc));
     reads_as(&rt, alloc, "04002f00", none);
+    let unknown = InfoBridge::VlanProtocol(VlanProtocol::Ieee8021Q);
+    reads_as(&rt, alloc, "06000800 12340000", unknown);
+    let (priority, address) = (32768, [2, 0, 0, 0, 0, 1]);
+    let id = InfoBridge::BridgeId(BridgeId { priority, address });
+    reads_as(&rt, alloc, "0e000b00 80000200 00000001 ffff0000", id);
     let local = BridgeQuerierState::Ipv6Address(Ipv6Addr::new(0, 0, 0, 0, 0, 0, 0, 1));
     let other = BridgeQuerierState::Other(any(&rt, alloc, 0x4004, [7]));
     are_kept(
@@ -325,12 +343,16 @@ fn ports_of_bridges(rt: HostRuntime) {
             ),
         ],
     );
-    reads_as(
-        &rt,
-        alloc,
+    for digits in [
         "05000b80 07000000",
-        InfoBridgePort::LearningSync(true),
-    );
+        "05000b00 07000000",
+        "05000b80 01000000",
+    ] {
+        reads_as(&rt, alloc, digits, InfoBridgePort::LearningSync(true));
+    }
+    let hairpin = InfoBridgePort::HairpinMode(true);
+    reads_as(&rt, alloc, "05000400 07000000", hairpin);
+    reads_as(&rt, alloc, "06001800 01020000", InfoBridgePort::Flush);
     let (priority, address) = (32768, [2, 0, 0, 0, 0, 1]);
     let root = InfoBridgePort::RootId(BridgeId { priority, address });
     reads_as(&rt, alloc, "0e000d00 80000200 00000001 ffff", root);
@@ -380,32 +402,83 @@ fn af_spec(rt: HostRuntime) {
             ),
         ],
     );
+    let id = BridgeVlanTunnelInfo::Id(100);
+    let vid = BridgeVlanTunnelInfo::Vid(10);
+    let flags = BridgeVlanTunnelInfo::Flags(BridgeVlanInfoFlags::empty());
+    let tunnel = AfSpecBridge::VlanTunnelInfo(list(&rt, alloc, [id, vid, flags]));
+    let digits = "1c000300 08000100 64000000 06000200 0a000000 06000300 00000000";
+    are_kept(&rt, alloc, &[(digits, tunnel)]);
     let other = BridgeVlanTunnelInfo::Other(any(&rt, alloc, 0xC000, [7]));
     are_kept(&rt, alloc, &[("050000c0 07000000", other)]);
 }
 
+/// The error of a payload that has `got` bytes.
+fn wrong_length(kind: u16, want: usize, got: usize) -> DecodeFault {
+    let cause = Cause::WrongLength { want, got };
+    DecodeFault::Value { kind, cause }
+}
+
+fn too_short(kind: u16, want: usize, got: usize) -> DecodeFault {
+    let cause = Cause::TooShort { want, got };
+    DecodeFault::Value { kind, cause }
+}
+
+/// The error of an element that has `got` bytes.
+fn wrong_element(kind: u16, inner: u16, want: usize, got: usize) -> DecodeFault {
+    let cause = Cause::WrongLength { want, got };
+    DecodeFault::NestedValue { kind, inner, cause }
+}
+
+fn wrong_frame(kind: u16, cause: Cause) -> DecodeFault {
+    DecodeFault::NestedFrame { kind, cause }
+}
+
 #[test]
 fn faults(rt: HostRuntime) {
-    let value = DecodeFault::Value {
-        kind: 1,
-        cause: Cause::WrongLength { want: 2, got: 1 },
-    };
-    let frame = DecodeFault::NestedFrame {
-        kind: 3,
-        cause: Cause::SmallLength { length: 3 },
-    };
-    let element = DecodeFault::NestedValue {
-        kind: 3,
-        inner: 1,
-        cause: Cause::WrongLength { want: 8, got: 7 },
-    };
-    are_refused::<InfoVlan>(
-        &rt,
-        rt.alloc(),
-        &[
-            ("05000100 0a000000", value),
-            ("08000300 03000100", frame),
-            ("0f000300 0b000100 01000000 02000000", element),
-        ],
+    let alloc = rt.alloc();
+    let (short, small) = (
+        Cause::ShortFrame { left: 2 },
+        Cause::SmallLength { length: 3 },
     );
+    let rows = [
+        ("05000100 0a000000", wrong_length(1, 2, 1)),
+        ("08000300 03000100", wrong_frame(3, small)),
+        ("0a000300 04000900 ffff0000", wrong_frame(3, short)),
+        (
+            "0f000300 0b000100 01000000 02000000",
+            wrong_element(3, 1, 8, 7),
+        ),
+    ];
+    are_refused::<InfoVlan>(&rt, alloc, &rows);
+    let overrun = Cause::Overrun { length: 9, left: 6 };
+    let rows = [("0a000800 09000000 0a000000", wrong_frame(8, overrun))];
+    are_refused::<InfoBond>(&rt, alloc, &rows);
+    let rows = [
+        ("0b002e00 00000000 00000000", too_short(46, 8, 7)),
+        (
+            "0d002e00 00000000 00000000 00000000",
+            wrong_length(46, 8, 9),
+        ),
+        ("09002f80 05000100 c0000000", wrong_element(47, 1, 4, 1)),
+    ];
+    are_refused::<InfoBridge>(&rt, alloc, &rows);
+}
+
+#[test]
+fn other_faults(rt: HostRuntime) {
+    let alloc = rt.alloc();
+    let rows = [
+        ("07000300 01020300", too_short(3, 4, 3)),
+        ("09000300 00127a00 ff000000", wrong_length(3, 4, 5)),
+        ("07000c00 01020300", wrong_length(12, 2, 3)),
+        ("0a000e00 01000000 02000000", wrong_length(14, 4, 6)),
+    ];
+    are_refused::<InfoCan>(&rt, alloc, &rows);
+    // before a truncated header
+    let rows = [("05000100 2a000000 0300", wrong_length(1, 4, 1))];
+    are_refused::<InfoDsa>(&rt, alloc, &rows);
+    let rows = [("07000200 06000100", wrong_length(2, 4, 3))];
+    are_refused::<AfSpecBridge>(&rt, alloc, &rows);
+    let rows = [("06000b00 01000000", wrong_length(11, 1, 2))];
+    are_refused::<InfoBridgePort>(&rt, alloc, &rows);
 }

@@ -24,7 +24,16 @@ fn attributes(rt: HostRuntime) {
         &rt,
         rt.alloc(),
         &[
+            ("af_spec_bridge", None),
+            ("bond", None),
+            ("bond_port", None),
+            ("bridge", None),
+            ("bridge_port", None),
+            ("vlan", None),
+            ("can", None),
             ("dsa", None),
+            ("hsr", None),
+            ("proto_bridge", None),
             ("dsa 08000100 2a000000", None),
             // a flag too many, padding that is not zero, and none
             ("dsa 08000140 2a000000", Some(0)),
@@ -67,6 +76,7 @@ fn lists(rt: HostRuntime) {
             ("bond 0a001700 06000100 07000000", Some(0)),
             ("bond 0c001700 06000100 07000000", None),
             // a truncated header, a value of another length
+            ("dsa 05000100 2a000000 0300", Some(0)),
             ("dsa 08000100 2a000000 0000", Some(8)),
             ("vlan 07000100 01000000 0000", Some(0)),
             // an element of another length, after another attribute

@@ -2,8 +2,8 @@
 
 use crate::tests::{bytes, filled, holds};
 use netlink_packet_route::link::{
-    Attribute, DefaultNla, InfoBond, InfoCan, InfoVlan, Nla, VlanQosMapping, WriteError, emit_list,
-    list_fits, list_len, read_list, write_list,
+    Attribute, DefaultNla, InfoBond, InfoCan, InfoDsa, InfoVlan, Nla, VlanQosMapping, WriteError,
+    emit_list, list_fits, list_len, read_list, write_list,
 };
 use netlink_packet_route::{Family, RewriteError, report, rewrite};
 use std::alloc::Global;
@@ -79,6 +79,19 @@ fn many_of_two(rt: &impl Abort, alloc: Global, count: usize) -> InfoCan {
     InfoCan::TerminationConst(vec![in alloc; 0x0102u16; count].expect(rt, "numbers"))
 }
 
+fn many_rates(rt: &impl Abort, alloc: Global, count: usize) -> InfoCan {
+    InfoCan::BitrateConst(vec![in alloc; 0x0102_0304u32; count].expect(rt, "numbers"))
+}
+
+fn many_mappings(rt: &impl Abort, alloc: Global, count: usize) -> InfoVlan {
+    let mut mappings = Vec::new(alloc);
+    for _ in 0..count {
+        let mapping = VlanQosMapping::Mapping(1, 2);
+        mappings.push(mapping).expect(rt, "a mapping");
+    }
+    InfoVlan::EgressQos(mappings)
+}
+
 /// Asserts that the value fits, and decodes from its encoding, which has these bytes at its start and at its end.
 fn is_written<F: Attribute>(rt: &impl Abort, alloc: Global, value: F, start: &[u8], end: &[u8]) {
     assert!(rt; value.fits());
@@ -102,6 +115,10 @@ fn as_many_elements_as_fit(rt: HostRuntime) {
     is_written(&rt, alloc, many_of_sixteen(&rt, alloc, 3276), &start, &end);
     let (start, end) = ([0xFE, 0xFF, 12, 0, 2, 1, 2, 1], [2, 1, 2, 1, 2, 1, 0, 0]);
     is_written(&rt, alloc, many_of_two(&rt, alloc, 32765), &start, &end);
+    let (start, end) = ([0xFC, 0xFF, 13, 0, 4, 3, 2, 1], [4, 3, 2, 1, 4, 3, 2, 1]);
+    is_written(&rt, alloc, many_rates(&rt, alloc, 16382), &start, &end);
+    let (start, end) = ([0xF4, 0xFF, 3, 0, 12, 0, 1, 0], [1, 0, 0, 0, 2, 0, 0, 0]);
+    is_written(&rt, alloc, many_mappings(&rt, alloc, 5460), &start, &end);
 }
 
 /// Asserts that the value, with a payload of `len` bytes, does not fit and is not written.
@@ -118,6 +135,20 @@ fn one_element_more(rt: HostRuntime) {
     is_too_long(&rt, alloc, many_of_four(&rt, alloc, 8192), 65536);
     is_too_long(&rt, alloc, many_of_sixteen(&rt, alloc, 3277), 65540);
     is_too_long(&rt, alloc, many_of_two(&rt, alloc, 32766), 65532);
+    is_too_long(&rt, alloc, many_rates(&rt, alloc, 16383), 65532);
+    is_too_long(&rt, alloc, many_mappings(&rt, alloc, 5461), 65532);
+    let longer = InfoDsa::Other(zeros(&rt, alloc, 65532));
+    is_too_long(&rt, alloc, longer, 65532);
+}
+
+/// Mappings after a value that fits.
+#[test]
+fn the_second_value(rt: HostRuntime) {
+    let alloc = rt.alloc();
+    let longest = [InfoVlan::Id(1), many_mappings(&rt, alloc, 5460)];
+    assert!(rt; list_fits(&longest) && list_len(&longest) == 65532);
+    let longer = [InfoVlan::Id(1), many_mappings(&rt, alloc, 5461)];
+    assert!(rt; write_list(alloc, &longer) == Err(WriteError::TooLong { index: 1 }));
 }
 
 /// Returns the hex digits of a list that starts with these, has zeros up to `length` bytes, and ends with others.
