@@ -46,6 +46,9 @@ import reader  # noqa: E402
 
 LONGEST, BLANKS = 262144, b" \t\r"
 LINKS, GETLINK, ERROR, DONE, LINKINFO = (16, 17, 18, 19), 18, 2, 3, 18
+# Flags of replies, and members for NLMSGERR_ATTR_..
+CAPPED, ACK_TLVS = 0x100, 0x200
+OF_REPLY = {1: "message", 2: "offset", 3: "cookie", 4: "policy", 5: "missing_type", 6: "missing_nest"}
 HEADER = ("len", "type", "flags", "seq", "pid")
 OF_LINK = ("family", "type", "index", "flags", "change")
 SHOWN = 3
@@ -270,14 +273,45 @@ def check_message(document, keys, at, message):
         need(more == ["link"] and [*link] == [*OF_LINK, "attrs"], "link:", keys)
         need(tuple(number_of(link[it]) for it in OF_LINK) == fields, "ifinfomsg:", link)
         check_elements(link["attrs"], message[32:], at + 32)
-    elif kind == ERROR and size >= 20:
-        need(more in (["reply"], ["error", "reply"]), "reply:", keys)
-        number = abs(struct.unpack_from("<i", message, 16)[0])
-        need(document["reply"]["errno"]["number"] == number, "errno:", document)
+    elif kind == DONE or kind == ERROR and size >= 20:
+        check_reply(document, more, at, kind, header[2], message[16:])
     elif kind == ERROR or kind in LINKS and not (kind == GETLINK and size):
         need(more == ["error"] and document["error"]["at"] == at, "error:", document)
     else:
         need(not more, "members:", keys)
+
+
+def behind_request(payload):
+    """The offset of what follows the request in the payload of an NLMSG_ERROR."""
+    return 4 + (max(struct.unpack_from("<I", payload, 4)[0], 16) + 3) // 4 * 4
+
+
+def check_reply(document, keys, at, kind, flags, payload):
+    """Checks the members for a reply against its payload; what it says of a success at the end of a dump is missing."""
+    errno = struct.unpack_from("<i", payload)[0] if len(payload) >= 4 else 0
+    start = len(payload)
+    if flags & ACK_TLVS:
+        start = min(4 if kind == DONE else 20 if flags & CAPPED else behind_request(payload), len(payload))
+    found, rest = attributes(payload[start:])
+    last = {kind: value for _, kind, _, value in found}
+    said = {name: last.get(number) for number, name in OF_REPLY.items()}
+    said |= {it: None for it in ("offset", "missing_type", "missing_nest") if len(said[it] or b"") != 4}
+    is_told = kind == ERROR or errno < 0 or rest is not None or any(it is not None for it in said.values())
+    need(keys == ["error"] * (rest is not None) + ["reply"] * is_told, "reply:", keys)
+    if rest is not None:
+        need(document["error"]["at"] == at + 16 + start + rest, "rest:", document)
+    if not is_told:
+        return
+    reply = document["reply"]
+    more = [it for it in ("missing_nest", "policy", "cookie") if said[it] is not None]
+    need([*reply] == ["errno", "message", "offset", "missing_type", *more], "members:", reply)
+    need(reply["errno"]["number"] == errno, "errno:", document)
+    for name in ("offset", "missing_type", "missing_nest"):
+        number = None if said[name] is None else struct.unpack("<I", said[name])[0]
+        need(reply.get(name) == number, name, reply)
+    for name in ("policy", "cookie"):
+        need(reply.get(name) == (None if said[name] is None else {"hex": said[name].hex()}), name, reply)
+    need((reply["message"] is None) is (said["message"] is None), "message:", reply)
 
 
 def check_elements(elements, data, base):

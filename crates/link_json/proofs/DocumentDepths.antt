@@ -1,7 +1,6 @@
 -- How deep documents nest.
-use Rattle.std.proofs.Common.{◌≡◌, ℕ, suc, ◌+◌, ◌==◌, ◌≤◌, Bool, true, false, not, List, [], ◌∷◌, ◌++◌, Option, Some, None, length, subst, sym, refl, arith, codes, if◌then◌else◌}
+use Rattle.std.proofs.Common.{◌≡◌, ℕ, ℤ, suc, ◌+◌, ◌==◌, ◌≤◌, Bool, true, false, not, List, [], ◌∷◌, ◌++◌, Option, Some, None, length, subst, sym, refl, arith, codes, if◌then◌else◌}
 use Rattle.std.specs.Option.{is_some, option_copied}
-use Rattle.std.specs.Int.RustNames.{unsigned_abs}
 use Rattle.json.specs.Json.{Json, boolean, string}
 use Rattle.json.specs.Tree.{depth}
 use Rattle.link_base.specs.declared.wire.buffer.NlaBuffer.{NlaBuffer}
@@ -13,6 +12,7 @@ use Rattle.netlink_packet_route.specs.declared.family.Family.{Family}
 use Rattle.netlink_packet_route.specs.declared.family.Family.TheVariants.{AfSpecBridge, BridgePort}
 use Rattle.netlink_packet_route.specs.Family.{family_name}
 use Rattle.link_messages.specs.declared.buffer_parts.Message.{Message}
+use Rattle.link_messages.specs.declared.buffer_parts.Payload.{Payload}
 use Rattle.link_messages.specs.declared.message.MessageError.{MessageError}
 use Rattle.link_messages.specs.declared.header.LinkHeader.{LinkHeader}
 use Rattle.link_messages.specs.declared.acknowledgement.Acknowledgement.{Acknowledgement}
@@ -25,11 +25,11 @@ use Rattle.link_messages.specs.Message.{packet_of}
 use Rattle.link_messages.specs.Walk.{Item}
 use Rattle.link_show.specs.Message.{errno_name, state_names}
 use Rattle.link_show.specs.MessageNames.{message_types, flags_of, address_families, device_types, device_flags, operational_states}
-use Rattle.link_json.specs.Doc.{Field, object_of, array_of, number_json, at_json}
-use Rattle.link_json.specs.Value.{text_json, address_json, enum_json}
+use Rattle.link_json.specs.Doc.{Field, object_of, array_of, number_json, signed_json, name_json, at_json}
+use Rattle.link_json.specs.Value.{text_json, opaque_json, address_json, enum_json}
 use Rattle.link_json.specs.Link.{link_simple, info_simple, or_raw, if_size, ShowsArray, ShowsAt, ShowsAll, ShowsData, ShowsInfoValue, LinkData, PortData, OtherInfo, ShowsInfoItem, ShowsInfo, ShowsProtinfo, ShowsLinkValue, Info, Spec, Ports, OtherLink, ShowsLinkItem, ShowsLink, header_fields}
 use Rattle.link_json.specs.List.{ShowsList}
-use Rattle.link_json.specs.Message.{message_error, message_fields, or_null, reply_json, fault_fields, ShowsBody, Link, Reply, General, NoLink, NoReply, Other, whole_document, ShowsDocument, ShowsMessage, ShowsEnd, Ended, Empty, Done, Zeros, Broken, ShowsMessages}
+use Rattle.link_json.specs.Message.{message_error, message_fields, or_null, if_some, policy_json, usual_fields, further_fields, reply_json, says_something, fault_fields, ShowsBody, Link, Reply, General, NoLink, NoReply, Other, whole_document, ShowsDocument, ShowsMessage, ShowsEnd, Ended, Empty, Done, Zeros, Broken, ShowsMessages}
 use Rattle.link_json.specs.Other.{ShowsListDocument, ShowsCheck, IsCanonical, IsNot, place_document, check_document, fault_document}
 use Rattle.link_json.proofs.Depths.{FieldsIn, EachIn, fields_both, each_both, named_in_1, flags_in_2, text_in_1, raw_in_3, shown_in, list_in, one_in, family_in_6}
 
@@ -130,8 +130,36 @@ null_number : (n : Option ℕ) → depth (or_null number_json n) ≤ 0
 null_number None = omega arith
 null_number (Some n) = omega arith
 
+errno_in_1 : (e : ℤ) (name : Option (List ℕ)) → depth (object_of ((codes "number", signed_json e) ∷ (codes "name", name_json name) ∷ [])) ≤ 1
+errno_in_1 e None = omega arith
+errno_in_1 e (Some name) = omega arith
+
+usual_in_1 : (a : Acknowledgement) → FieldsIn 1 (usual_fields a)
+usual_in_1 a = omega (arith, errno_in_1 a.error (errno_name a.error), null_text (option_copied a.text), null_number a.offset, null_number a.missing_type)
+
+nest_in_1 : (nest : Option ℕ) → FieldsIn 1 (if_some (codes "missing_nest") number_json nest)
+nest_in_1 None = omega arith
+nest_in_1 (Some n) = omega arith
+
+policy_in_1 : (policy : Option Payload) → FieldsIn 1 (if_some (codes "policy") policy_json policy)
+policy_in_1 None = omega arith
+policy_in_1 (Some p) = omega arith
+
+cookie_in_1 : (cookie : Option (List ℕ)) → FieldsIn 1 (if_some (codes "cookie") opaque_json cookie)
+cookie_in_1 None = omega arith
+cookie_in_1 (Some bytes) = omega arith
+
+further_in_1 : (a : Acknowledgement) → FieldsIn 1 (further_fields a)
+further_in_1 a =
+    fields_both 1 (if_some (codes "missing_nest") number_json a.missing_nest) (if_some (codes "policy") policy_json a.policy ++ if_some (codes "cookie") opaque_json (option_copied a.cookie)) (nest_in_1 a.missing_nest)
+    (fields_both 1 (if_some (codes "policy") policy_json a.policy) (if_some (codes "cookie") opaque_json (option_copied a.cookie)) (policy_in_1 a.policy) (cookie_in_1 (option_copied a.cookie)))
+
 reply_in_2 : (a : Acknowledgement) → FieldsIn 2 ((codes "reply", reply_json a) ∷ [])
-reply_in_2 a = omega (arith, named_in_1 (unsigned_abs a.error) (errno_name a.error), null_text (option_copied a.text), null_number a.offset, null_number a.missing_type)
+reply_in_2 a = omega (arith, fields_both 1 (usual_fields a) (further_fields a) (usual_in_1 a) (further_in_1 a))
+
+told_in_12 : (said : Bool) (fields : List Field) → FieldsIn 12 fields → FieldsIn 12 (if said then fields else [])
+told_in_12 true fields h = h
+told_in_12 false fields h = omega arith
 
 fault_in_2 : (fault : Option MessageError) → FieldsIn 2 (fault_fields fault)
 fault_in_2 None = omega arith
@@ -143,7 +171,9 @@ same_in n a b e h = subst (FieldsIn n) (sym e) h
 body_in_12 : (m : Message) (fields : List Field) (well : Bool) → ShowsBody m fields well → FieldsIn 12 fields
 body_in_12 m fields well (Link h g is link s e) = same_in 12 ((codes "link", link) ∷ []) fields e (omega (arith, link_in_12 h (attributes_of m.at (packet_of m)) link well s))
 body_in_12 m fields well (Reply a is e w) =
-    same_in 12 _ fields e (omega (arith, fields_both 2 (fault_fields a.fault) ((codes "reply", reply_json a) ∷ []) (fault_in_2 a.fault) (reply_in_2 a)))
+    let reply : List Field = (codes "reply", reply_json a) ∷ [] in
+    let all : FieldsIn 12 (fault_fields a.fault ++ reply) = omega (arith, fields_both 2 (fault_fields a.fault) reply (fault_in_2 a.fault) (reply_in_2 a)) in
+    same_in 12 (if says_something a then fault_fields a.fault ++ reply else []) fields e (told_in_12 (says_something a) (fault_fields a.fault ++ reply) all)
 body_in_12 m fields well (General g e w) = same_in 12 [] fields e (omega arith)
 body_in_12 m fields well (NoLink error k g is e w) = same_in 12 (message_error error ∷ []) fields e (omega arith)
 body_in_12 m fields well (NoReply error k is e w) = same_in 12 (message_error error ∷ []) fields e (omega arith)

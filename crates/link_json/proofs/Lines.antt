@@ -1,9 +1,9 @@
 -- Documents are lines.
-use Rattle.std.proofs.Common.{◌≡◌, ℕ, ℤ, pos, negsuc, ◌+◌, ◌^◌, ◌==◌, ◌<◌, ◌≤◌, min, Bool, true, false, not, List, [], ◌∷◌, ◌++◌, length, take, drop, Option, Some, None, IfSome, is_some, nat_lt, option_map, option_copied, unsigned_abs, refl, sym, ap, subst, arith, codes, if◌then◌else◌, eqb-true, length-append, length-drop, length-take}
+use Rattle.std.proofs.Common.{◌≡◌, ℕ, ℤ, pos, negsuc, ◌+◌, ◌^◌, ◌==◌, ◌<◌, ◌≤◌, min, Bool, true, false, true≢false, not, List, [], ◌∷◌, ◌++◌, length, take, drop, Option, Some, None, IfSome, is_some, nat_lt, option_map, option_copied, refl, sym, ap, subst, ◌∙◌, arith, codes, if◌then◌else◌, eqb-true, length-append, length-drop, length-take}
 use Rattle.std.specs.Int.Signed.{mag}
 use Rattle.std.specs.List.{AllByRecursion, filter, last_or}
 use Rattle.std.specs.Int.RustNames.{bit_and}
-use Rattle.std.proofs.lemmas.Bool.{cond_both}
+use Rattle.std.proofs.lemmas.Bool.{cond_both, ltb-false, eq-eqb}
 use Rattle.json.specs.Json.{Json, boolean, string}
 use Rattle.json.specs.Strict.{keys}
 use Rattle.json.specs.Tree.{depth, items_depth}
@@ -19,24 +19,26 @@ use Rattle.netlink_packet_route.specs.declared.family.Family.{Family}
 use Rattle.netlink_packet_route.specs.Family.{family_name}
 use Rattle.link_messages.specs.declared.acknowledgement.Acknowledgement.{Acknowledgement}
 use Rattle.link_messages.specs.declared.buffer_parts.Message.{Message}
+use Rattle.link_messages.specs.declared.buffer_parts.Payload.{Payload}
 use Rattle.link_messages.specs.declared.message.MessageError.{MessageError}
 use Rattle.link_messages.specs.declared.message.MessageError.TheVariants as errors
-use Rattle.link_messages.specs.Acknowledgement.{IsAcknowledgement, IsNoAcknowledgement, attributes_start, request_size, attributes_of as reply_attributes}
+use Rattle.link_messages.specs.Acknowledgement.{IsReply, IsAcknowledgement, IsNoAcknowledgement, result_in, attributes_start, request_size, attributes_of as reply_attributes}
 use Rattle.link_messages.specs.BeforeFault.{last_item, payload_at, latest, number_in, error_at}
 use Rattle.link_messages.specs.Header.{HasNoLinkHeader}
 use Rattle.link_messages.specs.Link.{attributes_of}
-use Rattle.link_messages.specs.Message.{Stand, IsMessageAt, IsPacket, header_fault, packet_of}
+use Rattle.link_messages.specs.Message.{Stand, Packet, IsMessageAt, IsPacket, header_fault, packet_of}
+use Rattle.netlink_packet_route.specs.Class.{integer}
 use Rattle.link_messages.specs.Walk.{Item, Walk}
 use Rattle.link_show.specs.Message.{errno_name, offset_of, reason_text}
 use Rattle.link_show.specs.MessageNames.{message_types, flags_of}
-use Rattle.link_json.specs.Doc.{Field, members_of, items_of, object_of, array_of, number_json, named_json, at_json}
+use Rattle.link_json.specs.Doc.{Field, members_of, items_of, object_of, array_of, number_json, signed_json, name_json, at_json}
 use Rattle.link_json.specs.Line.{IsLine, IsPlace, document_keys}
-use Rattle.link_json.specs.Value.{text_json}
-use Rattle.link_json.specs.Message.{message_error, message_fields, or_null, reply_json, fault_fields, ShowsBody, Link, Reply, General, NoLink, NoReply, Other, whole_document, ShowsMessage, ShowsEnd, Ended, Empty, Done, Zeros, Broken, ShowsMessages}
+use Rattle.link_json.specs.Value.{text_json, opaque_json}
+use Rattle.link_json.specs.Message.{message_error, message_fields, or_null, if_some, errno_json, policy_json, usual_fields, further_fields, reply_json, says_something, fault_fields, ShowsBody, Link, Reply, General, NoLink, NoReply, Other, whole_document, ShowsMessage, ShowsEnd, Ended, Empty, Done, Zeros, Broken, ShowsMessages}
 use Rattle.link_json.specs.Other.{place_document, fault_document, list_document, check_document, ShowsListDocument, ShowsCheck, IsCanonical, IsNot}
 use Rattle.link_json.proofs.DocumentDepths.{messages_in, place_in, fault_in, list_document_in, check_in}
 use Rattle.link_json.proofs.Keys.{are_among, are_distinct, distinct_members}
-use Rattle.link_json.proofs.Sound.{IsSound, AreSound, EachSound, no_fields, field_sound, fields_both, object_sound, no_items, one_sound, each_both, array_sound, string_sound, boolean_sound, null_sound, number_sound, text_sound, named_sound, flags_sound, IsOffset, at_sound, error_sound, bytes_fit}
+use Rattle.link_json.proofs.Sound.{IsSound, AreSound, EachSound, no_fields, field_sound, fields_both, object_sound, no_items, one_sound, each_both, array_sound, string_sound, boolean_sound, null_sound, number_sound, signed_sound, name_sound, opaque_sound, text_sound, named_sound, flags_sound, IsOffset, at_sound, error_sound, bytes_fit}
 use Rattle.link_json.proofs.Fitting.{ItemFits, walk_fits, end_inside}
 use Rattle.link_json.proofs.SoundLists.{shown_sound, family_sound}
 use Rattle.link_json.proofs.SoundLinks.{integer_fits, link_sound}
@@ -77,9 +79,13 @@ message_sound n m h =
 
 -- ---- replies
 
-abs_fits : (z : ℤ) → mag z < 2 ^ 63 → unsigned_abs z < 2 ^ 64
-abs_fits (pos n) h = omega (arith, h)
-abs_fits (negsuc n) h = omega (arith, h)
+result_fits : (p : List ℕ) → IsBytes p → mag (result_in p) < 2 ^ 63
+result_fits p h =
+    cond_both (nat_lt (length p) 4) (pos 0) (integer (take 4 p)) (λ z. mag z < 2 ^ 63) (λ e. omega arith)
+    (λ e. integer_fits (take 4 p) (omega (arith, ltb-false (length p) 4 e, length-take 4 p)) (bytes-take 4 p h))
+
+errno_sound : (e : ℤ) → mag e < 2 ^ 63 → IsSound (errno_json e)
+errno_sound e h = object_sound ((codes "number", signed_json e) ∷ (codes "name", name_json (errno_name e)) ∷ []) refl (field_sound (signed_sound e h) (field_sound (name_sound (errno_name e)) no_fields))
 
 null_or_text : (t : Option (List ℕ)) → IsSound (or_null text_json t)
 null_or_text None = null_sound
@@ -88,6 +94,30 @@ null_or_text (Some t) = text_sound t
 null_or_number : (n : Option ℕ) → IsOffset n → IsSound (or_null number_json n)
 null_or_number None h = null_sound
 null_or_number (Some n) h = number_sound n h
+
+nest_sound : (nest : Option ℕ) → IsOffset nest → AreSound (if_some (codes "missing_nest") number_json nest)
+nest_sound None h = no_fields
+nest_sound (Some n) h = field_sound (number_sound n h) no_fields
+
+policy_sound : (policy : Option Payload) → AreSound (if_some (codes "policy") policy_json policy)
+policy_sound None = no_fields
+policy_sound (Some p) = field_sound (opaque_sound p.bytes.now) no_fields
+
+cookie_sound : (cookie : Option (List ℕ)) → AreSound (if_some (codes "cookie") opaque_json cookie)
+cookie_sound None = no_fields
+cookie_sound (Some bytes) = field_sound (opaque_sound bytes) no_fields
+
+-- whichever of the last three members a reply has
+reply_keys : (errno message offset missing : Json) (nest : Option ℕ) (policy : Option Payload) (cookie : Option (List ℕ)) → are_distinct (keys (members_of (((codes "errno", errno) ∷ (codes "message", message) ∷ (codes "offset", offset) ∷ (codes "missing_type", missing) ∷ [])
+    ++ (if_some (codes "missing_nest") number_json nest ++ (if_some (codes "policy") policy_json policy ++ if_some (codes "cookie") opaque_json cookie))))) ≡ true
+reply_keys errno message offset missing None None None = refl
+reply_keys errno message offset missing None None (Some c) = refl
+reply_keys errno message offset missing None (Some p) None = refl
+reply_keys errno message offset missing None (Some p) (Some c) = refl
+reply_keys errno message offset missing (Some n) None None = refl
+reply_keys errno message offset missing (Some n) None (Some c) = refl
+reply_keys errno message offset missing (Some n) (Some p) None = refl
+reply_keys errno message offset missing (Some n) (Some p) (Some c) = refl
 
 last_fits : (n : ℕ) (o : Option Item) (items : List Item) → IfSome o (ItemFits n) → AllByRecursion (ItemFits n) items → IfSome (last_or o items) (ItemFits n)
 last_fits n o [] h k = h
@@ -115,26 +145,38 @@ reply_sound n m a h is =
     let p = m.payload.now in
     let says = is.says in
     let list = reply_attributes m.at (packet_of m) in
-    let error : mag a.error < 2 ^ 63 = subst (λ z. mag z < 2 ^ 63) (sym is.error) (integer_fits (take 4 p) (omega (arith, is.size, length-take 4 p)) (bytes-take 4 p h.bytes)) in
+    let error : mag a.error < 2 ^ 63 = subst (λ z. mag z < 2 ^ 63) (sym is.error) (result_fits p h.bytes) in
     let items = walk_fits list.1 says.items says.stop (bytes-drop _ p h.bytes) says.walk in
     let offset = subst IsOffset (sym says.offset) (latest_fits (length list.1) list.0 2 says.items items) in
     let missing = subst IsOffset (sym says.missing_type) (latest_fits (length list.1) list.0 5 says.items items) in
-    object_sound (
-    (codes "errno", named_json (unsigned_abs a.error) (errno_name a.error)) ∷
-    (codes "message", or_null text_json (option_copied a.text)) ∷
-    (codes "offset", or_null number_json a.offset) ∷
-    (codes "missing_type", or_null number_json a.missing_type) ∷ []) refl
-    (field_sound (named_sound (unsigned_abs a.error) (errno_name a.error) (abs_fits a.error error))
-    (field_sound (null_or_text (option_copied a.text)) (field_sound (null_or_number a.offset offset) (field_sound (null_or_number a.missing_type missing) no_fields))))
+    let nest = subst IsOffset (sym says.missing_nest) (latest_fits (length list.1) list.0 6 says.items items) in
+    let text = or_null text_json (option_copied a.text) in
+    let at = or_null number_json a.offset in
+    let kind = or_null number_json a.missing_type in
+    let usual : AreSound (usual_fields a) =
+    field_sound (errno_sound a.error error) (field_sound (null_or_text (option_copied a.text)) (field_sound (null_or_number a.offset offset) (field_sound (null_or_number a.missing_type missing) no_fields))) in
+    let further : AreSound (further_fields a) =
+    fields_both (if_some (codes "missing_nest") number_json a.missing_nest) (if_some (codes "policy") policy_json a.policy ++ if_some (codes "cookie") opaque_json (option_copied a.cookie)) (nest_sound a.missing_nest nest)
+    (fields_both (if_some (codes "policy") policy_json a.policy) (if_some (codes "cookie") opaque_json (option_copied a.cookie)) (policy_sound a.policy) (cookie_sound (option_copied a.cookie))) in
+    object_sound (usual_fields a ++ further_fields a) (reply_keys (errno_json a.error) text at kind a.missing_nest a.policy (option_copied a.cookie))
+    (fields_both (usual_fields a) (further_fields a) usual further)
 
 -- the attributes of a reply start inside its payload
-starts : (a b : Bool) (n m : ℕ) → 20 ≤ n → (if a then n else (if b then min m n else 20)) ≤ n
-starts true b n m h = omega arith
-starts false true n m h = omega arith
-starts false false n m h = h
+starts : (a b c : Bool) (n m : ℕ) → (b ≡ false → 20 ≤ n) → (if a then n else (if b then min n 4 else (if c then min m n else 20))) ≤ n
+starts true b c n m h = omega arith
+starts false true c n m h = omega arith
+starts false false true n m h = omega arith
+starts false false false n m h = h refl
 
-start_inside : (flags : ℕ) (p : List ℕ) → 20 ≤ length p → attributes_start flags p ≤ length p
-start_inside flags p size = starts (bit_and flags 0x200 == 0) (bit_and flags 0x100 == 0) (length p) (4 + request_size p) size
+-- other replies than an NLMSG_DONE have a `struct nlmsgerr`
+error_size : (is_done : Bool) (m : Packet) → IsReply is_done m → (m.kind == 3) ≡ false → 20 ≤ length m.payload
+error_size true m h e = absurd (true≢false (sym (eq-eqb m.kind 3 h) ∙ e))
+error_size false m h e = h.1
+
+start_inside : (is_done : Bool) (m : Packet) → IsReply is_done m → attributes_start m.kind m.flags m.payload ≤ length m.payload
+start_inside is_done m h =
+    let p = m.payload in
+    starts (bit_and m.flags 0x200 == 0) (m.kind == 3) (bit_and m.flags 0x100 == 0) (length p) (4 + request_size p) (error_size is_done m h)
 
 stop_fits : (n base : ℕ) (list : List ℕ) (items : List Item) (stop : Option (ℕ × Cause)) → base + length list ≤ n → n < 2 ^ 64 → Walk list items stop → IfSome (error_at base stop) ErrorFits
 stop_fits n base list items None room small w = tt
@@ -143,8 +185,8 @@ stop_fits n base list items (Some fault) room small w = omega (arith, room, smal
 fault_fits : (n : ℕ) (m : Message) (a : Acknowledgement) → n < 2 ^ 64 → MessageFits n m → IsAcknowledgement m.at (packet_of m) a → IfSome a.fault ErrorFits
 fault_fits n m a small h is =
     let p = m.payload.now in
-    let start = attributes_start m.flags p in
-    let room : m.at + 16 + start + length (drop start p) ≤ n = omega (arith, h.inside, start_inside m.flags p is.size, length-drop start p) in
+    let start = attributes_start m.kind m.flags p in
+    let room : m.at + 16 + start + length (drop start p) ≤ n = omega (arith, h.inside, start_inside a.is_done (packet_of m) is.kind, length-drop start p) in
     subst (λ o. IfSome o ErrorFits) (sym is.says.fault) (stop_fits n (m.at + 16 + start) (drop start p) is.says.items is.says.stop room small is.says.walk)
 
 -- ---- errors of messages
@@ -227,6 +269,12 @@ module _ (place : List Field) (is : IsPlace place) where
       let last : List Field = (codes "reply", reply) ∷ [] in
       says n m well (message_error error ∷ last) h refl refl (fields_both (message_error error ∷ []) last (message_error_sound error k) (field_sound g no_fields))
 
+  -- members that may be left out
+  told : (n : ℕ) (m : Message) (well said : Bool) (fields : List Field) → MessageFits n m → IsSound (whole_document place (message_fields m ++ fields) well)
+      → IsSound (whole_document place (message_fields m ++ (if said then fields else [])) well)
+  told n m well true fields h g = g
+  told n m well false fields h g = says n m well [] h refl refl no_fields
+
   -- a document by its body
   same : (m : Message) (well : Bool) (a b : List Field) → b ≡ a → IsSound (whole_document place (message_fields m ++ a) well) → IsSound (whole_document place (message_fields m ++ b) well)
   same m well a b e h = subst (λ body. IsSound (whole_document place (message_fields m ++ body) well)) (sym e) h
@@ -239,7 +287,9 @@ module _ (place : List Field) (is : IsPlace place) where
       let sound = link_sound p header list link well has.size h.bytes has.is (bytes-drop 16 p h.bytes) room shown in
       same m well ((codes "link", link) ∷ []) body e (says n m well ((codes "link", link) ∷ []) h refl refl (field_sound sound no_fields))
   body_sound n m body well small h (Reply a is e w) =
-      same m well _ body e (replies n m well a.fault (reply_json a) h (fault_fits n m a small h is) (reply_sound n m a h is))
+      let fields = fault_fields a.fault ++ (codes "reply", reply_json a) ∷ [] in
+      same m well (if says_something a then fields else []) body e
+      (told n m well (says_something a) fields h (replies n m well a.fault (reply_json a) h (fault_fits n m a small h is) (reply_sound n m a h is)))
   body_sound n m body well small h (General g e w) = same m well [] body e (says n m well [] h refl refl no_fields)
   body_sound n m body well small h (NoLink error k g is e w) =
       same m well (message_error error ∷ []) body e

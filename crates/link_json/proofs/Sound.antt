@@ -106,7 +106,7 @@ opaque_sound bytes = object_sound ((codes "hex", hex_json bytes) ∷ []) refl (f
 pub text_sound : (t : List ℕ) → IsSound (text_json t)
 text_sound t = either_sound (is_utf8 t) (string t) (opaque_json t) (string_sound t) (opaque_sound t)
 
-name_sound : (name : Option (List ℕ)) → IsSound (name_json name)
+pub name_sound : (name : Option (List ℕ)) → IsSound (name_json name)
 name_sound None = null_sound
 name_sound (Some name) = string_sound name
 

@@ -1,28 +1,28 @@
 -- The JSON of messages: a document for each.
-use Rattle.std.specs.Prelude.{◌≡◌, ◌≢◌, ℕ, ◌+◌, Bool, true, false, ◌&&◌, List, [], ◌∷◌, ◌++◌, length, drop, Option, Some, None, Result, Ok, Err, codes}
+use Rattle.std.specs.Prelude.{◌≡◌, ◌≢◌, ℕ, ℤ, ◌+◌, Bool, true, false, ◌&&◌, ◌||◌, is_some, List, [], ◌∷◌, ◌++◌, length, drop, Option, Some, None, Result, Ok, Err, codes, if◌then◌else◌}
 use Rattle.std.specs.List.{flat_map}
 use Rattle.std.specs.Option.{option_copied}
 use Rattle.std.specs.Io.KnownBytes.{Appends}
-use Rattle.std.specs.Int.RustNames.{unsigned_abs}
 use Rattle.json.specs.Token.{Token}
 use Rattle.json.specs.Json.{Json, null, boolean}
 use Rattle.json.specs.Print.{print}
 use Rattle.json.specs.Tree.{json_tokens}
 use Rattle.link_messages.specs.declared.buffer_parts.Message.{Message}
+use Rattle.link_messages.specs.declared.buffer_parts.Payload.{Payload}
 use Rattle.link_messages.specs.declared.message.MessageError.{MessageError}
 use Rattle.link_messages.specs.declared.header.LinkHeader.{LinkHeader}
 use Rattle.link_messages.specs.declared.acknowledgement.Acknowledgement.{Acknowledgement}
 use Rattle.link_messages.specs.Message.{Stand, IsMessageAt, header_fault, packet_of}
 use Rattle.link_messages.specs.Header.{IsAnyLinkType, HasLinkHeader, HasNoLinkHeader}
 use Rattle.link_messages.specs.Link.{attributes_of}
-use Rattle.link_messages.specs.Acknowledgement.{IsAcknowledgement, IsNoAcknowledgement}
+use Rattle.link_messages.specs.Acknowledgement.{IsReplyType, IsAcknowledgement, IsNoAcknowledgement}
 use Rattle.link_show.specs.List.{EachShown}
-use Rattle.link_show.specs.Message.{reason_text, offset_of, errno_name, is_sound, IsGeneral, AreZerosAfter}
+use Rattle.link_show.specs.Message.{reason_text, offset_of, errno_name, has_result, is_sound, IsGeneral, AreZerosAfter}
 use Rattle.link_show.specs.MessageNames.{message_types, flags_of}
 use Rattle.link_json.specs.declared.messages.Failure.{Failure}
 use Rattle.link_json.specs.declared.messages.Failure.TheVariants.{Memory, Writer}
-use Rattle.link_json.specs.Doc.{Field, object_of, fields_tokens, number_json, named_json, error_json}
-use Rattle.link_json.specs.Value.{text_json, enum_json, flags_json}
+use Rattle.link_json.specs.Doc.{Field, object_of, fields_tokens, number_json, signed_json, name_json, error_json}
+use Rattle.link_json.specs.Value.{text_json, opaque_json, enum_json, flags_json}
 use Rattle.link_json.specs.Link.{ShowsLink}
 
 -- ---- members
@@ -44,28 +44,61 @@ abbrev pub or_null : {A : Type 0} → (A → Json) → Option A → Json
 or_null json None = null
 or_null json (Some x) = json x
 
--- a reply
-abbrev pub reply_json : Acknowledgement → Json
-reply_json a = object_of (
-    (codes "errno", named_json (unsigned_abs a.error) (errno_name a.error)) ∷
+-- a member, if there is something
+abbrev pub if_some : {A : Type 0} → List ℕ → (A → Json) → Option A → List Field
+if_some name json None = []
+if_some name json (Some x) = (name, json x) ∷ []
+
+-- the error of a reply, with its sign, and the name of an errno
+abbrev pub errno_json : ℤ → Json
+errno_json e = object_of ((codes "number", signed_json e) ∷ (codes "name", name_json (errno_name e)) ∷ [])
+
+abbrev pub policy_json : Payload → Json
+policy_json p = opaque_json p.bytes.now
+
+-- the members of a reply: those that it always has, and others
+abbrev pub usual_fields : Acknowledgement → List Field
+usual_fields a =
+    (codes "errno", errno_json a.error) ∷
     (codes "message", or_null text_json (option_copied a.text)) ∷
     (codes "offset", or_null number_json a.offset) ∷
-    (codes "missing_type", or_null number_json a.missing_type) ∷ [])
+    (codes "missing_type", or_null number_json a.missing_type) ∷ []
+
+abbrev pub further_fields : Acknowledgement → List Field
+further_fields a =
+    if_some (codes "missing_nest") number_json a.missing_nest
+    ++ (if_some (codes "policy") policy_json a.policy ++ if_some (codes "cookie") opaque_json (option_copied a.cookie))
+
+-- a reply
+abbrev pub reply_json : Acknowledgement → Json
+reply_json a = object_of (usual_fields a ++ further_fields a)
+
+-- whether a reply has one of its attributes
+abbrev pub has_attributes : Acknowledgement → Bool
+has_attributes a = is_some a.text || is_some a.offset || is_some a.missing_type || is_some a.missing_nest || is_some a.policy || is_some a.cookie
+
+-- an NLMSG_DONE says something if the dump failed, if it has attributes, or if a header among them is malformed
+abbrev pub says_something : Acknowledgement → Bool
+says_something a = has_result a || has_attributes a || is_some a.fault
 
 -- the error of a header among the attributes of a reply
 abbrev pub fault_fields : Option MessageError → List Field
 fault_fields None = []
 fault_fields (Some error) = message_error error ∷ []
 
+-- the members for a reply
+abbrev pub reply_fields : Acknowledgement → List Field
+reply_fields a = if says_something a then fault_fields a.fault ++ (codes "reply", reply_json a) ∷ [] else []
+
 -- what a message is, besides its header, and whether it has no error
 pub data ShowsBody (m : Message) (fields : List Field) (well : Bool) : Type 0 where
   Link : (h : LinkHeader) → ¬ IsGeneral m → HasLinkHeader (packet_of m) h → (link : Json) → ShowsLink h (attributes_of m.at (packet_of m)) link well
       → fields ≡ (codes "link", link) ∷ [] → ShowsBody m fields well
-  Reply : (a : Acknowledgement) → IsAcknowledgement m.at (packet_of m) a → fields ≡ fault_fields a.fault ++ (codes "reply", reply_json a) ∷ [] → well ≡ is_sound a.fault → ShowsBody m fields well
+  Reply : (a : Acknowledgement) → IsAcknowledgement m.at (packet_of m) a → fields ≡ reply_fields a → well ≡ is_sound a.fault → ShowsBody m fields well
   General : IsGeneral m → fields ≡ [] → well ≡ true → ShowsBody m fields well
   NoLink : (error : MessageError) → IsAnyLinkType m.kind → ¬ IsGeneral m → HasNoLinkHeader m.at (packet_of m) error → fields ≡ message_error error ∷ [] → well ≡ false → ShowsBody m fields well
-  NoReply : (error : MessageError) → m.kind ≡ 2 → IsNoAcknowledgement m.at (packet_of m) error → fields ≡ message_error error ∷ [] → well ≡ false → ShowsBody m fields well
-  Other : ¬ IsAnyLinkType m.kind → m.kind ≢ 2 → fields ≡ [] → well ≡ true → ShowsBody m fields well
+  NoReply : (error : MessageError) → IsReplyType m.kind → IsNoAcknowledgement m.at (packet_of m) error → fields ≡ message_error error ∷ [] → well ≡ false → ShowsBody m fields well
+  Other : ¬ IsAnyLinkType m.kind → ¬ IsReplyType m.kind → fields ≡ [] → well ≡ true → ShowsBody m fields well
 
 -- ---- documents
 

@@ -4,6 +4,7 @@ ghost use Rattle.std.specs.Prelude.{◌≡◌, ◌++◌, ◌∷◌, [], true, fa
 ghost use Rattle.json.specs.Json.{boolean};
 ghost use Rattle.json.specs.Token.{end_object};
 ghost use Rattle.json.specs.Tree.{json_tokens};
+ghost use Rattle.link_messages.specs.Acknowledgement.{IsReplyType};
 ghost use Rattle.link_messages.specs.Header.{IsAnyLinkType};
 ghost use Rattle.link_json.specs.Doc.{fields_tokens};
 ghost use Rattle.link_json.specs.Message.{ShowsDocument, ShowsBody, WritesFields, message_error, message_fields, whole_document};
@@ -18,7 +19,7 @@ use crate::replies::write_reply;
 use crate::sheet::Sheet;
 use link_base::Cause;
 use link_messages::message_types::{
-    NLMSG_ERROR, RTM_DELLINK, RTM_GETLINK, RTM_NEWLINK, RTM_SETLINK,
+    NLMSG_DONE, NLMSG_ERROR, RTM_DELLINK, RTM_GETLINK, RTM_NEWLINK, RTM_SETLINK,
 };
 use link_messages::{Message, MessageError, link_header, read_acknowledgement};
 use link_show::message_names::{MESSAGE_TYPES, flag_names};
@@ -94,7 +95,7 @@ fn write_body(sheet: &mut Sheet, message: &Message<'_>) -> Result<bool, AllocErr
     ensures { IfOk result (WritesFields (ShowsBody message.now) sheet.old sheet.new) }
 {
     match message.kind {
-        NLMSG_ERROR => write_acknowledgement(sheet, message),
+        NLMSG_ERROR | NLMSG_DONE => write_acknowledgement(sheet, message),
         RTM_NEWLINK | RTM_DELLINK | RTM_GETLINK | RTM_SETLINK => write_about_link(sheet, message),
         _ => Ok(true),
     }
@@ -120,9 +121,9 @@ fn write_about_link(sheet: &mut Sheet, message: &Message<'_>) -> Result<bool, Al
     }
 }
 
-/// Writes an NLMSG_ERROR.
+/// Writes an NLMSG_ERROR or an NLMSG_DONE.
 fn write_acknowledgement(sheet: &mut Sheet, message: &Message<'_>) -> Result<bool, AllocError>
-    requires { message.now.kind ≡ 2 }
+    requires { IsReplyType message.now.kind }
     ensures { IfOk result (WritesFields (ShowsBody message.now) sheet.old sheet.new) }
 {
     match read_acknowledgement(message) {

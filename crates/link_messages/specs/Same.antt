@@ -37,12 +37,16 @@ pub record IsSameLink (a b : Link) : Type 0 where
   pub af_spec : option_map part_of a.af_spec ≡ option_map part_of b.af_spec
   pub protinfo : option_map part_of a.protinfo ≡ option_map part_of b.protinfo
 
--- the same error, text, numbers and malformed header
+-- the same type, error, attributes and malformed header
 pub record IsSameAcknowledgement (a b : Acknowledgement) : Type 0 where
+  pub is_done : a.is_done ≡ b.is_done
   pub error : a.error ≡ b.error
   pub text : option_copied a.text ≡ option_copied b.text
   pub offset : a.offset ≡ b.offset
   pub missing_type : a.missing_type ≡ b.missing_type
+  pub missing_nest : a.missing_nest ≡ b.missing_nest
+  pub policy : option_map stretch_of a.policy ≡ option_map stretch_of b.policy
+  pub cookie : option_copied a.cookie ≡ option_copied b.cookie
   pub fault : a.fault ≡ b.fault
 
 -- the same Family, offset and bytes

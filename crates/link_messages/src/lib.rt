@@ -8,8 +8,8 @@
 //! - [`read_link`] parses the [`Link`] that a message describes: its index, its name, and its lists. Each list is a
 //!   [`Part`]: a `Family`, and the bytes that it parses.
 //! - [`read_links`] does both for all messages of a buffer, and skips those that are not about links.
-//! - [`any_message`] parses the header of any message, and [`read_acknowledgement`] what an NLMSG_ERROR says, the
-//!   kernel's reply to a request.
+//! - [`any_message`] parses the header of any message, and [`read_acknowledgement`] what an NLMSG_ERROR or an NLMSG_DONE
+//!   says, the kernel's reply to a request.
 //! - [`last_of_kind`] and [`find_in`] look up the other attributes of a list.
 //! - [`link_header`] parses the `struct ifinfomsg` of a message about a link, a [`LinkHeader`].
 //! - [`link_details`] parses what a printer shows, [`LinkDetails`]. Malformed attributes are not an error: it parses what

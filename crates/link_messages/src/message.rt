@@ -20,7 +20,7 @@ pub enum MessageError {
     /// `nlmsg_len` is greater than `left`, the number of bytes left.
     Overrun { at: usize, length: u32, left: usize },
     /// The message has another type than the function parses. `read_link` parses RTM_NEWLINK, RTM_DELLINK and
-    /// RTM_SETLINK, `read_acknowledgement` NLMSG_ERROR.
+    /// RTM_SETLINK, `read_acknowledgement` NLMSG_ERROR and NLMSG_DONE.
     OtherType { at: usize, kind: u16 },
     /// A message about a link has `length` bytes: fewer than the 32 of `struct nlmsghdr` and `struct ifinfomsg`.
     ShortLink { at: usize, length: usize },

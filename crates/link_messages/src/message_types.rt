@@ -6,7 +6,7 @@ pub const NLMSG_NOOP: u16 = 1;
 /// The kernel's reply to a request.
 pub const NLMSG_ERROR: u16 = 2;
 
-/// The end of a dump.
+/// The end of a dump, with its result.
 pub const NLMSG_DONE: u16 = 3;
 
 /// Data was lost.

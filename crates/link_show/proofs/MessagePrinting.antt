@@ -1,5 +1,5 @@
 -- The lines of messages are printable.
-use Rattle.std.proofs.Common.{◌≡◌, ℕ, suc, ℤ, pos, negsuc, ◌+◌, ◌==◌, Bool, true, false, List, [], ◌∷◌, ◌++◌, drop, Option, Some, None, option_map, unsigned_abs, refl, sym, subst, codes}
+use Rattle.std.proofs.Common.{◌≡◌, ℕ, suc, ℤ, pos, negsuc, ◌+◌, ◌==◌, Bool, true, false, List, [], ◌∷◌, ◌++◌, drop, length, Option, Some, None, option_map, unsigned_abs, refl, sym, subst, codes}
 use Rattle.std.specs.Fmt.{signed_decimal}
 use Rattle.std.specs.List.{filter, last_or, list_all, AllByRecursion}
 use Rattle.std.specs.Option.{option_copied}
@@ -36,12 +36,13 @@ use Rattle.link_show.specs.Flags.{enum_text, flags_text}
 use Rattle.link_show.specs.Octets.{address_text}
 use Rattle.link_show.specs.Quoted.{quoted}
 use Rattle.link_show.specs.Fault.{byte_word}
+use Rattle.link_show.specs.Value.{other_text}
 use Rattle.link_show.specs.Errno.{errno_names}
 use Rattle.link_show.specs.MessageNames.{message_types, common_flags, new_flags, get_flags, delete_flags, error_flags, flags_of, address_families, device_types, device_flags, operational_states}
-use Rattle.link_show.specs.Message.{two, four, reason_text, offset_of, message_error_line, named_or, message_line, unless_zero, name_part, header_parts, link_line, line_of, opaque_text, ShowsFamily, ShowsPayload, kind_or_port, kind_line, ShowsData, fault_line, ShowsInfo, ShowsOptionalInfo, ShowsPart, state_names, ShowsProtinfo, attribute_lines, others_line, ShowsLink, number_after, error_number_line, errno_name, result_line, reply_lines, ShowsBody, Link, Reply, General, NoLink, NoReply, Other, ShowsMessage, zeros_line, ShowsEnd, Ended, Done, Zeros, Broken, ShowsMessages}
+use Rattle.link_show.specs.Message.{two, four, reason_text, offset_of, message_error_line, named_or, message_line, unless_zero, name_part, header_parts, link_line, line_of, opaque_text, ShowsFamily, ShowsPayload, kind_or_port, kind_line, ShowsData, fault_line, ShowsInfo, ShowsOptionalInfo, ShowsPart, state_names, ShowsProtinfo, attribute_lines, others_line, ShowsLink, number_after, error_number_line, errno_name, result_line, has_result, outcome_line, policy_text, reply_lines, ShowsBody, Link, Reply, General, NoLink, NoReply, Other, ShowsMessage, zeros_line, ShowsEnd, Ended, Done, Zeros, Broken, ShowsMessages}
 use Rattle.link_show.specs.Printable.{IsText, AreTexts, has_texts}
 use Rattle.link_show.proofs.Printing.{text, none, and, either, decimal_text, signed_text, address_digits, quoted_text}
-use Rattle.link_show.proofs.ValuePrinting.{EachName, OnText, are_text_names, choose, each_name, name_found, label_is_text, formed_texts, enum_is_text, number_is_text, flags_is_text, field_is_text, bytes_is_text, cause_is_text}
+use Rattle.link_show.proofs.ValuePrinting.{EachName, OnText, are_text_names, choose, each_name, name_found, label_is_text, formed_texts, enum_is_text, number_is_text, other_is_text, flags_is_text, field_is_text, bytes_is_text, cause_is_text}
 use Rattle.link_show.proofs.LinePrinting.{no_texts, and_texts, line_end, line_and, line_texts, indented_texts, error_texts, either_texts, each_texts, drop_bytes, ItemBytes, walk_bytes, checked_texts}
 
 -- ---- errors
@@ -81,7 +82,7 @@ flags_of_text kind =
     (choose EachName (kind == 19) _ _ (more new_flags refl)
     (choose EachName (kind == 18) _ _ (more get_flags refl)
     (choose EachName (kind == 17) _ _ (more delete_flags refl)
-    (choose EachName (kind == 2) _ _ (more error_flags refl) (each_name common_flags refl)))))
+    (choose EachName (kind == 2) _ _ (more error_flags refl) (choose EachName (kind == 3) _ _ (more error_flags refl) (each_name common_flags refl))))))
 
 message_line_texts : (m : Message) → AreTexts (message_line m)
 unfolding message_line
@@ -345,12 +346,21 @@ result_texts e =
     either_texts (unsigned_abs e == 0) (indented_texts two {t = codes "ack"} (text refl) (text refl))
     (error_number_texts (errno_name e) e (errno_text e))
 
+outcome_texts : (a : Acknowledgement) → AreTexts (outcome_line a)
+outcome_texts a = either_texts (has_result a) (result_texts a.error) no_texts
+
+policy_texts : (policy : Option Payload) → AreTexts (line_of (codes "policy") policy_text policy)
+policy_texts policy = line_of_texts (codes "policy") policy_text policy (text refl) (λ p. opaque_is_text (length p.bytes.now))
+
 reply_texts : (a : Acknowledgement) → AreTexts (reply_lines a)
 reply_texts a =
-    and_texts (result_texts a.error)
+    and_texts (outcome_texts a)
     (and_texts (line_of_texts (codes "message") quoted (option_copied a.text) (text refl) quoted_text)
     (and_texts (line_of_texts (codes "offset") (number_text Number) a.offset (text refl) (number_is_text Number))
-    (and_texts (line_of_texts (codes "missing type") (number_text Number) a.missing_type (text refl) (number_is_text Number)) (fault_texts a.fault))))
+    (and_texts (line_of_texts (codes "missing type") (number_text Number) a.missing_type (text refl) (number_is_text Number))
+    (and_texts (line_of_texts (codes "missing nest") (number_text Number) a.missing_nest (text refl) (number_is_text Number))
+    (and_texts (policy_texts a.policy)
+    (and_texts (line_of_texts (codes "cookie") other_text (option_copied a.cookie) (text refl) other_is_text) (fault_texts a.fault)))))))
 
 -- ---- messages
 

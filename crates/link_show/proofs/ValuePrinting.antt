@@ -237,7 +237,7 @@ named_label_text (l ∷ labels) d h =
     let both = and_parts (list_all is_printable l.text) (list_all (λ m. list_all is_printable m.text) labels) h in
     either (l.number == d) (text both.0) (named_label_text labels d both.1)
 
-other_is_text : (p : List ℕ) → IsText (other_text p)
+pub other_is_text : (p : List ℕ) → IsText (other_text p)
 other_is_text [] = text refl
 other_is_text (b ∷ p) = and {s = codes "hex "} (text refl) (hex_bytes (b ∷ p))
 

@@ -1,6 +1,7 @@
 -- The lines of messages about links.
-use Rattle.std.specs.Prelude.{◌≡◌, ◌≢◌, ℕ, suc, ℤ, pos, negsuc, ◌+◌, ◌<◌, ◌≤◌, ◌==◌, Bool, true, false, ◌&&◌, List, [], ◌∷◌, ◌++◌, length, drop, Option, Some, None, codes, if◌then◌else◌}
+use Rattle.std.specs.Prelude.{◌≡◌, ◌≢◌, ℕ, suc, ℤ, pos, negsuc, ◌+◌, ◌<◌, ◌≤◌, ◌==◌, Bool, true, false, not, ◌&&◌, ◌||◌, List, [], ◌∷◌, ◌++◌, length, drop, Option, Some, None, codes, if◌then◌else◌}
 use Rattle.std.specs.Fmt.{decimal, signed_decimal}
+use Rattle.std.specs.Int.{is_negative}
 use Rattle.std.specs.Int.RustNames.{unsigned_abs}
 use Rattle.std.specs.List.{AllByRecursion}
 use Rattle.std.specs.Option.{option_copied}
@@ -24,14 +25,14 @@ use Rattle.link_messages.specs.Message.{Stand, IsMessageAt, header_fault, packet
 use Rattle.link_messages.specs.Info.{announced}
 use Rattle.link_messages.specs.Header.{IsAnyLinkType, HasNoLinkHeader}
 use Rattle.link_messages.specs.Details.{HasDetails}
-use Rattle.link_messages.specs.Acknowledgement.{IsAcknowledgement, IsNoAcknowledgement}
+use Rattle.link_messages.specs.Acknowledgement.{IsReplyType, IsAcknowledgement, IsNoAcknowledgement}
 use Rattle.link_messages.specs.declared.acknowledgement.Acknowledgement.{Acknowledgement}
 use Rattle.link_show.specs.Number.{number_text}
 use Rattle.link_show.specs.Flags.{enum_text, flags_text}
 use Rattle.link_show.specs.Octets.{address_text}
 use Rattle.link_show.specs.Quoted.{quoted}
 use Rattle.link_show.specs.Structs.{field}
-use Rattle.link_show.specs.Value.{Label, names_of}
+use Rattle.link_show.specs.Value.{Label, names_of, other_text}
 use Rattle.link_show.specs.Fault.{byte_word, bytes_text, cause_words}
 use Rattle.link_show.specs.List.{indented, error_line, EachShown, ShowsChecked}
 use Rattle.link_show.specs.Errno.{errno_names}
@@ -242,14 +243,27 @@ result_line e =
     if unsigned_abs e == 0 then indented two (codes "ack")
     else error_number_line (errno_name e) e
 
+-- whether the result is written: every dump ends with an NLMSG_DONE, whose result is written only if the dump failed
+abbrev pub has_result : Acknowledgement → Bool
+has_result a = not a.is_done || is_negative a.error
+
+abbrev pub outcome_line : Acknowledgement → List ℕ
+outcome_line a = if has_result a then result_line a.error else []
+
+abbrev pub policy_text : Payload → List ℕ
+policy_text p = opaque_text (length p.bytes.now)
+
 -- the lines of a reply
 abbrev pub reply_lines : Acknowledgement → List ℕ
 reply_lines a =
-    result_line a.error
+    outcome_line a
     ++ (line_of (codes "message") quoted (option_copied a.text)
     ++ (line_of (codes "offset") (number_text Number) a.offset
     ++ (line_of (codes "missing type") (number_text Number) a.missing_type
-    ++ fault_line a.fault)))
+    ++ (line_of (codes "missing nest") (number_text Number) a.missing_nest
+    ++ (line_of (codes "policy") policy_text a.policy
+    ++ (line_of (codes "cookie") other_text (option_copied a.cookie)
+    ++ fault_line a.fault))))))
 
 -- ---- a message
 
@@ -264,8 +278,8 @@ pub data ShowsBody (check : Bool) (m : Message) (out : List ℕ) (well : Bool) :
   Reply : (a : Acknowledgement) → IsAcknowledgement m.at (packet_of m) a → out ≡ reply_lines a → well ≡ is_sound a.fault → ShowsBody check m out well
   General : IsGeneral m → out ≡ [] → well ≡ true → ShowsBody check m out well
   NoLink : (error : MessageError) → IsAnyLinkType m.kind → ¬ IsGeneral m → HasNoLinkHeader m.at (packet_of m) error → out ≡ message_error_line two error → well ≡ false → ShowsBody check m out well
-  NoReply : (error : MessageError) → m.kind ≡ 2 → IsNoAcknowledgement m.at (packet_of m) error → out ≡ message_error_line two error → well ≡ false → ShowsBody check m out well
-  Other : ¬ IsAnyLinkType m.kind → m.kind ≢ 2 → out ≡ [] → well ≡ true → ShowsBody check m out well
+  NoReply : (error : MessageError) → IsReplyType m.kind → IsNoAcknowledgement m.at (packet_of m) error → out ≡ message_error_line two error → well ≡ false → ShowsBody check m out well
+  Other : ¬ IsAnyLinkType m.kind → ¬ IsReplyType m.kind → out ≡ [] → well ≡ true → ShowsBody check m out well
 
 -- the lines of a message
 pub record ShowsMessage (check : Bool) (m : Message) (out : List ℕ) (well : Bool) : Type 0 where

@@ -44,7 +44,7 @@ delete_flags =
     (256, codes "NONREC") ∷
     (512, codes "BULK") ∷ []
 
--- flags of NLMSG_ERROR
+-- flags of NLMSG_ERROR and NLMSG_DONE
 abbrev pub error_flags : List (ℕ × List ℕ)
 error_flags =
     (256, codes "CAPPED") ∷
@@ -58,7 +58,8 @@ flags_of kind =
     else (if kind == 18 then common_flags ++ get_flags
     else (if kind == 17 then common_flags ++ delete_flags
     else (if kind == 2 then common_flags ++ error_flags
-    else common_flags))))
+    else (if kind == 3 then common_flags ++ error_flags
+    else common_flags)))))
 
 -- address families, with names
 abbrev pub address_families : List (ℕ × List ℕ)

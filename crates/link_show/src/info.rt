@@ -60,16 +60,16 @@ fn write_info_kind<W: Sink>(writer: &mut W, kind: Option<&[u8]>) -> Result<(), W
 fn write_data<W: Sink>(
     writer: &mut W,
     name: &str,
-    data: Option<InfoData<'_>>,
+    info: Option<InfoData<'_>>,
     check: bool,
 ) -> Result<bool, W::Error>
-    ensures { IfOk result (Writes (ShowsData check name.now data.entry)
+    ensures { IfOk result (Writes (ShowsData check name.now info.entry)
         (W.output writer.old) (W.output writer.new)) }
 {
-    match data {
-        Some(data) => match data.family {
-            Some(family) => write_list_of(writer, name, family, data.payload, check),
-            None => write_opaque(writer, name, data.payload),
+    match info {
+        Some(info) => match info.family {
+            Some(family) => write_list_of(writer, name, family, info.payload, check),
+            None => write_opaque(writer, name, info.payload),
         },
         None => Ok(true),
     }
@@ -150,11 +150,15 @@ fn write_list_of<W: Sink>(
 }
 
 /// Writes the length of data that no attribute set reads.
-fn write_opaque<W: Sink>(writer: &mut W, name: &str, data: Payload<'_>) -> Result<bool, W::Error>
-    ensures { IfOk result (Writes (ShowsPayload false name.now None data.entry)
+pub(crate) fn write_opaque<W: Sink>(
+    writer: &mut W,
+    name: &str,
+    payload: Payload<'_>,
+) -> Result<bool, W::Error>
+    ensures { IfOk result (Writes (ShowsPayload false name.now None payload.entry)
         (W.output writer.old) (W.output writer.new)) }
 {
-    let count = data.bytes.len();
+    let count = payload.bytes.len();
     let bytes = bytes_of(count);
     put_pieces(
         writer,

@@ -49,7 +49,7 @@ pub use messages::{are_zeros_after, is_general, write_message, write_messages};
 pub use numbers::{number_at, number_of, write_number};
 pub use octets::{write_address, write_hex};
 pub use quoted::write_quoted;
-pub use replies::{errno_name, write_acknowledgement};
+pub use replies::{errno_name, has_result, write_acknowledgement};
 pub use sets::ListSet;
 pub use sink::Sink;
 pub use structs::{has_fields, size_of, write_struct};

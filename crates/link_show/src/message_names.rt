@@ -56,7 +56,7 @@ const GET_FLAGS: &[Name] = flags![0x100 "ROOT" 0x200 "MATCH" 0x400 "ATOMIC"];
 /// Flags of messages that delete a link.
 const DELETE_FLAGS: &[Name] = flags![0x100 "NONREC" 0x200 "BULK"];
 
-/// Flags of NLMSG_ERROR.
+/// Flags of NLMSG_ERROR and NLMSG_DONE.
 const ERROR_FLAGS: &[Name] = flags![0x100 "CAPPED" 0x200 "ACK_TLVS"];
 
 /// Address families (`AF_`, `include/linux/socket.h`) that are written by name.
@@ -115,7 +115,7 @@ pub fn flag_names(kind: u16) -> &'static [Name]
         RTM_NEWLINK | RTM_SETLINK => NEW_FLAGS,
         RTM_GETLINK => GET_FLAGS,
         RTM_DELLINK => DELETE_FLAGS,
-        NLMSG_ERROR => ERROR_FLAGS,
+        NLMSG_ERROR | NLMSG_DONE => ERROR_FLAGS,
         _ => COMMON_FLAGS,
     }
 }

@@ -1,8 +1,9 @@
 //! Messages, and buffers of them.
 
-ghost use Rattle.std.specs.Prelude.{◌≡◌, ◌↔◌, Bool, IsTrue, drop, codes, IfOk, OnOk};
+ghost use Rattle.std.specs.Prelude.{◌↔◌, Bool, IsTrue, drop, codes, IfOk, OnOk};
 ghost use Rattle.link_show.specs.Sink.{Gains};
 ghost use Rattle.link_base.specs.Labels.{name_in};
+ghost use Rattle.link_messages.specs.Acknowledgement.{IsReplyType};
 ghost use Rattle.link_messages.specs.Header.{IsAnyLinkType};
 ghost use Rattle.link_messages.specs.Message.{NextOfAny};
 ghost use Rattle.link_show.specs.List.{Writes};
@@ -116,7 +117,7 @@ pub fn write_message<W: Sink>(
 {
     write_first_line(writer, message)?;
     match message.kind {
-        NLMSG_ERROR => write_reply(writer, message),
+        NLMSG_ERROR | NLMSG_DONE => write_reply(writer, message),
         RTM_NEWLINK | RTM_DELLINK | RTM_GETLINK | RTM_SETLINK => {
             write_about_link(writer, message, check)
         }
@@ -201,9 +202,9 @@ pub fn is_general(message: &Message<'_>) -> bool
     message.kind == RTM_GETLINK && (1..16).contains(&message.payload.len())
 }
 
-/// Writes the lines of an NLMSG_ERROR, below its first line.
+/// Writes the lines of an NLMSG_ERROR or an NLMSG_DONE, below its first line.
 fn write_reply<W: Sink>(writer: &mut W, message: &Message<'_>) -> Result<bool, W::Error>
-    requires { message.now.kind ≡ 2 }
+    requires { IsReplyType message.now.kind }
     ensures { (check : Bool) → IfOk result (Writes (ShowsBody check message.now)
         (W.output writer.old) (W.output writer.new)) }
 {

@@ -1,20 +1,26 @@
 //! The kernel's replies.
 
-ghost use Rattle.std.specs.Prelude.{◌≡◌, option_map, IfOk, OnOk};
+ghost use Rattle.std.specs.Prelude.{◌≡◌, codes, option_map, IfOk, OnOk};
 ghost use Rattle.std.specs.Int.{is_negative};
+ghost use Rattle.std.specs.Option.{option_copied};
 ghost use Rattle.std.specs.Int.RustNames.{unsigned_abs};
 ghost use Rattle.link_show.specs.Sink.{Gains};
 ghost use Rattle.link_show.specs.Message.{reply_lines, is_sound, errno_name, result_line, error_number_line};
+ghost use Rattle.link_show.specs.Message.{has_result, outcome_line, line_of, policy_text};
+ghost use Rattle.link_show.specs.Value.{other_text};
 
 use crate::errno::ERRNOS;
+use crate::info::write_opaque;
 use crate::links::{write_header_fault, write_number_line, write_quoted_line};
 use crate::pieces::{Piece, put_pieces};
 use crate::sink::Sink;
+use crate::values::write_other;
 use link_base::rows::label::{Quantity, name_of};
-use link_messages::Acknowledgement;
+use link_messages::{Acknowledgement, Payload};
 
 /// Writes the lines of an NLMSG_ERROR, below its first line: `ack`, or the error by its name and number; and what the
-/// kernel says of it. Returns whether no line is an error of the message itself.
+/// kernel says of it. Those of an NLMSG_DONE are the same, but without `ack`. Returns whether no line is an error of the
+/// message itself.
 ///
 /// # Errors
 ///
@@ -26,11 +32,61 @@ pub fn write_acknowledgement<W: Sink>(
     ensures { IfOk result (λ well. Gains (W.output writer.old) (W.output writer.new) (reply_lines reply.now)
         × (well ≡ is_sound reply.now.fault)) }
 {
-    write_result(writer, reply)?;
+    write_outcome(writer, reply)?;
     write_quoted_line(writer, "message", reply.text)?;
     write_number_line(writer, "offset", Quantity::Number, reply.offset)?;
     write_number_line(writer, "missing type", Quantity::Number, reply.missing_type)?;
+    write_number_line(writer, "missing nest", Quantity::Number, reply.missing_nest)?;
+    write_policy_line(writer, reply.policy)?;
+    write_cookie_line(writer, reply.cookie)?;
     write_header_fault(writer, reply.fault)
+}
+
+/// Writes the line of a policy, if there is one: its length.
+fn write_policy_line<W: Sink>(writer: &mut W, policy: Option<Payload<'_>>) -> Result<(), W::Error>
+    ensures { OnOk result (Gains (W.output writer.old) (W.output writer.new)
+        (line_of (codes "policy") policy_text policy.entry)) }
+{
+    match policy {
+        Some(policy) => {
+            write_opaque(writer, "policy", policy)?;
+            Ok(())
+        }
+        None => Ok(()),
+    }
+}
+
+/// Writes the line of a cookie, if there is one: its bytes.
+fn write_cookie_line<W: Sink>(writer: &mut W, cookie: Option<&[u8]>) -> Result<(), W::Error>
+    ensures { OnOk result (Gains (W.output writer.old) (W.output writer.new)
+        (line_of (codes "cookie") other_text (option_copied cookie.entry))) }
+{
+    match cookie {
+        Some(cookie) => {
+            writer.put(b"  cookie ")?;
+            write_other(writer, cookie)?;
+            writer.put(b"\n")
+        }
+        None => Ok(()),
+    }
+}
+
+/// Writes the line of the result of a request, or of a dump that failed.
+fn write_outcome<W: Sink>(writer: &mut W, reply: &Acknowledgement<'_>) -> Result<(), W::Error>
+    ensures { OnOk result (Gains (W.output writer.old) (W.output writer.new)
+        (outcome_line reply.now)) }
+{
+    if has_result(reply) {
+        return write_result(writer, reply);
+    }
+    Ok(())
+}
+
+/// Checks whether the result in a reply is written. That of an NLMSG_DONE is, if the dump failed.
+pub fn has_result(reply: &Acknowledgement<'_>) -> bool
+    ensures { result ≡ has_result reply.now }
+{
+    !reply.is_done | is_errno(reply)
 }
 
 /// Writes the line of the result of a request: `ack` for 0, otherwise an error.

@@ -138,7 +138,7 @@ pub fn protocol_name(protocol: VlanProtocol) -> &'static str
 }
 
 /// Writes the payload of an attribute whose type has no row.
-fn write_other<W: Sink>(writer: &mut W, payload: &[u8]) -> Result<(), W::Error>
+pub(crate) fn write_other<W: Sink>(writer: &mut W, payload: &[u8]) -> Result<(), W::Error>
     ensures { OnOk result (Gains (W.output writer.old) (W.output writer.new) (other_text payload.now)) }
 {
     if payload.is_empty() {

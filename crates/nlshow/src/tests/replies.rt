@@ -1,6 +1,6 @@
 //! Tests how `link_messages` reads the kernel's replies. The first three are as Linux 6.18 sent them.
 
-use link_messages::{Acknowledgement, MessageError, any_message, read_acknowledgement};
+use link_messages::{Acknowledgement, MessageError, Payload, any_message, read_acknowledgement};
 use netlink_packet_route::hex_text;
 use netlink_packet_route::link::Cause;
 use std::alloc::Global;
@@ -32,17 +32,43 @@ const BROKEN: &str = "\
 const SHORT: &str = "\
     23000000 02000000 01000000 3e430000 edffffff 28000000 12000500 01000000 000000";
 
-/// An NLMSG_DONE.
+/// The end of a dump.
 const DONE: &str = "\
     14000000 03000200 01000000 00000000 00000000";
+
+/// The end of a dump that failed, with a text, the offset of a nested list, and a cookie.
+const FAILED: &str = "\
+    2c000000 03000202 01000000 00000000 f4ffffff 07000100 61620000 08000600 28000000 06000300 beef0000";
+
+/// The end of a dump, whose attribute states 12 bytes in place of 8.
+const BROKEN_END: &str = "\
+    1c000000 03000202 01000000 00000000 00000000 0c000100 61626300";
+
+/// An NLMSG_DONE with three bytes, and an attribute nowhere.
+const SHORT_END: &str = "\
+    13000000 03000202 01000000 00000000 f4ffff";
+
+/// An RTM_NEWLINK.
+const LINK: &str = "\
+    20000000 10000000 01000000 00000000 00000000 01000000 00000000 00000000";
+
+/// The policy in REJECTED.
+const POLICY: &[u8] = &[
+    12, 0, 4, 0, 0, 0, 0, 0, 0, 0, 0, 0, 12, 0, 5, 0, 255, 255, 255, 255, 0, 0, 0, 0, 8, 0, 1, 0,
+    4, 0, 0, 0,
+];
 
 /// A reply without attributes.
 fn bare(error: i32) -> Acknowledgement<'static> {
     Acknowledgement {
+        is_done: false,
         error,
         text: None,
         offset: None,
         missing_type: None,
+        missing_nest: None,
+        policy: None,
+        cookie: None,
         fault: None,
     }
 }
@@ -66,6 +92,10 @@ fn replies(rt: HostRuntime) {
     let rejected = Acknowledgement {
         text: Some(b"Attribute failed policy validation"),
         offset: Some(32),
+        policy: Some(Payload {
+            at: 112,
+            bytes: POLICY,
+        }),
         ..bare(-34)
     };
     says(&rt, alloc, REJECTED, Ok(rejected));
@@ -75,6 +105,36 @@ fn replies(rt: HostRuntime) {
     };
     says(&rt, alloc, LACKING, Ok(lacking));
     says(&rt, alloc, PLAIN, Ok(bare(-19)));
+}
+
+#[test]
+fn ends_of_dumps(rt: HostRuntime) {
+    let alloc = rt.alloc();
+    let done = Acknowledgement {
+        is_done: true,
+        ..bare(0)
+    };
+    says(&rt, alloc, DONE, Ok(done));
+    says(&rt, alloc, SHORT_END, Ok(done));
+    let failed = Acknowledgement {
+        error: -12,
+        text: Some(b"ab"),
+        missing_nest: Some(40),
+        cookie: Some(b"\xbe\xef"),
+        ..done
+    };
+    says(&rt, alloc, FAILED, Ok(failed));
+    let broken = Acknowledgement {
+        fault: Some(MessageError::Frame {
+            at: 20,
+            cause: Cause::Overrun {
+                length: 12,
+                left: 8,
+            },
+        }),
+        ..done
+    };
+    says(&rt, alloc, BROKEN_END, Ok(broken));
 }
 
 #[test]
@@ -100,7 +160,7 @@ fn malformed_replies(rt: HostRuntime) {
     says(
         &rt,
         alloc,
-        DONE,
-        Err(MessageError::OtherType { at: 0, kind: 3 }),
+        LINK,
+        Err(MessageError::OtherType { at: 0, kind: 16 }),
     );
 }

@@ -4,7 +4,7 @@ use Rattle.std.specs.Borrow.{Bor}
 use Rattle.std.specs.Cmp.Lexicographic.{pointwise}
 use Rattle.std.specs.Bool.{Decides}
 use Rattle.std.specs.Option.{option_eq, option_map}
-use Rattle.std.specs.Cmp.{unsigned_Decides, signed_Decides}
+use Rattle.std.specs.Cmp.{unsigned_Decides, signed_Decides, booleans_Decides}
 use Rattle.std.specs.Cmp.Lexicographic.{pointwise_decides}
 use Rattle.netlink_packet_route.specs.declared.family.Family.{Family}
 use Rattle.netlink_packet_route.specs.contracts.family.FamilyPartialEq.TheImpl as of_family
@@ -91,12 +91,26 @@ errors a b = search rules
 faults : (x y : Option MessageError) → Decides (option_eq of_error.ghosts.eq x y) (x ≡ y)
 faults = same errors
 
+stretches : (x y : Option Payload) → Decides (option_eq of_payload.ghosts.eq x y) (option_map stretch_of x ≡ option_map stretch_of y)
+stretches = options stretch_of payloads
+
 pub returns-clause-acknowledgement : goal.returns-clause-acknowledgement
 returns-clause-acknowledgement c = λ a b.
-    let d = two _ _ (signed_Decides a.error b.error) (two _ _ (names a.text b.text) (two _ _ (numbers a.offset b.offset)
-    (two _ _ (numbers a.missing_type b.missing_type) (faults a.fault b.fault)))) in (
-      λ h. let k = d.0 h in record { error = k.0; text = k.1.0; offset = k.1.1.0; missing_type = k.1.1.1.0; fault = k.1.1.1.1 },
-      λ e. d.1 (e.error, (e.text, (e.offset, (e.missing_type, e.fault)))),
+    let d = two _ _ (booleans_Decides a.is_done b.is_done) (two _ _ (signed_Decides a.error b.error) (two _ _ (names a.text b.text) (two _ _ (numbers a.offset b.offset)
+    (two _ _ (numbers a.missing_type b.missing_type) (two _ _ (numbers a.missing_nest b.missing_nest) (two _ _ (stretches a.policy b.policy)
+    (two _ _ (names a.cookie b.cookie) (faults a.fault b.fault)))))))) in (
+      λ h. let k = d.0 h in record {
+        is_done = k.0;
+        error = k.1.0;
+        text = k.1.1.0;
+        offset = k.1.1.1.0;
+        missing_type = k.1.1.1.1.0;
+        missing_nest = k.1.1.1.1.1.0;
+        policy = k.1.1.1.1.1.1.0;
+        cookie = k.1.1.1.1.1.1.1.0;
+        fault = k.1.1.1.1.1.1.1.1;
+      },
+      λ e. d.1 (e.is_done, (e.error, (e.text, (e.offset, (e.missing_type, (e.missing_nest, (e.policy, (e.cookie, e.fault)))))))),
     )
 
 -- ---- what a printer reads
@@ -147,9 +161,6 @@ forms (protinfos.Other p) (protinfos.State t) = (λ h. absurd (true≢false (sym
 
 pub returns-clause-protinfo : goal.returns-clause-protinfo
 returns-clause-protinfo c = forms
-
-stretches : (x y : Option Payload) → Decides (option_eq of_payload.ghosts.eq x y) (option_map stretch_of x ≡ option_map stretch_of y)
-stretches = options stretch_of payloads
 
 pub returns-clause-details : goal.returns-clause-details
 returns-clause-details c = λ a b.

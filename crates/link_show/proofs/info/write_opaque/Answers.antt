@@ -10,6 +10,6 @@ use Rattle.link_show.proofs.info.write_opaque.Goals as goal
 pub returns : goal.returns
 returns g c =
     let name = c.args.name.now in
-    let n = length c.args.data.bytes.now in
+    let n = length c.args.payload.bytes.now in
     let text = ap (λ b. two ++ (name ++ (codes " (" ++ (decimal n ++ (b ++ codes ", not decoded)\n"))))) c.bytes_of-bytes.ensures ∙ opaque_line name n in
     (indented two (field name (opaque_text n)), (refl, refl), subst (Gains (g.W.Sink.output c.args.writer.now) (g.W.Sink.output c.put_pieces.new.writer)) text c.in_ok-put_pieces.ensures)
