@@ -1,5 +1,5 @@
 -- The units of a pcap file.
-use Rattle.std.specs.Prelude.{ℕ, ◌+◌, ◌*◌, ◌-◌, ◌^◌, ◌==◌, ◌&&◌, pos, List, drop, Result, Ok, Err, if◌then◌else◌}
+use Rattle.std.specs.Prelude.{ℕ, ◌+◌, ◌*◌, ◌-◌, ◌%◌, ◌^◌, ◌==◌, ◌&&◌, pos, List, drop, Result, Ok, Err, if◌then◌else◌}
 use Rattle.link_capture.specs.declared.error.InputError.{InputError}
 use Rattle.link_capture.specs.declared.error.InputError.TheVariants as errors
 use Rattle.link_capture.specs.declared.form.Form.{Form}
@@ -12,12 +12,17 @@ use Rattle.link_capture.specs.Told.{Told, APacket}
 abbrev pub netlink : ℕ
 netlink = 253
 
+-- the link type in a header: the lower 26 bits of its field. Bit 26 says that the length of the frame check sequence of packets
+-- is known, and bits 28 to 31 have that length
+abbrev pub link_type_of : Order → List ℕ → ℕ
+link_type_of order u = number_at order 4 20 u % 2 ^ 26
+
 -- the form of what follows a header: version 2.4, and the link type of netlink
 abbrev pub form_after : Order → ℕ → List ℕ → Result Form InputError
 form_after order digits u =
     let major = number_at order 2 4 u in
     let minor = number_at order 2 6 u in
-    let link = number_at order 4 20 u in
+    let link = link_type_of order u in
     if (major == 2) && (minor == 4) then (if link == netlink then Ok (Records order digits) else Err (errors.LinkType link))
     else Err (errors.PcapVersion major minor)
 

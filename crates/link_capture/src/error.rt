@@ -52,7 +52,7 @@ pub enum InputError {
         major: u16,
         minor: u16,
     },
-    /// The link type of a pcap file is not 253.
+    /// The link type of a pcap file is not 253. Bits of its field that are about the frame check sequence are left out.
     LinkType {
         link_type: u32,
     },

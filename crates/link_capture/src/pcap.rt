@@ -12,6 +12,10 @@ use crate::order::Order;
 /// The link type of netlink (LINKTYPE_NETLINK).
 pub const NETLINK: u16 = 253;
 
+/// The bits of the field of the link type that have it. Of those above, bit 26 says that the length of the frame check
+/// sequence (FCS) of packets is known, and bits 28 to 31 have that length, in units of 16 bits.
+const LINK_TYPE_BITS: u32 = 26;
+
 /// Returns the form of what follows the header of a pcap file.
 ///
 /// # Errors
@@ -26,7 +30,7 @@ pub(crate) fn read_header(order: Order, digits: u8, unit: &[u8]) -> Result<Form,
     if major != 2 || minor != 4 {
         return Err(InputError::PcapVersion { major, minor });
     }
-    let link_type = order.u32_at(unit, 20);
+    let link_type = order.u32_at(unit, 20) % (1 << LINK_TYPE_BITS);
     if link_type != NETLINK.into() {
         return Err(InputError::LinkType { link_type });
     }

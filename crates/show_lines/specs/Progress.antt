@@ -8,7 +8,7 @@ use Rattle.show_lines.specs.declared.asking.Asked.{Asked}
 use Rattle.show_lines.specs.declared.running.Stop.{Stop}
 use Rattle.show_lines.specs.declared.running.Stop.TheVariants.{Memory, Reader, Writer}
 use Rattle.link_show.specs.List.{EachShown}
-use Rattle.show_lines.specs.Show.{Form, Shower, numbered, ShowsBare, IsUnbroken}
+use Rattle.show_lines.specs.Show.{Form, Shower, numbered, repeated, ShowsBare, IsUnbroken}
 
 -- how many bytes of a line are kept at most: one more than the maximum length of a line
 abbrev pub most_held : ℕ
@@ -45,9 +45,9 @@ Grows held_before held_after = (out : List ℕ) × Appends held_before held_afte
 abbrev pub WritesLine : {X : Type 0} → (X → List ℕ → Bool → Type 0) → X → Option (List ℕ) → Option (List ℕ) → Bool → Type 0
 WritesLine shows x held_before held_after read = (out : List ℕ) × shows x out read × Appends held_before held_after out
 
--- a line was written, and the output of its command for these bytes
+-- a line was repeated, and the output of its command for these bytes written
 abbrev pub WritesAnswer : Form → Asked → List ℕ → List ℕ → Option (List ℕ) → Option (List ℕ) → Bool → Type 0
-WritesAnswer form asked bytes text held_before held_after read = (below : List ℕ) × form asked bytes below read × Appends held_before held_after (line text ++ below)
+WritesAnswer form asked bytes text held_before held_after read = (below : List ℕ) × form asked bytes below read × Appends held_before held_after (line (repeated text) ++ below)
 
 -- the output for messages that are on no line was written
 abbrev pub WritesMessages : Options → List ℕ → Option (List ℕ) → Option (List ℕ) → Bool → Type 0

@@ -1,8 +1,10 @@
 -- The output for a line, and for an input of several lines.
-use Rattle.std.specs.Prelude.{◌≡◌, ◌≢◌, ◌⊎◌, ℕ, suc, ◌<◌, ◌≤◌, Bool, true, false, List, [], ◌∷◌, ◌++◌, length, Option, Some, None, Result, Ok, Err, codes}
-use Rattle.std.specs.List.{flat_map, AllByRecursion}
+use Rattle.std.specs.Prelude.{◌≡◌, ◌≢◌, ◌⊎◌, ℕ, suc, ◌<◌, ◌≤◌, ◌==◌, Bool, true, false, ◌||◌, List, [], ◌∷◌, ◌++◌, length, Option, Some, None, Result, Ok, Err, codes, if◌then◌else◌}
+use Rattle.std.specs.Io.BufRead.{strip_last}
+use Rattle.std.specs.List.{flat_map, list_all, AllByRecursion}
 use Rattle.hex.specs.Hex.{decode_of}
 use Rattle.hex.specs.declared.error.FromHexError.{FromHexError}
+use Rattle.link_base.specs.WellFormed.{is_printable}
 use Rattle.netlink_packet_route.specs.declared.family.Family.{Family}
 use Rattle.netlink_packet_route.specs.Family.{family_name, table_of}
 use Rattle.netlink_packet_route.specs.HexText.{is_space, digits_of}
@@ -17,6 +19,7 @@ use Rattle.show_lines.specs.declared.arguments.Format.{Format}
 use Rattle.show_lines.specs.declared.arguments.Format.TheVariants.{Plain, Debug}
 use Rattle.link_show.specs.List.{EachShown, ShowsVerdict, ShowsChecked}
 use Rattle.link_show.specs.Message as plain
+use Rattle.link_show.specs.Quoted.{quoted}
 
 -- ---- a line
 
@@ -127,12 +130,22 @@ Shower = ℕ × List ℕ → List ℕ → Bool → Type 0
 abbrev pub shower_of : {A : Type 0} → (A → Refused) → (A → Answered) → A → Shower
 shower_of refused answered a = ShowsLine (refused a) (answered a)
 
+-- ---- a line that is repeated
+
+-- a printable ASCII character, or a tab
+abbrev pub is_repeated : ℕ → Bool
+is_repeated b = is_printable b || (b == 9)
+
+-- a line as it is repeated: without the CR at its end, if the rest is printable ASCII and tabs; otherwise all of it, quoted
+abbrev pub repeated : List ℕ → List ℕ
+repeated text = if list_all is_repeated (strip_last 13 text) then strip_last 13 text else quoted text
+
 -- ---- a line, by options
 
 -- a line, unless it is too long, and the reason why it is refused
 abbrev pub refusal : Option (List ℕ) → List ℕ → List ℕ
 refusal None reason = line reason
-refusal (Some text) reason = line text ++ line reason
+refusal (Some text) reason = line (repeated text) ++ line reason
 
 -- by options, whatever they are, and whatever the number of the line
 abbrev pub refused_by_options : Options → Refused
@@ -140,7 +153,7 @@ refused_by_options options n = refusal
 
 -- by options: the line, and what it asks for
 abbrev pub answered_by_options : Options → Answered
-answered_by_options options x asked s out read = (below : List ℕ) × ShowsAs options.format options.check asked s below read × (out ≡ line x.1 ++ below)
+answered_by_options options x asked s out read = (below : List ℕ) × ShowsAs options.format options.check asked s below read × (out ≡ line (repeated x.1) ++ below)
 
 abbrev pub by_options : Options → Shower
 by_options = shower_of refused_by_options answered_by_options

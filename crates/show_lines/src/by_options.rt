@@ -4,13 +4,14 @@ ghost use Rattle.std.specs.Prelude.{◌++◌, IfOk, OnOk};
 ghost use Rattle.std.specs.Option.{option_copied};
 ghost use Rattle.std.specs.Io.KnownBytes.{Appends, Keeps};
 ghost use Rattle.netlink_packet_route.specs.Report.{line};
-ghost use Rattle.show_lines.specs.Show.{ShowsAs, refusal, refused_by_options, answered_by_options};
+ghost use Rattle.show_lines.specs.Show.{ShowsAs, refusal, refused_by_options, answered_by_options, repeated};
 ghost use Rattle.show_lines.specs.Progress.{WritesAnswer, OnMemory};
 
 use crate::arguments::{Format, Options};
 use crate::asking::Asked;
 use crate::debug::write_debug;
 use crate::plain::write_plain;
+use crate::repeating::write_repeated;
 use crate::running::Stop;
 use crate::show::ShowLines;
 use std::alloc::Global;
@@ -53,7 +54,7 @@ impl ShowLines for Options {
     }
 }
 
-/// Writes a line, unless it is too long, and below it `reason`, which says what is wrong with it.
+/// Repeats a line, unless it is too long, and writes below it `reason`, which says what is wrong with it.
 fn write_refusal<W: Write>(writer: &mut W, text: Option<&[u8]>, reason: &str) -> io::Result<()>
     ensures { OnOk result (Appends (W.contents writer.old) (W.contents writer.new)
         (refusal (option_copied text.entry) reason.now)) }
@@ -64,15 +65,15 @@ fn write_refusal<W: Write>(writer: &mut W, text: Option<&[u8]>, reason: &str) ->
     }
 }
 
-/// Writes two lines.
+/// Repeats a line, and writes `reason` below it.
 fn write_lines<W: Write>(writer: &mut W, text: &[u8], reason: &str) -> io::Result<()>
-    ensures { OnOk result (Appends (W.contents writer.old) (W.contents writer.new) (line text.now ++ line reason.now)) }
+    ensures { OnOk result (Appends (W.contents writer.old) (W.contents writer.new) (line (repeated text.now) ++ line reason.now)) }
 {
-    write_line(writer, text)?;
+    write_repeated(writer, text)?;
     write_line(writer, reason.as_bytes())
 }
 
-/// Writes a line, and below it what it asks for, in the form that the options name.
+/// Repeats a line, and writes below it what it asks for, in the form that the options name.
 fn write_answer<W: Write>(
     alloc: Global,
     options: Options,
@@ -91,11 +92,11 @@ fn write_answer<W: Write>(
     }
 }
 
-/// Writes `text`, LF, and `below`.
+/// Repeats a line, and writes `below`.
 pub(crate) fn write_below<W: Write>(writer: &mut W, text: &[u8], below: &str) -> io::Result<()>
-    ensures { OnOk result (Appends (W.contents writer.old) (W.contents writer.new) (line text.now ++ below.now)) }
+    ensures { OnOk result (Appends (W.contents writer.old) (W.contents writer.new) (line (repeated text.now) ++ below.now)) }
 {
-    write_line(writer, text)?;
+    write_repeated(writer, text)?;
     writer.write_all(below.as_bytes())
 }
 

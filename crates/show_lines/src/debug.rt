@@ -3,7 +3,7 @@
 ghost use Rattle.std.specs.Prelude.{◌≡◌, ◌++◌, Ok, IfOk};
 ghost use Rattle.std.specs.Io.KnownBytes.{Appends, Keeps};
 ghost use Rattle.netlink_packet_route.specs.Report.{line};
-ghost use Rattle.show_lines.specs.Show.{ShowsDebug};
+ghost use Rattle.show_lines.specs.Show.{ShowsDebug, repeated};
 ghost use Rattle.show_lines.specs.Progress.{WritesAnswer, OnMemory};
 
 use crate::asking::Asked;
@@ -16,7 +16,7 @@ use link_messages::{Part, Payload};
 use std::alloc::{AllocError, Global};
 use std::io::Write;
 
-/// Writes a line, and below it what it asks for, as Rust's `Debug` prints values. The result of a check is that of the
+/// Repeats a line, and writes below it what it asks for, as Rust's `Debug` prints values. The result of a check is that of the
 /// plain form.
 pub(crate) fn write_debug<W: Write>(
     alloc: Global,
@@ -44,7 +44,7 @@ pub(crate) fn write_debug<W: Write>(
     }
 }
 
-/// Writes a line, and `below`, if that is complete. Returns `read`.
+/// Repeats a line, and writes `below`, if that is complete. Returns `read`.
 fn write_pushed<W: Write>(
     writer: &mut W,
     text: &[u8],
@@ -52,7 +52,7 @@ fn write_pushed<W: Write>(
     below: &str,
 ) -> Result<bool, Stop>
     ensures shown { IfOk result (λ well. (read ≡ Ok well)
-        × Appends (W.contents writer.old) (W.contents writer.new) (line text.now ++ below.now)) }
+        × Appends (W.contents writer.old) (W.contents writer.new) (line (repeated text.now) ++ below.now)) }
     ensures memory { OnMemory result (Keeps (W.contents writer.old) (W.contents writer.new)) }
 {
     match read {

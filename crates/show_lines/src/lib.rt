@@ -14,6 +14,7 @@ pub mod laws;
 mod lists;
 mod messages;
 mod plain;
+mod repeating;
 mod replies;
 mod running;
 mod show;

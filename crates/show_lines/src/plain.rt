@@ -8,13 +8,14 @@ ghost use Rattle.show_lines.specs.Show.{ShowsPlain};
 ghost use Rattle.show_lines.specs.Progress.{WritesAnswer, OnMemory};
 
 use crate::asking::Asked;
+use crate::repeating::write_repeated;
 use crate::running::Stop;
 use link_messages::Payload;
 use link_show::{write_family_list, write_messages, write_verdict};
 use std::io;
 use std::io::Write;
 
-/// Writes a line, and below it what it asks for, as people read it. Returns false if one of the lines below is an error, or
+/// Repeats a line, and writes below it what it asks for, as people read it. Returns false if one of the lines below is an error, or
 /// a list that is checked is not canonical.
 pub(crate) fn write_plain<W: Write>(
     writer: &mut W,
@@ -44,8 +45,7 @@ fn write_line<W: Write>(
     ensures { IfOk result (WritesAnswer (ShowsPlain check) asked bytes.now
         text.now (W.contents writer.old) (W.contents writer.new)) }
 {
-    writer.write_all(text)?;
-    writer.write_all(b"\n")?;
+    write_repeated(writer, text)?;
     write_asked(writer, asked, check, bytes)
 }
 

@@ -4,16 +4,16 @@ use Rattle.netlink_packet_route.specs.Report.{line}
 use Rattle.show_lines.specs.declared.asking.Asked.{Asked}
 use Rattle.show_lines.specs.declared.asking.Asked.TheVariants.{Messages, Attributes}
 use Rattle.show_lines.specs.List.{Adds}
-use Rattle.show_lines.specs.Show.{ShowsDebug}
+use Rattle.show_lines.specs.Show.{ShowsDebug, repeated}
 use Rattle.show_lines.specs.Progress.{WritesAnswer}
 use Rattle.link_show.proofs.MessageLines.{if_ok}
 use Rattle.show_lines.proofs.debug.write_debug.Goals as goal
 
 -- what was added to an empty string was written
 pushed : {E F : Type 0} (asked : Asked) (bytes text start added words : List ℕ) (old new : Option (List ℕ)) (read : Result Bool E) (r : Result Bool F) → start ≡ [] → words ≡ added
-    → IfOk read (Adds (ShowsDebug asked bytes) start added) → IfOk r (λ well. (read ≡ Ok well) × Appends old new (line text ++ words)) → IfOk r (WritesAnswer ShowsDebug asked bytes text old new)
+    → IfOk read (Adds (ShowsDebug asked bytes) start added) → IfOk r (λ well. (read ≡ Ok well) × Appends old new (line (repeated text) ++ words)) → IfOk r (WritesAnswer ShowsDebug asked bytes text old new)
 pushed asked bytes text start added words old new read r none same adds written =
-    if_ok (λ well. (read ≡ Ok well) × Appends old new (line text ++ words)) (WritesAnswer ShowsDebug asked bytes text old new) r
+    if_ok (λ well. (read ≡ Ok well) × Appends old new (line (repeated text) ++ words)) (WritesAnswer ShowsDebug asked bytes text old new) r
     (λ well h.
     let (out, shown, is) = subst (λ o. IfOk o (Adds (ShowsDebug asked bytes) start added)) h.0 adds in
     (words, subst (λ t. ShowsDebug asked bytes t well) (sym (same ∙ is ∙ ap (λ s. s ++ out) none)) shown, h.1))

@@ -1,7 +1,8 @@
 use Rattle.std.proofs.Common.{◌++◌, refl}
 use Rattle.std.proofs.lemmas.Result.{IfOk-weaker}
 use Rattle.netlink_packet_route.specs.Report.{line}
+use Rattle.show_lines.specs.Show.{repeated}
 use Rattle.show_lines.proofs.by_options.OptionsShowLines.answer.Goals as goal
 
 pub returns-clause-shown : goal.returns-clause-shown
-returns-clause-shown g c = IfOk-weaker c.write_answer.result _ _ (λ well h. (line c.args.text.now ++ h.0, (h.0, h.1, refl), h.2)) c.write_answer.ensures.shown
+returns-clause-shown g c = IfOk-weaker c.write_answer.result _ _ (λ well h. (line (repeated c.args.text.now) ++ h.0, (h.0, h.1, refl), h.2)) c.write_answer.ensures.shown
