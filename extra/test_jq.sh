@@ -70,7 +70,7 @@ null
 END
 
 asked=0
-query "Links that changed, as the kernel announced them, and when" <<'END'
+query "Links that changed, as the kernel announced them, and when. AF_BRIDGE messages of ports are left out" <<'END'
 2026-11-27T19:06:35.924100Z	4	nlmon0	3776
 2026-11-27T19:06:36.030252Z	5	br0	1500
 2026-11-27T19:06:36.419831Z	6	vb	1500
@@ -78,10 +78,8 @@ query "Links that changed, as the kernel announced them, and when" <<'END'
 2026-11-27T19:06:37.013311Z	7	va	1500
 2026-11-27T19:06:37.028317Z	7	va	1500
 2026-11-27T19:06:37.029460Z	5	br0	1500
-2026-11-27T19:06:37.063886Z	7	va	1500
 2026-11-27T19:06:37.065571Z	5	br0	1500
 2026-11-27T19:06:37.482302Z	7	va	1500
-2026-11-27T19:06:37.484254Z	7	va	1500
 END
 query "Links that were deleted" <<'END'
 bond0
