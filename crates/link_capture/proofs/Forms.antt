@@ -1,12 +1,13 @@
 -- The first bytes of a file tell its form.
-use Rattle.std.proofs.Common.{◌≡◌, ◌<◌, ◌&&◌, ◌||◌, ℕ, Bool, true, false, true≢false, cond, List, [], ◌∷◌, ◌++◌, length, drop, Some, None, nat_eq, nat_lt, refl, sym, ap, ap₂, subst, ◌∙◌, arith}
-use Rattle.std.specs.Option.{option_map}
-use Rattle.std.specs.List.{find, list_any, starts_with, AllByRecursion}
-use Rattle.std.proofs.lemmas.Bool.{eqb-true, eq-eqb, lt-ltb, ltb-true, cond-false, and_parts}
+use Rattle.std.proofs.Common.{◌≡◌, ◌≢◌, ◌<◌, ◌&&◌, ◌||◌, ℕ, zero, suc, Bool, true, false, true≢false, cond, List, [], ◌∷◌, ◌++◌, length, take, drop, Option, Some, None, Result, Ok, nat_eq, nat_lt, refl, sym, ap, ap₂, subst, ◌∙◌, inl, inr, arith}
+use Rattle.std.specs.Option.{option_map, option_transpose, is_none}
+use Rattle.std.specs.List.{find, list_all, list_any, starts_with}
+use Rattle.std.proofs.Math.Seq.{take-append_seam}
+use Rattle.std.proofs.lemmas.Bool.{eqb-true, eq-eqb, lt-ltb, ltb-true, and_parts, cases_lt}
 use Rattle.std.proofs.lemmas.Bool.Decides.{Decides-eqb}
 use Rattle.std.proofs.lemmas.Slice.Eq.{starts_is}
-use Rattle.byteorder.specs.Endian.{big_bytes}
 use Rattle.link_capture.specs.declared.form.Form.{Form}
+use Rattle.link_capture.specs.declared.other_format.OtherFormat.{OtherFormat}
 use Rattle.link_capture.specs.Form.{magics, form_of, begins_magic}
 
 -- two tests whose first part is the same, and whose others are, if it holds
@@ -22,61 +23,96 @@ same_start (b ∷ m) (c ∷ s) more h =
     same_and (nat_eq b c) (starts_with nat_eq (s ++ more) m) (starts_with nat_eq s m)
     (λ e. same_start m s more (λ lt. subst (λ x. (x && starts_with nat_eq m s) ≡ false) (eq-eqb c b (sym (eqb-true b c e))) (h (omega (arith, lt)))))
 
-and_false : (a : Bool) → (a && false) ≡ false
-and_false true = refl
-and_false false = refl
-
--- too few bytes start with nothing
-too_short : (m s : List ℕ) → length s < length m → starts_with nat_eq s m ≡ false
-too_short [] s lt = absurd (omega (arith, lt))
-too_short (b ∷ m) [] lt = refl
-too_short (b ∷ m) (c ∷ s) lt = ap (λ r. nat_eq b c && r) (too_short m s (omega (arith, lt))) ∙ and_false (nat_eq b c)
-
 or_parts : (a b : Bool) → (a || b) ≡ false → (a ≡ false) × (b ≡ false)
 or_parts true b h = absurd (true≢false h)
 or_parts false b h = (refl, h)
 
+-- a magic number and what it tells
+abbrev Magic : Type 0
+Magic = List ℕ × Result Form OtherFormat
+
+-- the magic number with which s starts
+abbrev found : List ℕ → List Magic → Option Magic
+found s ms = find (λ m. starts_with nat_eq s m.0) ms
+
+-- ---- tests of the magic numbers
+
+-- a file is known
+abbrev is_told : Result (Option Form) OtherFormat → Bool
+is_told (Ok None) = false
+is_told told = true
+
+-- none of the first parts of m, each with fewer than n bytes, starts with a magic number
+abbrev are_open : ℕ → List ℕ → Bool
+are_open zero m = true
+are_open (suc n) m = is_none (found (take n m) magics) && are_open n m
+
+-- a magic number tells what a file is, and no proper prefix of it does
+abbrev is_closed : Magic → Bool
+is_closed m = is_told (form_of m.0) && are_open (length m.0) m.0
+
+all_closed : list_all is_closed magics ≡ true
+all_closed = refl
+
+is_known : (told : Result (Option Form) OtherFormat) → is_told told ≡ true → told ≢ Ok None
+is_known told h e = true≢false (sym h ∙ ap is_told e)
+
+no_option : (o : Option Magic) → is_none o ≡ true → o ≡ None
+no_option None h = refl
+no_option (Some m) h = absurd (true≢false (sym h))
+
+open_at : (n k : ℕ) (m : List ℕ) → are_open n m ≡ true → k < n → found (take k m) magics ≡ None
+open_at zero k m h lt = absurd (omega (arith, lt))
+open_at (suc n) k m h lt =
+    let parts = and_parts (is_none (found (take n m) magics)) (are_open n m) h in
+    elim (cases_lt k n) [
+      | inl less ↦ open_at n k m parts.1 less
+      | inr most ↦ let e : n ≡ k = omega (arith, lt, most) in subst (λ i. found (take i m) magics ≡ None) e (no_option (found (take n m) magics) parts.0)
+    ]
+
+-- ---- some bytes, and what may follow them
+
 module _ (s : List ℕ) where
-  -- s starts the magic number m, or one of some
-  abbrev starts : ℕ × Form → Bool
-  starts m = starts_with nat_eq (big_bytes 4 m.0) s
+  -- s is a proper prefix of the magic number m, or of one of some
+  abbrev begins : Magic → Bool
+  begins m = nat_lt (length s) (length m.0) && starts_with nat_eq m.0 s
 
-  abbrev starts_one : List (ℕ × Form) → Bool
-  starts_one ms = list_any (λ m. starts_with nat_eq (big_bytes 4 m.0) s) ms
+  abbrev begins_one : List Magic → Bool
+  begins_one ms = list_any begins ms
 
-  same_find : (more : List ℕ) (ms : List (ℕ × Form)) → (length s < 4 → starts_one ms ≡ false) → find (λ m. starts_with nat_eq (s ++ more) (big_bytes 4 m.0)) ms ≡ find (λ m. starts_with nat_eq s (big_bytes 4 m.0)) ms
-  same_find more [] h = refl
-  same_find more (m ∷ ms) h =
-      let parts : length s < 4 → (starts m ≡ false) × (starts_one ms ≡ false) = λ lt. or_parts (starts m) (starts_one ms) (h lt) in
-      ap₂ (λ b o. cond b (Some m) o) (same_start (big_bytes 4 m.0) s more (λ lt. (parts lt).0)) (same_find more ms (λ lt. (parts lt).1))
+  same_found : (more : List ℕ) (ms : List Magic) → begins_one ms ≡ false → found (s ++ more) ms ≡ found s ms
+  same_found more [] h = refl
+  same_found more (m ∷ ms) h =
+      let parts = or_parts (begins m) (begins_one ms) h in
+      ap₂ (λ b o. cond b (Some m) o) (same_start m.0 s more (λ lt. subst (λ b. (b && starts_with nat_eq m.0 s) ≡ false) (lt-ltb (length s) (length m.0) lt) parts.0)) (same_found more ms parts.1)
 
-  -- what follows does not change a form that is told
+  -- what follows does not change what is told
   pub told : (more : List ℕ) → begins_magic s ≡ false → form_of (s ++ more) ≡ form_of s
-  told more h = ap (option_map (λ m. m.1)) (same_find more magics (λ lt. subst (λ b. (b && starts_one magics) ≡ false) (lt-ltb (length s) 4 lt) h))
+  told more h = ap (λ o. option_transpose (option_map (λ m. m.1) o)) (same_found more magics h)
 
-  none_found : (ms : List (ℕ × Form)) → length s < 4 → find (λ m. starts_with nat_eq s (big_bytes 4 m.0)) ms ≡ None
-  none_found [] lt = refl
-  none_found (m ∷ ms) lt = cond-false _ _ _ (too_short (big_bytes 4 m.0) s lt) ∙ none_found ms lt
+  -- they tell nothing, and with what follows they may
+  abbrev IsOpen : Type 0
+  IsOpen = (form_of s ≡ Ok None) × ((more : List ℕ) × (form_of (s ++ more) ≢ Ok None))
 
-  -- what follows may make them the start of a capture
-  abbrev MayBegin : Type 0
-  MayBegin = (more : List ℕ) × ((form : Form) × (form_of (s ++ more) ≡ Some form))
-
-  completed : (t : List ℕ) (form : Form) → form_of t ≡ Some form → starts_with nat_eq t s ≡ true → MayBegin
-  completed t form e h = (drop (length s) t, (form, ap form_of (sym ((starts_is Decides-eqb t s true (sym h)).0 refl)) ∙ e))
-
-  either_completed : (m : ℕ × Form) (rest : Bool) (r : Bool) → starts m ≡ r → (r || rest) ≡ true → form_of (big_bytes 4 m.0) ≡ Some m.1 → (rest ≡ true → MayBegin) → MayBegin
-  either_completed m rest true e h is others = completed (big_bytes 4 m.0) m.1 is e
-  either_completed m rest false e h is others = others h
-
-  some_completed : (ms : List (ℕ × Form)) → AllByRecursion (λ m. form_of (big_bytes 4 m.0) ≡ Some m.1) ms → starts_one ms ≡ true → MayBegin
-  some_completed [] are h = absurd (true≢false (sym h))
-  some_completed (m ∷ ms) are h = either_completed m (starts_one ms) (starts m) refl h are.0 (some_completed ms are.1)
-
-  -- a proper prefix of a magic number tells no form, and may become one
-  pub begun : begins_magic s ≡ true → (form_of s ≡ None) × MayBegin
-  begun h =
-      let parts = and_parts (nat_lt (length s) 4) (starts_one magics) h in (
-        ap (option_map (λ m. m.1)) (none_found magics (ltb-true (length s) 4 parts.0)),
-        some_completed magics (refl, (refl, (refl, (refl, (refl, tt))))) parts.1,
+  opened : (m : Magic) → is_closed m ≡ true → begins m ≡ true → IsOpen
+  opened m closed h =
+      let tests = and_parts (is_told (form_of m.0)) (are_open (length m.0) m.0) closed in
+      let parts = and_parts (nat_lt (length s) (length m.0)) (starts_with nat_eq m.0 s) h in
+      let whole : m.0 ≡ s ++ drop (length s) m.0 = (starts_is Decides-eqb m.0 s true (sym parts.1)).0 refl in
+      let front : take (length s) m.0 ≡ s = ap (take (length s)) whole ∙ take-append_seam s (drop (length s) m.0) in (
+        ap (λ o. option_transpose (option_map (λ m. m.1) o)) (subst (λ l. found l magics ≡ None) front (open_at (length m.0) (length s) m.0 tests.1 (ltb-true (length s) (length m.0) parts.0))),
+        (drop (length s) m.0, is_known (form_of (s ++ drop (length s) m.0)) (subst (λ l. is_told (form_of l) ≡ true) whole tests.0)),
       )
+
+  either_opened : (m : Magic) (b rest : Bool) → begins m ≡ b → is_closed m ≡ true → (b || rest) ≡ true → (rest ≡ true → IsOpen) → IsOpen
+  either_opened m true rest e closed h others = opened m closed e
+  either_opened m false rest e closed h others = others h
+
+  some_opened : (ms : List Magic) → list_all is_closed ms ≡ true → begins_one ms ≡ true → IsOpen
+  some_opened [] closed h = absurd (true≢false (sym h))
+  some_opened (m ∷ ms) closed h =
+      let parts = and_parts (is_closed m) (list_all is_closed ms) closed in either_opened m (begins m) (begins_one ms) refl parts.0 h (some_opened ms parts.1)
+
+  -- a proper prefix of a magic number tells nothing, and may begin a file that is known
+  pub begun : begins_magic s ≡ true → IsOpen
+  begun h = some_opened magics all_closed h

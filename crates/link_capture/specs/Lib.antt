@@ -4,6 +4,7 @@ pub mod Form
 pub mod Front
 pub mod Options
 pub mod Order
+pub mod OtherFormat
 pub mod Pcap
 pub mod Raw
 pub mod Same

@@ -1,11 +1,11 @@
 //! Forms of inputs: how the next unit is read.
 
-ghost use Rattle.std.specs.Prelude.{◌≡◌, nat_eq};
-ghost use Rattle.std.specs.List.{list_any, starts_with};
-ghost use Rattle.byteorder.specs.Endian.{big_bytes};
-ghost use Rattle.link_capture.specs.Form.{magics, form_of, begins_magic};
+ghost use Rattle.std.specs.Prelude.{◌≡◌, ◌&&◌, length, map, nat_eq, nat_lt, option_map};
+ghost use Rattle.std.specs.List.{find, list_any, starts_with};
+ghost use Rattle.link_capture.specs.Form.{told_by, form_of, begins_magic};
 
 use crate::order::Order;
+use crate::other_format::OtherFormat;
 
 /// The type of a section header, with which a pcapng file begins. It reads the same in either order.
 pub(crate) const SECTION: u32 = 0x0a0d_0d0a;
@@ -23,69 +23,110 @@ pub enum Form {
     Messages,
 }
 
-/// The magic numbers, which are the first four bytes of files, the highest byte first; and the forms that they tell.
-const MAGICS: [(u32, Form); 5] = [
+/// A magic number, and what it tells: the form of a capture, or another format.
+type Magic = (&'static [u8], Result<Form, OtherFormat>);
+
+/// The magic numbers, which are the first bytes of files.
+const MAGICS: [Magic; 21] = [
     (
-        0xd4c3_b2a1,
-        Form::Pcap {
+        &[0xd4, 0xc3, 0xb2, 0xa1],
+        Ok(Form::Pcap {
             order: Order::Little,
             digits: 6,
-        },
+        }),
     ),
     (
-        0xa1b2_c3d4,
-        Form::Pcap {
+        &[0xa1, 0xb2, 0xc3, 0xd4],
+        Ok(Form::Pcap {
             order: Order::Big,
             digits: 6,
-        },
+        }),
     ),
     (
-        0x4d3c_b2a1,
-        Form::Pcap {
+        &[0x4d, 0x3c, 0xb2, 0xa1],
+        Ok(Form::Pcap {
             order: Order::Little,
             digits: 9,
-        },
+        }),
     ),
     (
-        0xa1b2_3c4d,
-        Form::Pcap {
+        &[0xa1, 0xb2, 0x3c, 0x4d],
+        Ok(Form::Pcap {
             order: Order::Big,
             digits: 9,
-        },
+        }),
     ),
     (
-        SECTION,
-        Form::Blocks {
+        &[0x0a, 0x0d, 0x0d, 0x0a],
+        Ok(Form::Blocks {
             order: Order::Little,
-        },
+        }),
     ),
+    (&[0x1f, 0x8b], Err(OtherFormat::Gzip)),
+    (&[0xfd, 0x37, 0x7a, 0x58, 0x5a, 0x00], Err(OtherFormat::Xz)),
+    (&[0x28, 0xb5, 0x2f, 0xfd], Err(OtherFormat::Zstd)),
+    (b"BZh1", Err(OtherFormat::Bzip2)),
+    (b"BZh2", Err(OtherFormat::Bzip2)),
+    (b"BZh3", Err(OtherFormat::Bzip2)),
+    (b"BZh4", Err(OtherFormat::Bzip2)),
+    (b"BZh5", Err(OtherFormat::Bzip2)),
+    (b"BZh6", Err(OtherFormat::Bzip2)),
+    (b"BZh7", Err(OtherFormat::Bzip2)),
+    (b"BZh8", Err(OtherFormat::Bzip2)),
+    (b"BZh9", Err(OtherFormat::Bzip2)),
+    (&[0x04, 0x22, 0x4d, 0x18], Err(OtherFormat::Lz4)),
+    (&[0x34, 0xcd, 0xb2, 0xa1], Err(OtherFormat::ModifiedPcap)),
+    (&[0xa1, 0xb2, 0xcd, 0x34], Err(OtherFormat::ModifiedPcap)),
+    (b"snoop\0\0\0", Err(OtherFormat::Snoop)),
 ];
 
 impl Form {
-    /// Returns the form of a pcap or pcapng file by its first four bytes, or `None` if `bytes` does not begin with those of
-    /// either.
-    pub fn of_file(bytes: &[u8]) -> Option<Form>
+    /// Returns the form of a pcap or pcapng file by its first bytes, or `None` if `bytes` does not begin with a known magic
+    /// number.
+    ///
+    /// # Errors
+    ///
+    /// The format of a file that is neither, but known.
+    pub fn of_file(bytes: &[u8]) -> Result<Option<Form>, OtherFormat>
         ensures { result ≡ form_of bytes.now }
     {
-        let (_, form) = MAGICS
-            .iter()
-            .find(|(magic, _)| bytes.starts_with(&magic.to_be_bytes()))?;
-        Some(*form)
+        told_by(&MAGICS, bytes)
     }
 
-    /// Returns whether `bytes` are too few to tell the form of a file: fewer than four, with which a magic number begins.
+    /// Returns whether `bytes` are too few to tell the form of a file: fewer than those of a magic number that begins with
+    /// them.
     pub fn needs_more(bytes: &[u8]) -> bool
         ensures { result ≡ begins_magic bytes.now }
     {
-        bytes.len() < 4 && begin_magic(bytes)
+        begin_one(&MAGICS, bytes)
     }
 }
 
-/// Returns whether a magic number begins with `bytes`.
-fn begin_magic(bytes: &[u8]) -> bool
-    ensures { result ≡ list_any (λ m. starts_with nat_eq (big_bytes 4 m.0) bytes.now) magics }
+/// Returns what `bytes` tell by these magic numbers, as `Form::of_file` does.
+fn told_by(magics: &[Magic], bytes: &[u8]) -> Result<Option<Form>, OtherFormat>
+    ensures { result ≡ told_by (map (λ m. (m.0.now, m.1)) magics.now) bytes.now }
 {
-    MAGICS
-        .iter()
-        .any(|(magic, _)| magic.to_be_bytes().starts_with(bytes))
+    found_in(magics, bytes).transpose()
+}
+
+/// Returns what the first of these magic numbers tells with which `bytes` begin.
+fn found_in(magics: &[Magic], bytes: &[u8]) -> Option<Result<Form, OtherFormat>>
+    ensures { result ≡ option_map (λ m. m.1) (find (λ m. starts_with nat_eq bytes.now m.0.now) magics.now) }
+{
+    let (_, told) = magics.iter().find(|(magic, _)| bytes.starts_with(magic))?;
+    Some(*told)
+}
+
+/// Returns whether `bytes` are a proper prefix of one of these magic numbers.
+fn begin_one(magics: &[Magic], bytes: &[u8]) -> bool
+    ensures { result ≡ list_any (λ m. nat_lt (length bytes.now) (length m.0.now) && starts_with nat_eq m.0.now bytes.now) magics.now }
+{
+    magics.iter().any(|(magic, _)| begins(magic, bytes))
+}
+
+/// Returns whether `bytes` are a proper prefix of a magic number.
+fn begins(magic: &[u8], bytes: &[u8]) -> bool
+    ensures { result ≡ (nat_lt (length bytes.now) (length magic.now) && starts_with nat_eq magic.now bytes.now) }
+{
+    bytes.len() < magic.len() && magic.starts_with(bytes)
 }

@@ -1,6 +1,6 @@
 //! Theorems about inputs. The functions have empty bodies; each states its theorem as its contract.
 
-ghost use Rattle.std.specs.Prelude.{◌≡◌, ◌↔◌, ℕ, List, ◌++◌, Option, Some, None, true, false, IsTrue};
+ghost use Rattle.std.specs.Prelude.{◌≡◌, ◌≢◌, ◌↔◌, ℕ, List, ◌++◌, Option, Some, None, Ok, true, false, IsTrue};
 ghost use Rattle.link_capture.specs.declared.capture.Next.{Next};
 ghost use Rattle.link_capture.specs.declared.error.Head.{Head};
 ghost use Rattle.link_capture.specs.declared.error.InputError.{InputError};
@@ -11,6 +11,7 @@ ghost use Rattle.link_capture.specs.declared.event.Time.{Time};
 ghost use Rattle.link_capture.specs.declared.form.Form.{Form};
 ghost use Rattle.link_capture.specs.declared.options.Clock.{Clock};
 ghost use Rattle.link_capture.specs.declared.order.Order.{Order};
+ghost use Rattle.link_capture.specs.declared.other_format.OtherFormat.{OtherFormat};
 ghost use Rattle.link_capture.specs.declared.pcapng.Interface.{Interface};
 ghost use Rattle.link_capture.specs.Form.{form_of, begins_magic};
 ghost use Rattle.link_capture.specs.Same.{IsSameNext};
@@ -23,6 +24,7 @@ use crate::event::{Event, Packet, Time};
 use crate::form::Form;
 use crate::options::Clock;
 use crate::order::Order;
+use crate::other_format::OtherFormat;
 use crate::pcapng::Interface;
 
 /// States that all bytes can be read in each form, and in one way only: there is one list of what the units mean, and one
@@ -41,12 +43,12 @@ pub fn prefix()
         → Reads form s units (Some fault) → IsFinal fault.1 → Reads form (s ++ more) units (Some fault) }
 {}
 
-/// States when the first bytes of a file tell its form ([`Form::of_file`]): whatever follows, if they are not a proper
-/// prefix of a magic number. Otherwise they tell none, and what follows may make them the start of a capture.
+/// States when the first bytes of a file tell its form, or its other format ([`Form::of_file`]): whatever follows, if they
+/// are not a proper prefix of a magic number. Otherwise they tell nothing, and with what follows they may.
 pub fn told_form()
     ensures told { (s more : List ℕ) → begins_magic s ≡ false → form_of (s ++ more) ≡ form_of s }
-    ensures begun { (s : List ℕ) → begins_magic s ≡ true → (form_of s ≡ None)
-        × ((more : List ℕ) × ((form : Form) × (form_of (s ++ more) ≡ Some form))) }
+    ensures begun { (s : List ℕ) → begins_magic s ≡ true → (form_of s ≡ Ok None)
+        × ((more : List ℕ) × (form_of (s ++ more) ≢ Ok None)) }
 {}
 
 /// States that two values of a public type are equal (`==`) if and only if all their fields are. Borrowed bytes are
@@ -54,6 +56,7 @@ pub fn told_form()
 pub fn equality()
     ensures order { (a b : Order) → IsTrue (⟦<Order as PartialEq>⟧.eq a b) ↔ (a ≡ b) }
     ensures form { (a b : Form) → IsTrue (⟦<Form as PartialEq>⟧.eq a b) ↔ (a ≡ b) }
+    ensures format { (a b : OtherFormat) → IsTrue (⟦<OtherFormat as PartialEq>⟧.eq a b) ↔ (a ≡ b) }
     ensures clock { (a b : Clock) → IsTrue (⟦<Clock as PartialEq>⟧.eq a b) ↔ (a ≡ b) }
     ensures interface { (a b : Interface) → IsTrue (⟦<Interface as PartialEq>⟧.eq a b) ↔ (a ≡ b) }
     ensures head { (a b : Head) → IsTrue (⟦<Head as PartialEq>⟧.eq a b) ↔ (a ≡ b) }

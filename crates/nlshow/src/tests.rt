@@ -5,6 +5,7 @@
 mod callers;
 mod captures;
 mod documents;
+mod printable;
 mod replies;
 mod walks;
 

@@ -28,12 +28,15 @@ use Rattle.link_capture.specs.declared.form.Form.TheVariants as forms
 use Rattle.link_capture.specs.declared.options.Clock.{Clock}
 use Rattle.link_capture.specs.declared.order.Order.{Order}
 use Rattle.link_capture.specs.declared.order.Order.TheVariants.{Little}
+use Rattle.link_capture.specs.declared.other_format.OtherFormat.{OtherFormat}
+use Rattle.link_capture.specs.declared.other_format.OtherFormat.TheVariants as formats
 use Rattle.link_capture.specs.declared.pcapng.Interface.{Interface}
 use Rattle.link_capture.specs.Block.{After, sectioned, with_clock, IsDescribed, Small, TooMany, Read, packet_from, packed, other, IsBlock, Unequal, Describes, Others}
 use Rattle.link_capture.specs.ErrorText.{head_text, size_text, bytes_text, error_text}
 use Rattle.link_capture.specs.Form.{section}
 use Rattle.link_capture.specs.Front.{order_of}
 use Rattle.link_capture.specs.Order.{number_at}
+use Rattle.link_capture.specs.OtherFormat.{format_text}
 use Rattle.link_capture.specs.Pcap.{form_after}
 use Rattle.link_capture.specs.Raw.{streamed}
 use Rattle.link_capture.specs.Told.{Told, Nothing, APacket, AMessage, ATime, Captured, State}
@@ -52,7 +55,7 @@ use Rattle.show_captures.specs.Time.{IsTimeText, InRange, OutOfRange}
 use Rattle.show_captures.specs.Packet.{original_part, protocol_name, protocol_part, protocol_of, type_part, packet_line, short_line, ShowsBelow, Other, Short, OtherProtocol, Route, ShowsPacket}
 use Rattle.show_captures.specs.ByOptions.{ShowsTime, units_by_options, by_options}
 use Rattle.show_captures.specs.Event.{ShowsUnit, packets_to, counted, end_line, ShowsCapture}
-use Rattle.show_captures.specs.Run.{ShowsForm, PrintsForm, ShowsInput, input_form}
+use Rattle.show_captures.specs.Run.{ShowsForm, ShowsFile, PrintsForm, PrintsFile, ShowsInput, input_form}
 
 -- ---- instants
 
@@ -147,6 +150,15 @@ error_is_text (errors.ResolutionLength n) = and {s = codes "if_tsresol has "} (t
 error_is_text (errors.Resolution n) = and {s = codes "if_tsresol "} (text refl) (and (decimal_text n) (text refl))
 error_is_text (errors.OffsetLength n) = and {s = codes "if_tsoffset has "} (text refl) (and (count_is_text n) (text refl))
 error_is_text (errors.Interface n) = and {s = codes "interface "} (text refl) (and (decimal_text n) (text refl))
+
+format_is_text : (format : OtherFormat) → IsText (format_text format)
+format_is_text formats.Gzip = text refl
+format_is_text formats.Xz = text refl
+format_is_text formats.Zstd = text refl
+format_is_text formats.Bzip2 = text refl
+format_is_text formats.Lz4 = text refl
+format_is_text formats.ModifiedPcap = text refl
+format_is_text formats.Snoop = text refl
 
 end_texts : (options : Options) (fault : Option (ℕ × InputError)) → AreTexts (end_line (units_by_options options) fault)
 end_texts options None = no_texts
@@ -305,5 +317,9 @@ module _ (options : Options) (plain : options.format ≡ Plain) where
   form_prints None s out whole shown = all_repeats options s out whole plain shown
   form_prints (Some form) s out whole shown = λ bytes. capture_texts form s out whole bytes shown
 
-pub input_prints : (options : Options) (raw : Bool) (s out : List ℕ) (whole : Bool) → options.format ≡ Plain → ShowsInput (by_options options) raw s out whole → PrintsForm (input_form raw s) s out
-input_prints options raw s out whole plain shown = form_prints options plain (input_form raw s) s out whole shown
+  file_prints : (file : Result (Option Form) OtherFormat) (s out : List ℕ) (whole : Bool) → ShowsFile (by_options options) file s out whole → PrintsFile file s out
+  file_prints (Ok form) s out whole shown = form_prints form s out whole shown
+  file_prints (Err format) s out whole shown = subst AreTexts (sym shown.0) (line_texts (line_end (format_is_text format)))
+
+pub input_prints : (options : Options) (raw : Bool) (s out : List ℕ) (whole : Bool) → options.format ≡ Plain → ShowsInput (by_options options) raw s out whole → PrintsFile (input_form raw s) s out
+input_prints options raw s out whole plain shown = file_prints options plain (input_form raw s) s out whole shown

@@ -1,15 +1,20 @@
 -- The first bytes of an input tell its form.
-use Rattle.std.proofs.Common.{◌≡◌, ◌<◌, ℕ, Bool, true, false, if◌then◌else◌, inl, inr, List, [], ◌∷◌, ◌++◌, length, Option, Some, None, refl, sym, ap, subst, ◌∙◌, arith, append_assoc}
+use Rattle.std.proofs.Common.{◌≡◌, ◌<◌, ◌⊎◌, ℕ, Bool, true, false, if◌then◌else◌, inl, inr, List, [], ◌∷◌, ◌++◌, length, Option, Some, None, Result, Ok, Err, IfOk, OnOk, refl, sym, ap, subst, ◌∙◌, arith, append_assoc}
 use Rattle.std.proofs.lemmas.List.{append-nil}
-use Rattle.std.specs.Io.KnownBytes.{Consumes, Keeps, IsAtEnd}
+use Rattle.std.specs.Result.{result_map_both}
+use Rattle.std.specs.Io.KnownBytes.{Appends, Consumes, Keeps, IsAtEnd}
 use Rattle.std.proofs.KnownBytes.{Appends-nil, Appends-trans, Appends-kept, Consumes-trans}
 use Rattle.link_capture.specs.declared.form.Form.{Form}
+use Rattle.link_capture.specs.declared.other_format.OtherFormat.{OtherFormat}
 use Rattle.link_capture.specs.Form.{begins_magic}
 use Rattle.link_capture.proofs.Forms.{told}
 use Rattle.program.specs.Printing.{FlushesOrFails}
 use Rattle.show_lines.specs.Show.{ShowsAll}
 use Rattle.show_lines.specs.Run as lines
-use Rattle.show_captures.specs.Run.{RunsCapture, RunsFrom, Runs, RunsFor, ShowsForm, ShowsInput, MayFollow, input_form}
+use Rattle.show_lines.specs.Progress.{OnMemory}
+use Rattle.show_lines.specs.declared.running.Stop.{Stop}
+use Rattle.show_lines.specs.declared.running.Stop.TheVariants as stops
+use Rattle.show_captures.specs.Run.{RunsCapture, RunsFrom, Runs, RunsFor, ShowsForm, ShowsFile, ShowsInput, MayFollow, input_form, status_of}
 use Rattle.show_captures.specs.Shower.{InputShower}
 
 -- what follows bytes that tell the form does not change it
@@ -23,6 +28,20 @@ empty_left None text h = absurd h
 empty_left (Some left) [] h = refl
 empty_left (Some left) (b ∷ text) h = absurd (omega (arith, ap length h))
 
+-- nothing follows all bytes
+all_of : (s : Option (List ℕ)) (first more : List ℕ) → IsAtEnd s → MayFollow s more → first ++ more ≡ first
+all_of s first more end may = ap (λ m. first ++ m) (may end) ∙ append-nil first
+
+-- what follows does not change what is told, by bytes that are all or that tell it
+same_form : (raw is_last : Bool) (first more : List ℕ) (s : Option (List ℕ)) → (is_last ≡ true → IsAtEnd s) → (is_last ≡ false → begins_magic first ≡ false) → MayFollow s more → input_form raw (first ++ more) ≡ input_form raw first
+same_form raw true first more s ends tells may = ap (input_form raw) (all_of s first more (ends refl) may)
+same_form raw false first more s ends tells may = form_told raw first more (tells refl)
+
+small_status : (file : Result (Option Form) OtherFormat) (whole : Bool) → status_of file whole < 3
+small_status (Ok form) true = omega arith
+small_status (Ok form) false = omega arith
+small_status (Err format) whole = omega arith
+
 module _ {shower : InputShower} where
   pub from_capture : (form : Form) (first : List ℕ) (r s w v : Option (List ℕ)) (whole : Bool) → RunsCapture shower.units form first r s w v whole → RunsFrom shower (Some form) first r s w v whole
   from_capture form first r s w v whole h =
@@ -33,42 +52,82 @@ module _ {shower : InputShower} where
     text = h.text;
     out = h.out;
     read = h.read;
-    shows = λ more may. subst (λ l. ShowsAll shower.lines (first ++ l) h.out whole) (sym (all_of more may)) h.shown;
+    shows = λ more may. subst (λ l. ShowsAll shower.lines (first ++ l) h.out whole) (sym (all_of s h.text more h.end may)) h.shown;
     written = h.written;
   }
-    where
-      all_of : (more : List ℕ) → MayFollow s more → h.text ++ more ≡ h.text
-      all_of more may = ap (λ m. h.text ++ m) (may h.end) ∙ append-nil h.text
 
-  -- the first bytes are not all
-  pub runs_on : (raw : Bool) (first : List ℕ) (r s t w v u : Option (List ℕ)) (whole : Bool) → Consumes r s first → Keeps w v → begins_magic first ≡ false → RunsFrom shower (input_form raw first) first s t v u whole → Runs shower raw r t w u whole
-  runs_on raw first r s t w v u whole read keeps tells h = record {
-    text = first ++ h.text;
-    out = h.out;
-    read = Consumes-trans r s t first h.text read h.read;
-    shows = λ more may. subst (λ l. ShowsInput shower raw l h.out whole) (sym (append_assoc first h.text more))
-        (subst (λ f. ShowsForm shower f (first ++ (h.text ++ more)) h.out whole) (sym (form_told raw first (h.text ++ more) tells)) (h.shows more may));
-    written = Appends-trans w v u [] h.out (Appends-kept w w v [] (Appends-nil w) keeps) h.written;
-  }
+  module _ (raw : Bool) (form : Option Form) (first : List ℕ) (r s t w v u : Option (List ℕ)) (whole : Bool) (is : input_form raw first ≡ Ok form) where
+    -- the first bytes are not all
+    pub runs_on : Consumes r s first → Keeps w v → begins_magic first ≡ false → RunsFrom shower form first s t v u whole → RunsFor shower raw r t w u (if whole then 0 else 1)
+    runs_on read keeps tells h =
+        let run : Runs shower raw r t w u whole = record {
+          text = first ++ h.text;
+          out = h.out;
+          read = Consumes-trans r s t first h.text read h.read;
+          shows = λ more may. subst (λ l. ShowsInput shower raw l h.out whole) (sym (append_assoc first h.text more))
+              (subst (λ f. ShowsFile shower f (first ++ (h.text ++ more)) h.out whole) (sym (form_told raw first (h.text ++ more) tells ∙ is)) (h.shows more may));
+          written = Appends-trans w v u [] h.out (Appends-kept w w v [] (Appends-nil w) keeps) h.written;
+        } in
+        (whole, (run, sym (ap (λ f. status_of f whole) (form_told raw first h.text tells ∙ is))))
 
-  -- the first bytes are all
-  pub runs_out : (raw : Bool) (first : List ℕ) (r s t w v u : Option (List ℕ)) (whole : Bool) → Consumes r s first → IsAtEnd s → Keeps w v → RunsFrom shower (input_form raw first) first (Some []) t v u whole → Runs shower raw r s w u whole
-  runs_out raw first r s t w v u whole read end keeps h = record {
-    text = first;
-    out = h.out;
-    read = read;
-    shows = λ more may. subst (λ l. ShowsInput shower raw l h.out whole) (sym (all_of more may)) (subst (λ l. ShowsForm shower (input_form raw first) l h.out whole) nothing (h.shows [] (λ e. refl)));
-    written = Appends-trans w v u [] h.out (Appends-kept w w v [] (Appends-nil w) keeps) h.written;
-  }
-    where
-      all_of : (more : List ℕ) → MayFollow s more → first ++ more ≡ first
-      all_of more may = ap (λ m. first ++ m) (may end) ∙ append-nil first
+    -- the first bytes are all
+    pub runs_out : Consumes r s first → IsAtEnd s → Keeps w v → RunsFrom shower form first (Some []) t v u whole → RunsFor shower raw r s w u (if whole then 0 else 1)
+    runs_out read end keeps h =
+        let run : Runs shower raw r s w u whole = record {
+          text = first;
+          out = h.out;
+          read = read;
+          shows = λ more may. subst (λ l. ShowsInput shower raw l h.out whole) (sym (all_of s first more end may))
+              (subst (λ f. ShowsFile shower f first h.out whole) (sym is) (subst (λ l. ShowsForm shower form l h.out whole) nothing (h.shows [] (λ e. refl))));
+          written = Appends-trans w v u [] h.out (Appends-kept w w v [] (Appends-nil w) keeps) h.written;
+        } in
+        (whole, (run, sym (ap (λ f. status_of f whole) is)))
+      where
+        nothing : first ++ (h.text ++ []) ≡ first
+        nothing = ap (λ l. first ++ (l ++ [])) (empty_left t h.text h.read) ∙ append-nil first
 
-      nothing : first ++ (h.text ++ []) ≡ first
-      nothing = ap (λ l. first ++ (l ++ [])) (empty_left t h.text h.read) ∙ append-nil first
+  -- the first bytes tell another format, and may be all
+  pub runs_other : (raw is_last : Bool) (format : OtherFormat) (first : List ℕ) (r s w v u : Option (List ℕ)) → input_form raw first ≡ Err format → Consumes r s first → (is_last ≡ true → IsAtEnd s) → (is_last ≡ false → begins_magic first ≡ false) → Keeps w v → Appends v u (shower.units.formats format)
+      → RunsFor shower raw r s w u 2
+  runs_other raw is_last format first r s w v u is read ends tells keeps written =
+      let out = shower.units.formats format in
+      let run : Runs shower raw r s w u false = record {
+        text = first;
+        out = out;
+        read = read;
+        shows = λ more may. subst (λ f. ShowsFile shower f (first ++ more) out false) (sym (same_form raw is_last first more s ends tells may ∙ is)) (refl, refl);
+        written = Appends-trans w v u [] out (Appends-kept w w v [] (Appends-nil w) keeps) written;
+      } in
+      (false, (run, sym (ap (λ f. status_of f false) is)))
 
   -- the buffer is written, and the result is the status
-  pub runs_for : (raw : Bool) (r t w v u : Option (List ℕ)) (whole : Bool) (status result : ℕ) → Runs shower raw r t w v whole → status ≡ (if whole then 0 else 1) → FlushesOrFails v u status result → result < 2 → RunsFor shower raw r t w u result
-  runs_for raw r t w v u whole status result h e (inl (is, keeps)) small =
-      let run : Runs shower raw r t w u whole = record { text = h.text; out = h.out; read = h.read; shows = h.shows; written = Appends-kept w v u h.out h.written keeps } in (whole, run, is ∙ e)
-  runs_for raw r t w v u whole status result h e (inr fails) small = absurd (omega (arith, fails, small))
+  pub runs_for : (raw : Bool) (r t w v u : Option (List ℕ)) (status result : ℕ) → RunsFor shower raw r t w v status → FlushesOrFails v u status result → result < 3 → RunsFor shower raw r t w u result
+  runs_for raw r t w v u status result (whole, (h, e)) (inl (is, keeps)) small =
+      let run : Runs shower raw r t w u whole = record { text = h.text; out = h.out; read = h.read; shows = h.shows; written = Appends-kept w v u h.out h.written keeps } in (whole, (run, is ∙ e))
+  runs_for raw r t w v u status result h (inr fails) small = absurd (omega (arith, fails, small))
+
+  -- the status of a run is 0, 1 or 2
+  pub known_status : (raw : Bool) (r t w v u : Option (List ℕ)) (status result : ℕ) → RunsFor shower raw r t w v status → FlushesOrFails v u status result → (result < 3) ⊎ ((result ≡ 4) ⊎ (result ≡ 5))
+  known_status raw r t w v u status result (whole, (h, e)) (inl (is, keeps)) = inl (subst (λ n. n < 3) (sym (is ∙ e)) (small_status (input_form raw h.text) whole))
+  known_status raw r t w v u status result h (inr fails) = inr (inr fails)
+
+  -- and not 4
+  pub never_four : (raw : Bool) (r t w v u : Option (List ℕ)) (status result : ℕ) → RunsFor shower raw r t w v status → FlushesOrFails v u status result → result ≡ 4 → ⊥
+  never_four raw r t w v u status result (whole, (h, e)) (inl (is, keeps)) four = omega (arith, four, is, e, small_status (input_form raw h.text) whole)
+  never_four raw r t w v u status result h (inr fails) four = omega (arith, four, fails)
+
+-- ---- the exit status in place of what a run returns
+
+pub status_ok : {X : Type 0} (f : X → ℕ) (P : X → Type 0) (Q : ℕ → Type 0) (r : Result X Stop) (s : Result ℕ Stop) → s ≡ result_map_both f (λ stop. stop) r → ((x : X) → P x → Q (f x)) → IfOk r P → IfOk s Q
+status_ok f P Q (Ok x) s e g h = subst (λ a. IfOk a Q) (sym e) (g x h)
+status_ok f P Q (Err stop) s e g h = subst (λ a. IfOk a Q) (sym e) tt
+
+pub status_other : {X : Type 0} (n : ℕ) (P : Type 0) (Q : ℕ → Type 0) (r : Result X Stop) (s : Result ℕ Stop) → s ≡ result_map_both (λ _. n) (λ stop. stop) r → (P → Q n) → OnOk r P → IfOk s Q
+status_other n P Q (Ok x) s e g h = subst (λ a. IfOk a Q) (sym e) (g h)
+status_other n P Q (Err stop) s e g h = subst (λ a. IfOk a Q) (sym e) tt
+
+pub status_memory : {X : Type 0} (f : X → ℕ) (P Q : Type 0) (r : Result X Stop) (s : Result ℕ Stop) → s ≡ result_map_both f (λ stop. stop) r → (P → Q) → OnMemory r P → OnMemory s Q
+status_memory f P Q (Ok x) s e g h = subst (λ a. OnMemory a Q) (sym e) tt
+status_memory f P Q (Err stops.Memory) s e g h = subst (λ a. OnMemory a Q) (sym e) (g h)
+status_memory f P Q (Err stops.Reader) s e g h = subst (λ a. OnMemory a Q) (sym e) tt
+status_memory f P Q (Err stops.Writer) s e g h = subst (λ a. OnMemory a Q) (sym e) tt

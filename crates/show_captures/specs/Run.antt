@@ -1,9 +1,10 @@
 -- What a run reads of an input and writes.
-use Rattle.std.specs.Prelude.{◌≡◌, ℕ, Bool, List, [], ◌++◌, Option, Some, None, if◌then◌else◌}
+use Rattle.std.specs.Prelude.{◌≡◌, ℕ, Bool, false, List, [], ◌++◌, Option, Some, None, Result, Ok, Err, if◌then◌else◌}
 use Rattle.std.specs.Io.KnownBytes.{Appends, Consumes, IsAtEnd}
 use Rattle.link_base.specs.Number.{IsBytes}
 use Rattle.link_capture.specs.declared.form.Form.{Form}
 use Rattle.link_capture.specs.declared.form.Form.TheVariants.{Messages}
+use Rattle.link_capture.specs.declared.other_format.OtherFormat.{OtherFormat}
 use Rattle.link_capture.specs.Form.{form_of}
 use Rattle.link_show.specs.Printable.{AreTexts}
 use Rattle.show_lines.specs.Show.{ShowsAll}
@@ -16,18 +17,33 @@ abbrev pub ShowsForm : InputShower → Option Form → List ℕ → List ℕ →
 ShowsForm shower None = ShowsAll shower.lines
 ShowsForm shower (Some form) = ShowsCapture shower.units form
 
--- the form of an input that begins with s; none, if it has lines
-abbrev pub input_form : Bool → List ℕ → Option Form
-input_form raw s = if raw then Some Messages else form_of s
+-- what an input is that begins with s: messages, if it is a raw stream; otherwise, by its first bytes, a capture, a file in
+-- another format, or lines, which have no form
+abbrev pub input_form : Bool → List ℕ → Result (Option Form) OtherFormat
+input_form raw s = if raw then Ok (Some Messages) else form_of s
+
+-- the output for a file: that in its form, or what says that it is in another format
+abbrev pub ShowsFile : InputShower → Result (Option Form) OtherFormat → List ℕ → List ℕ → Bool → Type 0
+ShowsFile shower (Ok form) s out whole = ShowsForm shower form s out whole
+ShowsFile shower (Err format) s out whole = (out ≡ shower.units.formats format) × (whole ≡ false)
 
 abbrev pub ShowsInput : InputShower → Bool → List ℕ → List ℕ → Bool → Type 0
-ShowsInput shower raw s = ShowsForm shower (input_form raw s) s
+ShowsInput shower raw s = ShowsFile shower (input_form raw s) s
 
--- in the plain form, every line of the output for s in this form is printable ASCII or, for lines, one of them. Those of a
--- capture are bytes
+-- the exit status for a file whose output has no error, if `whole` is set
+abbrev pub status_of : Result (Option Form) OtherFormat → Bool → ℕ
+status_of (Ok form) whole = if whole then 0 else 1
+status_of (Err format) whole = 2
+
+-- in the plain form, every line of the output for s in this form is printable ASCII; or, for lines, printable ASCII and tabs, and
+-- one of them as it is repeated. Those of a capture are bytes
 abbrev pub PrintsForm : Option Form → List ℕ → List ℕ → Type 0
 PrintsForm None s out = Repeats s out
 PrintsForm (Some form) s out = IsBytes s → AreTexts out
+
+abbrev pub PrintsFile : Result (Option Form) OtherFormat → List ℕ → List ℕ → Type 0
+PrintsFile (Ok form) s out = PrintsForm form s out
+PrintsFile (Err format) s out = AreTexts out
 
 -- a reader had these bytes, and what it has left may follow them: nothing, at its end
 abbrev pub MayFollow : Option (List ℕ) → List ℕ → Type 0
@@ -50,7 +66,7 @@ pub record RunsFrom (shower : InputShower) (form : Option Form) (first : List �
   pub shows : (more : List ℕ) → MayFollow left_after more → ShowsForm shower form (first ++ (text ++ more)) out whole
   pub written : Appends held_before held_after out
 
--- likewise for a whole input
+-- likewise for a whole input. Of a file in another format, the rest may be left
 pub record Runs (shower : InputShower) (raw : Bool) (left_before left_after held_before held_after : Option (List ℕ)) (whole : Bool) : Type 0 where
   pub text : List ℕ
   pub out : List ℕ
@@ -58,10 +74,10 @@ pub record Runs (shower : InputShower) (raw : Bool) (left_before left_after held
   pub shows : (more : List ℕ) → MayFollow left_after more → ShowsInput shower raw (text ++ more) out whole
   pub written : Appends held_before held_after out
 
--- a run with this exit status
+-- a run with this exit status, which the bytes that were read tell
 abbrev pub RunsFor : InputShower → Bool → Option (List ℕ) → Option (List ℕ) → Option (List ℕ) → Option (List ℕ) → ℕ → Type 0
 RunsFor shower raw left_before left_after held_before held_after status =
-    (whole : Bool) × Runs shower raw left_before left_after held_before held_after whole × (status ≡ (if whole then 0 else 1))
+    (whole : Bool) × ((run : Runs shower raw left_before left_after held_before held_after whole) × (status ≡ status_of (input_form raw run.text) whole))
 
 -- zero or more bytes were written, and then `text`
 abbrev pub EndsWith : Option (List ℕ) → Option (List ℕ) → List ℕ → Type 0

@@ -2,13 +2,13 @@
 
 ghost use Rattle.std.specs.Prelude.{◌≡◌, ℕ, Bool, List};
 ghost use Rattle.show_captures.specs.ByOptions.{by_options};
-ghost use Rattle.show_captures.specs.Run.{PrintsForm, ShowsInput, input_form};
+ghost use Rattle.show_captures.specs.Run.{PrintsFile, ShowsInput, input_form};
 ghost use Rattle.show_lines.specs.declared.arguments.Format.TheVariants.{Plain};
 ghost use Rattle.show_lines.specs.declared.arguments.Options.{Options};
 
-/// In the plain form, every line that is written for a capture is printable ASCII, and every line that is written for lines is
-/// printable ASCII or one of them.
+/// In the plain form, every line that is written is printable ASCII; or, for lines, printable ASCII and tabs, and one of them as
+/// it is repeated.
 pub fn printable()
     ensures { (options : Options) (raw : Bool) (s out : List ℕ) (whole : Bool) → options.format ≡ Plain
-        → ShowsInput (by_options options) raw s out whole → PrintsForm (input_form raw s) s out }
+        → ShowsInput (by_options options) raw s out whole → PrintsFile (input_form raw s) s out }
 {}

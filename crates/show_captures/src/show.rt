@@ -12,7 +12,7 @@ ghost use Rattle.show_lines.specs.declared.running.Stop.TheVariants.{Memory};
 
 use crate::packets::write_packet;
 use crate::times::write_time;
-use link_capture::{InputError, Packet, Time};
+use link_capture::{InputError, OtherFormat, Packet, Time};
 use program::{print_no_memory, print_read_fault};
 use show_lines::{Options, ShowLines, Stop, write_bare};
 use std::alloc::Global;
@@ -94,6 +94,22 @@ pub trait ShowUnits: ShowLines {
             ((units self.now).errors at error)) }
         ensures memory { OnMemory result (Grows (W.contents writer.old) (W.contents writer.new)) };
 
+    /// Writes that an input is a file in this format, which is not read.
+    ///
+    /// # Errors
+    ///
+    /// A [`Stop`].
+    fn show_format<W: Write>(
+        &self,
+        alloc: Global,
+        paper: &mut Self::Paper,
+        format: OtherFormat,
+        writer: &mut W,
+    ) -> Result<(), Stop>
+        ensures shown { OnOk result (Appends (W.contents writer.old) (W.contents writer.new)
+            ((units self.now).formats format)) }
+        ensures memory { OnMemory result (Grows (W.contents writer.old) (W.contents writer.new)) };
+
     /// Writes what a run says at its end if it stopped early, and flushes. Returns the exit status: 4 for `Memory`, 5 for
     /// `Reader` and `Writer`, and 5 if the writer fails.
     fn end<W: Write + Drop>(
@@ -155,6 +171,19 @@ impl ShowUnits for Options {
         writer: &mut W,
     ) -> Result<(), Stop> {
         match writeln!(writer, "input error at {at}: {error}") {
+            Ok(()) => Ok(()),
+            Err(_) => Err(Stop::Writer),
+        }
+    }
+
+    fn show_format<W: Write>(
+        &self,
+        alloc: Global,
+        paper: &mut (),
+        format: OtherFormat,
+        writer: &mut W,
+    ) -> Result<(), Stop> {
+        match writeln!(writer, "{format}") {
             Ok(()) => Ok(()),
             Err(_) => Err(Stop::Writer),
         }

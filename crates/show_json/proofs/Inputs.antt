@@ -1,19 +1,20 @@
 -- What is written for an input is documents.
-use Rattle.std.proofs.Common.{◌<◌, ◌^◌, suc, ℕ, Bool, true, List, [], length, Option, Some, None, refl, arith}
+use Rattle.std.proofs.Common.{◌<◌, ◌^◌, suc, ℕ, Bool, true, false, List, [], length, Option, Some, None, Result, Ok, Err, refl, arith}
 use Rattle.link_base.specs.Number.{IsBytes}
 use Rattle.link_capture.specs.declared.error.InputError.{InputError}
 use Rattle.link_capture.specs.declared.form.Form.{Form as InputForm}
+use Rattle.link_capture.specs.declared.other_format.OtherFormat.{OtherFormat}
 use Rattle.link_capture.specs.Told.{Told, Nothing, APacket, AMessage, ATime, State}
 use Rattle.link_capture.specs.Unit.{IsEnd}
 use Rattle.show_captures.specs.Event.{ShowsUnit, ShowsCapture, counted, end_line, is_well}
-use Rattle.show_captures.specs.Run.{ShowsForm, ShowsInput, input_form}
+use Rattle.show_captures.specs.Run.{ShowsForm, ShowsFile, ShowsInput, input_form}
 use Rattle.show_json.specs.declared.by_json.Json.{Json as Form}
 use Rattle.show_json.specs.Form.{AreDocuments, by_json}
 use Rattle.show_json.specs.Unit.{units_json}
 use Rattle.show_json.proofs.Bounds.{IsBoundedAt, leads_bounded, leads_end}
 use Rattle.show_json.proofs.Commands.{lines_are}
 use Rattle.show_json.proofs.Joined.{none_are, both_are, equal_are, each_are}
-use Rattle.show_json.proofs.Written.{packet_are, message_are, time_is, error_is}
+use Rattle.show_json.proofs.Written.{packet_are, message_are, time_is, error_is, format_is}
 
 module _ (json : Form) where
   unit_are : (x : ℕ × Told) (out : List ℕ) (well : Bool) → IsBoundedAt x → ShowsUnit (units_json json) x out well → AreDocuments out well
@@ -42,5 +43,9 @@ module _ (json : Form) where
   form_are None s out whole h small shown = lines_are json s out whole small shown
   form_are (Some form) s out whole h small shown = capture_are form s out whole h small shown
 
+  file_are : (file : Result (Option InputForm) OtherFormat) (s out : List ℕ) (whole : Bool) → IsBytes s → length s < 2 ^ 64 → ShowsFile (by_json json) file s out whole → AreDocuments out whole
+  file_are (Ok form) s out whole h small shown = form_are form s out whole h small shown
+  file_are (Err format) s out whole h small (e, bad) = equal_are out _ whole false e bad (format_is json format)
+
 pub input_are : (json : Form) (raw : Bool) (s out : List ℕ) (whole : Bool) → IsBytes s → length s < 2 ^ 64 → ShowsInput (by_json json) raw s out whole → AreDocuments out whole
-input_are json raw s out whole h small shown = form_are json (input_form raw s) s out whole h small shown
+input_are json raw s out whole h small shown = file_are json (input_form raw s) s out whole h small shown

@@ -6,7 +6,9 @@ use Rattle.link_base.specs.Number.{IsBytes}
 use Rattle.link_base.proofs.Values.{bytes-drop}
 use Rattle.link_capture.specs.declared.error.InputError.{InputError}
 use Rattle.link_capture.specs.declared.event.Time.{Time}
+use Rattle.link_capture.specs.declared.other_format.OtherFormat.{OtherFormat}
 use Rattle.link_capture.specs.ErrorText.{bytes_text, error_text}
+use Rattle.link_capture.specs.OtherFormat.{format_text}
 use Rattle.link_capture.specs.Told.{Captured}
 use Rattle.link_json.specs.Doc.{Field}
 use Rattle.link_json.specs.Line.{IsLine, IsPlace}
@@ -87,3 +89,6 @@ time_is json time out (clock, is, e) = place_shown (time_fields (file_of json) c
 
 pub error_is : (json : Form) (at : ℕ) (error : InputError) → at < 2 ^ 64 → AreDocuments ((units_json json).errors at error) false
 error_is json at error small = fault_is (file_fields (file_of json)) (file_place (file_of json)) (Some at) small (error_text error)
+
+pub format_is : (json : Form) (format : OtherFormat) → AreDocuments ((units_json json).formats format) false
+format_is json format = fault_is (file_fields (file_of json)) (file_place (file_of json)) None tt (format_text format)

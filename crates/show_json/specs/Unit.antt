@@ -1,8 +1,9 @@
 -- The documents for the units of an input.
-use Rattle.std.specs.Prelude.{◌≡◌, ℕ, Bool, List, ◌++◌, Some, codes}
+use Rattle.std.specs.Prelude.{◌≡◌, ℕ, Bool, List, ◌++◌, Some, None, codes}
 use Rattle.json.specs.Json.{Json}
 use Rattle.link_capture.specs.declared.event.Time.{Time}
 use Rattle.link_capture.specs.ErrorText.{bytes_text, error_text}
+use Rattle.link_capture.specs.OtherFormat.{format_text}
 use Rattle.link_capture.specs.Told.{Captured}
 use Rattle.link_json.specs.Doc.{Field}
 use Rattle.link_json.specs.Message.{document_line}
@@ -36,4 +37,5 @@ units_json json = record {
   messages = ShowsDocuments (file_fields (file_of json));
   times = ShowsTime json;
   errors = λ at error. fault_line (file_fields (file_of json)) (Some at) (error_text error);
+  formats = λ format. fault_line (file_fields (file_of json)) None (format_text format);
 }

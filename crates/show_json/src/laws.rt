@@ -5,6 +5,7 @@ ghost use Rattle.json.specs.Json.{Json};
 ghost use Rattle.link_base.specs.Number.{IsBytes};
 ghost use Rattle.link_capture.specs.declared.error.InputError.{InputError};
 ghost use Rattle.link_capture.specs.declared.event.Time.{Time};
+ghost use Rattle.link_capture.specs.declared.other_format.OtherFormat.{OtherFormat};
 ghost use Rattle.link_capture.specs.Told.{Captured};
 ghost use Rattle.show_captures.specs.Run.{ShowsInput};
 ghost use Rattle.show_lines.specs.declared.asking.Asked.{Asked};
@@ -32,6 +33,7 @@ pub fn documents_of_units()
     ensures times { (json : Form) (time : Time) (out : List ℕ) → (units_json json).times time out → AreDocuments out true }
     ensures errors { (json : Form) (at : ℕ) (error : InputError) → at < 2 ^ 64
         → AreDocuments ((units_json json).errors at error) false }
+    ensures formats { (json : Form) (format : OtherFormat) → AreDocuments ((units_json json).formats format) false }
 {}
 
 /// States that what is written for a whole input is documents, whatever its form.

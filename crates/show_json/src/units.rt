@@ -11,7 +11,7 @@ use crate::clocks::clock_of;
 use crate::places::{PacketPlace, TimePlace};
 use crate::stops::stopped;
 use crate::unopened::finish_with;
-use link_capture::{Bytes, InputError, Packet, Time};
+use link_capture::{Bytes, InputError, OtherFormat, Packet, Time};
 use link_json::{Place, Sheet, write_documents, write_fault, write_place};
 use program::finish;
 use show_captures::{Carried, ShowUnits, carried_by};
@@ -77,6 +77,19 @@ impl ShowUnits for Json<'_> {
             return Err(Stop::Memory);
         };
         stopped(write_fault(alloc, paper, self, Some(at), text.as_bytes(), writer))
+    }
+
+    fn show_format<W: Write>(
+        &self,
+        alloc: Global,
+        paper: &mut Sheet,
+        format: OtherFormat,
+        writer: &mut W,
+    ) -> Result<(), Stop> {
+        let Ok(text) = format!(in alloc; "{format}") else {
+            return Err(Stop::Memory);
+        };
+        stopped(write_fault(alloc, paper, self, None, text.as_bytes(), writer))
     }
 
     fn end<W: Write + Drop>(

@@ -32,7 +32,8 @@ FAMILY is ",
     ".
 White space separates the words. Blank lines, and lines that begin with #, are ignored. The FILE - is standard input.
 
-Status: 0 if all input is right, 1 if not, 2 for a wrong argument, 4 if an allocation fails, 5 if reading or writing fails.
+Status: 0 if all input is right, 1 if not, 2 for a wrong argument or a file in another format, 4 if an allocation fails, 5 if
+reading or writing fails.
 "
 );
 

@@ -1,12 +1,11 @@
-use Rattle.std.proofs.Common.{Bool, [], Some, ap, subst, ◌∙◌}
+use Rattle.std.proofs.Common.{◌≡◌, Bool, [], Some, Ok, Err, if◌then◌else◌, sym, ap, subst, ◌∙◌}
 use Rattle.std.specs.Io.Buffered.{writer_contents}
-use Rattle.link_show.proofs.MessageLines.{if_ok}
+use Rattle.std.specs.Io.KnownBytes.{Appends}
 use Rattle.show_lines.specs.Progress.{Grows}
-use Rattle.show_lines.proofs.Steps.{on_memory}
-use Rattle.show_captures.specs.Run.{Runs, RunsFrom, input_form}
+use Rattle.show_captures.specs.Run.{RunsFrom, RunsFor, input_form}
 use Rattle.show_captures.specs.Shower.{shower_of}
 use Rattle.show_captures.proofs.Lines.{kept_grows}
-use Rattle.show_captures.proofs.Told.{runs_on, runs_out}
+use Rattle.show_captures.proofs.Told.{runs_on, runs_out, runs_other, status_ok, status_other, status_memory}
 use Rattle.show_captures.proofs.running.show_input.Goals as goal
 
 pub returns-then-first-clause-shown : goal.returns-then-first-clause-shown
@@ -14,20 +13,22 @@ returns-then-first-clause-shown g c =
     let contents = writer_contents g.W.Write.contents in
     let shower = shower_of g.S.ShowLines.refused g.S.ShowLines.answered g.S.ShowUnits.units c.args.shown.now in
     let bytes = c.in-Ok-read_first.first.bytes.items in
+    let form = c.in-Ok-form_of.form in
     let r = g.R.Read.remaining c.args.reader.now in
     let s = g.R.Read.remaining c.read_first.new.reader in
     let w = contents c.args.writer.now in
     let v = contents c.read_first.new.writer in
     let u = contents c.show_from.new.writer in
-    let form = c.form_of-form.ensures ∙ ap (input_form c.args.raw) c.deref.ensures.value in
-    if_ok (RunsFrom shower c.form_of-form.result c.deref-then-first.result.now (Some []) (Some []) v u) (Runs shower c.args.raw r s w u) c.show_from.result
-    (λ whole h. runs_out {shower = shower} c.args.raw bytes r s (Some []) w v u whole c.in-Ok-read_first.ensures.read (c.in-Ok-read_first.ensures.last c.if-first.true) c.in-Ok-read_first.ensures.kept
-    (subst (λ f. RunsFrom shower f bytes (Some []) (Some []) v u whole) form (subst (λ l. RunsFrom shower c.form_of-form.result l (Some []) (Some []) v u whole) c.deref-then-first.ensures.value h))) c.show_from.ensures.shown
+    let same = c.as_slice-bytes.ensures.value in
+    let is : input_form c.args.raw bytes ≡ Ok form = sym (ap (input_form c.args.raw) same) ∙ (sym c.form_of.ensures ∙ c.in-Ok-form_of.is) in
+    status_ok (λ whole. if whole then 0 else 1) (RunsFrom shower form c.as_slice-bytes.result.now (Some []) (Some []) v u) (RunsFor shower c.args.raw r s w u) c.show_from.result c.status_of.result c.status_of.ensures
+    (λ whole h. runs_out {shower = shower} c.args.raw form bytes r s (Some []) w v u whole is c.in-Ok-read_first.ensures.read (c.in-Ok-read_first.ensures.last c.if-first.true) c.in-Ok-read_first.ensures.kept
+    (subst (λ l. RunsFrom shower form l (Some []) (Some []) v u whole) same h)) c.show_from.ensures.shown
 
 pub returns-then-first-clause-memory : goal.returns-then-first-clause-memory
 returns-then-first-clause-memory g c =
     let contents = writer_contents g.W.Write.contents in
-    on_memory {X = Bool} (Grows (contents c.read_first.new.writer) (contents c.show_from.new.writer)) (Grows (contents c.args.writer.now) (contents c.show_from.new.writer)) c.show_from.result
+    status_memory {X = Bool} (λ whole. if whole then 0 else 1) (Grows (contents c.read_first.new.writer) (contents c.show_from.new.writer)) (Grows (contents c.args.writer.now) (contents c.show_from.new.writer)) c.show_from.result c.status_of.result c.status_of.ensures
     (kept_grows (contents c.args.writer.now) (contents c.read_first.new.writer) (contents c.show_from.new.writer) c.in-Ok-read_first.ensures.kept) c.show_from.ensures.memory
 
 pub returns-clause-shown : goal.returns-clause-shown
@@ -35,19 +36,42 @@ returns-clause-shown g c =
     let contents = writer_contents g.W.Write.contents in
     let shower = shower_of g.S.ShowLines.refused g.S.ShowLines.answered g.S.ShowUnits.units c.args.shown.now in
     let bytes = c.in-Ok-read_first.first.bytes.items in
+    let form = c.in-Ok-form_of.form in
     let r = g.R.Read.remaining c.args.reader.now in
     let s = g.R.Read.remaining c.read_first.new.reader in
     let t = g.R.Read.remaining c.show_from-2.new.reader in
     let w = contents c.args.writer.now in
     let v = contents c.read_first.new.writer in
     let u = contents c.show_from-2.new.writer in
-    let form = c.form_of-form.ensures ∙ ap (input_form c.args.raw) c.deref.ensures.value in
-    if_ok (RunsFrom shower c.form_of-form.result c.deref-2.result.now s t v u) (Runs shower c.args.raw r t w u) c.show_from-2.result
-    (λ whole h. runs_on {shower = shower} c.args.raw bytes r s t w v u whole c.in-Ok-read_first.ensures.read c.in-Ok-read_first.ensures.kept (c.in-Ok-read_first.ensures.told c.if-first.false)
-    (subst (λ f. RunsFrom shower f bytes s t v u whole) form (subst (λ l. RunsFrom shower c.form_of-form.result l s t v u whole) c.deref-2.ensures.value h))) c.show_from-2.ensures.shown
+    let same = c.as_slice-bytes.ensures.value in
+    let is : input_form c.args.raw bytes ≡ Ok form = sym (ap (input_form c.args.raw) same) ∙ (sym c.form_of.ensures ∙ c.in-Ok-form_of.is) in
+    status_ok (λ whole. if whole then 0 else 1) (RunsFrom shower form c.as_slice-bytes.result.now s t v u) (RunsFor shower c.args.raw r t w u) c.show_from-2.result c.status_of-2.result c.status_of-2.ensures
+    (λ whole h. runs_on {shower = shower} c.args.raw form bytes r s t w v u whole is c.in-Ok-read_first.ensures.read c.in-Ok-read_first.ensures.kept (c.in-Ok-read_first.ensures.told c.if-first.false)
+    (subst (λ l. RunsFrom shower form l s t v u whole) same h)) c.show_from-2.ensures.shown
 
 pub returns-clause-memory : goal.returns-clause-memory
 returns-clause-memory g c =
     let contents = writer_contents g.W.Write.contents in
-    on_memory {X = Bool} (Grows (contents c.read_first.new.writer) (contents c.show_from-2.new.writer)) (Grows (contents c.args.writer.now) (contents c.show_from-2.new.writer)) c.show_from-2.result
+    status_memory {X = Bool} (λ whole. if whole then 0 else 1) (Grows (contents c.read_first.new.writer) (contents c.show_from-2.new.writer)) (Grows (contents c.args.writer.now) (contents c.show_from-2.new.writer)) c.show_from-2.result c.status_of-2.result c.status_of-2.ensures
     (kept_grows (contents c.args.writer.now) (contents c.read_first.new.writer) (contents c.show_from-2.new.writer) c.in-Ok-read_first.ensures.kept) c.show_from-2.ensures.memory
+
+pub returns-in-Err-form_of-clause-shown : goal.returns-in-Err-form_of-clause-shown
+returns-in-Err-form_of-clause-shown g c =
+    let contents = writer_contents g.W.Write.contents in
+    let shower = shower_of g.S.ShowLines.refused g.S.ShowLines.answered g.S.ShowUnits.units c.args.shown.now in
+    let first = c.in-Ok-read_first.first in
+    let format = c.in-Err-form_of.format in
+    let r = g.R.Read.remaining c.args.reader.now in
+    let s = g.R.Read.remaining c.read_first.new.reader in
+    let w = contents c.args.writer.now in
+    let v = contents c.read_first.new.writer in
+    let u = contents c.show_format.new.writer in
+    let is : input_form c.args.raw first.bytes.items ≡ Err format = sym (ap (input_form c.args.raw) c.as_slice-bytes.ensures.value) ∙ (sym c.form_of.ensures ∙ c.in-Err-form_of.is) in
+    status_other 2 (Appends v u (shower.units.formats format)) (RunsFor shower c.args.raw r s w u) c.show_format.result c.status_of_other.result c.status_of_other.ensures
+    (λ written. runs_other {shower = shower} c.args.raw first.is_last format first.bytes.items r s w v u is c.in-Ok-read_first.ensures.read c.in-Ok-read_first.ensures.last c.in-Ok-read_first.ensures.told c.in-Ok-read_first.ensures.kept written) c.show_format.ensures.shown
+
+pub returns-in-Err-form_of-clause-memory : goal.returns-in-Err-form_of-clause-memory
+returns-in-Err-form_of-clause-memory g c =
+    let contents = writer_contents g.W.Write.contents in
+    status_memory (λ _. 2) (Grows (contents c.read_first.new.writer) (contents c.show_format.new.writer)) (Grows (contents c.args.writer.now) (contents c.show_format.new.writer)) c.show_format.result c.status_of_other.result c.status_of_other.ensures
+    (kept_grows (contents c.args.writer.now) (contents c.read_first.new.writer) (contents c.show_format.new.writer) c.in-Ok-read_first.ensures.kept) c.show_format.ensures.memory

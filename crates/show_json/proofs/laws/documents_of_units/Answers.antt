@@ -1,4 +1,4 @@
-use Rattle.show_json.proofs.Written.{packet_are, message_are, time_is, error_is}
+use Rattle.show_json.proofs.Written.{packet_are, message_are, time_is, error_is, format_is}
 use Rattle.show_json.proofs.laws.documents_of_units.Goals as goal
 
 pub returns-clause-packets : goal.returns-clause-packets
@@ -12,3 +12,6 @@ returns-clause-times c = time_is
 
 pub returns-clause-errors : goal.returns-clause-errors
 returns-clause-errors c = error_is
+
+pub returns-clause-formats : goal.returns-clause-formats
+returns-clause-formats c = format_is
