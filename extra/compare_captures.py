@@ -154,7 +154,7 @@ def of_tcpdump(path, with_bytes=None):
         status, data, said = run(["tcpdump", "--nano", "-n", "-w", "-", "-r", "-"], it)
     packets, at = [], 24
     snapshot, link = struct.unpack_from("=2I", data, 16) if data else (None, 0)
-    is_netlink = link & 0xFFFF == 253
+    is_netlink = link & 0x3FFFFFF == 253
     while at < len(data):
         seconds, rest, captured, original = struct.unpack_from("=4I", data, at)
         payload = data[at + 16 : at + 16 + captured]

@@ -177,6 +177,8 @@ def of_bytes(data, is_raw):
     if reading.form == "lines":
         lines = data.split(b"\n")
         return [it for number, line in enumerate(lines, 1) for it in of_line(number, line)]
+    if reading.form == "other":
+        return [({}, "error", (None, reading.lines[0]))]
     return [*(of_raw if reading.form == "raw" else of_capture)(data, reading)]
 
 
@@ -363,7 +365,7 @@ def of_runs():
             del words[at : at + 2]
         operands = [it for it in words if it == "-" or not it.startswith("-")]
         others = {*words} - {*operands}
-        if run.program == "nlshow" and run.status != 2 and not run.full and others <= {"--raw"}:
+        if run.program == "nlshow" and not (run.status == 2 and run.stderr) and not run.full and others <= {"--raw"}:
             files = {os.fsdecode(it): data for it, data in run.given.items()}
             yield Input(name_of(file, run), files.pop(""), "--raw" in words, operands, files)
 
@@ -417,7 +419,8 @@ def check(binary, given):
             need(isinstance(document, dict), "it is no object")
             check_document(document, *it)
         fails = [it for _, what, it in wanted if what == "error" and it[1] in ("cannot open", "read fault")]
-        status = 5 if fails else 0 if all(it["ok"] for it in documents) else 1
+        is_other = any(it[1] in reader.OTHERS.values() for _, what, it in wanted if what == "error")
+        status = 5 if fails else 2 if is_other else 0 if all(it["ok"] for it in documents) else 1
         same = plain.returncode == status or any(is_twice(*it[1:]) for it in wanted)
         need(ran.returncode == status and same, "status", ran.returncode, plain.returncode, status)
         need(not ran.stderr, "standard error:", ran.stderr)

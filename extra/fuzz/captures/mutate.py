@@ -10,7 +10,8 @@ one process. Then:
 
 - the lines of packets, the first line of each message, and the error that ends the input are those of reader.py;
 - standard error is empty;
-- one of the inputs, written to a pipe in pieces, gives the same, and its status is 1 if it has an error, otherwise 0.
+- one of the inputs, written to a pipe in pieces, gives the same, and its status is 1 if it has an error, 2 if it is in
+  another format, otherwise 0.
 
 It stops at the first difference, makes the input shorter while it still differs, and leaves it as out/difference. It is a
 difference, too, if an input stops the program, or keeps it for more than a minute.
@@ -307,7 +308,7 @@ def difference(given, printed):
 
 def wrong_status(status, printed):
     """What is wrong with the status of a program that has printed these lines, or nothing."""
-    wanted = 1 if any(map(ERROR.match, printed)) else 0
+    wanted = 2 if {*printed} & {*reader.OTHERS.values()} else 1 if any(map(ERROR.match, printed)) else 0
     return "" if status == wanted else f"the status is {status}, expected {wanted}"
 
 

@@ -13,6 +13,12 @@ MOST, MOST_INTERFACES, NETLINK, SECOND = 1048576, 256, 253, 10**9
 # The last time that is printed.
 LAST_TIME = 253402207200 * SECOND + SECOND - 1
 PCAP = {"d4c3b2a1": ("<", 6), "a1b2c3d4": (">", 6), "4d3cb2a1": ("<", 9), "a1b23c4d": (">", 9)}
+# How files in other formats begin, and what is said of them.
+COMPRESSED = {"gzip": ("1f8b", "zcat"), "xz": ("fd377a585a00", "xzcat"), "zstd": ("28b52ffd", "zstdcat"), "lz4": ("04224d18", "lz4cat")}
+OTHERS = {bytes.fromhex(it): f"{name} data: decompress it first, as in {cat} FILE | nlshow" for name, (it, cat) in COMPRESSED.items()}
+OTHERS |= {b"BZh%d" % it: "bzip2 data: decompress it first, as in bzcat FILE | nlshow" for it in range(1, 10)}
+OTHERS |= {bytes.fromhex(it): "modified pcap file: convert it first, as in editcap -F pcapng FILE - | nlshow" for it in ("34cdb2a1", "a1b2cd34")}
+OTHERS |= {b"snoop\0\0\0": "snoop file: convert it first, as in editcap -F pcapng FILE - | nlshow"}
 SECTION, INTERFACE, PACKET = 0x0A0D0D0A, 1, 6
 LEAST = {SECTION: ("section", 28), INTERFACE: ("interface", 20), PACKET: ("packet", 32)}
 ORDERS = {"4d3c2b1a": "<", "1a2b3c4d": ">"}
@@ -139,6 +145,7 @@ def read_pcap(data, starts, lines):
     major, minor, link_type = struct.unpack_from(order + "4xHH12xI", data)
     if (major, minor) != (2, 4):
         raise Wrong("pcap version", major, minor)
+    link_type %= 2**26  # (above are the bits about the FCS)
     if link_type != NETLINK:
         raise Wrong("link type", link_type)
     at, number = 24, 0
@@ -255,15 +262,18 @@ FORMS = {"pcap": read_pcap, "pcapng": read_pcapng, "raw": read_raw}
 
 
 def form_of(data, is_raw=False):
-    """The form of an input: one of FORMS, or lines."""
+    """The form of an input: one of FORMS, other, or lines."""
     first = data[:4].hex()
-    return "raw" if is_raw else "pcap" if first in PCAP else "pcapng" if first == "0a0d0d0a" else "lines"
+    form = "pcap" if first in PCAP else "pcapng" if first == "0a0d0d0a" else "other" if data.startswith((*OTHERS,)) else "lines"
+    return "raw" if is_raw else form
 
 
 @functools.lru_cache(2000)
 def read(data, is_raw=False):
     """The Reading of an input. That of lines has no lines."""
     starts, lines, error, form = [], [], "", form_of(data, is_raw)
+    if form == "other":
+        lines = [text for magic, text in OTHERS.items() if data.startswith(magic)]
     if form in FORMS:
         try:
             FORMS[form](data, starts, lines)
