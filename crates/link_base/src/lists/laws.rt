@@ -17,9 +17,15 @@ ghost use Rattle.link_base.specs.declared.wire.fault.WriteError.{WriteError};
 ghost use Rattle.link_base.specs.declared.wire.fault.TooLong.{TooLong};
 ghost use Rattle.link_base.specs.declared.wire.fault.RewriteError.{RewriteError};
 ghost use Rattle.link_base.specs.declared.rows.label.Quantity.{Quantity};
+ghost use Rattle.link_base.specs.declared.classes.lengths.Lengths.{Lengths};
+ghost use Rattle.link_base.specs.declared.rows.fields.Field.{Field};
+ghost use Rattle.link_base.specs.declared.rows.fields.Part.{Part};
 ghost use Rattle.link_base.specs.declared.rows.form.Form.{Form};
+ghost use Rattle.link_base.specs.declared.rows.form.Layout.{Layout};
+ghost use Rattle.link_base.specs.declared.rows.form.Width.{Width};
 ghost use Rattle.link_base.specs.declared.rows.label.Name.{Name};
 ghost use Rattle.link_base.specs.declared.rows.label.KindLabel.{KindLabel};
+ghost use Rattle.link_base.specs.Fields.{field_told};
 ghost use Rattle.link_base.specs.Labels.{named, label_of};
 ghost use Rattle.link_base.specs.Buffer.{kind_field_of, payload_of};
 ghost use Rattle.link_base.specs.IteratorItems.{AreItems, IsCount, bytes_left};
@@ -35,8 +41,10 @@ ghost use Rattle.link_base.specs.Coherent.{IsShapeOf};
 ghost use Rattle.link_base.specs.Lawful.{IsLawful};
 ghost use Rattle.link_base.specs.FrameTableParts.{walked_bytes, offsets_of, fault_of};
 
+use crate::classes::lengths::Lengths;
 use crate::rows::attribute::Attribute;
-use crate::rows::form::Form;
+use crate::rows::fields::{Field, Part};
+use crate::rows::form::{Form, Layout, Width};
 use crate::rows::label::{KindLabel, Name, Quantity};
 use crate::wire::buffer::NlaBuffer;
 use crate::wire::fault::{
@@ -127,6 +135,16 @@ pub fn label_equality()
     ensures form { (a b : Form) → IsTrue (⟦<Form as PartialEq>⟧.eq a b) ↔ (a ≡ b) }
     ensures name { (a b : Name) → IsTrue (⟦<Name as PartialEq>⟧.eq a b) ↔ (named a ≡ named b) }
     ensures label { (a b : KindLabel) → IsTrue (⟦<KindLabel as PartialEq>⟧.eq a b) ↔ (label_of a ≡ label_of b) }
+{}
+
+/// Two values of `Width`, `Lengths`, `Layout` or `Part` are equal if and only if they are identical; two `Field`s, if and
+/// only if they have the same name, offset and part.
+pub fn layout_equality()
+    ensures width { (a b : Width) → IsTrue (⟦<Width as PartialEq>⟧.eq a b) ↔ (a ≡ b) }
+    ensures lengths { (a b : Lengths) → IsTrue (⟦<Lengths as PartialEq>⟧.eq a b) ↔ (a ≡ b) }
+    ensures layout { (a b : Layout) → IsTrue (⟦<Layout as PartialEq>⟧.eq a b) ↔ (a ≡ b) }
+    ensures part { (a b : Part) → IsTrue (⟦<Part as PartialEq>⟧.eq a b) ↔ (a ≡ b) }
+    ensures field { (a b : Field) → IsTrue (⟦<Field as PartialEq>⟧.eq a b) ↔ (field_told a ≡ field_told b) }
 {}
 
 /// Two `NlaBuffer`s are equal if and only if they have the same `nla_type` and the same payload; two `NlasIterator`s,

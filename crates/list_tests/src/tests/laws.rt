@@ -23,6 +23,7 @@ fn laws_of_tables() {
     laws::error_equality();
     laws::frame_equality();
     laws::label_equality();
+    laws::layout_equality();
 }
 
 #[test]
