@@ -1,5 +1,6 @@
 #!/usr/bin/env python3
-"""Compares the structs that C callers pass with those of the sources: size, and offset, size and name of each field.
+"""Compares the structs that C callers pass with those of the sources: size, number of fields, and the offset, size and name
+of each field.
 
 usage: tools/layouts.py
 
@@ -7,7 +8,8 @@ A struct of the sources with `#[repr(C)]` names in its comment the struct of C t
 fields, in order, give the layout of C by the rules of C. The C compiler compares this with the struct of nlroute.h, or of
 the kernel's headers. No contract says anything of it: in the logic, a struct has names and no offsets.
 
-The last line is 'N passed, M failed', counted in structs and fields, and the status 0 only if all passed.
+The last line is 'N passed, M failed', counted in structs, their sizes, fields and numbers of fields, and the status 0 only
+if all passed.
 """
 import os
 import re
@@ -37,23 +39,29 @@ def structs(text):
 
 
 def claims(found):
-    """What the compiler has to find, each with what it is about."""
+    """What the compiler has to find: what it is about, the words for it, and the line of C that has no error if it is so."""
     for struct, _, size, fields in found:
-        yield f"struct {struct}", f"sizeof(struct {struct}) == {size}"
+        yield f"struct {struct}", *asserted(f"sizeof(struct {struct}) == {size}")
         for field, start, width in fields:
             same = f"offsetof(struct {struct}, {field}) == {start} && sizeof(((struct {struct} *)0)->{field}) == {width}"
-            yield f"struct {struct}, {field}", same
+            yield f"struct {struct}, {field}", *asserted(same)
+        # (a further field can lie where the sources have padding: the compiler misses its value)
+        values = ", ".join(["{1}"] * len(fields))
+        yield f"struct {struct}, fields", f"it has {len(fields)} of them", f"struct {struct} all = {{{values}}};"
+
+
+def asserted(claim):
+    return claim, f'_Static_assert({claim}, "");'
 
 
 def differences(text, folder):
-    """What differs, for each struct and field of a source, or None. The folder has nlroute.h."""
+    """What differs, for each struct, each field of it and their number, or None. The folder has nlroute.h."""
     found = [*structs(text)]
     for struct, name, *_ in found:
         yield None if struct else f"{name}: its comment names no struct of C"
-    for about, claim in claims(it for it in found if it[0]):
-        source = f'{HEADERS}_Static_assert({claim}, "");\n'
-        command = ["cc", "-std=c11", "-fsyntax-only", "-I", folder, "-x", "c", "-"]
-        ran = subprocess.run(command, input=source, capture_output=True, text=True)
+    for about, claim, line in claims(it for it in found if it[0]):
+        command = ["cc", "-std=c11", "-fsyntax-only", "-Werror=missing-field-initializers", "-I", folder, "-x", "c", "-"]
+        ran = subprocess.run(command, input=f"{HEADERS}{line}\n", capture_output=True, text=True)
         yield None if ran.returncode == 0 else f"{about}: it is not so in C that {claim}"
 
 
