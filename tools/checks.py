@@ -10,10 +10,15 @@ from edits import EditError
 
 OWN_NOTE = re.compile(r"note: (?:\./)?(src/[^:]+):(\d+):\d+: (it is not proved that .*)")
 ONLY_A_CALLEE = re.compile(r"\b(it calls|it passes|a call of)\b")
-OWN_GOALS = re.compile(r"fn \w+::(\S+): no proof: .*`search` did not prove `")
-PROOF_ERROR = re.compile(r"(?:\./)?proofs/(\S+)/[^/]+\.antt:\d+:\d+: error: (.*)")
-# A proof that names what an edit took away says little of the contract.
-LOST_NAME = re.compile(r"has no field|is not in scope|has no `|was not admitted")
+OPEN_GOALS = re.compile(r"fn \w+::(\S+): no proof: .*`search` did not prove (`.*)")
+UNPROVED = re.compile(r"fn \w+::(\S+): no(?:t proved| proof)")
+# An error of a proof by hand, with the goal or lemma that it proves. Invariants.antt has none.
+PROOF_ERROR = re.compile(r"(?:\./)?proofs/(?:(\S+)/)?(\w+)\.antt:\d+:\d+: error: (?:`([^`]+)`: )?(.*)")
+# A proof that names what an edit took away says little of the contract, and a declaration that was not checked nothing.
+LOST_NAME = re.compile(
+    r"has no field|is not in scope(?! here, so)|has no (?:member|constructor)? ?`|names nothing|is no name|is private to"
+    r"|not admitted|not checked|which was rejected"
+)
 TEXT_ERROR = re.compile(r"(?:\./)?((?:src|specs|proofs)/[^:]+):\d+:\d+: error: (?:(`[^`]*`): )?(.*)")
 UNREADABLE = re.compile(
     r"is not in scope|has no field|is no name|operand is missing|expected the end|cannot continue"
@@ -71,42 +76,66 @@ class Answer:
             yield f"{line} {after.strip()}" if after.startswith("  ") else line
 
     def told_of(self, seats, functions):
-        """The lines that say what is not proved of these functions, each with whether it says something of the contract."""
+        """The lines that say what is not proved of these functions, each with the goals that it names: with none if it
+        says little of the contract."""
         for seat in seats:
             file, turned = functions[seat]
             folder = seat.replace("::", "/")
             for line, message in zip(self.lines, self.messages()):
-                note, error, goals = (it.match(line) for it in (OWN_NOTE, PROOF_ERROR, OWN_GOALS))
+                note, error, goals = (it.match(line) for it in (OWN_NOTE, PROOF_ERROR, OPEN_GOALS))
                 if note and note[1] == file and turned.has_line(int(note[2])):
-                    yield line[len("note: ") :], not ONLY_A_CALLEE.search(note[3])
+                    is_own = not ONLY_A_CALLEE.search(note[3])
+                    yield line[len("note: ") :], names_in(note[3], r"\(`([^`]+)`\)") if is_own else []
                 elif error and error[1] == folder:
-                    yield line, not LOST_NAME.search(message)
+                    yield line, own_name(error, message)
                 elif goals and goals[1] == seat:
-                    yield line, True
+                    yield line, names_in(goals[2])
 
-    def in_place(self, mutant, functions):
-        """What refuses one of the functions that are to be refused, or None, and why it is None."""
-        told = [*self.told_of(mutant.seats, functions)]
-        of_contract = [line for line, is_of_contract in told if is_of_contract]
-        found = next((it for it in of_contract if mutant.is_named(it)), None)
-        if not told:
-            return None, f"the check says nothing of {' and '.join(mutant.seats)} that is not proved"
-        if not of_contract:
-            return None, f"this says little of the contract: {told[0][0]}"
-        return found, f"not by {' or '.join(mutant.goals)}, but {of_contract[0]}"
+    def told_of_lemmas(self, seats):
+        """The lines that say what is not proved of the lemmas on which the proofs of these functions rest, if they are not
+        proved."""
+        unproved = {it[1] for it in map(UNPROVED.match, self.lines) if it}
+        if unproved & {*seats}:
+            for line, message in zip(self.lines, self.messages()):
+                error = PROOF_ERROR.match(line)
+                if error and error[2] not in ("Answers", "Invariants", "Proof"):
+                    yield line, own_name(error, message)
 
-    def first_error(self):
-        """What refuses an edit that is tried alone."""
+    def refusal(self, mutant, functions, is_alone=False):
+        """The line and the goal by which one of the functions is refused that are to be refused. If the mutant was tried
+        alone, it may also be a goal of a law, and if it changes a definition, a lemma that it names."""
         if self.why:
             raise EditError(self.why)
-        told = [it for it in self.messages() if OWN_NOTE.match(it) or re.match(r"\S+:\d+:\d+: error", it)]
-        first = next((it for it in told if not (PROOF_ERROR.match(it) and LOST_NAME.search(it))), None)
-        if told and not first:
-            raise EditError(f"a proof names what the edit takes away, which says little of the contract: {told[0]}")
-        unproved = next((it for it in self.lines if re.match(r"fn \S+: no(t proved| proof)", it)), self.lines[-1])
-        if not first and "the borrow checker does not cover this function" in unproved:
-            raise EditError(f"the borrow checker does not cover it, which says nothing of the contract: {unproved}")
-        return re.sub(r"\Anote: ", "", first or unproved)
+        told = [*self.told_of(mutant.seats, functions)]
+        if is_alone:
+            told += self.told_of([it for it, (_, found) in functions.items() if found.is_law], functions)
+        lemmas = self.told_of_lemmas(mutant.seats) if is_alone and mutant.is_of_specs else ()
+        told += [(line, [it for it in names if it in mutant.goals]) for line, names in lemmas]
+        for line, goals in told:
+            for goal in goals:
+                if not mutant.goals or goal in mutant.goals:
+                    return line, goal
+        raise EditError(self.why_none(mutant, told))
+
+    def why_none(self, mutant, told):
+        """Why a check that proves not all refuses none of the functions that are to be refused."""
+        other = next((line for line, goals in told if goals), None)
+        if other:
+            return f"not by {' or '.join(mutant.goals)}, but {other}"
+        if told:
+            return f"this says little of the contract: {told[0][0]}"
+        errors = [it for it in self.messages() if OWN_NOTE.match(it) or PROOF_ERROR.match(it)]
+        first = next((it for it in [*errors, *self.lines] if it in errors or UNPROVED.match(it)), self.lines[-1])
+        return f"the check refuses no goal of {' or '.join(mutant.seats)}, but says: {first}"
+
+
+def names_in(text, pattern="`([^`]+)`"):
+    return re.findall(pattern, text)
+
+
+def own_name(error, message):
+    """The name of the goal or lemma whose proof has this error, in a list, or [] if that says little of it."""
+    return [error[3]] if error[3] and error[2] != "Invariants" and not LOST_NAME.search(message) else []
 
 
 def is_unread(message, files):
@@ -115,9 +144,3 @@ def is_unread(message, files):
     if not found or found[1] not in files and not found[1].startswith(("src/", "specs/")):
         return False
     return not found[2] or bool(UNREADABLE.search(re.sub(r"`[^`]*`", "", found[3])))
-
-
-def goal_of(line):
-    """What of a line a verdict keeps: the goal, or else the message, without numbers of lines."""
-    goal = re.search(r"\(`([^`]+)`\)|error: `([^`]+)`|did not prove `([^`]+)`", line)
-    return next(it for it in goal.groups() if it) if goal else re.sub(r":\d+:\d+:? ", ": ", line)[:100]

@@ -10,6 +10,7 @@ import os
 import re
 
 FN = re.compile(r'( *)(?:pub(?:\([^)]*\))? |const |unsafe |extern "C" )*fn (\w+)')
+ENSURES = re.compile(r" +ensures\b")
 BLOCK = re.compile(r"( *)(?:pub(?:\([^)]*\))? |unsafe )*(impl|trait|mod)\b(.*)")
 HEADING = re.compile(r"## ([A-Za-z0-9_-]+)")
 EDIT_LINE = re.compile(r"(?:file|goal|at): \S+$|old: .|new:(?: |$)")
@@ -83,11 +84,13 @@ def text_of(folder, path):
 
 
 class Function:
-    """A function with a body: the lines where its attributes begin and its body opens and ends, counted from 0."""
+    """A function with a body: the lines where its attributes begin and its body opens and ends, counted from 0. It is a law
+    if it does nothing and ensures something: its contract is a theorem."""
 
     def __init__(self, blocks, name, head, opening, end, lines):
         self.blocks, self.name, self.head, self.opening, self.end = blocks, name, head, opening, end
         self.lines = lines[opening + 1 : end]
+        self.is_law = opening == end and any(ENSURES.match(it) for it in lines[head:opening])
 
     def has_line(self, number):
         """Whether a line, counted from 1, is one of its own."""

@@ -10,9 +10,13 @@ apply to what the earlier ones made. With no CRATE named, the mutants of all cra
 A mutant changes bodies of functions, which have to be refused, or something else. Then it names by lines 'at: PATH' the
 functions that have to be refused. Lines 'goal: NAME' name goals, by one of which it has to be refused. Mutants of different
 functions are tried together in one check of a copy of the crate, which looks at these functions and at what they call.
-Each has to be refused in its place: by a note at a line of its function, by an error in that function's folder of proofs/,
-or as a goal of it that no search proved. A mutant that changes a definition of specs/, or was not refused in its place, is
-tried alone, and then any refusal counts, except by a proof that names what the edit takes away.
+Each has to be refused by a goal of such a function: told by a note at a line of the function, by an error of the goal's
+proof in that function's folder of proofs/, or as a goal that no search proved. A mutant that changes a definition of specs/,
+or was not refused in its place, is tried alone. Then a goal of a law counts too, which is a function with a contract and an
+empty body, and for a definition a lemma that a line 'goal: NAME' names, if these functions are not proved without it.
+
+That a proof by hand cannot be checked, since it names what the edit takes away or rests on one that does, refuses nothing:
+an edit that means the same as the code would do that too.
 
 The crates have to be proved here as they are, by `rt all check`, or in a clean clone by `rt ci`.
 
@@ -37,7 +41,7 @@ from concurrent.futures import FIRST_COMPLETED, ThreadPoolExecutor, wait
 
 sys.dont_write_bytecode = True
 sys.path.insert(0, os.path.dirname(os.path.realpath(__file__)))
-from checks import check, goal_of  # noqa: E402
+from checks import check  # noqa: E402
 from crates import crates_of, kit_folder, lanes  # noqa: E402
 from edits import EditError, edited_texts, entries_of, functions_in, values_of  # noqa: E402
 from verdicts import Verdicts, judges, sum_of  # noqa: E402
@@ -56,7 +60,7 @@ class Mutant:
         self.goals, places = values_of(edit, "goal"), values_of(edit, "at")
         self.bodies = self.changed_bodies()
         self.seats = places or [*self.bodies]
-        self.is_alone = any(it.startswith("specs/") for it in self.texts)
+        self.is_of_specs = any(it.startswith("specs/") for it in self.texts)
         if not self.seats:
             raise EditError("it changes no body of a function: name what has to be refused by a line 'at: PATH'")
         unknown = [it for it in self.seats if it not in crate.functions]
@@ -77,9 +81,10 @@ class Mutant:
         """How many lines the functions have that have to be refused."""
         return sum(len(self.crate.functions[it][1].lines) + 1 for it in self.seats)
 
-    def is_named(self, refusal):
-        """Whether the refusal is of a goal that it names, if it names any."""
-        return not self.goals or any(f"`{it}`" in refusal for it in self.goals)
+    def functions(self, texts):
+        """The functions of the crate with these texts in the place of its own."""
+        changed = ((file, functions_in(file, text)) for file, text in texts.items())
+        return self.crate.functions | {path: (file, it) for file, found in changed for path, it in found.items()}
 
 
 def without_bodies(text, functions):
@@ -98,7 +103,7 @@ class Batch:
     def takes(self, mutant):
         """Takes the mutant in, if it goes with the others."""
         first, taken = self.mutants[0], {path for it in self.mutants for path in it.seats}
-        goes = bool(first.bodies) == bool(mutant.bodies) and not first.is_alone and not mutant.is_alone
+        goes = bool(first.bodies) == bool(mutant.bodies) and not first.is_of_specs and not mutant.is_of_specs
         if goes and not taken & {*mutant.seats} and len(self.mutants) < MOST:
             with contextlib.suppress(EditError):
                 self.texts = edited_texts(mutant.edit, mutant.crate.folder, self.texts)
@@ -157,10 +162,10 @@ class Trial:
         self.failed += 1
         self.say(name, text)
 
-    def passes(self, mutant, line):
-        """Takes what refuses a mutant."""
+    def passes(self, mutant, line, goal):
+        """Takes the line and the goal that refuse a mutant."""
         with self.lock:
-            self.refused[mutant.name] = (mutant.edit, goal_of(line))
+            self.refused[mutant.name] = (mutant.edit, goal)
         self.say(mutant.name, f"refused: {line[:160]}")
 
     def falls(self, mutant, text):
@@ -211,14 +216,12 @@ class Trial:
                 for it in batches_of(half):
                     self.try_together(it)
             return
-        changed = {path: (file, it) for file, text in texts.items() for path, it in functions_in(file, text).items()}
-        functions = self.crate.functions | changed
+        functions = mutants[0].functions(texts)
         for mutant in mutants:
-            line, why = answer.in_place(mutant, functions)
-            if line:
-                self.passes(mutant, line)
-            else:
-                self.say(mutant.name, f"is tried alone: {why[:240]}")
+            try:
+                self.passes(mutant, *answer.refusal(mutant, functions))
+            except EditError as error:
+                self.say(mutant.name, f"is tried alone: {str(error)[:240]}")
                 self.try_alone(mutant)
 
     def try_alone(self, mutant):
@@ -226,7 +229,7 @@ class Trial:
         if answer.is_proved:
             return self.falls(mutant, f"NOT REFUSED: {' and '.join(mutant.seats)} is still proved with this edit")
         try:
-            self.passes(mutant, answer.first_error())
+            self.passes(mutant, *answer.refusal(mutant, mutant.functions(mutant.texts), is_alone=True))
         except EditError as error:
             self.falls(mutant, f"BAD EDIT: {error}")
 

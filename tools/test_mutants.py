@@ -79,10 +79,41 @@ pub fn half(number: u8) -> u8
 {
     number / 2
 }
+pub fn walk(number: u8) -> u16
+    ensures { result ≡ number + 3 }
+{
+    let mut walked = 0;
+    for i in 0..next(number) {
+        walked = i + 1;
+    }
+    walked + 1
+}
 """
 
-# Edits of the crate `steps`, each with what is said of it. Two are proved: a third is at most the number, and `after_next`
-# does what it did, but calls a function that is refused in the same check.
+# The proof of `walk` by hand. It names what its code has: the variable `walked`, and the call of `next` at the loop's end.
+PROOFS = {
+    "proofs/walk/Invariants.antt": """\
+use Rattle.std.proofs.Common.{◌≡◌}
+use Rattle.steps.proofs.walk.Given as goal
+
+abbrev pub invariant-loop-i : goal.invariant-loop-i
+invariant-loop-i l = l.walked ≡ l.i
+""",
+    "proofs/walk/Answers.antt": """\
+use Rattle.std.proofs.Common.{◌≡◌, arith}
+use Rattle.steps.proofs.walk.Goals as goal
+
+ends : (c : goal.After-loop-i) → c.loop-i.walked ≡ c.next-i-end.result
+ends c = omega (arith, c.loop-i.invariant, c.loop-i.auto.i-end, c.loop-i-test.false)
+
+pub returns : goal.returns
+returns c = omega (arith, ends c, c.next-i-end.ensures)
+""",
+}
+
+# Edits of the crate `steps`, each with what is said of it. Four are proved or should be: a third is at most the number;
+# `after_next` does what it did, but calls a function that is refused in the same check; and of two that do what `walk` did,
+# only its proof by hand knows nothing. So it does of one that walks less far: that says nothing of the contract.
 EDITS = {
     "adds_a_number_to_half": ("old: number / 2\nnew: number / 2 + number", "refused: src/lib.rt"),
     "adds_in_another_order": ("old: next(number) + 1\nnew: 1 + next(number)", "NOT REFUSED: after_next is still proved"),
@@ -92,6 +123,23 @@ EDITS = {
     "takes_a_third": ("old: number / 2\nnew: number / 3", "NOT REFUSED: half is still proved"),
     "takes_another_step": ("old: STEP: u16 = 2\nnew: STEP: u16 = 1", "BAD EDIT: mutants.edits:31: it changes no body"),
     "takes_longer_steps": ("at: next\nold: STEP: u16 = 2\nnew: STEP: u16 = 3", "refused: src/lib.rt"),
+    "takes_longer_steps_below": (
+        "at: after_next\nold: STEP: u16 = 2\nnew: STEP: u16 = 3",
+        "BAD EDIT: the check refuses no goal of after_next, but says: note: src/lib.rt",
+    ),
+    "walks_a_step_more": ("old: walked + 1\nnew: walked + 2", "refused: ./proofs/walk/Answers.antt"),
+    "walks_as_far": (
+        "old: 0..next(number)\nnew: 0..next(number).saturating_sub(0)",
+        "BAD EDIT: this says little of the contract: ./proofs/walk/Answers.antt",
+    ),
+    "walks_as_far_by_another_name": (
+        "old: let mut walked = 0\nnew: let mut went = 0\nold: walked = i + 1\nnew: went = i + 1\nold: walked + 1\nnew: went + 1",
+        "BAD EDIT: this says little of the contract: ./proofs/walk/Invariants.antt",
+    ),
+    "walks_less_far": (
+        "old: 0..next(number)\nnew: 0..next(number).saturating_sub(1)",
+        "BAD EDIT: this says little of the contract: ./proofs/walk/Answers.antt",
+    ),
 }
 
 
@@ -102,6 +150,8 @@ class Reading(unittest.TestCase):
         self.assertEqual([f"pairs::size::{it}" for it in wanted], [it.path("src/pairs/size.rt") for it in found])
         self.assertEqual("    #[inline]", SOURCE.split("\n")[found[0].head])
         self.assertEqual(["    Pair(1, 2)"], found[4].lines)
+        self.assertEqual(["law"], [it.name for it in found if it.is_law])
+        self.assertFalse(edits.functions_of("/// It\n    /// ensures nothing.\npub fn none()\n{}\n")[0].is_law)
 
     def test_impls_are_named_by_their_types(self):
         for head, name in {
@@ -179,30 +229,58 @@ class Answers(unittest.TestCase):
         ):
             self.assertEqual(refuses, self.answer(*said).is_refused, said)
 
+    def told(self, line, at=("after_next",), goals=(), **how):
+        """The goal by which a mutant of the crate `steps` is refused, or why it is not."""
+        text = f"{STEPS}pub fn law()\n    ensures {{ 1 ≡ 1 }}\n{{}}\n"
+        functions = {path: ("src/lib.rt", it) for path, it in edits.functions_in("src/lib.rt", text).items()}
+        mutant = mutants.Mutant.__new__(mutants.Mutant)
+        mutant.goals, mutant.seats, mutant.is_of_specs = goals, at, how.pop("is_of_specs", False)
+        try:
+            return self.answer(line).refusal(mutant, functions, **how)[1]
+        except edits.EditError as error:
+            return str(error)
+
     def test_a_function_is_refused_by_a_goal_of_its_own(self):
-        functions = {path: ("src/lib.rt", it) for path, it in edits.functions_in("src/lib.rt", STEPS).items()}
-        called = "`c.from` is not in scope"
-        for line, goals, why in (
-            (self.NOTE, [], ""),
-            (f"{self.NOTE} (`returns-in-2`)", ["returns-in-2", "returns-in-3"], ""),
+        little = "this says little of the contract: ./proofs/after_next"
+        for line, goals, wanted in (
+            (f"{self.NOTE} (`returns-in-2`)", [], "returns-in-2"),
+            (f"{self.NOTE} (`returns-in-2`)", ["returns-in-2", "returns-in-3"], "returns-in-2"),
             (f"{self.NOTE} (`returns-in-21`)", ["returns-in-2"], "not by returns-in-2, but src/lib.rt:12"),
-            (f"{self.ERROR} `returns`: the two types differ", [], ""),
+            (f"{self.NOTE} (`overflow_add`): help: it calls `next`", [], "this says little of the contract: src/lib.rt:12"),
+            (self.NOTE, [], "this says little of the contract: src/lib.rt:12"),
+            (f"{self.ERROR} `returns`: the two types differ", [], "returns"),
             (f"{self.ERROR} `returns`: the two types differ", ["returns-in-2"], "not by returns-in-2, but ./proofs"),
-            (f"{self.ERROR} `returns`: {called}", [], "this says little of the contract: ./proofs/after_next"),
-            (f"{self.ERROR} `returns`: record `A`\n  has no field `b`", [], "this says little of the contract: ./proofs"),
-            ("./proofs/next/Answers.antt:3:5: error: `returns`: they differ", [], "the check says nothing of after_next"),
-            (self.NOTE.replace(":12:", ":6:"), [], "the check says nothing of after_next"),
-            ("note: src/lib.rt:12:1: it calls `steps::next`, which is not proved", [], "the check says nothing"),
-            ("fn steps::after_next: no proof: expected answers; `search` did not prove `returns`", [], ""),
-            ("fn steps::after_next_2: no proof: `search` did not prove `returns`", [], "the check says nothing"),
+            ("./proofs/next/Answers.antt:3:5: error: `returns`: they differ", [], "the check refuses no goal of after_next"),
+            (f"{self.NOTE} (`returns`)".replace(":12:", ":6:"), [], "the check refuses no goal of after_next"),
+            ("note: src/lib.rt:12:1: it calls `steps::next`, which is not proved", [], "the check refuses no goal"),
+            ("fn steps::after_next: no proof: expected answers; `search` did not prove `a`, `b`", ["b"], "b"),
+            ("fn steps::after_next_2: no proof: `search` did not prove `returns`", [], "the check refuses no goal"),
+            (f"{self.ERROR} `returns`: `c.from` is not in scope", [], little),
+            (f"{self.ERROR} `returns`: record `A`\n  has no field `b`", [], little),
+            (f"{self.ERROR} `returns-in-2`: module `Goals` has no `returns-in-2` that can be named from here", [], little),
+            (f"{self.ERROR} 1 declaration that depends on `ends`, which was rejected, was not checked: returns", [], little),
+            (f"{self.ERROR} 2 declarations that depend on `A`, which was not admitted, were not checked: a, b", [], little),
+            (f"{self.ERROR} `ends`: `c.b` is not in scope\n{self.ERROR} `returns`: the two types differ", [], "returns"),
+            (f"{self.ERROR.replace('Answers', 'Invariants')} `invariant-loop-i`: the two types differ", [], little),
         ):
-            mutant = mutants.Mutant.__new__(mutants.Mutant)
-            mutant.goals, mutant.seats = goals, ["after_next"]
-            found, told = self.answer(line).in_place(mutant, functions)
-            self.assertEqual(not why, found is not None, line)
-            self.assertTrue(told.startswith(why), told)
-        self.assertEqual("returns-in-2", checks.goal_of(f"{self.NOTE} (`returns-in-2`)"))
-        self.assertEqual("src/lib.rt: it is not proved", checks.goal_of("src/lib.rt:12:1: it is not proved"))
+            self.assertTrue(self.told(line, goals=goals).startswith(wanted), (line, self.told(line, goals=goals)))
+
+    def test_alone_a_law_and_a_lemma_that_is_named_count_too(self):
+        law = self.NOTE.replace(":12:", f":{STEPS.count(chr(10)) + 1}:") + " (`returns`)"
+        lemma = "./proofs/Steps.antt:3:5: error: `shorter`: the two types differ\nfn steps::after_next: not proved"
+        of_specs = {"is_alone": True, "is_of_specs": True}
+        none = "the check refuses no goal of after_next"
+        for line, goals, how, wanted in (
+            (law, [], {}, none),
+            (law, [], {"is_alone": True}, "returns"),
+            (f"{self.NOTE} (`returns`)".replace(":12:", ":6:"), [], {"is_alone": True}, none),
+            (lemma, [], of_specs, "this says little of the contract: ./proofs/Steps"),
+            (lemma, ["shorter"], of_specs, "shorter"),
+            (lemma, ["shorter"], {"is_alone": True}, none),
+            (lemma.replace("not proved", "proved"), ["shorter"], of_specs, none),
+            (lemma.replace("the two types differ", "`x` has no field `y`"), ["shorter"], of_specs, "this says little"),
+        ):
+            self.assertTrue(self.told(line, goals=goals, **how).startswith(wanted), self.told(line, goals=goals, **how))
 
 
 class Keeping(unittest.TestCase):
@@ -213,27 +291,58 @@ class Keeping(unittest.TestCase):
         with tempfile.TemporaryDirectory(prefix="mutants-test-") as root:
             for crate in ("low", "steps", "other"):
                 write(f"{root}/crates/{crate}/src/lib.rt", STEPS)
-            write(f"{root}/crates.txt", "steps: low\nlow:\nother: low\n")
-            kept = verdicts.Verdicts(mutants.crates_of(root, "kit")["steps"], {"logic": "1"})
+            write(f"{root}/crates/steps/src/lib.rt", f"#[cfg(test)]\nmod tests;\n{STEPS}")
+            write(f"{root}/crates.txt", "steps: low\nlow: itoa\nother: low\n")
+            for crate in ("std", "itoa", "io"):
+                write(f"{root}/kit/rlibs/{crate}.rlib/format", f"rattle-build 1\nneeds core 7{crate}\n")
+            kept = verdicts.Verdicts(self.steps(root), {"logic": "1"})
             kept.write({"half": (self.EDIT, "returns")}, 3)
             change(root)
-            found = verdicts.Verdicts(mutants.crates_of(root, "kit")["steps"], judged_by or {"logic": "1"})
+            found = verdicts.Verdicts(self.steps(root), judged_by or {"logic": "1"})
             return found.goal_of("half", self.EDIT), found.changed, bool(found.wrong)
+
+    @staticmethod
+    def steps(root):
+        verdicts.sum_of_kit_crate.cache_clear()
+        return mutants.crates_of(root, f"{root}/kit")["steps"]
 
     def test_a_verdict_holds_while_nothing_changes_on_which_it_depends(self):
         for path, changed in {
-            "steps/stdin": [],
-            "steps/src/tests/one.rt": [],
-            "other/src/lib.rt": [],
-            "steps/src/lib.rt": ["steps"],
-            "low/proofs/More.antt": ["low"],
+            "crates/steps/stdin": [],
+            "crates/steps/src/tests.rt": [],
+            "crates/steps/src/tests/one.rt": [],
+            "crates/steps/src/tests_of_steps.rt": ["steps"],
+            "crates/low/src/tests.rt": ["low"],
+            "crates/low/src/tests/one.rt": ["low"],
+            "crates/other/src/lib.rt": [],
+            "crates/steps/src/lib.rt": ["steps"],
+            "crates/low/proofs/More.antt": ["low"],
+            "kit/rlibs/std.rlib/lang/src/lib.rt": ["std"],
+            "kit/rlibs/itoa.rlib/lang/antt/specs/One.antt": ["itoa"],
+            "kit/rlibs/itoa.rlib/lang/antt/made.json": [],
+            "kit/rlibs/io.rlib/lang/src/lib.rt": [],
         }.items():
-            found = self.kept(lambda root, it=path: write(f"{root}/crates/{it}", "more"))
+            found = self.kept(lambda root, it=path: write(f"{root}/{it}", "more"))
             self.assertEqual((None if changed else "returns", changed, False), found, path)
-        uses = "steps: low io\nlow:\nother: low\n"
-        self.assertEqual((None, ["steps"], False), self.kept(lambda root: write(f"{root}/crates.txt", uses)))
+        uses = "steps: low io\nlow: itoa\nother: low\n"
+        self.assertEqual((None, ["steps", "io"], False), self.kept(lambda root: write(f"{root}/crates.txt", uses)))
+        for line, changed in {"rattle-build 2\nneeds core 7std": [], "rattle-build 1\nneeds core 8": ["std"]}.items():
+            path = "kit/rlibs/std.rlib/format"
+            found = self.kept(lambda root, it=line, at=path: write(f"{root}/{at}", f"{it}\n"))
+            self.assertEqual(changed, found[1], line)
+
+    def test_a_verdict_holds_while_the_same_prover_and_tools_judge(self):
         self.assertEqual((None, ["logic"], False), self.kept(judged_by={"logic": "2"}))
         self.assertEqual(16, len(verdicts.judges()["tools"]))
+        for tool in verdicts.TOOLS:
+
+            def changed(path, tool=tool, read=verdicts.bytes_of):
+                return b"" if path.endswith(f"/{tool}") else read(path)
+
+            with unittest.mock.patch.object(verdicts, "bytes_of", changed):
+                found = verdicts.judges()["tools"]
+            self.assertNotEqual(verdicts.judges()["tools"], found, tool)
+        self.assertIn("verdicts.py", verdicts.TOOLS)
 
     def test_a_file_of_verdicts_whose_lines_were_changed_holds_nothing(self):
         changes = {"returns": "ends", "refused half": "refused whole", "\nsum ": "\n\nsum ", "seconds 3": "seconds 4"}
@@ -254,13 +363,14 @@ class Trying(unittest.TestCase):
     def test_mutants_of_a_small_crate(self):
         with tempfile.TemporaryDirectory(prefix="mutants-test-") as root:
             write(f"{root}/crates.txt", "steps:  # no library but std\n")
-            write(f"{root}/crates/steps/src/lib.rt", STEPS)
+            for path, text in {"src/lib.rt": STEPS, **PROOFS}.items():
+                write(f"{root}/crates/steps/{path}", text)
             self.list(root, EDITS)
             status, lines = self.run_on(root)
             told = dict(it.split(": ", 1) for it in lines if it.startswith("steps/") and "is tried alone" not in it)
             for name, (_, wanted) in EDITS.items():
                 self.assertTrue(told[f"steps/{name}"].startswith(wanted), f"{name}: {told[f'steps/{name}']}")
-            self.assertEqual((1, "3 passed, 5 failed"), (status, lines[-1]))
+            self.assertEqual((1, "4 passed, 9 failed"), (status, lines[-1]))
             self.list(root, [name for name, (_, said) in EDITS.items() if said.startswith("refused")])
             self.keeps_what_was_refused(root)
             self.tells_what_is_wrong(root)
@@ -268,7 +378,7 @@ class Trying(unittest.TestCase):
     def keeps_what_was_refused(self, root):
         """A run after that, of the mutants that were refused, checks nothing; CI checks those that it chooses."""
         with unittest.mock.patch.object(mutants, "check", side_effect=AssertionError("a check")):
-            self.assertEqual("3 passed, 0 failed", self.run_on(root)[1][-1])
+            self.assertEqual("4 passed, 0 failed", self.run_on(root)[1][-1])
             with self.assertRaisesRegex(AssertionError, "a check"), self.choosing("_one"):
                 self.run_on(root, commit="1")
 
@@ -279,7 +389,7 @@ class Trying(unittest.TestCase):
             status, lines = self.run_on(root, commit="1")
         wrong = "steps/steps_by_one: NOT REFUSED: next is still proved with this edit; its verdict in mutants.verdicts is"
         self.assertTrue(any(it.startswith(wrong) and "run tools/mutants.py steps" in it for it in lines), lines)
-        self.assertEqual((1, "2 passed, 1 failed"), (status, lines[-1]))
+        self.assertEqual((1, "3 passed, 1 failed"), (status, lines[-1]))
         path = f"{root}/crates/steps/mutants.verdicts"
         write(path, verdicts.bytes_of(path).decode().replace("refused steps_by_one", "refused steps_by_two"))
         status, lines = self.run_on(root, commit="1")
@@ -299,7 +409,7 @@ class Trying(unittest.TestCase):
     @staticmethod
     def run_on(root, **how):
         with contextlib.redirect_stdout(io.StringIO()) as said:
-            status = mutants.try_mutants(root, [], mutants.kit_folder(), mutants.How(**how), 1)
+            status = mutants.try_mutants(root, [], mutants.kit_folder(), mutants.How(**how))
         return status, said.getvalue().splitlines()
 
 

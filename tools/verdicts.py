@@ -1,6 +1,7 @@
 """The file mutants.verdicts of a crate, which tells what the prover refused, so that CI need not try everything again.
 
     depends logic dac8208d650f15bf           what the verdicts depend on, each with a sum: the prover's logic, these tools,
+    depends std 6f0d2c4b8a91e357             each crate of the kit that this crate or one below it uses,
     depends link_base 1f0c83d5a2e96b47       and each crate from the lowest to this one, without its tests
     seconds 312                              of a processor, when all were tried last
     refused NAME 9b2d41c07e6f5a38 GOAL       a mutant, a sum of its edit, and the goal that was not proved
@@ -8,12 +9,15 @@
 
 A verdict holds as long as all that it depends on, and its edit, have these sums.
 """
+import functools
 import hashlib
 import os
 import re
 import subprocess
 
-TOOLS = ("mutants.py", "edits.py", "checks.py", "crates.py")
+TOOLS = ("mutants.py", "edits.py", "checks.py", "crates.py", "verdicts.py")
+# A module of tests in a crate's root, which a check leaves out.
+TESTS = re.compile(r"^#\[cfg\(test\)\]\n(?:#\[.*\]\n)*(?:pub(?:\([^)]*\))? )?mod (\w+);$", re.MULTILINE)
 HEAD = "# tools/mutants.py writes this file: what each mutant of this crate was refused by. Its docstring says when.\n"
 
 
@@ -40,9 +44,28 @@ def judges():
 
 
 def sum_of_crate(crate):
-    """A sum of the crate's own: its line of crates.txt and its files."""
-    files = [it for it in crate.files() if not it.startswith("src/tests")]
+    """A sum of the crate's own: its line of crates.txt and its files, without those of modules of tests."""
+    root = f"{crate.folder}/src/{'main' if crate.is_program else 'lib'}.rt"
+    tests = TESTS.findall(bytes_of(root).decode()) if os.path.isfile(root) else []
+    left_out = tuple(end for it in tests for end in (f"src/{it}.rt", f"src/{it}/"))
+    files = [it for it in crate.files() if not it.startswith(left_out)]
     return sum_of(crate.line, *(text for it in files for text in (it, bytes_of(f"{crate.folder}/{it}"))))
+
+
+@functools.lru_cache(None)
+def sum_of_kit_crate(rlib):
+    """A sum of a library of the kit: its sources, with contracts, definitions and proofs, and the sums that it states of the
+    libraries that it needs. The other files are made of these, are a hundred times as large, and name the build of the
+    compiler, which can change where no contract does."""
+    files = sorted(f"{at}/{it}" for at, _, names in os.walk(f"{rlib}/lang") for it in names if it.endswith((".rt", ".antt")))
+    needs = re.findall(rb"^needs .*", bytes_of(f"{rlib}/format"), re.MULTILINE) if os.path.isfile(f"{rlib}/format") else []
+    return sum_of(*(text for it in files for text in (os.path.relpath(it, rlib), bytes_of(it))), *needs)
+
+
+def sums_of_kit(crate):
+    """The sums of the kit's libraries that the crate, or a crate below it, uses."""
+    names = sorted({name for it in [*crate.below(), crate] for name in it.of_kit})
+    return {it: sum_of_kit_crate(f"{crate.kit}/rlibs/{it}.rlib") for it in names}
 
 
 class Verdicts:
@@ -51,7 +74,8 @@ class Verdicts:
 
     def __init__(self, crate, judged_by):
         self.path = f"{crate.folder}/mutants.verdicts"
-        self.depends = {**judged_by, **{it.name: sum_of_crate(it) for it in [*crate.below(), crate]}}
+        own = {it.name: sum_of_crate(it) for it in [*crate.below(), crate]}
+        self.depends = {**judged_by, **sums_of_kit(crate), **own}
         self.refused, self.seconds, self.changed, self.wrong = {}, 0, ["mutants.verdicts"], ""
         if os.path.exists(self.path):
             self.read(bytes_of(self.path).decode(errors="replace"))
