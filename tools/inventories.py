@@ -21,8 +21,8 @@ LISTS = [
 ]
 PLACES = [
     ("docs/ARCHITECTURE.md", r"runs/(\w+)/.+", "folder of runs"),
-    ("tools/README.md", r"tools/(?!README)([\w.]+)", "file"),
-    ("extra/README.md", r"extra/(?!README)([\w.]+)(?:/.+)?", "file or folder"),
+    ("CONTRIBUTING.md", r"tools/([\w.]+)", "file"),
+    ("CONTRIBUTING.md", r"extra/([\w.]+)(?:/.+)?", "file or folder"),
     ("bench/README.md", r"bench/(?!README)([\w.]+)(?:/.+)?", "file or folder"),
 ]
 TRUSTED = "docs/proofs/ASSURANCE.md"
