@@ -58,7 +58,7 @@ PAGES = re.compile(r"(README|CONTRIBUTING|CHANGELOG)\.md|docs/(proofs/)?[^/]+\.m
 BUDGETS = {
     "README.md": 1300, "CONTRIBUTING.md": 1990, "bench/README.md": 720, "docs/c.md": 1250, "docs/ARCHITECTURE.md": 1700,
     "docs/MAP.md": 80, "docs/json.md": 1150,
-    "docs/messages.md": 2000, "docs/programs.md": 2050, "docs/python.md": 900, "docs/rattle.md": 1540,
+    "docs/messages.md": 740, "docs/programs.md": 2080, "docs/python.md": 900, "docs/rattle.md": 1830,
     "docs/rust.md": 900, "docs/proofs/ASSURANCE.md": 1150, "docs/proofs/CLAIMS.md": 2880,
     "docs/DECISIONS.md": 5350, "docs/DIFFERENCES.md": 2150, "docs/proofs/MODEL.md": 3650,
 }  # fmt: skip
