@@ -11,7 +11,7 @@ LISTS = [
     ("docs/ARCHITECTURE.md", r"crates\.txt", r"^(\w+)[^:\n#]*:", "crate"),
     ("CONTRIBUTING.md", r"\.ci/run", r"^ *part (?:tools/)?([\w.]+)", "part of CI"),
     ("docs/c.md", r"crates/nlroute_ffi/include/nlroute\.h", r"^(?:ptrdiff_t|bool|uint32_t) (nlroute_\w+)\(", "function"),
-    ("docs/messages.md", r"crates/link_messages/src/(?!laws).*\.rt", r"^pub fn (\w+)", "function"),
+    ("docs/rattle.md", r"crates/link_messages/src/(?!laws).*\.rt", r"^pub fn (\w+)", "function"),
     (
         "docs/proofs/CLAIMS.md",
         r"crates/(?!refusals/|library_tests/|list_tests/)\w+/src/(?!.*\btests\b).*\.rt",
@@ -21,8 +21,8 @@ LISTS = [
 ]
 PLACES = [
     ("docs/ARCHITECTURE.md", r"runs/(\w+)/.+", "folder of runs"),
-    ("tools/README.md", r"tools/(?!README)([\w.]+)", "file"),
-    ("extra/README.md", r"extra/(?!README)([\w.]+)(?:/.+)?", "file or folder"),
+    ("CONTRIBUTING.md", r"tools/([\w.]+)", "file"),
+    ("CONTRIBUTING.md", r"extra/([\w.]+)(?:/.+)?", "file or folder"),
     ("bench/README.md", r"bench/(?!README)([\w.]+)(?:/.+)?", "file or folder"),
 ]
 TRUSTED = "docs/proofs/ASSURANCE.md"
