@@ -1,6 +1,6 @@
 #!/usr/bin/env python3
 """Makes the allocations of calls of the libraries fail, one after another, and those of `nlroute`, and of `nlshow` with
-a wrong argument, `--version` or `--format json`.
+a wrong argument, `--version` or `--format json`, also for files that it cannot open or read.
 
 usage: tools/refusals.py
 
@@ -59,7 +59,7 @@ class Refuser:
         is_call = words[0] == "refusals"
         names = {"LD_PRELOAD": self.malloc, "REFUSE": str(place), "REFUSE_TO": str(tells)}
         names |= {"REFUSE_MARK": MARK} if is_call else {}
-        how = {"executable": PROGRAMS[words[0]], "env": names, "pass_fds": [tells]}
+        how = {"executable": PROGRAMS[words[0]], "env": names, "pass_fds": [tells], "cwd": ROOT}
         # (a file and not a pipe: each read but the last gives as much as it asks for, so buffers grow alike in each run)
         with tempfile.TemporaryFile() as file:
             file.write(b"" if isinstance(given, int) else given)
@@ -132,17 +132,21 @@ def runs_of_calls():
 
 
 def runs_of_programs(folder):
-    """The lines that the programs print without a report. `nlroute` makes no allocation but those for its arguments;
-    `nlshow` makes others, in `clap` and for the lines. Reading from a folder fails."""
+    """The lines that the programs print for no list. `nlroute` makes no allocation but those for its arguments, for what it
+    reads, and at most three for its report; `nlshow` makes others, in `clap` and for the lines. Reading from a folder
+    fails."""
     unknown = "error: unexpected argument '-x' found\n"
     unknown += "usage: nlshow [--format plain|debug|json] [--check] [--raw] [FILE].. | --help | --version\n"
     usage = "usage: nlroute FAMILY\n"
+    no_hex, long = b"zz", b"0" * 262_145
     for words, given, text, status, others in (
         (["nlroute"], b"", usage, 2, 0),
         (["nlroute", "tap"], b"", usage, 2, 0),
         (["nlroute", "tap", "dsa"], b"", usage, 2, 0),
         (["nlroute", "--version"], b"", usage, 2, 0),
         (["nlroute", "dsa"], folder, "read fault\n", 5, 0),
+        (["nlroute", "dsa"], no_hex, "bad hex\n", 2, for_reading(no_hex) + 3),
+        (["nlroute", "dsa"], long, "input too long\n", 2, for_reading(long) + 1),
         (["nlshow", "-x"], b"", unknown, 2, 22),
         (["nlshow", "--version"], b"", "nlshow 0.3.0\n", 0, 9),
     ):
@@ -162,6 +166,16 @@ def runs_of_json():
     yield words, b"tap\ndsa 080001002a000000\n", printed(fronts[-1], 1), wanting, for_arguments(words) + 35
 
 
+def runs_of_files():
+    """`nlshow` as JSON for a file that is not there, and for a folder, which cannot be read. It prints nothing if an allocation
+    fails after its arguments are read. The status is then 4, but 5 once a read has failed."""
+    for name, text, status in (("none", "cannot open", 4), (".", "read fault", 5)):
+        words = ["nlshow", "--format", "json", name]
+        document = f'{{"file":"{name}","error":{{"at":null,"text":"{text}"}},"ok":false}}\n'
+        wanting = [NO_MEMORY, printed("", 4), printed("", status)]
+        yield words, b"", printed(document, 5), wanting, for_arguments(words) + 38
+
+
 def main():
     lacking = [it for it in PROGRAMS.values() if not os.path.isfile(it)]
     if lacking or not shutil.which("cc"):
@@ -175,7 +189,7 @@ def main():
         subprocess.run(["cc", *flags, "-o", malloc, f"{ROOT}/tools/refusals.c"], check=True)
         refuser = Refuser(malloc)
         folder = os.open(ROOT, os.O_RDONLY)
-        for words, given, *wanted in [*runs_of_calls(), *runs_of_programs(folder), *runs_of_json()]:
+        for words, given, *wanted in [*runs_of_calls(), *runs_of_programs(folder), *runs_of_json(), *runs_of_files()]:
             wrong = refuser.refuse_each(words, given, *wanted)
             results.append(not wrong)
             if wrong:

@@ -185,23 +185,29 @@ static void values(void) {
     check(is_found && !memcmp(&found, v + 3, sizeof found), "the querier is found");
 }
 
-/* Checks the kernel's structs: IFLA_CAN_BITTIMING of 250 kbit/s, and IFLA_CAN_BITTIMING_CONST of a controller. */
+/* Checks the kernel's structs: IFLA_CAN_BITTIMING of 250 kbit/s, and IFLA_CAN_BITTIMING_CONST of a controller. Each of
+   their eight numbers differs from the others. */
 static void timing(void) {
-    uint8_t can[88] = {36, 0, 1, 0, 0x90, 0xD0, 3, 0, 0x6B, 3};
-    const uint8_t limits[20] = {52, 0, 2, 0, 'm', 'c', 'p', '2', '5', '1', 'x'};
-    can[32] = 2;
+    const uint8_t timing[4] = {36, 0, 1, 0}, limits[20] = {52, 0, 2, 0, 'm', 'c', 'p', '2', '5', '1', 'x'};
+    const uint32_t rates[8] = {250000, 875, 125, 12, 15, 4, 1, 2}, segments[8] = {3, 16, 2, 8, 4, 1, 64, 5};
+    uint8_t can[88];
+    memcpy(can, timing, sizeof timing);
+    memcpy(can + 4, rates, sizeof rates);
     memcpy(can + 36, limits, sizeof limits);
-    can[56] = 3;
-    can[84] = 1;
+    memcpy(can + 56, segments, sizeof segments);
     struct nlroute_value v[2];
     struct can_bittiming bits;
     struct can_bittiming_const most;
     check(nlroute_values(NLROUTE_CAN, can, sizeof can, v, 2) == 2, "two structs");
     check(!nlroute_can_bittiming(v, can, sizeof can, &bits), "a bit timing");
-    check(bits.bitrate == 250000 && bits.sample_point == 875 && bits.sjw == 0 && bits.brp == 2, "its fields");
+    check(bits.bitrate == 250000 && bits.sample_point == 875 && bits.tq == 125, "its bit rate, sample point and quantum");
+    check(bits.prop_seg == 12 && bits.phase_seg1 == 15 && bits.phase_seg2 == 4, "its segments");
+    check(bits.sjw == 1 && bits.brp == 2, "its jump width and prescaler");
     check(!nlroute_can_bittiming_const(v + 1, can, sizeof can, &most), "the limits of a bit timing");
     check(!strcmp(most.name, "mcp251x"), "their name");
-    check(most.tseg1_min == 3 && most.tseg1_max == 0 && most.brp_inc == 1, "their fields");
+    check(most.tseg1_min == 3 && most.tseg1_max == 16, "the limits of the first segment");
+    check(most.tseg2_min == 2 && most.tseg2_max == 8 && most.sjw_max == 4, "of the second segment and the jump width");
+    check(most.brp_min == 1 && most.brp_max == 64 && most.brp_inc == 5, "of the prescaler");
     check(nlroute_can_bittiming(v + 1, can, sizeof can, &bits) == NLROUTE_BAD_FORM, "-7 for limits");
     check(nlroute_can_bittiming(v, can, 35, &bits) == NLROUTE_BAD_OCTETS, "-10 for bytes that are cut off");
     check(!strcmp(nlroute_refusal_text(NLROUTE_BAD_FORM), "the value has another form"), "a code in words");
@@ -288,6 +294,9 @@ static void asking(void) {
     check(row.form == NLROUTE_FORM_NAMED && row.width == 1 && !row.is_list && row.flags == 0, "the row of an enum");
     check(!nlroute_row(NLROUTE_BOND, NLROUTE_IFLA_BOND_ARP_IP_TARGET, 3, 1, &row), "an address has a row");
     check(row.form == NLROUTE_FORM_IPV4 && row.width == 4, "the row of an address");
+    struct nlroute_row list;
+    check(!nlroute_row(NLROUTE_BRIDGE, NLROUTE_IFLA_BR_MCAST_QUERIER_STATE, 0, 0, &list), "a list has a row");
+    check(list.width == 0 && list.flags == 0x8000 && list.form == NLROUTE_FORM_LIST && list.is_list == 1, "its numbers");
     ptrdiff_t no_element = nlroute_row(NLROUTE_BOND, NLROUTE_IFLA_BOND_MODE, 0, 1, &row);
     check(no_element == NLROUTE_BAD_ELEMENT && row.width == 4, "-9 for an element of a number");
     check(nlroute_kind_of_in(NLROUTE_BOND, NLROUTE_IFLA_BOND_AD_INFO, "IFLA_BOND_AD_INFO_NUM_PORTS", 27) == 2, "an element");
@@ -482,6 +491,11 @@ static void faults(void) {
     check(!answer && first.at == 0 && first.place == NLROUTE_ELEMENT_PAYLOAD, "a mapping has a fault");
     check(first.kind == 3 && first.inner == 1, "both its types");
     check(first.cause == NLROUTE_WRONG_LENGTH && first.first == 8 && first.second == 7, "its length is wrong");
+    /* seven numbers that differ: IFLA_BOND_AD_INFO_PARTNER_MAC of seven bytes, in the second attribute */
+    const uint8_t bond[24] = {5, 0, 1, 0, 4, 0, 0, 0, 15, 0, 23, 0, 11, 0, 5, 0, 1, 2, 3, 4, 5, 6, 7, 0};
+    answer = nlroute_first_fault(NLROUTE_BOND, bond, 24, &first);
+    check(!answer && first.at == 8 && first.place == 3 && first.kind == 23 && first.inner == 5, "a MAC address has a fault");
+    check(first.cause == 4 && first.first == 6 && first.second == 7, "it has a byte more");
 }
 
 static bool is_reported(const char *text, const char *wanted, uint8_t status) {

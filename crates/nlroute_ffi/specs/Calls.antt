@@ -104,7 +104,8 @@ StreamingAnswers s old new table (Err refusal) = ⊥
 
 -- ---- the report
 
--- the first n bytes of the buffer are the program's output for the input, and `status` is its exit status; or why not
+-- the first n bytes of the buffer are the program's output for the input, and `status` is its exit status; or why not.
+-- Memory: for every input, as each output is an allocated text before it is copied to the buffer
 abbrev pub ReportAnswers : List ℕ → List ℕ → List ℕ → ℕ → Table → Result ℕ Refusal → Type 0
 ReportAnswers text old new status table (Ok n) = (out : List ℕ) × Reports table text out status × StandsInFront old new out n
 ReportAnswers text old new status table (Err Memory) = Unit {0}

@@ -170,7 +170,15 @@ fn counts(rt: HostRuntime) {
 
 #[test]
 fn faults(rt: HostRuntime) {
-    let rows: [(u32, &[u8], [u64; 7]); 9] = [
+    let rows: [(u32, &[u8], [u64; 7]); 10] = [
+        // seven numbers that differ: `IFLA_BOND_AD_INFO_PARTNER_MAC` has seven bytes
+        (
+            1,
+            &[
+                5, 0, 1, 0, 4, 0, 0, 0, 15, 0, 23, 0, 11, 0, 5, 0, 1, 2, 3, 4, 5, 6, 7,
+            ],
+            [8, 3, 23, 5, 4, 6, 7],
+        ),
         (7, &[8, 0, 1, 0, 42, 0, 0, 0, 0], [8, 0, 0, 0, 1, 1, 0]),
         (7, &[4, 0, 9, 0, 3, 0, 1, 0], [4, 0, 0, 0, 2, 3, 0]),
         (7, &[9, 0, 1, 0, 42, 0, 0, 0], [0, 0, 0, 0, 3, 9, 8]),
@@ -309,18 +317,32 @@ fn values_looked_up_beside_an_error(rt: HostRuntime) {
     }
 }
 
+/// Five bytes, then the limits of a bit timing: the name `m`, and the `u32`s 257 to 264. These are also a bit timing.
+const TIMINGS: [u8; 53] = [
+    0, 0, 0, 0, 0, 109, 0, 0, 0, 0, 0, 0, 0, 0, 0, 0, 0, 0, 0, 0, 0, 1, 1, 0, 0, 2, 1, 0, 0, 3, 1,
+    0, 0, 4, 1, 0, 0, 5, 1, 0, 0, 6, 1, 0, 0, 7, 1, 0, 0, 8, 1, 0, 0,
+];
+
+/// `IFLA_CAN_BITTIMING`, whose payload is the last 32 bytes of `TIMINGS`.
+const TIMING_VALUE: Entry = Entry {
+    kind: 1,
+    form: 15,
+    length: 32,
+    offset: 21,
+    ..BLANK
+};
+
+/// `IFLA_CAN_BITTIMING_CONST`, whose payload is the last 48 bytes of `TIMINGS`.
+const LIMITS_VALUE: Entry = Entry {
+    kind: 2,
+    form: 16,
+    length: 48,
+    offset: 5,
+    ..BLANK
+};
+
 #[test]
-fn structs_of_a_can_controller(rt: HostRuntime) {
-    let mut octets = [0u8; 52];
-    octets[4] = 9;
-    octets[20] = 1;
-    octets[48] = 8;
-    let timing_value = Entry {
-        form: 15,
-        length: 32,
-        offset: 20,
-        ..BLANK
-    };
+fn a_bit_timing(rt: HostRuntime) {
     let mut timing = BitTiming {
         bitrate: 0,
         sample_point: 0,
@@ -331,16 +353,22 @@ fn structs_of_a_can_controller(rt: HostRuntime) {
         sjw: 0,
         brp: 0,
     };
-    assert!(rt; nlroute_can_bittiming(&timing_value, &octets, &mut timing) == 0);
-    assert!(rt; timing.bitrate == 1 && timing.brp == 8);
-    assert!(rt; nlroute_can_bittiming(&BLANK, &octets, &mut timing) == -7);
-    assert!(rt; nlroute_can_bittiming(&timing_value, &octets[..51], &mut timing) == -10);
-    let limits_value = Entry {
-        form: 16,
-        length: 48,
-        offset: 4,
-        ..BLANK
-    };
+    assert!(rt; nlroute_can_bittiming(&TIMING_VALUE, &TIMINGS, &mut timing) == 0);
+    assert!(rt; timing.bitrate == 257 && timing.sample_point == 258 && timing.tq == 259);
+    assert!(rt; timing.prop_seg == 260 && timing.phase_seg1 == 261 && timing.phase_seg2 == 262);
+    assert!(rt; timing.sjw == 263 && timing.brp == 264);
+    assert!(rt; nlroute_can_bittiming(&BLANK, &TIMINGS, &mut timing) == -7);
+    assert!(rt; nlroute_can_bittiming(&TIMING_VALUE, &TIMINGS[..52], &mut timing) == -10);
+    assert!(rt; timing.bitrate == 257 && timing.brp == 264);
+    let mut out = [0xFF; 128];
+    let answer = nlroute_text(6, &TIMING_VALUE, &TIMINGS, &mut out);
+    let wanted =
+        "bitrate 257 bit/s sample_point 258 tq 259 ns prop_seg 260 phase_seg1 261 phase_seg2 262 sjw 263 brp 264";
+    assert!(rt; holds_text(answer, &out, wanted));
+}
+
+#[test]
+fn limits_of_a_bit_timing(rt: HostRuntime) {
     let mut limits = TimingLimits {
         name: [1; 16],
         tseg1_min: 0,
@@ -352,10 +380,18 @@ fn structs_of_a_can_controller(rt: HostRuntime) {
         brp_max: 0,
         brp_inc: 0,
     };
-    assert!(rt; nlroute_can_bittiming_const(&limits_value, &octets, &mut limits) == 0);
-    let is_name = limits.name == [9, 0, 0, 0, 0, 0, 0, 0, 0, 0, 0, 0, 0, 0, 0, 0];
-    assert!(rt; is_name && limits.tseg1_min == 1 && limits.brp_inc == 8);
-    assert!(rt; nlroute_can_bittiming_const(&timing_value, &octets, &mut limits) == -7);
+    assert!(rt; nlroute_can_bittiming_const(&LIMITS_VALUE, &TIMINGS, &mut limits) == 0);
+    assert!(rt; limits.name == [109, 0, 0, 0, 0, 0, 0, 0, 0, 0, 0, 0, 0, 0, 0, 0]);
+    assert!(rt; limits.tseg1_min == 257 && limits.tseg1_max == 258 && limits.tseg2_min == 259);
+    assert!(rt; limits.tseg2_max == 260 && limits.sjw_max == 261 && limits.brp_min == 262);
+    assert!(rt; limits.brp_max == 263 && limits.brp_inc == 264);
+    assert!(rt; nlroute_can_bittiming_const(&TIMING_VALUE, &TIMINGS, &mut limits) == -7);
+    assert!(rt; limits.tseg1_min == 257 && limits.brp_inc == 264);
+    let mut out = [0xFF; 128];
+    let answer = nlroute_text(6, &LIMITS_VALUE, &TIMINGS, &mut out);
+    let wanted =
+        "name \"m\" tseg1_min 257 tseg1_max 258 tseg2_min 259 tseg2_max 260 sjw_max 261 brp_min 262 brp_max 263 brp_inc 264";
+    assert!(rt; holds_text(answer, &out, wanted));
 }
 
 /// Checks whether a call that returned `answer` stored this text in `out`, and a NUL.
