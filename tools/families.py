@@ -21,7 +21,6 @@ TABLE = re.compile(r'^family_row \w+ = row \(codes "(\w+)"\) .* (\w+)$', re.MULT
 LISTS = [
     ("crates/nlroute_ffi/include/nlroute.h", r"^ *NLROUTE_{NAME} = {number}\b"),
     ("crates/nlroute_ffi/examples/links.c", r'\{{"\w+", NLROUTE_{NAME}\}}', "IFLA_INFO_"),
-    ("README.md", r"^\| `{name}` \|.*`{holder}`.*\| `{attributes}` \|$"),
     ("docs/nlroute.1", r"^\.BR? .*\b{name}\b"),
     ("docs/proofs/MODEL.md", r"^### .*`{attributes}`, `{table}`"),
 ]
@@ -43,10 +42,10 @@ def text_below_root(path):
 
 def families(text_of):
     """The rows of the list: for each attribute set what a pattern of LISTS can name."""
-    keys = ("variant", "name", "attributes", "number", "NAME", "holder", "table")
+    keys = ("variant", "name", "attributes", "number", "NAME", "holder", "kind", "table")
     table_of = dict(TABLE.findall(text_of(DEFINED) or ""))
     found = [
-        (*it[:4], it[1].upper(), HOLDERS.get(it[4], it[6]), table_of.get(it[1], "")) for it in ROW.findall(text_of(LIST) or "")
+        (*it[:4], it[1].upper(), HOLDERS.get(it[4], it[6]), it[5], table_of.get(it[1], "")) for it in ROW.findall(text_of(LIST) or "")
     ]
     return [dict(zip(keys, it)) for it in found]
 

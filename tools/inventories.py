@@ -3,7 +3,8 @@
 A list of LISTS is a page, the files that have the names, as a regular expression of their paths, and a pattern whose first
 group is a name. In PLACES, the first group of the expression is a name itself. A name is on the page if it is there as a
 word. TRUSTED has each crate of the kit that crates.txt names. VERSIONED has the files that state the version of nlroute.h,
-each with a pattern around it.
+each with a pattern around it. USED has the page that says how nlshow is used, and the definition with which its usage text is
+compared in a contract.
 """
 import re
 
@@ -12,6 +13,8 @@ LISTS = [
     ("CONTRIBUTING.md", r"\.ci/run", r"^ *part (?:tools/)?([\w.]+)", "part of CI"),
     ("docs/c.md", r"crates/nlroute_ffi/include/nlroute\.h", r"^(?:ptrdiff_t|bool|uint32_t) (nlroute_\w+)\(", "function"),
     ("docs/rattle.md", r"crates/link_messages/src/(?!laws).*\.rt", r"^pub fn (\w+)", "function"),
+    ("docs/programs.md", r"crates/show_lines/src/replies\.rt", r"^  (?:-\w, )?--(\w+)", "option of nlshow"),
+    ("docs/nlshow.1", r"crates/show_lines/src/replies\.rt", r"^  (?:-\w, )?--(\w+)", "option of nlshow"),
     (
         "docs/proofs/CLAIMS.md",
         r"crates/(?!refusals/|library_tests/|list_tests/)\w+/src/(?!.*\btests\b).*\.rt",
@@ -34,6 +37,7 @@ VERSIONED = [
     ("bindings/python/pyproject.toml", 'version = "{}"'),
     ("crates/show_lines/src/replies.rt", '"nlshow {}\\\\n"'),
 ]
+USED = ("docs/programs.md", "crates/show_lines/specs/Arguments.antt")
 
 
 def words_on(page):
@@ -68,3 +72,7 @@ def missing(files, text_of):
     for path, pattern in VERSIONED if version else []:
         if path in files and not re.search(pattern.format(re.escape(version)), text_of(path)):
             yield path, 1, f"it does not have the version of nlroute.h, {version}"
+    page, definition = USED
+    usage = re.search(r'usage_line = codes "usage: (.*?) \| (.*)"', text_of(definition)) if definition in files else None
+    if usage and page in files and f"\n{usage[1]}\nnlshow {usage[2]}\n" not in text_of(page):
+        yield page, 1, f"it does not say how nlshow is used: {usage[1]} | {usage[2]}"

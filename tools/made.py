@@ -1,11 +1,14 @@
 #!/usr/bin/env python3
-"""Writes what is made from the sources: docs/MAP.md, docs/nlroute.3, docs/captured.pcapng, the tables of CLAIMS.md.
+"""Writes what is made from the sources: docs/MAP.md, docs/families.md, docs/nlroute.3, docs/captured.pcapng, the tables of
+CLAIMS.md.
 
 usage: tools/made.py [--check]
 
 MAP.md has the files of the crates, each with the first sentence of its header. A file of src/ begins with lines `//!`, one
 of specs/ or proofs/ with lines `--`. Lib.antt, which only lists the others, and the proofs of single functions, in folders
 below proofs/, are left out. The crates are in the order of crates.txt.
+
+families.md has a row for each attribute set of `families!`, in its order, and the words of its comment in `Family`.
 
 nlroute.3 is the man page of nlroute.h: the declarations, and the comment above each as paragraphs. A comment without
 declarations begins a section, whose name is its first words. What is only for the preprocessor is left out, and of two
@@ -28,6 +31,7 @@ import sys
 import textwrap
 
 sys.dont_write_bytecode = True
+import families  # noqa: E402
 from pages import CLAIMS, ROOT, Tree, clause_tables, head_of, is_ghost  # noqa: E402
 
 # ---- docs/MAP.md
@@ -225,6 +229,37 @@ def claims(tree):
     return "\n".join(lines)
 
 
+# ---- docs/families.md
+
+FAMILIES = """\
+# Families
+
+A *family* is an attribute set: it says which types an attribute has in a list, and what each holds. What holds the list
+selects it, and the kind of device.
+
+| Family | Attributes of | The list is | The kind is | In Rattle |
+|---|---|---|---|---|
+"""
+BELOW_FAMILIES = """
+In `IFLA_LINKINFO`, `IFLA_INFO_KIND` has the kind of device, next to `IFLA_INFO_DATA`. For a port, `IFLA_INFO_SLAVE_KIND`
+has its master's, next to `IFLA_INFO_SLAVE_DATA`. `proto_bridge` knows attribute type 45 only, as upstream does; for the other
+types, use `bridge_port`.
+
+`tools/made.py` writes this page from `families!`.
+"""
+OF_FAMILY = re.compile(r"^    /// `(\w+)`: attributes of (.*?),\s", re.MULTILINE)
+
+
+def page_of_families(tree):
+    """The page with a row for each attribute set."""
+    whose = dict(OF_FAMILY.findall(tree.text(families.LIST)))
+    rows = [
+        f"| `{it['name']}` | {whose[it['name']]} | `{it['holder']}` | {'`%s`' % it['kind'] if it['kind'] else '–'} | `{it['attributes']}` |\n"
+        for it in families.families(tree.text_or_none)
+    ]
+    return FAMILIES + "".join(rows) + BELOW_FAMILIES
+
+
 # ---- docs/captured.pcapng
 
 CAPTURED = "runs/plain/captured"
@@ -264,7 +299,10 @@ def main():
     if option not in ("", "--check"):
         sys.exit(__doc__)
     tree, ill = Tree(ROOT), []
-    texts = {"docs/MAP.md": map_of(tree, ill), "docs/nlroute.3": manual(tree), CLAIMS: claims(tree)}
+    texts = {
+        "docs/MAP.md": map_of(tree, ill), "docs/families.md": page_of_families(tree), "docs/nlroute.3": manual(tree),
+        CLAIMS: claims(tree),
+    }  # fmt: skip
     made = {path: text.encode() for path, text in texts.items()} | {"docs/captured.pcapng": capture(tree.text(CAPTURED))}
     if not option:
         for path, data in made.items():

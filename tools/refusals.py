@@ -168,11 +168,11 @@ def runs_of_json():
 
 def runs_of_files():
     """`nlshow` as JSON for a file that is not there, and for a folder, which cannot be read. It prints nothing if an allocation
-    fails after its arguments are read. The status is then 4, but 5 once a read has failed."""
-    for name, text, status in (("none", "cannot open", 4), (".", "read fault", 5)):
+    fails after its arguments are read."""
+    for name, text in (("none", "cannot open"), (".", "read fault")):
         words = ["nlshow", "--format", "json", name]
         document = f'{{"file":"{name}","error":{{"at":null,"text":"{text}"}},"ok":false}}\n'
-        wanting = [NO_MEMORY, printed("", 4), printed("", status)]
+        wanting = [NO_MEMORY, printed("", 4)]
         yield words, b"", printed(document, 5), wanting, for_arguments(words) + 38
 
 

@@ -1,6 +1,6 @@
 //! Theorems about what is written. The functions have empty bodies; each states its theorem as its contract.
 
-ghost use Rattle.std.specs.Prelude.{◌<◌, ◌≤◌, ◌+◌, ◌^◌, ℕ, Bool, true, false, List, length, Option, IfSome};
+ghost use Rattle.std.specs.Prelude.{◌≡◌, ◌↔◌, ◌<◌, ◌≤◌, ◌+◌, ◌^◌, ℕ, Bool, true, false, List, length, Option, IfSome, IsTrue};
 ghost use Rattle.std.specs.List.{AllByRecursion};
 ghost use Rattle.json.specs.Json.{Json};
 ghost use Rattle.json.specs.Tree.{depth, items_depth, members_depth};
@@ -11,6 +11,9 @@ ghost use Rattle.link_json.specs.Line.{IsLine, IsPlace};
 ghost use Rattle.link_json.specs.Message.{ShowsMessages};
 ghost use Rattle.link_json.specs.Ok.{SaysOk, SayOk};
 ghost use Rattle.link_json.specs.Other.{ShowsListDocument, ShowsCheck, fault_document, place_document};
+ghost use Rattle.link_json.specs.declared.messages.Failure.{Failure};
+
+use crate::messages::Failure;
 
 /// States that the documents of messages nest at most 13 arrays and objects, or one more than the members that say where
 /// they are from: where those nest at most 127, the documents nest at most 128, so their lines read back, as
@@ -62,4 +65,9 @@ pub fn lines_of_others()
         → (j : Json) (well : Bool) → ShowsListDocument place family bytes j well → IsLine j }
     ensures checks { (place : List Field) → IsPlace place → (family : Family) (bytes : List ℕ) → length bytes < 2 ^ 64
         → (j : Json) (well : Bool) → ShowsCheck place family bytes j well → IsLine j }
+{}
+
+/// States that two values of `Failure` are equal (`==`) if and only if they are the same value.
+pub fn equality()
+    ensures { (a b : Failure) → IsTrue (⟦<Failure as PartialEq>⟧.eq a b) ↔ (a ≡ b) }
 {}

@@ -3,12 +3,12 @@ use Rattle.std.proofs.Common.{◌≡◌, inl, inr, ℕ, ◌<◌, List, Option, s
 use Rattle.std.specs.Io.KnownBytes.{Appends}
 use Rattle.netlink_packet_route.specs.Table.{Table}
 use Rattle.netlink_packet_route.specs.Report.{Reports}
-use Rattle.program.specs.Printing.{PrintsOrFails}
+use Rattle.program.specs.Printing.{PrintsOrEnds}
 use Rattle.nlroute.specs.Run.{RunsFor, IsRead, IsAllRead}
 
 -- the report of what was read was printed
 pub printed_report : (table : Table) (r t w below : Option (List ℕ)) (text given out shown : List ℕ) (status result : ℕ) → IsRead r t text → IsAllRead text t → given ≡ text → Reports table given out status
-    → shown ≡ out → PrintsOrFails w below shown status result → result < 4 → RunsFor table r t w below result
+    → shown ≡ out → PrintsOrEnds w below shown status result → result < 4 → RunsFor table r t w below result
 printed_report table r t w below text given out shown status result read all same reports whole (inl h) small =
     record {
       text = text;

@@ -6,7 +6,7 @@ ghost use Rattle.std.specs.Io.KnownBytes.{Appends};
 ghost use Rattle.netlink_packet_route.specs.declared.family.Family.{Family};
 ghost use Rattle.netlink_packet_route.specs.Family.{family_name, table_of};
 ghost use Rattle.nlroute.specs.Run.{RunsFor, IsNamed, IsNoFamily, IsRead, IsAllRead, usage_line};
-ghost use Rattle.program.specs.Printing.{PrintsOrFails, no_memory_line};
+ghost use Rattle.program.specs.Printing.{PrintsOrEnds, no_memory_line};
 
 use netlink_packet_route::{Family, MOST_TEXT, report};
 use program::print_text;
@@ -39,7 +39,7 @@ pub fn run<R: Read, W: Write>(
     // Without a `Family`, nothing is read.
     ensures unread { IsNoFamily (option_copied name.entry) → reader.new ≡ reader.old }
     ensures usage { IsNoFamily (option_copied name.entry)
-        → PrintsOrFails (W.contents writer.old) (W.contents writer.new) usage_line 2 result }
+        → PrintsOrEnds (W.contents writer.old) (W.contents writer.new) usage_line 2 result }
     ensures memory { result ≡ 4 → Appends (W.contents writer.old) (W.contents writer.new) no_memory_line }
     ensures known { result ≤ 5 }
 {

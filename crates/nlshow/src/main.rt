@@ -15,18 +15,22 @@
 #[cfg(test)]
 mod tests;
 
-ghost use Rattle.std.specs.Prelude.{◌≡◌, ◌≢◌, ◌⊎◌, ◌↔◌, ◌∷◌, ◌++◌, [], false, IfOk, IsTrue, MatchOption, OnOk, codes};
-ghost use Rattle.std.specs.Io.Buffered.{writer_buffer, writer_contents, writer_inner};
+ghost use Rattle.std.specs.Prelude.{◌≡◌, ◌≢◌, ◌∷◌, ◌++◌, [], IfOk, MatchOption, OnOk, codes};
+ghost use Rattle.std.specs.Option.{option_copied};
+ghost use Rattle.std.specs.Io.Buffered.{writer_buffer, writer_inner};
 ghost use Rattle.std.specs.Io.KnownBytes.{Appends};
 ghost use Rattle.link_show.specs.Quoted.{quoted};
-ghost use Rattle.program.specs.Printing.{PrintsOrFails};
-ghost use Rattle.program.specs.Watched.{has_failed};
+ghost use Rattle.nlshow.specs.Runs.{IsText, IsUnopened, RunsFile, RunsOn, goes_on, name_line};
+ghost use Rattle.program.specs.Printing.{PrintsOrFails, PrintsOrEnds, no_memory_line};
+ghost use Rattle.program.specs.UntilEnd.{left_of};
+ghost use Rattle.program.specs.Watched.{given, has_failed, passed_on};
 ghost use Rattle.show_lines.specs.Arguments.{IsError, IsRequest, IsWrong, reply_status, reply_text};
 
 use link_json::Sheet;
 use link_show::write_quoted;
 use program::{
-    Watched, collect_arguments, print, print_no_memory, print_text, print_write_fault, unbuffered,
+    UntilEnd, Watched, collect_arguments, end_failed, print, print_no_memory, print_text,
+    print_write_fault, unbuffered,
 };
 use show_captures::run;
 use show_json::{Json, write_unopened};
@@ -66,8 +70,10 @@ fn main(rt: HostRuntime) -> ExitCode {
 }
 
 /// Prints that an allocation failed, except as JSON. Returns 4, or 5 if the writer fails.
-fn end_without_buffer<W: Write + Drop>(writer: &mut BufWriter<W>, output: Output) -> u8
-    ensures { (result ≡ 4) ⊎ (result ≡ 5) }
+fn end_without_buffer<W: Write + Drop>(writer: &mut BufWriter<Watched<W>>, output: Output) -> u8
+    ensures text { IsText output → PrintsOrFails (given W.contents writer.old) (passed_on W.contents writer.new)
+        no_memory_line 4 result (has_failed (writer_inner writer.new)) }
+    ensures json { ¬ IsText output → (result ≡ 4) × (writer.new ≡ writer.old) }
 {
     match output {
         Output::Text(_) => print_no_memory(writer),
@@ -105,7 +111,7 @@ fn run_task<R: Files + Input + AllocGlobal, W: Write + Drop>(
             task.output,
             task.raw,
             None,
-            &mut rt.reader(),
+            &mut UntilEnd::new(rt.reader()),
             writer,
         );
     }
@@ -123,7 +129,7 @@ fn run_task<R: Files + Input + AllocGlobal, W: Write + Drop>(
 /// Returns whether the file after one with this exit status is read: not after a failed allocation, or when the writer has
 /// failed.
 fn goes_on<W: Write + Drop>(status: u8, writer: &BufWriter<Watched<W>>) -> bool
-    ensures { IsTrue result ↔ ((status ≢ 4) × (has_failed (writer_inner writer.now) ≡ false)) }
+    ensures { result ≡ goes_on status (has_failed (writer_inner writer.now)) }
 {
     status != 4 && !writer.get_ref().has_failed()
 }
@@ -134,9 +140,12 @@ fn run_on<R: Read, W: Write + Drop>(
     output: Output,
     raw: bool,
     file: Option<&str>,
-    reader: &mut R,
-    writer: &mut BufWriter<W>,
-) -> u8 {
+    reader: &mut UntilEnd<R>,
+    writer: &mut BufWriter<Watched<W>>,
+) -> u8
+    ensures { RunsOn output (option_copied file.entry) raw (left_of R.remaining reader.old) (left_of R.remaining reader.new)
+        (given W.contents writer.old) (passed_on W.contents writer.new) (has_failed (writer_inner writer.new)) result }
+{
     match output {
         Output::Text(options) => run(alloc, &options, &mut (), raw, reader, writer),
         Output::Json => {
@@ -152,32 +161,63 @@ fn run_file<R: Files + Input + AllocGlobal, W: Write + Drop>(
     rt: &R,
     task: &Task,
     name: &str,
-    writer: &mut BufWriter<W>,
-) -> u8 {
-    let (alloc, output, raw) = (rt.alloc(), task.output, task.raw);
-    if let Output::Text(_) = output
-        && write_name(writer, name).is_err()
-    {
-        return 5;
+    writer: &mut BufWriter<Watched<W>>,
+) -> u8
+    ensures { RunsFile task.now.output task.now.raw name.now (given W.contents writer.old) (passed_on W.contents writer.new)
+        (has_failed (writer_inner writer.new)) result }
+{
+    if write_name(writer, task.output, name).is_err() {
+        return end_failed(writer);
     }
+    let (alloc, output, raw) = (rt.alloc(), task.output, task.raw);
     if name == "-" {
-        return run_on(alloc, output, raw, Some(name), &mut rt.reader(), writer);
+        let reader = &mut UntilEnd::new(rt.reader());
+        return run_on(alloc, output, raw, Some(name), reader, writer);
     }
     match fs::open(rt, name) {
-        Ok(mut file) => run_on(alloc, output, raw, Some(name), &mut file, writer),
-        Err(_) => match output {
-            Output::Text(_) => print(writer, "cannot open\n", 5),
-            Output::Json => write_unopened(alloc, name, writer),
-        },
+        Ok(file) => run_on(
+            alloc,
+            output,
+            raw,
+            Some(name),
+            &mut UntilEnd::new(file),
+            writer,
+        ),
+        Err(_) => end_unopened(alloc, output, name, writer),
     }
 }
 
-/// Writes the line that precedes the output for a file.
+/// Writes that a file cannot be opened. Returns the exit status: 5, or 4 if an allocation fails.
+fn end_unopened<W: Write + Drop>(
+    alloc: Global,
+    output: Output,
+    name: &str,
+    writer: &mut BufWriter<Watched<W>>,
+) -> u8
+    ensures { IsUnopened output name.now result (given W.contents writer.old) (passed_on W.contents writer.new)
+        (has_failed (writer_inner writer.new)) }
+{
+    match output {
+        Output::Text(_) => print(writer, "cannot open\n", 5),
+        Output::Json => write_unopened(alloc, name, writer),
+    }
+}
+
+/// Writes the line that precedes the output for a file, if it is text.
 ///
 /// # Errors
 ///
 /// That of the writer.
-fn write_name<W: Write>(writer: &mut W, name: &str) -> io::Result<()>
+fn write_name<W: Write>(writer: &mut W, output: Output, name: &str) -> io::Result<()>
+    ensures { OnOk result (Appends (W.contents writer.old) (W.contents writer.new) (name_line output name.now)) }
+{
+    match output {
+        Output::Text(_) => write_text_name(writer, name),
+        Output::Json => Ok(()),
+    }
+}
+
+fn write_text_name<W: Write>(writer: &mut W, name: &str) -> io::Result<()>
     ensures { OnOk result (Appends (W.contents writer.old) (W.contents writer.new)
         (codes "file " ++ (quoted name.now ++ 10 ∷ []))) }
 {
@@ -189,15 +229,14 @@ fn write_name<W: Write>(writer: &mut W, name: &str) -> io::Result<()>
 /// Prints a reply: to `errors` what is wrong with the arguments, and any other to `writer`, which is flushed. Returns the
 /// reply's exit status, or 5 if the writer fails.
 fn print_reply<W: Write + Drop, E: Write>(
-    writer: &mut BufWriter<W>,
+    writer: &mut BufWriter<Watched<W>>,
     errors: &mut E,
     reply: &Reply,
 ) -> u8
-    ensures wrong { IsError reply.now → PrintsOrFails (E.contents errors.old) (E.contents errors.new)
+    ensures wrong { IsError reply.now → PrintsOrEnds (E.contents errors.old) (E.contents errors.new)
         (reply_text reply.now) (reply_status reply.now) result × (writer.new ≡ writer.old) }
-    ensures written { ¬ IsError reply.now → PrintsOrFails (writer_contents W.contents writer.old)
-        (W.contents (writer_inner writer.new)) (reply_text reply.now) (reply_status reply.now) result
-        × (errors.new ≡ errors.old) }
+    ensures written { ¬ IsError reply.now → PrintsOrFails (given W.contents writer.old) (passed_on W.contents writer.new)
+        (reply_text reply.now) (reply_status reply.now) result (has_failed (writer_inner writer.new)) × (errors.new ≡ errors.old) }
     ensures empty { ¬ IsError reply.now → result ≢ 5 → writer_buffer writer.new ≡ [] }
 {
     match reply {

@@ -10,6 +10,7 @@ mod replies;
 mod walks;
 
 use crate::run_on;
+use program::{UntilEnd, Watched};
 use show_lines::{Format, Options, Output};
 use std::alloc::Global;
 use std::io;
@@ -33,7 +34,8 @@ const DEBUG: Output = Output::Text(Options {
     check: false,
 });
 
-/// Returns at most `most` bytes per read. After the last byte, it fails if `is_broken`.
+/// Returns at most `most` bytes per read. After the last byte, it fails if `is_broken`; and after its end, if it is read
+/// again.
 #[derive(Drop)]
 struct Trickle<'a> {
     rest: &'a [u8],
@@ -46,6 +48,7 @@ impl Read for Trickle<'_> {
         if self.rest.is_empty() && self.is_broken {
             return Err(io::Error::from(io::ErrorKind::Interrupted));
         }
+        self.is_broken = self.rest.is_empty();
         let room = buf.len().min(self.most);
         self.rest.read(&mut buf[..room])
     }
@@ -99,25 +102,28 @@ impl Write for Broken {
     }
 }
 
-/// Puts a buffer before `writer`.
-fn buffered<W: Write + Drop>(rt: &impl Abort, alloc: Global, writer: W) -> BufWriter<W> {
-    BufWriter::new(alloc, writer).expect(rt, "a buffer")
+/// Puts a buffer before `writer`, which is watched.
+fn buffered<W: Write + Drop>(rt: &impl Abort, alloc: Global, writer: W) -> BufWriter<Watched<W>> {
+    BufWriter::new(alloc, Watched::new(writer)).expect(rt, "a buffer")
+}
+
+/// Returns a reader of `rest`, as [`Trickle`] has it.
+fn trickle(rest: &[u8], most: usize, is_broken: bool) -> UntilEnd<Trickle<'_>> {
+    UntilEnd::new(Trickle {
+        rest,
+        most,
+        is_broken,
+    })
 }
 
 /// Asserts the output and the exit status for `text` in the debug form, read in one piece and byte by byte.
 fn shows(rt: &impl Abort, alloc: Global, text: &[u8], shown: &[u8], status: u8) {
-    let mut rest = text;
-    let mut written = buffered(rt, alloc, Vec::new(alloc));
-    let answer = run_on(alloc, DEBUG, false, None, &mut rest, &mut written);
-    assert!(rt; answer == status && written.get_ref().as_slice() == shown);
-    let mut trickle = Trickle {
-        rest: text,
-        most: 1,
-        is_broken: false,
-    };
-    let mut written = buffered(rt, alloc, Vec::new(alloc));
-    let answer = run_on(alloc, DEBUG, false, None, &mut trickle, &mut written);
-    assert!(rt; answer == status && written.get_ref().as_slice() == shown);
+    for most in [1, text.len() + 1] {
+        let mut reader = trickle(text, most, false);
+        let mut written = buffered(rt, alloc, Vec::new(alloc));
+        let answer = run_on(alloc, DEBUG, false, None, &mut reader, &mut written);
+        assert!(rt; answer == status && written.get_ref().get_ref().as_slice() == shown);
+    }
 }
 
 #[test]
@@ -157,26 +163,16 @@ fn readers_and_writers_that_fail(rt: HostRuntime) {
         ("dsa 0800 0100 2a00 0000", "read fault\n"),
         ("dsa\nds", "dsa\nread fault\n"),
     ] {
-        let mut reader = Trickle {
-            rest: text.as_bytes(),
-            most: 1,
-            is_broken: true,
-        };
+        let mut reader = trickle(text.as_bytes(), 1, true);
         let mut written = buffered(&rt, rt.alloc(), Vec::new(rt.alloc()));
         let status = run_on(rt.alloc(), PLAIN, false, None, &mut reader, &mut written);
-        assert!(&rt; status == 5 && written.get_ref().as_slice() == shown.as_bytes());
+        assert!(&rt; status == 5 && written.get_ref().get_ref().as_slice() == shown.as_bytes());
     }
     for text in ["", "# dsa", "dsa", "dsa\n"] {
         for takes in [false, true] {
             let mut writer = buffered(&rt, rt.alloc(), Broken { takes });
-            let status = run_on(
-                rt.alloc(),
-                PLAIN,
-                false,
-                None,
-                &mut text.as_bytes(),
-                &mut writer,
-            );
+            let mut reader = trickle(text.as_bytes(), 4096, false);
+            let status = run_on(rt.alloc(), PLAIN, false, None, &mut reader, &mut writer);
             assert_eq!(&rt; status, 5);
         }
     }
@@ -224,14 +220,10 @@ fn is_read(
     let (output, raw) = how;
     let (is_broken, status) = end;
     for most in [1, 2, 3, 7, 4096] {
-        let mut reader = Trickle {
-            rest: text,
-            most,
-            is_broken,
-        };
+        let mut reader = trickle(text, most, is_broken);
         let mut written = buffered(rt, alloc, Vec::new(alloc));
         let answer = run_on(alloc, output, raw, None, &mut reader, &mut written);
-        assert!(rt; answer == status && written.get_ref().as_slice() == lines);
+        assert!(rt; answer == status && written.get_ref().get_ref().as_slice() == lines);
     }
 }
 
@@ -286,8 +278,9 @@ fn stops_anywhere(rt: &impl Abort, alloc: Global, how: (Output, bool), rows: &[(
                 failures: 0,
             };
             let mut writer = buffered(rt, alloc, narrow);
-            let answer = run_on(alloc, output, raw, None, &mut text.as_slice(), &mut writer);
-            let narrow = writer.get_ref();
+            let mut reader = trickle(&text, 4096, false);
+            let answer = run_on(alloc, output, raw, None, &mut reader, &mut writer);
+            let narrow = writer.get_ref().get_ref();
             let (wanted, failures) = if room < lines.len() { (5, 1) } else { (1, 0) };
             assert!(rt; answer == wanted && narrow.failures == failures);
             assert!(rt; narrow.taken.len() == room && lines.starts_with(&narrow.taken));

@@ -1,10 +1,19 @@
 -- A writer that remembers whether it failed.
-use Rattle.std.specs.Prelude.{◌≡◌, ◌≢◌, ℕ, Bool, true, false, List, [], Result, Ok, Err}
+use Rattle.std.specs.Prelude.{◌≡◌, ◌≢◌, ℕ, Bool, true, false, List, [], Option, Result, Ok, Err}
+use Rattle.std.specs.Io.Buffered.{writer_contents, writer_inner}
+use Rattle.std.specs.declared.io.buffered.BufWriter.{BufWriter}
 use Rattle.program.specs.declared.watched.Watched.{Watched}
 
 -- the writer below
 abbrev pub watched_inner : {W : Type 0} → Watched W → W
 watched_inner watched = watched.inner
+
+-- all that a watched writer below a buffer was given, in the buffer or below it; and what it passed on
+abbrev pub given : {W A : Type 0} → (W → Option (List ℕ)) → BufWriter (Watched W) A → Option (List ℕ)
+given contents writer = writer_contents (λ watched. contents (watched_inner watched)) writer
+
+abbrev pub passed_on : {W A : Type 0} → (W → Option (List ℕ)) → BufWriter (Watched W) A → Option (List ℕ)
+passed_on contents writer = contents (watched_inner (writer_inner writer))
 
 -- a write or a flush failed
 abbrev pub has_failed : {W : Type 0} → Watched W → Bool

@@ -1,10 +1,10 @@
 //! The last text that a program prints, and its exit status.
 
-ghost use Rattle.std.specs.Prelude.{◌≡◌, ◌≢◌, [], IsOk, OnOk};
-ghost use Rattle.std.specs.Io.Buffered.{writer_buffer, writer_contents, writer_inner};
+ghost use Rattle.std.specs.Prelude.{◌≡◌, ◌≢◌, [], true, IsOk, OnOk};
+ghost use Rattle.std.specs.Io.Buffered.{writer_buffer, writer_inner};
 ghost use Rattle.std.specs.Io.KnownBytes.{Appends};
-ghost use Rattle.program.specs.Printing.{PrintsOrFails, FlushesOrFails, no_memory_line, write_fault_line};
-ghost use Rattle.program.specs.Watched.{IsFault};
+ghost use Rattle.program.specs.Printing.{PrintsOrFails, PrintsOrEnds, FlushesOrFails, no_memory_line, read_fault_line, write_fault_line};
+ghost use Rattle.program.specs.Watched.{IsFault, given, has_failed, passed_on};
 
 use crate::watched::Watched;
 use std::alloc::Global;
@@ -19,49 +19,59 @@ pub fn unbuffered<W: Write + Drop>(alloc: Global, writer: W) -> BufWriter<W>
     BufWriter::with_capacity(alloc, 0, writer).unwrap()
 }
 
-/// Flushes `writer`. Returns `status`, or 5 if the writer fails.
-pub fn finish<W: Write + Drop>(writer: &mut BufWriter<W>, status: u8) -> u8
-    ensures written { FlushesOrFails (writer_contents W.contents writer.old)
-        (W.contents (writer_inner writer.new)) status result }
+/// Notes that `writer` failed, which then says so ([`Watched::has_failed`]). Returns 5.
+pub fn end_failed<W: Write + Drop>(writer: &mut BufWriter<Watched<W>>) -> u8
+    ensures status { result ≡ 5 }
+    ensures failed { has_failed (writer_inner writer.new) ≡ true }
+{
+    writer.get_mut().note_failure();
+    5
+}
+
+/// Flushes `writer`. Returns `status`, or 5 if the writer fails, which it then says.
+pub fn finish<W: Write + Drop>(writer: &mut BufWriter<Watched<W>>, status: u8) -> u8
+    ensures written { FlushesOrFails (given W.contents writer.old) (passed_on W.contents writer.new)
+        status result (has_failed (writer_inner writer.new)) }
     ensures empty { result ≢ 5 → writer_buffer writer.new ≡ [] }
 {
     match writer.flush() {
         Ok(()) => status,
-        Err(_) => 5,
+        Err(_) => end_failed(writer),
     }
 }
 
-/// Writes `text` and flushes `writer`. Returns `status`, or 5 if the writer fails.
-pub fn print<W: Write + Drop>(writer: &mut BufWriter<W>, text: &str, status: u8) -> u8
-    ensures written { PrintsOrFails (writer_contents W.contents writer.old)
-        (W.contents (writer_inner writer.new)) text.now status result }
+/// Writes `text` and flushes `writer`. Returns `status`, or 5 if the writer fails, which it then says.
+pub fn print<W: Write + Drop>(writer: &mut BufWriter<Watched<W>>, text: &str, status: u8) -> u8
+    ensures written { PrintsOrFails (given W.contents writer.old) (passed_on W.contents writer.new)
+        text.now status result (has_failed (writer_inner writer.new)) }
     ensures empty { result ≢ 5 → writer_buffer writer.new ≡ [] }
 {
     if writer.write_all(text.as_bytes()).is_err() {
-        return 5;
+        return end_failed(writer);
     }
     finish(writer, status)
 }
 
 /// Prints that an allocation failed. Returns 4, or 5 if the writer fails.
-pub fn print_no_memory<W: Write + Drop>(writer: &mut BufWriter<W>) -> u8
-    ensures written { PrintsOrFails (writer_contents W.contents writer.old)
-        (W.contents (writer_inner writer.new)) no_memory_line 4 result }
+pub fn print_no_memory<W: Write + Drop>(writer: &mut BufWriter<Watched<W>>) -> u8
+    ensures written { PrintsOrFails (given W.contents writer.old) (passed_on W.contents writer.new)
+        no_memory_line 4 result (has_failed (writer_inner writer.new)) }
     ensures empty { result ≢ 5 → writer_buffer writer.new ≡ [] }
 {
     print(writer, "no memory\n", 4)
 }
 
 /// Prints that the reader failed. Returns 5, whether the writer fails or not.
-pub fn print_read_fault<W: Write + Drop>(writer: &mut BufWriter<W>) -> u8
-    ensures { result ≡ 5 }
+pub fn print_read_fault<W: Write + Drop>(writer: &mut BufWriter<Watched<W>>) -> u8
+    ensures written { PrintsOrFails (given W.contents writer.old) (passed_on W.contents writer.new)
+        read_fault_line 5 result (has_failed (writer_inner writer.new)) }
 {
     print(writer, "read fault\n", 5)
 }
 
 /// Writes `text` and flushes `writer`, which may be any. Returns `status`, or 5 if the writer fails.
 pub fn print_text<W: Write>(writer: &mut W, text: &str, status: u8) -> u8
-    ensures { PrintsOrFails (W.contents writer.old) (W.contents writer.new) text.now status result }
+    ensures { PrintsOrEnds (W.contents writer.old) (W.contents writer.new) text.now status result }
 {
     if writer.write_all(text.as_bytes()).is_err() || writer.flush().is_err() {
         return 5;

@@ -1,6 +1,6 @@
 //! A writer that remembers whether it failed.
 
-ghost use Rattle.std.specs.Prelude.{◌≡◌, ◌≢◌, ◌⊎◌, ◌↔◌, false, IsTrue, IsErr};
+ghost use Rattle.std.specs.Prelude.{◌≡◌, ◌≢◌, ◌⊎◌, ◌↔◌, false, true, IsTrue, IsErr};
 ghost use Rattle.std.specs.Io.{WritesAtMost};
 ghost use Rattle.std.specs.Io.KnownBytes.{Keeps, WriteAppends};
 ghost use Rattle.std.specs.IoError.{error_kind};
@@ -37,6 +37,15 @@ impl<W> Watched<W> {
         ensures { result.now ≡ watched_inner self.now }
     {
         &self.inner
+    }
+
+    /// Notes that a write or a flush failed, as a buffer above reports it.
+    pub fn note_failure(&mut self)
+        ensures inner { watched_inner self.new ≡ watched_inner self.old }
+        ensures failed { has_failed self.new ≡ true }
+        ensures unread { is_unread self.new ≡ is_unread self.old }
+    {
+        self.has_failed = true;
     }
 
     /// Returns whether a write or a flush failed.

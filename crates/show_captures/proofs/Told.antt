@@ -1,5 +1,5 @@
 -- The first bytes of an input tell its form.
-use Rattle.std.proofs.Common.{◌≡◌, ◌<◌, ◌⊎◌, ℕ, Bool, true, false, if◌then◌else◌, inl, inr, List, [], ◌∷◌, ◌++◌, length, Option, Some, None, Result, Ok, Err, IfOk, OnOk, refl, sym, ap, subst, ◌∙◌, arith, append_assoc}
+use Rattle.std.proofs.Common.{◌≡◌, ◌<◌, ◌≤◌, ◌⊎◌, ℕ, Bool, true, false, if◌then◌else◌, inl, inr, List, [], ◌∷◌, ◌++◌, length, Option, Some, None, Result, Ok, Err, IfOk, OnOk, refl, sym, ap, subst, ◌∙◌, arith, append_assoc}
 use Rattle.std.proofs.lemmas.List.{append-nil}
 use Rattle.std.specs.Result.{result_map_both}
 use Rattle.std.specs.Io.KnownBytes.{Appends, Consumes, Keeps, IsAtEnd}
@@ -11,7 +11,7 @@ use Rattle.link_capture.proofs.Forms.{told}
 use Rattle.program.specs.Printing.{FlushesOrFails}
 use Rattle.show_lines.specs.Show.{ShowsAll}
 use Rattle.show_lines.specs.Run as lines
-use Rattle.show_lines.specs.Progress.{OnMemory}
+use Rattle.show_lines.specs.Pieces.{IfWritten}
 use Rattle.show_lines.specs.declared.running.Stop.{Stop}
 use Rattle.show_lines.specs.declared.running.Stop.TheVariants as stops
 use Rattle.show_captures.specs.Run.{RunsCapture, RunsFrom, Runs, RunsFor, ShowsForm, ShowsFile, ShowsInput, MayFollow, input_form, status_of}
@@ -101,20 +101,15 @@ module _ {shower : InputShower} where
       (false, (run, sym (ap (λ f. status_of f false) is)))
 
   -- the buffer is written, and the result is the status
-  pub runs_for : (raw : Bool) (r t w v u : Option (List ℕ)) (status result : ℕ) → RunsFor shower raw r t w v status → FlushesOrFails v u status result → result < 3 → RunsFor shower raw r t w u result
-  runs_for raw r t w v u status result (whole, (h, e)) (inl (is, keeps)) small =
+  pub runs_for : (raw : Bool) (r t w v u : Option (List ℕ)) (status result : ℕ) (failed : Bool) → RunsFor shower raw r t w v status → FlushesOrFails v u status result failed → result < 3 → RunsFor shower raw r t w u result
+  runs_for raw r t w v u status result failed (whole, (h, e)) (inl (is, keeps)) small =
       let run : Runs shower raw r t w u whole = record { text = h.text; out = h.out; read = h.read; shows = h.shows; written = Appends-kept w v u h.out h.written keeps } in (whole, (run, is ∙ e))
-  runs_for raw r t w v u status result h (inr fails) small = absurd (omega (arith, fails, small))
+  runs_for raw r t w v u status result failed h (inr fails) small = absurd (omega (arith, fails.0, small))
 
-  -- the status of a run is 0, 1 or 2
-  pub known_status : (raw : Bool) (r t w v u : Option (List ℕ)) (status result : ℕ) → RunsFor shower raw r t w v status → FlushesOrFails v u status result → (result < 3) ⊎ ((result ≡ 4) ⊎ (result ≡ 5))
-  known_status raw r t w v u status result (whole, (h, e)) (inl (is, keeps)) = inl (subst (λ n. n < 3) (sym (is ∙ e)) (small_status (input_form raw h.text) whole))
-  known_status raw r t w v u status result h (inr fails) = inr (inr fails)
-
-  -- and not 4
-  pub never_four : (raw : Bool) (r t w v u : Option (List ℕ)) (status result : ℕ) → RunsFor shower raw r t w v status → FlushesOrFails v u status result → result ≡ 4 → ⊥
-  never_four raw r t w v u status result (whole, (h, e)) (inl (is, keeps)) four = omega (arith, four, is, e, small_status (input_form raw h.text) whole)
-  never_four raw r t w v u status result h (inr fails) four = omega (arith, four, fails)
+  -- a status of 3 or more is that of a failed write
+  pub fails_to_flush : (raw : Bool) (r t w v u : Option (List ℕ)) (status result : ℕ) (failed : Bool) → RunsFor shower raw r t w v status → FlushesOrFails v u status result failed → 3 ≤ result → (result ≡ 5) × (failed ≡ true)
+  fails_to_flush raw r t w v u status result failed (whole, (h, e)) (inl (is, keeps)) big = absurd (omega (arith, big, is, e, small_status (input_form raw h.text) whole))
+  fails_to_flush raw r t w v u status result failed h (inr fails) big = fails
 
 -- ---- the exit status in place of what a run returns
 
@@ -126,8 +121,8 @@ pub status_other : {X : Type 0} (n : ℕ) (P : Type 0) (Q : ℕ → Type 0) (r :
 status_other n P Q (Ok x) s e g h = subst (λ a. IfOk a Q) (sym e) (g h)
 status_other n P Q (Err stop) s e g h = subst (λ a. IfOk a Q) (sym e) tt
 
-pub status_memory : {X : Type 0} (f : X → ℕ) (P Q : Type 0) (r : Result X Stop) (s : Result ℕ Stop) → s ≡ result_map_both f (λ stop. stop) r → (P → Q) → OnMemory r P → OnMemory s Q
-status_memory f P Q (Ok x) s e g h = subst (λ a. OnMemory a Q) (sym e) tt
-status_memory f P Q (Err stops.Memory) s e g h = subst (λ a. OnMemory a Q) (sym e) (g h)
-status_memory f P Q (Err stops.Reader) s e g h = subst (λ a. OnMemory a Q) (sym e) tt
-status_memory f P Q (Err stops.Writer) s e g h = subst (λ a. OnMemory a Q) (sym e) tt
+pub status_written : {X : Type 0} (f : X → ℕ) (P Q : Type 0) (r : Result X Stop) (s : Result ℕ Stop) → s ≡ result_map_both f (λ stop. stop) r → (P → Q) → IfWritten r P → IfWritten s Q
+status_written f P Q (Ok x) s e g h = subst (λ a. IfWritten a Q) (sym e) (g h)
+status_written f P Q (Err stops.Memory) s e g h = subst (λ a. IfWritten a Q) (sym e) (g h)
+status_written f P Q (Err stops.Reader) s e g h = subst (λ a. IfWritten a Q) (sym e) (g h)
+status_written f P Q (Err stops.Writer) s e g h = subst (λ a. IfWritten a Q) (sym e) tt

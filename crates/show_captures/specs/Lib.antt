@@ -1,4 +1,5 @@
 pub mod ByOptions
+pub mod End
 pub mod Event
 pub mod Packet
 pub mod Progress

@@ -30,6 +30,11 @@ Carries p (carried.Messages bytes) = (p.link_type ≡ netlink) × (16 ≤ length
 Carries p (carried.Short n) = (p.link_type ≡ netlink) × (length p.bytes < 16) × (n ≡ length p.bytes)
 Carries p carried.Other = (p.link_type ≢ netlink) ⊎ ((p.link_type ≡ netlink) × (16 ≤ length p.bytes) × (protocol_of p.bytes ≢ 0))
 
+-- messages with the same bytes, or another answer twice
+abbrev pub IsSameCarried : Carried → Carried → Type 0
+IsSameCarried (carried.Messages a) (carried.Messages b) = a.now ≡ b.now
+IsSameCarried a b = a ≡ b
+
 -- the length that a packet had, if that is not the captured one
 abbrev pub original_part : ℕ → ℕ → List ℕ
 original_part captured original = if original == captured then [] else codes " of " ++ decimal original

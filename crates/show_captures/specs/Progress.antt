@@ -1,10 +1,11 @@
 -- The progress of a run through an input.
-use Rattle.std.specs.Prelude.{◌≡◌, ◌≤◌, ℕ, ◌+◌, Bool, false, ◌&&◌, List, [], ◌++◌, length, drop, Option}
+use Rattle.std.specs.Prelude.{◌≡◌, ◌≤◌, ℕ, ◌+◌, Bool, true, false, ◌&&◌, List, [], ◌++◌, length, drop, Option}
 use Rattle.std.specs.Io.KnownBytes.{Appends, Consumes, IsAtEnd}
 use Rattle.link_capture.specs.declared.error.InputError.{InputError}
 use Rattle.link_capture.specs.declared.form.Form.{Form}
 use Rattle.link_capture.specs.Told.{Told}
-use Rattle.link_capture.specs.Unit.{Leads, IsEnd, Follows}
+use Rattle.link_capture.specs.Form.{begins_magic}
+use Rattle.link_capture.specs.Unit.{Leads, IsEnd, IsTooShort, Follows}
 use Rattle.link_show.specs.List.{EachShown}
 use Rattle.show_captures.specs.declared.place.Place.{Place}
 use Rattle.show_captures.specs.declared.units.Turn.{Turn}
@@ -47,8 +48,17 @@ abbrev pub ReadsOn : List ℕ → List ℕ → Option (List ℕ) → Option (Lis
 ReadsOn held_before held_after left_before left_after n =
     (piece : List ℕ) × (held_after ≡ held_before ++ piece) × Consumes left_before left_after piece × (n ≡ length piece) × (n ≡ 0 → IsAtEnd left_after)
 
--- the output for the units of these bytes was written, as far as they are whole, or with what ends them
+-- the first bytes of an input, of which a read takes at most n: those before the last read may begin a magic number
+pub record AreFirst (n : ℕ) (s : List ℕ) : Type 0 where
+  pub before : List ℕ
+  pub piece : List ℕ
+  pub joined : s ≡ before ++ piece
+  pub begins : begins_magic before ≡ true
+  pub few : length piece ≤ n
+
+-- the output for the units of these bytes was written, as far as they are whole, and what is left is too short for a unit; or with
+-- what ends them
 abbrev pub WritesUnits : UnitShower → Bool → Place → Place → List ℕ → Option (List ℕ) → Option (List ℕ) → Turn → Type 0
 WritesUnits shower is_last old new s held_before held_after (More used well) =
-    (is_last ≡ false) × (used ≤ length s) × ((out : List ℕ) × Passes shower is_last old new s (drop used s) out well × Appends held_before held_after out)
+    (is_last ≡ false) × (used ≤ length s) × IsTooShort new.capture (drop used s) × ((out : List ℕ) × Passes shower is_last old new s (drop used s) out well × Appends held_before held_after out)
 WritesUnits shower is_last old new s held_before held_after (Done well) = (out : List ℕ) × Finishes shower is_last old s out well × Appends held_before held_after out

@@ -78,7 +78,3 @@ pub record Runs (shower : InputShower) (raw : Bool) (left_before left_after held
 abbrev pub RunsFor : InputShower → Bool → Option (List ℕ) → Option (List ℕ) → Option (List ℕ) → Option (List ℕ) → ℕ → Type 0
 RunsFor shower raw left_before left_after held_before held_after status =
     (whole : Bool) × ((run : Runs shower raw left_before left_after held_before held_after whole) × (status ≡ status_of (input_form raw run.text) whole))
-
--- zero or more bytes were written, and then `text`
-abbrev pub EndsWith : Option (List ℕ) → Option (List ℕ) → List ℕ → Type 0
-EndsWith held_before held_after text = (out : List ℕ) × Appends held_before held_after (out ++ text)

@@ -3,9 +3,10 @@
 ghost use Rattle.std.specs.Prelude.{◌≡◌, ◌<◌, ◌≤◌, length, drop, IfOk, vec_len};
 ghost use Rattle.std.specs.Io.Buffered.{writer_buffer, writer_contents};
 ghost use Rattle.std.specs.Io.KnownBytes.{Keeps};
+ghost use Rattle.link_capture.specs.Unit.{IsTooShort};
 ghost use Rattle.show_captures.specs.Run.{RunsCapture};
 ghost use Rattle.show_captures.specs.Progress.{ReadsOn};
-ghost use Rattle.show_lines.specs.Progress.{Grows, OnMemory};
+ghost use Rattle.show_lines.specs.Pieces.{AddsPieces, IfWritten};
 
 use crate::place::Place;
 use crate::show::ShowUnits;
@@ -35,8 +36,8 @@ pub(crate) fn show_capture<S: ShowUnits, R: Read, W: Write + Drop>(
     requires { 0 < length chunk.old }
     ensures shown { IfOk result (RunsCapture (S.units shown.now) form first.now (R.remaining reader.old) (R.remaining reader.new)
         (writer_contents W.contents writer.old) (writer_contents W.contents writer.new)) }
-    ensures memory { OnMemory result
-        (Grows (writer_contents W.contents writer.old) (writer_contents W.contents writer.new)) }
+    ensures pieces { IfWritten result (AddsPieces (S.piece shown.now)
+        (writer_contents W.contents writer.old) (writer_contents W.contents writer.new)) }
 {
     let mut place = Place::new(form);
     let mut held = match copied(alloc, first) {
@@ -54,7 +55,7 @@ pub(crate) fn show_capture<S: ShowUnits, R: Read, W: Write + Drop>(
             Ok(Turn::Done { well }) => return Ok(whole & well),
             Err(stop) => return Err(stop),
         }
-        is_last = match read_on(&mut held, chunk, reader, writer) {
+        is_last = match read_for_unit(&place, &mut held, chunk, reader, writer) {
             Ok(count) => count == 0,
             Err(stop) => return Err(stop),
         };
@@ -78,6 +79,24 @@ fn forget_front(held: &mut Vec<u8>, count: usize)
     held.drain(..count);
 }
 
+/// Reads more of an input, if the bytes that are held are too few for a unit.
+fn read_for_unit<R: Read, W: Write + Drop>(
+    place: &Place,
+    held: &mut Vec<u8>,
+    chunk: &mut [u8],
+    reader: &mut R,
+    writer: &mut BufWriter<W>,
+) -> Result<usize, Stop>
+    requires short { IsTooShort place.now.capture held.old.items }
+    requires room { 0 < length chunk.old }
+    ensures read { IfOk result (λ count. ReadsOn held.old.items held.new.items
+        (R.remaining reader.old) (R.remaining reader.new) count) }
+    ensures kept { IfWritten result (Keeps (writer_contents W.contents writer.old) (writer_contents W.contents writer.new)) }
+    ensures room { length chunk.new ≡ length chunk.old }
+{
+    read_on(held, chunk, reader, writer)
+}
+
 /// Flushes the output, reads more, and appends it to `held`. Returns how many bytes were read: 0 at the end.
 pub(crate) fn read_on<R: Read, W: Write + Drop>(
     held: &mut Vec<u8>,
@@ -88,10 +107,9 @@ pub(crate) fn read_on<R: Read, W: Write + Drop>(
     requires { 0 < length chunk.old }
     ensures read { IfOk result (λ count. ReadsOn held.old.items held.new.items
         (R.remaining reader.old) (R.remaining reader.new) count) }
-    ensures kept { IfOk result (λ _. Keeps (writer_contents W.contents writer.old) (writer_contents W.contents writer.new)) }
+    ensures few { IfOk result (λ count. count ≤ length chunk.old) }
+    ensures kept { IfWritten result (Keeps (writer_contents W.contents writer.old) (writer_contents W.contents writer.new)) }
     ensures room { length chunk.new ≡ length chunk.old }
-    ensures memory { OnMemory result
-        (Grows (writer_contents W.contents writer.old) (writer_contents W.contents writer.new)) }
 {
     if writer.flush().is_err() {
         return Err(Stop::Writer);

@@ -4,7 +4,8 @@ ghost use Rattle.std.specs.Prelude.{◌<◌, ◌≡◌, length, true, false, IfO
 ghost use Rattle.std.specs.Io.Buffered.{writer_contents};
 ghost use Rattle.std.specs.Io.KnownBytes.{Consumes, IsAtEnd, Keeps};
 ghost use Rattle.link_capture.specs.Form.{begins_magic};
-ghost use Rattle.show_lines.specs.Progress.{Grows, OnMemory};
+ghost use Rattle.show_captures.specs.Progress.{AreFirst};
+ghost use Rattle.show_lines.specs.Pieces.{IfWritten};
 
 use crate::captures::read_on;
 use link_capture::Form;
@@ -30,10 +31,10 @@ pub(crate) fn read_first<R: Read, W: Write + Drop>(
     ensures read { IfOk result (λ first. Consumes (R.remaining reader.old) (R.remaining reader.new) first.bytes.items) }
     ensures last { IfOk result (λ first. first.is_last ≡ true → IsAtEnd (R.remaining reader.new)) }
     ensures told { IfOk result (λ first. first.is_last ≡ false → begins_magic first.bytes.items ≡ false) }
-    ensures kept { IfOk result (λ _. Keeps (writer_contents W.contents writer.old) (writer_contents W.contents writer.new)) }
+    ensures kept { IfWritten result (Keeps (writer_contents W.contents writer.old) (writer_contents W.contents writer.new)) }
+    // No more was read than tells the form, but for the rest of one read.
+    ensures needed { IfOk result (λ first. AreFirst (length chunk.old) first.bytes.items) }
     ensures room { length chunk.new ≡ length chunk.old }
-    ensures memory { OnMemory result
-        (Grows (writer_contents W.contents writer.old) (writer_contents W.contents writer.new)) }
 {
     let mut bytes = Vec::new(alloc);
     for _ in 0..u64::MAX {

@@ -5,7 +5,7 @@ ghost use Rattle.std.specs.Io.KnownBytes.{Appends};
 ghost use Rattle.link_base.specs.Labels.{name_in};
 ghost use Rattle.link_capture.specs.Told.{captured_of};
 ghost use Rattle.show_captures.specs.Packet.{Carries, ShowsPacket, ShowsBelow, packet_line, protocol_in, original_part, protocol_part, protocol_name, protocol_of, type_part, short_line};
-ghost use Rattle.show_lines.specs.Progress.{Grows, OnMemory};
+ghost use Rattle.show_lines.specs.Pieces.{Grows, IfWritten};
 
 use crate::protocols::name_of_protocol;
 use crate::times::time_text;
@@ -68,7 +68,7 @@ pub(crate) fn write_packet<W: Write>(
 ) -> Result<bool, Stop>
     ensures shown { IfOk result (λ well. (out : List ℕ) × ShowsPacket options number (captured_of packet.now) out well
         × Appends (W.contents writer.old) (W.contents writer.new) out) }
-    ensures memory { OnMemory result (Grows (W.contents writer.old) (W.contents writer.new)) }
+    ensures pieces { IfWritten result (Grows (W.contents writer.old) (W.contents writer.new)) }
 {
     let time = time_text(packet.time);
     match write_line(number, time.as_str(), packet, writer) {
@@ -148,7 +148,7 @@ fn write_below<W: Write>(
 ) -> Result<bool, Stop>
     ensures shown { IfOk result (λ well. (out : List ℕ) × ShowsBelow options (captured_of packet.now) out well
         × Appends (W.contents writer.old) (W.contents writer.new) out) }
-    ensures memory { OnMemory result (Grows (W.contents writer.old) (W.contents writer.new)) }
+    ensures pieces { IfWritten result (Grows (W.contents writer.old) (W.contents writer.new)) }
 {
     match carried_by(packet) {
         Carried::Messages(bytes) => write_bare(alloc, options, bytes, writer),
@@ -161,7 +161,7 @@ fn write_below<W: Write>(
 fn write_short<W: Write>(length: usize, writer: &mut W) -> Result<bool, Stop>
     ensures shown { IfOk result (λ well. Appends (W.contents writer.old) (W.contents writer.new) (short_line length)
         × (well ≡ false)) }
-    ensures memory { OnMemory result (Grows (W.contents writer.old) (W.contents writer.new)) }
+    ensures pieces { IfWritten result (Grows (W.contents writer.old) (W.contents writer.new)) }
 {
     let left = Bytes(length);
     match writeln!(writer, "  error at 0: {left}, too few for a cooked header") {

@@ -1,17 +1,20 @@
 //! Runs the program on an input.
 
-ghost use Rattle.std.specs.Prelude.{◌≡◌, ◌⊎◌, ◌<◌, [], length, IfOk, if◌then◌else◌};
+ghost use Rattle.std.specs.Prelude.{◌≡◌, ◌<◌, ◌≤◌, [], length, IfOk, if◌then◌else◌};
 ghost use Rattle.std.specs.Result.{result_map_both};
 ghost use Rattle.std.specs.Io.Buffered.{writer_buffer, writer_contents, writer_inner};
-ghost use Rattle.show_captures.specs.Run.{RunsFrom, RunsFor, EndsWith, input_form};
+ghost use Rattle.program.specs.UntilEnd.{left_of};
+ghost use Rattle.program.specs.Watched.{given, has_failed, passed_on};
+ghost use Rattle.show_captures.specs.End.{StopsEarly};
+ghost use Rattle.show_captures.specs.Run.{RunsFrom, RunsFor, input_form};
 ghost use Rattle.show_captures.specs.Shower.{shower_of};
-ghost use Rattle.show_lines.specs.Progress.{Grows, OnMemory};
+ghost use Rattle.show_lines.specs.Pieces.{AddsPieces, IfWritten};
 
 use crate::captures::show_capture;
 use crate::first::read_first;
 use crate::show::ShowUnits;
 use link_capture::{Form, OtherFormat};
-use program::finish;
+use program::{UntilEnd, Watched, finish};
 use show_lines::{Stop, show_lines};
 use std::alloc::Global;
 use std::io;
@@ -29,23 +32,24 @@ const CHUNK: usize = 65_536;
 /// - 1 if a line, a packet, a message or the input has an error;
 /// - 2 if the input is a file in another format;
 /// - 4 if an allocation fails;
-/// - 5 if the reader or the writer fails.
+/// - 5 if the reader fails, or the writer, which then says so.
+///
+/// The reader is not asked again after its end.
 pub fn run<S: ShowUnits, R: Read, W: Write + Drop>(
     alloc: Global,
     shown: &S,
     paper: &mut S::Paper,
     raw: bool,
-    reader: &mut R,
-    writer: &mut BufWriter<W>,
+    reader: &mut UntilEnd<R>,
+    writer: &mut BufWriter<Watched<W>>,
 ) -> u8
-    ensures report { result < 3 → RunsFor (shower_of S.refused S.answered S.units shown.now) raw (R.remaining reader.old) (R.remaining reader.new)
-        (writer_contents W.contents writer.old) (W.contents (writer_inner writer.new)) result }
-    // What says so is the last of the output.
-    ensures memory { result ≡ 4 → EndsWith (writer_contents W.contents writer.old)
-        (W.contents (writer_inner writer.new)) (S.ends shown.now) }
+    ensures report { result < 3 → RunsFor (shower_of S.refused S.answered S.units shown.now) raw (left_of R.remaining reader.old) (left_of R.remaining reader.new)
+        (given W.contents writer.old) (passed_on W.contents writer.new) result }
+    // A run that stops early writes whole pieces of the output, and says why it stops.
+    ensures stopped { 3 ≤ result → StopsEarly (S.piece shown.now) (S.ends shown.now) (S.breaks shown.now) result
+        (given W.contents writer.old) (passed_on W.contents writer.new) (has_failed (writer_inner writer.new)) }
     // Nothing is left in the buffer.
     ensures empty { result < 5 → writer_buffer writer.new ≡ [] }
-    ensures known { (result < 3) ⊎ ((result ≡ 4) ⊎ (result ≡ 5)) }
 {
     match show_input(alloc, shown, paper, raw, reader, writer) {
         Ok(status) => finish(writer, status),
@@ -64,8 +68,8 @@ fn show_input<S: ShowUnits, R: Read, W: Write + Drop>(
 ) -> Result<u8, Stop>
     ensures shown { IfOk result (RunsFor (shower_of S.refused S.answered S.units shown.now) raw (R.remaining reader.old) (R.remaining reader.new)
         (writer_contents W.contents writer.old) (writer_contents W.contents writer.new)) }
-    ensures memory { OnMemory result
-        (Grows (writer_contents W.contents writer.old) (writer_contents W.contents writer.new)) }
+    ensures pieces { IfWritten result (AddsPieces (S.piece shown.now)
+        (writer_contents W.contents writer.old) (writer_contents W.contents writer.new)) }
 {
     let mut chunk = match vec![in alloc; 0u8; CHUNK] {
         Ok(chunk) => chunk,
@@ -123,8 +127,8 @@ fn show_from<S: ShowUnits, R: Read, W: Write + Drop>(
     requires { 0 < length chunk.old }
     ensures shown { IfOk result (RunsFrom (shower_of S.refused S.answered S.units shown.now) form first.now (R.remaining reader.old) (R.remaining reader.new)
         (writer_contents W.contents writer.old) (writer_contents W.contents writer.new)) }
-    ensures memory { OnMemory result
-        (Grows (writer_contents W.contents writer.old) (writer_contents W.contents writer.new)) }
+    ensures pieces { IfWritten result (AddsPieces (S.piece shown.now)
+        (writer_contents W.contents writer.old) (writer_contents W.contents writer.new)) }
 {
     match form {
         Some(form) => show_capture(alloc, shown, paper, form, first, chunk, reader, writer),

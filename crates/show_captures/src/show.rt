@@ -1,19 +1,20 @@
 //! What is written for the units of an input.
 
-ghost use Rattle.std.specs.Prelude.{◌≡◌, ◌⊎◌, ◌<◌, [], List, ℕ, IfOk, OnOk};
-ghost use Rattle.std.specs.Io.Buffered.{writer_buffer, writer_contents, writer_inner};
+ghost use Rattle.std.specs.Prelude.{◌≡◌, ◌<◌, [], List, ℕ, IfOk, OnOk};
+ghost use Rattle.std.specs.Io.Buffered.{writer_buffer, writer_inner};
 ghost use Rattle.std.specs.Io.KnownBytes.{Appends};
 ghost use Rattle.link_capture.specs.Told.{captured_of};
-ghost use Rattle.program.specs.Printing.{no_memory_line};
+ghost use Rattle.program.specs.Printing.{no_memory_line, read_fault_line};
+ghost use Rattle.program.specs.Watched.{given, has_failed, passed_on};
 ghost use Rattle.show_captures.specs.ByOptions.{units_by_options};
+ghost use Rattle.show_captures.specs.End.{EndsBy};
 ghost use Rattle.show_captures.specs.Shower.{UnitShower};
-ghost use Rattle.show_lines.specs.Progress.{Grows, OnMemory};
-ghost use Rattle.show_lines.specs.declared.running.Stop.TheVariants.{Memory};
+ghost use Rattle.show_lines.specs.Pieces.{AddsPieces, IfWritten};
 
 use crate::packets::write_packet;
 use crate::times::write_time;
 use link_capture::{InputError, OtherFormat, Packet, Time};
-use program::{print_no_memory, print_read_fault};
+use program::{Watched, end_failed, print_no_memory, print_read_fault};
 use show_lines::{Options, ShowLines, Stop, write_bare};
 use std::alloc::Global;
 use std::io::{BufWriter, Write};
@@ -25,6 +26,9 @@ pub trait ShowUnits: ShowLines {
 
     /// What is written last if an allocation fails.
     ghost ends: { Self → List ℕ };
+
+    /// What is written last if a read fails, with the exit status.
+    ghost breaks: { Self → List ℕ → ℕ → Type 0 };
 
     /// Writes the output for the packet with this number, from 1. Returns false if it has an error.
     ///
@@ -42,7 +46,8 @@ pub trait ShowUnits: ShowLines {
         ensures shown { IfOk result (λ well. (out : List ℕ)
             × (units self.now).packets number (captured_of packet.now) out well
             × Appends (W.contents writer.old) (W.contents writer.new) out) }
-        ensures memory { OnMemory result (Grows (W.contents writer.old) (W.contents writer.new)) };
+        ensures pieces { IfWritten result (AddsPieces (Self.piece self.now)
+            (W.contents writer.old) (W.contents writer.new)) };
 
     /// Writes the output for a message of a raw stream. Returns false if it has an error.
     ///
@@ -59,7 +64,8 @@ pub trait ShowUnits: ShowLines {
         ensures shown { IfOk result (λ well. (out : List ℕ)
             × (units self.now).messages bytes.now out well
             × Appends (W.contents writer.old) (W.contents writer.new) out) }
-        ensures memory { OnMemory result (Grows (W.contents writer.old) (W.contents writer.new)) };
+        ensures pieces { IfWritten result (AddsPieces (Self.piece self.now)
+            (W.contents writer.old) (W.contents writer.new)) };
 
     /// Writes the output for the record of a time.
     ///
@@ -75,7 +81,8 @@ pub trait ShowUnits: ShowLines {
     ) -> Result<(), Stop>
         ensures shown { OnOk result ((out : List ℕ) × (units self.now).times time out
             × Appends (W.contents writer.old) (W.contents writer.new) out) }
-        ensures memory { OnMemory result (Grows (W.contents writer.old) (W.contents writer.new)) };
+        ensures pieces { IfWritten result (AddsPieces (Self.piece self.now)
+            (W.contents writer.old) (W.contents writer.new)) };
 
     /// Writes the error that ends an input, at this offset.
     ///
@@ -92,7 +99,8 @@ pub trait ShowUnits: ShowLines {
     ) -> Result<(), Stop>
         ensures shown { OnOk result (Appends (W.contents writer.old) (W.contents writer.new)
             ((units self.now).errors at error)) }
-        ensures memory { OnMemory result (Grows (W.contents writer.old) (W.contents writer.new)) };
+        ensures pieces { IfWritten result (AddsPieces (Self.piece self.now)
+            (W.contents writer.old) (W.contents writer.new)) };
 
     /// Writes that an input is a file in this format, which is not read.
     ///
@@ -108,28 +116,29 @@ pub trait ShowUnits: ShowLines {
     ) -> Result<(), Stop>
         ensures shown { OnOk result (Appends (W.contents writer.old) (W.contents writer.new)
             ((units self.now).formats format)) }
-        ensures memory { OnMemory result (Grows (W.contents writer.old) (W.contents writer.new)) };
+        ensures pieces { IfWritten result (AddsPieces (Self.piece self.now)
+            (W.contents writer.old) (W.contents writer.new)) };
 
     /// Writes what a run says at its end if it stopped early, and flushes. Returns the exit status: 4 for `Memory`, 5 for
-    /// `Reader` and `Writer`, and 5 if the writer fails.
+    /// `Reader` and `Writer`, and 5 if the writer fails, which it then says. For `Reader` it may be 4, too, if a form allocates.
     fn end<W: Write + Drop>(
         &self,
         alloc: Global,
         paper: &mut Self::Paper,
         stop: Stop,
-        writer: &mut BufWriter<W>,
+        writer: &mut BufWriter<Watched<W>>,
     ) -> u8
-        ensures cause { result ≡ 4 → stop ≡ Memory }
-        ensures memory { result ≡ 4 → Appends (writer_contents W.contents writer.old)
-            (W.contents (writer_inner writer.new)) (ends self.now) }
-        ensures empty { result < 5 → writer_buffer writer.new ≡ [] }
-        ensures known { (result ≡ 4) ⊎ (result ≡ 5) };
+        ensures said { EndsBy (ends self.now) (breaks self.now) stop result (given W.contents writer.old)
+            (passed_on W.contents writer.new) (has_failed (writer_inner writer.new)) }
+        ensures empty { result < 5 → writer_buffer writer.new ≡ [] };
 }
 
 impl ShowUnits for Options {
     ghost units = { units_by_options };
 
     ghost ends = { λ _. no_memory_line };
+
+    ghost breaks = { λ _ text status. (text ≡ read_fault_line) × (status ≡ 5) };
 
     fn show_packet<W: Write>(
         &self,
@@ -194,12 +203,12 @@ impl ShowUnits for Options {
         alloc: Global,
         paper: &mut (),
         stop: Stop,
-        writer: &mut BufWriter<W>,
+        writer: &mut BufWriter<Watched<W>>,
     ) -> u8 {
         match stop {
             Stop::Memory => print_no_memory(writer),
             Stop::Reader => print_read_fault(writer),
-            Stop::Writer => 5,
+            Stop::Writer => end_failed(writer),
         }
     }
 }

@@ -4,7 +4,7 @@ ghost use Rattle.std.specs.Prelude.{◌≡◌, List, ℕ, codes, MatchOption, On
 ghost use Rattle.std.specs.Io.KnownBytes.{Appends};
 ghost use Rattle.show_captures.specs.ByOptions.{ShowsTime};
 ghost use Rattle.show_captures.specs.Time.{HasText, IsTimeText, IsUtcText};
-ghost use Rattle.show_lines.specs.Progress.{Grows, OnMemory};
+ghost use Rattle.show_lines.specs.Pieces.{Grows, IfWritten};
 
 use arrayvec::ArrayString;
 use jiff_core::Timestamp;
@@ -17,7 +17,7 @@ use std::io::Write;
 pub(crate) fn write_time<W: Write>(time: Time, writer: &mut W) -> Result<(), Stop>
     ensures shown { OnOk result ((out : List ℕ) × ShowsTime time out
         × Appends (W.contents writer.old) (W.contents writer.new) out) }
-    ensures memory { OnMemory result (Grows (W.contents writer.old) (W.contents writer.new)) }
+    ensures pieces { IfWritten result (Grows (W.contents writer.old) (W.contents writer.new)) }
 {
     let text = time_text(time);
     let text = text.as_str();

@@ -6,7 +6,7 @@ ghost use Rattle.link_capture.specs.Told.{told_of};
 ghost use Rattle.show_captures.specs.Event.{WritesUnit, end_line};
 ghost use Rattle.show_captures.specs.Progress.{WritesUnits, Counts};
 ghost use Rattle.show_captures.specs.declared.units.Turn.TheVariants.{Done};
-ghost use Rattle.show_lines.specs.Progress.{Grows, OnMemory};
+ghost use Rattle.show_lines.specs.Pieces.{AddsPieces, IfWritten};
 
 use crate::place::Place;
 use crate::show::ShowUnits;
@@ -36,7 +36,8 @@ pub(crate) fn write_units<S: ShowUnits, W: Write>(
 ) -> Result<Turn, Stop>
     ensures shown { IfOk result (WritesUnits (S.units shown.now) is_last place.old place.new bytes.now
         (W.contents writer.old) (W.contents writer.new)) }
-    ensures memory { OnMemory result (Grows (W.contents writer.old) (W.contents writer.new)) }
+    ensures pieces { IfWritten result (AddsPieces (S.piece shown.now)
+        (W.contents writer.old) (W.contents writer.new)) }
 {
     let mut used = 0;
     let mut well = true;
@@ -76,7 +77,8 @@ fn write_unit<S: ShowUnits, W: Write>(
 ) -> Result<bool, Stop>
     ensures shown { IfOk result (λ well. WritesUnit (S.units shown.now) place.old.packets (told_of event.now)
         (W.contents writer.old) (W.contents writer.new) well × Counts (told_of event.now) size place.old place.new) }
-    ensures memory { OnMemory result (Grows (W.contents writer.old) (W.contents writer.new)) }
+    ensures pieces { IfWritten result (AddsPieces (S.piece shown.now)
+        (W.contents writer.old) (W.contents writer.new)) }
 {
     let read = match write_event(alloc, shown, paper, place.packets, event, writer) {
         Ok(read) => read,
@@ -99,7 +101,8 @@ fn write_event<S: ShowUnits, W: Write>(
 ) -> Result<bool, Stop>
     ensures shown { IfOk result (WritesUnit (S.units shown.now) packets (told_of event.now)
         (W.contents writer.old) (W.contents writer.new)) }
-    ensures memory { OnMemory result (Grows (W.contents writer.old) (W.contents writer.new)) }
+    ensures pieces { IfWritten result (AddsPieces (S.piece shown.now)
+        (W.contents writer.old) (W.contents writer.new)) }
 {
     match event {
         Event::Nothing => Ok(true),
@@ -133,7 +136,8 @@ fn write_error<S: ShowUnits, W: Write>(
 ) -> Result<Turn, Stop>
     ensures shown { IfOk result (λ turn. (turn ≡ Done false)
         × Appends (W.contents writer.old) (W.contents writer.new) (end_line (S.units shown.now) (Some (at, error)))) }
-    ensures memory { OnMemory result (Grows (W.contents writer.old) (W.contents writer.new)) }
+    ensures pieces { IfWritten result (AddsPieces (S.piece shown.now)
+        (W.contents writer.old) (W.contents writer.new)) }
 {
     match shown.show_error(alloc, paper, at, error, writer) {
         Ok(()) => Ok(Turn::Done { well: false }),

@@ -2,8 +2,6 @@
 use Rattle.std.proofs.Common.{◌≡◌, Result, Ok, Err, IfOk, OnOk}
 use Rattle.link_json.specs.declared.messages.Failure.{Failure}
 use Rattle.link_json.specs.declared.messages.Failure.TheVariants as failures
-use Rattle.link_json.specs.Message as json
-use Rattle.show_lines.specs.Progress.{OnMemory}
 use Rattle.show_json.specs.Stop.{stopped}
 
 pub if_ok : {X : Type 0} {P Q : X → Type 0} (r : Result X Failure) → ((x : X) → P x → Q x) → IfOk r P → IfOk (stopped r) Q
@@ -15,11 +13,6 @@ pub on_ok : {X P Q : Type 0} (r : Result X Failure) → (P → Q) → OnOk r P �
 on_ok (Ok x) f h = f h
 on_ok (Err failures.Memory) f h = tt
 on_ok (Err failures.Writer) f h = tt
-
-pub on_memory : {X P Q : Type 0} (r : Result X Failure) → (P → Q) → json.OnMemory r P → OnMemory (stopped r) Q
-on_memory (Ok x) f h = tt
-on_memory (Err failures.Memory) f h = f h
-on_memory (Err failures.Writer) f h = tt
 
 -- what was written, if the call did not fail
 pub given : {X P : Type 0} (r : Result X Failure) (x : X) → Ok x ≡ stopped r → OnOk r P → P

@@ -1,3 +1,4 @@
+pub mod Documents
 pub mod Failures
 pub mod Instants
 pub mod Sources

@@ -15,6 +15,10 @@ use Rattle.show_json.specs.Place.{file_of, line_fields}
 abbrev pub fault_line : List Field → Option ℕ → List ℕ → List ℕ
 fault_line place at text = document_line (fault_document place at text)
 
+-- a document, as a line
+abbrev pub IsDocument : List ℕ → Type 0
+IsDocument out = (j : Json) × (out ≡ document_line j)
+
 -- one document, as a line
 abbrev pub ShowsOne : (Json → Bool → Type 0) → List ℕ → Bool → Type 0
 ShowsOne shows out well = (j : Json) × shows j well × (out ≡ document_line j)

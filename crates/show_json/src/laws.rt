@@ -1,6 +1,6 @@
 //! Theorems about the output. The functions have empty bodies; each states its theorem as its contract.
 
-ghost use Rattle.std.specs.Prelude.{◌<◌, ◌^◌, ℕ, Bool, true, false, List, Option, length};
+ghost use Rattle.std.specs.Prelude.{◌≡◌, ◌<◌, ◌^◌, ℕ, Bool, true, false, List, Option, length};
 ghost use Rattle.json.specs.Json.{Json};
 ghost use Rattle.link_base.specs.Number.{IsBytes};
 ghost use Rattle.link_capture.specs.declared.error.InputError.{InputError};
@@ -12,7 +12,10 @@ ghost use Rattle.show_lines.specs.declared.asking.Asked.{Asked};
 ghost use Rattle.show_json.specs.declared.by_json.Json.{Json as Form};
 ghost use Rattle.show_json.specs.Form.{AreDocuments, IsCaptured, by_json};
 ghost use Rattle.show_json.specs.Line.{refused_json, answered_json};
+ghost use Rattle.show_json.specs.Place.{file_of};
 ghost use Rattle.show_json.specs.Unit.{units_json};
+
+use crate::by_json::Json;
 
 /// States that what is written for a line is documents: each is one line, reads back, has no key twice, and says in `ok`
 /// whether it has no error. The line has no error if all say so.
@@ -40,4 +43,9 @@ pub fn documents_of_units()
 pub fn documents()
     ensures { (json : Form) (raw : Bool) (s out : List ℕ) (whole : Bool) → IsBytes s → length s < 2 ^ 64
         → ShowsInput (by_json json) raw s out whole → AreDocuments out whole }
+{}
+
+/// States that a copy of the form is the form: it names the same file.
+pub fn copies()
+    ensures { (a b : Form) → ⟦<Json<'static> as Clone>⟧.is_clone a b → file_of b ≡ file_of a }
 {}

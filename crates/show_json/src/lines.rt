@@ -2,7 +2,7 @@
 
 ghost use Rattle.std.specs.Prelude.{◌≡◌, List, ℕ, IfOk};
 ghost use Rattle.std.specs.Io.KnownBytes.{Appends};
-ghost use Rattle.show_json.specs.Line.{refused_json, answered_json};
+ghost use Rattle.show_json.specs.Line.{IsDocument, refused_json, answered_json};
 
 use crate::by_json::Json;
 use crate::places::LinePlace;
@@ -18,6 +18,8 @@ impl ShowLines for Json<'_> {
     ghost refused = { refused_json };
 
     ghost answered = { answered_json };
+
+    ghost piece = { λ _. IsDocument };
 
     fn refuse<W: Write>(
         &self,
@@ -49,12 +51,14 @@ impl ShowLines for Json<'_> {
             json: *self,
             number,
         };
-        stopped(match asked {
-            Asked::Messages => write_documents(alloc, paper, &place, bytes, writer),
+        match asked {
+            Asked::Messages => stopped(write_documents(alloc, paper, &place, bytes, writer)),
             Asked::Attributes(family) => {
-                write_list_document(alloc, paper, &place, family, bytes, writer)
+                stopped(write_list_document(alloc, paper, &place, family, bytes, writer))
             }
-            Asked::Verdict(family) => write_check(alloc, paper, &place, family, bytes, writer),
-        })
+            Asked::Verdict(family) => {
+                stopped(write_check(alloc, paper, &place, family, bytes, writer))
+            }
+        }
     }
 }

@@ -3,7 +3,10 @@
 ghost use Rattle.std.specs.Prelude.{◌≡◌, List, ℕ, [], false, IfOk};
 ghost use Rattle.std.specs.Io.KnownBytes.{Appends};
 ghost use Rattle.link_capture.specs.Told.{captured_of};
-ghost use Rattle.show_lines.specs.Progress.{Grows, OnMemory};
+ghost use Rattle.show_lines.specs.Pieces.{AddsPieces, IfWritten};
+ghost use Rattle.show_json.specs.Line.{IsDocument};
+ghost use Rattle.show_json.specs.Stop.{breaks_json};
+ghost use Rattle.show_json.specs.Place.{file_fields, file_of};
 ghost use Rattle.show_json.specs.Unit.{ShowsPacketAt, short_line, units_json};
 
 use crate::by_json::Json;
@@ -13,7 +16,7 @@ use crate::stops::stopped;
 use crate::unopened::finish_with;
 use link_capture::{Bytes, InputError, OtherFormat, Packet, Time};
 use link_json::{Place, Sheet, write_documents, write_fault, write_place};
-use program::finish;
+use program::{Watched, end_failed, finish};
 use show_captures::{Carried, ShowUnits, carried_by};
 use show_lines::Stop;
 use std::alloc::Global;
@@ -23,6 +26,8 @@ impl ShowUnits for Json<'_> {
     ghost units = { units_json };
 
     ghost ends = { λ _. [] };
+
+    ghost breaks = { λ json. breaks_json (file_fields (file_of json)) };
 
     fn show_packet<W: Write>(
         &self,
@@ -97,15 +102,12 @@ impl ShowUnits for Json<'_> {
         alloc: Global,
         paper: &mut Sheet,
         stop: Stop,
-        writer: &mut BufWriter<W>,
+        writer: &mut BufWriter<Watched<W>>,
     ) -> u8 {
         match stop {
             Stop::Memory => finish(writer, 4),
-            Stop::Reader => {
-                finish_with(alloc, paper, self, "read fault", writer);
-                5
-            }
-            Stop::Writer => 5,
+            Stop::Reader => finish_with(alloc, paper, self, "read fault", writer),
+            Stop::Writer => end_failed(writer),
         }
     }
 }
@@ -121,7 +123,7 @@ fn write_carried<P: Place, W: Write>(
     ensures shown { IfOk result (λ well. (out : List ℕ)
         × ShowsPacketAt (P.fields place.now) (captured_of packet.now) out well
         × Appends (W.contents writer.old) (W.contents writer.new) out) }
-    ensures memory { OnMemory result (Grows (W.contents writer.old) (W.contents writer.new)) }
+    ensures pieces { IfWritten result (AddsPieces IsDocument (W.contents writer.old) (W.contents writer.new)) }
 {
     match carried_by(packet) {
         Carried::Messages(bytes) => stopped(write_documents(alloc, paper, place, bytes, writer)),
@@ -143,7 +145,7 @@ fn write_short<P: Place, W: Write>(
 ) -> Result<bool, Stop>
     ensures shown { IfOk result (λ well. Appends (W.contents writer.old) (W.contents writer.new)
         (short_line (P.fields place.now) length) × (well ≡ false)) }
-    ensures memory { OnMemory result (Grows (W.contents writer.old) (W.contents writer.new)) }
+    ensures pieces { IfWritten result (AddsPieces IsDocument (W.contents writer.old) (W.contents writer.new)) }
 {
     let left = Bytes(length);
     let Ok(text) = format!(in alloc; "{left}, too few for a cooked header") else {

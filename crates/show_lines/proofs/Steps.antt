@@ -1,5 +1,5 @@
 -- The steps of a run.
-use Rattle.std.proofs.Common.{◌≡◌, ◌≢◌, inl, inr, ℕ, suc, ◌+◌, ◌<◌, Bool, true, ◌&&◌, List, [], ◌∷◌, ◌++◌, length, take, Option, Result, Ok, Err, refl, sym, ap, subst, ◌∙◌, arith, append_assoc, length-append, length-take}
+use Rattle.std.proofs.Common.{◌≡◌, ◌≢◌, inl, inr, ℕ, suc, ◌+◌, ◌<◌, Bool, true, ◌&&◌, List, [], ◌∷◌, ◌++◌, length, take, Option, refl, sym, ap, subst, ◌∙◌, arith, append_assoc, length-append, length-take}
 use Rattle.std.specs.List.{flat_map}
 use Rattle.std.specs.Io.KnownBytes.{Consumes, Keeps, IsAtEnd}
 use Rattle.std.proofs.KnownBytes.{Appends-nil, Appends-trans, Appends-kept, Consumes-nil, Consumes-trans}
@@ -8,11 +8,9 @@ use Rattle.std.proofs.lemmas.List.{append-nil, nil_from_length}
 use Rattle.std.proofs.lemmas.Grind.{flat_map-append}
 use Rattle.netlink_packet_route.specs.Report.{line}
 use Rattle.link_show.proofs.Listing.{and_true, each_more}
-use Rattle.show_lines.specs.declared.running.Stop.{Stop}
-use Rattle.show_lines.specs.declared.running.Stop.TheVariants.{Memory, Reader, Writer}
 use Rattle.link_show.specs.List.{EachShown}
 use Rattle.show_lines.specs.Show.{Shower, numbered, ShowsAll, Ended, Open, IsUnbroken}
-use Rattle.show_lines.specs.Progress.{Shown, Goes, held_of, most_held, Grows, WritesLine, WritesPiece, WritesRest, OnMemory}
+use Rattle.show_lines.specs.Progress.{Shown, Goes, held_of, most_held, WritesLine, WritesPiece, WritesRest}
 use Rattle.show_lines.specs.Run.{Runs}
 use Rattle.show_lines.proofs.Cuts.{all_append, take_twice}
 use Rattle.show_lines.proofs.Kept.{IsToldByHeld}
@@ -131,10 +129,6 @@ module _ {shows : Shower} where
       let both = writes_both before held after s.done rest w v u all true s.wrote ([], goes_on held after rest solid e, Appends-kept v v u [] (Appends-nil v) keeps) in
       subst (λ p. WritesPiece shows before after p w u all) (sym s.cut) (subst (WritesPiece shows before after (s.done ++ rest) w u) (and_true all) both)
 
-  -- what was written so far, where memory ran out
-  pub fed_grows : (before held : ℕ × List ℕ) (piece rest : List ℕ) (w v u : Option (List ℕ)) (all : Bool) → Fed shows before held piece rest w v all → Grows v u → Grows w u
-  fed_grows before held piece rest w v u all s h = (s.wrote.0 ++ h.0, Appends-trans w v u s.wrote.0 h.0 s.wrote.2 h.1)
-
   -- ---- the pieces of a text
 
   -- nothing is read behind `first`
@@ -174,19 +168,6 @@ module _ {shows : Shower} where
         shown = subst (ShowsAll shows (first ++ g.text) (out ++ last.0)) (sym same) (ends_open told (first ++ g.text) out held last.0 whole well shown some last.1);
         written = Appends-trans w v u out last.0 g.wrote.2 last.2;
       }
-
-  -- what was written so far, where memory ran out
-  pub went_grows : (first : List ℕ) (held : ℕ × List ℕ) (r s w v u : Option (List ℕ)) (whole : Bool) → Went shows first held r s w v whole → Grows v u → Grows w u
-  went_grows first held r s w v u whole g h = (g.wrote.0 ++ h.0, Appends-trans w v u g.wrote.0 h.0 g.wrote.2 h.1)
-
-pub keeps_grow : (v u : Option (List ℕ)) → Keeps v u → Grows v u
-keeps_grow v u keeps = ([], Appends-kept v v u [] (Appends-nil v) keeps)
-
-pub on_memory : {X : Type 0} (P Q : Type 0) (r : Result X Stop) → (P → Q) → OnMemory r P → OnMemory r Q
-on_memory P Q (Ok x) f h = tt
-on_memory P Q (Err Memory) f h = f h
-on_memory P Q (Err Reader) f h = tt
-on_memory P Q (Err Writer) f h = tt
 
 -- a read of no bytes
 pub read_end : (s t : Option (List ℕ)) (n : ℕ) (buf : List ℕ) → n ≡ 0 → Consumes s t (take n buf) × (n ≡ 0 → 0 < length buf → IsAtEnd t) → 0 < length buf → Consumes s t [] × IsAtEnd t

@@ -14,6 +14,10 @@ use Rattle.show_lines.specs.declared.replies.Reply.{Reply}
 use Rattle.show_lines.specs.declared.replies.Reply.TheVariants.{Help, Version, Wrong}
 use Rattle.show_lines.specs.declared.replies.TheConstants.{HELP, USAGE, VERSION}
 
+-- how the program is used
+abbrev pub usage_line : List ℕ
+usage_line = codes "usage: nlshow [--format plain|debug|json] [--check] [--raw] [FILE].. | --help | --version"
+
 abbrev pub reply_text : Reply → List ℕ
 reply_text Help = HELP.now
 reply_text Version = VERSION.now

@@ -1,12 +1,10 @@
 -- The progress of a run through its input.
-use Rattle.std.specs.Prelude.{◌≡◌, ◌≢◌, ◌⊎◌, ℕ, suc, ◌+◌, Bool, ◌&&◌, List, [], ◌++◌, length, take, Option, Result, Ok, Err}
+use Rattle.std.specs.Prelude.{◌≡◌, ◌≢◌, ◌⊎◌, ℕ, suc, ◌+◌, Bool, ◌&&◌, List, [], ◌++◌, length, take, Option}
 use Rattle.std.specs.List.{flat_map, AllByRecursion}
 use Rattle.std.specs.Io.KnownBytes.{Appends, Keeps}
 use Rattle.netlink_packet_route.specs.Report.{line, most_text}
 use Rattle.show_lines.specs.declared.arguments.Options.{Options}
 use Rattle.show_lines.specs.declared.asking.Asked.{Asked}
-use Rattle.show_lines.specs.declared.running.Stop.{Stop}
-use Rattle.show_lines.specs.declared.running.Stop.TheVariants.{Memory, Reader, Writer}
 use Rattle.link_show.specs.List.{EachShown}
 use Rattle.show_lines.specs.Show.{Form, Shower, numbered, repeated, ShowsBare, IsUnbroken}
 
@@ -37,10 +35,6 @@ Goes shows before after piece written all =
 
 -- ---- what functions write
 
--- zero or more bytes were written
-abbrev pub Grows : Option (List ℕ) → Option (List ℕ) → Type 0
-Grows held_before held_after = (out : List ℕ) × Appends held_before held_after out
-
 -- the output for a line was written; the line may have its number with it
 abbrev pub WritesLine : {X : Type 0} → (X → List ℕ → Bool → Type 0) → X → Option (List ℕ) → Option (List ℕ) → Bool → Type 0
 WritesLine shows x held_before held_after read = (out : List ℕ) × shows x out read × Appends held_before held_after out
@@ -62,10 +56,3 @@ WritesRest shows held whole held_before held_after all =
 -- the output for a piece of the input was written
 abbrev pub WritesPiece : Shower → ℕ × List ℕ → ℕ × List ℕ → List ℕ → Option (List ℕ) → Option (List ℕ) → Bool → Type 0
 WritesPiece shows before after piece held_before held_after all = (out : List ℕ) × Goes shows before after piece out all × Appends held_before held_after out
-
--- if the call failed with `Memory`, then P holds
-abbrev pub OnMemory : {X : Type 0} → Result X Stop → Type 0 → Type 0
-OnMemory (Ok x) P = Unit {0}
-OnMemory (Err Memory) P = P
-OnMemory (Err Reader) P = Unit {0}
-OnMemory (Err Writer) P = Unit {0}

@@ -6,7 +6,8 @@ ghost use Rattle.link_show.specs.List.{Writes};
 ghost use Rattle.link_show.specs.Message as plain;
 ghost use Rattle.link_show.specs.Sink.{Whole};
 ghost use Rattle.show_lines.specs.Messages.{ShowsMessages};
-ghost use Rattle.show_lines.specs.Progress.{WritesMessages, OnMemory};
+ghost use Rattle.show_lines.specs.Pieces.{OnStop};
+ghost use Rattle.show_lines.specs.Progress.{WritesMessages};
 
 use crate::arguments::{Format, Options};
 use crate::messages::push_messages;
@@ -28,7 +29,7 @@ pub fn write_bare<W: Write>(
     writer: &mut W,
 ) -> Result<bool, Stop>
     ensures shown { IfOk result (WritesMessages options bytes.now (W.contents writer.old) (W.contents writer.new)) }
-    ensures memory { OnMemory result (Keeps (W.contents writer.old) (W.contents writer.new)) }
+    ensures stopped { OnStop result (Keeps (W.contents writer.old) (W.contents writer.new)) }
 {
     match options.format {
         Format::Plain => write_plain(options.check, bytes, writer),
@@ -40,7 +41,7 @@ pub fn write_bare<W: Write>(
 fn write_plain<W: Write>(check: bool, bytes: &[u8], writer: &mut W) -> Result<bool, Stop>
     ensures shown { IfOk result (Writes (plain.ShowsMessages check bytes.now)
         (Whole (W.contents writer.old)) (Whole (W.contents writer.new))) }
-    ensures memory { OnMemory result (Keeps (W.contents writer.old) (W.contents writer.new)) }
+    ensures stopped { OnStop result (Keeps (W.contents writer.old) (W.contents writer.new)) }
 {
     match write_messages(writer, bytes, check) {
         Ok(well) => Ok(well),
@@ -52,7 +53,7 @@ fn write_plain<W: Write>(check: bool, bytes: &[u8], writer: &mut W) -> Result<bo
 fn write_debug<W: Write>(alloc: Global, bytes: &[u8], writer: &mut W) -> Result<bool, Stop>
     ensures shown { IfOk result (Writes (ShowsMessages bytes.now)
         (Whole (W.contents writer.old)) (Whole (W.contents writer.new))) }
-    ensures memory { OnMemory result (Keeps (W.contents writer.old) (W.contents writer.new)) }
+    ensures stopped { OnStop result (Keeps (W.contents writer.old) (W.contents writer.new)) }
 {
     let mut text = String::new(alloc);
     let well = match push_messages(alloc, &mut text, bytes) {

@@ -5,7 +5,8 @@ ghost use Rattle.std.specs.Option.{option_copied};
 ghost use Rattle.std.specs.Io.KnownBytes.{Appends, Keeps};
 ghost use Rattle.netlink_packet_route.specs.Report.{line};
 ghost use Rattle.show_lines.specs.Show.{ShowsAs, refusal, refused_by_options, answered_by_options, repeated};
-ghost use Rattle.show_lines.specs.Progress.{WritesAnswer, OnMemory};
+ghost use Rattle.show_lines.specs.Pieces.{OnStop};
+ghost use Rattle.show_lines.specs.Progress.{WritesAnswer};
 
 use crate::arguments::{Format, Options};
 use crate::asking::Asked;
@@ -24,6 +25,8 @@ impl ShowLines for Options {
     ghost refused = { refused_by_options };
 
     ghost answered = { answered_by_options };
+
+    ghost piece = { λ _ _. Unit {0} };
 
     fn refuse<W: Write>(
         &self,
@@ -84,7 +87,7 @@ fn write_answer<W: Write>(
 ) -> Result<bool, Stop>
     ensures shown { IfOk result (WritesAnswer (ShowsAs options.format options.check) asked bytes.now
         text.now (W.contents writer.old) (W.contents writer.new)) }
-    ensures memory { OnMemory result (Keeps (W.contents writer.old) (W.contents writer.new)) }
+    ensures stopped { OnStop result (Keeps (W.contents writer.old) (W.contents writer.new)) }
 {
     match options.format {
         Format::Plain => write_plain(writer, text, asked, options.check, bytes),

@@ -4,7 +4,8 @@ ghost use Rattle.std.specs.Prelude.{◌≡◌, ◌++◌, Ok, IfOk};
 ghost use Rattle.std.specs.Io.KnownBytes.{Appends, Keeps};
 ghost use Rattle.netlink_packet_route.specs.Report.{line};
 ghost use Rattle.show_lines.specs.Show.{ShowsDebug, repeated};
-ghost use Rattle.show_lines.specs.Progress.{WritesAnswer, OnMemory};
+ghost use Rattle.show_lines.specs.Pieces.{OnStop};
+ghost use Rattle.show_lines.specs.Progress.{WritesAnswer};
 
 use crate::asking::Asked;
 use crate::by_options::write_below;
@@ -27,7 +28,7 @@ pub(crate) fn write_debug<W: Write>(
 ) -> Result<bool, Stop>
     ensures shown { IfOk result (WritesAnswer ShowsDebug asked bytes.now
         text.now (W.contents writer.old) (W.contents writer.new)) }
-    ensures memory { OnMemory result (Keeps (W.contents writer.old) (W.contents writer.new)) }
+    ensures stopped { OnStop result (Keeps (W.contents writer.old) (W.contents writer.new)) }
 {
     let mut below = String::new(alloc);
     match asked {
@@ -53,7 +54,7 @@ fn write_pushed<W: Write>(
 ) -> Result<bool, Stop>
     ensures shown { IfOk result (λ well. (read ≡ Ok well)
         × Appends (W.contents writer.old) (W.contents writer.new) (line (repeated text.now) ++ below.now)) }
-    ensures memory { OnMemory result (Keeps (W.contents writer.old) (W.contents writer.new)) }
+    ensures stopped { OnStop result (Keeps (W.contents writer.old) (W.contents writer.new)) }
 {
     match read {
         Ok(read) => match write_below(writer, text, below) {

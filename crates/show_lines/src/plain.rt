@@ -5,7 +5,8 @@ ghost use Rattle.std.specs.Io.KnownBytes.{Keeps};
 ghost use Rattle.link_show.specs.List.{Writes};
 ghost use Rattle.link_show.specs.Sink.{Whole};
 ghost use Rattle.show_lines.specs.Show.{ShowsPlain};
-ghost use Rattle.show_lines.specs.Progress.{WritesAnswer, OnMemory};
+ghost use Rattle.show_lines.specs.Pieces.{OnStop};
+ghost use Rattle.show_lines.specs.Progress.{WritesAnswer};
 
 use crate::asking::Asked;
 use crate::repeating::write_repeated;
@@ -26,7 +27,7 @@ pub(crate) fn write_plain<W: Write>(
 ) -> Result<bool, Stop>
     ensures shown { IfOk result (WritesAnswer (ShowsPlain check) asked bytes.now
         text.now (W.contents writer.old) (W.contents writer.new)) }
-    ensures memory { OnMemory result (Keeps (W.contents writer.old) (W.contents writer.new)) }
+    ensures stopped { OnStop result (Keeps (W.contents writer.old) (W.contents writer.new)) }
 {
     match write_line(writer, text, asked, check, bytes) {
         Ok(well) => Ok(well),

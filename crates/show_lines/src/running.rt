@@ -6,7 +6,8 @@ ghost use Rattle.std.specs.Io.Buffered.{writer_buffer, writer_contents, writer_i
 ghost use Rattle.std.specs.Io.KnownBytes.{ReadConsumes};
 ghost use Rattle.netlink_packet_route.specs.Report.{line};
 ghost use Rattle.show_lines.specs.Show.{IsUnbroken, shower_of};
-ghost use Rattle.show_lines.specs.Progress.{held_of, Grows, WritesLine, WritesPiece, WritesRest, OnMemory};
+ghost use Rattle.show_lines.specs.Pieces.{AddsPieces, IfWritten};
+ghost use Rattle.show_lines.specs.Progress.{held_of, WritesLine, WritesPiece, WritesRest};
 ghost use Rattle.show_lines.specs.Run.{Runs};
 
 use crate::held::Held;
@@ -46,8 +47,8 @@ pub fn show_lines<S: ShowLines, R: Read, W: Write + Drop>(
     requires { 0 < length chunk.old }
     ensures shown { IfOk result (Runs (shower_of S.refused S.answered shown.now) first.now (R.remaining reader.old) (R.remaining reader.new)
         (writer_contents W.contents writer.old) (writer_contents W.contents writer.new)) }
-    ensures memory { OnMemory result
-        (Grows (writer_contents W.contents writer.old) (writer_contents W.contents writer.new)) }
+    ensures pieces { IfWritten result (AddsPieces (S.piece shown.now)
+        (writer_contents W.contents writer.old) (writer_contents W.contents writer.new)) }
 {
     let mut held = Held::new(alloc);
     let mut whole = match feed(alloc, shown, paper, &mut held, first, writer) {
@@ -96,8 +97,8 @@ fn feed<S: ShowLines, W: Write + Drop>(
     ensures shown { IfOk result (WritesPiece (shower_of S.refused S.answered shown.now) held.old held.new chunk.now
         (writer_contents W.contents writer.old) (writer_contents W.contents writer.new)) }
     ensures flushed { IfOk result (λ _. writer_buffer writer.new ≡ []) }
-    ensures memory { OnMemory result
-        (Grows (writer_contents W.contents writer.old) (writer_contents W.contents writer.new)) }
+    ensures pieces { IfWritten result (AddsPieces (S.piece shown.now)
+        (writer_contents W.contents writer.old) (writer_contents W.contents writer.new)) }
 {
     let mut whole = true;
     let mut rest = chunk;
@@ -141,7 +142,8 @@ fn end_line<S: ShowLines, W: Write>(
     ensures shown { IfOk result (WritesLine (shower_of S.refused S.answered shown.now) (held.old.0, held_of (held.old.1 ++ piece.now))
         (W.contents writer.old) (W.contents writer.new)) }
     ensures forgotten { IfOk result (λ _. held.new ≡ (suc held.old.0, [])) }
-    ensures memory { OnMemory result (Grows (W.contents writer.old) (W.contents writer.new)) }
+    ensures pieces { IfWritten result (AddsPieces (S.piece shown.now)
+        (W.contents writer.old) (W.contents writer.new)) }
 {
     match held.add(piece) {
         Ok(()) => {}
@@ -168,7 +170,8 @@ fn end_text<S: ShowLines, W: Write>(
 ) -> Result<bool, Stop>
     ensures shown { IfOk result (WritesRest (shower_of S.refused S.answered shown.now) held.now whole
         (W.contents writer.old) (W.contents writer.new)) }
-    ensures memory { OnMemory result (Grows (W.contents writer.old) (W.contents writer.new)) }
+    ensures pieces { IfWritten result (AddsPieces (S.piece shown.now)
+        (W.contents writer.old) (W.contents writer.new)) }
 {
     let text = held.bytes();
     if text.is_empty() {

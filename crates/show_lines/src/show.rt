@@ -4,7 +4,7 @@ ghost use Rattle.std.specs.Prelude.{ℕ, List, IfOk};
 ghost use Rattle.std.specs.Option.{option_copied};
 ghost use Rattle.std.specs.Io.KnownBytes.{Appends};
 ghost use Rattle.show_lines.specs.Show.{Refused, Answered};
-ghost use Rattle.show_lines.specs.Progress.{Grows, OnMemory};
+ghost use Rattle.show_lines.specs.Pieces.{AddsPieces, IfWritten};
 
 use crate::asking::Asked;
 use crate::running::Stop;
@@ -23,6 +23,9 @@ pub trait ShowLines {
     /// What is written for what a line asks for, and whether it has no error.
     ghost answered: { Self → Answered };
 
+    /// What is written at once. Unless the writer fails, zero or more of these are written, also by a call that stops.
+    ghost piece: { Self → List ℕ → Type 0 };
+
     /// Writes that the line with this number, from 1, is refused, for a reason such as `bad hex`, which has no LF. `text` is
     /// the line, or `None` if it is too long.
     ///
@@ -40,7 +43,8 @@ pub trait ShowLines {
     ) -> Result<(), Stop>
         ensures shown { IfOk result (λ _. Appends (W.contents writer.old) (W.contents writer.new)
             (refused self.now number (option_copied text.entry) reason.now)) }
-        ensures memory { OnMemory result (Grows (W.contents writer.old) (W.contents writer.new)) };
+        ensures pieces { IfWritten result (AddsPieces (piece self.now)
+            (W.contents writer.old) (W.contents writer.new)) };
 
     /// Writes what the line with this number, from 1, asks for: `asked`, of `bytes`. Returns false if that has an error.
     ///
@@ -60,5 +64,6 @@ pub trait ShowLines {
         ensures shown { IfOk result (λ well. (out : List ℕ)
             × answered self.now (number, text.now) asked bytes.now out well
             × Appends (W.contents writer.old) (W.contents writer.new) out) }
-        ensures memory { OnMemory result (Grows (W.contents writer.old) (W.contents writer.new)) };
+        ensures pieces { IfWritten result (AddsPieces (piece self.now)
+            (W.contents writer.old) (W.contents writer.new)) };
 }

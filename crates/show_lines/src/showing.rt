@@ -5,7 +5,8 @@ ghost use Rattle.std.specs.Option.{option_copied};
 ghost use Rattle.std.specs.Io.KnownBytes.{Appends};
 ghost use Rattle.netlink_packet_route.specs.Report.{most_text};
 ghost use Rattle.show_lines.specs.Show.{IsPassedOver, shower_of};
-ghost use Rattle.show_lines.specs.Progress.{Grows, WritesLine, OnMemory};
+ghost use Rattle.show_lines.specs.Pieces.{AddsPieces, IfWritten};
+ghost use Rattle.show_lines.specs.Progress.{WritesLine};
 
 use crate::asking::Asked;
 use crate::running::Stop;
@@ -27,7 +28,8 @@ pub(crate) fn show_line<S: ShowLines, W: Write>(
 ) -> Result<bool, Stop>
     ensures shown { IfOk result (WritesLine (shower_of S.refused S.answered shown.now) (number, text.now)
         (W.contents writer.old) (W.contents writer.new)) }
-    ensures memory { OnMemory result (Grows (W.contents writer.old) (W.contents writer.new)) }
+    ensures pieces { IfWritten result (AddsPieces (S.piece shown.now)
+        (W.contents writer.old) (W.contents writer.new)) }
 {
     if text.len() > MOST_TEXT {
         return refuse(alloc, shown, paper, number, None, "input too long", writer);
@@ -61,7 +63,8 @@ fn show_asked<S: ShowLines, W: Write>(
     requires asks { ¬ IsPassedOver text.now }
     ensures shown { IfOk result (WritesLine (shower_of S.refused S.answered shown.now) (number, text.now)
         (W.contents writer.old) (W.contents writer.new)) }
-    ensures memory { OnMemory result (Grows (W.contents writer.old) (W.contents writer.new)) }
+    ensures pieces { IfWritten result (AddsPieces (S.piece shown.now)
+        (W.contents writer.old) (W.contents writer.new)) }
 {
     let (asked, digits) = match Asked::from_line(text) {
         Some(found) => found,
@@ -89,7 +92,8 @@ fn refuse<S: ShowLines, W: Write>(
 ) -> Result<bool, Stop>
     ensures shown { IfOk result (λ well. Appends (W.contents writer.old) (W.contents writer.new)
         (S.refused shown.now number (option_copied text.entry) reason.now) × (well ≡ false)) }
-    ensures memory { OnMemory result (Grows (W.contents writer.old) (W.contents writer.new)) }
+    ensures pieces { IfWritten result (AddsPieces (S.piece shown.now)
+        (W.contents writer.old) (W.contents writer.new)) }
 {
     match shown.refuse(alloc, paper, number, text, reason, writer) {
         Ok(()) => Ok(false),

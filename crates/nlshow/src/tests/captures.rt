@@ -2,7 +2,6 @@
 
 use super::{Narrow, PLAIN, buffered, fails_anywhere, stops_anywhere};
 use crate::run_task;
-use program::Watched;
 use show_lines::Task;
 
 /// Parts of a pcap file, each with the output for it.
@@ -125,7 +124,7 @@ fn files_whose_writer_fails_anywhere(rt: HostRuntime) {
             room,
             failures: 0,
         };
-        let mut writer = buffered(&rt, alloc, Watched::new(narrow));
+        let mut writer = buffered(&rt, alloc, narrow);
         let status = run_task(&rt, &task, &mut writer);
         let watched = writer.get_ref();
         let narrow = watched.get_ref();

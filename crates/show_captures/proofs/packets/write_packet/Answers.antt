@@ -1,12 +1,11 @@
-use Rattle.std.proofs.Common.{◌++◌, Bool, List, ℕ, refl, subst}
+use Rattle.std.proofs.Common.{◌++◌, List, ℕ, refl, subst}
 use Rattle.std.specs.Io.KnownBytes.{Appends}
 use Rattle.std.proofs.KnownBytes.{Appends-trans}
 use Rattle.link_capture.specs.Told.{captured_of}
 use Rattle.link_show.proofs.MessageLines.{if_ok}
-use Rattle.show_lines.specs.Progress.{Grows}
-use Rattle.show_lines.proofs.Steps.{on_memory}
+use Rattle.show_lines.specs.Pieces.{Grows}
+use Rattle.show_lines.proofs.Pieces.{adds_one, adds_more, if_written}
 use Rattle.show_captures.specs.Packet.{ShowsPacket, ShowsBelow, packet_line}
-use Rattle.show_captures.proofs.Lines.{grows_more}
 use Rattle.show_captures.proofs.packets.write_packet.Goals as goal
 
 pub returns-in-Ok-clause-shown : goal.returns-in-Ok-clause-shown
@@ -24,9 +23,9 @@ returns-in-Ok-clause-shown g c =
       Appends-trans w v u (packet_line c.args.number time p) below.0 written below.2,
     )) c.write_below.ensures.shown
 
-pub returns-in-Ok-clause-memory : goal.returns-in-Ok-clause-memory
-returns-in-Ok-clause-memory g c =
+pub returns-in-Ok-clause-pieces : goal.returns-in-Ok-clause-pieces
+returns-in-Ok-clause-pieces g c =
     let w = g.W.Write.contents c.args.writer.now in
     let v = g.W.Write.contents c.write_line.new.writer in
     let u = g.W.Write.contents c.write_below.new.writer in
-    on_memory {X = Bool} (Grows v u) (Grows w u) c.write_below.result (grows_more w v u (packet_line c.args.number c.as_str.result.now (captured_of c.args.packet.now)) c.in-Ok.ensures) c.write_below.ensures.memory
+    if_written (Grows v u) (Grows w u) c.write_below.result (adds_more w v u (adds_one (packet_line c.args.number c.as_str.result.now (captured_of c.args.packet.now)) w v tt c.in-Ok.ensures)) c.write_below.ensures.pieces

@@ -1,11 +1,13 @@
-use Rattle.std.proofs.Common.{◌≡◌, Bool, [], Some, Ok, Err, if◌then◌else◌, sym, ap, subst, ◌∙◌}
+use Rattle.std.proofs.Common.{◌≡◌, ℕ, Bool, [], Some, Ok, Err, if◌then◌else◌, sym, ap, subst, ◌∙◌}
 use Rattle.std.specs.Io.Buffered.{writer_contents}
 use Rattle.std.specs.Io.KnownBytes.{Appends}
-use Rattle.show_lines.specs.Progress.{Grows}
+use Rattle.show_lines.specs.Pieces.{AddsPieces}
 use Rattle.show_captures.specs.Run.{RunsFrom, RunsFor, input_form}
 use Rattle.show_captures.specs.Shower.{shower_of}
-use Rattle.show_captures.proofs.Lines.{kept_grows}
-use Rattle.show_captures.proofs.Told.{runs_on, runs_out, runs_other, status_ok, status_other, status_memory}
+use Rattle.show_lines.proofs.Pieces.{adds_more, kept_adds}
+use Rattle.show_captures.proofs.Told.{runs_on, runs_out, runs_other, status_ok, status_other, status_written}
+use Rattle.std.specs.Io.KnownBytes.{Keeps}
+use Rattle.show_lines.proofs.Pieces.{adds_none, if_written}
 use Rattle.show_captures.proofs.running.show_input.Goals as goal
 
 pub returns-then-first-clause-shown : goal.returns-then-first-clause-shown
@@ -25,11 +27,11 @@ returns-then-first-clause-shown g c =
     (λ whole h. runs_out {shower = shower} c.args.raw form bytes r s (Some []) w v u whole is c.in-Ok-read_first.ensures.read (c.in-Ok-read_first.ensures.last c.if-first.true) c.in-Ok-read_first.ensures.kept
     (subst (λ l. RunsFrom shower form l (Some []) (Some []) v u whole) same h)) c.show_from.ensures.shown
 
-pub returns-then-first-clause-memory : goal.returns-then-first-clause-memory
-returns-then-first-clause-memory g c =
+pub returns-then-first-clause-pieces : goal.returns-then-first-clause-pieces
+returns-then-first-clause-pieces g c =
     let contents = writer_contents g.W.Write.contents in
-    status_memory {X = Bool} (λ whole. if whole then 0 else 1) (Grows (contents c.read_first.new.writer) (contents c.show_from.new.writer)) (Grows (contents c.args.writer.now) (contents c.show_from.new.writer)) c.show_from.result c.status_of.result c.status_of.ensures
-    (kept_grows (contents c.args.writer.now) (contents c.read_first.new.writer) (contents c.show_from.new.writer) c.in-Ok-read_first.ensures.kept) c.show_from.ensures.memory
+    status_written {X = Bool} (λ whole. if whole then 0 else 1) (AddsPieces (g.S.ShowLines.piece c.args.shown.now) (contents c.read_first.new.writer) (contents c.show_from.new.writer)) (AddsPieces (g.S.ShowLines.piece c.args.shown.now) (contents c.args.writer.now) (contents c.show_from.new.writer)) c.show_from.result c.status_of.result c.status_of.ensures
+    (adds_more (contents c.args.writer.now) (contents c.read_first.new.writer) (contents c.show_from.new.writer) (kept_adds (contents c.args.writer.now) (contents c.read_first.new.writer) c.in-Ok-read_first.ensures.kept)) c.show_from.ensures.pieces
 
 pub returns-clause-shown : goal.returns-clause-shown
 returns-clause-shown g c =
@@ -49,11 +51,11 @@ returns-clause-shown g c =
     (λ whole h. runs_on {shower = shower} c.args.raw form bytes r s t w v u whole is c.in-Ok-read_first.ensures.read c.in-Ok-read_first.ensures.kept (c.in-Ok-read_first.ensures.told c.if-first.false)
     (subst (λ l. RunsFrom shower form l s t v u whole) same h)) c.show_from-2.ensures.shown
 
-pub returns-clause-memory : goal.returns-clause-memory
-returns-clause-memory g c =
+pub returns-clause-pieces : goal.returns-clause-pieces
+returns-clause-pieces g c =
     let contents = writer_contents g.W.Write.contents in
-    status_memory {X = Bool} (λ whole. if whole then 0 else 1) (Grows (contents c.read_first.new.writer) (contents c.show_from-2.new.writer)) (Grows (contents c.args.writer.now) (contents c.show_from-2.new.writer)) c.show_from-2.result c.status_of-2.result c.status_of-2.ensures
-    (kept_grows (contents c.args.writer.now) (contents c.read_first.new.writer) (contents c.show_from-2.new.writer) c.in-Ok-read_first.ensures.kept) c.show_from-2.ensures.memory
+    status_written {X = Bool} (λ whole. if whole then 0 else 1) (AddsPieces (g.S.ShowLines.piece c.args.shown.now) (contents c.read_first.new.writer) (contents c.show_from-2.new.writer)) (AddsPieces (g.S.ShowLines.piece c.args.shown.now) (contents c.args.writer.now) (contents c.show_from-2.new.writer)) c.show_from-2.result c.status_of-2.result c.status_of-2.ensures
+    (adds_more (contents c.args.writer.now) (contents c.read_first.new.writer) (contents c.show_from-2.new.writer) (kept_adds (contents c.args.writer.now) (contents c.read_first.new.writer) c.in-Ok-read_first.ensures.kept)) c.show_from-2.ensures.pieces
 
 pub returns-in-Err-form_of-clause-shown : goal.returns-in-Err-form_of-clause-shown
 returns-in-Err-form_of-clause-shown g c =
@@ -70,8 +72,16 @@ returns-in-Err-form_of-clause-shown g c =
     status_other 2 (Appends v u (shower.units.formats format)) (RunsFor shower c.args.raw r s w u) c.show_format.result c.status_of_other.result c.status_of_other.ensures
     (λ written. runs_other {shower = shower} c.args.raw first.is_last format first.bytes.items r s w v u is c.in-Ok-read_first.ensures.read c.in-Ok-read_first.ensures.last c.in-Ok-read_first.ensures.told c.in-Ok-read_first.ensures.kept written) c.show_format.ensures.shown
 
-pub returns-in-Err-form_of-clause-memory : goal.returns-in-Err-form_of-clause-memory
-returns-in-Err-form_of-clause-memory g c =
+pub returns-in-Err-form_of-clause-pieces : goal.returns-in-Err-form_of-clause-pieces
+returns-in-Err-form_of-clause-pieces g c =
     let contents = writer_contents g.W.Write.contents in
-    status_memory (λ _. 2) (Grows (contents c.read_first.new.writer) (contents c.show_format.new.writer)) (Grows (contents c.args.writer.now) (contents c.show_format.new.writer)) c.show_format.result c.status_of_other.result c.status_of_other.ensures
-    (kept_grows (contents c.args.writer.now) (contents c.read_first.new.writer) (contents c.show_format.new.writer) c.in-Ok-read_first.ensures.kept) c.show_format.ensures.memory
+    status_written (λ _. 2) (AddsPieces (g.S.ShowLines.piece c.args.shown.now) (contents c.read_first.new.writer) (contents c.show_format.new.writer)) (AddsPieces (g.S.ShowLines.piece c.args.shown.now) (contents c.args.writer.now) (contents c.show_format.new.writer)) c.show_format.result c.status_of_other.result c.status_of_other.ensures
+    (adds_more (contents c.args.writer.now) (contents c.read_first.new.writer) (contents c.show_format.new.writer) (kept_adds (contents c.args.writer.now) (contents c.read_first.new.writer) c.in-Ok-read_first.ensures.kept)) c.show_format.ensures.pieces
+
+pub returns-in-Err-clause-pieces : goal.returns-in-Err-clause-pieces
+returns-in-Err-clause-pieces g c = adds_none (writer_contents g.W.Write.contents c.args.writer.now)
+
+pub returns-in-Err-read_first-clause-pieces : goal.returns-in-Err-read_first-clause-pieces
+returns-in-Err-read_first-clause-pieces g c =
+    let w = writer_contents g.W.Write.contents c.args.writer.now in
+    let v = writer_contents g.W.Write.contents c.read_first.new.writer in if_written {X = ℕ} (Keeps w v) (AddsPieces (g.S.ShowLines.piece c.args.shown.now) w v) (Err c.in-Err-read_first.stop) (kept_adds w v) c.in-Err-read_first.ensures.kept

@@ -6,6 +6,7 @@ use Rattle.show_lines.specs.declared.asking.Asked.{Asked}
 use Rattle.show_lines.specs.Show.{Refused, Answered, ShowsDigits, shower_of, Known, Unknown}
 use Rattle.show_lines.specs.Progress.{WritesLine}
 use Rattle.link_show.proofs.MessageLines.{if_ok}
+use Rattle.show_lines.proofs.Pieces.{adds_none}
 use Rattle.show_lines.proofs.showing.show_asked.Goals as goal
 
 -- digits that are not valid hex
@@ -49,3 +50,6 @@ returns-in-Err-BadHex-clause-shown g c =
     let bad = rw c.in-Err-BadHex.field-0-is at c.in-Err-BadHex.ensures in
     if_ok (λ well. Appends old new out × (well ≡ false)) (WritesLine shows x old new) c.refuse-in-Err-BadHex.result
     (λ well h. (out, Known c.requires.short c.requires.asks asked c.in-Some.found.1.now c.in-Some.ensures (bad_digits refused answered x asked _ out well bad refl h.1), h.0)) c.refuse-in-Err-BadHex.ensures.shown
+
+pub returns-in-Err-Memory-clause-pieces : goal.returns-in-Err-Memory-clause-pieces
+returns-in-Err-Memory-clause-pieces g c = adds_none (g.W.Write.contents c.args.writer.now)
