@@ -15,7 +15,14 @@
 #
 # With --fast the builds are those of bench/unproved.py: they take four to five minutes, and nothing of them is proved.
 # Otherwise the first call takes half an hour or more. If a build fails, nothing is installed.
-# It needs cc, ld, objcopy and ar (Debian's packages gcc, libc6-dev and binutils). CC names another compiler.
+# It needs ld, objcopy and ar of Debian's package binutils, and git, which names the commit.
+#
+# Each binary has a mark: version, `proved` or `unproved`, commit (with `+changes` if files of the tree differ) and kit.
+# `readelf -p .note.nlroute FILE` prints it for the libraries, for bin/ and for programs with the static library.
+# nlroute_build() returns it, `pkg-config --variable=build nlroute` prints it. It is a label: whoever builds can write any.
+#
+# If NLROUTE_BUILT names a folder with libnlroute_ffi.a, nlroute and nlshow, these are installed, and nothing is built.
+# Nobody knows whether they are proved, so they are marked `unproved`.
 set -eu
 
 usage() {
@@ -29,6 +36,7 @@ if [ "${1-}" = --fast ]; then
     shift
 fi
 [ $# = 1 ] || usage
+[ -z "${NLROUTE_BUILT-}" ] || fast=yes
 case $1 in
 '' | -*) usage ;;
 /*) into=${DESTDIR-}$1 ;;
@@ -56,11 +64,19 @@ trap 'exit 1' INT TERM
 number=$(sed -n 's/^#define NLROUTE_VERSION \(0x[0-9A-Fa-f]*\)u$/\1/p' crates/nlroute_ffi/include/nlroute.h)
 name=libnlroute.so.$((number >> 16)).$((number >> 8 & 255))
 version=$((number >> 16)).$((number >> 8 & 255)).$((number & 255))
+commit=unknown
+if [ -e .git ] && head=$(git rev-parse HEAD 2>/dev/null); then
+    commit=$head
+    [ -z "$(git status --porcelain)" ] || commit=$commit+changes
+fi
+mark="nlroute $version, ${fast:+un}proved, commit $commit, $(rt version)"
 
 # Builds the three crates, and copies the results to $room.
 build() {
-    if [ -n "$fast" ]; then
-        echo "install.sh: unproved build: nothing of it is proved" >&2
+    [ -z "$fast" ] || echo "install.sh: unproved build: nothing of it is proved" >&2
+    if [ -n "${NLROUTE_BUILT-}" ]; then
+        cp "$NLROUTE_BUILT/libnlroute_ffi.a" "$NLROUTE_BUILT/nlroute" "$NLROUTE_BUILT/nlshow" "$room"
+    elif [ -n "$fast" ]; then
         for crate in nlroute_ffi nlroute nlshow; do
             bench/unproved.py "crates/$crate" >&2
         done
@@ -74,14 +90,51 @@ build() {
     fi
 }
 
-# Makes one object of the three archives, which exports only nlroute_*, and from it the archive and the shared object.
+# Writes the mark in assembly: an ELF note, and the function that returns its text.
+write_mark() {
+    cat <<END
+    .section .note.nlroute,"a",@note
+    .balign 4
+    .long 8, end - text, 1
+    .asciz "nlroute"
+text:
+    .asciz "$mark"
+end:
+    .balign 4
+    .section .text.nlroute_build,"ax",@progbits
+    .globl nlroute_build
+    .type nlroute_build,@function
+nlroute_build:
+    lea text(%rip), %rax
+    ret
+    .size nlroute_build, . - nlroute_build
+    .section .note.GNU-stack,"",@progbits
+END
+}
+
+# Makes one object of the three archives and the mark, which exports only nlroute_*, and from it the archive and the
+# shared object. The compiler of this machine is not used: the shared object has no start files, and no .comment. Level
+# x86-64-v2 is that of the code: the loader refuses the library on older processors, where it would end with SIGILL.
+# (-z ibt would be false: few of the code's indirect jumps lead to an endbr64. -z shstk would be true, but nothing tests it.)
 link() {
-    ld -r -o nlroute.o --whole-archive libnlroute_ffi.a --no-whole-archive "$kit/c/libos_c.a" "$kit/c/liblibc_c.a"
-    objcopy --wildcard --keep-global-symbol='nlroute_*' nlroute.o
+    write_mark >mark.s
+    "$kit/toolchain/bin/clang" --no-default-config -c -o mark.o mark.s
+    ld -r -z x86-64-v2 -o nlroute.o mark.o --whole-archive libnlroute_ffi.a --no-whole-archive \
+        "$kit/c/libos_c.a" "$kit/c/liblibc_c.a"
+    objcopy --remove-section=.comment --wildcard --keep-global-symbol='nlroute_*' nlroute.o
     ar rcsD libnlroute.a nlroute.o
-    echo '{ global: nlroute_*; local: *; };' >exports
-    "${CC:-cc}" -shared -o "libnlroute.so.$version" nlroute.o \
-        -Wl,-soname,"$name" -Wl,--version-script,exports -Wl,-z,defs -Wl,-z,relro,-z,now
+    echo "NLROUTE_${version%.*} { global: nlroute_*; local: *; };" >exports
+    ld -shared -o "libnlroute.so.$version" nlroute.o "$kit/toolchain/lib/libc.so.6" -soname "$name" \
+        --version-script exports --gc-sections --build-id=sha1 --hash-style=gnu \
+        -z defs -z relro -z now -z x86-64-v2
+}
+
+# Adds the mark to the programs. It is not loaded, so the bytes that run are those that were built.
+mark_programs() {
+    objcopy -O binary --only-section=.note.nlroute nlroute.o note
+    for it in nlroute nlshow; do
+        objcopy --add-section .note.nlroute=note --set-section-flags .note.nlroute=noload,readonly "$it"
+    done
 }
 
 # Writes nlroute.pc.
@@ -90,6 +143,7 @@ describe() {
 prefix=\${pcfiledir}/../$(echo "$libdir" | sed 's,[^/]*,..,g')
 includedir=\${prefix}/include
 libdir=\${prefix}/$libdir
+build=$mark
 
 Name: nlroute
 Description: Lists of netlink link attributes${fast:+ (unproved build)}
@@ -111,6 +165,7 @@ build
 (
     cd "$room"
     link
+    mark_programs
     describe >nlroute.pc
 )
 put 644 include crates/nlroute_ffi/include/*.h

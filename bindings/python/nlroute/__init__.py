@@ -26,6 +26,7 @@ from ._errors import Error as Error
 from ._errors import Fault as Fault
 from ._errors import WriteError as WriteError
 from ._kinds import *
+from ._library import build as build
 from ._list import List as List
 from ._list import read as read
 from ._list import text as text

@@ -38,6 +38,7 @@ def load() -> ctypes.PyDLL:
         for name, arguments in SIGNATURES.items():
             function = getattr(library, name)
             function.argtypes, function.restype = arguments, ctypes.c_ssize_t
+        library.nlroute_build.argtypes, library.nlroute_build.restype = [], ctypes.c_char_p
     except (OSError, AttributeError) as error:
         raise ImportError(f"{error}. {ADVICE}") from None
     version.argtypes, version.restype = [], ctypes.c_uint32
@@ -49,6 +50,15 @@ def load() -> ctypes.PyDLL:
 LIBRARY = load()
 VALUES = LIBRARY.nlroute_values
 TEXT = ctypes.c_char * 256  # enough for most texts
+
+
+def build() -> str:
+    """Returns the mark of the library: version, `proved` or `unproved`, commit and toolchain.
+
+    The mark is added when the library is built. It is a label, not evidence.
+    """
+    mark: bytes = LIBRARY.nlroute_build()
+    return mark.decode()
 
 
 def whole(data: bytes | bytearray | memoryview) -> bytes:

@@ -85,6 +85,17 @@ pub use scope::{Any, Key, Scope, Set};
 pub use types::{BerrCounter, BridgeId, CanBitTiming, CanBitTimingConst, Mac, Masked, QosMapping, VlanInfo};
 pub use value::{Content, Iter, Value};
 
+/// Returns the mark of the library that is linked: version, `proved` or `unproved`, commit and toolchain.
+///
+/// The mark is added when the library is built. It is a label, not evidence.
+///
+/// ```
+/// assert!(nlroute::build().contains("proved, commit "));
+/// ```
+pub fn build() -> &'static str {
+    sys::build()
+}
+
 /// Returns whether the library that is linked has the version of this crate.
 ///
 /// With a shared library this is always so, since its name has the version. A static library may be of another one.

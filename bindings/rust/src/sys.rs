@@ -11,6 +11,7 @@
 
 use crate::kinds::refusal;
 use crate::{CanBitTiming, CanBitTimingConst};
+use std::ffi::CStr;
 use std::fmt;
 use std::mem::{align_of, size_of};
 use std::os::raw::c_char;
@@ -51,6 +52,7 @@ const _: () = assert!(size_of::<CanBitTiming>() == 32 && size_of::<CanBitTimingC
 
 extern "C" {
     fn nlroute_version() -> u32;
+    fn nlroute_build() -> *const c_char;
     fn nlroute_values(family: u32, bytes: *const u8, len: usize, values: *mut Raw, places: usize) -> isize;
     fn nlroute_find(family: u32, bytes: *const u8, len: usize, kind: u16, value: *mut Raw) -> isize;
     fn nlroute_find_in(family: u32, bytes: *const u8, len: usize, kind: u16, inner: u16, value: *mut Raw) -> isize;
@@ -95,6 +97,13 @@ extern "C" {
 pub fn version() -> u32 {
     // SAFETY: the function takes nothing and returns a constant.
     unsafe { nlroute_version() }
+}
+
+/// Returns the mark of the library.
+pub fn build() -> &'static str {
+    // SAFETY: the function takes nothing and returns a constant string that ends with a NUL.
+    let mark = unsafe { CStr::from_ptr(nlroute_build()) };
+    mark.to_str().unwrap_or_default()
 }
 
 /// Returns the values of a list.

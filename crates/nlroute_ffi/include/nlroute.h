@@ -58,6 +58,14 @@ extern "C" {
 NLROUTE_MUST_USE
 uint32_t nlroute_version(void);
 
+/*
+ * Returns the mark of the library that is linked, such as "nlroute 0.3.0, proved, commit .., rattle-kit-13f ..": version,
+ * "proved" or "unproved", commit and toolchain. The string is constant and ends with a NUL. The mark is added when the
+ * library is linked: neither the function nor what it says is proved.
+ */
+NLROUTE_MUST_USE
+const char *nlroute_build(void);
+
 /* The attribute sets. */
 enum nlroute_family {
     NLROUTE_AF_SPEC_BRIDGE = 0, /* IFLA_AF_SPEC in AF_BRIDGE messages */
