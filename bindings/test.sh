@@ -3,8 +3,8 @@
 # installed in the folder PREFIX or, if none is named, in $NLROUTE_PREFIX. Without both, it first installs an unproved
 # build in a temporary folder: four to five minutes more.
 #
-# It needs cc. What needs python3 from 3.11 on, cargo, clippy, pip, mypy or pyroute2 is skipped if that is missing, and a
-# line says so. It uses no network.
+# It needs cc. What needs python3 from 3.9 on, cargo, clippy, pip, mypy or pyroute2 is skipped if that is missing, and a
+# line says so. If there is a python3.9, its tests run too. It uses no network.
 #
 # Prints a line `ok ..` or `FAILED ..` for each check. The last line is 'N passed, M failed', and the status 0 only if
 # nothing failed.
@@ -34,9 +34,18 @@ python() {
     PYTHONPATH=${folder-$top/bindings/python} PYTHONDONTWRITEBYTECODE=1 python3 -W error "$@"
 }
 
+# Prints the command of Python 3.9, if it is there, or in a folder of pyenv.
+oldest_python() {
+    for it in python3.9 "${PYENV_ROOT:-$HOME/.pyenv}"/versions/3.9.*/bin/python; do
+        if "$it" --version >"$room/version" 2>&1; then echo "$it" && return; fi
+    done
+    return 1
+}
+
+# Runs the tests with the Python that is named.
 python_tests() {
     cd bindings/python
-    python -m unittest discover -s tests -t tests
+    PYTHONPATH=$PWD PYTHONDONTWRITEBYTECODE=1 "$1" -W error -m unittest discover -s tests -t tests
 }
 
 python_doctests() {
@@ -66,7 +75,7 @@ types() {
 
 # Installs the package without a library, and imports it with one that is named, and without.
 package() {
-    python3 -m pip install -q --no-index --target "$room/plain" bindings/python
+    NLROUTE_LIB_DIR='' python3 -m pip install -q --no-index --target "$room/plain" bindings/python
     folder=$room/plain
     cd "$room"
     python -c 'import nlroute; assert nlroute.__file__.startswith("'"$room"'/plain/"); nlroute.Family.BOND'
@@ -82,7 +91,7 @@ package() {
 # Makes the wheel with the library twice: it has the same bytes, and needs nothing but itself.
 wheel() {
     for it in one two; do
-        NLROUTE_LIB=$NLROUTE_LIB_DIR/libnlroute.so python3 -m pip wheel -q --no-index -w "$room/$it" bindings/python
+        python3 -m pip wheel -q --no-index -w "$room/$it" bindings/python
     done
     set -- "$room"/one/nlroute-*-manylinux_*.whl
     cmp "$1" "$room/two/${1##*/}"
@@ -99,9 +108,9 @@ in_crate() {
     "$@"
 }
 
-static_crate() {
+shared_crate() {
     cd bindings/rust
-    NLROUTE_STATIC=1 LD_LIBRARY_PATH='' CARGO_TARGET_DIR=$room/static cargo test --offline --quiet --tests
+    NLROUTE_STATIC=0 CARGO_TARGET_DIR=$room/shared cargo test --offline --quiet --tests
 }
 
 # Without a library, the build fails, and says what to do.
@@ -125,9 +134,10 @@ began=$(date +%s)
 export NLROUTE_LIB_DIR="$prefix/lib" LD_LIBRARY_PATH="$prefix/lib" PKG_CONFIG_PATH="$prefix/lib/pkgconfig"
 export NLROUTE_LIBRARY="$prefix/lib/libnlroute.so" CARGO_TARGET_DIR="$room/target"
 
-if has "python3 from 3.11 on" python3 -c 'import sys; sys.exit(sys.version_info < (3, 11))'; then
+if has "python3 from 3.9 on" python3 -c 'import sys; sys.exit(sys.version_info < (3, 9))'; then
     check "generate.py: the tables are those of the library" bindings/generate.py --check
-    check "python: tests" python_tests
+    check "python: tests" python_tests python3
+    if has python3.9 oldest_python; then check "python 3.9: tests" python_tests "$(oldest_python)"; fi
     check "python: doctests" python_doctests
     check "python: the samples of docs/python.md" python_page
     if has "netlink socket" netlink; then
@@ -147,8 +157,8 @@ if has "python3 from 3.11 on" python3 -c 'import sys; sys.exit(sys.version_info 
     fi
 fi
 if has cargo cargo --version; then
-    check "rust: tests" in_crate cargo test --offline --quiet
-    check "rust: tests with the static library" static_crate
+    check "rust: tests" in_crate env LD_LIBRARY_PATH='' cargo test --offline --quiet
+    check "rust: tests with the shared library" shared_crate
     check "rust: pages of the crate" in_crate env RUSTDOCFLAGS='-D warnings' cargo doc --offline --quiet --no-deps
     if has clippy cargo clippy --version; then
         check "rust: clippy" in_crate cargo clippy --offline --quiet --all-targets -- -D warnings

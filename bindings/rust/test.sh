@@ -13,7 +13,7 @@ trap 'rm -rf "$room"' EXIT
 trap 'exit 1' INT TERM
 passed=0
 failed=0
-export NLROUTE_STATIC=1 CARGO_NET_OFFLINE=true CARGO_TARGET_DIR="$room/target" RUSTDOCFLAGS="-D warnings"
+export CARGO_NET_OFFLINE=true CARGO_TARGET_DIR="$room/target" RUSTDOCFLAGS="-D warnings"
 
 # Runs a command, the words after the name of the test, and counts whether it succeeds.
 check() {

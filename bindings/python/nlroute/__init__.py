@@ -26,6 +26,7 @@ from ._errors import Error as Error
 from ._errors import Fault as Fault
 from ._errors import WriteError as WriteError
 from ._kinds import *
+from ._kinds import VERSION as _VERSION
 from ._library import build as build
 from ._list import List as List
 from ._list import read as read
@@ -45,8 +46,10 @@ from ._types import QosMapping as QosMapping
 from ._types import Unknown as Unknown
 from ._types import VlanInfo as VlanInfo
 
+__version__ = f"{_VERSION >> 16}.{_VERSION >> 8 & 255}.{_VERSION & 255}"
+
 # Tracebacks, pickles and documentation show the public name of a class: nlroute.Fault.
 for _it in list(globals().values()):
     if isinstance(_it, type) and _it.__module__.startswith("nlroute."):
         _it.__module__ = __name__
-del _it
+del _it, _VERSION

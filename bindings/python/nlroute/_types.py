@@ -5,6 +5,7 @@ import re
 from collections.abc import Iterable
 from enum import IntEnum, IntFlag
 from ipaddress import IPv4Address, IPv6Address
+from types import GenericAlias
 from typing import TYPE_CHECKING, Any, Generic, NamedTuple, TypeVar, Union
 
 if TYPE_CHECKING:
@@ -60,6 +61,9 @@ class Flags(IntFlag):
 
     @classmethod
     def _missing_(cls, value: object) -> Any:
+        if isinstance(value, int) and value < 0:
+            # the complement, which Python before 3.11 leaves negative
+            return cls(value + (1 << max(sum(cls).bit_length(), value.bit_length())))
         self = super()._missing_(value)
         if isinstance(self, cls) and int(self) & ~sum(cls):
             # IntFlag stores each new set. Sets of named bits are few; of the others, input could make 2^32.
@@ -104,11 +108,20 @@ class Mac(bytes):
         return f"Mac({str(self)!r})"
 
 
-class Masked(NamedTuple, Generic[F]):
-    """Flags, and a mask of the flags that the message sets."""
+if TYPE_CHECKING:
 
-    flags: F
-    mask: F
+    class Masked(NamedTuple, Generic[F]):
+        flags: F
+        mask: F
+
+else:
+    # (before 3.11, a NamedTuple cannot be a Generic)
+    class Masked(NamedTuple):
+        """Flags, and a mask of the flags that the message sets."""
+
+        flags: F
+        mask: F
+        __class_getitem__ = classmethod(GenericAlias)
 
 
 class VlanInfo(NamedTuple):

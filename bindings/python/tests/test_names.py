@@ -60,6 +60,10 @@ def rewritten(family, data):
 
 
 class Names(unittest.TestCase):
+    def test_version_and_mark(self):
+        mark = rf"nlroute {re.escape(nlroute.__version__)}, (un)?proved, commit \S+, \S.*"
+        self.assertRegex(nlroute.build(), f"^{mark}$")
+
     def test_header(self):
         with open(os.path.join(TOP, "crates/nlroute_ffi/include/nlroute_kinds.h"), encoding="utf-8") as file:
             groups = GROUP.findall(file.read())

@@ -64,6 +64,13 @@ class Values(unittest.TestCase):
         self.assertIs(type(info.flags), BridgeVlanFlags)
         self.assertEqual(str(info.flags), "PVID|UNTAGGED")
 
+    def test_complement(self):
+        # (before 3.11, Python has negative numbers for these)
+        self.assertEqual((~VlanFlags.GVRP, str(~VlanFlags.GVRP)), (0x1D, "REORDER_HDR|LOOSE_BINDING|MVRP|BRIDGE_BINDING"))
+
+    def test_generic_type(self):
+        self.assertEqual(Masked[VlanFlags](VlanFlags.GVRP, VlanFlags(6)), (2, 6))
+
     def test_nested_list(self):
         # IFLA_BOND_AD_INFO: IFLA_BOND_AD_INFO_AGGREGATOR (1), IFLA_BOND_AD_INFO_PARTNER_MAC (5), and type 9
         data = bytes.fromhex("20001780 06000100 02000000 0a000500 02000000 00010000 0600 0900 dead0000")

@@ -79,8 +79,7 @@ impl<S: Scope> Sample for Nested<S> {
 
 /// Returns the attribute types of nlroute_kinds.h, which is written from the tables that the proofs use.
 fn kinds_of_header() -> HashMap<String, u16> {
-    let path = concat!(env!("CARGO_MANIFEST_DIR"), "/../../crates/nlroute_ffi/include/nlroute_kinds.h");
-    let header = std::fs::read_to_string(path).expect("the header is in this repository");
+    let header = include_str!("../include/nlroute_kinds.h");
     let rows = header.lines().filter_map(|line| line.strip_prefix("    NLROUTE_")?.split_once(" = "));
     let number = |text: &str| text.split(|it: char| !it.is_ascii_digit()).next()?.parse().ok();
     rows.filter_map(|(name, rest)| Some((name.to_string(), number(rest)?))).collect()
