@@ -3,9 +3,10 @@
 # machines without the kit can use it. The result is FOLDER/nlroute-VERSION-MACHINE-linux.tar.gz. FOLDER is out/ if none
 # is named. The name of an unproved build has `-unproved` after the version. The last line is the path.
 #
-# A README is added, and the licences: that of this repository, and those of the kit's crates, as the binaries have code
-# of them. The same PREFIX and commit give the same bytes: names are sorted, and owner and times fixed. The time is that
-# of the commit, or SOURCE_DATE_EPOCH if it is set. It needs GNU tar, gzip, git and binutils.
+# It adds a README, the sources of both bindings, which use the library beside them, and licences: that of this repository,
+# and those of the kit's crates, as the binaries have code of them. The same PREFIX and commit give the same bytes: names
+# are sorted, and owner and times fixed. The time is that of the commit, or SOURCE_DATE_EPOCH if it is set. It needs GNU
+# tar, gzip, git and binutils.
 set -eu
 
 if [ $# = 0 ] || [ $# -gt 2 ]; then
@@ -31,20 +32,44 @@ room=$(mktemp -d)
 trap 'rm -rf "$room"' EXIT
 trap 'exit 1' INT TERM
 
-# Prints the kit's crates that crates.txt names, and those below them.
+# Prints the kit's crates that the library and the programs have code of, in order.
 crates_of_kit() {
-    crates=$(sed 's/#.*//; s/.*://' "$top/crates.txt")
+    crates="nlroute_ffi nlroute nlshow"
     : >"$room/crates"
     while [ -n "$crates" ]; do
         below=
         for crate in $crates; do
+            ! grep -qx "$crate" "$room/crates" || continue
+            echo "$crate" >>"$room/crates"
             format=$kit/rlibs/$crate.rlib/format
-            if [ -f "$format" ] && ! grep -qx "$crate" "$room/crates"; then
-                echo "$crate" | tee -a "$room/crates"
+            if [ -f "$format" ]; then
+                echo "$crate"
                 below="$below $(sed -n 's/^dep //p' "$format")"
+            else
+                below="$below $(sed -n "s/#.*//; s/^$crate\\( [a-z]*\\)*: *//p" "$top/crates.txt")"
             fi
         done
         crates=${below# }
+    done | LC_ALL=C sort
+}
+
+# Copies the licence texts of these crates to the folder licences, and writes CRATES there, which lists them.
+licences() {
+    cat <<END
+Names and behaviour of nlroute follow the Rust crate netlink-packet-route (MIT, Copyright (c) The netlink-packet-route
+Contributors).
+
+The binaries have code of these crates of Rattle's kit, and of its two C archives. Beside each crate are the files of this
+folder that have its licence. For the others, and for the C archives, the kit has no licence text.
+
+END
+    for crate in $(crates_of_kit); do
+        texts=$(cd "$kit/rattle" && echo "$crate"/LICENSE*)
+        case $texts in
+        *\*) texts=none ;;
+        *) install -D -m 644 -t "$crate" "$kit/rattle/$crate"/LICENSE* ;;
+        esac
+        printf '  %-20s %s\n' "$crate" "$texts"
     done
 }
 
@@ -72,6 +97,11 @@ Contents
   lib/pkgconfig/          its description for pkg-config
   bin/, share/man/        the programs and their man pages
   share/jq/               a function for jq, which reads what nlshow --format json prints
+  rust/                   the Rust crate
+  python/                 the Python package
+  licences/               which other code is in the binaries, and its licences
+
+How a binary was built, readelf -p .note.nlroute FILE prints: version, proved or unproved, commit and toolchain.
 
 Use
 
@@ -85,23 +115,35 @@ and without the shared object:
 
   cc -I include main.c lib/libnlroute.a
 
+From Rust, with the static library; the path in Cargo.toml is that of the folder rust:
+
+  [dependencies]
+  nlroute = { path = "../$name/rust" }
+
+From Python, from 3.9 on: the package that is installed contains the shared object:
+
+  pip install ./python
+
 The man pages: man -l share/man/man1/nlshow.1, or share/man/man3/nlroute.3 for the C API
 
 Licence
 
-MIT: see LICENSE. The library and the programs also contain code of Rattle's standard library, and of crates in
-licences/, under the licences there.
+MIT: see LICENSE. The binaries also contain code of Rattle's kit: licences/CRATES lists it.
 END
 }
 
-mkdir -p "$room/$name/licences"
+mkdir -p "$room/$name/licences" "$room/$name/rust" "$room/$name/python"
 readme >"$room/$name/README"
 cp "$top/LICENSE" "$room/$name"
-for crate in $(crates_of_kit); do
-    for file in "$kit/rattle/$crate"/LICENSE*; do
-        [ ! -f "$file" ] || install -D -m 644 "$file" "$room/$name/licences/$crate/${file##*/}"
-    done
-done
+cd "$room/$name/licences"
+licences >"$room/list"
+mv "$room/list" CRATES
+# (the bindings have links to files of the repository)
+cd "$top/bindings/rust"
+cp -RL --parents Cargo.toml LICENSE README.md build.rs src include/nlroute_kinds.h examples/bridge.rs examples/links.rs \
+    "$room/$name/rust"
+cd "$top/bindings/python"
+cp -RL --parents LICENSE README.md backend.py pyproject.toml nlroute/*.py nlroute/py.typed "$room/$name/python"
 cd "$prefix"
 tar -cf "$room/files.tar" bin/nlroute bin/nlshow include/nlroute*.h lib/libnlroute.a lib/libnlroute.so \
     "lib/libnlroute.so.$series" "lib/libnlroute.so.$version" lib/pkgconfig/nlroute.pc \

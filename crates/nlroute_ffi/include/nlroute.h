@@ -24,7 +24,7 @@
  *
  * nlroute_kinds.h has the attribute types by the kernel's names. Both headers are C99, and C++11 or later.
  *
- * Compile with pkg-config, once tools/install.sh has installed the library:
+ * Compile with pkg-config, once the library is installed:
  * cc main.c $(pkg-config --cflags --libs nlroute)
  */
 #ifndef NLROUTE_H
