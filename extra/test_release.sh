@@ -17,6 +17,7 @@ set -eu
 prefix=${1-${NLROUTE_PREFIX-}}
 [ -z "$prefix" ] || prefix=$(cd "$prefix" && pwd)
 cd "$(dirname "$0")/.."
+top=$PWD
 . tools/counted.sh
 
 # Whether a command succeeds, which shows that what it needs is there. Otherwise says what is skipped.
@@ -100,6 +101,18 @@ c_program() {
     as_user ./a.out | grep -qx 'a request of 8 bytes'
 }
 
+# What the first programs of README.md print first: the values of a bond.
+is_first() {
+    printf 'IFLA_BOND_MODE 802.3ad (4)\nIFLA_BOND_MIIMON 100 ms\n' >"$room/bond"
+    head -n 2 | diff - "$room/bond"
+}
+
+first_in_c() {
+    # shellcheck disable=SC2046
+    cc -o "$room/first" crates/nlroute_ffi/examples/first.c $(flags)
+    as_user LD_LIBRARY_PATH="$tree/lib" "$room/first" | is_first
+}
+
 # Prints the options for the compiler: those of pkg-config, if it is there.
 flags() {
     if [ -n "$has_pkg_config" ]; then
@@ -133,13 +146,17 @@ python_package() {
     # shellcheck disable=SC2086
     as_user $variables "$room/env/bin/python" -W error -c "$program" >said_by_python
     printf 'IFLA_BOND_MIIMON 100 ms\n%s %s\n' "$mark" "$version" | diff - said_by_python
+    # shellcheck disable=SC2086
+    as_user $variables "$room/env/bin/python" -W error "$top/bindings/python/examples/first.py" | is_first
 }
 
 # A new project that uses the crate in the folder $1.
 rust_program() {
     rm -rf "$room/project"
     mkdir -p "$room/project/src"
+    mkdir "$room/project/src/bin"
     cp bindings/rust/examples/bridge.rs "$room/project/src/main.rs"
+    cp bindings/rust/examples/first.rs "$room/project/src/bin"
     cat >"$room/project/Cargo.toml" <<END
 [package]
 name = "project"
@@ -150,7 +167,8 @@ edition = "2021"
 nlroute = { path = "$1" }
 END
     cd "$room/project"
-    as_user cargo run --quiet | grep -qx 'a request of 16 bytes'
+    as_user cargo run --quiet --bin project | grep -qx 'a request of 16 bytes'
+    as_user cargo run --quiet --bin first | is_first
     readelf -p .note.nlroute "$room/target/debug/project" | grep -qF "$mark"
 }
 
@@ -227,6 +245,7 @@ check "the symbols and their versions" symbols
 check "the SBOM is JSON" python3 -m json.tool "$(echo "$made"/*.spdx.json)" "$room/sbom"
 check "the licences in each package" licences
 check "C: the program of docs/c.md" c_program
+check "C: the program of README.md" first_in_c
 check "C: the mark of a program" mark_of_program
 check "nlshow" shows "$tree/bin/nlshow"
 if has venv python3 -m venv "$room/env"; then
