@@ -234,18 +234,14 @@ def claims(tree):
 FAMILIES = """\
 # Families
 
-A *family* is an attribute set: it says which types an attribute has in a list, and what each holds. What holds the list
-selects it, and the kind of device.
+A *family* is an attribute set. What holds the list, and the kind of device, select it.
 
 | Family | Attributes of | The list is | The kind is | In Rattle |
 |---|---|---|---|---|
 """
 BELOW_FAMILIES = """
-In `IFLA_LINKINFO`, `IFLA_INFO_KIND` has the kind of device, next to `IFLA_INFO_DATA`. For a port, `IFLA_INFO_SLAVE_KIND`
-has its master's, next to `IFLA_INFO_SLAVE_DATA`. `proto_bridge` knows attribute type 45 only, as upstream does; for the other
-types, use `bridge_port`.
-
-`tools/made.py` writes this page from `families!`.
+In `IFLA_LINKINFO`, `IFLA_INFO_KIND` has the kind, or for a port `IFLA_INFO_SLAVE_KIND`, that of its master. `proto_bridge`
+knows attribute type 45 only, as upstream does; for others, use `bridge_port`. `tools/made.py` writes this page.
 """
 OF_FAMILY = re.compile(r"^    /// `(\w+)`: attributes of (.*?),\s", re.MULTILINE)
 
