@@ -80,7 +80,7 @@ readme() {
 nlroute $version$unproved
 
 The C library parses, checks, counts and re-encodes lists of netlink link attributes, such as IFLA_INFO_DATA. It covers
-bonds, bridges, their ports, and VLAN, CAN, DSA and HSR devices. The program nlshow prints such lists, and the messages
+bonds, bridges, their ports, and VLAN, CAN, DSA, HSR and PRP devices. The program nlshow prints such lists, and the messages
 that contain them. The program nlroute re-encodes a list.
 
 $proved

@@ -108,7 +108,7 @@ fn buffered<W: Write + Drop>(rt: &impl Abort, alloc: Global, writer: W) -> BufWr
 }
 
 /// Returns a reader of `rest`, as [`Trickle`] has it.
-fn trickle(rest: &[u8], most: usize, is_broken: bool) -> UntilEnd<Trickle<'_>> {
+fn reader_of(rest: &[u8], most: usize, is_broken: bool) -> UntilEnd<Trickle<'_>> {
     UntilEnd::new(Trickle {
         rest,
         most,
@@ -119,7 +119,7 @@ fn trickle(rest: &[u8], most: usize, is_broken: bool) -> UntilEnd<Trickle<'_>> {
 /// Asserts the output and the exit status for `text` in the debug form, read in one piece and byte by byte.
 fn shows(rt: &impl Abort, alloc: Global, text: &[u8], shown: &[u8], status: u8) {
     for most in [1, text.len() + 1] {
-        let mut reader = trickle(text, most, false);
+        let mut reader = reader_of(text, most, false);
         let mut written = buffered(rt, alloc, Vec::new(alloc));
         let answer = run_on(alloc, DEBUG, false, None, &mut reader, &mut written);
         assert!(rt; answer == status && written.get_ref().get_ref().as_slice() == shown);
@@ -163,7 +163,7 @@ fn readers_and_writers_that_fail(rt: HostRuntime) {
         ("dsa 0800 0100 2a00 0000", "read fault\n"),
         ("dsa\nds", "dsa\nread fault\n"),
     ] {
-        let mut reader = trickle(text.as_bytes(), 1, true);
+        let mut reader = reader_of(text.as_bytes(), 1, true);
         let mut written = buffered(&rt, rt.alloc(), Vec::new(rt.alloc()));
         let status = run_on(rt.alloc(), PLAIN, false, None, &mut reader, &mut written);
         assert!(&rt; status == 5 && written.get_ref().get_ref().as_slice() == shown.as_bytes());
@@ -171,7 +171,7 @@ fn readers_and_writers_that_fail(rt: HostRuntime) {
     for text in ["", "# dsa", "dsa", "dsa\n"] {
         for takes in [false, true] {
             let mut writer = buffered(&rt, rt.alloc(), Broken { takes });
-            let mut reader = trickle(text.as_bytes(), 4096, false);
+            let mut reader = reader_of(text.as_bytes(), 4096, false);
             let status = run_on(rt.alloc(), PLAIN, false, None, &mut reader, &mut writer);
             assert_eq!(&rt; status, 5);
         }
@@ -220,7 +220,7 @@ fn is_read(
     let (output, raw) = how;
     let (is_broken, status) = end;
     for most in [1, 2, 3, 7, 4096] {
-        let mut reader = trickle(text, most, is_broken);
+        let mut reader = reader_of(text, most, is_broken);
         let mut written = buffered(rt, alloc, Vec::new(alloc));
         let answer = run_on(alloc, output, raw, None, &mut reader, &mut written);
         assert!(rt; answer == status && written.get_ref().get_ref().as_slice() == lines);
@@ -278,7 +278,7 @@ fn stops_anywhere(rt: &impl Abort, alloc: Global, how: (Output, bool), rows: &[(
                 failures: 0,
             };
             let mut writer = buffered(rt, alloc, narrow);
-            let mut reader = trickle(&text, 4096, false);
+            let mut reader = reader_of(&text, 4096, false);
             let answer = run_on(alloc, output, raw, None, &mut reader, &mut writer);
             let narrow = writer.get_ref().get_ref();
             let (wanted, failures) = if room < lines.len() { (5, 1) } else { (1, 0) };

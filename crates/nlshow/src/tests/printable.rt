@@ -1,6 +1,6 @@
 //! Tests that the output is printable ASCII, tabs and LFs, whatever bytes the input has.
 
-use super::{DEBUG, PLAIN, buffered, trickle};
+use super::{DEBUG, PLAIN, buffered, reader_of};
 use crate::run_on;
 use show_lines::Output;
 use std::alloc::{AllocError, Global};
@@ -41,7 +41,7 @@ fn noise(alloc: Global, front: &[u8], seed: u64, mask: u8) -> Result<Vec<u8>, Al
 
 /// Asserts that the output for an input is printable ASCII, tabs and LFs.
 fn is_printed(rt: &impl Abort, alloc: Global, output: Output, text: &[u8]) {
-    let mut reader = trickle(text, 4096, false);
+    let mut reader = reader_of(text, 4096, false);
     let mut written = buffered(rt, alloc, Vec::new(alloc));
     let _ = run_on(alloc, output, false, None, &mut reader, &mut written);
     let shown = written.get_ref().get_ref().as_slice();
