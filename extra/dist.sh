@@ -138,12 +138,11 @@ cp "$top/LICENSE" "$room/$name"
 cd "$room/$name/licences"
 licences >"$room/list"
 mv "$room/list" CRATES
-# (the bindings have links to files of the repository)
 cd "$top/bindings/rust"
-cp -RL --parents Cargo.toml LICENSE README.md build.rs src include/nlroute_kinds.h examples/bridge.rs examples/links.rs \
-    "$room/$name/rust"
+cp -R --parents Cargo.toml LICENSE README.md build.rs src examples/bridge.rs examples/links.rs "$room/$name/rust"
+install -D -m 644 -t "$room/$name/rust/include" "$top/crates/nlroute_ffi/include/nlroute_kinds.h"
 cd "$top/bindings/python"
-cp -RL --parents LICENSE README.md backend.py pyproject.toml nlroute/*.py nlroute/py.typed "$room/$name/python"
+cp -R --parents LICENSE README.md backend.py pyproject.toml nlroute/*.py nlroute/py.typed "$room/$name/python"
 cd "$prefix"
 tar -cf "$room/files.tar" bin/nlroute bin/nlshow include/nlroute*.h lib/libnlroute.a lib/libnlroute.so \
     "lib/libnlroute.so.$series" "lib/libnlroute.so.$version" lib/pkgconfig/nlroute.pc \

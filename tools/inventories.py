@@ -76,3 +76,6 @@ def missing(files, text_of):
     usage = re.search(r'usage_line = codes "usage: (.*?) \| (.*)"', text_of(definition)) if definition in files else None
     if usage and page in files and f"\n{usage[1]}\nnlshow {usage[2]}\n" not in text_of(page):
         yield page, 1, f"it does not say how nlshow is used: {usage[1]} | {usage[2]}"
+    for path in ("bindings/python/LICENSE", "bindings/rust/LICENSE"):
+        if path in files and text_of(path) != text_of("LICENSE"):
+            yield path, 1, "it is not the LICENSE of the repository"

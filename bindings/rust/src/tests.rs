@@ -79,7 +79,10 @@ impl<S: Scope> Sample for Nested<S> {
 
 /// Returns the attribute types of nlroute_kinds.h, which is written from the tables that the proofs use.
 fn kinds_of_header() -> HashMap<String, u16> {
-    let header = include_str!("../include/nlroute_kinds.h");
+    // (a package of a release has the header; in a clone, it is that of the C library)
+    let folders = ["/include", "/../../crates/nlroute_ffi/include"];
+    let read = |it| std::fs::read_to_string(format!("{}{it}/nlroute_kinds.h", env!("CARGO_MANIFEST_DIR"))).ok();
+    let header = folders.iter().find_map(read).expect("the header is in this package or repository");
     let rows = header.lines().filter_map(|line| line.strip_prefix("    NLROUTE_")?.split_once(" = "));
     let number = |text: &str| text.split(|it: char| !it.is_ascii_digit()).next()?.parse().ok();
     rows.filter_map(|(name, rest)| Some((name.to_string(), number(rest)?))).collect()
