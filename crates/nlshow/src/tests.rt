@@ -48,7 +48,7 @@ impl Read for Trickle<'_> {
         if self.rest.is_empty() && self.is_broken {
             return Err(io::Error::from(io::ErrorKind::Interrupted));
         }
-        self.is_broken = self.rest.is_empty();
+        self.is_broken |= self.rest.is_empty();
         let room = buf.len().min(self.most);
         self.rest.read(&mut buf[..room])
     }
