@@ -1,7 +1,7 @@
 #!/usr/bin/env python3
 """Runs the programs on the files of runs/, and compares their output and exit status with what is expected.
 
-usage: tools/runs.py [--binary PROGRAM=PATH].. [RUN..]
+usage: tools/runs.py [--binary PROGRAM=PATH].. [--write] [RUN..]
 
 Each file below runs/ has a run, or several, except stored input: the files in a folder `inputs`, at any depth. RUN names a
 file, or a folder of files: `debug/vlan`, `debug`. Without a name, all run.
@@ -51,8 +51,17 @@ The program is the one that `rt ci` has built in crates/PROGRAM/out, or that of 
 in a minute, bench/out/nlshow. For a run that fails, its file (and `:TITLE`, if it has one) and the first lines that differ
 are printed, after the number of the line of the file: after `-` those that are expected, after `+` those of the program.
 The last line is 'N passed, M failed', counted in runs, and the status 0 only if all passed.
+
+With --write, which needs a RUN, what these files expect becomes what the programs print, and their status. Input, comments
+and lines that are right stay as they are. A new line takes the place of one that differs, and further lines are below it. So
+a new file can have lines `> TEXT` alone; where a program does not repeat its input, write any line, such as `?`, at the place
+of its output. Nothing is written for a program that does not run, or that a signal ends.
+
+What is written is what the program does, right or wrong. Read the difference, and work out each value of it by hand from
+the kernel's headers: expected values that are taken from a program find none of its mistakes.
 """
 import argparse
+import difflib
 import itertools
 import os
 import re
@@ -72,6 +81,7 @@ IN_HEX = re.compile(rb"\|?=(?:\* (\d+))? (.*)", re.DOTALL)
 *FIRST, LAST = names()
 FAMILIES = f"{', '.join(FIRST)} or {LAST}".encode()
 NO_RUN = "there is no such run"
+READ = "This is what the programs print. Read the difference, and work out each value by hand from the kernel's headers."
 # The most seconds that a program may take.
 SECONDS = 60
 # How many lines that differ are printed, and how many characters of a line.
@@ -82,9 +92,11 @@ class Run:
     """A run: `program`, `arguments`, `status`, and the bytes of `given`: of each file that the run has, by its name, and of
     standard input, whose name is empty. `input` and `files` are the paths of stored files. `stdout` and `stderr` have what
     is expected, in parts, each with the number of its line. `full` is true if the standard output is /dev/full. `title` is
-    empty if the run has a file to itself. It is made of the lines of its head and of those below, with their numbers."""
+    empty if the run has a file to itself. It is made of the lines of its head and of those below, with their numbers. `ends`
+    are the numbers of the last line of its own head and of its last line."""
 
-    def __init__(self, head, lines, title=""):
+    def __init__(self, head, lines, ends, title=""):
+        self.ends = ends
         self.program, self.arguments, self.status, self.full = None, [], 0, False
         self.input, self.files, self.name, self.given = None, [], b"", {b"": b""}
         self.stdout, self.stderr, self.title = [], [], title
@@ -157,7 +169,7 @@ def runs_in(text):
     head, below = numbered[:end], numbered[end + 1 :]
     starts = [at for at, (_, line) in enumerate(below) if line.startswith(b"==")]
     if not starts:
-        return [Run(head, below)]
+        return [Run(head, below, (last_of_head(head), len(lines)))]
     for number, line in below[: starts[0]]:
         if line:
             raise ValueError(f"line {number}: it belongs to no run, since the first title is below it")
@@ -178,7 +190,13 @@ def titled(head, lines):
     while below and not below[-1][1]:
         below.pop()
     own = [*itertools.takewhile(lambda it: it[1].startswith(b"#") or HEAD.fullmatch(it[1]), below)]
-    return Run(head + own, below[len(own) :], title)
+    ends = max(number, last_of_head(own)), below[-1][0] if below else number
+    return Run(head + own, below[len(own) :], ends, title)
+
+
+def last_of_head(lines):
+    """The number of the last of these lines that is none of comments; 0 if there is none."""
+    return max((number for number, line in lines if HEAD.fullmatch(line)), default=0)
 
 
 def text_of(line):
@@ -238,22 +256,28 @@ def name_of(file, run):
 
 def fault_of(root, file, run, binaries):
     """What is wrong with what the program of a run does, or None."""
-    binary = os.path.abspath(binaries.get(run.program, f"{root}/crates/{run.program}/out/{run.program}"))
-    if not os.path.isfile(binary):
-        return f"rt ci has not built {binary}"
     try:
-        add_stored(run, os.path.dirname(f"{root}/runs/{file}"))
-        ran = started(run, binary)
+        ran = outcome(root, file, run, binaries)
     except ValueError as error:
         return str(error)
-    except OSError as error:
-        return f"{binary} does not run: {error.strerror}"
-    except subprocess.TimeoutExpired:
-        return f"it takes more than {SECONDS} s"
     said = difference(run.stderr, ran.stderr)
     wrong = [difference(run.stdout, ran.stdout or b""), said and f"on standard error, {said}"]
     wrong += [f"status {ran.returncode}, expected {run.status}"] if ran.returncode != run.status else []
     return "\n  ".join(filter(None, wrong)) or None
+
+
+def outcome(root, file, run, binaries):
+    """The program of a run, after it has run. If it does not run, that is a ValueError."""
+    binary = os.path.abspath(binaries.get(run.program, f"{root}/crates/{run.program}/out/{run.program}"))
+    if not os.path.isfile(binary):
+        raise ValueError(f"rt ci has not built {binary}")
+    add_stored(run, os.path.dirname(f"{root}/runs/{file}"))
+    try:
+        return started(run, binary)
+    except OSError as error:
+        raise ValueError(f"{binary} does not run: {error.strerror}") from None
+    except subprocess.TimeoutExpired:
+        raise ValueError(f"it takes more than {SECONDS} s") from None
 
 
 def add_stored(run, folder):
@@ -308,14 +332,163 @@ def check(root, named, binaries):
     return 0 if all(results) else 1
 
 
+# ---- --write
+
+
+class Edits:
+    """Changes of a file's lines, by their numbers: `kept` has what becomes of a line, and `added` what is below it."""
+
+    def __init__(self, lines):
+        self.lines, self.kept, self.added = lines, {}, {}
+
+    def line(self, number):
+        return self.lines[number - 1]
+
+    def drop(self, number):
+        """Removes a line from what is expected. One that is input too remains input."""
+        line = self.line(number)
+        self.kept[number] = [b"<" + line[1:]] if line[:1] == b">" else []
+
+    def text(self):
+        at = range(1, len(self.lines) + 1)
+        found = [self.added.get(0, []), *(self.kept.get(it, [self.line(it)]) + self.added.get(it, []) for it in at)]
+        return b"".join(line + b"\n" for part in found for line in part)
+
+    def set_status(self, run, status, usual):
+        """Has the run expect this status. `usual` is that of a run without a line for it."""
+        own = [it for it in range(run.ends[0], 0, -1) if self.line(it).startswith((b"status:", b"== "))][:1]
+        line = b"status: %d" % status
+        if own and self.line(own[0]).startswith(b"status:"):
+            self.kept[own[0]] = [line] if status != usual else []
+        else:
+            self.added.setdefault(run.ends[0], []).insert(0, line)
+
+    def set_text(self, run, parts, printed, marked):
+        """Has the run expect what was printed, in place of these parts. `marked` makes a line of the file from one of it."""
+        wanted, found = groups(parts), re.findall(rb"[^\n]*\n|[^\n]+", printed)
+        repeated = [any(self.line(it)[:1] == b">" for it in numbers) for numbers, _ in wanted]
+        top = wanted[0][0][0] - 1 if wanted else run.ends[1]
+        for (first, end), (start, stop) in differing([text for _, text in wanted], repeated, found):
+            for numbers, _ in wanted[first:end]:
+                for it in numbers:
+                    self.drop(it)
+            for at, line in enumerate(found[start:stop], first):
+                above = wanted[min(at, end - 1)][0][-1] if end else top
+                self.added.setdefault(above, []).append(marked(line))
+
+
+def groups(parts):
+    """The parts of a text, those of a line together: the numbers of their lines, and what they stand for."""
+    found = []
+    for number, text in parts:
+        if not found or found[-1][1].endswith(b"\n"):
+            found.append(([], b""))
+        numbers, before = found[-1]
+        found[-1] = [*numbers, number], before + text
+    return found
+
+
+def differing(wanted, repeated, found):
+    """The places at which two lists of lines differ: where they begin and end in each. Lines that are input too, which
+    `repeated` tells, are found first, since the others belong to them."""
+    anchors = [at for at, it in enumerate(repeated) if it]
+    same = difflib.SequenceMatcher(None, [wanted[it] for it in anchors], found, autojunk=False).get_matching_blocks()
+    pairs = [(anchors[it.a + at], it.b + at) for it in same for at in range(it.size)]
+    first = start = 0
+    for end, stop in [*pairs, (len(wanted), len(found))]:
+        parts = difflib.SequenceMatcher(None, wanted[first:end], found[start:stop], autojunk=False)
+        for what, *places in parts.get_opcodes():
+            if what != "equal":
+                yield tuple(it + first for it in places[:2]), tuple(it + start for it in places[2:])
+        first, start = end + 1, stop + 1
+
+
+def output_line(line):
+    """The line of a file for one of the standard output."""
+    text = line.removesuffix(b"\n")
+    if not text.decode(errors="surrogateescape").replace("\t", " ").isprintable():
+        return b"|= " + line.hex().encode()
+    text = text.replace(FAMILIES, b"{FAMILIES}")
+    if text and text[:1] not in b"<>|!#=@" and not HEAD.fullmatch(text) and line.endswith(b"\n"):
+        return text
+    return with_mark(b"|", text, line)
+
+
+def error_line(line):
+    """The line of a file for one of standard error."""
+    return with_mark(b"!", line.removesuffix(b"\n"), line)
+
+
+def with_mark(mark, text, line):
+    """The line of a file that has a mark and this text, which stands for a line with LF or without."""
+    return mark + (b"" if line.endswith(b"\n") else b"+") + (b" " + text if text else b"")
+
+
+def rewritten(root, file, binaries):
+    """The text of a file that expects what its programs do, and the names of the runs that changed."""
+    with open(f"{root}/runs/{file}", "rb") as read:
+        text = read.read()
+    runs_in(text)
+    head = re.match(rb"(?:.+\n)*", text)[0]
+    edits = Edits((text + b"\n" * (head == text)).split(b"\n")[:-1])
+    usual = re.search(rb"^status: ?(.*)", head, re.MULTILINE)
+    wanted, changed = [], []
+    for run in runs_in(edits.text()):
+        ran = outcome(root, file, run, binaries)
+        if ran.returncode < 0:
+            raise ValueError(f"signal {-ran.returncode} ends {run.program}")
+        printed = [ran.stdout or b"", ran.stderr, ran.returncode]
+        wanted.append([run.title, run.arguments, run.given, *printed])
+        if expected(run) != printed:
+            changed.append(name_of(file, run))
+            edits.set_text(run, run.stdout, printed[0], output_line)
+            edits.set_text(run, run.stderr, printed[1], error_line)
+        if run.status != ran.returncode:
+            edits.set_status(run, ran.returncode, int(usual[1]) if usual and run.title else 0)
+    found = runs_in(edits.text())
+    for run in found:
+        add_stored(run, os.path.dirname(f"{root}/runs/{file}"))
+    if [[it.title, it.arguments, it.given, *expected(it)] for it in found] != wanted:
+        raise ValueError("these lines have to be rewritten by hand")
+    return edits.text(), changed
+
+
+def expected(run):
+    """What a run expects: the standard output, standard error, and the status."""
+    return [*(b"".join(text for _, text in it) for it in (run.stdout, run.stderr)), run.status]
+
+
+def write(root, named, binaries):
+    """Rewrites the files with the runs of these names, and prints which runs have changed, and what has not been written."""
+    written, failed = [], [(it, NO_RUN) for it in named if not files_of(root, it)]
+    for file in [file for name in named for file in files_of(root, name)]:
+        try:
+            text, changed = rewritten(root, file, binaries)
+            if changed:
+                with open(f"{root}/runs/{file}", "wb") as out:
+                    out.write(text)
+            written += changed
+        except ValueError as error:
+            failed.append((file, error))
+    for it in written:
+        print(f"wrote {it}")
+    for it, wrong in failed:
+        print(f"FAILED {it}: {wrong}")
+    print(READ if written else "nothing is written")
+    return 1 if failed else 0
+
+
 def main():
     parser = argparse.ArgumentParser(usage=__doc__.split("usage: ")[1].split("\n")[0])
     parser.add_argument("--binary", action="append", default=[], metavar="PROGRAM=PATH")
+    parser.add_argument("--write", action="store_true")
     parser.add_argument("runs", nargs="*", metavar="RUN")
     options = parser.parse_args()
     if not all("=" in it for it in options.binary):
         parser.error("--binary takes PROGRAM=PATH")
-    sys.exit(check(ROOT, options.runs, dict(it.split("=", 1) for it in options.binary)))
+    if options.write and not options.runs:
+        parser.error("--write takes the names of runs")
+    sys.exit((write if options.write else check)(ROOT, options.runs, dict(it.split("=", 1) for it in options.binary)))
 
 
 if __name__ == "__main__":

@@ -1,5 +1,6 @@
 #!/usr/bin/env python3
-"""Tests of tools/runs.py: what it reads from a run, and what it says of programs that do otherwise than expected.
+"""Tests of tools/runs.py: what it reads from a run, what it says of programs that do otherwise than expected, and what it
+writes.
 
 Its last line is 'N passed, M failed', and its status 0 only if nothing failed.
 """
@@ -15,8 +16,8 @@ import runs  # noqa: E402
 
 # Programs: `lengths` repeats each line but comments and blank lines, and prints its length below; its status is the
 # number of its arguments. `copy` prints its arguments, a line each, and then its input. `loud` prints its arguments on
-# standard error, or `noise` if there are none. `mute` reports there that it cannot print. `slow` takes its time. `files`
-# prints the name and the bytes of each file in its folder, without LFs, and then its input.
+# standard error, or `noise` if there are none. `mute` reports there that it cannot print. `slow` takes its time, `ended` is
+# ended by a signal. `files` prints the name and the bytes of each file in its folder, without LFs, and then its input.
 PROGRAMS = {
     "lengths": """
 for line in sys.stdin.buffer.read().split(b"\\n"):
@@ -28,6 +29,7 @@ sys.exit(len(sys.argv) - 1)
     "loud": "print(*sys.argv[1:] or ['noise'], sep='\\n', file=sys.stderr)\n",
     "mute": "import os\ntry:\n    os.write(1, b'text')\nexcept OSError as error:\n    print(error.strerror, file=sys.stderr)\n",
     "slow": "import time\ntime.sleep(60)\n",
+    "ended": "import os\nprint('a', flush=True)\nos.kill(os.getpid(), 9)\n",
     "files": """
 import os
 for name in sorted(os.listdir(b".")):
@@ -174,6 +176,47 @@ NAMED = [
       for it in ("inputs", "inputs/more/four", "some/inputs/five")),
     (["som", "one"], ["FAILED som: there is no such run", "1 passed, 1 failed"]),
 ]
+# Files before and after --write.
+WRITTEN = [
+    (RUN, RUN),
+    # lines that differ, are missing, and are too many; comments, blank lines and lines that are right stay
+    (RUN.replace(b"  4 b", b"  5 b"), RUN),
+    (RUN.replace(b"  4 bytes\n", b"").replace(b"  7 bytes\n", b""), RUN),
+    (RUN.replace(b"  4 bytes\n", b"x\n  4 bytes\ny\n| z\n").replace(b"> seven b\n", b"> seven b\n|+ 7\n| 8\n"), RUN),
+    (HEAD + b"> four\n# A comment\n\n> four\n# B\n", HEAD + b"> four\n  4 bytes\n# A comment\n\n> four\n  4 bytes\n# B\n"),
+    # of lines that are input, some are repeated; `<` stays
+    (b"program: copy\n\n< a\n?\n# b\n< c\n?\n?\n", b"program: copy\n\n< a\na\n# b\n< c\n| # b\nc\n"),
+    (b"program: loud\n\n> a\n", b"program: loud\n\n< a\n! noise\n"),
+    # marks where they are needed; no LF; bytes that are no text
+    (b"program: copy\narguments: '>a' '' 'status: 1' ' b' '#' '='\n",
+     b"program: copy\narguments: '>a' '' 'status: 1' ' b' '#' '='\n\n| >a\n|\n| status: 1\n b\n| #\n| =\n"),
+    (b"program: copy\n\n<+ a\n", b"program: copy\n\n<+ a\n|+ a\n"),
+    (b"program: copy\n\n>+ a\n>+ b\n> c\n< d\n", b"program: copy\n\n>+ a\n>+ b\n> c\nd\n< d\n"),
+    (b"program: copy\n\n= 61 01\n", b"program: copy\n\n= 61 01\n|= 6101\n"),
+    (b"program: copy\n\n=* 2 61\n<\n|* 2 a\n|\n", b"program: copy\n\n=* 2 61\n<\n|* 2 a\n|\n"),
+    (b"program: copy\n\n< of " + runs.FAMILIES + b"\n?\n", b"program: copy\n\n< of " + runs.FAMILIES + b"\nof {FAMILIES}\n"),
+    # standard error, also beside a full device
+    (b"program: loud\narguments: a '' b\n\n! a\n! c\n", b"program: loud\narguments: a '' b\n\n! a\n!\n! b\n"),
+    (b"program: mute\nstdout: full\n", b"program: mute\nstdout: full\n\n! No space left on device\n"),
+    # the status: without a line, with one, and in a file with several runs
+    (HEAD.replace(b"status: 2\n", b""), HEAD),
+    (HEAD.replace(b"2\n", b"3\n"), HEAD),
+    (b"program: copy\nstatus: 1\n\n", b"program: copy\n\n"),
+    (b"program: lengths\nstatus: 1\n\n== a\narguments: b\n== c\n# d\n> e\n\n\n== f\nstatus: 4\narguments: g\n",
+     b"program: lengths\nstatus: 1\n\n== a\narguments: b\n== c\nstatus: 0\n# d\n> e\n  1 bytes\n\n\n== f\narguments: g\n"),
+    (b"program: copy\n\n== a\n\n== b\narguments: c\n\n== d\n\n< e\n\n",
+     b"program: copy\n\n== a\n\n== b\narguments: c\nc\n\n== d\n\n< e\n|\ne\n\n"),
+    # stored files, and those that `@` begins
+    (b"program: files\ninput: inputs/raw\n\n@ a\n<+ b\n",
+     b"program: files\ninput: inputs/raw\n\n@ a\n<+ b\n|= 613a627c000a\n|= ff\n"),
+]
+# Files that are not written, and why.
+UNWRITTEN = [
+    (b"program: lent\n\na\n", "rt ci has not built /crates/lent/out/lent"),
+    (b"program: slow\n\na\n", "it takes more than 1 s"),
+    (b"program: ended\n\na\n", "signal 9 ends ended"),
+    (b"program: copy\n\n== a\n< b\n== c\narguments: '\n", "line 6: No closing quotation"),
+]
 
 
 def write(path, text):
@@ -183,13 +226,26 @@ def write(path, text):
     os.chmod(path, 0o755)
 
 
-def said(root, *named):
-    """What is printed for runs, and whether the status is as the last line."""
+def said_by(call, root, *named):
+    """What a call prints for runs, and its status."""
     binaries = {it: os.path.relpath(f"{root}/{it}") for it in [*PROGRAMS, "none"]}
     with contextlib.redirect_stdout(io.StringIO()) as printed:
-        status = runs.check(root, list(named), binaries)
-    lines = printed.getvalue().replace(root, "").splitlines()
+        status = call(root, list(named), binaries)
+    return printed.getvalue().replace(root, "").splitlines(), status
+
+
+def said(root, *named):
+    """What is printed for runs, and whether the status is as the last line."""
+    lines, status = said_by(runs.check, root, *named)
     return lines, (status == 0) == lines[-1].endswith(" 0 failed")
+
+
+def written(root, text):
+    """What becomes of a file, and what is printed for it, without the names of its runs."""
+    write(f"{root}/runs/it", text)
+    lines, status = said_by(runs.write, root, "it")
+    with open(f"{root}/runs/it", "rb") as file:
+        return file.read(), [it for it in lines if not it.startswith("wrote it")], status
 
 
 def results():
@@ -224,6 +280,17 @@ def results():
             yield said(root, "it"), (wanted or ["1 passed, 0 failed"], True)
         write(f"{root}/runs/it", FOUR)
         yield said(root, "it", "one"), (FAILED, True)
+        runs.SECONDS = 60
+        for text, wanted in WRITTEN:
+            last = runs.READ if text != wanted else "nothing is written"
+            yield written(root, text), (wanted, [last], 0)
+            yield said(root, "it")[0][-1][-8:], "0 failed"
+        runs.SECONDS = 1
+        for text, wanted in UNWRITTEN:
+            yield written(root, text), (text, [f"FAILED it: {wanted}", "nothing is written"], 1)
+        write(f"{root}/runs/it", FOUR)
+        wanted = ["wrote it:two lines", "wrote it:a status", "FAILED no: there is no such run", runs.READ]
+        yield said_by(runs.write, root, "one", "it", "no"), (wanted, 1)
 
 
 if __name__ == "__main__":
