@@ -2,8 +2,8 @@
 
 The list is the macro `families!` of crates/netlink_packet_route/src/family.rt: a row has the variant of `Family`, the
 name, the enum of attributes, the number in C, and what holds the list in a message. The prover compares it with
-specs/Family.antt. The files of LISTS have lists of their own, which no prover sees: the header in C, an example, and
-pages. bindings/generate.py reads the header. COVERED is what the runs have for each attribute set.
+specs/Family.antt. The files of LISTS have lists of their own, which no prover sees: the header in C, and pages.
+bindings/generate.py reads the header. COVERED is what the runs have for each attribute set.
 """
 import os
 import re
@@ -16,11 +16,9 @@ HANDED_ON = "crates/netlink_packet_route/specs/Lib.antt"
 ROW = re.compile(r'^ +([A-Z]\w+) +"(\w+)" +(\w+) +(\d+) +(\w+) \((?:b"(\w+)"|(\w+))\)$', re.MULTILINE)
 TABLE = re.compile(r'^family_row \w+ = row \(codes "(\w+)"\) .* (\w+)$', re.MULTILINE)
 # For each file, what it has once for each attribute set, as a regular expression. {name}, {NAME}, {variant},
-# {attributes} and {number} are those of the row, and {holder} is the attribute of a message that has the list. A third
-# part is how the holders begin to which a list applies.
+# {attributes} and {number} are those of the row.
 LISTS = [
     ("crates/nlroute_ffi/include/nlroute.h", r"^ *NLROUTE_{NAME} = {number}\b"),
-    ("crates/nlroute_ffi/examples/links.c", r'\{{"\w+", NLROUTE_{NAME}\}}', "IFLA_INFO_"),
     ("docs/nlroute.1", r"^\.BR? .*\b{name}\b"),
     ("docs/proofs/MODEL.md", r"^### .*`{attributes}`, `{table}`"),
 ]
@@ -63,11 +61,9 @@ def disagreements(text_of):
         yield LIST, 1, "there is no list of attribute sets"
     if [it["number"] for it in rows] != [str(it) for it in range(len(rows))]:
         yield LIST, 1, "the numbers of attribute sets do not go from 0 in order"
-    for path, pattern, *holders in LISTS + COVERED:
+    for path, pattern in LISTS + COVERED:
         text = text_of(path)
         for row in rows if text is not None else []:
-            if not row["holder"].startswith(tuple(holders) or ""):
-                continue
             wanted = pattern.format(**{key: re.escape(it) for key, it in row.items()})
             if not re.search(wanted, text, re.MULTILINE):
                 yield path, 1, f"it does not have {row['name']} as families! has it: no text is as {pattern}"

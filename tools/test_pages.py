@@ -20,7 +20,7 @@ import pages  # noqa: E402
 # Files of the small tree below that have no list of attribute sets.
 UNLISTED = "README.md runs/debug/".split()
 families.LISTS, families.COVERED = ([it for it in them if it[0] not in UNLISTED] for them in (families.LISTS, families.COVERED))
-LISTED = {path: pattern for path, pattern, *_ in families.LISTS + families.COVERED}
+LISTED = dict(families.LISTS + families.COVERED)
 
 # The lines of these pages are named in the cases.
 PAGE = """\
@@ -134,7 +134,6 @@ FAMILIES = """\
 """
 LIB, SPEC, MAN = "crates/pairs/src/lib.rt", "crates/pairs/specs/Pair.antt", "docs/nlroute.1"
 HEADER, RUN = "crates/nlroute_ffi/include/nlroute.h", "runs/plain/more/vlan"
-LINKS = "crates/nlroute_ffi/examples/links.c"
 ROUTE = "crates/netlink_packet_route"
 TREE = {
     "README.md": PAGE,
@@ -158,7 +157,6 @@ TREE = {
     HEADER: "enum {\n    NLROUTE_DSA = 0,\n    NLROUTE_VLAN = 1 /* last */\n};\n",
     MAN: ".TP\n.BR dsa \", \" vlan\n",
     "runs/plain/lists": "program: nlshow\n\n# Lists\n> dsa 00\ndsa 00\n\n> check dsa\n< message 00\n< tap\n> tap\n",
-    LINKS: '{"dsa", NLROUTE_DSA},\n',
     RUN: "program: nlshow\n\n> vlan 00\n",
     "runs/plain/other": "program: nlroute\n\n< dsa 00\n",
     "runs/json/pairs": 'program: nlshow\n\n< dsa 00\n< vlan 00\n{"name":"pair_delay"}\n',
@@ -247,7 +245,6 @@ CASES = [
     ("docs/NEW.md", "", "# New\n", "docs/NEW.md:1: the page has no budget in tools/pages.py"),
     (HEADER, "NLROUTE_VLAN = 1", "NLROUTE_VLAN = 2", f"{HEADER}:{NO_SET.format(LISTED[HEADER])}"),
     (MAN, "vlan", "van", f"{MAN}:{NO_SET.format(LISTED[MAN])}"),
-    (LINKS, '"dsa", NLROUTE_DSA', '"dsa", NLROUTE_VLAN', f"{LINKS}:{NO_SET.format(LISTED[LINKS])}".replace("vlan", "dsa")),
     (RUN, "> vlan 00", "> vlan zz", f"runs/plain/:{NO_SET.format(LISTED['runs/plain/'])}"),
     ("runs/nlroute/sets", "vlan", "vlan x", f"runs/nlroute/:{NO_SET.format(LISTED['runs/nlroute/'])}"),
     ("runs/json/pairs", "< vlan 00", "< vlan", f"runs/json/:{NO_SET.format(LISTED['runs/json/'])}"),

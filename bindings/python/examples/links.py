@@ -1,5 +1,5 @@
 #!/usr/bin/env python3
-"""Prints the attributes of the machine's links: of bonds, bridges, VLANs and so on, and of bond and bridge ports.
+"""Prints the attributes of the machine's links: of bonds, bridges, VLANs and so on, and of their ports.
 
 Any user may run it.
 """
@@ -13,8 +13,7 @@ NLMSG_ERROR, NLMSG_DONE, RTM_NEWLINK, RTM_GETLINK = 2, 3, 16, 18
 NLM_F_REQUEST, NLM_F_DUMP = 1, 0x300
 IFLA_IFNAME, IFLA_LINKINFO = 3, 18
 IFLA_INFO_KIND, IFLA_INFO_DATA, IFLA_INFO_SLAVE_KIND, IFLA_INFO_SLAVE_DATA = 1, 2, 4, 5
-LINKS = {name: Family[name.upper()] for name in ("bond", "bridge", "vlan", "can", "dsa", "hsr")}
-PORTS = {"bond": Family.BOND_PORT, "bridge": Family.BRIDGE_PORT}
+FAMILIES = {family.name.lower(): family for family in Family}
 
 
 def attributes(data: bytes) -> dict[int, bytes]:
@@ -57,11 +56,13 @@ def string(payload: bytes) -> str:
     return payload.split(b"\0")[0].decode(errors="replace")
 
 
-def print_list(title: str, family: Family, data: bytes) -> None:
-    """Prints the attributes of a list, or its error."""
-    print(f"  {title}")
+def print_list(name: str, data: "bytes | None") -> None:
+    """Prints the attributes of a list, or its error, if there is a list, and a family of this name."""
+    if data is None or name not in FAMILIES:
+        return
+    print(f"  {name}")
     try:
-        words = text(family, data)
+        words = text(FAMILIES[name], data)
     except Fault as fault:
         words = str(fault)
     for line in words.splitlines():
@@ -73,10 +74,8 @@ def main() -> None:
         info = attributes(link.get(IFLA_LINKINFO, b""))
         kind, port = string(info.get(IFLA_INFO_KIND, b"")), string(info.get(IFLA_INFO_SLAVE_KIND, b""))
         print(f"{index}: {string(link.get(IFLA_IFNAME, b'?'))}")
-        if kind in LINKS:
-            print_list(kind, LINKS[kind], info.get(IFLA_INFO_DATA, b""))
-        if port in PORTS:
-            print_list(f"{port} port", PORTS[port], info.get(IFLA_INFO_SLAVE_DATA, b""))
+        print_list(kind, info.get(IFLA_INFO_DATA))
+        print_list(f"{port}_port", info.get(IFLA_INFO_SLAVE_DATA))
 
 
 if __name__ == "__main__":

@@ -1,5 +1,5 @@
 /*
- * Prints the attributes of the machine's links: of bonds, bridges, VLANs and so on, and of bond and bridge ports. Any user
+ * Prints the attributes of the machine's links: of bonds, bridges, VLANs and so on, and of their ports. Any user
  * may run it.
  *
  * Compile it as nlroute.h says: cc links.c $(pkg-config --cflags --libs nlroute)
@@ -9,7 +9,6 @@
 #include <linux/if_link.h>
 #include <linux/rtnetlink.h>
 #include <stdio.h>
-#include <string.h>
 #include <sys/socket.h>
 #include <unistd.h>
 
@@ -19,19 +18,6 @@ enum { PLACES = 128, ROOM = 1 << 16 };
 struct link {
     const struct rtattr *name, *kind, *data, *port_kind, *port_data;
 };
-
-static const struct {
-    const char *kind;
-    uint32_t family;
-} links[] = {{"bond", NLROUTE_BOND}, {"bridge", NLROUTE_BRIDGE}, {"vlan", NLROUTE_VLAN},
-             {"can", NLROUTE_CAN},   {"dsa", NLROUTE_DSA},       {"hsr", NLROUTE_HSR}},
-  ports[] = {{"bond", NLROUTE_BOND_PORT}, {"bridge", NLROUTE_BRIDGE_PORT}};
-
-static bool is_kind(const struct rtattr *kind, const char *text) {
-    size_t len = strlen(text);
-    return kind && RTA_PAYLOAD(kind) >= len && !memcmp(RTA_DATA(kind), text, len) &&
-           (RTA_PAYLOAD(kind) == len || ((const char *)RTA_DATA(kind))[len] == 0);
-}
 
 /* Prints the values of a list, a line each; elements of a list are indented below it. */
 static void print_list(uint32_t family, const uint8_t *bytes, size_t len) {
@@ -56,8 +42,16 @@ static void print_list(uint32_t family, const uint8_t *bytes, size_t len) {
     if (count == NLROUTE_NO_ROOM) printf("    ..\n");
 }
 
-static void print_data(uint32_t family, const struct rtattr *data) {
-    if (data) print_list(family, (const uint8_t *)RTA_DATA(data), RTA_PAYLOAD(data));
+/* Prints a list, if there is one, and a family whose name is the kind with this suffix. */
+static void print_data(const struct rtattr *kind, const char *suffix, const struct rtattr *data) {
+    char name[NLROUTE_TEXT_ROOM];
+    if (!kind || !data) return;
+    int len = snprintf(name, sizeof name, "%.*s%s", (int)RTA_PAYLOAD(kind), (const char *)RTA_DATA(kind), suffix);
+    if (len < 0 || (size_t)len >= sizeof name) return;
+    ptrdiff_t family = nlroute_family_of(name, (size_t)len);
+    if (family < 0) return;
+    printf("  %s\n", name);
+    print_list((uint32_t)family, (const uint8_t *)RTA_DATA(data), RTA_PAYLOAD(data));
 }
 
 /* Looks at the attributes of a message, or of its IFLA_LINKINFO. */
@@ -79,16 +73,8 @@ static void print_link(const struct nlmsghdr *message) {
     const struct ifinfomsg *header = (const struct ifinfomsg *)NLMSG_DATA(message);
     look_at(&link, IFLA_RTA(header), (int)IFLA_PAYLOAD(message), false);
     printf("%d: %s\n", header->ifi_index, link.name ? (const char *)RTA_DATA(link.name) : "?");
-    for (size_t i = 0; i < sizeof links / sizeof *links; i++) {
-        if (!is_kind(link.kind, links[i].kind)) continue;
-        printf("  %s\n", links[i].kind);
-        print_data(links[i].family, link.data);
-    }
-    for (size_t i = 0; i < sizeof ports / sizeof *ports; i++) {
-        if (!is_kind(link.port_kind, ports[i].kind)) continue;
-        printf("  %s port\n", ports[i].kind);
-        print_data(ports[i].family, link.port_data);
-    }
+    print_data(link.kind, "", link.data);
+    print_data(link.port_kind, "_port", link.port_data);
 }
 
 /* Prints the links of the messages in a buffer. Returns whether more messages follow. */
