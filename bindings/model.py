@@ -83,7 +83,7 @@ class Set:
 
     name: str  # bond_port
     number: int
-    words: str  # IFLA_INFO_SLAVE_DATA of a bond port
+    words: str  # IFLA_INFO_SLAVE_DATA of bond ports
     attributes: tuple[Attribute, ...]
 
 

@@ -1,9 +1,13 @@
-"""The list of attribute sets, and the lists of other files that have to agree with it.
+"""The list of attribute sets, and the lists of other files that repeat it or have to agree with it.
 
 The list is the macro `families!` of crates/netlink_packet_route/src/family.rt: a row has the variant of `Family`, the
 name, the enum of attributes, the number in C, and what holds the list in a message. The prover compares it with
-specs/Family.antt. The files of LISTS have lists of their own, which no prover sees: the header in C, and pages.
-bindings/generate.py reads the header. COVERED is what the runs have for each attribute set.
+specs/Family.antt. The comment of the variant says whose attributes they are.
+
+What only repeats the list, `written` has: tools/made.py writes it. These are the constants of nlroute.h, which
+bindings/generate.py reads, the names in nlroute.1, the words for the families in three READMEs, headings of MODEL.md,
+and a proof with an equal part for each set. LISTS are parts of pages that are written by hand. COVERED is what the runs
+have for each attribute set.
 """
 import os
 import re
@@ -15,12 +19,13 @@ DEFINED = "crates/netlink_packet_route/specs/Family.antt"
 HANDED_ON = "crates/netlink_packet_route/specs/Lib.antt"
 ROW = re.compile(r'^ +([A-Z]\w+) +"(\w+)" +(\w+) +(\d+) +(\w+) \((?:b"(\w+)"|(\w+))\)$', re.MULTILINE)
 TABLE = re.compile(r'^family_row \w+ = row \(codes "(\w+)"\) .* (\w+)$', re.MULTILINE)
+# Whose attributes a set has, and what else is said of it, in the comment of its variant.
+COMMENT = re.compile(r"^    /// `(\w+)`: attributes of (.*?),\s+(?:/// )?\[`\w+`\]\(.*?\)(?:: (.*))?\.$", re.MULTILINE)
 # For each file, what it has once for each attribute set, as a regular expression. {name}, {NAME}, {variant},
-# {attributes} and {number} are those of the row.
+# {attributes}, {number} and {table} are those of the row.
 LISTS = [
-    ("crates/nlroute_ffi/include/nlroute.h", r"^ *NLROUTE_{NAME} = {number}\b"),
     ("docs/nlroute.1", r"^\.BR? .*\b{name}\b"),
-    ("docs/proofs/MODEL.md", r"^### .*`{attributes}`, `{table}`"),
+    ("docs/proofs/MODEL.md", r"^### .*: `{attributes}`, `{table}`$"),
 ]
 COVERED = [
     ("runs/debug/", r"^> {name} [0-9a-f]"),
@@ -40,10 +45,13 @@ def text_below_root(path):
 
 def families(text_of):
     """The rows of the list: for each attribute set what a pattern of LISTS can name."""
-    keys = ("variant", "name", "attributes", "number", "NAME", "holder", "kind", "table")
+    keys = ("variant", "name", "attributes", "number", "NAME", "holder", "kind", "table", "whose", "more")
     table_of = dict(TABLE.findall(text_of(DEFINED) or ""))
+    text = text_of(LIST) or ""
+    said = {name: (whose, more) for name, whose, more in COMMENT.findall(text)}
     found = [
-        (*it[:4], it[1].upper(), HOLDERS.get(it[4], it[6]), it[5], table_of.get(it[1], "")) for it in ROW.findall(text_of(LIST) or "")
+        (*it[:4], it[1].upper(), HOLDERS.get(it[4], it[6]), it[5], table_of.get(it[1], ""), *said.get(it[1], ("", "")))
+        for it in ROW.findall(text)
     ]
     return [dict(zip(keys, it)) for it in found]
 
@@ -70,3 +78,87 @@ def disagreements(text_of):
     for module in re.findall(r"^use (Rattle\.link_\w+\.specs\.\w+)\.", text_of(DEFINED) or "", re.MULTILINE):
         if not re.search(rf"\b{re.escape(module)}\b", text_of(HANDED_ON) or ""):
             yield HANDED_ON, 1, f"it does not hand on {module}, which {DEFINED} uses"
+
+
+# ---- what tools/made.py writes
+
+
+def constants(rows):
+    """The constants of enum nlroute_family."""
+    for row in rows:
+        what = row["whose"] if row["holder"] in row["whose"] else f"{row['holder']} of {row['whose']}"
+        more = f"{what}: {row['more']}".removesuffix(": ").replace("`", "")
+        yield f"    NLROUTE_{row['NAME']} = {row['number']}{',' * (row is not rows[-1])} /* {more} */\n"
+
+
+def names_held(rows, holder):
+    """A line of a man page with the names of the sets whose lists this attribute holds."""
+    found = [it["name"] for it in rows if it["holder"] == holder]
+    return f".B{'R' * (len(found) > 1)} " + ' ", " '.join(found)
+
+
+def whose_lists(rows):
+    """Words for the devices and ports whose attributes the sets have."""
+    *first, last = [it["whose"] for it in rows if it["kind"]]
+    return f"{', '.join(first)}, and {last}"
+
+
+def answers(rows):
+    """The proof of the clause `answer` of `rewrite`, which has a goal for each set, named after the variant."""
+    for row in rows:
+        goal = f"returns-in-{row['variant']}-clause-answer"
+        call = "rewrite_as" if row is rows[0] else f"rewrite_as-in-{row['variant']}"
+        yield f"\npub {goal} : goal.{goal}\n{goal} c = rw c.in-{row['variant']}.is c.{call}.ensures.answer\n"
+
+
+# For each file, the place of its list as a regular expression, and what belongs there.
+IN_BINDINGS = r"(?<=link attributes, such as those of ).*?(?=\. It has)"
+WRITTEN = [
+    (
+        "crates/nlroute_ffi/include/nlroute.h",
+        r"(?<=^enum nlroute_family \{\n)(?: .*\n)*",
+        lambda rows: "".join(constants(rows)),
+    ),
+    (
+        "docs/nlroute.1",
+        r"^\.BR? .*(?=\nThe list is IFLA_INFO_DATA\b)",
+        lambda rows: names_held(rows, "IFLA_INFO_DATA"),
+    ),
+    (
+        "docs/nlroute.1",
+        r"^\.BR? .*(?=\nThe list is IFLA_INFO_SLAVE_DATA\b)",
+        lambda rows: names_held(rows, "IFLA_INFO_SLAVE_DATA"),
+    ),
+    (
+        "README.md",
+        r"(?<=\bThey cover ).*?(?=\]\(docs/families\.md\))",
+        lambda rows: f"{whose_lists(rows)} ([{len(rows)} families",
+    ),
+    ("bindings/python/README.md", IN_BINDINGS, whose_lists),
+    ("bindings/rust/README.md", IN_BINDINGS, whose_lists),
+    (
+        "crates/netlink_packet_route/proofs/rewriting/rewrite/Answers.antt",
+        r"(?<=proofs\.rewriting\.rewrite\.Goals as goal\n)(?:.*\n)*",
+        lambda rows: "".join(answers(rows)),
+    ),
+]
+MODEL = "docs/proofs/MODEL.md"
+
+
+def replaced(text, pattern, new):
+    """A text with another at the places that are as the pattern, and how many these are."""
+    return re.subn(pattern, lambda _: new, text, flags=re.MULTILINE)
+
+
+def written(text_of):
+    """The texts of the files that repeat the list, by their paths. If a place is not there once, that is a ValueError."""
+    rows, found = families(text_of), {}
+    for path, pattern, words in WRITTEN:
+        found[path], places = replaced(found.get(path) or text_of(path), pattern, words(rows))
+        if places != 1:
+            raise ValueError(f"{path}: {places} places are as {pattern}, and one has to be")
+    found[MODEL] = text_of(MODEL)
+    for row in rows:
+        title, end = row["whose"][:1].upper() + row["whose"][1:], f": `{row['attributes']}`, `{row['table']}`"
+        found[MODEL], _ = replaced(found[MODEL], rf"^### .*{re.escape(end)}$", f"### {title}{end}")
+    return found

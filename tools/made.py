@@ -1,6 +1,6 @@
 #!/usr/bin/env python3
 """Writes what is made from the sources: docs/MAP.md, docs/families.md, docs/nlroute.3, docs/captured.pcapng, the tables of
-CLAIMS.md.
+CLAIMS.md, and the lists of attribute sets.
 
 usage: tools/made.py [--check]
 
@@ -8,7 +8,8 @@ MAP.md has the files of the crates, each with the first sentence of its header. 
 of specs/ or proofs/ with lines `--`. Lib.antt, which only lists the others, and the proofs of single functions, in folders
 below proofs/, are left out. The crates are in the order of crates.txt.
 
-families.md has a row for each attribute set of `families!`, in its order, and the words of its comment in `Family`.
+families.md has a row for each attribute set of `families!`, in its order, and the words of its comment in `Family`. The
+other lists of attribute sets, such as the constants of nlroute.h, are parts of files: tools/families.py has their places.
 
 nlroute.3 is the man page of nlroute.h: the declarations, and the comment above each as paragraphs. A comment without
 declarations begins a section, whose name is its first words. What is only for the preprocessor is left out, and of two
@@ -243,14 +244,12 @@ BELOW_FAMILIES = """
 In `IFLA_LINKINFO`, `IFLA_INFO_KIND` has the kind, or for a port `IFLA_INFO_SLAVE_KIND`, that of its master. `proto_bridge`
 knows attribute type 45 only, as upstream does; for others, use `bridge_port`. `tools/made.py` writes this page.
 """
-OF_FAMILY = re.compile(r"^    /// `(\w+)`: attributes of (.*?),\s", re.MULTILINE)
 
 
 def page_of_families(tree):
     """The page with a row for each attribute set."""
-    whose = dict(OF_FAMILY.findall(tree.text(families.LIST)))
     rows = [
-        f"| `{it['name']}` | {whose[it['name']]} | `{it['holder']}` | {'`%s`' % it['kind'] if it['kind'] else '–'} | `{it['attributes']}` |\n"
+        f"| `{it['name']}` | {it['whose']} | `{it['holder']}` | {'`%s`' % it['kind'] if it['kind'] else '–'} | `{it['attributes']}` |\n"
         for it in families.families(tree.text_or_none)
     ]
     return FAMILIES + "".join(rows) + BELOW_FAMILIES
@@ -290,20 +289,32 @@ def capture(text):
 # ---- all of them
 
 
+def write(made):
+    """Writes files, by their paths."""
+    for path, data in made.items():
+        with open(f"{ROOT}/{path}", "wb") as file:
+            file.write(data)
+
+
 def main():
     option = "".join(sys.argv[1:])
     if option not in ("", "--check"):
         sys.exit(__doc__)
     tree, ill = Tree(ROOT), []
-    texts = {
+    try:
+        lists = families.written(tree.text)
+    except ValueError as error:
+        sys.exit(f"{error}\n0 passed, 1 failed")
+    if not option:
+        write({path: text.encode() for path, text in lists.items()})
+        tree = Tree(ROOT)
+    texts = lists | {
         "docs/MAP.md": map_of(tree, ill), "docs/families.md": page_of_families(tree), "docs/nlroute.3": manual(tree),
         CLAIMS: claims(tree),
     }  # fmt: skip
     made = {path: text.encode() for path, text in texts.items()} | {"docs/captured.pcapng": capture(tree.text(CAPTURED))}
     if not option:
-        for path, data in made.items():
-            with open(f"{ROOT}/{path}", "wb") as file:
-                file.write(data)
+        write(made)
         return
     changed = [path for path, data in made.items() if tree.data(path) != data]
     for path in ill:

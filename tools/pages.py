@@ -27,8 +27,8 @@ and crates, or those that are named. Each page is checked by nine rules:
   tests, mutants or edits has a mark, except in CHANGELOG.md.
 - budget: the page has no more words than BUDGETS allows. Code blocks and comments do not count.
 
-Unless pages are named, two more checks compare the lists of attribute sets in C, on pages and in runs with the list in
-family.rt, as tools/families.py says, and pages that list all of something with the sources (tools/inventories.py).
+Unless pages are named, two more checks compare what pages and runs have for each attribute set with the list in
+family.rt, as tools/families.py says (tools/made.py compares the lists that it writes), and pages that list all of something with the sources (tools/inventories.py).
 
 The names of counts are `tests`, `mutants`, `must-fail edits` and those `of CRATE`: the functions with `#[test]`, the
 headings `## NAME` of mutants.edits, and the files must-fail/*.edit; `mutants of definitions`: those of files in specs/;
@@ -56,7 +56,7 @@ ROOT = os.path.dirname(os.path.dirname(os.path.realpath(__file__)))
 PAGES = re.compile(r"(README|CONTRIBUTING|CHANGELOG)\.md|docs/(proofs/)?[^/]+\.md|(bench|tools|extra|crates/[^/]+)/README\.md")
 # The most words that a page may have. Any other README.md below the top has SMALL_BUDGET, and CHANGELOG.md has none.
 BUDGETS = {
-    "README.md": 1220, "CONTRIBUTING.md": 1925, "bench/README.md": 540, "docs/families.md": 195, "docs/c.md": 950, "docs/ARCHITECTURE.md": 1570,
+    "README.md": 1220, "CONTRIBUTING.md": 1925, "bench/README.md": 540, "docs/families.md": 400, "docs/c.md": 950, "docs/ARCHITECTURE.md": 1570,
     "docs/MAP.md": 74, "docs/json.md": 1150,
     "docs/messages.md": 740, "docs/programs.md": 2090, "docs/python.md": 800, "docs/rattle.md": 1830,
     "docs/rust.md": 820, "docs/proofs/ASSURANCE.md": 1190, "docs/proofs/CLAIMS.md": 3060,

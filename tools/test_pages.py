@@ -154,7 +154,6 @@ TREE = {
     f"{ROUTE}/src/family.rt": FAMILIES,
     f"{ROUTE}/specs/Family.antt": "use Rattle.link_pairs.specs.Pair.{pair_table}\n",
     f"{ROUTE}/specs/Lib.antt": "pub use Rattle.link_pairs.specs.Pair\n",
-    HEADER: "enum {\n    NLROUTE_DSA = 0,\n    NLROUTE_VLAN = 1 /* last */\n};\n",
     MAN: ".TP\n.BR dsa \", \" vlan\n",
     "runs/plain/lists": "program: nlshow\n\n# Lists\n> dsa 00\ndsa 00\n\n> check dsa\n< message 00\n< tap\n> tap\n",
     RUN: "program: nlshow\n\n> vlan 00\n",
@@ -243,13 +242,12 @@ CASES = [
     ("docs/rattle.md", CALLING, CALLING + LEFT * "word " + "\n\n```text\nword\n```\n\n<!-- word -->\n"),
     ("extra/README.md", "", "word " * 601, "extra/README.md:1: the page has 601 words, and its budget is 600"),
     ("docs/NEW.md", "", "# New\n", "docs/NEW.md:1: the page has no budget in tools/pages.py"),
-    (HEADER, "NLROUTE_VLAN = 1", "NLROUTE_VLAN = 2", f"{HEADER}:{NO_SET.format(LISTED[HEADER])}"),
     (MAN, "vlan", "van", f"{MAN}:{NO_SET.format(LISTED[MAN])}"),
     (RUN, "> vlan 00", "> vlan zz", f"runs/plain/:{NO_SET.format(LISTED['runs/plain/'])}"),
     ("runs/nlroute/sets", "vlan", "vlan x", f"runs/nlroute/:{NO_SET.format(LISTED['runs/nlroute/'])}"),
     ("runs/json/pairs", "< vlan 00", "< vlan", f"runs/json/:{NO_SET.format(LISTED['runs/json/'])}"),
     (f"{ROUTE}/src/family.rt", "1  Bridge", "2  Bridge",
-     f"{ROUTE}/src/family.rt:1: the numbers of attribute sets do not go from 0 in order", f"{HEADER}:{NO_SET.format(LISTED[HEADER])}"),
+     f"{ROUTE}/src/family.rt:1: the numbers of attribute sets do not go from 0 in order"),
     (f"{ROUTE}/src/family.rt", FAMILIES, "\n", f"{ROUTE}/src/family.rt:1: there is no list of attribute sets",
      "25: `<!-- count: lists of plain -->` does not name a count"),
     (f"{ROUTE}/specs/Lib.antt", "specs.Pair", "specs.Pairs",
@@ -280,6 +278,58 @@ LACKING = [
     ("README.md", "", ""),
 ]
 
+# A list of attribute sets, with comments, and files that repeat it before and after they are written.
+COMMENTED = """\
+    /// `dsa`: attributes of DSA ports, [`InfoDsa`](crate::link::InfoDsa).
+    /// `dsa_port`: attributes of ports of
+    /// [`Dsa`].
+    /// `vlan`: attributes of `IFLA_VLAN` in AF_BRIDGE messages,
+    /// [`InfoVlan`](crate::link::InfoVlan): type 1 only.
+            Dsa   "dsa"   InfoDsa  0  InfoKind (b"dsa")
+            Hsr   "hsr"   InfoHsr  1  InfoKind (b"hsr")
+            Port  "port"  InfoPort 2  PortKind (b"dsa")
+            Vlan  "vlan"  InfoVlan 3  BridgeAttribute (IFLA_VLAN)
+    /// `hsr`: attributes of HSR devices, [`InfoHsr`](crate::link::InfoHsr).
+    /// `port`: attributes of ports, [`InfoPort`](crate::link::InfoPort).
+"""
+ANSWERS, GOALS = f"{ROUTE}/proofs/rewriting/rewrite/Answers.antt", "use Rattle.n.proofs.rewriting.rewrite.Goals as goal\n"
+BINDINGS = [f"bindings/{it}/README.md" for it in ("python", "rust")]
+REPEATING = {
+    HEADER: ("enum other {\n    B = 1\n};\nenum nlroute_family {\n    B = 0, /* a */\n};\n", """\
+enum other {
+    B = 1
+};
+enum nlroute_family {
+    NLROUTE_DSA = 0, /* IFLA_INFO_DATA of DSA ports */
+    NLROUTE_HSR = 1, /* IFLA_INFO_DATA of HSR devices */
+    NLROUTE_PORT = 2, /* IFLA_INFO_SLAVE_DATA of ports */
+    NLROUTE_VLAN = 3 /* IFLA_VLAN in AF_BRIDGE messages: type 1 only */
+};
+"""),
+    MAN: (".B a\nThe list is IFLA_INFO_DATA of a\n.BR a\nThe list is IFLA_INFO_SLAVE_DATA of a\n.B a\nThe list is A\n",
+          '.BR dsa ", " hsr\nThe list is IFLA_INFO_DATA of a\n.B port\nThe list is IFLA_INFO_SLAVE_DATA of a\n.B a\nThe list is A\n'),
+    "README.md": ("They cover a](docs/families.md) b\n", "They cover DSA ports, HSR devices, and ports ([4 families](docs/families.md) b\n"),
+    **{it: ("link attributes, such as those of a. It has b\n",
+            "link attributes, such as those of DSA ports, HSR devices, and ports. It has b\n") for it in BINDINGS},
+    ANSWERS: (f"-- A\n{GOALS}\nold\n", f"-- A\n{GOALS}" + "".join(f"""
+pub returns-in-{it}-clause-answer : goal.returns-in-{it}-clause-answer
+returns-in-{it}-clause-answer c = rw c.in-{it}.is c.rewrite_as{'' if it == 'Dsa' else f'-in-{it}'}.ensures.answer
+""" for it in ("Dsa", "Hsr", "Port", "Vlan"))),
+    "docs/proofs/MODEL.md": ("### A: `InfoDsa`, `dsa_table`\n### B: `InfoVlan`, `vlan_table`\n### `InfoHsr`\n",
+                             "### DSA ports: `InfoDsa`, `dsa_table`\n### `IFLA_VLAN` in AF_BRIDGE messages: `InfoVlan`, `vlan_table`\n### `InfoHsr`\n"),
+}  # fmt: skip
+ROWS = "".join(f'family_row {it} = row (codes "{it.lower()}") 0 {it.lower()}_table\n' for it in ("Dsa", "Hsr", "Port", "Vlan"))
+
+
+def repeated(place):
+    """What is written to the files above, of which `place` gives the text before and the one after; or why nothing is."""
+    texts = {families.LIST: COMMENTED, families.DEFINED: ROWS} | {path: place(it) for path, it in REPEATING.items()}
+    try:
+        return families.written(texts.get)
+    except ValueError as error:
+        return str(error)
+
+
 # What tools/made.py makes: heads of files, a row, comments and declarations, contracts, lines of a promise, a packet.
 MADE = [
     (made.header("//! A pair: `a.b`, and\n//! more. Not this.\n\n//! Nor this.\n", "rt"), "A pair: `a.b`, and more"),
@@ -294,6 +344,12 @@ MADE = [
      [("–", "y {z}"), ("named", "u")]),
     ([*made.broken("one (two three) four", 16)], ["one (two three)", "four"]),
     ([*made.broken("one", 16)], ["one"]),
+    (repeated(lambda it: it[0]), {path: it[1] for path, it in REPEATING.items()}),
+    (repeated(lambda it: it[1]), {path: it[1] for path, it in REPEATING.items()}),
+    (repeated(lambda it: it[0].replace("They cover", "Of")),
+     f"README.md: 0 places are as {families.WRITTEN[3][1]}, and one has to be"),
+    (repeated(lambda it: it[0] * (1 + it[0].startswith(".B"))),
+     f"{MAN}: 2 places are as {families.WRITTEN[1][1]}, and one has to be"),
     (made.capture("# One\n# two\n> message 01\nNo\n# three\n")[-40:-4], made.COOKED + b"\1\0\0\0\1\0\7\0One two\0\0\0\0\0"),
 ]  # fmt: skip
 

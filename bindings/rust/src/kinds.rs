@@ -68,21 +68,21 @@ pub(crate) fn refusal_text(code: isize) -> &'static str {
 families! {
     /// Names `IFLA_AF_SPEC` in `AF_BRIDGE` messages.
     AfSpecBridge = 0, "af_spec_bridge";
-    /// Names `IFLA_INFO_DATA` of a bond.
+    /// Names `IFLA_INFO_DATA` of bonds.
     Bond = 1, "bond";
-    /// Names `IFLA_INFO_SLAVE_DATA` of a bond port.
+    /// Names `IFLA_INFO_SLAVE_DATA` of bond ports.
     BondPort = 2, "bond_port";
-    /// Names `IFLA_INFO_DATA` of a bridge.
+    /// Names `IFLA_INFO_DATA` of bridges.
     Bridge = 3, "bridge";
-    /// Names `IFLA_INFO_SLAVE_DATA` of a bridge port.
+    /// Names `IFLA_INFO_SLAVE_DATA` of bridge ports.
     BridgePort = 4, "bridge_port";
-    /// Names `IFLA_INFO_DATA` of a VLAN device.
+    /// Names `IFLA_INFO_DATA` of VLAN devices.
     Vlan = 5, "vlan";
-    /// Names `IFLA_INFO_DATA` of a CAN controller.
+    /// Names `IFLA_INFO_DATA` of CAN controllers.
     Can = 6, "can";
-    /// Names `IFLA_INFO_DATA` of a DSA port.
+    /// Names `IFLA_INFO_DATA` of DSA ports.
     Dsa = 7, "dsa";
-    /// Names `IFLA_INFO_DATA` of an HSR or PRP device.
+    /// Names `IFLA_INFO_DATA` of HSR and PRP devices.
     Hsr = 8, "hsr";
     /// Names `IFLA_PROTINFO` in `AF_BRIDGE` messages: attribute type 45 only.
     ProtoBridge = 9, "proto_bridge";

@@ -26,7 +26,7 @@ pub enum Family {
     /// `hsr`: attributes of HSR and PRP devices, [`InfoHsr`](crate::link::InfoHsr).
     Hsr,
     /// `proto_bridge`: attributes of `IFLA_PROTINFO` in AF_BRIDGE messages,
-    /// [`LinkProtoInfoBridge`](crate::link::LinkProtoInfoBridge).
+    /// [`LinkProtoInfoBridge`](crate::link::LinkProtoInfoBridge): attribute type 45 only.
     ProtoBridge,
 }
 

@@ -69,14 +69,14 @@ const char *nlroute_build(void);
 /* The attribute sets. */
 enum nlroute_family {
     NLROUTE_AF_SPEC_BRIDGE = 0, /* IFLA_AF_SPEC in AF_BRIDGE messages */
-    NLROUTE_BOND = 1, /* IFLA_INFO_DATA of a bond */
-    NLROUTE_BOND_PORT = 2, /* IFLA_INFO_SLAVE_DATA of a bond port */
-    NLROUTE_BRIDGE = 3, /* IFLA_INFO_DATA of a bridge */
-    NLROUTE_BRIDGE_PORT = 4, /* IFLA_INFO_SLAVE_DATA of a bridge port */
-    NLROUTE_VLAN = 5, /* IFLA_INFO_DATA of a VLAN device */
-    NLROUTE_CAN = 6, /* IFLA_INFO_DATA of a CAN controller */
-    NLROUTE_DSA = 7, /* IFLA_INFO_DATA of a DSA port */
-    NLROUTE_HSR = 8, /* IFLA_INFO_DATA of an HSR or PRP device */
+    NLROUTE_BOND = 1, /* IFLA_INFO_DATA of bonds */
+    NLROUTE_BOND_PORT = 2, /* IFLA_INFO_SLAVE_DATA of bond ports */
+    NLROUTE_BRIDGE = 3, /* IFLA_INFO_DATA of bridges */
+    NLROUTE_BRIDGE_PORT = 4, /* IFLA_INFO_SLAVE_DATA of bridge ports */
+    NLROUTE_VLAN = 5, /* IFLA_INFO_DATA of VLAN devices */
+    NLROUTE_CAN = 6, /* IFLA_INFO_DATA of CAN controllers */
+    NLROUTE_DSA = 7, /* IFLA_INFO_DATA of DSA ports */
+    NLROUTE_HSR = 8, /* IFLA_INFO_DATA of HSR and PRP devices */
     NLROUTE_PROTO_BRIDGE = 9 /* IFLA_PROTINFO in AF_BRIDGE messages: attribute type 45 only */
 };
 

@@ -1,5 +1,5 @@
 -- In each arm the family's table is that of the type. The search finds this for the other clauses; for a long table it
--- would take too many steps here.
+-- would take too many steps here. tools/made.py writes a part for each family.
 use Rattle.std.proofs.Common.{◌≡◌}
 use Rattle.netlink_packet_route.proofs.rewriting.rewrite.Goals as goal
 
