@@ -79,9 +79,9 @@ readme() {
     cat <<END
 nlroute $version$unproved
 
-The C library parses, checks, counts and re-encodes lists of netlink link attributes, such as IFLA_INFO_DATA. It covers
-bonds, bridges, their ports, and VLAN, CAN, DSA, HSR and PRP devices. The program nlshow prints such lists, and the messages
-that contain them. The program nlroute re-encodes a list.
+The C library parses, checks, counts and re-encodes lists of netlink link attributes, such as IFLA_INFO_DATA of bonds,
+bridges and VLAN devices; the manual nlroute(1) has all. The program nlshow prints such lists, and the messages that contain
+them. The program nlroute re-encodes a list.
 
 $proved
 
