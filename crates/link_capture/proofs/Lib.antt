@@ -1,6 +1,7 @@
 pub mod Blocks
 pub mod Forms
 pub mod Fronts
+pub mod Kept
 pub mod Longer
 pub mod Nexts
 pub mod Once

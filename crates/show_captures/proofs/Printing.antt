@@ -25,22 +25,16 @@ use Rattle.link_capture.specs.declared.error.Size.TheVariants as sizes
 use Rattle.link_capture.specs.declared.event.Time.{Time}
 use Rattle.link_capture.specs.declared.form.Form.{Form}
 use Rattle.link_capture.specs.declared.form.Form.TheVariants as forms
-use Rattle.link_capture.specs.declared.options.Clock.{Clock}
 use Rattle.link_capture.specs.declared.order.Order.{Order}
 use Rattle.link_capture.specs.declared.order.Order.TheVariants.{Little}
 use Rattle.link_capture.specs.declared.other_format.OtherFormat.{OtherFormat}
 use Rattle.link_capture.specs.declared.other_format.OtherFormat.TheVariants as formats
-use Rattle.link_capture.specs.declared.pcapng.Interface.{Interface}
-use Rattle.link_capture.specs.Block.{After, sectioned, with_clock, IsDescribed, Small, TooMany, Read, packet_from, packed, other, IsBlock, Unequal, Describes, Others}
 use Rattle.link_capture.specs.ErrorText.{head_text, size_text, bytes_text, error_text}
-use Rattle.link_capture.specs.Form.{section}
-use Rattle.link_capture.specs.Front.{order_of}
 use Rattle.link_capture.specs.Order.{number_at}
 use Rattle.link_capture.specs.OtherFormat.{format_text}
-use Rattle.link_capture.specs.Pcap.{form_after}
-use Rattle.link_capture.specs.Raw.{streamed}
 use Rattle.link_capture.specs.Told.{Told, Nothing, APacket, AMessage, ATime, Captured, State}
-use Rattle.link_capture.specs.Unit.{after_pcap, IsBlockIn, IsTakenAs, Leads}
+use Rattle.link_capture.specs.Unit.{Leads}
+use Rattle.link_capture.proofs.Kept.{AreKept, HasAll, leads_has}
 use Rattle.link_show.specs.Printable.{IsText, AreTexts}
 use Rattle.link_show.proofs.Printing.{text, none, one, and, either, decimal_text}
 use Rattle.link_show.proofs.LinePrinting.{no_texts, and_texts, IsLine, line_end, line_and, line_texts, each_texts, drop_bytes}
@@ -189,99 +183,29 @@ short_texts n = line_texts (line_and {t = codes "  error at 0: "} (text refl) (l
 
 -- ---- the bytes in units
 
--- those of a packet or a message are bytes
-abbrev BytesIn : Told → Type 0
-BytesIn Nothing = Unit {0}
-BytesIn (APacket p) = IsBytes p.bytes
-BytesIn (AMessage bytes) = IsBytes bytes
-BytesIn (ATime time) = Unit {0}
+abbrev OfBytes : Captured → Type 0
+OfBytes p = IsBytes p.bytes
 
-record HasBytes (told : Told) : Type 0 where
-  pub bytes : BytesIn told
+abbrev HasBytes : Told → Type 0
+HasBytes = HasAll IsBytes OfBytes (λ interface. Unit {0})
 
-either_has : (b : Bool) {s t : Told} → HasBytes s → HasBytes t → HasBytes (if b then s else t)
-either_has true h k = h
-either_has false h k = k
-
--- likewise for what a unit means, if it is one
-abbrev BytesAfter : After → Type 0
-BytesAfter (Ok known) = HasBytes known.0
-BytesAfter (Err error) = Unit {0}
-
-record GivesBytes (after : After) : Type 0 where
-  pub gives : BytesAfter after
-
-either_gives : (b : Bool) {s t : After} → GivesBytes s → GivesBytes t → GivesBytes (if b then s else t)
-either_gives true h k = h
-either_gives false h k = k
-
-nothing_has : HasBytes Nothing
-nothing_has = record { bytes = tt }
-
-nothing_gives : (state : State) → GivesBytes (Ok (Nothing, state))
-nothing_gives state = record { gives = nothing_has }
-
-error_gives : (error : InputError) → GivesBytes (Err error)
-error_gives error = record { gives = tt }
-
-packet_gives : (p : Captured) (state : State) → IsBytes p.bytes → GivesBytes (Ok (APacket p, state))
-packet_gives p state h = record { gives = record { bytes = h } }
-
-header_bytes : (is : List Interface) (form : Result Form InputError) → GivesBytes (after_pcap is form)
-header_bytes is (Ok form) = nothing_gives _
-header_bytes is (Err error) = error_gives error
-
-clock_bytes : (order : Order) (is : List Interface) (u : List ℕ) (clock : Result Clock InputError) → GivesBytes (with_clock order is u clock)
-clock_bytes order is u (Ok clock) = nothing_gives _
-clock_bytes order is u (Err error) = error_gives error
-
-described_bytes : (order : Order) (is : List Interface) (u : List ℕ) (after : After) → IsDescribed order is u after → GivesBytes after
-described_bytes order is u after (Small short e) = subst GivesBytes (sym e) (error_gives _)
-described_bytes order is u after (TooMany long full e) = subst GivesBytes (sym e) (error_gives _)
-described_bytes order is u after (Read long free clock read e) = subst GivesBytes (sym e) (clock_bytes order is u clock)
-
-section_bytes : (order : Order) (u : List ℕ) → GivesBytes (sectioned order u)
-section_bytes order u =
-    either_gives (nat_lt (length u) 28) (error_gives _)
-    (either_gives ((number_at order 2 12 u == 1) && ((number_at order 2 14 u == 0) || (number_at order 2 14 u == 2))) (nothing_gives _) (error_gives _))
-
-from_bytes : (order : Order) (is : List Interface) (u : List ℕ) (interface : Option Interface) → IsBytes u → GivesBytes (packet_from order is u interface)
-from_bytes order is u None h = error_gives _
-from_bytes order is u (Some interface) h =
-    either_gives (nat_lt (length u - 32) (number_at order 4 20 u)) (error_gives _) (packet_gives _ _ (take_bytes (number_at order 4 20 u) (drop 28 u) (drop_bytes 28 u h)))
-
-packed_bytes : (order : Order) (is : List Interface) (u : List ℕ) → IsBytes u → GivesBytes (packed order is u)
-packed_bytes order is u h = either_gives (nat_lt (length u) 32) (error_gives _) (from_bytes order is u (slice_get is (number_at order 4 8 u)) h)
-
-other_bytes : (order : Order) (is : List Interface) (u : List ℕ) (kind : ℕ) → IsBytes u → GivesBytes (other order is u kind)
-other_bytes order is u kind h =
-    either_gives (kind == section) (section_bytes order u) (either_gives (kind == 6) (packed_bytes order is u h) (either_gives ((kind == 2) || (kind == 3)) (error_gives _) (nothing_gives _)))
-
-block_bytes : (order : Order) (is : List Interface) (u : List ℕ) (after : After) → IsBytes u → IsBlock order is u after → GivesBytes after
-block_bytes order is u after h (Unequal differ e) = subst GivesBytes (sym e) (error_gives _)
-block_bytes order is u after h (Describes equal kind described) = described_bytes order is u after described
-block_bytes order is u after h (Others equal kind e) = subst GivesBytes (sym e) (other_bytes order is u (number_at order 4 0 u) h)
-
-block_in_bytes : (order : Option Order) (is : List Interface) (u : List ℕ) (after : After) → IsBytes u → IsBlockIn order is u after → GivesBytes after
-block_in_bytes None is u after h e = subst GivesBytes (sym e) (error_gives _)
-block_in_bytes (Some order) is u after h block = block_bytes order is u after h block
-
-streamed_bytes : (u : List ℕ) → IsBytes u → HasBytes (streamed u)
-streamed_bytes u h = either_has ((number_at Little 2 4 u == 15) && (length u == 24)) (record { bytes = tt }) (record { bytes = h })
-
-taken_bytes : (form : Form) (is : List Interface) (u : List ℕ) (after : After) → IsBytes u → IsTakenAs form is u after → GivesBytes after
-taken_bytes (forms.Pcap order digits) is u after h e = subst GivesBytes (sym e) (header_bytes is (form_after order digits u))
-taken_bytes (forms.Records order digits) is u after h e = subst GivesBytes (sym e) (packet_gives _ _ (drop_bytes 16 u h))
-taken_bytes (forms.Blocks order) is u after h block = block_in_bytes (order_of order u) is u after h block
-taken_bytes forms.Messages is u after h e = subst GivesBytes (sym e) (record { gives = streamed_bytes u h })
+bytes_kept : AreKept IsBytes OfBytes (λ interface. Unit {0})
+bytes_kept = record {
+  taken = take_bytes;
+  dropped = drop_bytes;
+  described = λ order u clock h. tt;
+  packed = λ time order u interface bytes h known k. k;
+  recorded = λ time order u bytes h k. k;
+}
 
 -- those of all units, each with the number of packets before it
-leads_bytes : (k : ℕ) (state : State) (at : ℕ) (s : List ℕ) (units : List Told) (last : State) (end : ℕ) (left : List ℕ) → IsBytes s → Leads state at s units last end left → AllByRecursion (λ x. HasBytes x.1) (counted k units)
-leads_bytes k state at s [] last end left h leads = tt
-leads_bytes k state at s (told ∷ units) last end left h (next, (size, unit, leads)) = (
-  (taken_bytes state.form state.interfaces (take unit.n s) (Ok (told, next)) (take_bytes unit.n s h) unit.taken).gives,
-  leads_bytes (packets_to k told) next (at + size) (drop size s) units last end left (drop_bytes size s h) leads,
-)
+numbered : (k : ℕ) (units : List Told) → AllByRecursion HasBytes units → AllByRecursion (λ x. HasBytes x.1) (counted k units)
+numbered k [] h = tt
+numbered k (told ∷ units) h = (h.0, numbered (packets_to k told) units h.1)
+
+leads_bytes : (k : ℕ) (state : State) (at : ℕ) (s : List ℕ) (units : List Told) (last : State) (end : ℕ) (left : List ℕ) → AllByRecursion (λ interface. Unit {0}) state.interfaces → IsBytes s → Leads state at s units last end left
+    → AllByRecursion (λ x. HasBytes x.1) (counted k units)
+leads_bytes k state at s units last end left known h leads = numbered k units (leads_has IsBytes OfBytes (λ interface. Unit {0}) bytes_kept state at s units last end left known h leads)
 
 -- ---- an input
 
@@ -304,13 +228,13 @@ module _ (options : Options) (plain : options.format ≡ Plain) where
 
   unit_texts : (x : ℕ × Told) (out : List ℕ) (well : Bool) → HasBytes x.1 → ShowsUnit (units_by_options options) x out well → AreTexts out
   unit_texts (n, Nothing) out well h shown = subst AreTexts (sym shown.0) no_texts
-  unit_texts (n, APacket p) out well h shown = packet_texts (suc n) p out well h.bytes shown
-  unit_texts (n, AMessage bytes) out well h shown = bare_texts bytes out well h.bytes shown
+  unit_texts (n, APacket p) out well h shown = packet_texts (suc n) p out well h.all shown
+  unit_texts (n, AMessage bytes) out well h shown = bare_texts bytes out well h.all shown
   unit_texts (n, ATime time) out well h shown = time_texts time out shown.0
 
   capture_texts : (form : Form) (s out : List ℕ) (whole : Bool) → IsBytes s → ShowsCapture (units_by_options options) form s out whole → AreTexts out
   capture_texts form s out whole h shown =
-      let units = leads_bytes 0 (record { form = form; interfaces = [] }) 0 s shown.units shown.reads.last shown.reads.end shown.reads.left h shown.reads.leads in
+      let units = leads_bytes 0 (record { form = form; interfaces = [] }) 0 s shown.units shown.reads.last shown.reads.end shown.reads.left tt h shown.reads.leads in
       subst AreTexts (sym shown.joined) (and_texts (each_texts (λ x. HasBytes x.1) (ShowsUnit (units_by_options options)) unit_texts (counted 0 shown.units) shown.lines shown.well units shown.each) (end_texts options shown.fault))
 
   form_prints : (form : Option Form) (s out : List ℕ) (whole : Bool) → ShowsForm (by_options options) form s out whole → PrintsForm form s out

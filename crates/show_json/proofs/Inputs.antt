@@ -19,8 +19,8 @@ use Rattle.show_json.proofs.Written.{packet_are, message_are, time_is, error_is,
 module _ (json : Form) where
   unit_are : (x : ℕ × Told) (out : List ℕ) (well : Bool) → IsBoundedAt x → ShowsUnit (units_json json) x out well → AreDocuments out well
   unit_are (n, Nothing) out well h (e, good) = equal_are out [] well true e good none_are
-  unit_are (n, APacket p) out well h shown = packet_are json (suc n) p out well h.number h.bounded.fits shown
-  unit_are (n, AMessage bytes) out well h shown = message_are json bytes out well h.bounded.fits.bytes h.bounded.fits.few shown
+  unit_are (n, APacket p) out well h shown = packet_are json (suc n) p out well h.number h.bounded.all shown
+  unit_are (n, AMessage bytes) out well h shown = message_are json bytes out well h.bounded.all.bytes h.bounded.all.few shown
   unit_are (n, ATime time) out well h (shown, good) = equal_are out out well true refl good (time_is json time out shown)
 
   end_are : (state : State) (end : ℕ) (left : List ℕ) (fault : Option (ℕ × InputError)) → end < 2 ^ 64 → IsEnd state end left fault → AreDocuments (end_line (units_json json) fault) (is_well fault)
