@@ -1,11 +1,12 @@
 //! Where texts are written.
 
 ghost use Rattle.std.specs.Prelude.{◌≡◌, ◌++◌, [], ℕ, List, OnOk};
+ghost use Rattle.std.specs.IoError.{error_kind};
 ghost use Rattle.link_show.specs.Sink.{Output, Whole, Gains};
 ghost use Rattle.link_show.specs.Gained.{gains_nothing, gains_all};
 
 use std::io;
-use std::io::Write;
+use std::io::{ErrorKind, Write};
 
 /// What a text is written to, such as any `io::Write`. Code that is generic over sinks cannot make an `Error`: if it fails,
 /// the error is one that the sink returned.
@@ -33,15 +34,28 @@ pub trait Sink {
 }
 
 impl<W: Write> Sink for W {
-    type Error = io::Error;
+    /// The kind of the writer's error, one byte. An `io::Error` has 88, and texts are written in many pieces.
+    type Error = ErrorKind;
 
     ghost output = { λ writer. Whole (W.contents writer) };
 
-    fn put(&mut self, bytes: &[u8]) -> io::Result<()> {
-        self.write_all(bytes)
+    fn put(&mut self, bytes: &[u8]) -> Result<(), ErrorKind> {
+        match self.write_all(bytes) {
+            Ok(()) => Ok(()),
+            Err(error) => Err(kind_of(&error)),
+        }
     }
 
     ghost none = { λ a. gains_nothing (Whole (W.contents a)) };
 
     ghost both = { λ a b c. gains_all (Whole (W.contents a)) (Whole (W.contents b)) (Whole (W.contents c)) };
+}
+
+/// Returns the kind of an error. It is not inlined, so that `put` is.
+#[cold]
+#[inline(never)]
+fn kind_of(error: &io::Error) -> ErrorKind
+    ensures { result ≡ error_kind error.now }
+{
+    error.kind()
 }

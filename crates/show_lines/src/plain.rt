@@ -14,7 +14,7 @@ use crate::running::Stop;
 use link_messages::Payload;
 use link_show::{write_family_list, write_messages, write_verdict};
 use std::io;
-use std::io::Write;
+use std::io::{ErrorKind, Write};
 
 /// Repeats a line, and writes below it what it asks for, as people read it. Returns false if one of the lines below is an error, or
 /// a list that is checked is not canonical.
@@ -47,7 +47,7 @@ fn write_line<W: Write>(
         text.now (W.contents writer.old) (W.contents writer.new)) }
 {
     write_repeated(writer, text)?;
-    write_asked(writer, asked, check, bytes)
+    Ok(write_asked(writer, asked, check, bytes)?)
 }
 
 /// Writes what a command asks for.
@@ -56,7 +56,7 @@ fn write_asked<W: Write>(
     asked: Asked,
     check: bool,
     bytes: &[u8],
-) -> io::Result<bool>
+) -> Result<bool, ErrorKind>
     ensures { IfOk result (Writes (ShowsPlain check asked bytes.now)
         (Whole (W.contents writer.old)) (Whole (W.contents writer.new))) }
 {

@@ -32,7 +32,7 @@ fn write_text<W: Write>(writer: &mut W, text: &[u8]) -> io::Result<()>
     if are_repeated(front) {
         writer.write_all(front)
     } else {
-        write_quoted(writer, text)
+        Ok(write_quoted(writer, text)?)
     }
 }
 
