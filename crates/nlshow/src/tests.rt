@@ -10,6 +10,7 @@ mod replies;
 mod walks;
 
 use crate::run_on;
+use link_show::write_hex;
 use program::{UntilEnd, Watched};
 use show_lines::{Format, Options, Output};
 use std::alloc::Global;
@@ -176,6 +177,8 @@ fn readers_and_writers_that_fail(rt: HostRuntime) {
             assert_eq!(&rt; status, 5);
         }
     }
+    let failed = write_hex(&mut Broken { takes: false }, b"*");
+    assert!(&rt; failed == Err(io::ErrorKind::BrokenPipe));
 }
 
 /// Input lines, each with its output in the debug form. The first has fewer than four bytes, and the first two of a magic
