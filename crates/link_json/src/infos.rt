@@ -5,10 +5,10 @@ ghost use Rattle.json.specs.Tree.{json_tokens};
 ghost use Rattle.link_base.specs.Buffer.{kind_field_of, payload_of};
 ghost use Rattle.link_base.specs.Frame.{kind_of};
 ghost use Rattle.link_messages.specs.Finding.{stretch_of};
-ghost use Rattle.link_json.specs.Link.{ShowsInfo, ShowsInfoItem, ShowsInfoValue, ShowsData, ShowsAll, ShowsArray, family_for, info_simple, or_raw};
-ghost use Rattle.link_json.specs.List.{Writes, WritesValue};
+ghost use Rattle.link_json.specs.Link.{ShowsInfo, ShowsInfoItem, ShowsInfoValue, ShowsData, ShowsArray, family_for, info_simple, or_raw};
+ghost use Rattle.link_json.specs.List.{WritesValue};
 
-use crate::documents::write_frame_fault;
+use crate::items::{WriteItem, write_items};
 use crate::links::write_array;
 use crate::names::write_type_name;
 use crate::sheet::Sheet;
@@ -36,36 +36,22 @@ pub(crate) fn write_info(sheet: &mut Sheet, list: Payload<'_>) -> Result<bool, A
 {
     let info = info_of(list);
     sheet.begin_array()?;
-    let well = write_info_items(sheet, &info, list)?;
+    let well = write_items(sheet, &info, list)?;
     sheet.end_array()?;
     Ok(well)
 }
 
-/// Writes the elements for the attributes of an `IFLA_LINKINFO` with these contents.
-fn write_info_items(
-    sheet: &mut Sheet,
-    info: &LinkInfo<'_>,
-    list: Payload<'_>,
-) -> Result<bool, AllocError>
-    ensures { IfOk result (Writes (ShowsAll (ShowsInfoItem info.now) (stretch_of list.entry)) sheet.old sheet.new) }
-{
-    let mut whole = true;
-    let mut rest = list.bytes;
-    while !rest.is_empty() {
-        let at = list.at + (list.bytes.len() - rest.len());
-        match NlaBuffer::split_first(rest) {
-            Ok((attribute, after)) => {
-                let well = write_info_item(sheet, info, attribute, at)?;
-                whole &= well;
-                rest = after;
-            }
-            Err(cause) => {
-                write_frame_fault(sheet, at, cause)?;
-                return Ok(false);
-            }
-        }
+impl<'a> WriteItem for LinkInfo<'a> {
+    ghost shows = { ShowsInfoItem };
+
+    fn write_item(
+        &self,
+        sheet: &mut Sheet,
+        attribute: NlaBuffer<'_>,
+        at: usize,
+    ) -> Result<bool, AllocError> {
+        write_info_item(sheet, self, attribute, at)
     }
-    Ok(whole)
 }
 
 /// Writes an attribute at an offset. Returns whether it has no error.

@@ -14,6 +14,7 @@ macro_rules! types {
 
 mod documents;
 mod infos;
+mod items;
 pub mod laws;
 mod links;
 mod lists;

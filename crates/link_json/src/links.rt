@@ -7,11 +7,11 @@ ghost use Rattle.link_base.specs.Frame.{kind_of};
 ghost use Rattle.link_base.specs.Labels.{names_in, name_in};
 ghost use Rattle.link_messages.specs.Finding.{stretch_of};
 ghost use Rattle.link_json.specs.Doc.{each_tokens, fields_tokens};
-ghost use Rattle.link_json.specs.Link.{ShowsLink, ShowsAttributes, ShowsLinkItem, ShowsLinkValue, ShowsProtinfo, ShowsArray, header_fields, link_simple, or_raw};
-ghost use Rattle.link_json.specs.List.{ShowsList, Writes, WritesValue};
+ghost use Rattle.link_json.specs.Link.{ShowsLink, ShowsLinkItem, ShowsLinkValue, ShowsProtinfo, ShowsArray, header_fields, link_simple, or_raw};
+ghost use Rattle.link_json.specs.List.{ShowsList, WritesValue};
 
-use crate::documents::write_frame_fault;
 use crate::infos::write_info;
+use crate::items::{WriteItem, write_items};
 use crate::lists::write_list;
 use crate::names::write_type_name;
 use crate::numbers::{write_enum, write_flags};
@@ -54,7 +54,10 @@ pub(crate) fn write_link(
     write_link_header(sheet, header)?;
     sheet.key("attrs")?;
     sheet.begin_array()?;
-    let well = write_attributes(sheet, header.family, list)?;
+    let items = LinkItems {
+        address_family: header.family,
+    };
+    let well = write_items(sheet, &items, list)?;
     sheet.end_array()?;
     sheet.end_object()?;
     Ok(well)
@@ -76,32 +79,23 @@ fn write_link_header(sheet: &mut Sheet, header: &LinkHeader) -> Result<(), Alloc
     write_flags(sheet, DEVICE_FLAGS, header.change.into())
 }
 
-/// Writes the elements for the attributes of a message with this address family: one for each, in order, and one for the
-/// error of a header. Returns whether none is an error.
-fn write_attributes(
-    sheet: &mut Sheet,
+/// The attributes of a message with this address family.
+#[derive(Drop)]
+struct LinkItems {
     address_family: u8,
-    list: Payload<'_>,
-) -> Result<bool, AllocError>
-    ensures { IfOk result (Writes (ShowsAttributes address_family (stretch_of list.entry)) sheet.old sheet.new) }
-{
-    let mut whole = true;
-    let mut rest = list.bytes;
-    while !rest.is_empty() {
-        let at = list.at + (list.bytes.len() - rest.len());
-        match NlaBuffer::split_first(rest) {
-            Ok((attribute, after)) => {
-                let well = write_attribute(sheet, address_family, attribute, at)?;
-                whole &= well;
-                rest = after;
-            }
-            Err(cause) => {
-                write_frame_fault(sheet, at, cause)?;
-                return Ok(false);
-            }
-        }
+}
+
+impl WriteItem for LinkItems {
+    ghost shows = { λ items. ShowsLinkItem items.address_family };
+
+    fn write_item(
+        &self,
+        sheet: &mut Sheet,
+        attribute: NlaBuffer<'_>,
+        at: usize,
+    ) -> Result<bool, AllocError> {
+        write_attribute(sheet, self.address_family, attribute, at)
     }
-    Ok(whole)
 }
 
 /// Writes an attribute at an offset. Returns whether it has no error.

@@ -6,5 +6,5 @@ use Rattle.link_json.proofs.infos.write_info.Goals as goal
 pub returns : goal.returns
 returns c =
     let (js, shown, written) = c.in_ok-well.ensures in
-    array_shown (ShowsInfo (stretch_of c.args.list)) c.args.sheet.now c.begin_array.new.self c.write_info_items.new.sheet c.end_array.new.self c.in_ok-well.well c.in_ok-begin_array.ensures
+    array_shown (ShowsInfo (stretch_of c.args.list)) c.args.sheet.now c.begin_array.new.self c.write_items.new.sheet c.end_array.new.self c.in_ok-well.well c.in_ok-begin_array.ensures
     (js, (c.info_of-info.result, c.info_of-info.ensures, shown), written) c.in_ok-end_array.ensures

@@ -12,7 +12,7 @@ returns c =
     let b = c.write_link_header.new.sheet in
     let k = c.key.new.self in
     let e = c.end_array.new.self in
-    let array = array_written k c.begin_array.new.self c.write_attributes.new.sheet e js c.in_ok-begin_array.ensures written c.in_ok-end_array.ensures in
+    let array = array_written k c.begin_array.new.self c.write_items.new.sheet e js c.in_ok-begin_array.ensures written c.in_ok-end_array.ensures in
     let attrs = field_only b k e (codes "attrs") (array_of js) c.in_ok-key.ensures array in
     let fields = fields_then a b e (header_fields h) ((codes "attrs", array_of js) ∷ []) c.in_ok-write_link_header.ensures attrs in (
       whole_link h js,
