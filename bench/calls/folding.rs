@@ -47,11 +47,8 @@ fn folded<N: Nested>(attribute: &N, content: Content<'_>) -> u64 {
     match content {
         Content::Nothing => 0,
         Content::Bool(flag) => u64::from(flag),
-        Content::Unsigned { number, .. } => number,
-        Content::Coded { number, .. } => number,
+        Content::Number { number, .. } => number,
         Content::Signed(number) => u64::from(number.cast_unsigned()),
-        Content::Enum { number, .. } => number,
-        Content::Flags { bits, .. } => bits,
         Content::LowFlags(bits) => u64::from(bits),
         Content::MaskedFlags { flags, mask } => u64::from(flags).wrapping_add(u64::from(mask)),
         Content::Pair(first, second) => u64::from(first).wrapping_add(u64::from(second)),

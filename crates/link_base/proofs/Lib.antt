@@ -1,4 +1,5 @@
 pub mod Numbers
+pub mod Orders
 pub mod FrameBytes
 pub mod Cuts
 pub mod Readings
@@ -6,6 +7,7 @@ pub mod LossyLemmas
 pub mod NameLemmas
 pub mod ClassLemmas
 pub mod Values
+pub mod ContentBy
 pub mod Written
 pub mod Rewritings
 pub mod Addresses

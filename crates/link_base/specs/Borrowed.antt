@@ -1,32 +1,43 @@
 -- What views borrow: the content of an attribute that decodes.
-use Rattle.std.specs.Prelude.{◌≡◌, ℕ, Bool, true, false, List, [], ◌∷◌, length, take, drop, Option, Some, None, Ok}
+use Rattle.std.specs.Prelude.{◌≡◌, ◌<◌, ℕ, Bool, true, false, List, [], ◌∷◌, length, take, drop, Option, Some, None, Ok}
 use Rattle.link_base.specs.declared.views.content.Content.{Content as Borrowed}
 use Rattle.link_base.specs.declared.views.content.Content.TheVariants as borrowed
+use Rattle.link_base.specs.declared.wire.buffer.NlaBuffer.{NlaBuffer}
 use Rattle.link_base.specs.declared.rows.form.Form.{Form}
 use Rattle.link_base.specs.declared.rows.form.Form.TheVariants as forms
 use Rattle.link_base.specs.Class.{Value, Limits, Number, Integer, Boolean, Raw, Name, Unlisted, EtherType, LowByte, Nothing, extent, length_cause, meant}
+use Rattle.link_base.specs.declared.rows.form.Order.{Order}
+use Rattle.link_base.specs.declared.rows.form.Order.TheVariants as orders
+use Rattle.link_base.specs.declared.rows.form.Role.{Role}
+use Rattle.link_base.specs.declared.rows.form.Role.TheVariants as roles
+use Rattle.link_base.specs.Number.{bytes_be, bound}
 use Rattle.link_base.specs.Forms.{bytes_in}
 use Rattle.link_base.specs.IpAddress.{four_octets, sixteen_octets}
 use Rattle.link_base.specs.Layout.{octets_of}
 use Rattle.link_base.specs.Name.{before_nul}
 use Rattle.link_base.specs.Protocol.{protocol_number}
 use Rattle.link_base.specs.Lift.{lift_table}
-use Rattle.link_base.specs.Table.{Shape, One, Nested, Addresses, Table, AttrValue, class_at, Gives, Decodes}
+use Rattle.link_base.specs.Frame.{kind_of}
+use Rattle.link_base.specs.Buffer.{kind_field_of, payload_of}
+use Rattle.link_base.specs.Table.{Shape, One, Nested, Addresses, Table, AttrValue, class_at, form_at, Gives, Decodes}
 
 -- a value, as it is borrowed: whether a number has a name is left out
 abbrev pub told : Value → Value
 told (Unlisted n listed d) = Name n d
 told v = v
 
+-- the value of a number x of n bytes, in this order and with this role, without what names it
+abbrev pub number_value : Order → Role → ℕ → ℕ → Value
+number_value orders.Little roles.Enum n x = Name n x
+number_value orders.Little role n x = Number n x
+number_value orders.Big role n x = Raw (bytes_be n x)
+
 -- a borrowed content is this value
 abbrev pub Says : Borrowed → Value → Type 0
 Says borrowed.Nothing v = v ≡ Nothing
 Says (borrowed.Bool b) v = v ≡ Boolean b
-Says (borrowed.Unsigned x w) v = v ≡ Number (bytes_in w) x
-Says (borrowed.Coded x w) v = v ≡ Number (bytes_in w) x
+Says (borrowed.Number x w order role) v = (told v ≡ number_value order role (bytes_in w) x) × (x < bound (bytes_in w))
 Says (borrowed.Signed z) v = v ≡ Integer z
-Says (borrowed.Enum d w) v = told v ≡ Name (bytes_in w) d
-Says (borrowed.Flags x w) v = v ≡ Number (bytes_in w) x
 Says (borrowed.LowFlags b) v = v ≡ LowByte b
 Says (borrowed.MaskedFlags flags mask) v = v ≡ Raw (octets_of 4 (flags ∷ mask ∷ []))
 Says (borrowed.Pair a b) v = v ≡ Raw (octets_of 4 (a ∷ b ∷ []))
@@ -72,11 +83,8 @@ Borrows (Some (Addresses n)) p content = SaysAddresses content n p
 abbrev pub form_of : Borrowed → Option Form
 form_of borrowed.Nothing = Some forms.Nothing
 form_of (borrowed.Bool b) = Some forms.Bool
-form_of (borrowed.Unsigned x w) = Some (forms.Unsigned w)
-form_of (borrowed.Coded x w) = Some (forms.Coded w)
+form_of (borrowed.Number x w order role) = Some (forms.Number w order role)
 form_of (borrowed.Signed z) = Some forms.Signed
-form_of (borrowed.Enum d w) = Some (forms.Enum w)
-form_of (borrowed.Flags x w) = Some (forms.Flags w)
 form_of (borrowed.LowFlags b) = Some forms.LowFlags
 form_of (borrowed.MaskedFlags flags mask) = Some forms.MaskedFlags
 form_of (borrowed.Pair a b) = Some forms.Pair
@@ -107,6 +115,12 @@ IsAccepted shape p = Unit {0}
 -- the attribute decodes to a value
 abbrev pub HasValue : Table → ℕ → List ℕ → Type 0
 HasValue table f p = ¬ (¬ ((v : AttrValue) × Gives table f p (Ok v)))
+
+-- the attribute b decodes, in a list of this table, and this is its content
+pub record HasContent (table : Table) (b : NlaBuffer) (content : Borrowed) : Type 0 where
+  pub decodes : HasValue table (kind_field_of b) (payload_of b)
+  pub borrows : Borrows (class_at table (kind_of (kind_field_of b))) (payload_of b) content
+  pub form : form_of content ≡ form_at table (kind_of (kind_field_of b))
 
 -- the list decodes to values
 abbrev pub HasValues : Table → List ℕ → Type 0

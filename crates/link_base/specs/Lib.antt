@@ -4,6 +4,7 @@ pub mod Name
 pub mod Class
 pub mod Forms
 pub mod Fields
+pub mod Orders
 pub mod Payloads
 pub mod Wire
 pub mod Table

@@ -2,6 +2,10 @@
 -- class.
 use Rattle.std.specs.Prelude.{ℕ, Bool, true, false, List, [], map}
 use Rattle.link_base.specs.declared.rows.form.Width.TheVariants.{One, Two, Four, Eight}
+use Rattle.link_base.specs.declared.rows.form.Order.{Order}
+use Rattle.link_base.specs.declared.rows.form.Order.TheVariants.{Little, Big}
+use Rattle.link_base.specs.declared.rows.form.Role.{Role}
+use Rattle.link_base.specs.declared.rows.form.Role.TheVariants as roles
 use Rattle.link_base.specs.declared.rows.form.Layout.{Layout}
 use Rattle.link_base.specs.declared.rows.form.Form.{Form}
 use Rattle.link_base.specs.declared.rows.form.Form.TheVariants as forms
@@ -16,15 +20,18 @@ pub record Payloads : Type 0 where
   pub form : Form
   pub names : List (ℕ × List ℕ)
 
+-- the class of numbers of n bytes in this order; in network byte order it is bytes
+abbrev pub number_class : Order → Role → ℕ → List (ℕ × List ℕ) → Class
+number_class Little roles.Enum n names = Named n (map (λ x. x.0) names)
+number_class Little role n names = Unsigned n
+number_class Big role n names = Octets (Exactly n)
+
 -- the class of the payloads of a form that is no list
 abbrev pub class_by : Form → List (ℕ × List ℕ) → Class
 class_by forms.Nothing names = Empty
 class_by forms.Bool names = Truth
-class_by (forms.Unsigned w) names = Unsigned (bytes_in w)
-class_by (forms.Coded w) names = Unsigned (bytes_in w)
+class_by (forms.Number w order role) names = number_class order role (bytes_in w) names
 class_by forms.Signed names = Signed
-class_by (forms.Enum w) names = Named (bytes_in w) (map (λ x. x.0) names)
-class_by (forms.Flags w) names = Unsigned (bytes_in w)
 class_by forms.LowFlags names = Low
 class_by forms.MaskedFlags names = Octets (Exactly 8)
 class_by forms.Pair names = Octets (Exactly 8)
@@ -61,16 +68,16 @@ plain form = record { form = form; names = [] }
 -- ---- the words of rows: unsigned and signed numbers, and booleans
 
 abbrev pub u8 : Payloads
-u8 = plain (forms.Unsigned One)
+u8 = plain (forms.Number One Little roles.Plain)
 
 abbrev pub u16 : Payloads
-u16 = plain (forms.Unsigned Two)
+u16 = plain (forms.Number Two Little roles.Plain)
 
 abbrev pub u32 : Payloads
-u32 = plain (forms.Unsigned Four)
+u32 = plain (forms.Number Four Little roles.Plain)
 
 abbrev pub u64 : Payloads
-u64 = plain (forms.Unsigned Eight)
+u64 = plain (forms.Number Eight Little roles.Plain)
 
 abbrev pub i32 : Payloads
 i32 = plain forms.Signed
@@ -78,31 +85,45 @@ i32 = plain forms.Signed
 abbrev pub truth : Payloads
 truth = plain forms.Bool
 
+-- in network byte order
+abbrev pub u16_be : Payloads
+u16_be = plain (forms.Number Two Big roles.Plain)
+
+abbrev pub u32_be : Payloads
+u32_be = plain (forms.Number Four Big roles.Plain)
+
+abbrev pub u64_be : Payloads
+u64_be = plain (forms.Number Eight Big roles.Plain)
+
 -- ---- enums, with the names of their numbers
 
 abbrev pub u8_enum : {T : Type 0} → Naming T → Payloads
-u8_enum names = record { form = forms.Enum One; names = texts_of names }
+u8_enum names = record { form = forms.Number One Little roles.Enum; names = texts_of names }
 
 abbrev pub u16_enum : {T : Type 0} → Naming T → Payloads
-u16_enum names = record { form = forms.Enum Two; names = texts_of names }
+u16_enum names = record { form = forms.Number Two Little roles.Enum; names = texts_of names }
 
 abbrev pub u32_enum : {T : Type 0} → Naming T → Payloads
-u32_enum names = record { form = forms.Enum Four; names = texts_of names }
+u32_enum names = record { form = forms.Number Four Little roles.Enum; names = texts_of names }
 
 -- a number of an enum of the headers, for which Rust has no enum
 abbrev pub u32_coded : List (ℕ × List ℕ) → Payloads
-u32_coded names = record { form = forms.Coded Four; names = names }
+u32_coded names = record { form = forms.Number Four Little roles.Coded; names = names }
 
 -- ---- sets of flags, with the names of their bits
 
 abbrev pub u8_flags : List (ℕ × List ℕ) → Payloads
-u8_flags names = record { form = forms.Flags One; names = names }
+u8_flags names = record { form = forms.Number One Little roles.Flags; names = names }
 
 abbrev pub u16_flags : List (ℕ × List ℕ) → Payloads
-u16_flags names = record { form = forms.Flags Two; names = names }
+u16_flags names = record { form = forms.Number Two Little roles.Flags; names = names }
 
 abbrev pub u32_flags : List (ℕ × List ℕ) → Payloads
-u32_flags names = record { form = forms.Flags Four; names = names }
+u32_flags names = record { form = forms.Number Four Little roles.Flags; names = names }
+
+-- in network byte order
+abbrev pub u16_be_flags : List (ℕ × List ℕ) → Payloads
+u16_be_flags names = record { form = forms.Number Two Big roles.Flags; names = names }
 
 -- a set of one byte, in two bytes
 abbrev pub low_flags : List (ℕ × List ℕ) → Payloads

@@ -9,11 +9,13 @@ use Rattle.link_base.specs.declared.views.view_all.ViewAll.{ViewAll}
 use Rattle.link_base.specs.declared.wire.buffer.NlaBuffer.{NlaBuffer}
 use Rattle.link_base.specs.declared.rows.form.Form.{Form}
 use Rattle.link_base.specs.declared.rows.form.Form.TheVariants as forms
+use Rattle.link_base.specs.declared.rows.form.Order.{Order}
+use Rattle.link_base.specs.declared.rows.form.Role.TheVariants as roles
 use Rattle.link_base.specs.declared.wire.fault.ListFault.{ListFault}
 use Rattle.link_base.specs.declared.wire.fault.DecodeFault.{DecodeFault}
 use Rattle.link_base.specs.declared.wire.fault.DecodeFault.TheVariants as faults
 use Rattle.link_base.specs.declared.wire.fault.Cause.{Cause}
-use Rattle.link_base.specs.Number.{number}
+use Rattle.link_base.specs.Orders.{number_by}
 use Rattle.link_base.specs.Class.{Extent, Exactly, accepted, value_only}
 use Rattle.link_base.specs.Wire.{Wire, FirstFault}
 use Rattle.link_base.specs.Table.{Table, AttrValue, Shape, Nested, Gives, Decodes}
@@ -190,19 +192,25 @@ ViewsElementsOf shape k p None = Unit {0}
 
 -- ---- numbers and structs
 
--- whether a form is that of unsigned numbers; then likewise of structs
-abbrev pub is_unsigned : Option Form → Bool
-is_unsigned (Some (forms.Unsigned w)) = true
-is_unsigned (Some (forms.Coded w)) = true
-is_unsigned form = false
+-- the order of bytes, if a form is that of numbers which stand for themselves or have no enum in Rust
+abbrev pub number_order : Option Form → Option Order
+number_order (Some (forms.Number w order roles.Plain)) = Some order
+number_order (Some (forms.Number w order roles.Coded)) = Some order
+number_order form = None
 
+-- whether a form is that of structs
 abbrev pub is_struct : Option Form → Bool
 is_struct (Some (forms.Struct layout)) = true
 is_struct form = false
 
+-- the number in a payload, if it has n bytes
+abbrev pub unsigned_by : ℕ → Option Order → List ℕ → Option ℕ
+unsigned_by n None p = None
+unsigned_by n (Some order) p = value_only (accepted (Exactly n) (number_by order) p)
+
 -- the unsigned number in a payload of this form, if it has n bytes
 abbrev pub unsigned_in : ℕ → Option Form → List ℕ → Option ℕ
-unsigned_in n form p = if is_unsigned form then value_only (accepted (Exactly n) number p) else None
+unsigned_in n form p = unsigned_by n (number_order form) p
 
 -- the struct in a payload of this form, if its length is accepted
 abbrev pub struct_in : {A : Type 0} → Extent → (List ℕ → A) → Option Form → List ℕ → Option A

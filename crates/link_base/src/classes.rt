@@ -1,6 +1,7 @@
 //! Classes of payloads: how each is checked, decoded, encoded, and borrowed.
 
 pub(crate) mod address_list;
+pub(crate) mod be;
 pub(crate) mod coded;
 pub(crate) mod fixed_size;
 pub(crate) mod flags_class;

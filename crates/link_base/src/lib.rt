@@ -9,6 +9,7 @@ pub mod views;
 pub mod wire;
 
 pub use classes::address_list::{Address, addresses_len, emit_addresses, read_addresses};
+pub use classes::be::{Be, BeFlagBits};
 pub use classes::coded::{Coded, NumberNames};
 pub use classes::fixed_size::FixedSize;
 pub use classes::flags_class::{FlagBits, LowFlagBits, MaskedFlags};
@@ -21,9 +22,9 @@ pub use classes::records::{
     before_nul, check_at_least, check_exactly, check_length, u16_at, u32_at, u32s_at,
 };
 pub use classes::scalars::{
-    emit_i32, emit_low, emit_mac, emit_u8, emit_u16, emit_u16_be, emit_u32, emit_u32_pair,
-    emit_u64, parse_i32, parse_ip, parse_mac, parse_u8, parse_u16, parse_u16_be, parse_u32,
-    parse_u64,
+    emit_i32, emit_low, emit_mac, emit_u8, emit_u16, emit_u16_be, emit_u32, emit_u32_be,
+    emit_u32_pair, emit_u64, emit_u64_be, parse_i32, parse_ip, parse_mac, parse_u8, parse_u16,
+    parse_u16_be, parse_u32, parse_u64,
 };
 pub use classes::struct_class::{PayloadStruct, Struct};
 pub use classes::word::Word;

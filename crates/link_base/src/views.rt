@@ -2,6 +2,7 @@
 
 pub mod attribute_set;
 pub mod content;
+pub mod content_by;
 pub(crate) mod typed;
 pub mod view;
 pub mod view_all;

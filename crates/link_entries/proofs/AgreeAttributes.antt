@@ -11,13 +11,13 @@ use Rattle.link_base.specs.Forms.{bytes_in}
 use Rattle.link_base.specs.Frame.{kind_of}
 use Rattle.link_base.specs.Table.{Rows, One, Nested, Addresses, Table, class_at, form_at, nested_flag}
 use Rattle.link_base.specs.Buffer.{kind_field_of, payload_of as payload_after}
-use Rattle.link_base.specs.Borrowed.{Borrows, form_of, elements_at}
+use Rattle.link_base.specs.Borrowed.{Borrows, form_of, elements_at, HasContent}
 use Rattle.link_base.specs.WellFormed.{is_table}
 use Rattle.link_base.proofs.Coherence.{elements_formed}
 use Rattle.link_messages.specs.Walk.{Item, Walks}
 use Rattle.link_entries.specs.declared.entry.Entry.{Entry}
 use Rattle.link_entries.specs.Entry.{blank}
-use Rattle.link_entries.specs.Flat.{HasContent, Elements, head_entry, indexed, address_entry, is_address}
+use Rattle.link_entries.specs.Flat.{Elements, head_entry, indexed, address_entry, is_address}
 use Rattle.link_entries.proofs.OneContent.{value_at, fields_by}
 use Rattle.link_entries.proofs.EntryFields.{AreBelow, keeps_filled}
 use Rattle.link_entries.proofs.Shapes.{address_list, list_payload}

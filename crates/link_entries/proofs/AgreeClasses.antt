@@ -7,17 +7,22 @@ use Rattle.std.proofs.lemmas.Bool.{cases_lt, cases_Bool, eqb-true, leb-true, ltb
 use Rattle.std.proofs.lemmas.List.{length-take}
 use Rattle.link_base.specs.declared.rows.form.Width.{Width}
 use Rattle.link_base.specs.declared.rows.form.Width.TheVariants as widths
+use Rattle.link_base.specs.declared.rows.form.Order.{Order}
+use Rattle.link_base.specs.declared.rows.form.Order.TheVariants as orders
+use Rattle.link_base.specs.declared.rows.form.Role.TheVariants as roles
 use Rattle.link_base.specs.declared.rows.form.Layout.{Layout}
 use Rattle.link_base.specs.declared.rows.form.Layout.TheVariants as layouts
 use Rattle.link_base.specs.declared.rows.form.Form.{Form}
 use Rattle.link_base.specs.declared.rows.form.Form.TheVariants as forms
-use Rattle.link_base.specs.Number.{number, bytes_of, bound}
+use Rattle.link_base.specs.Number.{number, bytes_of, bytes_be, bound}
+use Rattle.link_base.specs.Orders.{bytes_by}
 use Rattle.link_base.specs.Layout.{number_at}
 use Rattle.link_base.specs.Class as classes
 use Rattle.link_base.specs.Class.{meant, written, is_listed, ether_type, size_of}
 use Rattle.link_base.specs.Forms.{bytes_in, layout_extent}
 use Rattle.link_base.specs.Payloads.{class_by}
 use Rattle.link_base.proofs.Numbers.{number-bytes_of}
+use Rattle.link_base.proofs.Orders.{all_taken, bytes_be_len, be_again}
 use Rattle.link_entries.specs.declared.entry.Entry.{Entry}
 use Rattle.link_entries.specs.Entry.{padded}
 use Rattle.link_entries.specs.Content.{with_struct}
@@ -85,9 +90,9 @@ whole_read : (P : Entry → Type 0) (n : ℕ) (q : List ℕ) (short full : Entry
 whole_read P n q short full size h = subst (λ b. P (cond b short full)) (sym (le-ltb (length q) n (omega (arith, size)))) h
 
 module _ (e : Entry) (octets p : List ℕ) (held : IsEntry e) where
-  number_held : (code most : ℕ) (w : Width) → payload_of (fields.Number code w most) e octets ≡ Ok p → (e.number ≤ most) × (p ≡ bytes_of (bytes_in w) e.number)
-  number_held code most w h =
-      let both = only_held (nat_le e.number most) BadNumber (bytes_of (bytes_in w) e.number) p (content_ok (fields.Number code w most) e octets p h) in
+  number_held : (code most : ℕ) (w : Width) (order : Order) → payload_of (fields.Number code w order most) e octets ≡ Ok p → (e.number ≤ most) × (p ≡ bytes_by order (bytes_in w) e.number)
+  number_held code most w order h =
+      let both = only_held (nat_le e.number most) BadNumber (bytes_by order (bytes_in w) e.number) p (content_ok (fields.Number code w order most) e octets p h) in
       (leb-true e.number most both.0, both.1)
 
   some_bound : (w : Width) → e.number ≤ bound (bytes_in w) - 1 → e.number < bound (bytes_in w)
@@ -96,21 +101,27 @@ module _ (e : Entry) (octets p : List ℕ) (held : IsEntry e) where
   some_bound widths.Four h = omega (arith, h)
   some_bound widths.Eight h = omega (arith, h)
 
-  pub number_read : (code : ℕ) (w : Width) → payload_of (any_number code w) e octets ≡ Ok p → number p ≡ e.number
+  pub number_read : (code : ℕ) (w : Width) → payload_of (any_number code w orders.Little) e octets ≡ Ok p → number p ≡ e.number
   number_read code w h =
-      let both = number_held code (bound (bytes_in w) - 1) w h in
+      let both = number_held code (bound (bytes_in w) - 1) w orders.Little h in
       ap number both.1 ∙ number-bytes_of (bytes_in w) e.number (some_bound w both.0)
 
-  truth_read : payload_of (fields.Number form_bool widths.One 1) e octets ≡ Ok p → cond (nat_lt 0 (number p)) 1 0 ≡ e.number
+  big_read : (code : ℕ) (w : Width) → payload_of (any_number code w orders.Big) e octets ≡ Ok p → number (reverse (take (bytes_in w) p)) ≡ e.number
+  big_read code w h =
+      let n = bytes_in w in
+      let both = number_held code (bound n - 1) w orders.Big h in
+      ap (λ q. number (reverse (take n q))) both.1 ∙ ap (λ q. number (reverse q)) (all_taken n (bytes_be n e.number) (bytes_be_len n e.number)) ∙ be_again n e.number (some_bound w both.0)
+
+  truth_read : payload_of (fields.Number form_bool widths.One orders.Little 1) e octets ≡ Ok p → cond (nat_lt 0 (number p)) 1 0 ≡ e.number
   truth_read h =
-      let both = number_held form_bool 1 widths.One h in
+      let both = number_held form_bool 1 widths.One orders.Little h in
       let few = both.0 in
       let same : number p ≡ e.number = ap number both.1 ∙ number-bytes_of 1 e.number (omega (arith, few)) in
       ap (λ x. cond (nat_lt 0 x) 1 0) same ∙ truth e.number few
 
-  low_read : payload_of (fields.Number form_flags widths.Two 255) e octets ≡ Ok p → slice_index p 0 ≡ e.number
+  low_read : payload_of (fields.Number form_flags widths.Two orders.Little 255) e octets ≡ Ok p → slice_index p 0 ≡ e.number
   low_read h =
-      let both = number_held form_flags 255 widths.Two h in
+      let both = number_held form_flags 255 widths.Two orders.Little h in
       let few = both.0 in
       let low : e.number % 256 ≡ e.number = omega (arith, few) in
       ap (λ q. slice_index q 0) both.1 ∙ low
@@ -204,7 +215,7 @@ module _ (e : Entry) (octets p : List ℕ) (held : IsEntry e) where
         let is = referred_is (Some 32) (content_ok (struct_fields layouts.BitTiming) e octets p h) in
         whole_read (IsRead (struct_fields layouts.BitTiming) octets e list) 32 p _ _ size (refl, front_is 32 size ∙ is)
     struct_read layouts.Clock h size =
-        let all = number_held _ _ widths.Four h in
+        let all = number_held _ _ widths.Four orders.Little h in
         let read : number_at 4 0 p ≡ e.number = ap (number_at 4 0) all.1 ∙ number-bytes_of 4 e.number (some_bound widths.Four all.0) in
         whole_read (IsRead (struct_fields layouts.Clock) octets e list) 4 p _ _ size (refl, read)
     struct_read layouts.CtrlMode h size = whole_read (IsRead (struct_fields layouts.CtrlMode) octets e list) 8 p _ _ size (refl, swapped_read _ h)
@@ -225,15 +236,14 @@ module _ (e : Entry) (octets p : List ℕ) (held : IsEntry e) where
         → IsRead (row_fields form) octets e list (fields_by f (Some form) (meant (class_by form names) p) n bare)
     class_read forms.Nothing names a h = (refl, tt)
     class_read forms.Bool names a h = (refl, truth_read h)
-    class_read (forms.Unsigned w) names a h = (refl, number_read _ w h)
-    class_read (forms.Coded w) names a h = (refl, number_read _ w h)
     class_read forms.Signed names a h = (refl, signed_read h)
-    class_read (forms.Enum w) names a h = by_name (map (λ x. x.0) names) (is_listed (map (λ x. x.0) names) (number p)) where
+    class_read (forms.Number w orders.Little roles.Enum) names a h = by_name (map (λ x. x.0) names) (is_listed (map (λ x. x.0) names) (number p)) where
       by_name : (listed : List ℕ) (b : Bool)
-          → IsRead (row_fields (forms.Enum w)) octets e list (fields_by f (Some (forms.Enum w)) (cond b (classes.Name (bytes_in w) (number p)) (classes.Unlisted (bytes_in w) listed (number p))) n bare)
+          → IsRead (row_fields (forms.Number w orders.Little roles.Enum)) octets e list (fields_by f (Some (forms.Number w orders.Little roles.Enum)) (cond b (classes.Name (bytes_in w) (number p)) (classes.Unlisted (bytes_in w) listed (number p))) n bare)
       by_name listed true = (refl, number_read _ w h)
       by_name listed false = (refl, number_read _ w h)
-    class_read (forms.Flags w) names a h = (refl, number_read _ w h)
+    class_read (forms.Number w orders.Little role) names a h = (refl, number_read _ w h)
+    class_read (forms.Number w orders.Big role) names a h = (refl, big_read _ w h)
     class_read forms.LowFlags names a h = (refl, low_read h)
     class_read forms.MaskedFlags names a h = (refl, pair_read form_masked h)
     class_read forms.Pair names a h = (refl, pair_read form_qos_mapping h)

@@ -5,6 +5,7 @@ use Rattle.std.proofs.lemmas.Bool.{cases_Bool, eqb-true, eq-eqb}
 use Rattle.std.proofs.lemmas.List.{length-append, length-take, drop_at}
 use Rattle.link_base.specs.declared.wire.buffer.NlaBuffer.{NlaBuffer}
 use Rattle.link_base.specs.declared.rows.form.Width.{Width}
+use Rattle.link_base.specs.declared.rows.form.Order.TheVariants as orders
 use Rattle.link_base.specs.Number.{number}
 use Rattle.link_base.specs.Layout.{numbers_at}
 use Rattle.link_base.specs.Forms.{bytes_in}
@@ -26,7 +27,7 @@ use Rattle.link_entries.proofs.EntryFields.{AreBelow, keeps_filled}
 use Rattle.link_entries.specs.declared.fields.Fields.{Fields}
 use Rattle.link_entries.specs.declared.fields.Fields.TheVariants as fields
 use Rattle.link_entries.specs.declared.misfit.Misfit.TheVariants.{BadElement}
-use Rattle.link_entries.specs.Fields.{any_number, ip_address, fields_at}
+use Rattle.link_entries.specs.Fields.{array_number, ip_address, fields_at}
 use Rattle.link_entries.specs.Payload.{payload_of, field_of}
 use Rattle.link_entries.specs.Spelled.{alone, before, element_content, element_of, elements_of, begins_well}
 use Rattle.link_entries.specs.Agreement.{IsEntry, IsSame, element_fields, SameInner}
@@ -167,7 +168,7 @@ module _ (table : Table) (w : Width) (k at : ℕ) (octets list : List ℕ) where
   numbers_length i [] s deep held h = let none = same_spells [] s h in omega (arith, ap length none)
   numbers_length i (e ∷ es) s deep held h =
       let one = goes table (fields.Numbers w) k octets i e es s (ap (λ n. n == 0) deep.0) h in
-      let size = number_size e octets one.here held.0.octets form_unsigned w _ one.content in
+      let size = number_size e octets one.here held.0.octets form_unsigned w orders.Little _ one.content in
       let rest = numbers_length (i + 1) es one.others deep.1 held.1 one.later in
       omega (arith, ap length one.is, length-append one.here one.others, size, rest)
 
@@ -177,14 +178,14 @@ module _ (table : Table) (w : Width) (k at : ℕ) (octets list : List ℕ) where
   numbers_same i j o (e ∷ es) s p deep held h place =
       let one = goes table (fields.Numbers w) k octets i e es s (ap (λ n. n == 0) deep.0) h in
       let read = number_read e octets one.here held.0 form_unsigned w one.content in
-      let size = number_size e octets one.here held.0.octets form_unsigned w _ one.content in
+      let size = number_size e octets one.here held.0.octets form_unsigned w orders.Little _ one.content in
       let front : take (bytes_in w) (drop o p) ≡ one.here = ap (take (bytes_in w)) (place ∙ one.is) ∙ take_at one.here one.others (bytes_in w) size in
       let back : drop (o + bytes_in w) p ≡ one.others = sym (drop-drop (bytes_in w) o p) ∙ ap (drop (bytes_in w)) (place ∙ one.is) ∙ drop_at one.here one.others (bytes_in w) size in
-      let same : IsSame (any_number form_unsigned w) octets e list (number_entry k at (bytes_in w) j (number (take (bytes_in w) (drop o p)))) = record {
+      let same : IsSame (array_number w) octets e list (number_entry k at (bytes_in w) j (number (take (bytes_in w) (drop o p)))) = record {
         kind = sym one.kind;
         depth = sym one.deep;
         form = refl;
-        given = form_held (any_number form_unsigned w) e octets one.here one.content;
+        given = form_held (array_number w) e octets one.here one.content;
         content = ap number front ∙ read;
       } in (
         record {

@@ -11,7 +11,7 @@ use Rattle.link_base.specs.Buffer.{kind_field_of, payload_of as payload_after}
 use Rattle.link_base.specs.WellFormed.{is_table}
 use Rattle.link_entries.specs.declared.entry.Entry.{Entry}
 use Rattle.link_entries.specs.Content.{filled}
-use Rattle.link_entries.specs.Flat.{HasContent}
+use Rattle.link_base.specs.Borrowed.{HasContent}
 use Rattle.link_entries.proofs.OneContent.{value_at, fields_by, filled_by}
 use Rattle.link_entries.specs.declared.fields.Fields.{Fields}
 use Rattle.link_entries.specs.declared.fields.Fields.TheVariants as fields

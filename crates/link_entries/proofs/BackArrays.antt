@@ -22,7 +22,7 @@ use Rattle.link_entries.specs.Flat.{indexed, number_entry, number_entries, addre
 use Rattle.link_entries.specs.declared.fields.Fields.{Fields}
 use Rattle.link_entries.specs.declared.fields.Fields.TheVariants as fields
 use Rattle.link_entries.specs.declared.misfit.Misfit.TheVariants.{BadElement}
-use Rattle.link_entries.specs.Fields.{any_number, ip_address}
+use Rattle.link_entries.specs.Fields.{array_number, ip_address}
 use Rattle.link_entries.specs.Payload.{payload_of}
 use Rattle.link_entries.specs.Spelled.{alone, before, framed, element_content, element_of, elements_of, begins_well}
 use Rattle.link_entries.proofs.RowForms.{array_width}
@@ -53,7 +53,7 @@ module _ (table : Table) (w : Width) (k at : ℕ) (octets : List ℕ) (rest : Li
   numbers_spelled i j [] h = elements_end table (fields.Numbers w) k octets i rest end
   numbers_spelled i j (x ∷ xs) h =
       let e = number_entry k at (bytes_in w) j x in
-      let here : payload_of (any_number form_unsigned w) e octets ≡ Ok (bytes_of (bytes_in w) x) = number_back form_unsigned w e octets refl h.0 in
+      let here : payload_of (array_number w) e octets ≡ Ok (bytes_of (bytes_in w) x) = number_back form_unsigned w e octets refl h.0 in
       elements_next table (fields.Numbers w) k i e (indexed (number_entry k at (bytes_in w)) (j + 1) xs ++ rest) octets (bytes_of (bytes_in w) x) (octets_of (bytes_in w) xs) refl
       (element_right table (fields.Numbers w) k i e octets (bytes_of (bytes_in w) x) refl refl here)
       (numbers_spelled (i + 1) (j + 1) xs h.1)

@@ -13,7 +13,7 @@ use Rattle.link_base.specs.Wire.{whole}
 use Rattle.link_base.specs.Table.{Rows, One, Nested, Addresses, Inner, Listed, Table, AttrValue, Case, class_at, form_at, nested_flag, GivesBy, Gives, addresses_from, of_length, written_kind, written_payload, written_frame, written_list}
 use Rattle.link_base.specs.Lift.{lift}
 use Rattle.link_base.specs.Buffer.{kind_field_of, payload_of as payload_after}
-use Rattle.link_base.specs.Borrowed.{Borrows, form_of, elements_by, elements_at}
+use Rattle.link_base.specs.Borrowed.{Borrows, form_of, elements_by, elements_at, HasContent}
 use Rattle.link_base.specs.WellFormed.{is_table}
 use Rattle.link_base.proofs.Coherence.{elements_formed}
 use Rattle.link_base.proofs.Lifted.{written_same}
@@ -22,7 +22,7 @@ use Rattle.link_base.proofs.ClassLemmas.{multiple}
 use Rattle.link_messages.specs.Walk.{Item, Walks}
 use Rattle.link_entries.specs.declared.entry.Entry.{Entry}
 use Rattle.link_entries.specs.Entry.{blank}
-use Rattle.link_entries.specs.Flat.{HasContent, Elements, head_entry, number_entries, indexed, address_entry, is_address}
+use Rattle.link_entries.specs.Flat.{Elements, head_entry, number_entries, indexed, address_entry, is_address}
 use Rattle.link_entries.proofs.EntryFields.{keeps_filled}
 use Rattle.link_entries.proofs.Shapes.{address_list, list_payload}
 use Rattle.link_entries.specs.declared.fields.Fields.{Fields}

@@ -4,6 +4,8 @@ use Rattle.std.specs.Prelude.{nat_le, nat_lt, slice_index}
 use Rattle.std.proofs.lemmas.Bool.{eq-eqb, le-leb, lt-ltb, le-ltb}
 use Rattle.std.proofs.lemmas.List.{length-take, length-drop, take-append-drop, drop-take}
 use Rattle.link_base.specs.declared.rows.form.Width.TheVariants as widths
+use Rattle.link_base.specs.declared.rows.form.Order.TheVariants as orders
+use Rattle.link_base.specs.declared.rows.form.Role.TheVariants as roles
 use Rattle.link_base.specs.declared.rows.form.Layout.{Layout}
 use Rattle.link_base.specs.declared.rows.form.Layout.TheVariants as layouts
 use Rattle.link_base.specs.declared.rows.form.Form.{Form}
@@ -26,10 +28,10 @@ use Rattle.link_entries.proofs.OneContent.{fields_by}
 use Rattle.link_entries.specs.declared.fields.Fields.{Fields}
 use Rattle.link_entries.specs.declared.fields.Fields.TheVariants as fields
 use Rattle.link_entries.specs.declared.misfit.Misfit.TheVariants.{BadNumber}
-use Rattle.link_entries.specs.Fields.{any_number, struct_fields, row_fields}
+use Rattle.link_entries.specs.Fields.{any_number, role_form, struct_fields, row_fields}
 use Rattle.link_entries.specs.Payload.{payload_of, rewritten}
 use Rattle.link_entries.proofs.RowForms.{is_value}
-use Rattle.link_entries.proofs.BackValues.{StandsAt, right_form, ok_if, number_back, whole_number, passed_back, at_back, at_below, halves, words_back, shorts_back, address_back, padded_back, signed_back, be_number, first_below, low2, front_stands}
+use Rattle.link_entries.proofs.BackValues.{StandsAt, right_form, ok_if, number_back, whole_number, whole_big, passed_back, at_back, at_below, halves, words_back, shorts_back, address_back, padded_back, signed_back, be_number, first_below, low2, front_stands}
 
 -- ---- structs
 
@@ -148,22 +150,23 @@ module _ (f n : ℕ) (e : Entry) (list p : List ℕ) (bytes : IsBytes p) (at : S
         | true ↦ refl
         | false ↦ refl
       ]
-  class_back (forms.Unsigned w) names h ok = whole_number form_unsigned w p (entry_by (forms.Unsigned w) names) list bytes (exactly (bytes_in w) (length p) ok) refl refl
-  class_back (forms.Coded w) names h ok = whole_number form_named w p (entry_by (forms.Coded w) names) list bytes (exactly (bytes_in w) (length p) ok) refl refl
   class_back forms.Signed names h ok =
       let size = exactly 4 (length p) ok in
       signed_back (entry_by forms.Signed names) list (number p) (subst (λ m. number p < bound m) size (number_below p bytes)) refl refl
-  class_back (forms.Enum w) names h ok = by_name (map (λ x. x.0) names) (is_listed (map (λ x. x.0) names) (number p)) where
+  class_back (forms.Number w orders.Little roles.Enum) names h ok = by_name (map (λ x. x.0) names) (is_listed (map (λ x. x.0) names) (number p)) where
     by_name : (listed : List ℕ) (b : Bool)
-        → payload_of (any_number form_named w) (fields_by f (Some (forms.Enum w)) (cond b (classes.Name (bytes_in w) (number p)) (classes.Unlisted (bytes_in w) listed (number p))) n e) list
+        → payload_of (any_number form_named w orders.Little) (fields_by f (Some (forms.Number w orders.Little roles.Enum)) (cond b (classes.Name (bytes_in w) (number p)) (classes.Unlisted (bytes_in w) listed (number p))) n e) list
         ≡ Ok (written (cond b (classes.Name (bytes_in w) (number p)) (classes.Unlisted (bytes_in w) listed (number p))))
-    by_name listed true = whole_number form_named w p (fields_by f (Some (forms.Enum w)) (classes.Name (bytes_in w) (number p)) n e) list bytes (exactly (bytes_in w) (length p) ok) refl refl
-    by_name listed false = whole_number form_named w p (fields_by f (Some (forms.Enum w)) (classes.Unlisted (bytes_in w) listed (number p)) n e) list bytes (exactly (bytes_in w) (length p) ok) refl refl
-  class_back (forms.Flags w) names h ok = whole_number form_flags w p (entry_by (forms.Flags w) names) list bytes (exactly (bytes_in w) (length p) ok) refl refl
+    by_name listed true = whole_number form_named w p (fields_by f (Some (forms.Number w orders.Little roles.Enum)) (classes.Name (bytes_in w) (number p)) n e) list bytes (exactly (bytes_in w) (length p) ok) refl refl
+    by_name listed false = whole_number form_named w p (fields_by f (Some (forms.Number w orders.Little roles.Enum)) (classes.Unlisted (bytes_in w) listed (number p)) n e) list bytes (exactly (bytes_in w) (length p) ok) refl refl
+  class_back (forms.Number w orders.Little role) names h ok = whole_number (role_form role) w p (entry_by (forms.Number w orders.Little role) names) list bytes (exactly (bytes_in w) (length p) ok) refl refl
+  class_back (forms.Number w orders.Big role) names h ok =
+      let all = kept (Exactly (bytes_in w)) ok in
+      whole_big (role_form role) w (take (bytes_in w) p) (entry_by (forms.Number w orders.Big role) names) list all.1 all.0 refl refl
   class_back forms.LowFlags names h ok =
       let x = slice_index p 0 in
       let low = first_below p bytes in
-      right_form (fields.Number form_flags widths.Two 255) (entry_by forms.LowFlags names) list refl ∙ ok_if (nat_le x 255) BadNumber (bytes_of 2 x) (le-leb x 255 (omega (arith, low))) ∙ ap Ok (low2 x low)
+      right_form (fields.Number form_flags widths.Two orders.Little 255) (entry_by forms.LowFlags names) list refl ∙ ok_if (nat_le x 255) BadNumber (bytes_of 2 x) (le-leb x 255 (omega (arith, low))) ∙ ap Ok (low2 x low)
   class_back forms.MaskedFlags names h ok = two_words form_masked ok (entry_by forms.MaskedFlags names) refl refl refl
   class_back forms.Pair names h ok = two_words form_qos_mapping ok (entry_by forms.Pair names) refl refl refl
   class_back forms.Protocol names h ok =

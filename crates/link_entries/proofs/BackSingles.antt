@@ -14,13 +14,13 @@ use Rattle.link_base.specs.Payloads.{class_by}
 use Rattle.link_base.specs.Frame.{kind_of, kind_limit}
 use Rattle.link_base.specs.Table.{Shape, One, Single, Table, AttrValue, Case, Other, class_at, form_at, GivesBy, Gives, single_case, written_kind, written_payload}
 use Rattle.link_base.specs.Buffer.{kind_field_of, payload_of as payload_after}
-use Rattle.link_base.specs.Borrowed.{form_of}
+use Rattle.link_base.specs.Borrowed.{form_of, HasContent}
 use Rattle.link_base.specs.WellFormed.{is_table}
 use Rattle.link_base.proofs.Readings.{ok, same_ok}
 use Rattle.link_entries.specs.declared.entry.Entry.{Entry}
 use Rattle.link_entries.specs.Forms.{form_unknown}
 use Rattle.link_entries.specs.Content.{filled}
-use Rattle.link_entries.specs.Flat.{HasContent, Elements}
+use Rattle.link_entries.specs.Flat.{Elements}
 use Rattle.link_entries.proofs.OneContent.{value_at, fields_by, filled_by}
 use Rattle.link_entries.specs.declared.fields.Fields.{Fields}
 use Rattle.link_entries.specs.declared.fields.Fields.TheVariants as fields

@@ -7,7 +7,9 @@ use Rattle.std.proofs.lemmas.Bool.{cases_lt, eq-eqb, le-leb, lt-ltb, le-ltb}
 use Rattle.std.proofs.lemmas.List.{length-take, length-drop, take-append-drop}
 use Rattle.link_base.specs.declared.rows.form.Width.{Width}
 use Rattle.link_base.specs.Forms.{bytes_in}
-use Rattle.link_base.specs.Number.{IsBytes, number, bytes_of, bound}
+use Rattle.link_base.specs.Number.{IsBytes, number, bytes_of, bytes_be, bound}
+use Rattle.link_base.specs.declared.rows.form.Order.TheVariants as orders
+use Rattle.link_base.proofs.Orders.{be_below, be_back}
 use Rattle.link_base.specs.Layout.{number_at}
 use Rattle.link_base.proofs.Numbers.{number_below, bytes_of-number}
 use Rattle.link_base.proofs.Values.{bytes-take, bytes-drop}
@@ -38,17 +40,27 @@ ok_if b m p h = ap (λ t. cond t (Ok p) (Err m)) h
 
 -- ---- numbers
 
-pub number_back : (form : ℕ) (w : Width) (e : Entry) (octets : List ℕ) → e.form ≡ form → e.number < bound (bytes_in w) → payload_of (any_number form w) e octets ≡ Ok (bytes_of (bytes_in w) e.number)
+pub number_back : (form : ℕ) (w : Width) (e : Entry) (octets : List ℕ) → e.form ≡ form → e.number < bound (bytes_in w) → payload_of (any_number form w orders.Little) e octets ≡ Ok (bytes_of (bytes_in w) e.number)
 number_back form w e octets same low =
     let most = bound (bytes_in w) - 1 in
-    right_form (any_number form w) e octets same ∙ ok_if (nat_le e.number most) BadNumber (bytes_of (bytes_in w) e.number) (le-leb e.number most (omega (arith, low)))
+    right_form (any_number form w orders.Little) e octets same ∙ ok_if (nat_le e.number most) BadNumber (bytes_of (bytes_in w) e.number) (le-leb e.number most (omega (arith, low)))
 
 -- the number of a whole payload
 pub whole_number : (form : ℕ) (w : Width) (p : List ℕ) (e : Entry) (octets : List ℕ) → IsBytes p → length p ≡ bytes_in w → e.form ≡ form → e.number ≡ number p
-    → payload_of (any_number form w) e octets ≡ Ok (bytes_of (bytes_in w) (number p))
+    → payload_of (any_number form w orders.Little) e octets ≡ Ok (bytes_of (bytes_in w) (number p))
 whole_number form w p e octets bytes size same is =
     let low : number p < bound (bytes_in w) = subst (λ n. number p < bound n) size (number_below p bytes) in
     number_back form w e octets same (subst (λ x. x < bound (bytes_in w)) (sym is) low) ∙ ap (λ x. Ok (bytes_of (bytes_in w) x)) is
+
+-- in network byte order
+pub whole_big : (form : ℕ) (w : Width) (q : List ℕ) (e : Entry) (octets : List ℕ) → IsBytes q → length q ≡ bytes_in w → e.form ≡ form → e.number ≡ number (reverse q)
+    → payload_of (any_number form w orders.Big) e octets ≡ Ok q
+whole_big form w q e octets bytes size same is =
+    let most = bound (bytes_in w) - 1 in
+    let low : number (reverse q) < bound (bytes_in w) = be_below (bytes_in w) q bytes size in
+    right_form (any_number form w orders.Big) e octets same
+    ∙ ok_if (nat_le e.number most) BadNumber (bytes_be (bytes_in w) e.number) (le-leb e.number most (omega (arith, low, is)))
+    ∙ ap Ok (ap (bytes_be (bytes_in w)) is ∙ be_back (bytes_in w) q bytes size)
 
 -- ---- bytes that were passed in
 

@@ -41,7 +41,7 @@ module _ (table : Table) (k : ℕ) (e : Entry) (octets p : List ℕ) where
   below (fields.Addresses n) es deep has = inl (nothing (fields.Addresses n) refl has)
   below (fields.List flag) es deep has = inl (nothing (fields.List flag) refl has)
   below fields.Empty es deep has = inr (refused fields.Empty es (λ x. refl) deep)
-  below (fields.Number form w most) es deep has = inr (refused (fields.Number form w most) es (λ x. refl) deep)
+  below (fields.Number form w order most) es deep has = inr (refused (fields.Number form w order most) es (λ x. refl) deep)
   below fields.Signed es deep has = inr (refused fields.Signed es (λ x. refl) deep)
   below (fields.Shorts form second_first) es deep has = inr (refused (fields.Shorts form second_first) es (λ x. refl) deep)
   below (fields.Words form second_first) es deep has = inr (refused (fields.Words form second_first) es (λ x. refl) deep)

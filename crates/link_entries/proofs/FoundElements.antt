@@ -12,13 +12,13 @@ use Rattle.link_base.specs.Frame.{kind_of}
 use Rattle.link_base.specs.Buffer.{kind_field_of, payload_of, SplitsFirst}
 use Rattle.link_base.specs.Layout.{number_at, numbers_at, numbers_of}
 use Rattle.link_base.specs.Table.{Table, Shape, Addresses, class_at}
-use Rattle.link_base.specs.Borrowed.{Borrows, form_of, elements_at}
+use Rattle.link_base.specs.Borrowed.{Borrows, form_of, elements_at, HasContent}
 use Rattle.link_base.proofs.ViewLemmas.{split_less}
 use Rattle.link_messages.specs.Walk.{Item, Walks, Walk}
 use Rattle.link_messages.specs.BeforeFault.{seen_of, last_item}
 use Rattle.link_messages.proofs.Walking.{walks_more, walk_unique}
 use Rattle.link_entries.specs.declared.entry.Entry.{Entry}
-use Rattle.link_entries.specs.Flat.{HasContent, indexed, number_entry, number_entries, address_entry, AreAddresses, IsElement, AreElements, Elements, IsGroup}
+use Rattle.link_entries.specs.Flat.{indexed, number_entry, number_entries, address_entry, AreAddresses, IsElement, AreElements, Elements, IsGroup}
 use Rattle.link_entries.specs.Finding.{last_inner, IsOneElement, IsLastElement, IsElementFound}
 use Rattle.link_entries.proofs.LastAttribute.{has_kind}
 use Rattle.link_entries.proofs.EntryFields.{keeps_filled, last_seen}
@@ -251,26 +251,7 @@ group_elements table at b content e es has (other, its, (below, elements, is)) =
 last_of : (table : Table) (k at i : ℕ) (content : Content) (found : Option Entry) (es : List Entry) → IsLastElement table k at content i found → Elements table k at content es → found ≡ last_inner i es
 last_of table k at i (contents.List list told) found es h elements = nested_found (elements_at table k) k at i list.now found h es elements
 last_of table k at i (contents.Addresses list n) found es (mine, are, is) elements = is ∙ ap (last_inner i) (one_address_list k at n list.now list.now mine es refl are elements)
-last_of table k at i contents.Nothing found es (mine, are, is) elements = is ∙ ap (last_inner i) (are ∙ sym elements)
-last_of table k at i (contents.Bool b) found es (mine, are, is) elements = is ∙ ap (last_inner i) (are ∙ sym elements)
-last_of table k at i (contents.Unsigned x n) found es (mine, are, is) elements = is ∙ ap (last_inner i) (are ∙ sym elements)
-last_of table k at i (contents.Coded x n) found es (mine, are, is) elements = is ∙ ap (last_inner i) (are ∙ sym elements)
-last_of table k at i (contents.Signed z) found es (mine, are, is) elements = is ∙ ap (last_inner i) (are ∙ sym elements)
-last_of table k at i (contents.Enum x n) found es (mine, are, is) elements = is ∙ ap (last_inner i) (are ∙ sym elements)
-last_of table k at i (contents.Flags x n) found es (mine, are, is) elements = is ∙ ap (last_inner i) (are ∙ sym elements)
-last_of table k at i (contents.LowFlags x) found es (mine, are, is) elements = is ∙ ap (last_inner i) (are ∙ sym elements)
-last_of table k at i (contents.MaskedFlags x n) found es (mine, are, is) elements = is ∙ ap (last_inner i) (are ∙ sym elements)
-last_of table k at i (contents.Pair x n) found es (mine, are, is) elements = is ∙ ap (last_inner i) (are ∙ sym elements)
-last_of table k at i (contents.Protocol p) found es (mine, are, is) elements = is ∙ ap (last_inner i) (are ∙ sym elements)
-last_of table k at i (contents.Mac a) found es (mine, are, is) elements = is ∙ ap (last_inner i) (are ∙ sym elements)
-last_of table k at i (contents.Ipv4 a) found es (mine, are, is) elements = is ∙ ap (last_inner i) (are ∙ sym elements)
-last_of table k at i (contents.Ipv6 a) found es (mine, are, is) elements = is ∙ ap (last_inner i) (are ∙ sym elements)
-last_of table k at i (contents.Bytes p) found es (mine, are, is) elements = is ∙ ap (last_inner i) (are ∙ sym elements)
-last_of table k at i (contents.Struct layout p) found es (mine, are, is) elements = is ∙ ap (last_inner i) (are ∙ sym elements)
-last_of table k at i (contents.U16s p) found es (mine, are, is) elements = is ∙ ap (last_inner i) (are ∙ sym elements)
-last_of table k at i (contents.U32s p) found es (mine, are, is) elements = is ∙ ap (last_inner i) (are ∙ sym elements)
-last_of table k at i (contents.Limits a b) found es (mine, are, is) elements = is ∙ ap (last_inner i) (are ∙ sym elements)
-last_of table k at i (contents.Other p) found es (mine, are, is) elements = is ∙ ap (last_inner i) (are ∙ sym elements)
+last_of table k at i content found es (mine, are, is) elements = is ∙ ap (last_inner i) (are ∙ sym elements)
 
 -- what is found in an attribute is the last element among its entries
 pub found_in_group : (table : Table) (x : Item) (i : ℕ) (found : Option Entry) (e : Entry) (es : List Entry) → IsElementFound table (Some x) i found → IsGroup table x (e ∷ es) → found ≡ last_inner i es

@@ -12,7 +12,8 @@ use Rattle.link_messages.specs.Walk.{Item, Walks}
 use Rattle.link_messages.proofs.Walking.{walks_more, split_short}
 use Rattle.link_entries.specs.declared.entry.Entry.{Entry}
 use Rattle.link_entries.specs.Entry.{placed}
-use Rattle.link_entries.specs.Flat.{HasContent, Elements, head_entry, IsGroup, Puts}
+use Rattle.link_base.specs.Borrowed.{HasContent}
+use Rattle.link_entries.specs.Flat.{Elements, head_entry, IsGroup, Puts}
 use Rattle.link_entries.proofs.Placed.{placed-append, placed_before, zip_more}
 
 -- the entries of an attribute: those of its elements were stored before its own

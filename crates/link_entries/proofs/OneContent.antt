@@ -1,23 +1,29 @@
 -- What an entry has, by the form of its content and the value of its payload: all contents of a payload give one entry.
-use Rattle.std.proofs.Common.{◌≡◌, ℕ, ◌-◌, Bool, true, false, cond, ℤ, pos, List, [], ◌∷◌, Option, Some, None, refl, sym, ap, ap₂, ◌∙◌, arith, Bor}
+use Rattle.std.proofs.Common.{◌≡◌, ℕ, ◌-◌, ◌<◌, Bool, true, false, cond, ℤ, pos, reverse, List, [], ◌∷◌, Option, Some, None, refl, sym, ap, ap₂, ◌∙◌, arith, Bor}
 use Rattle.std.specs.Int.{w64, cast_unsigned}
 use Rattle.link_base.specs.declared.views.content.Content.{Content}
 use Rattle.link_base.specs.declared.views.content.Content.TheVariants as contents
+use Rattle.link_base.specs.declared.rows.form.Order.{Order}
+use Rattle.link_base.specs.declared.rows.form.Order.TheVariants as orders
+use Rattle.link_base.specs.declared.rows.form.Role.{Role}
+use Rattle.link_base.specs.declared.rows.form.Role.TheVariants as roles
 use Rattle.link_base.specs.declared.rows.form.Form.{Form}
 use Rattle.link_base.specs.declared.rows.form.Form.TheVariants as forms
 use Rattle.link_base.specs.Class as classes
 use Rattle.link_base.specs.Class.{Class, Value, meant}
 use Rattle.link_base.specs.Forms.{bytes_in as width_of}
-use Rattle.link_base.specs.Number.{number, bytes_of}
+use Rattle.link_base.specs.Number.{number, bytes_of, bound, four_bytes}
 use Rattle.link_base.specs.Layout.{number_at, octets_of}
 use Rattle.link_base.specs.Protocol.{protocol_number}
 use Rattle.link_base.specs.IpAddress.{four_octets, sixteen_octets}
 use Rattle.link_base.specs.Table.{Shape, One, Nested, Addresses}
-use Rattle.link_base.specs.Borrowed.{Borrows, Says, told, form_of}
+use Rattle.link_base.specs.Borrowed.{Borrows, Says, told, number_value, form_of}
 use Rattle.link_entries.specs.declared.entry.Entry.{Entry}
-use Rattle.link_entries.specs.Forms.{form_empty, form_bool, form_unsigned, form_signed, form_named, form_flags, form_masked, form_mac, form_ipv4, form_ipv6, form_qos_mapping, form_bittiming_const, form_bytes, form_list, form_unknown}
+use Rattle.link_entries.specs.Forms.{form_empty, form_bool, form_signed, form_named, form_flags, form_masked, form_mac, form_ipv4, form_ipv6, form_qos_mapping, form_bittiming_const, form_bytes, form_list, form_unknown}
 use Rattle.link_entries.specs.Entry.{padded}
-use Rattle.link_entries.specs.Content.{word, with_struct, filled}
+use Rattle.link_entries.specs.Content.{with_struct, filled}
+use Rattle.link_entries.specs.Fields.{role_form}
+use Rattle.link_base.proofs.Orders.{be_again}
 use Rattle.link_base.specs.Frame.{kind_of}
 
 -- ---- what a value holds
@@ -72,16 +78,18 @@ says_at (Some (One classes.Protocol)) p x s h = h
 says_at (Some (One classes.Low)) p x s h = h
 says_at (Some (One classes.Empty)) p x s h = h
 
+-- the number of a value whose bytes are in this order
+abbrev pub number_told : Order → Value → ℕ
+number_told orders.Little v = number_in v
+number_told orders.Big v = number (reverse (bytes_in v))
+
 -- ---- the entry
 
 abbrev pub fields_by : ℕ → Option Form → Value → ℕ → Entry → Entry
 fields_by f (Some forms.Nothing) v n e = record e { form = form_empty; length = 0 }
 fields_by f (Some forms.Bool) v n e = record e { form = form_bool; number = number_in v }
-fields_by f (Some (forms.Unsigned w)) v n e = record e { form = form_unsigned; number = number_in v }
-fields_by f (Some (forms.Coded w)) v n e = record e { form = form_named; number = number_in v }
+fields_by f (Some (forms.Number w order role)) v n e = record e { form = role_form role; number = number_told order v }
 fields_by f (Some forms.Signed) v n e = record e { form = form_signed; number = cast_unsigned w64 (integer_in v) }
-fields_by f (Some (forms.Enum w)) v n e = record e { form = form_named; number = number_in v }
-fields_by f (Some (forms.Flags w)) v n e = record e { form = form_flags; number = number_in v }
 fields_by f (Some forms.LowFlags) v n e = record e { form = form_flags; number = number_in v }
 fields_by f (Some forms.MaskedFlags) v n e = record e { form = form_masked; number = number_at 4 0 (bytes_in v); second = number_at 4 4 (bytes_in v) }
 fields_by f (Some forms.Pair) v n e = record e { form = form_qos_mapping; number = number_at 4 0 (bytes_in v); second = number_at 4 4 (bytes_in v) }
@@ -99,32 +107,31 @@ fields_by f (Some (forms.List flagged)) v n e = record e { form = form_list; num
 fields_by f None v n e = record e { form = form_unknown; flags = f - kind_of f }
 
 -- the number of the four bytes of a word
-word_bytes : (x : ℕ) → number (bytes_of 4 x) ≡ word x
+word_bytes : (x : ℕ) → number (bytes_of 4 x) ≡ four_bytes x
 word_bytes x = omega arith
 
-told_number : (v : Value) (n d : ℕ) → told v ≡ classes.Name n d → number_in v ≡ d
-told_number (classes.Name m x) n d h = cc
-told_number (classes.Unlisted m listed x) n d h = cc
-told_number (classes.Number m x) n d h = absurd cc
-told_number (classes.Integer z) n d h = absurd cc
-told_number (classes.Boolean b) n d h = absurd cc
-told_number (classes.Raw bytes) n d h = absurd cc
-told_number (classes.EtherType x) n d h = absurd cc
-told_number (classes.LowByte b) n d h = absurd cc
-told_number classes.Nothing n d h = absurd cc
-told_number (classes.Limited name rest) n d h = absurd cc
+-- a number is the same with and without its name, and so are bytes
+told_same : (v : Value) → number_in (told v) ≡ number_in v
+told_same (classes.Unlisted m listed d) = refl
+told_same v = refl
+
+told_bytes : (v : Value) → bytes_in (told v) ≡ bytes_in v
+told_bytes (classes.Unlisted m listed d) = refl
+told_bytes v = refl
+
+told_number : (order : Order) (role : Role) (n x : ℕ) (v : Value) → told v ≡ number_value order role n x → x < bound n → number_told order v ≡ x
+told_number orders.Little roles.Enum n x v is low = sym (told_same v) ∙ ap number_in is
+told_number orders.Little role n x v is low = sym (told_same v) ∙ ap number_in is
+told_number orders.Big role n x v is low = ap (λ q. number (reverse q)) (sym (told_bytes v) ∙ ap bytes_in is) ∙ be_again n x low
 
 module _ (f n : ℕ) (e : Entry) (o : Option Shape) (p : List ℕ) where
   pub filled_by : (x : Content) → Borrows o p x → filled f x n e ≡ fields_by f (form_of x) (value_at o p) n e
   filled_by contents.Nothing h = refl
   filled_by (contents.Bool b) h = let is : value_at o p ≡ classes.Boolean b = says_at o p (contents.Bool b) refl h in ap (λ v. fields_by f (Some forms.Bool) v n e) (sym is)
-  filled_by (contents.Unsigned x w) h = let is : value_at o p ≡ classes.Number (width_of w) x = says_at o p (contents.Unsigned x w) refl h in ap (λ v. fields_by f (Some (forms.Unsigned w)) v n e) (sym is)
-  filled_by (contents.Coded x w) h = let is : value_at o p ≡ classes.Number (width_of w) x = says_at o p (contents.Coded x w) refl h in ap (λ v. fields_by f (Some (forms.Coded w)) v n e) (sym is)
+  filled_by (contents.Number x w order role) h =
+      let is = says_at o p (contents.Number x w order role) refl h in
+      ap (λ d. record e { form = role_form role; number = d }) (sym (told_number order role (width_of w) x (value_at o p) is.0 is.1))
   filled_by (contents.Signed z) h = let is : value_at o p ≡ classes.Integer z = says_at o p (contents.Signed z) refl h in ap (λ v. fields_by f (Some forms.Signed) v n e) (sym is)
-  filled_by (contents.Enum x w) h =
-      let is : told (value_at o p) ≡ classes.Name (width_of w) x = says_at o p (contents.Enum x w) refl h in
-      ap (λ d. record e { form = form_named; number = d }) (sym (told_number (value_at o p) (width_of w) x is))
-  filled_by (contents.Flags bits w) h = let is : value_at o p ≡ classes.Number (width_of w) bits = says_at o p (contents.Flags bits w) refl h in ap (λ v. fields_by f (Some (forms.Flags w)) v n e) (sym is)
   filled_by (contents.LowFlags bits) h = let is : value_at o p ≡ classes.LowByte bits = says_at o p (contents.LowFlags bits) refl h in ap (λ v. fields_by f (Some forms.LowFlags) v n e) (sym is)
   filled_by (contents.MaskedFlags bits mask) h =
       let is : value_at o p ≡ classes.Raw (octets_of 4 (bits ∷ mask ∷ [])) = says_at o p (contents.MaskedFlags bits mask) refl h in

@@ -19,7 +19,7 @@ use Rattle.link_base.specs.Table.{Table}
 use Rattle.link_entries.specs.Spelled.{Spelling, before, fitted, framed, element_content, element_of}
 use Rattle.link_entries.specs.Payload.{payload_of, field_of}
 use Rattle.link_entries.specs.Fields.{fields_at}
-use Rattle.link_entries.specs.Stored.{with_at, StoresAt, header, padded, sized, StoresPayload, StoresBytes, StoresSpelling, Spells}
+use Rattle.link_entries.specs.Stored.{with_at, StoresAt, header, padded, sized, StoresPayload, StoresBytes, Spells}
 use Rattle.link_entries.proofs.Spellings.{frame_low, Reached, reached_all, reached_error}
 
 -- the length of a buffer with s at an offset
@@ -210,6 +210,6 @@ pub spells_behind : (f : ℕ) (s : Spelling) (x y z : List ℕ) (result : Result
 spells_behind f (Err e) x y z result h k = (k.0, k.1 ∙ h.same)
 spells_behind f (Ok p) x y z result h k = (k.0, by (nat_le (length p) max_payload) k.1)
   where
-    by : (b : Bool) → StoresSpelling (cond b (Ok (frame_bytes (whole f p))) (Err (0, TooLong))) y z → StoresSpelling (cond b (Ok (frame_bytes (whole f p))) (Err (0, TooLong))) x z
+    by : (b : Bool) → StoresBytes {E = ℕ × Misfit} (cond b (Ok (frame_bytes (whole f p))) (Err (0, TooLong))) y z → StoresBytes {E = ℕ × Misfit} (cond b (Ok (frame_bytes (whole f p))) (Err (0, TooLong))) x z
     by true stored = behind (frame_bytes (whole f p)) x y z (omega (arith, length-whole_bytes f p)) h stored
     by false same = same ∙ h.same

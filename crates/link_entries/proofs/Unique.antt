@@ -7,14 +7,14 @@ use Rattle.link_base.specs.declared.views.content.Content.TheVariants as content
 use Rattle.link_base.specs.Frame.{kind_of}
 use Rattle.link_base.specs.Buffer.{kind_field_of, payload_of}
 use Rattle.link_base.specs.Table.{Table, Shape, Addresses, class_at, form_at}
-use Rattle.link_base.specs.Borrowed.{Borrows, form_of, elements_at}
+use Rattle.link_base.specs.Borrowed.{Borrows, form_of, elements_at, HasContent}
 use Rattle.link_messages.specs.Walk.{Item}
 use Rattle.link_messages.specs.BeforeFault.{seen_of}
 use Rattle.link_messages.proofs.Walking.{walk_unique}
 use Rattle.link_entries.specs.declared.entry.Entry.{Entry}
 use Rattle.link_entries.specs.Entry.{blank}
 use Rattle.link_entries.specs.Content.{filled}
-use Rattle.link_entries.specs.Flat.{HasContent, indexed, address_entry, is_address, AreAddresses, number_entries, IsElement, AreElements, Elements, head_entry, IsGroup, Flat}
+use Rattle.link_entries.specs.Flat.{indexed, address_entry, is_address, AreAddresses, number_entries, IsElement, AreElements, Elements, head_entry, IsGroup, Flat}
 use Rattle.link_entries.proofs.Shapes.{list_payload, address_list}
 use Rattle.link_entries.proofs.OneContent.{same_filled, u16s_bytes, u32s_bytes}
 

@@ -4,6 +4,7 @@ use Rattle.std.specs.List.{AllByRecursion}
 use Rattle.std.proofs.lemmas.Bool.{cases_Bool}
 use Rattle.std.proofs.lemmas.List.{length-append}
 use Rattle.link_base.specs.declared.rows.form.Width.{Width}
+use Rattle.link_base.specs.declared.rows.form.Order.TheVariants as orders
 use Rattle.link_base.specs.Class.{unless, meant}
 use Rattle.link_base.specs.Forms.{bytes_in}
 use Rattle.link_base.specs.Payloads.{class_by}
@@ -110,7 +111,7 @@ module _ (table : Table) (w : Width) (k : ℕ) (octets : List ℕ) where
         | Ends none ↦ (0, omega (arith, ap length none))
         | Goes here others content later is ↦
             let (m, rest) = numbers_size (i + 1) es others held.1 later in
-            let one = number_size e octets here held.0 form_unsigned w _ content in
+            let one = number_size e octets here held.0 form_unsigned w orders.Little _ content in
             (m + 1, omega (arith, ap length is, length-append here others, one, rest))
       ]
 

@@ -6,17 +6,22 @@ use Rattle.std.proofs.lemmas.List.{length-append, length-take, length-drop}
 use Rattle.link_base.specs.declared.wire.fault.Cause.TheVariants.{TooShort}
 use Rattle.link_base.specs.declared.rows.form.Width.{Width}
 use Rattle.link_base.specs.declared.rows.form.Width.TheVariants as widths
+use Rattle.link_base.specs.declared.rows.form.Order.{Order}
+use Rattle.link_base.specs.declared.rows.form.Order.TheVariants as orders
+use Rattle.link_base.specs.declared.rows.form.Role.TheVariants as roles
 use Rattle.link_base.specs.declared.rows.form.Layout.{Layout}
 use Rattle.link_base.specs.declared.rows.form.Layout.TheVariants as layouts
 use Rattle.link_base.specs.declared.rows.form.Form.{Form}
 use Rattle.link_base.specs.declared.rows.form.Form.TheVariants as forms
 use Rattle.link_base.specs.Number.{bytes_of}
+use Rattle.link_base.specs.Orders.{bytes_by}
 use Rattle.link_base.specs.Name.{name_of, name_field}
 use Rattle.link_base.specs.Class as classes
 use Rattle.link_base.specs.Class.{Exactly, AtLeast, extent, length_cause, meant, written, size_of}
 use Rattle.link_base.specs.Forms.{bytes_in, layout_extent}
 use Rattle.link_base.specs.Payloads.{class_by}
 use Rattle.link_base.proofs.Numbers.{length-bytes_of}
+use Rattle.link_base.proofs.Orders.{length-bytes_by}
 use Rattle.link_base.proofs.ClassLemmas.{at_size, length-name_field}
 use Rattle.link_entries.specs.declared.entry.Entry.{Entry}
 use Rattle.link_entries.specs.declared.fields.Fields.TheVariants as fields
@@ -44,8 +49,9 @@ limits_size (Ok q) p e size =
 limits_size (Err m) p e size = absurd cc
 
 module _ (e : Entry) (octets p : List ℕ) (held : length e.octets ≡ 16) where
-  pub number_size : (code : ℕ) (w : Width) (most : ℕ) → payload_of (fields.Number code w most) e octets ≡ Ok p → length p ≡ bytes_in w
-  number_size code w most h = ap length (only_held _ BadNumber (bytes_of (bytes_in w) e.number) p (content_ok (fields.Number code w most) e octets p h)).1 ∙ length-bytes_of (bytes_in w) e.number
+  pub number_size : (code : ℕ) (w : Width) (order : Order) (most : ℕ) → payload_of (fields.Number code w order most) e octets ≡ Ok p → length p ≡ bytes_in w
+  number_size code w order most h =
+      ap length (only_held _ BadNumber (bytes_by order (bytes_in w) e.number) p (content_ok (fields.Number code w order most) e octets p h)).1 ∙ length-bytes_by order (bytes_in w) e.number
 
   shorts_size : (code : ℕ) (second_first : Bool) → payload_of (fields.Shorts code second_first) e octets ≡ Ok p → length p ≡ 4
   shorts_size code second_first h =
@@ -71,7 +77,7 @@ module _ (e : Entry) (octets p : List ℕ) (held : length e.octets ≡ 16) where
   struct_size layouts.VlanInfo h = shorts_size _ true h
   struct_size layouts.BooleanOptions h = words_size _ false h
   struct_size layouts.BitTiming h = exactly_size 32 e octets p (content_ok (struct_fields layouts.BitTiming) e octets p h)
-  struct_size layouts.Clock h = number_size _ widths.Four _ h
+  struct_size layouts.Clock h = number_size _ widths.Four orders.Little _ h
   struct_size layouts.CtrlMode h = words_size _ true h
   struct_size layouts.BerrCounter h = shorts_size _ false h
   struct_size layout h = exactly_size _ e octets p (content_ok (struct_fields layout) e octets p h)
@@ -83,13 +89,12 @@ module _ (e : Entry) (octets p : List ℕ) (held : length e.octets ≡ 16) where
   -- of every form of a single value
   pub size_back : (form : Form) (names : List (ℕ × List ℕ)) → is_value (row_fields form) ≡ true → payload_of (row_fields form) e octets ≡ Ok p → length_cause (extent (class_by form names)) (length p) ≡ None
   size_back forms.Nothing names a h = any_size
-  size_back forms.Bool names a h = at_size (Exactly 1) (length p) (number_size _ widths.One 1 h)
-  size_back (forms.Unsigned w) names a h = at_size (Exactly (bytes_in w)) (length p) (number_size _ w _ h)
-  size_back (forms.Coded w) names a h = at_size (Exactly (bytes_in w)) (length p) (number_size _ w _ h)
+  size_back forms.Bool names a h = at_size (Exactly 1) (length p) (number_size _ widths.One orders.Little 1 h)
+  size_back (forms.Number w orders.Little roles.Enum) names a h = at_size (Exactly (bytes_in w)) (length p) (number_size _ w orders.Little _ h)
+  size_back (forms.Number w orders.Little role) names a h = at_size (Exactly (bytes_in w)) (length p) (number_size _ w orders.Little _ h)
+  size_back (forms.Number w orders.Big role) names a h = at_size (Exactly (bytes_in w)) (length p) (number_size _ w orders.Big _ h)
   size_back forms.Signed names a h = at_size (Exactly 4) (length p) (ap length (only_held _ BadNumber (bytes_of 4 e.number) p (content_ok fields.Signed e octets p h)).1)
-  size_back (forms.Enum w) names a h = at_size (Exactly (bytes_in w)) (length p) (number_size _ w _ h)
-  size_back (forms.Flags w) names a h = at_size (Exactly (bytes_in w)) (length p) (number_size _ w _ h)
-  size_back forms.LowFlags names a h = at_size (Exactly 2) (length p) (number_size _ widths.Two 255 h)
+  size_back forms.LowFlags names a h = at_size (Exactly 2) (length p) (number_size _ widths.Two orders.Little 255 h)
   size_back forms.MaskedFlags names a h = at_size (Exactly 8) (length p) (words_size _ false h)
   size_back forms.Pair names a h = at_size (Exactly 8) (length p) (words_size _ false h)
   size_back forms.Protocol names a h = at_size (Exactly 2) (length p) (ap length (only_held _ BadNumber (reverse (bytes_of 2 e.number)) p (content_ok fields.Protocol e octets p h)).1)

@@ -5,10 +5,9 @@ use Rattle.link_base.specs.Class.{meant, written}
 use Rattle.link_base.specs.Table.{Table}
 use Rattle.link_base.specs.Borrowed.{elements_at}
 use Rattle.link_entries.specs.declared.entry.Entry.{Entry}
-use Rattle.link_entries.specs.Forms.{form_unsigned}
 use Rattle.link_entries.specs.declared.fields.Fields.{Fields}
 use Rattle.link_entries.specs.declared.fields.Fields.TheVariants as fields
-use Rattle.link_entries.specs.Fields.{any_number, ip_address, fields_at}
+use Rattle.link_entries.specs.Fields.{array_number, ip_address, fields_at}
 use Rattle.link_entries.specs.Payload.{form_in, has_form}
 
 -- an entry that a program can hold: its fields are in the range of their types
@@ -26,7 +25,7 @@ referred e octets = take e.length (drop e.offset octets)
 -- refers to; of the limits of a CAN controller, these bytes as a rewriting writes them
 abbrev pub SameContent : Fields → List ℕ → Entry → List ℕ → Entry → Type 0
 SameContent fields.Empty octets e list r = Unit {0}
-SameContent (fields.Number form width most) octets e list r = r.number ≡ e.number
+SameContent (fields.Number form width order most) octets e list r = r.number ≡ e.number
 SameContent fields.Signed octets e list r = r.number ≡ e.number
 SameContent (fields.Shorts form second_first) octets e list r = (r.number ≡ e.number) × (r.second ≡ e.second)
 SameContent (fields.Words form second_first) octets e list r = (r.number ≡ e.number) × (r.second ≡ e.second)
@@ -50,7 +49,7 @@ pub record IsSame (own : Fields) (octets : List ℕ) (e : Entry) (list : List �
 
 -- those of an element of a list with these fields; `table` has the rows of its elements
 abbrev pub element_fields : Table → Fields → Entry → Fields
-element_fields table (fields.Numbers width) e = any_number form_unsigned width
+element_fields table (fields.Numbers width) e = array_number width
 element_fields table (fields.Addresses size) e = ip_address size
 element_fields table (fields.List flag) e = fields_at table e.inner
 element_fields table own e = fields.Empty

@@ -1,11 +1,11 @@
 -- The fields of an entry, by the content of its attribute.
-use Rattle.std.specs.Prelude.{ℕ, ◌-◌, ◌%◌, ◌^◌, List, take, drop, reverse, length, min, nat_lt, if◌then◌else◌}
+use Rattle.std.specs.Prelude.{ℕ, ◌-◌, List, take, drop, reverse, length, min, nat_lt, if◌then◌else◌}
 use Rattle.std.specs.Int.{w64, cast_unsigned}
 use Rattle.link_base.specs.declared.rows.form.Layout.{Layout}
 use Rattle.link_base.specs.declared.rows.form.Layout.TheVariants as layouts
 use Rattle.link_base.specs.declared.views.content.Content.{Content}
 use Rattle.link_base.specs.declared.views.content.Content.TheVariants as contents
-use Rattle.link_base.specs.Number.{number}
+use Rattle.link_base.specs.Number.{number, four_bytes}
 use Rattle.link_base.specs.Frame.{kind_of}
 use Rattle.link_base.specs.Layout.{number_at}
 use Rattle.link_base.specs.IpAddress.{four_octets, sixteen_octets}
@@ -13,6 +13,7 @@ use Rattle.link_base.specs.Protocol.{protocol_number}
 use Rattle.link_entries.specs.declared.entry.Entry.{Entry}
 use Rattle.link_entries.specs.Forms.{form_empty, form_bool, form_unsigned, form_signed, form_named, form_flags, form_masked, form_mac, form_ipv4, form_ipv6, form_bridge_id, form_vlan_info, form_qos_mapping, form_berr_counter, form_bittiming, form_bittiming_const, form_bytes, form_list, form_unknown}
 use Rattle.link_entries.specs.Entry.{padded}
+use Rattle.link_entries.specs.Fields.{role_form}
 
 -- an entry for bytes of which a struct takes the first n; one for the bytes, if they are fewer
 abbrev pub whole : ℕ → List ℕ → Entry → Entry → Entry
@@ -29,22 +30,15 @@ with_struct layouts.CtrlMode p e = whole 8 p (record e { form = form_masked; num
 with_struct layouts.BerrCounter p e = whole 4 p (record e { form = form_berr_counter; number = number_at 2 0 p; second = number_at 2 2 p }) e
 with_struct layout p e = record e { form = form_bytes; length = min e.length (length p) }
 
--- a `u32` of a content; in the logic, such a number has no limit
-abbrev pub word : ℕ → ℕ
-word n = n % 2 ^ 32
-
 -- an entry for the content of an attribute with this `nla_type`; of a list, n elements follow
 abbrev pub filled : ℕ → Content → ℕ → Entry → Entry
 filled f contents.Nothing n e = record e { form = form_empty; length = 0 }
 filled f (contents.Bool b) n e = record e { form = form_bool; number = (if b then 1 else 0) }
-filled f (contents.Unsigned x width) n e = record e { form = form_unsigned; number = x }
-filled f (contents.Coded x width) n e = record e { form = form_named; number = x }
+filled f (contents.Number x width order role) n e = record e { form = role_form role; number = x }
 filled f (contents.Signed z) n e = record e { form = form_signed; number = cast_unsigned w64 z }
-filled f (contents.Enum x width) n e = record e { form = form_named; number = x }
-filled f (contents.Flags bits width) n e = record e { form = form_flags; number = bits }
 filled f (contents.LowFlags bits) n e = record e { form = form_flags; number = bits }
-filled f (contents.MaskedFlags bits mask) n e = record e { form = form_masked; number = word bits; second = word mask }
-filled f (contents.Pair from to) n e = record e { form = form_qos_mapping; number = word from; second = word to }
+filled f (contents.MaskedFlags bits mask) n e = record e { form = form_masked; number = four_bytes bits; second = four_bytes mask }
+filled f (contents.Pair from to) n e = record e { form = form_qos_mapping; number = four_bytes from; second = four_bytes to }
 filled f (contents.Protocol p) n e = record e { form = form_named; number = protocol_number p }
 filled f (contents.Mac a) n e = record e { form = form_mac; octets = padded a }
 filled f (contents.Ipv4 a) n e = record e { form = form_ipv4; octets = padded (four_octets a) }

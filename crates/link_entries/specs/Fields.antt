@@ -2,6 +2,10 @@
 use Rattle.std.specs.Prelude.{ℕ, ◌-◌, ◌<◌, ◌==◌, true, false, Option, Some, None, if◌then◌else◌}
 use Rattle.link_base.specs.declared.rows.form.Width.{Width}
 use Rattle.link_base.specs.declared.rows.form.Width.TheVariants as widths
+use Rattle.link_base.specs.declared.rows.form.Order.{Order}
+use Rattle.link_base.specs.declared.rows.form.Order.TheVariants as orders
+use Rattle.link_base.specs.declared.rows.form.Role.{Role}
+use Rattle.link_base.specs.declared.rows.form.Role.TheVariants as roles
 use Rattle.link_base.specs.declared.rows.form.Layout.{Layout}
 use Rattle.link_base.specs.declared.rows.form.Layout.TheVariants as layouts
 use Rattle.link_base.specs.declared.rows.form.Form.{Form}
@@ -15,8 +19,18 @@ use Rattle.link_entries.specs.declared.fields.Fields.{Fields}
 use Rattle.link_entries.specs.declared.fields.Fields.TheVariants as fields
 
 -- any number of this width
-abbrev pub any_number : ℕ → Width → Fields
-any_number form width = fields.Number form width (bound (bytes_in width) - 1)
+abbrev pub any_number : ℕ → Width → Order → Fields
+any_number form width order = fields.Number form width order (bound (bytes_in width) - 1)
+
+-- a number of an array of numbers of this width
+abbrev pub array_number : Width → Fields
+array_number width = any_number form_unsigned width orders.Little
+
+-- the form of entries for numbers that say this
+abbrev pub role_form : Role → ℕ
+role_form roles.Plain = form_unsigned
+role_form roles.Flags = form_flags
+role_form role = form_named
 
 -- an IP address of this size
 abbrev pub ip_address : ℕ → Fields
@@ -28,7 +42,7 @@ struct_fields layouts.BridgeId = fields.BridgeId
 struct_fields layouts.VlanInfo = fields.Shorts form_vlan_info true
 struct_fields layouts.BooleanOptions = fields.Words form_masked false
 struct_fields layouts.BitTiming = fields.Passed form_bittiming (Some 32)
-struct_fields layouts.Clock = any_number form_unsigned widths.Four
+struct_fields layouts.Clock = any_number form_unsigned widths.Four orders.Little
 struct_fields layouts.CtrlMode = fields.Words form_masked true
 struct_fields layouts.BerrCounter = fields.Shorts form_berr_counter false
 struct_fields layout = fields.Passed form_bytes (Some (size_of (layout_extent layout)))
@@ -36,13 +50,10 @@ struct_fields layout = fields.Passed form_bytes (Some (size_of (layout_extent la
 -- for an attribute type whose values have this form
 abbrev pub row_fields : Form → Fields
 row_fields forms.Nothing = fields.Empty
-row_fields forms.Bool = fields.Number form_bool widths.One 1
-row_fields (forms.Unsigned width) = any_number form_unsigned width
-row_fields (forms.Coded width) = any_number form_named width
+row_fields forms.Bool = fields.Number form_bool widths.One orders.Little 1
+row_fields (forms.Number width order role) = any_number (role_form role) width order
 row_fields forms.Signed = fields.Signed
-row_fields (forms.Enum width) = any_number form_named width
-row_fields (forms.Flags width) = any_number form_flags width
-row_fields forms.LowFlags = fields.Number form_flags widths.Two 255
+row_fields forms.LowFlags = fields.Number form_flags widths.Two orders.Little 255
 row_fields forms.MaskedFlags = fields.Words form_masked false
 row_fields forms.Pair = fields.Words form_qos_mapping false
 row_fields forms.Protocol = fields.Protocol
@@ -68,5 +79,5 @@ fields_at table k = fields_in (form_at table k)
 
 -- the greatest number of a field fits in its width
 abbrev pub IsNarrow : Fields → Type 0
-IsNarrow (fields.Number form width most) = most < bound (bytes_in width)
+IsNarrow (fields.Number form width order most) = most < bound (bytes_in width)
 IsNarrow own = Unit {0}

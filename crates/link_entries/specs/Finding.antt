@@ -9,13 +9,13 @@ use Rattle.link_base.specs.declared.wire.fault.ListFault.{ListFault}
 use Rattle.link_base.specs.Frame.{kind_of}
 use Rattle.link_base.specs.Buffer.{kind_field_of}
 use Rattle.link_base.specs.Table.{Table, Gives, Decodes}
-use Rattle.link_base.specs.Borrowed.{elements_at}
+use Rattle.link_base.specs.Borrowed.{elements_at, HasContent}
 use Rattle.link_base.specs.Wire.{FirstFault}
 use Rattle.link_base.specs.Viewed.{buffer_in}
 use Rattle.link_messages.specs.Walk.{Item, Walk}
 use Rattle.link_messages.specs.BeforeFault.{last_item}
 use Rattle.link_entries.specs.declared.entry.Entry.{Entry}
-use Rattle.link_entries.specs.Flat.{HasContent, IsElement, Elements, IsGroup}
+use Rattle.link_entries.specs.Flat.{IsElement, Elements, IsGroup}
 
 -- an attribute that was found, with its offset
 abbrev pub item_of : {S : Type 0} {g : sets.Ghosts S} → ℕ × Value S g → Item

@@ -7,21 +7,15 @@ use Rattle.link_base.specs.declared.views.content.Content.TheVariants as content
 use Rattle.link_base.specs.declared.wire.fault.ListFault.{ListFault}
 use Rattle.link_base.specs.Frame.{kind_of}
 use Rattle.link_base.specs.Buffer.{kind_field_of, payload_of}
-use Rattle.link_base.specs.Table.{Table, Gives, class_at, form_at}
+use Rattle.link_base.specs.Table.{Table, Gives}
 use Rattle.link_base.specs.Wire.{FirstFault}
-use Rattle.link_base.specs.Borrowed.{HasValue, Borrows, form_of, elements_at}
+use Rattle.link_base.specs.Borrowed.{elements_at, HasContent}
 use Rattle.link_base.specs.Layout.{numbers_of}
 use Rattle.link_messages.specs.Walk.{Item, Walk}
 use Rattle.link_entries.specs.declared.entry.Entry.{Entry}
 use Rattle.link_entries.specs.Forms.{form_unsigned, form_ipv4, form_ipv6}
 use Rattle.link_entries.specs.Entry.{blank, padded, placed}
 use Rattle.link_entries.specs.Content.{filled}
-
--- the attribute b decodes, in a list of this table, and this is its content
-pub record HasContent (table : Table) (b : NlaBuffer) (content : Content) : Type 0 where
-  pub decodes : HasValue table (kind_field_of b) (payload_of b)
-  pub borrows : Borrows (class_at table (kind_of (kind_field_of b))) (payload_of b) content
-  pub form : form_of content ≡ form_at table (kind_of (kind_field_of b))
 
 -- ---- elements
 

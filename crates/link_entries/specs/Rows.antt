@@ -6,9 +6,8 @@ use Rattle.link_base.specs.Table.{Table}
 use Rattle.link_entries.specs.declared.fields.Fields.{Fields}
 use Rattle.link_entries.specs.declared.fields.Fields.TheVariants as fields
 use Rattle.link_entries.specs.declared.row.Row.{Row}
-use Rattle.link_entries.specs.Content.{word}
-use Rattle.link_entries.specs.Fields.{any_number, ip_address, fields_at}
-use Rattle.link_entries.specs.Forms.{form_unsigned}
+use Rattle.link_base.specs.Number.{four_bytes}
+use Rattle.link_entries.specs.Fields.{array_number, ip_address, fields_at}
 use Rattle.link_entries.specs.Payload.{form_in}
 
 -- the length that bytes must have, if it is fixed
@@ -19,7 +18,7 @@ size_or_0 (Some n) = n
 -- the number of bytes that hold every number of the type, each of two numbers, the address, or what an entry refers to; 0 if
 -- there may be any number of them, or if there are none
 abbrev pub width_in : Fields → ℕ
-width_in (fields.Number form width most) = if nat_lt most 256 then 1 else bytes_in width
+width_in (fields.Number form width order most) = if nat_lt most 256 then 1 else bytes_in width
 width_in fields.Signed = 4
 width_in (fields.Shorts form second_first) = 2
 width_in (fields.Words form second_first) = 4
@@ -43,11 +42,11 @@ list_in (fields.List flag) = 1
 list_in own = 0
 
 abbrev pub row_by : Fields → Row
-row_by own = record { width = word (width_in own); flags = flags_in own; form = form_in own; is_list = list_in own }
+row_by own = record { width = four_bytes (width_in own); flags = flags_in own; form = form_in own; is_list = list_in own }
 
 -- for an element i of a list whose entries have these fields; `table` has the rows of its elements
 abbrev pub element_row : Table → Fields → ℕ → Option Row
-element_row table (fields.Numbers width) i = Some (row_by (any_number form_unsigned width))
+element_row table (fields.Numbers width) i = Some (row_by (array_number width))
 element_row table (fields.Addresses size) i = Some (row_by (ip_address size))
 element_row table (fields.List flag) i = Some (row_by (fields_at table i))
 element_row table own i = None

@@ -6,13 +6,12 @@ use Rattle.link_base.specs.Table.{Table}
 use Rattle.link_base.specs.Borrowed.{elements_at}
 use Rattle.link_base.specs.Answers.{OverwritesFront, capped}
 use Rattle.link_entries.specs.declared.entry.Entry.{Entry}
-use Rattle.link_entries.specs.Forms.{form_unsigned}
 use Rattle.link_entries.specs.declared.fields.Fields.{Fields}
 use Rattle.link_entries.specs.declared.fields.Fields.TheVariants as fields
 use Rattle.link_entries.specs.declared.misfit.Misfit.{Misfit}
 use Rattle.link_entries.specs.declared.misfit.Misfit.TheVariants.{TooLong, BadElement}
 use Rattle.link_entries.specs.declared.misfit.MisfitAt.{MisfitAt}
-use Rattle.link_entries.specs.Fields.{any_number, ip_address, fields_at}
+use Rattle.link_entries.specs.Fields.{array_number, ip_address, fields_at}
 use Rattle.link_entries.specs.Payload.{payload_of, field_of}
 
 -- bytes, or the first entry that cannot be written: its index, and why
@@ -44,7 +43,7 @@ fitted f (Err e) = Err e
 
 -- an element whose index is i in a list whose entries have these fields; `table` has the rows of its elements
 abbrev pub element_content : Table → Fields → ℕ → Entry → List ℕ → Result (List ℕ) Misfit
-element_content table (fields.Numbers width) i e octets = payload_of (any_number form_unsigned width) e octets
+element_content table (fields.Numbers width) i e octets = payload_of (array_number width) e octets
 element_content table (fields.Addresses size) i e octets = framed i (payload_of (ip_address size) e octets)
 element_content table (fields.List flag) i e octets =
     let own = fields_at table e.inner in

@@ -33,14 +33,10 @@ StoresPayload (Ok p) old new = StoresAt 4 (padded p) old new
 StoresPayload (Err misfit) old new = length new ≡ length old
 
 -- bytes were stored at the start of a buffer
-abbrev pub StoresBytes : Result (List ℕ) Misfit → List ℕ → List ℕ → Type 0
+abbrev pub StoresBytes : {E : Type 0} → Result (List ℕ) E → List ℕ → List ℕ → Type 0
 StoresBytes (Ok s) old new = StoresAt 0 s old new
-StoresBytes (Err misfit) old new = length new ≡ length old
+StoresBytes (Err e) old new = length new ≡ length old
 
--- likewise, of what entries spell; the result is its length, or the first entry that cannot be written
-abbrev pub StoresSpelling : Spelling → List ℕ → List ℕ → Type 0
-StoresSpelling (Ok s) old new = StoresAt 0 s old new
-StoresSpelling (Err e) old new = length new ≡ length old
-
+-- what entries spell was stored, and the result is its length, or the first entry that cannot be written
 abbrev pub Spells : Spelling → List ℕ → List ℕ → Result ℕ MisfitAt → Type 0
-Spells spelling old new result = (result ≡ measured spelling) × StoresSpelling spelling old new
+Spells spelling old new result = (result ≡ measured spelling) × StoresBytes spelling old new

@@ -5,9 +5,10 @@ ghost use Rattle.link_base.specs.Number.{number};
 ghost use Rattle.link_base.specs.IpAddress.{four_octets, sixteen_octets};
 ghost use Rattle.link_entries.specs.Forms.{form_ipv4, form_ipv6, form_bridge_id};
 ghost use Rattle.link_entries.specs.Entry.{padded};
-ghost use Rattle.link_entries.specs.Content.{word, with_struct, filled};
+ghost use Rattle.link_entries.specs.Content.{with_struct, filled};
 
 use crate::entry::Entry;
+use crate::fields::role_form;
 use crate::forms;
 use link_base::rows::form::Layout;
 use link_base::views::content::Content;
@@ -26,13 +27,8 @@ pub(crate) fn fill(place: &mut Entry, kind_field: u16, content: Content<'_>, bel
             place.length = 0;
         }
         Content::Bool(is_on) => place.hold(forms::BOOL, is_on.into()),
-        Content::Unsigned { number, .. } => place.hold(forms::UNSIGNED, number),
-        Content::Coded { number, .. } | Content::Enum { number, .. } => place.hold(
-            forms::NAMED,
-            number,
-        ),
+        Content::Number { number, role, .. } => place.hold(role_form(role), number),
         Content::Signed(number) => place.hold(forms::SIGNED, i64::from(number).cast_unsigned()),
-        Content::Flags { bits, .. } => place.hold(forms::FLAGS, bits),
         Content::LowFlags(bits) => place.hold(forms::FLAGS, bits.into()),
         Content::MaskedFlags { flags, mask } => place.hold_both(forms::MASKED, flags, mask),
         Content::Pair(from, to) => place.hold_both(forms::QOS_MAPPING, from, to),

@@ -33,7 +33,7 @@ pub struct Entry {
 
 impl Entry {
     ghost use Rattle.link_entries.specs.Entry.{blank, padded};
-    ghost use Rattle.link_entries.specs.Content.{word};
+    ghost use Rattle.link_base.specs.Number.{four_bytes};
 
     /// Returns the entry of an attribute or an element, without its content.
     #[inline(always)]
@@ -83,7 +83,7 @@ impl Entry {
     #[inline(always)]
     pub(crate) fn hold_both(&mut self, as_form: u8, first: u32, other: u32)
         ensures value { self.new ≡ record self.old { form = as_form; number = first; second = other } }
-        ensures words { (word first ≡ first) × (word other ≡ other) }
+        ensures words { (four_bytes first ≡ first) × (four_bytes other ≡ other) }
     {
         self.form = as_form;
         self.number = first.into();

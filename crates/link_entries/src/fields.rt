@@ -1,11 +1,11 @@
 //! Which fields of an entry make the payload of its attribute.
 
 ghost use Rattle.std.specs.Prelude.{◌≡◌, option_map};
-ghost use Rattle.link_entries.specs.Fields.{any_number, ip_address, struct_fields, row_fields, fields_in};
+ghost use Rattle.link_entries.specs.Fields.{any_number, array_number, role_form, ip_address, struct_fields, row_fields, fields_in, IsNarrow};
 
 use crate::forms;
 use link_base::NLA_F_NESTED;
-use link_base::rows::form::{Form, Layout, Width};
+use link_base::rows::form::{Form, Layout, Order, Role, Width};
 use link_base::rows::label::KindLabel;
 
 /// Which fields of an entry make the payload of its attribute, and in which form.
@@ -14,42 +14,87 @@ pub enum Fields {
     /// None: the payload is empty.
     Empty,
     /// `number`, at most `most`.
-    Number { form: u8, width: Width, most: u64 },
+    Number {
+        form: u8,
+        width: Width,
+        order: Order,
+        most: u64,
+    },
     /// `number`, a signed number of four bytes.
     Signed,
     /// `number` and `second`, two bytes each.
-    Shorts { form: u8, second_first: bool },
+    Shorts {
+        form: u8,
+        second_first: bool,
+    },
     /// `number` and `second`, four bytes each.
-    Words { form: u8, second_first: bool },
+    Words {
+        form: u8,
+        second_first: bool,
+    },
     /// `number`, the EtherType of a VLAN protocol.
     Protocol,
     /// The first `size` octets.
-    Address { form: u8, size: usize },
+    Address {
+        form: u8,
+        size: usize,
+    },
     /// `number`, two bytes in network byte order, and the first six octets.
     BridgeId,
     /// The bytes at `offset`, which must be `size` if it is given.
-    Passed { form: u8, size: Option<usize> },
+    Passed {
+        form: u8,
+        size: Option<usize>,
+    },
     /// The 48 bytes at `offset`: a name, and numbers.
     Limits,
     /// The numbers that follow.
-    Numbers { width: Width },
+    Numbers {
+        width: Width,
+    },
     /// The addresses that follow, of `size` bytes each.
-    Addresses { size: usize },
+    Addresses {
+        size: usize,
+    },
     /// The attributes that follow; the `nla_type` of the list has this flag.
-    List { flag: u16 },
+    List {
+        flag: u16,
+    },
     /// The bytes at `offset`: the attribute type has no row.
     Unknown,
 }
 
 /// Returns the fields of any number of this width.
 #[inline(always)]
-pub(crate) fn any_number(form: u8, width: Width) -> Fields
-    ensures { result ≡ any_number form width }
+pub(crate) fn any_number(form: u8, width: Width, order: Order) -> Fields
+    ensures value { result ≡ any_number form width order }
+    ensures narrow { IsNarrow result }
 {
     Fields::Number {
         form,
         width,
+        order,
         most: width.most(),
+    }
+}
+
+/// Returns the fields of a number of an array of numbers of this width.
+#[inline(always)]
+pub(crate) fn array_number(width: Width) -> Fields
+    ensures { result ≡ array_number width }
+{
+    any_number(forms::UNSIGNED, width, Order::Little)
+}
+
+/// Returns the form of entries for numbers that say this.
+#[inline(always)]
+pub(crate) fn role_form(role: Role) -> u8
+    ensures { result ≡ role_form role }
+{
+    match role {
+        Role::Plain => forms::UNSIGNED,
+        Role::Coded | Role::Enum => forms::NAMED,
+        Role::Flags => forms::FLAGS,
     }
 }
 
@@ -107,23 +152,24 @@ pub(crate) fn fields_in(label: Option<KindLabel>) -> Fields
 
 /// Returns the fields for attributes whose values have this form.
 #[inline(always)]
-fn row_fields(form: Form) -> Fields
-    ensures { result ≡ row_fields form }
+pub fn row_fields(form: Form) -> Fields
+    ensures value { result ≡ row_fields form }
+    ensures narrow { IsNarrow result }
 {
     match form {
         Form::Nothing => Fields::Empty,
         Form::Bool => Fields::Number {
             form: forms::BOOL,
             width: Width::One,
+            order: Order::Little,
             most: 1,
         },
-        Form::Unsigned(width) => any_number(forms::UNSIGNED, width),
-        Form::Coded(width) | Form::Enum(width) => any_number(forms::NAMED, width),
+        Form::Number { width, order, role } => any_number(role_form(role), width, order),
         Form::Signed => Fields::Signed,
-        Form::Flags(width) => any_number(forms::FLAGS, width),
         Form::LowFlags => Fields::Number {
             form: forms::FLAGS,
             width: Width::Two,
+            order: Order::Little,
             most: 255,
         },
         Form::MaskedFlags => words(forms::MASKED, false),
@@ -147,14 +193,15 @@ fn row_fields(form: Form) -> Fields
 /// Returns the fields for a struct.
 #[inline(always)]
 fn struct_fields(layout: Layout) -> Fields
-    ensures { result ≡ struct_fields layout }
+    ensures value { result ≡ struct_fields layout }
+    ensures narrow { IsNarrow result }
 {
     match layout {
         Layout::BridgeId => Fields::BridgeId,
         Layout::VlanInfo => shorts(forms::VLAN_INFO, true),
         Layout::BooleanOptions => words(forms::MASKED, false),
         Layout::BitTiming => passed(forms::BITTIMING, Some(32)),
-        Layout::Clock => any_number(forms::UNSIGNED, Width::Four),
+        Layout::Clock => any_number(forms::UNSIGNED, Width::Four, Order::Little),
         Layout::CtrlMode => words(forms::MASKED, true),
         Layout::BerrCounter => shorts(forms::BERR_COUNTER, false),
         _ => passed(forms::BYTES, Some(layout.lengths().kept())),

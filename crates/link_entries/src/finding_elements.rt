@@ -10,7 +10,8 @@ ghost use Rattle.netlink_packet_route.specs.Views.{family_in};
 ghost use Rattle.link_entries.specs.declared.entry.Entry.{Entry};
 ghost use Rattle.link_messages.specs.Walk.{Item, Walk};
 ghost use Rattle.link_messages.specs.BeforeFault.{last_item};
-ghost use Rattle.link_entries.specs.Flat.{HasContent, AreAddresses, number_entries, address_entry};
+ghost use Rattle.link_base.specs.Borrowed.{HasContent};
+ghost use Rattle.link_entries.specs.Flat.{AreAddresses, number_entries, address_entry};
 ghost use Rattle.link_entries.specs.Finding.{last_inner, IsOneElement, IsLastElement, IsElementFound, IsLastIn, FindsIn};
 
 use crate::arrays::{count_of, number_entry};

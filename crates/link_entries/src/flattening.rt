@@ -3,12 +3,12 @@
 ghost use Rattle.std.specs.Prelude.{◌≡◌, ◌≤◌, ◌<◌, ◌+◌, ◌*◌, ◌^◌, ◌∷◌, [], List, length, slice_set, IfOk, IsTrue};
 ghost use Rattle.link_base.specs.Frame.{kind_of};
 ghost use Rattle.link_base.specs.Buffer.{kind_field_of, payload_of};
-ghost use Rattle.link_base.specs.Borrowed.{HasValues, elements_at};
+ghost use Rattle.link_base.specs.Borrowed.{HasValues, elements_at, HasContent};
 ghost use Rattle.link_base.specs.Viewed.{set_in, buffer_in, kind_in, payload_in};
 ghost use Rattle.netlink_packet_route.specs.Family.{table_of};
 ghost use Rattle.link_entries.specs.declared.entry.Entry.{Entry};
 ghost use Rattle.link_entries.specs.Entry.{blank};
-ghost use Rattle.link_entries.specs.Flat.{HasContent, Elements, head_entry, IsGroup, Flat, Puts, Flattens};
+ghost use Rattle.link_entries.specs.Flat.{Elements, head_entry, IsGroup, Flat, Puts, Flattens};
 
 use crate::arrays::put_numbers;
 use crate::contents::fill;

@@ -1,7 +1,8 @@
 //! The payloads that entries spell.
 
 ghost use Rattle.std.specs.Prelude.{◌≡◌, ◌≤◌, ◌<◌, ◌^◌, [], ◌==◌, ◌&&◌, ◌||◌, Some, nat_lt, nat_le, length, take, reverse, IfOk, IfSome};
-ghost use Rattle.link_base.specs.Number.{bytes_of, bound};
+ghost use Rattle.link_base.specs.Number.{bytes_of, bytes_be, bound};
+ghost use Rattle.link_base.specs.Orders.{bytes_by};
 ghost use Rattle.link_base.specs.Class.{Limits, meant, written};
 ghost use Rattle.link_base.specs.Frame.{max_payload};
 ghost use Rattle.link_base.specs.Forms.{bytes_in as width_of};
@@ -15,7 +16,7 @@ use crate::forms;
 use crate::misfit::Misfit;
 use crate::name::written_name;
 use crate::storing::{store, store_padding};
-use link_base::rows::form::Width;
+use link_base::rows::form::{Order, Width};
 use link_base::{MAX_PAYLOAD, NLA_TYPE_MASK, VlanProtocol};
 
 /// Stores the payload that an entry of type `of_kind` spells, without elements, after the place of its header, and its
@@ -25,7 +26,7 @@ use link_base::{MAX_PAYLOAD, NLA_TYPE_MASK, VlanProtocol};
 ///
 /// The first that applies of `BadForm`, `BadNumber`, `BadOctets` and `TooLong`.
 #[inline(always)]
-pub(crate) fn put_payload(
+pub fn put_payload(
     fields: Fields,
     of_kind: u16,
     entry: &Entry,
@@ -101,7 +102,12 @@ fn put_content(
     match fields {
         Fields::Empty | Fields::Numbers { .. } | Fields::Addresses { .. } | Fields::List { .. } =>
             Ok(0),
-        Fields::Number { width, most, .. } => put_number(entry.number, width, most, room),
+        Fields::Number {
+            width,
+            order,
+            most,
+            ..
+        } => put_number(entry.number, width, order, most, room),
         Fields::Signed => put_signed(entry.number, room),
         Fields::Shorts { second_first, .. } => put_shorts(
             entry.number,
@@ -124,28 +130,60 @@ fn put_content(
     }
 }
 
-/// Stores the little-endian bytes of a number.
+/// Stores the bytes of a number.
 ///
 /// # Errors
 ///
 /// `BadNumber` if it is greater than `most`.
 #[inline(always)]
-fn put_number(number: u64, width: Width, most: u64, room: &mut [u8]) -> Result<usize, Misfit>
+fn put_number(
+    number: u64,
+    width: Width,
+    order: Order,
+    most: u64,
+    room: &mut [u8],
+) -> Result<usize, Misfit>
     requires { most < bound (width_of width) }
-    ensures size { result ≡ sized (only_if (nat_le number most) Misfit.BadNumber (bytes_of (width_of width) number)) }
-    ensures stored { StoresPayload (only_if (nat_le number most) Misfit.BadNumber (bytes_of (width_of width) number))
+    ensures size { result ≡ sized (only_if (nat_le number most) Misfit.BadNumber (bytes_by order (width_of width) number)) }
+    ensures stored { StoresPayload (only_if (nat_le number most) Misfit.BadNumber (bytes_by order (width_of width) number))
         room.old room.new }
 {
     if number > most {
         return Err(Misfit::BadNumber);
     }
+    match order {
+        Order::Little => store_little(number, width, room),
+        Order::Big => store_big(number, width, room),
+    }
+    Ok(width.size())
+}
+
+/// Stores the bytes of a number in network byte order, and its padding.
+#[inline(always)]
+fn store_big(number: u64, width: Width, room: &mut [u8])
+    ensures { StoresAt 4 (padded (bytes_be (width_of width) number)) room.old room.new }
+{
+    let [a, b, c, d, e, f, g, h] = number.to_be_bytes();
+    match width {
+        Width::One => store(room, 4, &[h, 0, 0, 0]),
+        Width::Two => store(room, 4, &[g, h, 0, 0]),
+        Width::Four => store(room, 4, &[e, f, g, h]),
+        Width::Eight => store(room, 4, &[a, b, c, d, e, f, g, h]),
+    }
+}
+
+/// Stores the little-endian bytes of a number, and its padding.
+#[inline(always)]
+fn store_little(number: u64, width: Width, room: &mut [u8])
+    requires { number < bound (width_of width) }
+    ensures { StoresAt 4 (padded (bytes_of (width_of width) number)) room.old room.new }
+{
     let [a, b, c, d, e, f, g, h] = number.to_le_bytes();
     match width {
         Width::Eight => store(room, 4, &[a, b, c, d, e, f, g, h]),
         // The bytes that the width does not have are 0, as is the padding.
         _ => store(room, 4, &[a, b, c, d]),
     }
-    Ok(width.size())
 }
 
 /// Stores the little-endian bytes of a signed number.

@@ -6,8 +6,7 @@ ghost use Rattle.netlink_packet_route.specs.Family.{table_of};
 ghost use Rattle.link_entries.specs.Fields.{fields_at};
 ghost use Rattle.link_entries.specs.Rows.{width_in, flags_in, list_in, size_or_0, row_by, element_row, row_of_type};
 
-use crate::fields::{Fields, any_number, fields_in, ip_address};
-use crate::forms;
+use crate::fields::{Fields, array_number, fields_in, ip_address};
 use crate::payload::form_in;
 use link_base::rows::label::KindLabel;
 use link_base::views::attribute_set::AttributeSet;
@@ -48,7 +47,7 @@ fn element_row(family: Family, own: Fields, kind: u16, inner: u16) -> Option<Row
     ensures { result ≡ element_row (elements_at (table_of family) kind) own inner }
 {
     match own {
-        Fields::Numbers { width } => Some(row_by(any_number(forms::UNSIGNED, width))),
+        Fields::Numbers { width } => Some(row_by(array_number(width))),
         Fields::Addresses { size } => Some(row_by(ip_address(size))),
         Fields::List { .. } => {
             let elements = FamilyElements { family, list: kind };

@@ -3,8 +3,7 @@
 ghost use Rattle.std.specs.Prelude.{◌≡◌, ◌<◌, ◌+◌, ◌%◌, [], Ok, length, IfErr};
 ghost use Rattle.link_base.specs.Borrowed.{elements_at, table_within};
 ghost use Rattle.netlink_packet_route.specs.Family.{table_of};
-ghost use Rattle.link_entries.specs.Fields.{any_number, fields_at, IsNarrow};
-ghost use Rattle.link_entries.specs.Forms.{form_unsigned};
+ghost use Rattle.link_entries.specs.Fields.{array_number, fields_at, IsNarrow};
 ghost use Rattle.link_entries.specs.Payload.{payload_of, field_of};
 ghost use Rattle.link_entries.specs.Spelled.{attribute_of, before, begins_well, element_of, elements_of, entries_of, fitted, framed};
 ghost use Rattle.link_entries.specs.Stored.{sized, StoresBytes, Spells};
@@ -219,8 +218,8 @@ fn spell_element<F: Attribute>(
 /// `BadForm` if the entry is no unsigned number, `BadNumber` if the width is too small.
 #[inline(always)]
 fn spell_number(width: Width, entry: &Entry, room: &mut [u8]) -> Result<usize, Misfit>
-    ensures size { result ≡ sized (payload_of (any_number form_unsigned width) entry.now []) }
-    ensures stored { StoresBytes (payload_of (any_number form_unsigned width) entry.now []) room.old room.new }
+    ensures size { result ≡ sized (payload_of (array_number width) entry.now []) }
+    ensures stored { StoresBytes (payload_of (array_number width) entry.now []) room.old room.new }
 {
     if entry.form != forms::UNSIGNED && entry.form != 0 {
         return Err(Misfit::BadForm);

@@ -9,6 +9,7 @@ use Rattle.link_base.specs.declared.wire.fault.Cause.{Cause}
 use Rattle.link_base.specs.declared.views.content.Content.{Content}
 use Rattle.link_base.specs.declared.views.content.Content.TheVariants as contents
 use Rattle.link_base.specs.declared.rows.form.Form.TheVariants as forms
+use Rattle.link_base.specs.declared.rows.form.Role.TheVariants as roles
 use Rattle.link_base.specs.declared.rows.form.Layout.{Layout}
 use Rattle.link_base.specs.declared.rows.form.Layout.TheVariants as layouts
 use Rattle.link_base.specs.declared.rows.fields.Part.{Part}
@@ -22,7 +23,8 @@ use Rattle.link_base.specs.Table.{Table}
 use Rattle.link_show.specs.Flags.{set_names}
 use Rattle.link_show.specs.List.{EachShown, label_for, ip_text, type_flags}
 use Rattle.link_base.specs.Name.{before_nul}
-use Rattle.link_show.specs.Structs.{has_fields, size_of, four_bytes}
+use Rattle.link_base.specs.Number.{four_bytes}
+use Rattle.link_show.specs.Structs.{has_fields, size_of}
 use Rattle.link_show.specs.Value.{Label, quantity_in, names_of}
 use Rattle.netlink_packet_route.specs.declared.family.Family.{Family}
 use Rattle.link_messages.specs.Walk.{Item}
@@ -104,11 +106,11 @@ struct_in_3 layouts.BerrCounter names p = omega (arith, fields_in_2 (fields_of (
 pub content_in_3 : (label : Label) (content : Content) → depth (content_json label content) ≤ 3
 content_in_3 label contents.Nothing = omega arith
 content_in_3 label (contents.Bool b) = omega arith
-content_in_3 label (contents.Unsigned n width) = omega arith
-content_in_3 label (contents.Coded n width) = omega (arith, named_in_1 n (name_in (names_of label) n))
+content_in_3 label (contents.Number n width order roles.Plain) = omega arith
+content_in_3 label (contents.Number n width order roles.Coded) = omega (arith, named_in_1 n (name_in (names_of label) n))
+content_in_3 label (contents.Number n width order roles.Enum) = omega (arith, named_in_1 n (name_in (names_of label) n))
+content_in_3 label (contents.Number n width order roles.Flags) = omega (arith, flags_in_2 (names_of label) n)
 content_in_3 label (contents.Signed z) = omega arith
-content_in_3 label (contents.Enum n width) = omega (arith, named_in_1 n (name_in (names_of label) n))
-content_in_3 label (contents.Flags bits width) = omega (arith, flags_in_2 (names_of label) bits)
 content_in_3 label (contents.LowFlags bits) = omega (arith, flags_in_2 (names_of label) bits)
 content_in_3 label (contents.MaskedFlags flags mask) = omega (arith, flags_in_2 (names_of label) (four_bytes flags), flags_in_2 (names_of label) (four_bytes mask))
 content_in_3 label (contents.Pair from to) = omega arith
@@ -192,26 +194,7 @@ plain_in_5 label content value e = subst (λ j. depth j ≤ 5) (sym e) (omega (a
 value_in_5 : (family : Family) (label : Label) (b : NlaBuffer) (content : Content) (value : Json) → ShowsContent family label b content value → depth value ≤ 5
 value_in_5 family label b (contents.List list flagged) value h = nested_in_5 _ _ list.now value h
 value_in_5 family label b (contents.Addresses list size) value h = array_of_addresses size list.now value h
-value_in_5 family label b contents.Nothing value h = plain_in_5 label contents.Nothing value h
-value_in_5 family label b (contents.Bool bit) value h = plain_in_5 label (contents.Bool bit) value h
-value_in_5 family label b (contents.Unsigned n width) value h = plain_in_5 label (contents.Unsigned n width) value h
-value_in_5 family label b (contents.Coded n width) value h = plain_in_5 label (contents.Coded n width) value h
-value_in_5 family label b (contents.Signed z) value h = plain_in_5 label (contents.Signed z) value h
-value_in_5 family label b (contents.Enum n width) value h = plain_in_5 label (contents.Enum n width) value h
-value_in_5 family label b (contents.Flags bits width) value h = plain_in_5 label (contents.Flags bits width) value h
-value_in_5 family label b (contents.LowFlags bits) value h = plain_in_5 label (contents.LowFlags bits) value h
-value_in_5 family label b (contents.MaskedFlags flags mask) value h = plain_in_5 label (contents.MaskedFlags flags mask) value h
-value_in_5 family label b (contents.Pair from to) value h = plain_in_5 label (contents.Pair from to) value h
-value_in_5 family label b (contents.Protocol p) value h = plain_in_5 label (contents.Protocol p) value h
-value_in_5 family label b (contents.Mac a) value h = plain_in_5 label (contents.Mac a) value h
-value_in_5 family label b (contents.Ipv4 a) value h = plain_in_5 label (contents.Ipv4 a) value h
-value_in_5 family label b (contents.Ipv6 a) value h = plain_in_5 label (contents.Ipv6 a) value h
-value_in_5 family label b (contents.Bytes p) value h = plain_in_5 label (contents.Bytes p) value h
-value_in_5 family label b (contents.Struct layout p) value h = plain_in_5 label (contents.Struct layout p) value h
-value_in_5 family label b (contents.U16s p) value h = plain_in_5 label (contents.U16s p) value h
-value_in_5 family label b (contents.U32s p) value h = plain_in_5 label (contents.U32s p) value h
-value_in_5 family label b (contents.Limits name numbers) value h = plain_in_5 label (contents.Limits name numbers) value h
-value_in_5 family label b (contents.Other p) value h = plain_in_5 label (contents.Other p) value h
+value_in_5 family label b content value h = plain_in_5 label content value h
 
 known_in_6 : (family : Family) (label : Option Label) (b : NlaBuffer) (content : Content) (j : Json) → ShowsKnown family label b content j → depth j ≤ 6
 known_in_6 family None b content j e = subst (λ j. depth j ≤ 6) (sym e) (omega (arith, unnamed_in_4 (kind_field_of b) (payload_of b)))

@@ -6,17 +6,18 @@ use Rattle.link_base.specs.declared.wire.buffer.NlaBuffer.{NlaBuffer}
 use Rattle.link_base.specs.declared.wire.fault.Cause.{Cause}
 use Rattle.link_base.specs.declared.views.content.Content.{Content}
 use Rattle.link_base.specs.declared.views.content.Content.TheVariants as contents
+use Rattle.link_base.specs.declared.rows.form.Width.{Width}
 use Rattle.link_base.specs.Number.{IsBytes, bound}
 use Rattle.link_base.specs.Frame.{kind_of, pad, frame_bytes}
 use Rattle.link_base.specs.Buffer.{kind_field_of, payload_of, frame_of, SplitsFirst}
 use Rattle.link_base.specs.Class.{Class, Value, IsInRange, extent, length_cause, class_value, meant, unless}
 use Rattle.link_base.specs.Class as classes
 use Rattle.link_base.specs.Table.{Shape, One, Nested, Addresses, Table, AttrValue, Gives, GivesBy, single_case, class_at}
-use Rattle.link_base.specs.Borrowed.{HasValue, Says, SaysLimits, Borrows, told}
+use Rattle.link_base.specs.Forms.{bytes_in}
+use Rattle.link_base.specs.Borrowed.{HasValue, Says, SaysLimits, Borrows, HasContent}
 use Rattle.link_base.proofs.FrameBytes.{bytes-payload, length-frame_bytes}
 use Rattle.link_base.proofs.Values.{bytes-take, bytes-drop, meant_in_range}
 use Rattle.link_messages.specs.Walk.{Item, Walks, Walk}
-use Rattle.link_show.specs.List.{HasContent}
 use Rattle.link_json.proofs.Sound.{bound_up, width_fits}
 
 -- ---- values
@@ -57,18 +58,15 @@ value_fits classes.Empty classes.Nothing h = tt
 value_fits classes.Limits (classes.Limited name rest) h = h.2
 value_fits c v h = absurd h
 
-told_fits : (v : Value) → ValueFits v → ValueFits (told v)
-told_fits (classes.Unlisted n listed d) h = h
-told_fits v h = h
+-- a number of this width
+number_fits : (width : Width) (x : ℕ) → x < bound (bytes_in width) → x < 2 ^ 64
+number_fits width x few = bound_fits (bytes_in width) (bytes_in width) x refl few (width_fits width)
 
 -- ---- contents
 
 abbrev pub ContentFits : Content → Type 0
-ContentFits (contents.Unsigned n width) = n < 2 ^ 64
-ContentFits (contents.Coded n width) = n < 2 ^ 64
+ContentFits (contents.Number n width order role) = n < 2 ^ 64
 ContentFits (contents.Signed z) = mag z < 2 ^ 63
-ContentFits (contents.Enum n width) = n < 2 ^ 64
-ContentFits (contents.Flags bits width) = bits < 2 ^ 64
 ContentFits (contents.LowFlags bits) = bits < 2 ^ 64
 ContentFits (contents.Struct layout p) = IsBytes p.now
 ContentFits (contents.U16s p) = IsBytes p.now
@@ -78,11 +76,8 @@ ContentFits (contents.List list flagged) = IsBytes list.now
 ContentFits content = Unit {0}
 
 said_fits : (content : Content) (v : Value) → ValueFits v → Says content v → ContentFits content
-said_fits (contents.Unsigned n width) v h e = subst ValueFits e h (width_fits width)
-said_fits (contents.Coded n width) v h e = subst ValueFits e h (width_fits width)
+said_fits (contents.Number n width order role) v h e = number_fits width n e.1
 said_fits (contents.Signed z) v h e = subst ValueFits e h
-said_fits (contents.Enum n width) v h e = subst ValueFits e (told_fits v h) (width_fits width)
-said_fits (contents.Flags bits width) v h e = subst ValueFits e h (width_fits width)
 said_fits (contents.LowFlags bits) v h e = let few : bits < 256 = subst ValueFits e h in omega (arith, few)
 said_fits (contents.Struct layout p) v h e = subst ValueFits e h
 said_fits (contents.U16s p) v h e = subst ValueFits e h

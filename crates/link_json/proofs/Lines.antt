@@ -1,5 +1,5 @@
 -- Documents are lines.
-use Rattle.std.proofs.Common.{◌≡◌, ℕ, ℤ, pos, negsuc, ◌+◌, ◌^◌, ◌==◌, ◌<◌, ◌≤◌, min, Bool, true, false, true≢false, not, List, [], ◌∷◌, ◌++◌, length, take, drop, Option, Some, None, IfSome, is_some, nat_lt, option_map, option_copied, refl, sym, ap, subst, ◌∙◌, arith, codes, if◌then◌else◌, eqb-true, length-append, length-drop, length-take}
+use Rattle.std.proofs.Common.{◌≡◌, ℕ, ℤ, pos, ◌+◌, ◌^◌, ◌==◌, ◌<◌, ◌≤◌, min, Bool, true, false, true≢false, not, List, [], ◌∷◌, ◌++◌, length, take, drop, Option, Some, None, IfSome, is_some, nat_lt, option_map, option_copied, refl, sym, ap, subst, ◌∙◌, arith, codes, if◌then◌else◌, eqb-true, length-append, length-drop, length-take}
 use Rattle.std.specs.Int.Signed.{mag}
 use Rattle.std.specs.List.{AllByRecursion, filter, last_or}
 use Rattle.std.specs.Int.RustNames.{bit_and}

@@ -6,9 +6,10 @@ use Rattle.link_base.specs.declared.wire.buffer.NlaBuffer.{NlaBuffer}
 use Rattle.link_base.specs.declared.wire.fault.Cause.{Cause}
 use Rattle.link_base.specs.declared.views.content.Content.{Content}
 use Rattle.link_base.specs.declared.views.content.Content.TheVariants as contents
+use Rattle.link_base.specs.declared.rows.form.Role.TheVariants as roles
 use Rattle.link_base.specs.declared.names.vlan_protocol.VlanProtocol.{VlanProtocol}
 use Rattle.link_base.specs.declared.names.vlan_protocol.VlanProtocol.TheVariants.{Ieee8021Q, Ieee8021Ad}
-use Rattle.link_base.specs.Number.{IsBytes}
+use Rattle.link_base.specs.Number.{IsBytes, four_bytes}
 use Rattle.link_base.specs.Buffer.{kind_field_of, payload_of}
 use Rattle.link_base.specs.Labels.{name_in}
 use Rattle.link_base.specs.Protocol.{vlan_protocols}
@@ -18,7 +19,6 @@ use Rattle.netlink_packet_route.specs.declared.family.Family.{Family}
 use Rattle.netlink_packet_route.specs.Family.{table_of}
 use Rattle.link_messages.specs.Walk.{Item, Walk}
 use Rattle.link_show.specs.List.{EachShown, label_for, ip_text}
-use Rattle.link_show.specs.Structs.{four_bytes}
 use Rattle.link_show.specs.Value.{Label, quantity_in, names_of}
 use Rattle.link_json.specs.Doc.{array_of, error_json}
 use Rattle.link_json.specs.Names.{prefix_of}
@@ -36,11 +36,11 @@ protocol_sound Ieee8021Ad = named_sound 0x88A8 (Some (text_of vlan_protocols.lab
 pub content_sound : (label : Label) (content : Content) → ContentFits content → IsSound (content_json label content)
 content_sound label contents.Nothing h = boolean_sound true
 content_sound label (contents.Bool b) h = boolean_sound b
-content_sound label (contents.Unsigned n width) h = number_sound n h
-content_sound label (contents.Coded n width) h = named_sound n (name_in (names_of label) n) h
+content_sound label (contents.Number n width order roles.Plain) h = number_sound n h
+content_sound label (contents.Number n width order roles.Coded) h = named_sound n (name_in (names_of label) n) h
+content_sound label (contents.Number n width order roles.Enum) h = named_sound n (name_in (names_of label) n) h
+content_sound label (contents.Number n width order roles.Flags) h = flags_sound (names_of label) n h
 content_sound label (contents.Signed z) h = signed_sound z h
-content_sound label (contents.Enum n width) h = named_sound n (name_in (names_of label) n) h
-content_sound label (contents.Flags bits width) h = flags_sound (names_of label) bits h
 content_sound label (contents.LowFlags bits) h = flags_sound (names_of label) bits h
 content_sound label (contents.MaskedFlags flags mask) h = masked_sound (names_of label) (four_bytes flags) (four_bytes mask) (omega arith) (omega arith)
 content_sound label (contents.Pair from to) h = pair_sound (four_bytes from) (four_bytes to) (omega arith) (omega arith)

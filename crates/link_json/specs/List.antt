@@ -12,12 +12,12 @@ use Rattle.link_base.specs.declared.views.content.Content.TheVariants as content
 use Rattle.link_base.specs.Frame.{kind_of}
 use Rattle.link_base.specs.Buffer.{kind_field_of, payload_of}
 use Rattle.link_base.specs.Table.{Table, Gives}
-use Rattle.link_base.specs.Borrowed.{elements_at}
+use Rattle.link_base.specs.Borrowed.{elements_at, HasContent}
 use Rattle.netlink_packet_route.specs.declared.family.Family.{Family}
 use Rattle.netlink_packet_route.specs.Family.{table_of}
 use Rattle.link_messages.specs.Walk.{Item, Walk}
 use Rattle.link_show.specs.Fault.{cause_words, fault_text}
-use Rattle.link_show.specs.List.{EachShown, HasContent, label_for, ip_text, is_well}
+use Rattle.link_show.specs.List.{EachShown, label_for, ip_text, is_well}
 use Rattle.link_show.specs.Value.{Label}
 use Rattle.link_json.specs.Doc.{object_of, array_of, each_tokens, error_json}
 use Rattle.link_json.specs.Names.{prefix_of, element_prefix}

@@ -10,6 +10,8 @@ use Rattle.link_base.specs.declared.wire.buffer.NlaBuffer.{NlaBuffer}
 use Rattle.link_base.specs.declared.views.content.Content.{Content}
 use Rattle.link_base.specs.declared.views.content.Content.TheVariants as contents
 use Rattle.link_base.specs.declared.rows.form.Form.TheVariants as forms
+use Rattle.link_base.specs.declared.rows.form.Role.{Role}
+use Rattle.link_base.specs.declared.rows.form.Role.TheVariants as roles
 use Rattle.link_base.specs.declared.rows.form.Layout.{Layout}
 use Rattle.link_base.specs.declared.rows.form.Layout.TheVariants as layouts
 use Rattle.link_base.specs.declared.rows.fields.Part.{Part}
@@ -17,7 +19,7 @@ use Rattle.link_base.specs.declared.rows.fields.Part.TheVariants as parts
 use Rattle.link_base.specs.declared.rows.label.Quantity.{Quantity}
 use Rattle.link_base.specs.declared.rows.label.Quantity.TheVariants as quantities
 use Rattle.link_base.specs.declared.names.vlan_protocol.VlanProtocol.{VlanProtocol}
-use Rattle.link_base.specs.Number.{number}
+use Rattle.link_base.specs.Number.{number, four_bytes}
 use Rattle.link_base.specs.Frame.{kind_of}
 use Rattle.link_base.specs.Buffer.{kind_field_of, payload_of}
 use Rattle.link_base.specs.Forms.{FieldTold, fields_of}
@@ -31,7 +33,7 @@ use Rattle.link_show.specs.Text.{joined}
 use Rattle.link_show.specs.Octets.{byte_text}
 use Rattle.link_show.specs.Flags.{set_names}
 use Rattle.link_show.specs.List.{type_flags}
-use Rattle.link_show.specs.Structs.{size_of, has_fields, bridge_id_text, four_bytes}
+use Rattle.link_show.specs.Structs.{size_of, has_fields, bridge_id_text}
 use Rattle.link_show.specs.Value as plain
 use Rattle.link_show.specs.Value.{Label, quantity_in, names_of}
 use Rattle.link_json.specs.Doc.{Field, object_of, array_of, number_json, signed_json, named_json, element_json}
@@ -111,15 +113,18 @@ limits_json name p = object_of ((codes "name", text_json name) ∷ fields_json (
 
 -- ---- contents
 
+-- the value of a number, by what it says
+abbrev pub role_json : List (ℕ × List ℕ) → Role → ℕ → Json
+role_json names roles.Plain n = number_json n
+role_json names roles.Flags n = flags_json names n
+role_json names role n = enum_json names n
+
 -- the value of a content, by what is known of its attribute type; the bytes of a list
 abbrev pub content_json : Label → Content → Json
 content_json label contents.Nothing = boolean true
 content_json label (contents.Bool b) = boolean b
-content_json label (contents.Unsigned n width) = number_json n
-content_json label (contents.Coded n width) = enum_json (names_of label) n
+content_json label (contents.Number n width order role) = role_json (names_of label) role n
 content_json label (contents.Signed z) = signed_json z
-content_json label (contents.Enum n width) = enum_json (names_of label) n
-content_json label (contents.Flags bits width) = flags_json (names_of label) bits
 content_json label (contents.LowFlags bits) = flags_json (names_of label) bits
 content_json label (contents.MaskedFlags flags mask) = masked_json (names_of label) (four_bytes flags) (four_bytes mask)
 content_json label (contents.Pair from to) = pair_json (four_bytes from) (four_bytes to)

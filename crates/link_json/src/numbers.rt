@@ -5,7 +5,7 @@ ghost use Rattle.json.specs.Tree.{json_tokens};
 ghost use Rattle.link_base.specs.Forms.{bytes_in};
 ghost use Rattle.link_base.specs.Labels.{names_in};
 ghost use Rattle.link_base.specs.Layout.{numbers_of};
-ghost use Rattle.link_show.specs.Structs.{four_bytes};
+ghost use Rattle.link_base.specs.Number.{four_bytes};
 ghost use Rattle.link_json.specs.Doc.{array_of, number_json};
 ghost use Rattle.link_json.specs.Value.{enum_json, flags_json, masked_json, names_json};
 

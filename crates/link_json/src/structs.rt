@@ -4,7 +4,8 @@ ghost use Rattle.std.specs.Prelude.{◌≡◌, ◌++◌, ◌∷◌, [], true, le
 ghost use Rattle.json.specs.Tree.{json_tokens};
 ghost use Rattle.link_base.specs.Fields.{field_told, fields_in};
 ghost use Rattle.link_base.specs.Labels.{names_in};
-ghost use Rattle.link_show.specs.Structs.{size_of, has_field, four_bytes};
+ghost use Rattle.link_base.specs.Number.{four_bytes};
+ghost use Rattle.link_show.specs.Structs.{size_of, has_field};
 ghost use Rattle.link_json.specs.Doc.{fields_tokens};
 ghost use Rattle.link_json.specs.Value.{part_json, field_json, fields_json, struct_json, pair_json, limits_json};
 

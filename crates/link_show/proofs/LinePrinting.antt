@@ -14,11 +14,11 @@ use Rattle.link_base.specs.Buffer.{kind_field_of, payload_of, frame_of}
 use Rattle.link_base.specs.Class.{Class, meant}
 use Rattle.link_base.specs.Class as classes
 use Rattle.link_base.specs.Table.{Shape, One, Nested, Addresses, Table}
-use Rattle.link_base.specs.Borrowed.{Says, SaysLimits, Borrows, elements_at}
+use Rattle.link_base.specs.Borrowed.{Says, SaysLimits, Borrows, elements_at, HasContent}
 use Rattle.link_base.proofs.FrameBytes.{bytes-payload}
 use Rattle.link_messages.specs.Walk.{Item, Walks, Walk}
 use Rattle.link_show.specs.Value.{Label}
-use Rattle.link_show.specs.List.{indented, below, error_line, EachShown, type_flags, flags_after, head_text, has_text, attribute_text, HasContent, label_for, ip_text, address_in, addresses_in, ShowsAddresses, ShowsElement, ShowsNested, Empty, Elements, ShowsMore, ShowsFlat, ShowsContent, ShowsItem, Decodes, Fails, end_line, ShowsList, ShowsVerdict, Unasked, IsCanonical, IsNot, ShowsChecked}
+use Rattle.link_show.specs.List.{indented, below, error_line, EachShown, type_flags, flags_after, head_text, has_text, attribute_text, label_for, ip_text, address_in, addresses_in, ShowsAddresses, ShowsElement, ShowsNested, Empty, Elements, ShowsMore, ShowsFlat, ShowsContent, ShowsItem, Decodes, Fails, end_line, ShowsList, ShowsVerdict, Unasked, IsCanonical, IsNot, ShowsChecked}
 use Rattle.link_show.specs.Printable.{IsText, AreTexts, has_texts}
 use Rattle.link_show.proofs.Printing.{text, none, and, either, list_text_text, decimal_text, hex_bytes, ipv4_is_text, ipv6_is_text}
 use Rattle.link_show.proofs.ValuePrinting.{IsLabelText, HasOctets, choose, each_name, flags_is_text, label_is_text, elements_text, value_is_text, borrowed_octets, segments_bound, cause_is_text, fault_is_text}

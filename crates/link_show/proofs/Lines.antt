@@ -11,10 +11,10 @@ use Rattle.link_base.specs.Class as classes
 use Rattle.link_base.specs.Frame.{kind_of}
 use Rattle.link_base.specs.Buffer.{kind_field_of, payload_of}
 use Rattle.link_base.specs.Table.{Table, Shape, One, Nested, Addresses, class_at}
-use Rattle.link_base.specs.Borrowed.{Borrows, elements_at}
+use Rattle.link_base.specs.Borrowed.{Borrows, elements_at, HasContent}
 use Rattle.link_base.specs.Viewed.{bytes_in, set_of, ViewsElements}
 use Rattle.link_show.specs.Value.{Label}
-use Rattle.link_show.specs.List.{indented, head_text, attribute_text, label_for, HasContent, WritesAttribute, WritesElement, WritesFlat, WritesMore, WritesAddresses, WritesNested, WritesElements, WritesValue, ShowsNested, ShowsContent, ShowsFlat, Empty, Elements}
+use Rattle.link_show.specs.List.{indented, head_text, attribute_text, label_for, WritesAttribute, WritesElement, WritesFlat, WritesMore, WritesAddresses, WritesNested, WritesElements, WritesValue, ShowsNested, ShowsContent, ShowsFlat, Empty, Elements}
 
 -- a line of its own
 line_of : (old a b c : Output) (indent text : List ℕ) → Gains old a indent → Gains a b text → Gains b c (10 ∷ []) → Gains old c (indented indent text)

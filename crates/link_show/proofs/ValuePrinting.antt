@@ -17,6 +17,9 @@ use Rattle.link_base.specs.declared.wire.fault.DecodeFault.TheVariants as faults
 use Rattle.link_base.specs.declared.rows.label.Quantity.{Quantity}
 use Rattle.link_base.specs.declared.rows.label.Quantity.TheVariants as quantities
 use Rattle.link_base.specs.declared.rows.form.Form.TheVariants as forms
+use Rattle.link_base.specs.declared.rows.form.Width.{Width}
+use Rattle.link_base.specs.declared.rows.form.Role.{Role}
+use Rattle.link_base.specs.declared.rows.form.Role.TheVariants as roles
 use Rattle.link_base.specs.declared.rows.form.Layout.{Layout}
 use Rattle.link_base.specs.declared.rows.form.Layout.TheVariants as layouts
 use Rattle.link_base.specs.declared.rows.fields.Part.{Part}
@@ -39,7 +42,7 @@ use Rattle.link_show.specs.Text.{hex_number}
 use Rattle.link_show.specs.Number.{seconds_of, beside, unit_of, number_text, array_text}
 use Rattle.link_show.specs.Flags.{named_text, enum_text, set_names, unnamed, last_word, flag_words, is_all, flags_text}
 use Rattle.link_show.specs.Structs.{field, two_fields, part_text, field_text, has_fields, fields_text, bridge_id_text, struct_text, limits_text}
-use Rattle.link_show.specs.Value.{Label, name_in, quantity_in, names_of, other_text, content_text, value_text}
+use Rattle.link_show.specs.Value.{Label, name_in, quantity_in, names_of, other_text, role_text, content_text, value_text}
 use Rattle.link_show.specs.Fault.{bytes_text, expected_word, cause_words, kind_text, is_array, payload_fault, fault_text}
 use Rattle.link_show.specs.Printable.{IsText, has_texts}
 use Rattle.link_show.proofs.Printing.{text, none, and, either, joined_text, decimal_text, signed_text, hex_digits, hex_bytes, address_digits, quoted_text, ipv4_is_text, ipv6_is_text}
@@ -251,14 +254,17 @@ segments_bound (a ∷ b ∷ octets) h (suc k) = segments_bound octets h.1.1 k
 abbrev pub HasOctets : Content → Type 0
 HasOctets content = (a : Ipv6Addr) → content ≡ contents.Ipv6 a → IsBytes (sixteen_octets a)
 
+role_is_text : (label : Label) (role : Role) (width : Width) (n : ℕ) → IsLabelText (Some label) → IsText (role_text label role width n)
+role_is_text label roles.Plain width n l = number_is_text (quantity_in label) n
+role_is_text label roles.Coded width n l = enum_is_text (names_of label) n l.1
+role_is_text label roles.Enum width n l = enum_is_text (names_of label) n l.1
+role_is_text label roles.Flags width n l = flags_is_text (names_of label) (bytes_in width) n l.1
+
 pub content_is_text : (label : Label) (content : Content) → IsLabelText (Some label) → HasOctets content → IsText (content_text label content)
 content_is_text label contents.Nothing l h = none
 content_is_text label (contents.Bool b) l h = either b (text refl) (text refl)
-content_is_text label (contents.Unsigned n width) l h = number_is_text (quantity_in label) n
-content_is_text label (contents.Coded n width) l h = enum_is_text (names_of label) n l.1
+content_is_text label (contents.Number n width order role) l h = role_is_text label role width n l
 content_is_text label (contents.Signed z) l h = signed_text z
-content_is_text label (contents.Enum n width) l h = enum_is_text (names_of label) n l.1
-content_is_text label (contents.Flags bits width) l h = flags_is_text (names_of label) (bytes_in width) bits l.1
 content_is_text label (contents.LowFlags bits) l h = flags_is_text (names_of label) 1 bits l.1
 content_is_text label (contents.MaskedFlags flags mask) l h =
     two_text (field_is_text (codes "flags") (text refl) (flags_is_text (names_of label) 4 _ l.1)) (field_is_text (codes "mask") (text refl) (flags_is_text (names_of label) 4 _ l.1))

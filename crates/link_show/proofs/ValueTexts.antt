@@ -7,8 +7,8 @@ use Rattle.link_base.specs.declared.wire.buffer.NlaBuffer.{NlaBuffer}
 use Rattle.link_base.specs.Buffer.{kind_field_of}
 use Rattle.link_base.specs.Frame.{kind_of}
 use Rattle.link_base.specs.Table.{Table, class_at, form_at, label_at}
-use Rattle.link_base.specs.Borrowed.{Borrows, form_of}
-use Rattle.link_show.specs.List.{has_text, head_text, attribute_text, label_for, HasContent, WritesAttribute}
+use Rattle.link_base.specs.Borrowed.{Borrows, form_of, HasContent}
+use Rattle.link_show.specs.List.{has_text, head_text, attribute_text, label_for, WritesAttribute}
 use Rattle.link_show.specs.Value.{Label, content_text, value_text, WritesValue}
 
 -- the text of a content was written, which is that of an attribute

@@ -12,8 +12,8 @@ use Rattle.link_base.specs.declared.wire.fault.Cause.{Cause}
 use Rattle.link_base.specs.declared.wire.fault.DecodeFault.{DecodeFault}
 use Rattle.link_base.specs.Frame.{kind_of}
 use Rattle.link_base.specs.Buffer.{kind_field_of, payload_of}
-use Rattle.link_base.specs.Table.{Table, Gives, Canonical, FirstNotCanonical, class_at, form_at, label_at}
-use Rattle.link_base.specs.Borrowed.{HasValue, Borrows, form_of, elements_at}
+use Rattle.link_base.specs.Table.{Table, Gives, Canonical, FirstNotCanonical, label_at}
+use Rattle.link_base.specs.Borrowed.{elements_at, HasContent}
 use Rattle.link_messages.specs.Walk.{Item, Walk}
 use Rattle.link_show.specs.Text.{list_text}
 use Rattle.link_show.specs.Flags.{flags_text}
@@ -67,12 +67,6 @@ has_text content = true
 -- an attribute in one line: its name, and its content, if that has a text
 unfoldable pub attribute_text : Option Label → ℕ → Content → List ℕ
 attribute_text label f content = head_text label f ++ (if has_text content then codes " " ++ value_text label content else [])
-
--- the attribute b decodes, in a list of this table, and this is its content
-pub record HasContent (table : Table) (b : NlaBuffer) (content : Content) : Type 0 where
-  pub decodes : HasValue table (kind_field_of b) (payload_of b)
-  pub borrows : Borrows (class_at table (kind_of (kind_field_of b))) (payload_of b) content
-  pub form : form_of content ≡ form_at table (kind_of (kind_field_of b))
 
 -- what is known of its type
 abbrev pub label_for : Table → NlaBuffer → Option Label

@@ -1,5 +1,5 @@
 -- Structs, by the kernel's names of their fields.
-use Rattle.std.specs.Prelude.{ℕ, ◌+◌, ◌-◌, ◌%◌, ◌^◌, Bool, List, [], ◌∷◌, ◌++◌, map, take, drop, length, nat_lt, nat_le, codes, if◌then◌else◌}
+use Rattle.std.specs.Prelude.{ℕ, ◌+◌, ◌-◌, Bool, List, [], ◌∷◌, ◌++◌, map, take, drop, length, nat_lt, nat_le, codes, if◌then◌else◌}
 use Rattle.std.specs.List.{list_all}
 use Rattle.link_base.specs.declared.rows.form.Form.TheVariants as forms
 use Rattle.link_base.specs.declared.rows.form.Layout.{Layout}
@@ -76,10 +76,6 @@ pair_text from to = fields_text (fields_of forms.Pair) 0 [] (octets_of 4 (from �
 -- the limits of a CAN controller: its name, and the bytes of the numbers, which follow those of the name
 abbrev pub limits_text : List ℕ → List ℕ → List ℕ
 limits_text name p = two_fields (field (codes "name") (quoted name)) (fields_text (drop 1 (fields_of forms.Limits)) 16 [] p)
-
--- a number of four bytes, as its bytes tell it: the content of an attribute is known by its payload
-abbrev pub four_bytes : ℕ → ℕ
-four_bytes n = n % 2 ^ 32
 
 -- a set of flags, and which of them count
 abbrev pub masked_text : List (ℕ × List ℕ) → ℕ → ℕ → List ℕ

@@ -8,6 +8,9 @@ use Rattle.link_base.specs.declared.views.content.Content.{Content}
 use Rattle.link_base.specs.declared.views.content.Content.TheVariants as contents
 use Rattle.link_base.specs.declared.rows.label.Quantity.{Quantity}
 use Rattle.link_base.specs.declared.rows.form.Form.{Form}
+use Rattle.link_base.specs.declared.rows.form.Width.{Width}
+use Rattle.link_base.specs.declared.rows.form.Role.{Role}
+use Rattle.link_base.specs.declared.rows.form.Role.TheVariants as roles
 use Rattle.link_base.specs.declared.names.vlan_protocol.VlanProtocol.{VlanProtocol}
 use Rattle.link_base.specs.Frame.{kind_of}
 use Rattle.link_base.specs.Forms.{bytes_in}
@@ -21,7 +24,8 @@ use Rattle.link_show.specs.Text.{hex_number, empty_text}
 use Rattle.link_show.specs.Number.{beside, number_text, array_text}
 use Rattle.link_show.specs.Flags.{enum_text, flags_text}
 use Rattle.link_show.specs.Octets.{address_text, hex_text}
-use Rattle.link_show.specs.Structs.{struct_text, pair_text, limits_text, masked_text, four_bytes}
+use Rattle.link_base.specs.Number.{four_bytes}
+use Rattle.link_show.specs.Structs.{struct_text, pair_text, limits_text, masked_text}
 
 -- a VLAN protocol
 abbrev pub protocol_text : VlanProtocol → List ℕ
@@ -49,15 +53,18 @@ form_in label = label.2
 abbrev pub names_of : Label → List (ℕ × List ℕ)
 names_of label = label.3
 
+-- the text of a number, by what it says
+abbrev pub role_text : Label → Role → Width → ℕ → List ℕ
+role_text label roles.Plain width n = number_text (quantity_in label) n
+role_text label roles.Flags width n = flags_text (names_of label) (bytes_in width) n
+role_text label role width n = enum_text (names_of label) n
+
 -- the text of a content, but for lists, which have none
 abbrev pub content_text : Label → Content → List ℕ
 content_text label contents.Nothing = []
 content_text label (contents.Bool b) = if b then codes "on" else codes "off"
-content_text label (contents.Unsigned n width) = number_text (quantity_in label) n
-content_text label (contents.Coded n width) = enum_text (names_of label) n
+content_text label (contents.Number n width order role) = role_text label role width n
 content_text label (contents.Signed z) = signed_decimal z
-content_text label (contents.Enum n width) = enum_text (names_of label) n
-content_text label (contents.Flags bits width) = flags_text (names_of label) (bytes_in width) bits
 content_text label (contents.LowFlags bits) = flags_text (names_of label) 1 bits
 content_text label (contents.MaskedFlags flags mask) = masked_text (names_of label) (four_bytes flags) (four_bytes mask)
 content_text label (contents.Pair from to) = pair_text from to

@@ -3,7 +3,8 @@
 ghost use Rattle.std.specs.Prelude.{◌≡◌, true, length, OnOk};
 ghost use Rattle.link_show.specs.Sink.{Gains};
 ghost use Rattle.link_show.specs.Structs.{size_of, has_field, has_fields, part_text, field_text, fields_text, struct_text, bridge_id_text};
-ghost use Rattle.link_show.specs.Structs.{masked_text, pair_text, limits_text, four_bytes};
+ghost use Rattle.link_base.specs.Number.{four_bytes};
+ghost use Rattle.link_show.specs.Structs.{masked_text, pair_text, limits_text};
 ghost use Rattle.link_base.specs.Fields.{field_told, fields_in};
 ghost use Rattle.link_base.specs.Labels.{names_in};
 

@@ -5,7 +5,7 @@ ghost use Rattle.link_show.specs.Sink.{Gains};
 ghost use Rattle.std.specs.Net.Addr.{segments_of};
 ghost use Rattle.std.specs.Net.Text.{ipv6_text};
 ghost use Rattle.link_base.specs.IpAddress.{sixteen_octets};
-ghost use Rattle.link_show.specs.Value.{protocol_text, other_text, content_text, value_text, WritesValue};
+ghost use Rattle.link_show.specs.Value.{protocol_text, other_text, content_text, role_text, value_text, WritesValue};
 ghost use Rattle.link_base.specs.Labels.{label_of};
 ghost use Rattle.link_base.specs.Named.{text_of};
 ghost use Rattle.link_base.specs.Protocol.{vlan_protocols, protocol_number};
@@ -19,7 +19,7 @@ use crate::octets::{write_address, write_hex};
 use crate::pieces::{Piece, put_pieces};
 use crate::sink::Sink;
 use crate::structs::{write_limits, write_masked, write_pair, write_struct};
-use link_base::rows::form::Width;
+use link_base::rows::form::{Role, Width};
 use link_base::rows::label::KindLabel;
 use link_base::views::attribute_set::AttributeSet;
 use link_base::views::content::Content;
@@ -81,12 +81,13 @@ pub fn write_content<W: Sink>(
         } else {
             b"off".as_slice()
         }),
-        Content::Unsigned { number, .. } => write_number(writer, label.quantity, number),
+        Content::Number {
+            number,
+            width,
+            role,
+            ..
+        } => write_role(writer, label, role, width, number),
         Content::Signed(number) => put_pieces(writer, &[Piece::Signed(number)]),
-        Content::Coded { number, .. } | Content::Enum { number, .. } => {
-            write_enum(writer, label.names, number)
-        }
-        Content::Flags { bits, width } => write_flags(writer, label.names, width, bits),
         Content::LowFlags(bits) => { write_flags(writer, label.names, Width::One, bits.into()) }
         Content::MaskedFlags { flags, mask } => write_masked(writer, label.names, flags, mask),
         Content::Pair(from, to) => write_pair(writer, from, to),
@@ -100,6 +101,24 @@ pub fn write_content<W: Sink>(
         Content::U32s(bytes) => write_array(writer, label.quantity, Width::Four, bytes),
         Content::Limits { name, numbers } => write_limits(writer, name, numbers),
         Content::Other(payload) => write_other(writer, payload),
+    }
+}
+
+/// Writes a number by what it says.
+fn write_role<W: Sink>(
+    writer: &mut W,
+    label: &KindLabel,
+    role: Role,
+    width: Width,
+    number: u64,
+) -> Result<(), W::Error>
+    ensures { OnOk result (Gains (W.output writer.old) (W.output writer.new)
+        (role_text (label_of label.now) role width number)) }
+{
+    match role {
+        Role::Plain => write_number(writer, label.quantity, number),
+        Role::Coded | Role::Enum => write_enum(writer, label.names, number),
+        Role::Flags => write_flags(writer, label.names, width, number),
     }
 }
 

@@ -8,7 +8,7 @@
 // The traits of an attribute set, what their methods take and return, and the functions that `by_rows!` calls.
 pub use link_base::rows::by_rows;
 pub use link_base::rows::fields::{Field, Part};
-pub use link_base::rows::form::{Form, Layout, Width};
+pub use link_base::rows::form::{Form, Layout, Order, Role, Width};
 pub use link_base::rows::label::{KindLabel, Name, Quantity};
 pub use link_base::views::content::{Content, Known};
 pub use link_base::{
@@ -20,12 +20,13 @@ pub use link_base::{
 pub use link_base::names::flag_laws::{self, FlagSet, KnownBits};
 pub use link_base::names::named_laws;
 pub use link_base::{
-    Address, AddressList, Coded, Emitable, FixedSize, FlagBits, Lengths, LowFlagBits, MaskedFlags,
-    Named, NamedNumber, NestedList, NumberNames, PayloadClass, PayloadStruct, Struct, VlanProtocol,
+    Address, AddressList, Be, BeFlagBits, Coded, Emitable, FixedSize, FlagBits, Lengths,
+    LowFlagBits, MaskedFlags, Named, NamedNumber, NestedList, NumberNames, PayloadClass,
+    PayloadStruct, Struct, VlanProtocol,
 };
 
 // Parse and write the fields of a struct.
 pub use link_base::{
     check_at_least, check_exactly, check_length, emit_mac, emit_numbers, emit_u16, emit_u16_be,
-    emit_u32, emit_u64, u16_at, u32_at, u32s_at,
+    emit_u32, emit_u32_be, emit_u64, emit_u64_be, u16_at, u32_at, u32s_at,
 };

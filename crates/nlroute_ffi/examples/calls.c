@@ -233,6 +233,7 @@ static struct nlroute_value element(uint16_t kind, uint16_t inner, uint8_t form,
 
 static struct nlroute_value with_octets(struct nlroute_value v, const char *octets, size_t len) {
     memcpy(v.octets, octets, len);
+    v.length = (uint32_t)len;
     return v;
 }
 
@@ -364,8 +365,8 @@ static void texts(void) {
     check_value(NLROUTE_BRIDGE, value(NLROUTE_IFLA_BR_VLAN_FILTERING, NLROUTE_FORM_BOOL, 1, 0), "on");
     check_value(NLROUTE_BRIDGE, value(NLROUTE_IFLA_BR_VLAN_FILTERING, NLROUTE_FORM_BOOL, 0, 0), "off");
     check_value(NLROUTE_BRIDGE,
-                with_octets(value(NLROUTE_IFLA_BR_BRIDGE_ID, NLROUTE_FORM_BRIDGE_ID, 0x1000, 0),
-                            "\xbe\x51\x20\x60\x12\xa4", 6),
+                with_length(with_octets(value(NLROUTE_IFLA_BR_BRIDGE_ID, NLROUTE_FORM_BRIDGE_ID, 0x1000, 0),
+                                        "\xbe\x51\x20\x60\x12\xa4", 6), 0, 8),
                 "1000.be:51:20:60:12:a4");
     check_value(NLROUTE_BRIDGE,
                 with_octets(value(NLROUTE_IFLA_BR_GROUP_ADDR, NLROUTE_FORM_MAC, 0, 0), "\x01\x80\xc2\0\0\x04", 6),
@@ -431,6 +432,15 @@ static void texts(void) {
     check(nlroute_text(FAMILIES, &v, bytes, 130, text, sizeof text) == NLROUTE_NO_FAMILY && text[0] == 0, "-5 of a text");
     v = value(2, NLROUTE_FORM_VLAN_INFO, 65536, 0);
     check(nlroute_text(NLROUTE_AF_SPEC_BRIDGE, &v, bytes, 130, text, sizeof text) == NLROUTE_BAD_NUMBER, "-8 of a text");
+
+    v = value(NLROUTE_IFLA_BOND_MODE, NLROUTE_FORM_UNSIGNED, 4, 0);
+    check(nlroute_text(NLROUTE_BOND, &v, bytes, 0, text, sizeof text) == NLROUTE_BAD_FORM, "-7 for another form");
+    v = value(NLROUTE_IFLA_BOND_MODE, NLROUTE_FORM_NAMED, 256, 0);
+    check(nlroute_text(NLROUTE_BOND, &v, bytes, 0, text, sizeof text) == NLROUTE_BAD_NUMBER, "-8 for a mode of two bytes");
+    v = value(NLROUTE_IFLA_BOND_SLAVE_PRIO, NLROUTE_FORM_SIGNED, UINT32_MAX, 0);
+    check(nlroute_text(NLROUTE_BOND_PORT, &v, bytes, 0, text, sizeof text) == NLROUTE_BAD_NUMBER, "-8 for eight bytes");
+    v = element(NLROUTE_IFLA_BOND_MODE, 0, NLROUTE_FORM_NAMED, 4, 0);
+    check(nlroute_text(NLROUTE_BOND, &v, bytes, 0, text, sizeof text) == NLROUTE_BAD_ELEMENT, "-9 of a text");
 }
 
 static void texts_of_faults(void) {

@@ -443,19 +443,19 @@ ptrdiff_t nlroute_kind_name(uint32_t family, const struct nlroute_value *value, 
  * "02:00:00:00:00:01", "flags GVRP mask GVRP", "freq 8000000 Hz". For an element it is the text of the element only:
  * "120 ohm", "10.0.0.1". It is "" for a list and for NLROUTE_FORM_EMPTY, and "hex dead" for NLROUTE_FORM_UNKNOWN.
  *
- * The field form selects the fields that are written; NLROUTE_FORM_OF_KIND stands for that of the attribute type, so
- * what nlroute_write() is going to write can be printed. The fields kind, inner and depth select the unit of a number,
- * the names of numbers and bits, and the width of a set of flags, all of whose bits are "all". The len bytes at octets
- * are those that the value refers to, such as the list that it was read from.
+ * The text is that of what nlroute_write() writes for the value, so what it is going to write can be printed; a value
+ * that it refuses has no text. The same fields matter, and NLROUTE_FORM_OF_KIND stands for the form of the attribute
+ * type, but an element need not follow its list. The len bytes at octets are those that the value refers to, such as
+ * the list that it was read from. A name in a struct can_bittiming_const is printed as it is there.
  *
  * Returns the first of these that applies, for a value of nlroute_values() none:
- * - NLROUTE_BAD_FORM if form is not one of enum nlroute_form, or NLROUTE_FORM_OF_KIND and the type is not known;
- * - NLROUTE_BAD_NUMBER for a boolean that is neither 0 nor 1, a VLAN protocol that is neither 0x8100 nor 0x88A8, a VLAN
- *   ID, its flags, a priority or an error counter of 65536 or more, flags with a mask, a priority that is mapped, or a
- *   frequency of 2^32 or more. Any other number is printed, though the attribute may be too narrow for it: "256" for
- *   IFLA_BOND_MODE;
- * - NLROUTE_BAD_OCTETS if the form is NLROUTE_FORM_BITTIMING (NLROUTE_FORM_BITTIMING_CONST) and length is not 32 (48),
- *   or if it is one of these two, NLROUTE_FORM_BYTES or NLROUTE_FORM_UNKNOWN, and len is less than offset + length.
+ * - NLROUTE_BAD_ELEMENT if depth is 1 and the values of type kind have no elements, or if depth is greater;
+ * - NLROUTE_BAD_FORM if form is neither that of its attribute type nor NLROUTE_FORM_OF_KIND, or if the type is not
+ *   known and form is not NLROUTE_FORM_UNKNOWN;
+ * - NLROUTE_BAD_NUMBER if its attribute cannot hold number or second, such as 256 for IFLA_BOND_MODE; or if the type is
+ *   not known, and it has more than 14 bits or flags has others than those two;
+ * - NLROUTE_BAD_OCTETS if length is wrong, or len is less than offset + length;
+ * - NLROUTE_TOO_LONG if its payload would have more than 65531 bytes.
  */
 ptrdiff_t nlroute_text(uint32_t family, const struct nlroute_value *value, const uint8_t *octets, size_t len,
                        char *text, size_t room);

@@ -1,24 +1,27 @@
 -- The entries of attributes and of elements have texts, which are those of their contents.
-use Rattle.std.proofs.Common.{◌≡◌, ℕ, ◌+◌, ◌==◌, ◌&&◌, ◌||◌, not, Bool, true, false, cond, List, [], ◌∷◌, length, take, drop, Option, Some, None, Ok, refl, sym, ap, subst, ◌∙◌, ◌-◌, ◌≤◌, ◌<◌, ◌++◌, min, arith}
-use Rattle.std.specs.Prelude.{if◌then◌else◌}
+use Rattle.std.proofs.Common.{◌≡◌, ◌⊎◌, inl, inr, ℕ, ◌+◌, ◌%◌, ◌==◌, ◌&&◌, ◌||◌, Bool, true, false, cond, List, [], ◌∷◌, length, take, drop, Option, Some, None, Ok, Err, refl, sym, ap, ap₂, subst, ◌∙◌, ◌-◌, ◌≤◌, ◌<◌, ◌++◌, min, arith}
+use Rattle.std.specs.Prelude.{nat_lt, if◌then◌else◌}
 use Rattle.std.specs.List.{AllZip, AllByRecursion}
-use Rattle.std.proofs.lemmas.Bool.{lt-ltb}
+use Rattle.std.proofs.lemmas.Bool.{cases_Bool, eqb-true, eq-eqb, lt-ltb}
 use Rattle.std.proofs.lemmas.List.{append-nil, drop-drop, length-drop}
 use Rattle.std.proofs.Math.Seq.{take-append_seam}
 use Rattle.link_base.specs.declared.views.content.Content.{Content}
 use Rattle.link_base.specs.declared.views.content.Content.TheVariants as contents
 use Rattle.link_base.specs.declared.wire.fault.Cause.{Cause}
+use Rattle.link_base.specs.declared.rows.form.Width.TheVariants as widths
 use Rattle.link_base.specs.declared.rows.form.Form.{Form}
 use Rattle.link_base.specs.declared.rows.form.Form.TheVariants as forms
 use Rattle.link_base.specs.declared.wire.buffer.NlaBuffer.{NlaBuffer}
-use Rattle.link_base.specs.Number.{IsBytes}
-use Rattle.link_base.specs.Frame.{kind_of, pad, bare, BeginsWith}
-use Rattle.link_base.specs.Buffer.{kind_field_of, payload_of}
-use Rattle.link_base.specs.Class.{meant, extent, length_cause, class_value, unless}
-use Rattle.link_base.specs.Table.{Row, Shape, One, Table, AttrValue, Gives, GivesBy, single_case, row_at, class_at, form_at, label_at, label_by}
-use Rattle.link_base.specs.WellFormed.{is_table}
-use Rattle.link_base.specs.Borrowed.{HasValue, IsAccepted, Borrows, form_of, elements_at}
-use Rattle.link_base.proofs.Coherence.{row_told, elements_formed}
+use Rattle.link_base.specs.Number.{IsBytes, bytes_of}
+use Rattle.link_base.specs.Frame.{kind_of, kind_limit, pad, bare, BeginsWith}
+use Rattle.link_base.specs.Buffer.{kind_field_of, payload_of as payload_of_frame}
+use Rattle.link_base.specs.Class.{Class, AtLeast, meant, written, extent, length_cause, class_value, unless}
+use Rattle.link_base.specs.Payloads.{class_by}
+use Rattle.link_base.specs.Coherent.{is_single, IsShapeOf}
+use Rattle.link_base.specs.Table.{Row, Shape, One, Nested, Addresses, Table, AttrValue, Gives, GivesBy, single_case, row_at, class_at, form_at, label_at, label_by}
+use Rattle.link_base.specs.WellFormed.{is_shape, is_table}
+use Rattle.link_base.specs.Borrowed.{HasValue, IsAccepted, Borrows, form_of, elements_at, HasContent}
+use Rattle.link_base.proofs.Coherence.{row_told, row_passes_all, elements_formed}
 use Rattle.link_base.proofs.Entries.{class_of_row, form_of_row, label_of_row, class_of_none, form_of_none, label_of_none}
 use Rattle.link_base.proofs.Values.{bytes-take, bytes-drop}
 use Rattle.link_messages.specs.Walk.{Item, Walks}
@@ -26,18 +29,29 @@ use Rattle.link_messages.proofs.Walking.{split_short}
 use Rattle.netlink_packet_route.specs.declared.family.Family.{Family}
 use Rattle.netlink_packet_route.specs.Family.{table_of}
 use Rattle.netlink_packet_route.proofs.Families.{families_formed}
-use Rattle.link_show.specs.Value.{Label, form_in, other_text, value_text as shown_value}
+use Rattle.link_show.specs.Value.{Label, other_text, content_text, value_text as shown_value}
 use Rattle.link_entries.specs.declared.entry.Entry.{Entry}
-use Rattle.link_entries.specs.Forms.{form_ipv4, form_ipv6}
-use Rattle.link_entries.specs.Entry.{blank, padded}
+use Rattle.link_entries.specs.declared.fields.Fields.{Fields}
+use Rattle.link_entries.specs.declared.fields.Fields.TheVariants as fields
+use Rattle.link_entries.specs.declared.misfit.Misfit.TheVariants.{BadElement, BadNumber}
+use Rattle.link_entries.specs.Forms.{form_unsigned, form_ipv4, form_ipv6, form_unknown}
+use Rattle.link_entries.specs.Entry.{blank}
 use Rattle.link_entries.specs.Content.{filled}
-use Rattle.link_entries.specs.Flat.{HasContent, IsElement, IsGroup, Flat, head_entry, number_entry, address_entry}
+use Rattle.link_entries.specs.Fields.{ip_address, row_fields}
+use Rattle.link_entries.specs.Payload.{passed, payload_of}
+use Rattle.link_entries.specs.Agreement.{referred}
+use Rattle.link_entries.specs.Flat.{IsElement, IsGroup, Flat, head_entry, number_entry, address_entry}
+use Rattle.link_entries.proofs.OneContent.{value_at, fields_by}
+use Rattle.link_entries.proofs.RowForms.{is_list, with_kind, value_kind}
 use Rattle.link_entries.proofs.EntryFields.{Keeps, keeps_filled}
-use Rattle.nlroute_ffi.specs.Names.{label_for, has_indices, holds_indices}
-use Rattle.nlroute_ffi.specs.ValueText.{holds_unsigned, holds_numbers, has_octets, entry_text, label_or_plain, label_with, octets_of, value_text}
+use Rattle.link_entries.proofs.BackValues.{StandsAt, right_form, passed_back, number_back, address_back}
+use Rattle.link_entries.proofs.BackClasses.{class_back}
+use Rattle.link_entries.proofs.BackSingles.{entry_by, list_back}
+use Rattle.nlroute_ffi.specs.Names.{own_kind}
+use Rattle.nlroute_ffi.specs.ValueText.{address_form, element_by, element_label, own_label, fields_for, payload_by, Shows, has_elements, IsContentBy, IsContent, plain_label, label_or_plain, IsText, IsEntryText}
 use Rattle.nlroute_ffi.specs.Shown.{has_numbers, IsTextOf, HasText, IsAt, HeadHasText, HeadIsTold}
-use Rattle.nlroute_ffi.proofs.EntryTexts.{shown}
-use Rattle.nlroute_ffi.proofs.HeldTexts.{Held, held, other_held}
+use Rattle.nlroute_ffi.proofs.ShownBytes.{shown_again, value_of, single_of}
+use Rattle.nlroute_ffi.proofs.EntryTexts.{borrows_back, limits_front}
 
 some_same : {A : Type 0} {a b : A} → Some a ≡ Some b → a ≡ b
 some_same e = cc
@@ -55,119 +69,245 @@ accepts_of table f p (One c) e h = by_cause (length_cause (extent c) (length p))
   by_cause (Some cause) q = absurd (h (λ w. let g : Ok w.0 ≡ single_case (kind_of f) (unless (Some cause) (meant c p)) = one w.0 w.1 ∙ ap (λ o. single_case (kind_of f) (unless o (meant c p))) q in absurd cc))
 accepts_of table f p shape e h = tt
 
--- the entry of an attribute b of a list of this table, if this is known of its type
+-- what an entry spells, as the attribute b of a list of this table, if this is known of its type
 pub record Told (table : Table) (b : NlaBuffer) (list : List ℕ) (label : Option Label) (e : Entry) : Type 0 where
-  pub text : IsTextOf table b (entry_text (label_or_plain label) e (octets_of e list))
-  pub held : Held (form_in (label_or_plain label)) list e
+  pub text : (s : List ℕ) (x : Content) → Shows (fields_for label) e list s → IsContent label s x → IsTextOf table b (content_text (label_or_plain label) x)
+  pub has : (p : List ℕ) × (payload_of (fields_for label) e list ≡ Ok p)
 
--- the text of an entry of a payload without a row, which is written whatever is known of its type
-other_shown : (label : Label) (f n : ℕ) (e : Entry) (p list : List ℕ) (x : Content) → e.length ≡ length p → take (length p) (drop e.offset list) ≡ p → Borrows None p x → None ≡ form_of x
-    → entry_text label (filled f x n e) (octets_of (filled f x n e) list) ≡ (if has_numbers x then [] else shown_value None x)
-other_shown label f n e p list (contents.Other b) size lends h fm = ap other_text (ap (λ m. take m (drop e.offset list)) size ∙ lends ∙ sym h)
-other_shown label f n e p list x size lends h fm = absurd cc
+-- the payload of an attribute whose type has no row
+unknown_back : (e : Entry) (f : ℕ) (list p : List ℕ) → e.form ≡ form_unknown → e.kind ≡ kind_of f → e.flags ≡ f - kind_of f → StandsAt e list p → payload_of fields.Unknown e list ≡ Ok p
+unknown_back e f list p same kind flags at =
+    let low : nat_lt e.kind kind_limit ≡ true = lt-ltb e.kind kind_limit (omega (arith, kind)) in
+    let none : (e.flags % kind_limit == 0) ≡ true = eq-eqb (e.flags % kind_limit) 0 (omega (arith, flags)) in
+    right_form fields.Unknown e list same
+    ∙ ap₂ (λ a b. cond (a && b) (passed None e list) (Err BadNumber)) low none ∙ passed_back None e list p at refl
 
-module _ (table : Table) (formed : is_table table ≡ true) (b : NlaBuffer) (n : ℕ) (e : Entry) (list : List ℕ) (size : e.length ≡ length (payload_of b)) (at : IsAt list e.offset b) (bytes : IsBytes list) where
+-- a list spells nothing, whatever its type
+list_kind : (own : Fields) (e : Entry) (k : ℕ) (octets : List ℕ) → is_list own ≡ true → payload_of own (with_kind e k) octets ≡ payload_of own e octets
+list_kind (fields.Numbers width) e k octets h = refl
+list_kind (fields.Addresses size) e k octets h = refl
+list_kind (fields.List flag) e k octets h = refl
+list_kind own e k octets h = absurd cc
+
+list_fields : (form : Form) → has_elements form ≡ true → is_list (row_fields form) ≡ true
+list_fields forms.U16s h = refl
+list_fields forms.U32s h = refl
+list_fields (forms.Addresses size) h = refl
+list_fields (forms.List flagged) h = refl
+list_fields form h = absurd cc
+
+-- the shape of a form that is no list
+single_shape : (form : Form) (names : List (ℕ × List ℕ)) (shape : Shape) → is_single form ≡ true → IsShapeOf form names shape → shape ≡ One (class_by form names)
+single_shape form names (One c) single h = ap One h.1
+single_shape (forms.List told) names (Nested flagged rows) single h = absurd cc
+single_shape form names (Nested flagged rows) single h = absurd h
+single_shape (forms.Addresses told) names (Addresses n) single h = absurd cc
+single_shape form names (Addresses n) single h = absurd h
+
+-- the form of a content; that of a payload without a row has none
+abbrev some_form : Option Form → Form
+some_form None = forms.Nothing
+some_form (Some form) = form
+
+elements_by_form : (x : Content) (form : Form) (b : Bool) → form_of x ≡ Some form → has_elements form ≡ b → has_elements (some_form (form_of x)) ≡ b
+elements_by_form x form b is h = ap (λ o. has_elements (some_form o)) is ∙ h
+
+no_numbers : (x : Content) → has_elements (some_form (form_of x)) ≡ false → has_numbers x ≡ false
+no_numbers (contents.U16s p) h = absurd cc
+no_numbers (contents.U32s p) h = absurd cc
+no_numbers x h = refl
+
+no_words : (label : Label) (x : Content) → has_elements (some_form (form_of x)) ≡ true → (if has_numbers x then [] else shown_value (Some label) x) ≡ []
+no_words label (contents.U16s p) h = refl
+no_words label (contents.U32s p) h = refl
+no_words label (contents.Addresses p size) h = refl
+no_words label (contents.List p flagged) h = refl
+no_words label x h = absurd cc
+
+module _ (table : Table) (formed : is_table table ≡ true) (b : NlaBuffer) (n : ℕ) (e : Entry) (list : List ℕ) (at : StandsAt e list (payload_of_frame b)) (bytes : IsBytes list) where
+  abbrev f : ℕ
+  f = kind_field_of b
+
   abbrev k : ℕ
   k = kind_of (kind_field_of b)
 
   abbrev p : List ℕ
-  p = payload_of b
+  p = payload_of_frame b
 
   payload_bytes : IsBytes p
-  payload_bytes = subst IsBytes at.1 (bytes-take (length p) (drop e.offset list) (bytes-drop e.offset list bytes))
+  payload_bytes = subst IsBytes at.is (bytes-take (length p) (drop e.offset list) (bytes-drop e.offset list bytes))
 
-  by_row : (o : Option (Row Shape)) → row_at table k ≡ o → (x : Content) → HasContent table b x → Told table b list (label_at table k) (filled (kind_field_of b) x n e)
-  by_row None row x has =
-      let f = kind_field_of b in
-      let new = filled f x n e in
-      let borrows : Borrows None p x = subst (λ o. Borrows o p x) (class_of_none table k row) has.borrows in
-      let form : None ≡ form_of x = sym (has.form ∙ form_of_none table k row) in
-      let label : None ≡ label_at table k = sym (label_of_none table k row) in
-      let text : entry_text (label_or_plain None) new (octets_of new list) ≡ (if has_numbers x then [] else shown_value None x) = other_shown (label_or_plain None) f n e p list x size at.1 borrows form in
-      subst (λ (l : Option Label). Told table b list l new) label
-      (record {
-        text = (x, record { decodes = has.decodes; borrows = has.borrows; form = has.form }, subst (λ (l : Option Label). entry_text (label_or_plain None) new (octets_of new list) ≡ (if has_numbers x then [] else shown_value l x)) label text);
-        held = other_held f n e p list size at.0 x form;
-      })
-  by_row (Some r) row x has =
-      let f = kind_field_of b in
-      let new = filled f x n e in
-      let own = label_by r in
-      let class : class_at table k ≡ Some r.class = class_of_row table k r row in
-      let label : Some own ≡ label_at table k = sym (label_of_row table k r row) in
-      let form : Some r.form ≡ form_of x = sym (has.form ∙ form_of_row table k r row) in
-      let borrows : Borrows (Some r.class) p x = subst (λ o. Borrows o p x) class has.borrows in
-      let accepted = accepts_of table f p r.class class has.decodes in
-      let told = row_told table k r formed row in
-      let (c, borrows_c, form_c, words) = shown own f n e r.class p list size at.1 payload_bytes accepted r.form x form told borrows in
-      subst (λ (l : Option Label). Told table b list l new) label
-      (record {
-        text = (
-          c,
-          record { decodes = has.decodes; borrows = subst (λ o. Borrows o p c) (sym class) borrows_c; form = form_c ∙ has.form },
-          subst (λ (l : Option Label). entry_text own new (octets_of new list) ≡ (if has_numbers c then [] else shown_value l c)) label words,
-        );
-        held = held f n e p list size at.0 r.names r.class payload_bytes accepted r.form x form told borrows;
-      })
+  module _ (x : Content) (has : HasContent table b x) where
+    abbrev new : Entry
+    new = with_kind (filled (kind_field_of b) x n e) (kind_of (kind_field_of b))
+
+    -- a content without a row
+    unknown_text : (s : List ℕ) (y : Content) → row_at table k ≡ None → s ≡ p → Borrows None s y → IsTextOf table b (content_text plain_label y)
+    unknown_text s (contents.Other c) row same is = (
+      contents.Other c,
+      record { decodes = has.decodes; borrows = subst (λ o. Borrows o p (contents.Other c)) (sym (class_of_none table k row)) (is ∙ same); form = sym (form_of_none table k row) },
+      subst (λ (l : Option Label). other_text c.now ≡ shown_value l (contents.Other c)) (sym (label_of_none table k row)) refl,
+    )
+    unknown_text s y row same is = absurd is
+
+    unknown_told : row_at table k ≡ None → Told table b list None new
+    unknown_told row =
+        let entry = entry_by table b x has n e None None (form_of_none table k row) (class_of_none table k row) in
+        let full : Entry = with_kind (fields_by f None (value_at None p) n e) k in
+        let payload : payload_of fields.Unknown new list ≡ Ok p =
+        ap (λ d. payload_of fields.Unknown (with_kind d k) list) entry
+        ∙ unknown_back full f list p refl refl refl (record { size = at.size; within = at.within; short = at.short; is = at.is }) in
+        record { text = λ s y shows is. unknown_text s y row (shown_again fields.Unknown new list p s refl payload shows) is; has = (p, payload) }
+
+    module _ (r : Row Shape) (row : row_at table (kind_of (kind_field_of b)) ≡ Some r) where
+      abbrev own : Label
+      own = label_by r
+
+      named : form_at table k ≡ Some r.form
+      named = form_of_row table k r row
+
+      -- a list
+      list_text : has_elements r.form ≡ true → (y : Content) → IsContentBy true own [] y → IsTextOf table b (content_text own y)
+      list_text listed y is = (
+        x,
+        has,
+        subst (λ (l : Option Label). content_text own y ≡ (if has_numbers x then [] else shown_value l x)) (sym (label_of_row table k r row))
+            (ap (content_text own) is ∙ sym (no_words own x (elements_by_form x r.form true (has.form ∙ named) listed))),
+      )
+
+      list_told : has_elements r.form ≡ true → Told table b list (Some own) new
+      list_told listed =
+          let looked = list_fields r.form listed in
+          let payload = list_kind (row_fields r.form) (filled f x n e) k list looked ∙ list_back table b x has n e r.form list named looked in
+          record { text = λ s y shows is. list_text listed y (subst (λ t. IsContentBy t own s y) listed is); has = ([], payload) }
+
+      -- a single value
+      module _ (plain : has_elements r.form ≡ false) where
+        abbrev c : Class
+        c = class_by r.form r.names
+
+        class : class_at table k ≡ Some (One (class_by r.form r.names))
+        class = class_of_row table k r row ∙ ap Some (single_shape r.form r.names r.class (single_of r.form plain) (row_told table k r formed row))
+
+        accepted : length_cause (extent (class_by r.form r.names)) (length p) ≡ None
+        accepted = accepts_of table f p (One c) class has.decodes
+
+        entry : new ≡ with_kind (fields_by (kind_field_of b) (Some r.form) (meant (class_by r.form r.names) (payload_of_frame b)) n e) (kind_of (kind_field_of b))
+        entry = ap (λ d. with_kind d k) (entry_by table b x has n e (Some r.form) (Some (One c)) named class)
+
+        payload : payload_of (row_fields r.form) new list ≡ Ok (written (meant (class_by r.form r.names) (payload_of_frame b)))
+        payload =
+            let one = value_of r.form plain in
+            value_kind (row_fields r.form) (filled f x n e) k list one
+            ∙ ap (λ d. payload_of (row_fields r.form) d list) (entry_by table b x has n e (Some r.form) (Some (One c)) named class)
+            ∙ class_back f n e list p payload_bytes at r.form r.names one accepted
+
+        front : r.form ≡ forms.Limits → referred new list ≡ take 48 p
+        front is =
+            let full : new ≡ with_kind (fields_by f (Some forms.Limits) (meant c p) n e) k = entry ∙ ap (λ g. with_kind (fields_by f (Some g) (meant c p) n e) k) is in
+            let ok : length_cause (AtLeast 48) (length p) ≡ None = subst (λ g. length_cause (extent (class_by g r.names)) (length p) ≡ None) is accepted in
+            limits_front e new list p at ok (ap (λ d. d.length) full) (ap (λ d. d.offset) full)
+
+        value_text : (s : List ℕ) (y : Content) → Shows (row_fields r.form) new list s → IsContentBy false own s y → IsTextOf table b (content_text own y)
+        value_text s y shows (borrows, form) =
+            let borrowed = borrows_back new list p s payload_bytes y r.form r.names plain accepted payload shows front borrows in
+            let none = no_numbers y (elements_by_form y r.form false form plain) in (
+              y,
+              record { decodes = has.decodes; borrows = subst (λ o. Borrows o p y) (sym class) borrowed; form = form ∙ sym named },
+              subst (λ (l : Option Label). content_text own y ≡ (if has_numbers y then [] else shown_value l y)) (sym (label_of_row table k r row)) (ap (λ t. cond t [] (content_text own y)) (sym none)),
+            )
+
+        value_told : Told table b list (Some own) new
+        value_told = record { text = λ s y shows is. value_text s y shows (subst (λ t. IsContentBy t own s y) plain is); has = (written (meant c p), payload) }
+
+      row_told_by : Told table b list (Some own) new
+      row_told_by =
+          elim (cases_Bool (has_elements r.form)) [
+            | inl listed ↦ list_told listed
+            | inr plain ↦ value_told plain
+          ]
+
+    by_row : (o : Option (Row Shape)) → row_at table k ≡ o → Told table b list (label_at table k) new
+    by_row None row = subst (λ (l : Option Label). Told table b list l new) (sym (label_of_none table k row)) (unknown_told row)
+    by_row (Some r) row = subst (λ (l : Option Label). Told table b list l new) (sym (label_of_row table k r row)) (row_told_by r row)
 
 -- ---- entries
 
 -- an entry whose type has this label
 pub record IsTold (family : Family) (table : Table) (b : NlaBuffer) (list : List ℕ) (e : Entry) : Type 0 where
-  pub text : IsTextOf table b (value_text family e list)
+  pub text : (words : List ℕ) → IsEntryText family e list words → IsTextOf table b words
   pub has : HasText family list e
 
-told_by : (family : Family) (table : Table) (b : NlaBuffer) (list : List ℕ) (e : Entry) (label : Option Label) → label_for family e ≡ label → Told table b list label e → IsTold family table b list e
-told_by family table b list e label is h =
-    let same = sym is in
+told_by : (family : Family) (table : Table) (b : NlaBuffer) (list : List ℕ) (e : Entry) (k : ℕ) (label : Option Label) → own_label family e ≡ Ok label → own_kind e ≡ k → Told table b list label (with_kind e k) → IsTold family table b list e
+told_by family table b list e k label is kind told =
+    let h = subst (λ j. Told table b list label (with_kind e j)) (sym kind) told in
     record {
-      text = subst (λ (l : Option Label). IsTextOf table b (entry_text (label_or_plain l) e (octets_of e list))) same h.text;
-      has = record { form = h.held.is; numbers = subst (λ (l : Option Label). holds_numbers (form_in (label_or_plain l)) e ≡ true) same h.held.numbers; octets = h.held.octets };
+      text = λ words said.
+          let (s, shows, (x, borrowed, same)) = subst (λ o. IsText o e list words) is said in
+          subst (IsTextOf table b) (sym same) (h.text s x shows borrowed);
+      has = (h.has.0, ap (λ o. payload_by o e list) is ∙ h.has.1);
     }
 
 -- the label of the entry of an attribute
-head_label : (family : Family) (e : Entry) (k : ℕ) → e.depth ≡ 0 → e.kind ≡ k → label_for family e ≡ label_at (table_of family) k
+pub head_label : (family : Family) (e : Entry) (k : ℕ) → e.depth ≡ 0 → e.kind ≡ k → own_label family e ≡ Ok (label_at (table_of family) k)
 head_label family e k top kind =
-    ap (λ i. cond ((i == 0) || (not (i == 0) && holds_indices (label_at (table_of family) e.kind))) (label_at (table_of family) e.kind) (label_at (elements_at (table_of family) e.kind) e.inner)) top
-    ∙ ap (label_at (table_of family)) kind
+    ap (λ i. cond (i == 0) (Ok (label_at (table_of family) e.kind)) (cond (i == 1) (element_label (label_at (table_of family) e.kind) (label_at (elements_at (table_of family) e.kind) e.inner)) (Err BadElement))) top
+    ∙ ap (λ j. Ok (label_at (table_of family) j)) kind
+
+pub head_kind : (e : Entry) (k : ℕ) → e.depth ≡ 0 → e.kind ≡ k → own_kind e ≡ k
+head_kind e k top kind = ap (λ i. cond (i == 0) e.kind e.inner) top ∙ kind
 
 attribute_told : (family : Family) (list : List ℕ) (x : Item) (content : Content) (n : ℕ) → IsBytes list → IsAt list (x.0 + 4) x.1 → HasContent (table_of family) x.1 content → IsTold family (table_of family) x.1 list (head_entry x content n)
 attribute_told family list x content n bytes at has =
     let table = table_of family in
     let k = kind_of (kind_field_of x.1) in
-    let e0 : Entry = blank k 0 0 (x.0 + 4) (length (payload_of x.1)) in
-    let keeps : Keeps e0 (head_entry x content n) = keeps_filled (kind_field_of x.1) content n e0 in
-    told_by family table x.1 list (head_entry x content n) (label_at table k) (head_label family (head_entry x content n) k keeps.depth keeps.kind)
-    (by_row table (families_formed family) x.1 n e0 list refl at bytes (row_at table k) refl content has)
+    let e0 : Entry = blank k 0 0 (x.0 + 4) (length (payload_of_frame x.1)) in
+    let stands : StandsAt e0 list (payload_of_frame x.1) = record { size = refl; within = at.0; short = x.1.short; is = at.1 } in
+    let new = head_entry x content n in
+    let keeps : Keeps e0 new = keeps_filled (kind_field_of x.1) content n e0 in
+    told_by family table x.1 list new k (label_at table k) (head_label family new k keeps.depth keeps.kind) (head_kind new k keeps.depth keeps.kind)
+    (by_row table (families_formed family) x.1 n e0 list stands bytes content has (row_at table k) refl)
 
--- the label of the entry of an element of a nested list
-element_label : (family : Family) (flagged : Bool) (e : Entry) (k i : ℕ) → e.depth ≡ 1 → e.kind ≡ k → e.inner ≡ i → form_at (table_of family) k ≡ Some (forms.List flagged)
-    → label_for family e ≡ label_at (elements_at (table_of family) k) i
-element_label family flagged e k i below kind inner form =
-    ap (λ d. cond ((d == 0) || (not (d == 0) && holds_indices (label_at (table_of family) e.kind))) (label_at (table_of family) e.kind) (label_at (elements_at (table_of family) e.kind) e.inner)) below
-    ∙ ap (λ j. cond (holds_indices (label_at (table_of family) j)) (label_at (table_of family) j) (label_at (elements_at (table_of family) j) e.inner)) kind
-    ∙ ap (λ b. cond b (label_at (table_of family) k) (label_at (elements_at (table_of family) k) e.inner)) (by_row_of (row_at (table_of family) k) refl)
-    ∙ ap (label_at (elements_at (table_of family) k)) inner where
-      by_row_of : (o : Option (Row Shape)) → row_at (table_of family) k ≡ o → holds_indices (label_at (table_of family) k) ≡ false
-      by_row_of None at = let none : None ≡ Some (forms.List flagged) = sym (form_of_none (table_of family) k at) ∙ form in absurd cc
-      by_row_of (Some r) at =
-          let same : Some r.form ≡ Some (forms.List flagged) = sym (form_of_row (table_of family) k r at) ∙ form in
-          ap holds_indices (label_of_row (table_of family) k r at) ∙ ap has_indices (some_same same)
+-- the label of an element of a list of this form
+pub record IsListLabel (family : Family) (k : ℕ) (form : Form) : Type 0 where
+  pub label : Label
+  pub is : (own : Option Label) → element_label (label_at (table_of family) k) own ≡ element_by form label own
+
+pub list_label : (family : Family) (k : ℕ) (form : Form) → form_at (table_of family) k ≡ Some form → IsListLabel family k form
+list_label family k form named = by_row_of (row_at (table_of family) k) refl where
+  by_row_of : (o : Option (Row Shape)) → row_at (table_of family) k ≡ o → IsListLabel family k form
+  by_row_of None at = let none : None ≡ Some form = sym (form_of_none (table_of family) k at) ∙ named in absurd cc
+  by_row_of (Some r) at =
+      let same : r.form ≡ form = some_same (sym (form_of_row (table_of family) k r at) ∙ named) in
+      record { label = label_by r; is = λ own. ap (λ l. element_label l own) (label_of_row (table_of family) k r at) ∙ ap (λ g. element_by g (label_by r) own) same }
+
+-- that of an element of a nested list
+pub nested_label : (family : Family) (flagged : Bool) (e : Entry) (k i : ℕ) → e.depth ≡ 1 → e.kind ≡ k → e.inner ≡ i → form_at (table_of family) k ≡ Some (forms.List flagged)
+    → own_label family e ≡ Ok (label_at (elements_at (table_of family) k) i)
+nested_label family flagged e k i below kind inner named =
+    let table = table_of family in
+    ap (λ d. cond (d == 0) (Ok (label_at table e.kind)) (cond (d == 1) (element_label (label_at table e.kind) (label_at (elements_at table e.kind) e.inner)) (Err BadElement))) below
+    ∙ ap₂ (λ j h. element_label (label_at table j) (label_at (elements_at table j) h)) kind inner ∙ (list_label family k (forms.List flagged) named).is (label_at (elements_at table k) i)
+
+pub element_kind : (e : Entry) (i : ℕ) → e.depth ≡ 1 → e.inner ≡ i → own_kind e ≡ i
+element_kind e i below inner = ap (λ d. cond (d == 0) e.kind e.inner) below ∙ inner
 
 element_told : (family : Family) (list : List ℕ) (k offset : ℕ) (flagged : Bool) (b : NlaBuffer) (e : Entry) → IsBytes list → form_at (table_of family) k ≡ Some (forms.List flagged) → IsAt list offset b
     → IsElement (elements_at (table_of family) k) k offset b e → IsTold family (elements_at (table_of family) k) b list e
 element_told family list k offset flagged b e bytes form at (content, has, is) =
     let f = kind_field_of b in
+    let i = kind_of f in
     let table = elements_at (table_of family) k in
-    let e0 : Entry = blank k (kind_of f) 1 offset (length (payload_of b)) in
+    let e0 : Entry = blank k i 1 offset (length (payload_of_frame b)) in
+    let stands : StandsAt e0 list (payload_of_frame b) = record { size = refl; within = at.0; short = b.short; is = at.1 } in
     let new = filled f content 0 e0 in
     let keeps : Keeps e0 new = keeps_filled f content 0 e0 in
     subst (IsTold family table b list) (sym is)
-    (told_by family table b list new (label_at table (kind_of f)) (element_label family flagged new k (kind_of f) keeps.depth keeps.kind keeps.inner form)
-    (by_row table (elements_formed (table_of family) k (families_formed family)) b 0 e0 list refl at bytes (row_at table (kind_of f)) refl content has))
+    (told_by family table b list new i (label_at table i) (nested_label family flagged new k i keeps.depth keeps.kind keeps.inner form) (element_kind new i keeps.depth keeps.inner)
+    (by_row table (elements_formed (table_of family) k (families_formed family)) b 0 e0 list stands bytes content has (row_at table i) refl))
 
 pub element_shown : (family : Family) (list : List ℕ) (k offset : ℕ) (flagged : Bool) (b : NlaBuffer) (e : Entry) → IsBytes list → form_at (table_of family) k ≡ Some (forms.List flagged) → IsAt list offset b
-    → IsElement (elements_at (table_of family) k) k offset b e → IsTextOf (elements_at (table_of family) k) b (value_text family e list)
+    → IsElement (elements_at (table_of family) k) k offset b e → (words : List ℕ) → IsEntryText family e list words → IsTextOf (elements_at (table_of family) k) b words
 element_shown family list k offset flagged b e bytes form at is = (element_told family list k offset flagged b e bytes form at is).text
 
 pub element_held : (family : Family) (list : List ℕ) (k offset : ℕ) (flagged : Bool) (b : NlaBuffer) (e : Entry) → IsBytes list → form_at (table_of family) k ≡ Some (forms.List flagged) → IsAt list offset b
@@ -185,7 +325,7 @@ payload_front s f p h =
 walk_at : (list : List ℕ) (items : List Item) (s t : List ℕ) → Walks (length list) s items t → length s ≤ length list → drop (length list - length s) list ≡ s → AllByRecursion (λ x. IsAt list (x.0 + 4) x.1) items
 walk_at list [] s t h few is = tt
 walk_at list (x ∷ items) s t (at, (u, split, walks)) few is =
-    let p = payload_of x.1 in
+    let p = payload_of_frame x.1 in
     let step = min (pad (4 + length p)) (length s) in
     let whole = split_short s x.1 u split in
     let start : drop (x.0 + 4) list ≡ drop 4 s = sym (drop-drop 4 x.0 list) ∙ ap (λ i. drop 4 (drop i list)) at ∙ ap (drop 4) is in
@@ -221,17 +361,57 @@ list_held family list es bytes flat = of_list family list (HeadIsTold family lis
 
 -- ---- numbers of arrays, and addresses of lists
 
-unsigned_small : (g : Form) (x : ℕ) → x < 4294967296 → holds_unsigned g x ≡ true
-unsigned_small (forms.Struct layout) x low = lt-ltb x 4294967296 low
-unsigned_small g x low = refl
+-- an address has 4 or 16 bytes
+ip_shape : (form : Form) (names : List (ℕ × List ℕ)) (shape : Shape) (m : ℕ) → form ≡ forms.Addresses m → IsShapeOf form names shape → is_shape shape ≡ true → ((m == 4) || (m == 16)) ≡ true
+ip_shape form names (One c) m is told ok = let no : is_single (forms.Addresses m) ≡ true = subst (λ g. is_single g ≡ true) is told.0 in absurd cc
+ip_shape (forms.Addresses n) names (Addresses size) m is told ok = let same : n ≡ m = cc in subst (λ j. ((j == 4) || (j == 16)) ≡ true) (sym told ∙ same) ok
+ip_shape (forms.List flagged) names (Nested wanted rows) m is told ok = absurd cc
+ip_shape form names shape m is told ok = absurd told
 
-pub number_held : (family : Family) (list : List ℕ) (k at width i x : ℕ) → x < 4294967296 → HasText family list (number_entry k at width i x)
-number_held family list k at width i x low =
-    let e = number_entry k at width i x in
-    record { form = refl; numbers = unsigned_small (form_in (label_with family e)) x low; octets = refl }
+pub ip_size : (table : Table) (k m : ℕ) → is_table table ≡ true → form_at table k ≡ Some (forms.Addresses m) → (m ≡ 4) ⊎ (m ≡ 16)
+ip_size table k m formed named = by_row_of (row_at table k) refl where
+  by_test : ((m == 4) || (m == 16)) ≡ true → (m ≡ 4) ⊎ (m ≡ 16)
+  by_test h =
+      elim (cases_Bool (m == 4)) [
+        | inl four ↦ inl (eqb-true m 4 four)
+        | inr other ↦ inr (eqb-true m 16 (sym (ap (λ b. b || (m == 16)) other) ∙ h))
+      ]
 
-pub address_held : (family : Family) (list : List ℕ) (k i offset : ℕ) (p : List ℕ) → HasText family list (address_entry k i offset p)
-address_held family list k i offset p = by_test (length p == 4) where
-  by_test : (b : Bool) → HasText family list (record (blank k i 1 offset (length p)) { form = cond b form_ipv4 form_ipv6; octets = padded p })
-  by_test true = record { form = refl; numbers = refl; octets = refl }
-  by_test false = record { form = refl; numbers = refl; octets = refl }
+  by_row_of : (o : Option (Row Shape)) → row_at table k ≡ o → (m ≡ 4) ⊎ (m ≡ 16)
+  by_row_of None at = let none : None ≡ Some (forms.Addresses m) = sym (form_of_none table k at) ∙ named in absurd cc
+  by_row_of (Some r) at =
+      let same : r.form ≡ forms.Addresses m = some_same (sym (form_of_row table k r at) ∙ named) in
+      by_test (ip_shape r.form r.names r.class m same (row_told table k r formed at) (row_passes_all table k r formed at).shape)
+
+pub ip_fields : (m : ℕ) → (m ≡ 4) ⊎ (m ≡ 16) → row_fields (address_form m) ≡ ip_address m
+ip_fields m (inl is) = subst (λ j. row_fields (address_form j) ≡ ip_address j) (sym is) refl
+ip_fields m (inr is) = subst (λ j. row_fields (address_form j) ≡ ip_address j) (sym is) refl
+
+ip_few : (m : ℕ) → (m ≡ 4) ⊎ (m ≡ 16) → m ≤ 16
+ip_few m (inl is) = omega (arith, is)
+ip_few m (inr is) = omega (arith, is)
+
+module _ (family : Family) (list : List ℕ) (k i : ℕ) where
+  abbrev inner_label : Option Label
+  inner_label = label_at (elements_at (table_of family) k) i
+
+  pub short_held : (at x : ℕ) → form_at (table_of family) k ≡ Some forms.U16s → x < 65536 → HasText family list (number_entry k at 2 i x)
+  short_held at x named low =
+      let e = number_entry k at 2 i x in
+      (bytes_of 2 x, ap (λ o. payload_by o e list) ((list_label family k forms.U16s named).is inner_label) ∙ number_back form_unsigned widths.Two (with_kind e i) list refl low)
+
+  pub word_held : (at x : ℕ) → form_at (table_of family) k ≡ Some forms.U32s → x < 4294967296 → HasText family list (number_entry k at 4 i x)
+  word_held at x named low =
+      let e = number_entry k at 4 i x in
+      (bytes_of 4 x, ap (λ o. payload_by o e list) ((list_label family k forms.U32s named).is inner_label) ∙ number_back form_unsigned widths.Four (with_kind e i) list refl low)
+
+  pub address_held : (offset : ℕ) (p : List ℕ) → form_at (table_of family) k ≡ Some (forms.Addresses (length p)) → HasText family list (address_entry k i offset p)
+  address_held offset p named =
+      let e = address_entry k i offset p in
+      let m = length p in
+      let size = ip_size (table_of family) k m (families_formed family) named in (
+        p,
+        ap (λ o. payload_by o e list) ((list_label family k (forms.Addresses m) named).is inner_label)
+            ∙ ap (λ row. payload_of row (with_kind e i) list) (ip_fields m size)
+            ∙ address_back (cond (m == 4) form_ipv4 form_ipv6) m (with_kind e i) list p refl refl refl (ip_few m size) refl,
+      )

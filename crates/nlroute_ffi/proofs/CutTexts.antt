@@ -1,5 +1,5 @@
 -- The front of a text in a buffer, and the NUL after it.
-use Rattle.std.proofs.Common.{◌≡◌, ℕ, zero, suc, ◌-◌, ◌^◌, ◌<◌, ◌≢◌, min, List, [], ◌∷◌, ◌++◌, length, take, drop, slice_set, refl, sym, ap, ◌∙◌, arith, take-append-drop, length-append, length-take, length-drop}
+use Rattle.std.proofs.Common.{◌≡◌, ℕ, zero, suc, ◌-◌, ◌^◌, ◌<◌, ◌≢◌, min, List, [], ◌∷◌, ◌++◌, length, take, drop, slice_set, sym, ap, ◌∙◌, arith, take-append-drop, length-append, length-take, length-drop}
 use Rattle.std.proofs.lemmas.List.{drop_all, nil_from_length}
 use Rattle.link_show.specs.Gained.{overlaid_length}
 use Rattle.link_show.specs.Sink.{overlaid, Counts}

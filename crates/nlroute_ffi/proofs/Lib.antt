@@ -1,10 +1,10 @@
 pub mod Answered
 pub mod Stored
 pub mod Texts
-pub mod StructTexts
+pub mod ShownBytes
 pub mod EntryTexts
-pub mod HeldTexts
 pub mod AttributeTexts
+pub mod WrittenTexts
 pub mod ErrorTexts
 pub mod FirstErrors
 pub mod NameTexts

@@ -9,6 +9,8 @@ use Rattle.std.proofs.lemmas.List.{append-nil}
 use Rattle.std.proofs.lemmas.Nat.{pow_pos, pow-add}
 use Rattle.std.proofs.lemmas.Slice.Eq.{bytes_eq-Decides}
 use Rattle.link_base.specs.declared.rows.form.Width.{Width}
+use Rattle.link_base.specs.declared.rows.form.Order.{Order}
+use Rattle.link_base.specs.declared.rows.form.Role.TheVariants as roles
 use Rattle.link_base.specs.declared.rows.form.Form.{Form}
 use Rattle.link_base.specs.declared.rows.form.Form.TheVariants as forms
 use Rattle.link_base.specs.declared.views.content.Content.TheVariants as contents
@@ -86,11 +88,13 @@ enum_shown : (names : List (ℕ × List ℕ)) (n : ℕ) → IsWithName (name_in 
 unfolding enum_text
 enum_shown names n = with_name (name_in names n) n
 
-pub enums_shown : (label : Label) (n : ℕ) (width : Width) → form_in label ≡ forms.Enum width → IsWithName (number_name (Some label) n) (decimal n) (content_text label (contents.Enum n width))
-enums_shown label n width form = subst (λ f. IsWithName (name_in (number_names_by f label) n) (decimal n) (enum_text (names_of label) n)) (sym form) (enum_shown (names_of label) n)
+pub enums_shown : (label : Label) (n : ℕ) (width : Width) (order : Order) → form_in label ≡ forms.Number width order roles.Enum
+    → IsWithName (number_name (Some label) n) (decimal n) (content_text label (contents.Number n width order roles.Enum))
+enums_shown label n width order form = subst (λ f. IsWithName (name_in (number_names_by f label) n) (decimal n) (enum_text (names_of label) n)) (sym form) (enum_shown (names_of label) n)
 
-pub coded_shown : (label : Label) (n : ℕ) (width : Width) → form_in label ≡ forms.Coded width → IsWithName (number_name (Some label) n) (decimal n) (content_text label (contents.Coded n width))
-coded_shown label n width form = subst (λ f. IsWithName (name_in (number_names_by f label) n) (decimal n) (enum_text (names_of label) n)) (sym form) (enum_shown (names_of label) n)
+pub coded_shown : (label : Label) (n : ℕ) (width : Width) (order : Order) → form_in label ≡ forms.Number width order roles.Coded
+    → IsWithName (number_name (Some label) n) (decimal n) (content_text label (contents.Number n width order roles.Coded))
+coded_shown label n width order form = subst (λ f. IsWithName (name_in (number_names_by f label) n) (decimal n) (enum_text (names_of label) n)) (sym form) (enum_shown (names_of label) n)
 
 -- ---- bits
 

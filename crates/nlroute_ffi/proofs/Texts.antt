@@ -1,44 +1,42 @@
 -- What the answers of the calls for texts rest on.
-use Rattle.std.proofs.Common.{◌≡◌, ℕ, ◌+◌, ◌≤◌, ◌&&◌, true, false, cond, not, nat_lt, List, [], length, take, drop, Result, Ok, Err, sym, ap, ap₂, subst, ◌∙◌}
-use Rattle.std.proofs.lemmas.Bool.{le-ltb}
+use Rattle.std.proofs.Common.{◌≡◌, ℕ, List, Option, Result, Ok, Err, refl, sym, ap, subst}
 use Rattle.std.specs.Prelude.{IsOk, OnOk}
-use Rattle.link_base.specs.declared.rows.form.Form.{Form}
+use Rattle.link_base.specs.declared.views.content.Content.{Content}
 use Rattle.netlink_packet_route.specs.declared.family.Family.{Family}
-use Rattle.link_show.specs.Value.{Label, form_in}
+use Rattle.link_show.specs.Value.{Label, content_text}
 use Rattle.link_entries.specs.declared.entry.Entry.{Entry}
+use Rattle.link_entries.specs.declared.fields.Fields.{Fields}
+use Rattle.link_entries.specs.declared.misfit.Misfit.{Misfit}
+use Rattle.link_entries.specs.Payload.{payload_of}
 use Rattle.nlroute_ffi.specs.declared.refusal.Refusal.{Refusal}
-use Rattle.nlroute_ffi.specs.declared.refusal.Refusal.TheVariants.{BadForm, BadNumber, BadOctets}
 use Rattle.nlroute_ffi.specs.Buffers.{StoresText}
-use Rattle.nlroute_ffi.specs.ValueText.{is_form, holds_numbers, is_lent, has_size, octets_of, LendsOctets, LendsNone, ToldAnswers, entry_text, label_with}
+use Rattle.nlroute_ffi.specs.Names.{own_kind}
+use Rattle.nlroute_ffi.specs.Writing.{refusal_for}
+use Rattle.nlroute_ffi.specs.ValueText.{own_label, fields_for, Shows, IsContent, label_or_plain, LabelAnswers, TextAnswers}
 
 -- what holds if a result is `Ok`, and it is
 pub on_ok : {T E P : Type 0} (r : Result T E) → IsOk r → OnOk r P → P
 on_ok (Ok x) is h = h
 on_ok (Err e) is h = absurd cc
 
--- the bytes that an entry refers to, in a list that has them
-pub octets_lent : (form : Form) (e : Entry) (octets : List ℕ) (n : ℕ) → is_form e.form ≡ true → holds_numbers form e ≡ true → has_size e ≡ true → is_lent e.form ≡ true → e.offset + e.length ≤ length octets → n ≡ e.length
-    → LendsOctets form e octets (take n (drop e.offset octets))
-octets_lent form e octets n is holds sized lent within same = (
-  is,
-  holds,
-  ap₂ (λ a b. a && not (b && nat_lt (length octets) (e.offset + e.length))) sized lent ∙ ap not (le-ltb (length octets) (e.offset + e.length) within),
-  ap (λ m. take m (drop e.offset octets)) same ∙ sym (ap (λ b. cond b (take e.length (drop e.offset octets)) []) lent),
-)
+module _ (label : Option Label) (e : Entry) (octets : List ℕ) (own : Fields) (k : ℕ) (fields : own ≡ fields_for label) (kind : k ≡ own_kind e) where
+  -- the payload of an entry is shown
+  pub shown_by : (s : List ℕ) → Shows own (record e { kind = k }) octets s → Shows (fields_for label) (record e { kind = own_kind e }) octets s
+  shown_by s h = subst (λ o. Shows o (record e { kind = own_kind e }) octets s) fields (subst (λ j. Shows own (record e { kind = j }) octets s) kind h)
 
--- the text of an entry
-pub text_answered : (family : Family) (e : Entry) (octets p : List ℕ) (label : Label) (old new : List ℕ) (n : ℕ) → LendsOctets (form_in label) e octets p → label ≡ label_with family e → StoresText (entry_text label e p) old new n
-    → ToldAnswers e octets old new family (Ok n)
-text_answered family e octets p label old new n lends is h = (
-  lends.0,
-  subst (λ l. holds_numbers (form_in l) e ≡ true) is lends.1,
-  lends.2,
-  subst (λ words. StoresText words old new n) (ap₂ (λ l s. entry_text l e s) is lends.3) h,
-)
+  -- the text of an entry
+  pub text_answered : (old new s : List ℕ) (content : Content) (told : Label) (n : ℕ) → told ≡ label_or_plain label → Shows own (record e { kind = k }) octets s → IsContent label s content → StoresText (content_text told content) old new n
+      → LabelAnswers (Ok label) e octets old new (Ok n)
+  text_answered old new s content told n same shows is stored = (content_text told content, (s, shown_by s shows, (content, is, ap (λ l. content_text l content) same)), stored)
 
--- or why it has none
-pub text_refused : (family : Family) (e : Entry) (octets : List ℕ) (label : Label) (old new : List ℕ) (refusal : Refusal) → LendsNone (form_in label) e octets refusal → label ≡ label_with family e → ToldAnswers e octets old new family (Err refusal)
-text_refused family e octets label old new BadForm none is = none
-text_refused family e octets label old new BadNumber none is = (none.0, subst (λ l. holds_numbers (form_in l) e ≡ false) is none.1)
-text_refused family e octets label old new BadOctets none is = (none.0, subst (λ l. holds_numbers (form_in l) e ≡ true) is none.1, none.2)
-text_refused family e octets label old new refusal none is = absurd none
+  -- or why it has none
+  pub text_refused : (old new : List ℕ) (misfit : Misfit) (refusal : Refusal) → payload_of own (record e { kind = k }) octets ≡ Err misfit → refusal ≡ refusal_for misfit → LabelAnswers (Ok label) e octets old new (Err refusal)
+  text_refused old new misfit refusal none is =
+      (misfit, subst (λ o. payload_of o (record e { kind = own_kind e }) octets ≡ Err misfit) fields (subst (λ j. payload_of own (record e { kind = j }) octets ≡ Err misfit) kind none), is)
+
+-- by what is known of its type
+pub label_answered : (family : Family) (e : Entry) (octets old new : List ℕ) (label : Option Label) (result : Result ℕ Refusal) → own_label family e ≡ Ok label → LabelAnswers (Ok label) e octets old new result → TextAnswers e octets old new family result
+label_answered family e octets old new label result is h = subst (λ o. LabelAnswers o e octets old new result) (sym is) h
+
+pub element_refused : (family : Family) (e : Entry) (octets old new : List ℕ) (misfit : Misfit) (refusal : Refusal) → own_label family e ≡ Err misfit → refusal ≡ refusal_for misfit → TextAnswers e octets old new family (Err refusal)
+element_refused family e octets old new misfit refusal is same = subst (λ o. LabelAnswers o e octets old new (Err refusal)) (sym is) (misfit, refl, same)

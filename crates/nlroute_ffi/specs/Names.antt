@@ -3,6 +3,7 @@ use Rattle.std.specs.Prelude.{ℕ, ◌^◌, ◌==◌, ◌&&◌, ◌||◌, Bool, 
 use Rattle.std.specs.Fmt.{decimal}
 use Rattle.link_base.specs.declared.rows.form.Form.{Form}
 use Rattle.link_base.specs.declared.rows.form.Form.TheVariants as forms
+use Rattle.link_base.specs.declared.rows.form.Role.TheVariants as roles
 use Rattle.link_base.specs.Labels.{name_in}
 use Rattle.link_base.specs.Table.{label_at}
 use Rattle.link_base.specs.Borrowed.{elements_at}
@@ -57,8 +58,8 @@ KindNameAnswers e old new family (Err refusal) = ⊥
 
 -- the names of the numbers of an attribute type: of an enum, or a VLAN protocol
 abbrev pub number_names_by : Form → Label → List (ℕ × List ℕ)
-number_names_by (forms.Enum w) label = names_of label
-number_names_by (forms.Coded w) label = names_of label
+number_names_by (forms.Number w order roles.Enum) label = names_of label
+number_names_by (forms.Number w order roles.Coded) label = names_of label
 number_names_by forms.Protocol label = names_of label
 number_names_by form label = []
 
@@ -71,7 +72,7 @@ NumberNameAnswers e old new family result = NameAnswers (number_name (label_for 
 
 -- the names of the bits of an attribute type: of a set of flags, or of those in a struct
 abbrev pub bit_names_by : Form → Label → List (ℕ × List ℕ)
-bit_names_by (forms.Flags w) label = names_of label
+bit_names_by (forms.Number w order roles.Flags) label = names_of label
 bit_names_by forms.LowFlags label = names_of label
 bit_names_by forms.MaskedFlags label = names_of label
 bit_names_by (forms.Struct layout) label = names_of label

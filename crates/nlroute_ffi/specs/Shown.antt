@@ -1,19 +1,19 @@
 -- The texts of entries, and those that `link_show` specifies for their attributes.
-use Rattle.std.specs.Prelude.{◌≡◌, ℕ, ◌+◌, ◌≤◌, Bool, true, false, List, [], ◌∷◌, length, take, drop, Option, Some, None, if◌then◌else◌}
+use Rattle.std.specs.Prelude.{◌≡◌, ℕ, ◌+◌, ◌≤◌, Bool, true, false, List, [], ◌∷◌, length, take, drop, Option, Some, None, Ok, if◌then◌else◌}
 use Rattle.link_base.specs.declared.wire.buffer.NlaBuffer.{NlaBuffer}
 use Rattle.link_base.specs.declared.views.content.Content.{Content}
 use Rattle.link_base.specs.declared.views.content.Content.TheVariants as contents
 use Rattle.link_base.specs.Buffer.{payload_of}
+use Rattle.link_base.specs.Borrowed.{HasContent}
 use Rattle.link_base.specs.Table.{Table}
 use Rattle.link_show.specs.Number.{beside}
-use Rattle.link_show.specs.Value.{form_in, value_text}
-use Rattle.link_show.specs.List.{HasContent, label_for}
+use Rattle.link_show.specs.Value.{value_text}
+use Rattle.link_show.specs.List.{label_for}
 use Rattle.link_messages.specs.Walk.{Item}
 use Rattle.netlink_packet_route.specs.declared.family.Family.{Family}
 use Rattle.netlink_packet_route.specs.Family.{table_of}
 use Rattle.link_entries.specs.declared.entry.Entry.{Entry}
-use Rattle.nlroute_ffi.specs.ValueText.{is_form, holds_numbers, has_octets, label_with}
-use Rattle.nlroute_ffi.specs.ValueText.{value_text as entry_text}
+use Rattle.nlroute_ffi.specs.ValueText.{entry_payload, IsEntryText}
 
 -- whether a content has an entry for each of its numbers
 abbrev pub has_numbers : Content → Bool
@@ -25,20 +25,18 @@ has_numbers content = false
 abbrev pub IsTextOf : Table → NlaBuffer → List ℕ → Type 0
 IsTextOf table b words = (content : Content) × HasContent table b content × (words ≡ (if has_numbers content then [] else value_text (label_for table b) content))
 
--- an entry has a text, since its form is one, its attribute can hold its numbers, and the list has its bytes
-pub record HasText (family : Family) (list : List ℕ) (e : Entry) : Type 0 where
-  pub form : is_form e.form ≡ true
-  pub numbers : holds_numbers (form_in (label_with family e)) e ≡ true
-  pub octets : has_octets e list ≡ true
+-- an entry spells a payload, so it has a text
+abbrev pub HasText : Family → List ℕ → Entry → Type 0
+HasText family list e = (p : List ℕ) × (entry_payload family e list ≡ Ok p)
 
 -- the payload of b is in the list, at this offset
 abbrev pub IsAt : List ℕ → ℕ → NlaBuffer → Type 0
 IsAt list offset b = (offset + length (payload_of b) ≤ length list) × (take (length (payload_of b)) (drop offset list) ≡ payload_of b)
 
--- the first of these entries, which is that of the attribute x, has the text of x
+-- each text of the first of these entries, which is that of the attribute x, is one of x
 abbrev pub HeadHasText : Family → List ℕ → Item → List Entry → Type 0
 HeadHasText family list x [] = ⊥
-HeadHasText family list x (e ∷ es) = IsTextOf (table_of family) x.1 (entry_text family e list)
+HeadHasText family list x (e ∷ es) = (words : List ℕ) → IsEntryText family e list words → IsTextOf (table_of family) x.1 words
 
 -- the first of these entries has a text
 abbrev pub HeadIsTold : Family → List ℕ → Item → List Entry → Type 0

@@ -1,12 +1,14 @@
 //! Theorems about texts. The functions have empty bodies; each states its theorem as its contract.
 
-ghost use Rattle.std.specs.Prelude.{◌≡◌, ◌≢◌, ◌<◌, ◌^◌, ℕ, Bool, List, Some, Result};
+ghost use Rattle.std.specs.Prelude.{◌≡◌, ◌≢◌, ◌<◌, ◌^◌, ℕ, Bool, List, ◌∷◌, length, Some, Result, Ok, Err};
 ghost use Rattle.std.specs.Fmt.{decimal};
-ghost use Rattle.std.specs.List.{AllZip};
+ghost use Rattle.std.specs.List.{AllZip, AllByRecursion};
 ghost use Rattle.link_base.specs.declared.wire.buffer.NlaBuffer.{NlaBuffer};
 ghost use Rattle.link_base.specs.declared.views.content.Content.TheVariants as contents;
 ghost use Rattle.link_base.specs.declared.rows.form.Form.TheVariants as forms;
 ghost use Rattle.link_base.specs.declared.rows.form.Width.{Width};
+ghost use Rattle.link_base.specs.declared.rows.form.Order.{Order};
+ghost use Rattle.link_base.specs.declared.rows.form.Role.TheVariants as roles;
 ghost use Rattle.link_base.specs.declared.names.vlan_protocol.VlanProtocol.{VlanProtocol};
 ghost use Rattle.link_base.specs.Borrowed.{elements_at};
 ghost use Rattle.link_base.specs.Number.{IsBytes};
@@ -19,6 +21,8 @@ ghost use Rattle.link_show.specs.Value.{Label, form_in, content_text};
 ghost use Rattle.netlink_packet_route.specs.declared.family.Family.{Family};
 ghost use Rattle.netlink_packet_route.specs.Family.{table_of};
 ghost use Rattle.link_entries.specs.declared.entry.Entry.{Entry};
+ghost use Rattle.link_entries.specs.declared.misfit.Misfit.{Misfit};
+ghost use Rattle.link_entries.specs.Spelled.{spelled_by};
 ghost use Rattle.link_entries.specs.Flat.{Flat, IsElement, number_entry, address_entry};
 ghost use Rattle.netlink_packet_route.specs.declared.link.DecodeFault.{DecodeFault};
 ghost use Rattle.nlroute_ffi.specs.declared.fault.FirstError.{FirstError};
@@ -26,13 +30,14 @@ ghost use Rattle.nlroute_ffi.specs.Numbers.{fault_numbers};
 ghost use Rattle.nlroute_ffi.specs.Error.{error_numbers, ErrorAnswers};
 ghost use Rattle.nlroute_ffi.specs.ErrorText.{IsListFault, FaultOccurs, fault_of, ErrorTextAnswers};
 ghost use Rattle.nlroute_ffi.specs.Names.{label_for, number_name, bit_names_by, flag_name};
-ghost use Rattle.nlroute_ffi.specs.ValueText.{value_text};
+ghost use Rattle.nlroute_ffi.specs.ValueText.{IsEntryText, TextAnswers};
+ghost use Rattle.nlroute_ffi.specs.Writing.{refusal_for};
 ghost use Rattle.nlroute_ffi.specs.Shown.{IsAt, IsTextOf, HeadHasText, HasText, HeadIsTold, IsWithName, IsByName};
 
 use crate::refusal::Refusal;
 
-/// States that the entry of each attribute of a list has the text that `link_show` specifies for the attribute; an array
-/// of numbers has none.
+/// States that the text of the entry of each attribute of a list is the one that `link_show` specifies for the attribute; an
+/// array of numbers has none.
 pub fn texts_of_attributes()
     ensures { (family : Family) (list : List ℕ) (es : List Entry) → IsBytes list → (flat : Flat (table_of family) list es)
         → AllZip (HeadHasText family list) flat.items flat.groups }
@@ -42,8 +47,8 @@ pub fn texts_of_attributes()
 pub fn texts_of_elements()
     ensures { (family : Family) (list : List ℕ) (kind offset : ℕ) (flagged : Bool) (b : NlaBuffer) (e : Entry)
         → IsBytes list → form_at (table_of family) kind ≡ Some (forms.List flagged) → IsAt list offset b
-        → IsElement (elements_at (table_of family) kind) kind offset b e
-        → IsTextOf (elements_at (table_of family) kind) b (value_text family e list) }
+        → IsElement (elements_at (table_of family) kind) kind offset b e → (words : List ℕ) → IsEntryText family e list words
+        → IsTextOf (elements_at (table_of family) kind) b words }
 {}
 
 /// States that the struct with the numbers of an error in a list has the text of that error.
@@ -69,10 +74,12 @@ pub fn first_errors()
 
 /// States that a number has the name that `link_show` writes before it: of an enum, or a VLAN protocol.
 pub fn names_of_numbers()
-    ensures enums { (label : Label) (n : ℕ) (width : Width) → form_in label ≡ forms.Enum width
-        → IsWithName (number_name (Some label) n) (decimal n) (content_text label (contents.Enum n width)) }
-    ensures coded { (label : Label) (n : ℕ) (width : Width) → form_in label ≡ forms.Coded width
-        → IsWithName (number_name (Some label) n) (decimal n) (content_text label (contents.Coded n width)) }
+    ensures enums { (label : Label) (n : ℕ) (width : Width) (order : Order)
+        → form_in label ≡ forms.Number width order roles.Enum
+        → IsWithName (number_name (Some label) n) (decimal n) (content_text label (contents.Number n width order roles.Enum)) }
+    ensures coded { (label : Label) (n : ℕ) (width : Width) (order : Order)
+        → form_in label ≡ forms.Number width order roles.Coded
+        → IsWithName (number_name (Some label) n) (decimal n) (content_text label (contents.Number n width order roles.Coded)) }
     ensures protocols { (family : Family) (e : Entry) (label : Label) (p : VlanProtocol) → label_for family e ≡ Some label
         → form_in label ≡ forms.Protocol
         → IsWithName (number_name (Some label) (protocol_number p)) (hex_number (protocol_number p))
@@ -87,15 +94,28 @@ pub fn names_of_bits()
 {}
 
 /// States that the entry of each attribute of a list, and that of each element of a nested list, an array or a list of
-/// addresses, has a text: `nlroute_text` returns neither -7, -8 nor -10 for them.
+/// addresses, has a text: `nlroute_text` returns no error for them.
 pub fn entries_have_texts()
     ensures attributes { (family : Family) (list : List ℕ) (es : List Entry) → IsBytes list → (flat : Flat (table_of family) list es)
         → AllZip (HeadIsTold family list) flat.items flat.groups }
     ensures elements { (family : Family) (list : List ℕ) (kind offset : ℕ) (flagged : Bool) (b : NlaBuffer) (e : Entry)
         → IsBytes list → form_at (table_of family) kind ≡ Some (forms.List flagged) → IsAt list offset b
         → IsElement (elements_at (table_of family) kind) kind offset b e → HasText family list e }
-    ensures numbers { (family : Family) (list : List ℕ) (kind at width i n : ℕ) → n < 2 ^ 32
-        → HasText family list (number_entry kind at width i n) }
+    ensures shorts { (family : Family) (list : List ℕ) (kind at i n : ℕ) → form_at (table_of family) kind ≡ Some forms.U16s
+        → n < 2 ^ 16 → HasText family list (number_entry kind at 2 i n) }
+    ensures words { (family : Family) (list : List ℕ) (kind at i n : ℕ) → form_at (table_of family) kind ≡ Some forms.U32s
+        → n < 2 ^ 32 → HasText family list (number_entry kind at 4 i n) }
     ensures addresses { (family : Family) (list : List ℕ) (kind i offset : ℕ) (octets : List ℕ)
+        → form_at (table_of family) kind ≡ Some (forms.Addresses (length octets))
         → HasText family list (address_entry kind i offset octets) }
+{}
+
+/// States that what `nlroute_write` is going to write can be printed: each entry of a list that it writes has a text. And
+/// that it refuses an attribute for which `nlroute_text` returns an error, with the same error.
+pub fn texts_and_writing()
+    ensures written { (family : Family) (octets written : List ℕ) (es : List Entry)
+        → spelled_by (table_of family) octets es ≡ Ok written → AllByRecursion (HasText family octets) es }
+    ensures refused { (family : Family) (octets old new : List ℕ) (e : Entry) (es : List Entry) (refusal : Refusal)
+        → e.depth ≡ 0 → TextAnswers e octets old new family (Err refusal)
+        → (misfit : Misfit) × (spelled_by (table_of family) octets (e ∷ es) ≡ Err (0, misfit)) × (refusal ≡ refusal_for misfit) }
 {}

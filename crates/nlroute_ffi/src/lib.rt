@@ -303,14 +303,16 @@ pub extern "C" fn nlroute_kind_name(family: u32, value: &Entry, out: &mut [u8]) 
     }
 }
 
-/// Stores the text of `value` in `out`, as far as there is room before a NUL, and the NUL. `octets` are the bytes of
-/// the list; the form 0 stands for that of the attribute type. Returns the length of the whole text, at most `isize::MAX`. Does not allocate.
+/// Stores the text of `value` in `out`, as far as there is room before a NUL, and the NUL: of the attribute or the element that
+/// `nlroute_write` writes for it. `octets` has the bytes that it refers to; the form 0 stands for that of the attribute type.
+/// Returns the length of the whole text, at most `isize::MAX`. Does not allocate.
 ///
 /// # Errors
 ///
-/// -5 if `family` is not the number of a `Family`; otherwise the first that applies: -7 if `value` has no form, or the form 0 and a type without a row, -8 if its
-/// attribute cannot hold its numbers, -10 if its octets have a wrong length or are not within `octets`. Then `out` has the
-/// empty text.
+/// -5 if `family` is not the number of a `Family`; otherwise the first that applies: -9 if the attribute type has no elements,
+/// or the depth is greater than 1; -7 if the form is not that of the type; -8 if its attribute cannot hold its numbers; -10 if
+/// its octets have a wrong length or are not within `octets`; -2 if they do not fit in an attribute. Then `out` has the empty
+/// text.
 #[unsafe(no_mangle)]
 pub extern "C" fn nlroute_text(family: u32, value: &Entry, octets: &[u8], out: &mut [u8]) -> isize
     ensures answer { AnswersBy family (TextAnswers value.now octets.now out.old out.new) result }

@@ -11,7 +11,7 @@ use crate::buffers::{refuse, store};
 use crate::refusal::Refusal;
 use arrayvec::ArrayVec;
 use itoa::Buffer;
-use link_base::rows::form::Form;
+use link_base::rows::form::{Form, Role};
 use link_base::rows::label::KindLabel;
 use link_base::views::attribute_set::AttributeSet;
 use link_entries::Entry;
@@ -113,7 +113,7 @@ fn has_indices(form: Form) -> bool
 }
 
 /// Returns the type of an attribute, or of an element.
-fn own_kind(value: &Entry) -> u16
+pub(crate) fn own_kind(value: &Entry) -> u16
     ensures { result ≡ own_kind value.now }
 {
     if value.depth == 0 {
@@ -150,7 +150,11 @@ fn number_name(label: Option<KindLabel>, number: u64) -> Option<&'static str>
 {
     let label = label?;
     match label.form {
-        Form::Enum(_) | Form::Coded(_) | Form::Protocol => label.name_of(number),
+        Form::Number {
+            role: Role::Enum | Role::Coded,
+            ..
+        }
+        | Form::Protocol => label.name_of(number),
         _ => None,
     }
 }
@@ -165,7 +169,13 @@ fn flag_name(label: Option<KindLabel>, bit: u32) -> Option<&'static str>
     }
     let set = 1 << bit;
     match label.form {
-        Form::Flags(_) | Form::LowFlags | Form::MaskedFlags | Form::Struct(_) => label.name_of(set),
+        Form::Number {
+            role: Role::Flags,
+            ..
+        }
+        | Form::LowFlags
+        | Form::MaskedFlags
+        | Form::Struct(_) => label.name_of(set),
         _ => None,
     }
 }

@@ -487,7 +487,7 @@ const FLAGS: Entry = Entry {
 #[test]
 fn texts_of_flags(rt: HostRuntime) {
     // the width of the type counts, and not the length of the struct
-    let rows: [(u32, Entry, &str); 5] = [
+    let rows: [(u32, Entry, &str); 4] = [
         // `IFLA_BRIDGE_VLAN_TUNNEL_FLAGS`, two bytes
         (
             0,
@@ -533,16 +533,6 @@ fn texts_of_flags(rt: HostRuntime) {
             },
             "LACP_ACTIVITY",
         ),
-        // of no type: eight bytes
-        (
-            0,
-            Entry {
-                kind: 99,
-                number: u64::MAX,
-                ..FLAGS
-            },
-            "all",
-        ),
     ];
     for (family, value, wanted) in rows {
         let mut out = [0xFF; 32];
@@ -555,7 +545,14 @@ fn texts_of_flags(rt: HostRuntime) {
 #[test]
 fn values_without_a_text(rt: HostRuntime) {
     // the attribute set, type and form, the two numbers, the length, and the code
-    let rows: [(u32, u16, u8, u64, u32, u32, isize); 13] = [
+    let rows: [(u32, u16, u8, u64, u32, u32, isize); 17] = [
+        // a number in place of an enum, and an enum of one byte
+        (1, 1, 3, 4, 0, 1, -7),
+        (1, 1, 5, 256, 0, 1, -8),
+        // a signed number of more than four bytes
+        (2, 9, 4, 0x8000_0000, 0, 4, -8),
+        // flags of one byte, in two
+        (2, 8, 6, 256, 0, 2, -8),
         // a boolean
         (3, 7, 2, 2, 0, 1, -8),
         // a frequency
@@ -570,8 +567,8 @@ fn values_without_a_text(rt: HostRuntime) {
         // a VLAN, and its flags
         (0, 2, 12, 65536, 0, 4, -8),
         (0, 2, 12, 1, 65536, 4, -8),
-        // a mapping
-        (5, 3, 13, 0x1_0000_0000, 0, 8, -8),
+        // a mapping in place of their list
+        (5, 3, 13, 1, 0, 8, -7),
         // error counters
         (6, 8, 14, 65536, 0, 4, -8),
         (6, 8, 14, 0, 65536, 4, -8),
@@ -593,6 +590,27 @@ fn values_without_a_text(rt: HostRuntime) {
         let answer = nlroute_text(family, &value, &octets, &mut out);
         holds(&rt, answer == wanted && out[0] == 0, family, wanted);
     }
+    // a mapping
+    let mapping = Entry {
+        kind: 3,
+        inner: 1,
+        form: 13,
+        depth: 1,
+        number: 0x1_0000_0000,
+        ..BLANK
+    };
+    let mut out = [0xFF; 8];
+    assert!(rt; nlroute_text(5, &mapping, &octets, &mut out) == -8 && out[0] == 0);
+    // an element of a type that has none, and one of an element
+    let element = Entry { kind: 1, ..FLAGS };
+    assert!(rt; nlroute_text(1, &element, &octets, &mut out) == -9 && out[0] == 0);
+    let deeper = Entry {
+        kind: 17,
+        inner: 1,
+        depth: 2,
+        ..FLAGS
+    };
+    assert!(rt; nlroute_text(6, &deeper, &octets, &mut out) == -9);
 }
 
 #[test]

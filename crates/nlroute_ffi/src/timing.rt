@@ -174,7 +174,7 @@ fn bytes_of<'a>(value: &Entry, form: u8, size: u32, octets: &'a [u8]) -> Result<
 }
 
 /// Returns the first `count` bytes, or all if there are fewer.
-pub(crate) fn front(bytes: &[u8], count: usize) -> &[u8]
+fn front(bytes: &[u8], count: usize) -> &[u8]
     ensures { result.now ≡ take count bytes.now }
 {
     &bytes[..bytes.len().min(count)]

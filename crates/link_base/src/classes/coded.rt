@@ -5,10 +5,12 @@ ghost use Rattle.link_base.specs.Class.{Number};
 ghost use Rattle.link_base.specs.Forms.{bytes_in};
 ghost use Rattle.link_base.specs.Labels.{names_in};
 ghost use Rattle.link_base.specs.declared.rows.form.Form.TheVariants as forms;
+ghost use Rattle.link_base.specs.declared.rows.form.Order.TheVariants as orders;
+ghost use Rattle.link_base.specs.declared.rows.form.Role.TheVariants as roles;
 
 use crate::classes::fixed_size::FixedSize;
 use crate::classes::word::Word;
-use crate::rows::form::Form;
+use crate::rows::form::{Form, Order, Role};
 use crate::rows::label::Name;
 use crate::views::content::Content;
 use std::marker::PhantomData;
@@ -34,9 +36,13 @@ pub struct Coded<N> {
 impl<N: NumberNames> FixedSize for Coded<N> {
     type Value = N::Number;
 
-    const FORM: Form = Form::Coded(N::Number::WIDTH);
+    const FORM: Form = Form::Number {
+        width: N::Number::WIDTH,
+        order: Order::Little,
+        role: Role::Coded,
+    };
 
-    ghost FORM = { forms.Coded N.Number.WIDTH };
+    ghost FORM = { forms.Number N.Number.WIDTH orders.Little roles.Coded };
 
     ghost names = { N.names };
 
@@ -56,9 +62,11 @@ impl<N: NumberNames> FixedSize for Coded<N> {
 
     #[inline]
     fn content<'a>(payload: &'a [u8]) -> Content<'a> {
-        Content::Coded {
+        Content::Number {
             number: N::Number::from_bytes(payload).number(),
             width: N::Number::WIDTH,
+            order: Order::Little,
+            role: Role::Coded,
         }
     }
 

@@ -5,13 +5,15 @@ ghost use Rattle.link_base.specs.Class.{Number, Raw, LowByte};
 ghost use Rattle.link_base.specs.Layout.{octets_of};
 ghost use Rattle.link_base.specs.Forms.{bytes_in};
 ghost use Rattle.link_base.specs.declared.rows.form.Form.TheVariants as forms;
+ghost use Rattle.link_base.specs.declared.rows.form.Order.TheVariants as orders;
+ghost use Rattle.link_base.specs.declared.rows.form.Role.TheVariants as roles;
 
 use crate::classes::fixed_size::FixedSize;
 use crate::classes::records::u32_at;
 use crate::classes::scalars::{emit_low, emit_u32_pair};
 use crate::classes::word::Word;
 use crate::names::flag_laws::FlagSet;
-use crate::rows::form::Form;
+use crate::rows::form::{Form, Order, Role};
 use crate::rows::label::Name;
 use crate::views::content::Content;
 use bitflags::Flags;
@@ -28,9 +30,13 @@ where
 {
     type Value = F;
 
-    const FORM: Form = Form::Flags(F::Bits::WIDTH);
+    const FORM: Form = Form::Number {
+        width: F::Bits::WIDTH,
+        order: Order::Little,
+        role: Role::Flags,
+    };
 
-    ghost FORM = { forms.Flags F.Bits.WIDTH };
+    ghost FORM = { forms.Number F.Bits.WIDTH orders.Little roles.Flags };
 
     ghost names = { F.bit_names };
 
@@ -50,9 +56,11 @@ where
 
     #[inline]
     fn content<'a>(payload: &'a [u8]) -> Content<'a> {
-        Content::Flags {
-            bits: F::Bits::from_bytes(payload).number(),
+        Content::Number {
+            number: F::Bits::from_bytes(payload).number(),
             width: F::Bits::WIDTH,
+            order: Order::Little,
+            role: Role::Flags,
         }
     }
 

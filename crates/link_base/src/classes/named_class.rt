@@ -4,11 +4,13 @@ ghost use Rattle.std.specs.Prelude.{refl};
 ghost use Rattle.link_base.specs.Named.{numbers_of, seen_value, texts_of};
 ghost use Rattle.link_base.specs.Forms.{bytes_in};
 ghost use Rattle.link_base.specs.declared.rows.form.Form.TheVariants as forms;
+ghost use Rattle.link_base.specs.declared.rows.form.Order.TheVariants as orders;
+ghost use Rattle.link_base.specs.declared.rows.form.Role.TheVariants as roles;
 
 use crate::classes::fixed_size::FixedSize;
 use crate::classes::word::Word;
 use crate::names::named::NamedNumber;
-use crate::rows::form::Form;
+use crate::rows::form::{Form, Order, Role};
 use crate::rows::label::Name;
 use crate::views::content::Content;
 use std::marker::PhantomData;
@@ -21,9 +23,13 @@ pub struct Named<T> {
 impl<T: NamedNumber> FixedSize for Named<T> {
     type Value = T;
 
-    const FORM: Form = Form::Enum(T::Number::WIDTH);
+    const FORM: Form = Form::Number {
+        width: T::Number::WIDTH,
+        order: Order::Little,
+        role: Role::Enum,
+    };
 
-    ghost FORM = { forms.Enum T.Number.WIDTH };
+    ghost FORM = { forms.Number T.Number.WIDTH orders.Little roles.Enum };
 
     ghost names = { texts_of T.names };
 
@@ -43,9 +49,11 @@ impl<T: NamedNumber> FixedSize for Named<T> {
 
     #[inline]
     fn content<'a>(payload: &'a [u8]) -> Content<'a> {
-        Content::Enum {
+        Content::Number {
             number: T::Number::from_bytes(payload).number(),
             width: T::Number::WIDTH,
+            order: Order::Little,
+            role: Role::Enum,
         }
     }
 

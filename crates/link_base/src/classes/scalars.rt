@@ -206,6 +206,24 @@ pub fn emit_u16_be(buffer: &mut [u8], value: u16)
     buffer[..2].copy_from_slice(&value.to_be_bytes());
 }
 
+/// Writes a big-endian `u32` to `buffer[..4]`. `buffer` must be at least 4 bytes long.
+#[inline]
+pub fn emit_u32_be(buffer: &mut [u8], value: u32)
+    requires { 4 ≤ length buffer.old }
+    ensures { OverwritesFront buffer.old buffer.new (reverse (bytes_of 4 value)) }
+{
+    buffer[..4].copy_from_slice(&value.to_be_bytes());
+}
+
+/// Writes a big-endian `u64` to `buffer[..8]`. `buffer` must be at least 8 bytes long.
+#[inline]
+pub fn emit_u64_be(buffer: &mut [u8], value: u64)
+    requires { 8 ≤ length buffer.old }
+    ensures { OverwritesFront buffer.old buffer.new (reverse (bytes_of 8 value)) }
+{
+    buffer[..8].copy_from_slice(&value.to_be_bytes());
+}
+
 /// Writes a byte as a little-endian `u16`: the byte, then a zero. `buffer` must be exactly 2 bytes long.
 #[inline]
 pub fn emit_low(buffer: &mut [u8], low: u8)

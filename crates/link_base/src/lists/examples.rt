@@ -5,6 +5,8 @@ ghost use Rattle.std.specs.Prelude.{◌≡◌, true, false, [], ◌∷◌, codes
 ghost use Rattle.link_base.specs.declared.wire.fault.Cause.TheVariants.{ShortFrame, SmallLength, Overrun, WrongLength};
 ghost use Rattle.link_base.specs.declared.wire.fault.DecodeFault.TheVariants as faults;
 ghost use Rattle.link_base.specs.declared.rows.form.Form.TheVariants as forms;
+ghost use Rattle.link_base.specs.declared.rows.form.Order.TheVariants as orders;
+ghost use Rattle.link_base.specs.declared.rows.form.Role.TheVariants as roles;
 ghost use Rattle.link_base.specs.declared.rows.form.Layout.TheVariants as layouts;
 ghost use Rattle.link_base.specs.declared.rows.form.Width.TheVariants as widths;
 ghost use Rattle.link_base.specs.Name.{name_of, name_field};
@@ -69,6 +71,7 @@ pub fn cut_names()
 /// Rows that a table may not have, since form, names and payloads do not go together, or a name cannot be printed.
 ///
 /// - `width`: A number is said to have one byte, but its payloads have two.
+/// - `order`: A number is said to be in network byte order, but its payloads are not.
 /// - `layout`: A clock is said to have eight bytes.
 /// - `number_names`: An enum has a name for 1, but its payloads none.
 /// - `list_flag`: A list is written with the nested flag, though its form says otherwise.
@@ -76,9 +79,10 @@ pub fn cut_names()
 /// - `list_of_arrays`: A nested list holds an array.
 /// - `text`: The name is a line end.
 pub fn refused_rows()
-    ensures width { IsRefused (one_row (forms.Unsigned widths.One) [] (One (Unsigned 2))) }
+    ensures width { IsRefused (one_row (forms.Number widths.One orders.Little roles.Plain) [] (One (Unsigned 2))) }
+    ensures order { IsRefused (one_row (forms.Number widths.Two orders.Big roles.Plain) [] (One (Unsigned 2))) }
     ensures layout { IsRefused (one_row (forms.Struct layouts.Clock) [] (One (Octets (Fixed 8)))) }
-    ensures number_names { IsRefused (one_row (forms.Enum widths.One) ((1, codes "one") ∷ []) (One (Named 1 []))) }
+    ensures number_names { IsRefused (one_row (forms.Number widths.One orders.Little roles.Enum) ((1, codes "one") ∷ []) (One (Named 1 []))) }
     ensures list_flag { IsRefused (one_row (forms.List false) [] (Nested true [])) }
     ensures address_size { IsRefused (one_row (forms.Addresses 4) [] (Addresses 16)) }
     ensures list_of_arrays { IsRefused arrays }

@@ -22,6 +22,8 @@ ghost use Rattle.link_base.specs.declared.rows.fields.Field.{Field};
 ghost use Rattle.link_base.specs.declared.rows.fields.Part.{Part};
 ghost use Rattle.link_base.specs.declared.rows.form.Form.{Form};
 ghost use Rattle.link_base.specs.declared.rows.form.Layout.{Layout};
+ghost use Rattle.link_base.specs.declared.rows.form.Order.{Order};
+ghost use Rattle.link_base.specs.declared.rows.form.Role.{Role};
 ghost use Rattle.link_base.specs.declared.rows.form.Width.{Width};
 ghost use Rattle.link_base.specs.declared.rows.label.Name.{Name};
 ghost use Rattle.link_base.specs.declared.rows.label.KindLabel.{KindLabel};
@@ -44,7 +46,7 @@ ghost use Rattle.link_base.specs.FrameTableParts.{walked_bytes, offsets_of, faul
 use crate::classes::lengths::Lengths;
 use crate::rows::attribute::Attribute;
 use crate::rows::fields::{Field, Part};
-use crate::rows::form::{Form, Layout, Width};
+use crate::rows::form::{Form, Layout, Order, Role, Width};
 use crate::rows::label::{KindLabel, Name, Quantity};
 use crate::wire::buffer::NlaBuffer;
 use crate::wire::fault::{
@@ -137,10 +139,12 @@ pub fn label_equality()
     ensures label { (a b : KindLabel) → IsTrue (⟦<KindLabel as PartialEq>⟧.eq a b) ↔ (label_of a ≡ label_of b) }
 {}
 
-/// Two values of `Width`, `Lengths`, `Layout` or `Part` are equal if and only if they are identical; two `Field`s, if and
-/// only if they have the same name, offset and part.
+/// Two values of `Width`, `Order`, `Role`, `Lengths`, `Layout` or `Part` are equal if and only if they are identical; two
+/// `Field`s, if and only if they have the same name, offset and part.
 pub fn layout_equality()
     ensures width { (a b : Width) → IsTrue (⟦<Width as PartialEq>⟧.eq a b) ↔ (a ≡ b) }
+    ensures order { (a b : Order) → IsTrue (⟦<Order as PartialEq>⟧.eq a b) ↔ (a ≡ b) }
+    ensures role { (a b : Role) → IsTrue (⟦<Role as PartialEq>⟧.eq a b) ↔ (a ≡ b) }
     ensures lengths { (a b : Lengths) → IsTrue (⟦<Lengths as PartialEq>⟧.eq a b) ↔ (a ≡ b) }
     ensures layout { (a b : Layout) → IsTrue (⟦<Layout as PartialEq>⟧.eq a b) ↔ (a ≡ b) }
     ensures part { (a b : Part) → IsTrue (⟦<Part as PartialEq>⟧.eq a b) ↔ (a ≡ b) }

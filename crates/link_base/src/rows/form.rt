@@ -94,6 +94,28 @@ impl Width {
     }
 }
 
+/// The order of the bytes of a number in a payload.
+#[derive(Clone, Copy, Debug, PartialEq, Eq)]
+pub enum Order {
+    /// The lowest byte first. The kernel sends numbers in the order of its machine, which has to be this one.
+    Little,
+    /// The highest byte first: network byte order (`__be16`, `__be32`, `__be64`).
+    Big,
+}
+
+/// What an unsigned number stands for.
+#[derive(Clone, Copy, Debug, PartialEq, Eq)]
+pub enum Role {
+    /// Itself.
+    Plain,
+    /// A constant of an enum of the kernel's headers, for which Rust has no enum. It may have no name.
+    Coded,
+    /// A variant of an enum. It may have no name.
+    Enum,
+    /// A set of flags: each bit is one.
+    Flags,
+}
+
 /// A fixed-layout struct of the kernel's headers.
 #[derive(Clone, Copy, Debug, PartialEq, Eq)]
 pub enum Layout {
@@ -142,16 +164,14 @@ pub enum Form {
     Nothing,
     /// A boolean.
     Bool,
-    /// An unsigned number.
-    Unsigned(Width),
-    /// The number of an enum of the kernel's headers, for which Rust has no enum.
-    Coded(Width),
+    /// An unsigned number, an enum or a set of flags.
+    Number {
+        width: Width,
+        order: Order,
+        role: Role,
+    },
     /// A signed number.
     Signed,
-    /// The number of an enum.
-    Enum(Width),
-    /// A set of flags.
-    Flags(Width),
     /// A set of flags of one byte, in two bytes.
     LowFlags,
     /// A set of flags, and a mask.
@@ -177,9 +197,13 @@ pub enum Form {
     /// The limits of a CAN controller.
     Limits,
     /// A list of addresses of `size` bytes each.
-    Addresses { size: usize },
+    Addresses {
+        size: usize,
+    },
     /// A nested list, and whether it is written with the nested flag.
-    List { flagged: bool },
+    List {
+        flagged: bool,
+    },
 }
 
 impl Form {
@@ -194,9 +218,7 @@ impl Form {
     {
         match self {
             Form::Bool => Lengths::Exactly(1),
-            Form::Unsigned(width) | Form::Coded(width) | Form::Enum(width) | Form::Flags(width) => {
-                Lengths::Exactly(width.size())
-            }
+            Form::Number { width, .. } => Lengths::Exactly(width.size()),
             Form::LowFlags | Form::Protocol => Lengths::Exactly(2),
             Form::Signed | Form::Ipv4 => Lengths::Exactly(4),
             Form::Mac => Lengths::Exactly(6),

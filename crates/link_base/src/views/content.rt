@@ -3,7 +3,7 @@
 ghost use Rattle.std.specs.Prelude.{◌≡◌};
 
 use crate::names::vlan_protocol::VlanProtocol;
-use crate::rows::form::{Form, Layout, Width};
+use crate::rows::form::{Form, Layout, Order, Role, Width};
 use crate::rows::label::KindLabel;
 use std::net::{Ipv4Addr, Ipv6Addr};
 
@@ -14,20 +14,22 @@ pub enum Content<'a> {
     Nothing,
     /// A boolean: true if the byte is not zero.
     Bool(bool),
-    /// An unsigned number.
-    Unsigned { number: u64, width: Width },
-    /// The number of an enum of the kernel's headers, for which Rust has no enum. It may have no name.
-    Coded { number: u64, width: Width },
+    /// An unsigned number, an enum or a set of flags, by its number.
+    Number {
+        number: u64,
+        width: Width,
+        order: Order,
+        role: Role,
+    },
     /// A signed number of four bytes.
     Signed(i32),
-    /// The number of an enum. It may have no name.
-    Enum { number: u64, width: Width },
-    /// A set of flags.
-    Flags { bits: u64, width: Width },
     /// A set of flags of one byte; the second byte of the payload is ignored.
     LowFlags(u8),
     /// A set of flags, and a mask.
-    MaskedFlags { flags: u32, mask: u32 },
+    MaskedFlags {
+        flags: u32,
+        mask: u32,
+    },
     /// Two consecutive `u32`s.
     Pair(u32, u32),
     /// A VLAN protocol.
@@ -41,19 +43,31 @@ pub enum Content<'a> {
     /// Bytes.
     Bytes(&'a [u8]),
     /// The bytes of a fixed-layout struct, without additional bytes of the payload.
-    Struct { layout: Layout, bytes: &'a [u8] },
+    Struct {
+        layout: Layout,
+        bytes: &'a [u8],
+    },
     /// The bytes of an array of little-endian `u16`s.
     U16s(&'a [u8]),
     /// The bytes of an array of little-endian `u32`s.
     U32s(&'a [u8]),
     /// The limits of a CAN controller: its name, which ends before the first NUL and may not be UTF-8, and the 32 bytes
     /// of the eight numbers, which are little-endian `u32`s.
-    Limits { name: &'a [u8], numbers: &'a [u8] },
+    Limits {
+        name: &'a [u8],
+        numbers: &'a [u8],
+    },
     /// The bytes of a list of attributes, each of which holds an address. Skip those whose payload is not `size` bytes
     /// long: they are not addresses.
-    Addresses { list: &'a [u8], size: usize },
+    Addresses {
+        list: &'a [u8],
+        size: usize,
+    },
     /// The bytes of a nested list, and whether it is written with the nested flag.
-    List { list: &'a [u8], flagged: bool },
+    List {
+        list: &'a [u8],
+        flagged: bool,
+    },
     /// The payload of an attribute whose type has no row. `Value::buffer` has its flags.
     Other(&'a [u8]),
 }
@@ -77,11 +91,13 @@ impl<'a> Content<'a> {
         Some(match *self {
             Content::Nothing => Form::Nothing,
             Content::Bool(_) => Form::Bool,
-            Content::Unsigned { width, .. } => Form::Unsigned(width),
-            Content::Coded { width, .. } => Form::Coded(width),
+            Content::Number {
+                width,
+                order,
+                role,
+                ..
+            } => Form::Number { width, order, role },
             Content::Signed(_) => Form::Signed,
-            Content::Enum { width, .. } => Form::Enum(width),
-            Content::Flags { width, .. } => Form::Flags(width),
             Content::LowFlags(_) => Form::LowFlags,
             Content::MaskedFlags { .. } => Form::MaskedFlags,
             Content::Pair(_, _) => Form::Pair,

@@ -3,11 +3,11 @@
 ghost use Rattle.std.specs.Prelude.{◌≡◌, option_map};
 ghost use Rattle.link_base.specs.Table.{form_at};
 ghost use Rattle.link_base.specs.Forms.{bytes_in, layout_extent};
-ghost use Rattle.link_base.specs.Viewed.{is_unsigned, is_struct};
+ghost use Rattle.link_base.specs.Viewed.{number_order, is_struct};
 
 use crate::classes::struct_class::PayloadStruct;
 use crate::classes::word::Word;
-use crate::rows::form::Form;
+use crate::rows::form::{Form, Order, Role};
 use crate::views::attribute_set::AttributeSet;
 use crate::views::view::Value;
 
@@ -69,19 +69,29 @@ impl<'a, S: AttributeSet> Value<'a, S> {
         ensures { option_map W.value result ≡ unsigned_in (bytes_in W.WIDTH)
             (form_at (S.rows (set_in self.now)) (kind_in self.now)) (payload_in self.now) }
     {
-        if has_number(self.content().form()) {
-            W::parse(self.buffer().value()).ok()
-        } else {
-            None
+        match number_order(self.content().form()) {
+            Some(Order::Little) => W::parse(self.buffer().value()).ok(),
+            Some(Order::Big) => W::parse_be(self.buffer().value()).ok(),
+            None => None,
         }
     }
 }
 
+/// Returns the order of bytes, if a form is that of numbers which stand for themselves or have no enum in Rust.
 #[inline]
-fn has_number(form: Option<Form>) -> bool
-    ensures { result ≡ is_unsigned form }
+fn number_order(form: Option<Form>) -> Option<Order>
+    ensures { result ≡ number_order form }
 {
-    matches!(form, Some(Form::Unsigned(_) | Form::Coded(_)))
+    match form {
+        Some(
+            Form::Number {
+                order,
+                role: Role::Plain | Role::Coded,
+                ..
+            },
+        ) => Some(order),
+        _ => None,
+    }
 }
 
 #[inline]

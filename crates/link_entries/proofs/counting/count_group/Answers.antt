@@ -1,6 +1,7 @@
 use Rattle.std.proofs.Common.{◌∷◌, length, refl, arith}
 use Rattle.link_base.specs.Viewed.{set_in, buffer_in}
-use Rattle.link_entries.specs.Flat.{HasContent, head_entry}
+use Rattle.link_base.specs.Borrowed.{HasContent}
+use Rattle.link_entries.specs.Flat.{head_entry}
 use Rattle.link_entries.proofs.counting.count_group.Goals as goal
 
 pub returns : goal.returns

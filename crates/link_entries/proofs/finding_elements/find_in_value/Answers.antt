@@ -6,7 +6,7 @@ use Rattle.link_base.specs.Viewed.{set_in, buffer_in}
 use Rattle.netlink_packet_route.specs.declared.viewing.FamilySet.{FamilySet}
 use Rattle.netlink_packet_route.specs.Family.{table_of}
 use Rattle.netlink_packet_route.specs.Views.{family_in}
-use Rattle.link_entries.specs.Flat.{HasContent}
+use Rattle.link_base.specs.Borrowed.{HasContent}
 use Rattle.link_entries.specs.Finding.{IsLastElement}
 use Rattle.link_entries.proofs.finding_elements.find_in_value.Goals as goal
 

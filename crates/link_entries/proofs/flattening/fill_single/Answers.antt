@@ -4,7 +4,8 @@ use Rattle.link_base.specs.Buffer.{kind_field_of}
 use Rattle.link_base.specs.Viewed.{buffer_in}
 use Rattle.link_entries.specs.declared.entry.Entry.{Entry}
 use Rattle.link_entries.specs.Content.{filled}
-use Rattle.link_entries.specs.Flat.{HasContent, head_entry}
+use Rattle.link_base.specs.Borrowed.{HasContent}
+use Rattle.link_entries.specs.Flat.{head_entry}
 use Rattle.link_entries.proofs.Groups.{group_single}
 use Rattle.link_entries.proofs.Shapes.{no_elements}
 use Rattle.link_entries.proofs.flattening.fill_single.Goals as goal

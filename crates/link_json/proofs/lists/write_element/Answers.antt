@@ -3,7 +3,7 @@ use Rattle.link_base.specs.Viewed.{buffer_in, set_in, kind_in}
 use Rattle.link_base.specs.Table.{label_at}
 use Rattle.netlink_packet_route.specs.Family.{table_of}
 use Rattle.netlink_packet_route.specs.Views.{elements_table}
-use Rattle.link_show.specs.List.{HasContent}
+use Rattle.link_base.specs.Borrowed.{HasContent}
 use Rattle.link_show.proofs.ValuePrinting.{elements_text}
 use Rattle.link_show.proofs.MessagePrinting.{family_has_texts}
 use Rattle.link_json.specs.Value.{attribute_json}

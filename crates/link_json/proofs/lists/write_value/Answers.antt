@@ -4,7 +4,7 @@ use Rattle.link_base.specs.Viewed.{buffer_in, set_in, kind_in}
 use Rattle.link_base.specs.Table.{label_at}
 use Rattle.netlink_packet_route.specs.Family.{table_of}
 use Rattle.netlink_packet_route.specs.Views.{family_in}
-use Rattle.link_show.specs.List.{HasContent}
+use Rattle.link_base.specs.Borrowed.{HasContent}
 use Rattle.link_show.proofs.MessagePrinting.{family_has_texts}
 use Rattle.link_json.specs.List.{ShowsKnown}
 use Rattle.link_json.specs.Value.{unnamed_json}

@@ -1,7 +1,7 @@
 use Rattle.std.proofs.Common.{◌≡◌, ◌++◌, ◌∷◌, [], ◌∙◌, subst, codes, arith}
 use Rattle.json.specs.Tree.{json_tokens}
 use Rattle.link_base.specs.Labels.{names_in}
-use Rattle.link_show.specs.Structs.{four_bytes}
+use Rattle.link_base.specs.Number.{four_bytes}
 use Rattle.link_json.specs.Value.{flags_json}
 use Rattle.link_json.proofs.Objects.{field_then, field_only, object_then}
 use Rattle.link_json.proofs.numbers.write_masked.Goals as goal

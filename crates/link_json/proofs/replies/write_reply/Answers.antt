@@ -1,9 +1,9 @@
-use Rattle.std.proofs.Common.{◌≡◌, ◌++◌, ◌∷◌, [], ◌∙◌, sym, ap, codes, if◌then◌else◌}
-use Rattle.std.proofs.lemmas.Bool.{cond-true, cond-false}
+use Rattle.std.proofs.Common.{◌≡◌, ◌++◌, ◌∷◌, [], ◌∙◌, sym, ap, codes}
+use Rattle.std.proofs.lemmas.Bool.{cond-true}
 use Rattle.link_json.specs.Doc.{fields_tokens}
 use Rattle.link_json.specs.Message.{fault_fields, reply_json, reply_fields}
 use Rattle.link_json.proofs.Loops.{on_ok}
-use Rattle.link_json.proofs.Objects.{fields_then, field_only, no_field}
+use Rattle.link_json.proofs.Objects.{fields_then, field_only}
 use Rattle.link_json.proofs.replies.write_reply.Goals as goal
 
 pub returns : goal.returns

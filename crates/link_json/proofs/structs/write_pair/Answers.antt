@@ -1,5 +1,5 @@
 use Rattle.std.proofs.Common.{◌≡◌, ◌++◌, ◌∷◌, [], ◌∙◌, subst, codes, arith}
-use Rattle.link_show.specs.Structs.{four_bytes}
+use Rattle.link_base.specs.Number.{four_bytes}
 use Rattle.link_json.specs.Doc.{fields_tokens, number_json}
 use Rattle.link_json.proofs.Objects.{fields_then, object_then}
 use Rattle.link_json.proofs.structs.write_pair.Goals as goal

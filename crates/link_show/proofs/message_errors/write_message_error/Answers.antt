@@ -1,4 +1,4 @@
-use Rattle.std.proofs.Common.{◌++◌, subst, OnOk, codes, refl}
+use Rattle.std.proofs.Common.{◌++◌, subst, codes, refl}
 use Rattle.std.specs.Fmt.{decimal}
 use Rattle.link_show.specs.Sink.{Gains}
 use Rattle.link_show.specs.Message.{message_error_line}

@@ -1,7 +1,6 @@
-use Rattle.std.proofs.Common.{[], sym, subst, ◌∙◌, OnOk}
+use Rattle.std.proofs.Common.{sym, subst, ◌∙◌, OnOk}
 use Rattle.std.proofs.lemmas.Bool.{cond-true, cond-false}
 use Rattle.link_show.specs.Sink.{Gains}
-use Rattle.link_show.specs.Message.{result_line, outcome_line}
 use Rattle.link_show.proofs.replies.write_outcome.Goals as goal
 
 pub returns-then-has_result : goal.returns-then-has_result

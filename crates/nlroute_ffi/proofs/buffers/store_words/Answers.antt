@@ -1,4 +1,4 @@
-use Rattle.std.proofs.Common.{sym, ◌∙◌, length, arith}
+use Rattle.std.proofs.Common.{sym, ◌∙◌, arith}
 use Rattle.std.proofs.lemmas.Bool.{eqb-true, eqb-false}
 use Rattle.nlroute_ffi.proofs.CutTexts.{cut_stored, cut_nothing}
 use Rattle.nlroute_ffi.proofs.buffers.store_words.Goals as goal

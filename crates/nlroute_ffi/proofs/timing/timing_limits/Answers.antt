@@ -1,4 +1,4 @@
-use Rattle.std.proofs.Common.{◌≡◌, ◌∙◌, refl, sym, ap, ap₂, take, slice_index_or}
+use Rattle.std.proofs.Common.{◌∙◌, refl, sym, ap, ap₂, take, slice_index_or}
 use Rattle.link_base.specs.declared.rows.form.Form.TheVariants as forms
 use Rattle.link_base.specs.Name.{before_nul}
 use Rattle.link_entries.specs.Entry.{padded}
