@@ -1,5 +1,5 @@
 -- What the program does with its inputs.
-use Rattle.std.specs.Prelude.{◌≡◌, ◌<◌, ◌≤◌, ℕ, max, Bool, true, not, ◌&&◌, ◌==◌, List, [], ◌∷◌, ◌++◌, Option, Some, codes}
+use Rattle.std.specs.Prelude.{◌≡◌, ◌<◌, ◌≤◌, ℕ, max, Bool, true, not, ◌&&◌, ◌==◌, List, [], ◌∷◌, ◌++◌, Option, Some, None, codes}
 use Rattle.std.specs.Io.KnownBytes.{Appends}
 use Rattle.link_show.specs.Quoted.{quoted}
 use Rattle.program.specs.Printing.{PrintsOrFails, no_memory_line, read_fault_line}
@@ -54,3 +54,25 @@ pub data RunsFile (output : Output) (raw : Bool) (name : List ℕ) (held_before 
 -- whether the file after one with this exit status is read: not after a failed allocation, or when the writer has failed
 abbrev pub goes_on : ℕ → Bool → Bool
 goes_on status failed = not (status == 4) && not failed
+
+-- the files with these names were run on, each but the last so that the next is read; `status` is the greatest of their exit
+-- statuses, and `more` says whether another one would be read
+pub data RunsFiles (output : Output) (raw : Bool) : List (List ℕ) → ℕ → Bool → Type 0 where
+  NoFile : (names : List (List ℕ)) (status : ℕ) (more : Bool) → names ≡ [] → status ≡ 0 → more ≡ true → RunsFiles output raw names status more
+  OneMore : (names : List (List ℕ)) (status : ℕ) (more : Bool) (front : List (List ℕ)) (name : List ℕ) (held_before held_after : Option (List ℕ)) (greatest last : ℕ) (failed : Bool) → RunsFiles output raw front greatest true → names ≡ front ++ name ∷ []
+      → RunsFile output raw name held_before held_after failed last → status ≡ max greatest last → more ≡ goes_on last failed → RunsFiles output raw names status more
+
+-- the first files of a task were run on, and all of them, unless one of them ended the run
+pub record RunsTask (output : Output) (raw : Bool) (names : List (List ℕ)) (status : ℕ) : Type 0 where
+  pub done : List (List ℕ)
+  pub rest : List (List ℕ)
+  pub more : Bool
+  pub all : names ≡ done ++ rest
+  pub ran : RunsFiles output raw done status more
+  pub ended : more ≡ true → rest ≡ []
+
+-- a task without files: standard input
+pub record RunsInput (output : Output) (raw : Bool) (held_before held_after : Option (List ℕ)) (failed : Bool) (status : ℕ) : Type 0 where
+  pub left_before : Option (List ℕ)
+  pub left_after : Option (List ℕ)
+  pub ran : RunsOn output None raw left_before left_after held_before held_after failed status

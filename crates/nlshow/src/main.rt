@@ -15,12 +15,12 @@
 #[cfg(test)]
 mod tests;
 
-ghost use Rattle.std.specs.Prelude.{◌≡◌, ◌≢◌, ◌∷◌, ◌++◌, [], IfOk, MatchOption, OnOk, codes};
+ghost use Rattle.std.specs.Prelude.{◌≡◌, ◌≢◌, ◌∷◌, ◌++◌, [], IfOk, MatchOption, OnOk, codes, map, string_bytes};
 ghost use Rattle.std.specs.Option.{option_copied};
 ghost use Rattle.std.specs.Io.Buffered.{writer_buffer, writer_inner};
 ghost use Rattle.std.specs.Io.KnownBytes.{Appends};
 ghost use Rattle.link_show.specs.Quoted.{quoted};
-ghost use Rattle.nlshow.specs.Runs.{IsText, IsUnopened, RunsFile, RunsOn, goes_on, name_line};
+ghost use Rattle.nlshow.specs.Runs.{IsText, IsUnopened, RunsFile, RunsInput, RunsOn, RunsTask, goes_on, name_line};
 ghost use Rattle.program.specs.Printing.{PrintsOrFails, PrintsOrEnds, no_memory_line};
 ghost use Rattle.program.specs.UntilEnd.{left_of};
 ghost use Rattle.program.specs.Watched.{given, has_failed, passed_on};
@@ -104,7 +104,11 @@ fn run_task<R: Files + Input + AllocGlobal, W: Write + Drop>(
     rt: &R,
     task: &Task,
     writer: &mut BufWriter<Watched<W>>,
-) -> u8 {
+) -> u8
+    ensures input { task.now.files.items ≡ [] → RunsInput task.now.output task.now.raw (given W.contents writer.old)
+        (passed_on W.contents writer.new) (has_failed (writer_inner writer.new)) result }
+    ensures files { task.now.files.items ≢ [] → RunsTask task.now.output task.now.raw (map string_bytes task.now.files.items) result }
+{
     if task.files.is_empty() {
         return run_on(
             rt.alloc(),
