@@ -1,7 +1,7 @@
 //! Compares attributes of a view with their values.
 
 use crate::{COUNT, FORM, FOUND, LABEL, NO_MEMORY, NUMBER, VALUE, expect};
-use link_base::rows::form::Width;
+use link_base::rows::form::{Role, Width};
 use link_base::views::attribute_set::AttributeSet;
 use link_base::views::content::Content;
 use link_base::views::view::{Value, View};
@@ -52,7 +52,7 @@ pub(crate) fn is_viewed<S: AttributeSet, E: Attribute>(
 /// Checks the numbers of an attribute: there is one if and only if the content is an unsigned number of this width.
 fn are_numbers<S: AttributeSet>(item: &Value<'_, S>, content: Content<'_>) -> bool {
     let of_width = |size: Width| match content {
-        Content::Unsigned { number, width } | Content::Coded { number, width } if width == size => Some(number),
+        Content::Number { number, width, role: Role::Plain | Role::Coded, .. } if width == size => Some(number),
         _ => None,
     };
     item.as_u8().map(u64::from) == of_width(Width::One)
