@@ -1,12 +1,10 @@
 -- What the row of an attribute type says of it.
 use Rattle.std.proofs.Common.{◌≡◌, ℕ, List, Option, Some, None, option_map, refl, sym, ap, subst, ◌∙◌}
 use Rattle.std.specs.Prelude.{Ok, Result}
-use Rattle.link_base.specs.declared.views.content.Content.{Content as Borrowed}
 use Rattle.link_base.specs.declared.wire.fault.DecodeFault.{DecodeFault}
 use Rattle.link_base.specs.Frame.{kind_of}
 use Rattle.link_base.specs.Table.{Row, Shape, Table, row_at, class_at, form_at, label_at, label_by, Gives, GivesBy, ShapeGives, Other}
 use Rattle.link_base.specs.Checked.{Checks}
-use Rattle.link_base.specs.Borrowed.{Borrows, form_of, elements_by, elements_at}
 
 -- ---- a row
 
@@ -40,16 +38,3 @@ checks_row table k f p result r row same h =
 pub checks_none : (table : Table) (k f : ℕ) (p : List ℕ) → row_at table k ≡ None → kind_of f ≡ k → Gives table f p (Ok (Other f p))
 checks_none table k f p row same =
     subst (λ (o : Option Shape). GivesBy o f p (Ok (Other f p))) (sym (ap (class_at table) same ∙ class_of_none table k row)) refl
-
-pub borrows_row : (table : Table) (k f : ℕ) (p : List ℕ) (content : Borrowed) (r : Row Shape) → row_at table k ≡ Some r → kind_of f ≡ k → Borrows (Some r.class) p content → form_of content ≡ Some r.form
-    → Borrows (class_at table (kind_of f)) p content × (form_of content ≡ form_at table (kind_of f))
-borrows_row table k f p content r row same h e = (
-  subst (λ (o : Option Shape). Borrows o p content) (sym (ap (class_at table) same ∙ class_of_row table k r row)) h,
-  e ∙ sym (ap (form_at table) same ∙ form_of_row table k r row),
-)
-
-pub by_row : (Holds : Option (Row Shape) → Type 0) (table : Table) (k f : ℕ) (row : Option (Row Shape)) → row_at table k ≡ row → kind_of f ≡ k → Holds row → Holds (row_at table (kind_of f))
-by_row Holds table k f row e same h = subst Holds (sym (ap (row_at table) same ∙ e)) h
-
-pub elements_of_row : (table : Table) (k : ℕ) (r : Row Shape) → row_at table k ≡ Some r → elements_at table k ≡ elements_by (Some r.class)
-elements_of_row table k r row = ap elements_by (class_of_row table k r row)

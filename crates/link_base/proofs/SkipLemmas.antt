@@ -2,8 +2,6 @@
 use Rattle.std.proofs.Common.{◌≡◌, ◌≢◌, ℕ, ◌+◌, ◌≤◌, true, false, List, [], ◌∷◌, ◌++◌, length, take, drop, suc, Option, Some, None, Result, Ok, refl, sym, ap, subst, ◌∙◌, arith}
 use Rattle.std.specs.List.{AllZip}
 use Rattle.std.proofs.lemmas.List.{length-append, length-take}
-use Rattle.link_base.specs.declared.views.content.Content.{Content as Borrowed}
-use Rattle.link_base.specs.declared.views.content.Content.TheVariants as borrowed
 use Rattle.link_base.specs.declared.wire.fault.Cause.{Cause}
 use Rattle.link_base.specs.declared.wire.fault.DecodeFault.{DecodeFault}
 use Rattle.link_base.specs.Class.{Class, Value, extent, length_cause, unless, meant}
@@ -14,7 +12,6 @@ use Rattle.link_base.specs.Wire.{Reading, FrameGives}
 use Rattle.link_base.specs.Table.{Rows, Shape, One, Nested, Addresses, Table, AttrValue, Other, Gives, GivesBy, class_at, single_case}
 use Rattle.link_base.specs.Default.{default_table}
 use Rattle.link_base.specs.Lift.{lift_table}
-use Rattle.link_base.specs.Borrowed.{Borrows, SaysList, SaysAddresses, is_list}
 use Rattle.link_base.specs.Checked.{Passes, Settles}
 use Rattle.link_base.proofs.Lifted.{lift_option, class_at-lift}
 use Rattle.link_base.proofs.Checks.{accepted_one}
@@ -73,77 +70,35 @@ module _ {V : Type 0} (gives : Reading V) (s : List ℕ) where
 
 -- ---- attributes that settle others
 
--- a content that is a nested list
-list_told : (content : Borrowed) (p : List ℕ) → SaysList content p → is_list content ≡ true
-list_told (borrowed.List l flagged) p h = refl
-list_told (borrowed.Addresses l size) p h = refl
-list_told borrowed.Nothing p h = elim h [ ]
-list_told (borrowed.Bool b) p h = elim h [ ]
-list_told (borrowed.Number x w order role) p h = elim h [ ]
-list_told (borrowed.Signed z) p h = elim h [ ]
-list_told (borrowed.LowFlags b) p h = elim h [ ]
-list_told (borrowed.MaskedFlags flags mask) p h = elim h [ ]
-list_told (borrowed.Pair a b) p h = elim h [ ]
-list_told (borrowed.Protocol v) p h = elim h [ ]
-list_told (borrowed.Mac a) p h = elim h [ ]
-list_told (borrowed.Ipv4 a) p h = elim h [ ]
-list_told (borrowed.Ipv6 a) p h = elim h [ ]
-list_told (borrowed.Bytes b) p h = elim h [ ]
-list_told (borrowed.Struct layout b) p h = elim h [ ]
-list_told (borrowed.U16s b) p h = elim h [ ]
-list_told (borrowed.U32s b) p h = elim h [ ]
-list_told (borrowed.Limits name numbers) p h = elim h [ ]
-list_told (borrowed.Other b) p h = elim h [ ]
-
--- a content that is a list of addresses
-addresses_told : (content : Borrowed) (n : ℕ) (p : List ℕ) → SaysAddresses content n p → is_list content ≡ true
-addresses_told (borrowed.List l flagged) n p h = refl
-addresses_told (borrowed.Addresses l size) n p h = refl
-addresses_told borrowed.Nothing n p h = elim h [ ]
-addresses_told (borrowed.Bool b) n p h = elim h [ ]
-addresses_told (borrowed.Number x w order role) n p h = elim h [ ]
-addresses_told (borrowed.Signed z) n p h = elim h [ ]
-addresses_told (borrowed.LowFlags b) n p h = elim h [ ]
-addresses_told (borrowed.MaskedFlags flags mask) n p h = elim h [ ]
-addresses_told (borrowed.Pair a b) n p h = elim h [ ]
-addresses_told (borrowed.Protocol v) n p h = elim h [ ]
-addresses_told (borrowed.Mac a) n p h = elim h [ ]
-addresses_told (borrowed.Ipv4 a) n p h = elim h [ ]
-addresses_told (borrowed.Ipv6 a) n p h = elim h [ ]
-addresses_told (borrowed.Bytes b) n p h = elim h [ ]
-addresses_told (borrowed.Struct layout b) n p h = elim h [ ]
-addresses_told (borrowed.U16s b) n p h = elim h [ ]
-addresses_told (borrowed.U32s b) n p h = elim h [ ]
-addresses_told (borrowed.Limits name numbers) n p h = elim h [ ]
-addresses_told (borrowed.Other b) n p h = elim h [ ]
-
 by_cause : (o : Option Cause) (k : ℕ) (w : Value) (v : AttrValue) → ok v ≡ single_case k (unless o w) → o ≡ None
 by_cause None k w v e = refl
 by_cause (Some c) k w v e = absurd cc
 
-settled_by : (o : Option Shape) (f : ℕ) (p : List ℕ) (content : Borrowed) → (v : AttrValue) × GivesBy o f p (Ok v) → Borrows o p content → is_list content ≡ false
+-- no list
+abbrev pub IsNoList : Option Shape → Type 0
+IsNoList None = Unit {0}
+IsNoList (Some (One c)) = Unit {0}
+IsNoList (Some shape) = ⊥
+
+settled_by : (o : Option Shape) (f : ℕ) (p : List ℕ) → IsNoList o → (v : AttrValue) × GivesBy o f p (Ok v)
     → (q : List ℕ) → length q ≡ length p → (v : AttrValue) × GivesBy o f q (Ok v)
-settled_by None f p content given h single q same = (Other f q, refl)
-settled_by (Some (One c)) f p content given h single q same = accepted_one c (kind_of f) q (ap (λ n. length_cause (extent c) n) same ∙ by_cause (length_cause (extent c) (length p)) (kind_of f) (meant c p) given.0 given.1)
-settled_by (Some (Nested flagged rows)) f p content given h single q same = let told = list_told content p h in absurd cc
-settled_by (Some (Addresses n)) f p content given h single q same = let told = addresses_told content n p h in absurd cc
+settled_by None f p h given q same = (Other f q, refl)
+settled_by (Some (One c)) f p h given q same = accepted_one c (kind_of f) q (ap (λ n. length_cause (extent c) n) same ∙ by_cause (length_cause (extent c) (length p)) (kind_of f) (meant c p) given.0 given.1)
+settled_by (Some shape) f p h given q same = absurd h
 
 -- an attribute that decodes and is no list settles those of its type and length
-pub settled : (table : Table) (f : ℕ) (p : List ℕ) (content : Borrowed) → (v : AttrValue) × Gives table f p (Ok v) → Borrows (class_at table (kind_of f)) p content → is_list content ≡ false
-    → Settles (Gives table) f (length p)
-settled table f p content given h single q same = settled_by (class_at table (kind_of f)) f p content given h single q same
+pub settled : (table : Table) (f : ℕ) (p : List ℕ) → IsNoList (class_at table (kind_of f)) → (v : AttrValue) × Gives table f p (Ok v) → Settles (Gives table) f (length p)
+settled table f p h given q same = settled_by (class_at table (kind_of f)) f p h given q same
 
-leaf_settled_by : (o : Option Class) (f : ℕ) (p : List ℕ) → (v : AttrValue) × GivesBy (lift_option o) f p (Ok v)
-    → (q : List ℕ) → length q ≡ length p → (v : AttrValue) × GivesBy (lift_option o) f q (Ok v)
-leaf_settled_by None f p given q same = (Other f q, refl)
-leaf_settled_by (Some c) f p given q same = accepted_one c (kind_of f) q (ap (λ n. length_cause (extent c) n) same ∙ by_cause (length_cause (extent c) (length p)) (kind_of f) (meant c p) given.0 given.1)
+no_lists : (o : Option Class) → IsNoList (lift_option o)
+no_lists None = tt
+no_lists (Some c) = tt
 
 -- so does any that decodes, in a table without lists
 pub leaf_settled : (table : Table) (rows : Rows) (f : ℕ) (p : List ℕ) → table ≡ lift_table rows → (v : AttrValue) × Gives table f p (Ok v) → Settles (Gives table) f (length p)
 leaf_settled table rows f p is given =
     let known : class_at table (kind_of f) ≡ lift_option (class_at rows (kind_of f)) = ap (λ t. class_at t (kind_of f)) is ∙ class_at-lift rows (kind_of f) in
-    subst (λ (o : Option Shape). (q : List ℕ) → length q ≡ length p → (v : AttrValue) × GivesBy o f q (Ok v)) (sym known)
-    (leaf_settled_by (class_at rows (kind_of f)) f p (subst (λ (o : Option Shape). (v : AttrValue) × GivesBy o f p (Ok v)) known given))
+    settled table f p (subst IsNoList (sym known) (no_lists (class_at rows (kind_of f)))) given
 
 -- any attribute without a row decodes
 pub settled_any : (f n : ℕ) → Settles (Gives default_table) f n

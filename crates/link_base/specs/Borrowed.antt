@@ -5,13 +5,14 @@ use Rattle.link_base.specs.declared.views.content.Content.TheVariants as borrowe
 use Rattle.link_base.specs.declared.wire.buffer.NlaBuffer.{NlaBuffer}
 use Rattle.link_base.specs.declared.rows.form.Form.{Form}
 use Rattle.link_base.specs.declared.rows.form.Form.TheVariants as forms
-use Rattle.link_base.specs.Class.{Value, Limits, Number, Integer, Boolean, Raw, Name, Unlisted, EtherType, LowByte, Nothing, extent, length_cause, meant}
+use Rattle.link_base.specs.Class.{Value, Limits, Number, Integer, Boolean, Raw, Name, Unlisted, EtherType, LowByte, Nothing, meant}
 use Rattle.link_base.specs.declared.rows.form.Order.{Order}
 use Rattle.link_base.specs.declared.rows.form.Order.TheVariants as orders
 use Rattle.link_base.specs.declared.rows.form.Role.{Role}
 use Rattle.link_base.specs.declared.rows.form.Role.TheVariants as roles
 use Rattle.link_base.specs.Number.{bytes_be, bound}
 use Rattle.link_base.specs.Forms.{bytes_in}
+use Rattle.link_base.specs.Payloads.{class_by}
 use Rattle.link_base.specs.IpAddress.{four_octets, sixteen_octets}
 use Rattle.link_base.specs.Layout.{octets_of}
 use Rattle.link_base.specs.Name.{before_nul}
@@ -79,6 +80,12 @@ Borrows (Some (One c)) p content = Says content (meant c p)
 Borrows (Some (Nested flagged rows)) p content = SaysList content p
 Borrows (Some (Addresses n)) p content = SaysAddresses content n p
 
+-- what is borrowed from a payload that decodes, by the form of its attribute type
+abbrev pub BorrowsBy : Form → List ℕ → Borrowed → Type 0
+BorrowsBy (forms.List flagged) p content = SaysList content p
+BorrowsBy (forms.Addresses n) p content = SaysAddresses content n p
+BorrowsBy form p content = (names : List (ℕ × List ℕ)) → Borrows (Some (One (class_by form names))) p content
+
 -- the form of a borrowed content; none for that of an attribute without a row
 abbrev pub form_of : Borrowed → Option Form
 form_of borrowed.Nothing = Some forms.Nothing
@@ -100,17 +107,6 @@ form_of (borrowed.Limits name numbers) = Some forms.Limits
 form_of (borrowed.Addresses list size) = Some (forms.Addresses size)
 form_of (borrowed.List list flagged) = Some (forms.List flagged)
 form_of (borrowed.Other p) = None
-
--- a borrowed content is a nested list, or a list of addresses
-abbrev pub is_list : Borrowed → Bool
-is_list (borrowed.List list flagged) = true
-is_list (borrowed.Addresses list size) = true
-is_list content = false
-
--- a payload of this shape decodes, as far as its length tells; a list does if its elements do
-abbrev pub IsAccepted : Shape → List ℕ → Type 0
-IsAccepted (One c) p = length_cause (extent c) (length p) ≡ None
-IsAccepted shape p = Unit {0}
 
 -- the attribute decodes to a value
 abbrev pub HasValue : Table → ℕ → List ℕ → Type 0

@@ -30,7 +30,6 @@ pub mod FrameTableParts
 pub mod Lift
 pub mod Borrowed
 pub mod Labels
-pub mod Known
 pub mod Equality
 pub mod OneForm
 pub mod DefaultLawful

@@ -22,7 +22,6 @@ pub use fail_over_mac::BondFailOverMac;
 pub use lacp_rate::BondLacpRate;
 use link_base::rows::by_rows::{self, AttributeRows, RowVisitor};
 use link_base::rows::label::KindLabel;
-use link_base::views::content::{Content, Known};
 use link_base::{
     AddressList, Attribute, DecodeError, DecodeFault, DefaultNla, Meaning, Named, NestedList, Nla,
     NlaBuffer, Parseable, Place, TryClone,
@@ -224,16 +223,6 @@ impl Attribute for InfoBond {
     #[inline(always)]
     fn check(buffer: &NlaBuffer<'_>) -> Result<(), DecodeFault> {
         by_rows::check::<Self>(buffer)
-    }
-
-    #[inline(always)]
-    fn borrow<'a>(list: Option<u16>, buffer: &NlaBuffer<'a>) -> Content<'a> {
-        by_rows::borrow::<Self>(list, buffer)
-    }
-
-    #[inline(always)]
-    fn known<'a>(list: Option<u16>, buffer: &NlaBuffer<'a>) -> Known<'a> {
-        by_rows::known::<Self>(list, buffer)
     }
 
     #[inline(always)]

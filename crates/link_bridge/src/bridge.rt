@@ -10,7 +10,6 @@ use crate::bridge_boolopt::BridgeBooleanOptions;
 pub use id::{BridgeId, BridgeIdBuffer};
 use link_base::rows::by_rows::{self, AttributeRows, RowVisitor};
 use link_base::rows::label::KindLabel;
-use link_base::views::content::{Content, Known};
 use link_base::{
     Attribute, DecodeError, DecodeFault, DefaultNla, Meaning, Named, NestedList, Nla, NlaBuffer,
     Parseable, Place, Struct, TryClone, VlanProtocol,
@@ -266,16 +265,6 @@ impl Attribute for InfoBridge {
     #[inline(always)]
     fn check(buffer: &NlaBuffer<'_>) -> Result<(), DecodeFault> {
         by_rows::check::<Self>(buffer)
-    }
-
-    #[inline(always)]
-    fn borrow<'a>(list: Option<u16>, buffer: &NlaBuffer<'a>) -> Content<'a> {
-        by_rows::borrow::<Self>(list, buffer)
-    }
-
-    #[inline(always)]
-    fn known<'a>(list: Option<u16>, buffer: &NlaBuffer<'a>) -> Known<'a> {
-        by_rows::known::<Self>(list, buffer)
     }
 
     #[inline(always)]

@@ -8,7 +8,6 @@ ghost use Rattle.link_bridge.specs.ProtoInfo.{proto_info_table, proto_info_means
 
 use link_base::rows::by_rows::{self, AttributeRows, RowVisitor};
 use link_base::rows::label::KindLabel;
-use link_base::views::content::{Content, Known};
 use link_base::{
     Attribute, DecodeError, DecodeFault, DefaultNla, ListError, Meaning, Nla, NlaBuffer, Parseable,
     Place, TryClone, read_list,
@@ -107,16 +106,6 @@ impl Attribute for LinkProtoInfoBridge {
     #[inline(always)]
     fn check(buffer: &NlaBuffer<'_>) -> Result<(), DecodeFault> {
         by_rows::check::<Self>(buffer)
-    }
-
-    #[inline(always)]
-    fn borrow<'a>(list: Option<u16>, buffer: &NlaBuffer<'a>) -> Content<'a> {
-        by_rows::borrow::<Self>(list, buffer)
-    }
-
-    #[inline(always)]
-    fn known<'a>(list: Option<u16>, buffer: &NlaBuffer<'a>) -> Known<'a> {
-        by_rows::known::<Self>(list, buffer)
     }
 
     #[inline(always)]

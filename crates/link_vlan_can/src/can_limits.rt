@@ -187,14 +187,6 @@ impl PayloadClass for CanBitTimingConst {
     }
 
     #[inline]
-    fn borrow<'a>(payload: &'a [u8]) -> Content<'a> {
-        Content::Limits {
-            name: before_nul(&payload[..NAME]),
-            numbers: &payload[NAME..48],
-        }
-    }
-
-    #[inline]
     fn size(_limits: &Self) -> usize {
         48
     }

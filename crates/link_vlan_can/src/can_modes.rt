@@ -7,7 +7,6 @@ ghost use Rattle.link_vlan_can.specs.Can.{mode_rows, mode_leaf};
 use crate::can_flags::CanCtrlModeFlags;
 use link_base::rows::by_rows::{self, AttributeRows, RowVisitor};
 use link_base::rows::label::KindLabel;
-use link_base::views::content::{Content, Known};
 use link_base::{
     Attribute, DecodeError, DecodeFault, DefaultNla, FlagBits, Meaning, NestedAttribute, Nla,
     NlaBuffer, Parseable, Place, TryClone,
@@ -84,16 +83,6 @@ impl Attribute for CanCtrlModeExt {
     #[inline(always)]
     fn check(buffer: &NlaBuffer<'_>) -> Result<(), DecodeFault> {
         by_rows::check::<Self>(buffer)
-    }
-
-    #[inline]
-    fn borrow<'a>(list: Option<u16>, buffer: &NlaBuffer<'a>) -> Content<'a> {
-        by_rows::borrow::<Self>(list, buffer)
-    }
-
-    #[inline]
-    fn known<'a>(list: Option<u16>, buffer: &NlaBuffer<'a>) -> Known<'a> {
-        by_rows::known::<Self>(list, buffer)
     }
 
     #[inline(always)]

@@ -4,7 +4,6 @@ ghost use Rattle.link_vlan_can.specs.Dsa.{dsa_table, dsa_means};
 
 use link_base::rows::by_rows::{self, AttributeRows, RowVisitor};
 use link_base::rows::label::KindLabel;
-use link_base::views::content::{Content, Known};
 use link_base::{
     Attribute, DecodeError, DecodeFault, DefaultNla, Meaning, Nla, NlaBuffer, Parseable, Place,
     TryClone,
@@ -82,16 +81,6 @@ impl Attribute for InfoDsa {
     #[inline(always)]
     fn check(buffer: &NlaBuffer<'_>) -> Result<(), DecodeFault> {
         by_rows::check::<Self>(buffer)
-    }
-
-    #[inline(always)]
-    fn borrow<'a>(list: Option<u16>, buffer: &NlaBuffer<'a>) -> Content<'a> {
-        by_rows::borrow::<Self>(list, buffer)
-    }
-
-    #[inline(always)]
-    fn known<'a>(list: Option<u16>, buffer: &NlaBuffer<'a>) -> Known<'a> {
-        by_rows::known::<Self>(list, buffer)
     }
 
     #[inline(always)]

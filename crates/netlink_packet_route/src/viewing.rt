@@ -1,11 +1,9 @@
 //! Views of the lists of a `Family`: their attributes, without values.
 
 ghost use Rattle.std.specs.Prelude.{◌≡◌, IfOk};
-ghost use Rattle.link_base.specs.Frame.{kind_of};
-ghost use Rattle.link_base.specs.Table.{Gives, class_at, form_at, label_at, row_at};
+ghost use Rattle.link_base.specs.Table.{Gives, class_at, label_at};
 ghost use Rattle.link_base.specs.Buffer.{kind_field_of, payload_of};
-ghost use Rattle.link_base.specs.Borrowed.{HasValue, Borrows, form_of, table_within};
-ghost use Rattle.link_base.specs.Known.{Knows};
+ghost use Rattle.link_base.specs.Borrowed.{table_within};
 ghost use Rattle.link_base.specs.Checked.{Checks};
 ghost use Rattle.link_base.specs.Labels.{label_in};
 ghost use Rattle.link_base.specs.Viewed.{kind_in, payload_in, set_in, set_of, all_set_of, ViewsList, ViewsElements, IsAllOf};
@@ -17,7 +15,6 @@ use crate::counting::count_values;
 use crate::family::Family;
 use link_base::rows::label::KindLabel;
 use link_base::views::attribute_set::{AttributeSet, CheckedSet};
-use link_base::views::content::{Content, Known};
 use link_base::views::view::{Value, View};
 use link_base::views::view_all::ViewAll;
 use link_base::{Attribute, DecodeFault, ListFault, NlaBuffer};
@@ -42,15 +39,9 @@ impl AttributeSet for FamilySet {
     ghost rows = { λ set. table_of (family_in set) };
 
     #[inline(always)]
-    fn borrow<'a>(&self, buffer: &NlaBuffer<'a>) -> Content<'a> {
-        by_family!(self.family, borrow_as(None, buffer))
-    }
+    fn well_formed(&self) {}
 
     #[inline(always)]
-    fn known<'a>(&self, buffer: &NlaBuffer<'a>) -> Known<'a> {
-        by_family!(self.family, known_as(None, buffer))
-    }
-
     fn label(&self, kind: u16) -> Option<KindLabel> {
         by_family!(self.family, label_as(None, kind))
     }
@@ -66,15 +57,9 @@ impl AttributeSet for FamilyElements {
     ghost rows = { elements_table };
 
     #[inline(always)]
-    fn borrow<'a>(&self, buffer: &NlaBuffer<'a>) -> Content<'a> {
-        by_family!(self.family, borrow_as(Some(self.list), buffer))
-    }
+    fn well_formed(&self) {}
 
     #[inline(always)]
-    fn known<'a>(&self, buffer: &NlaBuffer<'a>) -> Known<'a> {
-        by_family!(self.family, known_as(Some(self.list), buffer))
-    }
-
     fn label(&self, kind: u16) -> Option<KindLabel> {
         by_family!(self.family, label_as(Some(self.list), kind))
     }
@@ -112,25 +97,6 @@ pub fn view_elements<'a>(value: &Value<'a, FamilySet>) -> Option<View<'a, Family
         family: value.set().family,
         list: value.kind(),
     })
-}
-
-#[inline(always)]
-fn borrow_as<'a, F: Attribute>(list: Option<u16>, buffer: &NlaBuffer<'a>) -> Content<'a>
-    requires { HasValue (table_within F.table list) (kind_field_of buffer.now) (payload_of buffer.now) }
-    ensures content { Borrows (class_at (table_within F.table list) (kind_of (kind_field_of buffer.now)))
-        (payload_of buffer.now) result }
-    ensures form { form_of result ≡ form_at (table_within F.table list) (kind_of (kind_field_of buffer.now)) }
-{
-    F::borrow(list, buffer)
-}
-
-#[inline(always)]
-fn known_as<'a, F: Attribute>(list: Option<u16>, buffer: &NlaBuffer<'a>) -> Known<'a>
-    requires { HasValue (table_within F.table list) (kind_field_of buffer.now) (payload_of buffer.now) }
-    ensures { Knows (row_at (table_within F.table list) (kind_of (kind_field_of buffer.now)))
-        (payload_of buffer.now) result }
-{
-    F::known(list, buffer)
 }
 
 #[inline(always)]

@@ -9,7 +9,7 @@ ghost use Rattle.uses.specs.Reading.{IsLastNumber};
 
 use netlink_packet_route::implementing::by_rows::{self, AttributeRows, RowVisitor};
 use netlink_packet_route::implementing::{
-    Attribute, Content, DecodeError, DecodeFault, DefaultNla, KindLabel, Known, Meaning, Nla,
+    Attribute, DecodeError, DecodeFault, DefaultNla, KindLabel, Meaning, Nla,
     NlaBuffer, Parseable, Place, TryClone,
 };
 use netlink_packet_route::link::ListFault;
@@ -88,16 +88,6 @@ impl Attribute for InfoIpvlan {
 
     fn check(buffer: &NlaBuffer<'_>) -> Result<(), DecodeFault> {
         by_rows::check::<Self>(buffer)
-    }
-
-    #[inline(always)]
-    fn borrow<'a>(list: Option<u16>, buffer: &NlaBuffer<'a>) -> Content<'a> {
-        by_rows::borrow::<Self>(list, buffer)
-    }
-
-    #[inline(always)]
-    fn known<'a>(list: Option<u16>, buffer: &NlaBuffer<'a>) -> Known<'a> {
-        by_rows::known::<Self>(list, buffer)
     }
 
     #[inline(always)]

@@ -13,7 +13,6 @@ use crate::classes::word::Word;
 use crate::names::flag_laws::FlagSet;
 use crate::rows::form::{Form, Order, Role};
 use crate::rows::label::Name;
-use crate::views::content::Content;
 use std::marker::PhantomData;
 
 /// Payloads that are an unsigned number in network byte order, such as a port (`__be16`).
@@ -45,17 +44,6 @@ impl<W: Word> FixedSize for Be<W> {
     #[tactic(auto, using(crate::proofs::Orders::all_taken))]
     fn load(payload: &[u8]) -> W {
         W::from_be_bytes(payload)
-    }
-
-    #[inline]
-    #[tactic(auto, using(crate::proofs::Orders::all_taken))]
-    fn content<'a>(payload: &'a [u8]) -> Content<'a> {
-        Content::Number {
-            number: W::from_be_bytes(payload).number(),
-            width: W::WIDTH,
-            order: Order::Big,
-            role: Role::Plain,
-        }
     }
 
     #[inline]
@@ -105,17 +93,6 @@ where
     #[tactic(auto, using(crate::proofs::Orders::all_taken))]
     fn load(payload: &[u8]) -> F {
         F::from_bits_retain(F::Bits::from_be_bytes(payload))
-    }
-
-    #[inline]
-    #[tactic(auto, using(crate::proofs::Orders::all_taken))]
-    fn content<'a>(payload: &'a [u8]) -> Content<'a> {
-        Content::Number {
-            number: F::Bits::from_be_bytes(payload).number(),
-            width: F::Bits::WIDTH,
-            order: Order::Big,
-            role: Role::Flags,
-        }
     }
 
     #[inline]

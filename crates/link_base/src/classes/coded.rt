@@ -12,7 +12,6 @@ use crate::classes::fixed_size::FixedSize;
 use crate::classes::word::Word;
 use crate::rows::form::{Form, Order, Role};
 use crate::rows::label::Name;
-use crate::views::content::Content;
 use std::marker::PhantomData;
 
 /// An enum of the kernel's headers whose values are plain numbers in Rust.
@@ -58,16 +57,6 @@ impl<N: NumberNames> FixedSize for Coded<N> {
     #[inline]
     fn load(payload: &[u8]) -> N::Number {
         N::Number::from_bytes(payload)
-    }
-
-    #[inline]
-    fn content<'a>(payload: &'a [u8]) -> Content<'a> {
-        Content::Number {
-            number: N::Number::from_bytes(payload).number(),
-            width: N::Number::WIDTH,
-            order: Order::Little,
-            role: Role::Coded,
-        }
     }
 
     #[inline]

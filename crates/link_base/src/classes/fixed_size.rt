@@ -5,7 +5,6 @@ ghost use Rattle.link_base.specs.declared.rows.form.Form.{Form};
 ghost use Rattle.link_base.specs.Class.{Value, IsInRange, extent, length_cause, meant, written};
 ghost use Rattle.link_base.specs.Payloads.{class_by, is_fixed};
 ghost use Rattle.link_base.specs.Table.{One, Single};
-ghost use Rattle.link_base.specs.Borrowed.{Borrows, form_of};
 ghost use Rattle.link_base.specs.Labels.{names_in};
 
 use crate::classes::payload_class::PayloadClass;
@@ -13,7 +12,6 @@ use crate::lists::canonical::is_fixed;
 use crate::rows::default_nla::DefaultNla;
 use crate::rows::form::Form;
 use crate::rows::label::Name;
-use crate::views::content::Content;
 use crate::wire::buffer::NlaBuffer;
 use crate::wire::fault::{DecodeError, DecodeFault};
 use std::alloc::{AllocError, Global};
@@ -45,12 +43,6 @@ pub trait FixedSize {
     fn load(payload: &[u8]) -> Self::Value
         requires { length_cause (extent (class_by Self.FORM Self.names)) (length payload.now) ≡ None }
         ensures { Self.told result ≡ meant (class_by Self.FORM Self.names) payload.now };
-
-    /// Returns the content of a payload, whose length must be accepted.
-    fn content<'a>(payload: &'a [u8]) -> Content<'a>
-        requires { length_cause (extent (class_by Self.FORM Self.names)) (length payload.now) ≡ None }
-        ensures content { Borrows (Some (One (class_by Self.FORM Self.names))) payload.now result }
-        ensures form { form_of result ≡ Some Self.FORM };
 
     /// Returns the length of the written payload in bytes.
     fn len(value: &Self::Value) -> usize
@@ -96,11 +88,6 @@ impl<F: FixedSize> PayloadClass for F {
     #[inline]
     fn check(kind: u16, payload: &[u8]) -> Result<(), DecodeFault> {
         <F as FixedSize>::FORM.lengths().check(kind, payload)
-    }
-
-    #[inline]
-    fn borrow<'a>(payload: &'a [u8]) -> Content<'a> {
-        F::content(payload)
     }
 
     #[inline]

@@ -15,7 +15,6 @@ use crate::classes::word::Word;
 use crate::names::flag_laws::FlagSet;
 use crate::rows::form::{Form, Order, Role};
 use crate::rows::label::Name;
-use crate::views::content::Content;
 use bitflags::Flags;
 use std::marker::PhantomData;
 
@@ -52,16 +51,6 @@ where
     #[inline]
     fn load(payload: &[u8]) -> F {
         F::from_bits_retain(F::Bits::from_bytes(payload))
-    }
-
-    #[inline]
-    fn content<'a>(payload: &'a [u8]) -> Content<'a> {
-        Content::Number {
-            number: F::Bits::from_bytes(payload).number(),
-            width: F::Bits::WIDTH,
-            order: Order::Little,
-            role: Role::Flags,
-        }
     }
 
     #[inline]
@@ -107,14 +96,6 @@ impl<F: FlagSet + Flags<Bits = u32> + Copy + Eq> FixedSize for MaskedFlags<F> {
     }
 
     #[inline]
-    fn content<'a>(payload: &'a [u8]) -> Content<'a> {
-        Content::MaskedFlags {
-            flags: u32_at(payload, 0),
-            mask: u32_at(payload, 4),
-        }
-    }
-
-    #[inline]
     fn len(_masked: &(F, F)) -> usize {
         8
     }
@@ -151,11 +132,6 @@ impl<F: FlagSet + Flags<Bits = u8> + Copy + Eq> FixedSize for LowFlagBits<F> {
     #[inline]
     fn load(payload: &[u8]) -> F {
         F::from_bits_retain(payload[0])
-    }
-
-    #[inline]
-    fn content<'a>(payload: &'a [u8]) -> Content<'a> {
-        Content::LowFlags(payload[0])
     }
 
     #[inline]

@@ -17,7 +17,6 @@ use crate::rows::form::Form;
 use crate::rows::label::Name;
 use crate::rows::nested::{NestedAttribute, emit_nested, nested_len, read_nested};
 use crate::rows::try_clone::{TryClone, try_clone_list};
-use crate::views::content::Content;
 use crate::wire::buffer::NlaBuffer;
 use crate::wire::fault::{DecodeError, DecodeFault};
 use std::alloc::{AllocError, Global};
@@ -51,11 +50,6 @@ impl PayloadClass for Vec<u8> {
     #[inline]
     fn check(kind: u16, payload: &[u8]) -> Result<(), DecodeFault> {
         Lengths::AtLeast(0).check(kind, payload)
-    }
-
-    #[inline]
-    fn borrow<'a>(payload: &'a [u8]) -> Content<'a> {
-        Content::Bytes(payload)
     }
 
     #[inline]
@@ -110,11 +104,6 @@ impl PayloadClass for Vec<u16> {
     }
 
     #[inline]
-    fn borrow<'a>(payload: &'a [u8]) -> Content<'a> {
-        Content::U16s(payload)
-    }
-
-    #[inline]
     fn size(numbers: &Vec<u16>) -> usize {
         numbers_len(numbers)
     }
@@ -164,11 +153,6 @@ impl PayloadClass for Vec<u32> {
     #[inline]
     fn check(kind: u16, payload: &[u8]) -> Result<(), DecodeFault> {
         check_numbers(kind, payload, 4)
-    }
-
-    #[inline]
-    fn borrow<'a>(payload: &'a [u8]) -> Content<'a> {
-        Content::U32s(payload)
     }
 
     #[inline]
@@ -229,14 +213,6 @@ impl<A: Address + Eq + Drop> PayloadClass for AddressList<A> {
     }
 
     #[inline]
-    fn borrow<'a>(payload: &'a [u8]) -> Content<'a> {
-        Content::Addresses {
-            list: payload,
-            size: A::SIZE,
-        }
-    }
-
-    #[inline]
     fn size(addresses: &Vec<A>) -> usize {
         addresses_len(addresses)
     }
@@ -292,14 +268,6 @@ impl<E: NestedAttribute + TryClone> PayloadClass for NestedList<E> {
     #[inline]
     fn check(kind: u16, payload: &[u8]) -> Result<(), DecodeFault> {
         check_nested::<E>(kind, payload)
-    }
-
-    #[inline]
-    fn borrow<'a>(payload: &'a [u8]) -> Content<'a> {
-        Content::List {
-            list: payload,
-            flagged: E::FLAGGED,
-        }
     }
 
     #[inline]

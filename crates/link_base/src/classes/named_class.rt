@@ -12,7 +12,6 @@ use crate::classes::word::Word;
 use crate::names::named::NamedNumber;
 use crate::rows::form::{Form, Order, Role};
 use crate::rows::label::Name;
-use crate::views::content::Content;
 use std::marker::PhantomData;
 
 /// The class of payloads that are a number, as a value of the enum `T`.
@@ -45,16 +44,6 @@ impl<T: NamedNumber> FixedSize for Named<T> {
     #[inline]
     fn load(payload: &[u8]) -> T {
         T::from(T::Number::from_bytes(payload))
-    }
-
-    #[inline]
-    fn content<'a>(payload: &'a [u8]) -> Content<'a> {
-        Content::Number {
-            number: T::Number::from_bytes(payload).number(),
-            width: T::Number::WIDTH,
-            order: Order::Little,
-            role: Role::Enum,
-        }
     }
 
     #[inline]

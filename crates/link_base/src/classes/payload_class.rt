@@ -12,13 +12,12 @@ ghost use Rattle.link_base.specs.Held.{ContentInRange};
 ghost use Rattle.link_base.specs.Buffer.{IsCanonicalAs};
 ghost use Rattle.link_base.specs.Answers.{Answers, OnMemory, capped, under_kind};
 ghost use Rattle.link_base.specs.Checked.{Checks};
-ghost use Rattle.link_base.specs.Borrowed.{IsAccepted, Borrows, elements_by, form_of};
+ghost use Rattle.link_base.specs.Borrowed.{elements_by};
 ghost use Rattle.link_base.specs.Labels.{names_in};
 
 use crate::rows::attribute::Attribute;
 use crate::rows::form::Form;
 use crate::rows::label::Name;
-use crate::views::content::Content;
 use crate::wire::buffer::NlaBuffer;
 use crate::wire::fault::{DecodeError, DecodeFault};
 use std::alloc::{AllocError, Global};
@@ -71,12 +70,6 @@ pub trait PayloadClass {
     /// Those of `read` except `Memory`, with the attribute type: `Value` in place of `Payload`.
     fn check(kind: u16, payload: &[u8]) -> Result<(), DecodeFault>
         ensures { Checks (ShapeGives Self.shape kind payload.now) result };
-
-    /// Returns the content of a payload, which must decode. It borrows the payload, and copies at most 16 bytes.
-    fn borrow<'a>(payload: &'a [u8]) -> Content<'a>
-        requires { IsAccepted Self.shape payload.now }
-        ensures content { Borrows (Some Self.shape) payload.now result }
-        ensures form { form_of result ≡ Some Self.FORM };
 
     /// Returns the length of the written payload in bytes; saturates at `usize::MAX`.
     fn size(value: &Self::Value) -> usize

@@ -15,7 +15,6 @@ use crate::classes::scalars::{emit_i32, emit_mac, emit_u8, emit_u16_be, emit_u32
 use crate::names::vlan_protocol::VlanProtocol;
 use crate::rows::form::Form;
 use crate::rows::label::Name;
-use crate::views::content::Content;
 use std::net::{Ipv4Addr, Ipv6Addr};
 
 impl FixedSize for bool {
@@ -37,11 +36,6 @@ impl FixedSize for bool {
     #[inline]
     fn load(payload: &[u8]) -> bool {
         payload[0] != 0
-    }
-
-    #[inline]
-    fn content<'a>(payload: &'a [u8]) -> Content<'a> {
-        Content::Bool(payload[0] != 0)
     }
 
     #[inline]
@@ -74,11 +68,6 @@ impl FixedSize for i32 {
     #[inline]
     fn load(payload: &[u8]) -> i32 {
         i32::from_le_bytes([payload[0], payload[1], payload[2], payload[3]])
-    }
-
-    #[inline]
-    fn content<'a>(payload: &'a [u8]) -> Content<'a> {
-        Content::Signed(i32::load(payload))
     }
 
     #[inline]
@@ -116,11 +105,6 @@ impl FixedSize for VlanProtocol {
     }
 
     #[inline]
-    fn content<'a>(payload: &'a [u8]) -> Content<'a> {
-        Content::Protocol(VlanProtocol::load(payload))
-    }
-
-    #[inline]
     fn len(_value: &VlanProtocol) -> usize {
         2
     }
@@ -152,11 +136,6 @@ impl FixedSize for [u8; 6] {
         [
             payload[0], payload[1], payload[2], payload[3], payload[4], payload[5],
         ]
-    }
-
-    #[inline]
-    fn content<'a>(payload: &'a [u8]) -> Content<'a> {
-        Content::Mac(<[u8; 6]>::load(payload))
     }
 
     #[inline]
@@ -192,11 +171,6 @@ impl FixedSize for Ipv4Addr {
     }
 
     #[inline]
-    fn content<'a>(payload: &'a [u8]) -> Content<'a> {
-        Content::Ipv4(Ipv4Addr::load(payload))
-    }
-
-    #[inline]
     fn len(_address: &Ipv4Addr) -> usize {
         4
     }
@@ -226,11 +200,6 @@ impl FixedSize for Ipv6Addr {
     #[inline]
     fn load(payload: &[u8]) -> Ipv6Addr {
         Ipv6Addr::from_payload(payload).unwrap()
-    }
-
-    #[inline]
-    fn content<'a>(payload: &'a [u8]) -> Content<'a> {
-        Content::Ipv6(Ipv6Addr::load(payload))
     }
 
     #[inline]
@@ -267,11 +236,6 @@ impl FixedSize for (u32, u32) {
     }
 
     #[inline]
-    fn content<'a>(payload: &'a [u8]) -> Content<'a> {
-        Content::Pair(u32_at(payload, 0), u32_at(payload, 4))
-    }
-
-    #[inline]
     fn len(_pair: &(u32, u32)) -> usize {
         8
     }
@@ -301,11 +265,6 @@ impl FixedSize for () {
 
     #[inline]
     fn load(_payload: &[u8]) {}
-
-    #[inline]
-    fn content<'a>(_payload: &'a [u8]) -> Content<'a> {
-        Content::Nothing
-    }
 
     #[inline]
     fn len(_value: &()) -> usize {

@@ -16,7 +16,6 @@ use crate::lists::canonical::is_fixed;
 use crate::rows::default_nla::DefaultNla;
 use crate::rows::form::{Form, Layout};
 use crate::rows::label::Name;
-use crate::views::content::Content;
 use crate::wire::buffer::NlaBuffer;
 use crate::wire::fault::{DecodeError, DecodeFault};
 use std::alloc::{AllocError, Global};
@@ -103,14 +102,6 @@ impl<S: PayloadStruct> PayloadClass for Struct<S> {
     #[inline]
     fn check(kind: u16, payload: &[u8]) -> Result<(), DecodeFault> {
         S::LAYOUT.lengths().check(kind, payload)
-    }
-
-    #[inline]
-    fn borrow<'a>(payload: &'a [u8]) -> Content<'a> {
-        Content::Struct {
-            layout: S::LAYOUT,
-            bytes: &payload[..S::LAYOUT.lengths().kept()],
-        }
     }
 
     #[inline]

@@ -18,7 +18,6 @@ use crate::classes::scalars::{
 };
 use crate::rows::form::{Form, Order, Role, Width};
 use crate::rows::label::Name;
-use crate::views::content::Content;
 use crate::wire::fault::DecodeError;
 use bitflags::Bits;
 
@@ -267,16 +266,6 @@ impl<W: Word> FixedSize for W {
     #[inline]
     fn load(payload: &[u8]) -> W {
         W::from_bytes(payload)
-    }
-
-    #[inline]
-    fn content<'a>(payload: &'a [u8]) -> Content<'a> {
-        Content::Number {
-            number: W::from_bytes(payload).number(),
-            width: W::WIDTH,
-            order: Order::Little,
-            role: Role::Plain,
-        }
     }
 
     #[inline]

@@ -7,14 +7,14 @@ ghost use Rattle.link_base.specs.Layout.{number_at};
 ghost use Rattle.link_base.specs.Buffer.{kind_field_of, payload_of, SplitsFirst};
 ghost use Rattle.link_base.specs.Table.{Gives};
 ghost use Rattle.link_base.specs.Default.{default_table};
-ghost use Rattle.link_base.specs.Borrowed.{is_list};
+ghost use Rattle.link_base.specs.Coherent.{is_single};
 ghost use Rattle.link_base.specs.Checked.{Passes, Settles};
 
 use crate::classes::records::u16_at;
 use crate::rows::attribute::Attribute;
 use crate::rows::default_nla::DefaultNla;
+use crate::rows::form::Form;
 use crate::rows::nested::NestedAttribute;
-use crate::views::content::Content;
 use crate::wire::buffer::NlaBuffer;
 use crate::wire::padding::padded;
 
@@ -112,17 +112,20 @@ fn settles<F: Attribute>(first: &NlaBuffer<'_>) -> bool
     ensures { IsTrue result → Settles (Gives F.table) (kind_field_of first.now) (length (payload_of first.now)) }
 {
     match F::check(first) {
-        Ok(()) => !is_list(F::borrow(None, first)),
+        Ok(()) => match F::label(None, first.kind()) {
+            Some(label) => is_single(label.form),
+            None => true,
+        },
         Err(_) => false,
     }
 }
 
-/// Checks whether a content is a list.
+/// Checks whether a form is no list's.
 #[inline(always)]
-fn is_list(content: Content<'_>) -> bool
-    ensures { result ≡ is_list content.entry }
+fn is_single(form: Form) -> bool
+    ensures { result ≡ is_single form }
 {
-    matches!(content, Content::List { .. } | Content::Addresses { .. })
+    !matches!(form, Form::List { .. } | Form::Addresses { .. })
 }
 
 /// Skips attributes as long as the first, and of its type unless `of_any_type`; these must decode. `after` is what follows

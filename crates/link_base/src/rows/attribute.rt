@@ -3,7 +3,7 @@
 ghost use Rattle.std.specs.Prelude.{◌≡◌, ◌≤◌, ◌+◌, ◌++◌, ◌↔◌, IsTrue, length, take, drop, replicate};
 ghost use Rattle.link_base.specs.Number.{bytes_of};
 ghost use Rattle.link_base.specs.Frame.{kind_of};
-ghost use Rattle.link_base.specs.Table.{Table, AttrValue, Gives, TakesMemory, Fits, Allows, class_at, form_at, label_at, row_at};
+ghost use Rattle.link_base.specs.Table.{Table, AttrValue, Gives, TakesMemory, Fits, Allows, label_at};
 ghost use Rattle.link_base.specs.Labels.{label_in};
 ghost use Rattle.link_base.specs.Table.{written_kind, written_payload, written_frame};
 ghost use Rattle.link_base.specs.Held.{IsInRange};
@@ -14,12 +14,10 @@ ghost use Rattle.link_base.specs.Buffer.{kind_field_of, payload_of};
 ghost use Rattle.link_base.specs.Storing.{Puts};
 ghost use Rattle.link_base.specs.Answers.{Answers, OnMemory, OverwritesFront, capped, under_kind};
 ghost use Rattle.link_base.specs.Checked.{Checks};
-ghost use Rattle.link_base.specs.Borrowed.{HasValue, Borrows, form_of, table_within};
-ghost use Rattle.link_base.specs.Known.{Knows};
+ghost use Rattle.link_base.specs.Borrowed.{table_within};
 
 use crate::rows::label::KindLabel;
 use crate::rows::place::Place;
-use crate::views::content::{Content, Known};
 use crate::wire::buffer::NlaBuffer;
 use crate::wire::fault::{DecodeError, DecodeFault, of_kind};
 use crate::wire::padding::total_size;
@@ -183,20 +181,6 @@ pub trait Attribute: Nla + Parseable + Eq {
     /// `Value`, `NestedFrame` or `NestedValue`: the error that `parse` returns unless an allocation fails.
     fn check(buffer: &NlaBuffer<'_>) -> Result<(), DecodeFault>
         ensures { Checks (Gives Self.table (kind_field_of buffer.now) (payload_of buffer.now)) result };
-
-    /// Returns the content of an attribute, which must decode. If `list` is `Some`, the attribute is one in a nested list
-    /// of this attribute type.
-    fn borrow<'a>(list: Option<u16>, buffer: &NlaBuffer<'a>) -> Content<'a>
-        requires { HasValue (table_within Self.table list) (kind_field_of buffer.now) (payload_of buffer.now) }
-        ensures content { Borrows (class_at (table_within Self.table list) (kind_of (kind_field_of buffer.now)))
-            (payload_of buffer.now) result }
-        ensures form { form_of result ≡ form_at (table_within Self.table list) (kind_of (kind_field_of buffer.now)) };
-
-    /// Returns the label of an attribute, which must decode, and its content. `list` is as for `borrow`.
-    fn known<'a>(list: Option<u16>, buffer: &NlaBuffer<'a>) -> Known<'a>
-        requires { HasValue (table_within Self.table list) (kind_field_of buffer.now) (payload_of buffer.now) }
-        ensures { Knows (row_at (table_within Self.table list) (kind_of (kind_field_of buffer.now)))
-            (payload_of buffer.now) result };
 
     /// Returns what is known of an attribute type besides its payloads; `None` if no row has the type. If `list` is
     /// `Some`, the type is one in nested lists of this attribute type.

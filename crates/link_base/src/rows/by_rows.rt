@@ -3,7 +3,7 @@
 
 ghost use Rattle.std.specs.Prelude.{◌≡◌, ◌<◌, ◌↔◌, ℕ, None, Some, IsTrue, IfOk, OnErr, length};
 ghost use Rattle.link_base.specs.Frame.{kind_of, kind_limit};
-ghost use Rattle.link_base.specs.Table.{Case, Gives, TakesMemory, Fits, Allows, row_of, row_at, class_at, form_at, label_at};
+ghost use Rattle.link_base.specs.Table.{Case, Gives, TakesMemory, Fits, Allows, row_of, row_at, class_at, label_at};
 ghost use Rattle.link_base.specs.Table.{written_payload};
 ghost use Rattle.link_base.specs.Labels.{label_in};
 ghost use Rattle.link_base.specs.Held.{IsInRange, HoldsMemory};
@@ -11,17 +11,13 @@ ghost use Rattle.link_base.specs.Buffer.{kind_field_of, payload_of};
 ghost use Rattle.link_base.specs.Storing.{Puts};
 ghost use Rattle.link_base.specs.Answers.{OnMemory, under_kind};
 ghost use Rattle.link_base.specs.Checked.{Checks};
-ghost use Rattle.link_base.specs.Borrowed.{HasValue, Borrows, form_of, table_within};
-ghost use Rattle.link_base.specs.Known.{Knows};
+ghost use Rattle.link_base.specs.Borrowed.{table_within};
 
 use crate::classes::payload_class::PayloadClass;
 use crate::rows::attribute::Meaning;
 use crate::rows::label::{KindLabel, Quantity};
 use crate::rows::place::{Place, keep};
-use crate::rows::visitors::{
-    Borrow, BorrowElement, Canonical, Check, ElementLabel, Know, KnowElement, Label,
-};
-use crate::views::content::{Content, Known};
+use crate::rows::visitors::{Canonical, Check, ElementLabel, Label};
 use crate::wire::buffer::NlaBuffer;
 use crate::wire::fault::{DecodeError, DecodeFault};
 use std::alloc::{AllocError, Global};
@@ -95,33 +91,6 @@ pub fn check<F: AttributeRows>(buffer: &NlaBuffer<'_>) -> Result<(), DecodeFault
     ensures { Checks (Gives F.table (kind_field_of buffer.now) (payload_of buffer.now)) result }
 {
     F::visit_row(buffer.kind(), Check { buffer })
-}
-
-/// Returns the content of an attribute, as `Attribute::borrow`.
-#[inline(always)]
-pub fn borrow<'a, F: AttributeRows>(list: Option<u16>, buffer: &NlaBuffer<'a>) -> Content<'a>
-    requires { HasValue (table_within F.table list) (kind_field_of buffer.now) (payload_of buffer.now) }
-    ensures content { Borrows (class_at (table_within F.table list) (kind_of (kind_field_of buffer.now)))
-        (payload_of buffer.now) result }
-    ensures form { form_of result ≡ form_at (table_within F.table list) (kind_of (kind_field_of buffer.now)) }
-{
-    match list {
-        None => F::visit_row(buffer.kind(), Borrow { buffer }),
-        Some(list) => F::visit_row(list, BorrowElement { element: buffer }),
-    }
-}
-
-/// Returns what is known of an attribute, as `Attribute::known`.
-#[inline(always)]
-pub fn known<'a, F: AttributeRows>(list: Option<u16>, buffer: &NlaBuffer<'a>) -> Known<'a>
-    requires { HasValue (table_within F.table list) (kind_field_of buffer.now) (payload_of buffer.now) }
-    ensures { Knows (row_at (table_within F.table list) (kind_of (kind_field_of buffer.now)))
-        (payload_of buffer.now) result }
-{
-    match list {
-        None => F::visit_row(buffer.kind(), Know { buffer }),
-        Some(list) => F::visit_row(list, KnowElement { element: buffer }),
-    }
 }
 
 /// Returns what is known of an attribute type, as `Attribute::label`.

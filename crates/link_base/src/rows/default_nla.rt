@@ -6,8 +6,6 @@ use crate::rows::attribute::{Attribute, Meaning, Nla, Parseable};
 use crate::rows::label::KindLabel;
 use crate::rows::place::Place;
 use crate::rows::try_clone::TryClone;
-use crate::rows::visitors::known_other;
-use crate::views::content::{Content, Known};
 use crate::wire::buffer::NlaBuffer;
 use crate::wire::fault::{DecodeError, DecodeFault};
 use crate::wire::octets::Octets;
@@ -96,17 +94,6 @@ impl Attribute for DefaultNla {
     /// Succeeds: every payload is a value.
     fn check(_frame: &NlaBuffer<'_>) -> Result<(), DecodeFault> {
         Ok(())
-    }
-
-    /// Returns the payload.
-    #[inline]
-    fn borrow<'a>(_list: Option<u16>, buffer: &NlaBuffer<'a>) -> Content<'a> {
-        Content::Other(buffer.value())
-    }
-
-    /// Returns the payload, without a label.
-    fn known<'a>(_list: Option<u16>, buffer: &NlaBuffer<'a>) -> Known<'a> {
-        known_other(buffer)
     }
 
     /// Returns `None`: no attribute type has a row.

@@ -1,17 +1,15 @@
 //! Sets of attributes, as views read them.
 
-ghost use Rattle.std.specs.Prelude.{◌≡◌, ⊤};
-ghost use Rattle.link_base.specs.Frame.{kind_of};
-ghost use Rattle.link_base.specs.Table.{Table, Gives, class_at, form_at, label_at, row_at};
+ghost use Rattle.std.specs.Prelude.{◌≡◌, ⊤, IsTrue};
+ghost use Rattle.link_base.specs.Table.{Table, Gives, label_at};
 ghost use Rattle.link_base.specs.Labels.{label_in};
 ghost use Rattle.link_base.specs.Buffer.{kind_field_of, payload_of};
-ghost use Rattle.link_base.specs.Borrowed.{HasValue, Borrows, elements_at, form_of};
-ghost use Rattle.link_base.specs.Known.{Knows};
+ghost use Rattle.link_base.specs.Borrowed.{elements_at};
 ghost use Rattle.link_base.specs.Checked.{Checks};
+ghost use Rattle.link_base.specs.WellFormed.{is_table};
 
 use crate::rows::attribute::Attribute;
 use crate::rows::label::KindLabel;
-use crate::views::content::{Content, Known};
 use crate::wire::buffer::NlaBuffer;
 use crate::wire::fault::DecodeFault;
 use std::alloc::AllocError;
@@ -22,17 +20,9 @@ pub trait AttributeSet: Copy {
     /// The rows of the set's table: attribute types, and what their payloads are.
     ghost rows: { Self → Table };
 
-    /// Returns the content of an attribute, which must decode.
-    fn borrow<'a>(&self, buffer: &NlaBuffer<'a>) -> Content<'a>
-        requires { HasValue (Self.rows self.now) (kind_field_of buffer.now) (payload_of buffer.now) }
-        ensures content { Borrows (class_at (Self.rows self.now) (kind_of (kind_field_of buffer.now)))
-            (payload_of buffer.now) result }
-        ensures form { form_of result ≡ form_at (Self.rows self.now) (kind_of (kind_field_of buffer.now)) };
-
-    /// Returns the label of an attribute, which must decode, and its content.
-    fn known<'a>(&self, buffer: &NlaBuffer<'a>) -> Known<'a>
-        requires { HasValue (Self.rows self.now) (kind_field_of buffer.now) (payload_of buffer.now) }
-        ensures { Knows (row_at (Self.rows self.now) (kind_of (kind_field_of buffer.now))) (payload_of buffer.now) result };
+    /// The table is well-formed. The body is empty: the contract is the fact.
+    fn well_formed(&self)
+        ensures { IsTrue (is_table (Self.rows self.now)) };
 
     /// Returns what is known of an attribute type besides its payloads; `None` if no row has the type.
     fn label(&self, kind: u16) -> Option<KindLabel>
@@ -112,15 +102,9 @@ impl<F: Attribute> AttributeSet for Set<F> {
     ghost rows = { λ _. F.table };
 
     #[inline(always)]
-    fn borrow<'a>(&self, buffer: &NlaBuffer<'a>) -> Content<'a> {
-        F::borrow(None, buffer)
-    }
+    fn well_formed(&self) {}
 
     #[inline(always)]
-    fn known<'a>(&self, buffer: &NlaBuffer<'a>) -> Known<'a> {
-        F::known(None, buffer)
-    }
-
     fn label(&self, kind: u16) -> Option<KindLabel> {
         F::label(None, kind)
     }
@@ -139,15 +123,9 @@ impl<F: Attribute> AttributeSet for ElementSet<F> {
     ghost rows = { λ set. elements_at F.table (list_of set) };
 
     #[inline(always)]
-    fn borrow<'a>(&self, buffer: &NlaBuffer<'a>) -> Content<'a> {
-        F::borrow(Some(self.list), buffer)
-    }
+    fn well_formed(&self) {}
 
     #[inline(always)]
-    fn known<'a>(&self, buffer: &NlaBuffer<'a>) -> Known<'a> {
-        F::known(Some(self.list), buffer)
-    }
-
     fn label(&self, kind: u16) -> Option<KindLabel> {
         F::label(Some(self.list), kind)
     }

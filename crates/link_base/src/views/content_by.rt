@@ -1,14 +1,12 @@
-//! What a payload says, where only the form of its attribute type is known.
+//! What a payload says, by the form of its attribute type.
 
-ghost use Rattle.std.specs.Prelude.{◌≡◌, ◌<◌, ℕ, List, [], None, Some, true, length};
+ghost use Rattle.std.specs.Prelude.{◌≡◌, ◌<◌, [], None, Some, length};
 ghost use Rattle.link_base.specs.Number.{bound};
 ghost use Rattle.link_base.specs.Class.{extent, length_cause};
 ghost use Rattle.link_base.specs.Forms.{bytes_in};
 ghost use Rattle.link_base.specs.Payloads.{class_by};
-ghost use Rattle.link_base.specs.Coherent.{is_single};
-ghost use Rattle.link_base.specs.Borrowed.{Borrows, form_of};
+ghost use Rattle.link_base.specs.Borrowed.{BorrowsBy, form_of};
 ghost use Rattle.link_base.specs.Orders.{bytes_by};
-ghost use Rattle.link_base.specs.Table.{One};
 
 use crate::classes::address_list::Address;
 use crate::classes::fixed_size::FixedSize;
@@ -19,14 +17,13 @@ use crate::rows::form::{Form, Order, Width};
 use crate::views::content::Content;
 use std::net::{Ipv4Addr, Ipv6Addr};
 
-/// Returns the content of a payload of this form. The form must be no list's, and the payload's length must be one that
-/// the form accepts.
-#[inline]
+/// Returns the content of a payload of this form, whose length must be one that the form accepts. It borrows the payload,
+/// and copies at most 16 bytes.
+#[inline(always)]
 #[tactic(auto, using(crate::proofs::ContentBy::number_says))]
 pub fn content_by<'a>(form: Form, payload: &'a [u8]) -> Content<'a>
-    requires single { is_single form ≡ true }
-    requires accepted { length_cause (extent (class_by form [])) (length payload.now) ≡ None }
-    ensures content { (names : List (ℕ × List ℕ)) → Borrows (Some (One (class_by form names))) payload.now result }
+    requires { length_cause (extent (class_by form [])) (length payload.now) ≡ None }
+    ensures content { BorrowsBy form payload.now result }
     ensures form { form_of result ≡ Some form }
 {
     match form {
@@ -72,7 +69,7 @@ pub fn content_by<'a>(form: Form, payload: &'a [u8]) -> Content<'a>
 }
 
 /// Returns the number of all these bytes.
-#[inline]
+#[inline(always)]
 fn number_in(width: Width, order: Order, bytes: &[u8]) -> u64
     requires { length bytes.now ≡ bytes_in width }
     ensures octets { bytes.now ≡ bytes_by order (bytes_in width) result }

@@ -13,6 +13,7 @@ use crate::rows::attribute::Attribute;
 use crate::rows::label::KindLabel;
 use crate::views::attribute_set::{AttributeSet, CheckedSet, ElementSet, Set};
 use crate::views::content::{Content, Known};
+use crate::views::content_by::content_by;
 use crate::wire::buffer::NlaBuffer;
 use crate::wire::fault::DecodeFault;
 use crate::wire::iterator::count_bounds;
@@ -101,6 +102,7 @@ impl<'a, S: AttributeSet> Value<'a, S> {
 
     /// Returns what is known of the attribute type besides its payloads: its name in the kernel's headers, what its
     /// numbers count, the form of its content, and the names of its numbers or bits; `None` if no row has the type.
+    #[inline(always)]
     pub fn label(&self) -> Option<KindLabel>
         ensures { label_in result ≡ label_at (S.rows (set_in self.now)) (kind_in self.now) }
     {
@@ -115,7 +117,17 @@ impl<'a, S: AttributeSet> Value<'a, S> {
             result.content }
         ensures form { form_of result.content ≡ form_at (S.rows (set_in self.now)) (kind_in self.now) }
     {
-        self.set.known(&self.buffer)
+        self.set.well_formed();
+        match self.label() {
+            Some(label) => Known {
+                label: Some(label),
+                content: content_by(label.form, self.buffer.value()),
+            },
+            None => Known {
+                label: None,
+                content: Content::Other(self.buffer.value()),
+            },
+        }
     }
 
     /// Returns the content.
@@ -124,7 +136,7 @@ impl<'a, S: AttributeSet> Value<'a, S> {
         ensures content { Borrows (class_at (S.rows (set_in self.now)) (kind_in self.now)) (payload_in self.now) result }
         ensures form { form_of result ≡ form_at (S.rows (set_in self.now)) (kind_in self.now) }
     {
-        self.set.borrow(&self.buffer)
+        self.known().content
     }
 
     /// Returns a view of the attributes in a nested list, as those of `elements`, which must have the table of this

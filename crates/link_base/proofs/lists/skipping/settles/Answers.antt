@@ -1,14 +1,25 @@
-use Rattle.std.proofs.Common.{◌≡◌, Bool, IsTrue, not, true, false, refl, sym, ◌∙◌}
+use Rattle.std.proofs.Common.{sym, subst, ap, ◌∙◌}
 use Rattle.link_base.specs.Buffer.{kind_field_of, payload_of}
-use Rattle.link_base.proofs.SkipLemmas.{settled}
+use Rattle.link_base.specs.Frame.{kind_of}
+use Rattle.link_base.specs.Table.{class_at, label_at}
+use Rattle.link_base.specs.Labels.{label_in}
+use Rattle.link_base.proofs.ContentBy.{single_class, no_row}
+use Rattle.link_base.proofs.Entries.{class_of_none}
+use Rattle.link_base.proofs.SkipLemmas.{IsNoList, settled}
 use Rattle.link_base.proofs.lists.skipping.settles.Goals as goal
 
-is_no : (b : Bool) → IsTrue (not b) → b ≡ false
-is_no true h = absurd cc
-is_no false h = refl
-
-pub returns-in-Ok : goal.returns-in-Ok
-returns-in-Ok g c single =
+pub returns-in-Some : goal.returns-in-Some
+returns-in-Some g c single =
+    let table = g.F.Meaning.table in
     let first = c.args.first.now in
-    settled g.F.Meaning.table (kind_field_of first) (payload_of first) c.borrow.result c.in-Ok.ensures c.borrow.ensures.content
-    (sym c.is_list.ensures ∙ is_no c.is_list.result single)
+    let f = kind_field_of first in
+    let class = single_class table f g.met.F.Attribute.well_formed c.in-Some.label (c.in-Some.ensures ∙ ap (label_at table) c.kind.ensures) (sym c.is_single.ensures ∙ single) in
+    settled table f (payload_of first) (subst IsNoList (sym class.1) tt) c.in-Ok.ensures
+
+pub returns-in-None : goal.returns-in-None
+returns-in-None g c is =
+    let table = g.F.Meaning.table in
+    let first = c.args.first.now in
+    let f = kind_field_of first in
+    let none = class_of_none table (kind_of f) (no_row table f g.met.F.Attribute.well_formed (c.in-None.ensures ∙ ap (label_at table) c.kind.ensures)) in
+    settled table f (payload_of first) (subst IsNoList (sym none) tt) c.in-Ok.ensures
