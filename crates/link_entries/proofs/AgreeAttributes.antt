@@ -1,26 +1,25 @@
 -- What is read of an attribute that entries spell, and of its elements.
-use Rattle.std.proofs.Common.{◌≡◌, ℕ, ◌+◌, ◌<◌, ◌≤◌, ◌==◌, Bool, true, false, List, [], ◌∷◌, ◌++◌, length, Some, Ok, refl, sym, ap, subst, ◌∙◌}
-use Rattle.std.specs.List.{AllZip, AllByRecursion, filter}
+use Rattle.std.proofs.Common.{◌≡◌, ℕ, ◌+◌, ◌<◌, ◌≤◌, ◌==◌, Bool, true, false, List, [], ◌∷◌, ◌++◌, length, Option, Some, Ok, refl, sym, ap, subst, ◌∙◌}
+use Rattle.std.specs.List.{AllZip, AllByRecursion}
 use Rattle.std.proofs.lemmas.List.{append-nil}
 use Rattle.link_base.specs.declared.views.content.Content.{Content as Borrowed}
-use Rattle.link_base.specs.declared.views.content.Content.TheVariants as contents
 use Rattle.link_base.specs.declared.rows.form.Form.{Form}
 use Rattle.link_base.specs.declared.rows.form.Form.TheVariants as forms
 use Rattle.link_base.specs.Class.{Many}
 use Rattle.link_base.specs.Forms.{bytes_in}
 use Rattle.link_base.specs.Frame.{kind_of}
-use Rattle.link_base.specs.Table.{Rows, One, Nested, Addresses, Table, class_at, form_at, nested_flag}
+use Rattle.link_base.specs.Table.{Rows, Shape, One, Nested, Addresses, Table, class_at, form_at, nested_flag}
 use Rattle.link_base.specs.Buffer.{kind_field_of, payload_of as payload_after}
-use Rattle.link_base.specs.Borrowed.{Borrows, form_of, elements_at, HasContent}
+use Rattle.link_base.specs.Borrowed.{form_of, elements_at, HasContent}
 use Rattle.link_base.specs.WellFormed.{is_table}
 use Rattle.link_base.proofs.Coherence.{elements_formed}
-use Rattle.link_messages.specs.Walk.{Item, Walks}
+use Rattle.link_messages.specs.Walk.{Item}
 use Rattle.link_entries.specs.declared.entry.Entry.{Entry}
 use Rattle.link_entries.specs.Entry.{blank}
-use Rattle.link_entries.specs.Flat.{Elements, head_entry, indexed, address_entry, is_address}
-use Rattle.link_entries.proofs.OneContent.{value_at, fields_by}
+use Rattle.link_entries.specs.Flat.{Elements, head_entry}
+use Rattle.link_entries.proofs.OneContent.{value_at, fields_by, entry_read}
 use Rattle.link_entries.proofs.EntryFields.{AreBelow, keeps_filled}
-use Rattle.link_entries.proofs.Shapes.{address_list, list_payload}
+use Rattle.link_entries.proofs.FormElements.{ElementsBy, elements_told}
 use Rattle.link_entries.specs.declared.fields.Fields.{Fields}
 use Rattle.link_entries.specs.declared.fields.Fields.TheVariants as fields
 use Rattle.link_entries.specs.Fields.{row_fields, fields_in, fields_at}
@@ -30,14 +29,13 @@ use Rattle.link_entries.specs.Agreement.{IsEntry, IsSame}
 use Rattle.link_entries.proofs.RowForms.{is_list, value_no_list, array_form, array_width, array_fields, NoRow, OneValue, Array, AddressList, NestedList, row_says, element_no_list}
 use Rattle.link_entries.proofs.BackValues.{StandsAt}
 use Rattle.link_entries.proofs.BackSingles.{none_below}
-use Rattle.link_entries.proofs.BackArrays.{bytes_of_item}
 use Rattle.link_entries.proofs.BackAttributes.{array_below}
 use Rattle.link_entries.proofs.Located.{Located, suffix_whole}
 use Rattle.link_entries.proofs.WrittenLists.{same_spells, no_bytes, no_content, form_held, Both, before_ok, alone_ok, Fitted, fitted_ok}
 use Rattle.link_entries.proofs.WrittenFields.{field_held}
 use Rattle.link_entries.proofs.WrittenFields as written_fields
 use Rattle.link_entries.proofs.AgreeClasses.{IsRead}
-use Rattle.link_entries.proofs.AgreeSingles.{same_of, entry_read, single_read, list_read}
+use Rattle.link_entries.proofs.AgreeSingles.{same_of, single_read, list_read}
 use Rattle.link_entries.proofs.AgreeElements.{goes, Cut, cut, ElementAs, array_same, addresses_same, nested_same}
 
 -- what is no list has no elements
@@ -106,11 +104,8 @@ module _ (table : Table) (formed : is_table table ≡ true) (octets : List ℕ) 
     named : form_of content ≡ form_at table k
     named = has.form ∙ ap (form_at table) kind
 
-    borrows : Borrows (class_at table k) p content
-    borrows = subst (λ q. Borrows (class_at table k) q content) bytes (subst (λ j. Borrows (class_at table j) (payload_after x.1) content) kind has.borrows)
-
-    moved : Elements table k (x.0 + 4) content below
-    moved = subst (λ j. Elements table j (x.0 + 4) content below) kind elements
+    told : (o : Option Shape) (form : Option Form) → class_at table k ≡ o → form_at table k ≡ form → ElementsBy table k (x.0 + 4) o p form below
+    told = elements_told table x.1 content has (x.0 + 4) below elements k p kind bytes
 
     -- that entry, and those of its elements
     pub record GroupAs : Type 0 where
@@ -129,7 +124,7 @@ module _ (table : Table) (formed : is_table table ≡ true) (octets : List ℕ) 
         let none = no_elements (elements_at table k) own k octets own_elements.below both.second own_elements.deep plain own_elements.spelled in
         let nothing : [] ≡ both.second = same_spells [] both.second (sym (ap (λ l. elements_of (elements_at table k) own k octets 0 l) none) ∙ own_elements.spelled) in
         let all : both.first ≡ p = sym (both.is ∙ ap (λ t. both.first ++ t) (sym nothing) ∙ append-nil both.first) in
-        let no_more : below ≡ [] = none_below table k (x.0 + 4) content below (ap (λ o. is_list (fields_in o)) named ∙ plain) moved in
+        let no_more : below ≡ [] = none_below table (kind_of f) (x.0 + 4) content below (ap (λ o. is_list (fields_in o)) named ∙ plain) elements in
         group_of (single_read table formed e octets p held (front_is ∙ ap (λ t. Ok t) all) f (length below) list bare at field kind plain)
         (subst (λ l. AllZip (ElementAs (elements_at table k) own k octets list) l below) (sym none) (subst (λ l. AllZip (ElementAs (elements_at table k) own k octets list) [] l) (sym no_more) tt))
 
@@ -148,31 +143,23 @@ module _ (table : Table) (formed : is_table table ≡ true) (octets : List ℕ) 
     array : (wide : Bool) → form_at table k ≡ Some (array_form wide) → class_at table k ≡ Some (One (Many (bytes_in (array_width wide)))) → GroupAs
     array wide form_is class =
         let row = fields.Numbers (array_width wide) in
-        let is = array_below table wide k (x.0 + 4) p content below (named ∙ form_is) (subst (λ o. Borrows o p content) class borrows) moved in
+        let is = array_below table wide k (x.0 + 4) p below (told (Some (One (Many (bytes_in (array_width wide))))) (Some (array_form wide)) class form_is) in
         let all = array_same (elements_at table k) wide k (x.0 + 4) octets list own_elements.below p own_elements.deep own_elements.held (spelled_in row (ap fields_in form_is ∙ array_fields wide) refl) in
         list_of (array_form wide) row form_is (array_fields wide) refl (subst (λ l. AllZip (ElementAs (elements_at table k) row k octets list) own_elements.below l) (sym is) all)
 
     addresses : (n : ℕ) → form_at table k ≡ Some (forms.Addresses n) → class_at table k ≡ Some (Addresses n) → n ≤ 16 → GroupAs
-    addresses n form_is class few = list_of (forms.Addresses n) (fields.Addresses n) form_is refl refl (by_content content borrows (named ∙ form_is) moved) where
-      by_content : (y : Borrowed) → Borrows (class_at table k) p y → form_of y ≡ Some (forms.Addresses n) → Elements table k (x.0 + 4) y below → AllZip (ElementAs (elements_at table k) (fields.Addresses n) k octets list) own_elements.below below
-      by_content (contents.Addresses l size) said is_form (items, walk, is) =
-          let shown = address_list (class_at table k) p l size said in
-          let sizes : size ≡ n = cc in
-          let entries : below ≡ indexed (λ i y. address_entry k i (x.0 + 4 + (y.0 + 4)) (bytes_of_item y)) 0 (filter (is_address n) items) =
-          is ∙ ap (λ m. indexed (λ i y. address_entry k i (x.0 + 4 + (y.0 + 4)) (bytes_of_item y)) 0 (filter (is_address m) items)) sizes in
-          let all = addresses_same (elements_at table k) n k (x.0 + 4) octets list few (length p) 0 0 own_elements.below p items walk.rest own_elements.deep own_elements.held (spelled_in (fields.Addresses n) (ap fields_in form_is) refl)
-          (subst (λ q. Walks (length q) q items walk.rest) shown.payload walk.walks) walk.end in
-          subst (λ l. AllZip (ElementAs (elements_at table k) (fields.Addresses n) k octets list) own_elements.below l) (sym entries) all
-      by_content y said is_form below_is = absurd cc
+    addresses n form_is class few =
+        let (items, walk, is) = told (Some (Addresses n)) (Some (forms.Addresses n)) class form_is in
+        let all = addresses_same (elements_at table k) n k (x.0 + 4) octets list few (length p) 0 0 own_elements.below p items walk.rest own_elements.deep own_elements.held (spelled_in (fields.Addresses n) (ap fields_in form_is) refl)
+        walk.walks walk.end in
+        list_of (forms.Addresses n) (fields.Addresses n) form_is refl refl (subst (λ l. AllZip (ElementAs (elements_at table k) (fields.Addresses n) k octets list) own_elements.below l) (sym is) all)
 
     nested : (flagged : Bool) (rows : Rows) → form_at table k ≡ Some (forms.List flagged) → class_at table k ≡ Some (Nested flagged rows) → GroupAs
-    nested flagged rows form_is class = list_of (forms.List flagged) (fields.List (nested_flag flagged)) form_is refl refl (by_content content borrows (named ∙ form_is) moved) where
-      by_content : (y : Borrowed) → Borrows (class_at table k) p y → form_of y ≡ Some (forms.List flagged) → Elements table k (x.0 + 4) y below → AllZip (ElementAs (elements_at table k) (fields.List (nested_flag flagged)) k octets list) own_elements.below below
-      by_content (contents.List l told) said is_form (items, walk, each) =
-          let shown = list_payload (class_at table k) p l told said in
-          nested_same (elements_at table k) (elements_formed table k formed) (λ j. element_no_list table k j formed) (nested_flag flagged) k octets list (x.0 + 4) p written.short stands 0 own_elements.below p items walk.rest below
-          own_elements.deep own_elements.held (spelled_in (fields.List (nested_flag flagged)) (ap fields_in form_is) refl) (subst (λ q. Walks (length q) q items walk.rest) shown walk.walks) walk.end (suffix_whole p) each
-      by_content y said is_form below_is = absurd cc
+    nested flagged rows form_is class =
+        let (items, walk, each) = told (Some (Nested flagged rows)) (Some (forms.List flagged)) class form_is in
+        list_of (forms.List flagged) (fields.List (nested_flag flagged)) form_is refl refl
+        (nested_same (elements_at table k) (elements_formed table k formed) (λ j. element_no_list table k j formed) (nested_flag flagged) k octets list (x.0 + 4) p written.short stands 0 own_elements.below p items walk.rest below
+        own_elements.deep own_elements.held (spelled_in (fields.List (nested_flag flagged)) (ap fields_in form_is) refl) walk.walks walk.end (suffix_whole p) each)
 
     pub attribute_same : GroupAs
     attribute_same =

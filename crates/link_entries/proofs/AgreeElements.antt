@@ -23,6 +23,7 @@ use Rattle.link_entries.specs.declared.entry.Entry.{Entry}
 use Rattle.link_entries.specs.Forms.{form_unsigned, form_ipv4, form_ipv6}
 use Rattle.link_entries.specs.Entry.{blank, padded}
 use Rattle.link_entries.specs.Flat.{indexed, number_entry, number_entries, address_entry, is_address, IsElement}
+use Rattle.link_entries.proofs.OneContent.{entry_read}
 use Rattle.link_entries.proofs.EntryFields.{AreBelow, keeps_filled}
 use Rattle.link_entries.specs.declared.fields.Fields.{Fields}
 use Rattle.link_entries.specs.declared.fields.Fields.TheVariants as fields
@@ -40,7 +41,7 @@ use Rattle.link_entries.proofs.WrittenLists.{same_spells, if_held, both_true, fo
 use Rattle.link_entries.proofs.WrittenSizes.{number_size}
 use Rattle.link_entries.proofs.WrittenFields.{field_held, field_low}
 use Rattle.link_entries.proofs.AgreeClasses.{number_read, address_is, address_read}
-use Rattle.link_entries.proofs.AgreeSingles.{same_content, same_of, entry_read, single_read}
+use Rattle.link_entries.proofs.AgreeSingles.{same_content, same_of, single_read}
 
 -- ---- the first attribute of some bytes
 

@@ -1,18 +1,13 @@
 -- What is read of an attribute or an element without elements of its own, and of lists without their elements.
-use Rattle.std.proofs.Common.{◌≡◌, ℕ, ◌+◌, ◌-◌, true, false, List, length, take, drop, Some, Ok, refl, sym, ap, subst, ◌∙◌, arith}
-use Rattle.link_base.specs.declared.wire.buffer.NlaBuffer.{NlaBuffer}
-use Rattle.link_base.specs.declared.views.content.Content.{Content as Borrowed}
+use Rattle.std.proofs.Common.{◌≡◌, ℕ, ◌+◌, ◌-◌, true, false, List, take, drop, Some, Ok, refl, sym, ap, subst, ◌∙◌, arith}
 use Rattle.link_base.specs.declared.rows.form.Form.{Form}
 use Rattle.link_base.specs.declared.rows.form.Form.TheVariants as forms
 use Rattle.link_base.specs.Class.{Value}
 use Rattle.link_base.specs.Frame.{kind_of}
 use Rattle.link_base.specs.Table.{Table, class_at, form_at}
-use Rattle.link_base.specs.Buffer.{kind_field_of, payload_of as payload_after}
 use Rattle.link_base.specs.WellFormed.{is_table}
 use Rattle.link_entries.specs.declared.entry.Entry.{Entry}
-use Rattle.link_entries.specs.Content.{filled}
-use Rattle.link_base.specs.Borrowed.{HasContent}
-use Rattle.link_entries.proofs.OneContent.{value_at, fields_by, filled_by}
+use Rattle.link_entries.proofs.OneContent.{value_at, fields_by}
 use Rattle.link_entries.specs.declared.fields.Fields.{Fields}
 use Rattle.link_entries.specs.declared.fields.Fields.TheVariants as fields
 use Rattle.link_entries.specs.Fields.{row_fields, fields_in, fields_at}
@@ -37,17 +32,6 @@ same_of own octets list e r full is kind depth given read = record {
   given = given;
   content = subst (λ x. SameContent own octets e list x) (sym is) read.1;
 }
-
--- the entry of an attribute that was read, by the type and the payload that were written
-pub entry_read : (table : Table) (b : NlaBuffer) (content : Borrowed) → HasContent table b content → (n : ℕ) (bare : ℕ → ℕ → Entry) (k : ℕ) (p : List ℕ) → kind_of (kind_field_of b) ≡ k → payload_after b ≡ p
-    → filled (kind_field_of b) content n (bare (kind_of (kind_field_of b)) (length (payload_after b))) ≡ fields_by (kind_field_of b) (form_at table k) (value_at (class_at table k) p) n (bare k (length p))
-entry_read table b content has n bare k p kind bytes =
-    let f = kind_field_of b in
-    let q = payload_after b in
-    let e = bare (kind_of f) (length q) in
-    filled_by f n e (class_at table (kind_of f)) q content has.borrows
-    ∙ ap (λ m. fields_by f m (value_at (class_at table (kind_of f)) q) n e) has.form
-    ∙ (λ i. fields_by f (form_at table (kind i)) (value_at (class_at table (kind i)) (bytes i)) n (bare (kind i) (length (bytes i))))
 
 module _ (table : Table) (formed : is_table table ≡ true) (e : Entry) (octets p : List ℕ) (held : IsEntry e) (h : payload_of (fields_at table e.kind) e octets ≡ Ok p) (f n : ℕ) (list : List ℕ) (bare : Entry) (at : StandsAt bare list p)
     (field : f ≡ field_of (fields_at table e.kind) e.kind e) (kind : kind_of f ≡ e.kind) where

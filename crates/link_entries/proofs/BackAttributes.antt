@@ -1,30 +1,29 @@
 -- An attribute that was read spells what a rewriting writes, with its elements.
-use Rattle.std.proofs.Common.{◌≡◌, ℕ, ◌+◌, ◌≤◌, Bool, true, false, List, [], ◌++◌, length, map, Some, Ok, Err, refl, sym, ap, ap₂, subst, ◌∙◌, arith}
-use Rattle.std.specs.List.{filter}
+use Rattle.std.proofs.Common.{◌≡◌, ℕ, ◌+◌, ◌≤◌, Bool, true, false, List, [], ◌++◌, length, map, Option, Some, Ok, Err, refl, sym, ap, ap₂, subst, ◌∙◌, arith}
 use Rattle.std.proofs.lemmas.List.{append-nil}
 use Rattle.link_base.specs.declared.views.content.Content.{Content as Borrowed}
-use Rattle.link_base.specs.declared.views.content.Content.TheVariants as contents
+use Rattle.link_base.specs.declared.rows.form.Form.{Form}
 use Rattle.link_base.specs.declared.rows.form.Form.TheVariants as forms
 use Rattle.link_base.specs.Number.{IsBytes}
 use Rattle.link_base.specs.Class.{Many}
 use Rattle.link_base.specs.Forms.{bytes_in}
 use Rattle.link_base.specs.Frame.{kind_of, frame_bytes, spelled}
 use Rattle.link_base.specs.Wire.{whole}
-use Rattle.link_base.specs.Table.{Rows, One, Nested, Addresses, Inner, Listed, Table, AttrValue, Case, class_at, form_at, nested_flag, GivesBy, Gives, addresses_from, of_length, written_kind, written_payload, written_frame, written_list}
+use Rattle.link_base.specs.Table.{Rows, Shape, One, Nested, Addresses, Inner, Listed, Table, AttrValue, Case, class_at, form_at, nested_flag, GivesBy, Gives, addresses_from, of_length, written_kind, written_payload, written_frame, written_list}
 use Rattle.link_base.specs.Lift.{lift}
 use Rattle.link_base.specs.Buffer.{kind_field_of, payload_of as payload_after}
-use Rattle.link_base.specs.Borrowed.{Borrows, form_of, elements_by, elements_at, HasContent}
+use Rattle.link_base.specs.Borrowed.{elements_by, elements_at, HasContent}
 use Rattle.link_base.specs.WellFormed.{is_table}
 use Rattle.link_base.proofs.Coherence.{elements_formed}
 use Rattle.link_base.proofs.Lifted.{written_same}
 use Rattle.link_base.proofs.Readings.{same_ok}
 use Rattle.link_base.proofs.ClassLemmas.{multiple}
-use Rattle.link_messages.specs.Walk.{Item, Walks}
+use Rattle.link_messages.specs.Walk.{Item}
 use Rattle.link_entries.specs.declared.entry.Entry.{Entry}
 use Rattle.link_entries.specs.Entry.{blank}
-use Rattle.link_entries.specs.Flat.{Elements, head_entry, number_entries, indexed, address_entry, is_address}
+use Rattle.link_entries.specs.Flat.{Elements, head_entry, number_entries}
 use Rattle.link_entries.proofs.EntryFields.{keeps_filled}
-use Rattle.link_entries.proofs.Shapes.{address_list, list_payload}
+use Rattle.link_entries.proofs.FormElements.{ElementsBy, elements_told}
 use Rattle.link_entries.specs.declared.fields.Fields.{Fields}
 use Rattle.link_entries.specs.declared.fields.Fields.TheVariants as fields
 use Rattle.link_entries.specs.Fields.{row_fields, fields_in, fields_at}
@@ -34,17 +33,15 @@ use Rattle.link_entries.proofs.RowForms.{is_list, value_no_list, with_kind, arra
 use Rattle.link_entries.proofs.Spellings.{fitted_all}
 use Rattle.link_entries.proofs.BackValues.{StandsAt}
 use Rattle.link_entries.proofs.BackSingles.{none_below, value_read, list_back, single_back}
-use Rattle.link_entries.proofs.BackArrays.{bytes_of_item, elements_end, array_spelled, addresses_spelled, payloads_read}
+use Rattle.link_entries.proofs.BackArrays.{elements_end, array_spelled, addresses_spelled, payloads_read}
 use Rattle.link_entries.proofs.BackElements.{wire_lifted, nested_spelled}
 use Rattle.link_entries.proofs.Located.{Located, suffix_whole}
 
 -- the elements of an array are its numbers
-pub array_below : (table : Table) (wide : Bool) (k at : ℕ) (p : List ℕ) (y : Borrowed) (es : List Entry) → form_of y ≡ Some (array_form wide) → Borrows (Some (One (Many (bytes_in (array_width wide))))) p y → Elements table k at y es
+pub array_below : (table : Table) (wide : Bool) (k at : ℕ) (p : List ℕ) (es : List Entry) → ElementsBy table k at (Some (One (Many (bytes_in (array_width wide))))) p (Some (array_form wide)) es
     → es ≡ number_entries k at (bytes_in (array_width wide)) p
-array_below table true k at p (contents.U32s q) es e said h = let same : q.now ≡ p = cc in h ∙ ap (number_entries k at 4) same
-array_below table true k at p y es e said h = absurd cc
-array_below table false k at p (contents.U16s q) es e said h = let same : q.now ≡ p = cc in h ∙ ap (number_entries k at 2) same
-array_below table false k at p y es e said h = absurd cc
+array_below table true k at p es h = h
+array_below table false k at p es h = h
 
 -- ---- an attribute in parts
 
@@ -85,6 +82,9 @@ module _ (table : Table) (formed : is_table table ≡ true) (list : List ℕ) (x
   head_kind : head.kind ≡ k
   head_kind = (keeps_filled f content (length es) bare).kind
 
+  told : (o : Option Shape) (form : Option Form) → class_at table k ≡ o → form_at table k ≡ form → ElementsBy table k (x.0 + 4) o p form es
+  told = elements_told table x.1 content has (x.0 + 4) es below k p refl refl
+
   -- no list
   single : is_list (fields_at table k) ≡ false → Goal
   single plain =
@@ -105,7 +105,7 @@ module _ (table : Table) (formed : is_table table ≡ true) (list : List ℕ) (x
       let c = Many (bytes_in (array_width wide)) in
       let own = fields.Numbers (array_width wide) in
       let was = value_read c k p v (subst (λ o. GivesBy o f p (Ok v)) class given) in
-      let is = array_below table wide k (x.0 + 4) p content es (has.form ∙ named) (subst (λ o. Borrows o p content) class has.borrows) below in
+      let is = array_below table wide k (x.0 + 4) p es (told (Some (One c)) (Some (array_form wide)) class named) in
       let same = array_fields wide in
       let none : k ≡ k + 0 = omega arith in
       listed own p (Case k _)
@@ -115,36 +115,31 @@ module _ (table : Table) (formed : is_table table ≡ true) (list : List ℕ) (x
       refl was.value
 
   addresses : (n : ℕ) → form_at table k ≡ Some (forms.Addresses n) → class_at table k ≡ Some (Addresses n) → n ≤ 16 → Goal
-  addresses n named class few = by_content content has.borrows (has.form ∙ named) below (subst (λ o. GivesBy o f p (Ok v)) class given) where
-    by_content : (y : Borrowed) → Borrows (class_at table k) p y → form_of y ≡ Some (forms.Addresses n) → Elements table k (x.0 + 4) y es → GivesBy (Some (Addresses n)) f p (Ok v) → Goal
-    by_content (contents.Addresses l size) said e (items, walk, is) (Ok vs, wire, value) =
-        let own = address_list (class_at table k) p l size said in
-        let sizes : size ≡ n = cc in
-        let payloads = payloads_read (length p) p items walk.rest vs (subst (λ q. Walks (length q) q items walk.rest) own.payload walk.walks) walk.end wire in
-        let entries : es ≡ indexed (λ i y. address_entry k i (x.0 + 4 + (y.0 + 4)) (bytes_of_item y)) 0 (filter (is_address n) items) =
-        is ∙ ap (λ m. indexed (λ i y. address_entry k i (x.0 + 4 + (y.0 + 4)) (bytes_of_item y)) 0 (filter (is_address m) items)) sizes in
+  addresses n named class few = by_given (subst (λ o. GivesBy o f p (Ok v)) class given) where
+    by_given : GivesBy (Some (Addresses n)) f p (Ok v) → Goal
+    by_given (Ok vs, wire, value) =
+        let (items, walk, is) = told (Some (Addresses n)) (Some (forms.Addresses n)) class named in
+        let payloads = payloads_read (length p) p items walk.rest vs walk.walks walk.end wire in
         let w = Case k (Listed (of_length n vs)) in
         let none : k ≡ k + 0 = omega arith in
         listed (fields.Addresses n) (spelled (addresses_from 0 (of_length n vs))) w (list_back table x.1 content has (length es) bare (forms.Addresses n) list named refl) (ap fields_in named) none
-        (ap (λ l. elements_of (elements_at table k) (fields.Addresses n) k list 0 (l ++ rest)) entries ∙ addresses_spelled (elements_at table k) n k (x.0 + 4) list rest end few items
+        (ap (λ l. elements_of (elements_at table k) (fields.Addresses n) k list 0 (l ++ rest)) is ∙ addresses_spelled (elements_at table k) n k (x.0 + 4) list rest end few items
         ∙ ap (λ a. Ok (spelled (addresses_from 0 (of_length n a)))) (sym payloads))
         refl (same_ok v w value)
-    by_content (contents.Addresses l size) said e below (Err y, wire, value) = absurd cc
-    by_content y said e below given = absurd cc
+    by_given (Err y, wire, value) = absurd cc
 
   nested : (flagged : Bool) (rows : Rows) → form_at table k ≡ Some (forms.List flagged) → class_at table k ≡ Some (Nested flagged rows) → Goal
-  nested flagged rows named class = by_content content has.borrows (has.form ∙ named) below (subst (λ o. GivesBy o f p (Ok v)) class given) where
-    by_content : (y : Borrowed) → Borrows (class_at table k) p y → form_of y ≡ Some (forms.List flagged) → Elements table k (x.0 + 4) y es → GivesBy (Some (Nested flagged rows)) f p (Ok v) → Goal
-    by_content (contents.List l told) said e (items, walk, each) (Ok vs, wire, value) =
-        let own = list_payload (class_at table k) p l told said in
+  nested flagged rows named class = by_given (subst (λ o. GivesBy o f p (Ok v)) class given) where
+    by_given : GivesBy (Some (Nested flagged rows)) f p (Ok v) → Goal
+    by_given (Ok vs, wire, value) =
+        let (items, walk, each) = told (Some (Nested flagged rows)) (Some (forms.List flagged)) class named in
         let flag = nested_flag flagged in
         let w = Case k (Inner flagged vs) in
         listed (fields.List flag) (written_list (map lift vs)) w (list_back table x.1 content has (length es) bare (forms.List flagged) list named refl) (ap fields_in named) refl
         (nested_spelled (elements_at table k) (elements_formed table k formed) (λ j. element_no_list table k j formed) flag k list (x.0 + 4) p rest end short bytes stands 0 p items walk.rest es (map lift vs)
-        (subst (λ q. Walks (length q) q items walk.rest) own walk.walks) walk.end (suffix_whole p) each (wire_lifted (elements_at table k) rows p vs (ap elements_by class) wire))
+        walk.walks walk.end (suffix_whole p) each (wire_lifted (elements_at table k) rows p vs (ap elements_by class) wire))
         (written_same (map lift vs) vs refl) (same_ok v w value)
-    by_content (contents.List l told) said e below (Err y, wire, value) = absurd cc
-    by_content y said e below given = absurd cc
+    by_given (Err y, wire, value) = absurd cc
 
   pub attribute_back : Goal
   attribute_back =

@@ -11,21 +11,21 @@ use Rattle.link_base.specs.declared.views.content.Content.TheVariants as content
 use Rattle.link_base.specs.Frame.{kind_of}
 use Rattle.link_base.specs.Buffer.{kind_field_of, payload_of, SplitsFirst}
 use Rattle.link_base.specs.Layout.{number_at, numbers_at, numbers_of}
-use Rattle.link_base.specs.Table.{Table, Shape, Addresses, class_at}
-use Rattle.link_base.specs.Borrowed.{Borrows, form_of, elements_at, HasContent}
+use Rattle.link_base.specs.Table.{Table, Shape, class_at}
+use Rattle.link_base.specs.Borrowed.{Borrows, form_of, elements_at}
 use Rattle.link_base.proofs.ViewLemmas.{split_less}
 use Rattle.link_messages.specs.Walk.{Item, Walks, Walk}
 use Rattle.link_messages.specs.BeforeFault.{seen_of, last_item}
 use Rattle.link_messages.proofs.Walking.{walks_more, walk_unique}
 use Rattle.link_entries.specs.declared.entry.Entry.{Entry}
-use Rattle.link_entries.specs.Flat.{indexed, number_entry, number_entries, address_entry, AreAddresses, IsElement, AreElements, Elements, IsGroup}
+use Rattle.link_entries.specs.Flat.{indexed, number_entry, number_entries, address_entry, AreAddresses, IsElement, AreElements, IsGroup}
 use Rattle.link_entries.specs.Finding.{last_inner, IsOneElement, IsLastElement, IsElementFound}
 use Rattle.link_entries.proofs.LastAttribute.{has_kind}
 use Rattle.link_entries.proofs.EntryFields.{keeps_filled, last_seen}
-use Rattle.link_entries.proofs.Shapes.{list_payload, address_list}
-use Rattle.link_entries.proofs.OneContent.{u16s_bytes, u32s_bytes}
+use Rattle.link_entries.proofs.Shapes.{list_payload, no_elements}
+use Rattle.link_entries.proofs.FormElements.{ElementsBy, elements_by, elements_told}
 use Rattle.link_entries.proofs.AddressEntries.{entry_at, entries_of, entries_more}
-use Rattle.link_entries.proofs.Unique.{one_element, one_address_list}
+use Rattle.link_entries.proofs.Unique.{one_element, one_below}
 
 -- whether an entry has this own type or index
 abbrev is_inner : ℕ → Entry → Bool
@@ -205,55 +205,24 @@ module _ (k at n i : ℕ) where
 
 -- ---- contents
 
--- the elements of one content are those of another of the same payload
-module _ (table : Table) (k at : ℕ) (o : Option Shape) (p : List ℕ) (es : List Entry) where
-  pub moved_elements : (x y : Content) → form_of x ≡ form_of y → Borrows o p x → Borrows o p y → Elements table k at y es → Elements table k at x es
-  moved_elements (contents.List l told) (contents.List m said) form a b h =
-      let same : m.now ≡ l.now = list_payload o p m said b ∙ sym (list_payload o p l told a) in
-      subst (λ t. AreElements (elements_at table k) k at t es) same h
-  moved_elements (contents.List l told) y form a b h = absurd cc
-  moved_elements (contents.Addresses l n) (contents.Addresses m n') form a b h =
-      let one = address_list o p l n a in
-      let two = address_list o p m n' b in
-      let shapes : Some (Addresses n') ≡ Some (Addresses n) = sym two.shape ∙ one.shape in
-      let sizes : n' ≡ n = cc in
-      subst (λ t. AreAddresses k at n t es) (two.payload ∙ sym one.payload) (subst (λ z. AreAddresses k at z m.now es) sizes h)
-  moved_elements (contents.Addresses l n) y form a b h = absurd cc
-  moved_elements (contents.U16s l) (contents.U16s m) form a b h = h ∙ ap (number_entries k at 2) (sym (u16s_bytes o p l m a b))
-  moved_elements (contents.U16s l) y form a b h = absurd cc
-  moved_elements (contents.U32s l) (contents.U32s m) form a b h = h ∙ ap (number_entries k at 4) (sym (u32s_bytes o p l m a b))
-  moved_elements (contents.U32s l) y form a b h = absurd cc
-  moved_elements x (contents.List m said) form a b h = absurd cc
-  moved_elements x (contents.Addresses m n) form a b h = absurd cc
-  moved_elements x (contents.U16s m) form a b h = absurd cc
-  moved_elements x (contents.U32s m) form a b h = absurd cc
-  moved_elements x y form a b h = h
-
 -- a content that is neither a list nor an array has no last element
 pub none_last : (table : Table) (k at i : ℕ) (x : Content) → ((p : Bor (List ℕ)) → x ≡ contents.U16s p → ⊥) → ((p : Bor (List ℕ)) → x ≡ contents.U32s p → ⊥) → ((p : Bor (List ℕ)) (n : ℕ) → x ≡ contents.Addresses p n → ⊥)
     → ((p : Bor (List ℕ)) (told : Bool) → x ≡ contents.List p told → ⊥) → IsLastElement table k at x i None
-none_last table k at i (contents.U16s p) a b c d = absurd (a p refl)
-none_last table k at i (contents.U32s p) a b c d = absurd (b p refl)
-none_last table k at i (contents.Addresses p n) a b c d = absurd (c p n refl)
 none_last table k at i (contents.List p told) a b c d = absurd (d p told refl)
-none_last table k at i x a b c d = ([], refl, refl)
+none_last table k at i x a b c d = ([], no_elements table k at x a b c d, refl)
 
--- the elements in a group are those of every content of the attribute
-pub group_elements : (table : Table) (at : ℕ) (b : NlaBuffer) (content : Content) (e : Entry) (es : List Entry) → HasContent table b content → IsGroup table (at, b) (e ∷ es)
-    → Elements table (kind_of (kind_field_of b)) (at + 4) content es
-group_elements table at b content e es has (other, its, (below, elements, is)) =
-    let k = kind_of (kind_field_of b) in
-    let same : es ≡ below = cc in
-    subst (Elements table k (at + 4) content) (sym same)
-    (moved_elements table k (at + 4) (class_at table k) (payload_of b) below content other (has.form ∙ sym its.form) has.borrows its.borrows elements)
-
--- the last element in a content is the last of its entries
-last_of : (table : Table) (k at i : ℕ) (content : Content) (found : Option Entry) (es : List Entry) → IsLastElement table k at content i found → Elements table k at content es → found ≡ last_inner i es
-last_of table k at i (contents.List list told) found es h elements = nested_found (elements_at table k) k at i list.now found h es elements
-last_of table k at i (contents.Addresses list n) found es (mine, are, is) elements = is ∙ ap (last_inner i) (one_address_list k at n list.now list.now mine es refl are elements)
-last_of table k at i content found es (mine, are, is) elements = is ∙ ap (last_inner i) (are ∙ sym elements)
+-- the last element of a content is the last of its entries
+last_of : (table : Table) (k at i : ℕ) (o : Option Shape) (p : List ℕ) (x : Content) (found : Option Entry) (es : List Entry) → Borrows o p x → IsLastElement table k at x i found → ElementsBy table k at o p (form_of x) es → found ≡ last_inner i es
+last_of table k at i o p (contents.List list told) found es a h elements =
+    nested_found (elements_at table k) k at i p found (subst (λ l. (items : List Item) × Walk l items None × IsOneElement (elements_at table k) k at (last_item i items) found) (list_payload o p list told a) h) es elements
+last_of table k at i o p x found es a (mine, are, is) elements = is ∙ ap (last_inner i) (one_below table k at o p (form_of x) mine es (elements_by table k at o p mine x a are) elements)
 
 -- what is found in an attribute is the last element among its entries
 pub found_in_group : (table : Table) (x : Item) (i : ℕ) (found : Option Entry) (e : Entry) (es : List Entry) → IsElementFound table (Some x) i found → IsGroup table x (e ∷ es) → found ≡ last_inner i es
-found_in_group table x i found e es (content, has, last) group =
-    last_of table (kind_of (kind_field_of x.1)) (x.0 + 4) i content found es last (group_elements table x.0 x.1 content e es has group)
+found_in_group table x i found e es (content, has, last) (other, its, (below, elements, is)) =
+    let k = kind_of (kind_field_of x.1) in
+    let o = class_at table k in
+    let p = payload_of x.1 in
+    let same : es ≡ below = cc in
+    let told = elements_told table x.1 other its (x.0 + 4) below elements k p refl refl o (form_of content) refl (sym has.form) in
+    last_of table k (x.0 + 4) i o p content found below has.borrows last told ∙ ap (last_inner i) (sym same)

@@ -3,9 +3,10 @@ pub mod Placed
 pub mod ArrayNumbers
 pub mod AddressEntries
 pub mod NestedElements
-pub mod Shapes
-pub mod Groups
 pub mod OneContent
+pub mod Shapes
+pub mod FormElements
+pub mod Groups
 pub mod Unique
 pub mod LastAttribute
 pub mod EntryFields

@@ -1,6 +1,7 @@
 -- What an entry has, by the form of its content and the value of its payload: all contents of a payload give one entry.
-use Rattle.std.proofs.Common.{◌≡◌, ℕ, ◌-◌, ◌<◌, Bool, true, false, cond, ℤ, pos, reverse, List, [], ◌∷◌, Option, Some, None, refl, sym, ap, ap₂, ◌∙◌, arith, Bor}
+use Rattle.std.proofs.Common.{◌≡◌, ℕ, ◌-◌, ◌<◌, Bool, true, false, cond, ℤ, pos, reverse, List, [], length, Option, Some, None, refl, sym, ap, ap₂, ◌∙◌, arith}
 use Rattle.std.specs.Int.{w64, cast_unsigned}
+use Rattle.link_base.specs.declared.wire.buffer.NlaBuffer.{NlaBuffer}
 use Rattle.link_base.specs.declared.views.content.Content.{Content}
 use Rattle.link_base.specs.declared.views.content.Content.TheVariants as contents
 use Rattle.link_base.specs.declared.rows.form.Order.{Order}
@@ -13,11 +14,10 @@ use Rattle.link_base.specs.Class as classes
 use Rattle.link_base.specs.Class.{Class, Value, meant}
 use Rattle.link_base.specs.Forms.{bytes_in as width_of}
 use Rattle.link_base.specs.Number.{number, bytes_of, bound, four_bytes}
-use Rattle.link_base.specs.Layout.{number_at, octets_of}
-use Rattle.link_base.specs.Protocol.{protocol_number}
-use Rattle.link_base.specs.IpAddress.{four_octets, sixteen_octets}
-use Rattle.link_base.specs.Table.{Shape, One, Nested, Addresses}
-use Rattle.link_base.specs.Borrowed.{Borrows, Says, told, number_value, form_of}
+use Rattle.link_base.specs.Layout.{number_at}
+use Rattle.link_base.specs.Buffer.{kind_field_of, payload_of}
+use Rattle.link_base.specs.Table.{Table, Shape, One, Nested, Addresses, class_at, form_at}
+use Rattle.link_base.specs.Borrowed.{Borrows, Says, told, number_value, form_of, HasContent}
 use Rattle.link_entries.specs.declared.entry.Entry.{Entry}
 use Rattle.link_entries.specs.Forms.{form_empty, form_bool, form_signed, form_named, form_flags, form_masked, form_mac, form_ipv4, form_ipv6, form_qos_mapping, form_bittiming_const, form_bytes, form_list, form_unknown}
 use Rattle.link_entries.specs.Entry.{padded}
@@ -41,7 +41,7 @@ abbrev integer_in : Value → ℤ
 integer_in (classes.Integer z) = z
 integer_in v = pos 0
 
-abbrev bytes_in : Value → List ℕ
+abbrev pub bytes_in : Value → List ℕ
 bytes_in (classes.Raw bytes) = bytes
 bytes_in v = []
 
@@ -58,25 +58,14 @@ has_value (contents.List list flagged) = false
 has_value (contents.Other p) = false
 has_value content = true
 
-says_at : (o : Option Shape) (p : List ℕ) (x : Content) → has_value x ≡ true → Borrows o p x → Says x (value_at o p)
+pub says_at : (o : Option Shape) (p : List ℕ) (x : Content) → has_value x ≡ true → Borrows o p x → Says x (value_at o p)
 says_at None p (contents.Other q) s h = absurd cc
-says_at None p x s h = absurd h
 says_at (Some (Nested flagged rows)) p (contents.List q told_flag) s h = absurd cc
-says_at (Some (Nested flagged rows)) p x s h = absurd h
 says_at (Some (Addresses n)) p (contents.Addresses list size) s h = absurd cc
-says_at (Some (Addresses n)) p x s h = absurd h
 says_at (Some (One classes.Limits)) p (contents.Limits name numbers) s h = absurd cc
 says_at (Some (One classes.Limits)) p x s h = absurd h
-says_at (Some (One (classes.Unsigned n))) p x s h = h
-says_at (Some (One classes.Signed)) p x s h = h
-says_at (Some (One classes.Truth)) p x s h = h
-says_at (Some (One (classes.Octets e))) p x s h = h
-says_at (Some (One classes.Bytes)) p x s h = h
-says_at (Some (One (classes.Many n))) p x s h = h
-says_at (Some (One (classes.Named n listed))) p x s h = h
-says_at (Some (One classes.Protocol)) p x s h = h
-says_at (Some (One classes.Low)) p x s h = h
-says_at (Some (One classes.Empty)) p x s h = h
+says_at (Some (One c)) p x s h = h
+says_at o p x s h = absurd h
 
 -- the number of a value whose bytes are in this order
 abbrev pub number_told : Order → Value → ℕ
@@ -126,51 +115,28 @@ told_number orders.Big role n x v is low = ap (λ q. number (reverse q)) (sym (t
 
 module _ (f n : ℕ) (e : Entry) (o : Option Shape) (p : List ℕ) where
   pub filled_by : (x : Content) → Borrows o p x → filled f x n e ≡ fields_by f (form_of x) (value_at o p) n e
-  filled_by contents.Nothing h = refl
-  filled_by (contents.Bool b) h = let is : value_at o p ≡ classes.Boolean b = says_at o p (contents.Bool b) refl h in ap (λ v. fields_by f (Some forms.Bool) v n e) (sym is)
   filled_by (contents.Number x w order role) h =
       let is = says_at o p (contents.Number x w order role) refl h in
       ap (λ d. record e { form = role_form role; number = d }) (sym (told_number order role (width_of w) x (value_at o p) is.0 is.1))
-  filled_by (contents.Signed z) h = let is : value_at o p ≡ classes.Integer z = says_at o p (contents.Signed z) refl h in ap (λ v. fields_by f (Some forms.Signed) v n e) (sym is)
-  filled_by (contents.LowFlags bits) h = let is : value_at o p ≡ classes.LowByte bits = says_at o p (contents.LowFlags bits) refl h in ap (λ v. fields_by f (Some forms.LowFlags) v n e) (sym is)
   filled_by (contents.MaskedFlags bits mask) h =
-      let is : value_at o p ≡ classes.Raw (octets_of 4 (bits ∷ mask ∷ [])) = says_at o p (contents.MaskedFlags bits mask) refl h in
       ap₂ (λ a b. record e { form = form_masked; number = a; second = b }) (sym (word_bytes bits)) (sym (word_bytes mask))
-      ∙ ap (λ v. fields_by f (Some forms.MaskedFlags) v n e) (sym is)
+      ∙ ap (λ v. fields_by f (Some forms.MaskedFlags) v n e) (sym (says_at o p (contents.MaskedFlags bits mask) refl h))
   filled_by (contents.Pair from to) h =
-      let is : value_at o p ≡ classes.Raw (octets_of 4 (from ∷ to ∷ [])) = says_at o p (contents.Pair from to) refl h in
       ap₂ (λ a b. record e { form = form_qos_mapping; number = a; second = b }) (sym (word_bytes from)) (sym (word_bytes to))
-      ∙ ap (λ v. fields_by f (Some forms.Pair) v n e) (sym is)
-  filled_by (contents.Protocol q) h = let is : value_at o p ≡ classes.EtherType (protocol_number q) = says_at o p (contents.Protocol q) refl h in ap (λ v. fields_by f (Some forms.Protocol) v n e) (sym is)
-  filled_by (contents.Mac a) h = let is : value_at o p ≡ classes.Raw a = says_at o p (contents.Mac a) refl h in ap (λ v. fields_by f (Some forms.Mac) v n e) (sym is)
-  filled_by (contents.Ipv4 a) h = let is : value_at o p ≡ classes.Raw (four_octets a) = says_at o p (contents.Ipv4 a) refl h in ap (λ v. fields_by f (Some forms.Ipv4) v n e) (sym is)
-  filled_by (contents.Ipv6 a) h = let is : value_at o p ≡ classes.Raw (sixteen_octets a) = says_at o p (contents.Ipv6 a) refl h in ap (λ v. fields_by f (Some forms.Ipv6) v n e) (sym is)
-  filled_by (contents.Bytes q) h = refl
-  filled_by (contents.Struct layout q) h =
-      let is : value_at o p ≡ classes.Raw q.now = says_at o p (contents.Struct layout q) refl h in
-      ap (λ v. fields_by f (Some (forms.Struct layout)) v n e) (sym is)
-  filled_by (contents.U16s q) h = refl
-  filled_by (contents.U32s q) h = refl
+      ∙ ap (λ v. fields_by f (Some forms.Pair) v n e) (sym (says_at o p (contents.Pair from to) refl h))
   filled_by (contents.Limits name numbers) h = refl
   filled_by (contents.Addresses list size) h = refl
   filled_by (contents.List list flagged) h = refl
   filled_by (contents.Other q) h = refl
+  filled_by x h = ap (λ v. fields_by f (form_of x) v n e) (sym (says_at o p x refl h))
 
-  -- two contents of one form give the same entry
-  pub same_filled : (x y : Content) → form_of x ≡ form_of y → Borrows o p x → Borrows o p y → filled f x n e ≡ filled f y n e
-  same_filled x y form first second = filled_by x first ∙ ap (λ fm. fields_by f fm (value_at o p) n e) form ∙ sym (filled_by y second)
-
--- ---- arrays
-
--- two contents that are arrays have the same bytes
-pub u16s_bytes : (o : Option Shape) (p : List ℕ) (x y : Bor (List ℕ)) → Borrows o p (contents.U16s x) → Borrows o p (contents.U16s y) → x.now ≡ y.now
-u16s_bytes o p x y first second =
-    let one : value_at o p ≡ classes.Raw x.now = says_at o p (contents.U16s x) refl first in
-    let two : value_at o p ≡ classes.Raw y.now = says_at o p (contents.U16s y) refl second in
-    cc
-
-pub u32s_bytes : (o : Option Shape) (p : List ℕ) (x y : Bor (List ℕ)) → Borrows o p (contents.U32s x) → Borrows o p (contents.U32s y) → x.now ≡ y.now
-u32s_bytes o p x y first second =
-    let one : value_at o p ≡ classes.Raw x.now = says_at o p (contents.U32s x) refl first in
-    let two : value_at o p ≡ classes.Raw y.now = says_at o p (contents.U32s y) refl second in
-    cc
+-- the entry of an attribute that was read, by its type and its payload
+pub entry_read : (table : Table) (b : NlaBuffer) (content : Content) → HasContent table b content → (n : ℕ) (bare : ℕ → ℕ → Entry) (k : ℕ) (p : List ℕ) → kind_of (kind_field_of b) ≡ k → payload_of b ≡ p
+    → filled (kind_field_of b) content n (bare (kind_of (kind_field_of b)) (length (payload_of b))) ≡ fields_by (kind_field_of b) (form_at table k) (value_at (class_at table k) p) n (bare k (length p))
+entry_read table b content has n bare k p kind bytes =
+    let f = kind_field_of b in
+    let q = payload_of b in
+    let e = bare (kind_of f) (length q) in
+    filled_by f n e (class_at table (kind_of f)) q content has.borrows
+    ∙ ap (λ m. fields_by f m (value_at (class_at table (kind_of f)) q) n e) has.form
+    ∙ (λ i. fields_by f (form_at table (kind i)) (value_at (class_at table (kind i)) (bytes i)) n (bare (kind i) (length (bytes i))))

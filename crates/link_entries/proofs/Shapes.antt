@@ -1,5 +1,5 @@
 -- Contents that are lists or arrays: their bytes, and that they decode.
-use Rattle.std.proofs.Common.{◌≡◌, ℕ, ◌≤◌, Bool, true, false, cond, List, [], ◌∷◌, length, take, map, Option, Some, None, Ok, Err, refl, sym, ap, subst, arith, Bor}
+use Rattle.std.proofs.Common.{◌≡◌, ℕ, ◌≤◌, Bool, true, false, cond, List, [], ◌∷◌, length, take, map, Option, Some, Ok, Err, refl, sym, ap, subst, arith, Bor}
 use Rattle.std.specs.List.{AllZip}
 use Rattle.std.proofs.lemmas.List.{length-take}
 use Rattle.link_base.specs.declared.views.content.Content.{Content}
@@ -12,23 +12,13 @@ use Rattle.link_base.specs.Wire.{FrameGives}
 use Rattle.link_base.specs.Table.{Table, Shape, One, Nested, Addresses, AttrValue, Other, Gives, GivesBy, Decodes, class_at}
 use Rattle.link_base.specs.Borrowed.{HasValue, HasValues, Borrows}
 use Rattle.link_entries.specs.Flat.{Elements}
+use Rattle.link_entries.proofs.OneContent.{value_at, says_at}
 
 -- the bytes of a nested list are its payload
 pub list_payload : (o : Option Shape) (p : List ℕ) (bytes : Bor (List ℕ)) (told : Bool) → Borrows o p (contents.List bytes told) → bytes.now ≡ p
-list_payload None p bytes told h = absurd h
 list_payload (Some (Nested flagged rows)) p bytes told h = h
-list_payload (Some (Addresses n)) p bytes told h = absurd h
-list_payload (Some (One (classes.Unsigned n))) p bytes told h = absurd h
-list_payload (Some (One classes.Signed)) p bytes told h = absurd h
-list_payload (Some (One classes.Truth)) p bytes told h = absurd h
-list_payload (Some (One (classes.Octets e))) p bytes told h = absurd h
-list_payload (Some (One classes.Bytes)) p bytes told h = absurd h
-list_payload (Some (One (classes.Many n))) p bytes told h = absurd h
-list_payload (Some (One (classes.Named n listed))) p bytes told h = absurd h
-list_payload (Some (One classes.Protocol)) p bytes told h = absurd h
-list_payload (Some (One classes.Low)) p bytes told h = absurd h
-list_payload (Some (One classes.Empty)) p bytes told h = absurd h
 list_payload (Some (One classes.Limits)) p bytes told h = absurd h
+list_payload o p bytes told h = absurd h
 
 -- a content that is a list of addresses
 pub record IsAddressList (o : Option Shape) (p : List ℕ) (list : Bor (List ℕ)) (size : ℕ) : Type 0 where
@@ -36,20 +26,9 @@ pub record IsAddressList (o : Option Shape) (p : List ℕ) (list : Bor (List ℕ
   pub payload : list.now ≡ p
 
 pub address_list : (o : Option Shape) (p : List ℕ) (list : Bor (List ℕ)) (size : ℕ) → Borrows o p (contents.Addresses list size) → IsAddressList o p list size
-address_list None p list size h = absurd h
-address_list (Some (Nested flagged rows)) p list size h = absurd h
 address_list (Some (Addresses n)) p list size h = record { shape = ap (λ m. Some (Addresses m)) (sym h.0); payload = h.1 }
-address_list (Some (One (classes.Unsigned n))) p list size h = absurd h
-address_list (Some (One classes.Signed)) p list size h = absurd h
-address_list (Some (One classes.Truth)) p list size h = absurd h
-address_list (Some (One (classes.Octets e))) p list size h = absurd h
-address_list (Some (One classes.Bytes)) p list size h = absurd h
-address_list (Some (One (classes.Many n))) p list size h = absurd h
-address_list (Some (One (classes.Named n listed))) p list size h = absurd h
-address_list (Some (One classes.Protocol)) p list size h = absurd h
-address_list (Some (One classes.Low)) p list size h = absurd h
-address_list (Some (One classes.Empty)) p list size h = absurd h
 address_list (Some (One classes.Limits)) p list size h = absurd h
+address_list o p list size h = absurd h
 
 -- the bytes of a value are no more than its payload
 no_name : (n d : ℕ) (listed q : List ℕ) (b : Bool) → cond b (Name n d) (Unlisted n listed d) ≡ Raw q → ⊥
@@ -60,51 +39,19 @@ raw_payload : (c : Class) (p q : List ℕ) → meant c p ≡ Raw q → length q 
 raw_payload (classes.Octets e) p q h = let same : take (size_of e) p ≡ q = cc in omega (arith, ap length same, length-take (size_of e) p)
 raw_payload classes.Bytes p q h = let same : p ≡ q = cc in omega (arith, ap length same)
 raw_payload (classes.Many n) p q h = let same : p ≡ q = cc in omega (arith, ap length same)
-raw_payload (classes.Unsigned n) p q h = absurd cc
-raw_payload classes.Signed p q h = absurd cc
-raw_payload classes.Truth p q h = absurd cc
 raw_payload (classes.Named n listed) p q h = absurd (no_name n (number p) listed q (is_listed listed (number p)) h)
-raw_payload classes.Protocol p q h = absurd cc
-raw_payload classes.Low p q h = absurd cc
-raw_payload classes.Empty p q h = absurd cc
-raw_payload classes.Limits p q h = absurd cc
+raw_payload c p q h = absurd cc
 
--- those of an array of `u16`s
+raw_at : (o : Option Shape) (p q : List ℕ) → value_at o p ≡ Raw q → length q ≤ length p
+raw_at (Some (One c)) p q h = raw_payload c p q h
+raw_at o p q h = absurd cc
+
+-- those of an array
 pub u16s_payload : (o : Option Shape) (p : List ℕ) (bytes : Bor (List ℕ)) → Borrows o p (contents.U16s bytes) → length bytes.now ≤ length p
-u16s_payload None p bytes h = absurd h
-u16s_payload (Some (Nested flagged rows)) p bytes h = absurd h
-u16s_payload (Some (Addresses n)) p bytes h = absurd h
-u16s_payload (Some (One (classes.Unsigned n))) p bytes h = raw_payload (classes.Unsigned n) p bytes.now h
-u16s_payload (Some (One classes.Signed)) p bytes h = raw_payload classes.Signed p bytes.now h
-u16s_payload (Some (One classes.Truth)) p bytes h = raw_payload classes.Truth p bytes.now h
-u16s_payload (Some (One (classes.Octets e))) p bytes h = raw_payload (classes.Octets e) p bytes.now h
-u16s_payload (Some (One classes.Bytes)) p bytes h = raw_payload classes.Bytes p bytes.now h
-u16s_payload (Some (One (classes.Many n))) p bytes h = raw_payload (classes.Many n) p bytes.now h
-u16s_payload (Some (One (classes.Named n listed))) p bytes h = raw_payload (classes.Named n listed) p bytes.now h
-u16s_payload (Some (One classes.Protocol)) p bytes h = raw_payload classes.Protocol p bytes.now h
-u16s_payload (Some (One classes.Low)) p bytes h = raw_payload classes.Low p bytes.now h
-u16s_payload (Some (One classes.Empty)) p bytes h = raw_payload classes.Empty p bytes.now h
-u16s_payload (Some (One classes.Limits)) p bytes h = absurd h
-
--- and of `u32`s, of which the same is known
-same_says : (o : Option Shape) (p : List ℕ) (bytes : Bor (List ℕ)) → Borrows o p (contents.U32s bytes) → Borrows o p (contents.U16s bytes)
-same_says None p bytes h = h
-same_says (Some (Nested flagged rows)) p bytes h = h
-same_says (Some (Addresses n)) p bytes h = h
-same_says (Some (One (classes.Unsigned n))) p bytes h = h
-same_says (Some (One classes.Signed)) p bytes h = h
-same_says (Some (One classes.Truth)) p bytes h = h
-same_says (Some (One (classes.Octets e))) p bytes h = h
-same_says (Some (One classes.Bytes)) p bytes h = h
-same_says (Some (One (classes.Many n))) p bytes h = h
-same_says (Some (One (classes.Named n listed))) p bytes h = h
-same_says (Some (One classes.Protocol)) p bytes h = h
-same_says (Some (One classes.Low)) p bytes h = h
-same_says (Some (One classes.Empty)) p bytes h = h
-same_says (Some (One classes.Limits)) p bytes h = h
+u16s_payload o p bytes h = raw_at o p bytes.now (says_at o p (contents.U16s bytes) refl h)
 
 pub u32s_payload : (o : Option Shape) (p : List ℕ) (bytes : Bor (List ℕ)) → Borrows o p (contents.U32s bytes) → length bytes.now ≤ length p
-u32s_payload o p bytes h = u16s_payload o p bytes (same_says o p bytes h)
+u32s_payload o p bytes h = raw_at o p bytes.now (says_at o p (contents.U32s bytes) refl h)
 
 -- ---- lists of addresses decode, whatever the attribute types
 
@@ -117,11 +64,9 @@ each_other [] = tt
 each_other (x ∷ xs) = (refl, each_other xs)
 
 decodes_by : (o : Option Shape) (f : ℕ) (p : List ℕ) (v : AttrValue) (size : ℕ) → o ≡ Some (Addresses size) → GivesBy o f p (Ok v) → Decodes [] p
-decodes_by None f p v size e given = absurd cc
-decodes_by (Some (One c)) f p v size e given = absurd cc
-decodes_by (Some (Nested flagged rows)) f p v size e given = absurd cc
 decodes_by (Some (Addresses n)) f p v size e (Ok ps, wire, is) = record { values = others wire.frames; wire = record { frames = wire.frames; string = wire.string; values = each_other wire.frames } }
 decodes_by (Some (Addresses n)) f p v size e (Err x, wire, is) = absurd cc
+decodes_by o f p v size e given = absurd cc
 
 pub addresses_decode : (table : Table) (f : ℕ) (p : List ℕ) (list : Bor (List ℕ)) (size : ℕ) → HasValue table f p → Borrows (class_at table (kind_of f)) p (contents.Addresses list size) → HasValues [] list.now
 addresses_decode table f p list size has h none =
