@@ -1,7 +1,6 @@
 -- What is read of an attribute that entries spell, and of its elements.
-use Rattle.std.proofs.Common.{◌≡◌, ℕ, ◌+◌, ◌<◌, ◌≤◌, ◌==◌, Bool, true, false, List, [], ◌∷◌, ◌++◌, length, Option, Some, Ok, refl, sym, ap, subst, ◌∙◌}
-use Rattle.std.specs.List.{AllZip, AllByRecursion}
-use Rattle.std.proofs.lemmas.List.{append-nil}
+use Rattle.std.proofs.Common.{◌≡◌, ℕ, ◌+◌, ◌<◌, ◌≤◌, Bool, true, false, List, [], length, Option, Some, refl, sym, ap, subst, ◌∙◌}
+use Rattle.std.specs.List.{AllZip}
 use Rattle.link_base.specs.declared.views.content.Content.{Content as Borrowed}
 use Rattle.link_base.specs.declared.rows.form.Form.{Form}
 use Rattle.link_base.specs.declared.rows.form.Form.TheVariants as forms
@@ -18,34 +17,27 @@ use Rattle.link_entries.specs.declared.entry.Entry.{Entry}
 use Rattle.link_entries.specs.Entry.{blank}
 use Rattle.link_entries.specs.Flat.{Elements, head_entry}
 use Rattle.link_entries.proofs.OneContent.{value_at, fields_by, entry_read}
-use Rattle.link_entries.proofs.EntryFields.{AreBelow, keeps_filled}
+use Rattle.link_entries.proofs.EntryFields.{keeps_filled}
 use Rattle.link_entries.proofs.FormElements.{ElementsBy, elements_told}
 use Rattle.link_entries.specs.declared.fields.Fields.{Fields}
 use Rattle.link_entries.specs.declared.fields.Fields.TheVariants as fields
 use Rattle.link_entries.specs.Fields.{row_fields, fields_in, fields_at}
-use Rattle.link_entries.specs.Payload.{payload_of, field_of}
-use Rattle.link_entries.specs.Spelled.{Spelling, alone, before, elements_of, attribute_of}
+use Rattle.link_entries.specs.Payload.{field_of}
 use Rattle.link_entries.specs.Agreement.{IsEntry, IsSame}
 use Rattle.link_entries.proofs.RowForms.{is_list, value_no_list, array_form, array_width, array_fields, NoRow, OneValue, Array, AddressList, NestedList, row_says, element_no_list}
 use Rattle.link_entries.proofs.BackValues.{StandsAt}
 use Rattle.link_entries.proofs.BackSingles.{none_below}
 use Rattle.link_entries.proofs.BackAttributes.{array_below}
 use Rattle.link_entries.proofs.Located.{Located, suffix_whole}
-use Rattle.link_entries.proofs.WrittenLists.{same_spells, no_bytes, no_content, form_held, Both, before_ok, alone_ok, Fitted, fitted_ok}
+use Rattle.link_entries.proofs.WrittenLists.{form_held}
+use Rattle.link_entries.proofs.WrittenParts.{Parts, single_payload, list_payload}
 use Rattle.link_entries.proofs.WrittenFields.{field_held}
 use Rattle.link_entries.proofs.WrittenFields as written_fields
 use Rattle.link_entries.proofs.AgreeClasses.{IsRead}
 use Rattle.link_entries.proofs.AgreeSingles.{same_of, single_read, list_read}
-use Rattle.link_entries.proofs.AgreeElements.{goes, Cut, cut, ElementAs, array_same, addresses_same, nested_same}
+use Rattle.link_entries.proofs.AgreeElements.{ElementAs, array_same, addresses_same, nested_same}
 
--- what is no list has no elements
-no_elements : (table : Table) (own : Fields) (k : ℕ) (octets : List ℕ) (es : List Entry) (s : List ℕ) → AreBelow es → is_list own ≡ false → elements_of table own k octets 0 es ≡ Ok s → es ≡ []
-no_elements table own k octets [] s deep single h = refl
-no_elements table own k octets (e ∷ es) s deep single h =
-    let one = goes table own k octets 0 e es s (ap (λ n. n == 0) deep.0) h in
-    absurd (no_content table own 0 e octets one.here single one.content)
-
-module _ (table : Table) (formed : is_table table ≡ true) (octets : List ℕ) (e : Entry) (es : List Entry) (s : List ℕ) (held : IsEntry e) (all_held : AllByRecursion IsEntry es) (h : attribute_of table octets e es ≡ Ok s) where
+module _ (table : Table) (formed : is_table table ≡ true) (octets : List ℕ) (e : Entry) (es : List Entry) (s : List ℕ) (held : IsEntry e) (w : Parts IsEntry table octets e es s) where
   abbrev k : ℕ
   k = e.kind
 
@@ -55,33 +47,16 @@ module _ (table : Table) (formed : is_table table ≡ true) (octets : List ℕ) 
   abbrev g : ℕ
   g = field_of (fields_at table e.kind) e.kind e
 
-  abbrev others : Spelling
-  others = elements_of (elements_at table e.kind) (fields_at table e.kind) e.kind octets 0 es
-
-  -- its payload
-  pub written : Fitted g (before (alone (payload_of own e octets)) others) s
-  written = fitted_ok g (before (alone (payload_of own e octets)) others) s h
-
-  pub both : Both (alone (payload_of own e octets)) others written.payload
-  both = before_ok (alone (payload_of own e octets)) others written.payload written.is
-
-  front_is : payload_of own e octets ≡ Ok both.first
-  front_is = alone_ok (payload_of own e octets) both.first both.is_first
-
-  -- its elements
-  pub own_elements : Cut (elements_at table k) own k 0 octets es both.second
-  own_elements = cut (elements_at table k) own k octets 0 es both.second all_held both.is_second
+  abbrev p : List ℕ
+  p = w.payload
 
   -- its `nla_type`
   pub field_low : (g < 65536) × (kind_of g ≡ k)
-  field_low = written_fields.field_low k e.flags g (field_held table formed e octets both.first front_is) held.flags
+  field_low = written_fields.field_low k e.flags g (field_held table formed e octets w.front w.front_is) held.flags
 
   -- in a list
-  module _ (list : List ℕ) (flat : e.depth ≡ 0) (x : Item) (field : kind_field_of x.1 ≡ g) (bytes : payload_after x.1 ≡ written.payload) (stands : Located list (x.0 + 4) written.payload) (content : Borrowed) (has : HasContent table x.1 content)
+  module _ (list : List ℕ) (flat : e.depth ≡ 0) (x : Item) (field : kind_field_of x.1 ≡ g) (bytes : payload_after x.1 ≡ w.payload) (stands : Located list (x.0 + 4) w.payload) (content : Borrowed) (has : HasContent table x.1 content)
       (below : List Entry) (elements : Elements table (kind_of (kind_field_of x.1)) (x.0 + 4) content below) where
-    abbrev p : List ℕ
-    p = written.payload
-
     abbrev f : ℕ
     f = kind_field_of x.1
 
@@ -89,14 +64,14 @@ module _ (table : Table) (formed : is_table table ≡ true) (octets : List ℕ) 
     head = head_entry x content (length below)
 
     abbrev bare : Entry
-    bare = blank e.kind 0 0 (x.0 + 4) (length written.payload)
+    bare = blank e.kind 0 0 (x.0 + 4) (length w.payload)
 
     -- its entry, by its form
     abbrev full : Entry
     full = fields_by f (form_at table k) (value_at (class_at table k) p) (length below) bare
 
     at : StandsAt bare list p
-    at = record { size = refl; within = stands.within; short = written.short; is = stands.is }
+    at = record { size = refl; within = stands.within; short = w.short; is = stands.is }
 
     kind : kind_of f ≡ k
     kind = ap kind_of field ∙ field_low.1
@@ -110,56 +85,48 @@ module _ (table : Table) (formed : is_table table ≡ true) (octets : List ℕ) 
     -- that entry, and those of its elements
     pub record GroupAs : Type 0 where
       pub head_as : IsSame own octets e list head
-      pub below_as : AllZip (ElementAs (elements_at table k) own k octets list) own_elements.below below
+      pub below_as : AllZip (ElementAs (elements_at table k) own k octets list) w.cut.below below
 
-    group_of : IsRead own octets e list full → AllZip (ElementAs (elements_at table k) own k octets list) own_elements.below below → GroupAs
+    group_of : IsRead own octets e list full → AllZip (ElementAs (elements_at table k) own k octets list) w.cut.below below → GroupAs
     group_of read all =
         let keeps = keeps_filled f content (length below) (blank (kind_of f) 0 0 (x.0 + 4) (length (payload_after x.1))) in
         let is = entry_read table x.1 content has (length below) (λ j m. blank j 0 0 (x.0 + 4) m) k p kind bytes in
-        record { head_as = same_of own octets list e head full is (keeps.kind ∙ kind) (keeps.depth ∙ sym flat) (form_held own e octets both.first front_is) read; below_as = all }
+        record { head_as = same_of own octets list e head full is (keeps.kind ∙ kind) (keeps.depth ∙ sym flat) (form_held own e octets w.front w.front_is) read; below_as = all }
 
     -- no list
     single : is_list own ≡ false → GroupAs
     single plain =
-        let none = no_elements (elements_at table k) own k octets own_elements.below both.second own_elements.deep plain own_elements.spelled in
-        let nothing : [] ≡ both.second = same_spells [] both.second (sym (ap (λ l. elements_of (elements_at table k) own k octets 0 l) none) ∙ own_elements.spelled) in
-        let all : both.first ≡ p = sym (both.is ∙ ap (λ t. both.first ++ t) (sym nothing) ∙ append-nil both.first) in
+        let (none, payload) = single_payload IsEntry table octets e es s w plain in
         let no_more : below ≡ [] = none_below table (kind_of f) (x.0 + 4) content below (ap (λ o. is_list (fields_in o)) named ∙ plain) elements in
-        group_of (single_read table formed e octets p held (front_is ∙ ap (λ t. Ok t) all) f (length below) list bare at field kind plain)
+        group_of (single_read table formed e octets p held payload f (length below) list bare at field kind plain)
         (subst (λ l. AllZip (ElementAs (elements_at table k) own k octets list) l below) (sym none) (subst (λ l. AllZip (ElementAs (elements_at table k) own k octets list) [] l) (sym no_more) tt))
 
     -- a list
-    spelled_in : (row : Fields) → own ≡ row → is_list row ≡ true → elements_of (elements_at table k) row k octets 0 own_elements.below ≡ Ok p
-    spelled_in row looked listed =
-        let none = no_bytes row e octets both.first listed (ap (λ o. payload_of o e octets) (sym looked) ∙ front_is) in
-        let all : both.second ≡ p = sym (both.is ∙ ap (λ t. t ++ both.second) none) in
-        ap (λ o. elements_of (elements_at table k) o k octets 0 own_elements.below) (sym looked) ∙ own_elements.spelled ∙ ap (λ t. Ok t) all
-
-    list_of : (form : Form) (row : Fields) → form_at table k ≡ Some form → row_fields form ≡ row → is_list row ≡ true → AllZip (ElementAs (elements_at table k) row k octets list) own_elements.below below → GroupAs
+    list_of : (form : Form) (row : Fields) → form_at table k ≡ Some form → row_fields form ≡ row → is_list row ≡ true → AllZip (ElementAs (elements_at table k) row k octets list) w.cut.below below → GroupAs
     list_of form row is looked listed all =
         group_of (subst (λ o. IsRead (fields_in o) octets e list (fields_by f o (value_at (class_at table k) p) (length below) bare)) (sym is) (list_read form octets list e f (length below) (value_at (class_at table k) p) bare (ap is_list looked ∙ listed)))
-        (subst (λ o. AllZip (ElementAs (elements_at table k) o k octets list) own_elements.below below) (sym (ap fields_in is ∙ looked)) all)
+        (subst (λ o. AllZip (ElementAs (elements_at table k) o k octets list) w.cut.below below) (sym (ap fields_in is ∙ looked)) all)
 
     array : (wide : Bool) → form_at table k ≡ Some (array_form wide) → class_at table k ≡ Some (One (Many (bytes_in (array_width wide)))) → GroupAs
     array wide form_is class =
         let row = fields.Numbers (array_width wide) in
         let is = array_below table wide k (x.0 + 4) p below (told (Some (One (Many (bytes_in (array_width wide))))) (Some (array_form wide)) class form_is) in
-        let all = array_same (elements_at table k) wide k (x.0 + 4) octets list own_elements.below p own_elements.deep own_elements.held (spelled_in row (ap fields_in form_is ∙ array_fields wide) refl) in
-        list_of (array_form wide) row form_is (array_fields wide) refl (subst (λ l. AllZip (ElementAs (elements_at table k) row k octets list) own_elements.below l) (sym is) all)
+        let all = array_same (elements_at table k) wide k (x.0 + 4) octets list w.cut.below p w.cut.deep w.cut.held (list_payload IsEntry table octets e es s w row (ap fields_in form_is ∙ array_fields wide) refl) in
+        list_of (array_form wide) row form_is (array_fields wide) refl (subst (λ l. AllZip (ElementAs (elements_at table k) row k octets list) w.cut.below l) (sym is) all)
 
     addresses : (n : ℕ) → form_at table k ≡ Some (forms.Addresses n) → class_at table k ≡ Some (Addresses n) → n ≤ 16 → GroupAs
     addresses n form_is class few =
         let (items, walk, is) = told (Some (Addresses n)) (Some (forms.Addresses n)) class form_is in
-        let all = addresses_same (elements_at table k) n k (x.0 + 4) octets list few (length p) 0 0 own_elements.below p items walk.rest own_elements.deep own_elements.held (spelled_in (fields.Addresses n) (ap fields_in form_is) refl)
+        let all = addresses_same (elements_at table k) n k (x.0 + 4) octets list few (length p) 0 0 w.cut.below p items walk.rest w.cut.deep w.cut.held (list_payload IsEntry table octets e es s w (fields.Addresses n) (ap fields_in form_is) refl)
         walk.walks walk.end in
-        list_of (forms.Addresses n) (fields.Addresses n) form_is refl refl (subst (λ l. AllZip (ElementAs (elements_at table k) (fields.Addresses n) k octets list) own_elements.below l) (sym is) all)
+        list_of (forms.Addresses n) (fields.Addresses n) form_is refl refl (subst (λ l. AllZip (ElementAs (elements_at table k) (fields.Addresses n) k octets list) w.cut.below l) (sym is) all)
 
     nested : (flagged : Bool) (rows : Rows) → form_at table k ≡ Some (forms.List flagged) → class_at table k ≡ Some (Nested flagged rows) → GroupAs
     nested flagged rows form_is class =
         let (items, walk, each) = told (Some (Nested flagged rows)) (Some (forms.List flagged)) class form_is in
         list_of (forms.List flagged) (fields.List (nested_flag flagged)) form_is refl refl
-        (nested_same (elements_at table k) (elements_formed table k formed) (λ j. element_no_list table k j formed) (nested_flag flagged) k octets list (x.0 + 4) p written.short stands 0 own_elements.below p items walk.rest below
-        own_elements.deep own_elements.held (spelled_in (fields.List (nested_flag flagged)) (ap fields_in form_is) refl) walk.walks walk.end (suffix_whole p) each)
+        (nested_same (elements_at table k) (elements_formed table k formed) (λ j. element_no_list table k j formed) (nested_flag flagged) k octets list (x.0 + 4) p w.short stands 0 w.cut.below p items walk.rest below
+        w.cut.deep w.cut.held (list_payload IsEntry table octets e es s w (fields.List (nested_flag flagged)) (ap fields_in form_is) refl) walk.walks walk.end (suffix_whole p) each)
 
     pub attribute_same : GroupAs
     attribute_same =

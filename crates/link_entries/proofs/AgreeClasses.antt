@@ -1,5 +1,5 @@
 -- What is read of a payload that an entry spells: every form of a single value.
-use Rattle.std.proofs.Common.{◌≡◌, inl, inr, ℕ, zero, suc, ◌-◌, ◌%◌, ◌<◌, ◌≤◌, ◌==◌, ◌&&◌, ◌||◌, Bool, true, false, cond, min, pos, negsuc, List, ◌++◌, length, map, take, drop, reverse, Option, Some, None, Result, Ok, Err, refl, sym, ap, subst, ◌∙◌, arith, take_all}
+use Rattle.std.proofs.Common.{◌≡◌, inl, inr, ℕ, zero, suc, ◌-◌, ◌%◌, ◌<◌, ◌≤◌, ◌==◌, ◌&&◌, ◌||◌, Bool, true, false, cond, min, pos, negsuc, List, ◌++◌, length, map, take, drop, reverse, Option, Some, None, Result, Ok, Err, refl, sym, ap, subst, ◌∙◌, arith, take_all, take_at, drop_at}
 use Rattle.std.specs.Prelude.{nat_le, nat_lt, slice_index}
 use Rattle.std.specs.Int.{w32, w64, cast_signed, cast_unsigned}
 use mir.Val.{sel}
@@ -21,13 +21,13 @@ use Rattle.link_base.specs.Class as classes
 use Rattle.link_base.specs.Class.{meant, written, is_listed, ether_type, size_of}
 use Rattle.link_base.specs.Forms.{bytes_in, layout_extent}
 use Rattle.link_base.specs.Payloads.{class_by}
-use Rattle.link_base.proofs.Numbers.{number-bytes_of}
+use Rattle.link_base.proofs.Numbers.{number-bytes_of, length-bytes_of}
 use Rattle.link_base.proofs.Orders.{all_taken, bytes_be_len, be_again}
 use Rattle.link_entries.specs.declared.entry.Entry.{Entry}
 use Rattle.link_entries.specs.Entry.{padded}
 use Rattle.link_entries.specs.Content.{with_struct}
 use Rattle.link_entries.specs.Forms.{form_bool, form_flags, form_masked, form_mac, form_ipv4, form_ipv6, form_qos_mapping}
-use Rattle.link_entries.proofs.OneContent.{fields_by}
+use Rattle.link_entries.proofs.OneContent.{number-named, fields_by}
 use Rattle.link_entries.specs.declared.fields.Fields.{Fields}
 use Rattle.link_entries.specs.declared.fields.Fields.TheVariants as fields
 use Rattle.link_entries.specs.declared.misfit.Misfit.{Misfit}
@@ -137,20 +137,23 @@ module _ (e : Entry) (octets p : List ℕ) (held : IsEntry e) where
       ap (λ q. ether_type (number (reverse q))) both.1 ∙ ether e.number both.0
 
   -- pairs: the first and the second number of the payload
+  halves_read : (w a b : ℕ) → a < bound w → b < bound w → p ≡ bytes_of w a ++ bytes_of w b → (number_at w 0 p ≡ a) × (number_at w w p ≡ b)
+  halves_read w a b low high is =
+      let front = take_at (bytes_of w a) (bytes_of w b) w (length-bytes_of w a) in
+      let back = drop_at (bytes_of w a) (bytes_of w b) w (length-bytes_of w a) in
+      (ap (number_at w 0) is ∙ ap number front ∙ number-bytes_of w a low, ap (number_at w w) is ∙ ap (λ q. number (take w q)) back ∙ ap number (all_taken w (bytes_of w b) (length-bytes_of w b)) ∙ number-bytes_of w b high)
+
+  both_read : (w a b : ℕ) (second_first : Bool) → a < bound w → b < bound w → p ≡ pair_of second_first (bytes_of w a) (bytes_of w b) → (number_at w (cond second_first w 0) p ≡ a) × (number_at w (cond second_first 0 w) p ≡ b)
+  both_read w a b true low high is = let halves = halves_read w b a high low is in (halves.1, halves.0)
+  both_read w a b false low high is = halves_read w a b low high is
+
   words_held : (code : ℕ) (second_first : Bool) → payload_of (fields.Words code second_first) e octets ≡ Ok p → (e.number < 4294967296) × (p ≡ pair_of second_first (bytes_of 4 e.number) (bytes_of 4 e.second))
   words_held code second_first h =
       let both = only_held (nat_lt e.number 4294967296) BadNumber (pair_of second_first (bytes_of 4 e.number) (bytes_of 4 e.second)) p (content_ok (fields.Words code second_first) e octets p h) in
       (ltb-true e.number 4294967296 both.0, both.1)
 
-  words_read : (code : ℕ) → payload_of (fields.Words code false) e octets ≡ Ok p → (number_at 4 0 p ≡ e.number) × (number_at 4 4 p ≡ e.second)
-  words_read code h =
-      let both = words_held code false h in
-      (ap (number_at 4 0) both.1 ∙ number-bytes_of 4 e.number both.0, ap (number_at 4 4) both.1 ∙ number-bytes_of 4 e.second held.second)
-
-  swapped_read : (code : ℕ) → payload_of (fields.Words code true) e octets ≡ Ok p → (number_at 4 4 p ≡ e.number) × (number_at 4 0 p ≡ e.second)
-  swapped_read code h =
-      let both = words_held code true h in
-      (ap (number_at 4 4) both.1 ∙ number-bytes_of 4 e.number both.0, ap (number_at 4 0) both.1 ∙ number-bytes_of 4 e.second held.second)
+  words_read : (code : ℕ) (second_first : Bool) → payload_of (fields.Words code second_first) e octets ≡ Ok p → (number_at 4 (cond second_first 4 0) p ≡ e.number) × (number_at 4 (cond second_first 0 4) p ≡ e.second)
+  words_read code second_first h = let both = words_held code second_first h in both_read 4 e.number e.second second_first both.0 held.second both.1
 
   shorts_held : (code : ℕ) (second_first : Bool) → payload_of (fields.Shorts code second_first) e octets ≡ Ok p
       → (e.number < 65536) × (e.second < 65536) × (p ≡ pair_of second_first (bytes_of 2 e.number) (bytes_of 2 e.second))
@@ -159,15 +162,8 @@ module _ (e : Entry) (octets p : List ℕ) (held : IsEntry e) where
       let tests = both_true (nat_lt e.number 65536) (nat_lt e.second 65536) both.0 in
       (ltb-true e.number 65536 tests.0, ltb-true e.second 65536 tests.1, both.1)
 
-  counters_read : (code : ℕ) → payload_of (fields.Shorts code false) e octets ≡ Ok p → (number_at 2 0 p ≡ e.number) × (number_at 2 2 p ≡ e.second)
-  counters_read code h =
-      let all = shorts_held code false h in
-      (ap (number_at 2 0) all.2 ∙ number-bytes_of 2 e.number all.0, ap (number_at 2 2) all.2 ∙ number-bytes_of 2 e.second all.1)
-
-  vlan_read : (code : ℕ) → payload_of (fields.Shorts code true) e octets ≡ Ok p → (number_at 2 2 p ≡ e.number) × (number_at 2 0 p ≡ e.second)
-  vlan_read code h =
-      let all = shorts_held code true h in
-      (ap (number_at 2 2) all.2 ∙ number-bytes_of 2 e.number all.0, ap (number_at 2 0) all.2 ∙ number-bytes_of 2 e.second all.1)
+  shorts_read : (code : ℕ) (second_first : Bool) → payload_of (fields.Shorts code second_first) e octets ≡ Ok p → (number_at 2 (cond second_first 2 0) p ≡ e.number) × (number_at 2 (cond second_first 0 2) p ≡ e.second)
+  shorts_read code second_first h = let all = shorts_held code second_first h in both_read 2 e.number e.second second_first all.0 all.1 all.2
 
   -- addresses
   pub address_is : (code m : ℕ) → payload_of (fields.Address code m) e octets ≡ Ok p → p ≡ take m e.octets
@@ -209,8 +205,8 @@ module _ (e : Entry) (octets p : List ℕ) (held : IsEntry e) where
     -- structs
     struct_read : (layout : Layout) → payload_of (struct_fields layout) e octets ≡ Ok p → length p ≡ size_of (layout_extent layout) → IsRead (struct_fields layout) octets e list (with_struct layout p bare)
     struct_read layouts.BridgeId h size = whole_read (IsRead fields.BridgeId octets e list) 8 p _ _ size (refl, bridge_read h)
-    struct_read layouts.VlanInfo h size = whole_read (IsRead (struct_fields layouts.VlanInfo) octets e list) 4 p _ _ size (refl, vlan_read _ h)
-    struct_read layouts.BooleanOptions h size = whole_read (IsRead (struct_fields layouts.BooleanOptions) octets e list) 8 p _ _ size (refl, words_read _ h)
+    struct_read layouts.VlanInfo h size = whole_read (IsRead (struct_fields layouts.VlanInfo) octets e list) 4 p _ _ size (refl, shorts_read _ true h)
+    struct_read layouts.BooleanOptions h size = whole_read (IsRead (struct_fields layouts.BooleanOptions) octets e list) 8 p _ _ size (refl, words_read _ false h)
     struct_read layouts.BitTiming h size =
         let is = referred_is (Some 32) (content_ok (struct_fields layouts.BitTiming) e octets p h) in
         whole_read (IsRead (struct_fields layouts.BitTiming) octets e list) 32 p _ _ size (refl, front_is 32 size ∙ is)
@@ -218,8 +214,8 @@ module _ (e : Entry) (octets p : List ℕ) (held : IsEntry e) where
         let all = number_held _ _ widths.Four orders.Little h in
         let read : number_at 4 0 p ≡ e.number = ap (number_at 4 0) all.1 ∙ number-bytes_of 4 e.number (some_bound widths.Four all.0) in
         whole_read (IsRead (struct_fields layouts.Clock) octets e list) 4 p _ _ size (refl, read)
-    struct_read layouts.CtrlMode h size = whole_read (IsRead (struct_fields layouts.CtrlMode) octets e list) 8 p _ _ size (refl, swapped_read _ h)
-    struct_read layouts.BerrCounter h size = whole_read (IsRead (struct_fields layouts.BerrCounter) octets e list) 4 p _ _ size (refl, counters_read _ h)
+    struct_read layouts.CtrlMode h size = whole_read (IsRead (struct_fields layouts.CtrlMode) octets e list) 8 p _ _ size (refl, words_read _ true h)
+    struct_read layouts.BerrCounter h size = whole_read (IsRead (struct_fields layouts.BerrCounter) octets e list) 4 p _ _ size (refl, shorts_read _ false h)
     struct_read layout h size =
         let whole : length p ≡ min bare.length (length p) = omega (arith, at.size) in
         (refl, front_is (min bare.length (length p)) whole ∙ referred_is (Some (size_of (layout_extent layout))) (content_ok (struct_fields layout) e octets p h))
@@ -229,7 +225,7 @@ module _ (e : Entry) (octets p : List ℕ) (held : IsEntry e) where
     pair_read code h =
         let size : length p ≡ 8 = ap length (words_held code false h).1 in
         let all : take 8 p ≡ p = take_all 8 p (omega (arith, size)) in
-        let read = words_read code h in
+        let read = words_read code false h in
         (ap (number_at 4 0) all ∙ read.0, ap (number_at 4 4) all ∙ read.1)
 
     pub class_read : (form : Form) (names : List (ℕ × List ℕ)) → is_value (row_fields form) ≡ true → payload_of (row_fields form) e octets ≡ Ok p
@@ -237,11 +233,7 @@ module _ (e : Entry) (octets p : List ℕ) (held : IsEntry e) where
     class_read forms.Nothing names a h = (refl, tt)
     class_read forms.Bool names a h = (refl, truth_read h)
     class_read forms.Signed names a h = (refl, signed_read h)
-    class_read (forms.Number w orders.Little roles.Enum) names a h = by_name (map (λ x. x.0) names) (is_listed (map (λ x. x.0) names) (number p)) where
-      by_name : (listed : List ℕ) (b : Bool)
-          → IsRead (row_fields (forms.Number w orders.Little roles.Enum)) octets e list (fields_by f (Some (forms.Number w orders.Little roles.Enum)) (cond b (classes.Name (bytes_in w) (number p)) (classes.Unlisted (bytes_in w) listed (number p))) n bare)
-      by_name listed true = (refl, number_read _ w h)
-      by_name listed false = (refl, number_read _ w h)
+    class_read (forms.Number w orders.Little roles.Enum) names a h = (refl, number-named (bytes_in w) (map (λ x. x.0) names) (number p) ∙ number_read _ w h)
     class_read (forms.Number w orders.Little role) names a h = (refl, number_read _ w h)
     class_read (forms.Number w orders.Big role) names a h = (refl, big_read _ w h)
     class_read forms.LowFlags names a h = (refl, low_read h)

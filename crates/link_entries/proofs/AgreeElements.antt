@@ -1,7 +1,7 @@
 -- What is read of the elements that entries spell.
-use Rattle.std.proofs.Common.{◌≡◌, inl, inr, ℕ, ◌+◌, ◌-◌, ◌*◌, ◌/◌, ◌%◌, ◌<◌, ◌≤◌, ◌==◌, ◌&&◌, Bool, true, false, cond, min, List, [], ◌∷◌, ◌++◌, length, take, drop, Ok, refl, sym, ap, ap₂, subst, ◌∙◌, arith, take_at, drop-drop}
+use Rattle.std.proofs.Common.{◌≡◌, ℕ, ◌+◌, ◌-◌, ◌*◌, ◌/◌, ◌%◌, ◌<◌, ◌≤◌, ◌==◌, Bool, true, false, cond, min, List, [], ◌∷◌, ◌++◌, length, take, drop, Ok, refl, sym, ap, ap₂, subst, ◌∙◌, arith, take_at, drop-drop}
 use Rattle.std.specs.List.{AllZip, AllByRecursion, filter}
-use Rattle.std.proofs.lemmas.Bool.{cases_Bool, eqb-true, eq-eqb}
+use Rattle.std.proofs.lemmas.Bool.{eq-eqb}
 use Rattle.std.proofs.lemmas.List.{length-append, length-take, drop_at}
 use Rattle.link_base.specs.declared.wire.buffer.NlaBuffer.{NlaBuffer}
 use Rattle.link_base.specs.declared.rows.form.Width.{Width}
@@ -27,20 +27,21 @@ use Rattle.link_entries.proofs.OneContent.{entry_read}
 use Rattle.link_entries.proofs.EntryFields.{AreBelow, keeps_filled}
 use Rattle.link_entries.specs.declared.fields.Fields.{Fields}
 use Rattle.link_entries.specs.declared.fields.Fields.TheVariants as fields
-use Rattle.link_entries.specs.declared.misfit.Misfit.TheVariants.{BadElement}
 use Rattle.link_entries.specs.Fields.{array_number, ip_address, fields_at}
 use Rattle.link_entries.specs.Payload.{payload_of, field_of}
-use Rattle.link_entries.specs.Spelled.{alone, before, element_content, element_of, elements_of, begins_well}
+use Rattle.link_entries.specs.Spelled.{elements_of}
 use Rattle.link_entries.specs.Agreement.{IsEntry, IsSame, element_fields, SameInner}
 use Rattle.link_entries.proofs.RowForms.{is_list, with_kind, field_kind, array_width}
 use Rattle.link_entries.proofs.Spellings.{frame_low}
 use Rattle.link_entries.proofs.BackValues.{StandsAt}
-use Rattle.link_entries.proofs.BackArrays.{bytes_of_item, element_right, elements_next}
+use Rattle.link_entries.proofs.BackArrays.{bytes_of_item}
 use Rattle.link_entries.proofs.Located.{Located, located_in, Suffix, suffix_payload, suffix_rest}
-use Rattle.link_entries.proofs.WrittenLists.{same_spells, if_held, both_true, form_held, before_ok, alone_ok, framed_ok}
+use Rattle.link_entries.proofs.WrittenLists.{same_spells, form_held, framed_ok}
 use Rattle.link_entries.proofs.WrittenSizes.{number_size}
+use Rattle.link_entries.proofs.WrittenAttributes.{numbers_length}
 use Rattle.link_entries.proofs.WrittenFields.{field_held, field_low}
 use Rattle.link_entries.proofs.AgreeClasses.{number_read, address_is, address_read}
+use Rattle.link_entries.proofs.WrittenParts.{goes}
 use Rattle.link_entries.proofs.AgreeSingles.{same_content, same_of, single_read}
 
 -- ---- the first attribute of some bytes
@@ -73,86 +74,6 @@ no_first s b u none h = let short = (split_short s b u h).0 in absurd (omega (ar
 pub not_empty : (f : ℕ) (p t s : List ℕ) → s ≡ frame_bytes (whole f p) ++ t → s ≡ [] → ⊥
 not_empty f p t s is none = absurd (omega (arith, ap length is, ap length none, length-append (frame_bytes (whole f p)) t, length-frame_bytes (whole f p)))
 
--- ---- elements, one by one
-
--- an element that was written, and others
-pub record Goes (table : Table) (own : Fields) (k i : ℕ) (octets : List ℕ) (e : Entry) (es : List Entry) (s : List ℕ) : Type 0 where
-  pub here : List ℕ
-  pub others : List ℕ
-  pub deep : e.depth ≡ 1
-  pub kind : e.kind ≡ k
-  pub content : element_content table own i e octets ≡ Ok here
-  pub later : elements_of table own k octets (i + 1) es ≡ Ok others
-  pub is : s ≡ here ++ others
-
-module _ (table : Table) (own : Fields) (k : ℕ) (octets : List ℕ) where
-  pub goes : (i : ℕ) (e : Entry) (es : List Entry) (s : List ℕ) → (e.depth == 0) ≡ false → elements_of table own k octets i (e ∷ es) ≡ Ok s → Goes table own k i octets e es s
-  goes i e es s deep h =
-      let both = before_ok (alone (element_of table own k i e octets)) (elements_of table own k octets (i + 1) es) s
-      (sym (ap (λ b. cond b (Ok []) (before (alone (element_of table own k i e octets)) (elements_of table own k octets (i + 1) es))) deep) ∙ h) in
-      let one = if_held ((e.depth == 1) && (e.kind == k)) BadElement (element_content table own i e octets) both.first (alone_ok (element_of table own k i e octets) both.first both.is_first) in
-      let tests = both_true (e.depth == 1) (e.kind == k) one.0 in
-      record {
-        here = both.first;
-        others = both.second;
-        deep = eqb-true e.depth 1 tests.0;
-        kind = eqb-true e.kind k tests.1;
-        content = one.1;
-        later = both.is_second;
-        is = both.is;
-      }
-
--- the elements at the start of some entries, and the entries after them
-pub record Cut (table : Table) (own : Fields) (k i : ℕ) (octets : List ℕ) (es : List Entry) (s : List ℕ) : Type 0 where
-  pub below : List Entry
-  pub rest : List Entry
-  pub is : es ≡ below ++ rest
-  pub deep : AreBelow below
-  pub end : begins_well rest ≡ true
-  pub spelled : elements_of table own k octets i below ≡ Ok s
-  pub held : AllByRecursion IsEntry below
-  pub held_rest : AllByRecursion IsEntry rest
-
-module _ (table : Table) (own : Fields) (k : ℕ) (octets : List ℕ) where
-  pub cut : (i : ℕ) (es : List Entry) (s : List ℕ) → AllByRecursion IsEntry es → elements_of table own k octets i es ≡ Ok s → Cut table own k i octets es s
-  cut i [] s held h = record {
-    below = [];
-    rest = [];
-    is = refl;
-    deep = tt;
-    end = refl;
-    spelled = h;
-    held = tt;
-    held_rest = tt;
-  }
-  cut i (e ∷ es) s held h =
-      elim (cases_Bool (e.depth == 0)) [
-        | inl flat ↦
-            record {
-              below = [];
-              rest = e ∷ es;
-              is = refl;
-              deep = tt;
-              end = flat;
-              spelled = sym (ap (λ b. cond b (Ok []) (before (alone (element_of table own k i e octets)) (elements_of table own k octets (i + 1) es))) flat) ∙ h;
-              held = tt;
-              held_rest = held;
-            }
-        | inr not_flat ↦
-            let one = goes table own k octets i e es s not_flat h in
-            let c = cut (i + 1) es one.others held.1 one.later in
-            record {
-              below = e ∷ c.below;
-              rest = c.rest;
-              is = ap (λ t. e ∷ t) c.is;
-              deep = (one.deep, c.deep);
-              end = c.end;
-              spelled = elements_next table own k i e c.below octets one.here one.others one.deep (element_right table own k i e octets one.here one.deep one.kind one.content) c.spelled ∙ ap (λ t. Ok t) (sym one.is);
-              held = (held.0, c.held);
-              held_rest = c.held_rest;
-            }
-      ]
-
 -- ---- entries that were read
 
 -- the entry of an element
@@ -165,14 +86,6 @@ pub record ElementAs (table : Table) (own : Fields) (k : ℕ) (octets list : Lis
 -- ---- numbers
 
 module _ (table : Table) (w : Width) (k at : ℕ) (octets list : List ℕ) where
-  numbers_length : (i : ℕ) (es : List Entry) (s : List ℕ) → AreBelow es → AllByRecursion IsEntry es → elements_of table (fields.Numbers w) k octets i es ≡ Ok s → length s ≡ length es * bytes_in w
-  numbers_length i [] s deep held h = let none = same_spells [] s h in omega (arith, ap length none)
-  numbers_length i (e ∷ es) s deep held h =
-      let one = goes table (fields.Numbers w) k octets i e es s (ap (λ n. n == 0) deep.0) h in
-      let size = number_size e octets one.here held.0.octets form_unsigned w orders.Little _ one.content in
-      let rest = numbers_length (i + 1) es one.others deep.1 held.1 one.later in
-      omega (arith, ap length one.is, length-append one.here one.others, size, rest)
-
   numbers_same : (i j o : ℕ) (es : List Entry) (s p : List ℕ) → AreBelow es → AllByRecursion IsEntry es → elements_of table (fields.Numbers w) k octets i es ≡ Ok s → drop o p ≡ s
       → AllZip (ElementAs table (fields.Numbers w) k octets list) es (indexed (number_entry k at (bytes_in w)) j (numbers_at (bytes_in w) (length es) o p))
   numbers_same i j o [] s p deep held h place = tt
@@ -206,7 +119,7 @@ pub array_same : (table : Table) (wide : Bool) (k at : ℕ) (octets list : List 
     → AllZip (ElementAs table (fields.Numbers (array_width wide)) k octets list) es (number_entries k at (bytes_in (array_width wide)) s)
 array_same table wide k at octets list es s deep held h =
     let w = array_width wide in
-    let count = count_of wide (length es) (length s) (numbers_length table w k at octets list 0 es s deep held h) in
+    let count = count_of wide (length es) (length s) (numbers_length IsEntry (λ e h. h.octets) table w k octets 0 es s deep held h) in
     subst (λ m. AllZip (ElementAs table (fields.Numbers w) k octets list) es (indexed (number_entry k at (bytes_in w)) 0 (numbers_at (bytes_in w) m 0 s))) count
     (numbers_same table w k at octets list 0 0 0 es s s deep held h refl)
 
@@ -288,13 +201,11 @@ module _ (table : Table) (formed : is_table table ≡ true) (single : (j : ℕ) 
       → elements_of table (fields.List flag) k octets i es ≡ Ok s → Walks (length p) s items t → t ≡ [] → Suffix p s → AllZip (λ x r. IsElement table k (at + (x.0 + 4)) x.1 r) items rs
       → AllZip (ElementAs table (fields.List flag) k octets list) es rs
   nested_same at p few here i [] s [] t [] deep held h walks last suffix each = tt
-  nested_same at p few here i [] s [] t (r ∷ rs) deep held h walks last suffix each = absurd each
   nested_same at p few here i [] s (x ∷ items) t rs deep held h walks last suffix each = absurd (no_first s x.1 walks.1.0 (sym (same_spells [] s h)) walks.1.1)
   nested_same at p few here i (e ∷ es) s [] t rs deep held h walks last suffix each =
       let one = goes table (fields.List flag) k octets i e es s (ap (λ n. n == 0) deep.0) h in
       let (q, payload, text) = framed_ok (field_of (own_of e) e.inner e) (payload_of (own_of e) (with_kind e e.inner) octets) one.here one.content in
       absurd (not_empty (field_of (own_of e) e.inner e) q one.others s (one.is ∙ ap (λ t. t ++ one.others) text) (walks ∙ last))
-  nested_same at p few here i (e ∷ es) s (x ∷ items) t [] deep held h walks last suffix each = absurd each
   nested_same at p few here i (e ∷ es) s (x ∷ items) t (r ∷ rs) deep held h walks last suffix each =
       let one = goes table (fields.List flag) k octets i e es s (ap (λ n. n == 0) deep.0) h in
       let (q, payload, text) = framed_ok (field_of (own_of e) e.inner e) (payload_of (own_of e) (with_kind e e.inner) octets) one.here one.content in
@@ -312,3 +223,4 @@ module _ (table : Table) (formed : is_table table ≡ true) (single : (j : ℕ) 
         this,
         nested_same at p few here (i + 1) es one.others items t rs deep.1 held.1 one.later (subst (λ y. Walks (length p) y items t) first.rest walks.1.2) last (subst (λ y. Suffix p y) first.rest (suffix_rest p s x.1 u suffix split)) each.1,
       )
+  nested_same at p few here i es s items t rs deep held h walks last suffix each = absurd each

@@ -1,5 +1,5 @@
 -- An entry that was read spells what a rewriting writes: every form of a single value.
-use Rattle.std.proofs.Common.{◌≡◌, ℕ, ◌<◌, ◌≤◌, ◌==◌, Bool, true, false, cond, min, List, ◌++◌, length, map, take, drop, reverse, Some, None, Ok, refl, sym, ap, ap₂, subst, ◌∙◌, arith, take_all, take-take}
+use Rattle.std.proofs.Common.{◌≡◌, ℕ, ◌+◌, ◌<◌, ◌≤◌, ◌==◌, Bool, true, false, cond, min, List, ◌++◌, length, map, take, drop, reverse, Some, None, Ok, refl, sym, ap, ap₂, subst, ◌∙◌, arith, take_all, take-take}
 use Rattle.std.specs.Prelude.{nat_le, nat_lt, slice_index}
 use Rattle.std.proofs.lemmas.Bool.{eq-eqb, le-leb, lt-ltb, le-ltb}
 use Rattle.std.proofs.lemmas.List.{length-take, length-drop, take-append-drop, drop-take}
@@ -19,19 +19,19 @@ use Rattle.link_base.specs.Forms.{bytes_in, layout_extent}
 use Rattle.link_base.specs.Payloads.{class_by}
 use Rattle.link_base.proofs.Values.{bytes-take, meant_in_range}
 use Rattle.link_base.proofs.Numbers.{number_below}
-use Rattle.link_base.proofs.ClassLemmas.{exactly, size_reached}
+use Rattle.link_base.proofs.ClassLemmas.{exactly, size_reached, same_bytes, written-named}
 use Rattle.link_entries.specs.declared.entry.Entry.{Entry}
 use Rattle.link_entries.specs.Entry.{padded}
 use Rattle.link_entries.specs.Content.{with_struct}
 use Rattle.link_entries.specs.Forms.{form_named, form_flags, form_masked, form_qos_mapping, form_mac, form_ipv4, form_ipv6, form_unsigned, form_bittiming, form_bittiming_const, form_bytes, form_vlan_info, form_berr_counter}
-use Rattle.link_entries.proofs.OneContent.{fields_by}
+use Rattle.link_entries.proofs.OneContent.{number-named, fields_by}
 use Rattle.link_entries.specs.declared.fields.Fields.{Fields}
 use Rattle.link_entries.specs.declared.fields.Fields.TheVariants as fields
 use Rattle.link_entries.specs.declared.misfit.Misfit.TheVariants.{BadNumber}
-use Rattle.link_entries.specs.Fields.{any_number, role_form, struct_fields, row_fields}
-use Rattle.link_entries.specs.Payload.{payload_of, rewritten}
+use Rattle.link_entries.specs.Fields.{role_form, struct_fields, row_fields}
+use Rattle.link_entries.specs.Payload.{payload_of, rewritten, pair_of}
 use Rattle.link_entries.proofs.RowForms.{is_value}
-use Rattle.link_entries.proofs.BackValues.{StandsAt, right_form, ok_if, number_back, whole_number, whole_big, passed_back, at_back, at_below, halves, words_back, shorts_back, address_back, padded_back, signed_back, be_number, first_below, low2, front_stands}
+use Rattle.link_entries.proofs.BackValues.{StandsAt, right_form, ok_if, whole_number, whole_big, passed_back, at_back, at_below, halves, words_back, shorts_back, address_back, padded_back, signed_back, be_number, first_below, low2, front_stands}
 
 -- ---- structs
 
@@ -52,40 +52,31 @@ module _ (e : Entry) (list q : List ℕ) (bytes : IsBytes q) where
       ∙ ok_if (nat_lt (number (reverse front)) 65536) BadNumber _ (lt-ltb (number (reverse front)) 65536 be.1)
       ∙ ap Ok (ap₂ (λ a b. a ++ b) be.0 (padded_back back 6 six (omega arith)) ∙ all)
 
-  vlan_back : length q ≡ 4 → payload_of (fields.Shorts form_vlan_info true) (with_struct layouts.VlanInfo q e) list ≡ Ok q
-  vlan_back size =
-      let full : Entry = record e { form = form_vlan_info; number = number_at 2 2 q; second = number_at 2 0 q; length = 4 } in
-      whole_struct 4 (fields.Shorts form_vlan_info true) q _ _ list size
-      ∙ shorts_back form_vlan_info true full list q refl (at_below 2 2 q bytes (omega (arith, size))) (at_below 2 0 q bytes (omega (arith, size)))
-      (ap₂ (λ a b. a ++ b) (at_back 2 0 q bytes (omega (arith, size))) (at_back 2 2 q bytes (omega (arith, size))) ∙ halves 2 q size)
+  -- two numbers of w bytes each
+  halves_back : (w : ℕ) (second_first : Bool) → length q ≡ w + w → (number_at w (cond second_first w 0) q < bound w) × (number_at w (cond second_first 0 w) q < bound w)
+      × (pair_of second_first (bytes_of w (number_at w (cond second_first w 0) q)) (bytes_of w (number_at w (cond second_first 0 w) q)) ≡ q)
+  halves_back w second_first size =
+      let low = at_below w 0 q bytes (omega (arith, size)) in
+      let high = at_below w w q bytes (omega (arith, size)) in
+      let all = ap₂ (λ a b. a ++ b) (at_back w 0 q bytes (omega (arith, size))) (at_back w w q bytes (omega (arith, size))) ∙ halves w q size in
+      elim second_first as (
+      λ b. (number_at w (cond b w 0) q < bound w) × (number_at w (cond b 0 w) q < bound w) × (pair_of b (bytes_of w (number_at w (cond b w 0) q)) (bytes_of w (number_at w (cond b 0 w) q)) ≡ q)
+      ) [
+        | true ↦ (high, low, all)
+        | false ↦ (low, high, all)
+      ]
 
-  counters_back : length q ≡ 4 → payload_of (fields.Shorts form_berr_counter false) (with_struct layouts.BerrCounter q e) list ≡ Ok q
-  counters_back size =
-      let full : Entry = record e { form = form_berr_counter; number = number_at 2 0 q; second = number_at 2 2 q; length = 4 } in
-      whole_struct 4 (fields.Shorts form_berr_counter false) q _ _ list size
-      ∙ shorts_back form_berr_counter false full list q refl (at_below 2 0 q bytes (omega (arith, size))) (at_below 2 2 q bytes (omega (arith, size)))
-      (ap₂ (λ a b. a ++ b) (at_back 2 0 q bytes (omega (arith, size))) (at_back 2 2 q bytes (omega (arith, size))) ∙ halves 2 q size)
+  two_shorts : (code : ℕ) (second_first : Bool) → length q ≡ 4
+      → payload_of (fields.Shorts code second_first) (record e { form = code; number = number_at 2 (cond second_first 2 0) q; second = number_at 2 (cond second_first 0 2) q }) list ≡ Ok q
+  two_shorts code second_first size =
+      let (low, high, all) = halves_back 2 second_first size in
+      shorts_back code second_first (record e { form = code; number = number_at 2 (cond second_first 2 0) q; second = number_at 2 (cond second_first 0 2) q }) list q refl low high all
 
-  options_back : length q ≡ 8 → payload_of (fields.Words form_masked false) (with_struct layouts.BooleanOptions q e) list ≡ Ok q
-  options_back size =
-      let full : Entry = record e { form = form_masked; number = number_at 4 0 q; second = number_at 4 4 q; length = 8 } in
-      whole_struct 8 (fields.Words form_masked false) q _ _ list size
-      ∙ words_back form_masked false full list q refl (at_below 4 0 q bytes (omega (arith, size)))
-      (ap₂ (λ a b. a ++ b) (at_back 4 0 q bytes (omega (arith, size))) (at_back 4 4 q bytes (omega (arith, size))) ∙ halves 4 q size)
-
-  modes_back : length q ≡ 8 → payload_of (fields.Words form_masked true) (with_struct layouts.CtrlMode q e) list ≡ Ok q
-  modes_back size =
-      let full : Entry = record e { form = form_masked; number = number_at 4 4 q; second = number_at 4 0 q; length = 8 } in
-      whole_struct 8 (fields.Words form_masked true) q _ _ list size
-      ∙ words_back form_masked true full list q refl (at_below 4 4 q bytes (omega (arith, size)))
-      (ap₂ (λ a b. a ++ b) (at_back 4 0 q bytes (omega (arith, size))) (at_back 4 4 q bytes (omega (arith, size))) ∙ halves 4 q size)
-
-  clock_back : length q ≡ 4 → payload_of (struct_fields layouts.Clock) (with_struct layouts.Clock q e) list ≡ Ok q
-  clock_back size =
-      let full : Entry = record e { form = form_unsigned; number = number_at 4 0 q; length = 4 } in
-      whole_struct 4 (struct_fields layouts.Clock) q _ _ list size
-      ∙ number_back form_unsigned widths.Four full list refl (at_below 4 0 q bytes (omega (arith, size)))
-      ∙ ap Ok (at_back 4 0 q bytes (omega (arith, size)) ∙ take_all 4 q (omega (arith, size)))
+  two_words : (code : ℕ) (second_first : Bool) → length q ≡ 8
+      → payload_of (fields.Words code second_first) (record e { form = code; number = number_at 4 (cond second_first 4 0) q; second = number_at 4 (cond second_first 0 4) q }) list ≡ Ok q
+  two_words code second_first size =
+      let (low, high, all) = halves_back 4 second_first size in
+      words_back code second_first (record e { form = code; number = number_at 4 (cond second_first 4 0) q; second = number_at 4 (cond second_first 0 4) q }) list q refl low all
 
 -- ---- every form
 
@@ -108,30 +99,32 @@ module _ (f n : ℕ) (e : Entry) (list p : List ℕ) (bytes : IsBytes p) (at : S
   struct_back : (layout : Layout) → length_cause (layout_extent layout) (length p) ≡ None
       → payload_of (struct_fields layout) (with_struct layout (take (size_of (layout_extent layout)) p) e) list ≡ Ok (take (size_of (layout_extent layout)) p)
   struct_back layouts.BridgeId ok = let all = kept (layout_extent layouts.BridgeId) ok in bridge_id_back e list (take 8 p) all.1 all.0
-  struct_back layouts.VlanInfo ok = let all = kept (layout_extent layouts.VlanInfo) ok in vlan_back e list (take 4 p) all.1 all.0
-  struct_back layouts.BooleanOptions ok = let all = kept (layout_extent layouts.BooleanOptions) ok in options_back e list (take 8 p) all.1 all.0
+  struct_back layouts.VlanInfo ok =
+      let all = kept (layout_extent layouts.VlanInfo) ok in
+      whole_struct 4 (struct_fields layouts.VlanInfo) (take 4 p) _ _ list all.0 ∙ two_shorts e list (take 4 p) all.1 form_vlan_info true all.0
+  struct_back layouts.BooleanOptions ok =
+      let all = kept (layout_extent layouts.BooleanOptions) ok in
+      whole_struct 8 (struct_fields layouts.BooleanOptions) (take 8 p) _ _ list all.0 ∙ two_words e list (take 8 p) all.1 form_masked false all.0
   struct_back layouts.BitTiming ok =
       let enough = size_reached (layout_extent layouts.BitTiming) (length p) ok in
       whole_struct 32 (struct_fields layouts.BitTiming) (take 32 p) _ _ list (kept (layout_extent layouts.BitTiming) ok).0
       ∙ part_back form_bittiming 32 (record e { form = form_bittiming; length = 32 }) enough refl refl refl
-  struct_back layouts.Clock ok = let all = kept (layout_extent layouts.Clock) ok in clock_back e list (take 4 p) all.1 all.0
-  struct_back layouts.CtrlMode ok = let all = kept (layout_extent layouts.CtrlMode) ok in modes_back e list (take 8 p) all.1 all.0
-  struct_back layouts.BerrCounter ok = let all = kept (layout_extent layouts.BerrCounter) ok in counters_back e list (take 4 p) all.1 all.0
+  struct_back layouts.Clock ok =
+      let all = kept (layout_extent layouts.Clock) ok in
+      whole_struct 4 (struct_fields layouts.Clock) (take 4 p) _ _ list all.0
+      ∙ whole_number form_unsigned widths.Four (take 4 p) (record e { form = form_unsigned; number = number_at 4 0 (take 4 p) }) list all.1 all.0 refl (ap number (take_all 4 (take 4 p) (omega (arith, all.0))))
+      ∙ ap Ok (same_bytes 4 (take 4 p) all.1 all.0)
+  struct_back layouts.CtrlMode ok =
+      let all = kept (layout_extent layouts.CtrlMode) ok in
+      whole_struct 8 (struct_fields layouts.CtrlMode) (take 8 p) _ _ list all.0 ∙ two_words e list (take 8 p) all.1 form_masked true all.0
+  struct_back layouts.BerrCounter ok =
+      let all = kept (layout_extent layouts.BerrCounter) ok in
+      whole_struct 4 (struct_fields layouts.BerrCounter) (take 4 p) _ _ list all.0 ∙ two_shorts e list (take 4 p) all.1 form_berr_counter false all.0
   struct_back layout ok =
       let m = size_of (layout_extent layout) in
       let enough = size_reached (layout_extent layout) (length p) ok in
       let size : min e.length (length (take m p)) ≡ m = omega (arith, at.size, enough, length-take m p) in
       part_back form_bytes m (record e { form = form_bytes; length = min e.length (length (take m p)) }) enough refl refl size
-
-  -- eight bytes that are two numbers
-  two_words : (code : ℕ) → length_cause (Exactly 8) (length p) ≡ None → (e' : Entry) → e'.form ≡ code → e'.number ≡ number_at 4 0 (take 8 p) → e'.second ≡ number_at 4 4 (take 8 p)
-      → payload_of (fields.Words code false) e' list ≡ Ok (take 8 p)
-  two_words code ok e' same first second =
-      let all = kept (Exactly 8) ok in
-      let q = take 8 p in
-      let size : length q ≡ 8 = all.0 in
-      words_back code false e' list q same (subst (λ x. x < 4294967296) (sym first) (at_below 4 0 q all.1 (omega (arith, size))))
-      (ap₂ (λ a b. bytes_of 4 a ++ bytes_of 4 b) first second ∙ ap₂ (λ a b. a ++ b) (at_back 4 0 q all.1 (omega (arith, size))) (at_back 4 4 q all.1 (omega (arith, size))) ∙ halves 4 q size)
 
   -- an address
   address_of : (code m : ℕ) → length_cause (Exactly m) (length p) ≡ None → m ≤ 16 → (e' : Entry) → e'.form ≡ code → e'.length ≡ e.length → e'.octets ≡ padded (take m p)
@@ -153,12 +146,10 @@ module _ (f n : ℕ) (e : Entry) (list p : List ℕ) (bytes : IsBytes p) (at : S
   class_back forms.Signed names h ok =
       let size = exactly 4 (length p) ok in
       signed_back (entry_by forms.Signed names) list (number p) (subst (λ m. number p < bound m) size (number_below p bytes)) refl refl
-  class_back (forms.Number w orders.Little roles.Enum) names h ok = by_name (map (λ x. x.0) names) (is_listed (map (λ x. x.0) names) (number p)) where
-    by_name : (listed : List ℕ) (b : Bool)
-        → payload_of (any_number form_named w orders.Little) (fields_by f (Some (forms.Number w orders.Little roles.Enum)) (cond b (classes.Name (bytes_in w) (number p)) (classes.Unlisted (bytes_in w) listed (number p))) n e) list
-        ≡ Ok (written (cond b (classes.Name (bytes_in w) (number p)) (classes.Unlisted (bytes_in w) listed (number p))))
-    by_name listed true = whole_number form_named w p (fields_by f (Some (forms.Number w orders.Little roles.Enum)) (classes.Name (bytes_in w) (number p)) n e) list bytes (exactly (bytes_in w) (length p) ok) refl refl
-    by_name listed false = whole_number form_named w p (fields_by f (Some (forms.Number w orders.Little roles.Enum)) (classes.Unlisted (bytes_in w) listed (number p)) n e) list bytes (exactly (bytes_in w) (length p) ok) refl refl
+  class_back (forms.Number w orders.Little roles.Enum) names h ok =
+      let listed = map (λ x. x.0) names in
+      whole_number form_named w p (entry_by (forms.Number w orders.Little roles.Enum) names) list bytes (exactly (bytes_in w) (length p) ok) refl (number-named (bytes_in w) listed (number p))
+      ∙ ap Ok (sym (written-named (bytes_in w) listed (number p)))
   class_back (forms.Number w orders.Little role) names h ok = whole_number (role_form role) w p (entry_by (forms.Number w orders.Little role) names) list bytes (exactly (bytes_in w) (length p) ok) refl refl
   class_back (forms.Number w orders.Big role) names h ok =
       let all = kept (Exactly (bytes_in w)) ok in
@@ -167,8 +158,8 @@ module _ (f n : ℕ) (e : Entry) (list p : List ℕ) (bytes : IsBytes p) (at : S
       let x = slice_index p 0 in
       let low = first_below p bytes in
       right_form (fields.Number form_flags widths.Two orders.Little 255) (entry_by forms.LowFlags names) list refl ∙ ok_if (nat_le x 255) BadNumber (bytes_of 2 x) (le-leb x 255 (omega (arith, low))) ∙ ap Ok (low2 x low)
-  class_back forms.MaskedFlags names h ok = two_words form_masked ok (entry_by forms.MaskedFlags names) refl refl refl
-  class_back forms.Pair names h ok = two_words form_qos_mapping ok (entry_by forms.Pair names) refl refl refl
+  class_back forms.MaskedFlags names h ok = let all = kept (Exactly 8) ok in two_words e list (take 8 p) all.1 form_masked false all.0
+  class_back forms.Pair names h ok = let all = kept (Exactly 8) ok in two_words e list (take 8 p) all.1 form_qos_mapping false all.0
   class_back forms.Protocol names h ok =
       elim (number (reverse p) == 0x88A8) as (
       λ b. payload_of fields.Protocol (fields_by f (Some forms.Protocol) (classes.EtherType (cond b 0x88A8 0x8100)) n e) list ≡ Ok (written (classes.EtherType (cond b 0x88A8 0x8100)))

@@ -41,12 +41,11 @@ lifted_by (Some c) f p v h = ap lift_result h ∙ sym (leaf_is (kind_of f) (clas
 
 values_lifted : (rows : Rows) (xs : List Frame) (vs : List Leaf) → AllZip (λ x v. LeafGives rows x.kind_field x.payload (Ok v)) xs vs → AllZip (λ x v. Gives (lift_table rows) x.kind_field x.payload (Ok v)) xs (map lift vs)
 values_lifted rows [] [] h = tt
-values_lifted rows [] (v ∷ vs) h = absurd h
-values_lifted rows (x ∷ xs) [] h = absurd h
 values_lifted rows (x ∷ xs) (v ∷ vs) h = (
   subst (λ o. GivesBy o x.kind_field x.payload (Ok (lift v))) (sym (class_at-lift rows (kind_of x.kind_field))) (lifted_by (class_at rows (kind_of x.kind_field)) x.kind_field x.payload v h.0),
   values_lifted rows xs vs h.1,
 )
+values_lifted rows xs vs h = absurd h
 
 pub wire_lifted : (table : Table) (rows : Rows) (s : List ℕ) (vs : List Leaf) → table ≡ lift_table rows → Wire (LeafGives rows) s vs → Wire (Gives table) s (map lift vs)
 wire_lifted table rows s vs same w = subst (λ t. Wire (Gives t) s (map lift vs)) (sym same) (record { frames = w.frames; string = w.string; values = values_lifted rows w.frames vs w.values })
@@ -73,8 +72,6 @@ module _ (table : Table) (formed : is_table table ≡ true) (single : (j : ℕ) 
     pub nested_spelled : (i : ℕ) (s : List ℕ) (items : List Item) (t : List ℕ) (es : List Entry) (vs : List AttrValue) → Walks (length p) s items t → t ≡ [] → Suffix p s
         → AllZip (λ x e. IsElement table k (at + (x.0 + 4)) x.1 e) items es → Wire (Gives table) s vs → elements_of table (fields.List flag) k list i (es ++ rest) ≡ Ok (written_list vs)
     nested_spelled i s [] t [] vs walks last suffix each wire = elements_end table (fields.List flag) k list i rest end ∙ ap (λ l. Ok (written_list l)) (sym (none_values (Gives table) s vs (walks ∙ last) wire))
-    nested_spelled i s [] t (e ∷ es) vs walks last suffix each wire = absurd each
-    nested_spelled i s (x ∷ items) t [] vs walks last suffix each wire = absurd each
     nested_spelled i s (x ∷ items) t (e ∷ es) vs walks last suffix each wire =
         let u = walks.1.0 in
         let split = walks.1.1 in
@@ -94,3 +91,4 @@ module _ (table : Table) (formed : is_table table ≡ true) (single : (j : ℕ) 
         (element_right table (fields.List flag) k i e list text deep kind one)
         (nested_spelled (i + 1) u items t es first.others walks.1.2 last (suffix_rest p s b u suffix split) each.1 first.wire)
         ∙ ap (λ l. Ok (written_list l)) (sym first.is)
+    nested_spelled i s items t es vs walks last suffix each wire = absurd each

@@ -1,6 +1,6 @@
 -- The entries of a list spell what a rewriting of the list writes.
 use Rattle.std.proofs.Common.{◌≡◌, ℕ, ◌+◌, ◌==◌, true, cond, List, [], ◌∷◌, ◌++◌, length, Ok, Err, refl, sym, ap, ap₂, subst, ◌∙◌}
-use Rattle.std.specs.List.{AllZip, AllByRecursion, flat_map}
+use Rattle.std.specs.List.{AllZip, AllByRecursion}
 use Rattle.std.proofs.lemmas.Bool.{eq-eqb}
 use Rattle.link_base.specs.Number.{IsBytes}
 use Rattle.link_base.specs.Frame.{kind_of}
@@ -17,13 +17,10 @@ use Rattle.link_entries.specs.Flat.{head_entry, IsGroup, Flat}
 use Rattle.link_entries.proofs.EntryFields.{AreBelow, elements_below, keeps_filled}
 use Rattle.link_entries.specs.declared.misfit.Misfit.TheVariants.{BadElement}
 use Rattle.link_entries.specs.Spelled.{before, attribute_of, entries_of, begins_well, spelled_by}
+use Rattle.link_entries.proofs.Groups.{joined}
 use Rattle.link_entries.proofs.BackArrays.{none_values}
 use Rattle.link_entries.proofs.BackAttributes.{attribute_back}
 use Rattle.link_entries.proofs.Located.{Located, Suffix, suffix_whole, suffix_payload, suffix_rest}
-
--- the entries of several attributes
-abbrev pub joined : List (List Entry) → List Entry
-joined groups = flat_map (λ group. group) groups
 
 module _ (table : Table) (list : List ℕ) where
   -- elements add nothing to a list: their attribute does
@@ -42,8 +39,6 @@ module _ (table : Table) (list : List ℕ) where
   pub rest_back : is_table table ≡ true → IsBytes list → (s : List ℕ) (items : List Item) (u : List ℕ) (groups : List (List Entry)) (vs : List AttrValue) → Walks (length list) s items u → u ≡ [] → Suffix list s
       → AllZip (IsGroup table) items groups → Wire (Gives table) s vs → AllByRecursion Fits vs → (entries_of table list (joined groups) ≡ Ok (written_list vs)) × (begins_well (joined groups) ≡ true)
   rest_back formed bytes s [] u [] vs walks last suffix each wire fit = (ap (λ w. Ok (written_list w)) (sym (none_values (Gives table) s vs (walks ∙ last) wire)), refl)
-  rest_back formed bytes s [] u (g ∷ groups) vs walks last suffix each wire fit = absurd each
-  rest_back formed bytes s (x ∷ items) u [] vs walks last suffix each wire fit = absurd each
   rest_back formed bytes s (x ∷ items) u (g ∷ groups) vs walks last suffix each wire fit =
       let (content, has, (below, elements, is)) = each.0 in
       let b = x.1 in
@@ -63,6 +58,7 @@ module _ (table : Table) (list : List ℕ) where
         ap (λ group. entries_of table list (group ++ joined groups)) is ∙ all ∙ ap (λ w. Ok (written_list w)) (sym first.is),
         ap (λ group. begins_well (group ++ joined groups)) is ∙ eq-eqb head.depth 0 keeps.depth,
       )
+  rest_back formed bytes s items u groups vs walks last suffix each wire fit = absurd each
 
 -- the entries of a list spell its rewriting
 pub flat_back : (table : Table) → is_table table ≡ true → (list written : List ℕ) (es : List Entry) → IsBytes list → Flat table list es → Rewriting table list written → spelled_by table list es ≡ Ok written

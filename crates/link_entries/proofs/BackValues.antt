@@ -1,5 +1,5 @@
 -- An entry that was read spells what a rewriting writes: payloads of one class.
-use Rattle.std.proofs.Common.{◌≡◌, inl, inr, ℕ, suc, ◌+◌, ◌-◌, ◌*◌, ◌/◌, ◌%◌, ◌<◌, ◌≤◌, ◌==◌, ◌&&◌, ◌||◌, Bool, true, false, cond, pos, negsuc, List, [], ◌∷◌, ◌++◌, length, take, drop, reverse, replicate, Option, Ok, Err, sym, ap, ap₂, subst, ◌∙◌, arith, take_all, take_at, take-take}
+use Rattle.std.proofs.Common.{◌≡◌, inl, inr, ℕ, suc, ◌+◌, ◌-◌, ◌/◌, ◌%◌, ◌<◌, ◌≤◌, ◌==◌, ◌&&◌, ◌||◌, Bool, true, false, cond, pos, negsuc, List, [], ◌∷◌, ◌++◌, length, take, drop, reverse, replicate, Option, Ok, Err, sym, ap, ap₂, subst, ◌∙◌, arith, take_all, take_at, take-take}
 use Rattle.std.specs.Prelude.{nat_le, nat_lt, slice_index}
 use Rattle.std.specs.Int.{w32, w64, cast_signed, cast_unsigned}
 use mir.Val.{sel}
@@ -150,13 +150,7 @@ signed_back e octets x low same is =
 
 -- two bytes in network byte order
 pub be_number : (r : List ℕ) → length r ≡ 2 → IsBytes r → (reverse (bytes_of 2 (number (reverse r))) ≡ r) × (number (reverse r) < 65536)
-be_number [] size h = absurd (omega (arith, size))
-be_number (a ∷ []) size h = absurd (omega (arith, size))
-be_number (a ∷ b ∷ []) size h =
-    let low : (b + 256 * (a + 256 * 0)) % 256 ≡ b = omega (arith, h.0, h.1.0) in
-    let high : (b + 256 * (a + 256 * 0)) / 256 % 256 ≡ a = omega (arith, h.0, h.1.0) in
-    (ap₂ (λ m n. m ∷ n ∷ []) high low, omega (arith, h.0, h.1.0))
-be_number (a ∷ b ∷ c ∷ r) size h = absurd (omega (arith, size))
+be_number r size h = (be_back 2 r h size, be_below 2 r h size)
 
 -- the first byte of two
 pub first_below : (p : List ℕ) → IsBytes p → slice_index p 0 < 256

@@ -12,11 +12,6 @@ cond_same : {A : Type 0} (b : Bool) (x : A) → cond b x x ≡ x
 cond_same true x = refl
 cond_same false x = refl
 
--- the next attribute follows at once
-pub none_below : (table : Table) (own : Fields) (k : ℕ) (octets : List ℕ) (es : List Entry) → begins_well es ≡ true → elements_of table own k octets 0 es ≡ Ok []
-none_below table own k octets [] h = refl
-none_below table own k octets (e ∷ es) h = ap (λ b. cond b (Ok []) (before (alone (element_of table own k 0 e octets)) (elements_of table own k octets (0 + 1) es))) h
-
 module _ (table : Table) (k : ℕ) (e : Entry) (octets p : List ℕ) where
   -- an element follows an attribute that has none
   refused : (own : Fields) (es : List Entry) → ((x : Entry) → element_content table own 0 x octets ≡ Err BadElement) → begins_well es ≡ false → elements_of table own k octets 0 es ≡ Err (0, BadElement)

@@ -1,9 +1,8 @@
 -- The last element of a type or index: of a nested list, of an array, and of a list of addresses.
 use Rattle.std.proofs.Common.{◌≡◌, ◌≢◌, ℕ, zero, suc, ◌+◌, ◌-◌, ◌*◌, ◌/◌, ◌<◌, ◌≤◌, ◌==◌, Bool, true, false, cond, List, [], ◌∷◌, ◌++◌, length, Option, Some, None, refl, sym, ap, ap₂, subst, ◌∙◌, ◌⊎◌, inl, inr, arith, get_or, Bor}
-use Rattle.std.specs.Option.{option_map}
-use Rattle.std.specs.List.{AllZip, filter, last_or}
-use Rattle.std.proofs.lemmas.List.{append-nil, length-append}
-use Rattle.std.proofs.lemmas.List.Elements.{filter-append}
+use Rattle.std.specs.List.{filter, last_or}
+use Rattle.std.proofs.lemmas.List.{append-nil, length-append, map-id}
+use Rattle.std.proofs.lemmas.List.Concat.{flat_map_single}
 use Rattle.std.proofs.lemmas.Bool.{eq-eqb, ne_eqb}
 use Rattle.link_base.specs.declared.wire.buffer.NlaBuffer.{NlaBuffer}
 use Rattle.link_base.specs.declared.views.content.Content.{Content}
@@ -15,15 +14,16 @@ use Rattle.link_base.specs.Table.{Table, Shape, class_at}
 use Rattle.link_base.specs.Borrowed.{Borrows, form_of, elements_at}
 use Rattle.link_base.proofs.ViewLemmas.{split_less}
 use Rattle.link_messages.specs.Walk.{Item, Walks, Walk}
-use Rattle.link_messages.specs.BeforeFault.{seen_of, last_item}
-use Rattle.link_messages.proofs.Walking.{walks_more, walk_unique}
+use Rattle.link_messages.specs.BeforeFault.{last_item}
+use Rattle.link_messages.proofs.Walking.{walks_more}
 use Rattle.link_entries.specs.declared.entry.Entry.{Entry}
 use Rattle.link_entries.specs.Flat.{indexed, number_entry, number_entries, address_entry, AreAddresses, IsElement, AreElements, IsGroup}
-use Rattle.link_entries.specs.Finding.{last_inner, IsOneElement, IsLastElement, IsElementFound}
-use Rattle.link_entries.proofs.LastAttribute.{has_kind}
-use Rattle.link_entries.proofs.EntryFields.{keeps_filled, last_seen}
+use Rattle.link_entries.specs.Finding.{BothOrNone, last_inner, IsOneElement, IsLastElement, IsElementFound}
+use Rattle.link_entries.proofs.LastOf.{has_kind, last_more, zip_last, one_last}
+use Rattle.link_entries.proofs.EntryFields.{keeps_filled}
 use Rattle.link_entries.proofs.Shapes.{list_payload, no_elements}
 use Rattle.link_entries.proofs.FormElements.{ElementsBy, elements_by, elements_told}
+use Rattle.link_entries.proofs.ArrayNumbers.{length-numbers_at}
 use Rattle.link_entries.proofs.AddressEntries.{entry_at, entries_of, entries_more}
 use Rattle.link_entries.proofs.Unique.{one_element, one_below}
 
@@ -31,67 +31,22 @@ use Rattle.link_entries.proofs.Unique.{one_element, one_below}
 abbrev is_inner : ℕ → Entry → Bool
 is_inner i e = e.inner == i
 
-pass : {A : Type 0} (b : Bool) (o : Option A) (x : A) (xs : List A) → last_or o (cond b (x ∷ xs) xs) ≡ last_or (cond b (Some x) o) xs
-pass true o x xs = refl
-pass false o x xs = refl
-
-last_push : {A : Type 0} (o : Option A) (xs : List A) (x : A) → last_or o (xs ++ x ∷ []) ≡ Some x
-last_push o [] x = refl
-last_push o (y ∷ xs) x = last_push (Some y) xs x
-
-last_when : {A : Type 0} (b : Bool) (xs : List A) (x : A) → last_or None (xs ++ cond b (x ∷ []) []) ≡ cond b (Some x) (last_or None xs)
-last_when true xs x = last_push None xs x
-last_when false xs x = ap (last_or None) (append-nil xs)
-
--- one entry more
-last_inner_push : (i : ℕ) (es : List Entry) (e : Entry) → last_inner i (es ++ e ∷ []) ≡ cond (e.inner == i) (Some e) (last_inner i es)
-last_inner_push i es e = ap (last_or None) (filter-append (is_inner i) es (e ∷ [])) ∙ last_when (e.inner == i) (filter (is_inner i) es) e
-
 -- ---- nested lists
 
 module _ (table : Table) (k at : ℕ) where
-  -- the entry of an element, if there is one
-  abbrev pub IsOne : Option Item → Option Entry → Type 0
-  IsOne o found = IsOneElement table k at o found
-
-  one_if : (b : Bool) (x : Item) (e : Entry) (o : Option Item) (found : Option Entry) → IsElement table k (at + (x.0 + 4)) x.1 e → IsOne o found → IsOne (cond b (Some x) o) (cond b (Some e) found)
-  one_if true x e o found is h = is
-  one_if false x e o found is h = h
-
-  one_last : (i : ℕ) (items : List Item) (es : List Entry) (o : Option Item) (found : Option Entry) → AllZip (λ x e. IsElement table k (at + (x.0 + 4)) x.1 e) items es → IsOne o found
-      → IsOne (last_or o (filter (has_kind i) items)) (last_or found (filter (is_inner i) es))
-  one_last i [] [] o found h is = is
-  one_last i [] (e ∷ es) o found h is = absurd h
-  one_last i (x ∷ items) [] o found h is = absurd h
-  one_last i (x ∷ items) (e ∷ es) o found h is =
-      let (content, has, built) = h.0 in
-      let inner : e.inner ≡ kind_of (kind_field_of x.1) = ap (λ d. d.inner) built ∙ (keeps_filled (kind_field_of x.1) content 0 _).inner in
-      let test : is_inner i e ≡ has_kind i x = ap (λ n. n == i) inner in
-      let b = has_kind i x in
-      let rest = one_last i items es (cond b (Some x) o) (cond b (Some e) found) h.1 (one_if b x e o found h.0 is) in
-      let entries : last_or found (filter (is_inner i) (e ∷ es)) ≡ last_or (cond b (Some e) found) (filter (is_inner i) es) =
-      ap (λ c. last_or found (cond c (e ∷ filter (is_inner i) es) (filter (is_inner i) es))) test ∙ pass b found e (filter (is_inner i) es) in
-      subst (λ z. IsOne z (last_or found (filter (is_inner i) (e ∷ es)))) (sym (pass b o x (filter (has_kind i) items)))
-      (subst (IsOne (last_or (cond b (Some x) o) (filter (has_kind i) items))) (sym entries) rest)
-
-  same_one : (o o' : Option Item) (e e' : Option Entry) → option_map seen_of o ≡ option_map seen_of o' → IsOne o e → IsOne o' e' → e ≡ e'
-  same_one None None None None same h k = refl
-  same_one None None None (Some e') same h k = absurd k
-  same_one None None (Some e) e' same h k = absurd h
-  same_one None (Some x) e e' same h k = absurd cc
-  same_one (Some x) None e e' same h k = absurd cc
-  same_one (Some x) (Some y) None e' same h k = absurd h
-  same_one (Some x) (Some y) (Some e) None same h k = absurd k
-  same_one (Some x) (Some y) (Some e) (Some e') same h k = let seen : seen_of x ≡ seen_of y = cc in ap (λ d. Some d) (one_element table _ at x y e e' seen h k)
+  element_kind : (i : ℕ) (x : Item) (e : Entry) → IsElement table k (at + (x.0 + 4)) x.1 e → (b : Entry) × IsElement table k (at + (x.0 + 4)) x.1 b × (filter (is_inner i) (e ∷ []) ≡ cond (has_kind i x) (b ∷ []) [])
+  element_kind i x e h =
+      let inner : e.inner ≡ kind_of (kind_field_of x.1) = ap (λ d. d.inner) h.2 ∙ (keeps_filled (kind_field_of x.1) h.0 0 _).inner in
+      (e, h, ap (λ n. cond (n == i) (e ∷ []) []) inner)
 
   -- the last element of a type in a nested list
-  pub nested_found : (i : ℕ) (list : List ℕ) (found : Option Entry) → (items : List Item) × Walk list items None × IsOne (last_item i items) found → (es : List Entry) → AreElements table k at list es
+  pub nested_found : (i : ℕ) (list : List ℕ) (found : Option Entry) → (items : List Item) × Walk list items None × IsOneElement table k at (last_item i items) found → (es : List Entry) → AreElements table k at list es
       → found ≡ last_inner i es
   nested_found i list found (items, walk, is) es (items', walk', each) =
-      let seen = (walk_unique list items items' None None walk walk').0 in
-      let same : option_map seen_of (last_item i items) ≡ option_map seen_of (last_item i items') =
-      last_seen i None items ∙ ap (λ s. last_or None (filter (λ x. kind_of x.1 == i) s)) seen ∙ sym (last_seen i None items') in
-      same_one (last_item i items) (last_item i items') found (last_inner i es) same is (one_last i items' es None None each tt)
+      let R : Item → Entry → Type 0 = λ x e. IsElement table k (at + (x.0 + 4)) x.1 e in
+      let last = zip_last R (has_kind i) (is_inner i) R (λ e. e ∷ []) (element_kind i) items' es None None each tt in
+      one_last R (one_element table k at) i list items items' found (last_inner i es) walk walk' is
+      (subst (λ l. BothOrNone R (last_item i items') (last_inner i l)) (flat_map_single (λ e. e) es ∙ map-id es) last)
 
 -- ---- arrays
 
@@ -133,10 +88,6 @@ get_or-numbers_at width (suc n) offset (suc i) p h =
     let there : offset + width + i * width ≡ offset + suc i * width = omega arith in
     get_or-numbers_at width n (offset + width) i p (omega arith) ∙ ap (λ at. number_at width at p) there
 
-length-numbers_at : (width n offset : ℕ) (p : List ℕ) → length (numbers_at width n offset p) ≡ n
-length-numbers_at width zero offset p = refl
-length-numbers_at width (suc n) offset p = let more = length-numbers_at width n (offset + width) p in omega arith
-
 module _ (k at width : ℕ) (p : List ℕ) (i : ℕ) where
   -- the number at an index
   pub number_found : i < length p / width → Some (number_entry k at width i (number_at width (i * width) p)) ≡ last_inner i (number_entries k at width p)
@@ -177,7 +128,7 @@ module _ (k at n i : ℕ) where
         items = h.items ++ item ∷ [];
         walks = walks_more (length list) list h.items rest x after h.walks split;
         count = omega (arith, counted, h.count, ap length one, length-append front (last ∷ []));
-        last = e ∙ ap₂ (λ j d. cond (j == i) (Some d) found) h.count here ∙ ap (cond (length front == i) (Some last)) h.last ∙ sym (last_inner_push i front last) ∙ ap (last_inner i) (sym one);
+        last = e ∙ ap₂ (λ j d. cond (j == i) (Some d) found) h.count here ∙ ap (cond (length front == i) (Some last)) h.last ∙ sym (last_more (is_inner i) front last) ∙ ap (last_inner i) (sym one);
         room = omega (arith, counted, split_less rest x after split, h.room);
       }
   more_by false list rest after index index' found found' offset x is h split place e counted =

@@ -1,43 +1,22 @@
 -- The last attribute of a type: one attribute more, and its entry.
-use Rattle.std.proofs.Common.{◌≡◌, ℕ, ◌+◌, ◌-◌, ◌*◌, ◌≤◌, ◌==◌, Bool, true, false, cond, List, [], ◌∷◌, ◌++◌, length, Option, Some, None, refl, sym, ap, subst, ◌∙◌, arith, get_or}
+use Rattle.std.proofs.Common.{◌≡◌, ℕ, ◌+◌, ◌-◌, ◌*◌, ◌≤◌, ◌==◌, Bool, true, false, cond, List, [], ◌∷◌, length, Option, Some, None, refl, sym, ap, ap₂, subst, ◌∙◌, arith, get_or}
 use Rattle.std.specs.Prelude.{IfSome}
 use Rattle.std.specs.Option.{option_map}
-use Rattle.std.specs.List.{filter, last_or}
-use Rattle.std.proofs.lemmas.List.{append-nil}
-use Rattle.std.proofs.lemmas.List.Elements.{filter-append}
+use Rattle.std.proofs.lemmas.Bool.{cond_both}
 use Rattle.link_base.specs.declared.views.attribute_set.AttributeSet as sets
 use Rattle.link_base.specs.declared.views.view.Value.{Value}
-use Rattle.link_base.specs.Frame.{kind_of}
-use Rattle.link_base.specs.Buffer.{kind_field_of, payload_of, SplitsFirst}
+use Rattle.link_base.specs.Buffer.{payload_of, SplitsFirst}
 use Rattle.link_base.specs.Table.{Table}
 use Rattle.link_base.specs.Viewed.{buffer_in, kind_in, payload_in, set_in}
-use Rattle.link_messages.specs.Walk.{Item, Walks, Walk}
+use Rattle.link_messages.specs.Walk.{Item, Walk}
 use Rattle.link_messages.specs.BeforeFault.{last_item}
-use Rattle.link_messages.proofs.Walking.{walks_more, split_short}
+use Rattle.link_messages.proofs.Walking.{split_short, Reached, reached_none, reached_more}
 use Rattle.link_entries.specs.declared.entry.Entry.{Entry}
 use Rattle.link_entries.specs.Entry.{placed}
 use Rattle.link_entries.specs.Flat.{head_entry, IsGroup, Puts}
 use Rattle.link_entries.specs.Finding.{item_of, IsEntryOf}
 use Rattle.link_entries.proofs.Groups.{placed_past}
-
-pub last_push : {A : Type 0} (o : Option A) (xs : List A) (x : A) → last_or o (xs ++ x ∷ []) ≡ Some x
-last_push o [] x = refl
-last_push o (y ∷ xs) x = last_push (Some y) xs x
-
--- whether an item has the type
-abbrev pub has_kind : ℕ → Item → Bool
-has_kind k x = kind_of (kind_field_of x.1) == k
-
--- the last item of the type, with one item more
-last_met : (k : ℕ) (items : List Item) (x : Item) → has_kind k x ≡ true → last_item k (items ++ x ∷ []) ≡ Some x
-last_met k items x is =
-    let front = filter (has_kind k) items in
-    ap (last_or None) (filter-append (has_kind k) items (x ∷ []) ∙ ap (λ b. front ++ cond b (x ∷ []) []) is) ∙ last_push None front x
-
-last_passed : (k : ℕ) (items : List Item) (x : Item) → has_kind k x ≡ false → last_item k (items ++ x ∷ []) ≡ last_item k items
-last_passed k items x is =
-    let front = filter (has_kind k) items in
-    ap (last_or None) (filter-append (has_kind k) items (x ∷ []) ∙ ap (λ b. front ++ cond b (x ∷ []) []) is ∙ append-nil front)
+use Rattle.link_entries.proofs.LastOf.{has_kind, last_more}
 
 module _ {S : Type 0} {g : sets.Ghosts S} (k : ℕ) (list : List ℕ) (set : S) where
   -- an attribute of this set that is within the list
@@ -46,47 +25,30 @@ module _ {S : Type 0} {g : sets.Ghosts S} (k : ℕ) (list : List ℕ) (set : S) 
 
   -- the attributes before `rest`, and the last of the type among them
   pub record LastTo (rest : List ℕ) (found : Option (ℕ × Value S g)) : Type 0 where
-    pub items : List Item
-    pub walks : Walks (length list) list items rest
-    pub last : option_map item_of found ≡ last_item k items
+    pub reached : Reached (last_item k) list (option_map item_of found) rest
     pub is : IfSome found IsWithin
-    pub shorter : length rest ≤ length list
 
   pub last_none : LastTo list None
-  last_none = record { items = []; walks = refl; last = refl; is = tt; shorter = omega arith }
+  last_none = record { reached = reached_none (last_item k) list None refl; is = tt }
 
-  more_by : (b : Bool) (rest after : List ℕ) (found found' : Option (ℕ × Value S g)) (at : ℕ) (x : Value S g) → (kind_in x == k) ≡ b → LastTo rest found → SplitsFirst rest (buffer_in x) after
-      → at ≡ length list - length rest → set_in x ≡ set → found' ≡ cond b (Some (at, x)) found → LastTo after found'
-  more_by true rest after found found' at x test h split place same e =
-      let item : Item = (length list - length rest, buffer_in x) in
-      let short = split_short rest (buffer_in x) after split in
-      let within : at + (4 + length (payload_in x)) ≤ length list = omega (arith, place, short.0, h.shorter) in
-      let here : Some (item_of (at, x)) ≡ Some item = ap (λ n. Some (n, buffer_in x)) place in
-      record {
-        items = h.items ++ item ∷ [];
-        walks = walks_more (length list) list h.items rest (buffer_in x) after h.walks split;
-        last = ap (option_map item_of) e ∙ here ∙ sym (last_met k h.items item test);
-        is = subst (λ o. IfSome o IsWithin) (sym e) (same, within);
-        shorter = omega (arith, short.1, h.shorter);
-      }
-  more_by false rest after found found' at x test h split place same e =
-      let item : Item = (length list - length rest, buffer_in x) in
-      let short = split_short rest (buffer_in x) after split in
-      record {
-        items = h.items ++ item ∷ [];
-        walks = walks_more (length list) list h.items rest (buffer_in x) after h.walks split;
-        last = ap (option_map item_of) e ∙ h.last ∙ sym (last_passed k h.items item test);
-        is = subst (λ o. IfSome o IsWithin) (sym e) h.is;
-        shorter = omega (arith, short.1, h.shorter);
-      }
+  found_if : (b : Bool) (x : ℕ × Value S g) (found : Option (ℕ × Value S g)) → option_map item_of (cond b (Some x) found) ≡ cond b (Some (item_of x)) (option_map item_of found)
+  found_if true x found = refl
+  found_if false x found = refl
 
   -- one attribute more
-  pub last_more : (rest after : List ℕ) (found found' : Option (ℕ × Value S g)) (at : ℕ) (x : Value S g) → LastTo rest found → SplitsFirst rest (buffer_in x) after → at ≡ length list - length rest
+  pub last_next : (rest after : List ℕ) (found found' : Option (ℕ × Value S g)) (at : ℕ) (x : Value S g) → LastTo rest found → SplitsFirst rest (buffer_in x) after → at ≡ length list - length rest
       → set_in x ≡ set → found' ≡ cond (kind_in x == k) (Some (at, x)) found → LastTo after found'
-  last_more rest after found found' at x h split place same e = more_by (kind_in x == k) rest after found found' at x refl h split place same e
+  last_next rest after found found' at x h split place same e =
+      let b = kind_in x == k in
+      let within : at + (4 + length (payload_in x)) ≤ length list = omega (arith, place, (split_short rest (buffer_in x) after split).0, h.reached.room) in
+      record {
+        reached = reached_more (last_item k) list rest after (option_map item_of found) (option_map item_of found') (buffer_in x) h.reached split (λ items is.
+            ap (option_map item_of) e ∙ found_if b (at, x) found ∙ ap₂ (λ n o. cond b (Some (n, buffer_in x)) o) place is ∙ sym (last_more (has_kind k) items (length list - length rest, buffer_in x)));
+        is = subst (λ o. IfSome o IsWithin) (sym e) (cond_both b (Some (at, x)) found (λ o. IfSome o IsWithin) (λ _. (same, within)) (λ _. h.is));
+      }
 
   pub last_all : (rest : List ℕ) (found : Option (ℕ × Value S g)) → LastTo rest found → rest ≡ [] → (items : List Item) × Walk list items None × (option_map item_of found ≡ last_item k items)
-  last_all rest found h end = (h.items, record { rest = rest; walks = h.walks; end = end }, h.last)
+  last_all rest found h end = (h.reached.items, record { rest = rest; walks = h.reached.walks; end = end }, h.reached.is)
 
   -- what was found is of the set, and within the list
   pub found_set : (found : Option (ℕ × Value S g)) → IfSome found IsWithin → IfSome found (λ x. set_in x.1 ≡ set)

@@ -8,6 +8,7 @@ pub mod Shapes
 pub mod FormElements
 pub mod Groups
 pub mod Unique
+pub mod LastOf
 pub mod LastAttribute
 pub mod EntryFields
 pub mod FoundElements
@@ -26,6 +27,7 @@ pub mod BackElements
 pub mod BackAttributes
 pub mod BackLists
 pub mod WrittenLists
+pub mod WrittenParts
 pub mod WrittenSizes
 pub mod WrittenFields
 pub mod WrittenAttributes

@@ -1,6 +1,7 @@
 -- What an entry has, by the form of its content and the value of its payload: all contents of a payload give one entry.
 use Rattle.std.proofs.Common.{◌≡◌, ℕ, ◌-◌, ◌<◌, Bool, true, false, cond, ℤ, pos, reverse, List, [], length, Option, Some, None, refl, sym, ap, ap₂, ◌∙◌, arith}
 use Rattle.std.specs.Int.{w64, cast_unsigned}
+use Rattle.std.proofs.lemmas.Bool.{cond_both}
 use Rattle.link_base.specs.declared.wire.buffer.NlaBuffer.{NlaBuffer}
 use Rattle.link_base.specs.declared.views.content.Content.{Content}
 use Rattle.link_base.specs.declared.views.content.Content.TheVariants as contents
@@ -11,7 +12,7 @@ use Rattle.link_base.specs.declared.rows.form.Role.TheVariants as roles
 use Rattle.link_base.specs.declared.rows.form.Form.{Form}
 use Rattle.link_base.specs.declared.rows.form.Form.TheVariants as forms
 use Rattle.link_base.specs.Class as classes
-use Rattle.link_base.specs.Class.{Class, Value, meant}
+use Rattle.link_base.specs.Class.{Class, Value, meant, named, is_listed}
 use Rattle.link_base.specs.Forms.{bytes_in as width_of}
 use Rattle.link_base.specs.Number.{number, bytes_of, bound, four_bytes}
 use Rattle.link_base.specs.Layout.{number_at}
@@ -44,6 +45,10 @@ integer_in v = pos 0
 abbrev pub bytes_in : Value → List ℕ
 bytes_in (classes.Raw bytes) = bytes
 bytes_in v = []
+
+-- a number is the same with and without a name
+pub number-named : (n : ℕ) (listed : List ℕ) (d : ℕ) → number_in (named n listed d) ≡ d
+number-named n listed d = cond_both (is_listed listed d) (classes.Name n d) (classes.Unlisted n listed d) (λ v. number_in v ≡ d) (λ _. refl) (λ _. refl)
 
 -- the value of a payload of this shape, if it has one
 abbrev pub value_at : Option Shape → List ℕ → Value

@@ -37,6 +37,5 @@ length-indexed f i (x ∷ xs) = let more = length-indexed f (i + 1) xs in omega 
 -- one pair more
 pub zip_more : {A B : Type 0} (R : A → B → Type 0) (xs : List A) (ys : List B) (x : A) (y : B) → AllZip R xs ys → R x y → AllZip R (xs ++ x ∷ []) (ys ++ y ∷ [])
 zip_more R [] [] x y h r = (r, tt)
-zip_more R [] (z ∷ ys) x y h r = absurd h
-zip_more R (z ∷ xs) [] x y h r = absurd h
 zip_more R (z ∷ xs) (w ∷ ys) x y h r = (h.0, zip_more R xs ys x y h.1 r)
+zip_more R xs ys x y h r = absurd h

@@ -29,9 +29,8 @@ use Rattle.link_entries.specs.Payload.{payload_of, field_of}
 -- the form in a label is that of the row
 form_told : (l : Option KindLabel) (r : Option (Row Shape)) → label_in l ≡ option_map label_by r → option_map (λ x. x.form) l ≡ option_map (λ x. x.form) r
 form_told None None h = refl
-form_told None (Some r) h = absurd cc
-form_told (Some l) None h = absurd cc
 form_told (Some l) (Some r) h = ap (option_map (λ told. told.2)) h
+form_told l r h = absurd cc
 
 pub label_fields : (l : Option KindLabel) (table : Table) (k : ℕ) → label_in l ≡ label_at table k → fields_in (option_map (λ x. x.form) l) ≡ fields_at table k
 label_fields l table k h = ap fields_in (form_told l (row_at table k) h)

@@ -1,24 +1,18 @@
 -- What entries spell, one entry at a time.
-use Rattle.std.proofs.Common.{◌≡◌, cond, ℕ, ◌+◌, ◌/◌, ◌%◌, ◌<◌, ◌≤◌, replicate, List, [], ◌∷◌, ◌++◌, length, Result, Ok, Err, refl, sym, ap, ap₂, subst, ◌∙◌, arith, append_assoc}
+use Rattle.std.proofs.Common.{◌≡◌, cond, ℕ, ◌+◌, ◌/◌, ◌%◌, ◌≤◌, replicate, List, [], ◌∷◌, ◌++◌, length, Result, Ok, Err, sym, ap, ap₂, subst, ◌∙◌, arith, append_assoc}
 use Rattle.std.proofs.lemmas.List.{append-nil}
 use Rattle.link_base.specs.Number.{bytes_of}
-use Rattle.std.proofs.lemmas.Bool.{le-leb, lt-leb}
+use Rattle.std.proofs.lemmas.Bool.{le-leb}
 use Rattle.link_base.specs.Frame.{frame_bytes, gap, max_payload}
 use Rattle.link_base.specs.Wire.{whole}
-use Rattle.link_base.specs.Answers.{capped}
 use Rattle.link_entries.specs.declared.misfit.Misfit.{Misfit}
 use Rattle.link_entries.specs.declared.misfit.Misfit.TheVariants.{TooLong}
-use Rattle.link_entries.specs.Spelled.{Spelling, alone, before, fitted, measured}
+use Rattle.link_entries.specs.Spelled.{Spelling, alone, before, fitted}
 
 -- these bytes of i entries, then what the others spell
 abbrev pub after : List ℕ → ℕ → Spelling → Spelling
 after text i (Ok s) = Ok (text ++ s)
 after text i (Err e) = Err (i + e.0, e.1)
-
--- no entries yet
-pub after-none : (s : Spelling) → s ≡ after [] 0 s
-after-none (Ok s) = refl
-after-none (Err e) = let same : e.0 ≡ 0 + e.0 = omega arith in ap (λ n. Err (n, e.1)) same
 
 -- one entry more
 pub after-more : (text s : List ℕ) (i : ℕ) (others : Spelling) → after text i (before (Ok s) others) ≡ after (text ++ s) (i + 1) others
@@ -49,13 +43,6 @@ frame_low f p = ap (λ b. bytes_of 2 (4 + length p) ++ (b ++ (p ++ replicate (ga
     low : (f : ℕ) → bytes_of 2 (f % 65536) ≡ bytes_of 2 f
     low f = let one : f % 65536 % 256 ≡ f % 256 = omega arith in let two : f % 65536 / 256 % 256 ≡ f / 256 % 256 = omega arith in ap₂ (λ a b. a ∷ b ∷ []) one two
 
--- ---- what was measured
-
--- the bytes of a length that was measured
-pub measured_ok : (s : Spelling) (n : ℕ) → Ok n ≡ measured s → (text : List ℕ) × (s ≡ Ok text) × (n ≡ capped (length text))
-measured_ok (Ok text) n e = (text, refl, cc)
-measured_ok (Err x) n e = absurd cc
-
 -- an entry that adds nothing
 pub reached_skip : (whole others : Spelling) (text : List ℕ) (i : ℕ) (here : Spelling) → Reached whole text i (before here others) → here ≡ Ok [] → Reached whole text (i + 1) others
 reached_skip whole others text i here h e = subst (λ t. Reached whole t (i + 1) others) (append-nil text) (reached_more whole others text [] i here h e)
@@ -63,9 +50,6 @@ reached_skip whole others text i here h e = subst (λ t. Reached whole t (i + 1)
 -- ---- attributes with their elements
 
 module _ (f : ℕ) (own : Result (List ℕ) Misfit) (others : Spelling) where
-  pub fitted_long : (p t : List ℕ) → own ≡ Ok p → others ≡ Ok t → max_payload < length (p ++ t) → fitted f (before (alone own) others) ≡ Err (0, TooLong)
-  fitted_long p t e e' long = ap₂ (λ r s. fitted f (before (alone r) s)) e e' ∙ ap (λ b. cond b (Ok (frame_bytes (whole f (p ++ t)))) (Err (0, TooLong))) (lt-leb (length (p ++ t)) max_payload long)
-
   pub fitted_all : (p t : List ℕ) → own ≡ Ok p → others ≡ Ok t → length (p ++ t) ≤ max_payload → fitted f (before (alone own) others) ≡ Ok (frame_bytes (whole f (p ++ t)))
   fitted_all p t e e' short = ap₂ (λ r s. fitted f (before (alone r) s)) e e' ∙ ap (λ b. cond b (Ok (frame_bytes (whole f (p ++ t)))) (Err (0, TooLong))) (le-leb (length (p ++ t)) max_payload short)
 

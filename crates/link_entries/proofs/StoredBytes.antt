@@ -22,11 +22,6 @@ use Rattle.link_entries.specs.Fields.{fields_at}
 use Rattle.link_entries.specs.Stored.{with_at, StoresAt, header, padded, sized, StoresPayload, StoresBytes, Spells}
 use Rattle.link_entries.proofs.Spellings.{frame_low, Reached, reached_all, reached_error}
 
--- the length of a buffer with s at an offset
-length-with : (a : ℕ) (s x : List ℕ) → a + length s ≤ length x → length (with_at a s x) ≡ length x
-length-with a s x room =
-    omega (arith, length-append (take a x) (s ++ drop (a + length s) x), length-append s (drop (a + length s) x), length-take a x, length-drop (a + length s) x, room)
-
 module _ (a : ℕ) (s t x y z : List ℕ) where
   -- s, then t after it
   pub stored_then : StoresAt a s x y → StoresAt (a + length s) t y z → StoresAt a (s ++ t) x z
@@ -90,10 +85,6 @@ pub stored_frame : (f : ℕ) (p x y z : List ℕ) → StoresAt 4 (padded p) x y 
 stored_frame f p x y z h k =
     subst (λ s. StoresAt 0 s x z) (append_assoc (bytes_of 2 (4 + length p)) (bytes_of 2 f) (padded p))
     (stored_before 0 (header f (length p)) (padded p) x y z h k)
-
--- nothing
-pub stored_none : (at : ℕ) (x : List ℕ) → StoresAt at [] x x
-stored_none at x = record { same = refl; stored = λ room. sym (ap (λ n. take at x ++ drop n x) (omega arith) ∙ take-append-drop at x) }
 
 -- ---- what a function stored
 

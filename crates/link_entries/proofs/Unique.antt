@@ -20,16 +20,11 @@ use Rattle.link_entries.proofs.FormElements.{ElementsBy, elements_told}
 zip_one : {A B K : Type 0} (key : A → K) (R : A → B → Type 0) → ((x y : A) (b c : B) → key x ≡ key y → R x b → R y c → b ≡ c) → (xs ys : List A) (bs cs : List B) → map key xs ≡ map key ys
     → AllZip R xs bs → AllZip R ys cs → bs ≡ cs
 zip_one key R one [] [] [] [] e h k = refl
-zip_one key R one [] [] [] (c ∷ cs) e h k = absurd k
-zip_one key R one [] [] (b ∷ bs) cs e h k = absurd h
-zip_one key R one [] (y ∷ ys) bs cs e h k = absurd cc
-zip_one key R one (x ∷ xs) [] bs cs e h k = absurd cc
-zip_one key R one (x ∷ xs) (y ∷ ys) [] cs e h k = absurd h
-zip_one key R one (x ∷ xs) (y ∷ ys) (b ∷ bs) [] e h k = absurd k
 zip_one key R one (x ∷ xs) (y ∷ ys) (b ∷ bs) (c ∷ cs) e h k =
     let same : key x ≡ key y = cc in
     let rest : map key xs ≡ map key ys = cc in
     ap₂ (λ d ds. d ∷ ds) (one x y b c same h.0 k.0) (zip_one key R one xs ys bs cs rest h.1 k.1)
+zip_one key R one xs ys bs cs e h k = absurd (first_of (cc, assumption))
 
 -- ---- elements
 

@@ -1,7 +1,6 @@
 -- What entries spell decodes: attributes and elements without elements of their own, and the elements of lists.
-use Rattle.std.proofs.Common.{◌≡◌, inl, inr, ℕ, ◌+◌, ◌*◌, ◌%◌, ◌<◌, ◌≤◌, ◌==◌, ◌&&◌, true, false, cond, List, [], ◌∷◌, ◌++◌, length, replicate, Ok, refl, sym, ap, subst, ◌∙◌, arith}
+use Rattle.std.proofs.Common.{◌≡◌, ℕ, ◌+◌, ◌*◌, ◌%◌, ◌<◌, ◌≤◌, ◌==◌, true, false, List, [], ◌∷◌, ◌++◌, length, replicate, Ok, refl, sym, ap, subst, ◌∙◌, arith}
 use Rattle.std.specs.List.{AllByRecursion}
-use Rattle.std.proofs.lemmas.Bool.{cases_Bool}
 use Rattle.std.proofs.lemmas.List.{length-append}
 use Rattle.link_base.specs.declared.rows.form.Width.{Width}
 use Rattle.link_base.specs.declared.rows.form.Order.TheVariants as orders
@@ -14,15 +13,15 @@ use Rattle.link_base.specs.Table.{Table, AttrValue, Single, Case, Other, class_a
 use Rattle.link_base.specs.WellFormed.{is_table}
 use Rattle.link_entries.specs.declared.entry.Entry.{Entry}
 use Rattle.link_entries.specs.Forms.{form_unsigned}
-use Rattle.link_entries.specs.declared.fields.Fields.{Fields}
 use Rattle.link_entries.specs.declared.fields.Fields.TheVariants as fields
-use Rattle.link_entries.specs.declared.misfit.Misfit.TheVariants.{BadElement}
 use Rattle.link_entries.specs.Fields.{ip_address, fields_in, fields_at}
 use Rattle.link_entries.specs.Payload.{payload_of, field_of}
-use Rattle.link_entries.specs.Spelled.{alone, before, element_content, element_of, elements_of}
+use Rattle.link_entries.specs.Spelled.{element_content, elements_of}
 use Rattle.link_entries.proofs.RowForms.{is_list, with_kind, field_kind, array_fields, NoRow, OneValue, Array, AddressList, NestedList, row_says}
 use Rattle.link_entries.proofs.Spellings.{frame_low}
-use Rattle.link_entries.proofs.WrittenLists.{same_spells, if_held, before_ok, alone_ok, framed_ok, wire_none, wire_more}
+use Rattle.link_entries.proofs.WrittenLists.{same_spells, framed_ok, wire_none, wire_more}
+use Rattle.link_entries.proofs.EntryFields.{AreBelow}
+use Rattle.link_entries.proofs.WrittenParts.{goes}
 use Rattle.link_entries.proofs.WrittenSizes.{number_size, size_back}
 use Rattle.link_entries.proofs.WrittenFields.{field_held}
 
@@ -65,55 +64,30 @@ single_decodes table formed e octets p s held short single h text =
       | NestedList flagged rows named class low ↦ let no : is_list (fields_at table k) ≡ true = ap (λ o. is_list (fields_in o)) named in absurd cc
     ]
 
--- ---- one element more
-
-pub data Next (table : Table) (own : Fields) (k i : ℕ) (octets : List ℕ) (e : Entry) (es : List Entry) (s : List ℕ) : Type 0 where
-  Ends : s ≡ [] → Next table own k i octets e es s
-  Goes : (here others : List ℕ) → element_content table own i e octets ≡ Ok here → elements_of table own k octets (i + 1) es ≡ Ok others → s ≡ here ++ others → Next table own k i octets e es s
-
-pub next_element : (table : Table) (own : Fields) (k i : ℕ) (octets : List ℕ) (e : Entry) (es : List Entry) (s : List ℕ) → elements_of table own k octets i (e ∷ es) ≡ Ok s → Next table own k i octets e es s
-next_element table own k i octets e es s h =
-    elim (cases_Bool (e.depth == 0)) [
-      | inl flat ↦
-          Ends (sym (same_spells [] s (sym (ap (λ b. cond b (Ok []) (before (alone (element_of table own k i e octets)) (elements_of table own k octets (i + 1) es))) flat) ∙ h)))
-      | inr deep ↦
-          let both = before_ok (alone (element_of table own k i e octets)) (elements_of table own k octets (i + 1) es) s
-          (sym (ap (λ b. cond b (Ok []) (before (alone (element_of table own k i e octets)) (elements_of table own k octets (i + 1) es))) deep) ∙ h) in
-          let one = if_held ((e.depth == 1) && (e.kind == k)) BadElement (element_content table own i e octets) both.first (alone_ok (element_of table own k i e octets) both.first both.is_first) in
-          Goes both.first both.second one.1 both.is_second both.is
-    ]
-
 -- ---- addresses
 
 module _ (table : Table) (n k : ℕ) (octets : List ℕ) where
-  pub addresses_decode : (i : ℕ) (es : List Entry) (s : List ℕ) → length s ≤ 65531 → elements_of table (fields.Addresses n) k octets i es ≡ Ok s → (vs : List (List ℕ)) × Wire PayloadGives s vs
-  addresses_decode i [] s few h = ([], subst (λ t. Wire PayloadGives t []) (same_spells [] s h) (wire_none PayloadGives))
-  addresses_decode i (e ∷ es) s few h =
-      elim (next_element table (fields.Addresses n) k i octets e es s h) [
-        | Ends none ↦ ([], subst (λ t. Wire PayloadGives t []) (sym none) (wire_none PayloadGives))
-        | Goes here others content later is ↦
-            let (p, payload, text) = framed_ok i (payload_of (ip_address n) e octets) here content in
-            let size : length s ≡ length here + length others = ap length is ∙ length-append here others in
-            let (vs, wire) = addresses_decode (i + 1) es others (omega (arith, size, few)) later in
-            let low : i % 65536 < 65536 = omega arith in
-            let short : length p ≤ 65531 = omega (arith, size, few, ap length text, length-append p (replicate (gap p) 0)) in
-            let whole_text : frame_bytes (whole (i % 65536) p) ++ others ≡ s = ap (λ t. t ++ others) (frame_low i p ∙ sym text) ∙ sym is in
-            (p ∷ vs, subst (λ t. Wire PayloadGives t (p ∷ vs)) whole_text (wire_more PayloadGives (i % 65536) p others p vs low short refl wire))
-      ]
+  pub addresses_decode : (i : ℕ) (es : List Entry) (s : List ℕ) → AreBelow es → length s ≤ 65531 → elements_of table (fields.Addresses n) k octets i es ≡ Ok s → (vs : List (List ℕ)) × Wire PayloadGives s vs
+  addresses_decode i [] s deep few h = ([], subst (λ t. Wire PayloadGives t []) (same_spells [] s h) (wire_none PayloadGives))
+  addresses_decode i (e ∷ es) s deep few h =
+      let one = goes table (fields.Addresses n) k octets i e es s (ap (λ m. m == 0) deep.0) h in
+      let (p, payload, text) = framed_ok i (payload_of (ip_address n) e octets) one.here one.content in
+      let size : length s ≡ length one.here + length one.others = ap length one.is ∙ length-append one.here one.others in
+      let (vs, wire) = addresses_decode (i + 1) es one.others deep.1 (omega (arith, size, few)) one.later in
+      let short : length p ≤ 65531 = omega (arith, size, few, ap length text, length-append p (replicate (gap p) 0)) in
+      let whole_text : frame_bytes (whole (i % 65536) p) ++ one.others ≡ s = ap (λ t. t ++ one.others) (frame_low i p ∙ sym text) ∙ sym one.is in
+      (p ∷ vs, subst (λ t. Wire PayloadGives t (p ∷ vs)) whole_text (wire_more PayloadGives (i % 65536) p one.others p vs (omega arith) short refl wire))
 
 -- ---- numbers
 
-module _ (table : Table) (w : Width) (k : ℕ) (octets : List ℕ) where
-  pub numbers_size : (i : ℕ) (es : List Entry) (s : List ℕ) → AllByRecursion IsHeld es → elements_of table (fields.Numbers w) k octets i es ≡ Ok s → (m : ℕ) × (length s ≡ m * bytes_in w)
-  numbers_size i [] s held h = (0, omega (arith, ap length (same_spells [] s h)))
-  numbers_size i (e ∷ es) s held h =
-      elim (next_element table (fields.Numbers w) k i octets e es s h) [
-        | Ends none ↦ (0, omega (arith, ap length none))
-        | Goes here others content later is ↦
-            let (m, rest) = numbers_size (i + 1) es others held.1 later in
-            let one = number_size e octets here held.0 form_unsigned w orders.Little _ content in
-            (m + 1, omega (arith, ap length is, length-append here others, one, rest))
-      ]
+module _ (P : Entry → Type 0) (is_held : (e : Entry) → P e → IsHeld e) (table : Table) (w : Width) (k : ℕ) (octets : List ℕ) where
+  pub numbers_length : (i : ℕ) (es : List Entry) (s : List ℕ) → AreBelow es → AllByRecursion P es → elements_of table (fields.Numbers w) k octets i es ≡ Ok s → length s ≡ length es * bytes_in w
+  numbers_length i [] s deep held h = let none = same_spells [] s h in omega (arith, ap length none)
+  numbers_length i (e ∷ es) s deep held h =
+      let one = goes table (fields.Numbers w) k octets i e es s (ap (λ n. n == 0) deep.0) h in
+      let size = number_size e octets one.here (is_held e held.0) form_unsigned w orders.Little _ one.content in
+      let rest = numbers_length (i + 1) es one.others deep.1 held.1 one.later in
+      omega (arith, ap length one.is, length-append one.here one.others, size, rest)
 
 -- ---- nested lists, in which there are no lists
 
@@ -125,14 +99,11 @@ module _ (table : Table) (formed : is_table table ≡ true) (single : (j : ℕ) 
       let short : length p ≤ 65531 = omega (arith, few, ap length text, length-append p (replicate (gap p) 0)) in
       single_decodes table formed (with_kind e e.inner) octets p s held short (single e.inner) payload (text ∙ ap (λ f. frame_bytes (whole f p)) (sym (field_kind own e.inner e e.inner)))
 
-  pub nested_decodes : (i : ℕ) (es : List Entry) (s : List ℕ) → AllByRecursion IsHeld es → length s ≤ 65531 → elements_of table (fields.List flag) k octets i es ≡ Ok s → (vs : List AttrValue) × Wire (Gives table) s vs
-  nested_decodes i [] s held few h = ([], subst (λ t. Wire (Gives table) t []) (same_spells [] s h) (wire_none (Gives table)))
-  nested_decodes i (e ∷ es) s held few h =
-      elim (next_element table (fields.List flag) k i octets e es s h) [
-        | Ends none ↦ ([], subst (λ t. Wire (Gives table) t []) (sym none) (wire_none (Gives table)))
-        | Goes here others content later is ↦
-            let size : length s ≡ length here + length others = ap length is ∙ length-append here others in
-            let (vs, wire) = nested_decodes (i + 1) es others held.1 (omega (arith, size, few)) later in
-            let a = element_decodes i e here held.0 (omega (arith, size, few)) content in
-            (a.value ∷ vs, subst (λ t. Wire (Gives table) t (a.value ∷ vs)) (ap (λ t. t ++ others) a.text ∙ sym is) (wire_more (Gives table) a.field a.payload others a.value vs a.low a.short a.given wire))
-      ]
+  pub nested_decodes : (i : ℕ) (es : List Entry) (s : List ℕ) → AreBelow es → AllByRecursion IsHeld es → length s ≤ 65531 → elements_of table (fields.List flag) k octets i es ≡ Ok s → (vs : List AttrValue) × Wire (Gives table) s vs
+  nested_decodes i [] s deep held few h = ([], subst (λ t. Wire (Gives table) t []) (same_spells [] s h) (wire_none (Gives table)))
+  nested_decodes i (e ∷ es) s deep held few h =
+      let one = goes table (fields.List flag) k octets i e es s (ap (λ n. n == 0) deep.0) h in
+      let size : length s ≡ length one.here + length one.others = ap length one.is ∙ length-append one.here one.others in
+      let (vs, wire) = nested_decodes (i + 1) es one.others deep.1 held.1 (omega (arith, size, few)) one.later in
+      let a = element_decodes i e one.here held.0 (omega (arith, size, few)) one.content in
+      (a.value ∷ vs, subst (λ t. Wire (Gives table) t (a.value ∷ vs)) (ap (λ t. t ++ one.others) a.text ∙ sym one.is) (wire_more (Gives table) a.field a.payload one.others a.value vs a.low a.short a.given wire))

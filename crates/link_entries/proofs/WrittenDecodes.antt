@@ -2,7 +2,6 @@
 use Rattle.std.proofs.Common.{◌≡◌, inl, inr, ℕ, ◌*◌, ◌%◌, ◌==◌, Bool, true, false, cond, List, [], ◌∷◌, ◌++◌, length, Option, Some, Ok, Err, refl, sym, ap, subst, ◌∙◌, arith}
 use Rattle.std.specs.List.{AllByRecursion}
 use Rattle.std.proofs.lemmas.Bool.{cases_Bool}
-use Rattle.std.proofs.lemmas.List.{append-nil}
 use Rattle.link_base.specs.declared.rows.form.Form.TheVariants as forms
 use Rattle.link_base.specs.Class.{Many, unless, meant}
 use Rattle.link_base.specs.Forms.{bytes_in}
@@ -19,20 +18,13 @@ use Rattle.link_entries.specs.declared.fields.Fields.{Fields}
 use Rattle.link_entries.specs.declared.fields.Fields.TheVariants as fields
 use Rattle.link_entries.specs.declared.misfit.Misfit.TheVariants.{BadElement}
 use Rattle.link_entries.specs.Fields.{row_fields, fields_in, fields_at}
-use Rattle.link_entries.specs.Payload.{payload_of, field_of}
-use Rattle.link_entries.specs.Spelled.{Spelling, alone, before, elements_of, attribute_of, entry_of, entries_of, begins_well, spelled_by}
+use Rattle.link_entries.specs.Payload.{field_of}
+use Rattle.link_entries.specs.Spelled.{elements_of, attribute_of, entry_of, entries_of, begins_well, spelled_by}
 use Rattle.link_entries.proofs.RowForms.{is_list, value_no_list, array_form, array_width, array_fields, NoRow, OneValue, Array, AddressList, NestedList, row_says, element_no_list}
-use Rattle.link_entries.proofs.WrittenLists.{spells, same_spells, no_bytes, no_content, Both, before_ok, alone_ok, Fitted, fitted_ok, wire_none, wire_more}
+use Rattle.link_entries.proofs.WrittenLists.{spells, same_spells, before_ok, wire_none, wire_more}
+use Rattle.link_entries.proofs.WrittenParts.{Parts, parts, single_payload, list_payload}
 use Rattle.link_entries.proofs.WrittenFields.{field_held}
-use Rattle.link_entries.proofs.WrittenAttributes.{IsHeld, IsAttribute, of_value, single_decodes, Ends, Goes, next_element, addresses_decode, numbers_size, nested_decodes}
-
-no_elements : (table : Table) (own : Fields) (k : ℕ) (octets : List ℕ) (es : List Entry) (s : List ℕ) → is_list own ≡ false → elements_of table own k octets 0 es ≡ Ok s → s ≡ []
-no_elements table own k octets [] s no_list h = sym (same_spells [] s h)
-no_elements table own k octets (e ∷ es) s no_list h =
-    elim (next_element table own k 0 octets e es s h) [
-      | Ends none ↦ none
-      | Goes here others content later is ↦ absurd (no_content table own 0 e octets here no_list content)
-    ]
+use Rattle.link_entries.proofs.WrittenAttributes.{IsHeld, IsAttribute, of_value, single_decodes, addresses_decode, numbers_length, nested_decodes}
 
 even : (wide : Bool) (m n : ℕ) → n ≡ m * bytes_in (array_width wide) → n % bytes_in (array_width wide) ≡ 0
 even true m n h = omega (arith, h)
@@ -40,7 +32,7 @@ even false m n h = omega (arith, h)
 
 -- ---- one attribute
 
-module _ (table : Table) (formed : is_table table ≡ true) (octets : List ℕ) (e : Entry) (es : List Entry) (s : List ℕ) (held : IsHeld e) (all_held : AllByRecursion IsHeld es) (h : attribute_of table octets e es ≡ Ok s) where
+module _ (table : Table) (formed : is_table table ≡ true) (octets : List ℕ) (e : Entry) (es : List Entry) (s : List ℕ) (held : IsHeld e) (w : Parts IsHeld table octets e es s) where
   abbrev k : ℕ
   k = e.kind
 
@@ -50,59 +42,44 @@ module _ (table : Table) (formed : is_table table ≡ true) (octets : List ℕ) 
   abbrev g : ℕ
   g = field_of (fields_at table e.kind) e.kind e
 
-  abbrev others : Spelling
-  others = elements_of (elements_at table e.kind) (fields_at table e.kind) e.kind octets 0 es
-
-  fit : Fitted g (before (alone (payload_of own e octets)) others) s
-  fit = fitted_ok g (before (alone (payload_of own e octets)) others) s h
-
-  both : Both (alone (payload_of own e octets)) others fit.payload
-  both = before_ok (alone (payload_of own e octets)) others fit.payload fit.is
-
-  first_is : payload_of own e octets ≡ Ok both.first
-  first_is = alone_ok (payload_of own e octets) both.first both.is_first
+  abbrev p : List ℕ
+  p = w.payload
 
   kind : kind_of (g % 65536) ≡ k
-  kind = (field_held table formed e octets both.first first_is).kind
+  kind = (field_held table formed e octets w.front w.front_is).kind
 
   -- no list
   single : is_list own ≡ false → IsAttribute table s
-  single plain =
-      let nothing = no_elements (elements_at table k) own k octets es both.second plain both.is_second in
-      let all : fit.payload ≡ both.first = both.is ∙ ap (λ t. both.first ++ t) nothing ∙ append-nil both.first in
-      single_decodes table formed e octets fit.payload s held fit.short plain (first_is ∙ ap (λ t. Ok t) (sym all)) fit.text
+  single plain = single_decodes table formed e octets p s held w.short plain (single_payload IsHeld table octets e es s w plain).1 w.text
 
-  -- a list: its own payload is empty
-  only_elements : (row : Fields) → own ≡ row → is_list row ≡ true → elements_of (elements_at table k) row k octets 0 es ≡ Ok fit.payload
-  only_elements row looked listed =
-      let none = no_bytes row e octets both.first listed (ap (λ o. payload_of o e octets) (sym looked) ∙ first_is) in
-      let all : both.second ≡ fit.payload = sym (both.is ∙ ap (λ t. t ++ both.second) none) in
-      ap (λ o. elements_of (elements_at table k) o k octets 0 es) (sym looked) ∙ both.is_second ∙ ap (λ t. Ok t) all
+  -- a list
+  only_elements : (row : Fields) → own ≡ row → is_list row ≡ true → elements_of (elements_at table k) row k octets 0 w.cut.below ≡ Ok p
+  only_elements = list_payload IsHeld table octets e es s w
 
-  given_by : (o : Option Shape) (v : AttrValue) → class_at table k ≡ o → GivesBy o (g % 65536) fit.payload (Ok v) → IsAttribute table s
-  given_by o v class given = of_value table g fit.payload s v fit.short fit.text (subst (λ q. GivesBy q (g % 65536) fit.payload (Ok v)) (sym (ap (class_at table) kind ∙ class)) given)
+  given_by : (o : Option Shape) (v : AttrValue) → class_at table k ≡ o → GivesBy o (g % 65536) p (Ok v) → IsAttribute table s
+  given_by o v class given = of_value table g p s v w.short w.text (subst (λ q. GivesBy q (g % 65536) p (Ok v)) (sym (ap (class_at table) kind ∙ class)) given)
 
   array : (wide : Bool) → form_at table k ≡ Some (array_form wide) → class_at table k ≡ Some (One (Many (bytes_in (array_width wide)))) → IsAttribute table s
   array wide named class =
-      let w = array_width wide in
-      let c = Many (bytes_in w) in
-      let (m, size) = numbers_size (elements_at table k) w k octets 0 es fit.payload all_held (only_elements (fields.Numbers w) (ap fields_in named ∙ array_fields wide) refl) in
-      let accepted = at_multiple (bytes_in w) (length fit.payload) (even wide m (length fit.payload) size) in
-      given_by (Some (One c)) (Case (kind_of (g % 65536)) (Single (meant c fit.payload))) class (sym (ap (λ o. single_case (kind_of (g % 65536)) (unless o (meant c fit.payload))) accepted))
+      let width = array_width wide in
+      let c = Many (bytes_in width) in
+      let size = numbers_length IsHeld (λ e h. h) (elements_at table k) width k octets 0 w.cut.below p w.cut.deep w.cut.held (only_elements (fields.Numbers width) (ap fields_in named ∙ array_fields wide) refl) in
+      let accepted = at_multiple (bytes_in width) (length p) (even wide (length w.cut.below) (length p) size) in
+      given_by (Some (One c)) (Case (kind_of (g % 65536)) (Single (meant c p))) class (sym (ap (λ o. single_case (kind_of (g % 65536)) (unless o (meant c p))) accepted))
 
   addresses : (n : ℕ) → form_at table k ≡ Some (forms.Addresses n) → class_at table k ≡ Some (Addresses n) → IsAttribute table s
   addresses n named class =
-      let (vs, wire) = addresses_decode (elements_at table k) n k octets 0 es fit.payload fit.short (only_elements (fields.Addresses n) (ap fields_in named) refl) in
+      let (vs, wire) = addresses_decode (elements_at table k) n k octets 0 w.cut.below p w.cut.deep w.short (only_elements (fields.Addresses n) (ap fields_in named) refl) in
       given_by (Some (Addresses n)) (Case (kind_of (g % 65536)) (Listed (of_length n vs))) class (Ok vs, wire, refl)
 
   nested : (flagged : Bool) (rows : Rows) → form_at table k ≡ Some (forms.List flagged) → class_at table k ≡ Some (Nested flagged rows) → IsAttribute table s
   nested flagged rows named class =
       let inner = elements_at table k in
       let same = ap elements_by class in
-      let (ms, wire) = nested_decodes inner (elements_formed table k formed) (λ j. element_no_list table k j formed) (nested_flag flagged) k octets 0 es fit.payload all_held fit.short
+      let (ms, wire) = nested_decodes inner (elements_formed table k formed) (λ j. element_no_list table k j formed) (nested_flag flagged) k octets 0 w.cut.below p w.cut.deep w.cut.held w.short
       (only_elements (fields.List (nested_flag flagged)) (ap fields_in named) refl) in
-      let (vs, lifted) = leaves_of inner rows fit.payload ms same wire in
-      given_by (Some (Nested flagged rows)) (Case (kind_of (g % 65536)) (Inner flagged vs)) class (nested_values inner rows flagged (kind_of (g % 65536)) fit.payload ms vs same lifted wire)
+      let (vs, lifted) = leaves_of inner rows p ms same wire in
+      given_by (Some (Nested flagged rows)) (Case (kind_of (g % 65536)) (Inner flagged vs)) class (nested_values inner rows flagged (kind_of (g % 65536)) p ms vs same lifted wire)
 
   attribute_decodes : IsAttribute table s
   attribute_decodes =
@@ -126,7 +103,7 @@ module _ (table : Table) (formed : is_table table ≡ true) (octets : List ℕ) 
       elim (cases_Bool (e.depth == 0)) [
         | inl flat ↦
             let own : attribute_of table octets e es ≡ Ok both.first = sym (ap (λ b. cond b (attribute_of table octets e es) (Ok [])) flat) ∙ both.is_first in
-            let a = attribute_decodes table formed octets e es both.first held.0 held.1 own in
+            let a = attribute_decodes table formed octets e es both.first held.0 (parts IsHeld table octets e es both.first held.1 own) in
             (a.value ∷ vs, subst (λ u. Wire gives u (a.value ∷ vs)) (ap (λ u. u ++ both.second) a.text ∙ sym both.is) (wire_more gives a.field a.payload both.second a.value vs a.low a.short a.given wire))
         | inr deep ↦
             let none : [] ≡ both.first = same_spells [] both.first (sym (ap (λ b. cond b (attribute_of table octets e es) (Ok [])) deep) ∙ both.is_first) in

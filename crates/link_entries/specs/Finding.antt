@@ -25,16 +25,15 @@ item_of x = (x.0, buffer_in x.1)
 abbrev pub IsEntryOf : Table → Item → Entry → Type 0
 IsEntryOf table x e = (elements : List Entry) × IsGroup table x (e ∷ elements)
 
--- that of an attribute, if there is one
-abbrev pub IsFound : Table → Option Item → Option Entry → Type 0
-IsFound table None None = Unit {0}
-IsFound table None (Some e) = ⊥
-IsFound table (Some x) None = ⊥
-IsFound table (Some x) (Some e) = IsEntryOf table x e
+-- there are both, and R holds of them; or there is none of the two
+abbrev pub BothOrNone : {A B : Type 0} → (A → B → Type 0) → Option A → Option B → Type 0
+BothOrNone R None None = Unit {0}
+BothOrNone R (Some x) (Some y) = R x y
+BothOrNone R o found = ⊥
 
 -- the entry of the last attribute of type k in a list, if there is one
 abbrev pub IsLastOf : Table → ℕ → List ℕ → Option Entry → Type 0
-IsLastOf table k list found = (items : List Item) × Walk list items None × IsFound table (last_item k items) found
+IsLastOf table k list found = (items : List Item) × Walk list items None × BothOrNone (IsEntryOf table) (last_item k items) found
 
 -- the list decodes, and this is the entry of its last attribute of type k; or the first error of the list
 abbrev pub Finds : Table → ℕ → List ℕ → Result (Option Entry) ListFault → Type 0
@@ -54,10 +53,7 @@ last_inner i es = last_or None (filter (λ e. e.inner == i) es)
 
 -- the entry of an element of a nested list that starts at an offset, if there is one
 abbrev pub IsOneElement : Table → ℕ → ℕ → Option Item → Option Entry → Type 0
-IsOneElement table k at None None = Unit {0}
-IsOneElement table k at None (Some e) = ⊥
-IsOneElement table k at (Some x) None = ⊥
-IsOneElement table k at (Some x) (Some e) = IsElement table k (at + (x.0 + 4)) x.1 e
+IsOneElement table k at = BothOrNone (λ x e. IsElement table k (at + (x.0 + 4)) x.1 e)
 
 -- the entry of the last element i of a content that starts at an offset, if there is one: i is the type of an element of a
 -- nested list, and otherwise an index

@@ -1,6 +1,6 @@
 use Rattle.std.proofs.Common.{◌≡◌, ◌-◌, ◌∙◌, ap, ap₂, length, refl}
 use Rattle.link_base.specs.Viewed.{bytes_in, set_of}
-use Rattle.link_entries.proofs.LastAttribute.{last_none, last_more, last_all, found_set, found_within}
+use Rattle.link_entries.proofs.LastAttribute.{last_none, last_next, last_all, found_set, found_within}
 use Rattle.link_entries.proofs.finding.last_value.Goals as goal
 
 pub values-init : goal.values-init
@@ -18,7 +18,7 @@ values-preserved g c =
     let place : at ≡ length list - length rest = ap₂ (λ m n. m - n) before.0 (ap length c.bytes.ensures) in (
       before.0,
       steps.2 ∙ before.1,
-      last_more c.args.kind list (set_of v) rest (bytes_in c.next.new.self) c.values.found c.later-found.result at x before.2 steps.0 place (steps.1 ∙ before.1) c.later-found.ensures,
+      last_next c.args.kind list (set_of v) rest (bytes_in c.next.new.self) c.values.found c.later-found.result at x before.2 steps.0 place (steps.1 ∙ before.1) c.later-found.ensures,
     )
 
 pub returns-in-None : goal.returns-in-None

@@ -6,7 +6,8 @@ use Rattle.link_entries.specs.declared.fields.Fields.{Fields}
 use Rattle.link_entries.specs.Payload.{payload_of, field_of}
 use Rattle.link_entries.specs.Spelled.{Spelling, alone, before, fitted, elements_of, attribute_by}
 use Rattle.link_entries.specs.Stored.{StoresAt, StoresPayload, Spells, header, padded}
-use Rattle.link_entries.proofs.Below.{none_below, below}
+use Rattle.link_entries.proofs.BackArrays.{elements_end}
+use Rattle.link_entries.proofs.Below.{below}
 use Rattle.link_entries.proofs.StoredBytes.{sized_ok, sized_err, stored_frame, spells_frame, fitted_low, spells_behind}
 use Rattle.link_entries.proofs.spelling.spell_attribute.Goals as goal
 
@@ -37,7 +38,7 @@ returns-then-begins_well-clause-spells g c =
     let kf = c.field_of-kind_field.result in
     let n = c.store_header.result in
     let (p, is, size) = sized_ok (payload_of own e octets) c.in-Ok.size c.in-Ok.ensures.size in
-    let none = none_below (elements_at table e.kind) own e.kind octets es (sym c.begins_well.ensures ∙ c.if-begins_well.true) in
+    let none = elements_end (elements_at table e.kind) own e.kind octets 0 es (sym c.begins_well.ensures ∙ c.if-begins_well.true) in
     let put = subst (λ r. StoresPayload r room one) is c.in-Ok.ensures.stored in
     let head = subst (λ m. StoresAt 0 (header kf m) one last) size c.store_header.ensures.stored in
     let short = subst (λ m. m ≤ max_payload) size c.in-Ok.ensures.short in
