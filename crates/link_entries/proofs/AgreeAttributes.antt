@@ -1,5 +1,5 @@
 -- What is read of an attribute that entries spell, and of its elements.
-use Rattle.std.proofs.Common.{◌≡◌, ℕ, ◌+◌, ◌<◌, ◌≤◌, Bool, true, false, List, [], length, Option, Some, refl, sym, ap, subst, ◌∙◌}
+use Rattle.std.proofs.Common.{◌≡◌, ℕ, ◌+◌, ◌<◌, true, false, List, [], length, Option, Some, refl, sym, ap, subst, ◌∙◌}
 use Rattle.std.specs.List.{AllZip}
 use Rattle.link_base.specs.declared.views.content.Content.{Content as Borrowed}
 use Rattle.link_base.specs.declared.rows.form.Form.{Form}
@@ -7,7 +7,7 @@ use Rattle.link_base.specs.declared.rows.form.Form.TheVariants as forms
 use Rattle.link_base.specs.Class.{Many}
 use Rattle.link_base.specs.Forms.{bytes_in}
 use Rattle.link_base.specs.Frame.{kind_of}
-use Rattle.link_base.specs.Table.{Rows, Shape, One, Nested, Addresses, Table, class_at, form_at, nested_flag}
+use Rattle.link_base.specs.Table.{Shape, One, Nested, Addresses, Table, class_at, form_at, nested_flag}
 use Rattle.link_base.specs.Buffer.{kind_field_of, payload_of as payload_after}
 use Rattle.link_base.specs.Borrowed.{form_of, elements_at, HasContent}
 use Rattle.link_base.specs.WellFormed.{is_table}
@@ -24,7 +24,7 @@ use Rattle.link_entries.specs.declared.fields.Fields.TheVariants as fields
 use Rattle.link_entries.specs.Fields.{row_fields, fields_in, fields_at}
 use Rattle.link_entries.specs.Payload.{field_of}
 use Rattle.link_entries.specs.Agreement.{IsEntry, IsSame}
-use Rattle.link_entries.proofs.RowForms.{is_list, value_no_list, array_form, array_width, array_fields, NoRow, OneValue, Array, AddressList, NestedList, row_says, element_no_list}
+use Rattle.link_entries.proofs.RowForms.{is_list, value_no_list, array_form, array_width, array_fields, RowTold, NoRow, OneValue, Array, AddressList, NestedList, row_says, element_no_list}
 use Rattle.link_entries.proofs.BackValues.{StandsAt}
 use Rattle.link_entries.proofs.BackSingles.{none_below}
 use Rattle.link_entries.proofs.BackAttributes.{array_below}
@@ -107,33 +107,24 @@ module _ (table : Table) (formed : is_table table ≡ true) (octets : List ℕ) 
         group_of (subst (λ o. IsRead (fields_in o) octets e list (fields_by f o (value_at (class_at table k) p) (length below) bare)) (sym is) (list_read form octets list e f (length below) (value_at (class_at table k) p) bare (ap is_list looked ∙ listed)))
         (subst (λ o. AllZip (ElementAs (elements_at table k) o k octets list) w.cut.below below) (sym (ap fields_in is ∙ looked)) all)
 
-    array : (wide : Bool) → form_at table k ≡ Some (array_form wide) → class_at table k ≡ Some (One (Many (bytes_in (array_width wide)))) → GroupAs
-    array wide form_is class =
+    by_row : RowTold table k → GroupAs
+    by_row (NoRow form_is class) = single (ap (λ o. is_list (fields_in o)) form_is)
+    by_row (OneValue form names form_is class one low) = single (ap (λ o. is_list (fields_in o)) form_is ∙ value_no_list (row_fields form) one)
+    by_row (Array wide form_is class low) =
         let row = fields.Numbers (array_width wide) in
         let is = array_below table wide k (x.0 + 4) p below (told (Some (One (Many (bytes_in (array_width wide))))) (Some (array_form wide)) class form_is) in
         let all = array_same (elements_at table k) wide k (x.0 + 4) octets list w.cut.below p w.cut.deep w.cut.held (list_payload IsEntry table octets e es s w row (ap fields_in form_is ∙ array_fields wide) refl) in
         list_of (array_form wide) row form_is (array_fields wide) refl (subst (λ l. AllZip (ElementAs (elements_at table k) row k octets list) w.cut.below l) (sym is) all)
-
-    addresses : (n : ℕ) → form_at table k ≡ Some (forms.Addresses n) → class_at table k ≡ Some (Addresses n) → n ≤ 16 → GroupAs
-    addresses n form_is class few =
+    by_row (AddressList n form_is class few low) =
         let (items, walk, is) = told (Some (Addresses n)) (Some (forms.Addresses n)) class form_is in
         let all = addresses_same (elements_at table k) n k (x.0 + 4) octets list few (length p) 0 0 w.cut.below p items walk.rest w.cut.deep w.cut.held (list_payload IsEntry table octets e es s w (fields.Addresses n) (ap fields_in form_is) refl)
         walk.walks walk.end in
         list_of (forms.Addresses n) (fields.Addresses n) form_is refl refl (subst (λ l. AllZip (ElementAs (elements_at table k) (fields.Addresses n) k octets list) w.cut.below l) (sym is) all)
-
-    nested : (flagged : Bool) (rows : Rows) → form_at table k ≡ Some (forms.List flagged) → class_at table k ≡ Some (Nested flagged rows) → GroupAs
-    nested flagged rows form_is class =
+    by_row (NestedList flagged rows form_is class low) =
         let (items, walk, each) = told (Some (Nested flagged rows)) (Some (forms.List flagged)) class form_is in
         list_of (forms.List flagged) (fields.List (nested_flag flagged)) form_is refl refl
         (nested_same (elements_at table k) (elements_formed table k formed) (λ j. element_no_list table k j formed) (nested_flag flagged) k octets list (x.0 + 4) p w.short stands 0 w.cut.below p items walk.rest below
         w.cut.deep w.cut.held (list_payload IsEntry table octets e es s w (fields.List (nested_flag flagged)) (ap fields_in form_is) refl) walk.walks walk.end (suffix_whole p) each)
 
     pub attribute_same : GroupAs
-    attribute_same =
-        elim (row_says table k formed) [
-          | NoRow form_is class ↦ single (ap (λ o. is_list (fields_in o)) form_is)
-          | OneValue form names form_is class one low ↦ single (ap (λ o. is_list (fields_in o)) form_is ∙ value_no_list (row_fields form) one)
-          | Array wide form_is class low ↦ array wide form_is class
-          | AddressList n form_is class few low ↦ addresses n form_is class few
-          | NestedList flagged rows form_is class low ↦ nested flagged rows form_is class
-        ]
+    attribute_same = by_row (row_says table k formed)

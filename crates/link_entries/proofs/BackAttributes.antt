@@ -9,7 +9,7 @@ use Rattle.link_base.specs.Class.{Many}
 use Rattle.link_base.specs.Forms.{bytes_in}
 use Rattle.link_base.specs.Frame.{kind_of, frame_bytes, spelled}
 use Rattle.link_base.specs.Wire.{whole}
-use Rattle.link_base.specs.Table.{Rows, Shape, One, Nested, Addresses, Inner, Listed, Table, AttrValue, Case, class_at, form_at, nested_flag, GivesBy, Gives, addresses_from, of_length, written_kind, written_payload, written_frame, written_list}
+use Rattle.link_base.specs.Table.{Shape, One, Nested, Addresses, Inner, Listed, Table, AttrValue, Case, class_at, form_at, nested_flag, GivesBy, Gives, addresses_from, of_length, written_kind, written_payload, written_frame, written_list}
 use Rattle.link_base.specs.Lift.{lift}
 use Rattle.link_base.specs.Buffer.{kind_field_of, payload_of as payload_after}
 use Rattle.link_base.specs.Borrowed.{elements_by, elements_at, HasContent}
@@ -29,7 +29,7 @@ use Rattle.link_entries.specs.declared.fields.Fields.TheVariants as fields
 use Rattle.link_entries.specs.Fields.{row_fields, fields_in, fields_at}
 use Rattle.link_entries.specs.Payload.{payload_of, field_of}
 use Rattle.link_entries.specs.Spelled.{alone, before, fitted, elements_of, attribute_of, begins_well}
-use Rattle.link_entries.proofs.RowForms.{is_list, value_no_list, with_kind, array_form, array_width, array_fields, NoRow, OneValue, Array, AddressList, NestedList, row_says, element_no_list}
+use Rattle.link_entries.proofs.RowForms.{is_list, value_no_list, with_kind, array_form, array_width, array_fields, RowTold, NoRow, OneValue, Array, AddressList, NestedList, row_says, element_no_list}
 use Rattle.link_entries.proofs.Spellings.{fitted_all}
 use Rattle.link_entries.proofs.BackValues.{StandsAt}
 use Rattle.link_entries.proofs.BackSingles.{none_below, value_read, list_back, single_back}
@@ -100,8 +100,10 @@ module _ (table : Table) (formed : is_table table ≡ true) (list : List ℕ) (x
   listed own t w nothing looked field elements is value =
       attribute_parts table own k list head (es ++ rest) [] t v looked head_kind (field ∙ ap written_kind (sym value)) nothing elements (is ∙ ap written_payload (sym value)) fits
 
-  array : (wide : Bool) → form_at table k ≡ Some (array_form wide) → class_at table k ≡ Some (One (Many (bytes_in (array_width wide)))) → Goal
-  array wide named class =
+  by_row : RowTold table k → Goal
+  by_row (NoRow named class) = single (ap (λ o. is_list (fields_in o)) named)
+  by_row (OneValue form names named class one low) = single (ap (λ o. is_list (fields_in o)) named ∙ value_no_list (row_fields form) one)
+  by_row (Array wide named class low) =
       let c = Many (bytes_in (array_width wide)) in
       let own = fields.Numbers (array_width wide) in
       let was = value_read c k p v (subst (λ o. GivesBy o f p (Ok v)) class given) in
@@ -113,9 +115,7 @@ module _ (table : Table) (formed : is_table table ≡ true) (list : List ℕ) (x
       (ap fields_in named ∙ same) none
       (ap (λ l. elements_of (elements_at table k) own k list 0 (l ++ rest)) is ∙ array_spelled (elements_at table k) wide k (x.0 + 4) p list rest bytes end (multiple (bytes_in (array_width wide)) (length p) was.accepted))
       refl was.value
-
-  addresses : (n : ℕ) → form_at table k ≡ Some (forms.Addresses n) → class_at table k ≡ Some (Addresses n) → n ≤ 16 → Goal
-  addresses n named class few = by_given (subst (λ o. GivesBy o f p (Ok v)) class given) where
+  by_row (AddressList n named class few low) = by_given (subst (λ o. GivesBy o f p (Ok v)) class given) where
     by_given : GivesBy (Some (Addresses n)) f p (Ok v) → Goal
     by_given (Ok vs, wire, value) =
         let (items, walk, is) = told (Some (Addresses n)) (Some (forms.Addresses n)) class named in
@@ -127,9 +127,7 @@ module _ (table : Table) (formed : is_table table ≡ true) (list : List ℕ) (x
         ∙ ap (λ a. Ok (spelled (addresses_from 0 (of_length n a)))) (sym payloads))
         refl (same_ok v w value)
     by_given (Err y, wire, value) = absurd cc
-
-  nested : (flagged : Bool) (rows : Rows) → form_at table k ≡ Some (forms.List flagged) → class_at table k ≡ Some (Nested flagged rows) → Goal
-  nested flagged rows named class = by_given (subst (λ o. GivesBy o f p (Ok v)) class given) where
+  by_row (NestedList flagged rows named class low) = by_given (subst (λ o. GivesBy o f p (Ok v)) class given) where
     by_given : GivesBy (Some (Nested flagged rows)) f p (Ok v) → Goal
     by_given (Ok vs, wire, value) =
         let (items, walk, each) = told (Some (Nested flagged rows)) (Some (forms.List flagged)) class named in
@@ -142,11 +140,4 @@ module _ (table : Table) (formed : is_table table ≡ true) (list : List ℕ) (x
     by_given (Err y, wire, value) = absurd cc
 
   pub attribute_back : Goal
-  attribute_back =
-      elim (row_says table k formed) [
-        | NoRow named class ↦ single (ap (λ o. is_list (fields_in o)) named)
-        | OneValue form names named class one low ↦ single (ap (λ o. is_list (fields_in o)) named ∙ value_no_list (row_fields form) one)
-        | Array wide named class low ↦ array wide named class
-        | AddressList n named class few low ↦ addresses n named class few
-        | NestedList flagged rows named class low ↦ nested flagged rows named class
-      ]
+  attribute_back = by_row (row_says table k formed)

@@ -1,30 +1,26 @@
 -- The last element of a type or index: of a nested list, of an array, and of a list of addresses.
-use Rattle.std.proofs.Common.{◌≡◌, ◌≢◌, ℕ, zero, suc, ◌+◌, ◌-◌, ◌*◌, ◌/◌, ◌<◌, ◌≤◌, ◌==◌, Bool, true, false, cond, List, [], ◌∷◌, ◌++◌, length, Option, Some, None, refl, sym, ap, ap₂, subst, ◌∙◌, ◌⊎◌, inl, inr, arith, get_or, Bor}
+use Rattle.std.proofs.Common.{◌≡◌, ◌≢◌, ℕ, zero, suc, ◌+◌, ◌*◌, ◌/◌, ◌<◌, ◌≤◌, ◌==◌, Bool, cond, List, [], ◌∷◌, length, Option, Some, None, refl, sym, ap, ap₂, subst, ◌∙◌, arith, get_or, Bor}
 use Rattle.std.specs.List.{filter, last_or}
-use Rattle.std.proofs.lemmas.List.{append-nil, length-append, map-id}
+use Rattle.std.proofs.lemmas.List.{map-id}
 use Rattle.std.proofs.lemmas.List.Concat.{flat_map_single}
-use Rattle.std.proofs.lemmas.Bool.{eq-eqb, ne_eqb}
-use Rattle.link_base.specs.declared.wire.buffer.NlaBuffer.{NlaBuffer}
+use Rattle.std.proofs.lemmas.Bool.{eq-eqb, ne_eqb, cond-true, cond-false}
 use Rattle.link_base.specs.declared.views.content.Content.{Content}
 use Rattle.link_base.specs.declared.views.content.Content.TheVariants as contents
 use Rattle.link_base.specs.Frame.{kind_of}
-use Rattle.link_base.specs.Buffer.{kind_field_of, payload_of, SplitsFirst}
+use Rattle.link_base.specs.Buffer.{kind_field_of, payload_of}
 use Rattle.link_base.specs.Layout.{number_at, numbers_at, numbers_of}
 use Rattle.link_base.specs.Table.{Table, Shape, class_at}
 use Rattle.link_base.specs.Borrowed.{Borrows, form_of, elements_at}
-use Rattle.link_base.proofs.ViewLemmas.{split_less}
-use Rattle.link_messages.specs.Walk.{Item, Walks, Walk}
+use Rattle.link_messages.specs.Walk.{Item, Walk}
 use Rattle.link_messages.specs.BeforeFault.{last_item}
-use Rattle.link_messages.proofs.Walking.{walks_more}
 use Rattle.link_entries.specs.declared.entry.Entry.{Entry}
-use Rattle.link_entries.specs.Flat.{indexed, number_entry, number_entries, address_entry, AreAddresses, IsElement, AreElements, IsGroup}
+use Rattle.link_entries.specs.Flat.{indexed, number_entry, number_entries, IsElement, AreElements, IsGroup}
 use Rattle.link_entries.specs.Finding.{BothOrNone, last_inner, IsOneElement, IsLastElement, IsElementFound}
-use Rattle.link_entries.proofs.LastOf.{has_kind, last_more, zip_last, one_last}
+use Rattle.link_entries.proofs.LastOf.{has_kind, zip_last, one_last}
 use Rattle.link_entries.proofs.EntryFields.{keeps_filled}
 use Rattle.link_entries.proofs.Shapes.{list_payload, no_elements}
 use Rattle.link_entries.proofs.FormElements.{ElementsBy, elements_by, elements_told}
 use Rattle.link_entries.proofs.ArrayNumbers.{length-numbers_at}
-use Rattle.link_entries.proofs.AddressEntries.{entry_at, entries_of, entries_more}
 use Rattle.link_entries.proofs.Unique.{one_element, one_below}
 
 -- whether an entry has this own type or index
@@ -51,35 +47,26 @@ module _ (table : Table) (k at : ℕ) where
 -- ---- arrays
 
 module _ {A : Type 0} (f : ℕ → A → Entry) (own : (i : ℕ) (x : A) → (f i x).inner ≡ i) where
-  -- no entry has an index below the first, or above the last
-  none_at : (i j : ℕ) (xs : List A) → (i < j) ⊎ (j + length xs ≤ i) → filter (is_inner i) (indexed f j xs) ≡ []
-  none_at i j [] h = refl
-  none_at i j (x ∷ xs) h =
-      let other : j ≢ i = by h in
-      let no : is_inner i (f j x) ≡ false = ap (λ n. n == i) (own j x) ∙ ne_eqb j i other in
-      ap (λ b. cond b (f j x ∷ filter (is_inner i) (indexed f (j + 1) xs)) (filter (is_inner i) (indexed f (j + 1) xs))) no ∙ none_at i (j + 1) xs (next h)
-    where
-      by : (i < j) ⊎ (j + length (x ∷ xs) ≤ i) → j ≢ i
-      by (inl h) e = omega arith
-      by (inr h) e = omega arith
+  -- an entry with another index is passed over
+  passed_at : (i j : ℕ) (x : A) (xs : List A) → j ≢ i → filter (is_inner i) (indexed f j (x ∷ xs)) ≡ filter (is_inner i) (indexed f (j + 1) xs)
+  passed_at i j x xs other = cond-false (is_inner i (f j x)) _ _ (ap (λ n. n == i) (own j x) ∙ ne_eqb j i other)
 
-      next : (i < j) ⊎ (j + length (x ∷ xs) ≤ i) → (i < j + 1) ⊎ (j + 1 + length xs ≤ i)
-      next (inl h) = inl (omega arith)
-      next (inr h) = inr (omega arith)
+  -- no entry has an index below the first, or above the last
+  none_below : (i j : ℕ) (xs : List A) → i < j → filter (is_inner i) (indexed f j xs) ≡ []
+  none_below i j [] h = refl
+  none_below i j (x ∷ xs) h = passed_at i j x xs (λ e. omega arith) ∙ none_below i (j + 1) xs (omega arith)
+
+  none_above : (i j : ℕ) (xs : List A) → j + length xs ≤ i → filter (is_inner i) (indexed f j xs) ≡ []
+  none_above i j [] h = refl
+  none_above i j (x ∷ xs) h = passed_at i j x xs (λ e. omega arith) ∙ none_above i (j + 1) xs (omega arith)
 
   -- one entry has an index between
   one_at : (i j : ℕ) (xs : List A) (d : A) (n : ℕ) → i ≡ j + n → n < length xs → filter (is_inner i) (indexed f j xs) ≡ f i (get_or xs n d) ∷ []
   one_at i j [] d n e h = absurd (omega arith)
   one_at i j (x ∷ xs) d zero e h =
       let here : i ≡ j = omega (arith, e) in
-      let yes : is_inner i (f j x) ≡ true = ap (λ n. n == i) (own j x) ∙ eq-eqb j i (sym here) in
-      ap (λ b. cond b (f j x ∷ filter (is_inner i) (indexed f (j + 1) xs)) (filter (is_inner i) (indexed f (j + 1) xs))) yes
-      ∙ ap₂ (λ m es. f m x ∷ es) (sym here) (none_at i (j + 1) xs (inl (omega arith)))
-  one_at i j (x ∷ xs) d (suc n) e h =
-      let other : j ≢ i = λ same. omega arith in
-      let no : is_inner i (f j x) ≡ false = ap (λ m. m == i) (own j x) ∙ ne_eqb j i other in
-      ap (λ b. cond b (f j x ∷ filter (is_inner i) (indexed f (j + 1) xs)) (filter (is_inner i) (indexed f (j + 1) xs))) no
-      ∙ one_at i (j + 1) xs d n (omega (arith, e)) (omega arith)
+      cond-true (is_inner i (f j x)) _ _ (ap (λ n. n == i) (own j x) ∙ eq-eqb j i (sym here)) ∙ ap₂ (λ m es. f m x ∷ es) (sym here) (none_below i (j + 1) xs (omega arith))
+  one_at i j (x ∷ xs) d (suc n) e h = passed_at i j x xs (λ same. omega arith) ∙ one_at i (j + 1) xs d n (omega (arith, e)) (omega arith)
 
 get_or-numbers_at : (width n offset i : ℕ) (p : List ℕ) → i < n → get_or (numbers_at width n offset p) i 0 ≡ number_at width (offset + i * width) p
 get_or-numbers_at width zero offset i p h = absurd (omega arith)
@@ -102,57 +89,7 @@ module _ (k at width : ℕ) (p : List ℕ) (i : ℕ) where
   pub number_absent : length p / width ≤ i → None ≡ last_inner i (number_entries k at width p)
   number_absent h =
       let size = length-numbers_at width (length p / width) 0 p in
-      sym (ap (last_or None) (none_at (number_entry k at width) (λ j x. refl) i 0 (numbers_of width p) (inr (omega (arith, size)))))
-
--- ---- lists of addresses
-
-module _ (k at n i : ℕ) where
-  -- the address at the index among those before `rest`
-  pub record AddressTo (list rest : List ℕ) (index : ℕ) (found : Option Entry) : Type 0 where
-    pub items : List Item
-    pub walks : Walks (length list) list items rest
-    pub count : index ≡ length (entries_of k at n items)
-    pub last : found ≡ last_inner i (entries_of k at n items)
-    pub room : index + length rest ≤ length list
-
-  more_by : (b : Bool) (list rest after : List ℕ) (index index' : ℕ) (found found' : Option Entry) (offset : ℕ) (x : NlaBuffer) → (length (payload_of x) == n) ≡ b → AddressTo list rest index found
-      → SplitsFirst rest x after → offset ≡ at + ((length list - length rest) + 4) → found' ≡ cond b (cond (index == i) (Some (address_entry k index offset (payload_of x))) found) found
-      → index' ≡ cond b (index + 1) index → AddressTo list after index' found'
-  more_by true list rest after index index' found found' offset x is h split place e counted =
-      let item : Item = (length list - length rest, x) in
-      let one = entries_more k at n h.items item true is in
-      let front = entries_of k at n h.items in
-      let last : Entry = entry_at k at n (length front) item in
-      let here : address_entry k index offset (payload_of x) ≡ last = ap₂ (λ j o. address_entry k j o (payload_of x)) h.count place in
-      record {
-        items = h.items ++ item ∷ [];
-        walks = walks_more (length list) list h.items rest x after h.walks split;
-        count = omega (arith, counted, h.count, ap length one, length-append front (last ∷ []));
-        last = e ∙ ap₂ (λ j d. cond (j == i) (Some d) found) h.count here ∙ ap (cond (length front == i) (Some last)) h.last ∙ sym (last_more (is_inner i) front last) ∙ ap (last_inner i) (sym one);
-        room = omega (arith, counted, split_less rest x after split, h.room);
-      }
-  more_by false list rest after index index' found found' offset x is h split place e counted =
-      let item : Item = (length list - length rest, x) in
-      let one = entries_more k at n h.items item false is ∙ append-nil (entries_of k at n h.items) in
-      record {
-        items = h.items ++ item ∷ [];
-        walks = walks_more (length list) list h.items rest x after h.walks split;
-        count = counted ∙ h.count ∙ ap length (sym one);
-        last = e ∙ h.last ∙ ap (last_inner i) (sym one);
-        room = omega (arith, counted, split_less rest x after split, h.room);
-      }
-
-  -- one attribute more
-  pub address_more : (list rest after : List ℕ) (index index' : ℕ) (found found' : Option Entry) (offset : ℕ) (x : NlaBuffer) → AddressTo list rest index found → SplitsFirst rest x after
-      → offset ≡ at + ((length list - length rest) + 4)
-      → found' ≡ cond (length (payload_of x) == n) (cond (index == i) (Some (address_entry k index offset (payload_of x))) found) found
-      → index' ≡ cond (length (payload_of x) == n) (index + 1) index → AddressTo list after index' found'
-  address_more list rest after index index' found found' offset x h split place e counted =
-      more_by (length (payload_of x) == n) list rest after index index' found found' offset x refl h split place e counted
-
-  -- the address at the index in a whole list
-  pub address_found : (list rest : List ℕ) (index : ℕ) (found : Option Entry) → AddressTo list rest index found → rest ≡ [] → (es : List Entry) × AreAddresses k at n list es × (found ≡ last_inner i es)
-  address_found list rest index found h end = (entries_of k at n h.items, (h.items, record { rest = rest; walks = h.walks; end = end }, refl), h.last)
+      sym (ap (last_or None) (none_above (number_entry k at width) (λ j x. refl) i 0 (numbers_of width p) (omega (arith, size))))
 
 -- ---- contents
 

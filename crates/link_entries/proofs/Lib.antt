@@ -1,7 +1,6 @@
 pub mod Octets16
 pub mod Placed
 pub mod ArrayNumbers
-pub mod AddressEntries
 pub mod NestedElements
 pub mod OneContent
 pub mod Shapes
@@ -10,6 +9,7 @@ pub mod Groups
 pub mod Unique
 pub mod LastOf
 pub mod LastAttribute
+pub mod AddressEntries
 pub mod EntryFields
 pub mod FoundElements
 pub mod Spellings

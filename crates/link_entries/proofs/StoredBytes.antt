@@ -1,8 +1,9 @@
 -- Bytes that are stored in a buffer one after the other.
 use borrow.Rule.Slice.PartMut.{put_mid}
-use Rattle.std.proofs.Common.{◌≡◌, ℕ, ◌+◌, ◌-◌, ◌%◌, ◌^◌, ◌<◌, ◌≤◌, min, replicate, List, [], ◌++◌, length, take, drop, Result, Ok, Err, ◌&&◌, Bool, true, false, cond, nat_le, refl, sym, ap, ap₂, subst, ◌∙◌, arith, append_assoc, length-append, take-append-drop, take_at, drop_at, take-take, drop-drop}
+use Rattle.std.proofs.Common.{◌≡◌, ℕ, ◌+◌, ◌-◌, ◌%◌, ◌^◌, ◌<◌, ◌≤◌, min, replicate, List, [], ◌++◌, length, take, drop, Result, Ok, Err, ◌&&◌, Bool, true, false, cond, nat_le, refl, sym, ap, ap₂, subst, ◌∙◌, arith, append_assoc, length-append, take-append-drop, drop_at, drop-drop}
 use Rattle.std.proofs.lemmas.Bool.{eq-eqb, le-leb}
 use Rattle.std.proofs.lemmas.List.{append-nil, nil_from_length, length-take, length-drop}
+use Rattle.std.proofs.lemmas.Slice.{take-put_mid, take-put_mid_below, drop-put_mid}
 use Rattle.std.proofs.Math.Seq.{take-length}
 use Rattle.link_base.specs.Number.{bytes_of}
 use Rattle.link_base.specs.Frame.{frame_bytes, gap, pad, max_payload}
@@ -22,6 +23,10 @@ use Rattle.link_entries.specs.Fields.{fields_at}
 use Rattle.link_entries.specs.Stored.{with_at, StoresAt, header, padded, sized, StoresPayload, StoresBytes, Spells}
 use Rattle.link_entries.proofs.Spellings.{frame_low, Reached, reached_all, reached_error}
 
+-- a buffer with s in place of a part of it
+with_mid : (a : ℕ) (s x : List ℕ) → with_at a s x ≡ put_mid a (length s) x s
+with_mid a s x = ap (λ l. take a x ++ (s ++ l)) (sym (drop-drop (length s) a x))
+
 module _ (a : ℕ) (s t x y z : List ℕ) where
   -- s, then t after it
   pub stored_then : StoresAt a s x y → StoresAt (a + length s) t y z → StoresAt a (s ++ t) x z
@@ -30,14 +35,11 @@ module _ (a : ℕ) (s t x y z : List ℕ) where
     stored = λ room.
         let n = length s in
         let low : a + n ≤ length x = omega (arith, room, length-append s t) in
-        let first : take (a + n) y ≡ take a x ++ s = ap (take (a + n)) (h.stored low) ∙ ap (take (a + n)) (sym (append_assoc (take a x) s (drop (a + n) x)))
-        ∙ take_at (take a x ++ s) (drop (a + n) x) (a + n) (omega (arith, length-append (take a x) s, length-take a x, low)) in
+        let is = h.stored low ∙ with_mid a s x in
+        let first : take (a + n) y ≡ take a x ++ s = ap (take (a + n)) is ∙ take-put_mid a n x s (a + n) refl (omega arith) in
         let far : drop (a + n + length t) y ≡ drop (a + length (s ++ t)) x =
-        sym (drop-drop (length t) (a + n) y) ∙ ap (λ l. drop (length t) (drop (a + n) l)) (h.stored low)
-        ∙ ap (λ l. drop (length t) (drop (a + n) l)) (sym (append_assoc (take a x) s (drop (a + n) x)))
-        ∙ ap (drop (length t)) (drop_at (take a x ++ s) (drop (a + n) x) (a + n) (omega (arith, length-append (take a x) s, length-take a x, low)))
-        ∙ drop-drop (length t) (a + n) x ∙ ap (λ m. drop m x) (omega (arith, length-append s t)) in
-        k.stored (omega (arith, room, length-append s t, h.same)) ∙ ap (λ l. l ++ (t ++ drop (a + n + length t) y)) first ∙ ap (λ l. (take a x ++ s) ++ (t ++ l)) far
+        ap (drop (a + n + length t)) is ∙ drop-put_mid a n x s (a + n + length t) (omega arith) (omega arith) refl ∙ ap (λ m. drop m x) (omega (arith, length-append s t)) in
+        k.stored (omega (arith, room, length-append s t, h.same)) ∙ ap₂ (λ l r. l ++ (t ++ r)) first far
         ∙ append_assoc (take a x) s (t ++ drop (a + length (s ++ t)) x) ∙ ap (λ l. take a x ++ l) (sym (append_assoc s t (drop (a + length (s ++ t)) x)));
   }
 
@@ -49,16 +51,13 @@ module _ (a : ℕ) (s t x y z : List ℕ) where
         let n = length s in
         let low : a + n ≤ length x = omega (arith, room, length-append s t) in
         let is = h.stored (omega (arith, room, length-append s t)) in
-        let first : take a y ≡ take a x = ap (take a) is ∙ (take_first (take (a + n) x) (t ++ drop (a + n + length t) x) a (omega (arith, length-take (a + n) x, low))) ∙ take-take a (a + n) x (omega arith) in
+        let first : take a y ≡ take a x = ap (take a) (is ∙ with_mid (a + n) t x) ∙ take-put_mid_below (a + n) (length t) x t a (omega arith) low in
         let far : drop (a + n) y ≡ t ++ drop (a + length (s ++ t)) x =
         ap (drop (a + n)) is ∙ drop_at (take (a + n) x) (t ++ drop (a + n + length t) x) (a + n) (omega (arith, length-take (a + n) x, low))
         ∙ ap (λ m. t ++ drop m x) (omega (arith, length-append s t)) in
-        k.stored (omega (arith, low, h.same)) ∙ ap (λ l. l ++ (s ++ drop (a + n) y)) first ∙ ap (λ l. take a x ++ (s ++ l)) far
+        k.stored (omega (arith, low, h.same)) ∙ ap₂ (λ l r. l ++ (s ++ r)) first far
         ∙ ap (λ l. take a x ++ l) (sym (append_assoc s t (drop (a + length (s ++ t)) x)));
   }
-    where
-      take_first : (u v : List ℕ) (m : ℕ) → m ≤ length u → take m (u ++ v) ≡ take m u
-      take_first u v m le = sym (take-take m (length u) (u ++ v) le) ∙ ap (take m) (take_at u v (length u) refl)
 
 -- what was stored in the end of a buffer, from an offset on if the buffer is so long
 pub stored_part : (at from : ℕ) (s x sub z : List ℕ) → from ≡ min at (length x) → StoresAt 0 s (take (length x - from) (drop from x)) sub → z ≡ put_mid from (length x - from) x sub → StoresAt at s x z

@@ -2,12 +2,11 @@
 use Rattle.std.proofs.Common.{◌≡◌, inl, inr, ℕ, ◌*◌, ◌%◌, ◌==◌, Bool, true, false, cond, List, [], ◌∷◌, ◌++◌, length, Option, Some, Ok, Err, refl, sym, ap, subst, ◌∙◌, arith}
 use Rattle.std.specs.List.{AllByRecursion}
 use Rattle.std.proofs.lemmas.Bool.{cases_Bool}
-use Rattle.link_base.specs.declared.rows.form.Form.TheVariants as forms
 use Rattle.link_base.specs.Class.{Many, unless, meant}
 use Rattle.link_base.specs.Forms.{bytes_in}
 use Rattle.link_base.specs.Frame.{kind_of}
 use Rattle.link_base.specs.Wire.{Wire}
-use Rattle.link_base.specs.Table.{Rows, Shape, One, Nested, Addresses, Single, Inner, Listed, Table, AttrValue, Case, class_at, form_at, nested_flag, GivesBy, Gives, Decodes, single_case, of_length}
+use Rattle.link_base.specs.Table.{Shape, One, Nested, Addresses, Single, Inner, Listed, Table, AttrValue, Case, class_at, nested_flag, GivesBy, Gives, Decodes, single_case, of_length}
 use Rattle.link_base.specs.Borrowed.{elements_by, elements_at}
 use Rattle.link_base.specs.WellFormed.{is_table}
 use Rattle.link_base.proofs.ClassLemmas.{at_multiple}
@@ -20,7 +19,7 @@ use Rattle.link_entries.specs.declared.misfit.Misfit.TheVariants.{BadElement}
 use Rattle.link_entries.specs.Fields.{row_fields, fields_in, fields_at}
 use Rattle.link_entries.specs.Payload.{field_of}
 use Rattle.link_entries.specs.Spelled.{elements_of, attribute_of, entry_of, entries_of, begins_well, spelled_by}
-use Rattle.link_entries.proofs.RowForms.{is_list, value_no_list, array_form, array_width, array_fields, NoRow, OneValue, Array, AddressList, NestedList, row_says, element_no_list}
+use Rattle.link_entries.proofs.RowForms.{is_list, value_no_list, array_width, array_fields, RowTold, NoRow, OneValue, Array, AddressList, NestedList, row_says, element_no_list}
 use Rattle.link_entries.proofs.WrittenLists.{spells, same_spells, before_ok, wire_none, wire_more}
 use Rattle.link_entries.proofs.WrittenParts.{Parts, parts, single_payload, list_payload}
 use Rattle.link_entries.proofs.WrittenFields.{field_held}
@@ -59,21 +58,19 @@ module _ (table : Table) (formed : is_table table ≡ true) (octets : List ℕ) 
   given_by : (o : Option Shape) (v : AttrValue) → class_at table k ≡ o → GivesBy o (g % 65536) p (Ok v) → IsAttribute table s
   given_by o v class given = of_value table g p s v w.short w.text (subst (λ q. GivesBy q (g % 65536) p (Ok v)) (sym (ap (class_at table) kind ∙ class)) given)
 
-  array : (wide : Bool) → form_at table k ≡ Some (array_form wide) → class_at table k ≡ Some (One (Many (bytes_in (array_width wide)))) → IsAttribute table s
-  array wide named class =
+  by_row : RowTold table k → IsAttribute table s
+  by_row (NoRow named class) = single (ap (λ o. is_list (fields_in o)) named)
+  by_row (OneValue form names named class one low) = single (ap (λ o. is_list (fields_in o)) named ∙ value_no_list (row_fields form) one)
+  by_row (Array wide named class low) =
       let width = array_width wide in
       let c = Many (bytes_in width) in
       let size = numbers_length IsHeld (λ e h. h) (elements_at table k) width k octets 0 w.cut.below p w.cut.deep w.cut.held (only_elements (fields.Numbers width) (ap fields_in named ∙ array_fields wide) refl) in
       let accepted = at_multiple (bytes_in width) (length p) (even wide (length w.cut.below) (length p) size) in
       given_by (Some (One c)) (Case (kind_of (g % 65536)) (Single (meant c p))) class (sym (ap (λ o. single_case (kind_of (g % 65536)) (unless o (meant c p))) accepted))
-
-  addresses : (n : ℕ) → form_at table k ≡ Some (forms.Addresses n) → class_at table k ≡ Some (Addresses n) → IsAttribute table s
-  addresses n named class =
+  by_row (AddressList n named class few low) =
       let (vs, wire) = addresses_decode (elements_at table k) n k octets 0 w.cut.below p w.cut.deep w.short (only_elements (fields.Addresses n) (ap fields_in named) refl) in
       given_by (Some (Addresses n)) (Case (kind_of (g % 65536)) (Listed (of_length n vs))) class (Ok vs, wire, refl)
-
-  nested : (flagged : Bool) (rows : Rows) → form_at table k ≡ Some (forms.List flagged) → class_at table k ≡ Some (Nested flagged rows) → IsAttribute table s
-  nested flagged rows named class =
+  by_row (NestedList flagged rows named class low) =
       let inner = elements_at table k in
       let same = ap elements_by class in
       let (ms, wire) = nested_decodes inner (elements_formed table k formed) (λ j. element_no_list table k j formed) (nested_flag flagged) k octets 0 w.cut.below p w.cut.deep w.cut.held w.short
@@ -82,14 +79,7 @@ module _ (table : Table) (formed : is_table table ≡ true) (octets : List ℕ) 
       given_by (Some (Nested flagged rows)) (Case (kind_of (g % 65536)) (Inner flagged vs)) class (nested_values inner rows flagged (kind_of (g % 65536)) p ms vs same lifted wire)
 
   attribute_decodes : IsAttribute table s
-  attribute_decodes =
-      elim (row_says table k formed) [
-        | NoRow named class ↦ single (ap (λ o. is_list (fields_in o)) named)
-        | OneValue form names named class one low ↦ single (ap (λ o. is_list (fields_in o)) named ∙ value_no_list (row_fields form) one)
-        | Array wide named class low ↦ array wide named class
-        | AddressList n named class few low ↦ addresses n named class
-        | NestedList flagged rows named class low ↦ nested flagged rows named class
-      ]
+  attribute_decodes = by_row (row_says table k formed)
 
 -- ---- lists
 
