@@ -1,9 +1,9 @@
 -- What is read of a payload that an entry spells: every form of a single value.
-use Rattle.std.proofs.Common.{◌≡◌, inl, inr, ℕ, zero, suc, ◌-◌, ◌%◌, ◌<◌, ◌≤◌, ◌==◌, ◌&&◌, ◌||◌, Bool, true, false, cond, min, pos, negsuc, List, ◌++◌, length, map, take, drop, reverse, Option, Some, None, Result, Ok, Err, refl, sym, ap, subst, ◌∙◌, arith, take_all, take_at, drop_at}
+use Rattle.std.proofs.Common.{◌≡◌, inl, inr, ℕ, zero, suc, ◌-◌, ◌%◌, ◌<◌, ◌≤◌, ◌==◌, ◌&&◌, ◌||◌, Bool, true, false, cond, min, List, ◌++◌, length, map, take, drop, reverse, Option, Some, None, Result, Ok, Err, refl, sym, ap, subst, ◌∙◌, arith, take_all, take_at, drop_at}
 use Rattle.std.specs.Prelude.{nat_le, nat_lt, slice_index}
 use Rattle.std.specs.Int.{w32, w64, cast_signed, cast_unsigned}
-use mir.Val.{sel}
-use Rattle.std.proofs.lemmas.Bool.{cases_lt, cases_Bool, eqb-true, leb-true, ltb-true, lt-ltb, le-ltb}
+use Rattle.std.proofs.lemmas.Int.{to_z_pos}
+use Rattle.std.proofs.lemmas.Bool.{or_cases, eqb-true, leb-true, ltb-true, le-ltb}
 use Rattle.std.proofs.lemmas.List.{length-take}
 use Rattle.link_base.specs.declared.rows.form.Width.{Width}
 use Rattle.link_base.specs.declared.rows.form.Width.TheVariants as widths
@@ -36,7 +36,7 @@ use Rattle.link_entries.specs.Fields.{any_number, struct_fields, row_fields}
 use Rattle.link_entries.specs.Payload.{form_in, is_i32, only_if, passed, payload_of, pair_of, rewritten}
 use Rattle.link_entries.specs.Agreement.{IsEntry, referred, SameContent}
 use Rattle.link_entries.proofs.RowForms.{is_value}
-use Rattle.link_entries.proofs.BackValues.{StandsAt, padded_back}
+use Rattle.link_entries.proofs.BackValues.{StandsAt, negative, padded_back}
 use Rattle.link_entries.proofs.WrittenLists.{same_these, if_held, only_held, both_true, content_ok, passed_held}
 use Rattle.link_entries.proofs.WrittenSizes.{exactly_size, struct_size, limits_size}
 
@@ -49,29 +49,18 @@ truth (suc (suc x)) h = absurd (omega (arith, h))
 
 ether : (x : ℕ) → ((x == 33024) || (x == 34984)) ≡ true → ether_type (number (reverse (reverse (bytes_of 2 x)))) ≡ x
 ether x h =
-    elim (cases_Bool (x == 33024)) [
-      | inl is ↦ let same : x ≡ 33024 = eqb-true x 33024 is in subst (λ n. ether_type (number (reverse (reverse (bytes_of 2 n)))) ≡ n) (sym same) refl
-      | inr other ↦
-          let is : (x == 34984) ≡ true = sym (ap (λ b. b || (x == 34984)) other) ∙ h in
-          let same : x ≡ 34984 = eqb-true x 34984 is in
-          subst (λ n. ether_type (number (reverse (reverse (bytes_of 2 n)))) ≡ n) (sym same) refl
+    elim (or_cases (x == 33024) (x == 34984) h) [
+      | inl is ↦ let same = eqb-true x 33024 is in subst (λ n. ether_type (number (reverse (reverse (bytes_of 2 n)))) ≡ n) (sym same) refl
+      | inr is ↦ let same = eqb-true x 34984 is in subst (λ n. ether_type (number (reverse (reverse (bytes_of 2 n)))) ≡ n) (sym same) refl
     ]
 
 signed : (x : ℕ) → x < 18446744073709551616 → is_i32 x ≡ true → cast_unsigned w64 (cast_signed w32 (number (bytes_of 4 x))) ≡ x
 signed x high h =
     let y = number (bytes_of 4 x) in
     let low : y ≡ x % 4294967296 = omega arith in
-    elim (cases_lt x 2147483648) [
-      | inl small ↦
-          let same : y ≡ x = omega (arith, low, small) in
-          let sign : cast_signed w32 x ≡ pos x = ap (λ b. sel b (pos x) (negsuc (4294967296 - suc x))) (lt-ltb x 2147483648 small) in
-          ap (λ n. cast_unsigned w64 (cast_signed w32 n)) same ∙ ap (cast_unsigned w64) sign
-      | inr large ↦
-          let far : nat_le 18446744071562067968 x ≡ true = sym (ap (λ b. b || nat_le 18446744071562067968 x) (le-ltb x 2147483648 large)) ∙ h in
-          let least = leb-true 18446744071562067968 x far in
-          let below : y ≡ x - 18446744069414584320 = omega (arith, low, least, high) in
-          let sign : cast_signed w32 y ≡ negsuc (4294967296 - suc y) = ap (λ b. sel b (pos y) (negsuc (4294967296 - suc y))) (le-ltb y 2147483648 (omega (arith, below, least))) in
-          ap (cast_unsigned w64) sign ∙ omega (arith, below, least, high)
+    elim (or_cases (nat_lt x 2147483648) (nat_le 18446744071562067968 x) h) [
+      | inl small ↦ let few = ltb-true x 2147483648 small in ap (cast_unsigned w64) (to_z_pos w32 y (omega (arith, low, few))) ∙ omega (arith, low, few)
+      | inr large ↦ let least = leb-true 18446744071562067968 x large in negative y (omega (arith, low, least, high)) (omega (arith, low)) ∙ omega (arith, low, least, high)
     ]
 
 -- the limits of a CAN controller that were passed in
@@ -97,9 +86,7 @@ module _ (e : Entry) (octets p : List ℕ) (held : IsEntry e) where
 
   some_bound : (w : Width) → e.number ≤ bound (bytes_in w) - 1 → e.number < bound (bytes_in w)
   some_bound widths.One h = omega (arith, h)
-  some_bound widths.Two h = omega (arith, h)
-  some_bound widths.Four h = omega (arith, h)
-  some_bound widths.Eight h = omega (arith, h)
+  some_bound w h = omega (arith, h)
 
   pub number_read : (code : ℕ) (w : Width) → payload_of (any_number code w orders.Little) e octets ≡ Ok p → number p ≡ e.number
   number_read code w h =

@@ -1,9 +1,10 @@
 -- An entry that was read spells what a rewriting writes: payloads of one class.
-use Rattle.std.proofs.Common.{◌≡◌, inl, inr, ℕ, suc, ◌+◌, ◌-◌, ◌/◌, ◌%◌, ◌<◌, ◌≤◌, ◌==◌, ◌&&◌, ◌||◌, Bool, true, false, cond, pos, negsuc, List, [], ◌∷◌, ◌++◌, length, take, drop, reverse, replicate, Option, Ok, Err, sym, ap, ap₂, subst, ◌∙◌, arith, take_all, take_at, take-take}
+use Rattle.std.proofs.Common.{◌≡◌, inl, inr, ℕ, suc, ◌+◌, ◌-◌, ◌/◌, ◌%◌, ◌<◌, ◌≤◌, ◌==◌, ◌&&◌, ◌||◌, Bool, true, cond, pos, negsuc, List, [], ◌∷◌, ◌++◌, length, take, drop, reverse, replicate, Option, Ok, Err, sym, ap, ap₂, subst, ◌∙◌, arith, take_all, take_at, take-take}
 use Rattle.std.specs.Prelude.{nat_le, nat_lt, slice_index}
 use Rattle.std.specs.Int.{w32, w64, cast_signed, cast_unsigned}
 use mir.Val.{sel}
-use Rattle.std.proofs.lemmas.Bool.{cases_lt, eq-eqb, le-leb, lt-ltb, le-ltb}
+use Rattle.std.proofs.lemmas.Int.{to_z_pos, of_z-to_z}
+use Rattle.std.proofs.lemmas.Bool.{or_left, or_right, cases_lt, eq-eqb, le-leb, lt-ltb, le-ltb}
 use Rattle.std.proofs.lemmas.List.{length-take, length-drop, take-append-drop}
 use Rattle.link_base.specs.declared.rows.form.Width.{Width}
 use Rattle.link_base.specs.Forms.{bytes_in}
@@ -117,7 +118,7 @@ address_back form n e octets q same size len few is =
     ∙ ap Ok (ap (take n) is ∙ padded_back q n len few)
 
 -- a signed number
-low4 : (x y : ℕ) → y ≡ x + 18446744069414584320 → bytes_of 4 y ≡ bytes_of 4 x
+low4 : (x y : ℕ) → y % 4294967296 ≡ x → bytes_of 4 y ≡ bytes_of 4 x
 low4 x y e =
     let a : y % 256 ≡ x % 256 = omega (arith, e) in
     let b : y / 256 % 256 ≡ x / 256 % 256 = omega (arith, e) in
@@ -125,28 +126,22 @@ low4 x y e =
     let d : y / 256 / 256 / 256 % 256 ≡ x / 256 / 256 / 256 % 256 = omega (arith, e) in
     ap₂ (λ s t. s ++ t) (ap₂ (λ m n. m ∷ n ∷ []) a b) (ap₂ (λ m n. m ∷ n ∷ []) c d)
 
+-- a negative one, with as many bits as an entry holds
+pub negative : (x : ℕ) → 2147483648 ≤ x → x < 4294967296 → cast_unsigned w64 (cast_signed w32 x) ≡ x + 18446744069414584320
+negative x large low = ap (λ b. cast_unsigned w64 (sel b (pos x) (negsuc (4294967296 - suc x)))) (le-ltb x 2147483648 large) ∙ omega (arith, low, large)
+
 pub signed_back : (e : Entry) (octets : List ℕ) (x : ℕ) → x < 4294967296 → e.form ≡ 4 → e.number ≡ cast_unsigned w64 (cast_signed w32 x)
     → payload_of fields.Signed e octets ≡ Ok (bytes_of 4 (cast_unsigned w32 (cast_signed w32 x)))
 signed_back e octets x low same is =
-    right_form fields.Signed e octets same ∙ ap (λ m. only_if (is_i32 m) BadNumber (bytes_of 4 m)) is
-    ∙ elim (cases_lt x 2147483648) [
+    let (fits, end) : (is_i32 e.number ≡ true) × (e.number % 4294967296 ≡ x) = elim (cases_lt x 2147483648) [
       | inl small ↦
-          let sign : cast_signed w32 x ≡ pos x = ap (λ b. sel b (pos x) (negsuc (4294967296 - suc x))) (lt-ltb x 2147483648 small) in
-          ap (λ z. only_if (is_i32 (cast_unsigned w64 z)) BadNumber (bytes_of 4 (cast_unsigned w64 z))) sign
-          ∙ ok_if (is_i32 x) BadNumber (bytes_of 4 x) (ap (λ b. b || nat_le 18446744071562067968 x) (lt-ltb x 2147483648 small))
-          ∙ ap (λ z. Ok (bytes_of 4 (cast_unsigned w32 z))) (sym sign)
+          let own : e.number ≡ x = is ∙ ap (cast_unsigned w64) (to_z_pos w32 x small) in
+          (or_left (nat_lt e.number 2147483648) (nat_le 18446744071562067968 e.number) (lt-ltb e.number 2147483648 (omega (arith, own, small))), omega (arith, own, low))
       | inr large ↦
-          let k = 4294967296 - suc x in
-          let z = negsuc k in
-          let y = 18446744073709551616 - suc k in
-          let sign : cast_signed w32 x ≡ negsuc k = ap (λ b. sel b (pos x) (negsuc (4294967296 - suc x))) (le-ltb x 2147483648 large) in
-          let high : nat_le 18446744071562067968 y ≡ true = le-leb 18446744071562067968 y (omega (arith, low, large)) in
-          let far : nat_lt y 2147483648 ≡ false = le-ltb y 2147483648 (omega (arith, low, large)) in
-          let own : 4294967296 - suc k ≡ x = omega (arith, low) in
-          ap (λ w. only_if (is_i32 (cast_unsigned w64 w)) BadNumber (bytes_of 4 (cast_unsigned w64 w))) sign
-          ∙ ok_if (is_i32 y) BadNumber (bytes_of 4 y) (ap₂ (λ a b. a || b) far high)
-          ∙ ap Ok (low4 x y (omega (arith, low, large)) ∙ ap (bytes_of 4) (sym own)) ∙ ap (λ w. Ok (bytes_of 4 (cast_unsigned w32 w))) (sym sign)
-    ]
+          let own = is ∙ negative x large low in
+          (or_right (nat_lt e.number 2147483648) (nat_le 18446744071562067968 e.number) (le-leb 18446744071562067968 e.number (omega (arith, own, large))), omega (arith, own, low))
+    ] in
+    right_form fields.Signed e octets same ∙ ok_if (is_i32 e.number) BadNumber (bytes_of 4 e.number) fits ∙ ap Ok (low4 x e.number end ∙ ap (bytes_of 4) (sym (of_z-to_z w32 x low)))
 
 -- two bytes in network byte order
 pub be_number : (r : List ℕ) → length r ≡ 2 → IsBytes r → (reverse (bytes_of 2 (number (reverse r))) ≡ r) × (number (reverse r) < 65536)

@@ -60,8 +60,6 @@ no_bytes own e octets p a h = absurd cc
 -- what is no list has no elements
 pub no_content : (table : Table) (own : Fields) (i : ℕ) (e : Entry) (octets s : List ℕ) → is_list own ≡ false → element_content table own i e octets ≡ Ok s → ⊥
 no_content table (fields.Numbers width) i e octets s no_list h = cc
-no_content table (fields.Addresses size) i e octets s no_list h = cc
-no_content table (fields.List flag) i e octets s no_list h = cc
 no_content table own i e octets s no_list h = cc
 
 -- the bytes that were passed in
