@@ -26,7 +26,7 @@ use Rattle.link_base.specs.Table.{Row, Shape, One, Nested, Addresses, Table, Att
 use Rattle.link_base.specs.Borrowed.{Says, SaysAddresses, told, Borrows, BorrowsBy, HasValue}
 use Rattle.link_base.specs.WellFormed.{is_table}
 use Rattle.link_base.proofs.Coherence.{row_told}
-use Rattle.link_base.proofs.Entries.{class_of_row, form_of_row, label_of_row, class_of_none, form_of_none}
+use Rattle.link_base.proofs.Entries.{class_of_row, form_of_row, label_of_row}
 use Rattle.link_base.proofs.Numbers.{number-bytes_of}
 use Rattle.link_base.proofs.Orders.{all_taken, bytes_be_len}
 

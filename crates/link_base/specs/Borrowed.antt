@@ -1,5 +1,5 @@
 -- What views borrow: the content of an attribute that decodes.
-use Rattle.std.specs.Prelude.{◌≡◌, ◌<◌, ℕ, Bool, true, false, List, [], ◌∷◌, length, take, drop, Option, Some, None, Ok}
+use Rattle.std.specs.Prelude.{◌≡◌, ◌<◌, ℕ, List, [], ◌∷◌, take, drop, Option, Some, None, Ok}
 use Rattle.link_base.specs.declared.views.content.Content.{Content as Borrowed}
 use Rattle.link_base.specs.declared.views.content.Content.TheVariants as borrowed
 use Rattle.link_base.specs.declared.wire.buffer.NlaBuffer.{NlaBuffer}

@@ -11,7 +11,6 @@ ghost use Rattle.link_vlan_can.specs.CanLimits.{limits_view, limits_with, limits
 use bstr::ByteSlice;
 use link_base::rows::form::Form;
 use link_base::rows::label::Name;
-use link_base::views::content::Content;
 use link_base::{
     DecodeError, DecodeFault, DefaultNla, Lengths, NlaBuffer, PayloadClass, before_nul,
     check_at_least, emit_numbers, is_limits, u32s_at,

@@ -9,7 +9,6 @@ ghost use Rattle.link_base.specs.declared.rows.form.Order.TheVariants as orders;
 ghost use Rattle.link_base.specs.declared.rows.form.Role.TheVariants as roles;
 
 use crate::classes::fixed_size::FixedSize;
-use crate::classes::records::u32_at;
 use crate::classes::scalars::{emit_low, emit_u32_pair};
 use crate::classes::word::Word;
 use crate::names::flag_laws::FlagSet;

@@ -1,8 +1,8 @@
 //! What is done by the row of an attribute type alone: the visitors of `AttributeRows::visit_row`.
 
-ghost use Rattle.std.specs.Prelude.{◌≡◌, ◌↔◌, ℕ, IsTrue, None, Some};
+ghost use Rattle.std.specs.Prelude.{◌≡◌, ◌↔◌, IsTrue, None, Some};
 ghost use Rattle.link_base.specs.Frame.{kind_of};
-ghost use Rattle.link_base.specs.Table.{Gives, Allows, label_at, row_at, row_of};
+ghost use Rattle.link_base.specs.Table.{Gives, Allows, label_at};
 ghost use Rattle.link_base.specs.Labels.{label_in, label_of};
 ghost use Rattle.link_base.specs.Buffer.{kind_field_of, payload_of};
 ghost use Rattle.link_base.specs.Checked.{Checks};

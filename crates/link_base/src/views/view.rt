@@ -155,27 +155,6 @@ impl<'a, S: AttributeSet> Value<'a, S> {
             _ => None,
         }
     }
-
-    /// Returns a view of the attributes in a nested list, as `elements_as`. `content` must be what `content` returns.
-    #[inline(always)]
-    pub fn elements_in<T: AttributeSet>(
-        &self,
-        content: Content<'a>,
-        elements: T,
-    ) -> Option<View<'a, T>>
-        requires table { T.rows elements ≡ elements_at (S.rows (set_in self.now)) (kind_in self.now) }
-        requires content { Borrows (class_at (S.rows (set_in self.now)) (kind_in self.now)) (payload_in self.now) content }
-        ensures { ViewsElements (class_at (S.rows (set_in self.now)) (kind_in self.now)) (payload_in self.now)
-            elements result }
-    {
-        match content {
-            Content::List { list, .. } => Some(View {
-                rest: list,
-                set: elements,
-            }),
-            _ => None,
-        }
-    }
 }
 
 impl<'a, S: CheckedSet> Value<'a, S> {

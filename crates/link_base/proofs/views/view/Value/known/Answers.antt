@@ -1,4 +1,4 @@
-use Rattle.std.proofs.Common.{[], length, sym, subst, ap, ◌∙◌}
+use Rattle.std.proofs.Common.{[], length, subst, ap, ◌∙◌}
 use Rattle.link_base.specs.Class.{extent, length_cause}
 use Rattle.link_base.specs.Payloads.{class_by}
 use Rattle.link_base.specs.Buffer.{kind_field_of, payload_of}
