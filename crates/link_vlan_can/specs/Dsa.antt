@@ -6,7 +6,7 @@ use Rattle.link_base.specs.declared.rows.label.Quantity.TheVariants.{InterfaceIn
 use Rattle.link_base.specs.Table.{Table, AttrValue, Case, Single, row_in}
 use Rattle.link_base.specs.Default.{default_means}
 use Rattle.link_vlan_can.specs.declared.dsa.InfoDsa.{InfoDsa}
-use Rattle.link_vlan_can.specs.declared.dsa.InfoDsa.TheVariants.{Conduit, Other}
+use Rattle.link_vlan_can.specs.declared.dsa.InfoDsa.TheVariants as infos
 
 -- one row for each attribute type
 abbrev pub dsa_table : Table
@@ -14,5 +14,5 @@ dsa_table = row_in InterfaceIndex 1 "IFLA_DSA_CONDUIT" u32 ∷ []
 
 -- the attribute that a value represents
 abbrev pub dsa_means : InfoDsa → AttrValue
-dsa_means (Conduit conduit) = Case 1 (Single (Number 4 conduit))
-dsa_means (Other other) = default_means other
+dsa_means (infos.Conduit conduit) = Case 1 (Single (Number 4 conduit))
+dsa_means (infos.Other other) = default_means other

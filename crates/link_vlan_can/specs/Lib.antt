@@ -1,6 +1,7 @@
 pub mod VlanFlags
 pub mod Vlan
 pub mod Dsa
+pub mod HsrProtocol
 pub mod Hsr
 pub mod CanFlags
 pub mod CanState

@@ -4,7 +4,7 @@ ghost use Rattle.std.specs.Prelude.{refl, ◌≡◌, Some};
 ghost use Rattle.link_base.specs.Named.{value_of, number_of, displayed};
 ghost use Rattle.link_base.specs.Equality.{of_cases, thorough_fields};
 ghost use Rattle.link_base.proofs.TableLaws.{lawful};
-ghost use Rattle.link_vlan_can.specs.Hsr.{hsr_protocol_names, hsr_protocol_seen, hsr_protocol_cases};
+ghost use Rattle.link_vlan_can.specs.HsrProtocol.{hsr_protocol_names, hsr_protocol_seen, hsr_protocol_cases};
 ghost use Rattle.link_vlan_can.specs.Hsr.{hsr_table, hsr_means};
 
 use link_base::rows::by_rows::{self, AttributeRows, RowVisitor};

@@ -50,4 +50,5 @@ pub use Rattle.link_vlan_can.specs.Vlan
 pub use Rattle.link_vlan_can.specs.CanState
 pub use Rattle.link_vlan_can.specs.Can
 pub use Rattle.link_vlan_can.specs.Dsa
+pub use Rattle.link_vlan_can.specs.HsrProtocol
 pub use Rattle.link_vlan_can.specs.Hsr
