@@ -1,6 +1,6 @@
 #!/usr/bin/env python3
 """Writes what is made from the sources: docs/MAP.md, docs/families.md, docs/nlroute.3, docs/captured.pcapng, the tables of
-CLAIMS.md, and the lists of attribute sets.
+CLAIMS.md, the lists of attribute sets, and what tools/sets.py makes from sets/.
 
 usage: tools/made.py [--check]
 
@@ -26,6 +26,7 @@ With --check it says which of them is not what would be written, and which files
 M failed'; CI does this.
 """
 import glob
+import os
 import re
 import struct
 import sys
@@ -33,6 +34,7 @@ import textwrap
 
 sys.dont_write_bytecode = True
 import families  # noqa: E402
+import sets  # noqa: E402
 from pages import CLAIMS, ROOT, Tree, clause_tables, head_of, is_ghost  # noqa: E402
 
 # ---- docs/MAP.md
@@ -292,6 +294,7 @@ def capture(text):
 def write(made):
     """Writes files, by their paths."""
     for path, data in made.items():
+        os.makedirs(os.path.dirname(f"{ROOT}/{path}"), exist_ok=True)
         with open(f"{ROOT}/{path}", "wb") as file:
             file.write(data)
 
@@ -303,6 +306,7 @@ def main():
     tree, ill = Tree(ROOT), []
     try:
         lists = families.written(tree.text)
+        lists |= sets.written(tree.files, lambda path: lists.get(path) or tree.text(path))
     except ValueError as error:
         sys.exit(f"{error}\n0 passed, 1 failed")
     if not option:
