@@ -79,9 +79,9 @@ whole_read : (P : Entry → Type 0) (n : ℕ) (q : List ℕ) (short full : Entry
 whole_read P n q short full size h = subst (λ b. P (cond b short full)) (sym (le-ltb (length q) n (omega (arith, size)))) h
 
 module _ (e : Entry) (octets p : List ℕ) (held : IsEntry e) where
-  number_held : (code most : ℕ) (w : Width) (order : Order) → payload_of (fields.Number code w order most) e octets ≡ Ok p → (e.number ≤ most) × (p ≡ bytes_by order (bytes_in w) e.number)
+  number_held : (code most : ℕ) (w : Width) (order : Order) → payload_of (fields.Number code w most order) e octets ≡ Ok p → (e.number ≤ most) × (p ≡ bytes_by order (bytes_in w) e.number)
   number_held code most w order h =
-      let both = only_held (nat_le e.number most) BadNumber (bytes_by order (bytes_in w) e.number) p (content_ok (fields.Number code w order most) e octets p h) in
+      let both = only_held (nat_le e.number most) BadNumber (bytes_by order (bytes_in w) e.number) p (content_ok (fields.Number code w most order) e octets p h) in
       (leb-true e.number most both.0, both.1)
 
   some_bound : (w : Width) → e.number ≤ bound (bytes_in w) - 1 → e.number < bound (bytes_in w)
@@ -99,14 +99,14 @@ module _ (e : Entry) (octets p : List ℕ) (held : IsEntry e) where
       let both = number_held code (bound n - 1) w orders.Big h in
       ap (λ q. number (reverse (take n q))) both.1 ∙ ap (λ q. number (reverse q)) (all_taken n (bytes_be n e.number) (bytes_be_len n e.number)) ∙ be_again n e.number (some_bound w both.0)
 
-  truth_read : payload_of (fields.Number form_bool widths.One orders.Little 1) e octets ≡ Ok p → cond (nat_lt 0 (number p)) 1 0 ≡ e.number
+  truth_read : payload_of (fields.Number form_bool widths.One 1 orders.Little) e octets ≡ Ok p → cond (nat_lt 0 (number p)) 1 0 ≡ e.number
   truth_read h =
       let both = number_held form_bool 1 widths.One orders.Little h in
       let few = both.0 in
       let same : number p ≡ e.number = ap number both.1 ∙ number-bytes_of 1 e.number (omega (arith, few)) in
       ap (λ x. cond (nat_lt 0 x) 1 0) same ∙ truth e.number few
 
-  low_read : payload_of (fields.Number form_flags widths.Two orders.Little 255) e octets ≡ Ok p → slice_index p 0 ≡ e.number
+  low_read : payload_of (fields.Number form_flags widths.Two 255 orders.Little) e octets ≡ Ok p → slice_index p 0 ≡ e.number
   low_read h =
       let both = number_held form_flags 255 widths.Two orders.Little h in
       let few = both.0 in

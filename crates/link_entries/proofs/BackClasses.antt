@@ -157,7 +157,7 @@ module _ (f n : ℕ) (e : Entry) (list p : List ℕ) (bytes : IsBytes p) (at : S
   class_back forms.LowFlags names h ok =
       let x = slice_index p 0 in
       let low = first_below p bytes in
-      right_form (fields.Number form_flags widths.Two orders.Little 255) (entry_by forms.LowFlags names) list refl ∙ ok_if (nat_le x 255) BadNumber (bytes_of 2 x) (le-leb x 255 (omega (arith, low))) ∙ ap Ok (low2 x low)
+      right_form (fields.Number form_flags widths.Two 255 orders.Little) (entry_by forms.LowFlags names) list refl ∙ ok_if (nat_le x 255) BadNumber (bytes_of 2 x) (le-leb x 255 (omega (arith, low))) ∙ ap Ok (low2 x low)
   class_back forms.MaskedFlags names h ok = let all = kept (Exactly 8) ok in two_words e list (take 8 p) all.1 form_masked false all.0
   class_back forms.Pair names h ok = let all = kept (Exactly 8) ok in two_words e list (take 8 p) all.1 form_qos_mapping false all.0
   class_back forms.Protocol names h ok =

@@ -60,7 +60,7 @@ same_error false r = refl
 
 pub in_order : (own : Fields) (e : Entry) (octets : List ℕ) → misfit_in (payload_of own e octets) ≡ first_misfit own e octets
 in_order fields.Empty e octets = of_form (has_form fields.Empty e) []
-in_order (fields.Number form width order most) e octets = of_number (has_form (fields.Number form width order most) e) (nat_le e.number most) (bytes_by order (bytes_in width) e.number)
+in_order (fields.Number form width most order) e octets = of_number (has_form (fields.Number form width most order) e) (nat_le e.number most) (bytes_by order (bytes_in width) e.number)
 in_order fields.Signed e octets = of_number (has_form fields.Signed e) (is_i32 e.number) (bytes_of 4 e.number)
 in_order (fields.Shorts form second_first) e octets =
     of_number (has_form (fields.Shorts form second_first) e) (nat_lt e.number (2 ^ 16) && nat_lt e.second (2 ^ 16)) (pair_of second_first (bytes_of 2 e.number) (bytes_of 2 e.second))

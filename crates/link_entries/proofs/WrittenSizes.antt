@@ -49,9 +49,9 @@ limits_size (Ok q) p e size =
 limits_size (Err m) p e size = absurd cc
 
 module _ (e : Entry) (octets p : List ℕ) (held : length e.octets ≡ 16) where
-  pub number_size : (code : ℕ) (w : Width) (order : Order) (most : ℕ) → payload_of (fields.Number code w order most) e octets ≡ Ok p → length p ≡ bytes_in w
+  pub number_size : (code : ℕ) (w : Width) (order : Order) (most : ℕ) → payload_of (fields.Number code w most order) e octets ≡ Ok p → length p ≡ bytes_in w
   number_size code w order most h =
-      ap length (only_held _ BadNumber (bytes_by order (bytes_in w) e.number) p (content_ok (fields.Number code w order most) e octets p h)).1 ∙ length-bytes_by order (bytes_in w) e.number
+      ap length (only_held _ BadNumber (bytes_by order (bytes_in w) e.number) p (content_ok (fields.Number code w most order) e octets p h)).1 ∙ length-bytes_by order (bytes_in w) e.number
 
   shorts_size : (code : ℕ) (second_first : Bool) → payload_of (fields.Shorts code second_first) e octets ≡ Ok p → length p ≡ 4
   shorts_size code second_first h =

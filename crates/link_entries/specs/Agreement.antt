@@ -25,7 +25,7 @@ referred e octets = take e.length (drop e.offset octets)
 -- refers to; of the limits of a CAN controller, these bytes as a rewriting writes them
 abbrev pub SameContent : Fields → List ℕ → Entry → List ℕ → Entry → Type 0
 SameContent fields.Empty octets e list r = Unit {0}
-SameContent (fields.Number form width order most) octets e list r = r.number ≡ e.number
+SameContent (fields.Number form width most order) octets e list r = r.number ≡ e.number
 SameContent fields.Signed octets e list r = r.number ≡ e.number
 SameContent (fields.Shorts form second_first) octets e list r = (r.number ≡ e.number) × (r.second ≡ e.second)
 SameContent (fields.Words form second_first) octets e list r = (r.number ≡ e.number) × (r.second ≡ e.second)

@@ -20,7 +20,7 @@ use Rattle.link_entries.specs.declared.fields.Fields.TheVariants as fields
 
 -- any number of this width
 abbrev pub any_number : ℕ → Width → Order → Fields
-any_number form width order = fields.Number form width order (bound (bytes_in width) - 1)
+any_number form width order = fields.Number form width (bound (bytes_in width) - 1) order
 
 -- a number of an array of numbers of this width
 abbrev pub array_number : Width → Fields
@@ -50,10 +50,10 @@ struct_fields layout = fields.Passed form_bytes (Some (size_of (layout_extent la
 -- for an attribute type whose values have this form
 abbrev pub row_fields : Form → Fields
 row_fields forms.Nothing = fields.Empty
-row_fields forms.Bool = fields.Number form_bool widths.One orders.Little 1
+row_fields forms.Bool = fields.Number form_bool widths.One 1 orders.Little
 row_fields (forms.Number width order role) = any_number (role_form role) width order
 row_fields forms.Signed = fields.Signed
-row_fields forms.LowFlags = fields.Number form_flags widths.Two orders.Little 255
+row_fields forms.LowFlags = fields.Number form_flags widths.Two 255 orders.Little
 row_fields forms.MaskedFlags = fields.Words form_masked false
 row_fields forms.Pair = fields.Words form_qos_mapping false
 row_fields forms.Protocol = fields.Protocol
@@ -79,5 +79,5 @@ fields_at table k = fields_in (form_at table k)
 
 -- the greatest number of a field fits in its width
 abbrev pub IsNarrow : Fields → Type 0
-IsNarrow (fields.Number form width order most) = most < bound (bytes_in width)
+IsNarrow (fields.Number form width most order) = most < bound (bytes_in width)
 IsNarrow own = Unit {0}

@@ -10,7 +10,7 @@ use Rattle.link_entries.specs.Payload.{is_i32, has_form, has_size}
 
 -- whether an attribute with these fields can hold the numbers of an entry; without a row, these are its type and flags
 abbrev pub holds_numbers : Fields → Entry → Bool
-holds_numbers (fields.Number form width order most) e = nat_le e.number most
+holds_numbers (fields.Number form width most order) e = nat_le e.number most
 holds_numbers fields.Signed e = is_i32 e.number
 holds_numbers (fields.Shorts form second_first) e = nat_lt e.number (2 ^ 16) && nat_lt e.second (2 ^ 16)
 holds_numbers (fields.Words form second_first) e = nat_lt e.number (2 ^ 32)

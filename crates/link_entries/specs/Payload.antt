@@ -19,7 +19,7 @@ use Rattle.link_entries.specs.declared.misfit.Misfit.TheVariants.{TooLong, BadFo
 -- the form of the entries of an attribute type
 abbrev pub form_in : Fields → ℕ
 form_in fields.Empty = form_empty
-form_in (fields.Number form width order most) = form
+form_in (fields.Number form width most order) = form
 form_in fields.Signed = form_signed
 form_in (fields.Shorts form second_first) = form
 form_in (fields.Words form second_first) = form
@@ -76,7 +76,7 @@ pair_of second_first number second = if second_first then second ++ number else 
 -- the payload, without elements
 abbrev pub content_of : Fields → Entry → List ℕ → Result (List ℕ) Misfit
 content_of fields.Empty e octets = Ok []
-content_of (fields.Number form width order most) e octets = only_if (nat_le e.number most) BadNumber (bytes_by order (width_of width) e.number)
+content_of (fields.Number form width most order) e octets = only_if (nat_le e.number most) BadNumber (bytes_by order (width_of width) e.number)
 content_of fields.Signed e octets = only_if (is_i32 e.number) BadNumber (bytes_of 4 e.number)
 content_of (fields.Shorts form second_first) e octets = only_if (nat_lt e.number (2 ^ 16) && nat_lt e.second (2 ^ 16)) BadNumber (pair_of second_first (bytes_of 2 e.number) (bytes_of 2 e.second))
 content_of (fields.Words form second_first) e octets = only_if (nat_lt e.number (2 ^ 32)) BadNumber (pair_of second_first (bytes_of 4 e.number) (bytes_of 4 e.second))

@@ -18,7 +18,7 @@ size_or_0 (Some n) = n
 -- the number of bytes that hold every number of the type, each of two numbers, the address, or what an entry refers to; 0 if
 -- there may be any number of them, or if there are none
 abbrev pub width_in : Fields → ℕ
-width_in (fields.Number form width order most) = if nat_lt most 256 then 1 else bytes_in width
+width_in (fields.Number form width most order) = if nat_lt most 256 then 1 else bytes_in width
 width_in fields.Signed = 4
 width_in (fields.Shorts form second_first) = 2
 width_in (fields.Words form second_first) = 4

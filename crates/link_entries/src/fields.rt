@@ -17,8 +17,8 @@ pub enum Fields {
     Number {
         form: u8,
         width: Width,
-        order: Order,
         most: u64,
+        order: Order,
     },
     /// `number`, a signed number of four bytes.
     Signed,
@@ -164,7 +164,12 @@ pub fn row_fields(form: Form) -> Fields
             order: Order::Little,
             most: 1,
         },
-        Form::Number { width, order, role } => any_number(role_form(role), width, order),
+        // One call for each form, so that the compiler knows the form in each row.
+        Form::Number { width, order, role } => match role {
+            Role::Plain => any_number(forms::UNSIGNED, width, order),
+            Role::Coded | Role::Enum => any_number(forms::NAMED, width, order),
+            Role::Flags => any_number(forms::FLAGS, width, order),
+        },
         Form::Signed => Fields::Signed,
         Form::LowFlags => Fields::Number {
             form: forms::FLAGS,

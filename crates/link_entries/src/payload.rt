@@ -7,7 +7,7 @@ ghost use Rattle.link_base.specs.Class.{Limits, meant, written};
 ghost use Rattle.link_base.specs.Frame.{max_payload};
 ghost use Rattle.link_base.specs.Forms.{bytes_in as width_of};
 ghost use Rattle.link_entries.specs.Fields.{IsNarrow};
-ghost use Rattle.link_entries.specs.Payload.{has_form, form_in, is_implied, only_if, has_size, passed, rewritten, is_i32, pair_of, content_of, payload_of, slice_told};
+ghost use Rattle.link_entries.specs.Payload.{has_form, form_in, only_if, has_size, passed, rewritten, is_i32, pair_of, content_of, payload_of, slice_told};
 ghost use Rattle.link_entries.specs.Stored.{padded, sized, StoresAt, StoresPayload};
 
 use crate::entry::Entry;
@@ -49,7 +49,11 @@ pub fn put_payload(
 fn has_form(fields: Fields, entry: &Entry) -> bool
     ensures { result ≡ has_form fields entry.now }
 {
-    entry.form == form_in(fields) || (entry.form == 0 && is_implied(fields))
+    match fields {
+        // Apart from the rows, so that these need not say whether 0 stands for their form.
+        Fields::Unknown => entry.form == forms::UNKNOWN,
+        _ => entry.form == form_in(fields) || entry.form == 0,
+    }
 }
 
 /// Returns the form of entries with these fields.
@@ -71,14 +75,6 @@ pub(crate) fn form_in(fields: Fields) -> u8
         Fields::Numbers { .. } | Fields::Addresses { .. } | Fields::List { .. } => forms::LIST,
         Fields::Unknown => forms::UNKNOWN,
     }
-}
-
-/// Checks whether 0 stands for the form of entries with these fields: it does if the attribute type has a row.
-#[inline(always)]
-fn is_implied(fields: Fields) -> bool
-    ensures { result ≡ is_implied fields }
-{
-    !matches!(fields, Fields::Unknown)
 }
 
 /// Stores the payload that an entry of the right form spells, as [`put_payload`] does.
@@ -151,24 +147,27 @@ fn put_number(
     if number > most {
         return Err(Misfit::BadNumber);
     }
-    match order {
-        Order::Little => store_little(number, width, room),
-        Order::Big => store_big(number, width, room),
-    }
+    let held = match order {
+        Order::Little => number,
+        Order::Big => swapped(number, width),
+    };
+    store_little(held, width, room);
     Ok(width.size())
 }
 
-/// Stores the bytes of a number in network byte order, and its padding.
+/// Returns the number whose little-endian bytes are those of a number in network byte order. So the bytes are stored in one
+/// place, whatever their order, and the compiler joins the rows of an attribute set.
 #[inline(always)]
-fn store_big(number: u64, width: Width, room: &mut [u8])
-    ensures { StoresAt 4 (padded (bytes_be (width_of width) number)) room.old room.new }
+fn swapped(number: u64, width: Width) -> u64
+    ensures octets { bytes_of (width_of width) result ≡ bytes_be (width_of width) number }
+    ensures low { result < bound (width_of width) }
 {
     let [a, b, c, d, e, f, g, h] = number.to_be_bytes();
     match width {
-        Width::One => store(room, 4, &[h, 0, 0, 0]),
-        Width::Two => store(room, 4, &[g, h, 0, 0]),
-        Width::Four => store(room, 4, &[e, f, g, h]),
-        Width::Eight => store(room, 4, &[a, b, c, d, e, f, g, h]),
+        Width::One => u8::from_le_bytes([h]).into(),
+        Width::Two => u16::from_le_bytes([g, h]).into(),
+        Width::Four => u32::from_le_bytes([e, f, g, h]).into(),
+        Width::Eight => u64::from_le_bytes([a, b, c, d, e, f, g, h]),
     }
 }
 
