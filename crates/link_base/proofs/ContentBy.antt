@@ -83,7 +83,7 @@ some_same : {A : Type 0} {a b : A} → Some a ≡ Some b → a ≡ b
 some_same e = cc
 
 -- a payload that decodes has an accepted length
-one_accepted : (table : Table) (f : ℕ) (p : List ℕ) (c : Class) → class_at table (kind_of f) ≡ Some (One c) → HasValue table f p → length_cause (extent c) (length p) ≡ None
+pub one_accepted : (table : Table) (f : ℕ) (p : List ℕ) (c : Class) → class_at table (kind_of f) ≡ Some (One c) → HasValue table f p → length_cause (extent c) (length p) ≡ None
 one_accepted table f p c e h = by_cause (length_cause (extent c) (length p)) refl
   where
     one : (v : AttrValue) → Gives table f p (Ok v) → Ok v ≡ single_case (kind_of f) (class_value c p)
