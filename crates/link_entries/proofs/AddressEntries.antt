@@ -55,8 +55,8 @@ module _ (k at n : ℕ) where
   entries_next list rest after es i offset x h split count place =
       let more = λ (j : ℕ) (o : ℕ). cond (length (payload_of x) == n) (address_entry k j o (payload_of x) ∷ []) [] in
       reached_more entries_of list rest after es (es ++ more i offset) x h split (λ items is.
-          ap₂ (λ j o. es ++ more j o) (count ∙ ap length is) place ∙ ap (λ l. l ++ more (length (entries_of items)) (at + ((length list - length rest) + 4))) is
-          ∙ sym (entries_more items (length list - length rest, x)))
+      ap₂ (λ j o. es ++ more j o) (count ∙ ap length is) place ∙ ap (λ l. l ++ more (length (entries_of items)) (at + ((length list - length rest) + 4))) is
+      ∙ sym (entries_more items (length list - length rest, x)))
 
   -- ---- addresses that are stored
 

@@ -126,7 +126,7 @@ low4 x y e =
     let d : y / 256 / 256 / 256 % 256 ≡ x / 256 / 256 / 256 % 256 = omega (arith, e) in
     ap₂ (λ s t. s ++ t) (ap₂ (λ m n. m ∷ n ∷ []) a b) (ap₂ (λ m n. m ∷ n ∷ []) c d)
 
--- a negative one, with as many bits as an entry holds
+-- a negative number has 32 bits in a payload, and 64 in an entry
 pub negative : (x : ℕ) → 2147483648 ≤ x → x < 4294967296 → cast_unsigned w64 (cast_signed w32 x) ≡ x + 18446744069414584320
 negative x large low = ap (λ b. cast_unsigned w64 (sel b (pos x) (negsuc (4294967296 - suc x)))) (le-ltb x 2147483648 large) ∙ omega (arith, low, large)
 

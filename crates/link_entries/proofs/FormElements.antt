@@ -15,6 +15,7 @@ use Rattle.link_entries.proofs.OneContent.{bytes_in, value_at, says_at}
 use Rattle.link_entries.proofs.Shapes.{list_payload, address_list}
 
 module _ (table : Table) (k at : ℕ) (o : Option Shape) (p : List ℕ) where
+  -- the elements of a payload of this shape and form; none if it is no list
   abbrev pub ElementsBy : Option Form → List Entry → Type 0
   ElementsBy (Some (forms.List flagged)) es = AreElements (elements_at table k) k at p es
   ElementsBy (Some (forms.Addresses n)) es = AreAddresses k at n p es
@@ -22,6 +23,7 @@ module _ (table : Table) (k at : ℕ) (o : Option Shape) (p : List ℕ) where
   ElementsBy (Some forms.U32s) es = es ≡ number_entries k at 4 (bytes_in (value_at o p))
   ElementsBy form es = es ≡ []
 
+  -- they are those of its content
   pub elements_by : (es : List Entry) (x : Content) → Borrows o p x → Elements table k at x es → ElementsBy (form_of x) es
   elements_by es (contents.List l told) a h = subst (λ t. AreElements (elements_at table k) k at t es) (list_payload o p l told a) h
   elements_by es (contents.Addresses l n) a h = subst (λ t. AreAddresses k at n t es) (address_list o p l n a).payload h

@@ -33,7 +33,7 @@ abbrev pub has_kind : ℕ → Item → Bool
 has_kind k x = kind_of (kind_field_of x.1) == k
 
 module _ (R : Item → Entry → Type 0) where
-  -- if of the entries of an item the one with p is R's, and there is one if the item has t
+  -- the last item with t has the last entry with p, if an item with t has one such entry, and no other item has any
   pub zip_last : {G : Type 0} (t : Item → Bool) (p : Entry → Bool) (Q : Item → G → Type 0) (of : G → List Entry) → ((x : Item) (g : G) → Q x g → (e : Entry) × R x e × (filter p (of g) ≡ cond (t x) (e ∷ []) []))
       → (items : List Item) (gs : List G) (o : Option Item) (found : Option Entry) → AllZip Q items gs → BothOrNone R o found → BothOrNone R (last_or o (filter t items)) (last_or found (filter p (flat_map of gs)))
   zip_last t p Q of each [] [] o found h is = is
@@ -53,7 +53,7 @@ module _ (R : Item → Entry → Type 0) where
     one_of (Some x) (Some y) (Some e) (Some e') same h k = let seen : seen_of x ≡ seen_of y = cc in ap (λ d. Some d) (one x y e e' seen h k)
     one_of o o' e e' same h k = absurd (first_of (cc, assumption))
 
-    -- there is one only, whatever the walk
+    -- the last item of a type has one entry only, whatever the walk
     pub one_last : (k : ℕ) (list : List ℕ) (items items' : List Item) (e e' : Option Entry) → Walk list items None → Walk list items' None → BothOrNone R (last_item k items) e → BothOrNone R (last_item k items') e' → e ≡ e'
     one_last k list items items' e e' walk walk' =
         let seen = (walk_unique list items items' None None walk walk').0 in

@@ -33,7 +33,9 @@ BothOrNone R o found = ⊥
 
 -- the entry of the last attribute of type k in a list, if there is one
 abbrev pub IsLastOf : Table → ℕ → List ℕ → Option Entry → Type 0
-IsLastOf table k list found = (items : List Item) × Walk list items None × BothOrNone (IsEntryOf table) (last_item k items) found
+IsLastOf table k list found =
+    (items : List Item) × Walk list items None
+    × BothOrNone (IsEntryOf table) (last_item k items) found
 
 -- the list decodes, and this is the entry of its last attribute of type k; or the first error of the list
 abbrev pub Finds : Table → ℕ → List ℕ → Result (Option Entry) ListFault → Type 0
@@ -53,7 +55,7 @@ last_inner i es = last_or None (filter (λ e. e.inner == i) es)
 
 -- the entry of an element of a nested list that starts at an offset, if there is one
 abbrev pub IsOneElement : Table → ℕ → ℕ → Option Item → Option Entry → Type 0
-IsOneElement table k at = BothOrNone (λ x e. IsElement table k (at + (x.0 + 4)) x.1 e)
+IsOneElement table k at o found = BothOrNone (λ x e. IsElement table k (at + (x.0 + 4)) x.1 e) o found
 
 -- the entry of the last element i of a content that starts at an offset, if there is one: i is the type of an element of a
 -- nested list, and otherwise an index

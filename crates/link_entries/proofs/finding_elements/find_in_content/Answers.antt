@@ -1,10 +1,15 @@
-use Rattle.std.proofs.Common.{sym, subst}
+use Rattle.std.proofs.Common.{List, None, sym, subst}
 use Rattle.link_base.specs.Frame.{kind_of}
 use Rattle.link_base.specs.Buffer.{kind_field_of, payload_of}
 use Rattle.link_base.specs.Table.{class_at}
 use Rattle.link_base.specs.Borrowed.{HasValues, Borrows, elements_at}
 use Rattle.link_base.proofs.Elements.{elements_decode}
+use Rattle.link_base.specs.Viewed.{set_of}
+use Rattle.link_messages.specs.Walk.{Item, Walk}
 use Rattle.netlink_packet_route.specs.Family.{table_of}
+use Rattle.netlink_packet_route.specs.Views.{elements_table}
+use Rattle.link_messages.specs.BeforeFault.{last_item}
+use Rattle.link_entries.specs.Finding.{IsOneElement, IsLastElement}
 use Rattle.link_entries.proofs.Shapes.{addresses_decode}
 use Rattle.link_entries.proofs.FoundElements.{none_last}
 use Rattle.link_entries.proofs.finding_elements.find_in_content.Goals as goal
@@ -26,6 +31,16 @@ of_checked-requires-in-Addresses c =
     let shape = class_at table (kind_of (kind_field_of b)) in
     let borrows = subst (Borrows shape (payload_of b)) c.in-Addresses.is c.requires.content.borrows in
     addresses_decode table (kind_field_of b) (payload_of b) c.in-Addresses.list c.in-Addresses.size c.requires.content.decodes borrows
+
+pub returns-in-List : goal.returns-in-List
+returns-in-List c =
+    let table = table_of c.args.family in
+    let list = c.in-List.list.now in
+    let found = c.find_nested.result in
+    let bytes = subst (λ s. (items : List Item) × Walk s items None × IsOneElement (elements_table (set_of c.of_checked.result)) c.kind-kind.result c.args.at (last_item c.args.inner items) found) c.of_checked.ensures.bytes c.find_nested.ensures in
+    let set = subst (λ t. (items : List Item) × Walk list items None × IsOneElement (elements_table t) c.kind-kind.result c.args.at (last_item c.args.inner items) found) c.of_checked.ensures.set bytes in
+    let here = subst (λ k. (items : List Item) × Walk list items None × IsOneElement (elements_at table k) k c.args.at (last_item c.args.inner items) found) c.kind-kind.ensures set in
+    subst (λ x. IsLastElement table (kind_of (kind_field_of c.args.buffer.now)) c.args.at x c.args.inner found) (sym c.in-List.is) here
 
 pub returns-in_default : goal.returns-in_default
 returns-in_default c =
