@@ -1,5 +1,5 @@
 -- The entries of attributes and of elements have texts, which are those of their contents.
-use Rattle.std.proofs.Common.{◌≡◌, ◌⊎◌, inl, inr, ℕ, ◌+◌, ◌%◌, ◌==◌, ◌&&◌, ◌||◌, Bool, true, false, cond, List, [], ◌∷◌, length, take, drop, Option, Some, None, Ok, Err, refl, sym, ap, ap₂, subst, ◌∙◌, ◌-◌, ◌≤◌, ◌<◌, ◌++◌, min, arith}
+use Rattle.std.proofs.Common.{◌≡◌, inl, inr, ℕ, ◌+◌, ◌%◌, ◌==◌, ◌&&◌, ◌||◌, Bool, true, false, cond, List, [], ◌∷◌, length, take, drop, Option, Some, None, Ok, Err, refl, sym, ap, ap₂, subst, ◌∙◌, ◌-◌, ◌≤◌, ◌<◌, ◌++◌, min, arith}
 use Rattle.std.specs.Prelude.{nat_lt, if◌then◌else◌}
 use Rattle.std.specs.List.{AllZip, AllByRecursion}
 use Rattle.std.proofs.lemmas.Bool.{cases_Bool, eqb-true, eq-eqb, lt-ltb}
@@ -15,12 +15,12 @@ use Rattle.link_base.specs.declared.wire.buffer.NlaBuffer.{NlaBuffer}
 use Rattle.link_base.specs.Number.{IsBytes, bytes_of}
 use Rattle.link_base.specs.Frame.{kind_of, kind_limit, pad, bare, BeginsWith}
 use Rattle.link_base.specs.Buffer.{kind_field_of, payload_of as payload_of_frame}
-use Rattle.link_base.specs.Class.{Class, AtLeast, meant, written, extent, length_cause, class_value, unless}
+use Rattle.link_base.specs.Class.{Class, AtLeast, meant, written, extent, length_cause}
 use Rattle.link_base.specs.Payloads.{class_by}
 use Rattle.link_base.specs.Coherent.{is_single, IsShapeOf}
-use Rattle.link_base.specs.Table.{Row, Shape, One, Nested, Addresses, Table, AttrValue, Gives, GivesBy, single_case, row_at, class_at, form_at, label_at, label_by}
+use Rattle.link_base.specs.Table.{Row, Shape, One, Nested, Addresses, Table, GivesBy, row_at, class_at, form_at, label_at, label_by}
 use Rattle.link_base.specs.WellFormed.{is_shape, is_table}
-use Rattle.link_base.specs.Borrowed.{HasValue, IsAccepted, Borrows, form_of, elements_at, HasContent}
+use Rattle.link_base.specs.Borrowed.{HasValue, Borrows, form_of, elements_at, HasContent}
 use Rattle.link_base.proofs.Coherence.{row_told, row_passes_all, elements_formed}
 use Rattle.link_base.proofs.Entries.{class_of_row, form_of_row, label_of_row, class_of_none, form_of_none, label_of_none}
 use Rattle.link_base.proofs.Values.{bytes-take, bytes-drop}
@@ -37,37 +37,30 @@ use Rattle.link_entries.specs.declared.misfit.Misfit.TheVariants.{BadElement, Ba
 use Rattle.link_entries.specs.Forms.{form_unsigned, form_ipv4, form_ipv6, form_unknown}
 use Rattle.link_entries.specs.Entry.{blank}
 use Rattle.link_entries.specs.Content.{filled}
-use Rattle.link_entries.specs.Fields.{ip_address, row_fields}
+use Rattle.link_entries.specs.Fields.{ip_address, row_fields, fields_in}
 use Rattle.link_entries.specs.Payload.{passed, payload_of}
 use Rattle.link_entries.specs.Agreement.{referred}
 use Rattle.link_entries.specs.Flat.{IsElement, IsGroup, Flat, head_entry, number_entry, address_entry}
 use Rattle.link_entries.proofs.OneContent.{value_at, fields_by}
-use Rattle.link_entries.proofs.RowForms.{is_list, with_kind, value_kind}
+use Rattle.link_entries.proofs.RowForms.{is_list, with_kind, value_kind, value_no_list, struct_value}
 use Rattle.link_entries.proofs.EntryFields.{Keeps, keeps_filled}
 use Rattle.link_entries.proofs.BackValues.{StandsAt, right_form, passed_back, number_back, address_back}
 use Rattle.link_entries.proofs.BackClasses.{class_back}
-use Rattle.link_entries.proofs.BackSingles.{entry_by, list_back}
+use Rattle.link_entries.proofs.BackSingles.{entry_by, list_back, value_read}
 use Rattle.nlroute_ffi.specs.Names.{own_kind}
 use Rattle.nlroute_ffi.specs.ValueText.{address_form, element_by, element_label, own_label, fields_for, payload_by, Shows, has_elements, IsContentBy, IsContent, plain_label, label_or_plain, IsText, IsEntryText}
-use Rattle.nlroute_ffi.specs.Shown.{has_numbers, IsTextOf, HasText, IsAt, HeadHasText, HeadIsTold}
+use Rattle.nlroute_ffi.specs.Shown.{has_numbers, IsTextOf, HasText, IsAt}
 use Rattle.nlroute_ffi.proofs.ShownBytes.{shown_again, value_of, single_of}
 use Rattle.nlroute_ffi.proofs.EntryTexts.{borrows_back, limits_front}
-
-some_same : {A : Type 0} {a b : A} → Some a ≡ Some b → a ≡ b
-some_same e = cc
 
 -- ---- the row of an attribute type
 
 -- a payload that decodes has an accepted length
-accepts_of : (table : Table) (f : ℕ) (p : List ℕ) (shape : Shape) → class_at table (kind_of f) ≡ Some shape → HasValue table f p → IsAccepted shape p
-accepts_of table f p (One c) e h = by_cause (length_cause (extent c) (length p)) refl where
-  one : (v : AttrValue) → Gives table f p (Ok v) → Ok v ≡ single_case (kind_of f) (class_value c p)
-  one v g = subst (λ s. GivesBy s f p (Ok v)) e g
-
+accepts_of : (table : Table) (f : ℕ) (p : List ℕ) (c : Class) → class_at table (kind_of f) ≡ Some (One c) → HasValue table f p → length_cause (extent c) (length p) ≡ None
+accepts_of table f p c class has = by_cause (length_cause (extent c) (length p)) refl where
   by_cause : (o : Option Cause) → length_cause (extent c) (length p) ≡ o → length_cause (extent c) (length p) ≡ None
   by_cause None q = q
-  by_cause (Some cause) q = absurd (h (λ w. let g : Ok w.0 ≡ single_case (kind_of f) (unless (Some cause) (meant c p)) = one w.0 w.1 ∙ ap (λ o. single_case (kind_of f) (unless o (meant c p))) q in absurd cc))
-accepts_of table f p shape e h = tt
+  by_cause (Some cause) q = absurd (has (λ w. let was = value_read c (kind_of f) p w.0 (subst (λ s. GivesBy s f p (Ok w.0)) class w.1) in absurd (cc (was.accepted, q))))
 
 -- what an entry spells, as the attribute b of a list of this table, if this is known of its type
 pub record Told (table : Table) (b : NlaBuffer) (list : List ℕ) (label : Option Label) (e : Entry) : Type 0 where
@@ -100,28 +93,21 @@ list_fields form h = absurd cc
 single_shape : (form : Form) (names : List (ℕ × List ℕ)) (shape : Shape) → is_single form ≡ true → IsShapeOf form names shape → shape ≡ One (class_by form names)
 single_shape form names (One c) single h = ap One h.1
 single_shape (forms.List told) names (Nested flagged rows) single h = absurd cc
-single_shape form names (Nested flagged rows) single h = absurd h
 single_shape (forms.Addresses told) names (Addresses n) single h = absurd cc
-single_shape form names (Addresses n) single h = absurd h
+single_shape form names shape single h = absurd h
 
--- the form of a content; that of a payload without a row has none
-abbrev some_form : Option Form → Form
-some_form None = forms.Nothing
-some_form (Some form) = form
-
-elements_by_form : (x : Content) (form : Form) (b : Bool) → form_of x ≡ Some form → has_elements form ≡ b → has_elements (some_form (form_of x)) ≡ b
-elements_by_form x form b is h = ap (λ o. has_elements (some_form o)) is ∙ h
-
-no_numbers : (x : Content) → has_elements (some_form (form_of x)) ≡ false → has_numbers x ≡ false
+-- numbers with entries of their own are in lists, and lists have no text
+no_numbers : (x : Content) → is_list (fields_in (form_of x)) ≡ false → has_numbers x ≡ false
 no_numbers (contents.U16s p) h = absurd cc
 no_numbers (contents.U32s p) h = absurd cc
 no_numbers x h = refl
 
-no_words : (label : Label) (x : Content) → has_elements (some_form (form_of x)) ≡ true → (if has_numbers x then [] else shown_value (Some label) x) ≡ []
+no_words : (label : Label) (x : Content) → is_list (fields_in (form_of x)) ≡ true → (if has_numbers x then [] else shown_value (Some label) x) ≡ []
 no_words label (contents.U16s p) h = refl
 no_words label (contents.U32s p) h = refl
 no_words label (contents.Addresses p size) h = refl
 no_words label (contents.List p flagged) h = refl
+no_words label (contents.Struct layout p) h = let no = value_no_list _ (struct_value layout) in absurd cc
 no_words label x h = absurd cc
 
 module _ (table : Table) (formed : is_table table ≡ true) (b : NlaBuffer) (n : ℕ) (e : Entry) (list : List ℕ) (at : StandsAt e list (payload_of_frame b)) (bytes : IsBytes list) where
@@ -172,7 +158,7 @@ module _ (table : Table) (formed : is_table table ≡ true) (b : NlaBuffer) (n :
         x,
         has,
         subst (λ (l : Option Label). content_text own y ≡ (if has_numbers x then [] else shown_value l x)) (sym (label_of_row table k r row))
-            (ap (content_text own) is ∙ sym (no_words own x (elements_by_form x r.form true (has.form ∙ named) listed))),
+            (ap (content_text own) is ∙ sym (no_words own x (ap (λ o. is_list (fields_in o)) (has.form ∙ named) ∙ list_fields r.form listed))),
       )
 
       list_told : has_elements r.form ≡ true → Told table b list (Some own) new
@@ -190,7 +176,7 @@ module _ (table : Table) (formed : is_table table ≡ true) (b : NlaBuffer) (n :
         class = class_of_row table k r row ∙ ap Some (single_shape r.form r.names r.class (single_of r.form plain) (row_told table k r formed row))
 
         accepted : length_cause (extent (class_by r.form r.names)) (length p) ≡ None
-        accepted = accepts_of table f p (One c) class has.decodes
+        accepted = accepts_of table f p c class has.decodes
 
         entry : new ≡ with_kind (fields_by (kind_field_of b) (Some r.form) (meant (class_by r.form r.names) (payload_of_frame b)) n e) (kind_of (kind_field_of b))
         entry = ap (λ d. with_kind d k) (entry_by table b x has n e (Some r.form) (Some (One c)) named class)
@@ -211,7 +197,7 @@ module _ (table : Table) (formed : is_table table ≡ true) (b : NlaBuffer) (n :
         value_text : (s : List ℕ) (y : Content) → Shows (row_fields r.form) new list s → IsContentBy false own s y → IsTextOf table b (content_text own y)
         value_text s y shows (borrows, form) =
             let borrowed = borrows_back new list p s payload_bytes y r.form r.names plain accepted payload shows front borrows in
-            let none = no_numbers y (elements_by_form y r.form false form plain) in (
+            let none = no_numbers y (ap (λ o. is_list (fields_in o)) form ∙ value_no_list (row_fields r.form) (value_of r.form plain)) in (
               y,
               record { decodes = has.decodes; borrows = subst (λ o. Borrows o p y) (sym class) borrowed; form = form ∙ sym named },
               subst (λ (l : Option Label). content_text own y ≡ (if has_numbers y then [] else shown_value l y)) (sym (label_of_row table k r row)) (ap (λ t. cond t [] (content_text own y)) (sym none)),
@@ -278,21 +264,27 @@ list_label family k form named = by_row_of (row_at (table_of family) k) refl whe
   by_row_of : (o : Option (Row Shape)) → row_at (table_of family) k ≡ o → IsListLabel family k form
   by_row_of None at = let none : None ≡ Some form = sym (form_of_none (table_of family) k at) ∙ named in absurd cc
   by_row_of (Some r) at =
-      let same : r.form ≡ form = some_same (sym (form_of_row (table_of family) k r at) ∙ named) in
+      let same : r.form ≡ form = cc (form_of_row (table_of family) k r at) in
       record { label = label_by r; is = λ own. ap (λ l. element_label l own) (label_of_row (table_of family) k r at) ∙ ap (λ g. element_by g (label_by r) own) same }
+
+-- that of any element
+pub below_label : (family : Family) (e : Entry) → e.depth ≡ 1 → own_label family e ≡ element_label (label_at (table_of family) e.kind) (label_at (elements_at (table_of family) e.kind) e.inner)
+below_label family e below =
+    let table = table_of family in
+    ap (λ d. cond (d == 0) (Ok (label_at table e.kind)) (cond (d == 1) (element_label (label_at table e.kind) (label_at (elements_at table e.kind) e.inner)) (Err BadElement))) below
 
 -- that of an element of a nested list
 pub nested_label : (family : Family) (flagged : Bool) (e : Entry) (k i : ℕ) → e.depth ≡ 1 → e.kind ≡ k → e.inner ≡ i → form_at (table_of family) k ≡ Some (forms.List flagged)
     → own_label family e ≡ Ok (label_at (elements_at (table_of family) k) i)
 nested_label family flagged e k i below kind inner named =
     let table = table_of family in
-    ap (λ d. cond (d == 0) (Ok (label_at table e.kind)) (cond (d == 1) (element_label (label_at table e.kind) (label_at (elements_at table e.kind) e.inner)) (Err BadElement))) below
+    below_label family e below
     ∙ ap₂ (λ j h. element_label (label_at table j) (label_at (elements_at table j) h)) kind inner ∙ (list_label family k (forms.List flagged) named).is (label_at (elements_at table k) i)
 
 pub element_kind : (e : Entry) (i : ℕ) → e.depth ≡ 1 → e.inner ≡ i → own_kind e ≡ i
 element_kind e i below inner = ap (λ d. cond (d == 0) e.kind e.inner) below ∙ inner
 
-element_told : (family : Family) (list : List ℕ) (k offset : ℕ) (flagged : Bool) (b : NlaBuffer) (e : Entry) → IsBytes list → form_at (table_of family) k ≡ Some (forms.List flagged) → IsAt list offset b
+pub element_told : (family : Family) (list : List ℕ) (k offset : ℕ) (flagged : Bool) (b : NlaBuffer) (e : Entry) → IsBytes list → form_at (table_of family) k ≡ Some (forms.List flagged) → IsAt list offset b
     → IsElement (elements_at (table_of family) k) k offset b e → IsTold family (elements_at (table_of family) k) b list e
 element_told family list k offset flagged b e bytes form at (content, has, is) =
     let f = kind_field_of b in
@@ -305,14 +297,6 @@ element_told family list k offset flagged b e bytes form at (content, has, is) =
     subst (IsTold family table b list) (sym is)
     (told_by family table b list new i (label_at table i) (nested_label family flagged new k i keeps.depth keeps.kind keeps.inner form) (element_kind new i keeps.depth keeps.inner)
     (by_row table (elements_formed (table_of family) k (families_formed family)) b 0 e0 list stands bytes content has (row_at table i) refl))
-
-pub element_shown : (family : Family) (list : List ℕ) (k offset : ℕ) (flagged : Bool) (b : NlaBuffer) (e : Entry) → IsBytes list → form_at (table_of family) k ≡ Some (forms.List flagged) → IsAt list offset b
-    → IsElement (elements_at (table_of family) k) k offset b e → (words : List ℕ) → IsEntryText family e list words → IsTextOf (elements_at (table_of family) k) b words
-element_shown family list k offset flagged b e bytes form at is = (element_told family list k offset flagged b e bytes form at is).text
-
-pub element_held : (family : Family) (list : List ℕ) (k offset : ℕ) (flagged : Bool) (b : NlaBuffer) (e : Entry) → IsBytes list → form_at (table_of family) k ≡ Some (forms.List flagged) → IsAt list offset b
-    → IsElement (elements_at (table_of family) k) k offset b e → HasText family list e
-element_held family list k offset flagged b e bytes form at is = (element_told family list k offset flagged b e bytes form at is).has
 
 -- ---- a list
 
@@ -348,16 +332,10 @@ module _ (family : Family) (list : List ℕ) (Q : Item → List Entry → Type 0
         heads items groups at.1 h.1,
       )
 
-  of_list : (es : List Entry) (flat : Flat (table_of family) list es) → AllZip Q flat.items flat.groups
+  pub of_list : (es : List Entry) (flat : Flat (table_of family) list es) → AllZip Q flat.items flat.groups
   of_list es flat =
       let none : length list - length list ≡ 0 = omega arith in
       heads flat.items flat.groups (walk_at list flat.items list flat.walk.rest flat.walk.walks (omega arith) (ap (λ i. drop i list) none)) flat.each
-
-pub list_shown : (family : Family) (list : List ℕ) (es : List Entry) → IsBytes list → (flat : Flat (table_of family) list es) → AllZip (HeadHasText family list) flat.items flat.groups
-list_shown family list es bytes flat = of_list family list (HeadHasText family list) (λ x e es h. h.text) bytes es flat
-
-pub list_held : (family : Family) (list : List ℕ) (es : List Entry) → IsBytes list → (flat : Flat (table_of family) list es) → AllZip (HeadIsTold family list) flat.items flat.groups
-list_held family list es bytes flat = of_list family list (HeadIsTold family list) (λ x e es h. h.has) bytes es flat
 
 -- ---- numbers of arrays, and addresses of lists
 
@@ -368,28 +346,24 @@ ip_shape (forms.Addresses n) names (Addresses size) m is told ok = let same : n 
 ip_shape (forms.List flagged) names (Nested wanted rows) m is told ok = absurd cc
 ip_shape form names shape m is told ok = absurd told
 
-pub ip_size : (table : Table) (k m : ℕ) → is_table table ≡ true → form_at table k ≡ Some (forms.Addresses m) → (m ≡ 4) ⊎ (m ≡ 16)
-ip_size table k m formed named = by_row_of (row_at table k) refl where
-  by_test : ((m == 4) || (m == 16)) ≡ true → (m ≡ 4) ⊎ (m ≡ 16)
+-- the fields of such an address
+abbrev IpFields : ℕ → Type 0
+IpFields m = (row_fields (address_form m) ≡ ip_address m) × (m ≤ 16)
+
+pub ip_fields : (table : Table) (k m : ℕ) → is_table table ≡ true → form_at table k ≡ Some (forms.Addresses m) → (row_fields (address_form m) ≡ ip_address m) × (m ≤ 16)
+ip_fields table k m formed named = by_row_of (row_at table k) refl where
+  by_test : ((m == 4) || (m == 16)) ≡ true → IpFields m
   by_test h =
       elim (cases_Bool (m == 4)) [
-        | inl four ↦ inl (eqb-true m 4 four)
-        | inr other ↦ inr (eqb-true m 16 (sym (ap (λ b. b || (m == 16)) other) ∙ h))
+        | inl four ↦ subst IpFields (sym (eqb-true m 4 four)) (refl, omega arith)
+        | inr other ↦ subst IpFields (sym (eqb-true m 16 (sym (ap (λ b. b || (m == 16)) other) ∙ h))) (refl, omega arith)
       ]
 
-  by_row_of : (o : Option (Row Shape)) → row_at table k ≡ o → (m ≡ 4) ⊎ (m ≡ 16)
+  by_row_of : (o : Option (Row Shape)) → row_at table k ≡ o → IpFields m
   by_row_of None at = let none : None ≡ Some (forms.Addresses m) = sym (form_of_none table k at) ∙ named in absurd cc
   by_row_of (Some r) at =
-      let same : r.form ≡ forms.Addresses m = some_same (sym (form_of_row table k r at) ∙ named) in
+      let same : r.form ≡ forms.Addresses m = cc (form_of_row table k r at) in
       by_test (ip_shape r.form r.names r.class m same (row_told table k r formed at) (row_passes_all table k r formed at).shape)
-
-pub ip_fields : (m : ℕ) → (m ≡ 4) ⊎ (m ≡ 16) → row_fields (address_form m) ≡ ip_address m
-ip_fields m (inl is) = subst (λ j. row_fields (address_form j) ≡ ip_address j) (sym is) refl
-ip_fields m (inr is) = subst (λ j. row_fields (address_form j) ≡ ip_address j) (sym is) refl
-
-ip_few : (m : ℕ) → (m ≡ 4) ⊎ (m ≡ 16) → m ≤ 16
-ip_few m (inl is) = omega (arith, is)
-ip_few m (inr is) = omega (arith, is)
 
 module _ (family : Family) (list : List ℕ) (k i : ℕ) where
   abbrev inner_label : Option Label
@@ -409,9 +383,9 @@ module _ (family : Family) (list : List ℕ) (k i : ℕ) where
   address_held offset p named =
       let e = address_entry k i offset p in
       let m = length p in
-      let size = ip_size (table_of family) k m (families_formed family) named in (
+      let ip = ip_fields (table_of family) k m (families_formed family) named in (
         p,
         ap (λ o. payload_by o e list) ((list_label family k (forms.Addresses m) named).is inner_label)
-            ∙ ap (λ row. payload_of row (with_kind e i) list) (ip_fields m size)
-            ∙ address_back (cond (m == 4) form_ipv4 form_ipv6) m (with_kind e i) list p refl refl refl (ip_few m size) refl,
+            ∙ ap (λ row. payload_of row (with_kind e i) list) ip.0
+            ∙ address_back (cond (m == 4) form_ipv4 form_ipv6) m (with_kind e i) list p refl refl refl ip.1 refl,
       )

@@ -45,16 +45,7 @@ read_again c p plain bytes ok =
 
 same_value : (c : Class) (p s : List ℕ) (x : Content) → is_limited c ≡ false → meant c s ≡ meant c p → Borrows (Some (One c)) s x → Borrows (Some (One c)) p x
 same_value classes.Limits p s x plain same h = absurd cc
-same_value (classes.Unsigned n) p s x plain same h = subst (Says x) same h
-same_value classes.Signed p s x plain same h = subst (Says x) same h
-same_value classes.Truth p s x plain same h = subst (Says x) same h
-same_value (classes.Octets e) p s x plain same h = subst (Says x) same h
-same_value classes.Bytes p s x plain same h = subst (Says x) same h
-same_value (classes.Many n) p s x plain same h = subst (Says x) same h
-same_value (classes.Named n listed) p s x plain same h = subst (Says x) same h
-same_value classes.Protocol p s x plain same h = subst (Says x) same h
-same_value classes.Low p s x plain same h = subst (Says x) same h
-same_value classes.Empty p s x plain same h = subst (Says x) same h
+same_value c p s x plain same h = subst (Says x) same h
 
 -- the limits of a CAN controller are shown as they were read
 same_limits : (p s : List ℕ) (x : Content) → s ≡ take 48 p → SaysLimits x s → SaysLimits x p

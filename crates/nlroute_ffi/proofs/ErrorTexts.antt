@@ -1,5 +1,5 @@
 -- The errors in structs.
-use Rattle.std.proofs.Common.{◌≡◌, ℕ, ◌<◌, ◌&&◌, cond, nat_lt, List, [], ◌∷◌, Some, None, ap, ap₂, ◌∙◌, arith}
+use Rattle.std.proofs.Common.{◌≡◌, ℕ, ◌<◌, ◌&&◌, cond, nat_lt, List, [], ◌∷◌, Some, None, option_map, ap, ap₂, ◌∙◌, arith}
 use Rattle.std.proofs.lemmas.Bool.{lt-ltb}
 use Rattle.netlink_packet_route.specs.declared.link.Cause.{Cause}
 use Rattle.netlink_packet_route.specs.declared.link.Cause.TheVariants as causes
@@ -8,10 +8,10 @@ use Rattle.netlink_packet_route.specs.declared.link.DecodeFault.TheVariants as f
 use Rattle.nlroute_ffi.specs.declared.fault.FirstError.{FirstError}
 use Rattle.nlroute_ffi.specs.Numbers.{cause_numbers, fault_numbers}
 use Rattle.nlroute_ffi.specs.Error.{error_numbers}
-use Rattle.nlroute_ffi.specs.ErrorText.{cause_by, fault_by, fault_of, CauseFits, IsListFault}
+use Rattle.nlroute_ffi.specs.ErrorText.{length_of, cause_by, fault_by, fault_of, CauseFits, IsListFault}
 
-if_small : {A : Type 0} (n : ℕ) (x : A) → n < 65536 → cond (nat_lt n 65536) (Some x) None ≡ Some x
-if_small n x h = ap (λ b. cond b (Some x) None) (lt-ltb n 65536 h)
+length_found : (n : ℕ) (make : ℕ → Cause) → n < 65536 → option_map make (length_of n) ≡ Some (make n)
+length_found n make h = ap (λ b. option_map make (cond b (Some n) None)) (lt-ltb n 65536 h)
 
 if_both : (m n : ℕ) (x : DecodeFault) → m < 65536 → n < 65536 → cond (nat_lt m 65536 && nat_lt n 65536) (Some x) None ≡ Some x
 if_both m n x h k = ap₂ (λ a b. cond (a && b) (Some x) None) (lt-ltb m 65536 h) (lt-ltb n 65536 k)
@@ -20,10 +20,10 @@ if_both m n x h k = ap₂ (λ a b. cond (a && b) (Some x) None) (lt-ltb m 65536 
 cause_found : (cause first second : ℕ) (c : Cause) → CauseFits c → cause ∷ first ∷ second ∷ [] ≡ cause_numbers c → cause_by cause first second ≡ Some c
 cause_found cause first second (causes.ShortFrame left) fits h = let a : cause ≡ 1 = cc in let b : first ≡ left = cc in ap₂ (λ t x. cause_by t x second) a b
 cause_found cause first second (causes.SmallLength n) fits h =
-    let a : cause ≡ 2 = cc in let b : first ≡ n = cc in ap₂ (λ t x. cause_by t x second) a b ∙ if_small n (causes.SmallLength n) fits
+    let a : cause ≡ 2 = cc in let b : first ≡ n = cc in ap₂ (λ t x. cause_by t x second) a b ∙ length_found n (λ k. causes.SmallLength k) fits
 cause_found cause first second (causes.Overrun n left) fits h =
     let a : cause ≡ 3 = cc in let b : first ≡ n = cc in let d : second ≡ left = cc in
-    ap₂ (λ t x. cause_by t x second) a b ∙ ap (λ y. cause_by 3 n y) d ∙ if_small n (causes.Overrun n left) fits
+    ap₂ (λ t x. cause_by t x second) a b ∙ ap (λ y. cause_by 3 n y) d ∙ length_found n (λ k. causes.Overrun k left) fits
 cause_found cause first second (causes.WrongLength want got) fits h =
     let a : cause ≡ 4 = cc in let b : first ≡ want = cc in let d : second ≡ got = cc in ap₂ (λ t x. cause_by t x second) a b ∙ ap (λ y. cause_by 4 want y) d
 cause_found cause first second (causes.TooShort want got) fits h =
@@ -54,5 +54,4 @@ error_found e at (faults.NestedFrame k c) fits h =
     let p = parts e at 2 k 0 (cause_numbers c) h in (p.at_is, by_parts e at 2 k 0 c fits.1 p ∙ if_both k 0 (faults.NestedFrame k c) fits.0 (omega arith))
 error_found e at (faults.NestedValue k i c) fits h =
     let p = parts e at 3 k i (cause_numbers c) h in (p.at_is, by_parts e at 3 k i c fits.2 p ∙ if_both k i (faults.NestedValue k i c) fits.0 fits.1)
-error_found e at (faults.Payload c) fits h = absurd fits
-error_found e at faults.Text fits h = absurd fits
+error_found e at fault fits h = absurd fits

@@ -1,5 +1,7 @@
 -- The first error of a list is an error that a struct has numbers for.
-use Rattle.std.proofs.Common.{◌≡◌, inl, inr, ℕ, ◌%◌, ◌<◌, ◌==◌, Bool, true, false, cond, nat_lt, List, [], ◌∷◌, length, take, Option, Some, None, Result, Ok, Err, refl, sym, subst, arith}
+use Rattle.std.proofs.Common.{◌≡◌, inl, inr, ℕ, ◌%◌, ◌<◌, ◌==◌, nat_lt, List, [], ◌∷◌, length, take, Option, Some, None, Result, Ok, Err, sym, subst, arith}
+use Rattle.std.specs.Option.{IfSome}
+use Rattle.std.proofs.lemmas.Bool.{cond_both}
 use Rattle.std.proofs.Math.Nat.{mod-lt}
 use Rattle.link_base.specs.declared.wire.fault.Cause.{Cause}
 use Rattle.link_base.specs.declared.wire.fault.Cause.TheVariants.{ShortFrame, SmallLength, Overrun, WrongLength, TooShort}
@@ -8,9 +10,9 @@ use Rattle.link_base.specs.declared.wire.fault.DecodeFault.{DecodeFault}
 use Rattle.link_base.specs.declared.wire.fault.DecodeFault.TheVariants as faults
 use Rattle.link_base.specs.Number.{IsBytes, number}
 use Rattle.link_base.specs.Frame.{frame_fault, kind_of, spelled}
-use Rattle.link_base.specs.Class.{Class, Value, Extent, Exactly, AtLeast, Fixed, Multiple, extent, length_cause, unless, meant, class_value}
+use Rattle.link_base.specs.Class.{Class, Value, Extent, Exactly, AtLeast, Fixed, Multiple, extent, length_cause, unless, meant}
 use Rattle.link_base.specs.Wire.{Reading, FaultsHere, FirstFault}
-use Rattle.link_base.specs.Table.{Rows, Shape, One, Nested, Addresses, Table, class_at, leaf_case, leaf_by, LeafGives, nested_fault, PayloadGives, single_case, GivesBy, Gives}
+use Rattle.link_base.specs.Table.{Shape, One, Nested, Addresses, Table, class_at, leaf_case, leaf_by, LeafGives, nested_fault, PayloadGives, single_case, GivesBy, Gives}
 use Rattle.link_base.proofs.FrameBytes.{bytes-back, bytes-payload}
 use Rattle.netlink_packet_route.specs.declared.family.Family.{Family}
 use Rattle.netlink_packet_route.specs.Family.{table_of}
@@ -23,24 +25,16 @@ use Rattle.nlroute_ffi.proofs.ErrorTexts.{error_found}
 
 -- ---- causes
 
+-- the cause, if there is one, occurs
+abbrev Occurs : Option Cause → Type 0
+Occurs o = IfSome o (λ c. CauseOccurs c)
+
 -- the cause of a wrong length has no `nla_len`
-if_none : (b : Bool) (x c : Cause) → CauseOccurs x → cond b None (Some x) ≡ Some c → CauseOccurs c
-if_none true x c h e = absurd cc
-if_none false x c h e = let same : x ≡ c = cc in subst CauseOccurs same h
-
-if_some : (b : Bool) (x c : Cause) (o : Option Cause) → CauseOccurs x → (o ≡ Some c → CauseOccurs c) → cond b (Some x) o ≡ Some c → CauseOccurs c
-if_some true x c o h more e = let same : x ≡ c = cc in subst CauseOccurs same h
-if_some false x c o h more e = more e
-
-none_is : (c : Cause) → None ≡ Some c → CauseOccurs c
-none_is c e = absurd cc
-
-length_fits : (e : Extent) (got : ℕ) (c : Cause) → length_cause e got ≡ Some c → CauseOccurs c
-length_fits (Exactly n) got c h = if_none (got == n) (WrongLength n got) c tt h
-length_fits (AtLeast n) got c h = if_some (nat_lt got n) (TooShort n got) c None tt (none_is c) h
-length_fits (Fixed n) got c h =
-    if_some (nat_lt got n) (TooShort n got) c (cond (nat_lt n got) (Some (WrongLength n got)) None) tt (if_some (nat_lt n got) (WrongLength n got) c None tt (none_is c)) h
-length_fits (Multiple n) got c h = if_none (got % n == 0) (WrongLength n got) c tt h
+length_fits : (e : Extent) (got : ℕ) → Occurs (length_cause e got)
+length_fits (Exactly n) got = cond_both (got == n) None (Some (WrongLength n got)) Occurs (λ e. tt) (λ e. tt)
+length_fits (AtLeast n) got = cond_both (nat_lt got n) (Some (TooShort n got)) None Occurs (λ e. tt) (λ e. tt)
+length_fits (Fixed n) got = cond_both (nat_lt got n) (Some (TooShort n got)) _ Occurs (λ e. tt) (λ e. cond_both (nat_lt n got) (Some (WrongLength n got)) None Occurs (λ e. tt) (λ e. tt))
+length_fits (Multiple n) got = cond_both (got % n == 0) None (Some (WrongLength n got)) Occurs (λ e. tt) (λ e. tt)
 
 -- the length in a header has 16 bits
 stated_fits : (r : List ℕ) → IsBytes r → number (take 2 r) < 65536
@@ -48,19 +42,19 @@ stated_fits [] h = omega arith
 stated_fits (a ∷ []) h = omega (arith, h.0)
 stated_fits (a ∷ b ∷ r) h = omega (arith, h.0, h.1.0)
 
-header_fits : (r : List ℕ) (c : Cause) → IsBytes r → frame_fault r ≡ Some c → CauseOccurs c
-header_fits r c bytes h =
+header_fits : (r : List ℕ) → IsBytes r → Occurs (frame_fault r)
+header_fits r bytes =
     let stated = number (take 2 r) in
     let low = stated_fits r bytes in
-    let last : Option Cause = cond (nat_lt (length r) stated) (Some (Overrun stated (length r))) None in
-    if_some (nat_lt (length r) 4) (ShortFrame (length r)) c (cond (nat_lt stated 4) (Some (SmallLength stated)) last) tt
-    (if_some (nat_lt stated 4) (SmallLength stated) c last low (if_some (nat_lt (length r) stated) (Overrun stated (length r)) c None low (none_is c))) h
+    cond_both (nat_lt (length r) 4) (Some (ShortFrame (length r))) _ Occurs (λ e. tt)
+    (λ e. cond_both (nat_lt stated 4) (Some (SmallLength stated)) _ Occurs (λ e. low)
+    (λ e. cond_both (nat_lt (length r) stated) (Some (Overrun stated (length r))) None Occurs (λ e. low) (λ e. tt)))
 
 -- ---- lists, for any way to decode one attribute
 
 module _ {V : Type 0} (gives : Reading V) (P : DecodeFault → Type 0) (framed : (c : Cause) → CauseOccurs c → P (faults.Frame c)) (valued : (f : ℕ) (p : List ℕ) (fault : DecodeFault) → IsBytes p → gives f p (Err fault) → P fault) where
   here : (r : List ℕ) (fault : DecodeFault) → IsBytes r → FaultsHere gives r fault → P fault
-  here r fault bytes (inl (c, is, same)) = subst P (sym same) (framed c (header_fits r c bytes is))
+  here r fault bytes (inl (c, is, same)) = subst P (sym same) (framed c (subst Occurs is (header_fits r bytes)))
   here r fault bytes (inr (x, begins, given)) = valued x.kind_field x.payload fault (bytes-payload x begins.rest (subst IsBytes begins.string bytes)) given
 
   pub first_fits : (s : List ℕ) (at : ℕ) (fault : DecodeFault) → IsBytes s → FirstFault gives s at fault → P fault
@@ -77,43 +71,30 @@ IsElementFault fault = ⊥
 kind_fits : (f : ℕ) → kind_of f < 65536
 kind_fits f = let low : f % 16384 < 16384 = mod-lt f (omega arith) in omega (arith, low)
 
--- the cause of a payload of one class
-by_length : (o : Option Cause) (v : Value) (c : Cause) → ((d : Cause) → o ≡ Some d → CauseOccurs d) → Err c ≡ unless o v → CauseOccurs c
-by_length None v c h e = absurd cc
-by_length (Some d) v c h e = let same : d ≡ c = cc in subst CauseOccurs same (h d refl)
+-- the error of a payload of one class
+leaf_one : (o : Option Cause) (v : Value) (k : ℕ) (fault : DecodeFault) → k < 65536 → Occurs o → Err fault ≡ leaf_case k (unless o v) → IsElementFault fault
+leaf_one None v k fault low h e = absurd cc
+leaf_one (Some c) v k fault low h e = let same : faults.Value k c ≡ fault = cc in subst IsElementFault same (low, h)
 
-class_fits : (c : Class) (p : List ℕ) (cause : Cause) → Err cause ≡ class_value c p → CauseOccurs cause
-class_fits c p cause e = by_length (length_cause (extent c) (length p)) (meant c p) cause (length_fits (extent c) (length p)) e
-
-leaf_by_fits : (k : ℕ) (r : Result Value Cause) (fault : DecodeFault) → k < 65536 → ((c : Cause) → Err c ≡ r → CauseOccurs c) → Err fault ≡ leaf_case k r → IsElementFault fault
-leaf_by_fits k (Ok v) fault low h e = absurd cc
-leaf_by_fits k (Err c) fault low h e = let same : faults.Value k c ≡ fault = cc in subst IsElementFault same (low, h c refl)
+single_one : (o : Option Cause) (v : Value) (k : ℕ) (fault : DecodeFault) → k < 65536 → Occurs o → Err fault ≡ single_case k (unless o v) → FaultOccurs fault
+single_one None v k fault low h e = absurd cc
+single_one (Some c) v k fault low h e = let same : faults.Value k c ≡ fault = cc in subst FaultOccurs same (low, h)
 
 leaf_at : (o : Option Class) (f : ℕ) (p : List ℕ) (fault : DecodeFault) → Err fault ≡ leaf_by o f p → IsElementFault fault
 leaf_at None f p fault e = absurd cc
-leaf_at (Some c) f p fault e = leaf_by_fits (kind_of f) (class_value c p) fault (kind_fits f) (class_fits c p) e
-
-leaf_fits : (rows : Rows) (f : ℕ) (p : List ℕ) (fault : DecodeFault) → IsBytes p → LeafGives rows f p (Err fault) → IsElementFault fault
-leaf_fits rows f p fault bytes e = leaf_at (class_at rows (kind_of f)) f p fault e
+leaf_at (Some c) f p fault e = leaf_one (length_cause (extent c) (length p)) (meant c p) (kind_of f) fault (kind_fits f) (length_fits (extent c) (length p)) e
 
 nested_fits : (k : ℕ) (fault : DecodeFault) → k < 65536 → IsElementFault fault → FaultOccurs (nested_fault k fault)
 nested_fits k (faults.Frame c) low h = (low, h)
 nested_fits k (faults.Value i c) low h = (low, h.0, h.1)
-nested_fits k (faults.NestedFrame i c) low h = absurd h
-nested_fits k (faults.NestedValue i j c) low h = absurd h
-nested_fits k (faults.Payload c) low h = absurd h
-nested_fits k faults.Text low h = absurd h
-
-single_fits : (k : ℕ) (r : Result Value Cause) (fault : DecodeFault) → k < 65536 → ((c : Cause) → Err c ≡ r → CauseOccurs c) → Err fault ≡ single_case k r → FaultOccurs fault
-single_fits k (Ok v) fault low h e = absurd cc
-single_fits k (Err c) fault low h e = let same : faults.Value k c ≡ fault = cc in subst FaultOccurs same (low, h c refl)
+nested_fits k fault low h = absurd h
 
 shape_fits : (o : Option Shape) (f : ℕ) (p : List ℕ) (fault : DecodeFault) → IsBytes p → GivesBy o f p (Err fault) → FaultOccurs fault
 shape_fits None f p fault bytes e = absurd cc
-shape_fits (Some (One c)) f p fault bytes e = single_fits (kind_of f) (class_value c p) fault (kind_fits f) (class_fits c p) e
+shape_fits (Some (One c)) f p fault bytes e = single_one (length_cause (extent c) (length p)) (meant c p) (kind_of f) fault (kind_fits f) (length_fits (extent c) (length p)) e
 shape_fits (Some (Nested flagged rows)) f p fault bytes (Ok vs, reads, e) = absurd cc
 shape_fits (Some (Nested flagged rows)) f p fault bytes (Err x, reads, e) =
-    let inner = first_fits (LeafGives rows) IsElementFault (λ c h. h) (leaf_fits rows) p x.0 x.1 bytes reads in
+    let inner = first_fits (LeafGives rows) IsElementFault (λ c h. h) (λ g q fault bytes e. leaf_at (class_at rows (kind_of g)) g q fault e) p x.0 x.1 bytes reads in
     let same : nested_fault (kind_of f) x.1 ≡ fault = cc in
     subst FaultOccurs same (nested_fits (kind_of f) x.1 (kind_fits f) inner)
 shape_fits (Some (Addresses n)) f p fault bytes (Ok ps, reads, e) = absurd cc
@@ -129,20 +110,15 @@ list_occurs table s at fault bytes h = first_fits (Gives table) FaultOccurs (λ 
 
 -- what occurs has numbers
 cause_fits : (c : Cause) → CauseOccurs c → CauseFits c
-cause_fits (causes.ShortFrame left) h = h
-cause_fits (causes.SmallLength n) h = h
-cause_fits (causes.Overrun n left) h = h
-cause_fits (causes.WrongLength want got) h = h
-cause_fits (causes.TooShort want got) h = h
 cause_fits (causes.AddressLength got) h = absurd h
+cause_fits c h = h
 
 pub fault_fits : (fault : DecodeFault) → FaultOccurs fault → IsListFault fault
 fault_fits (faults.Frame c) h = cause_fits c h
 fault_fits (faults.Value k c) h = (h.0, cause_fits c h.1)
 fault_fits (faults.NestedFrame k c) h = (h.0, cause_fits c h.1)
 fault_fits (faults.NestedValue k i c) h = (h.0, h.1, cause_fits c h.2)
-fault_fits (faults.Payload c) h = absurd h
-fault_fits faults.Text h = absurd h
+fault_fits fault h = absurd h
 
 -- a struct with the first error of a list has that error
 pub stored_found : (table : Table) (s : List ℕ) (e : FirstError) (n : ℕ) → IsBytes s → ErrorAnswers s e table (Ok n)
@@ -150,9 +126,6 @@ pub stored_found : (table : Table) (s : List ℕ) (e : FirstError) (n : ℕ) →
 stored_found table s e n bytes (zero_is, (at, fault, first, numbers)) =
     let found = error_found e at fault (fault_fits fault (list_occurs table s at fault bytes first)) numbers in
     (at, fault, first, found.0, found.1)
-
-pub list_fits : (table : Table) (s : List ℕ) (at : ℕ) (fault : DecodeFault) → IsBytes s → FirstFault (Gives table) s at fault → IsListFault fault
-list_fits table s at fault bytes h = fault_fits fault (list_occurs table s at fault bytes h)
 
 -- so its text is never refused
 pub stored_told : (family other : Family) (s : List ℕ) (e : FirstError) (n : ℕ) (old new : List ℕ) (r : Result ℕ Refusal) → IsBytes s → ErrorAnswers s e (table_of family) (Ok n) → ErrorTextAnswers e old new other r → r ≡ Err BadForm → ⊥

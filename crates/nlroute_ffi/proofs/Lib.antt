@@ -1,5 +1,4 @@
 pub mod Answered
-pub mod Stored
 pub mod Texts
 pub mod ShownBytes
 pub mod EntryTexts

@@ -2,15 +2,11 @@
 use Rattle.std.proofs.Common.{◌≡◌, ◌≢◌, ℕ, zero, suc, ◌+◌, ◌-◌, ◌*◌, ◌^◌, ◌<◌, ◌==◌, ◌&&◌, ◌||◌, Bool, true, false, cond, not, List, [], ◌∷◌, ◌++◌, map, Option, Some, None, option_map, refl, sym, ap, ap₂, subst, ◌∙◌, arith, codes}
 use Rattle.std.specs.Fmt.{decimal}
 use Rattle.std.specs.Str.{bytes_eq}
-use Rattle.std.specs.List.{list_all}
 use Rattle.std.specs.Int.RustNames.{bit_and}
 use Rattle.std.proofs.lemmas.Bool.{and_parts, eqb-true, eq-eqb, ne_eqb, lt-ltb}
 use Rattle.std.proofs.lemmas.List.{append-nil}
 use Rattle.std.proofs.lemmas.Nat.{pow_pos, pow-add}
 use Rattle.std.proofs.lemmas.Slice.Eq.{bytes_eq-Decides}
-use Rattle.link_base.specs.declared.rows.form.Width.{Width}
-use Rattle.link_base.specs.declared.rows.form.Order.{Order}
-use Rattle.link_base.specs.declared.rows.form.Role.TheVariants as roles
 use Rattle.link_base.specs.declared.rows.form.Form.{Form}
 use Rattle.link_base.specs.declared.rows.form.Form.TheVariants as forms
 use Rattle.link_base.specs.declared.views.content.Content.TheVariants as contents
@@ -21,6 +17,8 @@ use Rattle.link_base.specs.Named.{text_of}
 use Rattle.link_base.specs.Protocol.{protocol_number, vlan_protocols}
 use Rattle.link_base.specs.Table.{Row, Shape, Table, row_at, label_at, label_by}
 use Rattle.link_base.specs.Borrowed.{elements_by, elements_at}
+use Rattle.link_base.specs.WellFormed.{are_rows}
+use Rattle.link_base.proofs.LimitLemmas.{row_passes}
 use Rattle.netlink_packet_route.specs.declared.family.Family.{Family}
 use Rattle.netlink_packet_route.specs.Family.{table_of}
 use Rattle.netlink_packet_route.proofs.Families.{each_family}
@@ -34,45 +32,37 @@ use Rattle.nlroute_ffi.specs.Shown.{IsWithName, IsByName}
 
 -- ---- attribute types
 
--- what holds of each row holds of that of an attribute type
-row_checked : {C : Type 0} (test : Row C → Bool) (rows : List (Row C)) (k : ℕ) (r : Row C) → list_all test rows ≡ true → row_at rows k ≡ Some r → test r ≡ true
-row_checked test [] k r h at = absurd cc
-row_checked test (first ∷ rows) k r h at = by_test (first.kind == k) at (row_checked test rows k r (and_parts (test first) (list_all test rows) h).1) where
-  by_test : (b : Bool) → cond b (Some first) (row_at rows k) ≡ Some r → (row_at rows k ≡ Some r → test r ≡ true) → test r ≡ true
-  by_test true is rest = let same : first ≡ r = cc in subst (λ q. test q ≡ true) same (and_parts (test first) (list_all test rows) h).0
-  by_test false is rest = rest is
-
 -- a test of what is known of each attribute type
 module _ (test : Label → Bool) where
   abbrev rows_pass : Table → Bool
-  rows_pass table = list_all (λ r. test (label_by r)) table
+  rows_pass table = are_rows (λ r. test (label_by r)) 0 table
 
   abbrev elements_pass : Option Shape → Bool
   elements_pass o = rows_pass (elements_by o)
 
   -- also of those of nested lists
   abbrev types_pass : Table → Bool
-  types_pass table = rows_pass table && list_all (λ r. elements_pass (Some r.class)) table
+  types_pass table = rows_pass table && are_rows (λ r. elements_pass (Some r.class)) 0 table
 
   label_passes : (table : Table) (k : ℕ) (label : Label) → rows_pass table ≡ true → label_at table k ≡ Some label → test label ≡ true
   label_passes table k label h at = by_row (row_at table k) refl at where
     by_row : (o : Option (Row Shape)) → row_at table k ≡ o → option_map label_by o ≡ Some label → test label ≡ true
     by_row None row is = absurd cc
-    by_row (Some r) row is = let same : label_by r ≡ label = cc in subst (λ l. test l ≡ true) same (row_checked (λ q. test (label_by q)) table k r h row)
+    by_row (Some r) row is = let same : label_by r ≡ label = cc in subst (λ l. test l ≡ true) same (row_passes (λ q. test (label_by q)) 0 table k r h row)
 
-  nested_pass : (table : Table) (k : ℕ) → list_all (λ r. elements_pass (Some r.class)) table ≡ true → rows_pass (elements_at table k) ≡ true
+  nested_pass : (table : Table) (k : ℕ) → are_rows (λ r. elements_pass (Some r.class)) 0 table ≡ true → rows_pass (elements_at table k) ≡ true
   nested_pass table k h = by_row (row_at table k) refl where
     by_row : (o : Option (Row Shape)) → row_at table k ≡ o → elements_pass (option_map (λ r. r.class) o) ≡ true
     by_row None row = refl
-    by_row (Some r) row = row_checked (λ q. elements_pass (Some q.class)) table k r h row
+    by_row (Some r) row = row_passes (λ q. elements_pass (Some q.class)) 0 table k r h row
 
   type_passes : (family : Family) → types_pass (table_of family) ≡ true → (e : Entry) (label : Label) → label_for family e ≡ Some label → test label ≡ true
   type_passes family h e label at = by_test ((e.depth == 0) || is_indexed family e) at where
     table : Table
     table = table_of family
 
-    both : (rows_pass table ≡ true) × (list_all (λ r. elements_pass (Some r.class)) table ≡ true)
-    both = and_parts (rows_pass table) (list_all (λ r. elements_pass (Some r.class)) table) h
+    both : (rows_pass table ≡ true) × (are_rows (λ r. elements_pass (Some r.class)) 0 table ≡ true)
+    both = and_parts (rows_pass table) (are_rows (λ r. elements_pass (Some r.class)) 0 table) h
 
     by_test : (b : Bool) → cond b (label_at table e.kind) (label_at (elements_at table e.kind) e.inner) ≡ Some label → test label ≡ true
     by_test true at = label_passes table e.kind label both.0 at
@@ -88,13 +78,10 @@ enum_shown : (names : List (ℕ × List ℕ)) (n : ℕ) → IsWithName (name_in 
 unfolding enum_text
 enum_shown names n = with_name (name_in names n) n
 
-pub enums_shown : (label : Label) (n : ℕ) (width : Width) (order : Order) → form_in label ≡ forms.Number width order roles.Enum
-    → IsWithName (number_name (Some label) n) (decimal n) (content_text label (contents.Number n width order roles.Enum))
-enums_shown label n width order form = subst (λ f. IsWithName (name_in (number_names_by f label) n) (decimal n) (enum_text (names_of label) n)) (sym form) (enum_shown (names_of label) n)
-
-pub coded_shown : (label : Label) (n : ℕ) (width : Width) (order : Order) → form_in label ≡ forms.Number width order roles.Coded
-    → IsWithName (number_name (Some label) n) (decimal n) (content_text label (contents.Number n width order roles.Coded))
-coded_shown label n width order form = subst (λ f. IsWithName (name_in (number_names_by f label) n) (decimal n) (enum_text (names_of label) n)) (sym form) (enum_shown (names_of label) n)
+-- a number of a form whose numbers have names
+pub number_shown : (label : Label) (n : ℕ) (form : Form) → form_in label ≡ form → number_names_by form label ≡ names_of label → IsWithName (number_name (Some label) n) (decimal n) (enum_text (names_of label) n)
+number_shown label n form is named =
+    subst (λ names. IsWithName (name_in names n) (decimal n) (enum_text (names_of label) n)) (sym (ap (λ f. number_names_by f label) is ∙ named)) (enum_shown (names_of label) n)
 
 -- ---- bits
 
@@ -171,25 +158,24 @@ not_full (suc b) (suc v) e =
     let next : suc b ≡ 1 + b = omega arith in
     omega (arith, ap (λ k. 2 ^ k) same, high, pow_pos (8 * v), ap (λ k. 2 ^ k) next, twice, e)
 
-bit_told : (o : Option (List ℕ)) (names : List (ℕ × List ℕ)) (width bit : ℕ) → Told o names (2 ^ bit) → IsByName o (hex_number (2 ^ bit)) (flags_text names width (2 ^ bit))
+-- the names that are written, and the bits without a name after them
+words_told : (names : List (ℕ × List ℕ)) (width n m : ℕ) (told : List (List ℕ)) → n ≢ 0 → map (λ x. x.1) (set_names names n) ≡ told → unnamed names n ≡ m → ((n == 2 ^ (8 * width) - 1) && not (m == 0)) ≡ false
+    → flags_text names width n ≡ joined (codes "|") (told ++ last_word m)
 unfolding flags_text
-bit_told (Some name) names width bit told =
-    let n = 2 ^ bit in
-    let some : (n == 0) ≡ false = ne_eqb n 0 (λ z. omega (arith, pow_pos bit, z)) in
+words_told names width n m told some set left other =
     let words = joined (codes "|") (flag_words names n) in
-    let whole : is_all names width n ≡ false = ap (λ m. (n == 2 ^ (8 * width) - 1) && not (m == 0)) told.1 ∙ and_false (n == 2 ^ (8 * width) - 1) in
-    ap (λ b. cond b (codes "0") (cond (is_all names width n) (codes "all") words)) some
-    ∙ ap (λ b. cond b (codes "all") words) whole
-    ∙ ap₂ (λ t m. joined (codes "|") (t ++ last_word m)) told.0 told.1 ∙ append-nil name
+    ap (λ b. cond b (codes "0") (cond (is_all names width n) (codes "all") words)) (ne_eqb n 0 some)
+    ∙ ap (λ b. cond b (codes "all") words) (ap (λ k. (n == 2 ^ (8 * width) - 1) && not (k == 0)) left ∙ other)
+    ∙ ap₂ (λ t k. joined (codes "|") (t ++ last_word k)) set left
+
+bit_told : (o : Option (List ℕ)) (names : List (ℕ × List ℕ)) (width bit : ℕ) → Told o names (2 ^ bit) → IsByName o (hex_number (2 ^ bit)) (flags_text names width (2 ^ bit))
+bit_told (Some name) names width bit told =
+    words_told names width (2 ^ bit) 0 (name ∷ []) (λ z. omega (arith, pow_pos bit, z)) told.0 told.1 (and_false (2 ^ bit == 2 ^ (8 * width) - 1)) ∙ append-nil name
 bit_told None names width bit told =
     let n = 2 ^ bit in
-    let some : (n == 0) ≡ false = ne_eqb n 0 (λ z. omega (arith, pow_pos bit, z)) in
-    let words = joined (codes "|") (flag_words names n) in
-    let whole : is_all names width n ≡ false = ap (λ b. b && not (unnamed names n == 0)) (ne_eqb n (2 ^ (8 * width) - 1) (not_full bit width)) in
-    ap (λ b. cond b (codes "0") (cond (is_all names width n) (codes "all") words)) some
-    ∙ ap (λ b. cond b (codes "all") words) whole
-    ∙ ap₂ (λ t m. joined (codes "|") (t ++ last_word m)) told.0 told.1
-    ∙ ap (λ b. joined (codes "|") (cond b [] (hex_number n ∷ []))) some ∙ append-nil (hex_number n)
+    let some : n ≢ 0 = λ z. omega (arith, pow_pos bit, z) in
+    words_told names width n n [] some told.0 told.1 (ap (λ b. b && not (n == 0)) (ne_eqb n (2 ^ (8 * width) - 1) (not_full bit width)))
+    ∙ ap (λ b. joined (codes "|") (cond b [] (hex_number n ∷ []))) (ne_eqb n 0 some) ∙ append-nil (hex_number n)
 
 -- ---- the names in the tables
 

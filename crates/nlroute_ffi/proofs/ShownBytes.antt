@@ -1,5 +1,5 @@
 -- What is shown of the payload that an entry spells.
-use Rattle.std.proofs.Common.{◌≡◌, ℕ, ◌+◌, ◌%◌, ◌≤◌, ◌==◌, ◌&&◌, Bool, true, false, cond, List, [], ◌∷◌, ◌++◌, length, take, drop, replicate, reverse, Option, Some, None, Result, Ok, Err, refl, sym, ap, subst, ◌∙◌, arith, length-append, length-take}
+use Rattle.std.proofs.Common.{◌≡◌, ℕ, ◌+◌, ◌%◌, ◌≤◌, ◌==◌, ◌&&◌, Bool, true, false, cond, List, [], ◌++◌, length, take, drop, replicate, reverse, Option, Some, None, Result, Ok, Err, refl, sym, ap, subst, ◌∙◌, arith, append_assoc, length-append, length-take}
 use Rattle.std.specs.Prelude.{nat_lt, nat_le}
 use Rattle.std.proofs.lemmas.List.{length-replicate, take_at, drop_at}
 use Rattle.link_base.specs.declared.rows.form.Width.{Width}
@@ -101,10 +101,6 @@ few_bytes (fields.Addresses size) e octets p held other h = omega (arith, ap len
 few_bytes (fields.List flag) e octets p held other h = omega (arith, ap length (same_these [] p (content_ok (fields.List flag) e octets p h)))
 few_bytes own e octets p held other h = absurd cc
 
-append-three : (s t u : List ℕ) → (s ++ t) ++ u ≡ s ++ (t ++ u)
-append-three [] t u = refl
-append-three (x ∷ s) t u = ap (λ l. x ∷ l) (append-three s t u)
-
 -- a payload that was stored after the place of its header
 stored_back : (p old new : List ℕ) (m : ℕ) → StoresAt 4 (padded p) old new → length old ≡ 20 → length p ≤ 16 → m ≡ length p → take m (drop 4 new) ≡ p
 stored_back p old new m stored room few is =
@@ -114,7 +110,7 @@ stored_back p old new m stored room few is =
     let all : new ≡ with_at 4 (padded p) old = stored.stored (omega (arith, long, few, room)) in
     let front : length (take 4 old) ≡ 4 = omega (arith, length-take 4 old, room) in
     let behind : drop 4 new ≡ padded p ++ rest = ap (drop 4) all ∙ drop_at (take 4 old) (padded p ++ rest) 4 front in
-    ap (take m) (behind ∙ append-three p zeros rest) ∙ take_at p (zeros ++ rest) m (sym is)
+    ap (take m) (behind ∙ append_assoc p zeros rest) ∙ take_at p (zeros ++ rest) m (sym is)
 
 pub stored_shown : (own : Fields) (e : Entry) (octets old new : List ℕ) (n m : ℕ) → length e.octets ≡ 16 → is_passed own ≡ false → Ok n ≡ sized (payload_of own e octets) → StoresPayload (payload_of own e octets) old new → length old ≡ 20 → m ≡ n
     → Shows own e octets (take m (drop 4 new))

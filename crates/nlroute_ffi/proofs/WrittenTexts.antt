@@ -1,11 +1,11 @@
 -- The entries of a list that is written have texts; an attribute without a text is not written.
-use Rattle.std.proofs.Common.{◌≡◌, inl, inr, ℕ, ◌+◌, ◌==◌, ◌&&◌, Bool, true, false, cond, List, [], ◌∷◌, Option, Some, None, Ok, Err, refl, sym, ap, ap₂, subst, ◌∙◌}
-use Rattle.std.specs.Prelude.{option_map}
+use Rattle.std.proofs.Common.{◌≡◌, inl, inr, ℕ, ◌+◌, ◌==◌, ◌&&◌, Bool, true, false, cond, List, [], ◌∷◌, Option, Some, Ok, Err, refl, sym, ap, ap₂, subst, ◌∙◌}
 use Rattle.std.specs.List.{AllByRecursion}
 use Rattle.std.proofs.lemmas.Bool.{cases_Bool, eqb-true, eq-eqb}
 use Rattle.link_base.specs.declared.rows.form.Form.TheVariants as forms
-use Rattle.link_base.specs.Table.{Row, Shape, Table, row_at, label_at, label_by}
+use Rattle.link_base.specs.Table.{Table, row_at, label_at, label_by}
 use Rattle.link_base.specs.Borrowed.{elements_at}
+use Rattle.link_messages.proofs.Walking.{map_twice}
 use Rattle.netlink_packet_route.specs.declared.family.Family.{Family}
 use Rattle.netlink_packet_route.specs.Family.{table_of}
 use Rattle.netlink_packet_route.proofs.Families.{families_formed}
@@ -20,18 +20,14 @@ use Rattle.link_entries.specs.Spelled.{alone, before, fitted, element_content, e
 use Rattle.link_entries.proofs.RowForms.{is_list, with_kind, value_no_list, array_form, array_width, array_fields, NoRow, OneValue, Array, AddressList, NestedList, row_says}
 use Rattle.link_entries.proofs.WrittenLists.{spells, if_held, both_true, no_content, before_ok, alone_ok, framed_ok, fitted_ok}
 use Rattle.nlroute_ffi.specs.declared.refusal.Refusal.{Refusal}
-use Rattle.nlroute_ffi.specs.ValueText.{with_form, number_form, address_form, element_by, element_label, own_label, fields_for, payload_by, entry_payload, TextAnswers}
+use Rattle.nlroute_ffi.specs.ValueText.{with_form, number_form, address_form, element_by, own_label, fields_for, payload_by, entry_payload, TextAnswers}
 use Rattle.nlroute_ffi.specs.Shown.{HasText}
 use Rattle.nlroute_ffi.specs.Writing.{refusal_for}
-use Rattle.nlroute_ffi.proofs.AttributeTexts.{head_label, head_kind, list_label, nested_label, element_kind, ip_size, ip_fields}
+use Rattle.nlroute_ffi.proofs.AttributeTexts.{head_label, head_kind, list_label, below_label, nested_label, element_kind, ip_fields}
 
 -- the fields for a label are those of the row
-fields_told : (o : Option (Row Shape)) → fields_in (option_map form_in (option_map label_by o)) ≡ fields_in (option_map (λ r. r.form) o)
-fields_told None = refl
-fields_told (Some r) = refl
-
 label_fields : (table : Table) (k : ℕ) → fields_for (label_at table k) ≡ fields_at table k
-label_fields table k = fields_told (row_at table k)
+label_fields table k = ap fields_in (sym (map_twice label_by form_in (row_at table k)))
 
 -- a number of an array
 array_label : (wide : Bool) (list : Label) (own : Option Label) → element_by (array_form wide) list own ≡ Ok (Some (with_form (number_form (array_width wide)) list))
@@ -58,10 +54,6 @@ module _ (family : Family) (octets : List ℕ) where
   element_told e p label below is h =
       (p, ap (λ o. payload_by o e octets) is ∙ ap (λ k. payload_of (fields_for label) (with_kind e k) octets) (element_kind e e.inner below refl) ∙ h)
 
-  below_label : (e : Entry) → e.depth ≡ 1 → own_label family e ≡ element_label (label_at (table_of family) e.kind) (label_at (elements_at (table_of family) e.kind) e.inner)
-  below_label e below =
-      ap (λ d. cond (d == 0) (Ok (label_at table e.kind)) (cond (d == 1) (element_label (label_at table e.kind) (label_at (elements_at table e.kind) e.inner)) (Err BadElement))) below
-
   element_held : (e : Entry) (i : ℕ) (s : List ℕ) → e.depth ≡ 1 → element_content (elements_at (table_of family) e.kind) (fields_at (table_of family) e.kind) i e octets ≡ Ok s → HasText family octets e
   element_held e i s below h =
       let k = e.kind in
@@ -73,13 +65,13 @@ module _ (family : Family) (octets : List ℕ) where
         | Array wide named class low ↦
             let list = list_label family k (array_form wide) named in
             let looked : fields_at table k ≡ fields.Numbers (array_width wide) = ap fields_in named ∙ array_fields wide in
-            element_told e s (Some (with_form (number_form (array_width wide)) list.label)) below (below_label e below ∙ list.is own ∙ array_label wide list.label own)
+            element_told e s (Some (with_form (number_form (array_width wide)) list.label)) below (below_label family e below ∙ list.is own ∙ array_label wide list.label own)
             (ap (λ row. element_content inner row i e octets) (sym looked) ∙ h)
         | AddressList n named class few low ↦
             let list = list_label family k (forms.Addresses n) named in
             let (p, payload, text) = framed_ok i (payload_of (ip_address n) e octets) s (ap (λ row. element_content inner row i e octets) (sym (ap fields_in named)) ∙ h) in
-            element_told e p (Some (with_form (address_form n) list.label)) below (below_label e below ∙ list.is own)
-            (ap (λ row. payload_of row (with_kind e e.inner) octets) (ip_fields n (ip_size table k n (families_formed family) named)) ∙ payload)
+            element_told e p (Some (with_form (address_form n) list.label)) below (below_label family e below ∙ list.is own)
+            (ap (λ row. payload_of row (with_kind e e.inner) octets) (ip_fields table k n (families_formed family) named).0 ∙ payload)
         | NestedList flagged rows named class low ↦
             let row = fields_at inner e.inner in
             let (p, payload, text) = framed_ok (field_of row e.inner e) (payload_of row (with_kind e e.inner) octets) s (ap (λ list. element_content inner list i e octets) (sym (ap fields_in named)) ∙ h) in

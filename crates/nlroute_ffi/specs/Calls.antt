@@ -18,9 +18,13 @@ use Rattle.nlroute_ffi.specs.declared.refusal.Refusal.{Refusal}
 use Rattle.nlroute_ffi.specs.declared.refusal.Refusal.TheVariants.{Fault, TooLong, Memory, NoRoom, NoFamily, Absent}
 use Rattle.nlroute_ffi.specs.Numbers.{code_of}
 
+-- the return value of a call with this result
+abbrev pub AnswersWith : (Result ℕ Refusal → Type 0) → ℤ → Type 0
+AnswersWith says answer = (result : Result ℕ Refusal) × says result × (answer ≡ code_of result)
+
 -- the return value: as `says` specifies for the attribute set with this number; -5 if there is none
 pub data AnswersBy (number : ℕ) (says : Family → Result ℕ Refusal → Type 0) (answer : ℤ) : Type 0 where
-  Known : (family : Family) (result : Result ℕ Refusal) → number ≡ family_number family → says family result → answer ≡ code_of result → AnswersBy number says answer
+  Known : ((family : Family) × (number ≡ family_number family) × AnswersWith (says family) answer) → AnswersBy number says answer
   Unknown : ((family : Family) → number ≢ family_number family) → answer ≡ code_of (Err NoFamily) → AnswersBy number says answer
 
 -- the same, as `says` specifies for the table of the attribute set

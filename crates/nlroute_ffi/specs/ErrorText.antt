@@ -1,5 +1,5 @@
 -- The texts of errors.
-use Rattle.std.specs.Prelude.{◌≡◌, ℕ, ◌<◌, ◌==◌, ◌&&◌, List, ◌++◌, Option, Some, None, Result, Ok, Err, codes, nat_lt, if◌then◌else◌}
+use Rattle.std.specs.Prelude.{◌≡◌, ℕ, ◌<◌, ◌==◌, ◌&&◌, List, ◌++◌, Option, Some, None, option_map, Result, Ok, Err, codes, nat_lt, if◌then◌else◌}
 use Rattle.std.specs.Fmt.{decimal}
 use Rattle.netlink_packet_route.specs.declared.link.Cause.{Cause}
 use Rattle.netlink_packet_route.specs.declared.link.Cause.TheVariants as causes
@@ -15,19 +15,16 @@ use Rattle.nlroute_ffi.specs.declared.refusal.Refusal.TheVariants.{BadForm}
 use Rattle.nlroute_ffi.specs.Numbers.{short_frame, small_length, overrun, wrong_length, too_short, address_length, frame, payload, element_frame, element_payload}
 use Rattle.nlroute_ffi.specs.Buffers.{StoresText}
 
--- the causes with an `nla_len`, which is a `u16`
-abbrev pub small_cause : ℕ → Option Cause
-small_cause n = if nat_lt n 65536 then Some (causes.SmallLength n) else None
-
-abbrev pub overrun_cause : ℕ → ℕ → Option Cause
-overrun_cause n left = if nat_lt n 65536 then Some (causes.Overrun n left) else None
+-- a number as an `nla_len`, which is a `u16`
+abbrev pub length_of : ℕ → Option ℕ
+length_of n = if nat_lt n 65536 then Some n else None
 
 -- the cause with these numbers; none for another number
 abbrev pub cause_by : ℕ → ℕ → ℕ → Option Cause
 cause_by cause first second =
     if cause == short_frame then Some (causes.ShortFrame first)
-    else (if cause == small_length then small_cause first
-    else (if cause == overrun then overrun_cause first second
+    else (if cause == small_length then option_map (λ n. causes.SmallLength n) (length_of first)
+    else (if cause == overrun then option_map (λ n. causes.Overrun n second) (length_of first)
     else (if cause == wrong_length then Some (causes.WrongLength first second)
     else (if cause == too_short then Some (causes.TooShort first second)
     else (if cause == address_length then Some (causes.AddressLength first)
@@ -51,18 +48,22 @@ fault_by place kind inner (Some cause) = if nat_lt kind 65536 && nat_lt inner 65
 abbrev pub fault_of : FirstError → Option DecodeFault
 fault_of e = fault_by e.place e.kind e.inner (cause_by e.cause e.first e.second)
 
--- an `nla_len` of a cause, and the attribute types of an error in a list, are `u16`s
+-- an `nla_len` of a cause is a `u16`
 abbrev pub CauseFits : Cause → Type 0
 CauseFits (causes.SmallLength n) = n < 65536
 CauseFits (causes.Overrun n left) = n < 65536
 CauseFits cause = Unit {0}
 
+-- an error in a list, whose attribute types are `u16`s, with a cause of which this holds
+abbrev pub InList : (Cause → Type 0) → DecodeFault → Type 0
+InList Of (faults.Frame cause) = Of cause
+InList Of (faults.Value kind cause) = (kind < 65536) × Of cause
+InList Of (faults.NestedFrame kind cause) = (kind < 65536) × Of cause
+InList Of (faults.NestedValue kind inner cause) = (kind < 65536) × (inner < 65536) × Of cause
+InList Of fault = ⊥
+
 abbrev pub IsListFault : DecodeFault → Type 0
-IsListFault (faults.Frame cause) = CauseFits cause
-IsListFault (faults.Value kind cause) = (kind < 65536) × CauseFits cause
-IsListFault (faults.NestedFrame kind cause) = (kind < 65536) × CauseFits cause
-IsListFault (faults.NestedValue kind inner cause) = (kind < 65536) × (inner < 65536) × CauseFits cause
-IsListFault fault = ⊥
+IsListFault fault = InList CauseFits fault
 
 -- the causes and the errors that occur in lists of the attribute sets: that of the length of an address does not
 abbrev pub CauseOccurs : Cause → Type 0
@@ -70,11 +71,7 @@ CauseOccurs (causes.AddressLength got) = ⊥
 CauseOccurs cause = CauseFits cause
 
 abbrev pub FaultOccurs : DecodeFault → Type 0
-FaultOccurs (faults.Frame cause) = CauseOccurs cause
-FaultOccurs (faults.Value kind cause) = (kind < 65536) × CauseOccurs cause
-FaultOccurs (faults.NestedFrame kind cause) = (kind < 65536) × CauseOccurs cause
-FaultOccurs (faults.NestedValue kind inner cause) = (kind < 65536) × (inner < 65536) × CauseOccurs cause
-FaultOccurs fault = ⊥
+FaultOccurs fault = InList CauseOccurs fault
 
 -- an error at an offset, in a list of this table
 abbrev pub error_text : Table → ℕ → DecodeFault → List ℕ

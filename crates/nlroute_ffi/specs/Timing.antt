@@ -1,5 +1,5 @@
 -- The structs of a CAN controller that a value refers to.
-use Rattle.std.specs.Prelude.{◌≡◌, ◌≢◌, ℕ, ℤ, ◌+◌, ◌≤◌, List, [], ◌∷◌, length, map, take, drop, codes, Result, Ok, Err}
+use Rattle.std.specs.Prelude.{◌≡◌, ◌≢◌, ℕ, ◌+◌, ◌≤◌, List, [], ◌∷◌, length, map, take, drop, codes, Result, Ok, Err}
 use Rattle.link_base.specs.declared.rows.form.Form.{Form}
 use Rattle.link_base.specs.declared.rows.form.Form.TheVariants as forms
 use Rattle.link_base.specs.declared.rows.form.Layout.TheVariants as layouts
@@ -13,11 +13,6 @@ use Rattle.nlroute_ffi.specs.declared.refusal.Refusal.{Refusal}
 use Rattle.nlroute_ffi.specs.declared.refusal.Refusal.TheVariants.{BadForm, BadOctets}
 use Rattle.nlroute_ffi.specs.declared.timing.BitTiming.{BitTiming}
 use Rattle.nlroute_ffi.specs.declared.timing.TimingLimits.{TimingLimits}
-use Rattle.nlroute_ffi.specs.Numbers.{code_of}
-
--- the return value of a call with this result
-abbrev pub AnswersWith : (Result ℕ Refusal → Type 0) → ℤ → Type 0
-AnswersWith says answer = (result : Result ℕ Refusal) × says result × (answer ≡ code_of result)
 
 -- the n octets that a value of this form refers to are within the lent ones
 pub record RefersTo (value : Entry) (expected n : ℕ) (octets : List ℕ) : Type 0 where

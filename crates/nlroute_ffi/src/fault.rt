@@ -4,7 +4,7 @@ ghost use Rattle.std.specs.Prelude.{◌≡◌, [], ◌∷◌, IfOk, OnErr};
 ghost use Rattle.netlink_packet_route.specs.Family.{table_of};
 ghost use Rattle.nlroute_ffi.specs.Numbers.{cause_numbers, fault_numbers};
 ghost use Rattle.nlroute_ffi.specs.Error.{error_numbers, ErrorAnswers};
-ghost use Rattle.nlroute_ffi.specs.ErrorText.{cause_by, small_cause, overrun_cause, fault_of};
+ghost use Rattle.nlroute_ffi.specs.ErrorText.{length_of, cause_by, fault_of};
 
 use crate::refusal::Refusal;
 use netlink_packet_route::link::{Cause, DecodeFault, ListFault};
@@ -157,8 +157,13 @@ fn cause_of(error: &FirstError) -> Option<Cause>
     let (first, second) = (error.first as usize, error.second as usize);
     match error.cause {
         SHORT_FRAME => Some(Cause::ShortFrame { left: first }),
-        SMALL_LENGTH => small_cause(error.first),
-        OVERRUN => overrun_cause(error.first, second),
+        SMALL_LENGTH => Some(Cause::SmallLength {
+            length: length_of(error.first)?,
+        }),
+        OVERRUN => Some(Cause::Overrun {
+            length: length_of(error.first)?,
+            left: second,
+        }),
         WRONG_LENGTH => Some(Cause::WrongLength {
             want: first,
             got: second,
@@ -172,25 +177,12 @@ fn cause_of(error: &FirstError) -> Option<Cause>
     }
 }
 
-fn small_cause(size: u64) -> Option<Cause>
-    ensures { result ≡ small_cause size }
+/// Returns a number as an `nla_len`; `None` if it is too great.
+fn length_of(number: u64) -> Option<u16>
+    ensures { result ≡ length_of number }
 {
-    if size > 0xFFFF {
+    if number > 0xFFFF {
         return None;
     }
-    Some(Cause::SmallLength {
-        length: size as u16,
-    })
-}
-
-fn overrun_cause(size: u64, left: usize) -> Option<Cause>
-    ensures { result ≡ overrun_cause size left }
-{
-    if size > 0xFFFF {
-        return None;
-    }
-    Some(Cause::Overrun {
-        length: size as u16,
-        left,
-    })
+    Some(number as u16)
 }

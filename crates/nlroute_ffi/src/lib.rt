@@ -2,7 +2,17 @@
 //! `include/nlroute.h` declares the functions.
 //!
 //! A `Family` is passed as its number, from 0 to 9 in the order of [`Family`](netlink_packet_route::Family). A slice is
-//! two arguments in C: a pointer, and the number of elements it points to. The allocator is not an argument in C.
+//! two arguments in C: a pointer, and the number of elements it points to. The allocator is not an argument in C; a
+//! function without it does not allocate.
+//!
+//! A function for texts stores the text in `out`, as far as there is room before a NUL, and the NUL. It returns the length
+//! of the whole text.
+//!
+//! # Errors
+//!
+//! Each function that takes a `family` returns -5 if it is not the number of a `Family`; `nlroute_is_canonical` returns
+//! false. On error the outputs are unchanged, unless a function specifies otherwise; the functions for texts store the
+//! empty text.
 #![tactic(auto)]
 
 mod buffers;
@@ -23,11 +33,11 @@ mod writing;
 
 ghost use Rattle.std.specs.Prelude.{◌≡◌, ◌↔◌, ◌<◌, [], IsTrue, pos, negsuc, ◌<ℤ◌, length, drop};
 ghost use Rattle.netlink_packet_route.specs.Frame.{pad};
-ghost use Rattle.nlroute_ffi.specs.Calls.{AnswersFor, CountAnswers, RewriteAnswers, StreamingAnswers};
+ghost use Rattle.nlroute_ffi.specs.Calls.{AnswersWith, AnswersFor, CountAnswers, RewriteAnswers, StreamingAnswers};
 ghost use Rattle.nlroute_ffi.specs.Calls.{IsCanonicalFor, ReportAnswers};
 ghost use Rattle.nlroute_ffi.specs.Calls.{AnswersBy, PlacesAnswers, ValuesAnswers, FindAnswers, FindInAnswers};
 ghost use Rattle.nlroute_ffi.specs.Error.{ErrorAnswers};
-ghost use Rattle.nlroute_ffi.specs.Timing.{AnswersWith, TimingAnswers, LimitsAnswers};
+ghost use Rattle.nlroute_ffi.specs.Timing.{TimingAnswers, LimitsAnswers};
 ghost use Rattle.nlroute_ffi.specs.Buffers.{cut_text};
 ghost use Rattle.nlroute_ffi.specs.Names.{version, KindNameAnswers, NumberNameAnswers, FlagNameAnswers};
 ghost use Rattle.nlroute_ffi.specs.Lookup.{FamilyNameAnswers, FamilyOfAnswers, KindOfAnswers, KindOfInAnswers};
@@ -52,6 +62,26 @@ use link_entries::{Entry, Row};
 use netlink_packet_route::{Family, FamilyElements, FamilySet, is_canonical};
 use std::alloc::Global;
 
+/// Calls a function with the `Family` of a number. Returns -5 if there is none.
+macro_rules! answer_by {
+    ($family:ident, $call:expr) => {
+        answer_by!($family, $call, Err(Refusal::NoFamily))
+    };
+    ($family:ident, $call:expr, $none:expr) => {
+        match Family::from_number($family) {
+            Some($family) => answer_of($call),
+            None => answer_of($none),
+        }
+    };
+}
+
+/// Calls a function for texts in the same way. Stores the empty text if there is no such `Family`.
+macro_rules! text_by {
+    ($family:ident, $out:ident, $call:expr) => {
+        answer_by!($family, $call, refuse(Refusal::NoFamily, $out))
+    };
+}
+
 /// `NLROUTE_VERSION` of the header.
 const VERSION: u32 = 0x00_03_00;
 
@@ -68,17 +98,13 @@ pub extern "C" fn nlroute_version() -> u32
 ///
 /// # Errors
 ///
-/// -1 if the input is malformed, -2 if a value does not fit, -3 if an allocation fails, -4 if `out` is too small, -5 if
-/// `family` is not the number of a `Family`. On error `out` is unchanged.
+/// -1 if the input is malformed, -2 if a value does not fit, -3 if an allocation fails, -4 if `out` is too small.
 #[unsafe(no_mangle)]
 pub extern "C" fn nlroute_rewrite(alloc: Global, family: u32, bytes: &[u8], out: &mut [u8]) -> isize
     ensures answer { AnswersFor family (RewriteAnswers bytes.now out.old out.new) result }
     ensures unchanged { result <ℤ pos 0 → out.new ≡ out.old }
 {
-    match Family::from_number(family) {
-        Some(family) => answer_of(rewrite(alloc, family, bytes, out)),
-        None => answer_of(Err(Refusal::NoFamily)),
-    }
+    answer_by!(family, rewrite(alloc, family, bytes, out))
 }
 
 /// Re-encodes the list in `bytes` into `out`, one attribute at a time, as `rewrite_streaming` does. Returns `n`, the
@@ -88,10 +114,8 @@ pub extern "C" fn nlroute_rewrite(alloc: Global, family: u32, bytes: &[u8], out:
 ///
 /// Let `m` be `bytes.len()` rounded up to a multiple of four.
 ///
-/// -4 if `out` has fewer than `m` bytes, -5 if `family` is not the number of a `Family`; `out` is then unchanged.
-///
-/// -1 if the input is malformed, -2 if a value does not fit, -3 if an allocation fails; `out[..m]` may then have
-/// changed.
+/// -4 if `out` has fewer than `m` bytes. -1 if the input is malformed, -2 if a value does not fit, -3 if an allocation
+/// fails; `out[..m]` may then have changed.
 #[unsafe(no_mangle)]
 pub extern "C" fn nlroute_rewrite_streaming(
     alloc: Global,
@@ -104,87 +128,67 @@ pub extern "C" fn nlroute_rewrite_streaming(
     ensures room { length out.old < pad (length bytes.now) → (result <ℤ negsuc 2) × (out.new ≡ out.old) }
     ensures unchanged { result ≡ negsuc 4 → out.new ≡ out.old }
 {
-    match Family::from_number(family) {
-        Some(family) => answer_of(rewrite_each(alloc, family, bytes, out)),
-        None => answer_of(Err(Refusal::NoFamily)),
-    }
+    answer_by!(family, rewrite_each(alloc, family, bytes, out))
 }
 
-/// Returns the number of values of the list in `bytes`. Does not allocate.
+/// Returns the number of values of the list in `bytes`.
 ///
 /// # Errors
 ///
-/// -1 if the input is malformed, -5 if `family` is not the number of a `Family`.
+/// -1 if the input is malformed.
 #[unsafe(no_mangle)]
 pub extern "C" fn nlroute_count(family: u32, bytes: &[u8]) -> isize
     ensures { AnswersFor family (CountAnswers bytes.now) result }
 {
-    match Family::from_number(family) {
-        Some(family) => answer_of(count(family, bytes)),
-        None => answer_of(Err(Refusal::NoFamily)),
-    }
+    answer_by!(family, count(family, bytes))
 }
 
 /// Returns the number of entries that `nlroute_values` stores for the list in `bytes`: its values, and the elements of those
-/// that are lists. It is at most half of the length. Does not allocate.
+/// that are lists. It is at most half of the length.
 ///
 /// # Errors
 ///
-/// -1 if the input is malformed, -5 if `family` is not the number of a `Family`.
+/// -1 if the input is malformed.
 #[unsafe(no_mangle)]
 pub extern "C" fn nlroute_places(family: u32, bytes: &[u8]) -> isize
     ensures { AnswersBy family (PlacesAnswers bytes.now) result }
 {
-    match Family::from_number(family) {
-        Some(family) => answer_of(count_places(family, bytes)),
-        None => answer_of(Err(Refusal::NoFamily)),
-    }
+    answer_by!(family, count_places(family, bytes))
 }
 
 /// Stores the values of the list in `bytes`, in order, in the first of `values`; after a value that is a list, its elements
-/// follow. Returns the number of entries; the other places are unchanged. Does not allocate.
+/// follow. Returns the number of entries; the other places are unchanged.
 ///
 /// # Errors
 ///
-/// -1 if the input is malformed, -5 if `family` is not the number of a `Family`; then `values` is unchanged.
-///
-/// -4 if there are more entries than places; then `values` has the first entries.
+/// -1 if the input is malformed. -4 if there are more entries than places; then `values` has the first entries.
 #[unsafe(no_mangle)]
 pub extern "C" fn nlroute_values(family: u32, bytes: &[u8], values: &mut [Entry]) -> isize
     ensures answer { AnswersBy family (ValuesAnswers bytes.now values.old values.new) result }
     ensures unchanged { result ≡ negsuc 4 → values.new ≡ values.old }
 {
-    match Family::from_number(family) {
-        Some(family) => answer_of(store_values(family, bytes, values)),
-        None => answer_of(Err(Refusal::NoFamily)),
-    }
+    answer_by!(family, store_values(family, bytes, values))
 }
 
-/// Stores the last value of type `kind` of the list in `bytes` in `value`, as `nlroute_values` stores it, and returns 0. Does
-/// not allocate.
+/// Stores the last value of type `kind` of the list in `bytes` in `value`, as `nlroute_values` stores it, and returns 0.
 ///
 /// # Errors
 ///
-/// -1 if the input is malformed, -5 if `family` is not the number of a `Family`, -6 if the list has no attribute of this
-/// type. On error `value` is unchanged.
+/// -1 if the input is malformed, -6 if the list has no attribute of this type.
 #[unsafe(no_mangle)]
 pub extern "C" fn nlroute_find(family: u32, bytes: &[u8], kind: u16, value: &mut Entry) -> isize
     ensures answer { AnswersBy family (FindAnswers bytes.now kind value.new) result }
     ensures unchanged { result <ℤ pos 0 → value.new ≡ value.old }
 {
-    match Family::from_number(family) {
-        Some(family) => answer_of(find_value(family, bytes, kind, value)),
-        None => answer_of(Err(Refusal::NoFamily)),
-    }
+    answer_by!(family, find_value(family, bytes, kind, value))
 }
 
 /// Stores the last element `inner` of the last value of type `kind` of the list in `bytes` in `value`, as `nlroute_values`
-/// stores it, and returns 0. Does not allocate.
+/// stores it, and returns 0.
 ///
 /// # Errors
 ///
-/// -1 if the input is malformed, -5 if `family` is not the number of a `Family`, -6 if there is no such element. On error
-/// `value` is unchanged.
+/// -1 if the input is malformed, -6 if there is no such element.
 #[unsafe(no_mangle)]
 pub extern "C" fn nlroute_find_in(
     family: u32,
@@ -196,17 +200,14 @@ pub extern "C" fn nlroute_find_in(
     ensures answer { AnswersBy family (FindInAnswers bytes.now kind inner value.new) result }
     ensures unchanged { result <ℤ pos 0 → value.new ≡ value.old }
 {
-    match Family::from_number(family) {
-        Some(family) => answer_of(find_element(family, bytes, kind, inner, value)),
-        None => answer_of(Err(Refusal::NoFamily)),
-    }
+    answer_by!(family, find_element(family, bytes, kind, inner, value))
 }
 
 /// Stores the `struct can_bittiming` that `value` refers to in `timing`, and returns 0. `octets` are the bytes of the list.
 ///
 /// # Errors
 ///
-/// -7 if `value` is no bit timing, -10 if its octets are not 32 of `octets`. On error `timing` is unchanged.
+/// -7 if `value` is no bit timing, -10 if its octets are not 32 of `octets`.
 #[unsafe(no_mangle)]
 pub extern "C" fn nlroute_can_bittiming(
     value: &Entry,
@@ -224,7 +225,7 @@ pub extern "C" fn nlroute_can_bittiming(
 ///
 /// # Errors
 ///
-/// -7 if `value` has no such limits, -10 if its octets are not 48 of `octets`. On error `limits` is unchanged.
+/// -7 if `value` has no such limits, -10 if its octets are not 48 of `octets`.
 #[unsafe(no_mangle)]
 pub extern "C" fn nlroute_can_bittiming_const(
     value: &Entry,
@@ -238,15 +239,14 @@ pub extern "C" fn nlroute_can_bittiming_const(
 }
 
 /// Writes the list that `values` spell to the start of `out`; a value may refer to bytes in `octets`. Returns `n`, the
-/// number of bytes written; `out[n..]` is unchanged. Does not allocate.
+/// number of bytes written; `out[n..]` is unchanged.
 ///
 /// # Errors
 ///
-/// -5 if `family` is not the number of a `Family`. Of the first value that cannot be written, the first that applies: -9 if
-/// it is an element that does not follow a list of its type, -7 if its form is not that of the attribute type, -8 if its
-/// attribute cannot hold a number, -10 if its bytes are too many, too few, or outside `octets`, -2 if its payload does not
-/// fit in an attribute; a list is too long only if its elements can be written. -4 if all can be written, but `out` is too
-/// small. On error `out` is unchanged.
+/// Of the first value that cannot be written, the first that applies: -9 if it is an element that does not follow a list of
+/// its type, -7 if its form is not that of the attribute type, -8 if its attribute cannot hold a number, -10 if its bytes
+/// are too many, too few, or outside `octets`, -2 if its payload does not fit in an attribute; a list is too long only if
+/// its elements can be written. -4 if all can be written, but `out` is too small.
 #[unsafe(no_mangle)]
 pub extern "C" fn nlroute_write(
     family: u32,
@@ -257,18 +257,15 @@ pub extern "C" fn nlroute_write(
     ensures answer { AnswersBy family (WriteAnswers values.now octets.now out.old out.new) result }
     ensures unchanged { result <ℤ pos 0 → out.new ≡ out.old }
 {
-    match Family::from_number(family) {
-        Some(family) => answer_of(write_values(family, values, octets, out)),
-        None => answer_of(Err(Refusal::NoFamily)),
-    }
+    answer_by!(family, write_values(family, values, octets, out))
 }
 
-/// Returns the length of the list that `nlroute_write` writes for `values`, at most 2^63 - 1. Does not allocate.
+/// Returns the length of the list that `nlroute_write` writes for `values`, at most 2^63 - 1.
 ///
 /// # Errors
 ///
-/// -5 if `family` is not the number of a `Family`; otherwise as for `nlroute_write`, but not -4, and `at` is the index of
-/// the first value that cannot be written. Without such a value, `at` is unchanged.
+/// As for `nlroute_write`, but not -4, and `at` is the index of the first value that cannot be written. Without such a
+/// value, `at` is unchanged.
 #[unsafe(no_mangle)]
 pub extern "C" fn nlroute_measure(
     family: u32,
@@ -279,103 +276,71 @@ pub extern "C" fn nlroute_measure(
     ensures answer { AnswersBy family (MeasureAnswers values.now octets.now at.old at.new) result }
     ensures unchanged { result ≡ negsuc 4 → at.new ≡ at.old }
 {
-    match Family::from_number(family) {
-        Some(family) => answer_of(measure_values(family, values, octets, at)),
-        None => answer_of(Err(Refusal::NoFamily)),
-    }
+    answer_by!(family, measure_values(family, values, octets, at))
 }
 
-/// Stores the name of the attribute type of `value` in `out`, as far as there is room before a NUL, and the NUL. The
-/// name is such as `IFLA_BR_FORWARD_DELAY`, or `type 99` if the type has no row; for an address of a list or a number
-/// of an array, it is its index, such as `[3]`. Returns the length of the whole name. Does not allocate.
-///
-/// # Errors
-///
-/// -5 if `family` is not the number of a `Family`. Then `out` has the empty text.
+/// Stores the name of the attribute type of `value`, such as `IFLA_BR_FORWARD_DELAY`, or `type 99` if the type has no row;
+/// for an address of a list or a number of an array, it is its index, such as `[3]`.
 #[unsafe(no_mangle)]
 pub extern "C" fn nlroute_kind_name(family: u32, value: &Entry, out: &mut [u8]) -> isize
     ensures answer { AnswersBy family (KindNameAnswers value.now out.old out.new) result }
     ensures empty { result <ℤ pos 0 → out.new ≡ cut_text [] out.old }
 {
-    match Family::from_number(family) {
-        Some(family) => answer_of(Ok(store_kind_name(family, value, out))),
-        None => answer_of(refuse(Refusal::NoFamily, out)),
-    }
+    text_by!(family, out, store_kind_name(family, value, out))
 }
 
-/// Stores the text of `value` in `out`, as far as there is room before a NUL, and the NUL: of the attribute or the element that
-/// `nlroute_write` writes for it. `octets` has the bytes that it refers to; the form 0 stands for that of the attribute type.
-/// Returns the length of the whole text, at most `isize::MAX`. Does not allocate.
+/// Stores the text of `value`: of the attribute or the element that `nlroute_write` writes for it. `octets` has the bytes
+/// that it refers to; the form 0 stands for that of the attribute type. The length is at most `isize::MAX`.
 ///
 /// # Errors
 ///
-/// -5 if `family` is not the number of a `Family`; otherwise the first that applies: -9 if the attribute type has no elements,
-/// or the depth is greater than 1; -7 if the form is not that of the type; -8 if its attribute cannot hold its numbers; -10 if
-/// its octets have a wrong length or are not within `octets`; -2 if they do not fit in an attribute. Then `out` has the empty
-/// text.
+/// The first that applies: -9 if the attribute type has no elements, or the depth is greater than 1; -7 if the form is not
+/// that of the type; -8 if its attribute cannot hold its numbers; -10 if its octets have a wrong length or are not within
+/// `octets`; -2 if they do not fit in an attribute.
 #[unsafe(no_mangle)]
 pub extern "C" fn nlroute_text(family: u32, value: &Entry, octets: &[u8], out: &mut [u8]) -> isize
     ensures answer { AnswersBy family (TextAnswers value.now octets.now out.old out.new) result }
     ensures empty { result <ℤ pos 0 → out.new ≡ cut_text [] out.old }
 {
-    match Family::from_number(family) {
-        Some(family) => answer_of(store_value_text(family, value, octets, out)),
-        None => answer_of(refuse(Refusal::NoFamily, out)),
-    }
+    text_by!(family, out, store_value_text(family, value, octets, out))
 }
 
-/// Stores the name of the number of `value` in `out`, as far as there is room before a NUL, and the NUL, such as
-/// `802.3ad`. Returns the length of the whole name. Does not allocate.
+/// Stores the name of the number of `value`, such as `802.3ad`.
 ///
 /// # Errors
 ///
-/// -5 if `family` is not the number of a `Family`, -6 if the number has no name. Then `out` has the empty text.
+/// -6 if the number has no name.
 #[unsafe(no_mangle)]
 pub extern "C" fn nlroute_number_name(family: u32, value: &Entry, out: &mut [u8]) -> isize
     ensures answer { AnswersBy family (NumberNameAnswers value.now out.old out.new) result }
     ensures empty { result <ℤ pos 0 → out.new ≡ cut_text [] out.old }
 {
-    match Family::from_number(family) {
-        Some(family) => answer_of(store_number_name(family, value, out)),
-        None => answer_of(refuse(Refusal::NoFamily, out)),
-    }
+    text_by!(family, out, store_number_name(family, value, out))
 }
 
-/// Stores the name of a bit of the attribute type of `value` in `out`, as far as there is room before a NUL, and the
-/// NUL, such as `LACP_ACTIVITY` for bit 0. Returns the length of the whole name. Does not allocate.
+/// Stores the name of a bit of the attribute type of `value`, such as `LACP_ACTIVITY` for bit 0.
 ///
 /// # Errors
 ///
-/// -5 if `family` is not the number of a `Family`, -6 if the bit has no name. Then `out` has the empty text.
+/// -6 if the bit has no name.
 #[unsafe(no_mangle)]
 pub extern "C" fn nlroute_flag_name(family: u32, value: &Entry, bit: u32, out: &mut [u8]) -> isize
     ensures answer { AnswersBy family (FlagNameAnswers value.now bit out.old out.new) result }
     ensures empty { result <ℤ pos 0 → out.new ≡ cut_text [] out.old }
 {
-    match Family::from_number(family) {
-        Some(family) => answer_of(store_flag_name(family, value, bit, out)),
-        None => answer_of(refuse(Refusal::NoFamily, out)),
-    }
+    text_by!(family, out, store_flag_name(family, value, bit, out))
 }
 
-/// Stores the name of the attribute set in `out`, as far as there is room before a NUL, and the NUL, such as `bridge`.
-/// Returns the length of the whole name. Does not allocate.
-///
-/// # Errors
-///
-/// -5 if `family` is not the number of a `Family`. Then `out` has the empty text.
+/// Stores the name of the attribute set, such as `bridge`.
 #[unsafe(no_mangle)]
 pub extern "C" fn nlroute_family_name(family: u32, out: &mut [u8]) -> isize
     ensures answer { AnswersBy family (FamilyNameAnswers out.old out.new) result }
     ensures empty { result <ℤ pos 0 → out.new ≡ cut_text [] out.old }
 {
-    match Family::from_number(family) {
-        Some(family) => answer_of(store_family_name(family, out)),
-        None => answer_of(refuse(Refusal::NoFamily, out)),
-    }
+    text_by!(family, out, store_family_name(family, out))
 }
 
-/// Returns the number of the attribute set with this name. Does not allocate.
+/// Returns the number of the attribute set with this name.
 ///
 /// # Errors
 ///
@@ -387,59 +352,48 @@ pub extern "C" fn nlroute_family_of(name: &[u8]) -> isize
     answer_of(family_of(name))
 }
 
-/// Returns the least attribute type with this name, such as `IFLA_BR_FORWARD_DELAY`. Does not allocate.
+/// Returns the least attribute type with this name, such as `IFLA_BR_FORWARD_DELAY`.
 ///
 /// # Errors
 ///
-/// -5 if `family` is not the number of a `Family`, -6 if no type has the name.
+/// -6 if no type has the name.
 #[unsafe(no_mangle)]
 pub extern "C" fn nlroute_kind_of(family: u32, name: &[u8]) -> isize
     ensures { AnswersBy family (KindOfAnswers name.now) result }
 {
-    match Family::from_number(family) {
-        Some(family) => answer_of(kind_of(FamilySet { family }, name)),
-        None => answer_of(Err(Refusal::NoFamily)),
-    }
+    answer_by!(family, kind_of(FamilySet { family }, name))
 }
 
-/// Returns the least type of an element with this name in nested lists of type `list`. Does not allocate.
+/// Returns the least type of an element with this name in nested lists of type `list`.
 ///
 /// # Errors
 ///
-/// -5 if `family` is not the number of a `Family`, -6 if no element has the name.
+/// -6 if no element has the name.
 #[unsafe(no_mangle)]
 pub extern "C" fn nlroute_kind_of_in(family: u32, list: u16, name: &[u8]) -> isize
     ensures { AnswersBy family (KindOfInAnswers list name.now) result }
 {
-    match Family::from_number(family) {
-        Some(family) => answer_of(kind_of(FamilyElements { family, list }, name)),
-        None => answer_of(Err(Refusal::NoFamily)),
-    }
+    answer_by!(family, kind_of(FamilyElements { family, list }, name))
 }
 
-/// Stores in `row` what values of type `kind` hold, or those of its element `inner` if `depth` is 1, and returns 0. Does not
-/// allocate.
+/// Stores in `row` what values of type `kind` hold, or those of its element `inner` if `depth` is 1, and returns 0.
 ///
 /// # Errors
 ///
-/// -5 if `family` is not the number of a `Family`, -9 if values of the type have no elements, or `depth` is greater than 1. On
-/// error `row` is unchanged.
+/// -9 if values of the type have no elements, or `depth` is greater than 1.
 #[unsafe(no_mangle)]
 pub extern "C" fn nlroute_row(family: u32, kind: u16, inner: u16, depth: u8, row: &mut Row) -> isize
     ensures answer { AnswersBy family (RowAnswers kind inner depth row.new) result }
     ensures unchanged { result <ℤ pos 0 → row.new ≡ row.old }
 {
-    match Family::from_number(family) {
-        Some(family) => answer_of(store_row(family, kind, inner, depth, row)),
-        None => answer_of(Err(Refusal::NoFamily)),
-    }
+    answer_by!(family, store_row(family, kind, inner, depth, row))
 }
 
-/// Stores in `number` the first number, or bit, of the type of `value` that has this name, and returns 0. Does not allocate.
+/// Stores in `number` the first number, or bit, of the type of `value` that has this name, and returns 0.
 ///
 /// # Errors
 ///
-/// -5 if `family` is not the number of a `Family`, -6 if there is none. On error `number` is unchanged.
+/// -6 if there is none.
 #[unsafe(no_mangle)]
 pub extern "C" fn nlroute_number_of(
     family: u32,
@@ -450,14 +404,10 @@ pub extern "C" fn nlroute_number_of(
     ensures answer { AnswersBy family (NumberOfAnswers value.now name.now number.new) result }
     ensures unchanged { result <ℤ pos 0 → number.new ≡ number.old }
 {
-    match Family::from_number(family) {
-        Some(family) => answer_of(number_of(family, value, name, number)),
-        None => answer_of(Err(Refusal::NoFamily)),
-    }
+    answer_by!(family, number_of(family, value, name, number))
 }
 
-/// Stores the meaning of an error code in words in `out`, as far as there is room before a NUL, and the NUL. Returns the
-/// length of the whole text. Does not allocate.
+/// Stores the meaning of an error code in words.
 #[unsafe(no_mangle)]
 pub extern "C" fn nlroute_code_text(code: isize, out: &mut [u8]) -> isize
     ensures { AnswersWith (CodeTextAnswers code out.old out.new) result }
@@ -465,27 +415,22 @@ pub extern "C" fn nlroute_code_text(code: isize, out: &mut [u8]) -> isize
     answer_of(store_code_text(code, out))
 }
 
-/// Stores the text of an error in `out`, as far as there is room before a NUL, and the NUL, such as `error at 8:
-/// IFLA_BR_HELLO_TIME has 3 bytes, expected 4`. Returns the length of the whole text, at most `isize::MAX`. Does not
-/// allocate.
+/// Stores the text of an error, such as `error at 8: IFLA_BR_HELLO_TIME has 3 bytes, expected 4`. The length is at most
+/// `isize::MAX`.
 ///
 /// # Errors
 ///
-/// -5 if `family` is not the number of a `Family`, -7 if the numbers are not those of an error in a list. Then `out` has
-/// the empty text.
+/// -7 if the numbers are not those of an error in a list.
 #[unsafe(no_mangle)]
 pub extern "C" fn nlroute_fault_text(family: u32, fault: &FirstError, out: &mut [u8]) -> isize
     ensures answer { AnswersBy family (ErrorTextAnswers fault.now out.old out.new) result }
     ensures empty { result <ℤ pos 0 → out.new ≡ cut_text [] out.old }
 {
-    match Family::from_number(family) {
-        Some(family) => answer_of(store_error_text(family, fault, out)),
-        None => answer_of(refuse(Refusal::NoFamily, out)),
-    }
+    text_by!(family, out, store_error_text(family, fault, out))
 }
 
 /// Returns whether the list in `bytes` is canonical, so that `nlroute_rewrite` outputs the same bytes. False if the input
-/// is malformed, or if `family` is not the number of a `Family`. Does not allocate.
+/// is malformed, or if `family` is not the number of a `Family`.
 #[unsafe(no_mangle)]
 pub extern "C" fn nlroute_is_canonical(family: u32, bytes: &[u8]) -> bool
     ensures { IsTrue result ↔ IsCanonicalFor family bytes.now }
@@ -496,20 +441,17 @@ pub extern "C" fn nlroute_is_canonical(family: u32, bytes: &[u8]) -> bool
     }
 }
 
-/// Stores the first decode error of the list in `bytes` in `error`, and returns 0. Does not allocate.
+/// Stores the first decode error of the list in `bytes` in `error`, and returns 0.
 ///
 /// # Errors
 ///
-/// -6 if the list has no error, -5 if `family` is not the number of a `Family`. On error `error` is unchanged.
+/// -6 if the list has no error.
 #[unsafe(no_mangle)]
 pub extern "C" fn nlroute_first_fault(family: u32, bytes: &[u8], error: &mut FirstError) -> isize
     ensures answer { AnswersFor family (ErrorAnswers bytes.now error.new) result }
     ensures unchanged { result <ℤ pos 0 → error.new ≡ error.old }
 {
-    match Family::from_number(family) {
-        Some(family) => answer_of(store_error(family, bytes, error)),
-        None => answer_of(Err(Refusal::NoFamily)),
-    }
+    answer_by!(family, store_error(family, bytes, error))
 }
 
 /// Writes the output of the program `nlroute FAMILY` for the input `text` to the start of `out`, and its exit status (0
@@ -517,8 +459,7 @@ pub extern "C" fn nlroute_first_fault(family: u32, bytes: &[u8], error: &mut Fir
 ///
 /// # Errors
 ///
-/// -3 if an allocation fails, -4 if `out` is too small, -5 if `family` is not the number of a `Family`. On error `out`
-/// and `status` are unchanged.
+/// -3 if an allocation fails, -4 if `out` is too small.
 #[unsafe(no_mangle)]
 pub extern "C" fn nlroute_report(
     alloc: Global,
@@ -530,8 +471,5 @@ pub extern "C" fn nlroute_report(
     ensures answer { AnswersFor family (ReportAnswers text.now out.old out.new status.new) result }
     ensures unchanged { result <ℤ pos 0 → (out.new ≡ out.old) × (status.new ≡ status.old) }
 {
-    match Family::from_number(family) {
-        Some(family) => answer_of(report_into(alloc, family, text, out, status)),
-        None => answer_of(Err(Refusal::NoFamily)),
-    }
+    answer_by!(family, report_into(alloc, family, text, out, status))
 }

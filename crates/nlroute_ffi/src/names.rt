@@ -5,7 +5,7 @@ ghost use Rattle.std.specs.Fmt.{decimal};
 ghost use Rattle.link_base.specs.Labels.{label_in};
 ghost use Rattle.nlroute_ffi.specs.Buffers.{cut_text, Stores};
 ghost use Rattle.nlroute_ffi.specs.Names.{is_indexed, has_indices, label_for, own_kind, number_name, flag_name};
-ghost use Rattle.nlroute_ffi.specs.Names.{kind_name, NumberNameAnswers, FlagNameAnswers};
+ghost use Rattle.nlroute_ffi.specs.Names.{KindNameAnswers, NumberNameAnswers, FlagNameAnswers};
 
 use crate::buffers::{refuse, store};
 use crate::refusal::Refusal;
@@ -19,17 +19,21 @@ use netlink_packet_route::{Family, FamilyElements, FamilySet};
 
 /// Stores the name of the attribute type of `value`; for an address of a list or a number of an array, its index.
 /// Returns the length of the whole name.
-pub(crate) fn store_kind_name(family: Family, value: &Entry, buffer: &mut [u8]) -> usize
-    ensures stored { Stores (kind_name family value.now) buffer.old buffer.new result }
-    ensures bounded { result < 2 ^ 63 }
+pub(crate) fn store_kind_name(
+    family: Family,
+    value: &Entry,
+    buffer: &mut [u8],
+) -> Result<usize, Refusal>
+    ensures answer { KindNameAnswers value.now buffer.old buffer.new family result }
+    ensures bounded { IfOk result (λ n. n < 2 ^ 63) }
 {
     if is_indexed(family, value) {
-        return store_number("[", value.inner, "]", buffer);
+        return Ok(store_number("[", value.inner, "]", buffer));
     }
-    match label_of(family, value) {
+    Ok(match label_of(family, value) {
         Some(label) => store(label.name.as_bytes(), buffer),
         None => store_number("type ", own_kind(value), "", buffer),
-    }
+    })
 }
 
 /// Stores the name of the number of `value`.

@@ -11,29 +11,29 @@ use crate::buffers::store;
 use link_entries::Misfit;
 use netlink_packet_route::RewriteError;
 
-/// Why a function returns no length and no count.
+/// Why a function returns no length and no count, with its error code.
 #[derive(Clone, Copy)]
 pub enum Refusal {
     /// The input is not a valid list of the attribute set.
-    Fault,
+    Fault = -1,
     /// A value does not fit in an attribute.
-    TooLong,
+    TooLong = -2,
     /// An allocation failed.
-    Memory,
+    Memory = -3,
     /// The output buffer is too small.
-    NoRoom,
+    NoRoom = -4,
     /// The number is not that of a `Family`.
-    NoFamily,
+    NoFamily = -5,
     /// The list does not have what was looked up.
-    Absent,
+    Absent = -6,
     /// The value has another form.
-    BadForm,
+    BadForm = -7,
     /// A number that its attribute cannot hold.
-    BadNumber,
+    BadNumber = -8,
     /// An element that does not follow a list of its attribute type.
-    BadElement,
+    BadElement = -9,
     /// The octets of the value are not within those that were passed, or not as many as its form has.
-    BadOctets,
+    BadOctets = -10,
 }
 
 /// Returns the `Refusal` for an error of re-encoding a list.
@@ -67,16 +67,7 @@ pub(crate) fn answer_of(outcome: Result<usize, Refusal>) -> isize
 {
     match outcome {
         Ok(count) => count as isize,
-        Err(Refusal::Fault) => -1,
-        Err(Refusal::TooLong) => -2,
-        Err(Refusal::Memory) => -3,
-        Err(Refusal::NoRoom) => -4,
-        Err(Refusal::NoFamily) => -5,
-        Err(Refusal::Absent) => -6,
-        Err(Refusal::BadForm) => -7,
-        Err(Refusal::BadNumber) => -8,
-        Err(Refusal::BadElement) => -9,
-        Err(Refusal::BadOctets) => -10,
+        Err(refusal) => refusal as isize,
     }
 }
 

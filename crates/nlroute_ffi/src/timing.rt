@@ -78,32 +78,19 @@ pub(crate) fn bit_timing(
     ensures zero { IfOk result (λ n. n ≡ 0) }
     ensures unchanged { OnErr result (timing.new ≡ timing.old) }
 {
-    match bytes_of(value, forms::BITTIMING, TIMING, octets) {
-        Ok(bytes) => {
-            let [
-                bitrate,
-                sample_point,
-                tq,
-                prop_seg,
-                phase_seg1,
-                phase_seg2,
-                sjw,
-                brp,
-            ] = u32s_at::<8>(bytes, 0);
-            *timing = BitTiming {
-                bitrate,
-                sample_point,
-                tq,
-                prop_seg,
-                phase_seg1,
-                phase_seg2,
-                sjw,
-                brp,
-            };
-            Ok(0)
-        }
-        Err(refusal) => Err(refusal),
-    }
+    let bytes = bytes_of(value, forms::BITTIMING, TIMING, octets)?;
+    let numbers = u32s_at::<8>(bytes, 0);
+    *timing = BitTiming {
+        bitrate: numbers[0],
+        sample_point: numbers[1],
+        tq: numbers[2],
+        prop_seg: numbers[3],
+        phase_seg1: numbers[4],
+        phase_seg2: numbers[5],
+        sjw: numbers[6],
+        brp: numbers[7],
+    };
+    Ok(0)
 }
 
 /// Stores the limits of a bit timing that `value` refers to, and returns 0. The name ends with a NUL: it is cut to 15 bytes.
@@ -121,34 +108,20 @@ pub(crate) fn timing_limits(
     ensures zero { IfOk result (λ n. n ≡ 0) }
     ensures unchanged { OnErr result (limits.new ≡ limits.old) }
 {
-    match bytes_of(value, forms::BITTIMING_CONST, LIMITS, octets) {
-        Ok(bytes) => {
-            let name = padded(front(before_nul(&bytes[..NAME]), NAME - 1));
-            let [
-                tseg1_min,
-                tseg1_max,
-                tseg2_min,
-                tseg2_max,
-                sjw_max,
-                brp_min,
-                brp_max,
-                brp_inc,
-            ] = u32s_at::<8>(bytes, NAME);
-            *limits = TimingLimits {
-                name,
-                tseg1_min,
-                tseg1_max,
-                tseg2_min,
-                tseg2_max,
-                sjw_max,
-                brp_min,
-                brp_max,
-                brp_inc,
-            };
-            Ok(0)
-        }
-        Err(refusal) => Err(refusal),
-    }
+    let bytes = bytes_of(value, forms::BITTIMING_CONST, LIMITS, octets)?;
+    let numbers = u32s_at::<8>(bytes, NAME);
+    *limits = TimingLimits {
+        name: padded(front(before_nul(&bytes[..NAME]), NAME - 1)),
+        tseg1_min: numbers[0],
+        tseg1_max: numbers[1],
+        tseg2_min: numbers[2],
+        tseg2_max: numbers[3],
+        sjw_max: numbers[4],
+        brp_min: numbers[5],
+        brp_max: numbers[6],
+        brp_inc: numbers[7],
+    };
+    Ok(0)
 }
 
 /// Returns the octets of `value`.

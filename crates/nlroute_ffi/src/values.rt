@@ -1,6 +1,6 @@
 //! Lists as arrays of values.
 
-ghost use Rattle.std.specs.Prelude.{◌≡◌, ◌≤◌, ◌<◌, ◌*◌, length, IfOk, OnErr, MatchResult};
+ghost use Rattle.std.specs.Prelude.{◌≡◌, ◌≤◌, ◌*◌, length, IfOk, OnErr};
 ghost use Rattle.nlroute_ffi.specs.Calls.{PlacesAnswers, ValuesAnswers, FindAnswers, FindInAnswers};
 
 use crate::refusal::Refusal;
@@ -39,7 +39,8 @@ pub(crate) fn store_values(
 {
     let room = places.len();
     match flatten(family, bytes, places) {
-        Ok(count) => within(count, room),
+        Ok(count) if count <= room => Ok(count),
+        Ok(_) => Err(Refusal::NoRoom),
         Err(_) => Err(Refusal::Fault),
     }
 }
@@ -93,19 +94,4 @@ pub(crate) fn find_element(
         Ok(None) => Err(Refusal::Absent),
         Err(_) => Err(Refusal::Fault),
     }
-}
-
-/// Returns `count` if it is at most `room`.
-///
-/// # Errors
-///
-/// `NoRoom` if it is greater.
-#[inline]
-fn within(count: usize, room: usize) -> Result<usize, Refusal>
-    ensures { MatchResult result (λ n. (n ≡ count) × (count ≤ room)) (λ e. (e ≡ Refusal.NoRoom) × (room < count)) }
-{
-    if count > room {
-        return Err(Refusal::NoRoom);
-    }
-    Ok(count)
 }

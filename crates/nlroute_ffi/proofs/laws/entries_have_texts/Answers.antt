@@ -1,11 +1,12 @@
-use Rattle.nlroute_ffi.proofs.AttributeTexts.{list_held, element_held, short_held, word_held, address_held}
+use Rattle.nlroute_ffi.specs.Shown.{HeadIsTold}
+use Rattle.nlroute_ffi.proofs.AttributeTexts.{of_list, element_told, short_held, word_held, address_held}
 use Rattle.nlroute_ffi.proofs.laws.entries_have_texts.Goals as goal
 
 pub returns-clause-attributes : goal.returns-clause-attributes
-returns-clause-attributes c = list_held
+returns-clause-attributes c = λ family list es bytes flat. of_list family list (HeadIsTold family list) (λ x e es h. h.has) bytes es flat
 
 pub returns-clause-elements : goal.returns-clause-elements
-returns-clause-elements c = element_held
+returns-clause-elements c = λ family list kind offset flagged b e bytes form at is. (element_told family list kind offset flagged b e bytes form at is).has
 
 pub returns-clause-shorts : goal.returns-clause-shorts
 returns-clause-shorts c = λ family list kind at i n named low. short_held family list kind i at n named low

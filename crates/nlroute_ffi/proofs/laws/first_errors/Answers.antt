@@ -1,8 +1,8 @@
-use Rattle.nlroute_ffi.proofs.FirstErrors.{list_fits, list_occurs, stored_found, stored_told}
+use Rattle.nlroute_ffi.proofs.FirstErrors.{list_occurs, fault_fits, stored_found, stored_told}
 use Rattle.nlroute_ffi.proofs.laws.first_errors.Goals as goal
 
 pub returns-clause-listed : goal.returns-clause-listed
-returns-clause-listed c = list_fits
+returns-clause-listed c = λ table s at fault bytes h. fault_fits fault (list_occurs table s at fault bytes h)
 
 pub returns-clause-occurs : goal.returns-clause-occurs
 returns-clause-occurs c = list_occurs
