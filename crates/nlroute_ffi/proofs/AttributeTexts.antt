@@ -22,6 +22,7 @@ use Rattle.link_base.specs.Table.{Row, Shape, One, Nested, Addresses, Table, Giv
 use Rattle.link_base.specs.WellFormed.{is_shape, is_table}
 use Rattle.link_base.specs.Borrowed.{HasValue, Borrows, form_of, elements_at, HasContent}
 use Rattle.link_base.proofs.Coherence.{row_told, row_passes_all, elements_formed}
+use Rattle.link_base.proofs.ContentBy.{one_accepted, single_shape}
 use Rattle.link_base.proofs.Entries.{class_of_row, form_of_row, label_of_row, class_of_none, form_of_none, label_of_none}
 use Rattle.link_base.proofs.Values.{bytes-take, bytes-drop}
 use Rattle.link_messages.specs.Walk.{Item, Walks}
@@ -46,7 +47,7 @@ use Rattle.link_entries.proofs.RowForms.{is_list, with_kind, value_kind, value_n
 use Rattle.link_entries.proofs.EntryFields.{Keeps, keeps_filled}
 use Rattle.link_entries.proofs.BackValues.{StandsAt, right_form, passed_back, number_back, address_back}
 use Rattle.link_entries.proofs.BackClasses.{class_back}
-use Rattle.link_entries.proofs.BackSingles.{entry_by, list_back, value_read}
+use Rattle.link_entries.proofs.BackSingles.{entry_by, list_back}
 use Rattle.nlroute_ffi.specs.Names.{own_kind}
 use Rattle.nlroute_ffi.specs.ValueText.{address_form, element_by, element_label, own_label, fields_for, payload_by, Shows, has_elements, IsContentBy, IsContent, plain_label, label_or_plain, IsText, IsEntryText}
 use Rattle.nlroute_ffi.specs.Shown.{has_numbers, IsTextOf, HasText, IsAt}
@@ -54,13 +55,6 @@ use Rattle.nlroute_ffi.proofs.ShownBytes.{shown_again, value_of, single_of}
 use Rattle.nlroute_ffi.proofs.EntryTexts.{borrows_back, limits_front}
 
 -- ---- the row of an attribute type
-
--- a payload that decodes has an accepted length
-accepts_of : (table : Table) (f : ℕ) (p : List ℕ) (c : Class) → class_at table (kind_of f) ≡ Some (One c) → HasValue table f p → length_cause (extent c) (length p) ≡ None
-accepts_of table f p c class has = by_cause (length_cause (extent c) (length p)) refl where
-  by_cause : (o : Option Cause) → length_cause (extent c) (length p) ≡ o → length_cause (extent c) (length p) ≡ None
-  by_cause None q = q
-  by_cause (Some cause) q = absurd (has (λ w. let was = value_read c (kind_of f) p w.0 (subst (λ s. GivesBy s f p (Ok w.0)) class w.1) in absurd (cc (was.accepted, q))))
 
 -- what an entry spells, as the attribute b of a list of this table, if this is known of its type
 pub record Told (table : Table) (b : NlaBuffer) (list : List ℕ) (label : Option Label) (e : Entry) : Type 0 where
@@ -88,13 +82,6 @@ list_fields forms.U32s h = refl
 list_fields (forms.Addresses size) h = refl
 list_fields (forms.List flagged) h = refl
 list_fields form h = absurd cc
-
--- the shape of a form that is no list
-single_shape : (form : Form) (names : List (ℕ × List ℕ)) (shape : Shape) → is_single form ≡ true → IsShapeOf form names shape → shape ≡ One (class_by form names)
-single_shape form names (One c) single h = ap One h.1
-single_shape (forms.List told) names (Nested flagged rows) single h = absurd cc
-single_shape (forms.Addresses told) names (Addresses n) single h = absurd cc
-single_shape form names shape single h = absurd h
 
 -- numbers with entries of their own are in lists, and lists have no text
 no_numbers : (x : Content) → is_list (fields_in (form_of x)) ≡ false → has_numbers x ≡ false
@@ -176,7 +163,7 @@ module _ (table : Table) (formed : is_table table ≡ true) (b : NlaBuffer) (n :
         class = class_of_row table k r row ∙ ap Some (single_shape r.form r.names r.class (single_of r.form plain) (row_told table k r formed row))
 
         accepted : length_cause (extent (class_by r.form r.names)) (length p) ≡ None
-        accepted = accepts_of table f p c class has.decodes
+        accepted = one_accepted table f p c class has.decodes
 
         entry : new ≡ with_kind (fields_by (kind_field_of b) (Some r.form) (meant (class_by r.form r.names) (payload_of_frame b)) n e) (kind_of (kind_field_of b))
         entry = ap (λ d. with_kind d k) (entry_by table b x has n e (Some r.form) (Some (One c)) named class)

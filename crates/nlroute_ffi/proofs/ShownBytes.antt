@@ -14,9 +14,13 @@ use Rattle.link_base.specs.Forms.{bytes_in}
 use Rattle.link_base.specs.Class.{AtLeast, extent, length_cause}
 use Rattle.link_base.specs.Coherent.{is_single}
 use Rattle.link_base.specs.Payloads.{class_by}
+use Rattle.link_base.specs.Table.{One}
+use Rattle.link_base.specs.Borrowed.{Borrows, BorrowsBy}
+use Rattle.link_base.specs.declared.views.content.Content.{Content}
 use Rattle.link_base.proofs.Numbers.{length-bytes_of}
 use Rattle.link_base.proofs.Orders.{length-bytes_by}
 use Rattle.link_base.proofs.ClassLemmas.{at_size}
+use Rattle.link_base.proofs.ContentBy.{by_shape}
 use Rattle.link_base.specs.Orders.{bytes_by}
 use Rattle.link_show.specs.Value.{Label, form_in}
 use Rattle.link_entries.specs.declared.entry.Entry.{Entry}
@@ -76,8 +80,8 @@ pair_length n a b false = omega (arith, length-append (bytes_of n a) (bytes_of n
 
 few_bytes : (own : Fields) (e : Entry) (octets p : List ℕ) → length e.octets ≡ 16 → is_passed own ≡ false → payload_of own e octets ≡ Ok p → length p ≤ 16
 few_bytes fields.Empty e octets p held other h = omega (arith, ap length (same_these [] p (content_ok fields.Empty e octets p h)))
-few_bytes (fields.Number form w order most) e octets p held other h =
-    let own = (only_held (nat_le e.number most) BadNumber (bytes_by order (bytes_in w) e.number) p (content_ok (fields.Number form w order most) e octets p h)).1 in
+few_bytes (fields.Number form w most order) e octets p held other h =
+    let own = (only_held (nat_le e.number most) BadNumber (bytes_by order (bytes_in w) e.number) p (content_ok (fields.Number form w most order) e octets p h)).1 in
     omega (arith, ap length own, length-bytes_by order (bytes_in w) e.number, few_in w)
 few_bytes fields.Signed e octets p held other h = omega (arith, ap length (only_held _ BadNumber (bytes_of 4 e.number) p (content_ok fields.Signed e octets p h)).1, length-bytes_of 4 e.number)
 few_bytes (fields.Shorts form second_first) e octets p held other h =
@@ -155,6 +159,10 @@ pub single_of : (form : Form) → has_elements form ≡ false → is_single form
 single_of (forms.Addresses n) h = absurd cc
 single_of (forms.List flagged) h = absurd cc
 single_of form h = refl
+
+-- so the content by a form is that of its class
+pub single_content : (form : Form) (names : List (ℕ × List ℕ)) (p : List ℕ) (content : Content) → has_elements form ≡ false → BorrowsBy form p content → Borrows (Some (One (class_by form names))) p content
+single_content form names p content h borrows = by_shape form names (One (class_by form names)) p content (single_of form h, refl) borrows
 
 module _ (e : Entry) (octets s : List ℕ) (held : length e.octets ≡ 16) where
   size_of_value : (form : Form) → has_elements form ≡ false → is_limits (row_fields form) ≡ false → Shows (row_fields form) e octets s → length_cause (extent (class_by form [])) (length s) ≡ None

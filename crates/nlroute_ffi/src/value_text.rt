@@ -239,6 +239,7 @@ fn is_passed(fields: Fields) -> bool
 
 /// Returns the content of a payload of an attribute whose type has this label: nothing of a list, whose elements have texts of
 /// their own.
+#[tactic(auto, using(crate::proofs::ShownBytes::single_content))]
 fn content_in<'a>(label: Option<KindLabel>, payload: &'a [u8]) -> Content<'a>
     requires { HasSize (label_in label) (length payload.now) }
     ensures { IsContent (label_in label) payload.now result }
