@@ -7,13 +7,10 @@ pub mod Valued
 pub mod LinkParts
 pub mod DocumentParts
 pub mod OtherParts
-pub mod Depths
-pub mod DocumentDepths
 pub mod Oks
 pub mod Unbroken
 pub mod Keys
 pub mod Sound
-pub mod Fitting
 pub mod SoundLists
 pub mod SoundLinks
 pub mod Lines

@@ -1,6 +1,5 @@
 -- Loops that write tokens: what is written and what is left are the whole.
-use Rattle.std.proofs.Common.{◌≡◌, ◌≢◌, ℕ, suc, ◌+◌, ◌-◌, ◌*◌, ◌<◌, ◌≤◌, not, List, [], ◌∷◌, ◌++◌, map, drop, length, ap, sym, ◌∙◌, arith, slice_index_or, bit_and, append_assoc, Result, Ok, Err, OnOk}
-use Rattle.std.proofs.lemmas.Bool.{cond-true, cond-false, eq-eqb, ne_eqb}
+use Rattle.std.proofs.Common.{◌≡◌, ◌≢◌, ℕ, ◌+◌, ◌-◌, ◌*◌, ◌<◌, ◌≤◌, List, [], ◌∷◌, ◌++◌, map, drop, length, ap, sym, ◌∙◌, arith, slice_index_or, bit_and, append_assoc, Result, Ok, Err, OnOk}
 use Rattle.std.proofs.lemmas.List.{at_drop_more, at_drop_all}
 use Rattle.json.specs.Token.{Token, string, number, end_array}
 use Rattle.json.specs.Json.{string as string_json}
@@ -9,7 +8,8 @@ use Rattle.std.specs.Fmt.{decimal}
 use Rattle.link_base.specs.declared.rows.label.Name.{Name}
 use Rattle.link_base.specs.Labels.{names_in}
 use Rattle.link_base.specs.Layout.{number_at, numbers_at}
-use Rattle.link_show.specs.Flags.{set_names}
+use Rattle.link_show.proofs.Arrays.{numbers_more}
+use Rattle.link_show.proofs.FlagWords.{set_more, set_other}
 use Rattle.link_json.specs.Doc.{items_of, number_json}
 use Rattle.link_json.specs.Value.{names_json}
 
@@ -37,12 +37,6 @@ all_moved_then (Err e) old mid new whole left piece before cut wrote = wrote
 abbrev pub names_left : List Name → ℕ → ℕ → List Token
 names_left xs bits i = items_tokens (items_of (names_json (names_in (drop i xs)) bits))
 
-set_more : (x : Name) (xs : List Name) (bits : ℕ) → bit_and bits x.number ≢ 0 → set_names (names_in (x ∷ xs)) bits ≡ (x.number, x.text.now) ∷ set_names (names_in xs) bits
-set_more x xs bits h = cond-true _ _ _ (ap not (ne_eqb _ _ h))
-
-set_other : (x : Name) (xs : List Name) (bits : ℕ) → bit_and bits x.number ≡ 0 → set_names (names_in (x ∷ xs)) bits ≡ set_names (names_in xs) bits
-set_other x xs bits h = cond-false _ _ _ (ap not (eq-eqb _ _ h))
-
 pub name_more : (xs : List Name) (i bits : ℕ) (d : Name) → i < length xs → bit_and bits (slice_index_or xs i d).number ≢ 0
     → names_left xs bits i ≡ string (slice_index_or xs i d).text.now ∷ names_left xs bits (i + 1)
 name_more xs i bits d lt h =
@@ -64,12 +58,7 @@ abbrev pub numbers_left : ℕ → ℕ → ℕ → List ℕ → List Token
 numbers_left width n i p = items_tokens (items_of (map number_json (numbers_at width (n - i) (i * width) p)))
 
 pub number_more : (width n i k : ℕ) (p : List ℕ) → i < n → k ≡ number_at width (i * width) p → numbers_left width n i p ≡ number (decimal k) ∷ numbers_left width n (i + 1) p
-number_more width n i k p h e =
-    let left : n - i ≡ suc (n - (i + 1)) = omega (arith, h) in
-    let next : i * width + width ≡ (i + 1) * width = omega arith in
-    ap (λ m. items_tokens (items_of (map number_json (numbers_at width m (i * width) p)))) left
-    ∙ ap (λ at. number (decimal (number_at width (i * width) p)) ∷ items_tokens (items_of (map number_json (numbers_at width (n - (i + 1)) at p)))) next
-    ∙ ap (λ m. number (decimal m) ∷ numbers_left width n (i + 1) p) (sym e)
+number_more width n i k p h e = ap (λ ns. items_tokens (items_of (map number_json ns))) (numbers_more width n i k p h e)
 
 pub numbers_done : (width n i : ℕ) (p : List ℕ) → n ≤ i → numbers_left width n i p ≡ end_array ∷ []
 numbers_done width n i p h = let none : n - i ≡ 0 = omega (arith, h) in ap (λ m. items_tokens (items_of (map number_json (numbers_at width m (i * width) p)))) none

@@ -1,10 +1,11 @@
 -- What documents say of errors.
-use Rattle.std.proofs.Common.{◌≡◌, ℕ, Bool, true, false, ◌&&◌, not, List, [], ◌∷◌, ◌++◌, Option, Some, None, refl, sym, ap, subst, ◌∙◌, append_assoc, codes}
-use Rattle.std.specs.List.{flat_map, list_all, AllZip}
+use Rattle.std.proofs.Common.{ℕ, Bool, true, false, ◌&&◌, not, List, [], ◌∷◌, ◌++◌, Option, Some, None, refl, sym, ap, subst, ◌∙◌, append_assoc, codes}
+use Rattle.std.specs.List.{AllByRecursion}
+use Rattle.std.proofs.Math.Bool.{and_assoc}
 use Rattle.std.specs.Option.{is_some}
 use Rattle.json.specs.Json.{Json, boolean, string}
 use Rattle.link_messages.specs.declared.buffer_parts.Message.{Message}
-use Rattle.link_show.specs.List.{EachShown}
+use Rattle.link_show.proofs.Listing.{each_hold}
 use Rattle.netlink_packet_route.specs.declared.family.Family.{Family}
 use Rattle.netlink_packet_route.specs.Family.{family_name}
 use Rattle.link_json.specs.Doc.{Field, object_of, array_of, at_json}
@@ -12,10 +13,6 @@ use Rattle.link_json.specs.Message.{ShowsMessage, ShowsMessages, ShowsEnd, Ended
 use Rattle.link_json.specs.Value.{text_json}
 use Rattle.link_json.specs.Ok.{SaysOk, SayOk}
 use Rattle.link_json.specs.Other.{ShowsListDocument, ShowsCheck, IsCanonical, IsNot, fault_document, check_document}
-
-and_assoc : (a b c : Bool) → ((a && b) && c) ≡ (a && (b && c))
-and_assoc true b c = refl
-and_assoc false b c = refl
 
 -- a whole document says so
 pub document_says : (place fields : List Field) (well : Bool) → SaysOk (whole_document place fields well) well
@@ -31,17 +28,10 @@ pub and_say : (a b : List Json) (v w : Bool) → SayOk a v → SayOk b w → Say
 and_say [] b v w h k = subst (λ x. SayOk b (x && w)) (sym h) k
 and_say (j ∷ a) b v w (well, rest, says, others, e) k = (well, rest && w, says, and_say a b rest w others k, ap (λ x. x && w) e ∙ and_assoc well rest w)
 
--- those of several items
-pub each_say : {X : Type 0} (shows : X → List Json → Bool → Type 0) → ((x : X) (js : List Json) (well : Bool) → shows x js well → SayOk js well)
-    → (xs : List X) (answers : List (List Json × Bool)) → AllZip (λ x a. shows x a.0 a.1) xs answers → SayOk (flat_map (λ a. a.0) answers) (list_all (λ a. a.1) answers)
-each_say shows says [] [] h = refl
-each_say shows says [] (a ∷ answers) h = absurd h
-each_say shows says (x ∷ xs) [] h = absurd h
-each_say shows says (x ∷ xs) (a ∷ answers) h = and_say a.0 (flat_map (λ a. a.0) answers) a.1 (list_all (λ a. a.1) answers) (says x a.0 a.1 h.0) (each_say shows says xs answers h.1)
-
-pub shown_say : {X : Type 0} (shows : X → List Json → Bool → Type 0) → ((x : X) (js : List Json) (well : Bool) → shows x js well → SayOk js well)
-    → (xs : List X) (js : List Json) (whole : Bool) → EachShown shows xs js whole → SayOk js whole
-shown_say shows says xs js whole h = subst (λ l. SayOk l whole) (sym h.joined) (subst (SayOk (flat_map (λ a. a.0) h.answers)) (sym h.all) (each_say shows says xs h.answers h.each))
+-- those of several messages
+each_message : (messages : List Message) → AllByRecursion (λ m. Unit {0}) messages
+each_message [] = tt
+each_message (m ∷ messages) = (tt, each_message messages)
 
 message_says : (place : List Field) (m : Message) (js : List Json) (well : Bool) → ShowsMessage place m js well → SayOk js well
 message_says place m js well (j, (body, shown, is), one) =
@@ -61,7 +51,7 @@ pub messages_say : (place : List Field) (s : List ℕ) (js : List Json) (whole :
 messages_say place s js whole h =
     subst (λ l. SayOk l whole) (sym h.joined)
     (subst (SayOk (h.front ++ h.last)) (sym h.all)
-    (and_say h.front h.last h.front_well h.last_well (shown_say (ShowsMessage place) (message_says place) h.messages h.front h.front_well h.each) (end_says place s h.end h.last h.last_well h.at_end)))
+    (and_say h.front h.last h.front_well h.last_well (each_hold (λ m. Unit {0}) (ShowsMessage place) SayOk refl and_say (λ m js well t shown. message_says place m js well shown) h.messages h.front h.front_well (each_message h.messages) h.each) (end_says place s h.end h.last h.last_well h.at_end)))
 
 pub fault_says : (place : List Field) (at : Option ℕ) (text : List ℕ) → SaysOk (fault_document place at text) false
 fault_says place at text = document_says place ((codes "error", object_of ((codes "at", at_json at) ∷ (codes "text", text_json text) ∷ [])) ∷ []) false

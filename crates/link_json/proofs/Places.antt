@@ -1,12 +1,11 @@
 -- Members that say where documents are from. Another crate shows that its own are a place with `place`, on literal keys:
--- `place members refl (field_sound (number_sound n small) no_fields) (omega arith)` for one member, a number n.
-use Rattle.std.proofs.Common.{◌≡◌, ◌≤◌, true, List, ◌++◌}
+-- `place members refl (field_sound (number_sound n (λ k. small)) no_fields)` for one member, a number n.
+use Rattle.std.proofs.Common.{◌≡◌, true, List, ◌++◌}
 use Rattle.json.specs.Strict.{keys}
-use Rattle.json.specs.Tree.{members_depth}
 use Rattle.link_json.specs.Doc.{Field, members_of}
 use Rattle.link_json.specs.Line.{IsPlace, document_keys}
 use Rattle.link_json.proofs.Keys.{are_distinct, distinct}
 use Rattle.link_json.proofs.Sound.{AreSound}
 
-pub place : (members : List Field) → are_distinct (keys (members_of members) ++ document_keys) ≡ true → AreSound members → members_depth (members_of members) ≤ 127 → IsPlace members
-place members e h shallow = record { distinct = distinct (keys (members_of members) ++ document_keys) e; unique = h.unique; numbers = h.numbers; shallow = shallow }
+pub place : (members : List Field) → are_distinct (keys (members_of members) ++ document_keys) ≡ true → AreSound (Unit {0}) 127 members → IsPlace members
+place members e h = record { distinct = distinct (keys (members_of members) ++ document_keys) e; unique = h.unique tt; numbers = h.numbers tt; shallow = h.shallow }

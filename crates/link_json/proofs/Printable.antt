@@ -1,24 +1,19 @@
 -- The texts of documents are printable, and printable texts are UTF-8.
-use Rattle.std.proofs.Common.{◌≡◌, ◌≢◌, ℕ, zero, suc, ◌/◌, ◌%◌, ◌==◌, ◌<◌, Bool, true, false, ◌&&◌, List, [], ◌∷◌, refl, arith, map, take, drop, length, slice_index, codes}
+use Rattle.std.proofs.Common.{◌≡◌, ◌≢◌, ℕ, zero, suc, ◌/◌, ◌%◌, ◌<◌, Bool, true, false, List, [], ◌∷◌, refl, arith, map, take, drop, length, slice_index, codes}
 use Rattle.std.specs.Prelude.{nat_lt, IsAscii, IsUtf8}
 use Rattle.std.specs.Char.{to_ascii_lowercase}
 use Rattle.std.specs.List.{list_all}
 use Rattle.std.specs.Str.{bytes_eq, is_utf8}
-use Rattle.std.specs.Net.Addr.{segments_of}
 use Rattle.std.proofs.lemmas.Bool.{and_parts, ltb-true, cond-true, cond-false}
 use Rattle.std.proofs.lemmas.Bool.Decides.{nat_tests}
 use Rattle.std.proofs.lemmas.Str.{IsUtf8-from_ascii, IsUtf8-from_is_utf8, is_utf8-from_IsUtf8}
 use Rattle.json.specs.Json.{string}
 use Rattle.hex.specs.Hex.{encode_with, encode_lower, lower_digits}
-use Rattle.link_base.specs.Number.{IsBytes}
 use Rattle.link_base.specs.WellFormed.{is_printable}
-use Rattle.link_show.specs.List.{ip_text}
 use Rattle.link_show.specs.Octets.{byte_text, address_text}
 use Rattle.link_show.specs.Printable.{IsText}
-use Rattle.link_show.specs.Structs.{bridge_id_text}
 use Rattle.link_show.specs.Text.{joined}
-use Rattle.link_show.proofs.Printing.{text, and, either, joined_text, mapped, byte_digits, hex_bytes, address_digits, ipv4_is_text, ipv6_is_text}
-use Rattle.link_show.proofs.ValuePrinting.{segments_bound}
+use Rattle.link_show.proofs.Printing.{text, none, one, either, joined_text, mapped, byte_digits}
 use Rattle.link_json.specs.Names.{without, short_name}
 use Rattle.link_json.specs.Value.{text_json, opaque_json}
 
@@ -38,13 +33,6 @@ text_utf8 t h = IsUtf8-from_ascii t (all_ascii t h.printable)
 
 -- ---- hexadecimal
 
-and_true : (a b : Bool) → a ≡ true → b ≡ true → (a && b) ≡ true
-and_true true b g h = h
-and_true false b g h = g
-
-one : (b : ℕ) (t : List ℕ) → is_printable b ≡ true → list_all is_printable t ≡ true → list_all is_printable (b ∷ t) ≡ true
-one b t g h = and_true (is_printable b) (list_all is_printable t) g h
-
 all_at : (t : List ℕ) (i : ℕ) → list_all is_printable t ≡ true → i < length t → is_printable (slice_index t i) ≡ true
 all_at [] i h k = absurd (omega (arith, k))
 all_at (b ∷ t) zero h k = (and_parts (is_printable b) (list_all is_printable t) h).0
@@ -53,17 +41,10 @@ all_at (b ∷ t) (suc i) h k = all_at t i (and_parts (is_printable b) (list_all 
 digit : (d : ℕ) → d < 16 → is_printable (slice_index lower_digits d) ≡ true
 digit d h = all_at lower_digits d refl h
 
-encoded : (bytes : List ℕ) → ((i : ℕ) → slice_index bytes i < 256) → list_all is_printable (encode_lower bytes) ≡ true
-unfolding encode_with
-encoded [] h = refl
-encoded (b ∷ bytes) h =
-    let k = h 0 in
-    let rest = encode_lower bytes in
-    one (slice_index lower_digits (b / 16)) (slice_index lower_digits (b % 16) ∷ rest) (digit (b / 16) (omega (arith, k)))
-    (one (slice_index lower_digits (b % 16)) rest (digit (b % 16) (omega arith)) (encoded bytes (λ i. h (suc i))))
-
 pub encoded_text : (bytes : List ℕ) → ((i : ℕ) → slice_index bytes i < 256) → IsText (encode_lower bytes)
-encoded_text bytes h = text (encoded bytes h)
+unfolding encode_with
+encoded_text [] h = none
+encoded_text (b ∷ bytes) h = let k = h 0 in one (digit (b / 16) (omega (arith, k))) (one (digit (b % 16) (omega arith)) (encoded_text bytes (λ i. h (suc i))))
 
 -- ---- names
 
@@ -74,9 +55,9 @@ lower b h =
     let high = ltb-true b 127 k.1 in
     grind (arith, nat_tests, low, high)
 
-all_lower : (t : List ℕ) → list_all is_printable t ≡ true → list_all is_printable (map to_ascii_lowercase t) ≡ true
-all_lower [] h = refl
-all_lower (b ∷ t) h = let k = and_parts (is_printable b) (list_all is_printable t) h in one (to_ascii_lowercase b) (map to_ascii_lowercase t) (lower b k.0) (all_lower t k.1)
+all_lower : (t : List ℕ) → list_all is_printable t ≡ true → IsText (map to_ascii_lowercase t)
+all_lower [] h = none
+all_lower (b ∷ t) h = let k = and_parts (is_printable b) (list_all is_printable t) h in one (lower b k.0) (all_lower t k.1)
 
 all_after : (n : ℕ) (t : List ℕ) → list_all is_printable t ≡ true → list_all is_printable (drop n t) ≡ true
 all_after zero t h = h
@@ -86,7 +67,7 @@ all_after (suc n) (b ∷ t) h = all_after n t (and_parts (is_printable b) (list_
 pub short_text : (prefix name : List ℕ) → IsText name → IsText (short_name prefix name)
 short_text prefix name h =
     let rest : IsText (without prefix name) = either (bytes_eq (take (length prefix) name) prefix) (text (all_after (length prefix) name h.printable)) h in
-    text (all_lower (without prefix name) rest.printable)
+    all_lower (without prefix name) rest.printable
 
 -- ---- addresses
 
@@ -96,15 +77,6 @@ octets_text bytes = joined_text (codes ":") (map byte_text bytes) (text refl) (m
 pub some_octets : (bytes : List ℕ) → length bytes ≢ 0 → address_text bytes ≡ joined (codes ":") (map byte_text bytes)
 some_octets [] h = absurd (h refl)
 some_octets (b ∷ bytes) h = refl
-
-pub ip_is_text : (bytes : List ℕ) → IsBytes bytes → IsText (ip_text bytes)
-unfolding ip_text
-ip_is_text bytes h =
-    either (length bytes == 4) (ipv4_is_text bytes) (either (length bytes == 16) (ipv6_is_text (segments_of bytes) (segments_bound bytes h)) (hex_bytes bytes))
-
-pub bridge_id_is_text : (bytes : List ℕ) → IsText (bridge_id_text bytes)
-unfolding bridge_id_text
-bridge_id_is_text bytes = either (nat_lt (length bytes) 8) (hex_bytes bytes) (and (hex_bytes (take 2 bytes)) (and {s = codes "."} (text refl) (address_digits (take 6 (drop 2 bytes)))))
 
 -- ---- texts of any bytes
 

@@ -24,7 +24,8 @@ use Rattle.link_show.specs.MessageNames.{address_families, device_types, device_
 use Rattle.link_json.specs.Doc.{Field, object_of, array_of, number_json, signed_json, element_json}
 use Rattle.link_json.specs.Names.{short_name}
 use Rattle.link_json.specs.Value.{text_json, address_json, enum_json, flags_json, raw_json}
-use Rattle.link_json.specs.List.{ShowsEach, ShowsList}
+use Rattle.link_show.specs.List.{ShowsEach}
+use Rattle.link_json.specs.List.{ShowsList, end_json}
 
 -- ---- names
 
@@ -104,7 +105,7 @@ ShowsAt shows base x js well = (j : Json) × shows (base + x.0) x.1 j well × (j
 
 -- the elements for such a list
 abbrev pub ShowsAll : (ℕ → NlaBuffer → Json → Bool → Type 0) → Stretch → List Json → Bool → Type 0
-ShowsAll shows list = ShowsEach (ShowsAt shows list.0) list.0 list.1
+ShowsAll shows list = ShowsEach (ShowsAt shows list.0) (end_json list.0) list.1
 
 -- ---- IFLA_LINKINFO
 

@@ -1,5 +1,5 @@
 -- The JSON of lists of attributes: an element for each, in order.
-use Rattle.std.specs.Prelude.{◌≡◌, ℕ, ◌+◌, ◌==◌, Bool, true, false, ◌&&◌, List, [], ◌∷◌, ◌++◌, length, Option, Some, None, Err, codes, if◌then◌else◌}
+use Rattle.std.specs.Prelude.{◌≡◌, ℕ, ◌+◌, ◌==◌, Bool, true, false, List, [], ◌∷◌, ◌++◌, length, Option, Some, None, Err, codes, if◌then◌else◌}
 use Rattle.std.specs.List.{flat_map}
 use Rattle.json.specs.Token.{Token}
 use Rattle.json.specs.Json.{Json, string}
@@ -17,7 +17,7 @@ use Rattle.netlink_packet_route.specs.declared.family.Family.{Family}
 use Rattle.netlink_packet_route.specs.Family.{table_of}
 use Rattle.link_messages.specs.Walk.{Item, Walk}
 use Rattle.link_show.specs.Fault.{cause_words, fault_text}
-use Rattle.link_show.specs.List.{EachShown, label_for, ip_text, is_well}
+use Rattle.link_show.specs.List.{EachShown, ShowsEach, label_for, ip_text}
 use Rattle.link_show.specs.Value.{Label}
 use Rattle.link_json.specs.Doc.{object_of, array_of, each_tokens, error_json}
 use Rattle.link_json.specs.Names.{prefix_of, element_prefix}
@@ -90,33 +90,24 @@ pub data ShowsItem (family : Family) (base : ℕ) (x : Item) (js : List Json) (w
   Fails : (fault : DecodeFault) → Gives (table_of family) (kind_field_of x.1) (payload_of x.1) (Err fault) → js ≡ fault_json (base + x.0) (fault_text (table_of family) fault) ∷ [] → well ≡ false
       → ShowsItem family base x js well
 
--- the elements for a list that starts at offset `base`, each attribute shown so: one for each, in order, and one for what is
--- malformed; and whether none is an error
-pub record ShowsEach (shows : Item → List Json → Bool → Type 0) (base : ℕ) (list : List ℕ) (js : List Json) (whole : Bool) : Type 0 where
-  pub items : List Item
-  pub fault : Option (ℕ × Cause)
-  pub walk : Walk list items fault
-  pub front : List Json
-  pub well : Bool
-  pub each : EachShown shows items front well
-  pub joined : js ≡ front ++ end_json base fault
-  pub all : whole ≡ (well && is_well fault)
-
 -- the elements for a list of an attribute set that starts at offset `base`
 abbrev pub ShowsList : Family → ℕ → List ℕ → List Json → Bool → Type 0
-ShowsList family base list = ShowsEach (ShowsItem family base) base list
+ShowsList family base = ShowsEach (ShowsItem family base) (end_json base)
 
 -- ---- what functions write
 
 -- elements were written
+abbrev pub Adds : List Token → List Token → List Json → Type 0
+Adds old new js = new ≡ old ++ each_tokens js
+
 abbrev pub Writes : (List Json → Bool → Type 0) → List Token → List Token → Bool → Type 0
-Writes shows old new well = (js : List Json) × shows js well × (new ≡ old ++ each_tokens js)
+Writes shows old new well = (js : List Json) × shows js well × Adds old new js
 
 abbrev pub WritesElements : List ℕ → Table → List ℕ → List Token → List Token → Type 0
-WritesElements prefix table list old new = (js : List Json) × ShowsElements prefix table list js × (new ≡ old ++ each_tokens js)
+WritesElements prefix table list old new = (js : List Json) × ShowsElements prefix table list js × Adds old new js
 
 abbrev pub WritesAddresses : ℕ → List ℕ → List Token → List Token → Type 0
-WritesAddresses size list old new = (js : List Json) × ShowsAddresses size list js × (new ≡ old ++ each_tokens js)
+WritesAddresses size list old new = (js : List Json) × ShowsAddresses size list js × Adds old new js
 
 -- a value was written, and whether it has no error
 abbrev pub WritesValue : (Json → Bool → Type 0) → List Token → List Token → Bool → Type 0

@@ -1,5 +1,5 @@
 -- The JSON of messages: a document for each.
-use Rattle.std.specs.Prelude.{◌≡◌, ◌≢◌, ℕ, ℤ, ◌+◌, Bool, true, false, ◌&&◌, ◌||◌, is_some, List, [], ◌∷◌, ◌++◌, length, drop, Option, Some, None, Result, Ok, Err, codes, if◌then◌else◌}
+use Rattle.std.specs.Prelude.{◌≡◌, ◌≢◌, ℕ, ℤ, ◌+◌, Bool, true, false, ◌||◌, is_some, List, [], ◌∷◌, ◌++◌, length, drop, Option, Some, None, Result, Ok, Err, codes, if◌then◌else◌}
 use Rattle.std.specs.List.{flat_map}
 use Rattle.std.specs.Option.{option_copied}
 use Rattle.std.specs.Io.KnownBytes.{Appends}
@@ -12,12 +12,11 @@ use Rattle.link_messages.specs.declared.buffer_parts.Payload.{Payload}
 use Rattle.link_messages.specs.declared.message.MessageError.{MessageError}
 use Rattle.link_messages.specs.declared.header.LinkHeader.{LinkHeader}
 use Rattle.link_messages.specs.declared.acknowledgement.Acknowledgement.{Acknowledgement}
-use Rattle.link_messages.specs.Message.{Stand, IsMessageAt, header_fault, packet_of}
+use Rattle.link_messages.specs.Message.{IsMessageAt, header_fault, packet_of}
 use Rattle.link_messages.specs.Header.{IsAnyLinkType, HasLinkHeader, HasNoLinkHeader}
 use Rattle.link_messages.specs.Link.{attributes_of}
 use Rattle.link_messages.specs.Acknowledgement.{IsReplyType, IsAcknowledgement, IsNoAcknowledgement}
-use Rattle.link_show.specs.List.{EachShown}
-use Rattle.link_show.specs.Message.{reason_text, offset_of, errno_name, has_result, is_sound, IsGeneral, AreZerosAfter}
+use Rattle.link_show.specs.Message.{reason_text, offset_of, errno_name, has_result, is_sound, IsGeneral, AreZerosAfter, ShowsBuffer}
 use Rattle.link_show.specs.MessageNames.{message_types, flags_of}
 use Rattle.link_json.specs.declared.messages.Failure.{Failure}
 use Rattle.link_json.specs.declared.messages.Failure.TheVariants.{Memory, Writer}
@@ -124,18 +123,8 @@ pub data ShowsEnd (place : List Field) (s : List ℕ) (at : ℕ) (js : List Json
       → js ≡ whole_document place (message_error error ∷ []) false ∷ [] → well ≡ false → ShowsEnd place s at js well
 
 -- the documents for the messages of a buffer, and whether none has an error
-pub record ShowsMessages (place : List Field) (s : List ℕ) (js : List Json) (whole : Bool) : Type 0 where
-  pub messages : List Message
-  pub end : ℕ
-  pub stand : Stand s 0 messages end
-  pub front : List Json
-  pub front_well : Bool
-  pub each : EachShown (ShowsMessage place) messages front front_well
-  pub last : List Json
-  pub last_well : Bool
-  pub at_end : ShowsEnd place s end last last_well
-  pub joined : js ≡ front ++ last
-  pub all : whole ≡ (front_well && last_well)
+abbrev pub ShowsMessages : List Field → List ℕ → List Json → Bool → Type 0
+ShowsMessages place s = ShowsBuffer (ShowsMessage place) (ShowsEnd place s) s
 
 -- a document as a line
 abbrev pub document_line : Json → List ℕ

@@ -125,11 +125,14 @@ fn write_any(
     ensures { OnOk result (WritesOne (ShowsContent (family_in (set_in value.now)) (label_of label.now) (buffer_in value.now) content.entry)
         sheet.old sheet.new) }
 {
-    let family = value.set().family;
-    let list = value.kind();
-    match value.elements_in(content, FamilyElements { family, list }) {
-        Some(elements) => write_nested(sheet, element_prefix(family, list), elements),
-        None => write_flat(sheet, label, content),
+    match content {
+        Content::List { list, .. } => {
+            let family = value.set().family;
+            let kind = value.kind();
+            let elements = View::of_checked(list, FamilyElements { family, list: kind });
+            write_nested(sheet, element_prefix(family, kind), elements)
+        }
+        _ => write_flat(sheet, label, content),
     }
 }
 

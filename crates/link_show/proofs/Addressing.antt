@@ -75,7 +75,8 @@ end_of : (n : ℕ) (rest : List ℕ) (c : Cause) → frame_fault rest ≡ Some c
 end_of n [] c e = (None, refl)
 end_of n (b ∷ rest) c e = (Some (n - length (b ∷ rest), c), ((λ h. cc), refl, e))
 
-walk_to : (list rest : List ℕ) (items : List Item) (c : Cause) → Walks (length list) list items rest → frame_fault rest ≡ Some c → (fault : Option (ℕ × Cause)) × Walk list items fault
+-- a list up to bytes that are no attribute
+pub walk_to : (list rest : List ℕ) (items : List Item) (c : Cause) → Walks (length list) list items rest → frame_fault rest ≡ Some c → (fault : Option (ℕ × Cause)) × Walk list items fault
 walk_to list rest items c w e = let end = end_of (length list) rest c e in (end.0, record { rest = rest; walks = w; end = end.1 })
 
 no_text : (texts : List (List ℕ)) → [] ≡ next_of [] (codes " ") texts → texts ≡ []

@@ -8,11 +8,11 @@ use Rattle.link_show.specs.Text.{after, hex_number}
 use Rattle.link_show.specs.Flags.{set_names, last_word, words_of}
 
 -- the names from one on whose bit is set
-set_more : (x : Name) (xs : List Name) (bits : ℕ) → bit_and bits x.number ≢ 0 → set_names (names_in (x ∷ xs)) bits ≡ (x.number, x.text.now) ∷ set_names (names_in xs) bits
+pub set_more : (x : Name) (xs : List Name) (bits : ℕ) → bit_and bits x.number ≢ 0 → set_names (names_in (x ∷ xs)) bits ≡ (x.number, x.text.now) ∷ set_names (names_in xs) bits
 set_more x xs bits h = cond-true _ _ _ (ap not (ne_eqb _ _ h))
 
 -- the names from one on whose bit is not set
-set_other : (x : Name) (xs : List Name) (bits : ℕ) → bit_and bits x.number ≡ 0 → set_names (names_in (x ∷ xs)) bits ≡ set_names (names_in xs) bits
+pub set_other : (x : Name) (xs : List Name) (bits : ℕ) → bit_and bits x.number ≡ 0 → set_names (names_in (x ∷ xs)) bits ≡ set_names (names_in xs) bits
 set_other x xs bits h = cond-false _ _ _ (ap not (eq-eqb _ _ h))
 
 -- the words from the name at an index on, if its bit is set

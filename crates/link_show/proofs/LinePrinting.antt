@@ -1,6 +1,6 @@
 -- The lines of lists are printable.
-use Rattle.std.proofs.Common.{◌≡◌, ℕ, zero, suc, ◌+◌, ◌-◌, ◌==◌, Bool, true, false, List, [], ◌∷◌, ◌++◌, length, drop, Option, Some, None, if◌then◌else◌, refl, sym, ap, ap₂, subst, ◌∙◌, codes, append_assoc}
-use Rattle.std.specs.List.{flat_map, AllZip, AllByRecursion}
+use Rattle.std.proofs.Common.{◌≡◌, ℕ, ◌+◌, ◌-◌, ◌==◌, Bool, true, false, List, [], ◌∷◌, ◌++◌, length, Option, Some, None, if◌then◌else◌, refl, sym, ap, ap₂, subst, ◌∙◌, codes, append_assoc}
+use Rattle.std.specs.List.{AllByRecursion}
 use Rattle.std.specs.Net.Addr.{segments_of}
 use Rattle.std.proofs.lemmas.List.{append-nil}
 use Rattle.std.proofs.lemmas.Grind.{flat_map-append}
@@ -10,32 +10,28 @@ use Rattle.link_base.specs.declared.views.content.Content.TheVariants as content
 use Rattle.link_base.specs.declared.wire.fault.Cause.{Cause}
 use Rattle.link_base.specs.Number.{IsBytes}
 use Rattle.link_base.specs.Frame.{kind_of}
-use Rattle.link_base.specs.Buffer.{kind_field_of, payload_of, frame_of}
-use Rattle.link_base.specs.Class.{Class, meant}
-use Rattle.link_base.specs.Class as classes
-use Rattle.link_base.specs.Table.{Shape, One, Nested, Addresses, Table}
-use Rattle.link_base.specs.Borrowed.{Says, SaysLimits, Borrows, elements_at, HasContent}
-use Rattle.link_base.proofs.FrameBytes.{bytes-payload}
-use Rattle.link_messages.specs.Walk.{Item, Walks, Walk}
+use Rattle.link_base.specs.Buffer.{kind_field_of, payload_of}
+use Rattle.link_base.specs.Table.{Table}
+use Rattle.link_base.specs.Borrowed.{elements_at, HasContent}
+use Rattle.link_base.proofs.Written.{all_append}
+use Rattle.link_messages.specs.Walk.{Item}
 use Rattle.link_show.specs.Value.{Label}
 use Rattle.link_show.specs.List.{indented, below, error_line, EachShown, type_flags, flags_after, head_text, has_text, attribute_text, label_for, ip_text, address_in, addresses_in, ShowsAddresses, ShowsElement, ShowsNested, Empty, Elements, ShowsMore, ShowsFlat, ShowsContent, ShowsItem, Decodes, Fails, end_line, ShowsList, ShowsVerdict, Unasked, IsCanonical, IsNot, ShowsChecked}
 use Rattle.link_show.specs.Printable.{IsText, AreTexts, has_texts}
+use Rattle.link_show.proofs.Fitting.{ContentFits, content_fits, ItemFits, walk_fits}
+use Rattle.link_show.proofs.Listing.{each_hold}
 use Rattle.link_show.proofs.Printing.{text, none, and, either, list_text_text, decimal_text, hex_bytes, ipv4_is_text, ipv6_is_text}
-use Rattle.link_show.proofs.ValuePrinting.{IsLabelText, HasOctets, choose, each_name, flags_is_text, label_is_text, elements_text, value_is_text, borrowed_octets, segments_bound, cause_is_text, fault_is_text}
+use Rattle.link_show.proofs.ValuePrinting.{IsLabelText, choose, each_name, flags_is_text, label_is_text, elements_text, value_is_text, segments_bound, cause_is_text, fault_is_text}
 
 -- ---- lines
 
 pub no_texts : AreTexts []
 no_texts = record { lines = []; each = tt; cut = refl }
 
-each_append : (xs ys : List (List ℕ)) → AllByRecursion IsText xs → AllByRecursion IsText ys → AllByRecursion IsText (xs ++ ys)
-each_append [] ys h k = k
-each_append (x ∷ xs) ys h k = (h.0, each_append xs ys h.1 k)
-
 pub and_texts : {s t : List ℕ} → AreTexts s → AreTexts t → AreTexts (s ++ t)
 and_texts h k = record {
   lines = h.lines ++ k.lines;
-  each = each_append h.lines k.lines h.each k.each;
+  each = all_append IsText h.lines k.lines h.each k.each;
   cut = ap₂ (λ a b. a ++ b) h.cut k.cut ∙ sym (flat_map-append (λ l. l ++ 10 ∷ []) h.lines k.lines);
 }
 
@@ -68,37 +64,13 @@ either_texts true h k = h
 either_texts false h k = k
 
 -- the outputs for several items
-module _ {X : Type 0} (P : X → Type 0) (shows : X → List ℕ → Bool → Type 0) (one : (x : X) (out : List ℕ) (well : Bool) → P x → shows x out well → AreTexts out) where
-  answers_texts : (xs : List X) (answers : List (List ℕ × Bool)) → AllByRecursion P xs → AllZip (λ x a. shows x a.0 a.1) xs answers → AreTexts (flat_map (λ a. a.0) answers)
-  answers_texts [] [] h k = no_texts
-  answers_texts [] (a ∷ answers) h k = absurd k
-  answers_texts (x ∷ xs) [] h k = absurd k
-  answers_texts (x ∷ xs) (a ∷ answers) h k = and_texts (one x a.0 a.1 h.0 k.0) (answers_texts xs answers h.1 k.1)
+pub each_texts : {X : Type 0} (P : X → Type 0) (shows : X → List ℕ → Bool → Type 0) → ((x : X) (out : List ℕ) (well : Bool) → P x → shows x out well → AreTexts out)
+    → (xs : List X) (out : List ℕ) (whole : Bool) → AllByRecursion P xs → EachShown shows xs out whole → AreTexts out
+each_texts P shows = each_hold P shows (λ out well. AreTexts out) no_texts (λ a b v w h k. and_texts h k)
 
-  pub each_texts : (xs : List X) (out : List ℕ) (whole : Bool) → AllByRecursion P xs → EachShown shows xs out whole → AreTexts out
-  each_texts xs out whole h s = subst AreTexts (sym s.joined) (answers_texts xs s.answers h s.each)
-
--- ---- the payloads of a walk
-
-pub drop_bytes : (n : ℕ) (p : List ℕ) → IsBytes p → IsBytes (drop n p)
-drop_bytes zero p h = h
-drop_bytes (suc n) [] h = tt
-drop_bytes (suc n) (b ∷ p) h = drop_bytes n p h.1
-
--- the payload of an item consists of bytes
-abbrev pub ItemBytes : Item → Type 0
-ItemBytes x = IsBytes (payload_of x.1)
-
-walks_bytes : (n : ℕ) (s : List ℕ) (items : List Item) (t : List ℕ) → Walks n s items t → IsBytes s → AllByRecursion ItemBytes items
-walks_bytes n s [] t w h = tt
-walks_bytes n s (x ∷ items) t w h =
-    let (u, split, more) = w.1 in (
-      bytes-payload (frame_of x.1) split.0.rest (subst IsBytes split.0.string h),
-      walks_bytes n u items t more (subst IsBytes (sym split.1) (drop_bytes _ s h)),
-    )
-
-pub walk_bytes : (list : List ℕ) (items : List Item) (fault : Option (ℕ × Cause)) → Walk list items fault → IsBytes list → AllByRecursion ItemBytes items
-walk_bytes list items fault w h = walks_bytes (length list) list items w.rest w.walks h
+-- an attribute in a list of n bytes
+abbrev pub AnItem : ℕ → Item → Type 0
+AnItem = ItemFits (Unit {0})
 
 -- ---- attributes
 
@@ -110,7 +82,7 @@ unfolding head_text
 head_is_text None f l = and {s = codes "type "} (text refl) (and (decimal_text (kind_of f)) (flags_after_text (f - kind_of f)))
 head_is_text (Some label) f l = l.0
 
-attribute_is_text : (label : Option Label) (f : ℕ) (content : Content) → IsLabelText label → HasOctets content → IsText (attribute_text label f content)
+attribute_is_text : (label : Option Label) (f : ℕ) (content : Content) → IsLabelText label → ContentFits content → IsText (attribute_text label f content)
 unfolding attribute_text
 attribute_is_text label f content l h = and (head_is_text label f l) (either (has_text content) (and {s = codes " "} (text refl) (value_is_text label content l h)) none)
 
@@ -118,60 +90,39 @@ attribute_is_text label f content l h = and (head_is_text label f l) (either (ha
 named_text : (table : Table) (b : NlaBuffer) → has_texts table ≡ true → IsLabelText (label_for table b)
 named_text table b h = label_is_text table (kind_of (kind_field_of b)) h
 
-content_octets : (table : Table) (b : NlaBuffer) (content : Content) → IsBytes (payload_of b) → HasContent table b content → HasOctets content
-content_octets table b content h has = borrowed_octets _ (payload_of b) content h has.borrows
-
 attribute_line : (table : Table) (b : NlaBuffer) (content : Content) → has_texts table ≡ true → IsBytes (payload_of b) → HasContent table b content
     → IsText (attribute_text (label_for table b) (kind_field_of b) content)
-attribute_line table b content h k has = attribute_is_text (label_for table b) (kind_field_of b) content (named_text table b h) (content_octets table b content k has)
+attribute_line table b content h k has = attribute_is_text (label_for table b) (kind_field_of b) content (named_text table b h) (content_fits table b content k has)
 
 -- ---- lists of addresses
 
-ip_is_text : (p : List ℕ) → IsBytes p → IsText (ip_text p)
+pub ip_is_text : (p : List ℕ) → IsBytes p → IsText (ip_text p)
 unfolding ip_text
 ip_is_text p h = either (length p == 4) (ipv4_is_text p) (either (length p == 16) (ipv6_is_text (segments_of p) (segments_bound p h)) (hex_bytes p))
 
-address_is_text : (size : ℕ) (x : Item) → ItemBytes x → AllByRecursion IsText (address_in size x)
+address_is_text : (size : ℕ) (x : Item) → IsBytes (payload_of x.1) → AllByRecursion IsText (address_in size x)
 address_is_text size x h = choose (AllByRecursion IsText) (length (payload_of x.1) == size) (ip_text (payload_of x.1) ∷ []) [] (ip_is_text (payload_of x.1) h, tt) tt
 
-addresses_are_text : (size : ℕ) (items : List Item) → AllByRecursion ItemBytes items → AllByRecursion IsText (addresses_in size items)
-addresses_are_text size [] h = tt
-addresses_are_text size (x ∷ items) h = each_append (address_in size x) (addresses_in size items) (address_is_text size x h.0) (addresses_are_text size items h.1)
+addresses_are_text : (n size : ℕ) (items : List Item) → AllByRecursion (AnItem n) items → AllByRecursion IsText (addresses_in size items)
+addresses_are_text n size [] h = tt
+addresses_are_text n size (x ∷ items) h = all_append IsText (address_in size x) (addresses_in size items) (address_is_text size x (h.0.bytes tt)) (addresses_are_text n size items h.1)
 
 pub addresses_text : (size : ℕ) (list out : List ℕ) → IsBytes list → ShowsAddresses size list out → IsText out
 addresses_text size list out h (items, (fault, walk, is)) =
-    subst IsText (sym is) (list_text_text (codes " ") (addresses_in size items) (text refl) (addresses_are_text size items (walk_bytes list items fault walk h)))
-
--- ---- the bytes of borrowed lists
-
-not_one : (c : Class) (p : List ℕ) (content : Content) → (Says content (meant c p) → ⊥) → (SaysLimits content p → ⊥) → Borrows (Some (One c)) p content → ⊥
-not_one classes.Limits p content h k says = k says
-not_one c p content h k says = h says
-
-list_bytes : (shape : Option Shape) (p : List ℕ) (list : _) (flagged : Bool) → IsBytes p → Borrows shape p (contents.List list flagged) → IsBytes list.now
-list_bytes None p list told h says = absurd says
-list_bytes (Some (One c)) p list told h says = absurd (not_one c p (contents.List list told) (λ e. e) (λ e. e) says)
-list_bytes (Some (Nested flagged rows)) p list told h says = subst IsBytes (sym says) h
-list_bytes (Some (Addresses n)) p list told h says = absurd says
-
-address_bytes : (shape : Option Shape) (p : List ℕ) (list : _) (size : ℕ) → IsBytes p → Borrows shape p (contents.Addresses list size) → IsBytes list.now
-address_bytes None p list size h says = absurd says
-address_bytes (Some (One c)) p list size h says = absurd (not_one c p (contents.Addresses list size) (λ e. e) (λ e. e) says)
-address_bytes (Some (Nested flagged rows)) p list size h says = absurd says
-address_bytes (Some (Addresses n)) p list size h says = subst IsBytes (sym says.1) h
+    subst IsText (sym is) (list_text_text (codes " ") (addresses_in size items) (text refl) (addresses_are_text (length list) size items (walk_fits list items fault (λ t. h) walk)))
 
 -- ---- the lines of an attribute
 
 module _ (indent : List ℕ) (spaces : IsText indent) where
-  element_texts : (table : Table) → has_texts table ≡ true → (x : Item) (out : List ℕ) (well : Bool) → ItemBytes x → ShowsElement indent table x out well → AreTexts out
-  element_texts table h x out well k (content, has, is, e) = subst AreTexts (sym is) (below_texts indent spaces (attribute_line table x.1 content h k has))
+  element_texts : (n : ℕ) (table : Table) → has_texts table ≡ true → (x : Item) (out : List ℕ) (well : Bool) → AnItem n x → ShowsElement indent table x out well → AreTexts out
+  element_texts n table h x out well k (content, has, is, e) = subst AreTexts (sym is) (below_texts indent spaces (attribute_line table x.1 content h (k.bytes tt) has))
 
   nested_texts : (name : List ℕ) (table : Table) (list out : List ℕ) → IsText name → has_texts table ≡ true → IsBytes list → ShowsNested indent name table list out → AreTexts out
   nested_texts name table list out n h k (Empty e is) = subst AreTexts (sym is) (indented_texts indent spaces (and n (text refl)))
   nested_texts name table list out n h k (Elements some items walk lines each is) =
       subst AreTexts (sym is) (
       and_texts (indented_texts indent spaces n)
-      (each_texts ItemBytes (ShowsElement indent table) (element_texts table h) items lines true (walk_bytes list items None walk k) each)
+      (each_texts (AnItem (length list)) (ShowsElement indent table) (element_texts (length list) table h) items lines true (walk_fits list items None (λ t. k) walk) each)
       )
 
   flat_texts : (table : Table) (b : NlaBuffer) (content : Content) (out : List ℕ) → has_texts table ≡ true → IsBytes (payload_of b) → HasContent table b content
@@ -188,17 +139,17 @@ module _ (indent : List ℕ) (spaces : IsText indent) where
   content_texts table b (contents.List list flagged) out h k has shown =
       nested_texts (head_text (label_for table b) (kind_field_of b)) (elements_at table (kind_of (kind_field_of b))) list.now out
       (head_is_text (label_for table b) (kind_field_of b) (named_text table b h)) (elements_text table (kind_of (kind_field_of b)) h)
-      (list_bytes _ (payload_of b) list flagged k has.borrows) shown
+      (content_fits table b (contents.List list flagged) k has) shown
   content_texts table b (contents.Addresses list size) out h k has shown =
       flat_texts table b (contents.Addresses list size) out h k has (λ more (t, addresses, is). subst IsText (sym is)
-      (and {s = codes " "} (text refl) (addresses_text size list.now t (address_bytes _ (payload_of b) list size k has.borrows) addresses))) shown
+      (and {s = codes " "} (text refl) (addresses_text size list.now t (content_fits table b (contents.Addresses list size) k has) addresses))) shown
   content_texts table b content out h k has shown = flat_texts table b content out h k has alone shown
 
   -- ---- lists
 
-  item_texts : (base : ℕ) (table : Table) → has_texts table ≡ true → (x : Item) (out : List ℕ) (well : Bool) → ItemBytes x → ShowsItem indent base table x out well → AreTexts out
-  item_texts base table h x out well k (Decodes (content, has, shown) e) = content_texts table x.1 content out h k has shown
-  item_texts base table h x out well k (Fails fault gives is e) = subst AreTexts (sym is) (error_texts indent (base + x.0) spaces (fault_is_text table fault h))
+  item_texts : (n base : ℕ) (table : Table) → has_texts table ≡ true → (x : Item) (out : List ℕ) (well : Bool) → AnItem n x → ShowsItem indent base table x out well → AreTexts out
+  item_texts n base table h x out well k (Decodes (content, has, shown) e) = content_texts table x.1 content out h (k.bytes tt) has shown
+  item_texts n base table h x out well k (Fails fault gives is e) = subst AreTexts (sym is) (error_texts indent (base + x.0) spaces (fault_is_text table fault h))
 
   end_texts : (base : ℕ) (fault : Option (ℕ × Cause)) → AreTexts (end_line indent base fault)
   end_texts base None = no_texts
@@ -207,7 +158,7 @@ module _ (indent : List ℕ) (spaces : IsText indent) where
   pub list_texts : (base : ℕ) (table : Table) (list out : List ℕ) (whole : Bool) → has_texts table ≡ true → IsBytes list → ShowsList indent base table list out whole → AreTexts out
   list_texts base table list out whole h k s =
       subst AreTexts (sym s.joined) (
-      and_texts (each_texts ItemBytes (ShowsItem indent base table) (item_texts base table h) s.items s.lines s.well (walk_bytes list s.items s.fault s.walk k) s.each) (end_texts base s.fault)
+      and_texts (each_texts (AnItem (length list)) (ShowsItem indent base table) (item_texts (length list) base table h) s.items s.front s.well (walk_fits list s.items s.fault (λ t. k) s.walk) s.each) (end_texts base s.fault)
       )
 
   pub verdict_texts : (check : Bool) (base : ℕ) (table : Table) (list out : List ℕ) (well : Bool) → ShowsVerdict check indent base table list out well → AreTexts out

@@ -1,28 +1,34 @@
--- The lines of lists: one attribute more, and the end.
-use Rattle.std.proofs.Common.{◌≡◌, ◌≢◌, ℕ, ◌+◌, ◌-◌, Bool, true, false, ◌&&◌, List, [], ◌∷◌, ◌++◌, length, Some, None, refl, sym, ap₂, subst, ◌∙◌, inl, inr}
+-- Items that are shown, one after another, and lists: one attribute more, and the end.
+use Rattle.std.proofs.Common.{◌≡◌, ◌≢◌, ℕ, ◌+◌, ◌-◌, Bool, true, false, ◌&&◌, List, [], ◌∷◌, ◌++◌, length, Option, Some, None, Err, refl, sym, ap, ap₂, subst, ◌∙◌, inl, inr}
+use Rattle.std.specs.List.{flat_map, list_all, AllZip, AllByRecursion}
 use Rattle.link_show.specs.Sink.{Output, Gains}
-use Rattle.link_show.specs.Gained.{gains_nothing, gains_more}
+use Rattle.link_show.specs.Gained.{gains_more}
 use Rattle.std.proofs.lemmas.List.{append-nil}
 use Rattle.std.proofs.lemmas.List.Folds.{list_all-append}
 use Rattle.std.proofs.lemmas.Grind.{flat_map-append}
 use Rattle.link_base.specs.declared.wire.buffer.NlaBuffer.{NlaBuffer}
 use Rattle.link_base.specs.declared.wire.fault.Cause.{Cause}
 use Rattle.link_base.specs.declared.wire.fault.DecodeFault.{DecodeFault}
+use Rattle.link_base.specs.declared.wire.fault.DecodeFault.TheVariants as faults
 use Rattle.link_base.specs.Frame.{frame_fault}
-use Rattle.link_base.specs.Buffer.{SplitsFirst}
-use Rattle.link_base.specs.Table.{Table}
+use Rattle.link_base.specs.Buffer.{SplitsFirst, kind_field_of, payload_of}
+use Rattle.link_base.specs.Table.{Table, Gives}
 use Rattle.link_base.specs.Viewed.{FaultsFirst}
 use Rattle.link_messages.specs.Walk.{Item, Walks}
 use Rattle.link_messages.proofs.Walking.{walks_more, end_splits}
 use Rattle.link_messages.proofs.Links.{zip_push}
-use Rattle.link_show.specs.Fault.{cause_words, fault_text}
-use Rattle.link_show.specs.List.{EachShown, ShowsElement, WritesElements, WritesElement, ShowsItem, WritesList, WritesValue, error_line, below, Decodes, Fails}
+use Rattle.link_show.specs.Fault.{fault_text}
+use Rattle.link_show.specs.List.{EachShown, ShowsEach, ShowsElement, WritesElements, WritesElement, ShowsItem, WritesValue, error_line, end_line, below, Decodes, Fails}
 
 -- ---- several items
 
 pub and_true : (b : Bool) → (b && true) ≡ b
 and_true true = refl
 and_true false = refl
+
+pub and_false : (b : Bool) → (b && false) ≡ false
+and_false true = refl
+and_false false = refl
 
 pub each_none : {X Y : Type 0} (shows : X → List Y → Bool → Type 0) → EachShown shows [] [] true
 each_none shows = record { answers = []; each = tt; joined = refl; all = refl }
@@ -38,111 +44,136 @@ each_more shows xs out x written whole well s h =
       all = ap₂ (λ a b. a && b) s.all (sym (and_true well)) ∙ sym (list_all-append (λ a. a.1) s.answers ((written, well) ∷ []));
     }
 
--- ---- the elements of a nested list
+-- what holds of the output for each item holds of that for all, if it holds of outputs that are joined
+module _ {X Y : Type 0} (P : X → Type 0) (shows : X → List Y → Bool → Type 0) (Q : List Y → Bool → Type 0) (none : Q [] true)
+    (both : (a b : List Y) (v w : Bool) → Q a v → Q b w → Q (a ++ b) (v && w)) (one : (x : X) (out : List Y) (well : Bool) → P x → shows x out well → Q out well) where
+  answers_hold : (xs : List X) (answers : List (List Y × Bool)) → AllByRecursion P xs → AllZip (λ x a. shows x a.0 a.1) xs answers → Q (flat_map (λ a. a.0) answers) (list_all (λ a. a.1) answers)
+  answers_hold [] [] h k = none
+  answers_hold [] (a ∷ answers) h k = absurd k
+  answers_hold (x ∷ xs) [] h k = absurd k
+  answers_hold (x ∷ xs) (a ∷ answers) h k = both a.0 (flat_map (λ a. a.0) answers) a.1 (list_all (λ a. a.1) answers) (one x a.0 a.1 h.0 k.0) (answers_hold xs answers h.1 k.1)
+
+  pub each_hold : (xs : List X) (out : List Y) (whole : Bool) → AllByRecursion P xs → EachShown shows xs out whole → Q out whole
+  each_hold xs out whole h s = subst (λ o. Q o whole) (sym s.joined) (subst (Q (flat_map (λ a. a.0) s.answers)) (sym s.all) (answers_hold xs s.answers h s.each))
+
+-- ---- loops
+
+-- an output was added, and whether it is well
+abbrev pub Added : {W Y : Type 0} → (W → W → List Y → Type 0) → (List Y → Bool → Type 0) → W → W → Bool → Type 0
+Added {Y = Y} Adds shows old new well = (out : List Y) × shows out well × Adds old new out
+
+-- the outputs for the items that lead so far were added
+pub record ShownTo {W X Y : Type 0} (Adds : W → W → List Y → Type 0) (shows : X → List Y → Bool → Type 0) (Leads : List X → Type 0) (old new : W) (whole : Bool) : Type 0 where
+  pub items : List X
+  pub leads : Leads items
+  pub out : List Y
+  pub each : EachShown shows items out whole
+  pub written : Adds old new out
+
+pub shown_none : {W X Y : Type 0} {Adds : W → W → List Y → Type 0} (shows : X → List Y → Bool → Type 0) (Leads : List X → Type 0) (w : W) → Leads [] → Adds w w [] → ShownTo Adds shows Leads w w true
+shown_none shows Leads w l a = record { items = []; leads = l; out = []; each = each_none shows; written = a }
+
+-- one more
+pub shown_more : {W X Y : Type 0} {Adds : W → W → List Y → Type 0} {shows : X → List Y → Bool → Type 0} {Leads : List X → Type 0} (Next : List X → Type 0) (x : X) (out : List Y) (old mid new : W) (whole well : Bool)
+    → ((s t : List Y) → Adds old mid s → Adds mid new t → Adds old new (s ++ t)) → ((xs : List X) → Leads xs → Next (xs ++ x ∷ [])) → ShownTo Adds shows Leads old mid whole → shows x out well → Adds mid new out
+    → ShownTo Adds shows Next old new (whole && well)
+shown_more {shows = shows} Next x out old mid new whole well more next h shown written =
+    record {
+      items = h.items ++ x ∷ [];
+      leads = next h.items h.leads;
+      out = h.out ++ out;
+      each = each_more shows h.items h.out x out whole well h.each shown;
+      written = more h.out out h.written written;
+    }
+
+-- ---- lists
+
+-- these attributes lead from a list to its rest
+abbrev pub LeadTo : List ℕ → List ℕ → List Item → Type 0
+LeadTo list rest items = Walks (length list) list items rest
+
+pub lead_on : (list rest next : List ℕ) (b : NlaBuffer) → SplitsFirst rest b next → (items : List Item) → LeadTo list rest items → LeadTo list next (items ++ (length list - length rest, b) ∷ [])
+lead_on list rest next b split items w = walks_more (length list) list items rest b next w split
+
+module _ {W Y : Type 0} (Adds : W → W → List Y → Type 0) (shows : Item → List Y → Bool → Type 0) (ending : Option (ℕ × Cause) → List Y) (list : List ℕ) where
+  -- the attributes before `rest` were shown; or all, and the error of a header
+  pub data ListTo (rest : List ℕ) (old new : W) (whole : Bool) : Type 0 where
+    Going : ShownTo Adds shows (LeadTo list rest) old new whole → ListTo rest old new whole
+    Broken : rest ≡ [] → Added Adds (ShowsEach shows ending list) old new whole → ListTo rest old new whole
+
+pub list_none : {W Y : Type 0} {Adds : W → W → List Y → Type 0} {shows : Item → List Y → Bool → Type 0} {ending : Option (ℕ × Cause) → List Y} (list : List ℕ) (w : W) → Adds w w [] → ListTo Adds shows ending list list w w true
+list_none {shows = shows} list w a = Going (shown_none shows (LeadTo list list) w refl a)
+
+module _ {W Y : Type 0} {Adds : W → W → List Y → Type 0} {shows : Item → List Y → Bool → Type 0} {ending : Option (ℕ × Cause) → List Y} {list : List ℕ}
+    (more : (old mid new : W) (s t : List Y) → Adds old mid s → Adds mid new t → Adds old new (s ++ t)) where
+  -- an attribute more
+  pub list_more : (rest next : List ℕ) (old mid new : W) (whole well : Bool) (b : NlaBuffer) (out : List Y) → ListTo Adds shows ending list rest old mid whole → SplitsFirst rest b next
+      → shows (length list - length rest, b) out well → Adds mid new out → ListTo Adds shows ending list next old new (whole && well)
+  list_more rest next old mid new whole well b out (Broken e w) split shown written = absurd (end_splits 0 rest None b next e split)
+  list_more rest next old mid new whole well b out (Going h) split shown written =
+      Going (shown_more (LeadTo list next) (length list - length rest, b) out old mid new whole well (more old mid new) (lead_on list rest next b split) h shown written)
+
+  -- the error of a header ends the list
+  pub list_broken : (rest : List ℕ) (old mid new : W) (whole : Bool) (c : Cause) → ListTo Adds shows ending list rest old mid whole → rest ≢ [] → frame_fault rest ≡ Some c
+      → Adds mid new (ending (Some (length list - length rest, c))) → Added Adds (ShowsEach shows ending list) old new false
+  list_broken rest old mid new whole c (Broken e w) some bad written = absurd (some e)
+  list_broken rest old mid new whole c (Going h) some bad written =
+      let fault : Option (ℕ × Cause) = Some (length list - length rest, c) in (
+        h.out ++ ending fault,
+        record { items = h.items; fault = fault; walk = record { rest = rest; walks = h.leads; end = (some, refl, bad) }; front = h.out; well = whole; each = h.each; joined = refl; all = sym (and_false whole) },
+        more old mid new h.out (ending fault) h.written written,
+      )
+
+  -- an error more: of an attribute, or of a header
+  pub list_fault : (table : Table) (line : ℕ → DecodeFault → List Y) → ((x : Item) (fault : DecodeFault) → Gives table (kind_field_of x.1) (payload_of x.1) (Err fault) → shows x (line x.0 fault) false)
+      → ((at : ℕ) (c : Cause) → line at (faults.Frame c) ≡ ending (Some (at, c))) → (rest next : List ℕ) (old mid new : W) (whole : Bool) (at : ℕ) (fault : DecodeFault) → ListTo Adds shows ending list rest old mid whole
+      → rest ≢ [] → at ≡ length list - length rest → FaultsFirst table rest fault next → Adds mid new (line at fault) → ListTo Adds shows ending list next old new false
+  list_fault table line fails header rest next old mid new whole at fault h some place (inl (b, split, gives)) written =
+      subst (ListTo Adds shows ending list next old new) (and_false whole)
+      (list_more rest next old mid new whole false b (line (length list - length rest) fault) h split (fails (length list - length rest, b) fault gives) (subst (λ i. Adds mid new (line i fault)) place written))
+  list_fault table line fails header rest next old mid new whole at fault h some place (inr (c, bad, is, empty)) written =
+      let told = subst (λ i. Adds mid new (line i (faults.Frame c))) place (subst (λ f. Adds mid new (line at f)) is written) in
+      Broken empty (list_broken rest old mid new whole c h some bad (subst (Adds mid new) (header (length list - length rest) c) told))
+
+-- all is shown
+pub list_done : {W Y : Type 0} {Adds : W → W → List Y → Type 0} {shows : Item → List Y → Bool → Type 0} {ending : Option (ℕ × Cause) → List Y} {list : List ℕ} → ending None ≡ [] → (rest : List ℕ) (old new : W) (whole : Bool)
+    → ListTo Adds shows ending list rest old new whole → rest ≡ [] → Added Adds (ShowsEach shows ending list) old new whole
+list_done none rest old new whole (Broken e w) empty = w
+list_done none rest old new whole (Going h) empty =
+    let joined = sym (append-nil h.out) ∙ ap (λ t. h.out ++ t) (sym none) in
+    (h.out, record { items = h.items; fault = None; walk = record { rest = rest; walks = h.leads; end = empty }; front = h.out; well = whole; each = h.each; joined = joined; all = sym (and_true whole) }, h.written)
+
+-- ---- lists of an attribute set, as lines
+
+-- the lines of the attributes before `rest` were written
+abbrev pub LinesTo : List ℕ → ℕ → Table → List ℕ → List ℕ → Output → Output → Bool → Type 0
+LinesTo indent base table = ListTo Gains (ShowsItem indent base table) (end_line indent base)
+
+module _ (indent : List ℕ) (base : ℕ) (table : Table) (list rest next : List ℕ) (old mid new : Output) (whole : Bool) where
+  -- a value more
+  pub value_more : (b : NlaBuffer) → LinesTo indent base table list rest old mid whole → SplitsFirst rest b next → WritesValue indent table b mid new → LinesTo indent base table list next old new whole
+  value_more b h split (out, shown, written) =
+      subst (LinesTo indent base table list next old new) (and_true whole)
+      (list_more gains_more rest next old mid new whole true b out h split (Decodes shown refl) written)
+
+  -- an error more
+  pub error_more : (at : ℕ) (fault : DecodeFault) → LinesTo indent base table list rest old mid whole → rest ≢ [] → at ≡ length list - length rest → FaultsFirst table rest fault next
+      → Gains mid new (error_line indent (base + at) (fault_text table fault)) → LinesTo indent base table list next old new false
+  error_more at fault h some place first written =
+      list_fault gains_more table (λ i f. error_line indent (base + i) (fault_text table f)) (λ x f gives. Fails f gives refl refl) (λ i c. refl)
+      rest next old mid new whole at fault h some place first written
+
+-- ---- the elements of a nested list, as lines
 
 -- the lines of the elements before `rest` were written
-pub record ElementsTo (indent : List ℕ) (table : Table) (list rest : List ℕ) (old new : Output) : Type 0 where
-  pub items : List Item
-  pub walks : Walks (length list) list items rest
-  pub lines : List ℕ
-  pub each : EachShown (ShowsElement indent table) items lines true
-  pub written : Gains old new lines
-
-pub elements_none : (indent : List ℕ) (table : Table) (list : List ℕ) (w : Output) → ElementsTo indent table list list w w
-elements_none indent table list w = record { items = []; walks = refl; lines = []; each = each_none (ShowsElement indent table); written = gains_nothing w }
+abbrev pub ElementsTo : List ℕ → Table → List ℕ → List ℕ → Output → Output → Type 0
+ElementsTo indent table list rest old new = ShownTo Gains (ShowsElement indent table) (LeadTo list rest) old new true
 
 -- one more
 pub elements_more : (indent : List ℕ) (table : Table) (list rest next : List ℕ) (old mid new : Output) (b : NlaBuffer) → ElementsTo indent table list rest old mid → SplitsFirst rest b next
     → WritesElement indent table b mid new → ElementsTo indent table list next old new
 elements_more indent table list rest next old mid new b h split (content, has, written) =
-    let item : Item = (length list - length rest, b) in
-    let line = below indent _ in
-    record {
-      items = h.items ++ item ∷ [];
-      walks = walks_more (length list) list h.items rest b next h.walks split;
-      lines = h.lines ++ line;
-      each = each_more (ShowsElement indent table) h.items h.lines item line true true h.each (content, has, refl, refl);
-      written = gains_more old mid new h.lines line h.written written;
-    }
+    shown_more (LeadTo list next) (length list - length rest, b) (below indent _) old mid new true true (gains_more old mid new) (lead_on list rest next b split) h (content, has, refl, refl) written
 
 pub elements_all : (indent : List ℕ) (table : Table) (list rest : List ℕ) (old new : Output) → ElementsTo indent table list rest old new → rest ≡ [] → WritesElements indent table list old new
-elements_all indent table list rest old new h e = (h.items, record { rest = rest; walks = h.walks; end = e }, (h.lines, h.each, h.written))
-
--- ---- a list
-
--- the lines of the attributes before `rest` were written; or those of all, and the error of a header
-pub data ListTo (indent : List ℕ) (base : ℕ) (table : Table) (list rest : List ℕ) (old new : Output) (whole : Bool) : Type 0 where
-  Going : (items : List Item) (lines : List ℕ) → Walks (length list) list items rest → EachShown (ShowsItem indent base table) items lines whole → Gains old new lines
-      → ListTo indent base table list rest old new whole
-  Broken : rest ≡ [] → WritesList indent base table list old new whole → ListTo indent base table list rest old new whole
-
-pub list_none : (indent : List ℕ) (base : ℕ) (table : Table) (list : List ℕ) (w : Output) → ListTo indent base table list list w w true
-list_none indent base table list w = Going [] [] refl (each_none (ShowsItem indent base table)) (gains_nothing w)
-
--- nothing starts with an attribute
-some_left : (b : NlaBuffer) (rest next : List ℕ) → SplitsFirst rest b next → rest ≢ []
-some_left b rest next split e = end_splits 0 rest None b next e split
-
--- the lines of an item more
-item_more : (indent : List ℕ) (base : ℕ) (table : Table) (list rest next : List ℕ) (old mid new : Output) (whole well : Bool) (b : NlaBuffer) (out : List ℕ)
-    → ListTo indent base table list rest old mid whole → SplitsFirst rest b next → ShowsItem indent base table (length list - length rest, b) out well → Gains mid new out
-    → ListTo indent base table list next old new (whole && well)
-item_more indent base table list rest next old mid new whole well b out (Broken e w) split shown written = absurd (some_left b rest next split e)
-item_more indent base table list rest next old mid new whole well b out (Going items lines walks each front) split shown written =
-    Going (items ++ (length list - length rest, b) ∷ []) (lines ++ out) (walks_more (length list) list items rest b next walks split)
-    (each_more (ShowsItem indent base table) items lines (length list - length rest, b) out whole well each shown) (gains_more old mid new lines out front written)
-
--- a value more
-pub value_more : (indent : List ℕ) (base : ℕ) (table : Table) (list rest next : List ℕ) (old mid new : Output) (whole : Bool) (b : NlaBuffer)
-    → ListTo indent base table list rest old mid whole → SplitsFirst rest b next → WritesValue indent table b mid new → ListTo indent base table list next old new whole
-value_more indent base table list rest next old mid new whole b h split (out, shown, written) =
-    subst (ListTo indent base table list next old new) (and_true whole)
-    (item_more indent base table list rest next old mid new whole true b out h split (Decodes shown refl) written)
-
-pub and_false : (b : Bool) → (b && false) ≡ false
-and_false true = refl
-and_false false = refl
-
--- the error of a header ends the list
-broken_more : (indent : List ℕ) (base : ℕ) (table : Table) (list rest : List ℕ) (old mid new : Output) (whole : Bool) (c : Cause) → ListTo indent base table list rest old mid whole → rest ≢ []
-    → frame_fault rest ≡ Some c → Gains mid new (error_line indent (base + (length list - length rest)) (cause_words false c)) → ListTo indent base table list [] old new false
-broken_more indent base table list rest old mid new whole c (Broken e w) some bad written = absurd (some e)
-broken_more indent base table list rest old mid new whole c (Going items lines walks each front) some bad written =
-    let out = error_line indent (base + (length list - length rest)) (cause_words false c) in
-    Broken refl (
-      lines ++ out,
-      record {
-        items = items;
-        fault = Some (length list - length rest, c);
-        walk = record { rest = rest; walks = walks; end = (some, refl, bad) };
-        lines = lines;
-        well = whole;
-        each = each;
-        joined = refl;
-        all = sym (and_false whole);
-      },
-      gains_more old mid new lines out front written,
-    )
-
--- an error more
-pub error_more : (indent : List ℕ) (base : ℕ) (table : Table) (list rest next : List ℕ) (old mid new : Output) (whole : Bool) (at : ℕ) (fault : DecodeFault)
-    → ListTo indent base table list rest old mid whole → rest ≢ [] → at ≡ length list - length rest → FaultsFirst table rest fault next
-    → Gains mid new (error_line indent (base + at) (fault_text table fault)) → ListTo indent base table list next old new false
-error_more indent base table list rest next old mid new whole at fault h some place (inl (b, split, gives)) written =
-    let line = subst (λ i. Gains mid new (error_line indent (base + i) (fault_text table fault))) place written in
-    subst (ListTo indent base table list next old new) (and_false whole)
-    (item_more indent base table list rest next old mid new whole false b _ h split (Fails fault gives refl refl) line)
-error_more indent base table list rest next old mid new whole at fault h some place (inr (c, bad, is, empty)) written =
-    let line = subst (λ i. Gains mid new (error_line indent (base + i) (fault_text table fault))) place written in
-    subst (λ t. ListTo indent base table list t old new false) (sym empty)
-    (broken_more indent base table list rest old mid new whole c h some bad (subst (λ f. Gains mid new (error_line indent (base + (length list - length rest)) (fault_text table f))) is line))
-
--- all is written
-pub list_all_written : (indent : List ℕ) (base : ℕ) (table : Table) (list rest : List ℕ) (old new : Output) (whole : Bool) → ListTo indent base table list rest old new whole → rest ≡ []
-    → WritesList indent base table list old new whole
-list_all_written indent base table list rest old new whole (Broken e w) empty = w
-list_all_written indent base table list rest old new whole (Going items lines walks each front) empty = (
-  lines,
-  record { items = items; fault = None; walk = record { rest = rest; walks = walks; end = empty }; lines = lines; well = whole; each = each; joined = sym (append-nil lines); all = sym (and_true whole) },
-  front,
-)
+elements_all indent table list rest old new h e = (h.items, record { rest = rest; walks = h.leads; end = e }, (h.out, h.each, h.written))

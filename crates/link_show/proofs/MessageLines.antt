@@ -4,7 +4,7 @@ use Rattle.std.specs.Fmt.{decimal, signed_decimal}
 use Rattle.std.specs.Int.RustNames.{unsigned_abs}
 use Rattle.std.specs.Int.{is_negative}
 use Rattle.link_show.specs.Sink.{Output, Gains}
-use Rattle.link_show.specs.Gained.{gains_nothing, gains_more}
+use Rattle.link_show.specs.Gained.{gains_more}
 use Rattle.std.proofs.lemmas.Bool.{ltb-true, cond-true, cond-false, eq-eqb, ne_eqb}
 use Rattle.link_base.specs.Labels.{name_in}
 use Rattle.link_messages.specs.declared.buffer_parts.Message.{Message}
@@ -18,9 +18,9 @@ use Rattle.link_show.specs.MessageNames.{address_families, device_types, device_
 use Rattle.link_show.specs.Structs.{field}
 use Rattle.link_show.specs.Fault.{bytes_text, byte_word}
 use Rattle.link_show.specs.Errno.{errno_names}
-use Rattle.link_show.specs.List.{indented, EachShown, Writes}
-use Rattle.link_show.specs.Message.{two, name_part, named_or, link_line, unless_zero, others_line, errno_name, result_line, error_number_line, opaque_text, message_line, message_error_line, reason_text, offset_of, ShowsBody, ShowsMessage, ShowsMessages, ShowsEnd, Ended, Done}
-use Rattle.link_show.proofs.Listing.{and_true, each_none, each_more}
+use Rattle.link_show.specs.List.{indented, Writes}
+use Rattle.link_show.specs.Message.{two, name_part, named_or, link_line, unless_zero, others_line, errno_name, result_line, error_number_line, opaque_text, message_line, message_error_line, reason_text, offset_of, ShowsBody, ShowsMessage, ShowsBuffer}
+use Rattle.link_show.proofs.Listing.{and_true, Added, ShownTo, shown_more}
 
 pub if_ok : {X E : Type 0} (P Q : X → Type 0) (r : Result X E) → ((x : X) → P x → Q x) → IfOk r P → IfOk r Q
 if_ok P Q (Ok x) f h = f x h
@@ -98,42 +98,25 @@ pub message_written : (check : Bool) (m : Message) (old mid new : Output) (well 
 message_written check m old mid new well first (body, is, second) =
     (message_line m ++ body, record { body = body; is_body = is; joined = refl }, gains_more old mid new (message_line m) body first second)
 
--- the messages before offset `at` were written
-pub record MessagesTo (check : Bool) (s : List ℕ) (at : ℕ) (old new : Output) (whole : Bool) : Type 0 where
-  pub messages : List Message
-  pub stand : Stand s 0 messages at
-  pub front : List ℕ
-  pub each : EachShown (ShowsMessage check) messages front whole
-  pub written : Gains old new front
+-- the outputs for the messages of a buffer before offset `at` were added
+abbrev pub MessagesTo : {W Y : Type 0} → (W → W → List Y → Type 0) → (Message → List Y → Bool → Type 0) → List ℕ → ℕ → W → W → Bool → Type 0
+MessagesTo Adds shows s at = ShownTo Adds shows (λ messages. Stand s 0 messages at)
 
-pub messages_none : (check : Bool) (s : List ℕ) (w : Output) → MessagesTo check s 0 w w true
-messages_none check s w = record { messages = []; stand = refl; front = []; each = each_none (ShowsMessage check); written = gains_nothing w }
+module _ {W Y : Type 0} {Adds : W → W → List Y → Type 0} {shows : Message → List Y → Bool → Type 0} (more : (old mid new : W) (a b : List Y) → Adds old mid a → Adds mid new b → Adds old new (a ++ b))
+    (s : List ℕ) (at : ℕ) (old mid new : W) (whole : Bool) (h : MessagesTo Adds shows s at old mid whole) where
+  -- one more
+  pub messages_more : (m : Message) (well : Bool) → IsMessageAt at (drop at s) m → m.kind ≢ 3 → Added Adds (shows m) mid new well → MessagesTo Adds shows s m.next old new (whole && well)
+  messages_more m well is other (out, shown, written) =
+      shown_more (λ messages. Stand s 0 messages m.next) m out old mid new whole well (more old mid new) (λ messages stand. stand_more s 0 at messages m stand (is, other)) h shown written
 
--- one more
-pub messages_more : (check : Bool) (s : List ℕ) (at : ℕ) (m : Message) (old mid new : Output) (whole well : Bool) → MessagesTo check s at old mid whole → IsMessageAt at (drop at s) m → m.kind ≢ 3
-    → Writes (ShowsMessage check m) mid new well → MessagesTo check s m.next old new (whole && well)
-messages_more check s at m old mid new whole well h is other (out, shown, written) = record {
-  messages = h.messages ++ m ∷ [];
-  stand = stand_more s 0 at h.messages m h.stand (is, other);
-  front = h.front ++ out;
-  each = each_more (ShowsMessage check) h.messages h.front m out whole well h.each shown;
-  written = gains_more old mid new h.front out h.written written;
-}
+  -- what ends them
+  pub messages_end : (ends : ℕ → List Y → Bool → Type 0) (well : Bool) → Added Adds (ends at) mid new well → Added Adds (ShowsBuffer shows ends s) old new (whole && well)
+  messages_end ends well (out, shown, written) = (
+    h.out ++ out,
+    record { messages = h.items; end = at; stand = h.leads; front = h.out; front_well = whole; each = h.each; last = out; last_well = well; at_end = shown; joined = refl; all = refl },
+    more old mid new h.out out h.written written,
+  )
 
--- what ends them
-pub messages_end : (check : Bool) (s : List ℕ) (at : ℕ) (old mid new : Output) (whole well : Bool) → MessagesTo check s at old mid whole → Writes (ShowsEnd check s at) mid new well
-    → Writes (ShowsMessages check s) old new (whole && well)
-messages_end check s at old mid new whole well h (out, shown, written) = (
-  h.front ++ out,
-  record { messages = h.messages; end = at; stand = h.stand; front = h.front; front_well = whole; each = h.each; last = out; last_well = well; at_end = shown; joined = refl; all = refl },
-  gains_more old mid new h.front out h.written written,
-)
-
--- the end of the buffer
-pub messages_all : (check : Bool) (s : List ℕ) (at : ℕ) (old new : Output) (whole : Bool) → MessagesTo check s at old new whole → drop at s ≡ [] → Writes (ShowsMessages check s) old new whole
-messages_all check s at old new whole h e = subst (Writes (ShowsMessages check s) old new) (and_true whole) (messages_end check s at old new new whole true h ([], Ended e refl refl, gains_nothing new))
-
--- an NLMSG_DONE
-pub messages_done : (check : Bool) (s : List ℕ) (at : ℕ) (m : Message) (old mid new : Output) (whole well : Bool) → MessagesTo check s at old mid whole → IsMessageAt at (drop at s) m → m.kind ≡ 3
-    → Writes (ShowsMessage check m) mid new well → Writes (ShowsMessages check s) old new (whole && well)
-messages_done check s at m old mid new whole well h is done (out, shown, written) = messages_end check s at old mid new whole well h (out, Done m is done shown, written)
+  -- likewise, if that is well
+  pub messages_all : (ends : ℕ → List Y → Bool → Type 0) → Added Adds (ends at) mid new true → Added Adds (ShowsBuffer shows ends s) old new whole
+  messages_all ends last = subst (Added Adds (ShowsBuffer shows ends s) old new) (and_true whole) (messages_end ends true last)

@@ -1,12 +1,11 @@
 -- The texts of values and of errors are printable.
-use Rattle.std.proofs.Common.{◌≡◌, ℕ, zero, suc, ◌+◌, ◌/◌, ◌%◌, ◌==◌, nat_lt, Bool, true, false, ◌&&◌, not, List, [], ◌∷◌, ◌++◌, length, map, take, drop, Option, Some, None, option_map, refl, ap₂, subst, arith, codes}
+use Rattle.std.proofs.Common.{◌≡◌, ℕ, zero, suc, ◌+◌, ◌/◌, ◌%◌, ◌==◌, nat_lt, Bool, true, false, ◌&&◌, not, List, [], ◌∷◌, ◌++◌, length, map, take, drop, Option, Some, None, option_map, refl, ap₂, arith, codes}
 use Rattle.std.specs.Prelude.{nat_le, if◌then◌else◌}
 use Rattle.std.specs.Fmt.{decimal}
 use Rattle.std.specs.List.{list_all, AllByRecursion}
 use Rattle.std.specs.Int.RustNames.{bit_and}
 use Rattle.std.specs.Net.Addr.{ipv4_octets, segments_of}
-use Rattle.std.specs.declared.net.ipv6_addr.Ipv6Addr.{Ipv6Addr}
-use Rattle.std.proofs.lemmas.Bool.{cond_both, and_parts}
+use Rattle.std.proofs.lemmas.Bool.{and_parts}
 use Rattle.std.proofs.NetLemmas.Texts.{AllSegments}
 use Rattle.link_base.specs.declared.views.content.Content.{Content}
 use Rattle.link_base.specs.declared.views.content.Content.TheVariants as contents
@@ -24,7 +23,6 @@ use Rattle.link_base.specs.declared.rows.form.Layout.{Layout}
 use Rattle.link_base.specs.declared.rows.form.Layout.TheVariants as layouts
 use Rattle.link_base.specs.declared.rows.fields.Part.{Part}
 use Rattle.link_base.specs.declared.rows.fields.Part.TheVariants as parts
-use Rattle.link_base.specs.Class.{Octets, Bytes, Many, Named, Limits, Raw, Name, Unlisted, named, size_of, is_listed}
 use Rattle.link_base.specs.Number.{IsBytes, number}
 use Rattle.link_base.specs.Frame.{kind_limit}
 use Rattle.link_base.specs.Forms.{FieldTold, bytes_in, fields_of}
@@ -34,7 +32,7 @@ use Rattle.link_base.specs.Name.{before_nul}
 use Rattle.link_base.specs.Named.{Label as Named_label, text_of}
 use Rattle.link_base.specs.Protocol.{vlan_protocols, protocol_number}
 use Rattle.link_base.specs.Table.{Row, Rows, Shape, One, Nested, Addresses, Table, row_at, label_by, label_at}
-use Rattle.link_base.specs.Borrowed.{Borrows, elements_by, elements_at}
+use Rattle.link_base.specs.Borrowed.{elements_by, elements_at}
 use Rattle.link_base.specs.Coherent.{is_shape_of}
 use Rattle.link_base.specs.WellFormed.{is_printable, has_text, rows_in, is_shape, are_rows, is_row, is_table}
 use Rattle.link_base.specs.Lift.{lift_table}
@@ -45,6 +43,7 @@ use Rattle.link_show.specs.Structs.{field, two_fields, part_text, field_text, ha
 use Rattle.link_show.specs.Value.{Label, name_in, quantity_in, names_of, other_text, role_text, content_text, value_text}
 use Rattle.link_show.specs.Fault.{bytes_text, expected_word, cause_words, kind_text, is_array, payload_fault, fault_text}
 use Rattle.link_show.specs.Printable.{IsText, has_texts}
+use Rattle.link_show.proofs.Fitting.{ContentFits}
 use Rattle.link_show.proofs.Printing.{text, none, and, either, joined_text, decimal_text, signed_text, hex_digits, hex_bytes, address_digits, quoted_text, ipv4_is_text, ipv6_is_text}
 
 -- ---- names
@@ -161,9 +160,12 @@ fields_are_text : (fields : List FieldTold) (start : ℕ) (names : List (ℕ × 
 unfolding fields_text
 fields_are_text fields start names p n h = either (has_fields fields start p) (joined_text (codes " ") (map (field_text start names p) fields) (text refl) (each_field start names p fields n h)) (hex_bytes p)
 
-struct_is_text : (layout : Layout) (names : List (ℕ × List ℕ)) (p : List ℕ) → EachName names → IsText (struct_text layout names p)
+pub bridge_id_is_text : (p : List ℕ) → IsText (bridge_id_text p)
 unfolding bridge_id_text
-struct_is_text layouts.BridgeId names p n = either (nat_lt (length p) 8) (hex_bytes p) (and (hex_bytes (take 2 p)) (and {s = codes "."} (text refl) (address_digits (take 6 (drop 2 p)))))
+bridge_id_is_text p = either (nat_lt (length p) 8) (hex_bytes p) (and (hex_bytes (take 2 p)) (and {s = codes "."} (text refl) (address_digits (take 6 (drop 2 p)))))
+
+struct_is_text : (layout : Layout) (names : List (ℕ × List ℕ)) (p : List ℕ) → EachName names → IsText (struct_text layout names p)
+struct_is_text layouts.BridgeId names p n = bridge_id_is_text p
 struct_is_text (layouts.Other lengths) names p n = hex_bytes p
 struct_is_text layout names p n = fields_are_text (fields_of (forms.Struct layout)) 0 names p n refl
 
@@ -250,17 +252,13 @@ segments_bound (a ∷ []) h k = omega arith
 segments_bound (a ∷ b ∷ octets) h zero = omega (arith, h.0, h.1.0)
 segments_bound (a ∷ b ∷ octets) h (suc k) = segments_bound octets h.1.1 k
 
--- the segments of a borrowed IPv6 address are those of bytes
-abbrev pub HasOctets : Content → Type 0
-HasOctets content = (a : Ipv6Addr) → content ≡ contents.Ipv6 a → IsBytes (sixteen_octets a)
-
 role_is_text : (label : Label) (role : Role) (width : Width) (n : ℕ) → IsLabelText (Some label) → IsText (role_text label role width n)
 role_is_text label roles.Plain width n l = number_is_text (quantity_in label) n
 role_is_text label roles.Coded width n l = enum_is_text (names_of label) n l.1
 role_is_text label roles.Enum width n l = enum_is_text (names_of label) n l.1
 role_is_text label roles.Flags width n l = flags_is_text (names_of label) (bytes_in width) n l.1
 
-pub content_is_text : (label : Label) (content : Content) → IsLabelText (Some label) → HasOctets content → IsText (content_text label content)
+pub content_is_text : (label : Label) (content : Content) → IsLabelText (Some label) → ContentFits content → IsText (content_text label content)
 content_is_text label contents.Nothing l h = none
 content_is_text label (contents.Bool b) l h = either b (text refl) (text refl)
 content_is_text label (contents.Number n width order role) l h = role_is_text label role width n l
@@ -272,7 +270,7 @@ content_is_text label (contents.Pair from to) l h = fields_are_text (fields_of f
 content_is_text label (contents.Protocol p) l h = beside_text (named_label_text vlan_protocols.labels (protocol_number p) refl) (hex_number_text (protocol_number p))
 content_is_text label (contents.Mac a) l h = address_digits a
 content_is_text label (contents.Ipv4 a) l h = ipv4_is_text (ipv4_octets a)
-content_is_text label (contents.Ipv6 a) l h = ipv6_is_text (segments_of (sixteen_octets a)) (segments_bound (sixteen_octets a) (h a refl))
+content_is_text label (contents.Ipv6 a) l h = ipv6_is_text (segments_of (sixteen_octets a)) (segments_bound (sixteen_octets a) h)
 content_is_text label (contents.Bytes p) l h = address_digits p.now
 content_is_text label (contents.Struct layout p) l h = struct_is_text layout (names_of label) p.now l.1
 content_is_text label (contents.U16s p) l h = array_is_text (quantity_in label) _
@@ -286,34 +284,9 @@ unlabelled_is_text : (content : Content) → IsText (value_text None content)
 unlabelled_is_text (contents.Other p) = other_is_text p.now
 unlabelled_is_text content = none
 
-pub value_is_text : (label : Option Label) (content : Content) → IsLabelText label → HasOctets content → IsText (value_text label content)
+pub value_is_text : (label : Option Label) (content : Content) → IsLabelText label → ContentFits content → IsText (value_text label content)
 value_is_text None content l h = unlabelled_is_text content
 value_is_text (Some label) content l h = content_is_text label content l h
-
--- ---- the octets of a borrowed address are those of its payload
-
-pub take_bytes : (n : ℕ) (p : List ℕ) → IsBytes p → IsBytes (take n p)
-take_bytes zero p h = tt
-take_bytes (suc n) [] h = tt
-take_bytes (suc n) (b ∷ p) h = (h.0, take_bytes n p h.1)
-
-raw_bytes : (p octets : List ℕ) → Raw p ≡ Raw octets → IsBytes p → IsBytes octets
-raw_bytes p octets e h = let same : p ≡ octets = cc in subst IsBytes same h
-
-no_name : (n : ℕ) (listed : List ℕ) (d : ℕ) (octets : List ℕ) → named n listed d ≡ Raw octets → ⊥
-no_name n listed d octets = cond_both (is_listed listed d) (Name n d) (Unlisted n listed d) (λ v. v ≡ Raw octets → ⊥) (λ _ e. absurd (cc)) (λ _ e. absurd (cc))
-
-bytes_borrowed : (shape : Option Shape) (p : List ℕ) (a : Ipv6Addr) → IsBytes p → Borrows shape p (contents.Ipv6 a) → IsBytes (sixteen_octets a)
-bytes_borrowed (Some (One (Octets e))) p a h says = raw_bytes (take (size_of e) p) (sixteen_octets a) says (take_bytes (size_of e) p h)
-bytes_borrowed (Some (One Bytes)) p a h says = raw_bytes p (sixteen_octets a) says h
-bytes_borrowed (Some (One (Many n))) p a h says = raw_bytes p (sixteen_octets a) says h
-bytes_borrowed (Some (One (Named n listed))) p a h says = absurd (no_name n listed (number p) (sixteen_octets a) says)
-bytes_borrowed (Some (One Limits)) p a h says = absurd says
-bytes_borrowed (Some (One c)) p a h says = absurd (cc)
-bytes_borrowed shape p a h says = absurd says
-
-pub borrowed_octets : (shape : Option Shape) (p : List ℕ) (content : Content) → IsBytes p → Borrows shape p content → HasOctets content
-borrowed_octets shape p content h says a e = bytes_borrowed shape p a h (subst (Borrows shape p) e says)
 
 -- ---- errors
 

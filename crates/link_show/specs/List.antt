@@ -153,16 +153,21 @@ abbrev pub is_well : Option (ℕ × Cause) → Bool
 is_well None = true
 is_well (Some fault) = false
 
--- the lines of a list that starts at offset `base`, and whether none is an error
-pub record ShowsList (indent : List ℕ) (base : ℕ) (table : Table) (list out : List ℕ) (whole : Bool) : Type 0 where
+-- the outputs for a list: those for its attributes, each shown so, in order, and one for the error of a header; and whether
+-- none is an error
+pub record ShowsEach {Y : Type 0} (shows : Item → List Y → Bool → Type 0) (ending : Option (ℕ × Cause) → List Y) (list : List ℕ) (out : List Y) (whole : Bool) : Type 0 where
   pub items : List Item
   pub fault : Option (ℕ × Cause)
   pub walk : Walk list items fault
-  pub lines : List ℕ
+  pub front : List Y
   pub well : Bool
-  pub each : EachShown (ShowsItem indent base table) items lines well
-  pub joined : out ≡ lines ++ end_line indent base fault
+  pub each : EachShown shows items front well
+  pub joined : out ≡ front ++ ending fault
   pub all : whole ≡ (well && is_well fault)
+
+-- the lines of a list that starts at offset `base`
+abbrev pub ShowsList : List ℕ → ℕ → Table → List ℕ → List ℕ → Bool → Type 0
+ShowsList indent base table = ShowsEach (ShowsItem indent base table) (end_line indent base)
 
 -- what a call writes, and what it returns with it
 abbrev pub Writes : (List ℕ → Bool → Type 0) → Output → Output → Bool → Type 0

@@ -309,16 +309,21 @@ pub data ShowsEnd (check : Bool) (s : List ℕ) (at : ℕ) (out : List ℕ) (wel
   Zeros : drop at s ≢ [] → AreZerosAfter at (drop at s) → out ≡ zeros_line at (length (drop at s)) → well ≡ true → ShowsEnd check s at out well
   Broken : (error : MessageError) → drop at s ≢ [] → ¬ AreZerosAfter at (drop at s) → header_fault at (drop at s) ≡ Some error → out ≡ message_error_line [] error → well ≡ false → ShowsEnd check s at out well
 
--- the lines of the messages of a buffer, and whether none is an error and all checked lists are canonical
-pub record ShowsMessages (check : Bool) (s out : List ℕ) (whole : Bool) : Type 0 where
+-- the outputs for the messages of a buffer s: for each, shown so, and for what ends them at an offset; and whether all are
+-- well
+pub record ShowsBuffer {Y : Type 0} (shows : Message → List Y → Bool → Type 0) (ends : ℕ → List Y → Bool → Type 0) (s : List ℕ) (out : List Y) (whole : Bool) : Type 0 where
   pub messages : List Message
   pub end : ℕ
   pub stand : Stand s 0 messages end
-  pub front : List ℕ
+  pub front : List Y
   pub front_well : Bool
-  pub each : EachShown (ShowsMessage check) messages front front_well
-  pub last : List ℕ
+  pub each : EachShown shows messages front front_well
+  pub last : List Y
   pub last_well : Bool
-  pub at_end : ShowsEnd check s end last last_well
+  pub at_end : ends end last last_well
   pub joined : out ≡ front ++ last
   pub all : whole ≡ (front_well && last_well)
+
+-- the lines of the messages of a buffer, and whether none is an error and all checked lists are canonical
+abbrev pub ShowsMessages : Bool → List ℕ → List ℕ → Bool → Type 0
+ShowsMessages check s = ShowsBuffer (ShowsMessage check) (ShowsEnd check s) s

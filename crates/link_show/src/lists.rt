@@ -88,9 +88,12 @@ fn write_lines<S: ListSet, W: Sink>(
 {
     let known = value.known();
     let buffer = value.buffer();
-    match value.elements_in(known.content, value.set().elements(value.kind())) {
-        Some(elements) => write_nested(writer, indent, known.label, buffer, elements),
-        None => write_flat(writer, indent, known.label, buffer, known.content),
+    match known.content {
+        Content::List { list, .. } => {
+            let elements = View::of_checked(list, value.set().elements(value.kind()));
+            write_nested(writer, indent, known.label, buffer, elements)
+        }
+        _ => write_flat(writer, indent, known.label, buffer, known.content),
     }
 }
 

@@ -36,9 +36,10 @@ use Rattle.link_capture.specs.Told.{Told, Nothing, APacket, AMessage, ATime, Cap
 use Rattle.link_capture.specs.Unit.{Leads}
 use Rattle.link_capture.proofs.Kept.{AreKept, HasAll, leads_has}
 use Rattle.link_show.specs.Printable.{IsText, AreTexts}
+use Rattle.link_base.proofs.Values.{bytes-take, bytes-drop}
 use Rattle.link_show.proofs.Printing.{text, none, one, and, either, decimal_text}
-use Rattle.link_show.proofs.LinePrinting.{no_texts, and_texts, IsLine, line_end, line_and, line_texts, each_texts, drop_bytes}
-use Rattle.link_show.proofs.ValuePrinting.{OnText, each_name, name_found, take_bytes}
+use Rattle.link_show.proofs.LinePrinting.{no_texts, and_texts, IsLine, line_end, line_and, line_texts, each_texts}
+use Rattle.link_show.proofs.ValuePrinting.{OnText, each_name, name_found}
 use Rattle.link_show.proofs.MessagePrinting.{messages_texts}
 use Rattle.show_lines.specs.declared.arguments.Options.{Options}
 use Rattle.show_lines.specs.declared.arguments.Format.TheVariants.{Plain}
@@ -191,8 +192,8 @@ HasBytes = HasAll IsBytes OfBytes (λ interface. Unit {0})
 
 bytes_kept : AreKept IsBytes OfBytes (λ interface. Unit {0})
 bytes_kept = record {
-  taken = take_bytes;
-  dropped = drop_bytes;
+  taken = bytes-take;
+  dropped = bytes-drop;
   described = λ order u clock h. tt;
   packed = λ time order u interface bytes h known k. k;
   recorded = λ time order u bytes h k. k;
@@ -217,7 +218,7 @@ module _ (options : Options) (plain : options.format ≡ Plain) where
   shown_below p out well h (Other type is good) = subst AreTexts (sym is) no_texts
   shown_below p out well h (Short type short is bad) = subst AreTexts (sym is) (short_texts (length p.bytes))
   shown_below p out well h (OtherProtocol type long protocol is good) = subst AreTexts (sym is) no_texts
-  shown_below p out well h (Route type long protocol shown) = bare_texts (drop 16 p.bytes) out well (drop_bytes 16 p.bytes h) shown
+  shown_below p out well h (Route type long protocol shown) = bare_texts (drop 16 p.bytes) out well (bytes-drop 16 p.bytes h) shown
 
   packet_texts : (number : ℕ) (p : Captured) (out : List ℕ) (well : Bool) → IsBytes p.bytes → ShowsPacket options number p out well → AreTexts out
   packet_texts number p out well h shown =

@@ -1,8 +1,7 @@
 -- The members that say where documents are from are those of a place.
 use Rattle.std.proofs.Common.{◌<◌, ◌≤◌, ◌^◌, ◌/◌, ◌%◌, ◌==◌, if◌then◌else◌, pos, ℕ, zero, suc, Bool, true, false, List, [], ◌∷◌, length, drop, slice_index, nat_lt, Option, Some, None, refl, sym, subst, arith, codes}
 use Rattle.std.proofs.lemmas.Int.{ints}
-use Rattle.json.specs.Json.{Json, null, string}
-use Rattle.json.specs.Tree.{depth}
+use Rattle.json.specs.Json.{Json, string}
 use Rattle.link_base.specs.Labels.{name_in}
 use Rattle.link_base.specs.Number.{IsBytes}
 use Rattle.link_base.proofs.Values.{bytes-drop}
@@ -11,7 +10,6 @@ use Rattle.link_capture.specs.Pcap.{netlink}
 use Rattle.link_capture.specs.Told.{Captured}
 use Rattle.link_json.specs.Doc.{Field, number_json}
 use Rattle.link_json.specs.Line.{IsPlace}
-use Rattle.link_json.proofs.Depths.{named_in_1}
 use Rattle.link_json.proofs.Places.{place}
 use Rattle.link_json.proofs.Sound.{IsSound, no_fields, field_sound, object_sound, string_sound, null_sound, number_sound, named_sound}
 use Rattle.show_captures.specs.Packet.{protocol_of, protocol_in}
@@ -22,30 +20,23 @@ use Rattle.show_json.specs.Form.{IsCaptured}
 use Rattle.show_json.specs.Place.{file_fields, line_fields, time_fields, packet_fields, packet_json, protocol_json}
 
 -- a value of such a member that nests at most n deep
-record IsFit (n : ℕ) (j : Json) : Type 0 where
-  pub sound : IsSound j
-  pub shallow : depth j ≤ n
+abbrev IsFit : ℕ → Json → Type 0
+IsFit n j = IsSound (Unit {0}) n j
 
 -- ---- instants
 
-null_fit : IsFit 1 null
-null_fit = record { sound = null_sound; shallow = omega arith }
-
-instant_fit : (utc : List ℕ) (second nanosecond : ℕ) → second < 2 ^ 64 → nanosecond < 2 ^ 64 → IsFit 1 (instant_json utc second nanosecond)
+instant_fit : {d : ℕ} (utc : List ℕ) (second nanosecond : ℕ) → second < 2 ^ 64 → nanosecond < 2 ^ 64 → IsFit (suc d) (instant_json utc second nanosecond)
 instant_fit utc second nanosecond h g =
     let fields : List Field = (codes "utc", string utc) ∷ (codes "sec", number_json second) ∷ (codes "nsec", number_json nanosecond) ∷ [] in
-    record {
-      sound = object_sound fields refl (field_sound (string_sound utc) (field_sound (number_sound second h) (field_sound (number_sound nanosecond g) no_fields)));
-      shallow = omega arith;
-    }
+    object_sound fields refl (field_sound (string_sound utc) (field_sound (number_sound second (λ k. h)) (field_sound (number_sound nanosecond (λ k. g)) no_fields)))
 
 most : (n : ℕ) → HasText (pos n) → n ≤ 253_402_207_200_999_999_999
 most n h = omega (arith, ints, h.1)
 
-clock_fit : (time : Time) (clock : Json) → ShowsClock time clock → IsFit 1 clock
-clock_fit time clock (InRange n is has utc text e) =
-    subst (IsFit 1) (sym e) (instant_fit utc (n / 1_000_000_000) (n % 1_000_000_000) (omega (arith, most n (subst HasText is has))) (omega arith))
-clock_fit time clock (OutOfRange none e) = subst (IsFit 1) (sym e) null_fit
+clock_fit : {d : ℕ} (time : Time) (clock : Json) → ShowsClock time clock → IsFit (suc d) clock
+clock_fit {d} time clock (InRange n is has utc text e) =
+    subst (IsFit (suc d)) (sym e) (instant_fit utc (n / 1_000_000_000) (n % 1_000_000_000) (omega (arith, most n (subst HasText is has))) (omega arith))
+clock_fit {d} time clock (OutOfRange none e) = subst (IsFit (suc d)) (sym e) null_sound
 
 -- ---- protocols
 
@@ -61,22 +52,21 @@ protocol_below bytes h =
     let are = bytes-drop 14 bytes h in
     omega (arith, byte_below rest 0 are, byte_below rest 1 are)
 
-named_fit : (n : ℕ) → n < 2 ^ 64 → IsFit 1 (protocol_json (Some n))
-named_fit n h = record { sound = named_sound n (name_in protocols n) h; shallow = named_in_1 n (name_in protocols n) }
+named_fit : {d : ℕ} (n : ℕ) → n < 2 ^ 64 → IsFit (suc d) (protocol_json (Some n))
+named_fit n h = named_sound n (name_in protocols n) (λ k. h)
 
-either_protocol : (is short : Bool) (n : ℕ) → n < 2 ^ 64 → IsFit 1 (protocol_json (if is then (if short then None else Some n) else None))
-either_protocol false short n h = null_fit
-either_protocol true true n h = null_fit
+either_protocol : {d : ℕ} (is short : Bool) (n : ℕ) → n < 2 ^ 64 → IsFit (suc d) (protocol_json (if is then (if short then None else Some n) else None))
+either_protocol false short n h = null_sound
+either_protocol true true n h = null_sound
 either_protocol true false n h = named_fit n h
 
-protocol_fit : (p : Captured) → IsBytes p.bytes → IsFit 1 (protocol_json (protocol_in p))
+protocol_fit : {d : ℕ} (p : Captured) → IsBytes p.bytes → IsFit (suc d) (protocol_json (protocol_in p))
 protocol_fit p h = either_protocol (p.link_type == netlink) (nat_lt (length p.bytes) 16) (protocol_of p.bytes) (omega (arith, protocol_below p.bytes h))
 
 -- ---- packets
 
-packet_fit : (number : ℕ) (clock : Json) (p : Captured) → number < 2 ^ 64 → IsFit 1 clock → IsCaptured p → IsFit 2 (packet_json number clock p)
+packet_fit : {d : ℕ} (number : ℕ) (clock : Json) (p : Captured) → number < 2 ^ 64 → IsFit (suc d) clock → IsCaptured p → IsFit (suc (suc d)) (packet_json number clock p)
 packet_fit number clock p h c is =
-    let protocol = protocol_fit p is.bytes in
     let fields : List Field =
     (codes "number", number_json number) ∷
     (codes "time", clock) ∷
@@ -84,39 +74,31 @@ packet_fit number clock p h c is =
     (codes "original_len", number_json p.original) ∷
     (codes "link_type", number_json p.link_type) ∷
     (codes "protocol", protocol_json (protocol_in p)) ∷ [] in
-    record {
-      sound = object_sound fields refl
-          (field_sound (number_sound number h)
-          (field_sound c.sound
-          (field_sound (number_sound (length p.bytes) is.length)
-          (field_sound (number_sound p.original (omega (arith, is.original)))
-          (field_sound (number_sound p.link_type (omega (arith, is.link_type)))
-          (field_sound protocol.sound no_fields))))));
-      shallow = omega (arith, c.shallow, protocol.shallow);
-    }
+    object_sound fields refl
+    (field_sound (number_sound number (λ k. h))
+    (field_sound c
+    (field_sound (number_sound (length p.bytes) (λ k. is.length))
+    (field_sound (number_sound p.original (λ k. omega (arith, is.original)))
+    (field_sound (number_sound p.link_type (λ k. omega (arith, is.link_type)))
+    (field_sound (protocol_fit p is.bytes) no_fields))))))
 
 -- ---- places
 
 pub file_place : (file : Option (List ℕ)) → IsPlace (file_fields file)
-file_place None = place [] refl no_fields (omega arith)
-file_place (Some name) = place (file_fields (Some name)) refl (field_sound (string_sound name) no_fields) (omega arith)
+file_place None = place [] refl no_fields
+file_place (Some name) = place (file_fields (Some name)) refl (field_sound (string_sound name) no_fields)
 
 pub line_place : (file : Option (List ℕ)) (n : ℕ) → n < 2 ^ 64 → IsPlace (line_fields file n)
-line_place None n h = place (line_fields None n) refl (field_sound (number_sound n h) no_fields) (omega arith)
-line_place (Some name) n h = place (line_fields (Some name) n) refl (field_sound (string_sound name) (field_sound (number_sound n h) no_fields)) (omega arith)
+line_place None n h = place (line_fields None n) refl (field_sound (number_sound n (λ k. h)) no_fields)
+line_place (Some name) n h = place (line_fields (Some name) n) refl (field_sound (string_sound name) (field_sound (number_sound n (λ k. h)) no_fields))
 
 pub time_place : (file : Option (List ℕ)) (time : Time) (clock : Json) → ShowsClock time clock → IsPlace (time_fields file clock)
-time_place None time clock shown =
-    let c = clock_fit time clock shown in
-    place (time_fields None clock) refl (field_sound c.sound no_fields) (omega (arith, c.shallow))
-time_place (Some name) time clock shown =
-    let c = clock_fit time clock shown in
-    place (time_fields (Some name) clock) refl (field_sound (string_sound name) (field_sound c.sound no_fields)) (omega (arith, c.shallow))
+time_place None time clock shown = place (time_fields None clock) refl (field_sound (clock_fit time clock shown) no_fields)
+time_place (Some name) time clock shown = place (time_fields (Some name) clock) refl (field_sound (string_sound name) (field_sound (clock_fit time clock shown) no_fields))
 
-packet_place_of : (file : Option (List ℕ)) (number : ℕ) (clock : Json) (p : Captured) → IsFit 2 (packet_json number clock p) → IsPlace (packet_fields file number clock p)
-packet_place_of None number clock p h = place (packet_fields None number clock p) refl (field_sound h.sound no_fields) (omega (arith, h.shallow))
-packet_place_of (Some name) number clock p h =
-    place (packet_fields (Some name) number clock p) refl (field_sound (string_sound name) (field_sound h.sound no_fields)) (omega (arith, h.shallow))
+packet_place_of : (file : Option (List ℕ)) (number : ℕ) (clock : Json) (p : Captured) → IsFit 127 (packet_json number clock p) → IsPlace (packet_fields file number clock p)
+packet_place_of None number clock p h = place (packet_fields None number clock p) refl (field_sound h no_fields)
+packet_place_of (Some name) number clock p h = place (packet_fields (Some name) number clock p) refl (field_sound (string_sound name) (field_sound h no_fields))
 
 pub packet_place : (file : Option (List ℕ)) (number : ℕ) (clock : Json) (p : Captured) → number < 2 ^ 64 → IsCaptured p → ShowsClock p.time clock → IsPlace (packet_fields file number clock p)
 packet_place file number clock p h is shown = packet_place_of file number clock p (packet_fit number clock p h (clock_fit p.time clock shown) is)

@@ -5,7 +5,7 @@ use Rattle.link_messages.specs.Link.{attributes_of}
 use Rattle.link_json.specs.Link.{ShowsLink}
 use Rattle.link_json.specs.List.{WritesValue}
 use Rattle.link_json.specs.Message.{ShowsBody, WritesFields, Link, NoLink, message_error}
-use Rattle.link_json.proofs.DocumentParts.{if_ok}
+use Rattle.link_show.proofs.MessageLines.{if_ok}
 use Rattle.link_json.proofs.Objects.{field_only}
 use Rattle.link_json.proofs.documents.write_about_link.Goals as goal
 

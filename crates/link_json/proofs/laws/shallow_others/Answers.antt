@@ -1,4 +1,4 @@
-use Rattle.link_json.proofs.DocumentDepths.{fault_in, list_document_in, check_in}
+use Rattle.link_json.proofs.Lines.{fault_in, list_document_in, check_in}
 use Rattle.link_json.proofs.laws.shallow_others.Goals as goal
 
 pub returns-clause-faults : goal.returns-clause-faults

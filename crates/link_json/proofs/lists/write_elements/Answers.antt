@@ -1,16 +1,20 @@
-use Rattle.std.proofs.Common.{◌≡◌, sym, ap, subst, ◌∙◌}
+use Rattle.std.proofs.Common.{◌≡◌, refl, sym, ap, subst, ◌∙◌}
 use Rattle.link_base.specs.Viewed.{bytes_in, set_of, buffer_in, set_in}
 use Rattle.netlink_packet_route.specs.Views.{elements_table}
-use Rattle.link_json.specs.List.{ShowsInner, WritesOne}
-use Rattle.link_json.proofs.Listing.{ElementsTo, elements_none, elements_more, elements_all}
+use Rattle.link_show.proofs.Listing.{LeadTo, shown_none}
+use Rattle.link_json.specs.List.{ShowsInner, ShowsElement, WritesOne}
+use Rattle.link_json.proofs.Listing.{ElementsTo, adds_none, elements_more, elements_all}
 use Rattle.link_json.proofs.lists.write_elements.Goals as goal
 
 pub loop-element-init : goal.loop-element-init
 loop-element-init c =
     let v = c.args.elements in
     let same = c.into_iter-element-iterator.ensures.into_iter_gives in
-    let table = elements_table (set_of v) in
-    (ap (λ w. elements_table (set_of w)) same, subst (λ rest. ElementsTo c.args.prefix.now table (bytes_in v) rest c.args.sheet.now c.args.sheet.now) (sym (ap bytes_in same)) (elements_none c.args.prefix.now table (bytes_in v) c.args.sheet.now))
+    let table = elements_table (set_of v) in (
+      ap (λ w. elements_table (set_of w)) same,
+      subst (λ rest. ElementsTo c.args.prefix.now table (bytes_in v) rest c.args.sheet.now c.args.sheet.now) (sym (ap bytes_in same))
+          (shown_none (ShowsElement c.args.prefix.now table) (LeadTo (bytes_in v) (bytes_in v)) c.args.sheet.now refl (adds_none c.args.sheet.now)),
+    )
 
 pub loop-element-preserved : goal.loop-element-preserved
 loop-element-preserved c =

@@ -1,9 +1,10 @@
-use Rattle.std.proofs.Common.{◌≡◌, ◌-◌, true, Some, length, ap, sym, subst, ◌∙◌}
+use Rattle.std.proofs.Common.{◌≡◌, ◌-◌, true, Some, length, refl, ap, sym, subst, ◌∙◌}
 use Rattle.link_base.specs.Viewed.{all_set_of, whole_of, left_of, buffer_in, set_in, NextOfAll, FaultsFirst}
 use Rattle.netlink_packet_route.specs.Family.{table_of}
 use Rattle.netlink_packet_route.specs.Views.{family_in}
-use Rattle.link_json.specs.List.{ShowsItem, ShowsValue, WritesOne}
-use Rattle.link_json.proofs.Listing.{ListTo, list_none, list_all, value_more, error_more}
+use Rattle.link_show.proofs.Listing.{list_none, list_done}
+use Rattle.link_json.specs.List.{ShowsValue, WritesOne}
+use Rattle.link_json.proofs.Listing.{ItemsTo, adds_none, value_more, error_more}
 use Rattle.link_json.proofs.lists.write_list.Goals as goal
 
 pub loop-item-init : goal.loop-item-init
@@ -11,11 +12,10 @@ loop-item-init c =
     let same = c.into_iter-item-iterator.ensures.into_iter_gives in
     let made = c.new-item-items.ensures in
     let list = c.args.list.bytes.now in
-    let shows = ShowsItem c.args.family c.args.list.at in
     let sheet = c.args.sheet.now in (
       ap (λ v. family_in (all_set_of v)) same ∙ ap family_in made.set,
       ap whole_of same ∙ made.list.0,
-      subst (λ rest. ListTo shows c.args.list.at list rest sheet sheet true) (sym (ap left_of same ∙ made.list.1)) (list_none shows c.args.list.at list sheet),
+      subst (λ rest. ItemsTo c.args.family c.args.list.at list rest sheet sheet true) (sym (ap left_of same ∙ made.list.1)) (list_none list sheet (adds_none sheet)),
     )
 
 pub loop-item-preserved : goal.loop-item-preserved
@@ -43,10 +43,8 @@ loop-item-preserved-in-Continue-1 c =
       ap family_in steps.3 ∙ before.0,
       steps.2 ∙ before.1,
       value_more c.args.family c.args.list.at c.args.list.bytes.now (left_of v) (left_of w) c.args.sheet.now c.loop-item.sheet c.write_value.new.sheet c.loop-item.whole (buffer_in x)
-          written.0 before.2 steps.0 written.1 written.2,
+          before.2 steps.0 written,
     )
 
 pub returns : goal.returns
-returns c =
-    list_all (ShowsItem c.args.family c.args.list.at) c.args.list.at c.args.list.bytes.now (left_of c.loop-item.item-iterator) c.args.sheet.now c.loop-item.sheet c.loop-item.whole
-    c.loop-item.invariant.2 c.in-None.ensures.steps.0
+returns c = list_done refl (left_of c.loop-item.item-iterator) c.args.sheet.now c.loop-item.sheet c.loop-item.whole c.loop-item.invariant.2 c.in-None.ensures.steps.0

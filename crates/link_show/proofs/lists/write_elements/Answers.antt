@@ -1,7 +1,8 @@
-use Rattle.std.proofs.Common.{◌≡◌, sym, ap, subst, ◌∙◌}
+use Rattle.std.proofs.Common.{◌≡◌, refl, sym, ap, subst, ◌∙◌}
 use Rattle.link_base.specs.Viewed.{bytes_in, set_of, buffer_in, set_in}
-use Rattle.link_show.specs.List.{WritesElement}
-use Rattle.link_show.proofs.Listing.{ElementsTo, elements_none, elements_more, elements_all}
+use Rattle.link_show.specs.Gained.{gains_nothing}
+use Rattle.link_show.specs.List.{ShowsElement, WritesElement}
+use Rattle.link_show.proofs.Listing.{ElementsTo, LeadTo, shown_none, elements_more, elements_all}
 use Rattle.link_show.proofs.lists.write_elements.Goals as goal
 
 pub loop-element-init : goal.loop-element-init
@@ -9,8 +10,11 @@ loop-element-init g c =
     let v = c.args.elements in
     let w = g.W.Sink.output c.args.writer.now in
     let same = c.into_iter-element-iterator.ensures.into_iter_gives in
-    let rows = g.T.AttributeSet.rows (set_of v) in
-    (ap set_of same, subst (λ rest. ElementsTo c.args.indent.now rows (bytes_in v) rest w w) (sym (ap bytes_in same)) (elements_none c.args.indent.now rows (bytes_in v) w))
+    let rows = g.T.AttributeSet.rows (set_of v) in (
+      ap set_of same,
+      subst (λ rest. ElementsTo c.args.indent.now rows (bytes_in v) rest w w) (sym (ap bytes_in same))
+          (shown_none (ShowsElement c.args.indent.now rows) (LeadTo (bytes_in v) (bytes_in v)) w refl (gains_nothing w)),
+    )
 
 pub loop-element-preserved : goal.loop-element-preserved
 loop-element-preserved g c =

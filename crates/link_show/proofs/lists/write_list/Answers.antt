@@ -1,7 +1,8 @@
-use Rattle.std.proofs.Common.{◌≡◌, ◌-◌, true, Some, length, ap, sym, subst, ◌∙◌}
+use Rattle.std.proofs.Common.{◌≡◌, ◌-◌, true, Some, length, refl, ap, sym, subst, ◌∙◌}
+use Rattle.link_show.specs.Gained.{gains_nothing}
 use Rattle.link_base.specs.Viewed.{all_set_of, whole_of, left_of, buffer_in, set_in, NextOfAll, FaultsFirst}
 use Rattle.link_show.specs.List.{WritesValue}
-use Rattle.link_show.proofs.Listing.{ListTo, list_none, value_more, error_more, list_all_written}
+use Rattle.link_show.proofs.Listing.{LinesTo, list_none, value_more, error_more, list_done}
 use Rattle.link_show.proofs.lists.write_list.Goals as goal
 
 pub loop-item-init : goal.loop-item-init
@@ -13,7 +14,7 @@ loop-item-init g c =
     let table = g.S.AttributeSet.rows c.args.set in (
       ap all_set_of same ∙ made.set,
       ap whole_of same ∙ made.list.0,
-      subst (λ rest. ListTo c.args.indent.now c.args.list.at table list rest w w true) (sym (ap left_of same ∙ made.list.1)) (list_none c.args.indent.now c.args.list.at table list w),
+      subst (λ rest. LinesTo c.args.indent.now c.args.list.at table list rest w w true) (sym (ap left_of same ∙ made.list.1)) (list_none list w (gains_nothing w)),
     )
 
 pub loop-item-preserved : goal.loop-item-preserved
@@ -51,5 +52,4 @@ loop-item-preserved-in-Continue-1 g c =
 
 pub returns : goal.returns
 returns g c =
-    list_all_written c.args.indent.now c.args.list.at (g.S.AttributeSet.rows c.args.set) c.args.list.bytes.now (left_of c.loop-item.item-iterator) (g.W.Sink.output c.args.writer.now)
-    (g.W.Sink.output c.loop-item.writer) c.loop-item.whole c.loop-item.invariant.2 c.in-None.ensures.steps.0
+    list_done refl (left_of c.loop-item.item-iterator) (g.W.Sink.output c.args.writer.now) (g.W.Sink.output c.loop-item.writer) c.loop-item.whole c.loop-item.invariant.2 c.in-None.ensures.steps.0

@@ -1,7 +1,7 @@
 use Rattle.std.proofs.Common.{◌++◌, ◌∙◌, ap, sym, subst}
 use Rattle.link_show.specs.Printable.{IsText}
 use Rattle.link_show.specs.Structs.{bridge_id_text}
-use Rattle.link_json.proofs.Printable.{bridge_id_is_text}
+use Rattle.link_show.proofs.ValuePrinting.{bridge_id_is_text}
 use Rattle.link_json.proofs.sheet.Sheet.bridge_id.Goals as goal
 
 pub push-requires : goal.push-requires

@@ -2,7 +2,7 @@ use Rattle.std.proofs.Common.{◌++◌, ◌∙◌, ap, sym, subst, arith}
 use Rattle.link_show.specs.Printable.{IsText}
 use Rattle.link_base.proofs.Numbers.{IsBytes-index}
 use Rattle.link_show.specs.List.{ip_text}
-use Rattle.link_json.proofs.Printable.{ip_is_text}
+use Rattle.link_show.proofs.LinePrinting.{ip_is_text}
 use Rattle.link_json.proofs.sheet.Sheet.ip.Goals as goal
 
 pub push-requires : goal.push-requires

@@ -1,5 +1,5 @@
--- The numbers of attributes and of messages fit into 64 bits.
-use Rattle.std.proofs.Common.{◌≡◌, ℕ, ◌+◌, ◌^◌, ◌<◌, ◌≤◌, Bool, List, [], ◌∷◌, length, drop, min, Option, Some, None, Ok, refl, sym, ap, subst, ◌∙◌, arith, length-append, length-drop}
+-- What is borrowed from attributes is bytes, and numbers that fit into 64 bits.
+use Rattle.std.proofs.Common.{◌≡◌, ℕ, zero, suc, ◌+◌, ◌^◌, ◌<◌, ◌≤◌, Bool, List, [], ◌∷◌, length, drop, min, Option, Some, None, Ok, refl, sym, ap, subst, ◌∙◌, arith, length-append, length-drop}
 use Rattle.std.specs.Int.Signed.{mag}
 use Rattle.std.specs.List.{AllByRecursion}
 use Rattle.link_base.specs.declared.wire.buffer.NlaBuffer.{NlaBuffer}
@@ -7,6 +7,7 @@ use Rattle.link_base.specs.declared.wire.fault.Cause.{Cause}
 use Rattle.link_base.specs.declared.views.content.Content.{Content}
 use Rattle.link_base.specs.declared.views.content.Content.TheVariants as contents
 use Rattle.link_base.specs.declared.rows.form.Width.{Width}
+use Rattle.link_base.specs.declared.rows.form.Width.TheVariants.{One as W1, Two as W2, Four as W4, Eight as W8}
 use Rattle.link_base.specs.Number.{IsBytes, bound}
 use Rattle.link_base.specs.Frame.{kind_of, pad, frame_bytes}
 use Rattle.link_base.specs.Buffer.{kind_field_of, payload_of, frame_of, SplitsFirst}
@@ -14,11 +15,25 @@ use Rattle.link_base.specs.Class.{Class, Value, IsInRange, extent, length_cause,
 use Rattle.link_base.specs.Class as classes
 use Rattle.link_base.specs.Table.{Shape, One, Nested, Addresses, Table, AttrValue, Gives, GivesBy, single_case, class_at}
 use Rattle.link_base.specs.Forms.{bytes_in}
+use Rattle.link_base.specs.IpAddress.{sixteen_octets}
 use Rattle.link_base.specs.Borrowed.{HasValue, Says, SaysLimits, Borrows, HasContent}
 use Rattle.link_base.proofs.FrameBytes.{bytes-payload, length-frame_bytes}
 use Rattle.link_base.proofs.Values.{bytes-take, bytes-drop, meant_in_range}
 use Rattle.link_messages.specs.Walk.{Item, Walks, Walk}
-use Rattle.link_json.proofs.Sound.{bound_up, width_fits}
+
+-- ---- numbers
+
+pub bound_up : (m n : ℕ) → m ≤ n → bound m ≤ bound n
+bound_up zero zero h = omega arith
+bound_up zero (suc n) h = let more = bound_up zero n (omega arith) in omega arith
+bound_up (suc m) zero h = absurd (omega arith)
+bound_up (suc m) (suc n) h = let more = bound_up m n (omega arith) in omega arith
+
+pub width_fits : (w : Width) → bytes_in w ≤ 8
+width_fits W1 = omega arith
+width_fits W2 = omega arith
+width_fits W4 = omega arith
+width_fits W8 = omega arith
 
 -- ---- values
 
@@ -68,10 +83,12 @@ abbrev pub ContentFits : Content → Type 0
 ContentFits (contents.Number n width order role) = n < 2 ^ 64
 ContentFits (contents.Signed z) = mag z < 2 ^ 63
 ContentFits (contents.LowFlags bits) = bits < 2 ^ 64
+ContentFits (contents.Ipv6 a) = IsBytes (sixteen_octets a)
 ContentFits (contents.Struct layout p) = IsBytes p.now
 ContentFits (contents.U16s p) = IsBytes p.now
 ContentFits (contents.U32s p) = IsBytes p.now
 ContentFits (contents.Limits name numbers) = IsBytes numbers.now
+ContentFits (contents.Addresses list size) = IsBytes list.now
 ContentFits (contents.List list flagged) = IsBytes list.now
 ContentFits content = Unit {0}
 
@@ -79,10 +96,12 @@ said_fits : (content : Content) (v : Value) → ValueFits v → Says content v �
 said_fits (contents.Number n width order role) v h e = number_fits width n e.1
 said_fits (contents.Signed z) v h e = subst ValueFits e h
 said_fits (contents.LowFlags bits) v h e = let few : bits < 256 = subst ValueFits e h in omega (arith, few)
+said_fits (contents.Ipv6 a) v h e = subst ValueFits e h
 said_fits (contents.Struct layout p) v h e = subst ValueFits e h
 said_fits (contents.U16s p) v h e = subst ValueFits e h
 said_fits (contents.U32s p) v h e = subst ValueFits e h
 said_fits (contents.Limits name numbers) v h e = absurd e
+said_fits (contents.Addresses list size) v h e = absurd e
 said_fits (contents.List list flagged) v h e = absurd e
 said_fits content v h e = tt
 
@@ -98,9 +117,9 @@ list_fits : (content : Content) (flagged : Bool) (rows : _) (p : List ℕ) → I
 list_fits (contents.List list flag) flagged rows p h e = subst IsBytes (sym e) h
 list_fits content flagged rows p h e = absurd e
 
-addresses_fit : (content : Content) (n : ℕ) (p : List ℕ) → Borrows (Some (Addresses n)) p content → ContentFits content
-addresses_fit (contents.Addresses list size) n p e = tt
-addresses_fit content n p e = absurd e
+addresses_fit : (content : Content) (n : ℕ) (p : List ℕ) → IsBytes p → Borrows (Some (Addresses n)) p content → ContentFits content
+addresses_fit (contents.Addresses list size) n p h e = subst IsBytes (sym e.1) h
+addresses_fit content n p h e = absurd e
 
 one_fits : (c : Class) (content : Content) (p : List ℕ) → IsBytes p → length_cause (extent c) (length p) ≡ None → Borrows (Some (One c)) p content → ContentFits content
 one_fits classes.Limits content p h a e = limits_fit content p h e
@@ -124,14 +143,14 @@ content_fits table b content h has = by (class_at table (kind_of (kind_field_of 
     by None e says = other_fits content (payload_of b) says
     by (Some (One c)) e says = one_fits c content (payload_of b) h (accepted table (kind_field_of b) (payload_of b) c e has.decodes) says
     by (Some (Nested flagged rows)) e says = list_fits content flagged rows (payload_of b) h says
-    by (Some (Addresses n)) e says = addresses_fit content n (payload_of b) says
+    by (Some (Addresses n)) e says = addresses_fit content n (payload_of b) h says
 
 -- ---- lists
 
--- an attribute in a list of n bytes
-pub record ItemFits (n : ℕ) (x : Item) : Type 0 where
+-- an attribute in a list of n bytes, if K says that they are bytes
+pub record ItemFits (K : Type 0) (n : ℕ) (x : Item) : Type 0 where
   pub kind : kind_field_of x.1 < 65536
-  pub bytes : IsBytes (payload_of x.1)
+  pub bytes : K → IsBytes (payload_of x.1)
   pub inside : x.0 + 4 + length (payload_of x.1) ≤ n
 
 split_inside : (s : List ℕ) (b : NlaBuffer) (u : List ℕ) → SplitsFirst s b u → (4 + length (payload_of b) ≤ length s) × (length u ≤ length s)
@@ -140,20 +159,20 @@ split_inside s b u split =
     let whole = ap length split.0.string in
     (omega (arith, whole, length-append (frame_bytes (frame_of b)) split.0.rest, length-frame_bytes (frame_of b)), omega (arith, ap length split.1, length-drop (min (pad (4 + length p)) (length s)) s))
 
-walks_fit : (n : ℕ) (s : List ℕ) (items : List Item) (t : List ℕ) → length s ≤ n → IsBytes s → Walks n s items t → AllByRecursion (ItemFits n) items
+walks_fit : {K : Type 0} (n : ℕ) (s : List ℕ) (items : List Item) (t : List ℕ) → length s ≤ n → (K → IsBytes s) → Walks n s items t → AllByRecursion (ItemFits K n) items
 walks_fit n s [] t few h w = tt
 walks_fit n s (x ∷ items) t few h w =
     let (u, split, more) = w.1 in
     let room = split_inside s x.1 u split in (
       record {
         kind = split.0.is.kind_field;
-        bytes = bytes-payload (frame_of x.1) split.0.rest (subst IsBytes split.0.string h);
+        bytes = λ k. bytes-payload (frame_of x.1) split.0.rest (subst IsBytes split.0.string (h k));
         inside = omega (arith, few, w.0, room.0);
       },
-      walks_fit n u items t (omega (arith, few, room.1)) (subst IsBytes (sym split.1) (bytes-drop _ s h)) more,
+      walks_fit n u items t (omega (arith, few, room.1)) (λ k. subst IsBytes (sym split.1) (bytes-drop _ s (h k))) more,
     )
 
-pub walk_fits : (list : List ℕ) (items : List Item) (fault : Option (ℕ × Cause)) → IsBytes list → Walk list items fault → AllByRecursion (ItemFits (length list)) items
+pub walk_fits : {K : Type 0} (list : List ℕ) (items : List Item) (fault : Option (ℕ × Cause)) → (K → IsBytes list) → Walk list items fault → AllByRecursion (ItemFits K (length list)) items
 walk_fits list items fault h w = walks_fit (length list) list items w.rest (omega arith) h w.walks
 
 -- where a list ends
