@@ -9,8 +9,8 @@ ghost use Rattle.uses.specs.Reading.{IsLastNumber};
 
 use netlink_packet_route::implementing::by_rows::{self, AttributeRows, RowVisitor};
 use netlink_packet_route::implementing::{
-    Attribute, DecodeError, DecodeFault, DefaultNla, KindLabel, Meaning, Nla,
-    NlaBuffer, Parseable, Place, TryClone,
+    Attribute, DecodeError, DecodeFault, DefaultNla, KindLabel, Meaning, Nla, NlaBuffer, Parseable,
+    Place, TryClone,
 };
 use netlink_packet_route::link::ListFault;
 use netlink_packet_route::views::view_list;
