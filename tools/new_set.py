@@ -5,7 +5,8 @@ usage: tools/new_set.py NAME TYPE CRATE WORDS
 
 It is src/dsa.rt of link_vlan_can with these names in place of its own, and WORDS in place of `DSA port`, but without
 variants and rows. Write these from the kernel's headers, and not from sets/NAME.tsv: the prover compares the two. A file
-that is there is not changed. Nothing is checked later: `thorough` names the theorems of enums, flags and structs, by hand.
+that is there is not changed. Nothing is checked later. By hand, name the theorems of enums, flags and structs in `thorough`, and
+write the prefix of the names if it is not `IFLA_NAME_`.
 """
 import os
 import re

@@ -244,14 +244,15 @@ class Tree:
 
     @functools.cached_property
     def tables(self):
-        """The tables in specs/, by name: their rows by number, each with a name, a quantity or '', and a shape."""
+        """The tables in specs/, by name: their rows by number, each with a name, a quantity or '', and a shape without
+        brackets."""
         tables = {}
         lists = {"nested_": "Nested ", "address_": "Addresses "}
         for text in self.of(r"crates/[^/]+/specs/.*\.antt"):
             for table, body in re.findall(r"^(\w+) =(.*(?:\n[ \t].*|\n)*)", re.sub(r"--.*", "", text), re.MULTILINE):
                 # (a variant may be named with its module, as `layouts.Clock`)
                 found = ROW_OF_TABLE.findall(re.sub(r"\b[a-z]+\.(?=[A-Z])", "", " ".join(body.split())))
-                here = {number: (name, unit, lists.get(of, "") + shape) for of, unit, number, name, shape in found}
+                here = {number: (name, unit, lists.get(of, "") + re.sub(r"[()]", "", shape)) for of, unit, number, name, shape in found}
                 tables |= {table: here} if here else {}
         return tables
 

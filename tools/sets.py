@@ -2,7 +2,7 @@
 
 sets/NAME.tsv has a set, or a nested list, as the contracts describe it. Write it from the kernel's headers, the
 `nla_policy` and the fill function of the driver. The rows of src/ are written without it, and the prover compares the two.
-Its head has the header of the file in specs/; then `set` or `list`, the path of the enum, and what the names begin with:
+Its head has the header of the file in specs/; then `set` or `list`, the path of the enum, and the prefix of the names:
 
     # DSA port attributes.
     # set link_vlan_can::dsa::InfoDsa IFLA_DSA_
@@ -46,6 +46,7 @@ CLASSES = {
     "Vec<u8>": ("bytes", "Raw {0}.items"),
     "Vec<u16>": ("u16s", "Raw (octets_of 2 {0}.items)"),
     "Vec<u32>": ("u32s", "Raw (octets_of 4 {0}.items)"),
+    "Vec<u64>": ("u64s", "Raw (octets_of 8 {0}.items)"),
     "(u32, u32)": ("pair", "Raw (octets_of 4 ({0} ∷ {1} ∷ []))"),
     "CanBitTimingConst": ("limits", "limits_value {0}"),
     "none": ("no_value", "Nothing"),
@@ -56,7 +57,7 @@ CLASSES = {
     "BeFlagBits": ("u{bits}_be_flags T_bit_names", "Raw (bytes_be {n} (T_bits {0}))"),
     "LowFlagBits": ("low_flags T_bit_names", "LowByte (T_bits {0})"),
     "MaskedFlags": ("masked_flags T_bit_names", "Raw (octets_of 4 (T_bits {0}.0 ∷ T_bits {0}.1 ∷ []))"),
-    "Struct": ("struct_of {layout}", "Raw (T_octets {0})"),
+    "Struct": ("struct_of {layout} T_fields", "Raw (packed (T_held {0}))"),
     "NestedList": ("{nested} T_rows", "Inner {nested} (map T_leaf {0}.items)"),
     "AddressList<Ipv4Addr>": ("4", "Listed (map four_octets {0}.items)"),
     "AddressList<Ipv6Addr>": ("16", "Listed (map sixteen_octets {0}.items)"),
@@ -71,13 +72,14 @@ MODULES = {
     "std.specs.Prelude": "[] ◌∷◌ map true false",
     "link_base.specs.Number": "bytes_be",
     "link_base.specs.Layout": "octets_of",
+    "link_base.specs.Structs": "packed",
     "link_base.specs.Class": "Number Integer Boolean Raw LowByte EtherType Nothing",
     "link_base.specs.Payloads": "",
     "link_base.specs.declared.rows.form.Layout.TheVariants as layouts": "layouts",
     "link_base.specs.declared.classes.lengths.Lengths.TheVariants as lengths": "lengths",
     "link_base.specs.Named": "numbers_of seen_value",
     "link_base.specs.declared.rows.label.Quantity.TheVariants": " ".join(sorted(UNITS)),
-    "link_base.specs.Table": "Rows Leaf Table AttrValue Case Single Inner Listed row row_in leaf_row leaf_row_in nested_row address_row",
+    "link_base.specs.Table": "Rows Leaf Table AttrValue Case Single Inner Listed row row_in leaf_row leaf_row_in nested_row address_row prefixed",
     "link_base.specs.IpAddress": "four_octets sixteen_octets",
     "link_base.specs.Protocol": "protocol_number",
     "link_base.specs.Default": "default_means",
@@ -90,8 +92,8 @@ def check(at, holds, message):
 
 
 class Set:
-    """A set or a nested list. `types` has its attribute types, `rows` those with a variant; `defined` the files of the
-    definitions of its crate, by their names."""
+    """A set or a nested list. `prefix` is what its names begin with, `types` has its attribute types, `rows` those with a
+    variant; `defined` the files of the definitions of its crate, by their names."""
 
     def __init__(self, path, files, text_of):
         self.name, text = path[5:-4], text_of(path)
@@ -129,7 +131,7 @@ class Set:
         layout = [f"layouts.{it}" for it in self.layouts if kind == "Struct" and of.endswith(it) and not size]
         check(at, layout or re.fullmatch(sizes, size), f"`{size}` is not a size of `{its_class}`")
         if kind == "Struct" and self.definition(of, "bit_names"):
-            word = "flags_struct {layout} T_bit_names"
+            word = "flags_struct {layout} T_bit_names T_fields"
         told = {"n": size, "bits": 8 * int(size if size.isdigit() else 0), "nested": str(flag == "NLA_F_NESTED").lower()}
         told["layout"] = layout[0] if layout else f"(layouts.Other (lengths.{size}))"
 
@@ -140,6 +142,7 @@ class Set:
         word, value = (re.sub(r"\bT_(\w+)", found, it.format("{0}", "{1}", **told)) for it in (word, value))
         first = word.partition(" ")[0]
         check(at, first in ["", "true", "false", "4", "16", *self.payloads], f"Payloads has no word `{first}`")
+        check(at, not word or name.startswith(self.prefix), f"`{name}` does not begin with {self.prefix}")
         check(at, len(fields) == len({*re.findall(r"\{\d\}", value)}), f"`{variant}` has {len(fields)} names of fields")
         return Row(at, int(number), name, variant, fields, its_class, size, quantity, word, value)
 
@@ -191,18 +194,18 @@ def specs(it):
     leaf = it.kind == "list"
     table, value = ("Rows", "Leaf") if leaf else ("Table", "AttrValue")
     rows = [row_of_table(row, leaf) for row in it.rows]
-    body = f" {rows[0]} []" if len(rows) == 1 else "".join(f"\n    {row}" for row in rows) + " []"
+    body = f"{rows[0]} []" if len(rows) == 1 else "".join(f"\n    {row}" for row in rows) + " []"
     means = "".join(f"{it.means} {clause(row, leaf, row.fields)}\n" for row in it.rows)
     without = "".join(f". Type {row.number}, {row.name}, has no row" for row in it.types if not row.word)
     # (names of the kernel, of variants and of fields are not imported)
     pairs = [f"{row} {clause(of, leaf, ['_'] * len(of.fields))}" for row, of in zip(rows, it.rows)]
-    words = re.findall(r"\w+", re.sub(r'".*?"|\binfos\.\w+', "", " ".join([*pairs, table, value, "default_means"])))
+    words = re.findall(r"\w+", re.sub(r'".*?"|\binfos\.\w+', "", " ".join([*pairs, table, value, "default_means", "prefixed"])))
     return f"""\
 -- {it.title}
 {"".join(f"use Rattle.{line}{chr(10)}" for line in imports(it, words))}
 -- one row for each attribute type{without}
 abbrev pub {it.table} : {table}
-{it.table} ={body}
+{it.table} = prefixed "{it.prefix}" ({body})
 
 -- the attribute that a value represents
 abbrev pub {it.means} : {it.enum} → {value}

@@ -120,12 +120,12 @@ rows! {
 TABLES = """\
 use Rattle.link_pairs.specs.Pair.{pair_table}
 pair_table : Table
-pair_table =
+pair_table = prefixed "PAIR_" (
     row_in Seconds 1 "PAIR_AGE" u32 ∷
     nested_row 2 "PAIR_ENDS" false end_rows ∷
-    row 3 "PAIR_KIND" u32 ∷ []
+    row 3 "PAIR_KIND" u32 ∷ [])
 
-end_rows = leaf_row_in Index 1 "END_INDEX" (u32_enum ends) ∷ []
+end_rows = prefixed "END_" (leaf_row_in Index 1 "END_INDEX" (u32_enum ends) ∷ [])
 """
 # The list of attribute sets, and lists that agree with it.
 FAMILIES = """\

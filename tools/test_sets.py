@@ -31,7 +31,7 @@ def of_class(its_class, size="", quantity="", number="7"):
     nested = "abbrev pub tdc_pairs_rows : Rows\nabbrev pub tdc_pairs_leaf : Leaf\n"
     it = sets.Set("sets/some.tsv", files, lambda path: text if path == "sets/some.tsv" else nested if "Nested" in path else TREE.text(path))
     made = sets.specs(it)
-    table, means = re.search(r"^some_table = (.*) ∷ \[\]$", made, re.MULTILINE)[1], re.search(r" = Case (.*)", made)[1]
+    table, means = re.search(r'^some_table = prefixed "IFLA_SOME_" \((.*) ∷ \[\]\)$', made, re.MULTILINE)[1], re.search(r" = Case (.*)", made)[1]
     return table, means, sets.sample(it.rows[0]), made
 
 
@@ -57,6 +57,8 @@ class Sets(unittest.TestCase):
             ("<HsrProtocol>", "<Mode>", f"{HSR}:9: specs/ has no `names` of `Mode`"),
             ("u32\t\tInterfaceIndex\n3", "u32\t\tIndex\n3", f"{HSR}:4: there is no quantity `Index`"),
             ("Version version", "Version", f"{HSR}:8: `Version` has 0 names of fields"),
+            ("6\tIFLA_HSR_VERSION", "6\tIFLA_VERSION", f"{HSR}:8: `IFLA_VERSION` does not begin with IFLA_HSR_"),
+            ("InfoHsr IFLA_HSR_", "InfoHsr IFLA_", "Hsr.antt", "hsr"),
             ("5\tIFLA", "five\tIFLA", f"{HSR}:7: its cells are not number, name, variant, class, size and quantity"),
             ("# set", "# sets", f"{HSR}:1: it has no head with a header, then `set` or `list`, an enum, and what its names begin with"),
         ):
@@ -84,14 +86,17 @@ class Sets(unittest.TestCase):
             ("Ipv4Addr", "ipv4", "Raw (four_octets x)", b"\7\x18\x29\x3a", "7.24.41.58", "7.24.41.58", '"7.24.41.58"'),
             ("Vec<u8>", "bytes", "Raw x.items", bytes.fromhex("0718293a4b"), "07:18:29:3a:4b", "[7, 24, 41, 58, 75]", '"07:18:29:3a:4b"'),
             (("Vec<u16>", "", "Ohms"), "u16s", "Raw (octets_of 2 x.items)", b"\7\x18\x29\x3a", "6151 14889 ohm", "[6151, 14889]", "[6151,14889]"),
+            ("Vec<u64>", "u64s", "Raw (octets_of 8 x.items)", bytes.fromhex("0718293a4b5c6d7e8fa0b1c2d3e4f506"),
+             "9110039099408455687 501558531677331599", *(f"[9110039099408455687,{it}501558531677331599]" for it in (" ", ""))),
             ("(u32, u32)", "pair", "Raw (octets_of 4 (x ∷ y ∷ []))"),
             (("Named<HsrProtocol>", "1"), "(u8_enum hsr_protocol_names)",
              "seen_value 1 (numbers_of hsr_protocol_names) (hsr_protocol_seen x)", b"\xc7", "199", "Other(199)", named),
             (("FlagBits<VlanFlags>", "2"), "(u16_flags vlan_bit_names)", "Number 2 (vlan_bits x)"),
             (("BeFlagBits<VlanFlags>", "2"), "(u16_be_flags vlan_bit_names)", "Raw (bytes_be 2 (vlan_bits x))"),
             ("MaskedFlags<VlanFlags>", "(masked_flags vlan_bit_names)", "Raw (octets_of 4 (vlan_bits x.0 ∷ vlan_bits x.1 ∷ []))"),
-            ("Struct<CanClock>", "(struct_of layouts.Clock)", "Raw (clock_octets x)"),
-            (("Struct<SomeTiming>", "AtLeast 4"), "(struct_of (layouts.Other (lengths.AtLeast 4)))", "Raw (timing_octets x)"),
+            ("Struct<CanClock>", "(struct_of layouts.Clock clock_fields)", "Raw (packed (clock_held x))"),
+            (("Struct<SomeTiming>", "AtLeast 4"),
+             "(struct_of (layouts.Other (lengths.AtLeast 4)) timing_fields)", "Raw (packed (timing_held x))"),
         ):  # fmt: skip
             its_class, *more = (its_class,) if isinstance(its_class, str) else its_class
             table, value, found, _ = of_class(its_class, *more)
@@ -99,7 +104,7 @@ class Sets(unittest.TestCase):
             self.assertEqual(tuple(sample) or None, found)
         table, value, _, made = of_class("NestedList<CanTdcPairs>", number="7 | NLA_F_NESTED")
         self.assertEqual(('nested_row 7 "IFLA_SOME_ONE" true tdc_pairs_rows', "7 (Inner true (map tdc_pairs_leaf x.items))"), (table, value))
-        self.assertIn("specs.Prelude.{[], ◌∷◌, map, true}\nuse Rattle.link_base.specs.Table.{Table, AttrValue, Case, Inner, nested_row}\n", made)
+        self.assertIn("specs.Prelude.{[], ◌∷◌, map, true}\nuse Rattle.link_base.specs.Table.{Table, AttrValue, Case, Inner, nested_row, prefixed}\n", made)
         table, value, *_ = of_class("AddressList<Ipv6Addr>")
         self.assertEqual(('address_row 7 "IFLA_SOME_ONE" 16', "7 (Listed (map sixteen_octets x.items))"), (table, value))
 
@@ -113,14 +118,14 @@ use Rattle.std.specs.Prelude.{[], ◌∷◌}
 use Rattle.link_base.specs.Class.{Number}
 use Rattle.link_base.specs.Payloads.{u32}
 use Rattle.link_base.specs.declared.rows.label.Quantity.TheVariants.{Seconds}
-use Rattle.link_base.specs.Table.{Rows, Leaf, Case, leaf_row_in}
+use Rattle.link_base.specs.Table.{Rows, Leaf, Case, leaf_row_in, prefixed}
 use Rattle.link_base.specs.Default.{default_means}
 use Rattle.link_vlan_can.specs.declared.some.part.Part.{Part}
 use Rattle.link_vlan_can.specs.declared.some.part.Part.TheVariants as infos
 
 -- one row for each attribute type. Type 2, IFLA_PART_PAD, has no row
 abbrev pub part_rows : Rows
-part_rows = leaf_row_in Seconds 1 "IFLA_PART_A" u32 ∷ []
+part_rows = prefixed "IFLA_PART_" (leaf_row_in Seconds 1 "IFLA_PART_A" u32 ∷ [])
 
 -- the attribute that a value represents
 abbrev pub part_leaf : Part → Leaf

@@ -1,7 +1,9 @@
 //! Folds the contents of attributes into a number, so that the compiler can leave none out.
 
 use link_base::Attribute;
+use link_base::rows::form::Width;
 use link_base::views::attribute_set::{AttributeSet, ElementSet, Set};
+use link_base::rows::form::Width;
 use link_base::views::content::Content;
 use link_base::views::view::{Value, View};
 
@@ -58,8 +60,11 @@ fn folded<N: Nested>(attribute: &N, content: Content<'_>) -> u64 {
         Content::Ipv6(address) => folded_words(&address.octets()),
         Content::Bytes(bytes) => folded_bytes(bytes),
         Content::Struct { bytes, .. } => folded_bytes(bytes),
-        Content::U16s(bytes) => folded_halves(bytes),
-        Content::U32s(bytes) => folded_words(bytes),
+        Content::Numbers {
+            width: Width::Two,
+            bytes,
+        } => folded_halves(bytes),
+        Content::Numbers { bytes, .. } => folded_words(bytes),
         Content::Limits { name, numbers } => {
             folded_bytes(name).wrapping_add(folded_words(numbers))
         }
@@ -88,7 +93,7 @@ fn folded_halves(bytes: &[u8]) -> u64 {
     sum
 }
 
-/// Returns the sum of `u32`s.
+/// Returns the sum of `u32`s, or of the halves of `u64`s.
 fn folded_words(bytes: &[u8]) -> u64 {
     let mut sum = 0u64;
     for it in bytes.chunks_exact(4) {

@@ -22,7 +22,7 @@ use Rattle.link_base.specs.Frame.{kind_of}
 use Rattle.link_base.specs.Labels.{label_of, label_in}
 use Rattle.link_base.specs.Payloads.{number_class, class_by}
 use Rattle.link_base.specs.Orders.{bytes_by}
-use Rattle.link_base.specs.Table.{Row, Shape, One, Nested, Addresses, Table, AttrValue, Gives, GivesBy, row_at, class_at, form_at, label_at, label_by, single_case}
+use Rattle.link_base.specs.Table.{Label, Row, Shape, One, Nested, Addresses, Table, AttrValue, Gives, GivesBy, row_at, class_at, form_at, label_at, label_by, single_case}
 use Rattle.link_base.specs.Borrowed.{Says, SaysAddresses, told, Borrows, BorrowsBy, HasValue}
 use Rattle.link_base.specs.WellFormed.{is_table}
 use Rattle.link_base.proofs.Coherence.{row_told}
@@ -109,7 +109,7 @@ module _ (table : Table) (f : ℕ) (formed : is_table table ≡ true) where
       by_row None at = let none = e ∙ ap (option_map label_by) at in absurd cc
       by_row (Some r) at =
           let same : label_of label ≡ label_by r = some_same (e ∙ label_of_row table (kind_of f) r at) in
-          let form : r.form ≡ label.form = sym (ap (λ l. l.2) same) in
+          let form : r.form ≡ label.form = sym (ap (λ (l : Label). l.form) same) in
           record {
             names = r.names;
             shape = r.class;

@@ -24,6 +24,10 @@ IsOctets-numbers width value (x ∷ xs) =
       bytes-append first (octets_by width value xs) (IsBytes-bytes_of width (value x)) rest.1,
     )
 
+-- the number of bytes of values that are numbers
+pub values_len : {A : Type 0} (width : ℕ) (value : A → ℕ) (xs : List A) → length (octets_by width value xs) ≡ width * length xs
+values_len width value xs = (IsOctets-numbers width value xs).0
+
 -- the number of bytes of consecutive numbers
 pub numbers_len : (width : ℕ) (xs : List ℕ) → length (octets_of width xs) ≡ width * length xs
 numbers_len width xs = (IsOctets-numbers width (λ n. n) xs).0

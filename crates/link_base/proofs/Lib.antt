@@ -37,6 +37,7 @@ pub mod Naming
 pub mod NamedPayloads
 pub mod FlagLemmas
 pub mod Layouts
+pub mod Structs
 pub mod ViewLemmas
 pub mod ViewWalks
 pub mod Elements

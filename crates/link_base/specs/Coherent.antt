@@ -39,8 +39,7 @@ is_single form = true
 
 -- an array: its numbers are elements
 abbrev pub is_array : Form → Bool
-is_array forms.U16s = true
-is_array forms.U32s = true
+is_array (forms.Numbers w) = true
 is_array form = false
 
 -- the class is that of the form

@@ -159,6 +159,9 @@ u16_vectors = number_vectors 2
 pub u32_vectors : {k : ℕ} → IsThorough (λ (xs ys : Vec ℕ Global). pointwise nat_eq xs.items ys.items) (λ xs. Case k (Single (Raw (written_numbers 4 xs.items))))
 u32_vectors = number_vectors 4
 
+pub u64_vectors : {k : ℕ} → IsThorough (λ (xs ys : Vec ℕ Global). pointwise nat_eq xs.items ys.items) (λ xs. Case k (Single (Raw (written_numbers 8 xs.items))))
+u64_vectors = number_vectors 8
+
 -- IP addresses in a vector
 addresses : {A : Type 0} {eq : A → A → Bool} {octets : A → List ℕ} {k : ℕ} → IsThorough eq octets
     → IsThorough (λ (xs ys : Vec A Global). pointwise eq xs.items ys.items) (λ xs. Case k (Listed (map octets xs.items)))
@@ -195,4 +198,4 @@ pub protocols : IsThorough (sameb (declared enum)) (λ (p : VlanProtocol). p)
 protocols = record { same = two_protocols }
 
 -- the lemmas with which `search` proves that the tests of fields are thorough
-pub ruleset thorough_fields = (defaults, byte_vectors, u16_vectors, u32_vectors, four, sixteen, one_four, one_sixteen, numbers, integers, truths, octets, protocols, lists, anything)
+pub ruleset thorough_fields = (defaults, byte_vectors, u16_vectors, u32_vectors, u64_vectors, four, sixteen, one_four, one_sixteen, numbers, integers, truths, octets, protocols, lists, anything)

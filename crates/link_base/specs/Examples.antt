@@ -34,7 +34,7 @@ after_letters bytes = replicate 13 0x61 ++ bytes
 
 -- attribute type 1, with this form, these names, and payloads of this shape
 abbrev pub one_row : Form → List (ℕ × List ℕ) → Shape → Table
-one_row form names shape = row_of quantities.Number 1 (codes "ROW") form names shape ∷ []
+one_row form names shape = row_of [] quantities.Number 1 (codes "ROW") form names [] shape ∷ []
 
 -- attribute type 3: a list with an array
 abbrev pub arrays : Table

@@ -6,6 +6,7 @@ pub mod Forms
 pub mod Fields
 pub mod Orders
 pub mod Payloads
+pub mod Structs
 pub mod Wire
 pub mod Table
 pub mod Coherent

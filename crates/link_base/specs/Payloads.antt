@@ -1,24 +1,28 @@
 -- What a row of a table says of payloads: the form of their values, the names of numbers or bits, and, by these, their
 -- class.
-use Rattle.std.specs.Prelude.{ℕ, Bool, true, false, List, [], map}
+use Rattle.std.specs.Prelude.{ℕ, Bool, true, false, List, [], ◌∷◌, map, codes}
+use Prim.Native.String.{String}
 use Rattle.link_base.specs.declared.rows.form.Width.TheVariants.{One, Two, Four, Eight}
 use Rattle.link_base.specs.declared.rows.form.Order.{Order}
 use Rattle.link_base.specs.declared.rows.form.Order.TheVariants.{Little, Big}
 use Rattle.link_base.specs.declared.rows.form.Role.{Role}
 use Rattle.link_base.specs.declared.rows.form.Role.TheVariants as roles
 use Rattle.link_base.specs.declared.rows.form.Layout.{Layout}
+use Rattle.link_base.specs.declared.rows.label.Quantity.{Quantity}
+use Rattle.link_base.specs.declared.rows.label.Quantity.TheVariants as quantities
 use Rattle.link_base.specs.declared.rows.form.Form.{Form}
 use Rattle.link_base.specs.declared.rows.form.Form.TheVariants as forms
 use Rattle.link_base.specs.Class.{Exactly, Class, Unsigned, Signed, Truth, Octets, Bytes, Many, Named, Protocol, Low, Empty, Limits}
 use Rattle.link_base.specs.Named.{Naming, texts_of}
 use Rattle.link_base.specs.Protocol.{vlan_protocols}
-use Rattle.link_base.specs.Forms.{bytes_in}
-use Rattle.link_base.specs.Forms.{layout_extent}
+use Rattle.link_base.specs.Fields.{FieldRow}
+use Rattle.link_base.specs.Forms.{bytes_in, layout_extent}
 
--- the form of the values, and the names of their numbers or of their bits, each with its number
+-- the form of the values, the names of their numbers or of their bits, each with its number, and the fields of a struct
 pub record Payloads : Type 0 where
   pub form : Form
   pub names : List (ℕ × List ℕ)
+  pub fields : List FieldRow
 
 -- the class of numbers of n bytes in this order; in network byte order it is bytes
 abbrev pub number_class : Order → Role → ℕ → List (ℕ × List ℕ) → Class
@@ -41,8 +45,7 @@ class_by forms.Ipv4 names = Octets (Exactly 4)
 class_by forms.Ipv6 names = Octets (Exactly 16)
 class_by forms.Bytes names = Bytes
 class_by (forms.Struct layout) names = Octets (layout_extent layout)
-class_by forms.U16s names = Many 2
-class_by forms.U32s names = Many 4
+class_by (forms.Numbers w) names = Many (bytes_in w)
 class_by forms.Limits names = Limits
 class_by (forms.Addresses n) names = Bytes
 class_by (forms.List flagged) names = Bytes
@@ -54,8 +57,7 @@ class_of p = class_by p.form p.names
 -- payloads of the form are written with one size
 abbrev pub is_fixed : Form → Bool
 is_fixed forms.Bytes = false
-is_fixed forms.U16s = false
-is_fixed forms.U32s = false
+is_fixed (forms.Numbers w) = false
 is_fixed forms.Limits = false
 is_fixed (forms.Addresses n) = false
 is_fixed (forms.List flagged) = false
@@ -63,7 +65,11 @@ is_fixed form = true
 
 -- without names
 abbrev pub plain : Form → Payloads
-plain form = record { form = form; names = [] }
+plain form = record { form = form; names = []; fields = [] }
+
+-- with the names of numbers or of bits
+abbrev pub with_names : Form → List (ℕ × List ℕ) → Payloads
+with_names form names = record { form = form; names = names; fields = [] }
 
 -- ---- the words of rows: unsigned and signed numbers, and booleans
 
@@ -98,40 +104,40 @@ u64_be = plain (forms.Number Eight Big roles.Plain)
 -- ---- enums, with the names of their numbers
 
 abbrev pub u8_enum : {T : Type 0} → Naming T → Payloads
-u8_enum names = record { form = forms.Number One Little roles.Enum; names = texts_of names }
+u8_enum names = with_names (forms.Number One Little roles.Enum) (texts_of names)
 
 abbrev pub u16_enum : {T : Type 0} → Naming T → Payloads
-u16_enum names = record { form = forms.Number Two Little roles.Enum; names = texts_of names }
+u16_enum names = with_names (forms.Number Two Little roles.Enum) (texts_of names)
 
 abbrev pub u32_enum : {T : Type 0} → Naming T → Payloads
-u32_enum names = record { form = forms.Number Four Little roles.Enum; names = texts_of names }
+u32_enum names = with_names (forms.Number Four Little roles.Enum) (texts_of names)
 
 -- a number of an enum of the headers, for which Rust has no enum
 abbrev pub u32_coded : List (ℕ × List ℕ) → Payloads
-u32_coded names = record { form = forms.Number Four Little roles.Coded; names = names }
+u32_coded names = with_names (forms.Number Four Little roles.Coded) names
 
 -- ---- sets of flags, with the names of their bits
 
 abbrev pub u8_flags : List (ℕ × List ℕ) → Payloads
-u8_flags names = record { form = forms.Number One Little roles.Flags; names = names }
+u8_flags names = with_names (forms.Number One Little roles.Flags) names
 
 abbrev pub u16_flags : List (ℕ × List ℕ) → Payloads
-u16_flags names = record { form = forms.Number Two Little roles.Flags; names = names }
+u16_flags names = with_names (forms.Number Two Little roles.Flags) names
 
 abbrev pub u32_flags : List (ℕ × List ℕ) → Payloads
-u32_flags names = record { form = forms.Number Four Little roles.Flags; names = names }
+u32_flags names = with_names (forms.Number Four Little roles.Flags) names
 
 -- in network byte order
 abbrev pub u16_be_flags : List (ℕ × List ℕ) → Payloads
-u16_be_flags names = record { form = forms.Number Two Big roles.Flags; names = names }
+u16_be_flags names = with_names (forms.Number Two Big roles.Flags) names
 
 -- a set of one byte, in two bytes
 abbrev pub low_flags : List (ℕ × List ℕ) → Payloads
-low_flags names = record { form = forms.LowFlags; names = names }
+low_flags names = with_names forms.LowFlags names
 
 -- a set, and a mask
 abbrev pub masked_flags : List (ℕ × List ℕ) → Payloads
-masked_flags names = record { form = forms.MaskedFlags; names = names }
+masked_flags names = with_names forms.MaskedFlags names
 
 -- ---- addresses, structs, and bytes
 
@@ -145,32 +151,57 @@ abbrev pub ipv6 : Payloads
 ipv6 = plain forms.Ipv6
 
 abbrev pub vlan_protocol : Payloads
-vlan_protocol = record { form = forms.Protocol; names = texts_of vlan_protocols }
+vlan_protocol = with_names forms.Protocol (texts_of vlan_protocols)
 
 -- two `u32`s
 abbrev pub pair : Payloads
 pair = plain forms.Pair
 
--- a fixed-layout struct
-abbrev pub struct_of : Layout → Payloads
-struct_of layout = plain (forms.Struct layout)
+-- a fixed-layout struct, and its fields in the order in which they are shown
+abbrev pub struct_of : Layout → List FieldRow → Payloads
+struct_of layout fields = record { form = forms.Struct layout; names = []; fields = fields }
 
 -- one with sets of flags, and the names of their bits
-abbrev pub flags_struct : Layout → List (ℕ × List ℕ) → Payloads
-flags_struct layout names = record { form = forms.Struct layout; names = names }
+abbrev pub flags_struct : Layout → List (ℕ × List ℕ) → List FieldRow → Payloads
+flags_struct layout names fields = record { form = forms.Struct layout; names = names; fields = fields }
 
 -- the limits of a CAN controller
 abbrev pub limits : Payloads
 limits = plain forms.Limits
 
+-- arrays of numbers
 abbrev pub u16s : Payloads
-u16s = plain forms.U16s
+u16s = plain (forms.Numbers Two)
 
 abbrev pub u32s : Payloads
-u32s = plain forms.U32s
+u32s = plain (forms.Numbers Four)
+
+abbrev pub u64s : Payloads
+u64s = plain (forms.Numbers Eight)
 
 abbrev pub bytes : Payloads
 bytes = plain forms.Bytes
 
 abbrev pub no_value : Payloads
 no_value = plain forms.Nothing
+
+-- ---- fields of structs: a name, where the field starts, and its payloads
+
+abbrev pub field : String → ℕ → Payloads → FieldRow
+field name offset p = record { name = codes name; offset = offset; quantity = quantities.Number; form = p.form; names = p.names }
+
+-- one whose number counts something
+abbrev pub field_in : Quantity → String → ℕ → Payloads → FieldRow
+field_in q name offset p = record { name = codes name; offset = offset; quantity = q; form = p.form; names = p.names }
+
+-- the numbers of the limits of a CAN controller, which follow its name
+abbrev pub limit_fields : List FieldRow
+limit_fields =
+    field "tseg1_min" 16 u32 ∷
+    field "tseg1_max" 20 u32 ∷
+    field "tseg2_min" 24 u32 ∷
+    field "tseg2_max" 28 u32 ∷
+    field "sjw_max" 32 u32 ∷
+    field "brp_min" 36 u32 ∷
+    field "brp_max" 40 u32 ∷
+    field "brp_inc" 44 u32 ∷ []

@@ -12,24 +12,32 @@ use Rattle.link_base.specs.declared.rows.form.Form.TheVariants as forms
 use Rattle.link_base.specs.Frame.{Frame, IsComplete, kind_of, kind_limit, frame_bytes, spelled}
 use Rattle.link_base.specs.Class
 use Rattle.link_base.specs.Class.{Class, Value, class_value, written, IsCanonicalPayload}
+use Rattle.link_base.specs.Fields.{FieldRow}
 use Rattle.link_base.specs.Payloads.{Payloads, class_of}
 use Rattle.link_base.specs.Wire.{Reading, Reads, Wire, CanonicalBy, FirstOtherBy, RewritingBy, written_by, FitsBy, whole}
 
 -- ---- rows, and attributes of a table
 
--- an attribute type, its name in the kernel's headers, what its numbers count, the form of its values, the names of
--- its numbers or bits, and what its payloads are
+-- an attribute type, its name in the kernel's headers, what the names of all types of the list begin with, what its
+-- numbers count, the form of its values, the names of its numbers or bits, the fields of a struct, and what its payloads are
 pub record Row (C : Type 0) : Type 0 where
   pub kind : ℕ
   pub name : List ℕ
+  pub prefix : List ℕ
   pub quantity : Quantity
   pub form : Form
   pub names : List (ℕ × List ℕ)
+  pub fields : List FieldRow
   pub class : C
 
 -- a row for this attribute type, whose payloads are those of c
-abbrev pub row_of : {C : Type 0} → Quantity → ℕ → List ℕ → Form → List (ℕ × List ℕ) → C → Row C
-row_of q k name form names c = record { kind = k; name = name; quantity = q; form = form; names = names; class = c }
+abbrev pub row_of : {C : Type 0} → List ℕ → Quantity → ℕ → List ℕ → Form → List (ℕ × List ℕ) → List FieldRow → C → Row C
+row_of prefix q k name form names fields c =
+    record { kind = k; name = name; prefix = prefix; quantity = q; form = form; names = names; fields = fields; class = c }
+
+-- the rows of a list, in which all names begin with this
+abbrev pub prefixed : {C : Type 0} → String → List (Row C) → List (Row C)
+prefixed prefix rows = map (λ r. row_of (codes prefix) r.quantity r.kind r.name r.form r.names r.fields r.class) rows
 
 -- the row of an attribute type
 abbrev pub row_at : {C : Type 0} → List (Row C) → ℕ → Option (Row C)
@@ -44,13 +52,24 @@ class_at rows k = option_map (λ r. r.class) (row_at rows k)
 abbrev pub form_at : {C : Type 0} → List (Row C) → ℕ → Option Form
 form_at rows k = option_map (λ r. r.form) (row_at rows k)
 
--- what a row says of its attribute type besides its payloads
-abbrev pub label_by : {C : Type 0} → Row C → List ℕ × Quantity × Form × List (ℕ × List ℕ)
-label_by r = (r.name, r.quantity, r.form, r.names)
+-- what is known of an attribute type besides its payloads: its name, what all names of the list begin with, what its numbers
+-- count, the form of its values, the names of its numbers or bits, and the fields of a struct
+pub record Label : Type 0 where
+  pub name : List ℕ
+  pub prefix : List ℕ
+  pub quantity : Quantity
+  pub form : Form
+  pub names : List (ℕ × List ℕ)
+  pub fields : List FieldRow
 
--- the name of an attribute type, what its numbers count, the form of its values, and the names of its numbers or bits,
--- if it has a row
-abbrev pub label_at : {C : Type 0} → List (Row C) → ℕ → Option (List ℕ × Quantity × Form × List (ℕ × List ℕ))
+abbrev pub label_with : List ℕ → Quantity → List ℕ → Form → List (ℕ × List ℕ) → List FieldRow → Label
+label_with prefix q name form names fields = record { name = name; prefix = prefix; quantity = q; form = form; names = names; fields = fields }
+
+abbrev pub label_by : {C : Type 0} → Row C → Label
+label_by r = label_with r.prefix r.quantity r.name r.form r.names r.fields
+
+-- what is known of an attribute type, if it has a row
+abbrev pub label_at : {C : Type 0} → List (Row C) → ℕ → Option Label
 label_at rows k = option_map label_by (row_at rows k)
 
 -- an attribute: the variant for an attribute type that has a row (`Case`), or any other `nla_type` and payload
@@ -66,10 +85,10 @@ Rows = List (Row Class)
 
 -- a row of such a table: the attribute type, its name, and its payloads; then likewise for numbers that count something
 abbrev pub leaf_row : ℕ → String → Payloads → Row Class
-leaf_row k name p = row_of quantities.Number k (codes name) p.form p.names (class_of p)
+leaf_row k name p = row_of [] quantities.Number k (codes name) p.form p.names p.fields (class_of p)
 
 abbrev pub leaf_row_in : Quantity → ℕ → String → Payloads → Row Class
-leaf_row_in q k name p = row_of q k (codes name) p.form p.names (class_of p)
+leaf_row_in q k name p = row_of [] q k (codes name) p.form p.names p.fields (class_of p)
 
 -- an attribute of a table without lists
 abbrev pub Leaf : Type 0
@@ -115,18 +134,18 @@ pub data Shape : Type 0 where
 
 -- a row for an attribute type whose payloads have one class; then likewise for numbers that count something
 abbrev pub row : ℕ → String → Payloads → Row Shape
-row k name p = row_of quantities.Number k (codes name) p.form p.names (One (class_of p))
+row k name p = row_of [] quantities.Number k (codes name) p.form p.names p.fields (One (class_of p))
 
 abbrev pub row_in : Quantity → ℕ → String → Payloads → Row Shape
-row_in q k name p = row_of q k (codes name) p.form p.names (One (class_of p))
+row_in q k name p = row_of [] q k (codes name) p.form p.names p.fields (One (class_of p))
 
 -- a row for an attribute type whose payloads are nested lists, and whether they are written with the nested flag; then
 -- for lists of addresses of n bytes each
 abbrev pub nested_row : ℕ → String → Bool → Rows → Row Shape
-nested_row k name flagged rows = row_of quantities.Number k (codes name) (forms.List flagged) [] (Nested flagged rows)
+nested_row k name flagged rows = row_of [] quantities.Number k (codes name) (forms.List flagged) [] [] (Nested flagged rows)
 
 abbrev pub address_row : ℕ → String → ℕ → Row Shape
-address_row k name n = row_of quantities.Number k (codes name) (forms.Addresses n) [] (Addresses n)
+address_row k name n = row_of [] quantities.Number k (codes name) (forms.Addresses n) [] [] (Addresses n)
 
 -- the content of an attribute
 pub data Content : Type 0 where

@@ -1,10 +1,13 @@
 -- Well-formed tables: decidable tests that each table passes.
-use Rattle.std.specs.Prelude.{ℕ, ◌+◌, ◌≤◌, ◌==◌, ◌&&◌, ◌||◌, Bool, true, false, List, [], ◌∷◌, length, Option, Some, nat_lt, nat_le}
+use Rattle.std.specs.Prelude.{ℕ, ◌+◌, ◌≤◌, ◌==◌, ◌&&◌, ◌||◌, Bool, true, false, List, [], ◌∷◌, length, map, take, Option, Some, nat_lt, nat_le}
 use Rattle.std.specs.List.{list_all}
+use Rattle.std.specs.Str.{bytes_eq}
 use Rattle.link_base.specs.Number.{bound}
 use Rattle.link_base.specs.Frame.{kind_limit}
 use Rattle.link_base.specs.Class.{Extent, AtLeast, Multiple, Class, Octets, Many, Named, Empty, Limits}
 use Rattle.link_base.specs.Coherent.{is_shape_of}
+use Rattle.link_base.specs.Fields.{FieldRow}
+use Rattle.link_base.specs.Named.{are_distinct}
 use Rattle.link_base.specs.Table.{Row, Rows, Shape, One, Nested, Addresses, Table}
 
 -- the extent is a number of bytes, not a multiple of one
@@ -12,11 +15,11 @@ abbrev pub is_record : Extent → Bool
 is_record (Multiple n) = false
 is_record e = true
 
--- `Octets` never has the extent `Multiple`, the numbers in an array have two or four bytes, and each number with a name
+-- `Octets` never has the extent `Multiple`, the numbers in an array have two, four or eight bytes, and each number with a name
 -- fits in its bytes
 abbrev pub is_class : Class → Bool
 is_class (Octets e) = is_record e
-is_class (Many n) = n == 2 || n == 4
+is_class (Many n) = n == 2 || (n == 4 || n == 8)
 is_class (Named n listed) = list_all (λ d. nat_lt d (bound n)) listed
 is_class c = true
 
@@ -47,9 +50,17 @@ is_shape (Addresses n) = n == 4 || n == 16
 abbrev pub is_printable : ℕ → Bool
 is_printable b = nat_lt 31 b && nat_lt b 127
 
--- the name of a row, and those of its numbers or bits, are printable
+-- the names of numbers or bits are printable
+abbrev pub are_names : List (ℕ × List ℕ) → Bool
+are_names names = list_all (λ x. list_all is_printable x.1) names
+
+-- the names of fields are printable and distinct, and so are those of their numbers or bits
+abbrev pub are_fields : List FieldRow → Bool
+are_fields fields = list_all (λ f. list_all is_printable f.name && are_names f.names) fields && are_distinct bytes_eq (map (λ f. f.name) fields)
+
+-- the name of a row begins with the prefix and is printable, and so are those of its numbers or bits, and of its fields
 abbrev pub has_text : {C : Type 0} → Row C → Bool
-has_text r = list_all is_printable r.name && list_all (λ x. list_all is_printable x.1) r.names
+has_text r = bytes_eq (take (length r.prefix) r.name) r.prefix && (list_all is_printable r.name && (are_names r.names && are_fields r.fields))
 
 -- the rows of nested lists
 abbrev pub rows_in : Shape → Rows

@@ -3,6 +3,7 @@
 pub(crate) mod address_list;
 pub(crate) mod be;
 pub(crate) mod coded;
+pub(crate) mod field_list;
 pub(crate) mod fixed_size;
 pub(crate) mod flags_class;
 pub(crate) mod lengths;

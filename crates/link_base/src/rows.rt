@@ -6,6 +6,7 @@ pub(crate) mod default_nla;
 pub mod fields;
 pub mod form;
 pub mod label;
+pub mod limits;
 pub(crate) mod nested;
 pub(crate) mod place;
 pub(crate) mod try_clone;

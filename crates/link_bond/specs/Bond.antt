@@ -4,7 +4,7 @@ use Rattle.link_base.specs.Class.{Number, Boolean, Raw}
 use Rattle.link_base.specs.Payloads.{u8, u16, u32, truth, u8_enum, u32_enum, mac}
 use Rattle.link_base.specs.Named.{numbers_of, seen_value}
 use Rattle.link_base.specs.declared.rows.label.Quantity.TheVariants.{InterfaceIndex, Milliseconds, Seconds}
-use Rattle.link_base.specs.Table.{Table, AttrValue, Case, Single, Inner, Listed, row, row_in, nested_row, address_row}
+use Rattle.link_base.specs.Table.{Table, AttrValue, Case, Single, Inner, Listed, row, row_in, nested_row, address_row, prefixed}
 use Rattle.link_base.specs.IpAddress.{four_octets, sixteen_octets}
 use Rattle.link_base.specs.Default.{default_means}
 use Rattle.link_bond.specs.Names.{mode_names, mode_seen, arp_validate_names, arp_validate_seen, arp_all_targets_names, arp_all_targets_seen, primary_reselect_names, primary_reselect_seen, fail_over_mac_names, fail_over_mac_seen, xmit_hash_policy_names, xmit_hash_policy_seen, all_port_active_names, all_port_active_seen, lacp_rate_names, lacp_rate_seen, ad_select_names, ad_select_seen}
@@ -14,7 +14,7 @@ use Rattle.link_bond.specs.declared.bond.InfoBond.TheVariants as infos
 
 -- one row for each attribute type
 abbrev pub bond_table : Table
-bond_table =
+bond_table = prefixed "IFLA_BOND_" (
     row 1 "IFLA_BOND_MODE" (u8_enum mode_names) ∷
     row_in InterfaceIndex 2 "IFLA_BOND_ACTIVE_SLAVE" u32 ∷
     row_in Milliseconds 3 "IFLA_BOND_MIIMON" u32 ∷
@@ -48,7 +48,7 @@ bond_table =
     address_row 31 "IFLA_BOND_NS_IP6_TARGET" 16 ∷
     row 32 "IFLA_BOND_COUPLED_CONTROL" truth ∷
     row 33 "IFLA_BOND_BROADCAST_NEIGH" truth ∷
-    row 34 "IFLA_BOND_LACP_STRICT" truth ∷ []
+    row 34 "IFLA_BOND_LACP_STRICT" truth ∷ [])
 
 -- the attribute that a value represents
 abbrev pub bond_means : InfoBond → AttrValue

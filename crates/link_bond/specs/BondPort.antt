@@ -3,7 +3,7 @@ use Rattle.std.specs.Prelude.{[], ◌∷◌}
 use Rattle.link_base.specs.Class.{Number, Integer, Raw, LowByte}
 use Rattle.link_base.specs.Payloads.{u16, u32, i32, u8_enum, u8_flags, low_flags, bytes}
 use Rattle.link_base.specs.Named.{numbers_of, seen_value}
-use Rattle.link_base.specs.Table.{Table, AttrValue, Case, Single, row}
+use Rattle.link_base.specs.Table.{Table, AttrValue, Case, Single, row, prefixed}
 use Rattle.link_base.specs.Default.{default_means}
 use Rattle.link_bond.specs.Names.{port_state_names, port_state_seen, mii_status_names, mii_status_seen, churn_state_names, churn_state_seen}
 use Rattle.link_bond.specs.LacpState.{lacp_bits, lacp_bit_names}
@@ -12,7 +12,7 @@ use Rattle.link_bond.specs.declared.bond_port.InfoBondPort.TheVariants as infos
 
 -- one row for each attribute type
 abbrev pub bond_port_table : Table
-bond_port_table =
+bond_port_table = prefixed "IFLA_BOND_SLAVE_" (
     row 1 "IFLA_BOND_SLAVE_STATE" (u8_enum port_state_names) ∷
     row 2 "IFLA_BOND_SLAVE_MII_STATUS" (u8_enum mii_status_names) ∷
     row 3 "IFLA_BOND_SLAVE_LINK_FAILURE_COUNT" u32 ∷
@@ -24,7 +24,7 @@ bond_port_table =
     row 9 "IFLA_BOND_SLAVE_PRIO" i32 ∷
     row 10 "IFLA_BOND_SLAVE_ACTOR_PORT_PRIO" u16 ∷
     row 11 "IFLA_BOND_SLAVE_AD_CHURN_ACTOR_STATE" (u8_enum churn_state_names) ∷
-    row 12 "IFLA_BOND_SLAVE_AD_CHURN_PARTNER_STATE" (u8_enum churn_state_names) ∷ []
+    row 12 "IFLA_BOND_SLAVE_AD_CHURN_PARTNER_STATE" (u8_enum churn_state_names) ∷ [])
 
 -- the attribute that a value represents
 abbrev pub bond_port_means : InfoBondPort → AttrValue

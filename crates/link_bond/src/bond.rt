@@ -123,6 +123,7 @@ pub enum InfoBond {
 macro_rules! rows {
     ($call:ident($($argument:tt)*)) => {
         link_base::by_rows! { $call($($argument)*)
+            "IFLA_BOND_";
             IFLA_BOND_MODE = 1, Mode: Named<BondMode>;
             IFLA_BOND_ACTIVE_SLAVE = 2, ActivePort: u32 as InterfaceIndex;
             IFLA_BOND_MIIMON = 3, MiiMon: u32 as Milliseconds;

@@ -59,6 +59,7 @@ pub enum InfoBondPort {
 macro_rules! rows {
     ($call:ident($($argument:tt)*)) => {
         link_base::by_rows! { $call($($argument)*)
+            "IFLA_BOND_SLAVE_";
             IFLA_BOND_SLAVE_STATE = 1, BondPortState: Named<BondPortState>;
             IFLA_BOND_SLAVE_MII_STATUS = 2, MiiStatus: Named<MiiStatus>;
             IFLA_BOND_SLAVE_LINK_FAILURE_COUNT = 3, LinkFailureCount: u32;

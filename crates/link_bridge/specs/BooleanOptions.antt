@@ -1,8 +1,11 @@
 -- Boolean options of a bridge: their names and bits, what payloads mean, and the bytes of values.
 use Rattle.std.specs.Prelude.{◌≡◌, ◌-◌, ◌^◌, ℕ, List, [], ◌∷◌, codes, refl}
 use Rattle.bitflags.specs.Sets.{Row, known_from, known_bits}
-use Rattle.link_base.specs.Layout.{number_at, octets_of}
-use Rattle.link_base.specs.Fields.{PartValue, PartNumber}
+use Rattle.link_base.specs.Layout.{number_at}
+use Rattle.link_base.specs.Class.{Value, Number}
+use Rattle.link_base.specs.Fields.{FieldRow}
+use Rattle.link_base.specs.Structs.{packed}
+use Rattle.link_base.specs.Payloads.{u32_flags, field}
 use Rattle.link_bridge.specs.declared.bridge_boolopt.flags.BridgeBooleanOptionFlags.{BridgeBooleanOptionFlags}
 use Rattle.link_bridge.specs.declared.bridge_boolopt.BridgeBooleanOptions.{BridgeBooleanOptions}
 
@@ -42,10 +45,13 @@ options_at offset p = record { 0 = number_at 4 offset p }
 abbrev pub options_of : List ℕ → BridgeBooleanOptions
 options_of p = record { value = options_at 0 p; mask = options_at 4 p }
 
+-- their fields, and what they hold; the names of the bits are those of the row
+abbrev pub options_fields : List FieldRow
+options_fields = field "value" 0 (u32_flags []) ∷ field "mask" 4 (u32_flags []) ∷ []
+
+abbrev pub options_held : BridgeBooleanOptions → List Value
+options_held options = Number 4 (option_bits options.value) ∷ Number 4 (option_bits options.mask) ∷ []
+
 -- the bytes of options
 abbrev pub options_octets : BridgeBooleanOptions → List ℕ
-options_octets options = octets_of 4 (option_bits options.value ∷ option_bits options.mask ∷ [])
-
--- what their fields hold
-abbrev pub options_held : BridgeBooleanOptions → List PartValue
-options_held options = PartNumber (option_bits options.value) ∷ PartNumber (option_bits options.mask) ∷ []
+options_octets options = packed (options_held options)

@@ -5,19 +5,19 @@ use Rattle.link_base.specs.Payloads.{u8, u16, u32, u64, truth, u8_enum, u32_enum
 use Rattle.link_base.specs.declared.rows.form.Layout.TheVariants as layouts
 use Rattle.link_base.specs.Named.{numbers_of, seen_value}
 use Rattle.link_base.specs.declared.rows.label.Quantity.TheVariants.{ClockTicks, Mask}
-use Rattle.link_base.specs.Table.{Table, AttrValue, Case, Single, Inner, row, row_in, nested_row}
+use Rattle.link_base.specs.Table.{Table, AttrValue, Case, Single, Inner, row, row_in, nested_row, prefixed}
 use Rattle.link_base.specs.Protocol.{protocol_number}
 use Rattle.link_base.specs.Default.{default_means}
 use Rattle.link_bridge.specs.Names.{stp_state_names, stp_state_seen, stp_mode_names, stp_mode_seen, router_type_names, router_type_seen}
-use Rattle.link_bridge.specs.Id.{id_octets}
-use Rattle.link_bridge.specs.BooleanOptions.{option_bit_names, options_octets}
+use Rattle.link_bridge.specs.Id.{id_fields, id_octets}
+use Rattle.link_bridge.specs.BooleanOptions.{option_bit_names, options_fields, options_octets}
 use Rattle.link_bridge.specs.Querier.{querier_rows, querier_leaf}
 use Rattle.link_bridge.specs.declared.bridge.InfoBridge.{InfoBridge}
 use Rattle.link_bridge.specs.declared.bridge.InfoBridge.TheVariants as infos
 
 -- one row for each attribute type. Type 40, IFLA_BR_PAD, has no row
 abbrev pub bridge_table : Table
-bridge_table =
+bridge_table = prefixed "IFLA_BR_" (
     row_in ClockTicks 1 "IFLA_BR_FORWARD_DELAY" u32 ∷
     row_in ClockTicks 2 "IFLA_BR_HELLO_TIME" u32 ∷
     row_in ClockTicks 3 "IFLA_BR_MAX_AGE" u32 ∷
@@ -27,8 +27,8 @@ bridge_table =
     row 7 "IFLA_BR_VLAN_FILTERING" truth ∷
     row 8 "IFLA_BR_VLAN_PROTOCOL" vlan_protocol ∷
     row_in Mask 9 "IFLA_BR_GROUP_FWD_MASK" u16 ∷
-    row 10 "IFLA_BR_ROOT_ID" (struct_of layouts.BridgeId) ∷
-    row 11 "IFLA_BR_BRIDGE_ID" (struct_of layouts.BridgeId) ∷
+    row 10 "IFLA_BR_ROOT_ID" (struct_of layouts.BridgeId id_fields) ∷
+    row 11 "IFLA_BR_BRIDGE_ID" (struct_of layouts.BridgeId id_fields) ∷
     row 12 "IFLA_BR_ROOT_PORT" u16 ∷
     row 13 "IFLA_BR_ROOT_PATH_COST" u32 ∷
     row 14 "IFLA_BR_TOPOLOGY_CHANGE" u8 ∷
@@ -62,11 +62,11 @@ bridge_table =
     row 43 "IFLA_BR_MCAST_IGMP_VERSION" u8 ∷
     row 44 "IFLA_BR_MCAST_MLD_VERSION" u8 ∷
     row 45 "IFLA_BR_VLAN_STATS_PER_PORT" truth ∷
-    row 46 "IFLA_BR_MULTI_BOOLOPT" (flags_struct layouts.BooleanOptions option_bit_names) ∷
+    row 46 "IFLA_BR_MULTI_BOOLOPT" (flags_struct layouts.BooleanOptions option_bit_names options_fields) ∷
     nested_row 47 "IFLA_BR_MCAST_QUERIER_STATE" true querier_rows ∷
     row 48 "IFLA_BR_FDB_N_LEARNED" u32 ∷
     row 49 "IFLA_BR_FDB_MAX_LEARNED" u32 ∷
-    row 50 "IFLA_BR_STP_MODE" (u32_enum stp_mode_names) ∷ []
+    row 50 "IFLA_BR_STP_MODE" (u32_enum stp_mode_names) ∷ [])
 
 -- the attribute that a value represents
 abbrev pub bridge_means : InfoBridge → AttrValue

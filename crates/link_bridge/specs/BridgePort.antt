@@ -5,16 +5,16 @@ use Rattle.link_base.specs.Payloads.{u16, u32, u64, truth, u8_enum, struct_of, n
 use Rattle.link_base.specs.declared.rows.form.Layout.TheVariants as layouts
 use Rattle.link_base.specs.Named.{numbers_of, seen_value}
 use Rattle.link_base.specs.declared.rows.label.Quantity.TheVariants.{ClockTicks, InterfaceIndex, Mask}
-use Rattle.link_base.specs.Table.{Table, AttrValue, Case, Single, row, row_in}
+use Rattle.link_base.specs.Table.{Table, AttrValue, Case, Single, row, row_in, prefixed}
 use Rattle.link_base.specs.Default.{default_means}
 use Rattle.link_bridge.specs.Names.{port_state_names, port_state_seen, router_type_names, router_type_seen}
-use Rattle.link_bridge.specs.Id.{id_octets}
+use Rattle.link_bridge.specs.Id.{id_fields, id_octets}
 use Rattle.link_bridge.specs.declared.bridge_port.InfoBridgePort.{InfoBridgePort}
 use Rattle.link_bridge.specs.declared.bridge_port.InfoBridgePort.TheVariants as infos
 
 -- one row for each attribute type. Type 26, IFLA_BRPORT_PAD, has no row
 abbrev pub bridge_port_table : Table
-bridge_port_table =
+bridge_port_table = prefixed "IFLA_BRPORT_" (
     row 1 "IFLA_BRPORT_STATE" (u8_enum port_state_names) ∷
     row 2 "IFLA_BRPORT_PRIORITY" u16 ∷
     row 3 "IFLA_BRPORT_COST" u32 ∷
@@ -27,8 +27,8 @@ bridge_port_table =
     row 10 "IFLA_BRPORT_PROXYARP" truth ∷
     row 11 "IFLA_BRPORT_LEARNING_SYNC" truth ∷
     row 12 "IFLA_BRPORT_PROXYARP_WIFI" truth ∷
-    row 13 "IFLA_BRPORT_ROOT_ID" (struct_of layouts.BridgeId) ∷
-    row 14 "IFLA_BRPORT_BRIDGE_ID" (struct_of layouts.BridgeId) ∷
+    row 13 "IFLA_BRPORT_ROOT_ID" (struct_of layouts.BridgeId id_fields) ∷
+    row 14 "IFLA_BRPORT_BRIDGE_ID" (struct_of layouts.BridgeId id_fields) ∷
     row_in Mask 15 "IFLA_BRPORT_DESIGNATED_PORT" u16 ∷
     row 16 "IFLA_BRPORT_DESIGNATED_COST" u16 ∷
     row_in Mask 17 "IFLA_BRPORT_ID" u16 ∷
@@ -58,7 +58,7 @@ bridge_port_table =
     row 42 "IFLA_BRPORT_MCAST_MAX_GROUPS" u32 ∷
     row 43 "IFLA_BRPORT_NEIGH_VLAN_SUPPRESS" truth ∷
     row 44 "IFLA_BRPORT_BACKUP_NHID" u32 ∷
-    row 45 "IFLA_BRPORT_NEIGH_FORWARD_GRAT" truth ∷ []
+    row 45 "IFLA_BRPORT_NEIGH_FORWARD_GRAT" truth ∷ [])
 
 -- the attribute types that the second version of the table adds
 abbrev pub bridge_port_added : List ℕ
@@ -66,7 +66,7 @@ bridge_port_added = 11 ∷ []
 
 -- the first version of the table
 abbrev pub bridge_port_table_first : Table
-bridge_port_table_first =
+bridge_port_table_first = prefixed "IFLA_BRPORT_" (
     row 1 "IFLA_BRPORT_STATE" (u8_enum port_state_names) ∷
     row 2 "IFLA_BRPORT_PRIORITY" u16 ∷
     row 3 "IFLA_BRPORT_COST" u32 ∷
@@ -78,8 +78,8 @@ bridge_port_table_first =
     row 9 "IFLA_BRPORT_UNICAST_FLOOD" truth ∷
     row 10 "IFLA_BRPORT_PROXYARP" truth ∷
     row 12 "IFLA_BRPORT_PROXYARP_WIFI" truth ∷
-    row 13 "IFLA_BRPORT_ROOT_ID" (struct_of layouts.BridgeId) ∷
-    row 14 "IFLA_BRPORT_BRIDGE_ID" (struct_of layouts.BridgeId) ∷
+    row 13 "IFLA_BRPORT_ROOT_ID" (struct_of layouts.BridgeId id_fields) ∷
+    row 14 "IFLA_BRPORT_BRIDGE_ID" (struct_of layouts.BridgeId id_fields) ∷
     row_in Mask 15 "IFLA_BRPORT_DESIGNATED_PORT" u16 ∷
     row 16 "IFLA_BRPORT_DESIGNATED_COST" u16 ∷
     row_in Mask 17 "IFLA_BRPORT_ID" u16 ∷
@@ -109,7 +109,7 @@ bridge_port_table_first =
     row 42 "IFLA_BRPORT_MCAST_MAX_GROUPS" u32 ∷
     row 43 "IFLA_BRPORT_NEIGH_VLAN_SUPPRESS" truth ∷
     row 44 "IFLA_BRPORT_BACKUP_NHID" u32 ∷
-    row 45 "IFLA_BRPORT_NEIGH_FORWARD_GRAT" truth ∷ []
+    row 45 "IFLA_BRPORT_NEIGH_FORWARD_GRAT" truth ∷ [])
 
 -- the attribute that a value represents
 abbrev pub bridge_port_means : InfoBridgePort → AttrValue

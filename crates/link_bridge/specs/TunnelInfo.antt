@@ -2,7 +2,7 @@
 use Rattle.std.specs.Prelude.{[], ◌∷◌}
 use Rattle.link_base.specs.Class.{Number}
 use Rattle.link_base.specs.Payloads.{u16, u32, u16_flags}
-use Rattle.link_base.specs.Table.{Rows, Leaf, Case, leaf_row}
+use Rattle.link_base.specs.Table.{Rows, Leaf, Case, leaf_row, prefixed}
 use Rattle.link_base.specs.Default.{default_means}
 use Rattle.link_bridge.specs.VlanInfo.{vlan_info_bits, vlan_info_bit_names}
 use Rattle.link_bridge.specs.declared.af_spec.tunnel.BridgeVlanTunnelInfo.{BridgeVlanTunnelInfo}
@@ -10,10 +10,10 @@ use Rattle.link_bridge.specs.declared.af_spec.tunnel.BridgeVlanTunnelInfo.TheVar
 
 -- one row for each attribute type
 abbrev pub tunnel_rows : Rows
-tunnel_rows =
+tunnel_rows = prefixed "IFLA_BRIDGE_VLAN_TUNNEL_" (
     leaf_row 1 "IFLA_BRIDGE_VLAN_TUNNEL_ID" u32 ∷
     leaf_row 2 "IFLA_BRIDGE_VLAN_TUNNEL_VID" u16 ∷
-    leaf_row 3 "IFLA_BRIDGE_VLAN_TUNNEL_FLAGS" (u16_flags vlan_info_bit_names) ∷ []
+    leaf_row 3 "IFLA_BRIDGE_VLAN_TUNNEL_FLAGS" (u16_flags vlan_info_bit_names) ∷ [])
 
 -- the attribute that a value represents
 abbrev pub tunnel_leaf : BridgeVlanTunnelInfo → Leaf

@@ -1,8 +1,11 @@
 -- A bridge VLAN: the names and bits of its flags, what payloads mean, and the bytes of values.
 use Rattle.std.specs.Prelude.{◌≡◌, ◌-◌, ◌^◌, ℕ, List, [], ◌∷◌, codes, refl}
 use Rattle.bitflags.specs.Sets.{Row, known_from, known_bits}
-use Rattle.link_base.specs.Layout.{number_at, octets_of}
-use Rattle.link_base.specs.Fields.{PartValue, PartNumber}
+use Rattle.link_base.specs.Layout.{number_at}
+use Rattle.link_base.specs.Class.{Value, Number}
+use Rattle.link_base.specs.Fields.{FieldRow}
+use Rattle.link_base.specs.Structs.{packed}
+use Rattle.link_base.specs.Payloads.{u16, u16_flags, field}
 use Rattle.link_bridge.specs.declared.af_spec.vlan_info_flags.BridgeVlanInfoFlags.{BridgeVlanInfoFlags}
 use Rattle.link_bridge.specs.declared.af_spec.vlan_info.BridgeVlanInfo.{BridgeVlanInfo}
 
@@ -42,10 +45,13 @@ every_vlan_info_bit = refl
 abbrev pub vlan_info_of : List ℕ → BridgeVlanInfo
 vlan_info_of p = record { flags = record { 0 = number_at 2 0 p }; vid = number_at 2 2 p }
 
+-- its fields as they are shown, and what they hold as they lie; the names of the bits are those of the row
+abbrev pub vlan_info_fields : List FieldRow
+vlan_info_fields = field "vid" 2 u16 ∷ field "flags" 0 (u16_flags []) ∷ []
+
+abbrev pub vlan_info_held : BridgeVlanInfo → List Value
+vlan_info_held info = Number 2 (vlan_info_bits info.flags) ∷ Number 2 info.vid ∷ []
+
 -- the bytes of a VLAN
 abbrev pub vlan_info_octets : BridgeVlanInfo → List ℕ
-vlan_info_octets info = octets_of 2 (vlan_info_bits info.flags ∷ info.vid ∷ [])
-
--- what its fields hold
-abbrev pub vlan_info_held : BridgeVlanInfo → List PartValue
-vlan_info_held info = PartNumber info.vid ∷ PartNumber (vlan_info_bits info.flags) ∷ []
+vlan_info_octets info = packed (vlan_info_held info)

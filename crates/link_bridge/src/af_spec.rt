@@ -66,6 +66,7 @@ impl VecAfSpecBridge {
 macro_rules! rows {
     ($call:ident($($argument:tt)*)) => {
         link_base::by_rows! { $call($($argument)*)
+            "IFLA_BRIDGE_";
             IFLA_BRIDGE_FLAGS = 0, Flags: Named<BridgeFlag>;
             IFLA_BRIDGE_MODE = 1, Mode: Named<BridgeMode>;
             IFLA_BRIDGE_VLAN_INFO = 2, VlanInfo: Struct<BridgeVlanInfo>;

@@ -152,6 +152,7 @@ pub enum InfoBridge {
 macro_rules! rows {
     ($call:ident($($argument:tt)*)) => {
         link_base::by_rows! { $call($($argument)*)
+            "IFLA_BR_";
             IFLA_BR_FORWARD_DELAY = 1, ForwardDelay: u32 as ClockTicks;
             IFLA_BR_HELLO_TIME = 2, HelloTime: u32 as ClockTicks;
             IFLA_BR_MAX_AGE = 3, MaxAge: u32 as ClockTicks;

@@ -4,16 +4,20 @@ ghost use Rattle.std.specs.Prelude.{refl, ◌≡◌, take, IfOk};
 ghost use Rattle.link_base.specs.declared.rows.form.Layout.TheVariants as layouts;
 ghost use Rattle.link_base.specs.Class.{accepted, Fixed};
 ghost use Rattle.link_base.specs.Answers.{payload_result};
-ghost use Rattle.link_bridge.specs.BooleanOptions.{option_bit_names, options_of, options_octets, options_held};
+ghost use Rattle.link_base.specs.Structs.{classes_in};
+ghost use Rattle.link_bridge.specs.BooleanOptions.{option_bit_names, options_of, options_octets, options_fields, options_held};
 
 mod flags;
 
 use bitflags::Flags;
 pub use flags::BridgeBooleanOptionFlags;
 use link_base::names::flag_laws::FlagSet;
+use link_base::rows::fields::Field;
 use link_base::rows::form::Layout;
 use link_base::rows::label::Name;
-use link_base::{DecodeError, Emitable, PayloadStruct, check_length, emit_numbers, u32s_at};
+use link_base::{
+    DecodeError, Emitable, FlagBits, PayloadStruct, by_fields, check_length, emit_numbers, u32s_at,
+};
 
 /// Length of the options as a payload, in bytes.
 const SIZE: usize = 8;
@@ -61,20 +65,27 @@ impl Emitable for BridgeBooleanOptions {
     }
 }
 
+type OptionsFields = (
+    FlagBits<BridgeBooleanOptionFlags>,
+    (FlagBits<BridgeBooleanOptionFlags>, ()),
+);
+
 impl PayloadStruct for BridgeBooleanOptions {
     const LAYOUT: Layout = Layout::BooleanOptions;
 
     ghost LAYOUT = { layouts.BooleanOptions };
 
-    ghost value_of = { options_of };
+    ghost bit_names = { option_bit_names };
 
-    ghost octets = { options_octets };
+    ghost fields = { options_fields };
+
+    ghost classes = { classes_in option_bit_names options_fields };
 
     ghost held = { options_held };
 
-    ghost told = { λ _. refl };
+    ghost whole = { refl };
 
-    ghost bit_names = { option_bit_names };
+    ghost placed = { refl };
 
     #[inline]
     fn names() -> &'static [Name] {
@@ -82,16 +93,25 @@ impl PayloadStruct for BridgeBooleanOptions {
     }
 
     #[inline]
-    fn parse_payload(payload: &[u8]) -> Result<Self, DecodeError> {
-        BridgeBooleanOptions::parse(payload)
+    fn fields() -> &'static [Field] {
+        link_base::fields! {
+            "value" = 0, u32_flags;
+            "mask" = 4, u32_flags;
+        }
     }
 
-    #[inline]
-    fn payload_len(&self) -> usize {
-        self.buffer_len()
+    #[inline(always)]
+    fn load(bytes: &[u8]) -> Self {
+        by_fields!(load(bytes, BridgeBooleanOptions, OptionsFields) value mask)
     }
 
-    fn emit_payload(&self, buffer: &mut [u8]) {
-        self.emit(buffer);
+    #[inline(always)]
+    fn sized(&self) {
+        by_fields!(sized(self, OptionsFields) value mask)
+    }
+
+    #[inline(always)]
+    fn store(&self, buffer: &mut [u8]) {
+        by_fields!(store(self, buffer, OptionsFields) value mask)
     }
 }

@@ -136,6 +136,7 @@ pub enum InfoBridgePort {
 macro_rules! rows {
     ($call:ident($($argument:tt)*)) => {
         link_base::by_rows! { $call($($argument)*)
+            "IFLA_BRPORT_";
             IFLA_BRPORT_STATE = 1, State: Named<BridgePortState>;
             IFLA_BRPORT_PRIORITY = 2, Priority: u16;
             IFLA_BRPORT_COST = 3, Cost: u32;

@@ -49,6 +49,7 @@ impl VecLinkProtoInfoBridge {
 macro_rules! rows {
     ($call:ident($($argument:tt)*)) => {
         link_base::by_rows! { $call($($argument)*)
+            "IFLA_BRPORT_";
             IFLA_BRPORT_NEIGH_FORWARD_GRAT = 45, NeighForwardGrat: bool;
         }
     };

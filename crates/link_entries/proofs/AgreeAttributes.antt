@@ -24,10 +24,9 @@ use Rattle.link_entries.specs.declared.fields.Fields.TheVariants as fields
 use Rattle.link_entries.specs.Fields.{row_fields, fields_in, fields_at}
 use Rattle.link_entries.specs.Payload.{field_of}
 use Rattle.link_entries.specs.Agreement.{IsEntry, IsSame}
-use Rattle.link_entries.proofs.RowForms.{is_list, value_no_list, array_form, array_width, array_fields, RowTold, NoRow, OneValue, Array, AddressList, NestedList, row_says, element_no_list}
+use Rattle.link_entries.proofs.RowForms.{is_list, value_no_list, RowTold, NoRow, OneValue, Array, AddressList, NestedList, row_says, element_no_list}
 use Rattle.link_entries.proofs.BackValues.{StandsAt}
 use Rattle.link_entries.proofs.BackSingles.{none_below}
-use Rattle.link_entries.proofs.BackAttributes.{array_below}
 use Rattle.link_entries.proofs.Located.{Located, suffix_whole}
 use Rattle.link_entries.proofs.WrittenLists.{form_held}
 use Rattle.link_entries.proofs.WrittenParts.{Parts, single_payload, list_payload}
@@ -110,11 +109,11 @@ module _ (table : Table) (formed : is_table table ≡ true) (octets : List ℕ) 
     by_row : RowTold table k → GroupAs
     by_row (NoRow form_is class) = single (ap (λ o. is_list (fields_in o)) form_is)
     by_row (OneValue form names form_is class one low) = single (ap (λ o. is_list (fields_in o)) form_is ∙ value_no_list (row_fields form) one)
-    by_row (Array wide form_is class low) =
-        let row = fields.Numbers (array_width wide) in
-        let is = array_below table wide k (x.0 + 4) p below (told (Some (One (Many (bytes_in (array_width wide))))) (Some (array_form wide)) class form_is) in
-        let all = array_same (elements_at table k) wide k (x.0 + 4) octets list w.cut.below p w.cut.deep w.cut.held (list_payload IsEntry table octets e es s w row (ap fields_in form_is ∙ array_fields wide) refl) in
-        list_of (array_form wide) row form_is (array_fields wide) refl (subst (λ l. AllZip (ElementAs (elements_at table k) row k octets list) w.cut.below l) (sym is) all)
+    by_row (Array width form_is class some low) =
+        let row = fields.Numbers width in
+        let is = told (Some (One (Many (bytes_in width)))) (Some (forms.Numbers width)) class form_is in
+        let all = array_same (elements_at table k) width k (x.0 + 4) octets list w.cut.below p w.cut.deep w.cut.held (list_payload IsEntry table octets e es s w row (ap fields_in form_is) refl) in
+        list_of (forms.Numbers width) row form_is refl refl (subst (λ l. AllZip (ElementAs (elements_at table k) row k octets list) w.cut.below l) (sym is) all)
     by_row (AddressList n form_is class few low) =
         let (items, walk, is) = told (Some (Addresses n)) (Some (forms.Addresses n)) class form_is in
         let all = addresses_same (elements_at table k) n k (x.0 + 4) octets list few (length p) 0 0 w.cut.below p items walk.rest w.cut.deep w.cut.held (list_payload IsEntry table octets e es s w (fields.Addresses n) (ap fields_in form_is) refl)

@@ -1,10 +1,11 @@
 -- What is read of the elements that entries spell.
-use Rattle.std.proofs.Common.{◌≡◌, ℕ, ◌+◌, ◌-◌, ◌*◌, ◌/◌, ◌%◌, ◌<◌, ◌≤◌, ◌==◌, Bool, true, false, cond, min, List, [], ◌∷◌, ◌++◌, length, take, drop, Ok, refl, sym, ap, ap₂, subst, ◌∙◌, arith, take_at, drop-drop}
+use Rattle.std.proofs.Common.{◌≡◌, ℕ, ◌+◌, ◌-◌, ◌*◌, ◌/◌, ◌%◌, ◌<◌, ◌≤◌, ◌==◌, true, false, cond, min, List, [], ◌∷◌, ◌++◌, length, take, drop, Ok, refl, sym, ap, ap₂, subst, ◌∙◌, arith, take_at, drop-drop}
 use Rattle.std.specs.List.{AllZip, AllByRecursion, filter}
 use Rattle.std.proofs.lemmas.Bool.{eq-eqb}
 use Rattle.std.proofs.lemmas.List.{length-append, length-take, drop_at}
 use Rattle.link_base.specs.declared.wire.buffer.NlaBuffer.{NlaBuffer}
 use Rattle.link_base.specs.declared.rows.form.Width.{Width}
+use Rattle.link_base.specs.declared.rows.form.Width.TheVariants as widths
 use Rattle.link_base.specs.declared.rows.form.Order.TheVariants as orders
 use Rattle.link_base.specs.Number.{number}
 use Rattle.link_base.specs.Layout.{numbers_at}
@@ -31,7 +32,7 @@ use Rattle.link_entries.specs.Fields.{array_number, ip_address, fields_at}
 use Rattle.link_entries.specs.Payload.{payload_of, field_of}
 use Rattle.link_entries.specs.Spelled.{elements_of}
 use Rattle.link_entries.specs.Agreement.{IsEntry, IsSame, element_fields, SameInner}
-use Rattle.link_entries.proofs.RowForms.{is_list, with_kind, field_kind, array_width}
+use Rattle.link_entries.proofs.RowForms.{is_list, with_kind, field_kind}
 use Rattle.link_entries.proofs.Spellings.{frame_low}
 use Rattle.link_entries.proofs.BackValues.{StandsAt}
 use Rattle.link_entries.proofs.BackArrays.{bytes_of_item}
@@ -111,15 +112,14 @@ module _ (table : Table) (w : Width) (k at : ℕ) (octets list : List ℕ) where
         numbers_same (i + 1) (j + 1) (o + bytes_in w) es one.others p deep.1 held.1 one.later back,
       )
 
-count_of : (wide : Bool) (m n : ℕ) → n ≡ m * bytes_in (array_width wide) → m ≡ n / bytes_in (array_width wide)
-count_of true m n h = omega (arith, h)
-count_of false m n h = omega (arith, h)
+count_of : (w : Width) (m n : ℕ) → n ≡ m * bytes_in w → m ≡ n / bytes_in w
+count_of widths.One m n h = omega (arith, h)
+count_of w m n h = omega (arith, h)
 
-pub array_same : (table : Table) (wide : Bool) (k at : ℕ) (octets list : List ℕ) (es : List Entry) (s : List ℕ) → AreBelow es → AllByRecursion IsEntry es → elements_of table (fields.Numbers (array_width wide)) k octets 0 es ≡ Ok s
-    → AllZip (ElementAs table (fields.Numbers (array_width wide)) k octets list) es (number_entries k at (bytes_in (array_width wide)) s)
-array_same table wide k at octets list es s deep held h =
-    let w = array_width wide in
-    let count = count_of wide (length es) (length s) (numbers_length IsEntry (λ e h. h.octets) table w k octets 0 es s deep held h) in
+pub array_same : (table : Table) (w : Width) (k at : ℕ) (octets list : List ℕ) (es : List Entry) (s : List ℕ) → AreBelow es → AllByRecursion IsEntry es → elements_of table (fields.Numbers w) k octets 0 es ≡ Ok s
+    → AllZip (ElementAs table (fields.Numbers w) k octets list) es (number_entries k at (bytes_in w) s)
+array_same table w k at octets list es s deep held h =
+    let count = count_of w (length es) (length s) (numbers_length IsEntry (λ e h. h.octets) table w k octets 0 es s deep held h) in
     subst (λ m. AllZip (ElementAs table (fields.Numbers w) k octets list) es (indexed (number_entry k at (bytes_in w)) 0 (numbers_at (bytes_in w) m 0 s))) count
     (numbers_same table w k at octets list 0 0 0 es s s deep held h refl)
 

@@ -13,7 +13,7 @@ use Rattle.link_entries.specs.declared.fields.Fields.TheVariants as fields
 use Rattle.link_entries.specs.Fields.{row_fields, fields_in, fields_at}
 use Rattle.link_entries.specs.Payload.{has_form, payload_of, field_of}
 use Rattle.link_entries.specs.Agreement.{IsEntry, SameContent, IsSame}
-use Rattle.link_entries.proofs.RowForms.{is_list, with_kind, struct_value, value_no_list, array_fields, NoRow, OneValue, Array, AddressList, NestedList, row_says}
+use Rattle.link_entries.proofs.RowForms.{is_list, with_kind, struct_value, value_no_list, NoRow, OneValue, Array, AddressList, NestedList, row_says}
 use Rattle.link_entries.proofs.BackValues.{StandsAt}
 use Rattle.link_entries.proofs.WrittenFields.{unknown_held}
 use Rattle.link_entries.proofs.AgreeClasses.{IsRead, class_read}
@@ -49,15 +49,14 @@ module _ (table : Table) (formed : is_table table ≡ true) (e : Entry) (octets 
             let read = class_read e octets p held f n list bare at form names one (ap (λ o. payload_of (fields_in o) e octets) (sym named) ∙ h) in
             subst (λ o. IsRead (fields_in o) octets e list (fields_by f o (value_at (class_at table k) p) n bare)) (sym named)
             (subst (λ s. IsRead (row_fields form) octets e list (fields_by f (Some form) (value_at s p) n bare)) (sym class) read)
-        | Array wide named class low ↦ let no : is_list (fields_at table k) ≡ true = ap (λ o. is_list (fields_in o)) named ∙ ap is_list (array_fields wide) in absurd cc
+        | Array w named class some low ↦ let no : is_list (fields_at table k) ≡ true = ap (λ o. is_list (fields_in o)) named in absurd cc
         | AddressList size named class few low ↦ let no : is_list (fields_at table k) ≡ true = ap (λ o. is_list (fields_in o)) named in absurd cc
         | NestedList flagged rows named class low ↦ let no : is_list (fields_at table k) ≡ true = ap (λ o. is_list (fields_in o)) named in absurd cc
       ]
 
 -- a list, without its elements
 pub list_read : (form : Form) (octets list : List ℕ) (e : Entry) (f n : ℕ) (v : Value) (bare : Entry) → is_list (row_fields form) ≡ true → IsRead (row_fields form) octets e list (fields_by f (Some form) v n bare)
-list_read forms.U16s octets list e f n v bare h = (refl, tt)
-list_read forms.U32s octets list e f n v bare h = (refl, tt)
+list_read (forms.Numbers w) octets list e f n v bare h = (refl, tt)
 list_read (forms.Addresses size) octets list e f n v bare h = (refl, tt)
 list_read (forms.List flagged) octets list e f n v bare h = (refl, tt)
 list_read (forms.Struct layout) octets list e f n v bare h = let no = value_no_list _ (struct_value layout) in absurd cc

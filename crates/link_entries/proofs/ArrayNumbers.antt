@@ -1,5 +1,8 @@
 -- The numbers of an array: one more, and all of them.
 use Rattle.std.proofs.Common.{◌≡◌, ℕ, zero, suc, ◌+◌, ◌*◌, ◌/◌, ◌≤◌, List, [], ◌∷◌, ◌++◌, length, refl, sym, ap, ap₂, ◌∙◌, arith, set}
+use Rattle.link_base.specs.declared.rows.form.Width.{Width}
+use Rattle.link_base.specs.declared.rows.form.Width.TheVariants as widths
+use Rattle.link_base.specs.Forms.{bytes_in}
 use Rattle.link_base.specs.Layout.{number_at, numbers_at}
 use Rattle.link_entries.specs.declared.entry.Entry.{Entry}
 use Rattle.link_entries.specs.Entry.{placed}
@@ -55,8 +58,6 @@ module _ (k at width : ℕ) (p : List ℕ) where
   length-number_entries count all = sym (ap length (ap front all)) ∙ length-front count
 
 -- an array has at most a number for two bytes
-pub few_u16s : (k at : ℕ) (p : List ℕ) → 2 * length (number_entries k at 2 p) ≤ length p
-few_u16s k at p = omega (arith, length-number_entries k at 2 p (length p / 2) refl)
-
-pub few_u32s : (k at : ℕ) (p : List ℕ) → 2 * length (number_entries k at 4 p) ≤ length p
-few_u32s k at p = omega (arith, length-number_entries k at 4 p (length p / 4) refl)
+pub few_numbers : (k at : ℕ) (w : Width) (p : List ℕ) → 2 ≤ bytes_in w → 2 * length (number_entries k at (bytes_in w) p) ≤ length p
+few_numbers k at widths.One p some = omega (arith, some)
+few_numbers k at w p some = omega (arith, length-number_entries k at (bytes_in w) p (length p / bytes_in w) refl)

@@ -1,9 +1,10 @@
 -- Elements that were read spell what a rewriting writes: numbers and addresses.
-use Rattle.std.proofs.Common.{◌≡◌, ℕ, zero, suc, ◌+◌, ◌*◌, ◌/◌, ◌%◌, ◌<◌, ◌≤◌, ◌==◌, ◌&&◌, Bool, true, false, cond, List, [], ◌∷◌, ◌++◌, length, drop, map, inl, inr, Ok, Err, refl, sym, ap, ap₂, subst, ◌∙◌, arith, drop-drop}
+use Rattle.std.proofs.Common.{◌≡◌, ℕ, zero, suc, ◌+◌, ◌*◌, ◌/◌, ◌%◌, ◌<◌, ◌≤◌, ◌==◌, ◌&&◌, true, false, cond, List, [], ◌∷◌, ◌++◌, length, drop, map, inl, inr, Ok, Err, refl, sym, ap, ap₂, subst, ◌∙◌, arith, drop-drop}
 use Rattle.std.specs.List.{AllZip, AllByRecursion, filter}
 use Rattle.std.proofs.lemmas.Bool.{cases_Bool, eqb-true, eq-eqb}
 use Rattle.std.proofs.lemmas.List.{nil_from_length, length-drop, take-append-drop}
 use Rattle.link_base.specs.declared.rows.form.Width.{Width}
+use Rattle.link_base.specs.declared.rows.form.Width.TheVariants as widths
 use Rattle.link_base.specs.Forms.{bytes_in}
 use Rattle.link_base.specs.Number.{IsBytes, bytes_of, bound}
 use Rattle.link_base.specs.Layout.{numbers_at, numbers_of, octets_of}
@@ -25,7 +26,6 @@ use Rattle.link_entries.specs.declared.misfit.Misfit.TheVariants.{BadElement}
 use Rattle.link_entries.specs.Fields.{array_number, ip_address}
 use Rattle.link_entries.specs.Payload.{payload_of}
 use Rattle.link_entries.specs.Spelled.{alone, before, framed, element_content, element_of, elements_of, begins_well}
-use Rattle.link_entries.proofs.RowForms.{array_width}
 use Rattle.link_entries.proofs.BackValues.{number_back, at_back, at_below, address_back}
 
 -- no elements where an attribute begins, or nothing
@@ -71,17 +71,16 @@ module _ (width : ℕ) (p : List ℕ) (bytes : IsBytes p) where
       ap₂ (λ a b. a ++ b) (at_back width offset p bytes (omega (arith, h))) (others ∙ sym (drop-drop width offset p)) ∙ take-append-drop width (drop offset p)
 
 -- an array of numbers
-whole_numbers : (wide : Bool) (n : ℕ) → n % bytes_in (array_width wide) ≡ 0 → n / bytes_in (array_width wide) * bytes_in (array_width wide) ≡ n
-whole_numbers true n h = omega (arith, h)
-whole_numbers false n h = omega (arith, h)
+whole_numbers : (w : Width) (n : ℕ) → n % bytes_in w ≡ 0 → n / bytes_in w * bytes_in w ≡ n
+whole_numbers widths.One n h = omega (arith, h)
+whole_numbers w n h = omega (arith, h)
 
-pub array_spelled : (table : Table) (wide : Bool) (k at : ℕ) (p octets : List ℕ) (rest : List Entry) → IsBytes p → begins_well rest ≡ true → length p % bytes_in (array_width wide) ≡ 0
-    → elements_of table (fields.Numbers (array_width wide)) k octets 0 (number_entries k at (bytes_in (array_width wide)) p ++ rest) ≡ Ok p
-array_spelled table wide k at p octets rest bytes end even =
-    let w = array_width wide in
+pub array_spelled : (table : Table) (w : Width) (k at : ℕ) (p octets : List ℕ) (rest : List Entry) → IsBytes p → begins_well rest ≡ true → length p % bytes_in w ≡ 0
+    → elements_of table (fields.Numbers w) k octets 0 (number_entries k at (bytes_in w) p ++ rest) ≡ Ok p
+array_spelled table w k at p octets rest bytes end even =
     let width = bytes_in w in
     let count = length p / width in
-    let all : 0 + count * width ≡ length p = omega (arith, whole_numbers wide (length p) even) in
+    let all : 0 + count * width ≡ length p = omega (arith, whole_numbers w (length p) even) in
     numbers_spelled table w k at octets rest end 0 0 (numbers_of width p) (numbers_below width p bytes count 0 (omega (arith, all)))
     ∙ ap Ok (numbers_bytes width p bytes count 0 all)
 

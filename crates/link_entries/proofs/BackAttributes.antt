@@ -1,5 +1,5 @@
 -- An attribute that was read spells what a rewriting writes, with its elements.
-use Rattle.std.proofs.Common.{◌≡◌, ℕ, ◌+◌, ◌≤◌, Bool, true, false, List, [], ◌++◌, length, map, Option, Some, Ok, Err, refl, sym, ap, ap₂, subst, ◌∙◌, arith}
+use Rattle.std.proofs.Common.{◌≡◌, ℕ, ◌+◌, ◌≤◌, true, false, List, [], ◌++◌, length, map, Option, Some, Ok, Err, refl, sym, ap, ap₂, subst, ◌∙◌, arith}
 use Rattle.std.proofs.lemmas.List.{append-nil}
 use Rattle.link_base.specs.declared.views.content.Content.{Content as Borrowed}
 use Rattle.link_base.specs.declared.rows.form.Form.{Form}
@@ -21,7 +21,7 @@ use Rattle.link_base.proofs.ClassLemmas.{multiple}
 use Rattle.link_messages.specs.Walk.{Item}
 use Rattle.link_entries.specs.declared.entry.Entry.{Entry}
 use Rattle.link_entries.specs.Entry.{blank}
-use Rattle.link_entries.specs.Flat.{Elements, head_entry, number_entries}
+use Rattle.link_entries.specs.Flat.{Elements, head_entry}
 use Rattle.link_entries.proofs.EntryFields.{keeps_filled}
 use Rattle.link_entries.proofs.FormElements.{ElementsBy, elements_told}
 use Rattle.link_entries.specs.declared.fields.Fields.{Fields}
@@ -29,19 +29,13 @@ use Rattle.link_entries.specs.declared.fields.Fields.TheVariants as fields
 use Rattle.link_entries.specs.Fields.{row_fields, fields_in, fields_at}
 use Rattle.link_entries.specs.Payload.{payload_of, field_of}
 use Rattle.link_entries.specs.Spelled.{alone, before, fitted, elements_of, attribute_of, begins_well}
-use Rattle.link_entries.proofs.RowForms.{is_list, value_no_list, with_kind, array_form, array_width, array_fields, RowTold, NoRow, OneValue, Array, AddressList, NestedList, row_says, element_no_list}
+use Rattle.link_entries.proofs.RowForms.{is_list, value_no_list, with_kind, RowTold, NoRow, OneValue, Array, AddressList, NestedList, row_says, element_no_list}
 use Rattle.link_entries.proofs.Spellings.{fitted_all}
 use Rattle.link_entries.proofs.BackValues.{StandsAt}
 use Rattle.link_entries.proofs.BackSingles.{none_below, value_read, list_back, single_back}
 use Rattle.link_entries.proofs.BackArrays.{elements_end, array_spelled, addresses_spelled, payloads_read}
 use Rattle.link_entries.proofs.BackElements.{wire_lifted, nested_spelled}
 use Rattle.link_entries.proofs.Located.{Located, suffix_whole}
-
--- the elements of an array are its numbers
-pub array_below : (table : Table) (wide : Bool) (k at : ℕ) (p : List ℕ) (es : List Entry) → ElementsBy table k at (Some (One (Many (bytes_in (array_width wide))))) p (Some (array_form wide)) es
-    → es ≡ number_entries k at (bytes_in (array_width wide)) p
-array_below table true k at p es h = h
-array_below table false k at p es h = h
 
 -- ---- an attribute in parts
 
@@ -103,17 +97,14 @@ module _ (table : Table) (formed : is_table table ≡ true) (list : List ℕ) (x
   by_row : RowTold table k → Goal
   by_row (NoRow named class) = single (ap (λ o. is_list (fields_in o)) named)
   by_row (OneValue form names named class one low) = single (ap (λ o. is_list (fields_in o)) named ∙ value_no_list (row_fields form) one)
-  by_row (Array wide named class low) =
-      let c = Many (bytes_in (array_width wide)) in
-      let own = fields.Numbers (array_width wide) in
+  by_row (Array w named class some low) =
+      let c = Many (bytes_in w) in
+      let own = fields.Numbers w in
       let was = value_read c k p v (subst (λ o. GivesBy o f p (Ok v)) class given) in
-      let is = array_below table wide k (x.0 + 4) p es (told (Some (One c)) (Some (array_form wide)) class named) in
-      let same = array_fields wide in
+      let is = told (Some (One c)) (Some (forms.Numbers w)) class named in
       let none : k ≡ k + 0 = omega arith in
-      listed own p (Case k _)
-      (subst (λ o. payload_of o head list ≡ Ok []) same (list_back table x.1 content has (length es) bare (array_form wide) list named (ap is_list same)))
-      (ap fields_in named ∙ same) none
-      (ap (λ l. elements_of (elements_at table k) own k list 0 (l ++ rest)) is ∙ array_spelled (elements_at table k) wide k (x.0 + 4) p list rest bytes end (multiple (bytes_in (array_width wide)) (length p) was.accepted))
+      listed own p (Case k _) (list_back table x.1 content has (length es) bare (forms.Numbers w) list named refl) (ap fields_in named) none
+      (ap (λ l. elements_of (elements_at table k) own k list 0 (l ++ rest)) is ∙ array_spelled (elements_at table k) w k (x.0 + 4) p list rest bytes end (multiple (bytes_in w) (length p) was.accepted))
       refl was.value
   by_row (AddressList n named class few low) = by_given (subst (λ o. GivesBy o f p (Ok v)) class given) where
     by_given : GivesBy (Some (Addresses n)) f p (Ok v) → Goal

@@ -27,14 +27,13 @@ use Rattle.link_entries.specs.declared.fields.Fields.TheVariants as fields
 use Rattle.link_entries.specs.declared.misfit.Misfit.TheVariants.{BadNumber}
 use Rattle.link_entries.specs.Fields.{row_fields, fields_in, fields_at}
 use Rattle.link_entries.specs.Payload.{passed, payload_of, field_of}
-use Rattle.link_entries.proofs.RowForms.{is_list, is_value, with_kind, struct_value, value_no_list, value_field, value_kind, NoRow, OneValue, Array, AddressList, NestedList, array_fields, row_says}
+use Rattle.link_entries.proofs.RowForms.{is_list, is_value, with_kind, struct_value, value_no_list, value_field, value_kind, NoRow, OneValue, Array, AddressList, NestedList, row_says}
 use Rattle.link_entries.proofs.BackValues.{StandsAt, right_form, passed_back}
 use Rattle.link_entries.proofs.BackClasses.{class_back}
 
 -- a content without elements
 pub none_below : (table : Table) (k at : ℕ) (x : Borrowed) (es : List Entry) → is_list (fields_in (form_of x)) ≡ false → Elements table k at x es → es ≡ []
-none_below table k at (contents.U16s p) es single h = absurd cc
-none_below table k at (contents.U32s p) es single h = absurd cc
+none_below table k at (contents.Numbers w p) es single h = absurd cc
 none_below table k at (contents.Addresses p size) es single h = absurd cc
 none_below table k at (contents.List p flagged) es single h = absurd cc
 none_below table k at x es single h = h
@@ -75,8 +74,7 @@ module _ (table : Table) (b : NlaBuffer) (content : Borrowed) (has : HasContent 
 
   -- the entry of a list has no payload
   listed : (form : Form) (v : Value) (list : List ℕ) → is_list (row_fields form) ≡ true → payload_of (row_fields form) (fields_by (kind_field_of b) (Some form) v n bare) list ≡ Ok []
-  listed forms.U16s v list h = refl
-  listed forms.U32s v list h = refl
+  listed (forms.Numbers w) v list h = refl
   listed (forms.Addresses size) v list h = refl
   listed (forms.List flagged) v list h = refl
   listed (forms.Struct layout) v list h = let no = value_no_list _ (struct_value layout) in absurd cc
@@ -123,7 +121,7 @@ module _ (table : Table) (b : NlaBuffer) (content : Borrowed) (has : HasContent 
         elim (row_says table k formed) [
           | NoRow named class ↦ subst (λ o. IsSpelled (fields_in o)) (sym named) (no_row named class)
           | OneValue form names named class one low ↦ subst (λ o. IsSpelled (fields_in o)) (sym named) (value_back form names named class one)
-          | Array wide named class low ↦ let no : is_list (fields_at table k) ≡ true = ap (λ o. is_list (fields_in o)) named ∙ ap is_list (array_fields wide) in absurd cc
+          | Array w named class some low ↦ let no : is_list (fields_at table k) ≡ true = ap (λ o. is_list (fields_in o)) named in absurd cc
           | AddressList size named class few low ↦ let no : is_list (fields_at table k) ≡ true = ap (λ o. is_list (fields_in o)) named in absurd cc
           | NestedList flagged rows named class low ↦ let no : is_list (fields_at table k) ≡ true = ap (λ o. is_list (fields_in o)) named in absurd cc
         ]

@@ -5,6 +5,7 @@ use Rattle.link_base.specs.declared.views.content.Content.{Content}
 use Rattle.link_base.specs.declared.views.content.Content.TheVariants as contents
 use Rattle.link_base.specs.declared.rows.form.Form.{Form}
 use Rattle.link_base.specs.declared.rows.form.Form.TheVariants as forms
+use Rattle.link_base.specs.Forms.{bytes_in as width_of}
 use Rattle.link_base.specs.Frame.{kind_of}
 use Rattle.link_base.specs.Buffer.{kind_field_of, payload_of}
 use Rattle.link_base.specs.Table.{Table, Shape, class_at, form_at}
@@ -19,16 +20,14 @@ module _ (table : Table) (k at : ℕ) (o : Option Shape) (p : List ℕ) where
   abbrev pub ElementsBy : Option Form → List Entry → Type 0
   ElementsBy (Some (forms.List flagged)) es = AreElements (elements_at table k) k at p es
   ElementsBy (Some (forms.Addresses n)) es = AreAddresses k at n p es
-  ElementsBy (Some forms.U16s) es = es ≡ number_entries k at 2 (bytes_in (value_at o p))
-  ElementsBy (Some forms.U32s) es = es ≡ number_entries k at 4 (bytes_in (value_at o p))
+  ElementsBy (Some (forms.Numbers w)) es = es ≡ number_entries k at (width_of w) (bytes_in (value_at o p))
   ElementsBy form es = es ≡ []
 
   -- they are those of its content
   pub elements_by : (es : List Entry) (x : Content) → Borrows o p x → Elements table k at x es → ElementsBy (form_of x) es
   elements_by es (contents.List l told) a h = subst (λ t. AreElements (elements_at table k) k at t es) (list_payload o p l told a) h
   elements_by es (contents.Addresses l n) a h = subst (λ t. AreAddresses k at n t es) (address_list o p l n a).payload h
-  elements_by es (contents.U16s l) a h = h ∙ ap (λ v. number_entries k at 2 (bytes_in v)) (sym (says_at o p (contents.U16s l) refl a))
-  elements_by es (contents.U32s l) a h = h ∙ ap (λ v. number_entries k at 4 (bytes_in v)) (sym (says_at o p (contents.U32s l) refl a))
+  elements_by es (contents.Numbers w l) a h = h ∙ ap (λ v. number_entries k at (width_of w) (bytes_in v)) (sym (says_at o p (contents.Numbers w l) refl a))
   elements_by es x a h = h
 
 -- likewise, by what is known of the attribute

@@ -4,6 +4,7 @@ use Rattle.std.specs.List.{filter, last_or}
 use Rattle.std.proofs.lemmas.List.{map-id}
 use Rattle.std.proofs.lemmas.List.Concat.{flat_map_single}
 use Rattle.std.proofs.lemmas.Bool.{eq-eqb, ne_eqb, cond-true, cond-false}
+use Rattle.link_base.specs.declared.rows.form.Width.{Width}
 use Rattle.link_base.specs.declared.views.content.Content.{Content}
 use Rattle.link_base.specs.declared.views.content.Content.TheVariants as contents
 use Rattle.link_base.specs.Frame.{kind_of}
@@ -94,10 +95,10 @@ module _ (k at width : ℕ) (p : List ℕ) (i : ℕ) where
 -- ---- contents
 
 -- a content that is neither a list nor an array has no last element
-pub none_last : (table : Table) (k at i : ℕ) (x : Content) → ((p : Bor (List ℕ)) → x ≡ contents.U16s p → ⊥) → ((p : Bor (List ℕ)) → x ≡ contents.U32s p → ⊥) → ((p : Bor (List ℕ)) (n : ℕ) → x ≡ contents.Addresses p n → ⊥)
+pub none_last : (table : Table) (k at i : ℕ) (x : Content) → ((w : Width) (p : Bor (List ℕ)) → x ≡ contents.Numbers w p → ⊥) → ((p : Bor (List ℕ)) (n : ℕ) → x ≡ contents.Addresses p n → ⊥)
     → ((p : Bor (List ℕ)) (told : Bool) → x ≡ contents.List p told → ⊥) → IsLastElement table k at x i None
-none_last table k at i (contents.List p told) a b c d = absurd (d p told refl)
-none_last table k at i x a b c d = ([], no_elements table k at x a b c d, refl)
+none_last table k at i (contents.List p told) a b c = absurd (c p told refl)
+none_last table k at i x a b c = ([], no_elements table k at x a b c, refl)
 
 -- the last element of a content is the last of its entries
 last_of : (table : Table) (k at i : ℕ) (o : Option Shape) (p : List ℕ) (x : Content) (found : Option Entry) (es : List Entry) → Borrows o p x → IsLastElement table k at x i found → ElementsBy table k at o p (form_of x) es → found ≡ last_inner i es

@@ -93,8 +93,7 @@ fields_by f (Some forms.Ipv4) v n e = record e { form = form_ipv4; octets = padd
 fields_by f (Some forms.Ipv6) v n e = record e { form = form_ipv6; octets = padded (bytes_in v) }
 fields_by f (Some forms.Bytes) v n e = record e { form = form_bytes }
 fields_by f (Some (forms.Struct layout)) v n e = with_struct layout (bytes_in v) e
-fields_by f (Some forms.U16s) v n e = record e { form = form_list; number = n }
-fields_by f (Some forms.U32s) v n e = record e { form = form_list; number = n }
+fields_by f (Some (forms.Numbers w)) v n e = record e { form = form_list; number = n }
 fields_by f (Some forms.Limits) v n e = record e { form = form_bittiming_const; length = 48 }
 fields_by f (Some (forms.Addresses size)) v n e = record e { form = form_list; number = n }
 fields_by f (Some (forms.List flagged)) v n e = record e { form = form_list; number = n }

@@ -4,6 +4,7 @@ use Rattle.std.specs.List.{AllZip}
 use Rattle.std.proofs.lemmas.List.{length-take}
 use Rattle.link_base.specs.declared.views.content.Content.{Content}
 use Rattle.link_base.specs.declared.views.content.Content.TheVariants as contents
+use Rattle.link_base.specs.declared.rows.form.Width.{Width}
 use Rattle.link_base.specs.Number.{number}
 use Rattle.link_base.specs.Class as classes
 use Rattle.link_base.specs.Class.{Class, Value, Raw, Name, Unlisted, meant, named, is_listed, size_of}
@@ -47,11 +48,8 @@ raw_at (Some (One c)) p q h = raw_payload c p q h
 raw_at o p q h = absurd cc
 
 -- those of an array
-pub u16s_payload : (o : Option Shape) (p : List ℕ) (bytes : Bor (List ℕ)) → Borrows o p (contents.U16s bytes) → length bytes.now ≤ length p
-u16s_payload o p bytes h = raw_at o p bytes.now (says_at o p (contents.U16s bytes) refl h)
-
-pub u32s_payload : (o : Option Shape) (p : List ℕ) (bytes : Bor (List ℕ)) → Borrows o p (contents.U32s bytes) → length bytes.now ≤ length p
-u32s_payload o p bytes h = raw_at o p bytes.now (says_at o p (contents.U32s bytes) refl h)
+pub array_payload : (o : Option Shape) (p : List ℕ) (w : Width) (bytes : Bor (List ℕ)) → Borrows o p (contents.Numbers w bytes) → length bytes.now ≤ length p
+array_payload o p w bytes h = raw_at o p bytes.now (says_at o p (contents.Numbers w bytes) refl h)
 
 -- ---- lists of addresses decode, whatever the attribute types
 
@@ -76,10 +74,9 @@ addresses_decode table f p list size has h none =
 -- ---- other contents
 
 -- a content that is neither a list nor an array has no elements
-pub no_elements : (table : Table) (k at : ℕ) (x : Content) → ((p : Bor (List ℕ)) → x ≡ contents.U16s p → ⊥) → ((p : Bor (List ℕ)) → x ≡ contents.U32s p → ⊥)
+pub no_elements : (table : Table) (k at : ℕ) (x : Content) → ((w : Width) (p : Bor (List ℕ)) → x ≡ contents.Numbers w p → ⊥)
     → ((p : Bor (List ℕ)) (n : ℕ) → x ≡ contents.Addresses p n → ⊥) → ((p : Bor (List ℕ)) (told : Bool) → x ≡ contents.List p told → ⊥) → Elements table k at x []
-no_elements table k at (contents.U16s p) a b c d = absurd (a p refl)
-no_elements table k at (contents.U32s p) a b c d = absurd (b p refl)
-no_elements table k at (contents.Addresses p n) a b c d = absurd (c p n refl)
-no_elements table k at (contents.List p told) a b c d = absurd (d p told refl)
-no_elements table k at x a b c d = refl
+no_elements table k at (contents.Numbers w p) a b c = absurd (a w p refl)
+no_elements table k at (contents.Addresses p n) a b c = absurd (b p n refl)
+no_elements table k at (contents.List p told) a b c = absurd (c p told refl)
+no_elements table k at x a b c = refl

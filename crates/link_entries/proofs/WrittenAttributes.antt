@@ -17,7 +17,7 @@ use Rattle.link_entries.specs.declared.fields.Fields.TheVariants as fields
 use Rattle.link_entries.specs.Fields.{ip_address, fields_in, fields_at}
 use Rattle.link_entries.specs.Payload.{payload_of, field_of}
 use Rattle.link_entries.specs.Spelled.{element_content, elements_of}
-use Rattle.link_entries.proofs.RowForms.{is_list, with_kind, field_kind, array_fields, NoRow, OneValue, Array, AddressList, NestedList, row_says}
+use Rattle.link_entries.proofs.RowForms.{is_list, with_kind, field_kind, NoRow, OneValue, Array, AddressList, NestedList, row_says}
 use Rattle.link_entries.proofs.Spellings.{frame_low}
 use Rattle.link_entries.proofs.WrittenLists.{same_spells, framed_ok, wire_none, wire_more}
 use Rattle.link_entries.proofs.EntryFields.{AreBelow}
@@ -59,7 +59,7 @@ single_decodes table formed e octets p s held short single h text =
           let v = Case (kind_of f) (Single (meant c p)) in
           let accepted = size_back e octets p held form names one (ap (λ o. payload_of (fields_in o) e octets) (sym named) ∙ h) in
           of_value table g p s v short text (subst (λ o. GivesBy o f p (Ok v)) (sym (ap (class_at table) kind ∙ class)) (sym (ap (λ o. single_case (kind_of f) (unless o (meant c p))) accepted)))
-      | Array wide named class low ↦ let no : is_list (fields_at table k) ≡ true = ap (λ o. is_list (fields_in o)) named ∙ ap is_list (array_fields wide) in absurd cc
+      | Array w named class some low ↦ let no : is_list (fields_at table k) ≡ true = ap (λ o. is_list (fields_in o)) named in absurd cc
       | AddressList n named class few low ↦ let no : is_list (fields_at table k) ≡ true = ap (λ o. is_list (fields_in o)) named in absurd cc
       | NestedList flagged rows named class low ↦ let no : is_list (fields_at table k) ≡ true = ap (λ o. is_list (fields_in o)) named in absurd cc
     ]

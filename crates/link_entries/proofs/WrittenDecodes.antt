@@ -1,7 +1,9 @@
 -- What entries spell decodes: attributes, and lists.
-use Rattle.std.proofs.Common.{◌≡◌, inl, inr, ℕ, ◌*◌, ◌%◌, ◌==◌, Bool, true, false, cond, List, [], ◌∷◌, ◌++◌, length, Option, Some, Ok, Err, refl, sym, ap, subst, ◌∙◌, arith}
+use Rattle.std.proofs.Common.{◌≡◌, inl, inr, ℕ, ◌*◌, ◌%◌, ◌==◌, true, false, cond, List, [], ◌∷◌, ◌++◌, length, Option, Some, Ok, Err, refl, sym, ap, subst, ◌∙◌, arith}
 use Rattle.std.specs.List.{AllByRecursion}
 use Rattle.std.proofs.lemmas.Bool.{cases_Bool}
+use Rattle.link_base.specs.declared.rows.form.Width.{Width}
+use Rattle.link_base.specs.declared.rows.form.Width.TheVariants as widths
 use Rattle.link_base.specs.Class.{Many, unless, meant}
 use Rattle.link_base.specs.Forms.{bytes_in}
 use Rattle.link_base.specs.Frame.{kind_of}
@@ -19,15 +21,15 @@ use Rattle.link_entries.specs.declared.misfit.Misfit.TheVariants.{BadElement}
 use Rattle.link_entries.specs.Fields.{row_fields, fields_in, fields_at}
 use Rattle.link_entries.specs.Payload.{field_of}
 use Rattle.link_entries.specs.Spelled.{elements_of, attribute_of, entry_of, entries_of, begins_well, spelled_by}
-use Rattle.link_entries.proofs.RowForms.{is_list, value_no_list, array_width, array_fields, RowTold, NoRow, OneValue, Array, AddressList, NestedList, row_says, element_no_list}
+use Rattle.link_entries.proofs.RowForms.{is_list, value_no_list, RowTold, NoRow, OneValue, Array, AddressList, NestedList, row_says, element_no_list}
 use Rattle.link_entries.proofs.WrittenLists.{spells, same_spells, before_ok, wire_none, wire_more}
 use Rattle.link_entries.proofs.WrittenParts.{Parts, parts, single_payload, list_payload}
 use Rattle.link_entries.proofs.WrittenFields.{field_held}
 use Rattle.link_entries.proofs.WrittenAttributes.{IsHeld, IsAttribute, of_value, single_decodes, addresses_decode, numbers_length, nested_decodes}
 
-even : (wide : Bool) (m n : ℕ) → n ≡ m * bytes_in (array_width wide) → n % bytes_in (array_width wide) ≡ 0
-even true m n h = omega (arith, h)
-even false m n h = omega (arith, h)
+even : (w : Width) (m n : ℕ) → n ≡ m * bytes_in w → n % bytes_in w ≡ 0
+even widths.One m n h = omega (arith, h)
+even w m n h = omega (arith, h)
 
 -- ---- one attribute
 
@@ -61,11 +63,10 @@ module _ (table : Table) (formed : is_table table ≡ true) (octets : List ℕ) 
   by_row : RowTold table k → IsAttribute table s
   by_row (NoRow named class) = single (ap (λ o. is_list (fields_in o)) named)
   by_row (OneValue form names named class one low) = single (ap (λ o. is_list (fields_in o)) named ∙ value_no_list (row_fields form) one)
-  by_row (Array wide named class low) =
-      let width = array_width wide in
+  by_row (Array width named class some low) =
       let c = Many (bytes_in width) in
-      let size = numbers_length IsHeld (λ e h. h) (elements_at table k) width k octets 0 w.cut.below p w.cut.deep w.cut.held (only_elements (fields.Numbers width) (ap fields_in named ∙ array_fields wide) refl) in
-      let accepted = at_multiple (bytes_in width) (length p) (even wide (length w.cut.below) (length p) size) in
+      let size = numbers_length IsHeld (λ e h. h) (elements_at table k) width k octets 0 w.cut.below p w.cut.deep w.cut.held (only_elements (fields.Numbers width) (ap fields_in named) refl) in
+      let accepted = at_multiple (bytes_in width) (length p) (even width (length w.cut.below) (length p) size) in
       given_by (Some (One c)) (Case (kind_of (g % 65536)) (Single (meant c p))) class (sym (ap (λ o. single_case (kind_of (g % 65536)) (unless o (meant c p))) accepted))
   by_row (AddressList n named class few low) =
       let (vs, wire) = addresses_decode (elements_at table k) n k octets 0 w.cut.below p w.cut.deep w.short (only_elements (fields.Addresses n) (ap fields_in named) refl) in

@@ -11,7 +11,7 @@ use Rattle.link_entries.specs.declared.misfit.Misfit.TheVariants.{BadNumber}
 use Rattle.link_entries.specs.Fields.{row_fields, fields_in, fields_at}
 use Rattle.link_entries.specs.Payload.{passed, payload_of, field_of}
 use Rattle.link_entries.specs.Agreement.{referred}
-use Rattle.link_entries.proofs.RowForms.{value_field, array_fields, NoRow, OneValue, Array, AddressList, NestedList, row_says}
+use Rattle.link_entries.proofs.RowForms.{value_field, NoRow, OneValue, Array, AddressList, NestedList, row_says}
 use Rattle.link_entries.proofs.WrittenLists.{if_held, both_true, content_ok, passed_held}
 
 -- an attribute or an element without a row
@@ -50,7 +50,7 @@ field_held table formed e octets p h =
           let none = plain.flags in
           record { kind = omega (arith, sum, low, none); low = λ few. omega (arith, sum, low, none, few) }
       | OneValue form names named class one low ↦ plain_field k e.flags g (ap (λ o. field_of (fields_in o) k e) named ∙ value_field (row_fields form) k e one) low
-      | Array wide named class low ↦ plain_field k e.flags g (ap (λ o. field_of (fields_in o) k e) named ∙ ap (λ o. field_of o k e) (array_fields wide)) low
+      | Array w named class some low ↦ plain_field k e.flags g (ap (λ o. field_of (fields_in o) k e) named) low
       | AddressList n named class few low ↦ plain_field k e.flags g (ap (λ o. field_of (fields_in o) k e) named) low
       | NestedList flagged rows named class low ↦ list_field flagged k e.flags g (ap (λ o. field_of (fields_in o) k e) named) low
     ]

@@ -45,8 +45,7 @@ filled f (contents.Ipv4 a) n e = record e { form = form_ipv4; octets = padded (f
 filled f (contents.Ipv6 a) n e = record e { form = form_ipv6; octets = padded (sixteen_octets a) }
 filled f (contents.Bytes p) n e = record e { form = form_bytes }
 filled f (contents.Struct layout p) n e = with_struct layout p.now e
-filled f (contents.U16s p) n e = record e { form = form_list; number = n }
-filled f (contents.U32s p) n e = record e { form = form_list; number = n }
+filled f (contents.Numbers w p) n e = record e { form = form_list; number = n }
 filled f (contents.Limits name numbers) n e = record e { form = form_bittiming_const; length = 48 }
 filled f (contents.Addresses list size) n e = record e { form = form_list; number = n }
 filled f (contents.List list flagged) n e = record e { form = form_list; number = n }

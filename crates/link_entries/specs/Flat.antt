@@ -5,6 +5,7 @@ use Rattle.link_base.specs.declared.wire.buffer.NlaBuffer.{NlaBuffer}
 use Rattle.link_base.specs.declared.views.content.Content.{Content}
 use Rattle.link_base.specs.declared.views.content.Content.TheVariants as contents
 use Rattle.link_base.specs.declared.wire.fault.ListFault.{ListFault}
+use Rattle.link_base.specs.Forms.{bytes_in}
 use Rattle.link_base.specs.Frame.{kind_of}
 use Rattle.link_base.specs.Buffer.{kind_field_of, payload_of}
 use Rattle.link_base.specs.Table.{Table, Gives}
@@ -58,8 +59,7 @@ AreElements table k at list es = (items : List Item) × Walk list items None × 
 abbrev pub Elements : Table → ℕ → ℕ → Content → List Entry → Type 0
 Elements table k at (contents.List list flagged) es = AreElements (elements_at table k) k at list.now es
 Elements table k at (contents.Addresses list size) es = AreAddresses k at size list.now es
-Elements table k at (contents.U16s p) es = es ≡ number_entries k at 2 p.now
-Elements table k at (contents.U32s p) es = es ≡ number_entries k at 4 p.now
+Elements table k at (contents.Numbers w p) es = es ≡ number_entries k at (bytes_in w) p.now
 Elements table k at content es = es ≡ []
 
 -- ---- lists

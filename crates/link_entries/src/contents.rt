@@ -42,8 +42,10 @@ pub(crate) fn fill(place: &mut Entry, kind_field: u16, content: Content<'_>, bel
             place.hold(forms::BITTIMING_CONST, 0);
             place.length = 48;
         }
-        Content::U16s(_) | Content::U32s(_) | Content::Addresses { .. } | Content::List { .. } =>
-            place.hold(forms::LIST, below as u64),
+        Content::Numbers { .. } | Content::Addresses { .. } | Content::List { .. } => place.hold(
+            forms::LIST,
+            below as u64,
+        ),
         Content::Other(_) => {
             place.hold(forms::UNKNOWN, 0);
             place.flags = kind_field - (kind_field & NLA_TYPE_MASK);

@@ -185,8 +185,7 @@ pub fn row_fields(form: Form) -> Fields
         Form::Ipv6 => address(forms::IPV6, 16),
         Form::Bytes => passed(forms::BYTES, None),
         Form::Struct(layout) => struct_fields(layout),
-        Form::U16s => Fields::Numbers { width: Width::Two },
-        Form::U32s => Fields::Numbers { width: Width::Four },
+        Form::Numbers(width) => Fields::Numbers { width },
         Form::Limits => Fields::Limits,
         Form::Addresses { size } => Fields::Addresses { size },
         Form::List { flagged } => Fields::List {

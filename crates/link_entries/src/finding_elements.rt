@@ -18,10 +18,11 @@ use crate::arrays::{count_of, number_entry};
 use crate::elements::{address_entry, element_entry};
 use crate::entry::Entry;
 use crate::finding::last_value;
+use link_base::rows::form::Width;
 use link_base::views::attribute_set::{AttributeSet, Set};
 use link_base::views::content::Content;
 use link_base::views::view::{Value, View};
-use link_base::{DefaultNla, ListFault, NlaBuffer, Word};
+use link_base::{DefaultNla, ListFault, NlaBuffer};
 use netlink_packet_route::{Family, FamilyElements, FamilySet, view_list};
 
 /// Returns the entry of the last element `inner` of the last attribute of type `kind` in a list, as `flatten` stores it;
@@ -96,8 +97,7 @@ fn find_in_content(
             size,
             inner,
         ),
-        Content::U16s(bytes) => find_number::<u16>(kind, at, bytes, inner),
-        Content::U32s(bytes) => find_number::<u32>(kind, at, bytes, inner),
+        Content::Numbers { width, bytes } => find_number(kind, at, width, bytes, inner),
         _ => None,
     }
 }
@@ -120,14 +120,14 @@ fn find_nested<T: AttributeSet>(
 }
 
 /// Returns the entry of the number at an index of an array.
-fn find_number<W: Word>(kind: u16, at: usize, bytes: &[u8], inner: u16) -> Option<Entry>
+fn find_number(kind: u16, at: usize, width: Width, bytes: &[u8], inner: u16) -> Option<Entry>
     requires short { length bytes.now ≤ max_payload }
     requires offset { at + length bytes.now < 2 ^ 63 }
-    ensures { result ≡ last_inner inner (number_entries kind at (bytes_of_width W.WIDTH) bytes.now) }
+    ensures { result ≡ last_inner inner (number_entries kind at (bytes_of_width width) bytes.now) }
 {
     let index = usize::from(inner);
-    if index < count_of::<W>(bytes) {
-        return Some(number_entry::<W>(kind, at, index, bytes));
+    if index < count_of(width, bytes) {
+        return Some(number_entry(kind, at, width, index, bytes));
     }
     None
 }

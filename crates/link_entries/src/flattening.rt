@@ -108,8 +108,7 @@ fn fill_single<F: Attribute>(place: &mut Entry, at: usize, value: &Value<'_, Set
     // Before the content is read: the compiler then stores each content where it reads it.
     start_head(place, at, &buffer);
     match value.content() {
-        Content::List { .. } | Content::Addresses { .. } | Content::U16s(_) | Content::U32s(_) =>
-            false,
+        Content::List { .. } | Content::Addresses { .. } | Content::Numbers { .. } => false,
         content => {
             fill(place, buffer.raw_kind(), content, 0);
             true
@@ -208,6 +207,8 @@ pub(crate) fn put_below<S: AttributeSet, E: AttributeSet>(
         × Elements (S.rows (set_in value.now)) (kind_in value.now) at content.entry es
         × Puts places.old places.new first es result × (2 * length es ≤ length (payload_in value.now)) }
 {
+    // The numbers of an array have two bytes or more.
+    value.set().well_formed();
     let kind = value.kind();
     match content {
         Content::List { list, .. } => put_elements(
@@ -225,8 +226,7 @@ pub(crate) fn put_below<S: AttributeSet, E: AttributeSet>(
             View::of_checked(list, Set::<DefaultNla>::new()),
             size,
         ),
-        Content::U16s(bytes) => put_numbers::<u16>(places, kind, at, first, bytes),
-        Content::U32s(bytes) => put_numbers::<u32>(places, kind, at, first, bytes),
+        Content::Numbers { width, bytes } => put_numbers(places, kind, at, first, width, bytes),
         _ => first,
     }
 }

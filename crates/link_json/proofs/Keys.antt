@@ -1,9 +1,10 @@
 -- Keys: which are distinct.
-use Rattle.std.proofs.Common.{◌≡◌, ℕ, Bool, true, false, not, ◌&&◌, ◌||◌, List, [], ◌∷◌, ◌++◌, refl, sym, ap, subst, bytes_eq}
+use Rattle.std.proofs.Common.{◌≡◌, ℕ, Bool, true, false, not, ◌&&◌, ◌||◌, List, [], ◌∷◌, ◌++◌, refl, sym, ap, subst, ◌∙◌, bytes_eq}
 use Rattle.std.specs.List.{AllByRecursion, IsDistinct, list_all, list_any}
 use Rattle.std.proofs.lemmas.Bool.{true≢false, and_parts, or_parts}
 use Rattle.std.proofs.lemmas.Map.Made.{AllPairs-from_IsDistinct, IsDistinct-from_AllPairs}
 use Rattle.std.proofs.lemmas.Slice.Eq.{bytes_eq-Decides}
+use Rattle.link_base.specs.Named.{are_distinct as distinct_by}
 use Rattle.json.specs.Strict.{keys, AreDistinct}
 use Rattle.link_json.specs.Doc.{Field, members_of}
 use Rattle.link_json.specs.Line.{document_keys}
@@ -13,23 +14,30 @@ Key = List ℕ
 
 -- whether no key is there twice
 abbrev pub are_distinct : List Key → Bool
-are_distinct [] = true
-are_distinct (k ∷ ks) = not (list_any (bytes_eq k) ks) && are_distinct ks
+are_distinct ks = distinct_by bytes_eq ks
 
 -- whether each of the keys is among those
 abbrev pub are_among : List Key → List Key → Bool
 are_among those ks = list_all (λ k. list_any (bytes_eq k) those) ks
 
-absent : (k : Key) (ks : List Key) → list_any (bytes_eq k) ks ≡ false → AllByRecursion (λ y. bytes_eq k y ≡ false) ks
+-- bytes that differ differ in either order
+either_way : (k y : Key) → bytes_eq y k ≡ false → bytes_eq k y ≡ false
+either_way k y e = by_test (bytes_eq k y) refl
+  where
+    by_test : (b : Bool) → bytes_eq k y ≡ b → b ≡ false
+    by_test false h = refl
+    by_test true h = absurd (true≢false (sym ((bytes_eq-Decides y k).1 (sym ((bytes_eq-Decides k y).0 h))) ∙ e))
+
+absent : (k : Key) (ks : List Key) → list_any (λ y. bytes_eq y k) ks ≡ false → AllByRecursion (λ y. bytes_eq k y ≡ false) ks
 absent k [] e = tt
-absent k (y ∷ ks) e = let p = or_parts (bytes_eq k y) (list_any (bytes_eq k) ks) e in (p.0, absent k ks p.1)
+absent k (y ∷ ks) e = let p = or_parts (bytes_eq y k) (list_any (λ x. bytes_eq x k) ks) e in (either_way k y p.0, absent k ks p.1)
 
 apart : (ks : List Key) → are_distinct ks ≡ true → IsDistinct bytes_eq ks
 unfolding IsDistinct
 apart [] e = tt
 apart (k ∷ ks) e =
-    let p = and_parts (not (list_any (bytes_eq k) ks)) (are_distinct ks) e in
-    (absent k ks (none (list_any (bytes_eq k) ks) p.0), apart ks p.1)
+    let p = and_parts (not (list_any (λ x. bytes_eq x k) ks)) (are_distinct ks) e in
+    (absent k ks (none (list_any (λ x. bytes_eq x k) ks) p.0), apart ks p.1)
   where
     none : (b : Bool) → not b ≡ true → b ≡ false
     none true h = absurd (true≢false (sym h))

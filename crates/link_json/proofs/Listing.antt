@@ -56,17 +56,17 @@ module _ (family : Family) (base : ℕ) (list rest next : List ℕ) (old mid new
 -- ---- nested lists
 
 -- the elements before `rest` were written
-abbrev pub ElementsTo : List ℕ → Table → List ℕ → List ℕ → List Token → List Token → Type 0
-ElementsTo prefix table list rest old new = ShownTo Adds (ShowsElement prefix table) (LeadTo list rest) old new true
+abbrev pub ElementsTo : Table → List ℕ → List ℕ → List Token → List Token → Type 0
+ElementsTo table list rest old new = ShownTo Adds (ShowsElement table) (LeadTo list rest) old new true
 
 -- one more
-pub elements_more : (prefix : List ℕ) (table : Table) (list rest next : List ℕ) (old mid new : List Token) (b : NlaBuffer) → ElementsTo prefix table list rest old mid → SplitsFirst rest b next
-    → WritesOne (ShowsInner prefix table b) mid new → ElementsTo prefix table list next old new
-elements_more prefix table list rest next old mid new b h split (j, shown, written) =
+pub elements_more : (table : Table) (list rest next : List ℕ) (old mid new : List Token) (b : NlaBuffer) → ElementsTo table list rest old mid → SplitsFirst rest b next
+    → WritesOne (ShowsInner table b) mid new → ElementsTo table list next old new
+elements_more table list rest next old mid new b h split (j, shown, written) =
     shown_more (LeadTo list next) (length list - length rest, b) (j ∷ []) old mid new true true (adds_more old mid new) (lead_on list rest next b split) h (j, shown, refl, refl) (adds_one mid new j written)
 
-pub elements_all : (prefix : List ℕ) (table : Table) (list rest : List ℕ) (old new : List Token) → ElementsTo prefix table list rest old new → rest ≡ [] → WritesElements prefix table list old new
-elements_all prefix table list rest old new h e = (h.out, (h.items, record { rest = rest; walks = h.leads; end = e }, h.each), h.written)
+pub elements_all : (table : Table) (list rest : List ℕ) (old new : List Token) → ElementsTo table list rest old new → rest ≡ [] → WritesElements table list old new
+elements_all table list rest old new h e = (h.out, (h.items, record { rest = rest; walks = h.leads; end = e }, h.each), h.written)
 
 -- ---- lists of addresses
 

@@ -8,23 +8,32 @@ use Rattle.json.specs.Json.{Json, null, boolean, string}
 use Rattle.json.specs.Strict.{keys, HasUniqueKeys, ItemsHaveUniqueKeys, MembersHaveUniqueKeys}
 use Rattle.json.specs.Tree.{depth, items_depth, members_depth, HasNumbers, ItemsHaveNumbers, MembersHaveNumbers}
 use Rattle.json.proofs.Printed.Decimals.{IsNumber-decimal, IsNumber-signed_decimal}
+use Rattle.link_base.specs.declared.rows.form.Form.{Form}
 use Rattle.link_base.specs.declared.rows.form.Form.TheVariants as forms
 use Rattle.link_base.specs.declared.rows.form.Layout.{Layout}
 use Rattle.link_base.specs.declared.rows.form.Layout.TheVariants as layouts
-use Rattle.link_base.specs.declared.rows.fields.Part.{Part}
-use Rattle.link_base.specs.declared.rows.fields.Part.TheVariants as parts
-use Rattle.link_base.specs.Forms.{FieldTold, bytes_in, fields_of}
+use Rattle.link_base.specs.declared.rows.form.Order.{Order}
+use Rattle.link_base.specs.declared.rows.form.Order.TheVariants.{Little, Big}
+use Rattle.link_base.specs.declared.rows.form.Role.{Role}
+use Rattle.link_base.specs.declared.rows.form.Role.TheVariants as roles
+use Rattle.link_base.specs.declared.rows.form.Width.{Width}
+use Rattle.link_base.specs.Fields.{FieldRow, names_for}
+use Rattle.link_base.specs.Labels.{name_in}
+use Rattle.link_base.specs.Orders.{number_by}
+use Rattle.link_base.specs.Payloads.{limit_fields}
+use Rattle.link_base.specs.Structs.{form_width}
 use Rattle.link_base.specs.Frame.{kind_of}
 use Rattle.link_base.specs.Number.{IsBytes, number, bound}
 use Rattle.link_base.specs.Layout.{number_at, numbers_at, numbers_of}
 use Rattle.link_base.proofs.Numbers.{number_below}
+use Rattle.link_base.proofs.Orders.{be_below}
 use Rattle.link_base.proofs.Values.{bytes-take, bytes-drop}
 use Rattle.link_show.specs.Flags.{set_names}
 use Rattle.link_show.specs.List.{type_flags}
-use Rattle.link_show.specs.Structs.{has_fields, size_of}
+use Rattle.link_show.specs.Structs.{has_fields}
 use Rattle.link_show.proofs.Fitting.{bound_up, width_fits}
 use Rattle.link_json.specs.Doc.{Field, members_of, items_of, object_of, array_of, number_json, signed_json, name_json, named_json, element_json, at_json, error_json}
-use Rattle.link_json.specs.Value.{hex_json, opaque_json, text_json, flags_json, masked_json, part_json, field_json, fields_json, struct_json, pair_json, limits_json, unit_fields, raw_json}
+use Rattle.link_json.specs.Value.{hex_json, opaque_json, text_json, flags_json, masked_json, role_json, form_json, field_json, fields_json, struct_json, pair_json, limits_json, unit_fields, raw_json}
 use Rattle.link_json.proofs.Keys.{are_distinct, distinct}
 
 pub record IsSound (K : Type 0) (n : ℕ) (j : Json) : Type 0 where
@@ -175,24 +184,46 @@ array_of_numbers width p few h = array_sound _ (numbers_sound (numbers_of width 
 -- ---- structs
 
 -- the keys of fields
-abbrev keys_of : List FieldTold → List (List ℕ)
-keys_of fields = map (λ f. f.0) fields
+abbrev keys_of : List FieldRow → List (List ℕ)
+keys_of fields = map (λ f. f.name) fields
 
-keys_told : (start : ℕ) (names : List (ℕ × List ℕ)) (p : List ℕ) (fields : List FieldTold) → keys (members_of (map (field_json start names p) fields)) ≡ keys_of fields
+keys_told : (start : ℕ) (names : List (ℕ × List ℕ)) (p : List ℕ) (fields : List FieldRow) → keys (members_of (map (field_json start names p) fields)) ≡ keys_of fields
 keys_told start names p [] = refl
-keys_told start names p (f ∷ fields) = ap (λ ks. f.0 ∷ ks) (keys_told start names p fields)
+keys_told start names p (f ∷ fields) = ap (λ ks. f.name ∷ ks) (keys_told start names p fields)
+
+-- the number of a few bytes, in either order
+order_fits : (order : Order) (p : List ℕ) → length p ≤ 8 → IsBytes p → number_by order p < 2 ^ 64
+order_fits Little p few h = bytes_fit p few h
+order_fits Big p few h =
+    let most : bound 8 ≡ 2 ^ 64 = refl in
+    omega (arith, most, be_below (length p) p h refl, bound_up (length p) 8 few)
+
+-- a number has no more than eight bytes
+number_width : (w : Width) (order : Order) (role : Role) → form_width (forms.Number w order role) ≤ 8
+number_width w Big role = width_fits w
+number_width w Little roles.Plain = width_fits w
+number_width w Little roles.Coded = width_fits w
+number_width w Little roles.Enum = width_fits w
+number_width w Little roles.Flags = width_fits w
 
 module _ {K : Type 0} {d : ℕ} where
-  part_sound : (names : List (ℕ × List ℕ)) (part : Part) (p : List ℕ) → (K → IsBytes p) → IsSound K (above 2 d) (part_json names part (take (size_of part) p))
-  part_sound names (parts.Number w q) p h = number_sound _ (λ k. front_fits (bytes_in w) p (width_fits w) (h k))
-  part_sound names (parts.BigEndian w) p h = hex_sound _
-  part_sound names (parts.Flags w) p h = flags_sound names _ (λ k. front_fits (bytes_in w) p (width_fits w) (h k))
-  part_sound names parts.Mac p h = string_sound _
-  part_sound names (parts.Name size) p h = text_sound _
+  pub role_sound : (names : List (ℕ × List ℕ)) (role : Role) (n : ℕ) → (K → n < 2 ^ 64) → IsSound K (above 2 d) (role_json names role n)
+  role_sound names roles.Plain n h = number_sound n h
+  role_sound names roles.Flags n h = flags_sound names n h
+  role_sound names roles.Coded n h = named_sound n (name_in names n) h
+  role_sound names roles.Enum n h = named_sound n (name_in names n) h
 
-  told : (start : ℕ) (names : List (ℕ × List ℕ)) (p : List ℕ) (fields : List FieldTold) → (K → IsBytes p) → AreSound K (above 2 d) (map (field_json start names p) fields)
+  form_sound : (names : List (ℕ × List ℕ)) (form : Form) (p : List ℕ) → (K → IsBytes p) → IsSound K (above 2 d) (form_json names form (take (form_width form) p))
+  form_sound names (forms.Number w order role) p h =
+      let n = form_width (forms.Number w order role) in
+      role_sound names role _ (λ k. order_fits order (take n p) (omega (arith, number_width w order role, length-take n p)) (bytes-take n p (h k)))
+  form_sound names forms.Mac p h = string_sound _
+  form_sound names form p h = hex_sound _
+
+  told : (start : ℕ) (names : List (ℕ × List ℕ)) (p : List ℕ) (fields : List FieldRow) → (K → IsBytes p) → AreSound K (above 2 d) (map (field_json start names p) fields)
   told start names p [] h = no_fields
-  told start names p (f ∷ fields) h = field_sound (part_sound names f.2 (drop (f.1 - start) p) (λ k. bytes-drop (f.1 - start) p (h k))) (told start names p fields h)
+  told start names p (f ∷ fields) h =
+      field_sound (form_sound (names_for names f.names) f.form (drop (f.offset - start) p) (λ k. bytes-drop (f.offset - start) p (h k))) (told start names p fields h)
 
   -- an object of fields, behind a member or none
   struct_by : (b : Bool) (front told other : List Field) → are_distinct (keys (members_of (front ++ told))) ≡ true → are_distinct (keys (members_of (front ++ other))) ≡ true
@@ -204,22 +235,19 @@ module _ {K : Type 0} {d : ℕ} where
   hex_only p = field_sound (hex_sound p) no_fields
 
 module _ {K : Type 0} {d : ℕ} where
-  object_of_fields : (fields : List FieldTold) (names : List (ℕ × List ℕ)) (p : List ℕ) → are_distinct (keys_of fields) ≡ true → (K → IsBytes p) → IsSound K (above 3 d) (object_of (fields_json fields 0 names p))
+  object_of_fields : (fields : List FieldRow) (names : List (ℕ × List ℕ)) (p : List ℕ) → are_distinct (keys_of fields) ≡ true → (K → IsBytes p) → IsSound K (above 3 d) (object_of (fields_json fields 0 names p))
   object_of_fields fields names p e h =
       let all = map (field_json 0 names p) fields in
       struct_by (has_fields fields 0 p) [] all ((codes "hex", hex_json p) ∷ []) (ap are_distinct (keys_told 0 names p fields) ∙ e) refl no_fields (told 0 names p fields h) (hex_only p)
 
-  pub struct_sound : (layout : Layout) (names : List (ℕ × List ℕ)) (p : List ℕ) → (K → IsBytes p) → IsSound K (above 3 d) (struct_json layout names p)
-  struct_sound layouts.BridgeId names p h = string_sound _
-  struct_sound (layouts.Other lengths) names p h = opaque_sound p
-  struct_sound layout names p h = object_of_fields (fields_of (forms.Struct layout)) names p refl h
+  pub struct_sound : (layout : Layout) (fields : List FieldRow) (names : List (ℕ × List ℕ)) (p : List ℕ) → are_distinct (keys_of fields) ≡ true → (K → IsBytes p) → IsSound K (above 3 d) (struct_json layout fields names p)
+  struct_sound layouts.BridgeId fields names p e h = string_sound _
+  struct_sound layout fields names p e h = object_of_fields fields names p e h
 
   pub limits_sound : (name p : List ℕ) → (K → IsBytes p) → IsSound K (above 3 d) (limits_json name p)
   limits_sound name p h =
-      let fields = drop 1 (fields_of forms.Limits) in
-      let all = map (field_json 16 [] p) fields in
-      struct_by (has_fields fields 16 p) ((codes "name", text_json name) ∷ []) all ((codes "hex", hex_json p) ∷ [])
-      (ap (λ ks. are_distinct (codes "name" ∷ ks)) (keys_told 16 [] p fields)) refl (field_sound (text_sound name) no_fields) (told 16 [] p fields h) (hex_only p)
+      struct_by (has_fields limit_fields 16 p) ((codes "name", text_json name) ∷ []) (map (field_json 16 [] p) limit_fields) ((codes "hex", hex_json p) ∷ [])
+      (ap (λ ks. are_distinct (codes "name" ∷ ks)) (keys_told 16 [] p limit_fields)) refl (field_sound (text_sound name) no_fields) (told 16 [] p limit_fields h) (hex_only p)
 
 -- ---- elements and errors
 

@@ -9,14 +9,12 @@ use Rattle.link_base.specs.declared.views.content.Content.TheVariants as content
 use Rattle.link_base.specs.Frame.{kind_of}
 use Rattle.link_base.specs.Buffer.{kind_field_of}
 use Rattle.link_base.specs.Labels.{label_in, label_of}
-use Rattle.link_base.specs.Table.{Table, label_at}
+use Rattle.link_base.specs.Table.{Label, Table, label_at}
 use Rattle.link_base.specs.Borrowed.{elements_at}
 use Rattle.netlink_packet_route.specs.declared.family.Family.{Family}
 use Rattle.netlink_packet_route.specs.Family.{table_of}
 use Rattle.link_show.specs.Printable.{IsText, has_texts}
-use Rattle.link_show.specs.Value.{Label}
 use Rattle.link_show.proofs.ValuePrinting.{IsLabelText, label_is_text}
-use Rattle.link_json.specs.Names.{element_prefix}
 use Rattle.link_json.specs.List.{ShowsNested, ShowsFlat, ShowsContent, WritesOne}
 
 -- ---- names
@@ -36,10 +34,10 @@ no_label found known e is = sym (ap label_in is) ∙ e
 -- ---- by the content
 
 -- the value of a nested list is that of its attribute
-pub nested_value : {X E : Type 0} (r : Result X E) (family : Family) (label : Label) (b : NlaBuffer) (list : Bor (List ℕ)) (flagged : Bool) (prefix : List ℕ) (table : Table) (bytes : List ℕ) (old new : List Token)
-    → prefix ≡ element_prefix family (kind_of (kind_field_of b)) → table ≡ elements_at (table_of family) (kind_of (kind_field_of b)) → bytes ≡ list.now
-    → OnOk r (WritesOne (ShowsNested prefix table bytes) old new) → OnOk r (WritesOne (ShowsContent family label b (contents.List list flagged)) old new)
-nested_value r family label b list flagged prefix table bytes old new p t l h = rw (p, t, l) at h
+pub nested_value : {X E : Type 0} (r : Result X E) (family : Family) (label : Label) (b : NlaBuffer) (list : Bor (List ℕ)) (flagged : Bool) (table : Table) (bytes : List ℕ) (old new : List Token)
+    → table ≡ elements_at (table_of family) (kind_of (kind_field_of b)) → bytes ≡ list.now
+    → OnOk r (WritesOne (ShowsNested table bytes) old new) → OnOk r (WritesOne (ShowsContent family label b (contents.List list flagged)) old new)
+nested_value r family label b list flagged table bytes old new t l h = rw (t, l) at h
 
 -- the value of another attribute is its own
 pub flat_value : (family : Family) (label : Label) (b : NlaBuffer) (content : Content) (value : Json) → ((list : Bor (List ℕ)) (flagged : Bool) → content ≡ contents.List list flagged → ⊥)

@@ -11,16 +11,14 @@ use Rattle.link_base.specs.declared.views.content.Content.{Content}
 use Rattle.link_base.specs.declared.views.content.Content.TheVariants as contents
 use Rattle.link_base.specs.Frame.{kind_of}
 use Rattle.link_base.specs.Buffer.{kind_field_of, payload_of}
-use Rattle.link_base.specs.Table.{Table, Gives}
+use Rattle.link_base.specs.Table.{Label, Table, Gives}
 use Rattle.link_base.specs.Borrowed.{elements_at, HasContent}
 use Rattle.netlink_packet_route.specs.declared.family.Family.{Family}
 use Rattle.netlink_packet_route.specs.Family.{table_of}
 use Rattle.link_messages.specs.Walk.{Item, Walk}
 use Rattle.link_show.specs.Fault.{cause_words, fault_text}
 use Rattle.link_show.specs.List.{EachShown, ShowsEach, label_for, ip_text}
-use Rattle.link_show.specs.Value.{Label}
 use Rattle.link_json.specs.Doc.{object_of, array_of, each_tokens, error_json}
-use Rattle.link_json.specs.Names.{prefix_of, element_prefix}
 use Rattle.link_json.specs.Value.{content_json, labelled_json, unnamed_json, attribute_json}
 
 -- ---- errors
@@ -37,18 +35,18 @@ end_json base (Some fault) = fault_json (base + fault.0) (cause_words false faul
 -- ---- nested lists
 
 -- an attribute b in a nested list of this table
-abbrev pub ShowsInner : List ℕ → Table → NlaBuffer → Json → Type 0
-ShowsInner prefix table b j = (content : Content) × HasContent table b content × (j ≡ attribute_json prefix (label_for table b) b content)
+abbrev pub ShowsInner : Table → NlaBuffer → Json → Type 0
+ShowsInner table b j = (content : Content) × HasContent table b content × (j ≡ attribute_json (label_for table b) b content)
 
-abbrev pub ShowsElement : List ℕ → Table → Item → List Json → Bool → Type 0
-ShowsElement prefix table x js well = (j : Json) × ShowsInner prefix table x.1 j × (js ≡ j ∷ []) × (well ≡ true)
+abbrev pub ShowsElement : Table → Item → List Json → Bool → Type 0
+ShowsElement table x js well = (j : Json) × ShowsInner table x.1 j × (js ≡ j ∷ []) × (well ≡ true)
 
 -- all of them
-abbrev pub ShowsElements : List ℕ → Table → List ℕ → List Json → Type 0
-ShowsElements prefix table list js = (items : List Item) × Walk list items None × EachShown (ShowsElement prefix table) items js true
+abbrev pub ShowsElements : Table → List ℕ → List Json → Type 0
+ShowsElements table list js = (items : List Item) × Walk list items None × EachShown (ShowsElement table) items js true
 
-abbrev pub ShowsNested : List ℕ → Table → List ℕ → Json → Type 0
-ShowsNested prefix table list value = (js : List Json) × ShowsElements prefix table list js × (value ≡ array_of js)
+abbrev pub ShowsNested : Table → List ℕ → Json → Type 0
+ShowsNested table list value = (js : List Json) × ShowsElements table list js × (value ≡ array_of js)
 
 -- an address, if it has this size
 abbrev pub if_sized : ℕ → List ℕ → List Json
@@ -68,12 +66,12 @@ ShowsFlat label content value = value ≡ content_json label content
 -- the value of an attribute with this content
 abbrev pub ShowsContent : Family → Label → NlaBuffer → Content → Json → Type 0
 ShowsContent family label b (contents.List list flagged) value =
-    ShowsNested (element_prefix family (kind_of (kind_field_of b))) (elements_at (table_of family) (kind_of (kind_field_of b))) list.now value
+    ShowsNested (elements_at (table_of family) (kind_of (kind_field_of b))) list.now value
 ShowsContent family label b content value = ShowsFlat label content value
 
 -- an attribute with this label and this content
 abbrev pub ShowsLabelled : Family → Label → NlaBuffer → Content → Json → Type 0
-ShowsLabelled family label b content j = (value : Json) × ShowsContent family label b content value × (j ≡ labelled_json (prefix_of family) label value)
+ShowsLabelled family label b content j = (value : Json) × ShowsContent family label b content value × (j ≡ labelled_json label value)
 
 -- an attribute with this content
 abbrev pub ShowsKnown : Family → Option Label → NlaBuffer → Content → Json → Type 0
@@ -103,8 +101,8 @@ Adds old new js = new ≡ old ++ each_tokens js
 abbrev pub Writes : (List Json → Bool → Type 0) → List Token → List Token → Bool → Type 0
 Writes shows old new well = (js : List Json) × shows js well × Adds old new js
 
-abbrev pub WritesElements : List ℕ → Table → List ℕ → List Token → List Token → Type 0
-WritesElements prefix table list old new = (js : List Json) × ShowsElements prefix table list js × Adds old new js
+abbrev pub WritesElements : Table → List ℕ → List Token → List Token → Type 0
+WritesElements table list old new = (js : List Json) × ShowsElements table list js × Adds old new js
 
 abbrev pub WritesAddresses : ℕ → List ℕ → List Token → List Token → Type 0
 WritesAddresses size list old new = (js : List Json) × ShowsAddresses size list js × Adds old new js

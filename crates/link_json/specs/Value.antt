@@ -1,5 +1,5 @@
 -- The JSON of values, by the form of their content.
-use Rattle.std.specs.Prelude.{ℕ, ◌-◌, true, List, [], ◌∷◌, map, take, drop, Option, Some, None, codes, if◌then◌else◌}
+use Rattle.std.specs.Prelude.{ℕ, ◌-◌, true, List, [], ◌∷◌, map, Option, Some, None, codes, if◌then◌else◌}
 use Rattle.std.specs.Fmt.{decimal}
 use Rattle.std.specs.Str.{is_utf8}
 use Rattle.std.specs.Net.Addr.{ipv4_octets, segments_of}
@@ -9,33 +9,34 @@ use Rattle.json.specs.Json.{Json, boolean, string}
 use Rattle.link_base.specs.declared.wire.buffer.NlaBuffer.{NlaBuffer}
 use Rattle.link_base.specs.declared.views.content.Content.{Content}
 use Rattle.link_base.specs.declared.views.content.Content.TheVariants as contents
+use Rattle.link_base.specs.declared.rows.form.Form.{Form}
 use Rattle.link_base.specs.declared.rows.form.Form.TheVariants as forms
 use Rattle.link_base.specs.declared.rows.form.Role.{Role}
 use Rattle.link_base.specs.declared.rows.form.Role.TheVariants as roles
 use Rattle.link_base.specs.declared.rows.form.Layout.{Layout}
 use Rattle.link_base.specs.declared.rows.form.Layout.TheVariants as layouts
-use Rattle.link_base.specs.declared.rows.fields.Part.{Part}
-use Rattle.link_base.specs.declared.rows.fields.Part.TheVariants as parts
 use Rattle.link_base.specs.declared.rows.label.Quantity.{Quantity}
 use Rattle.link_base.specs.declared.rows.label.Quantity.TheVariants as quantities
 use Rattle.link_base.specs.declared.names.vlan_protocol.VlanProtocol.{VlanProtocol}
-use Rattle.link_base.specs.Number.{number, four_bytes}
+use Rattle.link_base.specs.Number.{four_bytes}
+use Rattle.link_base.specs.Fields.{FieldRow, names_for}
+use Rattle.link_base.specs.Orders.{number_by}
 use Rattle.link_base.specs.Frame.{kind_of}
 use Rattle.link_base.specs.Buffer.{kind_field_of, payload_of}
-use Rattle.link_base.specs.Forms.{FieldTold, fields_of}
+use Rattle.link_base.specs.Forms.{bytes_in}
+use Rattle.link_base.specs.Payloads.{limit_fields}
 use Rattle.link_base.specs.IpAddress.{sixteen_octets}
 use Rattle.link_base.specs.Labels.{name_in}
 use Rattle.link_base.specs.Layout.{numbers_of}
-use Rattle.link_base.specs.Name.{before_nul}
 use Rattle.link_base.specs.Protocol.{vlan_protocols, protocol_number}
 use Rattle.link_base.specs.Named.{text_of}
 use Rattle.link_show.specs.Text.{joined}
 use Rattle.link_show.specs.Octets.{byte_text}
 use Rattle.link_show.specs.Flags.{set_names}
 use Rattle.link_show.specs.List.{type_flags}
-use Rattle.link_show.specs.Structs.{size_of, has_fields, bridge_id_text}
+use Rattle.link_show.specs.Structs.{field_in, has_fields, bridge_id_text}
 use Rattle.link_show.specs.Value as plain
-use Rattle.link_show.specs.Value.{Label, quantity_in, names_of}
+use Rattle.link_base.specs.Table.{Label}
 use Rattle.link_json.specs.Doc.{Field, object_of, array_of, number_json, signed_json, named_json, element_json}
 use Rattle.link_json.specs.Names.{short_name}
 
@@ -81,27 +82,30 @@ masked_json names flags mask = object_of ((codes "flags", flags_json names flags
 
 -- ---- structs
 
--- what the bytes of a field say; the names are those of bits
-abbrev pub part_json : List (ℕ × List ℕ) → Part → List ℕ → Json
-part_json names (parts.Number w q) bytes = number_json (number bytes)
-part_json names (parts.BigEndian w) bytes = hex_json bytes
-part_json names (parts.Flags w) bytes = flags_json names (number bytes)
-part_json names parts.Mac bytes = address_json bytes
-part_json names (parts.Name size) bytes = text_json (before_nul bytes)
+-- a number, by what it says
+abbrev pub role_json : List (ℕ × List ℕ) → Role → ℕ → Json
+role_json names roles.Plain n = number_json n
+role_json names roles.Flags n = flags_json names n
+role_json names role n = enum_json names n
 
--- the member for a field of a struct, whose bytes from offset `start` on are p
-abbrev pub field_json : ℕ → List (ℕ × List ℕ) → List ℕ → FieldTold → Field
-field_json start names p f = (f.0, part_json names f.2 (take (size_of f.2) (drop (f.1 - start) p)))
+-- what the bytes of a field say, by its form
+abbrev pub form_json : List (ℕ × List ℕ) → Form → List ℕ → Json
+form_json names (forms.Number w order role) bytes = role_json names role (number_by order bytes)
+form_json names forms.Mac bytes = address_json bytes
+form_json names form bytes = hex_json bytes
 
--- the members for fields of a struct; its bytes, if they lack one of the fields
-abbrev pub fields_json : List FieldTold → ℕ → List (ℕ × List ℕ) → List ℕ → List Field
+-- the member for a field of a struct, whose bytes from offset `start` on are p; the names are those of the row
+abbrev pub field_json : ℕ → List (ℕ × List ℕ) → List ℕ → FieldRow → Field
+field_json start names p f = (f.name, form_json (names_for names f.names) f.form (field_in start p f))
+
+-- the members for fields of a struct; its bytes, if there are no fields, or they lack one of them
+abbrev pub fields_json : List FieldRow → ℕ → List (ℕ × List ℕ) → List ℕ → List Field
 fields_json fields start names p = if has_fields fields start p then map (field_json start names p) fields else (codes "hex", hex_json p) ∷ []
 
--- the struct that p starts with; the bytes, if the fields are not known
-abbrev pub struct_json : Layout → List (ℕ × List ℕ) → List ℕ → Json
-struct_json layouts.BridgeId names p = string (bridge_id_text p)
-struct_json (layouts.Other lengths) names p = opaque_json p
-struct_json layout names p = object_of (fields_json (fields_of (forms.Struct layout)) 0 names p)
+-- the struct that p starts with, with these fields
+abbrev pub struct_json : Layout → List FieldRow → List (ℕ × List ℕ) → List ℕ → Json
+struct_json layouts.BridgeId fields names p = string (bridge_id_text p)
+struct_json layout fields names p = object_of (fields_json fields 0 names p)
 
 -- two consecutive numbers
 abbrev pub pair_json : ℕ → ℕ → Json
@@ -109,33 +113,26 @@ pair_json from to = object_of ((codes "from", number_json from) ∷ (codes "to",
 
 -- the limits of a CAN controller: its name, and the bytes of the numbers, which follow those of the name
 abbrev pub limits_json : List ℕ → List ℕ → Json
-limits_json name p = object_of ((codes "name", text_json name) ∷ fields_json (drop 1 (fields_of forms.Limits)) 16 [] p)
+limits_json name p = object_of ((codes "name", text_json name) ∷ fields_json limit_fields 16 [] p)
 
 -- ---- contents
-
--- the value of a number, by what it says
-abbrev pub role_json : List (ℕ × List ℕ) → Role → ℕ → Json
-role_json names roles.Plain n = number_json n
-role_json names roles.Flags n = flags_json names n
-role_json names role n = enum_json names n
 
 -- the value of a content, by what is known of its attribute type; the bytes of a list
 abbrev pub content_json : Label → Content → Json
 content_json label contents.Nothing = boolean true
 content_json label (contents.Bool b) = boolean b
-content_json label (contents.Number n width order role) = role_json (names_of label) role n
+content_json label (contents.Number n width order role) = role_json label.names role n
 content_json label (contents.Signed z) = signed_json z
-content_json label (contents.LowFlags bits) = flags_json (names_of label) bits
-content_json label (contents.MaskedFlags flags mask) = masked_json (names_of label) (four_bytes flags) (four_bytes mask)
+content_json label (contents.LowFlags bits) = flags_json label.names bits
+content_json label (contents.MaskedFlags flags mask) = masked_json label.names (four_bytes flags) (four_bytes mask)
 content_json label (contents.Pair from to) = pair_json (four_bytes from) (four_bytes to)
 content_json label (contents.Protocol p) = protocol_json p
 content_json label (contents.Mac a) = address_json a
 content_json label (contents.Ipv4 a) = string (ipv4_text (ipv4_octets a))
 content_json label (contents.Ipv6 a) = string (ipv6_text (segments_of (sixteen_octets a)))
 content_json label (contents.Bytes p) = address_json p.now
-content_json label (contents.Struct layout p) = struct_json layout (names_of label) p.now
-content_json label (contents.U16s p) = array_of (map number_json (numbers_of 2 p.now))
-content_json label (contents.U32s p) = array_of (map number_json (numbers_of 4 p.now))
+content_json label (contents.Struct layout p) = struct_json layout label.fields label.names p.now
+content_json label (contents.Numbers width p) = array_of (map number_json (numbers_of (bytes_in width) p.now))
 content_json label (contents.Limits name numbers) = limits_json name.now numbers.now
 content_json label (contents.Addresses list size) = opaque_json list.now
 content_json label (contents.List list flagged) = opaque_json list.now
@@ -157,8 +154,8 @@ unit_fields None = []
 unit_fields (Some unit) = (codes "unit", string unit) ∷ []
 
 -- an attribute: its name, its value, and the unit, if the value is a number that has one, or several
-abbrev pub labelled_json : List ℕ → Label → Json → Json
-labelled_json prefix label value = element_json (string (short_name prefix (plain.name_in label))) value (unit_fields (unit_of (quantity_in label)))
+abbrev pub labelled_json : Label → Json → Json
+labelled_json label value = element_json (string (short_name label.prefix label.name)) value (unit_fields (unit_of label.quantity))
 
 -- ---- attributes that are not decoded
 
@@ -171,6 +168,6 @@ abbrev pub unnamed_json : ℕ → List ℕ → Json
 unnamed_json f p = element_json (string (decimal (kind_of f))) (raw_json f p) []
 
 -- an attribute that is in no list of attributes
-abbrev pub attribute_json : List ℕ → Option Label → NlaBuffer → Content → Json
-attribute_json prefix None b content = unnamed_json (kind_field_of b) (payload_of b)
-attribute_json prefix (Some label) b content = labelled_json prefix label (content_json label content)
+abbrev pub attribute_json : Option Label → NlaBuffer → Content → Json
+attribute_json None b content = unnamed_json (kind_field_of b) (payload_of b)
+attribute_json (Some label) b content = labelled_json label (content_json label content)

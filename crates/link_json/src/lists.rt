@@ -15,7 +15,6 @@ ghost use Rattle.link_json.specs.Value.{content_json, labelled_json};
 ghost use Rattle.link_json.specs.List.{ShowsList, ShowsValue, ShowsLabelled, ShowsContent, ShowsNested, ShowsInner, ShowsFlat, fault_json, if_sized};
 ghost use Rattle.link_json.specs.List.{Writes, WritesOne, WritesElements, WritesAddresses};
 
-use crate::names::{element_prefix, prefix_of};
 use crate::parts::write_number_field;
 use crate::sheet::Sheet;
 use crate::values::{write_content, write_unit, write_unnamed};
@@ -107,7 +106,7 @@ fn write_labelled(
 {
     sheet.begin_object()?;
     sheet.key("name")?;
-    sheet.short_name(prefix_of(value.set().family), label.name)?;
+    sheet.short_name(label.prefix, label.name)?;
     sheet.key("value")?;
     write_any(sheet, label, value, content)?;
     write_unit(sheet, label.quantity)?;
@@ -130,71 +129,54 @@ fn write_any(
             let family = value.set().family;
             let kind = value.kind();
             let elements = View::of_checked(list, FamilyElements { family, list: kind });
-            write_nested(sheet, element_prefix(family, kind), elements)
+            write_nested(sheet, elements)
         }
         _ => write_flat(sheet, label, content),
     }
 }
 
 /// Writes an array of the elements of a nested list.
-fn write_nested(
-    sheet: &mut Sheet,
-    prefix: &str,
-    elements: View<'_, FamilyElements>,
-) -> Result<(), AllocError>
-    ensures { OnOk result (WritesOne (ShowsNested prefix.now (elements_table (set_of elements.entry)) (bytes_in elements.entry))
+fn write_nested(sheet: &mut Sheet, elements: View<'_, FamilyElements>) -> Result<(), AllocError>
+    ensures { OnOk result (WritesOne (ShowsNested (elements_table (set_of elements.entry)) (bytes_in elements.entry))
         sheet.old sheet.new) }
 {
     sheet.begin_array()?;
-    write_elements(sheet, prefix, elements)?;
+    write_elements(sheet, elements)?;
     sheet.end_array()
 }
 
 /// Writes the elements of a nested list.
-fn write_elements(
-    sheet: &mut Sheet,
-    prefix: &str,
-    elements: View<'_, FamilyElements>,
-) -> Result<(), AllocError>
-    ensures { OnOk result (WritesElements prefix.now (elements_table (set_of elements.entry)) (bytes_in elements.entry)
+fn write_elements(sheet: &mut Sheet, elements: View<'_, FamilyElements>) -> Result<(), AllocError>
+    ensures { OnOk result (WritesElements (elements_table (set_of elements.entry)) (bytes_in elements.entry)
         sheet.old sheet.new) }
 {
     for element in elements {
-        write_element(sheet, prefix, &element)?;
+        write_element(sheet, &element)?;
     }
     Ok(())
 }
 
 /// Writes an attribute in a nested list.
-fn write_element(
-    sheet: &mut Sheet,
-    prefix: &str,
-    element: &Value<'_, FamilyElements>,
-) -> Result<(), AllocError>
-    ensures { OnOk result (WritesOne (ShowsInner prefix.now (elements_table (set_in element.now)) (buffer_in element.now))
+fn write_element(sheet: &mut Sheet, element: &Value<'_, FamilyElements>) -> Result<(), AllocError>
+    ensures { OnOk result (WritesOne (ShowsInner (elements_table (set_in element.now)) (buffer_in element.now))
         sheet.old sheet.new) }
 {
     let known = element.known();
     match known.label {
-        Some(label) => write_inner(sheet, prefix, &label, known.content),
+        Some(label) => write_inner(sheet, &label, known.content),
         None => write_unnamed(sheet, element.buffer()),
     }
 }
 
 /// Writes an attribute in a nested list that has this label and this content.
-fn write_inner(
-    sheet: &mut Sheet,
-    prefix: &str,
-    label: &KindLabel,
-    content: Content<'_>,
-) -> Result<(), AllocError>
+fn write_inner(sheet: &mut Sheet, label: &KindLabel, content: Content<'_>) -> Result<(), AllocError>
     requires { IsText label.now.name.now }
     ensures { OnOk result (sheet.new ≡ sheet.old
-        ++ json_tokens (labelled_json prefix.now (label_of label.now) (content_json (label_of label.now) content.entry))) }
+        ++ json_tokens (labelled_json (label_of label.now) (content_json (label_of label.now) content.entry))) }
 {
     sheet.begin_object()?;
     sheet.key("name")?;
-    sheet.short_name(prefix, label.name)?;
+    sheet.short_name(label.prefix, label.name)?;
     sheet.key("value")?;
     write_content(sheet, label, content)?;
     write_unit(sheet, label.quantity)?;

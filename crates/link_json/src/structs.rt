@@ -2,38 +2,41 @@
 
 ghost use Rattle.std.specs.Prelude.{◌≡◌, ◌++◌, ◌∷◌, [], true, length, OnOk};
 ghost use Rattle.json.specs.Tree.{json_tokens};
-ghost use Rattle.link_base.specs.Fields.{field_told, fields_in};
-ghost use Rattle.link_base.specs.Labels.{names_in};
+ghost use Rattle.link_base.specs.Labels.{names_in, field_row, field_rows};
 ghost use Rattle.link_base.specs.Number.{four_bytes};
-ghost use Rattle.link_show.specs.Structs.{size_of, has_field};
+ghost use Rattle.link_base.specs.Structs.{form_width};
+ghost use Rattle.link_show.specs.Structs.{has_field};
 ghost use Rattle.link_json.specs.Doc.{fields_tokens};
-ghost use Rattle.link_json.specs.Value.{part_json, field_json, fields_json, struct_json, pair_json, limits_json};
+ghost use Rattle.link_json.specs.Value.{role_json, form_json, field_json, fields_json, struct_json, pair_json, limits_json};
 
-use crate::numbers::write_flags;
+use crate::numbers::{write_enum, write_flags};
 use crate::parts::write_number_field;
 use crate::sheet::Sheet;
-use link_base::before_nul;
-use link_base::rows::fields::{Field, Part};
-use link_base::rows::form::{Form, Layout};
+use link_base::rows::fields::Field;
+use link_base::rows::form::{Form, Layout, Role};
 use link_base::rows::label::Name;
-use link_show::{has_fields, number_of, size_of};
+use link_base::rows::limits::limit_fields;
+use link_base::views::content_by::number_in;
+use link_show::{has_fields, names_for};
 use std::alloc::AllocError;
 
-/// Writes the struct that `bytes` start with. `names` are those of the bits of its flags.
+/// Writes the struct that `bytes` start with. `names` are those of the numbers and bits of fields that have none of their
+/// own.
 pub(crate) fn write_struct(
     sheet: &mut Sheet,
     layout: Layout,
+    fields: &[Field],
     names: &[Name],
     bytes: &[u8],
 ) -> Result<(), AllocError>
-    ensures { OnOk result (sheet.new ≡ sheet.old ++ json_tokens (struct_json layout (names_in names.now) bytes.now)) }
+    ensures { OnOk result (sheet.new ≡ sheet.old
+        ++ json_tokens (struct_json layout (field_rows fields.now) (names_in names.now) bytes.now)) }
 {
     match layout {
         Layout::BridgeId => sheet.bridge_id(bytes),
-        Layout::Other(_) => sheet.opaque(bytes),
         _ => {
             sheet.begin_object()?;
-            write_fields(sheet, Form::Struct(layout).fields(), 0, names, bytes)?;
+            write_fields(sheet, fields, 0, names, bytes)?;
             sheet.end_object()
         }
     }
@@ -49,7 +52,7 @@ fn write_fields(
     bytes: &[u8],
 ) -> Result<(), AllocError>
     ensures { OnOk result (sheet.new ≡ sheet.old
-        ++ fields_tokens (fields_json (fields_in fields.now) start (names_in names.now) bytes.now)) }
+        ++ fields_tokens (fields_json (field_rows fields.now) start (names_in names.now) bytes.now)) }
 {
     if !has_fields(fields, start, bytes) {
         sheet.key("hex")?;
@@ -69,31 +72,47 @@ fn write_field(
     names: &[Name],
     bytes: &[u8],
 ) -> Result<(), AllocError>
-    requires { has_field start bytes.now (field_told field.now) ≡ true }
+    requires { has_field start bytes.now (field_row field.now) ≡ true }
     ensures { OnOk result (sheet.new ≡ sheet.old
-        ++ fields_tokens (field_json start (names_in names.now) bytes.now (field_told field.now) ∷ [])) }
+        ++ fields_tokens (field_json start (names_in names.now) bytes.now (field_row field.now) ∷ [])) }
 {
     let at = field.offset.saturating_sub(start);
     sheet.key(field.name)?;
-    write_part(
+    write_form(
         sheet,
-        field.part,
-        names,
-        &bytes[at..at + size_of(field.part)],
+        names_for(names, field.names),
+        field.form,
+        &bytes[at..at + field.form.width()],
     )
 }
 
-/// Writes what a field with these bytes holds.
-fn write_part(sheet: &mut Sheet, part: Part, names: &[Name], bytes: &[u8]) -> Result<(), AllocError>
-    requires { length bytes.now ≡ size_of part }
-    ensures { OnOk result (sheet.new ≡ sheet.old ++ json_tokens (part_json (names_in names.now) part bytes.now)) }
+/// Writes what a field of this form with these bytes holds.
+fn write_form(sheet: &mut Sheet, names: &[Name], form: Form, bytes: &[u8]) -> Result<(), AllocError>
+    requires { length bytes.now ≡ form_width form }
+    ensures { OnOk result (sheet.new ≡ sheet.old ++ json_tokens (form_json (names_in names.now) form bytes.now)) }
 {
-    match part {
-        Part::Number { width, .. } => sheet.number(number_of(width, bytes)),
-        Part::BigEndian { .. } => sheet.hex(bytes),
-        Part::Flags { width } => write_flags(sheet, names, number_of(width, bytes)),
-        Part::Mac => sheet.address(bytes),
-        Part::Name { .. } => sheet.text(before_nul(bytes)),
+    match form {
+        Form::Number { width, order, role } => {
+            write_role(sheet, names, role, number_in(width, order, bytes))
+        }
+        Form::Mac => sheet.address(bytes),
+        _ => sheet.hex(bytes),
+    }
+}
+
+/// Writes a number by what it says. `names` are those of the attribute type.
+pub(crate) fn write_role(
+    sheet: &mut Sheet,
+    names: &[Name],
+    role: Role,
+    number: u64,
+) -> Result<(), AllocError>
+    ensures { OnOk result (sheet.new ≡ sheet.old ++ json_tokens (role_json (names_in names.now) role number)) }
+{
+    match role {
+        Role::Plain => sheet.number(number),
+        Role::Coded | Role::Enum => write_enum(sheet, names, number),
+        Role::Flags => write_flags(sheet, names, number),
     }
 }
 
@@ -114,6 +133,6 @@ pub(crate) fn write_limits(sheet: &mut Sheet, name: &[u8], numbers: &[u8]) -> Re
     sheet.begin_object()?;
     sheet.key("name")?;
     sheet.text(name)?;
-    write_fields(sheet, &Form::Limits.fields()[1..], 16, &[], numbers)?;
+    write_fields(sheet, limit_fields(), 16, &[], numbers)?;
     sheet.end_object()
 }

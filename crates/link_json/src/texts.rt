@@ -83,7 +83,7 @@ impl Sheet {
         ensures { OnOk result (self.new ≡ self.old ++ string (bridge_id_text bytes.now) ∷ []) }
     {
         self.text.clear();
-        match write_struct(&mut self.text, Layout::BridgeId, &[], bytes) {
+        match write_struct(&mut self.text, Layout::BridgeId, &[], &[], bytes) {
             Ok(()) => push(&mut self.writer, &self.text),
             Err(_) => Err(AllocError),
         }

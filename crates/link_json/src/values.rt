@@ -7,16 +7,15 @@ ghost use Rattle.json.specs.Json.{string};
 ghost use Rattle.json.specs.Tree.{json_tokens};
 ghost use Rattle.link_base.specs.Buffer.{kind_field_of, payload_of};
 ghost use Rattle.link_base.specs.IpAddress.{sixteen_octets};
-ghost use Rattle.link_base.specs.Labels.{label_of, names_in};
+ghost use Rattle.link_base.specs.Labels.{label_of};
 ghost use Rattle.link_json.specs.Doc.{fields_tokens};
-ghost use Rattle.link_json.specs.Value.{content_json, role_json, protocol_json, unit_of, unit_fields, raw_json, unnamed_json};
+ghost use Rattle.link_json.specs.Value.{content_json, protocol_json, unit_of, unit_fields, raw_json, unnamed_json};
 
-use crate::numbers::{write_enum, write_flags, write_masked, write_numbers};
+use crate::numbers::{write_flags, write_masked, write_numbers};
 use crate::parts::{write_named, write_number_field};
 use crate::sheet::Sheet;
-use crate::structs::{write_limits, write_pair, write_struct};
-use link_base::rows::form::{Role, Width};
-use link_base::rows::label::{KindLabel, Name, Quantity};
+use crate::structs::{write_limits, write_pair, write_role, write_struct};
+use link_base::rows::label::{KindLabel, Quantity};
 use link_base::views::content::Content;
 use link_base::{Address, NlaBuffer, VlanProtocol};
 use link_show::{TYPE_FLAGS, protocol_name};
@@ -44,23 +43,13 @@ pub(crate) fn write_content(
         Content::Ipv4(address) => sheet.ip(&address.octets()),
         Content::Ipv6(address) => write_ipv6(sheet, address),
         Content::Bytes(bytes) => sheet.address(bytes),
-        Content::Struct { layout, bytes } => write_struct(sheet, layout, label.names, bytes),
-        Content::U16s(bytes) => write_numbers(sheet, Width::Two, bytes),
-        Content::U32s(bytes) => write_numbers(sheet, Width::Four, bytes),
+        Content::Struct { layout, bytes } => {
+            write_struct(sheet, layout, label.fields, label.names, bytes)
+        }
+        Content::Numbers { width, bytes } => write_numbers(sheet, width, bytes),
         Content::Limits { name, numbers } => write_limits(sheet, name, numbers),
         Content::Addresses { list, .. } | Content::List { list, .. } => sheet.opaque(list),
         Content::Other(payload) => sheet.opaque(payload),
-    }
-}
-
-/// Writes a number by what it says. `names` are those of the attribute type.
-fn write_role(sheet: &mut Sheet, names: &[Name], role: Role, number: u64) -> Result<(), AllocError>
-    ensures { OnOk result (sheet.new ≡ sheet.old ++ json_tokens (role_json (names_in names.now) role number)) }
-{
-    match role {
-        Role::Plain => sheet.number(number),
-        Role::Coded | Role::Enum => write_enum(sheet, names, number),
-        Role::Flags => write_flags(sheet, names, number),
     }
 }
 

@@ -7,7 +7,7 @@ use Rattle.link_base.specs.declared.wire.fault.Cause.{Cause}
 use Rattle.link_base.specs.declared.views.content.Content.{Content}
 use Rattle.link_base.specs.declared.views.content.Content.TheVariants as contents
 use Rattle.link_base.specs.declared.rows.form.Width.{Width}
-use Rattle.link_base.specs.declared.rows.form.Width.TheVariants.{One as W1, Two as W2, Four as W4, Eight as W8}
+use Rattle.link_base.specs.declared.rows.form.Width.TheVariants as widths
 use Rattle.link_base.specs.Number.{IsBytes, bound}
 use Rattle.link_base.specs.Frame.{kind_of, pad, frame_bytes}
 use Rattle.link_base.specs.Buffer.{kind_field_of, payload_of, frame_of, SplitsFirst}
@@ -30,10 +30,10 @@ bound_up (suc m) zero h = absurd (omega arith)
 bound_up (suc m) (suc n) h = let more = bound_up m n (omega arith) in omega arith
 
 pub width_fits : (w : Width) → bytes_in w ≤ 8
-width_fits W1 = omega arith
-width_fits W2 = omega arith
-width_fits W4 = omega arith
-width_fits W8 = omega arith
+width_fits widths.One = omega arith
+width_fits widths.Two = omega arith
+width_fits widths.Four = omega arith
+width_fits widths.Eight = omega arith
 
 -- ---- values
 
@@ -85,8 +85,7 @@ ContentFits (contents.Signed z) = mag z < 2 ^ 63
 ContentFits (contents.LowFlags bits) = bits < 2 ^ 64
 ContentFits (contents.Ipv6 a) = IsBytes (sixteen_octets a)
 ContentFits (contents.Struct layout p) = IsBytes p.now
-ContentFits (contents.U16s p) = IsBytes p.now
-ContentFits (contents.U32s p) = IsBytes p.now
+ContentFits (contents.Numbers w p) = IsBytes p.now
 ContentFits (contents.Limits name numbers) = IsBytes numbers.now
 ContentFits (contents.Addresses list size) = IsBytes list.now
 ContentFits (contents.List list flagged) = IsBytes list.now
@@ -98,8 +97,7 @@ said_fits (contents.Signed z) v h e = subst ValueFits e h
 said_fits (contents.LowFlags bits) v h e = let few : bits < 256 = subst ValueFits e h in omega (arith, few)
 said_fits (contents.Ipv6 a) v h e = subst ValueFits e h
 said_fits (contents.Struct layout p) v h e = subst ValueFits e h
-said_fits (contents.U16s p) v h e = subst ValueFits e h
-said_fits (contents.U32s p) v h e = subst ValueFits e h
+said_fits (contents.Numbers w p) v h e = subst ValueFits e h
 said_fits (contents.Limits name numbers) v h e = absurd e
 said_fits (contents.Addresses list size) v h e = absurd e
 said_fits (contents.List list flagged) v h e = absurd e

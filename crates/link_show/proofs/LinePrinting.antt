@@ -11,11 +11,10 @@ use Rattle.link_base.specs.declared.wire.fault.Cause.{Cause}
 use Rattle.link_base.specs.Number.{IsBytes}
 use Rattle.link_base.specs.Frame.{kind_of}
 use Rattle.link_base.specs.Buffer.{kind_field_of, payload_of}
-use Rattle.link_base.specs.Table.{Table}
+use Rattle.link_base.specs.Table.{Label, Table}
 use Rattle.link_base.specs.Borrowed.{elements_at, HasContent}
 use Rattle.link_base.proofs.Written.{all_append}
 use Rattle.link_messages.specs.Walk.{Item}
-use Rattle.link_show.specs.Value.{Label}
 use Rattle.link_show.specs.List.{indented, below, error_line, EachShown, type_flags, flags_after, head_text, has_text, attribute_text, label_for, ip_text, address_in, addresses_in, ShowsAddresses, ShowsElement, ShowsNested, Empty, Elements, ShowsMore, ShowsFlat, ShowsContent, ShowsItem, Decodes, Fails, end_line, ShowsList, ShowsVerdict, Unasked, IsCanonical, IsNot, ShowsChecked}
 use Rattle.link_show.specs.Printable.{IsText, AreTexts, has_texts}
 use Rattle.link_show.proofs.Fitting.{ContentFits, content_fits, ItemFits, walk_fits}

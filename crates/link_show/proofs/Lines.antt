@@ -7,10 +7,9 @@ use Rattle.link_base.specs.declared.views.content.Content.{Content}
 use Rattle.link_base.specs.declared.views.content.Content.TheVariants as contents
 use Rattle.link_base.specs.Frame.{kind_of}
 use Rattle.link_base.specs.Buffer.{kind_field_of, payload_of}
-use Rattle.link_base.specs.Table.{Table}
+use Rattle.link_base.specs.Table.{Label, Table}
 use Rattle.link_base.specs.Borrowed.{HasValues, elements_at, HasContent}
 use Rattle.link_base.proofs.Elements.{elements_decode}
-use Rattle.link_show.specs.Value.{Label}
 use Rattle.link_show.specs.List.{indented, head_text, attribute_text, label_for, WritesAttribute, WritesElement, WritesFlat, WritesMore, WritesAddresses, WritesNested, WritesElements, WritesValue, ShowsContent, ShowsFlat, Empty, Elements}
 
 -- a line of its own

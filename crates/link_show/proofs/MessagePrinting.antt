@@ -8,7 +8,7 @@ use Rattle.link_base.specs.Labels as Labels
 use Rattle.link_base.specs.Number.{IsBytes}
 use Rattle.link_base.specs.Frame.{kind_of}
 use Rattle.link_base.specs.Buffer.{kind_field_of}
-use Rattle.link_base.specs.WellFormed.{is_printable}
+use Rattle.link_base.specs.WellFormed.{is_printable, are_names}
 use Rattle.link_base.proofs.FrameBytes.{bytes-front}
 use Rattle.link_base.proofs.Values.{bytes-drop}
 use Rattle.netlink_packet_route.specs.declared.family.Family.{Family}
@@ -44,7 +44,7 @@ use Rattle.link_show.specs.Message.{two, four, reason_text, offset_of, message_e
 use Rattle.link_show.specs.Printable.{IsText, AreTexts, has_texts}
 use Rattle.link_show.proofs.Fitting.{walk_fits}
 use Rattle.link_show.proofs.Printing.{text, none, and, either, decimal_text, signed_text, address_digits, quoted_text}
-use Rattle.link_show.proofs.ValuePrinting.{EachName, OnText, are_text_names, choose, each_name, name_found, label_is_text, formed_texts, enum_is_text, number_is_text, other_is_text, flags_is_text, field_is_text, bytes_is_text, cause_is_text}
+use Rattle.link_show.proofs.ValuePrinting.{EachName, OnText, choose, each_name, name_found, label_is_text, formed_texts, enum_is_text, number_is_text, other_is_text, flags_is_text, field_is_text, bytes_is_text, cause_is_text}
 use Rattle.link_show.proofs.LinePrinting.{no_texts, and_texts, line_end, line_and, line_texts, indented_texts, error_texts, either_texts, each_texts, AnItem, checked_texts}
 
 -- ---- errors
@@ -79,7 +79,7 @@ names_for names word n h w = named_or_text word (Labels.name_in names n) n w (na
 -- the names of the flags of every type
 flags_of_text : (kind : ℕ) → EachName (flags_of kind)
 flags_of_text kind =
-    let more : (some : List (ℕ × List ℕ)) → are_text_names (common_flags ++ some) ≡ true → EachName (common_flags ++ some) = λ some h. each_name (common_flags ++ some) h in
+    let more : (some : List (ℕ × List ℕ)) → are_names (common_flags ++ some) ≡ true → EachName (common_flags ++ some) = λ some h. each_name (common_flags ++ some) h in
     choose EachName (kind == 16) _ _ (more new_flags refl)
     (choose EachName (kind == 19) _ _ (more new_flags refl)
     (choose EachName (kind == 18) _ _ (more get_flags refl)
@@ -199,7 +199,7 @@ ProtinfoBytes (protinfos.Other p) = PayloadBytes p
 
 state_texts : EachName state_names
 unfolding state_names
-state_texts = (label_is_text (table_of families.BridgePort) 1 (family_has_texts families.BridgePort)).1
+state_texts = (label_is_text (table_of families.BridgePort) 1 (family_has_texts families.BridgePort)).1.0
 
 protinfo_texts : (check : Bool) (found : Option Protinfo) (out : List ℕ) (well : Bool) → IfSome found ProtinfoBytes → ShowsProtinfo check found out well → AreTexts out
 protinfo_texts check None out well h (is, e) = subst AreTexts (sym is) no_texts

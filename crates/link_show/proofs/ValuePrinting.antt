@@ -3,6 +3,7 @@ use Rattle.std.proofs.Common.{◌≡◌, ℕ, zero, suc, ◌+◌, ◌/◌, ◌%�
 use Rattle.std.specs.Prelude.{nat_le, if◌then◌else◌}
 use Rattle.std.specs.Fmt.{decimal}
 use Rattle.std.specs.List.{list_all, AllByRecursion}
+use Rattle.std.specs.Str.{bytes_eq}
 use Rattle.std.specs.Int.RustNames.{bit_and}
 use Rattle.std.specs.Net.Addr.{ipv4_octets, segments_of}
 use Rattle.std.proofs.lemmas.Bool.{and_parts}
@@ -15,32 +16,33 @@ use Rattle.link_base.specs.declared.wire.fault.DecodeFault.{DecodeFault}
 use Rattle.link_base.specs.declared.wire.fault.DecodeFault.TheVariants as faults
 use Rattle.link_base.specs.declared.rows.label.Quantity.{Quantity}
 use Rattle.link_base.specs.declared.rows.label.Quantity.TheVariants as quantities
+use Rattle.link_base.specs.declared.rows.form.Form.{Form}
 use Rattle.link_base.specs.declared.rows.form.Form.TheVariants as forms
 use Rattle.link_base.specs.declared.rows.form.Width.{Width}
 use Rattle.link_base.specs.declared.rows.form.Role.{Role}
 use Rattle.link_base.specs.declared.rows.form.Role.TheVariants as roles
 use Rattle.link_base.specs.declared.rows.form.Layout.{Layout}
 use Rattle.link_base.specs.declared.rows.form.Layout.TheVariants as layouts
-use Rattle.link_base.specs.declared.rows.fields.Part.{Part}
-use Rattle.link_base.specs.declared.rows.fields.Part.TheVariants as parts
-use Rattle.link_base.specs.Number.{IsBytes, number}
+use Rattle.link_base.specs.Number.{IsBytes}
+use Rattle.link_base.specs.Fields.{FieldRow, names_for}
+use Rattle.link_base.specs.Orders.{number_by}
+use Rattle.link_base.specs.Payloads.{limit_fields}
 use Rattle.link_base.specs.Frame.{kind_limit}
-use Rattle.link_base.specs.Forms.{FieldTold, bytes_in, fields_of}
+use Rattle.link_base.specs.Forms.{bytes_in}
 use Rattle.link_base.specs.IpAddress.{sixteen_octets}
 use Rattle.link_base.specs.Labels as Labels
-use Rattle.link_base.specs.Name.{before_nul}
-use Rattle.link_base.specs.Named.{Label as Named_label, text_of}
+use Rattle.link_base.specs.Named.{Label as Named_label, are_distinct, text_of}
 use Rattle.link_base.specs.Protocol.{vlan_protocols, protocol_number}
-use Rattle.link_base.specs.Table.{Row, Rows, Shape, One, Nested, Addresses, Table, row_at, label_by, label_at}
+use Rattle.link_base.specs.Table.{Label, Row, Rows, Shape, One, Nested, Addresses, Table, row_at, label_by, label_at}
 use Rattle.link_base.specs.Borrowed.{elements_by, elements_at}
 use Rattle.link_base.specs.Coherent.{is_shape_of}
-use Rattle.link_base.specs.WellFormed.{is_printable, has_text, rows_in, is_shape, are_rows, is_row, is_table}
+use Rattle.link_base.specs.WellFormed.{is_printable, are_names, are_fields, has_text, rows_in, is_shape, are_rows, is_row, is_table}
 use Rattle.link_base.specs.Lift.{lift_table}
 use Rattle.link_show.specs.Text.{hex_number}
 use Rattle.link_show.specs.Number.{seconds_of, beside, unit_of, number_text, array_text}
 use Rattle.link_show.specs.Flags.{named_text, enum_text, set_names, unnamed, last_word, flag_words, is_all, flags_text}
-use Rattle.link_show.specs.Structs.{field, two_fields, part_text, field_text, has_fields, fields_text, bridge_id_text, struct_text, limits_text}
-use Rattle.link_show.specs.Value.{Label, name_in, quantity_in, names_of, other_text, role_text, content_text, value_text}
+use Rattle.link_show.specs.Structs.{field, two_fields, role_text, form_text, field_in, field_text, has_fields, fields_text, bridge_id_text, struct_text, limits_text}
+use Rattle.link_show.specs.Value.{other_text, content_text, value_text}
 use Rattle.link_show.specs.Fault.{bytes_text, expected_word, cause_words, kind_text, is_array, payload_fault, fault_text}
 use Rattle.link_show.specs.Printable.{IsText, has_texts}
 use Rattle.link_show.proofs.Fitting.{ContentFits}
@@ -48,15 +50,12 @@ use Rattle.link_show.proofs.Printing.{text, none, and, either, joined_text, deci
 
 -- ---- names
 
-abbrev pub are_text_names : List (ℕ × List ℕ) → Bool
-are_text_names names = list_all (λ x. list_all is_printable x.1) names
-
 abbrev pub EachName : List (ℕ × List ℕ) → Type 0
 EachName names = AllByRecursion (λ x. IsText x.1) names
 
-pub each_name : (names : List (ℕ × List ℕ)) → are_text_names names ≡ true → EachName names
+pub each_name : (names : List (ℕ × List ℕ)) → are_names names ≡ true → EachName names
 each_name [] h = tt
-each_name (x ∷ names) h = let k = and_parts (list_all is_printable x.1) (are_text_names names) h in (text k.0, each_name names k.1)
+each_name (x ∷ names) h = let k = and_parts (list_all is_printable x.1) (are_names names) h in (text k.0, each_name names k.1)
 
 -- a name, if there is one
 abbrev pub OnText : Option (List ℕ) → Type 0
@@ -139,48 +138,72 @@ field_is_text name h k = and {s = name} h (and {s = codes " "} (text refl) k)
 two_text : {s t : List ℕ} → IsText s → IsText t → IsText (two_fields s t)
 two_text h k = and h (and {s = codes " "} (text refl) k)
 
-part_is_text : (names : List (ℕ × List ℕ)) (part : Part) (bytes : List ℕ) → EachName names → IsText (part_text names part bytes)
-part_is_text names (parts.Number w q) bytes h = number_is_text q (number bytes)
-part_is_text names (parts.BigEndian w) bytes h = hex_bytes bytes
-part_is_text names (parts.Flags w) bytes h = flags_is_text names (bytes_in w) (number bytes) h
-part_is_text names parts.Mac bytes h = address_digits bytes
-part_is_text names (parts.Name size) bytes h = quoted_text (before_nul bytes)
+role_is_text : (names : List (ℕ × List ℕ)) (q : Quantity) (role : Role) (width : Width) (n : ℕ) → EachName names → IsText (role_text names q role width n)
+role_is_text names q roles.Plain width n h = number_is_text q n
+role_is_text names q roles.Coded width n h = enum_is_text names n h
+role_is_text names q roles.Enum width n h = enum_is_text names n h
+role_is_text names q roles.Flags width n h = flags_is_text names (bytes_in width) n h
 
--- the names of fields are texts
-abbrev are_named : List FieldTold → Bool
-are_named fields = list_all (λ f. list_all is_printable f.0) fields
+form_is_text : (names : List (ℕ × List ℕ)) (q : Quantity) (form : Form) (bytes : List ℕ) → EachName names → IsText (form_text names q form bytes)
+form_is_text names q (forms.Number w order role) bytes h = role_is_text names q role w (number_by order bytes) h
+form_is_text names q forms.Mac bytes h = address_digits bytes
+form_is_text names q form bytes h = hex_bytes bytes
 
-each_field : (start : ℕ) (names : List (ℕ × List ℕ)) (p : List ℕ) (fields : List FieldTold) → EachName names → are_named fields ≡ true → AllByRecursion IsText (map (field_text start names p) fields)
-each_field start names p [] n h = tt
-each_field start names p (f ∷ fields) n h =
-    let k = and_parts (list_all is_printable f.0) (are_named fields) h in
-    (field_is_text f.0 (text k.0) (part_is_text names f.2 _ n), each_field start names p fields n k.1)
+-- the names of fields are texts, and so are those of their numbers or bits
+abbrev pub EachField : List FieldRow → Type 0
+EachField fields = AllByRecursion (λ f. IsText f.name × EachName f.names) fields
 
-fields_are_text : (fields : List FieldTold) (start : ℕ) (names : List (ℕ × List ℕ)) (p : List ℕ) → EachName names → are_named fields ≡ true → IsText (fields_text fields start names p)
+abbrev has_names : FieldRow → Bool
+has_names f = list_all is_printable f.name && are_names f.names
+
+each_field : (fields : List FieldRow) → list_all has_names fields ≡ true → EachField fields
+each_field [] h = tt
+each_field (f ∷ fields) h =
+    let k = and_parts (has_names f) (list_all has_names fields) h in
+    let own = and_parts (list_all is_printable f.name) (are_names f.names) k.0 in
+    ((text own.0, each_name f.names own.1), each_field fields k.1)
+
+fields_named : (fields : List FieldRow) → are_fields fields ≡ true → EachField fields
+fields_named fields h = each_field fields (and_parts (list_all has_names fields) (are_distinct bytes_eq (map (λ f. f.name) fields)) h).0
+
+either_names : (row own : List (ℕ × List ℕ)) → EachName row → EachName own → EachName (names_for row own)
+either_names row [] h k = h
+either_names row (x ∷ own) h k = k
+
+each_is_text : (start : ℕ) (names : List (ℕ × List ℕ)) (p : List ℕ) (fields : List FieldRow) → EachName names → EachField fields → AllByRecursion IsText (map (field_text start names p) fields)
+each_is_text start names p [] n h = tt
+each_is_text start names p (f ∷ fields) n h =
+    let own = either_names names f.names n h.0.1 in
+    (field_is_text f.name h.0.0 (form_is_text (names_for names f.names) f.quantity f.form (field_in start p f) own), each_is_text start names p fields n h.1)
+
+fields_are_text : (fields : List FieldRow) (start : ℕ) (names : List (ℕ × List ℕ)) (p : List ℕ) → EachName names → EachField fields → IsText (fields_text fields start names p)
 unfolding fields_text
-fields_are_text fields start names p n h = either (has_fields fields start p) (joined_text (codes " ") (map (field_text start names p) fields) (text refl) (each_field start names p fields n h)) (hex_bytes p)
+fields_are_text fields start names p n h = either (has_fields fields start p) (joined_text (codes " ") (map (field_text start names p) fields) (text refl) (each_is_text start names p fields n h)) (hex_bytes p)
 
 pub bridge_id_is_text : (p : List ℕ) → IsText (bridge_id_text p)
 unfolding bridge_id_text
 bridge_id_is_text p = either (nat_lt (length p) 8) (hex_bytes p) (and (hex_bytes (take 2 p)) (and {s = codes "."} (text refl) (address_digits (take 6 (drop 2 p)))))
 
-struct_is_text : (layout : Layout) (names : List (ℕ × List ℕ)) (p : List ℕ) → EachName names → IsText (struct_text layout names p)
-struct_is_text layouts.BridgeId names p n = bridge_id_is_text p
-struct_is_text (layouts.Other lengths) names p n = hex_bytes p
-struct_is_text layout names p n = fields_are_text (fields_of (forms.Struct layout)) 0 names p n refl
+struct_is_text : (layout : Layout) (fields : List FieldRow) (names : List (ℕ × List ℕ)) (p : List ℕ) → EachField fields → EachName names → IsText (struct_text layout fields names p)
+struct_is_text layouts.BridgeId fields names p h n = bridge_id_is_text p
+struct_is_text layout fields names p h n = fields_are_text fields 0 names p n h
 
 limits_is_text : (name p : List ℕ) → IsText (limits_text name p)
-limits_is_text name p = two_text (field_is_text (codes "name") (text refl) (quoted_text name)) (fields_are_text (drop 1 (fields_of forms.Limits)) 16 [] p tt refl)
+limits_is_text name p = two_text (field_is_text (codes "name") (text refl) (quoted_text name)) (fields_are_text limit_fields 16 [] p tt (each_field limit_fields refl))
 
 -- ---- what is known of an attribute type
 
--- its name, and those of its numbers or bits, are texts
+-- its name, and those of its numbers or bits, are texts, and so are those of its fields, which are distinct
 abbrev pub IsLabelText : Option Label → Type 0
 IsLabelText None = Unit {0}
-IsLabelText (Some label) = IsText (name_in label) × EachName (names_of label)
+IsLabelText (Some label) = IsText label.name × (EachName label.names × (are_fields label.fields ≡ true))
 
 row_label : (r : Row Shape) → has_text r ≡ true → IsLabelText (Some (label_by r))
-row_label r h = let k = and_parts (list_all is_printable r.name) (are_text_names r.names) h in (text k.0, each_name r.names k.1)
+row_label r h =
+    let begins = and_parts (bytes_eq (take (length r.prefix) r.name) r.prefix) (list_all is_printable r.name && (are_names r.names && are_fields r.fields)) h in
+    let named = and_parts (list_all is_printable r.name) (are_names r.names && are_fields r.fields) begins.1 in
+    let both = and_parts (are_names r.names) (are_fields r.fields) named.1 in
+    (text named.0, (each_name r.names both.0, both.1))
 
 -- the names in a row, and in the rows of its nested lists
 abbrev row_texts : Row Shape → Bool
@@ -252,29 +275,22 @@ segments_bound (a ∷ []) h k = omega arith
 segments_bound (a ∷ b ∷ octets) h zero = omega (arith, h.0, h.1.0)
 segments_bound (a ∷ b ∷ octets) h (suc k) = segments_bound octets h.1.1 k
 
-role_is_text : (label : Label) (role : Role) (width : Width) (n : ℕ) → IsLabelText (Some label) → IsText (role_text label role width n)
-role_is_text label roles.Plain width n l = number_is_text (quantity_in label) n
-role_is_text label roles.Coded width n l = enum_is_text (names_of label) n l.1
-role_is_text label roles.Enum width n l = enum_is_text (names_of label) n l.1
-role_is_text label roles.Flags width n l = flags_is_text (names_of label) (bytes_in width) n l.1
-
 pub content_is_text : (label : Label) (content : Content) → IsLabelText (Some label) → ContentFits content → IsText (content_text label content)
 content_is_text label contents.Nothing l h = none
 content_is_text label (contents.Bool b) l h = either b (text refl) (text refl)
-content_is_text label (contents.Number n width order role) l h = role_is_text label role width n l
+content_is_text label (contents.Number n width order role) l h = role_is_text label.names label.quantity role width n l.1.0
 content_is_text label (contents.Signed z) l h = signed_text z
-content_is_text label (contents.LowFlags bits) l h = flags_is_text (names_of label) 1 bits l.1
+content_is_text label (contents.LowFlags bits) l h = flags_is_text label.names 1 bits l.1.0
 content_is_text label (contents.MaskedFlags flags mask) l h =
-    two_text (field_is_text (codes "flags") (text refl) (flags_is_text (names_of label) 4 _ l.1)) (field_is_text (codes "mask") (text refl) (flags_is_text (names_of label) 4 _ l.1))
-content_is_text label (contents.Pair from to) l h = fields_are_text (fields_of forms.Pair) 0 [] _ tt refl
+    two_text (field_is_text (codes "flags") (text refl) (flags_is_text label.names 4 _ l.1.0)) (field_is_text (codes "mask") (text refl) (flags_is_text label.names 4 _ l.1.0))
+content_is_text label (contents.Pair from to) l h = two_text (field_is_text (codes "from") (text refl) (decimal_text _)) (field_is_text (codes "to") (text refl) (decimal_text _))
 content_is_text label (contents.Protocol p) l h = beside_text (named_label_text vlan_protocols.labels (protocol_number p) refl) (hex_number_text (protocol_number p))
 content_is_text label (contents.Mac a) l h = address_digits a
 content_is_text label (contents.Ipv4 a) l h = ipv4_is_text (ipv4_octets a)
 content_is_text label (contents.Ipv6 a) l h = ipv6_is_text (segments_of (sixteen_octets a)) (segments_bound (sixteen_octets a) h)
 content_is_text label (contents.Bytes p) l h = address_digits p.now
-content_is_text label (contents.Struct layout p) l h = struct_is_text layout (names_of label) p.now l.1
-content_is_text label (contents.U16s p) l h = array_is_text (quantity_in label) _
-content_is_text label (contents.U32s p) l h = array_is_text (quantity_in label) _
+content_is_text label (contents.Struct layout p) l h = struct_is_text layout label.fields label.names p.now (fields_named label.fields l.1.1) l.1.0
+content_is_text label (contents.Numbers width p) l h = array_is_text label.quantity _
 content_is_text label (contents.Limits name numbers) l h = limits_is_text name.now numbers.now
 content_is_text label (contents.Addresses list size) l h = none
 content_is_text label (contents.List list flagged) l h = none

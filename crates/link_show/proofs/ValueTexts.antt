@@ -6,10 +6,10 @@ use Rattle.link_base.specs.declared.views.content.Content.{Content}
 use Rattle.link_base.specs.declared.wire.buffer.NlaBuffer.{NlaBuffer}
 use Rattle.link_base.specs.Buffer.{kind_field_of}
 use Rattle.link_base.specs.Frame.{kind_of}
-use Rattle.link_base.specs.Table.{Table, class_at, form_at, label_at}
+use Rattle.link_base.specs.Table.{Label, Table, class_at, form_at, label_at}
 use Rattle.link_base.specs.Borrowed.{Borrows, form_of, HasContent}
 use Rattle.link_show.specs.List.{has_text, head_text, attribute_text, label_for, WritesAttribute}
-use Rattle.link_show.specs.Value.{Label, content_text, value_text, WritesValue}
+use Rattle.link_show.specs.Value.{content_text, value_text, WritesValue}
 
 -- the text of a content was written, which is that of an attribute
 pub value_written : {X E : Type 0} (r : Result X E) (table : Table) (f : ℕ) (p : List ℕ) (old new : Output) (label : Label) (content : Content)

@@ -6,9 +6,8 @@ use Rattle.link_base.specs.declared.wire.fault.Cause.TheVariants as causes
 use Rattle.link_base.specs.declared.wire.fault.DecodeFault.{DecodeFault}
 use Rattle.link_base.specs.declared.wire.fault.DecodeFault.TheVariants as faults
 use Rattle.link_base.specs.Coherent.{is_array as is_array_form}
-use Rattle.link_base.specs.Table.{Table, label_at}
+use Rattle.link_base.specs.Table.{Label, Table, label_at}
 use Rattle.link_base.specs.Borrowed.{elements_at}
-use Rattle.link_show.specs.Value.{Label, name_in, form_in}
 
 -- a number of bytes
 abbrev pub byte_word : ℕ → List ℕ
@@ -33,12 +32,12 @@ cause_words is_array (causes.AddressLength got) = codes "has " ++ bytes_text got
 -- the name of an attribute type k; its number, if it has none
 abbrev pub kind_text : Option Label → ℕ → List ℕ
 kind_text None k = codes "type " ++ decimal k
-kind_text (Some label) k = name_in label
+kind_text (Some label) k = label.name
 
 -- whether payloads are arrays of numbers
 abbrev pub is_array : Option Label → Bool
 is_array None = false
-is_array (Some label) = is_array_form (form_in label)
+is_array (Some label) = is_array_form label.form
 
 -- the error of a payload
 abbrev pub payload_fault : Option Label → ℕ → Cause → List ℕ

@@ -12,13 +12,13 @@ use Rattle.link_base.specs.declared.wire.fault.Cause.{Cause}
 use Rattle.link_base.specs.declared.wire.fault.DecodeFault.{DecodeFault}
 use Rattle.link_base.specs.Frame.{kind_of}
 use Rattle.link_base.specs.Buffer.{kind_field_of, payload_of}
-use Rattle.link_base.specs.Table.{Table, Gives, Canonical, FirstNotCanonical, label_at}
+use Rattle.link_base.specs.Table.{Label, Table, Gives, Canonical, FirstNotCanonical, label_at}
 use Rattle.link_base.specs.Borrowed.{elements_at, HasContent}
 use Rattle.link_messages.specs.Walk.{Item, Walk}
 use Rattle.link_show.specs.Text.{list_text}
 use Rattle.link_show.specs.Flags.{flags_text}
 use Rattle.link_show.specs.Octets.{hex_text}
-use Rattle.link_show.specs.Value.{Label, name_in, value_text}
+use Rattle.link_show.specs.Value.{value_text}
 use Rattle.link_show.specs.Fault.{cause_words, fault_text}
 
 -- ---- lines
@@ -55,7 +55,7 @@ flags_after flags = if flags == 0 then [] else codes " " ++ flags_text type_flag
 -- the name of an attribute type; its number and the flags of the `nla_type`, if no row has it
 unfoldable pub head_text : Option Label → ℕ → List ℕ
 head_text None f = codes "type " ++ (decimal (kind_of f) ++ flags_after (f - kind_of f))
-head_text (Some label) f = name_in label
+head_text (Some label) f = label.name
 
 -- whether a content has a text: all but lists, and what has no value
 abbrev pub has_text : Content → Bool

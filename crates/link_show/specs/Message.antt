@@ -7,7 +7,7 @@ use Rattle.std.specs.List.{AllByRecursion}
 use Rattle.std.specs.Option.{option_copied}
 use Rattle.link_base.specs.declared.rows.label.Quantity.TheVariants.{Number, InterfaceIndex}
 use Rattle.link_base.specs.Labels.{name_in}
-use Rattle.link_base.specs.Table.{label_at}
+use Rattle.link_base.specs.Table.{Label, label_at}
 use Rattle.netlink_packet_route.specs.declared.family.Family.{Family}
 use Rattle.netlink_packet_route.specs.declared.family.Family.TheVariants.{AfSpecBridge, BridgePort}
 use Rattle.netlink_packet_route.specs.Family.{family_name, table_of}
@@ -32,7 +32,7 @@ use Rattle.link_show.specs.Flags.{enum_text, flags_text}
 use Rattle.link_show.specs.Octets.{address_text}
 use Rattle.link_show.specs.Quoted.{quoted}
 use Rattle.link_show.specs.Structs.{field}
-use Rattle.link_show.specs.Value.{Label, names_of, other_text}
+use Rattle.link_show.specs.Value.{other_text}
 use Rattle.link_show.specs.Fault.{byte_word, bytes_text, cause_words}
 use Rattle.link_show.specs.List.{indented, error_line, EachShown, ShowsChecked}
 use Rattle.link_show.specs.Errno.{errno_names}
@@ -177,7 +177,7 @@ ShowsPart check name family (Some p) out well = ShowsFamily check name family p 
 -- the names of what is known of an attribute type
 abbrev names_in : Option Label → List (ℕ × List ℕ)
 names_in None = []
-names_in (Some label) = names_of label
+names_in (Some label) = label.names
 
 -- the names of the STP states of bridge ports: those of IFLA_BRPORT_STATE
 unfoldable pub state_names : List (ℕ × List ℕ)

@@ -6,26 +6,21 @@ use Rattle.std.specs.Net.Addr.{ipv4_octets, segments_of}
 use Rattle.std.specs.Net.Text.{ipv4_text, ipv6_text}
 use Rattle.link_base.specs.declared.views.content.Content.{Content}
 use Rattle.link_base.specs.declared.views.content.Content.TheVariants as contents
-use Rattle.link_base.specs.declared.rows.label.Quantity.{Quantity}
-use Rattle.link_base.specs.declared.rows.form.Form.{Form}
-use Rattle.link_base.specs.declared.rows.form.Width.{Width}
-use Rattle.link_base.specs.declared.rows.form.Role.{Role}
-use Rattle.link_base.specs.declared.rows.form.Role.TheVariants as roles
 use Rattle.link_base.specs.declared.names.vlan_protocol.VlanProtocol.{VlanProtocol}
 use Rattle.link_base.specs.Frame.{kind_of}
 use Rattle.link_base.specs.Forms.{bytes_in}
-use Rattle.link_base.specs.Table.{Table, class_at, form_at, label_at}
+use Rattle.link_base.specs.Table.{Label, Table, class_at, form_at, label_at}
 use Rattle.link_base.specs.Borrowed.{Borrows, form_of}
 use Rattle.link_base.specs.IpAddress.{sixteen_octets}
 use Rattle.link_base.specs.Layout.{numbers_of}
 use Rattle.link_base.specs.Named.{text_of}
 use Rattle.link_base.specs.Protocol.{vlan_protocols, protocol_number}
 use Rattle.link_show.specs.Text.{hex_number, empty_text}
-use Rattle.link_show.specs.Number.{beside, number_text, array_text}
-use Rattle.link_show.specs.Flags.{enum_text, flags_text}
+use Rattle.link_show.specs.Number.{beside, array_text}
+use Rattle.link_show.specs.Flags.{flags_text}
 use Rattle.link_show.specs.Octets.{address_text, hex_text}
 use Rattle.link_base.specs.Number.{four_bytes}
-use Rattle.link_show.specs.Structs.{struct_text, pair_text, limits_text, masked_text}
+use Rattle.link_show.specs.Structs.{role_text, struct_text, pair_text, limits_text, masked_text}
 
 -- a VLAN protocol
 abbrev pub protocol_text : VlanProtocol → List ℕ
@@ -36,46 +31,22 @@ abbrev pub other_text : List ℕ → List ℕ
 other_text [] = empty_text
 other_text (b ∷ p) = codes "hex " ++ hex_text (b ∷ p)
 
--- what is known of an attribute type: its name, what its numbers count, the form of its values, and the names of its
--- numbers or bits
-abbrev pub Label : Type 0
-Label = List ℕ × Quantity × Form × List (ℕ × List ℕ)
-
-abbrev pub name_in : Label → List ℕ
-name_in label = label.0
-
-abbrev pub quantity_in : Label → Quantity
-quantity_in label = label.1
-
-abbrev pub form_in : Label → Form
-form_in label = label.2
-
-abbrev pub names_of : Label → List (ℕ × List ℕ)
-names_of label = label.3
-
--- the text of a number, by what it says
-abbrev pub role_text : Label → Role → Width → ℕ → List ℕ
-role_text label roles.Plain width n = number_text (quantity_in label) n
-role_text label roles.Flags width n = flags_text (names_of label) (bytes_in width) n
-role_text label role width n = enum_text (names_of label) n
-
 -- the text of a content, but for lists, which have none
 abbrev pub content_text : Label → Content → List ℕ
 content_text label contents.Nothing = []
 content_text label (contents.Bool b) = if b then codes "on" else codes "off"
-content_text label (contents.Number n width order role) = role_text label role width n
+content_text label (contents.Number n width order role) = role_text label.names label.quantity role width n
 content_text label (contents.Signed z) = signed_decimal z
-content_text label (contents.LowFlags bits) = flags_text (names_of label) 1 bits
-content_text label (contents.MaskedFlags flags mask) = masked_text (names_of label) (four_bytes flags) (four_bytes mask)
-content_text label (contents.Pair from to) = pair_text from to
+content_text label (contents.LowFlags bits) = flags_text label.names 1 bits
+content_text label (contents.MaskedFlags flags mask) = masked_text label.names (four_bytes flags) (four_bytes mask)
+content_text label (contents.Pair from to) = pair_text (four_bytes from) (four_bytes to)
 content_text label (contents.Protocol p) = protocol_text p
 content_text label (contents.Mac a) = address_text a
 content_text label (contents.Ipv4 a) = ipv4_text (ipv4_octets a)
 content_text label (contents.Ipv6 a) = ipv6_text (segments_of (sixteen_octets a))
 content_text label (contents.Bytes p) = address_text p.now
-content_text label (contents.Struct layout p) = struct_text layout (names_of label) p.now
-content_text label (contents.U16s p) = array_text (quantity_in label) (numbers_of 2 p.now)
-content_text label (contents.U32s p) = array_text (quantity_in label) (numbers_of 4 p.now)
+content_text label (contents.Struct layout p) = struct_text layout label.fields label.names p.now
+content_text label (contents.Numbers width p) = array_text label.quantity (numbers_of (bytes_in width) p.now)
 content_text label (contents.Limits name numbers) = limits_text name.now numbers.now
 content_text label (contents.Addresses list size) = []
 content_text label (contents.List list flagged) = []

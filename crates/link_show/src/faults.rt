@@ -81,7 +81,7 @@ fn is_array(label: Option<KindLabel>) -> bool
     ensures { result ≡ is_array (label_in label) }
 {
     match label {
-        Some(label) => label.form == Form::U16s || label.form == Form::U32s,
+        Some(label) => matches!(label.form, Form::Numbers(_)),
         None => false,
     }
 }

@@ -7,14 +7,13 @@ ghost use Rattle.link_base.specs.declared.rows.label.Quantity.TheVariants.{Clock
 ghost use Rattle.link_show.specs.Number.{number_text, unit_of, array_text};
 ghost use Rattle.link_show.specs.Text.{joined};
 ghost use Rattle.link_base.specs.Forms.{bytes_in};
-ghost use Rattle.link_base.specs.Number.{number};
 ghost use Rattle.link_base.specs.Layout.{number_at, numbers_at, numbers_of};
 
 use crate::pieces::{Piece, put_number, put_pieces};
 use crate::sink::Sink;
-use link_base::rows::form::Width;
+use link_base::rows::form::{Order, Width};
 use link_base::rows::label::Quantity;
-use link_base::{u16_at, u32_at};
+use link_base::views::content_by::number_in;
 
 /// Writes a number with what it counts, such as `100 ms`, `1500 (15.00 s)` or `ifindex 3`.
 ///
@@ -112,22 +111,7 @@ pub fn number_at(width: Width, index: usize, bytes: &[u8]) -> u64
     ensures { result ≡ number_at (bytes_in width) (index * bytes_in width) bytes.now }
 {
     let at = index * width.size();
-    number_of(width, &bytes[at..at + width.size()])
-}
-
-/// Reads a little-endian number, which must have all of `bytes`.
-pub fn number_of(width: Width, bytes: &[u8]) -> u64
-    requires { length bytes.now ≡ bytes_in width }
-    ensures { result ≡ number bytes.now }
-{
-    match width {
-        Width::One => bytes[0].into(),
-        Width::Two => u16_at(bytes, 0).into(),
-        Width::Four => u32_at(bytes, 0).into(),
-        Width::Eight => u64::from_le_bytes([
-            bytes[0], bytes[1], bytes[2], bytes[3], bytes[4], bytes[5], bytes[6], bytes[7],
-        ]),
-    }
+    number_in(width, Order::Little, &bytes[at..at + width.size()])
 }
 
 /// Writes clock ticks, which are hundredths of a second, and how many seconds they are.

@@ -1,26 +1,29 @@
 //! Structs, by the kernel's names of their fields.
 
 ghost use Rattle.std.specs.Prelude.{◌≡◌, true, length, OnOk};
-ghost use Rattle.link_show.specs.Sink.{Gains};
-ghost use Rattle.link_show.specs.Structs.{size_of, has_field, has_fields, part_text, field_text, fields_text, struct_text, bridge_id_text};
+ghost use Rattle.link_base.specs.Fields.{names_for};
+ghost use Rattle.link_base.specs.Labels.{names_in, field_row, field_rows};
 ghost use Rattle.link_base.specs.Number.{four_bytes};
-ghost use Rattle.link_show.specs.Structs.{masked_text, pair_text, limits_text};
-ghost use Rattle.link_base.specs.Fields.{field_told, fields_in};
-ghost use Rattle.link_base.specs.Labels.{names_in};
+ghost use Rattle.link_base.specs.Structs.{form_width};
+ghost use Rattle.link_show.specs.Sink.{Gains};
+ghost use Rattle.link_show.specs.Structs.{are_within, has_field, has_fields, role_text, form_text, field_text, fields_text};
+ghost use Rattle.link_show.specs.Structs.{struct_text, bridge_id_text, masked_text, pair_text, limits_text};
 
-use crate::flags::write_flags;
-use crate::numbers::{number_of, write_number};
+use crate::flags::{write_enum, write_flags};
+use crate::numbers::write_number;
 use crate::octets::{write_address, write_hex};
-use crate::quoted::{write_name, write_quoted};
+use crate::pieces::put_number;
+use crate::quoted::write_quoted;
 use crate::sink::Sink;
-use link_base::emit_u32_pair;
-use link_base::rows::fields::{Field, Part};
-use link_base::rows::form::{Form, Layout, Width};
-use link_base::rows::label::Name;
+use link_base::rows::fields::Field;
+use link_base::rows::form::{Form, Layout, Role, Width};
+use link_base::rows::label::{Name, Quantity};
+use link_base::rows::limits::limit_fields;
+use link_base::views::content_by::number_in;
 
 /// Writes the struct that `bytes` start with: each field after its name in the kernel's headers, such as
-/// `txerr 1 rxerr 2`; a bridge identifier as `8000.02:00:00:00:00:01`. `names` are those of the bits of its flags. Writes
-/// the bytes in hexadecimal if there are too few, or if the fields are not known.
+/// `txerr 1 rxerr 2`; a bridge identifier as `8000.02:00:00:00:00:01`. `names` are those of the numbers and bits of fields
+/// that have none of their own. Writes the bytes in hexadecimal if there are too few, or if no fields are known.
 ///
 /// # Errors
 ///
@@ -28,16 +31,16 @@ use link_base::rows::label::Name;
 pub fn write_struct<W: Sink>(
     writer: &mut W,
     layout: Layout,
+    fields: &[Field],
     names: &[Name],
     bytes: &[u8],
 ) -> Result<(), W::Error>
     ensures { OnOk result (Gains (W.output writer.old) (W.output writer.new)
-        (struct_text layout (names_in names.now) bytes.now)) }
+        (struct_text layout (field_rows fields.now) (names_in names.now) bytes.now)) }
 {
     match layout {
         Layout::BridgeId => write_bridge_id(writer, bytes),
-        Layout::Other(_) => write_hex(writer, bytes),
-        _ => write_fields(writer, Form::Struct(layout).fields(), 0, names, bytes),
+        _ => write_fields(writer, fields, 0, names, bytes),
     }
 }
 
@@ -65,7 +68,7 @@ fn write_fields<W: Sink>(
     bytes: &[u8],
 ) -> Result<(), W::Error>
     ensures { OnOk result (Gains (W.output writer.old) (W.output writer.new)
-        (fields_text (fields_in fields.now) start (names_in names.now) bytes.now)) }
+        (fields_text (field_rows fields.now) start (names_in names.now) bytes.now)) }
 {
     if !has_fields(fields, start, bytes) {
         return write_hex(writer, bytes);
@@ -79,9 +82,16 @@ fn write_fields<W: Sink>(
     Ok(())
 }
 
-/// Checks whether all fields are within the bytes of a struct from offset `start` on.
+/// Checks whether there are fields, and all are within the bytes of a struct from offset `start` on.
 pub fn has_fields(fields: &[Field], start: usize, bytes: &[u8]) -> bool
-    ensures { result ≡ has_fields (fields_in fields.now) start bytes.now }
+    ensures { result ≡ has_fields (field_rows fields.now) start bytes.now }
+{
+    !fields.is_empty() && are_within(fields, start, bytes)
+}
+
+/// Checks whether all fields are within the bytes of a struct from offset `start` on.
+fn are_within(fields: &[Field], start: usize, bytes: &[u8]) -> bool
+    ensures { result ≡ are_within (field_rows fields.now) start bytes.now }
 {
     for field in fields {
         if !has_field(field, start, bytes) {
@@ -93,23 +103,17 @@ pub fn has_fields(fields: &[Field], start: usize, bytes: &[u8]) -> bool
 
 /// Checks whether a field is within the bytes of a struct from offset `start` on.
 fn has_field(field: &Field, start: usize, bytes: &[u8]) -> bool
-    ensures { result ≡ has_field start bytes.now (field_told field.now) }
+    ensures { result ≡ has_field start bytes.now (field_row field.now) }
 {
-    let size = size_of(field.part);
+    let size = field.form.width();
     size <= bytes.len() && field.offset.saturating_sub(start) <= bytes.len() - size
 }
 
-/// Returns the length of a field.
-pub fn size_of(part: Part) -> usize
-    ensures { result ≡ size_of part }
+/// Returns the names of the number or of the bits of a field: its own, or those of the row if it has none.
+pub fn names_for<'a>(row: &'a [Name], own: &'a [Name]) -> &'a [Name]
+    ensures { names_in result.now ≡ names_for (names_in row.now) (names_in own.now) }
 {
-    match part {
-        Part::Number { width, .. } | Part::BigEndian { width } | Part::Flags { width } => {
-            width.size()
-        }
-        Part::Mac => 6,
-        Part::Name { size } => size,
-    }
+    if own.is_empty() { row } else { own }
 }
 
 /// Writes a field after its name.
@@ -120,41 +124,61 @@ fn write_field<W: Sink>(
     names: &[Name],
     bytes: &[u8],
 ) -> Result<(), W::Error>
-    requires { has_field start bytes.now (field_told field.now) ≡ true }
+    requires { has_field start bytes.now (field_row field.now) ≡ true }
     ensures { OnOk result (Gains (W.output writer.old) (W.output writer.new)
-        (field_text start (names_in names.now) bytes.now (field_told field.now))) }
+        (field_text start (names_in names.now) bytes.now (field_row field.now))) }
 {
     let name = field.name;
     let at = field.offset.saturating_sub(start);
     writer.put(name.as_bytes())?;
     writer.put(b" ")?;
-    write_part(
+    write_form(
         writer,
-        field.part,
-        names,
-        &bytes[at..at + size_of(field.part)],
+        names_for(names, field.names),
+        field.quantity,
+        field.form,
+        &bytes[at..at + field.form.width()],
     )
 }
 
-/// Writes what a field with these bytes holds.
-fn write_part<W: Sink>(
+/// Writes what a field of this form with these bytes holds.
+fn write_form<W: Sink>(
     writer: &mut W,
-    part: Part,
     names: &[Name],
+    quantity: Quantity,
+    form: Form,
     bytes: &[u8],
 ) -> Result<(), W::Error>
-    requires { length bytes.now ≡ size_of part }
+    requires { length bytes.now ≡ form_width form }
     ensures { OnOk result (Gains (W.output writer.old) (W.output writer.new)
-        (part_text (names_in names.now) part bytes.now)) }
+        (form_text (names_in names.now) quantity form bytes.now)) }
 {
-    match part {
-        Part::Number { width, quantity } => {
-            write_number(writer, quantity, number_of(width, bytes))
+    match form {
+        Form::Number { width, order, role } => {
+            let number = number_in(width, order, bytes);
+            write_role(writer, names, quantity, role, width, number)
         }
-        Part::BigEndian { .. } => write_hex(writer, bytes),
-        Part::Flags { width } => write_flags(writer, names, width, number_of(width, bytes)),
-        Part::Mac => write_address(writer, bytes),
-        Part::Name { .. } => write_name(writer, bytes),
+        Form::Mac => write_address(writer, bytes),
+        _ => write_hex(writer, bytes),
+    }
+}
+
+/// Writes a number by what it says.
+pub(crate) fn write_role<W: Sink>(
+    writer: &mut W,
+    names: &[Name],
+    quantity: Quantity,
+    role: Role,
+    width: Width,
+    number: u64,
+) -> Result<(), W::Error>
+    ensures { OnOk result (Gains (W.output writer.old) (W.output writer.new)
+        (role_text (names_in names.now) quantity role width number)) }
+{
+    match role {
+        Role::Plain => write_number(writer, quantity, number),
+        Role::Coded | Role::Enum => write_enum(writer, names, number),
+        Role::Flags => write_flags(writer, names, width, number),
     }
 }
 
@@ -176,11 +200,12 @@ pub(crate) fn write_masked<W: Sink>(
 
 /// Writes two consecutive numbers.
 pub(crate) fn write_pair<W: Sink>(writer: &mut W, from: u32, to: u32) -> Result<(), W::Error>
-    ensures { OnOk result (Gains (W.output writer.old) (W.output writer.new) (pair_text from to)) }
+    ensures { OnOk result (Gains (W.output writer.old) (W.output writer.new) (pair_text (four_bytes from) (four_bytes to))) }
 {
-    let mut bytes = [0; 8];
-    emit_u32_pair(&mut bytes, from, to);
-    write_fields(writer, Form::Pair.fields(), 0, &[], &bytes)
+    writer.put(b"from ")?;
+    put_number(writer, from.into())?;
+    writer.put(b" to ")?;
+    put_number(writer, to.into())
 }
 
 /// Writes the limits of a CAN controller: its name, and the numbers, whose bytes are behind those of the name.
@@ -194,5 +219,5 @@ pub(crate) fn write_limits<W: Sink>(
     writer.put(b"name ")?;
     write_quoted(writer, name)?;
     writer.put(b" ")?;
-    write_fields(writer, &Form::Limits.fields()[1..], 16, &[], numbers)
+    write_fields(writer, limit_fields(), 16, &[], numbers)
 }

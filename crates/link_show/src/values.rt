@@ -5,21 +5,21 @@ ghost use Rattle.link_show.specs.Sink.{Gains};
 ghost use Rattle.std.specs.Net.Addr.{segments_of};
 ghost use Rattle.std.specs.Net.Text.{ipv6_text};
 ghost use Rattle.link_base.specs.IpAddress.{sixteen_octets};
-ghost use Rattle.link_show.specs.Value.{protocol_text, other_text, content_text, role_text, value_text, WritesValue};
+ghost use Rattle.link_show.specs.Value.{protocol_text, other_text, content_text, value_text, WritesValue};
 ghost use Rattle.link_base.specs.Labels.{label_of};
 ghost use Rattle.link_base.specs.Named.{text_of};
 ghost use Rattle.link_base.specs.Protocol.{vlan_protocols, protocol_number};
 ghost use Rattle.link_base.specs.Buffer.{kind_field_of};
 ghost use Rattle.link_base.specs.Viewed.{set_in, buffer_in, payload_in};
 
-use crate::flags::{write_enum, write_flags};
+use crate::flags::write_flags;
 use crate::ip::{write_ipv4, write_ipv6};
-use crate::numbers::{write_array, write_number};
+use crate::numbers::write_array;
 use crate::octets::{write_address, write_hex};
 use crate::pieces::{Piece, put_pieces};
 use crate::sink::Sink;
-use crate::structs::{write_limits, write_masked, write_pair, write_struct};
-use link_base::rows::form::{Role, Width};
+use crate::structs::{write_limits, write_masked, write_pair, write_role, write_struct};
+use link_base::rows::form::Width;
 use link_base::rows::label::KindLabel;
 use link_base::views::attribute_set::AttributeSet;
 use link_base::views::content::Content;
@@ -86,7 +86,7 @@ pub fn write_content<W: Sink>(
             width,
             role,
             ..
-        } => write_role(writer, label, role, width, number),
+        } => write_role(writer, label.names, label.quantity, role, width, number),
         Content::Signed(number) => put_pieces(writer, &[Piece::Signed(number)]),
         Content::LowFlags(bits) => { write_flags(writer, label.names, Width::One, bits.into()) }
         Content::MaskedFlags { flags, mask } => write_masked(writer, label.names, flags, mask),
@@ -96,29 +96,12 @@ pub fn write_content<W: Sink>(
         Content::Ipv4(address) => write_ipv4(writer, &address.octets()),
         Content::Ipv6(address) => write_ipv6_address(writer, address),
         Content::Bytes(bytes) => write_address(writer, bytes),
-        Content::Struct { layout, bytes } => write_struct(writer, layout, label.names, bytes),
-        Content::U16s(bytes) => write_array(writer, label.quantity, Width::Two, bytes),
-        Content::U32s(bytes) => write_array(writer, label.quantity, Width::Four, bytes),
+        Content::Struct { layout, bytes } => {
+            write_struct(writer, layout, label.fields, label.names, bytes)
+        }
+        Content::Numbers { width, bytes } => write_array(writer, label.quantity, width, bytes),
         Content::Limits { name, numbers } => write_limits(writer, name, numbers),
         Content::Other(payload) => write_other(writer, payload),
-    }
-}
-
-/// Writes a number by what it says.
-fn write_role<W: Sink>(
-    writer: &mut W,
-    label: &KindLabel,
-    role: Role,
-    width: Width,
-    number: u64,
-) -> Result<(), W::Error>
-    ensures { OnOk result (Gains (W.output writer.old) (W.output writer.new)
-        (role_text (label_of label.now) role width number)) }
-{
-    match role {
-        Role::Plain => write_number(writer, label.quantity, number),
-        Role::Coded | Role::Enum => write_enum(writer, label.names, number),
-        Role::Flags => write_flags(writer, label.names, width, number),
     }
 }
 

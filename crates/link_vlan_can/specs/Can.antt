@@ -4,8 +4,9 @@ use Rattle.link_base.specs.Class.{Number, Raw}
 use Rattle.link_base.specs.declared.rows.form.Layout.TheVariants.{BitTiming, Clock, CtrlMode, BerrCounter}
 use Rattle.link_base.specs.Payloads.{u16, u32, u32_coded, u32_flags, struct_of, flags_struct, limits, u16s, u32s}
 use Rattle.link_base.specs.Layout.{octets_of}
+use Rattle.link_base.specs.Structs.{packed}
 use Rattle.link_base.specs.declared.rows.label.Quantity.TheVariants.{BitsPerSecond, Milliseconds, Ohms}
-use Rattle.link_base.specs.Table.{Rows, Leaf, Table, AttrValue, Case, Single, Inner, row, row_in, leaf_row, nested_row}
+use Rattle.link_base.specs.Table.{Rows, Leaf, Table, AttrValue, Case, Single, Inner, row, row_in, leaf_row, nested_row, prefixed}
 use Rattle.link_base.specs.Default.{default_means}
 use Rattle.link_vlan_can.specs.CanFlags.{mode_bits, mode_bit_names}
 use Rattle.link_vlan_can.specs.CanState.{can_state_names}
@@ -13,14 +14,14 @@ use Rattle.link_vlan_can.specs.declared.can_tdc.CanTdc.{CanTdc}
 use Rattle.link_vlan_can.specs.declared.can_tdc.CanTdc.TheVariants as tdcs
 use Rattle.link_vlan_can.specs.declared.can_modes.CanCtrlModeExt.{CanCtrlModeExt}
 use Rattle.link_vlan_can.specs.declared.can_modes.CanCtrlModeExt.TheVariants as modes
-use Rattle.link_vlan_can.specs.CanRecords.{timing_octets, modes_octets, clock_octets, errors_octets}
+use Rattle.link_vlan_can.specs.CanRecords.{timing_fields, timing_held, modes_fields, modes_held, clock_fields, clock_held, errors_fields, errors_held}
 use Rattle.link_vlan_can.specs.CanLimits.{limits_value}
 use Rattle.link_vlan_can.specs.declared.can.InfoCan.{InfoCan}
 use Rattle.link_vlan_can.specs.declared.can.InfoCan.TheVariants as infos
 
 -- one row for each attribute type
 abbrev pub tdc_rows : Rows
-tdc_rows =
+tdc_rows = prefixed "IFLA_CAN_TDC_" (
     leaf_row 1 "IFLA_CAN_TDC_TDCV_MIN" u32 ∷
     leaf_row 2 "IFLA_CAN_TDC_TDCV_MAX" u32 ∷
     leaf_row 3 "IFLA_CAN_TDC_TDCO_MIN" u32 ∷
@@ -29,7 +30,7 @@ tdc_rows =
     leaf_row 6 "IFLA_CAN_TDC_TDCF_MAX" u32 ∷
     leaf_row 7 "IFLA_CAN_TDC_TDCV" u32 ∷
     leaf_row 8 "IFLA_CAN_TDC_TDCO" u32 ∷
-    leaf_row 9 "IFLA_CAN_TDC_TDCF" u32 ∷ []
+    leaf_row 9 "IFLA_CAN_TDC_TDCF" u32 ∷ [])
 
 -- the attribute that a value of transmitter delay compensation represents
 abbrev pub tdc_leaf : CanTdc → Leaf
@@ -46,7 +47,7 @@ tdc_leaf (tdcs.Other other) = default_means other
 
 -- one row for each attribute type
 abbrev pub mode_rows : Rows
-mode_rows = leaf_row 1 "IFLA_CAN_CTRLMODE_SUPPORTED" (u32_flags mode_bit_names) ∷ []
+mode_rows = prefixed "IFLA_CAN_CTRLMODE_" (leaf_row 1 "IFLA_CAN_CTRLMODE_SUPPORTED" (u32_flags mode_bit_names) ∷ [])
 
 -- the attribute that a value of the modes represents
 abbrev pub mode_leaf : CanCtrlModeExt → Leaf
@@ -55,16 +56,16 @@ mode_leaf (modes.Other other) = default_means other
 
 -- one row for each attribute type
 abbrev pub can_table : Table
-can_table =
-    row 1 "IFLA_CAN_BITTIMING" (struct_of BitTiming) ∷
+can_table = prefixed "IFLA_CAN_" (
+    row 1 "IFLA_CAN_BITTIMING" (struct_of BitTiming timing_fields) ∷
     row 2 "IFLA_CAN_BITTIMING_CONST" limits ∷
-    row 3 "IFLA_CAN_CLOCK" (struct_of Clock) ∷
+    row 3 "IFLA_CAN_CLOCK" (struct_of Clock clock_fields) ∷
     row 4 "IFLA_CAN_STATE" (u32_coded can_state_names) ∷
-    row 5 "IFLA_CAN_CTRLMODE" (flags_struct CtrlMode mode_bit_names) ∷
+    row 5 "IFLA_CAN_CTRLMODE" (flags_struct CtrlMode mode_bit_names modes_fields) ∷
     row_in Milliseconds 6 "IFLA_CAN_RESTART_MS" u32 ∷
     row 7 "IFLA_CAN_RESTART" u32 ∷
-    row 8 "IFLA_CAN_BERR_COUNTER" (struct_of BerrCounter) ∷
-    row 9 "IFLA_CAN_DATA_BITTIMING" (struct_of BitTiming) ∷
+    row 8 "IFLA_CAN_BERR_COUNTER" (struct_of BerrCounter errors_fields) ∷
+    row 9 "IFLA_CAN_DATA_BITTIMING" (struct_of BitTiming timing_fields) ∷
     row 10 "IFLA_CAN_DATA_BITTIMING_CONST" limits ∷
     row_in Ohms 11 "IFLA_CAN_TERMINATION" u16 ∷
     row_in Ohms 12 "IFLA_CAN_TERMINATION_CONST" u16s ∷
@@ -72,7 +73,7 @@ can_table =
     row_in BitsPerSecond 14 "IFLA_CAN_DATA_BITRATE_CONST" u32s ∷
     row_in BitsPerSecond 15 "IFLA_CAN_BITRATE_MAX" u32 ∷
     nested_row 16 "IFLA_CAN_TDC" true tdc_rows ∷
-    nested_row 17 "IFLA_CAN_CTRLMODE_EXT" true mode_rows ∷ []
+    nested_row 17 "IFLA_CAN_CTRLMODE_EXT" true mode_rows ∷ [])
 
 -- the attribute types that the second version of the table adds
 abbrev pub can_added : List ℕ
@@ -80,33 +81,33 @@ can_added = 12 ∷ 13 ∷ 14 ∷ []
 
 -- the first version of the table
 abbrev pub can_table_first : Table
-can_table_first =
-    row 1 "IFLA_CAN_BITTIMING" (struct_of BitTiming) ∷
+can_table_first = prefixed "IFLA_CAN_" (
+    row 1 "IFLA_CAN_BITTIMING" (struct_of BitTiming timing_fields) ∷
     row 2 "IFLA_CAN_BITTIMING_CONST" limits ∷
-    row 3 "IFLA_CAN_CLOCK" (struct_of Clock) ∷
+    row 3 "IFLA_CAN_CLOCK" (struct_of Clock clock_fields) ∷
     row 4 "IFLA_CAN_STATE" (u32_coded can_state_names) ∷
-    row 5 "IFLA_CAN_CTRLMODE" (flags_struct CtrlMode mode_bit_names) ∷
+    row 5 "IFLA_CAN_CTRLMODE" (flags_struct CtrlMode mode_bit_names modes_fields) ∷
     row_in Milliseconds 6 "IFLA_CAN_RESTART_MS" u32 ∷
     row 7 "IFLA_CAN_RESTART" u32 ∷
-    row 8 "IFLA_CAN_BERR_COUNTER" (struct_of BerrCounter) ∷
-    row 9 "IFLA_CAN_DATA_BITTIMING" (struct_of BitTiming) ∷
+    row 8 "IFLA_CAN_BERR_COUNTER" (struct_of BerrCounter errors_fields) ∷
+    row 9 "IFLA_CAN_DATA_BITTIMING" (struct_of BitTiming timing_fields) ∷
     row 10 "IFLA_CAN_DATA_BITTIMING_CONST" limits ∷
     row_in Ohms 11 "IFLA_CAN_TERMINATION" u16 ∷
     row_in BitsPerSecond 15 "IFLA_CAN_BITRATE_MAX" u32 ∷
     nested_row 16 "IFLA_CAN_TDC" true tdc_rows ∷
-    nested_row 17 "IFLA_CAN_CTRLMODE_EXT" true mode_rows ∷ []
+    nested_row 17 "IFLA_CAN_CTRLMODE_EXT" true mode_rows ∷ [])
 
 -- the attribute that a value represents
 abbrev pub can_means : InfoCan → AttrValue
-can_means (infos.BitTiming timing) = Case 1 (Single (Raw (timing_octets timing)))
+can_means (infos.BitTiming timing) = Case 1 (Single (Raw (packed (timing_held timing))))
 can_means (infos.BitTimingConst limits) = Case 2 (Single (limits_value limits))
-can_means (infos.Clock clock) = Case 3 (Single (Raw (clock_octets clock)))
+can_means (infos.Clock clock) = Case 3 (Single (Raw (packed (clock_held clock))))
 can_means (infos.State state) = Case 4 (Single (Number 4 state))
-can_means (infos.CtrlMode modes) = Case 5 (Single (Raw (modes_octets modes)))
+can_means (infos.CtrlMode modes) = Case 5 (Single (Raw (packed (modes_held modes))))
 can_means (infos.RestartMs delay) = Case 6 (Single (Number 4 delay))
 can_means (infos.Restart restart) = Case 7 (Single (Number 4 restart))
-can_means (infos.BerrCounter errors) = Case 8 (Single (Raw (errors_octets errors)))
-can_means (infos.DataBitTiming timing) = Case 9 (Single (Raw (timing_octets timing)))
+can_means (infos.BerrCounter errors) = Case 8 (Single (Raw (packed (errors_held errors))))
+can_means (infos.DataBitTiming timing) = Case 9 (Single (Raw (packed (timing_held timing))))
 can_means (infos.DataBitTimingConst limits) = Case 10 (Single (limits_value limits))
 can_means (infos.Termination resistance) = Case 11 (Single (Number 2 resistance))
 can_means (infos.TerminationConst resistances) = Case 12 (Single (Raw (octets_of 2 resistances.items)))

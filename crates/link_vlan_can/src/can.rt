@@ -71,6 +71,7 @@ pub enum InfoCan {
 macro_rules! rows {
     ($call:ident($($argument:tt)*)) => {
         link_base::by_rows! { $call($($argument)*)
+            "IFLA_CAN_";
             IFLA_CAN_BITTIMING = 1, BitTiming: Struct<CanBitTiming>;
             IFLA_CAN_BITTIMING_CONST = 2, BitTimingConst: CanBitTimingConst;
             IFLA_CAN_CLOCK = 3, Clock: Struct<CanClock>;

@@ -9,6 +9,7 @@ ghost use Rattle.link_base.specs.Answers.{OnMemory, OverwritesFront};
 ghost use Rattle.link_vlan_can.specs.CanLimits.{limits_view, limits_with, limits_octets, limits_value, LimitsAnswer};
 
 use bstr::ByteSlice;
+use link_base::rows::fields::Field;
 use link_base::rows::form::Form;
 use link_base::rows::label::Name;
 use link_base::{
@@ -182,6 +183,11 @@ impl PayloadClass for CanBitTimingConst {
 
     #[inline]
     fn names() -> &'static [Name] {
+        &[]
+    }
+
+    #[inline]
+    fn fields() -> &'static [Field] {
         &[]
     }
 

@@ -26,6 +26,7 @@ pub enum CanCtrlModeExt {
 macro_rules! rows {
     ($call:ident($($argument:tt)*)) => {
         link_base::by_rows! { $call($($argument)*)
+            "IFLA_CAN_CTRLMODE_";
             IFLA_CAN_CTRLMODE_SUPPORTED = 1, Supported: FlagBits<CanCtrlModeFlags>;
         }
     };

@@ -1,21 +1,18 @@
 //! Kernel structs in the payloads of CAN controller attributes.
 
-ghost use Rattle.std.specs.Prelude.{◌≡◌, refl};
+ghost use Rattle.std.specs.Prelude.{◌≡◌, [], refl};
 ghost use Rattle.link_base.specs.declared.rows.form.Layout.TheVariants as layouts;
+ghost use Rattle.link_base.specs.Structs.{classes_in};
 ghost use Rattle.link_vlan_can.specs.CanFlags.{mode_bit_names};
-ghost use Rattle.link_vlan_can.specs.CanRecords.{timing_of, timing_with, timing_octets, timing_held};
-ghost use Rattle.link_vlan_can.specs.CanRecords.{modes_of, modes_octets, modes_held};
-ghost use Rattle.link_vlan_can.specs.CanRecords.{clock_of, clock_octets, clock_held, errors_of, errors_octets, errors_held};
+ghost use Rattle.link_vlan_can.specs.CanRecords.{timing_fields, timing_held, timing_with, modes_fields, modes_held};
+ghost use Rattle.link_vlan_can.specs.CanRecords.{clock_fields, clock_held, errors_fields, errors_held};
 
 use crate::can_flags::CanCtrlModeFlags;
-use bitflags::Flags;
 use link_base::names::flag_laws::FlagSet;
+use link_base::rows::fields::Field;
 use link_base::rows::form::Layout;
 use link_base::rows::label::Name;
-use link_base::{
-    DecodeError, PayloadStruct, check_at_least, check_length, emit_numbers, emit_u16, u16_at,
-    u32_at, u32s_at,
-};
+use link_base::{FlagBits, PayloadStruct, by_fields};
 
 /// The bit timing of a CAN controller (`struct can_bittiming`, `include/uapi/linux/can/netlink.h`): eight `u32`s.
 /// Payloads may be longer; the additional bytes are ignored.
@@ -51,18 +48,22 @@ impl CanBitTiming {
     }
 }
 
+type TimingFields = (u32, (u32, (u32, (u32, (u32, (u32, (u32, (u32, ()))))))));
+
 impl PayloadStruct for CanBitTiming {
     const LAYOUT: Layout = Layout::BitTiming;
 
     ghost LAYOUT = { layouts.BitTiming };
 
-    ghost value_of = { timing_of };
+    ghost fields = { timing_fields };
 
-    ghost octets = { timing_octets };
+    ghost classes = { classes_in [] timing_fields };
 
     ghost held = { timing_held };
 
-    ghost told = { λ _. refl };
+    ghost whole = { refl };
+
+    ghost placed = { refl };
 
     #[inline]
     fn names() -> &'static [Name] {
@@ -70,49 +71,32 @@ impl PayloadStruct for CanBitTiming {
     }
 
     #[inline]
-    fn parse_payload(payload: &[u8]) -> Result<Self, DecodeError> {
-        check_at_least(payload, 32)?;
-        let [
-            bitrate,
-            sample_point,
-            tq,
-            prop_seg,
-            phase_seg1,
-            phase_seg2,
-            sjw,
-            brp,
-        ] = u32s_at::<8>(payload, 0);
-        Ok(CanBitTiming {
-            bitrate,
-            sample_point,
-            tq,
-            prop_seg,
-            phase_seg1,
-            phase_seg2,
-            sjw,
-            brp,
-        })
+    fn fields() -> &'static [Field] {
+        link_base::fields! {
+            "bitrate" = 0, u32 as BitsPerSecond;
+            "sample_point" = 4, u32;
+            "tq" = 8, u32 as Nanoseconds;
+            "prop_seg" = 12, u32;
+            "phase_seg1" = 16, u32;
+            "phase_seg2" = 20, u32;
+            "sjw" = 24, u32;
+            "brp" = 28, u32;
+        }
     }
 
-    #[inline]
-    fn payload_len(&self) -> usize {
-        32
+    #[inline(always)]
+    fn load(bytes: &[u8]) -> Self {
+        by_fields!(load(bytes, CanBitTiming, TimingFields) bitrate sample_point tq prop_seg phase_seg1 phase_seg2 sjw brp)
     }
 
-    fn emit_payload(&self, buffer: &mut [u8]) {
-        emit_numbers(
-            buffer,
-            &[
-                self.bitrate,
-                self.sample_point,
-                self.tq,
-                self.prop_seg,
-                self.phase_seg1,
-                self.phase_seg2,
-                self.sjw,
-                self.brp,
-            ],
-        );
+    #[inline(always)]
+    fn sized(&self) {
+        by_fields!(sized(self, TimingFields) bitrate sample_point tq prop_seg phase_seg1 phase_seg2 sjw brp)
+    }
+
+    #[inline(always)]
+    fn store(&self, buffer: &mut [u8]) {
+        by_fields!(store(self, buffer, TimingFields) bitrate sample_point tq prop_seg phase_seg1 phase_seg2 sjw brp)
     }
 }
 
@@ -126,20 +110,24 @@ pub struct CanCtrlMode {
     pub flags: CanCtrlModeFlags,
 }
 
+type ModesFields = (FlagBits<CanCtrlModeFlags>, (FlagBits<CanCtrlModeFlags>, ()));
+
 impl PayloadStruct for CanCtrlMode {
     const LAYOUT: Layout = Layout::CtrlMode;
 
     ghost LAYOUT = { layouts.CtrlMode };
 
-    ghost value_of = { modes_of };
+    ghost bit_names = { mode_bit_names };
 
-    ghost octets = { modes_octets };
+    ghost fields = { modes_fields };
+
+    ghost classes = { classes_in mode_bit_names modes_fields };
 
     ghost held = { modes_held };
 
-    ghost told = { λ _. refl };
+    ghost whole = { refl };
 
-    ghost bit_names = { mode_bit_names };
+    ghost placed = { refl };
 
     #[inline]
     fn names() -> &'static [Name] {
@@ -147,21 +135,26 @@ impl PayloadStruct for CanCtrlMode {
     }
 
     #[inline]
-    fn parse_payload(payload: &[u8]) -> Result<Self, DecodeError> {
-        check_at_least(payload, 8)?;
-        Ok(CanCtrlMode {
-            mask: CanCtrlModeFlags::from_bits_retain(u32_at(payload, 0)),
-            flags: CanCtrlModeFlags::from_bits_retain(u32_at(payload, 4)),
-        })
+    fn fields() -> &'static [Field] {
+        link_base::fields! {
+            "mask" = 0, u32_flags;
+            "flags" = 4, u32_flags;
+        }
     }
 
-    #[inline]
-    fn payload_len(&self) -> usize {
-        8
+    #[inline(always)]
+    fn load(bytes: &[u8]) -> Self {
+        by_fields!(load(bytes, CanCtrlMode, ModesFields) mask flags)
     }
 
-    fn emit_payload(&self, buffer: &mut [u8]) {
-        emit_numbers(buffer, &[self.mask.bits(), self.flags.bits()]);
+    #[inline(always)]
+    fn sized(&self) {
+        by_fields!(sized(self, ModesFields) mask flags)
+    }
+
+    #[inline(always)]
+    fn store(&self, buffer: &mut [u8]) {
+        by_fields!(store(self, buffer, ModesFields) mask flags)
     }
 }
 
@@ -182,18 +175,22 @@ impl CanClock {
     }
 }
 
+type ClockFields = (u32, ());
+
 impl PayloadStruct for CanClock {
     const LAYOUT: Layout = Layout::Clock;
 
     ghost LAYOUT = { layouts.Clock };
 
-    ghost value_of = { clock_of };
+    ghost fields = { clock_fields };
 
-    ghost octets = { clock_octets };
+    ghost classes = { classes_in [] clock_fields };
 
     ghost held = { clock_held };
 
-    ghost told = { λ _. refl };
+    ghost whole = { refl };
+
+    ghost placed = { refl };
 
     #[inline]
     fn names() -> &'static [Name] {
@@ -201,20 +198,25 @@ impl PayloadStruct for CanClock {
     }
 
     #[inline]
-    fn parse_payload(payload: &[u8]) -> Result<Self, DecodeError> {
-        check_length(payload, 4)?;
-        Ok(CanClock {
-            freq: u32_at(payload, 0),
-        })
+    fn fields() -> &'static [Field] {
+        link_base::fields! {
+            "freq" = 0, u32 as Hertz;
+        }
     }
 
-    #[inline]
-    fn payload_len(&self) -> usize {
-        4
+    #[inline(always)]
+    fn load(bytes: &[u8]) -> Self {
+        by_fields!(load(bytes, CanClock, ClockFields) freq)
     }
 
-    fn emit_payload(&self, buffer: &mut [u8]) {
-        emit_numbers(buffer, &[self.freq]);
+    #[inline(always)]
+    fn sized(&self) {
+        by_fields!(sized(self, ClockFields) freq)
+    }
+
+    #[inline(always)]
+    fn store(&self, buffer: &mut [u8]) {
+        by_fields!(store(self, buffer, ClockFields) freq)
     }
 }
 
@@ -228,18 +230,22 @@ pub struct CanBerrCounter {
     pub rxerr: u16,
 }
 
+type ErrorsFields = (u16, (u16, ()));
+
 impl PayloadStruct for CanBerrCounter {
     const LAYOUT: Layout = Layout::BerrCounter;
 
     ghost LAYOUT = { layouts.BerrCounter };
 
-    ghost value_of = { errors_of };
+    ghost fields = { errors_fields };
 
-    ghost octets = { errors_octets };
+    ghost classes = { classes_in [] errors_fields };
 
     ghost held = { errors_held };
 
-    ghost told = { λ _. refl };
+    ghost whole = { refl };
+
+    ghost placed = { refl };
 
     #[inline]
     fn names() -> &'static [Name] {
@@ -247,21 +253,25 @@ impl PayloadStruct for CanBerrCounter {
     }
 
     #[inline]
-    fn parse_payload(payload: &[u8]) -> Result<Self, DecodeError> {
-        check_at_least(payload, 4)?;
-        Ok(CanBerrCounter {
-            txerr: u16_at(payload, 0),
-            rxerr: u16_at(payload, 2),
-        })
+    fn fields() -> &'static [Field] {
+        link_base::fields! {
+            "txerr" = 0, u16;
+            "rxerr" = 2, u16;
+        }
     }
 
-    #[inline]
-    fn payload_len(&self) -> usize {
-        4
+    #[inline(always)]
+    fn load(bytes: &[u8]) -> Self {
+        by_fields!(load(bytes, CanBerrCounter, ErrorsFields) txerr rxerr)
     }
 
-    fn emit_payload(&self, buffer: &mut [u8]) {
-        emit_u16(buffer, self.txerr);
-        emit_u16(&mut buffer[2..], self.rxerr);
+    #[inline(always)]
+    fn sized(&self) {
+        by_fields!(sized(self, ErrorsFields) txerr rxerr)
+    }
+
+    #[inline(always)]
+    fn store(&self, buffer: &mut [u8]) {
+        by_fields!(store(self, buffer, ErrorsFields) txerr rxerr)
     }
 }

@@ -44,6 +44,7 @@ pub enum CanTdc {
 macro_rules! rows {
     ($call:ident($($argument:tt)*)) => {
         link_base::by_rows! { $call($($argument)*)
+            "IFLA_CAN_TDC_";
             IFLA_CAN_TDC_TDCV_MIN = 1, TdcvMin: u32;
             IFLA_CAN_TDC_TDCV_MAX = 2, TdcvMax: u32;
             IFLA_CAN_TDC_TDCO_MIN = 3, TdcoMin: u32;

@@ -24,6 +24,7 @@ pub enum InfoDsa {
 macro_rules! rows {
     ($call:ident($($argument:tt)*)) => {
         link_base::by_rows! { $call($($argument)*)
+            "IFLA_DSA_";
             IFLA_DSA_CONDUIT = 1, Conduit: u32 as InterfaceIndex;
         }
     };

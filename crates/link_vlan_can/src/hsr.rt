@@ -121,6 +121,7 @@ pub enum InfoHsr {
 macro_rules! rows {
     ($call:ident($($argument:tt)*)) => {
         link_base::by_rows! { $call($($argument)*)
+            "IFLA_HSR_";
             IFLA_HSR_SLAVE1 = 1, Port1: u32 as InterfaceIndex;
             IFLA_HSR_SLAVE2 = 2, Port2: u32 as InterfaceIndex;
             IFLA_HSR_MULTICAST_SPEC = 3, MulticastSpec: u8;

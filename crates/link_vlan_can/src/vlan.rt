@@ -29,6 +29,7 @@ pub enum VlanQosMapping {
 macro_rules! mapping_rows {
     ($call:ident($($argument:tt)*)) => {
         link_base::by_rows! { $call($($argument)*)
+            "IFLA_VLAN_QOS_";
             IFLA_VLAN_QOS_MAPPING = 1, Mapping(from, to): (u32, u32);
         }
     };
@@ -137,6 +138,7 @@ pub enum InfoVlan {
 macro_rules! rows {
     ($call:ident($($argument:tt)*)) => {
         link_base::by_rows! { $call($($argument)*)
+            "IFLA_VLAN_";
             IFLA_VLAN_ID = 1, Id: u16;
             IFLA_VLAN_FLAGS = 2, Flags: MaskedFlags<VlanFlags>;
             IFLA_VLAN_EGRESS_QOS = 3, EgressQos: NestedList<VlanQosMapping>;

@@ -9,6 +9,7 @@ pub use Rattle.link_base.specs.Frame
 pub use Rattle.link_base.specs.Class
 pub use Rattle.link_base.specs.Forms
 pub use Rattle.link_base.specs.Payloads
+pub use Rattle.link_base.specs.Structs
 pub use Rattle.link_base.specs.Wire
 pub use Rattle.link_base.specs.Table
 pub use Rattle.link_base.specs.Lift

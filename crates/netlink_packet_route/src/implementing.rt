@@ -2,12 +2,12 @@
 //! classes and structs are made of. The calls that read, write, check and view lists are in [`link`](crate::link) and
 //! [`views`](crate::views). They accept every type that implements [`Attribute`].
 //!
-//! The macros `by_rows!`, `by_names!` and `by_flags!` are those of the crate `link_base`. A crate that calls a macro must
-//! depend on the crate that defines it, so list `link_base` in `crates.txt` too.
+//! The macros `by_rows!`, `by_names!`, `by_flags!`, `by_fields!` and `fields!` are those of the crate `link_base`. A crate
+//! that calls a macro must depend on the crate that defines it, so list `link_base` in `crates.txt` too.
 
 // The traits of an attribute set, what their methods take and return, and the functions that `by_rows!` calls.
 pub use link_base::rows::by_rows;
-pub use link_base::rows::fields::{Field, Part};
+pub use link_base::rows::fields::Field;
 pub use link_base::rows::form::{Form, Layout, Order, Role, Width};
 pub use link_base::rows::label::{KindLabel, Name, Quantity};
 pub use link_base::views::content::{Content, Known};
@@ -20,9 +20,9 @@ pub use link_base::{
 pub use link_base::names::flag_laws::{self, FlagSet, KnownBits};
 pub use link_base::names::named_laws;
 pub use link_base::{
-    Address, AddressList, Be, BeFlagBits, Coded, Emitable, FixedSize, FlagBits, Lengths,
-    LowFlagBits, MaskedFlags, Named, NamedNumber, NestedList, NumberNames, PayloadClass,
-    PayloadStruct, Struct, VlanProtocol,
+    Address, AddressList, ArrayWord, Be, BeFlagBits, Coded, Emitable, FieldList, FixedSize,
+    FlagBits, Lengths, LowFlagBits, MaskedFlags, Named, NamedNumber, NestedList, NumberNames,
+    PayloadClass, PayloadStruct, Struct, VlanProtocol,
 };
 
 // Parse and write the fields of a struct.

@@ -8,17 +8,18 @@ use Rattle.std.proofs.Math.Seq.{take-append_seam}
 use Rattle.link_base.specs.declared.views.content.Content.{Content}
 use Rattle.link_base.specs.declared.views.content.Content.TheVariants as contents
 use Rattle.link_base.specs.declared.wire.fault.Cause.{Cause}
-use Rattle.link_base.specs.declared.rows.form.Width.TheVariants as widths
+use Rattle.link_base.specs.declared.rows.form.Width.{Width}
 use Rattle.link_base.specs.declared.rows.form.Form.{Form}
 use Rattle.link_base.specs.declared.rows.form.Form.TheVariants as forms
 use Rattle.link_base.specs.declared.wire.buffer.NlaBuffer.{NlaBuffer}
-use Rattle.link_base.specs.Number.{IsBytes, bytes_of}
+use Rattle.link_base.specs.Forms.{bytes_in}
+use Rattle.link_base.specs.Number.{IsBytes, bytes_of, bound}
 use Rattle.link_base.specs.Frame.{kind_of, kind_limit, pad, bare, BeginsWith}
 use Rattle.link_base.specs.Buffer.{kind_field_of, payload_of as payload_of_frame}
 use Rattle.link_base.specs.Class.{Class, AtLeast, meant, written, extent, length_cause}
 use Rattle.link_base.specs.Payloads.{class_by}
 use Rattle.link_base.specs.Coherent.{is_single, IsShapeOf}
-use Rattle.link_base.specs.Table.{Row, Shape, One, Nested, Addresses, Table, GivesBy, row_at, class_at, form_at, label_at, label_by}
+use Rattle.link_base.specs.Table.{Row, Shape, One, Nested, Addresses, Table, GivesBy, row_at, class_at, form_at, Label, label_at, label_by}
 use Rattle.link_base.specs.WellFormed.{is_shape, is_table}
 use Rattle.link_base.specs.Borrowed.{HasValue, Borrows, form_of, elements_at, HasContent}
 use Rattle.link_base.proofs.Coherence.{row_told, row_passes_all, elements_formed}
@@ -30,7 +31,7 @@ use Rattle.link_messages.proofs.Walking.{split_short}
 use Rattle.netlink_packet_route.specs.declared.family.Family.{Family}
 use Rattle.netlink_packet_route.specs.Family.{table_of}
 use Rattle.netlink_packet_route.proofs.Families.{families_formed}
-use Rattle.link_show.specs.Value.{Label, other_text, content_text, value_text as shown_value}
+use Rattle.link_show.specs.Value.{other_text, content_text, value_text as shown_value}
 use Rattle.link_entries.specs.declared.entry.Entry.{Entry}
 use Rattle.link_entries.specs.declared.fields.Fields.{Fields}
 use Rattle.link_entries.specs.declared.fields.Fields.TheVariants as fields
@@ -77,21 +78,18 @@ list_kind (fields.List flag) e k octets h = refl
 list_kind own e k octets h = absurd cc
 
 list_fields : (form : Form) → has_elements form ≡ true → is_list (row_fields form) ≡ true
-list_fields forms.U16s h = refl
-list_fields forms.U32s h = refl
+list_fields (forms.Numbers w) h = refl
 list_fields (forms.Addresses size) h = refl
 list_fields (forms.List flagged) h = refl
 list_fields form h = absurd cc
 
 -- numbers with entries of their own are in lists, and lists have no text
 no_numbers : (x : Content) → is_list (fields_in (form_of x)) ≡ false → has_numbers x ≡ false
-no_numbers (contents.U16s p) h = absurd cc
-no_numbers (contents.U32s p) h = absurd cc
+no_numbers (contents.Numbers w p) h = absurd cc
 no_numbers x h = refl
 
 no_words : (label : Label) (x : Content) → is_list (fields_in (form_of x)) ≡ true → (if has_numbers x then [] else shown_value (Some label) x) ≡ []
-no_words label (contents.U16s p) h = refl
-no_words label (contents.U32s p) h = refl
+no_words label (contents.Numbers w p) h = refl
 no_words label (contents.Addresses p size) h = refl
 no_words label (contents.List p flagged) h = refl
 no_words label (contents.Struct layout p) h = let no = value_no_list _ (struct_value layout) in absurd cc
@@ -356,15 +354,10 @@ module _ (family : Family) (list : List ℕ) (k i : ℕ) where
   abbrev inner_label : Option Label
   inner_label = label_at (elements_at (table_of family) k) i
 
-  pub short_held : (at x : ℕ) → form_at (table_of family) k ≡ Some forms.U16s → x < 65536 → HasText family list (number_entry k at 2 i x)
-  short_held at x named low =
-      let e = number_entry k at 2 i x in
-      (bytes_of 2 x, ap (λ o. payload_by o e list) ((list_label family k forms.U16s named).is inner_label) ∙ number_back form_unsigned widths.Two (with_kind e i) list refl low)
-
-  pub word_held : (at x : ℕ) → form_at (table_of family) k ≡ Some forms.U32s → x < 4294967296 → HasText family list (number_entry k at 4 i x)
-  word_held at x named low =
-      let e = number_entry k at 4 i x in
-      (bytes_of 4 x, ap (λ o. payload_by o e list) ((list_label family k forms.U32s named).is inner_label) ∙ number_back form_unsigned widths.Four (with_kind e i) list refl low)
+  pub number_held : (w : Width) (at x : ℕ) → form_at (table_of family) k ≡ Some (forms.Numbers w) → x < bound (bytes_in w) → HasText family list (number_entry k at (bytes_in w) i x)
+  number_held w at x named low =
+      let e = number_entry k at (bytes_in w) i x in
+      (bytes_of (bytes_in w) x, ap (λ o. payload_by o e list) ((list_label family k (forms.Numbers w) named).is inner_label) ∙ number_back form_unsigned w (with_kind e i) list refl low)
 
   pub address_held : (offset : ℕ) (p : List ℕ) → form_at (table_of family) k ≡ Some (forms.Addresses (length p)) → HasText family list (address_entry k i offset p)
   address_held offset p named =

@@ -77,8 +77,7 @@ module _ (e : Entry) (list p s : List ℕ) (bytes : IsBytes p) (x : Content) whe
   borrows_back (forms.Number w orders.Big role) names plain ok payload shows front h = value_back (row_fields (forms.Number w orders.Big role)) (class_by (forms.Number w orders.Big role) names) refl refl ok payload shows h
   borrows_back (forms.Addresses n) names plain ok payload shows front h = absurd cc
   borrows_back (forms.List flagged) names plain ok payload shows front h = absurd cc
-  borrows_back forms.U16s names plain ok payload shows front h = absurd cc
-  borrows_back forms.U32s names plain ok payload shows front h = absurd cc
+  borrows_back (forms.Numbers w) names plain ok payload shows front h = absurd cc
   borrows_back form names plain ok payload shows front h = value_back (row_fields form) (class_by form names) refl refl ok payload shows h
 
 -- the first 48 bytes of a payload of limits, as an entry refers to them

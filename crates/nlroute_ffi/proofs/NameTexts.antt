@@ -15,7 +15,7 @@ use Rattle.link_base.specs.declared.names.vlan_protocol.VlanProtocol.TheVariants
 use Rattle.link_base.specs.Labels.{name_in}
 use Rattle.link_base.specs.Named.{text_of}
 use Rattle.link_base.specs.Protocol.{protocol_number, vlan_protocols}
-use Rattle.link_base.specs.Table.{Row, Shape, Table, row_at, label_at, label_by}
+use Rattle.link_base.specs.Table.{Row, Shape, Table, Label, row_at, label_at, label_by}
 use Rattle.link_base.specs.Borrowed.{elements_by, elements_at}
 use Rattle.link_base.specs.WellFormed.{are_rows}
 use Rattle.link_base.proofs.LimitLemmas.{row_passes}
@@ -26,7 +26,7 @@ use Rattle.link_entries.specs.declared.entry.Entry.{Entry}
 use Rattle.link_show.specs.Text.{joined, hex_number}
 use Rattle.link_show.specs.Number.{beside}
 use Rattle.link_show.specs.Flags.{named_text, enum_text, set_names, unnamed, last_word, flag_words, is_all, flags_text}
-use Rattle.link_show.specs.Value.{Label, form_in, names_of, protocol_text, content_text}
+use Rattle.link_show.specs.Value.{protocol_text, content_text}
 use Rattle.nlroute_ffi.specs.Names.{is_indexed, label_for, number_names_by, number_name, bit_names_by, flag_name}
 use Rattle.nlroute_ffi.specs.Shown.{IsWithName, IsByName}
 
@@ -79,9 +79,9 @@ unfolding enum_text
 enum_shown names n = with_name (name_in names n) n
 
 -- a number of a form whose numbers have names
-pub number_shown : (label : Label) (n : ℕ) (form : Form) → form_in label ≡ form → number_names_by form label ≡ names_of label → IsWithName (number_name (Some label) n) (decimal n) (enum_text (names_of label) n)
+pub number_shown : (label : Label) (n : ℕ) (form : Form) → label.form ≡ form → number_names_by form label ≡ label.names → IsWithName (number_name (Some label) n) (decimal n) (enum_text label.names n)
 number_shown label n form is named =
-    subst (λ names. IsWithName (name_in names n) (decimal n) (enum_text (names_of label) n)) (sym (ap (λ f. number_names_by f label) is ∙ named)) (enum_shown (names_of label) n)
+    subst (λ names. IsWithName (name_in names n) (decimal n) (enum_text label.names n)) (sym (ap (λ f. number_names_by f label) is ∙ named)) (enum_shown label.names n)
 
 -- ---- bits
 
@@ -195,13 +195,13 @@ one_single (suc m) names h b low = by_test (b == m) refl (one_single m names bot
   by_test false e more = let other : b ≢ m = λ z. let yes : (b == m) ≡ true = eq-eqb b m z in absurd cc in more (omega arith)
 
 abbrev is_plain : Label → Bool
-is_plain label = each_single 64 (bit_names_by (form_in label) label)
+is_plain label = each_single 64 (bit_names_by label.form label)
 
 -- a bit of an attribute type is written by its name
 pub bits_shown : (family : Family) (e : Entry) (label : Label) (bit width : ℕ) → label_for family e ≡ Some label → bit < 64
-    → IsByName (flag_name (Some label) bit) (hex_number (2 ^ bit)) (flags_text (bit_names_by (form_in label) label) width (2 ^ bit))
+    → IsByName (flag_name (Some label) bit) (hex_number (2 ^ bit)) (flags_text (bit_names_by label.form label) width (2 ^ bit))
 bits_shown family e label bit width at low =
-    let names = bit_names_by (form_in label) label in
+    let names = bit_names_by label.form label in
     let plain : is_plain label ≡ true = type_passes is_plain family (each_family (λ family. types_pass is_plain (table_of family)) refl family) e label at in
     let single = one_single 64 names plain bit low in
     let told = single_told names (2 ^ bit) (λ z. omega (arith, pow_pos bit, z)) single in
@@ -223,7 +223,7 @@ has_protocols forms.Protocol names = has_name names Ieee8021Q && has_name names 
 has_protocols form names = true
 
 abbrev is_told : Label → Bool
-is_told label = has_protocols (form_in label) (names_of label)
+is_told label = has_protocols label.form label.names
 
 one_named : (names : List (ℕ × List ℕ)) (p : VlanProtocol) → has_protocols forms.Protocol names ≡ true → has_name names p ≡ true
 one_named names Ieee8021Q h = (and_parts (has_name names Ieee8021Q) (has_name names Ieee8021Ad) h).0
@@ -233,9 +233,9 @@ protocol_told : (o : Option (List ℕ)) (p : VlanProtocol) → is_text o (text_o
 protocol_told None p h = absurd cc
 protocol_told (Some name) p h = ap (λ t. beside t (hex_number (protocol_number p))) (sym ((bytes_eq-Decides name (text_of vlan_protocols.labels (protocol_number p))).0 h))
 
-pub protocols_shown : (family : Family) (e : Entry) (label : Label) (p : VlanProtocol) → label_for family e ≡ Some label → form_in label ≡ forms.Protocol
+pub protocols_shown : (family : Family) (e : Entry) (label : Label) (p : VlanProtocol) → label_for family e ≡ Some label → label.form ≡ forms.Protocol
     → IsWithName (number_name (Some label) (protocol_number p)) (hex_number (protocol_number p)) (content_text label (contents.Protocol p))
 protocols_shown family e label p at form =
     let told : is_told label ≡ true = type_passes is_told family (each_family (λ family. types_pass is_told (table_of family)) refl family) e label at in
     subst (λ f. IsWithName (name_in (number_names_by f label) (protocol_number p)) (hex_number (protocol_number p)) (protocol_text p)) (sym form)
-    (protocol_told (name_in (names_of label) (protocol_number p)) p (one_named (names_of label) p (subst (λ f. has_protocols f (names_of label) ≡ true) form told)))
+    (protocol_told (name_in label.names (protocol_number p)) p (one_named label.names p (subst (λ f. has_protocols f label.names ≡ true) form told)))

@@ -14,7 +14,7 @@ use Rattle.link_base.specs.Forms.{bytes_in}
 use Rattle.link_base.specs.Class.{AtLeast, extent, length_cause}
 use Rattle.link_base.specs.Coherent.{is_single}
 use Rattle.link_base.specs.Payloads.{class_by}
-use Rattle.link_base.specs.Table.{One}
+use Rattle.link_base.specs.Table.{One, Label}
 use Rattle.link_base.specs.Borrowed.{Borrows, BorrowsBy}
 use Rattle.link_base.specs.declared.views.content.Content.{Content}
 use Rattle.link_base.proofs.Numbers.{length-bytes_of}
@@ -22,7 +22,6 @@ use Rattle.link_base.proofs.Orders.{length-bytes_by}
 use Rattle.link_base.proofs.ClassLemmas.{at_size}
 use Rattle.link_base.proofs.ContentBy.{by_shape}
 use Rattle.link_base.specs.Orders.{bytes_by}
-use Rattle.link_show.specs.Value.{Label, form_in}
 use Rattle.link_entries.specs.declared.entry.Entry.{Entry}
 use Rattle.link_entries.specs.declared.fields.Fields.{Fields}
 use Rattle.link_entries.specs.declared.fields.Fields.TheVariants as fields
@@ -148,8 +147,7 @@ shown_again own e octets p s plain h (q, is, at) = at ∙ shown_same own e octet
 -- ---- lengths
 
 pub value_of : (form : Form) → has_elements form ≡ false → is_value (row_fields form) ≡ true
-value_of forms.U16s h = absurd cc
-value_of forms.U32s h = absurd cc
+value_of (forms.Numbers w) h = absurd cc
 value_of (forms.Addresses n) h = absurd cc
 value_of (forms.List flagged) h = absurd cc
 value_of (forms.Struct layout) h = struct_value layout
@@ -180,4 +178,4 @@ module _ (e : Entry) (octets s : List ℕ) (held : length e.octets ≡ 16) where
 
   pub shown_size : (label : Option Label) → Shows (fields_for label) e octets s → HasSize label (length s)
   shown_size None h = tt
-  shown_size (Some label) h = λ plain. size_of_form (form_in label) plain h
+  shown_size (Some label) h = λ plain. size_of_form label.form plain h

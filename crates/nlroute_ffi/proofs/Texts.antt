@@ -3,7 +3,8 @@ use Rattle.std.proofs.Common.{◌≡◌, ℕ, List, Option, Result, Ok, Err, ref
 use Rattle.std.specs.Prelude.{IsOk, OnOk}
 use Rattle.link_base.specs.declared.views.content.Content.{Content}
 use Rattle.netlink_packet_route.specs.declared.family.Family.{Family}
-use Rattle.link_show.specs.Value.{Label, content_text}
+use Rattle.link_base.specs.Table.{Label}
+use Rattle.link_show.specs.Value.{content_text}
 use Rattle.link_entries.specs.declared.entry.Entry.{Entry}
 use Rattle.link_entries.specs.declared.fields.Fields.{Fields}
 use Rattle.link_entries.specs.declared.misfit.Misfit.{Misfit}

@@ -1,11 +1,10 @@
 -- Attribute sets, attribute types and numbers, looked up by their names; and what entries of a type hold.
 use Rattle.std.specs.Prelude.{◌≡◌, ◌≢◌, ℕ, ℤ, pos, int_lt, codes, ◌<◌, List, [], ◌∷◌, Option, Some, None, option_map, Result, Ok, Err, bytes_eq, if◌then◌else◌}
 use Rattle.link_base.specs.Frame.{kind_limit}
-use Rattle.link_base.specs.Table.{Table, label_at}
+use Rattle.link_base.specs.Table.{Table, Label, label_at}
 use Rattle.link_base.specs.Borrowed.{elements_at}
 use Rattle.netlink_packet_route.specs.declared.family.Family.{Family}
 use Rattle.netlink_packet_route.specs.Family.{family_name, family_number, table_of}
-use Rattle.link_show.specs.Value.{Label, names_of}
 use Rattle.link_entries.specs.declared.entry.Entry.{Entry}
 use Rattle.link_entries.specs.declared.row.Row.{Row}
 use Rattle.link_entries.specs.Rows.{row_of_type}
@@ -31,7 +30,7 @@ FamilyOfAnswers name (Err refusal) = ⊥
 
 -- the name of an attribute type, if it has a row
 abbrev pub name_at : Table → ℕ → Option (List ℕ)
-name_at table k = option_map (λ label. label.0) (label_at table k)
+name_at table k = option_map (λ label. label.name) (label_at table k)
 
 -- the least attribute type with this name; or there is none
 abbrev pub FindsKind : Table → List ℕ → Result ℕ Refusal → Type 0
@@ -60,7 +59,7 @@ number_in (x ∷ names) name = if bytes_eq x.1 name then Some x.0 else number_in
 
 abbrev pub number_named : Option Label → List ℕ → Option ℕ
 number_named None name = None
-number_named (Some label) name = number_in (names_of label) name
+number_named (Some label) name = number_in label.names name
 
 -- the number is that of the name; or no number of the type has it
 abbrev pub NumberOfAnswers : Entry → List ℕ → ℕ → Family → Result ℕ Refusal → Type 0

@@ -5,11 +5,10 @@ use Rattle.link_base.specs.declared.rows.form.Form.{Form}
 use Rattle.link_base.specs.declared.rows.form.Form.TheVariants as forms
 use Rattle.link_base.specs.declared.rows.form.Role.TheVariants as roles
 use Rattle.link_base.specs.Labels.{name_in}
-use Rattle.link_base.specs.Table.{label_at}
+use Rattle.link_base.specs.Table.{Label, label_at}
 use Rattle.link_base.specs.Borrowed.{elements_at}
 use Rattle.netlink_packet_route.specs.declared.family.Family.{Family}
 use Rattle.netlink_packet_route.specs.Family.{table_of}
-use Rattle.link_show.specs.Value.{Label, form_in, names_of}
 use Rattle.link_show.specs.Fault.{kind_text}
 use Rattle.link_entries.specs.declared.entry.Entry.{Entry}
 use Rattle.nlroute_ffi.specs.declared.refusal.Refusal.{Refusal}
@@ -24,13 +23,12 @@ version = 0x000300
 -- whether the elements of an attribute type are addresses or numbers, which have an index in place of a type
 abbrev pub has_indices : Form → Bool
 has_indices (forms.Addresses n) = true
-has_indices forms.U16s = true
-has_indices forms.U32s = true
+has_indices (forms.Numbers w) = true
 has_indices form = false
 
 abbrev pub holds_indices : Option Label → Bool
 holds_indices None = false
-holds_indices (Some label) = has_indices (form_in label)
+holds_indices (Some label) = has_indices label.form
 
 -- an address of a list, or a number of an array
 abbrev pub is_indexed : Family → Entry → Bool
@@ -58,30 +56,30 @@ KindNameAnswers e old new family (Err refusal) = ⊥
 
 -- the names of the numbers of an attribute type: of an enum, or a VLAN protocol
 abbrev pub number_names_by : Form → Label → List (ℕ × List ℕ)
-number_names_by (forms.Number w order roles.Enum) label = names_of label
-number_names_by (forms.Number w order roles.Coded) label = names_of label
-number_names_by forms.Protocol label = names_of label
+number_names_by (forms.Number w order roles.Enum) label = label.names
+number_names_by (forms.Number w order roles.Coded) label = label.names
+number_names_by forms.Protocol label = label.names
 number_names_by form label = []
 
 abbrev pub number_name : Option Label → ℕ → Option (List ℕ)
 number_name None n = None
-number_name (Some label) n = name_in (number_names_by (form_in label) label) n
+number_name (Some label) n = name_in (number_names_by label.form label) n
 
 abbrev pub NumberNameAnswers : Entry → List ℕ → List ℕ → Family → Result ℕ Refusal → Type 0
 NumberNameAnswers e old new family result = NameAnswers (number_name (label_for family e) e.number) old new result
 
 -- the names of the bits of an attribute type: of a set of flags, or of those in a struct
 abbrev pub bit_names_by : Form → Label → List (ℕ × List ℕ)
-bit_names_by (forms.Number w order roles.Flags) label = names_of label
-bit_names_by forms.LowFlags label = names_of label
-bit_names_by forms.MaskedFlags label = names_of label
-bit_names_by (forms.Struct layout) label = names_of label
+bit_names_by (forms.Number w order roles.Flags) label = label.names
+bit_names_by forms.LowFlags label = label.names
+bit_names_by forms.MaskedFlags label = label.names
+bit_names_by (forms.Struct layout) label = label.names
 bit_names_by form label = []
 
 -- the name of a bit, which counts from 0; a set of flags has at most 64
 abbrev pub flag_name : Option Label → ℕ → Option (List ℕ)
 flag_name None bit = None
-flag_name (Some label) bit = if nat_lt bit 64 then name_in (bit_names_by (form_in label) label) (2 ^ bit) else None
+flag_name (Some label) bit = if nat_lt bit 64 then name_in (bit_names_by label.form label) (2 ^ bit) else None
 
 abbrev pub FlagNameAnswers : Entry → ℕ → List ℕ → List ℕ → Family → Result ℕ Refusal → Type 0
 FlagNameAnswers e bit old new family result = NameAnswers (flag_name (label_for family e) bit) old new result

@@ -3,7 +3,6 @@ use Rattle.std.specs.Prelude.{◌≡◌, ℕ, ◌==◌, Bool, true, false, List,
 use Rattle.link_base.specs.declared.rows.form.Form.{Form}
 use Rattle.link_base.specs.declared.rows.form.Form.TheVariants as forms
 use Rattle.link_base.specs.declared.rows.form.Width.{Width}
-use Rattle.link_base.specs.declared.rows.form.Width.TheVariants.{Two, Four}
 use Rattle.link_base.specs.declared.rows.form.Order.TheVariants.{Little}
 use Rattle.link_base.specs.declared.rows.form.Role.TheVariants.{Plain}
 use Rattle.link_base.specs.declared.rows.label.Quantity.TheVariants as quantities
@@ -11,11 +10,11 @@ use Rattle.link_base.specs.declared.views.content.Content.{Content}
 use Rattle.link_base.specs.declared.views.content.Content.TheVariants as contents
 use Rattle.link_base.specs.Class.{extent, length_cause}
 use Rattle.link_base.specs.Payloads.{class_by}
-use Rattle.link_base.specs.Table.{One, label_at}
+use Rattle.link_base.specs.Table.{One, Label, label_with, label_at}
 use Rattle.link_base.specs.Borrowed.{Borrows, form_of, elements_at}
 use Rattle.netlink_packet_route.specs.declared.family.Family.{Family}
 use Rattle.netlink_packet_route.specs.Family.{table_of}
-use Rattle.link_show.specs.Value.{Label, form_in, names_of, content_text}
+use Rattle.link_show.specs.Value.{content_text}
 use Rattle.link_entries.specs.declared.entry.Entry.{Entry}
 use Rattle.link_entries.specs.declared.fields.Fields.{Fields}
 use Rattle.link_entries.specs.declared.fields.Fields.TheVariants as fields
@@ -33,7 +32,7 @@ use Rattle.nlroute_ffi.specs.Writing.{refusal_for}
 
 -- with another form
 abbrev pub with_form : Form → Label → Label
-with_form form label = (label.0, label.1, form, label.3)
+with_form form label = record label { form = form }
 
 -- the form of an address of n bytes
 abbrev pub address_form : ℕ → Form
@@ -46,15 +45,14 @@ number_form w = forms.Number w Little Plain
 -- of an element of a list of this form: a number and an address have the label of their list, with their own form; of an
 -- element of a nested list it is `own`
 abbrev pub element_by : Form → Label → Option Label → Result (Option Label) Misfit
-element_by forms.U16s list own = Ok (Some (with_form (number_form Two) list))
-element_by forms.U32s list own = Ok (Some (with_form (number_form Four) list))
+element_by (forms.Numbers w) list own = Ok (Some (with_form (number_form w) list))
 element_by (forms.Addresses n) list own = Ok (Some (with_form (address_form n) list))
 element_by (forms.List flagged) list own = Ok own
 element_by form list own = Err BadElement
 
 abbrev pub element_label : Option Label → Option Label → Result (Option Label) Misfit
 element_label None own = Err BadElement
-element_label (Some list) own = element_by (form_in list) list own
+element_label (Some list) own = element_by list.form list own
 
 -- of an attribute, or of its element
 abbrev pub own_label : Family → Entry → Result (Option Label) Misfit
@@ -65,7 +63,7 @@ own_label family e =
 
 -- which fields make its payload
 abbrev pub fields_for : Option Label → Fields
-fields_for label = fields_in (option_map form_in label)
+fields_for label = fields_in (option_map (λ (l : Label). l.form) label)
 
 -- ---- payloads
 
@@ -97,8 +95,7 @@ Shows own e octets s = (p : List ℕ) × (payload_of own e octets ≡ Ok p) × (
 
 -- whether a value of this form is a list: its elements are values of their own
 abbrev pub has_elements : Form → Bool
-has_elements forms.U16s = true
-has_elements forms.U32s = true
+has_elements (forms.Numbers w) = true
 has_elements (forms.Addresses n) = true
 has_elements (forms.List flagged) = true
 has_elements form = false
@@ -106,22 +103,22 @@ has_elements form = false
 -- a payload of n bytes has a length that the form of the label accepts
 abbrev pub HasSize : Option Label → ℕ → Type 0
 HasSize None n = Unit {0}
-HasSize (Some label) n = has_elements (form_in label) ≡ false → length_cause (extent (class_by (form_in label) [])) n ≡ None
+HasSize (Some label) n = has_elements label.form ≡ false → length_cause (extent (class_by label.form [])) n ≡ None
 
 -- the content of a payload of this label: of a list it is nothing, and without a row the payload
 abbrev pub IsContentBy : Bool → Label → List ℕ → Content → Type 0
 IsContentBy true label p content = content ≡ contents.Nothing
-IsContentBy false label p content = Borrows (Some (One (class_by (form_in label) (names_of label)))) p content × (form_of content ≡ Some (form_in label))
+IsContentBy false label p content = Borrows (Some (One (class_by label.form label.names))) p content × (form_of content ≡ Some label.form)
 
 abbrev pub IsContent : Option Label → List ℕ → Content → Type 0
 IsContent None p content = Borrows None p content
-IsContent (Some label) p content = IsContentBy (has_elements (form_in label)) label p content
+IsContent (Some label) p content = IsContentBy (has_elements label.form) label p content
 
 -- ---- texts
 
 -- what is known of a type without a row: the text depends on the content only
 abbrev pub plain_label : Label
-plain_label = ([], quantities.Number, forms.Nothing, [])
+plain_label = label_with [] quantities.Number [] forms.Nothing [] []
 
 abbrev pub label_or_plain : Option Label → Label
 label_or_plain None = plain_label

@@ -11,13 +11,14 @@ ghost use Rattle.link_base.specs.declared.rows.form.Order.{Order};
 ghost use Rattle.link_base.specs.declared.rows.form.Role.TheVariants as roles;
 ghost use Rattle.link_base.specs.declared.names.vlan_protocol.VlanProtocol.{VlanProtocol};
 ghost use Rattle.link_base.specs.Borrowed.{elements_at};
-ghost use Rattle.link_base.specs.Number.{IsBytes};
+ghost use Rattle.link_base.specs.Forms.{bytes_in};
+ghost use Rattle.link_base.specs.Number.{IsBytes, bound};
 ghost use Rattle.link_base.specs.Protocol.{protocol_number};
-ghost use Rattle.link_base.specs.Table.{Table, Gives, form_at};
+ghost use Rattle.link_base.specs.Table.{Table, Label, Gives, form_at};
 ghost use Rattle.link_base.specs.Wire.{FirstFault};
 ghost use Rattle.link_show.specs.Flags.{flags_text};
 ghost use Rattle.link_show.specs.Text.{hex_number};
-ghost use Rattle.link_show.specs.Value.{Label, form_in, content_text};
+ghost use Rattle.link_show.specs.Value.{content_text};
 ghost use Rattle.netlink_packet_route.specs.declared.family.Family.{Family};
 ghost use Rattle.netlink_packet_route.specs.Family.{table_of};
 ghost use Rattle.link_entries.specs.declared.entry.Entry.{Entry};
@@ -75,13 +76,13 @@ pub fn first_errors()
 /// States that a number has the name that `link_show` writes before it: of an enum, or a VLAN protocol.
 pub fn names_of_numbers()
     ensures enums { (label : Label) (n : ℕ) (width : Width) (order : Order)
-        → form_in label ≡ forms.Number width order roles.Enum
+        → label.form ≡ forms.Number width order roles.Enum
         → IsWithName (number_name (Some label) n) (decimal n) (content_text label (contents.Number n width order roles.Enum)) }
     ensures coded { (label : Label) (n : ℕ) (width : Width) (order : Order)
-        → form_in label ≡ forms.Number width order roles.Coded
+        → label.form ≡ forms.Number width order roles.Coded
         → IsWithName (number_name (Some label) n) (decimal n) (content_text label (contents.Number n width order roles.Coded)) }
     ensures protocols { (family : Family) (e : Entry) (label : Label) (p : VlanProtocol) → label_for family e ≡ Some label
-        → form_in label ≡ forms.Protocol
+        → label.form ≡ forms.Protocol
         → IsWithName (number_name (Some label) (protocol_number p)) (hex_number (protocol_number p))
         (content_text label (contents.Protocol p)) }
 {}
@@ -90,7 +91,7 @@ pub fn names_of_numbers()
 pub fn names_of_bits()
     ensures { (family : Family) (e : Entry) (label : Label) (bit width : ℕ) → label_for family e ≡ Some label → bit < 64
         → IsByName (flag_name (Some label) bit) (hex_number (2 ^ bit))
-        (flags_text (bit_names_by (form_in label) label) width (2 ^ bit)) }
+        (flags_text (bit_names_by label.form label) width (2 ^ bit)) }
 {}
 
 /// States that the entry of each attribute of a list, and that of each element of a nested list, an array or a list of
@@ -101,10 +102,9 @@ pub fn entries_have_texts()
     ensures elements { (family : Family) (list : List ℕ) (kind offset : ℕ) (flagged : Bool) (b : NlaBuffer) (e : Entry)
         → IsBytes list → form_at (table_of family) kind ≡ Some (forms.List flagged) → IsAt list offset b
         → IsElement (elements_at (table_of family) kind) kind offset b e → HasText family list e }
-    ensures shorts { (family : Family) (list : List ℕ) (kind at i n : ℕ) → form_at (table_of family) kind ≡ Some forms.U16s
-        → n < 2 ^ 16 → HasText family list (number_entry kind at 2 i n) }
-    ensures words { (family : Family) (list : List ℕ) (kind at i n : ℕ) → form_at (table_of family) kind ≡ Some forms.U32s
-        → n < 2 ^ 32 → HasText family list (number_entry kind at 4 i n) }
+    ensures numbers { (family : Family) (list : List ℕ) (width : Width) (kind at i n : ℕ)
+        → form_at (table_of family) kind ≡ Some (forms.Numbers width) → n < bound (bytes_in width)
+        → HasText family list (number_entry kind at (bytes_in width) i n) }
     ensures addresses { (family : Family) (list : List ℕ) (kind i offset : ℕ) (octets : List ℕ)
         → form_at (table_of family) kind ≡ Some (forms.Addresses (length octets))
         → HasText family list (address_entry kind i offset octets) }

@@ -111,7 +111,7 @@ fn has_indices(form: Form) -> bool
     ensures { result ≡ has_indices form }
 {
     match form {
-        Form::Addresses { .. } | Form::U16s | Form::U32s => true,
+        Form::Addresses { .. } | Form::Numbers(_) => true,
         _ => false,
     }
 }

@@ -29,9 +29,11 @@ use netlink_packet_route::{Family, FamilyElements, FamilySet};
 /// What is known of a type without a row.
 const PLAIN: KindLabel = KindLabel {
     name: "",
+    prefix: "",
     quantity: Quantity::Number,
     form: Form::Nothing,
     names: &[],
+    fields: &[],
 };
 
 /// The text of a value: what is known of its type, and the content of its payload.
@@ -110,8 +112,7 @@ fn element_label(
         return Err(Misfit::BadElement);
     };
     match list.form {
-        Form::U16s => Ok(Some(number_label(list, Width::Two))),
-        Form::U32s => Ok(Some(number_label(list, Width::Four))),
+        Form::Numbers(width) => Ok(Some(number_label(list, width))),
         Form::Addresses { size } => Ok(Some(with_form(list, address_form(size)))),
         Form::List { .. } => {
             let elements = FamilyElements {
@@ -258,7 +259,7 @@ fn has_elements(form: Form) -> bool
     ensures { result ≡ has_elements form }
 {
     match form {
-        Form::U16s | Form::U32s | Form::Addresses { .. } | Form::List { .. } => true,
+        Form::Numbers(_) | Form::Addresses { .. } | Form::List { .. } => true,
         _ => false,
     }
 }

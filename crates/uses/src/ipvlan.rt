@@ -31,6 +31,7 @@ pub enum InfoIpvlan {
 macro_rules! rows {
     ($call:ident($($argument:tt)*)) => {
         link_base::by_rows! { $call($($argument)*)
+            "IFLA_IPVLAN_";
             IFLA_IPVLAN_MODE = 1, Mode: u16;
             IFLA_IPVLAN_FLAGS = 2, Flags: u16 as Mask;
         }

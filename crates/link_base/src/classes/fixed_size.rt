@@ -2,7 +2,7 @@
 
 ghost use Rattle.std.specs.Prelude.{◌≡◌, ℕ, List, [], None, Some, true, length};
 ghost use Rattle.link_base.specs.declared.rows.form.Form.{Form};
-ghost use Rattle.link_base.specs.Class.{Value, IsInRange, extent, length_cause, meant, written};
+ghost use Rattle.link_base.specs.Class.{Value, IsInRange, extent, length_cause, meant, size_of, written};
 ghost use Rattle.link_base.specs.Payloads.{class_by, is_fixed};
 ghost use Rattle.link_base.specs.Table.{One, Single};
 ghost use Rattle.link_base.specs.Labels.{names_in};
@@ -10,6 +10,7 @@ ghost use Rattle.link_base.specs.Labels.{names_in};
 use crate::classes::payload_class::PayloadClass;
 use crate::lists::canonical::is_fixed;
 use crate::rows::default_nla::DefaultNla;
+use crate::rows::fields::Field;
 use crate::rows::form::Form;
 use crate::rows::label::Name;
 use crate::wire::buffer::NlaBuffer;
@@ -46,7 +47,8 @@ pub trait FixedSize {
 
     /// Returns the length of the written payload in bytes.
     fn len(value: &Self::Value) -> usize
-        ensures { result ≡ length (written (Self.told value.now)) };
+        ensures written { result ≡ length (written (Self.told value.now)) }
+        ensures size { result ≡ size_of (extent (class_by Self.FORM Self.names)) };
 
     /// Writes the payload. `buffer` must be exactly `len(value)` bytes long.
     fn store(value: &Self::Value, buffer: &mut [u8])
@@ -75,6 +77,11 @@ impl<F: FixedSize> PayloadClass for F {
     #[inline]
     fn names() -> &'static [Name] {
         <F as FixedSize>::names()
+    }
+
+    #[inline]
+    fn fields() -> &'static [Field] {
+        &[]
     }
 
     #[inline]

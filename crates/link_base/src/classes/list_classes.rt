@@ -2,7 +2,8 @@
 
 ghost use Rattle.std.specs.Prelude.{refl, map};
 ghost use Rattle.link_base.specs.Class.{Bytes, Many, Raw};
-ghost use Rattle.link_base.specs.Layout.{octets_of};
+ghost use Rattle.link_base.specs.Forms.{bytes_in};
+ghost use Rattle.link_base.specs.Layout.{octets_by};
 ghost use Rattle.link_base.specs.Table.{One, Single, Addresses, Listed, Nested, Inner};
 ghost use Rattle.link_base.specs.declared.rows.form.Form.TheVariants as forms;
 
@@ -10,9 +11,11 @@ use crate::classes::address_list::{Address, addresses_len, emit_addresses, read_
 use crate::classes::lengths::{Lengths, check_numbers};
 use crate::classes::number_lists::{emit_numbers, numbers_len, parse_numbers};
 use crate::classes::payload_class::PayloadClass;
+use crate::classes::word::Word;
 use crate::lists::canonical::{are_numbers, is_address_list, is_bytes, is_nested};
 use crate::lists::checking::{check_elements, check_nested};
 use crate::rows::default_nla::DefaultNla;
+use crate::rows::fields::Field;
 use crate::rows::form::Form;
 use crate::rows::label::Name;
 use crate::rows::nested::{NestedAttribute, emit_nested, nested_len, read_nested};
@@ -39,6 +42,11 @@ impl PayloadClass for Vec<u8> {
 
     #[inline]
     fn names() -> &'static [Name] {
+        &[]
+    }
+
+    #[inline]
+    fn fields() -> &'static [Field] {
         &[]
     }
 
@@ -73,18 +81,27 @@ impl PayloadClass for Vec<u8> {
     }
 }
 
-impl PayloadClass for Vec<u16> {
-    type Value = Vec<u16>;
+/// A number of which arrays are payloads: `Vec<u16>`, `Vec<u32>` and `Vec<u64>` are classes. Those of `u8` are bytes.
+pub trait ArrayWord: Word {}
+
+impl ArrayWord for u16 {}
+
+impl ArrayWord for u32 {}
+
+impl ArrayWord for u64 {}
+
+impl<W: ArrayWord> PayloadClass for Vec<W> {
+    type Value = Vec<W>;
 
     type Element = DefaultNla;
 
-    const FORM: Form = Form::U16s;
+    const FORM: Form = Form::Numbers(W::WIDTH);
 
-    ghost FORM = { forms.U16s };
+    ghost FORM = { forms.Numbers W.WIDTH };
 
-    ghost shape = { One (Many 2) };
+    ghost shape = { One (Many (bytes_in W.WIDTH)) };
 
-    ghost content = { λ numbers. Single (Raw (octets_of 2 numbers.items)) };
+    ghost content = { λ numbers. Single (Raw (octets_by (bytes_in W.WIDTH) W.value numbers.items)) };
 
     fn elements() {}
 
@@ -94,85 +111,38 @@ impl PayloadClass for Vec<u16> {
     }
 
     #[inline]
-    fn read(alloc: Global, _kind: u16, payload: &[u8]) -> Result<Vec<u16>, DecodeError> {
-        parse_numbers(alloc, payload)
-    }
-
-    #[inline]
-    fn check(kind: u16, payload: &[u8]) -> Result<(), DecodeFault> {
-        check_numbers(kind, payload, 2)
-    }
-
-    #[inline]
-    fn size(numbers: &Vec<u16>) -> usize {
-        numbers_len(numbers)
-    }
-
-    #[inline]
-    #[tactic(auto, using(crate::proofs::Layouts::numbers_len))]
-    fn emit(numbers: &Vec<u16>, buffer: &mut [u8]) {
-        emit_numbers(buffer, numbers);
-    }
-
-    #[inline]
-    fn is_canonical(buffer: &NlaBuffer<'_>) -> bool {
-        are_numbers(buffer, 2)
-    }
-
-    #[inline]
-    fn try_clone(alloc: Global, numbers: &Vec<u16>) -> Result<Vec<u16>, AllocError> {
-        Vec::from_slice(alloc, numbers)
-    }
-}
-
-impl PayloadClass for Vec<u32> {
-    type Value = Vec<u32>;
-
-    type Element = DefaultNla;
-
-    const FORM: Form = Form::U32s;
-
-    ghost FORM = { forms.U32s };
-
-    ghost shape = { One (Many 4) };
-
-    ghost content = { λ numbers. Single (Raw (octets_of 4 numbers.items)) };
-
-    fn elements() {}
-
-    #[inline]
-    fn names() -> &'static [Name] {
+    fn fields() -> &'static [Field] {
         &[]
     }
 
     #[inline]
-    fn read(alloc: Global, _kind: u16, payload: &[u8]) -> Result<Vec<u32>, DecodeError> {
+    fn read(alloc: Global, _kind: u16, payload: &[u8]) -> Result<Vec<W>, DecodeError> {
         parse_numbers(alloc, payload)
     }
 
     #[inline]
     fn check(kind: u16, payload: &[u8]) -> Result<(), DecodeFault> {
-        check_numbers(kind, payload, 4)
+        check_numbers(kind, payload, W::WIDTH.size())
     }
 
     #[inline]
-    fn size(numbers: &Vec<u32>) -> usize {
+    fn size(numbers: &Vec<W>) -> usize {
         numbers_len(numbers)
     }
 
     #[inline]
-    #[tactic(auto, using(crate::proofs::Layouts::numbers_len))]
-    fn emit(numbers: &Vec<u32>, buffer: &mut [u8]) {
+    #[tactic(auto, using(crate::proofs::Layouts::values_len))]
+    fn emit(numbers: &Vec<W>, buffer: &mut [u8]) {
         emit_numbers(buffer, numbers);
     }
 
     #[inline]
     fn is_canonical(buffer: &NlaBuffer<'_>) -> bool {
-        are_numbers(buffer, 4)
+        are_numbers(buffer, W::WIDTH.size())
     }
 
     #[inline]
-    fn try_clone(alloc: Global, numbers: &Vec<u32>) -> Result<Vec<u32>, AllocError> {
+    fn try_clone(alloc: Global, numbers: &Vec<W>) -> Result<Vec<W>, AllocError> {
         Vec::from_slice(alloc, numbers)
     }
 }
@@ -199,6 +169,11 @@ impl<A: Address + Eq + Drop> PayloadClass for AddressList<A> {
 
     #[inline]
     fn names() -> &'static [Name] {
+        &[]
+    }
+
+    #[inline]
+    fn fields() -> &'static [Field] {
         &[]
     }
 
@@ -257,6 +232,11 @@ impl<E: NestedAttribute + TryClone> PayloadClass for NestedList<E> {
 
     #[inline]
     fn names() -> &'static [Name] {
+        &[]
+    }
+
+    #[inline]
+    fn fields() -> &'static [Field] {
         &[]
     }
 

@@ -13,9 +13,11 @@ ghost use Rattle.link_base.specs.Buffer.{IsCanonicalAs};
 ghost use Rattle.link_base.specs.Answers.{Answers, OnMemory, capped, under_kind};
 ghost use Rattle.link_base.specs.Checked.{Checks};
 ghost use Rattle.link_base.specs.Borrowed.{elements_by};
-ghost use Rattle.link_base.specs.Labels.{names_in};
+ghost use Rattle.link_base.specs.Fields.{FieldRow};
+ghost use Rattle.link_base.specs.Labels.{names_in, field_rows};
 
 use crate::rows::attribute::Attribute;
+use crate::rows::fields::Field;
 use crate::rows::form::Form;
 use crate::rows::label::Name;
 use crate::wire::buffer::NlaBuffer;
@@ -41,6 +43,9 @@ pub trait PayloadClass {
     /// The names of numbers or of bits, each with its number.
     ghost names: { List (ℕ × List ℕ) } = { [] };
 
+    /// The fields of a struct.
+    ghost fields: { List FieldRow } = { [] };
+
     /// The content that a value represents.
     ghost content: { Self.Value → Content };
 
@@ -51,6 +56,10 @@ pub trait PayloadClass {
     /// Returns the names of the numbers of an enum, or of the bits of a set of flags.
     fn names() -> &'static [Name]
         ensures { names_in result.now ≡ Self.names };
+
+    /// Returns the fields of a struct that are shown.
+    fn fields() -> &'static [Field]
+        ensures { field_rows result.now ≡ Self.fields };
 
     /// Parses the payload of an attribute of type `kind`.
     ///

@@ -1,19 +1,20 @@
 //! Fixed-layout structs as payloads.
 
-ghost use Rattle.std.specs.Prelude.{◌≡◌, ℕ, List, [], length, take, IfOk};
-ghost use Rattle.link_base.specs.Class.{Octets, Raw, accepted, size_of};
+ghost use Rattle.std.specs.Prelude.{◌≡◌, ◌≤◌, ℕ, List, [], None, true, length};
+ghost use Rattle.link_base.specs.Number.{IsBytes};
+ghost use Rattle.link_base.specs.Class.{Class, Octets, Raw, Value, length_cause, meant, size_of};
 ghost use Rattle.link_base.specs.Table.{One, Single};
-ghost use Rattle.link_base.specs.Held.{IsOctets};
-ghost use Rattle.link_base.specs.Answers.{payload_result};
 ghost use Rattle.link_base.specs.Forms.{layout_extent};
-ghost use Rattle.link_base.specs.Fields.{PartValue, held_by};
-ghost use Rattle.link_base.specs.Labels.{names_in};
+ghost use Rattle.link_base.specs.Fields.{FieldRow};
+ghost use Rattle.link_base.specs.Structs.{ArePlaced, is_whole, packed, total, values_along};
+ghost use Rattle.link_base.specs.Labels.{names_in, field_rows};
 ghost use Rattle.link_base.specs.declared.rows.form.Layout.{Layout};
 ghost use Rattle.link_base.specs.declared.rows.form.Form.TheVariants as forms;
 
 use crate::classes::payload_class::PayloadClass;
 use crate::lists::canonical::is_fixed;
 use crate::rows::default_nla::DefaultNla;
+use crate::rows::fields::Field;
 use crate::rows::form::{Form, Layout};
 use crate::rows::label::Name;
 use crate::wire::buffer::NlaBuffer;
@@ -21,9 +22,9 @@ use crate::wire::fault::{DecodeError, DecodeFault};
 use std::alloc::{AllocError, Global};
 use std::marker::PhantomData;
 
-/// A fixed-layout struct that is the payload of an attribute.
+/// A fixed-layout struct that is the payload of an attribute. `by_fields!` makes the bodies of `load`, `sized` and `store`.
 pub trait PayloadStruct: Copy + Eq + Drop {
-    /// Which struct it is.
+    /// The lengths of payloads that are accepted, and which struct it is, if it has a form of its own in C.
     const LAYOUT: Layout;
 
     ghost LAYOUT: { Layout };
@@ -31,45 +32,58 @@ pub trait PayloadStruct: Copy + Eq + Drop {
     /// The names of the bits of its flags, each with its number.
     ghost bit_names: { List (ℕ × List ℕ) } = { [] };
 
-    /// The value of an accepted payload, field by field.
-    ghost value_of: { List ℕ → Self };
+    /// The fields that are shown, in this order.
+    ghost fields: { List FieldRow };
 
-    /// The bytes of a value, in the order in which they are written.
-    ghost octets: { Self → List ℕ };
+    /// The classes of all fields, in the order in which they lie, with the padding.
+    ghost classes: { List Class };
 
-    /// What the fields of a value hold, in the order of `Form::fields`.
-    ghost held: { Self → List PartValue };
+    /// What each of these fields represents.
+    ghost held: { Self → List Value };
 
-    /// The fields of a decoded value hold what those of the payload hold.
-    ghost told: { (p : List ℕ) → held (value_of p) ≡ held_by (forms.Struct LAYOUT) p };
+    /// The fields fill the struct, and each is written as it was read.
+    ghost whole: { is_whole classes (size_of (layout_extent LAYOUT)) ≡ true };
+
+    /// The fields that are shown are fields of the struct.
+    ghost placed: { ArePlaced bit_names fields classes };
 
     /// Returns the names of the bits of its flags.
     fn names() -> &'static [Name]
         ensures { names_in result.now ≡ bit_names };
 
-    /// Parses a payload.
-    ///
-    /// # Errors
-    ///
-    /// `Payload` with the cause, if the length of the payload is not accepted.
-    fn parse_payload(payload: &[u8]) -> Result<Self, DecodeError>
-        ensures value { result ≡ payload_result (accepted (layout_extent LAYOUT) value_of payload.now) }
-        ensures octets { IfOk result (λ value. octets value ≡ take (size_of (layout_extent LAYOUT)) payload.now) };
+    /// Returns the fields that are shown.
+    fn fields() -> &'static [Field]
+        ensures { field_rows result.now ≡ Self.fields };
 
-    /// Returns the length of the written payload in bytes.
-    fn payload_len(&self) -> usize
-        ensures { result ≡ length (octets self.now) };
+    /// Returns the struct at the front of `bytes`.
+    fn load(bytes: &[u8]) -> Self
+        requires { total classes ≤ length bytes.now }
+        ensures { held result ≡ values_along classes bytes.now };
 
-    /// Writes the payload. `buffer` must be exactly `payload_len()` bytes long.
-    fn emit_payload(&self, buffer: &mut [u8])
-        requires { length buffer.old ≡ length (octets self.now) }
-        ensures written { buffer.new ≡ octets self.now }
-        ensures in_range { IsOctets (size_of (layout_extent LAYOUT)) (octets self.now) };
+    /// The written fields have as many bytes as their classes say. The contract is the fact.
+    fn sized(&self)
+        ensures { length (packed (held self.now)) ≡ total classes };
+
+    /// Writes the struct. `buffer` must be exactly as long as it is.
+    fn store(&self, buffer: &mut [u8])
+        requires { length buffer.old ≡ total classes }
+        ensures written { buffer.new ≡ packed (held self.now) }
+        ensures in_range { IsBytes (packed (held self.now)) };
 }
 
 /// The class of payloads that are a fixed-layout struct.
 pub struct Struct<S> {
     of: PhantomData<S>,
+}
+
+/// Returns the value of a payload, whose length must be accepted.
+#[inline(always)]
+pub(crate) fn load_struct<S: PayloadStruct>(payload: &[u8]) -> S
+    requires { length_cause (layout_extent S.LAYOUT) (length payload.now) ≡ None }
+    ensures held { S.held result ≡ values_along S.classes payload.now }
+    ensures bytes { Raw (packed (S.held result)) ≡ meant (Octets (layout_extent S.LAYOUT)) payload.now }
+{
+    S::load(payload)
 }
 
 impl<S: PayloadStruct> PayloadClass for Struct<S> {
@@ -85,7 +99,9 @@ impl<S: PayloadStruct> PayloadClass for Struct<S> {
 
     ghost names = { S.bit_names };
 
-    ghost content = { λ value. Single (Raw (S.octets value)) };
+    ghost fields = { S.fields };
+
+    ghost content = { λ value. Single (Raw (packed (S.held value))) };
 
     fn elements() {}
 
@@ -95,8 +111,16 @@ impl<S: PayloadStruct> PayloadClass for Struct<S> {
     }
 
     #[inline]
+    fn fields() -> &'static [Field] {
+        S::fields()
+    }
+
+    #[inline]
     fn read(_alloc: Global, _kind: u16, payload: &[u8]) -> Result<S, DecodeError> {
-        S::parse_payload(payload)
+        match S::LAYOUT.lengths().cause(payload.len()) {
+            None => Ok(load_struct::<S>(payload)),
+            Some(cause) => Err(DecodeError::Fault(DecodeFault::Payload(cause))),
+        }
     }
 
     #[inline]
@@ -106,12 +130,14 @@ impl<S: PayloadStruct> PayloadClass for Struct<S> {
 
     #[inline]
     fn size(value: &S) -> usize {
-        value.payload_len()
+        value.sized();
+        S::LAYOUT.lengths().kept()
     }
 
     #[inline]
     fn emit(value: &S, buffer: &mut [u8]) {
-        value.emit_payload(buffer);
+        value.sized();
+        value.store(buffer);
     }
 
     #[inline]

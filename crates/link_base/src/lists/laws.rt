@@ -19,7 +19,6 @@ ghost use Rattle.link_base.specs.declared.wire.fault.RewriteError.{RewriteError}
 ghost use Rattle.link_base.specs.declared.rows.label.Quantity.{Quantity};
 ghost use Rattle.link_base.specs.declared.classes.lengths.Lengths.{Lengths};
 ghost use Rattle.link_base.specs.declared.rows.fields.Field.{Field};
-ghost use Rattle.link_base.specs.declared.rows.fields.Part.{Part};
 ghost use Rattle.link_base.specs.declared.rows.form.Form.{Form};
 ghost use Rattle.link_base.specs.declared.rows.form.Layout.{Layout};
 ghost use Rattle.link_base.specs.declared.rows.form.Order.{Order};
@@ -27,8 +26,7 @@ ghost use Rattle.link_base.specs.declared.rows.form.Role.{Role};
 ghost use Rattle.link_base.specs.declared.rows.form.Width.{Width};
 ghost use Rattle.link_base.specs.declared.rows.label.Name.{Name};
 ghost use Rattle.link_base.specs.declared.rows.label.KindLabel.{KindLabel};
-ghost use Rattle.link_base.specs.Fields.{field_told};
-ghost use Rattle.link_base.specs.Labels.{named, label_of};
+ghost use Rattle.link_base.specs.Labels.{named, field_row, label_of};
 ghost use Rattle.link_base.specs.Buffer.{kind_field_of, payload_of};
 ghost use Rattle.link_base.specs.IteratorItems.{AreItems, IsCount, bytes_left};
 ghost use Rattle.link_base.specs.Number.{IsBytes};
@@ -45,7 +43,7 @@ ghost use Rattle.link_base.specs.FrameTableParts.{walked_bytes, offsets_of, faul
 
 use crate::classes::lengths::Lengths;
 use crate::rows::attribute::Attribute;
-use crate::rows::fields::{Field, Part};
+use crate::rows::fields::Field;
 use crate::rows::form::{Form, Layout, Order, Role, Width};
 use crate::rows::label::{KindLabel, Name, Quantity};
 use crate::wire::buffer::NlaBuffer;
@@ -129,26 +127,24 @@ pub fn error_equality()
     ensures too_long { (a b : TooLong) → IsTrue (⟦<TooLong as PartialEq>⟧.eq a b) ↔ (a ≡ b) }
 {}
 
-/// Two values of `Quantity`, or of `Form`, are equal if and only if they are identical; two `Name`s, if and only if they
-/// have the same number and the same text; two `KindLabel`s, if and only if they have the same name, quantity, form and
-/// names.
+/// Two `Quantity`s or `Form`s are equal if and only if they are identical; two `Name`s, if and only if they have the same
+/// number and the same text; two `Field`s, if and only if they have the same name, offset, quantity, form and names; two
+/// `KindLabel`s, if and only if they have the same name, prefix, quantity, form, names and fields.
 pub fn label_equality()
     ensures quantity { (a b : Quantity) → IsTrue (⟦<Quantity as PartialEq>⟧.eq a b) ↔ (a ≡ b) }
     ensures form { (a b : Form) → IsTrue (⟦<Form as PartialEq>⟧.eq a b) ↔ (a ≡ b) }
     ensures name { (a b : Name) → IsTrue (⟦<Name as PartialEq>⟧.eq a b) ↔ (named a ≡ named b) }
+    ensures field { (a b : Field) → IsTrue (⟦<Field as PartialEq>⟧.eq a b) ↔ (field_row a ≡ field_row b) }
     ensures label { (a b : KindLabel) → IsTrue (⟦<KindLabel as PartialEq>⟧.eq a b) ↔ (label_of a ≡ label_of b) }
 {}
 
-/// Two values of `Width`, `Order`, `Role`, `Lengths`, `Layout` or `Part` are equal if and only if they are identical; two
-/// `Field`s, if and only if they have the same name, offset and part.
+/// Two values of `Width`, `Order`, `Role`, `Lengths` or `Layout` are equal if and only if they are identical.
 pub fn layout_equality()
     ensures width { (a b : Width) → IsTrue (⟦<Width as PartialEq>⟧.eq a b) ↔ (a ≡ b) }
     ensures order { (a b : Order) → IsTrue (⟦<Order as PartialEq>⟧.eq a b) ↔ (a ≡ b) }
     ensures role { (a b : Role) → IsTrue (⟦<Role as PartialEq>⟧.eq a b) ↔ (a ≡ b) }
     ensures lengths { (a b : Lengths) → IsTrue (⟦<Lengths as PartialEq>⟧.eq a b) ↔ (a ≡ b) }
     ensures layout { (a b : Layout) → IsTrue (⟦<Layout as PartialEq>⟧.eq a b) ↔ (a ≡ b) }
-    ensures part { (a b : Part) → IsTrue (⟦<Part as PartialEq>⟧.eq a b) ↔ (a ≡ b) }
-    ensures field { (a b : Field) → IsTrue (⟦<Field as PartialEq>⟧.eq a b) ↔ (field_told a ≡ field_told b) }
 {}
 
 /// Two `NlaBuffer`s are equal if and only if they have the same `nla_type` and the same payload; two `NlasIterator`s,

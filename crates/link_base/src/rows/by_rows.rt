@@ -22,6 +22,17 @@ use crate::wire::buffer::NlaBuffer;
 use crate::wire::fault::{DecodeError, DecodeFault};
 use std::alloc::{AllocError, Global};
 
+/// What a row says besides the class of its payloads.
+#[derive(Clone, Copy)]
+pub struct RowHead {
+    /// The constant in the kernel's headers.
+    pub name: &'static str,
+    /// What the constants of all rows of the list begin with, such as `IFLA_BR_`.
+    pub prefix: &'static str,
+    /// What the numbers count.
+    pub quantity: Quantity,
+}
+
 /// What is done for an attribute type, by its row.
 pub trait RowVisitor<F: Meaning>: Sized {
     /// The result.
@@ -34,8 +45,9 @@ pub trait RowVisitor<F: Meaning>: Sized {
     ghost answers: { Self → ℕ → Self.Output → Type 0 };
 
     /// The attribute type has a row. `C` is the class of its payloads.
-    fn row<C: PayloadClass>(self, kind: u16, name: &'static str, quantity: Quantity) -> Self::Output
-        requires row { row_at F.table kind ≡ Some (row_of quantity kind name.now C.FORM C.names C.shape) }
+    fn row<C: PayloadClass>(self, kind: u16, head: RowHead) -> Self::Output
+        requires row { row_at F.table kind
+            ≡ Some (row_of head.prefix.now head.quantity kind head.name.now C.FORM C.names C.fields C.shape) }
         requires asks { asks self kind }
         ensures { answers self kind result };
 
@@ -159,7 +171,8 @@ pub fn clone_row<C: PayloadClass, F: Meaning + PartialEq, M: FnOnce(C::Value) ->
     Ok(variant(copy))
 }
 
-/// The functions of an attribute set, over its rows. A row is
+/// The functions of an attribute set, over its rows. Before them stands what the names of all begin with, such as
+/// `"IFLA_BR_";`: documents leave it out. A row is
 /// `NAME = TYPE, VARIANT: CLASS;`, with the kernel's name of the attribute type, its number, the variant that holds its
 /// value, and the class of its payloads (`PayloadClass`). `TYPE | NLA_F_NESTED` is a number that is written with the
 /// nested flag. `CLASS as QUANTITY` says what the numbers of a row count (`Quantity`). The row of a variant with several
@@ -170,20 +183,20 @@ pub fn clone_row<C: PayloadClass, F: Meaning + PartialEq, M: FnOnce(C::Value) ->
 /// `visit(kind, visitor)` and `clone(self, alloc)`.
 #[macro_export]
 macro_rules! by_rows {
-    (kind($self:expr) $($name:ident = $kind:literal $(| $flag:ident)?, $variant:ident $(($($field:ident),+))? $(: $class:ty $(as $quantity:ident)?)?;)*) => {
+    (kind($self:expr) $prefix:literal; $($name:ident = $kind:literal $(| $flag:ident)?, $variant:ident $(($($field:ident),+))? $(: $class:ty $(as $quantity:ident)?)?;)*) => {
         match $self {
             $($crate::row_pattern!($variant $(($($field),+))?, _value $(, $class)?) => $kind $(| $crate::$flag)?,)*
             Self::Other(other) => $crate::Nla::kind(other),
         }
     };
-    (size($self:expr) $($name:ident = $kind:literal $(| $flag:ident)?, $variant:ident $(($($field:ident),+))? $(: $class:ty $(as $quantity:ident)?)?;)*) => {
+    (size($self:expr) $prefix:literal; $($name:ident = $kind:literal $(| $flag:ident)?, $variant:ident $(($($field:ident),+))? $(: $class:ty $(as $quantity:ident)?)?;)*) => {
         match $self {
             $($crate::row_pattern!($variant $(($($field),+))?, value $(, $class)?) =>
                 <$crate::row_class!($($class)?) as $crate::PayloadClass>::size($crate::row_value!($variant $(($($field),+))?, value $(, $class)?)),)*
             Self::Other(other) => $crate::Nla::value_len(other),
         }
     };
-    (emit($self:expr, $buffer:expr) $($name:ident = $kind:literal $(| $flag:ident)?, $variant:ident $(($($field:ident),+))? $(: $class:ty $(as $quantity:ident)?)?;)*) => {
+    (emit($self:expr, $buffer:expr) $prefix:literal; $($name:ident = $kind:literal $(| $flag:ident)?, $variant:ident $(($($field:ident),+))? $(: $class:ty $(as $quantity:ident)?)?;)*) => {
         match $self {
             $($crate::row_pattern!($variant $(($($field),+))?, value $(, $class)?) =>
                 $crate::rows::by_rows::emit_row::<$crate::row_class!($($class)?), Self>(
@@ -192,7 +205,7 @@ macro_rules! by_rows {
             Self::Other(other) => $crate::Nla::emit_value(other, $buffer),
         }
     };
-    (read($alloc:expr, $buffer:expr, $place:expr) $($name:ident = $kind:literal $(| $flag:ident)?, $variant:ident $(($($field:ident),+))? $(: $class:ty $(as $quantity:ident)?)?;)*) => {
+    (read($alloc:expr, $buffer:expr, $place:expr) $prefix:literal; $($name:ident = $kind:literal $(| $flag:ident)?, $variant:ident $(($($field:ident),+))? $(: $class:ty $(as $quantity:ident)?)?;)*) => {
         match $buffer.kind() {
             $($kind => $crate::rows::by_rows::read_row::<$crate::row_class!($($class)?), Self, _, _>(
                 $alloc, $kind, $buffer, $place, $crate::row_variant!($variant $(($($field),+))? $(, $class)?),
@@ -203,15 +216,19 @@ macro_rules! by_rows {
             ),
         }
     };
-    (visit($type:expr, $visitor:expr) $($name:ident = $kind:literal $(| $flag:ident)?, $variant:ident $(($($field:ident),+))? $(: $class:ty $(as $quantity:ident)?)?;)*) => {
+    (visit($type:expr, $visitor:expr) $prefix:literal; $($name:ident = $kind:literal $(| $flag:ident)?, $variant:ident $(($($field:ident),+))? $(: $class:ty $(as $quantity:ident)?)?;)*) => {
         match $type {
             $($kind => $visitor.row::<$crate::row_class!($($class)?)>(
-                $type, stringify!($name), $crate::row_quantity!($($($quantity)?)?),
+                $type, $crate::rows::by_rows::RowHead {
+                    name: stringify!($name),
+                    prefix: $prefix,
+                    quantity: $crate::row_quantity!($($($quantity)?)?),
+                },
             ),)*
             _ => $visitor.other($type),
         }
     };
-    (clone($self:expr, $alloc:expr) $($name:ident = $kind:literal $(| $flag:ident)?, $variant:ident $(($($field:ident),+))? $(: $class:ty $(as $quantity:ident)?)?;)*) => {
+    (clone($self:expr, $alloc:expr) $prefix:literal; $($name:ident = $kind:literal $(| $flag:ident)?, $variant:ident $(($($field:ident),+))? $(: $class:ty $(as $quantity:ident)?)?;)*) => {
         match $self {
             $($crate::row_pattern!($variant $(($($field),+))?, value $(, $class)?) =>
                 $crate::rows::by_rows::clone_row::<$crate::row_class!($($class)?), Self, _>(

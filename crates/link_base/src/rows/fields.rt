@@ -1,22 +1,7 @@
-//! What the fields of structs are.
+//! Fields of fixed-layout structs.
 
-use crate::rows::form::Width;
-use crate::rows::label::Quantity;
-
-/// What a field of a struct is.
-#[derive(Clone, Copy, Debug, PartialEq, Eq)]
-pub enum Part {
-    /// A little-endian unsigned number, and what it counts.
-    Number { width: Width, quantity: Quantity },
-    /// An unsigned number in network byte order.
-    BigEndian { width: Width },
-    /// A set of flags. The names of its bits are those of the row.
-    Flags { width: Width },
-    /// A hardware address.
-    Mac,
-    /// A name: the bytes before the first NUL of `size` bytes, or all of them if there is none.
-    Name { size: usize },
-}
+use crate::rows::form::Form;
+use crate::rows::label::{Name, Quantity};
 
 /// A field of a struct.
 #[derive(Clone, Copy, Debug, PartialEq, Eq)]
@@ -25,6 +10,96 @@ pub struct Field {
     pub name: &'static str,
     /// Where the field starts, in bytes from the start of the struct.
     pub offset: usize,
-    /// What it is.
-    pub part: Part,
+    /// What its number counts.
+    pub quantity: Quantity,
+    /// The form of its value, which has one size.
+    pub form: Form,
+    /// The names of its number, or of its bits. If there are none, those of the struct's row are meant.
+    pub names: &'static [Name],
+}
+
+/// The fields of a struct that are shown. A field is `"NAME" = OFFSET, FORM;`, where `FORM` is a word of `field_form!`, and
+/// `FORM as QUANTITY` says what its number counts (`Quantity`). `FORM, NAMES` gives the field names of its own, which must
+/// be a constant.
+#[macro_export]
+macro_rules! fields {
+    ($($name:literal = $offset:literal, $form:ident $(as $quantity:ident)? $(, $names:expr)?;)*) => {
+        &[$($crate::rows::fields::Field {
+            name: $name,
+            offset: $offset,
+            quantity: $crate::row_quantity!($($quantity)?),
+            form: $crate::field_form!($form),
+            names: $crate::field_names!($($names)?),
+        },)*]
+    };
+}
+
+/// The form of a field, by the word that stands for it in the tables of specs/.
+#[macro_export]
+macro_rules! field_form {
+    (u8) => {
+        $crate::number_form!(One Little Plain)
+    };
+    (u16) => {
+        $crate::number_form!(Two Little Plain)
+    };
+    (u32) => {
+        $crate::number_form!(Four Little Plain)
+    };
+    (u64) => {
+        $crate::number_form!(Eight Little Plain)
+    };
+    (u16_be) => {
+        $crate::number_form!(Two Big Plain)
+    };
+    (u32_be) => {
+        $crate::number_form!(Four Big Plain)
+    };
+    (u64_be) => {
+        $crate::number_form!(Eight Big Plain)
+    };
+    (u8_coded) => {
+        $crate::number_form!(One Little Coded)
+    };
+    (u16_coded) => {
+        $crate::number_form!(Two Little Coded)
+    };
+    (u32_coded) => {
+        $crate::number_form!(Four Little Coded)
+    };
+    (u16_flags) => {
+        $crate::number_form!(Two Little Flags)
+    };
+    (u32_flags) => {
+        $crate::number_form!(Four Little Flags)
+    };
+    (i32) => {
+        $crate::rows::form::Form::Signed
+    };
+    (mac) => {
+        $crate::rows::form::Form::Mac
+    };
+}
+
+/// The form of a number.
+#[macro_export]
+macro_rules! number_form {
+    ($width:ident $order:ident $role:ident) => {
+        $crate::rows::form::Form::Number {
+            width: $crate::rows::form::Width::$width,
+            order: $crate::rows::form::Order::$order,
+            role: $crate::rows::form::Role::$role,
+        }
+    };
+}
+
+/// The names of a field: none if its row gives none.
+#[macro_export]
+macro_rules! field_names {
+    ($names:expr) => {
+        $names
+    };
+    () => {
+        &[]
+    };
 }

@@ -1,55 +1,10 @@
-//! Forms of values: what the bytes of a payload mean, and the fields of structs.
+//! Forms of values: what the bytes of a payload mean.
 
 ghost use Rattle.std.specs.Prelude.{◌≡◌, ◌<◌, ◌≤◌, ◌-◌};
 ghost use Rattle.link_base.specs.Number.{bound};
-ghost use Rattle.link_base.specs.Fields.{fields_in};
-ghost use Rattle.link_base.specs.Forms.{bytes_in, extent_of, fields_of, layout_extent};
-ghost use Rattle.link_base.specs.declared.rows.form.Form.TheVariants as forms;
+ghost use Rattle.link_base.specs.Forms.{bytes_in, extent_of, layout_extent};
 
 use crate::classes::lengths::Lengths;
-use crate::rows::fields::{Field, Part};
-use crate::rows::label::Quantity;
-
-/// A field that is a number of four bytes, and counts this.
-macro_rules! number {
-    ($name:literal $offset:literal $quantity:ident) => {
-        Field {
-            name: $name,
-            offset: $offset,
-            part: Part::Number {
-                width: Width::Four,
-                quantity: Quantity::$quantity,
-            },
-        }
-    };
-}
-
-/// A field that is a number of two bytes.
-macro_rules! short {
-    ($name:literal $offset:literal) => {
-        Field {
-            name: $name,
-            offset: $offset,
-            part: Part::Number {
-                width: Width::Two,
-                quantity: Quantity::Number,
-            },
-        }
-    };
-}
-
-/// A field that is a set of flags of this width.
-macro_rules! flags {
-    ($name:literal $offset:literal $width:ident) => {
-        Field {
-            name: $name,
-            offset: $offset,
-            part: Part::Flags {
-                width: Width::$width,
-            },
-        }
-    };
-}
 
 /// The width of a number.
 #[derive(Clone, Copy, Debug, PartialEq, Eq)]
@@ -116,7 +71,7 @@ pub enum Role {
     Flags,
 }
 
-/// A fixed-layout struct of the kernel's headers.
+/// A fixed-layout struct of the kernel's headers: which it is, if it has a form of its own in C.
 #[derive(Clone, Copy, Debug, PartialEq, Eq)]
 pub enum Layout {
     /// A bridge ID: the priority and the address (`struct ifla_bridge_id`, `include/uapi/linux/if_link.h`).
@@ -133,7 +88,7 @@ pub enum Layout {
     CtrlMode,
     /// Error counters (`struct can_berr_counter`, `include/uapi/linux/can/netlink.h`).
     BerrCounter,
-    /// Any other struct: what its fields are is not known.
+    /// Any other struct. In C it is bytes.
     Other(Lengths),
 }
 
@@ -190,10 +145,8 @@ pub enum Form {
     Bytes,
     /// A fixed-layout struct.
     Struct(Layout),
-    /// An array of `u16`s.
-    U16s,
-    /// An array of `u32`s.
-    U32s,
+    /// An array of little-endian unsigned numbers of this width, which is not `One`.
+    Numbers(Width),
     /// The limits of a CAN controller.
     Limits,
     /// A list of addresses of `size` bytes each.
@@ -207,14 +160,16 @@ pub enum Form {
 }
 
 impl Form {
-    ghost use Rattle.std.specs.Prelude.{ℕ, List, true};
-    ghost use Rattle.link_base.specs.Class.{extent};
+    ghost use Rattle.std.specs.Prelude.{ℕ, List, true, false};
+    ghost use Rattle.link_base.specs.Class.{AtLeast, extent};
     ghost use Rattle.link_base.specs.Payloads.{class_by, is_fixed};
+    ghost use Rattle.link_base.specs.Structs.{form_width};
 
-    /// Returns the lengths of the payloads that are accepted, of a form that is written with one size.
+    /// Returns the lengths of the payloads that are accepted, of a form that is written with one size; any lengths of another.
     #[inline(always)]
     pub const fn lengths(self) -> Lengths
-        ensures { (names : List (ℕ × List ℕ)) → is_fixed self ≡ true → extent_of result ≡ extent (class_by self names) }
+        ensures fixed { (names : List (ℕ × List ℕ)) → is_fixed self ≡ true → extent_of result ≡ extent (class_by self names) }
+        ensures other { is_fixed self ≡ false → extent_of result ≡ AtLeast 0 }
     {
         match self {
             Form::Bool => Lengths::Exactly(1),
@@ -229,66 +184,11 @@ impl Form {
         }
     }
 
-    /// Returns the fields, in the order in which they are printed; none of a form that is no struct, and of a struct whose
-    /// fields are not known.
-    pub fn fields(self) -> &'static [Field]
-        ensures { fields_in result.now ≡ fields_of self }
+    /// Returns how many bytes are written; 0 if the form has several sizes.
+    #[inline(always)]
+    pub fn width(self) -> usize
+        ensures { result ≡ form_width self }
     {
-        match self {
-            Form::Struct(layout) => layout_fields(layout),
-            Form::Pair => &[number!("from" 0 Number), number!("to" 4 Number)],
-            Form::Limits => &[
-                Field {
-                    name: "name",
-                    offset: 0,
-                    part: Part::Name { size: 16 },
-                },
-                number!("tseg1_min" 16 Number),
-                number!("tseg1_max" 20 Number),
-                number!("tseg2_min" 24 Number),
-                number!("tseg2_max" 28 Number),
-                number!("sjw_max" 32 Number),
-                number!("brp_min" 36 Number),
-                number!("brp_max" 40 Number),
-                number!("brp_inc" 44 Number),
-            ],
-            _ => &[],
-        }
-    }
-}
-
-/// Returns the fields of a struct, as `Form::fields`.
-fn layout_fields(layout: Layout) -> &'static [Field]
-    ensures { fields_in result.now ≡ fields_of (forms.Struct layout) }
-{
-    match layout {
-        Layout::BridgeId => &[
-            Field {
-                name: "prio",
-                offset: 0,
-                part: Part::BigEndian { width: Width::Two },
-            },
-            Field {
-                name: "addr",
-                offset: 2,
-                part: Part::Mac,
-            },
-        ],
-        Layout::VlanInfo => &[short!("vid" 2), flags!("flags" 0 Two)],
-        Layout::BooleanOptions => &[flags!("value" 0 Four), flags!("mask" 4 Four)],
-        Layout::BitTiming => &[
-            number!("bitrate" 0 BitsPerSecond),
-            number!("sample_point" 4 Number),
-            number!("tq" 8 Nanoseconds),
-            number!("prop_seg" 12 Number),
-            number!("phase_seg1" 16 Number),
-            number!("phase_seg2" 20 Number),
-            number!("sjw" 24 Number),
-            number!("brp" 28 Number),
-        ],
-        Layout::Clock => &[number!("freq" 0 Hertz)],
-        Layout::CtrlMode => &[flags!("mask" 0 Four), flags!("flags" 4 Four)],
-        Layout::BerrCounter => &[short!("txerr" 0), short!("rxerr" 2)],
-        Layout::Other(_) => &[],
+        self.lengths().kept()
     }
 }

@@ -1,9 +1,10 @@
-//! What is known of an attribute type besides its payloads: its name, what its numbers count, the form of its values, and
-//! the names of its numbers or bits.
+//! What is known of an attribute type besides its payloads: its name, what its numbers count, the form of its values, the
+//! names of its numbers or bits, and the fields of a struct.
 
 ghost use Rattle.std.specs.Prelude.{◌≡◌, option_map};
 ghost use Rattle.link_base.specs.Labels.{names_in, name_in};
 
+use crate::rows::fields::Field;
 use crate::rows::form::Form;
 
 /// What the number of an attribute counts, or what it is.
@@ -46,6 +47,8 @@ pub struct Name {
 pub struct KindLabel {
     /// The constant in the kernel's headers, such as `IFLA_BR_FORWARD_DELAY`.
     pub name: &'static str,
+    /// What the names of all attribute types of the list begin with, such as `IFLA_BR_`.
+    pub prefix: &'static str,
     /// What the number counts.
     pub quantity: Quantity,
     /// The form of the content.
@@ -53,6 +56,8 @@ pub struct KindLabel {
     /// The names of the enum's numbers, or of the bits of the sets of flags; none for other forms. Numbers and bits may
     /// have no name.
     pub names: &'static [Name],
+    /// The fields of a struct that are shown, in this order; none for other forms.
+    pub fields: &'static [Field],
 }
 
 impl KindLabel {

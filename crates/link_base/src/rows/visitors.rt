@@ -2,7 +2,7 @@
 
 ghost use Rattle.std.specs.Prelude.{◌≡◌, ◌↔◌, IsTrue, None, Some};
 ghost use Rattle.link_base.specs.Frame.{kind_of};
-ghost use Rattle.link_base.specs.Table.{Gives, Allows, label_at};
+ghost use Rattle.link_base.specs.Table.{Gives, Allows, label_at, label_with};
 ghost use Rattle.link_base.specs.Labels.{label_in, label_of};
 ghost use Rattle.link_base.specs.Buffer.{kind_field_of, payload_of};
 ghost use Rattle.link_base.specs.Checked.{Checks};
@@ -10,8 +10,8 @@ ghost use Rattle.link_base.specs.Borrowed.{elements_at};
 
 use crate::classes::payload_class::PayloadClass;
 use crate::rows::attribute::{Attribute, Meaning};
-use crate::rows::by_rows::RowVisitor;
-use crate::rows::label::{KindLabel, Quantity};
+use crate::rows::by_rows::{RowHead, RowVisitor};
+use crate::rows::label::KindLabel;
 use crate::wire::buffer::NlaBuffer;
 use crate::wire::fault::DecodeFault;
 
@@ -31,12 +31,7 @@ impl<'a, 'b, F: Meaning> RowVisitor<F> for Check<'a, 'b> {
         Checks (Gives F.table (kind_field_of visitor.buffer.now) (payload_of visitor.buffer.now)) result };
 
     #[inline(always)]
-    fn row<C: PayloadClass>(
-        self,
-        kind: u16,
-        _name: &'static str,
-        _quantity: Quantity,
-    ) -> Result<(), DecodeFault> {
+    fn row<C: PayloadClass>(self, kind: u16, _head: RowHead) -> Result<(), DecodeFault> {
         C::check(kind, self.buffer.value())
     }
 
@@ -59,13 +54,8 @@ impl<F: Meaning> RowVisitor<F> for Label {
 
     #[inline(always)]
     #[tactic(auto, using(crate::proofs::Entries::label_of_row))]
-    fn row<C: PayloadClass>(
-        self,
-        _kind: u16,
-        name: &'static str,
-        quantity: Quantity,
-    ) -> Option<KindLabel> {
-        Some(label_row::<C>(name, quantity))
+    fn row<C: PayloadClass>(self, _kind: u16, head: RowHead) -> Option<KindLabel> {
+        Some(label_row::<C>(head))
     }
 
     #[inline(always)]
@@ -75,16 +65,18 @@ impl<F: Meaning> RowVisitor<F> for Label {
     }
 }
 
-/// Returns what is known of an attribute type with this name, whose row has the class `C`.
+/// Returns what is known of an attribute type whose row has the class `C`.
 #[inline(always)]
-fn label_row<C: PayloadClass>(name: &'static str, quantity: Quantity) -> KindLabel
-    ensures { label_of result ≡ (name.now, quantity, C.FORM, C.names) }
+fn label_row<C: PayloadClass>(head: RowHead) -> KindLabel
+    ensures { label_of result ≡ label_with head.prefix.now head.quantity head.name.now C.FORM C.names C.fields }
 {
     KindLabel {
-        name,
-        quantity,
+        name: head.name,
+        prefix: head.prefix,
+        quantity: head.quantity,
         form: C::FORM,
         names: C::names(),
+        fields: C::fields(),
     }
 }
 
@@ -104,12 +96,7 @@ impl<F: Meaning> RowVisitor<F> for ElementLabel {
 
     #[inline(always)]
     #[tactic(auto, using(crate::proofs::Entries::class_of_row))]
-    fn row<C: PayloadClass>(
-        self,
-        _list: u16,
-        _name: &'static str,
-        _quantity: Quantity,
-    ) -> Option<KindLabel> {
+    fn row<C: PayloadClass>(self, _list: u16, _head: RowHead) -> Option<KindLabel> {
         C::elements();
         <C::Element as Attribute>::label(None, self.kind)
     }
@@ -138,7 +125,7 @@ impl<'a, 'b, F: Meaning> RowVisitor<F> for Canonical<'a, 'b> {
 
     #[inline(always)]
     #[tactic(auto, using(crate::proofs::Entries::class_of_row))]
-    fn row<C: PayloadClass>(self, _kind: u16, _name: &'static str, _quantity: Quantity) -> bool {
+    fn row<C: PayloadClass>(self, _kind: u16, _head: RowHead) -> bool {
         C::is_canonical(self.buffer)
     }
 

@@ -47,10 +47,11 @@ pub enum Content<'a> {
         layout: Layout,
         bytes: &'a [u8],
     },
-    /// The bytes of an array of little-endian `u16`s.
-    U16s(&'a [u8]),
-    /// The bytes of an array of little-endian `u32`s.
-    U32s(&'a [u8]),
+    /// The bytes of an array of little-endian unsigned numbers of this width.
+    Numbers {
+        width: Width,
+        bytes: &'a [u8],
+    },
     /// The limits of a CAN controller: its name, which ends before the first NUL and may not be UTF-8, and the 32 bytes
     /// of the eight numbers, which are little-endian `u32`s.
     Limits {
@@ -107,8 +108,7 @@ impl<'a> Content<'a> {
             Content::Ipv6(_) => Form::Ipv6,
             Content::Bytes(_) => Form::Bytes,
             Content::Struct { layout, .. } => Form::Struct(layout),
-            Content::U16s(_) => Form::U16s,
-            Content::U32s(_) => Form::U32s,
+            Content::Numbers { width, .. } => Form::Numbers(width),
             Content::Limits { .. } => Form::Limits,
             Content::Addresses { size, .. } => Form::Addresses { size },
             Content::List { flagged, .. } => Form::List { flagged },

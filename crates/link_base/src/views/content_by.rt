@@ -6,7 +6,7 @@ ghost use Rattle.link_base.specs.Class.{extent, length_cause};
 ghost use Rattle.link_base.specs.Forms.{bytes_in};
 ghost use Rattle.link_base.specs.Payloads.{class_by};
 ghost use Rattle.link_base.specs.Borrowed.{BorrowsBy, form_of};
-ghost use Rattle.link_base.specs.Orders.{bytes_by};
+ghost use Rattle.link_base.specs.Orders.{bytes_by, number_by};
 
 use crate::classes::address_list::Address;
 use crate::classes::fixed_size::FixedSize;
@@ -51,8 +51,10 @@ pub fn content_by<'a>(form: Form, payload: &'a [u8]) -> Content<'a>
             layout,
             bytes: &payload[..layout.lengths().kept()],
         },
-        Form::U16s => Content::U16s(payload),
-        Form::U32s => Content::U32s(payload),
+        Form::Numbers(width) => Content::Numbers {
+            width,
+            bytes: payload,
+        },
         Form::Limits => Content::Limits {
             name: before_nul(&payload[..16]),
             numbers: &payload[16..48],
@@ -68,10 +70,11 @@ pub fn content_by<'a>(form: Form, payload: &'a [u8]) -> Content<'a>
     }
 }
 
-/// Returns the number of all these bytes.
+/// Returns the number of `bytes`, which must be as many as the width says.
 #[inline(always)]
-fn number_in(width: Width, order: Order, bytes: &[u8]) -> u64
+pub fn number_in(width: Width, order: Order, bytes: &[u8]) -> u64
     requires { length bytes.now ≡ bytes_in width }
+    ensures value { result ≡ number_by order bytes.now }
     ensures octets { bytes.now ≡ bytes_by order (bytes_in width) result }
     ensures low { result < bound (bytes_in width) }
 {

@@ -1,11 +1,13 @@
 //! Numbers and structs of attributes, as views read them.
 
 ghost use Rattle.std.specs.Prelude.{◌≡◌, option_map};
+ghost use Rattle.link_base.specs.Class.{accepted, value_only};
 ghost use Rattle.link_base.specs.Table.{form_at};
 ghost use Rattle.link_base.specs.Forms.{bytes_in, layout_extent};
+ghost use Rattle.link_base.specs.Structs.{values_along};
 ghost use Rattle.link_base.specs.Viewed.{number_order, is_struct};
 
-use crate::classes::struct_class::PayloadStruct;
+use crate::classes::struct_class::{PayloadStruct, load_struct};
 use crate::classes::word::Word;
 use crate::rows::form::{Form, Order, Role};
 use crate::views::attribute_set::AttributeSet;
@@ -54,11 +56,11 @@ impl<'a, S: AttributeSet> Value<'a, S> {
     /// be the struct of the attribute type: another struct of the same length reads the same bytes.
     #[inline]
     pub fn as_struct<T: PayloadStruct>(&self) -> Option<T>
-        ensures { result ≡ struct_in (layout_extent T.LAYOUT) T.value_of (form_at (S.rows (set_in self.now)) (kind_in self.now))
-            (payload_in self.now) }
+        ensures { option_map T.held result ≡ struct_in (layout_extent T.LAYOUT) (values_along T.classes)
+            (form_at (S.rows (set_in self.now)) (kind_in self.now)) (payload_in self.now) }
     {
         if has_struct(self.content().form()) {
-            T::parse_payload(self.buffer().value()).ok()
+            struct_at(self.buffer().value())
         } else {
             None
         }
@@ -91,6 +93,17 @@ fn number_order(form: Option<Form>) -> Option<Order>
             },
         ) => Some(order),
         _ => None,
+    }
+}
+
+/// Returns the struct in a payload; `None` if its length is not accepted.
+#[inline]
+fn struct_at<T: PayloadStruct>(payload: &[u8]) -> Option<T>
+    ensures { option_map T.held result ≡ value_only (accepted (layout_extent T.LAYOUT) (values_along T.classes) payload.now) }
+{
+    match T::LAYOUT.lengths().cause(payload.len()) {
+        None => Some(load_struct(payload)),
+        Some(_) => None,
     }
 }
 

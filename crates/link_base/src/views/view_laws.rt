@@ -8,6 +8,7 @@ ghost use Rattle.link_base.specs.Number.{IsBytes};
 ghost use Rattle.link_base.specs.Frame.{Frame, Frames, kind_of};
 ghost use Rattle.link_base.specs.Class.{Octets, Raw};
 ghost use Rattle.link_base.specs.Forms.{layout_extent};
+ghost use Rattle.link_base.specs.Structs.{packed, values_along};
 ghost use Rattle.link_base.specs.Table.{Table, AttrValue, Case, Single, One, Gives, Decodes, FirstNotCanonical, class_at};
 ghost use Rattle.link_base.specs.Viewed.{bytes_in, set_of, IsWalk, StartsAt, all_set_of, IsAllOf, IsWalkOfAll};
 
@@ -46,10 +47,8 @@ pub fn first_other()
 
 /// If the payload of an attribute is a struct, the value that `parse` returns represents the fields that
 /// [`Value::as_struct`](crate::views::view::Value::as_struct) returns.
-pub fn structs<T: PayloadStruct>(_payload: &[u8])
-    ensures { (table : Table) (f : ℕ) (v : AttrValue) → class_at table (kind_of f) ≡ Some (One (Octets (layout_extent T.LAYOUT)))
-        → Gives table f _payload.now (Ok v)
-        → v ≡ Case (kind_of f) (Single (Raw (T.octets (T.value_of _payload.now)))) }
-{
-    let _ = T::parse_payload(_payload);
-}
+pub fn structs<T: PayloadStruct>()
+    ensures { (table : Table) (f : ℕ) (p : List ℕ) (v : AttrValue) (x : T) → IsBytes p
+        → class_at table (kind_of f) ≡ Some (One (Octets (layout_extent T.LAYOUT))) → Gives table f p (Ok v)
+        → T.held x ≡ values_along T.classes p → v ≡ Case (kind_of f) (Single (Raw (packed (T.held x)))) }
+{}

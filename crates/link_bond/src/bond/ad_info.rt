@@ -34,6 +34,7 @@ pub enum BondAdInfo {
 macro_rules! rows {
     ($call:ident($($argument:tt)*)) => {
         link_base::by_rows! { $call($($argument)*)
+            "IFLA_BOND_AD_INFO_";
             IFLA_BOND_AD_INFO_AGGREGATOR = 1, Aggregator: u16;
             IFLA_BOND_AD_INFO_NUM_PORTS = 2, NumPorts: u16;
             IFLA_BOND_AD_INFO_ACTOR_KEY = 3, ActorKey: u16;

@@ -31,6 +31,7 @@ pub enum BridgeVlanTunnelInfo {
 macro_rules! rows {
     ($call:ident($($argument:tt)*)) => {
         link_base::by_rows! { $call($($argument)*)
+            "IFLA_BRIDGE_VLAN_TUNNEL_";
             IFLA_BRIDGE_VLAN_TUNNEL_ID = 1, Id: u32;
             IFLA_BRIDGE_VLAN_TUNNEL_VID = 2, Vid: u16;
             IFLA_BRIDGE_VLAN_TUNNEL_FLAGS = 3, Flags: FlagBits<BridgeVlanInfoFlags>;

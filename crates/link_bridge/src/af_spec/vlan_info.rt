@@ -3,9 +3,10 @@
 use crate::af_spec::vlan_info_flags::BridgeVlanInfoFlags;
 use bitflags::Flags;
 use link_base::names::flag_laws::FlagSet;
+use link_base::rows::fields::Field;
 use link_base::rows::form::Layout;
 use link_base::rows::label::Name;
-use link_base::{DecodeError, PayloadStruct, check_exactly, u16_at};
+use link_base::{DecodeError, FlagBits, PayloadStruct, by_fields, check_exactly, u16_at};
 
 /// A VLAN of a bridge or bridge port, or one end of a range of VLANs (`struct bridge_vlan_info`,
 /// `include/uapi/linux/if_bridge.h`): two `u16`s.
@@ -62,24 +63,29 @@ impl TryFrom<&[u8]> for BridgeVlanInfo {
     }
 }
 
+type VlanInfoFields = (FlagBits<BridgeVlanInfoFlags>, (u16, ()));
+
 impl PayloadStruct for BridgeVlanInfo {
-    ghost use Rattle.std.specs.Prelude.{refl};
+    ghost use Rattle.std.specs.Prelude.{refl, ◌∷◌, []};
+    ghost use Rattle.link_base.specs.Class.{Unsigned};
     ghost use Rattle.link_base.specs.declared.rows.form.Layout.TheVariants as layouts;
-    ghost use Rattle.link_bridge.specs.VlanInfo.{vlan_info_of, vlan_info_octets, vlan_info_held, vlan_info_bit_names};
+    ghost use Rattle.link_bridge.specs.VlanInfo.{vlan_info_fields, vlan_info_held, vlan_info_bit_names};
 
     const LAYOUT: Layout = Layout::VlanInfo;
 
     ghost LAYOUT = { layouts.VlanInfo };
 
-    ghost value_of = { vlan_info_of };
+    ghost bit_names = { vlan_info_bit_names };
 
-    ghost octets = { vlan_info_octets };
+    ghost fields = { vlan_info_fields };
+
+    ghost classes = { Unsigned 2 ∷ Unsigned 2 ∷ [] };
 
     ghost held = { vlan_info_held };
 
-    ghost told = { λ _. refl };
+    ghost whole = { refl };
 
-    ghost bit_names = { vlan_info_bit_names };
+    ghost placed = { refl };
 
     #[inline]
     fn names() -> &'static [Name] {
@@ -87,16 +93,25 @@ impl PayloadStruct for BridgeVlanInfo {
     }
 
     #[inline]
-    fn parse_payload(payload: &[u8]) -> Result<Self, DecodeError> {
-        payload.try_into()
+    fn fields() -> &'static [Field] {
+        link_base::fields! {
+            "vid" = 2, u16;
+            "flags" = 0, u16_flags;
+        }
     }
 
-    #[inline]
-    fn payload_len(&self) -> usize {
-        BridgeVlanInfo::LENGTH
+    #[inline(always)]
+    fn load(bytes: &[u8]) -> Self {
+        by_fields!(load(bytes, BridgeVlanInfo, VlanInfoFields) flags vid)
     }
 
-    fn emit_payload(&self, buffer: &mut [u8]) {
-        buffer.copy_from_slice(&<[u8; 4]>::from(self));
+    #[inline(always)]
+    fn sized(&self) {
+        by_fields!(sized(self, VlanInfoFields) flags vid)
+    }
+
+    #[inline(always)]
+    fn store(&self, buffer: &mut [u8]) {
+        by_fields!(store(self, buffer, VlanInfoFields) flags vid)
     }
 }

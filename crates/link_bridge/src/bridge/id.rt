@@ -1,14 +1,18 @@
 //! Bridge IDs.
 
-ghost use Rattle.std.specs.Prelude.{refl, ◌≡◌, take, IfOk};
+ghost use Rattle.std.specs.Prelude.{refl, ◌≡◌, [], take, IfOk};
 ghost use Rattle.link_base.specs.declared.rows.form.Layout.TheVariants as layouts;
 ghost use Rattle.link_base.specs.Class.{accepted, AtLeast};
 ghost use Rattle.link_base.specs.Answers.{payload_result};
-ghost use Rattle.link_bridge.specs.Id.{id_of, id_octets, id_held};
+ghost use Rattle.link_base.specs.Structs.{classes_in};
+ghost use Rattle.link_bridge.specs.Id.{id_of, id_octets, id_fields, id_held};
 
+use link_base::rows::fields::Field;
 use link_base::rows::form::Layout;
 use link_base::rows::label::Name;
-use link_base::{DecodeError, Emitable, PayloadStruct, check_at_least, emit_mac, emit_u16_be};
+use link_base::{
+    Be, DecodeError, Emitable, PayloadStruct, by_fields, check_at_least, emit_mac, emit_u16_be,
+};
 
 /// Length of a bridge ID as a payload, in bytes.
 const SIZE: usize = 8;
@@ -58,18 +62,22 @@ impl Emitable for BridgeId {
     }
 }
 
+type IdFields = (Be<u16>, ([u8; 6], ()));
+
 impl PayloadStruct for BridgeId {
     const LAYOUT: Layout = Layout::BridgeId;
 
     ghost LAYOUT = { layouts.BridgeId };
 
-    ghost value_of = { id_of };
+    ghost fields = { id_fields };
 
-    ghost octets = { id_octets };
+    ghost classes = { classes_in [] id_fields };
 
     ghost held = { id_held };
 
-    ghost told = { λ _. refl };
+    ghost whole = { refl };
+
+    ghost placed = { refl };
 
     #[inline]
     fn names() -> &'static [Name] {
@@ -77,17 +85,26 @@ impl PayloadStruct for BridgeId {
     }
 
     #[inline]
-    fn parse_payload(payload: &[u8]) -> Result<Self, DecodeError> {
-        BridgeId::parse(payload)
+    fn fields() -> &'static [Field] {
+        link_base::fields! {
+            "prio" = 0, u16_be;
+            "addr" = 2, mac;
+        }
     }
 
-    #[inline]
-    fn payload_len(&self) -> usize {
-        self.buffer_len()
+    #[inline(always)]
+    fn load(bytes: &[u8]) -> Self {
+        by_fields!(load(bytes, BridgeId, IdFields) priority address)
     }
 
-    fn emit_payload(&self, buffer: &mut [u8]) {
-        self.emit(buffer);
+    #[inline(always)]
+    fn sized(&self) {
+        by_fields!(sized(self, IdFields) priority address)
+    }
+
+    #[inline(always)]
+    fn store(&self, buffer: &mut [u8]) {
+        by_fields!(store(self, buffer, IdFields) priority address)
     }
 }
 

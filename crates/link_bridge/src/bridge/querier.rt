@@ -33,6 +33,7 @@ pub enum BridgeQuerierState {
 macro_rules! rows {
     ($call:ident($($argument:tt)*)) => {
         link_base::by_rows! { $call($($argument)*)
+            "BRIDGE_QUERIER_";
             BRIDGE_QUERIER_IP_ADDRESS = 1, Ipv4Address: Ipv4Addr;
             BRIDGE_QUERIER_IP_PORT = 2, Ipv4Port: u32 as InterfaceIndex;
             BRIDGE_QUERIER_IP_OTHER_TIMER = 3, Ipv4OtherTimer: u64 as ClockTicks;

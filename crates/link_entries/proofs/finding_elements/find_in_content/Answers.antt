@@ -44,4 +44,4 @@ returns-in-List c =
 
 pub returns-in_default : goal.returns-in_default
 returns-in_default c =
-    none_last (table_of c.args.family) (kind_of (kind_field_of c.args.buffer.now)) c.args.at c.args.inner c.args.content c.in_default.not-U16s c.in_default.not-U32s c.in_default.not-Addresses c.in_default.not-List
+    none_last (table_of c.args.family) (kind_of (kind_field_of c.args.buffer.now)) c.args.at c.args.inner c.args.content c.in_default.not-Numbers c.in_default.not-Addresses c.in_default.not-List

@@ -6,20 +6,20 @@ use Rattle.link_entries.proofs.FoundElements.{number_found, number_absent}
 use Rattle.link_entries.proofs.finding_elements.find_number.Goals as goal
 
 pub returns-then-index-count_of : goal.returns-then-index-count_of
-returns-then-index-count_of g c =
+returns-then-index-count_of c =
     let index = c.from-index.result in
     let same : index ≡ c.args.inner = omega (arith, c.from-index.ensures) in
-    let width = bytes_in g.W.Word.WIDTH in
+    let width = bytes_in c.args.width in
     let bytes = c.args.bytes.now in
     let few = subst (λ n. index < n) c.count_of.ensures.count c.if-index-count_of.true in
     ap (λ e. Some e) c.number_entry.ensures ∙ number_found c.args.kind c.args.at width bytes index few
     ∙ ap (λ i. last_inner i (number_entries c.args.kind c.args.at width bytes)) same
 
 pub returns : goal.returns
-returns g c =
+returns c =
     let index = c.from-index.result in
     let same : index ≡ c.args.inner = omega (arith, c.from-index.ensures) in
-    let width = bytes_in g.W.Word.WIDTH in
+    let width = bytes_in c.args.width in
     let bytes = c.args.bytes.now in
     let few = subst (λ n. n ≤ index) c.count_of.ensures.count c.if-index-count_of.false in
     number_absent c.args.kind c.args.at width bytes index few ∙ ap (λ i. last_inner i (number_entries c.args.kind c.args.at width bytes)) same

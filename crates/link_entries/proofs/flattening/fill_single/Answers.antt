@@ -18,7 +18,7 @@ returns-in_default g c =
     let at = c.args.at in
     let content = c.content.result in
     let has : HasContent table b content = record { decodes = x.decodes; borrows = c.content.ensures.content; form = c.content.ensures.form } in
-    let none = no_elements table (kind_of (kind_field_of b)) (at + 4) content c.in_default.not-U16s c.in_default.not-U32s c.in_default.not-Addresses c.in_default.not-List in
+    let none = no_elements table (kind_of (kind_field_of b)) (at + 4) content c.in_default.not-Numbers c.in_default.not-Addresses c.in_default.not-List in
     let placed : c.fill.new.place ≡ head_entry (at, c.buffer-buffer.result) content 0 =
     c.fill.ensures ∙ ap₂ (λ f (e : Entry). filled f content 0 (record e { number = 0 })) c.raw_kind.ensures c.start_head.ensures in
     let is = placed ∙ ap (λ y. head_entry (at, y) content 0) c.buffer-buffer.ensures in

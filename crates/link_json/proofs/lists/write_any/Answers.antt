@@ -8,7 +8,6 @@ use Rattle.link_base.proofs.Elements.{elements_decode}
 use Rattle.netlink_packet_route.specs.Family.{table_of}
 use Rattle.netlink_packet_route.specs.Views.{family_in, elements_table}
 use Rattle.link_json.specs.List.{ShowsContent, WritesOne}
-use Rattle.link_json.specs.Names.{element_prefix}
 use Rattle.link_json.proofs.Loops.{on_ok}
 use Rattle.link_json.proofs.Valued.{nested_value, flat_value}
 use Rattle.link_json.proofs.lists.write_any.Goals as goal
@@ -27,10 +26,9 @@ returns-in-List c =
     let r = c.write_nested.result in
     let family = family_in (set_in x) in
     let label = label_of c.args.label.now in
-    let prefix = c.element_prefix.ensures ∙ ap₂ (λ s k. element_prefix (family_in s) k) c.set-family.ensures c.kind-kind.ensures in
     let table = ap elements_table c.of_checked-elements.ensures.set ∙ ap₂ (λ s k. elements_at (table_of (family_in s)) k) c.set-family.ensures c.kind-kind.ensures in
     subst (λ content. OnOk r (WritesOne (ShowsContent family label (buffer_in x) content) c.args.sheet.now c.write_nested.new.sheet)) (sym c.in-List.is)
-    (nested_value r family label (buffer_in x) c.in-List.list c.in-List.flagged _ _ _ _ _ prefix table c.of_checked-elements.ensures.bytes c.write_nested.ensures)
+    (nested_value r family label (buffer_in x) c.in-List.list c.in-List.flagged _ _ _ _ table c.of_checked-elements.ensures.bytes c.write_nested.ensures)
 
 pub returns-in_default : goal.returns-in_default
 returns-in_default c =

@@ -23,7 +23,7 @@ returns-in-Some c =
     let content = c.known-known.result.content in
     let has : HasContent (elements_table (set_in x)) (buffer_in x) content = record { decodes = x.decodes; borrows = c.known-known.ensures.content; form = c.known-known.ensures.form } in
     let named = found_label c.known-known.result.label c.in-Some.label (label_at (elements_table (set_in x)) (kind_in x)) c.known-known.ensures.label c.in-Some.is in
-    on_ok c.write_inner.result (λ e. (_, (content, has, ap (λ l. attribute_json c.args.prefix.now l (buffer_in x) content) named), e)) c.write_inner.ensures
+    on_ok c.write_inner.result (λ e. (_, (content, has, ap (λ l. attribute_json l (buffer_in x) content) named), e)) c.write_inner.ensures
 
 pub returns-in-None : goal.returns-in-None
 returns-in-None c =
@@ -31,4 +31,4 @@ returns-in-None c =
     let content = c.known-known.result.content in
     let has : HasContent (elements_table (set_in x)) (buffer_in x) content = record { decodes = x.decodes; borrows = c.known-known.ensures.content; form = c.known-known.ensures.form } in
     let none = no_label c.known-known.result.label (label_at (elements_table (set_in x)) (kind_in x)) c.known-known.ensures.label c.in-None.is in
-    on_ok c.write_unnamed.result (λ e. (_, (content, has, ap (λ l. attribute_json c.args.prefix.now l (buffer_in x) content) none), e)) (rw c.buffer.ensures at c.write_unnamed.ensures)
+    on_ok c.write_unnamed.result (λ e. (_, (content, has, ap (λ l. attribute_json l (buffer_in x) content) none), e)) (rw c.buffer.ensures at c.write_unnamed.ensures)

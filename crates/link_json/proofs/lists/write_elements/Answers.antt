@@ -12,8 +12,8 @@ loop-element-init c =
     let same = c.into_iter-element-iterator.ensures.into_iter_gives in
     let table = elements_table (set_of v) in (
       ap (λ w. elements_table (set_of w)) same,
-      subst (λ rest. ElementsTo c.args.prefix.now table (bytes_in v) rest c.args.sheet.now c.args.sheet.now) (sym (ap bytes_in same))
-          (shown_none (ShowsElement c.args.prefix.now table) (LeadTo (bytes_in v) (bytes_in v)) c.args.sheet.now refl (adds_none c.args.sheet.now)),
+      subst (λ rest. ElementsTo table (bytes_in v) rest c.args.sheet.now c.args.sheet.now) (sym (ap bytes_in same))
+          (shown_none (ShowsElement table) (LeadTo (bytes_in v) (bytes_in v)) c.args.sheet.now refl (adds_none c.args.sheet.now)),
     )
 
 pub loop-element-preserved : goal.loop-element-preserved
@@ -22,13 +22,13 @@ loop-element-preserved c =
     let x = c.in-Some.element in
     let steps = c.in-Some.ensures.steps in
     let table : elements_table (set_in x) ≡ elements_table (set_of v) = ap elements_table steps.1 ∙ c.loop-element.invariant.0 in
-    let written = subst (λ t. WritesOne (ShowsInner c.args.prefix.now t (buffer_in x)) c.loop-element.sheet c.write_element.new.sheet) table c.in_ok-write_element.ensures in (
+    let written = subst (λ t. WritesOne (ShowsInner t (buffer_in x)) c.loop-element.sheet c.write_element.new.sheet) table c.in_ok-write_element.ensures in (
       ap elements_table steps.2 ∙ c.loop-element.invariant.0,
-      elements_more c.args.prefix.now (elements_table (set_of v)) (bytes_in v) (bytes_in c.loop-element.element-iterator) (bytes_in c.next.new.self) c.args.sheet.now c.loop-element.sheet
+      elements_more (elements_table (set_of v)) (bytes_in v) (bytes_in c.loop-element.element-iterator) (bytes_in c.next.new.self) c.args.sheet.now c.loop-element.sheet
           c.write_element.new.sheet (buffer_in x) c.loop-element.invariant.1 steps.0 written,
     )
 
 pub returns : goal.returns
 returns c =
     let v = c.args.elements in
-    elements_all c.args.prefix.now (elements_table (set_of v)) (bytes_in v) (bytes_in c.loop-element.element-iterator) c.args.sheet.now c.loop-element.sheet c.loop-element.invariant.1 c.in-None.ensures.steps.0
+    elements_all (elements_table (set_of v)) (bytes_in v) (bytes_in c.loop-element.element-iterator) c.args.sheet.now c.loop-element.sheet c.loop-element.invariant.1 c.in-None.ensures.steps.0

@@ -7,4 +7,4 @@ use Rattle.link_json.proofs.lists.write_elements.Given as goal
 abbrev pub invariant-loop-element : goal.invariant-loop-element
 invariant-loop-element l =
     (elements_table (set_of l.element-iterator) ≡ elements_table (set_of l.fn.elements))
-    × ElementsTo l.prefix (elements_table (set_of l.fn.elements)) (bytes_in l.fn.elements) (bytes_in l.element-iterator) l.fn.sheet l.sheet
+    × ElementsTo (elements_table (set_of l.fn.elements)) (bytes_in l.fn.elements) (bytes_in l.element-iterator) l.fn.sheet l.sheet

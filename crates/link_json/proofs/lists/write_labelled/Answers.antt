@@ -1,10 +1,7 @@
-use Rattle.std.proofs.Common.{◌≡◌, ◌++◌, ◌∷◌, [], refl, ap, subst, ◌∙◌, codes}
+use Rattle.std.proofs.Common.{◌∷◌, refl, codes}
 use Rattle.json.specs.Json.{string}
-use Rattle.json.specs.Token.{string as string_token}
 use Rattle.link_base.specs.Labels.{label_of}
-use Rattle.link_base.specs.Viewed.{set_in}
-use Rattle.netlink_packet_route.specs.Views.{family_in}
-use Rattle.link_json.specs.Names.{prefix_of, short_name}
+use Rattle.link_json.specs.Names.{short_name}
 use Rattle.link_json.specs.Value.{labelled_json, unit_of, unit_fields}
 use Rattle.link_json.proofs.Loops.{on_ok}
 use Rattle.link_json.proofs.Objects.{field_then, object_written}
@@ -13,16 +10,14 @@ use Rattle.link_json.proofs.lists.write_labelled.Goals as goal
 pub returns : goal.returns
 returns c =
     let label = label_of c.args.label.now in
-    let prefix : c.prefix_of.result.now ≡ prefix_of (family_in (set_in c.args.value.now)) = c.prefix_of.ensures ∙ ap (λ s. prefix_of (family_in s)) c.set.ensures in
-    let named = subst (λ p. c.short_name.new.self ≡ c.key.new.self ++ string_token (short_name p c.args.label.now.name.now) ∷ []) prefix c.in_ok-short_name.ensures in
     let written = c.in_ok-write_any.ensures in
-    let name = string (short_name (prefix_of (family_in (set_in c.args.value.now))) c.args.label.now.name.now) in
+    let name = string (short_name c.args.label.now.prefix.now c.args.label.now.name.now) in
     let unit = unit_fields (unit_of c.args.label.now.quantity) in
     on_ok c.end_object.result
     (λ e. (
-      labelled_json (prefix_of (family_in (set_in c.args.value.now))) label written.0,
+      labelled_json label written.0,
       (written.0, written.1, refl),
       object_written c.args.sheet.now c.begin_object.new.self c.write_unit.new.sheet c.end_object.new.self ((codes "name", name) ∷ (codes "value", written.0) ∷ unit) c.in_ok-begin_object.ensures
-          (field_then c.begin_object.new.self c.key.new.self c.short_name.new.self c.write_unit.new.sheet (codes "name") name ((codes "value", written.0) ∷ unit) c.in_ok-key.ensures named
+          (field_then c.begin_object.new.self c.key.new.self c.short_name.new.self c.write_unit.new.sheet (codes "name") name ((codes "value", written.0) ∷ unit) c.in_ok-key.ensures c.in_ok-short_name.ensures
           (field_then c.short_name.new.self c.key-2.new.self c.write_any.new.sheet c.write_unit.new.sheet (codes "value") written.0 unit c.in_ok-key-2.ensures written.2 c.in_ok-write_unit.ensures)) e,
     )) c.end_object.ensures

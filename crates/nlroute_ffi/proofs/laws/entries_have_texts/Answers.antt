@@ -1,5 +1,5 @@
 use Rattle.nlroute_ffi.specs.Shown.{HeadIsTold}
-use Rattle.nlroute_ffi.proofs.AttributeTexts.{of_list, element_told, short_held, word_held, address_held}
+use Rattle.nlroute_ffi.proofs.AttributeTexts.{of_list, element_told, number_held, address_held}
 use Rattle.nlroute_ffi.proofs.laws.entries_have_texts.Goals as goal
 
 pub returns-clause-attributes : goal.returns-clause-attributes
@@ -8,11 +8,8 @@ returns-clause-attributes c = λ family list es bytes flat. of_list family list 
 pub returns-clause-elements : goal.returns-clause-elements
 returns-clause-elements c = λ family list kind offset flagged b e bytes form at is. (element_told family list kind offset flagged b e bytes form at is).has
 
-pub returns-clause-shorts : goal.returns-clause-shorts
-returns-clause-shorts c = λ family list kind at i n named low. short_held family list kind i at n named low
-
-pub returns-clause-words : goal.returns-clause-words
-returns-clause-words c = λ family list kind at i n named low. word_held family list kind i at n named low
+pub returns-clause-numbers : goal.returns-clause-numbers
+returns-clause-numbers c = λ family list width kind at i n named low. number_held family list kind i width at n named low
 
 pub returns-clause-addresses : goal.returns-clause-addresses
 returns-clause-addresses c = address_held

@@ -1,8 +1,8 @@
-use Rattle.std.proofs.Common.{◌∙◌, refl, sym, ap, ap₂, take, slice_index_or, arith, length-take}
-use Rattle.link_base.specs.declared.rows.form.Form.TheVariants as forms
+use Rattle.std.proofs.Common.{◌∙◌, refl, ap, take, slice_index_or, arith, length-take}
 use Rattle.link_base.specs.Name.{before_nul}
+use Rattle.link_base.specs.Payloads.{limit_fields}
 use Rattle.link_entries.specs.Entry.{padded}
-use Rattle.nlroute_ffi.specs.Timing.{named_fields, limit_fields}
+use Rattle.nlroute_ffi.specs.Timing.{named_fields, named_limits}
 use Rattle.nlroute_ffi.proofs.timing.timing_limits.Goals as goal
 
 pub slice_bounds-before_nul-end : goal.slice_bounds-before_nul-end
@@ -13,7 +13,7 @@ returns-clause-answer c =
     let (refers, is) = c.in_ok-bytes.ensures.value in
     let name = c.before_nul.ensures ∙ ap (λ p. before_nul (take 16 p)) is in
     let fields =
-    ap₂ (λ p ns. limit_fields (before_nul (take 16 p)) (record {
+    ap (λ ns. named_limits (record {
       name = c.padded.result;
       tseg1_min = slice_index_or ns 0 0;
       tseg1_max = slice_index_or ns 1 0;
@@ -23,5 +23,5 @@ returns-clause-answer c =
       brp_min = slice_index_or ns 5 0;
       brp_max = slice_index_or ns 6 0;
       brp_inc = slice_index_or ns 7 0;
-    })) (sym is) c.u32s_at-numbers.ensures.value in
-    (refl, refers, c.padded.ensures ∙ ap padded (c.front.ensures ∙ ap (take 15) name), fields ∙ ap (λ p. named_fields forms.Limits p) is)
+    })) c.u32s_at-numbers.ensures.value in
+    (refl, refers, c.padded.ensures ∙ ap padded (c.front.ensures ∙ ap (take 15) name), fields ∙ ap (λ p. named_fields limit_fields p) is)

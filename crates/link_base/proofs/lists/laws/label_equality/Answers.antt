@@ -1,4 +1,4 @@
-use Rattle.std.proofs.Common.{rules, ◌≡◌, ap, ap₂}
+use Rattle.std.proofs.Common.{rules, ◌≡◌, ℕ, List, ap, ap₂}
 use Rattle.std.specs.Bool.{Decides}
 use Rattle.std.specs.Cmp.{unsigned_Decides}
 use Rattle.std.specs.Cmp.Lexicographic.{pointwise_decides}
@@ -8,7 +8,11 @@ use Rattle.link_base.specs.declared.rows.label.Quantity.{Quantity}
 use Rattle.link_base.specs.contracts.rows.label.NamePartialEq.TheImpl as of_name
 use Rattle.link_base.specs.contracts.rows.form.FormPartialEq.TheImpl as of_form
 use Rattle.link_base.specs.contracts.rows.label.QuantityPartialEq.TheImpl as of_quantity
-use Rattle.link_base.specs.Labels.{named}
+use Rattle.link_base.specs.declared.rows.fields.Field.{Field}
+use Rattle.link_base.specs.contracts.rows.fields.FieldPartialEq.TheImpl as of_field
+use Rattle.link_base.specs.Fields.{FieldRow}
+use Rattle.link_base.specs.Labels.{named, field_row}
+use Rattle.link_base.specs.Table.{Label, label_with}
 use Rattle.link_base.proofs.EqualityLemmas.{two, lists}
 use Rattle.link_base.proofs.lists.laws.label_equality.Goals as goal
 
@@ -22,10 +26,46 @@ quantities a b = search rules
 forms : (a b : Form) → Decides (of_form.ghosts.eq a b) (a ≡ b)
 forms a b = search rules
 
+abbrev row : List ℕ → ℕ × Quantity × Form × List (ℕ × List ℕ) → FieldRow
+row name (offset, quantity, form, names) = record { name = name; offset = offset; quantity = quantity; form = form; names = names }
+
+fields : (a b : Field) → Decides (of_field.ghosts.eq a b) (field_row a ≡ field_row b)
+fields a b =
+    let d = two _ _ (pointwise_decides unsigned_Decides a.name.now b.name.now) (two _ _ (unsigned_Decides a.offset b.offset)
+    (two _ _ (quantities a.quantity b.quantity) (two _ _ (forms a.form b.form) (lists named names a.names.now b.names.now)))) in (
+      λ h. let k = d.0 h in
+          ap₂ row k.0
+          (ap₂ (λ offset (quantity, form, names). (offset, quantity, form, names)) k.1.0
+          (ap₂ (λ quantity (form, names). (quantity, form, names)) k.1.1.0 (ap₂ (λ form names. (form, names)) k.1.1.1.0 k.1.1.1.1))),
+      λ h. d.1 (ap (λ (f : FieldRow). f.name) h, (ap (λ (f : FieldRow). f.offset) h, (ap (λ (f : FieldRow). f.quantity) h, (ap (λ (f : FieldRow). f.form) h, ap (λ (f : FieldRow). f.names) h)))),
+    )
+
+pub returns-clause-field : goal.returns-clause-field
+returns-clause-field c = fields
+
+abbrev label : List ℕ → List ℕ × Quantity × Form × List (ℕ × List ℕ) × List FieldRow → Label
+label name (prefix, quantity, form, names, fields) = label_with prefix quantity name form names fields
+
 pub returns-clause-label : goal.returns-clause-label
 returns-clause-label c = λ a b.
-    let d = two _ _ (pointwise_decides unsigned_Decides a.name.now b.name.now) (two _ _ (quantities a.quantity b.quantity)
-    (two _ _ (forms a.form b.form) (lists named names a.names.now b.names.now))) in (
-      λ h. let k = d.0 h in ap₂ (λ name (quantity, form, names). (name, quantity, form, names)) k.0 (ap₂ (λ quantity (form, names). (quantity, form, names)) k.1.0 (ap₂ (λ form names. (form, names)) k.1.1.0 k.1.1.1)),
-      λ h. d.1 (ap (λ z. z.0) h, (ap (λ z. z.1) h, (ap (λ z. z.2) h, ap (λ z. z.3) h))),
+    let d = two _ _ (pointwise_decides unsigned_Decides a.name.now b.name.now) (two _ _ (pointwise_decides unsigned_Decides a.prefix.now b.prefix.now) (two _ _ (quantities a.quantity b.quantity)
+    (two _ _ (forms a.form b.form) (two _ _ (lists named names a.names.now b.names.now) (lists field_row fields a.fields.now b.fields.now))))) in (
+      λ h. let k = d.0 h in
+          ap₂ label k.0
+          (ap₂ (λ prefix (quantity, form, names, fields). (prefix, quantity, form, names, fields)) k.1.0
+          (ap₂ (λ quantity (form, names, fields). (quantity, form, names, fields)) k.1.1.0
+          (ap₂ (λ form (names, fields). (form, names, fields)) k.1.1.1.0 (ap₂ (λ names fields. (names, fields)) k.1.1.1.1.0 k.1.1.1.1.1)))),
+      λ h. d.1 (
+        ap (λ (l : Label). l.name) h,
+        (
+          ap (λ (l : Label). l.prefix) h,
+          (
+            ap (λ (l : Label). l.quantity) h,
+            (
+              ap (λ (l : Label). l.form) h,
+              (ap (λ (l : Label). l.names) h, ap (λ (l : Label). l.fields) h),
+            ),
+          ),
+        ),
+      ),
     )
