@@ -60,7 +60,7 @@ BUDGETS = {
     "docs/MAP.md": 74, "docs/json.md": 1150,
     "docs/messages.md": 740, "docs/programs.md": 2090, "docs/python.md": 800, "docs/rattle.md": 1830,
     "docs/rust.md": 820, "docs/proofs/ASSURANCE.md": 1190, "docs/proofs/CLAIMS.md": 3060,
-    "docs/DECISIONS.md": 4520, "docs/DIFFERENCES.md": 2140, "docs/proofs/MODEL.md": 3650,
+    "docs/DECISIONS.md": 4560, "docs/DIFFERENCES.md": 2140, "docs/proofs/MODEL.md": 3650,
 }  # fmt: skip
 SMALL_BUDGET = 600
 HISTORY, COMPARISON, CLAIMS = "CHANGELOG.md", "docs/DIFFERENCES.md", "docs/proofs/CLAIMS.md"
