@@ -77,7 +77,7 @@ static ptrdiff_t telling(size_t room) {
     return (void)room, answer == NLROUTE_ABSENT ? 0 : answer;
 }
 
-/* Stores the values, finds the first, measures all texts, and writes the values again. */
+/* Stores the values, finds the first, measures all texts, asks for fields, and writes the values again. */
 static ptrdiff_t valuing(size_t room) {
     static struct nlroute_value values[MOST / 2];
     static uint8_t again[MOST + 4];
@@ -91,6 +91,8 @@ static ptrdiff_t valuing(size_t room) {
         ptrdiff_t named = nlroute_kind_name(family, &values[i], words, sizeof words);
         ptrdiff_t size = nlroute_text(family, &values[i], list, len, words, sizeof words);
         if (named < 0 || size < 0) return NLROUTE_ABSENT;
+        ptrdiff_t told = nlroute_field(family, &values[i], 0, list, len, &(struct nlroute_field){0});
+        if (told && told != NLROUTE_ABSENT) return NLROUTE_BAD_FORM;
     }
     ptrdiff_t measured = nlroute_measure(family, values, (size_t)count, list, len, &at);
     ptrdiff_t written = nlroute_write(family, values, (size_t)count, list, len, again, sizeof again);

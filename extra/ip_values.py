@@ -36,6 +36,29 @@ def on_off(value, _):
     return {"True": "on", "1": "on", "False": "off", "0": "off"}.get(str(value), str(value))
 
 
+def if_on(value, _):
+    """A boolean. JSON has it only if it is true."""
+    return "on" if value else "off"
+
+
+def number_or_0(value, sample):
+    """A number. JSON lacks 0."""
+    return number(value or 0, sample)
+
+
+def mask_or_0(value, sample):
+    return mask(value or 0, sample)
+
+
+def flag(value, _):
+    """An attribute without a value. JSON has true."""
+    return "" if value is True else str(value)
+
+
+def ports(value, _):
+    return f"low {value['low']} high {value['high']}"
+
+
 def ticks(value, _):
     """A time in 1/100 s."""
     return f"{value} ({value // 100}.{value % 100:02} s)"
@@ -115,6 +138,11 @@ def one(key, form, missing, node, values, sample, report):
     else:
         report.differ(f"{node.line}: JSON has no {key}")
     return {key}
+
+
+def either(keys, node, values, *rest):
+    """An address. JSON has one of these keys."""
+    return one(next((it for it in keys if it in values), keys[0]), address, None, node, values, *rest)
 
 
 def never(reason, node, _values, _sample, report):
@@ -345,5 +373,27 @@ HSR = table(
     **dict.fromkeys(("MULTICAST_SPEC", "VERSION"), partial(never, IP_SILENT)),
 )
 
+VXLAN = table(
+    "IFLA_VXLAN_",
+    (number, "id port"),
+    (number_or_0, "ttl limit", AS_NULL),
+    (mask_or_0, "tos label", AS_NULL),
+    (with_unit("s"), "ageing"),
+    (device, "link"),
+    (address, "local local6"),
+    (on_off, "learning udp_csum udp_zero_csum6_tx udp_zero_csum6_rx"),
+    (if_on, "proxy rsc l2miss l3miss remcsum_tx remcsum_rx COLLECT_METADATA:external vnifilter", AS_NULL),
+    (on_off, "localbypass mc_route", IP_OLD),
+    (enum("unset set inherit"), "df"),
+    (enum("fixed inherit"), "label_policy", IP_OLD),
+    (ports, "port_range"),
+    (flag, "gbp gpe"),
+    GROUP=partial(either, ("group", "remote")),
+    GROUP6=partial(either, ("group6", "remote6")),
+    **dict.fromkeys(("TTL_INHERIT", "REMCSUM_NOPARTIAL", "RESERVED_BITS"), partial(never, IP_SILENT)),
+)
+
 # The rules of a list of `ip`, by the attribute set that nlshow names. CAN and DSA need hardware.
-LISTS = {"(bridge)": BRIDGE, "(bridge_port)": PORT, "(vlan)": VLAN, "(bond)": BOND, "(bond_port)": BOND_PORT, "(hsr)": HSR}
+LISTS = {
+    "(bridge)": BRIDGE, "(bridge_port)": PORT, "(vlan)": VLAN, "(bond)": BOND, "(bond_port)": BOND_PORT, "(hsr)": HSR, "(vxlan)": VXLAN,
+}  # fmt: skip

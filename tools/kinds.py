@@ -23,10 +23,10 @@ HEADER = "crates/nlroute_ffi/include/nlroute_kinds.h"
 WORD = re.compile(r"^(\w+)(?: \w+)* = (?:plain |with_names |record \{ form = )\(?forms\.(?:Number \w+ \w+ roles\.)?(\w+)", re.MULTILINE)
 # The forms of the header, by those of the tables (of a number, its role), and by the layouts of structs.
 FORMS = {
-    "Nothing": "EMPTY", "Bool": "BOOL", "Plain": "UNSIGNED", "Coded": "NAMED", "Signed": "SIGNED", "Enum": "NAMED",
-    "Protocol": "NAMED", "Flags": "FLAGS", "LowFlags": "FLAGS", "MaskedFlags": "MASKED", "Pair": "QOS_MAPPING", "Mac": "MAC",
-    "Ipv4": "IPV4", "Ipv6": "IPV6", "Bytes": "BYTES", "Limits": "BITTIMING_CONST", "Numbers": "LIST of UNSIGNED",
-    "Struct": "BYTES",
+    "Nothing": "EMPTY", "Bool": "BOOL", "FlagOrBool": "BOOL", "Plain": "UNSIGNED", "Coded": "NAMED", "Signed": "SIGNED",
+    "Enum": "NAMED", "Protocol": "NAMED", "Flags": "FLAGS", "LowFlags": "FLAGS", "MaskedFlags": "MASKED", "Pair": "QOS_MAPPING",
+    "Mac": "MAC", "Ipv4": "IPV4", "Ipv6": "IPV6", "Bytes": "BYTES", "Limits": "BITTIMING_CONST",
+    "Numbers": "LIST of UNSIGNED", "Struct": "BYTES",
 }  # fmt: skip
 # The structs that have forms of their own.
 STRUCTS = {

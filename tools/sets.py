@@ -39,11 +39,13 @@ CLASSES = {
     **{f"Be<u{8 * n}>": (f"u{8 * n}_be", f"Raw (bytes_be {n} {{0}})") for n in (2, 4, 8)},
     "i32": ("i32", "Integer {0}"),
     "bool": ("truth", "Boolean {0}"),
+    "Option<bool>": ("flag_or_bool", "flag_value {0}"),
     "[u8; 6]": ("mac", "Raw {0}"),
     "Ipv4Addr": ("ipv4", "Raw (four_octets {0})"),
     "Ipv6Addr": ("ipv6", "Raw (sixteen_octets {0})"),
     "VlanProtocol": ("vlan_protocol", "EtherType (protocol_number {0})"),
     "Vec<u8>": ("bytes", "Raw {0}.items"),
+    "Shown<Text>": ("text", "Raw {0}.items"),
     "Vec<u16>": ("u16s", "Raw (octets_of 2 {0}.items)"),
     "Vec<u32>": ("u32s", "Raw (octets_of 4 {0}.items)"),
     "Vec<u64>": ("u64s", "Raw (octets_of 8 {0}.items)"),
@@ -73,7 +75,7 @@ MODULES = {
     "link_base.specs.Number": "bytes_be",
     "link_base.specs.Layout": "octets_of",
     "link_base.specs.Structs": "packed",
-    "link_base.specs.Class": "Number Integer Boolean Raw LowByte EtherType Nothing",
+    "link_base.specs.Class": "Number Integer Boolean Raw LowByte EtherType Nothing flag_value",
     "link_base.specs.Payloads": "",
     "link_base.specs.declared.rows.form.Layout.TheVariants as layouts": "layouts",
     "link_base.specs.declared.classes.lengths.Lengths.TheVariants as lengths": "lengths",
@@ -268,6 +270,10 @@ def sample(it):
         payload = octets(2 * width)
         numbers = [int.from_bytes(payload[at : at + width], order) for at in (0, width)]
         return payload, f"{numbers[0]} {counted(numbers[1], it.quantity)}", str(numbers), str(numbers).replace(" ", "")
+    if it.its_class == "Shown<Text>":
+        text = f"text {it.number}"
+        payload = text.encode() + b"\0"
+        return payload, f'"{text}"', str([*payload]), f'"{text}"'
     if width:
         number = int.from_bytes(octets(width), order)
         return octets(width), counted(number, it.quantity), str(number), str(number)
@@ -280,6 +286,7 @@ def sample(it):
         return payload, text, text, f'"{text}"'
     others = {
         "bool": (b"\1", "on", "true", "true"),
+        "Option": (b"", "on", "None", "true"),
         "none": (b"", "", "", "true"),
         "VlanProtocol": (b"\x88\xa8", "802.1ad (0x88a8)", "Ieee8021Ad", '{"number":34984,"name":"802.1ad"}'),
     }

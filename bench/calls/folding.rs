@@ -1,9 +1,9 @@
 //! Folds the contents of attributes into a number, so that the compiler can leave none out.
 
 use link_base::Attribute;
+use link_base::classes::flag_or_bool::flag_is_on;
 use link_base::rows::form::Width;
 use link_base::views::attribute_set::{AttributeSet, ElementSet, Set};
-use link_base::rows::form::Width;
 use link_base::views::content::Content;
 use link_base::views::view::{Value, View};
 
@@ -49,6 +49,7 @@ fn folded<N: Nested>(attribute: &N, content: Content<'_>) -> u64 {
     match content {
         Content::Nothing => 0,
         Content::Bool(flag) => u64::from(flag),
+        Content::FlagOrBool(flag) => u64::from(flag_is_on(flag)),
         Content::Number { number, .. } => number,
         Content::Signed(number) => u64::from(number.cast_unsigned()),
         Content::LowFlags(bits) => u64::from(bits),
@@ -58,7 +59,7 @@ fn folded<N: Nested>(attribute: &N, content: Content<'_>) -> u64 {
         Content::Mac([a, b, c, d, e, f]) => u64::from_le_bytes([a, b, c, d, e, f, 0, 0]),
         Content::Ipv4(address) => u64::from(address.to_bits()),
         Content::Ipv6(address) => folded_words(&address.octets()),
-        Content::Bytes(bytes) => folded_bytes(bytes),
+        Content::Bytes { bytes, .. } => folded_bytes(bytes),
         Content::Struct { bytes, .. } => folded_bytes(bytes),
         Content::Numbers {
             width: Width::Two,

@@ -140,6 +140,24 @@ static void asked(one *it) {
     else must(size == nlroute_text(family, it, bytes, len, name, sizeof name) && !strcmp(name, text), "the form is that of the type");
 }
 
+/* The fields of a value, which its text names in their order. That of a bridge ID has no names. */
+static void fielded(one *it) {
+    static char text[1 << 16];
+    const char *rest = text;
+    struct nlroute_field field;
+    must(nlroute_text(family, it, bytes, len, text, sizeof text) >= 0, "a value has a text");
+    for (size_t i = 0; i < len; i++) {
+        ptrdiff_t code = nlroute_field(family, it, i, bytes, len, &field);
+        must(code == 0 || code == NLROUTE_ABSENT, "a field, or there are no more");
+        if (code) return;
+        must(field.offset + field.length <= it->length, "a field is in its struct");
+        if (it->form == NLROUTE_FORM_BRIDGE_ID) continue;
+        rest = strstr(rest, field.name);
+        must(rest != NULL, "a text names each field");
+        rest += strlen(field.name);
+    }
+}
+
 /* The values of a list, beside what was answered of a rewriting, whose bytes they are written as. */
 static void valued(ptrdiff_t answer) {
     ptrdiff_t places = nlroute_places(family, bytes, len);
@@ -159,6 +177,7 @@ static void valued(ptrdiff_t answer) {
         one *it = &values[i];
         texts(it);
         asked(it);
+        fielded(it);
         if (it->depth == 0) of = i;
         ptrdiff_t code = it->depth ? nlroute_find_in(family, bytes, len, it->kind, it->inner, &found)
                                    : nlroute_find(family, bytes, len, it->kind, &found);

@@ -27,6 +27,7 @@ class Family(IntEnum):
     DSA = 7
     HSR = 8
     PROTO_BRIDGE = 9
+    VXLAN = 10
 
 
 class Place(IntEnum):
@@ -78,7 +79,7 @@ class Code(Named):
     NO_MEMORY = -3, "an allocation failed"
     NO_ROOM = -4, "the buffer is too small"
     NO_FAMILY = -5, "no attribute set has this number"
-    ABSENT = -6, "there is no such attribute, element, name or error"
+    ABSENT = -6, "there is no such attribute, element, field, name or error"
     BAD_FORM = -7, "the value has another form"
     BAD_NUMBER = -8, "the attribute cannot hold the number"
     BAD_ELEMENT = -9, "an element does not follow its list"
@@ -304,6 +305,19 @@ class HsrProtocol(Named):
     PRP = 1, "prp"
 
 
+class VxlanDf(Named):
+    """Numbers of IFLA_VXLAN_DF."""
+    UNSET = 0, "unset"
+    SET = 1, "set"
+    INHERIT = 2, "inherit"
+
+
+class VxlanLabelPolicy(Named):
+    """Numbers of IFLA_VXLAN_LABEL_POLICY."""
+    FIXED = 0, "fixed"
+    INHERIT = 1, "inherit"
+
+
 IFLA_BRIDGE_FLAGS: Key[BridgeFlags] = Key("IFLA_BRIDGE_FLAGS")
 IFLA_BRIDGE_MODE: Key[BridgeMode] = Key("IFLA_BRIDGE_MODE")
 IFLA_BRIDGE_VLAN_INFO: Key[VlanInfo] = Key("IFLA_BRIDGE_VLAN_INFO")
@@ -503,6 +517,40 @@ IFLA_HSR_SEQ_NR: Key[int] = Key("IFLA_HSR_SEQ_NR")
 IFLA_HSR_VERSION: Key[int] = Key("IFLA_HSR_VERSION")
 IFLA_HSR_PROTOCOL: Key[HsrProtocol] = Key("IFLA_HSR_PROTOCOL")
 IFLA_HSR_INTERLINK: Key[int] = Key("IFLA_HSR_INTERLINK")  # 100 is printed as ifindex 100
+IFLA_VXLAN_ID: Key[int] = Key("IFLA_VXLAN_ID")
+IFLA_VXLAN_GROUP: Key[IPv4Address] = Key("IFLA_VXLAN_GROUP")
+IFLA_VXLAN_LINK: Key[int] = Key("IFLA_VXLAN_LINK")  # 100 is printed as ifindex 100
+IFLA_VXLAN_LOCAL: Key[IPv4Address] = Key("IFLA_VXLAN_LOCAL")
+IFLA_VXLAN_TTL: Key[int] = Key("IFLA_VXLAN_TTL")
+IFLA_VXLAN_TOS: Key[int] = Key("IFLA_VXLAN_TOS")  # 100 is printed as 100 (0x64)
+IFLA_VXLAN_LEARNING: Key[bool] = Key("IFLA_VXLAN_LEARNING")
+IFLA_VXLAN_AGEING: Key[int] = Key("IFLA_VXLAN_AGEING")  # 100 is printed as 100 s
+IFLA_VXLAN_LIMIT: Key[int] = Key("IFLA_VXLAN_LIMIT")
+IFLA_VXLAN_PORT_RANGE: Key[bytes] = Key("IFLA_VXLAN_PORT_RANGE")
+IFLA_VXLAN_PROXY: Key[bool] = Key("IFLA_VXLAN_PROXY")
+IFLA_VXLAN_RSC: Key[bool] = Key("IFLA_VXLAN_RSC")
+IFLA_VXLAN_L2MISS: Key[bool] = Key("IFLA_VXLAN_L2MISS")
+IFLA_VXLAN_L3MISS: Key[bool] = Key("IFLA_VXLAN_L3MISS")
+IFLA_VXLAN_PORT: Key[int] = Key("IFLA_VXLAN_PORT")
+IFLA_VXLAN_GROUP6: Key[IPv6Address] = Key("IFLA_VXLAN_GROUP6")
+IFLA_VXLAN_LOCAL6: Key[IPv6Address] = Key("IFLA_VXLAN_LOCAL6")
+IFLA_VXLAN_UDP_CSUM: Key[bool] = Key("IFLA_VXLAN_UDP_CSUM")
+IFLA_VXLAN_UDP_ZERO_CSUM6_TX: Key[bool] = Key("IFLA_VXLAN_UDP_ZERO_CSUM6_TX")
+IFLA_VXLAN_UDP_ZERO_CSUM6_RX: Key[bool] = Key("IFLA_VXLAN_UDP_ZERO_CSUM6_RX")
+IFLA_VXLAN_REMCSUM_TX: Key[bool] = Key("IFLA_VXLAN_REMCSUM_TX")
+IFLA_VXLAN_REMCSUM_RX: Key[bool] = Key("IFLA_VXLAN_REMCSUM_RX")
+IFLA_VXLAN_GBP: Key[None] = Key("IFLA_VXLAN_GBP")
+IFLA_VXLAN_REMCSUM_NOPARTIAL: Key[None] = Key("IFLA_VXLAN_REMCSUM_NOPARTIAL")
+IFLA_VXLAN_COLLECT_METADATA: Key[bool] = Key("IFLA_VXLAN_COLLECT_METADATA")
+IFLA_VXLAN_LABEL: Key[int] = Key("IFLA_VXLAN_LABEL")  # 100 is printed as 100 (0x64)
+IFLA_VXLAN_GPE: Key[None] = Key("IFLA_VXLAN_GPE")
+IFLA_VXLAN_TTL_INHERIT: Key[bool] = Key("IFLA_VXLAN_TTL_INHERIT")
+IFLA_VXLAN_DF: Key[VxlanDf] = Key("IFLA_VXLAN_DF")
+IFLA_VXLAN_VNIFILTER: Key[bool] = Key("IFLA_VXLAN_VNIFILTER")
+IFLA_VXLAN_LOCALBYPASS: Key[bool] = Key("IFLA_VXLAN_LOCALBYPASS")
+IFLA_VXLAN_LABEL_POLICY: Key[VxlanLabelPolicy] = Key("IFLA_VXLAN_LABEL_POLICY")
+IFLA_VXLAN_RESERVED_BITS: Key[bytes] = Key("IFLA_VXLAN_RESERVED_BITS")
+IFLA_VXLAN_MC_ROUTE: Key[bool] = Key("IFLA_VXLAN_MC_ROUTE")
 
 SETS: dict[Family, tuple[Row, ...]] = {
     Family.AF_SPEC_BRIDGE: (
@@ -729,6 +777,42 @@ SETS: dict[Family, tuple[Row, ...]] = {
     Family.PROTO_BRIDGE: (
         Row("IFLA_BRPORT_NEIGH_FORWARD_GRAT", 45, 2),
     ),
+    Family.VXLAN: (
+        Row("IFLA_VXLAN_ID", 1, 3),
+        Row("IFLA_VXLAN_GROUP", 2, 9),
+        Row("IFLA_VXLAN_LINK", 3, 3),
+        Row("IFLA_VXLAN_LOCAL", 4, 9),
+        Row("IFLA_VXLAN_TTL", 5, 3),
+        Row("IFLA_VXLAN_TOS", 6, 3),
+        Row("IFLA_VXLAN_LEARNING", 7, 2),
+        Row("IFLA_VXLAN_AGEING", 8, 3),
+        Row("IFLA_VXLAN_LIMIT", 9, 3),
+        Row("IFLA_VXLAN_PORT_RANGE", 10, 17),
+        Row("IFLA_VXLAN_PROXY", 11, 2),
+        Row("IFLA_VXLAN_RSC", 12, 2),
+        Row("IFLA_VXLAN_L2MISS", 13, 2),
+        Row("IFLA_VXLAN_L3MISS", 14, 2),
+        Row("IFLA_VXLAN_PORT", 15, 3),
+        Row("IFLA_VXLAN_GROUP6", 16, 10),
+        Row("IFLA_VXLAN_LOCAL6", 17, 10),
+        Row("IFLA_VXLAN_UDP_CSUM", 18, 2),
+        Row("IFLA_VXLAN_UDP_ZERO_CSUM6_TX", 19, 2),
+        Row("IFLA_VXLAN_UDP_ZERO_CSUM6_RX", 20, 2),
+        Row("IFLA_VXLAN_REMCSUM_TX", 21, 2),
+        Row("IFLA_VXLAN_REMCSUM_RX", 22, 2),
+        Row("IFLA_VXLAN_GBP", 23, 1),
+        Row("IFLA_VXLAN_REMCSUM_NOPARTIAL", 24, 1),
+        Row("IFLA_VXLAN_COLLECT_METADATA", 25, 2),
+        Row("IFLA_VXLAN_LABEL", 26, 3),
+        Row("IFLA_VXLAN_GPE", 27, 1),
+        Row("IFLA_VXLAN_TTL_INHERIT", 28, 2),
+        Row("IFLA_VXLAN_DF", 29, 5, VxlanDf),
+        Row("IFLA_VXLAN_VNIFILTER", 30, 2),
+        Row("IFLA_VXLAN_LOCALBYPASS", 31, 2),
+        Row("IFLA_VXLAN_LABEL_POLICY", 32, 5, VxlanLabelPolicy),
+        Row("IFLA_VXLAN_RESERVED_BITS", 33, 17),
+        Row("IFLA_VXLAN_MC_ROUTE", 34, 2),
+    ),
 }
 
 __all__ = [
@@ -736,10 +820,10 @@ __all__ = [
     "BondArpAllTargets", "BondPrimaryReselect", "BondFailOverMac", "BondXmitHashPolicy", "BondAllPortsActive",
     "BondAdLacpRate", "BondAdSelect", "BondPortState", "MiiStatus", "LacpState", "ChurnState", "BridgeStpState",
     "VlanProtocol", "McastRouter", "BridgeBoolOpt", "BridgeStpMode", "BridgePortState", "VlanFlags", "CanState",
-    "CanCtrlMode", "HsrProtocol", "IFLA_BRIDGE_FLAGS", "IFLA_BRIDGE_MODE", "IFLA_BRIDGE_VLAN_INFO",
-    "IFLA_BRIDGE_VLAN_TUNNEL_INFO", "IFLA_BRIDGE_VLAN_TUNNEL_ID", "IFLA_BRIDGE_VLAN_TUNNEL_VID",
-    "IFLA_BRIDGE_VLAN_TUNNEL_FLAGS", "IFLA_BOND_MODE", "IFLA_BOND_ACTIVE_SLAVE", "IFLA_BOND_MIIMON",
-    "IFLA_BOND_UPDELAY", "IFLA_BOND_DOWNDELAY", "IFLA_BOND_USE_CARRIER", "IFLA_BOND_ARP_INTERVAL",
+    "CanCtrlMode", "HsrProtocol", "VxlanDf", "VxlanLabelPolicy", "IFLA_BRIDGE_FLAGS", "IFLA_BRIDGE_MODE",
+    "IFLA_BRIDGE_VLAN_INFO", "IFLA_BRIDGE_VLAN_TUNNEL_INFO", "IFLA_BRIDGE_VLAN_TUNNEL_ID",
+    "IFLA_BRIDGE_VLAN_TUNNEL_VID", "IFLA_BRIDGE_VLAN_TUNNEL_FLAGS", "IFLA_BOND_MODE", "IFLA_BOND_ACTIVE_SLAVE",
+    "IFLA_BOND_MIIMON", "IFLA_BOND_UPDELAY", "IFLA_BOND_DOWNDELAY", "IFLA_BOND_USE_CARRIER", "IFLA_BOND_ARP_INTERVAL",
     "IFLA_BOND_ARP_IP_TARGET", "IFLA_BOND_ARP_VALIDATE", "IFLA_BOND_ARP_ALL_TARGETS", "IFLA_BOND_PRIMARY",
     "IFLA_BOND_PRIMARY_RESELECT", "IFLA_BOND_FAIL_OVER_MAC", "IFLA_BOND_XMIT_HASH_POLICY", "IFLA_BOND_RESEND_IGMP",
     "IFLA_BOND_NUM_PEER_NOTIF", "IFLA_BOND_ALL_SLAVES_ACTIVE", "IFLA_BOND_MIN_LINKS", "IFLA_BOND_LP_INTERVAL",
@@ -788,5 +872,13 @@ __all__ = [
     "IFLA_CAN_TDC_TDCO_MAX", "IFLA_CAN_TDC_TDCF_MIN", "IFLA_CAN_TDC_TDCF_MAX", "IFLA_CAN_TDC_TDCV",
     "IFLA_CAN_TDC_TDCO", "IFLA_CAN_TDC_TDCF", "IFLA_CAN_CTRLMODE_EXT", "IFLA_CAN_CTRLMODE_SUPPORTED",
     "IFLA_DSA_CONDUIT", "IFLA_HSR_SLAVE1", "IFLA_HSR_SLAVE2", "IFLA_HSR_MULTICAST_SPEC", "IFLA_HSR_SUPERVISION_ADDR",
-    "IFLA_HSR_SEQ_NR", "IFLA_HSR_VERSION", "IFLA_HSR_PROTOCOL", "IFLA_HSR_INTERLINK",
+    "IFLA_HSR_SEQ_NR", "IFLA_HSR_VERSION", "IFLA_HSR_PROTOCOL", "IFLA_HSR_INTERLINK", "IFLA_VXLAN_ID",
+    "IFLA_VXLAN_GROUP", "IFLA_VXLAN_LINK", "IFLA_VXLAN_LOCAL", "IFLA_VXLAN_TTL", "IFLA_VXLAN_TOS",
+    "IFLA_VXLAN_LEARNING", "IFLA_VXLAN_AGEING", "IFLA_VXLAN_LIMIT", "IFLA_VXLAN_PORT_RANGE", "IFLA_VXLAN_PROXY",
+    "IFLA_VXLAN_RSC", "IFLA_VXLAN_L2MISS", "IFLA_VXLAN_L3MISS", "IFLA_VXLAN_PORT", "IFLA_VXLAN_GROUP6",
+    "IFLA_VXLAN_LOCAL6", "IFLA_VXLAN_UDP_CSUM", "IFLA_VXLAN_UDP_ZERO_CSUM6_TX", "IFLA_VXLAN_UDP_ZERO_CSUM6_RX",
+    "IFLA_VXLAN_REMCSUM_TX", "IFLA_VXLAN_REMCSUM_RX", "IFLA_VXLAN_GBP", "IFLA_VXLAN_REMCSUM_NOPARTIAL",
+    "IFLA_VXLAN_COLLECT_METADATA", "IFLA_VXLAN_LABEL", "IFLA_VXLAN_GPE", "IFLA_VXLAN_TTL_INHERIT", "IFLA_VXLAN_DF",
+    "IFLA_VXLAN_VNIFILTER", "IFLA_VXLAN_LOCALBYPASS", "IFLA_VXLAN_LABEL_POLICY", "IFLA_VXLAN_RESERVED_BITS",
+    "IFLA_VXLAN_MC_ROUTE",
 ]  # fmt: skip

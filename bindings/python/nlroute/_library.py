@@ -7,12 +7,12 @@ from __future__ import annotations
 
 import ctypes
 import os
-from collections.abc import Callable
+from collections.abc import Callable, Iterator
 from typing import Any
 
 from ._errors import Error, Fault, WriteError
 from ._kinds import VERSION, Cause, Code, Family, Place
-from ._records import FAULT, VALUE, buffer
+from ._records import FAULT, FIELD, VALUE, FieldRecord, buffer
 
 SONAME = f"libnlroute.so.{VERSION >> 16}.{VERSION >> 8 & 255}"
 FAMILY, BYTES, SIZE, OUT = ctypes.c_uint32, ctypes.c_char_p, ctypes.c_size_t, ctypes.c_void_p
@@ -22,6 +22,7 @@ SIGNATURES: dict[str, list[Any]] = {
     "nlroute_fault_text": [FAMILY, BYTES, OUT, SIZE],
     "nlroute_kind_name": [FAMILY, BYTES, OUT, SIZE],
     "nlroute_text": [FAMILY, BYTES, BYTES, SIZE, OUT, SIZE],
+    "nlroute_field": [FAMILY, BYTES, SIZE, BYTES, SIZE, OUT],
     "nlroute_write": [FAMILY, BYTES, SIZE, BYTES, SIZE, OUT, SIZE],
     "nlroute_measure": [FAMILY, BYTES, SIZE, BYTES, SIZE, OUT],
 }
@@ -112,6 +113,18 @@ def kind_name(family: Family, raw: bytes) -> str:
 def value_text(family: Family, raw: bytes, data: bytes) -> str:
     """Returns the text of a record of a list."""
     return text_of(LIBRARY.nlroute_text, family, raw, data, len(data))
+
+
+def fields(family: Family, raw: bytes, data: bytes) -> Iterator[FieldRecord]:
+    """Yields the fields of the struct that a record of a list holds; none if it holds no struct."""
+    out = buffer(FIELD.size)
+    for index in range(len(data)):
+        code = LIBRARY.nlroute_field(family, raw, index, data, len(data), out)
+        if code == Code.ABSENT:
+            return
+        if code:
+            raise unexpected(code)
+        yield FieldRecord._make(FIELD.unpack(ctypes.string_at(out, FIELD.size)))
 
 
 def write(family: Family, records: bytes, octets: bytes, owners: list[tuple[int, str]]) -> bytes:

@@ -7,7 +7,7 @@ from typing import Any, overload
 from . import _library, _read, _write
 from ._kinds import Family
 from ._tables import TABLES, Table
-from ._types import Attribute, Key, Name, T
+from ._types import Attribute, Key, Mac, Name, T
 from ._write import Values, pairs
 
 
@@ -130,6 +130,20 @@ class List:
         """Returns all values of this name, in order."""
         self._table.row(key)
         return [value for name, value in self._items if name == key]
+
+    def fields(self, key: Name) -> dict[str, int | Mac | bytes]:
+        """Returns the fields of a struct, by their names in the kernel's headers: of the last value of this name.
+
+        It is empty if the value is no struct. Raises as bytes() does.
+
+        >>> from nlroute import *
+        >>> List(Family.BRIDGE, {IFLA_BR_BRIDGE_ID: BridgeId(32768, Mac("02:00:00:00:00:01"))}).fields(IFLA_BR_BRIDGE_ID)
+        {'prio': 32768, 'addr': Mac('02:00:00:00:00:01')}
+        """
+        only = List._of(self._table, [Attribute(str(key), self[str(key)])])
+        if not self._table.list_row:
+            return _read.struct_fields(self.family, bytes(only), 0)
+        return _read.struct_fields(self.family, bytes(List(self.family, [(self._table.title, only)])), 1)
 
     @overload
     def __setitem__(self, key: Key[T], value: T) -> None: ...

@@ -7,8 +7,8 @@ from ipaddress import IPv4Address, IPv6Address
 from typing import Any
 
 from ._kinds import Family, Form
-from ._library import kind_name, value_text, values, whole
-from ._records import HEAD, VALUE, Record, record
+from ._library import fields, kind_name, value_text, values, whole
+from ._records import HEAD, VALUE, FieldRecord, Record, record
 from ._tables import TABLES, Table
 from ._types import (
     Attribute,
@@ -138,6 +138,25 @@ CONTENTS: dict[int, Callable[[Row | None, Record, bytes], Content]] = {
 def content(row: Row | None, it: Record, data: bytes) -> Content:
     """Returns the content of a value that is not a list."""
     return CONTENTS[it.form](row, it, data)
+
+
+def struct_fields(family: Family, data: bytes, index: int) -> dict[str, int | Mac | bytes]:
+    """Returns what the fields of a struct hold, by their names: of the record with this index of a list."""
+    raw = bytes(values(family, data)[index * VALUE.size : (index + 1) * VALUE.size])
+    it = record(raw, 0)
+    return {field.name.split(b"\0")[0].decode(): field_content(field, it, data) for field in fields(family, raw, data)}
+
+
+def field_content(field: FieldRecord, it: Record, data: bytes) -> int | Mac | bytes:
+    """Returns what a field of a struct holds."""
+    if field.form in (Form.UNSIGNED, Form.NAMED, Form.FLAGS):
+        return field.number
+    if field.form == Form.SIGNED:
+        return (field.number ^ SIGN) - SIGN
+    if field.form == Form.MAC:
+        return bytes.__new__(Mac, field.octets[:6])
+    start = it.offset + field.offset
+    return data[start : start + field.length]
 
 
 def lines(table: Table, data: bytes | bytearray | memoryview) -> Iterator[str]:

@@ -21,11 +21,23 @@ class Record(NamedTuple):
     octets: bytes
 
 
+class FieldRecord(NamedTuple):
+    """The fields of `struct nlroute_field`."""
+
+    name: bytes
+    number: int
+    offset: int
+    length: int
+    form: int
+    octets: bytes
+
+
 VALUE = struct.Struct("=HHHBBIIQQ16s")
+FIELD = struct.Struct("=32sQQII16s")
 # The same, but kind, inner, flags, form and depth as one number, and only the field `number` besides.
 HEAD = struct.Struct("=Q8xQ24x")
 FAULT = struct.Struct("=QQQIIII")
-assert VALUE.size == HEAD.size == 48 and FAULT.size == 40
+assert VALUE.size == HEAD.size == 48 and FIELD.size == 72 and FAULT.size == 40
 
 
 def record(raw: bytes | memoryview, index: int) -> Record:

@@ -136,6 +136,12 @@ def number(row: Row, value: Any) -> Fields:
     return whole_number(value), 0, 0, b"", 0, b""
 
 
+def boolean(row: Row, value: Any) -> Fields:
+    # (a flag that may have no payload is off only with one; of others, the length is not used)
+    it = whole_number(value)
+    return it, 0, int(it == 0), b"", 0, b""
+
+
 def signed(row: Row, value: Any) -> Fields:
     it = whole_number(value)
     if not -(1 << 63) <= it < 1 << 63:
@@ -203,7 +209,7 @@ def unknown(row: Row, value: Any) -> Fields:
 # The fields of a value, by the form of its attribute type.
 FIELDS: dict[int, Callable[[Row, Any], Fields]] = {
     Form.EMPTY: empty,
-    Form.BOOL: number,
+    Form.BOOL: boolean,
     Form.UNSIGNED: number,
     Form.SIGNED: signed,
     Form.NAMED: number,

@@ -78,6 +78,20 @@ class Tasks(unittest.TestCase):
         self.assertEqual(state[BRIDGE_QUERIER_IP_ADDRESS], IPv4Address("10.0.0.1"))
         self.assertEqual(str(state), "BRIDGE_QUERIER_IP_ADDRESS 10.0.0.1")
 
+    def test_fields_of_structs(self):
+        address = Mac("02:00:00:00:00:01")
+        bridge = List(Family.BRIDGE, {IFLA_BR_FORWARD_DELAY: 1500, IFLA_BR_BRIDGE_ID: BridgeId(0x8000, address)})
+        self.assertEqual(bridge.fields(IFLA_BR_BRIDGE_ID), {"prio": 0x8000, "addr": address})
+        self.assertIs(type(bridge.fields("IFLA_BR_BRIDGE_ID")["addr"]), Mac)
+        self.assertEqual(bridge.fields(IFLA_BR_FORWARD_DELAY), {})
+        # struct bridge_vlan_info, whose flags are first
+        vlan = read(Family.AF_SPEC_BRIDGE, bytes.fromhex("08000200 06000a00"))
+        self.assertEqual(list(vlan.fields(IFLA_BRIDGE_VLAN_INFO).items()), [("vid", 10), ("flags", 6)])
+        timing = read(Family.CAN, CAN)
+        self.assertEqual(timing.fields(IFLA_CAN_BITTIMING), timing[IFLA_CAN_BITTIMING]._asdict())
+        with self.assertRaises(KeyError):
+            bridge.fields(IFLA_BR_ROOT_ID)
+
 
 if __name__ == "__main__":
     unittest.main()

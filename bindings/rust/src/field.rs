@@ -43,6 +43,11 @@ impl<'a> Store<'_, 'a> {
         self.push(Raw { kind, form, number, second, ..Raw::default() });
     }
 
+    /// Appends a boolean. A flag that may have no payload is off only with one; of others, the length is not used.
+    fn boolean(&mut self, kind: u16, on: bool) {
+        self.push(Raw { kind, form: form::BOOL, number: on.into(), length: (!on).into(), ..Raw::default() });
+    }
+
     /// Appends a value that is an address, with a number before it or without.
     fn address(&mut self, kind: u16, form: u8, number: u64, address: &[u8]) {
         let mut octets = [0; 16];
@@ -108,7 +113,7 @@ macro_rules! field {
 field! {
     (): |value| value.has(form::EMPTY).then_some(()), |self, kind, to| to.number(kind, form::EMPTY, 0, 0);
     bool: |value| value.number::<u8>(form::BOOL).map(|it| it != 0),
-        |self, kind, to| to.number(kind, form::BOOL, self.into(), 0);
+        |self, kind, to| to.boolean(kind, self);
     u8: |value| value.number(form::UNSIGNED), |self, kind, to| to.number(kind, form::UNSIGNED, self.into(), 0);
     u16: |value| value.number(form::UNSIGNED), |self, kind, to| to.number(kind, form::UNSIGNED, self.into(), 0);
     u32: |value| value.number(form::UNSIGNED), |self, kind, to| to.number(kind, form::UNSIGNED, self.into(), 0);

@@ -56,7 +56,7 @@ pub(crate) fn refusal_text(code: isize) -> &'static str {
         refusal::NO_MEMORY => "an allocation failed",
         refusal::NO_ROOM => "the buffer is too small",
         refusal::NO_FAMILY => "no attribute set has this number",
-        refusal::ABSENT => "there is no such attribute, element, name or error",
+        refusal::ABSENT => "there is no such attribute, element, field, name or error",
         refusal::BAD_FORM => "the value has another form",
         refusal::BAD_NUMBER => "the attribute cannot hold the number",
         refusal::BAD_ELEMENT => "an element does not follow its list",
@@ -86,6 +86,8 @@ families! {
     Hsr = 8, "hsr";
     /// Names `IFLA_PROTINFO` in `AF_BRIDGE` messages: attribute type 45 only.
     ProtoBridge = 9, "proto_bridge";
+    /// Names `IFLA_INFO_DATA` of VXLAN devices.
+    Vxlan = 10, "vxlan";
 }
 
 named! {
@@ -335,6 +337,21 @@ named! {
     HsrProtocol: u8;
     HSR = 0, "hsr";
     PRP = 1, "prp";
+}
+
+named! {
+    /// Represents the number of [`IFLA_VXLAN_DF`]. Numbers without a name are kept.
+    VxlanDf: u8;
+    UNSET = 0, "unset";
+    SET = 1, "set";
+    INHERIT = 2, "inherit";
+}
+
+named! {
+    /// Represents the number of [`IFLA_VXLAN_LABEL_POLICY`]. Numbers without a name are kept.
+    VxlanLabelPolicy: u32;
+    FIXED = 0, "fixed";
+    INHERIT = 1, "inherit";
 }
 
 scope! {
@@ -837,6 +854,80 @@ pub mod proto_bridge {
     pub const IFLA_BRPORT_NEIGH_FORWARD_GRAT: Key<ProtoBridge, bool> = Key::new(45);
 }
 
+scope! {
+    /// Represents the attribute set [`Family::Vxlan`] in types.
+    Vxlan;
+}
+
+/// Selects `IFLA_VXLAN_ID` of [`Vxlan`] (`include/uapi/linux/if_link.h`).
+pub const IFLA_VXLAN_ID: Key<Vxlan, u32> = Key::new(1);
+/// Selects `IFLA_VXLAN_GROUP` of [`Vxlan`] (`include/uapi/linux/if_link.h`).
+pub const IFLA_VXLAN_GROUP: Key<Vxlan, Ipv4Addr> = Key::new(2);
+/// Selects `IFLA_VXLAN_LINK` of [`Vxlan`] (`include/uapi/linux/if_link.h`). 100 is printed as `ifindex 100`.
+pub const IFLA_VXLAN_LINK: Key<Vxlan, u32> = Key::new(3);
+/// Selects `IFLA_VXLAN_LOCAL` of [`Vxlan`] (`include/uapi/linux/if_link.h`).
+pub const IFLA_VXLAN_LOCAL: Key<Vxlan, Ipv4Addr> = Key::new(4);
+/// Selects `IFLA_VXLAN_TTL` of [`Vxlan`] (`include/uapi/linux/if_link.h`).
+pub const IFLA_VXLAN_TTL: Key<Vxlan, u8> = Key::new(5);
+/// Selects `IFLA_VXLAN_TOS` of [`Vxlan`] (`include/uapi/linux/if_link.h`). 100 is printed as `100 (0x64)`.
+pub const IFLA_VXLAN_TOS: Key<Vxlan, u8> = Key::new(6);
+/// Selects `IFLA_VXLAN_LEARNING` of [`Vxlan`] (`include/uapi/linux/if_link.h`).
+pub const IFLA_VXLAN_LEARNING: Key<Vxlan, bool> = Key::new(7);
+/// Selects `IFLA_VXLAN_AGEING` of [`Vxlan`] (`include/uapi/linux/if_link.h`). 100 is printed as `100 s`.
+pub const IFLA_VXLAN_AGEING: Key<Vxlan, u32> = Key::new(8);
+/// Selects `IFLA_VXLAN_LIMIT` of [`Vxlan`] (`include/uapi/linux/if_link.h`).
+pub const IFLA_VXLAN_LIMIT: Key<Vxlan, u32> = Key::new(9);
+/// Selects `IFLA_VXLAN_PORT_RANGE` of [`Vxlan`] (`include/uapi/linux/if_link.h`).
+pub const IFLA_VXLAN_PORT_RANGE: Key<Vxlan, Vec<u8>> = Key::new(10);
+/// Selects `IFLA_VXLAN_PROXY` of [`Vxlan`] (`include/uapi/linux/if_link.h`).
+pub const IFLA_VXLAN_PROXY: Key<Vxlan, bool> = Key::new(11);
+/// Selects `IFLA_VXLAN_RSC` of [`Vxlan`] (`include/uapi/linux/if_link.h`).
+pub const IFLA_VXLAN_RSC: Key<Vxlan, bool> = Key::new(12);
+/// Selects `IFLA_VXLAN_L2MISS` of [`Vxlan`] (`include/uapi/linux/if_link.h`).
+pub const IFLA_VXLAN_L2MISS: Key<Vxlan, bool> = Key::new(13);
+/// Selects `IFLA_VXLAN_L3MISS` of [`Vxlan`] (`include/uapi/linux/if_link.h`).
+pub const IFLA_VXLAN_L3MISS: Key<Vxlan, bool> = Key::new(14);
+/// Selects `IFLA_VXLAN_PORT` of [`Vxlan`] (`include/uapi/linux/if_link.h`).
+pub const IFLA_VXLAN_PORT: Key<Vxlan, u16> = Key::new(15);
+/// Selects `IFLA_VXLAN_GROUP6` of [`Vxlan`] (`include/uapi/linux/if_link.h`).
+pub const IFLA_VXLAN_GROUP6: Key<Vxlan, Ipv6Addr> = Key::new(16);
+/// Selects `IFLA_VXLAN_LOCAL6` of [`Vxlan`] (`include/uapi/linux/if_link.h`).
+pub const IFLA_VXLAN_LOCAL6: Key<Vxlan, Ipv6Addr> = Key::new(17);
+/// Selects `IFLA_VXLAN_UDP_CSUM` of [`Vxlan`] (`include/uapi/linux/if_link.h`).
+pub const IFLA_VXLAN_UDP_CSUM: Key<Vxlan, bool> = Key::new(18);
+/// Selects `IFLA_VXLAN_UDP_ZERO_CSUM6_TX` of [`Vxlan`] (`include/uapi/linux/if_link.h`).
+pub const IFLA_VXLAN_UDP_ZERO_CSUM6_TX: Key<Vxlan, bool> = Key::new(19);
+/// Selects `IFLA_VXLAN_UDP_ZERO_CSUM6_RX` of [`Vxlan`] (`include/uapi/linux/if_link.h`).
+pub const IFLA_VXLAN_UDP_ZERO_CSUM6_RX: Key<Vxlan, bool> = Key::new(20);
+/// Selects `IFLA_VXLAN_REMCSUM_TX` of [`Vxlan`] (`include/uapi/linux/if_link.h`).
+pub const IFLA_VXLAN_REMCSUM_TX: Key<Vxlan, bool> = Key::new(21);
+/// Selects `IFLA_VXLAN_REMCSUM_RX` of [`Vxlan`] (`include/uapi/linux/if_link.h`).
+pub const IFLA_VXLAN_REMCSUM_RX: Key<Vxlan, bool> = Key::new(22);
+/// Selects `IFLA_VXLAN_GBP` of [`Vxlan`] (`include/uapi/linux/if_link.h`).
+pub const IFLA_VXLAN_GBP: Key<Vxlan, ()> = Key::new(23);
+/// Selects `IFLA_VXLAN_REMCSUM_NOPARTIAL` of [`Vxlan`] (`include/uapi/linux/if_link.h`).
+pub const IFLA_VXLAN_REMCSUM_NOPARTIAL: Key<Vxlan, ()> = Key::new(24);
+/// Selects `IFLA_VXLAN_COLLECT_METADATA` of [`Vxlan`] (`include/uapi/linux/if_link.h`).
+pub const IFLA_VXLAN_COLLECT_METADATA: Key<Vxlan, bool> = Key::new(25);
+/// Selects `IFLA_VXLAN_LABEL` of [`Vxlan`] (`include/uapi/linux/if_link.h`). 100 is printed as `100 (0x64)`.
+pub const IFLA_VXLAN_LABEL: Key<Vxlan, u32> = Key::new(26);
+/// Selects `IFLA_VXLAN_GPE` of [`Vxlan`] (`include/uapi/linux/if_link.h`).
+pub const IFLA_VXLAN_GPE: Key<Vxlan, ()> = Key::new(27);
+/// Selects `IFLA_VXLAN_TTL_INHERIT` of [`Vxlan`] (`include/uapi/linux/if_link.h`).
+pub const IFLA_VXLAN_TTL_INHERIT: Key<Vxlan, bool> = Key::new(28);
+/// Selects `IFLA_VXLAN_DF` of [`Vxlan`] (`include/uapi/linux/if_link.h`).
+pub const IFLA_VXLAN_DF: Key<Vxlan, VxlanDf> = Key::new(29);
+/// Selects `IFLA_VXLAN_VNIFILTER` of [`Vxlan`] (`include/uapi/linux/if_link.h`).
+pub const IFLA_VXLAN_VNIFILTER: Key<Vxlan, bool> = Key::new(30);
+/// Selects `IFLA_VXLAN_LOCALBYPASS` of [`Vxlan`] (`include/uapi/linux/if_link.h`).
+pub const IFLA_VXLAN_LOCALBYPASS: Key<Vxlan, bool> = Key::new(31);
+/// Selects `IFLA_VXLAN_LABEL_POLICY` of [`Vxlan`] (`include/uapi/linux/if_link.h`).
+pub const IFLA_VXLAN_LABEL_POLICY: Key<Vxlan, VxlanLabelPolicy> = Key::new(32);
+/// Selects `IFLA_VXLAN_RESERVED_BITS` of [`Vxlan`] (`include/uapi/linux/if_link.h`).
+pub const IFLA_VXLAN_RESERVED_BITS: Key<Vxlan, Vec<u8>> = Key::new(33);
+/// Selects `IFLA_VXLAN_MC_ROUTE` of [`Vxlan`] (`include/uapi/linux/if_link.h`).
+pub const IFLA_VXLAN_MC_ROUTE: Key<Vxlan, bool> = Key::new(34);
+
 /// Calls a visitor for each key.
 #[cfg(test)]
 pub(crate) fn visit_keys(visitor: &mut impl crate::tests::Visitor) {
@@ -1039,4 +1130,38 @@ pub(crate) fn visit_keys(visitor: &mut impl crate::tests::Visitor) {
     visitor.attribute("IFLA_HSR_PROTOCOL", IFLA_HSR_PROTOCOL);
     visitor.attribute("IFLA_HSR_INTERLINK", IFLA_HSR_INTERLINK);
     visitor.attribute("IFLA_BRPORT_NEIGH_FORWARD_GRAT", proto_bridge::IFLA_BRPORT_NEIGH_FORWARD_GRAT);
+    visitor.attribute("IFLA_VXLAN_ID", IFLA_VXLAN_ID);
+    visitor.attribute("IFLA_VXLAN_GROUP", IFLA_VXLAN_GROUP);
+    visitor.attribute("IFLA_VXLAN_LINK", IFLA_VXLAN_LINK);
+    visitor.attribute("IFLA_VXLAN_LOCAL", IFLA_VXLAN_LOCAL);
+    visitor.attribute("IFLA_VXLAN_TTL", IFLA_VXLAN_TTL);
+    visitor.attribute("IFLA_VXLAN_TOS", IFLA_VXLAN_TOS);
+    visitor.attribute("IFLA_VXLAN_LEARNING", IFLA_VXLAN_LEARNING);
+    visitor.attribute("IFLA_VXLAN_AGEING", IFLA_VXLAN_AGEING);
+    visitor.attribute("IFLA_VXLAN_LIMIT", IFLA_VXLAN_LIMIT);
+    visitor.attribute("IFLA_VXLAN_PORT_RANGE", IFLA_VXLAN_PORT_RANGE);
+    visitor.attribute("IFLA_VXLAN_PROXY", IFLA_VXLAN_PROXY);
+    visitor.attribute("IFLA_VXLAN_RSC", IFLA_VXLAN_RSC);
+    visitor.attribute("IFLA_VXLAN_L2MISS", IFLA_VXLAN_L2MISS);
+    visitor.attribute("IFLA_VXLAN_L3MISS", IFLA_VXLAN_L3MISS);
+    visitor.attribute("IFLA_VXLAN_PORT", IFLA_VXLAN_PORT);
+    visitor.attribute("IFLA_VXLAN_GROUP6", IFLA_VXLAN_GROUP6);
+    visitor.attribute("IFLA_VXLAN_LOCAL6", IFLA_VXLAN_LOCAL6);
+    visitor.attribute("IFLA_VXLAN_UDP_CSUM", IFLA_VXLAN_UDP_CSUM);
+    visitor.attribute("IFLA_VXLAN_UDP_ZERO_CSUM6_TX", IFLA_VXLAN_UDP_ZERO_CSUM6_TX);
+    visitor.attribute("IFLA_VXLAN_UDP_ZERO_CSUM6_RX", IFLA_VXLAN_UDP_ZERO_CSUM6_RX);
+    visitor.attribute("IFLA_VXLAN_REMCSUM_TX", IFLA_VXLAN_REMCSUM_TX);
+    visitor.attribute("IFLA_VXLAN_REMCSUM_RX", IFLA_VXLAN_REMCSUM_RX);
+    visitor.attribute("IFLA_VXLAN_GBP", IFLA_VXLAN_GBP);
+    visitor.attribute("IFLA_VXLAN_REMCSUM_NOPARTIAL", IFLA_VXLAN_REMCSUM_NOPARTIAL);
+    visitor.attribute("IFLA_VXLAN_COLLECT_METADATA", IFLA_VXLAN_COLLECT_METADATA);
+    visitor.attribute("IFLA_VXLAN_LABEL", IFLA_VXLAN_LABEL);
+    visitor.attribute("IFLA_VXLAN_GPE", IFLA_VXLAN_GPE);
+    visitor.attribute("IFLA_VXLAN_TTL_INHERIT", IFLA_VXLAN_TTL_INHERIT);
+    visitor.attribute("IFLA_VXLAN_DF", IFLA_VXLAN_DF);
+    visitor.attribute("IFLA_VXLAN_VNIFILTER", IFLA_VXLAN_VNIFILTER);
+    visitor.attribute("IFLA_VXLAN_LOCALBYPASS", IFLA_VXLAN_LOCALBYPASS);
+    visitor.attribute("IFLA_VXLAN_LABEL_POLICY", IFLA_VXLAN_LABEL_POLICY);
+    visitor.attribute("IFLA_VXLAN_RESERVED_BITS", IFLA_VXLAN_RESERVED_BITS);
+    visitor.attribute("IFLA_VXLAN_MC_ROUTE", IFLA_VXLAN_MC_ROUTE);
 }

@@ -5,7 +5,7 @@
 //! - *Inputs.* A slice or a reference is aligned, initialized, not null even if it is empty, and at most `isize::MAX`
 //!   bytes long. The borrow keeps other threads from writing to it during the call.
 //! - *Outputs.* An output is a local variable or the spare capacity of a new `Vec`, so nothing else refers to it.
-//! - *Values.* The fields of [`Raw`] and [`RawFault`] are integers, so any bytes are a value. The library checks form,
+//! - *Values.* The fields of [`Raw`], [`RawField`] and [`RawFault`] are integers, so any bytes are a value. The library checks form,
 //!   offset and length of each value that it is passed.
 //! - *Lifetimes.* The library keeps no pointer.
 
@@ -45,9 +45,22 @@ pub struct RawFault {
     pub cause: u32,
 }
 
+/// `struct nlroute_field`.
+#[repr(C)]
+#[derive(Clone, Copy, Debug, Default)]
+pub struct RawField {
+    pub name: [u8; 32],
+    pub number: u64,
+    pub offset: u64,
+    pub length: u32,
+    pub form: u32,
+    pub octets: [u8; 16],
+}
+
 // The structs have no padding. Those of linux/can/netlink.h have u32 and char fields only.
 const _: () = assert!(size_of::<Raw>() == 48 && align_of::<Raw>() == align_of::<u64>());
 const _: () = assert!(size_of::<RawFault>() == 40 && align_of::<RawFault>() == align_of::<u64>());
+const _: () = assert!(size_of::<RawField>() == 72 && align_of::<RawField>() == align_of::<u64>());
 const _: () = assert!(size_of::<CanBitTiming>() == 32 && size_of::<CanBitTimingConst>() == 48);
 
 extern "C" {
@@ -64,6 +77,14 @@ extern "C" {
         bytes: *const u8,
         len: usize,
         limits: *mut CanBitTimingConst,
+    ) -> isize;
+    fn nlroute_field(
+        family: u32,
+        value: *const Raw,
+        index: usize,
+        octets: *const u8,
+        len: usize,
+        field: *mut RawField,
     ) -> isize;
     fn nlroute_kind_name(family: u32, value: *const Raw, text: *mut c_char, room: usize) -> isize;
     fn nlroute_text(
@@ -173,6 +194,14 @@ pub fn can_bittiming_const(value: &Raw, bytes: &[u8]) -> Option<CanBitTimingCons
     // SAFETY: the inputs are a reference and a slice; the output is a local variable of the kernel's layout.
     let code = unsafe { nlroute_can_bittiming_const(value, bytes.as_ptr(), bytes.len(), &mut limits) };
     (code == 0).then_some(limits)
+}
+
+/// Returns a field of the struct that a value holds, or `None` if it has no such field.
+pub fn field(family: u32, value: &Raw, index: usize, octets: &[u8]) -> Option<RawField> {
+    let mut field = RawField::default();
+    // SAFETY: the inputs are a reference and a slice; the output is a local variable.
+    let code = unsafe { nlroute_field(family, value, index, octets.as_ptr(), octets.len(), &mut field) };
+    (code == 0).then_some(field)
 }
 
 /// Returns the bytes of a list, or the index of the value that cannot be written, and the error code.

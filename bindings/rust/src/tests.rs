@@ -17,6 +17,11 @@ pub(crate) trait Sample: Clone + PartialEq + Debug {
     const SIZE: Option<usize> = None;
 
     fn sample() -> Self;
+
+    /// Returns a value that the attribute of this name can have.
+    fn sample_for(_name: &str) -> Self {
+        Self::sample()
+    }
 }
 
 macro_rules! samples {
@@ -53,12 +58,23 @@ samples! {
         name: *b"mcp251xfd\0\0\0\0\0\0\0", tseg1_min: 1, tseg1_max: 2, tseg2_min: 3, tseg2_max: 4, sjw_max: 5,
         brp_min: 6, brp_max: 7, brp_inc: 8,
     };
-    Vec<u8>: vec![1, 2, 3, 4, 5, 6, 7, 8];
     Vec<u16>: vec![0, 1, u16::MAX];
     Vec<u32>: vec![0, 1, u32::MAX];
     Vec<Ipv4Addr>: vec![Ipv4Addr::LOCALHOST, Ipv4Addr::BROADCAST];
     Vec<Ipv6Addr>: vec![Ipv6Addr::LOCALHOST, Ipv6Addr::UNSPECIFIED];
     Vec<QosMapping>: vec![QosMapping { from: 1, to: 2 }, Sample::sample()];
+}
+
+impl Sample for Vec<u8> {
+    fn sample() -> Self {
+        vec![1, 2, 3, 4, 5, 6, 7, 8]
+    }
+
+    fn sample_for(name: &str) -> Self {
+        // (the bytes of a struct are as many as it has)
+        let size = if name == "IFLA_VXLAN_PORT_RANGE" { 4 } else { 8 };
+        Self::sample()[..size].to_vec()
+    }
 }
 
 impl<F: Sample> Sample for Masked<F> {
@@ -124,8 +140,8 @@ struct RoundTrip;
 
 impl Visitor for RoundTrip {
     fn attribute<S: Set, T: Field + Sample>(&mut self, name: &str, key: Key<S, T>) {
-        let list = List::<S>::new().with(key, T::sample());
-        assert_eq!(list.get(key), Some(T::sample()), "{name}, before it is written");
+        let list = List::<S>::new().with(key, T::sample_for(name));
+        assert_eq!(list.get(key), Some(T::sample_for(name)), "{name}, before it is written");
         let bytes = list.to_bytes().unwrap_or_else(|error| panic!("{error}"));
         assert_eq!(u16::from_le_bytes([bytes[2], bytes[3]]) & 0x3fff, key.kind(), "{name}");
         // the library writes as many bytes as the kernel's type has; of this u16, the low byte has the flags
@@ -133,8 +149,8 @@ impl Visitor for RoundTrip {
         assert_eq!(T::SIZE.unwrap_or(size), size, "{name}");
         let read = List::<S>::read(&bytes).unwrap_or_else(|fault| panic!("{name}: {fault}"));
         assert_eq!(read, list, "{name}");
-        assert_eq!(read.get(key), Some(T::sample()), "{name}");
-        assert_eq!(find(&bytes, key), Ok(Some(T::sample())), "{name}");
+        assert_eq!(read.get(key), Some(T::sample_for(name)), "{name}");
+        assert_eq!(find(&bytes, key), Ok(Some(T::sample_for(name))), "{name}");
         let first = read.iter().next().expect("it has an attribute");
         assert_eq!(first.name(), name);
         assert!(!matches!(first.content(), Content::Unknown { .. }), "{name}");

@@ -55,6 +55,38 @@ impl<'a> Value<'a> {
         sys::value_text(self.family as u32, self.raw, self.bytes).to_string()
     }
 
+    /// Iterates over the fields of a struct: their names in the kernel's headers, and what they hold. There are none for
+    /// other values. Every struct that [`text`](Value::text) prints by its fields has them, also one that is
+    /// [`Content::Bytes`].
+    ///
+    /// ```
+    /// use nlroute::*;
+    ///
+    /// let list = List::<Can>::read(&[8, 0, 8, 0, 1, 0, 2, 0])?; // IFLA_CAN_BERR_COUNTER
+    /// let counters: Vec<_> = list.iter().flat_map(|value| value.fields()).collect();
+    /// assert_eq!(counters, [("txerr".to_string(), Content::Unsigned(1)), ("rxerr".to_string(), Content::Unsigned(2))]);
+    /// # Ok::<(), Fault>(())
+    /// ```
+    pub fn fields(&self) -> impl Iterator<Item = (String, Content<'a>)> {
+        let value = *self;
+        (0..).map_while(move |index| value.field(index))
+    }
+
+    fn field(&self, index: usize) -> Option<(String, Content<'a>)> {
+        let field = sys::field(self.family as u32, self.raw, index, self.bytes)?;
+        let name = field.name.split(|byte| *byte == 0).next().unwrap_or(&[]);
+        let offset = self.raw.offset.saturating_add(field.offset);
+        let content = match u8::try_from(field.form).ok()? {
+            form::UNSIGNED => Content::Unsigned(field.number),
+            form::SIGNED => Content::Signed(field.number as i64),
+            form::NAMED => Content::Named(field.number.try_into().ok()?),
+            form::FLAGS => Content::Flags(field.number.try_into().ok()?),
+            form::MAC => Content::Mac(Mac(field.octets[..6].try_into().ok()?)),
+            _ => Content::Bytes(payload(&Raw { offset, length: field.length, ..*self.raw }, self.bytes)),
+        };
+        Some((String::from_utf8_lossy(name).into_owned(), content))
+    }
+
     /// Iterates over the elements of a list; there are none for other values.
     pub fn elements(&self) -> Iter<'a> {
         Iter { family: self.family, values: self.elements, bytes: self.bytes }

@@ -101,3 +101,28 @@ fn an_element_is_looked_up() -> Result<(), Fault> {
     assert_eq!(state.get(BRIDGE_QUERIER_IP_ADDRESS), querier);
     Ok(())
 }
+
+#[test]
+fn structs_have_fields_by_name() -> Result<(), Error> {
+    let address = Mac([2, 0, 0, 0, 0, 1]);
+    let bytes = List::<Bridge>::new()
+        .with(IFLA_BR_FORWARD_DELAY, 1500)
+        .with(IFLA_BR_BRIDGE_ID, BridgeId { priority: 0x8000, address })
+        .to_bytes()?;
+    let bridge = List::<Bridge>::read(&bytes)?;
+    let fields: Vec<Vec<_>> = bridge.iter().map(|value| value.fields().collect()).collect();
+    assert!(fields[0].is_empty());
+    assert_eq!(
+        fields[1],
+        [("prio".to_string(), Content::Unsigned(0x8000)), ("addr".to_string(), Content::Mac(address))]
+    );
+    let vlan = List::<AfSpecBridge>::read(&[8, 0, 2, 0, 6, 0, 10, 0])?;
+    let fields: Vec<_> = vlan.iter().flat_map(|value| value.fields()).collect();
+    assert_eq!(fields, [("vid".to_string(), Content::Unsigned(10)), ("flags".to_string(), Content::Flags(6))]);
+    let timing = CanBitTiming { bitrate: 1, sample_point: 2, brp: 8, ..CanBitTiming::default() };
+    let can = List::<Can>::new().with(IFLA_CAN_BITTIMING, timing);
+    let fields: Vec<_> = can.iter().flat_map(|value| value.fields()).collect();
+    assert_eq!((fields.len(), &fields[1]), (8, &("sample_point".to_string(), Content::Unsigned(2))));
+    assert_eq!(fields[7], ("brp".to_string(), Content::Unsigned(8)));
+    Ok(())
+}

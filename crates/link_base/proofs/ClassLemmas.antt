@@ -1,6 +1,6 @@
 -- The laws of the classes of payloads.
 use Rattle.std.proofs.Common.{◌≡◌, ◌⊎◌, ◌↔◌, ℕ, ◌+◌, ◌-◌, ◌*◌, ◌%◌, ◌<◌, ◌≤◌, Bool, true, false, cond, List, [], ◌∷◌, ◌++◌, length, take, drop, reverse, replicate, Option, Some, None, Ok, refl, sym, ap, ap₂, subst, ◌∙◌, arith, inl, inr, ⊎_elim, length-append, length-take, length-drop, take-append-drop, take_all}
-use Rattle.std.specs.Prelude.{◌==◌, nat_lt}
+use Rattle.std.specs.Prelude.{◌==◌, nat_lt, slice_index}
 use Rattle.std.specs.Int.{w32}
 use Rattle.std.proofs.lemmas.Int.{of_z-to_z}
 use Rattle.std.proofs.lemmas.Bool.{cond-true, cond-false, cond_both, eqb-true, eq-eqb, le-ltb, ltb-false}
@@ -9,7 +9,7 @@ use Rattle.link_base.specs.Number.{IsBytes, number, bytes_of, bound}
 use Rattle.link_base.specs.declared.wire.fault.Cause.{Cause}
 use Rattle.link_base.specs.declared.wire.fault.Cause.TheVariants.{WrongLength, TooShort}
 use Rattle.link_base.specs.Name.{name_of, name_field, IsNameField}
-use Rattle.link_base.specs.Class.{Extent, Exactly, AtLeast, Fixed, Multiple, size_of, length_cause, Class, Unsigned, Signed, Truth, Octets, Bytes, Many, Named, Protocol, Low, Empty, Limits, Value, Name, Unlisted, extent, is_listed, named, meant, unless, class_value, written, canon, cut, IsTidy}
+use Rattle.link_base.specs.Class.{Extent, Exactly, AtLeast, Fixed, Multiple, AtMost, size_of, length_cause, Class, Unsigned, Signed, Truth, Optional, Octets, Bytes, Many, Named, Protocol, Low, Empty, Limits, Value, Name, Unlisted, extent, is_listed, named, flag_in, flag_value, meant, unless, class_value, written, canon, cut, IsTidy}
 use Rattle.link_base.proofs.NameLemmas.{fixed_iff}
 use Rattle.link_base.proofs.Numbers.{number_below, bytes_of-number, length-bytes_of}
 
@@ -48,6 +48,15 @@ size_reached (Exactly n) got h = let is = exactly n got h in omega arith
 size_reached (AtLeast n) got h = ltb-false got n (none_else (nat_lt got n) None (TooShort n got) h).0
 size_reached (Fixed n) got h = ltb-false got n (none_else (nat_lt got n) _ (TooShort n got) h).0
 size_reached (Multiple n) got h = omega arith
+size_reached (AtMost n) got h = omega arith
+
+-- an accepted payload of the extent `AtMost n` has at most n bytes
+pub at_most : (n got : ℕ) → length_cause (AtMost n) got ≡ None → got ≤ n
+at_most n got e = ltb-false n got (none_else (nat_lt n got) None (WrongLength n got) e).0
+
+-- a payload is accepted if it has at most n bytes
+pub within_most : (n got : ℕ) → got ≤ n → length_cause (AtMost n) got ≡ None
+within_most n got h = cond-false (nat_lt n got) (Some (WrongLength n got)) None (le-ltb n got h)
 
 -- the length of an accepted payload of the extent `Multiple n` is a multiple of n
 pub multiple : (n got : ℕ) → length_cause (Multiple n) got ≡ None → got % n ≡ 0
@@ -67,6 +76,7 @@ at_size (Exactly n) got h = cond-true (got == n) None _ (eq-eqb got n h)
 at_size (AtLeast n) got h = cond-false (nat_lt got n) _ None (le-ltb got n (omega arith))
 at_size (Multiple n) got h = at_multiple n got (ap (λ g. g % n) h ∙ zero_mod n)
 at_size (Fixed n) got h = cond-false (nat_lt got n) _ _ (le-ltb got n (omega arith)) ∙ cond-false (nat_lt n got) _ None (le-ltb n got (omega arith))
+at_size (AtMost n) got h = within_most n got (omega arith)
 
 -- ---- lists of a known length
 
@@ -82,6 +92,15 @@ one_byte : (p : List ℕ) → length p ≡ 1 → (a : ℕ) × (p ≡ a ∷ [])
 one_byte [] e = absurd (omega arith)
 one_byte (a ∷ []) e = (a, refl)
 one_byte (a ∷ b ∷ p) e = absurd (omega arith)
+
+-- a flag without a byte, and one with a byte
+pub no_flag_byte : (p : List ℕ) → length p ≡ 0 → flag_in p ≡ None
+no_flag_byte [] e = refl
+no_flag_byte (b ∷ p) e = absurd (omega arith)
+
+pub flag_byte : (p : List ℕ) → 0 < length p → flag_in p ≡ Some (nat_lt 0 (slice_index p 0))
+flag_byte [] h = absurd (omega arith)
+flag_byte (b ∷ p) h = refl
 
 -- bytes are the bytes of their number
 pub same_bytes : (n : ℕ) (p : List ℕ) → IsBytes p → length p ≡ n → bytes_of n (number p) ≡ p
@@ -125,6 +144,25 @@ truth_tidy b = (
       (λ one_is. subst (λ l. cond (nat_lt 0 (number l)) 1 0 ∷ [] ≡ l) (sym one_is) refl) h,
 )
 
+-- a flag is written unchanged if it has no byte, or its byte is zero or one
+optional_tidy : (p : List ℕ) → length p ≤ 1 → (written (flag_value (flag_in p)) ≡ p) ↔ ((p ≡ []) ⊎ ((p ≡ 0 ∷ []) ⊎ (p ≡ 1 ∷ [])))
+optional_tidy [] le = (λ e. inl refl, λ h. refl)
+optional_tidy (b ∷ []) le = (
+  λ e. inr (cond_both (nat_lt 0 b) 1 0 (λ x. x ∷ [] ≡ b ∷ [] → (b ∷ [] ≡ 0 ∷ []) ⊎ (b ∷ [] ≡ 1 ∷ [])) (λ t h. inr (sym h)) (λ t h. inl (sym h)) e),
+  λ h. ⊎_elim
+      (λ none_is. absurd cc)
+      (λ some_is. ⊎_elim
+      (λ zero_is. subst (λ l. written (flag_value (flag_in l)) ≡ l) (sym zero_is) refl)
+      (λ one_is. subst (λ l. written (flag_value (flag_in l)) ≡ l) (sym one_is) refl) some_is) h,
+)
+optional_tidy (b ∷ c ∷ p) le = absurd (omega arith)
+
+-- what is written for a flag is as long as its payload
+pub optional_length : (p : List ℕ) → length p ≤ 1 → length (written (flag_value (flag_in p))) ≡ length p
+optional_length [] le = refl
+optional_length (b ∷ []) le = refl
+optional_length (b ∷ c ∷ p) le = absurd (omega arith)
+
 -- an EtherType is written unchanged if it is one of the two
 ether_type_tidy : (p : List ℕ) → (reverse (bytes_of 2 (cond (number (reverse p) == 0x88A8) 0x88A8 0x8100)) ≡ p) ↔ ((p ≡ 0x81 ∷ 0x00 ∷ []) ⊎ (p ≡ 0x88 ∷ 0xA8 ∷ []))
 ether_type_tidy p = (
@@ -165,6 +203,7 @@ tidy_iff Signed p h e =
 tidy_iff Truth p h e =
     let one = one_byte p (exactly 1 (length p) e) in
     subst (λ l. (written (meant Truth l) ≡ l) ↔ IsTidy Truth l) (sym one.1) (truth_tidy one.0)
+tidy_iff Optional p h e = optional_tidy p (at_most 1 (length p) e)
 tidy_iff (Octets x) p h e = octets_tidy (size_of x) p (size_reached x (length p) e)
 tidy_iff Bytes p h e = (λ q. tt, λ q. refl)
 tidy_iff (Many n) p h e = (λ q. tt, λ q. refl)
@@ -181,6 +220,7 @@ pub written_short : (c : Class) (p : List ℕ) → length_cause (extent c) (leng
 written_short (Unsigned n) p e = omega (arith, exactly n (length p) e, length-bytes_of n (number p))
 written_short Signed p e = omega (arith, exactly 4 (length p) e)
 written_short Truth p e = omega (arith, exactly 1 (length p) e)
+written_short Optional p e = omega (arith, optional_length p (at_most 1 (length p) e))
 written_short (Octets x) p e = omega (arith, length-take (size_of x) p)
 written_short Bytes p e = omega arith
 written_short (Many n) p e = omega arith

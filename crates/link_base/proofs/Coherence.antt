@@ -7,7 +7,7 @@ use Rattle.std.proofs.lemmas.Bool.{and_parts, eqb-true, ltb-true}
 use Rattle.std.proofs.lemmas.Slice.Eq.{bytes_eq-Decides}
 use Rattle.link_base.specs.declared.rows.form.Form.{Form}
 use Rattle.link_base.specs.declared.rows.form.Form.TheVariants as forms
-use Rattle.link_base.specs.Class.{Extent, Exactly, AtLeast, Fixed, Multiple, Class, Unsigned, Signed, Truth, Octets, Bytes, Many, Named, Protocol, Low, Empty, Limits}
+use Rattle.link_base.specs.Class.{Extent, Exactly, AtLeast, Fixed, Multiple, AtMost, Class, Unsigned, Signed, Truth, Optional, Octets, Bytes, Many, Named, Protocol, Low, Empty, Limits}
 use Rattle.link_base.specs.Frame.{kind_limit}
 use Rattle.link_base.specs.Payloads.{class_by}
 use Rattle.link_base.specs.Table.{Row, Rows, Shape, One, Nested, Addresses, Table, row_at}
@@ -32,7 +32,8 @@ extent_back s =
     if first s == 0 then Exactly (first (rest s))
     else (if first s == 1 then AtLeast (first (rest s))
     else (if first s == 2 then Fixed (first (rest s))
-    else Multiple (first (rest s))))
+    else (if first s == 3 then Multiple (first (rest s))
+    else AtMost (first (rest s)))))
 
 abbrev class_back : List ℕ → Class
 class_back s =
@@ -46,26 +47,16 @@ class_back s =
     else (if first s == 7 then Protocol
     else (if first s == 8 then Low
     else (if first s == 9 then Empty
-    else Limits)))))))))
+    else (if first s == 10 then Limits
+    else Optional))))))))))
 
 extent_again : (e : Extent) → extent_back (extent_code e) ≡ e
 extent_again (Exactly n) = refl
-extent_again (AtLeast n) = refl
-extent_again (Fixed n) = refl
-extent_again (Multiple n) = refl
+extent_again e = refl
 
 class_again : (c : Class) → class_back (class_code c) ≡ c
-class_again (Unsigned n) = refl
-class_again Signed = refl
-class_again Truth = refl
 class_again (Octets e) = ap (λ d. Octets d) (extent_again e)
-class_again Bytes = refl
-class_again (Many n) = refl
-class_again (Named n listed) = refl
-class_again Protocol = refl
-class_again Low = refl
-class_again Empty = refl
-class_again Limits = refl
+class_again c = refl
 
 same_class : (c d : Class) → bytes_eq (class_code c) (class_code d) ≡ true → c ≡ d
 same_class c d h = sym (class_again c) ∙ ap class_back ((bytes_eq-Decides (class_code c) (class_code d)).0 h) ∙ class_again d

@@ -253,8 +253,7 @@ content_cut_allowed (Addresses n) p c hp m fit =
 -- `cut` changes no flag
 pub content_cut_flag : (c : Content) → content_flag (content_cut c) ≡ content_flag c
 content_cut_flag (Single v) = refl
-content_cut_flag (Inner flagged vs) = refl
-content_cut_flag (Listed octets) = refl
+content_cut_flag c = refl
 
 -- `cut` changes no length
 pub length-content_cut : (c : Content) → length (content_payload (content_cut c)) ≡ length (content_payload c)

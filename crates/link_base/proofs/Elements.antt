@@ -3,7 +3,7 @@ use Rattle.std.proofs.Common.{◌≡◌, ℕ, Bool, List, [], ◌∷◌, map, Op
 use Rattle.std.specs.List.{AllZip}
 use Rattle.link_base.specs.declared.views.content.Content.TheVariants as borrowed
 use Rattle.link_base.specs.declared.wire.fault.DecodeFault.{DecodeFault}
-use Rattle.link_base.specs.Class.{Class, Unsigned, Signed, Truth, Octets, Bytes, Many, Named, Protocol, Low, Empty, Limits, class_value}
+use Rattle.link_base.specs.Class.{Class, Unsigned, class_value}
 use Rattle.link_base.specs.Frame.{Frame, kind_of}
 use Rattle.link_base.specs.Wire.{Reads}
 use Rattle.link_base.specs.Lift.{lift, lift_table}
@@ -41,16 +41,7 @@ lifted_list rows flagged k p v (Ok vs) h is = record { values = map lift vs; wir
 
 no_list : (c : Class) (p : List ℕ) (bytes : Bor (List ℕ)) (told : Bool) → Borrows (Some (One c)) p (borrowed.List bytes told) → ⊥
 no_list (Unsigned n) p bytes told h = h
-no_list Signed p bytes told h = h
-no_list Truth p bytes told h = h
-no_list (Octets e) p bytes told h = h
-no_list Bytes p bytes told h = h
-no_list (Many n) p bytes told h = h
-no_list (Named n listed) p bytes told h = h
-no_list Protocol p bytes told h = h
-no_list Low p bytes told h = h
-no_list Empty p bytes told h = h
-no_list Limits p bytes told h = h
+no_list c p bytes told h = h
 
 list_by : (o : Option Shape) (f : ℕ) (p : List ℕ) (v : AttrValue) (bytes : Bor (List ℕ)) (told : Bool) → GivesBy o f p (Ok v) → Borrows o p (borrowed.List bytes told) → Decodes (elements_by o) bytes.now
 list_by None f p v bytes told given h = absurd h

@@ -1,6 +1,7 @@
 -- Tests of equality that decide a relation: of two parts, of options, and of lists.
 use Rattle.std.proofs.Common.{◌≡◌, ◌&&◌, Bool, true, false, List, [], ◌∷◌, map, Option, Some, None, refl, sym, ap, ap₂, true≢false}
-use Rattle.std.specs.Bool.{Decides}
+use Rattle.std.specs.Bool.{Decides, beq}
+use Rattle.std.specs.Cmp.{booleans_Decides}
 use Rattle.std.specs.Cmp.Lexicographic.{pointwise}
 use Rattle.std.specs.Option.{option_eq, option_map}
 
@@ -14,6 +15,10 @@ same d None None = (λ _. refl, λ _. refl)
 same d None (Some y) = (λ h. absurd (true≢false (sym h)), λ h. absurd cc)
 same d (Some x) None = (λ h. absurd (true≢false (sym h)), λ h. absurd cc)
 same d (Some x) (Some y) = (λ h. ap Some ((d x y).0 h), λ h. let e : x ≡ y = cc in (d x y).1 e)
+
+-- a flag is equal to itself
+pub optional_same : (flag : Option Bool) → option_eq beq flag flag ≡ true
+optional_same flag = (same booleans_Decides flag flag).1 refl
 
 -- options that look the same
 pub options : {T U : Type 0} {E : T → T → Bool} (view : T → U) → ((x y : T) → Decides (E x y) (view x ≡ view y)) → (x y : Option T) → Decides (option_eq E x y) (option_map view x ≡ option_map view y)

@@ -7,13 +7,13 @@ use Rattle.link_base.specs.Number.{IsBytes, number}
 use Rattle.link_base.specs.declared.wire.fault.Cause.TheVariants.{TooShort, WrongLength}
 use Rattle.link_base.specs.Frame.{Frame, Frames, AreFrames, kind_of, pad, frame_bytes, spelled}
 use Rattle.link_base.specs.Wire.{whole}
-use Rattle.link_base.specs.Class.{Exactly, AtLeast, Fixed, Multiple, Class, Unsigned, Signed, Truth, Octets, Bytes, Many, Named, Protocol, Low, Empty, Limits, extent, length_cause, meant, written}
+use Rattle.link_base.specs.Class.{Exactly, AtLeast, Fixed, Multiple, AtMost, Class, Unsigned, Signed, Truth, Optional, Octets, Bytes, Many, Named, Protocol, Low, Empty, Limits, extent, length_cause, meant, written}
 use Rattle.link_base.specs.Table.{Row, row_at, class_at, Rows, Leaf, LeafGives, leaf_field, leaf_payload, written_leaves, Shape, One, Nested, Addresses, Content, Table, AttrValue, of_length, Gives, addresses_from, content_payload, Fits}
 use Rattle.link_base.specs.Coherent.{is_shape_of}
 use Rattle.link_base.specs.Held.{IsOctets}
 use Rattle.link_base.specs.WellFormed.{is_class, is_kept, are_rows, is_nested_class, has_text, rows_in, is_shape, is_row, is_table, IsOverfull}
 use Rattle.link_base.proofs.Numbers.{length-bytes_of}
-use Rattle.link_base.proofs.ClassLemmas.{exactly, written_short, written-named, none_else}
+use Rattle.link_base.proofs.ClassLemmas.{exactly, at_most, optional_length, written_short, written-named, none_else}
 use Rattle.link_base.proofs.FrameBytes.{length-frame_bytes, length-complete}
 use Rattle.link_base.proofs.Readings.{ReadEach}
 use Rattle.link_base.proofs.Written.{known_of}
@@ -37,10 +37,12 @@ kept_length : (c : Class) (p : List ℕ) → is_kept c ≡ true → length_cause
 kept_length (Unsigned n) p k e = omega (arith, exactly n (length p) e, length-bytes_of n (number p))
 kept_length Signed p k e = omega (arith, exactly 4 (length p) e)
 kept_length Truth p k e = omega (arith, exactly 1 (length p) e)
+kept_length Optional p k e = optional_length p (at_most 1 (length p) e)
 kept_length (Octets (Exactly n)) p k e = omega (arith, exactly n (length p) e, length-take n p)
 kept_length (Octets (AtLeast n)) p k e = absurd (false≢true k)
 kept_length (Octets (Fixed n)) p k e = omega (arith, whole_is n (length p) e, length-take n p)
 kept_length (Octets (Multiple n)) p k e = absurd (false≢true k)
+kept_length (Octets (AtMost n)) p k e = absurd (false≢true k)
 kept_length Bytes p k e = refl
 kept_length (Many n) p k e = refl
 kept_length (Named n listed) p k e = omega (arith, exactly n (length p) e, ap length (written-named n listed (number p)), length-bytes_of n (number p))

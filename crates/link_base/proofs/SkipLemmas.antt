@@ -1,5 +1,5 @@
 -- Attributes that are skipped, since others of their length decode.
-use Rattle.std.proofs.Common.{◌≡◌, ◌≢◌, ℕ, ◌+◌, ◌≤◌, true, false, List, [], ◌∷◌, ◌++◌, length, take, drop, suc, Option, Some, None, Result, Ok, refl, sym, ap, subst, ◌∙◌, arith}
+use Rattle.std.proofs.Common.{◌≡◌, ◌≢◌, ℕ, ◌+◌, ◌≤◌, List, [], ◌∷◌, ◌++◌, length, take, drop, suc, Option, Some, None, Result, Ok, refl, sym, ap, subst, ◌∙◌, arith}
 use Rattle.std.specs.List.{AllZip}
 use Rattle.std.proofs.lemmas.List.{length-append, length-take}
 use Rattle.link_base.specs.declared.wire.fault.Cause.{Cause}
@@ -9,7 +9,7 @@ use Rattle.link_base.specs.Number.{IsBytes}
 use Rattle.link_base.specs.Frame.{Frame, BeginsWith, bare, kind_of, pad, frame_bytes, spelled}
 use Rattle.link_base.specs.Layout.{number_at}
 use Rattle.link_base.specs.Wire.{Reading, FrameGives}
-use Rattle.link_base.specs.Table.{Rows, Shape, One, Nested, Addresses, Table, AttrValue, Other, Gives, GivesBy, class_at, single_case}
+use Rattle.link_base.specs.Table.{Rows, Shape, One, Table, AttrValue, Other, Gives, GivesBy, class_at, single_case}
 use Rattle.link_base.specs.Default.{default_table}
 use Rattle.link_base.specs.Lift.{lift_table}
 use Rattle.link_base.specs.Checked.{Passes, Settles}

@@ -1,11 +1,11 @@
 -- Structs: what their fields hold is written as the bytes that were read.
-use Rattle.std.proofs.Common.{◌≡◌, ℕ, ◌+◌, ◌≤◌, Bool, true, List, [], ◌∷◌, ◌++◌, length, take, drop, None, refl, sym, ap, ap₂, subst, ◌∙◌, arith, length-take, length-drop}
-use Rattle.std.specs.Prelude.{◌==◌, ◌&&◌}
+use Rattle.std.proofs.Common.{◌≡◌, ℕ, ◌+◌, ◌≤◌, Bool, true, List, [], ◌∷◌, ◌++◌, length, take, drop, None, refl, sym, ap, ap₂, ◌∙◌, arith, length-take, length-drop}
+use Rattle.std.specs.Prelude.{◌==◌}
 use Rattle.std.specs.List.{list_all}
 use Rattle.std.proofs.Math.Seq.{take-add}
 use Rattle.std.proofs.lemmas.Bool.{and_parts, eqb-true}
 use Rattle.link_base.specs.Number.{IsBytes}
-use Rattle.link_base.specs.Class.{Extent, Exactly, AtLeast, Fixed, Multiple, Class, Unsigned, Signed, Truth, Octets, Bytes, Many, Named, Protocol, Low, Empty, Limits, extent, size_of, length_cause, meant, written}
+use Rattle.link_base.specs.Class.{Extent, Exactly, Class, Unsigned, Signed, Octets, Named, size_of, length_cause, meant, written}
 use Rattle.link_base.specs.Structs.{width_of, total, values_along, packed, is_exact, is_whole}
 use Rattle.link_base.proofs.ClassLemmas.{tidy_iff, at_size, size_reached}
 use Rattle.link_base.proofs.Values.{bytes-take, bytes-drop}
@@ -16,16 +16,7 @@ exact_back (Unsigned n) p is h e = (tidy_iff (Unsigned n) p h (at_size (Exactly 
 exact_back Signed p is h e = (tidy_iff Signed p h (at_size (Exactly 4) (length p) e)).1 tt
 exact_back (Named n listed) p is h e = (tidy_iff (Named n listed) p h (at_size (Exactly n) (length p) e)).1 tt
 exact_back (Octets (Exactly n)) p is h e = (tidy_iff (Octets (Exactly n)) p h (at_size (Exactly n) (length p) e)).1 e
-exact_back (Octets (AtLeast n)) p is h e = absurd cc
-exact_back (Octets (Fixed n)) p is h e = absurd cc
-exact_back (Octets (Multiple n)) p is h e = absurd cc
-exact_back Truth p is h e = absurd cc
-exact_back Bytes p is h e = absurd cc
-exact_back (Many n) p is h e = absurd cc
-exact_back Protocol p is h e = absurd cc
-exact_back Low p is h e = absurd cc
-exact_back Empty p is h e = absurd cc
-exact_back Limits p is h e = absurd cc
+exact_back c p is h e = absurd cc
 
 -- the bytes of exact fields are what is written for their values
 fields_back : (classes : List Class) (p : List ℕ) → list_all is_exact classes ≡ true → IsBytes p → total classes ≤ length p → packed (values_along classes p) ≡ take (total classes) p

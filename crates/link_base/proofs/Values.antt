@@ -1,5 +1,5 @@
 -- Values of the classes: decoded values are in range, and values in range can be written and decoded again.
-use Rattle.std.proofs.Common.{◌≡◌, ◌⊎◌, ℕ, ℤ, zero, suc, ◌-◌, ◌<◌, ◌≤◌, true, false, List, [], ◌∷◌, ◌++◌, length, take, drop, reverse, replicate, slice_index, None, Ok, refl, sym, ap, ap₂, subst, ◌∙◌, arith, inl, inr, ⊎_elim, length-append, length-take, length-drop, take_all, IsUtf8}
+use Rattle.std.proofs.Common.{◌≡◌, ◌⊎◌, ℕ, ℤ, zero, suc, ◌-◌, ◌<◌, ◌≤◌, Bool, true, false, List, [], ◌∷◌, ◌++◌, length, take, drop, reverse, replicate, slice_index, Option, Some, None, Ok, refl, sym, ap, ap₂, subst, ◌∙◌, arith, inl, inr, ⊎_elim, length-append, length-take, length-drop, take_all, IsUtf8}
 use Rattle.std.specs.Prelude.{◌==◌, nat_lt, FitsSigned}
 use Rattle.std.specs.Int.{w32, cast_signed, cast_unsigned}
 use Rattle.std.specs.Str.Lossy.{utf8_lossy}
@@ -12,7 +12,7 @@ use mir.ValLaws.{of_z_fits}
 use mir.Facts.{Fits-lt-pow}
 use Rattle.link_base.specs.Number.{IsBytes, number, bytes_of, bound}
 use Rattle.link_base.specs.Name.{name_of, name_field, cut_name, HasNoNul, IsNameField, before_nul}
-use Rattle.link_base.specs.Class.{Exactly, AtLeast, size_of, length_cause, Class, Unsigned, Signed, Truth, Octets, Bytes, Many, Named, Protocol, Low, Empty, Limits, Value, Number, Integer, Boolean, Raw, Name, Unlisted, EtherType, LowByte, Nothing, Limited, extent, is_listed, named, meant, class_value, written, canon, cut, IsUncut, IsInRange, IsCanonicalPayload}
+use Rattle.link_base.specs.Class.{Exactly, AtLeast, size_of, length_cause, Class, Unsigned, Signed, Truth, Optional, Octets, Bytes, Many, Named, Protocol, Low, Empty, Limits, Value, Number, Integer, Boolean, Raw, Name, Unlisted, EtherType, LowByte, Nothing, Limited, extent, is_listed, named, flag_in, flag_value, meant, class_value, written, canon, cut, IsUncut, IsInRange, IsCanonicalPayload}
 use Rattle.link_base.proofs.NameLemmas.{name_of-field, cut_is_canonical_lem, cut_once_lem, bytes-text, before_nul-clean}
 use Rattle.link_base.proofs.LossyLemmas.{IsUtf8-lossy}
 use Rattle.link_base.proofs.Numbers.{number-bytes_of, length-bytes_of, IsBytes-bytes_of}
@@ -50,11 +50,17 @@ byte_at (suc i) (x ∷ xs) h = byte_at i xs h.1
 
 -- ---- decoded values
 
+-- a flag is in range
+pub flag_in_range : (flag : Option Bool) → IsInRange Optional (flag_value flag)
+flag_in_range None = tt
+flag_in_range (Some b) = tt
+
 -- what an accepted payload means is in range
 pub meant_in_range : (c : Class) (p : List ℕ) → IsBytes p → length_cause (extent c) (length p) ≡ None → IsInRange c (meant c p)
 meant_in_range (Unsigned n) p h e = (refl, number_in n p h (exactly n (length p) e))
 meant_in_range Signed p h e = read_sfits w32 (number p)
 meant_in_range Truth p h e = tt
+meant_in_range Optional p h e = flag_in_range (flag_in p)
 meant_in_range (Octets x) p h e =
     let le = size_reached x (length p) e in
     (omega (arith, length-take (size_of x) p), bytes-take (size_of x) p h)
@@ -75,19 +81,20 @@ meant_in_range Limits p h e =
       bytes-take 32 (drop 16 p) (bytes-drop 16 p h),
     )
 
+-- a flag is its own normal form, and `cut` leaves it unchanged
+flag_canon : (flag : Option Bool) → canon (flag_value flag) ≡ flag_value flag
+flag_canon None = refl
+flag_canon (Some b) = refl
+
+pub flag_cut : (flag : Option Bool) → cut (flag_value flag) ≡ flag_value flag
+flag_cut None = refl
+flag_cut (Some b) = refl
+
 -- what a payload means is its own normal form
 pub meant_canon : (c : Class) (p : List ℕ) → canon (meant c p) ≡ meant c p
 meant_canon (Named n listed) p = canon-named n listed (number p)
-meant_canon (Unsigned n) p = refl
-meant_canon Signed p = refl
-meant_canon Truth p = refl
-meant_canon (Octets x) p = refl
-meant_canon Bytes p = refl
-meant_canon (Many n) p = refl
-meant_canon Protocol p = refl
-meant_canon Low p = refl
-meant_canon Empty p = refl
-meant_canon Limits p = refl
+meant_canon Optional p = flag_canon (flag_in p)
+meant_canon c p = refl
 
 -- ---- what is written for a value in range decodes to its normal form, after `cut`
 
@@ -120,6 +127,9 @@ back Signed (Integer z) h =
     (ap (λ x. Integer (cast_signed w32 x)) (number-bytes_of 4 (cast_unsigned w32 z) (of_z_below z h)) ∙ ap Integer (to_z-of_z w32 z h))
 back Truth (Boolean true) h = refl
 back Truth (Boolean false) h = refl
+back Optional Nothing h = refl
+back Optional (Boolean true) h = refl
+back Optional (Boolean false) h = refl
 back (Octets x) (Raw p) h = reads_as (Octets x) p (Raw p) (at_size x (length p) h.0) (ap Raw (take_all (size_of x) p (omega (arith, h.0))))
 back Bytes (Raw p) h = reads_as Bytes p (Raw p) (reached 0 (length p) (omega arith)) refl
 back (Many n) (Raw p) h = reads_as (Many n) p (Raw p) (at_multiple n (length p) h.0) refl
@@ -154,6 +164,9 @@ written_bytes (Unsigned n) (Number m x) h = IsBytes-bytes_of m x
 written_bytes Signed (Integer z) h = IsBytes-bytes_of 4 (cast_unsigned w32 z)
 written_bytes Truth (Boolean true) h = (omega arith, tt)
 written_bytes Truth (Boolean false) h = (omega arith, tt)
+written_bytes Optional Nothing h = tt
+written_bytes Optional (Boolean true) h = (omega arith, tt)
+written_bytes Optional (Boolean false) h = (omega arith, tt)
 written_bytes (Octets x) (Raw p) h = h.1
 written_bytes Bytes (Raw p) h = h
 written_bytes (Many n) (Raw p) h = h.1
@@ -184,6 +197,12 @@ uncut_stays c v h k = (refl, refl)
 
 -- ---- what is written for a decoded value, after `cut`
 
+-- what is written for a flag is canonical
+flag_canonical : (flag : Option Bool) → IsCanonicalPayload Optional (written (cut (flag_value flag)))
+flag_canonical None = record { is_accepted = refl; is_tidy = inl refl }
+flag_canonical (Some true) = record { is_accepted = refl; is_tidy = inr (inr refl) }
+flag_canonical (Some false) = record { is_accepted = refl; is_tidy = inr (inl refl) }
+
 -- what is written for a decoded value after `cut` is canonical
 pub cut_canonical : (c : Class) (p : List ℕ) → IsBytes p → length_cause (extent c) (length p) ≡ None → IsCanonicalPayload c (written (cut (meant c p)))
 cut_canonical (Unsigned n) p h e = record { is_accepted = at_size (Exactly n) _ (length-bytes_of n (number p)); is_tidy = tt }
@@ -191,6 +210,7 @@ cut_canonical Signed p h e = record { is_accepted = refl; is_tidy = tt }
 cut_canonical Truth p h e =
     cond_both (nat_lt 0 (number p)) 1 0 (λ b. IsCanonicalPayload Truth (b ∷ [])) (λ t. record { is_accepted = refl; is_tidy = inr refl })
     (λ t. record { is_accepted = refl; is_tidy = inl refl })
+cut_canonical Optional p h e = flag_canonical (flag_in p)
 cut_canonical (Octets x) p h e =
     let le = size_reached x (length p) e in
     let len : length (take (size_of x) p) ≡ size_of x = omega (arith, length-take (size_of x) p) in
@@ -219,17 +239,10 @@ cut_canonical Limits p h e =
 
 -- a second `cut` leaves a decoded value unchanged
 pub cut_again : (c : Class) (p : List ℕ) → cut (cut (meant c p)) ≡ cut (meant c p)
-cut_again (Unsigned n) p = refl
-cut_again Signed p = refl
-cut_again Truth p = refl
-cut_again (Octets x) p = refl
-cut_again Bytes p = refl
-cut_again (Many n) p = refl
+cut_again Optional p = ap cut (flag_cut (flag_in p))
 cut_again (Named n listed) p = ap cut (cut-named n listed (number p))
-cut_again Protocol p = refl
-cut_again Low p = refl
-cut_again Empty p = refl
 cut_again Limits p = ap (λ t. Limited t (take 32 (drop 16 p))) (cut_once_lem (name_of (take 16 p)) (IsUtf8-lossy (before_nul (take 16 p))))
+cut_again c p = refl
 
 -- `cut` changes no length
 pub length-cut : (v : Value) → length (written (cut v)) ≡ length (written v)

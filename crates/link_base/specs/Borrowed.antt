@@ -5,7 +5,7 @@ use Rattle.link_base.specs.declared.views.content.Content.TheVariants as borrowe
 use Rattle.link_base.specs.declared.wire.buffer.NlaBuffer.{NlaBuffer}
 use Rattle.link_base.specs.declared.rows.form.Form.{Form}
 use Rattle.link_base.specs.declared.rows.form.Form.TheVariants as forms
-use Rattle.link_base.specs.Class.{Value, Limits, Number, Integer, Boolean, Raw, Name, Unlisted, EtherType, LowByte, Nothing, meant}
+use Rattle.link_base.specs.Class.{Value, Limits, Number, Integer, Boolean, Raw, Name, Unlisted, EtherType, LowByte, Nothing, flag_value, meant}
 use Rattle.link_base.specs.declared.rows.form.Order.{Order}
 use Rattle.link_base.specs.declared.rows.form.Order.TheVariants as orders
 use Rattle.link_base.specs.declared.rows.form.Role.{Role}
@@ -37,6 +37,7 @@ number_value orders.Big role n x = Raw (bytes_be n x)
 abbrev pub Says : Borrowed → Value → Type 0
 Says borrowed.Nothing v = v ≡ Nothing
 Says (borrowed.Bool b) v = v ≡ Boolean b
+Says (borrowed.FlagOrBool flag) v = v ≡ flag_value flag
 Says (borrowed.Number x w order role) v = (told v ≡ number_value order role (bytes_in w) x) × (x < bound (bytes_in w))
 Says (borrowed.Signed z) v = v ≡ Integer z
 Says (borrowed.LowFlags b) v = v ≡ LowByte b
@@ -46,7 +47,7 @@ Says (borrowed.Protocol p) v = v ≡ EtherType (protocol_number p)
 Says (borrowed.Mac a) v = v ≡ Raw a
 Says (borrowed.Ipv4 a) v = v ≡ Raw (four_octets a)
 Says (borrowed.Ipv6 a) v = v ≡ Raw (sixteen_octets a)
-Says (borrowed.Bytes p) v = v ≡ Raw p.now
+Says (borrowed.Bytes look p) v = v ≡ Raw p.now
 Says (borrowed.Struct layout p) v = v ≡ Raw p.now
 Says (borrowed.Numbers w p) v = v ≡ Raw p.now
 Says content v = ⊥
@@ -89,6 +90,7 @@ BorrowsBy form p content = (names : List (ℕ × List ℕ)) → Borrows (Some (O
 abbrev pub form_of : Borrowed → Option Form
 form_of borrowed.Nothing = Some forms.Nothing
 form_of (borrowed.Bool b) = Some forms.Bool
+form_of (borrowed.FlagOrBool flag) = Some forms.FlagOrBool
 form_of (borrowed.Number x w order role) = Some (forms.Number w order role)
 form_of (borrowed.Signed z) = Some forms.Signed
 form_of (borrowed.LowFlags b) = Some forms.LowFlags
@@ -98,7 +100,7 @@ form_of (borrowed.Protocol p) = Some forms.Protocol
 form_of (borrowed.Mac a) = Some forms.Mac
 form_of (borrowed.Ipv4 a) = Some forms.Ipv4
 form_of (borrowed.Ipv6 a) = Some forms.Ipv6
-form_of (borrowed.Bytes p) = Some forms.Bytes
+form_of (borrowed.Bytes look p) = Some (forms.Bytes look)
 form_of (borrowed.Struct layout p) = Some (forms.Struct layout)
 form_of (borrowed.Numbers w p) = Some (forms.Numbers w)
 form_of (borrowed.Limits name numbers) = Some forms.Limits

@@ -11,16 +11,18 @@ use Rattle.link_base.specs.declared.wire.fault.Cause.TheVariants.{WrongLength, T
 -- ---- lengths
 
 -- the accepted lengths: `Exactly` n bytes; `AtLeast` n bytes, of which all classes except `Bytes` ignore those after
--- the first n; `Fixed`, exactly n bytes with one cause for fewer and another for more; a `Multiple` of n bytes
+-- the first n; `Fixed`, exactly n bytes with one cause for fewer and another for more; a `Multiple` of n bytes; `AtMost` n
+-- bytes
 pub data Extent : Type 0 where
-  Exactly AtLeast Fixed Multiple : ℕ → Extent
+  Exactly AtLeast Fixed Multiple AtMost : ℕ → Extent
 
--- the number of bytes that are kept of a struct; in a well-formed table `Octets` never has the extent `Multiple`
+-- the number of bytes that are kept of a struct; in a well-formed table `Octets` never has the extent `Multiple` or `AtMost`
 abbrev pub size_of : Extent → ℕ
 size_of (Exactly n) = n
 size_of (AtLeast n) = n
 size_of (Fixed n) = n
 size_of (Multiple n) = 0
+size_of (AtMost n) = 0
 
 -- why a payload of this length is rejected
 abbrev pub length_cause : Extent → ℕ → Option Cause
@@ -28,6 +30,7 @@ length_cause (Exactly n) got = if got == n then None else Some (WrongLength n go
 length_cause (AtLeast n) got = if nat_lt got n then Some (TooShort n got) else None
 length_cause (Fixed n) got = if nat_lt got n then Some (TooShort n got) else (if nat_lt n got then Some (WrongLength n got) else None)
 length_cause (Multiple n) got = if got % n == 0 then None else Some (WrongLength n got)
+length_cause (AtMost n) got = if nat_lt n got then Some (WrongLength n got) else None
 
 -- the value if there is no cause, otherwise the cause
 abbrev pub unless : {A : Type 0} → Option Cause → A → Result A Cause
@@ -52,6 +55,8 @@ pub data Class : Type 0 where
   Signed : Class
   -- a boolean: false if the byte is zero, otherwise true
   Truth : Class
+  -- a flag, which is set by being there: no byte, or a boolean
+  Optional : Class
   -- bytes that are kept unchanged: hardware and IP addresses, and structs
   Octets : Extent → Class
   -- bytes, of any length
@@ -96,6 +101,7 @@ abbrev pub extent : Class → Extent
 extent (Unsigned n) = Exactly n
 extent Signed = Exactly 4
 extent Truth = Exactly 1
+extent Optional = AtMost 1
 extent (Octets e) = e
 extent Bytes = AtLeast 0
 extent (Many n) = Multiple n
@@ -121,11 +127,27 @@ ether_type n = if n == 0x88A8 then 0x88A8 else 0x8100
 abbrev pub integer : List ℕ → ℤ
 integer p = cast_signed w32 (number p)
 
+-- a flag: none if there is no byte, otherwise whether the byte is not zero
+abbrev pub flag_in : List ℕ → Option Bool
+flag_in [] = None
+flag_in (b ∷ p) = Some (nat_lt 0 b)
+
+-- whether it is on: it is, without a byte
+abbrev pub is_on : Option Bool → Bool
+is_on None = true
+is_on (Some b) = b
+
+-- its value
+abbrev pub flag_value : Option Bool → Value
+flag_value None = Nothing
+flag_value (Some b) = Boolean b
+
 -- what an accepted payload means
 abbrev pub meant : Class → List ℕ → Value
 meant (Unsigned n) p = Number n (number p)
 meant Signed p = Integer (integer p)
 meant Truth p = Boolean (nat_lt 0 (number p))
+meant Optional p = flag_value (flag_in p)
 meant (Octets e) p = Raw (take (size_of e) p)
 meant Bytes p = Raw p
 meant (Many n) p = Raw p
@@ -176,6 +198,8 @@ abbrev pub IsInRange : Class → Value → Type 0
 IsInRange (Unsigned n) (Number m x) = (m ≡ n) × (x < bound n)
 IsInRange Signed (Integer z) = FitsSigned w32 z
 IsInRange Truth (Boolean b) = Unit {0}
+IsInRange Optional Nothing = Unit {0}
+IsInRange Optional (Boolean b) = Unit {0}
 IsInRange (Octets e) (Raw bytes) = (length bytes ≡ size_of e) × IsBytes bytes
 IsInRange Bytes (Raw bytes) = IsBytes bytes
 IsInRange (Many n) (Raw bytes) = (length bytes % n ≡ 0) × IsBytes bytes
@@ -192,6 +216,7 @@ IsInRange c v = ⊥
 -- an accepted payload is what is written for its value
 abbrev pub IsTidy : Class → List ℕ → Type 0
 IsTidy Truth p = (p ≡ 0 ∷ []) ⊎ (p ≡ 1 ∷ [])
+IsTidy Optional p = (p ≡ []) ⊎ ((p ≡ 0 ∷ []) ⊎ (p ≡ 1 ∷ []))
 IsTidy (Octets e) p = length p ≡ size_of e
 IsTidy Protocol p = (p ≡ 0x81 ∷ 0x00 ∷ []) ⊎ (p ≡ 0x88 ∷ 0xA8 ∷ [])
 IsTidy Low p = slice_index p 1 ≡ 0

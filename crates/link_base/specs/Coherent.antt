@@ -4,7 +4,7 @@ use Rattle.std.specs.List.{list_all, AllByRecursion}
 use Rattle.std.specs.Str.{bytes_eq}
 use Rattle.link_base.specs.declared.rows.form.Form.{Form}
 use Rattle.link_base.specs.declared.rows.form.Form.TheVariants as forms
-use Rattle.link_base.specs.Class.{Extent, Exactly, AtLeast, Fixed, Multiple, Class, Unsigned, Signed, Truth, Octets, Bytes, Many, Named, Protocol, Low, Empty, Limits}
+use Rattle.link_base.specs.Class.{Extent, Exactly, AtLeast, Fixed, Multiple, AtMost, Class, Unsigned, Signed, Truth, Optional, Octets, Bytes, Many, Named, Protocol, Low, Empty, Limits}
 use Rattle.link_base.specs.Payloads.{class_by}
 use Rattle.link_base.specs.Table.{Row, Shape, One, Nested, Addresses}
 
@@ -15,6 +15,7 @@ extent_code (Exactly n) = 0 ∷ n ∷ []
 extent_code (AtLeast n) = 1 ∷ n ∷ []
 extent_code (Fixed n) = 2 ∷ n ∷ []
 extent_code (Multiple n) = 3 ∷ n ∷ []
+extent_code (AtMost n) = 4 ∷ n ∷ []
 
 abbrev pub class_code : Class → List ℕ
 class_code (Unsigned n) = 0 ∷ n ∷ []
@@ -28,6 +29,7 @@ class_code Protocol = 7 ∷ []
 class_code Low = 8 ∷ []
 class_code Empty = 9 ∷ []
 class_code Limits = 10 ∷ []
+class_code Optional = 11 ∷ []
 
 -- ---- rows
 

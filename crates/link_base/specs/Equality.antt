@@ -1,6 +1,7 @@
 -- Equality tests that compare everything a value means: a derived `==`, variant by variant and field by field.
-use Rattle.std.specs.Prelude.{◌≡◌, ℕ, ℤ, nat_eq, string_eq, string_bytes, ◌==◌, ◌&&◌, Bool, true, false, List, [], ◌∷◌, map}
+use Rattle.std.specs.Prelude.{◌≡◌, ℕ, ℤ, nat_eq, string_eq, string_bytes, ◌==◌, ◌&&◌, Bool, true, false, List, [], ◌∷◌, map, Option, Some, None}
 use Rattle.std.specs.Bool.{beq}
+use Rattle.std.specs.Option.{option_eq}
 use Rattle.std.specs.Ordering.{int_eq}
 use Rattle.std.specs.Cmp.{first_so, second_so, unsigned_Decides, signed_Decides, booleans_Decides}
 use Rattle.std.specs.Cmp.Derive.{of_values}
@@ -81,6 +82,16 @@ integers = record { same = λ a b. (signed_Decides a b).0 }
 
 pub truths : IsThorough beq (λ (b : Bool). b)
 truths = record { same = λ a b. (booleans_Decides a b).0 }
+
+-- flags, each without a byte or with a boolean
+same_optional : (a b : Option Bool) → option_eq beq a b ≡ true → a ≡ b
+same_optional None None e = refl
+same_optional None (Some y) e = absurd (true≢false (sym e))
+same_optional (Some x) None e = absurd (true≢false (sym e))
+same_optional (Some x) (Some y) e = ap Some ((booleans_Decides x y).0 e)
+
+pub optional_truths : IsThorough (option_eq beq) (λ (flag : Option Bool). flag)
+optional_truths = record { same = same_optional }
 
 pub octets : IsThorough (pointwise nat_eq) (λ (bytes : List ℕ). bytes)
 octets = record { same = λ a b. (pointwise_decides unsigned_Decides a b).0 }
@@ -198,4 +209,4 @@ pub protocols : IsThorough (sameb (declared enum)) (λ (p : VlanProtocol). p)
 protocols = record { same = two_protocols }
 
 -- the lemmas with which `search` proves that the tests of fields are thorough
-pub ruleset thorough_fields = (defaults, byte_vectors, u16_vectors, u32_vectors, u64_vectors, four, sixteen, one_four, one_sixteen, numbers, integers, truths, octets, protocols, lists, anything)
+pub ruleset thorough_fields = (defaults, byte_vectors, u16_vectors, u32_vectors, u64_vectors, four, sixteen, one_four, one_sixteen, numbers, integers, truths, optional_truths, octets, protocols, lists, anything)

@@ -2,7 +2,7 @@
 use Rattle.std.specs.Prelude.{◌≡◌, ℕ, true, false, List, [], ◌∷◌, ◌++◌, codes, replicate}
 use Rattle.link_base.specs.declared.rows.form.Form.{Form}
 use Rattle.link_base.specs.declared.rows.label.Quantity.TheVariants as quantities
-use Rattle.link_base.specs.Payloads.{u32, u16s, ipv4, pair, no_value}
+use Rattle.link_base.specs.Payloads.{u32, flag_or_bool, text, u16s, ipv4, pair, no_value}
 use Rattle.link_base.specs.WellFormed.{is_table}
 use Rattle.link_base.specs.Table.{Shape, Table, AttrValue, row, row_of, nested_row, address_row, leaf_row, Gives, written_list}
 use Rattle.link_base.specs.Wire.{Wire}
@@ -27,6 +27,10 @@ lists = row 21 "EMPTY" no_value ∷ nested_row 47 "LIST" true (leaf_row 1 "OCTET
 -- attribute type 3: a list of pairs of numbers
 abbrev pub pairs : Table
 pairs = nested_row 3 "PAIRS" false (leaf_row 1 "PAIR" pair ∷ []) ∷ []
+
+-- attribute type 5: a flag, which may have a byte; attribute type 6: a text
+abbrev pub flags : Table
+flags = row 5 "FLAG" flag_or_bool ∷ row 6 "TEXT" text ∷ []
 
 -- the letter a thirteen times, then these bytes
 abbrev pub after_letters : List ℕ → List ℕ

@@ -1,6 +1,6 @@
 -- The widths of numbers, and the lengths of structs.
 use Rattle.std.specs.Prelude.{ℕ}
-use Rattle.link_base.specs.Class.{Extent, Exactly, AtLeast, Fixed}
+use Rattle.link_base.specs.Class.{Extent, Exactly, AtLeast, Fixed, AtMost}
 use Rattle.link_base.specs.declared.classes.lengths.Lengths.{Lengths}
 use Rattle.link_base.specs.declared.classes.lengths.Lengths.TheVariants as lengths
 use Rattle.link_base.specs.declared.rows.form.Layout.{Layout}
@@ -20,6 +20,7 @@ abbrev pub extent_of : Lengths → Extent
 extent_of (lengths.Exactly n) = Exactly n
 extent_of (lengths.AtLeast n) = AtLeast n
 extent_of (lengths.Fixed n) = Fixed n
+extent_of (lengths.AtMost n) = AtMost n
 
 -- the lengths of a struct that are accepted
 abbrev pub layout_extent : Layout → Extent

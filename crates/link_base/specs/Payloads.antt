@@ -12,7 +12,8 @@ use Rattle.link_base.specs.declared.rows.label.Quantity.{Quantity}
 use Rattle.link_base.specs.declared.rows.label.Quantity.TheVariants as quantities
 use Rattle.link_base.specs.declared.rows.form.Form.{Form}
 use Rattle.link_base.specs.declared.rows.form.Form.TheVariants as forms
-use Rattle.link_base.specs.Class.{Exactly, Class, Unsigned, Signed, Truth, Octets, Bytes, Many, Named, Protocol, Low, Empty, Limits}
+use Rattle.link_base.specs.declared.rows.form.Look.TheVariants as looks
+use Rattle.link_base.specs.Class.{Exactly, Class, Unsigned, Signed, Truth, Optional, Octets, Bytes, Many, Named, Protocol, Low, Empty, Limits}
 use Rattle.link_base.specs.Named.{Naming, texts_of}
 use Rattle.link_base.specs.Protocol.{vlan_protocols}
 use Rattle.link_base.specs.Fields.{FieldRow}
@@ -34,6 +35,7 @@ number_class Big role n names = Octets (Exactly n)
 abbrev pub class_by : Form → List (ℕ × List ℕ) → Class
 class_by forms.Nothing names = Empty
 class_by forms.Bool names = Truth
+class_by forms.FlagOrBool names = Optional
 class_by (forms.Number w order role) names = number_class order role (bytes_in w) names
 class_by forms.Signed names = Signed
 class_by forms.LowFlags names = Low
@@ -43,7 +45,7 @@ class_by forms.Protocol names = Protocol
 class_by forms.Mac names = Octets (Exactly 6)
 class_by forms.Ipv4 names = Octets (Exactly 4)
 class_by forms.Ipv6 names = Octets (Exactly 16)
-class_by forms.Bytes names = Bytes
+class_by (forms.Bytes look) names = Bytes
 class_by (forms.Struct layout) names = Octets (layout_extent layout)
 class_by (forms.Numbers w) names = Many (bytes_in w)
 class_by forms.Limits names = Limits
@@ -56,7 +58,8 @@ class_of p = class_by p.form p.names
 
 -- payloads of the form are written with one size
 abbrev pub is_fixed : Form → Bool
-is_fixed forms.Bytes = false
+is_fixed forms.FlagOrBool = false
+is_fixed (forms.Bytes look) = false
 is_fixed (forms.Numbers w) = false
 is_fixed forms.Limits = false
 is_fixed (forms.Addresses n) = false
@@ -91,6 +94,10 @@ i32 = plain forms.Signed
 abbrev pub truth : Payloads
 truth = plain forms.Bool
 
+-- a flag without a payload, or a boolean
+abbrev pub flag_or_bool : Payloads
+flag_or_bool = plain forms.FlagOrBool
+
 -- in network byte order
 abbrev pub u16_be : Payloads
 u16_be = plain (forms.Number Two Big roles.Plain)
@@ -113,6 +120,12 @@ abbrev pub u32_enum : {T : Type 0} → Naming T → Payloads
 u32_enum names = with_names (forms.Number Four Little roles.Enum) (texts_of names)
 
 -- a number of an enum of the headers, for which Rust has no enum
+abbrev pub u8_coded : List (ℕ × List ℕ) → Payloads
+u8_coded names = with_names (forms.Number One Little roles.Coded) names
+
+abbrev pub u16_coded : List (ℕ × List ℕ) → Payloads
+u16_coded names = with_names (forms.Number Two Little roles.Coded) names
+
 abbrev pub u32_coded : List (ℕ × List ℕ) → Payloads
 u32_coded names = with_names (forms.Number Four Little roles.Coded) names
 
@@ -180,7 +193,11 @@ abbrev pub u64s : Payloads
 u64s = plain (forms.Numbers Eight)
 
 abbrev pub bytes : Payloads
-bytes = plain forms.Bytes
+bytes = plain (forms.Bytes looks.Address)
+
+-- bytes that are shown as a text
+abbrev pub text : Payloads
+text = plain (forms.Bytes looks.Text)
 
 abbrev pub no_value : Payloads
 no_value = plain forms.Nothing

@@ -4,19 +4,20 @@ use Rattle.std.specs.List.{list_all}
 use Rattle.std.specs.Str.{bytes_eq}
 use Rattle.link_base.specs.Number.{bound}
 use Rattle.link_base.specs.Frame.{kind_limit}
-use Rattle.link_base.specs.Class.{Extent, AtLeast, Multiple, Class, Octets, Many, Named, Empty, Limits}
+use Rattle.link_base.specs.Class.{Extent, AtLeast, Multiple, AtMost, Class, Octets, Many, Named, Empty, Limits}
 use Rattle.link_base.specs.Coherent.{is_shape_of}
 use Rattle.link_base.specs.Fields.{FieldRow}
 use Rattle.link_base.specs.Named.{are_distinct}
 use Rattle.link_base.specs.Table.{Row, Rows, Shape, One, Nested, Addresses, Table}
 
--- the extent is a number of bytes, not a multiple of one
+-- the extent is a number of bytes, not a multiple of one, and not a maximum
 abbrev pub is_record : Extent → Bool
 is_record (Multiple n) = false
+is_record (AtMost n) = false
 is_record e = true
 
--- `Octets` never has the extent `Multiple`, the numbers in an array have two, four or eight bytes, and each number with a name
--- fits in its bytes
+-- `Octets` never has the extent `Multiple` or `AtMost`, the numbers in an array have two, four or eight bytes, and each number
+-- with a name fits in its bytes
 abbrev pub is_class : Class → Bool
 is_class (Octets e) = is_record e
 is_class (Many n) = n == 2 || (n == 4 || n == 8)
@@ -27,6 +28,7 @@ is_class c = true
 abbrev pub is_kept : Class → Bool
 is_kept (Octets (AtLeast n)) = false
 is_kept (Octets (Multiple n)) = false
+is_kept (Octets (AtMost n)) = false
 is_kept Empty = false
 is_kept Limits = false
 is_kept c = true

@@ -35,15 +35,13 @@ use Rattle.link_entries.specs.Agreement.{IsEntry, IsSame, element_fields, SameIn
 use Rattle.link_entries.proofs.RowForms.{is_list, with_kind, field_kind}
 use Rattle.link_entries.proofs.Spellings.{frame_low}
 use Rattle.link_entries.proofs.BackValues.{StandsAt}
-use Rattle.link_entries.proofs.BackArrays.{bytes_of_item}
+use Rattle.link_entries.proofs.BackElements.{bytes_of_item}
 use Rattle.link_entries.proofs.Located.{Located, located_in, Suffix, suffix_payload, suffix_rest}
 use Rattle.link_entries.proofs.WrittenLists.{same_spells, form_held, framed_ok}
-use Rattle.link_entries.proofs.WrittenSizes.{number_size}
-use Rattle.link_entries.proofs.WrittenAttributes.{numbers_length}
-use Rattle.link_entries.proofs.WrittenFields.{field_held, field_low}
-use Rattle.link_entries.proofs.AgreeClasses.{number_read, address_is, address_read}
-use Rattle.link_entries.proofs.WrittenParts.{goes}
-use Rattle.link_entries.proofs.AgreeSingles.{same_content, same_of, single_read}
+use Rattle.link_entries.proofs.WrittenSizes.{written_size}
+use Rattle.link_entries.proofs.WrittenDecodes.{numbers_length}
+use Rattle.link_entries.proofs.WrittenParts.{field_held, field_low, goes}
+use Rattle.link_entries.proofs.AgreeClasses.{number_read, address_is, address_read, same_content, same_of, single_read}
 
 -- ---- the first attribute of some bytes
 
@@ -92,8 +90,8 @@ module _ (table : Table) (w : Width) (k at : ℕ) (octets list : List ℕ) where
   numbers_same i j o [] s p deep held h place = tt
   numbers_same i j o (e ∷ es) s p deep held h place =
       let one = goes table (fields.Numbers w) k octets i e es s (ap (λ n. n == 0) deep.0) h in
-      let read = number_read e octets one.here held.0 form_unsigned w one.content in
-      let size = number_size e octets one.here held.0.octets form_unsigned w orders.Little _ one.content in
+      let read = number_read e octets one.here held.0 form_unsigned w orders.Little one.content in
+      let size = written_size e octets one.here held.0.octets (array_number w) refl one.content in
       let front : take (bytes_in w) (drop o p) ≡ one.here = ap (take (bytes_in w)) (place ∙ one.is) ∙ take_at one.here one.others (bytes_in w) size in
       let back : drop (o + bytes_in w) p ≡ one.others = sym (drop-drop (bytes_in w) o p) ∙ ap (drop (bytes_in w)) (place ∙ one.is) ∙ drop_at one.here one.others (bytes_in w) size in
       let same : IsSame (array_number w) octets e list (number_entry k at (bytes_in w) j (number (take (bytes_in w) (drop o p)))) = record {

@@ -1,26 +1,142 @@
--- The entries of a list spell what a rewriting of the list writes.
-use Rattle.std.proofs.Common.{◌≡◌, ℕ, ◌+◌, ◌==◌, true, cond, List, [], ◌∷◌, ◌++◌, length, Ok, Err, refl, sym, ap, ap₂, subst, ◌∙◌}
-use Rattle.std.specs.List.{AllZip, AllByRecursion}
-use Rattle.std.proofs.lemmas.Bool.{eq-eqb}
+-- Attributes and lists that were read spell what a rewriting writes.
+use Rattle.std.proofs.Common.{◌≡◌, ℕ, ◌+◌, ◌≤◌, true, false, List, [], ◌++◌, length, map, Option, Some, Ok, Err, refl, sym, ap, ap₂, subst, ◌∙◌, arith, ◌==◌, cond, ◌∷◌}
+use Rattle.std.proofs.lemmas.List.{append-nil}
+use Rattle.link_base.specs.declared.views.content.Content.{Content as Borrowed}
+use Rattle.link_base.specs.declared.rows.form.Form.{Form}
+use Rattle.link_base.specs.declared.rows.form.Form.TheVariants as forms
 use Rattle.link_base.specs.Number.{IsBytes}
-use Rattle.link_base.specs.Frame.{kind_of}
-use Rattle.link_base.specs.Wire.{Wire}
-use Rattle.link_base.specs.Table.{Table, AttrValue, Gives, Fits, Rewriting, written_frame, written_list}
-use Rattle.link_base.specs.Buffer.{kind_field_of, payload_of}
+use Rattle.link_base.specs.Class.{Many}
+use Rattle.link_base.specs.Forms.{bytes_in}
+use Rattle.link_base.specs.Frame.{kind_of, frame_bytes, spelled}
+use Rattle.link_base.specs.Wire.{whole, Wire}
+use Rattle.link_base.specs.Table.{Shape, One, Nested, Addresses, Inner, Listed, Table, AttrValue, Case, class_at, form_at, nested_flag, GivesBy, Gives, addresses_from, of_length, written_kind, written_payload, written_frame, written_list, Fits, Rewriting}
+use Rattle.link_base.specs.Lift.{lift}
+use Rattle.link_base.specs.Buffer.{kind_field_of, payload_of as payload_after}
+use Rattle.link_base.specs.Borrowed.{elements_by, elements_at, HasContent}
 use Rattle.link_base.specs.WellFormed.{is_table}
-use Rattle.link_base.proofs.Values.{bytes-take, bytes-drop}
-use Rattle.link_base.proofs.ViewLemmas.{first_value, split_of}
+use Rattle.link_base.proofs.Coherence.{elements_formed}
+use Rattle.link_base.proofs.Lifted.{written_same}
+use Rattle.link_base.proofs.Readings.{same_ok}
+use Rattle.link_base.proofs.ClassLemmas.{multiple}
 use Rattle.link_messages.specs.Walk.{Item, Walks}
 use Rattle.link_entries.specs.declared.entry.Entry.{Entry}
 use Rattle.link_entries.specs.Entry.{blank}
-use Rattle.link_entries.specs.Flat.{head_entry, IsGroup, Flat}
-use Rattle.link_entries.proofs.EntryFields.{AreBelow, elements_below, keeps_filled}
+use Rattle.link_entries.specs.Flat.{Elements, head_entry, IsGroup, Flat}
+use Rattle.link_entries.proofs.EntryFields.{keeps_filled, AreBelow, elements_below}
+use Rattle.link_entries.proofs.Shapes.{ElementsBy, elements_told}
+use Rattle.link_entries.specs.declared.fields.Fields.{Fields}
+use Rattle.link_entries.specs.declared.fields.Fields.TheVariants as fields
+use Rattle.link_entries.specs.Fields.{row_fields, fields_in, fields_at}
+use Rattle.link_entries.specs.Payload.{payload_of, field_of}
+use Rattle.link_entries.specs.Spelled.{alone, before, fitted, elements_of, attribute_of, begins_well, entries_of, spelled_by}
+use Rattle.link_entries.proofs.RowForms.{is_list, value_no_list, with_kind, RowTold, NoRow, OneValue, Array, AddressList, NestedList, row_says, element_no_list}
+use Rattle.link_entries.proofs.Spellings.{fitted_all}
+use Rattle.link_entries.proofs.BackValues.{StandsAt}
+use Rattle.link_entries.proofs.BackSingles.{none_below, value_read, list_back, single_back}
+use Rattle.link_entries.proofs.BackElements.{elements_end, array_spelled, addresses_spelled, payloads_read, wire_lifted, nested_spelled, none_values}
+use Rattle.link_entries.proofs.Located.{Located, suffix_whole, Suffix, suffix_payload, suffix_rest}
+use Rattle.std.specs.List.{AllZip, AllByRecursion}
+use Rattle.std.proofs.lemmas.Bool.{eq-eqb}
+use Rattle.link_base.proofs.Values.{bytes-take, bytes-drop}
+use Rattle.link_base.proofs.ViewLemmas.{first_value, split_of}
 use Rattle.link_entries.specs.declared.misfit.Misfit.TheVariants.{BadElement}
-use Rattle.link_entries.specs.Spelled.{before, attribute_of, entries_of, begins_well, spelled_by}
 use Rattle.link_entries.proofs.Groups.{joined}
-use Rattle.link_entries.proofs.BackArrays.{none_values}
-use Rattle.link_entries.proofs.BackAttributes.{attribute_back}
-use Rattle.link_entries.proofs.Located.{Located, Suffix, suffix_whole, suffix_payload, suffix_rest}
+
+-- ---- an attribute in parts
+
+attribute_parts : (table : Table) (own : Fields) (k : ℕ) (list : List ℕ) (e : Entry) (es : List Entry) (p t : List ℕ) (v : AttrValue) → fields_at table k ≡ own → e.kind ≡ k → field_of own k e ≡ written_kind v
+    → payload_of own e list ≡ Ok p → elements_of (elements_at table k) own k list 0 es ≡ Ok t → p ++ t ≡ written_payload v → length (written_payload v) ≤ 65531 → attribute_of table list e es ≡ Ok (written_frame v)
+attribute_parts table own k list e es p t v looked kind field payload elements all short =
+    ap (λ j. fitted (field_of (fields_at table j) j e) (before (alone (payload_of (fields_at table j) e list)) (elements_of (elements_at table j) (fields_at table j) j list 0 es))) kind
+    ∙ ap (λ o. fitted (field_of o k e) (before (alone (payload_of o e list)) (elements_of (elements_at table k) o k list 0 es))) looked
+    ∙ fitted_all (field_of own k e) (payload_of own e list) (elements_of (elements_at table k) own k list 0 es) p t payload elements (omega (arith, ap length all, short))
+    ∙ ap₂ (λ f q. Ok (frame_bytes (whole f q))) field all
+
+-- ---- one attribute
+
+module _ (table : Table) (formed : is_table table ≡ true) (list : List ℕ) (x : Item) (content : Borrowed) (has : HasContent table x.1 content) (es : List Entry) (below : Elements table (kind_of (kind_field_of x.1)) (x.0 + 4) content es)
+    (v : AttrValue) (given : Gives table (kind_field_of x.1) (payload_after x.1) (Ok v)) (fits : length (written_payload v) ≤ 65531) (rest : List Entry) (end : begins_well rest ≡ true)
+    (bytes : IsBytes (payload_after x.1)) (short : length (payload_after x.1) ≤ 65531) (stands : Located list (x.0 + 4) (payload_after x.1)) where
+  abbrev f : ℕ
+  f = kind_field_of x.1
+
+  abbrev k : ℕ
+  k = kind_of (kind_field_of x.1)
+
+  abbrev p : List ℕ
+  p = payload_after x.1
+
+  abbrev bare : Entry
+  bare = blank (kind_of (kind_field_of x.1)) 0 0 (x.0 + 4) (length (payload_after x.1))
+
+  abbrev head : Entry
+  head = head_entry x content (length es)
+
+  abbrev Goal : Type 0
+  Goal = attribute_of table list (head_entry x content (length es)) (es ++ rest) ≡ Ok (written_frame v)
+
+  at_bare : StandsAt bare list p
+  at_bare = record { size = refl; within = stands.within; short = short; is = stands.is }
+
+  head_kind : head.kind ≡ k
+  head_kind = (keeps_filled f content (length es) bare).kind
+
+  told : (o : Option Shape) (form : Option Form) → class_at table k ≡ o → form_at table k ≡ form → ElementsBy table k (x.0 + 4) o p form es
+  told = elements_told table x.1 content has (x.0 + 4) es below k p refl refl
+
+  -- no list
+  single : is_list (fields_at table k) ≡ false → Goal
+  single plain =
+      let own = fields_at table k in
+      let one = single_back table x.1 content has (length es) bare formed list bytes at_bare v given plain in
+      let nothing : es ≡ [] = none_below table k (x.0 + 4) content es (ap (λ o. is_list (fields_in o)) has.form ∙ plain) below in
+      attribute_parts table own k list head (es ++ rest) (written_payload v) [] v refl head_kind one.field (ap (λ j. payload_of own (with_kind head j) list) head_kind ∙ one.payload)
+      (ap (λ l. elements_of (elements_at table k) own k list 0 (l ++ rest)) nothing ∙ elements_end (elements_at table k) own k list 0 rest end) (append-nil (written_payload v)) fits
+
+  -- a list
+  listed : (own : Fields) (t : List ℕ) (w : AttrValue) → payload_of own head list ≡ Ok [] → fields_at table k ≡ own → field_of own k head ≡ written_kind w → elements_of (elements_at table k) own k list 0 (es ++ rest) ≡ Ok t
+      → t ≡ written_payload w → v ≡ w → Goal
+  listed own t w nothing looked field elements is value =
+      attribute_parts table own k list head (es ++ rest) [] t v looked head_kind (field ∙ ap written_kind (sym value)) nothing elements (is ∙ ap written_payload (sym value)) fits
+
+  by_row : RowTold table k → Goal
+  by_row (NoRow named class) = single (ap (λ o. is_list (fields_in o)) named)
+  by_row (OneValue form names named class one low) = single (ap (λ o. is_list (fields_in o)) named ∙ value_no_list (row_fields form) one)
+  by_row (Array w named class some low) =
+      let c = Many (bytes_in w) in
+      let own = fields.Numbers w in
+      let was = value_read c k p v (subst (λ o. GivesBy o f p (Ok v)) class given) in
+      let is = told (Some (One c)) (Some (forms.Numbers w)) class named in
+      let none : k ≡ k + 0 = omega arith in
+      listed own p (Case k _) (list_back table x.1 content has (length es) bare (forms.Numbers w) list named refl) (ap fields_in named) none
+      (ap (λ l. elements_of (elements_at table k) own k list 0 (l ++ rest)) is ∙ array_spelled (elements_at table k) w k (x.0 + 4) p list rest bytes end (multiple (bytes_in w) (length p) was.accepted))
+      refl was.value
+  by_row (AddressList n named class few low) = by_given (subst (λ o. GivesBy o f p (Ok v)) class given) where
+    by_given : GivesBy (Some (Addresses n)) f p (Ok v) → Goal
+    by_given (Ok vs, wire, value) =
+        let (items, walk, is) = told (Some (Addresses n)) (Some (forms.Addresses n)) class named in
+        let payloads = payloads_read (length p) p items walk.rest vs walk.walks walk.end wire in
+        let w = Case k (Listed (of_length n vs)) in
+        let none : k ≡ k + 0 = omega arith in
+        listed (fields.Addresses n) (spelled (addresses_from 0 (of_length n vs))) w (list_back table x.1 content has (length es) bare (forms.Addresses n) list named refl) (ap fields_in named) none
+        (ap (λ l. elements_of (elements_at table k) (fields.Addresses n) k list 0 (l ++ rest)) is ∙ addresses_spelled (elements_at table k) n k (x.0 + 4) list rest end few items
+        ∙ ap (λ a. Ok (spelled (addresses_from 0 (of_length n a)))) (sym payloads))
+        refl (same_ok v w value)
+    by_given (Err y, wire, value) = absurd cc
+  by_row (NestedList flagged rows named class low) = by_given (subst (λ o. GivesBy o f p (Ok v)) class given) where
+    by_given : GivesBy (Some (Nested flagged rows)) f p (Ok v) → Goal
+    by_given (Ok vs, wire, value) =
+        let (items, walk, each) = told (Some (Nested flagged rows)) (Some (forms.List flagged)) class named in
+        let flag = nested_flag flagged in
+        let w = Case k (Inner flagged vs) in
+        listed (fields.List flag) (written_list (map lift vs)) w (list_back table x.1 content has (length es) bare (forms.List flagged) list named refl) (ap fields_in named) refl
+        (nested_spelled (elements_at table k) (elements_formed table k formed) (λ j. element_no_list table k j formed) flag k list (x.0 + 4) p rest end short bytes stands 0 p items walk.rest es (map lift vs)
+        walk.walks walk.end (suffix_whole p) each (wire_lifted (elements_at table k) rows p vs (ap elements_by class) wire))
+        (written_same (map lift vs) vs refl) (same_ok v w value)
+    by_given (Err y, wire, value) = absurd cc
+
+  pub attribute_back : Goal
+  attribute_back = by_row (row_says table k formed)
 
 module _ (table : Table) (list : List ℕ) where
   -- elements add nothing to a list: their attribute does
@@ -42,7 +158,7 @@ module _ (table : Table) (list : List ℕ) where
   rest_back formed bytes s (x ∷ items) u (g ∷ groups) vs walks last suffix each wire fit =
       let (content, has, (below, elements, is)) = each.0 in
       let b = x.1 in
-      let p = payload_of b in
+      let p = payload_after b in
       let k = kind_of (kind_field_of b) in
       let after = walks.1.0 in
       let split = walks.1.1 in

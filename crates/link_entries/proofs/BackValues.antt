@@ -1,5 +1,5 @@
 -- An entry that was read spells what a rewriting writes: payloads of one class.
-use Rattle.std.proofs.Common.{◌≡◌, inl, inr, ℕ, suc, ◌+◌, ◌-◌, ◌/◌, ◌%◌, ◌<◌, ◌≤◌, ◌==◌, ◌&&◌, ◌||◌, Bool, true, cond, pos, negsuc, List, [], ◌∷◌, ◌++◌, length, take, drop, reverse, replicate, Option, Ok, Err, sym, ap, ap₂, subst, ◌∙◌, arith, take_all, take_at, take-take}
+use Rattle.std.proofs.Common.{◌≡◌, inl, inr, ℕ, suc, ◌+◌, ◌-◌, ◌/◌, ◌%◌, ◌<◌, ◌≤◌, ◌==◌, ◌&&◌, ◌||◌, Bool, true, cond, pos, negsuc, List, [], ◌∷◌, ◌++◌, length, take, drop, replicate, Option, Ok, Err, refl, sym, ap, ap₂, ◌∙◌, arith, take_all, take_at, take-take}
 use Rattle.std.specs.Prelude.{nat_le, nat_lt, slice_index}
 use Rattle.std.specs.Int.{w32, w64, cast_signed, cast_unsigned}
 use mir.Val.{sel}
@@ -8,12 +8,16 @@ use Rattle.std.proofs.lemmas.Bool.{or_left, or_right, cases_lt, eq-eqb, le-leb, 
 use Rattle.std.proofs.lemmas.List.{length-take, length-drop, take-append-drop}
 use Rattle.link_base.specs.declared.rows.form.Width.{Width}
 use Rattle.link_base.specs.Forms.{bytes_in}
-use Rattle.link_base.specs.Number.{IsBytes, number, bytes_of, bytes_be, bound}
+use Rattle.link_base.specs.Number.{IsBytes, bytes_of, bound}
+use Rattle.link_base.specs.Orders.{bytes_by}
+use Rattle.link_base.specs.Class.{Raw}
+use Rattle.link_base.specs.declared.rows.form.Order.{Order}
 use Rattle.link_base.specs.declared.rows.form.Order.TheVariants as orders
 use Rattle.link_base.proofs.Orders.{be_below, be_back}
 use Rattle.link_base.specs.Layout.{number_at}
-use Rattle.link_base.proofs.Numbers.{number_below, bytes_of-number}
 use Rattle.link_base.proofs.Values.{bytes-take, bytes-drop}
+use Rattle.link_base.proofs.ClassLemmas.{number_in, same_bytes}
+use Rattle.link_entries.proofs.OneContent.{number_told}
 use Rattle.link_entries.specs.declared.entry.Entry.{Entry}
 use Rattle.link_entries.specs.Entry.{padded}
 use Rattle.link_entries.specs.declared.fields.Fields.{Fields}
@@ -21,7 +25,7 @@ use Rattle.link_entries.specs.declared.fields.Fields.TheVariants as fields
 use Rattle.link_entries.specs.declared.misfit.Misfit.{Misfit}
 use Rattle.link_entries.specs.declared.misfit.Misfit.TheVariants.{TooLong, BadForm, BadNumber, BadOctets}
 use Rattle.link_entries.specs.Fields.{any_number}
-use Rattle.link_entries.specs.Payload.{form_in, is_implied, is_i32, only_if, has_size, passed, content_of, payload_of, pair_of}
+use Rattle.link_entries.specs.Payload.{form_in, is_implied, is_i32, only_if, has_size, passed, content_of, payload_of}
 
 -- the payload p is at the offset of the entry e in the list
 pub record StandsAt (e : Entry) (list p : List ℕ) : Type 0 where
@@ -36,32 +40,25 @@ module _ (own : Fields) (e : Entry) (octets : List ℕ) where
   pub right_form : e.form ≡ form_in own → payload_of own e octets ≡ content_of own e octets
   right_form same = ap (λ b. cond (b || ((e.form == 0) && is_implied own)) (content_of own e octets) (Err BadForm)) (eq-eqb e.form (form_in own) same)
 
-pub ok_if : (b : Bool) (m : Misfit) (p : List ℕ) → b ≡ true → only_if b m p ≡ Ok p
-ok_if b m p h = ap (λ t. cond t (Ok p) (Err m)) h
+-- an entry that passes the tests of its fields
+pub passes : (own : Fields) (e : Entry) (octets p q : List ℕ) (b : Bool) (m : Misfit) → content_of own e octets ≡ only_if b m p → e.form ≡ form_in own → b ≡ true → p ≡ q → payload_of own e octets ≡ Ok q
+passes own e octets p q b m is same holds all = right_form own e octets same ∙ is ∙ ap (λ t. cond t (Ok p) (Err m)) holds ∙ ap Ok all
 
 -- ---- numbers
 
 pub number_back : (form : ℕ) (w : Width) (e : Entry) (octets : List ℕ) → e.form ≡ form → e.number < bound (bytes_in w) → payload_of (any_number form w orders.Little) e octets ≡ Ok (bytes_of (bytes_in w) e.number)
-number_back form w e octets same low =
-    let most = bound (bytes_in w) - 1 in
-    right_form (any_number form w orders.Little) e octets same ∙ ok_if (nat_le e.number most) BadNumber (bytes_of (bytes_in w) e.number) (le-leb e.number most (omega (arith, low)))
+number_back form w e octets same low = passes (any_number form w orders.Little) e octets _ _ _ BadNumber refl same (le-leb e.number (bound (bytes_in w) - 1) (omega (arith, low))) refl
+
+by_order : (order : Order) (n : ℕ) (q : List ℕ) → IsBytes q → length q ≡ n → (number_told order (Raw q) < bound n) × (bytes_by order n (number_told order (Raw q)) ≡ q)
+by_order orders.Little n q bytes size = (number_in n q bytes size, same_bytes n q bytes size)
+by_order orders.Big n q bytes size = (be_below n q bytes size, be_back n q bytes size)
 
 -- the number of a whole payload
-pub whole_number : (form : ℕ) (w : Width) (p : List ℕ) (e : Entry) (octets : List ℕ) → IsBytes p → length p ≡ bytes_in w → e.form ≡ form → e.number ≡ number p
-    → payload_of (any_number form w orders.Little) e octets ≡ Ok (bytes_of (bytes_in w) (number p))
-whole_number form w p e octets bytes size same is =
-    let low : number p < bound (bytes_in w) = subst (λ n. number p < bound n) size (number_below p bytes) in
-    number_back form w e octets same (subst (λ x. x < bound (bytes_in w)) (sym is) low) ∙ ap (λ x. Ok (bytes_of (bytes_in w) x)) is
-
--- in network byte order
-pub whole_big : (form : ℕ) (w : Width) (q : List ℕ) (e : Entry) (octets : List ℕ) → IsBytes q → length q ≡ bytes_in w → e.form ≡ form → e.number ≡ number (reverse q)
-    → payload_of (any_number form w orders.Big) e octets ≡ Ok q
-whole_big form w q e octets bytes size same is =
-    let most = bound (bytes_in w) - 1 in
-    let low : number (reverse q) < bound (bytes_in w) = be_below (bytes_in w) q bytes size in
-    right_form (any_number form w orders.Big) e octets same
-    ∙ ok_if (nat_le e.number most) BadNumber (bytes_be (bytes_in w) e.number) (le-leb e.number most (omega (arith, low, is)))
-    ∙ ap Ok (ap (bytes_be (bytes_in w)) is ∙ be_back (bytes_in w) q bytes size)
+pub whole_number : (form : ℕ) (w : Width) (order : Order) (q : List ℕ) (e : Entry) (octets : List ℕ) → IsBytes q → length q ≡ bytes_in w → e.form ≡ form → e.number ≡ number_told order (Raw q)
+    → payload_of (any_number form w order) e octets ≡ Ok q
+whole_number form w order q e octets bytes size same is =
+    let (low, back) = by_order order (bytes_in w) q bytes size in
+    passes (any_number form w order) e octets _ q _ BadNumber refl same (le-leb e.number (bound (bytes_in w) - 1) (omega (arith, low, is))) (ap (bytes_by order (bytes_in w)) is ∙ back)
 
 -- ---- bytes that were passed in
 
@@ -75,37 +72,26 @@ passed_back size e list p at sized =
 
 -- ---- numbers in structs
 
--- the bytes of a number at an offset
-pub at_back : (width offset : ℕ) (p : List ℕ) → IsBytes p → offset + width ≤ length p → bytes_of width (number_at width offset p) ≡ take width (drop offset p)
-at_back width offset p bytes within =
-    let q = take width (drop offset p) in
-    let size : length q ≡ width = omega (arith, length-take width (drop offset p), length-drop offset p, within) in
-    ap (λ n. bytes_of n (number q)) (sym size) ∙ bytes_of-number q (bytes-take width (drop offset p) (bytes-drop offset p bytes))
+module _ (width offset : ℕ) (p : List ℕ) (bytes : IsBytes p) (within : offset + width ≤ length p) where
+  abbrev part : List ℕ
+  part = take width (drop offset p)
 
--- ---- payloads of one class
+  some : IsBytes part
+  some = bytes-take width (drop offset p) (bytes-drop offset p bytes)
 
--- the number of a field of a struct is in range
-pub at_below : (width offset : ℕ) (p : List ℕ) → IsBytes p → offset + width ≤ length p → number_at width offset p < bound width
-at_below width offset p bytes within =
-    let q = take width (drop offset p) in
-    let size : length q ≡ width = omega (arith, length-take width (drop offset p), length-drop offset p, within) in
-    subst (λ n. number q < bound n) size (number_below q (bytes-take width (drop offset p) (bytes-drop offset p bytes)))
+  long : length part ≡ width
+  long = omega (arith, length-take width (drop offset p), length-drop offset p, within)
+
+  -- the number at an offset is in range, and has the bytes there
+  pub at_below : number_at width offset p < bound width
+  at_below = number_in width part some long
+
+  pub at_back : bytes_of width (number_at width offset p) ≡ take width (drop offset p)
+  at_back = same_bytes width part some long
 
 -- two halves of some bytes
 pub halves : (n : ℕ) (p : List ℕ) → length p ≡ n + n → take n (drop 0 p) ++ take n (drop n p) ≡ p
 halves n p size = ap (λ t. take n p ++ t) (take_all n (drop n p) (omega (arith, length-drop n p, size))) ∙ take-append-drop n p
-
-pub words_back : (form : ℕ) (second_first : Bool) (e : Entry) (octets q : List ℕ) → e.form ≡ form → e.number < 4294967296 → pair_of second_first (bytes_of 4 e.number) (bytes_of 4 e.second) ≡ q
-    → payload_of (fields.Words form second_first) e octets ≡ Ok q
-words_back form second_first e octets q same low is =
-    right_form (fields.Words form second_first) e octets same ∙ ok_if (nat_lt e.number 4294967296) BadNumber (pair_of second_first (bytes_of 4 e.number) (bytes_of 4 e.second)) (lt-ltb e.number 4294967296 low) ∙ ap Ok is
-
-pub shorts_back : (form : ℕ) (second_first : Bool) (e : Entry) (octets q : List ℕ) → e.form ≡ form → e.number < 65536 → e.second < 65536 → pair_of second_first (bytes_of 2 e.number) (bytes_of 2 e.second) ≡ q
-    → payload_of (fields.Shorts form second_first) e octets ≡ Ok q
-shorts_back form second_first e octets q same low low' is =
-    right_form (fields.Shorts form second_first) e octets same
-    ∙ ok_if (nat_lt e.number 65536 && nat_lt e.second 65536) BadNumber (pair_of second_first (bytes_of 2 e.number) (bytes_of 2 e.second))
-    (ap₂ (λ a b. a && b) (lt-ltb e.number 65536 low) (lt-ltb e.second 65536 low')) ∙ ap Ok is
 
 -- octets that were padded
 pub padded_back : (q : List ℕ) (n : ℕ) → length q ≡ n → n ≤ 16 → take n (padded q) ≡ q
@@ -114,8 +100,7 @@ padded_back q n size few =
 
 pub address_back : (form n : ℕ) (e : Entry) (octets q : List ℕ) → e.form ≡ form → e.length ≡ n → length q ≡ n → n ≤ 16 → e.octets ≡ padded q → payload_of (fields.Address form n) e octets ≡ Ok q
 address_back form n e octets q same size len few is =
-    right_form (fields.Address form n) e octets same ∙ ok_if (e.length == n) BadOctets (take n e.octets) (eq-eqb e.length n size)
-    ∙ ap Ok (ap (take n) is ∙ padded_back q n len few)
+    passes (fields.Address form n) e octets _ q _ BadOctets refl same (eq-eqb e.length n size) (ap (take n) is ∙ padded_back q n len few)
 
 -- a signed number
 low4 : (x y : ℕ) → y % 4294967296 ≡ x → bytes_of 4 y ≡ bytes_of 4 x
@@ -141,11 +126,7 @@ signed_back e octets x low same is =
           let own = is ∙ negative x large low in
           (or_right (nat_lt e.number 2147483648) (nat_le 18446744071562067968 e.number) (le-leb 18446744071562067968 e.number (omega (arith, own, large))), omega (arith, own, low))
     ] in
-    right_form fields.Signed e octets same ∙ ok_if (is_i32 e.number) BadNumber (bytes_of 4 e.number) fits ∙ ap Ok (low4 x e.number end ∙ ap (bytes_of 4) (sym (of_z-to_z w32 x low)))
-
--- two bytes in network byte order
-pub be_number : (r : List ℕ) → length r ≡ 2 → IsBytes r → (reverse (bytes_of 2 (number (reverse r))) ≡ r) × (number (reverse r) < 65536)
-be_number r size h = (be_back 2 r h size, be_below 2 r h size)
+    passes fields.Signed e octets _ _ _ BadNumber refl same fits (low4 x e.number end ∙ ap (bytes_of 4) (sym (of_z-to_z w32 x low)))
 
 -- the first byte of two
 pub first_below : (p : List ℕ) → IsBytes p → slice_index p 0 < 256

@@ -1,12 +1,13 @@
 -- What follows an attribute: elements, if it is a list.
-use Rattle.std.proofs.Common.{◌≡◌, ◌⊎◌, ℕ, ◌+◌, Bool, true, false, cond, ◌==◌, ◌&&◌, List, [], ◌∷◌, Ok, Err, refl, sym, ap, ◌∙◌, inl, inr}
+use Rattle.std.proofs.Common.{◌≡◌, ◌⊎◌, ℕ, ◌+◌, Bool, true, false, cond, ◌==◌, ◌&&◌, List, [], ◌∷◌, Ok, Err, refl, ap, ◌∙◌, inl, inr}
 use Rattle.link_base.specs.Table.{Table}
 use Rattle.link_entries.specs.declared.entry.Entry.{Entry}
 use Rattle.link_entries.specs.declared.fields.Fields.{Fields}
 use Rattle.link_entries.specs.declared.fields.Fields.TheVariants as fields
-use Rattle.link_entries.specs.declared.misfit.Misfit.TheVariants.{BadElement, BadForm}
-use Rattle.link_entries.specs.Payload.{has_form, content_of, payload_of}
+use Rattle.link_entries.specs.declared.misfit.Misfit.TheVariants.{BadElement}
+use Rattle.link_entries.specs.Payload.{payload_of}
 use Rattle.link_entries.specs.Spelled.{alone, before, begins_well, element_content, element_of, elements_of}
+use Rattle.link_entries.proofs.WrittenLists.{no_bytes}
 
 cond_same : {A : Type 0} (b : Bool) (x : A) → cond b x x ≡ x
 cond_same true x = refl
@@ -22,17 +23,9 @@ module _ (table : Table) (k : ℕ) (e : Entry) (octets p : List ℕ) where
       ap (λ c. cond c (Ok []) (before (alone (element_of table own k 0 x octets)) (elements_of table own k octets (0 + 1) xs))) deep
       ∙ ap (λ r. before (alone r) (elements_of table own k octets (0 + 1) xs)) here
 
-  -- a list has no payload of its own
-  nothing : (own : Fields) → content_of own e octets ≡ Ok [] → payload_of own e octets ≡ Ok p → p ≡ []
-  nothing own is has = by (has_form own e) (sym (ap (λ r. cond (has_form own e) r (Err BadForm)) is) ∙ has)
-    where
-      by : (b : Bool) → cond b (Ok []) (Err BadForm) ≡ Ok p → p ≡ []
-      by true same = cc
-      by false same = absurd cc
-
   -- if elements follow, the attribute has no payload of its own, or they cannot be written
   pub below : (own : Fields) (es : List Entry) → begins_well es ≡ false → payload_of own e octets ≡ Ok p → (p ≡ []) ⊎ (elements_of table own k octets 0 es ≡ Err (0, BadElement))
-  below (fields.Numbers w) es deep has = inl (nothing (fields.Numbers w) refl has)
-  below (fields.Addresses n) es deep has = inl (nothing (fields.Addresses n) refl has)
-  below (fields.List flag) es deep has = inl (nothing (fields.List flag) refl has)
+  below (fields.Numbers w) es deep has = inl (no_bytes (fields.Numbers w) e octets p refl has)
+  below (fields.Addresses n) es deep has = inl (no_bytes (fields.Addresses n) e octets p refl has)
+  below (fields.List flag) es deep has = inl (no_bytes (fields.List flag) e octets p refl has)
   below own es deep has = inr (refused own es (λ x. refl) deep)

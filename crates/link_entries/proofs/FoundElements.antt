@@ -19,9 +19,8 @@ use Rattle.link_entries.specs.Flat.{indexed, number_entry, number_entries, IsEle
 use Rattle.link_entries.specs.Finding.{BothOrNone, last_inner, IsOneElement, IsLastElement, IsElementFound}
 use Rattle.link_entries.proofs.LastOf.{has_kind, zip_last, one_last}
 use Rattle.link_entries.proofs.EntryFields.{keeps_filled}
-use Rattle.link_entries.proofs.Shapes.{list_payload, no_elements}
-use Rattle.link_entries.proofs.FormElements.{ElementsBy, elements_by, elements_told}
-use Rattle.link_entries.proofs.ArrayNumbers.{length-numbers_at}
+use Rattle.link_entries.proofs.Shapes.{list_payload, no_elements, ElementsBy, elements_by, elements_told}
+use Rattle.link_entries.proofs.ElementEntries.{length-numbers_at}
 use Rattle.link_entries.proofs.Unique.{one_element, one_below}
 
 -- whether an entry has this own type or index

@@ -1,7 +1,7 @@
 -- What an entry has, by the form of its content and the value of its payload: all contents of a payload give one entry.
-use Rattle.std.proofs.Common.{◌≡◌, ℕ, ◌-◌, ◌<◌, Bool, true, false, cond, ℤ, pos, reverse, List, [], length, Option, Some, None, refl, sym, ap, ap₂, ◌∙◌, arith}
+use Rattle.std.proofs.Common.{◌≡◌, ℕ, ◌-◌, ◌<◌, ◌≤◌, Bool, true, false, cond, take, drop, reverse, List, [], length, Option, Some, None, refl, sym, ap, ap₂, ◌∙◌, arith, take_all}
 use Rattle.std.specs.Int.{w64, cast_unsigned}
-use Rattle.std.proofs.lemmas.Bool.{cond_both}
+use Rattle.std.proofs.lemmas.Bool.{cond_both, le-ltb}
 use Rattle.link_base.specs.declared.wire.buffer.NlaBuffer.{NlaBuffer}
 use Rattle.link_base.specs.declared.views.content.Content.{Content}
 use Rattle.link_base.specs.declared.views.content.Content.TheVariants as contents
@@ -9,38 +9,41 @@ use Rattle.link_base.specs.declared.rows.form.Order.{Order}
 use Rattle.link_base.specs.declared.rows.form.Order.TheVariants as orders
 use Rattle.link_base.specs.declared.rows.form.Role.{Role}
 use Rattle.link_base.specs.declared.rows.form.Role.TheVariants as roles
+use Rattle.link_base.specs.declared.rows.form.Layout.{Layout}
+use Rattle.link_base.specs.declared.rows.form.Layout.TheVariants as layouts
 use Rattle.link_base.specs.declared.rows.form.Form.{Form}
 use Rattle.link_base.specs.declared.rows.form.Form.TheVariants as forms
 use Rattle.link_base.specs.Class as classes
-use Rattle.link_base.specs.Class.{Class, Value, meant, named, is_listed}
-use Rattle.link_base.specs.Forms.{bytes_in as width_of}
+use Rattle.link_base.specs.Class.{Value, flag_value, is_on, meant, named, is_listed, size_of}
+use Rattle.link_base.specs.Forms.{bytes_in as width_of, layout_extent}
 use Rattle.link_base.specs.Number.{number, bytes_of, bound, four_bytes}
 use Rattle.link_base.specs.Layout.{number_at}
 use Rattle.link_base.specs.Buffer.{kind_field_of, payload_of}
 use Rattle.link_base.specs.Table.{Table, Shape, One, Nested, Addresses, class_at, form_at}
 use Rattle.link_base.specs.Borrowed.{Borrows, Says, told, number_value, form_of, HasContent}
 use Rattle.link_entries.specs.declared.entry.Entry.{Entry}
-use Rattle.link_entries.specs.Forms.{form_empty, form_bool, form_signed, form_named, form_flags, form_masked, form_mac, form_ipv4, form_ipv6, form_qos_mapping, form_bittiming_const, form_bytes, form_list, form_unknown}
+use Rattle.link_entries.specs.Forms.{form_empty, form_bool, form_unsigned, form_signed, form_named, form_masked, form_bridge_id, form_qos_mapping, form_bittiming_const, form_bytes, form_list, form_unknown}
 use Rattle.link_entries.specs.Entry.{padded}
 use Rattle.link_entries.specs.Content.{with_struct, filled}
-use Rattle.link_entries.specs.Fields.{role_form}
+use Rattle.link_entries.specs.declared.fields.Fields.{Fields}
+use Rattle.link_entries.specs.declared.fields.Fields.TheVariants as fields
+use Rattle.link_entries.specs.Fields.{role_form, struct_fields, fields_in}
 use Rattle.link_base.proofs.Orders.{be_again}
 use Rattle.link_base.specs.Frame.{kind_of}
 
 -- ---- what a value holds
 
-abbrev number_in : Value → ℕ
+-- the number of an entry with this value; a flag without a byte is on
+abbrev pub number_in : Value → ℕ
 number_in (classes.Number n x) = x
 number_in (classes.Name n d) = d
 number_in (classes.Unlisted n listed d) = d
 number_in (classes.EtherType d) = d
 number_in (classes.LowByte b) = b
 number_in (classes.Boolean b) = cond b 1 0
-number_in v = 0
-
-abbrev integer_in : Value → ℤ
-integer_in (classes.Integer z) = z
-integer_in v = pos 0
+number_in (classes.Integer z) = cast_unsigned w64 z
+number_in (classes.Raw bytes) = number bytes
+number_in v = 1
 
 abbrev pub bytes_in : Value → List ℕ
 bytes_in (classes.Raw bytes) = bytes
@@ -79,25 +82,42 @@ number_told orders.Big v = number (reverse (bytes_in v))
 
 -- ---- the entry
 
+-- that of an attribute with these fields; n elements follow a list
+abbrev pub told_by : ℕ → Fields → Value → ℕ → Entry → Entry
+told_by f fields.Empty v n e = record e { form = form_empty; length = 0 }
+told_by f (fields.Number form w most order) v n e = record e { form = form; number = number_told order v }
+told_by f fields.FlagOrBool v n e = record e { form = form_bool; number = number_in v }
+told_by f fields.Signed v n e = record e { form = form_signed; number = number_in v }
+told_by f (fields.Shorts form second_first) v n e = record e { form = form; number = number_at 2 (cond second_first 2 0) (bytes_in v); second = number_at 2 (cond second_first 0 2) (bytes_in v) }
+told_by f (fields.Words form second_first) v n e = record e { form = form; number = number_at 4 (cond second_first 4 0) (bytes_in v); second = number_at 4 (cond second_first 0 4) (bytes_in v) }
+told_by f fields.Protocol v n e = record e { form = form_named; number = number_in v }
+told_by f (fields.Address form size) v n e = record e { form = form; octets = padded (bytes_in v) }
+told_by f fields.BridgeId v n e = record e { form = form_bridge_id; number = number (reverse (take 2 (bytes_in v))); octets = padded (take 6 (drop 2 (bytes_in v))) }
+told_by f (fields.Passed form size) v n e = record e { form = form }
+told_by f fields.Limits v n e = record e { form = form_bittiming_const; length = 48 }
+told_by f fields.Unknown v n e = record e { form = form_unknown; flags = f - kind_of f }
+told_by f own v n e = record e { form = form_list; number = n }
+
+-- likewise, by the form of its values
 abbrev pub fields_by : ℕ → Option Form → Value → ℕ → Entry → Entry
-fields_by f (Some forms.Nothing) v n e = record e { form = form_empty; length = 0 }
-fields_by f (Some forms.Bool) v n e = record e { form = form_bool; number = number_in v }
-fields_by f (Some (forms.Number w order role)) v n e = record e { form = role_form role; number = number_told order v }
-fields_by f (Some forms.Signed) v n e = record e { form = form_signed; number = cast_unsigned w64 (integer_in v) }
-fields_by f (Some forms.LowFlags) v n e = record e { form = form_flags; number = number_in v }
-fields_by f (Some forms.MaskedFlags) v n e = record e { form = form_masked; number = number_at 4 0 (bytes_in v); second = number_at 4 4 (bytes_in v) }
-fields_by f (Some forms.Pair) v n e = record e { form = form_qos_mapping; number = number_at 4 0 (bytes_in v); second = number_at 4 4 (bytes_in v) }
-fields_by f (Some forms.Protocol) v n e = record e { form = form_named; number = number_in v }
-fields_by f (Some forms.Mac) v n e = record e { form = form_mac; octets = padded (bytes_in v) }
-fields_by f (Some forms.Ipv4) v n e = record e { form = form_ipv4; octets = padded (bytes_in v) }
-fields_by f (Some forms.Ipv6) v n e = record e { form = form_ipv6; octets = padded (bytes_in v) }
-fields_by f (Some forms.Bytes) v n e = record e { form = form_bytes }
 fields_by f (Some (forms.Struct layout)) v n e = with_struct layout (bytes_in v) e
-fields_by f (Some (forms.Numbers w)) v n e = record e { form = form_list; number = n }
-fields_by f (Some forms.Limits) v n e = record e { form = form_bittiming_const; length = 48 }
-fields_by f (Some (forms.Addresses size)) v n e = record e { form = form_list; number = n }
-fields_by f (Some (forms.List flagged)) v n e = record e { form = form_list; number = n }
-fields_by f None v n e = record e { form = form_unknown; flags = f - kind_of f }
+fields_by f form v n e = told_by f (fields_in form) v n e
+
+-- a struct that is complete
+pub struct_told : (f n : ℕ) (layout : Layout) (q : List ℕ) (e : Entry) → length q ≡ size_of (layout_extent layout) → length q ≤ e.length
+    → with_struct layout q e ≡ told_by f (struct_fields layout) (classes.Raw q) n (record e { length = size_of (layout_extent layout) })
+struct_told f n (layouts.Other lengths) q e size long = ap (λ m. record e { form = form_bytes; length = m }) (omega (arith, size, long))
+struct_told f n layouts.Clock q e size long =
+    ap (λ b. cond b (record e { form = form_bytes }) (record e { form = form_unsigned; number = number_at 4 0 q; length = 4 })) (le-ltb (length q) 4 (omega (arith, size)))
+    ∙ ap (λ p. record e { form = form_unsigned; number = number p; length = 4 }) (take_all 4 q (omega (arith, size)))
+struct_told f n layout q e size long =
+    let m = size_of (layout_extent layout) in
+    ap (λ b. cond b (record e { form = form_bytes }) (told_by f (struct_fields layout) (classes.Raw q) n (record e { length = m }))) (le-ltb (length q) m (omega (arith, size)))
+
+-- a flag has this number
+flag_told : (flag : Option Bool) → cond (is_on flag) 1 0 ≡ number_in (flag_value flag)
+flag_told None = refl
+flag_told (Some b) = refl
 
 -- the number of the four bytes of a word
 word_bytes : (x : ℕ) → number (bytes_of 4 x) ≡ four_bytes x
@@ -122,6 +142,9 @@ module _ (f n : ℕ) (e : Entry) (o : Option Shape) (p : List ℕ) where
   filled_by (contents.Number x w order role) h =
       let is = says_at o p (contents.Number x w order role) refl h in
       ap (λ d. record e { form = role_form role; number = d }) (sym (told_number order role (width_of w) x (value_at o p) is.0 is.1))
+  filled_by (contents.FlagOrBool flag) h =
+      ap (λ d. record e { form = form_bool; number = d }) (flag_told flag)
+      ∙ ap (λ v. fields_by f (Some forms.FlagOrBool) v n e) (sym (says_at o p (contents.FlagOrBool flag) refl h))
   filled_by (contents.MaskedFlags bits mask) h =
       ap₂ (λ a b. record e { form = form_masked; number = a; second = b }) (sym (word_bytes bits)) (sym (word_bytes mask))
       ∙ ap (λ v. fields_by f (Some forms.MaskedFlags) v n e) (sym (says_at o p (contents.MaskedFlags bits mask) refl h))

@@ -1,14 +1,18 @@
 -- The row of an attribute type: its fields, and what it says of payloads.
-use Rattle.std.proofs.Common.{◌≡◌, ℕ, ◌<◌, ◌≤◌, ◌==◌, ◌||◌, Bool, true, false, List, Option, Some, None, option_map, inl, inr, refl, sym, ap, subst, ◌∙◌, arith}
+use Rattle.std.proofs.Common.{◌≡◌, ℕ, ◌-◌, ◌<◌, ◌≤◌, ◌==◌, ◌||◌, Bool, true, false, List, Option, Some, None, option_map, inl, inr, refl, sym, ap, subst, ◌∙◌, arith}
+use Rattle.std.specs.Prelude.{nat_le}
 use Rattle.std.proofs.lemmas.Bool.{cases_Bool, eqb-true}
 use Rattle.link_base.specs.declared.rows.form.Width.{Width}
 use Rattle.link_base.specs.declared.rows.form.Width.TheVariants as widths
+use Rattle.link_base.specs.declared.rows.form.Order.TheVariants as orders
+use Rattle.link_base.specs.declared.rows.form.Role.TheVariants as roles
 use Rattle.link_base.specs.declared.rows.form.Layout.{Layout}
 use Rattle.link_base.specs.declared.rows.form.Layout.TheVariants as layouts
 use Rattle.link_base.specs.declared.rows.form.Form.{Form}
 use Rattle.link_base.specs.declared.rows.form.Form.TheVariants as forms
 use Rattle.link_base.specs.declared.rows.label.KindLabel.{KindLabel}
-use Rattle.link_base.specs.Class.{Many}
+use Rattle.link_base.specs.Class.{Many, extent, size_of}
+use Rattle.link_base.specs.Number.{bound}
 use Rattle.link_base.specs.Forms.{bytes_in}
 use Rattle.link_base.specs.Frame.{kind_limit}
 use Rattle.link_base.specs.Labels.{label_in}
@@ -89,6 +93,52 @@ single_value (forms.Addresses size) s a = absurd cc
 single_value (forms.List flagged) s a = absurd cc
 single_value (forms.Struct layout) s a = struct_value layout
 single_value form s a = refl
+
+-- ---- sizes
+
+-- how many bytes entries with these fields spell, without elements
+abbrev pub size_in : Fields → ℕ
+size_in (fields.Number form w most order) = bytes_in w
+size_in fields.Signed = 4
+size_in (fields.Shorts form second_first) = 4
+size_in (fields.Words form second_first) = 8
+size_in fields.Protocol = 2
+size_in (fields.Address form n) = n
+size_in fields.BridgeId = 8
+size_in (fields.Passed form (Some n)) = n
+size_in fields.Limits = 48
+size_in own = 0
+
+-- whether they always spell so many
+abbrev pub is_sized : Fields → Bool
+is_sized fields.FlagOrBool = false
+is_sized (fields.Address form n) = nat_le n 16
+is_sized (fields.Passed form None) = false
+is_sized fields.Unknown = false
+is_sized own = true
+
+-- they spell any bytes of this size
+abbrev pub SpellsAny : Fields → Type 0
+SpellsAny (fields.Number form w most order) = most ≡ bound (bytes_in w) - 1
+SpellsAny (fields.Shorts form second_first) = true ≡ true
+SpellsAny (fields.Words form second_first) = true ≡ true
+SpellsAny (fields.Address form n) = nat_le n 16 ≡ true
+SpellsAny fields.BridgeId = true ≡ true
+SpellsAny (fields.Passed form (Some n)) = true ≡ true
+SpellsAny own = false ≡ true
+
+pub struct_sized : (layout : Layout) → (is_sized (struct_fields layout) ≡ true) × SpellsAny (struct_fields layout)
+struct_sized layouts.BridgeId = (refl, refl)
+struct_sized layout = (refl, refl)
+
+-- this is the size of the payloads of a form
+pub tied : (form : Form) (names : List (ℕ × List ℕ)) → size_in (row_fields form) ≡ size_of (extent (class_by form names))
+tied (forms.Number w orders.Little roles.Enum) names = refl
+tied (forms.Number w orders.Little role) names = refl
+tied (forms.Number w orders.Big role) names = refl
+tied (forms.Struct layouts.BridgeId) names = refl
+tied (forms.Struct layout) names = refl
+tied form names = refl
 
 -- ---- rows
 

@@ -1,5 +1,5 @@
--- Contents that are lists or arrays: their bytes, and that they decode.
-use Rattle.std.proofs.Common.{◌≡◌, ℕ, ◌≤◌, Bool, true, false, cond, List, [], ◌∷◌, length, take, map, Option, Some, Ok, Err, refl, sym, ap, subst, arith, Bor}
+-- Contents that are lists or arrays: their bytes, that they decode, and their elements.
+use Rattle.std.proofs.Common.{◌≡◌, ℕ, ◌≤◌, Bool, true, false, cond, List, [], ◌∷◌, length, take, map, Option, Some, None, Ok, Err, refl, sym, ap, subst, arith, Bor, ◌∙◌}
 use Rattle.std.specs.List.{AllZip}
 use Rattle.std.proofs.lemmas.List.{length-take}
 use Rattle.link_base.specs.declared.views.content.Content.{Content}
@@ -7,13 +7,19 @@ use Rattle.link_base.specs.declared.views.content.Content.TheVariants as content
 use Rattle.link_base.specs.declared.rows.form.Width.{Width}
 use Rattle.link_base.specs.Number.{number}
 use Rattle.link_base.specs.Class as classes
-use Rattle.link_base.specs.Class.{Class, Value, Raw, Name, Unlisted, meant, named, is_listed, size_of}
+use Rattle.link_base.specs.Class.{Class, Value, Raw, Name, Unlisted, flag_in, flag_value, meant, named, is_listed, size_of}
 use Rattle.link_base.specs.Frame.{Frame, kind_of}
 use Rattle.link_base.specs.Wire.{FrameGives}
-use Rattle.link_base.specs.Table.{Table, Shape, One, Nested, Addresses, AttrValue, Other, Gives, GivesBy, Decodes, class_at}
-use Rattle.link_base.specs.Borrowed.{HasValue, HasValues, Borrows}
-use Rattle.link_entries.specs.Flat.{Elements}
-use Rattle.link_entries.proofs.OneContent.{value_at, says_at}
+use Rattle.link_base.specs.Table.{Table, Shape, One, Nested, Addresses, AttrValue, Other, Gives, GivesBy, Decodes, class_at, form_at}
+use Rattle.link_base.specs.Borrowed.{HasValue, HasValues, Borrows, form_of, elements_at, HasContent}
+use Rattle.link_entries.specs.Flat.{Elements, AreAddresses, number_entries, AreElements}
+use Rattle.link_entries.proofs.OneContent.{value_at, says_at, bytes_in}
+use Rattle.link_base.specs.declared.wire.buffer.NlaBuffer.{NlaBuffer}
+use Rattle.link_base.specs.declared.rows.form.Form.{Form}
+use Rattle.link_base.specs.declared.rows.form.Form.TheVariants as forms
+use Rattle.link_base.specs.Forms.{bytes_in as width_of}
+use Rattle.link_base.specs.Buffer.{kind_field_of, payload_of}
+use Rattle.link_entries.specs.declared.entry.Entry.{Entry}
 
 -- the bytes of a nested list are its payload
 pub list_payload : (o : Option Shape) (p : List ℕ) (bytes : Bor (List ℕ)) (told : Bool) → Borrows o p (contents.List bytes told) → bytes.now ≡ p
@@ -36,7 +42,12 @@ no_name : (n d : ℕ) (listed q : List ℕ) (b : Bool) → cond b (Name n d) (Un
 no_name n d listed q true h = cc
 no_name n d listed q false h = cc
 
+no_flag : (flag : Option Bool) (q : List ℕ) → flag_value flag ≡ Raw q → ⊥
+no_flag None q h = cc
+no_flag (Some b) q h = cc
+
 raw_payload : (c : Class) (p q : List ℕ) → meant c p ≡ Raw q → length q ≤ length p
+raw_payload classes.Optional p q h = absurd (no_flag (flag_in p) q h)
 raw_payload (classes.Octets e) p q h = let same : take (size_of e) p ≡ q = cc in omega (arith, ap length same, length-take (size_of e) p)
 raw_payload classes.Bytes p q h = let same : p ≡ q = cc in omega (arith, ap length same)
 raw_payload (classes.Many n) p q h = let same : p ≡ q = cc in omega (arith, ap length same)
@@ -80,3 +91,28 @@ no_elements table k at (contents.Numbers w p) a b c = absurd (a w p refl)
 no_elements table k at (contents.Addresses p n) a b c = absurd (b p n refl)
 no_elements table k at (contents.List p told) a b c = absurd (c p told refl)
 no_elements table k at x a b c = refl
+
+module _ (table : Table) (k at : ℕ) (o : Option Shape) (p : List ℕ) where
+  -- the elements of a payload of this shape and form; none if it is no list
+  abbrev pub ElementsBy : Option Form → List Entry → Type 0
+  ElementsBy (Some (forms.List flagged)) es = AreElements (elements_at table k) k at p es
+  ElementsBy (Some (forms.Addresses n)) es = AreAddresses k at n p es
+  ElementsBy (Some (forms.Numbers w)) es = es ≡ number_entries k at (width_of w) (bytes_in (value_at o p))
+  ElementsBy form es = es ≡ []
+
+  -- they are those of its content
+  pub elements_by : (es : List Entry) (x : Content) → Borrows o p x → Elements table k at x es → ElementsBy (form_of x) es
+  elements_by es (contents.List l told) a h = subst (λ t. AreElements (elements_at table k) k at t es) (list_payload o p l told a) h
+  elements_by es (contents.Addresses l n) a h = subst (λ t. AreAddresses k at n t es) (address_list o p l n a).payload h
+  elements_by es (contents.Numbers w l) a h = h ∙ ap (λ v. number_entries k at (width_of w) (bytes_in v)) (sym (says_at o p (contents.Numbers w l) refl a))
+  elements_by es x a h = h
+
+-- likewise, by what is known of the attribute
+pub elements_told : (table : Table) (b : NlaBuffer) (content : Content) → HasContent table b content → (at : ℕ) (es : List Entry) → Elements table (kind_of (kind_field_of b)) at content es → (k : ℕ) (p : List ℕ)
+    → kind_of (kind_field_of b) ≡ k → payload_of b ≡ p → (o : Option Shape) (form : Option Form) → class_at table k ≡ o → form_at table k ≡ form → ElementsBy table k at o p form es
+elements_told table b content has at es below k p kind bytes o form class named =
+    let c = kind_of (kind_field_of b) in
+    let here = subst (λ m. ElementsBy table c at (class_at table c) (payload_of b) m es) has.form (elements_by table c at (class_at table c) (payload_of b) es content has.borrows below) in
+    let moved = subst (λ j. ElementsBy table j at (class_at table j) (payload_of b) (form_at table j) es) kind here in
+    subst (λ m. ElementsBy table k at o p m es) named
+    (subst (λ s. ElementsBy table k at s p (form_at table k) es) class (subst (λ q. ElementsBy table k at (class_at table k) q (form_at table k) es) bytes moved))

@@ -14,7 +14,7 @@ use Rattle.link_entries.specs.declared.entry.Entry.{Entry}
 use Rattle.link_entries.specs.Entry.{blank}
 use Rattle.link_entries.specs.Flat.{indexed, address_entry, is_address, AreAddresses, IsElement, AreElements, head_entry, IsGroup, Flat}
 use Rattle.link_entries.proofs.OneContent.{value_at, fields_by, entry_read}
-use Rattle.link_entries.proofs.FormElements.{ElementsBy, elements_told}
+use Rattle.link_entries.proofs.Shapes.{ElementsBy, elements_told}
 
 -- what stands beside items that are alike is the same
 zip_one : {A B K : Type 0} (key : A → K) (R : A → B → Type 0) → ((x y : A) (b c : B) → key x ≡ key y → R x b → R y c → b ≡ c) → (xs ys : List A) (bs cs : List B) → map key xs ≡ map key ys

@@ -1,31 +1,117 @@
--- What entries spell decodes: attributes, and lists.
-use Rattle.std.proofs.Common.{◌≡◌, inl, inr, ℕ, ◌*◌, ◌%◌, ◌==◌, true, false, cond, List, [], ◌∷◌, ◌++◌, length, Option, Some, Ok, Err, refl, sym, ap, subst, ◌∙◌, arith}
+-- What entries spell decodes: attributes, elements, and lists.
+use Rattle.std.proofs.Common.{◌≡◌, ℕ, ◌+◌, ◌*◌, ◌%◌, ◌<◌, ◌≤◌, ◌==◌, true, false, List, [], ◌∷◌, ◌++◌, length, replicate, Ok, refl, sym, ap, subst, ◌∙◌, arith, inl, inr, cond, Option, Some, Err}
 use Rattle.std.specs.List.{AllByRecursion}
-use Rattle.std.proofs.lemmas.Bool.{cases_Bool}
+use Rattle.std.proofs.lemmas.List.{length-append}
 use Rattle.link_base.specs.declared.rows.form.Width.{Width}
-use Rattle.link_base.specs.declared.rows.form.Width.TheVariants as widths
-use Rattle.link_base.specs.Class.{Many, unless, meant}
+use Rattle.link_base.specs.Class.{unless, meant, Many}
 use Rattle.link_base.specs.Forms.{bytes_in}
-use Rattle.link_base.specs.Frame.{kind_of}
-use Rattle.link_base.specs.Wire.{Wire}
-use Rattle.link_base.specs.Table.{Shape, One, Nested, Addresses, Single, Inner, Listed, Table, AttrValue, Case, class_at, nested_flag, GivesBy, Gives, Decodes, single_case, of_length}
-use Rattle.link_base.specs.Borrowed.{elements_by, elements_at}
+use Rattle.link_base.specs.Payloads.{class_by}
+use Rattle.link_base.specs.Frame.{kind_of, frame_bytes, gap}
+use Rattle.link_base.specs.Wire.{Wire, whole}
+use Rattle.link_base.specs.Table.{Table, AttrValue, Single, Case, Other, class_at, GivesBy, Gives, single_case, PayloadGives, Shape, One, Nested, Addresses, Inner, Listed, nested_flag, Decodes, of_length}
 use Rattle.link_base.specs.WellFormed.{is_table}
+use Rattle.link_entries.specs.declared.entry.Entry.{Entry}
+use Rattle.link_entries.specs.declared.fields.Fields.TheVariants as fields
+use Rattle.link_entries.specs.Fields.{array_number, ip_address, fields_in, fields_at, row_fields}
+use Rattle.link_entries.specs.Payload.{payload_of, field_of}
+use Rattle.link_entries.specs.Spelled.{element_content, elements_of, attribute_of, entry_of, entries_of, begins_well, spelled_by}
+use Rattle.link_entries.proofs.RowForms.{is_list, with_kind, field_kind, NoRow, OneValue, Array, AddressList, NestedList, row_says, value_no_list, RowTold, element_no_list}
+use Rattle.link_entries.proofs.Spellings.{frame_low}
+use Rattle.link_entries.proofs.WrittenLists.{same_spells, framed_ok, wire_none, wire_more, spells, before_ok}
+use Rattle.link_entries.proofs.EntryFields.{AreBelow}
+use Rattle.link_entries.proofs.WrittenParts.{goes, Parts, parts, single_payload, list_payload, field_held}
+use Rattle.link_entries.proofs.WrittenSizes.{written_size, size_back}
+use Rattle.std.proofs.lemmas.Bool.{cases_Bool}
+use Rattle.link_base.specs.declared.rows.form.Width.TheVariants as widths
+use Rattle.link_base.specs.Borrowed.{elements_by, elements_at}
 use Rattle.link_base.proofs.ClassLemmas.{at_multiple}
 use Rattle.link_base.proofs.Coherence.{elements_formed}
 use Rattle.link_base.proofs.Lifted.{leaves_of, nested_values}
-use Rattle.link_entries.specs.declared.entry.Entry.{Entry}
 use Rattle.link_entries.specs.declared.fields.Fields.{Fields}
-use Rattle.link_entries.specs.declared.fields.Fields.TheVariants as fields
 use Rattle.link_entries.specs.declared.misfit.Misfit.TheVariants.{BadElement}
-use Rattle.link_entries.specs.Fields.{row_fields, fields_in, fields_at}
-use Rattle.link_entries.specs.Payload.{field_of}
-use Rattle.link_entries.specs.Spelled.{elements_of, attribute_of, entry_of, entries_of, begins_well, spelled_by}
-use Rattle.link_entries.proofs.RowForms.{is_list, value_no_list, RowTold, NoRow, OneValue, Array, AddressList, NestedList, row_says, element_no_list}
-use Rattle.link_entries.proofs.WrittenLists.{spells, same_spells, before_ok, wire_none, wire_more}
-use Rattle.link_entries.proofs.WrittenParts.{Parts, parts, single_payload, list_payload}
-use Rattle.link_entries.proofs.WrittenFields.{field_held}
-use Rattle.link_entries.proofs.WrittenAttributes.{IsHeld, IsAttribute, of_value, single_decodes, addresses_decode, numbers_length, nested_decodes}
+
+-- an entry that a program can hold
+abbrev pub IsHeld : Entry → Type 0
+IsHeld e = length e.octets ≡ 16
+
+-- ---- attributes
+
+-- a whole attribute that decodes
+pub record IsAttribute (table : Table) (s : List ℕ) : Type 0 where
+  pub field : ℕ
+  pub payload : List ℕ
+  pub value : AttrValue
+  pub low : field < 65536
+  pub short : length payload ≤ 65531
+  pub given : Gives table field payload (Ok value)
+  pub text : frame_bytes (whole field payload) ≡ s
+
+pub of_value : (table : Table) (g : ℕ) (p s : List ℕ) (v : AttrValue) → length p ≤ 65531 → s ≡ frame_bytes (whole g p) → Gives table (g % 65536) p (Ok v) → IsAttribute table s
+of_value table g p s v short text given = record { field = g % 65536; payload = p; value = v; low = omega arith; short = short; given = given; text = frame_low g p ∙ sym text }
+
+-- one without elements of its own
+pub single_decodes : (table : Table) → is_table table ≡ true → (e : Entry) (octets p s : List ℕ) → IsHeld e → length p ≤ 65531 → is_list (fields_at table e.kind) ≡ false → payload_of (fields_at table e.kind) e octets ≡ Ok p
+    → s ≡ frame_bytes (whole (field_of (fields_at table e.kind) e.kind e) p) → IsAttribute table s
+single_decodes table formed e octets p s held short single h text =
+    let k = e.kind in
+    let g = field_of (fields_at table k) k e in
+    let f = g % 65536 in
+    let kind : kind_of f ≡ k = (field_held table formed e octets p h).kind in
+    elim (row_says table k formed) [
+      | NoRow named class ↦ of_value table g p s (Other f p) short text (subst (λ o. GivesBy o f p (Ok (Other f p))) (sym (ap (class_at table) kind ∙ class)) refl)
+      | OneValue form names named class one low ↦
+          let c = class_by form names in
+          let v = Case (kind_of f) (Single (meant c p)) in
+          let accepted = size_back e octets p held form names one (ap (λ o. payload_of (fields_in o) e octets) (sym named) ∙ h) in
+          of_value table g p s v short text (subst (λ o. GivesBy o f p (Ok v)) (sym (ap (class_at table) kind ∙ class)) (sym (ap (λ o. single_case (kind_of f) (unless o (meant c p))) accepted)))
+      | Array w named class some low ↦ let no : is_list (fields_at table k) ≡ true = ap (λ o. is_list (fields_in o)) named in absurd cc
+      | AddressList n named class few low ↦ let no : is_list (fields_at table k) ≡ true = ap (λ o. is_list (fields_in o)) named in absurd cc
+      | NestedList flagged rows named class low ↦ let no : is_list (fields_at table k) ≡ true = ap (λ o. is_list (fields_in o)) named in absurd cc
+    ]
+
+-- ---- addresses
+
+module _ (table : Table) (n k : ℕ) (octets : List ℕ) where
+  pub addresses_decode : (i : ℕ) (es : List Entry) (s : List ℕ) → AreBelow es → length s ≤ 65531 → elements_of table (fields.Addresses n) k octets i es ≡ Ok s → (vs : List (List ℕ)) × Wire PayloadGives s vs
+  addresses_decode i [] s deep few h = ([], subst (λ t. Wire PayloadGives t []) (same_spells [] s h) (wire_none PayloadGives))
+  addresses_decode i (e ∷ es) s deep few h =
+      let one = goes table (fields.Addresses n) k octets i e es s (ap (λ m. m == 0) deep.0) h in
+      let (p, payload, text) = framed_ok i (payload_of (ip_address n) e octets) one.here one.content in
+      let size : length s ≡ length one.here + length one.others = ap length one.is ∙ length-append one.here one.others in
+      let (vs, wire) = addresses_decode (i + 1) es one.others deep.1 (omega (arith, size, few)) one.later in
+      let short : length p ≤ 65531 = omega (arith, size, few, ap length text, length-append p (replicate (gap p) 0)) in
+      let whole_text : frame_bytes (whole (i % 65536) p) ++ one.others ≡ s = ap (λ t. t ++ one.others) (frame_low i p ∙ sym text) ∙ sym one.is in
+      (p ∷ vs, subst (λ t. Wire PayloadGives t (p ∷ vs)) whole_text (wire_more PayloadGives (i % 65536) p one.others p vs (omega arith) short refl wire))
+
+-- ---- numbers
+
+module _ (P : Entry → Type 0) (is_held : (e : Entry) → P e → IsHeld e) (table : Table) (w : Width) (k : ℕ) (octets : List ℕ) where
+  pub numbers_length : (i : ℕ) (es : List Entry) (s : List ℕ) → AreBelow es → AllByRecursion P es → elements_of table (fields.Numbers w) k octets i es ≡ Ok s → length s ≡ length es * bytes_in w
+  numbers_length i [] s deep held h = let none = same_spells [] s h in omega (arith, ap length none)
+  numbers_length i (e ∷ es) s deep held h =
+      let one = goes table (fields.Numbers w) k octets i e es s (ap (λ n. n == 0) deep.0) h in
+      let size = written_size e octets one.here (is_held e held.0) (array_number w) refl one.content in
+      let rest = numbers_length (i + 1) es one.others deep.1 held.1 one.later in
+      omega (arith, ap length one.is, length-append one.here one.others, size, rest)
+
+-- ---- nested lists, in which there are no lists
+
+module _ (table : Table) (formed : is_table table ≡ true) (single : (j : ℕ) → is_list (fields_at table j) ≡ false) (flag k : ℕ) (octets : List ℕ) where
+  element_decodes : (i : ℕ) (e : Entry) (s : List ℕ) → IsHeld e → length s ≤ 65531 → element_content table (fields.List flag) i e octets ≡ Ok s → IsAttribute table s
+  element_decodes i e s held few h =
+      let own = fields_at table e.inner in
+      let (p, payload, text) = framed_ok (field_of own e.inner e) (payload_of own (with_kind e e.inner) octets) s h in
+      let short : length p ≤ 65531 = omega (arith, few, ap length text, length-append p (replicate (gap p) 0)) in
+      single_decodes table formed (with_kind e e.inner) octets p s held short (single e.inner) payload (text ∙ ap (λ f. frame_bytes (whole f p)) (sym (field_kind own e.inner e e.inner)))
+
+  pub nested_decodes : (i : ℕ) (es : List Entry) (s : List ℕ) → AreBelow es → AllByRecursion IsHeld es → length s ≤ 65531 → elements_of table (fields.List flag) k octets i es ≡ Ok s → (vs : List AttrValue) × Wire (Gives table) s vs
+  nested_decodes i [] s deep held few h = ([], subst (λ t. Wire (Gives table) t []) (same_spells [] s h) (wire_none (Gives table)))
+  nested_decodes i (e ∷ es) s deep held few h =
+      let one = goes table (fields.List flag) k octets i e es s (ap (λ n. n == 0) deep.0) h in
+      let size : length s ≡ length one.here + length one.others = ap length one.is ∙ length-append one.here one.others in
+      let (vs, wire) = nested_decodes (i + 1) es one.others deep.1 held.1 (omega (arith, size, few)) one.later in
+      let a = element_decodes i e one.here held.0 (omega (arith, size, few)) one.content in
+      (a.value ∷ vs, subst (λ t. Wire (Gives table) t (a.value ∷ vs)) (ap (λ t. t ++ one.others) a.text ∙ sym one.is) (wire_more (Gives table) a.field a.payload one.others a.value vs a.low a.short a.given wire))
 
 even : (w : Width) (m n : ℕ) → n ≡ m * bytes_in w → n % bytes_in w ≡ 0
 even widths.One m n h = omega (arith, h)

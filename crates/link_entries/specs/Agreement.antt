@@ -21,11 +21,12 @@ pub record IsEntry (e : Entry) : Type 0 where
 abbrev pub referred : Entry → List ℕ → List ℕ
 referred e octets = take e.length (drop e.offset octets)
 
--- the entry r of the list holds what e holds: the numbers and octets of an entry with these fields, or the bytes that it
--- refers to; of the limits of a CAN controller, these bytes as a rewriting writes them
+-- the entry r of the list holds what e holds: the numbers and octets of an entry with these fields, of a flag also whether it
+-- has a byte, or the bytes that it refers to; of the limits of a CAN controller, these bytes as a rewriting writes them
 abbrev pub SameContent : Fields → List ℕ → Entry → List ℕ → Entry → Type 0
 SameContent fields.Empty octets e list r = Unit {0}
 SameContent (fields.Number form width most order) octets e list r = r.number ≡ e.number
+SameContent fields.FlagOrBool octets e list r = (r.number ≡ e.number) × (r.length ≡ e.length)
 SameContent fields.Signed octets e list r = r.number ≡ e.number
 SameContent (fields.Shorts form second_first) octets e list r = (r.number ≡ e.number) × (r.second ≡ e.second)
 SameContent (fields.Words form second_first) octets e list r = (r.number ≡ e.number) × (r.second ≡ e.second)

@@ -7,6 +7,7 @@ use Rattle.link_base.specs.declared.views.content.Content.{Content}
 use Rattle.link_base.specs.declared.views.content.Content.TheVariants as contents
 use Rattle.link_base.specs.Number.{number, four_bytes}
 use Rattle.link_base.specs.Frame.{kind_of}
+use Rattle.link_base.specs.Class.{is_on}
 use Rattle.link_base.specs.Layout.{number_at}
 use Rattle.link_base.specs.IpAddress.{four_octets, sixteen_octets}
 use Rattle.link_base.specs.Protocol.{protocol_number}
@@ -34,6 +35,7 @@ with_struct layout p e = record e { form = form_bytes; length = min e.length (le
 abbrev pub filled : ℕ → Content → ℕ → Entry → Entry
 filled f contents.Nothing n e = record e { form = form_empty; length = 0 }
 filled f (contents.Bool b) n e = record e { form = form_bool; number = (if b then 1 else 0) }
+filled f (contents.FlagOrBool flag) n e = record e { form = form_bool; number = (if is_on flag then 1 else 0) }
 filled f (contents.Number x width order role) n e = record e { form = role_form role; number = x }
 filled f (contents.Signed z) n e = record e { form = form_signed; number = cast_unsigned w64 z }
 filled f (contents.LowFlags bits) n e = record e { form = form_flags; number = bits }
@@ -43,7 +45,7 @@ filled f (contents.Protocol p) n e = record e { form = form_named; number = prot
 filled f (contents.Mac a) n e = record e { form = form_mac; octets = padded a }
 filled f (contents.Ipv4 a) n e = record e { form = form_ipv4; octets = padded (four_octets a) }
 filled f (contents.Ipv6 a) n e = record e { form = form_ipv6; octets = padded (sixteen_octets a) }
-filled f (contents.Bytes p) n e = record e { form = form_bytes }
+filled f (contents.Bytes look p) n e = record e { form = form_bytes }
 filled f (contents.Struct layout p) n e = with_struct layout p.now e
 filled f (contents.Numbers w p) n e = record e { form = form_list; number = n }
 filled f (contents.Limits name numbers) n e = record e { form = form_bittiming_const; length = 48 }

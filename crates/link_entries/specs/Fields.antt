@@ -51,6 +51,7 @@ struct_fields layout = fields.Passed form_bytes (Some (size_of (layout_extent la
 abbrev pub row_fields : Form → Fields
 row_fields forms.Nothing = fields.Empty
 row_fields forms.Bool = fields.Number form_bool widths.One 1 orders.Little
+row_fields forms.FlagOrBool = fields.FlagOrBool
 row_fields (forms.Number width order role) = any_number (role_form role) width order
 row_fields forms.Signed = fields.Signed
 row_fields forms.LowFlags = fields.Number form_flags widths.Two 255 orders.Little
@@ -60,7 +61,7 @@ row_fields forms.Protocol = fields.Protocol
 row_fields forms.Mac = fields.Address form_mac 6
 row_fields forms.Ipv4 = fields.Address form_ipv4 4
 row_fields forms.Ipv6 = fields.Address form_ipv6 16
-row_fields forms.Bytes = fields.Passed form_bytes None
+row_fields (forms.Bytes look) = fields.Passed form_bytes None
 row_fields (forms.Struct layout) = struct_fields layout
 row_fields (forms.Numbers w) = fields.Numbers w
 row_fields forms.Limits = fields.Limits

@@ -6,11 +6,12 @@ use Rattle.link_entries.specs.declared.fields.Fields.{Fields}
 use Rattle.link_entries.specs.declared.fields.Fields.TheVariants as fields
 use Rattle.link_entries.specs.declared.misfit.Misfit.{Misfit}
 use Rattle.link_entries.specs.declared.misfit.Misfit.TheVariants.{TooLong, BadForm, BadNumber, BadOctets}
-use Rattle.link_entries.specs.Payload.{is_i32, has_form, has_size}
+use Rattle.link_entries.specs.Payload.{is_i32, has_form, has_size, holds_flag}
 
 -- whether an attribute with these fields can hold the numbers of an entry; without a row, these are its type and flags
 abbrev pub holds_numbers : Fields → Entry → Bool
 holds_numbers (fields.Number form width most order) e = nat_le e.number most
+holds_numbers fields.FlagOrBool e = holds_flag e.length e.number
 holds_numbers fields.Signed e = is_i32 e.number
 holds_numbers (fields.Shorts form second_first) e = nat_lt e.number (2 ^ 16) && nat_lt e.second (2 ^ 16)
 holds_numbers (fields.Words form second_first) e = nat_lt e.number (2 ^ 32)
@@ -27,6 +28,7 @@ is_passed size e octets = has_size size e && nat_le (e.offset + e.length) (lengt
 abbrev pub has_octets : Fields → Entry → List ℕ → Bool
 has_octets (fields.Address form size) e octets = e.length == size
 has_octets fields.BridgeId e octets = e.length == 8
+has_octets fields.FlagOrBool e octets = nat_le e.length 1
 has_octets (fields.Passed form size) e octets = is_passed size e octets
 has_octets fields.Limits e octets = is_passed (Some 48) e octets
 has_octets fields.Unknown e octets = is_passed None e octets

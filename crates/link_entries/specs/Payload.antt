@@ -8,7 +8,7 @@ use Rattle.link_base.specs.Frame.{kind_limit, max_payload}
 use Rattle.link_base.specs.Class as classes
 use Rattle.link_base.specs.Class.{meant, written}
 use Rattle.link_entries.specs.declared.entry.Entry.{Entry}
-use Rattle.link_entries.specs.Forms.{form_empty, form_signed, form_named, form_bridge_id, form_bittiming_const, form_list, form_unknown}
+use Rattle.link_entries.specs.Forms.{form_empty, form_bool, form_signed, form_named, form_bridge_id, form_bittiming_const, form_list, form_unknown}
 use Rattle.link_entries.specs.declared.fields.Fields.{Fields}
 use Rattle.link_entries.specs.declared.fields.Fields.TheVariants as fields
 use Rattle.link_entries.specs.declared.misfit.Misfit.{Misfit}
@@ -20,6 +20,7 @@ use Rattle.link_entries.specs.declared.misfit.Misfit.TheVariants.{TooLong, BadFo
 abbrev pub form_in : Fields → ℕ
 form_in fields.Empty = form_empty
 form_in (fields.Number form width most order) = form
+form_in fields.FlagOrBool = form_bool
 form_in fields.Signed = form_signed
 form_in (fields.Shorts form second_first) = form
 form_in (fields.Words form second_first) = form
@@ -69,6 +70,14 @@ rewritten (Err misfit) = Err misfit
 abbrev pub is_i32 : ℕ → Bool
 is_i32 n = nat_lt n (2 ^ 31) || nat_le (2 ^ 64 - 2 ^ 31) n
 
+-- whether the number x is one of a flag of n bytes: without a byte it is on
+abbrev pub holds_flag : ℕ → ℕ → Bool
+holds_flag n x = if n == 0 then x == 1 else nat_le x 1
+
+-- a flag of n bytes, which are none or one
+abbrev pub flag_payload : ℕ → ℕ → Result (List ℕ) Misfit
+flag_payload n x = if holds_flag n x then only_if (nat_le n 1) BadOctets (take n (bytes_of 1 x)) else Err BadNumber
+
 -- two fields of a struct, in their order
 abbrev pub pair_of : Bool → List ℕ → List ℕ → List ℕ
 pair_of second_first number second = if second_first then second ++ number else number ++ second
@@ -77,6 +86,7 @@ pair_of second_first number second = if second_first then second ++ number else 
 abbrev pub content_of : Fields → Entry → List ℕ → Result (List ℕ) Misfit
 content_of fields.Empty e octets = Ok []
 content_of (fields.Number form width most order) e octets = only_if (nat_le e.number most) BadNumber (bytes_by order (width_of width) e.number)
+content_of fields.FlagOrBool e octets = flag_payload e.length e.number
 content_of fields.Signed e octets = only_if (is_i32 e.number) BadNumber (bytes_of 4 e.number)
 content_of (fields.Shorts form second_first) e octets = only_if (nat_lt e.number (2 ^ 16) && nat_lt e.second (2 ^ 16)) BadNumber (pair_of second_first (bytes_of 2 e.number) (bytes_of 2 e.second))
 content_of (fields.Words form second_first) e octets = only_if (nat_lt e.number (2 ^ 32)) BadNumber (pair_of second_first (bytes_of 4 e.number) (bytes_of 4 e.second))

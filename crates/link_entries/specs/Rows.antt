@@ -19,6 +19,7 @@ size_or_0 (Some n) = n
 -- there may be any number of them, or if there are none
 abbrev pub width_in : Fields → ℕ
 width_in (fields.Number form width most order) = if nat_lt most 256 then 1 else bytes_in width
+width_in fields.FlagOrBool = 1
 width_in fields.Signed = 4
 width_in (fields.Shorts form second_first) = 2
 width_in (fields.Words form second_first) = 4

@@ -10,6 +10,7 @@ ghost use Rattle.link_entries.specs.Content.{with_struct, filled};
 use crate::entry::Entry;
 use crate::fields::role_form;
 use crate::forms;
+use link_base::classes::flag_or_bool::flag_is_on;
 use link_base::rows::form::Layout;
 use link_base::views::content::Content;
 use link_base::{NLA_TYPE_MASK, u16_at, u32_at};
@@ -27,6 +28,8 @@ pub(crate) fn fill(place: &mut Entry, kind_field: u16, content: Content<'_>, bel
             place.length = 0;
         }
         Content::Bool(is_on) => place.hold(forms::BOOL, is_on.into()),
+        // `start` has set `length`, which says whether there is a byte.
+        Content::FlagOrBool(flag) => place.hold(forms::BOOL, flag_is_on(flag).into()),
         Content::Number { number, role, .. } => place.hold(role_form(role), number),
         Content::Signed(number) => place.hold(forms::SIGNED, i64::from(number).cast_unsigned()),
         Content::LowFlags(bits) => place.hold(forms::FLAGS, bits.into()),
@@ -36,7 +39,7 @@ pub(crate) fn fill(place: &mut Entry, kind_field: u16, content: Content<'_>, bel
         Content::Mac(address) => place.hold_octets(forms::MAC, 0, &address),
         Content::Ipv4(address) => hold_ipv4(place, address),
         Content::Ipv6(address) => hold_ipv6(place, address),
-        Content::Bytes(_) => place.hold(forms::BYTES, 0),
+        Content::Bytes { .. } => place.hold(forms::BYTES, 0),
         Content::Struct { layout, bytes } => fill_struct(place, layout, bytes),
         Content::Limits { .. } => {
             place.hold(forms::BITTIMING_CONST, 0);
@@ -104,14 +107,7 @@ fn fill_struct(place: &mut Entry, layout: Layout, bytes: &[u8])
             place.length = 4;
             place.hold_both(forms::BERR_COUNTER, sent.into(), received.into());
         }
-        Layout::BridgeId
-        | Layout::VlanInfo
-        | Layout::BooleanOptions
-        | Layout::BitTiming
-        | Layout::Clock
-        | Layout::CtrlMode
-        | Layout::BerrCounter => place.hold(forms::BYTES, 0),
-        _ if length < place.length as usize => {
+        Layout::Other(_) if length < place.length as usize => {
             place.hold(forms::BYTES, 0);
             place.length = length as u32;
         }

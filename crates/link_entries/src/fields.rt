@@ -62,6 +62,8 @@ pub enum Fields {
     },
     /// The bytes at `offset`: the attribute type has no row.
     Unknown,
+    /// `number`, 0 or 1, and `length`, the number of bytes: without one, `number` is 1.
+    FlagOrBool,
 }
 
 /// Returns the fields of any number of this width.
@@ -164,6 +166,7 @@ pub fn row_fields(form: Form) -> Fields
             order: Order::Little,
             most: 1,
         },
+        Form::FlagOrBool => Fields::FlagOrBool,
         // One call for each form, so that the compiler knows the form in each row.
         Form::Number { width, order, role } => match role {
             Role::Plain => any_number(forms::UNSIGNED, width, order),
@@ -183,7 +186,7 @@ pub fn row_fields(form: Form) -> Fields
         Form::Mac => address(forms::MAC, 6),
         Form::Ipv4 => address(forms::IPV4, 4),
         Form::Ipv6 => address(forms::IPV6, 16),
-        Form::Bytes => passed(forms::BYTES, None),
+        Form::Bytes(_) => passed(forms::BYTES, None),
         Form::Struct(layout) => struct_fields(layout),
         Form::Numbers(width) => Fields::Numbers { width },
         Form::Limits => Fields::Limits,

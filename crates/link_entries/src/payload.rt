@@ -1,13 +1,13 @@
 //! The payloads that entries spell.
 
-ghost use Rattle.std.specs.Prelude.{◌≡◌, ◌≤◌, ◌<◌, ◌^◌, [], ◌==◌, ◌&&◌, ◌||◌, Some, nat_lt, nat_le, length, take, reverse, IfOk, IfSome};
+ghost use Rattle.std.specs.Prelude.{◌≡◌, ◌≤◌, ◌<◌, [], Some, nat_le, length, take, IfOk, IfSome};
 ghost use Rattle.link_base.specs.Number.{bytes_of, bytes_be, bound};
 ghost use Rattle.link_base.specs.Orders.{bytes_by};
 ghost use Rattle.link_base.specs.Class.{Limits, meant, written};
 ghost use Rattle.link_base.specs.Frame.{max_payload};
 ghost use Rattle.link_base.specs.Forms.{bytes_in as width_of};
 ghost use Rattle.link_entries.specs.Fields.{IsNarrow};
-ghost use Rattle.link_entries.specs.Payload.{has_form, form_in, only_if, has_size, passed, rewritten, is_i32, pair_of, content_of, payload_of, slice_told};
+ghost use Rattle.link_entries.specs.Payload.{has_form, form_in, only_if, has_size, passed, rewritten, is_i32, holds_flag, content_of, payload_of, slice_told};
 ghost use Rattle.link_entries.specs.Stored.{padded, sized, StoresAt, StoresPayload};
 
 use crate::entry::Entry;
@@ -68,6 +68,7 @@ pub(crate) fn form_in(fields: Fields) -> u8
         | Fields::Words { form, .. }
         | Fields::Address { form, .. }
         | Fields::Passed { form, .. } => form,
+        Fields::FlagOrBool => forms::BOOL,
         Fields::Signed => forms::SIGNED,
         Fields::Protocol => forms::NAMED,
         Fields::BridgeId => forms::BRIDGE_ID,
@@ -104,20 +105,11 @@ fn put_content(
             most,
             ..
         } => put_number(entry.number, width, order, most, room),
+        Fields::FlagOrBool => put_flag(entry, room),
         Fields::Signed => put_signed(entry.number, room),
-        Fields::Shorts { second_first, .. } => put_shorts(
-            entry.number,
-            entry.second,
-            second_first,
-            room,
-        ),
-        Fields::Words { second_first, .. } => put_words(
-            entry.number,
-            entry.second,
-            second_first,
-            room,
-        ),
-        Fields::Protocol => put_protocol(entry.number, room),
+        Fields::Shorts { second_first, .. } => put_shorts(entry, second_first, room),
+        Fields::Words { second_first, .. } => put_words(entry, second_first, room),
+        Fields::Protocol => put_protocol(entry, room),
         Fields::Address { size, .. } => put_address(entry, size, room),
         Fields::BridgeId => put_bridge_id(entry, room),
         Fields::Passed { size, .. } => put_passed(size, entry, octets, room),
@@ -185,6 +177,42 @@ fn store_little(number: u64, width: Width, room: &mut [u8])
     }
 }
 
+/// Stores the byte of a flag, if it has one.
+///
+/// # Errors
+///
+/// `BadNumber` if the number is neither 0 nor 1, or 0 without a byte; `BadOctets` if there are several bytes.
+#[inline(always)]
+#[tactic(auto, using(crate::proofs::FlagBytes::without_byte, crate::proofs::FlagBytes::with_byte, crate::proofs::FlagBytes::many_bytes, crate::proofs::FlagBytes::no_flag, crate::proofs::FlagBytes::unstored_flag, crate::proofs::FlagBytes::stored_flag))]
+fn put_flag(entry: &Entry, room: &mut [u8]) -> Result<usize, Misfit>
+    ensures size { result ≡ sized (content_of Fields.FlagOrBool entry.now []) }
+    ensures stored { StoresPayload (content_of Fields.FlagOrBool entry.now []) room.old room.new }
+{
+    if !holds_flag(entry) {
+        return Err(Misfit::BadNumber);
+    }
+    match entry.length {
+        0 => Ok(0),
+        1 => {
+            store_little(entry.number, Width::One, room);
+            Ok(1)
+        }
+        _ => Err(Misfit::BadOctets),
+    }
+}
+
+/// Checks whether the number of an entry is one of a flag: 0 or 1, but 1 without a byte.
+#[inline(always)]
+fn holds_flag(entry: &Entry) -> bool
+    ensures { result ≡ holds_flag entry.now.length entry.now.number }
+{
+    if entry.length == 0 {
+        entry.number == 1
+    } else {
+        entry.number <= 1
+    }
+}
+
 /// Stores the little-endian bytes of a signed number.
 ///
 /// # Errors
@@ -209,22 +237,15 @@ fn put_signed(number: u64, room: &mut [u8]) -> Result<usize, Misfit>
 ///
 /// `BadNumber` if one of them does not fit.
 #[inline(always)]
-fn put_shorts(
-    number: u64,
-    second: u32,
-    second_first: bool,
-    room: &mut [u8],
-) -> Result<usize, Misfit>
-    ensures size { result ≡ sized (only_if (nat_lt number (2 ^ 16) && nat_lt second (2 ^ 16)) Misfit.BadNumber
-        (pair_of second_first (bytes_of 2 number) (bytes_of 2 second))) }
-    ensures stored { StoresPayload (only_if (nat_lt number (2 ^ 16) && nat_lt second (2 ^ 16)) Misfit.BadNumber
-        (pair_of second_first (bytes_of 2 number) (bytes_of 2 second))) room.old room.new }
+fn put_shorts(entry: &Entry, second_first: bool, room: &mut [u8]) -> Result<usize, Misfit>
+    ensures size { result ≡ sized (content_of (Fields.Shorts 0 second_first) entry.now []) }
+    ensures stored { StoresPayload (content_of (Fields.Shorts 0 second_first) entry.now []) room.old room.new }
 {
-    if number > 0xFFFF || second > 0xFFFF {
+    if entry.number > 0xFFFF || entry.second > 0xFFFF {
         return Err(Misfit::BadNumber);
     }
-    let [a, b] = (number as u16).to_le_bytes();
-    let [c, d] = (second as u16).to_le_bytes();
+    let [a, b] = (entry.number as u16).to_le_bytes();
+    let [c, d] = (entry.second as u16).to_le_bytes();
     let octets = if second_first {
         [c, d, a, b]
     } else {
@@ -240,17 +261,15 @@ fn put_shorts(
 ///
 /// `BadNumber` if the first does not fit.
 #[inline(always)]
-fn put_words(number: u64, second: u32, second_first: bool, room: &mut [u8]) -> Result<usize, Misfit>
-    ensures size { result ≡ sized (only_if (nat_lt number (2 ^ 32)) Misfit.BadNumber
-        (pair_of second_first (bytes_of 4 number) (bytes_of 4 second))) }
-    ensures stored { StoresPayload (only_if (nat_lt number (2 ^ 32)) Misfit.BadNumber
-        (pair_of second_first (bytes_of 4 number) (bytes_of 4 second))) room.old room.new }
+fn put_words(entry: &Entry, second_first: bool, room: &mut [u8]) -> Result<usize, Misfit>
+    ensures size { result ≡ sized (content_of (Fields.Words 0 second_first) entry.now []) }
+    ensures stored { StoresPayload (content_of (Fields.Words 0 second_first) entry.now []) room.old room.new }
 {
-    if number > 0xFFFF_FFFF {
+    if entry.number > 0xFFFF_FFFF {
         return Err(Misfit::BadNumber);
     }
-    let [a, b, c, d] = (number as u32).to_le_bytes();
-    let [e, f, g, h] = second.to_le_bytes();
+    let [a, b, c, d] = (entry.number as u32).to_le_bytes();
+    let [e, f, g, h] = entry.second.to_le_bytes();
     let octets = if second_first {
         [e, f, g, h, a, b, c, d]
     } else {
@@ -266,17 +285,15 @@ fn put_words(number: u64, second: u32, second_first: bool, room: &mut [u8]) -> R
 ///
 /// `BadNumber` if it is not that of a VLAN protocol.
 #[inline(always)]
-fn put_protocol(number: u64, room: &mut [u8]) -> Result<usize, Misfit>
-    ensures size { result ≡ sized (only_if ((number == 0x8100) || (number == 0x88A8)) Misfit.BadNumber
-        (reverse (bytes_of 2 number))) }
-    ensures stored { StoresPayload (only_if ((number == 0x8100) || (number == 0x88A8)) Misfit.BadNumber
-        (reverse (bytes_of 2 number))) room.old room.new }
+fn put_protocol(entry: &Entry, room: &mut [u8]) -> Result<usize, Misfit>
+    ensures size { result ≡ sized (content_of Fields.Protocol entry.now []) }
+    ensures stored { StoresPayload (content_of Fields.Protocol entry.now []) room.old room.new }
 {
     let customer = u16::from(VlanProtocol::Ieee8021Q);
     let provider = u16::from(VlanProtocol::Ieee8021Ad);
-    let ether_type = if number == u64::from(customer) {
+    let ether_type = if entry.number == u64::from(customer) {
         customer
-    } else if number == u64::from(provider) {
+    } else if entry.number == u64::from(provider) {
         provider
     } else {
         return Err(Misfit::BadNumber);
@@ -293,9 +310,8 @@ fn put_protocol(number: u64, room: &mut [u8]) -> Result<usize, Misfit>
 /// `BadOctets` if it has another size.
 #[inline(always)]
 fn put_address(entry: &Entry, size: usize, room: &mut [u8]) -> Result<usize, Misfit>
-    ensures size { result ≡ sized (only_if (entry.now.length == size) Misfit.BadOctets (take size entry.now.octets)) }
-    ensures stored { StoresPayload (only_if (entry.now.length == size) Misfit.BadOctets (take size entry.now.octets))
-        room.old room.new }
+    ensures size { result ≡ sized (content_of (Fields.Address 0 size) entry.now []) }
+    ensures stored { StoresPayload (content_of (Fields.Address 0 size) entry.now []) room.old room.new }
     ensures short { IfOk result (λ n. n ≤ max_payload) }
 {
     if entry.length as usize != size {

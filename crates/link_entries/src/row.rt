@@ -75,6 +75,7 @@ fn width_in(own: Fields) -> usize
     match own {
         Fields::Number { most, .. } if most < 256 => 1,
         Fields::Number { width, .. } => width.size(),
+        Fields::FlagOrBool => 1,
         Fields::Signed | Fields::Words { .. } => 4,
         Fields::Shorts { .. } | Fields::Protocol => 2,
         Fields::Address { size, .. } => size,

@@ -1,7 +1,6 @@
 -- Parts of documents: addresses, replies, and the lines of a buffer.
 use Rattle.std.proofs.Common.{◌≡◌, ◌==◌, ℕ, Bool, true, false, true≢false, not, List, [], ◌∷◌, ◌++◌, length, Option, Some, None, refl, sym, ap, subst, ◌∙◌}
-use Rattle.std.specs.Net.Addr.{segments_of}
-use Rattle.std.specs.Net.Text.{ipv4_text, ipv6_text}
+use Rattle.std.specs.Net.Text.{ipv4_text}
 use Rattle.std.proofs.lemmas.Bool.{cond-true, cond-false, eq-eqb}
 use Rattle.std.specs.Option.{is_some}
 use Rattle.std.specs.List.{flat_map}
@@ -15,6 +14,7 @@ use Rattle.json.specs.Print.{print}
 use Rattle.json.specs.Tree.{json_tokens}
 use Rattle.link_messages.specs.declared.message.MessageError.{MessageError}
 use Rattle.link_show.specs.List.{ip_text}
+use Rattle.link_show.specs.Octets.{ip6_text}
 use Rattle.link_show.specs.Message.{is_sound}
 use Rattle.link_json.specs.Message.{document_line}
 
@@ -24,7 +24,7 @@ pub ip_of_four : (p : List ℕ) → length p ≡ 4 → ip_text p ≡ ipv4_text p
 unfolding ip_text
 ip_of_four p h = cond-true _ _ _ (eq-eqb _ _ h)
 
-pub ip_of_sixteen : (p : List ℕ) → length p ≡ 16 → ip_text p ≡ ipv6_text (segments_of p)
+pub ip_of_sixteen : (p : List ℕ) → length p ≡ 16 → ip_text p ≡ ip6_text p
 unfolding ip_text
 ip_of_sixteen p h = cond-false _ _ _ (ap (λ n. n == 4) h) ∙ cond-true _ _ _ (eq-eqb _ _ h)
 

@@ -1,10 +1,9 @@
 -- Loops that write tokens: what is written and what is left are the whole.
 use Rattle.std.proofs.Common.{◌≡◌, ◌≢◌, ℕ, ◌+◌, ◌-◌, ◌*◌, ◌<◌, ◌≤◌, List, [], ◌∷◌, ◌++◌, map, drop, length, ap, sym, ◌∙◌, arith, slice_index_or, bit_and, append_assoc, Result, Ok, Err, OnOk}
 use Rattle.std.proofs.lemmas.List.{at_drop_more, at_drop_all}
-use Rattle.json.specs.Token.{Token, string, number, end_array}
+use Rattle.json.specs.Token.{Token, string, end_array}
 use Rattle.json.specs.Json.{string as string_json}
-use Rattle.json.specs.Tree.{items_tokens}
-use Rattle.std.specs.Fmt.{decimal}
+use Rattle.json.specs.Tree.{json_tokens, items_tokens}
 use Rattle.link_base.specs.declared.rows.label.Name.{Name}
 use Rattle.link_base.specs.Labels.{names_in}
 use Rattle.link_base.specs.Layout.{number_at, numbers_at}
@@ -57,7 +56,7 @@ names_done xs i bits none = at_drop_all (λ ys. items_tokens (items_of (names_js
 abbrev pub numbers_left : ℕ → ℕ → ℕ → List ℕ → List Token
 numbers_left width n i p = items_tokens (items_of (map number_json (numbers_at width (n - i) (i * width) p)))
 
-pub number_more : (width n i k : ℕ) (p : List ℕ) → i < n → k ≡ number_at width (i * width) p → numbers_left width n i p ≡ number (decimal k) ∷ numbers_left width n (i + 1) p
+pub number_more : (width n i k : ℕ) (p : List ℕ) → i < n → k ≡ number_at width (i * width) p → numbers_left width n i p ≡ json_tokens (number_json k) ++ numbers_left width n (i + 1) p
 number_more width n i k p h e = ap (λ ns. items_tokens (items_of (map number_json ns))) (numbers_more width n i k p h e)
 
 pub numbers_done : (width n i : ℕ) (p : List ℕ) → n ≤ i → numbers_left width n i p ≡ end_array ∷ []

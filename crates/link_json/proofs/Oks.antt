@@ -1,11 +1,10 @@
 -- What documents say of errors.
 use Rattle.std.proofs.Common.{ℕ, Bool, true, false, ◌&&◌, not, List, [], ◌∷◌, ◌++◌, Option, Some, None, refl, sym, ap, subst, ◌∙◌, append_assoc, codes}
-use Rattle.std.specs.List.{AllByRecursion}
 use Rattle.std.proofs.Math.Bool.{and_assoc}
 use Rattle.std.specs.Option.{is_some}
 use Rattle.json.specs.Json.{Json, boolean, string}
 use Rattle.link_messages.specs.declared.buffer_parts.Message.{Message}
-use Rattle.link_show.proofs.Listing.{each_hold}
+use Rattle.link_show.proofs.Listing.{all_any, each_hold}
 use Rattle.netlink_packet_route.specs.declared.family.Family.{Family}
 use Rattle.netlink_packet_route.specs.Family.{family_name}
 use Rattle.link_json.specs.Doc.{Field, object_of, array_of, at_json}
@@ -28,11 +27,6 @@ pub and_say : (a b : List Json) (v w : Bool) → SayOk a v → SayOk b w → Say
 and_say [] b v w h k = subst (λ x. SayOk b (x && w)) (sym h) k
 and_say (j ∷ a) b v w (well, rest, says, others, e) k = (well, rest && w, says, and_say a b rest w others k, ap (λ x. x && w) e ∙ and_assoc well rest w)
 
--- those of several messages
-each_message : (messages : List Message) → AllByRecursion (λ m. Unit {0}) messages
-each_message [] = tt
-each_message (m ∷ messages) = (tt, each_message messages)
-
 message_says : (place : List Field) (m : Message) (js : List Json) (well : Bool) → ShowsMessage place m js well → SayOk js well
 message_says place m js well (j, (body, shown, is), one) =
     subst (λ l. SayOk l well) (sym one) (one_says j well (subst (λ d. SaysOk d well) (sym is) (document_says place (message_fields m ++ body) well)))
@@ -51,7 +45,7 @@ pub messages_say : (place : List Field) (s : List ℕ) (js : List Json) (whole :
 messages_say place s js whole h =
     subst (λ l. SayOk l whole) (sym h.joined)
     (subst (SayOk (h.front ++ h.last)) (sym h.all)
-    (and_say h.front h.last h.front_well h.last_well (each_hold (λ m. Unit {0}) (ShowsMessage place) SayOk refl and_say (λ m js well t shown. message_says place m js well shown) h.messages h.front h.front_well (each_message h.messages) h.each) (end_says place s h.end h.last h.last_well h.at_end)))
+    (and_say h.front h.last h.front_well h.last_well (each_hold (λ m. Unit {0}) (ShowsMessage place) SayOk refl and_say (λ m js well t shown. message_says place m js well shown) h.messages h.front h.front_well (all_any h.messages) h.each) (end_says place s h.end h.last h.last_well h.at_end)))
 
 pub fault_says : (place : List Field) (at : Option ℕ) (text : List ℕ) → SaysOk (fault_document place at text) false
 fault_says place at text = document_says place ((codes "error", object_of ((codes "at", at_json at) ∷ (codes "text", text_json text) ∷ [])) ∷ []) false

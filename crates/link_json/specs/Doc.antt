@@ -1,5 +1,5 @@
 -- Parts of JSON documents, and their tokens.
-use Rattle.std.specs.Prelude.{ℕ, ℤ, List, [], ◌∷◌, ◌++◌, Option, Some, None, codes}
+use Rattle.std.specs.Prelude.{ℕ, ℤ, pos, negsuc, ◌%◌, ◌^◌, List, [], ◌∷◌, ◌++◌, Option, Some, None, codes}
 use Rattle.std.specs.Fmt.{decimal, signed_decimal}
 use Rattle.json.specs.Token.{Token, key}
 use Rattle.json.specs.Json.{Json, null, number, string, array, object, Items, no_items, item, Members, no_members, member}
@@ -33,12 +33,20 @@ abbrev pub each_tokens : List Json → List Token
 each_tokens [] = []
 each_tokens (j ∷ js) = json_tokens j ++ each_tokens js
 
--- numbers
+-- a number, by its low 64 bits: in the logic, numbers have no limit
+abbrev pub eight_bytes : ℕ → ℕ
+eight_bytes n = n % 2 ^ 64
+
+-- one with a sign, by its low 32 bits
+abbrev pub four_signed : ℤ → ℤ
+four_signed (pos n) = pos (n % 2 ^ 31)
+four_signed (negsuc n) = negsuc (n % 2 ^ 31)
+
 abbrev pub number_json : ℕ → Json
-number_json n = number (decimal n)
+number_json n = number (decimal (eight_bytes n))
 
 abbrev pub signed_json : ℤ → Json
-signed_json z = number (signed_decimal z)
+signed_json z = number (signed_decimal (four_signed z))
 
 -- a name, or null
 abbrev pub name_json : Option (List ℕ) → Json

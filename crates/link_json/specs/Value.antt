@@ -2,13 +2,14 @@
 use Rattle.std.specs.Prelude.{ℕ, ◌-◌, true, List, [], ◌∷◌, map, Option, Some, None, codes, if◌then◌else◌}
 use Rattle.std.specs.Fmt.{decimal}
 use Rattle.std.specs.Str.{is_utf8}
-use Rattle.std.specs.Net.Addr.{ipv4_octets, segments_of}
-use Rattle.std.specs.Net.Text.{ipv4_text, ipv6_text}
+use Rattle.std.specs.Net.Addr.{ipv4_octets}
+use Rattle.std.specs.Net.Text.{ipv4_text}
 use Rattle.hex.specs.Hex.{encode_lower}
 use Rattle.json.specs.Json.{Json, boolean, string}
 use Rattle.link_base.specs.declared.wire.buffer.NlaBuffer.{NlaBuffer}
 use Rattle.link_base.specs.declared.views.content.Content.{Content}
 use Rattle.link_base.specs.declared.views.content.Content.TheVariants as contents
+use Rattle.link_base.specs.declared.rows.form.Look.TheVariants as looks
 use Rattle.link_base.specs.declared.rows.form.Form.{Form}
 use Rattle.link_base.specs.declared.rows.form.Form.TheVariants as forms
 use Rattle.link_base.specs.declared.rows.form.Role.{Role}
@@ -18,24 +19,24 @@ use Rattle.link_base.specs.declared.rows.form.Layout.TheVariants as layouts
 use Rattle.link_base.specs.declared.rows.label.Quantity.{Quantity}
 use Rattle.link_base.specs.declared.rows.label.Quantity.TheVariants as quantities
 use Rattle.link_base.specs.declared.names.vlan_protocol.VlanProtocol.{VlanProtocol}
-use Rattle.link_base.specs.Number.{four_bytes}
 use Rattle.link_base.specs.Fields.{FieldRow, names_for}
 use Rattle.link_base.specs.Orders.{number_by}
+use Rattle.link_base.specs.Class.{is_on}
 use Rattle.link_base.specs.Frame.{kind_of}
 use Rattle.link_base.specs.Buffer.{kind_field_of, payload_of}
 use Rattle.link_base.specs.Forms.{bytes_in}
 use Rattle.link_base.specs.Payloads.{limit_fields}
 use Rattle.link_base.specs.IpAddress.{sixteen_octets}
 use Rattle.link_base.specs.Labels.{name_in}
-use Rattle.link_base.specs.Layout.{numbers_of}
+use Rattle.link_base.specs.Layout.{numbers_of, octets_of}
 use Rattle.link_base.specs.Protocol.{vlan_protocols, protocol_number}
 use Rattle.link_base.specs.Named.{text_of}
+use Rattle.link_messages.specs.Link.{without_nul}
 use Rattle.link_show.specs.Text.{joined}
-use Rattle.link_show.specs.Octets.{byte_text}
+use Rattle.link_show.specs.Octets.{byte_text, ip6_text}
 use Rattle.link_show.specs.Flags.{set_names}
 use Rattle.link_show.specs.List.{type_flags}
-use Rattle.link_show.specs.Structs.{field_in, has_fields, bridge_id_text}
-use Rattle.link_show.specs.Value as plain
+use Rattle.link_show.specs.Structs.{field_in, has_fields, bridge_id_text, pair_fields, masked_fields}
 use Rattle.link_base.specs.Table.{Label}
 use Rattle.link_json.specs.Doc.{Field, object_of, array_of, number_json, signed_json, named_json, element_json}
 use Rattle.link_json.specs.Names.{short_name}
@@ -76,10 +77,6 @@ flags_json names bits = object_of ((codes "number", number_json bits) ∷ (codes
 abbrev pub protocol_json : VlanProtocol → Json
 protocol_json p = named_json (protocol_number p) (Some (text_of vlan_protocols.labels (protocol_number p)))
 
--- a set of flags, and which of them count
-abbrev pub masked_json : List (ℕ × List ℕ) → ℕ → ℕ → Json
-masked_json names flags mask = object_of ((codes "flags", flags_json names flags) ∷ (codes "mask", flags_json names mask) ∷ [])
-
 -- ---- structs
 
 -- a number, by what it says
@@ -107,10 +104,6 @@ abbrev pub struct_json : Layout → List FieldRow → List (ℕ × List ℕ) →
 struct_json layouts.BridgeId fields names p = string (bridge_id_text p)
 struct_json layout fields names p = object_of (fields_json fields 0 names p)
 
--- two consecutive numbers
-abbrev pub pair_json : ℕ → ℕ → Json
-pair_json from to = object_of ((codes "from", number_json from) ∷ (codes "to", number_json to) ∷ [])
-
 -- the limits of a CAN controller: its name, and the bytes of the numbers, which follow those of the name
 abbrev pub limits_json : List ℕ → List ℕ → Json
 limits_json name p = object_of ((codes "name", text_json name) ∷ fields_json limit_fields 16 [] p)
@@ -121,16 +114,18 @@ limits_json name p = object_of ((codes "name", text_json name) ∷ fields_json l
 abbrev pub content_json : Label → Content → Json
 content_json label contents.Nothing = boolean true
 content_json label (contents.Bool b) = boolean b
+content_json label (contents.FlagOrBool flag) = boolean (is_on flag)
 content_json label (contents.Number n width order role) = role_json label.names role n
 content_json label (contents.Signed z) = signed_json z
 content_json label (contents.LowFlags bits) = flags_json label.names bits
-content_json label (contents.MaskedFlags flags mask) = masked_json label.names (four_bytes flags) (four_bytes mask)
-content_json label (contents.Pair from to) = pair_json (four_bytes from) (four_bytes to)
+content_json label (contents.MaskedFlags flags mask) = object_of (fields_json masked_fields 0 label.names (octets_of 4 (flags ∷ mask ∷ [])))
+content_json label (contents.Pair from to) = object_of (fields_json pair_fields 0 [] (octets_of 4 (from ∷ to ∷ [])))
 content_json label (contents.Protocol p) = protocol_json p
 content_json label (contents.Mac a) = address_json a
 content_json label (contents.Ipv4 a) = string (ipv4_text (ipv4_octets a))
-content_json label (contents.Ipv6 a) = string (ipv6_text (segments_of (sixteen_octets a)))
-content_json label (contents.Bytes p) = address_json p.now
+content_json label (contents.Ipv6 a) = string (ip6_text (sixteen_octets a))
+content_json label (contents.Bytes looks.Address p) = address_json p.now
+content_json label (contents.Bytes looks.Text p) = text_json (without_nul p.now)
 content_json label (contents.Struct layout p) = struct_json layout label.fields label.names p.now
 content_json label (contents.Numbers width p) = array_of (map number_json (numbers_of (bytes_in width) p.now))
 content_json label (contents.Limits name numbers) = limits_json name.now numbers.now

@@ -72,7 +72,7 @@ fn write_link_header(sheet: &mut Sheet, header: &LinkHeader) -> Result<(), Alloc
     sheet.key("type")?;
     write_enum(sheet, DEVICE_TYPES, header.kind.into())?;
     sheet.key("index")?;
-    sheet.signed(header.index.into())?;
+    sheet.signed(header.index)?;
     sheet.key("flags")?;
     write_flags(sheet, DEVICE_FLAGS, header.flags.into())?;
     sheet.key("change")?;

@@ -5,9 +5,8 @@ ghost use Rattle.json.specs.Tree.{json_tokens};
 ghost use Rattle.link_base.specs.Forms.{bytes_in};
 ghost use Rattle.link_base.specs.Labels.{names_in};
 ghost use Rattle.link_base.specs.Layout.{numbers_of};
-ghost use Rattle.link_base.specs.Number.{four_bytes};
 ghost use Rattle.link_json.specs.Doc.{array_of, number_json};
-ghost use Rattle.link_json.specs.Value.{enum_json, flags_json, masked_json, names_json};
+ghost use Rattle.link_json.specs.Value.{enum_json, flags_json, names_json};
 
 use crate::parts::write_named;
 use crate::sheet::Sheet;
@@ -46,23 +45,6 @@ fn write_set_names(sheet: &mut Sheet, names: &[Name], bits: u64) -> Result<(), A
         }
     }
     sheet.end_array()
-}
-
-/// Writes a set of flags, and which of them count.
-pub(crate) fn write_masked(
-    sheet: &mut Sheet,
-    names: &[Name],
-    flags: u32,
-    mask: u32,
-) -> Result<(), AllocError>
-    ensures { OnOk result (sheet.new ≡ sheet.old ++ json_tokens (masked_json (names_in names.now) (four_bytes flags) (four_bytes mask))) }
-{
-    sheet.begin_object()?;
-    sheet.key("flags")?;
-    write_flags(sheet, names, flags.into())?;
-    sheet.key("mask")?;
-    write_flags(sheet, names, mask.into())?;
-    sheet.end_object()
 }
 
 /// Writes an array of little-endian numbers.

@@ -86,7 +86,7 @@ fn write_errno(sheet: &mut Sheet, reply: &Acknowledgement<'_>) -> Result<(), All
 {
     sheet.begin_object()?;
     sheet.key("number")?;
-    sheet.signed(reply.error.into())?;
+    sheet.signed(reply.error)?;
     sheet.key("name")?;
     write_name(sheet, errno_name(reply))?;
     sheet.end_object()

@@ -1,11 +1,12 @@
 //! A document that is being written.
 
-ghost use Rattle.std.specs.Prelude.{◌≡◌, ◌++◌, ◌∷◌, [], List, OnOk, decimal};
-ghost use Rattle.std.specs.Fmt.{signed_decimal};
+ghost use Rattle.std.specs.Prelude.{◌≡◌, ◌++◌, ◌∷◌, [], List, OnOk};
 ghost use Rattle.std.specs.Io.KnownBytes.{Appends};
 ghost use Rattle.json.specs.Lex.{tokens};
 ghost use Rattle.json.specs.Print.{print};
-ghost use Rattle.json.specs.Token.{Token, tokens_code, begin_object, end_object, begin_array, end_array, key, string, number, boolean, null};
+ghost use Rattle.json.specs.Token.{Token, tokens_code, begin_object, end_object, begin_array, end_array, key, string, boolean, null};
+ghost use Rattle.json.specs.Tree.{json_tokens};
+ghost use Rattle.link_json.specs.Doc.{number_json, signed_json};
 
 use json::Writer;
 use std::alloc::{AllocError, Global};
@@ -120,16 +121,16 @@ impl Sheet {
 
     /// Writes a number.
     pub fn number(&mut self, n: u64) -> Result<(), AllocError>
-        ensures { OnOk result (self.new ≡ self.old ++ number (decimal n) ∷ []) }
+        ensures { OnOk result (self.new ≡ self.old ++ json_tokens (number_json n)) }
     {
         self.writer.u64(n)
     }
 
     /// Writes a number that may be negative.
-    pub(crate) fn signed(&mut self, n: i64) -> Result<(), AllocError>
-        ensures { OnOk result (self.new ≡ self.old ++ number (signed_decimal n) ∷ []) }
+    pub(crate) fn signed(&mut self, n: i32) -> Result<(), AllocError>
+        ensures { OnOk result (self.new ≡ self.old ++ json_tokens (signed_json n)) }
     {
-        self.writer.i64(n)
+        self.writer.i64(n.into())
     }
 
     /// Writes a boolean.

@@ -3,21 +3,19 @@
 ghost use Rattle.std.specs.Prelude.{◌≡◌, ◌++◌, ◌∷◌, [], true, length, OnOk};
 ghost use Rattle.json.specs.Tree.{json_tokens};
 ghost use Rattle.link_base.specs.Labels.{names_in, field_row, field_rows};
-ghost use Rattle.link_base.specs.Number.{four_bytes};
 ghost use Rattle.link_base.specs.Structs.{form_width};
 ghost use Rattle.link_show.specs.Structs.{has_field};
-ghost use Rattle.link_json.specs.Doc.{fields_tokens};
-ghost use Rattle.link_json.specs.Value.{role_json, form_json, field_json, fields_json, struct_json, pair_json, limits_json};
+ghost use Rattle.link_json.specs.Doc.{object_of, fields_tokens};
+ghost use Rattle.link_json.specs.Value.{role_json, form_json, field_json, fields_json, struct_json, limits_json};
 
 use crate::numbers::{write_enum, write_flags};
-use crate::parts::write_number_field;
 use crate::sheet::Sheet;
 use link_base::rows::fields::Field;
 use link_base::rows::form::{Form, Layout, Role};
 use link_base::rows::label::Name;
 use link_base::rows::limits::limit_fields;
 use link_base::views::content_by::number_in;
-use link_show::{has_fields, names_for};
+use link_show::{field_bytes, has_fields, names_for};
 use std::alloc::AllocError;
 
 /// Writes the struct that `bytes` start with. `names` are those of the numbers and bits of fields that have none of their
@@ -34,12 +32,23 @@ pub(crate) fn write_struct(
 {
     match layout {
         Layout::BridgeId => sheet.bridge_id(bytes),
-        _ => {
-            sheet.begin_object()?;
-            write_fields(sheet, fields, 0, names, bytes)?;
-            sheet.end_object()
-        }
+        _ => write_object(sheet, fields, names, bytes),
     }
+}
+
+/// Writes an object of the fields of a struct that `bytes` start with.
+pub(crate) fn write_object(
+    sheet: &mut Sheet,
+    fields: &[Field],
+    names: &[Name],
+    bytes: &[u8],
+) -> Result<(), AllocError>
+    ensures { OnOk result (sheet.new ≡ sheet.old
+        ++ json_tokens (object_of (fields_json (field_rows fields.now) 0 (names_in names.now) bytes.now))) }
+{
+    sheet.begin_object()?;
+    write_fields(sheet, fields, 0, names, bytes)?;
+    sheet.end_object()
 }
 
 /// Writes fields of a struct as members. `bytes` are those of the struct from offset `start` on. If a field is not within
@@ -76,13 +85,12 @@ fn write_field(
     ensures { OnOk result (sheet.new ≡ sheet.old
         ++ fields_tokens (field_json start (names_in names.now) bytes.now (field_row field.now) ∷ [])) }
 {
-    let at = field.offset.saturating_sub(start);
     sheet.key(field.name)?;
     write_form(
         sheet,
         names_for(names, field.names),
         field.form,
-        &bytes[at..at + field.form.width()],
+        field_bytes(field, start, bytes),
     )
 }
 
@@ -114,16 +122,6 @@ pub(crate) fn write_role(
         Role::Coded | Role::Enum => write_enum(sheet, names, number),
         Role::Flags => write_flags(sheet, names, number),
     }
-}
-
-/// Writes two consecutive numbers.
-pub(crate) fn write_pair(sheet: &mut Sheet, from: u32, to: u32) -> Result<(), AllocError>
-    ensures { OnOk result (sheet.new ≡ sheet.old ++ json_tokens (pair_json (four_bytes from) (four_bytes to))) }
-{
-    sheet.begin_object()?;
-    write_number_field(sheet, "from", from.into())?;
-    write_number_field(sheet, "to", to.into())?;
-    sheet.end_object()
 }
 
 /// Writes the limits of a CAN controller: its name, and the numbers, whose bytes follow those of the name.

@@ -1,24 +1,26 @@
 //! Values, by the form of their content.
 
 ghost use Rattle.std.specs.Prelude.{◌≡◌, ◌++◌, OnOk, option_map};
-ghost use Rattle.std.specs.Net.Addr.{segments_of};
-ghost use Rattle.std.specs.Net.Text.{ipv6_text};
 ghost use Rattle.json.specs.Json.{string};
 ghost use Rattle.json.specs.Tree.{json_tokens};
 ghost use Rattle.link_base.specs.Buffer.{kind_field_of, payload_of};
 ghost use Rattle.link_base.specs.IpAddress.{sixteen_octets};
 ghost use Rattle.link_base.specs.Labels.{label_of};
+ghost use Rattle.link_show.specs.Octets.{ip6_text};
 ghost use Rattle.link_json.specs.Doc.{fields_tokens};
 ghost use Rattle.link_json.specs.Value.{content_json, protocol_json, unit_of, unit_fields, raw_json, unnamed_json};
 
-use crate::numbers::{write_flags, write_masked, write_numbers};
+use crate::numbers::{write_flags, write_numbers};
 use crate::parts::{write_named, write_number_field};
 use crate::sheet::Sheet;
-use crate::structs::{write_limits, write_pair, write_role, write_struct};
+use crate::structs::{write_limits, write_object, write_role, write_struct};
+use link_base::classes::flag_or_bool::flag_is_on;
+use link_base::rows::form::Look;
 use link_base::rows::label::{KindLabel, Quantity};
 use link_base::views::content::Content;
 use link_base::{Address, NlaBuffer, VlanProtocol};
-use link_show::{TYPE_FLAGS, protocol_name};
+use link_messages::without_nul;
+use link_show::{MASKED_FIELDS, PAIR_FIELDS, TYPE_FLAGS, bytes_of_two, protocol_name};
 use std::alloc::AllocError;
 use std::net::Ipv6Addr;
 
@@ -33,16 +35,27 @@ pub(crate) fn write_content(
     match content {
         Content::Nothing => sheet.boolean(true),
         Content::Bool(is_on) => sheet.boolean(is_on),
+        Content::FlagOrBool(flag) => sheet.boolean(flag_is_on(flag)),
         Content::Number { number, role, .. } => write_role(sheet, label.names, role, number),
-        Content::Signed(number) => sheet.signed(number.into()),
+        Content::Signed(number) => sheet.signed(number),
         Content::LowFlags(bits) => write_flags(sheet, label.names, bits.into()),
-        Content::MaskedFlags { flags, mask } => write_masked(sheet, label.names, flags, mask),
-        Content::Pair(from, to) => write_pair(sheet, from, to),
+        Content::MaskedFlags { flags, mask } => {
+            let bytes = bytes_of_two(flags, mask);
+            write_object(sheet, MASKED_FIELDS, label.names, &bytes)
+        }
+        Content::Pair(from, to) => write_object(sheet, PAIR_FIELDS, &[], &bytes_of_two(from, to)),
         Content::Protocol(protocol) => write_protocol(sheet, protocol),
         Content::Mac(address) => sheet.address(&address),
         Content::Ipv4(address) => sheet.ip(&address.octets()),
         Content::Ipv6(address) => write_ipv6(sheet, address),
-        Content::Bytes(bytes) => sheet.address(bytes),
+        Content::Bytes {
+            look: Look::Address,
+            bytes,
+        } => sheet.address(bytes),
+        Content::Bytes {
+            look: Look::Text,
+            bytes,
+        } => sheet.text(without_nul(bytes)),
         Content::Struct { layout, bytes } => {
             write_struct(sheet, layout, label.fields, label.names, bytes)
         }
@@ -54,7 +67,7 @@ pub(crate) fn write_content(
 }
 
 fn write_ipv6(sheet: &mut Sheet, address: Ipv6Addr) -> Result<(), AllocError>
-    ensures { OnOk result (sheet.new ≡ sheet.old ++ json_tokens (string (ipv6_text (segments_of (sixteen_octets address))))) }
+    ensures { OnOk result (sheet.new ≡ sheet.old ++ json_tokens (string (ip6_text (sixteen_octets address)))) }
 {
     let mut octets = [0; 16];
     address.put(&mut octets);

@@ -10,7 +10,6 @@ pub mod Lines
 pub mod Listing
 pub mod Addressing
 pub mod MessageLines
-pub mod Fitting
 pub mod Printing
 pub mod ValuePrinting
 pub mod LinePrinting

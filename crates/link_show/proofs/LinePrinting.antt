@@ -1,7 +1,6 @@
 -- The lines of lists are printable.
 use Rattle.std.proofs.Common.{◌≡◌, ℕ, ◌+◌, ◌-◌, ◌==◌, Bool, true, false, List, [], ◌∷◌, ◌++◌, length, Option, Some, None, if◌then◌else◌, refl, sym, ap, ap₂, subst, ◌∙◌, codes, append_assoc}
 use Rattle.std.specs.List.{AllByRecursion}
-use Rattle.std.specs.Net.Addr.{segments_of}
 use Rattle.std.proofs.lemmas.List.{append-nil}
 use Rattle.std.proofs.lemmas.Grind.{flat_map-append}
 use Rattle.link_base.specs.declared.wire.buffer.NlaBuffer.{NlaBuffer}
@@ -12,15 +11,14 @@ use Rattle.link_base.specs.Number.{IsBytes}
 use Rattle.link_base.specs.Frame.{kind_of}
 use Rattle.link_base.specs.Buffer.{kind_field_of, payload_of}
 use Rattle.link_base.specs.Table.{Label, Table}
-use Rattle.link_base.specs.Borrowed.{elements_at, HasContent}
+use Rattle.link_base.specs.Borrowed.{elements_at}
 use Rattle.link_base.proofs.Written.{all_append}
 use Rattle.link_messages.specs.Walk.{Item}
 use Rattle.link_show.specs.List.{indented, below, error_line, EachShown, type_flags, flags_after, head_text, has_text, attribute_text, label_for, ip_text, address_in, addresses_in, ShowsAddresses, ShowsElement, ShowsNested, Empty, Elements, ShowsMore, ShowsFlat, ShowsContent, ShowsItem, Decodes, Fails, end_line, ShowsList, ShowsVerdict, Unasked, IsCanonical, IsNot, ShowsChecked}
 use Rattle.link_show.specs.Printable.{IsText, AreTexts, has_texts}
-use Rattle.link_show.proofs.Fitting.{ContentFits, content_fits, ItemFits, walk_fits}
-use Rattle.link_show.proofs.Listing.{each_hold}
-use Rattle.link_show.proofs.Printing.{text, none, and, either, list_text_text, decimal_text, hex_bytes, ipv4_is_text, ipv6_is_text}
-use Rattle.link_show.proofs.ValuePrinting.{IsLabelText, choose, each_name, flags_is_text, label_is_text, elements_text, value_is_text, segments_bound, cause_is_text, fault_is_text}
+use Rattle.link_show.proofs.Listing.{all_any, each_hold}
+use Rattle.link_show.proofs.Printing.{text, none, and, either, list_text_text, decimal_text, hex_bytes, ipv4_is_text, ip6_is_text}
+use Rattle.link_show.proofs.ValuePrinting.{IsLabelText, choose, each_name, flags_is_text, label_is_text, elements_text, value_is_text, cause_is_text, fault_is_text}
 
 -- ---- lines
 
@@ -67,9 +65,8 @@ pub each_texts : {X : Type 0} (P : X → Type 0) (shows : X → List ℕ → Boo
     → (xs : List X) (out : List ℕ) (whole : Bool) → AllByRecursion P xs → EachShown shows xs out whole → AreTexts out
 each_texts P shows = each_hold P shows (λ out well. AreTexts out) no_texts (λ a b v w h k. and_texts h k)
 
--- an attribute in a list of n bytes
-abbrev pub AnItem : ℕ → Item → Type 0
-AnItem = ItemFits (Unit {0})
+pub all_texts : {X : Type 0} (shows : X → List ℕ → Bool → Type 0) → ((x : X) (out : List ℕ) (well : Bool) → shows x out well → AreTexts out) → (xs : List X) (out : List ℕ) (whole : Bool) → EachShown shows xs out whole → AreTexts out
+all_texts shows one xs out whole s = each_texts (λ x. Unit {0}) shows (λ x out well t h. one x out well h) xs out whole (all_any xs) s
 
 -- ---- attributes
 
@@ -81,93 +78,86 @@ unfolding head_text
 head_is_text None f l = and {s = codes "type "} (text refl) (and (decimal_text (kind_of f)) (flags_after_text (f - kind_of f)))
 head_is_text (Some label) f l = l.0
 
-attribute_is_text : (label : Option Label) (f : ℕ) (content : Content) → IsLabelText label → ContentFits content → IsText (attribute_text label f content)
+attribute_is_text : (label : Option Label) (f : ℕ) (content : Content) → IsLabelText label → IsText (attribute_text label f content)
 unfolding attribute_text
-attribute_is_text label f content l h = and (head_is_text label f l) (either (has_text content) (and {s = codes " "} (text refl) (value_is_text label content l h)) none)
+attribute_is_text label f content l = and (head_is_text label f l) (either (has_text content) (and {s = codes " "} (text refl) (value_is_text label content l)) none)
 
 -- the attribute b of a list of this table
 named_text : (table : Table) (b : NlaBuffer) → has_texts table ≡ true → IsLabelText (label_for table b)
 named_text table b h = label_is_text table (kind_of (kind_field_of b)) h
 
-attribute_line : (table : Table) (b : NlaBuffer) (content : Content) → has_texts table ≡ true → IsBytes (payload_of b) → HasContent table b content
-    → IsText (attribute_text (label_for table b) (kind_field_of b) content)
-attribute_line table b content h k has = attribute_is_text (label_for table b) (kind_field_of b) content (named_text table b h) (content_fits table b content k has)
+attribute_line : (table : Table) (b : NlaBuffer) (content : Content) → has_texts table ≡ true → IsText (attribute_text (label_for table b) (kind_field_of b) content)
+attribute_line table b content h = attribute_is_text (label_for table b) (kind_field_of b) content (named_text table b h)
 
 -- ---- lists of addresses
 
-pub ip_is_text : (p : List ℕ) → IsBytes p → IsText (ip_text p)
+pub ip_is_text : (p : List ℕ) → IsText (ip_text p)
 unfolding ip_text
-ip_is_text p h = either (length p == 4) (ipv4_is_text p) (either (length p == 16) (ipv6_is_text (segments_of p) (segments_bound p h)) (hex_bytes p))
+ip_is_text p = either (length p == 4) (ipv4_is_text p) (either (length p == 16) (ip6_is_text p) (hex_bytes p))
 
-address_is_text : (size : ℕ) (x : Item) → IsBytes (payload_of x.1) → AllByRecursion IsText (address_in size x)
-address_is_text size x h = choose (AllByRecursion IsText) (length (payload_of x.1) == size) (ip_text (payload_of x.1) ∷ []) [] (ip_is_text (payload_of x.1) h, tt) tt
+address_is_text : (size : ℕ) (x : Item) → AllByRecursion IsText (address_in size x)
+address_is_text size x = choose (AllByRecursion IsText) (length (payload_of x.1) == size) (ip_text (payload_of x.1) ∷ []) [] (ip_is_text (payload_of x.1), tt) tt
 
-addresses_are_text : (n size : ℕ) (items : List Item) → AllByRecursion (AnItem n) items → AllByRecursion IsText (addresses_in size items)
-addresses_are_text n size [] h = tt
-addresses_are_text n size (x ∷ items) h = all_append IsText (address_in size x) (addresses_in size items) (address_is_text size x (h.0.bytes tt)) (addresses_are_text n size items h.1)
+addresses_are_text : (size : ℕ) (items : List Item) → AllByRecursion IsText (addresses_in size items)
+addresses_are_text size [] = tt
+addresses_are_text size (x ∷ items) = all_append IsText (address_in size x) (addresses_in size items) (address_is_text size x) (addresses_are_text size items)
 
-pub addresses_text : (size : ℕ) (list out : List ℕ) → IsBytes list → ShowsAddresses size list out → IsText out
-addresses_text size list out h (items, (fault, walk, is)) =
-    subst IsText (sym is) (list_text_text (codes " ") (addresses_in size items) (text refl) (addresses_are_text (length list) size items (walk_fits list items fault (λ t. h) walk)))
+addresses_text : (size : ℕ) (list out : List ℕ) → ShowsAddresses size list out → IsText out
+addresses_text size list out (items, (fault, walk, is)) = subst IsText (sym is) (list_text_text (codes " ") (addresses_in size items) (text refl) (addresses_are_text size items))
 
 -- ---- the lines of an attribute
 
 module _ (indent : List ℕ) (spaces : IsText indent) where
-  element_texts : (n : ℕ) (table : Table) → has_texts table ≡ true → (x : Item) (out : List ℕ) (well : Bool) → AnItem n x → ShowsElement indent table x out well → AreTexts out
-  element_texts n table h x out well k (content, has, is, e) = subst AreTexts (sym is) (below_texts indent spaces (attribute_line table x.1 content h (k.bytes tt) has))
+  element_texts : (table : Table) → has_texts table ≡ true → (x : Item) (out : List ℕ) (well : Bool) → ShowsElement indent table x out well → AreTexts out
+  element_texts table h x out well (content, has, is, e) = subst AreTexts (sym is) (below_texts indent spaces (attribute_line table x.1 content h))
 
-  nested_texts : (name : List ℕ) (table : Table) (list out : List ℕ) → IsText name → has_texts table ≡ true → IsBytes list → ShowsNested indent name table list out → AreTexts out
-  nested_texts name table list out n h k (Empty e is) = subst AreTexts (sym is) (indented_texts indent spaces (and n (text refl)))
-  nested_texts name table list out n h k (Elements some items walk lines each is) =
-      subst AreTexts (sym is) (
-      and_texts (indented_texts indent spaces n)
-      (each_texts (AnItem (length list)) (ShowsElement indent table) (element_texts (length list) table h) items lines true (walk_fits list items None (λ t. k) walk) each)
-      )
+  nested_texts : (name : List ℕ) (table : Table) (list out : List ℕ) → IsText name → has_texts table ≡ true → ShowsNested indent name table list out → AreTexts out
+  nested_texts name table list out n h (Empty e is) = subst AreTexts (sym is) (indented_texts indent spaces (and n (text refl)))
+  nested_texts name table list out n h (Elements some items walk lines each is) =
+      subst AreTexts (sym is) (and_texts (indented_texts indent spaces n) (all_texts (ShowsElement indent table) (element_texts table h) items lines true each))
 
-  flat_texts : (table : Table) (b : NlaBuffer) (content : Content) (out : List ℕ) → has_texts table ≡ true → IsBytes (payload_of b) → HasContent table b content
-      → ((more : List ℕ) → ShowsMore content more → IsText more) → ShowsFlat indent (label_for table b) (kind_field_of b) content out → AreTexts out
-  flat_texts table b content out h k has each (more, shown, is) =
-      subst AreTexts (sym is) (indented_texts indent spaces (and (attribute_line table b content h k has) (each more shown)))
+  flat_texts : (table : Table) (b : NlaBuffer) (content : Content) (out : List ℕ) → has_texts table ≡ true → ((more : List ℕ) → ShowsMore content more → IsText more)
+      → ShowsFlat indent (label_for table b) (kind_field_of b) content out → AreTexts out
+  flat_texts table b content out h each (more, shown, is) = subst AreTexts (sym is) (indented_texts indent spaces (and (attribute_line table b content h) (each more shown)))
 
   -- nothing more than its text
   alone : (more : List ℕ) → more ≡ [] → IsText more
   alone more e = subst IsText (sym e) none
 
-  content_texts : (table : Table) (b : NlaBuffer) (content : Content) (out : List ℕ) → has_texts table ≡ true → IsBytes (payload_of b) → HasContent table b content
-      → ShowsContent indent table b content out → AreTexts out
-  content_texts table b (contents.List list flagged) out h k has shown =
+  content_texts : (table : Table) (b : NlaBuffer) (content : Content) (out : List ℕ) → has_texts table ≡ true → ShowsContent indent table b content out → AreTexts out
+  content_texts table b (contents.List list flagged) out h shown =
       nested_texts (head_text (label_for table b) (kind_field_of b)) (elements_at table (kind_of (kind_field_of b))) list.now out
-      (head_is_text (label_for table b) (kind_field_of b) (named_text table b h)) (elements_text table (kind_of (kind_field_of b)) h)
-      (content_fits table b (contents.List list flagged) k has) shown
-  content_texts table b (contents.Addresses list size) out h k has shown =
-      flat_texts table b (contents.Addresses list size) out h k has (λ more (t, addresses, is). subst IsText (sym is)
-      (and {s = codes " "} (text refl) (addresses_text size list.now t (content_fits table b (contents.Addresses list size) k has) addresses))) shown
-  content_texts table b content out h k has shown = flat_texts table b content out h k has alone shown
+      (head_is_text (label_for table b) (kind_field_of b) (named_text table b h)) (elements_text table (kind_of (kind_field_of b)) h) shown
+  content_texts table b (contents.Addresses list size) out h shown =
+      flat_texts table b (contents.Addresses list size) out h (λ more (t, addresses, is). subst IsText (sym is) (and {s = codes " "} (text refl) (addresses_text size list.now t addresses))) shown
+  content_texts table b content out h shown = flat_texts table b content out h alone shown
 
   -- ---- lists
 
-  item_texts : (n base : ℕ) (table : Table) → has_texts table ≡ true → (x : Item) (out : List ℕ) (well : Bool) → AnItem n x → ShowsItem indent base table x out well → AreTexts out
-  item_texts n base table h x out well k (Decodes (content, has, shown) e) = content_texts table x.1 content out h (k.bytes tt) has shown
-  item_texts n base table h x out well k (Fails fault gives is e) = subst AreTexts (sym is) (error_texts indent (base + x.0) spaces (fault_is_text table fault h))
+  item_texts : (base : ℕ) (table : Table) → has_texts table ≡ true → (x : Item) (out : List ℕ) (well : Bool) → ShowsItem indent base table x out well → AreTexts out
+  item_texts base table h x out well (Decodes (content, has, shown) e) = content_texts table x.1 content out h shown
+  item_texts base table h x out well (Fails fault gives is e) = subst AreTexts (sym is) (error_texts indent (base + x.0) spaces (fault_is_text table fault h))
 
   end_texts : (base : ℕ) (fault : Option (ℕ × Cause)) → AreTexts (end_line indent base fault)
   end_texts base None = no_texts
   end_texts base (Some fault) = error_texts indent (base + fault.0) spaces (cause_is_text false fault.1)
 
-  pub list_texts : (base : ℕ) (table : Table) (list out : List ℕ) (whole : Bool) → has_texts table ≡ true → IsBytes list → ShowsList indent base table list out whole → AreTexts out
-  list_texts base table list out whole h k s =
-      subst AreTexts (sym s.joined) (
-      and_texts (each_texts (AnItem (length list)) (ShowsItem indent base table) (item_texts (length list) base table h) s.items s.front s.well (walk_fits list s.items s.fault (λ t. k) s.walk) s.each) (end_texts base s.fault)
-      )
+  list_texts : (base : ℕ) (table : Table) (list out : List ℕ) (whole : Bool) → has_texts table ≡ true → ShowsList indent base table list out whole → AreTexts out
+  list_texts base table list out whole h s =
+      subst AreTexts (sym s.joined) (and_texts (all_texts (ShowsItem indent base table) (item_texts base table h) s.items s.front s.well s.each) (end_texts base s.fault))
 
   pub verdict_texts : (check : Bool) (base : ℕ) (table : Table) (list out : List ℕ) (well : Bool) → ShowsVerdict check indent base table list out well → AreTexts out
   verdict_texts check base table list out well (Unasked e is w) = subst AreTexts (sym is) no_texts
   verdict_texts check base table list out well (IsCanonical e c is w) = subst AreTexts (sym is) (indented_texts indent {t = codes "canonical"} spaces (text refl))
   verdict_texts check base table list out well (IsNot e at first is w) = subst AreTexts (sym is) (indented_texts indent spaces (and {s = codes "not canonical at "} (text refl) (decimal_text (base + at))))
 
+  pub any_checked : (check : Bool) (base : ℕ) (table : Table) (list out : List ℕ) (well : Bool) → has_texts table ≡ true → ShowsChecked check indent base table list out well → AreTexts out
+  any_checked check base table list out well h s =
+      subst AreTexts (sym s.joined) (and_texts (list_texts base table list s.lines s.whole h s.shown) (verdict_texts check base table list s.verdict s.sound s.judged))
+
+  -- likewise, of bytes
   pub checked_texts : (check : Bool) (base : ℕ) (table : Table) (list out : List ℕ) (well : Bool) → has_texts table ≡ true → IsBytes list → ShowsChecked check indent base table list out well → AreTexts out
-  checked_texts check base table list out well h k s =
-      subst AreTexts (sym s.joined) (and_texts (list_texts base table list s.lines s.whole h k s.shown) (verdict_texts check base table list s.verdict s.sound s.judged))
+  checked_texts check base table list out well h k s = any_checked check base table list out well h s
 
 pub printed_lists : (check : Bool) (indent : List ℕ) (base : ℕ) (table : Table) (list out : List ℕ) (well : Bool) → IsText indent → has_texts table ≡ true → IsBytes list → ShowsChecked check indent base table list out well → AreTexts out
 printed_lists check indent base table list out well spaces h k s = checked_texts indent spaces check base table list out well h k s

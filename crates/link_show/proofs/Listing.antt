@@ -44,6 +44,10 @@ each_more shows xs out x written whole well s h =
       all = ap₂ (λ a b. a && b) s.all (sym (and_true well)) ∙ sym (list_all-append (λ a. a.1) s.answers ((written, well) ∷ []));
     }
 
+pub all_any : {X : Type 0} (xs : List X) → AllByRecursion (λ x. Unit {0}) xs
+all_any [] = tt
+all_any (x ∷ xs) = (tt, all_any xs)
+
 -- what holds of the output for each item holds of that for all, if it holds of outputs that are joined
 module _ {X Y : Type 0} (P : X → Type 0) (shows : X → List Y → Bool → Type 0) (Q : List Y → Bool → Type 0) (none : Q [] true)
     (both : (a b : List Y) (v w : Bool) → Q a v → Q b w → Q (a ++ b) (v && w)) (one : (x : X) (out : List Y) (well : Bool) → P x → shows x out well → Q out well) where

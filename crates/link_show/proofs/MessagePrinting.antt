@@ -1,16 +1,12 @@
 -- The lines of messages are printable.
-use Rattle.std.proofs.Common.{◌≡◌, ℕ, suc, ℤ, pos, negsuc, ◌+◌, ◌==◌, ◌≤◌, Bool, true, false, List, [], ◌∷◌, ◌++◌, drop, length, Option, Some, None, IfSome, option_map, unsigned_abs, refl, sym, ap, subst, codes, arith, length-append, length-drop}
+use Rattle.std.proofs.Common.{◌≡◌, ℕ, suc, ℤ, pos, negsuc, ◌==◌, Bool, true, false, List, [], ◌++◌, length, Option, Some, None, unsigned_abs, refl, sym, subst, codes}
 use Rattle.std.specs.Fmt.{signed_decimal}
-use Rattle.std.specs.List.{filter, last_or, list_all, AllByRecursion}
+use Rattle.std.specs.List.{list_all}
 use Rattle.std.specs.Option.{option_copied}
 use Rattle.link_base.specs.declared.rows.label.Quantity.TheVariants.{Number, InterfaceIndex}
 use Rattle.link_base.specs.Labels as Labels
 use Rattle.link_base.specs.Number.{IsBytes}
-use Rattle.link_base.specs.Frame.{kind_of}
-use Rattle.link_base.specs.Buffer.{kind_field_of}
 use Rattle.link_base.specs.WellFormed.{is_printable, are_names}
-use Rattle.link_base.proofs.FrameBytes.{bytes-front}
-use Rattle.link_base.proofs.Values.{bytes-drop}
 use Rattle.netlink_packet_route.specs.declared.family.Family.{Family}
 use Rattle.netlink_packet_route.specs.declared.family.Family.TheVariants as families
 use Rattle.netlink_packet_route.specs.Family.{family_name, table_of}
@@ -26,12 +22,7 @@ use Rattle.link_messages.specs.declared.details.LinkDetails.{LinkDetails}
 use Rattle.link_messages.specs.declared.details.Protinfo.{Protinfo}
 use Rattle.link_messages.specs.declared.details.Protinfo.TheVariants as protinfos
 use Rattle.link_messages.specs.declared.acknowledgement.Acknowledgement.{Acknowledgement}
-use Rattle.link_messages.specs.Message.{Stand, IsMessageAt, IsPacket, packet_of}
-use Rattle.link_messages.specs.Finding.{Stretch, stretch_of}
-use Rattle.link_messages.specs.Walk.{Item}
-use Rattle.link_messages.specs.BeforeFault.{Typed, last_item, payload_at, typed_at, latest, latest_typed}
-use Rattle.link_messages.specs.Info.{announced, data_of, IsInfo}
-use Rattle.link_messages.specs.Details.{Both, in_bridge, IsProtinfo, HasDetails}
+use Rattle.link_messages.specs.Info.{announced}
 use Rattle.link_show.specs.Number.{number_text}
 use Rattle.link_show.specs.Flags.{enum_text, flags_text}
 use Rattle.link_show.specs.Octets.{address_text}
@@ -42,10 +33,9 @@ use Rattle.link_show.specs.Errno.{errno_names}
 use Rattle.link_show.specs.MessageNames.{message_types, common_flags, new_flags, get_flags, delete_flags, error_flags, flags_of, address_families, device_types, device_flags, operational_states}
 use Rattle.link_show.specs.Message.{two, four, reason_text, offset_of, message_error_line, named_or, message_line, unless_zero, name_part, header_parts, link_line, line_of, opaque_text, ShowsFamily, ShowsPayload, kind_or_port, kind_line, ShowsData, fault_line, ShowsInfo, ShowsOptionalInfo, ShowsPart, state_names, ShowsProtinfo, attribute_lines, others_line, ShowsLink, number_after, error_number_line, errno_name, result_line, has_result, outcome_line, policy_text, reply_lines, ShowsBody, Link, Reply, General, NoLink, NoReply, Other, ShowsMessage, zeros_line, ShowsEnd, Ended, Done, Zeros, Broken, ShowsMessages}
 use Rattle.link_show.specs.Printable.{IsText, AreTexts, has_texts}
-use Rattle.link_show.proofs.Fitting.{walk_fits}
 use Rattle.link_show.proofs.Printing.{text, none, and, either, decimal_text, signed_text, address_digits, quoted_text}
 use Rattle.link_show.proofs.ValuePrinting.{EachName, OnText, choose, each_name, name_found, label_is_text, formed_texts, enum_is_text, number_is_text, other_is_text, flags_is_text, field_is_text, bytes_is_text, cause_is_text}
-use Rattle.link_show.proofs.LinePrinting.{no_texts, and_texts, line_end, line_and, line_texts, indented_texts, error_texts, either_texts, each_texts, AnItem, checked_texts}
+use Rattle.link_show.proofs.LinePrinting.{no_texts, and_texts, line_end, line_and, line_texts, indented_texts, error_texts, either_texts, all_texts, any_checked}
 
 -- ---- errors
 
@@ -137,29 +127,18 @@ family_is_text family = text (each_family (λ family. list_all is_printable (fam
 pub family_has_texts : (family : Family) → has_texts (table_of family) ≡ true
 family_has_texts family = formed_texts (table_of family) (families_formed family)
 
--- the payload consists of bytes
-abbrev PayloadBytes : Payload → Type 0
-PayloadBytes p = IsBytes p.bytes.now
-
-family_texts : (check : Bool) (name : List ℕ) (family : Family) (p : Payload) (out : List ℕ) (well : Bool) → IsText name → PayloadBytes p → ShowsFamily check name family p out well → AreTexts out
-family_texts check name family p out well n h (lines, shown, is) =
+family_texts : (check : Bool) (name : List ℕ) (family : Family) (p : Payload) (out : List ℕ) (well : Bool) → IsText name → ShowsFamily check name family p out well → AreTexts out
+family_texts check name family p out well n (lines, shown, is) =
     subst AreTexts (sym is) (
     and_texts (indented_texts two (text refl) (field_is_text name n (and {s = codes "("} (text refl) (and (family_is_text family) (text refl)))))
-    (checked_texts four (text refl) check p.at (table_of family) p.bytes.now lines well (family_has_texts family) h shown)
+    (any_checked four (text refl) check p.at (table_of family) p.bytes.now lines well (family_has_texts family) shown)
     )
 
-payload_texts : (check : Bool) (name : List ℕ) (family : Option Family) (p : Payload) (out : List ℕ) (well : Bool) → IsText name → PayloadBytes p → ShowsPayload check name family p out well → AreTexts out
-payload_texts check name None p out well n h (is, e) = subst AreTexts (sym is) (indented_texts two (text refl) (field_is_text name n (opaque_is_text _)))
-payload_texts check name (Some family) p out well n h shown = family_texts check name family p out well n h shown
+payload_texts : (check : Bool) (name : List ℕ) (family : Option Family) (p : Payload) (out : List ℕ) (well : Bool) → IsText name → ShowsPayload check name family p out well → AreTexts out
+payload_texts check name None p out well n (is, e) = subst AreTexts (sym is) (indented_texts two (text refl) (field_is_text name n (opaque_is_text _)))
+payload_texts check name (Some family) p out well n shown = family_texts check name family p out well n shown
 
 -- ---- IFLA_LINKINFO
-
-abbrev DataBytes : InfoData → Type 0
-DataBytes d = PayloadBytes d.payload
-
-record InfoBytes (info : LinkInfo) : Type 0 where
-  of_link : IfSome info.data DataBytes
-  of_port : IfSome info.port_data DataBytes
 
 kind_or_port_texts : (port : Option (List ℕ)) (kind : List ℕ) → AreTexts (kind_or_port port kind)
 kind_or_port_texts None kind = indented_texts two (text refl) (field_is_text (codes "IFLA_INFO_KIND") (text refl) (quoted_text kind))
@@ -169,51 +148,41 @@ kind_line_texts : (kind : Option (List ℕ)) → AreTexts (kind_line kind)
 kind_line_texts None = no_texts
 kind_line_texts (Some kind) = kind_or_port_texts (announced kind) kind
 
-data_texts : (check : Bool) (name : List ℕ) (d : Option InfoData) (out : List ℕ) (well : Bool) → IsText name → IfSome d DataBytes → ShowsData check name d out well → AreTexts out
-data_texts check name None out well n h (is, e) = subst AreTexts (sym is) no_texts
-data_texts check name (Some d) out well n h shown = payload_texts check name d.family d.payload out well n h shown
+data_texts : (check : Bool) (name : List ℕ) (d : Option InfoData) (out : List ℕ) (well : Bool) → IsText name → ShowsData check name d out well → AreTexts out
+data_texts check name None out well n (is, e) = subst AreTexts (sym is) no_texts
+data_texts check name (Some d) out well n shown = payload_texts check name d.family d.payload out well n shown
 
-info_texts : (check : Bool) (info : LinkInfo) (out : List ℕ) (well : Bool) → InfoBytes info → ShowsInfo check info out well → AreTexts out
-info_texts check info out well h s =
+info_texts : (check : Bool) (info : LinkInfo) (out : List ℕ) (well : Bool) → ShowsInfo check info out well → AreTexts out
+info_texts check info out well s =
     subst AreTexts (sym s.joined) (
     and_texts (kind_line_texts (option_copied info.kind))
-    (and_texts (data_texts check (codes "IFLA_INFO_DATA") info.data s.of_link s.link_well (text refl) h.of_link s.is_link)
+    (and_texts (data_texts check (codes "IFLA_INFO_DATA") info.data s.of_link s.link_well (text refl) s.is_link)
     (and_texts (line_of_texts (codes "IFLA_INFO_SLAVE_KIND") quoted (option_copied info.port_kind) (text refl) quoted_text)
-    (and_texts (data_texts check (codes "IFLA_INFO_SLAVE_DATA") info.port_data s.of_port s.port_well (text refl) h.of_port s.is_port) (fault_texts info.fault))))
+    (and_texts (data_texts check (codes "IFLA_INFO_SLAVE_DATA") info.port_data s.of_port s.port_well (text refl) s.is_port) (fault_texts info.fault))))
     )
 
-optional_texts : (check : Bool) (info : Option LinkInfo) (out : List ℕ) (well : Bool) → IfSome info InfoBytes → ShowsOptionalInfo check info out well → AreTexts out
-optional_texts check None out well h (is, e) = subst AreTexts (sym is) no_texts
-optional_texts check (Some info) out well h shown = info_texts check info out well h shown
+optional_texts : (check : Bool) (info : Option LinkInfo) (out : List ℕ) (well : Bool) → ShowsOptionalInfo check info out well → AreTexts out
+optional_texts check None out well (is, e) = subst AreTexts (sym is) no_texts
+optional_texts check (Some info) out well shown = info_texts check info out well shown
 
 -- ---- IFLA_AF_SPEC and IFLA_PROTINFO
 
-part_texts : (check : Bool) (name : List ℕ) (family : Family) (p : Option Payload) (out : List ℕ) (well : Bool) → IsText name → IfSome p PayloadBytes → ShowsPart check name family p out well → AreTexts out
-part_texts check name family None out well n h (is, e) = subst AreTexts (sym is) no_texts
-part_texts check name family (Some p) out well n h shown = family_texts check name family p out well n h shown
-
-abbrev ProtinfoBytes : Protinfo → Type 0
-ProtinfoBytes (protinfos.List p) = PayloadBytes p
-ProtinfoBytes (protinfos.State n) = Unit {0}
-ProtinfoBytes (protinfos.Other p) = PayloadBytes p
+part_texts : (check : Bool) (name : List ℕ) (family : Family) (p : Option Payload) (out : List ℕ) (well : Bool) → IsText name → ShowsPart check name family p out well → AreTexts out
+part_texts check name family None out well n (is, e) = subst AreTexts (sym is) no_texts
+part_texts check name family (Some p) out well n shown = family_texts check name family p out well n shown
 
 state_texts : EachName state_names
 unfolding state_names
 state_texts = (label_is_text (table_of families.BridgePort) 1 (family_has_texts families.BridgePort)).1.0
 
-protinfo_texts : (check : Bool) (found : Option Protinfo) (out : List ℕ) (well : Bool) → IfSome found ProtinfoBytes → ShowsProtinfo check found out well → AreTexts out
-protinfo_texts check None out well h (is, e) = subst AreTexts (sym is) no_texts
-protinfo_texts check (Some (protinfos.List p)) out well h shown = family_texts check (codes "IFLA_PROTINFO") families.BridgePort p out well (text refl) h shown
-protinfo_texts check (Some (protinfos.State n)) out well h (is, e) =
+protinfo_texts : (check : Bool) (found : Option Protinfo) (out : List ℕ) (well : Bool) → ShowsProtinfo check found out well → AreTexts out
+protinfo_texts check None out well (is, e) = subst AreTexts (sym is) no_texts
+protinfo_texts check (Some (protinfos.List p)) out well shown = family_texts check (codes "IFLA_PROTINFO") families.BridgePort p out well (text refl) shown
+protinfo_texts check (Some (protinfos.State n)) out well (is, e) =
     subst AreTexts (sym is) (indented_texts two (text refl) (field_is_text (codes "IFLA_PROTINFO") (text refl) (enum_is_text state_names n state_texts)))
-protinfo_texts check (Some (protinfos.Other p)) out well h shown = payload_texts check (codes "IFLA_PROTINFO") None p out well (text refl) h shown
+protinfo_texts check (Some (protinfos.Other p)) out well shown = payload_texts check (codes "IFLA_PROTINFO") None p out well (text refl) shown
 
 -- ---- a message about a link
-
-record DetailsBytes (d : LinkDetails) : Type 0 where
-  of_info : IfSome d.info InfoBytes
-  of_spec : IfSome d.af_spec PayloadBytes
-  of_ports : IfSome d.protinfo ProtinfoBytes
 
 attribute_lines_texts : (d : LinkDetails) → AreTexts (attribute_lines d)
 attribute_lines_texts d =
@@ -228,98 +197,15 @@ others_texts n =
     either_texts (n == 0) no_texts
     (either_texts (n == 1) (indented_texts two {t = codes "1 other attribute"} (text refl) (text refl)) (indented_texts two (text refl) (and (decimal_text n) (text {t = codes " other attributes"} refl))))
 
-link_texts : (check : Bool) (d : LinkDetails) (out : List ℕ) (well : Bool) → DetailsBytes d → ShowsLink check d out well → AreTexts out
-link_texts check d out well h s =
+link_texts : (check : Bool) (d : LinkDetails) (out : List ℕ) (well : Bool) → ShowsLink check d out well → AreTexts out
+link_texts check d out well s =
     subst AreTexts (sym s.joined) (
     and_texts (link_line_texts d.header (option_copied d.name))
     (and_texts (attribute_lines_texts d)
-    (and_texts (optional_texts check d.info s.info s.info_well h.of_info s.is_info)
-    (and_texts (part_texts check (codes "IFLA_AF_SPEC") families.AfSpecBridge d.af_spec s.spec s.spec_well (text refl) h.of_spec s.is_spec)
-    (and_texts (protinfo_texts check d.protinfo s.ports s.ports_well h.of_ports s.is_ports) (and_texts (others_texts d.others) (fault_texts d.fault))))))
+    (and_texts (optional_texts check d.info s.info s.info_well s.is_info)
+    (and_texts (part_texts check (codes "IFLA_AF_SPEC") families.AfSpecBridge d.af_spec s.spec s.spec_well (text refl) s.is_spec)
+    (and_texts (protinfo_texts check d.protinfo s.ports s.ports_well s.is_ports) (and_texts (others_texts d.others) (fault_texts d.fault))))))
     )
-
--- ---- the bytes of what is found
-
-abbrev StretchBytes : Stretch → Type 0
-StretchBytes p = IsBytes p.1
-
-module _ {A : Type 0} (P : A → Type 0) where
-  last_all : (o : Option A) (xs : List A) → IfSome o P → AllByRecursion P xs → IfSome (last_or o xs) P
-  last_all o [] h k = h
-  last_all o (x ∷ xs) h k = last_all (Some x) xs k.0 k.1
-
-  filter_all : (test : A → Bool) (xs : List A) → AllByRecursion P xs → AllByRecursion P (filter test xs)
-  filter_all test [] h = tt
-  filter_all test (x ∷ xs) h = choose (AllByRecursion P) (test x) (x ∷ filter test xs) (filter test xs) (h.0, filter_all test xs h.1) (filter_all test xs h.1)
-
--- the last attribute of a type
-pub item_found : (P : Item → Type 0) (kind : ℕ) (items : List Item) → AllByRecursion P items → IfSome (last_item kind items) P
-item_found P kind items h =
-    let test : Item → Bool = λ x. kind_of (kind_field_of x.1) == kind in
-    last_all P None (filter test items) tt (filter_all P test items h)
-
-module _ {A B : Type 0} (P : A → Type 0) (Q : B → Type 0) where
-  map_some : (f : A → B) (o : Option A) → ((a : A) → P a → Q (f a)) → IfSome o P → IfSome (option_map f o) Q
-  map_some f None g h = tt
-  map_some f (Some a) g h = g a h
-
-  some_map : (f : A → B) (o : Option A) → ((a : A) → Q (f a) → P a) → IfSome (option_map f o) Q → IfSome o P
-  some_map f None g h = tt
-  some_map f (Some a) g h = g a h
-
-  both_some : (R : A → B → Type 0) → ((a : A) (b : B) → R a b → P a → Q b) → (x : Option A) (y : Option B) → Both R x y → IfSome x P → IfSome y Q
-  both_some R g None None b h = tt
-  both_some R g None (Some y) b h = absurd b
-  both_some R g (Some x) None b h = absurd b
-  both_some R g (Some x) (Some y) b h = g x y b h
-
-latest_bytes : (n base kind : ℕ) (items : List Item) → AllByRecursion (AnItem n) items → IfSome (latest base kind items) StretchBytes
-latest_bytes n base kind items h = map_some (AnItem n) StretchBytes (payload_at base) (last_item kind items) (λ x k. k.bytes tt) (item_found (AnItem n) kind items h)
-
-abbrev TypedBytes : Typed → Type 0
-TypedBytes x = IsBytes x.1.1
-
-in_bridge_some : {A : Type 0} (P : A → Type 0) (family : ℕ) (x : Option A) → IfSome x P → IfSome (in_bridge family x) P
-in_bridge_some P family x h = choose (λ o. IfSome o P) (family == 7) x None h tt
-
-one_protinfo : (x : Typed) (found : Protinfo) → IsProtinfo x found → TypedBytes x → ProtinfoBytes found
-one_protinfo x (protinfos.List p) is h = subst StretchBytes (sym is.1) h
-one_protinfo x (protinfos.State n) is h = tt
-one_protinfo x (protinfos.Other p) is h = subst StretchBytes (sym is.2) h
-
--- data, with its Family
-abbrev WithFamily : Option Family × Stretch → Type 0
-WithFamily q = IsBytes q.1.1
-
-data_bytes : (d : Option InfoData) (family : Option Family) (x : Option Stretch) → option_map data_of d ≡ option_map (λ p. (family, p)) x → IfSome x StretchBytes → IfSome d DataBytes
-data_bytes d family x e h =
-    let with_family : IfSome (option_map (λ (p : Stretch). (family, p)) x) WithFamily = map_some StretchBytes WithFamily (λ p. (family, p)) x (λ p k. k) h in
-    some_map DataBytes WithFamily data_of d (λ a k. k) (subst (λ o. IfSome o WithFamily) (sym e) with_family)
-
-one_info : (list : Stretch) (info : LinkInfo) → IsInfo list info → StretchBytes list → InfoBytes info
-one_info list info s h =
-    let each = walk_fits list.1 s.items s.stop (λ t. h) s.walk in
-    record {
-      of_link = data_bytes info.data s.family (latest list.0 2 s.items) s.payload (latest_bytes (length list.1) list.0 2 s.items each);
-      of_port = data_bytes info.port_data s.port_family (latest list.0 5 s.items) s.port_payload (latest_bytes (length list.1) list.0 5 s.items each);
-    }
-
-details_bytes : (m : Message) (d : LinkDetails) → IsBytes m.payload.now → HasDetails m.at (packet_of m) d → DetailsBytes d
-details_bytes m d h s =
-    let says = s.says in
-    let base = m.at + 32 in
-    let list = drop 16 m.payload.now in
-    let n = length list in
-    let each = walk_fits list says.items says.stop (λ t. bytes-drop 16 m.payload.now h) says.walk in
-    let spec = in_bridge_some StretchBytes d.header.family (latest base 26 says.items) (latest_bytes n base 26 says.items each) in
-    let ports = map_some (AnItem n) TypedBytes (typed_at base) (last_item 12 says.items) (λ x k. k.bytes tt) (item_found (AnItem n) 12 says.items each) in
-    record {
-      of_info = both_some StretchBytes InfoBytes IsInfo one_info (latest base 18 says.items) d.info says.fields.info (latest_bytes n base 18 says.items each);
-      of_spec = some_map PayloadBytes StretchBytes stretch_of d.af_spec (λ p k. k) (subst (λ o. IfSome o StretchBytes) (sym says.fields.af_spec) spec);
-      of_ports =
-          both_some TypedBytes ProtinfoBytes IsProtinfo one_protinfo (in_bridge d.header.family (latest_typed base 12 says.items)) d.protinfo says.fields.protinfo
-          (in_bridge_some TypedBytes d.header.family (latest_typed base 12 says.items) ports);
-    }
 
 -- ---- replies
 
@@ -358,42 +244,16 @@ reply_texts a =
 
 -- ---- messages
 
--- a message in a buffer of n bytes, if K says that they are bytes
-pub record MessageFits (K : Type 0) (n : ℕ) (m : Message) : Type 0 where
-  pub packet : IsPacket (packet_of m)
-  pub bytes : K → IsBytes m.payload.now
-  pub inside : m.at + 16 + length m.payload.now ≤ n
+body_texts : (check : Bool) (m : Message) (out : List ℕ) (well : Bool) → ShowsBody check m out well → AreTexts out
+body_texts check m out well (Link d has shown) = link_texts check d out well shown
+body_texts check m out well (Reply a has is e) = subst AreTexts (sym is) (reply_texts a)
+body_texts check m out well (General kind is e) = subst AreTexts (sym is) no_texts
+body_texts check m out well (NoLink error kind other has is e) = subst AreTexts (sym is) (message_error_texts two error (text refl))
+body_texts check m out well (NoReply error kind has is e) = subst AreTexts (sym is) (message_error_texts two error (text refl))
+body_texts check m out well (Other u v is e) = subst AreTexts (sym is) no_texts
 
-pub message_fits : {K : Type 0} (s : List ℕ) (at : ℕ) (m : Message) → (K → IsBytes s) → at ≤ length s → IsMessageAt at (drop at s) m → MessageFits K (length s) m × (m.next ≤ length s)
-message_fits s at m h few is =
-    let p = m.payload.now in
-    let rest = is.begins.rest in
-    let size = ap length is.begins.string in (
-      record {
-        packet = is.begins.is;
-        bytes = λ k. bytes-front p [] (bytes-front (p ++ []) rest (subst IsBytes is.begins.string (bytes-drop at s (h k))).1.1.1.1.1.1.1.1.1.1.1.1.1.1.1.1);
-        inside = omega (arith, few, size, is.offset, length-drop at s, length-append (p ++ []) rest, length-append p []);
-      },
-      omega (arith, few, is.next, length-drop at s),
-    )
-
-pub messages_fit : {K : Type 0} (s : List ℕ) (at : ℕ) (messages : List Message) (end : ℕ) → (K → IsBytes s) → at ≤ length s → Stand s at messages end → AllByRecursion (MessageFits K (length s)) messages × (end ≤ length s)
-messages_fit s at [] end h few w = (tt, omega (arith, few, w))
-messages_fit s at (m ∷ messages) end h few w =
-    let one = message_fits s at m h few w.0.0 in
-    let rest = messages_fit s m.next messages end h one.1 w.1 in
-    ((one.0, rest.0), rest.1)
-
-body_texts : (check : Bool) (m : Message) (out : List ℕ) (well : Bool) → IsBytes m.payload.now → ShowsBody check m out well → AreTexts out
-body_texts check m out well h (Link d has shown) = link_texts check d out well (details_bytes m d h has) shown
-body_texts check m out well h (Reply a has is e) = subst AreTexts (sym is) (reply_texts a)
-body_texts check m out well h (General kind is e) = subst AreTexts (sym is) no_texts
-body_texts check m out well h (NoLink error kind other has is e) = subst AreTexts (sym is) (message_error_texts two error (text refl))
-body_texts check m out well h (NoReply error kind has is e) = subst AreTexts (sym is) (message_error_texts two error (text refl))
-body_texts check m out well h (Other u v is e) = subst AreTexts (sym is) no_texts
-
-message_texts : (check : Bool) (n : ℕ) (m : Message) (out : List ℕ) (well : Bool) → MessageFits (Unit {0}) n m → ShowsMessage check m out well → AreTexts out
-message_texts check n m out well h s = subst AreTexts (sym s.joined) (and_texts (message_line_texts m) (body_texts check m s.body well (h.bytes tt) s.is_body))
+message_texts : (check : Bool) (m : Message) (out : List ℕ) (well : Bool) → ShowsMessage check m out well → AreTexts out
+message_texts check m out well s = subst AreTexts (sym s.joined) (and_texts (message_line_texts m) (body_texts check m s.body well s.is_body))
 
 zeros_texts : (at n : ℕ) → AreTexts (zeros_line at n)
 zeros_texts at n =
@@ -402,16 +262,13 @@ zeros_texts at n =
     (line_and {t = codes " zero"} (text refl) (line_and {t = byte_word n} (either (n == 1) (text refl) (text refl)) (line_and {t = codes " at "} (text refl) (line_end (decimal_text at)))))
     )
 
-end_texts : (check : Bool) (s : List ℕ) (at : ℕ) (out : List ℕ) (well : Bool) → IsBytes s → at ≤ length s → ShowsEnd check s at out well → AreTexts out
-end_texts check s at out well h few (Ended e is w) = subst AreTexts (sym is) no_texts
-end_texts check s at out well h few (Done m is kind shown) = message_texts check (length s) m out well (message_fits s at m (λ k. h) few is).0 shown
-end_texts check s at out well h few (Zeros some zeros is w) = subst AreTexts (sym is) (zeros_texts at _)
-end_texts check s at out well h few (Broken error some other e is w) = subst AreTexts (sym is) (message_error_texts [] error none)
+end_texts : (check : Bool) (s : List ℕ) (at : ℕ) (out : List ℕ) (well : Bool) → ShowsEnd check s at out well → AreTexts out
+end_texts check s at out well (Ended e is w) = subst AreTexts (sym is) no_texts
+end_texts check s at out well (Done m is kind shown) = message_texts check m out well shown
+end_texts check s at out well (Zeros some zeros is w) = subst AreTexts (sym is) (zeros_texts at _)
+end_texts check s at out well (Broken error some other e is w) = subst AreTexts (sym is) (message_error_texts [] error none)
 
 pub messages_texts : (check : Bool) (s out : List ℕ) (whole : Bool) → IsBytes s → ShowsMessages check s out whole → AreTexts out
 messages_texts check s out whole h shown =
-    let fit = messages_fit s 0 shown.messages shown.end (λ k. h) (omega arith) shown.stand in
-    subst AreTexts (sym shown.joined) (
-    and_texts (each_texts (MessageFits (Unit {0}) (length s)) (ShowsMessage check) (message_texts check (length s)) shown.messages shown.front shown.front_well fit.0 shown.each)
-    (end_texts check s shown.end shown.last shown.last_well h fit.1 shown.at_end)
-    )
+    subst AreTexts (sym shown.joined)
+    (and_texts (all_texts (ShowsMessage check) (message_texts check) shown.messages shown.front shown.front_well shown.each) (end_texts check s shown.end shown.last shown.last_well shown.at_end))

@@ -2,14 +2,14 @@
 use Rattle.std.proofs.Common.{ℤ, pos, negsuc, ◌≡◌, ℕ, zero, suc, ◌/◌, ◌%◌, ◌<◌, ◌==◌, Bool, true, false, ◌&&◌, List, [], ◌∷◌, ◌++◌, map, take, drop, if◌then◌else◌, refl, ap₂, ◌∙◌, arith, codes, bytes_eq, All, inl, inr}
 use Rattle.std.specs.Fmt.{digits, digits_onto, digit_glyph, decimal, signed_decimal}
 use Rattle.std.specs.List.{flat_map, list_all, AllByRecursion}
-use Rattle.std.specs.Net.Addr.{octets_of}
+use Rattle.std.specs.Net.Addr.{octets_of, segments_of}
 use Rattle.std.specs.Net.Text.{ipv4_text, ipv6_text, hex_groups_text}
 use Rattle.std.proofs.lemmas.Bool.Decides.{nat_tests}
 use Rattle.std.proofs.lemmas.List.Folds.{list_all-append}
 use Rattle.std.proofs.NetLemmas.Alphabet.{IsHexOrColon, All-hex_groups_text}
 use Rattle.std.proofs.NetLemmas.Texts.{AllSegments}
 use Rattle.link_show.specs.Text.{after, joined, hex, list_text}
-use Rattle.link_show.specs.Octets.{byte_text, hex_text, address_text}
+use Rattle.link_show.specs.Octets.{byte_text, hex_text, address_text, ip6_text}
 use Rattle.link_base.specs.WellFormed.{is_printable}
 use Rattle.link_show.specs.Quoted.{quoted_byte, quoted}
 use Rattle.link_show.specs.Printable.{IsText}
@@ -116,8 +116,15 @@ from_all (b ∷ t) h = one (from_hex b (h 0 0 (omega arith))) (from_all t (λ i 
 in_ipv6 : (octets : List ℕ) → IsText (codes "::ffff:" ++ ipv4_text octets)
 in_ipv6 octets = and {s = codes "::ffff:"} (text refl) (ipv4_is_text octets)
 
-pub ipv6_is_text : (segments : List ℕ) → AllSegments segments → IsText (ipv6_text segments)
+segments_bound : (bytes : List ℕ) → AllSegments (segments_of (map (λ b. b % 256) bytes))
+segments_bound [] k = omega arith
+segments_bound (a ∷ []) k = omega arith
+segments_bound (a ∷ b ∷ bytes) zero = omega arith
+segments_bound (a ∷ b ∷ bytes) (suc k) = segments_bound bytes k
+
+pub ip6_is_text : (bytes : List ℕ) → IsText (ip6_text bytes)
 unfolding ipv6_text
-ipv6_is_text segments h =
+ip6_is_text bytes =
+    let segments = segments_of (map (λ b. b % 256) bytes) in
     either (bytes_eq (take 6 segments) (0 ∷ 0 ∷ 0 ∷ 0 ∷ 0 ∷ 0xffff ∷ [])) (in_ipv6 (octets_of (drop 6 segments)))
-    (from_all (hex_groups_text segments) (All-hex_groups_text segments h))
+    (from_all (hex_groups_text segments) (All-hex_groups_text segments (segments_bound bytes)))

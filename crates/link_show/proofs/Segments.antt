@@ -1,12 +1,18 @@
 -- The segments of an IPv6 address.
-use Rattle.std.proofs.Common.{◌≡◌, ◌<◌, ◌≤◌, ℕ, ◌+◌, List, [], ◌∷◌, ◌++◌, map, codes, length, ◌-◌, length-drop, arith, take, drop, append_assoc, bytes_eq, false, refl, sym, ap, ◌∙◌}
+use Rattle.std.proofs.Common.{◌≡◌, ◌<◌, ◌≤◌, ℕ, ◌+◌, ◌%◌, List, [], ◌∷◌, ◌++◌, map, codes, length, ◌-◌, length-drop, arith, take, drop, append_assoc, bytes_eq, false, refl, sym, ap, ap₂, ◌∙◌}
 use Rattle.std.specs.List.{flat_map}
 use Rattle.std.specs.Net.Addr.{IsIpv4Mapped, octets_of}
 use Rattle.std.proofs.lemmas.List.{take_all}
 use Rattle.std.proofs.lemmas.Slice.Eq.{bytes_eq-Decides}
 use Rattle.std.specs.Net.Text.{hex, groups_text, longest_zero_run, compressed_text, hex_groups_text, ipv4_text, ipv6_text}
 use Rattle.std.proofs.lemmas.Bool.{cond-true, cond-false, lt-ltb, le-ltb}
+use Rattle.link_base.specs.Number.{IsBytes}
 use Rattle.link_show.specs.Text.{after, joined}
+
+-- bytes are their low eight bits
+pub low_bytes : (bytes : List ℕ) → IsBytes bytes → map (λ b. b % 256) bytes ≡ bytes
+low_bytes [] h = refl
+low_bytes (b ∷ bytes) h = let low : b % 256 ≡ b = omega (arith, h.0) in ap₂ (λ x y. x ∷ y) low (low_bytes bytes h.1)
 
 -- segments, each after a colon
 behind_colons : (segments : List ℕ) → flat_map (λ t. codes ":" ++ hex t) segments ≡ after (codes ":") (codes ":") (map hex segments)

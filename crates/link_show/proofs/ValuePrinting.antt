@@ -1,15 +1,15 @@
 -- The texts of values and of errors are printable.
-use Rattle.std.proofs.Common.{◌≡◌, ℕ, zero, suc, ◌+◌, ◌/◌, ◌%◌, ◌==◌, nat_lt, Bool, true, false, ◌&&◌, not, List, [], ◌∷◌, ◌++◌, length, map, take, drop, Option, Some, None, option_map, refl, ap₂, arith, codes}
+use Rattle.std.proofs.Common.{◌≡◌, ℕ, ◌+◌, ◌/◌, ◌%◌, ◌==◌, nat_lt, Bool, true, false, ◌&&◌, not, List, [], ◌∷◌, ◌++◌, length, map, take, drop, Option, Some, None, option_map, refl, ap₂, codes}
 use Rattle.std.specs.Prelude.{nat_le, if◌then◌else◌}
 use Rattle.std.specs.Fmt.{decimal}
 use Rattle.std.specs.List.{list_all, AllByRecursion}
 use Rattle.std.specs.Str.{bytes_eq}
 use Rattle.std.specs.Int.RustNames.{bit_and}
-use Rattle.std.specs.Net.Addr.{ipv4_octets, segments_of}
+use Rattle.std.specs.Net.Addr.{ipv4_octets}
 use Rattle.std.proofs.lemmas.Bool.{and_parts}
-use Rattle.std.proofs.NetLemmas.Texts.{AllSegments}
 use Rattle.link_base.specs.declared.views.content.Content.{Content}
 use Rattle.link_base.specs.declared.views.content.Content.TheVariants as contents
+use Rattle.link_base.specs.declared.rows.form.Look.TheVariants as looks
 use Rattle.link_base.specs.declared.wire.fault.Cause.{Cause}
 use Rattle.link_base.specs.declared.wire.fault.Cause.TheVariants as causes
 use Rattle.link_base.specs.declared.wire.fault.DecodeFault.{DecodeFault}
@@ -23,7 +23,7 @@ use Rattle.link_base.specs.declared.rows.form.Role.{Role}
 use Rattle.link_base.specs.declared.rows.form.Role.TheVariants as roles
 use Rattle.link_base.specs.declared.rows.form.Layout.{Layout}
 use Rattle.link_base.specs.declared.rows.form.Layout.TheVariants as layouts
-use Rattle.link_base.specs.Number.{IsBytes}
+use Rattle.link_base.specs.Class.{is_on}
 use Rattle.link_base.specs.Fields.{FieldRow, names_for}
 use Rattle.link_base.specs.Orders.{number_by}
 use Rattle.link_base.specs.Payloads.{limit_fields}
@@ -38,15 +38,15 @@ use Rattle.link_base.specs.Borrowed.{elements_by, elements_at}
 use Rattle.link_base.specs.Coherent.{is_shape_of}
 use Rattle.link_base.specs.WellFormed.{is_printable, are_names, are_fields, has_text, rows_in, is_shape, are_rows, is_row, is_table}
 use Rattle.link_base.specs.Lift.{lift_table}
+use Rattle.link_messages.specs.Link.{without_nul}
 use Rattle.link_show.specs.Text.{hex_number}
 use Rattle.link_show.specs.Number.{seconds_of, beside, unit_of, number_text, array_text}
 use Rattle.link_show.specs.Flags.{named_text, enum_text, set_names, unnamed, last_word, flag_words, is_all, flags_text}
-use Rattle.link_show.specs.Structs.{field, two_fields, role_text, form_text, field_in, field_text, has_fields, fields_text, bridge_id_text, struct_text, limits_text}
+use Rattle.link_show.specs.Structs.{field, two_fields, role_text, form_text, field_in, field_text, pair_fields, masked_fields, has_fields, fields_text, bridge_id_text, struct_text, limits_text}
 use Rattle.link_show.specs.Value.{other_text, content_text, value_text}
 use Rattle.link_show.specs.Fault.{bytes_text, expected_word, cause_words, kind_text, is_array, payload_fault, fault_text}
 use Rattle.link_show.specs.Printable.{IsText, has_texts}
-use Rattle.link_show.proofs.Fitting.{ContentFits}
-use Rattle.link_show.proofs.Printing.{text, none, and, either, joined_text, decimal_text, signed_text, hex_digits, hex_bytes, address_digits, quoted_text, ipv4_is_text, ipv6_is_text}
+use Rattle.link_show.proofs.Printing.{text, none, and, either, joined_text, decimal_text, signed_text, hex_digits, hex_bytes, address_digits, quoted_text, ipv4_is_text, ip6_is_text}
 
 -- ---- names
 
@@ -269,40 +269,33 @@ pub other_is_text : (p : List ℕ) → IsText (other_text p)
 other_is_text [] = text refl
 other_is_text (b ∷ p) = and {s = codes "hex "} (text refl) (hex_bytes (b ∷ p))
 
-pub segments_bound : (octets : List ℕ) → IsBytes octets → AllSegments (segments_of octets)
-segments_bound [] h k = omega arith
-segments_bound (a ∷ []) h k = omega arith
-segments_bound (a ∷ b ∷ octets) h zero = omega (arith, h.0, h.1.0)
-segments_bound (a ∷ b ∷ octets) h (suc k) = segments_bound octets h.1.1 k
-
-pub content_is_text : (label : Label) (content : Content) → IsLabelText (Some label) → ContentFits content → IsText (content_text label content)
-content_is_text label contents.Nothing l h = none
-content_is_text label (contents.Bool b) l h = either b (text refl) (text refl)
-content_is_text label (contents.Number n width order role) l h = role_is_text label.names label.quantity role width n l.1.0
-content_is_text label (contents.Signed z) l h = signed_text z
-content_is_text label (contents.LowFlags bits) l h = flags_is_text label.names 1 bits l.1.0
-content_is_text label (contents.MaskedFlags flags mask) l h =
-    two_text (field_is_text (codes "flags") (text refl) (flags_is_text label.names 4 _ l.1.0)) (field_is_text (codes "mask") (text refl) (flags_is_text label.names 4 _ l.1.0))
-content_is_text label (contents.Pair from to) l h = two_text (field_is_text (codes "from") (text refl) (decimal_text _)) (field_is_text (codes "to") (text refl) (decimal_text _))
-content_is_text label (contents.Protocol p) l h = beside_text (named_label_text vlan_protocols.labels (protocol_number p) refl) (hex_number_text (protocol_number p))
-content_is_text label (contents.Mac a) l h = address_digits a
-content_is_text label (contents.Ipv4 a) l h = ipv4_is_text (ipv4_octets a)
-content_is_text label (contents.Ipv6 a) l h = ipv6_is_text (segments_of (sixteen_octets a)) (segments_bound (sixteen_octets a) h)
-content_is_text label (contents.Bytes p) l h = address_digits p.now
-content_is_text label (contents.Struct layout p) l h = struct_is_text layout label.fields label.names p.now (fields_named label.fields l.1.1) l.1.0
-content_is_text label (contents.Numbers width p) l h = array_is_text label.quantity _
-content_is_text label (contents.Limits name numbers) l h = limits_is_text name.now numbers.now
-content_is_text label (contents.Addresses list size) l h = none
-content_is_text label (contents.List list flagged) l h = none
-content_is_text label (contents.Other p) l h = other_is_text p.now
+pub content_is_text : (label : Label) (content : Content) → IsLabelText (Some label) → IsText (content_text label content)
+content_is_text label (contents.Bool b) l = either b (text refl) (text refl)
+content_is_text label (contents.FlagOrBool flag) l = either (is_on flag) (text refl) (text refl)
+content_is_text label (contents.Number n width order role) l = role_is_text label.names label.quantity role width n l.1.0
+content_is_text label (contents.Signed z) l = signed_text z
+content_is_text label (contents.LowFlags bits) l = flags_is_text label.names 1 bits l.1.0
+content_is_text label (contents.MaskedFlags flags mask) l = fields_are_text masked_fields 0 label.names _ l.1.0 (each_field masked_fields refl)
+content_is_text label (contents.Pair from to) l = fields_are_text pair_fields 0 [] _ tt (each_field pair_fields refl)
+content_is_text label (contents.Protocol p) l = beside_text (named_label_text vlan_protocols.labels (protocol_number p) refl) (hex_number_text (protocol_number p))
+content_is_text label (contents.Mac a) l = address_digits a
+content_is_text label (contents.Ipv4 a) l = ipv4_is_text (ipv4_octets a)
+content_is_text label (contents.Ipv6 a) l = ip6_is_text (sixteen_octets a)
+content_is_text label (contents.Bytes looks.Address p) l = address_digits p.now
+content_is_text label (contents.Bytes looks.Text p) l = quoted_text (without_nul p.now)
+content_is_text label (contents.Struct layout p) l = struct_is_text layout label.fields label.names p.now (fields_named label.fields l.1.1) l.1.0
+content_is_text label (contents.Numbers width p) l = array_is_text label.quantity _
+content_is_text label (contents.Limits name numbers) l = limits_is_text name.now numbers.now
+content_is_text label (contents.Other p) l = other_is_text p.now
+content_is_text label content l = none
 
 unlabelled_is_text : (content : Content) → IsText (value_text None content)
 unlabelled_is_text (contents.Other p) = other_is_text p.now
 unlabelled_is_text content = none
 
-pub value_is_text : (label : Option Label) (content : Content) → IsLabelText label → ContentFits content → IsText (value_text label content)
-value_is_text None content l h = unlabelled_is_text content
-value_is_text (Some label) content l h = content_is_text label content l h
+pub value_is_text : (label : Option Label) (content : Content) → IsLabelText label → IsText (value_text label content)
+value_is_text None content l = unlabelled_is_text content
+value_is_text (Some label) content l = content_is_text label content l
 
 -- ---- errors
 

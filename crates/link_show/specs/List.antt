@@ -3,8 +3,7 @@ use Rattle.std.specs.Prelude.{◌≡◌, ◌≢◌, ℕ, ◌+◌, ◌-◌, ◌==
 use Rattle.std.specs.Fmt.{decimal}
 use Rattle.std.specs.List.{flat_map, list_all, AllZip}
 use Rattle.link_show.specs.Sink.{Output, Gains}
-use Rattle.std.specs.Net.Addr.{segments_of}
-use Rattle.std.specs.Net.Text.{ipv4_text, ipv6_text}
+use Rattle.std.specs.Net.Text.{ipv4_text}
 use Rattle.link_base.specs.declared.wire.buffer.NlaBuffer.{NlaBuffer}
 use Rattle.link_base.specs.declared.views.content.Content.{Content}
 use Rattle.link_base.specs.declared.views.content.Content.TheVariants as contents
@@ -17,7 +16,7 @@ use Rattle.link_base.specs.Borrowed.{elements_at, HasContent}
 use Rattle.link_messages.specs.Walk.{Item, Walk}
 use Rattle.link_show.specs.Text.{list_text}
 use Rattle.link_show.specs.Flags.{flags_text}
-use Rattle.link_show.specs.Octets.{hex_text}
+use Rattle.link_show.specs.Octets.{hex_text, ip6_text}
 use Rattle.link_show.specs.Value.{value_text}
 use Rattle.link_show.specs.Fault.{cause_words, fault_text}
 
@@ -80,7 +79,7 @@ WritesAttribute table b old new = (content : Content) × HasContent table b cont
 
 -- an IP address, by its length
 unfoldable pub ip_text : List ℕ → List ℕ
-ip_text p = if length p == 4 then ipv4_text p else (if length p == 16 then ipv6_text (segments_of p) else hex_text p)
+ip_text p = if length p == 4 then ipv4_text p else (if length p == 16 then ip6_text p else hex_text p)
 
 -- the address in an attribute; none, if it does not have this size
 abbrev pub address_in : ℕ → Item → List (List ℕ)

@@ -1,7 +1,6 @@
 -- Structs, by the kernel's names of their fields.
 use Rattle.std.specs.Prelude.{ℕ, ◌+◌, ◌-◌, Bool, false, List, [], ◌∷◌, ◌++◌, map, take, drop, length, nat_lt, nat_le, codes, if◌then◌else◌}
 use Rattle.std.specs.List.{list_all}
-use Rattle.std.specs.Fmt.{decimal}
 use Rattle.link_base.specs.declared.rows.form.Form.{Form}
 use Rattle.link_base.specs.declared.rows.form.Form.TheVariants as forms
 use Rattle.link_base.specs.declared.rows.form.Layout.{Layout}
@@ -13,7 +12,7 @@ use Rattle.link_base.specs.declared.rows.label.Quantity.{Quantity}
 use Rattle.link_base.specs.Fields.{FieldRow, names_for}
 use Rattle.link_base.specs.Forms.{bytes_in}
 use Rattle.link_base.specs.Orders.{number_by}
-use Rattle.link_base.specs.Payloads.{limit_fields}
+use Rattle.link_base.specs.Payloads.{u32, u32_flags, field as number_field, limit_fields}
 use Rattle.link_base.specs.Structs.{form_width}
 use Rattle.link_show.specs.Text.{joined}
 use Rattle.link_show.specs.Number.{number_text}
@@ -79,13 +78,13 @@ struct_text layouts.BridgeId fields names p = bridge_id_text p
 struct_text layout fields names p = fields_text fields 0 names p
 
 -- two consecutive numbers
-abbrev pub pair_text : ℕ → ℕ → List ℕ
-pair_text from to = two_fields (field (codes "from") (decimal from)) (field (codes "to") (decimal to))
+abbrev pub pair_fields : List FieldRow
+pair_fields = number_field "from" 0 u32 ∷ number_field "to" 4 u32 ∷ []
+
+-- a set of flags, and which of them count
+abbrev pub masked_fields : List FieldRow
+masked_fields = number_field "flags" 0 (u32_flags []) ∷ number_field "mask" 4 (u32_flags []) ∷ []
 
 -- the limits of a CAN controller: its name, and the bytes of the numbers, which follow those of the name
 abbrev pub limits_text : List ℕ → List ℕ → List ℕ
 limits_text name p = two_fields (field (codes "name") (quoted name)) (fields_text limit_fields 16 [] p)
-
--- a set of flags, and which of them count
-abbrev pub masked_text : List (ℕ × List ℕ) → ℕ → ℕ → List ℕ
-masked_text names flags mask = two_fields (field (codes "flags") (flags_text names 4 flags)) (field (codes "mask") (flags_text names 4 mask))

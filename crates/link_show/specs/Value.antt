@@ -2,25 +2,28 @@
 use Rattle.std.specs.Prelude.{Option, Some, None, ◌≡◌, ℕ, List, [], ◌∷◌, ◌++◌, codes, if◌then◌else◌}
 use Rattle.link_show.specs.Sink.{Output, Gains}
 use Rattle.std.specs.Fmt.{signed_decimal}
-use Rattle.std.specs.Net.Addr.{ipv4_octets, segments_of}
-use Rattle.std.specs.Net.Text.{ipv4_text, ipv6_text}
+use Rattle.std.specs.Net.Addr.{ipv4_octets}
+use Rattle.std.specs.Net.Text.{ipv4_text}
 use Rattle.link_base.specs.declared.views.content.Content.{Content}
 use Rattle.link_base.specs.declared.views.content.Content.TheVariants as contents
+use Rattle.link_base.specs.declared.rows.form.Look.TheVariants as looks
 use Rattle.link_base.specs.declared.names.vlan_protocol.VlanProtocol.{VlanProtocol}
+use Rattle.link_base.specs.Class.{is_on}
 use Rattle.link_base.specs.Frame.{kind_of}
 use Rattle.link_base.specs.Forms.{bytes_in}
 use Rattle.link_base.specs.Table.{Label, Table, class_at, form_at, label_at}
 use Rattle.link_base.specs.Borrowed.{Borrows, form_of}
 use Rattle.link_base.specs.IpAddress.{sixteen_octets}
-use Rattle.link_base.specs.Layout.{numbers_of}
+use Rattle.link_base.specs.Layout.{numbers_of, octets_of}
 use Rattle.link_base.specs.Named.{text_of}
 use Rattle.link_base.specs.Protocol.{vlan_protocols, protocol_number}
 use Rattle.link_show.specs.Text.{hex_number, empty_text}
 use Rattle.link_show.specs.Number.{beside, array_text}
 use Rattle.link_show.specs.Flags.{flags_text}
-use Rattle.link_show.specs.Octets.{address_text, hex_text}
-use Rattle.link_base.specs.Number.{four_bytes}
-use Rattle.link_show.specs.Structs.{role_text, struct_text, pair_text, limits_text, masked_text}
+use Rattle.link_show.specs.Octets.{address_text, hex_text, ip6_text}
+use Rattle.link_messages.specs.Link.{without_nul}
+use Rattle.link_show.specs.Quoted.{quoted}
+use Rattle.link_show.specs.Structs.{role_text, fields_text, struct_text, pair_fields, limits_text, masked_fields}
 
 -- a VLAN protocol
 abbrev pub protocol_text : VlanProtocol → List ℕ
@@ -35,16 +38,18 @@ other_text (b ∷ p) = codes "hex " ++ hex_text (b ∷ p)
 abbrev pub content_text : Label → Content → List ℕ
 content_text label contents.Nothing = []
 content_text label (contents.Bool b) = if b then codes "on" else codes "off"
+content_text label (contents.FlagOrBool flag) = if is_on flag then codes "on" else codes "off"
 content_text label (contents.Number n width order role) = role_text label.names label.quantity role width n
 content_text label (contents.Signed z) = signed_decimal z
 content_text label (contents.LowFlags bits) = flags_text label.names 1 bits
-content_text label (contents.MaskedFlags flags mask) = masked_text label.names (four_bytes flags) (four_bytes mask)
-content_text label (contents.Pair from to) = pair_text (four_bytes from) (four_bytes to)
+content_text label (contents.MaskedFlags flags mask) = fields_text masked_fields 0 label.names (octets_of 4 (flags ∷ mask ∷ []))
+content_text label (contents.Pair from to) = fields_text pair_fields 0 [] (octets_of 4 (from ∷ to ∷ []))
 content_text label (contents.Protocol p) = protocol_text p
 content_text label (contents.Mac a) = address_text a
 content_text label (contents.Ipv4 a) = ipv4_text (ipv4_octets a)
-content_text label (contents.Ipv6 a) = ipv6_text (segments_of (sixteen_octets a))
-content_text label (contents.Bytes p) = address_text p.now
+content_text label (contents.Ipv6 a) = ip6_text (sixteen_octets a)
+content_text label (contents.Bytes looks.Address p) = address_text p.now
+content_text label (contents.Bytes looks.Text p) = quoted (without_nul p.now)
 content_text label (contents.Struct layout p) = struct_text layout label.fields label.names p.now
 content_text label (contents.Numbers width p) = array_text label.quantity (numbers_of (bytes_in width) p.now)
 content_text label (contents.Limits name numbers) = limits_text name.now numbers.now

@@ -1,9 +1,10 @@
 //! IP addresses: IPv4 in dotted decimal, IPv6 as RFC 5952 has it.
 
 ghost use Rattle.std.specs.Prelude.{◌≡◌, ◌<◌, ◌+◌, ◌≤◌, length, map, codes, OnOk};
-ghost use Rattle.std.specs.Net.Addr.{segments_of, ipv6_segments};
+ghost use Rattle.std.specs.Net.Addr.{ipv6_segments};
 ghost use Rattle.std.specs.Net.Text as Text;
 ghost use Rattle.link_show.specs.Sink.{Gains};
+ghost use Rattle.link_show.specs.Octets.{ip6_text};
 ghost use Rattle.link_show.specs.Text.{joined};
 
 use crate::pieces::{Piece, hex_digit, put_pieces};
@@ -40,8 +41,7 @@ pub fn write_ipv4<W: Sink>(writer: &mut W, address: &[u8]) -> Result<(), W::Erro
 /// That of the writer.
 pub fn write_ipv6<W: Sink>(writer: &mut W, address: &[u8]) -> Result<(), W::Error>
     requires { length address.now ≡ 16 }
-    ensures { OnOk result (Gains (W.output writer.old) (W.output writer.new)
-        (Text.ipv6_text (segments_of address.now))) }
+    ensures { OnOk result (Gains (W.output writer.old) (W.output writer.new) (ip6_text address.now)) }
 {
     let octets: Result<[u8; 16], _> = address.try_into();
     write_mapped(writer, Ipv6Addr::from_octets(octets.unwrap()))

@@ -52,5 +52,7 @@ pub use quoted::write_quoted;
 pub use replies::{errno_name, has_result, write_acknowledgement};
 pub use sets::ListSet;
 pub use sink::Sink;
-pub use structs::{has_fields, names_for, write_struct};
+pub use structs::{
+    MASKED_FIELDS, PAIR_FIELDS, bytes_of_two, field_bytes, has_fields, names_for, write_struct,
+};
 pub use values::{protocol_name, write_content, write_value};

@@ -3,12 +3,10 @@
 ghost use Rattle.std.specs.Prelude.{◌≡◌, OnOk};
 ghost use Rattle.link_show.specs.Sink.{Gains};
 ghost use Rattle.std.specs.List.{flat_map};
-ghost use Rattle.link_base.specs.Name.{before_nul};
 ghost use Rattle.link_show.specs.Quoted.{quoted_byte, quoted};
 
 use crate::octets::write_byte;
 use crate::sink::Sink;
-use link_base::before_nul;
 
 /// Writes bytes between quotes: printable ASCII characters as they are, but `"` and `\` after a backslash, and every other
 /// byte as `\xNN`.
@@ -22,13 +20,6 @@ pub fn write_quoted<W: Sink>(writer: &mut W, bytes: &[u8]) -> Result<(), W::Erro
     writer.put(b"\"")?;
     write_quoted_bytes(writer, bytes)?;
     writer.put(b"\"")
-}
-
-/// Writes the bytes before the first NUL between quotes, or all of them if there is none.
-pub(crate) fn write_name<W: Sink>(writer: &mut W, bytes: &[u8]) -> Result<(), W::Error>
-    ensures { OnOk result (Gains (W.output writer.old) (W.output writer.new) (quoted (before_nul bytes.now))) }
-{
-    write_quoted(writer, before_nul(bytes))
 }
 
 fn write_quoted_bytes<W: Sink>(writer: &mut W, bytes: &[u8]) -> Result<(), W::Error>

@@ -1,18 +1,17 @@
 //! Structs, by the kernel's names of their fields.
 
-ghost use Rattle.std.specs.Prelude.{◌≡◌, true, length, OnOk};
+ghost use Rattle.std.specs.Prelude.{◌≡◌, ◌∷◌, [], true, length, OnOk};
 ghost use Rattle.link_base.specs.Fields.{names_for};
 ghost use Rattle.link_base.specs.Labels.{names_in, field_row, field_rows};
-ghost use Rattle.link_base.specs.Number.{four_bytes};
+ghost use Rattle.link_base.specs.Layout.{octets_of};
 ghost use Rattle.link_base.specs.Structs.{form_width};
 ghost use Rattle.link_show.specs.Sink.{Gains};
-ghost use Rattle.link_show.specs.Structs.{are_within, has_field, has_fields, role_text, form_text, field_text, fields_text};
-ghost use Rattle.link_show.specs.Structs.{struct_text, bridge_id_text, masked_text, pair_text, limits_text};
+ghost use Rattle.link_show.specs.Structs.{are_within, has_field, has_fields, field_in, role_text, form_text, field_text, fields_text};
+ghost use Rattle.link_show.specs.Structs.{struct_text, bridge_id_text, limits_text};
 
 use crate::flags::{write_enum, write_flags};
 use crate::numbers::write_number;
 use crate::octets::{write_address, write_hex};
-use crate::pieces::put_number;
 use crate::quoted::write_quoted;
 use crate::sink::Sink;
 use link_base::rows::fields::Field;
@@ -20,6 +19,19 @@ use link_base::rows::form::{Form, Layout, Role, Width};
 use link_base::rows::label::{Name, Quantity};
 use link_base::rows::limits::limit_fields;
 use link_base::views::content_by::number_in;
+use link_base::{emit_numbers, fields};
+
+/// Two consecutive numbers.
+pub const PAIR_FIELDS: &[Field] = fields! {
+    "from" = 0, u32;
+    "to" = 4, u32;
+};
+
+/// A set of flags, and which of them count.
+pub const MASKED_FIELDS: &[Field] = fields! {
+    "flags" = 0, u32_flags;
+    "mask" = 4, u32_flags;
+};
 
 /// Writes the struct that `bytes` start with: each field after its name in the kernel's headers, such as
 /// `txerr 1 rxerr 2`; a bridge identifier as `8000.02:00:00:00:00:01`. `names` are those of the numbers and bits of fields
@@ -60,7 +72,7 @@ fn write_bridge_id<W: Sink>(writer: &mut W, bytes: &[u8]) -> Result<(), W::Error
 /// Writes fields of a struct. `bytes` are those of the struct from offset `start` on. If a field is not within them, they
 /// are written in hexadecimal.
 #[tactic(auto, unfolding(crate::specs::Structs::fields_text))]
-fn write_fields<W: Sink>(
+pub(crate) fn write_fields<W: Sink>(
     writer: &mut W,
     fields: &[Field],
     start: usize,
@@ -109,11 +121,30 @@ fn has_field(field: &Field, start: usize, bytes: &[u8]) -> bool
     size <= bytes.len() && field.offset.saturating_sub(start) <= bytes.len() - size
 }
 
+/// Returns the bytes of two numbers.
+pub fn bytes_of_two(first: u32, second: u32) -> [u8; 8]
+    ensures { result ≡ octets_of 4 (first ∷ second ∷ []) }
+{
+    let mut bytes = [0; 8];
+    emit_numbers(&mut bytes, &[first, second]);
+    bytes
+}
+
 /// Returns the names of the number or of the bits of a field: its own, or those of the row if it has none.
 pub fn names_for<'a>(row: &'a [Name], own: &'a [Name]) -> &'a [Name]
     ensures { names_in result.now ≡ names_for (names_in row.now) (names_in own.now) }
 {
     if own.is_empty() { row } else { own }
+}
+
+/// Returns the bytes of a field. `bytes` are those of the struct from offset `start` on, and must have the field.
+pub fn field_bytes<'a>(field: &Field, start: usize, bytes: &'a [u8]) -> &'a [u8]
+    requires { has_field start bytes.now (field_row field.now) ≡ true }
+    ensures value { result.now ≡ field_in start bytes.now (field_row field.now) }
+    ensures size { length result.now ≡ form_width field.now.form }
+{
+    let at = field.offset.saturating_sub(start);
+    &bytes[at..at + field.form.width()]
 }
 
 /// Writes a field after its name.
@@ -128,16 +159,14 @@ fn write_field<W: Sink>(
     ensures { OnOk result (Gains (W.output writer.old) (W.output writer.new)
         (field_text start (names_in names.now) bytes.now (field_row field.now))) }
 {
-    let name = field.name;
-    let at = field.offset.saturating_sub(start);
-    writer.put(name.as_bytes())?;
+    writer.put(field.name.as_bytes())?;
     writer.put(b" ")?;
     write_form(
         writer,
         names_for(names, field.names),
         field.quantity,
         field.form,
-        &bytes[at..at + field.form.width()],
+        field_bytes(field, start, bytes),
     )
 }
 
@@ -180,32 +209,6 @@ pub(crate) fn write_role<W: Sink>(
         Role::Coded | Role::Enum => write_enum(writer, names, number),
         Role::Flags => write_flags(writer, names, width, number),
     }
-}
-
-/// Writes a set of flags, and which of them count.
-pub(crate) fn write_masked<W: Sink>(
-    writer: &mut W,
-    names: &[Name],
-    flags: u32,
-    mask: u32,
-) -> Result<(), W::Error>
-    ensures { OnOk result (Gains (W.output writer.old) (W.output writer.new)
-        (masked_text (names_in names.now) (four_bytes flags) (four_bytes mask))) }
-{
-    writer.put(b"flags ")?;
-    write_flags(writer, names, Width::Four, flags.into())?;
-    writer.put(b" mask ")?;
-    write_flags(writer, names, Width::Four, mask.into())
-}
-
-/// Writes two consecutive numbers.
-pub(crate) fn write_pair<W: Sink>(writer: &mut W, from: u32, to: u32) -> Result<(), W::Error>
-    ensures { OnOk result (Gains (W.output writer.old) (W.output writer.new) (pair_text (four_bytes from) (four_bytes to))) }
-{
-    writer.put(b"from ")?;
-    put_number(writer, from.into())?;
-    writer.put(b" to ")?;
-    put_number(writer, to.into())
 }
 
 /// Writes the limits of a CAN controller: its name, and the numbers, whose bytes are behind those of the name.

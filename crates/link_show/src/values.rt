@@ -2,9 +2,8 @@
 
 ghost use Rattle.std.specs.Prelude.{◌≡◌, None, OnOk};
 ghost use Rattle.link_show.specs.Sink.{Gains};
-ghost use Rattle.std.specs.Net.Addr.{segments_of};
-ghost use Rattle.std.specs.Net.Text.{ipv6_text};
 ghost use Rattle.link_base.specs.IpAddress.{sixteen_octets};
+ghost use Rattle.link_show.specs.Octets.{ip6_text};
 ghost use Rattle.link_show.specs.Value.{protocol_text, other_text, content_text, value_text, WritesValue};
 ghost use Rattle.link_base.specs.Labels.{label_of};
 ghost use Rattle.link_base.specs.Named.{text_of};
@@ -17,14 +16,19 @@ use crate::ip::{write_ipv4, write_ipv6};
 use crate::numbers::write_array;
 use crate::octets::{write_address, write_hex};
 use crate::pieces::{Piece, put_pieces};
+use crate::quoted::write_quoted;
 use crate::sink::Sink;
-use crate::structs::{write_limits, write_masked, write_pair, write_role, write_struct};
-use link_base::rows::form::Width;
+use crate::structs::{
+    MASKED_FIELDS, PAIR_FIELDS, bytes_of_two, write_fields, write_limits, write_role, write_struct,
+};
+use link_base::classes::flag_or_bool::flag_is_on;
+use link_base::rows::form::{Look, Width};
 use link_base::rows::label::KindLabel;
 use link_base::views::attribute_set::AttributeSet;
 use link_base::views::content::Content;
 use link_base::views::view::Value;
 use link_base::{Address, VlanProtocol};
+use link_messages::without_nul;
 use std::net::Ipv6Addr;
 
 /// Writes the content of an attribute, without its name. Nothing is written for a content without a value and for lists;
@@ -81,6 +85,11 @@ pub fn write_content<W: Sink>(
         } else {
             b"off".as_slice()
         }),
+        Content::FlagOrBool(flag) => writer.put(if flag_is_on(flag) {
+            b"on".as_slice()
+        } else {
+            b"off".as_slice()
+        }),
         Content::Number {
             number,
             width,
@@ -89,13 +98,29 @@ pub fn write_content<W: Sink>(
         } => write_role(writer, label.names, label.quantity, role, width, number),
         Content::Signed(number) => put_pieces(writer, &[Piece::Signed(number)]),
         Content::LowFlags(bits) => { write_flags(writer, label.names, Width::One, bits.into()) }
-        Content::MaskedFlags { flags, mask } => write_masked(writer, label.names, flags, mask),
-        Content::Pair(from, to) => write_pair(writer, from, to),
+        Content::MaskedFlags { flags, mask } => {
+            let bytes = bytes_of_two(flags, mask);
+            write_fields(writer, MASKED_FIELDS, 0, label.names, &bytes)
+        }
+        Content::Pair(from, to) => write_fields(
+            writer,
+            PAIR_FIELDS,
+            0,
+            &[],
+            &bytes_of_two(from, to),
+        ),
         Content::Protocol(protocol) => write_protocol(writer, protocol),
         Content::Mac(address) => write_address(writer, &address),
         Content::Ipv4(address) => write_ipv4(writer, &address.octets()),
         Content::Ipv6(address) => write_ipv6_address(writer, address),
-        Content::Bytes(bytes) => write_address(writer, bytes),
+        Content::Bytes {
+            look: Look::Address,
+            bytes,
+        } => write_address(writer, bytes),
+        Content::Bytes {
+            look: Look::Text,
+            bytes,
+        } => write_quoted(writer, without_nul(bytes)),
         Content::Struct { layout, bytes } => {
             write_struct(writer, layout, label.fields, label.names, bytes)
         }
@@ -107,7 +132,7 @@ pub fn write_content<W: Sink>(
 
 fn write_ipv6_address<W: Sink>(writer: &mut W, address: Ipv6Addr) -> Result<(), W::Error>
     ensures { OnOk result (Gains (W.output writer.old) (W.output writer.new)
-        (ipv6_text (segments_of (sixteen_octets address)))) }
+        (ip6_text (sixteen_octets address))) }
 {
     let mut octets = [0; 16];
     address.put(&mut octets);

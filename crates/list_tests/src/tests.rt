@@ -17,7 +17,7 @@ use std::alloc::Global;
 use std::process::Abort;
 
 /// Canonical lists of every attribute set. Each word of digits is an attribute with its padding.
-const CANONICAL: [&str; 35] = [
+const CANONICAL: [&str; 37] = [
     "dsa",
     "hsr",
     "vlan",
@@ -27,12 +27,14 @@ const CANONICAL: [&str; 35] = [
     "bridge_port",
     "af_spec_bridge",
     "proto_bridge",
+    "vxlan",
     "can",
     "dsa 080001002a000000 080001002a000000",
     "dsa 080001002a000000 0400ff3f",
     "dsa 04000000",
     "hsr 0a00040001154e0001000000 05006340ff000000",
     "hsr 0800080007000000 0600050034120000",
+    "vxlan 08000a008000ee48 04001c00 05001d0002000000 08001a0000012345 06000f0012b50000",
     "vlan 0600050088a80000 180003000c0001000100000002000000070009c001020300",
     "vlan 06006300dead0000 100003000c0001000100000002000000",
     "vlan 0c000200010000001f000000 060063c0dead0000",

@@ -20,7 +20,8 @@ all_families =
     sets.Can ∷
     sets.Dsa ∷
     sets.Hsr ∷
-    sets.ProtoBridge ∷ []
+    sets.ProtoBridge ∷
+    sets.Vxlan ∷ []
 
 abbrev family_at : List Family → ℕ → Option Family
 family_at [] n = None

@@ -4,7 +4,7 @@ use Rattle.link_base.specs.Table.{Table}
 use Rattle.netlink_packet_route.specs.declared.family.Family.{Family}
 use Rattle.netlink_packet_route.specs.declared.family.Holder.{Holder}
 use Rattle.netlink_packet_route.specs.declared.family.Holder.TheVariants as holders
-use Rattle.netlink_packet_route.specs.declared.family.Family.TheVariants.{AfSpecBridge, Bond, BondPort, Bridge, BridgePort, Vlan, Can, Dsa, Hsr, ProtoBridge}
+use Rattle.netlink_packet_route.specs.declared.family.Family.TheVariants.{AfSpecBridge, Bond, BondPort, Bridge, BridgePort, Vlan, Can, Dsa, Hsr, ProtoBridge, Vxlan}
 use Rattle.link_bridge.specs.AfSpec.{af_spec_table}
 use Rattle.link_bond.specs.Bond.{bond_table}
 use Rattle.link_bond.specs.BondPort.{bond_port_table}
@@ -15,6 +15,7 @@ use Rattle.link_vlan_can.specs.Can.{can_table}
 use Rattle.link_vlan_can.specs.Dsa.{dsa_table}
 use Rattle.link_vlan_can.specs.Hsr.{hsr_table}
 use Rattle.link_bridge.specs.ProtoInfo.{proto_info_table}
+use Rattle.link_tunnels.specs.Vxlan.{vxlan_table}
 
 -- what holds the list of an attribute set in a message about a link
 pub data Holding : Type 0 where
@@ -49,6 +50,7 @@ family_row Can = row (codes "can") 6 (InfoKind (codes "can")) can_table
 family_row Dsa = row (codes "dsa") 7 (InfoKind (codes "dsa")) dsa_table
 family_row Hsr = row (codes "hsr") 8 (InfoKind (codes "hsr")) hsr_table
 family_row ProtoBridge = row (codes "proto_bridge") 9 (BridgeAttribute 12) proto_info_table
+family_row Vxlan = row (codes "vxlan") 10 (InfoKind (codes "vxlan")) vxlan_table
 
 abbrev pub family_name : Family → List ℕ
 family_name family = (family_row family).name

@@ -53,3 +53,7 @@ pub use Rattle.link_vlan_can.specs.Can
 pub use Rattle.link_vlan_can.specs.Dsa
 pub use Rattle.link_vlan_can.specs.HsrProtocol
 pub use Rattle.link_vlan_can.specs.Hsr
+pub use Rattle.link_tunnels.specs.VxlanNames
+pub use Rattle.link_tunnels.specs.VxlanPortRange
+pub use Rattle.link_tunnels.specs.VxlanHeader
+pub use Rattle.link_tunnels.specs.Vxlan

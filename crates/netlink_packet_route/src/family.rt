@@ -28,6 +28,8 @@ pub enum Family {
     /// `proto_bridge`: attributes of `IFLA_PROTINFO` in AF_BRIDGE messages,
     /// [`LinkProtoInfoBridge`](crate::link::LinkProtoInfoBridge): attribute type 45 only.
     ProtoBridge,
+    /// `vxlan`: attributes of VXLAN devices, [`InfoVxlan`](crate::link::InfoVxlan).
+    Vxlan,
 }
 
 /// What holds the list of an attribute set in a message about a link (`include/uapi/linux/if_link.h`).
@@ -66,6 +68,7 @@ macro_rules! families {
             Dsa           "dsa"             InfoDsa              7  InfoKind (b"dsa")
             Hsr           "hsr"             InfoHsr              8  InfoKind (b"hsr")
             ProtoBridge   "proto_bridge"    LinkProtoInfoBridge  9  BridgeAttribute (IFLA_PROTINFO)
+            Vxlan         "vxlan"           InfoVxlan            10 InfoKind (b"vxlan")
         }
     };
 }

@@ -25,6 +25,7 @@ pub use link_bridge::{
     BridgeStpMode, BridgeStpState, BridgeVlanInfo, BridgeVlanInfoFlags, BridgeVlanTunnelInfo,
     InfoBridge, InfoBridgePort, LinkProtoInfoBridge, VecAfSpecBridge, VecLinkProtoInfoBridge,
 };
+pub use link_tunnels::{InfoVxlan, VxlanHeader, VxlanPortRange};
 pub use link_vlan_can::{
     CanBerrCounter, CanBitTiming, CanBitTimingConst, CanClock, CanCtrlMode, CanCtrlModeExt,
     CanCtrlModeFlags, CanTdc, HsrProtocol, InfoCan, InfoDsa, InfoHsr, InfoVlan, VlanFlags,

@@ -167,6 +167,12 @@ static void values(void) {
     check(v[1].kind == NLROUTE_IFLA_BR_BRIDGE_ID && v[1].form == NLROUTE_FORM_BRIDGE_ID, "a bridge ID");
     check(v[1].number == 0x8000, "its priority");
     check(v[1].offset == 12 && v[1].length == 8 && !memcmp(v[1].octets, address, 16), "its address");
+    struct nlroute_field field;
+    check(!nlroute_field(NLROUTE_BRIDGE, v + 1, 0, bridge, sizeof bridge, &field), "a field of the bridge ID");
+    check(!strcmp(field.name, "prio") && field.number == 0x8000 && field.form == NLROUTE_FORM_UNSIGNED, "the priority");
+    check(!nlroute_field(NLROUTE_BRIDGE, v + 1, 1, bridge, sizeof bridge, &field), "another");
+    check(!strcmp(field.name, "addr") && field.offset == 2 && field.form == NLROUTE_FORM_MAC, "the address");
+    check(field.length == 6 && !memcmp(field.octets, address, 16) && field.number == 0, "its octets");
     check(v[2].kind == 47 && v[2].form == NLROUTE_FORM_LIST && v[2].number == 1, "a list of one element");
     check(v[2].offset == 24 && v[2].length == 8, "where the list is");
     check(v[3].kind == 47 && v[3].inner == 1 && v[3].depth == 1 && v[3].form == NLROUTE_FORM_IPV4, "the element");
@@ -209,9 +215,18 @@ static void timing(void) {
     check(most.tseg2_min == 2 && most.tseg2_max == 8 && most.sjw_max == 4, "of the second segment and the jump width");
     check(most.brp_min == 1 && most.brp_max == 64 && most.brp_inc == 5, "of the prescaler");
     check(nlroute_can_bittiming(v + 1, can, sizeof can, &bits) == NLROUTE_BAD_FORM, "-7 for limits");
+    struct nlroute_field field;
+    size_t count = 0;
+    for (; !nlroute_field(NLROUTE_CAN, v, count, can, sizeof can, &field); count++)
+        check(field.number == rates[count] && field.offset == 4 * count && field.length == 4, field.name);
+    check(count == 8 && !strcmp(field.name, "brp") && field.form == NLROUTE_FORM_UNSIGNED, "eight fields by name");
+    check(nlroute_field(NLROUTE_CAN, v, count, can, sizeof can, &field) == NLROUTE_ABSENT, "-6 for a ninth");
+    check(nlroute_field(NLROUTE_CAN, v + 1, 0, can, sizeof can, &field) == NLROUTE_ABSENT, "-6 for limits");
+    check(nlroute_field(NLROUTE_CAN, v, 8, can, 35, &field) == NLROUTE_BAD_OCTETS, "-10 of a field");
+    check(nlroute_field(FAMILIES, v, 0, can, sizeof can, &field) == NLROUTE_NO_FAMILY, "-5 of a field");
     check(nlroute_can_bittiming(v, can, 35, &bits) == NLROUTE_BAD_OCTETS, "-10 for bytes that are cut off");
     check(!strcmp(nlroute_refusal_text(NLROUTE_BAD_FORM), "the value has another form"), "a code in words");
-    check(!strcmp(nlroute_refusal_text(NLROUTE_ABSENT), "there is no such attribute, element, name or error"), "another");
+    check(!strcmp(nlroute_refusal_text(NLROUTE_ABSENT), "there is no such attribute, element, field, name or error"), "absent");
 }
 
 static struct nlroute_value value(uint16_t kind, uint8_t form, uint64_t number, uint32_t second) {

@@ -77,7 +77,8 @@ enum nlroute_family {
     NLROUTE_CAN = 6, /* IFLA_INFO_DATA of CAN controllers */
     NLROUTE_DSA = 7, /* IFLA_INFO_DATA of DSA ports */
     NLROUTE_HSR = 8, /* IFLA_INFO_DATA of HSR and PRP devices */
-    NLROUTE_PROTO_BRIDGE = 9 /* IFLA_PROTINFO in AF_BRIDGE messages: attribute type 45 only */
+    NLROUTE_PROTO_BRIDGE = 9, /* IFLA_PROTINFO in AF_BRIDGE messages: attribute type 45 only */
+    NLROUTE_VXLAN = 10 /* IFLA_INFO_DATA of VXLAN devices */
 };
 
 /*
@@ -96,7 +97,7 @@ enum nlroute_refusal {
     NLROUTE_NO_ROOM = -4,   /* the output buffer is too small; each function specifies the size that it needs */
     NLROUTE_NO_FAMILY = -5, /* family is not one of the numbers above */
     NLROUTE_ABSENT = -6,    /* the list does not have what was looked up, or has no error; a number or a bit has no
-                               name */
+                               name; a struct has no such field */
     NLROUTE_BAD_FORM = -7,  /* the value has another form than was expected, or than its attribute type; the struct has
                                numbers that the library never stores */
     NLROUTE_BAD_NUMBER = -8,  /* the attribute cannot hold the number */
@@ -113,7 +114,7 @@ static inline const char *nlroute_refusal_text(ptrdiff_t code)
     case NLROUTE_NO_MEMORY: return "an allocation failed";
     case NLROUTE_NO_ROOM: return "the buffer is too small";
     case NLROUTE_NO_FAMILY: return "no attribute set has this number";
-    case NLROUTE_ABSENT: return "there is no such attribute, element, name or error";
+    case NLROUTE_ABSENT: return "there is no such attribute, element, field, name or error";
     case NLROUTE_BAD_FORM: return "the value has another form";
     case NLROUTE_BAD_NUMBER: return "the attribute cannot hold the number";
     case NLROUTE_BAD_ELEMENT: return "an element does not follow its list";
@@ -180,7 +181,7 @@ ptrdiff_t nlroute_count(uint32_t family, const uint8_t *bytes, size_t len);
 enum nlroute_form {
     NLROUTE_FORM_OF_KIND = 0,          /* for writing: the form of the attribute type; never stored */
     NLROUTE_FORM_EMPTY = 1,            /* no value: the attribute is there */
-    NLROUTE_FORM_BOOL = 2,             /* number: 0 or 1 */
+    NLROUTE_FORM_BOOL = 2,             /* number: 0 or 1; of a flag that may have no payload, length: 0 or 1 */
     NLROUTE_FORM_UNSIGNED = 3,         /* number */
     NLROUTE_FORM_SIGNED = 4,           /* number, as (int64_t)number */
     NLROUTE_FORM_NAMED = 5,            /* number: of an enum */
@@ -296,12 +297,43 @@ NLROUTE_MUST_USE
 ptrdiff_t nlroute_can_bittiming_const(const struct nlroute_value *value, const uint8_t *bytes, size_t len,
                                       struct can_bittiming_const *limits);
 
+/* A field of a struct. */
+struct nlroute_field {
+    char name[32];      /* the kernel's name, such as "bitrate", and zeros; no name has more than 31 bytes */
+    uint64_t number;    /* in the byte order of the machine; of NLROUTE_FORM_SIGNED, as (int64_t)number; 0 if it is none */
+    uint64_t offset;    /* where the field starts in the struct, in bytes */
+    uint32_t length;    /* length of the field in bytes */
+    uint32_t form;      /* an nlroute_form: UNSIGNED, SIGNED, NAMED, FLAGS, MAC, or BYTES for any other field */
+    uint8_t octets[16]; /* of a field that is no number: its bytes, at most 16, and zeros; else zeros */
+}; /* 72 bytes, without padding */
+
+/*
+ * Stores field number `index`, from 0 on, of the struct that a value holds, and returns 0. The fields and their order are
+ * those that nlroute_text() prints: also those of structs that have a form of their own in C, such as
+ * NLROUTE_FORM_VLAN_INFO, and of those that have none, which are NLROUTE_FORM_BYTES. In octets, such a struct is at the
+ * offset of the value, and its field at the sum of both offsets. To get all fields, count up until NLROUTE_ABSENT.
+ * Padding is no field. NLROUTE_FORM_BITTIMING_CONST, NLROUTE_FORM_QOS_MAPPING and a set of VLAN flags have none:
+ * nlroute_can_bittiming_const(), and number, second and mask have their contents.
+ *
+ * The struct is the one that nlroute_write() writes for the value. The same fields of the value matter, as for
+ * nlroute_text(), and the len bytes at octets are those that it refers to. Does not allocate.
+ *
+ * On error *field is unchanged. Returns the error of nlroute_text() for this value, if there is one. Otherwise returns
+ * NLROUTE_ABSENT if and only if the struct has at most `index` fields, or the values of the type are no such structs.
+ */
+NLROUTE_MUST_USE
+ptrdiff_t nlroute_field(uint32_t family, const struct nlroute_value *value, size_t index, const uint8_t *octets,
+                        size_t len, struct nlroute_field *field);
+
 /*
  * Values for nlroute_write(). Each of these has NLROUTE_FORM_OF_KIND, so the attribute type determines the form; set form
  * for an attribute whose type is not known. Every field that is not an argument is 0.
  */
 
-/* A number, a boolean, an enum, or a set of flags without a mask. An attribute without a value has the number 0. */
+/*
+ * A number, a boolean, an enum, or a set of flags without a mask. An attribute without a value has the number 0. A flag
+ * that may have no payload has none: its number is 1. Set its length to 1 for a payload of one byte.
+ */
 static inline struct nlroute_value nlroute_number(uint16_t kind, uint64_t number)
 {
     struct nlroute_value value;
@@ -385,7 +417,8 @@ static inline struct nlroute_value nlroute_element(uint16_t list, struct nlroute
  *
  * Only these fields of a value matter: kind, inner, form, depth, the fields that its form uses, and flags for
  * NLROUTE_FORM_UNKNOWN. For addresses, length is the number of octets: 6, 4 or 16; for NLROUTE_FORM_BRIDGE_ID it is
- * 8. For other values, length and offset matter if the form refers to bytes. The number of a list does not matter,
+ * 8. For a flag that may have no payload, it is 0, and number is 1; or it is 1. Of other booleans it does not matter.
+ * For other values, length and offset matter if the form refers to bytes. The number of a list does not matter,
  * nor does inner in a list of addresses or an array of numbers: elements are written in order. A name in a struct
  * can_bittiming_const is written as nlroute_rewrite() writes it.
  *

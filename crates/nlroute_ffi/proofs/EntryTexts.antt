@@ -10,12 +10,12 @@ use Rattle.link_base.specs.declared.rows.form.Form.TheVariants as forms
 use Rattle.link_base.specs.Number.{IsBytes, number}
 use Rattle.link_base.specs.Name.{before_nul}
 use Rattle.link_base.specs.Class as classes
-use Rattle.link_base.specs.Class.{Class, AtLeast, extent, length_cause, meant, written, canon, cut}
+use Rattle.link_base.specs.Class.{Class, AtLeast, extent, length_cause, flag_in, meant, written, canon, cut}
 use Rattle.link_base.specs.Payloads.{class_by}
 use Rattle.link_base.specs.Table.{One}
 use Rattle.link_base.specs.Borrowed.{Borrows, Says, SaysLimits}
 use Rattle.link_base.proofs.ClassLemmas.{accepted_meaning, size_reached, cut-named}
-use Rattle.link_base.proofs.Values.{meant_in_range, meant_canon, back}
+use Rattle.link_base.proofs.Values.{meant_in_range, meant_canon, flag_cut, back}
 use Rattle.link_entries.specs.declared.entry.Entry.{Entry}
 use Rattle.link_entries.specs.declared.fields.Fields.{Fields}
 use Rattle.link_entries.specs.Agreement.{referred}
@@ -35,6 +35,7 @@ is_limited c = false
 uncut : (c : Class) (p : List ℕ) → is_limited c ≡ false → cut (meant c p) ≡ meant c p
 uncut classes.Limits p h = absurd cc
 uncut (classes.Named n listed) p h = cut-named n listed (number p)
+uncut classes.Optional p h = flag_cut (flag_in p)
 uncut c p h = refl
 
 read_again : (c : Class) (p : List ℕ) → is_limited c ≡ false → IsBytes p → length_cause (extent c) (length p) ≡ None → meant c (written (meant c p)) ≡ meant c p

@@ -10,7 +10,7 @@ use Rattle.link_base.specs.declared.wire.fault.DecodeFault.{DecodeFault}
 use Rattle.link_base.specs.declared.wire.fault.DecodeFault.TheVariants as faults
 use Rattle.link_base.specs.Number.{IsBytes, number}
 use Rattle.link_base.specs.Frame.{frame_fault, kind_of, spelled}
-use Rattle.link_base.specs.Class.{Class, Value, Extent, Exactly, AtLeast, Fixed, Multiple, extent, length_cause, unless, meant}
+use Rattle.link_base.specs.Class.{Class, Value, Extent, Exactly, AtLeast, Fixed, Multiple, AtMost, extent, length_cause, unless, meant}
 use Rattle.link_base.specs.Wire.{Reading, FaultsHere, FirstFault}
 use Rattle.link_base.specs.Table.{Shape, One, Nested, Addresses, Table, class_at, leaf_case, leaf_by, LeafGives, nested_fault, PayloadGives, single_case, GivesBy, Gives}
 use Rattle.link_base.proofs.FrameBytes.{bytes-back, bytes-payload}
@@ -35,6 +35,7 @@ length_fits (Exactly n) got = cond_both (got == n) None (Some (WrongLength n got
 length_fits (AtLeast n) got = cond_both (nat_lt got n) (Some (TooShort n got)) None Occurs (λ e. tt) (λ e. tt)
 length_fits (Fixed n) got = cond_both (nat_lt got n) (Some (TooShort n got)) _ Occurs (λ e. tt) (λ e. cond_both (nat_lt n got) (Some (WrongLength n got)) None Occurs (λ e. tt) (λ e. tt))
 length_fits (Multiple n) got = cond_both (got % n == 0) None (Some (WrongLength n got)) Occurs (λ e. tt) (λ e. tt)
+length_fits (AtMost n) got = cond_both (nat_lt n got) (Some (WrongLength n got)) None Occurs (λ e. tt) (λ e. tt)
 
 -- the length in a header has 16 bits
 stated_fits : (r : List ℕ) → IsBytes r → number (take 2 r) < 65536

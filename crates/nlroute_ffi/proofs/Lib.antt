@@ -8,3 +8,6 @@ pub mod ErrorTexts
 pub mod FirstErrors
 pub mod NameTexts
 pub mod CutTexts
+pub mod OwnLabels
+pub mod FieldsThere
+pub mod FieldTexts

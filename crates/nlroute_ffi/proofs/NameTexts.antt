@@ -34,23 +34,23 @@ use Rattle.nlroute_ffi.specs.Shown.{IsWithName, IsByName}
 
 -- a test of what is known of each attribute type
 module _ (test : Label → Bool) where
-  abbrev rows_pass : Table → Bool
+  abbrev pub rows_pass : Table → Bool
   rows_pass table = are_rows (λ r. test (label_by r)) 0 table
 
-  abbrev elements_pass : Option Shape → Bool
+  abbrev pub elements_pass : Option Shape → Bool
   elements_pass o = rows_pass (elements_by o)
 
   -- also of those of nested lists
-  abbrev types_pass : Table → Bool
+  abbrev pub types_pass : Table → Bool
   types_pass table = rows_pass table && are_rows (λ r. elements_pass (Some r.class)) 0 table
 
-  label_passes : (table : Table) (k : ℕ) (label : Label) → rows_pass table ≡ true → label_at table k ≡ Some label → test label ≡ true
+  pub label_passes : (table : Table) (k : ℕ) (label : Label) → rows_pass table ≡ true → label_at table k ≡ Some label → test label ≡ true
   label_passes table k label h at = by_row (row_at table k) refl at where
     by_row : (o : Option (Row Shape)) → row_at table k ≡ o → option_map label_by o ≡ Some label → test label ≡ true
     by_row None row is = absurd cc
     by_row (Some r) row is = let same : label_by r ≡ label = cc in subst (λ l. test l ≡ true) same (row_passes (λ q. test (label_by q)) 0 table k r h row)
 
-  nested_pass : (table : Table) (k : ℕ) → are_rows (λ r. elements_pass (Some r.class)) 0 table ≡ true → rows_pass (elements_at table k) ≡ true
+  pub nested_pass : (table : Table) (k : ℕ) → are_rows (λ r. elements_pass (Some r.class)) 0 table ≡ true → rows_pass (elements_at table k) ≡ true
   nested_pass table k h = by_row (row_at table k) refl where
     by_row : (o : Option (Row Shape)) → row_at table k ≡ o → elements_pass (option_map (λ r. r.class) o) ≡ true
     by_row None row = refl

@@ -32,6 +32,7 @@ use Rattle.link_entries.specs.Fields.{struct_fields, row_fields}
 use Rattle.link_entries.specs.Payload.{passed, rewritten, pair_of, payload_of}
 use Rattle.link_entries.specs.Stored.{with_at, padded, sized, StoresAt, StoresPayload}
 use Rattle.link_entries.proofs.RowForms.{is_value, struct_value}
+use Rattle.link_entries.proofs.FlagBytes.{flag_few}
 use Rattle.link_entries.proofs.StoredBytes.{sized_ok}
 use Rattle.link_entries.proofs.WrittenLists.{same_these, if_held, only_held, content_ok, passed_held}
 use Rattle.link_entries.proofs.WrittenSizes.{exactly_size, size_back}
@@ -82,6 +83,7 @@ few_bytes fields.Empty e octets p held other h = omega (arith, ap length (same_t
 few_bytes (fields.Number form w most order) e octets p held other h =
     let own = (only_held (nat_le e.number most) BadNumber (bytes_by order (bytes_in w) e.number) p (content_ok (fields.Number form w most order) e octets p h)).1 in
     omega (arith, ap length own, length-bytes_by order (bytes_in w) e.number, few_in w)
+few_bytes fields.FlagOrBool e octets p held other h = let few = flag_few e.length e.number p (content_ok fields.FlagOrBool e octets p h) in omega (arith, few)
 few_bytes fields.Signed e octets p held other h = omega (arith, ap length (only_held _ BadNumber (bytes_of 4 e.number) p (content_ok fields.Signed e octets p h)).1, length-bytes_of 4 e.number)
 few_bytes (fields.Shorts form second_first) e octets p held other h =
     let own = (only_held _ BadNumber (pair_of second_first (bytes_of 2 e.number) (bytes_of 2 e.second)) p (content_ok (fields.Shorts form second_first) e octets p h)).1 in

@@ -13,7 +13,7 @@ use Rattle.nlroute_ffi.specs.declared.refusal.Refusal.{Refusal}
 use Rattle.nlroute_ffi.specs.Buffers.{StoresText}
 use Rattle.nlroute_ffi.specs.Names.{own_kind}
 use Rattle.nlroute_ffi.specs.Writing.{refusal_for}
-use Rattle.nlroute_ffi.specs.ValueText.{own_label, fields_for, Shows, IsContent, label_or_plain, LabelAnswers, TextAnswers}
+use Rattle.nlroute_ffi.specs.ValueText.{own_label, fields_for, payload_by, Shows, IsContent, label_or_plain, LabelAnswers, TextAnswers}
 
 -- what holds if a result is `Ok`, and it is
 pub on_ok : {T E P : Type 0} (r : Result T E) → IsOk r → OnOk r P → P
@@ -30,10 +30,12 @@ module _ (label : Option Label) (e : Entry) (octets : List ℕ) (own : Fields) (
       → LabelAnswers (Ok label) e octets old new (Ok n)
   text_answered old new s content told n same shows is stored = (content_text told content, (s, shown_by s shows, (content, is, ap (λ l. content_text l content) same)), stored)
 
-  -- or why it has none
+  -- or it has none
+  pub refused_by : (misfit : Misfit) → payload_of own (record e { kind = k }) octets ≡ Err misfit → payload_by (Ok label) e octets ≡ Err misfit
+  refused_by misfit none = subst (λ o. payload_of o (record e { kind = own_kind e }) octets ≡ Err misfit) fields (subst (λ j. payload_of own (record e { kind = j }) octets ≡ Err misfit) kind none)
+
   pub text_refused : (old new : List ℕ) (misfit : Misfit) (refusal : Refusal) → payload_of own (record e { kind = k }) octets ≡ Err misfit → refusal ≡ refusal_for misfit → LabelAnswers (Ok label) e octets old new (Err refusal)
-  text_refused old new misfit refusal none is =
-      (misfit, subst (λ o. payload_of o (record e { kind = own_kind e }) octets ≡ Err misfit) fields (subst (λ j. payload_of own (record e { kind = j }) octets ≡ Err misfit) kind none), is)
+  text_refused old new misfit refusal none is = (misfit, refused_by misfit none, is)
 
 -- by what is known of its type
 pub label_answered : (family : Family) (e : Entry) (octets old new : List ℕ) (label : Option Label) (result : Result ℕ Refusal) → own_label family e ≡ Ok label → LabelAnswers (Ok label) e octets old new result → TextAnswers e octets old new family result

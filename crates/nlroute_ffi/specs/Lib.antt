@@ -7,5 +7,6 @@ pub mod Names
 pub mod Lookup
 pub mod ErrorText
 pub mod ValueText
+pub mod StructFields
 pub mod Writing
 pub mod Shown

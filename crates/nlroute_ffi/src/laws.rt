@@ -1,6 +1,6 @@
 //! Theorems about texts. The functions have empty bodies; each states its theorem as its contract.
 
-ghost use Rattle.std.specs.Prelude.{◌≡◌, ◌≢◌, ◌<◌, ◌^◌, ℕ, Bool, List, ◌∷◌, length, Some, Result, Ok, Err};
+ghost use Rattle.std.specs.Prelude.{◌≡◌, ◌≢◌, ◌<◌, ◌^◌, ℕ, Bool, List, ◌∷◌, true, length, slice_get, Option, Some, Result, Ok, Err};
 ghost use Rattle.std.specs.Fmt.{decimal};
 ghost use Rattle.std.specs.List.{AllZip, AllByRecursion};
 ghost use Rattle.link_base.specs.declared.wire.buffer.NlaBuffer.{NlaBuffer};
@@ -11,6 +11,7 @@ ghost use Rattle.link_base.specs.declared.rows.form.Order.{Order};
 ghost use Rattle.link_base.specs.declared.rows.form.Role.TheVariants as roles;
 ghost use Rattle.link_base.specs.declared.names.vlan_protocol.VlanProtocol.{VlanProtocol};
 ghost use Rattle.link_base.specs.Borrowed.{elements_at};
+ghost use Rattle.link_base.specs.Fields.{FieldRow};
 ghost use Rattle.link_base.specs.Forms.{bytes_in};
 ghost use Rattle.link_base.specs.Number.{IsBytes, bound};
 ghost use Rattle.link_base.specs.Protocol.{protocol_number};
@@ -23,6 +24,8 @@ ghost use Rattle.netlink_packet_route.specs.declared.family.Family.{Family};
 ghost use Rattle.netlink_packet_route.specs.Family.{table_of};
 ghost use Rattle.link_entries.specs.declared.entry.Entry.{Entry};
 ghost use Rattle.link_entries.specs.declared.misfit.Misfit.{Misfit};
+ghost use Rattle.link_entries.specs.Fields.{row_fields};
+ghost use Rattle.link_entries.specs.Payload.{form_in};
 ghost use Rattle.link_entries.specs.Spelled.{spelled_by};
 ghost use Rattle.link_entries.specs.Flat.{Flat, IsElement, number_entry, address_entry};
 ghost use Rattle.netlink_packet_route.specs.declared.link.DecodeFault.{DecodeFault};
@@ -31,7 +34,9 @@ ghost use Rattle.nlroute_ffi.specs.Numbers.{fault_numbers};
 ghost use Rattle.nlroute_ffi.specs.Error.{error_numbers, ErrorAnswers};
 ghost use Rattle.nlroute_ffi.specs.ErrorText.{IsListFault, FaultOccurs, fault_of, ErrorTextAnswers};
 ghost use Rattle.nlroute_ffi.specs.Names.{label_for, number_name, bit_names_by, flag_name};
-ghost use Rattle.nlroute_ffi.specs.ValueText.{IsEntryText, TextAnswers};
+ghost use Rattle.nlroute_ffi.specs.Timing.{shown_fields};
+ghost use Rattle.nlroute_ffi.specs.ValueText.{own_label, entry_payload, IsEntryText, TextAnswers};
+ghost use Rattle.nlroute_ffi.specs.StructFields.{field_form, is_named, NameFields};
 ghost use Rattle.nlroute_ffi.specs.Writing.{refusal_for};
 ghost use Rattle.nlroute_ffi.specs.Shown.{IsAt, IsTextOf, HeadHasText, HasText, HeadIsTold, IsWithName, IsByName};
 
@@ -118,4 +123,19 @@ pub fn texts_and_writing()
     ensures refused { (family : Family) (octets old new : List ℕ) (e : Entry) (es : List Entry) (refusal : Refusal)
         → e.depth ≡ 0 → TextAnswers e octets old new family (Err refusal)
         → (misfit : Misfit) × (spelled_by (table_of family) octets (e ∷ es) ≡ Err (0, misfit)) × (refusal ≡ refusal_for misfit) }
+{}
+
+/// States that each field of a struct has the form of an attribute whose values have the field's form, and a name that is not
+/// cut.
+pub fn rows_of_fields()
+    ensures { (family : Family) (e : Entry) (label : Option Label) (i : ℕ) (f : FieldRow) → own_label family e ≡ Ok label
+        → slice_get (shown_fields label) i ≡ Some f → (field_form f.form ≡ form_in (row_fields f.form)) × (length f.name < 32) }
+{}
+
+/// States that the text of a struct names the fields that `nlroute_field` stores, in their order, each with what its bytes
+/// hold; but for the ID of a bridge, whose text has no names.
+pub fn fields_in_texts()
+    ensures { (family : Family) (e : Entry) (octets words : List ℕ) (label : Label) (i : ℕ) (f : FieldRow) → length e.octets ≡ 16
+        → own_label family e ≡ Ok (Some label) → is_named label.form ≡ true → slice_get label.fields i ≡ Some f
+        → IsEntryText family e octets words → NameFields label (entry_payload family e octets) words }
 {}

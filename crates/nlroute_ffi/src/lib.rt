@@ -1,7 +1,7 @@
 //! The C API: parses, prints, writes and re-encodes lists of link attributes, and looks up what is known of their types.
 //! `include/nlroute.h` declares the functions.
 //!
-//! A `Family` is passed as its number, from 0 to 9 in the order of [`Family`](netlink_packet_route::Family). A slice is
+//! A `Family` is passed as its number, from 0 to 10 in the order of [`Family`](netlink_packet_route::Family). A slice is
 //! two arguments in C: a pointer, and the number of elements it points to. The allocator is not an argument in C; a
 //! function without it does not allocate.
 //!
@@ -24,6 +24,7 @@ mod lookup;
 mod names;
 mod refusal;
 mod report;
+mod struct_fields;
 #[cfg(test)]
 mod tests;
 mod timing;
@@ -43,6 +44,7 @@ ghost use Rattle.nlroute_ffi.specs.Names.{version, KindNameAnswers, NumberNameAn
 ghost use Rattle.nlroute_ffi.specs.Lookup.{FamilyNameAnswers, FamilyOfAnswers, KindOfAnswers, KindOfInAnswers};
 ghost use Rattle.nlroute_ffi.specs.Lookup.{RowAnswers, NumberOfAnswers, CodeTextAnswers};
 ghost use Rattle.nlroute_ffi.specs.ValueText.{TextAnswers};
+ghost use Rattle.nlroute_ffi.specs.StructFields.{FieldAnswers};
 ghost use Rattle.nlroute_ffi.specs.ErrorText.{ErrorTextAnswers};
 ghost use Rattle.nlroute_ffi.specs.Writing.{WriteAnswers, MeasureAnswers};
 
@@ -54,6 +56,7 @@ use crate::lookup::{family_of, kind_of, number_of, store_family_name, store_row}
 use crate::names::{store_flag_name, store_kind_name, store_number_name};
 use crate::refusal::{Refusal, answer_of, store_code_text};
 use crate::report::report_into;
+use crate::struct_fields::{StructField, store_field};
 use crate::timing::{BitTiming, TimingLimits, bit_timing, timing_limits};
 use crate::value_text::store_value_text;
 use crate::values::{count_places, find_element, find_value, store_values};
@@ -236,6 +239,27 @@ pub extern "C" fn nlroute_can_bittiming_const(
     ensures unchanged { result <ℤ pos 0 → limits.new ≡ limits.old }
 {
     answer_of(timing_limits(value, octets, limits))
+}
+
+/// Stores the field with this index, of the struct that `value` spells, in `field`, and returns 0: of the attribute or the
+/// element that `nlroute_write` writes for the value. `octets` has the bytes that it refers to; the form 0 stands for that of
+/// the attribute type.
+///
+/// # Errors
+///
+/// As for `nlroute_text`. Then -6 if the attribute type has no struct, or the struct fewer fields.
+#[unsafe(no_mangle)]
+pub extern "C" fn nlroute_field(
+    family: u32,
+    value: &Entry,
+    index: usize,
+    octets: &[u8],
+    field: &mut StructField,
+) -> isize
+    ensures answer { AnswersBy family (FieldAnswers value.now index octets.now field.new) result }
+    ensures unchanged { result <ℤ pos 0 → field.new ≡ field.old }
+{
+    answer_by!(family, store_field(family, value, index, octets, field))
 }
 
 /// Writes the list that `values` spell to the start of `out`; a value may refer to bytes in `octets`. Returns `n`, the

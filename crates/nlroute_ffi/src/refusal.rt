@@ -101,7 +101,7 @@ fn refusal_words(refusal: Refusal) -> &'static str
         Refusal::Memory => "an allocation failed",
         Refusal::NoRoom => "the buffer is too small",
         Refusal::NoFamily => "no attribute set has this number",
-        Refusal::Absent => "there is no such attribute, element, name or error",
+        Refusal::Absent => "there is no such attribute, element, field, name or error",
         Refusal::BadForm => "the value has another form",
         Refusal::BadNumber => "the attribute cannot hold the number",
         Refusal::BadElement => "an element does not follow its list",

@@ -1,6 +1,7 @@
 //! Tests of what no contract covers: that allocations succeed, and each result for inputs that were computed by hand.
 
 mod asking;
+mod fields;
 mod writing;
 
 use crate::fault::FirstError;

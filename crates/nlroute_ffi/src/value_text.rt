@@ -79,7 +79,7 @@ pub(crate) fn store_value_text(
 /// # Errors
 ///
 /// `BadElement` if the value is an element, and its attribute type has none; or if its depth is greater than 1.
-fn own_label(family: Family, value: &Entry) -> Result<Option<KindLabel>, Misfit>
+pub(crate) fn own_label(family: Family, value: &Entry) -> Result<Option<KindLabel>, Misfit>
     ensures { MatchResult result (λ label. own_label family value.now ≡ Ok (label_in label))
         (λ misfit. own_label family value.now ≡ Err misfit) }
 {
@@ -190,7 +190,7 @@ fn label_or_plain(label: Option<KindLabel>) -> KindLabel
 }
 
 /// Returns which fields of an entry make the payload of an attribute whose type has this label.
-fn fields_of(label: Option<KindLabel>) -> Fields
+pub(crate) fn fields_of(label: Option<KindLabel>) -> Fields
     ensures value { result ≡ fields_for (label_in label) }
     ensures narrow { IsNarrow result }
 {
@@ -206,7 +206,7 @@ fn fields_of(label: Option<KindLabel>) -> Fields
 /// # Errors
 ///
 /// Those of `put_payload`.
-fn payload_in<'a>(
+pub(crate) fn payload_in<'a>(
     fields: Fields,
     of_kind: u16,
     entry: Entry,

@@ -25,17 +25,13 @@ IsFit n j = IsSound (Unit {0}) n j
 
 -- ---- instants
 
-instant_fit : {d : ℕ} (utc : List ℕ) (second nanosecond : ℕ) → second < 2 ^ 64 → nanosecond < 2 ^ 64 → IsFit (suc d) (instant_json utc second nanosecond)
-instant_fit utc second nanosecond h g =
+instant_fit : {d : ℕ} (utc : List ℕ) (second nanosecond : ℕ) → IsFit (suc d) (instant_json utc second nanosecond)
+instant_fit utc second nanosecond =
     let fields : List Field = (codes "utc", string utc) ∷ (codes "sec", number_json second) ∷ (codes "nsec", number_json nanosecond) ∷ [] in
-    object_sound fields refl (field_sound (string_sound utc) (field_sound (number_sound second (λ k. h)) (field_sound (number_sound nanosecond (λ k. g)) no_fields)))
-
-most : (n : ℕ) → HasText (pos n) → n ≤ 253_402_207_200_999_999_999
-most n h = omega (arith, ints, h.1)
+    object_sound fields refl (field_sound (string_sound utc) (field_sound (number_sound second) (field_sound (number_sound nanosecond) no_fields)))
 
 clock_fit : {d : ℕ} (time : Time) (clock : Json) → ShowsClock time clock → IsFit (suc d) clock
-clock_fit {d} time clock (InRange n is has utc text e) =
-    subst (IsFit (suc d)) (sym e) (instant_fit utc (n / 1_000_000_000) (n % 1_000_000_000) (omega (arith, most n (subst HasText is has))) (omega arith))
+clock_fit {d} time clock (InRange n is has utc text e) = subst (IsFit (suc d)) (sym e) (instant_fit utc (n / 1_000_000_000) (n % 1_000_000_000))
 clock_fit {d} time clock (OutOfRange none e) = subst (IsFit (suc d)) (sym e) null_sound
 
 -- ---- protocols
@@ -45,28 +41,14 @@ byte_below [] i h = omega arith
 byte_below (b ∷ bytes) zero h = h.0
 byte_below (b ∷ bytes) (suc i) h = byte_below bytes i h.1
 
--- two bytes
-protocol_below : (bytes : List ℕ) → IsBytes bytes → protocol_of bytes < 2 ^ 16
-protocol_below bytes h =
-    let rest = drop 14 bytes in
-    let are = bytes-drop 14 bytes h in
-    omega (arith, byte_below rest 0 are, byte_below rest 1 are)
-
-named_fit : {d : ℕ} (n : ℕ) → n < 2 ^ 64 → IsFit (suc d) (protocol_json (Some n))
-named_fit n h = named_sound n (name_in protocols n) (λ k. h)
-
-either_protocol : {d : ℕ} (is short : Bool) (n : ℕ) → n < 2 ^ 64 → IsFit (suc d) (protocol_json (if is then (if short then None else Some n) else None))
-either_protocol false short n h = null_sound
-either_protocol true true n h = null_sound
-either_protocol true false n h = named_fit n h
-
-protocol_fit : {d : ℕ} (p : Captured) → IsBytes p.bytes → IsFit (suc d) (protocol_json (protocol_in p))
-protocol_fit p h = either_protocol (p.link_type == netlink) (nat_lt (length p.bytes) 16) (protocol_of p.bytes) (omega (arith, protocol_below p.bytes h))
+protocol_fit : {d : ℕ} (protocol : Option ℕ) → IsFit (suc d) (protocol_json protocol)
+protocol_fit None = null_sound
+protocol_fit (Some n) = named_sound n (name_in protocols n)
 
 -- ---- packets
 
-packet_fit : {d : ℕ} (number : ℕ) (clock : Json) (p : Captured) → number < 2 ^ 64 → IsFit (suc d) clock → IsCaptured p → IsFit (suc (suc d)) (packet_json number clock p)
-packet_fit number clock p h c is =
+packet_fit : {d : ℕ} (number : ℕ) (clock : Json) (p : Captured) → IsFit (suc d) clock → IsFit (suc (suc d)) (packet_json number clock p)
+packet_fit number clock p c =
     let fields : List Field =
     (codes "number", number_json number) ∷
     (codes "time", clock) ∷
@@ -75,12 +57,9 @@ packet_fit number clock p h c is =
     (codes "link_type", number_json p.link_type) ∷
     (codes "protocol", protocol_json (protocol_in p)) ∷ [] in
     object_sound fields refl
-    (field_sound (number_sound number (λ k. h))
+    (field_sound (number_sound number)
     (field_sound c
-    (field_sound (number_sound (length p.bytes) (λ k. is.length))
-    (field_sound (number_sound p.original (λ k. omega (arith, is.original)))
-    (field_sound (number_sound p.link_type (λ k. omega (arith, is.link_type)))
-    (field_sound (protocol_fit p is.bytes) no_fields))))))
+    (field_sound (number_sound (length p.bytes)) (field_sound (number_sound p.original) (field_sound (number_sound p.link_type) (field_sound (protocol_fit (protocol_in p)) no_fields))))))
 
 -- ---- places
 
@@ -89,8 +68,8 @@ file_place None = place [] refl no_fields
 file_place (Some name) = place (file_fields (Some name)) refl (field_sound (string_sound name) no_fields)
 
 pub line_place : (file : Option (List ℕ)) (n : ℕ) → n < 2 ^ 64 → IsPlace (line_fields file n)
-line_place None n h = place (line_fields None n) refl (field_sound (number_sound n (λ k. h)) no_fields)
-line_place (Some name) n h = place (line_fields (Some name) n) refl (field_sound (string_sound name) (field_sound (number_sound n (λ k. h)) no_fields))
+line_place None n h = place (line_fields None n) refl (field_sound (number_sound n) no_fields)
+line_place (Some name) n h = place (line_fields (Some name) n) refl (field_sound (string_sound name) (field_sound (number_sound n) no_fields))
 
 pub time_place : (file : Option (List ℕ)) (time : Time) (clock : Json) → ShowsClock time clock → IsPlace (time_fields file clock)
 time_place None time clock shown = place (time_fields None clock) refl (field_sound (clock_fit time clock shown) no_fields)
@@ -101,4 +80,4 @@ packet_place_of None number clock p h = place (packet_fields None number clock p
 packet_place_of (Some name) number clock p h = place (packet_fields (Some name) number clock p) refl (field_sound (string_sound name) (field_sound h no_fields))
 
 pub packet_place : (file : Option (List ℕ)) (number : ℕ) (clock : Json) (p : Captured) → number < 2 ^ 64 → IsCaptured p → ShowsClock p.time clock → IsPlace (packet_fields file number clock p)
-packet_place file number clock p h is shown = packet_place_of file number clock p (packet_fit number clock p h (clock_fit p.time clock shown) is)
+packet_place file number clock p h is shown = packet_place_of file number clock p (packet_fit number clock p (clock_fit p.time clock shown))

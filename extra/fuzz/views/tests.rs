@@ -6,5 +6,5 @@ use crate::fuzz_views;
 fn calls(rt: HostRuntime) {
     // IFLA_DSA_CONDUIT 42
     assert!(rt; fuzz_views(rt.alloc(), 7, &[8, 0, 1, 0, 42, 0, 0, 0]) == 0);
-    assert!(rt; fuzz_views(rt.alloc(), 10, &[]) == -5);
+    assert!(rt; fuzz_views(rt.alloc(), 99, &[]) == -5);
 }

@@ -11,9 +11,9 @@ use netlink_packet_route::link::{
     CanBerrCounter, CanBitTiming, CanBitTimingConst, CanClock, CanCtrlMode, CanCtrlModeExt,
     CanCtrlModeFlags, CanTdc, Cause, ChurnState, DecodeError, DecodeFault, DefaultNla, FrameTable,
     HsrProtocol, InfoBond, InfoBondPort, InfoBridge, InfoBridgePort, InfoCan, InfoDsa, InfoHsr,
-    InfoVlan, LacpState, LinkProtoInfoBridge, ListError, MiiStatus, NlaBuffer, NlasIterator,
-    TryClone, VecAfSpecBridge, VecLinkProtoInfoBridge, VlanFlags, VlanProtocol, VlanQosMapping,
-    WriteError,
+    InfoVlan, InfoVxlan, LacpState, LinkProtoInfoBridge, ListError, MiiStatus, NlaBuffer,
+    NlasIterator, TryClone, VecAfSpecBridge, VecLinkProtoInfoBridge, VlanFlags, VlanProtocol,
+    VlanQosMapping, VxlanHeader, VxlanPortRange, WriteError,
 };
 use netlink_packet_route::{Family, RewriteError};
 use std::alloc::AllocError;
@@ -194,6 +194,28 @@ fn hsr(value: &InfoHsr) {
     }
 }
 
+fn vxlan(value: &InfoVxlan) {
+    match value {
+        InfoVxlan::Id(it) | InfoVxlan::Link(it) | InfoVxlan::Ageing(it) => is::<u32>(it),
+        InfoVxlan::Limit(it) | InfoVxlan::Label(it) | InfoVxlan::LabelPolicy(it) => is::<u32>(it),
+        InfoVxlan::Group(it) | InfoVxlan::Local(it) => is::<Ipv4Addr>(it),
+        InfoVxlan::Group6(it) | InfoVxlan::Local6(it) => is::<Ipv6Addr>(it),
+        InfoVxlan::Ttl(it) | InfoVxlan::Tos(it) | InfoVxlan::Df(it) => is::<u8>(it),
+        InfoVxlan::Port(it) => is::<u16>(it),
+        InfoVxlan::PortRange(it) => is::<VxlanPortRange>(it),
+        InfoVxlan::ReservedBits(it) => is::<VxlanHeader>(it),
+        InfoVxlan::Learning(it) | InfoVxlan::Proxy(it) | InfoVxlan::Rsc(it) => is::<bool>(it),
+        InfoVxlan::L2Miss(it) | InfoVxlan::L3Miss(it) | InfoVxlan::UdpCsum(it) => is::<bool>(it),
+        InfoVxlan::UdpZeroCsum6Tx(it) | InfoVxlan::UdpZeroCsum6Rx(it) => is::<bool>(it),
+        InfoVxlan::RemCsumTx(it) | InfoVxlan::RemCsumRx(it) => is::<bool>(it),
+        InfoVxlan::CollectMetadata(it) | InfoVxlan::VniFilter(it) => is::<bool>(it),
+        InfoVxlan::LocalBypass(it) | InfoVxlan::McRoute(it) => is::<bool>(it),
+        InfoVxlan::TtlInherit(it) => is::<Option<bool>>(it),
+        InfoVxlan::Gbp | InfoVxlan::RemCsumNoPartial | InfoVxlan::Gpe => {}
+        InfoVxlan::Other(it) => is::<DefaultNla>(it),
+    }
+}
+
 fn proto_bridge(value: &LinkProtoInfoBridge) {
     match value {
         LinkProtoInfoBridge::NeighForwardGrat(it) => is::<bool>(it),
@@ -275,6 +297,16 @@ fn can_structs(mode: &CanCtrlMode, clock: &CanClock, counter: &CanBerrCounter) {
     is::<u32>(freq);
     let CanBerrCounter { txerr, rxerr } = counter;
     is::<[&u16; 2]>(&[txerr, rxerr]);
+}
+
+fn port_range(range: &VxlanPortRange) {
+    let VxlanPortRange { low, high } = range;
+    is::<[&u16; 2]>(&[low, high]);
+}
+
+fn header(bits: &VxlanHeader) {
+    let VxlanHeader { vx_flags, vx_vni } = bits;
+    is::<[&u32; 2]>(&[vx_flags, vx_vni]);
 }
 
 fn bit_timing(timing: &CanBitTiming) {
@@ -445,6 +477,8 @@ fn traits() {
     is_cloned::<CanCtrlMode>();
     is_cloned::<CanClock>();
     is_cloned::<CanBerrCounter>();
+    is_copied::<VxlanPortRange>();
+    is_copied::<VxlanHeader>();
     is_compared::<CanBitTimingConst>();
     is_compared::<VecAfSpecBridge>();
     is_compared::<VecLinkProtoInfoBridge>();
@@ -470,6 +504,7 @@ fn attributes() {
     is_attribute::<InfoDsa>();
     is_attribute::<InfoHsr>();
     is_attribute::<LinkProtoInfoBridge>();
+    is_attribute::<InfoVxlan>();
     is_attribute::<BridgeVlanTunnelInfo>();
     is_attribute::<BondAdInfo>();
     is_attribute::<BridgeQuerierState>();
@@ -601,7 +636,7 @@ fn families(family: Family) {
     match family {
         Family::AfSpecBridge | Family::Bond | Family::BondPort | Family::Bridge => {}
         Family::BridgePort | Family::Vlan | Family::Can | Family::Dsa => {}
-        Family::Hsr | Family::ProtoBridge => {}
+        Family::Hsr | Family::ProtoBridge | Family::Vxlan => {}
     }
 }
 

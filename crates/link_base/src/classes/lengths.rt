@@ -16,6 +16,8 @@ pub enum Lengths {
     AtLeast(usize),
     /// Exactly this many. Fewer are `TooShort`, and more a `WrongLength`.
     Fixed(usize),
+    /// At most this many; more are a `WrongLength`. No struct has these.
+    AtMost(usize),
 }
 
 impl Lengths {
@@ -30,6 +32,7 @@ impl Lengths {
             Lengths::Exactly(size) => size,
             Lengths::AtLeast(size) => size,
             Lengths::Fixed(size) => size,
+            Lengths::AtMost(_) => 0,
         }
     }
 
@@ -57,6 +60,13 @@ impl Lengths {
                 if got < want {
                     Some(Cause::TooShort { want, got })
                 } else if want < got {
+                    Some(Cause::WrongLength { want, got })
+                } else {
+                    None
+                }
+            }
+            Lengths::AtMost(want) => {
+                if want < got {
                     Some(Cause::WrongLength { want, got })
                 } else {
                     None

@@ -1,11 +1,12 @@
 //! Lists as payloads: bytes, arrays of numbers, lists of IP addresses, and nested lists.
 
-ghost use Rattle.std.specs.Prelude.{refl, map};
+ghost use Rattle.std.specs.Prelude.{map};
 ghost use Rattle.link_base.specs.Class.{Bytes, Many, Raw};
 ghost use Rattle.link_base.specs.Forms.{bytes_in};
 ghost use Rattle.link_base.specs.Layout.{octets_by};
 ghost use Rattle.link_base.specs.Table.{One, Single, Addresses, Listed, Nested, Inner};
 ghost use Rattle.link_base.specs.declared.rows.form.Form.TheVariants as forms;
+ghost use Rattle.link_base.specs.declared.rows.form.Look.TheVariants as looks;
 
 use crate::classes::address_list::{Address, addresses_len, emit_addresses, read_addresses};
 use crate::classes::lengths::{Lengths, check_numbers};
@@ -16,7 +17,7 @@ use crate::lists::canonical::{are_numbers, is_address_list, is_bytes, is_nested}
 use crate::lists::checking::{check_elements, check_nested};
 use crate::rows::default_nla::DefaultNla;
 use crate::rows::fields::Field;
-use crate::rows::form::Form;
+use crate::rows::form::{Form, Look};
 use crate::rows::label::Name;
 use crate::rows::nested::{NestedAttribute, emit_nested, nested_len, read_nested};
 use crate::rows::try_clone::{TryClone, try_clone_list};
@@ -30,9 +31,9 @@ impl PayloadClass for Vec<u8> {
 
     type Element = DefaultNla;
 
-    const FORM: Form = Form::Bytes;
+    const FORM: Form = Form::Bytes(Look::Address);
 
-    ghost FORM = { forms.Bytes };
+    ghost FORM = { forms.Bytes looks.Address };
 
     ghost shape = { One Bytes };
 

@@ -4,12 +4,12 @@
 //! leave the rest unchanged. Numbers are little-endian unless their comment says big-endian. The types `NL_ATTR_TYPE_*`
 //! are those of `include/uapi/linux/netlink.h`.
 
-ghost use Rattle.std.specs.Prelude.{◌≡◌, ◌≤◌, ◌<◌, ◌∷◌, [], length, reverse, slice_index, nat_lt, IfOk};
+ghost use Rattle.std.specs.Prelude.{◌≡◌, ◌≤◌, ◌<◌, ◌∷◌, [], length, reverse};
 ghost use Rattle.std.specs.Int.{w32, cast_unsigned};
 ghost use Rattle.link_base.specs.declared.wire.fault.Cause.TheVariants.{WrongLength};
 ghost use Rattle.link_base.specs.Number.{number, bytes_of};
 ghost use Rattle.link_base.specs.Class.{accepted, integer, Exactly};
-ghost use Rattle.link_base.specs.Layout.{number_at, octets_of};
+ghost use Rattle.link_base.specs.Layout.{octets_of};
 ghost use Rattle.link_base.specs.IpAddress.{IsAddress};
 ghost use Rattle.link_base.specs.Held.{IsOctets};
 ghost use Rattle.link_base.specs.Answers.{payload_result, refused, OverwritesFront};

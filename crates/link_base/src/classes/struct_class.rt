@@ -60,7 +60,7 @@ pub trait PayloadStruct: Copy + Eq + Drop {
         requires { total classes ≤ length bytes.now }
         ensures { held result ≡ values_along classes bytes.now };
 
-    /// The written fields have as many bytes as their classes say. The contract is the fact.
+    /// States that the written fields have as many bytes as their classes say. Nothing is done.
     fn sized(&self)
         ensures { length (packed (held self.now)) ≡ total classes };
 

@@ -7,7 +7,7 @@ ghost use Rattle.std.specs.Prelude.{◌≡◌, ◌≢◌, ◌↔◌, ◌⊎◌, 
 ghost use Rattle.std.specs.Prelude.{IsTrue, MatchOption, EachIndex, true};
 ghost use Rattle.link_base.specs.Wire.{SplitsWhole};
 ghost use Rattle.link_base.specs.Name.{IsCutText, IsNameField};
-ghost use Rattle.link_base.specs.Class.{Bytes, Many, Limits};
+ghost use Rattle.link_base.specs.Class.{Bytes, Many, Limits, Optional};
 ghost use Rattle.link_base.specs.Payloads.{class_by, is_fixed};
 ghost use Rattle.link_base.specs.Table.{One, Nested, Addresses, AreAddresses, nested_flag};
 ghost use Rattle.link_base.specs.Table.{Canonical, FirstNotCanonical};
@@ -111,6 +111,14 @@ pub fn is_fixed(buffer: &NlaBuffer<'_>, form: Form) -> bool
             Form::Nothing => payload.is_empty(),
             _ => payload.len() == form.lengths().kept(),
         }
+}
+
+/// Checks whether an attribute is canonical as a flag: no byte, 0 or 1.
+#[inline]
+pub(crate) fn is_flag_or_bool(buffer: &NlaBuffer<'_>) -> bool
+    ensures { IsTrue result ↔ IsCanonicalAs (One Optional) buffer.now }
+{
+    has_no_flag(buffer) && matches!(buffer.value(), [] | [0 | 1])
 }
 
 /// Checks whether an attribute is canonical as bytes, of any length.

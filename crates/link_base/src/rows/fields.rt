@@ -67,11 +67,17 @@ macro_rules! field_form {
     (u32_coded) => {
         $crate::number_form!(Four Little Coded)
     };
+    (u8_flags) => {
+        $crate::number_form!(One Little Flags)
+    };
     (u16_flags) => {
         $crate::number_form!(Two Little Flags)
     };
     (u32_flags) => {
         $crate::number_form!(Four Little Flags)
+    };
+    (u16_be_flags) => {
+        $crate::number_form!(Two Big Flags)
     };
     (i32) => {
         $crate::rows::form::Form::Signed

@@ -71,6 +71,15 @@ pub enum Role {
     Flags,
 }
 
+/// What bytes of any length are shown as.
+#[derive(Clone, Copy, Debug, PartialEq, Eq)]
+pub enum Look {
+    /// An address: bytes in hexadecimal.
+    Address,
+    /// A text, without the NUL at its end, if there is one. It may not be UTF-8.
+    Text,
+}
+
 /// A fixed-layout struct of the kernel's headers: which it is, if it has a form of its own in C.
 #[derive(Clone, Copy, Debug, PartialEq, Eq)]
 pub enum Layout {
@@ -119,6 +128,8 @@ pub enum Form {
     Nothing,
     /// A boolean.
     Bool,
+    /// A flag, which is set by being there: no byte, or a boolean.
+    FlagOrBool,
     /// An unsigned number, an enum or a set of flags.
     Number {
         width: Width,
@@ -142,7 +153,7 @@ pub enum Form {
     /// An IPv6 address.
     Ipv6,
     /// Bytes.
-    Bytes,
+    Bytes(Look),
     /// A fixed-layout struct.
     Struct(Layout),
     /// An array of little-endian unsigned numbers of this width, which is not `One`.

@@ -3,7 +3,7 @@
 ghost use Rattle.std.specs.Prelude.{◌≡◌};
 
 use crate::names::vlan_protocol::VlanProtocol;
-use crate::rows::form::{Form, Layout, Order, Role, Width};
+use crate::rows::form::{Form, Layout, Look, Order, Role, Width};
 use crate::rows::label::KindLabel;
 use std::net::{Ipv4Addr, Ipv6Addr};
 
@@ -14,6 +14,8 @@ pub enum Content<'a> {
     Nothing,
     /// A boolean: true if the byte is not zero.
     Bool(bool),
+    /// A flag: `None` without a byte, which sets it; otherwise whether the byte is not zero. `flag_is_on` joins the two.
+    FlagOrBool(Option<bool>),
     /// An unsigned number, an enum or a set of flags, by its number.
     Number {
         number: u64,
@@ -40,8 +42,11 @@ pub enum Content<'a> {
     Ipv4(Ipv4Addr),
     /// An IPv6 address.
     Ipv6(Ipv6Addr),
-    /// Bytes.
-    Bytes(&'a [u8]),
+    /// Bytes of any length.
+    Bytes {
+        look: Look,
+        bytes: &'a [u8],
+    },
     /// The bytes of a fixed-layout struct, without additional bytes of the payload.
     Struct {
         layout: Layout,
@@ -92,6 +97,7 @@ impl<'a> Content<'a> {
         Some(match *self {
             Content::Nothing => Form::Nothing,
             Content::Bool(_) => Form::Bool,
+            Content::FlagOrBool(_) => Form::FlagOrBool,
             Content::Number {
                 width,
                 order,
@@ -106,7 +112,7 @@ impl<'a> Content<'a> {
             Content::Mac(_) => Form::Mac,
             Content::Ipv4(_) => Form::Ipv4,
             Content::Ipv6(_) => Form::Ipv6,
-            Content::Bytes(_) => Form::Bytes,
+            Content::Bytes { look, .. } => Form::Bytes(look),
             Content::Struct { layout, .. } => Form::Struct(layout),
             Content::Numbers { width, .. } => Form::Numbers(width),
             Content::Limits { .. } => Form::Limits,

@@ -10,6 +10,7 @@ ghost use Rattle.link_base.specs.Orders.{bytes_by, number_by};
 
 use crate::classes::address_list::Address;
 use crate::classes::fixed_size::FixedSize;
+use crate::classes::flag_or_bool::flag_in;
 use crate::classes::records::{before_nul, u32_at};
 use crate::classes::word::Word;
 use crate::names::vlan_protocol::VlanProtocol;
@@ -29,6 +30,7 @@ pub fn content_by<'a>(form: Form, payload: &'a [u8]) -> Content<'a>
     match form {
         Form::Nothing => Content::Nothing,
         Form::Bool => Content::Bool(payload[0] != 0),
+        Form::FlagOrBool => Content::FlagOrBool(flag_in(payload)),
         Form::Number { width, order, role } => Content::Number {
             number: number_in(width, order, payload),
             width,
@@ -46,7 +48,10 @@ pub fn content_by<'a>(form: Form, payload: &'a [u8]) -> Content<'a>
         Form::Mac => Content::Mac(<[u8; 6]>::load(payload)),
         Form::Ipv4 => Content::Ipv4(Ipv4Addr::load(payload)),
         Form::Ipv6 => Content::Ipv6(Ipv6Addr::load(payload)),
-        Form::Bytes => Content::Bytes(payload),
+        Form::Bytes(look) => Content::Bytes {
+            look,
+            bytes: payload,
+        },
         Form::Struct(layout) => Content::Struct {
             layout,
             bytes: &payload[..layout.lengths().kept()],

@@ -1,6 +1,6 @@
 //! The offsets of all attributes of a list, found before any attribute is decoded.
 
-ghost use Rattle.std.specs.Prelude.{◌≡◌, ◌+◌, ◌/◌, ◌<◌, ◌≤◌, IfOk, OnOk, OnErr, IsTrue, [], ◌↔◌, None, length, slice_index_or, vec_len, vec_capacity};
+ghost use Rattle.std.specs.Prelude.{◌≡◌, ◌+◌, ◌/◌, ◌<◌, IfOk, OnOk, OnErr, IsTrue, [], ◌↔◌, None, length, slice_index_or, vec_len, vec_capacity};
 ghost use Rattle.link_base.specs.Frame.{frame_fault};
 ghost use Rattle.link_base.specs.FrameOffsets.{BeginFrames, FindsBefore, Finds};
 

@@ -34,6 +34,7 @@ fn attributes(rt: HostRuntime) {
             ("dsa", None),
             ("hsr", None),
             ("proto_bridge", None),
+            ("vxlan", None),
             ("dsa 08000100 2a000000", None),
             // a flag too many, padding that is not zero, and none
             ("dsa 08000140 2a000000", Some(0)),

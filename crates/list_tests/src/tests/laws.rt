@@ -118,3 +118,9 @@ fn laws_of_bridges() {
     link_bridge::laws::equality_of_values();
     link_bridge::laws::equality_of_lists();
 }
+
+#[test]
+fn laws_of_tunnels() {
+    link_tunnels::laws::network_byte_order();
+    link_tunnels::laws::equality_of_values();
+}

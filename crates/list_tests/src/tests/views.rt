@@ -43,7 +43,7 @@ fn attributes(rt: HostRuntime) {
         "bond 05000600 02000000 > IFLA_BOND_USE_CARRIER Number Bool(true)",
         "bond 0c000800 08000000 0a000001 > IFLA_BOND_ARP_IP_TARGET Number Addresses { list: [8, 0, 0, 0, 10, 0, 0, 1], size: 4 }",
         "bond 08001300 01000000 > IFLA_BOND_LP_INTERVAL Seconds Number { number: 1, width: Four, order: Little, role: Plain }",
-        "bond_port 06000400 02010000 > IFLA_BOND_SLAVE_PERM_HWADDR Number Bytes([2, 1])",
+        "bond_port 06000400 02010000 > IFLA_BOND_SLAVE_PERM_HWADDR Number Bytes { look: Address, bytes: [2, 1] }",
         "bond_port 05000700 3d000000 > IFLA_BOND_SLAVE_AD_ACTOR_OPER_PORT_STATE Number Number { number: 61, width: One, order: Little, role: Flags }",
         "bond_port 06000800 3f010000 > IFLA_BOND_SLAVE_AD_PARTNER_OPER_PORT_STATE Number LowFlags(63)",
         "bond_port 08000900 ffffffff > IFLA_BOND_SLAVE_PRIO Number Signed(-1)",
@@ -67,6 +67,7 @@ fn attributes(rt: HostRuntime) {
         "hsr 05000700 01000000 > IFLA_HSR_PROTOCOL Number Number { number: 1, width: One, order: Little, role: Enum }",
         "proto_bridge 05000100 03000000 > Other([3])",
         "proto_bridge 05002d00 01000000 > IFLA_BRPORT_NEIGH_FORWARD_GRAT Number Bool(true)",
+        "vxlan 04001c00 > IFLA_VXLAN_TTL_INHERIT Number FlagOrBool(None)",
     ] {
         let (line, wanted) = row.split_once(" > ").unwrap_or((row, ""));
         let (family, list) = list_of(&rt, rt.alloc(), line);

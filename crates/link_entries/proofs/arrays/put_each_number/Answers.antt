@@ -1,7 +1,7 @@
 use Rattle.std.proofs.Common.{◌≡◌, refl, ap, ◌∙◌, arith}
 use Rattle.link_base.specs.Forms.{bytes_in}
 use Rattle.link_entries.specs.Entry.{placed}
-use Rattle.link_entries.proofs.ArrayNumbers.{front, front_stored, front_all}
+use Rattle.link_entries.proofs.ElementEntries.{front, front_stored, front_all}
 use Rattle.link_entries.proofs.arrays.put_each_number.Goals as goal
 
 pub loop-i-preserved : goal.loop-i-preserved

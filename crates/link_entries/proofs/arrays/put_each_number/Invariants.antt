@@ -1,7 +1,7 @@
 use Rattle.std.proofs.Common.{◌≡◌}
 use Rattle.link_base.specs.Forms.{bytes_in}
 use Rattle.link_entries.specs.Entry.{placed}
-use Rattle.link_entries.proofs.ArrayNumbers.{front}
+use Rattle.link_entries.proofs.ElementEntries.{front}
 use Rattle.link_entries.proofs.arrays.put_each_number.Given as goal
 
 abbrev pub invariant-loop-i : goal.invariant-loop-i

@@ -1,7 +1,7 @@
 use Rattle.std.proofs.Common.{◌≡◌, ◌+◌, ◌-◌, length, ap, arith}
 use Rattle.link_base.specs.Viewed.{bytes_in}
 use Rattle.link_base.proofs.ViewLemmas.{split_less}
-use Rattle.link_entries.proofs.AddressEntries.{addresses_more}
+use Rattle.link_entries.proofs.ElementEntries.{addresses_more}
 use Rattle.link_entries.proofs.elements.put_each_address.Goals as goal
 
 pub even-preserved : goal.even-preserved

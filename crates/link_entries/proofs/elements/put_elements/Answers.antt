@@ -1,7 +1,7 @@
 use Rattle.std.proofs.Common.{◌≡◌, ◌+◌, ◌-◌, ◌∙◌, length, ap, refl, subst, arith}
 use Rattle.link_base.specs.Viewed.{bytes_in, set_of, set_in, buffer_in}
 use Rattle.link_entries.specs.Flat.{IsElement}
-use Rattle.link_entries.proofs.NestedElements.{elements_none, elements_more}
+use Rattle.link_entries.proofs.ElementEntries.{elements_none, elements_more}
 use Rattle.link_entries.proofs.elements.put_elements.Goals as goal
 
 pub elements-init : goal.elements-init

@@ -1,6 +1,6 @@
 use Rattle.std.proofs.Common.{◌≡◌, length}
 use Rattle.link_base.specs.Viewed.{set_of, bytes_in}
-use Rattle.link_entries.proofs.NestedElements.{ElementsTo}
+use Rattle.link_entries.proofs.ElementEntries.{ElementsTo}
 use Rattle.link_entries.proofs.elements.put_elements.Given as goal
 
 abbrev pub invariant-elements : goal.invariant-elements

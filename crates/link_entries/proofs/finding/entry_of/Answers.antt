@@ -2,7 +2,7 @@ use Rattle.std.proofs.Common.{[], ◌∷◌, refl}
 use Rattle.link_base.specs.Viewed.{set_in, buffer_in}
 use Rattle.netlink_packet_route.specs.Family.{table_of}
 use Rattle.netlink_packet_route.specs.Views.{family_in}
-use Rattle.link_entries.proofs.LastAttribute.{only_place}
+use Rattle.link_entries.proofs.LastOf.{only_place}
 use Rattle.link_entries.proofs.finding.entry_of.Goals as goal
 
 pub returns : goal.returns

@@ -1,6 +1,6 @@
 use Rattle.std.proofs.Common.{◌≡◌, ◌-◌, ◌∙◌, ap, ap₂, length, refl}
 use Rattle.link_base.specs.Viewed.{bytes_in, set_of}
-use Rattle.link_entries.proofs.LastAttribute.{last_none, last_next, last_all, found_set, found_within}
+use Rattle.link_entries.proofs.LastOf.{last_none, last_next, last_all, found_set, found_within}
 use Rattle.link_entries.proofs.finding.last_value.Goals as goal
 
 pub values-init : goal.values-init

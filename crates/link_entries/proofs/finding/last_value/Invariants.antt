@@ -1,6 +1,6 @@
 use Rattle.std.proofs.Common.{◌≡◌, length}
 use Rattle.link_base.specs.Viewed.{set_of, bytes_in}
-use Rattle.link_entries.proofs.LastAttribute.{LastTo}
+use Rattle.link_entries.proofs.LastOf.{LastTo}
 use Rattle.link_entries.proofs.finding.last_value.Given as goal
 
 abbrev pub invariant-values : goal.invariant-values

@@ -2,7 +2,7 @@ use Rattle.std.proofs.Common.{◌≡◌, ◌+◌, ◌-◌, ◌==◌, cond, Some,
 use Rattle.link_base.specs.Buffer.{payload_of}
 use Rattle.link_base.specs.Viewed.{bytes_in, buffer_in}
 use Rattle.link_entries.specs.Flat.{address_entry}
-use Rattle.link_entries.proofs.AddressEntries.{address_more, address_found}
+use Rattle.link_entries.proofs.ElementEntries.{address_more, address_found}
 use Rattle.link_entries.proofs.finding_elements.find_address.Goals as goal
 
 pub addresses-preserved : goal.addresses-preserved

@@ -1,6 +1,6 @@
 use Rattle.std.proofs.Common.{◌≡◌, length}
 use Rattle.link_base.specs.Viewed.{bytes_in}
-use Rattle.link_entries.proofs.AddressEntries.{AddressTo}
+use Rattle.link_entries.proofs.ElementEntries.{AddressTo}
 use Rattle.link_entries.proofs.finding_elements.find_address.Given as goal
 
 abbrev pub invariant-addresses : goal.invariant-addresses

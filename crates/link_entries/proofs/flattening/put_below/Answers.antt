@@ -8,7 +8,7 @@ use Rattle.link_base.specs.Borrowed.{HasValues, Borrows, form_of}
 use Rattle.link_base.specs.WellFormed.{is_table}
 use Rattle.link_base.proofs.Elements.{elements_decode}
 use Rattle.link_entries.specs.Flat.{Elements, Puts, number_entries}
-use Rattle.link_entries.proofs.ArrayNumbers.{few_numbers}
+use Rattle.link_entries.proofs.ElementEntries.{few_numbers}
 use Rattle.link_entries.proofs.RowForms.{array_width}
 use Rattle.link_entries.proofs.Shapes.{addresses_decode, no_elements, array_payload}
 use Rattle.link_entries.proofs.flattening.put_below.Goals as goal

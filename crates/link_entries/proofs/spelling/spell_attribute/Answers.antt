@@ -6,7 +6,7 @@ use Rattle.link_entries.specs.declared.fields.Fields.{Fields}
 use Rattle.link_entries.specs.Payload.{payload_of, field_of}
 use Rattle.link_entries.specs.Spelled.{Spelling, alone, before, fitted, elements_of, attribute_by}
 use Rattle.link_entries.specs.Stored.{StoresAt, StoresPayload, Spells, header, padded}
-use Rattle.link_entries.proofs.BackArrays.{elements_end}
+use Rattle.link_entries.proofs.BackElements.{elements_end}
 use Rattle.link_entries.proofs.Below.{below}
 use Rattle.link_entries.proofs.StoredBytes.{sized_ok, sized_err, stored_frame, spells_frame, fitted_low, spells_behind}
 use Rattle.link_entries.proofs.spelling.spell_attribute.Goals as goal

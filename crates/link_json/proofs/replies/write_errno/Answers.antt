@@ -1,4 +1,4 @@
-use Rattle.std.proofs.Common.{◌≡◌, ◌++◌, List, ◌∷◌, [], subst, ◌∙◌, ap, arith, to_z, of_z, w32, w64, codes}
+use Rattle.std.proofs.Common.{◌≡◌, ◌++◌, List, ◌∷◌, [], subst, ◌∙◌, ap, arith, to_z, of_z, w32, codes}
 use Rattle.std.proofs.lemmas.Int.{to_z-of_z, ints}
 use Rattle.json.specs.Tree.{json_tokens}
 use Rattle.link_show.specs.Message.{errno_name}
@@ -12,8 +12,7 @@ returns c =
     let begun = c.begin_object.new.self in
     let said = c.write_name.new.sheet in
     let small : to_z w32 (of_z w32 e) ≡ e = to_z-of_z w32 e (omega (arith, ints)) in
-    let back : to_z w64 (of_z w64 c.into.result) ≡ c.into.result = to_z-of_z w64 c.into.result (omega (arith, ints)) in
-    let number = subst (λ z. c.signed.new.self ≡ c.key.new.self ++ json_tokens (signed_json z)) (back ∙ c.into.ensures ∙ small) c.in_ok-signed.ensures in
+    let number = subst (λ z. c.signed.new.self ≡ c.key.new.self ++ json_tokens (signed_json z)) small c.in_ok-signed.ensures in
     let name : said ≡ c.key-2.new.self ++ json_tokens (name_json (errno_name e)) = c.in_ok-write_name.ensures ∙ ap (λ n. c.key-2.new.self ++ json_tokens (name_json n)) c.errno_name.ensures in
     let last : List Field = (codes "name", name_json (errno_name e)) ∷ [] in
     object_then c.end_object.result c.args.sheet.now begun said c.end_object.new.self ((codes "number", signed_json e) ∷ last) c.in_ok-begin_object.ensures

@@ -1,8 +1,7 @@
-use Rattle.std.proofs.Common.{◌≡◌, ℕ, ◌+◌, ◌-◌, ◌++◌, take, drop, ap, ap₂, ◌∙◌, arith}
+use Rattle.std.proofs.Common.{◌++◌, ap, ap₂, ◌∙◌}
 use Rattle.json.specs.Tree.{json_tokens}
 use Rattle.link_base.specs.Fields.{names_for}
 use Rattle.link_base.specs.Labels.{names_in, field_row}
-use Rattle.link_base.specs.Structs.{form_width}
 use Rattle.link_show.specs.Structs.{field_in}
 use Rattle.link_json.specs.Value.{form_json}
 use Rattle.link_json.proofs.Loops.{on_ok}
@@ -12,12 +11,7 @@ use Rattle.link_json.proofs.structs.write_field.Goals as goal
 pub returns : goal.returns
 returns c =
     let f = c.args.field.now in
-    let p = c.args.bytes.now in
-    let at = c.saturating_sub-at.result in
-    let size : ℕ = c.width.result in
-    let whole : at + size - at ≡ form_width f.form = omega (arith, c.width.ensures) in
-    let cut : take (at + size - at) (drop at p) ≡ field_in c.args.start p (field_row f) = ap₂ (λ k m. take k (drop m p)) whole c.saturating_sub-at.ensures in
-    let shown = ap₂ (λ names bytes. form_json names f.form bytes) c.names_for.ensures cut in
+    let shown = ap₂ (λ names bytes. form_json names f.form bytes) c.names_for.ensures c.field_bytes.ensures.value in
     on_ok c.write_form.result
-    (λ written. field_only c.args.sheet.now c.key.new.self c.write_form.new.sheet f.name.now (form_json (names_for (names_in c.args.names.now) (names_in f.names.now)) f.form (field_in c.args.start p (field_row f)))
+    (λ written. field_only c.args.sheet.now c.key.new.self c.write_form.new.sheet f.name.now (form_json (names_for (names_in c.args.names.now) (names_in f.names.now)) f.form (field_in c.args.start c.args.bytes.now (field_row f)))
     c.in_ok-key.ensures (written ∙ ap (λ j. c.key.new.self ++ json_tokens j) shown)) c.write_form.ensures

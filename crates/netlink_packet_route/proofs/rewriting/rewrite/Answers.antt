@@ -32,3 +32,6 @@ returns-in-Hsr-clause-answer c = rw c.in-Hsr.is c.rewrite_as-in-Hsr.ensures.answ
 
 pub returns-in-ProtoBridge-clause-answer : goal.returns-in-ProtoBridge-clause-answer
 returns-in-ProtoBridge-clause-answer c = rw c.in-ProtoBridge.is c.rewrite_as-in-ProtoBridge.ensures.answer
+
+pub returns-in-Vxlan-clause-answer : goal.returns-in-Vxlan-clause-answer
+returns-in-Vxlan-clause-answer c = rw c.in-Vxlan.is c.rewrite_as-in-Vxlan.ensures.answer

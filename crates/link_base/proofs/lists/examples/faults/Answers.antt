@@ -110,3 +110,15 @@ returns-clause-nested_value c = record {
     ),
   );
 }
+
+pub returns-clause-long_flag : goal.returns-clause-long_flag
+returns-clause-long_flag c = record {
+  front = [];
+  rest = 0x06 ∷ 0 ∷ 5 ∷ 0 ∷ 1 ∷ 1 ∷ 0 ∷ 0 ∷ [];
+  string = refl;
+  complete = tt;
+  values = tt;
+  some = omega arith;
+  offset = refl;
+  here = inr (record { kind_field = 5; payload = 1 ∷ 1 ∷ []; padding = 0 ∷ 0 ∷ [] }, record { rest = []; is = record { kind_field = omega arith; payload = omega arith; padding = omega arith }; string = refl }, refl);
+}

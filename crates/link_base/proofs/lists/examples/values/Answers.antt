@@ -40,3 +40,33 @@ returns-clause-empty_list c = record {
   };
   written = refl;
 }
+
+pub returns-clause-flag : goal.returns-clause-flag
+returns-clause-flag c = record {
+  read = record {
+    frames = record { kind_field = 5; payload = []; padding = [] } ∷ [];
+    string = record { frames = record { kind_field = omega arith; payload = omega arith; padding = omega arith }; string = refl };
+    values = (refl, tt);
+  };
+  written = refl;
+}
+
+pub returns-clause-flag_byte : goal.returns-clause-flag_byte
+returns-clause-flag_byte c = record {
+  read = record {
+    frames = record { kind_field = 5; payload = 7 ∷ []; padding = 0 ∷ 0 ∷ 0 ∷ [] } ∷ [];
+    string = record { frames = record { kind_field = omega arith; payload = omega arith; padding = omega arith }; string = refl };
+    values = (refl, tt);
+  };
+  written = refl;
+}
+
+pub returns-clause-text : goal.returns-clause-text
+returns-clause-text c = record {
+  read = record {
+    frames = record { kind_field = 6; payload = 0x67 ∷ 0x72 ∷ 0 ∷ []; padding = 0 ∷ [] } ∷ [];
+    string = record { frames = record { kind_field = omega arith; payload = omega arith; padding = omega arith }; string = refl };
+    values = (refl, tt);
+  };
+  written = refl;
+}

@@ -3,10 +3,17 @@ use Rattle.std.specs.Bool.{Decides}
 use Rattle.std.specs.Cmp.{unsigned_Decides}
 use Rattle.std.specs.Cmp.Lexicographic.{pointwise_decides}
 use Rattle.link_base.specs.declared.rows.label.Name.{Name}
+use Rattle.link_base.specs.declared.rows.form.Width.{Width}
+use Rattle.link_base.specs.declared.rows.form.Order.{Order}
+use Rattle.link_base.specs.declared.rows.form.Role.{Role}
 use Rattle.link_base.specs.declared.rows.form.Form.{Form}
+use Rattle.link_base.specs.declared.rows.form.Form.TheVariants as of
 use Rattle.link_base.specs.declared.rows.label.Quantity.{Quantity}
 use Rattle.link_base.specs.contracts.rows.label.NamePartialEq.TheImpl as of_name
 use Rattle.link_base.specs.contracts.rows.form.FormPartialEq.TheImpl as of_form
+use Rattle.link_base.specs.contracts.rows.form.WidthPartialEq.TheImpl as of_width
+use Rattle.link_base.specs.contracts.rows.form.OrderPartialEq.TheImpl as of_order
+use Rattle.link_base.specs.contracts.rows.form.RolePartialEq.TheImpl as of_role
 use Rattle.link_base.specs.contracts.rows.label.QuantityPartialEq.TheImpl as of_quantity
 use Rattle.link_base.specs.declared.rows.fields.Field.{Field}
 use Rattle.link_base.specs.contracts.rows.fields.FieldPartialEq.TheImpl as of_field
@@ -23,7 +30,25 @@ names a b = let d = two _ _ (unsigned_Decides a.number b.number) (pointwise_deci
 quantities : (a b : Quantity) → Decides (of_quantity.ghosts.eq a b) (a ≡ b)
 quantities a b = search rules
 
+widths : (a b : Width) → Decides (of_width.ghosts.eq a b) (a ≡ b)
+widths a b = search rules
+
+orders : (a b : Order) → Decides (of_order.ghosts.eq a b) (a ≡ b)
+orders a b = search rules
+
+roles : (a b : Role) → Decides (of_role.ghosts.eq a b) (a ≡ b)
+roles a b = search rules
+
+abbrev number : Width → Order × Role → Form
+number w (order, role) = of.Number w order role
+
 forms : (a b : Form) → Decides (of_form.ghosts.eq a b) (a ≡ b)
+forms of.Nothing b = search rules
+forms (of.Number w order role) (of.Number v other said) =
+    let d = two _ _ (widths w v) (two _ _ (orders order other) (roles role said)) in (
+      λ h. let k = d.0 h in ap₂ number k.0 (ap₂ (λ a b. (a, b)) k.1.0 k.1.1),
+      λ h. let e : w ≡ v = cc in let f : order ≡ other = cc in let g : role ≡ said = cc in d.1 (e, (f, g)),
+    )
 forms a b = search rules
 
 abbrev row : List ℕ → ℕ × Quantity × Form × List (ℕ × List ℕ) → FieldRow
@@ -39,6 +64,9 @@ fields a b =
           (ap₂ (λ quantity (form, names). (quantity, form, names)) k.1.1.0 (ap₂ (λ form names. (form, names)) k.1.1.1.0 k.1.1.1.1))),
       λ h. d.1 (ap (λ (f : FieldRow). f.name) h, (ap (λ (f : FieldRow). f.offset) h, (ap (λ (f : FieldRow). f.quantity) h, (ap (λ (f : FieldRow). f.form) h, ap (λ (f : FieldRow). f.names) h)))),
     )
+
+pub returns-clause-form : goal.returns-clause-form
+returns-clause-form c = forms
 
 pub returns-clause-field : goal.returns-clause-field
 returns-clause-field c = fields

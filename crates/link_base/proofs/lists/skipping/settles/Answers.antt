@@ -1,8 +1,7 @@
 use Rattle.std.proofs.Common.{sym, subst, ap, ◌∙◌}
 use Rattle.link_base.specs.Buffer.{kind_field_of, payload_of}
 use Rattle.link_base.specs.Frame.{kind_of}
-use Rattle.link_base.specs.Table.{class_at, label_at}
-use Rattle.link_base.specs.Labels.{label_in}
+use Rattle.link_base.specs.Table.{label_at}
 use Rattle.link_base.proofs.ContentBy.{single_class, no_row}
 use Rattle.link_base.proofs.Entries.{class_of_none}
 use Rattle.link_base.proofs.SkipLemmas.{IsNoList, settled}

@@ -1,0 +1,5 @@
+pub mod VxlanNames
+pub mod VxlanPortRange
+pub mod VxlanHeader
+pub mod VxlanEquality
+pub mod Vxlan
