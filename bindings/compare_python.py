@@ -68,7 +68,7 @@ def value_lines(table, name, value):
 # The words for a content, by the form of its attribute type. Others are a number.
 WORDS = {
     Form.EMPTY: lambda it: "empty",
-    Form.BOOL: lambda it: f"bool {it:d}",
+    Form.BOOL: lambda it: f"bool {it is None or it:d}",
     Form.UNSIGNED: lambda it: f"unsigned {it}",
     Form.SIGNED: lambda it: f"signed {it}",
     Form.NAMED: lambda it: f"named {it:d}",

@@ -104,6 +104,8 @@ def python_type(it):
         return "List"
     if it.form in ("named", "flags"):
         return it.type.name
+    if it.optional:
+        return "bool | None"
     return f"Masked[{it.type.name}]" if it.form == "masked" else PLAIN[it.form]
 
 
@@ -118,6 +120,8 @@ def row(it, model, indent):
     words = f'Row("{it.name}", {it.kind}, {model.forms[it.form]}'
     if it.type:
         words += f", {it.type.name}"
+    if it.optional:
+        words += ", optional=True"
     if it.item:
         words += f", item={row(it.item, model, '')}"
     if it.elements:

@@ -112,6 +112,10 @@ class Library:
         """Returns the text of a value."""
         return self._stored(self.c.nlroute_text(family, byref(value), b"", 0, self.room, TEXT_ROOM))
 
+    def refuses(self, family, value):
+        """Returns whether a value cannot be written."""
+        return self.c.nlroute_text(family, byref(value), b"", 0, self.room, TEXT_ROOM) < 0
+
     def kind_name(self, family, value):
         """Returns the kernel's constant of an attribute type, `type 99`, or `[3]` for an element without a type."""
         return self._stored(self.c.nlroute_kind_name(family, byref(value), self.room, TEXT_ROOM))

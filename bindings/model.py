@@ -75,6 +75,7 @@ class Attribute:
     example: str | None = None  # for numbers with a unit: how 100 is printed, such as `100 (1.00 s)`
     elements: tuple["Attribute", ...] = ()
     item: "Attribute | None" = None
+    optional: bool = False  # a boolean that may have no payload, which is on without
 
 
 @dataclass(frozen=True)
@@ -206,6 +207,8 @@ class Asker:
             bits=bits,
             type=self.type(name, form, bits, names),
             example=self.example(value, form),
+            # (the number of a value without a payload is 1; of other booleans, the length is not used)
+            optional=form == "bool" and self.library.refuses(self.family, value),
             **(self.elements(kind) if form == "list" else {}),
         )
 

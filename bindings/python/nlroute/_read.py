@@ -115,7 +115,7 @@ def limits(row: Row | None, it: Record, data: bytes) -> CanBitTimingConst:
 # How the content of a value is made, by its form.
 CONTENTS: dict[int, Callable[[Row | None, Record, bytes], Content]] = {
     Form.EMPTY: lambda row, it, data: None,
-    Form.BOOL: lambda row, it, data: it.number != 0,
+    Form.BOOL: lambda row, it, data: it.number != 0 if it.length else None,
     Form.UNSIGNED: lambda row, it, data: it.number,
     Form.SIGNED: lambda row, it, data: (it.number ^ SIGN) - SIGN,
     Form.NAMED: lambda row, it, data: typed(row, it.number),

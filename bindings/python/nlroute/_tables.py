@@ -34,7 +34,7 @@ class Table:
         first = head(row.kind, row.form, self.list_kind)
         if row.form == Form.UNSIGNED:
             self.numbers[first] = row.name
-        elif row.form == Form.BOOL:
+        elif row.form == Form.BOOL and not row.optional:
             self.ready |= {(first, number): Attribute(row.name, bool(number)) for number in (0, 1)}
         elif row.form in (Form.NAMED, Form.FLAGS) and row.type:
             members: Any = row.type

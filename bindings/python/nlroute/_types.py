@@ -231,3 +231,4 @@ class Row(NamedTuple):
     type: type[Named] | type[Flags] | None = None
     elements: tuple[Row, ...] = ()  # of a nested list
     item: Row | None = None  # of a list of addresses, numbers or mappings
+    optional: bool = False  # a boolean that may have no payload: None without

@@ -137,9 +137,9 @@ def number(row: Row, value: Any) -> Fields:
 
 
 def boolean(row: Row, value: Any) -> Fields:
-    # (a flag that may have no payload is off only with one; of others, the length is not used)
-    it = whole_number(value)
-    return it, 0, int(it == 0), b"", 0, b""
+    if row.optional and value is None:
+        return 1, 0, 0, b"", 0, b""
+    return whole_number(value), 0, 1, b"", 0, b""
 
 
 def signed(row: Row, value: Any) -> Fields:

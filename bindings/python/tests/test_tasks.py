@@ -78,6 +78,14 @@ class Tasks(unittest.TestCase):
         self.assertEqual(state[BRIDGE_QUERIER_IP_ADDRESS], IPv4Address("10.0.0.1"))
         self.assertEqual(str(state), "BRIDGE_QUERIER_IP_ADDRESS 10.0.0.1")
 
+    def test_a_flag_that_may_have_no_payload(self):
+        # IFLA_VXLAN_TTL_INHERIT (28): NLA_FLAG in a request, one byte in a reply
+        for octets, value in (("04001c00", None), ("05001c0000000000", False), ("05001c0001000000", True)):
+            vxlan = read(Family.VXLAN, bytes.fromhex(octets))
+            self.assertIs(vxlan[IFLA_VXLAN_TTL_INHERIT], value)
+            self.assertEqual(bytes(vxlan).hex(), octets)
+            self.assertEqual(bytes(List(Family.VXLAN, {IFLA_VXLAN_TTL_INHERIT: value})).hex(), octets)
+
     def test_fields_of_structs(self):
         address = Mac("02:00:00:00:00:01")
         bridge = List(Family.BRIDGE, {IFLA_BR_FORWARD_DELAY: 1500, IFLA_BR_BRIDGE_ID: BridgeId(0x8000, address)})

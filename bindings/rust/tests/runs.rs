@@ -78,7 +78,7 @@ fn lists_of_the_benchmarks_are_written_unchanged() {
         let list = List::read_any(family, &bytes).expect("it is well-formed");
         assert_eq!(Ok(list.to_bytes().expect("all values fit")), rewritten(family, &bytes), "{name}");
     }
-    assert_eq!(count, 7);
+    assert_eq!(count, 8);
 }
 
 /// Calls what takes bytes from elsewhere, and compares it with the C library.
