@@ -49,6 +49,8 @@ LINKS, GETLINK, ERROR, DONE, LINKINFO = (16, 17, 18, 19), 18, 2, 3, 18
 # Flags of replies, and members for NLMSGERR_ATTR_..
 CAPPED, ACK_TLVS = 0x100, 0x200
 OF_REPLY = {1: "message", 2: "offset", 3: "cookie", 4: "policy", 5: "missing_type", 6: "missing_nest"}
+# The numbers in network byte order: those of VXLAN devices, by their names in documents.
+NETWORK_ORDER = ("port", "label")
 HEADER = ("len", "type", "flags", "seq", "pid")
 OF_LINK = ("family", "type", "index", "flags", "change")
 SHOWN = 3
@@ -338,7 +340,8 @@ def check_value(name, value, kind, flags, payload, base):
     elif isinstance(value, bool) or isinstance(value, (str, dict)):
         need(not name.isdigit(), "decoded:", name)
     elif isinstance(value, int):
-        numbers = [int.from_bytes(payload, "little", signed=it) for it in (False, True)]
+        order = "big" if name in NETWORK_ORDER else "little"
+        numbers = [int.from_bytes(payload, order, signed=it) for it in (False, True)]
         need(value in numbers and len(payload) in (1, 2, 4, 8), "number:", value, payload.hex())
     elif value and isinstance(value[0], int):
         width = len(payload) // len(value)
