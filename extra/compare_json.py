@@ -13,7 +13,7 @@ a quarter as many captures that extra/fuzz/captures/mutate.py makes. Each is an 
   replies and packets, and offsets of errors in lists are those of the input;
 - an array of attributes has an element for each attribute, in order, and one more with an error if the rest is malformed;
   an attribute that is not decoded has its type, its flags and its payload; numbers and arrays of numbers are those of the
-  payload, and lists of addresses are as long as theirs;
+  payload, and lists of addresses are as long as theirs; bytes in hexadecimal are those of the payload;
 - `ok` is the last member, and false if and only if something in the document is an error, or not canonical;
 - the exit status is as `ok` and the errors of files tell, and that of the plain form, unless an attribute is there twice in
   a message: of these, the plain form decodes the last; standard error is empty.
@@ -337,6 +337,8 @@ def check_value(name, value, kind, flags, payload, base):
     if isinstance(value, dict) and "hex" in value and "type" in value:
         raw = (value["type"], value["flags"]["number"], value["hex"])
         need(raw == (kind, flags, payload.hex()), "not decoded:", value)
+    elif isinstance(value, dict) and [*value] == ["hex"]:
+        need(value["hex"] in (payload.hex(), payload.removesuffix(b"\0").hex()), "bytes:", value, payload.hex())
     elif isinstance(value, bool) or isinstance(value, (str, dict)):
         need(not name.isdigit(), "decoded:", name)
     elif isinstance(value, int):
@@ -345,7 +347,7 @@ def check_value(name, value, kind, flags, payload, base):
         need(value in numbers and len(payload) in (1, 2, 4, 8), "number:", value, payload.hex())
     elif value and isinstance(value[0], int):
         width = len(payload) // len(value)
-        whole = b"".join(it.to_bytes(width, "little") for it in value)
+        whole = b"".join(it.to_bytes(width, "little", signed=it < 0) for it in value)
         need(whole == payload, "numbers:", value, payload.hex())
     elif value and isinstance(value[0], dict):
         check_elements(value, payload, base)

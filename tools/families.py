@@ -1,7 +1,7 @@
 """The list of attribute sets, and the lists of other files that repeat it or have to agree with it.
 
 The list is the macro `families!` of crates/netlink_packet_route/src/family.rt: a row has the variant of `Family`, the
-name, the enum of attributes, the number in C, and what holds the list in a message. The prover compares it with
+name, the enum of attributes, the number in C, and what holds its lists, in brackets. The prover compares it with
 specs/Family.antt. The comment of the variant says whose attributes they are.
 
 What only repeats the list, `written` has: tools/made.py writes it. These are the constants of nlroute.h, which
@@ -17,8 +17,9 @@ LIST = "crates/netlink_packet_route/src/family.rt"
 # The definitions that the contracts compare the list with, and what the crate hands on of them.
 DEFINED = "crates/netlink_packet_route/specs/Family.antt"
 HANDED_ON = "crates/netlink_packet_route/specs/Lib.antt"
-ROW = re.compile(r'^ +([A-Z]\w+) +"(\w+)" +(\w+) +(\d+) +(\w+) \((?:b"(\w+)"|(\w+))\)$', re.MULTILINE)
-TABLE = re.compile(r'^family_row \w+ = row \(codes "(\w+)"\) .* (\w+)$', re.MULTILINE)
+ROW = re.compile(r'^ +([A-Z]\w+) +"(\w+)" +(\w+) +(\d+) +\[?(\w.*?)\]?$', re.MULTILINE)
+HOLDER = re.compile(r'(\w+)(?: \((?:b"(\w+)"|(?:Family::\w+, )?(\w+))\))?(?:, |$)')
+TABLE = re.compile(r'^family_row \w+ = row \(codes "(\w+)"\) .*\b(\w+)$', re.MULTILINE)
 # Whose attributes a set has, and what else is said of it, in the comment of its variant.
 COMMENT = re.compile(r"^    /// `(\w+)`: attributes of (.*?),\s+(?:/// )?\[`\w+`\]\(.*?\)(?:: (.*))?\.$", re.MULTILINE)
 # For each file, what it has once for each attribute set, as a regular expression. {name}, {NAME}, {variant},
@@ -27,16 +28,19 @@ LISTS = [
     ("docs/nlroute.1", r"^\.BR? .*\b{name}\b"),
     ("docs/proofs/MODEL.md", r"^### .*: `{attributes}`, `{table}`$"),
 ]
+# Only of sets that a kind selects, or an AF_BRIDGE message.
+IN_MESSAGES = r"^  IFLA_\w+ {name}\n    \w"
 COVERED = [
     ("runs/debug/", r"^> {name} [0-9a-f]"),
     ("runs/debug/", r"^> check {name}$"),
-    ("runs/debug/", r"^  IFLA_\w+ {name}\n    \w"),
+    ("runs/debug/", IN_MESSAGES),
     ("runs/plain/", r"^> {name} [0-9a-f]"),
     ("runs/json/", r"^< {name} [0-9a-f]"),
     ("runs/nlroute/", r"^arguments: {name}$"),
 ]
 # The runs that tools/sets.py makes, which count for each folder.
 GENERATED = "runs/sets/"
+# The attributes that hold a list next to a kind. A message holds its list itself.
 HOLDERS = {"InfoKind": "IFLA_INFO_DATA", "PortKind": "IFLA_INFO_SLAVE_DATA"}
 
 
@@ -46,15 +50,19 @@ def text_below_root(path):
 
 
 def families(text_of):
-    """The rows of the list: for each attribute set what a pattern of LISTS can name."""
-    keys = ("variant", "name", "attributes", "number", "NAME", "holder", "kind", "table", "whose", "more")
+    """The rows of the list: for each attribute set what a pattern of LISTS can name, `holders`, the attributes that hold
+    its lists, `kinds`, and whether debug forms of messages have its lists."""
+    keys = ("variant", "name", "attributes", "number", "NAME", "holders", "kinds", "in_messages", "table", "whose", "more")
     table_of = dict(TABLE.findall(text_of(DEFINED) or ""))
     text = text_of(LIST) or ""
     said = {name: (whose, more) for name, whose, more in COMMENT.findall(text)}
-    found = [
-        (*it[:4], it[1].upper(), HOLDERS.get(it[4], it[6]), it[5], table_of.get(it[1], ""), *said.get(it[1], ("", "")))
-        for it in ROW.findall(text)
-    ]
+    found = []
+    for *it, holders in ROW.findall(text):
+        held = HOLDER.findall(holders)
+        attributes = list(dict.fromkeys(HOLDERS.get(how, what) for how, _, what in held if how in HOLDERS or what))
+        kinds = [kind for _, kind, _ in held if kind]
+        in_messages = bool(kinds) or "BridgeAttribute" in [how for how, *_ in held]
+        found.append((*it, it[1].upper(), attributes, kinds, in_messages, table_of.get(it[1], ""), *said.get(it[1], ("", ""))))
     return [dict(zip(keys, it)) for it in found]
 
 
@@ -75,7 +83,9 @@ def disagreements(text_of):
         text = text_of(path)
         text = f"{text}\n{text_of(GENERATED)}" if text and (path, pattern) in COVERED else text
         for row in rows if text is not None else []:
-            wanted = pattern.format(**{key: re.escape(it) for key, it in row.items()})
+            if pattern == IN_MESSAGES and not row["in_messages"]:
+                continue
+            wanted = pattern.format(**{key: re.escape(it) for key, it in row.items() if isinstance(it, str)})
             if not re.search(wanted, text, re.MULTILINE):
                 yield path, 1, f"it does not have {row['name']} as families! has it: no text is as {pattern}"
     for module in re.findall(r"^use (Rattle\.link_\w+\.specs\.\w+)\.", text_of(DEFINED) or "", re.MULTILINE):
@@ -89,20 +99,21 @@ def disagreements(text_of):
 def constants(rows):
     """The constants of enum nlroute_family."""
     for row in rows:
-        what = row["whose"] if row["holder"] in row["whose"] else f"{row['holder']} of {row['whose']}"
+        holder = "".join(row["holders"][:1])
+        what = row["whose"] if holder in row["whose"] else f"{holder} of {row['whose']}"
         more = f"{what}: {row['more']}".removesuffix(": ").replace("`", "")
         yield f"    NLROUTE_{row['NAME']} = {row['number']}{',' * (row is not rows[-1])} /* {more} */\n"
 
 
 def names_held(rows, holder):
     """A line of a man page with the names of the sets whose lists this attribute holds."""
-    found = [it["name"] for it in rows if it["holder"] == holder]
+    found = [it["name"] for it in rows if holder in it["holders"]]
     return f".B{'R' * (len(found) > 1)} " + ' ", " '.join(found)
 
 
 def whose_lists(rows):
     """Words for the devices and ports whose attributes the sets have."""
-    *first, last = [it["whose"] for it in rows if it["kind"]]
+    *first, last = [it["whose"] for it in rows if it["kinds"]]
     return f"{', '.join(first)}, and {last}"
 
 

@@ -20,20 +20,21 @@ from families import families  # noqa: E402
 from pages import ROOT, Tree  # noqa: E402
 
 HEADER = "crates/nlroute_ffi/include/nlroute_kinds.h"
-WORD = re.compile(r"^(\w+)(?: \w+)* = (?:plain |with_names |record \{ form = )\(?forms\.(?:Number \w+ \w+ roles\.)?(\w+)", re.MULTILINE)
-# The forms of the header, by those of the tables (of a number, its role), and by the layouts of structs.
+WORD = re.compile(r"^(\w+)(?: \w+)* = (?:plain |with_names |record \{ form = )\(?forms\.(?:Number \w+ \w+ roles\.|Bytes looks\.)?(Numbers I32|\w+)", re.MULTILINE)
+PLACES = re.compile(r"^abbrev pub (\w+)_names .*\n.* =((?:\n? +\(\d+, codes \"\w+\"\) ∷)+)", re.MULTILINE)
+# The forms of the header, by those of the tables (of a number, its role; of bytes, their look), and by the layouts of structs.
 FORMS = {
     "Nothing": "EMPTY", "Bool": "BOOL", "FlagOrBool": "BOOL", "Plain": "UNSIGNED", "Coded": "NAMED", "Signed": "SIGNED",
     "Enum": "NAMED", "Protocol": "NAMED", "Flags": "FLAGS", "LowFlags": "FLAGS", "MaskedFlags": "MASKED", "Pair": "QOS_MAPPING",
-    "Mac": "MAC", "Ipv4": "IPV4", "Ipv6": "IPV6", "Bytes": "BYTES", "Limits": "BITTIMING_CONST",
-    "Numbers": "LIST of UNSIGNED", "Struct": "BYTES",
+    "Mac": "MAC", "Ipv4": "IPV4", "Ipv6": "IPV6", "Address": "BYTES", "Text": "TEXT", "Held": "HELD", "Limits": "BITTIMING_CONST",
+    "Numbers": "LIST of UNSIGNED", "Numbers I32": "LIST of SIGNED", "Struct": "BYTES",
 }  # fmt: skip
 # The structs that have forms of their own.
 STRUCTS = {
     "BridgeId": "BRIDGE_ID", "VlanInfo": "VLAN_INFO", "BooleanOptions": "MASKED", "BitTiming": "BITTIMING",
     "Clock": "UNSIGNED", "CtrlMode": "MASKED", "BerrCounter": "BERR_COUNTER",
 }  # fmt: skip
-KERNEL = "#include <linux/if_link.h>\n#include <linux/if_bridge.h>\n#include <linux/can/netlink.h>\n"
+KERNEL = "#include <linux/if_link.h>\n#include <linux/if_bridge.h>\n#include <linux/can/netlink.h>\n#include <linux/devlink.h>\n"
 TOP = """\
 /*
  * The attribute types that the library knows, by the names of the kernel's headers with NLROUTE_ before them, each with the
@@ -76,15 +77,28 @@ def text():
         if new:
             commas = [","] * (len(new) - 1) + [""]
             lines = "".join(f"    NLROUTE_{it[1]} = {it[0]}{comma} /* {it[2]} */\n" for it, comma in zip(new, commas))
-            of = f"Attributes of {owner}" if owner.startswith("NLROUTE") else owner.capitalize()[:8] + owner[8:]
+            of = f"Attributes of {owner}" if owner.startswith("NLROUTE") else owner.replace("e", "E", 1)
             parts.append(f"/* {of}. */\nenum {{\n{lines}}};\n")
+        elif owner.startswith("elements"):
+            parts.append(f"/* {owner.replace('e', 'E', 1)}: {', '.join(f'NLROUTE_{name}' for _, name, _ in rows)}. */\n")
         else:
             names = ", ".join(f"NLROUTE_{name}" for _, name, _ in rows)
             said = f"{owner} knows {names} only. Every other attribute of an IFLA_PROTINFO has UNKNOWN there. Read the list with"
             said += " NLROUTE_BRIDGE_PORT: its attributes then have the forms above."
             lines = textwrap.wrap(said, 117, break_long_words=False)
             parts.append("/*\n" + "".join(f" * {line}\n" for line in lines) + " */\n")
-    return "\n".join([*parts, "#endif\n"])
+    return "\n".join([*parts, *places(known), "#endif\n"])
+
+
+def places(known):
+    """The enums of the places of arrays, without constants that others have."""
+    for name, found in PLACES.findall(Tree(ROOT).text("crates/link_common/specs/Places.antt")):
+        prefix = "NLROUTE_" if name.startswith("link_stats") else f"NLROUTE_{name.upper()}_"
+        rows = [(f"{prefix}{it[1].upper()}", it[0]) for it in re.findall(r'\((\d+), codes "(\w+)"\)', found)]
+        new = [it for it in rows if it[0] not in known]
+        known |= {it[0] for it in rows}
+        lines = ",\n".join(f"    {constant} = {number}" for constant, number in new)
+        yield f"/* Places of the array {name}. */\nenum {{\n{lines}\n}};\n"
 
 
 def compare():

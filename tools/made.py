@@ -243,15 +243,21 @@ A *family* is an attribute set. What holds the list, and the kind of device, sel
 |---|---|---|---|---|
 """
 BELOW_FAMILIES = """
-In `IFLA_LINKINFO`, `IFLA_INFO_KIND` has the kind, or for a port `IFLA_INFO_SLAVE_KIND`, that of its master. `proto_bridge`
+In `IFLA_LINKINFO`, `IFLA_INFO_KIND` has the kind, or for a port `IFLA_INFO_SLAVE_KIND`, that of its master. The list of
+`link` follows `struct ifinfomsg`, and that of `reply` is the attributes `NLMSGERR_ATTR_*`. `AF_INET`, `AF_INET6` and
+`AF_MCTP` are in `IFLA_AF_SPEC`; of an AF_INET6 message, `IFLA_PROTINFO` is a list of `inet6`. `proto_bridge`
 knows attribute type 45 only, as upstream does; for others, use `bridge_port`. `tools/made.py` writes this page.
 """
+
+
+def one_of(names):
+    return " or ".join(f"`{it}`" for it in names) or "–"
 
 
 def page_of_families(tree):
     """The page with a row for each attribute set."""
     rows = [
-        f"| `{it['name']}` | {it['whose']} | `{it['holder']}` | {'`%s`' % it['kind'] if it['kind'] else '–'} | `{it['attributes']}` |\n"
+        f"| `{it['name']}` | {it['whose']} | {one_of(it['holders'])} | {one_of(it['kinds'])} | `{it['attributes']}` |\n"
         for it in families.families(tree.text_or_none)
     ]
     return FAMILIES + "".join(rows) + BELOW_FAMILIES

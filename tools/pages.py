@@ -56,11 +56,11 @@ ROOT = os.path.dirname(os.path.dirname(os.path.realpath(__file__)))
 PAGES = re.compile(r"(README|CONTRIBUTING|CHANGELOG)\.md|docs/(proofs/)?[^/]+\.md|(bench|tools|extra|crates/[^/]+)/README\.md")
 # The most words that a page may have. Any other README.md below the top has SMALL_BUDGET, and CHANGELOG.md has none.
 BUDGETS = {
-    "README.md": 1220, "CONTRIBUTING.md": 1985, "bench/README.md": 560, "docs/families.md": 400, "docs/c.md": 980, "docs/ARCHITECTURE.md": 1590,
-    "docs/MAP.md": 76, "docs/json.md": 1150,
-    "docs/messages.md": 740, "docs/programs.md": 2090, "docs/python.md": 812, "docs/rattle.md": 1830,
-    "docs/rust.md": 835, "docs/proofs/ASSURANCE.md": 1190, "docs/proofs/CLAIMS.md": 3075,
-    "docs/DECISIONS.md": 4560, "docs/DIFFERENCES.md": 2140, "docs/proofs/MODEL.md": 3665,
+    "README.md": 1220, "CONTRIBUTING.md": 2045, "bench/README.md": 580, "docs/families.md": 400, "docs/c.md": 1000, "docs/ARCHITECTURE.md": 1615,
+    "docs/MAP.md": 80, "docs/json.md": 1175,
+    "docs/messages.md": 740, "docs/programs.md": 2160, "docs/python.md": 855, "docs/rattle.md": 1830,
+    "docs/rust.md": 865, "docs/proofs/ASSURANCE.md": 1190, "docs/proofs/CLAIMS.md": 3160,
+    "docs/DECISIONS.md": 5000, "docs/DIFFERENCES.md": 2140, "docs/proofs/MODEL.md": 3745,
 }  # fmt: skip
 SMALL_BUDGET = 600
 HISTORY, COMPARISON, CLAIMS = "CHANGELOG.md", "docs/DIFFERENCES.md", "docs/proofs/CLAIMS.md"

@@ -2,7 +2,8 @@
 
 sets/NAME.tsv has a set, or a nested list, as the contracts describe it. Write it from the kernel's headers, the
 `nla_policy` and the fill function of the driver. The rows of src/ are written without it, and the prover compares the two.
-Its head has the header of the file in specs/; then `set` or `list`, the path of the enum, and the prefix of the names:
+Its head has the header of the file in specs/; then `set` or `list`, the path of the enum, and the prefix of the names; then
+what the names of its definitions begin with, if it is not NAME, since another crate has these:
 
     # DSA port attributes.
     # set link_vlan_can::dsa::InfoDsa IFLA_DSA_
@@ -13,15 +14,17 @@ Each other line is an attribute type. Tabs are between its cells, of which the l
     name        the constant in the kernel's headers
     variant     then the names that `means` has for its fields: `Conduit conduit`
     class       as in rows of src/; `none` for no value, `no row` for a type without a variant
-    size        of a number with names, or a set of flags: its bytes; of a struct without a Layout: its Lengths, as `AtLeast 4`
+    size        of a number with names, or a set of flags: its bytes; of a struct without a Layout: its Lengths, as `AtLeast 4`;
+                of Counters: the bytes of each number, or `i32`; of a held list: its set, if its type alone says which it is
     quantity    if its number counts something
 
 specs/NAME.antt of the crate is written as a whole. What it needs of an enum, a set of flags or a struct `T` is written by
 hand in other files of specs/. Its name begins with words of `T`; of several, that with most is taken: hsr_protocol_names.
 
 runs/sets/NAME has a list with each attribute type once. The bytes of each payload differ. What the programs have to print
-is worked out here, from the row alone. It tells no names of flags, fields of structs or elements of lists: types with these
-are left out, and have runs by hand.
+is worked out here, from the row alone. It tells no names of flags or of places, fields of structs or elements of lists:
+types with these are left out, have no flag or no place, and have runs by hand. A set all of whose types are left out has
+no such run.
 """
 import collections
 import ipaddress
@@ -46,6 +49,7 @@ CLASSES = {
     "VlanProtocol": ("vlan_protocol", "EtherType (protocol_number {0})"),
     "Vec<u8>": ("bytes", "Raw {0}.items"),
     "Shown<Text>": ("text", "Raw {0}.items"),
+    "Shown<Held>": ("held", "Raw {0}.items"),
     "Vec<u16>": ("u16s", "Raw (octets_of 2 {0}.items)"),
     "Vec<u32>": ("u32s", "Raw (octets_of 4 {0}.items)"),
     "Vec<u64>": ("u64s", "Raw (octets_of 8 {0}.items)"),
@@ -55,6 +59,8 @@ CLASSES = {
     "no row": ("", ""),
     "Named": ("u{bits}_enum T_names", "seen_value {n} (numbers_of T_names) (T_seen {0})"),
     "Coded": ("u{bits}_coded T_names", "Number {n} {0}"),
+    "CodedFlags": ("u{bits}_flags T_names", "Number {n} {0}"),
+    "Counters": ("u{bits}_counters T_names", "Raw (octets_of {n} {0}.items)"),
     "FlagBits": ("u{bits}_flags T_bit_names", "Number {n} (T_bits {0})"),
     "BeFlagBits": ("u{bits}_be_flags T_bit_names", "Raw (bytes_be {n} (T_bits {0}))"),
     "LowFlagBits": ("low_flags T_bit_names", "LowByte (T_bits {0})"),
@@ -64,6 +70,10 @@ CLASSES = {
     "AddressList<Ipv4Addr>": ("4", "Listed (map four_octets {0}.items)"),
     "AddressList<Ipv6Addr>": ("16", "Listed (map sixteen_octets {0}.items)"),
 }
+# Those of classes whose numbers are signed if the size says so.
+SIGNED = {"Counters": ("i32_counters T_names", "Raw (octets_by 4 (cast_unsigned w32) {0}.items)")}
+# The sizes that classes can have, if these are not the bytes of a number.
+SIZES = {"Struct": r"(Exactly|AtLeast|Fixed) \d+", "Counters": "[48]|i32", "Shown<Held>": r"\w*"}
 # What a number counts, with the unit in documents.
 UNITS = {
     "": "", "ClockTicks": "1/100 s", "Milliseconds": "ms", "Seconds": "s", "BitsPerSecond": "bit/s", "Ohms": "ohm",
@@ -72,8 +82,9 @@ UNITS = {
 # What tables and values can import, in this order; the words of Payloads are added.
 MODULES = {
     "std.specs.Prelude": "[] ◌∷◌ map true false",
+    "std.specs.Int": "w32 cast_unsigned",
     "link_base.specs.Number": "bytes_be",
-    "link_base.specs.Layout": "octets_of",
+    "link_base.specs.Layout": "octets_of octets_by",
     "link_base.specs.Structs": "packed",
     "link_base.specs.Class": "Number Integer Boolean Raw LowByte EtherType Nothing flag_value",
     "link_base.specs.Payloads": "",
@@ -99,12 +110,12 @@ class Set:
 
     def __init__(self, path, files, text_of):
         self.name, text = path[5:-4], text_of(path)
-        head = re.match(r"# (.*)\n# (set|list) (\w+)::([\w:]+)::(\w+) (\w+)\n", text)
+        head = re.match(r"# (.*)\n# (set|list) (\w+)::([\w:]+)::(\w+) (\w+)(?: (\w+))?\n", text)
         check(f"{path}:1", head, "it has no head with a header, then `set` or `list`, an enum, and what its names begin with")
-        self.title, self.kind, self.crate, self.module, self.enum, self.prefix = head.groups()
+        self.title, self.kind, self.crate, self.module, self.enum, self.prefix, defined = head.groups()
         self.folder = f"crates/{self.crate}/specs/"
         self.file = f"{self.folder}{self.name.title().replace('_', '')}.antt"
-        self.table, self.means = (f"{self.name}_{it}" for it in {"set": ("table", "means"), "list": ("rows", "leaf")}[self.kind])
+        self.table, self.means = (f"{defined or self.name}_{it}" for it in {"set": ("table", "means"), "list": ("rows", "leaf")}[self.kind])
         self.payloads = re.findall(r"^abbrev pub (\w+) : .*\bPayloads$", text_of(PAYLOADS), re.MULTILINE)
         self.layouts = re.findall(r"^layout_extent layouts\.(\w+)", text_of(LAYOUTS), re.MULTILINE)
         self.defined = {
@@ -128,8 +139,8 @@ class Set:
         check(at, number.isdigit() and line.count("\t") < 6, "its cells are not number, name, variant, class, size and quantity")
         check(at, kind in CLASSES, f"there is no class `{its_class}`")
         check(at, quantity in UNITS, f"there is no quantity `{quantity}`")
-        word, value = CLASSES[kind]
-        sizes = "[1248]" if re.search(r"\{(n|bits)\}", word + value) else r"(Exactly|AtLeast|Fixed) \d+" if kind == "Struct" else ""
+        word, value = SIGNED[kind] if kind in SIGNED and size == "i32" else CLASSES[kind]
+        sizes = SIZES.get(kind, "[1248]" if re.search(r"\{(n|bits)\}", word + value) else "")
         layout = [f"layouts.{it}" for it in self.layouts if kind == "Struct" and of.endswith(it) and not size]
         check(at, layout or re.fullmatch(sizes, size), f"`{size}` is not a size of `{its_class}`")
         if kind == "Struct" and self.definition(of, "bit_names"):
@@ -263,6 +274,11 @@ def sample(it):
         payload = octets(int(it.size), it.number % 64 + 192)
         number = str(int.from_bytes(payload, order))
         return payload, number, f"Other({number})" if kind == "Named" else number, f'{{"number":{number},"name":null}}'
+    if kind == "CodedFlags":
+        return bytes(int(it.size)), "0", "0", '{"number":0,"names":[]}'
+    if it.its_class == "Shown<Held>":
+        payload = octets(5)
+        return payload, "(5 bytes, not decoded)", str([*payload]), f'{{"hex":"{payload.hex()}"}}'
     if it.its_class in ("[u8; 6]", "Vec<u8>"):
         payload = octets(6 if kind[0] == "[" else 5)
         return payload, payload.hex(":"), str([*payload]), f'"{payload.hex(":")}"'
@@ -288,6 +304,7 @@ def sample(it):
         "bool": (b"\1", "on", "true", "true"),
         "Option": (b"", "on", "None", "true"),
         "none": (b"", "", "", "true"),
+        "Counters": (b"", "(empty)", "[]", "[]"),
         "VlanProtocol": (b"\x88\xa8", "802.1ad (0x88a8)", "Ieee8021Ad", '{"number":34984,"name":"802.1ad"}'),
     }
     return others.get(kind)
@@ -301,7 +318,7 @@ def run(it):
         payload, plain, debug, value = sample(row)
         parts["out"] += (struct.pack("<HH", 4 + len(payload), row.number) + payload).hex() + "00" * (-len(payload) % 4)
         parts["attr"] += f"attr {row.number} len {len(payload)}\n"
-        parts["plain"] += f"  {row.name} {plain}".rstrip() + "\n"
+        parts["plain"] += f"  {row.name} {plain}".replace(" \n", "\n").rstrip() + "\n"
         parts["debug"] += f"  {row.variant}" + f"({debug})" * bool(debug) + "\n"
         unit = f',"unit":"{UNITS[row.quantity]}"' * bool(UNITS[row.quantity])
         name = row.name.removeprefix(it.prefix).lower()
@@ -335,8 +352,10 @@ same
 def written(files, text_of):
     """The texts of the files that are made from sets/, by their paths. A line that is not right is a ValueError."""
     made = {MODEL: text_of(MODEL)}
-    for path in sorted(it for it in files if re.fullmatch(r"sets/\w+\.tsv", it)):
-        it = Set(path, files, text_of)
+    paths = sorted(it for it in files if re.fullmatch(r"sets/\w+\.tsv", it))
+    # (nested lists first, since the tables of sets name theirs)
+    for path in sorted(paths, key=lambda it: "\n# list " not in text_of(it)):
+        it = Set(path, [*files, *made], lambda path: made.get(path) or text_of(path))
         made |= {it.file: specs(it), MODEL: in_model(it, made[MODEL])}
-        made |= {f"runs/sets/{it.name}": run(it)} if it.kind == "set" else {}
+        made |= {f"runs/sets/{it.name}": run(it)} if it.kind == "set" and any(map(sample, it.rows)) else {}
     return made

@@ -129,8 +129,8 @@ end_rows = prefixed "END_" (leaf_row_in Index 1 "END_INDEX" (u32_enum ends) ∷ 
 """
 # The list of attribute sets, and lists that agree with it.
 FAMILIES = """\
-            Dsa   "dsa"   InfoDsa  0  InfoKind (b"dsa")
-            Vlan  "vlan"  InfoVlan 1  BridgeAttribute (IFLA_VLAN)
+            Dsa   "dsa"   InfoDsa  0  [InfoKind (b"dsa")]
+            Vlan  "vlan"  InfoVlan 1  [BridgeAttribute (IFLA_VLAN)]
 """
 LIB, SPEC, MAN = "crates/pairs/src/lib.rt", "crates/pairs/specs/Pair.antt", "docs/nlroute.1"
 HEADER, RUN = "crates/nlroute_ffi/include/nlroute.h", "runs/plain/more/vlan"
@@ -246,7 +246,7 @@ CASES = [
     (RUN, "> vlan 00", "> vlan zz", f"runs/plain/:{NO_SET.format(LISTED['runs/plain/'])}"),
     ("runs/nlroute/sets", "vlan", "vlan x", f"runs/nlroute/:{NO_SET.format(LISTED['runs/nlroute/'])}"),
     ("runs/json/pairs", "< vlan 00", "< vlan", f"runs/json/:{NO_SET.format(LISTED['runs/json/'])}"),
-    (f"{ROUTE}/src/family.rt", "1  Bridge", "2  Bridge",
+    (f"{ROUTE}/src/family.rt", "1  [Bridge", "2  [Bridge",
      f"{ROUTE}/src/family.rt:1: the numbers of attribute sets do not go from 0 in order"),
     (f"{ROUTE}/src/family.rt", FAMILIES, "\n", f"{ROUTE}/src/family.rt:1: there is no list of attribute sets",
      "25: `<!-- count: lists of plain -->` does not name a count"),
@@ -285,12 +285,16 @@ COMMENTED = """\
     /// [`Dsa`].
     /// `vlan`: attributes of `IFLA_VLAN` in AF_BRIDGE messages,
     /// [`InfoVlan`](crate::link::InfoVlan): type 1 only.
-            Dsa   "dsa"   InfoDsa  0  InfoKind (b"dsa")
-            Hsr   "hsr"   InfoHsr  1  InfoKind (b"hsr")
-            Port  "port"  InfoPort 2  PortKind (b"dsa")
-            Vlan  "vlan"  InfoVlan 3  BridgeAttribute (IFLA_VLAN)
+            Dsa   "dsa"   InfoDsa  0  [InfoKind (b"dsa")]
+            Hsr   "hsr"   InfoHsr  1  [InfoKind (b"hsr"), InfoKind (b"prp"), Within (Family::Vlan, IFLA_VLAN)]
+            Port  "port"  InfoPort 2  [PortKind (b"dsa")]
+            Vlan  "vlan"  InfoVlan 3  [BridgeAttribute (IFLA_VLAN)]
+            All   "all"   AllInfos 4  [LinkMessage]
+            Part  "part"  Part     5  [Within (Family::All, IFLA_PART), Inet6Attribute (IFLA_VLAN)]
     /// `hsr`: attributes of HSR devices, [`InfoHsr`](crate::link::InfoHsr).
     /// `port`: attributes of ports, [`InfoPort`](crate::link::InfoPort).
+    /// `all`: attributes of messages, [`AllInfos`](crate::link::AllInfos).
+    /// `part`: attributes of links for IPv6, [`Part`](crate::link::Part).
 """
 ANSWERS, GOALS = f"{ROUTE}/proofs/rewriting/rewrite/Answers.antt", "use Rattle.n.proofs.rewriting.rewrite.Goals as goal\n"
 BINDINGS = [f"bindings/{it}/README.md" for it in ("python", "rust")]
@@ -303,18 +307,20 @@ enum nlroute_family {
     NLROUTE_DSA = 0, /* IFLA_INFO_DATA of DSA ports */
     NLROUTE_HSR = 1, /* IFLA_INFO_DATA of HSR devices */
     NLROUTE_PORT = 2, /* IFLA_INFO_SLAVE_DATA of ports */
-    NLROUTE_VLAN = 3 /* IFLA_VLAN in AF_BRIDGE messages: type 1 only */
+    NLROUTE_VLAN = 3, /* IFLA_VLAN in AF_BRIDGE messages: type 1 only */
+    NLROUTE_ALL = 4, /* messages */
+    NLROUTE_PART = 5 /* IFLA_PART of links for IPv6 */
 };
 """),
     MAN: (".B a\nThe list is IFLA_INFO_DATA of a\n.BR a\nThe list is IFLA_INFO_SLAVE_DATA of a\n.B a\nThe list is A\n",
           '.BR dsa ", " hsr\nThe list is IFLA_INFO_DATA of a\n.B port\nThe list is IFLA_INFO_SLAVE_DATA of a\n.B a\nThe list is A\n'),
-    "README.md": ("They cover a](docs/families.md) b\n", "They cover DSA ports, HSR devices, and ports ([4 families](docs/families.md) b\n"),
+    "README.md": ("They cover a](docs/families.md) b\n", "They cover DSA ports, HSR devices, and ports ([6 families](docs/families.md) b\n"),
     **{it: ("link attributes, such as those of a. It has b\n",
             "link attributes, such as those of DSA ports, HSR devices, and ports. It has b\n") for it in BINDINGS},
     ANSWERS: (f"-- A\n{GOALS}\nold\n", f"-- A\n{GOALS}" + "".join(f"""
 pub returns-in-{it}-clause-answer : goal.returns-in-{it}-clause-answer
 returns-in-{it}-clause-answer c = rw c.in-{it}.is c.rewrite_as{'' if it == 'Dsa' else f'-in-{it}'}.ensures.answer
-""" for it in ("Dsa", "Hsr", "Port", "Vlan"))),
+""" for it in ("Dsa", "Hsr", "Port", "Vlan", "All", "Part"))),
     "docs/proofs/MODEL.md": ("### A: `InfoDsa`, `dsa_table`\n### B: `InfoVlan`, `vlan_table`\n### `InfoHsr`\n",
                              "### DSA ports: `InfoDsa`, `dsa_table`\n### `IFLA_VLAN` in AF_BRIDGE messages: `InfoVlan`, `vlan_table`\n### `InfoHsr`\n"),
 }  # fmt: skip
@@ -346,6 +352,9 @@ MADE = [
     ([*made.broken("one", 16)], ["one"]),
     (repeated(lambda it: it[0]), {path: it[1] for path, it in REPEATING.items()}),
     (repeated(lambda it: it[1]), {path: it[1] for path, it in REPEATING.items()}),
+    ([(it["holders"], it["kinds"], it["in_messages"]) for it in families.families({families.LIST: COMMENTED}.get)][1:],
+     [(["IFLA_INFO_DATA", "IFLA_VLAN"], ["hsr", "prp"], True), (["IFLA_INFO_SLAVE_DATA"], ["dsa"], True), (["IFLA_VLAN"], [], True),
+      ([], [], False), (["IFLA_PART", "IFLA_VLAN"], [], False)]),
     (repeated(lambda it: it[0].replace("They cover", "Of")),
      f"README.md: 0 places are as {families.WRITTEN[3][1]}, and one has to be"),
     (repeated(lambda it: it[0] * (1 + it[0].startswith(".B"))),

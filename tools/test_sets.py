@@ -54,6 +54,8 @@ class Sets(unittest.TestCase):
             ("HsrProtocol>\t1", "HsrProtocol>", f"{HSR}:9: `` is not a size of `Named<HsrProtocol>`"),
             ("Version version\tu8", "Version version\tu8\t1", f"{HSR}:8: `1` is not a size of `u8`"),
             ("Named<HsrProtocol>\t1", "Coded<HsrProtocol>\t8", f"{HSR}:9: Payloads has no word `u64_coded`"),
+            ("u16", "Counters<HsrProtocol>\t2", f"{HSR}:7: `2` is not a size of `Counters<HsrProtocol>`"),
+            ("u16", "CodedFlags<HsrProtocol>", f"{HSR}:7: `` is not a size of `CodedFlags<HsrProtocol>`"),
             ("<HsrProtocol>", "<Mode>", f"{HSR}:9: specs/ has no `names` of `Mode`"),
             ("u32\t\tInterfaceIndex\n3", "u32\t\tIndex\n3", f"{HSR}:4: there is no quantity `Index`"),
             ("Version version", "Version", f"{HSR}:8: `Version` has 0 names of fields"),
@@ -83,6 +85,15 @@ class Sets(unittest.TestCase):
             ("bool", "truth", "Boolean x", b"\1", "on", "true", "true"),
             ("Option<bool>", "flag_or_bool", "flag_value x", b"", "on", "None", "true"),
             ("Shown<Text>", "text", "Raw x.items", b"text 7\0", '"text 7"', "[116, 101, 120, 116, 32, 55, 0]", '"text 7"'),
+            ("Shown<Held>", "held", "Raw x.items", bytes.fromhex("0718293a4b"), "(5 bytes, not decoded)",
+             "[7, 24, 41, 58, 75]", '{"hex":"0718293a4b"}'),
+            (("Shown<Held>", "hsr"), "held", "Raw x.items", bytes.fromhex("0718293a4b"), "(5 bytes, not decoded)",
+             "[7, 24, 41, 58, 75]", '{"hex":"0718293a4b"}'),
+            (("CodedFlags<CanState>", "4"), "(u32_flags can_state_names)", "Number 4 x", bytes(4), "0", "0", '{"number":0,"names":[]}'),
+            (("Counters<CanState>", "4"), "(u32_counters can_state_names)", "Raw (octets_of 4 x.items)", b"", "(empty)", "[]", "[]"),
+            (("Counters<CanState>", "i32"), "(i32_counters can_state_names)", "Raw (octets_by 4 (cast_unsigned w32) x.items)",
+             b"", "(empty)", "[]", "[]"),
+            (("Counters<CanState>", "8"), "(u64_counters can_state_names)", "Raw (octets_of 8 x.items)", b"", "(empty)", "[]", "[]"),
             ("none", "no_value", "Nothing", b"", "", "", "true"),
             ("[u8; 6]", "mac", "Raw x", bytes.fromhex("0718293a4b5c"), "07:18:29:3a:4b:5c", "[7, 24, 41, 58, 75, 92]", '"07:18:29:3a:4b:5c"'),
             ("Ipv4Addr", "ipv4", "Raw (four_octets x)", b"\7\x18\x29\x3a", "7.24.41.58", "7.24.41.58", '"7.24.41.58"'),
@@ -135,6 +146,31 @@ part_leaf (infos.A a) = Case 1 (Number 4 a)
 part_leaf (infos.Other other) = default_means other
 """, made["crates/link_vlan_can/specs/Part.antt"])  # fmt: skip
 
+    def test_lists_come_before_sets(self):
+        # (a set before its nested list by name, and neither of the files in specs/)
+        texts = {
+            "sets/a.tsv": "# A set.\n# set link_vlan_can::a::A IFLA_A_\n1\tIFLA_A_B\tB x\tNestedList<LastB>\n",
+            "sets/last_b.tsv": "# A list.\n# list link_vlan_can::b::LastB IFLA_B_\n1\tIFLA_B_C\tC x\tu8\n",
+        }
+        made = sets.written([*TREE.files, *texts], lambda it: texts.get(it) or TREE.text(it))
+        self.assertIn('nested_row 1 "IFLA_A_B" false last_b_rows', made["crates/link_vlan_can/specs/A.antt"])
+        self.assertIn("last_b_leaf", made["crates/link_vlan_can/specs/LastB.antt"])
+        # no attribute type of the set has a sample, and so it has no run
+        self.assertNotIn("runs/sets/a", made)
+
+    def test_samples_of_held_lists_in_a_run(self):
+        text = f"{HEAD}7\tIFLA_SOME_ONE\tOne x\tShown<Held>\thsr\n8\tIFLA_SOME_TWO\tTwo x\tShown<Held>\n"
+        made = written("sets/some.tsv", text)["runs/sets/some"]
+        lines = "  IFLA_SOME_ONE (5 bytes, not decoded)\n  IFLA_SOME_TWO (5 bytes, not decoded)\n\n"
+        self.assertIn(f"> some 09000700 0718293a 4b000000 09000800 08192a3b 4c000000\n{lines}", made)
+
+    def test_names_of_definitions(self):
+        head = HEAD.replace("IFLA_SOME_", "IFLA_SOME_ other")
+        made = written("sets/some.tsv", f"{head}7\tIFLA_SOME_ONE\tOne x\tu8\n")
+        self.assertIn("abbrev pub other_table : Table\n", made["crates/link_vlan_can/specs/Some.antt"])
+        self.assertIn("\nother_means (infos.One x) = ", made["crates/link_vlan_can/specs/Some.antt"])
+        self.assertIn("> some 05000700", made["runs/sets/some"])
+
     def test_rows_of_the_model(self):
         it = sets.Set(HSR, TREE.files, TREE.text)
         head = "### Some: `InfoHsr`, `hsr_table`\n\n```text\n"
@@ -157,10 +193,31 @@ class Template(unittest.TestCase):
             self.assertEqual(name == "dsa", {*impls.splitlines()} <= {*text.splitlines()})
         self.assertNotIn("Conduit", made)
 
+    def test_nested_lists(self):
+        # those of link_common differ in their words, rows, classes and the flag only
+        for name, its_type, prefix, held in (
+            ("link_xdp", "LinkXdp", "IFLA_XDP_", "`IFLA_XDP`"),
+            ("devlink_port", "DevlinkPort", "DEVLINK_ATTR_", "`IFLA_DEVLINK_PORT`"),
+        ):
+            text = TREE.text(f"crates/link_common/src/{name}.rt")
+            made = new_set.filled(name, its_type, "link_common", "Words", prefix, held, True)
+            self.assertTrue(made.startswith("//! Words.\n"))
+            self.assertIn(f"/// An element of {held} (`{prefix}*`, `include/uapi/linux/if_link.h`).\n#[derive", made)
+            impls = made[made.index("\nmacro_rules") :]
+            place = iter(text.splitlines())
+            self.assertEqual([], [it for it in impls.splitlines() if "FLAGGED" not in it and it not in place])
+            self.assertNotRegex(made, "(?i)dpll|pin\\b")
+
+    def test_a_list_that_another_set_holds(self):
+        made = new_set.filled("inet6", "AfSpecInet6", "link_common", "IPv6", held="`AF_INET6` of `IFLA_AF_SPEC`")
+        self.assertTrue(made.startswith("//! IPv6 attributes (`AF_INET6` of `IFLA_AF_SPEC`).\n"))
+        self.assertIn('            "IFLA_INET6_";\n        }\n', made)
+
     def test_lines_of_modules(self):
         for text, line, wanted in (
             ("mod a;\nmod c;\n\npub use a::A;\n", "mod b;", "mod a;\nmod b;\nmod c;\n\npub use a::A;\n"),
             ("mod b;\n", "mod a;", "mod a;\nmod b;\n"),
+            ("mod inet;\nmod link;\n", "mod inet6;", "mod inet;\nmod inet6;\nmod link;\n"),
             ("mod b;\n", "mod b;", "mod b;\n"),
             ("mod b;\n", "pub use b::B;", "mod b;\n\npub use b::B;\n"),
             ("", "pub mod B", "pub mod B\n"),

@@ -42,4 +42,5 @@ pub mod ViewLemmas
 pub mod ViewWalks
 pub mod Elements
 pub mod Entries
+pub mod PartLemmas
 pub mod NulLemmas

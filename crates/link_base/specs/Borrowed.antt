@@ -49,7 +49,7 @@ Says (borrowed.Ipv4 a) v = v ≡ Raw (four_octets a)
 Says (borrowed.Ipv6 a) v = v ≡ Raw (sixteen_octets a)
 Says (borrowed.Bytes look p) v = v ≡ Raw p.now
 Says (borrowed.Struct layout p) v = v ≡ Raw p.now
-Says (borrowed.Numbers w p) v = v ≡ Raw p.now
+Says (borrowed.Numbers a p) v = v ≡ Raw p.now
 Says content v = ⊥
 
 -- a borrowed content is the name, up to its first NUL, and the numbers of these limits
@@ -102,7 +102,7 @@ form_of (borrowed.Ipv4 a) = Some forms.Ipv4
 form_of (borrowed.Ipv6 a) = Some forms.Ipv6
 form_of (borrowed.Bytes look p) = Some (forms.Bytes look)
 form_of (borrowed.Struct layout p) = Some (forms.Struct layout)
-form_of (borrowed.Numbers w p) = Some (forms.Numbers w)
+form_of (borrowed.Numbers a p) = Some (forms.Numbers a)
 form_of (borrowed.Limits name numbers) = Some forms.Limits
 form_of (borrowed.Addresses list size) = Some (forms.Addresses size)
 form_of (borrowed.List list flagged) = Some (forms.List flagged)

@@ -41,7 +41,7 @@ is_single form = true
 
 -- an array: its numbers are elements
 abbrev pub is_array : Form → Bool
-is_array (forms.Numbers w) = true
+is_array (forms.Numbers a) = true
 is_array form = false
 
 -- the class is that of the form

@@ -61,6 +61,16 @@ choices (Fs ∷ Fss) eqs means h (inr c) (inr d) e = choices Fss eqs.1 (λ z. me
 choices (Fs ∷ Fss) eqs means h (inl x) (inr d) e = absurd (true≢false (sym e))
 choices (Fs ∷ Fss) eqs means h (inr c) (inl y) e = absurd (true≢false (sym e))
 
+-- the proofs for twenty-five variants of an enum, and those for the variants after them: one search for all takes too long
+pub twenty_five : {A B C D E F G H I J K L M N O P Q R S T U V W X Y Others : Type 0}
+    → A × (B × (C × (D × (E × (F × (G × (H × (I × (J × (K × (L × (M × (N × (O × (P × (Q × (R × (S × (T × (U × (V × (W × (X × (Y × Unit {0}))))))))))))))))))))))))
+    → Others
+    → A × (B × (C × (D × (E × (F × (G × (H × (I × (J × (K × (L × (M × (N × (O × (P × (Q × (R × (S × (T × (U × (V × (W × (X × (Y × Others))))))))))))))))))))))))
+twenty_five
+    (a, (b, (c, (d, (e, (f, (g, (h, (i, (j, (k, (l, (m, (n, (o, (p, (q, (r, (s, (t, (u, (v, (w, (x, (y, _)))))))))))))))))))))))))
+    others =
+    (a, (b, (c, (d, (e, (f, (g, (h, (i, (j, (k, (l, (m, (n, (o, (p, (q, (r, (s, (t, (u, (v, (w, (x, (y, others)))))))))))))))))))))))))
+
 -- the derived test of an enum is thorough if the test of each variant is
 pub of_cases : (N : Record) (eqs : Each Bool N.parts) {M : Type 0} (means : N.D → M) → EachThorough N.parts eqs (λ c. means (N.make c))
     → IsThorough (of_values N false false eqs) means

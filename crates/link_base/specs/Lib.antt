@@ -9,6 +9,7 @@ pub mod Payloads
 pub mod Structs
 pub mod Wire
 pub mod Table
+pub mod Parts
 pub mod Coherent
 pub mod Editions
 pub mod Held

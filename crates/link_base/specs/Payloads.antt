@@ -3,6 +3,7 @@
 use Rattle.std.specs.Prelude.{ℕ, Bool, true, false, List, [], ◌∷◌, map, codes}
 use Prim.Native.String.{String}
 use Rattle.link_base.specs.declared.rows.form.Width.TheVariants.{One, Two, Four, Eight}
+use Rattle.link_base.specs.declared.rows.form.ArrayOf.TheVariants.{U16, U32, U64, I32}
 use Rattle.link_base.specs.declared.rows.form.Order.{Order}
 use Rattle.link_base.specs.declared.rows.form.Order.TheVariants.{Little, Big}
 use Rattle.link_base.specs.declared.rows.form.Role.{Role}
@@ -17,9 +18,10 @@ use Rattle.link_base.specs.Class.{Exactly, Class, Unsigned, Signed, Truth, Optio
 use Rattle.link_base.specs.Named.{Naming, texts_of}
 use Rattle.link_base.specs.Protocol.{vlan_protocols}
 use Rattle.link_base.specs.Fields.{FieldRow}
-use Rattle.link_base.specs.Forms.{bytes_in, layout_extent}
+use Rattle.link_base.specs.Forms.{bytes_in, size_in, layout_extent}
 
--- the form of the values, the names of their numbers or of their bits, each with its number, and the fields of a struct
+-- the form of the values, the names of their numbers, of their bits or of the places of an array, each with its number, and
+-- the fields of a struct
 pub record Payloads : Type 0 where
   pub form : Form
   pub names : List (ℕ × List ℕ)
@@ -47,7 +49,7 @@ class_by forms.Ipv4 names = Octets (Exactly 4)
 class_by forms.Ipv6 names = Octets (Exactly 16)
 class_by (forms.Bytes look) names = Bytes
 class_by (forms.Struct layout) names = Octets (layout_extent layout)
-class_by (forms.Numbers w) names = Many (bytes_in w)
+class_by (forms.Numbers a) names = Many (size_in a)
 class_by forms.Limits names = Limits
 class_by (forms.Addresses n) names = Bytes
 class_by (forms.List flagged) names = Bytes
@@ -60,7 +62,7 @@ class_of p = class_by p.form p.names
 abbrev pub is_fixed : Form → Bool
 is_fixed forms.FlagOrBool = false
 is_fixed (forms.Bytes look) = false
-is_fixed (forms.Numbers w) = false
+is_fixed (forms.Numbers a) = false
 is_fixed forms.Limits = false
 is_fixed (forms.Addresses n) = false
 is_fixed (forms.List flagged) = false
@@ -184,13 +186,23 @@ limits = plain forms.Limits
 
 -- arrays of numbers
 abbrev pub u16s : Payloads
-u16s = plain (forms.Numbers Two)
+u16s = plain (forms.Numbers U16)
 
 abbrev pub u32s : Payloads
-u32s = plain (forms.Numbers Four)
+u32s = plain (forms.Numbers U32)
 
 abbrev pub u64s : Payloads
-u64s = plain (forms.Numbers Eight)
+u64s = plain (forms.Numbers U64)
+
+-- arrays whose places have names, with the number of each, which counts from 0
+abbrev pub u32_counters : List (ℕ × List ℕ) → Payloads
+u32_counters names = with_names (forms.Numbers U32) names
+
+abbrev pub u64_counters : List (ℕ × List ℕ) → Payloads
+u64_counters names = with_names (forms.Numbers U64) names
+
+abbrev pub i32_counters : List (ℕ × List ℕ) → Payloads
+i32_counters names = with_names (forms.Numbers I32) names
 
 abbrev pub bytes : Payloads
 bytes = plain (forms.Bytes looks.Address)
@@ -198,6 +210,10 @@ bytes = plain (forms.Bytes looks.Address)
 -- bytes that are shown as a text
 abbrev pub text : Payloads
 text = plain (forms.Bytes looks.Text)
+
+-- bytes that are a list of attributes of another set
+abbrev pub held : Payloads
+held = plain (forms.Bytes looks.Held)
 
 abbrev pub no_value : Payloads
 no_value = plain forms.Nothing

@@ -57,18 +57,23 @@ IsValue table b set (Err fault) = Gives table (kind_field_of b) (payload_of b) (
 abbrev pub bytes_in : {S : Type 0} {g : sets.Ghosts S} → View S g → List ℕ
 bytes_in v = v.rest.now
 
+-- the length of the list that the view is of, with the attributes that it has passed
+abbrev pub whole_length : {S : Type 0} {g : sets.Ghosts S} → View S g → ℕ
+whole_length v = v.whole
+
 -- the set that the attributes belong to
 abbrev pub set_of : {S : Type 0} {g : sets.Ghosts S} → View S g → S
 set_of v = v.set
 
--- the same attributes of the same set
+-- the same attributes of the same list and set
 abbrev pub IsSameView : {S : Type 0} {g : sets.Ghosts S} → View S g → View S g → Type 0
-IsSameView v w = (bytes_in w ≡ bytes_in v) × (set_of w ≡ set_of v)
+IsSameView v w = (bytes_in w ≡ bytes_in v) × (set_of w ≡ set_of v) × (whole_length w ≡ whole_length v)
 
--- the next attribute is the first that is left, of the same set
+-- the next attribute is the first that is left, of the same list and set
 abbrev pub NextValue : {S : Type 0} {g : sets.Ghosts S} → View S g → Option (Item S g) → View S g → Type 0
 NextValue v None w = (bytes_in v ≡ []) × IsSameView v w
-NextValue v (Some x) w = SplitsFirst (bytes_in v) (buffer_in x) (bytes_in w) × (set_in x ≡ set_of v) × (set_of w ≡ set_of v)
+NextValue v (Some x) w =
+    SplitsFirst (bytes_in v) (buffer_in x) (bytes_in w) × (set_in x ≡ set_of v) × (set_of w ≡ set_of v) × (whole_length w ≡ whole_length v)
 
 -- the first attribute, and those after it; or there is none
 abbrev pub SplitsView : {S : Type 0} {g : sets.Ghosts S} → View S g → Option (Item S g × View S g) → Type 0
@@ -91,7 +96,7 @@ last_of k xs = first_of k (reverse xs)
 
 -- the list decodes, and the view has all its attributes; or this is its first error
 abbrev pub ViewsList : {S : Type 0} {g : sets.Ghosts S} → Table → List ℕ → Result (View S g) ListFault → Type 0
-ViewsList table s (Ok view) = Decodes table s × (bytes_in view ≡ s)
+ViewsList table s (Ok view) = Decodes table s × (bytes_in view ≡ s) × (whole_length view ≡ length s)
 ViewsList table s (Err e) = FirstFault (Gives table) s e.at e.fault
 
 -- ---- walks to the end
@@ -178,14 +183,14 @@ pub record IsWalkOfAll {S : Type 0} {g : sets.Ghosts S} (table : Table) (set : S
 
 -- the attributes of the nested list in a payload, as those of a set; none if its shape is no nested list
 abbrev pub ViewsElements : {T : Type 0} {g : sets.Ghosts T} → Option Shape → List ℕ → T → Option (View T g) → Type 0
-ViewsElements (Some (Nested flagged rows)) p set (Some view) = (bytes_in view ≡ p) × (set_of view ≡ set)
+ViewsElements (Some (Nested flagged rows)) p set (Some view) = (bytes_in view ≡ p) × (set_of view ≡ set) × (whole_length view ≡ length p)
 ViewsElements (Some (Nested flagged rows)) p set None = ⊥
 ViewsElements shape p set (Some view) = ⊥
 ViewsElements shape p set None = Unit {0}
 
 -- likewise, as those of the nested lists of attribute type k
 abbrev pub ViewsElementsOf : {F : Type 0} {g : sets.Ghosts (ElementSet F)} → Option Shape → ℕ → List ℕ → Option (View (ElementSet F) g) → Type 0
-ViewsElementsOf (Some (Nested flagged rows)) k p (Some view) = (bytes_in view ≡ p) × (list_of (set_of view) ≡ k)
+ViewsElementsOf (Some (Nested flagged rows)) k p (Some view) = (bytes_in view ≡ p) × (list_of (set_of view) ≡ k) × (whole_length view ≡ length p)
 ViewsElementsOf (Some (Nested flagged rows)) k p None = ⊥
 ViewsElementsOf shape k p (Some view) = ⊥
 ViewsElementsOf shape k p None = Unit {0}

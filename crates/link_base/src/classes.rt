@@ -2,7 +2,7 @@
 
 pub(crate) mod address_list;
 pub(crate) mod be;
-pub(crate) mod coded;
+pub mod coded;
 pub(crate) mod field_list;
 pub(crate) mod fixed_size;
 pub mod flag_or_bool;

@@ -15,9 +15,9 @@ pub use classes::field_list::FieldList;
 pub use classes::fixed_size::FixedSize;
 pub use classes::flags_class::{FlagBits, LowFlagBits, MaskedFlags};
 pub use classes::lengths::Lengths;
-pub use classes::list_classes::{AddressList, ArrayWord, NestedList};
+pub use classes::list_classes::{AddressList, NestedList};
 pub use classes::named_class::Named;
-pub use classes::number_lists::{emit_numbers, numbers_len, parse_numbers};
+pub use classes::number_lists::{ArrayWord, emit_numbers, numbers_len, parse_numbers};
 pub use classes::payload_class::PayloadClass;
 pub use classes::records::{
     before_nul, check_at_least, check_exactly, check_length, u16_at, u32_at, u32s_at,

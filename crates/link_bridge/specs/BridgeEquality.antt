@@ -20,13 +20,3 @@ vlan_infos = wrapped
     (λ (i : BridgeVlanInfo). (i.flags.0, i.vid))
     (λ (x : ℕ × ℕ). record { flags = record { 0 = x.0 }; vid = x.1 })
     (λ _. refl) (pairs numbers numbers)
-
--- the proofs for twenty-five variants of an enum, and those for the variants after them: one search for all takes too long
-pub twenty_five : {A B C D E F G H I J K L M N O P Q R S T U V W X Y Others : Type 0}
-    → A × (B × (C × (D × (E × (F × (G × (H × (I × (J × (K × (L × (M × (N × (O × (P × (Q × (R × (S × (T × (U × (V × (W × (X × (Y × Unit {0}))))))))))))))))))))))))
-    → Others
-    → A × (B × (C × (D × (E × (F × (G × (H × (I × (J × (K × (L × (M × (N × (O × (P × (Q × (R × (S × (T × (U × (V × (W × (X × (Y × Others))))))))))))))))))))))))
-twenty_five
-    (a, (b, (c, (d, (e, (f, (g, (h, (i, (j, (k, (l, (m, (n, (o, (p, (q, (r, (s, (t, (u, (v, (w, (x, (y, _)))))))))))))))))))))))))
-    others =
-    (a, (b, (c, (d, (e, (f, (g, (h, (i, (j, (k, (l, (m, (n, (o, (p, (q, (r, (s, (t, (u, (v, (w, (x, (y, others)))))))))))))))))))))))))

@@ -7,5 +7,5 @@ pub mod TunnelInfo
 pub mod BridgeEquality
 pub mod Bridge
 pub mod BridgePort
-pub mod AfSpec
+pub mod AfSpecBridge
 pub mod ProtoInfo

@@ -4,7 +4,7 @@ ghost use Rattle.std.specs.Prelude.{◌≡◌, map, None};
 ghost use Rattle.link_base.specs.Frame.{frame_fault};
 ghost use Rattle.link_base.specs.Table.{Gives, Decodes};
 ghost use Rattle.link_base.specs.Answers.{ListAnswers, ListFaultUnless, OnListMemory};
-ghost use Rattle.link_bridge.specs.AfSpec.{af_spec_table, af_spec_means};
+ghost use Rattle.link_bridge.specs.AfSpecBridge.{af_spec_bridge_table, af_spec_bridge_means};
 
 mod flag;
 mod mode;
@@ -54,8 +54,8 @@ impl VecAfSpecBridge {
     ///
     /// As for [`read_list`].
     pub fn parse(alloc: Global, bytes: &[u8]) -> Result<Self, ListError>
-        ensures answer { ListAnswers (λ list. map af_spec_means list.0.items) result (Gives af_spec_table) bytes.now }
-        ensures fault { ListFaultUnless result (Decodes af_spec_table bytes.now) }
+        ensures answer { ListAnswers (λ list. map af_spec_bridge_means list.0.items) result (Gives af_spec_bridge_table) bytes.now }
+        ensures fault { ListFaultUnless result (Decodes af_spec_bridge_table bytes.now) }
         ensures memory { OnListMemory result (frame_fault bytes.now ≡ None) }
     {
         read_list(alloc, bytes).map(Self)
@@ -82,9 +82,9 @@ impl TryClone for AfSpecBridge {
 }
 
 impl Meaning for AfSpecBridge {
-    ghost table = { af_spec_table };
+    ghost table = { af_spec_bridge_table };
 
-    ghost means = { af_spec_means };
+    ghost means = { af_spec_bridge_means };
 }
 
 impl Nla for AfSpecBridge {
@@ -142,7 +142,7 @@ impl Attribute for AfSpecBridge {
         by_rows::canonical::<Self>(buffer)
     }
 
-    ghost lawful = { lawful af_spec_table };
+    ghost lawful = { lawful af_spec_bridge_table };
 
     ghost well_formed = { refl };
 

@@ -254,9 +254,9 @@ impl AttributeRows for InfoBridge {
 impl Attribute for InfoBridge {
     ghost use Rattle.std.specs.Prelude.{refl};
     ghost use Rattle.link_base.proofs.TableLaws.{lawful};
-    ghost use Rattle.link_base.specs.Equality.{of_cases, thorough_fields};
+    ghost use Rattle.link_base.specs.Equality.{of_cases, thorough_fields, twenty_five};
     ghost use Rattle.link_bridge.specs.Bridge.{bridge_table};
-    ghost use Rattle.link_bridge.specs.BridgeEquality.{twenty_five, ids, options};
+    ghost use Rattle.link_bridge.specs.BridgeEquality.{ids, options};
     ghost use Rattle.link_bridge.specs.contracts.bridge.stp_state.BridgeStpStateNamedNumber.TheImpl.Laws as states;
     ghost use Rattle.link_bridge.specs.contracts.bridge.stp_mode.BridgeStpModeNamedNumber.TheImpl.Laws as modes;
     ghost use Rattle.link_bridge.specs.contracts.bridge.router_type.BridgeMulticastRouterTypeNamedNumber.TheImpl.Laws as routers;

@@ -233,9 +233,9 @@ impl AttributeRows for InfoBridgePort {
 impl Attribute for InfoBridgePort {
     ghost use Rattle.std.specs.Prelude.{refl};
     ghost use Rattle.link_base.proofs.TableLaws.{lawful};
-    ghost use Rattle.link_base.specs.Equality.{of_cases, thorough_fields};
+    ghost use Rattle.link_base.specs.Equality.{of_cases, thorough_fields, twenty_five};
     ghost use Rattle.link_bridge.specs.BridgePort.{bridge_port_table};
-    ghost use Rattle.link_bridge.specs.BridgeEquality.{twenty_five, ids};
+    ghost use Rattle.link_bridge.specs.BridgeEquality.{ids};
     ghost use Rattle.link_bridge.specs.contracts.bridge_port.state.BridgePortStateNamedNumber.TheImpl.Laws as states;
     ghost use Rattle.link_bridge.specs.contracts.bridge.router_type.BridgeMulticastRouterTypeNamedNumber.TheImpl.Laws as routers;
     ghost use Rattle.link_bridge.specs.contracts.bridge_port.InfoBridgePort.{enum};

@@ -8,7 +8,7 @@ ghost use Rattle.link_bridge.specs.BooleanOptions.{option_bits};
 ghost use Rattle.link_bridge.specs.BridgePort.{bridge_port_added, bridge_port_table_first};
 ghost use Rattle.link_bridge.specs.Id.{buffer_of, id_of_buffer, priority_octets};
 ghost use Rattle.link_bridge.specs.VlanInfo.{vlan_info_bits, vlan_info_of, vlan_info_octets};
-ghost use Rattle.link_bridge.specs.AfSpec.{af_spec_means};
+ghost use Rattle.link_bridge.specs.AfSpecBridge.{af_spec_bridge_means};
 ghost use Rattle.link_bridge.specs.ProtoInfo.{proto_info_means};
 ghost use Rattle.link_bridge.specs.declared.af_spec.VecAfSpecBridge.{VecAfSpecBridge};
 ghost use Rattle.link_bridge.specs.declared.af_spec.vlan_info.BridgeVlanInfo.{BridgeVlanInfo};
@@ -94,7 +94,7 @@ pub fn equality_of_values()
 /// Proves that lists that compare equal represent the same attributes, in the same order.
 pub fn equality_of_lists()
     ensures af_spec { (a b : VecAfSpecBridge) → IsTrue (⟦<VecAfSpecBridge as PartialEq>⟧.eq a b)
-        → map af_spec_means a.0.items ≡ map af_spec_means b.0.items }
+        → map af_spec_bridge_means a.0.items ≡ map af_spec_bridge_means b.0.items }
     ensures proto_info { (a b : VecLinkProtoInfoBridge) → IsTrue (⟦<VecLinkProtoInfoBridge as PartialEq>⟧.eq a b)
         → map proto_info_means a.0.items ≡ map proto_info_means b.0.items }
 {}

@@ -108,7 +108,7 @@ module _ (e : Entry) (octets p : List ℕ) (held : IsEntry e) where
       let low : e.number % 256 ≡ e.number = omega (arith, few) in
       ap (λ q. slice_index q 0) is ∙ low
 
-  signed_read : payload_of fields.Signed e octets ≡ Ok p → cast_unsigned w64 (cast_signed w32 (number p)) ≡ e.number
+  pub signed_read : payload_of fields.Signed e octets ≡ Ok p → cast_unsigned w64 (cast_signed w32 (number p)) ≡ e.number
   signed_read h =
       let both = only_held (is_i32 e.number) BadNumber (bytes_of 4 e.number) p (content_ok fields.Signed e octets p h) in
       ap (λ q. cast_unsigned w64 (cast_signed w32 (number q))) both.1 ∙ signed e.number held.number both.0
@@ -238,7 +238,7 @@ module _ (table : Table) (formed : is_table table ≡ true) (e : Entry) (octets 
             let read = class_read e octets p held f n list bare at form names one (ap (λ o. payload_of (fields_in o) e octets) (sym named) ∙ h) in
             subst (λ o. IsRead (fields_in o) octets e list (fields_by f o (value_at (class_at table k) p) n bare)) (sym named)
             (subst (λ s. IsRead (row_fields form) octets e list (fields_by f (Some form) (value_at s p) n bare)) (sym class) read)
-        | Array w named class some low ↦ let no : is_list (fields_at table k) ≡ true = ap (λ o. is_list (fields_in o)) named in absurd cc
+        | Array a named class low ↦ let no : is_list (fields_at table k) ≡ true = ap (λ o. is_list (fields_in o)) named in absurd cc
         | AddressList size named class few low ↦ let no : is_list (fields_at table k) ≡ true = ap (λ o. is_list (fields_in o)) named in absurd cc
         | NestedList flagged rows named class low ↦ let no : is_list (fields_at table k) ≡ true = ap (λ o. is_list (fields_in o)) named in absurd cc
       ]

@@ -4,12 +4,12 @@ use Rattle.std.specs.List.{AllZip, AllByRecursion, filter}
 use Rattle.std.proofs.lemmas.Bool.{eq-eqb}
 use Rattle.std.proofs.lemmas.List.{length-append, length-take, drop_at}
 use Rattle.link_base.specs.declared.wire.buffer.NlaBuffer.{NlaBuffer}
-use Rattle.link_base.specs.declared.rows.form.Width.{Width}
-use Rattle.link_base.specs.declared.rows.form.Width.TheVariants as widths
+use Rattle.link_base.specs.declared.rows.form.ArrayOf.{ArrayOf}
+use Rattle.link_base.specs.declared.rows.form.ArrayOf.TheVariants.{I32}
 use Rattle.link_base.specs.declared.rows.form.Order.TheVariants as orders
 use Rattle.link_base.specs.Number.{number}
 use Rattle.link_base.specs.Layout.{numbers_at}
-use Rattle.link_base.specs.Forms.{bytes_in}
+use Rattle.link_base.specs.Forms.{width_in, size_in}
 use Rattle.link_base.specs.Frame.{kind_of, frame_bytes, pad}
 use Rattle.link_base.specs.Wire.{whole}
 use Rattle.link_base.specs.Table.{Table}
@@ -23,7 +23,7 @@ use Rattle.link_messages.proofs.Walking.{split_short}
 use Rattle.link_entries.specs.declared.entry.Entry.{Entry}
 use Rattle.link_entries.specs.Forms.{form_unsigned, form_ipv4, form_ipv6}
 use Rattle.link_entries.specs.Entry.{blank, padded}
-use Rattle.link_entries.specs.Flat.{indexed, number_entry, number_entries, address_entry, is_address, IsElement}
+use Rattle.link_entries.specs.Flat.{indexed, held_number, number_entry, number_entries, address_entry, is_address, IsElement}
 use Rattle.link_entries.proofs.OneContent.{entry_read}
 use Rattle.link_entries.proofs.EntryFields.{AreBelow, keeps_filled}
 use Rattle.link_entries.specs.declared.fields.Fields.{Fields}
@@ -31,17 +31,16 @@ use Rattle.link_entries.specs.declared.fields.Fields.TheVariants as fields
 use Rattle.link_entries.specs.Fields.{array_number, ip_address, fields_at}
 use Rattle.link_entries.specs.Payload.{payload_of, field_of}
 use Rattle.link_entries.specs.Spelled.{elements_of}
-use Rattle.link_entries.specs.Agreement.{IsEntry, IsSame, element_fields, SameInner}
+use Rattle.link_entries.specs.Agreement.{IsEntry, SameContent, IsSame, element_fields, SameInner}
 use Rattle.link_entries.proofs.RowForms.{is_list, with_kind, field_kind}
 use Rattle.link_entries.proofs.Spellings.{frame_low}
 use Rattle.link_entries.proofs.BackValues.{StandsAt}
 use Rattle.link_entries.proofs.BackElements.{bytes_of_item}
 use Rattle.link_entries.proofs.Located.{Located, located_in, Suffix, suffix_payload, suffix_rest}
 use Rattle.link_entries.proofs.WrittenLists.{same_spells, form_held, framed_ok}
-use Rattle.link_entries.proofs.WrittenSizes.{written_size}
-use Rattle.link_entries.proofs.WrittenDecodes.{numbers_length}
+use Rattle.link_entries.proofs.WrittenDecodes.{array_size, numbers_length}
 use Rattle.link_entries.proofs.WrittenParts.{field_held, field_low, goes}
-use Rattle.link_entries.proofs.AgreeClasses.{number_read, address_is, address_read, same_content, same_of, single_read}
+use Rattle.link_entries.proofs.AgreeClasses.{number_read, signed_read, address_is, address_read, same_content, same_of, single_read}
 
 -- ---- the first attribute of some bytes
 
@@ -84,22 +83,30 @@ pub record ElementAs (table : Table) (own : Fields) (k : ℕ) (octets list : Lis
 
 -- ---- numbers
 
-module _ (table : Table) (w : Width) (k at : ℕ) (octets list : List ℕ) where
-  numbers_same : (i j o : ℕ) (es : List Entry) (s p : List ℕ) → AreBelow es → AllByRecursion IsEntry es → elements_of table (fields.Numbers w) k octets i es ≡ Ok s → drop o p ≡ s
-      → AllZip (ElementAs table (fields.Numbers w) k octets list) es (indexed (number_entry k at (bytes_in w)) j (numbers_at (bytes_in w) (length es) o p))
+array_read : (a : ArrayOf) (e : Entry) (octets p : List ℕ) → IsEntry e → payload_of (array_number a) e octets ≡ Ok p → held_number a (number p) ≡ e.number
+array_read I32 e octets p held h = signed_read e octets p held h
+array_read a e octets p held h = number_read e octets p held form_unsigned (width_in a) orders.Little h
+
+same_number : (a : ArrayOf) (octets : List ℕ) (e : Entry) (list : List ℕ) (r : Entry) → r.number ≡ e.number → SameContent (array_number a) octets e list r
+same_number I32 octets e list r h = h
+same_number a octets e list r h = h
+
+module _ (table : Table) (a : ArrayOf) (k at : ℕ) (octets list : List ℕ) where
+  numbers_same : (i j o : ℕ) (es : List Entry) (s p : List ℕ) → AreBelow es → AllByRecursion IsEntry es → elements_of table (fields.Numbers a) k octets i es ≡ Ok s → drop o p ≡ s
+      → AllZip (ElementAs table (fields.Numbers a) k octets list) es (indexed (number_entry k at a) j (numbers_at (size_in a) (length es) o p))
   numbers_same i j o [] s p deep held h place = tt
   numbers_same i j o (e ∷ es) s p deep held h place =
-      let one = goes table (fields.Numbers w) k octets i e es s (ap (λ n. n == 0) deep.0) h in
-      let read = number_read e octets one.here held.0 form_unsigned w orders.Little one.content in
-      let size = written_size e octets one.here held.0.octets (array_number w) refl one.content in
-      let front : take (bytes_in w) (drop o p) ≡ one.here = ap (take (bytes_in w)) (place ∙ one.is) ∙ take_at one.here one.others (bytes_in w) size in
-      let back : drop (o + bytes_in w) p ≡ one.others = sym (drop-drop (bytes_in w) o p) ∙ ap (drop (bytes_in w)) (place ∙ one.is) ∙ drop_at one.here one.others (bytes_in w) size in
-      let same : IsSame (array_number w) octets e list (number_entry k at (bytes_in w) j (number (take (bytes_in w) (drop o p)))) = record {
+      let one = goes table (fields.Numbers a) k octets i e es s (ap (λ n. n == 0) deep.0) h in
+      let read = array_read a e octets one.here held.0 one.content in
+      let size = array_size a e octets one.here held.0.octets one.content in
+      let front : take (size_in a) (drop o p) ≡ one.here = ap (take (size_in a)) (place ∙ one.is) ∙ take_at one.here one.others (size_in a) size in
+      let back : drop (o + size_in a) p ≡ one.others = sym (drop-drop (size_in a) o p) ∙ ap (drop (size_in a)) (place ∙ one.is) ∙ drop_at one.here one.others (size_in a) size in
+      let same : IsSame (array_number a) octets e list (number_entry k at a j (number (take (size_in a) (drop o p)))) = record {
         kind = sym one.kind;
         depth = sym one.deep;
         form = refl;
-        given = form_held (array_number w) e octets one.here one.content;
-        content = ap number front ∙ read;
+        given = form_held (array_number a) e octets one.here one.content;
+        content = same_number a octets e list (number_entry k at a j (number (take (size_in a) (drop o p)))) (ap (λ q. held_number a (number q)) front ∙ read);
       } in (
         record {
           deep = one.deep;
@@ -107,19 +114,19 @@ module _ (table : Table) (w : Width) (k at : ℕ) (octets list : List ℕ) where
           same = same;
           inner = tt;
         },
-        numbers_same (i + 1) (j + 1) (o + bytes_in w) es one.others p deep.1 held.1 one.later back,
+        numbers_same (i + 1) (j + 1) (o + size_in a) es one.others p deep.1 held.1 one.later back,
       )
 
-count_of : (w : Width) (m n : ℕ) → n ≡ m * bytes_in w → m ≡ n / bytes_in w
-count_of widths.One m n h = omega (arith, h)
-count_of w m n h = omega (arith, h)
+count_of : (a : ArrayOf) (m n : ℕ) → n ≡ m * size_in a → m ≡ n / size_in a
+count_of I32 m n h = omega (arith, h)
+count_of a m n h = omega (arith, h)
 
-pub array_same : (table : Table) (w : Width) (k at : ℕ) (octets list : List ℕ) (es : List Entry) (s : List ℕ) → AreBelow es → AllByRecursion IsEntry es → elements_of table (fields.Numbers w) k octets 0 es ≡ Ok s
-    → AllZip (ElementAs table (fields.Numbers w) k octets list) es (number_entries k at (bytes_in w) s)
-array_same table w k at octets list es s deep held h =
-    let count = count_of w (length es) (length s) (numbers_length IsEntry (λ e h. h.octets) table w k octets 0 es s deep held h) in
-    subst (λ m. AllZip (ElementAs table (fields.Numbers w) k octets list) es (indexed (number_entry k at (bytes_in w)) 0 (numbers_at (bytes_in w) m 0 s))) count
-    (numbers_same table w k at octets list 0 0 0 es s s deep held h refl)
+pub array_same : (table : Table) (a : ArrayOf) (k at : ℕ) (octets list : List ℕ) (es : List Entry) (s : List ℕ) → AreBelow es → AllByRecursion IsEntry es → elements_of table (fields.Numbers a) k octets 0 es ≡ Ok s
+    → AllZip (ElementAs table (fields.Numbers a) k octets list) es (number_entries k at a s)
+array_same table a k at octets list es s deep held h =
+    let count = count_of a (length es) (length s) (numbers_length IsEntry (λ e h. h.octets) table a k octets 0 es s deep held h) in
+    subst (λ m. AllZip (ElementAs table (fields.Numbers a) k octets list) es (indexed (number_entry k at a) 0 (numbers_at (size_in a) m 0 s))) count
+    (numbers_same table a k at octets list 0 0 0 es s s deep held h refl)
 
 -- ---- addresses
 

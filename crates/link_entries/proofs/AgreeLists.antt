@@ -1,11 +1,11 @@
 -- The entries of what was written are those that were written.
-use Rattle.std.proofs.Common.{◌≡◌, ℕ, ◌+◌, ◌<◌, true, false, List, [], length, Option, Some, refl, sym, ap, subst, ◌∙◌, inl, inr, ◌==◌, cond, ◌∷◌, ◌++◌, Ok, Err, arith}
+use Rattle.std.proofs.Common.{◌≡◌, ℕ, ◌+◌, ◌<◌, true, false, List, [], length, Option, Some, refl, sym, ap, subst, ◌∙◌, ◌==◌, cond, ◌∷◌, ◌++◌, Ok, arith}
 use Rattle.std.specs.List.{AllZip, AllByRecursion}
 use Rattle.link_base.specs.declared.views.content.Content.{Content as Borrowed}
 use Rattle.link_base.specs.declared.rows.form.Form.{Form}
 use Rattle.link_base.specs.declared.rows.form.Form.TheVariants as forms
 use Rattle.link_base.specs.Class.{Many}
-use Rattle.link_base.specs.Forms.{bytes_in}
+use Rattle.link_base.specs.Forms.{size_in}
 use Rattle.link_base.specs.Frame.{kind_of}
 use Rattle.link_base.specs.Table.{Shape, One, Nested, Addresses, Table, class_at, form_at, nested_flag}
 use Rattle.link_base.specs.Buffer.{kind_field_of, payload_of as payload_after, payload_of}
@@ -28,12 +28,12 @@ use Rattle.link_entries.proofs.RowForms.{is_list, value_no_list, RowTold, NoRow,
 use Rattle.link_entries.proofs.BackValues.{StandsAt}
 use Rattle.link_entries.proofs.BackSingles.{none_below}
 use Rattle.link_entries.proofs.Located.{Located, suffix_whole, Suffix, suffix_payload, suffix_rest}
-use Rattle.link_entries.proofs.WrittenLists.{form_held, spells, same_spells, before_ok}
+use Rattle.link_entries.proofs.WrittenLists.{form_held, if_held, same_spells, before_ok}
 use Rattle.link_entries.proofs.WrittenParts.{Parts, single_payload, list_payload, field_held, parts}
 use Rattle.link_entries.proofs.WrittenParts as written_fields
 use Rattle.link_entries.proofs.AgreeClasses.{IsRead, same_of, single_read, list_read}
 use Rattle.link_entries.proofs.AgreeElements.{ElementAs, array_same, addresses_same, nested_same, first_is, no_first, not_empty}
-use Rattle.std.proofs.lemmas.Bool.{cases_Bool, eqb-true, eq-eqb}
+use Rattle.std.proofs.lemmas.Bool.{eqb-true, eq-eqb}
 use Rattle.link_entries.specs.declared.misfit.Misfit.TheVariants.{BadElement}
 use Rattle.link_entries.specs.Spelled.{attribute_of, entry_of, entries_of, begins_well, spelled_by}
 use Rattle.link_entries.proofs.Groups.{joined}
@@ -111,11 +111,11 @@ module _ (table : Table) (formed : is_table table ≡ true) (octets : List ℕ) 
     by_row : RowTold table k → GroupAs
     by_row (NoRow form_is class) = single (ap (λ o. is_list (fields_in o)) form_is)
     by_row (OneValue form names form_is class one low) = single (ap (λ o. is_list (fields_in o)) form_is ∙ value_no_list (row_fields form) one)
-    by_row (Array width form_is class some low) =
-        let row = fields.Numbers width in
-        let is = told (Some (One (Many (bytes_in width)))) (Some (forms.Numbers width)) class form_is in
-        let all = array_same (elements_at table k) width k (x.0 + 4) octets list w.cut.below p w.cut.deep w.cut.held (list_payload IsEntry table octets e es s w row (ap fields_in form_is) refl) in
-        list_of (forms.Numbers width) row form_is refl refl (subst (λ l. AllZip (ElementAs (elements_at table k) row k octets list) w.cut.below l) (sym is) all)
+    by_row (Array a form_is class low) =
+        let row = fields.Numbers a in
+        let is = told (Some (One (Many (size_in a)))) (Some (forms.Numbers a)) class form_is in
+        let all = array_same (elements_at table k) a k (x.0 + 4) octets list w.cut.below p w.cut.deep w.cut.held (list_payload IsEntry table octets e es s w row (ap fields_in form_is) refl) in
+        list_of (forms.Numbers a) row form_is refl refl (subst (λ l. AllZip (ElementAs (elements_at table k) row k octets list) w.cut.below l) (sym is) all)
     by_row (AddressList n form_is class few low) =
         let (items, walk, is) = told (Some (Addresses n)) (Some (forms.Addresses n)) class form_is in
         let all = addresses_same (elements_at table k) n k (x.0 + 4) octets list few (length p) 0 0 w.cut.below p items walk.rest w.cut.deep w.cut.held (list_payload IsEntry table octets e es s w (fields.Addresses n) (ap fields_in form_is) refl)
@@ -203,12 +203,6 @@ module _ (table : Table) (formed : is_table table ≡ true) (octets list : List 
 -- the entries of what was written are those that were written
 pub written_agrees : (table : Table) → is_table table ≡ true → (octets list : List ℕ) (es read : List Entry) → AllByRecursion IsEntry es → spelled_by table octets es ≡ Ok list → Flat table list read → AllZip (Agrees table octets list) es read
 written_agrees table formed octets list es read held h flat =
-    elim (cases_Bool (begins_well es)) [
-      | inl well ↦
-          let entries : entries_of table octets es ≡ Ok list = sym (ap (λ b. cond b (entries_of table octets es) (Err (0, BadElement))) well) ∙ h in
-          subst (λ l. AllZip (Agrees table octets list) es l) (sym flat.joined)
-          (rest_agrees table formed octets list list flat.items flat.walk.rest flat.groups es flat.walk.walks flat.walk.end (suffix_whole list) flat.each well held entries)
-      | inr ill ↦
-          let wrong : Err (0, BadElement) ≡ spells list = sym (ap (λ b. cond b (entries_of table octets es) (Err (0, BadElement))) ill) ∙ h in
-          absurd cc
-    ]
+    let (well, entries) = if_held (begins_well es) (0, BadElement) (entries_of table octets es) list h in
+    subst (λ l. AllZip (Agrees table octets list) es l) (sym flat.joined)
+    (rest_agrees table formed octets list list flat.items flat.walk.rest flat.groups es flat.walk.walks flat.walk.end (suffix_whole list) flat.each well held entries)

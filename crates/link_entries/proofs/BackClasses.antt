@@ -149,7 +149,9 @@ module _ (f n : ℕ) (e : Entry) (list p : List ℕ) (bytes : IsBytes p) (at : S
         | true ↦ refl
         | false ↦ refl
       ]
-  class_back (forms.Bytes look) names h ok = passed_back None (entry_by (forms.Bytes look) names) list p (record { size = at.size; within = at.within; short = at.short; is = at.is }) refl
+  class_back (forms.Bytes look) names h ok =
+      let e' = entry_by (forms.Bytes look) names in
+      right_form (row_fields (forms.Bytes look)) e' list refl ∙ passed_back None e' list p (record { size = at.size; within = at.within; short = at.short; is = at.is }) refl
   class_back (forms.Struct layout) names h ok = struct_back layout names ok
   class_back forms.Limits names h ok =
       let enough = size_reached (classes.AtLeast 48) (length p) ok in

@@ -3,9 +3,11 @@ use Rattle.std.proofs.Common.{◌≡◌, ℕ, zero, suc, ◌+◌, ◌*◌, ◌/�
 use Rattle.std.specs.List.{AllZip, AllByRecursion, filter}
 use Rattle.std.proofs.lemmas.Bool.{cases_Bool, eqb-true, eq-eqb}
 use Rattle.std.proofs.lemmas.List.{nil_from_length, length-drop, take-append-drop}
-use Rattle.link_base.specs.declared.rows.form.Width.{Width}
-use Rattle.link_base.specs.declared.rows.form.Width.TheVariants as widths
-use Rattle.link_base.specs.Forms.{bytes_in}
+use Rattle.std.specs.Int.{w32}
+use Rattle.std.proofs.lemmas.Int.{of_z-to_z}
+use Rattle.link_base.specs.declared.rows.form.ArrayOf.{ArrayOf}
+use Rattle.link_base.specs.declared.rows.form.ArrayOf.TheVariants.{I32}
+use Rattle.link_base.specs.Forms.{width_in, size_in}
 use Rattle.link_base.specs.Number.{IsBytes, bytes_of, bound}
 use Rattle.link_base.specs.Layout.{numbers_at, numbers_of, octets_of}
 use Rattle.link_base.specs.Frame.{Frame, Frames, frame_bytes, spelled, kind_of}
@@ -17,14 +19,14 @@ use Rattle.link_base.proofs.Readings.{same_ok}
 use Rattle.link_messages.specs.Walk.{Item, Walks}
 use Rattle.link_entries.specs.declared.entry.Entry.{Entry}
 use Rattle.link_entries.specs.Forms.{form_unsigned, form_ipv4, form_ipv6}
-use Rattle.link_entries.specs.Flat.{indexed, number_entry, number_entries, address_entry, is_address, IsElement}
+use Rattle.link_entries.specs.Flat.{indexed, held_number, number_entry, number_entries, address_entry, is_address, IsElement}
 use Rattle.link_entries.specs.declared.fields.Fields.{Fields}
 use Rattle.link_entries.specs.declared.fields.Fields.TheVariants as fields
 use Rattle.link_entries.specs.declared.misfit.Misfit.TheVariants.{BadElement}
 use Rattle.link_entries.specs.Fields.{array_number, ip_address, fields_at}
-use Rattle.link_entries.specs.Payload.{payload_of, field_of}
+use Rattle.link_entries.specs.Payload.{form_in, payload_of, field_of}
 use Rattle.link_entries.specs.Spelled.{alone, before, framed, element_content, element_of, elements_of, begins_well}
-use Rattle.link_entries.proofs.BackValues.{number_back, at_back, at_below, address_back, StandsAt}
+use Rattle.link_entries.proofs.BackValues.{number_back, signed_back, at_back, at_below, address_back, StandsAt}
 use Rattle.link_base.specs.declared.wire.buffer.NlaBuffer.{NlaBuffer}
 use Rattle.link_base.specs.declared.wire.fault.DecodeFault.{DecodeFault}
 use Rattle.link_base.specs.Class.{Class, class_value}
@@ -57,15 +59,19 @@ elements_next table own k i e es octets s t deep here others =
 
 -- ---- numbers
 
-module _ (table : Table) (w : Width) (k at : ℕ) (octets : List ℕ) (rest : List Entry) (end : begins_well rest ≡ true) where
-  numbers_spelled : (i j : ℕ) (xs : List ℕ) → AllByRecursion (λ x. x < bound (bytes_in w)) xs
-      → elements_of table (fields.Numbers w) k octets i (indexed (number_entry k at (bytes_in w)) j xs ++ rest) ≡ Ok (octets_of (bytes_in w) xs)
-  numbers_spelled i j [] h = elements_end table (fields.Numbers w) k octets i rest end
+pub array_back : (a : ArrayOf) (e : Entry) (octets : List ℕ) (x : ℕ) → e.form ≡ form_in (array_number a) → e.number ≡ held_number a x → x < bound (size_in a) → payload_of (array_number a) e octets ≡ Ok (bytes_of (size_in a) x)
+array_back I32 e octets x form is low = signed_back e octets x low form is ∙ ap (λ y. Ok (bytes_of 4 y)) (of_z-to_z w32 x low)
+array_back a e octets x form is low = number_back form_unsigned (width_in a) e octets form (omega (arith, is, low)) ∙ ap (λ y. Ok (bytes_of (size_in a) y)) is
+
+module _ (table : Table) (a : ArrayOf) (k at : ℕ) (octets : List ℕ) (rest : List Entry) (end : begins_well rest ≡ true) where
+  numbers_spelled : (i j : ℕ) (xs : List ℕ) → AllByRecursion (λ x. x < bound (size_in a)) xs
+      → elements_of table (fields.Numbers a) k octets i (indexed (number_entry k at a) j xs ++ rest) ≡ Ok (octets_of (size_in a) xs)
+  numbers_spelled i j [] h = elements_end table (fields.Numbers a) k octets i rest end
   numbers_spelled i j (x ∷ xs) h =
-      let e = number_entry k at (bytes_in w) j x in
-      let here : payload_of (array_number w) e octets ≡ Ok (bytes_of (bytes_in w) x) = number_back form_unsigned w e octets refl h.0 in
-      elements_next table (fields.Numbers w) k i e (indexed (number_entry k at (bytes_in w)) (j + 1) xs ++ rest) octets (bytes_of (bytes_in w) x) (octets_of (bytes_in w) xs) refl
-      (element_right table (fields.Numbers w) k i e octets (bytes_of (bytes_in w) x) refl refl here)
+      let e = number_entry k at a j x in
+      let here = array_back a e octets x refl refl h.0 in
+      elements_next table (fields.Numbers a) k i e (indexed (number_entry k at a) (j + 1) xs ++ rest) octets (bytes_of (size_in a) x) (octets_of (size_in a) xs) refl
+      (element_right table (fields.Numbers a) k i e octets (bytes_of (size_in a) x) refl refl here)
       (numbers_spelled (i + 1) (j + 1) xs h.1)
 
 -- consecutive numbers are in range, and their bytes are the payload
@@ -81,17 +87,17 @@ module _ (width : ℕ) (p : List ℕ) (bytes : IsBytes p) where
       ap₂ (λ a b. a ++ b) (at_back width offset p bytes (omega (arith, h))) (others ∙ sym (drop-drop width offset p)) ∙ take-append-drop width (drop offset p)
 
 -- an array of numbers
-whole_numbers : (w : Width) (n : ℕ) → n % bytes_in w ≡ 0 → n / bytes_in w * bytes_in w ≡ n
-whole_numbers widths.One n h = omega (arith, h)
-whole_numbers w n h = omega (arith, h)
+whole_numbers : (a : ArrayOf) (n : ℕ) → n % size_in a ≡ 0 → n / size_in a * size_in a ≡ n
+whole_numbers I32 n h = omega (arith, h)
+whole_numbers a n h = omega (arith, h)
 
-pub array_spelled : (table : Table) (w : Width) (k at : ℕ) (p octets : List ℕ) (rest : List Entry) → IsBytes p → begins_well rest ≡ true → length p % bytes_in w ≡ 0
-    → elements_of table (fields.Numbers w) k octets 0 (number_entries k at (bytes_in w) p ++ rest) ≡ Ok p
-array_spelled table w k at p octets rest bytes end even =
-    let width = bytes_in w in
+pub array_spelled : (table : Table) (a : ArrayOf) (k at : ℕ) (p octets : List ℕ) (rest : List Entry) → IsBytes p → begins_well rest ≡ true → length p % size_in a ≡ 0
+    → elements_of table (fields.Numbers a) k octets 0 (number_entries k at a p ++ rest) ≡ Ok p
+array_spelled table a k at p octets rest bytes end even =
+    let width = size_in a in
     let count = length p / width in
-    let all : 0 + count * width ≡ length p = omega (arith, whole_numbers w (length p) even) in
-    numbers_spelled table w k at octets rest end 0 0 (numbers_of width p) (numbers_below width p bytes count 0 (omega (arith, all)))
+    let all : 0 + count * width ≡ length p = omega (arith, whole_numbers a (length p) even) in
+    numbers_spelled table a k at octets rest end 0 0 (numbers_of width p) (numbers_below width p bytes count 0 (omega (arith, all)))
     ∙ ap Ok (numbers_bytes width p bytes count 0 all)
 
 -- ---- addresses

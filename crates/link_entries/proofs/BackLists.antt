@@ -6,7 +6,7 @@ use Rattle.link_base.specs.declared.rows.form.Form.{Form}
 use Rattle.link_base.specs.declared.rows.form.Form.TheVariants as forms
 use Rattle.link_base.specs.Number.{IsBytes}
 use Rattle.link_base.specs.Class.{Many}
-use Rattle.link_base.specs.Forms.{bytes_in}
+use Rattle.link_base.specs.Forms.{size_in}
 use Rattle.link_base.specs.Frame.{kind_of, frame_bytes, spelled}
 use Rattle.link_base.specs.Wire.{whole, Wire}
 use Rattle.link_base.specs.Table.{Shape, One, Nested, Addresses, Inner, Listed, Table, AttrValue, Case, class_at, form_at, nested_flag, GivesBy, Gives, addresses_from, of_length, written_kind, written_payload, written_frame, written_list, Fits, Rewriting}
@@ -102,14 +102,14 @@ module _ (table : Table) (formed : is_table table ≡ true) (list : List ℕ) (x
   by_row : RowTold table k → Goal
   by_row (NoRow named class) = single (ap (λ o. is_list (fields_in o)) named)
   by_row (OneValue form names named class one low) = single (ap (λ o. is_list (fields_in o)) named ∙ value_no_list (row_fields form) one)
-  by_row (Array w named class some low) =
-      let c = Many (bytes_in w) in
-      let own = fields.Numbers w in
+  by_row (Array a named class low) =
+      let c = Many (size_in a) in
+      let own = fields.Numbers a in
       let was = value_read c k p v (subst (λ o. GivesBy o f p (Ok v)) class given) in
-      let is = told (Some (One c)) (Some (forms.Numbers w)) class named in
+      let is = told (Some (One c)) (Some (forms.Numbers a)) class named in
       let none : k ≡ k + 0 = omega arith in
-      listed own p (Case k _) (list_back table x.1 content has (length es) bare (forms.Numbers w) list named refl) (ap fields_in named) none
-      (ap (λ l. elements_of (elements_at table k) own k list 0 (l ++ rest)) is ∙ array_spelled (elements_at table k) w k (x.0 + 4) p list rest bytes end (multiple (bytes_in w) (length p) was.accepted))
+      listed own p (Case k _) (list_back table x.1 content has (length es) bare (forms.Numbers a) list named refl) (ap fields_in named) none
+      (ap (λ l. elements_of (elements_at table k) own k list 0 (l ++ rest)) is ∙ array_spelled (elements_at table k) a k (x.0 + 4) p list rest bytes end (multiple (size_in a) (length p) was.accepted))
       refl was.value
   by_row (AddressList n named class few low) = by_given (subst (λ o. GivesBy o f p (Ok v)) class given) where
     by_given : GivesBy (Some (Addresses n)) f p (Ok v) → Goal

@@ -121,7 +121,7 @@ module _ (table : Table) (b : NlaBuffer) (content : Borrowed) (has : HasContent 
         elim (row_says table k formed) [
           | NoRow named class ↦ subst (λ o. IsSpelled (fields_in o)) (sym named) (no_row named class)
           | OneValue form names named class one low ↦ subst (λ o. IsSpelled (fields_in o)) (sym named) (value_back form names named class one)
-          | Array w named class some low ↦ let no : is_list (fields_at table k) ≡ true = ap (λ o. is_list (fields_in o)) named in absurd cc
+          | Array a named class low ↦ let no : is_list (fields_at table k) ≡ true = ap (λ o. is_list (fields_in o)) named in absurd cc
           | AddressList size named class few low ↦ let no : is_list (fields_at table k) ≡ true = ap (λ o. is_list (fields_in o)) named in absurd cc
           | NestedList flagged rows named class low ↦ let no : is_list (fields_at table k) ≡ true = ap (λ o. is_list (fields_in o)) named in absurd cc
         ]

@@ -25,7 +25,7 @@ module _ (table : Table) (k : ℕ) (e : Entry) (octets p : List ℕ) where
 
   -- if elements follow, the attribute has no payload of its own, or they cannot be written
   pub below : (own : Fields) (es : List Entry) → begins_well es ≡ false → payload_of own e octets ≡ Ok p → (p ≡ []) ⊎ (elements_of table own k octets 0 es ≡ Err (0, BadElement))
-  below (fields.Numbers w) es deep has = inl (no_bytes (fields.Numbers w) e octets p refl has)
+  below (fields.Numbers n) es deep has = inl (no_bytes (fields.Numbers n) e octets p refl has)
   below (fields.Addresses n) es deep has = inl (no_bytes (fields.Addresses n) e octets p refl has)
   below (fields.List flag) es deep has = inl (no_bytes (fields.List flag) e octets p refl has)
   below own es deep has = inr (refused own es (λ x. refl) deep)

@@ -1,8 +1,8 @@
 -- The entries of the elements of a list: numbers of an array, attributes of a nested list, and addresses. One more, and all.
 use Rattle.std.proofs.Common.{◌≡◌, ℕ, zero, suc, ◌+◌, ◌*◌, ◌/◌, ◌≤◌, List, [], ◌∷◌, ◌++◌, length, refl, sym, ap, ap₂, ◌∙◌, arith, set, ◌-◌, subst, ◌==◌, Bool, true, false, cond, Option, Some}
-use Rattle.link_base.specs.declared.rows.form.Width.{Width}
-use Rattle.link_base.specs.declared.rows.form.Width.TheVariants as widths
-use Rattle.link_base.specs.Forms.{bytes_in}
+use Rattle.link_base.specs.declared.rows.form.ArrayOf.{ArrayOf}
+use Rattle.link_base.specs.declared.rows.form.ArrayOf.TheVariants.{U16}
+use Rattle.link_base.specs.Forms.{size_in}
 use Rattle.link_base.specs.Layout.{number_at, numbers_at}
 use Rattle.link_entries.specs.declared.entry.Entry.{Entry}
 use Rattle.link_entries.specs.Entry.{placed}
@@ -31,47 +31,50 @@ pub length-numbers_at : (width n offset : ℕ) (p : List ℕ) → length (number
 length-numbers_at width zero offset p = refl
 length-numbers_at width (suc n) offset p = let more = length-numbers_at width n (offset + width) p in omega arith
 
-module _ (k at width : ℕ) (p : List ℕ) where
+module _ (k at : ℕ) (a : ArrayOf) (p : List ℕ) where
+  abbrev width : ℕ
+  width = size_in a
+
   -- the entries of the first i numbers
   abbrev pub front : ℕ → List Entry
-  front i = indexed (number_entry k at width) 0 (numbers_at width i 0 p)
+  front i = indexed (number_entry k at a) 0 (numbers_at width i 0 p)
 
   length-front : (i : ℕ) → length (front i) ≡ i
-  length-front i = length-indexed (number_entry k at width) 0 (numbers_at width i 0 p) ∙ length-numbers_at width i 0 p
+  length-front i = length-indexed (number_entry k at a) 0 (numbers_at width i 0 p) ∙ length-numbers_at width i 0 p
 
-  front_more : (i : ℕ) → front (i + 1) ≡ front i ++ number_entry k at width i (number_at width (i * width) p) ∷ []
+  front_more : (i : ℕ) → front (i + 1) ≡ front i ++ number_entry k at a i (number_at width (i * width) p) ∷ []
   front_more i =
       let next : i + 1 ≡ suc i = omega arith in
       let xs = numbers_at width i 0 p in
       let x = number_at width (0 + i * width) p in
       let here : 0 + i * width ≡ i * width = omega arith in
       let index : 0 + length xs ≡ i = omega (arith, length-numbers_at width i 0 p) in
-      ap front next ∙ ap (indexed (number_entry k at width) 0) (numbers_more width i 0 p) ∙ indexed_more (number_entry k at width) 0 xs x
-      ∙ ap (λ t. front i ++ t ∷ []) (ap₂ (λ j n. number_entry k at width j (number_at width n p)) index here)
+      ap front next ∙ ap (indexed (number_entry k at a) 0) (numbers_more width i 0 p) ∙ indexed_more (number_entry k at a) 0 xs x
+      ∙ ap (λ t. front i ++ t ∷ []) (ap₂ (λ j n. number_entry k at a j (number_at width n p)) index here)
 
   -- one more entry is stored
   pub front_stored : (old mid new : List Entry) (first i place : ℕ) (e : Entry) → mid ≡ placed old first (front i) → place ≡ first + i
-      → e ≡ number_entry k at width i (number_at width (i * width) p) → new ≡ set mid place e → new ≡ placed old first (front (i + 1))
+      → e ≡ number_entry k at a i (number_at width (i * width) p) → new ≡ set mid place e → new ≡ placed old first (front (i + 1))
   front_stored old mid new first i place e before at_place is stored =
       let index : place ≡ first + length (front i) = omega (arith, length-front i) in
-      stored ∙ ap (λ t. set mid place t) is ∙ ap₂ (λ places n. set places n (number_entry k at width i (number_at width (i * width) p))) before index
-      ∙ sym (placed_more old first (front i) (number_entry k at width i (number_at width (i * width) p))) ∙ ap (placed old first) (sym (front_more i))
+      stored ∙ ap (λ t. set mid place t) is ∙ ap₂ (λ places n. set places n (number_entry k at a i (number_at width (i * width) p))) before index
+      ∙ sym (placed_more old first (front i) (number_entry k at a i (number_at width (i * width) p))) ∙ ap (placed old first) (sym (front_more i))
 
   -- all are
   pub front_all : (old new : List Entry) (first count next : ℕ) → count ≡ length p / width → new ≡ placed old first (front count) → next ≡ first + count
-      → Puts old new first (number_entries k at width p) next
+      → Puts old new first (number_entries k at a p) next
   front_all old new first count next all stored e =
-      let same : front count ≡ number_entries k at width p = ap front all in
+      let same : front count ≡ number_entries k at a p = ap front all in
       (stored ∙ ap (placed old first) same, omega (arith, length-front count, ap length same))
 
   -- an array has no more numbers than bytes
-  pub length-number_entries : (count : ℕ) → count ≡ length p / width → length (number_entries k at width p) ≡ count
+  pub length-number_entries : (count : ℕ) → count ≡ length p / width → length (number_entries k at a p) ≡ count
   length-number_entries count all = sym (ap length (ap front all)) ∙ length-front count
 
 -- an array has at most a number for two bytes
-pub few_numbers : (k at : ℕ) (w : Width) (p : List ℕ) → 2 ≤ bytes_in w → 2 * length (number_entries k at (bytes_in w) p) ≤ length p
-few_numbers k at widths.One p some = omega (arith, some)
-few_numbers k at w p some = omega (arith, length-number_entries k at (bytes_in w) p (length p / bytes_in w) refl)
+pub few_numbers : (k at : ℕ) (a : ArrayOf) (p : List ℕ) → 2 * length (number_entries k at a p) ≤ length p
+few_numbers k at U16 p = omega (arith, length-number_entries k at U16 p (length p / 2) refl)
+few_numbers k at a p = omega (arith, length-number_entries k at a p (length p / size_in a) refl)
 
 -- the elements before `rest` are stored
 pub record ElementsTo (table : Table) (k at : ℕ) (list rest : List ℕ) (old new : List Entry) (first next : ℕ) : Type 0 where

@@ -7,7 +7,7 @@ use Rattle.link_base.specs.declared.rows.form.Layout.{Layout}
 use Rattle.link_base.specs.declared.rows.form.Layout.TheVariants as layouts
 use Rattle.link_base.specs.declared.views.content.Content.{Content}
 use Rattle.link_base.specs.declared.views.content.Content.TheVariants as contents
-use Rattle.link_base.specs.Forms.{bytes_in}
+use Rattle.link_base.specs.Forms.{size_in}
 use Rattle.link_base.specs.Frame.{kind_of}
 use Rattle.link_base.specs.Buffer.{kind_field_of}
 use Rattle.link_base.specs.Table.{Table}
@@ -59,7 +59,7 @@ pub elements_below : (table : Table) (k at : ℕ) (x : Content) (es : List Entry
 elements_below table k at (contents.List l flagged) es (items, walk, each) = nested_below (elements_at table k) k at items es each
 elements_below table k at (contents.Addresses l n) es (items, walk, is) =
     subst AreBelow (sym is) (indexed_below _ (λ i x. refl) 0 (filter (is_address n) items))
-elements_below table k at (contents.Numbers w p) es is = subst AreBelow (sym is) (indexed_below (number_entry k at (bytes_in w)) (λ i x. refl) 0 (numbers_of (bytes_in w) p.now))
+elements_below table k at (contents.Numbers a p) es is = subst AreBelow (sym is) (indexed_below (number_entry k at a) (λ i x. refl) 0 (numbers_of (size_in a) p.now))
 elements_below table k at x es is = subst AreBelow (sym is) tt
 
 -- ---- the entries of attributes of a type

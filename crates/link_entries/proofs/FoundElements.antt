@@ -4,7 +4,8 @@ use Rattle.std.specs.List.{filter, last_or}
 use Rattle.std.proofs.lemmas.List.{map-id}
 use Rattle.std.proofs.lemmas.List.Concat.{flat_map_single}
 use Rattle.std.proofs.lemmas.Bool.{eq-eqb, ne_eqb, cond-true, cond-false}
-use Rattle.link_base.specs.declared.rows.form.Width.{Width}
+use Rattle.link_base.specs.Forms.{size_in}
+use Rattle.link_base.specs.declared.rows.form.ArrayOf.{ArrayOf}
 use Rattle.link_base.specs.declared.views.content.Content.{Content}
 use Rattle.link_base.specs.declared.views.content.Content.TheVariants as contents
 use Rattle.link_base.specs.Frame.{kind_of}
@@ -75,26 +76,29 @@ get_or-numbers_at width (suc n) offset (suc i) p h =
     let there : offset + width + i * width ≡ offset + suc i * width = omega arith in
     get_or-numbers_at width n (offset + width) i p (omega arith) ∙ ap (λ at. number_at width at p) there
 
-module _ (k at width : ℕ) (p : List ℕ) (i : ℕ) where
+module _ (k at : ℕ) (a : ArrayOf) (p : List ℕ) (i : ℕ) where
+  abbrev width : ℕ
+  width = size_in a
+
   -- the number at an index
-  pub number_found : i < length p / width → Some (number_entry k at width i (number_at width (i * width) p)) ≡ last_inner i (number_entries k at width p)
+  pub number_found : i < length p / width → Some (number_entry k at a i (number_at width (i * width) p)) ≡ last_inner i (number_entries k at a p)
   number_found h =
       let xs = numbers_of width p in
       let size = length-numbers_at width (length p / width) 0 p in
-      let one = one_at (number_entry k at width) (λ j x. refl) i 0 xs 0 i (omega arith) (omega (arith, size)) in
+      let one = one_at (number_entry k at a) (λ j x. refl) i 0 xs 0 i (omega arith) (omega (arith, size)) in
       let is : get_or xs i 0 ≡ number_at width (i * width) p =
       get_or-numbers_at width (length p / width) 0 i p h ∙ (let here : 0 + i * width ≡ i * width = omega arith in ap (λ o. number_at width o p) here) in
-      sym (ap (last_or None) one ∙ ap (λ x. Some (number_entry k at width i x)) is)
+      sym (ap (last_or None) one ∙ ap (λ x. Some (number_entry k at a i x)) is)
 
-  pub number_absent : length p / width ≤ i → None ≡ last_inner i (number_entries k at width p)
+  pub number_absent : length p / width ≤ i → None ≡ last_inner i (number_entries k at a p)
   number_absent h =
       let size = length-numbers_at width (length p / width) 0 p in
-      sym (ap (last_or None) (none_above (number_entry k at width) (λ j x. refl) i 0 (numbers_of width p) (omega (arith, size))))
+      sym (ap (last_or None) (none_above (number_entry k at a) (λ j x. refl) i 0 (numbers_of width p) (omega (arith, size))))
 
 -- ---- contents
 
 -- a content that is neither a list nor an array has no last element
-pub none_last : (table : Table) (k at i : ℕ) (x : Content) → ((w : Width) (p : Bor (List ℕ)) → x ≡ contents.Numbers w p → ⊥) → ((p : Bor (List ℕ)) (n : ℕ) → x ≡ contents.Addresses p n → ⊥)
+pub none_last : (table : Table) (k at i : ℕ) (x : Content) → ((a : ArrayOf) (p : Bor (List ℕ)) → x ≡ contents.Numbers a p → ⊥) → ((p : Bor (List ℕ)) (n : ℕ) → x ≡ contents.Addresses p n → ⊥)
     → ((p : Bor (List ℕ)) (told : Bool) → x ≡ contents.List p told → ⊥) → IsLastElement table k at x i None
 none_last table k at i (contents.List p told) a b c = absurd (c p told refl)
 none_last table k at i x a b c = ([], no_elements table k at x a b c, refl)

@@ -2,8 +2,7 @@
 use Rattle.std.proofs.Common.{◌≡◌, ℕ, ◌-◌, ◌<◌, ◌≤◌, ◌==◌, ◌||◌, Bool, true, false, List, Option, Some, None, option_map, inl, inr, refl, sym, ap, subst, ◌∙◌, arith}
 use Rattle.std.specs.Prelude.{nat_le}
 use Rattle.std.proofs.lemmas.Bool.{cases_Bool, eqb-true}
-use Rattle.link_base.specs.declared.rows.form.Width.{Width}
-use Rattle.link_base.specs.declared.rows.form.Width.TheVariants as widths
+use Rattle.link_base.specs.declared.rows.form.ArrayOf.{ArrayOf}
 use Rattle.link_base.specs.declared.rows.form.Order.TheVariants as orders
 use Rattle.link_base.specs.declared.rows.form.Role.TheVariants as roles
 use Rattle.link_base.specs.declared.rows.form.Layout.{Layout}
@@ -13,14 +12,14 @@ use Rattle.link_base.specs.declared.rows.form.Form.TheVariants as forms
 use Rattle.link_base.specs.declared.rows.label.KindLabel.{KindLabel}
 use Rattle.link_base.specs.Class.{Many, extent, size_of}
 use Rattle.link_base.specs.Number.{bound}
-use Rattle.link_base.specs.Forms.{bytes_in}
+use Rattle.link_base.specs.Forms.{bytes_in, size_in as each_size}
 use Rattle.link_base.specs.Frame.{kind_limit}
 use Rattle.link_base.specs.Labels.{label_in}
 use Rattle.link_base.specs.Payloads.{class_by}
 use Rattle.link_base.specs.Table.{Row, Rows, Shape, One, Nested, Addresses, Table, row_at, class_at, form_at, label_by, label_at}
 use Rattle.link_base.specs.Borrowed.{elements_at}
 use Rattle.link_base.specs.Coherent.{is_single, is_array, IsShapeOf}
-use Rattle.link_base.specs.WellFormed.{is_class, is_shape, is_row, is_table}
+use Rattle.link_base.specs.WellFormed.{is_shape, is_row, is_table}
 use Rattle.link_base.proofs.Coherence.{row_told, row_kind, row_passes_all, element_single}
 use Rattle.link_entries.specs.declared.entry.Entry.{Entry}
 use Rattle.link_entries.specs.declared.fields.Fields.{Fields}
@@ -43,21 +42,21 @@ label_fields l table k h = ap fields_in (form_told l (row_at table k) h)
 
 -- the fields of a list: its elements have entries of their own
 abbrev pub is_list : Fields → Bool
-is_list (fields.Numbers width) = true
+is_list (fields.Numbers a) = true
 is_list (fields.Addresses size) = true
 is_list (fields.List flag) = true
 is_list own = false
 
 -- those of a single value of an attribute type that has a row
 abbrev pub is_value : Fields → Bool
-is_value (fields.Numbers width) = false
+is_value (fields.Numbers a) = false
 is_value (fields.Addresses size) = false
 is_value (fields.List flag) = false
 is_value fields.Unknown = false
 is_value own = true
 
 pub value_no_list : (own : Fields) → is_value own ≡ true → is_list own ≡ false
-value_no_list (fields.Numbers width) h = absurd cc
+value_no_list (fields.Numbers a) h = absurd cc
 value_no_list (fields.Addresses size) h = absurd cc
 value_no_list (fields.List flag) h = absurd cc
 value_no_list own h = refl
@@ -88,7 +87,7 @@ struct_value layouts.BridgeId = refl
 struct_value layout = refl
 
 pub single_value : (form : Form) → is_single form ≡ true → is_array form ≡ false → is_value (row_fields form) ≡ true
-single_value (forms.Numbers w) s a = absurd cc
+single_value (forms.Numbers n) s a = absurd cc
 single_value (forms.Addresses size) s a = absurd cc
 single_value (forms.List flagged) s a = absurd cc
 single_value (forms.Struct layout) s a = struct_value layout
@@ -147,7 +146,7 @@ pub data RowTold (table : Table) (k : ℕ) : Type 0 where
   NoRow : form_at table k ≡ None → class_at table k ≡ None → RowTold table k
   OneValue :
       (form : Form) (names : List (ℕ × List ℕ)) → form_at table k ≡ Some form → class_at table k ≡ Some (One (class_by form names)) → is_value (row_fields form) ≡ true → k < kind_limit → RowTold table k
-  Array : (w : Width) → form_at table k ≡ Some (forms.Numbers w) → class_at table k ≡ Some (One (Many (bytes_in w))) → 2 ≤ bytes_in w → k < kind_limit → RowTold table k
+  Array : (a : ArrayOf) → form_at table k ≡ Some (forms.Numbers a) → class_at table k ≡ Some (One (Many (each_size a))) → k < kind_limit → RowTold table k
   AddressList : (n : ℕ) → form_at table k ≡ Some (forms.Addresses n) → class_at table k ≡ Some (Addresses n) → n ≤ 16 → k < kind_limit → RowTold table k
   NestedList : (flagged : Bool) (rows : Rows) → form_at table k ≡ Some (forms.List flagged) → class_at table k ≡ Some (Nested flagged rows) → k < kind_limit → RowTold table k
 
@@ -158,13 +157,9 @@ few n h =
       | inr other ↦ let is = eqb-true n 16 (sym (ap (λ b. b || (n == 16)) other) ∙ h) in omega (arith, is)
     ]
 
-several : (w : Width) → is_class (Many (bytes_in w)) ≡ true → 2 ≤ bytes_in w
-several widths.One h = absurd cc
-several w h = omega arith
-
 module _ (table : Table) (k : ℕ) where
   told_by : (form : Form) (names : List (ℕ × List ℕ)) (shape : Shape) → form_at table k ≡ Some form → class_at table k ≡ Some shape → IsShapeOf form names shape → is_shape shape ≡ true → k < kind_limit → RowTold table k
-  told_by (forms.Numbers w) names (One c) named class is ok low = Array w named (class ∙ ap (λ d. Some (One d)) is.1) (several w (subst (λ d. is_class d ≡ true) is.1 ok)) low
+  told_by (forms.Numbers a) names (One c) named class is ok low = Array a named (class ∙ ap (λ d. Some (One d)) is.1) low
   told_by form names (One c) named class is ok low = OneValue form names named (class ∙ ap (λ d. Some (One d)) is.1) (single_value form is.0 refl) low
   told_by (forms.List told) names (Nested flagged rows) named class is ok low = NestedList told rows named (class ∙ ap (λ b. Some (Nested b rows)) (sym is.0)) low
   told_by (forms.Addresses told) names (Addresses n) named class is ok low =
@@ -180,17 +175,6 @@ module _ (table : Table) (k : ℕ) where
     by_row (Some r) at =
         told_by r.form r.names r.class (ap (option_map (λ x. x.form)) at) (ap (option_map (λ x. x.class)) at) (row_told table k r formed at) (row_passes_all table k r formed at).shape
         (row_kind is_row k r 0 table formed at).1
-
--- the numbers of an array have two bytes or more
-pub array_width : (table : Table) (k : ℕ) (w : Width) → is_table table ≡ true → form_at table k ≡ Some (forms.Numbers w) → 2 ≤ bytes_in w
-array_width table k w formed h =
-    elim (row_says table k formed) [
-      | NoRow named class ↦ absurd cc
-      | OneValue form names named class one low ↦ let same : form ≡ forms.Numbers w = cc in let no : is_value (fields.Numbers w) ≡ true = sym (ap (λ f. is_value (row_fields f)) same) ∙ one in absurd cc
-      | Array v named class some low ↦ let same : v ≡ w = cc in subst (λ u. 2 ≤ bytes_in u) same some
-      | AddressList n named class few low ↦ absurd cc
-      | NestedList flagged rows named class low ↦ absurd cc
-    ]
 
 -- in a nested list there are no lists
 pub element_no_list : (table : Table) (k inner : ℕ) → is_table table ≡ true → is_list (fields_at (elements_at table k) inner) ≡ false

@@ -4,7 +4,7 @@ use Rattle.std.specs.List.{AllZip}
 use Rattle.std.proofs.lemmas.List.{length-take}
 use Rattle.link_base.specs.declared.views.content.Content.{Content}
 use Rattle.link_base.specs.declared.views.content.Content.TheVariants as contents
-use Rattle.link_base.specs.declared.rows.form.Width.{Width}
+use Rattle.link_base.specs.declared.rows.form.ArrayOf.{ArrayOf}
 use Rattle.link_base.specs.Number.{number}
 use Rattle.link_base.specs.Class as classes
 use Rattle.link_base.specs.Class.{Class, Value, Raw, Name, Unlisted, flag_in, flag_value, meant, named, is_listed, size_of}
@@ -17,7 +17,6 @@ use Rattle.link_entries.proofs.OneContent.{value_at, says_at, bytes_in}
 use Rattle.link_base.specs.declared.wire.buffer.NlaBuffer.{NlaBuffer}
 use Rattle.link_base.specs.declared.rows.form.Form.{Form}
 use Rattle.link_base.specs.declared.rows.form.Form.TheVariants as forms
-use Rattle.link_base.specs.Forms.{bytes_in as width_of}
 use Rattle.link_base.specs.Buffer.{kind_field_of, payload_of}
 use Rattle.link_entries.specs.declared.entry.Entry.{Entry}
 
@@ -59,8 +58,8 @@ raw_at (Some (One c)) p q h = raw_payload c p q h
 raw_at o p q h = absurd cc
 
 -- those of an array
-pub array_payload : (o : Option Shape) (p : List ℕ) (w : Width) (bytes : Bor (List ℕ)) → Borrows o p (contents.Numbers w bytes) → length bytes.now ≤ length p
-array_payload o p w bytes h = raw_at o p bytes.now (says_at o p (contents.Numbers w bytes) refl h)
+pub array_payload : (o : Option Shape) (p : List ℕ) (a : ArrayOf) (bytes : Bor (List ℕ)) → Borrows o p (contents.Numbers a bytes) → length bytes.now ≤ length p
+array_payload o p a bytes h = raw_at o p bytes.now (says_at o p (contents.Numbers a bytes) refl h)
 
 -- ---- lists of addresses decode, whatever the attribute types
 
@@ -85,7 +84,7 @@ addresses_decode table f p list size has h none =
 -- ---- other contents
 
 -- a content that is neither a list nor an array has no elements
-pub no_elements : (table : Table) (k at : ℕ) (x : Content) → ((w : Width) (p : Bor (List ℕ)) → x ≡ contents.Numbers w p → ⊥)
+pub no_elements : (table : Table) (k at : ℕ) (x : Content) → ((w : ArrayOf) (p : Bor (List ℕ)) → x ≡ contents.Numbers w p → ⊥)
     → ((p : Bor (List ℕ)) (n : ℕ) → x ≡ contents.Addresses p n → ⊥) → ((p : Bor (List ℕ)) (told : Bool) → x ≡ contents.List p told → ⊥) → Elements table k at x []
 no_elements table k at (contents.Numbers w p) a b c = absurd (a w p refl)
 no_elements table k at (contents.Addresses p n) a b c = absurd (b p n refl)
@@ -97,14 +96,14 @@ module _ (table : Table) (k at : ℕ) (o : Option Shape) (p : List ℕ) where
   abbrev pub ElementsBy : Option Form → List Entry → Type 0
   ElementsBy (Some (forms.List flagged)) es = AreElements (elements_at table k) k at p es
   ElementsBy (Some (forms.Addresses n)) es = AreAddresses k at n p es
-  ElementsBy (Some (forms.Numbers w)) es = es ≡ number_entries k at (width_of w) (bytes_in (value_at o p))
+  ElementsBy (Some (forms.Numbers w)) es = es ≡ number_entries k at w (bytes_in (value_at o p))
   ElementsBy form es = es ≡ []
 
   -- they are those of its content
   pub elements_by : (es : List Entry) (x : Content) → Borrows o p x → Elements table k at x es → ElementsBy (form_of x) es
   elements_by es (contents.List l told) a h = subst (λ t. AreElements (elements_at table k) k at t es) (list_payload o p l told a) h
   elements_by es (contents.Addresses l n) a h = subst (λ t. AreAddresses k at n t es) (address_list o p l n a).payload h
-  elements_by es (contents.Numbers w l) a h = h ∙ ap (λ v. number_entries k at (width_of w) (bytes_in v)) (sym (says_at o p (contents.Numbers w l) refl a))
+  elements_by es (contents.Numbers w l) a h = h ∙ ap (λ v. number_entries k at w (bytes_in v)) (sym (says_at o p (contents.Numbers w l) refl a))
   elements_by es x a h = h
 
 -- likewise, by what is known of the attribute

@@ -1,10 +1,10 @@
 -- What entries spell decodes: attributes, elements, and lists.
-use Rattle.std.proofs.Common.{◌≡◌, ℕ, ◌+◌, ◌*◌, ◌%◌, ◌<◌, ◌≤◌, ◌==◌, true, false, List, [], ◌∷◌, ◌++◌, length, replicate, Ok, refl, sym, ap, subst, ◌∙◌, arith, inl, inr, cond, Option, Some, Err}
+use Rattle.std.proofs.Common.{◌≡◌, ℕ, ◌+◌, ◌*◌, ◌%◌, ◌<◌, ◌≤◌, ◌==◌, true, false, List, [], ◌∷◌, ◌++◌, length, replicate, Ok, refl, sym, ap, subst, ◌∙◌, arith, inl, inr, cond, Option, Some}
 use Rattle.std.specs.List.{AllByRecursion}
 use Rattle.std.proofs.lemmas.List.{length-append}
-use Rattle.link_base.specs.declared.rows.form.Width.{Width}
+use Rattle.link_base.specs.declared.rows.form.ArrayOf.{ArrayOf}
 use Rattle.link_base.specs.Class.{unless, meant, Many}
-use Rattle.link_base.specs.Forms.{bytes_in}
+use Rattle.link_base.specs.Forms.{size_in as each_size}
 use Rattle.link_base.specs.Payloads.{class_by}
 use Rattle.link_base.specs.Frame.{kind_of, frame_bytes, gap}
 use Rattle.link_base.specs.Wire.{Wire, whole}
@@ -17,12 +17,12 @@ use Rattle.link_entries.specs.Payload.{payload_of, field_of}
 use Rattle.link_entries.specs.Spelled.{element_content, elements_of, attribute_of, entry_of, entries_of, begins_well, spelled_by}
 use Rattle.link_entries.proofs.RowForms.{is_list, with_kind, field_kind, NoRow, OneValue, Array, AddressList, NestedList, row_says, value_no_list, RowTold, element_no_list}
 use Rattle.link_entries.proofs.Spellings.{frame_low}
-use Rattle.link_entries.proofs.WrittenLists.{same_spells, framed_ok, wire_none, wire_more, spells, before_ok}
+use Rattle.link_entries.proofs.WrittenLists.{if_held, same_spells, framed_ok, wire_none, wire_more, before_ok}
 use Rattle.link_entries.proofs.EntryFields.{AreBelow}
 use Rattle.link_entries.proofs.WrittenParts.{goes, Parts, parts, single_payload, list_payload, field_held}
 use Rattle.link_entries.proofs.WrittenSizes.{written_size, size_back}
 use Rattle.std.proofs.lemmas.Bool.{cases_Bool}
-use Rattle.link_base.specs.declared.rows.form.Width.TheVariants as widths
+use Rattle.link_base.specs.declared.rows.form.ArrayOf.TheVariants.{I32}
 use Rattle.link_base.specs.Borrowed.{elements_by, elements_at}
 use Rattle.link_base.proofs.ClassLemmas.{at_multiple}
 use Rattle.link_base.proofs.Coherence.{elements_formed}
@@ -64,7 +64,7 @@ single_decodes table formed e octets p s held short single h text =
           let v = Case (kind_of f) (Single (meant c p)) in
           let accepted = size_back e octets p held form names one (ap (λ o. payload_of (fields_in o) e octets) (sym named) ∙ h) in
           of_value table g p s v short text (subst (λ o. GivesBy o f p (Ok v)) (sym (ap (class_at table) kind ∙ class)) (sym (ap (λ o. single_case (kind_of f) (unless o (meant c p))) accepted)))
-      | Array w named class some low ↦ let no : is_list (fields_at table k) ≡ true = ap (λ o. is_list (fields_in o)) named in absurd cc
+      | Array a named class low ↦ let no : is_list (fields_at table k) ≡ true = ap (λ o. is_list (fields_in o)) named in absurd cc
       | AddressList n named class few low ↦ let no : is_list (fields_at table k) ≡ true = ap (λ o. is_list (fields_in o)) named in absurd cc
       | NestedList flagged rows named class low ↦ let no : is_list (fields_at table k) ≡ true = ap (λ o. is_list (fields_in o)) named in absurd cc
     ]
@@ -85,12 +85,17 @@ module _ (table : Table) (n k : ℕ) (octets : List ℕ) where
 
 -- ---- numbers
 
-module _ (P : Entry → Type 0) (is_held : (e : Entry) → P e → IsHeld e) (table : Table) (w : Width) (k : ℕ) (octets : List ℕ) where
-  pub numbers_length : (i : ℕ) (es : List Entry) (s : List ℕ) → AreBelow es → AllByRecursion P es → elements_of table (fields.Numbers w) k octets i es ≡ Ok s → length s ≡ length es * bytes_in w
+-- a number of an array has the bytes of each
+pub array_size : (a : ArrayOf) (e : Entry) (octets p : List ℕ) → IsHeld e → payload_of (array_number a) e octets ≡ Ok p → length p ≡ each_size a
+array_size I32 e octets p held h = written_size e octets p held fields.Signed refl h
+array_size a e octets p held h = written_size e octets p held (array_number a) refl h
+
+module _ (P : Entry → Type 0) (is_held : (e : Entry) → P e → IsHeld e) (table : Table) (a : ArrayOf) (k : ℕ) (octets : List ℕ) where
+  pub numbers_length : (i : ℕ) (es : List Entry) (s : List ℕ) → AreBelow es → AllByRecursion P es → elements_of table (fields.Numbers a) k octets i es ≡ Ok s → length s ≡ length es * each_size a
   numbers_length i [] s deep held h = let none = same_spells [] s h in omega (arith, ap length none)
   numbers_length i (e ∷ es) s deep held h =
-      let one = goes table (fields.Numbers w) k octets i e es s (ap (λ n. n == 0) deep.0) h in
-      let size = written_size e octets one.here (is_held e held.0) (array_number w) refl one.content in
+      let one = goes table (fields.Numbers a) k octets i e es s (ap (λ n. n == 0) deep.0) h in
+      let size = array_size a e octets one.here (is_held e held.0) one.content in
       let rest = numbers_length (i + 1) es one.others deep.1 held.1 one.later in
       omega (arith, ap length one.is, length-append one.here one.others, size, rest)
 
@@ -113,9 +118,9 @@ module _ (table : Table) (formed : is_table table ≡ true) (single : (j : ℕ) 
       let a = element_decodes i e one.here held.0 (omega (arith, size, few)) one.content in
       (a.value ∷ vs, subst (λ t. Wire (Gives table) t (a.value ∷ vs)) (ap (λ t. t ++ one.others) a.text ∙ sym one.is) (wire_more (Gives table) a.field a.payload one.others a.value vs a.low a.short a.given wire))
 
-even : (w : Width) (m n : ℕ) → n ≡ m * bytes_in w → n % bytes_in w ≡ 0
-even widths.One m n h = omega (arith, h)
-even w m n h = omega (arith, h)
+even : (a : ArrayOf) (m n : ℕ) → n ≡ m * each_size a → n % each_size a ≡ 0
+even I32 m n h = omega (arith, h)
+even a m n h = omega (arith, h)
 
 -- ---- one attribute
 
@@ -149,10 +154,10 @@ module _ (table : Table) (formed : is_table table ≡ true) (octets : List ℕ) 
   by_row : RowTold table k → IsAttribute table s
   by_row (NoRow named class) = single (ap (λ o. is_list (fields_in o)) named)
   by_row (OneValue form names named class one low) = single (ap (λ o. is_list (fields_in o)) named ∙ value_no_list (row_fields form) one)
-  by_row (Array width named class some low) =
-      let c = Many (bytes_in width) in
-      let size = numbers_length IsHeld (λ e h. h) (elements_at table k) width k octets 0 w.cut.below p w.cut.deep w.cut.held (only_elements (fields.Numbers width) (ap fields_in named) refl) in
-      let accepted = at_multiple (bytes_in width) (length p) (even width (length w.cut.below) (length p) size) in
+  by_row (Array a named class low) =
+      let c = Many (each_size a) in
+      let size = numbers_length IsHeld (λ e h. h) (elements_at table k) a k octets 0 w.cut.below p w.cut.deep w.cut.held (only_elements (fields.Numbers a) (ap fields_in named) refl) in
+      let accepted = at_multiple (each_size a) (length p) (even a (length w.cut.below) (length p) size) in
       given_by (Some (One c)) (Case (kind_of (g % 65536)) (Single (meant c p))) class (sym (ap (λ o. single_case (kind_of (g % 65536)) (unless o (meant c p))) accepted))
   by_row (AddressList n named class few low) =
       let (vs, wire) = addresses_decode (elements_at table k) n k octets 0 w.cut.below p w.cut.deep w.short (only_elements (fields.Addresses n) (ap fields_in named) refl) in
@@ -189,11 +194,5 @@ module _ (table : Table) (formed : is_table table ≡ true) (octets : List ℕ) 
 
   pub spelled_decodes : (es : List Entry) (t : List ℕ) → AllByRecursion IsHeld es → spelled_by table octets es ≡ Ok t → Decodes table t
   spelled_decodes es t held h =
-      elim (cases_Bool (begins_well es)) [
-        | inl well ↦
-            let (vs, wire) = entries_decode es t held (sym (ap (λ b. cond b (entries_of table octets es) (Err (0, BadElement))) well) ∙ h) in
-            record { values = vs; wire = wire }
-        | inr ill ↦
-            let wrong : Err (0, BadElement) ≡ spells t = sym (ap (λ b. cond b (entries_of table octets es) (Err (0, BadElement))) ill) ∙ h in
-            absurd cc
-      ]
+      let (vs, wire) = entries_decode es t held (if_held (begins_well es) (0, BadElement) (entries_of table octets es) t h).1 in
+      record { values = vs; wire = wire }

@@ -1,7 +1,7 @@
 -- What entries spell, taken apart; and lists of whole attributes.
-use Rattle.std.proofs.Common.{◌≡◌, inl, inr, ℕ, ◌+◌, ◌<◌, ◌≤◌, ◌&&◌, Bool, true, false, cond, List, [], ◌∷◌, ◌++◌, length, take, drop, Option, Result, Ok, Err, refl, sym, ap, ◌∙◌}
+use Rattle.std.proofs.Common.{◌≡◌, ℕ, ◌+◌, ◌<◌, ◌≤◌, ◌&&◌, Bool, true, false, cond, List, [], ◌∷◌, ◌++◌, length, take, drop, Option, Result, Ok, Err, refl, sym, ap}
 use Rattle.std.specs.Prelude.{nat_le}
-use Rattle.std.proofs.lemmas.Bool.{cases_Bool, leb-true}
+use Rattle.std.proofs.lemmas.Bool.{leb-true}
 use Rattle.link_base.specs.Frame.{frame_bytes, max_payload}
 use Rattle.link_base.specs.Wire.{Reading, Wire, whole}
 use Rattle.link_base.specs.Table.{Table}
@@ -30,7 +30,7 @@ same_these p q e = cc
 pub same_spells : (p q : List ℕ) → spells p ≡ Ok q → p ≡ q
 same_spells p q e = cc
 
-pub if_held : (b : Bool) (m : Misfit) (r : Result (List ℕ) Misfit) (p : List ℕ) → cond b r (Err m) ≡ Ok p → (b ≡ true) × (r ≡ Ok p)
+pub if_held : {E : Type 0} (b : Bool) (m : E) (r : Result (List ℕ) E) (p : List ℕ) → cond b r (Err m) ≡ Ok p → (b ≡ true) × (r ≡ Ok p)
 if_held true m r p e = (refl, e)
 if_held false m r p e = absurd cc
 
@@ -52,14 +52,14 @@ content_ok own e octets p h = (if_held (has_form own e) BadForm (content_of own 
 
 -- the own payload of a list is empty
 pub no_bytes : (own : Fields) (e : Entry) (octets p : List ℕ) → is_list own ≡ true → payload_of own e octets ≡ Ok p → p ≡ []
-no_bytes (fields.Numbers width) e octets p a h = sym (same_these [] p (content_ok (fields.Numbers width) e octets p h))
+no_bytes (fields.Numbers n) e octets p a h = sym (same_these [] p (content_ok (fields.Numbers n) e octets p h))
 no_bytes (fields.Addresses size) e octets p a h = sym (same_these [] p (content_ok (fields.Addresses size) e octets p h))
 no_bytes (fields.List flag) e octets p a h = sym (same_these [] p (content_ok (fields.List flag) e octets p h))
 no_bytes own e octets p a h = absurd cc
 
 -- what is no list has no elements
 pub no_content : (table : Table) (own : Fields) (i : ℕ) (e : Entry) (octets s : List ℕ) → is_list own ≡ false → element_content table own i e octets ≡ Ok s → ⊥
-no_content table (fields.Numbers width) i e octets s no_list h = cc
+no_content table (fields.Numbers n) i e octets s no_list h = cc
 no_content table own i e octets s no_list h = cc
 
 -- the bytes that were passed in
@@ -105,12 +105,8 @@ pub record Fitted (f : ℕ) (r : Spelling) (s : List ℕ) : Type 0 where
 
 pub fitted_ok : (f : ℕ) (r : Spelling) (s : List ℕ) → fitted f r ≡ Ok s → Fitted f r s
 fitted_ok f (Ok p) s e =
-    elim (cases_Bool (nat_le (length p) max_payload)) [
-      | inl yes_it ↦
-          let own : spells (frame_bytes (whole f p)) ≡ Ok s = sym (ap (λ b. cond b (Ok (frame_bytes (whole f p))) (Err (0, TooLong))) yes_it) ∙ e in
-          record { payload = p; is = refl; short = leb-true (length p) max_payload yes_it; text = sym (same_spells (frame_bytes (whole f p)) s own) }
-      | inr not_it ↦ let own : Err (0, TooLong) ≡ spells s = sym (ap (λ b. cond b (Ok (frame_bytes (whole f p))) (Err (0, TooLong))) not_it) ∙ e in absurd cc
-    ]
+    let (fits, own) = if_held (nat_le (length p) max_payload) (0, TooLong) (spells (frame_bytes (whole f p))) s e in
+    record { payload = p; is = refl; short = leb-true (length p) max_payload fits; text = sym (same_spells (frame_bytes (whole f p)) s own) }
 fitted_ok f (Err x) s e = absurd cc
 
 -- ---- lists

@@ -58,7 +58,7 @@ field_held table formed e octets p h =
           let none = plain.flags in
           record { kind = omega (arith, sum, low, none); low = λ few. omega (arith, sum, low, none, few) }
       | OneValue form names named class one low ↦ plain_field k e.flags g (ap (λ o. field_of (fields_in o) k e) named ∙ value_field (row_fields form) k e one) low
-      | Array w named class some low ↦ plain_field k e.flags g (ap (λ o. field_of (fields_in o) k e) named) low
+      | Array a named class low ↦ plain_field k e.flags g (ap (λ o. field_of (fields_in o) k e) named) low
       | AddressList n named class few low ↦ plain_field k e.flags g (ap (λ o. field_of (fields_in o) k e) named) low
       | NestedList flagged rows named class low ↦ list_field flagged k e.flags g (ap (λ o. field_of (fields_in o) k e) named) low
     ]

@@ -35,7 +35,7 @@ SameContent (fields.Address form size) octets e list r = take size r.octets ≡ 
 SameContent fields.BridgeId octets e list r = (r.number ≡ e.number) × (take 6 r.octets ≡ take 6 e.octets)
 SameContent (fields.Passed form size) octets e list r = referred r list ≡ referred e octets
 SameContent fields.Limits octets e list r = referred r list ≡ written (meant classes.Limits (referred e octets))
-SameContent (fields.Numbers width) octets e list r = Unit {0}
+SameContent (fields.Numbers a) octets e list r = Unit {0}
 SameContent (fields.Addresses size) octets e list r = Unit {0}
 SameContent (fields.List flag) octets e list r = Unit {0}
 SameContent fields.Unknown octets e list r = (r.flags ≡ e.flags) × (referred r list ≡ referred e octets)
@@ -50,7 +50,7 @@ pub record IsSame (own : Fields) (octets : List ℕ) (e : Entry) (list : List �
 
 -- those of an element of a list with these fields; `table` has the rows of its elements
 abbrev pub element_fields : Table → Fields → Entry → Fields
-element_fields table (fields.Numbers width) e = array_number width
+element_fields table (fields.Numbers a) e = array_number a
 element_fields table (fields.Addresses size) e = ip_address size
 element_fields table (fields.List flag) e = fields_at table e.inner
 element_fields table own e = fields.Empty

@@ -14,7 +14,7 @@ use Rattle.link_base.specs.Protocol.{protocol_number}
 use Rattle.link_entries.specs.declared.entry.Entry.{Entry}
 use Rattle.link_entries.specs.Forms.{form_empty, form_bool, form_unsigned, form_signed, form_named, form_flags, form_masked, form_mac, form_ipv4, form_ipv6, form_bridge_id, form_vlan_info, form_qos_mapping, form_berr_counter, form_bittiming, form_bittiming_const, form_bytes, form_list, form_unknown}
 use Rattle.link_entries.specs.Entry.{padded}
-use Rattle.link_entries.specs.Fields.{role_form}
+use Rattle.link_entries.specs.Fields.{role_form, look_form}
 
 -- an entry for bytes of which a struct takes the first n; one for the bytes, if they are fewer
 abbrev pub whole : ℕ → List ℕ → Entry → Entry → Entry
@@ -45,9 +45,9 @@ filled f (contents.Protocol p) n e = record e { form = form_named; number = prot
 filled f (contents.Mac a) n e = record e { form = form_mac; octets = padded a }
 filled f (contents.Ipv4 a) n e = record e { form = form_ipv4; octets = padded (four_octets a) }
 filled f (contents.Ipv6 a) n e = record e { form = form_ipv6; octets = padded (sixteen_octets a) }
-filled f (contents.Bytes look p) n e = record e { form = form_bytes }
+filled f (contents.Bytes look p) n e = record e { form = look_form look }
 filled f (contents.Struct layout p) n e = with_struct layout p.now e
-filled f (contents.Numbers w p) n e = record e { form = form_list; number = n }
+filled f (contents.Numbers a p) n e = record e { form = form_list; number = n }
 filled f (contents.Limits name numbers) n e = record e { form = form_bittiming_const; length = 48 }
 filled f (contents.Addresses list size) n e = record e { form = form_list; number = n }
 filled f (contents.List list flagged) n e = record e { form = form_list; number = n }

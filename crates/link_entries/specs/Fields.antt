@@ -1,20 +1,24 @@
 -- Which fields of an entry make the payload of its attribute.
 use Rattle.std.specs.Prelude.{ℕ, ◌-◌, ◌<◌, ◌==◌, true, false, Option, Some, None, if◌then◌else◌}
+use Rattle.link_base.specs.declared.rows.form.ArrayOf.{ArrayOf}
+use Rattle.link_base.specs.declared.rows.form.ArrayOf.TheVariants.{I32}
 use Rattle.link_base.specs.declared.rows.form.Width.{Width}
 use Rattle.link_base.specs.declared.rows.form.Width.TheVariants as widths
 use Rattle.link_base.specs.declared.rows.form.Order.{Order}
 use Rattle.link_base.specs.declared.rows.form.Order.TheVariants as orders
 use Rattle.link_base.specs.declared.rows.form.Role.{Role}
 use Rattle.link_base.specs.declared.rows.form.Role.TheVariants as roles
+use Rattle.link_base.specs.declared.rows.form.Look.{Look}
+use Rattle.link_base.specs.declared.rows.form.Look.TheVariants as looks
 use Rattle.link_base.specs.declared.rows.form.Layout.{Layout}
 use Rattle.link_base.specs.declared.rows.form.Layout.TheVariants as layouts
 use Rattle.link_base.specs.declared.rows.form.Form.{Form}
 use Rattle.link_base.specs.declared.rows.form.Form.TheVariants as forms
 use Rattle.link_base.specs.Number.{bound}
 use Rattle.link_base.specs.Class.{size_of}
-use Rattle.link_base.specs.Forms.{bytes_in, layout_extent}
+use Rattle.link_base.specs.Forms.{bytes_in, width_in, layout_extent}
 use Rattle.link_base.specs.Table.{Table, form_at, nested_flag}
-use Rattle.link_entries.specs.Forms.{form_bool, form_unsigned, form_named, form_flags, form_masked, form_mac, form_ipv4, form_ipv6, form_vlan_info, form_qos_mapping, form_berr_counter, form_bittiming, form_bytes}
+use Rattle.link_entries.specs.Forms.{form_bool, form_unsigned, form_named, form_flags, form_masked, form_mac, form_ipv4, form_ipv6, form_vlan_info, form_qos_mapping, form_berr_counter, form_bittiming, form_bytes, form_text, form_held}
 use Rattle.link_entries.specs.declared.fields.Fields.{Fields}
 use Rattle.link_entries.specs.declared.fields.Fields.TheVariants as fields
 
@@ -22,15 +26,17 @@ use Rattle.link_entries.specs.declared.fields.Fields.TheVariants as fields
 abbrev pub any_number : ℕ → Width → Order → Fields
 any_number form width order = fields.Number form width (bound (bytes_in width) - 1) order
 
--- a number of an array of numbers of this width
-abbrev pub array_number : Width → Fields
-array_number width = any_number form_unsigned width orders.Little
-
 -- the form of entries for numbers that say this
 abbrev pub role_form : Role → ℕ
 role_form roles.Plain = form_unsigned
 role_form roles.Flags = form_flags
 role_form role = form_named
+
+-- likewise, for bytes that are shown as this
+abbrev pub look_form : Look → ℕ
+look_form looks.Address = form_bytes
+look_form looks.Text = form_text
+look_form looks.Held = form_held
 
 -- an IP address of this size
 abbrev pub ip_address : ℕ → Fields
@@ -61,12 +67,20 @@ row_fields forms.Protocol = fields.Protocol
 row_fields forms.Mac = fields.Address form_mac 6
 row_fields forms.Ipv4 = fields.Address form_ipv4 4
 row_fields forms.Ipv6 = fields.Address form_ipv6 16
-row_fields (forms.Bytes look) = fields.Passed form_bytes None
+row_fields (forms.Bytes look) = fields.Passed (look_form look) None
 row_fields (forms.Struct layout) = struct_fields layout
-row_fields (forms.Numbers w) = fields.Numbers w
+row_fields (forms.Numbers a) = fields.Numbers a
 row_fields forms.Limits = fields.Limits
 row_fields (forms.Addresses size) = fields.Addresses size
 row_fields (forms.List flagged) = fields.List (nested_flag flagged)
+
+-- the form of a number of an array, and its fields
+abbrev pub number_form : ArrayOf → Form
+number_form I32 = forms.Signed
+number_form a = forms.Number (width_in a) orders.Little roles.Plain
+
+abbrev pub array_number : ArrayOf → Fields
+array_number a = row_fields (number_form a)
 
 -- likewise, if the type has a row
 abbrev pub fields_in : Option Form → Fields

@@ -5,7 +5,10 @@ use Rattle.link_base.specs.declared.wire.buffer.NlaBuffer.{NlaBuffer}
 use Rattle.link_base.specs.declared.views.content.Content.{Content}
 use Rattle.link_base.specs.declared.views.content.Content.TheVariants as contents
 use Rattle.link_base.specs.declared.wire.fault.ListFault.{ListFault}
-use Rattle.link_base.specs.Forms.{bytes_in}
+use Rattle.std.specs.Int.{w32, w64, cast_signed, cast_unsigned}
+use Rattle.link_base.specs.declared.rows.form.ArrayOf.{ArrayOf}
+use Rattle.link_base.specs.declared.rows.form.ArrayOf.TheVariants.{I32}
+use Rattle.link_base.specs.Forms.{size_in}
 use Rattle.link_base.specs.Frame.{kind_of}
 use Rattle.link_base.specs.Buffer.{kind_field_of, payload_of}
 use Rattle.link_base.specs.Table.{Table, Gives}
@@ -14,9 +17,11 @@ use Rattle.link_base.specs.Borrowed.{elements_at, HasContent}
 use Rattle.link_base.specs.Layout.{numbers_of}
 use Rattle.link_messages.specs.Walk.{Item, Walk}
 use Rattle.link_entries.specs.declared.entry.Entry.{Entry}
-use Rattle.link_entries.specs.Forms.{form_unsigned, form_ipv4, form_ipv6}
+use Rattle.link_entries.specs.Forms.{form_ipv4, form_ipv6}
 use Rattle.link_entries.specs.Entry.{blank, padded, placed}
 use Rattle.link_entries.specs.Content.{filled}
+use Rattle.link_entries.specs.Fields.{array_number}
+use Rattle.link_entries.specs.Payload.{form_in}
 
 -- ---- elements
 
@@ -25,12 +30,17 @@ abbrev pub indexed : {A : Type 0} → (ℕ → A → Entry) → ℕ → List A �
 indexed f i [] = []
 indexed f i (x ∷ xs) = f i x ∷ indexed f (i + 1) xs
 
--- the numbers of `width` bytes each in an array that starts at an offset; k is the attribute type
-abbrev pub number_entry : ℕ → ℕ → ℕ → ℕ → ℕ → Entry
-number_entry k at width i x = record (blank k i 1 (at + i * width) width) { form = form_unsigned; number = x }
+-- a number of an array, whose bytes are those of x: a signed one has the sign in 64 bits
+abbrev pub held_number : ArrayOf → ℕ → ℕ
+held_number I32 x = cast_unsigned w64 (cast_signed w32 x)
+held_number a x = x
 
-abbrev pub number_entries : ℕ → ℕ → ℕ → List ℕ → List Entry
-number_entries k at width p = indexed (number_entry k at width) 0 (numbers_of width p)
+-- the numbers of an array that starts at an offset; k is the attribute type
+abbrev pub number_entry : ℕ → ℕ → ArrayOf → ℕ → ℕ → Entry
+number_entry k at a i x = record (blank k i 1 (at + i * size_in a) (size_in a)) { form = form_in (array_number a); number = held_number a x }
+
+abbrev pub number_entries : ℕ → ℕ → ArrayOf → List ℕ → List Entry
+number_entries k at a p = indexed (number_entry k at a) 0 (numbers_of (size_in a) p)
 
 -- an address with these octets, at an offset
 abbrev pub address_entry : ℕ → ℕ → ℕ → List ℕ → Entry
@@ -59,7 +69,7 @@ AreElements table k at list es = (items : List Item) × Walk list items None × 
 abbrev pub Elements : Table → ℕ → ℕ → Content → List Entry → Type 0
 Elements table k at (contents.List list flagged) es = AreElements (elements_at table k) k at list.now es
 Elements table k at (contents.Addresses list size) es = AreAddresses k at size list.now es
-Elements table k at (contents.Numbers w p) es = es ≡ number_entries k at (bytes_in w) p.now
+Elements table k at (contents.Numbers a p) es = es ≡ number_entries k at a p.now
 Elements table k at content es = es ≡ []
 
 -- ---- lists

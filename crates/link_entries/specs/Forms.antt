@@ -70,3 +70,11 @@ form_list = 18
 -- the payload of an attribute whose type has no row
 abbrev pub form_unknown : ℕ
 form_unknown = 19
+
+-- a text
+abbrev pub form_text : ℕ
+form_text = 20
+
+-- a list of another set
+abbrev pub form_held : ℕ
+form_held = 21

@@ -29,7 +29,7 @@ form_in (fields.Address form size) = form
 form_in fields.BridgeId = form_bridge_id
 form_in (fields.Passed form size) = form
 form_in fields.Limits = form_bittiming_const
-form_in (fields.Numbers width) = form_list
+form_in (fields.Numbers a) = form_list
 form_in (fields.Addresses size) = form_list
 form_in (fields.List flag) = form_list
 form_in fields.Unknown = form_unknown
@@ -95,7 +95,7 @@ content_of (fields.Address form size) e octets = only_if (e.length == size) BadO
 content_of fields.BridgeId e octets = if nat_lt e.number (2 ^ 16) then only_if (e.length == 8) BadOctets (reverse (bytes_of 2 e.number) ++ take 6 e.octets) else Err BadNumber
 content_of (fields.Passed form size) e octets = passed size e octets
 content_of fields.Limits e octets = rewritten (passed (Some 48) e octets)
-content_of (fields.Numbers width) e octets = Ok []
+content_of (fields.Numbers a) e octets = Ok []
 content_of (fields.Addresses size) e octets = Ok []
 content_of (fields.List flag) e octets = Ok []
 content_of fields.Unknown e octets = if nat_lt e.kind kind_limit && (e.flags % kind_limit == 0) then passed None e octets else Err BadNumber

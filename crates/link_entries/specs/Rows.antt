@@ -37,7 +37,7 @@ flags_in own = 0
 
 -- whether elements follow
 abbrev pub list_in : Fields → ℕ
-list_in (fields.Numbers width) = 1
+list_in (fields.Numbers a) = 1
 list_in (fields.Addresses size) = 1
 list_in (fields.List flag) = 1
 list_in own = 0
@@ -47,7 +47,7 @@ row_by own = record { width = four_bytes (width_in own); flags = flags_in own; f
 
 -- for an element i of a list whose entries have these fields; `table` has the rows of its elements
 abbrev pub element_row : Table → Fields → ℕ → Option Row
-element_row table (fields.Numbers width) i = Some (row_by (array_number width))
+element_row table (fields.Numbers a) i = Some (row_by (array_number a))
 element_row table (fields.Addresses size) i = Some (row_by (ip_address size))
 element_row table (fields.List flag) i = Some (row_by (fields_at table i))
 element_row table own i = None

@@ -43,7 +43,7 @@ fitted f (Err e) = Err e
 
 -- an element whose index is i in a list whose entries have these fields; `table` has the rows of its elements
 abbrev pub element_content : Table → Fields → ℕ → Entry → List ℕ → Result (List ℕ) Misfit
-element_content table (fields.Numbers width) i e octets = payload_of (array_number width) e octets
+element_content table (fields.Numbers a) i e octets = payload_of (array_number a) e octets
 element_content table (fields.Addresses size) i e octets = framed i (payload_of (ip_address size) e octets)
 element_content table (fields.List flag) i e octets =
     let own = fields_at table e.inner in

@@ -8,7 +8,7 @@ ghost use Rattle.link_entries.specs.Entry.{padded};
 ghost use Rattle.link_entries.specs.Content.{with_struct, filled};
 
 use crate::entry::Entry;
-use crate::fields::role_form;
+use crate::fields::{look_form, role_form};
 use crate::forms;
 use link_base::classes::flag_or_bool::flag_is_on;
 use link_base::rows::form::Layout;
@@ -39,7 +39,7 @@ pub(crate) fn fill(place: &mut Entry, kind_field: u16, content: Content<'_>, bel
         Content::Mac(address) => place.hold_octets(forms::MAC, 0, &address),
         Content::Ipv4(address) => hold_ipv4(place, address),
         Content::Ipv6(address) => hold_ipv6(place, address),
-        Content::Bytes { .. } => place.hold(forms::BYTES, 0),
+        Content::Bytes { look, .. } => place.hold(look_form(look), 0),
         Content::Struct { layout, bytes } => fill_struct(place, layout, bytes),
         Content::Limits { .. } => {
             place.hold(forms::BITTIMING_CONST, 0);

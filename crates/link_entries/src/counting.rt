@@ -32,10 +32,8 @@ fn count_list<F: Attribute>(bytes: &[u8]) -> Result<usize, ListFault>
     ensures entries { Counts F.table bytes.now result }
     ensures bounded { IfOk result (λ n. 2 * n ≤ length bytes.now) }
 {
-    match check_list::<F>(bytes) {
-        Ok(_) => Ok(count_entries::<F>(bytes)),
-        Err(fault) => Err(fault),
-    }
+    check_list::<F>(bytes)?;
+    Ok(count_entries::<F>(bytes))
 }
 
 /// Returns the number of entries of a list that decodes.

@@ -1,11 +1,11 @@
 //! Which fields of an entry make the payload of its attribute.
 
 ghost use Rattle.std.specs.Prelude.{◌≡◌, option_map};
-ghost use Rattle.link_entries.specs.Fields.{any_number, array_number, role_form, ip_address, struct_fields, row_fields, fields_in, IsNarrow};
+ghost use Rattle.link_entries.specs.Fields.{any_number, number_form, array_number, role_form, look_form, ip_address, struct_fields, row_fields, fields_in, IsNarrow};
 
 use crate::forms;
 use link_base::NLA_F_NESTED;
-use link_base::rows::form::{Form, Layout, Order, Role, Width};
+use link_base::rows::form::{ArrayOf, Form, Layout, Look, Order, Role, Width};
 use link_base::rows::label::KindLabel;
 
 /// Which fields of an entry make the payload of its attribute, and in which form.
@@ -50,7 +50,7 @@ pub enum Fields {
     Limits,
     /// The numbers that follow.
     Numbers {
-        width: Width,
+        of: ArrayOf,
     },
     /// The addresses that follow, of `size` bytes each.
     Addresses {
@@ -80,12 +80,27 @@ pub(crate) fn any_number(form: u8, width: Width, order: Order) -> Fields
     }
 }
 
-/// Returns the fields of a number of an array of numbers of this width.
+/// Returns the form of a number of an array.
 #[inline(always)]
-pub(crate) fn array_number(width: Width) -> Fields
-    ensures { result ≡ array_number width }
+pub fn number_form(of: ArrayOf) -> Form
+    ensures { result ≡ number_form of }
 {
-    any_number(forms::UNSIGNED, width, Order::Little)
+    match of {
+        ArrayOf::I32 => Form::Signed,
+        _ => Form::Number {
+            width: of.width(),
+            order: Order::Little,
+            role: Role::Plain,
+        },
+    }
+}
+
+/// Returns the fields of a number of an array.
+#[inline(always)]
+pub(crate) fn array_number(of: ArrayOf) -> Fields
+    ensures { result ≡ array_number of }
+{
+    row_fields(number_form(of))
 }
 
 /// Returns the form of entries for numbers that say this.
@@ -97,6 +112,18 @@ pub(crate) fn role_form(role: Role) -> u8
         Role::Plain => forms::UNSIGNED,
         Role::Coded | Role::Enum => forms::NAMED,
         Role::Flags => forms::FLAGS,
+    }
+}
+
+/// Returns the form of entries for bytes that are shown as this.
+#[inline(always)]
+pub(crate) fn look_form(look: Look) -> u8
+    ensures { result ≡ look_form look }
+{
+    match look {
+        Look::Address => forms::BYTES,
+        Look::Text => forms::TEXT,
+        Look::Held => forms::HELD,
     }
 }
 
@@ -186,9 +213,9 @@ pub fn row_fields(form: Form) -> Fields
         Form::Mac => address(forms::MAC, 6),
         Form::Ipv4 => address(forms::IPV4, 4),
         Form::Ipv6 => address(forms::IPV6, 16),
-        Form::Bytes(_) => passed(forms::BYTES, None),
+        Form::Bytes(look) => passed(look_form(look), None),
         Form::Struct(layout) => struct_fields(layout),
-        Form::Numbers(width) => Fields::Numbers { width },
+        Form::Numbers(of) => Fields::Numbers { of },
         Form::Limits => Fields::Limits,
         Form::Addresses { size } => Fields::Addresses { size },
         Form::List { flagged } => Fields::List {

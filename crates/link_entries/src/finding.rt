@@ -25,20 +25,15 @@ use netlink_packet_route::{Family, FamilyElements, FamilySet, view_list};
 pub fn find(family: Family, bytes: &[u8], kind: u16) -> Result<Option<Entry>, ListFault>
     ensures { Finds (table_of family) kind bytes.now result }
 {
-    match view_list(family, bytes) {
-        Ok(list) => Ok(find_in_view(list, kind)),
-        Err(fault) => Err(fault),
-    }
+    Ok(find_in_view(view_list(family, bytes)?, kind))
 }
 
 /// Returns the entry of the last attribute of type `kind` of a view.
 fn find_in_view(list: View<'_, FamilySet>, kind: u16) -> Option<Entry>
     ensures { IsLastOf (table_of (family_in (set_of list.entry))) kind (bytes_in list.entry) result }
 {
-    match last_value(list, kind) {
-        Some((at, value)) => Some(entry_of(at, &value)),
-        None => None,
-    }
+    let (at, value) = last_value(list, kind)?;
+    Some(entry_of(at, &value))
 }
 
 /// Returns the last attribute of type `kind` of a view, with its offset.

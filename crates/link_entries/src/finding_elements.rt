@@ -1,7 +1,6 @@
 //! Elements looked up in a list.
 
 ghost use Rattle.std.specs.Prelude.{◌≡◌, ◌≤◌, ◌<◌, ◌+◌, ◌^◌, ◌==◌, List, Some, None, length, if◌then◌else◌};
-ghost use Rattle.link_base.specs.Forms.{bytes_in as bytes_of_width};
 ghost use Rattle.link_base.specs.Frame.{max_payload, kind_of};
 ghost use Rattle.link_base.specs.Buffer.{kind_field_of, payload_of};
 ghost use Rattle.link_base.specs.Viewed.{bytes_in, set_of, set_in, buffer_in, payload_in};
@@ -18,7 +17,7 @@ use crate::arrays::{count_of, number_entry};
 use crate::elements::{address_entry, element_entry};
 use crate::entry::Entry;
 use crate::finding::last_value;
-use link_base::rows::form::Width;
+use link_base::rows::form::ArrayOf;
 use link_base::views::attribute_set::{AttributeSet, Set};
 use link_base::views::content::Content;
 use link_base::views::view::{Value, View};
@@ -40,10 +39,7 @@ pub fn find_in(
 ) -> Result<Option<Entry>, ListFault>
     ensures { FindsIn (table_of family) kind inner bytes.now result }
 {
-    match view_list(family, bytes) {
-        Ok(list) => Ok(find_in_view(list, kind, inner)),
-        Err(fault) => Err(fault),
-    }
+    Ok(find_in_view(view_list(family, bytes)?, kind, inner))
 }
 
 /// Returns the entry of the last element `inner` of the last attribute of type `kind` of a view.
@@ -97,7 +93,7 @@ fn find_in_content(
             size,
             inner,
         ),
-        Content::Numbers { width, bytes } => find_number(kind, at, width, bytes, inner),
+        Content::Numbers { of, bytes } => find_number(kind, at, of, bytes, inner),
         _ => None,
     }
 }
@@ -120,14 +116,14 @@ fn find_nested<T: AttributeSet>(
 }
 
 /// Returns the entry of the number at an index of an array.
-fn find_number(kind: u16, at: usize, width: Width, bytes: &[u8], inner: u16) -> Option<Entry>
+fn find_number(kind: u16, at: usize, of: ArrayOf, bytes: &[u8], inner: u16) -> Option<Entry>
     requires short { length bytes.now ≤ max_payload }
     requires offset { at + length bytes.now < 2 ^ 63 }
-    ensures { result ≡ last_inner inner (number_entries kind at (bytes_of_width width) bytes.now) }
+    ensures { result ≡ last_inner inner (number_entries kind at of bytes.now) }
 {
     let index = usize::from(inner);
-    if index < count_of(width, bytes) {
-        return Some(number_entry(kind, at, width, index, bytes));
+    if index < count_of(of, bytes) {
+        return Some(number_entry(kind, at, of, index, bytes));
     }
     None
 }

@@ -207,8 +207,6 @@ pub(crate) fn put_below<S: AttributeSet, E: AttributeSet>(
         × Elements (S.rows (set_in value.now)) (kind_in value.now) at content.entry es
         × Puts places.old places.new first es result × (2 * length es ≤ length (payload_in value.now)) }
 {
-    // The numbers of an array have two bytes or more.
-    value.set().well_formed();
     let kind = value.kind();
     match content {
         Content::List { list, .. } => put_elements(
@@ -226,7 +224,7 @@ pub(crate) fn put_below<S: AttributeSet, E: AttributeSet>(
             View::of_checked(list, Set::<DefaultNla>::new()),
             size,
         ),
-        Content::Numbers { width, bytes } => put_numbers(places, kind, at, first, width, bytes),
+        Content::Numbers { of, bytes } => put_numbers(places, kind, at, first, of, bytes),
         _ => first,
     }
 }

@@ -56,3 +56,9 @@ pub const LIST: u8 = 18;
 
 /// The payload of an attribute whose type has no row, at `offset`.
 pub const UNKNOWN: u8 = 19;
+
+/// A text, at `offset`; a NUL at its end is part of it.
+pub const TEXT: u8 = 20;
+
+/// A list of attributes of another set, at `offset`.
+pub const HELD: u8 = 21;

@@ -47,6 +47,7 @@ pub fn written_back()
 {}
 
 /// What [`write`](crate::write) writes decodes. Entries have sixteen octets, as the type has.
+#[tactic(auto, using(crate::proofs::WrittenDecodes::spelled_decodes, netlink_packet_route::proofs::Families::families_formed))]
 pub fn written_decodes()
     ensures { (family : Family) (octets written : List ℕ) (es : List Entry) → AllByRecursion (λ e. length e.octets ≡ 16) es
         → spelled_by (table_of family) octets es ≡ Ok written → Decodes (table_of family) written }
@@ -55,6 +56,7 @@ pub fn written_decodes()
 /// The entries of what [`write`](crate::write) writes are the entries that it was passed, one by one: the same types,
 /// depths, forms and contents. Not stated: offsets, lengths where no bytes are referred to, the number of a list, and the
 /// indexes of addresses and numbers.
+#[tactic(auto, using(crate::proofs::AgreeLists::written_agrees, netlink_packet_route::proofs::Families::families_formed))]
 pub fn written_read()
     ensures { (family : Family) (octets written : List ℕ) (es read : List Entry) → AllByRecursion IsEntry es
         → spelled_by (table_of family) octets es ≡ Ok written → Flat (table_of family) written read
@@ -63,6 +65,7 @@ pub fn written_read()
 
 /// Of several errors of an entry, without its elements, the first is returned of `BadForm`, `BadNumber`, `BadOctets` and
 /// `TooLong`.
+#[tactic(auto, using(crate::proofs::CheckOrder::in_order))]
 pub fn first_misfits()
     ensures { (own : Fields) (e : Entry) (octets : List ℕ)
         → misfit_in (payload_of own e octets) ≡ first_misfit own e octets }

@@ -223,12 +223,20 @@ fn put_signed(number: u64, room: &mut [u8]) -> Result<usize, Misfit>
     ensures size { result ≡ sized (only_if (is_i32 number) Misfit.BadNumber (bytes_of 4 number)) }
     ensures stored { StoresPayload (only_if (is_i32 number) Misfit.BadNumber (bytes_of 4 number)) room.old room.new }
 {
-    if number >= 0x8000_0000 && number < 0xFFFF_FFFF_8000_0000 {
+    if !is_i32(number) {
         return Err(Misfit::BadNumber);
     }
     let [a, b, c, d, _, _, _, _] = number.to_le_bytes();
     store(room, 4, &[a, b, c, d]);
     Ok(4)
+}
+
+/// Checks whether a signed number fits in 32 bits.
+#[inline(always)]
+pub(crate) fn is_i32(number: u64) -> bool
+    ensures { result ≡ is_i32 number }
+{
+    number < 0x8000_0000 || number >= 0xFFFF_FFFF_8000_0000
 }
 
 /// Stores the little-endian bytes of two `u16`s.
@@ -335,6 +343,7 @@ fn front(octets: &[u8; 16], length: usize) -> &[u8]
 }
 
 /// Stores bytes as a payload, with its padding. Returns their number.
+#[tactic(auto, using(crate::proofs::StoredBytes::stored_padded))]
 #[inline(always)]
 fn put_bytes(bytes: &[u8], room: &mut [u8]) -> usize
     requires { length bytes.now ≤ max_payload }
@@ -420,10 +429,7 @@ fn put_passed(
     ensures stored { StoresPayload (passed size entry.now octets.now) room.old room.new }
     ensures short { IfOk result (λ n. n ≤ max_payload) }
 {
-    match passed(size, entry, octets) {
-        Ok(bytes) => Ok(put_bytes(bytes, room)),
-        Err(misfit) => Err(misfit),
-    }
+    Ok(put_bytes(passed(size, entry, octets)?, room))
 }
 
 /// Stores the limits of a CAN controller that an entry refers to, as a rewriting writes them.
@@ -437,13 +443,9 @@ fn put_limits(entry: &Entry, octets: &[u8], room: &mut [u8]) -> Result<usize, Mi
     ensures stored { StoresPayload (rewritten (passed (Some 48) entry.now octets.now)) room.old room.new }
     ensures short { IfOk result (λ n. n ≤ max_payload) }
 {
-    match passed(Some(48), entry, octets) {
-        Ok(bytes) => {
-            store(room, 4, &rewritten(bytes));
-            Ok(48)
-        }
-        Err(misfit) => Err(misfit),
-    }
+    let bytes = passed(Some(48), entry, octets)?;
+    store(room, 4, &rewritten(bytes));
+    Ok(48)
 }
 
 /// Returns the limits of a CAN controller as a rewriting writes them.

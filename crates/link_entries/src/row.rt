@@ -4,7 +4,7 @@ ghost use Rattle.std.specs.Prelude.{◌≡◌};
 ghost use Rattle.link_base.specs.Borrowed.{elements_at};
 ghost use Rattle.netlink_packet_route.specs.Family.{table_of};
 ghost use Rattle.link_entries.specs.Fields.{fields_at};
-ghost use Rattle.link_entries.specs.Rows.{width_in, flags_in, list_in, size_or_0, row_by, element_row, row_of_type};
+ghost use Rattle.link_entries.specs.Rows.{width_in, flags_in, list_in, row_by, element_row, row_of_type};
 
 use crate::fields::{Fields, array_number, fields_in, ip_address};
 use crate::payload::form_in;
@@ -47,7 +47,7 @@ fn element_row(family: Family, own: Fields, kind: u16, inner: u16) -> Option<Row
     ensures { result ≡ element_row (elements_at (table_of family) kind) own inner }
 {
     match own {
-        Fields::Numbers { width } => Some(row_by(array_number(width))),
+        Fields::Numbers { of } => Some(row_by(array_number(of))),
         Fields::Addresses { size } => Some(row_by(ip_address(size))),
         Fields::List { .. } => {
             let elements = FamilyElements { family, list: kind };
@@ -80,22 +80,13 @@ fn width_in(own: Fields) -> usize
         Fields::Shorts { .. } | Fields::Protocol => 2,
         Fields::Address { size, .. } => size,
         Fields::BridgeId => 8,
-        Fields::Passed { size, .. } => size_or_0(size),
+        Fields::Passed { size, .. } => size.unwrap_or(0),
         Fields::Limits => 48,
         Fields::Empty
         | Fields::Numbers { .. }
         | Fields::Addresses { .. }
         | Fields::List { .. }
         | Fields::Unknown => 0,
-    }
-}
-
-fn size_or_0(size: Option<usize>) -> usize
-    ensures { result ≡ size_or_0 size }
-{
-    match size {
-        Some(size) => size,
-        None => 0,
     }
 }
 

@@ -3,7 +3,9 @@
 ghost use Rattle.std.specs.Prelude.{◌≡◌, ◌<◌, ◌+◌, ◌%◌, [], Ok, length, IfErr};
 ghost use Rattle.link_base.specs.Borrowed.{elements_at, table_within};
 ghost use Rattle.netlink_packet_route.specs.Family.{table_of};
-ghost use Rattle.link_entries.specs.Fields.{array_number, fields_at, IsNarrow};
+ghost use Rattle.link_base.specs.declared.rows.form.Order.TheVariants.{Little};
+ghost use Rattle.link_entries.specs.Forms.{form_unsigned};
+ghost use Rattle.link_entries.specs.Fields.{any_number, array_number, fields_at, IsNarrow};
 ghost use Rattle.link_entries.specs.Payload.{payload_of, field_of};
 ghost use Rattle.link_entries.specs.Spelled.{attribute_of, before, begins_well, element_of, elements_of, entries_of, fitted, framed};
 ghost use Rattle.link_entries.specs.Stored.{sized, StoresBytes, Spells};
@@ -12,9 +14,9 @@ use crate::entry::Entry;
 use crate::fields::{Fields, fields_in, ip_address};
 use crate::forms;
 use crate::misfit::{Misfit, MisfitAt};
-use crate::payload::put_payload;
+use crate::payload::{is_i32, put_payload};
 use crate::storing::{store, store_header, store_padding};
-use link_base::rows::form::Width;
+use link_base::rows::form::{ArrayOf, Width};
 use link_base::{Attribute, MAX_PAYLOAD};
 use netlink_packet_route::{Family, by_family};
 
@@ -186,7 +188,7 @@ fn spell_element<F: Attribute>(
         return Err(Misfit::BadElement);
     }
     match own {
-        Fields::Numbers { width } => spell_number(width, entry, room),
+        Fields::Numbers { of } => spell_number(of, entry, room),
         Fields::Addresses { size } => spell_framed(
             ip_address(size),
             kind,
@@ -211,15 +213,29 @@ fn spell_element<F: Attribute>(
     }
 }
 
-/// Stores the number that an entry spells in an array of numbers of this width. Returns its length.
+/// Stores the number that an entry spells in an array. Returns its length.
 ///
 /// # Errors
 ///
-/// `BadForm` if the entry is no unsigned number, `BadNumber` if the width is too small.
+/// `BadForm` if the entry has not the form of the array's numbers, `BadNumber` if they are too narrow.
 #[inline(always)]
-fn spell_number(width: Width, entry: &Entry, room: &mut [u8]) -> Result<usize, Misfit>
-    ensures size { result ≡ sized (payload_of (array_number width) entry.now []) }
-    ensures stored { StoresBytes (payload_of (array_number width) entry.now []) room.old room.new }
+fn spell_number(of: ArrayOf, entry: &Entry, room: &mut [u8]) -> Result<usize, Misfit>
+    ensures size { result ≡ sized (payload_of (array_number of) entry.now []) }
+    ensures stored { StoresBytes (payload_of (array_number of) entry.now []) room.old room.new }
+{
+    match of {
+        ArrayOf::U16 => spell_unsigned(Width::Two, entry, room),
+        ArrayOf::U32 => spell_unsigned(Width::Four, entry, room),
+        ArrayOf::U64 => spell_unsigned(Width::Eight, entry, room),
+        ArrayOf::I32 => spell_signed(entry, room),
+    }
+}
+
+/// Stores the unsigned number of this width that an entry spells, as [`spell_number`] does.
+#[inline(always)]
+fn spell_unsigned(width: Width, entry: &Entry, room: &mut [u8]) -> Result<usize, Misfit>
+    ensures size { result ≡ sized (payload_of (any_number form_unsigned width Little) entry.now []) }
+    ensures stored { StoresBytes (payload_of (any_number form_unsigned width Little) entry.now []) room.old room.new }
 {
     if entry.form != forms::UNSIGNED && entry.form != 0 {
         return Err(Misfit::BadForm);
@@ -235,6 +251,23 @@ fn spell_number(width: Width, entry: &Entry, room: &mut [u8]) -> Result<usize, M
         Width::Eight => store(room, 0, &[a, b, c, d, e, f, g, h]),
     }
     Ok(width.size())
+}
+
+/// Stores the signed number that an entry spells, as [`spell_number`] does.
+#[inline(always)]
+fn spell_signed(entry: &Entry, room: &mut [u8]) -> Result<usize, Misfit>
+    ensures size { result ≡ sized (payload_of Fields.Signed entry.now []) }
+    ensures stored { StoresBytes (payload_of Fields.Signed entry.now []) room.old room.new }
+{
+    if entry.form != forms::SIGNED && entry.form != 0 {
+        return Err(Misfit::BadForm);
+    }
+    if !is_i32(entry.number) {
+        return Err(Misfit::BadNumber);
+    }
+    let [a, b, c, d, _, _, _, _] = entry.number.to_le_bytes();
+    store(room, 0, &[a, b, c, d]);
+    Ok(4)
 }
 
 /// Stores the attribute of type `of_kind` that an entry spells, without elements. Returns its length.

@@ -1,5 +1,5 @@
 -- Documents are lines, and how deep they nest.
-use Rattle.std.proofs.Common.{◌≡◌, ℕ, suc, ℤ, ◌-◌, ◌+◌, ◌^◌, ◌<◌, ◌≤◌, Bool, true, false, not, List, [], ◌∷◌, ◌++◌, length, Option, Some, None, IfSome, is_some, refl, sym, subst, arith, codes, if◌then◌else◌}
+use Rattle.std.proofs.Common.{◌≡◌, ℕ, suc, ℤ, ◌-◌, ◌+◌, ◌≤◌, Bool, true, false, not, List, [], ◌∷◌, ◌++◌, length, Option, Some, None, is_some, refl, sym, subst, arith, codes, if◌then◌else◌}
 use Rattle.std.specs.List.{AllByRecursion}
 use Rattle.std.specs.Option.{option_copied}
 use Rattle.json.specs.Json.{Json, boolean, string}
@@ -7,7 +7,6 @@ use Rattle.json.specs.Strict.{keys}
 use Rattle.json.specs.Tree.{depth, items_depth, members_depth}
 use Rattle.json.proofs.Printed.Trees.{document-print}
 use Rattle.link_base.specs.Labels.{name_in as name_for}
-use Rattle.link_base.specs.Number.{IsBytes}
 use Rattle.netlink_packet_route.specs.declared.family.Family.{Family}
 use Rattle.netlink_packet_route.specs.Family.{family_name}
 use Rattle.link_messages.specs.declared.acknowledgement.Acknowledgement.{Acknowledgement}
@@ -190,20 +189,20 @@ module _ {K : Type 0} {d : ℕ} (place : List Field) (is : K → IsPlace place) 
 -- ---- documents from a place
 
 module _ (place : List Field) (is : IsPlace place) where
-  pub messages_are_lines : (s : List ℕ) → IsBytes s → length s < 2 ^ 64 → (js : List Json) (whole : Bool) → ShowsMessages place s js whole → AllByRecursion IsLine js
-  messages_are_lines s h small js whole shown = each_line js (messages_sound {d = 115} place (λ k. is) is.shallow s js whole shown)
+  pub messages_are_lines : (s : List ℕ) (js : List Json) (whole : Bool) → ShowsMessages place s js whole → AllByRecursion IsLine js
+  messages_are_lines s js whole shown = each_line js (messages_sound {d = 115} place (λ k. is) is.shallow s js whole shown)
 
   pub line_of_place : IsLine (place_document place)
   line_of_place = line (place_document place) (plain_sound {d = 115} place (λ k. is) is.shallow true)
 
-  pub line_of_fault : (at : Option ℕ) → IfSome at (λ n. n < 2 ^ 64) → (text : List ℕ) → IsLine (fault_document place at text)
-  line_of_fault at h text = line (fault_document place at text) (fault_sound {d = 115} place (λ k. is) is.shallow at text)
+  pub line_of_fault : (at : Option ℕ) (text : List ℕ) → IsLine (fault_document place at text)
+  line_of_fault at text = line (fault_document place at text) (fault_sound {d = 115} place (λ k. is) is.shallow at text)
 
-  pub line_of_list : (family : Family) (bytes : List ℕ) → IsBytes bytes → length bytes < 2 ^ 64 → (j : Json) (well : Bool) → ShowsListDocument place family bytes j well → IsLine j
-  line_of_list family bytes h small j well shown = line j (list_sound {d = 115} place (λ k. is) is.shallow family bytes j well shown)
+  pub line_of_list : (family : Family) (bytes : List ℕ) (j : Json) (well : Bool) → ShowsListDocument place family bytes j well → IsLine j
+  line_of_list family bytes j well shown = line j (list_sound {d = 115} place (λ k. is) is.shallow family bytes j well shown)
 
-  pub line_of_check : (family : Family) (bytes : List ℕ) → length bytes < 2 ^ 64 → (j : Json) (well : Bool) → ShowsCheck place family bytes j well → IsLine j
-  line_of_check family bytes small j well shown = line j (check_shown {d = 115} place (λ k. is) is.shallow family bytes j well shown)
+  pub line_of_check : (family : Family) (bytes : List ℕ) (j : Json) (well : Bool) → ShowsCheck place family bytes j well → IsLine j
+  line_of_check family bytes j well shown = line j (check_shown {d = 115} place (λ k. is) is.shallow family bytes j well shown)
 
 -- ---- how deep documents nest, with any members of a place
 

@@ -1,16 +1,18 @@
 -- Loops that write tokens: what is written and what is left are the whole.
-use Rattle.std.proofs.Common.{◌≡◌, ◌≢◌, ℕ, ◌+◌, ◌-◌, ◌*◌, ◌<◌, ◌≤◌, List, [], ◌∷◌, ◌++◌, map, drop, length, ap, sym, ◌∙◌, arith, slice_index_or, bit_and, append_assoc, Result, Ok, Err, OnOk}
+use Rattle.std.proofs.Common.{◌≡◌, ◌≢◌, ℕ, ◌+◌, ◌-◌, ◌*◌, ◌<◌, ◌≤◌, List, [], ◌∷◌, ◌++◌, map, drop, length, refl, ap, sym, ◌∙◌, arith, slice_index_or, bit_and, append_assoc, Result, Ok, Err, OnOk}
 use Rattle.std.proofs.lemmas.List.{at_drop_more, at_drop_all}
 use Rattle.json.specs.Token.{Token, string, end_array}
 use Rattle.json.specs.Json.{string as string_json}
 use Rattle.json.specs.Tree.{json_tokens, items_tokens}
 use Rattle.link_base.specs.declared.rows.label.Name.{Name}
+use Rattle.link_base.specs.declared.rows.form.ArrayOf.{ArrayOf}
+use Rattle.link_base.specs.Forms.{size_in}
 use Rattle.link_base.specs.Labels.{names_in}
 use Rattle.link_base.specs.Layout.{number_at, numbers_at}
 use Rattle.link_show.proofs.Arrays.{numbers_more}
 use Rattle.link_show.proofs.FlagWords.{set_more, set_other}
-use Rattle.link_json.specs.Doc.{items_of, number_json}
-use Rattle.link_json.specs.Value.{names_json}
+use Rattle.link_json.specs.Doc.{items_of}
+use Rattle.link_json.specs.Value.{names_json, item_json}
 
 pub on_ok : {X E : Type 0} {P Q : Type 0} (r : Result X E) → (P → Q) → OnOk r P → OnOk r Q
 on_ok (Ok x) f h = f h
@@ -53,11 +55,11 @@ names_done xs i bits none = at_drop_all (λ ys. items_tokens (items_of (names_js
 -- ---- arrays of numbers
 
 -- the tokens of the numbers that are left
-abbrev pub numbers_left : ℕ → ℕ → ℕ → List ℕ → List Token
-numbers_left width n i p = items_tokens (items_of (map number_json (numbers_at width (n - i) (i * width) p)))
+abbrev pub numbers_left : ArrayOf → ℕ → ℕ → List ℕ → List Token
+numbers_left a n i p = items_tokens (items_of (map (item_json a) (numbers_at (size_in a) (n - i) (i * size_in a) p)))
 
-pub number_more : (width n i k : ℕ) (p : List ℕ) → i < n → k ≡ number_at width (i * width) p → numbers_left width n i p ≡ json_tokens (number_json k) ++ numbers_left width n (i + 1) p
-number_more width n i k p h e = ap (λ ns. items_tokens (items_of (map number_json ns))) (numbers_more width n i k p h e)
+pub number_more : (a : ArrayOf) (n i : ℕ) (p : List ℕ) → i < n → numbers_left a n i p ≡ json_tokens (item_json a (number_at (size_in a) (i * size_in a) p)) ++ numbers_left a n (i + 1) p
+number_more a n i p h = ap (λ ns. items_tokens (items_of (map (item_json a) ns))) (numbers_more (size_in a) n i _ p h refl)
 
-pub numbers_done : (width n i : ℕ) (p : List ℕ) → n ≤ i → numbers_left width n i p ≡ end_array ∷ []
-numbers_done width n i p h = let none : n - i ≡ 0 = omega (arith, h) in ap (λ m. items_tokens (items_of (map number_json (numbers_at width m (i * width) p)))) none
+pub numbers_done : (a : ArrayOf) (n i : ℕ) (p : List ℕ) → n ≤ i → numbers_left a n i p ≡ end_array ∷ []
+numbers_done a n i p h = let none : n - i ≡ 0 = omega (arith, h) in ap (λ m. items_tokens (items_of (map (item_json a) (numbers_at (size_in a) m (i * size_in a) p)))) none

@@ -1,35 +1,21 @@
 -- The texts of documents are printable, and printable texts are UTF-8.
 use Rattle.std.proofs.Common.{◌≡◌, ◌≢◌, ℕ, zero, suc, ◌/◌, ◌%◌, ◌<◌, Bool, true, false, List, [], ◌∷◌, refl, arith, map, take, drop, length, slice_index, codes}
-use Rattle.std.specs.Prelude.{nat_lt, IsAscii, IsUtf8}
+use Rattle.std.specs.Prelude.{nat_lt, IsUtf8}
 use Rattle.std.specs.Char.{to_ascii_lowercase}
 use Rattle.std.specs.List.{list_all}
 use Rattle.std.specs.Str.{bytes_eq, is_utf8}
 use Rattle.std.proofs.lemmas.Bool.{and_parts, ltb-true, cond-true, cond-false}
 use Rattle.std.proofs.lemmas.Bool.Decides.{nat_tests}
-use Rattle.std.proofs.lemmas.Str.{IsUtf8-from_ascii, IsUtf8-from_is_utf8, is_utf8-from_IsUtf8}
+use Rattle.std.proofs.lemmas.Str.{IsUtf8-from_is_utf8, is_utf8-from_IsUtf8}
 use Rattle.json.specs.Json.{string}
 use Rattle.hex.specs.Hex.{encode_with, encode_lower, lower_digits}
 use Rattle.link_base.specs.WellFormed.{is_printable}
 use Rattle.link_show.specs.Octets.{byte_text, address_text}
 use Rattle.link_show.specs.Printable.{IsText}
 use Rattle.link_show.specs.Text.{joined}
-use Rattle.link_show.proofs.Printing.{text, none, one, either, joined_text, mapped, byte_digits}
+use Rattle.link_show.proofs.Printing.{text, none, one, either}
 use Rattle.link_json.specs.Names.{without, short_name}
 use Rattle.link_json.specs.Value.{text_json, opaque_json}
-
--- ---- UTF-8
-
-below : (b : ℕ) → is_printable b ≡ true → b < 128
-below b h = let k = ltb-true b 127 (and_parts (nat_lt 31 b) (nat_lt b 127) h).1 in omega (arith, k)
-
-all_ascii : (t : List ℕ) → list_all is_printable t ≡ true → IsAscii t
-all_ascii [] h zero = omega arith
-all_ascii [] h (suc i) = omega arith
-all_ascii (b ∷ t) h zero = below b (and_parts (is_printable b) (list_all is_printable t) h).0
-all_ascii (b ∷ t) h (suc i) = all_ascii t (and_parts (is_printable b) (list_all is_printable t) h).1 i
-
-pub text_utf8 : (t : List ℕ) → IsText t → IsUtf8 t
-text_utf8 t h = IsUtf8-from_ascii t (all_ascii t h.printable)
 
 -- ---- hexadecimal
 
@@ -70,9 +56,6 @@ short_text prefix name h =
     all_lower (without prefix name) rest.printable
 
 -- ---- addresses
-
-pub octets_text : (bytes : List ℕ) → IsText (joined (codes ":") (map byte_text bytes))
-octets_text bytes = joined_text (codes ":") (map byte_text bytes) (text refl) (mapped byte_text byte_digits bytes)
 
 pub some_octets : (bytes : List ℕ) → length bytes ≢ 0 → address_text bytes ≡ joined (codes ":") (map byte_text bytes)
 some_octets [] h = absurd (h refl)

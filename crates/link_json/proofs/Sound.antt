@@ -6,6 +6,9 @@ use Rattle.json.specs.Json.{Json, null, boolean, string}
 use Rattle.json.specs.Strict.{keys, HasUniqueKeys, ItemsHaveUniqueKeys, MembersHaveUniqueKeys}
 use Rattle.json.specs.Tree.{depth, items_depth, members_depth, HasNumbers, ItemsHaveNumbers, MembersHaveNumbers}
 use Rattle.json.proofs.Printed.Decimals.{IsNumber-decimal, IsNumber-signed_decimal}
+use Rattle.std.specs.Int.{w32, cast_signed}
+use Rattle.link_base.specs.declared.rows.form.ArrayOf.{ArrayOf}
+use Rattle.link_base.specs.declared.rows.form.ArrayOf.TheVariants.{I32}
 use Rattle.link_base.specs.declared.rows.form.Form.{Form}
 use Rattle.link_base.specs.declared.rows.form.Form.TheVariants as forms
 use Rattle.link_base.specs.declared.rows.form.Layout.{Layout}
@@ -21,7 +24,7 @@ use Rattle.link_show.specs.Flags.{set_names}
 use Rattle.link_show.specs.List.{type_flags}
 use Rattle.link_show.specs.Structs.{field_in, has_fields}
 use Rattle.link_json.specs.Doc.{Field, members_of, items_of, object_of, array_of, eight_bytes, number_json, signed_json, name_json, named_json, element_json, at_json, error_json}
-use Rattle.link_json.specs.Value.{hex_json, opaque_json, text_json, flags_json, role_json, form_json, field_json, fields_json, struct_json, limits_json, unit_fields, raw_json}
+use Rattle.link_json.specs.Value.{hex_json, opaque_json, text_json, flags_json, role_json, form_json, field_json, fields_json, struct_json, limits_json, unit_fields, raw_json, item_json}
 use Rattle.link_json.proofs.Keys.{are_distinct, distinct}
 
 pub record IsSound (K : Type 0) (n : ℕ) (j : Json) : Type 0 where
@@ -129,12 +132,16 @@ module _ {K : Type 0} {d : ℕ} where
   strings_sound [] = no_items
   strings_sound (x ∷ names) = item_sound (string x.1) (map (λ x. string x.1) names) (string_sound x.1) (strings_sound names)
 
-  numbers_sound : (ns : List ℕ) → EachSound K d (map number_json ns)
-  numbers_sound [] = no_items
-  numbers_sound (n ∷ ns) = item_sound (number_json n) (map number_json ns) (number_sound n) (numbers_sound ns)
+  number_item : (a : ArrayOf) (n : ℕ) → IsSound K d (item_json a n)
+  number_item I32 n = signed_sound (cast_signed w32 n)
+  number_item a n = number_sound n
 
-  pub array_of_numbers : (ns : List ℕ) → IsSound K (suc d) (array_of (map number_json ns))
-  array_of_numbers ns = array_sound _ (numbers_sound ns)
+  numbers_sound : (a : ArrayOf) (ns : List ℕ) → EachSound K d (map (item_json a) ns)
+  numbers_sound a [] = no_items
+  numbers_sound a (n ∷ ns) = item_sound (item_json a n) (map (item_json a) ns) (number_item a n) (numbers_sound a ns)
+
+  pub array_of_numbers : (a : ArrayOf) (ns : List ℕ) → IsSound K (suc d) (array_of (map (item_json a) ns))
+  array_of_numbers a ns = array_sound _ (numbers_sound a ns)
 
 module _ {K : Type 0} {d : ℕ} where
   pub text_sound : (t : List ℕ) → IsSound K (suc d) (text_json t)

@@ -13,7 +13,7 @@ use Rattle.link_messages.specs.declared.info.LinkInfo.{LinkInfo}
 use Rattle.link_messages.specs.declared.details.Protinfo.{Protinfo}
 use Rattle.link_messages.specs.declared.details.Protinfo.TheVariants as protinfos
 use Rattle.link_messages.specs.Finding.{Stretch}
-use Rattle.link_messages.specs.Link.{without_nul}
+use Rattle.netlink_packet_route.specs.Opening.{without_nul}
 use Rattle.link_show.specs.Message.{state_names}
 use Rattle.link_show.specs.MessageNames.{device_flags, operational_states}
 use Rattle.link_json.specs.Doc.{Field, array_of, number_json}

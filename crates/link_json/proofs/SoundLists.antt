@@ -18,7 +18,7 @@ use Rattle.link_base.specs.Named.{text_of}
 use Rattle.link_base.specs.Table.{Label, Table}
 use Rattle.netlink_packet_route.specs.declared.family.Family.{Family}
 use Rattle.netlink_packet_route.specs.Family.{table_of}
-use Rattle.link_messages.specs.Link.{without_nul}
+use Rattle.netlink_packet_route.specs.Opening.{without_nul}
 use Rattle.link_messages.specs.Walk.{Item}
 use Rattle.link_show.specs.List.{EachShown, ShowsEach, label_for, ip_text}
 use Rattle.link_show.specs.Structs.{pair_fields, masked_fields}
@@ -61,9 +61,10 @@ module _ {K : Type 0} {d : ℕ} where
   content_sound label (contents.Pair from to) l = object_of_fields pair_fields [] (octets_of 4 (from ∷ to ∷ [])) refl
   content_sound label (contents.Protocol p) l = named_sound (protocol_number p) (Some (text_of vlan_protocols.labels (protocol_number p)))
   content_sound label (contents.Struct layout p) l = struct_sound layout label.fields label.names p.now (distinct_names label.fields l.1.1)
-  content_sound label (contents.Numbers width p) l = array_of_numbers _
+  content_sound label (contents.Numbers a p) l = array_of_numbers a _
   content_sound label (contents.Limits name numbers) l = limits_sound name.now numbers.now
   content_sound label (contents.Bytes looks.Text p) l = text_sound (without_nul p.now)
+  content_sound label (contents.Bytes looks.Held p) l = opaque_sound p.now
   content_sound label (contents.Addresses list size) l = opaque_sound list.now
   content_sound label (contents.List list flagged) l = opaque_sound list.now
   content_sound label (contents.Other p) l = opaque_sound p.now

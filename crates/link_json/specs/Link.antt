@@ -15,7 +15,7 @@ use Rattle.link_messages.specs.declared.info.LinkInfo.{LinkInfo}
 use Rattle.link_messages.specs.declared.details.Protinfo.{Protinfo}
 use Rattle.link_messages.specs.declared.details.Protinfo.TheVariants as protinfos
 use Rattle.link_messages.specs.Finding.{Stretch}
-use Rattle.link_messages.specs.Link.{without_nul}
+use Rattle.netlink_packet_route.specs.Opening.{without_nul}
 use Rattle.link_messages.specs.Info.{IsInfo}
 use Rattle.link_messages.specs.Details.{IsProtinfo}
 use Rattle.link_messages.specs.Walk.{Item}

@@ -1,6 +1,7 @@
 -- The JSON of values, by the form of their content.
 use Rattle.std.specs.Prelude.{ℕ, ◌-◌, true, List, [], ◌∷◌, map, Option, Some, None, codes, if◌then◌else◌}
 use Rattle.std.specs.Fmt.{decimal}
+use Rattle.std.specs.Int.{w32, cast_signed}
 use Rattle.std.specs.Str.{is_utf8}
 use Rattle.std.specs.Net.Addr.{ipv4_octets}
 use Rattle.std.specs.Net.Text.{ipv4_text}
@@ -9,6 +10,8 @@ use Rattle.json.specs.Json.{Json, boolean, string}
 use Rattle.link_base.specs.declared.wire.buffer.NlaBuffer.{NlaBuffer}
 use Rattle.link_base.specs.declared.views.content.Content.{Content}
 use Rattle.link_base.specs.declared.views.content.Content.TheVariants as contents
+use Rattle.link_base.specs.declared.rows.form.ArrayOf.{ArrayOf}
+use Rattle.link_base.specs.declared.rows.form.ArrayOf.TheVariants.{I32}
 use Rattle.link_base.specs.declared.rows.form.Look.TheVariants as looks
 use Rattle.link_base.specs.declared.rows.form.Form.{Form}
 use Rattle.link_base.specs.declared.rows.form.Form.TheVariants as forms
@@ -24,14 +27,14 @@ use Rattle.link_base.specs.Orders.{number_by}
 use Rattle.link_base.specs.Class.{is_on}
 use Rattle.link_base.specs.Frame.{kind_of}
 use Rattle.link_base.specs.Buffer.{kind_field_of, payload_of}
-use Rattle.link_base.specs.Forms.{bytes_in}
+use Rattle.link_base.specs.Forms.{size_in}
 use Rattle.link_base.specs.Payloads.{limit_fields}
 use Rattle.link_base.specs.IpAddress.{sixteen_octets}
 use Rattle.link_base.specs.Labels.{name_in}
 use Rattle.link_base.specs.Layout.{numbers_of, octets_of}
 use Rattle.link_base.specs.Protocol.{vlan_protocols, protocol_number}
 use Rattle.link_base.specs.Named.{text_of}
-use Rattle.link_messages.specs.Link.{without_nul}
+use Rattle.netlink_packet_route.specs.Opening.{without_nul}
 use Rattle.link_show.specs.Text.{joined}
 use Rattle.link_show.specs.Octets.{byte_text, ip6_text}
 use Rattle.link_show.specs.Flags.{set_names}
@@ -110,6 +113,11 @@ limits_json name p = object_of ((codes "name", text_json name) ∷ fields_json l
 
 -- ---- contents
 
+-- the number of an array whose bytes are those of n
+abbrev pub item_json : ArrayOf → ℕ → Json
+item_json I32 n = signed_json (cast_signed w32 n)
+item_json a n = number_json n
+
 -- the value of a content, by what is known of its attribute type; the bytes of a list
 abbrev pub content_json : Label → Content → Json
 content_json label contents.Nothing = boolean true
@@ -126,8 +134,9 @@ content_json label (contents.Ipv4 a) = string (ipv4_text (ipv4_octets a))
 content_json label (contents.Ipv6 a) = string (ip6_text (sixteen_octets a))
 content_json label (contents.Bytes looks.Address p) = address_json p.now
 content_json label (contents.Bytes looks.Text p) = text_json (without_nul p.now)
+content_json label (contents.Bytes looks.Held p) = opaque_json p.now
 content_json label (contents.Struct layout p) = struct_json layout label.fields label.names p.now
-content_json label (contents.Numbers width p) = array_of (map number_json (numbers_of (bytes_in width) p.now))
+content_json label (contents.Numbers a p) = array_of (map (item_json a) (numbers_of (size_in a) p.now))
 content_json label (contents.Limits name numbers) = limits_json name.now numbers.now
 content_json label (contents.Addresses list size) = opaque_json list.now
 content_json label (contents.List list flagged) = opaque_json list.now

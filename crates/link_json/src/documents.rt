@@ -83,11 +83,11 @@ fn write_message_fields(sheet: &mut Sheet, message: &Message<'_>) -> Result<(), 
     let length = 16 + message.payload.len();
     write_number_field(sheet, "len", length as u64)?;
     sheet.key("type")?;
-    write_enum(sheet, MESSAGE_TYPES, message.kind.into())?;
+    write_enum(sheet, MESSAGE_TYPES, message.kind as u64)?;
     sheet.key("flags")?;
-    write_flags(sheet, flag_names(message.kind), message.flags.into())?;
-    write_number_field(sheet, "seq", message.sequence.into())?;
-    write_number_field(sheet, "pid", message.port.into())
+    write_flags(sheet, flag_names(message.kind), message.flags as u64)?;
+    write_number_field(sheet, "seq", message.sequence as u64)?;
+    write_number_field(sheet, "pid", message.port as u64)
 }
 
 /// Writes what a message is, besides its header. Returns whether it has no error.

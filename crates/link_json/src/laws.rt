@@ -1,10 +1,9 @@
 //! Theorems about what is written. The functions have empty bodies; each states its theorem as its contract.
 
-ghost use Rattle.std.specs.Prelude.{◌≡◌, ◌↔◌, ◌<◌, ◌≤◌, ◌+◌, ◌^◌, ℕ, Bool, true, false, List, length, Option, IfSome, IsTrue};
+ghost use Rattle.std.specs.Prelude.{◌≡◌, ◌↔◌, ◌≤◌, ◌+◌, ℕ, Bool, true, false, List, Option, IsTrue};
 ghost use Rattle.std.specs.List.{AllByRecursion};
 ghost use Rattle.json.specs.Json.{Json};
 ghost use Rattle.json.specs.Tree.{depth, items_depth, members_depth};
-ghost use Rattle.link_base.specs.Number.{IsBytes};
 ghost use Rattle.netlink_packet_route.specs.declared.family.Family.{Family};
 ghost use Rattle.link_json.specs.Doc.{Field, items_of, members_of};
 ghost use Rattle.link_json.specs.Line.{IsLine, IsPlace};
@@ -52,19 +51,18 @@ pub fn ok_of_others()
 /// States that the document of each message of a buffer is a line that reads back as that document, and that no object in it
 /// has a key twice, if the members that say where it is from are those of a place.
 pub fn lines_of_messages()
-    ensures { (place : List Field) → IsPlace place → (s : List ℕ) → IsBytes s → length s < 2 ^ 64
-        → (js : List Json) (whole : Bool) → ShowsMessages place s js whole → AllByRecursion IsLine js }
+    ensures { (place : List Field) → IsPlace place → (s : List ℕ) (js : List Json) (whole : Bool)
+        → ShowsMessages place s js whole → AllByRecursion IsLine js }
 {}
 
 /// States this of the other documents.
 pub fn lines_of_others()
     ensures places { (place : List Field) → IsPlace place → IsLine (place_document place) }
-    ensures faults { (place : List Field) → IsPlace place → (at : Option ℕ) → IfSome at (λ n. n < 2 ^ 64)
-        → (text : List ℕ) → IsLine (fault_document place at text) }
-    ensures lists { (place : List Field) → IsPlace place → (family : Family) (bytes : List ℕ) → IsBytes bytes → length bytes < 2 ^ 64
-        → (j : Json) (well : Bool) → ShowsListDocument place family bytes j well → IsLine j }
-    ensures checks { (place : List Field) → IsPlace place → (family : Family) (bytes : List ℕ) → length bytes < 2 ^ 64
-        → (j : Json) (well : Bool) → ShowsCheck place family bytes j well → IsLine j }
+    ensures faults { (place : List Field) → IsPlace place → (at : Option ℕ) (text : List ℕ) → IsLine (fault_document place at text) }
+    ensures lists { (place : List Field) → IsPlace place → (family : Family) (bytes : List ℕ) (j : Json) (well : Bool)
+        → ShowsListDocument place family bytes j well → IsLine j }
+    ensures checks { (place : List Field) → IsPlace place → (family : Family) (bytes : List ℕ) (j : Json) (well : Bool)
+        → ShowsCheck place family bytes j well → IsLine j }
 {}
 
 /// States that two values of `Failure` are equal (`==`) if and only if they are the same value.

@@ -1,18 +1,18 @@
 //! Enums, sets of flags, and arrays of numbers.
 
-ghost use Rattle.std.specs.Prelude.{◌≡◌, ◌++◌, OnOk, map};
+ghost use Rattle.std.specs.Prelude.{◌≡◌, ◌≤◌, ◌+◌, ◌*◌, ◌++◌, OnOk, length, map};
 ghost use Rattle.json.specs.Tree.{json_tokens};
-ghost use Rattle.link_base.specs.Forms.{bytes_in};
+ghost use Rattle.link_base.specs.Forms.{size_in};
 ghost use Rattle.link_base.specs.Labels.{names_in};
-ghost use Rattle.link_base.specs.Layout.{numbers_of};
-ghost use Rattle.link_json.specs.Doc.{array_of, number_json};
-ghost use Rattle.link_json.specs.Value.{enum_json, flags_json, names_json};
+ghost use Rattle.link_base.specs.Layout.{number_at, numbers_of};
+ghost use Rattle.link_json.specs.Doc.{array_of};
+ghost use Rattle.link_json.specs.Value.{enum_json, flags_json, item_json, names_json};
 
 use crate::parts::write_named;
 use crate::sheet::Sheet;
-use link_base::rows::form::Width;
+use link_base::rows::form::ArrayOf;
 use link_base::rows::label::{Name, name_of};
-use link_show::number_at;
+use link_show::{number_at, signed_at};
 use std::alloc::AllocError;
 
 /// Writes the number of an enum, and its name.
@@ -48,13 +48,25 @@ fn write_set_names(sheet: &mut Sheet, names: &[Name], bits: u64) -> Result<(), A
 }
 
 /// Writes an array of little-endian numbers.
-pub(crate) fn write_numbers(sheet: &mut Sheet, width: Width, bytes: &[u8]) -> Result<(), AllocError>
+pub(crate) fn write_numbers(sheet: &mut Sheet, of: ArrayOf, bytes: &[u8]) -> Result<(), AllocError>
     ensures { OnOk result (sheet.new ≡ sheet.old
-        ++ json_tokens (array_of (map number_json (numbers_of (bytes_in width) bytes.now)))) }
+        ++ json_tokens (array_of (map (item_json of) (numbers_of (size_in of) bytes.now)))) }
 {
     sheet.begin_array()?;
-    for i in 0..bytes.len() / width.size() {
-        sheet.number(number_at(width, i, bytes))?;
+    for i in 0..bytes.len() / of.size() {
+        write_item(sheet, of, i, bytes)?;
     }
     sheet.end_array()
+}
+
+/// Writes the number at an index of an array.
+fn write_item(sheet: &mut Sheet, of: ArrayOf, index: usize, bytes: &[u8]) -> Result<(), AllocError>
+    requires { (index + 1) * size_in of ≤ length bytes.now }
+    ensures { OnOk result (sheet.new ≡ sheet.old
+        ++ json_tokens (item_json of (number_at (size_in of) (index * size_in of) bytes.now))) }
+{
+    match of {
+        ArrayOf::I32 => sheet.signed(signed_at(index, bytes)),
+        _ => sheet.number(number_at(of.width(), index, bytes)),
+    }
 }

@@ -56,10 +56,14 @@ pub(crate) fn write_content(
             look: Look::Text,
             bytes,
         } => sheet.text(without_nul(bytes)),
+        Content::Bytes {
+            look: Look::Held,
+            bytes,
+        } => sheet.opaque(bytes),
         Content::Struct { layout, bytes } => {
             write_struct(sheet, layout, label.fields, label.names, bytes)
         }
-        Content::Numbers { width, bytes } => write_numbers(sheet, width, bytes),
+        Content::Numbers { of, bytes } => write_numbers(sheet, of, bytes),
         Content::Limits { name, numbers } => write_limits(sheet, name, numbers),
         Content::Addresses { list, .. } | Content::List { list, .. } => sheet.opaque(list),
         Content::Other(payload) => sheet.opaque(payload),
@@ -117,9 +121,9 @@ pub(crate) fn write_raw(sheet: &mut Sheet, buffer: NlaBuffer<'_>) -> Result<(), 
 {
     let kind = buffer.kind();
     sheet.begin_object()?;
-    write_number_field(sheet, "type", kind.into())?;
+    write_number_field(sheet, "type", kind as u64)?;
     sheet.key("flags")?;
-    write_flags(sheet, TYPE_FLAGS, (buffer.raw_kind() - kind).into())?;
+    write_flags(sheet, TYPE_FLAGS, (buffer.raw_kind() - kind) as u64)?;
     sheet.key("hex")?;
     sheet.hex(buffer.value())?;
     sheet.end_object()
@@ -132,7 +136,7 @@ pub(crate) fn write_unnamed(sheet: &mut Sheet, buffer: NlaBuffer<'_>) -> Result<
 {
     sheet.begin_object()?;
     sheet.key("name")?;
-    sheet.digits(buffer.kind().into())?;
+    sheet.digits(buffer.kind() as u64)?;
     sheet.key("value")?;
     write_raw(sheet, buffer)?;
     sheet.end_object()

@@ -2,6 +2,5 @@ pub mod Messages
 pub mod Walks
 pub mod Walking
 pub mod Others
-pub mod Names
 pub mod Parts
 pub mod Links

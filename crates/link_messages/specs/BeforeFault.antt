@@ -10,7 +10,7 @@ use Rattle.link_messages.specs.declared.buffer_parts.Payload.{Payload}
 use Rattle.link_messages.specs.declared.message.MessageError.{MessageError}
 use Rattle.link_messages.specs.declared.message.MessageError.TheVariants as errors
 use Rattle.link_messages.specs.Finding.{Stretch, stretch_of}
-use Rattle.link_messages.specs.Link.{without_nul}
+use Rattle.netlink_packet_route.specs.Opening.{without_nul}
 use Rattle.link_messages.specs.Walk.{Item, Walk}
 
 -- an attribute, wherever its bytes are in memory: its offset in the list, `nla_type`, and the payload

@@ -1,33 +1,20 @@
 -- The contents of an IFLA_LINKINFO, up to the first malformed header (`include/uapi/linux/if_link.h`).
-use Rattle.std.specs.Prelude.{◌≡◌, ℕ, List, Option, Some, None, codes, if◌then◌else◌}
-use Rattle.std.specs.Option.{option_map, option_copied, option_and_then}
-use Rattle.std.specs.Str.{bytes_eq}
+use Rattle.std.specs.Prelude.{◌≡◌, ℕ, List, Option, Some, None}
+use Rattle.std.specs.Option.{option_map, option_copied}
 use Rattle.link_base.specs.declared.wire.fault.Cause.{Cause}
 use Rattle.netlink_packet_route.specs.declared.family.Family.{Family}
-use Rattle.netlink_packet_route.specs.Family.{Holding, InfoKind, PortKind}
+use Rattle.netlink_packet_route.specs.Family.{Holding, InfoKind, PortKind, IsReadBy}
+use Rattle.netlink_packet_route.specs.Opening.{port_kind_of}
 use Rattle.link_messages.specs.declared.info.LinkInfo.{LinkInfo}
 use Rattle.link_messages.specs.declared.info.InfoData.{InfoData}
 use Rattle.link_messages.specs.Finding.{Stretch, stretch_of}
-use Rattle.link_messages.specs.Link.{IsFamilyOf}
 use Rattle.link_messages.specs.Walk.{Item, Walk}
 use Rattle.link_messages.specs.BeforeFault.{latest, name_in, error_at}
-
--- the port kind that an IFLA_INFO_KIND announces
-abbrev pub announced : List ℕ → Option (List ℕ)
-announced kind =
-    if bytes_eq kind (codes "bond_slave") then Some (codes "bond")
-    else (if bytes_eq kind (codes "bridge_slave") then Some (codes "bridge")
-    else None)
-
--- the port kind: that of IFLA_INFO_SLAVE_KIND; if there is none, the one that IFLA_INFO_KIND announces
-abbrev pub port_kind_of : Option (List ℕ) → Option (List ℕ) → Option (List ℕ)
-port_kind_of kind (Some port_kind) = Some port_kind
-port_kind_of kind None = option_and_then announced kind
 
 -- the Family whose list is next to this text, which may be missing
 abbrev pub IsFamilyFor : (List ℕ → Holding) → Option (List ℕ) → Option Family → Type 0
 IsFamilyFor holding None family = family ≡ None
-IsFamilyFor holding (Some text) family = IsFamilyOf (holding text) family
+IsFamilyFor holding (Some text) family = IsReadBy (holding text) family
 
 -- the Family of some data, and its bytes
 abbrev pub data_of : InfoData → Option Family × Stretch

@@ -1,11 +1,12 @@
 -- A message's description of a link, with the lists that a Family parses (`include/uapi/linux/if_link.h`).
-use Rattle.std.specs.Prelude.{◌≡◌, ◌⊎◌, ◌↔◌, ℕ, ◌+◌, ◌<◌, ◌≤◌, ◌==◌, List, [], ◌∷◌, length, take, drop, slice_index, Option, Some, None, codes, if◌then◌else◌}
+use Rattle.std.specs.Prelude.{◌≡◌, ◌⊎◌, ℕ, ◌+◌, ◌<◌, ◌≤◌, ◌==◌, List, [], ◌∷◌, length, take, drop, slice_index, Option, Some, None, codes, if◌then◌else◌}
 use Rattle.std.specs.Option.{option_map, option_copied, option_and_then, option_zip}
 use Rattle.std.specs.List.{Any}
 use Rattle.std.specs.Str.{bytes_eq}
 use Rattle.netlink_packet_route.specs.Class.{integer}
 use Rattle.netlink_packet_route.specs.declared.family.Family.{Family}
-use Rattle.netlink_packet_route.specs.Family.{Holding, InfoKind, PortKind, BridgeAttribute, holder_of}
+use Rattle.netlink_packet_route.specs.Family.{Holding, InfoKind, PortKind, BridgeAttribute, IsReadBy}
+use Rattle.netlink_packet_route.specs.Opening.{without_nul}
 use Rattle.link_messages.specs.declared.link.Link.{Link}
 use Rattle.link_messages.specs.declared.link.Part.{Part}
 use Rattle.link_messages.specs.declared.message.MessageError.{MessageError}
@@ -13,25 +14,15 @@ use Rattle.link_messages.specs.declared.message.MessageError.TheVariants as erro
 use Rattle.link_messages.specs.Message.{Packet}
 use Rattle.link_messages.specs.Finding.{Stretch, stretch_of, Finds, FindsIn, IsFrameFault, IsFaultIn}
 
--- the bytes of a name without the NUL at their end, if they have one
-abbrev pub without_nul : List ℕ → List ℕ
-without_nul [] = []
-without_nul (b ∷ []) = if b == 0 then [] else b ∷ []
-without_nul (b ∷ c ∷ bytes) = b ∷ without_nul (c ∷ bytes)
-
 -- ---- parts: lists, each with the Family that parses it
 
 abbrev pub part_of : Part → Family × Stretch
 part_of p = (p.family, stretch_of p.payload)
 
--- the Family whose list is held so, if there is one
-abbrev pub IsFamilyOf : Holding → Option Family → Type 0
-IsFamilyOf holding family = (f : Family) → (family ≡ Some f) ↔ (holder_of f ≡ holding)
-
 -- the Family of a list next to the attribute with this text, which may be missing
 abbrev pub IsFamilyBeside : (List ℕ → Holding) → Option Stretch → Option Family → Type 0
 IsFamilyBeside holding None family = family ≡ None
-IsFamilyBeside holding (Some text) family = IsFamilyOf (holding (without_nul text.1)) family
+IsFamilyBeside holding (Some text) family = IsReadBy (holding (without_nul text.1)) family
 
 -- the payload of the last attribute of type `payload_kind` in an IFLA_LINKINFO, which may be missing; the last
 -- attribute of type `name_kind` determines its Family
@@ -49,7 +40,7 @@ pub record IsBridgePart (kind address_family : ℕ) (list : Stretch) (part : Opt
   pub payload : Option Stretch
   pub family : Option Family
   pub finds : FindsIn (if address_family == 7 then Some list else None) kind payload
-  pub is_family : IsFamilyOf (BridgeAttribute kind) family
+  pub is_family : IsReadBy (BridgeAttribute kind) family
   pub is : part ≡ option_zip family payload
 
 -- ---- a link
@@ -91,11 +82,19 @@ pub record IsHeldBeside (name_kind payload_kind : ℕ) (text : List ℕ) (list :
   pub finds_payload : FindsIn info payload_kind payload
   pub is : found ≡ option_and_then (λ n. if bytes_eq (without_nul n.1) text then payload else None) name
 
+-- the holders in which `read_link` finds lists
+abbrev pub IsFound : Holding → Type 0
+IsFound (InfoKind text) = Unit {0}
+IsFound (PortKind text) = Unit {0}
+IsFound (BridgeAttribute kind) = Unit {0}
+IsFound holding = ⊥
+
 -- what the attributes of a message hold so: a list, or None
 abbrev pub IsHeld : Holding → ℕ → Stretch → Option Stretch → Type 0
 IsHeld (InfoKind text) address_family list found = IsHeldBeside 1 2 text list found
 IsHeld (PortKind text) address_family list found = IsHeldBeside 4 5 text list found
 IsHeld (BridgeAttribute kind) address_family list found = FindsIn (if address_family == 7 then Some list else None) kind found
+IsHeld holding address_family list found = ⊥
 
 -- the first framing error of the attributes; or, if they have none, that of the last IFLA_LINKINFO
 abbrev pub IsLinkFault : Stretch → MessageError → Type 0

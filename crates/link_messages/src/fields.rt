@@ -7,7 +7,7 @@ ghost use Rattle.link_messages.specs.BeforeFault.{OfWalk, latest, name_in, numbe
 
 use crate::before_fault::last_before_fault;
 use crate::buffer_parts::Payload;
-use crate::link::without_nul;
+use netlink_packet_route::without_nul;
 
 /// Returns the payload of the last attribute of type `kind`.
 pub(crate) fn bytes_of_kind<'a>(list: Payload<'a>, kind: u16) -> Option<&'a [u8]>

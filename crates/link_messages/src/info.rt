@@ -1,10 +1,11 @@
 //! The contents of an `IFLA_LINKINFO`: the kind of a link, the kind of the device whose port it is, and the data of both.
 
 ghost use Rattle.std.specs.Prelude.{◌≡◌};
-ghost use Rattle.std.specs.Option.{option_map, option_copied, option_and_then};
+ghost use Rattle.std.specs.Option.{option_map, option_copied};
 ghost use Rattle.netlink_packet_route.specs.Family.{InfoKind, PortKind};
+ghost use Rattle.netlink_packet_route.specs.Opening.{port_kind_of};
 ghost use Rattle.link_messages.specs.Finding.{stretch_of};
-ghost use Rattle.link_messages.specs.Info.{announced, data_of, port_kind_of, IsFamilyFor, IsInfo};
+ghost use Rattle.link_messages.specs.Info.{data_of, IsFamilyFor, IsInfo};
 
 use crate::before_fault::{count_before_fault, last_before_fault};
 use crate::buffer_parts::Payload;
@@ -13,7 +14,7 @@ use crate::link_types::{
     IFLA_INFO_DATA, IFLA_INFO_KIND, IFLA_INFO_SLAVE_DATA, IFLA_INFO_SLAVE_KIND,
 };
 use crate::message::MessageError;
-use netlink_packet_route::Family;
+use netlink_packet_route::{Family, port_kind_in};
 
 /// The data of a link or of a port, and the `Family` that parses it.
 #[derive(Clone, Copy, Debug, PartialEq, Eq)]
@@ -39,20 +40,6 @@ pub struct LinkInfo<'a> {
     pub port_data: Option<InfoData<'a>>,
     /// The error of the first malformed header, a `MessageError::Frame`.
     pub fault: Option<MessageError>,
-}
-
-/// Returns the port kind that an `IFLA_INFO_KIND` announces: `bond` for `bond_slave`, `bridge` for `bridge_slave`, and
-/// `None` for others. With these kinds, iproute2 sends `IFLA_INFO_SLAVE_DATA` without an `IFLA_INFO_SLAVE_KIND`.
-pub fn announced_port_kind(kind: &[u8]) -> Option<&'static [u8]>
-    ensures { option_copied result ≡ announced kind.now }
-{
-    if kind == b"bond_slave".as_slice() {
-        Some(b"bond".as_slice())
-    } else if kind == b"bridge_slave".as_slice() {
-        Some(b"bridge".as_slice())
-    } else {
-        None
-    }
 }
 
 /// Parses the contents of an `IFLA_LINKINFO`, up to the first malformed header.
@@ -87,21 +74,8 @@ fn family_of_data(kind: Option<&[u8]>) -> Option<Family>
 fn family_of_port_data(kind: Option<&[u8]>, port_kind: Option<&[u8]>) -> Option<Family>
     ensures { IsFamilyFor PortKind (port_kind_of (option_copied kind.entry) (option_copied port_kind.entry)) result }
 {
-    if let Some(port_kind) = port_kind {
-        return Family::from_port_kind(port_kind);
-    }
-    match announced_by(kind) {
+    match port_kind_in(kind, port_kind) {
         Some(port_kind) => Family::from_port_kind(port_kind),
-        None => None,
-    }
-}
-
-/// Returns the port kind that an `IFLA_INFO_KIND` announces, if there is one.
-fn announced_by(kind: Option<&[u8]>) -> Option<&'static [u8]>
-    ensures { option_copied result ≡ option_and_then announced (option_copied kind.entry) }
-{
-    match kind {
-        Some(kind) => announced_port_kind(kind),
         None => None,
     }
 }

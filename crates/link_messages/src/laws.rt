@@ -3,7 +3,7 @@
 ghost use Rattle.std.specs.Prelude.{◌≡◌, ◌↔◌, ℕ, List, [], ◌∷◌, ◌++◌, drop, map, Option, Some, Ok, IsTrue, IfSome};
 ghost use Rattle.link_base.specs.declared.wire.fault.Cause.{Cause};
 ghost use Rattle.netlink_packet_route.specs.declared.family.Family.{Family};
-ghost use Rattle.netlink_packet_route.specs.Family.{holder_of};
+ghost use Rattle.netlink_packet_route.specs.Family.{Holding, IsOneOf, holders_of};
 ghost use Rattle.link_messages.specs.declared.buffer_parts.Message.{Message};
 ghost use Rattle.link_messages.specs.declared.buffer_parts.Payload.{Payload};
 ghost use Rattle.link_messages.specs.declared.message.MessageError.{MessageError};
@@ -18,7 +18,7 @@ ghost use Rattle.link_messages.specs.declared.details.Protinfo.{Protinfo};
 ghost use Rattle.link_messages.specs.declared.details.LinkDetails.{LinkDetails};
 ghost use Rattle.link_messages.specs.Message.{NextMessage, Stand};
 ghost use Rattle.link_messages.specs.Finding.{Stretch, stretch_of};
-ghost use Rattle.link_messages.specs.Link.{part_of, IsLink, IsHeld, HasPart};
+ghost use Rattle.link_messages.specs.Link.{part_of, IsLink, IsFound, IsHeld, HasPart};
 ghost use Rattle.link_messages.specs.Walk.{Item, Walk};
 ghost use Rattle.link_messages.specs.BeforeFault.{seen_of};
 ghost use Rattle.link_messages.specs.Same.{IsSameMessage, IsSameLink, IsSameAcknowledgement};
@@ -41,13 +41,14 @@ pub fn one_more()
         → NextMessage at (drop at s) (Ok (Some m)) → Stand s from (ms ++ m ∷ []) m.next }
 {}
 
-/// States that a `Link` has the lists of every `Family`: what the holder of a `Family` says to look for in a message is
-/// in one of the link's fields. If a `Family` has a holder that no field of `Link` covers, this is not proved.
+/// States that a `Link` has the lists of every `Family` that data of links and ports, or an attribute of AF_BRIDGE
+/// messages, hold: what such a holder says to look for in a message is in one of the link's fields. If a `Family` has
+/// such a holder that no field of `Link` covers, this is not proved.
 #[tactic(auto, using(crate::proofs::Parts::every_list))]
 pub fn every_list()
     ensures { (address_family : ℕ) (list : Stretch) (link : Link) → IsLink address_family list link → (family : Family)
-        → (found : Option Stretch) × IsHeld (holder_of family) address_family list found
-        × IfSome found (HasPart link family) }
+        (holding : Holding) → IsOneOf holding (holders_of family) → IsFound holding
+        → (found : Option Stretch) × IsHeld holding address_family list found × IfSome found (HasPart link family) }
 {}
 
 /// States that a list has at most one walk: two walks have attributes with the same offsets, types and payloads, and the

@@ -7,7 +7,7 @@ ghost use Rattle.link_messages.specs.Message.{packet_of};
 ghost use Rattle.link_messages.specs.Finding.{IsFrameFault, IsFaultIn, stretch_of};
 ghost use Rattle.netlink_packet_route.specs.Family.{InfoKind, PortKind};
 ghost use Rattle.link_messages.specs.Link.{IsInfoPart, IsBridgePart, IsFamilyBeside, IsLink, IsLinkFault};
-ghost use Rattle.link_messages.specs.Link.{IsAbout, IsAboutNone, IsLinkType, part_of, without_nul};
+ghost use Rattle.link_messages.specs.Link.{IsAbout, IsAboutNone, IsLinkType, part_of};
 
 use crate::buffer_parts::{Message, Payload};
 use crate::finding::{find_in, last_of_kind};
@@ -17,7 +17,7 @@ use crate::link_types::{
 };
 use crate::message::MessageError;
 use crate::message_types::{RTM_DELLINK, RTM_NEWLINK, RTM_SETLINK};
-use netlink_packet_route::Family;
+use netlink_packet_route::{Family, without_nul};
 
 /// An attribute list, and the `Family` that parses it.
 #[derive(Clone, Copy, Debug, PartialEq, Eq)]
@@ -151,13 +151,6 @@ fn family_of_port(name: Option<Payload<'_>>) -> Option<Family>
         Some(name) => Family::from_port_kind(without_nul(name.bytes)),
         None => None,
     }
-}
-
-/// Returns the bytes of a name without the NUL at their end, if they have one.
-pub fn without_nul(bytes: &[u8]) -> &[u8]
-    ensures { result.now ≡ without_nul bytes.now }
-{
-    bytes.strip_suffix(&[0]).unwrap_or(bytes)
 }
 
 /// Returns the list in the attribute of type `kind` of an AF_BRIDGE message. Returns `None` for other messages, and if

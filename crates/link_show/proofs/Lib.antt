@@ -4,6 +4,7 @@ pub mod Pieced
 pub mod Segments
 pub mod FlagWords
 pub mod Arrays
+pub mod Places
 pub mod StructFields
 pub mod ValueTexts
 pub mod Lines

@@ -16,10 +16,10 @@ use Rattle.link_messages.proofs.Messages.{stand_more}
 use Rattle.link_show.specs.Flags.{flags_text}
 use Rattle.link_show.specs.MessageNames.{address_families, device_types, device_flags}
 use Rattle.link_show.specs.Structs.{field}
-use Rattle.link_show.specs.Fault.{bytes_text, byte_word}
+use Rattle.link_show.specs.Fault.{opaque_text, bytes_text, byte_word}
 use Rattle.link_show.specs.Errno.{errno_names}
 use Rattle.link_show.specs.List.{indented, Writes}
-use Rattle.link_show.specs.Message.{two, name_part, named_or, link_line, unless_zero, others_line, errno_name, result_line, error_number_line, opaque_text, message_line, message_error_line, reason_text, offset_of, ShowsBody, ShowsMessage, ShowsBuffer}
+use Rattle.link_show.specs.Message.{two, name_part, named_or, link_line, unless_zero, others_line, errno_name, result_line, error_number_line, message_line, message_error_line, reason_text, offset_of, ShowsBody, ShowsMessage, ShowsBuffer}
 use Rattle.link_show.proofs.Listing.{and_true, Added, ShownTo, shown_more}
 
 pub if_ok : {X E : Type 0} (P Q : X → Type 0) (r : Result X E) → ((x : X) → P x → Q x) → IfOk r P → IfOk r Q

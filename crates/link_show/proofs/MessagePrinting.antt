@@ -22,7 +22,7 @@ use Rattle.link_messages.specs.declared.details.LinkDetails.{LinkDetails}
 use Rattle.link_messages.specs.declared.details.Protinfo.{Protinfo}
 use Rattle.link_messages.specs.declared.details.Protinfo.TheVariants as protinfos
 use Rattle.link_messages.specs.declared.acknowledgement.Acknowledgement.{Acknowledgement}
-use Rattle.link_messages.specs.Info.{announced}
+use Rattle.netlink_packet_route.specs.Opening.{announced}
 use Rattle.link_show.specs.Number.{number_text}
 use Rattle.link_show.specs.Flags.{enum_text, flags_text}
 use Rattle.link_show.specs.Octets.{address_text}
@@ -31,10 +31,10 @@ use Rattle.link_show.specs.Fault.{byte_word}
 use Rattle.link_show.specs.Value.{other_text}
 use Rattle.link_show.specs.Errno.{errno_names}
 use Rattle.link_show.specs.MessageNames.{message_types, common_flags, new_flags, get_flags, delete_flags, error_flags, flags_of, address_families, device_types, device_flags, operational_states}
-use Rattle.link_show.specs.Message.{two, four, reason_text, offset_of, message_error_line, named_or, message_line, unless_zero, name_part, header_parts, link_line, line_of, opaque_text, ShowsFamily, ShowsPayload, kind_or_port, kind_line, ShowsData, fault_line, ShowsInfo, ShowsOptionalInfo, ShowsPart, state_names, ShowsProtinfo, attribute_lines, others_line, ShowsLink, number_after, error_number_line, errno_name, result_line, has_result, outcome_line, policy_text, reply_lines, ShowsBody, Link, Reply, General, NoLink, NoReply, Other, ShowsMessage, zeros_line, ShowsEnd, Ended, Done, Zeros, Broken, ShowsMessages}
+use Rattle.link_show.specs.Message.{two, four, reason_text, offset_of, message_error_line, named_or, message_line, unless_zero, name_part, header_parts, link_line, line_of, ShowsFamily, ShowsPayload, kind_or_port, kind_line, ShowsData, fault_line, ShowsInfo, ShowsOptionalInfo, ShowsPart, state_names, ShowsProtinfo, attribute_lines, others_line, ShowsLink, number_after, error_number_line, errno_name, result_line, has_result, outcome_line, policy_text, reply_lines, ShowsBody, Link, Reply, General, NoLink, NoReply, Other, ShowsMessage, zeros_line, ShowsEnd, Ended, Done, Zeros, Broken, ShowsMessages}
 use Rattle.link_show.specs.Printable.{IsText, AreTexts, has_texts}
 use Rattle.link_show.proofs.Printing.{text, none, and, either, decimal_text, signed_text, address_digits, quoted_text}
-use Rattle.link_show.proofs.ValuePrinting.{EachName, OnText, choose, each_name, name_found, label_is_text, formed_texts, enum_is_text, number_is_text, other_is_text, flags_is_text, field_is_text, bytes_is_text, cause_is_text}
+use Rattle.link_show.proofs.ValuePrinting.{EachName, OnText, choose, each_name, name_found, label_is_text, formed_texts, enum_is_text, number_is_text, other_is_text, flags_is_text, field_is_text, bytes_is_text, opaque_is_text, cause_is_text}
 use Rattle.link_show.proofs.LinePrinting.{no_texts, and_texts, line_end, line_and, line_texts, indented_texts, error_texts, either_texts, all_texts, any_checked}
 
 -- ---- errors
@@ -117,9 +117,6 @@ link_line_texts h name = indented_texts two (text refl) (and {s = codes "ifindex
 line_of_texts : {A : Type 0} (name : List ℕ) (of : A → List ℕ) (x : Option A) → IsText name → ((a : A) → IsText (of a)) → AreTexts (line_of name of x)
 line_of_texts name of None h k = no_texts
 line_of_texts name of (Some a) h k = indented_texts two (text refl) (field_is_text name h (k a))
-
-opaque_is_text : (n : ℕ) → IsText (opaque_text n)
-opaque_is_text n = and {s = codes "("} (text refl) (bytes_is_text n (text refl))
 
 family_is_text : (family : Family) → IsText (family_name family)
 family_is_text family = text (each_family (λ family. list_all is_printable (family_name family)) refl family)

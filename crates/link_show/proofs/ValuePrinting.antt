@@ -7,6 +7,9 @@ use Rattle.std.specs.Str.{bytes_eq}
 use Rattle.std.specs.Int.RustNames.{bit_and}
 use Rattle.std.specs.Net.Addr.{ipv4_octets}
 use Rattle.std.proofs.lemmas.Bool.{and_parts}
+use Rattle.std.specs.Int.{w32, cast_signed}
+use Rattle.link_base.specs.declared.rows.form.ArrayOf.{ArrayOf}
+use Rattle.link_base.specs.declared.rows.form.ArrayOf.TheVariants.{I32}
 use Rattle.link_base.specs.declared.views.content.Content.{Content}
 use Rattle.link_base.specs.declared.views.content.Content.TheVariants as contents
 use Rattle.link_base.specs.declared.rows.form.Look.TheVariants as looks
@@ -38,13 +41,14 @@ use Rattle.link_base.specs.Borrowed.{elements_by, elements_at}
 use Rattle.link_base.specs.Coherent.{is_shape_of}
 use Rattle.link_base.specs.WellFormed.{is_printable, are_names, are_fields, has_text, rows_in, is_shape, are_rows, is_row, is_table}
 use Rattle.link_base.specs.Lift.{lift_table}
-use Rattle.link_messages.specs.Link.{without_nul}
+use Rattle.netlink_packet_route.specs.Opening.{without_nul}
 use Rattle.link_show.specs.Text.{hex_number}
-use Rattle.link_show.specs.Number.{seconds_of, beside, unit_of, number_text, array_text}
+use Rattle.link_show.specs.Number.{seconds_of, beside, unit_of, number_text, item_text, array_text}
+use Rattle.link_show.specs.Counters.{place_text, zeros_word, counter_words, counters_text, numbers_text}
 use Rattle.link_show.specs.Flags.{named_text, enum_text, set_names, unnamed, last_word, flag_words, is_all, flags_text}
 use Rattle.link_show.specs.Structs.{field, two_fields, role_text, form_text, field_in, field_text, pair_fields, masked_fields, has_fields, fields_text, bridge_id_text, struct_text, limits_text}
 use Rattle.link_show.specs.Value.{other_text, content_text, value_text}
-use Rattle.link_show.specs.Fault.{bytes_text, expected_word, cause_words, kind_text, is_array, payload_fault, fault_text}
+use Rattle.link_show.specs.Fault.{bytes_text, opaque_text, expected_word, cause_words, kind_text, is_array, payload_fault, fault_text}
 use Rattle.link_show.specs.Printable.{IsText, has_texts}
 use Rattle.link_show.proofs.Printing.{text, none, and, either, joined_text, decimal_text, signed_text, hex_digits, hex_bytes, address_digits, quoted_text, ipv4_is_text, ip6_is_text}
 
@@ -100,14 +104,42 @@ number_is_text quantities.InterfaceIndex n = and {s = codes "ifindex "} (text re
 number_is_text quantities.Mask n = beside_text (decimal_text n) (hex_number_text n)
 number_is_text q n = and (decimal_text n) (unit_text q)
 
-each_decimal : (numbers : List ℕ) → AllByRecursion IsText (map decimal numbers)
-each_decimal [] = tt
-each_decimal (n ∷ numbers) = (decimal_text n, each_decimal numbers)
+item_is_text : (a : ArrayOf) (n : ℕ) → IsText (item_text a n)
+item_is_text I32 n = signed_text (cast_signed w32 n)
+item_is_text a n = decimal_text n
 
-array_is_text : (q : Quantity) (numbers : List ℕ) → IsText (array_text q numbers)
+each_item : (a : ArrayOf) (numbers : List ℕ) → AllByRecursion IsText (map (item_text a) numbers)
+each_item a [] = tt
+each_item a (n ∷ numbers) = (item_is_text a n, each_item a numbers)
+
+array_is_text : (q : Quantity) (a : ArrayOf) (numbers : List ℕ) → IsText (array_text q a numbers)
 unfolding array_text
-array_is_text q [] = text refl
-array_is_text q (n ∷ numbers) = and (joined_text (codes " ") (map decimal (n ∷ numbers)) (text refl) (each_decimal (n ∷ numbers))) (unit_text q)
+array_is_text q a [] = text refl
+array_is_text q a (n ∷ numbers) = and (joined_text (codes " ") (map (item_text a) (n ∷ numbers)) (text refl) (each_item a (n ∷ numbers))) (unit_text q)
+
+-- ---- arrays whose places have names
+
+place_is_text : (found : Option (List ℕ)) (i : ℕ) → OnText found → IsText (place_text found i)
+place_is_text None i h = and {s = codes "["} (text refl) (and (decimal_text i) (text refl))
+place_is_text (Some name) i h = and h (text refl)
+
+zeros_text : (zeros : ℕ) → AllByRecursion IsText (zeros_word zeros)
+zeros_text zeros = choose (AllByRecursion IsText) (zeros == 0) [] _ tt (and {s = codes "("} (text refl) (and (decimal_text zeros) (text refl)), tt)
+
+words_are_text : (names : List (ℕ × List ℕ)) (a : ArrayOf) (i zeros : ℕ) (numbers : List ℕ) → EachName names → AllByRecursion IsText (counter_words names a i zeros numbers)
+words_are_text names a i zeros [] h = zeros_text zeros
+words_are_text names a i zeros (n ∷ numbers) h =
+    choose (AllByRecursion IsText) (n == 0) (counter_words names a (i + 1) (zeros + 1) numbers) _ (words_are_text names a (i + 1) (zeros + 1) numbers h)
+    (and (place_is_text (Labels.name_in names i) i (name_found names h i)) (item_is_text a n), words_are_text names a (i + 1) zeros numbers h)
+
+counters_are_text : (names : List (ℕ × List ℕ)) (a : ArrayOf) (numbers : List ℕ) → EachName names → IsText (counters_text names a numbers)
+unfolding counters_text
+counters_are_text names a [] h = text refl
+counters_are_text names a (n ∷ numbers) h = joined_text (codes " ") (counter_words names a 0 0 (n ∷ numbers)) (text refl) (words_are_text names a 0 0 (n ∷ numbers) h)
+
+numbers_are_text : (names : List (ℕ × List ℕ)) (q : Quantity) (a : ArrayOf) (numbers : List ℕ) → EachName names → IsText (numbers_text names q a numbers)
+numbers_are_text [] q a numbers h = array_is_text q a numbers
+numbers_are_text (x ∷ names) q a numbers h = counters_are_text (x ∷ names) a numbers h
 
 -- ---- sets of flags
 
@@ -259,6 +291,12 @@ formed_texts table h = formed_from 0 table h
 
 -- ---- values
 
+pub bytes_is_text : (n : ℕ) {more : List ℕ} → IsText more → IsText (bytes_text n more)
+bytes_is_text n h = and (decimal_text n) (and (either (n == 1) (text refl) (text refl)) h)
+
+pub opaque_is_text : (n : ℕ) → IsText (opaque_text n)
+opaque_is_text n = and {s = codes "("} (text refl) (bytes_is_text n (text refl))
+
 named_label_text : {T : Type 0} (labels : List (Named_label T)) (d : ℕ) → list_all (λ l. list_all is_printable l.text) labels ≡ true → IsText (text_of labels d)
 named_label_text [] d h = none
 named_label_text (l ∷ labels) d h =
@@ -283,8 +321,9 @@ content_is_text label (contents.Ipv4 a) l = ipv4_is_text (ipv4_octets a)
 content_is_text label (contents.Ipv6 a) l = ip6_is_text (sixteen_octets a)
 content_is_text label (contents.Bytes looks.Address p) l = address_digits p.now
 content_is_text label (contents.Bytes looks.Text p) l = quoted_text (without_nul p.now)
+content_is_text label (contents.Bytes looks.Held p) l = opaque_is_text (length p.now)
 content_is_text label (contents.Struct layout p) l = struct_is_text layout label.fields label.names p.now (fields_named label.fields l.1.1) l.1.0
-content_is_text label (contents.Numbers width p) l = array_is_text label.quantity _
+content_is_text label (contents.Numbers a p) l = numbers_are_text label.names label.quantity a _ l.1.0
 content_is_text label (contents.Limits name numbers) l = limits_is_text name.now numbers.now
 content_is_text label (contents.Other p) l = other_is_text p.now
 content_is_text label content l = none
@@ -298,9 +337,6 @@ value_is_text None content l = unlabelled_is_text content
 value_is_text (Some label) content l = content_is_text label content l
 
 -- ---- errors
-
-pub bytes_is_text : (n : ℕ) {more : List ℕ} → IsText more → IsText (bytes_text n more)
-bytes_is_text n h = and (decimal_text n) (and (either (n == 1) (text refl) (text refl)) h)
 
 expected_text : (b : Bool) → IsText (expected_word b)
 expected_text b = either b (text refl) (text refl)

@@ -16,6 +16,10 @@ byte_word n = if n == 1 then codes " byte" else codes " bytes"
 abbrev pub bytes_text : ℕ → List ℕ → List ℕ
 bytes_text n more = decimal n ++ (byte_word n ++ more)
 
+-- how long data is that no attribute set reads
+abbrev pub opaque_text : ℕ → List ℕ
+opaque_text n = codes "(" ++ bytes_text n (codes ", not decoded)")
+
 -- what is before the length that is expected of a payload, which may be an array of numbers
 abbrev pub expected_word : Bool → List ℕ
 expected_word is_array = if is_array then codes ", expected a multiple of " else codes ", expected "

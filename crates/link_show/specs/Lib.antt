@@ -1,5 +1,6 @@
 pub mod Text
 pub mod Number
+pub mod Counters
 pub mod Flags
 pub mod Octets
 pub mod Structs

@@ -22,7 +22,7 @@ use Rattle.link_messages.specs.declared.details.LinkDetails.{LinkDetails}
 use Rattle.link_messages.specs.declared.details.Protinfo.{Protinfo}
 use Rattle.link_messages.specs.declared.details.Protinfo.TheVariants as protinfos
 use Rattle.link_messages.specs.Message.{Stand, IsMessageAt, header_fault, packet_of}
-use Rattle.link_messages.specs.Info.{announced}
+use Rattle.netlink_packet_route.specs.Opening.{announced}
 use Rattle.link_messages.specs.Header.{IsAnyLinkType, HasNoLinkHeader}
 use Rattle.link_messages.specs.Details.{HasDetails}
 use Rattle.link_messages.specs.Acknowledgement.{IsReplyType, IsAcknowledgement, IsNoAcknowledgement}
@@ -33,7 +33,7 @@ use Rattle.link_show.specs.Octets.{address_text}
 use Rattle.link_show.specs.Quoted.{quoted}
 use Rattle.link_show.specs.Structs.{field}
 use Rattle.link_show.specs.Value.{other_text}
-use Rattle.link_show.specs.Fault.{byte_word, bytes_text, cause_words}
+use Rattle.link_show.specs.Fault.{byte_word, bytes_text, opaque_text, cause_words}
 use Rattle.link_show.specs.List.{indented, error_line, EachShown, ShowsChecked}
 use Rattle.link_show.specs.Errno.{errno_names}
 use Rattle.link_show.specs.MessageNames.{message_types, flags_of, address_families, device_types, device_flags, operational_states}
@@ -112,10 +112,6 @@ link_line h name = indented two (codes "ifindex " ++ (signed_decimal h.index ++ 
 abbrev pub line_of : {A : Type 0} → List ℕ → (A → List ℕ) → Option A → List ℕ
 line_of name text None = []
 line_of name text (Some x) = indented two (field name (text x))
-
--- how long data is that no attribute set reads
-abbrev pub opaque_text : ℕ → List ℕ
-opaque_text n = codes "(" ++ bytes_text n (codes ", not decoded)")
 
 -- the lines of a list of a message, below its name; `check` asks whether it is canonical
 abbrev pub ShowsFamily : Bool → List ℕ → Family → Payload → List ℕ → Bool → Type 0

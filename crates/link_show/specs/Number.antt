@@ -1,6 +1,9 @@
 -- Numbers, with what they count.
 use Rattle.std.specs.Prelude.{ℕ, ◌/◌, ◌%◌, List, [], ◌∷◌, ◌++◌, map, codes}
-use Rattle.std.specs.Fmt.{decimal}
+use Rattle.std.specs.Fmt.{decimal, signed_decimal}
+use Rattle.std.specs.Int.{w32, cast_signed}
+use Rattle.link_base.specs.declared.rows.form.ArrayOf.{ArrayOf}
+use Rattle.link_base.specs.declared.rows.form.ArrayOf.TheVariants.{I32}
 use Rattle.link_base.specs.declared.rows.label.Quantity.{Quantity}
 use Rattle.link_base.specs.declared.rows.label.Quantity.TheVariants as quantities
 use Rattle.link_show.specs.Text.{hex_number, empty_text, joined}
@@ -30,7 +33,12 @@ number_text quantities.InterfaceIndex n = codes "ifindex " ++ decimal n
 number_text quantities.Mask n = beside (decimal n) (hex_number n)
 number_text quantity n = decimal n ++ unit_of quantity
 
--- numbers, with what they count at the end
-unfoldable pub array_text : Quantity → List ℕ → List ℕ
-array_text quantity [] = empty_text
-array_text quantity (n ∷ numbers) = joined (codes " ") (map decimal (n ∷ numbers)) ++ unit_of quantity
+-- the number of an array whose bytes are those of n
+abbrev pub item_text : ArrayOf → ℕ → List ℕ
+item_text I32 n = signed_decimal (cast_signed w32 n)
+item_text a n = decimal n
+
+-- such numbers, with what they count at the end
+unfoldable pub array_text : Quantity → ArrayOf → List ℕ → List ℕ
+array_text quantity a [] = empty_text
+array_text quantity a (n ∷ numbers) = joined (codes " ") (map (item_text a) (n ∷ numbers)) ++ unit_of quantity

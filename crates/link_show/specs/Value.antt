@@ -1,5 +1,5 @@
 -- The text of a value, by the form of its content.
-use Rattle.std.specs.Prelude.{Option, Some, None, ◌≡◌, ℕ, List, [], ◌∷◌, ◌++◌, codes, if◌then◌else◌}
+use Rattle.std.specs.Prelude.{Option, Some, None, ◌≡◌, ℕ, List, [], ◌∷◌, ◌++◌, length, codes, if◌then◌else◌}
 use Rattle.link_show.specs.Sink.{Output, Gains}
 use Rattle.std.specs.Fmt.{signed_decimal}
 use Rattle.std.specs.Net.Addr.{ipv4_octets}
@@ -10,7 +10,7 @@ use Rattle.link_base.specs.declared.rows.form.Look.TheVariants as looks
 use Rattle.link_base.specs.declared.names.vlan_protocol.VlanProtocol.{VlanProtocol}
 use Rattle.link_base.specs.Class.{is_on}
 use Rattle.link_base.specs.Frame.{kind_of}
-use Rattle.link_base.specs.Forms.{bytes_in}
+use Rattle.link_base.specs.Forms.{size_in}
 use Rattle.link_base.specs.Table.{Label, Table, class_at, form_at, label_at}
 use Rattle.link_base.specs.Borrowed.{Borrows, form_of}
 use Rattle.link_base.specs.IpAddress.{sixteen_octets}
@@ -18,10 +18,12 @@ use Rattle.link_base.specs.Layout.{numbers_of, octets_of}
 use Rattle.link_base.specs.Named.{text_of}
 use Rattle.link_base.specs.Protocol.{vlan_protocols, protocol_number}
 use Rattle.link_show.specs.Text.{hex_number, empty_text}
-use Rattle.link_show.specs.Number.{beside, array_text}
+use Rattle.link_show.specs.Number.{beside}
+use Rattle.link_show.specs.Counters.{numbers_text}
+use Rattle.link_show.specs.Fault.{opaque_text}
 use Rattle.link_show.specs.Flags.{flags_text}
 use Rattle.link_show.specs.Octets.{address_text, hex_text, ip6_text}
-use Rattle.link_messages.specs.Link.{without_nul}
+use Rattle.netlink_packet_route.specs.Opening.{without_nul}
 use Rattle.link_show.specs.Quoted.{quoted}
 use Rattle.link_show.specs.Structs.{role_text, fields_text, struct_text, pair_fields, limits_text, masked_fields}
 
@@ -50,8 +52,9 @@ content_text label (contents.Ipv4 a) = ipv4_text (ipv4_octets a)
 content_text label (contents.Ipv6 a) = ip6_text (sixteen_octets a)
 content_text label (contents.Bytes looks.Address p) = address_text p.now
 content_text label (contents.Bytes looks.Text p) = quoted (without_nul p.now)
+content_text label (contents.Bytes looks.Held p) = opaque_text (length p.now)
 content_text label (contents.Struct layout p) = struct_text layout label.fields label.names p.now
-content_text label (contents.Numbers width p) = array_text label.quantity (numbers_of (bytes_in width) p.now)
+content_text label (contents.Numbers a p) = numbers_text label.names label.quantity a (numbers_of (size_in a) p.now)
 content_text label (contents.Limits name numbers) = limits_text name.now numbers.now
 content_text label (contents.Addresses list size) = []
 content_text label (contents.List list flagged) = []

@@ -3,7 +3,7 @@
 ghost use Rattle.std.specs.Prelude.{◌≡◌, OnOk};
 ghost use Rattle.link_show.specs.Sink.{Gains};
 ghost use Rattle.link_base.specs.Labels.{label_in};
-ghost use Rattle.link_show.specs.Fault.{byte_word, bytes_text, expected_word, cause_words, kind_text, is_array, payload_fault, fault_text};
+ghost use Rattle.link_show.specs.Fault.{byte_word, bytes_text, opaque_text, expected_word, cause_words, kind_text, is_array, payload_fault, fault_text};
 
 use crate::pieces::{Piece, put_pieces};
 use crate::sets::ListSet;
@@ -164,6 +164,14 @@ pub(crate) fn write_bytes<W: Sink>(writer: &mut W, count: usize, more: &str) -> 
             Piece::Text(more),
         ],
     )
+}
+
+/// Writes how long data is that no attribute set reads.
+pub(crate) fn write_opaque_size<W: Sink>(writer: &mut W, count: usize) -> Result<(), W::Error>
+    ensures { OnOk result (Gains (W.output writer.old) (W.output writer.new) (opaque_text count)) }
+{
+    writer.put(b"(")?;
+    write_bytes(writer, count, ", not decoded)")
 }
 
 /// Returns what follows a number of bytes.

@@ -12,6 +12,7 @@ macro_rules! names {
 
 mod addresses;
 mod attributes;
+mod counters;
 pub mod errno;
 mod families;
 mod faults;
@@ -46,7 +47,7 @@ pub use links::write_link;
 pub use lists::write_list;
 pub use message_errors::{offset_of, write_message_error, write_reason};
 pub use messages::{are_zeros_after, is_general, write_message, write_messages};
-pub use numbers::{number_at, write_number};
+pub use numbers::{number_at, signed_at, write_number};
 pub use octets::{write_address, write_hex};
 pub use quoted::write_quoted;
 pub use replies::{errno_name, has_result, write_acknowledgement};

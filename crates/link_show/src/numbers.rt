@@ -1,17 +1,18 @@
 //! Numbers, with what they count.
 
 ghost use Rattle.std.specs.Prelude.{◌≡◌, ◌≤◌, ◌+◌, ◌*◌, length, map, codes, OnOk};
-ghost use Rattle.std.specs.Fmt.{decimal};
+ghost use Rattle.std.specs.Int.{w32, cast_signed};
 ghost use Rattle.link_show.specs.Sink.{Gains};
 ghost use Rattle.link_base.specs.declared.rows.label.Quantity.TheVariants.{ClockTicks};
-ghost use Rattle.link_show.specs.Number.{number_text, unit_of, array_text};
+ghost use Rattle.link_show.specs.Number.{number_text, unit_of, item_text, array_text};
 ghost use Rattle.link_show.specs.Text.{joined};
-ghost use Rattle.link_base.specs.Forms.{bytes_in};
+ghost use Rattle.link_base.specs.Forms.{bytes_in, size_in};
 ghost use Rattle.link_base.specs.Layout.{number_at, numbers_at, numbers_of};
 
 use crate::pieces::{Piece, put_number, put_pieces};
 use crate::sink::Sink;
-use link_base::rows::form::{Order, Width};
+use link_base::FixedSize;
+use link_base::rows::form::{ArrayOf, Order, Width};
 use link_base::rows::label::Quantity;
 use link_base::views::content_by::number_in;
 
@@ -70,42 +71,67 @@ fn unit_of(quantity: Quantity) -> &'static str
 pub(crate) fn write_array<W: Sink>(
     writer: &mut W,
     quantity: Quantity,
-    width: Width,
+    of: ArrayOf,
     bytes: &[u8],
 ) -> Result<(), W::Error>
     ensures { OnOk result (Gains (W.output writer.old) (W.output writer.new)
-        (array_text quantity (numbers_of (bytes_in width) bytes.now))) }
+        (array_text quantity of (numbers_of (size_in of) bytes.now))) }
 {
-    let count = bytes.len() / width.size();
+    let count = bytes.len() / of.size();
     if count == 0 {
         return writer.put(b"(empty)");
     }
-    write_numbers(writer, width, count, bytes)?;
+    write_numbers(writer, of, count, bytes)?;
     writer.put(unit_of(quantity).as_bytes())
 }
 
 /// Writes the first `count` numbers of an array, with spaces between them.
 fn write_numbers<W: Sink>(
     writer: &mut W,
-    width: Width,
+    of: ArrayOf,
     count: usize,
     bytes: &[u8],
 ) -> Result<(), W::Error>
-    requires { count * bytes_in width ≤ length bytes.now }
+    requires { count * size_in of ≤ length bytes.now }
     ensures { OnOk result (Gains (W.output writer.old) (W.output writer.new)
-        (joined (codes " ") (map decimal (numbers_at (bytes_in width) count 0 bytes.now)))) }
+        (joined (codes " ") (map (item_text of) (numbers_at (size_in of) count 0 bytes.now)))) }
 {
     let mut separator = b"".as_slice();
     for i in 0..count {
-        let number = number_at(width, i, bytes);
         writer.put(separator)?;
-        put_number(writer, number)?;
+        write_item(writer, of, i, bytes)?;
         separator = b" ".as_slice();
     }
     Ok(())
 }
 
-/// Reads the number at an index of an array of little-endian numbers.
+/// Writes the number at an index of an array.
+pub(crate) fn write_item<W: Sink>(
+    writer: &mut W,
+    of: ArrayOf,
+    index: usize,
+    bytes: &[u8],
+) -> Result<(), W::Error>
+    requires { (index + 1) * size_in of ≤ length bytes.now }
+    ensures { OnOk result (Gains (W.output writer.old) (W.output writer.new)
+        (item_text of (number_at (size_in of) (index * size_in of) bytes.now))) }
+{
+    match of {
+        ArrayOf::I32 => put_pieces(writer, &[Piece::Signed(signed_at(index, bytes))]),
+        _ => put_number(writer, number_at(of.width(), index, bytes)),
+    }
+}
+
+/// Reads the number at an index of an array of little-endian signed numbers of four bytes.
+pub fn signed_at(index: usize, bytes: &[u8]) -> i32
+    requires { (index + 1) * 4 ≤ length bytes.now }
+    ensures { result ≡ cast_signed w32 (number_at 4 (index * 4) bytes.now) }
+{
+    let at = index * 4;
+    i32::load(&bytes[at..at + 4])
+}
+
+/// Reads the number at an index of an array of little-endian unsigned numbers.
 pub fn number_at(width: Width, index: usize, bytes: &[u8]) -> u64
     requires { (index + 1) * bytes_in width ≤ length bytes.now }
     ensures { result ≡ number_at (bytes_in width) (index * bytes_in width) bytes.now }

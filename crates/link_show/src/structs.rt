@@ -121,7 +121,7 @@ fn has_field(field: &Field, start: usize, bytes: &[u8]) -> bool
     size <= bytes.len() && field.offset.saturating_sub(start) <= bytes.len() - size
 }
 
-/// Returns the bytes of two numbers.
+/// Returns the bytes of two numbers, each little-endian.
 pub fn bytes_of_two(first: u32, second: u32) -> [u8; 8]
     ensures { result ≡ octets_of 4 (first ∷ second ∷ []) }
 {

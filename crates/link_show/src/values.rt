@@ -11,9 +11,10 @@ ghost use Rattle.link_base.specs.Protocol.{vlan_protocols, protocol_number};
 ghost use Rattle.link_base.specs.Buffer.{kind_field_of};
 ghost use Rattle.link_base.specs.Viewed.{set_in, buffer_in, payload_in};
 
+use crate::counters::write_places;
+use crate::faults::write_opaque_size;
 use crate::flags::write_flags;
 use crate::ip::{write_ipv4, write_ipv6};
-use crate::numbers::write_array;
 use crate::octets::{write_address, write_hex};
 use crate::pieces::{Piece, put_pieces};
 use crate::quoted::write_quoted;
@@ -121,10 +122,16 @@ pub fn write_content<W: Sink>(
             look: Look::Text,
             bytes,
         } => write_quoted(writer, without_nul(bytes)),
+        Content::Bytes {
+            look: Look::Held,
+            bytes,
+        } => write_opaque_size(writer, bytes.len()),
         Content::Struct { layout, bytes } => {
             write_struct(writer, layout, label.fields, label.names, bytes)
         }
-        Content::Numbers { width, bytes } => write_array(writer, label.quantity, width, bytes),
+        Content::Numbers { of, bytes } => {
+            write_places(writer, label.names, label.quantity, of, bytes)
+        }
         Content::Limits { name, numbers } => write_limits(writer, name, numbers),
         Content::Other(payload) => write_other(writer, payload),
     }

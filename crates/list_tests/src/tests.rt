@@ -17,7 +17,7 @@ use std::alloc::Global;
 use std::process::Abort;
 
 /// Canonical lists of every attribute set. Each word of digits is an attribute with its padding.
-const CANONICAL: [&str; 37] = [
+const CANONICAL: [&str; 49] = [
     "dsa",
     "hsr",
     "vlan",
@@ -29,6 +29,12 @@ const CANONICAL: [&str; 37] = [
     "proto_bridge",
     "vxlan",
     "can",
+    "link",
+    "af_spec",
+    "inet",
+    "inet6",
+    "mctp",
+    "reply",
     "dsa 080001002a000000 080001002a000000",
     "dsa 080001002a000000 0400ff3f",
     "dsa 04000000",
@@ -55,6 +61,12 @@ const CANONICAL: [&str; 37] = [
     "can 0800080001000200 0c0005002100000020000000",
     "can 08000c0078000000 0c000d0048e80100a0860100 04000e00",
     "can 0600124001000000",
+    "link 08000400dc050000 0500210001000000 1000120009000100766c616e00000000",
+    "af_spec 0c0002000800010001000000",
+    "inet 0800010001000000",
+    "inet6 0800010000000080 0500080001000000",
+    "mctp 0800010001000000",
+    "reply 0800020014000000",
 ];
 
 /// Asserts `is_so`. A failure names `row`.

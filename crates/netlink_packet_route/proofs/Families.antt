@@ -21,7 +21,13 @@ all_families =
     sets.Dsa ∷
     sets.Hsr ∷
     sets.ProtoBridge ∷
-    sets.Vxlan ∷ []
+    sets.Vxlan ∷
+    sets.Link ∷
+    sets.AfSpec ∷
+    sets.Inet ∷
+    sets.Inet6 ∷
+    sets.Mctp ∷
+    sets.Reply ∷ []
 
 abbrev family_at : List Family → ℕ → Option Family
 family_at [] n = None

@@ -1,3 +1,4 @@
 pub mod Families
+pub mod Names
 pub mod Rewritten
 pub mod Reported

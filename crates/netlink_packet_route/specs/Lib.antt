@@ -1,4 +1,5 @@
 pub mod Family
+pub mod Opening
 pub mod Rewrite
 pub mod HexText
 pub mod Report
@@ -45,7 +46,7 @@ pub use Rattle.link_bridge.specs.Id
 pub use Rattle.link_bridge.specs.BooleanOptions
 pub use Rattle.link_bridge.specs.BridgePort
 pub use Rattle.link_bridge.specs.VlanInfo
-pub use Rattle.link_bridge.specs.AfSpec
+pub use Rattle.link_bridge.specs.AfSpecBridge
 pub use Rattle.link_bridge.specs.ProtoInfo
 pub use Rattle.link_vlan_can.specs.Vlan
 pub use Rattle.link_vlan_can.specs.CanState
@@ -57,3 +58,21 @@ pub use Rattle.link_tunnels.specs.VxlanNames
 pub use Rattle.link_tunnels.specs.VxlanPortRange
 pub use Rattle.link_tunnels.specs.VxlanHeader
 pub use Rattle.link_tunnels.specs.Vxlan
+pub use Rattle.link_common.specs.LinkNames
+pub use Rattle.link_common.specs.InetNames
+pub use Rattle.link_common.specs.Places
+pub use Rattle.link_common.specs.LinkMap
+pub use Rattle.link_common.specs.CacheInfo
+pub use Rattle.link_common.specs.LinkEquality
+pub use Rattle.link_common.specs.LinkInfo
+pub use Rattle.link_common.specs.LinkXdp
+pub use Rattle.link_common.specs.LinkProperty
+pub use Rattle.link_common.specs.ProtoDownReason
+pub use Rattle.link_common.specs.DevlinkPort
+pub use Rattle.link_common.specs.DpllPin
+pub use Rattle.link_common.specs.Link
+pub use Rattle.link_common.specs.AfSpec
+pub use Rattle.link_common.specs.Inet
+pub use Rattle.link_common.specs.Inet6
+pub use Rattle.link_common.specs.Mctp
+pub use Rattle.link_common.specs.Reply

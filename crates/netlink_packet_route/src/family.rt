@@ -1,7 +1,7 @@
 //! The attribute sets: [`Family`], and the list of them, `families!`, with the name, the enum of attributes, the number
-//! in C and the holder of each.
+//! in C and the holders of each.
 
-ghost use Rattle.std.specs.Prelude.{◌≡◌, ◌≢◌, ◌↔◌, IfSome, IfNone, IsTrue, Some};
+ghost use Rattle.std.specs.Prelude.{◌≡◌, ◌≢◌, IfSome, IfNone, map};
 
 /// A set of link attributes: it determines which attribute types are known and how their payloads are parsed.
 #[derive(Clone, Copy, Debug, PartialEq, Eq)]
@@ -30,9 +30,22 @@ pub enum Family {
     ProtoBridge,
     /// `vxlan`: attributes of VXLAN devices, [`InfoVxlan`](crate::link::InfoVxlan).
     Vxlan,
+    /// `link`: attributes of messages about links, [`LinkAttribute`](crate::link::LinkAttribute).
+    Link,
+    /// `af_spec`: attributes of `IFLA_AF_SPEC` in other messages than those of AF_BRIDGE,
+    /// [`AfSpecUnspec`](crate::link::AfSpecUnspec).
+    AfSpec,
+    /// `inet`: attributes of a link for IPv4, [`AfSpecInet`](crate::link::AfSpecInet).
+    Inet,
+    /// `inet6`: attributes of a link for IPv6, [`AfSpecInet6`](crate::link::AfSpecInet6).
+    Inet6,
+    /// `mctp`: attributes of a link for MCTP, [`AfSpecMctp`](crate::link::AfSpecMctp).
+    Mctp,
+    /// `reply`: attributes of replies to requests, [`ReplyAttribute`](crate::link::ReplyAttribute).
+    Reply,
 }
 
-/// What holds the list of an attribute set in a message about a link (`include/uapi/linux/if_link.h`).
+/// What holds the list of an attribute set (`include/uapi/linux/if_link.h`).
 #[derive(Clone, Copy, Debug, PartialEq, Eq)]
 pub enum Holder<'a> {
     /// `IFLA_INFO_DATA`, next to an `IFLA_INFO_KIND` with this text, which may end with a NUL.
@@ -41,15 +54,35 @@ pub enum Holder<'a> {
     PortKind(&'a [u8]),
     /// The attribute of this type, in an AF_BRIDGE message.
     BridgeAttribute(u16),
+    /// The attribute of this type, with `NLA_F_NESTED`, in an AF_BRIDGE message.
+    NestedBridgeAttribute(u16),
+    /// The attribute of this type, in an AF_INET6 message.
+    Inet6Attribute(u16),
+    /// The attribute of this type in a list of this `Family`. If the `Family` is that of messages, only for the address
+    /// families that have no holder of their own for this type.
+    Within(Family, u16),
+    /// A message about a link, after its `struct ifinfomsg`.
+    LinkMessage,
+    /// A reply to a request, an NLMSG_ERROR or an NLMSG_DONE, which has them with the flag NLM_F_ACK_TLVS
+    /// (`include/uapi/linux/netlink.h`).
+    ReplyMessage,
 }
 
-const IFLA_PROTINFO: u16 = 12;
+/// What a bridge says of a port, or IPv6 of a link.
+pub(crate) const IFLA_PROTINFO: u16 = 12;
 
-const IFLA_AF_SPEC: u16 = 26;
+/// Settings by address family, or the VLANs of a bridge or a bridge port.
+pub(crate) const IFLA_AF_SPEC: u16 = 26;
 
-/// The list of attribute sets. `families!([then] more)` calls the macro `then` with `more`, and after it a row of six
+const AF_INET: u16 = 2;
+
+const AF_INET6: u16 = 10;
+
+const AF_MCTP: u16 = 45;
+
+/// The list of attribute sets. `families!([then] more)` calls the macro `then` with `more`, and after it a row of five
 /// parts for each attribute set: its variant of `Family`, its name, its enum of attributes in `link`, its number in C,
-/// and its `Holder` in two parts.
+/// and its holders in brackets.
 ///
 /// All that is known of an attribute set by its `Family` comes from here. `specs/Family.antt` has the same rows, and
 /// the contracts compare the two.
@@ -58,17 +91,23 @@ macro_rules! families {
     ([$($then:tt)*] $($more:tt)*) => {
         $($then)*! {
             $($more)*
-            AfSpecBridge  "af_spec_bridge"  AfSpecBridge         0  BridgeAttribute (IFLA_AF_SPEC)
-            Bond          "bond"            InfoBond             1  InfoKind (b"bond")
-            BondPort      "bond_port"       InfoBondPort         2  PortKind (b"bond")
-            Bridge        "bridge"          InfoBridge           3  InfoKind (b"bridge")
-            BridgePort    "bridge_port"     InfoBridgePort       4  PortKind (b"bridge")
-            Vlan          "vlan"            InfoVlan             5  InfoKind (b"vlan")
-            Can           "can"             InfoCan              6  InfoKind (b"can")
-            Dsa           "dsa"             InfoDsa              7  InfoKind (b"dsa")
-            Hsr           "hsr"             InfoHsr              8  InfoKind (b"hsr")
-            ProtoBridge   "proto_bridge"    LinkProtoInfoBridge  9  BridgeAttribute (IFLA_PROTINFO)
-            Vxlan         "vxlan"           InfoVxlan            10 InfoKind (b"vxlan")
+            AfSpecBridge  "af_spec_bridge"  AfSpecBridge         0  [BridgeAttribute (IFLA_AF_SPEC)]
+            Bond          "bond"            InfoBond             1  [InfoKind (b"bond")]
+            BondPort      "bond_port"       InfoBondPort         2  [PortKind (b"bond")]
+            Bridge        "bridge"          InfoBridge           3  [InfoKind (b"bridge")]
+            BridgePort    "bridge_port"     InfoBridgePort       4  [PortKind (b"bridge"), NestedBridgeAttribute (IFLA_PROTINFO)]
+            Vlan          "vlan"            InfoVlan             5  [InfoKind (b"vlan")]
+            Can           "can"             InfoCan              6  [InfoKind (b"can")]
+            Dsa           "dsa"             InfoDsa              7  [InfoKind (b"dsa")]
+            Hsr           "hsr"             InfoHsr              8  [InfoKind (b"hsr")]
+            ProtoBridge   "proto_bridge"    LinkProtoInfoBridge  9  [BridgeAttribute (IFLA_PROTINFO)]
+            Vxlan         "vxlan"           InfoVxlan            10 [InfoKind (b"vxlan")]
+            Link          "link"            LinkAttribute        11 [LinkMessage]
+            AfSpec        "af_spec"         AfSpecUnspec         12 [Within (Family::Link, IFLA_AF_SPEC)]
+            Inet          "inet"            AfSpecInet           13 [Within (Family::AfSpec, AF_INET)]
+            Inet6         "inet6"           AfSpecInet6          14 [Within (Family::AfSpec, AF_INET6), Inet6Attribute (IFLA_PROTINFO)]
+            Mctp          "mctp"            AfSpecMctp           15 [Within (Family::AfSpec, AF_MCTP)]
+            Reply         "reply"           ReplyAttribute       16 [ReplyMessage]
         }
     };
 }
@@ -86,7 +125,7 @@ macro_rules! by_family {
 #[macro_export]
 macro_rules! call_by_family {
     (($family:expr) $call:ident $arguments:tt
-        $($variant:ident $name:tt $attributes:ident $number:tt $holder:ident $held:tt)*) => {
+        $($variant:ident $name:tt $attributes:ident $number:tt $holders:tt)*) => {
         match $family {
             $($crate::Family::$variant => $call::<$crate::link::$attributes> $arguments,)*
         }
@@ -106,21 +145,21 @@ macro_rules! with_names {
 #[macro_export]
 macro_rules! names_between {
     ($before:literal $after:literal []
-        $variant:ident $name:tt $attributes:ident $number:tt $holder:ident $held:tt $($rows:tt)*) => {
+        $variant:ident $name:tt $attributes:ident $number:tt $holders:tt $($rows:tt)*) => {
         $crate::names_between!($before $after [$name] $($rows)*)
     };
     ($before:literal $after:literal [$($names:tt)*]
-        $variant:ident $name:tt $attributes:ident $number:tt $holder:ident $held:tt) => {
+        $variant:ident $name:tt $attributes:ident $number:tt $holders:tt) => {
         concat!($before, $($names,)* " or ", $name, $after)
     };
     ($before:literal $after:literal [$($names:tt)*]
-        $variant:ident $name:tt $attributes:ident $number:tt $holder:ident $held:tt $($rows:tt)*) => {
+        $variant:ident $name:tt $attributes:ident $number:tt $holders:tt $($rows:tt)*) => {
         $crate::names_between!($before $after [$($names)* ", " $name] $($rows)*)
     };
 }
 
 macro_rules! name_of {
-    ($family:ident $($variant:ident $name:tt $attributes:ident $number:tt $holder:ident $held:tt)*) => {
+    ($family:ident $($variant:ident $name:tt $attributes:ident $number:tt $holders:tt)*) => {
         match $family {
             $(Family::$variant => $name,)*
         }
@@ -128,23 +167,24 @@ macro_rules! name_of {
 }
 
 macro_rules! number_of {
-    ($family:ident $($variant:ident $name:tt $attributes:ident $number:tt $holder:ident $held:tt)*) => {
+    ($family:ident $($variant:ident $name:tt $attributes:ident $number:tt $holders:tt)*) => {
         match $family {
             $(Family::$variant => $number,)*
         }
     };
 }
 
-macro_rules! holder_of {
-    ($family:ident $($variant:ident $name:tt $attributes:ident $number:tt $holder:ident $held:tt)*) => {
+macro_rules! holders_of {
+    ($family:ident
+        $($variant:ident $name:tt $attributes:ident $number:tt [$($holder:ident $(($($held:tt)*))?),*])*) => {
         match $family {
-            $(Family::$variant => Holder::$holder $held,)*
+            $(Family::$variant => &[$(Holder::$holder $(($($held)*))?),*],)*
         }
     };
 }
 
 macro_rules! of_name {
-    ($text:ident $($variant:ident $name:tt $attributes:ident $number:tt $holder:ident $held:tt)*) => {
+    ($text:ident $($variant:ident $name:tt $attributes:ident $number:tt $holders:tt)*) => {
         match $text {
             $($name => Some(Family::$variant),)*
             _ => None,
@@ -153,7 +193,7 @@ macro_rules! of_name {
 }
 
 macro_rules! of_number {
-    ($n:ident $($variant:ident $name:tt $attributes:ident $number:tt $holder:ident $held:tt)*) => {
+    ($n:ident $($variant:ident $name:tt $attributes:ident $number:tt $holders:tt)*) => {
         match $n {
             $($number => Some(Family::$variant),)*
             _ => None,
@@ -161,31 +201,33 @@ macro_rules! of_number {
     };
 }
 
-/// The first attribute set for whose holder the macro `is` gives true.
+/// The first attribute set with the holder `$of $key`.
 macro_rules! of_holder {
-    ($is:ident $key:ident $($variant:ident $name:tt $attributes:ident $number:tt $holder:ident $held:tt)*) => {
-        $(if $is!($key $holder $held) { Some(Family::$variant) } else)* { None }
+    ($of:ident $key:tt
+        $($variant:ident $name:tt $attributes:ident $number:tt [$($holder:ident $(($($held:tt)*))?),*])*) => {
+        $(if $(is_holder!($of $key $holder ($($($held)*)?)))||* { Some(Family::$variant) } else)* { None }
     };
 }
 
-macro_rules! is_info_kind {
-    ($key:ident InfoKind ($kind:tt)) => { $key == $kind.as_slice() };
-    ($key:ident $holder:ident $held:tt) => { false };
-}
-
-macro_rules! is_port_kind {
-    ($key:ident PortKind ($kind:tt)) => { $key == $kind.as_slice() };
-    ($key:ident $holder:ident $held:tt) => { false };
-}
-
-macro_rules! is_bridge_attribute {
-    ($key:ident BridgeAttribute ($kind:tt)) => { $key == $kind };
-    ($key:ident $holder:ident $held:tt) => { false };
+/// Whether a holder, in two parts, is another one.
+macro_rules! is_holder {
+    (InfoKind ($kind:ident) InfoKind ($text:tt)) => { $kind == $text.as_slice() };
+    (PortKind ($kind:ident) PortKind ($text:tt)) => { $kind == $text.as_slice() };
+    (BridgeAttribute ($kind:ident) BridgeAttribute ($other:tt)) => { $kind == $other };
+    (NestedBridgeAttribute ($kind:ident) NestedBridgeAttribute ($other:tt)) => { $kind == $other };
+    (Inet6Attribute ($kind:ident) Inet6Attribute ($other:tt)) => { $kind == $other };
+    (Within ($set:ident, $kind:ident) Within (Family::$family:ident, $other:tt)) => {
+        $set == Family::$family && $kind == $other
+    };
+    (LinkMessage () LinkMessage ()) => { true };
+    (ReplyMessage () ReplyMessage ()) => { true };
+    ($($other:tt)*) => { false };
 }
 
 impl Family {
     ghost use Rattle.netlink_packet_route.specs.Family.{family_name, family_number};
-    ghost use Rattle.netlink_packet_route.specs.Family.{InfoKind, PortKind, BridgeAttribute, holder_of, holding_of};
+    ghost use Rattle.netlink_packet_route.specs.Family.{InfoKind, PortKind, BridgeAttribute};
+    ghost use Rattle.netlink_packet_route.specs.Family.{holders_of, holding_of, IsReadBy};
 
     /// Returns the `Family` with this name, or `None` if there is no such name. The comparison is case-sensitive.
     pub fn from_name(name: &str) -> Option<Self>
@@ -221,34 +263,51 @@ impl Family {
         families!([number_of] self)
     }
 
-    /// Returns what holds a list of this `Family` in a message about a link.
-    pub fn holder(self) -> Holder<'static>
-        ensures { holding_of result ≡ holder_of self }
+    /// Returns what holds the lists of this `Family`. No two families have the same holder.
+    pub fn holders(self) -> &'static [Holder<'static>]
+        ensures { map holding_of result.now ≡ holders_of self }
     {
-        families!([holder_of] self)
+        families!([holders_of] self)
+    }
+
+    /// Returns the `Family` with this holder, or `None` if there is none.
+    pub fn from_holder(holder: Holder<'_>) -> Option<Self>
+        ensures { IsReadBy (holding_of holder.entry) result }
+    {
+        match holder {
+            Holder::InfoKind(kind) => Self::from_info_kind(kind),
+            Holder::PortKind(kind) => Self::from_port_kind(kind),
+            Holder::BridgeAttribute(kind) => Self::from_bridge_attribute(kind),
+            Holder::NestedBridgeAttribute(kind) =>
+                families!([of_holder] NestedBridgeAttribute (kind)),
+            Holder::Inet6Attribute(kind) => families!([of_holder] Inet6Attribute (kind)),
+            Holder::Within(set, kind) => families!([of_holder] Within (set, kind)),
+            Holder::LinkMessage => families!([of_holder] LinkMessage ()),
+            Holder::ReplyMessage => families!([of_holder] ReplyMessage ()),
+        }
     }
 
     /// Returns the `Family` of the data of a link whose `IFLA_INFO_KIND` is `kind`, without a NUL at its end. Returns
     /// `None` if no `Family` has this kind.
     pub fn from_info_kind(kind: &[u8]) -> Option<Self>
-        ensures { (family : Family) → (result ≡ Some family) ↔ (holder_of family ≡ InfoKind kind.now) }
+        ensures { IsReadBy (InfoKind kind.now) result }
     {
-        families!([of_holder] is_info_kind kind)
+        families!([of_holder] InfoKind (kind))
     }
 
     /// Returns the `Family` of the data of a port whose `IFLA_INFO_SLAVE_KIND` is `kind`, without a NUL at its end.
     /// Returns `None` if no `Family` has this kind.
     pub fn from_port_kind(kind: &[u8]) -> Option<Self>
-        ensures { (family : Family) → (result ≡ Some family) ↔ (holder_of family ≡ PortKind kind.now) }
+        ensures { IsReadBy (PortKind kind.now) result }
     {
-        families!([of_holder] is_port_kind kind)
+        families!([of_holder] PortKind (kind))
     }
 
     /// Returns the `Family` of the list in the attribute of type `kind` of an AF_BRIDGE message, or `None` if no
     /// `Family` has this holder.
     pub fn from_bridge_attribute(kind: u16) -> Option<Self>
-        ensures { (family : Family) → (result ≡ Some family) ↔ (holder_of family ≡ BridgeAttribute kind) }
+        ensures { IsReadBy (BridgeAttribute kind) result }
     {
-        families!([of_holder] is_bridge_attribute kind)
+        families!([of_holder] BridgeAttribute (kind))
     }
 }

@@ -8,7 +8,7 @@
 // The traits of an attribute set, what their methods take and return, and the functions that `by_rows!` calls.
 pub use link_base::rows::by_rows;
 pub use link_base::rows::fields::Field;
-pub use link_base::rows::form::{Form, Layout, Look, Order, Role, Width};
+pub use link_base::rows::form::{ArrayOf, Form, Layout, Look, Order, Role, Width};
 pub use link_base::rows::label::{KindLabel, Name, Quantity};
 pub use link_base::views::content::{Content, Known};
 pub use link_base::{
@@ -17,8 +17,9 @@ pub use link_base::{
 };
 
 // The classes of payloads, and the traits of enums, sets of flags and structs.
+pub use link_base::classes::coded::{CodedFlags, Counters};
 pub use link_base::classes::flag_or_bool::flag_is_on;
-pub use link_base::classes::shown::{Shown, Text};
+pub use link_base::classes::shown::{Held, Shown, Text};
 pub use link_base::names::flag_laws::{self, FlagSet, KnownBits};
 pub use link_base::names::named_laws;
 pub use link_base::{

@@ -25,6 +25,12 @@ pub use link_bridge::{
     BridgeStpMode, BridgeStpState, BridgeVlanInfo, BridgeVlanInfoFlags, BridgeVlanTunnelInfo,
     InfoBridge, InfoBridgePort, LinkProtoInfoBridge, VecAfSpecBridge, VecLinkProtoInfoBridge,
 };
+pub use link_common::{
+    AddrGenMode, AfSpecInet, AfSpecInet6, AfSpecMctp, AfSpecUnspec, CacheInfo, DevlinkPort,
+    DpllPin, ExtMask, Inet6Flags, Ipv4Conf, Ipv6Conf, LinkAttribute, LinkEvent, LinkInfo, LinkMap,
+    LinkMode, LinkProperty, LinkStats, LinkStats64, LinkXdp, OperState, ProtoDownReason,
+    ReplyAttribute, XdpAttached, XdpFlags,
+};
 pub use link_tunnels::{InfoVxlan, VxlanHeader, VxlanPortRange};
 pub use link_vlan_can::{
     CanBerrCounter, CanBitTiming, CanBitTimingConst, CanClock, CanCtrlMode, CanCtrlModeExt,

@@ -3,7 +3,7 @@
 
 pub use link_base::classes::flag_or_bool::flag_is_on;
 pub use link_base::rows::fields::Field;
-pub use link_base::rows::form::{Form, Layout, Look, Order, Role, Width};
+pub use link_base::rows::form::{ArrayOf, Form, Layout, Look, Order, Role, Width};
 pub use link_base::rows::label::{KindLabel, Name, Quantity};
 pub use link_base::views::attribute_set::{AttributeSet, CheckedSet, ElementSet, Set};
 pub use link_base::views::content::{Content, Known};

@@ -41,41 +41,40 @@ static bool are_lent(const void *bytes, size_t len) {
 static const uint8_t vlan[32] = {6, 0, 5, 0, 0x88, 0xA8, 0, 0, 6,  0, 1, 0, 5, 0, 0, 0,
                                  16, 0, 3, 0, 12,   0,    1, 0, 1, 0, 0, 0, 2, 0, 0, 0};
 
-/* For each attribute set, by its number, input that only this one re-encodes as this output. Their first byte is a length. */
+/* The attribute sets by their numbers, each with its name, and with the name and the number of a type. */
 static const struct {
-    uint8_t bytes[17], wanted[17];
-} rows[] = {
-    {{6, 6, 0, 0, 0x80, 2, 0}, {8, 6, 0, 0, 0, 2, 0, 0, 0}},
-    {{8, 5, 0, 34, 0, 2, 0, 0, 0}, {8, 5, 0, 34, 0, 1, 0, 0, 0}},
-    {{8, 6, 0, 8, 0, 63, 1, 0, 0}, {8, 6, 0, 8, 0, 63, 0, 0, 0}},
-    {{8, 7, 0, 21, 0, 1, 2, 3, 0}, {4, 4, 0, 21, 0}},
-    {{8, 6, 0, 24, 0, 1, 2, 0, 0}, {4, 4, 0, 24, 0}},
-    {{8, 6, 0, 5, 0, 145, 0, 0, 0}, {8, 6, 0, 5, 0, 129, 0, 0, 0}},
-    {{10, 10, 0, 8, 0, 1, 0, 2, 0, 9, 9}, {8, 8, 0, 8, 0, 1, 0, 2, 0}},
-    {{12, 8, 0, 1, 0x80, 42, 0, 0, 0, 4, 0, 2, 0x80}, {12, 8, 0, 1, 0, 42, 0, 0, 0, 4, 0, 2, 0x80}},
-    {{8, 5, 0, 3, 0x40, 9, 0, 0, 0}, {8, 5, 0, 3, 0, 9, 0, 0, 0}},
-    {{12, 5, 0, 45, 0, 2, 0, 0, 0, 4, 0, 24, 0x80}, {12, 5, 0, 45, 0, 1, 0, 0, 0, 4, 0, 24, 0x80}},
+    const char *name, *type;
+    uint16_t kind;
+} sets[] = {
+    [NLROUTE_AF_SPEC_BRIDGE] = {"af_spec_bridge", "IFLA_BRIDGE_VLAN_INFO", 2},
+    [NLROUTE_BOND] = {"bond", "IFLA_BOND_MODE", 1},
+    [NLROUTE_BOND_PORT] = {"bond_port", "IFLA_BOND_SLAVE_STATE", 1},
+    [NLROUTE_BRIDGE] = {"bridge", "IFLA_BR_GROUP_ADDR", 20},
+    [NLROUTE_BRIDGE_PORT] = {"bridge_port", "IFLA_BRPORT_STATE", 1},
+    [NLROUTE_VLAN] = {"vlan", "IFLA_VLAN_PROTOCOL", 5},
+    [NLROUTE_CAN] = {"can", "IFLA_CAN_CTRLMODE", 5},
+    [NLROUTE_DSA] = {"dsa", "IFLA_DSA_CONDUIT", 1},
+    [NLROUTE_HSR] = {"hsr", "IFLA_HSR_PROTOCOL", 7},
+    [NLROUTE_PROTO_BRIDGE] = {"proto_bridge", "IFLA_BRPORT_NEIGH_FORWARD_GRAT", 45},
+    [NLROUTE_VXLAN] = {"vxlan", "IFLA_VXLAN_PORT", 15},
+    [NLROUTE_LINK] = {"link", "IFLA_IFNAME", 3},
+    [NLROUTE_AF_SPEC] = {"af_spec", "AF_INET6", 10},
+    [NLROUTE_INET] = {"inet", "IFLA_INET_CONF", 1},
+    [NLROUTE_INET6] = {"inet6", "IFLA_INET6_TOKEN", 7},
+    [NLROUTE_MCTP] = {"mctp", "IFLA_MCTP_NET", 1},
+    [NLROUTE_REPLY] = {"reply", "NLMSGERR_ATTR_MSG", 1},
 };
 
 /* How many attribute sets there are; no set has this number. */
-enum { FAMILIES = sizeof rows / sizeof rows[0] };
-
-/* Returns the number of the only attribute set that re-encodes bytes as wanted, or FAMILIES if there is not exactly one. */
-static uint32_t only_family(const uint8_t *bytes, const uint8_t *wanted) {
-    uint32_t found = FAMILIES;
-    for (uint32_t family = 0; family < FAMILIES; family++) {
-        uint8_t out[16];
-        memset(out, 0xFF, sizeof out);
-        ptrdiff_t answer = nlroute_rewrite(family, bytes + 1, bytes[0], out, sizeof out);
-        if (answer != wanted[0] || memcmp(out, wanted + 1, wanted[0])) continue;
-        if (found != FAMILIES) return FAMILIES;
-        found = family;
-    }
-    return found;
-}
+enum { FAMILIES = sizeof sets / sizeof sets[0] };
 
 static void families(void) {
-    for (uint32_t i = 0; i < FAMILIES; i++) check(only_family(rows[i].bytes, rows[i].wanted) == i, "a set by its number");
+    char name[NLROUTE_TEXT_ROOM];
+    for (uint32_t i = 0; i < FAMILIES; i++) {
+        check(nlroute_family_name(i, name, sizeof name) > 0 && !strcmp(name, sets[i].name), "a set by its number");
+        check(nlroute_kind_of(i, sets[i].type, strlen(sets[i].type)) == sets[i].kind, "a type of the set");
+    }
+    check(nlroute_family_name(FAMILIES, name, sizeof name) == NLROUTE_NO_FAMILY, "no set has the next number");
 }
 
 static void rewriting(void) {
@@ -97,10 +96,9 @@ static void judging(void) {
     check(is_so, "a request is canonical, and no memory is taken to tell");
     check(empty, "no bytes are canonical");
     check(!nlroute_is_canonical(NLROUTE_VLAN, vlan, 30), "with a fault it is not");
-    for (uint32_t i = 0; i < FAMILIES; i++) {
-        bool first = !nlroute_is_canonical(i, rows[i].bytes + 1, rows[i].bytes[0]);
-        check(first && nlroute_is_canonical(i, rows[i].wanted + 1, rows[i].wanted[0]), "output is canonical, input not");
-    }
+    const uint8_t on[8] = {5, 0, 7, 0, 2}, written[8] = {5, 0, 7, 0, 1};
+    bool first = !nlroute_is_canonical(NLROUTE_BRIDGE, on, sizeof on);
+    check(first && nlroute_is_canonical(NLROUTE_BRIDGE, written, sizeof written), "output is canonical, input not");
     check(!nlroute_is_canonical(FAMILIES, vlan, 32), "nothing is canonical for the number of no set");
 }
 
@@ -189,6 +187,31 @@ static void values(void) {
     check(is_found && !memcmp(&found, v, sizeof found), "the delay is found");
     is_found = !nlroute_find_in(NLROUTE_BRIDGE, bridge, sizeof bridge, 47, 1, &found);
     check(is_found && !memcmp(&found, v + 3, sizeof found), "the querier is found");
+}
+
+/* Reads a message about a link: its name, its counters, and in IFLA_LINKINFO a kind and the list of its set. */
+static void links(void) {
+    uint8_t list[64] = {7, 0, 3, 0, 'b', 'r', 0, 0, 28, 0, 23, 0, 1};
+    struct nlroute_value v[8], found;
+    char name[NLROUTE_TEXT_ROOM];
+    list[20] = 2;
+    list[28] = 3;
+    memcpy(list + 36, "\x1c\0\x12\0\x0b\0\1\0bridge\0\0\x0c\0\2\0\x08\0\1\0\xdc\5\0\0", 28);
+    ptrdiff_t count = nlroute_values(NLROUTE_LINK, list, sizeof list, v, 8);
+    check(count == 8 && v[0].form == NLROUTE_FORM_TEXT && v[0].length == 3, "a name is a text, with its NUL");
+    check(v[1].form == NLROUTE_FORM_LIST && v[1].number == 3 && v[4].number == 3 && v[4].inner == NLROUTE_RX_BYTES, "counters");
+    nlroute_kind_name(NLROUTE_LINK, v + 4, name, sizeof name);
+    check(!strcmp(name, "rx_bytes"), "the place of a counter has a name");
+    check(!nlroute_find_in(NLROUTE_LINK, list, sizeof list, NLROUTE_IFLA_STATS64, NLROUTE_TX_PACKETS, &found), "a counter");
+    check(found.number == 2, "it is found by its place");
+    check(v[6].form == NLROUTE_FORM_TEXT && v[7].form == NLROUTE_FORM_HELD, "a kind, and a list of another set");
+    ptrdiff_t family = nlroute_from_info_kind((const char *)list + v[6].offset, v[6].length - 1);
+    check(family == NLROUTE_BRIDGE, "the kind tells which");
+    check(!nlroute_find((uint32_t)family, list + v[7].offset, v[7].length, NLROUTE_IFLA_BR_FORWARD_DELAY, &found), "a delay");
+    check(found.number == 1500, "it is in that list");
+    uint8_t out[64];
+    ptrdiff_t written = nlroute_write(NLROUTE_LINK, v, 8, list, sizeof list, out, sizeof out);
+    check(written == 64 && !memcmp(out, list, 64), "the values are written as they were");
 }
 
 /* Checks the kernel's structs: IFLA_CAN_BITTIMING of 250 kbit/s, and IFLA_CAN_BITTIMING_CONST of a controller. Each of
@@ -305,6 +328,9 @@ static void asking(void) {
     }
     check(known > 150 && told == known, "each type is found by its name");
     check(nlroute_family_of("bridges", 7) == NLROUTE_NO_FAMILY, "-5 for the name of no set");
+    check(nlroute_from_info_kind("bond", 4) == NLROUTE_BOND && nlroute_from_port_kind("bond", 4) == NLROUTE_BOND_PORT,
+          "devices and ports of a kind have different sets");
+    check(nlroute_from_info_kind("bond_port", 9) == NLROUTE_NO_FAMILY, "the name of a set is not a kind");
     check(nlroute_kind_of(NLROUTE_BOND, "IFLA_BOND", 9) == NLROUTE_ABSENT, "-6 for the name of no type");
     check(!nlroute_row(NLROUTE_BOND, NLROUTE_IFLA_BOND_MODE, 0, 0, &row), "a type has a row");
     check(row.form == NLROUTE_FORM_NAMED && row.width == 1 && !row.is_list && row.flags == 0, "the row of an enum");
@@ -553,6 +579,7 @@ int main(void) {
     judging();
     refusals();
     values();
+    links();
     timing();
     asking();
     names();

@@ -9,6 +9,7 @@
 #include <linux/if_link.h>
 #include <linux/rtnetlink.h>
 #include <stdio.h>
+#include <string.h>
 #include <sys/socket.h>
 #include <unistd.h>
 
@@ -42,14 +43,14 @@ static void print_list(uint32_t family, const uint8_t *bytes, size_t len) {
     if (count == NLROUTE_NO_ROOM) printf("    ..\n");
 }
 
-/* Prints a list, if there is one, and a family whose name is the kind with this suffix. */
-static void print_data(const struct rtattr *kind, const char *suffix, const struct rtattr *data) {
+/* Prints a list, if there is one, and a family for its kind, which `family_of` finds. */
+static void print_data(const struct rtattr *kind, ptrdiff_t (*family_of)(const char *, size_t), const struct rtattr *data) {
     char name[NLROUTE_TEXT_ROOM];
     if (!kind || !data) return;
-    int len = snprintf(name, sizeof name, "%.*s%s", (int)RTA_PAYLOAD(kind), (const char *)RTA_DATA(kind), suffix);
-    if (len < 0 || (size_t)len >= sizeof name) return;
-    ptrdiff_t family = nlroute_family_of(name, (size_t)len);
+    const char *text = (const char *)RTA_DATA(kind);
+    ptrdiff_t family = family_of(text, strnlen(text, RTA_PAYLOAD(kind)));
     if (family < 0) return;
+    nlroute_family_name((uint32_t)family, name, sizeof name);
     printf("  %s\n", name);
     print_list((uint32_t)family, (const uint8_t *)RTA_DATA(data), RTA_PAYLOAD(data));
 }
@@ -73,8 +74,8 @@ static void print_link(const struct nlmsghdr *message) {
     const struct ifinfomsg *header = (const struct ifinfomsg *)NLMSG_DATA(message);
     look_at(&link, IFLA_RTA(header), (int)IFLA_PAYLOAD(message), false);
     printf("%d: %s\n", header->ifi_index, link.name ? (const char *)RTA_DATA(link.name) : "?");
-    print_data(link.kind, "", link.data);
-    print_data(link.port_kind, "_port", link.port_data);
+    print_data(link.kind, nlroute_from_info_kind, link.data);
+    print_data(link.port_kind, nlroute_from_port_kind, link.port_data);
 }
 
 /* Prints the links of the messages in a buffer. Returns whether more messages follow. */

@@ -78,7 +78,13 @@ enum nlroute_family {
     NLROUTE_DSA = 7, /* IFLA_INFO_DATA of DSA ports */
     NLROUTE_HSR = 8, /* IFLA_INFO_DATA of HSR and PRP devices */
     NLROUTE_PROTO_BRIDGE = 9, /* IFLA_PROTINFO in AF_BRIDGE messages: attribute type 45 only */
-    NLROUTE_VXLAN = 10 /* IFLA_INFO_DATA of VXLAN devices */
+    NLROUTE_VXLAN = 10, /* IFLA_INFO_DATA of VXLAN devices */
+    NLROUTE_LINK = 11, /* messages about links */
+    NLROUTE_AF_SPEC = 12, /* IFLA_AF_SPEC in other messages than those of AF_BRIDGE */
+    NLROUTE_INET = 13, /* AF_INET of a link for IPv4 */
+    NLROUTE_INET6 = 14, /* AF_INET6 of a link for IPv6 */
+    NLROUTE_MCTP = 15, /* AF_MCTP of a link for MCTP */
+    NLROUTE_REPLY = 16 /* replies to requests */
 };
 
 /*
@@ -198,8 +204,10 @@ enum nlroute_form {
     NLROUTE_FORM_BITTIMING_CONST = 16, /* 48 bytes at offset: struct can_bittiming_const */
     NLROUTE_FORM_BYTES = 17,           /* length bytes at offset */
     NLROUTE_FORM_LIST = 18,            /* number: how many elements follow */
-    NLROUTE_FORM_UNKNOWN = 19          /* length bytes at offset: the payload of an attribute whose type is not known;
+    NLROUTE_FORM_UNKNOWN = 19,         /* length bytes at offset: the payload of an attribute whose type is not known;
                                           flags */
+    NLROUTE_FORM_TEXT = 20,            /* length bytes at offset: a text; a NUL at its end is part of it */
+    NLROUTE_FORM_HELD = 21             /* length bytes at offset: a list of attributes of another set */
 };
 
 /*
@@ -466,8 +474,9 @@ ptrdiff_t nlroute_measure(uint32_t family, const struct nlroute_value *values, s
 
 /*
  * Stores the name of an attribute type: the kernel's constant, such as "IFLA_BR_FORWARD_DELAY", or "type 99" if the
- * type is not known. The fields kind, inner and depth of the value select the type. An address of a list or a number
- * of an array has an index in place of a type: "[3]". Returns no error but NLROUTE_NO_FAMILY.
+ * type is not known. The fields kind, inner and depth of the value select the type. A number of an array has a place in
+ * place of a type: the name of the place, such as "rx_packets", or its index if it has none: "[3]". An address of a list has
+ * an index, too. Returns no error but NLROUTE_NO_FAMILY.
  */
 ptrdiff_t nlroute_kind_name(uint32_t family, const struct nlroute_value *value, char *text, size_t room);
 
@@ -547,8 +556,9 @@ NLROUTE_MUST_USE
 ptrdiff_t nlroute_kind_of_in(uint32_t family, uint16_t list, const char *name, size_t len);
 
 /*
- * Stores the number of an enum, or the set with the bit, that has a name, such as "802.3ad" or "LACP_ACTIVITY", in
- * *number, and returns 0. The fields kind, inner and depth of the value select the type, as for nlroute_number_name().
+ * Stores the number of an enum, the set with the bit, or the place of an array, that has a name, such as "802.3ad",
+ * "LACP_ACTIVITY" or "rx_packets", in *number, and returns 0. The fields kind, inner and depth of the value select the type,
+ * as for nlroute_number_name().
  *
  * Returns NLROUTE_ABSENT if and only if no number of the type has the name; *number is then unchanged.
  */
@@ -563,6 +573,16 @@ ptrdiff_t nlroute_number_of(uint32_t family, const struct nlroute_value *value, 
 ptrdiff_t nlroute_family_name(uint32_t family, char *text, size_t room);
 NLROUTE_MUST_USE
 ptrdiff_t nlroute_family_of(const char *name, size_t len);
+
+/*
+ * Return the number of the attribute set of the devices, or of the ports, of a kind, such as "bond"; NLROUTE_NO_FAMILY if
+ * there is none. For devices, kind is the text of IFLA_INFO_KIND, and the set is that of IFLA_INFO_DATA; for ports, these
+ * are IFLA_INFO_SLAVE_KIND and IFLA_INFO_SLAVE_DATA. A NUL at the end of the attribute is not part of the text.
+ */
+NLROUTE_MUST_USE
+ptrdiff_t nlroute_from_info_kind(const char *kind, size_t len);
+NLROUTE_MUST_USE
+ptrdiff_t nlroute_from_port_kind(const char *kind, size_t len);
 
 /* Stores what nlroute_refusal_text() returns, as described under "Texts" above: for programs that load the library. */
 ptrdiff_t nlroute_code_text(ptrdiff_t code, char *text, size_t room);

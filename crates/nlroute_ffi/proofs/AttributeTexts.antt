@@ -8,11 +8,11 @@ use Rattle.std.proofs.Math.Seq.{take-append_seam}
 use Rattle.link_base.specs.declared.views.content.Content.{Content}
 use Rattle.link_base.specs.declared.views.content.Content.TheVariants as contents
 use Rattle.link_base.specs.declared.wire.fault.Cause.{Cause}
-use Rattle.link_base.specs.declared.rows.form.Width.{Width}
+use Rattle.link_base.specs.declared.rows.form.ArrayOf.{ArrayOf}
 use Rattle.link_base.specs.declared.rows.form.Form.{Form}
 use Rattle.link_base.specs.declared.rows.form.Form.TheVariants as forms
 use Rattle.link_base.specs.declared.wire.buffer.NlaBuffer.{NlaBuffer}
-use Rattle.link_base.specs.Forms.{bytes_in}
+use Rattle.link_base.specs.Forms.{size_in}
 use Rattle.link_base.specs.Number.{IsBytes, bytes_of, bound}
 use Rattle.link_base.specs.Frame.{kind_of, kind_limit, pad, bare, BeginsWith}
 use Rattle.link_base.specs.Buffer.{kind_field_of, payload_of as payload_of_frame}
@@ -36,7 +36,7 @@ use Rattle.link_entries.specs.declared.entry.Entry.{Entry}
 use Rattle.link_entries.specs.declared.fields.Fields.{Fields}
 use Rattle.link_entries.specs.declared.fields.Fields.TheVariants as fields
 use Rattle.link_entries.specs.declared.misfit.Misfit.TheVariants.{BadElement, BadNumber}
-use Rattle.link_entries.specs.Forms.{form_unsigned, form_ipv4, form_ipv6, form_unknown}
+use Rattle.link_entries.specs.Forms.{form_ipv4, form_ipv6, form_unknown}
 use Rattle.link_entries.specs.Entry.{blank}
 use Rattle.link_entries.specs.Content.{filled}
 use Rattle.link_entries.specs.Fields.{ip_address, row_fields, fields_in}
@@ -46,7 +46,8 @@ use Rattle.link_entries.specs.Flat.{IsElement, IsGroup, Flat, head_entry, number
 use Rattle.link_entries.proofs.OneContent.{value_at, fields_by}
 use Rattle.link_entries.proofs.RowForms.{is_list, with_kind, value_kind, value_no_list, struct_value}
 use Rattle.link_entries.proofs.EntryFields.{Keeps, keeps_filled}
-use Rattle.link_entries.proofs.BackValues.{StandsAt, right_form, passed_back, number_back, address_back}
+use Rattle.link_entries.proofs.BackElements.{array_back}
+use Rattle.link_entries.proofs.BackValues.{StandsAt, right_form, passed_back, address_back}
 use Rattle.link_entries.proofs.BackClasses.{class_back}
 use Rattle.link_entries.proofs.BackSingles.{entry_by, list_back}
 use Rattle.nlroute_ffi.specs.Names.{own_kind}
@@ -72,7 +73,7 @@ unknown_back e f list p same kind flags at =
 
 -- a list spells nothing, whatever its type
 list_kind : (own : Fields) (e : Entry) (k : ℕ) (octets : List ℕ) → is_list own ≡ true → payload_of own (with_kind e k) octets ≡ payload_of own e octets
-list_kind (fields.Numbers width) e k octets h = refl
+list_kind (fields.Numbers a) e k octets h = refl
 list_kind (fields.Addresses size) e k octets h = refl
 list_kind (fields.List flag) e k octets h = refl
 list_kind own e k octets h = absurd cc
@@ -354,10 +355,10 @@ module _ (family : Family) (list : List ℕ) (k i : ℕ) where
   abbrev inner_label : Option Label
   inner_label = label_at (elements_at (table_of family) k) i
 
-  pub number_held : (w : Width) (at x : ℕ) → form_at (table_of family) k ≡ Some (forms.Numbers w) → x < bound (bytes_in w) → HasText family list (number_entry k at (bytes_in w) i x)
-  number_held w at x named low =
-      let e = number_entry k at (bytes_in w) i x in
-      (bytes_of (bytes_in w) x, ap (λ o. payload_by o e list) ((list_label family k (forms.Numbers w) named).is inner_label) ∙ number_back form_unsigned w (with_kind e i) list refl low)
+  pub number_held : (a : ArrayOf) (at x : ℕ) → form_at (table_of family) k ≡ Some (forms.Numbers a) → x < bound (size_in a) → HasText family list (number_entry k at a i x)
+  number_held a at x named low =
+      let e = number_entry k at a i x in
+      (bytes_of (size_in a) x, ap (λ o. payload_by o e list) ((list_label family k (forms.Numbers a) named).is inner_label) ∙ array_back a (with_kind e i) list x refl refl low)
 
   pub address_held : (offset : ℕ) (p : List ℕ) → form_at (table_of family) k ≡ Some (forms.Addresses (length p)) → HasText family list (address_entry k i offset p)
   address_held offset p named =

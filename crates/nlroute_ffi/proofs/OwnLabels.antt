@@ -8,9 +8,10 @@ use Rattle.link_base.specs.Borrowed.{elements_at}
 use Rattle.link_base.specs.WellFormed.{are_rows}
 use Rattle.netlink_packet_route.specs.declared.family.Family.{Family}
 use Rattle.netlink_packet_route.specs.Family.{table_of}
+use Rattle.link_entries.specs.Fields.{number_form}
 use Rattle.link_entries.specs.declared.entry.Entry.{Entry}
 use Rattle.link_entries.specs.declared.misfit.Misfit.TheVariants.{BadElement}
-use Rattle.nlroute_ffi.specs.ValueText.{with_form, number_form, address_form, element_by, element_label, own_label, has_elements}
+use Rattle.nlroute_ffi.specs.ValueText.{with_form, address_form, element_by, element_label, own_label, has_elements}
 use Rattle.nlroute_ffi.proofs.NameTexts.{rows_pass, elements_pass, types_pass, label_passes, nested_pass}
 
 -- also with the form of an element: that of a number or an address, in place of the form of its list
@@ -31,9 +32,9 @@ module _ (test : Label → Bool) (all : (family : Family) → types_pass test (t
   inner_passes family k i (Some label) at = label_passes test (elements_at (table_of family) k) i label (nested_pass test (table_of family) k (both family).1) at
 
   element_passes : (form : Form) (list : Label) (own told : Option Label) → list.form ≡ form → test list ≡ true → passes own ≡ true → element_by form list own ≡ Ok told → passes told ≡ true
-  element_passes (forms.Numbers w) list own told of h room is =
-      let same : Some (with_form (number_form w) list) ≡ told = cc in
-      subst (λ o. passes o ≡ true) same (below list (number_form w) (ap has_elements of) h)
+  element_passes (forms.Numbers a) list own told of h room is =
+      let same : Some (with_form (number_form a) list) ≡ told = cc in
+      subst (λ o. passes o ≡ true) same (below list (number_form a) (ap has_elements of) h)
   element_passes (forms.Addresses n) list own told of h room is =
       let same : Some (with_form (address_form n) list) ≡ told = cc in
       subst (λ o. passes o ≡ true) same (below list (address_form n) (ap has_elements of) h)

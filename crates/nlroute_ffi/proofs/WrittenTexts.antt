@@ -3,6 +3,8 @@ use Rattle.std.proofs.Common.{◌≡◌, inl, inr, ℕ, ◌+◌, ◌==◌, ◌&&
 use Rattle.std.specs.List.{AllByRecursion}
 use Rattle.std.proofs.lemmas.Bool.{cases_Bool, eqb-true, eq-eqb}
 use Rattle.link_base.specs.declared.rows.form.Form.TheVariants as forms
+use Rattle.link_base.specs.declared.rows.form.ArrayOf.{ArrayOf}
+use Rattle.link_base.specs.declared.rows.form.ArrayOf.TheVariants.{U16, U32, U64, I32}
 use Rattle.link_base.specs.Table.{Table, Label, row_at, label_at, label_by}
 use Rattle.link_base.specs.Borrowed.{elements_at}
 use Rattle.link_messages.proofs.Walking.{map_twice}
@@ -13,13 +15,13 @@ use Rattle.link_entries.specs.declared.entry.Entry.{Entry}
 use Rattle.link_entries.specs.declared.fields.Fields.TheVariants as fields
 use Rattle.link_entries.specs.declared.misfit.Misfit.{Misfit}
 use Rattle.link_entries.specs.declared.misfit.Misfit.TheVariants.{BadElement}
-use Rattle.link_entries.specs.Fields.{ip_address, row_fields, fields_in, fields_at}
+use Rattle.link_entries.specs.Fields.{number_form, array_number, ip_address, row_fields, fields_in, fields_at}
 use Rattle.link_entries.specs.Payload.{payload_of, field_of}
 use Rattle.link_entries.specs.Spelled.{alone, before, fitted, element_content, element_of, elements_of, attribute_of, entry_of, entries_of, begins_well, spelled_by}
-use Rattle.link_entries.proofs.RowForms.{is_list, with_kind, value_no_list, NoRow, OneValue, Array, AddressList, NestedList, row_says}
+use Rattle.link_entries.proofs.RowForms.{is_list, is_value, with_kind, value_kind, value_no_list, NoRow, OneValue, Array, AddressList, NestedList, row_says}
 use Rattle.link_entries.proofs.WrittenLists.{spells, if_held, both_true, no_content, before_ok, alone_ok, framed_ok, fitted_ok}
 use Rattle.nlroute_ffi.specs.declared.refusal.Refusal.{Refusal}
-use Rattle.nlroute_ffi.specs.ValueText.{with_form, number_form, address_form, own_label, fields_for, payload_by, entry_payload, TextAnswers}
+use Rattle.nlroute_ffi.specs.ValueText.{with_form, address_form, own_label, fields_for, payload_by, entry_payload, TextAnswers}
 use Rattle.nlroute_ffi.specs.Shown.{HasText}
 use Rattle.nlroute_ffi.specs.Writing.{refusal_for}
 use Rattle.nlroute_ffi.proofs.AttributeTexts.{head_label, head_kind, list_label, below_label, nested_label, element_kind, ip_fields}
@@ -27,6 +29,13 @@ use Rattle.nlroute_ffi.proofs.AttributeTexts.{head_label, head_kind, list_label,
 -- the fields for a label are those of the row
 label_fields : (table : Table) (k : ℕ) → fields_for (label_at table k) ≡ fields_at table k
 label_fields table k = ap fields_in (sym (map_twice label_by (λ (l : Label). l.form) (row_at table k)))
+
+-- a number of an array is a value
+array_value : (a : ArrayOf) → is_value (array_number a) ≡ true
+array_value U16 = refl
+array_value U32 = refl
+array_value U64 = refl
+array_value I32 = refl
 
 -- where the entries of a list begin: with an attribute, or with elements of an attribute of type k
 data Begins (family : Family) (octets : List ℕ) (es : List Entry) : Type 0 where
@@ -56,10 +65,11 @@ module _ (family : Family) (octets : List ℕ) where
       elim (row_says table k (families_formed family)) [
         | NoRow named class ↦ absurd (no_content inner (fields_at table k) i e octets s (ap (λ o. is_list (fields_in o)) named) h)
         | OneValue form names named class one low ↦ absurd (no_content inner (fields_at table k) i e octets s (ap (λ o. is_list (fields_in o)) named ∙ value_no_list (row_fields form) one) h)
-        | Array w named class some low ↦
-            let list = list_label family k (forms.Numbers w) named in
-            let looked : fields_at table k ≡ fields.Numbers w = ap fields_in named in
-            element_told e s (Some (with_form (number_form w) list.label)) below (below_label family e below ∙ list.is own) (ap (λ row. element_content inner row i e octets) (sym looked) ∙ h)
+        | Array a named class low ↦
+            let list = list_label family k (forms.Numbers a) named in
+            let looked : fields_at table k ≡ fields.Numbers a = ap fields_in named in
+            element_told e s (Some (with_form (number_form a) list.label)) below (below_label family e below ∙ list.is own)
+            (value_kind (array_number a) e e.inner octets (array_value a) ∙ (ap (λ row. element_content inner row i e octets) (sym looked) ∙ h))
         | AddressList n named class few low ↦
             let list = list_label family k (forms.Addresses n) named in
             let (p, payload, text) = framed_ok i (payload_of (ip_address n) e octets) s (ap (λ row. element_content inner row i e octets) (sym (ap fields_in named)) ∙ h) in

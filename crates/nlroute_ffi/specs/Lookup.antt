@@ -4,7 +4,7 @@ use Rattle.link_base.specs.Frame.{kind_limit}
 use Rattle.link_base.specs.Table.{Table, Label, label_at}
 use Rattle.link_base.specs.Borrowed.{elements_at}
 use Rattle.netlink_packet_route.specs.declared.family.Family.{Family}
-use Rattle.netlink_packet_route.specs.Family.{family_name, family_number, table_of}
+use Rattle.netlink_packet_route.specs.Family.{Holding, IsOneOf, family_name, family_number, holders_of, table_of}
 use Rattle.link_entries.specs.declared.entry.Entry.{Entry}
 use Rattle.link_entries.specs.declared.row.Row.{Row}
 use Rattle.link_entries.specs.Rows.{row_of_type}
@@ -25,6 +25,12 @@ abbrev pub FamilyOfAnswers : List ℕ → Result ℕ Refusal → Type 0
 FamilyOfAnswers name (Ok n) = (family : Family) × (n ≡ family_number family) × (name ≡ family_name family)
 FamilyOfAnswers name (Err NoFamily) = (family : Family) → name ≢ family_name family
 FamilyOfAnswers name (Err refusal) = ⊥
+
+-- the number of the attribute set whose lists this holds; or it holds those of none
+abbrev pub HeldByAnswers : Holding → Result ℕ Refusal → Type 0
+HeldByAnswers holding (Ok n) = (family : Family) × (n ≡ family_number family) × IsOneOf holding (holders_of family)
+HeldByAnswers holding (Err NoFamily) = (family : Family) → IsOneOf holding (holders_of family) → ⊥
+HeldByAnswers holding (Err refusal) = ⊥
 
 -- ---- attribute types
 

@@ -23,7 +23,7 @@ version = 0x000300
 -- whether the elements of an attribute type are addresses or numbers, which have an index in place of a type
 abbrev pub has_indices : Form → Bool
 has_indices (forms.Addresses n) = true
-has_indices (forms.Numbers w) = true
+has_indices (forms.Numbers a) = true
 has_indices form = false
 
 abbrev pub holds_indices : Option Label → Bool
@@ -46,9 +46,21 @@ own_kind e = if e.depth == 0 then e.kind else e.inner
 
 -- ---- names
 
--- the name of an attribute type; the index of an address or a number
+-- the name of a place of an array
+abbrev pub place_name : Option Label → ℕ → Option (List ℕ)
+place_name None index = None
+place_name (Some label) index = name_in label.names index
+
+-- the name of a place, or its index if it has none
+abbrev pub place_text : Option (List ℕ) → ℕ → List ℕ
+place_text (Some name) index = name
+place_text None index = codes "[" ++ (decimal index ++ codes "]")
+
+-- the name of an attribute type; of an address or a number of an array, that of its place
 abbrev pub kind_name : Family → Entry → List ℕ
-kind_name family e = if is_indexed family e then codes "[" ++ (decimal e.inner ++ codes "]") else kind_text (label_for family e) (own_kind e)
+kind_name family e =
+    if is_indexed family e then place_text (place_name (label_for family e) e.inner) e.inner
+    else kind_text (label_for family e) (own_kind e)
 
 abbrev pub KindNameAnswers : Entry → List ℕ → List ℕ → Family → Result ℕ Refusal → Type 0
 KindNameAnswers e old new family (Ok n) = Stores (kind_name family e) old new n

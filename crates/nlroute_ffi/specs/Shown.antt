@@ -17,7 +17,7 @@ use Rattle.nlroute_ffi.specs.ValueText.{entry_payload, IsEntryText}
 
 -- whether a content has an entry for each of its numbers
 abbrev pub has_numbers : Content → Bool
-has_numbers (contents.Numbers w p) = true
+has_numbers (contents.Numbers a p) = true
 has_numbers content = false
 
 -- a text is that of the attribute b of a list of this table, but empty for an array of numbers

@@ -2,9 +2,6 @@
 use Rattle.std.specs.Prelude.{◌≡◌, ℕ, ◌==◌, Bool, true, false, List, [], Option, Some, None, option_map, Result, Ok, Err, if◌then◌else◌}
 use Rattle.link_base.specs.declared.rows.form.Form.{Form}
 use Rattle.link_base.specs.declared.rows.form.Form.TheVariants as forms
-use Rattle.link_base.specs.declared.rows.form.Width.{Width}
-use Rattle.link_base.specs.declared.rows.form.Order.TheVariants.{Little}
-use Rattle.link_base.specs.declared.rows.form.Role.TheVariants.{Plain}
 use Rattle.link_base.specs.declared.rows.label.Quantity.TheVariants as quantities
 use Rattle.link_base.specs.declared.views.content.Content.{Content}
 use Rattle.link_base.specs.declared.views.content.Content.TheVariants as contents
@@ -20,7 +17,7 @@ use Rattle.link_entries.specs.declared.fields.Fields.{Fields}
 use Rattle.link_entries.specs.declared.fields.Fields.TheVariants as fields
 use Rattle.link_entries.specs.declared.misfit.Misfit.{Misfit}
 use Rattle.link_entries.specs.declared.misfit.Misfit.TheVariants.{BadElement}
-use Rattle.link_entries.specs.Fields.{fields_in}
+use Rattle.link_entries.specs.Fields.{number_form, fields_in}
 use Rattle.link_entries.specs.Payload.{payload_of}
 use Rattle.link_entries.specs.Agreement.{referred}
 use Rattle.nlroute_ffi.specs.declared.refusal.Refusal.{Refusal}
@@ -38,14 +35,10 @@ with_form form label = record label { form = form }
 abbrev pub address_form : ℕ → Form
 address_form n = if n == 4 then forms.Ipv4 else forms.Ipv6
 
--- a number of an array
-abbrev pub number_form : Width → Form
-number_form w = forms.Number w Little Plain
-
 -- of an element of a list of this form: a number and an address have the label of their list, with their own form; of an
 -- element of a nested list it is `own`
 abbrev pub element_by : Form → Label → Option Label → Result (Option Label) Misfit
-element_by (forms.Numbers w) list own = Ok (Some (with_form (number_form w) list))
+element_by (forms.Numbers a) list own = Ok (Some (with_form (number_form a) list))
 element_by (forms.Addresses n) list own = Ok (Some (with_form (address_form n) list))
 element_by (forms.List flagged) list own = Ok own
 element_by form list own = Err BadElement
@@ -95,7 +88,7 @@ Shows own e octets s = (p : List ℕ) × (payload_of own e octets ≡ Ok p) × (
 
 -- whether a value of this form is a list: its elements are values of their own
 abbrev pub has_elements : Form → Bool
-has_elements (forms.Numbers w) = true
+has_elements (forms.Numbers a) = true
 has_elements (forms.Addresses n) = true
 has_elements (forms.List flagged) = true
 has_elements form = false

@@ -6,13 +6,14 @@ ghost use Rattle.std.specs.List.{AllZip, AllByRecursion};
 ghost use Rattle.link_base.specs.declared.wire.buffer.NlaBuffer.{NlaBuffer};
 ghost use Rattle.link_base.specs.declared.views.content.Content.TheVariants as contents;
 ghost use Rattle.link_base.specs.declared.rows.form.Form.TheVariants as forms;
+ghost use Rattle.link_base.specs.declared.rows.form.ArrayOf.{ArrayOf};
 ghost use Rattle.link_base.specs.declared.rows.form.Width.{Width};
 ghost use Rattle.link_base.specs.declared.rows.form.Order.{Order};
 ghost use Rattle.link_base.specs.declared.rows.form.Role.TheVariants as roles;
 ghost use Rattle.link_base.specs.declared.names.vlan_protocol.VlanProtocol.{VlanProtocol};
 ghost use Rattle.link_base.specs.Borrowed.{elements_at};
 ghost use Rattle.link_base.specs.Fields.{FieldRow};
-ghost use Rattle.link_base.specs.Forms.{bytes_in};
+ghost use Rattle.link_base.specs.Forms.{size_in};
 ghost use Rattle.link_base.specs.Number.{IsBytes, bound};
 ghost use Rattle.link_base.specs.Protocol.{protocol_number};
 ghost use Rattle.link_base.specs.Table.{Table, Label, Gives, form_at};
@@ -107,9 +108,9 @@ pub fn entries_have_texts()
     ensures elements { (family : Family) (list : List ℕ) (kind offset : ℕ) (flagged : Bool) (b : NlaBuffer) (e : Entry)
         → IsBytes list → form_at (table_of family) kind ≡ Some (forms.List flagged) → IsAt list offset b
         → IsElement (elements_at (table_of family) kind) kind offset b e → HasText family list e }
-    ensures numbers { (family : Family) (list : List ℕ) (width : Width) (kind at i n : ℕ)
-        → form_at (table_of family) kind ≡ Some (forms.Numbers width) → n < bound (bytes_in width)
-        → HasText family list (number_entry kind at (bytes_in width) i n) }
+    ensures numbers { (family : Family) (list : List ℕ) (of : ArrayOf) (kind at i n : ℕ)
+        → form_at (table_of family) kind ≡ Some (forms.Numbers of) → n < bound (size_in of)
+        → HasText family list (number_entry kind at of i n) }
     ensures addresses { (family : Family) (list : List ℕ) (kind i offset : ℕ) (octets : List ℕ)
         → form_at (table_of family) kind ≡ Some (forms.Addresses (length octets))
         → HasText family list (address_entry kind i offset octets) }

@@ -1,7 +1,7 @@
 //! The C API: parses, prints, writes and re-encodes lists of link attributes, and looks up what is known of their types.
 //! `include/nlroute.h` declares the functions.
 //!
-//! A `Family` is passed as its number, from 0 to 10 in the order of [`Family`](netlink_packet_route::Family). A slice is
+//! A `Family` is passed as its number, from 0, in the order of [`Family`](netlink_packet_route::Family). A slice is
 //! two arguments in C: a pointer, and the number of elements it points to. The allocator is not an argument in C; a
 //! function without it does not allocate.
 //!
@@ -41,7 +41,8 @@ ghost use Rattle.nlroute_ffi.specs.Error.{ErrorAnswers};
 ghost use Rattle.nlroute_ffi.specs.Timing.{TimingAnswers, LimitsAnswers};
 ghost use Rattle.nlroute_ffi.specs.Buffers.{cut_text};
 ghost use Rattle.nlroute_ffi.specs.Names.{version, KindNameAnswers, NumberNameAnswers, FlagNameAnswers};
-ghost use Rattle.nlroute_ffi.specs.Lookup.{FamilyNameAnswers, FamilyOfAnswers, KindOfAnswers, KindOfInAnswers};
+ghost use Rattle.netlink_packet_route.specs.Family.{InfoKind, PortKind};
+ghost use Rattle.nlroute_ffi.specs.Lookup.{FamilyNameAnswers, FamilyOfAnswers, HeldByAnswers, KindOfAnswers, KindOfInAnswers};
 ghost use Rattle.nlroute_ffi.specs.Lookup.{RowAnswers, NumberOfAnswers, CodeTextAnswers};
 ghost use Rattle.nlroute_ffi.specs.ValueText.{TextAnswers};
 ghost use Rattle.nlroute_ffi.specs.StructFields.{FieldAnswers};
@@ -52,7 +53,9 @@ use crate::buffers::refuse;
 use crate::error_text::store_error_text;
 use crate::fault::{FirstError, store_error};
 use crate::lists::{count, rewrite, rewrite_each};
-use crate::lookup::{family_of, kind_of, number_of, store_family_name, store_row};
+use crate::lookup::{
+    family_of, from_info_kind, from_port_kind, kind_of, number_of, store_family_name, store_row,
+};
 use crate::names::{store_flag_name, store_kind_name, store_number_name};
 use crate::refusal::{Refusal, answer_of, store_code_text};
 use crate::report::report_into;
@@ -374,6 +377,32 @@ pub extern "C" fn nlroute_family_of(name: &[u8]) -> isize
     ensures { AnswersWith (FamilyOfAnswers name.now) result }
 {
     answer_of(family_of(name))
+}
+
+/// Returns the number of the attribute set of the devices of a kind, such as `bond`: that of their `IFLA_INFO_DATA`. `kind`
+/// is the text of `IFLA_INFO_KIND`, without a NUL at its end.
+///
+/// # Errors
+///
+/// -5 if no attribute set is of this kind.
+#[unsafe(no_mangle)]
+pub extern "C" fn nlroute_from_info_kind(kind: &[u8]) -> isize
+    ensures { AnswersWith (HeldByAnswers (InfoKind kind.now)) result }
+{
+    answer_of(from_info_kind(kind))
+}
+
+/// Returns the number of the attribute set of the ports of a kind, such as `bond`: that of their `IFLA_INFO_SLAVE_DATA`.
+/// `kind` is the text of `IFLA_INFO_SLAVE_KIND`, without a NUL at its end.
+///
+/// # Errors
+///
+/// -5 if no attribute set is of this kind.
+#[unsafe(no_mangle)]
+pub extern "C" fn nlroute_from_port_kind(kind: &[u8]) -> isize
+    ensures { AnswersWith (HeldByAnswers (PortKind kind.now)) result }
+{
+    answer_of(from_port_kind(kind))
 }
 
 /// Returns the least attribute type with this name, such as `IFLA_BR_FORWARD_DELAY`.

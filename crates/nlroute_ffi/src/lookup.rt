@@ -2,7 +2,8 @@
 
 ghost use Rattle.std.specs.Prelude.{◌≡◌, ◌↔◌, ◌<◌, ◌^◌, Some, IfOk, OnErr, IsTrue};
 ghost use Rattle.link_base.specs.Labels.{label_in, names_in};
-ghost use Rattle.nlroute_ffi.specs.Lookup.{FamilyNameAnswers, FamilyOfAnswers, name_at, FindsKind, RowAnswers};
+ghost use Rattle.netlink_packet_route.specs.Family.{InfoKind, PortKind};
+ghost use Rattle.nlroute_ffi.specs.Lookup.{FamilyNameAnswers, FamilyOfAnswers, HeldByAnswers, name_at, FindsKind, RowAnswers};
 ghost use Rattle.nlroute_ffi.specs.Lookup.{number_in, number_named, NumberOfAnswers};
 
 use crate::buffers::store;
@@ -37,6 +38,37 @@ pub(crate) fn family_of(name: &[u8]) -> Result<usize, Refusal>
             None => Err(Refusal::NoFamily),
         },
         Err(_) => Err(Refusal::NoFamily),
+    }
+}
+
+/// Returns the number of the attribute set of the devices whose `IFLA_INFO_KIND` is `kind`, without a NUL at its end.
+///
+/// # Errors
+///
+/// `NoFamily` if there is none.
+pub(crate) fn from_info_kind(kind: &[u8]) -> Result<usize, Refusal>
+    ensures answer { HeldByAnswers (InfoKind kind.now) result }
+    ensures bounded { IfOk result (λ n. n < 2 ^ 63) }
+{
+    match Family::from_info_kind(kind) {
+        Some(family) => Ok(family.number() as usize),
+        None => Err(Refusal::NoFamily),
+    }
+}
+
+/// Returns the number of the attribute set of the ports whose `IFLA_INFO_SLAVE_KIND` is `kind`, without a NUL at its
+/// end.
+///
+/// # Errors
+///
+/// `NoFamily` if there is none.
+pub(crate) fn from_port_kind(kind: &[u8]) -> Result<usize, Refusal>
+    ensures answer { HeldByAnswers (PortKind kind.now) result }
+    ensures bounded { IfOk result (λ n. n < 2 ^ 63) }
+{
+    match Family::from_port_kind(kind) {
+        Some(family) => Ok(family.number() as usize),
+        None => Err(Refusal::NoFamily),
     }
 }
 

@@ -4,7 +4,7 @@ ghost use Rattle.std.specs.Prelude.{◌≡◌, ◌≤◌, ◌+◌, ◌<◌, ◌^
 ghost use Rattle.std.specs.Fmt.{decimal};
 ghost use Rattle.link_base.specs.Labels.{label_in};
 ghost use Rattle.nlroute_ffi.specs.Buffers.{cut_text, Stores};
-ghost use Rattle.nlroute_ffi.specs.Names.{is_indexed, has_indices, label_for, own_kind, number_name, flag_name};
+ghost use Rattle.nlroute_ffi.specs.Names.{is_indexed, has_indices, label_for, own_kind, place_name, number_name, flag_name};
 ghost use Rattle.nlroute_ffi.specs.Names.{KindNameAnswers, NumberNameAnswers, FlagNameAnswers};
 
 use crate::buffers::{refuse, store};
@@ -17,8 +17,8 @@ use link_base::views::attribute_set::AttributeSet;
 use link_entries::Entry;
 use netlink_packet_route::{Family, FamilyElements, FamilySet};
 
-/// Stores the name of the attribute type of `value`; for an address of a list or a number of an array, its index.
-/// Returns the length of the whole name.
+/// Stores the name of the attribute type of `value`; for a number of an array the name of its place, and the index if it
+/// has none, as an address of a list. Returns the length of the whole name.
 pub(crate) fn store_kind_name(
     family: Family,
     value: &Entry,
@@ -27,13 +27,24 @@ pub(crate) fn store_kind_name(
     ensures answer { KindNameAnswers value.now buffer.old buffer.new family result }
     ensures bounded { IfOk result (λ n. n < 2 ^ 63) }
 {
+    let label = label_of(family, value);
     if is_indexed(family, value) {
-        return Ok(store_number("[", value.inner, "]", buffer));
+        return Ok(match place_name(label, value.inner) {
+            Some(name) => store(name.as_bytes(), buffer),
+            None => store_number("[", value.inner, "]", buffer),
+        });
     }
-    Ok(match label_of(family, value) {
+    Ok(match label {
         Some(label) => store(label.name.as_bytes(), buffer),
         None => store_number("type ", own_kind(value), "", buffer),
     })
+}
+
+/// Returns the name of a place of an array.
+fn place_name(label: Option<KindLabel>, index: u16) -> Option<&'static str>
+    ensures { option_map (λ name. name.now) result ≡ place_name (label_in label) index }
+{
+    label?.name_of(index.into())
 }
 
 /// Stores the name of the number of `value`.

@@ -9,18 +9,18 @@ ghost use Rattle.link_show.specs.Value.{content_text};
 ghost use Rattle.link_entries.specs.Fields.{IsNarrow};
 ghost use Rattle.link_entries.specs.Payload.{payload_of};
 ghost use Rattle.nlroute_ffi.specs.Buffers.{cut_text};
-ghost use Rattle.nlroute_ffi.specs.ValueText.{with_form, number_form, address_form, element_label, own_label, fields_for, label_or_plain};
+ghost use Rattle.nlroute_ffi.specs.ValueText.{with_form, address_form, element_label, own_label, fields_for, label_or_plain};
 ghost use Rattle.nlroute_ffi.specs.ValueText.{is_passed, Shows, has_elements, HasSize, IsContent, LabelAnswers, TextAnswers};
 
 use crate::buffers::{refuse, store_words};
 use crate::names::own_kind;
 use crate::refusal::{Refusal, refused_for};
-use link_base::rows::form::{Form, Order, Role, Width};
+use link_base::rows::form::Form;
 use link_base::rows::label::{KindLabel, Quantity};
 use link_base::views::attribute_set::AttributeSet;
 use link_base::views::content::Content;
 use link_base::views::content_by::content_by;
-use link_entries::fields::{Fields, row_fields};
+use link_entries::fields::{Fields, number_form, row_fields};
 use link_entries::payload::put_payload;
 use link_entries::{Entry, Misfit};
 use link_show::{Sink, Words, write_content};
@@ -112,7 +112,7 @@ fn element_label(
         return Err(Misfit::BadElement);
     };
     match list.form {
-        Form::Numbers(width) => Ok(Some(number_label(list, width))),
+        Form::Numbers(of) => Ok(Some(with_form(list, number_form(of)))),
         Form::Addresses { size } => Ok(Some(with_form(list, address_form(size)))),
         Form::List { .. } => {
             let elements = FamilyElements {
@@ -123,18 +123,6 @@ fn element_label(
         }
         _ => Err(Misfit::BadElement),
     }
-}
-
-/// Returns what is known of a number of an array, whose type has this label.
-fn number_label(list: KindLabel, width: Width) -> KindLabel
-    ensures { label_of result ≡ with_form (number_form width) (label_of list) }
-{
-    let form = Form::Number {
-        width,
-        order: Order::Little,
-        role: Role::Plain,
-    };
-    with_form(list, form)
 }
 
 /// Returns the form of an address of this size.

@@ -4,7 +4,7 @@
 ghost use Rattle.std.specs.Prelude.{◌≡◌, ◌≤◌, ◌++◌, ◌-◌, List, [], None, length, drop, map, replicate, string_bytes};
 ghost use Rattle.std.specs.Prelude.{IfOk, IfNone, OnErr, IsTrue, MatchResult};
 ghost use Rattle.link_vlan_can.specs.CanLimits.{limits_view, limits_with};
-ghost use Rattle.netlink_packet_route.specs.AfSpec.{af_spec_table, af_spec_means};
+ghost use Rattle.netlink_packet_route.specs.AfSpecBridge.{af_spec_bridge_table, af_spec_bridge_means};
 ghost use Rattle.netlink_packet_route.specs.Answers.{Answers, ListAnswers, WriteAnswers};
 ghost use Rattle.netlink_packet_route.specs.Answers.{OnMemory, OnListMemory, OnRewriteMemory};
 ghost use Rattle.netlink_packet_route.specs.Buffer.{kind_field_of, payload_of};
@@ -278,7 +278,7 @@ pub(crate) fn walk(alloc: Global, bytes: &[u8]) -> Result<FrameTable<'_>, AllocE
 
 /// Calls `VecAfSpecBridge::parse`, which parses the list in an `IFLA_AF_SPEC`.
 pub(crate) fn parse_af_spec(alloc: Global, bytes: &[u8]) -> Result<VecAfSpecBridge, ListError>
-    ensures answer { ListAnswers (λ list. map af_spec_means list.0.items) result (Gives af_spec_table) bytes.now }
+    ensures answer { ListAnswers (λ list. map af_spec_bridge_means list.0.items) result (Gives af_spec_bridge_table) bytes.now }
     ensures memory { OnListMemory result (frame_fault bytes.now ≡ None) }
 {
     marked(alloc, || VecAfSpecBridge::parse(alloc, bytes))

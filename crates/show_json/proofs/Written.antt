@@ -42,17 +42,17 @@ module _ (place : List Field) (is : IsPlace place) where
   place_is = one (place_document place) true (line_of_place place is) (document_says place [] true)
 
   fault_is : (at : Option ℕ) → IfSome at (λ n. n < 2 ^ 64) → (text : List ℕ) → AreDocuments (fault_line place at text) false
-  fault_is at h text = one (fault_document place at text) false (line_of_fault place is at h text) (fault_says place at text)
+  fault_is at h text = one (fault_document place at text) false (line_of_fault place is at text) (fault_says place at text)
 
   messages_are : (bytes out : List ℕ) (well : Bool) → IsBytes bytes → length bytes < 2 ^ 64 → ShowsDocuments place bytes out well → AreDocuments out well
-  messages_are bytes out well h small (js, shown, e) = record { documents = js; each = messages_are_lines place is bytes h small js well shown; oks = messages_say place bytes js well shown; joined = e }
+  messages_are bytes out well h small (js, shown, e) = record { documents = js; each = messages_are_lines place is bytes js well shown; oks = messages_say place bytes js well shown; joined = e }
 
   asked_are : (asked : Asked) (bytes out : List ℕ) (well : Bool) → IsBytes bytes → length bytes < 2 ^ 64 → ShowsAsked place asked bytes out well → AreDocuments out well
   asked_are Messages bytes out well h small shown = messages_are bytes out well h small shown
   asked_are (Attributes family) bytes out well h small shown =
-      one_shown (ShowsListDocument place family bytes) out well (λ j s. line_of_list place is family bytes h small j well s) (λ j s. list_says place family bytes j well s) shown
+      one_shown (ShowsListDocument place family bytes) out well (λ j s. line_of_list place is family bytes j well s) (λ j s. list_says place family bytes j well s) shown
   asked_are (Verdict family) bytes out well h small shown =
-      one_shown (ShowsCheck place family bytes) out well (λ j s. line_of_check place is family bytes small j well s) (λ j s. check_says place family bytes j well s) shown
+      one_shown (ShowsCheck place family bytes) out well (λ j s. line_of_check place is family bytes j well s) (λ j s. check_says place family bytes j well s) shown
 
   -- the output is that of the place, and the input has no error
   place_shown : (out : List ℕ) (well : Bool) → out ≡ document_line (place_document place) → well ≡ true → AreDocuments out well

@@ -3,17 +3,18 @@
 
 use bitflags::Flags;
 use netlink_packet_route::link::{
-    AfSpecBridge, Attribute, BondAdInfo, BondAdSelect, BondAllPortActive, BondArpAllTargets,
-    BondArpValidate, BondFailOverMac, BondLacpRate, BondMode, BondPortState, BondPrimaryReselect,
-    BondXmitHashPolicy, BridgeBooleanOptionFlags, BridgeBooleanOptions, BridgeFlag, BridgeId,
-    BridgeIdBuffer, BridgeMode, BridgeMulticastRouterType, BridgePortState, BridgeQuerierState,
-    BridgeStpMode, BridgeStpState, BridgeVlanInfo, BridgeVlanInfoFlags, BridgeVlanTunnelInfo,
-    CanBerrCounter, CanBitTiming, CanBitTimingConst, CanClock, CanCtrlMode, CanCtrlModeExt,
-    CanCtrlModeFlags, CanTdc, Cause, ChurnState, DecodeError, DecodeFault, DefaultNla, FrameTable,
-    HsrProtocol, InfoBond, InfoBondPort, InfoBridge, InfoBridgePort, InfoCan, InfoDsa, InfoHsr,
-    InfoVlan, InfoVxlan, LacpState, LinkProtoInfoBridge, ListError, MiiStatus, NlaBuffer,
-    NlasIterator, TryClone, VecAfSpecBridge, VecLinkProtoInfoBridge, VlanFlags, VlanProtocol,
-    VlanQosMapping, VxlanHeader, VxlanPortRange, WriteError,
+    AfSpecBridge, AfSpecInet, AfSpecInet6, AfSpecMctp, AfSpecUnspec, Attribute, BondAdInfo,
+    BondAdSelect, BondAllPortActive, BondArpAllTargets, BondArpValidate, BondFailOverMac,
+    BondLacpRate, BondMode, BondPortState, BondPrimaryReselect, BondXmitHashPolicy,
+    BridgeBooleanOptionFlags, BridgeBooleanOptions, BridgeFlag, BridgeId, BridgeIdBuffer,
+    BridgeMode, BridgeMulticastRouterType, BridgePortState, BridgeQuerierState, BridgeStpMode,
+    BridgeStpState, BridgeVlanInfo, BridgeVlanInfoFlags, BridgeVlanTunnelInfo, CanBerrCounter,
+    CanBitTiming, CanBitTimingConst, CanClock, CanCtrlMode, CanCtrlModeExt, CanCtrlModeFlags,
+    CanTdc, Cause, ChurnState, DecodeError, DecodeFault, DefaultNla, FrameTable, HsrProtocol,
+    InfoBond, InfoBondPort, InfoBridge, InfoBridgePort, InfoCan, InfoDsa, InfoHsr, InfoVlan,
+    InfoVxlan, LacpState, LinkAttribute, LinkProtoInfoBridge, ListError, MiiStatus, NlaBuffer,
+    NlasIterator, ReplyAttribute, TryClone, VecAfSpecBridge, VecLinkProtoInfoBridge, VlanFlags,
+    VlanProtocol, VlanQosMapping, VxlanHeader, VxlanPortRange, WriteError,
 };
 use netlink_packet_route::{Family, RewriteError};
 use std::alloc::AllocError;
@@ -505,6 +506,12 @@ fn attributes() {
     is_attribute::<InfoHsr>();
     is_attribute::<LinkProtoInfoBridge>();
     is_attribute::<InfoVxlan>();
+    is_attribute::<LinkAttribute>();
+    is_attribute::<AfSpecUnspec>();
+    is_attribute::<AfSpecInet>();
+    is_attribute::<AfSpecInet6>();
+    is_attribute::<AfSpecMctp>();
+    is_attribute::<ReplyAttribute>();
     is_attribute::<BridgeVlanTunnelInfo>();
     is_attribute::<BondAdInfo>();
     is_attribute::<BridgeQuerierState>();
@@ -637,6 +644,8 @@ fn families(family: Family) {
         Family::AfSpecBridge | Family::Bond | Family::BondPort | Family::Bridge => {}
         Family::BridgePort | Family::Vlan | Family::Can | Family::Dsa => {}
         Family::Hsr | Family::ProtoBridge | Family::Vxlan => {}
+        Family::Link | Family::AfSpec | Family::Inet | Family::Inet6 => {}
+        Family::Mctp | Family::Reply => {}
     }
 }
 

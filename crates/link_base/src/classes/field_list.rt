@@ -25,7 +25,7 @@ pub trait FieldList {
         requires { total Self.classes ≤ length bytes.now }
         ensures { Self.told result ≡ values_along Self.classes bytes.now };
 
-    /// States that the written fields have as many bytes as their classes say. Nothing is done.
+    /// States that the written fields have as many bytes as their classes say. It has no effect.
     fn sized(values: &Self::Values)
         ensures { length (packed (Self.told values.now)) ≡ total Self.classes };
 

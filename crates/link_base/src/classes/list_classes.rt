@@ -1,18 +1,18 @@
 //! Lists as payloads: bytes, arrays of numbers, lists of IP addresses, and nested lists.
 
-ghost use Rattle.std.specs.Prelude.{map};
+ghost use Rattle.std.specs.Prelude.{map, []};
 ghost use Rattle.link_base.specs.Class.{Bytes, Many, Raw};
-ghost use Rattle.link_base.specs.Forms.{bytes_in};
+ghost use Rattle.link_base.specs.Forms.{size_in};
 ghost use Rattle.link_base.specs.Layout.{octets_by};
 ghost use Rattle.link_base.specs.Table.{One, Single, Addresses, Listed, Nested, Inner};
 ghost use Rattle.link_base.specs.declared.rows.form.Form.TheVariants as forms;
 ghost use Rattle.link_base.specs.declared.rows.form.Look.TheVariants as looks;
 
 use crate::classes::address_list::{Address, addresses_len, emit_addresses, read_addresses};
+use crate::classes::coded::NumberNames;
 use crate::classes::lengths::{Lengths, check_numbers};
-use crate::classes::number_lists::{emit_numbers, numbers_len, parse_numbers};
+use crate::classes::number_lists::{ArrayWord, emit_numbers, numbers_len, parse_numbers};
 use crate::classes::payload_class::PayloadClass;
-use crate::classes::word::Word;
 use crate::lists::canonical::{are_numbers, is_address_list, is_bytes, is_nested};
 use crate::lists::checking::{check_elements, check_nested};
 use crate::rows::default_nla::DefaultNla;
@@ -82,33 +82,41 @@ impl PayloadClass for Vec<u8> {
     }
 }
 
-/// A number of which arrays are payloads: `Vec<u16>`, `Vec<u32>` and `Vec<u64>` are classes. Those of `u8` are bytes.
-pub trait ArrayWord: Word {}
+/// The places have no names.
+impl<W: ArrayWord> NumberNames for W {
+    type Number = W;
 
-impl ArrayWord for u16 {}
+    ghost names = { [] };
 
-impl ArrayWord for u32 {}
+    #[inline]
+    fn names() -> &'static [Name] {
+        &[]
+    }
+}
 
-impl ArrayWord for u64 {}
-
-impl<W: ArrayWord> PayloadClass for Vec<W> {
-    type Value = Vec<W>;
+impl<N: NumberNames> PayloadClass for Vec<N>
+where
+    N::Number: ArrayWord,
+{
+    type Value = Vec<N::Number>;
 
     type Element = DefaultNla;
 
-    const FORM: Form = Form::Numbers(W::WIDTH);
+    const FORM: Form = Form::Numbers(N::Number::OF);
 
-    ghost FORM = { forms.Numbers W.WIDTH };
+    ghost FORM = { forms.Numbers N.Number.OF };
 
-    ghost shape = { One (Many (bytes_in W.WIDTH)) };
+    ghost shape = { One (Many (size_in N.Number.OF)) };
 
-    ghost content = { λ numbers. Single (Raw (octets_by (bytes_in W.WIDTH) W.value numbers.items)) };
+    ghost names = { N.names };
+
+    ghost content = { λ numbers. Single (Raw (octets_by (size_in N.Number.OF) N.Number.value numbers.items)) };
 
     fn elements() {}
 
     #[inline]
     fn names() -> &'static [Name] {
-        &[]
+        N::names()
     }
 
     #[inline]
@@ -117,33 +125,33 @@ impl<W: ArrayWord> PayloadClass for Vec<W> {
     }
 
     #[inline]
-    fn read(alloc: Global, _kind: u16, payload: &[u8]) -> Result<Vec<W>, DecodeError> {
+    fn read(alloc: Global, _kind: u16, payload: &[u8]) -> Result<Vec<N::Number>, DecodeError> {
         parse_numbers(alloc, payload)
     }
 
     #[inline]
     fn check(kind: u16, payload: &[u8]) -> Result<(), DecodeFault> {
-        check_numbers(kind, payload, W::WIDTH.size())
+        check_numbers(kind, payload, N::Number::OF.size())
     }
 
     #[inline]
-    fn size(numbers: &Vec<W>) -> usize {
+    fn size(numbers: &Vec<N::Number>) -> usize {
         numbers_len(numbers)
     }
 
     #[inline]
     #[tactic(auto, using(crate::proofs::Layouts::values_len))]
-    fn emit(numbers: &Vec<W>, buffer: &mut [u8]) {
+    fn emit(numbers: &Vec<N::Number>, buffer: &mut [u8]) {
         emit_numbers(buffer, numbers);
     }
 
     #[inline]
     fn is_canonical(buffer: &NlaBuffer<'_>) -> bool {
-        are_numbers(buffer, W::WIDTH.size())
+        are_numbers(buffer, N::Number::OF.size())
     }
 
     #[inline]
-    fn try_clone(alloc: Global, numbers: &Vec<W>) -> Result<Vec<W>, AllocError> {
+    fn try_clone(alloc: Global, numbers: &Vec<N::Number>) -> Result<Vec<N::Number>, AllocError> {
         Vec::from_slice(alloc, numbers)
     }
 }

@@ -111,6 +111,7 @@ pub fn u32s_at<const N: usize>(bytes: &[u8], offset: usize) -> [u32; N]
 
 /// Returns the bytes of a field before the first NUL, or all of them if there is none.
 #[inline]
+#[tactic(auto, using(crate::proofs::NulLemmas::first_nul))]
 pub fn before_nul<'a>(field: &'a [u8]) -> &'a [u8]
     ensures { result.now ≡ before_nul field.now }
 {

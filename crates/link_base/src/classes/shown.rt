@@ -35,6 +35,15 @@ impl BytesLook for Text {
     ghost LOOK = { looks.Text };
 }
 
+/// Bytes that are a list of attributes of another set, which its caller reads: `Shown<Held>` is a class.
+pub struct Held;
+
+impl BytesLook for Held {
+    const LOOK: Look = Look::Held;
+
+    ghost LOOK = { looks.Held };
+}
+
 /// The class of payloads that are bytes, shown as `L` says. Values are all bytes of the payload.
 pub struct Shown<L> {
     of: PhantomData<L>,

@@ -21,6 +21,7 @@ use crate::wire::buffer::{NLA_F_NESTED, NlaBuffer, cause_at_front};
 
 /// Checks whether a list is canonical: what would be written for the values that it decodes to is the list itself.
 #[inline]
+#[tactic(auto, using(crate::proofs::CanonicalLists::none_found, crate::proofs::CanonicalLists::not_canonical))]
 pub fn list_is_canonical<F: Attribute>(bytes: &[u8]) -> bool
     ensures { IsTrue result ↔ Canonical F.table bytes.now }
 {

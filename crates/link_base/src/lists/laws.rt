@@ -162,6 +162,7 @@ pub fn frame_equality()
 // ---- attribute sets: decoded values
 
 /// If decoded values fit, what is written for them decodes to these values, after `cut`.
+#[tactic(auto, using(crate::proofs::Written::read_written))]
 pub fn reads_back<F: Attribute>()
     ensures { (s : List ℕ) (vs : List AttrValue) → IsBytes s → Wire (Gives F.table) s vs → AllByRecursion Fits vs
         → Wire (Gives F.table) (written_list vs) (map cut vs) }
@@ -198,12 +199,14 @@ pub fn joined<F: Attribute>()
 // ---- attribute sets: values that a program holds
 
 /// What is written for plain values that fit decodes to their normal forms (`canon`).
+#[tactic(auto, using(crate::proofs::PlainLemmas::plain_back))]
 pub fn plain_back<F: Attribute>()
     ensures { (vs : List AttrValue) → AllByRecursion (IsPlain F.table) vs → AllByRecursion Fits vs
         → Wire (Gives F.table) (written_list vs) (map canon vs) }
 {}
 
 /// Plain values that fit are written as equal bytes if and only if their normal forms are equal.
+#[tactic(auto, using(crate::proofs::PlainLemmas::plain_bytes))]
 pub fn plain_bytes<F: Attribute>()
     ensures { (vs ws : List AttrValue) → AllByRecursion (IsPlain F.table) vs → AllByRecursion Fits vs
         → AllByRecursion (IsPlain F.table) ws → AllByRecursion Fits ws
@@ -268,6 +271,7 @@ pub fn canonical_once<F: Attribute>()
 {}
 
 /// In a well-formed table, the class of each row is that of its form.
+#[tactic(auto, using(crate::proofs::Coherence::row_told))]
 pub fn row_forms()
     ensures { (table : Table) (k : ℕ) (r : Row Shape) → is_table table ≡ true → row_at table k ≡ Some r
         → IsShapeOf r.form r.names r.class }

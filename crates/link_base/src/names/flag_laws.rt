@@ -61,6 +61,7 @@ pub fn hashing<F: FlagSet + Hash>()
 {}
 
 /// What holds if every bit is known, in the terms of the contracts of `Flags`, for all bits `n` of a set.
+#[tactic(auto, using(crate::proofs::FlagLemmas::all_kept, crate::proofs::FlagLemmas::all_asked, crate::proofs::FlagLemmas::others_kept, crate::proofs::FlagLemmas::none_unknown))]
 pub fn every_bit_known<F: KnownBits>()
     ensures contracts { F.exact }
     // `all` has every bit
@@ -77,6 +78,7 @@ pub fn every_bit_known<F: KnownBits>()
 {}
 
 /// The terms in the contracts of `Flags`, bit by bit: `a` has the bits of one set, `b` those of another.
+#[tactic(auto, using(crate::proofs::FlagLemmas::both, crate::proofs::FlagLemmas::either, crate::proofs::FlagLemmas::one, crate::proofs::FlagLemmas::first_alone, crate::proofs::FlagLemmas::others, crate::proofs::FlagLemmas::every_one, crate::proofs::FlagLemmas::none_shared))]
 pub fn bit_by_bit()
     // `intersection`
     ensures both { (a b i : ℕ) → (bit_at (bit_and a b) i ≡ 1) ↔ ((bit_at a i ≡ 1) × (bit_at b i ≡ 1)) }

@@ -31,6 +31,7 @@ pub fn value_back<T: NamedNumber>()
 {}
 
 /// Two values that hold the same are identical.
+#[tactic(auto, using(crate::proofs::Naming::different))]
 pub fn different<T: NamedNumber>()
     ensures { (a b : T) → T.seen a ≡ T.seen b → a ≡ b }
 {}
@@ -57,6 +58,7 @@ pub fn text_back<T: NamedNumber>()
 {}
 
 /// A string is accepted for at most one value.
+#[tactic(auto, using(crate::proofs::Naming::one_text))]
 pub fn one_text<T: NamedNumber>()
     ensures { (text : List ℕ) (v w : T) → Accepts T.names text v → Accepts T.names text w → v ≡ w }
 {}

@@ -5,6 +5,8 @@ ghost use Rattle.std.specs.Prelude.{◌≡◌, ◌<◌, ◌↔◌, ℕ, None, So
 ghost use Rattle.link_base.specs.Frame.{kind_of, kind_limit};
 ghost use Rattle.link_base.specs.Table.{Case, Gives, TakesMemory, Fits, Allows, row_of, row_at, class_at, label_at};
 ghost use Rattle.link_base.specs.Table.{written_payload};
+ghost use Rattle.link_base.specs.Parts.{up_to, above};
+ghost use Rattle.link_base.specs.Default.{default_means};
 ghost use Rattle.link_base.specs.Labels.{label_in};
 ghost use Rattle.link_base.specs.Held.{IsInRange, HoldsMemory};
 ghost use Rattle.link_base.specs.Buffer.{kind_field_of, payload_of};
@@ -14,7 +16,8 @@ ghost use Rattle.link_base.specs.Checked.{Checks};
 ghost use Rattle.link_base.specs.Borrowed.{table_within};
 
 use crate::classes::payload_class::PayloadClass;
-use crate::rows::attribute::Meaning;
+use crate::rows::attribute::{Meaning, Parseable};
+use crate::rows::default_nla::DefaultNla;
 use crate::rows::label::{KindLabel, Quantity};
 use crate::rows::place::{Place, keep};
 use crate::rows::visitors::{Canonical, Check, ElementLabel, Label};
@@ -92,6 +95,49 @@ pub fn read_row<C: PayloadClass, F: Meaning + Drop, P: Place<F>, M: FnOnce(C::Va
 {
     keep(place, C::read(alloc, kind, buffer.value()).map(variant))
 }
+
+/// Parses an attribute whose type has no row, and stores the variant for it, `Other`, in `place`.
+///
+/// # Errors
+///
+/// `Memory` if an allocation fails. On error, `place` is unchanged.
+#[inline(always)]
+pub fn read_other<F: Meaning + Drop, P: Place<F>, M: FnOnce(DefaultNla) -> F>(
+    alloc: Global,
+    kind: u16,
+    buffer: &NlaBuffer<'_>,
+    place: &mut P,
+    variant: M,
+) -> Result<(), DecodeError>
+    requires kind { kind_of (kind_field_of buffer.now) ≡ kind }
+    requires row { row_at F.table kind ≡ None }
+    requires callable { M.IsAlwaysCallable variant }
+    requires means { (value : DefaultNla) (made : F) → M.post variant value made → F.means made ≡ default_means value }
+    requires free { P.is_free place.old }
+    ensures answer { Puts (λ value. P.takes place.old value place.new) (place.new ≡ place.old) F.means
+        (under_kind (kind_of (kind_field_of buffer.now)) result)
+        (Gives F.table (kind_field_of buffer.now) (payload_of buffer.now)) }
+    ensures memory { OnMemory result (TakesMemory F.table (kind_field_of buffer.now)) }
+{
+    keep(place, DefaultNla::parse(alloc, buffer).map(variant))
+}
+
+/// Does nothing. Between the two parts of a list of rows, this call states that no row of the first part, of the types
+/// up to `_last`, has the type. The prover then needs none of the facts before it.
+#[inline(always)]
+pub fn none_up_to<F: Meaning>(_kind: u16, _last: u16)
+    requires { row_at (up_to _last F.table) _kind ≡ None }
+    ensures { row_at (up_to _last F.table) _kind ≡ None }
+{}
+
+/// Does nothing. After both parts of a list of rows, this call states that no row has the type.
+#[inline(always)]
+#[tactic(auto, using(crate::proofs::PartLemmas::no_row))]
+pub fn none_above<F: Meaning>(_kind: u16, _last: u16)
+    requires first { row_at (up_to _last F.table) _kind ≡ None }
+    requires second { row_at (above _last F.table) _kind ≡ None }
+    ensures { row_at F.table _kind ≡ None }
+{}
 
 /// Checks whether an attribute decodes, as `Attribute::check`.
 ///
@@ -179,6 +225,10 @@ pub fn clone_row<C: PayloadClass, F: Meaning + PartialEq, M: FnOnce(C::Value) ->
 /// fields names them, `VARIANT(FIELD, FIELD): CLASS`: the values of the class are tuples, and the fields must be `Copy`.
 /// The row of a variant without a field has no class, `NAME = TYPE, VARIANT;`: it stands for the class `()`.
 ///
+/// A set of more than some 50 rows gives them, after the prefix, in two parts, `..=LAST => { ROWS } _ => { ROWS }`: first
+/// those of the attribute types up to `LAST`. The prover reads 64 facts back, and each row of a `match` is a fact of its
+/// last arm.
+///
 /// The calls are `kind(self)`, `size(self)`, `emit(self, buffer)`, `read(alloc, buffer, place)`,
 /// `visit(kind, visitor)` and `clone(self, alloc)`.
 #[macro_export]
@@ -205,18 +255,43 @@ macro_rules! by_rows {
             Self::Other(other) => $crate::Nla::emit_value(other, $buffer),
         }
     };
-    (read($alloc:expr, $buffer:expr, $place:expr) $prefix:literal; $($name:ident = $kind:literal $(| $flag:ident)?, $variant:ident $(($($field:ident),+))? $(: $class:ty $(as $quantity:ident)?)?;)*) => {
-        match $buffer.kind() {
+    (read($alloc:expr, $buffer:expr, $place:expr) $prefix:literal; ..=$last:literal => { $($first:tt)* } _ => { $($second:tt)* }) => {{
+        let kind = $buffer.kind();
+        $crate::by_rows! { read_part(kind, $alloc, $buffer, $place, {
+            $crate::rows::by_rows::none_up_to::<Self>(kind, $last);
+            $crate::by_rows! { read_part(kind, $alloc, $buffer, $place, {
+                $crate::rows::by_rows::none_above::<Self>(kind, $last);
+                $crate::rows::by_rows::read_other::<Self, _, _>($alloc, kind, $buffer, $place, Self::Other)
+            }) $($second)* }
+        }) $($first)* }
+    }};
+    (read($alloc:expr, $buffer:expr, $place:expr) $prefix:literal; $($rows:tt)*) => {{
+        let kind = $buffer.kind();
+        $crate::by_rows! { read_part(kind, $alloc, $buffer, $place, {
+            $crate::rows::by_rows::read_other::<Self, _, _>($alloc, kind, $buffer, $place, Self::Other)
+        }) $($rows)* }
+    }};
+    (read_part($type:expr, $alloc:expr, $buffer:expr, $place:expr, $other:block) $($name:ident = $kind:literal $(| $flag:ident)?, $variant:ident $(($($field:ident),+))? $(: $class:ty $(as $quantity:ident)?)?;)*) => {
+        match $type {
             $($kind => $crate::rows::by_rows::read_row::<$crate::row_class!($($class)?), Self, _, _>(
                 $alloc, $kind, $buffer, $place, $crate::row_variant!($variant $(($($field),+))? $(, $class)?),
             ),)*
-            _ => $crate::keep(
-                $place,
-                <$crate::DefaultNla as $crate::Parseable>::parse($alloc, $buffer).map(Self::Other),
-            ),
+            _ => $other,
         }
     };
-    (visit($type:expr, $visitor:expr) $prefix:literal; $($name:ident = $kind:literal $(| $flag:ident)?, $variant:ident $(($($field:ident),+))? $(: $class:ty $(as $quantity:ident)?)?;)*) => {
+    (visit($type:expr, $visitor:expr) $prefix:literal; ..=$last:literal => { $($first:tt)* } _ => { $($second:tt)* }) => {
+        $crate::by_rows! { visit_part($prefix, $type, $visitor, {
+            $crate::rows::by_rows::none_up_to::<Self>($type, $last);
+            $crate::by_rows! { visit_part($prefix, $type, $visitor, {
+                $crate::rows::by_rows::none_above::<Self>($type, $last);
+                $visitor.other($type)
+            }) $($second)* }
+        }) $($first)* }
+    };
+    (visit($type:expr, $visitor:expr) $prefix:literal; $($rows:tt)*) => {
+        $crate::by_rows! { visit_part($prefix, $type, $visitor, { $visitor.other($type) }) $($rows)* }
+    };
+    (visit_part($prefix:literal, $type:expr, $visitor:expr, $other:block) $($name:ident = $kind:literal $(| $flag:ident)?, $variant:ident $(($($field:ident),+))? $(: $class:ty $(as $quantity:ident)?)?;)*) => {
         match $type {
             $($kind => $visitor.row::<$crate::row_class!($($class)?)>(
                 $type, $crate::rows::by_rows::RowHead {
@@ -225,7 +300,7 @@ macro_rules! by_rows {
                     quantity: $crate::row_quantity!($($($quantity)?)?),
                 },
             ),)*
-            _ => $visitor.other($type),
+            _ => $other,
         }
     };
     (clone($self:expr, $alloc:expr) $prefix:literal; $($name:ident = $kind:literal $(| $flag:ident)?, $variant:ident $(($($field:ident),+))? $(: $class:ty $(as $quantity:ident)?)?;)*) => {
@@ -236,6 +311,9 @@ macro_rules! by_rows {
                 ),)*
             Self::Other(other) => Ok(Self::Other($crate::TryClone::try_clone(other, $alloc)?)),
         }
+    };
+    ($call:ident($($argument:tt)*) $prefix:literal; ..=$last:literal => { $($first:tt)* } _ => { $($second:tt)* }) => {
+        $crate::by_rows! { $call($($argument)*) $prefix; $($first)* $($second)* }
     };
 }
 

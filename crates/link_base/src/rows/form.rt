@@ -2,7 +2,7 @@
 
 ghost use Rattle.std.specs.Prelude.{◌≡◌, ◌<◌, ◌≤◌, ◌-◌};
 ghost use Rattle.link_base.specs.Number.{bound};
-ghost use Rattle.link_base.specs.Forms.{bytes_in, extent_of, layout_extent};
+ghost use Rattle.link_base.specs.Forms.{bytes_in, width_in, size_in, extent_of, layout_extent};
 
 use crate::classes::lengths::Lengths;
 
@@ -49,6 +49,43 @@ impl Width {
     }
 }
 
+/// The numbers of an array.
+#[derive(Clone, Copy, Debug, PartialEq, Eq)]
+pub enum ArrayOf {
+    /// Unsigned numbers of two bytes.
+    U16,
+    /// Unsigned numbers of four bytes.
+    U32,
+    /// Unsigned numbers of eight bytes.
+    U64,
+    /// Signed numbers of four bytes, in two's complement.
+    I32,
+}
+
+impl ArrayOf {
+    /// Returns the width of a number.
+    #[inline]
+    pub const fn width(self) -> Width
+        ensures { result ≡ width_in self }
+    {
+        match self {
+            ArrayOf::U16 => Width::Two,
+            ArrayOf::U32 | ArrayOf::I32 => Width::Four,
+            ArrayOf::U64 => Width::Eight,
+        }
+    }
+
+    /// Returns the number of bytes of a number.
+    #[inline]
+    pub const fn size(self) -> usize
+        ensures value { result ≡ size_in self }
+        ensures some { 0 < result }
+        ensures few { result ≤ 8 }
+    {
+        self.width().size()
+    }
+}
+
 /// The order of the bytes of a number in a payload.
 #[derive(Clone, Copy, Debug, PartialEq, Eq)]
 pub enum Order {
@@ -78,6 +115,8 @@ pub enum Look {
     Address,
     /// A text, without the NUL at its end, if there is one. It may not be UTF-8.
     Text,
+    /// A list of attributes of another set, which is read by itself. It may be malformed.
+    Held,
 }
 
 /// A fixed-layout struct of the kernel's headers: which it is, if it has a form of its own in C.
@@ -156,8 +195,8 @@ pub enum Form {
     Bytes(Look),
     /// A fixed-layout struct.
     Struct(Layout),
-    /// An array of little-endian unsigned numbers of this width, which is not `One`.
-    Numbers(Width),
+    /// An array of little-endian numbers. If there are names, they are those of its places, which count from 0.
+    Numbers(ArrayOf),
     /// The limits of a CAN controller.
     Limits,
     /// A list of addresses of `size` bytes each.

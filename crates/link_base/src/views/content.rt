@@ -3,7 +3,7 @@
 ghost use Rattle.std.specs.Prelude.{◌≡◌};
 
 use crate::names::vlan_protocol::VlanProtocol;
-use crate::rows::form::{Form, Layout, Look, Order, Role, Width};
+use crate::rows::form::{ArrayOf, Form, Layout, Look, Order, Role, Width};
 use crate::rows::label::KindLabel;
 use std::net::{Ipv4Addr, Ipv6Addr};
 
@@ -52,9 +52,9 @@ pub enum Content<'a> {
         layout: Layout,
         bytes: &'a [u8],
     },
-    /// The bytes of an array of little-endian unsigned numbers of this width.
+    /// The bytes of an array of little-endian numbers.
     Numbers {
-        width: Width,
+        of: ArrayOf,
         bytes: &'a [u8],
     },
     /// The limits of a CAN controller: its name, which ends before the first NUL and may not be UTF-8, and the 32 bytes
@@ -114,7 +114,7 @@ impl<'a> Content<'a> {
             Content::Ipv6(_) => Form::Ipv6,
             Content::Bytes { look, .. } => Form::Bytes(look),
             Content::Struct { layout, .. } => Form::Struct(layout),
-            Content::Numbers { width, .. } => Form::Numbers(width),
+            Content::Numbers { of, .. } => Form::Numbers(of),
             Content::Limits { .. } => Form::Limits,
             Content::Addresses { size, .. } => Form::Addresses { size },
             Content::List { flagged, .. } => Form::List { flagged },

@@ -56,10 +56,7 @@ pub fn content_by<'a>(form: Form, payload: &'a [u8]) -> Content<'a>
             layout,
             bytes: &payload[..layout.lengths().kept()],
         },
-        Form::Numbers(width) => Content::Numbers {
-            width,
-            bytes: payload,
-        },
+        Form::Numbers(of) => Content::Numbers { of, bytes: payload },
         Form::Limits => Content::Limits {
             name: before_nul(&payload[..16]),
             numbers: &payload[16..48],

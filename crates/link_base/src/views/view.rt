@@ -1,6 +1,6 @@
 //! Views of lists: the attributes of a list that decodes, as they are in its bytes.
 
-ghost use Rattle.std.specs.Prelude.{◌≡◌, ◌+◌, ◌/◌, List, length, IfSome};
+ghost use Rattle.std.specs.Prelude.{◌≡◌, ◌+◌, ◌-◌, ◌/◌, ◌≤◌, List, length, IfSome};
 ghost use Rattle.std.specs.Iterator.{at_most, UpTo};
 ghost use Rattle.std.specs.Iterator.SizeHint.{IsWithinCount};
 ghost use Rattle.link_base.specs.Frame.{Frame, Frames};
@@ -29,8 +29,10 @@ pub struct Value<'a, S: AttributeSet> {
 /// The attributes of a list that decodes. It borrows the bytes of the list.
 pub struct View<'a, S: AttributeSet> {
     rest: &'a [u8],
+    whole: usize,
     set: S,
     ghost sound: { HasValues (S.rows set) rest.now },
+    ghost within: { length rest.now ≤ whole },
 }
 
 impl<'a, S: AttributeSet> Clone for Value<'a, S> {
@@ -148,10 +150,7 @@ impl<'a, S: AttributeSet> Value<'a, S> {
             elements result }
     {
         match self.content() {
-            Content::List { list, .. } => Some(View {
-                rest: list,
-                set: elements,
-            }),
+            Content::List { list, .. } => Some(View::of_checked(list, elements)),
             _ => None,
         }
     }
@@ -189,17 +188,22 @@ impl<'a, F: Attribute> Value<'a, Set<F>> {
 }
 
 impl<'a, S: AttributeSet> View<'a, S> {
-    ghost use Rattle.link_base.specs.Viewed.{bytes_in, set_of, kind_in, set_in, IsSameView, SplitsView, seen};
-    ghost use Rattle.link_base.specs.Viewed.{first_of, last_of};
+    ghost use Rattle.link_base.specs.Viewed.{bytes_in, whole_length, set_of, kind_in, set_in, IsSameView, SplitsView};
+    ghost use Rattle.link_base.specs.Viewed.{seen, first_of, last_of};
 
     /// Returns a view of a list of attributes of `set`. The list must decode, as a check of it shows.
     #[inline(always)]
     pub fn of_checked(bytes: &'a [u8], set: S) -> Self
         requires { HasValues (S.rows set) bytes.now }
         ensures bytes { bytes_in result ≡ bytes.now }
+        ensures whole { whole_length result ≡ length bytes.now }
         ensures set { set_of result ≡ set }
     {
-        View { rest: bytes, set }
+        View {
+            rest: bytes,
+            whole: bytes.len(),
+            set,
+        }
     }
 
     /// Returns the set that the attributes belong to.
@@ -218,6 +222,14 @@ impl<'a, S: AttributeSet> View<'a, S> {
         self.rest
     }
 
+    /// Returns the byte offset in the list of the attribute that comes next.
+    #[inline]
+    pub fn offset(&self) -> usize
+        ensures { result ≡ whole_length self.now - length (bytes_in self.now) }
+    {
+        self.whole - self.rest.len()
+    }
+
     /// Returns the same view.
     #[inline(always)]
     fn again(&self) -> View<'a, S>
@@ -225,6 +237,7 @@ impl<'a, S: AttributeSet> View<'a, S> {
     {
         View {
             rest: self.rest,
+            whole: self.whole,
             set: self.set,
         }
     }
@@ -237,10 +250,10 @@ impl<'a, S: AttributeSet> View<'a, S> {
         if self.rest.is_empty() {
             return None;
         }
-        let set = self.set;
+        let (whole, set) = (self.whole, self.set);
         let buffer = NlaBuffer::at_front(self.rest);
         let rest = buffer.step_over(self.rest);
-        Some((Value { buffer, set }, View { rest, set }))
+        Some((Value { buffer, set }, View { rest, whole, set }))
     }
 
     /// Returns the number of attributes that are left. This goes over the list.

@@ -18,6 +18,7 @@ use crate::views::view::View;
 use crate::views::view_all::ViewAll;
 
 /// The attributes that a view has left are a list that decodes.
+#[tactic(auto, using(crate::proofs::ViewWalks::left_decodes))]
 pub fn decodes<S: AttributeSet>(_view: &View<'_, S>)
     ensures { IsBytes (bytes_in _view.now) → Decodes (S.rows (set_of _view.now)) (bytes_in _view.now) }
 {}

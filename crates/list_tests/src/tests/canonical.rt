@@ -35,6 +35,12 @@ fn attributes(rt: HostRuntime) {
             ("hsr", None),
             ("proto_bridge", None),
             ("vxlan", None),
+            ("link", None),
+            ("af_spec", None),
+            ("inet", None),
+            ("inet6", None),
+            ("mctp", None),
+            ("reply", None),
             ("dsa 08000100 2a000000", None),
             // a flag too many, padding that is not zero, and none
             ("dsa 08000140 2a000000", Some(0)),

@@ -53,7 +53,7 @@ fn laws_of_attribute_sets() {
 
 /// Calls the theorems for each attribute set.
 macro_rules! laws_of_each {
-    ($($variant:ident $name:tt $attributes:ident $number:tt $holder:ident $held:tt)*) => {
+    ($($variant:ident $name:tt $attributes:ident $number:tt $holders:tt)*) => {
         $(laws_of::<link::$attributes>();)*
     };
 }

@@ -19,7 +19,7 @@ const INPUTS: [&str; 10] = [
 ];
 
 macro_rules! all {
-    ($($variant:ident $name:tt $attributes:ident $number:tt $holder:ident $held:tt)*) => {
+    ($($variant:ident $name:tt $attributes:ident $number:tt $holders:tt)*) => {
         [$(Family::$variant),*]
     };
 }

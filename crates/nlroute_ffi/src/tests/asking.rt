@@ -2,8 +2,9 @@
 
 use crate::tests::{BLANK, holds_text};
 use crate::{
-    nlroute_code_text, nlroute_family_name, nlroute_family_of, nlroute_kind_of, nlroute_kind_of_in,
-    nlroute_number_of, nlroute_row, nlroute_text,
+    nlroute_code_text, nlroute_family_name, nlroute_family_of, nlroute_from_info_kind,
+    nlroute_from_port_kind, nlroute_kind_of, nlroute_kind_of_in, nlroute_number_of, nlroute_row,
+    nlroute_text,
 };
 use link_entries::{Entry, Row};
 
@@ -59,6 +60,10 @@ fn sets_by_their_names(rt: HostRuntime) {
     assert!(rt; nlroute_family_name(3, &mut out) == 6 && out == *b"bridge\0\xFF",);
     assert!(rt; nlroute_family_name(99, &mut out) == -5 && out[0] == 0);
     assert!(rt; nlroute_family_of(b"bridge") == 3);
+    assert!(rt; nlroute_from_info_kind(b"bond") == 1 && nlroute_from_port_kind(b"bond") == 2);
+    assert!(rt;
+        nlroute_from_info_kind(b"bond_port") == -5 && nlroute_from_port_kind(b"vlan") == -5
+    );
     assert!(rt; nlroute_family_of(b"bridge\0") == -5 && nlroute_family_of(b"\xFF") == -5,);
 }
 

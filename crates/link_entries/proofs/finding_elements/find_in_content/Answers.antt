@@ -1,4 +1,4 @@
-use Rattle.std.proofs.Common.{List, None, sym, subst}
+use Rattle.std.proofs.Common.{◌∙◌, List, None, length, ap, sym, subst, arith}
 use Rattle.link_base.specs.Frame.{kind_of}
 use Rattle.link_base.specs.Buffer.{kind_field_of, payload_of}
 use Rattle.link_base.specs.Table.{class_at}
@@ -10,7 +10,7 @@ use Rattle.netlink_packet_route.specs.Family.{table_of}
 use Rattle.netlink_packet_route.specs.Views.{elements_table}
 use Rattle.link_messages.specs.BeforeFault.{last_item}
 use Rattle.link_entries.specs.Finding.{IsOneElement, IsLastElement}
-use Rattle.link_entries.proofs.Shapes.{addresses_decode}
+use Rattle.link_entries.proofs.Shapes.{list_payload, array_payload, addresses_decode}
 use Rattle.link_entries.proofs.FoundElements.{none_last}
 use Rattle.link_entries.proofs.finding_elements.find_in_content.Goals as goal
 
@@ -31,6 +31,28 @@ of_checked-requires-in-Addresses c =
     let shape = class_at table (kind_of (kind_field_of b)) in
     let borrows = subst (Borrows shape (payload_of b)) c.in-Addresses.is c.requires.content.borrows in
     addresses_decode table (kind_field_of b) (payload_of b) c.in-Addresses.list c.in-Addresses.size c.requires.content.decodes borrows
+
+pub find_nested-requires : goal.find_nested-requires
+find_nested-requires c =
+    let b = c.args.buffer.now in
+    let shape = class_at (table_of c.args.family) (kind_of (kind_field_of b)) in
+    let borrows = subst (Borrows shape (payload_of b)) c.in-List.is c.requires.content.borrows in
+    let same = c.of_checked.ensures.bytes ∙ list_payload shape (payload_of b) c.in-List.list c.in-List.flagged borrows in
+    omega (arith, c.requires.offset, ap length same)
+
+pub find_number-requires-clause-short : goal.find_number-requires-clause-short
+find_number-requires-clause-short c =
+    let b = c.args.buffer.now in
+    let shape = class_at (table_of c.args.family) (kind_of (kind_field_of b)) in
+    let borrows = subst (Borrows shape (payload_of b)) c.in-Numbers.is c.requires.content.borrows in
+    omega (arith, b.short, array_payload shape (payload_of b) c.in-Numbers.of c.in-Numbers.bytes borrows)
+
+pub find_number-requires-clause-offset : goal.find_number-requires-clause-offset
+find_number-requires-clause-offset c =
+    let b = c.args.buffer.now in
+    let shape = class_at (table_of c.args.family) (kind_of (kind_field_of b)) in
+    let borrows = subst (Borrows shape (payload_of b)) c.in-Numbers.is c.requires.content.borrows in
+    omega (arith, c.requires.offset, array_payload shape (payload_of b) c.in-Numbers.of c.in-Numbers.bytes borrows)
 
 pub returns-in-List : goal.returns-in-List
 returns-in-List c =

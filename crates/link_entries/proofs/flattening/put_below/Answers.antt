@@ -1,15 +1,12 @@
 use Rattle.std.proofs.Common.{◌≡◌, true, [], refl, sym, ap, subst, ◌∙◌, arith}
-use Rattle.link_base.specs.Forms.{bytes_in}
 use Rattle.link_base.specs.Frame.{kind_of}
 use Rattle.link_base.specs.Buffer.{kind_field_of, payload_of}
 use Rattle.link_base.specs.Viewed.{set_in, buffer_in}
 use Rattle.link_base.specs.Table.{class_at}
-use Rattle.link_base.specs.Borrowed.{HasValues, Borrows, form_of}
-use Rattle.link_base.specs.WellFormed.{is_table}
+use Rattle.link_base.specs.Borrowed.{HasValues, Borrows}
 use Rattle.link_base.proofs.Elements.{elements_decode}
 use Rattle.link_entries.specs.Flat.{Elements, Puts, number_entries}
 use Rattle.link_entries.proofs.ElementEntries.{few_numbers}
-use Rattle.link_entries.proofs.RowForms.{array_width}
 use Rattle.link_entries.proofs.Shapes.{addresses_decode, no_elements, array_payload}
 use Rattle.link_entries.proofs.flattening.put_below.Goals as goal
 
@@ -35,15 +32,13 @@ returns-in-Numbers g c =
     let table = g.S.AttributeSet.rows (set_in c.args.value.now) in
     let b = buffer_in c.args.value.now in
     let k = kind_of (kind_field_of b) in
-    let w = c.in-Numbers.width in
+    let a = c.in-Numbers.of in
     let bytes = c.in-Numbers.bytes in
-    let es = number_entries k c.args.at (bytes_in w) bytes.now in
+    let es = number_entries k c.args.at a bytes.now in
     let elements = subst (λ content. Elements table k c.args.at content es) (sym c.in-Numbers.is) refl in
-    let puts = subst (λ n. Puts c.args.places.now c.put_numbers.new.places c.args.first (number_entries n c.args.at (bytes_in w) bytes.now) c.put_numbers.result) c.kind-kind.ensures c.put_numbers.ensures in
-    let within = array_payload (class_at table k) (payload_of b) w bytes (subst (Borrows (class_at table k) (payload_of b)) c.in-Numbers.is c.requires.content.borrows) in
-    let formed = subst (λ s. is_table (g.S.AttributeSet.rows s) ≡ true) c.set.ensures c.well_formed-2.ensures in
-    let some = array_width table k w formed (sym c.requires.content.form ∙ ap form_of c.in-Numbers.is) in
-    (es, elements, puts, omega (arith, within, few_numbers k c.args.at w bytes.now some))
+    let puts = subst (λ n. Puts c.args.places.now c.put_numbers.new.places c.args.first (number_entries n c.args.at a bytes.now) c.put_numbers.result) c.kind-kind.ensures c.put_numbers.ensures in
+    let within = array_payload (class_at table k) (payload_of b) a bytes (subst (Borrows (class_at table k) (payload_of b)) c.in-Numbers.is c.requires.content.borrows) in
+    (es, elements, puts, omega (arith, within, few_numbers k c.args.at a bytes.now))
 
 pub returns-in_default : goal.returns-in_default
 returns-in_default g c =

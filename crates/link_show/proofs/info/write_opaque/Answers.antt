@@ -3,7 +3,8 @@ use Rattle.std.specs.Fmt.{decimal}
 use Rattle.link_show.specs.Sink.{Gains}
 use Rattle.link_show.specs.Structs.{field}
 use Rattle.link_show.specs.List.{indented}
-use Rattle.link_show.specs.Message.{two, opaque_text}
+use Rattle.link_show.specs.Fault.{opaque_text}
+use Rattle.link_show.specs.Message.{two}
 use Rattle.link_show.proofs.MessageLines.{opaque_line}
 use Rattle.link_show.proofs.info.write_opaque.Goals as goal
 

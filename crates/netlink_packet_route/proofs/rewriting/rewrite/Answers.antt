@@ -35,3 +35,21 @@ returns-in-ProtoBridge-clause-answer c = rw c.in-ProtoBridge.is c.rewrite_as-in-
 
 pub returns-in-Vxlan-clause-answer : goal.returns-in-Vxlan-clause-answer
 returns-in-Vxlan-clause-answer c = rw c.in-Vxlan.is c.rewrite_as-in-Vxlan.ensures.answer
+
+pub returns-in-Link-clause-answer : goal.returns-in-Link-clause-answer
+returns-in-Link-clause-answer c = rw c.in-Link.is c.rewrite_as-in-Link.ensures.answer
+
+pub returns-in-AfSpec-clause-answer : goal.returns-in-AfSpec-clause-answer
+returns-in-AfSpec-clause-answer c = rw c.in-AfSpec.is c.rewrite_as-in-AfSpec.ensures.answer
+
+pub returns-in-Inet-clause-answer : goal.returns-in-Inet-clause-answer
+returns-in-Inet-clause-answer c = rw c.in-Inet.is c.rewrite_as-in-Inet.ensures.answer
+
+pub returns-in-Inet6-clause-answer : goal.returns-in-Inet6-clause-answer
+returns-in-Inet6-clause-answer c = rw c.in-Inet6.is c.rewrite_as-in-Inet6.ensures.answer
+
+pub returns-in-Mctp-clause-answer : goal.returns-in-Mctp-clause-answer
+returns-in-Mctp-clause-answer c = rw c.in-Mctp.is c.rewrite_as-in-Mctp.ensures.answer
+
+pub returns-in-Reply-clause-answer : goal.returns-in-Reply-clause-answer
+returns-in-Reply-clause-answer c = rw c.in-Reply.is c.rewrite_as-in-Reply.ensures.answer

@@ -9,7 +9,7 @@ pub returns-clause-elements : goal.returns-clause-elements
 returns-clause-elements c = λ family list kind offset flagged b e bytes form at is. (element_told family list kind offset flagged b e bytes form at is).has
 
 pub returns-clause-numbers : goal.returns-clause-numbers
-returns-clause-numbers c = λ family list width kind at i n named low. number_held family list kind i width at n named low
+returns-clause-numbers c = λ family list a kind at i n named low. number_held family list kind i a at n named low
 
 pub returns-clause-addresses : goal.returns-clause-addresses
 returns-clause-addresses c = address_held

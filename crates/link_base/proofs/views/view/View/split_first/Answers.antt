@@ -1,5 +1,7 @@
-use Rattle.std.proofs.Common.{◌≢◌, [], sym, subst, arith}
+use Rattle.std.proofs.Common.{◌≢◌, ◌+◌, [], length, min, sym, ap, subst, arith}
+use Rattle.std.proofs.lemmas.List.{length-drop}
 use Rattle.std.proofs.lemmas.Grind.{common_steps}
+use Rattle.link_base.specs.Frame.{pad}
 use Rattle.link_base.specs.Buffer.{kind_field_of, payload_of}
 use Rattle.link_base.proofs.FrameAtFront.{Splits, splits}
 use Rattle.link_base.proofs.ViewLemmas.{values_header, values_first, values_rest}
@@ -27,4 +29,5 @@ invariant_of-result-2 g c =
     record {
       sound = values_rest (g.S.AttributeSet.rows c.args.self.now.set) s f p c.step_over-rest.result.now c.args.self.now.sound
           (subst (Splits s f p) (sym c.step_over-rest.ensures) (splits s f p c.at_front-buffer.ensures));
+      within = omega (arith, c.args.self.now.within, ap length c.step_over-rest.ensures, length-drop (min (pad (4 + length p)) (length s)) s);
     }
