@@ -49,6 +49,8 @@ static void print_content(const struct nlroute_value *value, const uint8_t *byte
         printf("bittiming_const "), print_hex(content, strnlen((const char *)content, 15)), print_words(content + 16, 8);
         break;
     case NLROUTE_FORM_BYTES: printf("bytes "), print_hex(content, value->length); break;
+    case NLROUTE_FORM_TEXT: printf("text "), print_hex(content, value->length); break;
+    case NLROUTE_FORM_HELD: printf("held "), print_hex(content, value->length); break;
     case NLROUTE_FORM_LIST: printf("list %llu", number); break;
     default: printf("unknown %u ", value->flags), print_hex(content, value->length);
     }
@@ -74,26 +76,60 @@ static bool print_text(uint32_t family, const struct nlroute_value *value, const
     return *text;
 }
 
-/* Prints a line for each attribute as nlshow does: of addresses and numbers all in one, with the unit at its end. */
+/* Whether the elements of a value are addresses or numbers, which have places. */
+static bool is_array(uint32_t family, const struct nlroute_value *value) {
+    const struct nlroute_value last = {.kind = value->kind, .inner = UINT16_MAX, .depth = 1};
+    nlroute_kind_name(family, &last, text, sizeof text);
+    return *text == '[';
+}
+
+/* Prints numbers whose places have names: those that are not 0, and how many are. */
+static void print_named(uint32_t family, const struct nlroute_value *items, size_t count, const uint8_t *bytes, size_t len) {
+    size_t zeros = 0;
+    for (size_t i = 0; i < count; i++) {
+        if (!items[i].number) {
+            zeros++;
+            continue;
+        }
+        nlroute_kind_name(family, &items[i], text, sizeof text);
+        printf(" %s", text);
+        nlroute_text(family, &items[i], bytes, len, text, sizeof text);
+        printf(" %s", text);
+    }
+    if (zeros) printf(" (%zu zero)", zeros);
+}
+
+/* Prints the elements of a list: addresses and numbers after its name, with the unit at the end; others in lines. */
+static void print_elements(uint32_t family, const struct nlroute_value *list, const uint8_t *bytes, size_t len) {
+    const struct nlroute_value *items = list + 1;
+    size_t count = (size_t)list->number;
+    bool has_places = is_array(family, list);
+    nlroute_kind_name(family, items, text, sizeof text);
+    if (has_places && *text != '[') {
+        print_named(family, items, count, bytes, len);
+        return;
+    }
+    for (size_t i = 0; i < count; i++) {
+        if (has_places) {
+            nlroute_text(family, &items[i], bytes, len, text, sizeof text);
+            if (i + 1 != count) text[strcspn(text, " ")] = 0;
+            printf(" %s", text);
+        } else {
+            printf("\n");
+            print_text(family, &items[i], bytes, len);
+        }
+    }
+}
+
+/* Prints a line for each attribute as nlshow does. */
 static void print_texts(uint32_t family, size_t count, const uint8_t *bytes, size_t len) {
     for (size_t i = 0; i < count; i++) {
         bool has_text = print_text(family, &values[i], bytes, len);
-        if (values[i].form != NLROUTE_FORM_LIST) {
-            printf("\n");
-            continue;
-        }
-        size_t elements = (size_t)values[i].number;
-        printf("%s", elements || has_text ? "" : " (empty)");
-        for (size_t last = i + elements; i < last;) {
-            nlroute_kind_name(family, &values[++i], text, sizeof text);
-            if (*text == '[') {
-                nlroute_text(family, &values[i], bytes, len, text, sizeof text);
-                if (i != last) text[strcspn(text, " ")] = 0;
-                printf(" %s", text);
-            } else {
-                printf("\n");
-                print_text(family, &values[i], bytes, len);
-            }
+        if (values[i].form == NLROUTE_FORM_LIST && values[i].number) {
+            print_elements(family, &values[i], bytes, len);
+            i += (size_t)values[i].number;
+        } else if (values[i].form == NLROUTE_FORM_LIST && !has_text) {
+            printf(" (empty)");
         }
         printf("\n");
     }

@@ -71,13 +71,13 @@ def payload(row):
     if row.form == Form.LIST:
         rows = row.elements or (row.item,)
         count = random.choice([0, 1, 2, 3, 5])
-        if row.item and row.item.form == Form.UNSIGNED:
-            return random.randbytes(count * random.choice([2, 4, 4]))
+        if row.item and row.item.form in (Form.UNSIGNED, Form.SIGNED):
+            return random.randbytes(count * random.choice([2, 4, 4, 8]))
         chosen = random.choices(rows, k=count)
         return b"".join(attribute(flagged(it.kind), payload(it)) for it in chosen) + some_unknown()
     length = LENGTHS.get(row.form)
     if length is None:
-        length = random.choice([1, 2, 4, 4, 8] if row.form != Form.BYTES else [0, 1, 6, 20])
+        length = random.choice([0, 1, 6, 20] if row.form in (Form.BYTES, Form.TEXT, Form.HELD) else [1, 2, 4, 4, 8])
     found = random.choice([random.randbytes(length), bytes([random.randrange(8)]) + bytes(max(0, length - 1))])[:length]
     return b"\x88\xa8" if row.name.endswith("VLAN_PROTOCOL") and random.random() < 0.5 else found
 

@@ -61,8 +61,23 @@ def value_lines(table, name, value):
         if isinstance(inner, Unknown):
             yield f"value 1 {inner.kind} type {inner.kind} {content(row.item, inner)}"
         else:
-            kind, title = (row.item.kind, row.item.name) if row.item.name else (index, f"[{index}]")
+            kind, title = (row.item.kind, row.item.name) if row.item.name else (index, place(name, index))
             yield f"value 1 {kind} {title} {content(row.item, inner)}"
+
+
+# The arrays whose places have names.
+PLACES = {
+    IFLA_STATS: LinkStats,
+    IFLA_STATS64: LinkStats64,
+    IFLA_INET_CONF: Ipv4Conf,
+    IFLA_INET6_CONF: Ipv6Conf,
+}
+
+
+def place(name, index):
+    """Returns the name of a place of an array."""
+    places = PLACES.get(name, ())
+    return places(index).name.lower() if index < len(places) else f"[{index}]"
 
 
 # The words for a content, by the form of its attribute type. Others are a number.
@@ -86,6 +101,8 @@ WORDS = {
     Form.BITTIMING_CONST: lambda it: "bittiming_const "
     + f"{it.name.encode(errors='surrogateescape')[:15].hex()} {' '.join(map(str, it[1:]))}",
     Form.BYTES: lambda it: f"bytes {it.hex()}",
+    Form.TEXT: lambda it: f"text {it.hex()}",
+    Form.HELD: lambda it: f"held {it.hex()}",
 }
 
 

@@ -18,6 +18,8 @@ PLAIN = {
     "bittiming": "CanBitTiming",
     "bittiming_const": "CanBitTimingConst",
     "bytes": "bytes",
+    "text": "Text",
+    "held": "bytes",
 }
 TOP = '''\
 """Numbers of the C API, enums, flags and names of attributes. Written by bindings/generate.py."""
@@ -32,7 +34,7 @@ if TYPE_CHECKING:
     from ipaddress import IPv4Address, IPv6Address
 
     from ._list import List
-    from ._types import BerrCounter, BridgeId, CanBitTiming, CanBitTimingConst, Mac, Masked, QosMapping, VlanInfo
+    from ._types import BerrCounter, BridgeId, CanBitTiming, CanBitTimingConst, Mac, Masked, QosMapping, Text, VlanInfo
 
 '''
 
@@ -51,12 +53,14 @@ def text(model):
         ("Place", "The part of an attribute that is malformed.", model.places),
         ("Cause", "What is wrong with it.", model.causes),
     ]
-    public = ["Code", *(name for name, _, _ in enums), *(it.name for it in model.types), *keys]
+    arrays = [it for of in model.sets for it in of.attributes if it.places]
+    public = ["Code", *(name for name, _, _ in enums), *(it.name for it in model.types), *(it.places.name for it in arrays), *keys]
     parts = [TOP + f"VERSION = {model.version:#08x}  # of nlroute.h\n"]
     parts += [enum(*it) for it in enums]
     parts.append(form_numbers(model))
     parts.append(f'\n\nclass Code(Named):\n    """An error code of the library."""\n{codes}')
     parts += [type_text(it, users(it, model)) for it in model.types]
+    parts += [places(it) for it in arrays]
     parts.append("\n\n" + "".join(key(it) for it in keys.values()))
     parts.append("\nSETS: dict[Family, tuple[Row, ...]] = {\n" + "".join(set_text(of, model) for of in model.sets) + "}\n")
     parts.append("\n__all__ = [\n" + wrapped(", ".join(f'"{name}"' for name in public) + ",") + "]  # fmt: skip\n")
@@ -78,6 +82,12 @@ def enum(name, words, numbers):
     """Returns an enum of the header."""
     members = "".join(f"    {member} = {number}\n" for member, number in numbers.items())
     return f'\n\nclass {name}(IntEnum):\n    """{words}"""\n{members}'
+
+
+def places(it):
+    """Returns the places of an array."""
+    members = {name.constant: name.number for name in it.places.names}
+    return enum(it.places.name, f"Places of the array {it.name}: indices of its list.", members)
 
 
 def form_numbers(model):

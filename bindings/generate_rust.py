@@ -17,9 +17,18 @@ PLAIN = {
     "bittiming": "CanBitTiming",
     "bittiming_const": "CanBitTimingConst",
     "bytes": "Vec<u8>",
+    "text": "Text",
+    "held": "Held",
 }
 # The kernel's header of a constant, by its start. All others are in if_link.h.
-HEADERS = {"IFLA_BRIDGE_": "if_bridge.h", "BRIDGE_QUERIER_": "if_bridge.h", "IFLA_CAN_": "can/netlink.h"}
+HEADERS = {
+    "IFLA_BRIDGE_": "if_bridge.h",
+    "BRIDGE_QUERIER_": "if_bridge.h",
+    "IFLA_CAN_": "can/netlink.h",
+    "NLMSGERR_": "netlink.h",
+    "DEVLINK_": "devlink.h",
+    "DPLL_": "dpll.h",
+}
 TOP = """\
 //! Attribute types as keys, and the enums and sets of flags of their values. Written by bindings/generate.py.
 use crate::macros::{{elements, families, flags, named, scope}};
@@ -63,8 +72,20 @@ def text(model):
         seen.update(keys)
         parts.append(f"scope! {{\n{comment(scope_comment(of))}    {camel(of.name)};\n}}\n")
         parts.append(body)
+    parts += [places(it) for of in model.sets for it in of.attributes if it.places]
     parts.append(visits(model))
     return "\n".join(parts)
+
+
+def places(it):
+    """Returns the places of an array as constants in a module."""
+    lines = "".join(
+        f"    /// Is the place of `{name.text}`.\n    pub const {name.constant}: usize = {name.number};\n"
+        for name in it.places.names
+    )
+    words = comment(f"Has the places of the array [`{it.name}`]: indices of its `Vec`.", "")
+    module_name = re.sub(r"(?<!^)(?=[A-Z])", "_", it.places.name).lower()
+    return f"{words}pub mod {module_name} {{\n{lines}}}\n"
 
 
 def top(model):
@@ -142,6 +163,8 @@ def rust_type(it):
 
 def header(name):
     """Returns the kernel's header that has a constant."""
+    if name.startswith("AF_"):
+        return "include/linux/socket.h"
     found = next((file for start, file in HEADERS.items() if name.startswith(start)), "if_link.h")
     return f"include/uapi/linux/{found}"
 
@@ -162,8 +185,25 @@ def set_text(of):
             words = comment(f"Represents the elements of [`{it.name}`] in types.")
             parts.append(f"elements! {{\n{words}    {camel(it.name)} of {scope} = {it.kind};\n}}\n")
         parts.append(key(it, scope, f"[`{scope}`]"))
-        parts.extend(key(that, camel(it.name), f"[`{it.name}`]") for that in it.elements)
+        elements = [key(that, camel(it.name), f"[`{it.name}`]") for that in it.elements]
+        parts.append(own_module(it, "".join(elements)) if has_own_module(it, of) else "".join(elements))
     return "".join(parts)
+
+
+def has_own_module(it, of):
+    """Returns whether elements of a nested list have names that attributes of its set have, too."""
+    return bool({that.name for that in it.elements} & {that.name for that in of.attributes})
+
+
+def own_module(it, body):
+    """Returns the keys of a nested list as a module of its own."""
+    inner = "".join(f"    {line}\n" for line in body.splitlines())
+    words = comment(f"Has the keys of [`{it.name}`], of which its set has some with the same names.", "")
+    return f"{words}pub mod {module_of(it)} {{\n    use crate::*;\n\n{inner}}}\n"
+
+
+def module_of(it):
+    return it.name.removeprefix("IFLA_").lower()
 
 
 def module(of, body):
@@ -181,6 +221,7 @@ def visits(model):
             path = f"{of.name}::{it.name}" if it.name in seen else it.name
             seen.add(it.name)
             lines.append(f'    visitor.attribute("{it.name}", {path});\n')
-            lines.extend(f'    visitor.element({path}, "{that.name}", {that.name});\n' for that in it.elements)
+            at = f"{module_of(it)}::" if has_own_module(it, of) else ""
+            lines.extend(f'    visitor.element({path}, "{that.name}", {at}{that.name});\n' for that in it.elements)
     head = "pub(crate) fn visit_keys(visitor: &mut impl crate::tests::Visitor) {\n"
     return f"/// Calls a visitor for each key.\n#[cfg(test)]\n{head}{''.join(lines)}}}\n"

@@ -43,6 +43,8 @@ SIGNATURES = {
     "nlroute_number_of": (c_ssize_t, c_uint32, POINTER(Value), c_char_p, c_size_t, POINTER(c_uint64)),
     "nlroute_family_name": (c_ssize_t, c_uint32, c_char_p, c_size_t),
     "nlroute_family_of": (c_ssize_t, c_char_p, c_size_t),
+    "nlroute_from_info_kind": (c_ssize_t, c_char_p, c_size_t),
+    "nlroute_from_port_kind": (c_ssize_t, c_char_p, c_size_t),
     "nlroute_code_text": (c_ssize_t, c_ssize_t, c_char_p, c_size_t),
     "nlroute_kind_name": (c_ssize_t, c_uint32, POINTER(Value), c_char_p, c_size_t),
     "nlroute_number_name": (c_ssize_t, c_uint32, POINTER(Value), c_char_p, c_size_t),

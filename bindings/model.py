@@ -31,11 +31,20 @@ TYPES = {
     "IFLA_BRPORT_STATE": "BridgePortState",
     "IFLA_BRIDGE_VLAN_INFO": "BridgeVlanFlags",
     "IFLA_CAN_CTRLMODE": "CanCtrlMode",
+    "IFLA_OPERSTATE": "OperState",
+    "IFLA_LINKMODE": "LinkMode",
+    "IFLA_EVENT": "LinkEvent",
+    "IFLA_INET6_ADDR_GEN_MODE": "AddrGenMode",
+    "IFLA_STATS": "LinkStats",
+    "IFLA_STATS64": "LinkStats64",
+    "IFLA_INET_CONF": "Ipv4Conf",
+    "IFLA_INET6_CONF": "Ipv6Conf",
 }
 # Names of constants. Otherwise a constant has its text in capitals, with _ for what no identifier may have.
 CONSTANTS = {"802.3ad": "IEEE8023AD", "802.1Q": "IEEE8021Q", "802.1ad": "IEEE8021AD", "3_SAMPLES": "TRIPLE_SAMPLES"}
 # Attribute types and elements that are tried; the numbers of the kernel's enums and bits that may have a name.
-KINDS, NUMBERS, BITS = range(64), range(1 << 16), range(32)
+KINDS, NUMBERS, BITS = range(128), range(1 << 16), range(32)
+MOST = (1 << 14) - 1
 NUMERIC = {"unsigned", "signed", "named", "flags", "masked"}
 WITH_FLAGS = {"flags", "masked", "vlan_info"}
 
@@ -76,6 +85,7 @@ class Attribute:
     elements: tuple["Attribute", ...] = ()
     item: "Attribute | None" = None
     optional: bool = False  # a boolean that may have no payload, which is on without
+    places: Type | None = None  # of an array whose places have names: these, in order, as of an enum
 
 
 @dataclass(frozen=True)
@@ -112,7 +122,8 @@ class Model:
 
 def camel(constant):
     """Returns IFLA_BOND_AD_INFO as BondAdInfo."""
-    return "".join(word.capitalize() for word in constant.removeprefix("IFLA_").split("_"))
+    words = constant.removeprefix("IFLA_").replace("LINKINFO", "LINK_INFO").split("_")
+    return "".join(word.capitalize() for word in words)
 
 
 def constant(text):
@@ -194,7 +205,8 @@ class Asker:
         form = next(name for name, number in self.forms.items() if number == row.form)
         value = self.value(kind, inner, form=row.form)
         name = self.library.kind_name(self.family, value)
-        is_indexed = name.startswith("[")
+        # (an array has any place)
+        is_indexed = inner is not None and self.library.kind_name(self.family, self.value(kind, MOST)).startswith("[")
         if not is_indexed:
             found = self.library.kind_of(self.family, kind, inner, name)
             same(found, kind if inner is None else inner, f"the type {name}")
@@ -216,11 +228,20 @@ class Asker:
         """Returns the elements of a list: `item` if all are alike, or `elements`."""
         first = self.attribute(kind, 0)
         if first and not first.name:
-            return {"item": first}
+            return {"item": first, "places": self.places(kind)}
         found = tuple(it for it in (self.attribute(kind, inner) for inner in KINDS) if it)
         if [it.form for it in found] == ["qos_mapping"]:
             return {"item": found[0]}
         return {"elements": found}
+
+    def places(self, kind):
+        """Returns the places of an array, as an enum, or None if they have no names."""
+        names = []
+        while not (name := self.library.kind_name(self.family, self.value(kind, len(names)))).startswith("["):
+            same(self.library.number_of(self.family, self.value(kind, None), name), len(names), f"the place {name}")
+            names.append(Name(len(names), name, constant(name)))
+        list_name = self.library.kind_name(self.family, self.value(kind, None))
+        return Type(TYPES.get(list_name) or camel(list_name), False, 16, tuple(names)) if names else None
 
     def names(self, value, form):
         """Returns the names of the numbers or bits of an attribute type."""

@@ -7,13 +7,12 @@ import socket
 import struct
 from collections.abc import Iterable, Iterator
 
-from nlroute import Fault, Family, text
+from nlroute import Fault, Family, from_info_kind, from_port_kind, text
 
 NLMSG_ERROR, NLMSG_DONE, RTM_NEWLINK, RTM_GETLINK = 2, 3, 16, 18
 NLM_F_REQUEST, NLM_F_DUMP = 1, 0x300
 IFLA_IFNAME, IFLA_LINKINFO = 3, 18
 IFLA_INFO_KIND, IFLA_INFO_DATA, IFLA_INFO_SLAVE_KIND, IFLA_INFO_SLAVE_DATA = 1, 2, 4, 5
-FAMILIES = {family.name.lower(): family for family in Family}
 
 
 def attributes(data: bytes) -> dict[int, bytes]:
@@ -56,13 +55,13 @@ def string(payload: bytes) -> str:
     return payload.split(b"\0")[0].decode(errors="replace")
 
 
-def print_list(name: str, data: "bytes | None") -> None:
-    """Prints the attributes of a list, or its error, if there is a list, and a family of this name."""
-    if data is None or name not in FAMILIES:
+def print_list(family: "Family | None", data: "bytes | None") -> None:
+    """Prints the attributes of a list, or its error, if there is a list of a family."""
+    if data is None or family is None:
         return
-    print(f"  {name}")
+    print(f"  {family.name.lower()}")
     try:
-        words = text(FAMILIES[name], data)
+        words = text(family, data)
     except Fault as fault:
         words = str(fault)
     for line in words.splitlines():
@@ -74,8 +73,8 @@ def main() -> None:
         info = attributes(link.get(IFLA_LINKINFO, b""))
         kind, port = string(info.get(IFLA_INFO_KIND, b"")), string(info.get(IFLA_INFO_SLAVE_KIND, b""))
         print(f"{index}: {string(link.get(IFLA_IFNAME, b'?'))}")
-        print_list(kind, info.get(IFLA_INFO_DATA))
-        print_list(f"{port}_port", info.get(IFLA_INFO_SLAVE_DATA))
+        print_list(from_info_kind(kind), info.get(IFLA_INFO_DATA))
+        print_list(from_port_kind(port), info.get(IFLA_INFO_SLAVE_DATA))
 
 
 if __name__ == "__main__":

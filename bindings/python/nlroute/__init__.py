@@ -28,6 +28,8 @@ from ._errors import WriteError as WriteError
 from ._kinds import *
 from ._kinds import VERSION as _VERSION
 from ._library import build as build
+from ._library import from_info_kind as from_info_kind
+from ._library import from_port_kind as from_port_kind
 from ._list import List as List
 from ._list import read as read
 from ._list import text as text
@@ -43,6 +45,7 @@ from ._types import Mac as Mac
 from ._types import Masked as Masked
 from ._types import Named as Named
 from ._types import QosMapping as QosMapping
+from ._types import Text as Text
 from ._types import Unknown as Unknown
 from ._types import VlanInfo as VlanInfo
 

@@ -25,6 +25,8 @@ SIGNATURES: dict[str, list[Any]] = {
     "nlroute_field": [FAMILY, BYTES, SIZE, BYTES, SIZE, OUT],
     "nlroute_write": [FAMILY, BYTES, SIZE, BYTES, SIZE, OUT, SIZE],
     "nlroute_measure": [FAMILY, BYTES, SIZE, BYTES, SIZE, OUT],
+    "nlroute_from_info_kind": [BYTES, SIZE],
+    "nlroute_from_port_kind": [BYTES, SIZE],
 }
 ADVICE = f"Install {SONAME} where the system finds it (ldconfig, LD_LIBRARY_PATH), or set NLROUTE_LIBRARY to its path."
 
@@ -145,6 +147,31 @@ def write(family: Family, records: bytes, octets: bytes, owners: list[tuple[int,
         raise unexpected(length)
     index, name = owners[at.value]
     raise WriteError(name, index, Code(code))
+
+
+def from_info_kind(kind: str) -> Family | None:
+    """Returns the set of the devices of a kind (IFLA_INFO_KIND), that of their IFLA_INFO_DATA.
+
+    >>> from_info_kind("bond"), from_info_kind("bond_port")
+    (<Family.BOND: 1>, None)
+    """
+    return numbered(LIBRARY.nlroute_from_info_kind, kind)
+
+
+def from_port_kind(kind: str) -> Family | None:
+    """Returns the set of the ports of a kind (IFLA_INFO_SLAVE_KIND), that of their IFLA_INFO_SLAVE_DATA.
+
+    >>> from_port_kind("bond"), from_port_kind("vlan")
+    (<Family.BOND_PORT: 2>, None)
+    """
+    return numbered(LIBRARY.nlroute_from_port_kind, kind)
+
+
+def numbered(function: Callable[..., int], kind: str) -> Family | None:
+    """Returns the set whose number a call returns for a kind."""
+    words = kind.encode()
+    number = function(words, len(words))
+    return None if number == Code.NO_FAMILY else Family(number)
 
 
 def unexpected(code: int) -> Exception:

@@ -14,7 +14,8 @@ from ._write import Values, pairs
 def text(family: Family, data: bytes | bytearray | memoryview) -> str:
     """Returns what `nlshow` prints of a list: a line for each attribute, with the kernel's name and the unit.
 
-    Elements of a nested list are below it, indented. Raises Fault.
+    Elements of a nested list are below it, indented. Of a list of another set, such as IFLA_INFO_DATA, `nlshow` prints
+    the attributes, and this its length: read its bytes. Raises Fault.
 
     >>> print(text(Family.BRIDGE, bytes.fromhex("08000100 dc050000")))
     IFLA_BR_FORWARD_DELAY 1500 (15.00 s)

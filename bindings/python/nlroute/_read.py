@@ -21,6 +21,7 @@ from ._types import (
     Masked,
     QosMapping,
     Row,
+    Text,
     Unknown,
     VlanInfo,
 )
@@ -131,6 +132,8 @@ CONTENTS: dict[int, Callable[[Row | None, Record, bytes], Content]] = {
     Form.BITTIMING: lambda row, it, data: CanBitTiming(*struct.unpack("=8I", payload(it, data))),
     Form.BITTIMING_CONST: limits,
     Form.BYTES: lambda row, it, data: payload(it, data),
+    Form.TEXT: lambda row, it, data: Text(payload(it, data)),
+    Form.HELD: lambda row, it, data: payload(it, data),
     Form.UNKNOWN: lambda row, it, data: Unknown(payload(it, data), it.flags),
 }
 
@@ -177,12 +180,23 @@ def lines(table: Table, data: bytes | bytearray | memoryview) -> Iterator[str]:
         elif not elements:
             yield f"{first} (empty)"
         elif row and row.item and not row.item.name:
-            # the unit of numbers is after the last one
-            texts = [value_text(table.family, element, data) for element in elements]
-            yield " ".join([first, *(it.split(" ", 1)[0] for it in texts[:-1]), texts[-1]])
+            yield " ".join([first, *item_texts(table.family, elements, data)])
         else:
             yield first
             yield from (f"  {line(table.family, element, '', data)}" for element in elements)
+
+
+def item_texts(family: Family, elements: list[bytes], data: bytes) -> Iterator[str]:
+    """Yields the words of an array: its numbers or addresses or, if its places have names, those that are not zero."""
+    if kind_name(family, elements[0]).startswith("["):
+        # the unit of numbers is after the last one
+        yield from (value_text(family, element, data).split(" ", 1)[0] for element in elements[:-1])
+        yield value_text(family, elements[-1], data)
+        return
+    named = [element for element in elements if record(element, 0).number]
+    yield from (line(family, element, "", data) for element in named)
+    if len(named) < len(elements):
+        yield f"({len(elements) - len(named)} zero)"
 
 
 def line(family: Family, raw: bytes, name: str, data: bytes) -> str:

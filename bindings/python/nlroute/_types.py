@@ -108,6 +108,27 @@ class Mac(bytes):
         return f"Mac({str(self)!r})"
 
 
+class Text(bytes):
+    """A text: its bytes, and the NUL at their end if the attribute has one. One made of a str has one.
+
+    >>> from nlroute import Text
+    >>> Text("eth0"), str(Text("eth0")), str(Text(b"eth0"))
+    (Text(b'eth0\\x00'), 'eth0', 'eth0')
+    """
+
+    __slots__ = ()
+
+    def __new__(cls, text: str | bytes | bytearray | memoryview) -> Text:
+        octets = text.encode(errors="surrogateescape") + b"\0" if isinstance(text, str) else bytes(memoryview(text))
+        return super().__new__(cls, octets)
+
+    def __str__(self) -> str:
+        return self.removesuffix(b"\0").decode(errors="surrogateescape")
+
+    def __repr__(self) -> str:
+        return f"Text({super().__repr__()})"
+
+
 if TYPE_CHECKING:
 
     class Masked(NamedTuple, Generic[F]):

@@ -11,7 +11,7 @@ from ._errors import WriteError
 from ._kinds import Code, Form
 from ._records import VALUE
 from ._tables import Table
-from ._types import Attribute, Mac, Name, Named, Row, Unknown
+from ._types import Attribute, Mac, Name, Named, Row, Text, Unknown
 
 Values = Union[Mapping[Any, Any], Iterable[tuple[Name, Any]]]  # (the keys of a mapping are names)
 # number, second, length, octets and flags of a record, and the bytes that it refers to.
@@ -225,5 +225,7 @@ FIELDS: dict[int, Callable[[Row, Any], Fields]] = {
     Form.BITTIMING: timing,
     Form.BITTIMING_CONST: limits,
     Form.BYTES: lambda row, value: carried(octets_of(value)),
+    Form.TEXT: lambda row, value: carried(Text(value)),
+    Form.HELD: lambda row, value: carried(octets_of(value)),
     Form.UNKNOWN: unknown,
 }

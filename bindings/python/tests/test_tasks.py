@@ -1,7 +1,8 @@
-"""Six tasks of programs that manage links. Expected bytes are worked out from the kernel's headers.
+"""Tasks of programs that manage links. Expected bytes are worked out from the kernel's headers.
 
 An attribute is nla_len and nla_type, two bytes each, its payload, and padding to four bytes.
 """
+import struct
 import unittest
 from ipaddress import IPv4Address
 
@@ -14,6 +15,11 @@ BRIDGE = bytes.fromhex("08000100 dc050000 0c002f80 08000100 0a000001")
 # IFLA_CAN_BITTIMING (1): struct can_bittiming, of 500 kbit/s and 87.5 %
 TIMING = "20a10700 6b030000" + "00000000" * 6
 CAN = bytes.fromhex("24000100" + TIMING)
+# IFLA_IFNAME (3); IFLA_STATS64 (23): struct rtnl_link_stats64, 25 numbers; IFLA_LINKINFO (18): IFLA_INFO_KIND (1), and
+# IFLA_INFO_DATA (2): IFLA_BR_FORWARD_DELAY (1)
+STATS = struct.pack("<25Q", 12, 0, 840, 0, 0, 0, 3, *[0] * 18)
+LINK = bytes.fromhex("08000300 62723000 cc001700") + STATS
+LINK += bytes.fromhex("1c001200 0b000100 62726964 67650000 0c000200 08000100 dc050000")
 
 
 class Tasks(unittest.TestCase):
@@ -85,6 +91,37 @@ class Tasks(unittest.TestCase):
             self.assertIs(vxlan[IFLA_VXLAN_TTL_INHERIT], value)
             self.assertEqual(bytes(vxlan).hex(), octets)
             self.assertEqual(bytes(List(Family.VXLAN, {IFLA_VXLAN_TTL_INHERIT: value})).hex(), octets)
+
+    def test_read_a_link(self):
+        link = read(Family.LINK, LINK)
+        self.assertEqual(str(link[IFLA_IFNAME]), "br0")
+        self.assertEqual(link[IFLA_STATS64][LinkStats64.RX_DROPPED], 3)
+        self.assertEqual(str(link).split("\n")[1], "IFLA_STATS64 rx_packets 12 rx_bytes 840 rx_dropped 3 (22 zero)")
+        info = link[IFLA_LINKINFO]
+        data = read(from_info_kind(str(info[IFLA_INFO_KIND])), info[IFLA_INFO_DATA])
+        self.assertEqual((data.family, data[IFLA_BR_FORWARD_DELAY]), (Family.BRIDGE, 1500))
+        self.assertEqual(bytes(data), info[IFLA_INFO_DATA])
+        self.assertEqual(bytes(link), LINK)
+
+    def test_print_arrays(self):
+        # IFLA_INET_CONF (1) and IFLA_INET6_ICMP6STATS (6), whose places have no names
+        for family, octets, line in [
+            (Family.INET, "0c000100 01000000 ffffffff", "IFLA_INET_CONF forwarding 1 mc_forwarding -1"),
+            (Family.INET, "0c000100 00000000 00000000", "IFLA_INET_CONF (2 zero)"),
+            (Family.INET, "04000100", "IFLA_INET_CONF (empty)"),
+            (Family.INET, "94000100" + "00000000" * 33 + "07000000 00000000" "00000000", "IFLA_INET_CONF [33] 7 (35 zero)"),
+            (Family.INET6, "14000600 05000000 00000000 00000000 00000000", "IFLA_INET6_ICMP6STATS 5 0"),
+        ]:
+            self.assertEqual(text(family, bytes.fromhex(octets)), line)
+
+    def test_request_a_bridge(self):
+        # as `ip link add br0 type bridge forward_delay 700 vlan_filtering 1 group_address 01:80:c2:00:00:04` sends it
+        group = "01:80:c2:00:00:04"
+        data = {IFLA_BR_FORWARD_DELAY: 700, IFLA_BR_VLAN_FILTERING: True, IFLA_BR_GROUP_ADDR: group}
+        info = {IFLA_INFO_KIND: Text(b"bridge"), IFLA_INFO_DATA: bytes(List(Family.BRIDGE, data))}
+        expected = "08000300 62723000 30001200 0a000100 62726964 67650000 20000200"
+        expected += "08000100 bc020000 05000700 01000000 0a001400 0180c200 00040000"
+        self.assertEqual(bytes(List(Family.LINK, {IFLA_IFNAME: "br0", IFLA_LINKINFO: info})), bytes.fromhex(expected))
 
     def test_fields_of_structs(self):
         address = Mac("02:00:00:00:00:01")

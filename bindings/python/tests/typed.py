@@ -18,6 +18,9 @@ assert_type(bond[0], Attribute)
 assert_type([value for _, value in bond], list[Content])
 assert_type(read(Family.CAN, b"")[IFLA_CAN_BITTIMING].bitrate, int)
 assert_type(read(Family.VLAN, b"")[IFLA_VLAN_FLAGS], Masked[VlanFlags])
+assert_type(read(Family.LINK, b"")[IFLA_STATS64][LinkStats64.RX_DROPPED], int)
+assert_type(read(Family.LINK, b"")[IFLA_LINKINFO][IFLA_INFO_DATA], bytes)
+assert_type(from_info_kind("bond"), Optional[Family])
 assert_type(BondMode("802.3ad"), BondMode)
 
 bond[IFLA_BOND_MIIMON] = 100

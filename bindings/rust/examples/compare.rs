@@ -48,6 +48,8 @@ fn content(value: &Value<'_>) -> String {
         Content::CanBitTiming(it) => format!("bittiming {}", timing(&it)),
         Content::CanBitTimingConst(it) => limits(&it),
         Content::Bytes(bytes) => format!("bytes {}", hex(bytes)),
+        Content::Text(bytes) => format!("text {}", hex(bytes)),
+        Content::Held(bytes) => format!("held {}", hex(bytes)),
         Content::List(elements) => format!("list {}", elements.count()),
         Content::Unknown { flags, payload } => format!("unknown {flags} {}", hex(payload)),
         other => format!("{other:?}"),

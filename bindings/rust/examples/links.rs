@@ -58,16 +58,16 @@ fn attribute(mut bytes: &[u8], kind: u16) -> Option<&[u8]> {
     found
 }
 
-/// Returns the string of an attribute, without the NUL at its end.
-fn string(bytes: &[u8], kind: u16) -> Option<String> {
+/// Returns the text of an attribute, without the NUL at its end.
+fn text(bytes: &[u8], kind: u16) -> Option<&[u8]> {
     let text = attribute(bytes, kind)?;
-    Some(String::from_utf8_lossy(text.strip_suffix(&[0]).unwrap_or(text)).into_owned())
+    Some(text.strip_suffix(&[0]).unwrap_or(text))
 }
 
-/// Prints a list, if there is one of an attribute set of this name.
-fn print_list(name: &str, list: Option<&[u8]>) {
-    if let (Some(family), Some(bytes)) = (Family::from_name(name), list) {
-        println!("  {name}");
+/// Prints a list, if there is one of an attribute set.
+fn print_list(family: Option<Family>, list: Option<&[u8]>) {
+    if let (Some(family), Some(bytes)) = (family, list) {
+        println!("  {}", family.name());
         match List::read_any(family, bytes) {
             Ok(list) => list.to_string().lines().for_each(|line| println!("    {line}")),
             Err(fault) => println!("    {fault}"),
@@ -79,14 +79,12 @@ fn print_list(name: &str, list: Option<&[u8]>) {
 fn print_link(message: &[u8]) -> Option<()> {
     let index = u32_at(message, MESSAGE_HEADER + 4)?;
     let attributes = message.get(MESSAGE_HEADER + LINK_HEADER..)?;
-    println!("{index}: {}", string(attributes, IFLA_IFNAME).as_deref().unwrap_or("?"));
+    println!("{index}: {}", String::from_utf8_lossy(text(attributes, IFLA_IFNAME).unwrap_or(b"?")));
     let info = attribute(attributes, IFLA_LINKINFO)?;
-    if let Some(kind) = string(info, IFLA_INFO_KIND) {
-        print_list(&kind, attribute(info, IFLA_INFO_DATA));
-    }
-    if let Some(kind) = string(info, IFLA_INFO_SLAVE_KIND) {
-        print_list(&format!("{kind}_port"), attribute(info, IFLA_INFO_SLAVE_DATA));
-    }
+    let family = text(info, IFLA_INFO_KIND).and_then(Family::from_info_kind);
+    print_list(family, attribute(info, IFLA_INFO_DATA));
+    let family = text(info, IFLA_INFO_SLAVE_KIND).and_then(Family::from_port_kind);
+    print_list(family, attribute(info, IFLA_INFO_SLAVE_DATA));
     Some(())
 }
 

@@ -3,7 +3,7 @@
 use crate::kinds::{form, item};
 use crate::list::{List, Nested};
 use crate::sys::{self, Raw};
-use crate::types::{BerrCounter, BridgeId, CanBitTiming, CanBitTimingConst, Mac, QosMapping, VlanInfo};
+use crate::types::{BerrCounter, BridgeId, CanBitTiming, CanBitTimingConst, Held, Mac, QosMapping, Text, VlanInfo};
 use crate::value::{payload, Value};
 use crate::{BridgeVlanFlags, Scope};
 use std::borrow::Cow;
@@ -69,7 +69,7 @@ impl<'a> Store<'_, 'a> {
     pub(crate) fn copy(&mut self, elements: &[Raw], bytes: &[u8]) {
         for element in elements {
             let offset = match element.form {
-                form::BITTIMING | form::BITTIMING_CONST | form::BYTES | form::UNKNOWN => {
+                form::BITTIMING | form::BITTIMING_CONST | form::BYTES | form::TEXT | form::HELD | form::UNKNOWN => {
                     self.keep(payload(element, bytes))
                 }
                 _ => 0,
@@ -145,6 +145,10 @@ field! {
         |self, kind, to| to.bytes(kind, form::BITTIMING_CONST, 0, &self.payload());
     Vec<u8>: |value| value.has(form::BYTES).then(|| value.payload().to_vec()),
         |self, kind, to| to.bytes(kind, form::BYTES, 0, &self);
+    Text: |value| value.has(form::TEXT).then(|| Text(value.payload().to_vec())),
+        |self, kind, to| to.bytes(kind, form::TEXT, 0, &self.0);
+    Held: |value| value.has(form::HELD).then(|| Held(value.payload().to_vec())),
+        |self, kind, to| to.bytes(kind, form::HELD, 0, &self.0);
 }
 
 /// Implements `Field` for lists whose elements are alike. An element has its own type or, if it has none, its index.
@@ -172,6 +176,8 @@ sequence! {
     Ipv6Addr: |index| index as u16;
     u16: |index| index as u16;
     u32: |index| index as u16;
+    i32: |index| index as u16;
+    u64: |index| index as u16;
     QosMapping: |_index| item::IFLA_VLAN_QOS_MAPPING;
 }
 

@@ -27,6 +27,8 @@ pub(crate) mod form {
     pub const BYTES: u8 = 17;
     pub const LIST: u8 = 18;
     pub const UNKNOWN: u8 = 19;
+    pub const TEXT: u8 = 20;
+    pub const HELD: u8 = 21;
 }
 
 /// The numbers of `enum nlroute_refusal`.
@@ -88,6 +90,18 @@ families! {
     ProtoBridge = 9, "proto_bridge";
     /// Names `IFLA_INFO_DATA` of VXLAN devices.
     Vxlan = 10, "vxlan";
+    /// Names messages about links.
+    Link = 11, "link";
+    /// Names `IFLA_AF_SPEC` in other messages than those of `AF_BRIDGE`.
+    AfSpec = 12, "af_spec";
+    /// Names `AF_INET` of a link for IPv4.
+    Inet = 13, "inet";
+    /// Names AF_INET6 of a link for IPv6.
+    Inet6 = 14, "inet6";
+    /// Names `AF_MCTP` of a link for MCTP.
+    Mctp = 15, "mctp";
+    /// Names replies to requests.
+    Reply = 16, "reply";
 }
 
 named! {
@@ -352,6 +366,90 @@ named! {
     VxlanLabelPolicy: u32;
     FIXED = 0, "fixed";
     INHERIT = 1, "inherit";
+}
+
+named! {
+    /// Represents the number of [`IFLA_OPERSTATE`]. Numbers without a name are kept.
+    OperState: u8;
+    UNKNOWN = 0, "UNKNOWN";
+    NOTPRESENT = 1, "NOTPRESENT";
+    DOWN = 2, "DOWN";
+    LOWERLAYERDOWN = 3, "LOWERLAYERDOWN";
+    TESTING = 4, "TESTING";
+    DORMANT = 5, "DORMANT";
+    UP = 6, "UP";
+}
+
+named! {
+    /// Represents the number of [`IFLA_LINKMODE`]. Numbers without a name are kept.
+    LinkMode: u8;
+    DEFAULT = 0, "DEFAULT";
+    DORMANT = 1, "DORMANT";
+    TESTING = 2, "TESTING";
+}
+
+flags! {
+    /// Represents flags of [`IFLA_EXT_MASK`]. Bits without a name are kept.
+    ExtMask: u32;
+    VF = 0;
+    BRVLAN = 1;
+    BRVLAN_COMPRESSED = 2;
+    SKIP_STATS = 3;
+    MRP = 4;
+    CFM_CONFIG = 5;
+    CFM_STATUS = 6;
+    MST = 7;
+}
+
+named! {
+    /// Represents the number of [`IFLA_XDP_ATTACHED`]. Numbers without a name are kept.
+    XdpAttached: u8;
+    NONE = 0, "none";
+    XDP = 1, "xdp";
+    XDPGENERIC = 2, "xdpgeneric";
+    XDPOFFLOAD = 3, "xdpoffload";
+    XDPMULTI = 4, "xdpmulti";
+}
+
+flags! {
+    /// Represents flags of [`IFLA_XDP_FLAGS`]. Bits without a name are kept.
+    XdpFlags: u32;
+    UPDATE_IF_NOEXIST = 0;
+    SKB_MODE = 1;
+    DRV_MODE = 2;
+    HW_MODE = 3;
+    REPLACE = 4;
+}
+
+named! {
+    /// Represents the number of [`IFLA_EVENT`]. Numbers without a name are kept.
+    LinkEvent: u32;
+    NONE = 0, "NONE";
+    REBOOT = 1, "REBOOT";
+    FEATURE_CHANGE = 2, "FEATURE CHANGE";
+    BONDING_FAILOVER = 3, "BONDING FAILOVER";
+    NOTIFY_PEERS = 4, "NOTIFY PEERS";
+    RESEND_IGMP = 5, "RESEND IGMP";
+    BONDING_OPTION = 6, "BONDING OPTION";
+}
+
+flags! {
+    /// Represents flags of [`IFLA_INET6_FLAGS`]. Bits without a name are kept.
+    Inet6Flags: u32;
+    RS_SENT = 4;
+    RA_RCVD = 5;
+    RA_MANAGED = 6;
+    RA_OTHERCONF = 7;
+    READY = 31;
+}
+
+named! {
+    /// Represents the number of [`IFLA_INET6_ADDR_GEN_MODE`]. Numbers without a name are kept.
+    AddrGenMode: u8;
+    EUI64 = 0, "eui64";
+    NONE = 1, "none";
+    STABLE_SECRET = 2, "stable_secret";
+    RANDOM = 3, "random";
 }
 
 scope! {
@@ -928,6 +1026,591 @@ pub const IFLA_VXLAN_RESERVED_BITS: Key<Vxlan, Vec<u8>> = Key::new(33);
 /// Selects `IFLA_VXLAN_MC_ROUTE` of [`Vxlan`] (`include/uapi/linux/if_link.h`).
 pub const IFLA_VXLAN_MC_ROUTE: Key<Vxlan, bool> = Key::new(34);
 
+scope! {
+    /// Represents the attribute set [`Family::Link`] in types.
+    Link;
+}
+
+/// Selects `IFLA_ADDRESS` of [`Link`] (`include/uapi/linux/if_link.h`).
+pub const IFLA_ADDRESS: Key<Link, Vec<u8>> = Key::new(1);
+/// Selects `IFLA_BROADCAST` of [`Link`] (`include/uapi/linux/if_link.h`).
+pub const IFLA_BROADCAST: Key<Link, Vec<u8>> = Key::new(2);
+/// Selects `IFLA_IFNAME` of [`Link`] (`include/uapi/linux/if_link.h`).
+pub const IFLA_IFNAME: Key<Link, Text> = Key::new(3);
+/// Selects `IFLA_MTU` of [`Link`] (`include/uapi/linux/if_link.h`).
+pub const IFLA_MTU: Key<Link, u32> = Key::new(4);
+/// Selects `IFLA_LINK` of [`Link`] (`include/uapi/linux/if_link.h`). 100 is printed as `ifindex 100`.
+pub const IFLA_LINK: Key<Link, u32> = Key::new(5);
+/// Selects `IFLA_QDISC` of [`Link`] (`include/uapi/linux/if_link.h`).
+pub const IFLA_QDISC: Key<Link, Text> = Key::new(6);
+/// Selects `IFLA_STATS` of [`Link`] (`include/uapi/linux/if_link.h`).
+pub const IFLA_STATS: Key<Link, Vec<u32>> = Key::new(7);
+/// Selects `IFLA_COST` of [`Link`] (`include/uapi/linux/if_link.h`).
+pub const IFLA_COST: Key<Link, Vec<u8>> = Key::new(8);
+/// Selects `IFLA_PRIORITY` of [`Link`] (`include/uapi/linux/if_link.h`).
+pub const IFLA_PRIORITY: Key<Link, Vec<u8>> = Key::new(9);
+/// Selects `IFLA_MASTER` of [`Link`] (`include/uapi/linux/if_link.h`). 100 is printed as `ifindex 100`.
+pub const IFLA_MASTER: Key<Link, u32> = Key::new(10);
+/// Selects `IFLA_WIRELESS` of [`Link`] (`include/uapi/linux/if_link.h`).
+pub const IFLA_WIRELESS: Key<Link, Vec<u8>> = Key::new(11);
+/// Selects `IFLA_TXQLEN` of [`Link`] (`include/uapi/linux/if_link.h`).
+pub const IFLA_TXQLEN: Key<Link, u32> = Key::new(13);
+/// Selects `IFLA_MAP` of [`Link`] (`include/uapi/linux/if_link.h`).
+pub const IFLA_MAP: Key<Link, Vec<u8>> = Key::new(14);
+/// Selects `IFLA_WEIGHT` of [`Link`] (`include/uapi/linux/if_link.h`).
+pub const IFLA_WEIGHT: Key<Link, u32> = Key::new(15);
+/// Selects `IFLA_OPERSTATE` of [`Link`] (`include/uapi/linux/if_link.h`).
+pub const IFLA_OPERSTATE: Key<Link, OperState> = Key::new(16);
+/// Selects `IFLA_LINKMODE` of [`Link`] (`include/uapi/linux/if_link.h`).
+pub const IFLA_LINKMODE: Key<Link, LinkMode> = Key::new(17);
+elements! {
+    /// Represents the elements of [`IFLA_LINKINFO`] in types.
+    LinkInfo of Link = 18;
+}
+/// Selects `IFLA_LINKINFO` of [`Link`] (`include/uapi/linux/if_link.h`).
+pub const IFLA_LINKINFO: Key<Link, Nested<LinkInfo>> = Key::new(18);
+/// Selects `IFLA_INFO_KIND` of [`IFLA_LINKINFO`] (`include/uapi/linux/if_link.h`).
+pub const IFLA_INFO_KIND: Key<LinkInfo, Text> = Key::new(1);
+/// Selects `IFLA_INFO_DATA` of [`IFLA_LINKINFO`] (`include/uapi/linux/if_link.h`).
+pub const IFLA_INFO_DATA: Key<LinkInfo, Held> = Key::new(2);
+/// Selects `IFLA_INFO_XSTATS` of [`IFLA_LINKINFO`] (`include/uapi/linux/if_link.h`).
+pub const IFLA_INFO_XSTATS: Key<LinkInfo, Vec<u8>> = Key::new(3);
+/// Selects `IFLA_INFO_SLAVE_KIND` of [`IFLA_LINKINFO`] (`include/uapi/linux/if_link.h`).
+pub const IFLA_INFO_SLAVE_KIND: Key<LinkInfo, Text> = Key::new(4);
+/// Selects `IFLA_INFO_SLAVE_DATA` of [`IFLA_LINKINFO`] (`include/uapi/linux/if_link.h`).
+pub const IFLA_INFO_SLAVE_DATA: Key<LinkInfo, Held> = Key::new(5);
+/// Selects `IFLA_NET_NS_PID` of [`Link`] (`include/uapi/linux/if_link.h`).
+pub const IFLA_NET_NS_PID: Key<Link, u32> = Key::new(19);
+/// Selects `IFLA_IFALIAS` of [`Link`] (`include/uapi/linux/if_link.h`).
+pub const IFLA_IFALIAS: Key<Link, Text> = Key::new(20);
+/// Selects `IFLA_NUM_VF` of [`Link`] (`include/uapi/linux/if_link.h`).
+pub const IFLA_NUM_VF: Key<Link, u32> = Key::new(21);
+/// Selects `IFLA_VFINFO_LIST` of [`Link`] (`include/uapi/linux/if_link.h`).
+pub const IFLA_VFINFO_LIST: Key<Link, Held> = Key::new(22);
+/// Selects `IFLA_STATS64` of [`Link`] (`include/uapi/linux/if_link.h`).
+pub const IFLA_STATS64: Key<Link, Vec<u64>> = Key::new(23);
+/// Selects `IFLA_VF_PORTS` of [`Link`] (`include/uapi/linux/if_link.h`).
+pub const IFLA_VF_PORTS: Key<Link, Held> = Key::new(24);
+/// Selects `IFLA_PORT_SELF` of [`Link`] (`include/uapi/linux/if_link.h`).
+pub const IFLA_PORT_SELF: Key<Link, Held> = Key::new(25);
+/// Selects `IFLA_AF_SPEC` of [`Link`] (`include/uapi/linux/if_link.h`).
+pub const IFLA_AF_SPEC: Key<Link, Held> = Key::new(26);
+/// Selects `IFLA_GROUP` of [`Link`] (`include/uapi/linux/if_link.h`).
+pub const IFLA_GROUP: Key<Link, u32> = Key::new(27);
+/// Selects `IFLA_NET_NS_FD` of [`Link`] (`include/uapi/linux/if_link.h`).
+pub const IFLA_NET_NS_FD: Key<Link, u32> = Key::new(28);
+/// Selects `IFLA_EXT_MASK` of [`Link`] (`include/uapi/linux/if_link.h`).
+pub const IFLA_EXT_MASK: Key<Link, ExtMask> = Key::new(29);
+/// Selects `IFLA_PROMISCUITY` of [`Link`] (`include/uapi/linux/if_link.h`).
+pub const IFLA_PROMISCUITY: Key<Link, u32> = Key::new(30);
+/// Selects `IFLA_NUM_TX_QUEUES` of [`Link`] (`include/uapi/linux/if_link.h`).
+pub const IFLA_NUM_TX_QUEUES: Key<Link, u32> = Key::new(31);
+/// Selects `IFLA_NUM_RX_QUEUES` of [`Link`] (`include/uapi/linux/if_link.h`).
+pub const IFLA_NUM_RX_QUEUES: Key<Link, u32> = Key::new(32);
+/// Selects `IFLA_CARRIER` of [`Link`] (`include/uapi/linux/if_link.h`).
+pub const IFLA_CARRIER: Key<Link, bool> = Key::new(33);
+/// Selects `IFLA_PHYS_PORT_ID` of [`Link`] (`include/uapi/linux/if_link.h`).
+pub const IFLA_PHYS_PORT_ID: Key<Link, Vec<u8>> = Key::new(34);
+/// Selects `IFLA_CARRIER_CHANGES` of [`Link`] (`include/uapi/linux/if_link.h`).
+pub const IFLA_CARRIER_CHANGES: Key<Link, u32> = Key::new(35);
+/// Selects `IFLA_PHYS_SWITCH_ID` of [`Link`] (`include/uapi/linux/if_link.h`).
+pub const IFLA_PHYS_SWITCH_ID: Key<Link, Vec<u8>> = Key::new(36);
+/// Selects `IFLA_LINK_NETNSID` of [`Link`] (`include/uapi/linux/if_link.h`).
+pub const IFLA_LINK_NETNSID: Key<Link, i32> = Key::new(37);
+/// Selects `IFLA_PHYS_PORT_NAME` of [`Link`] (`include/uapi/linux/if_link.h`).
+pub const IFLA_PHYS_PORT_NAME: Key<Link, Text> = Key::new(38);
+/// Selects `IFLA_PROTO_DOWN` of [`Link`] (`include/uapi/linux/if_link.h`).
+pub const IFLA_PROTO_DOWN: Key<Link, bool> = Key::new(39);
+/// Selects `IFLA_GSO_MAX_SEGS` of [`Link`] (`include/uapi/linux/if_link.h`).
+pub const IFLA_GSO_MAX_SEGS: Key<Link, u32> = Key::new(40);
+/// Selects `IFLA_GSO_MAX_SIZE` of [`Link`] (`include/uapi/linux/if_link.h`).
+pub const IFLA_GSO_MAX_SIZE: Key<Link, u32> = Key::new(41);
+/// Selects `IFLA_PAD` of [`Link`] (`include/uapi/linux/if_link.h`).
+pub const IFLA_PAD: Key<Link, ()> = Key::new(42);
+elements! {
+    /// Represents the elements of [`IFLA_XDP`] in types.
+    Xdp of Link = 43;
+}
+/// Selects `IFLA_XDP` of [`Link`] (`include/uapi/linux/if_link.h`).
+pub const IFLA_XDP: Key<Link, Nested<Xdp>> = Key::new(43);
+/// Selects `IFLA_XDP_FD` of [`IFLA_XDP`] (`include/uapi/linux/if_link.h`).
+pub const IFLA_XDP_FD: Key<Xdp, i32> = Key::new(1);
+/// Selects `IFLA_XDP_ATTACHED` of [`IFLA_XDP`] (`include/uapi/linux/if_link.h`).
+pub const IFLA_XDP_ATTACHED: Key<Xdp, XdpAttached> = Key::new(2);
+/// Selects `IFLA_XDP_FLAGS` of [`IFLA_XDP`] (`include/uapi/linux/if_link.h`).
+pub const IFLA_XDP_FLAGS: Key<Xdp, XdpFlags> = Key::new(3);
+/// Selects `IFLA_XDP_PROG_ID` of [`IFLA_XDP`] (`include/uapi/linux/if_link.h`).
+pub const IFLA_XDP_PROG_ID: Key<Xdp, u32> = Key::new(4);
+/// Selects `IFLA_XDP_DRV_PROG_ID` of [`IFLA_XDP`] (`include/uapi/linux/if_link.h`).
+pub const IFLA_XDP_DRV_PROG_ID: Key<Xdp, u32> = Key::new(5);
+/// Selects `IFLA_XDP_SKB_PROG_ID` of [`IFLA_XDP`] (`include/uapi/linux/if_link.h`).
+pub const IFLA_XDP_SKB_PROG_ID: Key<Xdp, u32> = Key::new(6);
+/// Selects `IFLA_XDP_HW_PROG_ID` of [`IFLA_XDP`] (`include/uapi/linux/if_link.h`).
+pub const IFLA_XDP_HW_PROG_ID: Key<Xdp, u32> = Key::new(7);
+/// Selects `IFLA_XDP_EXPECTED_FD` of [`IFLA_XDP`] (`include/uapi/linux/if_link.h`).
+pub const IFLA_XDP_EXPECTED_FD: Key<Xdp, i32> = Key::new(8);
+/// Selects `IFLA_EVENT` of [`Link`] (`include/uapi/linux/if_link.h`).
+pub const IFLA_EVENT: Key<Link, LinkEvent> = Key::new(44);
+/// Selects `IFLA_NEW_NETNSID` of [`Link`] (`include/uapi/linux/if_link.h`).
+pub const IFLA_NEW_NETNSID: Key<Link, i32> = Key::new(45);
+/// Selects `IFLA_TARGET_NETNSID` of [`Link`] (`include/uapi/linux/if_link.h`).
+pub const IFLA_TARGET_NETNSID: Key<Link, i32> = Key::new(46);
+/// Selects `IFLA_CARRIER_UP_COUNT` of [`Link`] (`include/uapi/linux/if_link.h`).
+pub const IFLA_CARRIER_UP_COUNT: Key<Link, u32> = Key::new(47);
+/// Selects `IFLA_CARRIER_DOWN_COUNT` of [`Link`] (`include/uapi/linux/if_link.h`).
+pub const IFLA_CARRIER_DOWN_COUNT: Key<Link, u32> = Key::new(48);
+/// Selects `IFLA_NEW_IFINDEX` of [`Link`] (`include/uapi/linux/if_link.h`). 100 is printed as `ifindex 100`.
+pub const IFLA_NEW_IFINDEX: Key<Link, u32> = Key::new(49);
+/// Selects `IFLA_MIN_MTU` of [`Link`] (`include/uapi/linux/if_link.h`).
+pub const IFLA_MIN_MTU: Key<Link, u32> = Key::new(50);
+/// Selects `IFLA_MAX_MTU` of [`Link`] (`include/uapi/linux/if_link.h`).
+pub const IFLA_MAX_MTU: Key<Link, u32> = Key::new(51);
+elements! {
+    /// Represents the elements of [`IFLA_PROP_LIST`] in types.
+    PropList of Link = 52;
+}
+/// Selects `IFLA_PROP_LIST` of [`Link`] (`include/uapi/linux/if_link.h`).
+pub const IFLA_PROP_LIST: Key<Link, Nested<PropList>> = Key::new(52);
+/// Has the keys of [`IFLA_PROP_LIST`], of which its set has some with the same names.
+pub mod prop_list {
+    use crate::*;
+
+    /// Selects `IFLA_ALT_IFNAME` of [`IFLA_PROP_LIST`] (`include/uapi/linux/if_link.h`).
+    pub const IFLA_ALT_IFNAME: Key<PropList, Text> = Key::new(53);
+}
+/// Selects `IFLA_ALT_IFNAME` of [`Link`] (`include/uapi/linux/if_link.h`).
+pub const IFLA_ALT_IFNAME: Key<Link, Text> = Key::new(53);
+/// Selects `IFLA_PERM_ADDRESS` of [`Link`] (`include/uapi/linux/if_link.h`).
+pub const IFLA_PERM_ADDRESS: Key<Link, Vec<u8>> = Key::new(54);
+elements! {
+    /// Represents the elements of [`IFLA_PROTO_DOWN_REASON`] in types.
+    ProtoDownReason of Link = 55;
+}
+/// Selects `IFLA_PROTO_DOWN_REASON` of [`Link`] (`include/uapi/linux/if_link.h`).
+pub const IFLA_PROTO_DOWN_REASON: Key<Link, Nested<ProtoDownReason>> = Key::new(55);
+/// Selects `IFLA_PROTO_DOWN_REASON_MASK` of [`IFLA_PROTO_DOWN_REASON`] (`include/uapi/linux/if_link.h`). 100 is
+/// printed as `100 (0x64)`.
+pub const IFLA_PROTO_DOWN_REASON_MASK: Key<ProtoDownReason, u32> = Key::new(1);
+/// Selects `IFLA_PROTO_DOWN_REASON_VALUE` of [`IFLA_PROTO_DOWN_REASON`] (`include/uapi/linux/if_link.h`). 100 is
+/// printed as `100 (0x64)`.
+pub const IFLA_PROTO_DOWN_REASON_VALUE: Key<ProtoDownReason, u32> = Key::new(2);
+/// Selects `IFLA_PARENT_DEV_NAME` of [`Link`] (`include/uapi/linux/if_link.h`).
+pub const IFLA_PARENT_DEV_NAME: Key<Link, Text> = Key::new(56);
+/// Selects `IFLA_PARENT_DEV_BUS_NAME` of [`Link`] (`include/uapi/linux/if_link.h`).
+pub const IFLA_PARENT_DEV_BUS_NAME: Key<Link, Text> = Key::new(57);
+/// Selects `IFLA_GRO_MAX_SIZE` of [`Link`] (`include/uapi/linux/if_link.h`).
+pub const IFLA_GRO_MAX_SIZE: Key<Link, u32> = Key::new(58);
+/// Selects `IFLA_TSO_MAX_SIZE` of [`Link`] (`include/uapi/linux/if_link.h`).
+pub const IFLA_TSO_MAX_SIZE: Key<Link, u32> = Key::new(59);
+/// Selects `IFLA_TSO_MAX_SEGS` of [`Link`] (`include/uapi/linux/if_link.h`).
+pub const IFLA_TSO_MAX_SEGS: Key<Link, u32> = Key::new(60);
+/// Selects `IFLA_ALLMULTI` of [`Link`] (`include/uapi/linux/if_link.h`).
+pub const IFLA_ALLMULTI: Key<Link, u32> = Key::new(61);
+elements! {
+    /// Represents the elements of [`IFLA_DEVLINK_PORT`] in types.
+    DevlinkPort of Link = 62;
+}
+/// Selects `IFLA_DEVLINK_PORT` of [`Link`] (`include/uapi/linux/if_link.h`).
+pub const IFLA_DEVLINK_PORT: Key<Link, Nested<DevlinkPort>> = Key::new(62);
+/// Selects `DEVLINK_ATTR_BUS_NAME` of [`IFLA_DEVLINK_PORT`] (`include/uapi/linux/devlink.h`).
+pub const DEVLINK_ATTR_BUS_NAME: Key<DevlinkPort, Text> = Key::new(1);
+/// Selects `DEVLINK_ATTR_DEV_NAME` of [`IFLA_DEVLINK_PORT`] (`include/uapi/linux/devlink.h`).
+pub const DEVLINK_ATTR_DEV_NAME: Key<DevlinkPort, Text> = Key::new(2);
+/// Selects `DEVLINK_ATTR_PORT_INDEX` of [`IFLA_DEVLINK_PORT`] (`include/uapi/linux/devlink.h`).
+pub const DEVLINK_ATTR_PORT_INDEX: Key<DevlinkPort, u32> = Key::new(3);
+/// Selects `IFLA_GSO_IPV4_MAX_SIZE` of [`Link`] (`include/uapi/linux/if_link.h`).
+pub const IFLA_GSO_IPV4_MAX_SIZE: Key<Link, u32> = Key::new(63);
+/// Selects `IFLA_GRO_IPV4_MAX_SIZE` of [`Link`] (`include/uapi/linux/if_link.h`).
+pub const IFLA_GRO_IPV4_MAX_SIZE: Key<Link, u32> = Key::new(64);
+elements! {
+    /// Represents the elements of [`IFLA_DPLL_PIN`] in types.
+    DpllPin of Link = 65;
+}
+/// Selects `IFLA_DPLL_PIN` of [`Link`] (`include/uapi/linux/if_link.h`).
+pub const IFLA_DPLL_PIN: Key<Link, Nested<DpllPin>> = Key::new(65);
+/// Selects `DPLL_A_PIN_ID` of [`IFLA_DPLL_PIN`] (`include/uapi/linux/dpll.h`).
+pub const DPLL_A_PIN_ID: Key<DpllPin, u32> = Key::new(1);
+/// Selects `IFLA_MAX_PACING_OFFLOAD_HORIZON` of [`Link`] (`include/uapi/linux/if_link.h`).
+pub const IFLA_MAX_PACING_OFFLOAD_HORIZON: Key<Link, Vec<u8>> = Key::new(66);
+/// Selects `IFLA_NETNS_IMMUTABLE` of [`Link`] (`include/uapi/linux/if_link.h`).
+pub const IFLA_NETNS_IMMUTABLE: Key<Link, bool> = Key::new(67);
+/// Selects `IFLA_HEADROOM` of [`Link`] (`include/uapi/linux/if_link.h`).
+pub const IFLA_HEADROOM: Key<Link, u16> = Key::new(68);
+/// Selects `IFLA_TAILROOM` of [`Link`] (`include/uapi/linux/if_link.h`).
+pub const IFLA_TAILROOM: Key<Link, u16> = Key::new(69);
+
+scope! {
+    /// Represents the attribute set [`Family::AfSpec`] in types.
+    AfSpec;
+}
+
+/// Selects `AF_INET` of [`AfSpec`] (`include/linux/socket.h`).
+pub const AF_INET: Key<AfSpec, Held> = Key::new(2);
+/// Selects `AF_INET6` of [`AfSpec`] (`include/linux/socket.h`).
+pub const AF_INET6: Key<AfSpec, Held> = Key::new(10);
+/// Selects `AF_MCTP` of [`AfSpec`] (`include/linux/socket.h`).
+pub const AF_MCTP: Key<AfSpec, Held> = Key::new(45);
+
+scope! {
+    /// Represents the attribute set [`Family::Inet`] in types.
+    Inet;
+}
+
+/// Selects `IFLA_INET_CONF` of [`Inet`] (`include/uapi/linux/if_link.h`).
+pub const IFLA_INET_CONF: Key<Inet, Vec<i32>> = Key::new(1);
+
+scope! {
+    /// Represents the attribute set [`Family::Inet6`] in types.
+    Inet6;
+}
+
+/// Selects `IFLA_INET6_FLAGS` of [`Inet6`] (`include/uapi/linux/if_link.h`).
+pub const IFLA_INET6_FLAGS: Key<Inet6, Inet6Flags> = Key::new(1);
+/// Selects `IFLA_INET6_CONF` of [`Inet6`] (`include/uapi/linux/if_link.h`).
+pub const IFLA_INET6_CONF: Key<Inet6, Vec<i32>> = Key::new(2);
+/// Selects `IFLA_INET6_STATS` of [`Inet6`] (`include/uapi/linux/if_link.h`).
+pub const IFLA_INET6_STATS: Key<Inet6, Vec<u64>> = Key::new(3);
+/// Selects `IFLA_INET6_MCAST` of [`Inet6`] (`include/uapi/linux/if_link.h`).
+pub const IFLA_INET6_MCAST: Key<Inet6, Vec<u8>> = Key::new(4);
+/// Selects `IFLA_INET6_CACHEINFO` of [`Inet6`] (`include/uapi/linux/if_link.h`).
+pub const IFLA_INET6_CACHEINFO: Key<Inet6, Vec<u8>> = Key::new(5);
+/// Selects `IFLA_INET6_ICMP6STATS` of [`Inet6`] (`include/uapi/linux/if_link.h`).
+pub const IFLA_INET6_ICMP6STATS: Key<Inet6, Vec<u64>> = Key::new(6);
+/// Selects `IFLA_INET6_TOKEN` of [`Inet6`] (`include/uapi/linux/if_link.h`).
+pub const IFLA_INET6_TOKEN: Key<Inet6, Ipv6Addr> = Key::new(7);
+/// Selects `IFLA_INET6_ADDR_GEN_MODE` of [`Inet6`] (`include/uapi/linux/if_link.h`).
+pub const IFLA_INET6_ADDR_GEN_MODE: Key<Inet6, AddrGenMode> = Key::new(8);
+/// Selects `IFLA_INET6_RA_MTU` of [`Inet6`] (`include/uapi/linux/if_link.h`).
+pub const IFLA_INET6_RA_MTU: Key<Inet6, u32> = Key::new(9);
+
+scope! {
+    /// Represents the attribute set [`Family::Mctp`] in types.
+    Mctp;
+}
+
+/// Selects `IFLA_MCTP_NET` of [`Mctp`] (`include/uapi/linux/if_link.h`).
+pub const IFLA_MCTP_NET: Key<Mctp, u32> = Key::new(1);
+/// Selects `IFLA_MCTP_PHYS_BINDING` of [`Mctp`] (`include/uapi/linux/if_link.h`).
+pub const IFLA_MCTP_PHYS_BINDING: Key<Mctp, u8> = Key::new(2);
+
+scope! {
+    /// Represents the attribute set [`Family::Reply`] in types.
+    Reply;
+}
+
+/// Selects `NLMSGERR_ATTR_MSG` of [`Reply`] (`include/uapi/linux/netlink.h`).
+pub const NLMSGERR_ATTR_MSG: Key<Reply, Text> = Key::new(1);
+/// Selects `NLMSGERR_ATTR_OFFS` of [`Reply`] (`include/uapi/linux/netlink.h`).
+pub const NLMSGERR_ATTR_OFFS: Key<Reply, u32> = Key::new(2);
+/// Selects `NLMSGERR_ATTR_COOKIE` of [`Reply`] (`include/uapi/linux/netlink.h`).
+pub const NLMSGERR_ATTR_COOKIE: Key<Reply, Vec<u8>> = Key::new(3);
+/// Selects `NLMSGERR_ATTR_POLICY` of [`Reply`] (`include/uapi/linux/netlink.h`).
+pub const NLMSGERR_ATTR_POLICY: Key<Reply, Held> = Key::new(4);
+/// Selects `NLMSGERR_ATTR_MISS_TYPE` of [`Reply`] (`include/uapi/linux/netlink.h`).
+pub const NLMSGERR_ATTR_MISS_TYPE: Key<Reply, u32> = Key::new(5);
+/// Selects `NLMSGERR_ATTR_MISS_NEST` of [`Reply`] (`include/uapi/linux/netlink.h`).
+pub const NLMSGERR_ATTR_MISS_NEST: Key<Reply, u32> = Key::new(6);
+
+/// Has the places of the array [`IFLA_STATS`]: indices of its `Vec`.
+pub mod link_stats {
+    /// Is the place of `rx_packets`.
+    pub const RX_PACKETS: usize = 0;
+    /// Is the place of `tx_packets`.
+    pub const TX_PACKETS: usize = 1;
+    /// Is the place of `rx_bytes`.
+    pub const RX_BYTES: usize = 2;
+    /// Is the place of `tx_bytes`.
+    pub const TX_BYTES: usize = 3;
+    /// Is the place of `rx_errors`.
+    pub const RX_ERRORS: usize = 4;
+    /// Is the place of `tx_errors`.
+    pub const TX_ERRORS: usize = 5;
+    /// Is the place of `rx_dropped`.
+    pub const RX_DROPPED: usize = 6;
+    /// Is the place of `tx_dropped`.
+    pub const TX_DROPPED: usize = 7;
+    /// Is the place of `multicast`.
+    pub const MULTICAST: usize = 8;
+    /// Is the place of `collisions`.
+    pub const COLLISIONS: usize = 9;
+    /// Is the place of `rx_length_errors`.
+    pub const RX_LENGTH_ERRORS: usize = 10;
+    /// Is the place of `rx_over_errors`.
+    pub const RX_OVER_ERRORS: usize = 11;
+    /// Is the place of `rx_crc_errors`.
+    pub const RX_CRC_ERRORS: usize = 12;
+    /// Is the place of `rx_frame_errors`.
+    pub const RX_FRAME_ERRORS: usize = 13;
+    /// Is the place of `rx_fifo_errors`.
+    pub const RX_FIFO_ERRORS: usize = 14;
+    /// Is the place of `rx_missed_errors`.
+    pub const RX_MISSED_ERRORS: usize = 15;
+    /// Is the place of `tx_aborted_errors`.
+    pub const TX_ABORTED_ERRORS: usize = 16;
+    /// Is the place of `tx_carrier_errors`.
+    pub const TX_CARRIER_ERRORS: usize = 17;
+    /// Is the place of `tx_fifo_errors`.
+    pub const TX_FIFO_ERRORS: usize = 18;
+    /// Is the place of `tx_heartbeat_errors`.
+    pub const TX_HEARTBEAT_ERRORS: usize = 19;
+    /// Is the place of `tx_window_errors`.
+    pub const TX_WINDOW_ERRORS: usize = 20;
+    /// Is the place of `rx_compressed`.
+    pub const RX_COMPRESSED: usize = 21;
+    /// Is the place of `tx_compressed`.
+    pub const TX_COMPRESSED: usize = 22;
+    /// Is the place of `rx_nohandler`.
+    pub const RX_NOHANDLER: usize = 23;
+}
+
+/// Has the places of the array [`IFLA_STATS64`]: indices of its `Vec`.
+pub mod link_stats64 {
+    /// Is the place of `rx_packets`.
+    pub const RX_PACKETS: usize = 0;
+    /// Is the place of `tx_packets`.
+    pub const TX_PACKETS: usize = 1;
+    /// Is the place of `rx_bytes`.
+    pub const RX_BYTES: usize = 2;
+    /// Is the place of `tx_bytes`.
+    pub const TX_BYTES: usize = 3;
+    /// Is the place of `rx_errors`.
+    pub const RX_ERRORS: usize = 4;
+    /// Is the place of `tx_errors`.
+    pub const TX_ERRORS: usize = 5;
+    /// Is the place of `rx_dropped`.
+    pub const RX_DROPPED: usize = 6;
+    /// Is the place of `tx_dropped`.
+    pub const TX_DROPPED: usize = 7;
+    /// Is the place of `multicast`.
+    pub const MULTICAST: usize = 8;
+    /// Is the place of `collisions`.
+    pub const COLLISIONS: usize = 9;
+    /// Is the place of `rx_length_errors`.
+    pub const RX_LENGTH_ERRORS: usize = 10;
+    /// Is the place of `rx_over_errors`.
+    pub const RX_OVER_ERRORS: usize = 11;
+    /// Is the place of `rx_crc_errors`.
+    pub const RX_CRC_ERRORS: usize = 12;
+    /// Is the place of `rx_frame_errors`.
+    pub const RX_FRAME_ERRORS: usize = 13;
+    /// Is the place of `rx_fifo_errors`.
+    pub const RX_FIFO_ERRORS: usize = 14;
+    /// Is the place of `rx_missed_errors`.
+    pub const RX_MISSED_ERRORS: usize = 15;
+    /// Is the place of `tx_aborted_errors`.
+    pub const TX_ABORTED_ERRORS: usize = 16;
+    /// Is the place of `tx_carrier_errors`.
+    pub const TX_CARRIER_ERRORS: usize = 17;
+    /// Is the place of `tx_fifo_errors`.
+    pub const TX_FIFO_ERRORS: usize = 18;
+    /// Is the place of `tx_heartbeat_errors`.
+    pub const TX_HEARTBEAT_ERRORS: usize = 19;
+    /// Is the place of `tx_window_errors`.
+    pub const TX_WINDOW_ERRORS: usize = 20;
+    /// Is the place of `rx_compressed`.
+    pub const RX_COMPRESSED: usize = 21;
+    /// Is the place of `tx_compressed`.
+    pub const TX_COMPRESSED: usize = 22;
+    /// Is the place of `rx_nohandler`.
+    pub const RX_NOHANDLER: usize = 23;
+    /// Is the place of `rx_otherhost_dropped`.
+    pub const RX_OTHERHOST_DROPPED: usize = 24;
+}
+
+/// Has the places of the array [`IFLA_INET_CONF`]: indices of its `Vec`.
+pub mod ipv4_conf {
+    /// Is the place of `forwarding`.
+    pub const FORWARDING: usize = 0;
+    /// Is the place of `mc_forwarding`.
+    pub const MC_FORWARDING: usize = 1;
+    /// Is the place of `proxy_arp`.
+    pub const PROXY_ARP: usize = 2;
+    /// Is the place of `accept_redirects`.
+    pub const ACCEPT_REDIRECTS: usize = 3;
+    /// Is the place of `secure_redirects`.
+    pub const SECURE_REDIRECTS: usize = 4;
+    /// Is the place of `send_redirects`.
+    pub const SEND_REDIRECTS: usize = 5;
+    /// Is the place of `shared_media`.
+    pub const SHARED_MEDIA: usize = 6;
+    /// Is the place of `rp_filter`.
+    pub const RP_FILTER: usize = 7;
+    /// Is the place of `accept_source_route`.
+    pub const ACCEPT_SOURCE_ROUTE: usize = 8;
+    /// Is the place of `bootp_relay`.
+    pub const BOOTP_RELAY: usize = 9;
+    /// Is the place of `log_martians`.
+    pub const LOG_MARTIANS: usize = 10;
+    /// Is the place of `tag`.
+    pub const TAG: usize = 11;
+    /// Is the place of `arpfilter`.
+    pub const ARPFILTER: usize = 12;
+    /// Is the place of `medium_id`.
+    pub const MEDIUM_ID: usize = 13;
+    /// Is the place of `noxfrm`.
+    pub const NOXFRM: usize = 14;
+    /// Is the place of `nopolicy`.
+    pub const NOPOLICY: usize = 15;
+    /// Is the place of `force_igmp_version`.
+    pub const FORCE_IGMP_VERSION: usize = 16;
+    /// Is the place of `arp_announce`.
+    pub const ARP_ANNOUNCE: usize = 17;
+    /// Is the place of `arp_ignore`.
+    pub const ARP_IGNORE: usize = 18;
+    /// Is the place of `promote_secondaries`.
+    pub const PROMOTE_SECONDARIES: usize = 19;
+    /// Is the place of `arp_accept`.
+    pub const ARP_ACCEPT: usize = 20;
+    /// Is the place of `arp_notify`.
+    pub const ARP_NOTIFY: usize = 21;
+    /// Is the place of `accept_local`.
+    pub const ACCEPT_LOCAL: usize = 22;
+    /// Is the place of `src_vmark`.
+    pub const SRC_VMARK: usize = 23;
+    /// Is the place of `proxy_arp_pvlan`.
+    pub const PROXY_ARP_PVLAN: usize = 24;
+    /// Is the place of `route_localnet`.
+    pub const ROUTE_LOCALNET: usize = 25;
+    /// Is the place of `igmpv2_unsolicited_report_interval`.
+    pub const IGMPV2_UNSOLICITED_REPORT_INTERVAL: usize = 26;
+    /// Is the place of `igmpv3_unsolicited_report_interval`.
+    pub const IGMPV3_UNSOLICITED_REPORT_INTERVAL: usize = 27;
+    /// Is the place of `ignore_routes_with_linkdown`.
+    pub const IGNORE_ROUTES_WITH_LINKDOWN: usize = 28;
+    /// Is the place of `drop_unicast_in_l2_multicast`.
+    pub const DROP_UNICAST_IN_L2_MULTICAST: usize = 29;
+    /// Is the place of `drop_gratuitous_arp`.
+    pub const DROP_GRATUITOUS_ARP: usize = 30;
+    /// Is the place of `bc_forwarding`.
+    pub const BC_FORWARDING: usize = 31;
+    /// Is the place of `arp_evict_nocarrier`.
+    pub const ARP_EVICT_NOCARRIER: usize = 32;
+}
+
+/// Has the places of the array [`IFLA_INET6_CONF`]: indices of its `Vec`.
+pub mod ipv6_conf {
+    /// Is the place of `forwarding`.
+    pub const FORWARDING: usize = 0;
+    /// Is the place of `hoplimit`.
+    pub const HOPLIMIT: usize = 1;
+    /// Is the place of `mtu6`.
+    pub const MTU6: usize = 2;
+    /// Is the place of `accept_ra`.
+    pub const ACCEPT_RA: usize = 3;
+    /// Is the place of `accept_redirects`.
+    pub const ACCEPT_REDIRECTS: usize = 4;
+    /// Is the place of `autoconf`.
+    pub const AUTOCONF: usize = 5;
+    /// Is the place of `dad_transmits`.
+    pub const DAD_TRANSMITS: usize = 6;
+    /// Is the place of `rtr_solicits`.
+    pub const RTR_SOLICITS: usize = 7;
+    /// Is the place of `rtr_solicit_interval`.
+    pub const RTR_SOLICIT_INTERVAL: usize = 8;
+    /// Is the place of `rtr_solicit_delay`.
+    pub const RTR_SOLICIT_DELAY: usize = 9;
+    /// Is the place of `use_tempaddr`.
+    pub const USE_TEMPADDR: usize = 10;
+    /// Is the place of `temp_valid_lft`.
+    pub const TEMP_VALID_LFT: usize = 11;
+    /// Is the place of `temp_prefered_lft`.
+    pub const TEMP_PREFERED_LFT: usize = 12;
+    /// Is the place of `regen_max_retry`.
+    pub const REGEN_MAX_RETRY: usize = 13;
+    /// Is the place of `max_desync_factor`.
+    pub const MAX_DESYNC_FACTOR: usize = 14;
+    /// Is the place of `max_addresses`.
+    pub const MAX_ADDRESSES: usize = 15;
+    /// Is the place of `force_mld_version`.
+    pub const FORCE_MLD_VERSION: usize = 16;
+    /// Is the place of `accept_ra_defrtr`.
+    pub const ACCEPT_RA_DEFRTR: usize = 17;
+    /// Is the place of `accept_ra_pinfo`.
+    pub const ACCEPT_RA_PINFO: usize = 18;
+    /// Is the place of `accept_ra_rtr_pref`.
+    pub const ACCEPT_RA_RTR_PREF: usize = 19;
+    /// Is the place of `rtr_probe_interval`.
+    pub const RTR_PROBE_INTERVAL: usize = 20;
+    /// Is the place of `accept_ra_rt_info_max_plen`.
+    pub const ACCEPT_RA_RT_INFO_MAX_PLEN: usize = 21;
+    /// Is the place of `proxy_ndp`.
+    pub const PROXY_NDP: usize = 22;
+    /// Is the place of `optimistic_dad`.
+    pub const OPTIMISTIC_DAD: usize = 23;
+    /// Is the place of `accept_source_route`.
+    pub const ACCEPT_SOURCE_ROUTE: usize = 24;
+    /// Is the place of `mc_forwarding`.
+    pub const MC_FORWARDING: usize = 25;
+    /// Is the place of `disable_ipv6`.
+    pub const DISABLE_IPV6: usize = 26;
+    /// Is the place of `accept_dad`.
+    pub const ACCEPT_DAD: usize = 27;
+    /// Is the place of `force_tllao`.
+    pub const FORCE_TLLAO: usize = 28;
+    /// Is the place of `ndisc_notify`.
+    pub const NDISC_NOTIFY: usize = 29;
+    /// Is the place of `mldv1_unsolicited_report_interval`.
+    pub const MLDV1_UNSOLICITED_REPORT_INTERVAL: usize = 30;
+    /// Is the place of `mldv2_unsolicited_report_interval`.
+    pub const MLDV2_UNSOLICITED_REPORT_INTERVAL: usize = 31;
+    /// Is the place of `suppress_frag_ndisc`.
+    pub const SUPPRESS_FRAG_NDISC: usize = 32;
+    /// Is the place of `accept_ra_from_local`.
+    pub const ACCEPT_RA_FROM_LOCAL: usize = 33;
+    /// Is the place of `use_optimistic`.
+    pub const USE_OPTIMISTIC: usize = 34;
+    /// Is the place of `accept_ra_mtu`.
+    pub const ACCEPT_RA_MTU: usize = 35;
+    /// Is the place of `stable_secret`.
+    pub const STABLE_SECRET: usize = 36;
+    /// Is the place of `use_oif_addrs_only`.
+    pub const USE_OIF_ADDRS_ONLY: usize = 37;
+    /// Is the place of `accept_ra_min_hop_limit`.
+    pub const ACCEPT_RA_MIN_HOP_LIMIT: usize = 38;
+    /// Is the place of `ignore_routes_with_linkdown`.
+    pub const IGNORE_ROUTES_WITH_LINKDOWN: usize = 39;
+    /// Is the place of `drop_unicast_in_l2_multicast`.
+    pub const DROP_UNICAST_IN_L2_MULTICAST: usize = 40;
+    /// Is the place of `drop_unsolicited_na`.
+    pub const DROP_UNSOLICITED_NA: usize = 41;
+    /// Is the place of `keep_addr_on_down`.
+    pub const KEEP_ADDR_ON_DOWN: usize = 42;
+    /// Is the place of `rtr_solicit_max_interval`.
+    pub const RTR_SOLICIT_MAX_INTERVAL: usize = 43;
+    /// Is the place of `seg6_enabled`.
+    pub const SEG6_ENABLED: usize = 44;
+    /// Is the place of `seg6_require_hmac`.
+    pub const SEG6_REQUIRE_HMAC: usize = 45;
+    /// Is the place of `enhanced_dad`.
+    pub const ENHANCED_DAD: usize = 46;
+    /// Is the place of `addr_gen_mode`.
+    pub const ADDR_GEN_MODE: usize = 47;
+    /// Is the place of `disable_policy`.
+    pub const DISABLE_POLICY: usize = 48;
+    /// Is the place of `accept_ra_rt_info_min_plen`.
+    pub const ACCEPT_RA_RT_INFO_MIN_PLEN: usize = 49;
+    /// Is the place of `ndisc_tclass`.
+    pub const NDISC_TCLASS: usize = 50;
+    /// Is the place of `rpl_seg_enabled`.
+    pub const RPL_SEG_ENABLED: usize = 51;
+    /// Is the place of `ra_defrtr_metric`.
+    pub const RA_DEFRTR_METRIC: usize = 52;
+    /// Is the place of `ioam6_enabled`.
+    pub const IOAM6_ENABLED: usize = 53;
+    /// Is the place of `ioam6_id`.
+    pub const IOAM6_ID: usize = 54;
+    /// Is the place of `ioam6_id_wide`.
+    pub const IOAM6_ID_WIDE: usize = 55;
+    /// Is the place of `ndisc_evict_nocarrier`.
+    pub const NDISC_EVICT_NOCARRIER: usize = 56;
+    /// Is the place of `accept_untracked_na`.
+    pub const ACCEPT_UNTRACKED_NA: usize = 57;
+    /// Is the place of `accept_ra_min_lft`.
+    pub const ACCEPT_RA_MIN_LFT: usize = 58;
+    /// Is the place of `force_forwarding`.
+    pub const FORCE_FORWARDING: usize = 59;
+}
+
 /// Calls a visitor for each key.
 #[cfg(test)]
 pub(crate) fn visit_keys(visitor: &mut impl crate::tests::Visitor) {
@@ -1164,4 +1847,113 @@ pub(crate) fn visit_keys(visitor: &mut impl crate::tests::Visitor) {
     visitor.attribute("IFLA_VXLAN_LABEL_POLICY", IFLA_VXLAN_LABEL_POLICY);
     visitor.attribute("IFLA_VXLAN_RESERVED_BITS", IFLA_VXLAN_RESERVED_BITS);
     visitor.attribute("IFLA_VXLAN_MC_ROUTE", IFLA_VXLAN_MC_ROUTE);
+    visitor.attribute("IFLA_ADDRESS", IFLA_ADDRESS);
+    visitor.attribute("IFLA_BROADCAST", IFLA_BROADCAST);
+    visitor.attribute("IFLA_IFNAME", IFLA_IFNAME);
+    visitor.attribute("IFLA_MTU", IFLA_MTU);
+    visitor.attribute("IFLA_LINK", IFLA_LINK);
+    visitor.attribute("IFLA_QDISC", IFLA_QDISC);
+    visitor.attribute("IFLA_STATS", IFLA_STATS);
+    visitor.attribute("IFLA_COST", IFLA_COST);
+    visitor.attribute("IFLA_PRIORITY", IFLA_PRIORITY);
+    visitor.attribute("IFLA_MASTER", IFLA_MASTER);
+    visitor.attribute("IFLA_WIRELESS", IFLA_WIRELESS);
+    visitor.attribute("IFLA_TXQLEN", IFLA_TXQLEN);
+    visitor.attribute("IFLA_MAP", IFLA_MAP);
+    visitor.attribute("IFLA_WEIGHT", IFLA_WEIGHT);
+    visitor.attribute("IFLA_OPERSTATE", IFLA_OPERSTATE);
+    visitor.attribute("IFLA_LINKMODE", IFLA_LINKMODE);
+    visitor.attribute("IFLA_LINKINFO", IFLA_LINKINFO);
+    visitor.element(IFLA_LINKINFO, "IFLA_INFO_KIND", IFLA_INFO_KIND);
+    visitor.element(IFLA_LINKINFO, "IFLA_INFO_DATA", IFLA_INFO_DATA);
+    visitor.element(IFLA_LINKINFO, "IFLA_INFO_XSTATS", IFLA_INFO_XSTATS);
+    visitor.element(IFLA_LINKINFO, "IFLA_INFO_SLAVE_KIND", IFLA_INFO_SLAVE_KIND);
+    visitor.element(IFLA_LINKINFO, "IFLA_INFO_SLAVE_DATA", IFLA_INFO_SLAVE_DATA);
+    visitor.attribute("IFLA_NET_NS_PID", IFLA_NET_NS_PID);
+    visitor.attribute("IFLA_IFALIAS", IFLA_IFALIAS);
+    visitor.attribute("IFLA_NUM_VF", IFLA_NUM_VF);
+    visitor.attribute("IFLA_VFINFO_LIST", IFLA_VFINFO_LIST);
+    visitor.attribute("IFLA_STATS64", IFLA_STATS64);
+    visitor.attribute("IFLA_VF_PORTS", IFLA_VF_PORTS);
+    visitor.attribute("IFLA_PORT_SELF", IFLA_PORT_SELF);
+    visitor.attribute("IFLA_AF_SPEC", IFLA_AF_SPEC);
+    visitor.attribute("IFLA_GROUP", IFLA_GROUP);
+    visitor.attribute("IFLA_NET_NS_FD", IFLA_NET_NS_FD);
+    visitor.attribute("IFLA_EXT_MASK", IFLA_EXT_MASK);
+    visitor.attribute("IFLA_PROMISCUITY", IFLA_PROMISCUITY);
+    visitor.attribute("IFLA_NUM_TX_QUEUES", IFLA_NUM_TX_QUEUES);
+    visitor.attribute("IFLA_NUM_RX_QUEUES", IFLA_NUM_RX_QUEUES);
+    visitor.attribute("IFLA_CARRIER", IFLA_CARRIER);
+    visitor.attribute("IFLA_PHYS_PORT_ID", IFLA_PHYS_PORT_ID);
+    visitor.attribute("IFLA_CARRIER_CHANGES", IFLA_CARRIER_CHANGES);
+    visitor.attribute("IFLA_PHYS_SWITCH_ID", IFLA_PHYS_SWITCH_ID);
+    visitor.attribute("IFLA_LINK_NETNSID", IFLA_LINK_NETNSID);
+    visitor.attribute("IFLA_PHYS_PORT_NAME", IFLA_PHYS_PORT_NAME);
+    visitor.attribute("IFLA_PROTO_DOWN", IFLA_PROTO_DOWN);
+    visitor.attribute("IFLA_GSO_MAX_SEGS", IFLA_GSO_MAX_SEGS);
+    visitor.attribute("IFLA_GSO_MAX_SIZE", IFLA_GSO_MAX_SIZE);
+    visitor.attribute("IFLA_PAD", IFLA_PAD);
+    visitor.attribute("IFLA_XDP", IFLA_XDP);
+    visitor.element(IFLA_XDP, "IFLA_XDP_FD", IFLA_XDP_FD);
+    visitor.element(IFLA_XDP, "IFLA_XDP_ATTACHED", IFLA_XDP_ATTACHED);
+    visitor.element(IFLA_XDP, "IFLA_XDP_FLAGS", IFLA_XDP_FLAGS);
+    visitor.element(IFLA_XDP, "IFLA_XDP_PROG_ID", IFLA_XDP_PROG_ID);
+    visitor.element(IFLA_XDP, "IFLA_XDP_DRV_PROG_ID", IFLA_XDP_DRV_PROG_ID);
+    visitor.element(IFLA_XDP, "IFLA_XDP_SKB_PROG_ID", IFLA_XDP_SKB_PROG_ID);
+    visitor.element(IFLA_XDP, "IFLA_XDP_HW_PROG_ID", IFLA_XDP_HW_PROG_ID);
+    visitor.element(IFLA_XDP, "IFLA_XDP_EXPECTED_FD", IFLA_XDP_EXPECTED_FD);
+    visitor.attribute("IFLA_EVENT", IFLA_EVENT);
+    visitor.attribute("IFLA_NEW_NETNSID", IFLA_NEW_NETNSID);
+    visitor.attribute("IFLA_TARGET_NETNSID", IFLA_TARGET_NETNSID);
+    visitor.attribute("IFLA_CARRIER_UP_COUNT", IFLA_CARRIER_UP_COUNT);
+    visitor.attribute("IFLA_CARRIER_DOWN_COUNT", IFLA_CARRIER_DOWN_COUNT);
+    visitor.attribute("IFLA_NEW_IFINDEX", IFLA_NEW_IFINDEX);
+    visitor.attribute("IFLA_MIN_MTU", IFLA_MIN_MTU);
+    visitor.attribute("IFLA_MAX_MTU", IFLA_MAX_MTU);
+    visitor.attribute("IFLA_PROP_LIST", IFLA_PROP_LIST);
+    visitor.element(IFLA_PROP_LIST, "IFLA_ALT_IFNAME", prop_list::IFLA_ALT_IFNAME);
+    visitor.attribute("IFLA_ALT_IFNAME", IFLA_ALT_IFNAME);
+    visitor.attribute("IFLA_PERM_ADDRESS", IFLA_PERM_ADDRESS);
+    visitor.attribute("IFLA_PROTO_DOWN_REASON", IFLA_PROTO_DOWN_REASON);
+    visitor.element(IFLA_PROTO_DOWN_REASON, "IFLA_PROTO_DOWN_REASON_MASK", IFLA_PROTO_DOWN_REASON_MASK);
+    visitor.element(IFLA_PROTO_DOWN_REASON, "IFLA_PROTO_DOWN_REASON_VALUE", IFLA_PROTO_DOWN_REASON_VALUE);
+    visitor.attribute("IFLA_PARENT_DEV_NAME", IFLA_PARENT_DEV_NAME);
+    visitor.attribute("IFLA_PARENT_DEV_BUS_NAME", IFLA_PARENT_DEV_BUS_NAME);
+    visitor.attribute("IFLA_GRO_MAX_SIZE", IFLA_GRO_MAX_SIZE);
+    visitor.attribute("IFLA_TSO_MAX_SIZE", IFLA_TSO_MAX_SIZE);
+    visitor.attribute("IFLA_TSO_MAX_SEGS", IFLA_TSO_MAX_SEGS);
+    visitor.attribute("IFLA_ALLMULTI", IFLA_ALLMULTI);
+    visitor.attribute("IFLA_DEVLINK_PORT", IFLA_DEVLINK_PORT);
+    visitor.element(IFLA_DEVLINK_PORT, "DEVLINK_ATTR_BUS_NAME", DEVLINK_ATTR_BUS_NAME);
+    visitor.element(IFLA_DEVLINK_PORT, "DEVLINK_ATTR_DEV_NAME", DEVLINK_ATTR_DEV_NAME);
+    visitor.element(IFLA_DEVLINK_PORT, "DEVLINK_ATTR_PORT_INDEX", DEVLINK_ATTR_PORT_INDEX);
+    visitor.attribute("IFLA_GSO_IPV4_MAX_SIZE", IFLA_GSO_IPV4_MAX_SIZE);
+    visitor.attribute("IFLA_GRO_IPV4_MAX_SIZE", IFLA_GRO_IPV4_MAX_SIZE);
+    visitor.attribute("IFLA_DPLL_PIN", IFLA_DPLL_PIN);
+    visitor.element(IFLA_DPLL_PIN, "DPLL_A_PIN_ID", DPLL_A_PIN_ID);
+    visitor.attribute("IFLA_MAX_PACING_OFFLOAD_HORIZON", IFLA_MAX_PACING_OFFLOAD_HORIZON);
+    visitor.attribute("IFLA_NETNS_IMMUTABLE", IFLA_NETNS_IMMUTABLE);
+    visitor.attribute("IFLA_HEADROOM", IFLA_HEADROOM);
+    visitor.attribute("IFLA_TAILROOM", IFLA_TAILROOM);
+    visitor.attribute("AF_INET", AF_INET);
+    visitor.attribute("AF_INET6", AF_INET6);
+    visitor.attribute("AF_MCTP", AF_MCTP);
+    visitor.attribute("IFLA_INET_CONF", IFLA_INET_CONF);
+    visitor.attribute("IFLA_INET6_FLAGS", IFLA_INET6_FLAGS);
+    visitor.attribute("IFLA_INET6_CONF", IFLA_INET6_CONF);
+    visitor.attribute("IFLA_INET6_STATS", IFLA_INET6_STATS);
+    visitor.attribute("IFLA_INET6_MCAST", IFLA_INET6_MCAST);
+    visitor.attribute("IFLA_INET6_CACHEINFO", IFLA_INET6_CACHEINFO);
+    visitor.attribute("IFLA_INET6_ICMP6STATS", IFLA_INET6_ICMP6STATS);
+    visitor.attribute("IFLA_INET6_TOKEN", IFLA_INET6_TOKEN);
+    visitor.attribute("IFLA_INET6_ADDR_GEN_MODE", IFLA_INET6_ADDR_GEN_MODE);
+    visitor.attribute("IFLA_INET6_RA_MTU", IFLA_INET6_RA_MTU);
+    visitor.attribute("IFLA_MCTP_NET", IFLA_MCTP_NET);
+    visitor.attribute("IFLA_MCTP_PHYS_BINDING", IFLA_MCTP_PHYS_BINDING);
+    visitor.attribute("NLMSGERR_ATTR_MSG", NLMSGERR_ATTR_MSG);
+    visitor.attribute("NLMSGERR_ATTR_OFFS", NLMSGERR_ATTR_OFFS);
+    visitor.attribute("NLMSGERR_ATTR_COOKIE", NLMSGERR_ATTR_COOKIE);
+    visitor.attribute("NLMSGERR_ATTR_POLICY", NLMSGERR_ATTR_POLICY);
+    visitor.attribute("NLMSGERR_ATTR_MISS_TYPE", NLMSGERR_ATTR_MISS_TYPE);
+    visitor.attribute("NLMSGERR_ATTR_MISS_NEST", NLMSGERR_ATTR_MISS_NEST);
 }

@@ -82,7 +82,9 @@ pub use field::Field;
 pub use kinds::*;
 pub use list::{find, find_in, List, Nested};
 pub use scope::{Any, Key, Scope, Set};
-pub use types::{BerrCounter, BridgeId, CanBitTiming, CanBitTimingConst, Mac, Masked, QosMapping, VlanInfo};
+pub use types::{
+    BerrCounter, BridgeId, CanBitTiming, CanBitTimingConst, Held, Mac, Masked, QosMapping, Text, VlanInfo,
+};
 pub use value::{Content, Iter, Value};
 
 /// Returns the mark of the library that is linked: version, `proved` or `unproved`, commit and toolchain.

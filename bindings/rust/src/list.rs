@@ -331,7 +331,8 @@ impl<S> fmt::Debug for List<'_, S> {
 }
 
 impl<S> fmt::Display for List<'_, S> {
-    /// Writes a line for each attribute, and indented below it one for each of its elements.
+    /// Writes a line for each attribute, and indented below it one for each of its elements. Of a list of another set, it
+    /// writes the length.
     fn fmt(&self, f: &mut fmt::Formatter<'_>) -> fmt::Result {
         self.iter().try_for_each(|value| writeln!(f, "{value}"))
     }

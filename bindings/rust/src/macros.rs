@@ -24,10 +24,25 @@ macro_rules! families {
                 }
             }
 
-            /// Returns the attribute set that has a [`name`](Family::name), or `None`. For sets in `IFLA_INFO_DATA`,
-            /// this is the name in `IFLA_INFO_KIND`.
+            /// Returns the attribute set that has a [`name`](Family::name), or `None`.
             pub fn from_name(name: &str) -> Option<Family> {
                 Family::ALL.into_iter().find(|family| family.name() == name)
+            }
+
+            /// Returns the attribute set of the devices of a kind (`IFLA_INFO_KIND`), such as `bond`, or `None`. It is the
+            /// set of their `IFLA_INFO_DATA`. `kind` has no NUL at its end.
+            pub fn from_info_kind(kind: &[u8]) -> Option<Family> {
+                Family::from_number($crate::sys::from_info_kind(kind)?)
+            }
+
+            /// Returns the attribute set of the ports of a kind (`IFLA_INFO_SLAVE_KIND`), such as `bond`, or `None`. It is
+            /// the set of their `IFLA_INFO_SLAVE_DATA`. `kind` has no NUL at its end.
+            pub fn from_port_kind(kind: &[u8]) -> Option<Family> {
+                Family::from_number($crate::sys::from_port_kind(kind)?)
+            }
+
+            fn from_number(number: u32) -> Option<Family> {
+                Family::ALL.into_iter().find(|&family| family as u32 == number)
             }
         }
     };

@@ -86,6 +86,8 @@ extern "C" {
         len: usize,
         field: *mut RawField,
     ) -> isize;
+    fn nlroute_from_info_kind(kind: *const c_char, len: usize) -> isize;
+    fn nlroute_from_port_kind(kind: *const c_char, len: usize) -> isize;
     fn nlroute_kind_name(family: u32, value: *const Raw, text: *mut c_char, room: usize) -> isize;
     fn nlroute_text(
         family: u32,
@@ -202,6 +204,18 @@ pub fn field(family: u32, value: &Raw, index: usize, octets: &[u8]) -> Option<Ra
     // SAFETY: the inputs are a reference and a slice; the output is a local variable.
     let code = unsafe { nlroute_field(family, value, index, octets.as_ptr(), octets.len(), &mut field) };
     (code == 0).then_some(field)
+}
+
+/// Returns the number of the attribute set of devices of a kind.
+pub fn from_info_kind(kind: &[u8]) -> Option<u32> {
+    // SAFETY: the pointer and the length are those of `kind`.
+    u32::try_from(unsafe { nlroute_from_info_kind(kind.as_ptr().cast(), kind.len()) }).ok()
+}
+
+/// Returns the number of the attribute set of ports of a kind.
+pub fn from_port_kind(kind: &[u8]) -> Option<u32> {
+    // SAFETY: the pointer and the length are those of `kind`.
+    u32::try_from(unsafe { nlroute_from_port_kind(kind.as_ptr().cast(), kind.len()) }).ok()
 }
 
 /// Returns the bytes of a list, or the index of the value that cannot be written, and the error code.

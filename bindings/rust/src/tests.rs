@@ -60,6 +60,10 @@ samples! {
     };
     Vec<u16>: vec![0, 1, u16::MAX];
     Vec<u32>: vec![0, 1, u32::MAX];
+    Vec<i32>: vec![0, -1, i32::MAX, i32::MIN];
+    Vec<u64>: vec![0, 1, u64::MAX];
+    Text: Text(b"eth0\xff".to_vec());
+    Held: Held(vec![5, 0, 1]);
     Vec<Ipv4Addr>: vec![Ipv4Addr::LOCALHOST, Ipv4Addr::BROADCAST];
     Vec<Ipv6Addr>: vec![Ipv6Addr::LOCALHOST, Ipv6Addr::UNSPECIFIED];
     Vec<QosMapping>: vec![QosMapping { from: 1, to: 2 }, Sample::sample()];
@@ -67,12 +71,17 @@ samples! {
 
 impl Sample for Vec<u8> {
     fn sample() -> Self {
-        vec![1, 2, 3, 4, 5, 6, 7, 8]
+        (1..=32).collect()
     }
 
     fn sample_for(name: &str) -> Self {
         // (the bytes of a struct are as many as it has)
-        let size = if name == "IFLA_VXLAN_PORT_RANGE" { 4 } else { 8 };
+        let size = match name {
+            "IFLA_VXLAN_PORT_RANGE" => 4,
+            "IFLA_INET6_CACHEINFO" => 16,
+            "IFLA_MAP" => 32,
+            _ => 8,
+        };
         Self::sample()[..size].to_vec()
     }
 }
@@ -99,7 +108,9 @@ fn kinds_of_header() -> HashMap<String, u16> {
     let folders = ["/include", "/../../crates/nlroute_ffi/include"];
     let read = |it| std::fs::read_to_string(format!("{}{it}/nlroute_kinds.h", env!("CARGO_MANIFEST_DIR"))).ok();
     let header = folders.iter().find_map(read).expect("the header is in this package or repository");
-    let rows = header.lines().filter_map(|line| line.strip_prefix("    NLROUTE_")?.split_once(" = "));
+    // (places of arrays are not types)
+    let types = header.split("/* Places of the array ").next().unwrap_or_default();
+    let rows = types.lines().filter_map(|line| line.strip_prefix("    NLROUTE_")?.split_once(" = "));
     let number = |text: &str| text.split(|it: char| !it.is_ascii_digit()).next()?.parse().ok();
     rows.filter_map(|(name, rest)| Some((name.to_string(), number(rest)?))).collect()
 }
@@ -182,4 +193,7 @@ fn families_have_the_names_of_the_library() {
         assert_eq!(Family::from_name(family.name()), Some(family));
     }
     assert_eq!(Family::from_name("zz9"), None);
+    assert_eq!(Family::from_info_kind(b"bond"), Some(Family::Bond));
+    assert_eq!(Family::from_port_kind(b"bond"), Some(Family::BondPort));
+    assert_eq!((Family::from_info_kind(b"bond_port"), Family::from_port_kind(b"vlan")), (None, None));
 }

@@ -1,7 +1,7 @@
 //! Types of values that are structs of the kernel or addresses.
 
 use crate::error::ParseMacError;
-use crate::BridgeVlanFlags;
+use crate::{BridgeVlanFlags, Fault, List, Set};
 use std::borrow::Cow;
 use std::fmt;
 use std::str::FromStr;
@@ -58,6 +58,80 @@ impl FromStr for Mac {
 fn octet_of(digits: &str) -> Option<u8> {
     let is_number = matches!(digits.len(), 1 | 2) && digits.bytes().all(|digit| digit.is_ascii_hexdigit());
     is_number.then(|| u8::from_str_radix(digits, 16).ok()).flatten()
+}
+
+/// Holds a text: its bytes, and the NUL at their end if the attribute has one.
+///
+/// ```
+/// use nlroute::Text;
+///
+/// let name = Text::from("eth0");
+/// assert_eq!((name.0.as_slice(), name.to_string().as_str()), (b"eth0\0".as_slice(), "eth0"));
+/// assert_eq!(Text(b"eth0".to_vec()).to_str(), name.to_str());
+/// ```
+#[derive(Clone, PartialEq, Eq, Hash, PartialOrd, Ord, Default)]
+pub struct Text(
+    /// Holds the bytes.
+    pub Vec<u8>,
+);
+
+impl Text {
+    /// Returns the text without a NUL at its end, or `None` if it is not UTF-8.
+    pub fn to_str(&self) -> Option<&str> {
+        std::str::from_utf8(without_nul(&self.0)).ok()
+    }
+}
+
+impl From<&str> for Text {
+    /// Returns the text with a NUL at its end, as the kernel sends most texts.
+    fn from(text: &str) -> Text {
+        Text([text.as_bytes(), &[0]].concat())
+    }
+}
+
+impl fmt::Display for Text {
+    /// Writes the text without a NUL at its end. Bytes that are not UTF-8 are written as U+FFFD.
+    fn fmt(&self, f: &mut fmt::Formatter<'_>) -> fmt::Result {
+        f.pad(&String::from_utf8_lossy(without_nul(&self.0)))
+    }
+}
+
+impl fmt::Debug for Text {
+    fn fmt(&self, f: &mut fmt::Formatter<'_>) -> fmt::Result {
+        fmt::Debug::fmt(&String::from_utf8_lossy(&self.0), f)
+    }
+}
+
+/// Returns the bytes without a NUL at their end.
+fn without_nul(bytes: &[u8]) -> &[u8] {
+    bytes.strip_suffix(&[0]).unwrap_or(bytes)
+}
+
+/// Holds a list of attributes of another set, as bytes.
+///
+/// ```
+/// use nlroute::*;
+///
+/// let vlan = List::<Vlan>::new().with(IFLA_VLAN_ID, 5).to_bytes()?;
+/// let held = Held(vlan);
+/// assert_eq!(held.read::<Vlan>()?.get(IFLA_VLAN_ID), Some(5));
+/// # Ok::<(), Box<dyn std::error::Error>>(())
+/// ```
+#[derive(Clone, Debug, PartialEq, Eq, Hash, Default)]
+pub struct Held(
+    /// Holds the bytes.
+    pub Vec<u8>,
+);
+
+impl Held {
+    /// Reads the list, as one of a set.
+    ///
+    /// # Errors
+    ///
+    /// Returns the first error of a list that is malformed.
+    pub fn read<S: Set>(&self) -> Result<List<'_, S>, Fault> {
+        List::read(&self.0)
+    }
 }
 
 /// Holds flags, and a mask of those that a request sets or clears (`struct ifla_vlan_flags`, `struct can_ctrlmode`,

@@ -12,12 +12,15 @@ use std::net::{Ipv4Addr, Ipv6Addr};
 /// Flags of `nla_type` (`linux/netlink.h`).
 const NLA_F_NESTED: u16 = 0x8000;
 const NLA_F_NET_BYTEORDER: u16 = 0x4000;
+/// A place that no array has: an attribute has fewer bytes.
+const LAST_PLACE: u16 = u16::MAX;
 
 /// Refers to an attribute of a list, or to an element of an attribute that is a list.
 ///
 /// `Display` writes the name and the value, as `nlshow` prints them: `IFLA_BOND_MODE 802.3ad (4)`. Addresses and
-/// numbers of a list follow its name; other elements are lines of their own, indented by two blanks. Two values are
-/// equal if their types and contents are.
+/// numbers of a list follow its name; other elements are lines of their own, indented by two blanks. Of a list of another
+/// set, such as `IFLA_INFO_DATA`, `nlshow` prints the attributes, and `Display` the length. Two values are equal if their
+/// types and contents are.
 #[derive(Clone, Copy)]
 pub struct Value<'a> {
     pub(crate) family: Family,
@@ -44,8 +47,8 @@ impl<'a> Value<'a> {
         }
     }
 
-    /// Returns the kernel's constant, such as `IFLA_BOND_MODE`. It is `type 99` if the type is not known, and `[3]` for
-    /// an address or a number of a list.
+    /// Returns the kernel's constant, such as `IFLA_BOND_MODE`. It is `type 99` if the type is not known. For an address
+    /// or a number of a list it is `[3]` or, if its place has a name, `rx_errors`.
     pub fn name(&self) -> String {
         sys::kind_name(self.family as u32, self.raw).to_string()
     }
@@ -116,6 +119,8 @@ impl<'a> Value<'a> {
             form::BITTIMING => Content::CanBitTiming(CanBitTiming::load(*self)?),
             form::BITTIMING_CONST => Content::CanBitTimingConst(CanBitTimingConst::load(*self)?),
             form::BYTES => Content::Bytes(self.payload()),
+            form::TEXT => Content::Text(self.payload()),
+            form::HELD => Content::Held(self.payload()),
             form::LIST => Content::List(self.elements()),
             _ => return None,
         })
@@ -191,10 +196,12 @@ impl fmt::Display for Value<'_> {
             Ok(())
         } else if self.elements.is_empty() {
             f.write_str(" (empty)")
+        } else if !self.is_array() {
+            self.elements().try_for_each(|element| write!(f, "\n  {element}"))
         } else if self.elements().take(1).all(|element| element.name().starts_with('[')) {
             self.write_items(f)
         } else {
-            self.elements().try_for_each(|element| write!(f, "\n  {element}"))
+            self.write_named(f)
         }
     }
 }
@@ -209,6 +216,23 @@ impl Value<'_> {
             write!(f, " {}", if items.values.is_empty() { &text } else { number })?;
         }
         Ok(())
+    }
+
+    /// Returns whether the elements are addresses or numbers: these have places, of which the last one has no name.
+    fn is_array(&self) -> bool {
+        let last = Raw { kind: self.raw.kind, inner: LAST_PLACE, depth: 1, ..Raw::default() };
+        sys::kind_name(self.family as u32, &last).to_string().starts_with('[')
+    }
+
+    /// Writes the numbers of an array whose places have names: those that are not 0, then how many are.
+    fn write_named(&self, f: &mut fmt::Formatter<'_>) -> fmt::Result {
+        let (zero, named): (Vec<_>, Vec<_>) = self.elements().partition(|item| item.raw.number == 0);
+        named.iter().try_for_each(|item| write!(f, " {item}"))?;
+        if zero.is_empty() {
+            Ok(())
+        } else {
+            write!(f, " ({} zero)", zero.len())
+        }
     }
 }
 
@@ -292,6 +316,10 @@ pub enum Content<'a> {
     CanBitTimingConst(CanBitTimingConst),
     /// Holds bytes.
     Bytes(&'a [u8]),
+    /// Holds a text, with the NUL at its end if it has one.
+    Text(&'a [u8]),
+    /// Holds a list of attributes of another set, as bytes.
+    Held(&'a [u8]),
     /// Holds the elements of a list.
     List(Iter<'a>),
     /// Holds an attribute whose type is not known.

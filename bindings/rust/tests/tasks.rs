@@ -102,6 +102,68 @@ fn an_element_is_looked_up() -> Result<(), Fault> {
     Ok(())
 }
 
+/// Returns the attributes of a link: `IFLA_IFNAME` (3), `IFLA_STATS64` (23), which are 25 numbers, and `IFLA_LINKINFO` (18).
+/// This has the kind and, as `IFLA_INFO_DATA` (2), `IFLA_BR_FORWARD_DELAY` (1).
+fn link() -> Vec<u8> {
+    let mut stats = [0u64; 25];
+    (stats[0], stats[2], stats[6]) = (12, 840, 3); // rx_packets, rx_bytes, rx_dropped of struct rtnl_link_stats64
+    let mut bytes = b"\x08\0\x03\0br0\0\xcc\0\x17\0".to_vec();
+    bytes.extend(stats.iter().flat_map(|number| number.to_le_bytes()));
+    bytes.extend(b"\x1c\0\x12\0\x0b\0\x01\0bridge\0\0\x0c\0\x02\0\x08\0\x01\0\xdc\x05\0\0");
+    bytes
+}
+
+#[test]
+fn a_link_is_read_and_written() -> Result<(), Error> {
+    let bytes = link();
+    let link = List::<Link>::read(&bytes)?;
+    assert_eq!(link.get(IFLA_IFNAME), Some("br0".into()));
+    assert_eq!(link.get(IFLA_STATS64).map(|it| it[link_stats64::RX_DROPPED]), Some(3));
+    let line = "IFLA_STATS64 rx_packets 12 rx_bytes 840 rx_dropped 3 (22 zero)";
+    assert_eq!(link.to_string().lines().nth(1), Some(line));
+    let kind = find_in(&bytes, IFLA_LINKINFO, IFLA_INFO_KIND)?.expect("the list has it");
+    assert_eq!(Family::from_info_kind(kind.to_string().as_bytes()), Some(Family::Bridge));
+    let data = find_in(&bytes, IFLA_LINKINFO, IFLA_INFO_DATA)?.expect("the list has it");
+    let bridge = data.read::<Bridge>()?;
+    assert_eq!(bridge.get(IFLA_BR_FORWARD_DELAY), Some(1500));
+    assert_eq!(bridge.to_bytes()?, data.0);
+    assert_eq!(link.to_bytes()?, bytes);
+    Ok(())
+}
+
+#[test]
+fn arrays_are_printed_by_the_names_of_their_places() {
+    let text = |numbers: &[i32]| List::<Inet>::new().with(IFLA_INET_CONF, numbers.to_vec()).to_string();
+    assert_eq!(text(&[1, -1]), "IFLA_INET_CONF forwarding 1 mc_forwarding -1\n");
+    assert_eq!(text(&[0, 0]), "IFLA_INET_CONF (2 zero)\n");
+    assert_eq!(text(&[]), "IFLA_INET_CONF (empty)\n");
+    let mut more = [0; 36];
+    more[33] = 7;
+    assert_eq!(text(&more), "IFLA_INET_CONF [33] 7 (35 zero)\n");
+    let counters = List::<Inet6>::new().with(IFLA_INET6_ICMP6STATS, vec![5, 0]);
+    assert_eq!(counters.to_string(), "IFLA_INET6_ICMP6STATS 5 0\n");
+}
+
+#[test]
+fn a_request_for_a_bridge_is_made() -> Result<(), WriteError> {
+    // as `ip link add br0 type bridge forward_delay 700 vlan_filtering 1 group_address 01:80:c2:00:00:04` sends it
+    let bridge = List::<Bridge>::new()
+        .with(IFLA_BR_FORWARD_DELAY, 700)
+        .with(IFLA_BR_VLAN_FILTERING, true)
+        .with(IFLA_BR_GROUP_ADDR, Mac([1, 0x80, 0xc2, 0, 0, 4]));
+    let info = Nested::<LinkInfo>::new()
+        .with(IFLA_INFO_KIND, Text(b"bridge".to_vec()))
+        .with(IFLA_INFO_DATA, Held(bridge.to_bytes()?));
+    let link = List::<Link>::new().with(IFLA_IFNAME, "br0".into()).with(IFLA_LINKINFO, info);
+    let expected = [
+        &b"\x08\0\x03\0br0\0\x30\0\x12\0\x0a\0\x01\0bridge\0\0\x20\0\x02\0"[..],
+        &[8, 0, 1, 0, 0xbc, 2, 0, 0, 5, 0, 7, 0, 1, 0, 0, 0],
+        &[10, 0, 20, 0, 1, 0x80, 0xc2, 0, 0, 4, 0, 0],
+    ];
+    assert_eq!(link.to_bytes()?, expected.concat());
+    Ok(())
+}
+
 #[test]
 fn structs_have_fields_by_name() -> Result<(), Error> {
     let address = Mac([2, 0, 0, 0, 0, 1]);
