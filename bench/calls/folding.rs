@@ -2,7 +2,7 @@
 
 use link_base::Attribute;
 use link_base::classes::flag_or_bool::flag_is_on;
-use link_base::rows::form::Width;
+use link_base::rows::form::ArrayOf;
 use link_base::views::attribute_set::{AttributeSet, ElementSet, Set};
 use link_base::views::content::Content;
 use link_base::views::view::{Value, View};
@@ -62,7 +62,7 @@ fn folded<N: Nested>(attribute: &N, content: Content<'_>) -> u64 {
         Content::Bytes { bytes, .. } => folded_bytes(bytes),
         Content::Struct { bytes, .. } => folded_bytes(bytes),
         Content::Numbers {
-            width: Width::Two,
+            of: ArrayOf::U16,
             bytes,
         } => folded_halves(bytes),
         Content::Numbers { bytes, .. } => folded_words(bytes),
