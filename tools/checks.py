@@ -86,7 +86,7 @@ class Answer:
                 if note and note[1] == file and turned.has_line(int(note[2])):
                     is_own = not ONLY_A_CALLEE.search(note[3])
                     yield line[len("note: ") :], names_in(note[3], r"\(`([^`]+)`\)") if is_own else []
-                elif error and error[1] == folder:
+                elif error and (error[1] == folder or is_in_cycle(error, folder)):
                     yield line, own_name(error, message)
                 elif goals and goals[1] == seat:
                     yield line, names_in(goals[2])
@@ -131,6 +131,13 @@ class Answer:
 
 def names_in(text, pattern="`([^`]+)`"):
     return re.findall(pattern, text)
+
+
+def is_in_cycle(error, folder):
+    """Whether it is of a goal of the function with this folder, which is proved with others: proofs/MODULE/+CYCLE has them."""
+    module, _, cycle = (error[1] or "").rpartition("/")
+    own, _, name = folder.rpartition("/")
+    return cycle.startswith("+") and module == own and (error[3] or "").startswith(f"{name}-")
 
 
 def own_name(error, message):
