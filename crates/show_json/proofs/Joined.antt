@@ -1,6 +1,6 @@
 -- Documents in sequence.
 use Rattle.std.proofs.Common.{◌≡◌, Bool, true, ◌&&◌, List, [], ◌∷◌, ◌++◌, ℕ, refl, sym, ap₂, subst, ◌∙◌}
-use Rattle.std.specs.List.{flat_map, list_all, AllByRecursion, AllZip}
+use Rattle.std.specs.List.{flat_map, list_all, AllZip}
 use Rattle.std.proofs.lemmas.Grind.{flat_map-append}
 use Rattle.link_json.specs.Line.{IsLine}
 use Rattle.link_json.specs.Message.{document_line}
@@ -24,14 +24,14 @@ pub equal_are : (a b : List ℕ) (v w : Bool) → a ≡ b → v ≡ w → AreDoc
 equal_are a b v w e f h = subst (λ o. AreDocuments o v) (sym e) (subst (AreDocuments b) (sym f) h)
 
 -- those for several items
-module _ {X : Type 0} (fits : X → Type 0) (shows : X → List ℕ → Bool → Type 0) (one : (x : X) (out : List ℕ) (well : Bool) → fits x → shows x out well → AreDocuments out well) where
-  answers_are : (xs : List X) (answers : List (List ℕ × Bool)) → AllByRecursion fits xs → AllZip (λ x a. shows x a.0 a.1) xs answers → AreDocuments (flat_map (λ a. a.0) answers) (list_all (λ a. a.1) answers)
-  answers_are [] [] h k = none_are
-  answers_are [] (a ∷ answers) h k = absurd k
-  answers_are (x ∷ xs) [] h k = absurd k
-  answers_are (x ∷ xs) (a ∷ answers) h k =
-      both_are a.0 (flat_map (λ b. b.0) answers) a.1 (list_all (λ b. b.1) answers) (one x a.0 a.1 h.0 k.0) (answers_are xs answers h.1 k.1)
+module _ {X : Type 0} (shows : X → List ℕ → Bool → Type 0) (one : (x : X) (out : List ℕ) (well : Bool) → shows x out well → AreDocuments out well) where
+  answers_are : (xs : List X) (answers : List (List ℕ × Bool)) → AllZip (λ x a. shows x a.0 a.1) xs answers → AreDocuments (flat_map (λ a. a.0) answers) (list_all (λ a. a.1) answers)
+  answers_are [] [] k = none_are
+  answers_are [] (a ∷ answers) k = absurd k
+  answers_are (x ∷ xs) [] k = absurd k
+  answers_are (x ∷ xs) (a ∷ answers) k =
+      both_are a.0 (flat_map (λ b. b.0) answers) a.1 (list_all (λ b. b.1) answers) (one x a.0 a.1 k.0) (answers_are xs answers k.1)
 
-  pub each_are : (xs : List X) (answers : List (List ℕ × Bool)) (out : List ℕ) (whole : Bool) → AllByRecursion fits xs → AllZip (λ x a. shows x a.0 a.1) xs answers
+  pub each_are : (xs : List X) (answers : List (List ℕ × Bool)) (out : List ℕ) (whole : Bool) → AllZip (λ x a. shows x a.0 a.1) xs answers
       → out ≡ flat_map (λ a. a.0) answers → whole ≡ list_all (λ a. a.1) answers → AreDocuments out whole
-  each_are xs answers out whole h each joined all = equal_are out (flat_map (λ a. a.0) answers) whole (list_all (λ a. a.1) answers) joined all (answers_are xs answers h each)
+  each_are xs answers out whole each joined all = equal_are out (flat_map (λ a. a.0) answers) whole (list_all (λ a. a.1) answers) joined all (answers_are xs answers each)

@@ -5,5 +5,4 @@ pub mod Sources
 pub mod Written
 pub mod Joined
 pub mod Commands
-pub mod Bounds
 pub mod Inputs

@@ -1,22 +1,16 @@
 -- The members that say where documents are from are those of a place.
-use Rattle.std.proofs.Common.{◌<◌, ◌≤◌, ◌^◌, ◌/◌, ◌%◌, ◌==◌, if◌then◌else◌, pos, ℕ, zero, suc, Bool, true, false, List, [], ◌∷◌, length, drop, slice_index, nat_lt, Option, Some, None, refl, sym, subst, arith, codes}
-use Rattle.std.proofs.lemmas.Int.{ints}
+use Rattle.std.proofs.Common.{◌/◌, ◌%◌, ℕ, suc, List, [], ◌∷◌, length, Option, Some, None, refl, sym, subst, codes}
 use Rattle.json.specs.Json.{Json, string}
 use Rattle.link_base.specs.Labels.{name_in}
-use Rattle.link_base.specs.Number.{IsBytes}
-use Rattle.link_base.proofs.Values.{bytes-drop}
 use Rattle.link_capture.specs.declared.event.Time.{Time}
-use Rattle.link_capture.specs.Pcap.{netlink}
 use Rattle.link_capture.specs.Told.{Captured}
 use Rattle.link_json.specs.Doc.{Field, number_json}
 use Rattle.link_json.specs.Line.{IsPlace}
 use Rattle.link_json.proofs.Places.{place}
 use Rattle.link_json.proofs.Sound.{IsSound, no_fields, field_sound, object_sound, string_sound, null_sound, number_sound, named_sound}
-use Rattle.show_captures.specs.Packet.{protocol_of, protocol_in}
+use Rattle.show_captures.specs.Packet.{protocol_in}
 use Rattle.show_captures.specs.Protocol.{protocols}
-use Rattle.show_captures.specs.Time.{HasText}
 use Rattle.show_json.specs.Clock.{ShowsClock, InRange, OutOfRange, instant_json}
-use Rattle.show_json.specs.Form.{IsCaptured}
 use Rattle.show_json.specs.Place.{file_fields, line_fields, time_fields, packet_fields, packet_json, protocol_json}
 
 -- a value of such a member that nests at most n deep
@@ -35,11 +29,6 @@ clock_fit {d} time clock (InRange n is has utc text e) = subst (IsFit (suc d)) (
 clock_fit {d} time clock (OutOfRange none e) = subst (IsFit (suc d)) (sym e) null_sound
 
 -- ---- protocols
-
-pub byte_below : (bytes : List ℕ) (i : ℕ) → IsBytes bytes → slice_index bytes i < 256
-byte_below [] i h = omega arith
-byte_below (b ∷ bytes) zero h = h.0
-byte_below (b ∷ bytes) (suc i) h = byte_below bytes i h.1
 
 protocol_fit : {d : ℕ} (protocol : Option ℕ) → IsFit (suc d) (protocol_json protocol)
 protocol_fit None = null_sound
@@ -67,9 +56,9 @@ pub file_place : (file : Option (List ℕ)) → IsPlace (file_fields file)
 file_place None = place [] refl no_fields
 file_place (Some name) = place (file_fields (Some name)) refl (field_sound (string_sound name) no_fields)
 
-pub line_place : (file : Option (List ℕ)) (n : ℕ) → n < 2 ^ 64 → IsPlace (line_fields file n)
-line_place None n h = place (line_fields None n) refl (field_sound (number_sound n) no_fields)
-line_place (Some name) n h = place (line_fields (Some name) n) refl (field_sound (string_sound name) (field_sound (number_sound n) no_fields))
+pub line_place : (file : Option (List ℕ)) (n : ℕ) → IsPlace (line_fields file n)
+line_place None n = place (line_fields None n) refl (field_sound (number_sound n) no_fields)
+line_place (Some name) n = place (line_fields (Some name) n) refl (field_sound (string_sound name) (field_sound (number_sound n) no_fields))
 
 pub time_place : (file : Option (List ℕ)) (time : Time) (clock : Json) → ShowsClock time clock → IsPlace (time_fields file clock)
 time_place None time clock shown = place (time_fields None clock) refl (field_sound (clock_fit time clock shown) no_fields)
@@ -79,5 +68,5 @@ packet_place_of : (file : Option (List ℕ)) (number : ℕ) (clock : Json) (p : 
 packet_place_of None number clock p h = place (packet_fields None number clock p) refl (field_sound h no_fields)
 packet_place_of (Some name) number clock p h = place (packet_fields (Some name) number clock p) refl (field_sound (string_sound name) (field_sound h no_fields))
 
-pub packet_place : (file : Option (List ℕ)) (number : ℕ) (clock : Json) (p : Captured) → number < 2 ^ 64 → IsCaptured p → ShowsClock p.time clock → IsPlace (packet_fields file number clock p)
-packet_place file number clock p h is shown = packet_place_of file number clock p (packet_fit number clock p (clock_fit p.time clock shown))
+pub packet_place : (file : Option (List ℕ)) (number : ℕ) (clock : Json) (p : Captured) → ShowsClock p.time clock → IsPlace (packet_fields file number clock p)
+packet_place file number clock p shown = packet_place_of file number clock p (packet_fit number clock p (clock_fit p.time clock shown))

@@ -1,9 +1,7 @@
 -- The output for an input, which is documents.
-use Rattle.std.specs.Prelude.{◌≡◌, ◌<◌, ◌^◌, ℕ, Bool, List, length}
+use Rattle.std.specs.Prelude.{◌≡◌, ℕ, Bool, List}
 use Rattle.std.specs.List.{flat_map, AllByRecursion}
 use Rattle.json.specs.Json.{Json}
-use Rattle.link_base.specs.Number.{IsBytes}
-use Rattle.link_capture.specs.Told.{Captured}
 use Rattle.link_json.specs.Line.{IsLine}
 use Rattle.link_json.specs.Message.{document_line}
 use Rattle.link_json.specs.Ok.{SayOk}
@@ -22,10 +20,3 @@ pub record AreDocuments (out : List ℕ) (whole : Bool) : Type 0 where
   pub each : AllByRecursion IsLine documents
   pub oks : SayOk documents whole
   pub joined : out ≡ flat_map document_line documents
-
--- a packet as files have it: its numbers are those of fields, and its bytes are bytes
-pub record IsCaptured (p : Captured) : Type 0 where
-  pub original : p.original < 2 ^ 32
-  pub link_type : p.link_type < 2 ^ 16
-  pub bytes : IsBytes p.bytes
-  pub length : length p.bytes < 2 ^ 64
