@@ -1,6 +1,7 @@
 -- Equality tests that compare everything a value means: a derived `==`, variant by variant and field by field.
 use Rattle.std.specs.Prelude.{◌≡◌, ℕ, ℤ, nat_eq, string_eq, string_bytes, ◌==◌, ◌&&◌, Bool, true, false, List, [], ◌∷◌, map, Option, Some, None}
 use Rattle.std.specs.Bool.{beq}
+use Rattle.std.specs.Int.{w32, cast_unsigned}
 use Rattle.std.specs.Option.{option_eq}
 use Rattle.std.specs.Ordering.{int_eq}
 use Rattle.std.specs.Cmp.{first_so, second_so, unsigned_Decides, signed_Decides, booleans_Decides}
@@ -23,7 +24,7 @@ use Rattle.std.specs.declared.net.ipv4_addr.Ipv4Addr.{Ipv4Addr}
 use Rattle.std.specs.declared.net.ipv6_addr.Ipv6Addr.{Ipv6Addr}
 use Rattle.std.specs.Net.Addr.{octets_of}
 use Rattle.link_base.specs.IpAddress.{sized, four_octets, sixteen_octets}
-use Rattle.link_base.specs.Layout.{octets_of as written_numbers}
+use Rattle.link_base.specs.Layout.{octets_of as written_numbers, octets_by}
 use Rattle.link_base.specs.Lift.{lift}
 use Rattle.link_base.specs.Class.{Raw}
 use Rattle.link_base.specs.Default.{default_means}
@@ -183,6 +184,14 @@ u32_vectors = number_vectors 4
 pub u64_vectors : {k : ℕ} → IsThorough (λ (xs ys : Vec ℕ Global). pointwise nat_eq xs.items ys.items) (λ xs. Case k (Single (Raw (written_numbers 8 xs.items))))
 u64_vectors = number_vectors 8
 
+-- signed numbers in a vector, four bytes each in the payload
+pub i32_vectors : {k : ℕ} → IsThorough {M = AttrValue} (λ (xs ys : Vec ℤ Global). pointwise int_eq xs.items ys.items)
+    (λ xs. Case k (Single (Raw (octets_by 4 (cast_unsigned w32) xs.items))))
+i32_vectors {k} = record {
+  same = λ xs ys e. ap (λ numbers. Case k (Single (Raw (octets_by 4 (cast_unsigned w32) numbers))))
+      ((pointwise_decides signed_Decides xs.items ys.items).0 e);
+}
+
 -- IP addresses in a vector
 addresses : {A : Type 0} {eq : A → A → Bool} {octets : A → List ℕ} {k : ℕ} → IsThorough eq octets
     → IsThorough (λ (xs ys : Vec A Global). pointwise eq xs.items ys.items) (λ xs. Case k (Listed (map octets xs.items)))
@@ -219,4 +228,4 @@ pub protocols : IsThorough (sameb (declared enum)) (λ (p : VlanProtocol). p)
 protocols = record { same = two_protocols }
 
 -- the lemmas with which `search` proves that the tests of fields are thorough
-pub ruleset thorough_fields = (defaults, byte_vectors, u16_vectors, u32_vectors, u64_vectors, four, sixteen, one_four, one_sixteen, numbers, integers, truths, optional_truths, octets, protocols, lists, anything)
+pub ruleset thorough_fields = (defaults, byte_vectors, u16_vectors, u32_vectors, u64_vectors, i32_vectors, four, sixteen, one_four, one_sixteen, numbers, integers, truths, optional_truths, octets, protocols, lists, anything)

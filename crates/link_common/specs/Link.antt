@@ -6,7 +6,7 @@ use Rattle.link_base.specs.Class.{Number, Integer, Boolean, Raw, Nothing}
 use Rattle.link_base.specs.Payloads.{u16, u32, i32, truth, u8_coded, u32_coded, u32_flags, struct_of, u32_counters, u64_counters, bytes, text, held, no_value}
 use Rattle.link_base.specs.declared.rows.form.Layout.TheVariants as layouts
 use Rattle.link_base.specs.declared.classes.lengths.Lengths.TheVariants as lengths
-use Rattle.link_base.specs.declared.rows.label.Quantity.TheVariants.{InterfaceIndex}
+use Rattle.link_base.specs.declared.rows.label.Quantity.TheVariants.{InterfaceIndex, Nanoseconds}
 use Rattle.link_base.specs.Table.{Table, AttrValue, Case, Single, Inner, row, row_in, nested_row, prefixed}
 use Rattle.link_base.specs.Default.{default_means}
 use Rattle.link_common.specs.Places.{link_stats_names, link_stats64_names}
@@ -88,7 +88,7 @@ link_table = prefixed "IFLA_" (
     row 63 "IFLA_GSO_IPV4_MAX_SIZE" u32 ∷
     row 64 "IFLA_GRO_IPV4_MAX_SIZE" u32 ∷
     nested_row 65 "IFLA_DPLL_PIN" true dpll_pin_rows ∷
-    row 66 "IFLA_MAX_PACING_OFFLOAD_HORIZON" bytes ∷
+    row_in Nanoseconds 66 "IFLA_MAX_PACING_OFFLOAD_HORIZON" bytes ∷
     row 67 "IFLA_NETNS_IMMUTABLE" truth ∷
     row 68 "IFLA_HEADROOM" u16 ∷
     row 69 "IFLA_TAILROOM" u16 ∷ [])

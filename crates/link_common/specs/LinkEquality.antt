@@ -1,14 +1,5 @@
--- `==` on the structs in the attributes of a link compares every field, and on settings every number.
-use Rattle.std.specs.Prelude.{ℕ, ℤ, ◌==◌, ◌&&◌, refl}
-use Rattle.std.specs.Int.{w32, cast_unsigned}
-use Rattle.std.specs.Ordering.{int_eq}
-use Rattle.std.specs.Cmp.{signed_Decides}
-use Rattle.std.specs.Cmp.Lexicographic.{pointwise, pointwise_decides}
-use Rattle.std.proofs.Common.{ap, Vec}
-use Rattle.std.specs.Global.{Global}
-use Rattle.link_base.specs.Class.{Raw}
-use Rattle.link_base.specs.Layout.{octets_by}
-use Rattle.link_base.specs.Table.{AttrValue, Case, Single}
+-- `==` on the structs in the attributes of a link compares every field.
+use Rattle.std.specs.Prelude.{ℕ, ◌==◌, ◌&&◌, refl}
 use Rattle.link_base.specs.Equality.{IsThorough, wrapped, pairs, numbers}
 use Rattle.link_common.specs.declared.link_map.LinkMap.{LinkMap}
 use Rattle.link_common.specs.declared.cache_info.CacheInfo.{CacheInfo}
@@ -38,11 +29,3 @@ cache_infos = wrapped
     (λ (c : CacheInfo). (c.max_reasm_len, (c.tstamp, (c.reachable_time, c.retrans_time))))
     (λ (x : ℕ × (ℕ × (ℕ × ℕ))). record { max_reasm_len = x.0; tstamp = x.1.0; reachable_time = x.1.1.0; retrans_time = x.1.1.1 })
     (λ _. refl) (pairs numbers (pairs numbers (pairs numbers numbers)))
-
--- signed numbers in a vector, four bytes each in the payload
-pub settings : {k : ℕ} → IsThorough {M = AttrValue} (λ (xs ys : Vec ℤ Global). pointwise int_eq xs.items ys.items)
-    (λ xs. Case k (Single (Raw (octets_by 4 (cast_unsigned w32) xs.items))))
-settings {k} = record {
-  same = λ xs ys e. ap (λ numbers. Case k (Single (Raw (octets_by 4 (cast_unsigned w32) numbers))))
-      ((pointwise_decides signed_Decides xs.items ys.items).0 e);
-}

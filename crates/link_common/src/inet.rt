@@ -80,7 +80,6 @@ impl Attribute for AfSpecInet {
     ghost use Rattle.std.specs.Prelude.{refl};
     ghost use Rattle.link_base.proofs.TableLaws.{lawful};
     ghost use Rattle.link_base.specs.Equality.{of_cases, thorough_fields};
-    ghost use Rattle.link_common.specs.LinkEquality.{settings};
     ghost use Rattle.link_common.specs.contracts.inet.AfSpecInet.{enum};
 
     #[inline(always)]
@@ -101,5 +100,5 @@ impl Attribute for AfSpecInet {
 
     ghost well_formed = { refl };
 
-    ghost thorough = { of_cases enum _ _ (Prim.search (thorough_fields, settings)) };
+    ghost thorough = { of_cases enum _ _ (Prim.search (thorough_fields)) };
 }

@@ -110,7 +110,7 @@ impl Attribute for AfSpecInet6 {
     ghost use Rattle.std.specs.Prelude.{refl};
     ghost use Rattle.link_base.proofs.TableLaws.{lawful};
     ghost use Rattle.link_base.specs.Equality.{of_cases, thorough_fields};
-    ghost use Rattle.link_common.specs.LinkEquality.{cache_infos, settings};
+    ghost use Rattle.link_common.specs.LinkEquality.{cache_infos};
     ghost use Rattle.link_common.specs.contracts.inet6.AfSpecInet6.{enum};
 
     #[inline(always)]
@@ -131,5 +131,5 @@ impl Attribute for AfSpecInet6 {
 
     ghost well_formed = { refl };
 
-    ghost thorough = { of_cases enum _ _ (Prim.search (thorough_fields, cache_infos, settings)) };
+    ghost thorough = { of_cases enum _ _ (Prim.search (thorough_fields, cache_infos)) };
 }

@@ -251,7 +251,7 @@ macro_rules! rows {
                 IFLA_GSO_IPV4_MAX_SIZE = 63, GsoIpv4MaxSize: u32;
                 IFLA_GRO_IPV4_MAX_SIZE = 64, GroIpv4MaxSize: u32;
                 IFLA_DPLL_PIN = 65 | NLA_F_NESTED, DpllPin: NestedList<DpllPin>;
-                IFLA_MAX_PACING_OFFLOAD_HORIZON = 66, MaxPacingOffloadHorizon: Vec<u8>;
+                IFLA_MAX_PACING_OFFLOAD_HORIZON = 66, MaxPacingOffloadHorizon: Vec<u8> as Nanoseconds;
                 IFLA_NETNS_IMMUTABLE = 67, NetnsImmutable: bool;
                 IFLA_HEADROOM = 68, Headroom: u16;
                 IFLA_TAILROOM = 69, Tailroom: u16;
