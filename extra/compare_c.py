@@ -5,8 +5,9 @@ usage: extra/compare_c.py [--binary PATH] [--library PATH] [--lines N] [--seed S
 
 The lists are those of runs/, random ones, and each prefix of a list that has the stored attributes of an attribute set.
 compare_c.c prints each by `nlroute_values`, `nlroute_kind_name` and `nlroute_text`, or its first error by
-`nlroute_fault_text`. Names, texts and errors must be those of `nlshow`. `nlroute_write` must give the values back as
-`nlroute_rewrite` does. It needs `cc`. CI does not run it.
+`nlroute_fault_text`. Names, texts and errors must be those of `nlshow`. In C, a list of another set has no text but its
+length; what `nlshow` prints below it is left out. `nlroute_write` must give the values back as `nlroute_rewrite` does. It
+needs `cc`. CI does not run it.
 
 The last line is 'N lists passed, M failed', and the status 0 only if all passed.
 """
@@ -43,13 +44,20 @@ def in_c(library, given, room):
 
 def as_printed(lines):
     """The lines of compare_c.c as `nlshow` prints a list: the elements of an array or a list of addresses in one line, with
-    their unit at its end."""
-    found = []
-    for line in lines:
+    their unit at its end; of an array whose places have names, only those that are not 0, and how many are."""
+    found, zeros = [], None
+    for line in [*lines, ""]:
         head, _, text = line.partition(" ")
         name, _, value = text.partition(" ")
+        place = r"(?!type$)[a-z]\w*" if zeros is None else r"(?!type$)[a-z]\w*|\[\d+\]"
+        if re.fullmatch(place, name) and found and head == "1":
+            zeros = (zeros or 0) + (value == "0")
+            found[-1] += f" {name} {value}" * (value != "0")
+            continue
+        found[-1:] = [f"{it} ({zeros} zero)" if zeros else it for it in found[-1:]]
+        zeros = None
         if not head.isdigit():
-            found.append(line)
+            found += [line] * bool(line)
         elif name.startswith("[") and found:
             unit = value.partition(" ")[2]
             found[-1] = (found[-1].removesuffix(f" {unit}") if unit else found[-1]) + f" {value}"
@@ -58,14 +66,28 @@ def as_printed(lines):
     return found
 
 
+def without_lists(wanted, found):
+    """The lines of `nlshow` without those of lists that have only their length among the lines of compare_c.c."""
+    kept, lengths = [], [re.fullmatch(r"( *)(\S+) \(\d+ bytes?, not decoded\)", it) for it in found]
+    for line in wanted:
+        at = len(kept)
+        if at and at <= len(found) and lengths[at - 1] and kept[-1] == found[at - 1] and line.startswith(f"{lengths[at - 1][1]}  "):
+            continue
+        length = lengths[at] if at < len(found) else None
+        is_opened = length and re.fullmatch(rf"{length[1]}{re.escape(length[2])}( \(\w+\))?( \(empty\))?", line)
+        kept.append(found[at] if is_opened else line)
+    return kept
+
+
 def agree(plain, lines):
     """Whether the lines of compare_c.c say what `nlshow` does."""
     wanted = plain.decode().split("\n")[:-1]
-    errors = [it.strip() for it in wanted if it.strip().startswith("error at")]
+    errors = [it.strip() for it in wanted if it.startswith("  error at")]
     if errors or lines[:1] and lines[0].startswith("error at"):
         return errors[:1] == lines
+    found = as_printed(lines)
     # (in C, an empty list of addresses is a list like others)
-    return [it.removesuffix(" (empty)") for it in wanted] == [it.removesuffix(" (empty)") for it in as_printed(lines)]
+    return [it.removesuffix(" (empty)") for it in without_lists(wanted, found)] == [it.removesuffix(" (empty)") for it in found]
 
 
 def main():

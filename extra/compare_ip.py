@@ -7,13 +7,12 @@ It makes devices in a user and network namespace of its own (ip_devices.py), and
 gets each buffer as a line `message HEX`. Each attribute line that it prints is compared with the JSON of iproute2, by a
 rule of ip_values.py:
 
-- `ip -d link`: messages of AF_UNSPEC, and what messages of AF_BRIDGE have in common with them;
+- `ip -s -s -d link`: messages of AF_UNSPEC, and what messages of AF_BRIDGE have in common with them;
 - `bridge -d link`: messages of AF_BRIDGE;
 - `bridge vlan` and `bridge vlan tunnelshow`: `IFLA_AF_SPEC`. The VLANs are dumped one by one, and again as ranges.
 
-Each value of `info_data` and `info_slave_data`, and each of a port, VLAN or tunnel, has a line. Each device is in both.
-Message headers and other top-level values are not compared. What only one of them prints is a difference, unless a rule
-explains it. A timer may differ by TOLERANCE, and all is repeated up to TRIES times until nothing differs.
+Each value of a link, of its `info_data` and `info_slave_data`, and each of a port, VLAN or tunnel, has a line. Each device
+is in both. Message headers are not compared. What only one of them prints is a difference, unless a rule explains it. A timer may differ by TOLERANCE, and all is repeated up to TRIES times until nothing differs.
 
 It prints for each device how many values agree, how many lines are explained, and the differences; then each explanation,
 with the lines. The last line is 'N values agree, M differ'. The status is 0 if none differs, 1 if one does, 2 if there was
@@ -44,7 +43,7 @@ WORDS = "".join(rf"(?: {it} (\S+))?" for it in ("family", "type", "flags", "chan
 LINK = re.compile(rf"ifindex (\d+)(?: name {NAME})?{WORDS}")
 LINK_TYPES = {"ether": "ETHER", "loopback": "LOOPBACK", "can": "CAN", "none": "NONE"}
 # Keys of `bridge link` that are not of a port.
-NOT_OF_PORT = {"ifindex", "ifname", "flags", "hwmode", *rules.TOP_KEYS}
+NOT_OF_PORT = {"ifindex", "flags", "hwmode", *rules.BRIDGE_KEYS}
 VLAN, TUNNEL = "IFLA_BRIDGE_VLAN_INFO", "IFLA_BRIDGE_VLAN_TUNNEL_INFO"
 VLAN_FLAGS = {"PVID": "PVID", "Egress Untagged": "UNTAGGED"}
 
@@ -54,8 +53,8 @@ class Node:
 
     def __init__(self, line):
         self.line, self.children = line, []
-        found = re.match(r"type \d+|\d+ other attributes?|\S+", line)
-        self.name = "other attributes" if " other attribute" in found[0] else found[0]
+        found = re.match(r"type \d+|\S+", line)
+        self.name = found[0]
         self.text = line[found.end():].strip()
 
     def child(self, name):
@@ -167,13 +166,16 @@ class Comparison:
         AF_BRIDGE."""
         report, said, info = self.report.on(name), self.sample.link[name], self.sample.info(name)
         self.compare_line(link, said)
-        values = {key: said[key] for key in rules.TOP_KEYS if key in said}
+        others = rules.OTHER_LINES
+        values = {key: it for key, it in said.items() if key not in rules.NOT_TOP}
         if link[3] == "AF_BRIDGE":
+            others = {*others, "IFLA_AF_SPEC"}
+            values = {key: it for key, it in values.items() if key in rules.BRIDGE_KEYS}
             # (here the kernel names a bridge as its own master)
             values.setdefault("master", name)
             if info.get("info_slave_kind") == "bridge":
                 self.compare_protinfo(node, info["info_slave_data"], rules.PORT)
-        nodes = [it for it in node.children if it.name not in rules.OTHER_LINES]
+        nodes = [it for it in node.children if it.name not in others]
         rules.compare_list(nodes, values, rules.TOP, self.sample, report)
 
     def compare_protinfo(self, node, values, rows):
@@ -188,7 +190,7 @@ class Comparison:
     def spec(self, node):
         """The lines of IFLA_AF_SPEC."""
         found = node.child("IFLA_AF_SPEC")
-        if found.text not in ("(none)", "(af_spec_bridge)"):
+        if found.text.removesuffix(" (empty)") not in ("(none)", "(af_spec_bridge)"):
             self.report.differ(f"{found.line}: it is not af_spec_bridge")
         return found.children
 
@@ -208,7 +210,7 @@ class Comparison:
 
     def compare_link(self, node, name):
         """The lists of a device in `ip link`, and what selects them."""
-        info = self.sample.info(name)
+        info, node = self.sample.info(name), node.child("IFLA_LINKINFO")
         kinds = [it for it in node.children if it.name in rules.KINDS]
         values = {key: info[key] for key in ("info_kind", "info_slave_kind") if key in info}
         rules.compare_list(kinds, values, rules.KINDS, self.sample, self.report)

@@ -15,8 +15,7 @@ a quarter as many captures that extra/fuzz/captures/mutate.py makes. Each is an 
   an attribute that is not decoded has its type, its flags and its payload; numbers and arrays of numbers are those of the
   payload, and lists of addresses are as long as theirs; bytes in hexadecimal are those of the payload;
 - `ok` is the last member, and false if and only if something in the document is an error, or not canonical;
-- the exit status is as `ok` and the errors of files tell, and that of the plain form, unless an attribute is there twice in
-  a message: of these, the plain form decodes the last; standard error is empty.
+- the exit status is as `ok` and the errors of files tell, and that of the plain form; standard error is empty.
 
 At the end, `jq` has to read the lines of all inputs, and to count as many. CI does not run it; it needs `jq`. The last line
 is 'N inputs, M failed', and the status 0 only if none failed. --binary names `nlshow`; the default is the one that `rt run`
@@ -45,12 +44,14 @@ import mutate  # noqa: E402
 import reader  # noqa: E402
 
 LONGEST, BLANKS = 262144, b" \t\r"
-LINKS, GETLINK, ERROR, DONE, LINKINFO = (16, 17, 18, 19), 18, 2, 3, 18
+LINKS, GETLINK, ERROR, DONE = (16, 17, 18, 19), 18, 2, 3
 # Flags of replies, and members for NLMSGERR_ATTR_..
 CAPPED, ACK_TLVS = 0x100, 0x200
 OF_REPLY = {1: "message", 2: "offset", 3: "cookie", 4: "policy", 5: "missing_type", 6: "missing_nest"}
 # The numbers in network byte order: those of VXLAN devices, by their names in documents.
 NETWORK_ORDER = ("port", "label")
+# Arrays whose places have names.
+COUNTERS = ("stats", "stats64", "conf")
 HEADER = ("len", "type", "flags", "seq", "pid")
 OF_LINK = ("family", "type", "index", "flags", "change")
 SHOWN = 3
@@ -339,6 +340,8 @@ def check_value(name, value, kind, flags, payload, base):
         need(raw == (kind, flags, payload.hex()), "not decoded:", value)
     elif isinstance(value, dict) and [*value] == ["hex"]:
         need(value["hex"] in (payload.hex(), payload.removesuffix(b"\0").hex()), "bytes:", value, payload.hex())
+    elif isinstance(value, dict) and name in COUNTERS:
+        check_numbers([*value.values()], payload)
     elif isinstance(value, bool) or isinstance(value, (str, dict)):
         need(not name.isdigit(), "decoded:", name)
     elif isinstance(value, int):
@@ -346,15 +349,20 @@ def check_value(name, value, kind, flags, payload, base):
         numbers = [int.from_bytes(payload, order, signed=it) for it in (False, True)]
         need(value in numbers and len(payload) in (1, 2, 4, 8), "number:", value, payload.hex())
     elif value and isinstance(value[0], int):
-        width = len(payload) // len(value)
-        whole = b"".join(it.to_bytes(width, "little", signed=it < 0) for it in value)
-        need(whole == payload, "numbers:", value, payload.hex())
+        check_numbers(value, payload)
     elif value and isinstance(value[0], dict):
         check_elements(value, payload, base)
     else:
         of_value = [len(ipaddress.ip_address(it).packed) for it in value]
         sizes = [len(it[3]) for it in attributes(payload)[0]]
         need(any(of_value == [size] * sizes.count(size) for size in (4, 16)), "addresses:", value, payload.hex())
+
+
+def check_numbers(numbers, payload):
+    """Checks the numbers of an array, whose width follows from how many there are."""
+    width = len(payload) // max(len(numbers), 1)
+    whole = b"".join(it.to_bytes(width, "little", signed=it < 0) for it in numbers)
+    need(whole == payload, "numbers:", numbers, payload.hex())
 
 
 # ---- runs
@@ -364,7 +372,7 @@ def of_runs():
     """The inputs of all runs that print what they read."""
     for file, run in [(file, run) for file in files_of(ROOT) for run in runs_of(ROOT, file)]:
         add_stored(run, os.path.dirname(f"{ROOT}/runs/{file}"))
-        words = [it for it in run.arguments if it != "--check" and not it.startswith("--format=")]
+        words = [it for it in run.arguments if it not in ("--check", "--brief") and not it.startswith("--format=")]
         while "--format" in words:
             at = words.index("--format")
             del words[at : at + 2]
@@ -395,13 +403,6 @@ def inputs(count):
         yield Input(f"capture {it.data[:60].hex()}..", *it)
 
 
-def is_twice(what, parts):
-    """Whether an attribute is twice in a message, or in an IFLA_LINKINFO of it."""
-    found = attributes(parts[1][32:])[0] if what == "message" else []
-    types = [[it[1] for it in them] for them in (found, *(attributes(it[3])[0] for it in found if it[1] == LINKINFO))]
-    return any(len({*it}) < len(it) for it in types)
-
-
 def started(binary, given, form):
     """The program, after it has read an input."""
     with tempfile.TemporaryDirectory(prefix="json-") as folder:
@@ -426,8 +427,7 @@ def check(binary, given):
         fails = [it for _, what, it in wanted if what == "error" and it[1] in ("cannot open", "read fault")]
         is_other = any(it[1] in reader.OTHERS.values() for _, what, it in wanted if what == "error")
         status = 5 if fails else 2 if is_other else 0 if all(it["ok"] for it in documents) else 1
-        same = plain.returncode == status or any(is_twice(*it[1:]) for it in wanted)
-        need(ran.returncode == status and same, "status", ran.returncode, plain.returncode, status)
+        need(ran.returncode == plain.returncode == status, "status", ran.returncode, plain.returncode, status)
         need(not ran.stderr, "standard error:", ran.stderr)
     except (Wrong, ValueError, KeyError, TypeError) as error:
         return f"{type(error).__name__}: {error}", ran.stdout

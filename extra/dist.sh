@@ -96,7 +96,7 @@ Contents
   lib/libnlroute.so       the shared object
   lib/pkgconfig/          its description for pkg-config
   bin/, share/man/        the programs and their man pages
-  share/jq/               a function for jq, which reads what nlshow --format json prints
+  share/jq/               functions for jq, which reads what nlshow --format json prints
   rust/                   the Rust crate
   python/                 the Python package
   licences/               which other code is in the binaries, and its licences

@@ -7,7 +7,7 @@ import subprocess
 # From linux/netlink.h, linux/rtnetlink.h, linux/if_link.h and linux/socket.h.
 NLMSG_ERROR, NLMSG_DONE, RTM_GETLINK = 2, 3, 18
 NLM_F_REQUEST, NLM_F_DUMP, IFLA_EXT_MASK = 0x1, 0x300, 29
-RTEXT_FILTER_VF, RTEXT_FILTER_BRVLAN, RTEXT_FILTER_BRVLAN_COMPRESSED, RTEXT_FILTER_SKIP_STATS = 1, 2, 4, 8
+RTEXT_FILTER_VF, RTEXT_FILTER_BRVLAN, RTEXT_FILTER_BRVLAN_COMPRESSED = 1, 2, 4
 AF_UNSPEC, AF_BRIDGE = 0, 7
 
 
@@ -46,8 +46,8 @@ class Sample:
     """Four dumps, each next to the JSON of the command that asks for the same dump."""
 
     def __init__(self):
-        self.links = dump(AF_UNSPEC, RTEXT_FILTER_VF | RTEXT_FILTER_SKIP_STATS)
-        self.link = said_by("ip -d -j link show")
+        self.links = dump(AF_UNSPEC, RTEXT_FILTER_VF)
+        self.link = said_by("ip -s -s -d -j link show")
         self.ports = dump(AF_BRIDGE, 0)
         self.port = said_by("bridge -d -j link show")
         self.vlans = dump(AF_BRIDGE, RTEXT_FILTER_BRVLAN)

@@ -259,14 +259,107 @@ def compare_list(nodes, values, rows, sample, report):
             report.differ(f"JSON has {key} {value}, but there is no line for it")
 
 
-# The attributes of a message that nlshow decodes, without its lists.
+def quoted(value, _):
+    """A text."""
+    return '"' + re.sub(r'(["\\\\])', r"\\\1", value) + '"'
+
+
+def group(value, sample):
+    """A group of devices. JSON has the name of 0."""
+    return "0" if value == "default" else number(value, sample)
+
+
+def counters(width, node, values, _sample, report):
+    """Counters by their names, of so many bits. JSON has two objects, for what is received and for what is sent. What a
+    device has counted is of both."""
+    report.explain(f"number of zeros in {node.name}", IP_SILENT)
+    pairs = re.findall(r"(\w+) (\d+)", node.text)
+    for way, numbers in values.get("stats64", {}).items():
+        for key, value in numbers.items():
+            name = key if key in ("multicast", "collisions") else f"{way}_{key}"
+            if name != "tx_carrier_changes":
+                report.pair(f"{node.name} {name}", dict(pairs).get(name, "0"), key, value, str(value % 2**width))
+    return {"stats64"}
+
+
+def changes(node, values, sample, report):
+    """How often the carrier of a link changed, which JSON has among what was sent."""
+    one("carrier_changes", number, IP_OLD, node, values.get("stats64", {}).get("tx", {}), sample, report)
+    return {"stats64"}
+
+
+def alternative_names(node, values, _sample, report):
+    """The alternative names of a link: an array."""
+    said = [f"IFLA_ALT_IFNAME {quoted(it, None)}" for it in values.get("altnames", [])]
+    report.sequence([it.line for it in node.children], "altnames", said)
+    return {"altnames"}
+
+
+def permanent(node, values, *rest):
+    """The permanent address. JSON has it if it is another than the address."""
+    return one("permaddr", address, None, node, {"permaddr": values.get("address")} | values, *rest)
+
+
+def programs(node, values, _sample, report):
+    """The XDP programs of a link. JSON has none if there are none."""
+    none = [it.line for it in node.children] == ["IFLA_XDP_ATTACHED none (0)"]
+    report.pair(node.line, str(not none), "xdp", values.get("xdp"), str("xdp" in values))
+    return {"xdp"}
+
+
+def families(node, values, sample, report):
+    """What a link has for each address family. JSON has one setting of AF_INET6."""
+    for it in node.children:
+        if it.name == "AF_INET6":
+            compare_list(it.children, {key: values[key] for key in INET6_KEYS if key in values}, INET6, sample, report)
+        else:
+            report.explain(f"{node.name}: {it.name}", IP_SILENT)
+    return INET6_KEYS
+
+
+# The attributes of a message about a link, without IFLA_LINKINFO and IFLA_PROTINFO.
 STATES = "UNKNOWN NOTPRESENT DOWN LOWERLAYERDOWN TESTING DORMANT UP"
-TOP = table("IFLA_", (number, "mtu"), (address, "address"), (device, "master"), (enum(STATES), "operstate"), LINK=link)
-TOP["other attributes"] = partial(never, "nlshow counts what it does not decode")
-TOP_KEYS = {"mtu", "address", "link", "link_index", "master", "operstate"}
-KINDS = table("IFLA_INFO_", (lambda value, _: f'"{value}"', "KIND:info_kind SLAVE_KIND:info_slave_kind"))
+SILENT = """MAP CARRIER CARRIER_UP_COUNT CARRIER_DOWN_COUNT NUM_VF VFINFO_LIST VF_PORTS PORT_SELF DEVLINK_PORT DPLL_PIN
+PROTO_DOWN_REASON"""
+TOP = table(
+    "IFLA_",
+    (number, """mtu promiscuity min_mtu max_mtu num_tx_queues num_rx_queues gso_max_size gso_max_segs tso_max_size
+        tso_max_segs gro_max_size link_netnsid"""),
+    (number, "allmulti gso_ipv4_max_size gro_ipv4_max_size max_pacing_offload_horizon headroom tailroom", IP_OLD),
+    (number_or_0, "txqlen", AS_NULL),
+    (quoted, "ifname qdisc ifalias PARENT_DEV_NAME:parentdev PARENT_DEV_BUS_NAME:parentbus phys_port_name"),
+    (address, "address broadcast"),
+    (address, "phys_port_id phys_switch_id", IP_OLD),
+    (device, "master"),
+    (enum(STATES), "operstate"),
+    (enum("DEFAULT DORMANT TESTING"), "linkmode"),
+    (group, "group"),
+    (if_on, "proto_down", AS_NULL),
+    (if_on, "NETNS_IMMUTABLE:netns-immutable", IP_OLD),
+    LINK=link,
+    STATS=partial(counters, 32),
+    STATS64=partial(counters, 64),
+    CARRIER_CHANGES=changes,
+    PROP_LIST=alternative_names,
+    PERM_ADDRESS=permanent,
+    XDP=programs,
+    AF_SPEC=families,
+    **dict.fromkeys(SILENT.split(), partial(never, IP_SILENT)),
+)
+INET6_KEYS = {"inet6_addr_gen_mode"}
+MODES = enum("eui64 none stable_secret random")
+INET6 = table(
+    "IFLA_INET6_",
+    (MODES, "ADDR_GEN_MODE:inet6_addr_gen_mode"),
+    **dict.fromkeys("FLAGS CONF STATS CACHEINFO ICMP6STATS TOKEN RA_MTU".split(), partial(never, IP_SILENT)),
+)
+# What `ip` says of a link besides these attributes.
+NOT_TOP = {"ifindex", "flags", "link_type", "link_pointtopoint", "linkinfo"}
+# What messages of AF_BRIDGE have of these.
+BRIDGE_KEYS = {"ifname", "mtu", "address", "link", "link_index", "master", "operstate"}
+KINDS = table("IFLA_INFO_", (quoted, "KIND:info_kind SLAVE_KIND:info_slave_kind"))
 # Lines of a message that are compared elsewhere.
-OTHER_LINES = {"ifindex", *KINDS, "IFLA_INFO_DATA", "IFLA_INFO_SLAVE_DATA", "IFLA_AF_SPEC", "IFLA_PROTINFO"}
+OTHER_LINES = {"ifindex", "IFLA_LINKINFO", "IFLA_PROTINFO"}
 
 BRIDGE = table(
     "IFLA_BR_",

@@ -6,9 +6,11 @@ usage: extra/random_lines.py [--binary PATH] [--lines N] [--seed S]
 A list is of any attribute set, of random attributes; a message is one of runs/ with some bytes changed. For each:
 
 - every line of the plain form that does not repeat the input is printable ASCII;
-- the plain form has a line `error at` if and only if the debug form has an error, and the first is at the same offset;
-- without an error, a list has as many lines in the plain form as in the debug form, but for elements of nested lists;
-- with `--check`, there is one line more for each list;
+- a list has a line `error at` in the plain form if and only if it has an error in the debug form, and the first is at the
+  same offset. Lists in it do not count;
+- without an error, it has as many lines in the plain form as in the debug form, but for those of lists in it;
+- `--check` adds lines that say whether lists are canonical, and one for the whole list, which is the last;
+- `--brief` leaves lines out, and only of links;
 - the exit status is 0 or 1, and nothing is written to standard error.
 
 CI does not run it. The last line is 'N lines passed, M failed', and the status 0 only if all passed.
@@ -29,7 +31,9 @@ from runs import files_of, runs_of  # noqa: E402
 
 SETS, AF_BRIDGE = names(), 7
 LIST = re.compile(rf"^(?:check )?({'|'.join(SETS)})\b((?:[0-9a-fA-F]{{2}}|[ \t])*)$", re.MULTILINE)
-ERROR = re.compile(rb"^ *error at (\d+):", re.MULTILINE)
+ERROR = re.compile(rb"^  error at (\d+):", re.MULTILINE)
+VERDICT = re.compile(rb"^ *(?:not canonical at \d+|canonical)\n", re.MULTILINE)
+LAST = re.compile(rb"  (?:not canonical at \d+|canonical)")
 FAULT = re.compile(rb"^fault at (\d+):", re.MULTILINE)
 
 
@@ -107,15 +111,19 @@ def shown(binary, lines, *arguments):
     return [it.split(b"\n", 1)[1] for it in parts]
 
 
-def is_right(line, plain, checked, debug):
-    error, fault = ERROR.search(plain), FAULT.search(debug)
-    is_printable = all(it == 10 or 32 <= it <= 126 for it in plain)
+def is_right(line, plain, checked, brief, debug):
+    """Whether what is printed for a line is right, in the plain form, with --check, with --brief, and in the debug form."""
+    error, fault, rest = ERROR.search(plain), FAULT.search(debug), iter(plain.splitlines())
+    right = all(it == 10 or 32 <= it <= 126 for it in plain) and VERDICT.sub(b"", checked) == plain
+    if line.startswith(("message", "link ")):
+        right = right and all(it in rest for it in brief.splitlines())
+    else:
+        right = right and brief == plain
     if line.startswith("message"):
-        return is_printable and len(checked) >= len(plain)
-    is_same = (error and error[1]) == (fault and fault[1])
-    is_checked = checked.startswith(plain) and checked.count(b"\n") == plain.count(b"\n") + 1
+        return right
+    right = right and LAST.fullmatch(checked.splitlines()[-1]) and (error and error[1]) == (fault and fault[1])
     count = len(re.findall(rb"^  \S", plain, re.MULTILINE))
-    return is_printable and is_same and is_checked and (bool(error) or count == debug.count(b"\n"))
+    return right and (bool(error) or count == debug.count(b"\n"))
 
 
 def options(lines, **others):
@@ -134,7 +142,7 @@ def main():
     for _ in range(asked.lines):
         name, data = random_list() if random.random() < 0.6 else ("message", changed(random.choice(given)))
         lines.append(f"{name} {data.hex()}")
-    forms = [shown(asked.binary, lines, *it) for it in ((), ("--check",), ("--format", "debug"))]
+    forms = [shown(asked.binary, lines, *it) for it in ((), ("--check",), ("--brief",), ("--format", "debug"))]
     wrong = [it for it in zip(lines, *forms) if not is_right(*it)]
     for line, *texts in wrong[:3]:
         print(line, *(it.decode(errors="replace") for it in texts), sep="\n")

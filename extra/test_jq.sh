@@ -69,6 +69,29 @@ null
 [[]]
 END
 
+# Tests a filter, $2, on a document about a bond with counters. $1 says what it is.
+made() {
+    echo '{"packet":{"time":{"utc":"T"}},"type":{"number":16,"name":"RTM_NEWLINK"},"flags":{"number":'"$3"'},
+        "link":{"family":{"number":0},"index":6,"flags":{"number":1,"names":["UP"]},"attrs":[{"name":"ifname","value":"b"},
+        {"name":"linkinfo","value":[{"name":"kind","value":"bond"},{"name":"data","value":[{"name":"miimon","value":100}]}]},
+        {"name":"stats64","value":{"rx_packets":0,"tx_packets":3}}]}}
+        {"type":{"number":3,"name":"NLMSG_DONE"},"flags":{"number":0,"names":[]}}' |
+        jq -L docs -c "include \"nlshow\"; $2" >"$room/found" 2>&1 || true
+    finds "$1"
+}
+
+made "link" "link | [.utc, .index, .flags, .ifname, .linkinfo.data.miimon]" '1,"names":["REQUEST"]' <<'END'
+["T",6,["UP"],"b",100]
+END
+made "told of a request" "told" '1,"names":["REQUEST"]' </dev/null
+made "bond without a mode" "told | bond" '0,"names":[]' <<'END'
+{"name":"b","mode":null,"miimon":100,"arp_interval":null}
+END
+made "port of none" "told | port" '0,"names":[]' </dev/null
+made "counters" "told | counters" '0,"names":[]' <<'END'
+{"name":"b","tx_packets":3}
+END
+
 asked=0
 query "Links that changed, as the kernel announced them, and when. AF_BRIDGE messages of ports are left out" <<'END'
 2026-11-27T19:06:35.924100Z	4	nlmon0	3776
@@ -110,6 +133,39 @@ bond0
 bond0
 bond0
 bond0
+END
+query "Bonds, with their mode and intervals" <<'END'
+{"name":"bond0","mode":"balance-rr","miimon":0,"arp_interval":0}
+{"name":"bond0","mode":"802.3ad","miimon":100,"arp_interval":0}
+{"name":"bond0","mode":"802.3ad","miimon":100,"arp_interval":0}
+END
+query "Ports, with their state and the name of their master" <<'END'
+{"name":"va","master":"dsa0","kind":"bridge","state":"disabled"}
+{"name":"va","master":"dsa0","kind":"bridge","state":"disabled"}
+{"name":"va","master":"dsa0","kind":"bridge","state":"disabled"}
+{"name":"va","master":"dsa0","kind":"bridge","state":"disabled"}
+{"name":"va","master":"br0","kind":"bridge","state":"listening"}
+{"name":"vc","master":"br0","kind":"bridge","state":"listening"}
+{"name":"eth0","master":"dsa0","kind":"bond","state":"active"}
+{"name":"va","master":"br0","kind":"bridge","state":"listening"}
+{"name":"eth0","master":"dsa0","kind":"bond","state":"active"}
+END
+query "Changes of state, as they happen" <<'END'
+{"utc":"2026-11-27T19:06:35.723832Z","name":"lo","was":null,"now":"UNKNOWN"}
+{"utc":"2026-11-27T19:06:35.723832Z","name":"dummy0","was":null,"now":"DOWN"}
+{"utc":"2026-11-27T19:06:35.724582Z","name":"bond0","was":null,"now":"DOWN"}
+{"utc":"2026-11-27T19:06:35.724582Z","name":"nlmon0","was":null,"now":"UNKNOWN"}
+{"utc":"2026-11-27T19:06:36.030252Z","name":"br0","was":null,"now":"DOWN"}
+{"utc":"2026-11-27T19:06:36.419831Z","name":"vb","was":null,"now":"DOWN"}
+{"utc":"2026-11-27T19:06:36.439019Z","name":"va","was":null,"now":"DOWN"}
+{"utc":"2026-11-27T19:06:37.482302Z","name":"va","was":"DOWN","now":"LOWERLAYERDOWN"}
+{"utc":"2026-11-27T19:06:35.548148Z","name":"va","was":"UNKNOWN","now":"UP"}
+{"utc":"2026-11-27T19:06:35.549382Z","name":"vc","was":"DOWN","now":"UP"}
+{"utc":"2026-11-27T19:06:35.551851Z","name":"lo","was":"UNKNOWN","now":"DOWN"}
+END
+query "Packets that were dropped" <<'END'
+br0	0	2
+br0	0	2
 END
 query "VLANs of bridge ports" <<'END'
 [7,1,["PVID","UNTAGGED"]]

@@ -9,7 +9,7 @@
 #     lib/pkgconfig/nlroute.pc   finds the other files from its own place: the tree can be moved
 #     bin/                       the programs nlroute and nlshow
 #     share/man/                 the man pages nlroute(1), nlshow(1) and nlroute(3)
-#     share/jq/nlshow.jq         a function for jq, which reads what `nlshow --format json` prints
+#     share/jq/nlshow.jq         functions for jq, which reads what `nlshow --format json` prints
 #
 # LIBDIR names another folder of PREFIX for the library, as lib64 or lib/x86_64-linux-gnu.
 #

@@ -136,7 +136,7 @@ def runs_of_programs(folder):
     reads, and at most three for its report; `nlshow` makes others, in `clap` and for the lines. Reading from a folder
     fails."""
     unknown = "error: unexpected argument '-x' found\n"
-    unknown += "usage: nlshow [--format plain|debug|json] [--check] [--raw] [FILE].. | --help | --version\n"
+    unknown += "usage: nlshow [--format plain|debug|json] [--check] [--brief] [--raw] [FILE].. | --help | --version\n"
     usage = "usage: nlroute FAMILY\n"
     no_hex, long = b"zz", b"0" * 262_145
     for words, given, text, status, others in (
@@ -163,7 +163,7 @@ def runs_of_json():
     fronts = ["".join(documents[:count]) for count in range(len(documents) + 1)]
     words = ["nlshow", "--format", "json"]
     wanting = [NO_MEMORY, *(printed(it, 4) for it in fronts)]
-    yield words, b"tap\ndsa 080001002a000000\n", printed(fronts[-1], 1), wanting, for_arguments(words) + 35
+    yield words, b"tap\ndsa 080001002a000000\n", printed(fronts[-1], 1), wanting, for_arguments(words) + 39
 
 
 def runs_of_files():
@@ -173,7 +173,7 @@ def runs_of_files():
         words = ["nlshow", "--format", "json", name]
         document = f'{{"file":"{name}","error":{{"at":null,"text":"{text}"}},"ok":false}}\n'
         wanting = [NO_MEMORY, printed("", 4)]
-        yield words, b"", printed(document, 5), wanting, for_arguments(words) + 38
+        yield words, b"", printed(document, 5), wanting, for_arguments(words) + 43
 
 
 def main():

@@ -277,8 +277,11 @@ def sample(it):
     if kind == "CodedFlags":
         return bytes(int(it.size)), "0", "0", '{"number":0,"names":[]}'
     if it.its_class == "Shown<Held>":
-        payload = octets(5)
-        return payload, "(5 bytes, not decoded)", str([*payload]), f'{{"hex":"{payload.hex()}"}}'
+        # (an attribute of type 16383 without a payload, if a set reads it: none has a row for that)
+        payload = struct.pack("<HH", 4, 16383) if it.size else octets(5)
+        plain = "\n    type 16383 (empty)" if it.size else f"({len(payload)} bytes, not decoded)"
+        empty = '[{"name":"16383","value":{"type":16383,"flags":{"number":0,"names":[]},"hex":""}}]'
+        return payload, plain, str([*payload]), empty if it.size else f'{{"hex":"{payload.hex()}"}}'
     if it.its_class in ("[u8; 6]", "Vec<u8>"):
         payload = octets(6 if kind[0] == "[" else 5)
         return payload, payload.hex(":"), str([*payload]), f'"{payload.hex(":")}"'
@@ -304,7 +307,7 @@ def sample(it):
         "bool": (b"\1", "on", "true", "true"),
         "Option": (b"", "on", "None", "true"),
         "none": (b"", "", "", "true"),
-        "Counters": (b"", "(empty)", "[]", "[]"),
+        "Counters": (b"", "(empty)", "[]", "{}"),
         "VlanProtocol": (b"\x88\xa8", "802.1ad (0x88a8)", "Ieee8021Ad", '{"number":34984,"name":"802.1ad"}'),
     }
     return others.get(kind)

@@ -87,13 +87,13 @@ class Sets(unittest.TestCase):
             ("Shown<Text>", "text", "Raw x.items", b"text 7\0", '"text 7"', "[116, 101, 120, 116, 32, 55, 0]", '"text 7"'),
             ("Shown<Held>", "held", "Raw x.items", bytes.fromhex("0718293a4b"), "(5 bytes, not decoded)",
              "[7, 24, 41, 58, 75]", '{"hex":"0718293a4b"}'),
-            (("Shown<Held>", "hsr"), "held", "Raw x.items", bytes.fromhex("0718293a4b"), "(5 bytes, not decoded)",
-             "[7, 24, 41, 58, 75]", '{"hex":"0718293a4b"}'),
+            (("Shown<Held>", "hsr"), "held", "Raw x.items", bytes.fromhex("0400ff3f"), "\n    type 16383 (empty)",
+             "[4, 0, 255, 63]", '[{"name":"16383","value":{"type":16383,"flags":{"number":0,"names":[]},"hex":""}}]'),
             (("CodedFlags<CanState>", "4"), "(u32_flags can_state_names)", "Number 4 x", bytes(4), "0", "0", '{"number":0,"names":[]}'),
-            (("Counters<CanState>", "4"), "(u32_counters can_state_names)", "Raw (octets_of 4 x.items)", b"", "(empty)", "[]", "[]"),
+            (("Counters<CanState>", "4"), "(u32_counters can_state_names)", "Raw (octets_of 4 x.items)", b"", "(empty)", "[]", "{}"),
             (("Counters<CanState>", "i32"), "(i32_counters can_state_names)", "Raw (octets_by 4 (cast_unsigned w32) x.items)",
-             b"", "(empty)", "[]", "[]"),
-            (("Counters<CanState>", "8"), "(u64_counters can_state_names)", "Raw (octets_of 8 x.items)", b"", "(empty)", "[]", "[]"),
+             b"", "(empty)", "[]", "{}"),
+            (("Counters<CanState>", "8"), "(u64_counters can_state_names)", "Raw (octets_of 8 x.items)", b"", "(empty)", "[]", "{}"),
             ("none", "no_value", "Nothing", b"", "", "", "true"),
             ("[u8; 6]", "mac", "Raw x", bytes.fromhex("0718293a4b5c"), "07:18:29:3a:4b:5c", "[7, 24, 41, 58, 75, 92]", '"07:18:29:3a:4b:5c"'),
             ("Ipv4Addr", "ipv4", "Raw (four_octets x)", b"\7\x18\x29\x3a", "7.24.41.58", "7.24.41.58", '"7.24.41.58"'),
@@ -161,8 +161,8 @@ part_leaf (infos.Other other) = default_means other
     def test_samples_of_held_lists_in_a_run(self):
         text = f"{HEAD}7\tIFLA_SOME_ONE\tOne x\tShown<Held>\thsr\n8\tIFLA_SOME_TWO\tTwo x\tShown<Held>\n"
         made = written("sets/some.tsv", text)["runs/sets/some"]
-        lines = "  IFLA_SOME_ONE (5 bytes, not decoded)\n  IFLA_SOME_TWO (5 bytes, not decoded)\n\n"
-        self.assertIn(f"> some 09000700 0718293a 4b000000 09000800 08192a3b 4c000000\n{lines}", made)
+        lines = "  IFLA_SOME_ONE\n    type 16383 (empty)\n  IFLA_SOME_TWO (5 bytes, not decoded)\n\n"
+        self.assertIn(f"> some 08000700 0400ff3f 09000800 08192a3b 4c000000\n{lines}", made)
 
     def test_names_of_definitions(self):
         head = HEAD.replace("IFLA_SOME_", "IFLA_SOME_ other")

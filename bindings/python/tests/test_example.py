@@ -9,7 +9,7 @@ import unittest
 PYTHON = os.path.dirname(os.path.dirname(os.path.realpath(__file__)))
 CAPTURED = os.path.join(PYTHON, "../../runs/plain/captured")
 MESSAGE = re.compile(r"^> message ([0-9a-f]+)\n((?:[^>#\n].*\n)*)", re.MULTILINE)
-INFO_DATA = re.compile(r"^  IFLA_INFO_DATA \((\w+)\)\n((?:    .*\n)*)", re.MULTILINE)
+INFO_DATA = re.compile(r"^    IFLA_INFO_DATA \((\w+)\)\n((?:      .*\n)*)", re.MULTILINE)
 
 
 def example():
@@ -35,7 +35,8 @@ class Example(unittest.TestCase):
             printed = io.StringIO()
             with contextlib.redirect_stdout(printed):
                 links.main()
-            self.assertIn(f"  {data[1]}\n{data[2]}", printed.getvalue())
+            lines = data[2].replace("\n  ", "\n").removeprefix("  ")
+            self.assertIn(f"  {data[1]}\n{lines}", printed.getvalue())
         self.assertGreater(count, 0)
 
 

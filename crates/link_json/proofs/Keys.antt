@@ -21,7 +21,7 @@ abbrev pub are_among : List Key → List Key → Bool
 are_among those ks = list_all (λ k. list_any (bytes_eq k) those) ks
 
 -- bytes that differ differ in either order
-either_way : (k y : Key) → bytes_eq y k ≡ false → bytes_eq k y ≡ false
+pub either_way : (k y : Key) → bytes_eq y k ≡ false → bytes_eq k y ≡ false
 either_way k y e = by_test (bytes_eq k y) refl
   where
     by_test : (b : Bool) → bytes_eq k y ≡ b → b ≡ false
@@ -32,7 +32,7 @@ absent : (k : Key) (ks : List Key) → list_any (λ y. bytes_eq y k) ks ≡ fals
 absent k [] e = tt
 absent k (y ∷ ks) e = let p = or_parts (bytes_eq y k) (list_any (λ x. bytes_eq x k) ks) e in (either_way k y p.0, absent k ks p.1)
 
-apart : (ks : List Key) → are_distinct ks ≡ true → IsDistinct bytes_eq ks
+pub apart : (ks : List Key) → are_distinct ks ≡ true → IsDistinct bytes_eq ks
 unfolding IsDistinct
 apart [] e = tt
 apart (k ∷ ks) e =

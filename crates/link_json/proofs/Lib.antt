@@ -4,12 +4,12 @@ pub mod Listing
 pub mod Loops
 pub mod Objects
 pub mod Valued
-pub mod LinkParts
 pub mod DocumentParts
 pub mod OtherParts
 pub mod Oks
 pub mod Unbroken
 pub mod Keys
+pub mod PlaceKeys
 pub mod Sound
 pub mod SoundLists
 pub mod SoundLinks

@@ -92,46 +92,46 @@ abbrev ended : List Field → Bool → List Field
 ended fields well = fields ++ (codes "ok", boolean well) ∷ []
 
 -- members that say where a document is from, as K says
-module _ {K : Type 0} {d : ℕ} (place : List Field) (is : K → IsPlace place) (placed : members_depth (members_of place) ≤ above 12 d) where
+module _ {K : Type 0} {d : ℕ} (place : List Field) (is : K → IsPlace place) (placed : members_depth (members_of place) ≤ above 32 d) where
   -- the place, and members whose keys are literals
-  with_place : (fields : List Field) → are_among document_keys (keys (members_of fields)) ≡ true → are_distinct (keys (members_of fields)) ≡ true → AreSound K (above 12 d) fields → IsSound K (above 13 d) (object_of (place ++ fields))
+  with_place : (fields : List Field) → are_among document_keys (keys (members_of fields)) ≡ true → are_distinct (keys (members_of fields)) ≡ true → AreSound K (above 32 d) fields → IsSound K (above 33 d) (object_of (place ++ fields))
   with_place fields e f h =
       let all = fields_both place fields (record { numbers = λ k. (is k).numbers; unique = λ k. (is k).unique; shallow = placed }) h in
       record { numbers = all.numbers; unique = λ k. (distinct_members place fields (is k).distinct e f, all.unique k); shallow = omega (arith, all.shallow) }
 
   -- the document of these members
   whole_sound : (fields : List Field) (well : Bool) → are_among document_keys (keys (members_of (ended fields well))) ≡ true → are_distinct (keys (members_of (ended fields well))) ≡ true
-      → AreSound K (above 12 d) fields → IsSound K (above 13 d) (whole_document place fields well)
+      → AreSound K (above 32 d) fields → IsSound K (above 33 d) (whole_document place fields well)
   whole_sound fields well e f h = with_place (ended fields well) e f (fields_both fields ((codes "ok", boolean well) ∷ []) h (field_sound (boolean_sound well) no_fields))
 
   -- the document of a message that says this
   says : (m : Message) (well : Bool) (body : List Field) → are_among document_keys (keys (members_of (ended (message_fields m ++ body) well))) ≡ true
-      → are_distinct (keys (members_of (ended (message_fields m ++ body) well))) ≡ true → AreSound K (above 12 d) body → IsSound K (above 13 d) (whole_document place (message_fields m ++ body) well)
+      → are_distinct (keys (members_of (ended (message_fields m ++ body) well))) ≡ true → AreSound K (above 32 d) body → IsSound K (above 33 d) (whole_document place (message_fields m ++ body) well)
   says m well body e f g = whole_sound (message_fields m ++ body) well e f (fields_both (message_fields m) body (message_sound m) g)
 
-  replies : (m : Message) (well : Bool) (fault : Option MessageError) (reply : Json) → IsSound K (above 12 d) reply
-      → IsSound K (above 13 d) (whole_document place (message_fields m ++ (fault_fields fault ++ (codes "reply", reply) ∷ [])) well)
+  replies : (m : Message) (well : Bool) (fault : Option MessageError) (reply : Json) → IsSound K (above 32 d) reply
+      → IsSound K (above 33 d) (whole_document place (message_fields m ++ (fault_fields fault ++ (codes "reply", reply) ∷ [])) well)
   replies m well None reply g = says m well ((codes "reply", reply) ∷ []) refl refl (field_sound g no_fields)
   replies m well (Some error) reply g =
       let last : List Field = (codes "reply", reply) ∷ [] in
       says m well (message_error error ∷ last) refl refl (fields_both (message_error error ∷ []) last (message_error_sound error) (field_sound g no_fields))
 
   -- members that may be left out
-  told : (m : Message) (well said : Bool) (fields : List Field) → IsSound K (above 13 d) (whole_document place (message_fields m ++ fields) well)
-      → IsSound K (above 13 d) (whole_document place (message_fields m ++ (if said then fields else [])) well)
+  told : (m : Message) (well said : Bool) (fields : List Field) → IsSound K (above 33 d) (whole_document place (message_fields m ++ fields) well)
+      → IsSound K (above 33 d) (whole_document place (message_fields m ++ (if said then fields else [])) well)
   told m well true fields g = g
   told m well false fields g = says m well [] refl refl no_fields
 
   -- a document by its body
-  same : (m : Message) (well : Bool) (a b : List Field) → b ≡ a → IsSound K (above 13 d) (whole_document place (message_fields m ++ a) well) → IsSound K (above 13 d) (whole_document place (message_fields m ++ b) well)
-  same m well a b e h = subst (λ body. IsSound K (above 13 d) (whole_document place (message_fields m ++ body) well)) (sym e) h
+  same : (m : Message) (well : Bool) (a b : List Field) → b ≡ a → IsSound K (above 33 d) (whole_document place (message_fields m ++ a) well) → IsSound K (above 33 d) (whole_document place (message_fields m ++ b) well)
+  same m well a b e h = subst (λ body. IsSound K (above 33 d) (whole_document place (message_fields m ++ body) well)) (sym e) h
 
-  failed : (m : Message) (body : List Field) (well : Bool) (error : MessageError) → body ≡ message_error error ∷ [] → IsSound K (above 13 d) (whole_document place (message_fields m ++ body) well)
+  failed : (m : Message) (body : List Field) (well : Bool) (error : MessageError) → body ≡ message_error error ∷ [] → IsSound K (above 33 d) (whole_document place (message_fields m ++ body) well)
   failed m body well error e = same m well (message_error error ∷ []) body e (says m well (message_error error ∷ []) refl refl (message_error_sound error))
 
-  body_sound : (m : Message) (body : List Field) (well : Bool) → ShowsBody m body well → IsSound K (above 13 d) (whole_document place (message_fields m ++ body) well)
+  body_sound : (m : Message) (body : List Field) (well : Bool) → ShowsBody m body well → IsSound K (above 33 d) (whole_document place (message_fields m ++ body) well)
   body_sound m body well (Link header g has link shown e) =
-      let sound : IsSound K (above 12 d) link = link_sound header _ link well shown in
+      let sound : IsSound K (above 32 d) link = link_sound header _ link well shown in
       same m well ((codes "link", link) ∷ []) body e (says m well ((codes "link", link) ∷ []) refl refl (field_sound sound no_fields))
   body_sound m body well (Reply a is e w) =
       let fields = fault_fields a.fault ++ (codes "reply", reply_json a) ∷ [] in
@@ -141,73 +141,73 @@ module _ {K : Type 0} {d : ℕ} (place : List Field) (is : K → IsPlace place) 
   body_sound m body well (NoReply error t is e w) = failed m body well error e
   body_sound m body well (Other t l e w) = same m well [] body e (says m well [] refl refl no_fields)
 
-  one_message : (m : Message) (js : List Json) (well : Bool) → ShowsMessage place m js well → EachSound K (above 13 d) js
-  one_message m js well (j, (body, shown, is), e) = one_sound j js e (subst (IsSound K (above 13 d)) (sym is) (body_sound m body well shown))
+  one_message : (m : Message) (js : List Json) (well : Bool) → ShowsMessage place m js well → EachSound K (above 33 d) js
+  one_message m js well (j, (body, shown, is), e) = one_sound j js e (subst (IsSound K (above 33 d)) (sym is) (body_sound m body well shown))
 
-  plain_sound : (well : Bool) → IsSound K (above 13 d) (whole_document place [] well)
+  plain_sound : (well : Bool) → IsSound K (above 33 d) (whole_document place [] well)
   plain_sound well = whole_sound [] well refl refl no_fields
 
-  none_sound : (js : List Json) → js ≡ [] → EachSound K (above 13 d) js
-  none_sound js e = subst (EachSound K (above 13 d)) (sym e) no_items
+  none_sound : (js : List Json) → js ≡ [] → EachSound K (above 33 d) js
+  none_sound js e = subst (EachSound K (above 33 d)) (sym e) no_items
 
-  end_sound : (s : List ℕ) (at : ℕ) (js : List Json) (well : Bool) → ShowsEnd place s at js well → EachSound K (above 13 d) js
+  end_sound : (s : List ℕ) (at : ℕ) (js : List Json) (well : Bool) → ShowsEnd place s at js well → EachSound K (above 33 d) js
   end_sound s at js well (Ended t l e w) = none_sound js e
   end_sound s at js well (Empty t l e w) = one_sound _ js e (plain_sound true)
   end_sound s at js well (Done m is t shown) = one_message m js well shown
   end_sound s at js well (Zeros t error l z e w) = none_sound js e
   end_sound s at js well (Broken t error l z e w) = one_sound _ js e (whole_sound (message_error error ∷ []) false refl refl (message_error_sound error))
 
-  messages_sound : (s : List ℕ) (js : List Json) (whole : Bool) → ShowsMessages place s js whole → EachSound K (above 13 d) js
+  messages_sound : (s : List ℕ) (js : List Json) (whole : Bool) → ShowsMessages place s js whole → EachSound K (above 33 d) js
   messages_sound s js whole shown =
-      subst (EachSound K (above 13 d)) (sym shown.joined)
+      subst (EachSound K (above 33 d)) (sym shown.joined)
       (each_both shown.front shown.last (shown_sound (ShowsMessage place) one_message shown.messages shown.front shown.front_well shown.each) (end_sound s shown.end shown.last shown.last_well shown.at_end))
 
   -- ---- other documents
 
-  fault_sound : (at : Option ℕ) (text : List ℕ) → IsSound K (above 13 d) (fault_document place at text)
+  fault_sound : (at : Option ℕ) (text : List ℕ) → IsSound K (above 33 d) (fault_document place at text)
   fault_sound at text =
       let error : List Field = (codes "at", at_json at) ∷ (codes "text", text_json text) ∷ [] in
       whole_sound ((codes "error", object_of error) ∷ []) false refl refl (field_sound (object_sound error refl (field_sound (at_sound at) (field_sound (text_sound text) no_fields))) no_fields)
 
-  list_sound : (family : Family) (bytes : List ℕ) (j : Json) (well : Bool) → ShowsListDocument place family bytes j well → IsSound K (above 13 d) j
+  list_sound : (family : Family) (bytes : List ℕ) (j : Json) (well : Bool) → ShowsListDocument place family bytes j well → IsSound K (above 33 d) j
   list_sound family bytes j well (js, shown, e) =
       let list : List Field = (codes "family", string (family_name family)) ∷ (codes "attrs", array_of js) ∷ [] in
-      let each : EachSound K (above 10 d) js = family_sound family 0 bytes js well shown in
-      subst (IsSound K (above 13 d)) (sym e)
+      let each : EachSound K (above 30 d) js = family_sound 0 family 0 bytes js well shown in
+      subst (IsSound K (above 33 d)) (sym e)
       (whole_sound ((codes "list", object_of list) ∷ []) well refl refl (field_sound (object_sound list refl (field_sound (string_sound _) (field_sound (array_sound js each) no_fields))) no_fields))
 
-  check_sound : (family : Family) (at : Option ℕ) → IsSound K (above 13 d) (check_document place family at)
+  check_sound : (family : Family) (at : Option ℕ) → IsSound K (above 33 d) (check_document place family at)
   check_sound family at =
       let canonical = not (is_some at) in
       let check : List Field = (codes "family", string (family_name family)) ∷ (codes "canonical", boolean canonical) ∷ (codes "at", at_json at) ∷ [] in
       whole_sound ((codes "check", object_of check) ∷ []) canonical refl refl (field_sound (object_sound check refl (field_sound (string_sound _) (field_sound (boolean_sound canonical) (field_sound (at_sound at) no_fields)))) no_fields)
 
-  check_shown : (family : Family) (bytes : List ℕ) (j : Json) (well : Bool) → ShowsCheck place family bytes j well → IsSound K (above 13 d) j
-  check_shown family bytes j well (IsCanonical t e w) = subst (IsSound K (above 13 d)) (sym e) (check_sound family None)
-  check_shown family bytes j well (IsNot at t e w) = subst (IsSound K (above 13 d)) (sym e) (check_sound family (Some at))
+  check_shown : (family : Family) (bytes : List ℕ) (j : Json) (well : Bool) → ShowsCheck place family bytes j well → IsSound K (above 33 d) j
+  check_shown family bytes j well (IsCanonical t e w) = subst (IsSound K (above 33 d)) (sym e) (check_sound family None)
+  check_shown family bytes j well (IsNot at t e w) = subst (IsSound K (above 33 d)) (sym e) (check_sound family (Some at))
 
 -- ---- documents from a place
 
 module _ (place : List Field) (is : IsPlace place) where
   pub messages_are_lines : (s : List ℕ) (js : List Json) (whole : Bool) → ShowsMessages place s js whole → AllByRecursion IsLine js
-  messages_are_lines s js whole shown = each_line js (messages_sound {d = 115} place (λ k. is) is.shallow s js whole shown)
+  messages_are_lines s js whole shown = each_line js (messages_sound {d = 95} place (λ k. is) is.shallow s js whole shown)
 
   pub line_of_place : IsLine (place_document place)
-  line_of_place = line (place_document place) (plain_sound {d = 115} place (λ k. is) is.shallow true)
+  line_of_place = line (place_document place) (plain_sound {d = 95} place (λ k. is) is.shallow true)
 
   pub line_of_fault : (at : Option ℕ) (text : List ℕ) → IsLine (fault_document place at text)
-  line_of_fault at text = line (fault_document place at text) (fault_sound {d = 115} place (λ k. is) is.shallow at text)
+  line_of_fault at text = line (fault_document place at text) (fault_sound {d = 95} place (λ k. is) is.shallow at text)
 
   pub line_of_list : (family : Family) (bytes : List ℕ) (j : Json) (well : Bool) → ShowsListDocument place family bytes j well → IsLine j
-  line_of_list family bytes j well shown = line j (list_sound {d = 115} place (λ k. is) is.shallow family bytes j well shown)
+  line_of_list family bytes j well shown = line j (list_sound {d = 95} place (λ k. is) is.shallow family bytes j well shown)
 
   pub line_of_check : (family : Family) (bytes : List ℕ) (j : Json) (well : Bool) → ShowsCheck place family bytes j well → IsLine j
-  line_of_check family bytes j well shown = line j (check_shown {d = 115} place (λ k. is) is.shallow family bytes j well shown)
+  line_of_check family bytes j well shown = line j (check_shown {d = 95} place (λ k. is) is.shallow family bytes j well shown)
 
 -- ---- how deep documents nest, with any members of a place
 
-module _ (place : List Field) (d : ℕ) (more : 12 ≤ d) (placed : members_depth (members_of place) ≤ d) where
-  within : members_depth (members_of place) ≤ above 12 (d - 12)
+module _ (place : List Field) (d : ℕ) (more : 32 ≤ d) (placed : members_depth (members_of place) ≤ d) where
+  within : members_depth (members_of place) ≤ above 32 (d - 32)
   within = omega (arith, more, placed)
 
   pub messages_in : (s : List ℕ) (js : List Json) (whole : Bool) → ShowsMessages place s js whole → items_depth (items_of js) ≤ d + 1

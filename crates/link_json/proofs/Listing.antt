@@ -1,27 +1,38 @@
 -- The elements of lists: one more, and the end.
-use Rattle.std.proofs.Common.{◌≡◌, ◌≢◌, ℕ, ◌+◌, ◌-◌, Bool, true, false, List, [], ◌∷◌, ◌++◌, length, Some, refl, sym, ap, subst, ◌∙◌, append_assoc}
+use Rattle.std.proofs.Common.{◌≡◌, ◌≢◌, ℕ, zero, suc, ◌+◌, ◌-◌, ◌<◌, Bool, false, ◌&&◌, List, [], ◌∷◌, ◌++◌, length, Option, Some, None, Result, Ok, Err, Bor, refl, sym, ap, ap₂, subst, ◌∙◌, arith, append_assoc, inl, inr}
+use Rattle.std.specs.Prelude.{IfOk}
 use Rattle.std.specs.List.{flat_map}
 use Rattle.std.proofs.lemmas.List.{append-nil}
 use Rattle.std.proofs.lemmas.Grind.{flat_map-append}
-use Rattle.json.specs.Token.{Token}
+use Rattle.json.specs.Token.{Token, begin_array, end_array, end_object}
 use Rattle.json.specs.Json.{Json}
-use Rattle.json.specs.Tree.{json_tokens}
+use Rattle.json.specs.Tree.{json_tokens, items_tokens, members_tokens}
 use Rattle.link_base.specs.declared.wire.buffer.NlaBuffer.{NlaBuffer}
 use Rattle.link_base.specs.declared.wire.fault.Cause.{Cause}
 use Rattle.link_base.specs.declared.wire.fault.DecodeFault.{DecodeFault}
-use Rattle.link_base.specs.Frame.{frame_fault}
-use Rattle.link_base.specs.Buffer.{SplitsFirst, payload_of}
-use Rattle.link_base.specs.Table.{Table}
+use Rattle.link_base.specs.declared.views.content.Content.{Content}
+use Rattle.link_base.specs.declared.views.content.Content.TheVariants as contents
+use Rattle.link_base.specs.Frame.{kind_of, frame_fault}
+use Rattle.link_base.specs.Buffer.{SplitsFirst, kind_field_of, payload_of}
+use Rattle.link_base.specs.Table.{Label}
+use Rattle.link_base.specs.Borrowed.{elements_at, HasContent}
 use Rattle.link_base.specs.Viewed.{FaultsFirst}
 use Rattle.netlink_packet_route.specs.declared.family.Family.{Family}
+use Rattle.netlink_packet_route.specs.declared.opening.Context.{Context}
 use Rattle.netlink_packet_route.specs.Family.{table_of}
+use Rattle.netlink_packet_route.specs.Opening.{holding_at, IsOpened}
 use Rattle.link_messages.specs.Walk.{Item}
+use Rattle.link_messages.proofs.Walking.{split_short}
 use Rattle.link_show.specs.Fault.{fault_text}
+use Rattle.link_show.specs.Held.{Answers, IsContextIn}
+use Rattle.link_show.specs.List.{label_for, ShowsEach}
 use Rattle.link_show.proofs.Addressing.{walk_to}
-use Rattle.link_show.proofs.Listing.{and_true, ShownTo, LeadTo, lead_on, shown_more, ListTo, list_more, list_fault}
-use Rattle.link_json.specs.Doc.{each_tokens}
-use Rattle.link_json.specs.List.{Adds, ShowsItem, ShowsValue, ShowsInner, ShowsElement, Decodes, Fails, WritesOne, WritesElements, WritesAddresses, end_json, fault_json, if_sized}
-use Rattle.link_json.proofs.Tokens.{each_both}
+use Rattle.link_show.proofs.Listing.{ShownTo, LeadTo, lead_on, shown_more, ListTo, list_more, list_fault, list_done}
+use Rattle.link_json.specs.Doc.{members_of, items_of, array_of, fields_tokens, each_tokens}
+use Rattle.link_json.specs.List.{fault_json, end_json, if_sized, holder_more, holder_json, holder_front, holder_back, Shower, ShowsSingle, ShowsInner, ShowsInners, ShowsKnown, ShowsDecoded, ShowsItem, Decodes, Fails, ShowsSet, shows_in, ShowsArray}
+use Rattle.link_json.specs.List.{Adds, Writes, WritesAddresses, WritesValue}
+use Rattle.link_json.proofs.Objects.{array_written}
+use Rattle.link_json.proofs.Tokens.{each_both, members_spelled, items_spelled}
 
 pub adds_none : (old : List Token) → Adds old old []
 adds_none old = sym (append-nil old)
@@ -33,40 +44,127 @@ adds_more old mid new a b first written =
 pub adds_one : (old new : List Token) (j : Json) → new ≡ old ++ json_tokens j → Adds old new (j ∷ [])
 adds_one old new j written = written ∙ ap (λ t. old ++ t) (sym (append-nil (json_tokens j)))
 
--- ---- lists of an attribute set
+-- the array of elements that were written
+pub array_shown : (shows : List Json → Bool → Type 0) (old a b new : List Token) (well : Bool) → a ≡ old ++ begin_array ∷ [] → Writes shows a b well → new ≡ b ++ end_array ∷ []
+    → WritesValue (ShowsArray shows) old new well
+array_shown shows old a b new well first (js, shown, written) last = (array_of js, (js, shown, refl), array_written old a b new js first written last)
 
--- the elements for the attributes before `rest` were written
-abbrev pub ItemsTo : Family → ℕ → List ℕ → List ℕ → List Token → List Token → Bool → Type 0
-ItemsTo family base = ListTo Adds (ShowsItem family base) (end_json base)
+-- ---- attributes that hold lists
 
-module _ (family : Family) (base : ℕ) (list rest next : List ℕ) (old mid new : List Token) (whole : Bool) where
-  -- a value more
-  pub value_more : (b : NlaBuffer) → ItemsTo family base list rest old mid whole → SplitsFirst rest b next → WritesOne (ShowsValue family b) mid new → ItemsTo family base list next old new whole
-  value_more b h split (j, shown, written) =
-      subst (ItemsTo family base list next old new) (and_true whole)
-      (list_more adds_more rest next old mid new whole true b (j ∷ []) h split (Decodes j shown refl refl) (adds_one mid new j written))
+-- what was written for one: its front, the elements of its list, and its back
+pub holder_written : (label : Option Label) (old a b new : List Token) (js : List Json) → a ≡ old ++ holder_front label → Adds a b js → new ≡ b ++ holder_back label
+    → new ≡ old ++ json_tokens (holder_json label (array_of js))
+holder_written label old a b new js first written last =
+    let front = holder_front label in
+    let back = holder_back label in
+    let more = fields_tokens (holder_more label) ++ end_object ∷ [] in
+    let spelled : items_tokens (items_of js) ++ members_tokens (members_of (holder_more label)) ≡ each_tokens js ++ back =
+    ap₂ (λ s t. s ++ t) (items_spelled js) (members_spelled (holder_more label)) ∙ append_assoc (each_tokens js) (end_array ∷ []) more in
+    last ∙ ap (λ t. t ++ back) (written ∙ ap (λ t. t ++ each_tokens js) first) ∙ append_assoc (old ++ front) (each_tokens js) back
+    ∙ append_assoc old front (each_tokens js ++ back) ∙ ap (λ t. old ++ (front ++ t)) (sym spelled)
 
-  -- an error more
-  pub error_more : (at : ℕ) (fault : DecodeFault) → ItemsTo family base list rest old mid whole → rest ≢ [] → at ≡ length list - length rest → FaultsFirst (table_of family) rest fault next
-      → new ≡ mid ++ json_tokens (fault_json (base + at) (fault_text (table_of family) fault)) → ItemsTo family base list next old new false
-  error_more at fault h some place first written =
-      list_fault adds_more (table_of family) (λ i f. fault_json (base + i) (fault_text (table_of family) f) ∷ []) (λ x f gives. Fails f gives refl refl) (λ i c. refl)
-      rest next old mid new whole at fault h some place first (adds_one mid new (fault_json (base + at) (fault_text (table_of family) fault)) written)
+-- one level less
+level_less : (n : ℕ) (context : Context) (at : ℕ) (family : Family) (list : List ℕ) (js : List Json) (well : Bool) → 0 < n → ShowsSet (n - 1) context at family list js well → shows_in n context at family list js well
+level_less zero context at family list js well h s = absurd (omega (arith, h))
+level_less (suc n) context at family list js well h s =
+    let same : suc n - 1 ≡ n = omega arith in
+    subst (λ m. ShowsSet m context at family list js well) same s
+
+-- the list of another set
+pub opened_written : (n : ℕ) (context : Context) (at : ℕ) (family : Family) (k : Option ℕ) (label : Option Label) (b : NlaBuffer) (content : Content) (set : Family) (f : ℕ) (list : List ℕ)
+    (old mid end new : List Token) (well : Bool) → Answers n (IsOpened (holding_at context family k f)) content (Some set) → 0 < n → f ≡ kind_field_of b → list ≡ payload_of b
+    → mid ≡ old ++ holder_front label → Writes (ShowsSet (n - 1) context (at + 4) set list) mid end well → new ≡ end ++ holder_back label
+    → WritesValue (ShowsSingle n (shows_in n) context at family k label b content) old new well
+opened_written n context at family k label b content set f list old mid end new well answer some same e first (js, shown, written) last =
+    let below = level_less n context (at + 4) set list js well some shown in (
+      holder_json label (array_of js),
+      (
+        Some set,
+        subst (λ z. Answers n (IsOpened (holding_at context family k z)) content (Some set)) same answer,
+        (js, subst (λ p. shows_in n context (at + 4) set p js well) e below, refl),
+      ),
+      holder_written label old mid end new js first written last,
+    )
+
+-- a nested list
+pub nested_written : (n : ℕ) (shows : Shower) (context : Context) (at : ℕ) (family : Family) (b : NlaBuffer) (list : Bor (List ℕ)) (flagged : Bool) (label : Option Label) (in_family : Family) (k : ℕ) (bytes : List ℕ)
+    (old mid end new : List Token) (well : Bool) → HasContent (table_of family) b (contents.List list flagged) → label ≡ label_for (table_of family) b → in_family ≡ family → k ≡ kind_of (kind_field_of b)
+    → bytes ≡ list.now → mid ≡ old ++ holder_front label → Writes (ShowsInners n shows context (at + 4) in_family k bytes) mid end well → new ≡ end ++ holder_back label
+    → WritesValue (ShowsDecoded n shows context at family b) old new well
+nested_written n shows context at family b list flagged label in_family k bytes old mid end new well has t f e l first (js, shown, written) last = (
+  holder_json label (array_of js),
+  (contents.List list flagged, has, (js, rw (f, e, l) at shown, ap (λ z. holder_json z (array_of js)) t)),
+  holder_written label old mid end new js first written last,
+)
+
+single_known : (n : ℕ) (shows : Shower) (context : Context) (at : ℕ) (family : Family) (b : NlaBuffer) (content : Content) (j : Json) (well : Bool)
+    → ((list : Bor (List ℕ)) (flagged : Bool) → content ≡ contents.List list flagged → ⊥) → ShowsSingle n shows context at family None (label_for (table_of family) b) b content j well
+    → ShowsKnown n shows context at family b content j well
+single_known n shows context at family b (contents.List list flagged) j well other shown = absurd (other list flagged refl)
+single_known n shows context at family b content j well other shown = shown
+
+-- another attribute
+pub single_written : {E : Type 0} (r : Result Bool E) (n : ℕ) (shows : Shower) (context : Context) (at : ℕ) (family : Family) (b c : NlaBuffer) (label : Option Label) (in_family : Family) (content : Content)
+    (old new : List Token) → HasContent (table_of family) b content → c ≡ b → label ≡ label_for (table_of family) b → in_family ≡ family → ((list : Bor (List ℕ)) (flagged : Bool) → content ≡ contents.List list flagged → ⊥)
+    → IfOk r (WritesValue (ShowsSingle n shows context at in_family None label c content) old new) → IfOk r (WritesValue (ShowsDecoded n shows context at family b) old new)
+single_written (Ok well) n shows context at family b c label in_family content old new has same l f other (j, shown, written) =
+    (j, (content, has, single_known n shows context at family b content j well other (rw (same, l, f) at shown)), written)
+single_written (Err x) n shows context at family b c label in_family content old new has same l f other h = h
 
 -- ---- nested lists
 
--- the elements before `rest` were written
-abbrev pub ElementsTo : Table → List ℕ → List ℕ → List Token → List Token → Type 0
-ElementsTo table list rest old new = ShownTo Adds (ShowsElement table) (LeadTo list rest) old new true
+module _ (n : ℕ) (shows : Shower) (inner : Context) (base : ℕ) (family : Family) (k : ℕ) (list : List ℕ) where
+  -- the elements before `rest` were written
+  abbrev pub InnersTo : List ℕ → List Token → List Token → Bool → Type 0
+  InnersTo rest = ShownTo Adds (ShowsInner n shows inner base family k) (LeadTo list rest)
 
--- one more
-pub elements_more : (table : Table) (list rest next : List ℕ) (old mid new : List Token) (b : NlaBuffer) → ElementsTo table list rest old mid → SplitsFirst rest b next
-    → WritesOne (ShowsInner table b) mid new → ElementsTo table list next old new
-elements_more table list rest next old mid new b h split (j, shown, written) =
-    shown_more (LeadTo list next) (length list - length rest, b) (j ∷ []) old mid new true true (adds_more old mid new) (lead_on list rest next b split) h (j, shown, refl, refl) (adds_one mid new j written)
+  -- one more
+  pub inner_more : (rest next : List ℕ) (old mid new : List Token) (whole well : Bool) (b c : NlaBuffer) (at : ℕ) (label : Option Label) (content : Content) → InnersTo rest old mid whole → SplitsFirst rest b next
+      → HasContent (elements_at (table_of family) k) b content → at ≡ base + (length list - length rest) → c ≡ b → label ≡ label_for (elements_at (table_of family) k) b
+      → WritesValue (ShowsSingle n shows inner at family (Some k) label c content) mid new well → InnersTo next old new (whole && well)
+  inner_more rest next old mid new whole well b c at label content h split has place same l (j, shown, written) =
+      shown_more (LeadTo list next) (length list - length rest, b) (j ∷ []) old mid new whole well (adds_more old mid new) (lead_on list rest next b split) h
+      (j, (content, has, rw (place, same, l) at shown), refl) (adds_one mid new j written)
 
-pub elements_all : (table : Table) (list rest : List ℕ) (old new : List Token) → ElementsTo table list rest old new → rest ≡ [] → WritesElements table list old new
-elements_all table list rest old new h e = (h.out, (h.items, record { rest = rest; walks = h.leads; end = e }, h.each), h.written)
+  pub inners_all : (context : Context) (rest : List ℕ) (old new : List Token) (whole : Bool) → IsContextIn context list inner → InnersTo rest old new whole → rest ≡ []
+      → Writes (ShowsInners n shows context base family k list) old new whole
+  inners_all context rest old new whole is h e = (h.out, (inner, is, h.items, record { rest = rest; walks = h.leads; end = e }, h.each), h.written)
+
+-- ---- lists of an attribute set
+
+set_shown : (n : ℕ) (context : Context) (base : ℕ) (family : Family) (list : List ℕ) (js : List Json) (well : Bool)
+    → ShowsEach (ShowsItem n (shows_in n) context base family) (end_json base) list js well → ShowsSet n context base family list js well
+set_shown zero context base family list js well s = s
+set_shown (suc n) context base family list js well s = s
+
+module _ (n : ℕ) (context : Context) (base : ℕ) (family : Family) (list : List ℕ) where
+  -- the elements for the attributes before `rest` were written
+  abbrev pub SetTo : List ℕ → List Token → List Token → Bool → Type 0
+  SetTo = ListTo Adds (ShowsItem n (shows_in n) context base family) (end_json base) list
+
+  -- an attribute more
+  pub decoded_more : (rest next : List ℕ) (old mid new : List Token) (whole well : Bool) (b : NlaBuffer) (at : ℕ) → SetTo rest old mid whole → SplitsFirst rest b next → at ≡ base + (length list - length rest)
+      → WritesValue (ShowsDecoded n (shows_in n) context at family b) mid new well → SetTo next old new (whole && well)
+  decoded_more rest next old mid new whole well b at h split place (j, shown, written) =
+      list_more adds_more rest next old mid new whole well b (j ∷ []) h split (Decodes j (subst (λ i. ShowsDecoded n (shows_in n) context i family b j well) place shown) refl) (adds_one mid new j written)
+
+  -- an error more
+  pub fault_more : (rest next : List ℕ) (old mid new : List Token) (whole : Bool) (at : ℕ) (fault : DecodeFault) → SetTo rest old mid whole → rest ≢ [] → at ≡ base + (length list - length rest)
+      → FaultsFirst (table_of family) rest fault next → new ≡ mid ++ json_tokens (fault_json at (fault_text (table_of family) fault)) → SetTo next old new false
+  fault_more rest next old mid new whole at fault h some place first written =
+      let error = fault_text (table_of family) fault in
+      list_fault adds_more (table_of family) (λ i f. fault_json (base + i) (fault_text (table_of family) f) ∷ []) (λ x f gives. Fails f gives refl refl) (λ i c. refl)
+      rest next old mid new whole (length list - length rest) fault h some refl first
+      (adds_one mid new (fault_json (base + (length list - length rest)) error) (subst (λ i. new ≡ mid ++ json_tokens (fault_json i error)) place written))
+
+  -- what is left is shorter
+  pub fault_less : (rest next : List ℕ) (fault : DecodeFault) → rest ≢ [] → FaultsFirst (table_of family) rest fault next → length next < length rest
+  fault_less rest next fault some (inl (b, split, gives)) = (split_short rest b next split).1
+  fault_less [] next fault some (inr (c, bad, is, empty)) = absurd (some refl)
+  fault_less (x ∷ rest) next fault some (inr (c, bad, is, empty)) = omega (arith, ap length empty)
+
+  pub set_all : (rest : List ℕ) (old new : List Token) (whole : Bool) → SetTo rest old new whole → rest ≡ [] → Writes (ShowsSet n context base family list) old new whole
+  set_all rest old new whole h e = let (js, shown, written) = list_done refl rest old new whole h e in (js, set_shown n context base family list js whole shown, written)
 
 -- ---- lists of addresses
 

@@ -1,18 +1,18 @@
 -- Loops that write tokens: what is written and what is left are the whole.
-use Rattle.std.proofs.Common.{◌≡◌, ◌≢◌, ℕ, ◌+◌, ◌-◌, ◌*◌, ◌<◌, ◌≤◌, List, [], ◌∷◌, ◌++◌, map, drop, length, refl, ap, sym, ◌∙◌, arith, slice_index_or, bit_and, append_assoc, Result, Ok, Err, OnOk}
+use Rattle.std.proofs.Common.{◌≡◌, ◌≢◌, ℕ, ◌+◌, ◌-◌, ◌*◌, ◌<◌, ◌≤◌, ◌==◌, true, false, true≢false, eqb-true, List, [], ◌∷◌, ◌++◌, map, drop, length, refl, ap, sym, ◌∙◌, arith, slice_index_or, bit_and, append_assoc, Result, Ok, Err, OnOk}
 use Rattle.std.proofs.lemmas.List.{at_drop_more, at_drop_all}
-use Rattle.json.specs.Token.{Token, string, end_array}
+use Rattle.json.specs.Token.{Token, string, key, end_array, end_object}
 use Rattle.json.specs.Json.{string as string_json}
-use Rattle.json.specs.Tree.{json_tokens, items_tokens}
+use Rattle.json.specs.Tree.{json_tokens, items_tokens, members_tokens}
 use Rattle.link_base.specs.declared.rows.label.Name.{Name}
 use Rattle.link_base.specs.declared.rows.form.ArrayOf.{ArrayOf}
 use Rattle.link_base.specs.Forms.{size_in}
-use Rattle.link_base.specs.Labels.{names_in}
+use Rattle.link_base.specs.Labels.{names_in, name_in}
 use Rattle.link_base.specs.Layout.{number_at, numbers_at}
 use Rattle.link_show.proofs.Arrays.{numbers_more}
 use Rattle.link_show.proofs.FlagWords.{set_more, set_other}
-use Rattle.link_json.specs.Doc.{items_of}
-use Rattle.link_json.specs.Value.{names_json, item_json}
+use Rattle.link_json.specs.Doc.{items_of, members_of, object_of, array_of}
+use Rattle.link_json.specs.Value.{names_json, item_json, place_key, places_json, numbers_json}
 
 pub on_ok : {X E : Type 0} {P Q : Type 0} (r : Result X E) → (P → Q) → OnOk r P → OnOk r Q
 on_ok (Ok x) f h = f h
@@ -54,6 +54,14 @@ names_done xs i bits none = at_drop_all (λ ys. items_tokens (items_of (names_js
 
 -- ---- arrays of numbers
 
+pub without_names : (a : ArrayOf) (names : List Name) (ns : List ℕ) → (length names == 0) ≡ true → numbers_json (names_in names) a ns ≡ array_of (map (item_json a) ns)
+without_names a [] ns h = refl
+without_names a (x ∷ names) ns h = absurd (omega (arith, eqb-true (length (x ∷ names)) 0 h))
+
+pub with_names : (a : ArrayOf) (names : List Name) (ns : List ℕ) → (length names == 0) ≡ false → numbers_json (names_in names) a ns ≡ object_of (places_json (names_in names) a 0 ns)
+with_names a [] ns h = absurd (true≢false h)
+with_names a (x ∷ names) ns h = refl
+
 -- the tokens of the numbers that are left
 abbrev pub numbers_left : ArrayOf → ℕ → ℕ → List ℕ → List Token
 numbers_left a n i p = items_tokens (items_of (map (item_json a) (numbers_at (size_in a) (n - i) (i * size_in a) p)))
@@ -63,3 +71,21 @@ number_more a n i p h = ap (λ ns. items_tokens (items_of (map (item_json a) ns)
 
 pub numbers_done : (a : ArrayOf) (n i : ℕ) (p : List ℕ) → n ≤ i → numbers_left a n i p ≡ end_array ∷ []
 numbers_done a n i p h = let none : n - i ≡ 0 = omega (arith, h) in ap (λ m. items_tokens (items_of (map (item_json a) (numbers_at (size_in a) m (i * size_in a) p)))) none
+
+-- ---- arrays whose places have names
+
+-- the tokens of the members that are left
+abbrev pub places_left : List (ℕ × List ℕ) → ArrayOf → ℕ → ℕ → List ℕ → List Token
+places_left names a n i p = members_tokens (members_of (places_json names a i (numbers_at (size_in a) (n - i) (i * size_in a) p)))
+
+-- the tokens of one
+abbrev pub place_tokens : List (ℕ × List ℕ) → ArrayOf → ℕ → List ℕ → List Token
+place_tokens names a i p = key (place_key i (name_in names i)) ∷ json_tokens (item_json a (number_at (size_in a) (i * size_in a) p))
+
+pub place_more : (names : List (ℕ × List ℕ)) (a : ArrayOf) (n i : ℕ) (p : List ℕ) → i < n → places_left names a n i p ≡ place_tokens names a i p ++ places_left names a n (i + 1) p
+place_more names a n i p h = ap (λ ns. members_tokens (members_of (places_json names a i ns))) (numbers_more (size_in a) n i _ p h refl)
+
+pub places_done : (names : List (ℕ × List ℕ)) (a : ArrayOf) (n i : ℕ) (p : List ℕ) → n ≤ i → places_left names a n i p ≡ end_object ∷ []
+places_done names a n i p h =
+    let none : n - i ≡ 0 = omega (arith, h) in
+    ap (λ m. members_tokens (members_of (places_json names a i (numbers_at (size_in a) m (i * size_in a) p)))) none

@@ -1,6 +1,6 @@
 -- Values that may be in lines: if K, their numbers are numbers of JSON, and no object in them has a key twice; and they nest
 -- at most n deep. K says that the members that say where a document is from are those of a place.
-use Rattle.std.proofs.Common.{◌≡◌, ℕ, ℤ, pos, negsuc, zero, suc, ◌-◌, ◌%◌, ◌^◌, ◌≤◌, Bool, true, false, List, [], ◌∷◌, ◌++◌, map, Option, Some, None, refl, sym, ap, subst, ◌∙◌, arith, codes, if◌then◌else◌}
+use Rattle.std.proofs.Common.{◌≡◌, ℕ, ℤ, pos, negsuc, zero, suc, ◌+◌, ◌-◌, ◌%◌, ◌^◌, ◌≤◌, Bool, true, false, List, [], ◌∷◌, ◌++◌, map, length, Option, Some, None, refl, sym, ap, subst, ◌∙◌, arith, codes, if◌then◌else◌}
 use Rattle.std.specs.Str.{is_utf8}
 use Rattle.json.specs.Json.{Json, null, boolean, string}
 use Rattle.json.specs.Strict.{keys, HasUniqueKeys, ItemsHaveUniqueKeys, MembersHaveUniqueKeys}
@@ -24,8 +24,9 @@ use Rattle.link_show.specs.Flags.{set_names}
 use Rattle.link_show.specs.List.{type_flags}
 use Rattle.link_show.specs.Structs.{field_in, has_fields}
 use Rattle.link_json.specs.Doc.{Field, members_of, items_of, object_of, array_of, eight_bytes, number_json, signed_json, name_json, named_json, element_json, at_json, error_json}
-use Rattle.link_json.specs.Value.{hex_json, opaque_json, text_json, flags_json, role_json, form_json, field_json, fields_json, struct_json, limits_json, unit_fields, raw_json, item_json}
+use Rattle.link_json.specs.Value.{hex_json, opaque_json, text_json, flags_json, role_json, form_json, field_json, fields_json, struct_json, limits_json, unit_fields, raw_json, item_json, places_json, numbers_json}
 use Rattle.link_json.proofs.Keys.{are_distinct, distinct}
+use Rattle.link_json.proofs.PlaceKeys.{are_keys, places_distinct}
 
 pub record IsSound (K : Type 0) (n : ℕ) (j : Json) : Type 0 where
   pub numbers : K → HasNumbers j
@@ -93,6 +94,10 @@ module _ {K : Type 0} {d : ℕ} where
   pub array_sound : (js : List Json) → EachSound K d js → IsSound K (suc d) (array_of js)
   array_sound js h = record { numbers = h.numbers; unique = h.unique; shallow = omega (arith, h.shallow) }
 
+  -- what is sound at most n deep is so at most m deep
+  pub deeper_sound : {n : ℕ} {j : Json} → d ≤ n → IsSound K d j → IsSound K n j
+  deeper_sound more h = record { numbers = h.numbers; unique = h.unique; shallow = omega (arith, h.shallow, more) }
+
   pub either_sound : (b : Bool) (x y : Json) → IsSound K d x → IsSound K d y → IsSound K d (if b then x else y)
   either_sound true x y h g = h
   either_sound false x y h g = g
@@ -140,8 +145,16 @@ module _ {K : Type 0} {d : ℕ} where
   numbers_sound a [] = no_items
   numbers_sound a (n ∷ ns) = item_sound (item_json a n) (map (item_json a) ns) (number_item a n) (numbers_sound a ns)
 
-  pub array_of_numbers : (a : ArrayOf) (ns : List ℕ) → IsSound K (suc d) (array_of (map (item_json a) ns))
-  array_of_numbers a ns = array_sound _ (numbers_sound a ns)
+  places_sound : (names : List (ℕ × List ℕ)) (a : ArrayOf) (i : ℕ) (ns : List ℕ) → AreSound K d (places_json names a i ns)
+  places_sound names a i [] = no_fields
+  places_sound names a i (n ∷ ns) = field_sound (number_item a n) (places_sound names a (i + 1) ns)
+
+  -- numbers, whose places may have names
+  pub array_of_numbers : (names : List (ℕ × List ℕ)) (a : ArrayOf) (ns : List ℕ) → are_keys names ≡ true → length ns ≤ 2 ^ 64 → IsSound K (suc d) (numbers_json names a ns)
+  array_of_numbers [] a ns keys few = array_sound _ (numbers_sound a ns)
+  array_of_numbers (x ∷ names) a ns keys few =
+      let h = places_sound (x ∷ names) a 0 ns in
+      record { numbers = h.numbers; unique = λ k. (places_distinct (x ∷ names) a ns keys few, h.unique k); shallow = omega (arith, h.shallow) }
 
 module _ {K : Type 0} {d : ℕ} where
   pub text_sound : (t : List ℕ) → IsSound K (suc d) (text_json t)

@@ -1,5 +1,5 @@
 -- The elements for lists are sound.
-use Rattle.std.proofs.Common.{◌≡◌, ℕ, suc, ◌+◌, ◌==◌, Bool, true, false, List, [], ◌∷◌, map, length, Option, Some, None, refl, sym, subst, codes, if◌then◌else◌}
+use Rattle.std.proofs.Common.{◌≡◌, ℕ, zero, suc, ◌+◌, ◌==◌, ◌≤◌, Bool, true, false, List, [], ◌∷◌, map, length, Option, Some, None, refl, sym, subst, arith, codes, if◌then◌else◌}
 use Rattle.std.specs.List.{flat_map}
 use Rattle.json.specs.Json.{Json, string}
 use Rattle.link_base.specs.declared.wire.buffer.NlaBuffer.{NlaBuffer}
@@ -11,26 +11,33 @@ use Rattle.std.proofs.lemmas.Bool.{and_parts}
 use Rattle.link_base.specs.Class.{is_on}
 use Rattle.link_base.specs.Fields.{FieldRow}
 use Rattle.link_base.specs.WellFormed.{are_fields}
+use Rattle.link_base.specs.Frame.{kind_of}
+use Rattle.link_base.specs.Number.{number}
 use Rattle.link_base.specs.Buffer.{kind_field_of, payload_of}
+use Rattle.link_base.specs.Labels.{name_in}
 use Rattle.link_base.specs.Layout.{octets_of}
 use Rattle.link_base.specs.Protocol.{vlan_protocols, protocol_number}
 use Rattle.link_base.specs.Named.{text_of}
-use Rattle.link_base.specs.Table.{Label, Table}
+use Rattle.link_base.specs.Table.{Label}
+use Rattle.link_base.specs.Borrowed.{elements_at, HasContent}
 use Rattle.netlink_packet_route.specs.declared.family.Family.{Family}
+use Rattle.netlink_packet_route.specs.declared.opening.Context.{Context}
 use Rattle.netlink_packet_route.specs.Family.{table_of}
 use Rattle.netlink_packet_route.specs.Opening.{without_nul}
 use Rattle.link_messages.specs.Walk.{Item}
+use Rattle.link_show.specs.Held.{is_state, state_names}
 use Rattle.link_show.specs.List.{EachShown, ShowsEach, label_for, ip_text}
 use Rattle.link_show.specs.Structs.{pair_fields, masked_fields}
+use Rattle.link_show.specs.Value.{counted_in}
+use Rattle.link_show.proofs.HeldPrinting.{family_has_texts}
 use Rattle.link_show.proofs.Listing.{all_any, each_hold}
-use Rattle.link_json.specs.Doc.{array_of, error_json}
-use Rattle.link_json.specs.Value.{content_json, unit_of, labelled_json, unnamed_json, attribute_json}
-use Rattle.link_json.specs.List.{ShowsElement, ShowsNested, ShowsAddresses, ShowsContent, ShowsKnown, ShowsItem, Decodes, Fails, ShowsList, if_sized, fault_json, end_json}
-use Rattle.link_json.proofs.Sound.{IsSound, EachSound, above, no_fields, field_sound, object_sound, no_items, item_sound, one_sound, each_both, array_sound, string_sound, boolean_sound, signed_sound, opaque_sound, text_sound, named_sound, flags_sound, array_of_numbers, object_of_fields, struct_sound, limits_sound, element_sound, raw_sound, error_sound, role_sound}
-use Rattle.link_show.specs.Printable.{has_texts}
-use Rattle.link_show.proofs.MessagePrinting.{family_has_texts}
 use Rattle.link_show.proofs.ValuePrinting.{IsLabelText, label_is_text, elements_text}
+use Rattle.link_json.specs.Doc.{array_of, error_json}
+use Rattle.link_json.specs.Value.{enum_json, number_or_address, content_json, unit_of, labelled_json, unnamed_json}
+use Rattle.link_json.specs.List.{ShowsAddresses, ShowsFlat, ShowsPlain, shows_leaf, ShowsHolder, Shower, ShowsSingle, ShowsInner, ShowsInners, ShowsKnown, ShowsItem, Decodes, Fails, shows_none, ShowsSet, ShowsList, holder_json, state_json, if_sized, fault_json, end_json}
 use Rattle.link_json.proofs.Keys.{are_distinct}
+use Rattle.link_json.proofs.PlaceKeys.{IsKeyed, keyed, family_has_keys, elements_have_keys, numbers_few}
+use Rattle.link_json.proofs.Sound.{IsSound, EachSound, above, no_fields, field_sound, object_sound, no_items, item_sound, one_sound, each_both, array_sound, deeper_sound, string_sound, boolean_sound, number_sound, signed_sound, opaque_sound, text_sound, named_sound, flags_sound, array_of_numbers, object_of_fields, struct_sound, limits_sound, element_sound, raw_sound, error_sound, role_sound}
 
 -- ---- values
 
@@ -50,29 +57,30 @@ distinct_names : (fields : List FieldRow) → are_fields fields ≡ true → are
 distinct_names fields h = (and_parts _ (are_distinct (map (λ f. f.name) fields)) h).1
 
 module _ {K : Type 0} {d : ℕ} where
-  pub content_sound : (label : Label) (content : Content) → IsLabelText (Some label) → IsSound K (above 3 d) (content_json label content)
-  content_sound label contents.Nothing l = boolean_sound true
-  content_sound label (contents.Bool b) l = boolean_sound b
-  content_sound label (contents.FlagOrBool flag) l = boolean_sound (is_on flag)
-  content_sound label (contents.Number n width order role) l = role_sound label.names role n
-  content_sound label (contents.Signed z) l = signed_sound z
-  content_sound label (contents.LowFlags bits) l = flags_sound label.names bits
-  content_sound label (contents.MaskedFlags flags mask) l = object_of_fields masked_fields label.names (octets_of 4 (flags ∷ mask ∷ [])) refl
-  content_sound label (contents.Pair from to) l = object_of_fields pair_fields [] (octets_of 4 (from ∷ to ∷ [])) refl
-  content_sound label (contents.Protocol p) l = named_sound (protocol_number p) (Some (text_of vlan_protocols.labels (protocol_number p)))
-  content_sound label (contents.Struct layout p) l = struct_sound layout label.fields label.names p.now (distinct_names label.fields l.1.1)
-  content_sound label (contents.Numbers a p) l = array_of_numbers a _
-  content_sound label (contents.Limits name numbers) l = limits_sound name.now numbers.now
-  content_sound label (contents.Bytes looks.Text p) l = text_sound (without_nul p.now)
-  content_sound label (contents.Bytes looks.Held p) l = opaque_sound p.now
-  content_sound label (contents.Addresses list size) l = opaque_sound list.now
-  content_sound label (contents.List list flagged) l = opaque_sound list.now
-  content_sound label (contents.Other p) l = opaque_sound p.now
-  content_sound label content l = string_sound _
+  number_or_address_sound : (n : Option ℕ) (p : List ℕ) → IsSound K (above 3 d) (number_or_address n p)
+  number_or_address_sound None p = string_sound _
+  number_or_address_sound (Some n) p = number_sound n
 
-  attribute_sound : (label : Option Label) (b : NlaBuffer) (content : Content) → IsLabelText label → IsSound K (above 4 d) (attribute_json label b content)
-  attribute_sound None b content l = unnamed_sound (kind_field_of b) (payload_of b)
-  attribute_sound (Some label) b content l = labelled_sound label (content_json label content) (content_sound label content l)
+  content_sound : (label : Label) (content : Content) → IsLabelText (Some label) → IsKeyed (Some label) content → IsSound K (above 3 d) (content_json label content)
+  content_sound label contents.Nothing l f = boolean_sound true
+  content_sound label (contents.Bool b) l f = boolean_sound b
+  content_sound label (contents.FlagOrBool flag) l f = boolean_sound (is_on flag)
+  content_sound label (contents.Number n width order role) l f = role_sound label.names role n
+  content_sound label (contents.Signed z) l f = signed_sound z
+  content_sound label (contents.LowFlags bits) l f = flags_sound label.names bits
+  content_sound label (contents.MaskedFlags flags mask) l f = object_of_fields masked_fields label.names (octets_of 4 (flags ∷ mask ∷ [])) refl
+  content_sound label (contents.Pair from to) l f = object_of_fields pair_fields [] (octets_of 4 (from ∷ to ∷ [])) refl
+  content_sound label (contents.Protocol p) l f = named_sound (protocol_number p) (Some (text_of vlan_protocols.labels (protocol_number p)))
+  content_sound label (contents.Struct layout p) l f = struct_sound layout label.fields label.names p.now (distinct_names label.fields l.1.1)
+  content_sound label (contents.Numbers a p) l f = array_of_numbers label.names a _ f.0 (numbers_few a p.now f.1)
+  content_sound label (contents.Limits name numbers) l f = limits_sound name.now numbers.now
+  content_sound label (contents.Bytes looks.Address p) l f = number_or_address_sound (counted_in label.quantity p.now) p.now
+  content_sound label (contents.Bytes looks.Text p) l f = text_sound (without_nul p.now)
+  content_sound label (contents.Bytes looks.Held p) l f = opaque_sound p.now
+  content_sound label (contents.Addresses list size) l f = opaque_sound list.now
+  content_sound label (contents.List list flagged) l f = opaque_sound list.now
+  content_sound label (contents.Other p) l f = opaque_sound p.now
+  content_sound label content l f = string_sound _
 
 -- ---- lists
 
@@ -92,15 +100,7 @@ module _ {K : Type 0} {d : ℕ} where
   list_sound shows base list one js whole s =
       subst (EachSound K (above 2 d)) (sym s.joined) (each_both s.front (end_json base s.fault) (shown_sound shows one s.items s.front s.well s.each) (end_sound base s.fault))
 
-  -- ---- nested lists and lists of addresses
-
-  element_in : (table : Table) (x : Item) (js : List Json) (well : Bool) → has_texts table ≡ true → ShowsElement table x js well → EachSound K (above 4 d) js
-  element_in table x js well texts (j, (content, has, is), e, w) =
-      one_sound j js e (subst (IsSound K (above 4 d)) (sym is) (attribute_sound (label_for table x.1) x.1 content (label_is_text table _ texts)))
-
-  nested_sound : (table : Table) (list : List ℕ) (value : Json) → has_texts table ≡ true → ShowsNested table list value → IsSound K (above 5 d) value
-  nested_sound table list value texts (js, (items, walk, shown), e) =
-      subst (IsSound K (above 5 d)) (sym e) (array_sound js (shown_sound (ShowsElement table) (λ x js well. element_in table x js well texts) items js true shown))
+  -- ---- lists of addresses
 
   sized_sound : (p : List ℕ) (b : Bool) → EachSound K d (if b then string (ip_text p) ∷ [] else [])
   sized_sound p true = item_sound _ [] (string_sound _) no_items
@@ -113,25 +113,96 @@ module _ {K : Type 0} {d : ℕ} where
   array_of_addresses : (size : ℕ) (list : List ℕ) (value : Json) → ((js : List Json) × ShowsAddresses size list js × (value ≡ array_of js)) → IsSound K (suc d) value
   array_of_addresses size list value (js, (items, (fault, walk, is)), e) = subst (IsSound K (suc d)) (sym e) (array_sound js (subst (EachSound K d) (sym is) (addresses_sound size items)))
 
--- ---- lists of an attribute set
+-- ---- attributes that hold no list
 
 module _ {K : Type 0} {d : ℕ} where
-  plain_sound : (label : Label) (content : Content) (value : Json) → IsLabelText (Some label) → value ≡ content_json label content → IsSound K (above 5 d) value
-  plain_sound label content value l e = subst (IsSound K (above 5 d)) (sym e) (content_sound label content l)
+  flat_sound : (label : Label) (content : Content) (value : Json) → IsLabelText (Some label) → IsKeyed (Some label) content → ShowsFlat label content value → IsSound K (above 3 d) value
+  flat_sound label (contents.Addresses list size) value l f s = array_of_addresses size list.now value s
+  flat_sound label content value l f e = subst (IsSound K (above 3 d)) (sym e) (content_sound label content l f)
 
-  value_sound : (family : Family) (label : Label) (b : NlaBuffer) (content : Content) (value : Json) → IsLabelText (Some label) → ShowsContent family label b content value → IsSound K (above 5 d) value
-  value_sound family label b (contents.List list flagged) value l s = nested_sound _ list.now value (elements_text (table_of family) _ (family_has_texts family)) s
-  value_sound family label b (contents.Addresses list size) value l s = array_of_addresses size list.now value s
-  value_sound family label b content value l s = plain_sound label content value l s
+  plain_sound : (label : Option Label) (b : NlaBuffer) (content : Content) (j : Json) → IsLabelText label → IsKeyed label content → ShowsPlain label b content j → IsSound K (above 4 d) j
+  plain_sound None b content j l f e = subst (IsSound K (above 4 d)) (sym e) (unnamed_sound (kind_field_of b) (payload_of b))
+  plain_sound (Some label) b content j l f (value, shown, e) = subst (IsSound K (above 4 d)) (sym e) (labelled_sound label value (flat_sound label content value l f shown))
 
-  known_sound : (family : Family) (label : Option Label) (b : NlaBuffer) (content : Content) (j : Json) → IsLabelText label → ShowsKnown family label b content j → IsSound K (above 6 d) j
-  known_sound family None b content j l e = subst (IsSound K (above 6 d)) (sym e) (unnamed_sound (kind_field_of b) (payload_of b))
-  known_sound family (Some label) b content j l (value, shown, e) = subst (IsSound K (above 6 d)) (sym e) (labelled_sound label value (value_sound family label b content value l shown))
+  state_sound : (p : List ℕ) → IsSound K (above 4 d) (state_json p)
+  state_sound p = element_sound _ _ None (string_sound _) (named_sound (number p) (name_in state_names (number p)))
 
-  shown_in : (family : Family) (base : ℕ) (x : Item) (js : List Json) (well : Bool) → ShowsItem family base x js well → EachSound K (above 6 d) js
-  shown_in family base x js well (Decodes j (content, has, known) e w) = one_sound j js e (known_sound family _ x.1 content j (label_is_text (table_of family) _ (family_has_texts family)) known)
-  shown_in family base x js well (Fails fault gives e w) = one_sound _ js e (fault_sound (base + x.0) _)
+  leaf_sound : (state : Bool) (label : Option Label) (b : NlaBuffer) (content : Content) (j : Json) → IsLabelText label → IsKeyed label content → shows_leaf state label b content j → IsSound K (above 4 d) j
+  leaf_sound true label b content j l f e = subst (IsSound K (above 4 d)) (sym e) (state_sound (payload_of b))
+  leaf_sound false label b content j l f shown = plain_sound label b content j l f shown
 
-  -- the elements for a list of an attribute set
-  pub family_sound : (family : Family) (base : ℕ) (list : List ℕ) (js : List Json) (whole : Bool) → ShowsList family base list js whole → EachSound K (above 6 d) js
-  family_sound family base list js whole s = list_sound (ShowsItem family base) base list (shown_in family base) js whole s
+-- ---- attributes that hold lists
+
+module _ {K : Type 0} {d : ℕ} where
+  holder_sound : (label : Option Label) (value : Json) → IsSound K d value → IsSound K (suc d) (holder_json label value)
+  holder_sound None value h = element_sound _ value None (string_sound _) h
+  holder_sound (Some label) value h = labelled_sound label value h
+
+module _ {K : Type 0} {d : ℕ} where
+  held_sound : (label : Option Label) (shows : List Json → Bool → Type 0) (j : Json) (well : Bool) → ((js : List Json) → shows js well → EachSound K d js) → ShowsHolder label shows j well → IsSound K (above 2 d) j
+  held_sound label shows j well each (js, shown, e) = subst (IsSound K (above 2 d)) (sym e) (holder_sound label (array_of js) (array_sound js (each js shown)))
+
+-- what is shown for lists is sound
+abbrev AreShown : Type 0 → ℕ → Shower → Type 0
+AreShown K d shows = (context : Context) (base : ℕ) (family : Family) (list : List ℕ) (js : List Json) (well : Bool) → shows context base family list js well → EachSound K d js
+
+-- attributes whose lists are sound at most d deep
+module _ {K : Type 0} {d : ℕ} (least : 2 ≤ d) (n : ℕ) (shows : Shower) (held : AreShown K d shows) where
+  single_sound : (context : Context) (at : ℕ) (family : Family) (k : Option ℕ) (label : Option Label) (b : NlaBuffer) (content : Content) (j : Json) (well : Bool) → IsLabelText label → IsKeyed label content
+      → ShowsSingle n shows context at family k label b content j well → IsSound K (above 2 d) j
+  single_sound context at family k label b content j well l f (None, answer, (shown, e)) =
+      let flat : IsSound K (above 4 0) j = leaf_sound (is_state context family k b) label b content j l f shown in
+      deeper_sound (omega (arith, least)) flat
+  single_sound context at family k label b content j well l f (Some set, answer, shown) =
+      held_sound label (shows context (at + 4) set (payload_of b)) j well (λ js s. held context (at + 4) set (payload_of b) js well s) shown
+
+  inner_sound : (context : Context) (base : ℕ) (family : Family) (k : ℕ) (x : Item) (js : List Json) (well : Bool) → ShowsInner n shows context base family k x js well → EachSound K (above 2 d) js
+  inner_sound context base family k x js well (j, (content, has, shown), e) =
+      let table = elements_at (table_of family) k in
+      let l = label_is_text table (kind_of (kind_field_of x.1)) (elements_text (table_of family) k (family_has_texts family)) in
+      let f = keyed table x.1 content (elements_have_keys (table_of family) k (family_has_keys family)) has in
+      one_sound j js e (single_sound context (base + x.0) family (Some k) (label_for table x.1) x.1 content j well l f shown)
+
+  inners_sound : (context : Context) (base : ℕ) (family : Family) (k : ℕ) (list : List ℕ) (js : List Json) (well : Bool) → ShowsInners n shows context base family k list js well → EachSound K (above 2 d) js
+  inners_sound context base family k list js well (inner, is, items, walk, each) = shown_sound _ (inner_sound inner base family k) items js well each
+
+  known_sound : (context : Context) (at : ℕ) (family : Family) (b : NlaBuffer) (content : Content) (j : Json) (well : Bool) → HasContent (table_of family) b content
+      → ShowsKnown n shows context at family b content j well → IsSound K (above 4 d) j
+  known_sound context at family b (contents.List list flagged) j well has shown =
+      let k = kind_of (kind_field_of b) in
+      held_sound (label_for (table_of family) b) (ShowsInners n shows context (at + 4) family k list.now) j well (λ js s. inners_sound context (at + 4) family k list.now js well s) shown
+  known_sound context at family b content j well has shown =
+      let l = label_is_text (table_of family) (kind_of (kind_field_of b)) (family_has_texts family) in
+      let f = keyed (table_of family) b content (family_has_keys family) has in
+      deeper_sound (omega arith) (single_sound context at family None (label_for (table_of family) b) b content j well l f shown)
+
+  item_shown : (context : Context) (base : ℕ) (family : Family) (x : Item) (js : List Json) (well : Bool) → ShowsItem n shows context base family x js well → EachSound K (above 4 d) js
+  item_shown context base family x js well (Decodes j (content, has, shown) e) = one_sound j js e (known_sound context (base + x.0) family x.1 content j well has shown)
+  item_shown context base family x js well (Fails fault gives e w) = one_sound _ js e (fault_sound (base + x.0) _)
+
+-- ---- lists
+
+-- how deep the elements of a list nest, if n levels of lists are opened
+abbrev pub deepest : ℕ → ℕ → ℕ
+deepest zero d = above 6 d
+deepest (suc n) d = above 4 (deepest n d)
+
+least_deep : (n d : ℕ) → 6 + d ≤ deepest n d
+least_deep zero d = omega arith
+least_deep (suc n) d = omega (arith, least_deep n d)
+
+module _ {K : Type 0} where
+  none_shown : (d : ℕ) → AreShown K d shows_none
+  none_shown d context base family list js well s = absurd s
+
+  set_sound : (n d : ℕ) → AreShown K (deepest n d) (ShowsSet n)
+  set_sound zero d context base family list js well s =
+      list_sound {d = above 4 d} (ShowsItem zero shows_none context base family) base list (item_shown {d = above 2 d} (omega arith) zero shows_none (none_shown (above 2 d)) context base family) js well s
+  set_sound (suc n) d context base family list js well s =
+      list_sound {d = above 2 (deepest n d)} (ShowsItem (suc n) (ShowsSet n) context base family) base list
+      (item_shown {d = deepest n d} (omega (arith, least_deep n d)) (suc n) (ShowsSet n) (set_sound n d) context base family) js well s
+
+module _ {K : Type 0} {d : ℕ} where
+  -- the elements for a list, which opens six levels
+  pub family_sound : (address_family : ℕ) (family : Family) (base : ℕ) (list : List ℕ) (js : List Json) (whole : Bool) → ShowsList address_family family base list js whole → EachSound K (above 30 d) js
+  family_sound address_family family base list js whole s = set_sound 6 d _ base family list js whole s

@@ -25,7 +25,7 @@ list_document place family js well = whole_document place ((codes "list", object
 
 -- the document of a list, and whether it has no error
 abbrev pub ShowsListDocument : List Field → Family → List ℕ → Json → Bool → Type 0
-ShowsListDocument place family bytes j well = (js : List Json) × ShowsList family 0 bytes js well × (j ≡ list_document place family js well)
+ShowsListDocument place family bytes j well = (js : List Json) × ShowsList 0 family 0 bytes js well × (j ≡ list_document place family js well)
 
 -- whether a list is canonical: the offset of its first attribute that is not, if there is one
 abbrev pub check_document : List Field → Family → Option ℕ → Json

@@ -1,5 +1,5 @@
 -- The JSON of values, by the form of their content.
-use Rattle.std.specs.Prelude.{ℕ, ◌-◌, true, List, [], ◌∷◌, map, Option, Some, None, codes, if◌then◌else◌}
+use Rattle.std.specs.Prelude.{ℕ, ◌+◌, ◌-◌, true, List, [], ◌∷◌, map, Option, Some, None, codes, if◌then◌else◌}
 use Rattle.std.specs.Fmt.{decimal}
 use Rattle.std.specs.Int.{w32, cast_signed}
 use Rattle.std.specs.Str.{is_utf8}
@@ -37,6 +37,7 @@ use Rattle.link_base.specs.Named.{text_of}
 use Rattle.netlink_packet_route.specs.Opening.{without_nul}
 use Rattle.link_show.specs.Text.{joined}
 use Rattle.link_show.specs.Octets.{byte_text, ip6_text}
+use Rattle.link_show.specs.Value.{counted_in}
 use Rattle.link_show.specs.Flags.{set_names}
 use Rattle.link_show.specs.List.{type_flags}
 use Rattle.link_show.specs.Structs.{field_in, has_fields, bridge_id_text, pair_fields, masked_fields}
@@ -111,12 +112,34 @@ struct_json layout fields names p = object_of (fields_json fields 0 names p)
 abbrev pub limits_json : List ℕ → List ℕ → Json
 limits_json name p = object_of ((codes "name", text_json name) ∷ fields_json limit_fields 16 [] p)
 
--- ---- contents
+-- ---- arrays of numbers
 
 -- the number of an array whose bytes are those of n
 abbrev pub item_json : ArrayOf → ℕ → Json
 item_json I32 n = signed_json (cast_signed w32 n)
 item_json a n = number_json n
+
+-- the key of the number with this index: the name of its place, or the index, if that has none
+abbrev pub place_key : ℕ → Option (List ℕ) → List ℕ
+place_key i None = decimal i
+place_key i (Some name) = name
+
+-- the members for the numbers of an array from index i on
+abbrev pub places_json : List (ℕ × List ℕ) → ArrayOf → ℕ → List ℕ → List Field
+places_json names a i [] = []
+places_json names a i (n ∷ ns) = (place_key i (name_in names i), item_json a n) ∷ places_json names a (i + 1) ns
+
+-- an array; an object, if its places have names
+abbrev pub numbers_json : List (ℕ × List ℕ) → ArrayOf → List ℕ → Json
+numbers_json [] a ns = array_of (map (item_json a) ns)
+numbers_json (x ∷ names) a ns = object_of (places_json (x ∷ names) a 0 ns)
+
+-- ---- contents
+
+-- bytes: the number in them, if it counts something, or an address
+abbrev pub number_or_address : Option ℕ → List ℕ → Json
+number_or_address None p = address_json p
+number_or_address (Some n) p = number_json n
 
 -- the value of a content, by what is known of its attribute type; the bytes of a list
 abbrev pub content_json : Label → Content → Json
@@ -132,11 +155,11 @@ content_json label (contents.Protocol p) = protocol_json p
 content_json label (contents.Mac a) = address_json a
 content_json label (contents.Ipv4 a) = string (ipv4_text (ipv4_octets a))
 content_json label (contents.Ipv6 a) = string (ip6_text (sixteen_octets a))
-content_json label (contents.Bytes looks.Address p) = address_json p.now
+content_json label (contents.Bytes looks.Address p) = number_or_address (counted_in label.quantity p.now) p.now
 content_json label (contents.Bytes looks.Text p) = text_json (without_nul p.now)
 content_json label (contents.Bytes looks.Held p) = opaque_json p.now
 content_json label (contents.Struct layout p) = struct_json layout label.fields label.names p.now
-content_json label (contents.Numbers a p) = array_of (map (item_json a) (numbers_of (size_in a) p.now))
+content_json label (contents.Numbers a p) = numbers_json label.names a (numbers_of (size_in a) p.now)
 content_json label (contents.Limits name numbers) = limits_json name.now numbers.now
 content_json label (contents.Addresses list size) = opaque_json list.now
 content_json label (contents.List list flagged) = opaque_json list.now
@@ -170,8 +193,3 @@ raw_json f p = object_of ((codes "type", number_json (kind_of f)) ∷ (codes "fl
 -- an attribute whose type has no name
 abbrev pub unnamed_json : ℕ → List ℕ → Json
 unnamed_json f p = element_json (string (decimal (kind_of f))) (raw_json f p) []
-
--- an attribute that is in no list of attributes
-abbrev pub attribute_json : Option Label → NlaBuffer → Content → Json
-attribute_json None b content = unnamed_json (kind_field_of b) (payload_of b)
-attribute_json (Some label) b content = labelled_json label (content_json label content)

@@ -5,21 +5,12 @@
 //! is not of a message. A [`Sheet`] holds a document while it is written, and is used again for the next.
 #![tactic(auto)]
 
-/// Attribute types, each with the name of its constant.
-macro_rules! types {
-    ($($kind:ident)*) => {
-        &[$(Name { number: $kind as u64, text: stringify!($kind) },)*]
-    };
-}
-
 mod documents;
-mod infos;
-mod items;
+mod elements;
 pub mod laws;
 mod links;
 mod lists;
 mod messages;
-mod names;
 mod numbers;
 mod others;
 mod parts;

@@ -1,53 +1,185 @@
-//! Lists of attributes.
+//! Lists of attributes, and the lists of other sets that attributes hold.
 
-ghost use Rattle.std.specs.Prelude.{◌≡◌, ◌++◌, Some, IfOk, OnOk};
+ghost use Rattle.std.specs.Prelude.{◌≡◌, ◌++◌, ◌+◌, ◌<◌, ◌^◌, Some, length, IfOk, OnOk};
 ghost use Rattle.json.specs.Tree.{json_tokens};
-ghost use Rattle.link_base.specs.Borrowed.{Borrows};
-ghost use Rattle.link_base.specs.Labels.{label_of};
-ghost use Rattle.link_base.specs.Table.{class_at};
-ghost use Rattle.link_base.specs.Viewed.{set_in, buffer_in, kind_in, payload_in, set_of, bytes_in};
+ghost use Rattle.link_base.specs.Buffer.{payload_of};
+ghost use Rattle.link_base.specs.Labels.{label_in};
+ghost use Rattle.link_base.specs.Viewed.{set_in, buffer_in, set_of, bytes_in};
 ghost use Rattle.netlink_packet_route.specs.Family.{table_of};
-ghost use Rattle.netlink_packet_route.specs.Views.{family_in, elements_table};
+ghost use Rattle.netlink_packet_route.specs.Views.{family_in};
 ghost use Rattle.link_show.specs.Fault.{fault_text};
-ghost use Rattle.link_show.specs.Printable.{IsText};
-ghost use Rattle.link_json.specs.Doc.{each_tokens, error_json};
-ghost use Rattle.link_json.specs.Value.{content_json, labelled_json};
-ghost use Rattle.link_json.specs.List.{ShowsList, ShowsValue, ShowsLabelled, ShowsContent, ShowsNested, ShowsInner, ShowsFlat, fault_json, if_sized};
-ghost use Rattle.link_json.specs.List.{Writes, WritesOne, WritesElements, WritesAddresses};
+ghost use Rattle.link_json.specs.Doc.{error_json};
+ghost use Rattle.link_json.specs.List.{ShowsSet, ShowsDecoded, ShowsInners, ShowsSingle, ShowsList, ShowsArray, HasText, shows_in, fault_json};
+ghost use Rattle.link_json.specs.List.{Writes, WritesValue};
 
+use crate::elements::{begin_holder, end_holder, write_leaf};
 use crate::parts::write_number_field;
 use crate::sheet::Sheet;
-use crate::values::{write_content, write_unit, write_unnamed};
-use link_base::rows::label::KindLabel;
-use link_base::views::content::Content;
+use link_base::views::content::{Content, Known};
 use link_base::views::view::{Value, View};
 use link_base::views::view_all::ViewAll;
 use link_base::{DecodeFault, NlaBuffer};
 use link_messages::Payload;
-use netlink_packet_route::{Family, FamilyElements, FamilySet};
+use link_show::{MOST_LEVELS, is_state, opened_at};
+use netlink_packet_route::{Context, Family, FamilyElements, FamilySet};
 use std::alloc::AllocError;
 
-/// Writes the elements for a list of a `Family`: one for each attribute, in order, and one for each error in the place of
-/// its attribute. A malformed attribute hides no other; a malformed header ends the list. Offsets of errors count from the
-/// offset of `list`. Returns whether no element is an error.
-pub(crate) fn write_list(
+/// Writes the array of a list of a `Family`. `address_family` is that of the message, which decides which set reads some
+/// lists; 0 for a list that is in no message. Returns whether no element is an error.
+pub(crate) fn write_array(
     sheet: &mut Sheet,
+    address_family: u8,
     family: Family,
     list: Payload<'_>,
 ) -> Result<bool, AllocError>
-    ensures { IfOk result (Writes (ShowsList family list.entry.at list.entry.bytes.now) sheet.old sheet.new) }
+    ensures { IfOk result (WritesValue (ShowsArray (ShowsList address_family family list.entry.at list.entry.bytes.now))
+        sheet.old sheet.new) }
+{
+    let context = Context::of_message(address_family);
+    sheet.begin_array()?;
+    let well = write_list(sheet, MOST_LEVELS, &context, family, list)?;
+    sheet.end_array()?;
+    Ok(well)
+}
+
+/// Writes the elements for a list of a `Family`: one for each attribute, in order, and one for each error in the place of
+/// its attribute. The value of an attribute whose list another set reads is the array of that list, through `depth` levels.
+/// A malformed attribute hides no other; a malformed header ends its list. Offsets of errors count from the offset of
+/// `list`. Returns whether no element is an error.
+#[cycle(walk)]
+fn write_list(
+    sheet: &mut Sheet,
+    depth: usize,
+    context: &Context<'_>,
+    family: Family,
+    list: Payload<'_>,
+) -> Result<bool, AllocError>
+    ensures { IfOk result (Writes (ShowsSet depth context.now list.entry.at family list.entry.bytes.now) sheet.old sheet.new) }
 {
     let mut whole = true;
-    for item in ViewAll::new(list.bytes, FamilySet { family }) {
+    let mut items = ViewAll::new(list.bytes, FamilySet { family });
+    'attributes: loop {
+        let at = list.at + items.offset();
+        let Some(item) = items.next() else {
+            return Ok(whole);
+        };
         match item {
-            Ok(value) => write_value(sheet, &value)?,
+            Ok(value) => {
+                let well = write_decoded(sheet, depth, context, &value, at)?;
+                whole = whole & well;
+            }
             Err(error) => {
-                write_fault(sheet, family, list.at + error.at, error.fault)?;
+                write_fault(sheet, family, at, error.fault)?;
                 whole = false;
             }
         }
     }
-    Ok(whole)
+}
+
+/// Writes an attribute that decodes and starts at offset `at`. Returns whether no element in it is an error.
+#[cycle(walk)]
+fn write_decoded(
+    sheet: &mut Sheet,
+    depth: usize,
+    context: &Context<'_>,
+    value: &Value<'_, FamilySet>,
+    at: usize,
+) -> Result<bool, AllocError>
+    requires { at + 4 + length (payload_of (buffer_in value.now)) < 2 ^ 64 }
+    ensures { IfOk result (WritesValue (ShowsDecoded depth (shows_in depth) context.now at
+        (family_in (set_in value.now)) (buffer_in value.now)) sheet.old sheet.new) }
+{
+    let known = value.known();
+    let set = value.set();
+    let buffer = value.buffer();
+    match known.content {
+        Content::List { list, .. } => {
+            begin_holder(sheet, &known.label)?;
+            let nest = FamilyElements {
+                family: set.family,
+                list: value.kind(),
+            };
+            let elements = View::of_checked(list, nest);
+            let well = write_inners(sheet, depth, context, elements, at + 4)?;
+            end_holder(sheet, &known.label)?;
+            Ok(well)
+        }
+        _ => write_single(sheet, depth, context, set.family, None, &known, buffer, at),
+    }
+}
+
+/// Writes the elements of a nested list, which starts at offset `at`. Returns whether none is an error or has one in it.
+#[cycle(walk)]
+fn write_inners(
+    sheet: &mut Sheet,
+    depth: usize,
+    context: &Context<'_>,
+    elements: View<'_, FamilyElements>,
+    at: usize,
+) -> Result<bool, AllocError>
+    requires { at + length (bytes_in elements) < 2 ^ 64 }
+    ensures { IfOk result (Writes (ShowsInners depth (shows_in depth) context.now at
+        (set_of elements.entry).family (set_of elements.entry).list (bytes_in elements.entry)) sheet.old sheet.new) }
+{
+    let set = elements.set();
+    let size = elements.bytes().len();
+    let inner = context.of_elements(&elements);
+    let mut whole = true;
+    let mut rest = elements;
+    'elements: loop {
+        let place = at + (size - rest.bytes().len());
+        let Some(element) = rest.next() else {
+            return Ok(whole);
+        };
+        let known = element.known();
+        let well = write_single(
+            sheet,
+            depth,
+            &inner,
+            set.family,
+            Some(set.list),
+            &known,
+            element.buffer(),
+            place,
+        )?;
+        whole = whole & well;
+    }
+}
+
+/// Writes an attribute that is no nested list, and starts at offset `at`. `list` is the type of the nested list that has it,
+/// or `None`. Returns whether no element in it is an error.
+#[cycle(walk)]
+fn write_single(
+    sheet: &mut Sheet,
+    depth: usize,
+    context: &Context<'_>,
+    family: Family,
+    list: Option<u16>,
+    known: &Known<'_>,
+    buffer: NlaBuffer<'_>,
+    at: usize,
+) -> Result<bool, AllocError>
+    requires text { HasText (label_in known.now.label) }
+    requires room { at + 4 + length (payload_of buffer) < 2 ^ 64 }
+    ensures { IfOk result (WritesValue (ShowsSingle depth (shows_in depth) context.now at family list
+        (label_in known.now.label) buffer.entry known.now.content) sheet.old sheet.new) }
+{
+    let f = buffer.raw_kind();
+    match opened_at(depth, context, family, list, f, known.content) {
+        Some(set) => {
+            let bytes = buffer.value();
+            begin_holder(sheet, &known.label)?;
+            let held = Payload { at: at + 4, bytes };
+            let well = write_list(sheet, depth - 1, context, set, held)?;
+            end_holder(sheet, &known.label)?;
+            Ok(well)
+        }
+        None => {
+            let state = is_state(context, family, list, buffer);
+            write_leaf(sheet, state, known, buffer)?;
+            Ok(true)
+        }
+    }
 }
 
 /// Writes an error at an offset.
@@ -79,142 +211,4 @@ fn write_fault_at(
     sheet.key("text")?;
     sheet.fault(family, fault)?;
     sheet.end_object()
-}
-
-/// Writes an attribute that decodes.
-fn write_value(sheet: &mut Sheet, value: &Value<'_, FamilySet>) -> Result<(), AllocError>
-    ensures { OnOk result (WritesOne (ShowsValue (family_in (set_in value.now)) (buffer_in value.now)) sheet.old sheet.new) }
-{
-    let known = value.known();
-    match known.label {
-        Some(label) => write_labelled(sheet, &label, value, known.content),
-        None => write_unnamed(sheet, value.buffer()),
-    }
-}
-
-/// Writes an attribute with this label and this content.
-fn write_labelled(
-    sheet: &mut Sheet,
-    label: &KindLabel,
-    value: &Value<'_, FamilySet>,
-    content: Content<'_>,
-) -> Result<(), AllocError>
-    requires name { IsText label.now.name.now }
-    requires content { Borrows (class_at (table_of (family_in (set_in value.now))) (kind_in value.now)) (payload_in value.now) content }
-    ensures { OnOk result (WritesOne (ShowsLabelled (family_in (set_in value.now)) (label_of label.now) (buffer_in value.now) content.entry)
-        sheet.old sheet.new) }
-{
-    sheet.begin_object()?;
-    sheet.key("name")?;
-    sheet.short_name(label.prefix, label.name)?;
-    sheet.key("value")?;
-    write_any(sheet, label, value, content)?;
-    write_unit(sheet, label.quantity)?;
-    sheet.end_object()
-}
-
-/// Writes the value of an attribute with this label and this content.
-fn write_any(
-    sheet: &mut Sheet,
-    label: &KindLabel,
-    value: &Value<'_, FamilySet>,
-    content: Content<'_>,
-) -> Result<(), AllocError>
-    requires { Borrows (class_at (table_of (family_in (set_in value.now))) (kind_in value.now)) (payload_in value.now) content }
-    ensures { OnOk result (WritesOne (ShowsContent (family_in (set_in value.now)) (label_of label.now) (buffer_in value.now) content.entry)
-        sheet.old sheet.new) }
-{
-    match content {
-        Content::List { list, .. } => {
-            let family = value.set().family;
-            let kind = value.kind();
-            let elements = View::of_checked(list, FamilyElements { family, list: kind });
-            write_nested(sheet, elements)
-        }
-        _ => write_flat(sheet, label, content),
-    }
-}
-
-/// Writes an array of the elements of a nested list.
-fn write_nested(sheet: &mut Sheet, elements: View<'_, FamilyElements>) -> Result<(), AllocError>
-    ensures { OnOk result (WritesOne (ShowsNested (elements_table (set_of elements.entry)) (bytes_in elements.entry))
-        sheet.old sheet.new) }
-{
-    sheet.begin_array()?;
-    write_elements(sheet, elements)?;
-    sheet.end_array()
-}
-
-/// Writes the elements of a nested list.
-fn write_elements(sheet: &mut Sheet, elements: View<'_, FamilyElements>) -> Result<(), AllocError>
-    ensures { OnOk result (WritesElements (elements_table (set_of elements.entry)) (bytes_in elements.entry)
-        sheet.old sheet.new) }
-{
-    for element in elements {
-        write_element(sheet, &element)?;
-    }
-    Ok(())
-}
-
-/// Writes an attribute in a nested list.
-fn write_element(sheet: &mut Sheet, element: &Value<'_, FamilyElements>) -> Result<(), AllocError>
-    ensures { OnOk result (WritesOne (ShowsInner (elements_table (set_in element.now)) (buffer_in element.now))
-        sheet.old sheet.new) }
-{
-    let known = element.known();
-    match known.label {
-        Some(label) => write_inner(sheet, &label, known.content),
-        None => write_unnamed(sheet, element.buffer()),
-    }
-}
-
-/// Writes an attribute in a nested list that has this label and this content.
-fn write_inner(sheet: &mut Sheet, label: &KindLabel, content: Content<'_>) -> Result<(), AllocError>
-    requires { IsText label.now.name.now }
-    ensures { OnOk result (sheet.new ≡ sheet.old
-        ++ json_tokens (labelled_json (label_of label.now) (content_json (label_of label.now) content.entry))) }
-{
-    sheet.begin_object()?;
-    sheet.key("name")?;
-    sheet.short_name(label.prefix, label.name)?;
-    sheet.key("value")?;
-    write_content(sheet, label, content)?;
-    write_unit(sheet, label.quantity)?;
-    sheet.end_object()
-}
-
-/// Writes the value of an attribute that is not a nested list.
-fn write_flat(sheet: &mut Sheet, label: &KindLabel, content: Content<'_>) -> Result<(), AllocError>
-    ensures { OnOk result (WritesOne (ShowsFlat (label_of label.now) content.entry) sheet.old sheet.new) }
-{
-    match content {
-        Content::Addresses { list, size } => {
-            sheet.begin_array()?;
-            write_addresses(sheet, list, size)?;
-            sheet.end_array()
-        }
-        _ => write_content(sheet, label, content),
-    }
-}
-
-/// Writes the addresses of `size` bytes in a list.
-fn write_addresses(sheet: &mut Sheet, list: &[u8], size: usize) -> Result<(), AllocError>
-    ensures { OnOk result (WritesAddresses size list.now sheet.old sheet.new) }
-{
-    let mut rest = list;
-    while let Ok((attribute, after)) = NlaBuffer::split_first(rest) {
-        write_address_of(sheet, attribute.value(), size)?;
-        rest = after;
-    }
-    Ok(())
-}
-
-/// Writes an IP address, if it has `size` bytes.
-fn write_address_of(sheet: &mut Sheet, address: &[u8], size: usize) -> Result<(), AllocError>
-    ensures { OnOk result (sheet.new ≡ sheet.old ++ each_tokens (if_sized size address.now)) }
-{
-    if address.len() != size {
-        return Ok(());
-    }
-    sheet.ip(address)
 }

@@ -9,7 +9,7 @@ ghost use Rattle.link_json.specs.Message.{OnMemory, document_line};
 ghost use Rattle.link_json.specs.Other.{ShowsListDocument, ShowsCheck, WritesLine, place_document, fault_document, check_document};
 
 use crate::documents::{end_document, store_empty};
-use crate::links::write_array;
+use crate::lists::write_array;
 use crate::messages::{Failure, print_document};
 use crate::place::Place;
 use crate::sheet::Sheet;
@@ -139,7 +139,7 @@ fn store_list<P: Place>(
     sheet.key("family")?;
     sheet.string(family.name())?;
     sheet.key("attrs")?;
-    let well = write_array(sheet, family, Payload { at: 0, bytes })?;
+    let well = write_array(sheet, 0, family, Payload { at: 0, bytes })?;
     sheet.end_object()?;
     end_document(sheet, well)?;
     Ok(well)

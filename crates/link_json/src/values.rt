@@ -7,8 +7,9 @@ ghost use Rattle.link_base.specs.Buffer.{kind_field_of, payload_of};
 ghost use Rattle.link_base.specs.IpAddress.{sixteen_octets};
 ghost use Rattle.link_base.specs.Labels.{label_of};
 ghost use Rattle.link_show.specs.Octets.{ip6_text};
+ghost use Rattle.link_show.specs.Value.{counted_in};
 ghost use Rattle.link_json.specs.Doc.{fields_tokens};
-ghost use Rattle.link_json.specs.Value.{content_json, protocol_json, unit_of, unit_fields, raw_json, unnamed_json};
+ghost use Rattle.link_json.specs.Value.{content_json, number_or_address, protocol_json, unit_of, unit_fields, raw_json, unnamed_json};
 
 use crate::numbers::{write_flags, write_numbers};
 use crate::parts::{write_named, write_number_field};
@@ -20,7 +21,7 @@ use link_base::rows::label::{KindLabel, Quantity};
 use link_base::views::content::Content;
 use link_base::{Address, NlaBuffer, VlanProtocol};
 use link_messages::without_nul;
-use link_show::{MASKED_FIELDS, PAIR_FIELDS, TYPE_FLAGS, bytes_of_two, protocol_name};
+use link_show::{MASKED_FIELDS, PAIR_FIELDS, TYPE_FLAGS, bytes_of_two, counted_in, protocol_name};
 use std::alloc::AllocError;
 use std::net::Ipv6Addr;
 
@@ -51,7 +52,7 @@ pub(crate) fn write_content(
         Content::Bytes {
             look: Look::Address,
             bytes,
-        } => sheet.address(bytes),
+        } => write_bytes(sheet, label.quantity, bytes),
         Content::Bytes {
             look: Look::Text,
             bytes,
@@ -63,10 +64,21 @@ pub(crate) fn write_content(
         Content::Struct { layout, bytes } => {
             write_struct(sheet, layout, label.fields, label.names, bytes)
         }
-        Content::Numbers { of, bytes } => write_numbers(sheet, of, bytes),
+        Content::Numbers { of, bytes } => write_numbers(sheet, label.names, of, bytes),
         Content::Limits { name, numbers } => write_limits(sheet, name, numbers),
         Content::Addresses { list, .. } | Content::List { list, .. } => sheet.opaque(list),
         Content::Other(payload) => sheet.opaque(payload),
+    }
+}
+
+/// Writes bytes: the number in them, if it counts something, or an address.
+fn write_bytes(sheet: &mut Sheet, quantity: Quantity, bytes: &[u8]) -> Result<(), AllocError>
+    ensures { OnOk result (sheet.new ≡ sheet.old
+        ++ json_tokens (number_or_address (counted_in quantity bytes.now) bytes.now)) }
+{
+    match counted_in(quantity, bytes) {
+        Some(number) => sheet.number(number),
+        None => sheet.address(bytes),
     }
 }
 
@@ -115,7 +127,7 @@ fn unit_of(quantity: Quantity) -> Option<&'static str>
 }
 
 /// Writes the value of an attribute that is not decoded.
-pub(crate) fn write_raw(sheet: &mut Sheet, buffer: NlaBuffer<'_>) -> Result<(), AllocError>
+fn write_raw(sheet: &mut Sheet, buffer: NlaBuffer<'_>) -> Result<(), AllocError>
     ensures { OnOk result (sheet.new ≡ sheet.old
         ++ json_tokens (raw_json (kind_field_of buffer.entry) (payload_of buffer.entry))) }
 {

@@ -4,14 +4,17 @@ pub mod Pieced
 pub mod Segments
 pub mod FlagWords
 pub mod Arrays
+pub mod Numbered
 pub mod Places
 pub mod StructFields
 pub mod ValueTexts
 pub mod Lines
 pub mod Listing
+pub mod HeldLines
 pub mod Addressing
 pub mod MessageLines
 pub mod Printing
 pub mod ValuePrinting
 pub mod LinePrinting
+pub mod HeldPrinting
 pub mod MessagePrinting

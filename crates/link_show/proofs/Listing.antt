@@ -1,8 +1,6 @@
 -- Items that are shown, one after another, and lists: one attribute more, and the end.
 use Rattle.std.proofs.Common.{◌≡◌, ◌≢◌, ℕ, ◌+◌, ◌-◌, Bool, true, false, ◌&&◌, List, [], ◌∷◌, ◌++◌, length, Option, Some, None, Err, refl, sym, ap, ap₂, subst, ◌∙◌, inl, inr}
 use Rattle.std.specs.List.{flat_map, list_all, AllZip, AllByRecursion}
-use Rattle.link_show.specs.Sink.{Output, Gains}
-use Rattle.link_show.specs.Gained.{gains_more}
 use Rattle.std.proofs.lemmas.List.{append-nil}
 use Rattle.std.proofs.lemmas.List.Folds.{list_all-append}
 use Rattle.std.proofs.lemmas.Grind.{flat_map-append}
@@ -17,8 +15,7 @@ use Rattle.link_base.specs.Viewed.{FaultsFirst}
 use Rattle.link_messages.specs.Walk.{Item, Walks}
 use Rattle.link_messages.proofs.Walking.{walks_more, end_splits}
 use Rattle.link_messages.proofs.Links.{zip_push}
-use Rattle.link_show.specs.Fault.{fault_text}
-use Rattle.link_show.specs.List.{EachShown, ShowsEach, ShowsElement, WritesElements, WritesElement, ShowsItem, WritesValue, error_line, end_line, below, Decodes, Fails}
+use Rattle.link_show.specs.List.{EachShown, ShowsEach}
 
 -- ---- several items
 
@@ -146,38 +143,3 @@ list_done none rest old new whole (Broken e w) empty = w
 list_done none rest old new whole (Going h) empty =
     let joined = sym (append-nil h.out) ∙ ap (λ t. h.out ++ t) (sym none) in
     (h.out, record { items = h.items; fault = None; walk = record { rest = rest; walks = h.leads; end = empty }; front = h.out; well = whole; each = h.each; joined = joined; all = sym (and_true whole) }, h.written)
-
--- ---- lists of an attribute set, as lines
-
--- the lines of the attributes before `rest` were written
-abbrev pub LinesTo : List ℕ → ℕ → Table → List ℕ → List ℕ → Output → Output → Bool → Type 0
-LinesTo indent base table = ListTo Gains (ShowsItem indent base table) (end_line indent base)
-
-module _ (indent : List ℕ) (base : ℕ) (table : Table) (list rest next : List ℕ) (old mid new : Output) (whole : Bool) where
-  -- a value more
-  pub value_more : (b : NlaBuffer) → LinesTo indent base table list rest old mid whole → SplitsFirst rest b next → WritesValue indent table b mid new → LinesTo indent base table list next old new whole
-  value_more b h split (out, shown, written) =
-      subst (LinesTo indent base table list next old new) (and_true whole)
-      (list_more gains_more rest next old mid new whole true b out h split (Decodes shown refl) written)
-
-  -- an error more
-  pub error_more : (at : ℕ) (fault : DecodeFault) → LinesTo indent base table list rest old mid whole → rest ≢ [] → at ≡ length list - length rest → FaultsFirst table rest fault next
-      → Gains mid new (error_line indent (base + at) (fault_text table fault)) → LinesTo indent base table list next old new false
-  error_more at fault h some place first written =
-      list_fault gains_more table (λ i f. error_line indent (base + i) (fault_text table f)) (λ x f gives. Fails f gives refl refl) (λ i c. refl)
-      rest next old mid new whole at fault h some place first written
-
--- ---- the elements of a nested list, as lines
-
--- the lines of the elements before `rest` were written
-abbrev pub ElementsTo : List ℕ → Table → List ℕ → List ℕ → Output → Output → Type 0
-ElementsTo indent table list rest old new = ShownTo Gains (ShowsElement indent table) (LeadTo list rest) old new true
-
--- one more
-pub elements_more : (indent : List ℕ) (table : Table) (list rest next : List ℕ) (old mid new : Output) (b : NlaBuffer) → ElementsTo indent table list rest old mid → SplitsFirst rest b next
-    → WritesElement indent table b mid new → ElementsTo indent table list next old new
-elements_more indent table list rest next old mid new b h split (content, has, written) =
-    shown_more (LeadTo list next) (length list - length rest, b) (below indent _) old mid new true true (gains_more old mid new) (lead_on list rest next b split) h (content, has, refl, refl) written
-
-pub elements_all : (indent : List ℕ) (table : Table) (list rest : List ℕ) (old new : Output) → ElementsTo indent table list rest old new → rest ≡ [] → WritesElements indent table list old new
-elements_all indent table list rest old new h e = (h.items, record { rest = rest; walks = h.leads; end = e }, (h.out, h.each, h.written))

@@ -3,6 +3,7 @@ use Rattle.std.proofs.Common.{◌≡◌, ◌≢◌, ℕ, ℤ, pos, negsuc, Bool,
 use Rattle.std.specs.Fmt.{decimal, signed_decimal}
 use Rattle.std.specs.Int.RustNames.{unsigned_abs}
 use Rattle.std.specs.Int.{is_negative}
+use Rattle.link_show.specs.declared.line_options.LineOptions.{LineOptions}
 use Rattle.link_show.specs.Sink.{Output, Gains}
 use Rattle.link_show.specs.Gained.{gains_more}
 use Rattle.std.proofs.lemmas.Bool.{ltb-true, cond-true, cond-false, eq-eqb, ne_eqb}
@@ -19,7 +20,7 @@ use Rattle.link_show.specs.Structs.{field}
 use Rattle.link_show.specs.Fault.{opaque_text, bytes_text, byte_word}
 use Rattle.link_show.specs.Errno.{errno_names}
 use Rattle.link_show.specs.List.{indented, Writes}
-use Rattle.link_show.specs.Message.{two, name_part, named_or, link_line, unless_zero, others_line, errno_name, result_line, error_number_line, message_line, message_error_line, reason_text, offset_of, ShowsBody, ShowsMessage, ShowsBuffer}
+use Rattle.link_show.specs.Message.{two, name_part, named_or, link_line, unless_zero, errno_name, result_line, error_number_line, message_line, message_error_line, reason_text, offset_of, ShowsBody, ShowsMessage, ShowsBuffer}
 use Rattle.link_show.proofs.Listing.{and_true, Added, ShownTo, shown_more}
 
 pub if_ok : {X E : Type 0} (P Q : X → Type 0) (r : Result X E) → ((x : X) → P x → Q x) → IfOk r P → IfOk r Q
@@ -40,16 +41,8 @@ named_line (Err e) name text old m n new first second last = last
 
 -- ---- texts
 
-pub family_line : (name set : List ℕ) → two ++ (name ++ (codes " (" ++ (set ++ codes ")\n"))) ≡ indented two (field name (codes "(" ++ (set ++ codes ")")))
-family_line name set = simp append_assoc
-
 pub opaque_line : (name : List ℕ) (n : ℕ) → two ++ (name ++ (codes " (" ++ (decimal n ++ (byte_word n ++ codes ", not decoded)\n")))) ≡ indented two (field name (opaque_text n))
 opaque_line name n = simp append_assoc
-
-pub many_others : (n : ℕ) → n ≢ 0 → n ≢ 1 → two ++ (decimal n ++ codes " other attributes\n") ≡ others_line n
-many_others n zero one =
-    let shape : two ++ (decimal n ++ codes " other attributes\n") ≡ indented two (decimal n ++ codes " other attributes") = simp append_assoc in
-    shape ∙ sym (cond-false _ _ _ (ne_eqb _ _ zero) ∙ cond-false _ _ _ (ne_eqb _ _ one))
 
 pub field_unless_zero : (n : ℕ) (name text : List ℕ) → n ≢ 0 → (codes " " ++ (name ++ codes " ")) ++ text ≡ unless_zero n name text
 field_unless_zero n name text some =
@@ -93,9 +86,9 @@ link_shape h name = simp append_assoc
 -- ---- the messages of a buffer
 
 -- a message after its first line
-pub message_written : (check : Bool) (m : Message) (old mid new : Output) (well : Bool) → Gains old mid (message_line m) → Writes (ShowsBody check m) mid new well
-    → Writes (ShowsMessage check m) old new well
-message_written check m old mid new well first (body, is, second) =
+pub message_written : (o : LineOptions) (m : Message) (old mid new : Output) (well : Bool) → Gains old mid (message_line m) → Writes (ShowsBody o m) mid new well
+    → Writes (ShowsMessage o m) old new well
+message_written o m old mid new well first (body, is, second) =
     (message_line m ++ body, record { body = body; is_body = is; joined = refl }, gains_more old mid new (message_line m) body first second)
 
 -- the outputs for the messages of a buffer before offset `at` were added

@@ -1,28 +1,21 @@
 -- The lines of messages are printable.
 use Rattle.std.proofs.Common.{◌≡◌, ℕ, suc, ℤ, pos, negsuc, ◌==◌, Bool, true, false, List, [], ◌++◌, length, Option, Some, None, unsigned_abs, refl, sym, subst, codes}
 use Rattle.std.specs.Fmt.{signed_decimal}
-use Rattle.std.specs.List.{list_all}
 use Rattle.std.specs.Option.{option_copied}
 use Rattle.link_base.specs.declared.rows.label.Quantity.TheVariants.{Number, InterfaceIndex}
 use Rattle.link_base.specs.Labels as Labels
 use Rattle.link_base.specs.Number.{IsBytes}
-use Rattle.link_base.specs.WellFormed.{is_printable, are_names}
-use Rattle.netlink_packet_route.specs.declared.family.Family.{Family}
-use Rattle.netlink_packet_route.specs.declared.family.Family.TheVariants as families
-use Rattle.netlink_packet_route.specs.Family.{family_name, table_of}
-use Rattle.netlink_packet_route.proofs.Families.{each_family, families_formed}
+use Rattle.link_base.specs.WellFormed.{are_names}
+use Rattle.netlink_packet_route.specs.declared.family.Family.TheVariants.{Link}
+use Rattle.link_messages.specs.Finding.{Stretch}
+use Rattle.link_messages.specs.Link.{attributes_of}
+use Rattle.link_messages.specs.Message.{packet_of}
 use Rattle.link_messages.specs.declared.buffer_parts.Message.{Message}
 use Rattle.link_messages.specs.declared.buffer_parts.Payload.{Payload}
 use Rattle.link_messages.specs.declared.message.MessageError.{MessageError}
 use Rattle.link_messages.specs.declared.message.MessageError.TheVariants as errors
 use Rattle.link_messages.specs.declared.header.LinkHeader.{LinkHeader}
-use Rattle.link_messages.specs.declared.info.InfoData.{InfoData}
-use Rattle.link_messages.specs.declared.info.LinkInfo.{LinkInfo}
-use Rattle.link_messages.specs.declared.details.LinkDetails.{LinkDetails}
-use Rattle.link_messages.specs.declared.details.Protinfo.{Protinfo}
-use Rattle.link_messages.specs.declared.details.Protinfo.TheVariants as protinfos
 use Rattle.link_messages.specs.declared.acknowledgement.Acknowledgement.{Acknowledgement}
-use Rattle.netlink_packet_route.specs.Opening.{announced}
 use Rattle.link_show.specs.Number.{number_text}
 use Rattle.link_show.specs.Flags.{enum_text, flags_text}
 use Rattle.link_show.specs.Octets.{address_text}
@@ -31,11 +24,14 @@ use Rattle.link_show.specs.Fault.{byte_word}
 use Rattle.link_show.specs.Value.{other_text}
 use Rattle.link_show.specs.Errno.{errno_names}
 use Rattle.link_show.specs.MessageNames.{message_types, common_flags, new_flags, get_flags, delete_flags, error_flags, flags_of, address_families, device_types, device_flags, operational_states}
-use Rattle.link_show.specs.Message.{two, four, reason_text, offset_of, message_error_line, named_or, message_line, unless_zero, name_part, header_parts, link_line, line_of, ShowsFamily, ShowsPayload, kind_or_port, kind_line, ShowsData, fault_line, ShowsInfo, ShowsOptionalInfo, ShowsPart, state_names, ShowsProtinfo, attribute_lines, others_line, ShowsLink, number_after, error_number_line, errno_name, result_line, has_result, outcome_line, policy_text, reply_lines, ShowsBody, Link, Reply, General, NoLink, NoReply, Other, ShowsMessage, zeros_line, ShowsEnd, Ended, Done, Zeros, Broken, ShowsMessages}
-use Rattle.link_show.specs.Printable.{IsText, AreTexts, has_texts}
+use Rattle.link_show.specs.declared.line_options.LineOptions.{LineOptions}
+use Rattle.link_show.specs.Held.{context_of, levels}
+use Rattle.link_show.specs.Message.{two, reason_text, offset_of, message_error_line, named_or, message_line, unless_zero, name_part, header_parts, link_line, line_of, fault_line, ShowsLink, number_after, error_number_line, errno_name, result_line, has_result, outcome_line, policy_text, reply_lines, ShowsBody, About, Reply, General, NoLink, NoReply, Other, ShowsMessage, zeros_line, ShowsEnd, Ended, Done, Zeros, Broken, ShowsMessages}
+use Rattle.link_show.specs.Printable.{IsText, AreTexts}
 use Rattle.link_show.proofs.Printing.{text, none, and, either, decimal_text, signed_text, address_digits, quoted_text}
-use Rattle.link_show.proofs.ValuePrinting.{EachName, OnText, choose, each_name, name_found, label_is_text, formed_texts, enum_is_text, number_is_text, other_is_text, flags_is_text, field_is_text, bytes_is_text, opaque_is_text, cause_is_text}
-use Rattle.link_show.proofs.LinePrinting.{no_texts, and_texts, line_end, line_and, line_texts, indented_texts, error_texts, either_texts, all_texts, any_checked}
+use Rattle.link_show.proofs.ValuePrinting.{EachName, OnText, choose, each_name, name_found, label_is_text, enum_is_text, number_is_text, other_is_text, flags_is_text, field_is_text, bytes_is_text, opaque_is_text, cause_is_text}
+use Rattle.link_show.proofs.LinePrinting.{no_texts, and_texts, line_end, line_and, line_texts, indented_texts, error_texts, either_texts, all_texts}
+use Rattle.link_show.proofs.HeldPrinting.{set_texts}
 
 -- ---- errors
 
@@ -118,91 +114,11 @@ line_of_texts : {A : Type 0} (name : List ℕ) (of : A → List ℕ) (x : Option
 line_of_texts name of None h k = no_texts
 line_of_texts name of (Some a) h k = indented_texts two (text refl) (field_is_text name h (k a))
 
-family_is_text : (family : Family) → IsText (family_name family)
-family_is_text family = text (each_family (λ family. list_all is_printable (family_name family)) refl family)
-
-pub family_has_texts : (family : Family) → has_texts (table_of family) ≡ true
-family_has_texts family = formed_texts (table_of family) (families_formed family)
-
-family_texts : (check : Bool) (name : List ℕ) (family : Family) (p : Payload) (out : List ℕ) (well : Bool) → IsText name → ShowsFamily check name family p out well → AreTexts out
-family_texts check name family p out well n (lines, shown, is) =
-    subst AreTexts (sym is) (
-    and_texts (indented_texts two (text refl) (field_is_text name n (and {s = codes "("} (text refl) (and (family_is_text family) (text refl)))))
-    (any_checked four (text refl) check p.at (table_of family) p.bytes.now lines well (family_has_texts family) shown)
-    )
-
-payload_texts : (check : Bool) (name : List ℕ) (family : Option Family) (p : Payload) (out : List ℕ) (well : Bool) → IsText name → ShowsPayload check name family p out well → AreTexts out
-payload_texts check name None p out well n (is, e) = subst AreTexts (sym is) (indented_texts two (text refl) (field_is_text name n (opaque_is_text _)))
-payload_texts check name (Some family) p out well n shown = family_texts check name family p out well n shown
-
--- ---- IFLA_LINKINFO
-
-kind_or_port_texts : (port : Option (List ℕ)) (kind : List ℕ) → AreTexts (kind_or_port port kind)
-kind_or_port_texts None kind = indented_texts two (text refl) (field_is_text (codes "IFLA_INFO_KIND") (text refl) (quoted_text kind))
-kind_or_port_texts (Some port) kind = indented_texts two (text refl) (field_is_text (codes "IFLA_INFO_SLAVE_KIND") (text refl) (quoted_text port))
-
-kind_line_texts : (kind : Option (List ℕ)) → AreTexts (kind_line kind)
-kind_line_texts None = no_texts
-kind_line_texts (Some kind) = kind_or_port_texts (announced kind) kind
-
-data_texts : (check : Bool) (name : List ℕ) (d : Option InfoData) (out : List ℕ) (well : Bool) → IsText name → ShowsData check name d out well → AreTexts out
-data_texts check name None out well n (is, e) = subst AreTexts (sym is) no_texts
-data_texts check name (Some d) out well n shown = payload_texts check name d.family d.payload out well n shown
-
-info_texts : (check : Bool) (info : LinkInfo) (out : List ℕ) (well : Bool) → ShowsInfo check info out well → AreTexts out
-info_texts check info out well s =
-    subst AreTexts (sym s.joined) (
-    and_texts (kind_line_texts (option_copied info.kind))
-    (and_texts (data_texts check (codes "IFLA_INFO_DATA") info.data s.of_link s.link_well (text refl) s.is_link)
-    (and_texts (line_of_texts (codes "IFLA_INFO_SLAVE_KIND") quoted (option_copied info.port_kind) (text refl) quoted_text)
-    (and_texts (data_texts check (codes "IFLA_INFO_SLAVE_DATA") info.port_data s.of_port s.port_well (text refl) s.is_port) (fault_texts info.fault))))
-    )
-
-optional_texts : (check : Bool) (info : Option LinkInfo) (out : List ℕ) (well : Bool) → ShowsOptionalInfo check info out well → AreTexts out
-optional_texts check None out well (is, e) = subst AreTexts (sym is) no_texts
-optional_texts check (Some info) out well shown = info_texts check info out well shown
-
--- ---- IFLA_AF_SPEC and IFLA_PROTINFO
-
-part_texts : (check : Bool) (name : List ℕ) (family : Family) (p : Option Payload) (out : List ℕ) (well : Bool) → IsText name → ShowsPart check name family p out well → AreTexts out
-part_texts check name family None out well n (is, e) = subst AreTexts (sym is) no_texts
-part_texts check name family (Some p) out well n shown = family_texts check name family p out well n shown
-
-state_texts : EachName state_names
-unfolding state_names
-state_texts = (label_is_text (table_of families.BridgePort) 1 (family_has_texts families.BridgePort)).1.0
-
-protinfo_texts : (check : Bool) (found : Option Protinfo) (out : List ℕ) (well : Bool) → ShowsProtinfo check found out well → AreTexts out
-protinfo_texts check None out well (is, e) = subst AreTexts (sym is) no_texts
-protinfo_texts check (Some (protinfos.List p)) out well shown = family_texts check (codes "IFLA_PROTINFO") families.BridgePort p out well (text refl) shown
-protinfo_texts check (Some (protinfos.State n)) out well (is, e) =
-    subst AreTexts (sym is) (indented_texts two (text refl) (field_is_text (codes "IFLA_PROTINFO") (text refl) (enum_is_text state_names n state_texts)))
-protinfo_texts check (Some (protinfos.Other p)) out well shown = payload_texts check (codes "IFLA_PROTINFO") None p out well (text refl) shown
-
 -- ---- a message about a link
 
-attribute_lines_texts : (d : LinkDetails) → AreTexts (attribute_lines d)
-attribute_lines_texts d =
-    and_texts (line_of_texts (codes "IFLA_MTU") (number_text Number) d.mtu (text refl) (number_is_text Number))
-    (and_texts (line_of_texts (codes "IFLA_ADDRESS") address_text (option_copied d.address) (text refl) address_digits)
-    (and_texts (line_of_texts (codes "IFLA_LINK") (number_text InterfaceIndex) d.link (text refl) (number_is_text InterfaceIndex))
-    (and_texts (line_of_texts (codes "IFLA_MASTER") (number_text InterfaceIndex) d.master (text refl) (number_is_text InterfaceIndex))
-    (line_of_texts (codes "IFLA_OPERSTATE") (enum_text operational_states) d.operstate (text refl) (λ n. enum_is_text operational_states n (each_name operational_states refl))))))
-
-others_texts : (n : ℕ) → AreTexts (others_line n)
-others_texts n =
-    either_texts (n == 0) no_texts
-    (either_texts (n == 1) (indented_texts two {t = codes "1 other attribute"} (text refl) (text refl)) (indented_texts two (text refl) (and (decimal_text n) (text {t = codes " other attributes"} refl))))
-
-link_texts : (check : Bool) (d : LinkDetails) (out : List ℕ) (well : Bool) → ShowsLink check d out well → AreTexts out
-link_texts check d out well s =
-    subst AreTexts (sym s.joined) (
-    and_texts (link_line_texts d.header (option_copied d.name))
-    (and_texts (attribute_lines_texts d)
-    (and_texts (optional_texts check d.info s.info s.info_well s.is_info)
-    (and_texts (part_texts check (codes "IFLA_AF_SPEC") families.AfSpecBridge d.af_spec s.spec s.spec_well (text refl) s.is_spec)
-    (and_texts (protinfo_texts check d.protinfo s.ports s.ports_well s.is_ports) (and_texts (others_texts d.others) (fault_texts d.fault))))))
-    )
+link_texts : (o : LineOptions) (h : LinkHeader) (list : Stretch) (out : List ℕ) (well : Bool) → ShowsLink o h list out well → AreTexts out
+link_texts o h list out well (name, of, lines, shown, is) =
+    subst AreTexts (sym is) (and_texts (link_line_texts h name) (set_texts o levels (context_of h.family) two list.0 Link list.1 lines well (text refl) shown))
 
 -- ---- replies
 
@@ -241,16 +157,16 @@ reply_texts a =
 
 -- ---- messages
 
-body_texts : (check : Bool) (m : Message) (out : List ℕ) (well : Bool) → ShowsBody check m out well → AreTexts out
-body_texts check m out well (Link d has shown) = link_texts check d out well shown
-body_texts check m out well (Reply a has is e) = subst AreTexts (sym is) (reply_texts a)
-body_texts check m out well (General kind is e) = subst AreTexts (sym is) no_texts
-body_texts check m out well (NoLink error kind other has is e) = subst AreTexts (sym is) (message_error_texts two error (text refl))
-body_texts check m out well (NoReply error kind has is e) = subst AreTexts (sym is) (message_error_texts two error (text refl))
-body_texts check m out well (Other u v is e) = subst AreTexts (sym is) no_texts
+body_texts : (o : LineOptions) (m : Message) (out : List ℕ) (well : Bool) → ShowsBody o m out well → AreTexts out
+body_texts o m out well (About h plain has shown) = link_texts o h (attributes_of m.at (packet_of m)) out well shown
+body_texts o m out well (Reply a has is e) = subst AreTexts (sym is) (reply_texts a)
+body_texts o m out well (General kind is e) = subst AreTexts (sym is) no_texts
+body_texts o m out well (NoLink error kind other has is e) = subst AreTexts (sym is) (message_error_texts two error (text refl))
+body_texts o m out well (NoReply error kind has is e) = subst AreTexts (sym is) (message_error_texts two error (text refl))
+body_texts o m out well (Other u v is e) = subst AreTexts (sym is) no_texts
 
-message_texts : (check : Bool) (m : Message) (out : List ℕ) (well : Bool) → ShowsMessage check m out well → AreTexts out
-message_texts check m out well s = subst AreTexts (sym s.joined) (and_texts (message_line_texts m) (body_texts check m s.body well s.is_body))
+message_texts : (o : LineOptions) (m : Message) (out : List ℕ) (well : Bool) → ShowsMessage o m out well → AreTexts out
+message_texts o m out well s = subst AreTexts (sym s.joined) (and_texts (message_line_texts m) (body_texts o m s.body well s.is_body))
 
 zeros_texts : (at n : ℕ) → AreTexts (zeros_line at n)
 zeros_texts at n =
@@ -259,13 +175,13 @@ zeros_texts at n =
     (line_and {t = codes " zero"} (text refl) (line_and {t = byte_word n} (either (n == 1) (text refl) (text refl)) (line_and {t = codes " at "} (text refl) (line_end (decimal_text at)))))
     )
 
-end_texts : (check : Bool) (s : List ℕ) (at : ℕ) (out : List ℕ) (well : Bool) → ShowsEnd check s at out well → AreTexts out
-end_texts check s at out well (Ended e is w) = subst AreTexts (sym is) no_texts
-end_texts check s at out well (Done m is kind shown) = message_texts check m out well shown
-end_texts check s at out well (Zeros some zeros is w) = subst AreTexts (sym is) (zeros_texts at _)
-end_texts check s at out well (Broken error some other e is w) = subst AreTexts (sym is) (message_error_texts [] error none)
+end_texts : (o : LineOptions) (s : List ℕ) (at : ℕ) (out : List ℕ) (well : Bool) → ShowsEnd o s at out well → AreTexts out
+end_texts o s at out well (Ended e is w) = subst AreTexts (sym is) no_texts
+end_texts o s at out well (Done m is kind shown) = message_texts o m out well shown
+end_texts o s at out well (Zeros some zeros is w) = subst AreTexts (sym is) (zeros_texts at _)
+end_texts o s at out well (Broken error some other e is w) = subst AreTexts (sym is) (message_error_texts [] error none)
 
-pub messages_texts : (check : Bool) (s out : List ℕ) (whole : Bool) → IsBytes s → ShowsMessages check s out whole → AreTexts out
-messages_texts check s out whole h shown =
+pub messages_texts : (o : LineOptions) (s out : List ℕ) (whole : Bool) → IsBytes s → ShowsMessages o s out whole → AreTexts out
+messages_texts o s out whole h shown =
     subst AreTexts (sym shown.joined)
-    (and_texts (all_texts (ShowsMessage check) (message_texts check) shown.messages shown.front shown.front_well shown.each) (end_texts check s shown.end shown.last shown.last_well shown.at_end))
+    (and_texts (all_texts (ShowsMessage o) (message_texts o) shown.messages shown.front shown.front_well shown.each) (end_texts o s shown.end shown.last shown.last_well shown.at_end))

@@ -47,7 +47,7 @@ use Rattle.link_show.specs.Number.{seconds_of, beside, unit_of, number_text, ite
 use Rattle.link_show.specs.Counters.{place_text, zeros_word, counter_words, counters_text, numbers_text}
 use Rattle.link_show.specs.Flags.{named_text, enum_text, set_names, unnamed, last_word, flag_words, is_all, flags_text}
 use Rattle.link_show.specs.Structs.{field, two_fields, role_text, form_text, field_in, field_text, pair_fields, masked_fields, has_fields, fields_text, bridge_id_text, struct_text, limits_text}
-use Rattle.link_show.specs.Value.{other_text, content_text, value_text}
+use Rattle.link_show.specs.Value.{other_text, counted_in, number_or_address, content_text, value_text}
 use Rattle.link_show.specs.Fault.{bytes_text, opaque_text, expected_word, cause_words, kind_text, is_array, payload_fault, fault_text}
 use Rattle.link_show.specs.Printable.{IsText, has_texts}
 use Rattle.link_show.proofs.Printing.{text, none, and, either, joined_text, decimal_text, signed_text, hex_digits, hex_bytes, address_digits, quoted_text, ipv4_is_text, ip6_is_text}
@@ -307,6 +307,10 @@ pub other_is_text : (p : List ℕ) → IsText (other_text p)
 other_is_text [] = text refl
 other_is_text (b ∷ p) = and {s = codes "hex "} (text refl) (hex_bytes (b ∷ p))
 
+number_or_address_text : (quantity : Quantity) (n : Option ℕ) (p : List ℕ) → IsText (number_or_address quantity n p)
+number_or_address_text quantity None p = address_digits p
+number_or_address_text quantity (Some n) p = number_is_text quantity n
+
 pub content_is_text : (label : Label) (content : Content) → IsLabelText (Some label) → IsText (content_text label content)
 content_is_text label (contents.Bool b) l = either b (text refl) (text refl)
 content_is_text label (contents.FlagOrBool flag) l = either (is_on flag) (text refl) (text refl)
@@ -319,7 +323,7 @@ content_is_text label (contents.Protocol p) l = beside_text (named_label_text vl
 content_is_text label (contents.Mac a) l = address_digits a
 content_is_text label (contents.Ipv4 a) l = ipv4_is_text (ipv4_octets a)
 content_is_text label (contents.Ipv6 a) l = ip6_is_text (sixteen_octets a)
-content_is_text label (contents.Bytes looks.Address p) l = address_digits p.now
+content_is_text label (contents.Bytes looks.Address p) l = number_or_address_text label.quantity (counted_in label.quantity p.now) p.now
 content_is_text label (contents.Bytes looks.Text p) l = quoted_text (without_nul p.now)
 content_is_text label (contents.Bytes looks.Held p) l = opaque_is_text (length p.now)
 content_is_text label (contents.Struct layout p) l = struct_is_text layout label.fields label.names p.now (fields_named label.fields l.1.1) l.1.0

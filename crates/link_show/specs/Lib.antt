@@ -9,6 +9,8 @@ pub mod Printable
 pub mod Value
 pub mod Fault
 pub mod List
+pub mod Indents
+pub mod Held
 pub mod Errno
 pub mod MessageNames
 pub mod Message

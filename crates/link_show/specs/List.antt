@@ -1,5 +1,5 @@
 -- The lines of attributes, and of lists.
-use Rattle.std.specs.Prelude.{◌≡◌, ◌≢◌, ℕ, ◌+◌, ◌-◌, ◌==◌, Bool, true, false, ◌&&◌, List, [], ◌∷◌, ◌++◌, length, Option, Some, None, Err, codes, if◌then◌else◌}
+use Rattle.std.specs.Prelude.{◌≡◌, ℕ, ◌+◌, ◌-◌, ◌==◌, Bool, true, false, ◌&&◌, List, [], ◌∷◌, ◌++◌, length, Option, Some, None, codes, if◌then◌else◌}
 use Rattle.std.specs.Fmt.{decimal}
 use Rattle.std.specs.List.{flat_map, list_all, AllZip}
 use Rattle.link_show.specs.Sink.{Output, Gains}
@@ -8,27 +8,22 @@ use Rattle.link_base.specs.declared.wire.buffer.NlaBuffer.{NlaBuffer}
 use Rattle.link_base.specs.declared.views.content.Content.{Content}
 use Rattle.link_base.specs.declared.views.content.Content.TheVariants as contents
 use Rattle.link_base.specs.declared.wire.fault.Cause.{Cause}
-use Rattle.link_base.specs.declared.wire.fault.DecodeFault.{DecodeFault}
 use Rattle.link_base.specs.Frame.{kind_of}
 use Rattle.link_base.specs.Buffer.{kind_field_of, payload_of}
-use Rattle.link_base.specs.Table.{Label, Table, Gives, Canonical, FirstNotCanonical, label_at}
-use Rattle.link_base.specs.Borrowed.{elements_at, HasContent}
+use Rattle.link_base.specs.Table.{Label, Table, Canonical, FirstNotCanonical, label_at}
+use Rattle.link_base.specs.Borrowed.{HasContent}
 use Rattle.link_messages.specs.Walk.{Item, Walk}
 use Rattle.link_show.specs.Text.{list_text}
 use Rattle.link_show.specs.Flags.{flags_text}
 use Rattle.link_show.specs.Octets.{hex_text, ip6_text}
 use Rattle.link_show.specs.Value.{value_text}
-use Rattle.link_show.specs.Fault.{cause_words, fault_text}
+use Rattle.link_show.specs.Fault.{cause_words}
 
 -- ---- lines
 
 -- a line: an indent, a text, and LF
 abbrev pub indented : List ℕ → List ℕ → List ℕ
 indented indent text = indent ++ (text ++ 10 ∷ [])
-
--- a line below another: two spaces more
-abbrev pub below : List ℕ → List ℕ → List ℕ
-below indent text = indent ++ indented (codes "  ") text
 
 -- the line of an error at this offset
 abbrev pub error_line : List ℕ → ℕ → List ℕ → List ℕ
@@ -103,19 +98,6 @@ separator_after size p separator = if length p == size then codes " " else separ
 abbrev pub WritesAddresses : ℕ → List ℕ → Output → Output → Type 0
 WritesAddresses size list old new = (out : List ℕ) × ShowsAddresses size list out × Gains old new out
 
--- ---- nested lists
-
--- the line of an element of a nested list, in which attributes have this table
-abbrev pub ShowsElement : List ℕ → Table → Item → List ℕ → Bool → Type 0
-ShowsElement indent table x out well =
-    (content : Content) × HasContent table x.1 content × (out ≡ below indent (attribute_text (label_for table x.1) (kind_field_of x.1) content)) × (well ≡ true)
-
--- the lines of a nested list: its name, and its elements below; or that it is empty
-pub data ShowsNested (indent name : List ℕ) (table : Table) (list out : List ℕ) : Type 0 where
-  Empty : list ≡ [] → out ≡ indented indent (name ++ codes " (empty)") → ShowsNested indent name table list out
-  Elements : list ≢ [] → (items : List Item) → Walk list items None → (lines : List ℕ) → EachShown (ShowsElement indent table) items lines true → out ≡ indented indent name ++ lines
-      → ShowsNested indent name table list out
-
 -- ---- lists
 
 -- what is behind the name, if the content is a list of addresses
@@ -126,22 +108,6 @@ ShowsMore content more = more ≡ []
 -- the line of an attribute that is no nested list
 abbrev pub ShowsFlat : List ℕ → Option Label → ℕ → Content → List ℕ → Type 0
 ShowsFlat indent label f content out = (more : List ℕ) × ShowsMore content more × (out ≡ indented indent (attribute_text label f content ++ more))
-
--- the lines of an attribute with this content
-abbrev pub ShowsContent : List ℕ → Table → NlaBuffer → Content → List ℕ → Type 0
-ShowsContent indent table b (contents.List list flagged) out =
-    ShowsNested indent (head_text (label_for table b) (kind_field_of b)) (elements_at table (kind_of (kind_field_of b))) list.now out
-ShowsContent indent table b content out = ShowsFlat indent (label_for table b) (kind_field_of b) content out
-
--- the lines of an attribute that decodes
-abbrev pub ShowsValue : List ℕ → Table → NlaBuffer → List ℕ → Type 0
-ShowsValue indent table b out = (content : Content) × HasContent table b content × ShowsContent indent table b content out
-
--- the lines of an attribute, if the list starts at offset `base`: those of its value, or its error
-pub data ShowsItem (indent : List ℕ) (base : ℕ) (table : Table) (x : Item) (out : List ℕ) (well : Bool) : Type 0 where
-  Decodes : ShowsValue indent table x.1 out → well ≡ true → ShowsItem indent base table x out well
-  Fails : (fault : DecodeFault) → Gives table (kind_field_of x.1) (payload_of x.1) (Err fault) → out ≡ error_line indent (base + x.0) (fault_text table fault) → well ≡ false
-      → ShowsItem indent base table x out well
 
 -- what ends a list: nothing, or the error of a header
 abbrev pub end_line : List ℕ → ℕ → Option (ℕ × Cause) → List ℕ
@@ -164,55 +130,24 @@ pub record ShowsEach {Y : Type 0} (shows : Item → List Y → Bool → Type 0) 
   pub joined : out ≡ front ++ ending fault
   pub all : whole ≡ (well && is_well fault)
 
--- the lines of a list that starts at offset `base`
-abbrev pub ShowsList : List ℕ → ℕ → Table → List ℕ → List ℕ → Bool → Type 0
-ShowsList indent base table = ShowsEach (ShowsItem indent base table) (end_line indent base)
-
 -- what a call writes, and what it returns with it
 abbrev pub Writes : (List ℕ → Bool → Type 0) → Output → Output → Bool → Type 0
 Writes shows old new well = (out : List ℕ) × shows out well × Gains old new out
 
--- they were written
-abbrev pub WritesList : List ℕ → ℕ → Table → List ℕ → Output → Output → Bool → Type 0
-WritesList indent base table list = Writes (ShowsList indent base table list)
+-- the line of a list whose first attribute that is not canonical starts at this offset
+abbrev pub not_canonical_line : List ℕ → ℕ → List ℕ
+not_canonical_line indent at = indented indent (codes "not canonical at " ++ decimal at)
 
 -- whether a list is canonical, if `check` asks; and whether that is well
 pub data ShowsVerdict (check : Bool) (indent : List ℕ) (base : ℕ) (table : Table) (list out : List ℕ) (well : Bool) : Type 0 where
   Unasked : check ≡ false → out ≡ [] → well ≡ true → ShowsVerdict check indent base table list out well
   IsCanonical : check ≡ true → Canonical table list → out ≡ indented indent (codes "canonical") → well ≡ true → ShowsVerdict check indent base table list out well
-  IsNot : check ≡ true → (at : ℕ) → FirstNotCanonical table list at → out ≡ indented indent (codes "not canonical at " ++ decimal (base + at)) → well ≡ false
+  IsNot : check ≡ true → (at : ℕ) → FirstNotCanonical table list at → out ≡ not_canonical_line indent (base + at) → well ≡ false
       → ShowsVerdict check indent base table list out well
 
--- the lines of a list, and, if `check` asks, whether it is canonical
-pub record ShowsChecked (check : Bool) (indent : List ℕ) (base : ℕ) (table : Table) (list out : List ℕ) (well : Bool) : Type 0 where
-  pub lines : List ℕ
-  pub whole : Bool
-  pub shown : ShowsList indent base table list lines whole
-  pub verdict : List ℕ
-  pub sound : Bool
-  pub judged : ShowsVerdict check indent base table list verdict sound
-  pub joined : out ≡ lines ++ verdict
-  pub all : well ≡ (whole && sound)
-
--- a list, an attribute, elements: likewise
-abbrev pub WritesValue : List ℕ → Table → NlaBuffer → Output → Output → Type 0
-WritesValue indent table b old new = (out : List ℕ) × ShowsValue indent table b out × Gains old new out
-
+-- the line of an attribute that is no list was written; the addresses behind its name
 abbrev pub WritesFlat : List ℕ → Option Label → ℕ → Content → Output → Output → Type 0
 WritesFlat indent label f content old new = (out : List ℕ) × ShowsFlat indent label f content out × Gains old new out
 
 abbrev pub WritesMore : Content → Output → Output → Type 0
 WritesMore content old new = (more : List ℕ) × ShowsMore content more × Gains old new more
-
-abbrev pub WritesNested : List ℕ → List ℕ → Table → List ℕ → Output → Output → Type 0
-WritesNested indent name table list old new = (out : List ℕ) × ShowsNested indent name table list out × Gains old new out
-
--- the lines of all elements of a nested list
-abbrev pub WritesElements : List ℕ → Table → List ℕ → Output → Output → Type 0
-WritesElements indent table list old new =
-    (items : List Item) × Walk list items None × ((lines : List ℕ) × EachShown (ShowsElement indent table) items lines true × Gains old new lines)
-
--- the line of one
-abbrev pub WritesElement : List ℕ → Table → NlaBuffer → Output → Output → Type 0
-WritesElement indent table b old new =
-    (content : Content) × HasContent table b content × Gains old new (below indent (attribute_text (label_for table b) (kind_field_of b) content))

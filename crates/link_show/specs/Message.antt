@@ -7,43 +7,34 @@ use Rattle.std.specs.List.{AllByRecursion}
 use Rattle.std.specs.Option.{option_copied}
 use Rattle.link_base.specs.declared.rows.label.Quantity.TheVariants.{Number, InterfaceIndex}
 use Rattle.link_base.specs.Labels.{name_in}
-use Rattle.link_base.specs.Table.{Label, label_at}
-use Rattle.netlink_packet_route.specs.declared.family.Family.{Family}
-use Rattle.netlink_packet_route.specs.declared.family.Family.TheVariants.{AfSpecBridge, BridgePort}
-use Rattle.netlink_packet_route.specs.Family.{family_name, table_of}
+use Rattle.netlink_packet_route.specs.declared.family.Family.TheVariants.{Link}
 use Rattle.link_messages.specs.declared.buffer_parts.Message.{Message}
 use Rattle.link_messages.specs.declared.buffer_parts.Payload.{Payload}
 use Rattle.link_messages.specs.declared.message.MessageError.{MessageError}
 use Rattle.link_messages.specs.declared.message.MessageError.TheVariants as errors
 use Rattle.link_messages.specs.declared.header.LinkHeader.{LinkHeader}
-use Rattle.link_messages.specs.declared.info.InfoData.{InfoData}
-use Rattle.link_messages.specs.declared.info.LinkInfo.{LinkInfo}
-use Rattle.link_messages.specs.declared.details.LinkDetails.{LinkDetails}
-use Rattle.link_messages.specs.declared.details.Protinfo.{Protinfo}
-use Rattle.link_messages.specs.declared.details.Protinfo.TheVariants as protinfos
 use Rattle.link_messages.specs.Message.{Stand, IsMessageAt, header_fault, packet_of}
-use Rattle.netlink_packet_route.specs.Opening.{announced}
-use Rattle.link_messages.specs.Header.{IsAnyLinkType, HasNoLinkHeader}
-use Rattle.link_messages.specs.Details.{HasDetails}
+use Rattle.link_messages.specs.Finding.{Stretch}
+use Rattle.link_messages.specs.BeforeFault.{OfWalk, latest, name_in as text_in}
+use Rattle.link_messages.specs.Link.{attributes_of}
+use Rattle.link_messages.specs.Header.{IsAnyLinkType, HasLinkHeader, HasNoLinkHeader}
 use Rattle.link_messages.specs.Acknowledgement.{IsReplyType, IsAcknowledgement, IsNoAcknowledgement}
 use Rattle.link_messages.specs.declared.acknowledgement.Acknowledgement.{Acknowledgement}
+use Rattle.link_show.specs.declared.line_options.LineOptions.{LineOptions}
 use Rattle.link_show.specs.Number.{number_text}
-use Rattle.link_show.specs.Flags.{enum_text, flags_text}
-use Rattle.link_show.specs.Octets.{address_text}
+use Rattle.link_show.specs.Flags.{flags_text}
 use Rattle.link_show.specs.Quoted.{quoted}
 use Rattle.link_show.specs.Structs.{field}
 use Rattle.link_show.specs.Value.{other_text}
 use Rattle.link_show.specs.Fault.{byte_word, bytes_text, opaque_text, cause_words}
-use Rattle.link_show.specs.List.{indented, error_line, EachShown, ShowsChecked}
+use Rattle.link_show.specs.List.{indented, error_line, EachShown}
+use Rattle.link_show.specs.Held.{context_of, levels, ShowsSet}
 use Rattle.link_show.specs.Errno.{errno_names}
-use Rattle.link_show.specs.MessageNames.{message_types, flags_of, address_families, device_types, device_flags, operational_states}
+use Rattle.link_show.specs.MessageNames.{message_types, flags_of, address_families, device_types, device_flags}
 
--- two and four spaces, before the lines of a message and of its lists
+-- two spaces, before the lines of a message
 abbrev pub two : List ℕ
 two = codes "  "
-
-abbrev pub four : List ℕ
-four = codes "    "
 
 -- ---- errors
 
@@ -106,38 +97,12 @@ header_parts h =
 unfoldable pub link_line : LinkHeader → Option (List ℕ) → List ℕ
 link_line h name = indented two (codes "ifindex " ++ (signed_decimal h.index ++ (name_part name ++ header_parts h)))
 
--- ---- lines of attributes
+-- ---- lines
 
 -- a line, if there is something
 abbrev pub line_of : {A : Type 0} → List ℕ → (A → List ℕ) → Option A → List ℕ
 line_of name text None = []
 line_of name text (Some x) = indented two (field name (text x))
-
--- the lines of a list of a message, below its name; `check` asks whether it is canonical
-abbrev pub ShowsFamily : Bool → List ℕ → Family → Payload → List ℕ → Bool → Type 0
-ShowsFamily check name family p out well =
-    (lines : List ℕ) × ShowsChecked check four p.at (table_of family) p.bytes.now lines well
-    × (out ≡ indented two (field name (codes "(" ++ (family_name family ++ codes ")"))) ++ lines)
-
--- the lines of data: of the attribute set that reads it, if there is one
-abbrev pub ShowsPayload : Bool → List ℕ → Option Family → Payload → List ℕ → Bool → Type 0
-ShowsPayload check name None p out well = (out ≡ indented two (field name (opaque_text (length p.bytes.now)))) × (well ≡ true)
-ShowsPayload check name (Some family) p out well = ShowsFamily check name family p out well
-
--- ---- IFLA_LINKINFO
-
--- the line of a kind; a kind that announces a kind of port is written as that
-abbrev pub kind_or_port : Option (List ℕ) → List ℕ → List ℕ
-kind_or_port None kind = indented two (field (codes "IFLA_INFO_KIND") (quoted kind))
-kind_or_port (Some port) kind = indented two (field (codes "IFLA_INFO_SLAVE_KIND") (quoted port))
-
-abbrev pub kind_line : Option (List ℕ) → List ℕ
-kind_line None = []
-kind_line (Some kind) = kind_or_port (announced kind) kind
-
-abbrev pub ShowsData : Bool → List ℕ → Option InfoData → List ℕ → Bool → Type 0
-ShowsData check name None out well = (out ≡ []) × (well ≡ true)
-ShowsData check name (Some d) out well = ShowsPayload check name d.family d.payload out well
 
 -- the error of a header among attributes
 abbrev pub fault_line : Option MessageError → List ℕ
@@ -148,74 +113,17 @@ abbrev pub is_sound : Option MessageError → Bool
 is_sound None = true
 is_sound (Some error) = false
 
--- the lines of an IFLA_LINKINFO
-pub record ShowsInfo (check : Bool) (info : LinkInfo) (out : List ℕ) (well : Bool) : Type 0 where
-  pub of_link : List ℕ
-  pub link_well : Bool
-  pub is_link : ShowsData check (codes "IFLA_INFO_DATA") info.«data» of_link link_well
-  pub of_port : List ℕ
-  pub port_well : Bool
-  pub is_port : ShowsData check (codes "IFLA_INFO_SLAVE_DATA") info.port_data of_port port_well
-  pub joined : out ≡ kind_line (option_copied info.kind) ++ (of_link ++ (line_of (codes "IFLA_INFO_SLAVE_KIND") quoted (option_copied info.port_kind) ++ (of_port ++ fault_line info.fault)))
-  pub all : well ≡ ((link_well && port_well) && is_sound info.fault)
-
--- the lines of an IFLA_LINKINFO, if there is one
-abbrev pub ShowsOptionalInfo : Bool → Option LinkInfo → List ℕ → Bool → Type 0
-ShowsOptionalInfo check None out well = (out ≡ []) × (well ≡ true)
-ShowsOptionalInfo check (Some info) out well = ShowsInfo check info out well
-
--- ---- IFLA_AF_SPEC and IFLA_PROTINFO
-
-abbrev pub ShowsPart : Bool → List ℕ → Family → Option Payload → List ℕ → Bool → Type 0
-ShowsPart check name family None out well = (out ≡ []) × (well ≡ true)
-ShowsPart check name family (Some p) out well = ShowsFamily check name family p out well
-
--- the names of what is known of an attribute type
-abbrev names_in : Option Label → List (ℕ × List ℕ)
-names_in None = []
-names_in (Some label) = label.names
-
--- the names of the STP states of bridge ports: those of IFLA_BRPORT_STATE
-unfoldable pub state_names : List (ℕ × List ℕ)
-state_names = names_in (label_at (table_of BridgePort) 1)
-
-abbrev pub ShowsProtinfo : Bool → Option Protinfo → List ℕ → Bool → Type 0
-ShowsProtinfo check None out well = (out ≡ []) × (well ≡ true)
-ShowsProtinfo check (Some (protinfos.List p)) out well = ShowsFamily check (codes "IFLA_PROTINFO") BridgePort p out well
-ShowsProtinfo check (Some (protinfos.State n)) out well = (out ≡ indented two (field (codes "IFLA_PROTINFO") (enum_text state_names n))) × (well ≡ true)
-ShowsProtinfo check (Some (protinfos.Other p)) out well = ShowsPayload check (codes "IFLA_PROTINFO") None p out well
-
 -- ---- a message about a link
 
--- the lines of the attributes that every link has
-abbrev pub attribute_lines : LinkDetails → List ℕ
-attribute_lines d =
-    line_of (codes "IFLA_MTU") (number_text Number) d.mtu
-    ++ (line_of (codes "IFLA_ADDRESS") address_text (option_copied d.address)
-    ++ (line_of (codes "IFLA_LINK") (number_text InterfaceIndex) d.link
-    ++ (line_of (codes "IFLA_MASTER") (number_text InterfaceIndex) d.master
-    ++ line_of (codes "IFLA_OPERSTATE") (enum_text operational_states) d.operstate)))
+-- the text of the last IFLA_IFNAME (3) of a list, up to its first malformed header
+abbrev pub IsLinkName : Stretch → Option (List ℕ) → Type 0
+IsLinkName list name = OfWalk list.1 (λ items _. name ≡ text_in (latest list.0 3 items))
 
--- the number of attributes that are not written
-abbrev pub others_line : ℕ → List ℕ
-others_line n =
-    if n == 0 then []
-    else (if n == 1 then indented two (codes "1 other attribute")
-    else indented two (decimal n ++ codes " other attributes"))
-
--- the lines of what a message about a link has
-pub record ShowsLink (check : Bool) (d : LinkDetails) (out : List ℕ) (well : Bool) : Type 0 where
-  pub info : List ℕ
-  pub info_well : Bool
-  pub is_info : ShowsOptionalInfo check d.info info info_well
-  pub spec : List ℕ
-  pub spec_well : Bool
-  pub is_spec : ShowsPart check (codes "IFLA_AF_SPEC") AfSpecBridge d.af_spec spec spec_well
-  pub ports : List ℕ
-  pub ports_well : Bool
-  pub is_ports : ShowsProtinfo check d.protinfo ports ports_well
-  pub joined : out ≡ link_line d.header (option_copied d.name) ++ (attribute_lines d ++ (info ++ (spec ++ (ports ++ (others_line d.others ++ fault_line d.fault)))))
-  pub all : well ≡ (((info_well && spec_well) && ports_well) && is_sound d.fault)
+-- the lines of a message about a link, with this header and these attributes
+abbrev pub ShowsLink : LineOptions → LinkHeader → Stretch → List ℕ → Bool → Type 0
+ShowsLink o h list out well =
+    (name : Option (List ℕ)) × IsLinkName list name
+    × (lines : List ℕ) × ShowsSet o levels (context_of h.family) two list.0 Link list.1 lines well × (out ≡ link_line h name ++ lines)
 
 -- ---- a reply
 
@@ -269,18 +177,18 @@ abbrev pub IsGeneral : Message → Type 0
 IsGeneral m = (m.kind ≡ 18) × (1 ≤ length m.payload.now) × (length m.payload.now < 16)
 
 -- the lines of a message below its first, and whether none is an error
-pub data ShowsBody (check : Bool) (m : Message) (out : List ℕ) (well : Bool) : Type 0 where
-  Link : (d : LinkDetails) → HasDetails m.at (packet_of m) d → ShowsLink check d out well → ShowsBody check m out well
-  Reply : (a : Acknowledgement) → IsAcknowledgement m.at (packet_of m) a → out ≡ reply_lines a → well ≡ is_sound a.fault → ShowsBody check m out well
-  General : IsGeneral m → out ≡ [] → well ≡ true → ShowsBody check m out well
-  NoLink : (error : MessageError) → IsAnyLinkType m.kind → ¬ IsGeneral m → HasNoLinkHeader m.at (packet_of m) error → out ≡ message_error_line two error → well ≡ false → ShowsBody check m out well
-  NoReply : (error : MessageError) → IsReplyType m.kind → IsNoAcknowledgement m.at (packet_of m) error → out ≡ message_error_line two error → well ≡ false → ShowsBody check m out well
-  Other : ¬ IsAnyLinkType m.kind → ¬ IsReplyType m.kind → out ≡ [] → well ≡ true → ShowsBody check m out well
+pub data ShowsBody (o : LineOptions) (m : Message) (out : List ℕ) (well : Bool) : Type 0 where
+  About : (h : LinkHeader) → ¬ IsGeneral m → HasLinkHeader (packet_of m) h → ShowsLink o h (attributes_of m.at (packet_of m)) out well → ShowsBody o m out well
+  Reply : (a : Acknowledgement) → IsAcknowledgement m.at (packet_of m) a → out ≡ reply_lines a → well ≡ is_sound a.fault → ShowsBody o m out well
+  General : IsGeneral m → out ≡ [] → well ≡ true → ShowsBody o m out well
+  NoLink : (error : MessageError) → IsAnyLinkType m.kind → ¬ IsGeneral m → HasNoLinkHeader m.at (packet_of m) error → out ≡ message_error_line two error → well ≡ false → ShowsBody o m out well
+  NoReply : (error : MessageError) → IsReplyType m.kind → IsNoAcknowledgement m.at (packet_of m) error → out ≡ message_error_line two error → well ≡ false → ShowsBody o m out well
+  Other : ¬ IsAnyLinkType m.kind → ¬ IsReplyType m.kind → out ≡ [] → well ≡ true → ShowsBody o m out well
 
 -- the lines of a message
-pub record ShowsMessage (check : Bool) (m : Message) (out : List ℕ) (well : Bool) : Type 0 where
+pub record ShowsMessage (o : LineOptions) (m : Message) (out : List ℕ) (well : Bool) : Type 0 where
   pub body : List ℕ
-  pub is_body : ShowsBody check m body well
+  pub is_body : ShowsBody o m body well
   pub joined : out ≡ message_line m ++ body
 
 -- ---- a buffer
@@ -299,11 +207,11 @@ zeros_line at n = decimal n ++ (codes " zero" ++ (byte_word n ++ (codes " at " +
 
 -- what ends the messages of s at offset `at`: its end, the NLMSG_DONE m, zeros after a message, or other bytes that are no
 -- message
-pub data ShowsEnd (check : Bool) (s : List ℕ) (at : ℕ) (out : List ℕ) (well : Bool) : Type 0 where
-  Ended : drop at s ≡ [] → out ≡ [] → well ≡ true → ShowsEnd check s at out well
-  Done : (m : Message) → IsMessageAt at (drop at s) m → m.kind ≡ 3 → ShowsMessage check m out well → ShowsEnd check s at out well
-  Zeros : drop at s ≢ [] → AreZerosAfter at (drop at s) → out ≡ zeros_line at (length (drop at s)) → well ≡ true → ShowsEnd check s at out well
-  Broken : (error : MessageError) → drop at s ≢ [] → ¬ AreZerosAfter at (drop at s) → header_fault at (drop at s) ≡ Some error → out ≡ message_error_line [] error → well ≡ false → ShowsEnd check s at out well
+pub data ShowsEnd (o : LineOptions) (s : List ℕ) (at : ℕ) (out : List ℕ) (well : Bool) : Type 0 where
+  Ended : drop at s ≡ [] → out ≡ [] → well ≡ true → ShowsEnd o s at out well
+  Done : (m : Message) → IsMessageAt at (drop at s) m → m.kind ≡ 3 → ShowsMessage o m out well → ShowsEnd o s at out well
+  Zeros : drop at s ≢ [] → AreZerosAfter at (drop at s) → out ≡ zeros_line at (length (drop at s)) → well ≡ true → ShowsEnd o s at out well
+  Broken : (error : MessageError) → drop at s ≢ [] → ¬ AreZerosAfter at (drop at s) → header_fault at (drop at s) ≡ Some error → out ≡ message_error_line [] error → well ≡ false → ShowsEnd o s at out well
 
 -- the outputs for the messages of a buffer s: for each, shown so, and for what ends them at an offset; and whether all are
 -- well
@@ -321,5 +229,5 @@ pub record ShowsBuffer {Y : Type 0} (shows : Message → List Y → Bool → Typ
   pub all : whole ≡ (front_well && last_well)
 
 -- the lines of the messages of a buffer, and whether none is an error and all checked lists are canonical
-abbrev pub ShowsMessages : Bool → List ℕ → List ℕ → Bool → Type 0
-ShowsMessages check s = ShowsBuffer (ShowsMessage check) (ShowsEnd check s) s
+abbrev pub ShowsMessages : LineOptions → List ℕ → List ℕ → Bool → Type 0
+ShowsMessages o s = ShowsBuffer (ShowsMessage o) (ShowsEnd o s) s

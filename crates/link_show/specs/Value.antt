@@ -1,5 +1,5 @@
 -- The text of a value, by the form of its content.
-use Rattle.std.specs.Prelude.{Option, Some, None, ◌≡◌, ℕ, List, [], ◌∷◌, ◌++◌, length, codes, if◌then◌else◌}
+use Rattle.std.specs.Prelude.{Option, Some, None, ◌≡◌, ℕ, ◌==◌, ◌&&◌, ◌||◌, Bool, true, false, List, [], ◌∷◌, ◌++◌, length, codes, if◌then◌else◌}
 use Rattle.link_show.specs.Sink.{Output, Gains}
 use Rattle.std.specs.Fmt.{signed_decimal}
 use Rattle.std.specs.Net.Addr.{ipv4_octets}
@@ -7,6 +7,9 @@ use Rattle.std.specs.Net.Text.{ipv4_text}
 use Rattle.link_base.specs.declared.views.content.Content.{Content}
 use Rattle.link_base.specs.declared.views.content.Content.TheVariants as contents
 use Rattle.link_base.specs.declared.rows.form.Look.TheVariants as looks
+use Rattle.link_base.specs.declared.rows.label.Quantity.{Quantity}
+use Rattle.link_base.specs.declared.rows.label.Quantity.TheVariants as quantities
+use Rattle.link_base.specs.Number.{number}
 use Rattle.link_base.specs.declared.names.vlan_protocol.VlanProtocol.{VlanProtocol}
 use Rattle.link_base.specs.Class.{is_on}
 use Rattle.link_base.specs.Frame.{kind_of}
@@ -18,7 +21,7 @@ use Rattle.link_base.specs.Layout.{numbers_of, octets_of}
 use Rattle.link_base.specs.Named.{text_of}
 use Rattle.link_base.specs.Protocol.{vlan_protocols, protocol_number}
 use Rattle.link_show.specs.Text.{hex_number, empty_text}
-use Rattle.link_show.specs.Number.{beside}
+use Rattle.link_show.specs.Number.{beside, number_text}
 use Rattle.link_show.specs.Counters.{numbers_text}
 use Rattle.link_show.specs.Fault.{opaque_text}
 use Rattle.link_show.specs.Flags.{flags_text}
@@ -36,6 +39,22 @@ abbrev pub other_text : List ℕ → List ℕ
 other_text [] = empty_text
 other_text (b ∷ p) = codes "hex " ++ hex_text (b ∷ p)
 
+-- whether a number counts something
+abbrev pub counts : Quantity → Bool
+counts quantities.Number = false
+counts quantity = true
+
+-- the number in bytes, if it counts something: they are 4, or 8
+abbrev pub counted_in : Quantity → List ℕ → Option ℕ
+counted_in quantity p =
+    if counts quantity && (length p == 4 || length p == 8) then Some (number p)
+    else None
+
+-- bytes: such a number, or an address
+abbrev pub number_or_address : Quantity → Option ℕ → List ℕ → List ℕ
+number_or_address quantity None p = address_text p
+number_or_address quantity (Some n) p = number_text quantity n
+
 -- the text of a content, but for lists, which have none
 abbrev pub content_text : Label → Content → List ℕ
 content_text label contents.Nothing = []
@@ -50,7 +69,7 @@ content_text label (contents.Protocol p) = protocol_text p
 content_text label (contents.Mac a) = address_text a
 content_text label (contents.Ipv4 a) = ipv4_text (ipv4_octets a)
 content_text label (contents.Ipv6 a) = ip6_text (sixteen_octets a)
-content_text label (contents.Bytes looks.Address p) = address_text p.now
+content_text label (contents.Bytes looks.Address p) = number_or_address label.quantity (counted_in label.quantity p.now) p.now
 content_text label (contents.Bytes looks.Text p) = quoted (without_nul p.now)
 content_text label (contents.Bytes looks.Held p) = opaque_text (length p.now)
 content_text label (contents.Struct layout p) = struct_text layout label.fields label.names p.now

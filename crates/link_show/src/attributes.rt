@@ -15,7 +15,7 @@ use link_base::NlaBuffer;
 use link_base::rows::form::Width;
 use link_base::rows::label::{KindLabel, Name};
 use link_base::views::attribute_set::AttributeSet;
-use link_base::views::content::Content;
+use link_base::views::content::{Content, Known};
 use link_base::views::view::Value;
 
 /// The flags of `nla_type` (`include/uapi/linux/netlink.h`).
@@ -39,28 +39,27 @@ pub fn write_attribute<S: AttributeSet, W: Sink>(
         (W.output writer.old) (W.output writer.new)) }
 {
     let known = value.known();
-    write_in_one_line(writer, known.label, value.buffer(), known.content)
+    write_in_one_line(writer, &known, value.buffer())
 }
 
 /// Writes an attribute with this label and this content in one line.
 #[tactic(auto, unfolding(crate::specs::List::attribute_text))]
 pub(crate) fn write_in_one_line<W: Sink>(
     writer: &mut W,
-    label: Option<KindLabel>,
+    known: &Known<'_>,
     buffer: NlaBuffer<'_>,
-    content: Content<'_>,
 ) -> Result<(), W::Error>
     ensures { OnOk result (Gains (W.output writer.old) (W.output writer.new)
-        (attribute_text (label_in label) (kind_field_of buffer.entry) content.entry)) }
+        (attribute_text (label_in known.now.label) (kind_field_of buffer.entry) known.now.content)) }
 {
-    write_head(writer, label, buffer)?;
-    if !has_text(content) {
+    write_head(writer, &known.label, buffer)?;
+    if !has_text(known.content) {
         return Ok(());
     }
     writer.put(b" ")?;
-    match label {
-        Some(label) => write_content(writer, &label, content),
-        None => write_unlabelled(writer, content),
+    match &known.label {
+        Some(label) => write_content(writer, label, known.content),
+        None => write_unlabelled(writer, known.content),
     }
 }
 
@@ -68,11 +67,11 @@ pub(crate) fn write_in_one_line<W: Sink>(
 #[tactic(auto, unfolding(crate::specs::List::head_text))]
 pub(crate) fn write_head<W: Sink>(
     writer: &mut W,
-    label: Option<KindLabel>,
+    label: &Option<KindLabel>,
     buffer: NlaBuffer<'_>,
 ) -> Result<(), W::Error>
     ensures { OnOk result (Gains (W.output writer.old) (W.output writer.new)
-        (head_text (label_in label) (kind_field_of buffer.entry))) }
+        (head_text (label_in label.now) (kind_field_of buffer.entry))) }
 {
     match label {
         Some(label) => writer.put(label.name.as_bytes()),

@@ -1,17 +1,24 @@
 //! The lists of a `Family`.
 
-ghost use Rattle.std.specs.Prelude.{true, IfOk};
-ghost use Rattle.netlink_packet_route.specs.Family.{table_of};
-ghost use Rattle.link_show.specs.List.{ShowsChecked, ShowsVerdict, Writes};
+ghost use Rattle.std.specs.Prelude.{IfOk};
+ghost use Rattle.link_show.specs.List.{Writes};
+ghost use Rattle.link_show.specs.Held.{context_of, ShowsChecked};
 
-use crate::lists::write_list;
-use crate::pieces::{Piece, put_pieces};
+use crate::held::write_judged;
+use crate::indent::Indent;
+use crate::line_options::LineOptions;
 use crate::sink::Sink;
 use link_messages::Payload;
-use netlink_packet_route::{Family, FamilySet, first_not_canonical};
+use netlink_packet_route::{Context, Family};
 
-/// Writes the lines of a list of a `Family`, as [`write_list`](crate::write_list) does, and, if `check` is set, a line
-/// that says whether it is canonical. Returns whether no line is an error, and the list, if it is checked, is canonical.
+/// How many levels of lists are opened: an attribute in a set, in a set, and so on.
+pub const MOST_LEVELS: usize = 6;
+
+/// Writes the lines of a list of a `Family`, and, if the options ask, a line that says whether it is canonical. There is a line
+/// for each attribute, below a list the lines of that, and a line for each error, in order. A malformed attribute hides no
+/// other; a malformed header ends its list. Lines start with `indent`, those below others with two spaces more; offsets of
+/// errors count from the offset of `list`. Where the address family of a message decides which set reads a list, it is
+/// AF_UNSPEC. Returns whether no line is an error, and the lists, if they are checked, are canonical.
 ///
 /// # Errors
 ///
@@ -19,52 +26,21 @@ use netlink_packet_route::{Family, FamilySet, first_not_canonical};
 pub fn write_family_list<W: Sink>(
     writer: &mut W,
     family: Family,
-    check: bool,
+    options: LineOptions,
     indent: &str,
     list: Payload<'_>,
 ) -> Result<bool, W::Error>
-    ensures { IfOk result (Writes (ShowsChecked check indent.now list.entry.at (table_of family) list.entry.bytes.now)
+    ensures { IfOk result (Writes (ShowsChecked options (context_of 0) indent.now list.entry.at family list.entry.bytes.now)
         (W.output writer.old) (W.output writer.new)) }
 {
-    let whole = write_list(writer, FamilySet { family }, indent, list)?;
-    if !check {
-        return Ok(whole);
-    }
-    let canonical = write_verdict(writer, family, indent, list)?;
-    Ok(whole & canonical)
-}
-
-/// Writes whether a list is canonical, and returns it.
-///
-/// # Errors
-///
-/// That of the writer.
-pub fn write_verdict<W: Sink>(
-    writer: &mut W,
-    family: Family,
-    indent: &str,
-    list: Payload<'_>,
-) -> Result<bool, W::Error>
-    ensures { IfOk result (Writes (ShowsVerdict true indent.now list.entry.at (table_of family) list.entry.bytes.now)
-        (W.output writer.old) (W.output writer.new)) }
-{
-    match first_not_canonical(family, list.bytes) {
-        Some(first) => {
-            let at = list.at + first;
-            put_pieces(
-                writer,
-                &[
-                    Piece::Text(indent),
-                    Piece::Text("not canonical at "),
-                    Piece::Number(at as u64),
-                    Piece::Text("\n"),
-                ],
-            )?;
-            Ok(false)
-        }
-        None => {
-            put_pieces(writer, &[Piece::Text(indent), Piece::Text("canonical\n")])?;
-            Ok(true)
-        }
-    }
+    let context = Context::of_message(0);
+    write_judged(
+        writer,
+        options,
+        MOST_LEVELS,
+        &context,
+        Indent::Text(indent),
+        family,
+        list,
+    )
 }

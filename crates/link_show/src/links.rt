@@ -2,61 +2,77 @@
 
 ghost use Rattle.std.specs.Prelude.{◌≡◌, ◌++◌, [], codes, IfOk, OnOk};
 ghost use Rattle.std.specs.Fmt.{signed_decimal};
-ghost use Rattle.std.specs.Option.{option_copied};
+ghost use Rattle.std.specs.Option.{option_copied, option_map};
+ghost use Rattle.link_messages.specs.BeforeFault.{name_in as text_in};
 ghost use Rattle.link_show.specs.Sink.{Gains};
 ghost use Rattle.link_base.specs.Labels.{names_in, name_in};
 ghost use Rattle.link_show.specs.Number.{number_text};
-ghost use Rattle.link_show.specs.Flags.{enum_text, flags_text};
-ghost use Rattle.link_show.specs.Octets.{address_text};
+ghost use Rattle.link_messages.specs.Finding.{stretch_of};
+ghost use Rattle.link_show.specs.Flags.{flags_text};
 ghost use Rattle.link_show.specs.Quoted.{quoted};
 ghost use Rattle.link_show.specs.List.{Writes};
-ghost use Rattle.link_show.specs.MessageNames.{device_flags, operational_states};
-ghost use Rattle.link_show.specs.Message.{ShowsLink, link_line, name_part, unless_zero, named_or, attribute_lines, line_of};
-ghost use Rattle.link_show.specs.Message.{others_line, fault_line, is_sound};
+ghost use Rattle.link_show.specs.MessageNames.{device_flags};
+ghost use Rattle.link_show.specs.Message.{ShowsLink, IsLinkName, link_line, name_part, unless_zero, named_or, line_of, fault_line, is_sound};
 
-use crate::flags::{write_enum, write_flags};
-use crate::info::{write_info, write_part, write_protinfo};
+use crate::families::MOST_LEVELS;
+use crate::flags::write_flags;
+use crate::held::write_set;
+use crate::indent::Indent;
+use crate::line_options::LineOptions;
 use crate::message_errors::write_message_error;
-use crate::message_names::{ADDRESS_FAMILIES, DEVICE_FLAGS, DEVICE_TYPES, OPERATIONAL_STATES};
+use crate::message_names::{ADDRESS_FAMILIES, DEVICE_FLAGS, DEVICE_TYPES};
 use crate::numbers::write_number;
-use crate::octets::write_address;
 use crate::pieces::{Piece, put_pieces};
 use crate::quoted::write_quoted;
 use crate::sink::Sink;
 use link_base::rows::form::Width;
 use link_base::rows::label::{Name, Quantity, name_of};
-use link_messages::{LinkDetails, LinkHeader, MessageError};
-use netlink_packet_route::Family;
+use link_messages::link_types::IFLA_IFNAME;
+use link_messages::{LinkHeader, MessageError, Payload, last_before_fault};
+use netlink_packet_route::{Context, Family, without_nul};
 
-/// Writes the lines of a message about a link, below its first line: the fields of its `struct ifinfomsg` and its name,
-/// its attributes, and the attribute lists that a `Family` parses. Returns whether no line is an error, and, if `check`
-/// is set, all lists are canonical.
+/// Writes the lines of a message about a link, below its first line: the fields of its `struct ifinfomsg` and its name, and
+/// its attributes, as [`write_family_list`](crate::write_family_list) writes lists. If the options ask, the lists of the kinds
+/// and families among the attributes are checked. Returns whether no line is an error, and all lists that are checked are
+/// canonical.
 ///
 /// # Errors
 ///
 /// That of the writer.
 pub fn write_link<W: Sink>(
     writer: &mut W,
-    details: &LinkDetails<'_>,
-    check: bool,
+    header: &LinkHeader,
+    list: Payload<'_>,
+    options: LineOptions,
 ) -> Result<bool, W::Error>
-    ensures { IfOk result (Writes (ShowsLink check details.now)
+    ensures { IfOk result (Writes (ShowsLink options header.now (stretch_of list.entry))
         (W.output writer.old) (W.output writer.new)) }
 {
-    write_link_line(writer, &details.header, details.name)?;
-    write_attributes(writer, details)?;
-    let info = write_info(writer, details.info, check)?;
-    let spec = write_part(
+    write_link_line(writer, header, link_name(list))?;
+    let context = Context::of_message(header.family);
+    write_set(
         writer,
-        "IFLA_AF_SPEC",
-        Family::AfSpecBridge,
-        details.af_spec,
-        check,
-    )?;
-    let ports = write_protinfo(writer, details.protinfo, check)?;
-    write_others(writer, details.others)?;
-    let end = write_header_fault(writer, details.fault)?;
-    Ok(info & spec & ports & end)
+        options,
+        MOST_LEVELS,
+        &context,
+        Indent::Text("  "),
+        Family::Link,
+        list,
+    )
+}
+
+/// Returns the text of the last `IFLA_IFNAME` before the first malformed header of a list.
+fn link_name<'a>(list: Payload<'a>) -> Option<&'a [u8]>
+    ensures { IsLinkName (stretch_of list.entry) (option_copied result) }
+{
+    text_of(last_before_fault(list, IFLA_IFNAME))
+}
+
+/// Returns the bytes of a payload, which may be missing, without the NUL at their end.
+fn text_of<'a>(found: Option<Payload<'a>>) -> Option<&'a [u8]>
+    ensures { option_copied result ≡ text_in (option_map stretch_of found.entry) }
+{
+    Some(without_nul(found?.bytes))
 }
 
 /// Writes the line of a link: its index, its name, and the other fields of the `struct ifinfomsg` that are not zero.
@@ -150,23 +166,6 @@ fn write_device_flags<W: Sink>(writer: &mut W, field: &str, flags: u64) -> Resul
     write_flags(writer, DEVICE_FLAGS, Width::Four, flags)
 }
 
-/// Writes the lines of the attributes that every link has.
-fn write_attributes<W: Sink>(writer: &mut W, details: &LinkDetails<'_>) -> Result<(), W::Error>
-    ensures { OnOk result (Gains (W.output writer.old) (W.output writer.new)
-        (attribute_lines details.now)) }
-{
-    write_number_line(writer, "IFLA_MTU", Quantity::Number, details.mtu)?;
-    write_address_line(writer, details.address)?;
-    write_number_line(writer, "IFLA_LINK", Quantity::InterfaceIndex, details.link)?;
-    write_number_line(
-        writer,
-        "IFLA_MASTER",
-        Quantity::InterfaceIndex,
-        details.master,
-    )?;
-    write_state_line(writer, details.operstate)
-}
-
 /// Writes the line of a number that an attribute has, if it is there.
 pub(crate) fn write_number_line<W: Sink>(
     writer: &mut W,
@@ -210,55 +209,6 @@ pub(crate) fn write_quoted_line<W: Sink>(
         }
         None => Ok(()),
     }
-}
-
-fn write_address_line<W: Sink>(writer: &mut W, address: Option<&[u8]>) -> Result<(), W::Error>
-    ensures { OnOk result (Gains (W.output writer.old) (W.output writer.new)
-        (line_of (codes "IFLA_ADDRESS") address_text (option_copied address.entry))) }
-{
-    match address {
-        Some(address) => {
-            writer.put(b"  IFLA_ADDRESS ")?;
-            write_address(writer, address)?;
-            writer.put(b"\n")
-        }
-        None => Ok(()),
-    }
-}
-
-fn write_state_line<W: Sink>(writer: &mut W, state: Option<u8>) -> Result<(), W::Error>
-    ensures { OnOk result (Gains (W.output writer.old) (W.output writer.new)
-        (line_of (codes "IFLA_OPERSTATE") (enum_text operational_states) state)) }
-{
-    match state {
-        Some(state) => {
-            writer.put(b"  IFLA_OPERSTATE ")?;
-            write_enum(writer, OPERATIONAL_STATES, state.into())?;
-            writer.put(b"\n")
-        }
-        None => Ok(()),
-    }
-}
-
-/// Writes the number of attributes that are not written.
-fn write_others<W: Sink>(writer: &mut W, count: usize) -> Result<(), W::Error>
-    ensures { OnOk result (Gains (W.output writer.old) (W.output writer.new)
-        (others_line count)) }
-{
-    if count == 0 {
-        return Ok(());
-    }
-    if count == 1 {
-        return writer.put(b"  1 other attribute\n");
-    }
-    put_pieces(
-        writer,
-        &[
-            Piece::Text("  "),
-            Piece::Number(count as u64),
-            Piece::Text(" other attributes\n"),
-        ],
-    )
 }
 
 /// Writes the error of a header among the attributes, if there is one. Returns whether there is none.

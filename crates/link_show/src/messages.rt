@@ -1,11 +1,12 @@
 //! Messages, and buffers of them.
 
-ghost use Rattle.std.specs.Prelude.{◌↔◌, Bool, IsTrue, drop, codes, IfOk, OnOk};
+ghost use Rattle.std.specs.Prelude.{◌↔◌, IsTrue, drop, codes, IfOk, OnOk};
 ghost use Rattle.link_show.specs.Sink.{Gains};
 ghost use Rattle.link_base.specs.Labels.{name_in};
 ghost use Rattle.link_messages.specs.Acknowledgement.{IsReplyType};
 ghost use Rattle.link_messages.specs.Header.{IsAnyLinkType};
 ghost use Rattle.link_messages.specs.Message.{NextOfAny};
+ghost use Rattle.link_show.specs.declared.line_options.LineOptions.{LineOptions};
 ghost use Rattle.link_show.specs.List.{Writes};
 ghost use Rattle.link_show.specs.MessageNames.{message_types};
 ghost use Rattle.link_show.specs.Message.{ShowsMessages, ShowsEnd, ShowsMessage, ShowsBody, message_line, named_or};
@@ -13,6 +14,7 @@ ghost use Rattle.link_show.specs.Message.{IsGeneral, AreZerosAfter, zeros_line};
 
 use crate::faults::bytes_of;
 use crate::flags::write_flags;
+use crate::line_options::LineOptions;
 use crate::links::write_link;
 use crate::message_errors::write_message_error;
 use crate::message_names::{MESSAGE_TYPES, flag_names};
@@ -24,16 +26,20 @@ use link_base::rows::label::name_of;
 use link_messages::message_types::{
     NLMSG_DONE, NLMSG_ERROR, RTM_DELLINK, RTM_GETLINK, RTM_NEWLINK, RTM_SETLINK,
 };
-use link_messages::{Message, MessageError, any_message, link_details, read_acknowledgement};
+use link_messages::{Message, MessageError, any_message, link_header, read_acknowledgement};
 
 /// Writes the lines of the messages of a buffer, up to its end or to an NLMSG_DONE. Zero bytes after a message are one
-/// line, and no error. Returns whether no line is an error, and, if `check` is set, all lists are canonical.
+/// line, and no error. Returns whether no line is an error, and all lists that are checked are canonical.
 ///
 /// # Errors
 ///
 /// That of the writer.
-pub fn write_messages<W: Sink>(writer: &mut W, buffer: &[u8], check: bool) -> Result<bool, W::Error>
-    ensures { IfOk result (Writes (ShowsMessages check buffer.now)
+pub fn write_messages<W: Sink>(
+    writer: &mut W,
+    buffer: &[u8],
+    options: LineOptions,
+) -> Result<bool, W::Error>
+    ensures { IfOk result (Writes (ShowsMessages options buffer.now)
         (W.output writer.old) (W.output writer.new)) }
 {
     let mut whole = true;
@@ -47,7 +53,7 @@ pub fn write_messages<W: Sink>(writer: &mut W, buffer: &[u8], check: bool) -> Re
                 return Ok(whole & sound);
             }
         };
-        let well = write_message(writer, &message, check)?;
+        let well = write_message(writer, &message, options)?;
         whole &= well;
         if message.kind == NLMSG_DONE {
             return Ok(whole);
@@ -65,7 +71,7 @@ fn write_rest<W: Sink>(
     error: MessageError,
 ) -> Result<bool, W::Error>
     requires { NextOfAny at (drop at buffer.now) (Err error) }
-    ensures { (check : Bool) → IfOk result (Writes (ShowsEnd check buffer.now at)
+    ensures { (options : LineOptions) → IfOk result (Writes (ShowsEnd options buffer.now at)
         (W.output writer.old) (W.output writer.new)) }
 {
     let rest = &buffer[at..];
@@ -102,7 +108,8 @@ fn write_zeros<W: Sink>(writer: &mut W, at: usize, count: usize) -> Result<(), W
     )
 }
 
-/// Writes the lines of a message. Returns whether none is an error, and, if `check` is set, all lists are canonical.
+/// Writes the lines of a message. Returns whether none is an error, and all lists that are checked are
+/// canonical.
 ///
 /// # Errors
 ///
@@ -110,16 +117,16 @@ fn write_zeros<W: Sink>(writer: &mut W, at: usize, count: usize) -> Result<(), W
 pub fn write_message<W: Sink>(
     writer: &mut W,
     message: &Message<'_>,
-    check: bool,
+    options: LineOptions,
 ) -> Result<bool, W::Error>
-    ensures { IfOk result (Writes (ShowsMessage check message.now)
+    ensures { IfOk result (Writes (ShowsMessage options message.now)
         (W.output writer.old) (W.output writer.new)) }
 {
     write_first_line(writer, message)?;
     match message.kind {
         NLMSG_ERROR | NLMSG_DONE => write_reply(writer, message),
         RTM_NEWLINK | RTM_DELLINK | RTM_GETLINK | RTM_SETLINK => {
-            write_about_link(writer, message, check)
+            write_about_link(writer, message, options)
         }
         _ => Ok(true),
     }
@@ -175,17 +182,17 @@ fn write_type<W: Sink>(writer: &mut W, kind: u64) -> Result<(), W::Error>
 fn write_about_link<W: Sink>(
     writer: &mut W,
     message: &Message<'_>,
-    check: bool,
+    options: LineOptions,
 ) -> Result<bool, W::Error>
     requires { IsAnyLinkType message.now.kind }
-    ensures { IfOk result (Writes (ShowsBody check message.now)
+    ensures { IfOk result (Writes (ShowsBody options message.now)
         (W.output writer.old) (W.output writer.new)) }
 {
     if is_general(message) {
         return Ok(true);
     }
-    match link_details(message) {
-        Ok(details) => write_link(writer, &details, check),
+    match link_header(message) {
+        Ok((header, list)) => write_link(writer, &header, list, options),
         Err(error) => {
             write_message_error(writer, "  ", error)?;
             Ok(false)
@@ -205,7 +212,7 @@ pub fn is_general(message: &Message<'_>) -> bool
 /// Writes the lines of an NLMSG_ERROR or an NLMSG_DONE, below its first line.
 fn write_reply<W: Sink>(writer: &mut W, message: &Message<'_>) -> Result<bool, W::Error>
     requires { IsReplyType message.now.kind }
-    ensures { (check : Bool) → IfOk result (Writes (ShowsBody check message.now)
+    ensures { (options : LineOptions) → IfOk result (Writes (ShowsBody options message.now)
         (W.output writer.old) (W.output writer.new)) }
 {
     match read_acknowledgement(message) {

@@ -23,6 +23,7 @@ pub(crate) enum Piece<'a> {
 }
 
 /// Writes the pieces of a text.
+#[inline(always)]
 pub(crate) fn put_pieces<W: Sink>(writer: &mut W, pieces: &[Piece<'_>]) -> Result<(), W::Error>
     ensures { OnOk result (Gains (W.output writer.old) (W.output writer.new) (pieces_text pieces.now)) }
 {
@@ -32,6 +33,7 @@ pub(crate) fn put_pieces<W: Sink>(writer: &mut W, pieces: &[Piece<'_>]) -> Resul
     Ok(())
 }
 
+#[inline(always)]
 fn put_piece<W: Sink>(writer: &mut W, piece: Piece<'_>) -> Result<(), W::Error>
     ensures { OnOk result (Gains (W.output writer.old) (W.output writer.new) (piece_text piece.entry)) }
 {

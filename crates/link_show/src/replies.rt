@@ -10,7 +10,7 @@ ghost use Rattle.link_show.specs.Message.{has_result, outcome_line, line_of, pol
 ghost use Rattle.link_show.specs.Value.{other_text};
 
 use crate::errno::ERRNOS;
-use crate::info::write_opaque;
+use crate::faults::bytes_of;
 use crate::links::{write_header_fault, write_number_line, write_quoted_line};
 use crate::pieces::{Piece, put_pieces};
 use crate::sink::Sink;
@@ -49,8 +49,17 @@ fn write_policy_line<W: Sink>(writer: &mut W, policy: Option<Payload<'_>>) -> Re
 {
     match policy {
         Some(policy) => {
-            write_opaque(writer, "policy", policy)?;
-            Ok(())
+            let count = policy.bytes.len();
+            let bytes = bytes_of(count);
+            put_pieces(
+                writer,
+                &[
+                    Piece::Text("  policy ("),
+                    Piece::Number(count as u64),
+                    Piece::Text(bytes),
+                    Piece::Text(", not decoded)\n"),
+                ],
+            )
         }
         None => Ok(()),
     }

@@ -4,7 +4,7 @@ ghost use Rattle.std.specs.Prelude.{◌≡◌, None, OnOk};
 ghost use Rattle.link_show.specs.Sink.{Gains};
 ghost use Rattle.link_base.specs.IpAddress.{sixteen_octets};
 ghost use Rattle.link_show.specs.Octets.{ip6_text};
-ghost use Rattle.link_show.specs.Value.{protocol_text, other_text, content_text, value_text, WritesValue};
+ghost use Rattle.link_show.specs.Value.{protocol_text, other_text, counts, counted_in, number_or_address, content_text, value_text, WritesValue};
 ghost use Rattle.link_base.specs.Labels.{label_of};
 ghost use Rattle.link_base.specs.Named.{text_of};
 ghost use Rattle.link_base.specs.Protocol.{vlan_protocols, protocol_number};
@@ -15,6 +15,7 @@ use crate::counters::write_places;
 use crate::faults::write_opaque_size;
 use crate::flags::write_flags;
 use crate::ip::{write_ipv4, write_ipv6};
+use crate::numbers::{number_at, write_number};
 use crate::octets::{write_address, write_hex};
 use crate::pieces::{Piece, put_pieces};
 use crate::quoted::write_quoted;
@@ -24,7 +25,7 @@ use crate::structs::{
 };
 use link_base::classes::flag_or_bool::flag_is_on;
 use link_base::rows::form::{Look, Width};
-use link_base::rows::label::KindLabel;
+use link_base::rows::label::{KindLabel, Quantity};
 use link_base::views::attribute_set::AttributeSet;
 use link_base::views::content::Content;
 use link_base::views::view::Value;
@@ -117,7 +118,7 @@ pub fn write_content<W: Sink>(
         Content::Bytes {
             look: Look::Address,
             bytes,
-        } => write_address(writer, bytes),
+        } => write_bytes(writer, label.quantity, bytes),
         Content::Bytes {
             look: Look::Text,
             bytes,
@@ -134,6 +135,44 @@ pub fn write_content<W: Sink>(
         }
         Content::Limits { name, numbers } => write_limits(writer, name, numbers),
         Content::Other(payload) => write_other(writer, payload),
+    }
+}
+
+/// Writes bytes: the number in them, if it counts something, or an address.
+fn write_bytes<W: Sink>(writer: &mut W, quantity: Quantity, bytes: &[u8]) -> Result<(), W::Error>
+    ensures { OnOk result (Gains (W.output writer.old) (W.output writer.new)
+        (number_or_address quantity (counted_in quantity bytes.now) bytes.now)) }
+{
+    match counted_in(quantity, bytes) {
+        Some(number) => write_number(writer, quantity, number),
+        None => write_address(writer, bytes),
+    }
+}
+
+/// Returns the little-endian number in 4 or 8 bytes. Returns `None` for other bytes, and if the number counts nothing.
+pub fn counted_in(quantity: Quantity, bytes: &[u8]) -> Option<u64>
+    ensures { result ≡ counted_in quantity bytes.now }
+{
+    if !counts(quantity) {
+        return None;
+    }
+    let count = bytes.len();
+    if count == 4 {
+        return Some(number_at(Width::Four, 0, bytes));
+    }
+    if count == 8 {
+        return Some(number_at(Width::Eight, 0, bytes));
+    }
+    None
+}
+
+/// Checks whether a number counts something.
+fn counts(quantity: Quantity) -> bool
+    ensures { result ≡ counts quantity }
+{
+    match quantity {
+        Quantity::Number => false,
+        _ => true,
     }
 }
 

@@ -1,6 +1,6 @@
 //! Prints the values of lists of link attributes, and of the lists in link messages, as text or as JSON.
 //!
-//! Usage: `nlshow [--format plain|debug|json] [--check] [--raw] [FILE].. | --help | --version`. Each FILE, or standard input, is
+//! Usage: `nlshow [--format plain|debug|json] [--check] [--brief] [--raw] [FILE].. | --help | --version`. Each FILE, or standard input, is
 //! a capture (pcap or pcapng), or with `--raw` messages, one after another, or has lines. Each line is one of
 //!
 //! - `FAMILY HEX`: the bytes of a list. FAMILY is the name of a `Family`;

@@ -10,7 +10,7 @@ mod replies;
 mod walks;
 
 use crate::run_on;
-use link_show::write_hex;
+use link_show::{LineOptions, write_hex};
 use program::{UntilEnd, Watched};
 use show_lines::{Format, Options, Output};
 use std::alloc::Global;
@@ -22,17 +22,26 @@ const SHOWN: &str = "dsa 0800 0100 2a00 0000\n  Conduit(42)\n";
 
 const PLAIN: Output = Output::Text(Options {
     format: Format::Plain,
-    check: false,
+    lines: LineOptions {
+        check: false,
+        brief: false,
+    },
 });
 
 const CHECKED: Output = Output::Text(Options {
     format: Format::Plain,
-    check: true,
+    lines: LineOptions {
+        check: true,
+        brief: false,
+    },
 });
 
 const DEBUG: Output = Output::Text(Options {
     format: Format::Debug,
-    check: false,
+    lines: LineOptions {
+        check: false,
+        brief: false,
+    },
 });
 
 /// Returns at most `most` bytes per read. After the last byte, it fails if `is_broken`; and after its end, if it is read

@@ -212,7 +212,7 @@ leads_bytes k state at s units last end left known h leads = numbered k units (l
 
 module _ (options : Options) (plain : options.format ≡ Plain) where
   bare_texts : (bytes out : List ℕ) (well : Bool) → IsBytes bytes → ShowsBare options bytes out well → AreTexts out
-  bare_texts bytes out well h shown = messages_texts options.check bytes out well h (subst (λ format. ShowsBare (record { format = format; check = options.check }) bytes out well) plain shown)
+  bare_texts bytes out well h shown = messages_texts options.lines bytes out well h (subst (λ format. ShowsBare (record { format = format; lines = options.lines }) bytes out well) plain shown)
 
   shown_below : (p : Captured) (out : List ℕ) (well : Bool) → IsBytes p.bytes → ShowsBelow options p out well → AreTexts out
   shown_below p out well h (Other type is good) = subst AreTexts (sym is) no_texts

@@ -13,11 +13,14 @@ use Rattle.netlink_packet_route.specs.Family.{table_of}
 use Rattle.netlink_packet_route.specs.HexText.{digits_of}
 use Rattle.netlink_packet_route.specs.Number.{IsBytes}
 use Rattle.netlink_packet_route.specs.Report.{line}
+use Rattle.link_show.specs.declared.line_options.LineOptions.{LineOptions}
+use Rattle.link_show.specs.Held.{context_of}
 use Rattle.link_show.specs.Printable.{IsText, AreTexts}
 use Rattle.link_show.specs.Quoted.{quoted}
 use Rattle.link_show.proofs.Printing.{text as is_text, none, quoted_text}
-use Rattle.link_show.proofs.LinePrinting.{line_end, line_texts, verdict_texts, checked_texts}
-use Rattle.link_show.proofs.MessagePrinting.{family_has_texts, messages_texts}
+use Rattle.link_show.proofs.LinePrinting.{line_end, line_texts, verdict_texts}
+use Rattle.link_show.proofs.HeldPrinting.{checked_texts}
+use Rattle.link_show.proofs.MessagePrinting.{messages_texts}
 use Rattle.show_lines.specs.declared.asking.Asked.{Asked}
 use Rattle.show_lines.specs.declared.asking.Asked.TheVariants.{Messages, Attributes, Verdict}
 use Rattle.show_lines.specs.declared.arguments.Options.{Options}
@@ -71,10 +74,10 @@ index_bytes : (bytes : List ℕ) → ((i : ℕ) → slice_index bytes i < 256) �
 index_bytes [] h = tt
 index_bytes (b ∷ bytes) h = (h 0, index_bytes bytes (λ i. h (suc i)))
 
-asked_texts : (check : Bool) (asked : Asked) (s out : List ℕ) (well : Bool) → IsBytes s → ShowsPlain check asked s out well → AreTexts out
-asked_texts check Messages s out well h shown = messages_texts check s out well h shown
-asked_texts check (Attributes family) s out well h shown = checked_texts (codes "  ") (is_text refl) check 0 (table_of family) s out well (family_has_texts family) h shown
-asked_texts check (Verdict family) s out well h shown = verdict_texts [] none true 0 (table_of family) s out well shown
+asked_texts : (lines : LineOptions) (asked : Asked) (s out : List ℕ) (well : Bool) → IsBytes s → ShowsPlain lines asked s out well → AreTexts out
+asked_texts lines Messages s out well h shown = messages_texts lines s out well h shown
+asked_texts lines (Attributes family) s out well h shown = checked_texts lines (context_of 0) (codes "  ") 0 family s out well (is_text refl) shown
+asked_texts lines (Verdict family) s out well h shown = verdict_texts [] none true 0 (table_of family) s out well shown
 
 -- ---- a line, and all lines
 
@@ -86,8 +89,8 @@ module _ (options : Options) (plain : options.format ≡ Plain) where
   digits_made : (x : ℕ × List ℕ) (asked : Asked) (digits : List ℕ) (r : Result (List ℕ) FromHexError) (out : List ℕ) (well : Bool) → decode_of digits ≡ r
       → ShowsDigits (refused_by_options options) (answered_by_options options) x asked r out well → AreLinesFrom (λ l. l ≡ repeated x.1) out
   digits_made x asked digits (Ok s) out well e (below, shown, is) =
-      let now = subst (λ format. ShowsAs format options.check asked s below well) plain shown in
-      rw is (below_made x.1 below (asked_texts options.check asked s below well (index_bytes s (decode_of-ok digits s e).3) now))
+      let now = subst (λ format. ShowsAs format options.lines asked s below well) plain shown in
+      rw is (below_made x.1 below (asked_texts options.lines asked s below well (index_bytes s (decode_of-ok digits s e).3) now))
   digits_made x asked digits (Err error) out well e (is, bad) = rw is (below_made x.1 (line (codes "bad hex")) (line_texts (line_end {t = codes "bad hex"} (is_text refl))))
 
   line_made : (x : ℕ × List ℕ) (out : List ℕ) (well : Bool) → by_options options x out well → AreLinesFrom (λ l. l ≡ repeated x.1) out

@@ -1,5 +1,5 @@
 -- What the arguments give: a run, or a text in place of a run.
-use Rattle.std.specs.Prelude.{◌≡◌, ℕ, Bool, true, List, ◌∷◌, ◌++◌, Option, Some, None, Vec, String, codes, string_bytes, if◌then◌else◌}
+use Rattle.std.specs.Prelude.{◌≡◌, ℕ, Bool, true, ◌||◌, List, ◌∷◌, ◌++◌, Option, Some, None, Vec, String, codes, string_bytes, if◌then◌else◌}
 use Rattle.std.specs.declared.alloc.Global.{Global}
 use Rattle.show_lines.specs.Show.{IsUnbroken}
 use Rattle.show_lines.specs.declared.arguments.Form.{Form}
@@ -7,6 +7,7 @@ use Rattle.show_lines.specs.declared.arguments.Form.TheVariants as forms
 use Rattle.show_lines.specs.declared.arguments.Format.TheVariants.{Plain, Debug}
 use Rattle.show_lines.specs.declared.arguments.Output.{Output}
 use Rattle.show_lines.specs.declared.arguments.Output.TheVariants.{Text, Json}
+use Rattle.link_show.specs.declared.line_options.LineOptions.{LineOptions}
 use Rattle.show_lines.specs.declared.arguments.Task.{Task}
 use Rattle.show_lines.specs.declared.arguments.Request.{Request}
 use Rattle.show_lines.specs.declared.arguments.Request.TheVariants.{Run, Print}
@@ -16,7 +17,7 @@ use Rattle.show_lines.specs.declared.replies.TheConstants.{HELP, USAGE, VERSION}
 
 -- how the program is used
 abbrev pub usage_line : List ℕ
-usage_line = codes "usage: nlshow [--format plain|debug|json] [--check] [--raw] [FILE].. | --help | --version"
+usage_line = codes "usage: nlshow [--format plain|debug|json] [--check] [--brief] [--raw] [FILE].. | --help | --version"
 
 abbrev pub reply_text : Reply → List ℕ
 reply_text Help = HELP.now
@@ -42,30 +43,38 @@ IsWrong line _ = ⊥
 abbrev pub IsAnyWrong : Request → Type 0
 IsAnyWrong request = (line : List ℕ) × IsUnbroken line × IsWrong line request
 
--- why a form cannot have `--check`, if it cannot
-abbrev pub clash : Form → Option (List ℕ)
-clash (forms.Text Plain) = None
-clash (forms.Text Debug) = Some (codes "error: the argument '--format debug' cannot be used with '--check'")
-clash forms.Json = Some (codes "error: the argument '--format json' cannot be used with '--check'")
+-- the text for the first of these options that is set
+abbrev pub clash_among : LineOptions → List ℕ → List ℕ → Option (List ℕ)
+clash_among lines check brief = if lines.check then Some check else (if lines.brief then Some brief else None)
+
+-- why a form cannot have these options, if it cannot
+abbrev pub clash : Form → LineOptions → Option (List ℕ)
+clash (forms.Text Plain) lines = None
+clash (forms.Text Debug) lines = clash_among lines
+    (codes "error: the argument '--format debug' cannot be used with '--check'")
+    (codes "error: the argument '--format debug' cannot be used with '--brief'")
+clash forms.Json lines = clash_among lines
+    (codes "error: the argument '--format json' cannot be used with '--check'")
+    (codes "error: the argument '--format json' cannot be used with '--brief'")
 
 -- what a run in this form writes
-abbrev pub output_of : Form → Bool → Output
-output_of (forms.Text format) check = Text (record { format = format; check = check })
-output_of forms.Json check = Json
+abbrev pub output_of : Form → LineOptions → Output
+output_of (forms.Text format) lines = Text (record { format = format; lines = lines })
+output_of forms.Json lines = Json
 
 -- the request is this run, unless there is an error
 abbrev pub RunsUnless : Option (List ℕ) → Task → Request → Type 0
 RunsUnless None task request = request ≡ Run task
 RunsUnless (Some line) task request = IsWrong line request
 
--- the request is a run in this form, with this check, on inputs that are raw or not, of these files; or the form cannot have
--- `--check`
-abbrev pub RunsOrClashes : Form → Bool → Bool → Vec (String Global) Global → Request → Type 0
-RunsOrClashes form check raw files = RunsUnless (if check then clash form else None) (record { output = output_of form check; raw = raw; files = files })
+-- the request is a run in this form, with these options, on inputs that are raw or not, of these files; or the form cannot
+-- have the options
+abbrev pub RunsOrClashes : Form → LineOptions → Bool → Vec (String Global) Global → Request → Type 0
+RunsOrClashes form lines raw files = RunsUnless (clash form lines) (record { output = output_of form lines; raw = raw; files = files })
 
--- lists are not checked in the debug form
+-- in the debug form, lists are not checked, and nothing is left out
 abbrev pub ChecksPlain : Output → Type 0
-ChecksPlain (Text options) = ¬ ((options.format ≡ Debug) × (options.check ≡ true))
+ChecksPlain (Text options) = ¬ ((options.format ≡ Debug) × ((options.lines.check || options.lines.brief) ≡ true))
 ChecksPlain Json = Unit {0}
 
 -- a run that has no `--check` in the debug form, the help text, the version, or what is wrong

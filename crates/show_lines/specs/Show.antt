@@ -17,7 +17,9 @@ use Rattle.show_lines.specs.Messages.{ShowsMessages}
 use Rattle.show_lines.specs.declared.arguments.Options.{Options}
 use Rattle.show_lines.specs.declared.arguments.Format.{Format}
 use Rattle.show_lines.specs.declared.arguments.Format.TheVariants.{Plain, Debug}
-use Rattle.link_show.specs.List.{EachShown, ShowsVerdict, ShowsChecked}
+use Rattle.link_show.specs.declared.line_options.LineOptions.{LineOptions}
+use Rattle.link_show.specs.List.{EachShown, ShowsVerdict}
+use Rattle.link_show.specs.Held.{context_of, ShowsChecked}
 use Rattle.link_show.specs.Message as plain
 use Rattle.link_show.specs.Quoted.{quoted}
 
@@ -87,20 +89,20 @@ ShowsDebug Messages = ShowsMessages
 ShowsDebug (Attributes family) = ShowsList [] 0 (table_of family)
 ShowsDebug (Verdict family) = ShowsVerdict true [] 0 (table_of family)
 
--- as people read values; `check` asks whether lists are canonical
-abbrev pub ShowsPlain : Bool → Form
-ShowsPlain check Messages = plain.ShowsMessages check
-ShowsPlain check (Attributes family) = ShowsChecked check (codes "  ") 0 (table_of family)
-ShowsPlain check (Verdict family) = ShowsVerdict true [] 0 (table_of family)
+-- as people read values
+abbrev pub ShowsPlain : LineOptions → Form
+ShowsPlain lines Messages = plain.ShowsMessages lines
+ShowsPlain lines (Attributes family) = ShowsChecked lines (context_of 0) (codes "  ") 0 family
+ShowsPlain lines (Verdict family) = ShowsVerdict true [] 0 (table_of family)
 
 -- by the option
-abbrev pub ShowsAs : Format → Bool → Form
-ShowsAs Debug check = ShowsDebug
-ShowsAs Plain check = ShowsPlain check
+abbrev pub ShowsAs : Format → LineOptions → Form
+ShowsAs Debug lines = ShowsDebug
+ShowsAs Plain lines = ShowsPlain lines
 
 -- the output for messages that are on no line
 abbrev pub ShowsBare : Options → List ℕ → List ℕ → Bool → Type 0
-ShowsBare options = ShowsAs options.format options.check Messages
+ShowsBare options = ShowsAs options.format options.lines Messages
 
 -- what is written for a line that is refused: for its number, from 1, its text, unless that is too long, and the reason
 abbrev pub Refused : Type 0
@@ -153,7 +155,7 @@ refused_by_options options n = refusal
 
 -- by options: the line, and what it asks for
 abbrev pub answered_by_options : Options → Answered
-answered_by_options options x asked s out read = (below : List ℕ) × ShowsAs options.format options.check asked s below read × (out ≡ line (repeated x.1) ++ below)
+answered_by_options options x asked s out read = (below : List ℕ) × ShowsAs options.format options.lines asked s below read × (out ≡ line (repeated x.1) ++ below)
 
 abbrev pub by_options : Options → Shower
 by_options = shower_of refused_by_options answered_by_options

@@ -2,11 +2,12 @@
 
 ghost use Rattle.std.specs.Prelude.{◌≡◌, ◌==◌, IfOk, option_map};
 ghost use Rattle.std.specs.List.{before_first};
-ghost use Rattle.show_lines.specs.Arguments.{IsRequest, IsWrong, RunsOrClashes, clash, output_of};
+ghost use Rattle.show_lines.specs.Arguments.{IsRequest, IsWrong, RunsOrClashes, clash, clash_among, output_of};
 
 use crate::replies::{Reply, USAGE, VERSION};
 use clap::error::ErrorKind;
 use clap::{Arg, ArgAction, ArgMatches, Command, Error};
+use link_show::LineOptions;
 use std::alloc::{AllocError, Global};
 
 /// The values of `--format`.
@@ -26,8 +27,8 @@ pub enum Format {
 pub struct Options {
     /// How lists and messages are printed.
     pub format: Format,
-    /// Whether to report if each list is canonical. Without effect in the debug form.
-    pub check: bool,
+    /// What lines are printed. Without effect in the debug form.
+    pub lines: LineOptions,
 }
 
 /// What a run writes.
@@ -78,7 +79,7 @@ pub fn parse(alloc: Global, arguments: &Vec<String>) -> Result<Request, AllocErr
         Ok(matches) => settled(
             alloc,
             chosen(&matches),
-            matches.get_flag("check"),
+            lines_in(&matches),
             matches.get_flag("raw"),
             named(alloc, &matches)?,
         ),
@@ -86,45 +87,62 @@ pub fn parse(alloc: Global, arguments: &Vec<String>) -> Result<Request, AllocErr
     }
 }
 
-/// Returns the request for this run, or for a wrong argument: only the plain form has `--check`.
+/// Returns the request for this run, or for a wrong argument: only the plain form has `--check`
+/// and `--brief`.
 fn settled(
     alloc: Global,
     form: Form,
-    check: bool,
+    lines: LineOptions,
     raw: bool,
     files: Vec<String>,
 ) -> Result<Request, AllocError>
-    ensures { IfOk result (RunsOrClashes form check raw files) }
+    ensures { IfOk result (RunsOrClashes form lines raw files) }
 {
-    if check && let Some(line) = clash_of(form) {
+    if let Some(line) = clash_of(form, lines) {
         return wrong(alloc, line);
     }
     Ok(Request::Run(Task {
-        output: output_of(form, check),
+        output: output_of(form, lines),
         raw,
         files,
     }))
 }
 
-/// Returns why a form cannot have `--check`, if it cannot.
-fn clash_of(form: Form) -> Option<&'static str>
-    ensures { option_map (λ text. text.now) result ≡ clash form }
+/// Returns why a form cannot have these options, if it cannot.
+fn clash_of(form: Form, lines: LineOptions) -> Option<&'static str>
+    ensures { option_map (λ text. text.now) result ≡ clash form lines }
 {
     match form {
         Form::Text(Format::Plain) => None,
-        Form::Text(Format::Debug) => {
-            Some("error: the argument '--format debug' cannot be used with '--check'")
-        }
-        Form::Json => Some("error: the argument '--format json' cannot be used with '--check'"),
+        Form::Text(Format::Debug) => clash_among(
+            lines,
+            "error: the argument '--format debug' cannot be used with '--check'",
+            "error: the argument '--format debug' cannot be used with '--brief'",
+        ),
+        Form::Json => clash_among(
+            lines,
+            "error: the argument '--format json' cannot be used with '--check'",
+            "error: the argument '--format json' cannot be used with '--brief'",
+        ),
     }
 }
 
+/// Returns the text for the first of these options that is set.
+fn clash_among(lines: LineOptions, check: &'static str, brief: &'static str) -> Option<&'static str>
+    ensures { option_map (λ text. text.now) result ≡ clash_among lines check.now brief.now }
+{
+    if lines.check {
+        return Some(check);
+    }
+    if lines.brief { Some(brief) } else { None }
+}
+
 /// Returns what a run in this form writes.
-fn output_of(form: Form, check: bool) -> Output
-    ensures { result ≡ output_of form check }
+fn output_of(form: Form, lines: LineOptions) -> Output
+    ensures { result ≡ output_of form lines }
 {
     match form {
-        Form::Text(format) => Output::Text(Options { format, check }),
+        Form::Text(format) => Output::Text(Options { format, lines }),
         Form::Json => Output::Json,
     }
 }
@@ -154,6 +172,9 @@ fn command<'a>(alloc: Global) -> Result<Command<'a>, AllocError> {
     let check = Arg::new(alloc, "check")
         .long("check")
         .action(ArgAction::SetTrue);
+    let brief = Arg::new(alloc, "brief")
+        .long("brief")
+        .action(ArgAction::SetTrue);
     let raw = Arg::new(alloc, "raw")
         .long("raw")
         .action(ArgAction::SetTrue);
@@ -164,6 +185,7 @@ fn command<'a>(alloc: Global) -> Result<Command<'a>, AllocError> {
         .version(VERSION)
         .arg(format)?
         .arg(check)?
+        .arg(brief)?
         .arg(raw)?
         .arg(files)
 }
@@ -174,6 +196,14 @@ fn chosen(matches: &ArgMatches<'_>) -> Form {
         Some("json") => Form::Json,
         Some("debug") => Form::Text(Format::Debug),
         _ => Form::Text(Format::Plain),
+    }
+}
+
+/// Returns the options of lines in `matches`.
+fn lines_in(matches: &ArgMatches<'_>) -> LineOptions {
+    LineOptions {
+        check: matches.get_flag("check"),
+        brief: matches.get_flag("brief"),
     }
 }
 

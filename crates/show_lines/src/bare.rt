@@ -12,7 +12,7 @@ ghost use Rattle.show_lines.specs.Progress.{WritesMessages};
 use crate::arguments::{Format, Options};
 use crate::messages::push_messages;
 use crate::running::Stop;
-use link_show::write_messages;
+use link_show::{LineOptions, write_messages};
 use std::alloc::Global;
 use std::io::Write;
 
@@ -32,18 +32,18 @@ pub fn write_bare<W: Write>(
     ensures stopped { OnStop result (Keeps (W.contents writer.old) (W.contents writer.new)) }
 {
     match options.format {
-        Format::Plain => write_plain(options.check, bytes, writer),
+        Format::Plain => write_plain(options.lines, bytes, writer),
         Format::Debug => write_debug(alloc, bytes, writer),
     }
 }
 
 /// Writes the output for messages in the plain form.
-fn write_plain<W: Write>(check: bool, bytes: &[u8], writer: &mut W) -> Result<bool, Stop>
-    ensures shown { IfOk result (Writes (plain.ShowsMessages check bytes.now)
+fn write_plain<W: Write>(lines: LineOptions, bytes: &[u8], writer: &mut W) -> Result<bool, Stop>
+    ensures shown { IfOk result (Writes (plain.ShowsMessages lines bytes.now)
         (Whole (W.contents writer.old)) (Whole (W.contents writer.new))) }
     ensures stopped { OnStop result (Keeps (W.contents writer.old) (W.contents writer.new)) }
 {
-    match write_messages(writer, bytes, check) {
+    match write_messages(writer, bytes, lines) {
         Ok(well) => Ok(well),
         Err(_) => Err(Stop::Writer),
     }

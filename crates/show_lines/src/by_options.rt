@@ -85,12 +85,12 @@ fn write_answer<W: Write>(
     bytes: &[u8],
     writer: &mut W,
 ) -> Result<bool, Stop>
-    ensures shown { IfOk result (WritesAnswer (ShowsAs options.format options.check) asked bytes.now
+    ensures shown { IfOk result (WritesAnswer (ShowsAs options.format options.lines) asked bytes.now
         text.now (W.contents writer.old) (W.contents writer.new)) }
     ensures stopped { OnStop result (Keeps (W.contents writer.old) (W.contents writer.new)) }
 {
     match options.format {
-        Format::Plain => write_plain(writer, text, asked, options.check, bytes),
+        Format::Plain => write_plain(writer, text, asked, options.lines, bytes),
         Format::Debug => write_debug(alloc, writer, text, asked, bytes),
     }
 }

@@ -14,6 +14,7 @@ use crate::messages::push_messages;
 use crate::plain::write_plain;
 use crate::running::Stop;
 use link_messages::{Part, Payload};
+use link_show::LineOptions;
 use std::alloc::{AllocError, Global};
 use std::io::Write;
 
@@ -41,7 +42,7 @@ pub(crate) fn write_debug<W: Write>(
             let read = push_list(alloc, &mut below, "", Part { family, payload });
             write_pushed(writer, text, read, below.as_str())
         }
-        Asked::Verdict(_) => write_plain(writer, text, asked, false, bytes),
+        Asked::Verdict(_) => write_plain(writer, text, asked, LineOptions::default(), bytes),
     }
 }
 

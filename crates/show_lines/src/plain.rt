@@ -12,7 +12,7 @@ use crate::asking::Asked;
 use crate::repeating::write_repeated;
 use crate::running::Stop;
 use link_messages::Payload;
-use link_show::{write_family_list, write_messages, write_verdict};
+use link_show::{LineOptions, write_family_list, write_messages, write_verdict};
 use std::io;
 use std::io::{ErrorKind, Write};
 
@@ -22,14 +22,14 @@ pub(crate) fn write_plain<W: Write>(
     writer: &mut W,
     text: &[u8],
     asked: Asked,
-    check: bool,
+    lines: LineOptions,
     bytes: &[u8],
 ) -> Result<bool, Stop>
-    ensures shown { IfOk result (WritesAnswer (ShowsPlain check) asked bytes.now
+    ensures shown { IfOk result (WritesAnswer (ShowsPlain lines) asked bytes.now
         text.now (W.contents writer.old) (W.contents writer.new)) }
     ensures stopped { OnStop result (Keeps (W.contents writer.old) (W.contents writer.new)) }
 {
-    match write_line(writer, text, asked, check, bytes) {
+    match write_line(writer, text, asked, lines, bytes) {
         Ok(well) => Ok(well),
         Err(_) => Err(Stop::Writer),
     }
@@ -40,30 +40,30 @@ fn write_line<W: Write>(
     writer: &mut W,
     text: &[u8],
     asked: Asked,
-    check: bool,
+    lines: LineOptions,
     bytes: &[u8],
 ) -> io::Result<bool>
-    ensures { IfOk result (WritesAnswer (ShowsPlain check) asked bytes.now
+    ensures { IfOk result (WritesAnswer (ShowsPlain lines) asked bytes.now
         text.now (W.contents writer.old) (W.contents writer.new)) }
 {
     write_repeated(writer, text)?;
-    Ok(write_asked(writer, asked, check, bytes)?)
+    Ok(write_asked(writer, asked, lines, bytes)?)
 }
 
 /// Writes what a command asks for.
 fn write_asked<W: Write>(
     writer: &mut W,
     asked: Asked,
-    check: bool,
+    lines: LineOptions,
     bytes: &[u8],
 ) -> Result<bool, ErrorKind>
-    ensures { IfOk result (Writes (ShowsPlain check asked bytes.now)
+    ensures { IfOk result (Writes (ShowsPlain lines asked bytes.now)
         (Whole (W.contents writer.old)) (Whole (W.contents writer.new))) }
 {
     match asked {
-        Asked::Messages => write_messages(writer, bytes, check),
+        Asked::Messages => write_messages(writer, bytes, lines),
         Asked::Attributes(family) => {
-            write_family_list(writer, family, check, "  ", Payload { at: 0, bytes })
+            write_family_list(writer, family, lines, "  ", Payload { at: 0, bytes })
         }
         Asked::Verdict(family) => write_verdict(writer, family, "", Payload { at: 0, bytes }),
     }

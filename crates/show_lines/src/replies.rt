@@ -7,12 +7,12 @@ use netlink_packet_route::with_names;
 
 /// The usage line.
 pub const USAGE: &str =
-    "usage: nlshow [--format plain|debug|json] [--check] [--raw] [FILE].. | --help | --version\n";
+    "usage: nlshow [--format plain|debug|json] [--check] [--brief] [--raw] [FILE].. | --help | --version\n";
 
 /// The help text.
 const HELP: &str = with_names!(
     "\
-usage: nlshow [--format plain|debug|json] [--check] [--raw] [FILE].. | --help | --version
+usage: nlshow [--format plain|debug|json] [--check] [--brief] [--raw] [FILE].. | --help | --version
 
 Prints the values of lists of link attributes, and of the lists in link messages.
 
@@ -20,6 +20,7 @@ Prints the values of lists of link attributes, and of the lists in link messages
   --format debug  print values as Rust's `Debug` does
   --format json   print a JSON document for each message
   --check         report whether each list is canonical
+  --brief         print only the main attributes of links
   --raw           read messages, one after another, in place of lines and captures
   -h, --help      print this text
   -V, --version   print the version

@@ -1,16 +1,16 @@
-use Rattle.std.proofs.Common.{◌/◌, ◌+◌, ◌*◌, length}
+use Rattle.std.proofs.Common.{◌≡◌, ◌++◌, OnOk, sym, subst, ◌∙◌}
 use Rattle.json.specs.Tree.{json_tokens}
 use Rattle.link_base.specs.Forms.{size_in}
-use Rattle.link_base.specs.Layout.{number_at}
-use Rattle.link_json.specs.Value.{item_json}
-use Rattle.link_json.proofs.Loops.{numbers_left, number_more, moved}
+use Rattle.link_base.specs.Layout.{numbers_of}
+use Rattle.link_json.proofs.Loops.{without_names, with_names}
 use Rattle.link_json.proofs.numbers.write_numbers.Goals as goal
 
-pub loop-i-preserved : goal.loop-i-preserved
-loop-i-preserved c =
-    let a = c.args.of in
-    let p = c.args.bytes.now in
-    let n = length p / size_in a in
-    let i = c.loop-i.i in
-    moved c.args.sheet.now c.loop-i.sheet c.write_item.new.sheet _ (numbers_left a n i p) (numbers_left a n (i + 1) p) (json_tokens (item_json a (number_at (size_in a) (i * size_in a) p))) c.loop-i.invariant
-    (number_more a n i p (rw c.size.ensures.value at c.loop-i-test.true)) c.in_ok-write_item.ensures
+pub returns-then-is_empty : goal.returns-then-is_empty
+returns-then-is_empty c =
+    subst (λ j. OnOk c.write_items.result (c.write_items.new.sheet ≡ c.args.sheet.now ++ json_tokens j))
+    (sym (without_names c.args.of c.args.names.now (numbers_of (size_in c.args.of) c.args.bytes.now) (sym c.is_empty.ensures ∙ c.if-is_empty.true))) c.write_items.ensures
+
+pub returns-else-is_empty : goal.returns-else-is_empty
+returns-else-is_empty c =
+    subst (λ j. OnOk c.write_places.result (c.write_places.new.sheet ≡ c.args.sheet.now ++ json_tokens j))
+    (sym (with_names c.args.of c.args.names.now (numbers_of (size_in c.args.of) c.args.bytes.now) (sym c.is_empty.ensures ∙ c.if-is_empty.false))) c.write_places.ensures

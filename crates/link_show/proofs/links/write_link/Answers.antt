@@ -1,47 +1,23 @@
-use Rattle.std.proofs.Common.{◌++◌, ◌&&◌, refl, ap}
+use Rattle.std.proofs.Common.{◌++◌, refl, subst}
+use Rattle.std.specs.Prelude.{IfOk}
 use Rattle.std.specs.Option.{option_copied}
+use Rattle.netlink_packet_route.specs.declared.family.Family.TheVariants.{Link}
+use Rattle.link_show.specs.List.{Writes}
+use Rattle.link_show.specs.Held.{levels, ShowsSet}
+use Rattle.link_show.specs.Message.{two, ShowsLink, link_line}
 use Rattle.link_show.specs.Gained.{gains_more}
-use Rattle.link_show.specs.Message.{link_line, attribute_lines, others_line, fault_line}
+use Rattle.link_show.proofs.MessageLines.{if_ok}
 use Rattle.link_show.proofs.links.write_link.Goals as goal
 
 pub returns : goal.returns
 returns g c =
     let output = g.W.Sink.output in
-    let d = c.args.details.now in
-    let (info, is_info, third) = c.in_ok-info.ensures in
-    let (spec, is_spec, fourth) = c.in_ok-spec.ensures in
-    let (ports, is_ports, fifth) = c.in_ok-ports.ensures in
-    let (last, sound) = c.in_ok-end.ensures in
+    let h = c.args.header.now in
+    let list = c.args.list in
+    let name = option_copied c.link_name.result in
     let old = output c.args.writer.now in
-    let a = output c.write_link_line.new.writer in
-    let b = output c.write_attributes.new.writer in
-    let e = output c.write_info.new.writer in
-    let f = output c.write_part.new.writer in
-    let h = output c.write_protinfo.new.writer in
-    let k = output c.write_others.new.writer in
-    let new = output c.write_header_fault.new.writer in
-    let t7 = fault_line d.fault in
-    let t6 = others_line d.others ++ t7 in
-    let t5 = ports ++ t6 in
-    let t4 = spec ++ t5 in
-    let t3 = info ++ t4 in
-    let t2 = attribute_lines d ++ t3 in
-    let line = link_line d.header (option_copied d.name) in (
-      line ++ t2,
-      record {
-        info = info;
-        info_well = c.in_ok-info.info;
-        is_info = is_info;
-        spec = spec;
-        spec_well = c.in_ok-spec.spec;
-        is_spec = is_spec;
-        ports = ports;
-        ports_well = c.in_ok-ports.ports;
-        is_ports = is_ports;
-        joined = refl;
-        all = ap (λ w. ((c.in_ok-info.info && c.in_ok-spec.spec) && c.in_ok-ports.ports) && w) sound;
-      },
-      gains_more old a new line t2 c.in_ok-write_link_line.ensures
-          (gains_more a b new (attribute_lines d) t3 c.in_ok-write_attributes.ensures
-          (gains_more b e new info t4 third (gains_more e f new spec t5 fourth (gains_more f h new ports t6 fifth (gains_more h k new (others_line d.others) t7 c.in_ok-write_others.ensures last))))),
-    )
+    let mid = output c.write_link_line.new.writer in
+    let new = output c.write_set.new.writer in
+    let shown = subst (λ x. IfOk c.write_set.result (Writes (ShowsSet c.args.options levels x two list.at Link list.bytes.now) mid new)) c.of_message-context.ensures c.write_set.ensures in
+    if_ok (Writes (ShowsSet c.args.options levels _ two list.at Link list.bytes.now) mid new) (Writes (ShowsLink c.args.options h (list.at, list.bytes.now)) old new) c.write_set.result
+    (λ well (lines, is, written). (link_line h name ++ lines, (name, c.link_name.ensures, lines, is, refl), gains_more old mid new (link_line h name) lines c.in_ok-write_link_line.ensures written)) shown

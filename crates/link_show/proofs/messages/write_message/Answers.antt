@@ -9,8 +9,8 @@ returns-in-2 g c =
     let old = g.W.Sink.output c.args.writer.now in
     let mid = g.W.Sink.output c.write_first_line.new.writer in
     let new = g.W.Sink.output c.write_reply.new.writer in
-    if_ok (Writes (ShowsBody c.args.check m) mid new) (Writes (ShowsMessage c.args.check m) old new) c.write_reply.result
-    (λ well h. message_written c.args.check m old mid new well c.in_ok-write_first_line.ensures h) (c.write_reply.ensures c.args.check)
+    if_ok (Writes (ShowsBody c.args.options m) mid new) (Writes (ShowsMessage c.args.options m) old new) c.write_reply.result
+    (λ well h. message_written c.args.options m old mid new well c.in_ok-write_first_line.ensures h) (c.write_reply.ensures c.args.options)
 
 pub returns-in-16 : goal.returns-in-16
 returns-in-16 g c =
@@ -18,5 +18,5 @@ returns-in-16 g c =
     let old = g.W.Sink.output c.args.writer.now in
     let mid = g.W.Sink.output c.write_first_line.new.writer in
     let new = g.W.Sink.output c.write_about_link.new.writer in
-    if_ok (Writes (ShowsBody c.args.check m) mid new) (Writes (ShowsMessage c.args.check m) old new) c.write_about_link.result
-    (λ well h. message_written c.args.check m old mid new well c.in_ok-write_first_line.ensures h) c.write_about_link.ensures
+    if_ok (Writes (ShowsBody c.args.options m) mid new) (Writes (ShowsMessage c.args.options m) old new) c.write_about_link.result
+    (λ well h. message_written c.args.options m old mid new well c.in_ok-write_first_line.ensures h) c.write_about_link.ensures
