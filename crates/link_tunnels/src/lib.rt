@@ -1,4 +1,4 @@
-//! Link attributes of tunnel devices: VXLAN.
+//! Link attributes of tunnel devices.
 #![tactic(auto)]
 
 pub mod laws;
