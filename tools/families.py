@@ -5,8 +5,8 @@ name, the enum of attributes, the number in C, and what holds its lists, in brac
 specs/Family.antt. The comment of the variant says whose attributes they are.
 
 What only repeats the list, `written` has: tools/made.py writes it. These are the constants of nlroute.h, which
-bindings/generate.py reads, the names in nlroute.1, the words for the families in three READMEs, headings of MODEL.md,
-the list of all in proofs/Families, and a proof with an equal part for each set. LISTS are parts of pages that are
+bindings/generate.py reads, the names in nlroute.1 and calls.c, the words for the families in three READMEs, headings of
+MODEL.md, the list of all in proofs/Families, and a proof with an equal part for each set. LISTS are parts of pages that are
 written by hand. COVERED is what the runs have for each attribute set.
 """
 import os
@@ -117,6 +117,11 @@ def whose_lists(rows):
     return f"{', '.join(first)}, and {last}"
 
 
+def in_calls(rows):
+    """The names of the sets in C, by their numbers."""
+    return "".join(f'    [NLROUTE_{it["NAME"]}] = "{it["name"]}",\n' for it in rows)
+
+
 def in_order(rows):
     """The definition of the list of all sets, in a proof."""
     return " ∷\n".join(f"    sets.{it['variant']}" for it in rows) + " ∷ []\n"
@@ -153,6 +158,7 @@ WRITTEN = [
         r"(?<=\bThey cover ).*?(?=\]\(docs/families\.md\))",
         lambda rows: f"{whose_lists(rows)} ([{len(rows)} families",
     ),
+    ("crates/nlroute_ffi/examples/calls.c", r"(?<=^static const char \*const sets\[\] = \{\n)(?: .*\n)*", in_calls),
     ("crates/netlink_packet_route/proofs/Families.antt", r"(?<=^all_families =\n)(?: .*\n)*", in_order),
     ("bindings/python/README.md", IN_BINDINGS, whose_lists),
     ("bindings/rust/README.md", IN_BINDINGS, whose_lists),

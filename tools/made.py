@@ -1,6 +1,6 @@
 #!/usr/bin/env python3
 """Writes what is made from the sources: docs/MAP.md, docs/families.md, docs/nlroute.3, docs/captured.pcapng, the tables of
-CLAIMS.md, the lists of attribute sets, and what tools/sets.py makes from sets/.
+CLAIMS.md, the lists of attribute sets, what tools/sets.py makes from sets/, and the counts of pages.
 
 usage: tools/made.py [--check]
 
@@ -22,6 +22,8 @@ that has most of the promises that are there. A row that is in no contract is a 
 captured.pcapng has the messages of runs/plain/captured as packets, each with the comment above it. Their times are not
 known, and are 0.
 
+A count is the number before a mark, as tools/pages.py has them: `148<!-- count: tests of refusals --> tests`.
+
 With --check it says which of them is not what would be written, and which files have no header, and ends with 'N passed,
 M failed'; CI does this.
 """
@@ -35,7 +37,7 @@ import textwrap
 sys.dont_write_bytecode = True
 import families  # noqa: E402
 import sets  # noqa: E402
-from pages import CLAIMS, ROOT, Tree, clause_tables, head_of, is_ghost  # noqa: E402
+from pages import CLAIMS, HISTORY, PAGES, ROOT, SPELLED, Tree, clause_tables, head_of, is_ghost  # noqa: E402
 
 # ---- docs/MAP.md
 
@@ -294,6 +296,22 @@ def capture(text):
     return b"".join(blocks)
 
 
+# ---- counts
+
+MARKED = re.compile(rf"(\d[\d,]*|\b(?:{'|'.join(SPELLED)}))(?=\W?\**<!--\s*count:\s*([^>]*?)\s*-->)", re.IGNORECASE)
+
+
+def counted(text, tree):
+    """The text of a page with the numbers of the tree at its marks. A number in letters stays, if it is right."""
+
+    def number(found):
+        there, name = found[1], " ".join(found[2].split())
+        is_right = there.lower() in SPELLED and SPELLED.index(there.lower()) == tree.counts.get(name)
+        return there if is_right or name not in tree.counts else f"{tree.counts[name]:,}"
+
+    return MARKED.sub(number, text)
+
+
 # ---- all of them
 
 
@@ -311,8 +329,8 @@ def main():
         sys.exit(__doc__)
     tree, ill = Tree(ROOT), []
     try:
-        lists = families.written(tree.text)
-        lists |= sets.written(tree.files, lambda path: lists.get(path) or tree.text(path))
+        lists = sets.written(tree.files, tree.text)
+        lists |= families.written(lambda path: lists.get(path) or tree.text(path))
     except ValueError as error:
         sys.exit(f"{error}\n0 passed, 1 failed")
     if not option:
@@ -322,6 +340,8 @@ def main():
         "docs/MAP.md": map_of(tree, ill), "docs/families.md": page_of_families(tree), "docs/nlroute.3": manual(tree),
         CLAIMS: claims(tree),
     }  # fmt: skip
+    pages = {path: texts.get(path) or tree.text(path) for path in tree.files if PAGES.fullmatch(path) and path != HISTORY}
+    texts |= {path: counted(text, tree) for path, text in pages.items() if MARKED.search(text)}
     made = {path: text.encode() for path, text in texts.items()} | {"docs/captured.pcapng": capture(tree.text(CAPTURED))}
     if not option:
         write(made)

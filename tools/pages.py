@@ -60,7 +60,7 @@ BUDGETS = {
     "docs/MAP.md": 80, "docs/json.md": 1175,
     "docs/messages.md": 760, "docs/programs.md": 2245, "docs/python.md": 855, "docs/rattle.md": 1830,
     "docs/rust.md": 865, "docs/proofs/ASSURANCE.md": 1190, "docs/proofs/CLAIMS.md": 3160,
-    "docs/DECISIONS.md": 5000, "docs/DIFFERENCES.md": 2140, "docs/proofs/MODEL.md": 3745,
+    "docs/DECISIONS.md": 5000, "docs/DIFFERENCES.md": 2140, "docs/proofs/MODEL.md": 3790,
 }  # fmt: skip
 SMALL_BUDGET = 600
 HISTORY, COMPARISON, CLAIMS = "CHANGELOG.md", "docs/DIFFERENCES.md", "docs/proofs/CLAIMS.md"

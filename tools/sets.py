@@ -18,7 +18,8 @@ Each other line is an attribute type. Tabs are between its cells, of which the l
                 of Counters: the bytes of each number, or `i32`; of a held list: its set, if its type alone says which it is
     quantity    if its number counts something
 
-specs/NAME.antt of the crate is written as a whole. What it needs of an enum, a set of flags or a struct `T` is written by
+specs/NAME.antt of the crate is written as a whole, and in MODEL.md the rows below the heading of the set, which is added at
+the end of all if it is missing. What it needs of an enum, a set of flags or a struct `T` is written by
 hand in other files of specs/. Its name begins with words of `T`; of several, that with most is taken: hsr_protocol_names.
 
 runs/sets/NAME has a list with each attribute type once. The bytes of each payload differ. What the programs have to print
@@ -238,15 +239,18 @@ def shape(it):
 
 
 def in_model(it, page):
-    """The page with the rows below the heading of the set, if it is there. What follows a colon or a comma stays."""
+    """The page with the rows below the heading of the set. What follows a colon or a comma stays."""
     head = f"`{it.enum}`, `{it.table}`\n\n```text\n"
+    if head not in page:
+        *_, last = re.finditer(r"^### .*_(?:table|rows)`\n\n```text\n(?:(?!```).*\n)*```\n\n", page, re.MULTILINE)
+        page = f"{page[: last.end()]}### {it.title.rstrip('.')}: {head}```\n\n{page[last.end() :]}"
     above, _, below = page.partition(head)
     old, end, rest = below.partition("```")
     more = dict(re.findall(r"^ *\d+  (\w+) [^:,\n]*([:,].*)$", old, re.MULTILINE))
     columns = [(str(row.number), row.name, row.variant, shape(row) + more.get(row.name, "")) for row in it.rows]
     first, second, third = (max(len(row[at]) for row in columns) for at in range(3))
     lines = [f"{a:>{first}}  {b:<{second}}  {c:<{third}}  {d}\n" for a, b, c, d in columns]
-    return "".join([above, head, *lines, end, rest]) if below else page
+    return "".join([above, head, *lines, end, rest])
 
 
 # ---- runs/sets/

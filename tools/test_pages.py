@@ -4,6 +4,7 @@ line. Each case of CASES is a change of one file, and what is then found.
 
 Its last line is 'N passed, M failed', and its status 0 only if nothing failed.
 """
+import collections
 import contextlib
 import io
 import os
@@ -321,6 +322,10 @@ enum nlroute_family {
 pub returns-in-{it}-clause-answer : goal.returns-in-{it}-clause-answer
 returns-in-{it}-clause-answer c = rw c.in-{it}.is c.rewrite_as{'' if it == 'Dsa' else f'-in-{it}'}.ensures.answer
 """ for it in ("Dsa", "Hsr", "Port", "Vlan", "All", "Part"))),
+    "crates/nlroute_ffi/examples/calls.c": ("static const char *const sets[] = {\n    old\n};\n", "static const char *const sets[] = {\n" + "".join(
+        f'    [NLROUTE_{it.upper()}] = "{it}",\n' for it in ("dsa", "hsr", "port", "vlan", "all", "part")) + "};\n"),
+    f"{ROUTE}/proofs/Families.antt": ("-- A\nall_families =\n    old\n\n-- B\n", "-- A\nall_families =\n" + " ∷\n".join(
+        f"    sets.{it}" for it in ("Dsa", "Hsr", "Port", "Vlan", "All", "Part")) + " ∷ []\n\n-- B\n"),
     "docs/proofs/MODEL.md": ("### A: `InfoDsa`, `dsa_table`\n### B: `InfoVlan`, `vlan_table`\n### `InfoHsr`\n",
                              "### DSA ports: `InfoDsa`, `dsa_table`\n### `IFLA_VLAN` in AF_BRIDGE messages: `InfoVlan`, `vlan_table`\n### `InfoHsr`\n"),
 }  # fmt: skip
@@ -359,6 +364,8 @@ MADE = [
      f"README.md: 0 places are as {families.WRITTEN[3][1]}, and one has to be"),
     (repeated(lambda it: it[0] * (1 + it[0].startswith(".B"))),
      f"{MAN}: 2 places are as {families.WRITTEN[1][1]}, and one has to be"),
+    (made.counted("Two<!-- count: a -->, 1**<!-- count:\nb --> and 3<!-- count: c -->", collections.namedtuple("Tree", "counts")({"a": 2, "b": 1234})),
+     "Two<!-- count: a -->, 1,234**<!-- count:\nb --> and 3<!-- count: c -->"),
     (made.capture("# One\n# two\n> message 01\nNo\n# three\n")[-40:-4], made.COOKED + b"\1\0\0\0\1\0\7\0One two\0\0\0\0\0"),
 ]  # fmt: skip
 

@@ -177,7 +177,10 @@ part_leaf (infos.Other other) = default_means other
         made = sets.in_model(it, f"Above\n{head}1  IFLA_HSR_SLAVE1  Old  u8: one, two\n```\n\nBelow\n")
         line = "1  IFLA_HSR_SLAVE1            Port1            u32 as InterfaceIndex: one, two\n"
         self.assertTrue(made.startswith(f"Above\n{head}{line}2  IFLA_HSR_SLAVE2  ") and made.endswith("InterfaceIndex\n```\n\nBelow\n"), made)
-        self.assertEqual("none\n", sets.in_model(it, "none\n"))
+        other = "### Other: `InfoOther`, `other_table`\n\n```text\n1  IFLA_A  A  u8\n```\n\n"
+        made = sets.in_model(it, f"Above\n{other}Below\n")
+        title = "### HSR and PRP device attributes: `InfoHsr`, `hsr_table`\n\n```text\n"
+        self.assertTrue(made.startswith(f"Above\n{other}{title}1  IFLA_HSR_SLAVE1") and made.endswith("InterfaceIndex\n```\n\nBelow\n"), made)
 
 
 class Template(unittest.TestCase):

@@ -41,28 +41,50 @@ static bool are_lent(const void *bytes, size_t len) {
 static const uint8_t vlan[32] = {6, 0, 5, 0, 0x88, 0xA8, 0, 0, 6,  0, 1, 0, 5, 0, 0, 0,
                                  16, 0, 3, 0, 12,   0,    1, 0, 1, 0, 0, 0, 2, 0, 0, 0};
 
-/* The attribute sets by their numbers, each with its name, and with the name and the number of a type. */
+/* The names of the attribute sets, by their numbers. tools/made.py writes them. */
+static const char *const sets[] = {
+    [NLROUTE_AF_SPEC_BRIDGE] = "af_spec_bridge",
+    [NLROUTE_BOND] = "bond",
+    [NLROUTE_BOND_PORT] = "bond_port",
+    [NLROUTE_BRIDGE] = "bridge",
+    [NLROUTE_BRIDGE_PORT] = "bridge_port",
+    [NLROUTE_VLAN] = "vlan",
+    [NLROUTE_CAN] = "can",
+    [NLROUTE_DSA] = "dsa",
+    [NLROUTE_HSR] = "hsr",
+    [NLROUTE_PROTO_BRIDGE] = "proto_bridge",
+    [NLROUTE_VXLAN] = "vxlan",
+    [NLROUTE_LINK] = "link",
+    [NLROUTE_AF_SPEC] = "af_spec",
+    [NLROUTE_INET] = "inet",
+    [NLROUTE_INET6] = "inet6",
+    [NLROUTE_MCTP] = "mctp",
+    [NLROUTE_REPLY] = "reply",
+};
+
+/* Types of attribute sets, by their names. */
 static const struct {
-    const char *name, *type;
+    uint32_t family;
+    const char *type;
     uint16_t kind;
-} sets[] = {
-    [NLROUTE_AF_SPEC_BRIDGE] = {"af_spec_bridge", "IFLA_BRIDGE_VLAN_INFO", 2},
-    [NLROUTE_BOND] = {"bond", "IFLA_BOND_MODE", 1},
-    [NLROUTE_BOND_PORT] = {"bond_port", "IFLA_BOND_SLAVE_STATE", 1},
-    [NLROUTE_BRIDGE] = {"bridge", "IFLA_BR_GROUP_ADDR", 20},
-    [NLROUTE_BRIDGE_PORT] = {"bridge_port", "IFLA_BRPORT_STATE", 1},
-    [NLROUTE_VLAN] = {"vlan", "IFLA_VLAN_PROTOCOL", 5},
-    [NLROUTE_CAN] = {"can", "IFLA_CAN_CTRLMODE", 5},
-    [NLROUTE_DSA] = {"dsa", "IFLA_DSA_CONDUIT", 1},
-    [NLROUTE_HSR] = {"hsr", "IFLA_HSR_PROTOCOL", 7},
-    [NLROUTE_PROTO_BRIDGE] = {"proto_bridge", "IFLA_BRPORT_NEIGH_FORWARD_GRAT", 45},
-    [NLROUTE_VXLAN] = {"vxlan", "IFLA_VXLAN_PORT", 15},
-    [NLROUTE_LINK] = {"link", "IFLA_IFNAME", 3},
-    [NLROUTE_AF_SPEC] = {"af_spec", "AF_INET6", 10},
-    [NLROUTE_INET] = {"inet", "IFLA_INET_CONF", 1},
-    [NLROUTE_INET6] = {"inet6", "IFLA_INET6_TOKEN", 7},
-    [NLROUTE_MCTP] = {"mctp", "IFLA_MCTP_NET", 1},
-    [NLROUTE_REPLY] = {"reply", "NLMSGERR_ATTR_MSG", 1},
+} types[] = {
+    {NLROUTE_AF_SPEC_BRIDGE, "IFLA_BRIDGE_VLAN_INFO", 2},
+    {NLROUTE_BOND, "IFLA_BOND_MODE", 1},
+    {NLROUTE_BOND_PORT, "IFLA_BOND_SLAVE_STATE", 1},
+    {NLROUTE_BRIDGE, "IFLA_BR_GROUP_ADDR", 20},
+    {NLROUTE_BRIDGE_PORT, "IFLA_BRPORT_STATE", 1},
+    {NLROUTE_VLAN, "IFLA_VLAN_PROTOCOL", 5},
+    {NLROUTE_CAN, "IFLA_CAN_CTRLMODE", 5},
+    {NLROUTE_DSA, "IFLA_DSA_CONDUIT", 1},
+    {NLROUTE_HSR, "IFLA_HSR_PROTOCOL", 7},
+    {NLROUTE_PROTO_BRIDGE, "IFLA_BRPORT_NEIGH_FORWARD_GRAT", 45},
+    {NLROUTE_VXLAN, "IFLA_VXLAN_PORT", 15},
+    {NLROUTE_LINK, "IFLA_IFNAME", 3},
+    {NLROUTE_AF_SPEC, "AF_INET6", 10},
+    {NLROUTE_INET, "IFLA_INET_CONF", 1},
+    {NLROUTE_INET6, "IFLA_INET6_TOKEN", 7},
+    {NLROUTE_MCTP, "IFLA_MCTP_NET", 1},
+    {NLROUTE_REPLY, "NLMSGERR_ATTR_MSG", 1},
 };
 
 /* How many attribute sets there are; no set has this number. */
@@ -70,10 +92,10 @@ enum { FAMILIES = sizeof sets / sizeof sets[0] };
 
 static void families(void) {
     char name[NLROUTE_TEXT_ROOM];
-    for (uint32_t i = 0; i < FAMILIES; i++) {
-        check(nlroute_family_name(i, name, sizeof name) > 0 && !strcmp(name, sets[i].name), "a set by its number");
-        check(nlroute_kind_of(i, sets[i].type, strlen(sets[i].type)) == sets[i].kind, "a type of the set");
-    }
+    for (uint32_t i = 0; i < FAMILIES; i++)
+        check(nlroute_family_name(i, name, sizeof name) > 0 && !strcmp(name, sets[i]), "a set by its number");
+    for (size_t i = 0; i < sizeof types / sizeof types[0]; i++)
+        check(nlroute_kind_of(types[i].family, types[i].type, strlen(types[i].type)) == types[i].kind, "a type of a set");
     check(nlroute_family_name(FAMILIES, name, sizeof name) == NLROUTE_NO_FAMILY, "no set has the next number");
 }
 
