@@ -486,7 +486,21 @@ VXLAN = table(
     **dict.fromkeys(("TTL_INHERIT", "REMCSUM_NOPARTIAL", "RESERVED_BITS"), partial(never, IP_SILENT)),
 )
 
+GENEVE = table(
+    "IFLA_GENEVE_",
+    (number, "id port"),
+    (number_or_0, "ttl", AS_NULL),
+    (mask_or_0, "tos label", AS_NULL),
+    (address, "remote remote6"),
+    (on_off, "udp_csum udp_zero_csum6_tx udp_zero_csum6_rx"),
+    (enum("unset set inherit"), "df"),
+    (ports, "port_range", IP_OLD),
+    (flag, "COLLECT_METADATA:external inner_proto_inherit"),
+    TTL_INHERIT=partial(never, IP_SILENT),
+)
+
 # The rules of a list of `ip`, by the attribute set that nlshow names. CAN and DSA need hardware.
 LISTS = {
     "(bridge)": BRIDGE, "(bridge_port)": PORT, "(vlan)": VLAN, "(bond)": BOND, "(bond_port)": BOND_PORT, "(hsr)": HSR, "(vxlan)": VXLAN,
+    "(geneve)": GENEVE,
 }  # fmt: skip

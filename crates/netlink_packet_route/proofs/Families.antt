@@ -27,7 +27,8 @@ all_families =
     sets.Inet ∷
     sets.Inet6 ∷
     sets.Mctp ∷
-    sets.Reply ∷ []
+    sets.Reply ∷
+    sets.Geneve ∷ []
 
 abbrev family_at : List Family → ℕ → Option Family
 family_at [] n = None

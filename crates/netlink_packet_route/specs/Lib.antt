@@ -58,6 +58,8 @@ pub use Rattle.link_tunnels.specs.VxlanNames
 pub use Rattle.link_tunnels.specs.VxlanPortRange
 pub use Rattle.link_tunnels.specs.VxlanHeader
 pub use Rattle.link_tunnels.specs.Vxlan
+pub use Rattle.link_tunnels.specs.GeneveNames
+pub use Rattle.link_tunnels.specs.Geneve
 pub use Rattle.link_common.specs.LinkNames
 pub use Rattle.link_common.specs.InetNames
 pub use Rattle.link_common.specs.Places

@@ -43,6 +43,8 @@ pub enum Family {
     Mctp,
     /// `reply`: attributes of replies to requests, [`ReplyAttribute`](crate::link::ReplyAttribute).
     Reply,
+    /// `geneve`: attributes of GENEVE devices, [`InfoGeneve`](crate::link::InfoGeneve).
+    Geneve,
 }
 
 /// What holds the list of an attribute set (`include/uapi/linux/if_link.h`).
@@ -108,6 +110,7 @@ macro_rules! families {
             Inet6         "inet6"           AfSpecInet6          14 [Within (Family::AfSpec, AF_INET6), Inet6Attribute (IFLA_PROTINFO)]
             Mctp          "mctp"            AfSpecMctp           15 [Within (Family::AfSpec, AF_MCTP)]
             Reply         "reply"           ReplyAttribute       16 [ReplyMessage]
+            Geneve        "geneve"          InfoGeneve           17 [InfoKind (b"geneve")]
         }
     };
 }

@@ -60,6 +60,7 @@ static const char *const sets[] = {
     [NLROUTE_INET6] = "inet6",
     [NLROUTE_MCTP] = "mctp",
     [NLROUTE_REPLY] = "reply",
+    [NLROUTE_GENEVE] = "geneve",
 };
 
 /* Types of attribute sets, by their names. */

@@ -11,10 +11,10 @@ use netlink_packet_route::link::{
     BridgeStpState, BridgeVlanInfo, BridgeVlanInfoFlags, BridgeVlanTunnelInfo, CanBerrCounter,
     CanBitTiming, CanBitTimingConst, CanClock, CanCtrlMode, CanCtrlModeExt, CanCtrlModeFlags,
     CanTdc, Cause, ChurnState, DecodeError, DecodeFault, DefaultNla, FrameTable, HsrProtocol,
-    InfoBond, InfoBondPort, InfoBridge, InfoBridgePort, InfoCan, InfoDsa, InfoHsr, InfoVlan,
-    InfoVxlan, LacpState, LinkAttribute, LinkProtoInfoBridge, ListError, MiiStatus, NlaBuffer,
-    NlasIterator, ReplyAttribute, TryClone, VecAfSpecBridge, VecLinkProtoInfoBridge, VlanFlags,
-    VlanProtocol, VlanQosMapping, VxlanHeader, VxlanPortRange, WriteError,
+    InfoBond, InfoBondPort, InfoBridge, InfoBridgePort, InfoCan, InfoDsa, InfoGeneve, InfoHsr,
+    InfoVlan, InfoVxlan, LacpState, LinkAttribute, LinkProtoInfoBridge, ListError, MiiStatus,
+    NlaBuffer, NlasIterator, ReplyAttribute, TryClone, VecAfSpecBridge, VecLinkProtoInfoBridge,
+    VlanFlags, VlanProtocol, VlanQosMapping, VxlanHeader, VxlanPortRange, WriteError,
 };
 use netlink_packet_route::{Family, RewriteError};
 use std::alloc::AllocError;
@@ -214,6 +214,21 @@ fn vxlan(value: &InfoVxlan) {
         InfoVxlan::TtlInherit(it) => is::<Option<bool>>(it),
         InfoVxlan::Gbp | InfoVxlan::RemCsumNoPartial | InfoVxlan::Gpe => {}
         InfoVxlan::Other(it) => is::<DefaultNla>(it),
+    }
+}
+
+fn geneve(value: &InfoGeneve) {
+    match value {
+        InfoGeneve::Id(it) | InfoGeneve::Label(it) => is::<u32>(it),
+        InfoGeneve::Remote(it) => is::<Ipv4Addr>(it),
+        InfoGeneve::Remote6(it) => is::<Ipv6Addr>(it),
+        InfoGeneve::Ttl(it) | InfoGeneve::Tos(it) | InfoGeneve::Df(it) => is::<u8>(it),
+        InfoGeneve::Port(it) => is::<u16>(it),
+        InfoGeneve::PortRange(it) => is::<VxlanPortRange>(it),
+        InfoGeneve::UdpCsum(it) | InfoGeneve::UdpZeroCsum6Tx(it) => is::<bool>(it),
+        InfoGeneve::UdpZeroCsum6Rx(it) | InfoGeneve::TtlInherit(it) => is::<bool>(it),
+        InfoGeneve::CollectMetadata | InfoGeneve::InnerProtoInherit => {}
+        InfoGeneve::Other(it) => is::<DefaultNla>(it),
     }
 }
 
@@ -512,6 +527,7 @@ fn attributes() {
     is_attribute::<AfSpecInet6>();
     is_attribute::<AfSpecMctp>();
     is_attribute::<ReplyAttribute>();
+    is_attribute::<InfoGeneve>();
     is_attribute::<BridgeVlanTunnelInfo>();
     is_attribute::<BondAdInfo>();
     is_attribute::<BridgeQuerierState>();
@@ -645,7 +661,7 @@ fn families(family: Family) {
         Family::BridgePort | Family::Vlan | Family::Can | Family::Dsa => {}
         Family::Hsr | Family::ProtoBridge | Family::Vxlan => {}
         Family::Link | Family::AfSpec | Family::Inet | Family::Inet6 => {}
-        Family::Mctp | Family::Reply => {}
+        Family::Mctp | Family::Reply | Family::Geneve => {}
     }
 }
 

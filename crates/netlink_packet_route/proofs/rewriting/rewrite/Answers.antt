@@ -53,3 +53,6 @@ returns-in-Mctp-clause-answer c = rw c.in-Mctp.is c.rewrite_as-in-Mctp.ensures.a
 
 pub returns-in-Reply-clause-answer : goal.returns-in-Reply-clause-answer
 returns-in-Reply-clause-answer c = rw c.in-Reply.is c.rewrite_as-in-Reply.ensures.answer
+
+pub returns-in-Geneve-clause-answer : goal.returns-in-Geneve-clause-answer
+returns-in-Geneve-clause-answer c = rw c.in-Geneve.is c.rewrite_as-in-Geneve.ensures.answer
