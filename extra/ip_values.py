@@ -499,8 +499,10 @@ GENEVE = table(
     TTL_INHERIT=partial(never, IP_SILENT),
 )
 
+VRF = table("IFLA_VRF_", (number, "table"))
+
 # The rules of a list of `ip`, by the attribute set that nlshow names. CAN and DSA need hardware.
 LISTS = {
     "(bridge)": BRIDGE, "(bridge_port)": PORT, "(vlan)": VLAN, "(bond)": BOND, "(bond_port)": BOND_PORT, "(hsr)": HSR, "(vxlan)": VXLAN,
-    "(geneve)": GENEVE,
+    "(geneve)": GENEVE, "(vrf)": VRF,
 }  # fmt: skip

@@ -28,7 +28,8 @@ all_families =
     sets.Inet6 ∷
     sets.Mctp ∷
     sets.Reply ∷
-    sets.Geneve ∷ []
+    sets.Geneve ∷
+    sets.Vrf ∷ []
 
 abbrev family_at : List Family → ℕ → Option Family
 family_at [] n = None

@@ -45,6 +45,8 @@ pub enum Family {
     Reply,
     /// `geneve`: attributes of GENEVE devices, [`InfoGeneve`](crate::link::InfoGeneve).
     Geneve,
+    /// `vrf`: attributes of VRF devices, [`InfoVrf`](crate::link::InfoVrf).
+    Vrf,
 }
 
 /// What holds the list of an attribute set (`include/uapi/linux/if_link.h`).
@@ -111,6 +113,7 @@ macro_rules! families {
             Mctp          "mctp"            AfSpecMctp           15 [Within (Family::AfSpec, AF_MCTP)]
             Reply         "reply"           ReplyAttribute       16 [ReplyMessage]
             Geneve        "geneve"          InfoGeneve           17 [InfoKind (b"geneve")]
+            Vrf           "vrf"             InfoVrf              18 [InfoKind (b"vrf")]
         }
     };
 }

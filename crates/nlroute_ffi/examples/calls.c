@@ -61,6 +61,7 @@ static const char *const sets[] = {
     [NLROUTE_MCTP] = "mctp",
     [NLROUTE_REPLY] = "reply",
     [NLROUTE_GENEVE] = "geneve",
+    [NLROUTE_VRF] = "vrf",
 };
 
 /* Types of attribute sets, by their names. */

@@ -85,7 +85,8 @@ enum nlroute_family {
     NLROUTE_INET6 = 14, /* AF_INET6 of a link for IPv6 */
     NLROUTE_MCTP = 15, /* AF_MCTP of a link for MCTP */
     NLROUTE_REPLY = 16, /* replies to requests */
-    NLROUTE_GENEVE = 17 /* IFLA_INFO_DATA of GENEVE devices */
+    NLROUTE_GENEVE = 17, /* IFLA_INFO_DATA of GENEVE devices */
+    NLROUTE_VRF = 18 /* IFLA_INFO_DATA of VRF devices */
 };
 
 /*

@@ -481,6 +481,11 @@ enum {
     NLROUTE_IFLA_GENEVE_PORT_RANGE = 15 /* BYTES */
 };
 
+/* Attributes of NLROUTE_VRF. */
+enum {
+    NLROUTE_IFLA_VRF_TABLE = 1 /* UNSIGNED */
+};
+
 /* Places of the array link_stats. */
 enum {
     NLROUTE_RX_PACKETS = 0,

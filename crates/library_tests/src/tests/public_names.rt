@@ -12,9 +12,10 @@ use netlink_packet_route::link::{
     CanBitTiming, CanBitTimingConst, CanClock, CanCtrlMode, CanCtrlModeExt, CanCtrlModeFlags,
     CanTdc, Cause, ChurnState, DecodeError, DecodeFault, DefaultNla, FrameTable, HsrProtocol,
     InfoBond, InfoBondPort, InfoBridge, InfoBridgePort, InfoCan, InfoDsa, InfoGeneve, InfoHsr,
-    InfoVlan, InfoVxlan, LacpState, LinkAttribute, LinkProtoInfoBridge, ListError, MiiStatus,
-    NlaBuffer, NlasIterator, ReplyAttribute, TryClone, VecAfSpecBridge, VecLinkProtoInfoBridge,
-    VlanFlags, VlanProtocol, VlanQosMapping, VxlanHeader, VxlanPortRange, WriteError,
+    InfoVlan, InfoVrf, InfoVxlan, LacpState, LinkAttribute, LinkProtoInfoBridge, ListError,
+    MiiStatus, NlaBuffer, NlasIterator, ReplyAttribute, TryClone, VecAfSpecBridge,
+    VecLinkProtoInfoBridge, VlanFlags, VlanProtocol, VlanQosMapping, VxlanHeader, VxlanPortRange,
+    WriteError,
 };
 use netlink_packet_route::{Family, RewriteError};
 use std::alloc::AllocError;
@@ -229,6 +230,13 @@ fn geneve(value: &InfoGeneve) {
         InfoGeneve::UdpZeroCsum6Rx(it) | InfoGeneve::TtlInherit(it) => is::<bool>(it),
         InfoGeneve::CollectMetadata | InfoGeneve::InnerProtoInherit => {}
         InfoGeneve::Other(it) => is::<DefaultNla>(it),
+    }
+}
+
+fn vrf(value: &InfoVrf) {
+    match value {
+        InfoVrf::TableId(it) => is::<u32>(it),
+        InfoVrf::Other(it) => is::<DefaultNla>(it),
     }
 }
 
@@ -528,6 +536,7 @@ fn attributes() {
     is_attribute::<AfSpecMctp>();
     is_attribute::<ReplyAttribute>();
     is_attribute::<InfoGeneve>();
+    is_attribute::<InfoVrf>();
     is_attribute::<BridgeVlanTunnelInfo>();
     is_attribute::<BondAdInfo>();
     is_attribute::<BridgeQuerierState>();
@@ -662,6 +671,7 @@ fn families(family: Family) {
         Family::Hsr | Family::ProtoBridge | Family::Vxlan => {}
         Family::Link | Family::AfSpec | Family::Inet | Family::Inet6 => {}
         Family::Mctp | Family::Reply | Family::Geneve => {}
+        Family::Vrf => {}
     }
 }
 

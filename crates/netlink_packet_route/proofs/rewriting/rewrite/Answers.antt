@@ -56,3 +56,6 @@ returns-in-Reply-clause-answer c = rw c.in-Reply.is c.rewrite_as-in-Reply.ensure
 
 pub returns-in-Geneve-clause-answer : goal.returns-in-Geneve-clause-answer
 returns-in-Geneve-clause-answer c = rw c.in-Geneve.is c.rewrite_as-in-Geneve.ensures.answer
+
+pub returns-in-Vrf-clause-answer : goal.returns-in-Vrf-clause-answer
+returns-in-Vrf-clause-answer c = rw c.in-Vrf.is c.rewrite_as-in-Vrf.ensures.answer
