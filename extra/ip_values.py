@@ -501,8 +501,10 @@ GENEVE = table(
 
 VRF = table("IFLA_VRF_", (number, "table"))
 
+VRF_PORT = table("IFLA_VRF_PORT_", (number, "table"))
+
 # The rules of a list of `ip`, by the attribute set that nlshow names. CAN and DSA need hardware.
 LISTS = {
     "(bridge)": BRIDGE, "(bridge_port)": PORT, "(vlan)": VLAN, "(bond)": BOND, "(bond_port)": BOND_PORT, "(hsr)": HSR, "(vxlan)": VXLAN,
-    "(geneve)": GENEVE, "(vrf)": VRF,
+    "(geneve)": GENEVE, "(vrf)": VRF, "(vrf_port)": VRF_PORT,
 }  # fmt: skip

@@ -1,1 +1,2 @@
 pub mod Vrf
+pub mod VrfPort

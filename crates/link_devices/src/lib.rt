@@ -2,5 +2,7 @@
 #![tactic(auto)]
 
 mod vrf;
+mod vrf_port;
 
 pub use vrf::InfoVrf;
+pub use vrf_port::InfoVrfPort;

@@ -17,7 +17,7 @@ use std::alloc::Global;
 use std::process::Abort;
 
 /// Canonical lists of every attribute set. Each word of digits is an attribute with its padding.
-const CANONICAL: [&str; 51] = [
+const CANONICAL: [&str; 52] = [
     "dsa",
     "hsr",
     "vlan",
@@ -43,6 +43,7 @@ const CANONICAL: [&str; 51] = [
     "vxlan 08000a008000ee48 04001c00 05001d0002000000 08001a0000012345 06000f0012b50000",
     "geneve 040006000600050017c10000 05000c0001000000 08000f008000ee48",
     "vrf 0800010064000000",
+    "vrf_port 0800010064000000",
     "vlan 0600050088a80000 180003000c0001000100000002000000070009c001020300",
     "vlan 06006300dead0000 100003000c0001000100000002000000",
     "vlan 0c000200010000001f000000 060063c0dead0000",

@@ -29,7 +29,8 @@ all_families =
     sets.Mctp ∷
     sets.Reply ∷
     sets.Geneve ∷
-    sets.Vrf ∷ []
+    sets.Vrf ∷
+    sets.VrfPort ∷ []
 
 abbrev family_at : List Family → ℕ → Option Family
 family_at [] n = None

@@ -47,6 +47,8 @@ pub enum Family {
     Geneve,
     /// `vrf`: attributes of VRF devices, [`InfoVrf`](crate::link::InfoVrf).
     Vrf,
+    /// `vrf_port`: attributes of VRF ports, [`InfoVrfPort`](crate::link::InfoVrfPort).
+    VrfPort,
 }
 
 /// What holds the list of an attribute set (`include/uapi/linux/if_link.h`).
@@ -114,6 +116,7 @@ macro_rules! families {
             Reply         "reply"           ReplyAttribute       16 [ReplyMessage]
             Geneve        "geneve"          InfoGeneve           17 [InfoKind (b"geneve")]
             Vrf           "vrf"             InfoVrf              18 [InfoKind (b"vrf")]
+            VrfPort       "vrf_port"        InfoVrfPort          19 [PortKind (b"vrf")]
         }
     };
 }

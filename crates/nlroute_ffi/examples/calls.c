@@ -62,6 +62,7 @@ static const char *const sets[] = {
     [NLROUTE_REPLY] = "reply",
     [NLROUTE_GENEVE] = "geneve",
     [NLROUTE_VRF] = "vrf",
+    [NLROUTE_VRF_PORT] = "vrf_port",
 };
 
 /* Types of attribute sets, by their names. */

@@ -486,6 +486,11 @@ enum {
     NLROUTE_IFLA_VRF_TABLE = 1 /* UNSIGNED */
 };
 
+/* Attributes of NLROUTE_VRF_PORT. */
+enum {
+    NLROUTE_IFLA_VRF_PORT_TABLE = 1 /* UNSIGNED */
+};
+
 /* Places of the array link_stats. */
 enum {
     NLROUTE_RX_PACKETS = 0,

@@ -12,8 +12,8 @@ use netlink_packet_route::link::{
     CanBitTiming, CanBitTimingConst, CanClock, CanCtrlMode, CanCtrlModeExt, CanCtrlModeFlags,
     CanTdc, Cause, ChurnState, DecodeError, DecodeFault, DefaultNla, FrameTable, HsrProtocol,
     InfoBond, InfoBondPort, InfoBridge, InfoBridgePort, InfoCan, InfoDsa, InfoGeneve, InfoHsr,
-    InfoVlan, InfoVrf, InfoVxlan, LacpState, LinkAttribute, LinkProtoInfoBridge, ListError,
-    MiiStatus, NlaBuffer, NlasIterator, ReplyAttribute, TryClone, VecAfSpecBridge,
+    InfoVlan, InfoVrf, InfoVrfPort, InfoVxlan, LacpState, LinkAttribute, LinkProtoInfoBridge,
+    ListError, MiiStatus, NlaBuffer, NlasIterator, ReplyAttribute, TryClone, VecAfSpecBridge,
     VecLinkProtoInfoBridge, VlanFlags, VlanProtocol, VlanQosMapping, VxlanHeader, VxlanPortRange,
     WriteError,
 };
@@ -237,6 +237,13 @@ fn vrf(value: &InfoVrf) {
     match value {
         InfoVrf::TableId(it) => is::<u32>(it),
         InfoVrf::Other(it) => is::<DefaultNla>(it),
+    }
+}
+
+fn vrf_port(value: &InfoVrfPort) {
+    match value {
+        InfoVrfPort::TableId(it) => is::<u32>(it),
+        InfoVrfPort::Other(it) => is::<DefaultNla>(it),
     }
 }
 
@@ -536,6 +543,7 @@ fn attributes() {
     is_attribute::<AfSpecMctp>();
     is_attribute::<ReplyAttribute>();
     is_attribute::<InfoGeneve>();
+    is_attribute::<InfoVrfPort>();
     is_attribute::<InfoVrf>();
     is_attribute::<BridgeVlanTunnelInfo>();
     is_attribute::<BondAdInfo>();
@@ -671,7 +679,7 @@ fn families(family: Family) {
         Family::Hsr | Family::ProtoBridge | Family::Vxlan => {}
         Family::Link | Family::AfSpec | Family::Inet | Family::Inet6 => {}
         Family::Mctp | Family::Reply | Family::Geneve => {}
-        Family::Vrf => {}
+        Family::Vrf | Family::VrfPort => {}
     }
 }
 

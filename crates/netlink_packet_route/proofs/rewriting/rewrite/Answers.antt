@@ -59,3 +59,6 @@ returns-in-Geneve-clause-answer c = rw c.in-Geneve.is c.rewrite_as-in-Geneve.ens
 
 pub returns-in-Vrf-clause-answer : goal.returns-in-Vrf-clause-answer
 returns-in-Vrf-clause-answer c = rw c.in-Vrf.is c.rewrite_as-in-Vrf.ensures.answer
+
+pub returns-in-VrfPort-clause-answer : goal.returns-in-VrfPort-clause-answer
+returns-in-VrfPort-clause-answer c = rw c.in-VrfPort.is c.rewrite_as-in-VrfPort.ensures.answer
