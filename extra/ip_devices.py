@@ -146,6 +146,7 @@ def make():
     make_bonds()
     make_bridges()
     each("ip link add", OTHERS)
+    each("ip tuntap add dev", "tun0 mode tun user 0 group 0; tap0 mode tap multi_queue vnet_hdr pi")
     each("ip link set up dev", ";".join(f"a{at}; b{at}" for at in range(PAIRS)))
     set_ports()
     return REFUSED

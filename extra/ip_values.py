@@ -4,6 +4,8 @@ A rule compares an attribute's line with the values of a JSON object, tells a re
 of the object that it knows. A form takes a JSON value and returns the text that `nlshow` should print after the
 attribute's name. Both take the sample, which has the indexes of the devices and the roots of the bridges.
 """
+import grp
+import pwd
 import re
 from functools import partial
 
@@ -118,6 +120,15 @@ def enum(names, said=None):
 
 PORT_STATE = enum("disabled listening learning forwarding blocking")
 ROUTER = enum("disabled auto permanent temp")
+
+
+def uid(value, _):
+    """A number of a user. JSON has the name, if there is one."""
+    return value if value.isdigit() else str(pwd.getpwnam(value).pw_uid)
+
+
+def gid(value, _):
+    return value if value.isdigit() else str(grp.getgrnam(value).gr_gid)
 
 
 # Rules. What depends on the attribute comes first: `partial` gives it.
@@ -503,8 +514,17 @@ VRF = table("IFLA_VRF_", (number, "table"))
 
 VRF_PORT = table("IFLA_VRF_PORT_", (number, "table"))
 
+TUN = table(
+    "IFLA_TUN_",
+    (uid, "OWNER:user"),
+    (gid, "GROUP:group"),
+    (enum("- tun tap"), "type"),
+    (on_off, "pi vnet_hdr persist multi_queue"),
+    (number, "NUM_QUEUES:numqueues NUM_DISABLED_QUEUES:numdisabled"),
+)
+
 # The rules of a list of `ip`, by the attribute set that nlshow names. CAN and DSA need hardware.
 LISTS = {
     "(bridge)": BRIDGE, "(bridge_port)": PORT, "(vlan)": VLAN, "(bond)": BOND, "(bond_port)": BOND_PORT, "(hsr)": HSR, "(vxlan)": VXLAN,
-    "(geneve)": GENEVE, "(vrf)": VRF, "(vrf_port)": VRF_PORT,
+    "(geneve)": GENEVE, "(vrf)": VRF, "(vrf_port)": VRF_PORT, "(tun)": TUN,
 }  # fmt: skip

@@ -1,2 +1,4 @@
+pub mod TunNames
+pub mod Tun
 pub mod Vrf
 pub mod VrfPort

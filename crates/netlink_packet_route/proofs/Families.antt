@@ -30,7 +30,8 @@ all_families =
     sets.Reply ∷
     sets.Geneve ∷
     sets.Vrf ∷
-    sets.VrfPort ∷ []
+    sets.VrfPort ∷
+    sets.Tun ∷ []
 
 abbrev family_at : List Family → ℕ → Option Family
 family_at [] n = None

@@ -62,6 +62,8 @@ pub use Rattle.link_tunnels.specs.GeneveNames
 pub use Rattle.link_tunnels.specs.Geneve
 pub use Rattle.link_devices.specs.Vrf
 pub use Rattle.link_devices.specs.VrfPort
+pub use Rattle.link_devices.specs.TunNames
+pub use Rattle.link_devices.specs.Tun
 pub use Rattle.link_common.specs.LinkNames
 pub use Rattle.link_common.specs.InetNames
 pub use Rattle.link_common.specs.Places

@@ -49,6 +49,8 @@ pub enum Family {
     Vrf,
     /// `vrf_port`: attributes of VRF ports, [`InfoVrfPort`](crate::link::InfoVrfPort).
     VrfPort,
+    /// `tun`: attributes of TUN and TAP devices, [`InfoTun`](crate::link::InfoTun).
+    Tun,
 }
 
 /// What holds the list of an attribute set (`include/uapi/linux/if_link.h`).
@@ -117,6 +119,7 @@ macro_rules! families {
             Geneve        "geneve"          InfoGeneve           17 [InfoKind (b"geneve")]
             Vrf           "vrf"             InfoVrf              18 [InfoKind (b"vrf")]
             VrfPort       "vrf_port"        InfoVrfPort          19 [PortKind (b"vrf")]
+            Tun           "tun"             InfoTun              20 [InfoKind (b"tun")]
         }
     };
 }

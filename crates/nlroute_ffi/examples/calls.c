@@ -63,6 +63,7 @@ static const char *const sets[] = {
     [NLROUTE_GENEVE] = "geneve",
     [NLROUTE_VRF] = "vrf",
     [NLROUTE_VRF_PORT] = "vrf_port",
+    [NLROUTE_TUN] = "tun",
 };
 
 /* Types of attribute sets, by their names. */

@@ -491,6 +491,19 @@ enum {
     NLROUTE_IFLA_VRF_PORT_TABLE = 1 /* UNSIGNED */
 };
 
+/* Attributes of NLROUTE_TUN. */
+enum {
+    NLROUTE_IFLA_TUN_OWNER = 1, /* UNSIGNED */
+    NLROUTE_IFLA_TUN_GROUP = 2, /* UNSIGNED */
+    NLROUTE_IFLA_TUN_TYPE = 3, /* NAMED */
+    NLROUTE_IFLA_TUN_PI = 4, /* BOOL */
+    NLROUTE_IFLA_TUN_VNET_HDR = 5, /* BOOL */
+    NLROUTE_IFLA_TUN_PERSIST = 6, /* BOOL */
+    NLROUTE_IFLA_TUN_MULTI_QUEUE = 7, /* BOOL */
+    NLROUTE_IFLA_TUN_NUM_QUEUES = 8, /* UNSIGNED */
+    NLROUTE_IFLA_TUN_NUM_DISABLED_QUEUES = 9 /* UNSIGNED */
+};
+
 /* Places of the array link_stats. */
 enum {
     NLROUTE_RX_PACKETS = 0,

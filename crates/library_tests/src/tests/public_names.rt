@@ -12,10 +12,10 @@ use netlink_packet_route::link::{
     CanBitTiming, CanBitTimingConst, CanClock, CanCtrlMode, CanCtrlModeExt, CanCtrlModeFlags,
     CanTdc, Cause, ChurnState, DecodeError, DecodeFault, DefaultNla, FrameTable, HsrProtocol,
     InfoBond, InfoBondPort, InfoBridge, InfoBridgePort, InfoCan, InfoDsa, InfoGeneve, InfoHsr,
-    InfoVlan, InfoVrf, InfoVrfPort, InfoVxlan, LacpState, LinkAttribute, LinkProtoInfoBridge,
-    ListError, MiiStatus, NlaBuffer, NlasIterator, ReplyAttribute, TryClone, VecAfSpecBridge,
-    VecLinkProtoInfoBridge, VlanFlags, VlanProtocol, VlanQosMapping, VxlanHeader, VxlanPortRange,
-    WriteError,
+    InfoTun, InfoVlan, InfoVrf, InfoVrfPort, InfoVxlan, LacpState, LinkAttribute,
+    LinkProtoInfoBridge, ListError, MiiStatus, NlaBuffer, NlasIterator, ReplyAttribute, TryClone,
+    VecAfSpecBridge, VecLinkProtoInfoBridge, VlanFlags, VlanProtocol, VlanQosMapping, VxlanHeader,
+    VxlanPortRange, WriteError,
 };
 use netlink_packet_route::{Family, RewriteError};
 use std::alloc::AllocError;
@@ -244,6 +244,17 @@ fn vrf_port(value: &InfoVrfPort) {
     match value {
         InfoVrfPort::TableId(it) => is::<u32>(it),
         InfoVrfPort::Other(it) => is::<DefaultNla>(it),
+    }
+}
+
+fn tun(value: &InfoTun) {
+    match value {
+        InfoTun::Owner(it) | InfoTun::Group(it) => is::<u32>(it),
+        InfoTun::NumQueues(it) | InfoTun::NumDisabledQueues(it) => is::<u32>(it),
+        InfoTun::Type(it) => is::<u8>(it),
+        InfoTun::Pi(it) | InfoTun::VnetHdr(it) | InfoTun::Persist(it) => is::<bool>(it),
+        InfoTun::MultiQueue(it) => is::<bool>(it),
+        InfoTun::Other(it) => is::<DefaultNla>(it),
     }
 }
 
@@ -543,6 +554,7 @@ fn attributes() {
     is_attribute::<AfSpecMctp>();
     is_attribute::<ReplyAttribute>();
     is_attribute::<InfoGeneve>();
+    is_attribute::<InfoTun>();
     is_attribute::<InfoVrfPort>();
     is_attribute::<InfoVrf>();
     is_attribute::<BridgeVlanTunnelInfo>();
@@ -679,7 +691,7 @@ fn families(family: Family) {
         Family::Hsr | Family::ProtoBridge | Family::Vxlan => {}
         Family::Link | Family::AfSpec | Family::Inet | Family::Inet6 => {}
         Family::Mctp | Family::Reply | Family::Geneve => {}
-        Family::Vrf | Family::VrfPort => {}
+        Family::Vrf | Family::VrfPort | Family::Tun => {}
     }
 }
 

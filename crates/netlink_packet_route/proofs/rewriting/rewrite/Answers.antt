@@ -62,3 +62,6 @@ returns-in-Vrf-clause-answer c = rw c.in-Vrf.is c.rewrite_as-in-Vrf.ensures.answ
 
 pub returns-in-VrfPort-clause-answer : goal.returns-in-VrfPort-clause-answer
 returns-in-VrfPort-clause-answer c = rw c.in-VrfPort.is c.rewrite_as-in-VrfPort.ensures.answer
+
+pub returns-in-Tun-clause-answer : goal.returns-in-Tun-clause-answer
+returns-in-Tun-clause-answer c = rw c.in-Tun.is c.rewrite_as-in-Tun.ensures.answer
