@@ -70,6 +70,7 @@ name mv0 link b0 type macvlan mode bridge;
 name vx0 type vxlan id 42 remote 192.0.2.9 dstport 4789;
 name gn0 type geneve id 1000 remote 192.0.2.9 ttl 64 tos 0x10 df set;
 name gn1 type geneve id 5 remote 2001:db8::9 ttl inherit flowlabel 0xabcde udp6zerocsumtx;
+name iv0 link a7 type ipvlan mode l3s private;
 name vrf0 type vrf table 100;
 name vrfp0 master vrf0 type dummy;
 name dummy0 type dummy;

@@ -218,6 +218,13 @@ def vlan_flags(node, values, _sample, report):
     return {"flags"}
 
 
+def bits(names, none, node, values, _sample, report):
+    """A set of flags: JSON has a boolean for each flag that is set, and perhaps another if none is."""
+    said = "|".join(it.upper() for it in names if values.get(it)) or "0"
+    report.pair(node.line, node.text, "/".join(names), {it: values[it] for it in names if it in values}, said)
+    return {*names, none}
+
+
 def mappings(key, node, values, _sample, report):
     """The priority mappings of a VLAN device: an array of objects."""
     said = [f"IFLA_VLAN_QOS_MAPPING from {it['from']} to {it['to']}" for it in values.get(key, [])]
@@ -523,8 +530,10 @@ TUN = table(
     (number, "NUM_QUEUES:numqueues NUM_DISABLED_QUEUES:numdisabled"),
 )
 
+IPVLAN = table("IFLA_IPVLAN_", (enum("l2 l3 l3s"), "mode"), FLAGS=partial(bits, ("private", "vepa"), "bridge"))
+
 # The rules of a list of `ip`, by the attribute set that nlshow names. CAN and DSA need hardware.
 LISTS = {
     "(bridge)": BRIDGE, "(bridge_port)": PORT, "(vlan)": VLAN, "(bond)": BOND, "(bond_port)": BOND_PORT, "(hsr)": HSR, "(vxlan)": VXLAN,
-    "(geneve)": GENEVE, "(vrf)": VRF, "(vrf_port)": VRF_PORT, "(tun)": TUN,
+    "(geneve)": GENEVE, "(vrf)": VRF, "(vrf_port)": VRF_PORT, "(tun)": TUN, "(ipvlan)": IPVLAN,
 }  # fmt: skip

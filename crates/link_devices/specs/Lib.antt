@@ -1,3 +1,5 @@
+pub mod IpvlanNames
+pub mod Ipvlan
 pub mod TunNames
 pub mod Tun
 pub mod Vrf

@@ -1,10 +1,12 @@
 //! Link attributes of other virtual devices than tunnels, and of their ports.
 #![tactic(auto)]
 
+mod ipvlan;
 mod tun;
 mod vrf;
 mod vrf_port;
 
+pub use ipvlan::InfoIpVlan;
 pub use tun::InfoTun;
 pub use vrf::InfoVrf;
 pub use vrf_port::InfoVrfPort;

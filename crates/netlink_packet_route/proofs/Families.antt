@@ -31,7 +31,8 @@ all_families =
     sets.Geneve ∷
     sets.Vrf ∷
     sets.VrfPort ∷
-    sets.Tun ∷ []
+    sets.Tun ∷
+    sets.IpVlan ∷ []
 
 abbrev family_at : List Family → ℕ → Option Family
 family_at [] n = None

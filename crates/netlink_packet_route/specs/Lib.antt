@@ -64,6 +64,8 @@ pub use Rattle.link_devices.specs.Vrf
 pub use Rattle.link_devices.specs.VrfPort
 pub use Rattle.link_devices.specs.TunNames
 pub use Rattle.link_devices.specs.Tun
+pub use Rattle.link_devices.specs.IpvlanNames
+pub use Rattle.link_devices.specs.Ipvlan
 pub use Rattle.link_common.specs.LinkNames
 pub use Rattle.link_common.specs.InetNames
 pub use Rattle.link_common.specs.Places

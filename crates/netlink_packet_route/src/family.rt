@@ -51,6 +51,8 @@ pub enum Family {
     VrfPort,
     /// `tun`: attributes of TUN and TAP devices, [`InfoTun`](crate::link::InfoTun).
     Tun,
+    /// `ipvlan`: attributes of IPVLAN devices, [`InfoIpVlan`](crate::link::InfoIpVlan).
+    IpVlan,
 }
 
 /// What holds the list of an attribute set (`include/uapi/linux/if_link.h`).
@@ -120,6 +122,7 @@ macro_rules! families {
             Vrf           "vrf"             InfoVrf              18 [InfoKind (b"vrf")]
             VrfPort       "vrf_port"        InfoVrfPort          19 [PortKind (b"vrf")]
             Tun           "tun"             InfoTun              20 [InfoKind (b"tun")]
+            IpVlan        "ipvlan"          InfoIpVlan           21 [InfoKind (b"ipvlan")]
         }
     };
 }

@@ -64,6 +64,7 @@ static const char *const sets[] = {
     [NLROUTE_VRF] = "vrf",
     [NLROUTE_VRF_PORT] = "vrf_port",
     [NLROUTE_TUN] = "tun",
+    [NLROUTE_IPVLAN] = "ipvlan",
 };
 
 /* Types of attribute sets, by their names. */

@@ -504,6 +504,12 @@ enum {
     NLROUTE_IFLA_TUN_NUM_DISABLED_QUEUES = 9 /* UNSIGNED */
 };
 
+/* Attributes of NLROUTE_IPVLAN. */
+enum {
+    NLROUTE_IFLA_IPVLAN_MODE = 1, /* NAMED */
+    NLROUTE_IFLA_IPVLAN_FLAGS = 2 /* FLAGS */
+};
+
 /* Places of the array link_stats. */
 enum {
     NLROUTE_RX_PACKETS = 0,

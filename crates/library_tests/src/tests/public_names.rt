@@ -12,7 +12,7 @@ use netlink_packet_route::link::{
     CanBitTiming, CanBitTimingConst, CanClock, CanCtrlMode, CanCtrlModeExt, CanCtrlModeFlags,
     CanTdc, Cause, ChurnState, DecodeError, DecodeFault, DefaultNla, FrameTable, HsrProtocol,
     InfoBond, InfoBondPort, InfoBridge, InfoBridgePort, InfoCan, InfoDsa, InfoGeneve, InfoHsr,
-    InfoTun, InfoVlan, InfoVrf, InfoVrfPort, InfoVxlan, LacpState, LinkAttribute,
+    InfoIpVlan, InfoTun, InfoVlan, InfoVrf, InfoVrfPort, InfoVxlan, LacpState, LinkAttribute,
     LinkProtoInfoBridge, ListError, MiiStatus, NlaBuffer, NlasIterator, ReplyAttribute, TryClone,
     VecAfSpecBridge, VecLinkProtoInfoBridge, VlanFlags, VlanProtocol, VlanQosMapping, VxlanHeader,
     VxlanPortRange, WriteError,
@@ -255,6 +255,13 @@ fn tun(value: &InfoTun) {
         InfoTun::Pi(it) | InfoTun::VnetHdr(it) | InfoTun::Persist(it) => is::<bool>(it),
         InfoTun::MultiQueue(it) => is::<bool>(it),
         InfoTun::Other(it) => is::<DefaultNla>(it),
+    }
+}
+
+fn ipvlan(value: &InfoIpVlan) {
+    match value {
+        InfoIpVlan::Mode(it) | InfoIpVlan::Flags(it) => is::<u16>(it),
+        InfoIpVlan::Other(it) => is::<DefaultNla>(it),
     }
 }
 
@@ -554,6 +561,7 @@ fn attributes() {
     is_attribute::<AfSpecMctp>();
     is_attribute::<ReplyAttribute>();
     is_attribute::<InfoGeneve>();
+    is_attribute::<InfoIpVlan>();
     is_attribute::<InfoTun>();
     is_attribute::<InfoVrfPort>();
     is_attribute::<InfoVrf>();
@@ -691,7 +699,7 @@ fn families(family: Family) {
         Family::Hsr | Family::ProtoBridge | Family::Vxlan => {}
         Family::Link | Family::AfSpec | Family::Inet | Family::Inet6 => {}
         Family::Mctp | Family::Reply | Family::Geneve => {}
-        Family::Vrf | Family::VrfPort | Family::Tun => {}
+        Family::Vrf | Family::VrfPort | Family::Tun | Family::IpVlan => {}
     }
 }
 

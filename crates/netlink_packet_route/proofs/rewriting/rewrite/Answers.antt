@@ -65,3 +65,6 @@ returns-in-VrfPort-clause-answer c = rw c.in-VrfPort.is c.rewrite_as-in-VrfPort.
 
 pub returns-in-Tun-clause-answer : goal.returns-in-Tun-clause-answer
 returns-in-Tun-clause-answer c = rw c.in-Tun.is c.rewrite_as-in-Tun.ensures.answer
+
+pub returns-in-IpVlan-clause-answer : goal.returns-in-IpVlan-clause-answer
+returns-in-IpVlan-clause-answer c = rw c.in-IpVlan.is c.rewrite_as-in-IpVlan.ensures.answer
