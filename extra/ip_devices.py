@@ -67,6 +67,7 @@ link b0 name v7 type vlan id 7 reorder_hdr off;
 name hsr0 type hsr slave1 b3 slave2 b4 supervision 45 version 1;
 name prp0 type hsr slave1 b6 slave2 b7 supervision 46 proto 1;
 name mv0 link b0 type macvlan mode bridge;
+name mv1 link b0 type macvlan mode source nodst bcqueuelen 500 macaddr set 02:00:00:00:00:01 02:00:00:00:00:02;
 name vx0 type vxlan id 42 remote 192.0.2.9 dstport 4789;
 name gn0 type geneve id 1000 remote 192.0.2.9 ttl 64 tos 0x10 df set;
 name gn1 type geneve id 5 remote 2001:db8::9 ttl inherit flowlabel 0xabcde udp6zerocsumtx;

@@ -240,6 +240,13 @@ def nested(key, rows, node, values, sample, report):
     return {key}
 
 
+def array(key, name, node, values, _sample, report):
+    """A nested list whose elements are alike: an array."""
+    report.pair(node.line, node.text, key, values.get(key), "" if node.children else "(empty)")
+    report.sequence([it.line for it in node.children], key, [f"{name} {it}" for it in values.get(key, [])])
+    return {key}
+
+
 # The names of the states of LACP in nlshow and in JSON, lowest bit first.
 LACP = "LACP_ACTIVITY LACP_TIMEOUT AGGREGATION SYNCHRONIZATION COLLECTING DISTRIBUTING DEFAULTED EXPIRED".split()
 LACP_SAID = "active short_timeout aggregating in_sync collecting distributing defaulted expired".split()
@@ -532,8 +539,18 @@ TUN = table(
 
 IPVLAN = table("IFLA_IPVLAN_", (enum("l2 l3 l3s"), "mode"), FLAGS=partial(bits, ("private", "vepa"), "bridge"))
 
+MACVLAN = table(
+    "IFLA_MACVLAN_",
+    (enum("0 private vepa 3 bridge 5 6 7 passthru 9 10 11 12 13 14 15 source"), "mode"),
+    (number, "MACADDR_COUNT:macaddr_count", "ip prints it in the mode source only"),
+    (number, "BC_QUEUE_LEN:bcqueuelen BC_QUEUE_LEN_USED:usedbcqueuelen"),
+    (number, "BC_CUTOFF:bclim", IP_OLD),
+    FLAGS=partial(bits, ("nopromisc", "nodst"), ""),
+    MACADDR_DATA=partial(array, "macaddr_data", "IFLA_MACVLAN_MACADDR"),
+)
+
 # The rules of a list of `ip`, by the attribute set that nlshow names. CAN and DSA need hardware.
 LISTS = {
     "(bridge)": BRIDGE, "(bridge_port)": PORT, "(vlan)": VLAN, "(bond)": BOND, "(bond_port)": BOND_PORT, "(hsr)": HSR, "(vxlan)": VXLAN,
-    "(geneve)": GENEVE, "(vrf)": VRF, "(vrf_port)": VRF_PORT, "(tun)": TUN, "(ipvlan)": IPVLAN,
+    "(geneve)": GENEVE, "(vrf)": VRF, "(vrf_port)": VRF_PORT, "(tun)": TUN, "(ipvlan)": IPVLAN, "(macvlan)": MACVLAN,
 }  # fmt: skip

@@ -4,3 +4,6 @@ pub mod TunNames
 pub mod Tun
 pub mod Vrf
 pub mod VrfPort
+pub mod MacvlanNames
+pub mod MacvlanAddress
+pub mod Macvlan

@@ -2,11 +2,15 @@
 #![tactic(auto)]
 
 mod ipvlan;
+mod macvlan;
+mod macvlan_address;
 mod tun;
 mod vrf;
 mod vrf_port;
 
 pub use ipvlan::InfoIpVlan;
+pub use macvlan::InfoMacVlan;
+pub use macvlan_address::MacVlanAddress;
 pub use tun::InfoTun;
 pub use vrf::InfoVrf;
 pub use vrf_port::InfoVrfPort;

@@ -32,7 +32,8 @@ all_families =
     sets.Vrf ∷
     sets.VrfPort ∷
     sets.Tun ∷
-    sets.IpVlan ∷ []
+    sets.IpVlan ∷
+    sets.MacVlan ∷ []
 
 abbrev family_at : List Family → ℕ → Option Family
 family_at [] n = None

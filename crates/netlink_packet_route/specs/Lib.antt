@@ -66,6 +66,9 @@ pub use Rattle.link_devices.specs.TunNames
 pub use Rattle.link_devices.specs.Tun
 pub use Rattle.link_devices.specs.IpvlanNames
 pub use Rattle.link_devices.specs.Ipvlan
+pub use Rattle.link_devices.specs.MacvlanNames
+pub use Rattle.link_devices.specs.MacvlanAddress
+pub use Rattle.link_devices.specs.Macvlan
 pub use Rattle.link_common.specs.LinkNames
 pub use Rattle.link_common.specs.InetNames
 pub use Rattle.link_common.specs.Places

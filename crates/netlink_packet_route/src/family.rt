@@ -53,6 +53,8 @@ pub enum Family {
     Tun,
     /// `ipvlan`: attributes of IPVLAN devices, [`InfoIpVlan`](crate::link::InfoIpVlan).
     IpVlan,
+    /// `macvlan`: attributes of MACVLAN devices, [`InfoMacVlan`](crate::link::InfoMacVlan).
+    MacVlan,
 }
 
 /// What holds the list of an attribute set (`include/uapi/linux/if_link.h`).
@@ -123,6 +125,7 @@ macro_rules! families {
             VrfPort       "vrf_port"        InfoVrfPort          19 [PortKind (b"vrf")]
             Tun           "tun"             InfoTun              20 [InfoKind (b"tun")]
             IpVlan        "ipvlan"          InfoIpVlan           21 [InfoKind (b"ipvlan")]
+            MacVlan       "macvlan"         InfoMacVlan          22 [InfoKind (b"macvlan")]
         }
     };
 }

@@ -65,6 +65,7 @@ static const char *const sets[] = {
     [NLROUTE_VRF_PORT] = "vrf_port",
     [NLROUTE_TUN] = "tun",
     [NLROUTE_IPVLAN] = "ipvlan",
+    [NLROUTE_MACVLAN] = "macvlan",
 };
 
 /* Types of attribute sets, by their names. */

@@ -12,10 +12,10 @@ use netlink_packet_route::link::{
     CanBitTiming, CanBitTimingConst, CanClock, CanCtrlMode, CanCtrlModeExt, CanCtrlModeFlags,
     CanTdc, Cause, ChurnState, DecodeError, DecodeFault, DefaultNla, FrameTable, HsrProtocol,
     InfoBond, InfoBondPort, InfoBridge, InfoBridgePort, InfoCan, InfoDsa, InfoGeneve, InfoHsr,
-    InfoIpVlan, InfoTun, InfoVlan, InfoVrf, InfoVrfPort, InfoVxlan, LacpState, LinkAttribute,
-    LinkProtoInfoBridge, ListError, MiiStatus, NlaBuffer, NlasIterator, ReplyAttribute, TryClone,
-    VecAfSpecBridge, VecLinkProtoInfoBridge, VlanFlags, VlanProtocol, VlanQosMapping, VxlanHeader,
-    VxlanPortRange, WriteError,
+    InfoIpVlan, InfoMacVlan, InfoTun, InfoVlan, InfoVrf, InfoVrfPort, InfoVxlan, LacpState,
+    LinkAttribute, LinkProtoInfoBridge, ListError, MacVlanAddress, MiiStatus, NlaBuffer,
+    NlasIterator, ReplyAttribute, TryClone, VecAfSpecBridge, VecLinkProtoInfoBridge, VlanFlags,
+    VlanProtocol, VlanQosMapping, VxlanHeader, VxlanPortRange, WriteError,
 };
 use netlink_packet_route::{Family, RewriteError};
 use std::alloc::AllocError;
@@ -262,6 +262,26 @@ fn ipvlan(value: &InfoIpVlan) {
     match value {
         InfoIpVlan::Mode(it) | InfoIpVlan::Flags(it) => is::<u16>(it),
         InfoIpVlan::Other(it) => is::<DefaultNla>(it),
+    }
+}
+
+fn macvlan(value: &InfoMacVlan) {
+    match value {
+        InfoMacVlan::Mode(it) | InfoMacVlan::MacAddrMode(it) => is::<u32>(it),
+        InfoMacVlan::Flags(it) => is::<u16>(it),
+        InfoMacVlan::MacAddr(it) => is::<[u8; 6]>(it),
+        InfoMacVlan::MacAddrData(it) => is::<Vec<MacVlanAddress>>(it),
+        InfoMacVlan::MacAddrCount(it) | InfoMacVlan::BcQueueLen(it) => is::<u32>(it),
+        InfoMacVlan::BcQueueLenUsed(it) => is::<u32>(it),
+        InfoMacVlan::BcCutoff(it) => is::<i32>(it),
+        InfoMacVlan::Other(it) => is::<DefaultNla>(it),
+    }
+}
+
+fn macvlan_address(value: &MacVlanAddress) {
+    match value {
+        MacVlanAddress::MacAddr(it) => is::<[u8; 6]>(it),
+        MacVlanAddress::Other(it) => is::<DefaultNla>(it),
     }
 }
 
@@ -561,6 +581,8 @@ fn attributes() {
     is_attribute::<AfSpecMctp>();
     is_attribute::<ReplyAttribute>();
     is_attribute::<InfoGeneve>();
+    is_attribute::<MacVlanAddress>();
+    is_attribute::<InfoMacVlan>();
     is_attribute::<InfoIpVlan>();
     is_attribute::<InfoTun>();
     is_attribute::<InfoVrfPort>();
@@ -699,7 +721,7 @@ fn families(family: Family) {
         Family::Hsr | Family::ProtoBridge | Family::Vxlan => {}
         Family::Link | Family::AfSpec | Family::Inet | Family::Inet6 => {}
         Family::Mctp | Family::Reply | Family::Geneve => {}
-        Family::Vrf | Family::VrfPort | Family::Tun | Family::IpVlan => {}
+        Family::Vrf | Family::VrfPort | Family::Tun | Family::IpVlan | Family::MacVlan => {}
     }
 }
 

@@ -68,3 +68,6 @@ returns-in-Tun-clause-answer c = rw c.in-Tun.is c.rewrite_as-in-Tun.ensures.answ
 
 pub returns-in-IpVlan-clause-answer : goal.returns-in-IpVlan-clause-answer
 returns-in-IpVlan-clause-answer c = rw c.in-IpVlan.is c.rewrite_as-in-IpVlan.ensures.answer
+
+pub returns-in-MacVlan-clause-answer : goal.returns-in-MacVlan-clause-answer
+returns-in-MacVlan-clause-answer c = rw c.in-MacVlan.is c.rewrite_as-in-MacVlan.ensures.answer
