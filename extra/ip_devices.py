@@ -74,6 +74,7 @@ name gn1 type geneve id 5 remote 2001:db8::9 ttl inherit flowlabel 0xabcde udp6z
 name iv0 link a7 type ipvlan mode l3s private;
 name vrf0 type vrf table 100;
 name vrfp0 master vrf0 type dummy;
+name nk0 type netkit mode l2 forward peer blackhole;
 name dummy0 type dummy;
 name vcan0 type vcan
 """

@@ -549,8 +549,17 @@ MACVLAN = table(
     MACADDR_DATA=partial(array, "macaddr_data", "IFLA_MACVLAN_MACADDR"),
 )
 
+NETKIT = table(
+    "IFLA_NETKIT_",
+    (lambda value, _: "on" if value == "primary" else "off", "PRIMARY:type"),
+    (enum("forward 1 blackhole"), "policy peer_policy"),
+    (enum("l2 l3"), "mode"),
+    (enum("none default"), "scrub peer_scrub", IP_OLD),
+    (number, "headroom tailroom", IP_OLD),
+)
+
 # The rules of a list of `ip`, by the attribute set that nlshow names. CAN and DSA need hardware.
 LISTS = {
     "(bridge)": BRIDGE, "(bridge_port)": PORT, "(vlan)": VLAN, "(bond)": BOND, "(bond_port)": BOND_PORT, "(hsr)": HSR, "(vxlan)": VXLAN,
-    "(geneve)": GENEVE, "(vrf)": VRF, "(vrf_port)": VRF_PORT, "(tun)": TUN, "(ipvlan)": IPVLAN, "(macvlan)": MACVLAN,
+    "(geneve)": GENEVE, "(vrf)": VRF, "(vrf_port)": VRF_PORT, "(tun)": TUN, "(ipvlan)": IPVLAN, "(macvlan)": MACVLAN, "(netkit)": NETKIT,
 }  # fmt: skip

@@ -7,3 +7,5 @@ pub mod VrfPort
 pub mod MacvlanNames
 pub mod MacvlanAddress
 pub mod Macvlan
+pub mod NetkitNames
+pub mod Netkit

@@ -4,6 +4,7 @@
 mod ipvlan;
 mod macvlan;
 mod macvlan_address;
+mod netkit;
 mod tun;
 mod vrf;
 mod vrf_port;
@@ -11,6 +12,7 @@ mod vrf_port;
 pub use ipvlan::InfoIpVlan;
 pub use macvlan::InfoMacVlan;
 pub use macvlan_address::MacVlanAddress;
+pub use netkit::InfoNetkit;
 pub use tun::InfoTun;
 pub use vrf::InfoVrf;
 pub use vrf_port::InfoVrfPort;

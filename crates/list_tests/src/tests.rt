@@ -17,7 +17,7 @@ use std::alloc::Global;
 use std::process::Abort;
 
 /// Canonical lists of every attribute set. Each word of digits is an attribute with its padding.
-const CANONICAL: [&str; 55] = [
+const CANONICAL: [&str; 56] = [
     "dsa",
     "hsr",
     "vlan",
@@ -47,6 +47,7 @@ const CANONICAL: [&str; 55] = [
     "tun 0500030002000000 0500040001000000 0800080000000000",
     "ipvlan 0600010002000000 0600020001000000",
     "macvlan 0800010010000000 0600020002000000 100005000a0004000200000000010000 08000900ffffffff",
+    "netkit 0500020001000000 0800030002000000 0600080010000000",
     "vlan 0600050088a80000 180003000c0001000100000002000000070009c001020300",
     "vlan 06006300dead0000 100003000c0001000100000002000000",
     "vlan 0c000200010000001f000000 060063c0dead0000",

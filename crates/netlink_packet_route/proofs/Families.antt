@@ -33,7 +33,8 @@ all_families =
     sets.VrfPort ∷
     sets.Tun ∷
     sets.IpVlan ∷
-    sets.MacVlan ∷ []
+    sets.MacVlan ∷
+    sets.Netkit ∷ []
 
 abbrev family_at : List Family → ℕ → Option Family
 family_at [] n = None

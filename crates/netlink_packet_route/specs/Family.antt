@@ -4,7 +4,7 @@ use Rattle.link_base.specs.Table.{Table}
 use Rattle.netlink_packet_route.specs.declared.family.Family.{Family}
 use Rattle.netlink_packet_route.specs.declared.family.Holder.{Holder}
 use Rattle.netlink_packet_route.specs.declared.family.Holder.TheVariants as holders
-use Rattle.netlink_packet_route.specs.declared.family.Family.TheVariants.{AfSpecBridge, Bond, BondPort, Bridge, BridgePort, Vlan, Can, Dsa, Hsr, ProtoBridge, Vxlan, Link, AfSpec, Inet, Inet6, Mctp, Reply, Geneve, Vrf, VrfPort, Tun, IpVlan, MacVlan}
+use Rattle.netlink_packet_route.specs.declared.family.Family.TheVariants.{AfSpecBridge, Bond, BondPort, Bridge, BridgePort, Vlan, Can, Dsa, Hsr, ProtoBridge, Vxlan, Link, AfSpec, Inet, Inet6, Mctp, Reply, Geneve, Vrf, VrfPort, Tun, IpVlan, MacVlan, Netkit}
 use Rattle.link_bridge.specs.AfSpecBridge.{af_spec_bridge_table}
 use Rattle.link_bond.specs.Bond.{bond_table}
 use Rattle.link_bond.specs.BondPort.{bond_port_table}
@@ -28,6 +28,7 @@ use Rattle.link_devices.specs.VrfPort.{vrf_port_table}
 use Rattle.link_devices.specs.Tun.{tun_table}
 use Rattle.link_devices.specs.Ipvlan.{ipvlan_table}
 use Rattle.link_devices.specs.Macvlan.{macvlan_table}
+use Rattle.link_devices.specs.Netkit.{netkit_table}
 
 -- what holds the list of an attribute set
 pub data Holding : Type 0 where
@@ -83,6 +84,7 @@ family_row VrfPort = row (codes "vrf_port") 19 (PortKind (codes "vrf") ∷ []) v
 family_row Tun = row (codes "tun") 20 (InfoKind (codes "tun") ∷ []) tun_table
 family_row IpVlan = row (codes "ipvlan") 21 (InfoKind (codes "ipvlan") ∷ []) ipvlan_table
 family_row MacVlan = row (codes "macvlan") 22 (InfoKind (codes "macvlan") ∷ []) macvlan_table
+family_row Netkit = row (codes "netkit") 23 (InfoKind (codes "netkit") ∷ []) netkit_table
 
 abbrev pub family_name : Family → List ℕ
 family_name family = (family_row family).name

@@ -55,6 +55,8 @@ pub enum Family {
     IpVlan,
     /// `macvlan`: attributes of MACVLAN devices, [`InfoMacVlan`](crate::link::InfoMacVlan).
     MacVlan,
+    /// `netkit`: attributes of NETKIT devices, [`InfoNetkit`](crate::link::InfoNetkit).
+    Netkit,
 }
 
 /// What holds the list of an attribute set (`include/uapi/linux/if_link.h`).
@@ -126,6 +128,7 @@ macro_rules! families {
             Tun           "tun"             InfoTun              20 [InfoKind (b"tun")]
             IpVlan        "ipvlan"          InfoIpVlan           21 [InfoKind (b"ipvlan")]
             MacVlan       "macvlan"         InfoMacVlan          22 [InfoKind (b"macvlan")]
+            Netkit        "netkit"          InfoNetkit           23 [InfoKind (b"netkit")]
         }
     };
 }

@@ -31,7 +31,9 @@ pub use link_common::{
     LinkMode, LinkProperty, LinkStats, LinkStats64, LinkXdp, OperState, ProtoDownReason,
     ReplyAttribute, XdpAttached, XdpFlags,
 };
-pub use link_devices::{InfoIpVlan, InfoMacVlan, InfoTun, InfoVrf, InfoVrfPort, MacVlanAddress};
+pub use link_devices::{
+    InfoIpVlan, InfoMacVlan, InfoNetkit, InfoTun, InfoVrf, InfoVrfPort, MacVlanAddress,
+};
 pub use link_tunnels::{InfoGeneve, InfoVxlan, VxlanHeader, VxlanPortRange};
 pub use link_vlan_can::{
     CanBerrCounter, CanBitTiming, CanBitTimingConst, CanClock, CanCtrlMode, CanCtrlModeExt,

@@ -66,6 +66,7 @@ static const char *const sets[] = {
     [NLROUTE_TUN] = "tun",
     [NLROUTE_IPVLAN] = "ipvlan",
     [NLROUTE_MACVLAN] = "macvlan",
+    [NLROUTE_NETKIT] = "netkit",
 };
 
 /* Types of attribute sets, by their names. */

@@ -12,8 +12,8 @@ use netlink_packet_route::link::{
     CanBitTiming, CanBitTimingConst, CanClock, CanCtrlMode, CanCtrlModeExt, CanCtrlModeFlags,
     CanTdc, Cause, ChurnState, DecodeError, DecodeFault, DefaultNla, FrameTable, HsrProtocol,
     InfoBond, InfoBondPort, InfoBridge, InfoBridgePort, InfoCan, InfoDsa, InfoGeneve, InfoHsr,
-    InfoIpVlan, InfoMacVlan, InfoTun, InfoVlan, InfoVrf, InfoVrfPort, InfoVxlan, LacpState,
-    LinkAttribute, LinkProtoInfoBridge, ListError, MacVlanAddress, MiiStatus, NlaBuffer,
+    InfoIpVlan, InfoMacVlan, InfoNetkit, InfoTun, InfoVlan, InfoVrf, InfoVrfPort, InfoVxlan,
+    LacpState, LinkAttribute, LinkProtoInfoBridge, ListError, MacVlanAddress, MiiStatus, NlaBuffer,
     NlasIterator, ReplyAttribute, TryClone, VecAfSpecBridge, VecLinkProtoInfoBridge, VlanFlags,
     VlanProtocol, VlanQosMapping, VxlanHeader, VxlanPortRange, WriteError,
 };
@@ -282,6 +282,17 @@ fn macvlan_address(value: &MacVlanAddress) {
     match value {
         MacVlanAddress::MacAddr(it) => is::<[u8; 6]>(it),
         MacVlanAddress::Other(it) => is::<DefaultNla>(it),
+    }
+}
+
+fn netkit(value: &InfoNetkit) {
+    match value {
+        InfoNetkit::PeerInfo(it) => is::<Vec<u8>>(it),
+        InfoNetkit::Primary(it) => is::<bool>(it),
+        InfoNetkit::Policy(it) | InfoNetkit::PeerPolicy(it) => is::<u32>(it),
+        InfoNetkit::Mode(it) | InfoNetkit::Scrub(it) | InfoNetkit::PeerScrub(it) => is::<u32>(it),
+        InfoNetkit::Headroom(it) | InfoNetkit::Tailroom(it) => is::<u16>(it),
+        InfoNetkit::Other(it) => is::<DefaultNla>(it),
     }
 }
 
@@ -581,6 +592,7 @@ fn attributes() {
     is_attribute::<AfSpecMctp>();
     is_attribute::<ReplyAttribute>();
     is_attribute::<InfoGeneve>();
+    is_attribute::<InfoNetkit>();
     is_attribute::<MacVlanAddress>();
     is_attribute::<InfoMacVlan>();
     is_attribute::<InfoIpVlan>();
@@ -721,7 +733,12 @@ fn families(family: Family) {
         Family::Hsr | Family::ProtoBridge | Family::Vxlan => {}
         Family::Link | Family::AfSpec | Family::Inet | Family::Inet6 => {}
         Family::Mctp | Family::Reply | Family::Geneve => {}
-        Family::Vrf | Family::VrfPort | Family::Tun | Family::IpVlan | Family::MacVlan => {}
+        Family::Vrf
+        | Family::VrfPort
+        | Family::Tun
+        | Family::IpVlan
+        | Family::MacVlan
+        | Family::Netkit => {}
     }
 }
 

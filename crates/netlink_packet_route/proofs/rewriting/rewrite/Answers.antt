@@ -71,3 +71,6 @@ returns-in-IpVlan-clause-answer c = rw c.in-IpVlan.is c.rewrite_as-in-IpVlan.ens
 
 pub returns-in-MacVlan-clause-answer : goal.returns-in-MacVlan-clause-answer
 returns-in-MacVlan-clause-answer c = rw c.in-MacVlan.is c.rewrite_as-in-MacVlan.ensures.answer
+
+pub returns-in-Netkit-clause-answer : goal.returns-in-Netkit-clause-answer
+returns-in-Netkit-clause-answer c = rw c.in-Netkit.is c.rewrite_as-in-Netkit.ensures.answer
