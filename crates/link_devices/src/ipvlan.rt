@@ -3,11 +3,12 @@
 ghost use Rattle.link_devices.specs.Ipvlan.{ipvlan_table, ipvlan_means};
 ghost use Rattle.link_devices.specs.IpvlanNames.{ipvlan_flags_names, ipvlan_mode_names};
 
+use link_base::classes::coded::CodedFlags;
 use link_base::rows::by_rows::{self, AttributeRows, RowVisitor};
 use link_base::rows::label::{KindLabel, Name};
 use link_base::{
-    Attribute, Coded, CodedFlags, DecodeError, DecodeFault, DefaultNla, Meaning, Nla, NlaBuffer,
-    NumberNames, Parseable, Place, TryClone,
+    Attribute, Coded, DecodeError, DecodeFault, DefaultNla, Meaning, Nla, NlaBuffer, NumberNames,
+    Parseable, Place, TryClone,
 };
 use std::alloc::{AllocError, Global};
 

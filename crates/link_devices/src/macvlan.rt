@@ -4,11 +4,12 @@ ghost use Rattle.link_devices.specs.Macvlan.{macvlan_table, macvlan_means};
 ghost use Rattle.link_devices.specs.MacvlanNames.{macvlan_address_mode_names, macvlan_flags_names, macvlan_mode_names};
 
 use crate::macvlan_address::MacVlanAddress;
+use link_base::classes::coded::CodedFlags;
 use link_base::rows::by_rows::{self, AttributeRows, RowVisitor};
 use link_base::rows::label::{KindLabel, Name};
 use link_base::{
-    Attribute, Coded, CodedFlags, DecodeError, DecodeFault, DefaultNla, Meaning, NestedList, Nla,
-    NlaBuffer, NumberNames, Parseable, Place, TryClone,
+    Attribute, Coded, DecodeError, DecodeFault, DefaultNla, Meaning, NestedList, Nla, NlaBuffer,
+    NumberNames, Parseable, Place, TryClone,
 };
 use std::alloc::{AllocError, Global};
 
