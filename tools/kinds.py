@@ -1,6 +1,6 @@
 #!/usr/bin/env python3
 """Writes crates/nlroute_ffi/include/nlroute_kinds.h: the attribute types, by the kernel's names, each with the form of its
-values.
+values, and whether it is read-only or write-only, which the comments of variants say.
 
 usage: tools/kinds.py [--check | --compare]
 
@@ -38,8 +38,9 @@ KERNEL = "#include <linux/if_link.h>\n#include <linux/if_bridge.h>\n#include <li
 TOP = """\
 /*
  * The attribute types that the library knows, by the names of the kernel's headers with NLROUTE_ before them, each with the
- * form of its values, without NLROUTE_FORM_. Older headers of the kernel lack some of them. tools/kinds.py writes this
- * file.
+ * form of its values, without NLROUTE_FORM_. Older headers of the kernel lack some of them. A type that is read-only is
+ * reported by the kernel and cannot be set: leave it out of a request that repeats a reply, since some are refused there.
+ * One that is write-only can be set and is not reported. tools/kinds.py writes this file.
  */
 #ifndef NLROUTE_KINDS_H
 #define NLROUTE_KINDS_H
@@ -56,7 +57,8 @@ def tables():
     def rows(table):
         for number, (name, _, shape) in tree.tables[table].items():
             word, *more = shape.split()
-            yield int(number), name, STRUCTS.get((more or [""])[0]) or lists.get(word) or lists.get(shape) or form_of[word]
+            form = STRUCTS.get((more or [""])[0]) or lists.get(word) or lists.get(shape) or form_of[word]
+            yield int(number), name, form + f", {tree.ways.get(name)}" * (name in tree.ways)
 
     for family in families(tree.text):
         yield f"NLROUTE_{family['NAME']}", [*rows(family["table"])]

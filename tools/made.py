@@ -249,6 +249,9 @@ In `IFLA_LINKINFO`, `IFLA_INFO_KIND` has the kind, or for a port `IFLA_INFO_SLAV
 `link` follows `struct ifinfomsg`, and that of `reply` is the attributes `NLMSGERR_ATTR_*`. `AF_INET`, `AF_INET6` and
 `AF_MCTP` are in `IFLA_AF_SPEC`; of an AF_INET6 message, `IFLA_PROTINFO` is a list of `inet6`. `proto_bridge`
 knows attribute type 45 only, as upstream does; for others, use `bridge_port`. `tools/made.py` writes this page.
+
+These kinds have no attributes of their own: `dummy`, `ifb`, `lowpan`, `netdevsim`, `nlmon`, `pfcp`, `team`, `vcan`,
+`virt_wifi`, `vsockmon` and `wireguard`. Linux sends no `IFLA_INFO_DATA` for most of them.
 """
 
 

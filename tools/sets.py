@@ -17,6 +17,7 @@ Each other line is an attribute type. Tabs are between its cells, of which the l
     size        of a number with names, or a set of flags: its bytes; of a struct without a Layout: its Lengths, as `AtLeast 4`;
                 of Counters: the bytes of each number, or `i32`; of a held list: its set, if its type alone says which it is
     quantity    if its number counts something
+    way         `read-only`, if the kernel sends it and does not take it in a request; `write-only`, if it only takes it
 
 specs/NAME.antt of the crate is written as a whole, and in MODEL.md the rows below the heading of the set, which is added at
 the end of all if it is missing. What it needs of an enum, a set of flags or a struct `T` is written by
@@ -35,7 +36,7 @@ import struct
 PAYLOADS = "crates/link_base/specs/Payloads.antt"
 LAYOUTS = "crates/link_base/specs/Forms.antt"
 MODEL = "docs/proofs/MODEL.md"
-Row = collections.namedtuple("Row", "at number name variant fields its_class size quantity word value")
+Row = collections.namedtuple("Row", "at number name variant fields its_class size quantity way word value")
 # For each class, the word of tables, and the value that `means` gives. {n} and {bits} are the size, {0} and {1} the fields,
 # and T_names stands for a definition of the T of the class.
 CLASSES = {
@@ -132,14 +133,15 @@ class Set:
 
     def row(self, at, line):
         """The attribute type of a line. What is wrong with it is a ValueError."""
-        number, name, variant, its_class, size, quantity = (line.split("\t") + [""] * 5)[:6]
+        number, name, variant, its_class, size, quantity, way = (line.split("\t") + [""] * 6)[:7]
         number, _, flag = number.partition(" | ")
         variant, *fields = variant.split() or [""]
         kind, of = its_class.partition("<")[0], "".join(re.findall(r"^\w+<(\w+)>$", its_class))
         kind = its_class if its_class in CLASSES else kind
-        check(at, number.isdigit() and line.count("\t") < 6, "its cells are not number, name, variant, class, size and quantity")
+        check(at, number.isdigit() and line.count("\t") < 7, "its cells are not number, name, variant, class, size, quantity and way")
         check(at, kind in CLASSES, f"there is no class `{its_class}`")
         check(at, quantity in UNITS, f"there is no quantity `{quantity}`")
+        check(at, way in ("", "read-only", "write-only"), f"there is no way `{way}`")
         word, value = SIGNED[kind] if kind in SIGNED and size == "i32" else CLASSES[kind]
         sizes = SIZES.get(kind, "[1248]" if re.search(r"\{(n|bits)\}", word + value) else "")
         layout = [f"layouts.{it}" for it in self.layouts if kind == "Struct" and of.endswith(it) and not size]
@@ -158,7 +160,7 @@ class Set:
         check(at, first in ["", "true", "false", "4", "16", *self.payloads], f"Payloads has no word `{first}`")
         check(at, not word or name.startswith(self.prefix), f"`{name}` does not begin with {self.prefix}")
         check(at, len(fields) == len({*re.findall(r"\{\d\}", value)}), f"`{variant}` has {len(fields)} names of fields")
-        return Row(at, int(number), name, variant, fields, its_class, size, quantity, word, value)
+        return Row(at, int(number), name, variant, fields, its_class, size, quantity, way, word, value)
 
     def definition(self, of, end):
         """The definition of a type that ends so; of several, that with most words of the type."""
@@ -246,8 +248,10 @@ def in_model(it, page):
         page = f"{page[: last.end()]}### {it.title.rstrip('.')}: {head}```\n\n{page[last.end() :]}"
     above, _, below = page.partition(head)
     old, end, rest = below.partition("```")
+    old = re.sub(r", \w+-only$", "", old, flags=re.MULTILINE)
     more = dict(re.findall(r"^ *\d+  (\w+) [^:,\n]*([:,].*)$", old, re.MULTILINE))
-    columns = [(str(row.number), row.name, row.variant, shape(row) + more.get(row.name, "")) for row in it.rows]
+    texts = [shape(row) + more.get(row.name, "") + f", {row.way}" * bool(row.way) for row in it.rows]
+    columns = [(str(row.number), row.name, row.variant, text) for row, text in zip(it.rows, texts)]
     first, second, third = (max(len(row[at]) for row in columns) for at in range(3))
     lines = [f"{a:>{first}}  {b:<{second}}  {c:<{third}}  {d}\n" for a, b, c, d in columns]
     return "".join([above, head, *lines, end, rest])

@@ -1,4 +1,4 @@
--- IPVLAN device attributes.
+-- Attributes of IPVLAN and IPVTAP devices.
 use Rattle.std.specs.Prelude.{[], ◌∷◌}
 use Rattle.link_base.specs.Class.{Number}
 use Rattle.link_base.specs.Payloads.{u16_coded, u16_flags}

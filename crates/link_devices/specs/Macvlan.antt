@@ -1,4 +1,4 @@
--- MACVLAN device attributes.
+-- Attributes of MACVLAN and MACVTAP devices.
 use Rattle.std.specs.Prelude.{[], ◌∷◌, map, false}
 use Rattle.link_base.specs.Class.{Number, Integer, Raw}
 use Rattle.link_base.specs.Payloads.{u32, i32, u32_coded, u16_flags, mac}

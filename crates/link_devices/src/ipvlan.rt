@@ -1,4 +1,4 @@
-//! IPVLAN device attributes (`IFLA_INFO_DATA` of a link whose `IFLA_INFO_KIND` is `ipvlan`).
+//! Attributes of IPVLAN and IPVTAP devices (`IFLA_INFO_DATA` of a link whose `IFLA_INFO_KIND` is `ipvlan` or `ipvtap`).
 
 ghost use Rattle.link_devices.specs.Ipvlan.{ipvlan_table, ipvlan_means};
 ghost use Rattle.link_devices.specs.IpvlanNames.{ipvlan_flags_names, ipvlan_mode_names};
@@ -12,7 +12,7 @@ use link_base::{
 };
 use std::alloc::{AllocError, Global};
 
-/// A IPVLAN device attribute (`IFLA_IPVLAN_*`, `include/uapi/linux/if_link.h`).
+/// An attribute of an IPVLAN or IPVTAP device (`IFLA_IPVLAN_*`, `include/uapi/linux/if_link.h`).
 #[derive(Debug, PartialEq, Eq, Drop)]
 pub enum InfoIpVlan {
     /// How packets are passed on: 0 by their hardware addresses, 1 by their IP addresses, 2 like 1 and through

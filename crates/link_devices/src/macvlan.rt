@@ -1,4 +1,4 @@
-//! MACVLAN device attributes (`IFLA_INFO_DATA` of a link whose `IFLA_INFO_KIND` is `macvlan`).
+//! Attributes of MACVLAN and MACVTAP devices (`IFLA_INFO_DATA` of a link whose `IFLA_INFO_KIND` is `macvlan` or `macvtap`).
 
 ghost use Rattle.link_devices.specs.Macvlan.{macvlan_table, macvlan_means};
 ghost use Rattle.link_devices.specs.MacvlanNames.{macvlan_address_mode_names, macvlan_flags_names, macvlan_mode_names};
@@ -13,7 +13,7 @@ use link_base::{
 };
 use std::alloc::{AllocError, Global};
 
-/// A MACVLAN device attribute (`IFLA_MACVLAN_*`, `include/uapi/linux/if_link.h`).
+/// An attribute of a MACVLAN or MACVTAP device (`IFLA_MACVLAN_*`, `include/uapi/linux/if_link.h`).
 #[derive(Debug, PartialEq, Eq, Drop)]
 pub enum InfoMacVlan {
     /// How packets between devices of the same parent are passed on: 1 not at all, 2 through the switch, 4 directly; 8

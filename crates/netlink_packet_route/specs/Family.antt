@@ -82,8 +82,8 @@ family_row Geneve = row (codes "geneve") 17 (InfoKind (codes "geneve") ∷ []) g
 family_row Vrf = row (codes "vrf") 18 (InfoKind (codes "vrf") ∷ []) vrf_table
 family_row VrfPort = row (codes "vrf_port") 19 (PortKind (codes "vrf") ∷ []) vrf_port_table
 family_row Tun = row (codes "tun") 20 (InfoKind (codes "tun") ∷ []) tun_table
-family_row IpVlan = row (codes "ipvlan") 21 (InfoKind (codes "ipvlan") ∷ []) ipvlan_table
-family_row MacVlan = row (codes "macvlan") 22 (InfoKind (codes "macvlan") ∷ []) macvlan_table
+family_row IpVlan = row (codes "ipvlan") 21 (InfoKind (codes "ipvlan") ∷ InfoKind (codes "ipvtap") ∷ []) ipvlan_table
+family_row MacVlan = row (codes "macvlan") 22 (InfoKind (codes "macvlan") ∷ InfoKind (codes "macvtap") ∷ []) macvlan_table
 family_row Netkit = row (codes "netkit") 23 (InfoKind (codes "netkit") ∷ []) netkit_table
 
 abbrev pub family_name : Family → List ℕ

@@ -51,9 +51,9 @@ pub enum Family {
     VrfPort,
     /// `tun`: attributes of TUN and TAP devices, [`InfoTun`](crate::link::InfoTun).
     Tun,
-    /// `ipvlan`: attributes of IPVLAN devices, [`InfoIpVlan`](crate::link::InfoIpVlan).
+    /// `ipvlan`: attributes of IPVLAN and IPVTAP devices, [`InfoIpVlan`](crate::link::InfoIpVlan).
     IpVlan,
-    /// `macvlan`: attributes of MACVLAN devices, [`InfoMacVlan`](crate::link::InfoMacVlan).
+    /// `macvlan`: attributes of MACVLAN and MACVTAP devices, [`InfoMacVlan`](crate::link::InfoMacVlan).
     MacVlan,
     /// `netkit`: attributes of NETKIT devices, [`InfoNetkit`](crate::link::InfoNetkit).
     Netkit,
@@ -126,8 +126,8 @@ macro_rules! families {
             Vrf           "vrf"             InfoVrf              18 [InfoKind (b"vrf")]
             VrfPort       "vrf_port"        InfoVrfPort          19 [PortKind (b"vrf")]
             Tun           "tun"             InfoTun              20 [InfoKind (b"tun")]
-            IpVlan        "ipvlan"          InfoIpVlan           21 [InfoKind (b"ipvlan")]
-            MacVlan       "macvlan"         InfoMacVlan          22 [InfoKind (b"macvlan")]
+            IpVlan        "ipvlan"          InfoIpVlan           21 [InfoKind (b"ipvlan"), InfoKind (b"ipvtap")]
+            MacVlan       "macvlan"         InfoMacVlan          22 [InfoKind (b"macvlan"), InfoKind (b"macvtap")]
             Netkit        "netkit"          InfoNetkit           23 [InfoKind (b"netkit")]
         }
     };

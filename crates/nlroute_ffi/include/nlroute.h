@@ -89,8 +89,8 @@ enum nlroute_family {
     NLROUTE_VRF = 18, /* IFLA_INFO_DATA of VRF devices */
     NLROUTE_VRF_PORT = 19, /* IFLA_INFO_SLAVE_DATA of VRF ports */
     NLROUTE_TUN = 20, /* IFLA_INFO_DATA of TUN and TAP devices */
-    NLROUTE_IPVLAN = 21, /* IFLA_INFO_DATA of IPVLAN devices */
-    NLROUTE_MACVLAN = 22, /* IFLA_INFO_DATA of MACVLAN devices */
+    NLROUTE_IPVLAN = 21, /* IFLA_INFO_DATA of IPVLAN and IPVTAP devices */
+    NLROUTE_MACVLAN = 22, /* IFLA_INFO_DATA of MACVLAN and MACVTAP devices */
     NLROUTE_NETKIT = 23 /* IFLA_INFO_DATA of NETKIT devices */
 };
 
