@@ -58,7 +58,8 @@ def tables():
         for number, (name, _, shape) in tree.tables[table].items():
             word, *more = shape.split()
             form = STRUCTS.get((more or [""])[0]) or lists.get(word) or lists.get(shape) or form_of[word]
-            yield int(number), name, form + f", {tree.ways.get(name)}" * (name in tree.ways)
+            way = tree.ways.get(table, {}).get(name)
+            yield int(number), name, form + f", {way}" * bool(way)
 
     for family in families(tree.text):
         yield f"NLROUTE_{family['NAME']}", [*rows(family["table"])]
@@ -72,24 +73,25 @@ def tables():
 
 def text():
     """The text of the header."""
-    parts, known = [TOP], set()
+    parts, known = [TOP], {}
     for owner, rows in tables():
         new = [it for it in rows if it[1] not in known]
-        known |= {name for _, name, _ in rows}
+        known = {name: form for _, name, form in rows} | known
         if new:
             commas = [","] * (len(new) - 1) + [""]
             lines = "".join(f"    NLROUTE_{it[1]} = {it[0]}{comma} /* {it[2]} */\n" for it, comma in zip(new, commas))
             of = f"Attributes of {owner}" if owner.startswith("NLROUTE") else owner.replace("e", "E", 1)
             parts.append(f"/* {of}. */\nenum {{\n{lines}}};\n")
         elif owner.startswith("elements"):
-            parts.append(f"/* {owner.replace('e', 'E', 1)}: {', '.join(f'NLROUTE_{name}' for _, name, _ in rows)}. */\n")
+            found = (f"NLROUTE_{name}" + f" ({form})" * (form != known[name]) for _, name, form in rows)
+            parts.append(f"/* {owner.replace('e', 'E', 1)}: {', '.join(found)}. */\n")
         else:
             names = ", ".join(f"NLROUTE_{name}" for _, name, _ in rows)
             said = f"{owner} knows {names} only. Every other attribute of an IFLA_PROTINFO has UNKNOWN there. Read the list with"
             said += " NLROUTE_BRIDGE_PORT: its attributes then have the forms above."
             lines = textwrap.wrap(said, 117, break_long_words=False)
             parts.append("/*\n" + "".join(f" * {line}\n" for line in lines) + " */\n")
-    return "\n".join([*parts, *places(known), "#endif\n"])
+    return "\n".join([*parts, *places({*known}), "#endif\n"])
 
 
 def places(known):

@@ -92,6 +92,8 @@ GAP = re.compile(r"(?:^|\s)(?:\.\.\.?|…)(?:\s|$)")
 CLAUSE = re.compile(r"(\S+ {2,})((?:–|[a-z_]+) {2,})\S.*")
 ROW = re.compile(r" *(\d+)  ([A-Z]+_\w+)  +(\w+)  +([^:,]+).*")
 ROW_OF_CODE = re.compile(r"\b([A-Z]+_\w+) = (\d+)(?: \| \w+)?, (\w+)(?:\([\w, ]+\))?(?:: [^;]*?( as \w+)?)?;")
+ENUM = re.compile(r"((?:^///.*\n)+)(?:#\[.*\n)*pub enum (\w+) \{\n((?: .*\n|\n)*)", re.MULTILINE)
+TABLE_OF_ENUM = re.compile(r"^impl (?:Meaning|NestedAttribute) for (\w+) \{\n(?: .*\n|\n)*? +ghost (?:table|rows) = \{ (\w+) \}", re.MULTILINE)
 ROW_OF_TABLE = re.compile(r"\b(leaf_|nested_|address_)?row(?:_in (\w+))? (\d+) \"(\w+)\" \(?(.*?)\)* ∷")
 DRAWN = re.compile(r"(?<![\w./+-])\w[\w./+-]*")
 CALL = re.compile(r"(?P<path>(?:\w+::)*)(?P<name>[a-z_]\w*)(?:::<[^>]*>)?(?P<arguments>\(.*\))?\??", re.DOTALL)
@@ -244,14 +246,16 @@ class Tree:
 
     @functools.cached_property
     def ways(self):
-        """The types that the kernel only sends, `read-only`, or only accepts, `write-only`: so say the comments of variants."""
-        found = {}
-        for text in self.of(r"crates/link_\w+/src/.*\.rt"):
-            for comment, body in re.findall(r"((?:^///.*\n)+)(?:#\[.*\n)*pub enum \w+ \{\n((?: .*\n|\n)*)", text, re.MULTILINE):
-                of_all = "read-only" if re.search(r"\bAll are\s+(?:///\s+)?read-only\b", comment) else ""
-                for name, way in re.findall(r"\(`([A-Z]+_\w+)`[^()]*?(?:, (\w+-only))?\)", re.sub(r"\n +///", "", body)):
-                    found |= {name: way or of_all} if way or of_all else {}
-        return found
+        """The types that the kernel only sends, `read-only`, or only accepts, `write-only`, by tables: so say the comments of
+        variants."""
+        ways, texts = {}, "\n".join(self.of(r"crates/link_\w+/src/.*\.rt"))
+        enums = {enum: (comment, re.sub(r"\n +///", "", body)) for comment, enum, body in ENUM.findall(texts)}
+        for enum, table in TABLE_OF_ENUM.findall(texts):
+            comment, body = enums.get(enum, ("", ""))
+            of_all = "read-only" if re.search(r"\bAll are\s+(?:///\s+)?read-only\b", comment) else ""
+            found = re.findall(r"\(`([A-Z]+_\w+)`[^()]*?(?:, (\w+-only))?\)", body)
+            ways[table] = {name: way or of_all for name, way in found if way or of_all}
+        return ways
 
     @functools.cached_property
     def tables(self):
@@ -482,8 +486,9 @@ def rows(page, tree):
             its_name, its_unit, its_shape = tree.tables[table].get(number, ("no row", "", ""))
             fits = shape.startswith("as ") or re.match(rf"{re.escape(shape)}\b", its_shape)
             way = "".join(re.findall(r", (\w+-only)$", text))
-            if way != tree.ways.get(name, ""):
-                yield line, f"of {name}, the comment of its variant says `{tree.ways.get(name, '')}`"
+            said = tree.ways.get(table, {}).get(name, "")
+            if way != said:
+                yield line, f"of {name}, the comment of its variant says `{said}`"
             if (its_name, its_unit) != (name, unit) or not fits:
                 wanted = f"{its_name} {its_shape}".strip() + f" as {its_unit}" * bool(its_unit)
                 yield line, f"row {number} of {table} is `{wanted}`"

@@ -402,7 +402,7 @@ enum {
     NLROUTE_IFLA_XDP_EXPECTED_FD = 8 /* SIGNED, write-only */
 };
 
-/* Elements of IFLA_PROP_LIST: NLROUTE_IFLA_ALT_IFNAME. */
+/* Elements of IFLA_PROP_LIST: NLROUTE_IFLA_ALT_IFNAME (TEXT). */
 
 /* Elements of IFLA_PROTO_DOWN_REASON. */
 enum {
@@ -524,7 +524,7 @@ enum {
     NLROUTE_IFLA_MACVLAN_BC_CUTOFF = 9 /* SIGNED */
 };
 
-/* Elements of IFLA_MACVLAN_MACADDR_DATA: NLROUTE_IFLA_MACVLAN_MACADDR. */
+/* Elements of IFLA_MACVLAN_MACADDR_DATA: NLROUTE_IFLA_MACVLAN_MACADDR (MAC). */
 
 /* Attributes of NLROUTE_NETKIT. */
 enum {
