@@ -14,6 +14,9 @@ use link_base::{
 use std::alloc::{AllocError, Global};
 
 /// An attribute of a MACVLAN or MACVTAP device (`IFLA_MACVLAN_*`, `include/uapi/linux/if_link.h`).
+///
+/// Attributes marked read-only are reported by the kernel and cannot be set; those marked write-only can be set and are
+/// not reported.
 #[derive(Debug, PartialEq, Eq, Drop)]
 pub enum InfoMacVlan {
     /// How packets between devices of the same parent are passed on: 1 not at all, 2 through the switch, 4 directly; 8
@@ -198,6 +201,7 @@ impl Attribute for InfoMacVlan {
     ghost use Rattle.std.specs.Prelude.{refl};
     ghost use Rattle.link_base.proofs.TableLaws.{lawful};
     ghost use Rattle.link_base.specs.Equality.{of_cases, thorough_fields};
+    ghost use Rattle.link_devices.specs.contracts.macvlan_address.MacVlanAddressAttribute.TheImpl.Laws as addresses;
     ghost use Rattle.link_devices.specs.contracts.macvlan.InfoMacVlan.{enum};
 
     #[inline(always)]
@@ -218,5 +222,5 @@ impl Attribute for InfoMacVlan {
 
     ghost well_formed = { refl };
 
-    ghost thorough = { of_cases enum _ _ (Prim.search (thorough_fields)) };
+    ghost thorough = { of_cases enum _ _ (Prim.search (thorough_fields, addresses.thorough-law)) };
 }

@@ -12,6 +12,9 @@ use link_base::{
 use std::alloc::{AllocError, Global};
 
 /// A NETKIT device attribute (`IFLA_NETKIT_*`, `include/uapi/linux/if_link.h`).
+///
+/// Attributes marked read-only are reported by the kernel and cannot be set; those marked write-only can be set and are
+/// not reported.
 #[derive(Debug, PartialEq, Eq, Drop)]
 pub enum InfoNetkit {
     /// The peer: a `struct ifinfomsg` and its attributes, which are not decoded (`IFLA_NETKIT_PEER_INFO`, write-only).

@@ -11,6 +11,8 @@ use link_base::{
 use std::alloc::{AllocError, Global};
 
 /// A VRF port attribute (`IFLA_VRF_PORT_*`, `include/uapi/linux/if_link.h`).
+///
+/// Attributes marked read-only are reported by the kernel and cannot be set.
 #[derive(Debug, PartialEq, Eq, Drop)]
 pub enum InfoVrfPort {
     /// Routing table of the VRF device (`IFLA_VRF_PORT_TABLE`, `u32`, read-only).
