@@ -1,6 +1,6 @@
 #!/usr/bin/env python3
 """Tests of tools/sets.py and new_set.py: sets/ gives the files that are there, each mistake in a line changes them or is
-refused with its line, and the template is what dsa.rt and hsr.rt have.
+refused with its line, and the template is what dsa.rt and hsr.rt have. Also of the comments that tools/pages.py reads.
 
 The last line is 'N passed, M failed', and the status 0 only if nothing failed.
 """
@@ -184,6 +184,16 @@ part_leaf (infos.Other other) = default_means other
         made = sets.in_model(it, f"Above\n{other}Below\n")
         title = "### HSR and PRP device attributes: `InfoHsr`, `hsr_table`\n\n```text\n"
         self.assertTrue(made.startswith(f"Above\n{other}{title}1  IFLA_HSR_SLAVE1") and made.endswith("InterfaceIndex\n```\n\nBelow\n"), made)
+
+
+class Ways(unittest.TestCase):
+    def test_what_comments_say(self):
+        self.assertEqual("read-only", TREE.ways["macvlan_table"]["IFLA_MACVLAN_BC_QUEUE_LEN_USED"])
+        self.assertEqual("write-only", TREE.ways["macvlan_table"]["IFLA_MACVLAN_MACADDR"])
+        # (another list has this type too, and both directions)
+        self.assertEqual({}, TREE.ways["mac_vlan_address_rows"])
+        self.assertEqual(set(TREE.tables["ad_info_rows"][it][0] for it in "12345"), set(TREE.ways["ad_info_rows"]))
+        self.assertEqual({"read-only"}, set(TREE.ways["ad_info_rows"].values()))
 
 
 class Template(unittest.TestCase):
