@@ -45,9 +45,8 @@ import reader  # noqa: E402
 
 LONGEST, BLANKS = 262144, b" \t\r"
 LINKS, GETLINK, ERROR, DONE = (16, 17, 18, 19), 18, 2, 3
-# Flags of replies, and members for NLMSGERR_ATTR_..
+# Flags of replies.
 CAPPED, ACK_TLVS = 0x100, 0x200
-OF_REPLY = {1: "message", 2: "offset", 3: "cookie", 4: "policy", 5: "missing_type", 6: "missing_nest"}
 # The numbers in network byte order: those of VXLAN devices, by their names in documents.
 NETWORK_ORDER = ("port", "label")
 # Arrays whose places have names.
@@ -292,31 +291,18 @@ def behind_request(payload):
 
 
 def check_reply(document, keys, at, kind, flags, payload):
-    """Checks the members for a reply against its payload; what it says of a success at the end of a dump is missing."""
+    """Checks the member for a reply against its payload. A success at the end of a dump has one only with attributes."""
     errno = struct.unpack_from("<i", payload)[0] if len(payload) >= 4 else 0
     start = len(payload)
     if flags & ACK_TLVS:
         start = min(4 if kind == DONE else 20 if flags & CAPPED else behind_request(payload), len(payload))
-    found, rest = attributes(payload[start:])
-    last = {kind: value for _, kind, _, value in found}
-    said = {name: last.get(number) for number, name in OF_REPLY.items()}
-    said |= {it: None for it in ("offset", "missing_type", "missing_nest") if len(said[it] or b"") != 4}
-    is_told = kind == ERROR or errno < 0 or rest is not None or any(it is not None for it in said.values())
-    need(keys == ["error"] * (rest is not None) + ["reply"] * is_told, "reply:", keys)
-    if rest is not None:
-        need(document["error"]["at"] == at + 16 + start + rest, "rest:", document)
-    if not is_told:
-        return
-    reply = document["reply"]
-    more = [it for it in ("missing_nest", "policy", "cookie") if said[it] is not None]
-    need([*reply] == ["errno", "message", "offset", "missing_type", *more], "members:", reply)
-    need(reply["errno"]["number"] == errno, "errno:", document)
-    for name in ("offset", "missing_type", "missing_nest"):
-        number = None if said[name] is None else struct.unpack("<I", said[name])[0]
-        need(reply.get(name) == number, name, reply)
-    for name in ("policy", "cookie"):
-        need(reply.get(name) == (None if said[name] is None else {"hex": said[name].hex()}), name, reply)
-    need((reply["message"] is None) is (said["message"] is None), "message:", reply)
+    is_told = kind == ERROR or errno < 0 or start < len(payload)
+    need(keys == ["reply"] * is_told, "reply:", keys)
+    if is_told:
+        reply = document["reply"]
+        need([*reply] == ["errno", "attrs"], "members:", reply)
+        need(reply["errno"]["number"] == errno, "errno:", document)
+        check_elements(reply["attrs"], payload[start:], at + 16 + start)
 
 
 def check_elements(elements, data, base):

@@ -113,7 +113,8 @@ def shown(binary, lines, *arguments):
 
 def is_right(line, plain, checked, brief, debug):
     """Whether what is printed for a line is right, in the plain form, with --check, with --brief, and in the debug form."""
-    error, fault, rest = ERROR.search(plain), FAULT.search(debug), iter(plain.splitlines())
+    own = re.split(rb"^\w+ at \d+$", debug, maxsplit=1, flags=re.MULTILINE)[0]
+    error, fault, rest = ERROR.search(plain), FAULT.search(own), iter(plain.splitlines())
     right = all(it == 10 or 32 <= it <= 126 for it in plain) and VERDICT.sub(b"", checked) == plain
     if line.startswith(("message", "link ")):
         right = right and all(it in rest for it in brief.splitlines())
@@ -123,7 +124,7 @@ def is_right(line, plain, checked, brief, debug):
         return right
     right = right and LAST.fullmatch(checked.splitlines()[-1]) and (error and error[1]) == (fault and fault[1])
     count = len(re.findall(rb"^  \S", plain, re.MULTILINE))
-    return right and (bool(error) or count == debug.count(b"\n"))
+    return right and (bool(error) or count == own.count(b"\n"))
 
 
 def options(lines, **others):

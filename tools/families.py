@@ -29,7 +29,7 @@ LISTS = [
     ("docs/proofs/MODEL.md", r"^### .*: `{attributes}`, `{table}`$"),
 ]
 # Only of sets that a kind selects, or an AF_BRIDGE message.
-IN_MESSAGES = r"^  IFLA_\w+ {name}\n    \w"
+IN_MESSAGES = r"^  {name} at \d+\n    \w"
 COVERED = [
     ("runs/debug/", r"^> {name} [0-9a-f]"),
     ("runs/debug/", r"^> check {name}$"),
@@ -61,7 +61,8 @@ def families(text_of):
         held = HOLDER.findall(holders)
         attributes = list(dict.fromkeys(HOLDERS.get(how, what) for how, _, what in held if how in HOLDERS or what))
         kinds = [kind for _, kind, _ in held if kind]
-        in_messages = bool(kinds) or "BridgeAttribute" in [how for how, *_ in held]
+        # (what `nlshow` opens in an IFLA_PROTINFO is a NestedBridgeAttribute)
+        in_messages = bool(kinds) or any(how == "BridgeAttribute" and what != "IFLA_PROTINFO" for how, _, what in held)
         found.append((*it, it[1].upper(), attributes, kinds, in_messages, table_of.get(it[1], ""), *said.get(it[1], ("", ""))))
     return [dict(zip(keys, it)) for it in found]
 

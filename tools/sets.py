@@ -327,6 +327,9 @@ def run(it):
     left = ", ".join(row.name for row in it.rows if not sample(row))
     for row in filter(sample, it.rows):
         payload, plain, debug, value = sample(row)
+        if row.its_class == "Shown<Held>" and row.size:
+            # (behind the list: the offset of this one, and the attribute in it)
+            parts["held"] += f"{row.size} at {len(parts['out']) // 2 + 4}\n  Other(DefaultNla {{ kind: 16383, value: [] }})\n"
         parts["out"] += (struct.pack("<HH", 4 + len(payload), row.number) + payload).hex() + "00" * (-len(payload) % 4)
         parts["attr"] += f"attr {row.number} len {len(payload)}\n"
         parts["plain"] += f"  {row.name} {plain}".replace(" \n", "\n").rstrip() + "\n"
@@ -345,7 +348,7 @@ program: nlshow
 == the debug form
 arguments: --format debug
 > {it.name} {digits}
-{parts["debug"]}
+{parts["debug"]}{parts["held"]}
 == a document
 arguments: --format json
 < {it.name} {digits}

@@ -1,8 +1,7 @@
--- Parts of documents: addresses, replies, and the lines of a buffer.
-use Rattle.std.proofs.Common.{◌≡◌, ◌==◌, ℕ, Bool, true, false, true≢false, not, List, [], ◌∷◌, ◌++◌, length, Option, Some, None, refl, sym, ap, subst, ◌∙◌}
+-- Parts of documents: addresses, and the lines of a buffer.
+use Rattle.std.proofs.Common.{◌≡◌, ◌==◌, ℕ, List, [], ◌∷◌, ◌++◌, length, Option, sym, ap, subst, ◌∙◌}
 use Rattle.std.specs.Net.Text.{ipv4_text}
 use Rattle.std.proofs.lemmas.Bool.{cond-true, cond-false, eq-eqb}
-use Rattle.std.specs.Option.{is_some}
 use Rattle.std.specs.List.{flat_map}
 use Rattle.std.specs.Io.KnownBytes.{Appends}
 use Rattle.std.proofs.KnownBytes.{Appends-trans}
@@ -12,10 +11,8 @@ use Rattle.json.specs.Token.{Token}
 use Rattle.json.specs.Json.{Json}
 use Rattle.json.specs.Print.{print}
 use Rattle.json.specs.Tree.{json_tokens}
-use Rattle.link_messages.specs.declared.message.MessageError.{MessageError}
 use Rattle.link_show.specs.List.{ip_text}
 use Rattle.link_show.specs.Octets.{ip6_text}
-use Rattle.link_show.specs.Message.{is_sound}
 use Rattle.link_json.specs.Message.{document_line}
 
 -- ---- addresses
@@ -27,14 +24,6 @@ ip_of_four p h = cond-true _ _ _ (eq-eqb _ _ h)
 pub ip_of_sixteen : (p : List ℕ) → length p ≡ 16 → ip_text p ≡ ip6_text p
 unfolding ip_text
 ip_of_sixteen p h = cond-false _ _ _ (ap (λ n. n == 4) h) ∙ cond-true _ _ _ (eq-eqb _ _ h)
-
--- ---- replies
-
-pub sound_of : (fault : Option MessageError) (b : Bool) → is_some fault ≡ not b → b ≡ is_sound fault
-sound_of None true e = refl
-sound_of None false e = absurd (true≢false (sym e))
-sound_of (Some error) true e = absurd (true≢false e)
-sound_of (Some error) false e = refl
 
 -- ---- lines
 

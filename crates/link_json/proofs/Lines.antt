@@ -1,27 +1,26 @@
 -- Documents are lines, and how deep they nest.
-use Rattle.std.proofs.Common.{◌≡◌, ℕ, suc, ℤ, ◌-◌, ◌+◌, ◌≤◌, Bool, true, false, not, List, [], ◌∷◌, ◌++◌, length, Option, Some, None, is_some, refl, sym, subst, arith, codes, if◌then◌else◌}
+use Rattle.std.proofs.Common.{◌≡◌, ℕ, suc, ℤ, ◌-◌, ◌+◌, ◌≤◌, Bool, true, false, not, List, [], ◌∷◌, ◌++◌, length, Option, Some, None, is_some, refl, sym, subst, arith, codes}
 use Rattle.std.specs.List.{AllByRecursion}
-use Rattle.std.specs.Option.{option_copied}
 use Rattle.json.specs.Json.{Json, boolean, string}
 use Rattle.json.specs.Strict.{keys}
 use Rattle.json.specs.Tree.{depth, items_depth, members_depth}
 use Rattle.json.proofs.Printed.Trees.{document-print}
 use Rattle.link_base.specs.Labels.{name_in as name_for}
 use Rattle.netlink_packet_route.specs.declared.family.Family.{Family}
+use Rattle.netlink_packet_route.specs.declared.family.Family.TheVariants as families
 use Rattle.netlink_packet_route.specs.Family.{family_name}
 use Rattle.link_messages.specs.declared.acknowledgement.Acknowledgement.{Acknowledgement}
 use Rattle.link_messages.specs.declared.buffer_parts.Message.{Message}
-use Rattle.link_messages.specs.declared.buffer_parts.Payload.{Payload}
 use Rattle.link_messages.specs.declared.message.MessageError.{MessageError}
 use Rattle.link_show.specs.Message.{errno_name, offset_of, reason_text}
 use Rattle.link_show.specs.MessageNames.{message_types, flags_of}
-use Rattle.link_json.specs.Doc.{Field, members_of, items_of, object_of, array_of, number_json, signed_json, name_json, at_json}
+use Rattle.link_json.specs.Doc.{Field, members_of, items_of, object_of, array_of, signed_json, name_json, at_json}
 use Rattle.link_json.specs.Line.{IsLine, IsPlace, document_keys}
-use Rattle.link_json.specs.Value.{text_json, opaque_json}
-use Rattle.link_json.specs.Message.{message_error, message_fields, or_null, if_some, errno_json, policy_json, usual_fields, further_fields, reply_json, says_something, fault_fields, ShowsBody, Link, Reply, General, NoLink, NoReply, Other, whole_document, ShowsMessage, ShowsEnd, Ended, Empty, Done, Zeros, Broken, ShowsMessages}
+use Rattle.link_json.specs.Value.{text_json}
+use Rattle.link_json.specs.Message.{message_error, message_fields, errno_json, SaysReply, says_something, shows_said, ShowsBody, Link, Reply, General, NoLink, NoReply, Other, whole_document, ShowsMessage, ShowsEnd, Ended, Empty, Done, Zeros, Broken, ShowsMessages}
 use Rattle.link_json.specs.Other.{place_document, fault_document, check_document, ShowsListDocument, ShowsCheck, IsCanonical, IsNot}
 use Rattle.link_json.proofs.Keys.{are_among, are_distinct, distinct_members}
-use Rattle.link_json.proofs.Sound.{IsSound, AreSound, EachSound, above, first_sound, others_sound, no_fields, field_sound, fields_both, object_sound, no_items, one_sound, each_both, array_sound, string_sound, boolean_sound, null_sound, number_sound, signed_sound, name_sound, opaque_sound, text_sound, named_sound, flags_sound, at_sound, error_sound}
+use Rattle.link_json.proofs.Sound.{IsSound, AreSound, EachSound, above, first_sound, others_sound, no_fields, field_sound, fields_both, object_sound, no_items, one_sound, each_both, array_sound, string_sound, boolean_sound, number_sound, signed_sound, name_sound, text_sound, named_sound, flags_sound, at_sound, error_sound}
 use Rattle.link_json.proofs.SoundLists.{shown_sound, family_sound}
 use Rattle.link_json.proofs.SoundLinks.{link_sound}
 use Rattle.link_json.proofs.Unbroken.{text_unbroken}
@@ -51,39 +50,12 @@ module _ {K : Type 0} {d : ℕ} where
   errno_sound : (e : ℤ) → IsSound K (suc d) (errno_json e)
   errno_sound e = object_sound ((codes "number", signed_json e) ∷ (codes "name", name_json (errno_name e)) ∷ []) refl (field_sound (signed_sound e) (field_sound (name_sound (errno_name e)) no_fields))
 
-  null_or : {A : Type 0} (json : A → Json) → ((x : A) → IsSound K d (json x)) → (o : Option A) → IsSound K d (or_null json o)
-  null_or json h None = null_sound
-  null_or json h (Some x) = h x
-
-  -- a member, if there is something
-  some_sound : {A : Type 0} (name : List ℕ) (json : A → Json) → ((x : A) → IsSound K d (json x)) → (o : Option A) → AreSound K d (if_some name json o)
-  some_sound name json h None = no_fields
-  some_sound name json h (Some x) = field_sound (h x) no_fields
-
--- whichever of the last three members a reply has
-reply_keys : (errno message offset missing : Json) (nest : Option ℕ) (policy : Option Payload) (cookie : Option (List ℕ)) → are_distinct (keys (members_of (((codes "errno", errno) ∷ (codes "message", message) ∷ (codes "offset", offset) ∷ (codes "missing_type", missing) ∷ [])
-    ++ (if_some (codes "missing_nest") number_json nest ++ (if_some (codes "policy") policy_json policy ++ if_some (codes "cookie") opaque_json cookie))))) ≡ true
-reply_keys errno message offset missing None None None = refl
-reply_keys errno message offset missing None None (Some c) = refl
-reply_keys errno message offset missing None (Some p) None = refl
-reply_keys errno message offset missing None (Some p) (Some c) = refl
-reply_keys errno message offset missing (Some n) None None = refl
-reply_keys errno message offset missing (Some n) None (Some c) = refl
-reply_keys errno message offset missing (Some n) (Some p) None = refl
-reply_keys errno message offset missing (Some n) (Some p) (Some c) = refl
-
-reply_sound : {K : Type 0} {d : ℕ} (a : Acknowledgement) → IsSound K (above 2 d) (reply_json a)
-reply_sound {K} {d} a =
-    let text = option_copied a.text in
-    let usual : AreSound K (suc d) (usual_fields a) =
-    field_sound (errno_sound a.error) (field_sound (null_or text_json text_sound text) (field_sound (null_or number_json number_sound a.offset) (field_sound (null_or number_json number_sound a.missing_type) no_fields))) in
-    let policy = if_some (codes "policy") policy_json a.policy in
-    let cookie = if_some (codes "cookie") opaque_json (option_copied a.cookie) in
-    let further : AreSound K (suc d) (further_fields a) =
-    fields_both (if_some (codes "missing_nest") number_json a.missing_nest) (policy ++ cookie) (some_sound _ number_json number_sound a.missing_nest)
-    (fields_both policy cookie (some_sound _ policy_json (λ p. opaque_sound p.bytes.now) a.policy) (some_sound _ opaque_json opaque_sound (option_copied a.cookie))) in
-    object_sound (usual_fields a ++ further_fields a) (reply_keys (errno_json a.error) (or_null text_json text) (or_null number_json a.offset) (or_null number_json a.missing_type) a.missing_nest a.policy (option_copied a.cookie))
-    (fields_both (usual_fields a) (further_fields a) usual further)
+module _ {K : Type 0} {d : ℕ} where
+  reply_sound : (a : Acknowledgement) (j : Json) (well : Bool) → SaysReply a j well → IsSound K (above 32 d) j
+  reply_sound a j well (js, shown, e) =
+      let each : EachSound K (above 30 d) js = family_sound 0 families.Reply a.list.at a.list.bytes.now js well shown in
+      let fields : List Field = (codes "errno", errno_json a.error) ∷ (codes "attrs", array_of js) ∷ [] in
+      subst (IsSound K (above 32 d)) (sym e) (object_sound fields refl (field_sound (errno_sound a.error) (field_sound (array_sound js each) no_fields)))
 
 -- ---- documents
 
@@ -109,19 +81,6 @@ module _ {K : Type 0} {d : ℕ} (place : List Field) (is : K → IsPlace place) 
       → are_distinct (keys (members_of (ended (message_fields m ++ body) well))) ≡ true → AreSound K (above 32 d) body → IsSound K (above 33 d) (whole_document place (message_fields m ++ body) well)
   says m well body e f g = whole_sound (message_fields m ++ body) well e f (fields_both (message_fields m) body (message_sound m) g)
 
-  replies : (m : Message) (well : Bool) (fault : Option MessageError) (reply : Json) → IsSound K (above 32 d) reply
-      → IsSound K (above 33 d) (whole_document place (message_fields m ++ (fault_fields fault ++ (codes "reply", reply) ∷ [])) well)
-  replies m well None reply g = says m well ((codes "reply", reply) ∷ []) refl refl (field_sound g no_fields)
-  replies m well (Some error) reply g =
-      let last : List Field = (codes "reply", reply) ∷ [] in
-      says m well (message_error error ∷ last) refl refl (fields_both (message_error error ∷ []) last (message_error_sound error) (field_sound g no_fields))
-
-  -- members that may be left out
-  told : (m : Message) (well said : Bool) (fields : List Field) → IsSound K (above 33 d) (whole_document place (message_fields m ++ fields) well)
-      → IsSound K (above 33 d) (whole_document place (message_fields m ++ (if said then fields else [])) well)
-  told m well true fields g = g
-  told m well false fields g = says m well [] refl refl no_fields
-
   -- a document by its body
   same : (m : Message) (well : Bool) (a b : List Field) → b ≡ a → IsSound K (above 33 d) (whole_document place (message_fields m ++ a) well) → IsSound K (above 33 d) (whole_document place (message_fields m ++ b) well)
   same m well a b e h = subst (λ body. IsSound K (above 33 d) (whole_document place (message_fields m ++ body) well)) (sym e) h
@@ -129,13 +88,17 @@ module _ {K : Type 0} {d : ℕ} (place : List Field) (is : K → IsPlace place) 
   failed : (m : Message) (body : List Field) (well : Bool) (error : MessageError) → body ≡ message_error error ∷ [] → IsSound K (above 33 d) (whole_document place (message_fields m ++ body) well)
   failed m body well error e = same m well (message_error error ∷ []) body e (says m well (message_error error ∷ []) refl refl (message_error_sound error))
 
+  told : (m : Message) (body : List Field) (well said : Bool) (a : Acknowledgement) → shows_said said a body well → IsSound K (above 33 d) (whole_document place (message_fields m ++ body) well)
+  told m body well true a (j, shown, e) =
+      let sound : IsSound K (above 32 d) j = reply_sound a j well shown in
+      same m well ((codes "reply", j) ∷ []) body e (says m well ((codes "reply", j) ∷ []) refl refl (field_sound sound no_fields))
+  told m body well false a (e, w) = same m well [] body e (says m well [] refl refl no_fields)
+
   body_sound : (m : Message) (body : List Field) (well : Bool) → ShowsBody m body well → IsSound K (above 33 d) (whole_document place (message_fields m ++ body) well)
   body_sound m body well (Link header g has link shown e) =
       let sound : IsSound K (above 32 d) link = link_sound header _ link well shown in
       same m well ((codes "link", link) ∷ []) body e (says m well ((codes "link", link) ∷ []) refl refl (field_sound sound no_fields))
-  body_sound m body well (Reply a is e w) =
-      let fields = fault_fields a.fault ++ (codes "reply", reply_json a) ∷ [] in
-      same m well (if says_something a then fields else []) body e (told m well (says_something a) fields (replies m well a.fault (reply_json a) (reply_sound a)))
+  body_sound m body well (Reply a is shown) = told m body well (says_something a) a shown
   body_sound m body well (General g e w) = same m well [] body e (says m well [] refl refl no_fields)
   body_sound m body well (NoLink error t g is e w) = failed m body well error e
   body_sound m body well (NoReply error t is e w) = failed m body well error e

@@ -1,12 +1,12 @@
 -- The elements of lists: one more, and the end.
-use Rattle.std.proofs.Common.{◌≡◌, ◌≢◌, ℕ, zero, suc, ◌+◌, ◌-◌, ◌<◌, Bool, false, ◌&&◌, List, [], ◌∷◌, ◌++◌, length, Option, Some, None, Result, Ok, Err, Bor, refl, sym, ap, ap₂, subst, ◌∙◌, arith, append_assoc, inl, inr}
+use Rattle.std.proofs.Common.{◌≡◌, ◌≢◌, ℕ, zero, suc, ◌+◌, ◌-◌, ◌<◌, Bool, false, ◌&&◌, List, [], ◌∷◌, ◌++◌, length, Option, Some, None, Result, Ok, Err, Bor, refl, sym, ap, subst, ◌∙◌, arith, append_assoc}
 use Rattle.std.specs.Prelude.{IfOk}
 use Rattle.std.specs.List.{flat_map}
 use Rattle.std.proofs.lemmas.List.{append-nil}
 use Rattle.std.proofs.lemmas.Grind.{flat_map-append}
 use Rattle.json.specs.Token.{Token, begin_array, end_array, end_object}
 use Rattle.json.specs.Json.{Json}
-use Rattle.json.specs.Tree.{json_tokens, items_tokens, members_tokens}
+use Rattle.json.specs.Tree.{json_tokens, items_tokens}
 use Rattle.link_base.specs.declared.wire.buffer.NlaBuffer.{NlaBuffer}
 use Rattle.link_base.specs.declared.wire.fault.Cause.{Cause}
 use Rattle.link_base.specs.declared.wire.fault.DecodeFault.{DecodeFault}
@@ -22,17 +22,16 @@ use Rattle.netlink_packet_route.specs.declared.opening.Context.{Context}
 use Rattle.netlink_packet_route.specs.Family.{table_of}
 use Rattle.netlink_packet_route.specs.Opening.{holding_at, IsOpened}
 use Rattle.link_messages.specs.Walk.{Item}
-use Rattle.link_messages.proofs.Walking.{split_short}
 use Rattle.link_show.specs.Fault.{fault_text}
-use Rattle.link_show.specs.Held.{Answers, IsContextIn}
+use Rattle.link_messages.specs.Held.{Answers}
 use Rattle.link_show.specs.List.{label_for, ShowsEach}
 use Rattle.link_show.proofs.Addressing.{walk_to}
 use Rattle.link_show.proofs.Listing.{ShownTo, LeadTo, lead_on, shown_more, ListTo, list_more, list_fault, list_done}
-use Rattle.link_json.specs.Doc.{members_of, items_of, array_of, fields_tokens, each_tokens}
-use Rattle.link_json.specs.List.{fault_json, end_json, if_sized, holder_more, holder_json, holder_front, holder_back, Shower, ShowsSingle, ShowsInner, ShowsInners, ShowsKnown, ShowsDecoded, ShowsItem, Decodes, Fails, ShowsSet, shows_in, ShowsArray}
+use Rattle.link_json.specs.Doc.{items_of, array_of, each_tokens}
+use Rattle.link_json.specs.List.{fault_json, end_json, if_sized, holder_json, holder_front, holder_back, Shower, ShowsSingle, ShowsInner, ShowsInners, ShowsKnown, ShowsDecoded, ShowsItem, Decodes, Fails, ShowsSet, shows_in, ShowsArray}
 use Rattle.link_json.specs.List.{Adds, Writes, WritesAddresses, WritesValue}
 use Rattle.link_json.proofs.Objects.{array_written}
-use Rattle.link_json.proofs.Tokens.{each_both, members_spelled, items_spelled}
+use Rattle.link_json.proofs.Tokens.{each_both, items_spelled}
 
 pub adds_none : (old : List Token) → Adds old old []
 adds_none old = sym (append-nil old)
@@ -52,16 +51,14 @@ array_shown shows old a b new well first (js, shown, written) last = (array_of j
 -- ---- attributes that hold lists
 
 -- what was written for one: its front, the elements of its list, and its back
-pub holder_written : (label : Option Label) (old a b new : List Token) (js : List Json) → a ≡ old ++ holder_front label → Adds a b js → new ≡ b ++ holder_back label
+pub holder_written : (label : Option Label) (old a b new : List Token) (js : List Json) → a ≡ old ++ holder_front label → Adds a b js → new ≡ b ++ holder_back
     → new ≡ old ++ json_tokens (holder_json label (array_of js))
 holder_written label old a b new js first written last =
     let front = holder_front label in
-    let back = holder_back label in
-    let more = fields_tokens (holder_more label) ++ end_object ∷ [] in
-    let spelled : items_tokens (items_of js) ++ members_tokens (members_of (holder_more label)) ≡ each_tokens js ++ back =
-    ap₂ (λ s t. s ++ t) (items_spelled js) (members_spelled (holder_more label)) ∙ append_assoc (each_tokens js) (end_array ∷ []) more in
-    last ∙ ap (λ t. t ++ back) (written ∙ ap (λ t. t ++ each_tokens js) first) ∙ append_assoc (old ++ front) (each_tokens js) back
-    ∙ append_assoc old front (each_tokens js ++ back) ∙ ap (λ t. old ++ (front ++ t)) (sym spelled)
+    let spelled : items_tokens (items_of js) ++ end_object ∷ [] ≡ each_tokens js ++ holder_back =
+    ap (λ s. s ++ end_object ∷ []) (items_spelled js) ∙ append_assoc (each_tokens js) (end_array ∷ []) (end_object ∷ []) in
+    last ∙ ap (λ t. t ++ holder_back) (written ∙ ap (λ t. t ++ each_tokens js) first) ∙ append_assoc (old ++ front) (each_tokens js) holder_back
+    ∙ append_assoc old front (each_tokens js ++ holder_back) ∙ ap (λ t. old ++ (front ++ t)) (sym spelled)
 
 -- one level less
 level_less : (n : ℕ) (context : Context) (at : ℕ) (family : Family) (list : List ℕ) (js : List Json) (well : Bool) → 0 < n → ShowsSet (n - 1) context at family list js well → shows_in n context at family list js well
@@ -73,7 +70,7 @@ level_less (suc n) context at family list js well h s =
 -- the list of another set
 pub opened_written : (n : ℕ) (context : Context) (at : ℕ) (family : Family) (k : Option ℕ) (label : Option Label) (b : NlaBuffer) (content : Content) (set : Family) (f : ℕ) (list : List ℕ)
     (old mid end new : List Token) (well : Bool) → Answers n (IsOpened (holding_at context family k f)) content (Some set) → 0 < n → f ≡ kind_field_of b → list ≡ payload_of b
-    → mid ≡ old ++ holder_front label → Writes (ShowsSet (n - 1) context (at + 4) set list) mid end well → new ≡ end ++ holder_back label
+    → mid ≡ old ++ holder_front label → Writes (ShowsSet (n - 1) context (at + 4) set list) mid end well → new ≡ end ++ holder_back
     → WritesValue (ShowsSingle n (shows_in n) context at family k label b content) old new well
 opened_written n context at family k label b content set f list old mid end new well answer some same e first (js, shown, written) last =
     let below = level_less n context (at + 4) set list js well some shown in (
@@ -89,7 +86,7 @@ opened_written n context at family k label b content set f list old mid end new 
 -- a nested list
 pub nested_written : (n : ℕ) (shows : Shower) (context : Context) (at : ℕ) (family : Family) (b : NlaBuffer) (list : Bor (List ℕ)) (flagged : Bool) (label : Option Label) (in_family : Family) (k : ℕ) (bytes : List ℕ)
     (old mid end new : List Token) (well : Bool) → HasContent (table_of family) b (contents.List list flagged) → label ≡ label_for (table_of family) b → in_family ≡ family → k ≡ kind_of (kind_field_of b)
-    → bytes ≡ list.now → mid ≡ old ++ holder_front label → Writes (ShowsInners n shows context (at + 4) in_family k bytes) mid end well → new ≡ end ++ holder_back label
+    → bytes ≡ list.now → mid ≡ old ++ holder_front label → Writes (ShowsInners n shows context (at + 4) in_family k bytes) mid end well → new ≡ end ++ holder_back
     → WritesValue (ShowsDecoded n shows context at family b) old new well
 nested_written n shows context at family b list flagged label in_family k bytes old mid end new well has t f e l first (js, shown, written) last = (
   holder_json label (array_of js),
@@ -126,10 +123,6 @@ module _ (n : ℕ) (shows : Shower) (inner : Context) (base : ℕ) (family : Fam
       shown_more (LeadTo list next) (length list - length rest, b) (j ∷ []) old mid new whole well (adds_more old mid new) (lead_on list rest next b split) h
       (j, (content, has, rw (place, same, l) at shown), refl) (adds_one mid new j written)
 
-  pub inners_all : (context : Context) (rest : List ℕ) (old new : List Token) (whole : Bool) → IsContextIn context list inner → InnersTo rest old new whole → rest ≡ []
-      → Writes (ShowsInners n shows context base family k list) old new whole
-  inners_all context rest old new whole is h e = (h.out, (inner, is, h.items, record { rest = rest; walks = h.leads; end = e }, h.each), h.written)
-
 -- ---- lists of an attribute set
 
 set_shown : (n : ℕ) (context : Context) (base : ℕ) (family : Family) (list : List ℕ) (js : List Json) (well : Bool)
@@ -156,12 +149,6 @@ module _ (n : ℕ) (context : Context) (base : ℕ) (family : Family) (list : Li
       list_fault adds_more (table_of family) (λ i f. fault_json (base + i) (fault_text (table_of family) f) ∷ []) (λ x f gives. Fails f gives refl refl) (λ i c. refl)
       rest next old mid new whole (length list - length rest) fault h some refl first
       (adds_one mid new (fault_json (base + (length list - length rest)) error) (subst (λ i. new ≡ mid ++ json_tokens (fault_json i error)) place written))
-
-  -- what is left is shorter
-  pub fault_less : (rest next : List ℕ) (fault : DecodeFault) → rest ≢ [] → FaultsFirst (table_of family) rest fault next → length next < length rest
-  fault_less rest next fault some (inl (b, split, gives)) = (split_short rest b next split).1
-  fault_less [] next fault some (inr (c, bad, is, empty)) = absurd (some refl)
-  fault_less (x ∷ rest) next fault some (inr (c, bad, is, empty)) = omega (arith, ap length empty)
 
   pub set_all : (rest : List ℕ) (old new : List Token) (whole : Bool) → SetTo rest old new whole → rest ≡ [] → Writes (ShowsSet n context base family list) old new whole
   set_all rest old new whole h e = let (js, shown, written) = list_done refl rest old new whole h e in (js, set_shown n context base family list js whole shown, written)

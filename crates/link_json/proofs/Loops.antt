@@ -1,7 +1,7 @@
 -- Loops that write tokens: what is written and what is left are the whole.
 use Rattle.std.proofs.Common.{◌≡◌, ◌≢◌, ℕ, ◌+◌, ◌-◌, ◌*◌, ◌<◌, ◌≤◌, ◌==◌, true, false, true≢false, eqb-true, List, [], ◌∷◌, ◌++◌, map, drop, length, refl, ap, sym, ◌∙◌, arith, slice_index_or, bit_and, append_assoc, Result, Ok, Err, OnOk}
 use Rattle.std.proofs.lemmas.List.{at_drop_more, at_drop_all}
-use Rattle.json.specs.Token.{Token, string, key, end_array, end_object}
+use Rattle.json.specs.Token.{Token, string, key, end_array}
 use Rattle.json.specs.Json.{string as string_json}
 use Rattle.json.specs.Tree.{json_tokens, items_tokens, members_tokens}
 use Rattle.link_base.specs.declared.rows.label.Name.{Name}
@@ -69,9 +69,6 @@ numbers_left a n i p = items_tokens (items_of (map (item_json a) (numbers_at (si
 pub number_more : (a : ArrayOf) (n i : ℕ) (p : List ℕ) → i < n → numbers_left a n i p ≡ json_tokens (item_json a (number_at (size_in a) (i * size_in a) p)) ++ numbers_left a n (i + 1) p
 number_more a n i p h = ap (λ ns. items_tokens (items_of (map (item_json a) ns))) (numbers_more (size_in a) n i _ p h refl)
 
-pub numbers_done : (a : ArrayOf) (n i : ℕ) (p : List ℕ) → n ≤ i → numbers_left a n i p ≡ end_array ∷ []
-numbers_done a n i p h = let none : n - i ≡ 0 = omega (arith, h) in ap (λ m. items_tokens (items_of (map (item_json a) (numbers_at (size_in a) m (i * size_in a) p)))) none
-
 -- ---- arrays whose places have names
 
 -- the tokens of the members that are left
@@ -84,8 +81,3 @@ place_tokens names a i p = key (place_key i (name_in names i)) ∷ json_tokens (
 
 pub place_more : (names : List (ℕ × List ℕ)) (a : ArrayOf) (n i : ℕ) (p : List ℕ) → i < n → places_left names a n i p ≡ place_tokens names a i p ++ places_left names a n (i + 1) p
 place_more names a n i p h = ap (λ ns. members_tokens (members_of (places_json names a i ns))) (numbers_more (size_in a) n i _ p h refl)
-
-pub places_done : (names : List (ℕ × List ℕ)) (a : ArrayOf) (n i : ℕ) (p : List ℕ) → n ≤ i → places_left names a n i p ≡ end_object ∷ []
-places_done names a n i p h =
-    let none : n - i ≡ 0 = omega (arith, h) in
-    ap (λ m. members_tokens (members_of (places_json names a i (numbers_at (size_in a) m (i * size_in a) p)))) none

@@ -33,8 +33,8 @@ use Rattle.link_show.proofs.HeldPrinting.{family_has_texts}
 use Rattle.link_show.proofs.Listing.{all_any, each_hold}
 use Rattle.link_show.proofs.ValuePrinting.{IsLabelText, label_is_text, elements_text}
 use Rattle.link_json.specs.Doc.{array_of, error_json}
-use Rattle.link_json.specs.Value.{enum_json, number_or_address, content_json, unit_of, labelled_json, unnamed_json}
-use Rattle.link_json.specs.List.{ShowsAddresses, ShowsFlat, ShowsPlain, shows_leaf, ShowsHolder, Shower, ShowsSingle, ShowsInner, ShowsInners, ShowsKnown, ShowsItem, Decodes, Fails, shows_none, ShowsSet, ShowsList, holder_json, state_json, if_sized, fault_json, end_json}
+use Rattle.link_json.specs.Value.{number_or_address, content_json, unit_of, labelled_json, unnamed_json}
+use Rattle.link_json.specs.List.{ShowsAddresses, ShowsFlat, ShowsPlain, shows_leaf, ShowsHolder, Shower, ShowsSingle, ShowsInner, ShowsInners, ShowsKnown, ShowsItem, Decodes, Fails, shows_none, ShowsSet, ShowsList, state_json, if_sized, fault_json, end_json}
 use Rattle.link_json.proofs.Keys.{are_distinct}
 use Rattle.link_json.proofs.PlaceKeys.{IsKeyed, keyed, family_has_keys, elements_have_keys, numbers_few}
 use Rattle.link_json.proofs.Sound.{IsSound, EachSound, above, no_fields, field_sound, object_sound, no_items, item_sound, one_sound, each_both, array_sound, deeper_sound, string_sound, boolean_sound, number_sound, signed_sound, opaque_sound, text_sound, named_sound, flags_sound, array_of_numbers, object_of_fields, struct_sound, limits_sound, element_sound, raw_sound, error_sound, role_sound}
@@ -134,13 +134,8 @@ module _ {K : Type 0} {d : ℕ} where
 -- ---- attributes that hold lists
 
 module _ {K : Type 0} {d : ℕ} where
-  holder_sound : (label : Option Label) (value : Json) → IsSound K d value → IsSound K (suc d) (holder_json label value)
-  holder_sound None value h = element_sound _ value None (string_sound _) h
-  holder_sound (Some label) value h = labelled_sound label value h
-
-module _ {K : Type 0} {d : ℕ} where
   held_sound : (label : Option Label) (shows : List Json → Bool → Type 0) (j : Json) (well : Bool) → ((js : List Json) → shows js well → EachSound K d js) → ShowsHolder label shows j well → IsSound K (above 2 d) j
-  held_sound label shows j well each (js, shown, e) = subst (IsSound K (above 2 d)) (sym e) (holder_sound label (array_of js) (array_sound js (each js shown)))
+  held_sound label shows j well each (js, shown, e) = subst (IsSound K (above 2 d)) (sym e) (element_sound _ _ None (string_sound _) (array_sound js (each js shown)))
 
 -- what is shown for lists is sound
 abbrev AreShown : Type 0 → ℕ → Shower → Type 0

@@ -21,12 +21,13 @@ use Rattle.netlink_packet_route.specs.Family.{table_of}
 use Rattle.netlink_packet_route.specs.Opening.{holding_at, IsOpened}
 use Rattle.link_messages.specs.Walk.{Item, Walk}
 use Rattle.link_show.specs.Fault.{cause_words, fault_text}
-use Rattle.link_show.specs.Held.{Answers, IsContextIn, is_state, state_names, levels, context_of}
+use Rattle.link_messages.specs.Held.{Answers, IsContextIn, levels, context_of}
+use Rattle.link_show.specs.Held.{is_state, state_names}
 use Rattle.link_show.specs.List.{EachShown, ShowsEach, label_for, ip_text}
 use Rattle.link_show.specs.Printable.{IsText}
-use Rattle.link_json.specs.Doc.{Field, object_of, array_of, fields_tokens, each_tokens, element_json, error_json}
+use Rattle.link_json.specs.Doc.{object_of, array_of, each_tokens, element_json, error_json}
 use Rattle.link_json.specs.Names.{short_name}
-use Rattle.link_json.specs.Value.{content_json, enum_json, unit_of, unit_fields, labelled_json, unnamed_json}
+use Rattle.link_json.specs.Value.{content_json, enum_json, labelled_json, unnamed_json}
 
 -- ---- errors
 
@@ -77,13 +78,8 @@ abbrev pub holder_name : Option Label → List ℕ
 holder_name None = codes "protinfo"
 holder_name (Some label) = short_name label.prefix label.name
 
--- the members after its value
-abbrev pub holder_more : Option Label → List Field
-holder_more None = []
-holder_more (Some label) = unit_fields (unit_of label.quantity)
-
 abbrev pub holder_json : Option Label → Json → Json
-holder_json label value = element_json (string (holder_name label)) value (holder_more label)
+holder_json label value = element_json (string (holder_name label)) value []
 
 -- one whose list is shown so
 abbrev pub ShowsHolder : Option Label → (List Json → Bool → Type 0) → Json → Bool → Type 0
@@ -183,5 +179,5 @@ WritesOne shows old new = (j : Json) × shows j × (new ≡ old ++ json_tokens j
 abbrev pub holder_front : Option Label → List Token
 holder_front label = token.begin_object ∷ token.key (codes "name") ∷ token.string (holder_name label) ∷ token.key (codes "value") ∷ token.begin_array ∷ []
 
-abbrev pub holder_back : Option Label → List Token
-holder_back label = token.end_array ∷ (fields_tokens (holder_more label) ++ token.end_object ∷ [])
+abbrev pub holder_back : List Token
+holder_back = token.end_array ∷ token.end_object ∷ []

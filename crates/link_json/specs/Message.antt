@@ -1,14 +1,13 @@
 -- The JSON of messages: a document for each.
-use Rattle.std.specs.Prelude.{◌≡◌, ◌≢◌, ℕ, ℤ, ◌+◌, Bool, true, false, ◌||◌, is_some, List, [], ◌∷◌, ◌++◌, length, drop, Option, Some, None, Result, Ok, Err, codes, if◌then◌else◌}
+use Rattle.std.specs.Prelude.{◌≡◌, ◌≢◌, ℕ, ℤ, ◌+◌, Bool, true, false, not, ◌==◌, ◌||◌, List, [], ◌∷◌, ◌++◌, length, drop, Option, Some, Result, Ok, Err, codes}
 use Rattle.std.specs.List.{flat_map}
-use Rattle.std.specs.Option.{option_copied}
 use Rattle.std.specs.Io.KnownBytes.{Appends}
 use Rattle.json.specs.Token.{Token}
-use Rattle.json.specs.Json.{Json, null, boolean}
+use Rattle.json.specs.Json.{Json, boolean}
 use Rattle.json.specs.Print.{print}
 use Rattle.json.specs.Tree.{json_tokens}
+use Rattle.netlink_packet_route.specs.declared.family.Family.TheVariants as families
 use Rattle.link_messages.specs.declared.buffer_parts.Message.{Message}
-use Rattle.link_messages.specs.declared.buffer_parts.Payload.{Payload}
 use Rattle.link_messages.specs.declared.message.MessageError.{MessageError}
 use Rattle.link_messages.specs.declared.header.LinkHeader.{LinkHeader}
 use Rattle.link_messages.specs.declared.acknowledgement.Acknowledgement.{Acknowledgement}
@@ -16,12 +15,13 @@ use Rattle.link_messages.specs.Message.{IsMessageAt, header_fault, packet_of}
 use Rattle.link_messages.specs.Header.{IsAnyLinkType, HasLinkHeader, HasNoLinkHeader}
 use Rattle.link_messages.specs.Link.{attributes_of}
 use Rattle.link_messages.specs.Acknowledgement.{IsReplyType, IsAcknowledgement, IsNoAcknowledgement}
-use Rattle.link_show.specs.Message.{reason_text, offset_of, errno_name, has_result, is_sound, IsGeneral, AreZerosAfter, ShowsBuffer}
+use Rattle.link_show.specs.Message.{reason_text, offset_of, errno_name, has_result, IsGeneral, AreZerosAfter, ShowsBuffer}
 use Rattle.link_show.specs.MessageNames.{message_types, flags_of}
 use Rattle.link_json.specs.declared.messages.Failure.{Failure}
 use Rattle.link_json.specs.declared.messages.Failure.TheVariants.{Memory, Writer}
-use Rattle.link_json.specs.Doc.{Field, object_of, fields_tokens, number_json, signed_json, name_json, error_json}
-use Rattle.link_json.specs.Value.{text_json, opaque_json, enum_json, flags_json}
+use Rattle.link_json.specs.Doc.{Field, object_of, array_of, fields_tokens, number_json, signed_json, name_json, error_json}
+use Rattle.link_json.specs.List.{ShowsList}
+use Rattle.link_json.specs.Value.{enum_json, flags_json}
 use Rattle.link_json.specs.Link.{ShowsLink}
 
 -- ---- members
@@ -39,61 +39,34 @@ message_fields m =
     (codes "seq", number_json m.sequence) ∷
     (codes "pid", number_json m.port) ∷ []
 
-abbrev pub or_null : {A : Type 0} → (A → Json) → Option A → Json
-or_null json None = null
-or_null json (Some x) = json x
-
--- a member, if there is something
-abbrev pub if_some : {A : Type 0} → List ℕ → (A → Json) → Option A → List Field
-if_some name json None = []
-if_some name json (Some x) = (name, json x) ∷ []
-
 -- the error of a reply, with its sign, and the name of an errno
 abbrev pub errno_json : ℤ → Json
 errno_json e = object_of ((codes "number", signed_json e) ∷ (codes "name", name_json (errno_name e)) ∷ [])
 
-abbrev pub policy_json : Payload → Json
-policy_json p = opaque_json p.bytes.now
+-- what a reply says: its result, and its attributes
+abbrev pub reply_json : Acknowledgement → List Json → Json
+reply_json a js = object_of ((codes "errno", errno_json a.error) ∷ (codes "attrs", array_of js) ∷ [])
 
--- the members of a reply: those that it always has, and others
-abbrev pub usual_fields : Acknowledgement → List Field
-usual_fields a =
-    (codes "errno", errno_json a.error) ∷
-    (codes "message", or_null text_json (option_copied a.text)) ∷
-    (codes "offset", or_null number_json a.offset) ∷
-    (codes "missing_type", or_null number_json a.missing_type) ∷ []
+abbrev pub SaysReply : Acknowledgement → Json → Bool → Type 0
+SaysReply a j well = (js : List Json) × ShowsList 0 families.Reply a.list.at a.list.bytes.now js well × (j ≡ reply_json a js)
 
-abbrev pub further_fields : Acknowledgement → List Field
-further_fields a =
-    if_some (codes "missing_nest") number_json a.missing_nest
-    ++ (if_some (codes "policy") policy_json a.policy ++ if_some (codes "cookie") opaque_json (option_copied a.cookie))
-
--- a reply
-abbrev pub reply_json : Acknowledgement → Json
-reply_json a = object_of (usual_fields a ++ further_fields a)
-
--- whether a reply has one of its attributes
-abbrev pub has_attributes : Acknowledgement → Bool
-has_attributes a = is_some a.text || is_some a.offset || is_some a.missing_type || is_some a.missing_nest || is_some a.policy || is_some a.cookie
-
--- an NLMSG_DONE says something if the dump failed, if it has attributes, or if a header among them is malformed
+-- an NLMSG_DONE says something if the dump failed, or if its list is not empty
 abbrev pub says_something : Acknowledgement → Bool
-says_something a = has_result a || has_attributes a || is_some a.fault
+says_something a = has_result a || not (length a.list.bytes.now == 0)
 
--- the error of a header among the attributes of a reply
-abbrev pub fault_fields : Option MessageError → List Field
-fault_fields None = []
-fault_fields (Some error) = message_error error ∷ []
+-- the member for what it says, if it says something
+abbrev pub shows_said : Bool → Acknowledgement → List Field → Bool → Type 0
+shows_said true a fields well = (j : Json) × SaysReply a j well × (fields ≡ (codes "reply", j) ∷ [])
+shows_said false a fields well = (fields ≡ []) × (well ≡ true)
 
--- the members for a reply
-abbrev pub reply_fields : Acknowledgement → List Field
-reply_fields a = if says_something a then fault_fields a.fault ++ (codes "reply", reply_json a) ∷ [] else []
+abbrev pub ShowsReply : Acknowledgement → List Field → Bool → Type 0
+ShowsReply a = shows_said (says_something a) a
 
 -- what a message is, besides its header, and whether it has no error
 pub data ShowsBody (m : Message) (fields : List Field) (well : Bool) : Type 0 where
   Link : (h : LinkHeader) → ¬ IsGeneral m → HasLinkHeader (packet_of m) h → (link : Json) → ShowsLink h (attributes_of m.at (packet_of m)) link well
       → fields ≡ (codes "link", link) ∷ [] → ShowsBody m fields well
-  Reply : (a : Acknowledgement) → IsAcknowledgement m.at (packet_of m) a → fields ≡ reply_fields a → well ≡ is_sound a.fault → ShowsBody m fields well
+  Reply : (a : Acknowledgement) → IsAcknowledgement m.at (packet_of m) a → ShowsReply a fields well → ShowsBody m fields well
   General : IsGeneral m → fields ≡ [] → well ≡ true → ShowsBody m fields well
   NoLink : (error : MessageError) → IsAnyLinkType m.kind → ¬ IsGeneral m → HasNoLinkHeader m.at (packet_of m) error → fields ≡ message_error error ∷ [] → well ≡ false → ShowsBody m fields well
   NoReply : (error : MessageError) → IsReplyType m.kind → IsNoAcknowledgement m.at (packet_of m) error → fields ≡ message_error error ∷ [] → well ≡ false → ShowsBody m fields well

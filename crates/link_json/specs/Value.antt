@@ -7,7 +7,6 @@ use Rattle.std.specs.Net.Addr.{ipv4_octets}
 use Rattle.std.specs.Net.Text.{ipv4_text}
 use Rattle.hex.specs.Hex.{encode_lower}
 use Rattle.json.specs.Json.{Json, boolean, string}
-use Rattle.link_base.specs.declared.wire.buffer.NlaBuffer.{NlaBuffer}
 use Rattle.link_base.specs.declared.views.content.Content.{Content}
 use Rattle.link_base.specs.declared.views.content.Content.TheVariants as contents
 use Rattle.link_base.specs.declared.rows.form.ArrayOf.{ArrayOf}
@@ -26,7 +25,6 @@ use Rattle.link_base.specs.Fields.{FieldRow, names_for}
 use Rattle.link_base.specs.Orders.{number_by}
 use Rattle.link_base.specs.Class.{is_on}
 use Rattle.link_base.specs.Frame.{kind_of}
-use Rattle.link_base.specs.Buffer.{kind_field_of, payload_of}
 use Rattle.link_base.specs.Forms.{size_in}
 use Rattle.link_base.specs.Payloads.{limit_fields}
 use Rattle.link_base.specs.IpAddress.{sixteen_octets}

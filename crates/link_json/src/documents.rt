@@ -8,8 +8,7 @@ ghost use Rattle.link_messages.specs.Acknowledgement.{IsReplyType};
 ghost use Rattle.link_messages.specs.Header.{IsAnyLinkType};
 ghost use Rattle.link_json.specs.Doc.{fields_tokens};
 ghost use Rattle.link_json.specs.Message.{ShowsDocument, ShowsBody, WritesFields, message_error, message_fields, whole_document};
-ghost use Rattle.link_show.specs.Fault.{cause_words};
-ghost use Rattle.link_json.specs.List.{WritesValue, fault_json};
+ghost use Rattle.link_json.specs.List.{WritesValue};
 
 use crate::links::write_link;
 use crate::numbers::{write_enum, write_flags};
@@ -17,7 +16,6 @@ use crate::parts::write_number_field;
 use crate::place::Place;
 use crate::replies::write_reply;
 use crate::sheet::Sheet;
-use link_base::Cause;
 use link_messages::message_types::{
     NLMSG_DONE, NLMSG_ERROR, RTM_DELLINK, RTM_GETLINK, RTM_NEWLINK, RTM_SETLINK,
 };
@@ -127,10 +125,7 @@ fn write_acknowledgement(sheet: &mut Sheet, message: &Message<'_>) -> Result<boo
     ensures { IfOk result (WritesFields (ShowsBody message.now) sheet.old sheet.new) }
 {
     match read_acknowledgement(message) {
-        Ok(reply) => {
-            write_reply(sheet, &reply)?;
-            Ok(reply.fault.is_none())
-        }
+        Ok(reply) => write_reply(sheet, &reply),
         Err(error) => {
             write_message_error(sheet, error)?;
             Ok(false)
@@ -147,18 +142,5 @@ pub(crate) fn write_message_error(sheet: &mut Sheet, error: MessageError) -> Res
     write_number_field(sheet, "at", offset_of(error) as u64)?;
     sheet.key("text")?;
     sheet.reason(error)?;
-    sheet.end_object()
-}
-
-/// Writes the element for a malformed header at an offset.
-pub(crate) fn write_frame_fault(
-    sheet: &mut Sheet,
-    at: usize,
-    cause: Cause,
-) -> Result<(), AllocError>
-    ensures { OnOk result (sheet.new ≡ sheet.old ++ json_tokens (fault_json at (cause_words false cause))) }
-{
-    sheet.begin_object()?;
-    write_message_error(sheet, MessageError::Frame { at, cause })?;
     sheet.end_object()
 }

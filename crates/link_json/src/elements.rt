@@ -6,8 +6,8 @@ ghost use Rattle.json.specs.Tree.{json_tokens};
 ghost use Rattle.link_base.specs.Buffer.{payload_of};
 ghost use Rattle.link_base.specs.Labels.{label_in, label_of};
 ghost use Rattle.link_show.specs.Printable.{IsText};
-ghost use Rattle.link_json.specs.Doc.{each_tokens, fields_tokens};
-ghost use Rattle.link_json.specs.List.{ShowsFlat, ShowsPlain, HasText, holder_name, holder_more, holder_front, holder_back, shows_leaf, state_json, if_sized};
+ghost use Rattle.link_json.specs.Doc.{each_tokens};
+ghost use Rattle.link_json.specs.List.{ShowsFlat, ShowsPlain, HasText, holder_name, holder_front, holder_back, shows_leaf, state_json, if_sized};
 ghost use Rattle.link_json.specs.List.{WritesOne, WritesAddresses};
 
 use crate::numbers::write_enum;
@@ -32,11 +32,10 @@ pub(crate) fn begin_holder(sheet: &mut Sheet, label: &Option<KindLabel>) -> Resu
 }
 
 /// Ends an attribute that holds a list.
-pub(crate) fn end_holder(sheet: &mut Sheet, label: &Option<KindLabel>) -> Result<(), AllocError>
-    ensures { OnOk result (sheet.new ≡ sheet.old ++ holder_back (label_in label.now)) }
+pub(crate) fn end_holder(sheet: &mut Sheet) -> Result<(), AllocError>
+    ensures { OnOk result (sheet.new ≡ sheet.old ++ holder_back) }
 {
     sheet.end_array()?;
-    write_holder_unit(sheet, label)?;
     sheet.end_object()
 }
 
@@ -48,16 +47,6 @@ fn write_holder_name(sheet: &mut Sheet, label: &Option<KindLabel>) -> Result<(),
     match label {
         Some(label) => sheet.short_name(label.prefix, label.name),
         None => sheet.string("protinfo"),
-    }
-}
-
-/// Writes the member with the unit of an attribute that holds a list, if its type has one.
-fn write_holder_unit(sheet: &mut Sheet, label: &Option<KindLabel>) -> Result<(), AllocError>
-    ensures { OnOk result (sheet.new ≡ sheet.old ++ fields_tokens (holder_more (label_in label.now))) }
-{
-    match label {
-        Some(label) => write_unit(sheet, label.quantity),
-        None => Ok(()),
     }
 }
 

@@ -19,8 +19,8 @@ use link_base::views::content::{Content, Known};
 use link_base::views::view::{Value, View};
 use link_base::views::view_all::ViewAll;
 use link_base::{DecodeFault, NlaBuffer};
-use link_messages::Payload;
-use link_show::{MOST_LEVELS, is_state, opened_at};
+use link_messages::{MOST_LEVELS, Payload, opened_at};
+use link_show::is_state;
 use netlink_packet_route::{Context, Family, FamilyElements, FamilySet};
 use std::alloc::AllocError;
 
@@ -101,7 +101,7 @@ fn write_decoded(
             };
             let elements = View::of_checked(list, nest);
             let well = write_inners(sheet, depth, context, elements, at + 4)?;
-            end_holder(sheet, &known.label)?;
+            end_holder(sheet)?;
             Ok(well)
         }
         _ => write_single(sheet, depth, context, set.family, None, &known, buffer, at),
@@ -171,7 +171,7 @@ fn write_single(
             begin_holder(sheet, &known.label)?;
             let held = Payload { at: at + 4, bytes };
             let well = write_list(sheet, depth - 1, context, set, held)?;
-            end_holder(sheet, &known.label)?;
+            end_holder(sheet)?;
             Ok(well)
         }
         None => {

@@ -1,7 +1,7 @@
 //! Parts of documents: numbers with names, and members.
 
-ghost use Rattle.std.specs.Prelude.{◌≡◌, ◌++◌, ◌∷◌, [], OnOk, option_map, codes};
-ghost use Rattle.json.specs.Token.{begin_object, begin_array, key};
+ghost use Rattle.std.specs.Prelude.{◌≡◌, ◌++◌, ◌∷◌, [], OnOk, option_map};
+ghost use Rattle.json.specs.Token.{begin_object, key};
 ghost use Rattle.json.specs.Tree.{json_tokens};
 ghost use Rattle.link_json.specs.Doc.{name_json, named_json, number_json, fields_tokens};
 

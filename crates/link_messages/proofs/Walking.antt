@@ -4,7 +4,7 @@ use Rattle.std.specs.Prelude.{nat_eq}
 use Rattle.std.specs.Option.{option_map}
 use Rattle.std.specs.List.{filter, last_or}
 use Rattle.std.proofs.lemmas.Bool.{eqb-true, eqb-false}
-use Rattle.std.proofs.lemmas.List.{append-nil, length-append, length-drop, length-map, nil_from_length}
+use Rattle.std.proofs.lemmas.List.{append-nil, length-append, length-drop, nil_from_length}
 use Rattle.std.proofs.lemmas.List.Elements.{filter-append}
 use Rattle.link_base.specs.declared.wire.buffer.NlaBuffer.{NlaBuffer}
 use Rattle.link_base.specs.declared.wire.fault.Cause.{Cause}
@@ -13,7 +13,8 @@ use Rattle.link_base.specs.Buffer.{SplitsFirst, kind_field_of, payload_of, frame
 use Rattle.link_base.proofs.Cuts.{SameFront-frames}
 use Rattle.link_base.proofs.FrameBytes.{frame_fault-frame}
 use Rattle.link_messages.specs.Walk.{Item, Walks, IsEnd, Walk}
-use Rattle.link_messages.specs.BeforeFault.{OfWalk, Seen, seen_of, Typed, last_item, typed_at, latest, latest_typed}
+use Rattle.link_messages.specs.Finding.{Stretch}
+use Rattle.link_messages.specs.BeforeFault.{OfWalk, Seen, seen_of, last_item, payload_at, latest}
 
 -- ---- one attribute more
 
@@ -93,30 +94,26 @@ last-view f p o (x ∷ xs) =
       | false ↦ last-view f p o xs
     ]
 
-typed_seen : ℕ → Seen → Typed
-typed_seen base x = (x.1, (base + x.0 + 4, x.2))
+placed_seen : ℕ → Seen → Stretch
+placed_seen base x = (base + x.0 + 4, x.2)
 
-latest_of : ℕ → ℕ → List Seen → Option Typed
-latest_of base kind xs = option_map (typed_seen base) (last_or None (filter (λ x. nat_eq (kind_of x.1) kind) xs))
+latest_of : ℕ → ℕ → List Seen → Option Stretch
+latest_of base kind xs = option_map (placed_seen base) (last_or None (filter (λ x. nat_eq (kind_of x.1) kind) xs))
 
-latest-seen : (base kind : ℕ) (items : List Item) → latest_typed base kind items ≡ latest_of base kind (map seen_of items)
-unfolding latest_of typed_seen
+latest-seen : (base kind : ℕ) (items : List Item) → latest base kind items ≡ latest_of base kind (map seen_of items)
+unfolding latest_of placed_seen
 latest-seen base kind items =
-    map_twice seen_of (typed_seen base) (last_item kind items) ∙ ap (option_map (typed_seen base)) (last-view seen_of (λ x. nat_eq (kind_of x.1) kind) None items)
+    map_twice seen_of (placed_seen base) (last_item kind items) ∙ ap (option_map (placed_seen base)) (last-view seen_of (λ x. nat_eq (kind_of x.1) kind) None items)
 
 -- it depends only on what is seen of attributes
-pub latest_same : (base kind : ℕ) (xs ys : List Item) → map seen_of xs ≡ map seen_of ys → latest_typed base kind xs ≡ latest_typed base kind ys
+pub latest_same : (base kind : ℕ) (xs ys : List Item) → map seen_of xs ≡ map seen_of ys → latest base kind xs ≡ latest base kind ys
 latest_same base kind xs ys e = latest-seen base kind xs ∙ ap (latest_of base kind) e ∙ sym (latest-seen base kind ys)
 
-pub latest_more : (base kind i : ℕ) (b : NlaBuffer) (found more : Option Typed) (items : List Item) → more ≡ cond (nat_eq (kind_of (kind_field_of b)) kind) (Some (kind_field_of b, (base + i + 4, payload_of b))) found
-    → found ≡ latest_typed base kind items → more ≡ latest_typed base kind (items ++ (i, b) ∷ [])
+pub latest_more : (base kind i : ℕ) (b : NlaBuffer) (found more : Option Stretch) (items : List Item) → more ≡ cond (nat_eq (kind_of (kind_field_of b)) kind) (Some (base + i + 4, payload_of b)) found
+    → found ≡ latest base kind items → more ≡ latest base kind (items ++ (i, b) ∷ [])
 latest_more base kind i b found more items e h =
     let is_of = nat_eq (kind_of (kind_field_of b)) kind in
-    e ∙ ap (cond is_of (Some (typed_at base (i, b)))) h ∙ sym (map_when (typed_at base) is_of (i, b) (last_item kind items)) ∙ ap (option_map (typed_at base)) (sym (last_item-push kind items (i, b)))
-
--- the payload without its `nla_type`
-pub latest-typed : (base kind : ℕ) (items : List Item) → latest base kind items ≡ option_map (λ x. x.1) (latest_typed base kind items)
-latest-typed base kind items = map_twice (typed_at base) (λ x. x.1) (last_item kind items)
+    e ∙ ap (cond is_of (Some (payload_at base (i, b)))) h ∙ sym (map_when (payload_at base) is_of (i, b) (last_item kind items)) ∙ ap (option_map (payload_at base)) (sym (last_item-push kind items (i, b)))
 
 -- ---- a loop over the attributes
 
@@ -167,7 +164,3 @@ pub reached_all : {A : Type 0} (of : List Item → A) (list rest : List ℕ) (va
 reached_all of list rest value fault seen r end = λ items stop walk.
     let same = walk_unique list r.items items fault stop (record { rest = rest; walks = r.walks; end = end }) walk in
     (r.is ∙ seen r.items items same.0, same.1)
-
--- so does the number of attributes
-pub count_same : (xs ys : List Item) → map seen_of xs ≡ map seen_of ys → length xs ≡ length ys
-count_same xs ys e = sym (length-map xs seen_of) ∙ ap length e ∙ length-map ys seen_of

@@ -1,8 +1,6 @@
 -- The kernel's replies to requests: NLMSG_ERROR and NLMSG_DONE (`include/uapi/linux/netlink.h`).
-use Rattle.std.specs.Prelude.{◌≡◌, ◌⊎◌, ℕ, ℤ, pos, ◌+◌, ◌<◌, ◌≤◌, ◌==◌, Bool, true, false, List, length, take, drop, min, max, Option, nat_lt, if◌then◌else◌}
+use Rattle.std.specs.Prelude.{◌≡◌, ◌⊎◌, ℕ, ℤ, pos, ◌+◌, ◌<◌, ◌≤◌, ◌==◌, Bool, true, false, List, length, take, drop, min, max, nat_lt, if◌then◌else◌}
 use Rattle.std.specs.Int.RustNames.{bit_and}
-use Rattle.std.specs.Option.{option_map, option_copied}
-use Rattle.link_base.specs.declared.wire.fault.Cause.{Cause}
 use Rattle.netlink_packet_route.specs.Class.{integer}
 use Rattle.netlink_packet_route.specs.Frame.{pad}
 use Rattle.netlink_packet_route.specs.Number.{number}
@@ -11,8 +9,6 @@ use Rattle.link_messages.specs.declared.message.MessageError.{MessageError}
 use Rattle.link_messages.specs.declared.message.MessageError.TheVariants as errors
 use Rattle.link_messages.specs.Message.{Packet}
 use Rattle.link_messages.specs.Finding.{Stretch, stretch_of}
-use Rattle.link_messages.specs.Walk.{Item, Walk}
-use Rattle.link_messages.specs.BeforeFault.{latest, name_in, number_in, error_at}
 
 -- the types of replies: NLMSG_ERROR, and NLMSG_DONE, which ends a dump
 abbrev pub IsReplyType : ℕ → Type 0
@@ -47,25 +43,11 @@ attributes_of at m = let start = attributes_start m.kind m.flags m.payload in (a
 
 -- ---- what it says
 
--- the attributes of this list, NLMSGERR_ATTR_..
-pub record SaysAttributes (list : Stretch) (said : Acknowledgement) : Type 0 where
-  pub items : List Item
-  pub stop : Option (ℕ × Cause)
-  pub walk : Walk list.1 items stop
-  -- MSG, OFFS, MISS_TYPE, MISS_NEST, POLICY and COOKIE
-  pub text : option_copied said.text ≡ name_in (latest list.0 1 items)
-  pub offset : said.offset ≡ number_in 4 (latest list.0 2 items)
-  pub missing_type : said.missing_type ≡ number_in 4 (latest list.0 5 items)
-  pub missing_nest : said.missing_nest ≡ number_in 4 (latest list.0 6 items)
-  pub policy : option_map stretch_of said.policy ≡ latest list.0 4 items
-  pub cookie : option_copied said.cookie ≡ option_map (λ p. p.1) (latest list.0 3 items)
-  pub fault : said.fault ≡ error_at list.0 stop
-
--- the message m at offset `at` is this reply, and its attributes say this
+-- the message m at offset `at` is this reply
 pub record IsAcknowledgement (at : ℕ) (m : Packet) (said : Acknowledgement) : Type 0 where
   pub kind : IsReply said.is_done m
   pub error : said.error ≡ result_in m.payload
-  pub says : SaysAttributes (attributes_of at m) said
+  pub list : stretch_of said.list ≡ attributes_of at m
 
 -- why the message m at offset `at` is no reply
 abbrev pub IsNoAcknowledgement : ℕ → Packet → MessageError → Type 0

@@ -8,7 +8,7 @@ use Rattle.link_messages.specs.declared.message.MessageError.TheVariants as erro
 use Rattle.link_messages.specs.Message.{Packet}
 use Rattle.link_messages.specs.Link.{IsLinkType}
 
--- a type that `read_link` accepts, or RTM_GETLINK
+-- one of these, or RTM_GETLINK
 abbrev pub IsAnyLinkType : ℕ → Type 0
 IsAnyLinkType kind = IsLinkType kind ⊎ (kind ≡ 18)
 

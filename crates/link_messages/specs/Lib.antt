@@ -4,8 +4,7 @@ pub mod Walk
 pub mod Link
 pub mod Header
 pub mod BeforeFault
-pub mod Info
-pub mod Details
-pub mod Dump
 pub mod Acknowledgement
+pub mod Held
+pub mod Lists
 pub mod Same

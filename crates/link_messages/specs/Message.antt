@@ -3,7 +3,6 @@ use Rattle.std.specs.Prelude.{◌≡◌, ◌≢◌, ◌⊎◌, ℕ, ◌+◌, ◌
 use Rattle.std.specs.Fmt.{decimal}
 use Rattle.netlink_packet_route.specs.Number.{number, bytes_of}
 use Rattle.netlink_packet_route.specs.Frame.{pad}
-use Rattle.netlink_packet_route.specs.Texts.{cause_text}
 use Rattle.link_messages.specs.declared.buffer_parts.Message.{Message}
 use Rattle.link_messages.specs.declared.message.MessageError.{MessageError}
 use Rattle.link_messages.specs.declared.message.MessageError.TheVariants as errors
@@ -57,7 +56,6 @@ error_text (errors.Overrun at stated left) = codes "overrun at " ++ (decimal at 
 error_text (errors.OtherType at kind) = codes "other type at " ++ (decimal at ++ (codes ": " ++ decimal kind))
 error_text (errors.ShortLink at size) = codes "short link at " ++ (decimal at ++ (codes ": " ++ (decimal size ++ codes " bytes")))
 error_text (errors.ShortError at size) = codes "short error at " ++ (decimal at ++ (codes ": " ++ (decimal size ++ codes " bytes")))
-error_text (errors.Frame at cause) = codes "bad attribute at " ++ (decimal at ++ (codes ": " ++ cause_text cause))
 
 -- ---- one step
 

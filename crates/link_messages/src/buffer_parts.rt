@@ -2,6 +2,8 @@
 
 ghost use Rattle.std.specs.Prelude.{◌+◌, ◌<◌, ◌^◌, length};
 
+use netlink_packet_route::Family;
+
 /// A netlink message: the fields of its `struct nlmsghdr` (`include/uapi/linux/netlink.h`), its payload, and its
 /// offset.
 #[derive(Clone, Copy, Debug, PartialEq, Eq)]
@@ -31,4 +33,12 @@ pub struct Payload<'a> {
     /// The bytes. They are borrowed from the buffer.
     pub bytes: &'a [u8],
     ghost within: { at + length bytes.now < 2 ^ 64 },
+}
+
+/// An attribute list, and the `Family` that parses it.
+#[derive(Clone, Copy, Debug, PartialEq, Eq)]
+pub struct Part<'a> {
+    pub family: Family,
+    /// The list.
+    pub payload: Payload<'a>,
 }

@@ -1,15 +1,15 @@
 //! The header of a message about a link.
 
-ghost use Rattle.std.specs.Prelude.{◌≡◌, ◌≤◌, ◌↔◌, length, IsTrue, MatchResult};
+ghost use Rattle.std.specs.Prelude.{◌≡◌, ◌≤◌, ◌↔◌, length, take, drop, IsTrue, MatchResult};
+ghost use Rattle.netlink_packet_route.specs.Class.{integer};
 ghost use Rattle.link_messages.specs.Message.{packet_of};
 ghost use Rattle.link_messages.specs.Finding.{stretch_of};
-ghost use Rattle.link_messages.specs.Link.{attributes_of};
+ghost use Rattle.link_messages.specs.Link.{IsLinkType, attributes_of};
 ghost use Rattle.link_messages.specs.Header.{IsAnyLinkType, IsLinkHeader, HasLinkHeader, HasNoLinkHeader};
 
 use crate::buffer_parts::{Message, Payload};
-use crate::link::{index_of, is_link_type};
 use crate::message::MessageError;
-use crate::message_types::RTM_GETLINK;
+use crate::message_types::{RTM_DELLINK, RTM_GETLINK, RTM_NEWLINK, RTM_SETLINK};
 use link_base::{u16_at, u32_at};
 
 /// The fields of a `struct ifinfomsg` (`include/uapi/linux/rtnetlink.h`).
@@ -61,6 +61,13 @@ fn is_any_link_type(kind: u16) -> bool
     is_link_type(kind) || kind == RTM_GETLINK
 }
 
+/// Checks whether messages of type `kind` are about links, and no requests for links.
+fn is_link_type(kind: u16) -> bool
+    ensures { IsTrue result ↔ IsLinkType kind }
+{
+    kind == RTM_NEWLINK || kind == RTM_DELLINK || kind == RTM_SETLINK
+}
+
 /// Parses the `struct ifinfomsg` with which `body` starts.
 fn header_of(body: &[u8]) -> LinkHeader
     requires { 16 ≤ length body.now }
@@ -73,4 +80,12 @@ fn header_of(body: &[u8]) -> LinkHeader
         flags: u32_at(body, 8),
         change: u32_at(body, 12),
     }
+}
+
+/// Returns `ifi_index`. `body` starts with a `struct ifinfomsg`.
+fn index_of(body: &[u8]) -> i32
+    requires { 16 ≤ length body.now }
+    ensures { result ≡ integer (take 4 (drop 4 body.now)) }
+{
+    i32::from_le_bytes([body[4], body[5], body[6], body[7]])
 }

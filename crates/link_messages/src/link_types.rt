@@ -29,15 +29,3 @@ pub const IFLA_LINKINFO: u16 = 18;
 
 /// The VLANs of a bridge or a bridge port, in AF_BRIDGE messages.
 pub const IFLA_AF_SPEC: u16 = 26;
-
-/// In an `IFLA_LINKINFO`: the kind.
-pub const IFLA_INFO_KIND: u16 = 1;
-
-/// In an `IFLA_LINKINFO`: the data of this kind.
-pub const IFLA_INFO_DATA: u16 = 2;
-
-/// In an `IFLA_LINKINFO`: the kind of the device whose port the link is.
-pub const IFLA_INFO_SLAVE_KIND: u16 = 4;
-
-/// In an `IFLA_LINKINFO`: the data of such a port.
-pub const IFLA_INFO_SLAVE_DATA: u16 = 5;

@@ -6,7 +6,7 @@ ghost use Rattle.link_messages.specs.Message.{IsMessageAt, NextOfAny, NextMessag
 use crate::buffer_parts::Message;
 use crate::message_types::NLMSG_DONE;
 use link_base::{u16_at, u32_at};
-use netlink_packet_route::link::{Cause, padded};
+use netlink_packet_route::link::padded;
 use std::error::Error;
 use std::fmt;
 
@@ -19,15 +19,13 @@ pub enum MessageError {
     SmallLength { at: usize, length: u32 },
     /// `nlmsg_len` is greater than `left`, the number of bytes left.
     Overrun { at: usize, length: u32, left: usize },
-    /// The message has another type than the function parses. `read_link` parses RTM_NEWLINK, RTM_DELLINK and
+    /// The message has another type than the function parses. `link_header` parses RTM_NEWLINK, RTM_DELLINK, RTM_GETLINK and
     /// RTM_SETLINK, `read_acknowledgement` NLMSG_ERROR and NLMSG_DONE.
     OtherType { at: usize, kind: u16 },
     /// A message about a link has `length` bytes: fewer than the 32 of `struct nlmsghdr` and `struct ifinfomsg`.
     ShortLink { at: usize, length: usize },
     /// An NLMSG_ERROR has `length` bytes: fewer than the 36 of `struct nlmsghdr` and `struct nlmsgerr`.
     ShortError { at: usize, length: usize },
-    /// The bytes at this offset are not an attribute; they are in the message's list or in that of its `IFLA_LINKINFO`.
-    Frame { at: usize, cause: Cause },
 }
 
 impl fmt::Display for MessageError {
@@ -49,7 +47,6 @@ impl fmt::Display for MessageError {
             MessageError::ShortError { at, length } => {
                 write!(f, "short error at {at}: {length} bytes")
             }
-            MessageError::Frame { at, cause } => write!(f, "bad attribute at {at}: {cause}"),
         }
     }
 }

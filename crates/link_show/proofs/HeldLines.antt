@@ -1,5 +1,5 @@
 -- The lines of lists whose attributes hold lists of other sets, from what was written for their parts.
-use Rattle.std.proofs.Common.{◌≡◌, ◌≢◌, ℕ, zero, suc, ◌+◌, ◌-◌, ◌<◌, Bool, true, false, not, ◌&&◌, List, [], ◌∷◌, ◌++◌, length, Option, Some, None, Result, Ok, Err, refl, sym, ap, subst, ◌∙◌, eqb-true, arith, Bor, inl, inr}
+use Rattle.std.proofs.Common.{◌≡◌, ◌≢◌, ℕ, zero, suc, ◌+◌, ◌-◌, ◌<◌, Bool, true, false, not, ◌&&◌, List, [], ◌++◌, length, Option, Some, None, Result, Ok, Err, refl, sym, ap, subst, ◌∙◌, eqb-true, arith, Bor}
 use Rattle.std.specs.Prelude.{IsTrue, IfOk, ◌==◌}
 use Rattle.std.proofs.lemmas.Bool.{and_parts}
 use Rattle.std.proofs.lemmas.List.{append-nil}
@@ -18,14 +18,14 @@ use Rattle.netlink_packet_route.specs.declared.family.Family.TheVariants.{Link}
 use Rattle.netlink_packet_route.specs.declared.opening.Context.{Context}
 use Rattle.netlink_packet_route.specs.Family.{table_of}
 use Rattle.netlink_packet_route.specs.Opening.{holding_at, IsOpened}
-use Rattle.link_messages.proofs.Walking.{split_short}
 use Rattle.link_show.specs.declared.line_options.LineOptions.{LineOptions}
 use Rattle.link_show.specs.Sink.{Output, Gains}
 use Rattle.link_show.specs.Gained.{gains_more}
 use Rattle.link_show.specs.Indents.{deeper}
 use Rattle.link_show.specs.Fault.{fault_text}
 use Rattle.link_show.specs.List.{indented, error_line, label_for, Writes, end_line, ShowsEach, ShowsVerdict, Unasked}
-use Rattle.link_show.specs.Held.{is_state, Shower, is_selected, Answers, title_text, ShowsBelow, ShowsSingle, ShowsInner, IsContextIn, ShowsInners, ShowsKnown, ShowsDecoded, is_left_out, shows_unless, ShowsAny, Decodes, Fails, ShowsJudged, judged_by, ShowsSet, shows_in}
+use Rattle.link_messages.specs.Held.{Answers}
+use Rattle.link_show.specs.Held.{is_state, Shower, is_selected, title_text, ShowsBelow, ShowsSingle, ShowsInner, ShowsInners, ShowsKnown, ShowsDecoded, is_left_out, shows_unless, ShowsAny, Decodes, Fails, ShowsJudged, judged_by, ShowsSet, shows_in}
 use Rattle.link_show.proofs.Listing.{and_true, ListTo, ShownTo, LeadTo, lead_on, list_more, list_fault, list_done, shown_more}
 
 -- ---- an attribute that is no nested list
@@ -40,12 +40,12 @@ level_less o (suc n) context indent at family list out well h s =
 
 -- its list is opened
 pub opened_written : {E : Type 0} (r : Result Bool E) (o : LineOptions) (n : ℕ) (context : Context) (family : Family) (k : Option ℕ) (indent : List ℕ) (at : ℕ) (label : Option Label) (b : NlaBuffer) (content : Content) (set : Family)
-    (selected : Bool) (f : ℕ) (list : List ℕ) (old mid new : Output) → Answers n (IsOpened (holding_at context family k f)) content (Some set) → 0 < n → selected ≡ is_selected family set → f ≡ kind_field_of b → list ≡ payload_of b
-    → Gains old mid (indented indent (title_text label selected (Some set) list)) → IfOk r (Writes (judged_by o (ShowsSet o (n - 1)) context (deeper indent) (at + 4) set list) mid new)
+    (selected : Bool) (f : ℕ) (list deep : List ℕ) (old mid new : Output) → Answers n (IsOpened (holding_at context family k f)) content (Some set) → 0 < n → selected ≡ is_selected family set → f ≡ kind_field_of b → list ≡ payload_of b
+    → deep ≡ deeper indent → Gains old mid (indented indent (title_text label selected (Some set) list)) → IfOk r (Writes (judged_by o (ShowsSet o (n - 1)) context deep (at + 4) set list) mid new)
     → IfOk r (Writes (ShowsSingle n (shows_in o n) context indent at family k label b content) old new)
-opened_written (Ok well) o n context family k indent at label b content set selected f list old mid new answer some is same e a (lines, shown, written) =
+opened_written (Ok well) o n context family k indent at label b content set selected f list deep old mid new answer some is same e d a (lines, shown, written) =
     let title = indented indent (title_text label selected (Some set) list) in
-    let below = level_less o n context (deeper indent) (at + 4) set list lines well some shown in (
+    let below = level_less o n context (deeper indent) (at + 4) set list lines well some (subst (λ i. judged_by o (ShowsSet o (n - 1)) context i (at + 4) set list lines well) d shown) in (
       title ++ lines,
       (
         Some set,
@@ -56,7 +56,7 @@ opened_written (Ok well) o n context family k indent at label b content set sele
       ),
       gains_more old mid new title lines a written,
     )
-opened_written (Err x) o n context family k indent at label b content set selected f list old mid new answer some is same e a h = h
+opened_written (Err x) o n context family k indent at label b content set selected f list deep old mid new answer some is same e d a h = h
 
 -- an STP state has one byte
 pub state_long : (context : Context) (family : Family) (list : Option ℕ) (b : NlaBuffer) (state : Bool) → state ≡ is_state context family list b → IsTrue state → length (payload_of b) ≡ 1
@@ -75,16 +75,16 @@ list_payload o p list flagged h = absurd h
 
 -- the lines of a nested list
 pub nested_lines : {E : Type 0} (r : Result Bool E) (n : ℕ) (shows : Shower) (context : Context) (indent : List ℕ) (at : ℕ) (family : Family) (b : NlaBuffer) (list : Bor (List ℕ)) (flagged : Bool) (label : Option Label)
-    (in_family : Family) (k : ℕ) (bytes : List ℕ) (old mid new : Output) → HasContent (table_of family) b (contents.List list flagged) → label ≡ label_for (table_of family) b → in_family ≡ family → k ≡ kind_of (kind_field_of b)
-    → bytes ≡ list.now → Gains old mid (indented indent (title_text label false None list.now)) → IfOk r (Writes (ShowsInners n shows context (deeper indent) (at + 4) in_family k bytes) mid new)
+    (in_family : Family) (k : ℕ) (bytes deep : List ℕ) (old mid new : Output) → HasContent (table_of family) b (contents.List list flagged) → label ≡ label_for (table_of family) b → in_family ≡ family → k ≡ kind_of (kind_field_of b)
+    → bytes ≡ list.now → deep ≡ deeper indent → Gains old mid (indented indent (title_text label false None list.now)) → IfOk r (Writes (ShowsInners n shows context deep (at + 4) in_family k bytes) mid new)
     → IfOk r (Writes (ShowsDecoded n shows context indent at family b) old new)
-nested_lines (Ok well) n shows context indent at family b list flagged label in_family k bytes old mid new has t f e l a (lines, shown, written) =
+nested_lines (Ok well) n shows context indent at family b list flagged label in_family k bytes deep old mid new has t f e l d a (lines, shown, written) =
     let title = indented indent (title_text label false None list.now) in (
       title ++ lines,
-      (contents.List list flagged, has, (lines, rw (f, e, l) at shown, ap (λ z. indented indent (title_text z false None list.now) ++ lines) t)),
+      (contents.List list flagged, has, (lines, rw (f, e, l, d) at shown, ap (λ z. indented indent (title_text z false None list.now) ++ lines) t)),
       gains_more old mid new title lines a written,
     )
-nested_lines (Err x) n shows context indent at family b list flagged label in_family k bytes old mid new has t f e l a h = h
+nested_lines (Err x) n shows context indent at family b list flagged label in_family k bytes deep old mid new has t f e l d a h = h
 
 single_known : (n : ℕ) (shows : Shower) (context : Context) (indent : List ℕ) (at : ℕ) (family : Family) (b : NlaBuffer) (content : Content) (out : List ℕ) (well : Bool)
     → ((list : Bor (List ℕ)) (flagged : Bool) → content ≡ contents.List list flagged → ⊥) → ShowsSingle n shows context indent at family None (label_for (table_of family) b) b content out well
@@ -113,10 +113,6 @@ module _ (n : ℕ) (shows : Shower) (inner : Context) (indent : List ℕ) (base 
       → Writes (ShowsSingle n shows inner indent at family (Some k) label c content) mid new well → InnersTo next old new (whole && well)
   inner_more rest next old mid new whole well b c at label content h split has place same l (out, shown, written) =
       shown_more (LeadTo list next) (length list - length rest, b) out old mid new whole well (gains_more old mid new) (lead_on list rest next b split) h (content, has, rw (place, same, l) at shown) written
-
-  pub inners_all : (context : Context) (rest : List ℕ) (old new : Output) (whole : Bool) → IsContextIn context list inner → InnersTo rest old new whole → rest ≡ []
-      → Writes (ShowsInners n shows context indent base family k list) old new whole
-  inners_all context rest old new whole is h e = (h.out, (inner, is, h.items, record { rest = rest; walks = h.leads; end = e }, h.each), h.written)
 
 -- ---- the list of a set
 
@@ -148,12 +144,6 @@ module _ (o : LineOptions) (n : ℕ) (context : Context) (indent : List ℕ) (ba
       list_fault gains_more (table_of family) (λ i f. error_line indent (base + i) (fault_text (table_of family) f)) (λ x f gives. Fails f gives refl refl) (λ i c. refl)
       rest next old mid new whole (length list - length rest) fault h some refl first
       (subst (λ i. Gains mid new (error_line indent i (fault_text (table_of family) fault))) place written)
-
-  -- what is left is shorter
-  pub fault_less : (rest next : List ℕ) (fault : DecodeFault) → rest ≢ [] → FaultsFirst (table_of family) rest fault next → length next < length rest
-  fault_less rest next fault some (inl (b, split, gives)) = (split_short rest b next split).1
-  fault_less [] next fault some (inr (c, bad, is, empty)) = absurd (some refl)
-  fault_less (x ∷ rest) next fault some (inr (c, bad, is, empty)) = omega (arith, ap length empty)
 
   pub set_all : (rest : List ℕ) (old new : Output) (whole : Bool) → SetTo rest old new whole → rest ≡ [] → Writes (ShowsSet o n context indent base family list) old new whole
   set_all rest old new whole h e = let (out, shown, written) = list_done refl rest old new whole h e in (out, set_shown o n context indent base family list out whole shown, written)

@@ -18,7 +18,8 @@ use Rattle.link_messages.specs.Walk.{Item}
 use Rattle.link_show.specs.declared.line_options.LineOptions.{LineOptions}
 use Rattle.link_show.specs.Indents.{deeper}
 use Rattle.link_show.specs.List.{label_for}
-use Rattle.link_show.specs.Held.{state_names, is_state, shows_leaf, is_selected, set_text, holder_text, empty_mark, title_text, ShowsBelow, Shower, ShowsSingle, ShowsInner, ShowsInners, ShowsKnown, ShowsDecoded, shows_unless, ShowsAny, Decodes, Fails, shows_none, judged_by, levels, ShowsSet, ShowsChecked}
+use Rattle.link_messages.specs.Held.{levels}
+use Rattle.link_show.specs.Held.{state_names, is_state, shows_leaf, is_selected, set_text, holder_text, empty_mark, title_text, ShowsBelow, Shower, ShowsSingle, ShowsInner, ShowsInners, ShowsKnown, ShowsDecoded, shows_unless, ShowsAny, Decodes, Fails, shows_none, judged_by, ShowsSet, ShowsChecked}
 use Rattle.link_show.specs.Printable.{IsText, AreTexts, has_texts}
 use Rattle.link_show.proofs.Printing.{text, none, and, either}
 use Rattle.link_show.proofs.ValuePrinting.{EachName, IsLabelText, label_is_text, enum_is_text, field_is_text, formed_texts, elements_text, fault_is_text}

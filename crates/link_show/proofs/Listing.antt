@@ -14,10 +14,15 @@ use Rattle.link_base.specs.Table.{Table, Gives}
 use Rattle.link_base.specs.Viewed.{FaultsFirst}
 use Rattle.link_messages.specs.Walk.{Item, Walks}
 use Rattle.link_messages.proofs.Walking.{walks_more, end_splits}
-use Rattle.link_messages.proofs.Links.{zip_push}
 use Rattle.link_show.specs.List.{EachShown, ShowsEach}
 
 -- ---- several items
+
+zip_push : {A B : Type 0} (R : A → B → Type 0) (xs : List A) (ys : List B) (x : A) (y : B) → AllZip R xs ys → R x y → AllZip R (xs ++ x ∷ []) (ys ++ y ∷ [])
+zip_push R [] [] x y h here = (here, tt)
+zip_push R [] (b ∷ ys) x y h here = absurd h
+zip_push R (a ∷ xs) [] x y h here = absurd h
+zip_push R (a ∷ xs) (b ∷ ys) x y h here = (h.0, zip_push R xs ys x y h.1 here)
 
 pub and_true : (b : Bool) → (b && true) ≡ b
 and_true true = refl

@@ -1,35 +1,28 @@
 -- The lines of messages are printable.
-use Rattle.std.proofs.Common.{◌≡◌, ℕ, suc, ℤ, pos, negsuc, ◌==◌, Bool, true, false, List, [], ◌++◌, length, Option, Some, None, unsigned_abs, refl, sym, subst, codes}
+use Rattle.std.proofs.Common.{◌≡◌, ℕ, suc, ℤ, pos, negsuc, ◌==◌, Bool, true, List, [], ◌++◌, Option, Some, None, unsigned_abs, refl, sym, subst, codes}
 use Rattle.std.specs.Fmt.{signed_decimal}
-use Rattle.std.specs.Option.{option_copied}
-use Rattle.link_base.specs.declared.rows.label.Quantity.TheVariants.{Number, InterfaceIndex}
 use Rattle.link_base.specs.Labels as Labels
 use Rattle.link_base.specs.Number.{IsBytes}
 use Rattle.link_base.specs.WellFormed.{are_names}
-use Rattle.netlink_packet_route.specs.declared.family.Family.TheVariants.{Link}
+use Rattle.netlink_packet_route.specs.declared.family.Family.TheVariants as families
 use Rattle.link_messages.specs.Finding.{Stretch}
 use Rattle.link_messages.specs.Link.{attributes_of}
 use Rattle.link_messages.specs.Message.{packet_of}
 use Rattle.link_messages.specs.declared.buffer_parts.Message.{Message}
-use Rattle.link_messages.specs.declared.buffer_parts.Payload.{Payload}
 use Rattle.link_messages.specs.declared.message.MessageError.{MessageError}
 use Rattle.link_messages.specs.declared.message.MessageError.TheVariants as errors
 use Rattle.link_messages.specs.declared.header.LinkHeader.{LinkHeader}
 use Rattle.link_messages.specs.declared.acknowledgement.Acknowledgement.{Acknowledgement}
-use Rattle.link_show.specs.Number.{number_text}
-use Rattle.link_show.specs.Flags.{enum_text, flags_text}
-use Rattle.link_show.specs.Octets.{address_text}
-use Rattle.link_show.specs.Quoted.{quoted}
+use Rattle.link_show.specs.Flags.{flags_text}
 use Rattle.link_show.specs.Fault.{byte_word}
-use Rattle.link_show.specs.Value.{other_text}
 use Rattle.link_show.specs.Errno.{errno_names}
-use Rattle.link_show.specs.MessageNames.{message_types, common_flags, new_flags, get_flags, delete_flags, error_flags, flags_of, address_families, device_types, device_flags, operational_states}
+use Rattle.link_show.specs.MessageNames.{message_types, common_flags, new_flags, get_flags, delete_flags, error_flags, flags_of, address_families, device_types, device_flags}
 use Rattle.link_show.specs.declared.line_options.LineOptions.{LineOptions}
-use Rattle.link_show.specs.Held.{context_of, levels}
-use Rattle.link_show.specs.Message.{two, reason_text, offset_of, message_error_line, named_or, message_line, unless_zero, name_part, header_parts, link_line, line_of, fault_line, ShowsLink, number_after, error_number_line, errno_name, result_line, has_result, outcome_line, policy_text, reply_lines, ShowsBody, About, Reply, General, NoLink, NoReply, Other, ShowsMessage, zeros_line, ShowsEnd, Ended, Done, Zeros, Broken, ShowsMessages}
+use Rattle.link_messages.specs.Held.{context_of, levels}
+use Rattle.link_show.specs.Message.{two, reason_text, offset_of, message_error_line, named_or, message_line, unless_zero, name_part, header_parts, link_line, ShowsLink, number_after, error_number_line, errno_name, result_line, has_result, outcome_line, ShowsReply, ShowsBody, About, Reply, General, NoLink, NoReply, Other, ShowsMessage, zeros_line, ShowsEnd, Ended, Done, Zeros, Broken, ShowsMessages}
 use Rattle.link_show.specs.Printable.{IsText, AreTexts}
-use Rattle.link_show.proofs.Printing.{text, none, and, either, decimal_text, signed_text, address_digits, quoted_text}
-use Rattle.link_show.proofs.ValuePrinting.{EachName, OnText, choose, each_name, name_found, label_is_text, enum_is_text, number_is_text, other_is_text, flags_is_text, field_is_text, bytes_is_text, opaque_is_text, cause_is_text}
+use Rattle.link_show.proofs.Printing.{text, none, and, either, decimal_text, signed_text, quoted_text}
+use Rattle.link_show.proofs.ValuePrinting.{EachName, OnText, choose, each_name, name_found, flags_is_text, field_is_text, bytes_is_text}
 use Rattle.link_show.proofs.LinePrinting.{no_texts, and_texts, line_end, line_and, line_texts, indented_texts, error_texts, either_texts, all_texts}
 use Rattle.link_show.proofs.HeldPrinting.{set_texts}
 
@@ -43,15 +36,10 @@ reason_is_text (errors.Overrun at size left) =
 reason_is_text (errors.OtherType at kind) = and {s = codes "type "} (text refl) (and (decimal_text kind) (text refl))
 reason_is_text (errors.ShortLink at size) = bytes_is_text size (text refl)
 reason_is_text (errors.ShortError at size) = bytes_is_text size (text refl)
-reason_is_text (errors.Frame at cause) = cause_is_text false cause
 
 message_error_texts : (indent : List ℕ) (error : MessageError) → IsText indent → AreTexts (message_error_line indent error)
 unfolding message_error_line
 message_error_texts indent error h = error_texts indent (offset_of error) h (reason_is_text error)
-
-fault_texts : (fault : Option MessageError) → AreTexts (fault_line fault)
-fault_texts None = no_texts
-fault_texts (Some error) = message_error_texts two error (text refl)
 
 -- ---- the header of a message
 
@@ -108,17 +96,11 @@ link_line_texts : (h : LinkHeader) (name : Option (List ℕ)) → AreTexts (link
 unfolding link_line
 link_line_texts h name = indented_texts two (text refl) (and {s = codes "ifindex "} (text refl) (and (signed_text h.index) (and (name_text name) (parts_text h))))
 
--- ---- lines of attributes
-
-line_of_texts : {A : Type 0} (name : List ℕ) (of : A → List ℕ) (x : Option A) → IsText name → ((a : A) → IsText (of a)) → AreTexts (line_of name of x)
-line_of_texts name of None h k = no_texts
-line_of_texts name of (Some a) h k = indented_texts two (text refl) (field_is_text name h (k a))
-
 -- ---- a message about a link
 
 link_texts : (o : LineOptions) (h : LinkHeader) (list : Stretch) (out : List ℕ) (well : Bool) → ShowsLink o h list out well → AreTexts out
 link_texts o h list out well (name, of, lines, shown, is) =
-    subst AreTexts (sym is) (and_texts (link_line_texts h name) (set_texts o levels (context_of h.family) two list.0 Link list.1 lines well (text refl) shown))
+    subst AreTexts (sym is) (and_texts (link_line_texts h name) (set_texts o levels (context_of h.family) two list.0 families.Link list.1 lines well (text refl) shown))
 
 -- ---- replies
 
@@ -142,24 +124,15 @@ result_texts e =
 outcome_texts : (a : Acknowledgement) → AreTexts (outcome_line a)
 outcome_texts a = either_texts (has_result a) (result_texts a.error) no_texts
 
-policy_texts : (policy : Option Payload) → AreTexts (line_of (codes "policy") policy_text policy)
-policy_texts policy = line_of_texts (codes "policy") policy_text policy (text refl) (λ p. opaque_is_text (length p.bytes.now))
-
-reply_texts : (a : Acknowledgement) → AreTexts (reply_lines a)
-reply_texts a =
-    and_texts (outcome_texts a)
-    (and_texts (line_of_texts (codes "message") quoted (option_copied a.text) (text refl) quoted_text)
-    (and_texts (line_of_texts (codes "offset") (number_text Number) a.offset (text refl) (number_is_text Number))
-    (and_texts (line_of_texts (codes "missing type") (number_text Number) a.missing_type (text refl) (number_is_text Number))
-    (and_texts (line_of_texts (codes "missing nest") (number_text Number) a.missing_nest (text refl) (number_is_text Number))
-    (and_texts (policy_texts a.policy)
-    (and_texts (line_of_texts (codes "cookie") other_text (option_copied a.cookie) (text refl) other_is_text) (fault_texts a.fault)))))))
+reply_texts : (o : LineOptions) (a : Acknowledgement) (out : List ℕ) (well : Bool) → ShowsReply o a out well → AreTexts out
+reply_texts o a out well (lines, shown, is) =
+    subst AreTexts (sym is) (and_texts (outcome_texts a) (set_texts o levels (context_of 0) two a.list.at families.Reply a.list.bytes.now lines well (text refl) shown))
 
 -- ---- messages
 
 body_texts : (o : LineOptions) (m : Message) (out : List ℕ) (well : Bool) → ShowsBody o m out well → AreTexts out
 body_texts o m out well (About h plain has shown) = link_texts o h (attributes_of m.at (packet_of m)) out well shown
-body_texts o m out well (Reply a has is e) = subst AreTexts (sym is) (reply_texts a)
+body_texts o m out well (Reply a has shown) = reply_texts o a out well shown
 body_texts o m out well (General kind is e) = subst AreTexts (sym is) no_texts
 body_texts o m out well (NoLink error kind other has is e) = subst AreTexts (sym is) (message_error_texts two error (text refl))
 body_texts o m out well (NoReply error kind has is e) = subst AreTexts (sym is) (message_error_texts two error (text refl))

@@ -1,6 +1,6 @@
 -- Bytes that are a number.
-use Rattle.std.proofs.Common.{◌≡◌, ◌≢◌, ℕ, ◌*◌, ◌==◌, ◌||◌, ◌&&◌, Bool, true, false, List, length, Option, Some, None, refl, sym, ap, ap₂, ◌∙◌, arith, take_all}
-use Rattle.std.proofs.lemmas.Bool.{cond-true, cond-false, eq-eqb, ne_eqb}
+use Rattle.std.proofs.Common.{◌≡◌, ◌≢◌, ℕ, ◌*◌, ◌==◌, ◌||◌, ◌&&◌, Bool, true, false, List, length, Some, None, refl, sym, ap, ap₂, ◌∙◌, arith, take_all}
+use Rattle.std.proofs.lemmas.Bool.{cond-true, cond-false, ne_eqb}
 use Rattle.link_base.specs.declared.rows.label.Quantity.{Quantity}
 use Rattle.link_base.specs.Number.{number}
 use Rattle.link_base.specs.Layout.{number_at}

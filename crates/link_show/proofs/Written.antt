@@ -2,7 +2,6 @@
 use Rattle.std.proofs.Common.{◌≡◌, ℕ, List, [], ◌∷◌, ◌++◌, Result, Ok, Err, OnOk, refl, sym, ap, subst, ◌∙◌, append_assoc}
 use Rattle.link_show.specs.Sink.{Output, Gains}
 use Rattle.link_show.specs.Gained.{gains_nothing, gains_more}
-use Rattle.std.proofs.lemmas.List.{append-nil}
 use Rattle.link_show.specs.Text.{after}
 
 -- the front of a text was written, and this is its rest
@@ -27,10 +26,6 @@ one_written old mid new text rest t others w e a =
 -- what was written, if the rest is e
 pub same_rest : (old new : Output) (text rest others : List ℕ) → WritesFront old new text rest → rest ≡ others → WritesFront old new text others
 same_rest old new text rest others w e = subst (WritesFront old new text) e w
-
--- all was written
-pub all_written : (old new : Output) (text rest : List ℕ) → WritesFront old new text rest → rest ≡ [] → Gains old new text
-all_written old new text rest w e = subst (Gains old new) (sym (w.whole ∙ ap (λ r. w.front ++ r) e ∙ append-nil w.front)) w.written
 
 -- of texts with separators, one more was written, and a separator stands before the next
 pub next_written : (old mid new : Output) (text first next separator t : List ℕ) (texts others : List (List ℕ))

@@ -1,10 +1,9 @@
 -- The lines of lists whose attributes hold lists of other sets.
-use Rattle.std.specs.Prelude.{◌≡◌, ℕ, zero, suc, ◌+◌, Bool, true, false, not, ◌==◌, ◌&&◌, nat_lt, List, [], ◌∷◌, ◌++◌, length, Option, Some, None, Err, codes, if◌then◌else◌}
+use Rattle.std.specs.Prelude.{◌≡◌, ℕ, zero, suc, ◌+◌, Bool, true, false, not, ◌==◌, ◌&&◌, List, [], ◌∷◌, ◌++◌, length, Option, Some, None, Err, codes, if◌then◌else◌}
 use Rattle.std.specs.List.{list_all}
 use Rattle.link_base.specs.declared.wire.buffer.NlaBuffer.{NlaBuffer}
 use Rattle.link_base.specs.declared.views.content.Content.{Content}
 use Rattle.link_base.specs.declared.views.content.Content.TheVariants as contents
-use Rattle.link_base.specs.declared.rows.form.Look.TheVariants as looks
 use Rattle.link_base.specs.declared.wire.fault.DecodeFault.{DecodeFault}
 use Rattle.link_base.specs.Frame.{kind_of}
 use Rattle.link_base.specs.Buffer.{kind_field_of, payload_of}
@@ -16,7 +15,8 @@ use Rattle.netlink_packet_route.specs.declared.family.Family.{Family}
 use Rattle.netlink_packet_route.specs.declared.family.Family.TheVariants.{Link, BridgePort}
 use Rattle.netlink_packet_route.specs.declared.opening.Context.{Context}
 use Rattle.netlink_packet_route.specs.Family.{Holding, Within, family_name, family_number, holders_of, table_of}
-use Rattle.netlink_packet_route.specs.Opening.{holding_at, IsOpened, HasKinds}
+use Rattle.netlink_packet_route.specs.Opening.{holding_at, IsOpened}
+use Rattle.link_messages.specs.Held.{Answers, IsContextIn, levels}
 use Rattle.link_messages.specs.Walk.{Item, Walk}
 use Rattle.link_show.specs.declared.line_options.LineOptions.{LineOptions}
 use Rattle.link_show.specs.Sink.{Output, Gains}
@@ -27,21 +27,6 @@ use Rattle.link_show.specs.Structs.{field}
 use Rattle.link_show.specs.List.{indented, error_line, EachShown, label_for, ShowsFlat, end_line, ShowsEach, ShowsVerdict}
 
 -- ---- a held list
-
--- whether a content may be the list of another set
-abbrev pub may_hold : Content → Bool
-may_hold (contents.Bytes looks.Held p) = true
-may_hold (contents.Other p) = true
-may_hold content = false
-
--- the answers, or none
-abbrev pub answers_if : Bool → (Option Family → Type 0) → Option Family → Type 0
-answers_if true opens answer = opens answer
-answers_if false opens answer = answer ≡ None
-
--- the set that reads an attribute with this content, if n levels of lists may be opened
-abbrev pub Answers : ℕ → (Option Family → Type 0) → Content → Option Family → Type 0
-Answers n opens content answer = answers_if (nat_lt 0 n && may_hold content) opens answer
 
 -- a holder is another thing than an attribute in lists of this set
 abbrev pub selects : Family → Holding → Bool
@@ -132,10 +117,6 @@ ShowsInner n shows context indent base family k x out well =
     (content : Content) × HasContent (elements_at (table_of family) k) x.1 content
     × ShowsSingle n shows context indent (base + x.0) family (Some k) (label_for (elements_at (table_of family) k) x.1) x.1 content out well
 
--- the context of the elements of a list
-abbrev pub IsContextIn : Context → List ℕ → Context → Type 0
-IsContextIn context list inner = (inner.address_family ≡ context.address_family) × HasKinds list inner
-
 -- those of all
 abbrev pub ShowsInners : ℕ → Shower → Context → List ℕ → ℕ → Family → ℕ → List ℕ → List ℕ → Bool → Type 0
 ShowsInners n shows context indent base family k list out well =
@@ -206,14 +187,6 @@ shows_in o zero = shows_none
 shows_in o (suc n) = judged_by o (ShowsSet o n)
 
 -- ---- a list that is checked
-
--- the context of the attributes of a message
-abbrev pub context_of : ℕ → Context
-context_of address_family = record { address_family = address_family; info_kind = None; port_kind = None }
-
--- how many levels of lists are opened: a veth's peer is a message whose attributes hold lists, and so on
-abbrev pub levels : ℕ
-levels = 6
 
 -- the lines of a list, and, if the options ask, whether it and the lists in it are canonical
 abbrev pub ShowsChecked : LineOptions → Shower

@@ -4,12 +4,9 @@ use Rattle.std.specs.Fmt.{decimal, signed_decimal}
 use Rattle.std.specs.Int.{is_negative}
 use Rattle.std.specs.Int.RustNames.{unsigned_abs}
 use Rattle.std.specs.List.{AllByRecursion}
-use Rattle.std.specs.Option.{option_copied}
-use Rattle.link_base.specs.declared.rows.label.Quantity.TheVariants.{Number, InterfaceIndex}
 use Rattle.link_base.specs.Labels.{name_in}
-use Rattle.netlink_packet_route.specs.declared.family.Family.TheVariants.{Link}
+use Rattle.netlink_packet_route.specs.declared.family.Family.TheVariants as families
 use Rattle.link_messages.specs.declared.buffer_parts.Message.{Message}
-use Rattle.link_messages.specs.declared.buffer_parts.Payload.{Payload}
 use Rattle.link_messages.specs.declared.message.MessageError.{MessageError}
 use Rattle.link_messages.specs.declared.message.MessageError.TheVariants as errors
 use Rattle.link_messages.specs.declared.header.LinkHeader.{LinkHeader}
@@ -21,14 +18,13 @@ use Rattle.link_messages.specs.Header.{IsAnyLinkType, HasLinkHeader, HasNoLinkHe
 use Rattle.link_messages.specs.Acknowledgement.{IsReplyType, IsAcknowledgement, IsNoAcknowledgement}
 use Rattle.link_messages.specs.declared.acknowledgement.Acknowledgement.{Acknowledgement}
 use Rattle.link_show.specs.declared.line_options.LineOptions.{LineOptions}
-use Rattle.link_show.specs.Number.{number_text}
 use Rattle.link_show.specs.Flags.{flags_text}
 use Rattle.link_show.specs.Quoted.{quoted}
 use Rattle.link_show.specs.Structs.{field}
-use Rattle.link_show.specs.Value.{other_text}
-use Rattle.link_show.specs.Fault.{byte_word, bytes_text, opaque_text, cause_words}
+use Rattle.link_show.specs.Fault.{byte_word, bytes_text}
 use Rattle.link_show.specs.List.{indented, error_line, EachShown}
-use Rattle.link_show.specs.Held.{context_of, levels, ShowsSet}
+use Rattle.link_messages.specs.Held.{context_of, levels}
+use Rattle.link_show.specs.Held.{ShowsSet}
 use Rattle.link_show.specs.Errno.{errno_names}
 use Rattle.link_show.specs.MessageNames.{message_types, flags_of, address_families, device_types, device_flags}
 
@@ -46,7 +42,6 @@ reason_text (errors.Overrun at size left) = codes "nlmsg_len " ++ (decimal size 
 reason_text (errors.OtherType at kind) = codes "type " ++ (decimal kind ++ codes " is not that of a link message")
 reason_text (errors.ShortLink at size) = bytes_text size (codes ", too few for a link message")
 reason_text (errors.ShortError at size) = bytes_text size (codes ", too few for an error message")
-reason_text (errors.Frame at cause) = cause_words false cause
 
 -- its offset
 abbrev pub offset_of : MessageError → ℕ
@@ -56,7 +51,6 @@ offset_of (errors.Overrun at size left) = at
 offset_of (errors.OtherType at kind) = at
 offset_of (errors.ShortLink at size) = at
 offset_of (errors.ShortError at size) = at
-offset_of (errors.Frame at cause) = at
 
 -- the line of an error
 unfoldable pub message_error_line : List ℕ → MessageError → List ℕ
@@ -97,22 +91,6 @@ header_parts h =
 unfoldable pub link_line : LinkHeader → Option (List ℕ) → List ℕ
 link_line h name = indented two (codes "ifindex " ++ (signed_decimal h.index ++ (name_part name ++ header_parts h)))
 
--- ---- lines
-
--- a line, if there is something
-abbrev pub line_of : {A : Type 0} → List ℕ → (A → List ℕ) → Option A → List ℕ
-line_of name text None = []
-line_of name text (Some x) = indented two (field name (text x))
-
--- the error of a header among attributes
-abbrev pub fault_line : Option MessageError → List ℕ
-fault_line None = []
-fault_line (Some error) = message_error_line two error
-
-abbrev pub is_sound : Option MessageError → Bool
-is_sound None = true
-is_sound (Some error) = false
-
 -- ---- a message about a link
 
 -- the text of the last IFLA_IFNAME (3) of a list, up to its first malformed header
@@ -123,7 +101,7 @@ IsLinkName list name = OfWalk list.1 (λ items _. name ≡ text_in (latest list.
 abbrev pub ShowsLink : LineOptions → LinkHeader → Stretch → List ℕ → Bool → Type 0
 ShowsLink o h list out well =
     (name : Option (List ℕ)) × IsLinkName list name
-    × (lines : List ℕ) × ShowsSet o levels (context_of h.family) two list.0 Link list.1 lines well × (out ≡ link_line h name ++ lines)
+    × (lines : List ℕ) × ShowsSet o levels (context_of h.family) two list.0 families.Link list.1 lines well × (out ≡ link_line h name ++ lines)
 
 -- ---- a reply
 
@@ -154,20 +132,10 @@ has_result a = not a.is_done || is_negative a.error
 abbrev pub outcome_line : Acknowledgement → List ℕ
 outcome_line a = if has_result a then result_line a.error else []
 
-abbrev pub policy_text : Payload → List ℕ
-policy_text p = opaque_text (length p.bytes.now)
-
--- the lines of a reply
-abbrev pub reply_lines : Acknowledgement → List ℕ
-reply_lines a =
-    outcome_line a
-    ++ (line_of (codes "message") quoted (option_copied a.text)
-    ++ (line_of (codes "offset") (number_text Number) a.offset
-    ++ (line_of (codes "missing type") (number_text Number) a.missing_type
-    ++ (line_of (codes "missing nest") (number_text Number) a.missing_nest
-    ++ (line_of (codes "policy") policy_text a.policy
-    ++ (line_of (codes "cookie") other_text (option_copied a.cookie)
-    ++ fault_line a.fault))))))
+-- the lines of a reply: its outcome, and the attributes of its list
+abbrev pub ShowsReply : LineOptions → Acknowledgement → List ℕ → Bool → Type 0
+ShowsReply o a out well =
+    (lines : List ℕ) × ShowsSet o levels (context_of 0) two a.list.at families.Reply a.list.bytes.now lines well × (out ≡ outcome_line a ++ lines)
 
 -- ---- a message
 
@@ -179,7 +147,7 @@ IsGeneral m = (m.kind ≡ 18) × (1 ≤ length m.payload.now) × (length m.paylo
 -- the lines of a message below its first, and whether none is an error
 pub data ShowsBody (o : LineOptions) (m : Message) (out : List ℕ) (well : Bool) : Type 0 where
   About : (h : LinkHeader) → ¬ IsGeneral m → HasLinkHeader (packet_of m) h → ShowsLink o h (attributes_of m.at (packet_of m)) out well → ShowsBody o m out well
-  Reply : (a : Acknowledgement) → IsAcknowledgement m.at (packet_of m) a → out ≡ reply_lines a → well ≡ is_sound a.fault → ShowsBody o m out well
+  Reply : (a : Acknowledgement) → IsAcknowledgement m.at (packet_of m) a → ShowsReply o a out well → ShowsBody o m out well
   General : IsGeneral m → out ≡ [] → well ≡ true → ShowsBody o m out well
   NoLink : (error : MessageError) → IsAnyLinkType m.kind → ¬ IsGeneral m → HasNoLinkHeader m.at (packet_of m) error → out ≡ message_error_line two error → well ≡ false → ShowsBody o m out well
   NoReply : (error : MessageError) → IsReplyType m.kind → IsNoAcknowledgement m.at (packet_of m) error → out ≡ message_error_line two error → well ≡ false → ShowsBody o m out well

@@ -2,17 +2,15 @@
 
 ghost use Rattle.std.specs.Prelude.{IfOk};
 ghost use Rattle.link_show.specs.List.{Writes};
-ghost use Rattle.link_show.specs.Held.{context_of, ShowsChecked};
+ghost use Rattle.link_messages.specs.Held.{context_of};
+ghost use Rattle.link_show.specs.Held.{ShowsChecked};
 
 use crate::held::write_judged;
 use crate::indent::Indent;
 use crate::line_options::LineOptions;
 use crate::sink::Sink;
-use link_messages::Payload;
+use link_messages::{MOST_LEVELS, Payload};
 use netlink_packet_route::{Context, Family};
-
-/// How many levels of lists are opened: an attribute in a set, in a set, and so on.
-pub const MOST_LEVELS: usize = 6;
 
 /// Writes the lines of a list of a `Family`, and, if the options ask, a line that says whether it is canonical. There is a line
 /// for each attribute, below a list the lines of that, and a line for each error, in order. A malformed attribute hides no
@@ -39,7 +37,7 @@ pub fn write_family_list<W: Sink>(
         options,
         MOST_LEVELS,
         &context,
-        Indent::Text(indent),
+        Indent::Text(indent, 0),
         family,
         list,
     )

@@ -1,7 +1,7 @@
 //! The front of a text, in a buffer.
 
 ghost use Rattle.std.specs.Prelude.{◌≡◌, ℕ, List, OnOk};
-ghost use Rattle.link_show.specs.Sink.{Output, Front, Gains, Counts, overlaid};
+ghost use Rattle.link_show.specs.Sink.{Front, Gains, Counts, overlaid};
 ghost use Rattle.link_show.specs.Gained.{gains_nothing, gains_all};
 
 use crate::sink::Sink;

@@ -1,39 +1,37 @@
 //! Lists of attributes that hold lists of other sets.
 
-ghost use Rattle.std.specs.Prelude.{◌≡◌, ◌+◌, ◌<◌, ◌^◌, ◌∷◌, [], length, IsTrue, IfOk, IfSome, OnOk};
+ghost use Rattle.std.specs.Prelude.{◌≡◌, ◌+◌, ◌<◌, ◌^◌, ◌∷◌, [], ◌++◌, length, IsTrue, IfOk, OnOk};
 ghost use Rattle.std.specs.List.{list_all};
-ghost use Rattle.link_base.specs.Buffer.{payload_of, kind_field_of};
+ghost use Rattle.link_base.specs.Buffer.{payload_of};
 ghost use Rattle.link_base.specs.Labels.{label_in};
 ghost use Rattle.link_base.specs.Viewed.{set_in, buffer_in, kind_in, set_of, bytes_in};
 ghost use Rattle.netlink_packet_route.specs.Family.{holding_of};
-ghost use Rattle.netlink_packet_route.specs.Opening.{holding_at, IsOpened};
 ghost use Rattle.netlink_packet_route.specs.Views.{family_in};
 ghost use Rattle.link_show.specs.Sink.{Gains};
 ghost use Rattle.link_show.specs.Indents.{indent_text};
 ghost use Rattle.link_show.specs.List.{indented, Writes};
-ghost use Rattle.link_show.specs.Held.{may_hold, Answers, selects, is_selected, set_text, holder_text, empty_mark, titled, is_state, state_line, WritesLeaf};
+ghost use Rattle.link_show.specs.Held.{selects, is_selected, set_text, holder_text, empty_mark, titled, is_state, state_line, WritesLeaf};
 ghost use Rattle.link_show.specs.Held.{ShowsSingle, ShowsInners, ShowsDecoded, is_left_out, shows_unless, ShowsSet, shows_in, judged_by};
 
 use crate::flags::write_enum;
-use crate::indent::{Indent, write_indent};
+use crate::indent::{Indent, below, write_indent};
 use crate::line_options::LineOptions;
 use crate::lists::{write_error, write_flat};
 use crate::pieces::{Piece, put_pieces};
 use crate::sink::Sink;
 use crate::verdicts::write_judgement;
-use link_base::rows::form::Look;
 use link_base::rows::label::KindLabel;
 use link_base::views::content::{Content, Known};
 use link_base::views::view::{Value, View};
 use link_base::views::view_all::ViewAll;
 use link_base::{NamedNumber, NlaBuffer};
-use link_messages::Payload;
 use link_messages::link_types::{
     AF_BRIDGE, IFLA_ADDRESS, IFLA_AF_SPEC, IFLA_LINK, IFLA_LINKINFO, IFLA_MASTER, IFLA_MTU,
     IFLA_OPERSTATE, IFLA_PROTINFO,
 };
+use link_messages::{Payload, opened_at};
 use netlink_packet_route::link::BridgePortState;
-use netlink_packet_route::{Context, Family, FamilyElements, FamilySet, Holder, opened};
+use netlink_packet_route::{Context, Family, FamilyElements, FamilySet, Holder};
 
 /// Writes the lines of a list of a `Family`: a line for each attribute, below a nested list one for each of its elements,
 /// below an attribute whose list another set reads the lines of that list, through `depth` levels, and one for each error,
@@ -170,7 +168,7 @@ fn write_decoded<W: Sink>(
                 options,
                 depth,
                 context,
-                Indent::Below(&indent),
+                below(&indent),
                 elements,
                 at + 4,
             )
@@ -196,7 +194,7 @@ fn write_title<W: Sink>(
     write_indent(writer, indent)?;
     writer.put(name.as_bytes())?;
     write_set_name(writer, selected, set)?;
-    put_pieces(writer, &[Piece::Text(empty_mark(list)), Piece::Text("\n")])
+    writer.put(title_end(list).as_bytes())
 }
 
 /// Returns the name of an attribute that holds a list.
@@ -209,11 +207,11 @@ fn holder_name(label: &Option<KindLabel>) -> &'static str
     }
 }
 
-/// Returns what is behind the name of an empty list.
-fn empty_mark(list: &[u8]) -> &'static str
-    ensures { result.now ≡ empty_mark list.now }
+/// Returns the end of the line with the name of a list.
+fn title_end(list: &[u8]) -> &'static str
+    ensures { result.now ≡ empty_mark list.now ++ 10 ∷ [] }
 {
-    if list.is_empty() { " (empty)" } else { "" }
+    if list.is_empty() { " (empty)\n" } else { "\n" }
 }
 
 /// Writes the name of a set in parentheses, if the attribute alone does not select it.
@@ -314,7 +312,7 @@ fn write_single<W: Sink>(
                 options,
                 depth - 1,
                 context,
-                Indent::Below(&indent),
+                below(&indent),
                 set,
                 held,
             )
@@ -357,25 +355,6 @@ fn selects(family: Family, holder: Holder<'_>) -> bool
     }
 }
 
-/// Returns the set that reads an attribute with this content, if `depth` levels of lists may be opened.
-pub fn opened_at(
-    depth: usize,
-    context: &Context<'_>,
-    family: Family,
-    list: Option<u16>,
-    nla_type: u16,
-    content: Content<'_>,
-) -> Option<Family>
-    ensures answer { Answers depth (IsOpened (holding_at context.now family list nla_type)) content.entry result }
-    ensures depth { IfSome result (λ _. 0 < depth) }
-{
-    let may = (depth > 0) & may_hold(content);
-    if !may {
-        return None;
-    }
-    opened(family, list, nla_type, context)
-}
-
 /// Writes the line of an attribute that is no list: the STP state of a bridge port in an `IFLA_PROTINFO`, or another one.
 fn write_leaf<W: Sink>(
     writer: &mut W,
@@ -404,8 +383,8 @@ fn write_state<W: Sink>(writer: &mut W, indent: Indent<'_>, state: u8) -> Result
     writer.put(b"\n")
 }
 
-/// Checks whether an attribute is an `IFLA_PROTINFO` that is the STP state of a bridge port: one byte, in an AF_BRIDGE
-/// message.
+/// Checks whether an attribute is an `IFLA_PROTINFO` (`include/uapi/linux/if_link.h`) that is the STP state of a bridge port
+/// (`BR_STATE_..`, `include/uapi/linux/if_bridge.h`): one byte, in an AF_BRIDGE message.
 pub fn is_state(
     context: &Context<'_>,
     family: Family,
@@ -419,18 +398,4 @@ pub fn is_state(
         && context.address_family == AF_BRIDGE
         && buffer.kind() == IFLA_PROTINFO
         && buffer.value().len() == 1
-}
-
-/// Checks whether a content may be the list of another set.
-fn may_hold(content: Content<'_>) -> bool
-    ensures { result ≡ may_hold content.entry }
-{
-    match content {
-        Content::Bytes {
-            look: Look::Held,
-            ..
-        }
-        | Content::Other(_) => true,
-        _ => false,
-    }
 }

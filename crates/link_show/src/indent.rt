@@ -1,18 +1,33 @@
 //! The indents of lines.
 
-ghost use Rattle.std.specs.Prelude.{OnOk};
+ghost use Rattle.std.specs.Prelude.{◌≡◌, OnOk, replicate};
 ghost use Rattle.link_show.specs.Sink.{Gains};
-ghost use Rattle.link_show.specs.Indents.{indent_text};
+ghost use Rattle.link_show.specs.Indents.{deeper, indent_text};
 
 use crate::sink::Sink;
+
+/// As many spaces as an indent has at most after its text.
+static SPACES: [u8; 255] = [b' '; 255];
 
 /// What a line starts with.
 #[derive(Clone, Copy)]
 pub(crate) enum Indent<'a> {
-    /// This text.
-    Text(&'a str),
+    /// This text, and this many spaces.
+    Text(&'a str, u8),
     /// Two spaces more.
     Below(&'a Indent<'a>),
+}
+
+/// Returns two spaces more than an indent.
+pub(crate) fn below<'a>(outer: &'a Indent<'a>) -> Indent<'a>
+    ensures { indent_text result ≡ deeper (indent_text outer.now) }
+{
+    if let Indent::Text(text, spaces) = *outer
+        && spaces < 254
+    {
+        return Indent::Text(text, spaces + 2);
+    }
+    Indent::Below(outer)
 }
 
 /// Writes an indent.
@@ -20,10 +35,29 @@ pub(crate) fn write_indent<W: Sink>(writer: &mut W, indent: Indent<'_>) -> Resul
     ensures { OnOk result (Gains (W.output writer.old) (W.output writer.new) (indent_text indent.entry)) }
 {
     match indent {
-        Indent::Text(text) => writer.put(text.as_bytes()),
+        Indent::Text(text, spaces) => {
+            write_text(writer, text)?;
+            write_spaces(writer, spaces)
+        }
         Indent::Below(outer) => {
             write_indent(writer, *outer)?;
             writer.put(b"  ")
         }
     }
+}
+
+/// Writes a text, which is empty in messages.
+fn write_text<W: Sink>(writer: &mut W, text: &str) -> Result<(), W::Error>
+    ensures { OnOk result (Gains (W.output writer.old) (W.output writer.new) text.now) }
+{
+    if text.is_empty() {
+        return Ok(());
+    }
+    writer.put(text.as_bytes())
+}
+
+fn write_spaces<W: Sink>(writer: &mut W, count: u8) -> Result<(), W::Error>
+    ensures { OnOk result (Gains (W.output writer.old) (W.output writer.new) (replicate count 32)) }
+{
+    writer.put(&SPACES[..count as usize])
 }

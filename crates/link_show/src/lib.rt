@@ -41,11 +41,11 @@ mod verdicts;
 
 pub use addresses::{write_addresses, write_ip};
 pub use attributes::{TYPE_FLAGS, write_attribute};
-pub use families::{MOST_LEVELS, write_family_list};
+pub use families::write_family_list;
 pub use faults::write_fault;
 pub use flags::{write_enum, write_flags};
 pub use front::{Words, store_front};
-pub use held::{is_state, opened_at};
+pub use held::is_state;
 pub use ip::{write_ipv4, write_ipv6};
 pub use line_options::LineOptions;
 pub use links::write_link;

@@ -6,29 +6,24 @@ ghost use Rattle.std.specs.Option.{option_copied, option_map};
 ghost use Rattle.link_messages.specs.BeforeFault.{name_in as text_in};
 ghost use Rattle.link_show.specs.Sink.{Gains};
 ghost use Rattle.link_base.specs.Labels.{names_in, name_in};
-ghost use Rattle.link_show.specs.Number.{number_text};
 ghost use Rattle.link_messages.specs.Finding.{stretch_of};
 ghost use Rattle.link_show.specs.Flags.{flags_text};
-ghost use Rattle.link_show.specs.Quoted.{quoted};
 ghost use Rattle.link_show.specs.List.{Writes};
 ghost use Rattle.link_show.specs.MessageNames.{device_flags};
-ghost use Rattle.link_show.specs.Message.{ShowsLink, IsLinkName, link_line, name_part, unless_zero, named_or, line_of, fault_line, is_sound};
+ghost use Rattle.link_show.specs.Message.{ShowsLink, IsLinkName, link_line, name_part, unless_zero, named_or};
 
-use crate::families::MOST_LEVELS;
 use crate::flags::write_flags;
 use crate::held::write_set;
 use crate::indent::Indent;
 use crate::line_options::LineOptions;
-use crate::message_errors::write_message_error;
 use crate::message_names::{ADDRESS_FAMILIES, DEVICE_FLAGS, DEVICE_TYPES};
-use crate::numbers::write_number;
 use crate::pieces::{Piece, put_pieces};
 use crate::quoted::write_quoted;
 use crate::sink::Sink;
 use link_base::rows::form::Width;
-use link_base::rows::label::{Name, Quantity, name_of};
+use link_base::rows::label::{Name, name_of};
 use link_messages::link_types::IFLA_IFNAME;
-use link_messages::{LinkHeader, MessageError, Payload, last_before_fault};
+use link_messages::{LinkHeader, MOST_LEVELS, Payload, last_before_fault};
 use netlink_packet_route::{Context, Family, without_nul};
 
 /// Writes the lines of a message about a link, below its first line: the fields of its `struct ifinfomsg` and its name, and
@@ -55,7 +50,7 @@ pub fn write_link<W: Sink>(
         options,
         MOST_LEVELS,
         &context,
-        Indent::Text("  "),
+        Indent::Text("", 2),
         Family::Link,
         list,
     )
@@ -164,66 +159,4 @@ fn write_device_flags<W: Sink>(writer: &mut W, field: &str, flags: u64) -> Resul
         &[Piece::Text(" "), Piece::Text(field), Piece::Text(" ")],
     )?;
     write_flags(writer, DEVICE_FLAGS, Width::Four, flags)
-}
-
-/// Writes the line of a number that an attribute has, if it is there.
-pub(crate) fn write_number_line<W: Sink>(
-    writer: &mut W,
-    name: &str,
-    quantity: Quantity,
-    number: Option<u32>,
-) -> Result<(), W::Error>
-    ensures { OnOk result (Gains (W.output writer.old) (W.output writer.new)
-        (line_of name.now (number_text quantity) number)) }
-{
-    match number {
-        Some(number) => {
-            put_pieces(
-                writer,
-                &[Piece::Text("  "), Piece::Text(name), Piece::Text(" ")],
-            )?;
-            write_number(writer, quantity, number.into())?;
-            writer.put(b"\n")
-        }
-        None => Ok(()),
-    }
-}
-
-/// Writes the line of bytes that an attribute has, between quotes, if it is there.
-pub(crate) fn write_quoted_line<W: Sink>(
-    writer: &mut W,
-    name: &str,
-    bytes: Option<&[u8]>,
-) -> Result<(), W::Error>
-    ensures { OnOk result (Gains (W.output writer.old) (W.output writer.new)
-        (line_of name.now quoted (option_copied bytes.entry))) }
-{
-    match bytes {
-        Some(bytes) => {
-            put_pieces(
-                writer,
-                &[Piece::Text("  "), Piece::Text(name), Piece::Text(" ")],
-            )?;
-            write_quoted(writer, bytes)?;
-            writer.put(b"\n")
-        }
-        None => Ok(()),
-    }
-}
-
-/// Writes the error of a header among the attributes, if there is one. Returns whether there is none.
-pub(crate) fn write_header_fault<W: Sink>(
-    writer: &mut W,
-    fault: Option<MessageError>,
-) -> Result<bool, W::Error>
-    ensures { IfOk result (λ well. Gains (W.output writer.old) (W.output writer.new) (fault_line fault)
-        × (well ≡ is_sound fault)) }
-{
-    match fault {
-        Some(error) => {
-            write_message_error(writer, "  ", error)?;
-            Ok(false)
-        }
-        None => Ok(true),
-    }
 }

@@ -4,7 +4,7 @@ ghost use Rattle.std.specs.Prelude.{◌≡◌, OnOk};
 ghost use Rattle.link_show.specs.Sink.{Gains};
 ghost use Rattle.link_show.specs.Message.{message_error_line, offset_of, reason_text};
 
-use crate::faults::{write_bytes, write_cause};
+use crate::faults::write_bytes;
 use crate::pieces::{Piece, put_pieces};
 use crate::sink::Sink;
 use link_messages::MessageError;
@@ -47,8 +47,7 @@ pub fn offset_of(error: MessageError) -> usize
         | MessageError::Overrun { at, .. }
         | MessageError::OtherType { at, .. }
         | MessageError::ShortLink { at, .. }
-        | MessageError::ShortError { at, .. }
-        | MessageError::Frame { at, .. } => at,
+        | MessageError::ShortError { at, .. } => at,
     }
 }
 
@@ -97,6 +96,5 @@ pub fn write_reason<W: Sink>(writer: &mut W, error: MessageError) -> Result<(), 
         MessageError::ShortError { length, .. } => {
             write_bytes(writer, length, ", too few for an error message")
         }
-        MessageError::Frame { cause, .. } => write_cause(writer, false, cause),
     }
 }

@@ -60,51 +60,18 @@ const DELETE_FLAGS: &[Name] = flags![0x100 "NONREC" 0x200 "BULK"];
 const ERROR_FLAGS: &[Name] = flags![0x100 "CAPPED" 0x200 "ACK_TLVS"];
 
 /// Address families (`AF_`, `include/linux/socket.h`) that are written by name.
-pub const ADDRESS_FAMILIES: &[Name] = names![
-    0 "AF_UNSPEC"
-    7 "AF_BRIDGE"
-];
+pub const ADDRESS_FAMILIES: &[Name] = names![0 "AF_UNSPEC" 7 "AF_BRIDGE"];
 
 /// Types of devices (`ARPHRD_`, `include/uapi/linux/if_arp.h`) that are written by name.
-pub const DEVICE_TYPES: &[Name] = names![
-    1 "ETHER"
-    280 "CAN"
-    772 "LOOPBACK"
-    65534 "NONE"
-];
+pub const DEVICE_TYPES: &[Name] = names![1 "ETHER" 280 "CAN" 772 "LOOPBACK" 65534 "NONE"];
 
 /// Flags of devices (`IFF_`, `include/uapi/linux/if.h`).
 pub const DEVICE_FLAGS: &[Name] = names![
-    0x1 "UP"
-    0x2 "BROADCAST"
-    0x4 "DEBUG"
-    0x8 "LOOPBACK"
-    0x10 "POINTOPOINT"
-    0x20 "NOTRAILERS"
-    0x40 "RUNNING"
-    0x80 "NOARP"
-    0x100 "PROMISC"
-    0x200 "ALLMULTI"
-    0x400 "MASTER"
-    0x800 "SLAVE"
-    0x1000 "MULTICAST"
-    0x2000 "PORTSEL"
-    0x4000 "AUTOMEDIA"
-    0x8000 "DYNAMIC"
-    0x10000 "LOWER_UP"
-    0x20000 "DORMANT"
-    0x40000 "ECHO"
-];
-
-/// Operational states (`IF_OPER_`, `include/uapi/linux/if.h`).
-pub const OPERATIONAL_STATES: &[Name] = names![
-    0 "UNKNOWN"
-    1 "NOTPRESENT"
-    2 "DOWN"
-    3 "LOWERLAYERDOWN"
-    4 "TESTING"
-    5 "DORMANT"
-    6 "UP"
+    0x1 "UP"            0x2 "BROADCAST"    0x4 "DEBUG"         0x8 "LOOPBACK"
+    0x10 "POINTOPOINT"  0x20 "NOTRAILERS"  0x40 "RUNNING"      0x80 "NOARP"
+    0x100 "PROMISC"     0x200 "ALLMULTI"   0x400 "MASTER"      0x800 "SLAVE"
+    0x1000 "MULTICAST"  0x2000 "PORTSEL"   0x4000 "AUTOMEDIA"  0x8000 "DYNAMIC"
+    0x10000 "LOWER_UP"  0x20000 "DORMANT"  0x40000 "ECHO"
 ];
 
 /// Returns the names of the flags of messages of type `kind`.

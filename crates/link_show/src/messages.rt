@@ -124,7 +124,7 @@ pub fn write_message<W: Sink>(
 {
     write_first_line(writer, message)?;
     match message.kind {
-        NLMSG_ERROR | NLMSG_DONE => write_reply(writer, message),
+        NLMSG_ERROR | NLMSG_DONE => write_reply(writer, message, options),
         RTM_NEWLINK | RTM_DELLINK | RTM_GETLINK | RTM_SETLINK => {
             write_about_link(writer, message, options)
         }
@@ -210,13 +210,17 @@ pub fn is_general(message: &Message<'_>) -> bool
 }
 
 /// Writes the lines of an NLMSG_ERROR or an NLMSG_DONE, below its first line.
-fn write_reply<W: Sink>(writer: &mut W, message: &Message<'_>) -> Result<bool, W::Error>
+fn write_reply<W: Sink>(
+    writer: &mut W,
+    message: &Message<'_>,
+    options: LineOptions,
+) -> Result<bool, W::Error>
     requires { IsReplyType message.now.kind }
-    ensures { (options : LineOptions) → IfOk result (Writes (ShowsBody options message.now)
+    ensures { IfOk result (Writes (ShowsBody options message.now)
         (W.output writer.old) (W.output writer.new)) }
 {
     match read_acknowledgement(message) {
-        Ok(reply) => write_acknowledgement(writer, &reply),
+        Ok(reply) => write_acknowledgement(writer, &reply, options),
         Err(error) => {
             write_message_error(writer, "  ", error)?;
             Ok(false)

@@ -29,6 +29,7 @@ pub fn write_number<W: Sink>(
     ensures { OnOk result (Gains (W.output writer.old) (W.output writer.new) (number_text quantity number)) }
 {
     match quantity {
+        Quantity::Number => put_number(writer, number),
         Quantity::ClockTicks => write_ticks(writer, number),
         Quantity::InterfaceIndex => put_pieces(
             writer,

@@ -1,6 +1,6 @@
 //! Bytes: hardware addresses, and bytes in hexadecimal.
 
-ghost use Rattle.std.specs.Prelude.{◌++◌, OnOk};
+ghost use Rattle.std.specs.Prelude.{◌++◌, ◌≤◌, drop, codes, OnOk};
 ghost use Rattle.link_show.specs.Sink.{Gains};
 ghost use Rattle.link_show.specs.Octets.{byte_text, hex_text, address_text};
 
@@ -18,13 +18,21 @@ pub fn write_address<W: Sink>(writer: &mut W, address: &[u8]) -> Result<(), W::E
     if address.is_empty() {
         return writer.put(b"(empty)");
     }
-    let mut separator = b"".as_slice();
+    let mut skipped = 1;
     for byte in address {
-        writer.put(separator)?;
-        write_byte(writer, *byte)?;
-        separator = b":".as_slice();
+        write_byte_after(writer, skipped, *byte)?;
+        skipped = 0;
     }
     Ok(())
+}
+
+/// Writes a byte after a colon, which is left out if `skipped` is 1.
+fn write_byte_after<W: Sink>(writer: &mut W, skipped: usize, byte: u8) -> Result<(), W::Error>
+    requires { skipped ≤ 1 }
+    ensures { OnOk result (Gains (W.output writer.old) (W.output writer.new) (drop skipped (codes ":") ++ byte_text byte)) }
+{
+    let text = [b':', hex_digit(byte / 16), hex_digit(byte % 16)];
+    writer.put(&text[skipped..])
 }
 
 /// Writes bytes in hexadecimal, two digits each.

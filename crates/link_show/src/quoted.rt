@@ -1,6 +1,6 @@
 //! Bytes between quotes.
 
-ghost use Rattle.std.specs.Prelude.{◌≡◌, OnOk};
+ghost use Rattle.std.specs.Prelude.{OnOk};
 ghost use Rattle.link_show.specs.Sink.{Gains};
 ghost use Rattle.std.specs.List.{flat_map};
 ghost use Rattle.link_show.specs.Quoted.{quoted_byte, quoted};

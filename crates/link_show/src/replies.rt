@@ -1,26 +1,25 @@
 //! The kernel's replies.
 
-ghost use Rattle.std.specs.Prelude.{◌≡◌, codes, option_map, IfOk, OnOk};
+ghost use Rattle.std.specs.Prelude.{◌≡◌, option_map, IfOk, OnOk};
 ghost use Rattle.std.specs.Int.{is_negative};
-ghost use Rattle.std.specs.Option.{option_copied};
 ghost use Rattle.std.specs.Int.RustNames.{unsigned_abs};
 ghost use Rattle.link_show.specs.Sink.{Gains};
-ghost use Rattle.link_show.specs.Message.{reply_lines, is_sound, errno_name, result_line, error_number_line};
-ghost use Rattle.link_show.specs.Message.{has_result, outcome_line, line_of, policy_text};
-ghost use Rattle.link_show.specs.Value.{other_text};
+ghost use Rattle.link_show.specs.List.{Writes};
+ghost use Rattle.link_show.specs.Message.{ShowsReply, errno_name, result_line, error_number_line, has_result, outcome_line};
 
 use crate::errno::ERRNOS;
-use crate::faults::bytes_of;
-use crate::links::{write_header_fault, write_number_line, write_quoted_line};
+use crate::held::write_set;
+use crate::indent::Indent;
+use crate::line_options::LineOptions;
 use crate::pieces::{Piece, put_pieces};
 use crate::sink::Sink;
-use crate::values::write_other;
-use link_base::rows::label::{Quantity, name_of};
-use link_messages::{Acknowledgement, Payload};
+use link_base::rows::label::name_of;
+use link_messages::{Acknowledgement, MOST_LEVELS};
+use netlink_packet_route::{Context, Family};
 
-/// Writes the lines of an NLMSG_ERROR, below its first line: `ack`, or the error by its name and number; and what the
-/// kernel says of it. Those of an NLMSG_DONE are the same, but without `ack`. Returns whether no line is an error of the
-/// message itself.
+/// Writes the lines of an NLMSG_ERROR, below its first line: `ack`, or the error by its name and number; and its attributes,
+/// as [`write_family_list`](crate::write_family_list) writes a list of the set `reply`, but never whether it is canonical.
+/// Those of an NLMSG_DONE are the same, but without `ack`. Returns whether no line is an error of the message itself.
 ///
 /// # Errors
 ///
@@ -28,56 +27,21 @@ use link_messages::{Acknowledgement, Payload};
 pub fn write_acknowledgement<W: Sink>(
     writer: &mut W,
     reply: &Acknowledgement<'_>,
+    options: LineOptions,
 ) -> Result<bool, W::Error>
-    ensures { IfOk result (λ well. Gains (W.output writer.old) (W.output writer.new) (reply_lines reply.now)
-        × (well ≡ is_sound reply.now.fault)) }
+    ensures { IfOk result (Writes (ShowsReply options reply.now) (W.output writer.old) (W.output writer.new)) }
 {
     write_outcome(writer, reply)?;
-    write_quoted_line(writer, "message", reply.text)?;
-    write_number_line(writer, "offset", Quantity::Number, reply.offset)?;
-    write_number_line(writer, "missing type", Quantity::Number, reply.missing_type)?;
-    write_number_line(writer, "missing nest", Quantity::Number, reply.missing_nest)?;
-    write_policy_line(writer, reply.policy)?;
-    write_cookie_line(writer, reply.cookie)?;
-    write_header_fault(writer, reply.fault)
-}
-
-/// Writes the line of a policy, if there is one: its length.
-fn write_policy_line<W: Sink>(writer: &mut W, policy: Option<Payload<'_>>) -> Result<(), W::Error>
-    ensures { OnOk result (Gains (W.output writer.old) (W.output writer.new)
-        (line_of (codes "policy") policy_text policy.entry)) }
-{
-    match policy {
-        Some(policy) => {
-            let count = policy.bytes.len();
-            let bytes = bytes_of(count);
-            put_pieces(
-                writer,
-                &[
-                    Piece::Text("  policy ("),
-                    Piece::Number(count as u64),
-                    Piece::Text(bytes),
-                    Piece::Text(", not decoded)\n"),
-                ],
-            )
-        }
-        None => Ok(()),
-    }
-}
-
-/// Writes the line of a cookie, if there is one: its bytes.
-fn write_cookie_line<W: Sink>(writer: &mut W, cookie: Option<&[u8]>) -> Result<(), W::Error>
-    ensures { OnOk result (Gains (W.output writer.old) (W.output writer.new)
-        (line_of (codes "cookie") other_text (option_copied cookie.entry))) }
-{
-    match cookie {
-        Some(cookie) => {
-            writer.put(b"  cookie ")?;
-            write_other(writer, cookie)?;
-            writer.put(b"\n")
-        }
-        None => Ok(()),
-    }
+    let context = Context::of_message(0);
+    write_set(
+        writer,
+        options,
+        MOST_LEVELS,
+        &context,
+        Indent::Text("", 2),
+        Family::Reply,
+        reply.list,
+    )
 }
 
 /// Writes the line of the result of a request, or of a dump that failed.

@@ -26,7 +26,7 @@ pub fn write_verdict<W: Sink>(
     ensures { IfOk result (Writes (ShowsVerdict true indent.now list.entry.at (table_of family) list.entry.bytes.now)
         (W.output writer.old) (W.output writer.new)) }
 {
-    write_judgement(writer, family, Indent::Text(indent), list)
+    write_judgement(writer, family, Indent::Text(indent, 0), list)
 }
 
 /// Writes whether a list is canonical, and returns it.

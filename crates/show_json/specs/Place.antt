@@ -1,11 +1,10 @@
 -- The members that say where a document is from.
 use Rattle.std.specs.Prelude.{ℕ, List, [], ◌∷◌, ◌++◌, length, Option, Some, None, codes}
 use Rattle.std.specs.Option.{option_copied}
-use Rattle.json.specs.Json.{Json, string}
+use Rattle.json.specs.Json.{Json, null, string}
 use Rattle.link_base.specs.Labels.{name_in}
 use Rattle.link_capture.specs.Told.{Captured}
 use Rattle.link_json.specs.Doc.{Field, object_of, number_json, named_json}
-use Rattle.link_json.specs.Message.{or_null}
 use Rattle.show_captures.specs.Packet.{protocol_in}
 use Rattle.show_captures.specs.Protocol.{protocols}
 use Rattle.show_json.specs.declared.by_json.Json.{Json as Form}
@@ -28,7 +27,8 @@ time_fields file clock = file_fields file ++ (codes "time", clock) ∷ []
 
 -- a protocol of netlink, by number and by name
 abbrev pub protocol_json : Option ℕ → Json
-protocol_json protocol = or_null (λ n. named_json n (name_in protocols n)) protocol
+protocol_json None = null
+protocol_json (Some n) = named_json n (name_in protocols n)
 
 -- a packet with this number, at a time which a clock shows so
 abbrev pub packet_json : ℕ → Json → Captured → Json

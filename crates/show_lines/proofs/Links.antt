@@ -1,40 +1,67 @@
--- Messages, shown one after another.
-use Rattle.std.proofs.Common.{◌≡◌, ℕ, Bool, true, ◌&&◌, List, [], ◌∷◌, ◌++◌, refl, sym, ap, ◌∙◌, append_assoc, codes}
-use Rattle.std.specs.Option.{option_copied}
-use Rattle.std.proofs.Math.Bool.{and_assoc}
+-- Lists and messages, shown one after another.
+use Rattle.std.proofs.Common.{◌≡◌, ℕ, zero, suc, Bool, true, ◌&&◌, List, [], ◌∷◌, ◌++◌, map, drop, refl, sym, ap, subst, ◌∙◌, append_assoc}
 use Rattle.std.proofs.lemmas.List.{append-nil}
+use Rattle.netlink_packet_route.specs.declared.family.Family.{Family}
+use Rattle.netlink_packet_route.specs.declared.opening.Context.{Context}
+use Rattle.netlink_packet_route.specs.Family.{table_of}
 use Rattle.link_messages.specs.declared.buffer_parts.Message.{Message}
-use Rattle.link_messages.specs.declared.link.Link.{Link}
+use Rattle.link_messages.specs.declared.buffer_parts.Part.{Part}
 use Rattle.link_messages.specs.Message.{Stand}
+use Rattle.link_messages.specs.Finding.{Stretch}
+use Rattle.link_messages.specs.Held.{context_of, levels}
+use Rattle.link_messages.specs.Link.{part_of}
+use Rattle.link_messages.specs.Lists.{Listed, HasLists}
 use Rattle.link_show.specs.List.{EachShown}
-use Rattle.link_show.proofs.Listing.{and_true, each_none, each_more}
-use Rattle.show_lines.specs.List.{Adds}
-use Rattle.show_lines.specs.Messages.{AddsHead, ShowsPart, ShowsLink, ShowsMessage, ShowsMessages, ShowsEnd}
+use Rattle.link_show.proofs.Listing.{each_none, each_more}
+use Rattle.show_lines.specs.List.{Adds, ShowsList}
+use Rattle.show_lines.specs.Messages.{ShowsPart, ShowsParts, ShowsHolder, ShowsMessage, ShowsMessages, ShowsEnd}
 
--- the line of a link, and then its lists
-pub link_shown : (link : Link) (t a b c d e : List ℕ) (p q r s : Bool) → AddsHead link.index (option_copied link.name) t a → Adds (ShowsPart (codes "IFLA_LINKINFO") link.info_data) a b p
-    → Adds (ShowsPart (codes "IFLA_LINKINFO") link.port_data) b c q → Adds (ShowsPart (codes "IFLA_AF_SPEC") link.af_spec) c d r → Adds (ShowsPart (codes "IFLA_PROTINFO") link.protinfo) d e s
-    → Adds (ShowsLink link) t e (((p && q) && r) && s)
-link_shown link t a b c d e p q r s h i j k l =
-    let parts = i.0 ++ (j.0 ++ (k.0 ++ (l.0 ++ []))) in
-    let long : e ≡ (((((t ++ h.0) ++ i.0) ++ j.0) ++ k.0) ++ l.0) =
-    l.2 ∙ ap (λ x. x ++ l.0) (k.2 ∙ ap (λ x. x ++ k.0) (j.2 ∙ ap (λ x. x ++ j.0) (i.2 ∙ ap (λ x. x ++ i.0) h.2))) in
-    let shift : (((((t ++ h.0) ++ i.0) ++ j.0) ++ k.0) ++ l.0) ≡ t ++ (h.0 ++ parts) = simp (append_assoc, append-nil) in (
-      h.0 ++ parts,
+-- ---- lists
+
+pub parts_none : (indent t : List ℕ) → Adds (ShowsParts indent []) t t true
+parts_none indent t = ([], each_none (ShowsPart indent), sym (append-nil t))
+
+-- one list more
+pub parts_more : (indent : List ℕ) (xs : List Listed) (x : Listed) (t u v : List ℕ) (whole read : Bool) → Adds (ShowsParts indent xs) t u whole → Adds (ShowsPart indent x) u v read
+    → Adds (ShowsParts indent (xs ++ x ∷ [])) t v (whole && read)
+parts_more indent xs x t u v whole read h k =
+    (h.0 ++ k.0, each_more (ShowsPart indent) xs h.0 x k.0 whole read h.1 k.1, k.2 ∙ ap (λ y. y ++ k.0) h.2 ∙ append_assoc t h.0 k.0)
+
+-- the first of the lists that are found is the list itself
+own_first : (family : Family) (list : Stretch) (held lists : List Listed) → lists ≡ (family, list) ∷ held → lists ≡ (family, list) ∷ drop 1 lists
+own_first family list held lists e = e ∙ ap (λ t. (family, list) ∷ t) (sym (ap (drop 1) e))
+
+pub holder_first : (n : ℕ) (context : Context) (family : Family) (list : Stretch) (lists : List Listed) → HasLists n context family list lists → lists ≡ (family, list) ∷ drop 1 lists
+holder_first zero context family list lists (held, h, e) = own_first family list held lists e
+holder_first (suc n) context family list lists (held, h, e) = own_first family list held lists e
+
+drop-map : (parts : List Part) → drop 1 (map part_of parts) ≡ map part_of (drop 1 parts)
+drop-map [] = refl
+drop-map (p ∷ parts) = refl
+
+-- a list, and the lists that its attributes hold
+pub holder_shown : (family : Family) (list : Stretch) (parts : List Part) (t u v : List ℕ) (whole read : Bool) → HasLists levels (context_of 0) family list (map part_of parts)
+    → Adds (ShowsList [] list.0 (table_of family) list.1) t u whole → Adds (ShowsParts [] (map part_of (drop 1 parts))) u v read → Adds (ShowsHolder family list) t v (whole && read)
+holder_shown family list parts t u v whole read has h k =
+    let first : map part_of parts ≡ (family, list) ∷ map part_of (drop 1 parts) =
+    holder_first levels (context_of 0) family list (map part_of parts) has ∙ ap (λ z. (family, list) ∷ z) (drop-map parts) in (
+      h.0 ++ k.0,
       record {
-        head = h.0;
-        parts = parts;
-        is_head = h.1;
-        each = record {
-          answers = (i.0, p) ∷ (j.0, q) ∷ (k.0, r) ∷ (l.0, s) ∷ [];
-          each = (i.1, (j.1, (k.1, (l.1, tt))));
-          joined = refl;
-          all = and_assoc (p && q) r s ∙ and_assoc p q (r && s) ∙ ap (λ x. p && (q && (r && x))) (sym (and_true s));
-        };
+        held = map part_of (drop 1 parts);
+        lists = subst (HasLists levels (context_of 0) family list) first has;
+        own = h.0;
+        own_read = whole;
+        is_own = h.1;
+        others = k.0;
+        others_read = read;
+        are_others = k.1;
         joined = refl;
+        all = refl;
       },
-      long ∙ shift,
+      k.2 ∙ ap (λ y. y ++ k.0) h.2 ∙ append_assoc t h.0 k.0,
     )
+
+-- ---- messages
 
 -- the messages of a buffer up to an offset were shown
 pub record ShownTo (s : List ℕ) (at : ℕ) (out : List ℕ) (whole : Bool) : Type 0 where

@@ -14,7 +14,7 @@ use Rattle.netlink_packet_route.specs.HexText.{digits_of}
 use Rattle.netlink_packet_route.specs.Number.{IsBytes}
 use Rattle.netlink_packet_route.specs.Report.{line}
 use Rattle.link_show.specs.declared.line_options.LineOptions.{LineOptions}
-use Rattle.link_show.specs.Held.{context_of}
+use Rattle.link_messages.specs.Held.{context_of}
 use Rattle.link_show.specs.Printable.{IsText, AreTexts}
 use Rattle.link_show.specs.Quoted.{quoted}
 use Rattle.link_show.proofs.Printing.{text as is_text, none, quoted_text}

@@ -1,17 +1,17 @@
--- The output for messages.
-use Rattle.std.specs.Prelude.{◌≡◌, ℕ, ℤ, Bool, true, false, ◌&&◌, List, [], ◌++◌, drop, Option, Some, None, Ok, Err, IfSome, codes}
-use Rattle.std.specs.Fmt.{signed_decimal}
-use Rattle.std.specs.Option.{option_copied}
-use Rattle.bstr.specs.Show.{debug_text}
+-- The output for messages, and for the lists in them.
+use Rattle.std.specs.Prelude.{◌≡◌, ℕ, ℤ, Bool, true, false, ◌&&◌, List, [], ◌∷◌, ◌++◌, drop, None, Ok, Err, codes}
+use Rattle.std.specs.Fmt.{decimal, signed_decimal}
 use Rattle.netlink_packet_route.specs.declared.family.Family.{Family}
 use Rattle.netlink_packet_route.specs.Family.{family_name, table_of}
 use Rattle.netlink_packet_route.specs.Report.{line}
 use Rattle.link_messages.specs.declared.buffer_parts.Message.{Message}
-use Rattle.link_messages.specs.declared.link.Link.{Link}
-use Rattle.link_messages.specs.declared.link.Part.{Part}
+use Rattle.link_messages.specs.declared.header.LinkHeader.{LinkHeader}
 use Rattle.link_messages.specs.declared.message.MessageError.{MessageError}
 use Rattle.link_messages.specs.Message.{NextMessage, Stand, packet_of, error_text}
-use Rattle.link_messages.specs.Link.{IsAbout, IsAboutNone, parts_of}
+use Rattle.link_messages.specs.Finding.{Stretch}
+use Rattle.link_messages.specs.Header.{HasLinkHeader, HasNoLinkHeader}
+use Rattle.link_messages.specs.Held.{context_of, levels}
+use Rattle.link_messages.specs.Lists.{Listed, HasLists, ListsMessage}
 use Rattle.show_lines.specs.List.{ShowsList}
 use Rattle.link_show.specs.List.{EachShown}
 
@@ -20,40 +20,44 @@ use Rattle.link_show.specs.List.{EachShown}
 abbrev pub error_line : MessageError → List ℕ
 error_line error = line (codes "  " ++ error_text error)
 
--- the line before a list: the attribute that has the list, and the name of the attribute set
-abbrev pub path_line : List ℕ → Family → List ℕ
-path_line place family = line (codes "  " ++ (place ++ (codes " " ++ family_name family)))
-
 -- the index of a link
-abbrev pub index_text : ℤ → List ℕ
-index_text index = codes "  link " ++ signed_decimal index
+abbrev pub index_line : ℤ → List ℕ
+index_line index = line (codes "  ifindex " ++ signed_decimal index)
 
--- the index and, if there is one, the name in quotes
-abbrev pub IsHead : ℤ → Option (List ℕ) → List ℕ → Type 0
-IsHead index None out = out ≡ line (index_text index)
-IsHead index (Some name) out =
-    (words : List ℕ) × IfSome (debug_text name) (λ t. words ≡ t) × (out ≡ line (index_text index ++ (codes " " ++ words)))
+-- the line before a list: the name of the attribute set, and the offset
+abbrev pub part_line : List ℕ → Listed → List ℕ
+part_line indent x = line (indent ++ (family_name x.0 ++ (codes " at " ++ decimal x.1.0)))
+
+-- ---- lists
+
+-- the output for a list, and whether it decodes
+abbrev pub ShowsPart : List ℕ → Listed → List ℕ → Bool → Type 0
+ShowsPart indent x out read = (below : List ℕ) × ShowsList indent x.1.0 (table_of x.0) x.1.1 below read × (out ≡ part_line indent x ++ below)
+
+-- that for several, and whether all decode
+abbrev pub ShowsParts : List ℕ → List Listed → List ℕ → Bool → Type 0
+ShowsParts indent = EachShown (ShowsPart indent)
+
+-- that for a list, and behind it that for the lists that its attributes hold
+pub record ShowsHolder (family : Family) (list : Stretch) (out : List ℕ) (whole : Bool) : Type 0 where
+  pub held : List Listed
+  pub lists : HasLists levels (context_of 0) family list ((family, list) ∷ held)
+  pub own : List ℕ
+  pub own_read : Bool
+  pub is_own : ShowsList [] list.0 (table_of family) list.1 own own_read
+  pub others : List ℕ
+  pub others_read : Bool
+  pub are_others : ShowsParts [] held others others_read
+  pub joined : out ≡ own ++ others
+  pub all : whole ≡ (own_read && others_read)
 
 -- ---- a message
 
--- the output for a list of a message, and whether it decodes: its path and its lines; or nothing, if it is absent
-abbrev pub ShowsPart : List ℕ → Option Part → List ℕ → Bool → Type 0
-ShowsPart place None out read = (out ≡ []) × (read ≡ true)
-ShowsPart place (Some p) out read =
-    (below : List ℕ) × ShowsList (codes "  ") p.payload.at (table_of p.family) p.payload.bytes.now below read × (out ≡ path_line place p.family ++ below)
-
--- the output for a link, and whether its lists decode
-pub record ShowsLink (link : Link) (out : List ℕ) (read : Bool) : Type 0 where
-  pub head : List ℕ
-  pub parts : List ℕ
-  pub is_head : IsHead link.index (option_copied link.name) head
-  pub each : EachShown (λ p. ShowsPart p.0 p.1) (parts_of link) parts read
-  pub joined : out ≡ head ++ parts
-
 -- the output for a message, and whether it and its lists decode
 pub data ShowsMessage (m : Message) (out : List ℕ) (read : Bool) : Type 0 where
-  About : (link : Link) → IsAbout m.at (packet_of m) link → ShowsLink link out read → ShowsMessage m out read
-  AboutNone : (error : MessageError) → IsAboutNone m.at (packet_of m) error → out ≡ error_line error → read ≡ false → ShowsMessage m out read
+  About : (header : LinkHeader) → HasLinkHeader (packet_of m) header → (lists : List Listed) → ListsMessage m.at (packet_of m) lists → (below : List ℕ) → ShowsParts (codes "  ") lists below read
+      → out ≡ index_line header.index ++ below → ShowsMessage m out read
+  AboutNone : (error : MessageError) → HasNoLinkHeader m.at (packet_of m) error → out ≡ error_line error → read ≡ false → ShowsMessage m out read
 
 -- ---- a buffer
 
@@ -75,8 +79,3 @@ pub record ShowsMessages (s out : List ℕ) (whole : Bool) : Type 0 where
   pub at_end : ShowsEnd s end last last_read
   pub joined : out ≡ front ++ last
   pub all : whole ≡ (front_read && last_read)
-
--- ---- what functions append to a string
-
-abbrev pub AddsHead : ℤ → Option (List ℕ) → List ℕ → List ℕ → Type 0
-AddsHead index name old new = (out : List ℕ) × IsHead index name out × (new ≡ old ++ out)

@@ -12,14 +12,14 @@ use Rattle.netlink_packet_route.specs.Report.{line, most_text}
 use Rattle.show_lines.specs.declared.asking.Asked.{Asked}
 use Rattle.show_lines.specs.declared.asking.Asked.TheVariants.{Messages, Attributes, Verdict}
 pub use Rattle.show_lines.specs.List.{IsUnbroken}
-use Rattle.show_lines.specs.List.{ShowsList}
-use Rattle.show_lines.specs.Messages.{ShowsMessages}
+use Rattle.show_lines.specs.Messages.{ShowsMessages, ShowsHolder}
 use Rattle.show_lines.specs.declared.arguments.Options.{Options}
 use Rattle.show_lines.specs.declared.arguments.Format.{Format}
 use Rattle.show_lines.specs.declared.arguments.Format.TheVariants.{Plain, Debug}
 use Rattle.link_show.specs.declared.line_options.LineOptions.{LineOptions}
 use Rattle.link_show.specs.List.{EachShown, ShowsVerdict}
-use Rattle.link_show.specs.Held.{context_of, ShowsChecked}
+use Rattle.link_messages.specs.Held.{context_of}
+use Rattle.link_show.specs.Held.{ShowsChecked}
 use Rattle.link_show.specs.Message as plain
 use Rattle.link_show.specs.Quoted.{quoted}
 
@@ -85,9 +85,9 @@ Form = Asked → List ℕ → List ℕ → Bool → Type 0
 
 -- as Rust's `Debug` prints values
 abbrev pub ShowsDebug : Form
-ShowsDebug Messages = ShowsMessages
-ShowsDebug (Attributes family) = ShowsList [] 0 (table_of family)
-ShowsDebug (Verdict family) = ShowsVerdict true [] 0 (table_of family)
+ShowsDebug Messages bytes = ShowsMessages bytes
+ShowsDebug (Attributes family) bytes = ShowsHolder family (0, bytes)
+ShowsDebug (Verdict family) bytes = ShowsVerdict true [] 0 (table_of family) bytes
 
 -- as people read values
 abbrev pub ShowsPlain : LineOptions → Form

@@ -13,6 +13,7 @@ mod held;
 pub mod laws;
 mod lists;
 mod messages;
+mod parts;
 mod plain;
 mod repeating;
 mod replies;

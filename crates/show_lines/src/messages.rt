@@ -1,15 +1,16 @@
 //! Formats messages.
 
 ghost use Rattle.std.specs.Prelude.{◌≡◌, ◌++◌, IfOk, OnOk, string_bytes};
-ghost use Rattle.std.specs.Option.{option_copied};
+ghost use Rattle.link_messages.specs.declared.header.LinkHeader.{LinkHeader};
+ghost use Rattle.link_messages.specs.Header.{HasLinkHeader};
+ghost use Rattle.link_messages.specs.Message.{packet_of};
 ghost use Rattle.show_lines.specs.List.{Adds};
-ghost use Rattle.show_lines.specs.Messages.{ShowsMessages, ShowsMessage, ShowsLink, ShowsPart, AddsHead};
-ghost use Rattle.show_lines.specs.Messages.{error_line, path_line};
+ghost use Rattle.show_lines.specs.Messages.{ShowsMessages, ShowsMessage, error_line, index_line};
 
-use crate::lists::push_list;
-use bstr::ByteSlice;
-use link_messages::{Link, Message, MessageError, Part, laws, next_message, read_link};
-use netlink_packet_route::Family;
+use crate::parts::push_parts;
+use link_messages::{
+    LinkHeader, ListsError, Message, MessageError, laws, link_header, next_message, read_lists,
+};
 use std::alloc::{AllocError, Global};
 use std::fmt::Write;
 
@@ -43,9 +44,32 @@ pub(crate) fn push_messages(
 fn push_message(alloc: Global, text: &mut String, message: &Message<'_>) -> Result<bool, AllocError>
     ensures { IfOk result (Adds (ShowsMessage message.now) (string_bytes text.old) (string_bytes text.new)) }
 {
-    match read_link(message) {
-        Ok(link) => push_link(alloc, text, &link),
+    match link_header(message) {
+        Ok((header, _)) => push_link(alloc, text, message, header),
         Err(error) => {
+            push_error(text, error)?;
+            Ok(false)
+        }
+    }
+}
+
+/// Appends the lines of a message about a link: its index, and its lists. Returns whether these decode.
+fn push_link(
+    alloc: Global,
+    text: &mut String,
+    message: &Message<'_>,
+    header: LinkHeader,
+) -> Result<bool, AllocError>
+    requires { HasLinkHeader (packet_of message.now) header }
+    ensures { IfOk result (Adds (ShowsMessage message.now) (string_bytes text.old) (string_bytes text.new)) }
+{
+    match read_lists(alloc, message) {
+        Ok(lists) => {
+            push_index(text, &header)?;
+            push_parts(alloc, text, "  ", &lists)
+        }
+        Err(ListsError::Memory(error)) => Err(error),
+        Err(ListsError::Message(error)) => {
             push_error(text, error)?;
             Ok(false)
         }
@@ -58,54 +82,9 @@ fn push_error(text: &mut String, error: MessageError) -> Result<(), AllocError>
     writeln!(text, "  {error}")
 }
 
-/// Appends the lines of a link. Returns whether its lists decode.
-fn push_link(alloc: Global, text: &mut String, link: &Link<'_>) -> Result<bool, AllocError>
-    ensures { IfOk result (Adds (ShowsLink link.now) (string_bytes text.old) (string_bytes text.new)) }
+fn push_index(text: &mut String, header: &LinkHeader) -> Result<(), AllocError>
+    ensures { OnOk result (string_bytes text.new ≡ string_bytes text.old ++ index_line header.now.index) }
 {
-    push_head(alloc, text, link)?;
-    let info = push_part(alloc, text, "IFLA_LINKINFO", link.info_data)?;
-    let port = push_part(alloc, text, "IFLA_LINKINFO", link.port_data)?;
-    let spec = push_part(alloc, text, "IFLA_AF_SPEC", link.af_spec)?;
-    let protinfo = push_part(alloc, text, "IFLA_PROTINFO", link.protinfo)?;
-    Ok(info & port & spec & protinfo)
-}
-
-/// Appends the first line of a link: its index, and its name in quotes, if it has one.
-fn push_head(alloc: Global, text: &mut String, link: &Link<'_>) -> Result<(), AllocError>
-    ensures { OnOk result
-        (AddsHead link.now.index (option_copied link.now.name) (string_bytes text.old) (string_bytes text.new)) }
-{
-    let index = link.index;
-    match link.name {
-        Some(name) => {
-            let words = format!(in alloc; "{:?}", name.as_bstr())?;
-            writeln!(text, "  link {index} {words}")
-        }
-        None => writeln!(text, "  link {index}"),
-    }
-}
-
-/// Appends the path and the lines of a list, if it is present. Returns whether it is absent or decodes.
-fn push_part(
-    alloc: Global,
-    text: &mut String,
-    place: &str,
-    part: Option<Part<'_>>,
-) -> Result<bool, AllocError>
-    ensures { IfOk result (Adds (ShowsPart place.now part.entry) (string_bytes text.old) (string_bytes text.new)) }
-{
-    match part {
-        Some(part) => {
-            push_path(text, place, part.family)?;
-            push_list(alloc, text, "  ", part)
-        }
-        None => Ok(true),
-    }
-}
-
-fn push_path(text: &mut String, place: &str, family: Family) -> Result<(), AllocError>
-    ensures { OnOk result (string_bytes text.new ≡ string_bytes text.old ++ path_line place.now family) }
-{
-    let name = family.name();
-    writeln!(text, "  {place} {name}")
+    let index = header.index;
+    writeln!(text, "  ifindex {index}")
 }

@@ -2,7 +2,6 @@
 
 use link_messages::{Acknowledgement, MessageError, Payload, any_message, read_acknowledgement};
 use netlink_packet_route::hex_text;
-use netlink_packet_route::link::Cause;
 use std::alloc::Global;
 use std::process::Abort;
 
@@ -52,115 +51,67 @@ const SHORT_END: &str = "\
 const LINK: &str = "\
     20000000 10000000 01000000 00000000 00000000 01000000 00000000 00000000";
 
-/// The policy in REJECTED.
-const POLICY: &[u8] = &[
-    12, 0, 4, 0, 0, 0, 0, 0, 0, 0, 0, 0, 12, 0, 5, 0, 255, 255, 255, 255, 0, 0, 0, 0, 8, 0, 1, 0,
-    4, 0, 0, 0,
-];
-
-/// A reply without attributes.
-fn bare(error: i32) -> Acknowledgement<'static> {
-    Acknowledgement {
-        is_done: false,
-        error,
-        text: None,
-        offset: None,
-        missing_type: None,
-        missing_nest: None,
-        policy: None,
-        cookie: None,
-        fault: None,
-    }
+/// Reads the message with these digits, and returns what `read_acknowledgement` says.
+fn reply_in<'a>(
+    rt: &impl Abort,
+    buffer: &'a [u8],
+    digits: &str,
+) -> Result<Acknowledgement<'a>, MessageError> {
+    let found = any_message(buffer, 0).expect(rt, digits);
+    read_acknowledgement(&found.expect(rt, digits))
 }
 
-/// Asserts what the message with these digits says.
-fn says(
-    rt: &impl Abort,
-    alloc: Global,
-    digits: &str,
-    wanted: Result<Acknowledgement<'_>, MessageError>,
-) {
+/// Asserts that the message with these digits is a reply with this error, and that its attributes are from offset `at` to
+/// its end.
+fn says(rt: &impl Abort, alloc: Global, digits: &str, is_done: bool, error: i32, at: usize) {
     let buffer = hex_text::decode(alloc, digits.as_bytes()).expect(rt, digits);
-    let found = any_message(&buffer, 0).expect(rt, digits);
-    let message = found.expect(rt, digits);
-    assert!(rt; read_acknowledgement(&message) == wanted);
+    let start = at.min(buffer.len());
+    let (_, bytes) = buffer.split_at(start);
+    let reply = Acknowledgement {
+        is_done,
+        error,
+        list: Payload { at: start, bytes },
+    };
+    assert!(rt; start == at && reply_in(rt, &buffer, digits) == Ok(reply));
+}
+
+/// Asserts that the message with these digits is refused with this error.
+fn refused(rt: &impl Abort, alloc: Global, digits: &str, error: MessageError) {
+    let buffer = hex_text::decode(alloc, digits.as_bytes()).expect(rt, digits);
+    assert!(rt; reply_in(rt, &buffer, digits) == Err(error));
 }
 
 #[test]
 fn replies(rt: HostRuntime) {
     let alloc = rt.alloc();
-    let rejected = Acknowledgement {
-        text: Some(b"Attribute failed policy validation"),
-        offset: Some(32),
-        policy: Some(Payload {
-            at: 112,
-            bytes: POLICY,
-        }),
-        ..bare(-34)
-    };
-    says(&rt, alloc, REJECTED, Ok(rejected));
-    let lacking = Acknowledgement {
-        missing_type: Some(1),
-        ..bare(-22)
-    };
-    says(&rt, alloc, LACKING, Ok(lacking));
-    says(&rt, alloc, PLAIN, Ok(bare(-19)));
+    says(&rt, alloc, REJECTED, false, -34, 60);
+    says(&rt, alloc, LACKING, false, -22, 36);
+    says(&rt, alloc, PLAIN, false, -19, 60);
+    says(&rt, alloc, BROKEN, false, -22, 36);
 }
 
 #[test]
 fn ends_of_dumps(rt: HostRuntime) {
     let alloc = rt.alloc();
-    let done = Acknowledgement {
-        is_done: true,
-        ..bare(0)
-    };
-    says(&rt, alloc, DONE, Ok(done));
-    says(&rt, alloc, SHORT_END, Ok(done));
-    let failed = Acknowledgement {
-        error: -12,
-        text: Some(b"ab"),
-        missing_nest: Some(40),
-        cookie: Some(b"\xbe\xef"),
-        ..done
-    };
-    says(&rt, alloc, FAILED, Ok(failed));
-    let broken = Acknowledgement {
-        fault: Some(MessageError::Frame {
-            at: 20,
-            cause: Cause::Overrun {
-                length: 12,
-                left: 8,
-            },
-        }),
-        ..done
-    };
-    says(&rt, alloc, BROKEN_END, Ok(broken));
+    says(&rt, alloc, DONE, true, 0, 20);
+    says(&rt, alloc, FAILED, true, -12, 20);
+    says(&rt, alloc, BROKEN_END, true, 0, 20);
+    says(&rt, alloc, SHORT_END, true, 0, 19);
 }
 
 #[test]
-fn malformed_replies(rt: HostRuntime) {
+fn no_replies(rt: HostRuntime) {
     let alloc = rt.alloc();
-    let broken = Acknowledgement {
-        fault: Some(MessageError::Frame {
-            at: 36,
-            cause: Cause::Overrun {
-                length: 12,
-                left: 8,
-            },
-        }),
-        ..bare(-22)
-    };
-    says(&rt, alloc, BROKEN, Ok(broken));
-    says(
+    refused(
         &rt,
         alloc,
         SHORT,
-        Err(MessageError::ShortError { at: 0, length: 35 }),
+        MessageError::ShortError { at: 0, length: 35 },
     );
-    says(
+    refused(
         &rt,
         alloc,
         LINK,
-        Err(MessageError::OtherType { at: 0, kind: 16 }),
+        MessageError::OtherType { at: 0, kind: 16 },
     );
 }

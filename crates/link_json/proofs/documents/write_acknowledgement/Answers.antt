@@ -1,12 +1,14 @@
 use Rattle.std.proofs.Common.{◌∷◌, [], refl}
-use Rattle.link_json.specs.Message.{Reply, NoReply, reply_fields, message_error}
-use Rattle.link_json.proofs.DocumentParts.{sound_of}
+use Rattle.link_show.proofs.MessageLines.{if_ok}
+use Rattle.link_json.specs.Message.{ShowsReply, ShowsBody, WritesFields, Reply, NoReply, message_error}
 use Rattle.link_json.proofs.documents.write_acknowledgement.Goals as goal
 
-pub returns-in_ok-write_reply-in-Ok : goal.returns-in_ok-write_reply-in-Ok
-returns-in_ok-write_reply-in-Ok c =
+pub returns-in-Ok : goal.returns-in-Ok
+returns-in-Ok c =
     let a = c.in-Ok.reply in
-    (reply_fields a, Reply a c.in-Ok.ensures refl (sound_of a.fault c.is_none.result c.is_none.ensures), c.in_ok-write_reply-in-Ok.ensures)
+    let old = c.args.sheet.now in
+    let new = c.write_reply.new.sheet in
+    if_ok (WritesFields (ShowsReply a) old new) (WritesFields (ShowsBody c.args.message.now) old new) c.write_reply.result (λ well s. (s.0, Reply a c.in-Ok.ensures s.1, s.2)) c.write_reply.ensures
 
 pub returns-in_ok-write_message_error-in-Err : goal.returns-in_ok-write_message_error-in-Err
 returns-in_ok-write_message_error-in-Err c =

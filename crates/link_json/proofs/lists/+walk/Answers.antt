@@ -10,7 +10,7 @@ use Rattle.netlink_packet_route.specs.Family.{table_of}
 use Rattle.netlink_packet_route.specs.Opening.{holding_at, IsOpened}
 use Rattle.netlink_packet_route.specs.Views.{family_in, elements_table}
 use Rattle.link_messages.proofs.Walking.{split_short}
-use Rattle.link_show.specs.Held.{Answers}
+use Rattle.link_messages.specs.Held.{Answers}
 use Rattle.link_show.proofs.HeldLines.{list_payload, none_of, state_long}
 use Rattle.link_show.proofs.HeldPrinting.{family_has_texts}
 use Rattle.link_show.proofs.Listing.{LeadTo, list_none, shown_none}

@@ -1,5 +1,5 @@
 use Rattle.std.proofs.Common.{subst}
-use Rattle.link_show.specs.Held.{levels}
+use Rattle.link_messages.specs.Held.{levels}
 use Rattle.link_json.specs.List.{ShowsSet, ShowsList, Writes}
 use Rattle.link_json.proofs.Listing.{array_shown}
 use Rattle.link_json.proofs.lists.write_array.Goals as goal

@@ -1,21 +1,20 @@
-use Rattle.std.proofs.Common.{◌≡◌, ◌++◌, ◌∷◌, [], ◌∙◌, sym, ap, codes}
-use Rattle.std.proofs.lemmas.Bool.{cond-true}
-use Rattle.link_json.specs.Doc.{fields_tokens}
-use Rattle.link_json.specs.Message.{fault_fields, reply_json, reply_fields}
-use Rattle.link_json.proofs.Loops.{on_ok}
-use Rattle.link_json.proofs.Objects.{fields_then, field_only}
+use Rattle.std.proofs.Common.{◌∷◌, [], true, refl, sym, subst, ◌∙◌, codes}
+use Rattle.link_show.proofs.MessageLines.{if_ok}
+use Rattle.link_json.specs.List.{WritesValue}
+use Rattle.link_json.specs.Message.{ShowsReply, SaysReply, WritesFields, shows_said}
+use Rattle.link_json.proofs.Objects.{no_field, field_only}
 use Rattle.link_json.proofs.replies.write_reply.Goals as goal
+
+pub returns-then-not-says_something : goal.returns-then-not-says_something
+returns-then-not-says_something c =
+    ([], subst (λ said. shows_said said c.args.reply.now [] true) (sym (sym c.says_something.ensures ∙ c.if-not-says_something.true)) (refl, refl), no_field c.args.sheet.now)
 
 pub returns : goal.returns
 returns c =
     let a = c.args.reply.now in
     let old = c.args.sheet.now in
     let new = c.write_said.new.sheet in
-    let fault = fault_fields a.fault in
-    let reply = (codes "reply", reply_json a) ∷ [] in
-    let said : fault ++ reply ≡ reply_fields a = sym (cond-true _ _ _ (sym c.says_something.ensures ∙ c.if-not-says_something.false)) in
-    on_ok c.write_said.result
-    (λ last.
-    fields_then old c.write_header_fault.new.sheet new fault reply c.in_ok-write_header_fault.ensures (field_only c.write_header_fault.new.sheet c.key.new.self new (codes "reply") (reply_json a) c.in_ok-key.ensures last)
-    ∙ ap (λ fields. old ++ fields_tokens fields) said)
+    let says = sym (sym c.says_something.ensures ∙ c.if-not-says_something.false) in
+    if_ok (WritesValue (SaysReply a) c.key.new.self new) (WritesFields (ShowsReply a) old new) c.write_said.result
+    (λ well (j, shown, written). ((codes "reply", j) ∷ [], subst (λ said. shows_said said a ((codes "reply", j) ∷ []) well) says (j, shown, refl), field_only old c.key.new.self new (codes "reply") j c.in_ok-key.ensures written))
     c.write_said.ensures

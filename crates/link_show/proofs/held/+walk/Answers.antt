@@ -13,7 +13,8 @@ use Rattle.link_show.specs.Gained.{gains_nothing}
 use Rattle.link_show.specs.Sink.{Gains}
 use Rattle.link_show.specs.Indents.{indent_text}
 use Rattle.link_show.specs.List.{indented, Writes}
-use Rattle.link_show.specs.Held.{Answers, titled, shows_leaf, ShowsSingle, ShowsInner, ShowsDecoded, is_left_out, shows_unless, ShowsSet, shows_in}
+use Rattle.link_messages.specs.Held.{Answers}
+use Rattle.link_show.specs.Held.{titled, shows_leaf, ShowsSingle, ShowsInner, ShowsDecoded, is_left_out, shows_unless, ShowsSet, shows_in}
 use Rattle.link_show.proofs.Lines.{list_decodes}
 use Rattle.link_show.proofs.Listing.{LeadTo, list_none, shown_none}
 use Rattle.link_show.proofs.HeldLines.{SetTo, none_of, opened_written, list_payload, nested_lines, single_lines, inner_more, decoded_more, fault_more, set_all, state_long, is_unset, is_set, unjudged, judged}
@@ -127,10 +128,10 @@ write_decoded-returns-in_ok-write_title-in-List g t c =
     let known = c.known-known in
     let set = c.of_checked-elements.ensures.set in
     let has : HasContent (table_of (family_in (set_in x))) (buffer_in x) known.result.content = record { decodes = x.decodes; borrows = known.ensures.content; form = known.ensures.form } in
-    nested_lines c.write_inners.result c.args.depth (shows_in c.args.options c.args.depth) c.args.context.now (indent_text c.args.indent) c.args.at (family_in (set_in x)) (buffer_in x) c.in-List.list _ (label_in known.result.label) _ _ _
+    nested_lines c.write_inners.result c.args.depth (shows_in c.args.options c.args.depth) c.args.context.now (indent_text c.args.indent) c.args.at (family_in (set_in x)) (buffer_in x) c.in-List.list _ (label_in known.result.label) _ _ _ _
     (g.W.Sink.output c.args.writer.now) (g.W.Sink.output c.write_title.new.writer) (g.W.Sink.output c.write_inners.new.writer)
     (subst (HasContent (table_of (family_in (set_in x))) (buffer_in x)) c.in-List.is has) known.ensures.label (ap (λ s. s.family) set ∙ ap family_in c.set-set.ensures) (ap (λ s. s.list) set ∙ c.kind.ensures)
-    c.of_checked-elements.ensures.bytes (subst (λ name. Gains (g.W.Sink.output c.args.writer.now) (g.W.Sink.output c.write_title.new.writer) (indented (indent_text c.args.indent) (titled name false None c.in-List.list.now))) c.holder_name-name.ensures c.in_ok-write_title-in-List.ensures) c.write_inners.ensures
+    c.of_checked-elements.ensures.bytes c.below.ensures (subst (λ name. Gains (g.W.Sink.output c.args.writer.now) (g.W.Sink.output c.write_title.new.writer) (indented (indent_text c.args.indent) (titled name false None c.in-List.list.now))) c.holder_name-name.ensures c.in_ok-write_title-in-List.ensures) c.write_inners.ensures
 
 pub write_decoded-returns-in_default : goal.write_decoded-returns-in_default
 write_decoded-returns-in_default g t c =
@@ -146,9 +147,9 @@ write_single-returns-in_ok-write_title-in-Some g t c =
     let f = c.raw_kind-f.result in
     let opened = c.opened_at in
     opened_written c.write_judged.result c.args.options c.args.depth c.args.context.now c.args.family c.args.list (indent_text c.args.indent) c.args.at (label_in c.args.known.now.label) c.args.buffer c.args.known.now.content c.in-Some.set
-    c.is_selected-selected.result f c.value-bytes.result.now (g.W.Sink.output c.args.writer.now) (g.W.Sink.output c.write_title.new.writer) (g.W.Sink.output c.write_judged.new.writer)
+    c.is_selected-selected.result f c.value-bytes.result.now _ (g.W.Sink.output c.args.writer.now) (g.W.Sink.output c.write_title.new.writer) (g.W.Sink.output c.write_judged.new.writer)
     (subst (Answers c.args.depth (IsOpened (holding_at c.args.context.now c.args.family c.args.list f)) c.args.known.now.content) c.in-Some.is opened.ensures.answer)
-    (subst (λ a. IfSome a (λ _. 0 < c.args.depth)) c.in-Some.is opened.ensures.depth) c.is_selected-selected.ensures c.raw_kind-f.ensures c.value-bytes.ensures (subst (λ name. Gains (g.W.Sink.output c.args.writer.now) (g.W.Sink.output c.write_title.new.writer) (indented (indent_text c.args.indent) (titled name c.is_selected-selected.result (Some c.in-Some.set) c.value-bytes.result.now))) c.holder_name-name.ensures c.in_ok-write_title-in-Some.ensures)
+    (subst (λ a. IfSome a (λ _. 0 < c.args.depth)) c.in-Some.is opened.ensures.depth) c.is_selected-selected.ensures c.raw_kind-f.ensures c.value-bytes.ensures c.below.ensures (subst (λ name. Gains (g.W.Sink.output c.args.writer.now) (g.W.Sink.output c.write_title.new.writer) (indented (indent_text c.args.indent) (titled name c.is_selected-selected.result (Some c.in-Some.set) c.value-bytes.result.now))) c.holder_name-name.ensures c.in_ok-write_title-in-Some.ensures)
     c.write_judged.ensures
 
 pub write_single-write_leaf-requires : goal.write_single-write_leaf-requires

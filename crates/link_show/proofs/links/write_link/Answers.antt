@@ -3,7 +3,8 @@ use Rattle.std.specs.Prelude.{IfOk}
 use Rattle.std.specs.Option.{option_copied}
 use Rattle.netlink_packet_route.specs.declared.family.Family.TheVariants.{Link}
 use Rattle.link_show.specs.List.{Writes}
-use Rattle.link_show.specs.Held.{levels, ShowsSet}
+use Rattle.link_messages.specs.Held.{levels}
+use Rattle.link_show.specs.Held.{ShowsSet}
 use Rattle.link_show.specs.Message.{two, ShowsLink, link_line}
 use Rattle.link_show.specs.Gained.{gains_more}
 use Rattle.link_show.proofs.MessageLines.{if_ok}

@@ -10,7 +10,7 @@ returns-in-2 g c =
     let mid = g.W.Sink.output c.write_first_line.new.writer in
     let new = g.W.Sink.output c.write_reply.new.writer in
     if_ok (Writes (ShowsBody c.args.options m) mid new) (Writes (ShowsMessage c.args.options m) old new) c.write_reply.result
-    (λ well h. message_written c.args.options m old mid new well c.in_ok-write_first_line.ensures h) (c.write_reply.ensures c.args.options)
+    (λ well h. message_written c.args.options m old mid new well c.in_ok-write_first_line.ensures h) c.write_reply.ensures
 
 pub returns-in-16 : goal.returns-in-16
 returns-in-16 g c =

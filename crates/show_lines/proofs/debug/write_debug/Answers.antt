@@ -4,7 +4,7 @@ use Rattle.netlink_packet_route.specs.Report.{line}
 use Rattle.show_lines.specs.declared.asking.Asked.{Asked}
 use Rattle.show_lines.specs.declared.asking.Asked.TheVariants.{Messages, Attributes}
 use Rattle.show_lines.specs.List.{Adds}
-use Rattle.show_lines.specs.Show.{ShowsDebug, repeated}
+use Rattle.show_lines.specs.Show.{ShowsDebug, ShowsPlain, repeated}
 use Rattle.show_lines.specs.Progress.{WritesAnswer}
 use Rattle.link_show.proofs.MessageLines.{if_ok}
 use Rattle.show_lines.proofs.debug.write_debug.Goals as goal
@@ -26,6 +26,14 @@ returns-in-Messages-clause-shown g c =
 
 pub returns-in-Attributes-clause-shown : goal.returns-in-Attributes-clause-shown
 returns-in-Attributes-clause-shown g c =
-    rw c.in-Attributes.is (pushed (Attributes c.in-Attributes.family) c.args.bytes.now c.args.text.now (string_bytes c.new-below.result) (string_bytes c.push_list-read.new.text) c.as_str-in-Attributes.result.now
-    (g.W.Write.contents c.args.writer.now) (g.W.Write.contents c.write_pushed-in-Attributes.new.writer) c.push_list-read.result c.write_pushed-in-Attributes.result c.new-below.ensures.bytes c.as_str-in-Attributes.ensures.value
-    c.push_list-read.ensures c.write_pushed-in-Attributes.ensures.shown)
+    rw c.in-Attributes.is (pushed (Attributes c.in-Attributes.family) c.args.bytes.now c.args.text.now (string_bytes c.new-below.result) (string_bytes c.push_holder-read.new.text) c.as_str-in-Attributes.result.now
+    (g.W.Write.contents c.args.writer.now) (g.W.Write.contents c.write_pushed-in-Attributes.new.writer) c.push_holder-read.result c.write_pushed-in-Attributes.result c.new-below.ensures.bytes c.as_str-in-Attributes.ensures.value
+    c.push_holder-read.ensures c.write_pushed-in-Attributes.ensures.shown)
+
+-- a check is the same in both forms
+pub returns-clause-shown : goal.returns-clause-shown
+returns-clause-shown g c =
+    let old = g.W.Write.contents c.args.writer.now in
+    let new = g.W.Write.contents c.write_plain.new.writer in
+    subst (λ asked. IfOk c.write_plain.result (WritesAnswer ShowsDebug asked c.args.bytes.now c.args.text.now old new)) (sym c.in-Verdict.is)
+    (subst (λ asked. IfOk c.write_plain.result (WritesAnswer (ShowsPlain c.default.result) asked c.args.bytes.now c.args.text.now old new)) c.in-Verdict.is c.write_plain.ensures.shown)

@@ -2,7 +2,7 @@ use Rattle.std.proofs.Common.{Bool, Err}
 use Rattle.std.specs.Io.Buffered.{writer_contents}
 use Rattle.show_lines.specs.Pieces.{AddsPieces}
 use Rattle.show_lines.proofs.Kept.{from_held}
-use Rattle.show_lines.proofs.Pieces.{adds_none, adds_more, adds_kept, always_written, if_written}
+use Rattle.show_lines.proofs.Pieces.{adds_none, adds_more, adds_kept, if_written}
 use Rattle.show_lines.proofs.Steps.{fed_none, fed_line, fed_all}
 use Rattle.show_lines.proofs.running.feed.Goals as goal
 

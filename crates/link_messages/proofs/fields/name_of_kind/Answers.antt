@@ -1,6 +1,0 @@
-use Rattle.std.proofs.Common.{ap, ◌∙◌}
-use Rattle.link_messages.specs.BeforeFault.{name_in}
-use Rattle.link_messages.proofs.fields.name_of_kind.Goals as goal
-
-pub returns : goal.returns
-returns c = λ items fault walk. c.name_of.ensures ∙ ap name_in (c.last_before_fault.ensures items fault walk)

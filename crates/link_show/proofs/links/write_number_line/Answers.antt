@@ -1,6 +1,0 @@
-use Rattle.std.proofs.Common.{append_assoc, arith, refl}
-use Rattle.link_show.specs.Gained.{then_all}
-use Rattle.link_show.proofs.links.write_number_line.Goals as goal
-
-pub returns-in_ok-write_number-in-Some : goal.returns-in_ok-write_number-in-Some
-returns-in_ok-write_number-in-Some g c = then_all _ _ _ _ _ _ _ c.in_ok-put_pieces-in-Some.ensures (then_all _ _ _ _ _ _ _ c.in_ok-write_number-in-Some.ensures c.put.ensures refl) (grind (arith, append_assoc, c.in-Some.is, c.into.ensures))
