@@ -13,6 +13,7 @@ import sys
 sys.dont_write_bytecode = True
 HERE = os.path.dirname(os.path.realpath(__file__))
 sys.path.insert(0, HERE)
+import generate_attributes  # noqa: E402
 import generate_python  # noqa: E402
 import generate_rust  # noqa: E402
 import model  # noqa: E402
@@ -22,6 +23,7 @@ from library import Library  # noqa: E402
 FILES = {
     "python/nlroute/_kinds.py": generate_python.text,
     "rust/src/kinds.rs": generate_rust.text,
+    "rust/src/attributes.rs": generate_attributes.text,
 }
 
 

@@ -28,7 +28,7 @@ from __future__ import annotations
 from enum import IntEnum
 from typing import TYPE_CHECKING
 
-from ._types import Flags, Key, Named, Row
+from ._types import Flags, Key, Named, Row, Texts
 
 if TYPE_CHECKING:
     from ipaddress import IPv4Address, IPv6Address
@@ -46,16 +46,16 @@ def text(model):
         for it in of.attributes:
             for that in (it, *it.elements, *([it.item] if it.item and it.item.name else [])):
                 keys.setdefault(that.name, that)
-    families = {of.name.upper(): of.number for of in model.sets}
+    families = "".join(f'    {of.name.upper()} = {of.number}, "{of.name}"\n' for of in model.sets)
     codes = "".join(f'    {it.name} = {it.code}, "{it.text}"\n' for it in model.refusals)
     enums = [
-        ("Family", "An attribute set.", families),
         ("Place", "The part of an attribute that is malformed.", model.places),
         ("Cause", "What is wrong with it.", model.causes),
     ]
     arrays = [it for of in model.sets for it in of.attributes if it.places]
-    public = ["Code", *(name for name, _, _ in enums), *(it.name for it in model.types), *(it.places.name for it in arrays), *keys]
+    public = ["Family", "Code", *(name for name, _, _ in enums), *(it.name for it in model.types), *(it.places.name for it in arrays), *keys]
     parts = [TOP + f"VERSION = {model.version:#08x}  # of nlroute.h\n"]
+    parts.append(f'\n\nclass Family(Texts):\n    """An attribute set: `Family("bond")` is `Family.BOND`."""\n\n{families}')
     parts += [enum(*it) for it in enums]
     parts.append(form_numbers(model))
     parts.append(f'\n\nclass Code(Named):\n    """An error code of the library."""\n{codes}')

@@ -29,6 +29,7 @@ HEADERS = {
     "DEVLINK_": "devlink.h",
     "DPLL_": "dpll.h",
 }
+NEW_LINE = "\n    "
 TOP = """\
 //! Attribute types as keys, and the enums and sets of flags of their values. Written by bindings/generate.py.
 use crate::macros::{{elements, families, flags, named, scope}};
@@ -174,7 +175,9 @@ def key(it, scope, of):
     words = f"Selects `{it.name}` of {of} (`{header(it.name)}`)."
     if it.example:
         words += f" 100 is printed as `{it.example}`."
-    return f"{comment(words, '')}pub const {it.name}: Key<{scope}, {rust_type(it)}> = Key::new({it.kind});\n"
+    head, value = f"pub const {it.name}: Key<{scope}, {rust_type(it)}> =", f'Key::new({it.kind}, "{it.name}");'
+    # (as cargo fmt has it)
+    return f"{comment(words, '')}{head}{' ' if len(head) + len(value) < 120 else NEW_LINE}{value}\n"
 
 
 def set_text(of):

@@ -7,15 +7,20 @@
   nlroute_kind_of_in() and nlroute_number_of() have to find what has them;
 - nlroute_code_text() has the meanings of error codes.
 
-Only the names of some types and constants are chosen here: TYPES and CONSTANTS.
+The names of variants in Rust are those of the rows in crates/, which are upstream's where that has them. Only the names of
+some types and constants are chosen here: TYPES and CONSTANTS.
 """
+import glob
 import os
 import re
 from dataclasses import dataclass
 
 from library import Value
 
-HEADER = os.path.join(os.path.dirname(os.path.realpath(__file__)), "../crates/nlroute_ffi/include/nlroute.h")
+CRATES = os.path.join(os.path.dirname(os.path.realpath(__file__)), "../crates")
+HEADER = os.path.join(CRATES, "nlroute_ffi/include/nlroute.h")
+# A row of `by_rows!`: `IFLA_BOND_MODE = 1, Mode: Named<BondMode>;`
+ROW = re.compile(r"^ +([A-Z]\w*) = \d+(?: \| \w+)?, (\w+)(?:: .*)?;$", re.MULTILINE)
 # Names of types. Otherwise the type has the name of the first attribute that has it: IFLA_BOND_MODE gives BondMode.
 TYPES = {
     "IFLA_BOND_ALL_SLAVES_ACTIVE": "BondAllPortsActive",
@@ -84,6 +89,7 @@ class Attribute:
     example: str | None = None  # for numbers with a unit: how 100 is printed, such as `100 (1.00 s)`
     elements: tuple["Attribute", ...] = ()
     item: "Attribute | None" = None
+    variant: str = ""  # Mode
     optional: bool = False  # a boolean that may have no payload, which is on without
     places: Type | None = None  # of an array whose places have names: these, in order, as of an enum
 
@@ -163,7 +169,8 @@ def ask(library):
     types = {}
     families = enum_of(header, "nlroute_family").items()
     words = dict(re.findall(r"^    NLROUTE_(\w+) = \d+,? /\* (.*) \*/$", header, re.MULTILINE))
-    sets = tuple(Asker(library, family, forms, types).set(name.lower(), words[name]) for name, family in families)
+    rows = variants()
+    sets = tuple(Asker(library, family, forms, types, rows).set(name.lower(), words[name]) for name, family in families)
     return Model(
         version=version,
         forms=forms,
@@ -175,11 +182,21 @@ def ask(library):
     )
 
 
+def variants():
+    """Returns the variants of the rows in crates/, by the constants. Rows with the same constant have the same variant."""
+    found = {}
+    for path in sorted(glob.glob(os.path.join(CRATES, "link_*/src/**/*.rt"), recursive=True)):
+        with open(path, encoding="utf-8") as file:
+            for name, variant in ROW.findall(file.read()):
+                same(found.setdefault(name, variant), variant, f"the variant of {name}")
+    return found
+
+
 class Asker:
     """Asks for the attributes of one set. `types` has the enums and flags of all sets so far."""
 
-    def __init__(self, library, family, forms, types):
-        self.library, self.family, self.forms, self.types = library, family, forms, types
+    def __init__(self, library, family, forms, types, names):
+        self.library, self.family, self.forms, self.types, self.variants = library, family, forms, types, names
 
     def set(self, name, words):
         """Returns the set with all its attributes."""
@@ -218,6 +235,7 @@ class Asker:
             form=form,
             bits=bits,
             type=self.type(name, form, bits, names),
+            variant="" if is_indexed else self.variants[name],
             example=self.example(value, form),
             # (the number of a value without a payload is 1; of other booleans, the length is not used)
             optional=form == "bool" and self.library.refuses(self.family, value),

@@ -21,33 +21,36 @@ Traceback (most recent call last):
     ...
 nlroute.Fault: error at 8: IFLA_BR_HELLO_TIME has 3 bytes, expected 4
 """
-# (`as` marks what the package exports, to type checkers.)
-from ._errors import Error as Error
-from ._errors import Fault as Fault
-from ._errors import WriteError as WriteError
+from . import _kinds
+from ._errors import Error, Fault, WriteError
 from ._kinds import *
 from ._kinds import VERSION as _VERSION
-from ._library import build as build
-from ._library import from_info_kind as from_info_kind
-from ._library import from_port_kind as from_port_kind
-from ._list import List as List
-from ._list import read as read
-from ._list import text as text
-from ._types import Attribute as Attribute
-from ._types import BerrCounter as BerrCounter
-from ._types import BridgeId as BridgeId
-from ._types import CanBitTiming as CanBitTiming
-from ._types import CanBitTimingConst as CanBitTimingConst
-from ._types import Content as Content
-from ._types import Flags as Flags
-from ._types import Key as Key
-from ._types import Mac as Mac
-from ._types import Masked as Masked
-from ._types import Named as Named
-from ._types import QosMapping as QosMapping
-from ._types import Text as Text
-from ._types import Unknown as Unknown
-from ._types import VlanInfo as VlanInfo
+from ._library import build, from_info_kind, from_port_kind
+from ._list import List, read, text
+from ._types import (
+    Attribute,
+    BerrCounter,
+    BridgeId,
+    CanBitTiming,
+    CanBitTimingConst,
+    Content,
+    Flags,
+    Key,
+    Mac,
+    Masked,
+    Named,
+    QosMapping,
+    Text,
+    Unknown,
+    VlanInfo,
+)
+
+__all__ = [
+    "Error", "Fault", "WriteError", "build", "from_info_kind", "from_port_kind", "List", "read", "text", "Attribute",
+    "BerrCounter", "BridgeId", "CanBitTiming", "CanBitTimingConst", "Content", "Flags", "Key", "Mac", "Masked",
+    "Named", "QosMapping", "Text", "Unknown", "VlanInfo",
+]  # fmt: skip
+__all__ += _kinds.__all__
 
 __version__ = f"{_VERSION >> 16}.{_VERSION >> 8 & 255}.{_VERSION & 255}"
 

@@ -42,6 +42,8 @@ def load() -> ctypes.PyDLL:
             function = getattr(library, name)
             function.argtypes, function.restype = arguments, ctypes.c_ssize_t
         library.nlroute_build.argtypes, library.nlroute_build.restype = [], ctypes.c_char_p
+        library.nlroute_is_canonical.argtypes = [FAMILY, BYTES, SIZE]
+        library.nlroute_is_canonical.restype = ctypes.c_bool
     except (OSError, AttributeError) as error:
         raise ImportError(f"{error}. {ADVICE}") from None
     version.argtypes, version.restype = [], ctypes.c_uint32
@@ -92,6 +94,11 @@ def fault(family: Family, data: bytes) -> Fault:
     at, first, second, place, kind, inner, cause = FAULT.unpack(raw)
     words = text_of(LIBRARY.nlroute_fault_text, family, raw)
     return Fault(words, at, Place(place), Cause(cause), kind, inner, (first, second))
+
+
+def is_canonical(family: Family, data: bytes) -> bool:
+    """Returns whether a list has the bytes that the library writes."""
+    return bool(LIBRARY.nlroute_is_canonical(family, data, len(data)))
 
 
 def text_of(function: Callable[..., int], *arguments: Any) -> str:
@@ -169,7 +176,7 @@ def from_port_kind(kind: str) -> Family | None:
 
 def numbered(function: Callable[..., int], kind: str) -> Family | None:
     """Returns the set whose number a call returns for a kind."""
-    words = kind.encode()
+    words = kind.encode(errors="surrogateescape")
     number = function(words, len(words))
     return None if number == Code.NO_FAMILY else Family(number)
 

@@ -4,7 +4,7 @@ from __future__ import annotations
 from collections.abc import Iterable, Iterator
 from typing import Any, overload
 
-from . import _library, _read, _write
+from . import _library, _plain, _read, _write
 from ._kinds import Family
 from ._tables import TABLES, Table
 from ._types import Attribute, Key, Mac, Name, T
@@ -168,6 +168,29 @@ class List:
     def keys(self) -> list[str]:
         """Returns the names, each once."""
         return list(dict.fromkeys(item.name for item in self._items))
+
+    def items(self) -> list[Attribute]:
+        """Returns the names, each once, with the last value of each. The list itself has all values."""
+        return [Attribute(name, self[name]) for name in self.keys()]
+
+    def to_dict(self) -> dict[str, Any]:
+        """Returns names with values that `json.dumps` takes: the last value of each name.
+
+        An enum is its text or, without one, a number; flags are a list of names. Addresses are text, other bytes hex
+        digits. A struct is a dict, and so is an array whose places have names. Lists of other sets are read, as in
+        IFLA_INFO_DATA. Attributes that Linux sends several times, such as IFLA_BRIDGE_VLAN_INFO, are a list of all
+        values. Raises as bytes() does.
+
+        >>> from nlroute import *
+        >>> bond = {"IFLA_BOND_MODE": 4, "IFLA_BOND_ARP_IP_TARGET": ["10.0.0.1"]}
+        >>> List(Family.BOND, bond).to_dict()
+        {'IFLA_BOND_MODE': '802.3ad', 'IFLA_BOND_ARP_IP_TARGET': ['10.0.0.1']}
+        """
+        if not self._table.list_row:
+            return _plain.to_dict(self._table, bytes(self))
+        above = List(self.family, [(self._table.title, self)])
+        inner: dict[str, Any] = _plain.to_dict(above._table, bytes(above))[self._table.title]
+        return inner
 
     def __eq__(self, other: object) -> bool:
         if not isinstance(other, List):

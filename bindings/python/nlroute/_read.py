@@ -146,7 +146,11 @@ def content(row: Row | None, it: Record, data: bytes) -> Content:
 def struct_fields(family: Family, data: bytes, index: int) -> dict[str, int | Mac | bytes]:
     """Returns what the fields of a struct hold, by their names: of the record with this index of a list."""
     raw = bytes(values(family, data)[index * VALUE.size : (index + 1) * VALUE.size])
-    it = record(raw, 0)
+    return struct_fields_of(family, raw, record(raw, 0), data)
+
+
+def struct_fields_of(family: Family, raw: bytes, it: Record, data: bytes) -> dict[str, int | Mac | bytes]:
+    """Returns what the fields of a struct hold, by their names: of a record of a list."""
     return {field.name.split(b"\0")[0].decode(): field_content(field, it, data) for field in fields(family, raw, data)}
 
 
@@ -162,28 +166,41 @@ def field_content(field: FieldRecord, it: Record, data: bytes) -> int | Mac | by
     return data[start : start + field.length]
 
 
-def lines(table: Table, data: bytes | bytearray | memoryview) -> Iterator[str]:
-    """Yields the lines of a list, as `nlshow` prints them."""
-    data = whole(data)
-    raw = bytes(values(table.family, data))
+def groups(family: Family, data: bytes) -> Iterator[tuple[bytes, list[bytes]]]:
+    """Yields the record of each attribute of a list, with those of its elements. Raises Fault."""
+    raw = bytes(values(family, data))
     records = [raw[at : at + VALUE.size] for at in range(0, len(raw), VALUE.size)]
     at = 0
     while at < len(records):
         it = record(records[at], 0)
-        count = it.number if it.form == Form.LIST else 0
-        elements = records[at + 1 : at + 1 + count]
-        at += 1 + count
-        row = table.by_kind.get(it.kind)
-        first = line(table.family, records[at - 1 - count], row.name if row else "", data)
-        if it.form != Form.LIST:
-            yield first
-        elif not elements:
-            yield f"{first} (empty)"
-        elif row and row.item and not row.item.name:
-            yield " ".join([first, *item_texts(table.family, elements, data)])
-        else:
-            yield first
+        end = at + 1 + (it.number if it.form == Form.LIST else 0)
+        yield records[at], records[at + 1 : end]
+        at = end
+
+
+def lines(table: Table, data: bytes | bytearray | memoryview) -> Iterator[str]:
+    """Yields the lines of a list, as `nlshow` prints them."""
+    data = whole(data)
+    for raw, elements in groups(table.family, data):
+        yield title(table, raw, elements, data)
+        if not is_array(table, raw):
             yield from (f"  {line(table.family, element, '', data)}" for element in elements)
+
+
+def is_array(table: Table, raw: bytes) -> bool:
+    """Returns whether the elements of an attribute are addresses or numbers, which are on its line."""
+    row = table.by_kind.get(record(raw, 0).kind)
+    return bool(row and row.item and not row.item.name)
+
+
+def title(table: Table, raw: bytes, elements: list[bytes], data: bytes) -> str:
+    """Returns the line of an attribute."""
+    it = record(raw, 0)
+    row = table.by_kind.get(it.kind)
+    first = line(table.family, raw, row.name if row else "", data)
+    if it.form == Form.LIST and not elements:
+        return f"{first} (empty)"
+    return " ".join([first, *item_texts(table.family, elements, data)]) if is_array(table, raw) else first
 
 
 def item_texts(family: Family, elements: list[bytes], data: bytes) -> Iterator[str]:

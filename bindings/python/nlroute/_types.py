@@ -15,7 +15,32 @@ T = TypeVar("T")
 F = TypeVar("F", bound=int)
 
 
-class Named(IntEnum):
+E = TypeVar("E", bound="Texts")
+
+
+class Texts(IntEnum):
+    """An enum whose members have a text. This, in place of a number, also makes a member."""
+
+    text: str
+
+    # (A name as the argument is for `_missing_`.)
+    def __new__(cls: type[E], number: int | str, text: str = "") -> E:
+        self = int.__new__(cls, number)
+        self._value_, self.text = int(self), text
+        return self
+
+    @classmethod
+    def _missing_(cls, value: object) -> Any:
+        return next((member for member in cls if member.text == value), None) if isinstance(value, str) else None
+
+    def __str__(self) -> str:
+        return self.text or str(int(self))
+
+    def __format__(self, spec: str) -> str:
+        return format(int(self), spec) if spec else str(self)
+
+
+class Named(Texts):
     """An enum of the kernel. `text` is the name that `ip` and `nlshow` print.
 
     A number without a name is a member too, whose `text` is empty: kernels may add some.
@@ -25,30 +50,14 @@ class Named(IntEnum):
     (<BondMode.IEEE8023AD: 4>, '802.3ad', '77')
     """
 
-    text: str
-
-    # (A name as the argument is for `_missing_`.)
-    def __new__(cls, number: int | str, text: str = "") -> Named:
-        self = int.__new__(cls, number)
-        self._value_, self.text = int(self), text
-        return self
-
     @classmethod
-    def _missing_(cls, value: object) -> Named | None:
-        if isinstance(value, str):
-            return next((member for member in cls if member.text == value), None)
+    def _missing_(cls, value: object) -> Any:
         if not isinstance(value, int):
-            return None
+            return super()._missing_(value)
         # This member is not stored: input could otherwise fill the memory.
         self = int.__new__(cls, value)
         self._name_, self._value_, self.text = str(int(value)), int(value), ""
         return self
-
-    def __str__(self) -> str:
-        return self.text or str(int(self))
-
-    def __format__(self, spec: str) -> str:
-        return format(int(self), spec) if spec else str(self)
 
 
 class Flags(IntFlag):

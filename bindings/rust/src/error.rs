@@ -242,3 +242,16 @@ impl fmt::Display for ParseMacError {
 }
 
 impl std::error::Error for ParseMacError {}
+
+/// Reports a string that is not a name or a number of an enum, such as [`BondMode`](crate::BondMode), or not the name of
+/// a [`Family`].
+#[derive(Clone, Debug, PartialEq, Eq)]
+pub struct ParseNameError(pub(crate) &'static str);
+
+impl fmt::Display for ParseNameError {
+    fn fmt(&self, f: &mut fmt::Formatter<'_>) -> fmt::Result {
+        f.write_str(self.0)
+    }
+}
+
+impl std::error::Error for ParseNameError {}

@@ -458,23 +458,25 @@ scope! {
 }
 
 /// Selects `IFLA_BRIDGE_FLAGS` of [`AfSpecBridge`] (`include/uapi/linux/if_bridge.h`).
-pub const IFLA_BRIDGE_FLAGS: Key<AfSpecBridge, BridgeFlags> = Key::new(0);
+pub const IFLA_BRIDGE_FLAGS: Key<AfSpecBridge, BridgeFlags> = Key::new(0, "IFLA_BRIDGE_FLAGS");
 /// Selects `IFLA_BRIDGE_MODE` of [`AfSpecBridge`] (`include/uapi/linux/if_bridge.h`).
-pub const IFLA_BRIDGE_MODE: Key<AfSpecBridge, BridgeMode> = Key::new(1);
+pub const IFLA_BRIDGE_MODE: Key<AfSpecBridge, BridgeMode> = Key::new(1, "IFLA_BRIDGE_MODE");
 /// Selects `IFLA_BRIDGE_VLAN_INFO` of [`AfSpecBridge`] (`include/uapi/linux/if_bridge.h`).
-pub const IFLA_BRIDGE_VLAN_INFO: Key<AfSpecBridge, VlanInfo> = Key::new(2);
+pub const IFLA_BRIDGE_VLAN_INFO: Key<AfSpecBridge, VlanInfo> = Key::new(2, "IFLA_BRIDGE_VLAN_INFO");
 elements! {
     /// Represents the elements of [`IFLA_BRIDGE_VLAN_TUNNEL_INFO`] in types.
     BridgeVlanTunnelInfo of AfSpecBridge = 3;
 }
 /// Selects `IFLA_BRIDGE_VLAN_TUNNEL_INFO` of [`AfSpecBridge`] (`include/uapi/linux/if_bridge.h`).
-pub const IFLA_BRIDGE_VLAN_TUNNEL_INFO: Key<AfSpecBridge, Nested<BridgeVlanTunnelInfo>> = Key::new(3);
+pub const IFLA_BRIDGE_VLAN_TUNNEL_INFO: Key<AfSpecBridge, Nested<BridgeVlanTunnelInfo>> =
+    Key::new(3, "IFLA_BRIDGE_VLAN_TUNNEL_INFO");
 /// Selects `IFLA_BRIDGE_VLAN_TUNNEL_ID` of [`IFLA_BRIDGE_VLAN_TUNNEL_INFO`] (`include/uapi/linux/if_bridge.h`).
-pub const IFLA_BRIDGE_VLAN_TUNNEL_ID: Key<BridgeVlanTunnelInfo, u32> = Key::new(1);
+pub const IFLA_BRIDGE_VLAN_TUNNEL_ID: Key<BridgeVlanTunnelInfo, u32> = Key::new(1, "IFLA_BRIDGE_VLAN_TUNNEL_ID");
 /// Selects `IFLA_BRIDGE_VLAN_TUNNEL_VID` of [`IFLA_BRIDGE_VLAN_TUNNEL_INFO`] (`include/uapi/linux/if_bridge.h`).
-pub const IFLA_BRIDGE_VLAN_TUNNEL_VID: Key<BridgeVlanTunnelInfo, u16> = Key::new(2);
+pub const IFLA_BRIDGE_VLAN_TUNNEL_VID: Key<BridgeVlanTunnelInfo, u16> = Key::new(2, "IFLA_BRIDGE_VLAN_TUNNEL_VID");
 /// Selects `IFLA_BRIDGE_VLAN_TUNNEL_FLAGS` of [`IFLA_BRIDGE_VLAN_TUNNEL_INFO`] (`include/uapi/linux/if_bridge.h`).
-pub const IFLA_BRIDGE_VLAN_TUNNEL_FLAGS: Key<BridgeVlanTunnelInfo, BridgeVlanFlags> = Key::new(3);
+pub const IFLA_BRIDGE_VLAN_TUNNEL_FLAGS: Key<BridgeVlanTunnelInfo, BridgeVlanFlags> =
+    Key::new(3, "IFLA_BRIDGE_VLAN_TUNNEL_FLAGS");
 
 scope! {
     /// Represents the attribute set [`Family::Bond`] in types.
@@ -482,87 +484,87 @@ scope! {
 }
 
 /// Selects `IFLA_BOND_MODE` of [`Bond`] (`include/uapi/linux/if_link.h`).
-pub const IFLA_BOND_MODE: Key<Bond, BondMode> = Key::new(1);
+pub const IFLA_BOND_MODE: Key<Bond, BondMode> = Key::new(1, "IFLA_BOND_MODE");
 /// Selects `IFLA_BOND_ACTIVE_SLAVE` of [`Bond`] (`include/uapi/linux/if_link.h`). 100 is printed as `ifindex 100`.
-pub const IFLA_BOND_ACTIVE_SLAVE: Key<Bond, u32> = Key::new(2);
+pub const IFLA_BOND_ACTIVE_SLAVE: Key<Bond, u32> = Key::new(2, "IFLA_BOND_ACTIVE_SLAVE");
 /// Selects `IFLA_BOND_MIIMON` of [`Bond`] (`include/uapi/linux/if_link.h`). 100 is printed as `100 ms`.
-pub const IFLA_BOND_MIIMON: Key<Bond, u32> = Key::new(3);
+pub const IFLA_BOND_MIIMON: Key<Bond, u32> = Key::new(3, "IFLA_BOND_MIIMON");
 /// Selects `IFLA_BOND_UPDELAY` of [`Bond`] (`include/uapi/linux/if_link.h`). 100 is printed as `100 ms`.
-pub const IFLA_BOND_UPDELAY: Key<Bond, u32> = Key::new(4);
+pub const IFLA_BOND_UPDELAY: Key<Bond, u32> = Key::new(4, "IFLA_BOND_UPDELAY");
 /// Selects `IFLA_BOND_DOWNDELAY` of [`Bond`] (`include/uapi/linux/if_link.h`). 100 is printed as `100 ms`.
-pub const IFLA_BOND_DOWNDELAY: Key<Bond, u32> = Key::new(5);
+pub const IFLA_BOND_DOWNDELAY: Key<Bond, u32> = Key::new(5, "IFLA_BOND_DOWNDELAY");
 /// Selects `IFLA_BOND_USE_CARRIER` of [`Bond`] (`include/uapi/linux/if_link.h`).
-pub const IFLA_BOND_USE_CARRIER: Key<Bond, bool> = Key::new(6);
+pub const IFLA_BOND_USE_CARRIER: Key<Bond, bool> = Key::new(6, "IFLA_BOND_USE_CARRIER");
 /// Selects `IFLA_BOND_ARP_INTERVAL` of [`Bond`] (`include/uapi/linux/if_link.h`). 100 is printed as `100 ms`.
-pub const IFLA_BOND_ARP_INTERVAL: Key<Bond, u32> = Key::new(7);
+pub const IFLA_BOND_ARP_INTERVAL: Key<Bond, u32> = Key::new(7, "IFLA_BOND_ARP_INTERVAL");
 /// Selects `IFLA_BOND_ARP_IP_TARGET` of [`Bond`] (`include/uapi/linux/if_link.h`).
-pub const IFLA_BOND_ARP_IP_TARGET: Key<Bond, Vec<Ipv4Addr>> = Key::new(8);
+pub const IFLA_BOND_ARP_IP_TARGET: Key<Bond, Vec<Ipv4Addr>> = Key::new(8, "IFLA_BOND_ARP_IP_TARGET");
 /// Selects `IFLA_BOND_ARP_VALIDATE` of [`Bond`] (`include/uapi/linux/if_link.h`).
-pub const IFLA_BOND_ARP_VALIDATE: Key<Bond, BondArpValidate> = Key::new(9);
+pub const IFLA_BOND_ARP_VALIDATE: Key<Bond, BondArpValidate> = Key::new(9, "IFLA_BOND_ARP_VALIDATE");
 /// Selects `IFLA_BOND_ARP_ALL_TARGETS` of [`Bond`] (`include/uapi/linux/if_link.h`).
-pub const IFLA_BOND_ARP_ALL_TARGETS: Key<Bond, BondArpAllTargets> = Key::new(10);
+pub const IFLA_BOND_ARP_ALL_TARGETS: Key<Bond, BondArpAllTargets> = Key::new(10, "IFLA_BOND_ARP_ALL_TARGETS");
 /// Selects `IFLA_BOND_PRIMARY` of [`Bond`] (`include/uapi/linux/if_link.h`). 100 is printed as `ifindex 100`.
-pub const IFLA_BOND_PRIMARY: Key<Bond, u32> = Key::new(11);
+pub const IFLA_BOND_PRIMARY: Key<Bond, u32> = Key::new(11, "IFLA_BOND_PRIMARY");
 /// Selects `IFLA_BOND_PRIMARY_RESELECT` of [`Bond`] (`include/uapi/linux/if_link.h`).
-pub const IFLA_BOND_PRIMARY_RESELECT: Key<Bond, BondPrimaryReselect> = Key::new(12);
+pub const IFLA_BOND_PRIMARY_RESELECT: Key<Bond, BondPrimaryReselect> = Key::new(12, "IFLA_BOND_PRIMARY_RESELECT");
 /// Selects `IFLA_BOND_FAIL_OVER_MAC` of [`Bond`] (`include/uapi/linux/if_link.h`).
-pub const IFLA_BOND_FAIL_OVER_MAC: Key<Bond, BondFailOverMac> = Key::new(13);
+pub const IFLA_BOND_FAIL_OVER_MAC: Key<Bond, BondFailOverMac> = Key::new(13, "IFLA_BOND_FAIL_OVER_MAC");
 /// Selects `IFLA_BOND_XMIT_HASH_POLICY` of [`Bond`] (`include/uapi/linux/if_link.h`).
-pub const IFLA_BOND_XMIT_HASH_POLICY: Key<Bond, BondXmitHashPolicy> = Key::new(14);
+pub const IFLA_BOND_XMIT_HASH_POLICY: Key<Bond, BondXmitHashPolicy> = Key::new(14, "IFLA_BOND_XMIT_HASH_POLICY");
 /// Selects `IFLA_BOND_RESEND_IGMP` of [`Bond`] (`include/uapi/linux/if_link.h`).
-pub const IFLA_BOND_RESEND_IGMP: Key<Bond, u32> = Key::new(15);
+pub const IFLA_BOND_RESEND_IGMP: Key<Bond, u32> = Key::new(15, "IFLA_BOND_RESEND_IGMP");
 /// Selects `IFLA_BOND_NUM_PEER_NOTIF` of [`Bond`] (`include/uapi/linux/if_link.h`).
-pub const IFLA_BOND_NUM_PEER_NOTIF: Key<Bond, u8> = Key::new(16);
+pub const IFLA_BOND_NUM_PEER_NOTIF: Key<Bond, u8> = Key::new(16, "IFLA_BOND_NUM_PEER_NOTIF");
 /// Selects `IFLA_BOND_ALL_SLAVES_ACTIVE` of [`Bond`] (`include/uapi/linux/if_link.h`).
-pub const IFLA_BOND_ALL_SLAVES_ACTIVE: Key<Bond, BondAllPortsActive> = Key::new(17);
+pub const IFLA_BOND_ALL_SLAVES_ACTIVE: Key<Bond, BondAllPortsActive> = Key::new(17, "IFLA_BOND_ALL_SLAVES_ACTIVE");
 /// Selects `IFLA_BOND_MIN_LINKS` of [`Bond`] (`include/uapi/linux/if_link.h`).
-pub const IFLA_BOND_MIN_LINKS: Key<Bond, u32> = Key::new(18);
+pub const IFLA_BOND_MIN_LINKS: Key<Bond, u32> = Key::new(18, "IFLA_BOND_MIN_LINKS");
 /// Selects `IFLA_BOND_LP_INTERVAL` of [`Bond`] (`include/uapi/linux/if_link.h`). 100 is printed as `100 s`.
-pub const IFLA_BOND_LP_INTERVAL: Key<Bond, u32> = Key::new(19);
+pub const IFLA_BOND_LP_INTERVAL: Key<Bond, u32> = Key::new(19, "IFLA_BOND_LP_INTERVAL");
 /// Selects `IFLA_BOND_PACKETS_PER_SLAVE` of [`Bond`] (`include/uapi/linux/if_link.h`).
-pub const IFLA_BOND_PACKETS_PER_SLAVE: Key<Bond, u32> = Key::new(20);
+pub const IFLA_BOND_PACKETS_PER_SLAVE: Key<Bond, u32> = Key::new(20, "IFLA_BOND_PACKETS_PER_SLAVE");
 /// Selects `IFLA_BOND_AD_LACP_RATE` of [`Bond`] (`include/uapi/linux/if_link.h`).
-pub const IFLA_BOND_AD_LACP_RATE: Key<Bond, BondAdLacpRate> = Key::new(21);
+pub const IFLA_BOND_AD_LACP_RATE: Key<Bond, BondAdLacpRate> = Key::new(21, "IFLA_BOND_AD_LACP_RATE");
 /// Selects `IFLA_BOND_AD_SELECT` of [`Bond`] (`include/uapi/linux/if_link.h`).
-pub const IFLA_BOND_AD_SELECT: Key<Bond, BondAdSelect> = Key::new(22);
+pub const IFLA_BOND_AD_SELECT: Key<Bond, BondAdSelect> = Key::new(22, "IFLA_BOND_AD_SELECT");
 elements! {
     /// Represents the elements of [`IFLA_BOND_AD_INFO`] in types.
     BondAdInfo of Bond = 23;
 }
 /// Selects `IFLA_BOND_AD_INFO` of [`Bond`] (`include/uapi/linux/if_link.h`).
-pub const IFLA_BOND_AD_INFO: Key<Bond, Nested<BondAdInfo>> = Key::new(23);
+pub const IFLA_BOND_AD_INFO: Key<Bond, Nested<BondAdInfo>> = Key::new(23, "IFLA_BOND_AD_INFO");
 /// Selects `IFLA_BOND_AD_INFO_AGGREGATOR` of [`IFLA_BOND_AD_INFO`] (`include/uapi/linux/if_link.h`).
-pub const IFLA_BOND_AD_INFO_AGGREGATOR: Key<BondAdInfo, u16> = Key::new(1);
+pub const IFLA_BOND_AD_INFO_AGGREGATOR: Key<BondAdInfo, u16> = Key::new(1, "IFLA_BOND_AD_INFO_AGGREGATOR");
 /// Selects `IFLA_BOND_AD_INFO_NUM_PORTS` of [`IFLA_BOND_AD_INFO`] (`include/uapi/linux/if_link.h`).
-pub const IFLA_BOND_AD_INFO_NUM_PORTS: Key<BondAdInfo, u16> = Key::new(2);
+pub const IFLA_BOND_AD_INFO_NUM_PORTS: Key<BondAdInfo, u16> = Key::new(2, "IFLA_BOND_AD_INFO_NUM_PORTS");
 /// Selects `IFLA_BOND_AD_INFO_ACTOR_KEY` of [`IFLA_BOND_AD_INFO`] (`include/uapi/linux/if_link.h`).
-pub const IFLA_BOND_AD_INFO_ACTOR_KEY: Key<BondAdInfo, u16> = Key::new(3);
+pub const IFLA_BOND_AD_INFO_ACTOR_KEY: Key<BondAdInfo, u16> = Key::new(3, "IFLA_BOND_AD_INFO_ACTOR_KEY");
 /// Selects `IFLA_BOND_AD_INFO_PARTNER_KEY` of [`IFLA_BOND_AD_INFO`] (`include/uapi/linux/if_link.h`).
-pub const IFLA_BOND_AD_INFO_PARTNER_KEY: Key<BondAdInfo, u16> = Key::new(4);
+pub const IFLA_BOND_AD_INFO_PARTNER_KEY: Key<BondAdInfo, u16> = Key::new(4, "IFLA_BOND_AD_INFO_PARTNER_KEY");
 /// Selects `IFLA_BOND_AD_INFO_PARTNER_MAC` of [`IFLA_BOND_AD_INFO`] (`include/uapi/linux/if_link.h`).
-pub const IFLA_BOND_AD_INFO_PARTNER_MAC: Key<BondAdInfo, Mac> = Key::new(5);
+pub const IFLA_BOND_AD_INFO_PARTNER_MAC: Key<BondAdInfo, Mac> = Key::new(5, "IFLA_BOND_AD_INFO_PARTNER_MAC");
 /// Selects `IFLA_BOND_AD_ACTOR_SYS_PRIO` of [`Bond`] (`include/uapi/linux/if_link.h`).
-pub const IFLA_BOND_AD_ACTOR_SYS_PRIO: Key<Bond, u16> = Key::new(24);
+pub const IFLA_BOND_AD_ACTOR_SYS_PRIO: Key<Bond, u16> = Key::new(24, "IFLA_BOND_AD_ACTOR_SYS_PRIO");
 /// Selects `IFLA_BOND_AD_USER_PORT_KEY` of [`Bond`] (`include/uapi/linux/if_link.h`).
-pub const IFLA_BOND_AD_USER_PORT_KEY: Key<Bond, u16> = Key::new(25);
+pub const IFLA_BOND_AD_USER_PORT_KEY: Key<Bond, u16> = Key::new(25, "IFLA_BOND_AD_USER_PORT_KEY");
 /// Selects `IFLA_BOND_AD_ACTOR_SYSTEM` of [`Bond`] (`include/uapi/linux/if_link.h`).
-pub const IFLA_BOND_AD_ACTOR_SYSTEM: Key<Bond, Mac> = Key::new(26);
+pub const IFLA_BOND_AD_ACTOR_SYSTEM: Key<Bond, Mac> = Key::new(26, "IFLA_BOND_AD_ACTOR_SYSTEM");
 /// Selects `IFLA_BOND_TLB_DYNAMIC_LB` of [`Bond`] (`include/uapi/linux/if_link.h`).
-pub const IFLA_BOND_TLB_DYNAMIC_LB: Key<Bond, bool> = Key::new(27);
+pub const IFLA_BOND_TLB_DYNAMIC_LB: Key<Bond, bool> = Key::new(27, "IFLA_BOND_TLB_DYNAMIC_LB");
 /// Selects `IFLA_BOND_PEER_NOTIF_DELAY` of [`Bond`] (`include/uapi/linux/if_link.h`). 100 is printed as `100 ms`.
-pub const IFLA_BOND_PEER_NOTIF_DELAY: Key<Bond, u32> = Key::new(28);
+pub const IFLA_BOND_PEER_NOTIF_DELAY: Key<Bond, u32> = Key::new(28, "IFLA_BOND_PEER_NOTIF_DELAY");
 /// Selects `IFLA_BOND_AD_LACP_ACTIVE` of [`Bond`] (`include/uapi/linux/if_link.h`).
-pub const IFLA_BOND_AD_LACP_ACTIVE: Key<Bond, bool> = Key::new(29);
+pub const IFLA_BOND_AD_LACP_ACTIVE: Key<Bond, bool> = Key::new(29, "IFLA_BOND_AD_LACP_ACTIVE");
 /// Selects `IFLA_BOND_MISSED_MAX` of [`Bond`] (`include/uapi/linux/if_link.h`).
-pub const IFLA_BOND_MISSED_MAX: Key<Bond, u8> = Key::new(30);
+pub const IFLA_BOND_MISSED_MAX: Key<Bond, u8> = Key::new(30, "IFLA_BOND_MISSED_MAX");
 /// Selects `IFLA_BOND_NS_IP6_TARGET` of [`Bond`] (`include/uapi/linux/if_link.h`).
-pub const IFLA_BOND_NS_IP6_TARGET: Key<Bond, Vec<Ipv6Addr>> = Key::new(31);
+pub const IFLA_BOND_NS_IP6_TARGET: Key<Bond, Vec<Ipv6Addr>> = Key::new(31, "IFLA_BOND_NS_IP6_TARGET");
 /// Selects `IFLA_BOND_COUPLED_CONTROL` of [`Bond`] (`include/uapi/linux/if_link.h`).
-pub const IFLA_BOND_COUPLED_CONTROL: Key<Bond, bool> = Key::new(32);
+pub const IFLA_BOND_COUPLED_CONTROL: Key<Bond, bool> = Key::new(32, "IFLA_BOND_COUPLED_CONTROL");
 /// Selects `IFLA_BOND_BROADCAST_NEIGH` of [`Bond`] (`include/uapi/linux/if_link.h`).
-pub const IFLA_BOND_BROADCAST_NEIGH: Key<Bond, bool> = Key::new(33);
+pub const IFLA_BOND_BROADCAST_NEIGH: Key<Bond, bool> = Key::new(33, "IFLA_BOND_BROADCAST_NEIGH");
 /// Selects `IFLA_BOND_LACP_STRICT` of [`Bond`] (`include/uapi/linux/if_link.h`).
-pub const IFLA_BOND_LACP_STRICT: Key<Bond, bool> = Key::new(34);
+pub const IFLA_BOND_LACP_STRICT: Key<Bond, bool> = Key::new(34, "IFLA_BOND_LACP_STRICT");
 
 scope! {
     /// Represents the attribute set [`Family::BondPort`] in types.
@@ -570,29 +572,33 @@ scope! {
 }
 
 /// Selects `IFLA_BOND_SLAVE_STATE` of [`BondPort`] (`include/uapi/linux/if_link.h`).
-pub const IFLA_BOND_SLAVE_STATE: Key<BondPort, BondPortState> = Key::new(1);
+pub const IFLA_BOND_SLAVE_STATE: Key<BondPort, BondPortState> = Key::new(1, "IFLA_BOND_SLAVE_STATE");
 /// Selects `IFLA_BOND_SLAVE_MII_STATUS` of [`BondPort`] (`include/uapi/linux/if_link.h`).
-pub const IFLA_BOND_SLAVE_MII_STATUS: Key<BondPort, MiiStatus> = Key::new(2);
+pub const IFLA_BOND_SLAVE_MII_STATUS: Key<BondPort, MiiStatus> = Key::new(2, "IFLA_BOND_SLAVE_MII_STATUS");
 /// Selects `IFLA_BOND_SLAVE_LINK_FAILURE_COUNT` of [`BondPort`] (`include/uapi/linux/if_link.h`).
-pub const IFLA_BOND_SLAVE_LINK_FAILURE_COUNT: Key<BondPort, u32> = Key::new(3);
+pub const IFLA_BOND_SLAVE_LINK_FAILURE_COUNT: Key<BondPort, u32> = Key::new(3, "IFLA_BOND_SLAVE_LINK_FAILURE_COUNT");
 /// Selects `IFLA_BOND_SLAVE_PERM_HWADDR` of [`BondPort`] (`include/uapi/linux/if_link.h`).
-pub const IFLA_BOND_SLAVE_PERM_HWADDR: Key<BondPort, Vec<u8>> = Key::new(4);
+pub const IFLA_BOND_SLAVE_PERM_HWADDR: Key<BondPort, Vec<u8>> = Key::new(4, "IFLA_BOND_SLAVE_PERM_HWADDR");
 /// Selects `IFLA_BOND_SLAVE_QUEUE_ID` of [`BondPort`] (`include/uapi/linux/if_link.h`).
-pub const IFLA_BOND_SLAVE_QUEUE_ID: Key<BondPort, u16> = Key::new(5);
+pub const IFLA_BOND_SLAVE_QUEUE_ID: Key<BondPort, u16> = Key::new(5, "IFLA_BOND_SLAVE_QUEUE_ID");
 /// Selects `IFLA_BOND_SLAVE_AD_AGGREGATOR_ID` of [`BondPort`] (`include/uapi/linux/if_link.h`).
-pub const IFLA_BOND_SLAVE_AD_AGGREGATOR_ID: Key<BondPort, u16> = Key::new(6);
+pub const IFLA_BOND_SLAVE_AD_AGGREGATOR_ID: Key<BondPort, u16> = Key::new(6, "IFLA_BOND_SLAVE_AD_AGGREGATOR_ID");
 /// Selects `IFLA_BOND_SLAVE_AD_ACTOR_OPER_PORT_STATE` of [`BondPort`] (`include/uapi/linux/if_link.h`).
-pub const IFLA_BOND_SLAVE_AD_ACTOR_OPER_PORT_STATE: Key<BondPort, LacpState> = Key::new(7);
+pub const IFLA_BOND_SLAVE_AD_ACTOR_OPER_PORT_STATE: Key<BondPort, LacpState> =
+    Key::new(7, "IFLA_BOND_SLAVE_AD_ACTOR_OPER_PORT_STATE");
 /// Selects `IFLA_BOND_SLAVE_AD_PARTNER_OPER_PORT_STATE` of [`BondPort`] (`include/uapi/linux/if_link.h`).
-pub const IFLA_BOND_SLAVE_AD_PARTNER_OPER_PORT_STATE: Key<BondPort, LacpState> = Key::new(8);
+pub const IFLA_BOND_SLAVE_AD_PARTNER_OPER_PORT_STATE: Key<BondPort, LacpState> =
+    Key::new(8, "IFLA_BOND_SLAVE_AD_PARTNER_OPER_PORT_STATE");
 /// Selects `IFLA_BOND_SLAVE_PRIO` of [`BondPort`] (`include/uapi/linux/if_link.h`).
-pub const IFLA_BOND_SLAVE_PRIO: Key<BondPort, i32> = Key::new(9);
+pub const IFLA_BOND_SLAVE_PRIO: Key<BondPort, i32> = Key::new(9, "IFLA_BOND_SLAVE_PRIO");
 /// Selects `IFLA_BOND_SLAVE_ACTOR_PORT_PRIO` of [`BondPort`] (`include/uapi/linux/if_link.h`).
-pub const IFLA_BOND_SLAVE_ACTOR_PORT_PRIO: Key<BondPort, u16> = Key::new(10);
+pub const IFLA_BOND_SLAVE_ACTOR_PORT_PRIO: Key<BondPort, u16> = Key::new(10, "IFLA_BOND_SLAVE_ACTOR_PORT_PRIO");
 /// Selects `IFLA_BOND_SLAVE_AD_CHURN_ACTOR_STATE` of [`BondPort`] (`include/uapi/linux/if_link.h`).
-pub const IFLA_BOND_SLAVE_AD_CHURN_ACTOR_STATE: Key<BondPort, ChurnState> = Key::new(11);
+pub const IFLA_BOND_SLAVE_AD_CHURN_ACTOR_STATE: Key<BondPort, ChurnState> =
+    Key::new(11, "IFLA_BOND_SLAVE_AD_CHURN_ACTOR_STATE");
 /// Selects `IFLA_BOND_SLAVE_AD_CHURN_PARTNER_STATE` of [`BondPort`] (`include/uapi/linux/if_link.h`).
-pub const IFLA_BOND_SLAVE_AD_CHURN_PARTNER_STATE: Key<BondPort, ChurnState> = Key::new(12);
+pub const IFLA_BOND_SLAVE_AD_CHURN_PARTNER_STATE: Key<BondPort, ChurnState> =
+    Key::new(12, "IFLA_BOND_SLAVE_AD_CHURN_PARTNER_STATE");
 
 scope! {
     /// Represents the attribute set [`Family::Bridge`] in types.
@@ -600,130 +606,132 @@ scope! {
 }
 
 /// Selects `IFLA_BR_FORWARD_DELAY` of [`Bridge`] (`include/uapi/linux/if_link.h`). 100 is printed as `100 (1.00 s)`.
-pub const IFLA_BR_FORWARD_DELAY: Key<Bridge, u32> = Key::new(1);
+pub const IFLA_BR_FORWARD_DELAY: Key<Bridge, u32> = Key::new(1, "IFLA_BR_FORWARD_DELAY");
 /// Selects `IFLA_BR_HELLO_TIME` of [`Bridge`] (`include/uapi/linux/if_link.h`). 100 is printed as `100 (1.00 s)`.
-pub const IFLA_BR_HELLO_TIME: Key<Bridge, u32> = Key::new(2);
+pub const IFLA_BR_HELLO_TIME: Key<Bridge, u32> = Key::new(2, "IFLA_BR_HELLO_TIME");
 /// Selects `IFLA_BR_MAX_AGE` of [`Bridge`] (`include/uapi/linux/if_link.h`). 100 is printed as `100 (1.00 s)`.
-pub const IFLA_BR_MAX_AGE: Key<Bridge, u32> = Key::new(3);
+pub const IFLA_BR_MAX_AGE: Key<Bridge, u32> = Key::new(3, "IFLA_BR_MAX_AGE");
 /// Selects `IFLA_BR_AGEING_TIME` of [`Bridge`] (`include/uapi/linux/if_link.h`). 100 is printed as `100 (1.00 s)`.
-pub const IFLA_BR_AGEING_TIME: Key<Bridge, u32> = Key::new(4);
+pub const IFLA_BR_AGEING_TIME: Key<Bridge, u32> = Key::new(4, "IFLA_BR_AGEING_TIME");
 /// Selects `IFLA_BR_STP_STATE` of [`Bridge`] (`include/uapi/linux/if_link.h`).
-pub const IFLA_BR_STP_STATE: Key<Bridge, BridgeStpState> = Key::new(5);
+pub const IFLA_BR_STP_STATE: Key<Bridge, BridgeStpState> = Key::new(5, "IFLA_BR_STP_STATE");
 /// Selects `IFLA_BR_PRIORITY` of [`Bridge`] (`include/uapi/linux/if_link.h`).
-pub const IFLA_BR_PRIORITY: Key<Bridge, u16> = Key::new(6);
+pub const IFLA_BR_PRIORITY: Key<Bridge, u16> = Key::new(6, "IFLA_BR_PRIORITY");
 /// Selects `IFLA_BR_VLAN_FILTERING` of [`Bridge`] (`include/uapi/linux/if_link.h`).
-pub const IFLA_BR_VLAN_FILTERING: Key<Bridge, bool> = Key::new(7);
+pub const IFLA_BR_VLAN_FILTERING: Key<Bridge, bool> = Key::new(7, "IFLA_BR_VLAN_FILTERING");
 /// Selects `IFLA_BR_VLAN_PROTOCOL` of [`Bridge`] (`include/uapi/linux/if_link.h`).
-pub const IFLA_BR_VLAN_PROTOCOL: Key<Bridge, VlanProtocol> = Key::new(8);
+pub const IFLA_BR_VLAN_PROTOCOL: Key<Bridge, VlanProtocol> = Key::new(8, "IFLA_BR_VLAN_PROTOCOL");
 /// Selects `IFLA_BR_GROUP_FWD_MASK` of [`Bridge`] (`include/uapi/linux/if_link.h`). 100 is printed as `100 (0x64)`.
-pub const IFLA_BR_GROUP_FWD_MASK: Key<Bridge, u16> = Key::new(9);
+pub const IFLA_BR_GROUP_FWD_MASK: Key<Bridge, u16> = Key::new(9, "IFLA_BR_GROUP_FWD_MASK");
 /// Selects `IFLA_BR_ROOT_ID` of [`Bridge`] (`include/uapi/linux/if_link.h`).
-pub const IFLA_BR_ROOT_ID: Key<Bridge, BridgeId> = Key::new(10);
+pub const IFLA_BR_ROOT_ID: Key<Bridge, BridgeId> = Key::new(10, "IFLA_BR_ROOT_ID");
 /// Selects `IFLA_BR_BRIDGE_ID` of [`Bridge`] (`include/uapi/linux/if_link.h`).
-pub const IFLA_BR_BRIDGE_ID: Key<Bridge, BridgeId> = Key::new(11);
+pub const IFLA_BR_BRIDGE_ID: Key<Bridge, BridgeId> = Key::new(11, "IFLA_BR_BRIDGE_ID");
 /// Selects `IFLA_BR_ROOT_PORT` of [`Bridge`] (`include/uapi/linux/if_link.h`).
-pub const IFLA_BR_ROOT_PORT: Key<Bridge, u16> = Key::new(12);
+pub const IFLA_BR_ROOT_PORT: Key<Bridge, u16> = Key::new(12, "IFLA_BR_ROOT_PORT");
 /// Selects `IFLA_BR_ROOT_PATH_COST` of [`Bridge`] (`include/uapi/linux/if_link.h`).
-pub const IFLA_BR_ROOT_PATH_COST: Key<Bridge, u32> = Key::new(13);
+pub const IFLA_BR_ROOT_PATH_COST: Key<Bridge, u32> = Key::new(13, "IFLA_BR_ROOT_PATH_COST");
 /// Selects `IFLA_BR_TOPOLOGY_CHANGE` of [`Bridge`] (`include/uapi/linux/if_link.h`).
-pub const IFLA_BR_TOPOLOGY_CHANGE: Key<Bridge, u8> = Key::new(14);
+pub const IFLA_BR_TOPOLOGY_CHANGE: Key<Bridge, u8> = Key::new(14, "IFLA_BR_TOPOLOGY_CHANGE");
 /// Selects `IFLA_BR_TOPOLOGY_CHANGE_DETECTED` of [`Bridge`] (`include/uapi/linux/if_link.h`).
-pub const IFLA_BR_TOPOLOGY_CHANGE_DETECTED: Key<Bridge, u8> = Key::new(15);
+pub const IFLA_BR_TOPOLOGY_CHANGE_DETECTED: Key<Bridge, u8> = Key::new(15, "IFLA_BR_TOPOLOGY_CHANGE_DETECTED");
 /// Selects `IFLA_BR_HELLO_TIMER` of [`Bridge`] (`include/uapi/linux/if_link.h`). 100 is printed as `100 (1.00 s)`.
-pub const IFLA_BR_HELLO_TIMER: Key<Bridge, u64> = Key::new(16);
+pub const IFLA_BR_HELLO_TIMER: Key<Bridge, u64> = Key::new(16, "IFLA_BR_HELLO_TIMER");
 /// Selects `IFLA_BR_TCN_TIMER` of [`Bridge`] (`include/uapi/linux/if_link.h`). 100 is printed as `100 (1.00 s)`.
-pub const IFLA_BR_TCN_TIMER: Key<Bridge, u64> = Key::new(17);
+pub const IFLA_BR_TCN_TIMER: Key<Bridge, u64> = Key::new(17, "IFLA_BR_TCN_TIMER");
 /// Selects `IFLA_BR_TOPOLOGY_CHANGE_TIMER` of [`Bridge`] (`include/uapi/linux/if_link.h`). 100 is printed as `100
 /// (1.00 s)`.
-pub const IFLA_BR_TOPOLOGY_CHANGE_TIMER: Key<Bridge, u64> = Key::new(18);
+pub const IFLA_BR_TOPOLOGY_CHANGE_TIMER: Key<Bridge, u64> = Key::new(18, "IFLA_BR_TOPOLOGY_CHANGE_TIMER");
 /// Selects `IFLA_BR_GC_TIMER` of [`Bridge`] (`include/uapi/linux/if_link.h`). 100 is printed as `100 (1.00 s)`.
-pub const IFLA_BR_GC_TIMER: Key<Bridge, u64> = Key::new(19);
+pub const IFLA_BR_GC_TIMER: Key<Bridge, u64> = Key::new(19, "IFLA_BR_GC_TIMER");
 /// Selects `IFLA_BR_GROUP_ADDR` of [`Bridge`] (`include/uapi/linux/if_link.h`).
-pub const IFLA_BR_GROUP_ADDR: Key<Bridge, Mac> = Key::new(20);
+pub const IFLA_BR_GROUP_ADDR: Key<Bridge, Mac> = Key::new(20, "IFLA_BR_GROUP_ADDR");
 /// Selects `IFLA_BR_FDB_FLUSH` of [`Bridge`] (`include/uapi/linux/if_link.h`).
-pub const IFLA_BR_FDB_FLUSH: Key<Bridge, ()> = Key::new(21);
+pub const IFLA_BR_FDB_FLUSH: Key<Bridge, ()> = Key::new(21, "IFLA_BR_FDB_FLUSH");
 /// Selects `IFLA_BR_MCAST_ROUTER` of [`Bridge`] (`include/uapi/linux/if_link.h`).
-pub const IFLA_BR_MCAST_ROUTER: Key<Bridge, McastRouter> = Key::new(22);
+pub const IFLA_BR_MCAST_ROUTER: Key<Bridge, McastRouter> = Key::new(22, "IFLA_BR_MCAST_ROUTER");
 /// Selects `IFLA_BR_MCAST_SNOOPING` of [`Bridge`] (`include/uapi/linux/if_link.h`).
-pub const IFLA_BR_MCAST_SNOOPING: Key<Bridge, bool> = Key::new(23);
+pub const IFLA_BR_MCAST_SNOOPING: Key<Bridge, bool> = Key::new(23, "IFLA_BR_MCAST_SNOOPING");
 /// Selects `IFLA_BR_MCAST_QUERY_USE_IFADDR` of [`Bridge`] (`include/uapi/linux/if_link.h`).
-pub const IFLA_BR_MCAST_QUERY_USE_IFADDR: Key<Bridge, bool> = Key::new(24);
+pub const IFLA_BR_MCAST_QUERY_USE_IFADDR: Key<Bridge, bool> = Key::new(24, "IFLA_BR_MCAST_QUERY_USE_IFADDR");
 /// Selects `IFLA_BR_MCAST_QUERIER` of [`Bridge`] (`include/uapi/linux/if_link.h`).
-pub const IFLA_BR_MCAST_QUERIER: Key<Bridge, bool> = Key::new(25);
+pub const IFLA_BR_MCAST_QUERIER: Key<Bridge, bool> = Key::new(25, "IFLA_BR_MCAST_QUERIER");
 /// Selects `IFLA_BR_MCAST_HASH_ELASTICITY` of [`Bridge`] (`include/uapi/linux/if_link.h`).
-pub const IFLA_BR_MCAST_HASH_ELASTICITY: Key<Bridge, u32> = Key::new(26);
+pub const IFLA_BR_MCAST_HASH_ELASTICITY: Key<Bridge, u32> = Key::new(26, "IFLA_BR_MCAST_HASH_ELASTICITY");
 /// Selects `IFLA_BR_MCAST_HASH_MAX` of [`Bridge`] (`include/uapi/linux/if_link.h`).
-pub const IFLA_BR_MCAST_HASH_MAX: Key<Bridge, u32> = Key::new(27);
+pub const IFLA_BR_MCAST_HASH_MAX: Key<Bridge, u32> = Key::new(27, "IFLA_BR_MCAST_HASH_MAX");
 /// Selects `IFLA_BR_MCAST_LAST_MEMBER_CNT` of [`Bridge`] (`include/uapi/linux/if_link.h`).
-pub const IFLA_BR_MCAST_LAST_MEMBER_CNT: Key<Bridge, u32> = Key::new(28);
+pub const IFLA_BR_MCAST_LAST_MEMBER_CNT: Key<Bridge, u32> = Key::new(28, "IFLA_BR_MCAST_LAST_MEMBER_CNT");
 /// Selects `IFLA_BR_MCAST_STARTUP_QUERY_CNT` of [`Bridge`] (`include/uapi/linux/if_link.h`).
-pub const IFLA_BR_MCAST_STARTUP_QUERY_CNT: Key<Bridge, u32> = Key::new(29);
+pub const IFLA_BR_MCAST_STARTUP_QUERY_CNT: Key<Bridge, u32> = Key::new(29, "IFLA_BR_MCAST_STARTUP_QUERY_CNT");
 /// Selects `IFLA_BR_MCAST_LAST_MEMBER_INTVL` of [`Bridge`] (`include/uapi/linux/if_link.h`). 100 is printed as `100
 /// (1.00 s)`.
-pub const IFLA_BR_MCAST_LAST_MEMBER_INTVL: Key<Bridge, u64> = Key::new(30);
+pub const IFLA_BR_MCAST_LAST_MEMBER_INTVL: Key<Bridge, u64> = Key::new(30, "IFLA_BR_MCAST_LAST_MEMBER_INTVL");
 /// Selects `IFLA_BR_MCAST_MEMBERSHIP_INTVL` of [`Bridge`] (`include/uapi/linux/if_link.h`). 100 is printed as `100
 /// (1.00 s)`.
-pub const IFLA_BR_MCAST_MEMBERSHIP_INTVL: Key<Bridge, u64> = Key::new(31);
+pub const IFLA_BR_MCAST_MEMBERSHIP_INTVL: Key<Bridge, u64> = Key::new(31, "IFLA_BR_MCAST_MEMBERSHIP_INTVL");
 /// Selects `IFLA_BR_MCAST_QUERIER_INTVL` of [`Bridge`] (`include/uapi/linux/if_link.h`). 100 is printed as `100
 /// (1.00 s)`.
-pub const IFLA_BR_MCAST_QUERIER_INTVL: Key<Bridge, u64> = Key::new(32);
+pub const IFLA_BR_MCAST_QUERIER_INTVL: Key<Bridge, u64> = Key::new(32, "IFLA_BR_MCAST_QUERIER_INTVL");
 /// Selects `IFLA_BR_MCAST_QUERY_INTVL` of [`Bridge`] (`include/uapi/linux/if_link.h`). 100 is printed as `100 (1.00
 /// s)`.
-pub const IFLA_BR_MCAST_QUERY_INTVL: Key<Bridge, u64> = Key::new(33);
+pub const IFLA_BR_MCAST_QUERY_INTVL: Key<Bridge, u64> = Key::new(33, "IFLA_BR_MCAST_QUERY_INTVL");
 /// Selects `IFLA_BR_MCAST_QUERY_RESPONSE_INTVL` of [`Bridge`] (`include/uapi/linux/if_link.h`). 100 is printed as
 /// `100 (1.00 s)`.
-pub const IFLA_BR_MCAST_QUERY_RESPONSE_INTVL: Key<Bridge, u64> = Key::new(34);
+pub const IFLA_BR_MCAST_QUERY_RESPONSE_INTVL: Key<Bridge, u64> = Key::new(34, "IFLA_BR_MCAST_QUERY_RESPONSE_INTVL");
 /// Selects `IFLA_BR_MCAST_STARTUP_QUERY_INTVL` of [`Bridge`] (`include/uapi/linux/if_link.h`). 100 is printed as
 /// `100 (1.00 s)`.
-pub const IFLA_BR_MCAST_STARTUP_QUERY_INTVL: Key<Bridge, u64> = Key::new(35);
+pub const IFLA_BR_MCAST_STARTUP_QUERY_INTVL: Key<Bridge, u64> = Key::new(35, "IFLA_BR_MCAST_STARTUP_QUERY_INTVL");
 /// Selects `IFLA_BR_NF_CALL_IPTABLES` of [`Bridge`] (`include/uapi/linux/if_link.h`).
-pub const IFLA_BR_NF_CALL_IPTABLES: Key<Bridge, bool> = Key::new(36);
+pub const IFLA_BR_NF_CALL_IPTABLES: Key<Bridge, bool> = Key::new(36, "IFLA_BR_NF_CALL_IPTABLES");
 /// Selects `IFLA_BR_NF_CALL_IP6TABLES` of [`Bridge`] (`include/uapi/linux/if_link.h`).
-pub const IFLA_BR_NF_CALL_IP6TABLES: Key<Bridge, bool> = Key::new(37);
+pub const IFLA_BR_NF_CALL_IP6TABLES: Key<Bridge, bool> = Key::new(37, "IFLA_BR_NF_CALL_IP6TABLES");
 /// Selects `IFLA_BR_NF_CALL_ARPTABLES` of [`Bridge`] (`include/uapi/linux/if_link.h`).
-pub const IFLA_BR_NF_CALL_ARPTABLES: Key<Bridge, bool> = Key::new(38);
+pub const IFLA_BR_NF_CALL_ARPTABLES: Key<Bridge, bool> = Key::new(38, "IFLA_BR_NF_CALL_ARPTABLES");
 /// Selects `IFLA_BR_VLAN_DEFAULT_PVID` of [`Bridge`] (`include/uapi/linux/if_link.h`).
-pub const IFLA_BR_VLAN_DEFAULT_PVID: Key<Bridge, u16> = Key::new(39);
+pub const IFLA_BR_VLAN_DEFAULT_PVID: Key<Bridge, u16> = Key::new(39, "IFLA_BR_VLAN_DEFAULT_PVID");
 /// Selects `IFLA_BR_VLAN_STATS_ENABLED` of [`Bridge`] (`include/uapi/linux/if_link.h`).
-pub const IFLA_BR_VLAN_STATS_ENABLED: Key<Bridge, bool> = Key::new(41);
+pub const IFLA_BR_VLAN_STATS_ENABLED: Key<Bridge, bool> = Key::new(41, "IFLA_BR_VLAN_STATS_ENABLED");
 /// Selects `IFLA_BR_MCAST_STATS_ENABLED` of [`Bridge`] (`include/uapi/linux/if_link.h`).
-pub const IFLA_BR_MCAST_STATS_ENABLED: Key<Bridge, bool> = Key::new(42);
+pub const IFLA_BR_MCAST_STATS_ENABLED: Key<Bridge, bool> = Key::new(42, "IFLA_BR_MCAST_STATS_ENABLED");
 /// Selects `IFLA_BR_MCAST_IGMP_VERSION` of [`Bridge`] (`include/uapi/linux/if_link.h`).
-pub const IFLA_BR_MCAST_IGMP_VERSION: Key<Bridge, u8> = Key::new(43);
+pub const IFLA_BR_MCAST_IGMP_VERSION: Key<Bridge, u8> = Key::new(43, "IFLA_BR_MCAST_IGMP_VERSION");
 /// Selects `IFLA_BR_MCAST_MLD_VERSION` of [`Bridge`] (`include/uapi/linux/if_link.h`).
-pub const IFLA_BR_MCAST_MLD_VERSION: Key<Bridge, u8> = Key::new(44);
+pub const IFLA_BR_MCAST_MLD_VERSION: Key<Bridge, u8> = Key::new(44, "IFLA_BR_MCAST_MLD_VERSION");
 /// Selects `IFLA_BR_VLAN_STATS_PER_PORT` of [`Bridge`] (`include/uapi/linux/if_link.h`).
-pub const IFLA_BR_VLAN_STATS_PER_PORT: Key<Bridge, bool> = Key::new(45);
+pub const IFLA_BR_VLAN_STATS_PER_PORT: Key<Bridge, bool> = Key::new(45, "IFLA_BR_VLAN_STATS_PER_PORT");
 /// Selects `IFLA_BR_MULTI_BOOLOPT` of [`Bridge`] (`include/uapi/linux/if_link.h`).
-pub const IFLA_BR_MULTI_BOOLOPT: Key<Bridge, Masked<BridgeBoolOpt>> = Key::new(46);
+pub const IFLA_BR_MULTI_BOOLOPT: Key<Bridge, Masked<BridgeBoolOpt>> = Key::new(46, "IFLA_BR_MULTI_BOOLOPT");
 elements! {
     /// Represents the elements of [`IFLA_BR_MCAST_QUERIER_STATE`] in types.
     BrMcastQuerierState of Bridge = 47;
 }
 /// Selects `IFLA_BR_MCAST_QUERIER_STATE` of [`Bridge`] (`include/uapi/linux/if_link.h`).
-pub const IFLA_BR_MCAST_QUERIER_STATE: Key<Bridge, Nested<BrMcastQuerierState>> = Key::new(47);
+pub const IFLA_BR_MCAST_QUERIER_STATE: Key<Bridge, Nested<BrMcastQuerierState>> =
+    Key::new(47, "IFLA_BR_MCAST_QUERIER_STATE");
 /// Selects `BRIDGE_QUERIER_IP_ADDRESS` of [`IFLA_BR_MCAST_QUERIER_STATE`] (`include/uapi/linux/if_bridge.h`).
-pub const BRIDGE_QUERIER_IP_ADDRESS: Key<BrMcastQuerierState, Ipv4Addr> = Key::new(1);
+pub const BRIDGE_QUERIER_IP_ADDRESS: Key<BrMcastQuerierState, Ipv4Addr> = Key::new(1, "BRIDGE_QUERIER_IP_ADDRESS");
 /// Selects `BRIDGE_QUERIER_IP_PORT` of [`IFLA_BR_MCAST_QUERIER_STATE`] (`include/uapi/linux/if_bridge.h`). 100 is
 /// printed as `ifindex 100`.
-pub const BRIDGE_QUERIER_IP_PORT: Key<BrMcastQuerierState, u32> = Key::new(2);
+pub const BRIDGE_QUERIER_IP_PORT: Key<BrMcastQuerierState, u32> = Key::new(2, "BRIDGE_QUERIER_IP_PORT");
 /// Selects `BRIDGE_QUERIER_IP_OTHER_TIMER` of [`IFLA_BR_MCAST_QUERIER_STATE`] (`include/uapi/linux/if_bridge.h`).
 /// 100 is printed as `100 (1.00 s)`.
-pub const BRIDGE_QUERIER_IP_OTHER_TIMER: Key<BrMcastQuerierState, u64> = Key::new(3);
+pub const BRIDGE_QUERIER_IP_OTHER_TIMER: Key<BrMcastQuerierState, u64> = Key::new(3, "BRIDGE_QUERIER_IP_OTHER_TIMER");
 /// Selects `BRIDGE_QUERIER_IPV6_ADDRESS` of [`IFLA_BR_MCAST_QUERIER_STATE`] (`include/uapi/linux/if_bridge.h`).
-pub const BRIDGE_QUERIER_IPV6_ADDRESS: Key<BrMcastQuerierState, Ipv6Addr> = Key::new(5);
+pub const BRIDGE_QUERIER_IPV6_ADDRESS: Key<BrMcastQuerierState, Ipv6Addr> = Key::new(5, "BRIDGE_QUERIER_IPV6_ADDRESS");
 /// Selects `BRIDGE_QUERIER_IPV6_PORT` of [`IFLA_BR_MCAST_QUERIER_STATE`] (`include/uapi/linux/if_bridge.h`). 100 is
 /// printed as `ifindex 100`.
-pub const BRIDGE_QUERIER_IPV6_PORT: Key<BrMcastQuerierState, u32> = Key::new(6);
+pub const BRIDGE_QUERIER_IPV6_PORT: Key<BrMcastQuerierState, u32> = Key::new(6, "BRIDGE_QUERIER_IPV6_PORT");
 /// Selects `BRIDGE_QUERIER_IPV6_OTHER_TIMER` of [`IFLA_BR_MCAST_QUERIER_STATE`] (`include/uapi/linux/if_bridge.h`).
 /// 100 is printed as `100 (1.00 s)`.
-pub const BRIDGE_QUERIER_IPV6_OTHER_TIMER: Key<BrMcastQuerierState, u64> = Key::new(7);
+pub const BRIDGE_QUERIER_IPV6_OTHER_TIMER: Key<BrMcastQuerierState, u64> =
+    Key::new(7, "BRIDGE_QUERIER_IPV6_OTHER_TIMER");
 /// Selects `IFLA_BR_FDB_N_LEARNED` of [`Bridge`] (`include/uapi/linux/if_link.h`).
-pub const IFLA_BR_FDB_N_LEARNED: Key<Bridge, u32> = Key::new(48);
+pub const IFLA_BR_FDB_N_LEARNED: Key<Bridge, u32> = Key::new(48, "IFLA_BR_FDB_N_LEARNED");
 /// Selects `IFLA_BR_FDB_MAX_LEARNED` of [`Bridge`] (`include/uapi/linux/if_link.h`).
-pub const IFLA_BR_FDB_MAX_LEARNED: Key<Bridge, u32> = Key::new(49);
+pub const IFLA_BR_FDB_MAX_LEARNED: Key<Bridge, u32> = Key::new(49, "IFLA_BR_FDB_MAX_LEARNED");
 /// Selects `IFLA_BR_STP_MODE` of [`Bridge`] (`include/uapi/linux/if_link.h`).
-pub const IFLA_BR_STP_MODE: Key<Bridge, BridgeStpMode> = Key::new(50);
+pub const IFLA_BR_STP_MODE: Key<Bridge, BridgeStpMode> = Key::new(50, "IFLA_BR_STP_MODE");
 
 scope! {
     /// Represents the attribute set [`Family::BridgePort`] in types.
@@ -731,99 +739,99 @@ scope! {
 }
 
 /// Selects `IFLA_BRPORT_STATE` of [`BridgePort`] (`include/uapi/linux/if_link.h`).
-pub const IFLA_BRPORT_STATE: Key<BridgePort, BridgePortState> = Key::new(1);
+pub const IFLA_BRPORT_STATE: Key<BridgePort, BridgePortState> = Key::new(1, "IFLA_BRPORT_STATE");
 /// Selects `IFLA_BRPORT_PRIORITY` of [`BridgePort`] (`include/uapi/linux/if_link.h`).
-pub const IFLA_BRPORT_PRIORITY: Key<BridgePort, u16> = Key::new(2);
+pub const IFLA_BRPORT_PRIORITY: Key<BridgePort, u16> = Key::new(2, "IFLA_BRPORT_PRIORITY");
 /// Selects `IFLA_BRPORT_COST` of [`BridgePort`] (`include/uapi/linux/if_link.h`).
-pub const IFLA_BRPORT_COST: Key<BridgePort, u32> = Key::new(3);
+pub const IFLA_BRPORT_COST: Key<BridgePort, u32> = Key::new(3, "IFLA_BRPORT_COST");
 /// Selects `IFLA_BRPORT_MODE` of [`BridgePort`] (`include/uapi/linux/if_link.h`).
-pub const IFLA_BRPORT_MODE: Key<BridgePort, bool> = Key::new(4);
+pub const IFLA_BRPORT_MODE: Key<BridgePort, bool> = Key::new(4, "IFLA_BRPORT_MODE");
 /// Selects `IFLA_BRPORT_GUARD` of [`BridgePort`] (`include/uapi/linux/if_link.h`).
-pub const IFLA_BRPORT_GUARD: Key<BridgePort, bool> = Key::new(5);
+pub const IFLA_BRPORT_GUARD: Key<BridgePort, bool> = Key::new(5, "IFLA_BRPORT_GUARD");
 /// Selects `IFLA_BRPORT_PROTECT` of [`BridgePort`] (`include/uapi/linux/if_link.h`).
-pub const IFLA_BRPORT_PROTECT: Key<BridgePort, bool> = Key::new(6);
+pub const IFLA_BRPORT_PROTECT: Key<BridgePort, bool> = Key::new(6, "IFLA_BRPORT_PROTECT");
 /// Selects `IFLA_BRPORT_FAST_LEAVE` of [`BridgePort`] (`include/uapi/linux/if_link.h`).
-pub const IFLA_BRPORT_FAST_LEAVE: Key<BridgePort, bool> = Key::new(7);
+pub const IFLA_BRPORT_FAST_LEAVE: Key<BridgePort, bool> = Key::new(7, "IFLA_BRPORT_FAST_LEAVE");
 /// Selects `IFLA_BRPORT_LEARNING` of [`BridgePort`] (`include/uapi/linux/if_link.h`).
-pub const IFLA_BRPORT_LEARNING: Key<BridgePort, bool> = Key::new(8);
+pub const IFLA_BRPORT_LEARNING: Key<BridgePort, bool> = Key::new(8, "IFLA_BRPORT_LEARNING");
 /// Selects `IFLA_BRPORT_UNICAST_FLOOD` of [`BridgePort`] (`include/uapi/linux/if_link.h`).
-pub const IFLA_BRPORT_UNICAST_FLOOD: Key<BridgePort, bool> = Key::new(9);
+pub const IFLA_BRPORT_UNICAST_FLOOD: Key<BridgePort, bool> = Key::new(9, "IFLA_BRPORT_UNICAST_FLOOD");
 /// Selects `IFLA_BRPORT_PROXYARP` of [`BridgePort`] (`include/uapi/linux/if_link.h`).
-pub const IFLA_BRPORT_PROXYARP: Key<BridgePort, bool> = Key::new(10);
+pub const IFLA_BRPORT_PROXYARP: Key<BridgePort, bool> = Key::new(10, "IFLA_BRPORT_PROXYARP");
 /// Selects `IFLA_BRPORT_LEARNING_SYNC` of [`BridgePort`] (`include/uapi/linux/if_link.h`).
-pub const IFLA_BRPORT_LEARNING_SYNC: Key<BridgePort, bool> = Key::new(11);
+pub const IFLA_BRPORT_LEARNING_SYNC: Key<BridgePort, bool> = Key::new(11, "IFLA_BRPORT_LEARNING_SYNC");
 /// Selects `IFLA_BRPORT_PROXYARP_WIFI` of [`BridgePort`] (`include/uapi/linux/if_link.h`).
-pub const IFLA_BRPORT_PROXYARP_WIFI: Key<BridgePort, bool> = Key::new(12);
+pub const IFLA_BRPORT_PROXYARP_WIFI: Key<BridgePort, bool> = Key::new(12, "IFLA_BRPORT_PROXYARP_WIFI");
 /// Selects `IFLA_BRPORT_ROOT_ID` of [`BridgePort`] (`include/uapi/linux/if_link.h`).
-pub const IFLA_BRPORT_ROOT_ID: Key<BridgePort, BridgeId> = Key::new(13);
+pub const IFLA_BRPORT_ROOT_ID: Key<BridgePort, BridgeId> = Key::new(13, "IFLA_BRPORT_ROOT_ID");
 /// Selects `IFLA_BRPORT_BRIDGE_ID` of [`BridgePort`] (`include/uapi/linux/if_link.h`).
-pub const IFLA_BRPORT_BRIDGE_ID: Key<BridgePort, BridgeId> = Key::new(14);
+pub const IFLA_BRPORT_BRIDGE_ID: Key<BridgePort, BridgeId> = Key::new(14, "IFLA_BRPORT_BRIDGE_ID");
 /// Selects `IFLA_BRPORT_DESIGNATED_PORT` of [`BridgePort`] (`include/uapi/linux/if_link.h`). 100 is printed as `100
 /// (0x64)`.
-pub const IFLA_BRPORT_DESIGNATED_PORT: Key<BridgePort, u16> = Key::new(15);
+pub const IFLA_BRPORT_DESIGNATED_PORT: Key<BridgePort, u16> = Key::new(15, "IFLA_BRPORT_DESIGNATED_PORT");
 /// Selects `IFLA_BRPORT_DESIGNATED_COST` of [`BridgePort`] (`include/uapi/linux/if_link.h`).
-pub const IFLA_BRPORT_DESIGNATED_COST: Key<BridgePort, u16> = Key::new(16);
+pub const IFLA_BRPORT_DESIGNATED_COST: Key<BridgePort, u16> = Key::new(16, "IFLA_BRPORT_DESIGNATED_COST");
 /// Selects `IFLA_BRPORT_ID` of [`BridgePort`] (`include/uapi/linux/if_link.h`). 100 is printed as `100 (0x64)`.
-pub const IFLA_BRPORT_ID: Key<BridgePort, u16> = Key::new(17);
+pub const IFLA_BRPORT_ID: Key<BridgePort, u16> = Key::new(17, "IFLA_BRPORT_ID");
 /// Selects `IFLA_BRPORT_NO` of [`BridgePort`] (`include/uapi/linux/if_link.h`).
-pub const IFLA_BRPORT_NO: Key<BridgePort, u16> = Key::new(18);
+pub const IFLA_BRPORT_NO: Key<BridgePort, u16> = Key::new(18, "IFLA_BRPORT_NO");
 /// Selects `IFLA_BRPORT_TOPOLOGY_CHANGE_ACK` of [`BridgePort`] (`include/uapi/linux/if_link.h`).
-pub const IFLA_BRPORT_TOPOLOGY_CHANGE_ACK: Key<BridgePort, bool> = Key::new(19);
+pub const IFLA_BRPORT_TOPOLOGY_CHANGE_ACK: Key<BridgePort, bool> = Key::new(19, "IFLA_BRPORT_TOPOLOGY_CHANGE_ACK");
 /// Selects `IFLA_BRPORT_CONFIG_PENDING` of [`BridgePort`] (`include/uapi/linux/if_link.h`).
-pub const IFLA_BRPORT_CONFIG_PENDING: Key<BridgePort, bool> = Key::new(20);
+pub const IFLA_BRPORT_CONFIG_PENDING: Key<BridgePort, bool> = Key::new(20, "IFLA_BRPORT_CONFIG_PENDING");
 /// Selects `IFLA_BRPORT_MESSAGE_AGE_TIMER` of [`BridgePort`] (`include/uapi/linux/if_link.h`). 100 is printed as
 /// `100 (1.00 s)`.
-pub const IFLA_BRPORT_MESSAGE_AGE_TIMER: Key<BridgePort, u64> = Key::new(21);
+pub const IFLA_BRPORT_MESSAGE_AGE_TIMER: Key<BridgePort, u64> = Key::new(21, "IFLA_BRPORT_MESSAGE_AGE_TIMER");
 /// Selects `IFLA_BRPORT_FORWARD_DELAY_TIMER` of [`BridgePort`] (`include/uapi/linux/if_link.h`). 100 is printed as
 /// `100 (1.00 s)`.
-pub const IFLA_BRPORT_FORWARD_DELAY_TIMER: Key<BridgePort, u64> = Key::new(22);
+pub const IFLA_BRPORT_FORWARD_DELAY_TIMER: Key<BridgePort, u64> = Key::new(22, "IFLA_BRPORT_FORWARD_DELAY_TIMER");
 /// Selects `IFLA_BRPORT_HOLD_TIMER` of [`BridgePort`] (`include/uapi/linux/if_link.h`). 100 is printed as `100 (1.00
 /// s)`.
-pub const IFLA_BRPORT_HOLD_TIMER: Key<BridgePort, u64> = Key::new(23);
+pub const IFLA_BRPORT_HOLD_TIMER: Key<BridgePort, u64> = Key::new(23, "IFLA_BRPORT_HOLD_TIMER");
 /// Selects `IFLA_BRPORT_FLUSH` of [`BridgePort`] (`include/uapi/linux/if_link.h`).
-pub const IFLA_BRPORT_FLUSH: Key<BridgePort, ()> = Key::new(24);
+pub const IFLA_BRPORT_FLUSH: Key<BridgePort, ()> = Key::new(24, "IFLA_BRPORT_FLUSH");
 /// Selects `IFLA_BRPORT_MULTICAST_ROUTER` of [`BridgePort`] (`include/uapi/linux/if_link.h`).
-pub const IFLA_BRPORT_MULTICAST_ROUTER: Key<BridgePort, McastRouter> = Key::new(25);
+pub const IFLA_BRPORT_MULTICAST_ROUTER: Key<BridgePort, McastRouter> = Key::new(25, "IFLA_BRPORT_MULTICAST_ROUTER");
 /// Selects `IFLA_BRPORT_MCAST_FLOOD` of [`BridgePort`] (`include/uapi/linux/if_link.h`).
-pub const IFLA_BRPORT_MCAST_FLOOD: Key<BridgePort, bool> = Key::new(27);
+pub const IFLA_BRPORT_MCAST_FLOOD: Key<BridgePort, bool> = Key::new(27, "IFLA_BRPORT_MCAST_FLOOD");
 /// Selects `IFLA_BRPORT_MCAST_TO_UCAST` of [`BridgePort`] (`include/uapi/linux/if_link.h`).
-pub const IFLA_BRPORT_MCAST_TO_UCAST: Key<BridgePort, bool> = Key::new(28);
+pub const IFLA_BRPORT_MCAST_TO_UCAST: Key<BridgePort, bool> = Key::new(28, "IFLA_BRPORT_MCAST_TO_UCAST");
 /// Selects `IFLA_BRPORT_VLAN_TUNNEL` of [`BridgePort`] (`include/uapi/linux/if_link.h`).
-pub const IFLA_BRPORT_VLAN_TUNNEL: Key<BridgePort, bool> = Key::new(29);
+pub const IFLA_BRPORT_VLAN_TUNNEL: Key<BridgePort, bool> = Key::new(29, "IFLA_BRPORT_VLAN_TUNNEL");
 /// Selects `IFLA_BRPORT_BCAST_FLOOD` of [`BridgePort`] (`include/uapi/linux/if_link.h`).
-pub const IFLA_BRPORT_BCAST_FLOOD: Key<BridgePort, bool> = Key::new(30);
+pub const IFLA_BRPORT_BCAST_FLOOD: Key<BridgePort, bool> = Key::new(30, "IFLA_BRPORT_BCAST_FLOOD");
 /// Selects `IFLA_BRPORT_GROUP_FWD_MASK` of [`BridgePort`] (`include/uapi/linux/if_link.h`). 100 is printed as `100
 /// (0x64)`.
-pub const IFLA_BRPORT_GROUP_FWD_MASK: Key<BridgePort, u16> = Key::new(31);
+pub const IFLA_BRPORT_GROUP_FWD_MASK: Key<BridgePort, u16> = Key::new(31, "IFLA_BRPORT_GROUP_FWD_MASK");
 /// Selects `IFLA_BRPORT_NEIGH_SUPPRESS` of [`BridgePort`] (`include/uapi/linux/if_link.h`).
-pub const IFLA_BRPORT_NEIGH_SUPPRESS: Key<BridgePort, bool> = Key::new(32);
+pub const IFLA_BRPORT_NEIGH_SUPPRESS: Key<BridgePort, bool> = Key::new(32, "IFLA_BRPORT_NEIGH_SUPPRESS");
 /// Selects `IFLA_BRPORT_ISOLATED` of [`BridgePort`] (`include/uapi/linux/if_link.h`).
-pub const IFLA_BRPORT_ISOLATED: Key<BridgePort, bool> = Key::new(33);
+pub const IFLA_BRPORT_ISOLATED: Key<BridgePort, bool> = Key::new(33, "IFLA_BRPORT_ISOLATED");
 /// Selects `IFLA_BRPORT_BACKUP_PORT` of [`BridgePort`] (`include/uapi/linux/if_link.h`). 100 is printed as `ifindex
 /// 100`.
-pub const IFLA_BRPORT_BACKUP_PORT: Key<BridgePort, u32> = Key::new(34);
+pub const IFLA_BRPORT_BACKUP_PORT: Key<BridgePort, u32> = Key::new(34, "IFLA_BRPORT_BACKUP_PORT");
 /// Selects `IFLA_BRPORT_MRP_RING_OPEN` of [`BridgePort`] (`include/uapi/linux/if_link.h`).
-pub const IFLA_BRPORT_MRP_RING_OPEN: Key<BridgePort, bool> = Key::new(35);
+pub const IFLA_BRPORT_MRP_RING_OPEN: Key<BridgePort, bool> = Key::new(35, "IFLA_BRPORT_MRP_RING_OPEN");
 /// Selects `IFLA_BRPORT_MRP_IN_OPEN` of [`BridgePort`] (`include/uapi/linux/if_link.h`).
-pub const IFLA_BRPORT_MRP_IN_OPEN: Key<BridgePort, bool> = Key::new(36);
+pub const IFLA_BRPORT_MRP_IN_OPEN: Key<BridgePort, bool> = Key::new(36, "IFLA_BRPORT_MRP_IN_OPEN");
 /// Selects `IFLA_BRPORT_MCAST_EHT_HOSTS_LIMIT` of [`BridgePort`] (`include/uapi/linux/if_link.h`).
-pub const IFLA_BRPORT_MCAST_EHT_HOSTS_LIMIT: Key<BridgePort, u32> = Key::new(37);
+pub const IFLA_BRPORT_MCAST_EHT_HOSTS_LIMIT: Key<BridgePort, u32> = Key::new(37, "IFLA_BRPORT_MCAST_EHT_HOSTS_LIMIT");
 /// Selects `IFLA_BRPORT_MCAST_EHT_HOSTS_CNT` of [`BridgePort`] (`include/uapi/linux/if_link.h`).
-pub const IFLA_BRPORT_MCAST_EHT_HOSTS_CNT: Key<BridgePort, u32> = Key::new(38);
+pub const IFLA_BRPORT_MCAST_EHT_HOSTS_CNT: Key<BridgePort, u32> = Key::new(38, "IFLA_BRPORT_MCAST_EHT_HOSTS_CNT");
 /// Selects `IFLA_BRPORT_LOCKED` of [`BridgePort`] (`include/uapi/linux/if_link.h`).
-pub const IFLA_BRPORT_LOCKED: Key<BridgePort, bool> = Key::new(39);
+pub const IFLA_BRPORT_LOCKED: Key<BridgePort, bool> = Key::new(39, "IFLA_BRPORT_LOCKED");
 /// Selects `IFLA_BRPORT_MAB` of [`BridgePort`] (`include/uapi/linux/if_link.h`).
-pub const IFLA_BRPORT_MAB: Key<BridgePort, bool> = Key::new(40);
+pub const IFLA_BRPORT_MAB: Key<BridgePort, bool> = Key::new(40, "IFLA_BRPORT_MAB");
 /// Selects `IFLA_BRPORT_MCAST_N_GROUPS` of [`BridgePort`] (`include/uapi/linux/if_link.h`).
-pub const IFLA_BRPORT_MCAST_N_GROUPS: Key<BridgePort, u32> = Key::new(41);
+pub const IFLA_BRPORT_MCAST_N_GROUPS: Key<BridgePort, u32> = Key::new(41, "IFLA_BRPORT_MCAST_N_GROUPS");
 /// Selects `IFLA_BRPORT_MCAST_MAX_GROUPS` of [`BridgePort`] (`include/uapi/linux/if_link.h`).
-pub const IFLA_BRPORT_MCAST_MAX_GROUPS: Key<BridgePort, u32> = Key::new(42);
+pub const IFLA_BRPORT_MCAST_MAX_GROUPS: Key<BridgePort, u32> = Key::new(42, "IFLA_BRPORT_MCAST_MAX_GROUPS");
 /// Selects `IFLA_BRPORT_NEIGH_VLAN_SUPPRESS` of [`BridgePort`] (`include/uapi/linux/if_link.h`).
-pub const IFLA_BRPORT_NEIGH_VLAN_SUPPRESS: Key<BridgePort, bool> = Key::new(43);
+pub const IFLA_BRPORT_NEIGH_VLAN_SUPPRESS: Key<BridgePort, bool> = Key::new(43, "IFLA_BRPORT_NEIGH_VLAN_SUPPRESS");
 /// Selects `IFLA_BRPORT_BACKUP_NHID` of [`BridgePort`] (`include/uapi/linux/if_link.h`).
-pub const IFLA_BRPORT_BACKUP_NHID: Key<BridgePort, u32> = Key::new(44);
+pub const IFLA_BRPORT_BACKUP_NHID: Key<BridgePort, u32> = Key::new(44, "IFLA_BRPORT_BACKUP_NHID");
 /// Selects `IFLA_BRPORT_NEIGH_FORWARD_GRAT` of [`BridgePort`] (`include/uapi/linux/if_link.h`).
-pub const IFLA_BRPORT_NEIGH_FORWARD_GRAT: Key<BridgePort, bool> = Key::new(45);
+pub const IFLA_BRPORT_NEIGH_FORWARD_GRAT: Key<BridgePort, bool> = Key::new(45, "IFLA_BRPORT_NEIGH_FORWARD_GRAT");
 
 scope! {
     /// Represents the attribute set [`Family::Vlan`] in types.
@@ -831,15 +839,15 @@ scope! {
 }
 
 /// Selects `IFLA_VLAN_ID` of [`Vlan`] (`include/uapi/linux/if_link.h`).
-pub const IFLA_VLAN_ID: Key<Vlan, u16> = Key::new(1);
+pub const IFLA_VLAN_ID: Key<Vlan, u16> = Key::new(1, "IFLA_VLAN_ID");
 /// Selects `IFLA_VLAN_FLAGS` of [`Vlan`] (`include/uapi/linux/if_link.h`).
-pub const IFLA_VLAN_FLAGS: Key<Vlan, Masked<VlanFlags>> = Key::new(2);
+pub const IFLA_VLAN_FLAGS: Key<Vlan, Masked<VlanFlags>> = Key::new(2, "IFLA_VLAN_FLAGS");
 /// Selects `IFLA_VLAN_EGRESS_QOS` of [`Vlan`] (`include/uapi/linux/if_link.h`).
-pub const IFLA_VLAN_EGRESS_QOS: Key<Vlan, Vec<QosMapping>> = Key::new(3);
+pub const IFLA_VLAN_EGRESS_QOS: Key<Vlan, Vec<QosMapping>> = Key::new(3, "IFLA_VLAN_EGRESS_QOS");
 /// Selects `IFLA_VLAN_INGRESS_QOS` of [`Vlan`] (`include/uapi/linux/if_link.h`).
-pub const IFLA_VLAN_INGRESS_QOS: Key<Vlan, Vec<QosMapping>> = Key::new(4);
+pub const IFLA_VLAN_INGRESS_QOS: Key<Vlan, Vec<QosMapping>> = Key::new(4, "IFLA_VLAN_INGRESS_QOS");
 /// Selects `IFLA_VLAN_PROTOCOL` of [`Vlan`] (`include/uapi/linux/if_link.h`).
-pub const IFLA_VLAN_PROTOCOL: Key<Vlan, VlanProtocol> = Key::new(5);
+pub const IFLA_VLAN_PROTOCOL: Key<Vlan, VlanProtocol> = Key::new(5, "IFLA_VLAN_PROTOCOL");
 
 scope! {
     /// Represents the attribute set [`Family::Can`] in types.
@@ -847,67 +855,67 @@ scope! {
 }
 
 /// Selects `IFLA_CAN_BITTIMING` of [`Can`] (`include/uapi/linux/can/netlink.h`).
-pub const IFLA_CAN_BITTIMING: Key<Can, CanBitTiming> = Key::new(1);
+pub const IFLA_CAN_BITTIMING: Key<Can, CanBitTiming> = Key::new(1, "IFLA_CAN_BITTIMING");
 /// Selects `IFLA_CAN_BITTIMING_CONST` of [`Can`] (`include/uapi/linux/can/netlink.h`).
-pub const IFLA_CAN_BITTIMING_CONST: Key<Can, CanBitTimingConst> = Key::new(2);
+pub const IFLA_CAN_BITTIMING_CONST: Key<Can, CanBitTimingConst> = Key::new(2, "IFLA_CAN_BITTIMING_CONST");
 /// Selects `IFLA_CAN_CLOCK` of [`Can`] (`include/uapi/linux/can/netlink.h`). 100 is printed as `freq 100 Hz`.
-pub const IFLA_CAN_CLOCK: Key<Can, u32> = Key::new(3);
+pub const IFLA_CAN_CLOCK: Key<Can, u32> = Key::new(3, "IFLA_CAN_CLOCK");
 /// Selects `IFLA_CAN_STATE` of [`Can`] (`include/uapi/linux/can/netlink.h`).
-pub const IFLA_CAN_STATE: Key<Can, CanState> = Key::new(4);
+pub const IFLA_CAN_STATE: Key<Can, CanState> = Key::new(4, "IFLA_CAN_STATE");
 /// Selects `IFLA_CAN_CTRLMODE` of [`Can`] (`include/uapi/linux/can/netlink.h`).
-pub const IFLA_CAN_CTRLMODE: Key<Can, Masked<CanCtrlMode>> = Key::new(5);
+pub const IFLA_CAN_CTRLMODE: Key<Can, Masked<CanCtrlMode>> = Key::new(5, "IFLA_CAN_CTRLMODE");
 /// Selects `IFLA_CAN_RESTART_MS` of [`Can`] (`include/uapi/linux/can/netlink.h`). 100 is printed as `100 ms`.
-pub const IFLA_CAN_RESTART_MS: Key<Can, u32> = Key::new(6);
+pub const IFLA_CAN_RESTART_MS: Key<Can, u32> = Key::new(6, "IFLA_CAN_RESTART_MS");
 /// Selects `IFLA_CAN_RESTART` of [`Can`] (`include/uapi/linux/can/netlink.h`).
-pub const IFLA_CAN_RESTART: Key<Can, u32> = Key::new(7);
+pub const IFLA_CAN_RESTART: Key<Can, u32> = Key::new(7, "IFLA_CAN_RESTART");
 /// Selects `IFLA_CAN_BERR_COUNTER` of [`Can`] (`include/uapi/linux/can/netlink.h`).
-pub const IFLA_CAN_BERR_COUNTER: Key<Can, BerrCounter> = Key::new(8);
+pub const IFLA_CAN_BERR_COUNTER: Key<Can, BerrCounter> = Key::new(8, "IFLA_CAN_BERR_COUNTER");
 /// Selects `IFLA_CAN_DATA_BITTIMING` of [`Can`] (`include/uapi/linux/can/netlink.h`).
-pub const IFLA_CAN_DATA_BITTIMING: Key<Can, CanBitTiming> = Key::new(9);
+pub const IFLA_CAN_DATA_BITTIMING: Key<Can, CanBitTiming> = Key::new(9, "IFLA_CAN_DATA_BITTIMING");
 /// Selects `IFLA_CAN_DATA_BITTIMING_CONST` of [`Can`] (`include/uapi/linux/can/netlink.h`).
-pub const IFLA_CAN_DATA_BITTIMING_CONST: Key<Can, CanBitTimingConst> = Key::new(10);
+pub const IFLA_CAN_DATA_BITTIMING_CONST: Key<Can, CanBitTimingConst> = Key::new(10, "IFLA_CAN_DATA_BITTIMING_CONST");
 /// Selects `IFLA_CAN_TERMINATION` of [`Can`] (`include/uapi/linux/can/netlink.h`). 100 is printed as `100 ohm`.
-pub const IFLA_CAN_TERMINATION: Key<Can, u16> = Key::new(11);
+pub const IFLA_CAN_TERMINATION: Key<Can, u16> = Key::new(11, "IFLA_CAN_TERMINATION");
 /// Selects `IFLA_CAN_TERMINATION_CONST` of [`Can`] (`include/uapi/linux/can/netlink.h`).
-pub const IFLA_CAN_TERMINATION_CONST: Key<Can, Vec<u16>> = Key::new(12);
+pub const IFLA_CAN_TERMINATION_CONST: Key<Can, Vec<u16>> = Key::new(12, "IFLA_CAN_TERMINATION_CONST");
 /// Selects `IFLA_CAN_BITRATE_CONST` of [`Can`] (`include/uapi/linux/can/netlink.h`).
-pub const IFLA_CAN_BITRATE_CONST: Key<Can, Vec<u32>> = Key::new(13);
+pub const IFLA_CAN_BITRATE_CONST: Key<Can, Vec<u32>> = Key::new(13, "IFLA_CAN_BITRATE_CONST");
 /// Selects `IFLA_CAN_DATA_BITRATE_CONST` of [`Can`] (`include/uapi/linux/can/netlink.h`).
-pub const IFLA_CAN_DATA_BITRATE_CONST: Key<Can, Vec<u32>> = Key::new(14);
+pub const IFLA_CAN_DATA_BITRATE_CONST: Key<Can, Vec<u32>> = Key::new(14, "IFLA_CAN_DATA_BITRATE_CONST");
 /// Selects `IFLA_CAN_BITRATE_MAX` of [`Can`] (`include/uapi/linux/can/netlink.h`). 100 is printed as `100 bit/s`.
-pub const IFLA_CAN_BITRATE_MAX: Key<Can, u32> = Key::new(15);
+pub const IFLA_CAN_BITRATE_MAX: Key<Can, u32> = Key::new(15, "IFLA_CAN_BITRATE_MAX");
 elements! {
     /// Represents the elements of [`IFLA_CAN_TDC`] in types.
     CanTdc of Can = 16;
 }
 /// Selects `IFLA_CAN_TDC` of [`Can`] (`include/uapi/linux/can/netlink.h`).
-pub const IFLA_CAN_TDC: Key<Can, Nested<CanTdc>> = Key::new(16);
+pub const IFLA_CAN_TDC: Key<Can, Nested<CanTdc>> = Key::new(16, "IFLA_CAN_TDC");
 /// Selects `IFLA_CAN_TDC_TDCV_MIN` of [`IFLA_CAN_TDC`] (`include/uapi/linux/can/netlink.h`).
-pub const IFLA_CAN_TDC_TDCV_MIN: Key<CanTdc, u32> = Key::new(1);
+pub const IFLA_CAN_TDC_TDCV_MIN: Key<CanTdc, u32> = Key::new(1, "IFLA_CAN_TDC_TDCV_MIN");
 /// Selects `IFLA_CAN_TDC_TDCV_MAX` of [`IFLA_CAN_TDC`] (`include/uapi/linux/can/netlink.h`).
-pub const IFLA_CAN_TDC_TDCV_MAX: Key<CanTdc, u32> = Key::new(2);
+pub const IFLA_CAN_TDC_TDCV_MAX: Key<CanTdc, u32> = Key::new(2, "IFLA_CAN_TDC_TDCV_MAX");
 /// Selects `IFLA_CAN_TDC_TDCO_MIN` of [`IFLA_CAN_TDC`] (`include/uapi/linux/can/netlink.h`).
-pub const IFLA_CAN_TDC_TDCO_MIN: Key<CanTdc, u32> = Key::new(3);
+pub const IFLA_CAN_TDC_TDCO_MIN: Key<CanTdc, u32> = Key::new(3, "IFLA_CAN_TDC_TDCO_MIN");
 /// Selects `IFLA_CAN_TDC_TDCO_MAX` of [`IFLA_CAN_TDC`] (`include/uapi/linux/can/netlink.h`).
-pub const IFLA_CAN_TDC_TDCO_MAX: Key<CanTdc, u32> = Key::new(4);
+pub const IFLA_CAN_TDC_TDCO_MAX: Key<CanTdc, u32> = Key::new(4, "IFLA_CAN_TDC_TDCO_MAX");
 /// Selects `IFLA_CAN_TDC_TDCF_MIN` of [`IFLA_CAN_TDC`] (`include/uapi/linux/can/netlink.h`).
-pub const IFLA_CAN_TDC_TDCF_MIN: Key<CanTdc, u32> = Key::new(5);
+pub const IFLA_CAN_TDC_TDCF_MIN: Key<CanTdc, u32> = Key::new(5, "IFLA_CAN_TDC_TDCF_MIN");
 /// Selects `IFLA_CAN_TDC_TDCF_MAX` of [`IFLA_CAN_TDC`] (`include/uapi/linux/can/netlink.h`).
-pub const IFLA_CAN_TDC_TDCF_MAX: Key<CanTdc, u32> = Key::new(6);
+pub const IFLA_CAN_TDC_TDCF_MAX: Key<CanTdc, u32> = Key::new(6, "IFLA_CAN_TDC_TDCF_MAX");
 /// Selects `IFLA_CAN_TDC_TDCV` of [`IFLA_CAN_TDC`] (`include/uapi/linux/can/netlink.h`).
-pub const IFLA_CAN_TDC_TDCV: Key<CanTdc, u32> = Key::new(7);
+pub const IFLA_CAN_TDC_TDCV: Key<CanTdc, u32> = Key::new(7, "IFLA_CAN_TDC_TDCV");
 /// Selects `IFLA_CAN_TDC_TDCO` of [`IFLA_CAN_TDC`] (`include/uapi/linux/can/netlink.h`).
-pub const IFLA_CAN_TDC_TDCO: Key<CanTdc, u32> = Key::new(8);
+pub const IFLA_CAN_TDC_TDCO: Key<CanTdc, u32> = Key::new(8, "IFLA_CAN_TDC_TDCO");
 /// Selects `IFLA_CAN_TDC_TDCF` of [`IFLA_CAN_TDC`] (`include/uapi/linux/can/netlink.h`).
-pub const IFLA_CAN_TDC_TDCF: Key<CanTdc, u32> = Key::new(9);
+pub const IFLA_CAN_TDC_TDCF: Key<CanTdc, u32> = Key::new(9, "IFLA_CAN_TDC_TDCF");
 elements! {
     /// Represents the elements of [`IFLA_CAN_CTRLMODE_EXT`] in types.
     CanCtrlmodeExt of Can = 17;
 }
 /// Selects `IFLA_CAN_CTRLMODE_EXT` of [`Can`] (`include/uapi/linux/can/netlink.h`).
-pub const IFLA_CAN_CTRLMODE_EXT: Key<Can, Nested<CanCtrlmodeExt>> = Key::new(17);
+pub const IFLA_CAN_CTRLMODE_EXT: Key<Can, Nested<CanCtrlmodeExt>> = Key::new(17, "IFLA_CAN_CTRLMODE_EXT");
 /// Selects `IFLA_CAN_CTRLMODE_SUPPORTED` of [`IFLA_CAN_CTRLMODE_EXT`] (`include/uapi/linux/can/netlink.h`).
-pub const IFLA_CAN_CTRLMODE_SUPPORTED: Key<CanCtrlmodeExt, CanCtrlMode> = Key::new(1);
+pub const IFLA_CAN_CTRLMODE_SUPPORTED: Key<CanCtrlmodeExt, CanCtrlMode> = Key::new(1, "IFLA_CAN_CTRLMODE_SUPPORTED");
 
 scope! {
     /// Represents the attribute set [`Family::Dsa`] in types.
@@ -915,7 +923,7 @@ scope! {
 }
 
 /// Selects `IFLA_DSA_CONDUIT` of [`Dsa`] (`include/uapi/linux/if_link.h`). 100 is printed as `ifindex 100`.
-pub const IFLA_DSA_CONDUIT: Key<Dsa, u32> = Key::new(1);
+pub const IFLA_DSA_CONDUIT: Key<Dsa, u32> = Key::new(1, "IFLA_DSA_CONDUIT");
 
 scope! {
     /// Represents the attribute set [`Family::Hsr`] in types.
@@ -923,21 +931,21 @@ scope! {
 }
 
 /// Selects `IFLA_HSR_SLAVE1` of [`Hsr`] (`include/uapi/linux/if_link.h`). 100 is printed as `ifindex 100`.
-pub const IFLA_HSR_SLAVE1: Key<Hsr, u32> = Key::new(1);
+pub const IFLA_HSR_SLAVE1: Key<Hsr, u32> = Key::new(1, "IFLA_HSR_SLAVE1");
 /// Selects `IFLA_HSR_SLAVE2` of [`Hsr`] (`include/uapi/linux/if_link.h`). 100 is printed as `ifindex 100`.
-pub const IFLA_HSR_SLAVE2: Key<Hsr, u32> = Key::new(2);
+pub const IFLA_HSR_SLAVE2: Key<Hsr, u32> = Key::new(2, "IFLA_HSR_SLAVE2");
 /// Selects `IFLA_HSR_MULTICAST_SPEC` of [`Hsr`] (`include/uapi/linux/if_link.h`).
-pub const IFLA_HSR_MULTICAST_SPEC: Key<Hsr, u8> = Key::new(3);
+pub const IFLA_HSR_MULTICAST_SPEC: Key<Hsr, u8> = Key::new(3, "IFLA_HSR_MULTICAST_SPEC");
 /// Selects `IFLA_HSR_SUPERVISION_ADDR` of [`Hsr`] (`include/uapi/linux/if_link.h`).
-pub const IFLA_HSR_SUPERVISION_ADDR: Key<Hsr, Mac> = Key::new(4);
+pub const IFLA_HSR_SUPERVISION_ADDR: Key<Hsr, Mac> = Key::new(4, "IFLA_HSR_SUPERVISION_ADDR");
 /// Selects `IFLA_HSR_SEQ_NR` of [`Hsr`] (`include/uapi/linux/if_link.h`).
-pub const IFLA_HSR_SEQ_NR: Key<Hsr, u16> = Key::new(5);
+pub const IFLA_HSR_SEQ_NR: Key<Hsr, u16> = Key::new(5, "IFLA_HSR_SEQ_NR");
 /// Selects `IFLA_HSR_VERSION` of [`Hsr`] (`include/uapi/linux/if_link.h`).
-pub const IFLA_HSR_VERSION: Key<Hsr, u8> = Key::new(6);
+pub const IFLA_HSR_VERSION: Key<Hsr, u8> = Key::new(6, "IFLA_HSR_VERSION");
 /// Selects `IFLA_HSR_PROTOCOL` of [`Hsr`] (`include/uapi/linux/if_link.h`).
-pub const IFLA_HSR_PROTOCOL: Key<Hsr, HsrProtocol> = Key::new(7);
+pub const IFLA_HSR_PROTOCOL: Key<Hsr, HsrProtocol> = Key::new(7, "IFLA_HSR_PROTOCOL");
 /// Selects `IFLA_HSR_INTERLINK` of [`Hsr`] (`include/uapi/linux/if_link.h`). 100 is printed as `ifindex 100`.
-pub const IFLA_HSR_INTERLINK: Key<Hsr, u32> = Key::new(8);
+pub const IFLA_HSR_INTERLINK: Key<Hsr, u32> = Key::new(8, "IFLA_HSR_INTERLINK");
 
 scope! {
     /// Represents the attribute set [`Family::ProtoBridge`] in types.
@@ -949,7 +957,7 @@ pub mod proto_bridge {
     use crate::*;
 
     /// Selects `IFLA_BRPORT_NEIGH_FORWARD_GRAT` of [`ProtoBridge`] (`include/uapi/linux/if_link.h`).
-    pub const IFLA_BRPORT_NEIGH_FORWARD_GRAT: Key<ProtoBridge, bool> = Key::new(45);
+    pub const IFLA_BRPORT_NEIGH_FORWARD_GRAT: Key<ProtoBridge, bool> = Key::new(45, "IFLA_BRPORT_NEIGH_FORWARD_GRAT");
 }
 
 scope! {
@@ -958,73 +966,73 @@ scope! {
 }
 
 /// Selects `IFLA_VXLAN_ID` of [`Vxlan`] (`include/uapi/linux/if_link.h`).
-pub const IFLA_VXLAN_ID: Key<Vxlan, u32> = Key::new(1);
+pub const IFLA_VXLAN_ID: Key<Vxlan, u32> = Key::new(1, "IFLA_VXLAN_ID");
 /// Selects `IFLA_VXLAN_GROUP` of [`Vxlan`] (`include/uapi/linux/if_link.h`).
-pub const IFLA_VXLAN_GROUP: Key<Vxlan, Ipv4Addr> = Key::new(2);
+pub const IFLA_VXLAN_GROUP: Key<Vxlan, Ipv4Addr> = Key::new(2, "IFLA_VXLAN_GROUP");
 /// Selects `IFLA_VXLAN_LINK` of [`Vxlan`] (`include/uapi/linux/if_link.h`). 100 is printed as `ifindex 100`.
-pub const IFLA_VXLAN_LINK: Key<Vxlan, u32> = Key::new(3);
+pub const IFLA_VXLAN_LINK: Key<Vxlan, u32> = Key::new(3, "IFLA_VXLAN_LINK");
 /// Selects `IFLA_VXLAN_LOCAL` of [`Vxlan`] (`include/uapi/linux/if_link.h`).
-pub const IFLA_VXLAN_LOCAL: Key<Vxlan, Ipv4Addr> = Key::new(4);
+pub const IFLA_VXLAN_LOCAL: Key<Vxlan, Ipv4Addr> = Key::new(4, "IFLA_VXLAN_LOCAL");
 /// Selects `IFLA_VXLAN_TTL` of [`Vxlan`] (`include/uapi/linux/if_link.h`).
-pub const IFLA_VXLAN_TTL: Key<Vxlan, u8> = Key::new(5);
+pub const IFLA_VXLAN_TTL: Key<Vxlan, u8> = Key::new(5, "IFLA_VXLAN_TTL");
 /// Selects `IFLA_VXLAN_TOS` of [`Vxlan`] (`include/uapi/linux/if_link.h`). 100 is printed as `100 (0x64)`.
-pub const IFLA_VXLAN_TOS: Key<Vxlan, u8> = Key::new(6);
+pub const IFLA_VXLAN_TOS: Key<Vxlan, u8> = Key::new(6, "IFLA_VXLAN_TOS");
 /// Selects `IFLA_VXLAN_LEARNING` of [`Vxlan`] (`include/uapi/linux/if_link.h`).
-pub const IFLA_VXLAN_LEARNING: Key<Vxlan, bool> = Key::new(7);
+pub const IFLA_VXLAN_LEARNING: Key<Vxlan, bool> = Key::new(7, "IFLA_VXLAN_LEARNING");
 /// Selects `IFLA_VXLAN_AGEING` of [`Vxlan`] (`include/uapi/linux/if_link.h`). 100 is printed as `100 s`.
-pub const IFLA_VXLAN_AGEING: Key<Vxlan, u32> = Key::new(8);
+pub const IFLA_VXLAN_AGEING: Key<Vxlan, u32> = Key::new(8, "IFLA_VXLAN_AGEING");
 /// Selects `IFLA_VXLAN_LIMIT` of [`Vxlan`] (`include/uapi/linux/if_link.h`).
-pub const IFLA_VXLAN_LIMIT: Key<Vxlan, u32> = Key::new(9);
+pub const IFLA_VXLAN_LIMIT: Key<Vxlan, u32> = Key::new(9, "IFLA_VXLAN_LIMIT");
 /// Selects `IFLA_VXLAN_PORT_RANGE` of [`Vxlan`] (`include/uapi/linux/if_link.h`).
-pub const IFLA_VXLAN_PORT_RANGE: Key<Vxlan, Vec<u8>> = Key::new(10);
+pub const IFLA_VXLAN_PORT_RANGE: Key<Vxlan, Vec<u8>> = Key::new(10, "IFLA_VXLAN_PORT_RANGE");
 /// Selects `IFLA_VXLAN_PROXY` of [`Vxlan`] (`include/uapi/linux/if_link.h`).
-pub const IFLA_VXLAN_PROXY: Key<Vxlan, bool> = Key::new(11);
+pub const IFLA_VXLAN_PROXY: Key<Vxlan, bool> = Key::new(11, "IFLA_VXLAN_PROXY");
 /// Selects `IFLA_VXLAN_RSC` of [`Vxlan`] (`include/uapi/linux/if_link.h`).
-pub const IFLA_VXLAN_RSC: Key<Vxlan, bool> = Key::new(12);
+pub const IFLA_VXLAN_RSC: Key<Vxlan, bool> = Key::new(12, "IFLA_VXLAN_RSC");
 /// Selects `IFLA_VXLAN_L2MISS` of [`Vxlan`] (`include/uapi/linux/if_link.h`).
-pub const IFLA_VXLAN_L2MISS: Key<Vxlan, bool> = Key::new(13);
+pub const IFLA_VXLAN_L2MISS: Key<Vxlan, bool> = Key::new(13, "IFLA_VXLAN_L2MISS");
 /// Selects `IFLA_VXLAN_L3MISS` of [`Vxlan`] (`include/uapi/linux/if_link.h`).
-pub const IFLA_VXLAN_L3MISS: Key<Vxlan, bool> = Key::new(14);
+pub const IFLA_VXLAN_L3MISS: Key<Vxlan, bool> = Key::new(14, "IFLA_VXLAN_L3MISS");
 /// Selects `IFLA_VXLAN_PORT` of [`Vxlan`] (`include/uapi/linux/if_link.h`).
-pub const IFLA_VXLAN_PORT: Key<Vxlan, u16> = Key::new(15);
+pub const IFLA_VXLAN_PORT: Key<Vxlan, u16> = Key::new(15, "IFLA_VXLAN_PORT");
 /// Selects `IFLA_VXLAN_GROUP6` of [`Vxlan`] (`include/uapi/linux/if_link.h`).
-pub const IFLA_VXLAN_GROUP6: Key<Vxlan, Ipv6Addr> = Key::new(16);
+pub const IFLA_VXLAN_GROUP6: Key<Vxlan, Ipv6Addr> = Key::new(16, "IFLA_VXLAN_GROUP6");
 /// Selects `IFLA_VXLAN_LOCAL6` of [`Vxlan`] (`include/uapi/linux/if_link.h`).
-pub const IFLA_VXLAN_LOCAL6: Key<Vxlan, Ipv6Addr> = Key::new(17);
+pub const IFLA_VXLAN_LOCAL6: Key<Vxlan, Ipv6Addr> = Key::new(17, "IFLA_VXLAN_LOCAL6");
 /// Selects `IFLA_VXLAN_UDP_CSUM` of [`Vxlan`] (`include/uapi/linux/if_link.h`).
-pub const IFLA_VXLAN_UDP_CSUM: Key<Vxlan, bool> = Key::new(18);
+pub const IFLA_VXLAN_UDP_CSUM: Key<Vxlan, bool> = Key::new(18, "IFLA_VXLAN_UDP_CSUM");
 /// Selects `IFLA_VXLAN_UDP_ZERO_CSUM6_TX` of [`Vxlan`] (`include/uapi/linux/if_link.h`).
-pub const IFLA_VXLAN_UDP_ZERO_CSUM6_TX: Key<Vxlan, bool> = Key::new(19);
+pub const IFLA_VXLAN_UDP_ZERO_CSUM6_TX: Key<Vxlan, bool> = Key::new(19, "IFLA_VXLAN_UDP_ZERO_CSUM6_TX");
 /// Selects `IFLA_VXLAN_UDP_ZERO_CSUM6_RX` of [`Vxlan`] (`include/uapi/linux/if_link.h`).
-pub const IFLA_VXLAN_UDP_ZERO_CSUM6_RX: Key<Vxlan, bool> = Key::new(20);
+pub const IFLA_VXLAN_UDP_ZERO_CSUM6_RX: Key<Vxlan, bool> = Key::new(20, "IFLA_VXLAN_UDP_ZERO_CSUM6_RX");
 /// Selects `IFLA_VXLAN_REMCSUM_TX` of [`Vxlan`] (`include/uapi/linux/if_link.h`).
-pub const IFLA_VXLAN_REMCSUM_TX: Key<Vxlan, bool> = Key::new(21);
+pub const IFLA_VXLAN_REMCSUM_TX: Key<Vxlan, bool> = Key::new(21, "IFLA_VXLAN_REMCSUM_TX");
 /// Selects `IFLA_VXLAN_REMCSUM_RX` of [`Vxlan`] (`include/uapi/linux/if_link.h`).
-pub const IFLA_VXLAN_REMCSUM_RX: Key<Vxlan, bool> = Key::new(22);
+pub const IFLA_VXLAN_REMCSUM_RX: Key<Vxlan, bool> = Key::new(22, "IFLA_VXLAN_REMCSUM_RX");
 /// Selects `IFLA_VXLAN_GBP` of [`Vxlan`] (`include/uapi/linux/if_link.h`).
-pub const IFLA_VXLAN_GBP: Key<Vxlan, ()> = Key::new(23);
+pub const IFLA_VXLAN_GBP: Key<Vxlan, ()> = Key::new(23, "IFLA_VXLAN_GBP");
 /// Selects `IFLA_VXLAN_REMCSUM_NOPARTIAL` of [`Vxlan`] (`include/uapi/linux/if_link.h`).
-pub const IFLA_VXLAN_REMCSUM_NOPARTIAL: Key<Vxlan, ()> = Key::new(24);
+pub const IFLA_VXLAN_REMCSUM_NOPARTIAL: Key<Vxlan, ()> = Key::new(24, "IFLA_VXLAN_REMCSUM_NOPARTIAL");
 /// Selects `IFLA_VXLAN_COLLECT_METADATA` of [`Vxlan`] (`include/uapi/linux/if_link.h`).
-pub const IFLA_VXLAN_COLLECT_METADATA: Key<Vxlan, bool> = Key::new(25);
+pub const IFLA_VXLAN_COLLECT_METADATA: Key<Vxlan, bool> = Key::new(25, "IFLA_VXLAN_COLLECT_METADATA");
 /// Selects `IFLA_VXLAN_LABEL` of [`Vxlan`] (`include/uapi/linux/if_link.h`). 100 is printed as `100 (0x64)`.
-pub const IFLA_VXLAN_LABEL: Key<Vxlan, u32> = Key::new(26);
+pub const IFLA_VXLAN_LABEL: Key<Vxlan, u32> = Key::new(26, "IFLA_VXLAN_LABEL");
 /// Selects `IFLA_VXLAN_GPE` of [`Vxlan`] (`include/uapi/linux/if_link.h`).
-pub const IFLA_VXLAN_GPE: Key<Vxlan, ()> = Key::new(27);
+pub const IFLA_VXLAN_GPE: Key<Vxlan, ()> = Key::new(27, "IFLA_VXLAN_GPE");
 /// Selects `IFLA_VXLAN_TTL_INHERIT` of [`Vxlan`] (`include/uapi/linux/if_link.h`).
-pub const IFLA_VXLAN_TTL_INHERIT: Key<Vxlan, bool> = Key::new(28);
+pub const IFLA_VXLAN_TTL_INHERIT: Key<Vxlan, bool> = Key::new(28, "IFLA_VXLAN_TTL_INHERIT");
 /// Selects `IFLA_VXLAN_DF` of [`Vxlan`] (`include/uapi/linux/if_link.h`).
-pub const IFLA_VXLAN_DF: Key<Vxlan, VxlanDf> = Key::new(29);
+pub const IFLA_VXLAN_DF: Key<Vxlan, VxlanDf> = Key::new(29, "IFLA_VXLAN_DF");
 /// Selects `IFLA_VXLAN_VNIFILTER` of [`Vxlan`] (`include/uapi/linux/if_link.h`).
-pub const IFLA_VXLAN_VNIFILTER: Key<Vxlan, bool> = Key::new(30);
+pub const IFLA_VXLAN_VNIFILTER: Key<Vxlan, bool> = Key::new(30, "IFLA_VXLAN_VNIFILTER");
 /// Selects `IFLA_VXLAN_LOCALBYPASS` of [`Vxlan`] (`include/uapi/linux/if_link.h`).
-pub const IFLA_VXLAN_LOCALBYPASS: Key<Vxlan, bool> = Key::new(31);
+pub const IFLA_VXLAN_LOCALBYPASS: Key<Vxlan, bool> = Key::new(31, "IFLA_VXLAN_LOCALBYPASS");
 /// Selects `IFLA_VXLAN_LABEL_POLICY` of [`Vxlan`] (`include/uapi/linux/if_link.h`).
-pub const IFLA_VXLAN_LABEL_POLICY: Key<Vxlan, VxlanLabelPolicy> = Key::new(32);
+pub const IFLA_VXLAN_LABEL_POLICY: Key<Vxlan, VxlanLabelPolicy> = Key::new(32, "IFLA_VXLAN_LABEL_POLICY");
 /// Selects `IFLA_VXLAN_RESERVED_BITS` of [`Vxlan`] (`include/uapi/linux/if_link.h`).
-pub const IFLA_VXLAN_RESERVED_BITS: Key<Vxlan, Vec<u8>> = Key::new(33);
+pub const IFLA_VXLAN_RESERVED_BITS: Key<Vxlan, Vec<u8>> = Key::new(33, "IFLA_VXLAN_RESERVED_BITS");
 /// Selects `IFLA_VXLAN_MC_ROUTE` of [`Vxlan`] (`include/uapi/linux/if_link.h`).
-pub const IFLA_VXLAN_MC_ROUTE: Key<Vxlan, bool> = Key::new(34);
+pub const IFLA_VXLAN_MC_ROUTE: Key<Vxlan, bool> = Key::new(34, "IFLA_VXLAN_MC_ROUTE");
 
 scope! {
     /// Represents the attribute set [`Family::Link`] in types.
@@ -1032,212 +1040,212 @@ scope! {
 }
 
 /// Selects `IFLA_ADDRESS` of [`Link`] (`include/uapi/linux/if_link.h`).
-pub const IFLA_ADDRESS: Key<Link, Vec<u8>> = Key::new(1);
+pub const IFLA_ADDRESS: Key<Link, Vec<u8>> = Key::new(1, "IFLA_ADDRESS");
 /// Selects `IFLA_BROADCAST` of [`Link`] (`include/uapi/linux/if_link.h`).
-pub const IFLA_BROADCAST: Key<Link, Vec<u8>> = Key::new(2);
+pub const IFLA_BROADCAST: Key<Link, Vec<u8>> = Key::new(2, "IFLA_BROADCAST");
 /// Selects `IFLA_IFNAME` of [`Link`] (`include/uapi/linux/if_link.h`).
-pub const IFLA_IFNAME: Key<Link, Text> = Key::new(3);
+pub const IFLA_IFNAME: Key<Link, Text> = Key::new(3, "IFLA_IFNAME");
 /// Selects `IFLA_MTU` of [`Link`] (`include/uapi/linux/if_link.h`).
-pub const IFLA_MTU: Key<Link, u32> = Key::new(4);
+pub const IFLA_MTU: Key<Link, u32> = Key::new(4, "IFLA_MTU");
 /// Selects `IFLA_LINK` of [`Link`] (`include/uapi/linux/if_link.h`). 100 is printed as `ifindex 100`.
-pub const IFLA_LINK: Key<Link, u32> = Key::new(5);
+pub const IFLA_LINK: Key<Link, u32> = Key::new(5, "IFLA_LINK");
 /// Selects `IFLA_QDISC` of [`Link`] (`include/uapi/linux/if_link.h`).
-pub const IFLA_QDISC: Key<Link, Text> = Key::new(6);
+pub const IFLA_QDISC: Key<Link, Text> = Key::new(6, "IFLA_QDISC");
 /// Selects `IFLA_STATS` of [`Link`] (`include/uapi/linux/if_link.h`).
-pub const IFLA_STATS: Key<Link, Vec<u32>> = Key::new(7);
+pub const IFLA_STATS: Key<Link, Vec<u32>> = Key::new(7, "IFLA_STATS");
 /// Selects `IFLA_COST` of [`Link`] (`include/uapi/linux/if_link.h`).
-pub const IFLA_COST: Key<Link, Vec<u8>> = Key::new(8);
+pub const IFLA_COST: Key<Link, Vec<u8>> = Key::new(8, "IFLA_COST");
 /// Selects `IFLA_PRIORITY` of [`Link`] (`include/uapi/linux/if_link.h`).
-pub const IFLA_PRIORITY: Key<Link, Vec<u8>> = Key::new(9);
+pub const IFLA_PRIORITY: Key<Link, Vec<u8>> = Key::new(9, "IFLA_PRIORITY");
 /// Selects `IFLA_MASTER` of [`Link`] (`include/uapi/linux/if_link.h`). 100 is printed as `ifindex 100`.
-pub const IFLA_MASTER: Key<Link, u32> = Key::new(10);
+pub const IFLA_MASTER: Key<Link, u32> = Key::new(10, "IFLA_MASTER");
 /// Selects `IFLA_WIRELESS` of [`Link`] (`include/uapi/linux/if_link.h`).
-pub const IFLA_WIRELESS: Key<Link, Vec<u8>> = Key::new(11);
+pub const IFLA_WIRELESS: Key<Link, Vec<u8>> = Key::new(11, "IFLA_WIRELESS");
 /// Selects `IFLA_TXQLEN` of [`Link`] (`include/uapi/linux/if_link.h`).
-pub const IFLA_TXQLEN: Key<Link, u32> = Key::new(13);
+pub const IFLA_TXQLEN: Key<Link, u32> = Key::new(13, "IFLA_TXQLEN");
 /// Selects `IFLA_MAP` of [`Link`] (`include/uapi/linux/if_link.h`).
-pub const IFLA_MAP: Key<Link, Vec<u8>> = Key::new(14);
+pub const IFLA_MAP: Key<Link, Vec<u8>> = Key::new(14, "IFLA_MAP");
 /// Selects `IFLA_WEIGHT` of [`Link`] (`include/uapi/linux/if_link.h`).
-pub const IFLA_WEIGHT: Key<Link, u32> = Key::new(15);
+pub const IFLA_WEIGHT: Key<Link, u32> = Key::new(15, "IFLA_WEIGHT");
 /// Selects `IFLA_OPERSTATE` of [`Link`] (`include/uapi/linux/if_link.h`).
-pub const IFLA_OPERSTATE: Key<Link, OperState> = Key::new(16);
+pub const IFLA_OPERSTATE: Key<Link, OperState> = Key::new(16, "IFLA_OPERSTATE");
 /// Selects `IFLA_LINKMODE` of [`Link`] (`include/uapi/linux/if_link.h`).
-pub const IFLA_LINKMODE: Key<Link, LinkMode> = Key::new(17);
+pub const IFLA_LINKMODE: Key<Link, LinkMode> = Key::new(17, "IFLA_LINKMODE");
 elements! {
     /// Represents the elements of [`IFLA_LINKINFO`] in types.
     LinkInfo of Link = 18;
 }
 /// Selects `IFLA_LINKINFO` of [`Link`] (`include/uapi/linux/if_link.h`).
-pub const IFLA_LINKINFO: Key<Link, Nested<LinkInfo>> = Key::new(18);
+pub const IFLA_LINKINFO: Key<Link, Nested<LinkInfo>> = Key::new(18, "IFLA_LINKINFO");
 /// Selects `IFLA_INFO_KIND` of [`IFLA_LINKINFO`] (`include/uapi/linux/if_link.h`).
-pub const IFLA_INFO_KIND: Key<LinkInfo, Text> = Key::new(1);
+pub const IFLA_INFO_KIND: Key<LinkInfo, Text> = Key::new(1, "IFLA_INFO_KIND");
 /// Selects `IFLA_INFO_DATA` of [`IFLA_LINKINFO`] (`include/uapi/linux/if_link.h`).
-pub const IFLA_INFO_DATA: Key<LinkInfo, Held> = Key::new(2);
+pub const IFLA_INFO_DATA: Key<LinkInfo, Held> = Key::new(2, "IFLA_INFO_DATA");
 /// Selects `IFLA_INFO_XSTATS` of [`IFLA_LINKINFO`] (`include/uapi/linux/if_link.h`).
-pub const IFLA_INFO_XSTATS: Key<LinkInfo, Vec<u8>> = Key::new(3);
+pub const IFLA_INFO_XSTATS: Key<LinkInfo, Vec<u8>> = Key::new(3, "IFLA_INFO_XSTATS");
 /// Selects `IFLA_INFO_SLAVE_KIND` of [`IFLA_LINKINFO`] (`include/uapi/linux/if_link.h`).
-pub const IFLA_INFO_SLAVE_KIND: Key<LinkInfo, Text> = Key::new(4);
+pub const IFLA_INFO_SLAVE_KIND: Key<LinkInfo, Text> = Key::new(4, "IFLA_INFO_SLAVE_KIND");
 /// Selects `IFLA_INFO_SLAVE_DATA` of [`IFLA_LINKINFO`] (`include/uapi/linux/if_link.h`).
-pub const IFLA_INFO_SLAVE_DATA: Key<LinkInfo, Held> = Key::new(5);
+pub const IFLA_INFO_SLAVE_DATA: Key<LinkInfo, Held> = Key::new(5, "IFLA_INFO_SLAVE_DATA");
 /// Selects `IFLA_NET_NS_PID` of [`Link`] (`include/uapi/linux/if_link.h`).
-pub const IFLA_NET_NS_PID: Key<Link, u32> = Key::new(19);
+pub const IFLA_NET_NS_PID: Key<Link, u32> = Key::new(19, "IFLA_NET_NS_PID");
 /// Selects `IFLA_IFALIAS` of [`Link`] (`include/uapi/linux/if_link.h`).
-pub const IFLA_IFALIAS: Key<Link, Text> = Key::new(20);
+pub const IFLA_IFALIAS: Key<Link, Text> = Key::new(20, "IFLA_IFALIAS");
 /// Selects `IFLA_NUM_VF` of [`Link`] (`include/uapi/linux/if_link.h`).
-pub const IFLA_NUM_VF: Key<Link, u32> = Key::new(21);
+pub const IFLA_NUM_VF: Key<Link, u32> = Key::new(21, "IFLA_NUM_VF");
 /// Selects `IFLA_VFINFO_LIST` of [`Link`] (`include/uapi/linux/if_link.h`).
-pub const IFLA_VFINFO_LIST: Key<Link, Held> = Key::new(22);
+pub const IFLA_VFINFO_LIST: Key<Link, Held> = Key::new(22, "IFLA_VFINFO_LIST");
 /// Selects `IFLA_STATS64` of [`Link`] (`include/uapi/linux/if_link.h`).
-pub const IFLA_STATS64: Key<Link, Vec<u64>> = Key::new(23);
+pub const IFLA_STATS64: Key<Link, Vec<u64>> = Key::new(23, "IFLA_STATS64");
 /// Selects `IFLA_VF_PORTS` of [`Link`] (`include/uapi/linux/if_link.h`).
-pub const IFLA_VF_PORTS: Key<Link, Held> = Key::new(24);
+pub const IFLA_VF_PORTS: Key<Link, Held> = Key::new(24, "IFLA_VF_PORTS");
 /// Selects `IFLA_PORT_SELF` of [`Link`] (`include/uapi/linux/if_link.h`).
-pub const IFLA_PORT_SELF: Key<Link, Held> = Key::new(25);
+pub const IFLA_PORT_SELF: Key<Link, Held> = Key::new(25, "IFLA_PORT_SELF");
 /// Selects `IFLA_AF_SPEC` of [`Link`] (`include/uapi/linux/if_link.h`).
-pub const IFLA_AF_SPEC: Key<Link, Held> = Key::new(26);
+pub const IFLA_AF_SPEC: Key<Link, Held> = Key::new(26, "IFLA_AF_SPEC");
 /// Selects `IFLA_GROUP` of [`Link`] (`include/uapi/linux/if_link.h`).
-pub const IFLA_GROUP: Key<Link, u32> = Key::new(27);
+pub const IFLA_GROUP: Key<Link, u32> = Key::new(27, "IFLA_GROUP");
 /// Selects `IFLA_NET_NS_FD` of [`Link`] (`include/uapi/linux/if_link.h`).
-pub const IFLA_NET_NS_FD: Key<Link, u32> = Key::new(28);
+pub const IFLA_NET_NS_FD: Key<Link, u32> = Key::new(28, "IFLA_NET_NS_FD");
 /// Selects `IFLA_EXT_MASK` of [`Link`] (`include/uapi/linux/if_link.h`).
-pub const IFLA_EXT_MASK: Key<Link, ExtMask> = Key::new(29);
+pub const IFLA_EXT_MASK: Key<Link, ExtMask> = Key::new(29, "IFLA_EXT_MASK");
 /// Selects `IFLA_PROMISCUITY` of [`Link`] (`include/uapi/linux/if_link.h`).
-pub const IFLA_PROMISCUITY: Key<Link, u32> = Key::new(30);
+pub const IFLA_PROMISCUITY: Key<Link, u32> = Key::new(30, "IFLA_PROMISCUITY");
 /// Selects `IFLA_NUM_TX_QUEUES` of [`Link`] (`include/uapi/linux/if_link.h`).
-pub const IFLA_NUM_TX_QUEUES: Key<Link, u32> = Key::new(31);
+pub const IFLA_NUM_TX_QUEUES: Key<Link, u32> = Key::new(31, "IFLA_NUM_TX_QUEUES");
 /// Selects `IFLA_NUM_RX_QUEUES` of [`Link`] (`include/uapi/linux/if_link.h`).
-pub const IFLA_NUM_RX_QUEUES: Key<Link, u32> = Key::new(32);
+pub const IFLA_NUM_RX_QUEUES: Key<Link, u32> = Key::new(32, "IFLA_NUM_RX_QUEUES");
 /// Selects `IFLA_CARRIER` of [`Link`] (`include/uapi/linux/if_link.h`).
-pub const IFLA_CARRIER: Key<Link, bool> = Key::new(33);
+pub const IFLA_CARRIER: Key<Link, bool> = Key::new(33, "IFLA_CARRIER");
 /// Selects `IFLA_PHYS_PORT_ID` of [`Link`] (`include/uapi/linux/if_link.h`).
-pub const IFLA_PHYS_PORT_ID: Key<Link, Vec<u8>> = Key::new(34);
+pub const IFLA_PHYS_PORT_ID: Key<Link, Vec<u8>> = Key::new(34, "IFLA_PHYS_PORT_ID");
 /// Selects `IFLA_CARRIER_CHANGES` of [`Link`] (`include/uapi/linux/if_link.h`).
-pub const IFLA_CARRIER_CHANGES: Key<Link, u32> = Key::new(35);
+pub const IFLA_CARRIER_CHANGES: Key<Link, u32> = Key::new(35, "IFLA_CARRIER_CHANGES");
 /// Selects `IFLA_PHYS_SWITCH_ID` of [`Link`] (`include/uapi/linux/if_link.h`).
-pub const IFLA_PHYS_SWITCH_ID: Key<Link, Vec<u8>> = Key::new(36);
+pub const IFLA_PHYS_SWITCH_ID: Key<Link, Vec<u8>> = Key::new(36, "IFLA_PHYS_SWITCH_ID");
 /// Selects `IFLA_LINK_NETNSID` of [`Link`] (`include/uapi/linux/if_link.h`).
-pub const IFLA_LINK_NETNSID: Key<Link, i32> = Key::new(37);
+pub const IFLA_LINK_NETNSID: Key<Link, i32> = Key::new(37, "IFLA_LINK_NETNSID");
 /// Selects `IFLA_PHYS_PORT_NAME` of [`Link`] (`include/uapi/linux/if_link.h`).
-pub const IFLA_PHYS_PORT_NAME: Key<Link, Text> = Key::new(38);
+pub const IFLA_PHYS_PORT_NAME: Key<Link, Text> = Key::new(38, "IFLA_PHYS_PORT_NAME");
 /// Selects `IFLA_PROTO_DOWN` of [`Link`] (`include/uapi/linux/if_link.h`).
-pub const IFLA_PROTO_DOWN: Key<Link, bool> = Key::new(39);
+pub const IFLA_PROTO_DOWN: Key<Link, bool> = Key::new(39, "IFLA_PROTO_DOWN");
 /// Selects `IFLA_GSO_MAX_SEGS` of [`Link`] (`include/uapi/linux/if_link.h`).
-pub const IFLA_GSO_MAX_SEGS: Key<Link, u32> = Key::new(40);
+pub const IFLA_GSO_MAX_SEGS: Key<Link, u32> = Key::new(40, "IFLA_GSO_MAX_SEGS");
 /// Selects `IFLA_GSO_MAX_SIZE` of [`Link`] (`include/uapi/linux/if_link.h`).
-pub const IFLA_GSO_MAX_SIZE: Key<Link, u32> = Key::new(41);
+pub const IFLA_GSO_MAX_SIZE: Key<Link, u32> = Key::new(41, "IFLA_GSO_MAX_SIZE");
 /// Selects `IFLA_PAD` of [`Link`] (`include/uapi/linux/if_link.h`).
-pub const IFLA_PAD: Key<Link, ()> = Key::new(42);
+pub const IFLA_PAD: Key<Link, ()> = Key::new(42, "IFLA_PAD");
 elements! {
     /// Represents the elements of [`IFLA_XDP`] in types.
     Xdp of Link = 43;
 }
 /// Selects `IFLA_XDP` of [`Link`] (`include/uapi/linux/if_link.h`).
-pub const IFLA_XDP: Key<Link, Nested<Xdp>> = Key::new(43);
+pub const IFLA_XDP: Key<Link, Nested<Xdp>> = Key::new(43, "IFLA_XDP");
 /// Selects `IFLA_XDP_FD` of [`IFLA_XDP`] (`include/uapi/linux/if_link.h`).
-pub const IFLA_XDP_FD: Key<Xdp, i32> = Key::new(1);
+pub const IFLA_XDP_FD: Key<Xdp, i32> = Key::new(1, "IFLA_XDP_FD");
 /// Selects `IFLA_XDP_ATTACHED` of [`IFLA_XDP`] (`include/uapi/linux/if_link.h`).
-pub const IFLA_XDP_ATTACHED: Key<Xdp, XdpAttached> = Key::new(2);
+pub const IFLA_XDP_ATTACHED: Key<Xdp, XdpAttached> = Key::new(2, "IFLA_XDP_ATTACHED");
 /// Selects `IFLA_XDP_FLAGS` of [`IFLA_XDP`] (`include/uapi/linux/if_link.h`).
-pub const IFLA_XDP_FLAGS: Key<Xdp, XdpFlags> = Key::new(3);
+pub const IFLA_XDP_FLAGS: Key<Xdp, XdpFlags> = Key::new(3, "IFLA_XDP_FLAGS");
 /// Selects `IFLA_XDP_PROG_ID` of [`IFLA_XDP`] (`include/uapi/linux/if_link.h`).
-pub const IFLA_XDP_PROG_ID: Key<Xdp, u32> = Key::new(4);
+pub const IFLA_XDP_PROG_ID: Key<Xdp, u32> = Key::new(4, "IFLA_XDP_PROG_ID");
 /// Selects `IFLA_XDP_DRV_PROG_ID` of [`IFLA_XDP`] (`include/uapi/linux/if_link.h`).
-pub const IFLA_XDP_DRV_PROG_ID: Key<Xdp, u32> = Key::new(5);
+pub const IFLA_XDP_DRV_PROG_ID: Key<Xdp, u32> = Key::new(5, "IFLA_XDP_DRV_PROG_ID");
 /// Selects `IFLA_XDP_SKB_PROG_ID` of [`IFLA_XDP`] (`include/uapi/linux/if_link.h`).
-pub const IFLA_XDP_SKB_PROG_ID: Key<Xdp, u32> = Key::new(6);
+pub const IFLA_XDP_SKB_PROG_ID: Key<Xdp, u32> = Key::new(6, "IFLA_XDP_SKB_PROG_ID");
 /// Selects `IFLA_XDP_HW_PROG_ID` of [`IFLA_XDP`] (`include/uapi/linux/if_link.h`).
-pub const IFLA_XDP_HW_PROG_ID: Key<Xdp, u32> = Key::new(7);
+pub const IFLA_XDP_HW_PROG_ID: Key<Xdp, u32> = Key::new(7, "IFLA_XDP_HW_PROG_ID");
 /// Selects `IFLA_XDP_EXPECTED_FD` of [`IFLA_XDP`] (`include/uapi/linux/if_link.h`).
-pub const IFLA_XDP_EXPECTED_FD: Key<Xdp, i32> = Key::new(8);
+pub const IFLA_XDP_EXPECTED_FD: Key<Xdp, i32> = Key::new(8, "IFLA_XDP_EXPECTED_FD");
 /// Selects `IFLA_EVENT` of [`Link`] (`include/uapi/linux/if_link.h`).
-pub const IFLA_EVENT: Key<Link, LinkEvent> = Key::new(44);
+pub const IFLA_EVENT: Key<Link, LinkEvent> = Key::new(44, "IFLA_EVENT");
 /// Selects `IFLA_NEW_NETNSID` of [`Link`] (`include/uapi/linux/if_link.h`).
-pub const IFLA_NEW_NETNSID: Key<Link, i32> = Key::new(45);
+pub const IFLA_NEW_NETNSID: Key<Link, i32> = Key::new(45, "IFLA_NEW_NETNSID");
 /// Selects `IFLA_TARGET_NETNSID` of [`Link`] (`include/uapi/linux/if_link.h`).
-pub const IFLA_TARGET_NETNSID: Key<Link, i32> = Key::new(46);
+pub const IFLA_TARGET_NETNSID: Key<Link, i32> = Key::new(46, "IFLA_TARGET_NETNSID");
 /// Selects `IFLA_CARRIER_UP_COUNT` of [`Link`] (`include/uapi/linux/if_link.h`).
-pub const IFLA_CARRIER_UP_COUNT: Key<Link, u32> = Key::new(47);
+pub const IFLA_CARRIER_UP_COUNT: Key<Link, u32> = Key::new(47, "IFLA_CARRIER_UP_COUNT");
 /// Selects `IFLA_CARRIER_DOWN_COUNT` of [`Link`] (`include/uapi/linux/if_link.h`).
-pub const IFLA_CARRIER_DOWN_COUNT: Key<Link, u32> = Key::new(48);
+pub const IFLA_CARRIER_DOWN_COUNT: Key<Link, u32> = Key::new(48, "IFLA_CARRIER_DOWN_COUNT");
 /// Selects `IFLA_NEW_IFINDEX` of [`Link`] (`include/uapi/linux/if_link.h`). 100 is printed as `ifindex 100`.
-pub const IFLA_NEW_IFINDEX: Key<Link, u32> = Key::new(49);
+pub const IFLA_NEW_IFINDEX: Key<Link, u32> = Key::new(49, "IFLA_NEW_IFINDEX");
 /// Selects `IFLA_MIN_MTU` of [`Link`] (`include/uapi/linux/if_link.h`).
-pub const IFLA_MIN_MTU: Key<Link, u32> = Key::new(50);
+pub const IFLA_MIN_MTU: Key<Link, u32> = Key::new(50, "IFLA_MIN_MTU");
 /// Selects `IFLA_MAX_MTU` of [`Link`] (`include/uapi/linux/if_link.h`).
-pub const IFLA_MAX_MTU: Key<Link, u32> = Key::new(51);
+pub const IFLA_MAX_MTU: Key<Link, u32> = Key::new(51, "IFLA_MAX_MTU");
 elements! {
     /// Represents the elements of [`IFLA_PROP_LIST`] in types.
     PropList of Link = 52;
 }
 /// Selects `IFLA_PROP_LIST` of [`Link`] (`include/uapi/linux/if_link.h`).
-pub const IFLA_PROP_LIST: Key<Link, Nested<PropList>> = Key::new(52);
+pub const IFLA_PROP_LIST: Key<Link, Nested<PropList>> = Key::new(52, "IFLA_PROP_LIST");
 /// Has the keys of [`IFLA_PROP_LIST`], of which its set has some with the same names.
 pub mod prop_list {
     use crate::*;
 
     /// Selects `IFLA_ALT_IFNAME` of [`IFLA_PROP_LIST`] (`include/uapi/linux/if_link.h`).
-    pub const IFLA_ALT_IFNAME: Key<PropList, Text> = Key::new(53);
+    pub const IFLA_ALT_IFNAME: Key<PropList, Text> = Key::new(53, "IFLA_ALT_IFNAME");
 }
 /// Selects `IFLA_ALT_IFNAME` of [`Link`] (`include/uapi/linux/if_link.h`).
-pub const IFLA_ALT_IFNAME: Key<Link, Text> = Key::new(53);
+pub const IFLA_ALT_IFNAME: Key<Link, Text> = Key::new(53, "IFLA_ALT_IFNAME");
 /// Selects `IFLA_PERM_ADDRESS` of [`Link`] (`include/uapi/linux/if_link.h`).
-pub const IFLA_PERM_ADDRESS: Key<Link, Vec<u8>> = Key::new(54);
+pub const IFLA_PERM_ADDRESS: Key<Link, Vec<u8>> = Key::new(54, "IFLA_PERM_ADDRESS");
 elements! {
     /// Represents the elements of [`IFLA_PROTO_DOWN_REASON`] in types.
     ProtoDownReason of Link = 55;
 }
 /// Selects `IFLA_PROTO_DOWN_REASON` of [`Link`] (`include/uapi/linux/if_link.h`).
-pub const IFLA_PROTO_DOWN_REASON: Key<Link, Nested<ProtoDownReason>> = Key::new(55);
+pub const IFLA_PROTO_DOWN_REASON: Key<Link, Nested<ProtoDownReason>> = Key::new(55, "IFLA_PROTO_DOWN_REASON");
 /// Selects `IFLA_PROTO_DOWN_REASON_MASK` of [`IFLA_PROTO_DOWN_REASON`] (`include/uapi/linux/if_link.h`). 100 is
 /// printed as `100 (0x64)`.
-pub const IFLA_PROTO_DOWN_REASON_MASK: Key<ProtoDownReason, u32> = Key::new(1);
+pub const IFLA_PROTO_DOWN_REASON_MASK: Key<ProtoDownReason, u32> = Key::new(1, "IFLA_PROTO_DOWN_REASON_MASK");
 /// Selects `IFLA_PROTO_DOWN_REASON_VALUE` of [`IFLA_PROTO_DOWN_REASON`] (`include/uapi/linux/if_link.h`). 100 is
 /// printed as `100 (0x64)`.
-pub const IFLA_PROTO_DOWN_REASON_VALUE: Key<ProtoDownReason, u32> = Key::new(2);
+pub const IFLA_PROTO_DOWN_REASON_VALUE: Key<ProtoDownReason, u32> = Key::new(2, "IFLA_PROTO_DOWN_REASON_VALUE");
 /// Selects `IFLA_PARENT_DEV_NAME` of [`Link`] (`include/uapi/linux/if_link.h`).
-pub const IFLA_PARENT_DEV_NAME: Key<Link, Text> = Key::new(56);
+pub const IFLA_PARENT_DEV_NAME: Key<Link, Text> = Key::new(56, "IFLA_PARENT_DEV_NAME");
 /// Selects `IFLA_PARENT_DEV_BUS_NAME` of [`Link`] (`include/uapi/linux/if_link.h`).
-pub const IFLA_PARENT_DEV_BUS_NAME: Key<Link, Text> = Key::new(57);
+pub const IFLA_PARENT_DEV_BUS_NAME: Key<Link, Text> = Key::new(57, "IFLA_PARENT_DEV_BUS_NAME");
 /// Selects `IFLA_GRO_MAX_SIZE` of [`Link`] (`include/uapi/linux/if_link.h`).
-pub const IFLA_GRO_MAX_SIZE: Key<Link, u32> = Key::new(58);
+pub const IFLA_GRO_MAX_SIZE: Key<Link, u32> = Key::new(58, "IFLA_GRO_MAX_SIZE");
 /// Selects `IFLA_TSO_MAX_SIZE` of [`Link`] (`include/uapi/linux/if_link.h`).
-pub const IFLA_TSO_MAX_SIZE: Key<Link, u32> = Key::new(59);
+pub const IFLA_TSO_MAX_SIZE: Key<Link, u32> = Key::new(59, "IFLA_TSO_MAX_SIZE");
 /// Selects `IFLA_TSO_MAX_SEGS` of [`Link`] (`include/uapi/linux/if_link.h`).
-pub const IFLA_TSO_MAX_SEGS: Key<Link, u32> = Key::new(60);
+pub const IFLA_TSO_MAX_SEGS: Key<Link, u32> = Key::new(60, "IFLA_TSO_MAX_SEGS");
 /// Selects `IFLA_ALLMULTI` of [`Link`] (`include/uapi/linux/if_link.h`).
-pub const IFLA_ALLMULTI: Key<Link, u32> = Key::new(61);
+pub const IFLA_ALLMULTI: Key<Link, u32> = Key::new(61, "IFLA_ALLMULTI");
 elements! {
     /// Represents the elements of [`IFLA_DEVLINK_PORT`] in types.
     DevlinkPort of Link = 62;
 }
 /// Selects `IFLA_DEVLINK_PORT` of [`Link`] (`include/uapi/linux/if_link.h`).
-pub const IFLA_DEVLINK_PORT: Key<Link, Nested<DevlinkPort>> = Key::new(62);
+pub const IFLA_DEVLINK_PORT: Key<Link, Nested<DevlinkPort>> = Key::new(62, "IFLA_DEVLINK_PORT");
 /// Selects `DEVLINK_ATTR_BUS_NAME` of [`IFLA_DEVLINK_PORT`] (`include/uapi/linux/devlink.h`).
-pub const DEVLINK_ATTR_BUS_NAME: Key<DevlinkPort, Text> = Key::new(1);
+pub const DEVLINK_ATTR_BUS_NAME: Key<DevlinkPort, Text> = Key::new(1, "DEVLINK_ATTR_BUS_NAME");
 /// Selects `DEVLINK_ATTR_DEV_NAME` of [`IFLA_DEVLINK_PORT`] (`include/uapi/linux/devlink.h`).
-pub const DEVLINK_ATTR_DEV_NAME: Key<DevlinkPort, Text> = Key::new(2);
+pub const DEVLINK_ATTR_DEV_NAME: Key<DevlinkPort, Text> = Key::new(2, "DEVLINK_ATTR_DEV_NAME");
 /// Selects `DEVLINK_ATTR_PORT_INDEX` of [`IFLA_DEVLINK_PORT`] (`include/uapi/linux/devlink.h`).
-pub const DEVLINK_ATTR_PORT_INDEX: Key<DevlinkPort, u32> = Key::new(3);
+pub const DEVLINK_ATTR_PORT_INDEX: Key<DevlinkPort, u32> = Key::new(3, "DEVLINK_ATTR_PORT_INDEX");
 /// Selects `IFLA_GSO_IPV4_MAX_SIZE` of [`Link`] (`include/uapi/linux/if_link.h`).
-pub const IFLA_GSO_IPV4_MAX_SIZE: Key<Link, u32> = Key::new(63);
+pub const IFLA_GSO_IPV4_MAX_SIZE: Key<Link, u32> = Key::new(63, "IFLA_GSO_IPV4_MAX_SIZE");
 /// Selects `IFLA_GRO_IPV4_MAX_SIZE` of [`Link`] (`include/uapi/linux/if_link.h`).
-pub const IFLA_GRO_IPV4_MAX_SIZE: Key<Link, u32> = Key::new(64);
+pub const IFLA_GRO_IPV4_MAX_SIZE: Key<Link, u32> = Key::new(64, "IFLA_GRO_IPV4_MAX_SIZE");
 elements! {
     /// Represents the elements of [`IFLA_DPLL_PIN`] in types.
     DpllPin of Link = 65;
 }
 /// Selects `IFLA_DPLL_PIN` of [`Link`] (`include/uapi/linux/if_link.h`).
-pub const IFLA_DPLL_PIN: Key<Link, Nested<DpllPin>> = Key::new(65);
+pub const IFLA_DPLL_PIN: Key<Link, Nested<DpllPin>> = Key::new(65, "IFLA_DPLL_PIN");
 /// Selects `DPLL_A_PIN_ID` of [`IFLA_DPLL_PIN`] (`include/uapi/linux/dpll.h`).
-pub const DPLL_A_PIN_ID: Key<DpllPin, u32> = Key::new(1);
+pub const DPLL_A_PIN_ID: Key<DpllPin, u32> = Key::new(1, "DPLL_A_PIN_ID");
 /// Selects `IFLA_MAX_PACING_OFFLOAD_HORIZON` of [`Link`] (`include/uapi/linux/if_link.h`).
-pub const IFLA_MAX_PACING_OFFLOAD_HORIZON: Key<Link, Vec<u8>> = Key::new(66);
+pub const IFLA_MAX_PACING_OFFLOAD_HORIZON: Key<Link, Vec<u8>> = Key::new(66, "IFLA_MAX_PACING_OFFLOAD_HORIZON");
 /// Selects `IFLA_NETNS_IMMUTABLE` of [`Link`] (`include/uapi/linux/if_link.h`).
-pub const IFLA_NETNS_IMMUTABLE: Key<Link, bool> = Key::new(67);
+pub const IFLA_NETNS_IMMUTABLE: Key<Link, bool> = Key::new(67, "IFLA_NETNS_IMMUTABLE");
 /// Selects `IFLA_HEADROOM` of [`Link`] (`include/uapi/linux/if_link.h`).
-pub const IFLA_HEADROOM: Key<Link, u16> = Key::new(68);
+pub const IFLA_HEADROOM: Key<Link, u16> = Key::new(68, "IFLA_HEADROOM");
 /// Selects `IFLA_TAILROOM` of [`Link`] (`include/uapi/linux/if_link.h`).
-pub const IFLA_TAILROOM: Key<Link, u16> = Key::new(69);
+pub const IFLA_TAILROOM: Key<Link, u16> = Key::new(69, "IFLA_TAILROOM");
 
 scope! {
     /// Represents the attribute set [`Family::AfSpec`] in types.
@@ -1245,11 +1253,11 @@ scope! {
 }
 
 /// Selects `AF_INET` of [`AfSpec`] (`include/linux/socket.h`).
-pub const AF_INET: Key<AfSpec, Held> = Key::new(2);
+pub const AF_INET: Key<AfSpec, Held> = Key::new(2, "AF_INET");
 /// Selects `AF_INET6` of [`AfSpec`] (`include/linux/socket.h`).
-pub const AF_INET6: Key<AfSpec, Held> = Key::new(10);
+pub const AF_INET6: Key<AfSpec, Held> = Key::new(10, "AF_INET6");
 /// Selects `AF_MCTP` of [`AfSpec`] (`include/linux/socket.h`).
-pub const AF_MCTP: Key<AfSpec, Held> = Key::new(45);
+pub const AF_MCTP: Key<AfSpec, Held> = Key::new(45, "AF_MCTP");
 
 scope! {
     /// Represents the attribute set [`Family::Inet`] in types.
@@ -1257,7 +1265,7 @@ scope! {
 }
 
 /// Selects `IFLA_INET_CONF` of [`Inet`] (`include/uapi/linux/if_link.h`).
-pub const IFLA_INET_CONF: Key<Inet, Vec<i32>> = Key::new(1);
+pub const IFLA_INET_CONF: Key<Inet, Vec<i32>> = Key::new(1, "IFLA_INET_CONF");
 
 scope! {
     /// Represents the attribute set [`Family::Inet6`] in types.
@@ -1265,23 +1273,23 @@ scope! {
 }
 
 /// Selects `IFLA_INET6_FLAGS` of [`Inet6`] (`include/uapi/linux/if_link.h`).
-pub const IFLA_INET6_FLAGS: Key<Inet6, Inet6Flags> = Key::new(1);
+pub const IFLA_INET6_FLAGS: Key<Inet6, Inet6Flags> = Key::new(1, "IFLA_INET6_FLAGS");
 /// Selects `IFLA_INET6_CONF` of [`Inet6`] (`include/uapi/linux/if_link.h`).
-pub const IFLA_INET6_CONF: Key<Inet6, Vec<i32>> = Key::new(2);
+pub const IFLA_INET6_CONF: Key<Inet6, Vec<i32>> = Key::new(2, "IFLA_INET6_CONF");
 /// Selects `IFLA_INET6_STATS` of [`Inet6`] (`include/uapi/linux/if_link.h`).
-pub const IFLA_INET6_STATS: Key<Inet6, Vec<u64>> = Key::new(3);
+pub const IFLA_INET6_STATS: Key<Inet6, Vec<u64>> = Key::new(3, "IFLA_INET6_STATS");
 /// Selects `IFLA_INET6_MCAST` of [`Inet6`] (`include/uapi/linux/if_link.h`).
-pub const IFLA_INET6_MCAST: Key<Inet6, Vec<u8>> = Key::new(4);
+pub const IFLA_INET6_MCAST: Key<Inet6, Vec<u8>> = Key::new(4, "IFLA_INET6_MCAST");
 /// Selects `IFLA_INET6_CACHEINFO` of [`Inet6`] (`include/uapi/linux/if_link.h`).
-pub const IFLA_INET6_CACHEINFO: Key<Inet6, Vec<u8>> = Key::new(5);
+pub const IFLA_INET6_CACHEINFO: Key<Inet6, Vec<u8>> = Key::new(5, "IFLA_INET6_CACHEINFO");
 /// Selects `IFLA_INET6_ICMP6STATS` of [`Inet6`] (`include/uapi/linux/if_link.h`).
-pub const IFLA_INET6_ICMP6STATS: Key<Inet6, Vec<u64>> = Key::new(6);
+pub const IFLA_INET6_ICMP6STATS: Key<Inet6, Vec<u64>> = Key::new(6, "IFLA_INET6_ICMP6STATS");
 /// Selects `IFLA_INET6_TOKEN` of [`Inet6`] (`include/uapi/linux/if_link.h`).
-pub const IFLA_INET6_TOKEN: Key<Inet6, Ipv6Addr> = Key::new(7);
+pub const IFLA_INET6_TOKEN: Key<Inet6, Ipv6Addr> = Key::new(7, "IFLA_INET6_TOKEN");
 /// Selects `IFLA_INET6_ADDR_GEN_MODE` of [`Inet6`] (`include/uapi/linux/if_link.h`).
-pub const IFLA_INET6_ADDR_GEN_MODE: Key<Inet6, AddrGenMode> = Key::new(8);
+pub const IFLA_INET6_ADDR_GEN_MODE: Key<Inet6, AddrGenMode> = Key::new(8, "IFLA_INET6_ADDR_GEN_MODE");
 /// Selects `IFLA_INET6_RA_MTU` of [`Inet6`] (`include/uapi/linux/if_link.h`).
-pub const IFLA_INET6_RA_MTU: Key<Inet6, u32> = Key::new(9);
+pub const IFLA_INET6_RA_MTU: Key<Inet6, u32> = Key::new(9, "IFLA_INET6_RA_MTU");
 
 scope! {
     /// Represents the attribute set [`Family::Mctp`] in types.
@@ -1289,9 +1297,9 @@ scope! {
 }
 
 /// Selects `IFLA_MCTP_NET` of [`Mctp`] (`include/uapi/linux/if_link.h`).
-pub const IFLA_MCTP_NET: Key<Mctp, u32> = Key::new(1);
+pub const IFLA_MCTP_NET: Key<Mctp, u32> = Key::new(1, "IFLA_MCTP_NET");
 /// Selects `IFLA_MCTP_PHYS_BINDING` of [`Mctp`] (`include/uapi/linux/if_link.h`).
-pub const IFLA_MCTP_PHYS_BINDING: Key<Mctp, u8> = Key::new(2);
+pub const IFLA_MCTP_PHYS_BINDING: Key<Mctp, u8> = Key::new(2, "IFLA_MCTP_PHYS_BINDING");
 
 scope! {
     /// Represents the attribute set [`Family::Reply`] in types.
@@ -1299,17 +1307,17 @@ scope! {
 }
 
 /// Selects `NLMSGERR_ATTR_MSG` of [`Reply`] (`include/uapi/linux/netlink.h`).
-pub const NLMSGERR_ATTR_MSG: Key<Reply, Text> = Key::new(1);
+pub const NLMSGERR_ATTR_MSG: Key<Reply, Text> = Key::new(1, "NLMSGERR_ATTR_MSG");
 /// Selects `NLMSGERR_ATTR_OFFS` of [`Reply`] (`include/uapi/linux/netlink.h`).
-pub const NLMSGERR_ATTR_OFFS: Key<Reply, u32> = Key::new(2);
+pub const NLMSGERR_ATTR_OFFS: Key<Reply, u32> = Key::new(2, "NLMSGERR_ATTR_OFFS");
 /// Selects `NLMSGERR_ATTR_COOKIE` of [`Reply`] (`include/uapi/linux/netlink.h`).
-pub const NLMSGERR_ATTR_COOKIE: Key<Reply, Vec<u8>> = Key::new(3);
+pub const NLMSGERR_ATTR_COOKIE: Key<Reply, Vec<u8>> = Key::new(3, "NLMSGERR_ATTR_COOKIE");
 /// Selects `NLMSGERR_ATTR_POLICY` of [`Reply`] (`include/uapi/linux/netlink.h`).
-pub const NLMSGERR_ATTR_POLICY: Key<Reply, Held> = Key::new(4);
+pub const NLMSGERR_ATTR_POLICY: Key<Reply, Held> = Key::new(4, "NLMSGERR_ATTR_POLICY");
 /// Selects `NLMSGERR_ATTR_MISS_TYPE` of [`Reply`] (`include/uapi/linux/netlink.h`).
-pub const NLMSGERR_ATTR_MISS_TYPE: Key<Reply, u32> = Key::new(5);
+pub const NLMSGERR_ATTR_MISS_TYPE: Key<Reply, u32> = Key::new(5, "NLMSGERR_ATTR_MISS_TYPE");
 /// Selects `NLMSGERR_ATTR_MISS_NEST` of [`Reply`] (`include/uapi/linux/netlink.h`).
-pub const NLMSGERR_ATTR_MISS_NEST: Key<Reply, u32> = Key::new(6);
+pub const NLMSGERR_ATTR_MISS_NEST: Key<Reply, u32> = Key::new(6, "NLMSGERR_ATTR_MISS_NEST");
 
 /// Has the places of the array [`IFLA_STATS`]: indices of its `Vec`.
 pub mod link_stats {

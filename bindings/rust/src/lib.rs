@@ -64,6 +64,7 @@
 #![deny(unsafe_code)]
 #![warn(missing_docs, missing_debug_implementations)]
 
+mod attributes;
 mod error;
 mod field;
 mod kinds;
@@ -77,15 +78,16 @@ mod tests;
 mod types;
 mod value;
 
-pub use error::{Cause, Code, Error, Fault, ParseMacError, Place, WriteError};
+pub use attributes::*;
+pub use error::{Cause, Code, Error, Fault, ParseMacError, ParseNameError, Place, WriteError};
 pub use field::Field;
 pub use kinds::*;
 pub use list::{find, find_in, List, Nested};
-pub use scope::{Any, Key, Scope, Set};
+pub use scope::{Any, Key, Scope, Set, Typed};
 pub use types::{
     BerrCounter, BridgeId, CanBitTiming, CanBitTimingConst, Held, Mac, Masked, QosMapping, Text, VlanInfo,
 };
-pub use value::{Content, Iter, Value};
+pub use value::{Content, Iter, TypedIter, Value};
 
 /// Returns the mark of the library that is linked: version, `proved` or `unproved`, commit and toolchain.
 ///

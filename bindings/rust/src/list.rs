@@ -5,7 +5,7 @@ use crate::field::{Field, Store};
 use crate::kinds::form;
 use crate::scope::{Any, Key, Scope, Set};
 use crate::sys::{self, Raw};
-use crate::value::{Iter, Value};
+use crate::value::{Iter, TypedIter, Value};
 use crate::Family;
 use std::borrow::Cow;
 use std::fmt;
@@ -183,6 +183,11 @@ impl<S> List<'_, S> {
         self.family
     }
 
+    /// Returns how many attributes the list has; elements of nested lists do not count.
+    pub fn len(&self) -> usize {
+        self.iter().len()
+    }
+
     /// Returns whether the list has no attributes.
     pub fn is_empty(&self) -> bool {
         self.values.is_empty()
@@ -216,13 +221,40 @@ impl<'a, S: Scope> List<'a, S> {
         List { family: S::FAMILY, values: Vec::new(), bytes: Cow::Borrowed(&[]), of: PhantomData }
     }
 
+    /// Iterates over the attributes in order, each as a variant of an enum, to `match` on. Elements of nested lists have
+    /// their own enums.
+    ///
+    /// ```
+    /// use nlroute::*;
+    ///
+    /// let info = Nested::<BondAdInfo>::new().with(IFLA_BOND_AD_INFO_NUM_PORTS, 2);
+    /// let bond = List::<Bond>::new().with(IFLA_BOND_MODE, BondMode::IEEE8023AD).with(IFLA_BOND_AD_INFO, info);
+    /// for attribute in bond.typed() {
+    ///     match attribute {
+    ///         BondAttribute::Mode(mode) => assert_eq!(mode, BondMode::IEEE8023AD),
+    ///         BondAttribute::AdInfo(info) => {
+    ///             assert!(info.typed().eq([BondAdInfoAttribute::NumPorts(2)]));
+    ///         }
+    ///         other => panic!("{other:?}"),
+    ///     }
+    /// }
+    /// ```
+    pub fn typed(&self) -> TypedIter<'_, S> {
+        TypedIter { values: self.iter(), of: PhantomData }
+    }
+
+    /// Returns whether the list has an attribute of a type.
+    pub fn contains<T>(&self, key: Key<S, T>) -> bool {
+        self.iter().any(|value| value.kind() == key.kind())
+    }
+
     /// Returns the last value of a type, which is the one that Linux takes, or `None`.
     pub fn get<T: Field>(&self, key: Key<S, T>) -> Option<T> {
-        self.iter().filter(|value| value.kind() == key.kind()).last().and_then(T::load)
+        self.iter().rev().find(|value| value.kind() == key.kind()).and_then(T::load)
     }
 
     /// Returns all values of a type, in order.
-    pub fn get_all<'b, T: Field + 'b>(&'b self, key: Key<S, T>) -> impl Iterator<Item = T> + 'b {
+    pub fn get_all<'b, T: Field + 'b>(&'b self, key: Key<S, T>) -> impl DoubleEndedIterator<Item = T> + 'b {
         self.iter().filter(move |value| value.kind() == key.kind()).filter_map(T::load)
     }
 

@@ -45,6 +45,22 @@ macro_rules! families {
                 Family::ALL.into_iter().find(|&family| family as u32 == number)
             }
         }
+
+        impl std::fmt::Display for Family {
+            /// Writes the [`name`](Family::name).
+            fn fmt(&self, f: &mut std::fmt::Formatter<'_>) -> std::fmt::Result {
+                f.pad(self.name())
+            }
+        }
+
+        impl std::str::FromStr for Family {
+            type Err = $crate::ParseNameError;
+
+            /// Parses a [`name`](Family::name).
+            fn from_str(text: &str) -> Result<Family, $crate::ParseNameError> {
+                Family::from_name(text).ok_or($crate::ParseNameError("not the name of an attribute set"))
+            }
+        }
     };
 }
 
@@ -78,6 +94,29 @@ macro_rules! named {
                     $($text => Some($type::$name),)*
                     _ => None,
                 }
+            }
+        }
+
+        impl From<$number> for $type {
+            /// Returns the number as one of the enum. It need not have a name.
+            fn from(number: $number) -> $type {
+                $type(number)
+            }
+        }
+
+        impl From<$type> for $number {
+            fn from(value: $type) -> $number {
+                value.0
+            }
+        }
+
+        impl std::str::FromStr for $type {
+            type Err = $crate::ParseNameError;
+
+            /// Parses what `Display` writes: a name, in the same case, or a decimal number.
+            fn from_str(text: &str) -> Result<$type, $crate::ParseNameError> {
+                let error = $crate::ParseNameError(concat!("not a name or a number of ", stringify!($type)));
+                $type::from_name(text).or_else(|| $crate::types::decimal(text).map($type)).ok_or(error)
             }
         }
 
@@ -139,21 +178,38 @@ macro_rules! flags {
             pub const fn contains(self, other: $type) -> bool {
                 self.0 & other.0 == other.0
             }
+
+            /// Returns whether no bit is set.
+            pub const fn is_empty(self) -> bool {
+                self.0 == 0
+            }
         }
 
-        impl std::ops::BitOr for $type {
+        impl From<$number> for $type {
+            /// Returns the bits of a number as a set. They need not have names.
+            fn from(number: $number) -> $type {
+                $type(number)
+            }
+        }
+
+        impl From<$type> for $number {
+            fn from(flags: $type) -> $number {
+                flags.0
+            }
+        }
+
+        impl std::ops::Not for $type {
             type Output = $type;
 
-            fn bitor(self, other: $type) -> $type {
-                $type(self.0 | other.0)
+            /// Returns all other bits, also those without a name.
+            fn not(self) -> $type {
+                $type(!self.0)
             }
         }
 
-        impl std::ops::BitOrAssign for $type {
-            fn bitor_assign(&mut self, other: $type) {
-                self.0 |= other.0;
-            }
-        }
+        $crate::macros::operator!($type, BitAnd::bitand, BitAndAssign::bitand_assign, |a, b| a & b);
+        $crate::macros::operator!($type, BitOr::bitor, BitOrAssign::bitor_assign, |a, b| a | b);
+        $crate::macros::operator!($type, Sub::sub, SubAssign::sub_assign, |a, b| a & !b);
 
         impl std::fmt::Debug for $type {
             /// Writes the names, and in hexadecimal the bits that have none: `GVRP|0x40`.
@@ -197,6 +253,26 @@ macro_rules! flags {
     };
 }
 
+/// Implements an operator of sets of flags, and the one that assigns its result.
+macro_rules! operator {
+    ($type:ident, $name:ident::$call:ident, $assign:ident::$assign_call:ident, |$a:ident, $b:ident| $result:expr) => {
+        impl std::ops::$name for $type {
+            type Output = $type;
+
+            fn $call(self, other: $type) -> $type {
+                let ($a, $b) = (self.0, other.0);
+                $type($result)
+            }
+        }
+
+        impl std::ops::$assign for $type {
+            fn $assign_call(&mut self, other: $type) {
+                *self = std::ops::$name::$call(*self, other);
+            }
+        }
+    };
+}
+
 /// Defines the type of an attribute set.
 macro_rules! scope {
     ($(#[$doc:meta])* $type:ident;) => {
@@ -228,4 +304,43 @@ macro_rules! elements {
     };
 }
 
-pub(crate) use {elements, families, flags, named, scope};
+/// Defines the enum of the attributes of a scope: a variant for each type that it knows.
+macro_rules! attributes {
+    (@load $value:ident $enum:ident $variant:ident) => {
+        <() as $crate::field::Stored>::load($value).map(|()| $enum::$variant)
+    };
+    (@load $value:ident $enum:ident $variant:ident $type:ty) => {
+        <$type as $crate::field::Stored>::load($value).map($enum::$variant)
+    };
+    (
+        $(#[$doc:meta])* $enum:ident of $scope:ident;
+        $($(#[$row:meta])* $variant:ident $(($type:ty))? = $kind:literal;)*
+    ) => {
+        $(#[$doc])*
+        #[derive(Clone, Debug, PartialEq, Eq)]
+        #[non_exhaustive]
+        pub enum $enum<'a> {
+            $($(#[$row])* $variant $(($type))?,)*
+            /// Holds a value of any other type.
+            Other($crate::Value<'a>),
+        }
+
+        impl<'a> From<$crate::Value<'a>> for $enum<'a> {
+            /// Returns the variant of the attribute type, or `Other`. Values of other sets and lists are `Other` too.
+            fn from(value: $crate::Value<'a>) -> Self {
+                let known = match value.kind() {
+                    _ if !value.is_of::<$scope>() => None,
+                    $($kind => attributes!(@load value $enum $variant $($type)?),)*
+                    _ => None,
+                };
+                known.unwrap_or($enum::Other(value))
+            }
+        }
+
+        impl<'a> $crate::Typed<'a> for $scope {
+            type Attribute = $enum<'a>;
+        }
+    };
+}
+
+pub(crate) use {attributes, elements, families, flags, named, operator, scope};

@@ -122,7 +122,7 @@ struct AgainstHeader {
 
 impl AgainstHeader {
     fn compare<S, T>(&mut self, name: &str, key: Key<S, T>) {
-        assert_eq!(self.kinds.get(name), Some(&key.kind()), "{name}");
+        assert_eq!((self.kinds.get(name), key.name()), (Some(&key.kind()), name));
         self.seen.push(name.to_string());
     }
 }
@@ -147,12 +147,22 @@ fn keys_are_those_of_the_header() {
     assert_eq!(missing, ["IFLA_VLAN_QOS_MAPPING"]);
 }
 
+/// Checks that a list with one value has it as a variant, without its name: `Mode(BondMode(802.3ad))`.
+fn check_typed<S: Scope, T: Debug>(list: &List<'_, S>, name: &str, value: &T) {
+    let shown: Vec<_> = list.typed().map(|attribute| format!("{attribute:?}")).collect();
+    let held = shown[0].split_once('(').map_or("()".to_string(), |(_, rest)| format!("({rest}"));
+    let expected = if format!("{value:?}") == "()" { "()".to_string() } else { format!("({value:?})") };
+    assert_eq!((shown.len(), held), (1, expected), "{name}");
+    assert!(!shown[0].starts_with("Other("), "{name}");
+}
+
 struct RoundTrip;
 
 impl Visitor for RoundTrip {
     fn attribute<S: Set, T: Field + Sample>(&mut self, name: &str, key: Key<S, T>) {
         let list = List::<S>::new().with(key, T::sample_for(name));
         assert_eq!(list.get(key), Some(T::sample_for(name)), "{name}, before it is written");
+        check_typed(&list, name, &T::sample_for(name));
         let bytes = list.to_bytes().unwrap_or_else(|error| panic!("{error}"));
         assert_eq!(u16::from_le_bytes([bytes[2], bytes[3]]) & 0x3fff, key.kind(), "{name}");
         // the library writes as many bytes as the kernel's type has; of this u16, the low byte has the flags
@@ -171,6 +181,7 @@ impl Visitor for RoundTrip {
     fn element<S: Set, E: Scope, T: Field + Sample>(&mut self, list: Key<S, Nested<E>>, name: &str, key: Key<E, T>) {
         let nested = Nested::<E>::new().with(key, T::sample());
         assert_eq!(nested.get(key), Some(T::sample()), "{name}, before it is written");
+        check_typed(&nested, name, &T::sample());
         let bytes = List::<S>::new().with(list, nested.clone()).to_bytes().unwrap_or_else(|error| panic!("{error}"));
         let size = usize::from(bytes[4]) - 4;
         assert_eq!(T::SIZE.unwrap_or(size), size, "{name}");

@@ -277,6 +277,12 @@ impl CanBitTimingConst {
     }
 }
 
+/// Returns the number of decimal digits.
+pub(crate) fn decimal<T: FromStr>(text: &str) -> Option<T> {
+    let is_number = text.bytes().all(|digit| digit.is_ascii_digit());
+    is_number.then(|| text.parse().ok()).flatten()
+}
+
 /// Writes the names of flags, and in hexadecimal the bits that have none.
 pub(crate) fn write_flags(f: &mut fmt::Formatter<'_>, flags: u32, names: &[(u32, &str)]) -> fmt::Result {
     let mut separator = "";

@@ -2,11 +2,13 @@
 
 use crate::field::Stored;
 use crate::kinds::form;
+use crate::scope::{Scope, Typed};
 use crate::sys::{self, Raw};
 use crate::types::{BerrCounter, BridgeId, CanBitTiming, CanBitTimingConst, Mac, Masked, QosMapping, VlanInfo};
 use crate::Family;
 use std::fmt;
 use std::iter::FusedIterator;
+use std::marker::PhantomData;
 use std::net::{Ipv4Addr, Ipv6Addr};
 
 /// Flags of `nla_type` (`linux/netlink.h`).
@@ -126,6 +128,12 @@ impl<'a> Value<'a> {
         })
     }
 
+    /// Returns whether it is an attribute or an element of a scope.
+    pub(crate) fn is_of<S: Scope>(&self) -> bool {
+        let list = if self.raw.depth == 0 { None } else { Some(self.raw.kind) };
+        self.family == S::FAMILY && list == S::LIST
+    }
+
     /// Returns whether the value has a form.
     pub(crate) fn has(&self, form: u8) -> bool {
         self.raw.form == form
@@ -236,7 +244,8 @@ impl Value<'_> {
     }
 }
 
-/// Iterates over the attributes of a list, or over the elements of an attribute.
+/// Iterates over the attributes of a list, or over the elements of an attribute. It knows how many are left, and goes
+/// from both ends.
 #[derive(Clone, Copy)]
 pub struct Iter<'a> {
     pub(crate) family: Family,
@@ -257,11 +266,31 @@ impl<'a> Iterator for Iter<'a> {
     }
 
     fn size_hint(&self) -> (usize, Option<usize>) {
-        (self.values.len().min(1), Some(self.values.len()))
+        let depth = self.depth();
+        let length = self.values.iter().filter(|raw| raw.depth <= depth).count();
+        (length, Some(length))
     }
 }
 
+impl DoubleEndedIterator for Iter<'_> {
+    fn next_back(&mut self) -> Option<Self::Item> {
+        let depth = self.depth();
+        let at = self.values.iter().rposition(|raw| raw.depth <= depth)?;
+        let (rest, last) = self.values.split_at(at);
+        self.values = rest;
+        Iter { values: last, ..*self }.next()
+    }
+}
+
+impl ExactSizeIterator for Iter<'_> {}
 impl FusedIterator for Iter<'_> {}
+
+impl Iter<'_> {
+    /// Returns the depth of the values; that of their elements is greater.
+    fn depth(&self) -> u8 {
+        self.values.first().map_or(0, |raw| raw.depth)
+    }
+}
 
 impl PartialEq for Iter<'_> {
     /// Compares the values that are left.
@@ -275,6 +304,45 @@ impl Eq for Iter<'_> {}
 impl fmt::Debug for Iter<'_> {
     fn fmt(&self, f: &mut fmt::Formatter<'_>) -> fmt::Result {
         f.debug_list().entries(*self).finish()
+    }
+}
+
+/// Iterates over the attributes of a list, each as an enum. [`List::typed`](crate::List::typed) returns it.
+pub struct TypedIter<'a, S> {
+    pub(crate) values: Iter<'a>,
+    pub(crate) of: PhantomData<S>,
+}
+
+impl<'a, S: Typed<'a>> Iterator for TypedIter<'a, S> {
+    type Item = S::Attribute;
+
+    fn next(&mut self) -> Option<S::Attribute> {
+        self.values.next().map(S::Attribute::from)
+    }
+
+    fn size_hint(&self) -> (usize, Option<usize>) {
+        self.values.size_hint()
+    }
+}
+
+impl<'a, S: Typed<'a>> DoubleEndedIterator for TypedIter<'a, S> {
+    fn next_back(&mut self) -> Option<S::Attribute> {
+        self.values.next_back().map(S::Attribute::from)
+    }
+}
+
+impl<'a, S: Typed<'a>> ExactSizeIterator for TypedIter<'a, S> {}
+impl<'a, S: Typed<'a>> FusedIterator for TypedIter<'a, S> {}
+
+impl<S> Clone for TypedIter<'_, S> {
+    fn clone(&self) -> Self {
+        TypedIter { values: self.values, of: PhantomData }
+    }
+}
+
+impl<S> fmt::Debug for TypedIter<'_, S> {
+    fn fmt(&self, f: &mut fmt::Formatter<'_>) -> fmt::Result {
+        self.values.fmt(f)
     }
 }
 

@@ -1,0 +1,128 @@
+"""python -m nlroute: what it prints for the lines of runs/, its arguments, and its status."""
+import os
+import re
+import subprocess
+import sys
+import tempfile
+import unittest
+
+TOP = os.path.dirname(os.path.dirname(os.path.dirname(os.path.dirname(os.path.realpath(__file__)))))
+REQUEST = re.compile(rb"(check[ \t]+)?[a-z_0-9]+[ \t]")
+LIST = "dsa 08000100 2a000000\n"
+PRINTED = LIST + "  IFLA_DSA_CONDUIT ifindex 42\n"
+
+
+def run(*words, given=b"", **options):
+    """Runs the program, and returns its status and output. Nothing is on standard error, unless it is returned too."""
+    if isinstance(given, str):
+        given = given.encode()
+    done = subprocess.run([sys.executable, "-m", "nlroute", *words], input=given, capture_output=True, **options)
+    if done.stderr:
+        return done.returncode, done.stdout.decode(), done.stderr.decode()
+    return done.returncode, done.stdout.decode()
+
+
+def runs(folder):
+    """Yields the requests of a folder of runs/ with the lines that nlshow prints for them: those of lists only."""
+    for name in sorted(os.listdir(os.path.join(TOP, "runs", folder))):
+        with open(os.path.join(TOP, "runs", folder, name), "rb") as file:
+            text = file.read()
+        head, _, body = text.partition(b"\n\n")
+        if b"arguments:" in head or re.search(rb"^[>|<=][+*]", body, re.MULTILINE):
+            continue
+        found, lines = [], None
+        for line in body.split(b"\n"):
+            if line[:2] == b"> ":
+                is_list = REQUEST.match(line[2:] + b" ") and not line.startswith(b"> message")
+                lines = [line[2:]] if is_list else None
+                found += [lines] if is_list else []
+            elif lines is not None and line[:1] not in (b"#", b"<", b"|", b"") and line:
+                lines.append(line)
+        yield name, found
+
+
+class Lines(unittest.TestCase):
+    def test_runs(self):
+        count = 0
+        for folder in ("plain", "check"):
+            for name, found in runs(folder):
+                count += len(found)
+                expected = b"".join(line + b"\n" for lines in found for line in lines)
+                given = b"".join(lines[0] + b"\n" for lines in found)
+                with self.subTest(run=f"{folder}/{name}"):
+                    self.maxDiff = None
+                    self.assertEqual(run(given=given)[1], expected.decode())
+        self.assertGreater(count, 500)
+
+    def test_status(self):
+        rows = [
+            (LIST, 0, PRINTED),
+            ("", 0, ""),
+            ("# a comment\n \t\r\n\n", 0, ""),
+            ("check dsa 08000100 2a000000\n", 0, "check dsa 08000100 2a000000\ncanonical\n"),
+            ("check dsa 08000140 2a000000\n", 1, "check dsa 08000140 2a000000\nnot canonical at 0\n"),
+            ("bond 04000100\n", 1, "bond 04000100\n  error at 0: IFLA_BOND_MODE has 0 bytes, expected 1\n"),
+            ("tap 00\n", 1, "tap 00\nno such family\n"),
+            (" dsa\n", 1, " dsa\nno such family\n"),
+            ("check\n", 1, "check\nno such family\n"),
+            ("dsa zz\n", 1, "dsa zz\nbad hex\n"),
+            ("dsa 0\v8\n", 1, '"dsa 0\\x0b8"\nbad hex\n'),
+            ("dsa \u00e9\r\n", 1, '"dsa \\xc3\\xa9\\x0d"\nbad hex\n'),
+            ("message 00\n", 1, "message 00\nmessages need nlshow\n"),
+            ("dsa\r\n" + LIST[:-1], 0, "dsa\n" + PRINTED),
+        ]
+        for given, status, printed in rows:
+            with self.subTest(given=given):
+                self.assertEqual(run(given=given), (status, printed))
+
+    def test_long_lines(self):
+        longest = "dsa " + "0" * (262_144 - 4)
+        rest = "  error at 0: nla_len 0 is below 4\n"
+        self.assertEqual(run(given=longest + "\n" + LIST), (1, longest + "\n" + rest + PRINTED))
+        for line in (longest + "0", "#" + longest, 3 * longest):
+            self.assertEqual(run(given=line + "\n" + LIST), (1, "input too long\n" + PRINTED))
+
+    def test_answers_at_once(self):
+        program = [sys.executable, "-m", "nlroute"]
+        with subprocess.Popen(program, stdin=subprocess.PIPE, stdout=subprocess.PIPE, bufsize=0) as running:
+            for _ in range(3):
+                running.stdin.write(LIST.encode())
+                self.assertEqual(running.stdout.read(len(PRINTED)), PRINTED.encode())
+            running.stdin.close()
+            self.assertEqual((running.stdout.read(), running.wait()), (b"", 0))
+
+
+class Arguments(unittest.TestCase):
+    def test_files(self):
+        with tempfile.TemporaryDirectory() as folder:
+            with open(os.path.join(folder, 'a"b'), "w") as file:
+                file.write(LIST)
+            printed = f'file "a\\"b"\n{PRINTED}file "-"\n{PRINTED}file "none"\ncannot open\nfile "."\nread fault\n'
+            self.assertEqual(run('a"b', "-", "none", ".", given=LIST, cwd=folder), (5, printed))
+            self.assertEqual(run("--", 'a"b', cwd=folder), (0, f'file "a\\"b"\n{PRINTED}'))
+            with open(os.path.join(folder, "c.pcapng"), "wb") as file:
+                file.write(b"\n\r\r\n\x1c\0\0\0")
+            self.assertEqual(run("c.pcapng", cwd=folder), (2, 'file "c.pcapng"\na capture: nlshow prints it\n'))
+
+    def test_options(self):
+        status, printed = run("--help")
+        self.assertEqual((status, printed.splitlines()[0]), (0, "usage: python -m nlroute [FILE].. | --help | --version"))
+        self.assertRegex(run("-V")[1], r"^nlroute \d+\.\d+\.\d+\n$")
+        status, printed, said = run("--json", given=LIST)
+        self.assertEqual((status, printed, said.splitlines()[0]), (2, "", "error: unexpected argument '--json' found"))
+
+    def test_failed_writes(self):
+        program = [sys.executable, "-m", "nlroute"]
+        with open("/dev/full", "w") as full:
+            done = subprocess.run(program, input=LIST, stdout=full, stderr=subprocess.PIPE, text=True)
+        self.assertEqual((done.returncode, done.stderr), (5, "write fault\n"))
+        # the reader has ended
+        reading, writing = os.pipe()
+        os.close(reading)
+        done = subprocess.run(program, input=LIST, stdout=writing, stderr=subprocess.PIPE, text=True)
+        os.close(writing)
+        self.assertEqual((done.returncode, done.stderr), (5, ""))
+
+
+if __name__ == "__main__":
+    unittest.main()
