@@ -89,7 +89,7 @@ class Attribute:
     example: str | None = None  # for numbers with a unit: how 100 is printed, such as `100 (1.00 s)`
     elements: tuple["Attribute", ...] = ()
     item: "Attribute | None" = None
-    variant: str = ""  # Mode
+    variant: str = ""  # Mode; empty for an item
     optional: bool = False  # a boolean that may have no payload, which is on without
     places: Type | None = None  # of an array whose places have names: these, in order, as of an enum
 
@@ -235,7 +235,7 @@ class Asker:
             form=form,
             bits=bits,
             type=self.type(name, form, bits, names),
-            variant="" if is_indexed else self.variants[name],
+            variant=self.variants.get(name, ""),
             example=self.example(value, form),
             # (the number of a value without a payload is 1; of other booleans, the length is not used)
             optional=form == "bool" and self.library.refuses(self.family, value),

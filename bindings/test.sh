@@ -108,6 +108,14 @@ in_crate() {
     "$@"
 }
 
+# The example with typed attributes prints the values of its list.
+prints_typed() {
+    in_crate cargo run --offline --quiet --example typed >"$room/typed"
+    grep -q '^mode 802.3ad$' "$room/typed"
+    grep -q '^2 ports are aggregated$' "$room/typed"
+    grep -q '^unknown: type 99 hex 07$' "$room/typed"
+}
+
 shared_crate() {
     cd bindings/rust
     NLROUTE_STATIC=0 CARGO_TARGET_DIR=$room/shared cargo test --offline --quiet --tests
@@ -159,6 +167,7 @@ fi
 if has cargo cargo --version; then
     check "rust: tests" in_crate env LD_LIBRARY_PATH='' cargo test --offline --quiet
     check "rust: tests with the shared library" shared_crate
+    check "rust: the example with typed attributes" prints_typed
     check "rust: pages of the crate" in_crate env RUSTDOCFLAGS='-D warnings' cargo doc --offline --quiet --no-deps
     if has clippy cargo clippy --version; then
         check "rust: clippy" in_crate cargo clippy --offline --quiet --all-targets -- -D warnings

@@ -59,7 +59,7 @@ unfound() {
     grep -q 'libnlroute.a' "$room/unfound" && grep -q 'tools/install.sh' "$room/unfound"
 }
 
-check "kinds.rs is what the library says" ../generate.py --check
+check "kinds.rs and attributes.rs are what the library says" ../generate.py --check
 check "the layout of the sources" cargo fmt --check
 check "cargo test" cargo test
 check "cargo doc" cargo doc --no-deps

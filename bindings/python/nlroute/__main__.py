@@ -28,7 +28,6 @@ from ._show import check, show
 USAGE = "usage: python -m nlroute [FILE].. | --help | --version"
 MOST_TEXT = 262_144  # bytes of a line
 SPACE = b" \t\r\n"
-WORD = re.compile(rb"([^ \t\r\n]*)(.*)", re.DOTALL)
 REPEATED = re.compile(rb"[ -~\t]*")
 # The first bytes of pcap and pcapng files
 MAGIC = re.compile(rb"\xa1\xb2[\xc3\x3c][\xd4\x4d]|[\xd4\x4d][\xc3\x3c]\xb2\xa1|\n\r\r\n")
@@ -67,12 +66,18 @@ def family_of(name: bytes) -> Family | None:
         return None
 
 
+def cut(text: bytes) -> tuple[bytes, bytes]:
+    """Returns the first word, which is empty if white space begins the text, and what follows it."""
+    end = next((at for at, byte in enumerate(text) if byte in SPACE), len(text))
+    return text[:end], text[end:]
+
+
 def answer(text: bytes) -> list[str]:
     """Returns the lines for a request. Those of errors are as in `is_wrong`."""
-    word, rest = WORD.fullmatch(text).groups()  # type: ignore[union-attr]
+    word, rest = cut(text)
     printed = show
     if word == b"check":
-        word, rest = WORD.fullmatch(rest.lstrip(SPACE)).groups()  # type: ignore[union-attr]
+        word, rest = cut(rest.lstrip(SPACE))
         printed = check
     elif word == b"message":
         return ["messages need nlshow"]

@@ -4,7 +4,7 @@ from __future__ import annotations
 from enum import IntEnum
 from typing import TYPE_CHECKING
 
-from ._types import Flags, Key, Named, Row
+from ._types import Flags, Key, Named, Row, Texts
 
 if TYPE_CHECKING:
     from ipaddress import IPv4Address, IPv6Address
@@ -15,25 +15,26 @@ if TYPE_CHECKING:
 VERSION = 0x000300  # of nlroute.h
 
 
-class Family(IntEnum):
-    """An attribute set."""
-    AF_SPEC_BRIDGE = 0
-    BOND = 1
-    BOND_PORT = 2
-    BRIDGE = 3
-    BRIDGE_PORT = 4
-    VLAN = 5
-    CAN = 6
-    DSA = 7
-    HSR = 8
-    PROTO_BRIDGE = 9
-    VXLAN = 10
-    LINK = 11
-    AF_SPEC = 12
-    INET = 13
-    INET6 = 14
-    MCTP = 15
-    REPLY = 16
+class Family(Texts):
+    """An attribute set: `Family("bond")` is `Family.BOND`."""
+
+    AF_SPEC_BRIDGE = 0, "af_spec_bridge"
+    BOND = 1, "bond"
+    BOND_PORT = 2, "bond_port"
+    BRIDGE = 3, "bridge"
+    BRIDGE_PORT = 4, "bridge_port"
+    VLAN = 5, "vlan"
+    CAN = 6, "can"
+    DSA = 7, "dsa"
+    HSR = 8, "hsr"
+    PROTO_BRIDGE = 9, "proto_bridge"
+    VXLAN = 10, "vxlan"
+    LINK = 11, "link"
+    AF_SPEC = 12, "af_spec"
+    INET = 13, "inet"
+    INET6 = 14, "inet6"
+    MCTP = 15, "mctp"
+    REPLY = 16, "reply"
 
 
 class Place(IntEnum):
@@ -1293,7 +1294,7 @@ SETS: dict[Family, tuple[Row, ...]] = {
 }
 
 __all__ = [
-    "Code", "Family", "Place", "Cause", "BridgeFlags", "BridgeMode", "BridgeVlanFlags", "BondMode", "BondArpValidate",
+    "Family", "Code", "Place", "Cause", "BridgeFlags", "BridgeMode", "BridgeVlanFlags", "BondMode", "BondArpValidate",
     "BondArpAllTargets", "BondPrimaryReselect", "BondFailOverMac", "BondXmitHashPolicy", "BondAllPortsActive",
     "BondAdLacpRate", "BondAdSelect", "BondPortState", "MiiStatus", "LacpState", "ChurnState", "BridgeStpState",
     "VlanProtocol", "McastRouter", "BridgeBoolOpt", "BridgeStpMode", "BridgePortState", "VlanFlags", "CanState",

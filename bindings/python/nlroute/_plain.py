@@ -105,6 +105,6 @@ def value_of(value: Any) -> Any:
     if isinstance(value, bytes):
         return value.hex()
     if isinstance(value, tuple):
-        fields = zip(type(value)._fields, value)  # type: ignore[attr-defined]
+        fields = zip(getattr(value, "_fields"), value)
         return {name.rstrip("_"): value_of(it) for name, it in fields if it is not None}
     return value

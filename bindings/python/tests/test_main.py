@@ -7,7 +7,8 @@ import tempfile
 import unittest
 
 TOP = os.path.dirname(os.path.dirname(os.path.dirname(os.path.dirname(os.path.realpath(__file__)))))
-REQUEST = re.compile(rb"(check[ \t]+)?[a-z_0-9]+[ \t]")
+# The folders of runs/ with the requests that are taken of them: all for lists. The debug form of checks is the same
+FOLDERS = {"plain": re.compile(rb"(?!message)"), "debug": re.compile(rb"check ")}
 LIST = "dsa 08000100 2a000000\n"
 PRINTED = LIST + "  IFLA_DSA_CONDUIT ifindex 42\n"
 
@@ -22,21 +23,19 @@ def run(*words, given=b"", **options):
     return done.returncode, done.stdout.decode()
 
 
-def runs(folder):
-    """Yields the requests of a folder of runs/ with the lines that nlshow prints for them: those of lists only."""
+def runs(folder, request):
+    """Yields the runs of a folder of runs/: the name, and each request with the lines that nlshow prints for it."""
     for name in sorted(os.listdir(os.path.join(TOP, "runs", folder))):
         with open(os.path.join(TOP, "runs", folder, name), "rb") as file:
-            text = file.read()
-        head, _, body = text.partition(b"\n\n")
-        if b"arguments:" in head or re.search(rb"^[>|<=][+*]", body, re.MULTILINE):
+            body = file.read().partition(b"\n\n")[2]
+        if re.search(rb"^[><|][+*]", body, re.MULTILINE):
             continue
-        found, lines = [], None
+        found, lines = [], []
         for line in body.split(b"\n"):
-            if line[:2] == b"> ":
-                is_list = REQUEST.match(line[2:] + b" ") and not line.startswith(b"> message")
-                lines = [line[2:]] if is_list else None
-                found += [lines] if is_list else []
-            elif lines is not None and line[:1] not in (b"#", b"<", b"|", b"") and line:
+            if line.startswith(b"> "):
+                lines = [line[2:]]
+                found += [lines] if request.match(lines[0]) else []
+            elif line and line[:1] not in b"#<|":
                 lines.append(line)
         yield name, found
 
@@ -44,8 +43,8 @@ def runs(folder):
 class Lines(unittest.TestCase):
     def test_runs(self):
         count = 0
-        for folder in ("plain", "check"):
-            for name, found in runs(folder):
+        for folder, request in FOLDERS.items():
+            for name, found in runs(folder, request):
                 count += len(found)
                 expected = b"".join(line + b"\n" for lines in found for line in lines)
                 given = b"".join(lines[0] + b"\n" for lines in found)

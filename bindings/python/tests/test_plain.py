@@ -79,7 +79,6 @@ class Names(unittest.TestCase):
         for family in Family:
             self.assertIs(Family(family.text), family)
             self.assertEqual((str(family), f"{family:>3d}".strip()), (family.name.lower(), str(int(family))))
-        self.assertIs(read("bond", b"").family, Family.BOND)
         for wrong in ("BOND", "", "1", 77, None):
             with self.assertRaises(ValueError):
                 Family(wrong)

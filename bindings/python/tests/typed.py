@@ -3,7 +3,7 @@
 No test runs it.
 """
 from ipaddress import IPv4Address
-from typing import Optional, assert_type
+from typing import Any, Optional, assert_type
 
 from nlroute import *
 
@@ -22,6 +22,10 @@ assert_type(read(Family.LINK, b"")[IFLA_STATS64][LinkStats64.RX_DROPPED], int)
 assert_type(read(Family.LINK, b"")[IFLA_LINKINFO][IFLA_INFO_DATA], bytes)
 assert_type(from_info_kind("bond"), Optional[Family])
 assert_type(BondMode("802.3ad"), BondMode)
+assert_type(Family("bond"), Family)
+assert_type(Family.BOND.text, str)
+assert_type(bond.items(), list[Attribute])
+assert_type(bond.to_dict(), dict[str, Any])
 
 bond[IFLA_BOND_MIIMON] = 100
 bond[IFLA_BOND_MIIMON] = "100"  # type: ignore[misc]

@@ -1,827 +1,828 @@
+//! The attributes of each set, and the elements of each list, as enums. Written by bindings/generate.py.
 use crate::macros::attributes;
 use crate::*;
 use std::net::{Ipv4Addr, Ipv6Addr};
 
 attributes! {
-    /// X
+    /// Holds an attribute of [`AfSpecBridge`], as a variant for its type.
     AfSpecBridgeAttribute of AfSpecBridge;
-    /// x
+    /// Holds [`IFLA_BRIDGE_FLAGS`].
     Flags(BridgeFlags) = 0;
-    /// x
+    /// Holds [`IFLA_BRIDGE_MODE`].
     Mode(BridgeMode) = 1;
-    /// x
+    /// Holds [`IFLA_BRIDGE_VLAN_INFO`].
     VlanInfo(VlanInfo) = 2;
-    /// x
+    /// Holds [`IFLA_BRIDGE_VLAN_TUNNEL_INFO`].
     VlanTunnelInfo(Nested<BridgeVlanTunnelInfo>) = 3;
 }
 
 attributes! {
-    /// X
+    /// Holds an element of [`IFLA_BRIDGE_VLAN_TUNNEL_INFO`], as a variant for its type.
     BridgeVlanTunnelInfoAttribute of BridgeVlanTunnelInfo;
-    /// x
+    /// Holds [`IFLA_BRIDGE_VLAN_TUNNEL_ID`].
     Id(u32) = 1;
-    /// x
+    /// Holds [`IFLA_BRIDGE_VLAN_TUNNEL_VID`].
     Vid(u16) = 2;
-    /// x
+    /// Holds [`IFLA_BRIDGE_VLAN_TUNNEL_FLAGS`].
     Flags(BridgeVlanFlags) = 3;
 }
 
 attributes! {
-    /// X
+    /// Holds an attribute of [`Bond`], as a variant for its type.
     BondAttribute of Bond;
-    /// x
+    /// Holds [`IFLA_BOND_MODE`].
     Mode(BondMode) = 1;
-    /// x
+    /// Holds [`IFLA_BOND_ACTIVE_SLAVE`].
     ActivePort(u32) = 2;
-    /// x
+    /// Holds [`IFLA_BOND_MIIMON`].
     MiiMon(u32) = 3;
-    /// x
+    /// Holds [`IFLA_BOND_UPDELAY`].
     UpDelay(u32) = 4;
-    /// x
+    /// Holds [`IFLA_BOND_DOWNDELAY`].
     DownDelay(u32) = 5;
-    /// x
+    /// Holds [`IFLA_BOND_USE_CARRIER`].
     UseCarrier(bool) = 6;
-    /// x
+    /// Holds [`IFLA_BOND_ARP_INTERVAL`].
     ArpInterval(u32) = 7;
-    /// x
+    /// Holds [`IFLA_BOND_ARP_IP_TARGET`].
     ArpIpTarget(Vec<Ipv4Addr>) = 8;
-    /// x
+    /// Holds [`IFLA_BOND_ARP_VALIDATE`].
     ArpValidate(BondArpValidate) = 9;
-    /// x
+    /// Holds [`IFLA_BOND_ARP_ALL_TARGETS`].
     ArpAllTargets(BondArpAllTargets) = 10;
-    /// x
+    /// Holds [`IFLA_BOND_PRIMARY`].
     Primary(u32) = 11;
-    /// x
+    /// Holds [`IFLA_BOND_PRIMARY_RESELECT`].
     PrimaryReselect(BondPrimaryReselect) = 12;
-    /// x
+    /// Holds [`IFLA_BOND_FAIL_OVER_MAC`].
     FailOverMac(BondFailOverMac) = 13;
-    /// x
+    /// Holds [`IFLA_BOND_XMIT_HASH_POLICY`].
     XmitHashPolicy(BondXmitHashPolicy) = 14;
-    /// x
+    /// Holds [`IFLA_BOND_RESEND_IGMP`].
     ResendIgmp(u32) = 15;
-    /// x
+    /// Holds [`IFLA_BOND_NUM_PEER_NOTIF`].
     NumPeerNotif(u8) = 16;
-    /// x
+    /// Holds [`IFLA_BOND_ALL_SLAVES_ACTIVE`].
     AllPortsActive(BondAllPortsActive) = 17;
-    /// x
+    /// Holds [`IFLA_BOND_MIN_LINKS`].
     MinLinks(u32) = 18;
-    /// x
+    /// Holds [`IFLA_BOND_LP_INTERVAL`].
     LpInterval(u32) = 19;
-    /// x
+    /// Holds [`IFLA_BOND_PACKETS_PER_SLAVE`].
     PacketsPerPort(u32) = 20;
-    /// x
+    /// Holds [`IFLA_BOND_AD_LACP_RATE`].
     AdLacpRate(BondAdLacpRate) = 21;
-    /// x
+    /// Holds [`IFLA_BOND_AD_SELECT`].
     AdSelect(BondAdSelect) = 22;
-    /// x
+    /// Holds [`IFLA_BOND_AD_INFO`].
     AdInfo(Nested<BondAdInfo>) = 23;
-    /// x
+    /// Holds [`IFLA_BOND_AD_ACTOR_SYS_PRIO`].
     AdActorSysPrio(u16) = 24;
-    /// x
+    /// Holds [`IFLA_BOND_AD_USER_PORT_KEY`].
     AdUserPortKey(u16) = 25;
-    /// x
+    /// Holds [`IFLA_BOND_AD_ACTOR_SYSTEM`].
     AdActorSystem(Mac) = 26;
-    /// x
+    /// Holds [`IFLA_BOND_TLB_DYNAMIC_LB`].
     TlbDynamicLb(bool) = 27;
-    /// x
+    /// Holds [`IFLA_BOND_PEER_NOTIF_DELAY`].
     PeerNotifDelay(u32) = 28;
-    /// x
+    /// Holds [`IFLA_BOND_AD_LACP_ACTIVE`].
     AdLacpActive(bool) = 29;
-    /// x
+    /// Holds [`IFLA_BOND_MISSED_MAX`].
     MissedMax(u8) = 30;
-    /// x
+    /// Holds [`IFLA_BOND_NS_IP6_TARGET`].
     NsIp6Target(Vec<Ipv6Addr>) = 31;
-    /// x
+    /// Holds [`IFLA_BOND_COUPLED_CONTROL`].
     CoupledControl(bool) = 32;
-    /// x
+    /// Holds [`IFLA_BOND_BROADCAST_NEIGH`].
     BroadcastNeigh(bool) = 33;
-    /// x
+    /// Holds [`IFLA_BOND_LACP_STRICT`].
     LacpStrict(bool) = 34;
 }
 
 attributes! {
-    /// X
+    /// Holds an element of [`IFLA_BOND_AD_INFO`], as a variant for its type.
     BondAdInfoAttribute of BondAdInfo;
-    /// x
+    /// Holds [`IFLA_BOND_AD_INFO_AGGREGATOR`].
     Aggregator(u16) = 1;
-    /// x
+    /// Holds [`IFLA_BOND_AD_INFO_NUM_PORTS`].
     NumPorts(u16) = 2;
-    /// x
+    /// Holds [`IFLA_BOND_AD_INFO_ACTOR_KEY`].
     ActorKey(u16) = 3;
-    /// x
+    /// Holds [`IFLA_BOND_AD_INFO_PARTNER_KEY`].
     PartnerKey(u16) = 4;
-    /// x
+    /// Holds [`IFLA_BOND_AD_INFO_PARTNER_MAC`].
     PartnerMac(Mac) = 5;
 }
 
 attributes! {
-    /// X
+    /// Holds an attribute of [`BondPort`], as a variant for its type.
     BondPortAttribute of BondPort;
-    /// x
+    /// Holds [`IFLA_BOND_SLAVE_STATE`].
     BondPortState(BondPortState) = 1;
-    /// x
+    /// Holds [`IFLA_BOND_SLAVE_MII_STATUS`].
     MiiStatus(MiiStatus) = 2;
-    /// x
+    /// Holds [`IFLA_BOND_SLAVE_LINK_FAILURE_COUNT`].
     LinkFailureCount(u32) = 3;
-    /// x
+    /// Holds [`IFLA_BOND_SLAVE_PERM_HWADDR`].
     PermHwaddr(Vec<u8>) = 4;
-    /// x
+    /// Holds [`IFLA_BOND_SLAVE_QUEUE_ID`].
     QueueId(u16) = 5;
-    /// x
+    /// Holds [`IFLA_BOND_SLAVE_AD_AGGREGATOR_ID`].
     AdAggregatorId(u16) = 6;
-    /// x
+    /// Holds [`IFLA_BOND_SLAVE_AD_ACTOR_OPER_PORT_STATE`].
     AdActorOperPortState(LacpState) = 7;
-    /// x
+    /// Holds [`IFLA_BOND_SLAVE_AD_PARTNER_OPER_PORT_STATE`].
     AdPartnerOperPortState(LacpState) = 8;
-    /// x
+    /// Holds [`IFLA_BOND_SLAVE_PRIO`].
     Prio(i32) = 9;
-    /// x
+    /// Holds [`IFLA_BOND_SLAVE_ACTOR_PORT_PRIO`].
     ActorPortPrio(u16) = 10;
-    /// x
+    /// Holds [`IFLA_BOND_SLAVE_AD_CHURN_ACTOR_STATE`].
     AdChurnActorState(ChurnState) = 11;
-    /// x
+    /// Holds [`IFLA_BOND_SLAVE_AD_CHURN_PARTNER_STATE`].
     AdChurnPartnerState(ChurnState) = 12;
 }
 
 attributes! {
-    /// X
+    /// Holds an attribute of [`Bridge`], as a variant for its type.
     BridgeAttribute of Bridge;
-    /// x
+    /// Holds [`IFLA_BR_FORWARD_DELAY`].
     ForwardDelay(u32) = 1;
-    /// x
+    /// Holds [`IFLA_BR_HELLO_TIME`].
     HelloTime(u32) = 2;
-    /// x
+    /// Holds [`IFLA_BR_MAX_AGE`].
     MaxAge(u32) = 3;
-    /// x
+    /// Holds [`IFLA_BR_AGEING_TIME`].
     AgeingTime(u32) = 4;
-    /// x
+    /// Holds [`IFLA_BR_STP_STATE`].
     StpState(BridgeStpState) = 5;
-    /// x
+    /// Holds [`IFLA_BR_PRIORITY`].
     Priority(u16) = 6;
-    /// x
+    /// Holds [`IFLA_BR_VLAN_FILTERING`].
     VlanFiltering(bool) = 7;
-    /// x
+    /// Holds [`IFLA_BR_VLAN_PROTOCOL`].
     VlanProtocol(VlanProtocol) = 8;
-    /// x
+    /// Holds [`IFLA_BR_GROUP_FWD_MASK`].
     GroupFwdMask(u16) = 9;
-    /// x
+    /// Holds [`IFLA_BR_ROOT_ID`].
     RootId(BridgeId) = 10;
-    /// x
+    /// Holds [`IFLA_BR_BRIDGE_ID`].
     BridgeId(BridgeId) = 11;
-    /// x
+    /// Holds [`IFLA_BR_ROOT_PORT`].
     RootPort(u16) = 12;
-    /// x
+    /// Holds [`IFLA_BR_ROOT_PATH_COST`].
     RootPathCost(u32) = 13;
-    /// x
+    /// Holds [`IFLA_BR_TOPOLOGY_CHANGE`].
     TopologyChange(u8) = 14;
-    /// x
+    /// Holds [`IFLA_BR_TOPOLOGY_CHANGE_DETECTED`].
     TopologyChangeDetected(u8) = 15;
-    /// x
+    /// Holds [`IFLA_BR_HELLO_TIMER`].
     HelloTimer(u64) = 16;
-    /// x
+    /// Holds [`IFLA_BR_TCN_TIMER`].
     TcnTimer(u64) = 17;
-    /// x
+    /// Holds [`IFLA_BR_TOPOLOGY_CHANGE_TIMER`].
     TopologyChangeTimer(u64) = 18;
-    /// x
+    /// Holds [`IFLA_BR_GC_TIMER`].
     GcTimer(u64) = 19;
-    /// x
+    /// Holds [`IFLA_BR_GROUP_ADDR`].
     GroupAddr(Mac) = 20;
-    /// x
+    /// Represents [`IFLA_BR_FDB_FLUSH`].
     FdbFlush = 21;
-    /// x
+    /// Holds [`IFLA_BR_MCAST_ROUTER`].
     MulticastRouter(McastRouter) = 22;
-    /// x
+    /// Holds [`IFLA_BR_MCAST_SNOOPING`].
     MulticastSnooping(bool) = 23;
-    /// x
+    /// Holds [`IFLA_BR_MCAST_QUERY_USE_IFADDR`].
     MulticastQueryUseIfaddr(bool) = 24;
-    /// x
+    /// Holds [`IFLA_BR_MCAST_QUERIER`].
     MulticastQuerier(bool) = 25;
-    /// x
+    /// Holds [`IFLA_BR_MCAST_HASH_ELASTICITY`].
     MulticastHashElasticity(u32) = 26;
-    /// x
+    /// Holds [`IFLA_BR_MCAST_HASH_MAX`].
     MulticastHashMax(u32) = 27;
-    /// x
+    /// Holds [`IFLA_BR_MCAST_LAST_MEMBER_CNT`].
     MulticastLastMemberCount(u32) = 28;
-    /// x
+    /// Holds [`IFLA_BR_MCAST_STARTUP_QUERY_CNT`].
     MulticastStartupQueryCount(u32) = 29;
-    /// x
+    /// Holds [`IFLA_BR_MCAST_LAST_MEMBER_INTVL`].
     MulticastLastMemberInterval(u64) = 30;
-    /// x
+    /// Holds [`IFLA_BR_MCAST_MEMBERSHIP_INTVL`].
     MulticastMembershipInterval(u64) = 31;
-    /// x
+    /// Holds [`IFLA_BR_MCAST_QUERIER_INTVL`].
     MulticastQuerierInterval(u64) = 32;
-    /// x
+    /// Holds [`IFLA_BR_MCAST_QUERY_INTVL`].
     MulticastQueryInterval(u64) = 33;
-    /// x
+    /// Holds [`IFLA_BR_MCAST_QUERY_RESPONSE_INTVL`].
     MulticastQueryResponseInterval(u64) = 34;
-    /// x
+    /// Holds [`IFLA_BR_MCAST_STARTUP_QUERY_INTVL`].
     MulticastStartupQueryInterval(u64) = 35;
-    /// x
+    /// Holds [`IFLA_BR_NF_CALL_IPTABLES`].
     NfCallIpTables(bool) = 36;
-    /// x
+    /// Holds [`IFLA_BR_NF_CALL_IP6TABLES`].
     NfCallIp6Tables(bool) = 37;
-    /// x
+    /// Holds [`IFLA_BR_NF_CALL_ARPTABLES`].
     NfCallArpTables(bool) = 38;
-    /// x
+    /// Holds [`IFLA_BR_VLAN_DEFAULT_PVID`].
     VlanDefaultPvid(u16) = 39;
-    /// x
+    /// Holds [`IFLA_BR_VLAN_STATS_ENABLED`].
     VlanStatsEnabled(bool) = 41;
-    /// x
+    /// Holds [`IFLA_BR_MCAST_STATS_ENABLED`].
     MulticastStatsEnabled(bool) = 42;
-    /// x
+    /// Holds [`IFLA_BR_MCAST_IGMP_VERSION`].
     MulticastIgmpVersion(u8) = 43;
-    /// x
+    /// Holds [`IFLA_BR_MCAST_MLD_VERSION`].
     MulticastMldVersion(u8) = 44;
-    /// x
+    /// Holds [`IFLA_BR_VLAN_STATS_PER_PORT`].
     VlanStatsPerPort(bool) = 45;
-    /// x
+    /// Holds [`IFLA_BR_MULTI_BOOLOPT`].
     MultiBoolOpt(Masked<BridgeBoolOpt>) = 46;
-    /// x
+    /// Holds [`IFLA_BR_MCAST_QUERIER_STATE`].
     MulticastQuerierState(Nested<BrMcastQuerierState>) = 47;
-    /// x
+    /// Holds [`IFLA_BR_FDB_N_LEARNED`].
     FdbNLearned(u32) = 48;
-    /// x
+    /// Holds [`IFLA_BR_FDB_MAX_LEARNED`].
     FdbMaxLearned(u32) = 49;
-    /// x
+    /// Holds [`IFLA_BR_STP_MODE`].
     StpMode(BridgeStpMode) = 50;
 }
 
 attributes! {
-    /// X
+    /// Holds an element of [`IFLA_BR_MCAST_QUERIER_STATE`], as a variant for its type.
     BrMcastQuerierStateAttribute of BrMcastQuerierState;
-    /// x
+    /// Holds [`BRIDGE_QUERIER_IP_ADDRESS`].
     Ipv4Address(Ipv4Addr) = 1;
-    /// x
+    /// Holds [`BRIDGE_QUERIER_IP_PORT`].
     Ipv4Port(u32) = 2;
-    /// x
+    /// Holds [`BRIDGE_QUERIER_IP_OTHER_TIMER`].
     Ipv4OtherTimer(u64) = 3;
-    /// x
+    /// Holds [`BRIDGE_QUERIER_IPV6_ADDRESS`].
     Ipv6Address(Ipv6Addr) = 5;
-    /// x
+    /// Holds [`BRIDGE_QUERIER_IPV6_PORT`].
     Ipv6Port(u32) = 6;
-    /// x
+    /// Holds [`BRIDGE_QUERIER_IPV6_OTHER_TIMER`].
     Ipv6OtherTimer(u64) = 7;
 }
 
 attributes! {
-    /// X
+    /// Holds an attribute of [`BridgePort`], as a variant for its type.
     BridgePortAttribute of BridgePort;
-    /// x
+    /// Holds [`IFLA_BRPORT_STATE`].
     State(BridgePortState) = 1;
-    /// x
+    /// Holds [`IFLA_BRPORT_PRIORITY`].
     Priority(u16) = 2;
-    /// x
+    /// Holds [`IFLA_BRPORT_COST`].
     Cost(u32) = 3;
-    /// x
+    /// Holds [`IFLA_BRPORT_MODE`].
     HairpinMode(bool) = 4;
-    /// x
+    /// Holds [`IFLA_BRPORT_GUARD`].
     Guard(bool) = 5;
-    /// x
+    /// Holds [`IFLA_BRPORT_PROTECT`].
     Protect(bool) = 6;
-    /// x
+    /// Holds [`IFLA_BRPORT_FAST_LEAVE`].
     FastLeave(bool) = 7;
-    /// x
+    /// Holds [`IFLA_BRPORT_LEARNING`].
     Learning(bool) = 8;
-    /// x
+    /// Holds [`IFLA_BRPORT_UNICAST_FLOOD`].
     UnicastFlood(bool) = 9;
-    /// x
+    /// Holds [`IFLA_BRPORT_PROXYARP`].
     ProxyARP(bool) = 10;
-    /// x
+    /// Holds [`IFLA_BRPORT_LEARNING_SYNC`].
     LearningSync(bool) = 11;
-    /// x
+    /// Holds [`IFLA_BRPORT_PROXYARP_WIFI`].
     ProxyARPWifi(bool) = 12;
-    /// x
+    /// Holds [`IFLA_BRPORT_ROOT_ID`].
     RootId(BridgeId) = 13;
-    /// x
+    /// Holds [`IFLA_BRPORT_BRIDGE_ID`].
     BridgeId(BridgeId) = 14;
-    /// x
+    /// Holds [`IFLA_BRPORT_DESIGNATED_PORT`].
     DesignatedPort(u16) = 15;
-    /// x
+    /// Holds [`IFLA_BRPORT_DESIGNATED_COST`].
     DesignatedCost(u16) = 16;
-    /// x
+    /// Holds [`IFLA_BRPORT_ID`].
     PortId(u16) = 17;
-    /// x
+    /// Holds [`IFLA_BRPORT_NO`].
     PortNumber(u16) = 18;
-    /// x
+    /// Holds [`IFLA_BRPORT_TOPOLOGY_CHANGE_ACK`].
     TopologyChangeAck(bool) = 19;
-    /// x
+    /// Holds [`IFLA_BRPORT_CONFIG_PENDING`].
     ConfigPending(bool) = 20;
-    /// x
+    /// Holds [`IFLA_BRPORT_MESSAGE_AGE_TIMER`].
     MessageAgeTimer(u64) = 21;
-    /// x
+    /// Holds [`IFLA_BRPORT_FORWARD_DELAY_TIMER`].
     ForwardDelayTimer(u64) = 22;
-    /// x
+    /// Holds [`IFLA_BRPORT_HOLD_TIMER`].
     HoldTimer(u64) = 23;
-    /// x
+    /// Represents [`IFLA_BRPORT_FLUSH`].
     Flush = 24;
-    /// x
+    /// Holds [`IFLA_BRPORT_MULTICAST_ROUTER`].
     MulticastRouter(McastRouter) = 25;
-    /// x
+    /// Holds [`IFLA_BRPORT_MCAST_FLOOD`].
     MulticastFlood(bool) = 27;
-    /// x
+    /// Holds [`IFLA_BRPORT_MCAST_TO_UCAST`].
     MulticastToUnicast(bool) = 28;
-    /// x
+    /// Holds [`IFLA_BRPORT_VLAN_TUNNEL`].
     VlanTunnel(bool) = 29;
-    /// x
+    /// Holds [`IFLA_BRPORT_BCAST_FLOOD`].
     BroadcastFlood(bool) = 30;
-    /// x
+    /// Holds [`IFLA_BRPORT_GROUP_FWD_MASK`].
     GroupFwdMask(u16) = 31;
-    /// x
+    /// Holds [`IFLA_BRPORT_NEIGH_SUPPRESS`].
     NeighSupress(bool) = 32;
-    /// x
+    /// Holds [`IFLA_BRPORT_ISOLATED`].
     Isolated(bool) = 33;
-    /// x
+    /// Holds [`IFLA_BRPORT_BACKUP_PORT`].
     BackupPort(u32) = 34;
-    /// x
+    /// Holds [`IFLA_BRPORT_MRP_RING_OPEN`].
     MrpRingOpen(bool) = 35;
-    /// x
+    /// Holds [`IFLA_BRPORT_MRP_IN_OPEN`].
     MrpInOpen(bool) = 36;
-    /// x
+    /// Holds [`IFLA_BRPORT_MCAST_EHT_HOSTS_LIMIT`].
     MulticastEhtHostsLimit(u32) = 37;
-    /// x
+    /// Holds [`IFLA_BRPORT_MCAST_EHT_HOSTS_CNT`].
     MulticastEhtHostsCnt(u32) = 38;
-    /// x
+    /// Holds [`IFLA_BRPORT_LOCKED`].
     Locked(bool) = 39;
-    /// x
+    /// Holds [`IFLA_BRPORT_MAB`].
     Mab(bool) = 40;
-    /// x
+    /// Holds [`IFLA_BRPORT_MCAST_N_GROUPS`].
     MulticastNGroups(u32) = 41;
-    /// x
+    /// Holds [`IFLA_BRPORT_MCAST_MAX_GROUPS`].
     MulticastMaxGroups(u32) = 42;
-    /// x
+    /// Holds [`IFLA_BRPORT_NEIGH_VLAN_SUPPRESS`].
     NeighVlanSuppress(bool) = 43;
-    /// x
+    /// Holds [`IFLA_BRPORT_BACKUP_NHID`].
     BackupNextHopId(u32) = 44;
-    /// x
+    /// Holds [`IFLA_BRPORT_NEIGH_FORWARD_GRAT`].
     NeighForwardGrat(bool) = 45;
 }
 
 attributes! {
-    /// X
+    /// Holds an attribute of [`Vlan`], as a variant for its type.
     VlanAttribute of Vlan;
-    /// x
+    /// Holds [`IFLA_VLAN_ID`].
     Id(u16) = 1;
-    /// x
+    /// Holds [`IFLA_VLAN_FLAGS`].
     Flags(Masked<VlanFlags>) = 2;
-    /// x
+    /// Holds [`IFLA_VLAN_EGRESS_QOS`].
     EgressQos(Vec<QosMapping>) = 3;
-    /// x
+    /// Holds [`IFLA_VLAN_INGRESS_QOS`].
     IngressQos(Vec<QosMapping>) = 4;
-    /// x
+    /// Holds [`IFLA_VLAN_PROTOCOL`].
     Protocol(VlanProtocol) = 5;
 }
 
 attributes! {
-    /// X
+    /// Holds an attribute of [`Can`], as a variant for its type.
     CanAttribute of Can;
-    /// x
+    /// Holds [`IFLA_CAN_BITTIMING`].
     BitTiming(CanBitTiming) = 1;
-    /// x
+    /// Holds [`IFLA_CAN_BITTIMING_CONST`].
     BitTimingConst(CanBitTimingConst) = 2;
-    /// x
+    /// Holds [`IFLA_CAN_CLOCK`].
     Clock(u32) = 3;
-    /// x
+    /// Holds [`IFLA_CAN_STATE`].
     State(CanState) = 4;
-    /// x
+    /// Holds [`IFLA_CAN_CTRLMODE`].
     CtrlMode(Masked<CanCtrlMode>) = 5;
-    /// x
+    /// Holds [`IFLA_CAN_RESTART_MS`].
     RestartMs(u32) = 6;
-    /// x
+    /// Holds [`IFLA_CAN_RESTART`].
     Restart(u32) = 7;
-    /// x
+    /// Holds [`IFLA_CAN_BERR_COUNTER`].
     BerrCounter(BerrCounter) = 8;
-    /// x
+    /// Holds [`IFLA_CAN_DATA_BITTIMING`].
     DataBitTiming(CanBitTiming) = 9;
-    /// x
+    /// Holds [`IFLA_CAN_DATA_BITTIMING_CONST`].
     DataBitTimingConst(CanBitTimingConst) = 10;
-    /// x
+    /// Holds [`IFLA_CAN_TERMINATION`].
     Termination(u16) = 11;
-    /// x
+    /// Holds [`IFLA_CAN_TERMINATION_CONST`].
     TerminationConst(Vec<u16>) = 12;
-    /// x
+    /// Holds [`IFLA_CAN_BITRATE_CONST`].
     BitrateConst(Vec<u32>) = 13;
-    /// x
+    /// Holds [`IFLA_CAN_DATA_BITRATE_CONST`].
     DataBitrateConst(Vec<u32>) = 14;
-    /// x
+    /// Holds [`IFLA_CAN_BITRATE_MAX`].
     BitrateMax(u32) = 15;
-    /// x
+    /// Holds [`IFLA_CAN_TDC`].
     Tdc(Nested<CanTdc>) = 16;
-    /// x
+    /// Holds [`IFLA_CAN_CTRLMODE_EXT`].
     CtrlModeExt(Nested<CanCtrlmodeExt>) = 17;
 }
 
 attributes! {
-    /// X
+    /// Holds an element of [`IFLA_CAN_TDC`], as a variant for its type.
     CanTdcAttribute of CanTdc;
-    /// x
+    /// Holds [`IFLA_CAN_TDC_TDCV_MIN`].
     TdcvMin(u32) = 1;
-    /// x
+    /// Holds [`IFLA_CAN_TDC_TDCV_MAX`].
     TdcvMax(u32) = 2;
-    /// x
+    /// Holds [`IFLA_CAN_TDC_TDCO_MIN`].
     TdcoMin(u32) = 3;
-    /// x
+    /// Holds [`IFLA_CAN_TDC_TDCO_MAX`].
     TdcoMax(u32) = 4;
-    /// x
+    /// Holds [`IFLA_CAN_TDC_TDCF_MIN`].
     TdcfMin(u32) = 5;
-    /// x
+    /// Holds [`IFLA_CAN_TDC_TDCF_MAX`].
     TdcfMax(u32) = 6;
-    /// x
+    /// Holds [`IFLA_CAN_TDC_TDCV`].
     Tdcv(u32) = 7;
-    /// x
+    /// Holds [`IFLA_CAN_TDC_TDCO`].
     Tdco(u32) = 8;
-    /// x
+    /// Holds [`IFLA_CAN_TDC_TDCF`].
     Tdcf(u32) = 9;
 }
 
 attributes! {
-    /// X
+    /// Holds an element of [`IFLA_CAN_CTRLMODE_EXT`], as a variant for its type.
     CanCtrlmodeExtAttribute of CanCtrlmodeExt;
-    /// x
+    /// Holds [`IFLA_CAN_CTRLMODE_SUPPORTED`].
     Supported(CanCtrlMode) = 1;
 }
 
 attributes! {
-    /// X
+    /// Holds an attribute of [`Dsa`], as a variant for its type.
     DsaAttribute of Dsa;
-    /// x
+    /// Holds [`IFLA_DSA_CONDUIT`].
     Conduit(u32) = 1;
 }
 
 attributes! {
-    /// X
+    /// Holds an attribute of [`Hsr`], as a variant for its type.
     HsrAttribute of Hsr;
-    /// x
+    /// Holds [`IFLA_HSR_SLAVE1`].
     Port1(u32) = 1;
-    /// x
+    /// Holds [`IFLA_HSR_SLAVE2`].
     Port2(u32) = 2;
-    /// x
+    /// Holds [`IFLA_HSR_MULTICAST_SPEC`].
     MulticastSpec(u8) = 3;
-    /// x
+    /// Holds [`IFLA_HSR_SUPERVISION_ADDR`].
     SupervisionAddr(Mac) = 4;
-    /// x
+    /// Holds [`IFLA_HSR_SEQ_NR`].
     SeqNr(u16) = 5;
-    /// x
+    /// Holds [`IFLA_HSR_VERSION`].
     Version(u8) = 6;
-    /// x
+    /// Holds [`IFLA_HSR_PROTOCOL`].
     Protocol(HsrProtocol) = 7;
-    /// x
+    /// Holds [`IFLA_HSR_INTERLINK`].
     Interlink(u32) = 8;
 }
 
 attributes! {
-    /// X
+    /// Holds an attribute of [`ProtoBridge`], as a variant for its type.
     ProtoBridgeAttribute of ProtoBridge;
-    /// x
+    /// Holds [`IFLA_BRPORT_NEIGH_FORWARD_GRAT`](proto_bridge::IFLA_BRPORT_NEIGH_FORWARD_GRAT).
     NeighForwardGrat(bool) = 45;
 }
 
 attributes! {
-    /// X
+    /// Holds an attribute of [`Vxlan`], as a variant for its type.
     VxlanAttribute of Vxlan;
-    /// x
+    /// Holds [`IFLA_VXLAN_ID`].
     Id(u32) = 1;
-    /// x
+    /// Holds [`IFLA_VXLAN_GROUP`].
     Group(Ipv4Addr) = 2;
-    /// x
+    /// Holds [`IFLA_VXLAN_LINK`].
     Link(u32) = 3;
-    /// x
+    /// Holds [`IFLA_VXLAN_LOCAL`].
     Local(Ipv4Addr) = 4;
-    /// x
+    /// Holds [`IFLA_VXLAN_TTL`].
     Ttl(u8) = 5;
-    /// x
+    /// Holds [`IFLA_VXLAN_TOS`].
     Tos(u8) = 6;
-    /// x
+    /// Holds [`IFLA_VXLAN_LEARNING`].
     Learning(bool) = 7;
-    /// x
+    /// Holds [`IFLA_VXLAN_AGEING`].
     Ageing(u32) = 8;
-    /// x
+    /// Holds [`IFLA_VXLAN_LIMIT`].
     Limit(u32) = 9;
-    /// x
+    /// Holds [`IFLA_VXLAN_PORT_RANGE`].
     PortRange(Vec<u8>) = 10;
-    /// x
+    /// Holds [`IFLA_VXLAN_PROXY`].
     Proxy(bool) = 11;
-    /// x
+    /// Holds [`IFLA_VXLAN_RSC`].
     Rsc(bool) = 12;
-    /// x
+    /// Holds [`IFLA_VXLAN_L2MISS`].
     L2Miss(bool) = 13;
-    /// x
+    /// Holds [`IFLA_VXLAN_L3MISS`].
     L3Miss(bool) = 14;
-    /// x
+    /// Holds [`IFLA_VXLAN_PORT`].
     Port(u16) = 15;
-    /// x
+    /// Holds [`IFLA_VXLAN_GROUP6`].
     Group6(Ipv6Addr) = 16;
-    /// x
+    /// Holds [`IFLA_VXLAN_LOCAL6`].
     Local6(Ipv6Addr) = 17;
-    /// x
+    /// Holds [`IFLA_VXLAN_UDP_CSUM`].
     UdpCsum(bool) = 18;
-    /// x
+    /// Holds [`IFLA_VXLAN_UDP_ZERO_CSUM6_TX`].
     UdpZeroCsum6Tx(bool) = 19;
-    /// x
+    /// Holds [`IFLA_VXLAN_UDP_ZERO_CSUM6_RX`].
     UdpZeroCsum6Rx(bool) = 20;
-    /// x
+    /// Holds [`IFLA_VXLAN_REMCSUM_TX`].
     RemCsumTx(bool) = 21;
-    /// x
+    /// Holds [`IFLA_VXLAN_REMCSUM_RX`].
     RemCsumRx(bool) = 22;
-    /// x
+    /// Represents [`IFLA_VXLAN_GBP`].
     Gbp = 23;
-    /// x
+    /// Represents [`IFLA_VXLAN_REMCSUM_NOPARTIAL`].
     RemCsumNoPartial = 24;
-    /// x
+    /// Holds [`IFLA_VXLAN_COLLECT_METADATA`].
     CollectMetadata(bool) = 25;
-    /// x
+    /// Holds [`IFLA_VXLAN_LABEL`].
     Label(u32) = 26;
-    /// x
+    /// Represents [`IFLA_VXLAN_GPE`].
     Gpe = 27;
-    /// x
+    /// Holds [`IFLA_VXLAN_TTL_INHERIT`].
     TtlInherit(bool) = 28;
-    /// x
+    /// Holds [`IFLA_VXLAN_DF`].
     Df(VxlanDf) = 29;
-    /// x
+    /// Holds [`IFLA_VXLAN_VNIFILTER`].
     VniFilter(bool) = 30;
-    /// x
+    /// Holds [`IFLA_VXLAN_LOCALBYPASS`].
     LocalBypass(bool) = 31;
-    /// x
+    /// Holds [`IFLA_VXLAN_LABEL_POLICY`].
     LabelPolicy(VxlanLabelPolicy) = 32;
-    /// x
+    /// Holds [`IFLA_VXLAN_RESERVED_BITS`].
     ReservedBits(Vec<u8>) = 33;
-    /// x
+    /// Holds [`IFLA_VXLAN_MC_ROUTE`].
     McRoute(bool) = 34;
 }
 
 attributes! {
-    /// X
+    /// Holds an attribute of [`Link`], as a variant for its type.
     LinkAttribute of Link;
-    /// x
+    /// Holds [`IFLA_ADDRESS`].
     Address(Vec<u8>) = 1;
-    /// x
+    /// Holds [`IFLA_BROADCAST`].
     Broadcast(Vec<u8>) = 2;
-    /// x
+    /// Holds [`IFLA_IFNAME`].
     IfName(Text) = 3;
-    /// x
+    /// Holds [`IFLA_MTU`].
     Mtu(u32) = 4;
-    /// x
+    /// Holds [`IFLA_LINK`].
     Link(u32) = 5;
-    /// x
+    /// Holds [`IFLA_QDISC`].
     Qdisc(Text) = 6;
-    /// x
+    /// Holds [`IFLA_STATS`].
     Stats(Vec<u32>) = 7;
-    /// x
+    /// Holds [`IFLA_COST`].
     Cost(Vec<u8>) = 8;
-    /// x
+    /// Holds [`IFLA_PRIORITY`].
     Priority(Vec<u8>) = 9;
-    /// x
+    /// Holds [`IFLA_MASTER`].
     Controller(u32) = 10;
-    /// x
+    /// Holds [`IFLA_WIRELESS`].
     Wireless(Vec<u8>) = 11;
-    /// x
+    /// Holds [`IFLA_TXQLEN`].
     TxQueueLen(u32) = 13;
-    /// x
+    /// Holds [`IFLA_MAP`].
     Map(Vec<u8>) = 14;
-    /// x
+    /// Holds [`IFLA_WEIGHT`].
     Weight(u32) = 15;
-    /// x
+    /// Holds [`IFLA_OPERSTATE`].
     OperState(OperState) = 16;
-    /// x
+    /// Holds [`IFLA_LINKMODE`].
     LinkMode(LinkMode) = 17;
-    /// x
+    /// Holds [`IFLA_LINKINFO`].
     LinkInfo(Nested<LinkInfo>) = 18;
-    /// x
+    /// Holds [`IFLA_NET_NS_PID`].
     NetNsPid(u32) = 19;
-    /// x
+    /// Holds [`IFLA_IFALIAS`].
     IfAlias(Text) = 20;
-    /// x
+    /// Holds [`IFLA_NUM_VF`].
     NumVf(u32) = 21;
-    /// x
+    /// Holds [`IFLA_VFINFO_LIST`].
     VfInfoList(Held) = 22;
-    /// x
+    /// Holds [`IFLA_STATS64`].
     Stats64(Vec<u64>) = 23;
-    /// x
+    /// Holds [`IFLA_VF_PORTS`].
     VfPorts(Held) = 24;
-    /// x
+    /// Holds [`IFLA_PORT_SELF`].
     PortSelf(Held) = 25;
-    /// x
+    /// Holds [`IFLA_AF_SPEC`].
     AfSpec(Held) = 26;
-    /// x
+    /// Holds [`IFLA_GROUP`].
     Group(u32) = 27;
-    /// x
+    /// Holds [`IFLA_NET_NS_FD`].
     NetNsFd(u32) = 28;
-    /// x
+    /// Holds [`IFLA_EXT_MASK`].
     ExtMask(ExtMask) = 29;
-    /// x
+    /// Holds [`IFLA_PROMISCUITY`].
     Promiscuity(u32) = 30;
-    /// x
+    /// Holds [`IFLA_NUM_TX_QUEUES`].
     NumTxQueues(u32) = 31;
-    /// x
+    /// Holds [`IFLA_NUM_RX_QUEUES`].
     NumRxQueues(u32) = 32;
-    /// x
+    /// Holds [`IFLA_CARRIER`].
     Carrier(bool) = 33;
-    /// x
+    /// Holds [`IFLA_PHYS_PORT_ID`].
     PhysPortId(Vec<u8>) = 34;
-    /// x
+    /// Holds [`IFLA_CARRIER_CHANGES`].
     CarrierChanges(u32) = 35;
-    /// x
+    /// Holds [`IFLA_PHYS_SWITCH_ID`].
     PhysSwitchId(Vec<u8>) = 36;
-    /// x
+    /// Holds [`IFLA_LINK_NETNSID`].
     LinkNetnsId(i32) = 37;
-    /// x
+    /// Holds [`IFLA_PHYS_PORT_NAME`].
     PhysPortName(Text) = 38;
-    /// x
+    /// Holds [`IFLA_PROTO_DOWN`].
     ProtoDown(bool) = 39;
-    /// x
+    /// Holds [`IFLA_GSO_MAX_SEGS`].
     GsoMaxSegs(u32) = 40;
-    /// x
+    /// Holds [`IFLA_GSO_MAX_SIZE`].
     GsoMaxSize(u32) = 41;
-    /// x
+    /// Represents [`IFLA_PAD`].
     Pad = 42;
-    /// x
+    /// Holds [`IFLA_XDP`].
     Xdp(Nested<Xdp>) = 43;
-    /// x
+    /// Holds [`IFLA_EVENT`].
     Event(LinkEvent) = 44;
-    /// x
+    /// Holds [`IFLA_NEW_NETNSID`].
     NewNetnsId(i32) = 45;
-    /// x
+    /// Holds [`IFLA_TARGET_NETNSID`].
     TargetNetnsId(i32) = 46;
-    /// x
+    /// Holds [`IFLA_CARRIER_UP_COUNT`].
     CarrierUpCount(u32) = 47;
-    /// x
+    /// Holds [`IFLA_CARRIER_DOWN_COUNT`].
     CarrierDownCount(u32) = 48;
-    /// x
+    /// Holds [`IFLA_NEW_IFINDEX`].
     NewIfIndex(u32) = 49;
-    /// x
+    /// Holds [`IFLA_MIN_MTU`].
     MinMtu(u32) = 50;
-    /// x
+    /// Holds [`IFLA_MAX_MTU`].
     MaxMtu(u32) = 51;
-    /// x
+    /// Holds [`IFLA_PROP_LIST`].
     PropList(Nested<PropList>) = 52;
-    /// x
+    /// Holds [`IFLA_ALT_IFNAME`].
     AltIfName(Text) = 53;
-    /// x
+    /// Holds [`IFLA_PERM_ADDRESS`].
     PermAddress(Vec<u8>) = 54;
-    /// x
+    /// Holds [`IFLA_PROTO_DOWN_REASON`].
     ProtoDownReason(Nested<ProtoDownReason>) = 55;
-    /// x
+    /// Holds [`IFLA_PARENT_DEV_NAME`].
     ParentDevName(Text) = 56;
-    /// x
+    /// Holds [`IFLA_PARENT_DEV_BUS_NAME`].
     ParentDevBusName(Text) = 57;
-    /// x
+    /// Holds [`IFLA_GRO_MAX_SIZE`].
     GroMaxSize(u32) = 58;
-    /// x
+    /// Holds [`IFLA_TSO_MAX_SIZE`].
     TsoMaxSize(u32) = 59;
-    /// x
+    /// Holds [`IFLA_TSO_MAX_SEGS`].
     TsoMaxSegs(u32) = 60;
-    /// x
+    /// Holds [`IFLA_ALLMULTI`].
     AllMulti(u32) = 61;
-    /// x
+    /// Holds [`IFLA_DEVLINK_PORT`].
     DevlinkPort(Nested<DevlinkPort>) = 62;
-    /// x
+    /// Holds [`IFLA_GSO_IPV4_MAX_SIZE`].
     GsoIpv4MaxSize(u32) = 63;
-    /// x
+    /// Holds [`IFLA_GRO_IPV4_MAX_SIZE`].
     GroIpv4MaxSize(u32) = 64;
-    /// x
+    /// Holds [`IFLA_DPLL_PIN`].
     DpllPin(Nested<DpllPin>) = 65;
-    /// x
+    /// Holds [`IFLA_MAX_PACING_OFFLOAD_HORIZON`].
     MaxPacingOffloadHorizon(Vec<u8>) = 66;
-    /// x
+    /// Holds [`IFLA_NETNS_IMMUTABLE`].
     NetnsImmutable(bool) = 67;
-    /// x
+    /// Holds [`IFLA_HEADROOM`].
     Headroom(u16) = 68;
-    /// x
+    /// Holds [`IFLA_TAILROOM`].
     Tailroom(u16) = 69;
 }
 
 attributes! {
-    /// X
+    /// Holds an element of [`IFLA_LINKINFO`], as a variant for its type.
     LinkInfoAttribute of LinkInfo;
-    /// x
+    /// Holds [`IFLA_INFO_KIND`].
     Kind(Text) = 1;
-    /// x
+    /// Holds [`IFLA_INFO_DATA`].
     Data(Held) = 2;
-    /// x
+    /// Holds [`IFLA_INFO_XSTATS`].
     Xstats(Vec<u8>) = 3;
-    /// x
+    /// Holds [`IFLA_INFO_SLAVE_KIND`].
     PortKind(Text) = 4;
-    /// x
+    /// Holds [`IFLA_INFO_SLAVE_DATA`].
     PortData(Held) = 5;
 }
 
 attributes! {
-    /// X
+    /// Holds an element of [`IFLA_XDP`], as a variant for its type.
     XdpAttribute of Xdp;
-    /// x
+    /// Holds [`IFLA_XDP_FD`].
     Fd(i32) = 1;
-    /// x
+    /// Holds [`IFLA_XDP_ATTACHED`].
     Attached(XdpAttached) = 2;
-    /// x
+    /// Holds [`IFLA_XDP_FLAGS`].
     Flags(XdpFlags) = 3;
-    /// x
+    /// Holds [`IFLA_XDP_PROG_ID`].
     ProgId(u32) = 4;
-    /// x
+    /// Holds [`IFLA_XDP_DRV_PROG_ID`].
     DrvProgId(u32) = 5;
-    /// x
+    /// Holds [`IFLA_XDP_SKB_PROG_ID`].
     SkbProgId(u32) = 6;
-    /// x
+    /// Holds [`IFLA_XDP_HW_PROG_ID`].
     HwProgId(u32) = 7;
-    /// x
+    /// Holds [`IFLA_XDP_EXPECTED_FD`].
     ExpectedFd(i32) = 8;
 }
 
 attributes! {
-    /// X
+    /// Holds an element of [`IFLA_PROP_LIST`], as a variant for its type.
     PropListAttribute of PropList;
-    /// x
+    /// Holds [`IFLA_ALT_IFNAME`](prop_list::IFLA_ALT_IFNAME).
     AltIfName(Text) = 53;
 }
 
 attributes! {
-    /// X
+    /// Holds an element of [`IFLA_PROTO_DOWN_REASON`], as a variant for its type.
     ProtoDownReasonAttribute of ProtoDownReason;
-    /// x
+    /// Holds [`IFLA_PROTO_DOWN_REASON_MASK`].
     Mask(u32) = 1;
-    /// x
+    /// Holds [`IFLA_PROTO_DOWN_REASON_VALUE`].
     Value(u32) = 2;
 }
 
 attributes! {
-    /// X
+    /// Holds an element of [`IFLA_DEVLINK_PORT`], as a variant for its type.
     DevlinkPortAttribute of DevlinkPort;
-    /// x
+    /// Holds [`DEVLINK_ATTR_BUS_NAME`].
     BusName(Text) = 1;
-    /// x
+    /// Holds [`DEVLINK_ATTR_DEV_NAME`].
     DevName(Text) = 2;
-    /// x
+    /// Holds [`DEVLINK_ATTR_PORT_INDEX`].
     PortIndex(u32) = 3;
 }
 
 attributes! {
-    /// X
+    /// Holds an element of [`IFLA_DPLL_PIN`], as a variant for its type.
     DpllPinAttribute of DpllPin;
-    /// x
+    /// Holds [`DPLL_A_PIN_ID`].
     Id(u32) = 1;
 }
 
 attributes! {
-    /// X
+    /// Holds an attribute of [`AfSpec`], as a variant for its type.
     AfSpecAttribute of AfSpec;
-    /// x
+    /// Holds [`AF_INET`].
     Inet(Held) = 2;
-    /// x
+    /// Holds [`AF_INET6`].
     Inet6(Held) = 10;
-    /// x
+    /// Holds [`AF_MCTP`].
     Mctp(Held) = 45;
 }
 
 attributes! {
-    /// X
+    /// Holds an attribute of [`Inet`], as a variant for its type.
     InetAttribute of Inet;
-    /// x
+    /// Holds [`IFLA_INET_CONF`].
     Conf(Vec<i32>) = 1;
 }
 
 attributes! {
-    /// X
+    /// Holds an attribute of [`Inet6`], as a variant for its type.
     Inet6Attribute of Inet6;
-    /// x
+    /// Holds [`IFLA_INET6_FLAGS`].
     Flags(Inet6Flags) = 1;
-    /// x
+    /// Holds [`IFLA_INET6_CONF`].
     Conf(Vec<i32>) = 2;
-    /// x
+    /// Holds [`IFLA_INET6_STATS`].
     Stats(Vec<u64>) = 3;
-    /// x
+    /// Holds [`IFLA_INET6_MCAST`].
     Mcast(Vec<u8>) = 4;
-    /// x
+    /// Holds [`IFLA_INET6_CACHEINFO`].
     CacheInfo(Vec<u8>) = 5;
-    /// x
+    /// Holds [`IFLA_INET6_ICMP6STATS`].
     Icmp6Stats(Vec<u64>) = 6;
-    /// x
+    /// Holds [`IFLA_INET6_TOKEN`].
     Token(Ipv6Addr) = 7;
-    /// x
+    /// Holds [`IFLA_INET6_ADDR_GEN_MODE`].
     AddrGenMode(AddrGenMode) = 8;
-    /// x
+    /// Holds [`IFLA_INET6_RA_MTU`].
     RaMtu(u32) = 9;
 }
 
 attributes! {
-    /// X
+    /// Holds an attribute of [`Mctp`], as a variant for its type.
     MctpAttribute of Mctp;
-    /// x
+    /// Holds [`IFLA_MCTP_NET`].
     Net(u32) = 1;
-    /// x
+    /// Holds [`IFLA_MCTP_PHYS_BINDING`].
     PhysBinding(u8) = 2;
 }
 
 attributes! {
-    /// X
+    /// Holds an attribute of [`Reply`], as a variant for its type.
     ReplyAttribute of Reply;
-    /// x
+    /// Holds [`NLMSGERR_ATTR_MSG`].
     Msg(Text) = 1;
-    /// x
+    /// Holds [`NLMSGERR_ATTR_OFFS`].
     Offs(u32) = 2;
-    /// x
+    /// Holds [`NLMSGERR_ATTR_COOKIE`].
     Cookie(Vec<u8>) = 3;
-    /// x
+    /// Holds [`NLMSGERR_ATTR_POLICY`].
     Policy(Held) = 4;
-    /// x
+    /// Holds [`NLMSGERR_ATTR_MISS_TYPE`].
     MissType(u32) = 5;
-    /// x
+    /// Holds [`NLMSGERR_ATTR_MISS_NEST`].
     MissNest(u32) = 6;
 }

@@ -26,6 +26,21 @@
 //! # Ok::<(), nlroute::Fault>(())
 //! ```
 //!
+//! To visit all attributes, [`List::typed`] gives each as a variant of an enum:
+//!
+//! ```
+//! # use nlroute::*;
+//! # let bytes = [5, 0, 1, 0, 4, 0, 0, 0, 8, 0, 3, 0, 100, 0, 0, 0];
+//! for attribute in List::<Bond>::read(&bytes)?.typed() {
+//!     match attribute {
+//!         BondAttribute::Mode(mode) => assert_eq!(mode.name(), Some("802.3ad")),
+//!         BondAttribute::MiiMon(interval) => assert_eq!(interval, 100),
+//!         other => println!("{other:?}"),
+//!     }
+//! }
+//! # Ok::<(), nlroute::Fault>(())
+//! ```
+//!
 //! # What does not compile
 //!
 //! A value of another type (`IFLA_BOND_MIIMON` is a `u32`):
