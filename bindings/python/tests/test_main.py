@@ -83,9 +83,10 @@ class Lines(unittest.TestCase):
 
     def test_answers_at_once(self):
         program = [sys.executable, "-m", "nlroute"]
-        with subprocess.Popen(program, stdin=subprocess.PIPE, stdout=subprocess.PIPE, bufsize=0) as running:
+        with subprocess.Popen(program, stdin=subprocess.PIPE, stdout=subprocess.PIPE) as running:
             for _ in range(3):
                 running.stdin.write(LIST.encode())
+                running.stdin.flush()
                 self.assertEqual(running.stdout.read(len(PRINTED)), PRINTED.encode())
             running.stdin.close()
             self.assertEqual((running.stdout.read(), running.wait()), (b"", 0))

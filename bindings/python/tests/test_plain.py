@@ -16,7 +16,8 @@ DICTS = [
     (Family.BOND, "14001780 06000100 02000000 0600 0900 dead0000",
      {"IFLA_BOND_AD_INFO": {"IFLA_BOND_AD_INFO_AGGREGATOR": 2, "type 9": {"payload": "dead", "flags": 0}}}),
     (Family.BOND_PORT, "0c000400 00112233 44556677", {"IFLA_BOND_SLAVE_PERM_HWADDR": "00:11:22:33:44:55:66:77"}),
-    (Family.BOND_PORT, "05000700 05000000", {"IFLA_BOND_SLAVE_AD_ACTOR_OPER_PORT_STATE": ["LACP_ACTIVITY", "AGGREGATION"]}),
+    (Family.BOND_PORT, "05000700 05000000",
+     {"IFLA_BOND_SLAVE_AD_ACTOR_OPER_PORT_STATE": ["LACP_ACTIVITY", "AGGREGATION"]}),
     (Family.BRIDGE, "04001500 0c000a00 1000be51 206012a4",
      {"IFLA_BR_FDB_FLUSH": None, "IFLA_BR_ROOT_ID": {"priority": 4096, "address": "be:51:20:60:12:a4"}}),
     (Family.VLAN, "0c000200 82000000 00000000", {"IFLA_VLAN_FLAGS": {"flags": ["GVRP", "0x80"], "mask": []}}),
@@ -25,11 +26,15 @@ DICTS = [
      {"IFLA_BRIDGE_VLAN_INFO": [{"vid": 10, "flags": ["PVID", "UNTAGGED"]}, {"vid": 20, "flags": []}],
       "IFLA_BRIDGE_MODE": "vepa"}),
     (Family.AF_SPEC_BRIDGE, "08000200 06000a00", {"IFLA_BRIDGE_VLAN_INFO": [{"vid": 10, "flags": ["PVID", "UNTAGGED"]}]}),
-    (Family.LINK, LINKINFO, {"IFLA_LINKINFO": {"IFLA_INFO_KIND": "bridge", "IFLA_INFO_DATA": {"IFLA_BR_FORWARD_DELAY": 700}}}),
+    (Family.LINK, LINKINFO,
+     {"IFLA_LINKINFO": {"IFLA_INFO_KIND": "bridge", "IFLA_INFO_DATA": {"IFLA_BR_FORWARD_DELAY": 700}}}),
     # the data is malformed; of a kind without a set
-    (Family.LINK, LINKINFO[:-20] + "09000100 bc020000", {"IFLA_LINKINFO": {"IFLA_INFO_KIND": "bridge", "IFLA_INFO_DATA": "09000100bc020000"}}),
-    (Family.LINK, "14001200 08000100 74617000 08000200 01020304", {"IFLA_LINKINFO": {"IFLA_INFO_KIND": "tap", "IFLA_INFO_DATA": "01020304"}}),
-    (Family.LINK, "0a000100 02000000 00050000 0800 0300 65746800", {"IFLA_ADDRESS": "02:00:00:00:00:05", "IFLA_IFNAME": "eth"}),
+    (Family.LINK, LINKINFO.replace("08000100 bc", "09000100 bc"),
+     {"IFLA_LINKINFO": {"IFLA_INFO_KIND": "bridge", "IFLA_INFO_DATA": "09000100bc020000"}}),
+    (Family.LINK, "14001200 08000100 74617000 08000200 01020304",
+     {"IFLA_LINKINFO": {"IFLA_INFO_KIND": "tap", "IFLA_INFO_DATA": "01020304"}}),
+    (Family.LINK, "0a000100 02000000 00050000 0800 0300 65746800",
+     {"IFLA_ADDRESS": "02:00:00:00:00:05", "IFLA_IFNAME": "eth"}),
     (Family.LINK, "10003480 0c003500 61006263 00000000", {"IFLA_PROP_LIST": {"IFLA_ALT_IFNAME": ["a\0bc\0\0\0"]}}),
     (Family.LINK, "0c000700 05000000 00000000", {"IFLA_STATS": {"rx_packets": 5, "tx_packets": 0}}),
     (Family.INET6, "14000700 20010db8 00000000 00000000 00000001", {"IFLA_INET6_TOKEN": "2001:db8::1"}),
@@ -55,7 +60,8 @@ class Plain(unittest.TestCase):
 
     def test_values_that_were_not_read(self):
         bond = List(Family.BOND, {"IFLA_BOND_MODE": 4, "IFLA_BOND_AD_INFO": {"IFLA_BOND_AD_INFO_AGGREGATOR": 2}})
-        self.assertEqual(bond.to_dict(), {"IFLA_BOND_MODE": "802.3ad", "IFLA_BOND_AD_INFO": {"IFLA_BOND_AD_INFO_AGGREGATOR": 2}})
+        expected = {"IFLA_BOND_MODE": "802.3ad", "IFLA_BOND_AD_INFO": {"IFLA_BOND_AD_INFO_AGGREGATOR": 2}}
+        self.assertEqual(bond.to_dict(), expected)
         within = List.within(Family.BOND, "IFLA_BOND_AD_INFO", {"IFLA_BOND_AD_INFO_PARTNER_MAC": bytes(6)})
         self.assertEqual(within.to_dict(), {"IFLA_BOND_AD_INFO_PARTNER_MAC": "00:00:00:00:00:00"})
         self.assertEqual((List(Family.BOND).to_dict(), List.within(Family.BOND, "IFLA_BOND_AD_INFO").to_dict()), ({}, {}))
