@@ -5,12 +5,12 @@ Each FILE, or standard input, has lines. Each line is one of
     FAMILY HEX        the bytes of a list
     check FAMILY HEX  the same; reports whether the list is canonical
 
-FAMILY is the name of an attribute set, such as bond. White space separates the words. Blank lines, and lines that begin
-with #, are ignored. The FILE - is standard input. Lines and status are those of nlshow(1), which also reads messages and
-captures.
+FAMILY is the name of an attribute set, such as bond. White space separates the words. Blank lines, and lines that
+begin with #, are ignored. The FILE - is standard input. Lines and status are those of nlshow(1), which also reads
+messages and captures.
 
-Status: 0 if all input is right, 1 if not, 2 for a wrong argument or a capture, 4 if an allocation fails, 5 if reading or
-writing fails.
+Status: 0 if all input is right, 1 if not, 2 for a wrong argument or a capture, 4 if an allocation fails, 5 if reading
+or writing fails.
 """
 from __future__ import annotations
 

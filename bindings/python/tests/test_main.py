@@ -106,7 +106,8 @@ class Arguments(unittest.TestCase):
 
     def test_options(self):
         status, printed = run("--help")
-        self.assertEqual((status, printed.splitlines()[0]), (0, "usage: python -m nlroute [FILE].. | --help | --version"))
+        usage = "usage: python -m nlroute [FILE].. | --help | --version"
+        self.assertEqual((status, printed.splitlines()[0]), (0, usage))
         self.assertRegex(run("-V")[1], r"^nlroute \d+\.\d+\.\d+\n$")
         status, printed, said = run("--json", given=LIST)
         self.assertEqual((status, printed, said.splitlines()[0]), (2, "", "error: unexpected argument '--json' found"))

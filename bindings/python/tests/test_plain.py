@@ -11,7 +11,8 @@ LINKINFO = "1c001200 0b000100 62726964 67650000 0c000200 08000100 bc020000"
 DICTS = [
     (Family.BOND, "05000100 04000000 05000100 63000000", {"IFLA_BOND_MODE": 99}),
     (Family.BOND, "05000100 04000000 05000600 01000000", {"IFLA_BOND_MODE": "802.3ad", "IFLA_BOND_USE_CARRIER": True}),
-    (Family.BOND, "14000800 08000000 0a000001 08000100 0a000002", {"IFLA_BOND_ARP_IP_TARGET": ["10.0.0.1", "10.0.0.2"]}),
+    (Family.BOND, "14000800 08000000 0a000001 08000100 0a000002",
+     {"IFLA_BOND_ARP_IP_TARGET": ["10.0.0.1", "10.0.0.2"]}),
     (Family.BOND, "0a001a00 02000000 00010000", {"IFLA_BOND_AD_ACTOR_SYSTEM": "02:00:00:00:00:01"}),
     (Family.BOND, "14001780 06000100 02000000 0600 0900 dead0000",
      {"IFLA_BOND_AD_INFO": {"IFLA_BOND_AD_INFO_AGGREGATOR": 2, "type 9": {"payload": "dead", "flags": 0}}}),
@@ -25,7 +26,8 @@ DICTS = [
     (Family.AF_SPEC_BRIDGE, "08000200 06000a00 06000100 01000000 08000200 00001400",
      {"IFLA_BRIDGE_VLAN_INFO": [{"vid": 10, "flags": ["PVID", "UNTAGGED"]}, {"vid": 20, "flags": []}],
       "IFLA_BRIDGE_MODE": "vepa"}),
-    (Family.AF_SPEC_BRIDGE, "08000200 06000a00", {"IFLA_BRIDGE_VLAN_INFO": [{"vid": 10, "flags": ["PVID", "UNTAGGED"]}]}),
+    (Family.AF_SPEC_BRIDGE, "08000200 06000a00",
+     {"IFLA_BRIDGE_VLAN_INFO": [{"vid": 10, "flags": ["PVID", "UNTAGGED"]}]}),
     (Family.LINK, LINKINFO,
      {"IFLA_LINKINFO": {"IFLA_INFO_KIND": "bridge", "IFLA_INFO_DATA": {"IFLA_BR_FORWARD_DELAY": 700}}}),
     # the data is malformed; of a kind without a set
@@ -64,7 +66,8 @@ class Plain(unittest.TestCase):
         self.assertEqual(bond.to_dict(), expected)
         within = List.within(Family.BOND, "IFLA_BOND_AD_INFO", {"IFLA_BOND_AD_INFO_PARTNER_MAC": bytes(6)})
         self.assertEqual(within.to_dict(), {"IFLA_BOND_AD_INFO_PARTNER_MAC": "00:00:00:00:00:00"})
-        self.assertEqual((List(Family.BOND).to_dict(), List.within(Family.BOND, "IFLA_BOND_AD_INFO").to_dict()), ({}, {}))
+        for empty in (List(Family.BOND), List.within(Family.BOND, "IFLA_BOND_AD_INFO")):
+            self.assertEqual(empty.to_dict(), {})
         # names and addresses are accepted again
         values = {"IFLA_BOND_MODE": "802.3ad", "IFLA_BOND_AD_ACTOR_SYSTEM": "02:00:00:00:00:01"}
         self.assertEqual(List(Family.BOND, values).to_dict(), values)
@@ -93,7 +96,7 @@ class Names(unittest.TestCase):
         self.assertEqual(len(nlroute.__all__), len(set(nlroute.__all__)))
         for name in nlroute.__all__:
             self.assertTrue(hasattr(nlroute, name), name)
-        self.assertTrue({"read", "List", "Family", "BondMode", "IFLA_BOND_MODE", "Fault", "build"} <= set(nlroute.__all__))
+        self.assertLess({"read", "List", "Family", "BondMode", "IFLA_BOND_MODE", "Fault"}, set(nlroute.__all__))
         public = {name for name, it in vars(nlroute).items() if name[0] != "_" and not isinstance(it, type(unittest))}
         self.assertEqual(public - set(nlroute.__all__), set())
 
