@@ -35,6 +35,13 @@ class Family(Texts):
     INET6 = 14, "inet6"
     MCTP = 15, "mctp"
     REPLY = 16, "reply"
+    GENEVE = 17, "geneve"
+    VRF = 18, "vrf"
+    VRF_PORT = 19, "vrf_port"
+    TUN = 20, "tun"
+    IPVLAN = 21, "ipvlan"
+    MACVLAN = 22, "macvlan"
+    NETKIT = 23, "netkit"
 
 
 class Place(IntEnum):
@@ -315,7 +322,7 @@ class HsrProtocol(Named):
 
 
 class VxlanDf(Named):
-    """Numbers of IFLA_VXLAN_DF."""
+    """Numbers of IFLA_VXLAN_DF, IFLA_GENEVE_DF."""
     UNSET = 0, "unset"
     SET = 1, "set"
     INHERIT = 2, "inherit"
@@ -401,6 +408,66 @@ class AddrGenMode(Named):
     NONE = 1, "none"
     STABLE_SECRET = 2, "stable_secret"
     RANDOM = 3, "random"
+
+
+class TunType(Named):
+    """Numbers of IFLA_TUN_TYPE."""
+    TUN = 1, "tun"
+    TAP = 2, "tap"
+
+
+class IpvlanMode(Named):
+    """Numbers of IFLA_IPVLAN_MODE."""
+    L2 = 0, "l2"
+    L3 = 1, "l3"
+    L3S = 2, "l3s"
+
+
+class IpvlanFlags(Flags):
+    """Flags of IFLA_IPVLAN_FLAGS."""
+    PRIVATE = 1 << 0
+    VEPA = 1 << 1
+
+
+class MacvlanMode(Named):
+    """Numbers of IFLA_MACVLAN_MODE."""
+    PRIVATE = 1, "private"
+    VEPA = 2, "vepa"
+    BRIDGE = 4, "bridge"
+    PASSTHRU = 8, "passthru"
+    SOURCE = 16, "source"
+
+
+class MacvlanFlags(Flags):
+    """Flags of IFLA_MACVLAN_FLAGS."""
+    NOPROMISC = 1 << 0
+    NODST = 1 << 1
+
+
+class MacvlanMacaddrMode(Named):
+    """Numbers of IFLA_MACVLAN_MACADDR_MODE."""
+    ADD = 0, "add"
+    DEL = 1, "del"
+    FLUSH = 2, "flush"
+    SET = 3, "set"
+
+
+class NetkitPolicy(Named):
+    """Numbers of IFLA_NETKIT_POLICY, IFLA_NETKIT_PEER_POLICY."""
+    FORWARD = 0, "forward"
+    BLACKHOLE = 2, "blackhole"
+
+
+class NetkitMode(Named):
+    """Numbers of IFLA_NETKIT_MODE."""
+    L2 = 0, "l2"
+    L3 = 1, "l3"
+
+
+class NetkitScrub(Named):
+    """Numbers of IFLA_NETKIT_SCRUB, IFLA_NETKIT_PEER_SCRUB."""
+    NONE = 0, "none"
+    DEFAULT = 1, "default"
 
 
 class LinkStats(IntEnum):
@@ -902,6 +969,52 @@ NLMSGERR_ATTR_COOKIE: Key[bytes] = Key("NLMSGERR_ATTR_COOKIE")
 NLMSGERR_ATTR_POLICY: Key[bytes] = Key("NLMSGERR_ATTR_POLICY")
 NLMSGERR_ATTR_MISS_TYPE: Key[int] = Key("NLMSGERR_ATTR_MISS_TYPE")
 NLMSGERR_ATTR_MISS_NEST: Key[int] = Key("NLMSGERR_ATTR_MISS_NEST")
+IFLA_GENEVE_ID: Key[int] = Key("IFLA_GENEVE_ID")
+IFLA_GENEVE_REMOTE: Key[IPv4Address] = Key("IFLA_GENEVE_REMOTE")
+IFLA_GENEVE_TTL: Key[int] = Key("IFLA_GENEVE_TTL")
+IFLA_GENEVE_TOS: Key[int] = Key("IFLA_GENEVE_TOS")  # 100 is printed as 100 (0x64)
+IFLA_GENEVE_PORT: Key[int] = Key("IFLA_GENEVE_PORT")
+IFLA_GENEVE_COLLECT_METADATA: Key[None] = Key("IFLA_GENEVE_COLLECT_METADATA")
+IFLA_GENEVE_REMOTE6: Key[IPv6Address] = Key("IFLA_GENEVE_REMOTE6")
+IFLA_GENEVE_UDP_CSUM: Key[bool] = Key("IFLA_GENEVE_UDP_CSUM")
+IFLA_GENEVE_UDP_ZERO_CSUM6_TX: Key[bool] = Key("IFLA_GENEVE_UDP_ZERO_CSUM6_TX")
+IFLA_GENEVE_UDP_ZERO_CSUM6_RX: Key[bool] = Key("IFLA_GENEVE_UDP_ZERO_CSUM6_RX")
+IFLA_GENEVE_LABEL: Key[int] = Key("IFLA_GENEVE_LABEL")  # 100 is printed as 100 (0x64)
+IFLA_GENEVE_TTL_INHERIT: Key[bool] = Key("IFLA_GENEVE_TTL_INHERIT")
+IFLA_GENEVE_DF: Key[VxlanDf] = Key("IFLA_GENEVE_DF")
+IFLA_GENEVE_INNER_PROTO_INHERIT: Key[None] = Key("IFLA_GENEVE_INNER_PROTO_INHERIT")
+IFLA_GENEVE_PORT_RANGE: Key[bytes] = Key("IFLA_GENEVE_PORT_RANGE")
+IFLA_VRF_TABLE: Key[int] = Key("IFLA_VRF_TABLE")
+IFLA_VRF_PORT_TABLE: Key[int] = Key("IFLA_VRF_PORT_TABLE")
+IFLA_TUN_OWNER: Key[int] = Key("IFLA_TUN_OWNER")
+IFLA_TUN_GROUP: Key[int] = Key("IFLA_TUN_GROUP")
+IFLA_TUN_TYPE: Key[TunType] = Key("IFLA_TUN_TYPE")
+IFLA_TUN_PI: Key[bool] = Key("IFLA_TUN_PI")
+IFLA_TUN_VNET_HDR: Key[bool] = Key("IFLA_TUN_VNET_HDR")
+IFLA_TUN_PERSIST: Key[bool] = Key("IFLA_TUN_PERSIST")
+IFLA_TUN_MULTI_QUEUE: Key[bool] = Key("IFLA_TUN_MULTI_QUEUE")
+IFLA_TUN_NUM_QUEUES: Key[int] = Key("IFLA_TUN_NUM_QUEUES")
+IFLA_TUN_NUM_DISABLED_QUEUES: Key[int] = Key("IFLA_TUN_NUM_DISABLED_QUEUES")
+IFLA_IPVLAN_MODE: Key[IpvlanMode] = Key("IFLA_IPVLAN_MODE")
+IFLA_IPVLAN_FLAGS: Key[IpvlanFlags] = Key("IFLA_IPVLAN_FLAGS")
+IFLA_MACVLAN_MODE: Key[MacvlanMode] = Key("IFLA_MACVLAN_MODE")
+IFLA_MACVLAN_FLAGS: Key[MacvlanFlags] = Key("IFLA_MACVLAN_FLAGS")
+IFLA_MACVLAN_MACADDR_MODE: Key[MacvlanMacaddrMode] = Key("IFLA_MACVLAN_MACADDR_MODE")
+IFLA_MACVLAN_MACADDR: Key[Mac] = Key("IFLA_MACVLAN_MACADDR")
+IFLA_MACVLAN_MACADDR_DATA: Key[List] = Key("IFLA_MACVLAN_MACADDR_DATA")
+IFLA_MACVLAN_MACADDR_COUNT: Key[int] = Key("IFLA_MACVLAN_MACADDR_COUNT")
+IFLA_MACVLAN_BC_QUEUE_LEN: Key[int] = Key("IFLA_MACVLAN_BC_QUEUE_LEN")
+IFLA_MACVLAN_BC_QUEUE_LEN_USED: Key[int] = Key("IFLA_MACVLAN_BC_QUEUE_LEN_USED")
+IFLA_MACVLAN_BC_CUTOFF: Key[int] = Key("IFLA_MACVLAN_BC_CUTOFF")
+IFLA_NETKIT_PEER_INFO: Key[bytes] = Key("IFLA_NETKIT_PEER_INFO")
+IFLA_NETKIT_PRIMARY: Key[bool] = Key("IFLA_NETKIT_PRIMARY")
+IFLA_NETKIT_POLICY: Key[NetkitPolicy] = Key("IFLA_NETKIT_POLICY")
+IFLA_NETKIT_PEER_POLICY: Key[NetkitPolicy] = Key("IFLA_NETKIT_PEER_POLICY")
+IFLA_NETKIT_MODE: Key[NetkitMode] = Key("IFLA_NETKIT_MODE")
+IFLA_NETKIT_SCRUB: Key[NetkitScrub] = Key("IFLA_NETKIT_SCRUB")
+IFLA_NETKIT_PEER_SCRUB: Key[NetkitScrub] = Key("IFLA_NETKIT_PEER_SCRUB")
+IFLA_NETKIT_HEADROOM: Key[int] = Key("IFLA_NETKIT_HEADROOM")
+IFLA_NETKIT_TAILROOM: Key[int] = Key("IFLA_NETKIT_TAILROOM")
 
 SETS: dict[Family, tuple[Row, ...]] = {
     Family.AF_SPEC_BRIDGE: (
@@ -1291,6 +1404,68 @@ SETS: dict[Family, tuple[Row, ...]] = {
         Row("NLMSGERR_ATTR_MISS_TYPE", 5, 3),
         Row("NLMSGERR_ATTR_MISS_NEST", 6, 3),
     ),
+    Family.GENEVE: (
+        Row("IFLA_GENEVE_ID", 1, 3),
+        Row("IFLA_GENEVE_REMOTE", 2, 9),
+        Row("IFLA_GENEVE_TTL", 3, 3),
+        Row("IFLA_GENEVE_TOS", 4, 3),
+        Row("IFLA_GENEVE_PORT", 5, 3),
+        Row("IFLA_GENEVE_COLLECT_METADATA", 6, 1),
+        Row("IFLA_GENEVE_REMOTE6", 7, 10),
+        Row("IFLA_GENEVE_UDP_CSUM", 8, 2),
+        Row("IFLA_GENEVE_UDP_ZERO_CSUM6_TX", 9, 2),
+        Row("IFLA_GENEVE_UDP_ZERO_CSUM6_RX", 10, 2),
+        Row("IFLA_GENEVE_LABEL", 11, 3),
+        Row("IFLA_GENEVE_TTL_INHERIT", 12, 2),
+        Row("IFLA_GENEVE_DF", 13, 5, VxlanDf),
+        Row("IFLA_GENEVE_INNER_PROTO_INHERIT", 14, 1),
+        Row("IFLA_GENEVE_PORT_RANGE", 15, 17),
+    ),
+    Family.VRF: (
+        Row("IFLA_VRF_TABLE", 1, 3),
+    ),
+    Family.VRF_PORT: (
+        Row("IFLA_VRF_PORT_TABLE", 1, 3),
+    ),
+    Family.TUN: (
+        Row("IFLA_TUN_OWNER", 1, 3),
+        Row("IFLA_TUN_GROUP", 2, 3),
+        Row("IFLA_TUN_TYPE", 3, 5, TunType),
+        Row("IFLA_TUN_PI", 4, 2),
+        Row("IFLA_TUN_VNET_HDR", 5, 2),
+        Row("IFLA_TUN_PERSIST", 6, 2),
+        Row("IFLA_TUN_MULTI_QUEUE", 7, 2),
+        Row("IFLA_TUN_NUM_QUEUES", 8, 3),
+        Row("IFLA_TUN_NUM_DISABLED_QUEUES", 9, 3),
+    ),
+    Family.IPVLAN: (
+        Row("IFLA_IPVLAN_MODE", 1, 5, IpvlanMode),
+        Row("IFLA_IPVLAN_FLAGS", 2, 6, IpvlanFlags),
+    ),
+    Family.MACVLAN: (
+        Row("IFLA_MACVLAN_MODE", 1, 5, MacvlanMode),
+        Row("IFLA_MACVLAN_FLAGS", 2, 6, MacvlanFlags),
+        Row("IFLA_MACVLAN_MACADDR_MODE", 3, 5, MacvlanMacaddrMode),
+        Row("IFLA_MACVLAN_MACADDR", 4, 8),
+        Row("IFLA_MACVLAN_MACADDR_DATA", 5, 18, elements=(
+            Row("IFLA_MACVLAN_MACADDR", 4, 8),
+        )),
+        Row("IFLA_MACVLAN_MACADDR_COUNT", 6, 3),
+        Row("IFLA_MACVLAN_BC_QUEUE_LEN", 7, 3),
+        Row("IFLA_MACVLAN_BC_QUEUE_LEN_USED", 8, 3),
+        Row("IFLA_MACVLAN_BC_CUTOFF", 9, 4),
+    ),
+    Family.NETKIT: (
+        Row("IFLA_NETKIT_PEER_INFO", 1, 17),
+        Row("IFLA_NETKIT_PRIMARY", 2, 2),
+        Row("IFLA_NETKIT_POLICY", 3, 5, NetkitPolicy),
+        Row("IFLA_NETKIT_PEER_POLICY", 4, 5, NetkitPolicy),
+        Row("IFLA_NETKIT_MODE", 5, 5, NetkitMode),
+        Row("IFLA_NETKIT_SCRUB", 6, 5, NetkitScrub),
+        Row("IFLA_NETKIT_PEER_SCRUB", 7, 5, NetkitScrub),
+        Row("IFLA_NETKIT_HEADROOM", 8, 3),
+        Row("IFLA_NETKIT_TAILROOM", 9, 3),
+    ),
 }
 
 __all__ = [
@@ -1299,15 +1474,17 @@ __all__ = [
     "BondAdLacpRate", "BondAdSelect", "BondPortState", "MiiStatus", "LacpState", "ChurnState", "BridgeStpState",
     "VlanProtocol", "McastRouter", "BridgeBoolOpt", "BridgeStpMode", "BridgePortState", "VlanFlags", "CanState",
     "CanCtrlMode", "HsrProtocol", "VxlanDf", "VxlanLabelPolicy", "OperState", "LinkMode", "ExtMask", "XdpAttached",
-    "XdpFlags", "LinkEvent", "Inet6Flags", "AddrGenMode", "LinkStats", "LinkStats64", "Ipv4Conf", "Ipv6Conf",
-    "IFLA_BRIDGE_FLAGS", "IFLA_BRIDGE_MODE", "IFLA_BRIDGE_VLAN_INFO", "IFLA_BRIDGE_VLAN_TUNNEL_INFO",
-    "IFLA_BRIDGE_VLAN_TUNNEL_ID", "IFLA_BRIDGE_VLAN_TUNNEL_VID", "IFLA_BRIDGE_VLAN_TUNNEL_FLAGS", "IFLA_BOND_MODE",
-    "IFLA_BOND_ACTIVE_SLAVE", "IFLA_BOND_MIIMON", "IFLA_BOND_UPDELAY", "IFLA_BOND_DOWNDELAY", "IFLA_BOND_USE_CARRIER",
-    "IFLA_BOND_ARP_INTERVAL", "IFLA_BOND_ARP_IP_TARGET", "IFLA_BOND_ARP_VALIDATE", "IFLA_BOND_ARP_ALL_TARGETS",
-    "IFLA_BOND_PRIMARY", "IFLA_BOND_PRIMARY_RESELECT", "IFLA_BOND_FAIL_OVER_MAC", "IFLA_BOND_XMIT_HASH_POLICY",
-    "IFLA_BOND_RESEND_IGMP", "IFLA_BOND_NUM_PEER_NOTIF", "IFLA_BOND_ALL_SLAVES_ACTIVE", "IFLA_BOND_MIN_LINKS",
-    "IFLA_BOND_LP_INTERVAL", "IFLA_BOND_PACKETS_PER_SLAVE", "IFLA_BOND_AD_LACP_RATE", "IFLA_BOND_AD_SELECT",
-    "IFLA_BOND_AD_INFO", "IFLA_BOND_AD_INFO_AGGREGATOR", "IFLA_BOND_AD_INFO_NUM_PORTS", "IFLA_BOND_AD_INFO_ACTOR_KEY",
+    "XdpFlags", "LinkEvent", "Inet6Flags", "AddrGenMode", "TunType", "IpvlanMode", "IpvlanFlags", "MacvlanMode",
+    "MacvlanFlags", "MacvlanMacaddrMode", "NetkitPolicy", "NetkitMode", "NetkitScrub", "LinkStats", "LinkStats64",
+    "Ipv4Conf", "Ipv6Conf", "IFLA_BRIDGE_FLAGS", "IFLA_BRIDGE_MODE", "IFLA_BRIDGE_VLAN_INFO",
+    "IFLA_BRIDGE_VLAN_TUNNEL_INFO", "IFLA_BRIDGE_VLAN_TUNNEL_ID", "IFLA_BRIDGE_VLAN_TUNNEL_VID",
+    "IFLA_BRIDGE_VLAN_TUNNEL_FLAGS", "IFLA_BOND_MODE", "IFLA_BOND_ACTIVE_SLAVE", "IFLA_BOND_MIIMON",
+    "IFLA_BOND_UPDELAY", "IFLA_BOND_DOWNDELAY", "IFLA_BOND_USE_CARRIER", "IFLA_BOND_ARP_INTERVAL",
+    "IFLA_BOND_ARP_IP_TARGET", "IFLA_BOND_ARP_VALIDATE", "IFLA_BOND_ARP_ALL_TARGETS", "IFLA_BOND_PRIMARY",
+    "IFLA_BOND_PRIMARY_RESELECT", "IFLA_BOND_FAIL_OVER_MAC", "IFLA_BOND_XMIT_HASH_POLICY", "IFLA_BOND_RESEND_IGMP",
+    "IFLA_BOND_NUM_PEER_NOTIF", "IFLA_BOND_ALL_SLAVES_ACTIVE", "IFLA_BOND_MIN_LINKS", "IFLA_BOND_LP_INTERVAL",
+    "IFLA_BOND_PACKETS_PER_SLAVE", "IFLA_BOND_AD_LACP_RATE", "IFLA_BOND_AD_SELECT", "IFLA_BOND_AD_INFO",
+    "IFLA_BOND_AD_INFO_AGGREGATOR", "IFLA_BOND_AD_INFO_NUM_PORTS", "IFLA_BOND_AD_INFO_ACTOR_KEY",
     "IFLA_BOND_AD_INFO_PARTNER_KEY", "IFLA_BOND_AD_INFO_PARTNER_MAC", "IFLA_BOND_AD_ACTOR_SYS_PRIO",
     "IFLA_BOND_AD_USER_PORT_KEY", "IFLA_BOND_AD_ACTOR_SYSTEM", "IFLA_BOND_TLB_DYNAMIC_LB",
     "IFLA_BOND_PEER_NOTIF_DELAY", "IFLA_BOND_AD_LACP_ACTIVE", "IFLA_BOND_MISSED_MAX", "IFLA_BOND_NS_IP6_TARGET",
@@ -1379,5 +1556,15 @@ __all__ = [
     "IFLA_INET6_STATS", "IFLA_INET6_MCAST", "IFLA_INET6_CACHEINFO", "IFLA_INET6_ICMP6STATS", "IFLA_INET6_TOKEN",
     "IFLA_INET6_ADDR_GEN_MODE", "IFLA_INET6_RA_MTU", "IFLA_MCTP_NET", "IFLA_MCTP_PHYS_BINDING", "NLMSGERR_ATTR_MSG",
     "NLMSGERR_ATTR_OFFS", "NLMSGERR_ATTR_COOKIE", "NLMSGERR_ATTR_POLICY", "NLMSGERR_ATTR_MISS_TYPE",
-    "NLMSGERR_ATTR_MISS_NEST",
+    "NLMSGERR_ATTR_MISS_NEST", "IFLA_GENEVE_ID", "IFLA_GENEVE_REMOTE", "IFLA_GENEVE_TTL", "IFLA_GENEVE_TOS",
+    "IFLA_GENEVE_PORT", "IFLA_GENEVE_COLLECT_METADATA", "IFLA_GENEVE_REMOTE6", "IFLA_GENEVE_UDP_CSUM",
+    "IFLA_GENEVE_UDP_ZERO_CSUM6_TX", "IFLA_GENEVE_UDP_ZERO_CSUM6_RX", "IFLA_GENEVE_LABEL", "IFLA_GENEVE_TTL_INHERIT",
+    "IFLA_GENEVE_DF", "IFLA_GENEVE_INNER_PROTO_INHERIT", "IFLA_GENEVE_PORT_RANGE", "IFLA_VRF_TABLE",
+    "IFLA_VRF_PORT_TABLE", "IFLA_TUN_OWNER", "IFLA_TUN_GROUP", "IFLA_TUN_TYPE", "IFLA_TUN_PI", "IFLA_TUN_VNET_HDR",
+    "IFLA_TUN_PERSIST", "IFLA_TUN_MULTI_QUEUE", "IFLA_TUN_NUM_QUEUES", "IFLA_TUN_NUM_DISABLED_QUEUES",
+    "IFLA_IPVLAN_MODE", "IFLA_IPVLAN_FLAGS", "IFLA_MACVLAN_MODE", "IFLA_MACVLAN_FLAGS", "IFLA_MACVLAN_MACADDR_MODE",
+    "IFLA_MACVLAN_MACADDR", "IFLA_MACVLAN_MACADDR_DATA", "IFLA_MACVLAN_MACADDR_COUNT", "IFLA_MACVLAN_BC_QUEUE_LEN",
+    "IFLA_MACVLAN_BC_QUEUE_LEN_USED", "IFLA_MACVLAN_BC_CUTOFF", "IFLA_NETKIT_PEER_INFO", "IFLA_NETKIT_PRIMARY",
+    "IFLA_NETKIT_POLICY", "IFLA_NETKIT_PEER_POLICY", "IFLA_NETKIT_MODE", "IFLA_NETKIT_SCRUB", "IFLA_NETKIT_PEER_SCRUB",
+    "IFLA_NETKIT_HEADROOM", "IFLA_NETKIT_TAILROOM",
 ]  # fmt: skip

@@ -826,3 +826,137 @@ attributes! {
     /// Holds [`NLMSGERR_ATTR_MISS_NEST`].
     MissNest(u32) = 6;
 }
+
+attributes! {
+    /// Holds an attribute of [`Geneve`], as a variant for its type.
+    GeneveAttribute of Geneve;
+    /// Holds [`IFLA_GENEVE_ID`].
+    Id(u32) = 1;
+    /// Holds [`IFLA_GENEVE_REMOTE`].
+    Remote(Ipv4Addr) = 2;
+    /// Holds [`IFLA_GENEVE_TTL`].
+    Ttl(u8) = 3;
+    /// Holds [`IFLA_GENEVE_TOS`].
+    Tos(u8) = 4;
+    /// Holds [`IFLA_GENEVE_PORT`].
+    Port(u16) = 5;
+    /// Represents [`IFLA_GENEVE_COLLECT_METADATA`].
+    CollectMetadata = 6;
+    /// Holds [`IFLA_GENEVE_REMOTE6`].
+    Remote6(Ipv6Addr) = 7;
+    /// Holds [`IFLA_GENEVE_UDP_CSUM`].
+    UdpCsum(bool) = 8;
+    /// Holds [`IFLA_GENEVE_UDP_ZERO_CSUM6_TX`].
+    UdpZeroCsum6Tx(bool) = 9;
+    /// Holds [`IFLA_GENEVE_UDP_ZERO_CSUM6_RX`].
+    UdpZeroCsum6Rx(bool) = 10;
+    /// Holds [`IFLA_GENEVE_LABEL`].
+    Label(u32) = 11;
+    /// Holds [`IFLA_GENEVE_TTL_INHERIT`].
+    TtlInherit(bool) = 12;
+    /// Holds [`IFLA_GENEVE_DF`].
+    Df(VxlanDf) = 13;
+    /// Represents [`IFLA_GENEVE_INNER_PROTO_INHERIT`].
+    InnerProtoInherit = 14;
+    /// Holds [`IFLA_GENEVE_PORT_RANGE`].
+    PortRange(Vec<u8>) = 15;
+}
+
+attributes! {
+    /// Holds an attribute of [`Vrf`], as a variant for its type.
+    VrfAttribute of Vrf;
+    /// Holds [`IFLA_VRF_TABLE`].
+    TableId(u32) = 1;
+}
+
+attributes! {
+    /// Holds an attribute of [`VrfPort`], as a variant for its type.
+    VrfPortAttribute of VrfPort;
+    /// Holds [`IFLA_VRF_PORT_TABLE`].
+    TableId(u32) = 1;
+}
+
+attributes! {
+    /// Holds an attribute of [`Tun`], as a variant for its type.
+    TunAttribute of Tun;
+    /// Holds [`IFLA_TUN_OWNER`].
+    Owner(u32) = 1;
+    /// Holds [`IFLA_TUN_GROUP`].
+    Group(u32) = 2;
+    /// Holds [`IFLA_TUN_TYPE`].
+    Type(TunType) = 3;
+    /// Holds [`IFLA_TUN_PI`].
+    Pi(bool) = 4;
+    /// Holds [`IFLA_TUN_VNET_HDR`].
+    VnetHdr(bool) = 5;
+    /// Holds [`IFLA_TUN_PERSIST`].
+    Persist(bool) = 6;
+    /// Holds [`IFLA_TUN_MULTI_QUEUE`].
+    MultiQueue(bool) = 7;
+    /// Holds [`IFLA_TUN_NUM_QUEUES`].
+    NumQueues(u32) = 8;
+    /// Holds [`IFLA_TUN_NUM_DISABLED_QUEUES`].
+    NumDisabledQueues(u32) = 9;
+}
+
+attributes! {
+    /// Holds an attribute of [`Ipvlan`], as a variant for its type.
+    IpvlanAttribute of Ipvlan;
+    /// Holds [`IFLA_IPVLAN_MODE`].
+    Mode(IpvlanMode) = 1;
+    /// Holds [`IFLA_IPVLAN_FLAGS`].
+    Flags(IpvlanFlags) = 2;
+}
+
+attributes! {
+    /// Holds an attribute of [`Macvlan`], as a variant for its type.
+    MacvlanAttribute of Macvlan;
+    /// Holds [`IFLA_MACVLAN_MODE`].
+    Mode(MacvlanMode) = 1;
+    /// Holds [`IFLA_MACVLAN_FLAGS`].
+    Flags(MacvlanFlags) = 2;
+    /// Holds [`IFLA_MACVLAN_MACADDR_MODE`].
+    MacAddrMode(MacvlanMacaddrMode) = 3;
+    /// Holds [`IFLA_MACVLAN_MACADDR`].
+    MacAddr(Mac) = 4;
+    /// Holds [`IFLA_MACVLAN_MACADDR_DATA`].
+    MacAddrData(Nested<MacvlanMacaddrData>) = 5;
+    /// Holds [`IFLA_MACVLAN_MACADDR_COUNT`].
+    MacAddrCount(u32) = 6;
+    /// Holds [`IFLA_MACVLAN_BC_QUEUE_LEN`].
+    BcQueueLen(u32) = 7;
+    /// Holds [`IFLA_MACVLAN_BC_QUEUE_LEN_USED`].
+    BcQueueLenUsed(u32) = 8;
+    /// Holds [`IFLA_MACVLAN_BC_CUTOFF`].
+    BcCutoff(i32) = 9;
+}
+
+attributes! {
+    /// Holds an element of [`IFLA_MACVLAN_MACADDR_DATA`], as a variant for its type.
+    MacvlanMacaddrDataAttribute of MacvlanMacaddrData;
+    /// Holds [`IFLA_MACVLAN_MACADDR`](macvlan_macaddr_data::IFLA_MACVLAN_MACADDR).
+    MacAddr(Mac) = 4;
+}
+
+attributes! {
+    /// Holds an attribute of [`Netkit`], as a variant for its type.
+    NetkitAttribute of Netkit;
+    /// Holds [`IFLA_NETKIT_PEER_INFO`].
+    PeerInfo(Vec<u8>) = 1;
+    /// Holds [`IFLA_NETKIT_PRIMARY`].
+    Primary(bool) = 2;
+    /// Holds [`IFLA_NETKIT_POLICY`].
+    Policy(NetkitPolicy) = 3;
+    /// Holds [`IFLA_NETKIT_PEER_POLICY`].
+    PeerPolicy(NetkitPolicy) = 4;
+    /// Holds [`IFLA_NETKIT_MODE`].
+    Mode(NetkitMode) = 5;
+    /// Holds [`IFLA_NETKIT_SCRUB`].
+    Scrub(NetkitScrub) = 6;
+    /// Holds [`IFLA_NETKIT_PEER_SCRUB`].
+    PeerScrub(NetkitScrub) = 7;
+    /// Holds [`IFLA_NETKIT_HEADROOM`].
+    Headroom(u16) = 8;
+    /// Holds [`IFLA_NETKIT_TAILROOM`].
+    Tailroom(u16) = 9;
+}

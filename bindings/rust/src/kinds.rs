@@ -102,6 +102,20 @@ families! {
     Mctp = 15, "mctp";
     /// Names replies to requests.
     Reply = 16, "reply";
+    /// Names `IFLA_INFO_DATA` of GENEVE devices.
+    Geneve = 17, "geneve";
+    /// Names `IFLA_INFO_DATA` of VRF devices.
+    Vrf = 18, "vrf";
+    /// Names `IFLA_INFO_SLAVE_DATA` of VRF ports.
+    VrfPort = 19, "vrf_port";
+    /// Names `IFLA_INFO_DATA` of TUN and TAP devices.
+    Tun = 20, "tun";
+    /// Names `IFLA_INFO_DATA` of IPVLAN and IPVTAP devices.
+    Ipvlan = 21, "ipvlan";
+    /// Names `IFLA_INFO_DATA` of MACVLAN and MACVTAP devices.
+    Macvlan = 22, "macvlan";
+    /// Names `IFLA_INFO_DATA` of NETKIT devices.
+    Netkit = 23, "netkit";
 }
 
 named! {
@@ -354,7 +368,7 @@ named! {
 }
 
 named! {
-    /// Represents the number of [`IFLA_VXLAN_DF`]. Numbers without a name are kept.
+    /// Represents the number of [`IFLA_VXLAN_DF`], [`IFLA_GENEVE_DF`]. Numbers without a name are kept.
     VxlanDf: u8;
     UNSET = 0, "unset";
     SET = 1, "set";
@@ -450,6 +464,76 @@ named! {
     NONE = 1, "none";
     STABLE_SECRET = 2, "stable_secret";
     RANDOM = 3, "random";
+}
+
+named! {
+    /// Represents the number of [`IFLA_TUN_TYPE`]. Numbers without a name are kept.
+    TunType: u8;
+    TUN = 1, "tun";
+    TAP = 2, "tap";
+}
+
+named! {
+    /// Represents the number of [`IFLA_IPVLAN_MODE`]. Numbers without a name are kept.
+    IpvlanMode: u16;
+    L2 = 0, "l2";
+    L3 = 1, "l3";
+    L3S = 2, "l3s";
+}
+
+flags! {
+    /// Represents flags of [`IFLA_IPVLAN_FLAGS`]. Bits without a name are kept.
+    IpvlanFlags: u16;
+    PRIVATE = 0;
+    VEPA = 1;
+}
+
+named! {
+    /// Represents the number of [`IFLA_MACVLAN_MODE`]. Numbers without a name are kept.
+    MacvlanMode: u32;
+    PRIVATE = 1, "private";
+    VEPA = 2, "vepa";
+    BRIDGE = 4, "bridge";
+    PASSTHRU = 8, "passthru";
+    SOURCE = 16, "source";
+}
+
+flags! {
+    /// Represents flags of [`IFLA_MACVLAN_FLAGS`]. Bits without a name are kept.
+    MacvlanFlags: u16;
+    NOPROMISC = 0;
+    NODST = 1;
+}
+
+named! {
+    /// Represents the number of [`IFLA_MACVLAN_MACADDR_MODE`]. Numbers without a name are kept.
+    MacvlanMacaddrMode: u32;
+    ADD = 0, "add";
+    DEL = 1, "del";
+    FLUSH = 2, "flush";
+    SET = 3, "set";
+}
+
+named! {
+    /// Represents the number of [`IFLA_NETKIT_POLICY`], [`IFLA_NETKIT_PEER_POLICY`]. Numbers without a name are
+    /// kept.
+    NetkitPolicy: u32;
+    FORWARD = 0, "forward";
+    BLACKHOLE = 2, "blackhole";
+}
+
+named! {
+    /// Represents the number of [`IFLA_NETKIT_MODE`]. Numbers without a name are kept.
+    NetkitMode: u32;
+    L2 = 0, "l2";
+    L3 = 1, "l3";
+}
+
+named! {
+    /// Represents the number of [`IFLA_NETKIT_SCRUB`], [`IFLA_NETKIT_PEER_SCRUB`]. Numbers without a name are kept.
+    NetkitScrub: u32;
+    NONE = 0, "none";
+    DEFAULT = 1, "default";
 }
 
 scope! {
@@ -1319,6 +1403,152 @@ pub const NLMSGERR_ATTR_MISS_TYPE: Key<Reply, u32> = Key::new(5, "NLMSGERR_ATTR_
 /// Selects `NLMSGERR_ATTR_MISS_NEST` of [`Reply`] (`include/uapi/linux/netlink.h`).
 pub const NLMSGERR_ATTR_MISS_NEST: Key<Reply, u32> = Key::new(6, "NLMSGERR_ATTR_MISS_NEST");
 
+scope! {
+    /// Represents the attribute set [`Family::Geneve`] in types.
+    Geneve;
+}
+
+/// Selects `IFLA_GENEVE_ID` of [`Geneve`] (`include/uapi/linux/if_link.h`).
+pub const IFLA_GENEVE_ID: Key<Geneve, u32> = Key::new(1, "IFLA_GENEVE_ID");
+/// Selects `IFLA_GENEVE_REMOTE` of [`Geneve`] (`include/uapi/linux/if_link.h`).
+pub const IFLA_GENEVE_REMOTE: Key<Geneve, Ipv4Addr> = Key::new(2, "IFLA_GENEVE_REMOTE");
+/// Selects `IFLA_GENEVE_TTL` of [`Geneve`] (`include/uapi/linux/if_link.h`).
+pub const IFLA_GENEVE_TTL: Key<Geneve, u8> = Key::new(3, "IFLA_GENEVE_TTL");
+/// Selects `IFLA_GENEVE_TOS` of [`Geneve`] (`include/uapi/linux/if_link.h`). 100 is printed as `100 (0x64)`.
+pub const IFLA_GENEVE_TOS: Key<Geneve, u8> = Key::new(4, "IFLA_GENEVE_TOS");
+/// Selects `IFLA_GENEVE_PORT` of [`Geneve`] (`include/uapi/linux/if_link.h`).
+pub const IFLA_GENEVE_PORT: Key<Geneve, u16> = Key::new(5, "IFLA_GENEVE_PORT");
+/// Selects `IFLA_GENEVE_COLLECT_METADATA` of [`Geneve`] (`include/uapi/linux/if_link.h`).
+pub const IFLA_GENEVE_COLLECT_METADATA: Key<Geneve, ()> = Key::new(6, "IFLA_GENEVE_COLLECT_METADATA");
+/// Selects `IFLA_GENEVE_REMOTE6` of [`Geneve`] (`include/uapi/linux/if_link.h`).
+pub const IFLA_GENEVE_REMOTE6: Key<Geneve, Ipv6Addr> = Key::new(7, "IFLA_GENEVE_REMOTE6");
+/// Selects `IFLA_GENEVE_UDP_CSUM` of [`Geneve`] (`include/uapi/linux/if_link.h`).
+pub const IFLA_GENEVE_UDP_CSUM: Key<Geneve, bool> = Key::new(8, "IFLA_GENEVE_UDP_CSUM");
+/// Selects `IFLA_GENEVE_UDP_ZERO_CSUM6_TX` of [`Geneve`] (`include/uapi/linux/if_link.h`).
+pub const IFLA_GENEVE_UDP_ZERO_CSUM6_TX: Key<Geneve, bool> = Key::new(9, "IFLA_GENEVE_UDP_ZERO_CSUM6_TX");
+/// Selects `IFLA_GENEVE_UDP_ZERO_CSUM6_RX` of [`Geneve`] (`include/uapi/linux/if_link.h`).
+pub const IFLA_GENEVE_UDP_ZERO_CSUM6_RX: Key<Geneve, bool> = Key::new(10, "IFLA_GENEVE_UDP_ZERO_CSUM6_RX");
+/// Selects `IFLA_GENEVE_LABEL` of [`Geneve`] (`include/uapi/linux/if_link.h`). 100 is printed as `100 (0x64)`.
+pub const IFLA_GENEVE_LABEL: Key<Geneve, u32> = Key::new(11, "IFLA_GENEVE_LABEL");
+/// Selects `IFLA_GENEVE_TTL_INHERIT` of [`Geneve`] (`include/uapi/linux/if_link.h`).
+pub const IFLA_GENEVE_TTL_INHERIT: Key<Geneve, bool> = Key::new(12, "IFLA_GENEVE_TTL_INHERIT");
+/// Selects `IFLA_GENEVE_DF` of [`Geneve`] (`include/uapi/linux/if_link.h`).
+pub const IFLA_GENEVE_DF: Key<Geneve, VxlanDf> = Key::new(13, "IFLA_GENEVE_DF");
+/// Selects `IFLA_GENEVE_INNER_PROTO_INHERIT` of [`Geneve`] (`include/uapi/linux/if_link.h`).
+pub const IFLA_GENEVE_INNER_PROTO_INHERIT: Key<Geneve, ()> = Key::new(14, "IFLA_GENEVE_INNER_PROTO_INHERIT");
+/// Selects `IFLA_GENEVE_PORT_RANGE` of [`Geneve`] (`include/uapi/linux/if_link.h`).
+pub const IFLA_GENEVE_PORT_RANGE: Key<Geneve, Vec<u8>> = Key::new(15, "IFLA_GENEVE_PORT_RANGE");
+
+scope! {
+    /// Represents the attribute set [`Family::Vrf`] in types.
+    Vrf;
+}
+
+/// Selects `IFLA_VRF_TABLE` of [`Vrf`] (`include/uapi/linux/if_link.h`).
+pub const IFLA_VRF_TABLE: Key<Vrf, u32> = Key::new(1, "IFLA_VRF_TABLE");
+
+scope! {
+    /// Represents the attribute set [`Family::VrfPort`] in types.
+    VrfPort;
+}
+
+/// Selects `IFLA_VRF_PORT_TABLE` of [`VrfPort`] (`include/uapi/linux/if_link.h`).
+pub const IFLA_VRF_PORT_TABLE: Key<VrfPort, u32> = Key::new(1, "IFLA_VRF_PORT_TABLE");
+
+scope! {
+    /// Represents the attribute set [`Family::Tun`] in types.
+    Tun;
+}
+
+/// Selects `IFLA_TUN_OWNER` of [`Tun`] (`include/uapi/linux/if_link.h`).
+pub const IFLA_TUN_OWNER: Key<Tun, u32> = Key::new(1, "IFLA_TUN_OWNER");
+/// Selects `IFLA_TUN_GROUP` of [`Tun`] (`include/uapi/linux/if_link.h`).
+pub const IFLA_TUN_GROUP: Key<Tun, u32> = Key::new(2, "IFLA_TUN_GROUP");
+/// Selects `IFLA_TUN_TYPE` of [`Tun`] (`include/uapi/linux/if_link.h`).
+pub const IFLA_TUN_TYPE: Key<Tun, TunType> = Key::new(3, "IFLA_TUN_TYPE");
+/// Selects `IFLA_TUN_PI` of [`Tun`] (`include/uapi/linux/if_link.h`).
+pub const IFLA_TUN_PI: Key<Tun, bool> = Key::new(4, "IFLA_TUN_PI");
+/// Selects `IFLA_TUN_VNET_HDR` of [`Tun`] (`include/uapi/linux/if_link.h`).
+pub const IFLA_TUN_VNET_HDR: Key<Tun, bool> = Key::new(5, "IFLA_TUN_VNET_HDR");
+/// Selects `IFLA_TUN_PERSIST` of [`Tun`] (`include/uapi/linux/if_link.h`).
+pub const IFLA_TUN_PERSIST: Key<Tun, bool> = Key::new(6, "IFLA_TUN_PERSIST");
+/// Selects `IFLA_TUN_MULTI_QUEUE` of [`Tun`] (`include/uapi/linux/if_link.h`).
+pub const IFLA_TUN_MULTI_QUEUE: Key<Tun, bool> = Key::new(7, "IFLA_TUN_MULTI_QUEUE");
+/// Selects `IFLA_TUN_NUM_QUEUES` of [`Tun`] (`include/uapi/linux/if_link.h`).
+pub const IFLA_TUN_NUM_QUEUES: Key<Tun, u32> = Key::new(8, "IFLA_TUN_NUM_QUEUES");
+/// Selects `IFLA_TUN_NUM_DISABLED_QUEUES` of [`Tun`] (`include/uapi/linux/if_link.h`).
+pub const IFLA_TUN_NUM_DISABLED_QUEUES: Key<Tun, u32> = Key::new(9, "IFLA_TUN_NUM_DISABLED_QUEUES");
+
+scope! {
+    /// Represents the attribute set [`Family::Ipvlan`] in types.
+    Ipvlan;
+}
+
+/// Selects `IFLA_IPVLAN_MODE` of [`Ipvlan`] (`include/uapi/linux/if_link.h`).
+pub const IFLA_IPVLAN_MODE: Key<Ipvlan, IpvlanMode> = Key::new(1, "IFLA_IPVLAN_MODE");
+/// Selects `IFLA_IPVLAN_FLAGS` of [`Ipvlan`] (`include/uapi/linux/if_link.h`).
+pub const IFLA_IPVLAN_FLAGS: Key<Ipvlan, IpvlanFlags> = Key::new(2, "IFLA_IPVLAN_FLAGS");
+
+scope! {
+    /// Represents the attribute set [`Family::Macvlan`] in types.
+    Macvlan;
+}
+
+/// Selects `IFLA_MACVLAN_MODE` of [`Macvlan`] (`include/uapi/linux/if_link.h`).
+pub const IFLA_MACVLAN_MODE: Key<Macvlan, MacvlanMode> = Key::new(1, "IFLA_MACVLAN_MODE");
+/// Selects `IFLA_MACVLAN_FLAGS` of [`Macvlan`] (`include/uapi/linux/if_link.h`).
+pub const IFLA_MACVLAN_FLAGS: Key<Macvlan, MacvlanFlags> = Key::new(2, "IFLA_MACVLAN_FLAGS");
+/// Selects `IFLA_MACVLAN_MACADDR_MODE` of [`Macvlan`] (`include/uapi/linux/if_link.h`).
+pub const IFLA_MACVLAN_MACADDR_MODE: Key<Macvlan, MacvlanMacaddrMode> = Key::new(3, "IFLA_MACVLAN_MACADDR_MODE");
+/// Selects `IFLA_MACVLAN_MACADDR` of [`Macvlan`] (`include/uapi/linux/if_link.h`).
+pub const IFLA_MACVLAN_MACADDR: Key<Macvlan, Mac> = Key::new(4, "IFLA_MACVLAN_MACADDR");
+elements! {
+    /// Represents the elements of [`IFLA_MACVLAN_MACADDR_DATA`] in types.
+    MacvlanMacaddrData of Macvlan = 5;
+}
+/// Selects `IFLA_MACVLAN_MACADDR_DATA` of [`Macvlan`] (`include/uapi/linux/if_link.h`).
+pub const IFLA_MACVLAN_MACADDR_DATA: Key<Macvlan, Nested<MacvlanMacaddrData>> =
+    Key::new(5, "IFLA_MACVLAN_MACADDR_DATA");
+/// Has the keys of [`IFLA_MACVLAN_MACADDR_DATA`], of which its set has some with the same names.
+pub mod macvlan_macaddr_data {
+    use crate::*;
+
+    /// Selects `IFLA_MACVLAN_MACADDR` of [`IFLA_MACVLAN_MACADDR_DATA`] (`include/uapi/linux/if_link.h`).
+    pub const IFLA_MACVLAN_MACADDR: Key<MacvlanMacaddrData, Mac> = Key::new(4, "IFLA_MACVLAN_MACADDR");
+}
+/// Selects `IFLA_MACVLAN_MACADDR_COUNT` of [`Macvlan`] (`include/uapi/linux/if_link.h`).
+pub const IFLA_MACVLAN_MACADDR_COUNT: Key<Macvlan, u32> = Key::new(6, "IFLA_MACVLAN_MACADDR_COUNT");
+/// Selects `IFLA_MACVLAN_BC_QUEUE_LEN` of [`Macvlan`] (`include/uapi/linux/if_link.h`).
+pub const IFLA_MACVLAN_BC_QUEUE_LEN: Key<Macvlan, u32> = Key::new(7, "IFLA_MACVLAN_BC_QUEUE_LEN");
+/// Selects `IFLA_MACVLAN_BC_QUEUE_LEN_USED` of [`Macvlan`] (`include/uapi/linux/if_link.h`).
+pub const IFLA_MACVLAN_BC_QUEUE_LEN_USED: Key<Macvlan, u32> = Key::new(8, "IFLA_MACVLAN_BC_QUEUE_LEN_USED");
+/// Selects `IFLA_MACVLAN_BC_CUTOFF` of [`Macvlan`] (`include/uapi/linux/if_link.h`).
+pub const IFLA_MACVLAN_BC_CUTOFF: Key<Macvlan, i32> = Key::new(9, "IFLA_MACVLAN_BC_CUTOFF");
+
+scope! {
+    /// Represents the attribute set [`Family::Netkit`] in types.
+    Netkit;
+}
+
+/// Selects `IFLA_NETKIT_PEER_INFO` of [`Netkit`] (`include/uapi/linux/if_link.h`).
+pub const IFLA_NETKIT_PEER_INFO: Key<Netkit, Vec<u8>> = Key::new(1, "IFLA_NETKIT_PEER_INFO");
+/// Selects `IFLA_NETKIT_PRIMARY` of [`Netkit`] (`include/uapi/linux/if_link.h`).
+pub const IFLA_NETKIT_PRIMARY: Key<Netkit, bool> = Key::new(2, "IFLA_NETKIT_PRIMARY");
+/// Selects `IFLA_NETKIT_POLICY` of [`Netkit`] (`include/uapi/linux/if_link.h`).
+pub const IFLA_NETKIT_POLICY: Key<Netkit, NetkitPolicy> = Key::new(3, "IFLA_NETKIT_POLICY");
+/// Selects `IFLA_NETKIT_PEER_POLICY` of [`Netkit`] (`include/uapi/linux/if_link.h`).
+pub const IFLA_NETKIT_PEER_POLICY: Key<Netkit, NetkitPolicy> = Key::new(4, "IFLA_NETKIT_PEER_POLICY");
+/// Selects `IFLA_NETKIT_MODE` of [`Netkit`] (`include/uapi/linux/if_link.h`).
+pub const IFLA_NETKIT_MODE: Key<Netkit, NetkitMode> = Key::new(5, "IFLA_NETKIT_MODE");
+/// Selects `IFLA_NETKIT_SCRUB` of [`Netkit`] (`include/uapi/linux/if_link.h`).
+pub const IFLA_NETKIT_SCRUB: Key<Netkit, NetkitScrub> = Key::new(6, "IFLA_NETKIT_SCRUB");
+/// Selects `IFLA_NETKIT_PEER_SCRUB` of [`Netkit`] (`include/uapi/linux/if_link.h`).
+pub const IFLA_NETKIT_PEER_SCRUB: Key<Netkit, NetkitScrub> = Key::new(7, "IFLA_NETKIT_PEER_SCRUB");
+/// Selects `IFLA_NETKIT_HEADROOM` of [`Netkit`] (`include/uapi/linux/if_link.h`).
+pub const IFLA_NETKIT_HEADROOM: Key<Netkit, u16> = Key::new(8, "IFLA_NETKIT_HEADROOM");
+/// Selects `IFLA_NETKIT_TAILROOM` of [`Netkit`] (`include/uapi/linux/if_link.h`).
+pub const IFLA_NETKIT_TAILROOM: Key<Netkit, u16> = Key::new(9, "IFLA_NETKIT_TAILROOM");
+
 /// Has the places of the array [`IFLA_STATS`]: indices of its `Vec`.
 pub mod link_stats {
     /// Is the place of `rx_packets`.
@@ -1964,4 +2194,51 @@ pub(crate) fn visit_keys(visitor: &mut impl crate::tests::Visitor) {
     visitor.attribute("NLMSGERR_ATTR_POLICY", NLMSGERR_ATTR_POLICY);
     visitor.attribute("NLMSGERR_ATTR_MISS_TYPE", NLMSGERR_ATTR_MISS_TYPE);
     visitor.attribute("NLMSGERR_ATTR_MISS_NEST", NLMSGERR_ATTR_MISS_NEST);
+    visitor.attribute("IFLA_GENEVE_ID", IFLA_GENEVE_ID);
+    visitor.attribute("IFLA_GENEVE_REMOTE", IFLA_GENEVE_REMOTE);
+    visitor.attribute("IFLA_GENEVE_TTL", IFLA_GENEVE_TTL);
+    visitor.attribute("IFLA_GENEVE_TOS", IFLA_GENEVE_TOS);
+    visitor.attribute("IFLA_GENEVE_PORT", IFLA_GENEVE_PORT);
+    visitor.attribute("IFLA_GENEVE_COLLECT_METADATA", IFLA_GENEVE_COLLECT_METADATA);
+    visitor.attribute("IFLA_GENEVE_REMOTE6", IFLA_GENEVE_REMOTE6);
+    visitor.attribute("IFLA_GENEVE_UDP_CSUM", IFLA_GENEVE_UDP_CSUM);
+    visitor.attribute("IFLA_GENEVE_UDP_ZERO_CSUM6_TX", IFLA_GENEVE_UDP_ZERO_CSUM6_TX);
+    visitor.attribute("IFLA_GENEVE_UDP_ZERO_CSUM6_RX", IFLA_GENEVE_UDP_ZERO_CSUM6_RX);
+    visitor.attribute("IFLA_GENEVE_LABEL", IFLA_GENEVE_LABEL);
+    visitor.attribute("IFLA_GENEVE_TTL_INHERIT", IFLA_GENEVE_TTL_INHERIT);
+    visitor.attribute("IFLA_GENEVE_DF", IFLA_GENEVE_DF);
+    visitor.attribute("IFLA_GENEVE_INNER_PROTO_INHERIT", IFLA_GENEVE_INNER_PROTO_INHERIT);
+    visitor.attribute("IFLA_GENEVE_PORT_RANGE", IFLA_GENEVE_PORT_RANGE);
+    visitor.attribute("IFLA_VRF_TABLE", IFLA_VRF_TABLE);
+    visitor.attribute("IFLA_VRF_PORT_TABLE", IFLA_VRF_PORT_TABLE);
+    visitor.attribute("IFLA_TUN_OWNER", IFLA_TUN_OWNER);
+    visitor.attribute("IFLA_TUN_GROUP", IFLA_TUN_GROUP);
+    visitor.attribute("IFLA_TUN_TYPE", IFLA_TUN_TYPE);
+    visitor.attribute("IFLA_TUN_PI", IFLA_TUN_PI);
+    visitor.attribute("IFLA_TUN_VNET_HDR", IFLA_TUN_VNET_HDR);
+    visitor.attribute("IFLA_TUN_PERSIST", IFLA_TUN_PERSIST);
+    visitor.attribute("IFLA_TUN_MULTI_QUEUE", IFLA_TUN_MULTI_QUEUE);
+    visitor.attribute("IFLA_TUN_NUM_QUEUES", IFLA_TUN_NUM_QUEUES);
+    visitor.attribute("IFLA_TUN_NUM_DISABLED_QUEUES", IFLA_TUN_NUM_DISABLED_QUEUES);
+    visitor.attribute("IFLA_IPVLAN_MODE", IFLA_IPVLAN_MODE);
+    visitor.attribute("IFLA_IPVLAN_FLAGS", IFLA_IPVLAN_FLAGS);
+    visitor.attribute("IFLA_MACVLAN_MODE", IFLA_MACVLAN_MODE);
+    visitor.attribute("IFLA_MACVLAN_FLAGS", IFLA_MACVLAN_FLAGS);
+    visitor.attribute("IFLA_MACVLAN_MACADDR_MODE", IFLA_MACVLAN_MACADDR_MODE);
+    visitor.attribute("IFLA_MACVLAN_MACADDR", IFLA_MACVLAN_MACADDR);
+    visitor.attribute("IFLA_MACVLAN_MACADDR_DATA", IFLA_MACVLAN_MACADDR_DATA);
+    visitor.element(IFLA_MACVLAN_MACADDR_DATA, "IFLA_MACVLAN_MACADDR", macvlan_macaddr_data::IFLA_MACVLAN_MACADDR);
+    visitor.attribute("IFLA_MACVLAN_MACADDR_COUNT", IFLA_MACVLAN_MACADDR_COUNT);
+    visitor.attribute("IFLA_MACVLAN_BC_QUEUE_LEN", IFLA_MACVLAN_BC_QUEUE_LEN);
+    visitor.attribute("IFLA_MACVLAN_BC_QUEUE_LEN_USED", IFLA_MACVLAN_BC_QUEUE_LEN_USED);
+    visitor.attribute("IFLA_MACVLAN_BC_CUTOFF", IFLA_MACVLAN_BC_CUTOFF);
+    visitor.attribute("IFLA_NETKIT_PEER_INFO", IFLA_NETKIT_PEER_INFO);
+    visitor.attribute("IFLA_NETKIT_PRIMARY", IFLA_NETKIT_PRIMARY);
+    visitor.attribute("IFLA_NETKIT_POLICY", IFLA_NETKIT_POLICY);
+    visitor.attribute("IFLA_NETKIT_PEER_POLICY", IFLA_NETKIT_PEER_POLICY);
+    visitor.attribute("IFLA_NETKIT_MODE", IFLA_NETKIT_MODE);
+    visitor.attribute("IFLA_NETKIT_SCRUB", IFLA_NETKIT_SCRUB);
+    visitor.attribute("IFLA_NETKIT_PEER_SCRUB", IFLA_NETKIT_PEER_SCRUB);
+    visitor.attribute("IFLA_NETKIT_HEADROOM", IFLA_NETKIT_HEADROOM);
+    visitor.attribute("IFLA_NETKIT_TAILROOM", IFLA_NETKIT_TAILROOM);
 }

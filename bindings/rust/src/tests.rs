@@ -77,7 +77,7 @@ impl Sample for Vec<u8> {
     fn sample_for(name: &str) -> Self {
         // (the bytes of a struct are as many as it has)
         let size = match name {
-            "IFLA_VXLAN_PORT_RANGE" => 4,
+            "IFLA_VXLAN_PORT_RANGE" | "IFLA_GENEVE_PORT_RANGE" => 4,
             "IFLA_INET6_CACHEINFO" => 16,
             "IFLA_MAP" => 32,
             _ => 8,
