@@ -114,8 +114,10 @@ def names_held(rows, holder):
 
 def whose_lists(rows):
     """Words for the devices and ports whose attributes the sets have."""
-    *first, last = [it["whose"] for it in rows if it["kinds"]]
-    return f"{', '.join(first)}, and {last}"
+    whose = [it["whose"] for it in rows if it["kinds"]]
+    others = [it for it in whose if not it.endswith(" devices")]
+    *first, last = [name for it in whose if it not in others for name in it.removesuffix(" devices").split(" and ")]
+    return f"{', '.join(others)}, and {' and '.join([', '.join(first)] * bool(first) + [last])} devices"
 
 
 def in_calls(rows):

@@ -315,9 +315,9 @@ enum nlroute_family {
 """),
     MAN: (".B a\nThe list is IFLA_INFO_DATA of a\n.BR a\nThe list is IFLA_INFO_SLAVE_DATA of a\n.B a\nThe list is A\n",
           '.BR dsa ", " hsr\nThe list is IFLA_INFO_DATA of a\n.B port\nThe list is IFLA_INFO_SLAVE_DATA of a\n.B a\nThe list is A\n'),
-    "README.md": ("They cover a](docs/families.md) b\n", "They cover DSA ports, HSR devices, and ports ([6 families](docs/families.md) b\n"),
+    "README.md": ("They cover a](docs/families.md) b\n", "They cover DSA ports, ports, and HSR devices ([6 families](docs/families.md) b\n"),
     **{it: ("link attributes, such as those of a. It has b\n",
-            "link attributes, such as those of DSA ports, HSR devices, and ports. It has b\n") for it in BINDINGS},
+            "link attributes, such as those of DSA ports, ports, and HSR devices. It has b\n") for it in BINDINGS},
     ANSWERS: (f"-- A\n{GOALS}\nold\n", f"-- A\n{GOALS}" + "".join(f"""
 pub returns-in-{it}-clause-answer : goal.returns-in-{it}-clause-answer
 returns-in-{it}-clause-answer c = rw c.in-{it}.is c.rewrite_as{'' if it == 'Dsa' else f'-in-{it}'}.ensures.answer
