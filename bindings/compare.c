@@ -51,6 +51,7 @@ static void print_content(const struct nlroute_value *value, const uint8_t *byte
     case NLROUTE_FORM_BYTES: printf("bytes "), print_hex(content, value->length); break;
     case NLROUTE_FORM_TEXT: printf("text "), print_hex(content, value->length); break;
     case NLROUTE_FORM_HELD: printf("held "), print_hex(content, value->length); break;
+    case NLROUTE_FORM_PEER: printf("peer "), print_hex(content, value->length); break;
     case NLROUTE_FORM_LIST: printf("list %llu", number); break;
     default: printf("unknown %u ", value->flags), print_hex(content, value->length);
     }

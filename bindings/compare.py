@@ -77,7 +77,7 @@ def payload(row):
         return b"".join(attribute(flagged(it.kind), payload(it)) for it in chosen) + some_unknown()
     length = LENGTHS.get(row.form)
     if length is None:
-        length = random.choice([0, 1, 6, 20] if row.form in (Form.BYTES, Form.TEXT, Form.HELD) else [1, 2, 4, 4, 8])
+        length = random.choice([0, 1, 6, 20] if row.form in (Form.BYTES, Form.TEXT, Form.HELD, Form.PEER) else [1, 2, 4, 4, 8])
     found = random.choice([random.randbytes(length), bytes([random.randrange(8)]) + bytes(max(0, length - 1))])[:length]
     return b"\x88\xa8" if row.name.endswith("VLAN_PROTOCOL") and random.random() < 0.5 else found
 

@@ -103,6 +103,7 @@ WORDS = {
     Form.BYTES: lambda it: f"bytes {it.hex()}",
     Form.TEXT: lambda it: f"text {it.hex()}",
     Form.HELD: lambda it: f"held {it.hex()}",
+    Form.PEER: lambda it: f"peer {it.hex()}",
 }
 
 

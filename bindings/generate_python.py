@@ -20,6 +20,7 @@ PLAIN = {
     "bytes": "bytes",
     "text": "Text",
     "held": "bytes",
+    "peer": "bytes",
 }
 TOP = '''\
 """Numbers of the C API, enums, flags and names of attributes. Written by bindings/generate.py."""

@@ -19,6 +19,7 @@ PLAIN = {
     "bytes": "Vec<u8>",
     "text": "Text",
     "held": "Held",
+    "peer": "Peer",
 }
 # The kernel's header of a constant, by its start. All others are in if_link.h.
 HEADERS = {

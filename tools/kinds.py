@@ -26,7 +26,7 @@ PLACES = re.compile(r"^abbrev pub (\w+)_names .*\n.* =((?:\n? +\(\d+, codes \"\w
 FORMS = {
     "Nothing": "EMPTY", "Bool": "BOOL", "FlagOrBool": "BOOL", "Plain": "UNSIGNED", "Coded": "NAMED", "Signed": "SIGNED",
     "Enum": "NAMED", "Protocol": "NAMED", "Flags": "FLAGS", "LowFlags": "FLAGS", "MaskedFlags": "MASKED", "Pair": "QOS_MAPPING",
-    "Mac": "MAC", "Ipv4": "IPV4", "Ipv6": "IPV6", "Address": "BYTES", "Text": "TEXT", "Held": "HELD", "Limits": "BITTIMING_CONST",
+    "Mac": "MAC", "Ipv4": "IPV4", "Ipv6": "IPV6", "Address": "BYTES", "Text": "TEXT", "Held": "HELD", "Peer": "PEER", "Limits": "BITTIMING_CONST",
     "Numbers": "LIST of UNSIGNED", "Numbers I32": "LIST of SIGNED", "Struct": "BYTES",
 }  # fmt: skip
 # The structs that have forms of their own.

@@ -52,6 +52,7 @@ CLASSES = {
     "Vec<u8>": ("bytes", "Raw {0}.items"),
     "Shown<Text>": ("text", "Raw {0}.items"),
     "Shown<Held>": ("held", "Raw {0}.items"),
+    "Peer": ("peer", "Raw (peer_octets {0})"),
     "Vec<u16>": ("u16s", "Raw (octets_of 2 {0}.items)"),
     "Vec<u32>": ("u32s", "Raw (octets_of 4 {0}.items)"),
     "Vec<u64>": ("u64s", "Raw (octets_of 8 {0}.items)"),
@@ -88,6 +89,7 @@ MODULES = {
     "link_base.specs.Number": "bytes_be",
     "link_base.specs.Layout": "octets_of octets_by",
     "link_base.specs.Structs": "packed",
+    "link_base.specs.Peer": "peer_octets",
     "link_base.specs.Class": "Number Integer Boolean Raw LowByte EtherType Nothing flag_value",
     "link_base.specs.Payloads": "",
     "link_base.specs.declared.rows.form.Layout.TheVariants as layouts": "layouts",
@@ -290,6 +292,16 @@ def sample(it):
         plain = "\n    type 16383 (empty)" if it.size else f"({len(payload)} bytes, not decoded)"
         empty = '[{"name":"16383","value":{"type":16383,"flags":{"number":0,"names":[]},"hex":""}}]'
         return payload, plain, str([*payload]), empty if it.size else f'{{"hex":"{payload.hex()}"}}'
+    if kind == "Peer":
+        # (the interface index is the number of the type)
+        header, held = struct.pack("<BxHiII", 0, 0, it.number, 0, 0), struct.pack("<HH", 4, 16383)
+        zeros = ",".join(f'"{name}":{{"number":0,"names":[]}}' for name in ("flags", "change"))
+        shown = '{"name":"16383","value":{"type":16383,"flags":{"number":0,"names":[]},"hex":""}}'
+        family = '"family":{"number":0,"name":"AF_UNSPEC"},"type":{"number":0,"name":null}'
+        return (
+            header + held, f"ifindex {it.number}\n    type 16383 (empty)", f"Peer {{ header: {[*header]}, attributes: {[*held]} }}",
+            f'{{{family},"index":{it.number},{zeros},"attrs":[{shown}]}}',
+        )  # fmt: skip
     if it.its_class in ("[u8; 6]", "Vec<u8>"):
         payload = octets(6 if kind[0] == "[" else 5)
         return payload, payload.hex(":"), str([*payload]), f'"{payload.hex(":")}"'

@@ -86,6 +86,7 @@ class Form:
     UNKNOWN = 19
     TEXT = 20
     HELD = 21
+    PEER = 22
 
 
 class Code(Named):

@@ -134,6 +134,7 @@ CONTENTS: dict[int, Callable[[Row | None, Record, bytes], Content]] = {
     Form.BYTES: lambda row, it, data: payload(it, data),
     Form.TEXT: lambda row, it, data: Text(payload(it, data)),
     Form.HELD: lambda row, it, data: payload(it, data),
+    Form.PEER: lambda row, it, data: payload(it, data),
     Form.UNKNOWN: lambda row, it, data: Unknown(payload(it, data), it.flags),
 }
 

@@ -227,5 +227,6 @@ FIELDS: dict[int, Callable[[Row, Any], Fields]] = {
     Form.BYTES: lambda row, value: carried(octets_of(value)),
     Form.TEXT: lambda row, value: carried(Text(value)),
     Form.HELD: lambda row, value: carried(octets_of(value)),
+    Form.PEER: lambda row, value: carried(octets_of(value)),
     Form.UNKNOWN: unknown,
 }

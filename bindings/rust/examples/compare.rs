@@ -50,6 +50,7 @@ fn content(value: &Value<'_>) -> String {
         Content::Bytes(bytes) => format!("bytes {}", hex(bytes)),
         Content::Text(bytes) => format!("text {}", hex(bytes)),
         Content::Held(bytes) => format!("held {}", hex(bytes)),
+        Content::Peer(bytes) => format!("peer {}", hex(bytes)),
         Content::List(elements) => format!("list {}", elements.count()),
         Content::Unknown { flags, payload } => format!("unknown {flags} {}", hex(payload)),
         other => format!("{other:?}"),

@@ -3,7 +3,9 @@
 use crate::kinds::{form, item};
 use crate::list::{List, Nested};
 use crate::sys::{self, Raw};
-use crate::types::{BerrCounter, BridgeId, CanBitTiming, CanBitTimingConst, Held, Mac, QosMapping, Text, VlanInfo};
+use crate::types::{
+    BerrCounter, BridgeId, CanBitTiming, CanBitTimingConst, Held, Mac, Peer, QosMapping, Text, VlanInfo,
+};
 use crate::value::{payload, Value};
 use crate::{BridgeVlanFlags, Scope};
 use std::borrow::Cow;
@@ -69,9 +71,13 @@ impl<'a> Store<'_, 'a> {
     pub(crate) fn copy(&mut self, elements: &[Raw], bytes: &[u8]) {
         for element in elements {
             let offset = match element.form {
-                form::BITTIMING | form::BITTIMING_CONST | form::BYTES | form::TEXT | form::HELD | form::UNKNOWN => {
-                    self.keep(payload(element, bytes))
-                }
+                form::BITTIMING
+                | form::BITTIMING_CONST
+                | form::BYTES
+                | form::TEXT
+                | form::HELD
+                | form::PEER
+                | form::UNKNOWN => self.keep(payload(element, bytes)),
                 _ => 0,
             };
             self.values.push(Raw { offset, ..*element });
@@ -149,6 +155,8 @@ field! {
         |self, kind, to| to.bytes(kind, form::TEXT, 0, &self.0);
     Held: |value| value.has(form::HELD).then(|| Held(value.payload().to_vec())),
         |self, kind, to| to.bytes(kind, form::HELD, 0, &self.0);
+    Peer: |value| value.has(form::PEER).then(|| Peer::of(value.payload())).flatten(),
+        |self, kind, to| to.bytes(kind, form::PEER, 0, &self.payload());
 }
 
 /// Implements `Field` for lists whose elements are alike. An element has its own type or, if it has none, its index.

@@ -29,6 +29,7 @@ pub(crate) mod form {
     pub const UNKNOWN: u8 = 19;
     pub const TEXT: u8 = 20;
     pub const HELD: u8 = 21;
+    pub const PEER: u8 = 22;
 }
 
 /// The numbers of `enum nlroute_refusal`.

@@ -100,7 +100,7 @@ pub use kinds::*;
 pub use list::{find, find_in, List, Nested};
 pub use scope::{Any, Key, Scope, Set, Typed};
 pub use types::{
-    BerrCounter, BridgeId, CanBitTiming, CanBitTimingConst, Held, Mac, Masked, QosMapping, Text, VlanInfo,
+    BerrCounter, BridgeId, CanBitTiming, CanBitTimingConst, Held, Mac, Masked, Peer, QosMapping, Text, VlanInfo,
 };
 pub use value::{Content, Iter, TypedIter, Value};
 

@@ -64,6 +64,7 @@ samples! {
     Vec<u64>: vec![0, 1, u64::MAX];
     Text: Text(b"eth0\xff".to_vec());
     Held: Held(vec![5, 0, 1]);
+    Peer: Peer { header: [1; 16], attributes: vec![5, 0, 1] };
     Vec<Ipv4Addr>: vec![Ipv4Addr::LOCALHOST, Ipv4Addr::BROADCAST];
     Vec<Ipv6Addr>: vec![Ipv6Addr::LOCALHOST, Ipv6Addr::UNSPECIFIED];
     Vec<QosMapping>: vec![QosMapping { from: 1, to: 2 }, Sample::sample()];

@@ -1,7 +1,7 @@
 //! Types of values that are structs of the kernel or addresses.
 
 use crate::error::ParseMacError;
-use crate::{BridgeVlanFlags, Fault, List, Set};
+use crate::{BridgeVlanFlags, Fault, Link, List, Set};
 use std::borrow::Cow;
 use std::fmt;
 use std::str::FromStr;
@@ -131,6 +131,37 @@ impl Held {
     /// Returns the first error of a list that is malformed.
     pub fn read<S: Set>(&self) -> Result<List<'_, S>, Fault> {
         List::read(&self.0)
+    }
+}
+
+/// Holds the other end of a link, in a request that makes both (`VETH_INFO_PEER`).
+#[derive(Clone, Debug, PartialEq, Eq, Hash, Default)]
+pub struct Peer {
+    /// Holds the header (`struct ifinfomsg`).
+    pub header: [u8; 16],
+    /// Holds the list of attributes of a link.
+    pub attributes: Vec<u8>,
+}
+
+impl Peer {
+    /// Returns the peer in a payload.
+    pub(crate) fn of(payload: &[u8]) -> Option<Peer> {
+        let header = payload.get(..16)?.try_into().ok()?;
+        Some(Peer { header, attributes: payload[16..].to_vec() })
+    }
+
+    /// Returns the payload.
+    pub(crate) fn payload(&self) -> Vec<u8> {
+        [&self.header, &self.attributes[..]].concat()
+    }
+
+    /// Reads the list.
+    ///
+    /// # Errors
+    ///
+    /// Returns the first error of a list that is malformed.
+    pub fn read(&self) -> Result<List<'_, Link>, Fault> {
+        List::read(&self.attributes)
     }
 }
 

@@ -123,6 +123,7 @@ impl<'a> Value<'a> {
             form::BYTES => Content::Bytes(self.payload()),
             form::TEXT => Content::Text(self.payload()),
             form::HELD => Content::Held(self.payload()),
+            form::PEER => Content::Peer(self.payload()),
             form::LIST => Content::List(self.elements()),
             _ => return None,
         })
@@ -388,6 +389,8 @@ pub enum Content<'a> {
     Text(&'a [u8]),
     /// Holds a list of attributes of another set, as bytes.
     Held(&'a [u8]),
+    /// Holds a header of 16 bytes (`struct ifinfomsg`), then a list of attributes of a link, as bytes.
+    Peer(&'a [u8]),
     /// Holds the elements of a list.
     List(Iter<'a>),
     /// Holds an attribute whose type is not known.

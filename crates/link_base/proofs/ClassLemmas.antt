@@ -9,7 +9,7 @@ use Rattle.link_base.specs.Number.{IsBytes, number, bytes_of, bound}
 use Rattle.link_base.specs.declared.wire.fault.Cause.{Cause}
 use Rattle.link_base.specs.declared.wire.fault.Cause.TheVariants.{WrongLength, TooShort}
 use Rattle.link_base.specs.Name.{name_of, name_field, IsNameField}
-use Rattle.link_base.specs.Class.{Extent, Exactly, AtLeast, Fixed, Multiple, AtMost, size_of, length_cause, Class, Unsigned, Signed, Truth, Optional, Octets, Bytes, Many, Named, Protocol, Low, Empty, Limits, Value, Name, Unlisted, extent, is_listed, named, flag_in, flag_value, meant, unless, class_value, written, canon, cut, IsTidy}
+use Rattle.link_base.specs.Class.{Extent, Exactly, AtLeast, Fixed, Multiple, AtMost, size_of, length_cause, Class, Unsigned, Signed, Truth, Optional, Octets, Bytes, Headed, Many, Named, Protocol, Low, Empty, Limits, Value, Name, Unlisted, extent, is_listed, named, flag_in, flag_value, meant, unless, class_value, written, canon, cut, IsTidy}
 use Rattle.link_base.proofs.NameLemmas.{fixed_iff}
 use Rattle.link_base.proofs.Numbers.{number_below, bytes_of-number, length-bytes_of}
 
@@ -206,6 +206,7 @@ tidy_iff Truth p h e =
 tidy_iff Optional p h e = optional_tidy p (at_most 1 (length p) e)
 tidy_iff (Octets x) p h e = octets_tidy (size_of x) p (size_reached x (length p) e)
 tidy_iff Bytes p h e = (λ q. tt, λ q. refl)
+tidy_iff (Headed n) p h e = (λ q. tt, λ q. refl)
 tidy_iff (Many n) p h e = (λ q. tt, λ q. refl)
 tidy_iff (Named n listed) p h e = (λ q. tt, λ q. written-named n listed (number p) ∙ same_bytes n p h (exactly n (length p) e))
 tidy_iff Protocol p h e = ether_type_tidy p
@@ -223,6 +224,7 @@ written_short Truth p e = omega (arith, exactly 1 (length p) e)
 written_short Optional p e = omega (arith, optional_length p (at_most 1 (length p) e))
 written_short (Octets x) p e = omega (arith, length-take (size_of x) p)
 written_short Bytes p e = omega arith
+written_short (Headed n) p e = omega arith
 written_short (Many n) p e = omega arith
 written_short (Named n listed) p e = omega (arith, exactly n (length p) e, ap length (written-named n listed (number p)), length-bytes_of n (number p))
 written_short Protocol p e = omega (arith, exactly 2 (length p) e)

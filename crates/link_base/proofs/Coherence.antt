@@ -7,7 +7,7 @@ use Rattle.std.proofs.lemmas.Bool.{and_parts, eqb-true, ltb-true}
 use Rattle.std.proofs.lemmas.Slice.Eq.{bytes_eq-Decides}
 use Rattle.link_base.specs.declared.rows.form.Form.{Form}
 use Rattle.link_base.specs.declared.rows.form.Form.TheVariants as forms
-use Rattle.link_base.specs.Class.{Extent, Exactly, AtLeast, Fixed, Multiple, AtMost, Class, Unsigned, Signed, Truth, Optional, Octets, Bytes, Many, Named, Protocol, Low, Empty, Limits}
+use Rattle.link_base.specs.Class.{Extent, Exactly, AtLeast, Fixed, Multiple, AtMost, Class, Unsigned, Signed, Truth, Optional, Octets, Bytes, Headed, Many, Named, Protocol, Low, Empty, Limits}
 use Rattle.link_base.specs.Frame.{kind_limit}
 use Rattle.link_base.specs.Payloads.{class_by}
 use Rattle.link_base.specs.Table.{Row, Rows, Shape, One, Nested, Addresses, Table, row_at}
@@ -48,7 +48,8 @@ class_back s =
     else (if first s == 8 then Low
     else (if first s == 9 then Empty
     else (if first s == 10 then Limits
-    else Optional))))))))))
+    else (if first s == 11 then Optional
+    else Headed (first (rest s)))))))))))))
 
 extent_again : (e : Extent) → extent_back (extent_code e) ≡ e
 extent_again (Exactly n) = refl

@@ -9,6 +9,8 @@ use Rattle.link_base.specs.declared.rows.form.Order.{Order}
 use Rattle.link_base.specs.declared.rows.form.Order.TheVariants as orders
 use Rattle.link_base.specs.declared.rows.form.Role.{Role}
 use Rattle.link_base.specs.declared.rows.form.Role.TheVariants as roles
+use Rattle.link_base.specs.declared.rows.form.Look.{Look}
+use Rattle.link_base.specs.declared.rows.form.Look.TheVariants as looks
 use Rattle.link_base.specs.declared.rows.label.KindLabel.{KindLabel}
 use Rattle.link_base.specs.declared.views.content.Content.{Content as Borrowed}
 use Rattle.link_base.specs.declared.views.content.Content.TheVariants as borrowed
@@ -20,7 +22,7 @@ use Rattle.link_base.specs.Coherent.{is_single, IsShapeOf}
 use Rattle.link_base.specs.Forms.{bytes_in}
 use Rattle.link_base.specs.Frame.{kind_of}
 use Rattle.link_base.specs.Labels.{label_of, label_in}
-use Rattle.link_base.specs.Payloads.{number_class, class_by}
+use Rattle.link_base.specs.Payloads.{number_class, look_class, class_by}
 use Rattle.link_base.specs.Orders.{bytes_by}
 use Rattle.link_base.specs.Table.{Label, Row, Shape, One, Nested, Addresses, Table, AttrValue, Gives, GivesBy, row_at, class_at, form_at, label_at, label_by, single_case}
 use Rattle.link_base.specs.Borrowed.{Says, SaysAddresses, told, Borrows, BorrowsBy, HasValue}
@@ -47,6 +49,13 @@ number_says orders.Little role w names p x is low =
 number_says orders.Big role w names p x is low =
     let n = bytes_in w in
     (ap Raw (all_taken n p (ap length is ∙ bytes_be_len n x) ∙ is), low)
+
+-- ---- bytes
+
+-- bytes are all bytes of their payload, whatever they are shown as
+pub bytes_say : (look : Look) (p : List ℕ) (content : Borrowed) → Says content (Raw p) → Borrows (Some (One (look_class look))) p content
+bytes_say looks.Peer p content h = h
+bytes_say look p content h = h
 
 -- ---- the shape of a form
 

@@ -111,6 +111,17 @@ frame_after b0 b b' text frame sub at so_far e-at room e-sub e-b' =
     let part : sub ≡ frame ++ drop (length (text ++ frame)) b0 = e-sub ∙ ap (λ (t : List ℕ). frame ++ drop (length frame) t) all ∙ ap (λ (t : List ℕ). frame ++ t) far in
     e-b' ∙ rw (front, past, part) (simp (append_assoc, append-nil))
 
+-- a part of the buffer at its start, and one that fills the rest
+pub two_parts : (b0 front b back b' : List ℕ) (at : ℕ) → at ≡ length front → b ≡ front ++ drop at b0 → length b0 ≡ at + length back → b' ≡ put_mid at (length b - at) b back → b' ≡ front ++ back
+two_parts b0 front b back b' at size e-b room e-b' =
+    let end = at + length back in
+    let len : length b ≡ end = omega (arith, ap length e-b, length-append front (drop at b0), length-drop at b0) in
+    let all : take end b' ≡ front ++ back =
+    ap (take end) e-b' ∙ take-put_mid at (length b - at) b back end refl (omega arith) ∙ ap (λ t. t ++ back) (ap (take at) e-b ∙ take_at front (drop at b0) at (sym size)) in
+    let none : drop end b' ≡ [] =
+    ap (drop end) e-b' ∙ drop-put_mid at (length b - at) b back end (omega arith) (omega arith) (omega arith) ∙ nil_from_length (drop end b) (omega (arith, length-drop end b)) in
+    sym (take-append-drop end b') ∙ ap (λ t. t ++ drop end b') all ∙ ap (λ t. (front ++ back) ++ t) none ∙ append-nil (front ++ back)
+
 -- if one value does not fit, not all fit
 pub not_all_fit : (vs : List AttrValue) (i : ℕ) → IsFirstUnfit vs i → AllByRecursion Fits vs → ⊥
 not_all_fit vs i u all = past u.before (subst (AllByRecursion Fits) u.values all)

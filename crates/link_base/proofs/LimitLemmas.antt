@@ -7,7 +7,7 @@ use Rattle.link_base.specs.Number.{IsBytes, number}
 use Rattle.link_base.specs.declared.wire.fault.Cause.TheVariants.{TooShort, WrongLength}
 use Rattle.link_base.specs.Frame.{Frame, Frames, AreFrames, kind_of, pad, frame_bytes, spelled}
 use Rattle.link_base.specs.Wire.{whole}
-use Rattle.link_base.specs.Class.{Exactly, AtLeast, Fixed, Multiple, AtMost, Class, Unsigned, Signed, Truth, Optional, Octets, Bytes, Many, Named, Protocol, Low, Empty, Limits, extent, length_cause, meant, written}
+use Rattle.link_base.specs.Class.{Exactly, AtLeast, Fixed, Multiple, AtMost, Class, Unsigned, Signed, Truth, Optional, Octets, Bytes, Headed, Many, Named, Protocol, Low, Empty, Limits, extent, length_cause, meant, written}
 use Rattle.link_base.specs.Table.{Row, row_at, class_at, Rows, Leaf, LeafGives, leaf_field, leaf_payload, written_leaves, Shape, One, Nested, Addresses, Content, Table, AttrValue, of_length, Gives, addresses_from, content_payload, Fits}
 use Rattle.link_base.specs.Coherent.{is_shape_of}
 use Rattle.link_base.specs.Held.{IsOctets}
@@ -44,6 +44,7 @@ kept_length (Octets (Fixed n)) p k e = omega (arith, whole_is n (length p) e, le
 kept_length (Octets (Multiple n)) p k e = absurd (false≢true k)
 kept_length (Octets (AtMost n)) p k e = absurd (false≢true k)
 kept_length Bytes p k e = refl
+kept_length (Headed n) p k e = refl
 kept_length (Many n) p k e = refl
 kept_length (Named n listed) p k e = omega (arith, exactly n (length p) e, ap length (written-named n listed (number p)), length-bytes_of n (number p))
 kept_length Protocol p k e = omega (arith, exactly 2 (length p) e)

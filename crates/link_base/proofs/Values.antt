@@ -12,7 +12,7 @@ use mir.ValLaws.{of_z_fits}
 use mir.Facts.{Fits-lt-pow}
 use Rattle.link_base.specs.Number.{IsBytes, number, bytes_of, bound}
 use Rattle.link_base.specs.Name.{name_of, name_field, cut_name, HasNoNul, IsNameField, before_nul}
-use Rattle.link_base.specs.Class.{Exactly, AtLeast, size_of, length_cause, Class, Unsigned, Signed, Truth, Optional, Octets, Bytes, Many, Named, Protocol, Low, Empty, Limits, Value, Number, Integer, Boolean, Raw, Name, Unlisted, EtherType, LowByte, Nothing, Limited, extent, is_listed, named, flag_in, flag_value, meant, class_value, written, canon, cut, IsUncut, IsInRange, IsCanonicalPayload}
+use Rattle.link_base.specs.Class.{Exactly, AtLeast, size_of, length_cause, Class, Unsigned, Signed, Truth, Optional, Octets, Bytes, Headed, Many, Named, Protocol, Low, Empty, Limits, Value, Number, Integer, Boolean, Raw, Name, Unlisted, EtherType, LowByte, Nothing, Limited, extent, is_listed, named, flag_in, flag_value, meant, class_value, written, canon, cut, IsUncut, IsInRange, IsCanonicalPayload}
 use Rattle.link_base.proofs.NameLemmas.{name_of-field, cut_is_canonical_lem, cut_once_lem, bytes-text, before_nul-clean}
 use Rattle.link_base.proofs.LossyLemmas.{IsUtf8-lossy}
 use Rattle.link_base.proofs.Numbers.{number-bytes_of, length-bytes_of, IsBytes-bytes_of}
@@ -65,6 +65,7 @@ meant_in_range (Octets x) p h e =
     let le = size_reached x (length p) e in
     (omega (arith, length-take (size_of x) p), bytes-take (size_of x) p h)
 meant_in_range Bytes p h e = h
+meant_in_range (Headed n) p h e = (size_reached (AtLeast n) (length p) e, h)
 meant_in_range (Many n) p h e = (multiple n (length p) e, h)
 meant_in_range (Named n listed) p h e =
     let d = number p in
@@ -132,6 +133,7 @@ back Optional (Boolean true) h = refl
 back Optional (Boolean false) h = refl
 back (Octets x) (Raw p) h = reads_as (Octets x) p (Raw p) (at_size x (length p) h.0) (ap Raw (take_all (size_of x) p (omega (arith, h.0))))
 back Bytes (Raw p) h = reads_as Bytes p (Raw p) (reached 0 (length p) (omega arith)) refl
+back (Headed n) (Raw p) h = reads_as (Headed n) p (Raw p) (reached n (length p) h.0) refl
 back (Many n) (Raw p) h = reads_as (Many n) p (Raw p) (at_multiple n (length p) h.0) refl
 back (Named n listed) (Name m d) h =
     named_reads m n listed d (Name m d) h.0 h.1 (cond-true (is_listed listed d) (Name m d) (Unlisted m listed d) h.2)
@@ -169,6 +171,7 @@ written_bytes Optional (Boolean true) h = (omega arith, tt)
 written_bytes Optional (Boolean false) h = (omega arith, tt)
 written_bytes (Octets x) (Raw p) h = h.1
 written_bytes Bytes (Raw p) h = h
+written_bytes (Headed n) (Raw p) h = h.1
 written_bytes (Many n) (Raw p) h = h.1
 written_bytes (Named n listed) (Name m d) h = IsBytes-bytes_of m d
 written_bytes (Named n listed) (Unlisted m names d) h = IsBytes-bytes_of m d
@@ -216,6 +219,7 @@ cut_canonical (Octets x) p h e =
     let len : length (take (size_of x) p) ≡ size_of x = omega (arith, length-take (size_of x) p) in
     record { is_accepted = at_size x _ len; is_tidy = len }
 cut_canonical Bytes p h e = record { is_accepted = reached 0 (length p) (omega arith); is_tidy = tt }
+cut_canonical (Headed n) p h e = record { is_accepted = e; is_tidy = tt }
 cut_canonical (Many n) p h e = record { is_accepted = e; is_tidy = tt }
 cut_canonical (Named n listed) p h e =
     let is : written (cut (named n listed (number p))) ≡ bytes_of n (number p) = ap written (cut-named n listed (number p)) ∙ written-named n listed (number p) in

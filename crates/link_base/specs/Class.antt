@@ -10,8 +10,8 @@ use Rattle.link_base.specs.declared.wire.fault.Cause.TheVariants.{WrongLength, T
 
 -- ---- lengths
 
--- the accepted lengths: `Exactly` n bytes; `AtLeast` n bytes, of which all classes except `Bytes` ignore those after
--- the first n; `Fixed`, exactly n bytes with one cause for fewer and another for more; a `Multiple` of n bytes; `AtMost` n
+-- the accepted lengths: `Exactly` n bytes; `AtLeast` n bytes, of which all classes except `Bytes` and `Headed` ignore those
+-- after the first n; `Fixed`, exactly n bytes with one cause for fewer and another for more; a `Multiple` of n bytes; `AtMost` n
 -- bytes
 pub data Extent : Type 0 where
   Exactly AtLeast Fixed Multiple AtMost : ℕ → Extent
@@ -61,6 +61,8 @@ pub data Class : Type 0 where
   Octets : Extent → Class
   -- bytes, of any length
   Bytes : Class
+  -- bytes of which the first n are a header, and what follows it, of any length
+  Headed : ℕ → Class
   -- an array of numbers of n bytes each
   Many : ℕ → Class
   -- a number of n bytes, and the numbers that have names
@@ -104,6 +106,7 @@ extent Truth = Exactly 1
 extent Optional = AtMost 1
 extent (Octets e) = e
 extent Bytes = AtLeast 0
+extent (Headed n) = AtLeast n
 extent (Many n) = Multiple n
 extent (Named n listed) = Exactly n
 extent Protocol = Exactly 2
@@ -150,6 +153,7 @@ meant Truth p = Boolean (nat_lt 0 (number p))
 meant Optional p = flag_value (flag_in p)
 meant (Octets e) p = Raw (take (size_of e) p)
 meant Bytes p = Raw p
+meant (Headed n) p = Raw p
 meant (Many n) p = Raw p
 meant (Named n listed) p = named n listed (number p)
 meant Protocol p = EtherType (ether_type (number (reverse p)))
@@ -202,6 +206,7 @@ IsInRange Optional Nothing = Unit {0}
 IsInRange Optional (Boolean b) = Unit {0}
 IsInRange (Octets e) (Raw bytes) = (length bytes ≡ size_of e) × IsBytes bytes
 IsInRange Bytes (Raw bytes) = IsBytes bytes
+IsInRange (Headed n) (Raw bytes) = (n ≤ length bytes) × IsBytes bytes
 IsInRange (Many n) (Raw bytes) = (length bytes % n ≡ 0) × IsBytes bytes
 IsInRange (Named n listed) (Name m d) = (m ≡ n) × (d < bound n) × (is_listed listed d ≡ true)
 IsInRange (Named n listed) (Unlisted m names d) = (m ≡ n) × (d < bound n) × (names ≡ listed)
@@ -234,6 +239,7 @@ pub record IsCanonicalPayload (c : Class) (p : List ℕ) : Type 0 where
 -- values of the class may be heap-allocated
 abbrev pub TakesMemory : Class → Type 0
 TakesMemory Bytes = Unit {0}
+TakesMemory (Headed n) = Unit {0}
 TakesMemory (Many n) = Unit {0}
 TakesMemory Limits = Unit {0}
 TakesMemory c = ⊥

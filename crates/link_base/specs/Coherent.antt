@@ -4,7 +4,7 @@ use Rattle.std.specs.List.{list_all, AllByRecursion}
 use Rattle.std.specs.Str.{bytes_eq}
 use Rattle.link_base.specs.declared.rows.form.Form.{Form}
 use Rattle.link_base.specs.declared.rows.form.Form.TheVariants as forms
-use Rattle.link_base.specs.Class.{Extent, Exactly, AtLeast, Fixed, Multiple, AtMost, Class, Unsigned, Signed, Truth, Optional, Octets, Bytes, Many, Named, Protocol, Low, Empty, Limits}
+use Rattle.link_base.specs.Class.{Extent, Exactly, AtLeast, Fixed, Multiple, AtMost, Class, Unsigned, Signed, Truth, Optional, Octets, Bytes, Headed, Many, Named, Protocol, Low, Empty, Limits}
 use Rattle.link_base.specs.Payloads.{class_by}
 use Rattle.link_base.specs.Table.{Row, Shape, One, Nested, Addresses}
 
@@ -30,6 +30,7 @@ class_code Low = 8 ∷ []
 class_code Empty = 9 ∷ []
 class_code Limits = 10 ∷ []
 class_code Optional = 11 ∷ []
+class_code (Headed n) = 12 ∷ n ∷ []
 
 -- ---- rows
 

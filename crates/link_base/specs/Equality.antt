@@ -1,5 +1,5 @@
 -- Equality tests that compare everything a value means: a derived `==`, variant by variant and field by field.
-use Rattle.std.specs.Prelude.{◌≡◌, ℕ, ℤ, nat_eq, string_eq, string_bytes, ◌==◌, ◌&&◌, Bool, true, false, List, [], ◌∷◌, map, Option, Some, None}
+use Rattle.std.specs.Prelude.{◌≡◌, ℕ, ℤ, nat_eq, string_eq, string_bytes, ◌==◌, ◌&&◌, Bool, true, false, List, [], ◌∷◌, ◌++◌, map, Option, Some, None}
 use Rattle.std.specs.Bool.{beq}
 use Rattle.std.specs.Int.{w32, cast_unsigned}
 use Rattle.std.specs.Option.{option_eq}
@@ -16,6 +16,7 @@ use denote.Enum.Declared.{Record, Choice, declared}
 use denote.Enum.Bare.{sameb}
 use denote.Enum.Compared.{Each, by}
 use Rattle.link_base.specs.declared.rows.default_nla.DefaultNla.{DefaultNla}
+use Rattle.link_base.specs.declared.classes.peer.Peer.{Peer}
 use Rattle.link_base.specs.declared.names.vlan_protocol.VlanProtocol.{VlanProtocol}
 use Rattle.link_base.specs.declared.names.vlan_protocol.VlanProtocol.TheVariants.{Ieee8021Q, Ieee8021Ad}
 use Rattle.link_base.specs.contracts.names.vlan_protocol.VlanProtocol.{enum}
@@ -28,6 +29,7 @@ use Rattle.link_base.specs.Layout.{octets_of as written_numbers, octets_by}
 use Rattle.link_base.specs.Lift.{lift}
 use Rattle.link_base.specs.Class.{Raw}
 use Rattle.link_base.specs.Default.{default_means}
+use Rattle.link_base.specs.Peer.{peer_octets}
 
 -- values that are equal by the test have the same meaning
 pub record IsThorough {K M : Type 0} (eq : K → K → Bool) (means : K → M) : Type 0 where
@@ -117,6 +119,17 @@ defaults = record {
 -- strings
 pub texts : IsThorough string_eq (λ (t : String Global). string_bytes t)
 texts = record { same = λ a b e. octets.same (string_bytes a) (string_bytes b) e }
+
+-- a header, and a list
+pub peers : {k : ℕ} → IsThorough (λ (a b : Peer). pointwise nat_eq a.header b.header && pointwise nat_eq a.attributes.items b.attributes.items)
+    (λ (a : Peer). Case k (Single (Raw (peer_octets a))))
+peers {k} = record {
+  same = λ a b e.
+      let first = first_so (pointwise nat_eq a.header b.header) (pointwise nat_eq a.attributes.items b.attributes.items) e in
+      let second = second_so (pointwise nat_eq a.header b.header) (pointwise nat_eq a.attributes.items b.attributes.items) e in
+      ap₂ (λ header list. Case k (Single (Raw (header ++ list)))) (octets.same a.header b.header first)
+      (octets.same a.attributes.items b.attributes.items second);
+}
 
 -- two values, each with its meaning
 pub pairs_by : {A B M L : Type 0} {E : A → A → Bool} {F : B → B → Bool} {means : A → M} {others : B → L} → IsThorough E means → IsThorough F others
@@ -228,4 +241,4 @@ pub protocols : IsThorough (sameb (declared enum)) (λ (p : VlanProtocol). p)
 protocols = record { same = two_protocols }
 
 -- the lemmas with which `search` proves that the tests of fields are thorough
-pub ruleset thorough_fields = (defaults, byte_vectors, u16_vectors, u32_vectors, u64_vectors, i32_vectors, four, sixteen, one_four, one_sixteen, numbers, integers, truths, optional_truths, octets, protocols, lists, anything)
+pub ruleset thorough_fields = (defaults, byte_vectors, peers, u16_vectors, u32_vectors, u64_vectors, i32_vectors, four, sixteen, one_four, one_sixteen, numbers, integers, truths, optional_truths, octets, protocols, lists, anything)

@@ -25,6 +25,7 @@ pub mod IpAddress
 pub mod Layout
 pub mod Named
 pub mod Protocol
+pub mod Peer
 pub mod Default
 pub mod IteratorItems
 pub mod FrameOffsets

@@ -13,8 +13,9 @@ use Rattle.link_base.specs.declared.rows.label.Quantity.{Quantity}
 use Rattle.link_base.specs.declared.rows.label.Quantity.TheVariants as quantities
 use Rattle.link_base.specs.declared.rows.form.Form.{Form}
 use Rattle.link_base.specs.declared.rows.form.Form.TheVariants as forms
+use Rattle.link_base.specs.declared.rows.form.Look.{Look}
 use Rattle.link_base.specs.declared.rows.form.Look.TheVariants as looks
-use Rattle.link_base.specs.Class.{Exactly, Class, Unsigned, Signed, Truth, Optional, Octets, Bytes, Many, Named, Protocol, Low, Empty, Limits}
+use Rattle.link_base.specs.Class.{Exactly, Class, Unsigned, Signed, Truth, Optional, Octets, Bytes, Headed, Many, Named, Protocol, Low, Empty, Limits}
 use Rattle.link_base.specs.Named.{Naming, texts_of}
 use Rattle.link_base.specs.Protocol.{vlan_protocols}
 use Rattle.link_base.specs.Fields.{FieldRow}
@@ -33,6 +34,11 @@ number_class Little roles.Enum n names = Named n (map (λ x. x.0) names)
 number_class Little role n names = Unsigned n
 number_class Big role n names = Octets (Exactly n)
 
+-- the class of bytes that are shown as this
+abbrev pub look_class : Look → Class
+look_class looks.Peer = Headed 16
+look_class look = Bytes
+
 -- the class of the payloads of a form that is no list
 abbrev pub class_by : Form → List (ℕ × List ℕ) → Class
 class_by forms.Nothing names = Empty
@@ -47,7 +53,7 @@ class_by forms.Protocol names = Protocol
 class_by forms.Mac names = Octets (Exactly 6)
 class_by forms.Ipv4 names = Octets (Exactly 4)
 class_by forms.Ipv6 names = Octets (Exactly 16)
-class_by (forms.Bytes look) names = Bytes
+class_by (forms.Bytes look) names = look_class look
 class_by (forms.Struct layout) names = Octets (layout_extent layout)
 class_by (forms.Numbers a) names = Many (size_in a)
 class_by forms.Limits names = Limits
@@ -214,6 +220,10 @@ text = plain (forms.Bytes looks.Text)
 -- bytes that are a list of attributes of another set
 abbrev pub held : Payloads
 held = plain (forms.Bytes looks.Held)
+
+-- a header of 16 bytes, then a list of attributes of links
+abbrev pub peer : Payloads
+peer = plain (forms.Bytes looks.Peer)
 
 abbrev pub no_value : Payloads
 no_value = plain forms.Nothing

@@ -12,6 +12,7 @@ pub(crate) mod list_classes;
 pub(crate) mod named_class;
 pub(crate) mod number_lists;
 pub(crate) mod payload_class;
+pub mod peer;
 pub(crate) mod records;
 pub(crate) mod scalar_classes;
 pub(crate) mod scalars;

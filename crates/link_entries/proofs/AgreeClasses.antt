@@ -10,6 +10,7 @@ use Rattle.link_base.specs.declared.rows.form.Width.TheVariants as widths
 use Rattle.link_base.specs.declared.rows.form.Order.{Order}
 use Rattle.link_base.specs.declared.rows.form.Order.TheVariants as orders
 use Rattle.link_base.specs.declared.rows.form.Role.TheVariants as roles
+use Rattle.link_base.specs.declared.rows.form.Look.TheVariants as looks
 use Rattle.link_base.specs.declared.rows.form.Form.{Form}
 use Rattle.link_base.specs.declared.rows.form.Form.TheVariants as forms
 use Rattle.link_base.specs.Number.{number, bytes_of, bound}
@@ -36,7 +37,7 @@ use Rattle.link_entries.specs.Agreement.{IsEntry, referred, SameContent, IsSame}
 use Rattle.link_entries.proofs.RowForms.{is_value, size_in, is_sized, SpellsAny, struct_sized, tied, is_list, with_kind, struct_value, value_no_list, NoRow, OneValue, Array, AddressList, NestedList, row_says}
 use Rattle.link_entries.proofs.FlagBytes.{flag_read}
 use Rattle.link_entries.proofs.BackValues.{StandsAt, negative, padded_back}
-use Rattle.link_entries.proofs.WrittenLists.{same_these, if_held, only_held, both_true, content_ok, passed_held}
+use Rattle.link_entries.proofs.WrittenLists.{same_these, if_held, only_held, both_true, content_ok, passed_held, headed_held}
 use Rattle.link_entries.proofs.WrittenSizes.{written_size}
 use Rattle.link_base.specs.Frame.{kind_of}
 use Rattle.link_base.specs.Table.{Table, class_at, form_at}
@@ -192,6 +193,7 @@ module _ (e : Entry) (octets p : List ℕ) (held : IsEntry e) where
     class_read (forms.Number w orders.Little role) names a h = (refl, number_read _ w orders.Little h)
     class_read forms.LowFlags names a h = (refl, low_read h)
     class_read forms.Protocol names a h = (refl, ether_read h)
+    class_read (forms.Bytes looks.Peer) names a h = (refl, front_is bare.length (sym at.size) ∙ (headed_held e octets p (content_ok fields.Peer e octets p h)).all.is)
     class_read (forms.Bytes look) names a h = (refl, front_is bare.length (sym at.size) ∙ referred_is None (content_ok (row_fields (forms.Bytes look)) e octets p h))
     class_read (forms.Struct layout) names a h =
         let m = size_of (layout_extent layout) in
@@ -249,4 +251,5 @@ list_read (forms.Numbers w) octets list e f n v bare h = (refl, tt)
 list_read (forms.Addresses size) octets list e f n v bare h = (refl, tt)
 list_read (forms.List flagged) octets list e f n v bare h = (refl, tt)
 list_read (forms.Struct layout) octets list e f n v bare h = let no = value_no_list _ (struct_value layout) in absurd cc
+list_read (forms.Bytes looks.Peer) octets list e f n v bare h = absurd cc
 list_read form octets list e f n v bare h = absurd cc

@@ -7,6 +7,7 @@ use Rattle.link_base.specs.declared.rows.form.Width.{Width}
 use Rattle.link_base.specs.declared.rows.form.Width.TheVariants as widths
 use Rattle.link_base.specs.declared.rows.form.Order.TheVariants as orders
 use Rattle.link_base.specs.declared.rows.form.Role.TheVariants as roles
+use Rattle.link_base.specs.declared.rows.form.Look.TheVariants as looks
 use Rattle.link_base.specs.declared.rows.form.Layout.{Layout}
 use Rattle.link_base.specs.declared.rows.form.Form.{Form}
 use Rattle.link_base.specs.declared.rows.form.Form.TheVariants as forms
@@ -29,7 +30,7 @@ use Rattle.link_entries.specs.declared.fields.Fields.{Fields}
 use Rattle.link_entries.specs.declared.fields.Fields.TheVariants as fields
 use Rattle.link_entries.specs.declared.misfit.Misfit.TheVariants.{BadNumber, BadOctets}
 use Rattle.link_entries.specs.Fields.{any_number, role_form, struct_fields, row_fields}
-use Rattle.link_entries.specs.Payload.{only_if, payload_of, rewritten, pair_of}
+use Rattle.link_entries.specs.Payload.{only_if, passed, payload_of, rewritten, pair_of}
 use Rattle.link_entries.proofs.RowForms.{is_value, size_in, SpellsAny, struct_sized, tied}
 use Rattle.link_entries.proofs.FlagBytes.{flag_back}
 use Rattle.link_entries.proofs.BackValues.{StandsAt, right_form, passes, whole_number, passed_back, at_back, at_below, halves, address_back, padded_back, signed_back, first_below, low2, front_stands}
@@ -149,6 +150,11 @@ module _ (f n : ℕ) (e : Entry) (list p : List ℕ) (bytes : IsBytes p) (at : S
         | true ↦ refl
         | false ↦ refl
       ]
+  class_back (forms.Bytes looks.Peer) names h ok =
+      let e' = entry_by (forms.Bytes looks.Peer) names in
+      let least = size_reached (classes.AtLeast 16) (length p) ok in
+      right_form fields.Peer e' list refl ∙ ap (λ b. cond b (passed None e' list) (Err BadOctets)) (le-leb 16 e.length (omega (arith, least, at.size)))
+      ∙ passed_back None e' list p (record { size = at.size; within = at.within; short = at.short; is = at.is }) refl
   class_back (forms.Bytes look) names h ok =
       let e' = entry_by (forms.Bytes look) names in
       right_form (row_fields (forms.Bytes look)) e' list refl ∙ passed_back None e' list p (record { size = at.size; within = at.within; short = at.short; is = at.is }) refl

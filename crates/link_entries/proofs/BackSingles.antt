@@ -8,6 +8,7 @@ use Rattle.link_base.specs.declared.views.content.Content.{Content as Borrowed}
 use Rattle.link_base.specs.declared.views.content.Content.TheVariants as contents
 use Rattle.link_base.specs.declared.rows.form.Form.{Form}
 use Rattle.link_base.specs.declared.rows.form.Form.TheVariants as forms
+use Rattle.link_base.specs.declared.rows.form.Look.TheVariants as looks
 use Rattle.link_base.specs.Number.{IsBytes}
 use Rattle.link_base.specs.Class.{Class, Value, extent, length_cause, unless, meant, class_value}
 use Rattle.link_base.specs.Payloads.{class_by}
@@ -78,6 +79,7 @@ module _ (table : Table) (b : NlaBuffer) (content : Borrowed) (has : HasContent 
   listed (forms.Addresses size) v list h = refl
   listed (forms.List flagged) v list h = refl
   listed (forms.Struct layout) v list h = let no = value_no_list _ (struct_value layout) in absurd cc
+  listed (forms.Bytes looks.Peer) v list h = absurd cc
   listed form v list h = absurd cc
 
   pub list_back : (form : Form) (list : List ℕ) → form_at table (kind_of (kind_field_of b)) ≡ Some form → is_list (row_fields form) ≡ true → payload_of (row_fields form) (filled (kind_field_of b) content n bare) list ≡ Ok []

@@ -9,6 +9,7 @@ use Rattle.link_base.specs.declared.rows.form.Order.{Order}
 use Rattle.link_base.specs.declared.rows.form.Order.TheVariants as orders
 use Rattle.link_base.specs.declared.rows.form.Role.{Role}
 use Rattle.link_base.specs.declared.rows.form.Role.TheVariants as roles
+use Rattle.link_base.specs.declared.rows.form.Look.TheVariants as looks
 use Rattle.link_base.specs.declared.rows.form.Layout.{Layout}
 use Rattle.link_base.specs.declared.rows.form.Layout.TheVariants as layouts
 use Rattle.link_base.specs.declared.rows.form.Form.{Form}
@@ -22,7 +23,7 @@ use Rattle.link_base.specs.Buffer.{kind_field_of, payload_of}
 use Rattle.link_base.specs.Table.{Table, Shape, One, Nested, Addresses, class_at, form_at}
 use Rattle.link_base.specs.Borrowed.{Borrows, Says, told, number_value, form_of, HasContent}
 use Rattle.link_entries.specs.declared.entry.Entry.{Entry}
-use Rattle.link_entries.specs.Forms.{form_empty, form_bool, form_unsigned, form_signed, form_named, form_masked, form_bridge_id, form_qos_mapping, form_bittiming_const, form_bytes, form_list, form_unknown}
+use Rattle.link_entries.specs.Forms.{form_empty, form_bool, form_unsigned, form_signed, form_named, form_masked, form_bridge_id, form_qos_mapping, form_peer, form_bittiming_const, form_bytes, form_list, form_unknown}
 use Rattle.link_entries.specs.Entry.{padded}
 use Rattle.link_entries.specs.Content.{with_struct, filled}
 use Rattle.link_entries.specs.declared.fields.Fields.{Fields}
@@ -94,6 +95,7 @@ told_by f fields.Protocol v n e = record e { form = form_named; number = number_
 told_by f (fields.Address form size) v n e = record e { form = form; octets = padded (bytes_in v) }
 told_by f fields.BridgeId v n e = record e { form = form_bridge_id; number = number (reverse (take 2 (bytes_in v))); octets = padded (take 6 (drop 2 (bytes_in v))) }
 told_by f (fields.Passed form size) v n e = record e { form = form }
+told_by f fields.Peer v n e = record e { form = form_peer }
 told_by f fields.Limits v n e = record e { form = form_bittiming_const; length = 48 }
 told_by f fields.Unknown v n e = record e { form = form_unknown; flags = f - kind_of f }
 told_by f own v n e = record e { form = form_list; number = n }
@@ -151,6 +153,7 @@ module _ (f n : ℕ) (e : Entry) (o : Option Shape) (p : List ℕ) where
   filled_by (contents.Pair from to) h =
       ap₂ (λ a b. record e { form = form_qos_mapping; number = a; second = b }) (sym (word_bytes from)) (sym (word_bytes to))
       ∙ ap (λ v. fields_by f (Some forms.Pair) v n e) (sym (says_at o p (contents.Pair from to) refl h))
+  filled_by (contents.Bytes looks.Peer q) h = ap (λ v. fields_by f (Some (forms.Bytes looks.Peer)) v n e) (sym (says_at o p (contents.Bytes looks.Peer q) refl h))
   filled_by (contents.Limits name numbers) h = refl
   filled_by (contents.Addresses list size) h = refl
   filled_by (contents.List list flagged) h = refl

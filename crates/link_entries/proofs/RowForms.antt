@@ -5,6 +5,7 @@ use Rattle.std.proofs.lemmas.Bool.{cases_Bool, eqb-true}
 use Rattle.link_base.specs.declared.rows.form.ArrayOf.{ArrayOf}
 use Rattle.link_base.specs.declared.rows.form.Order.TheVariants as orders
 use Rattle.link_base.specs.declared.rows.form.Role.TheVariants as roles
+use Rattle.link_base.specs.declared.rows.form.Look.TheVariants as looks
 use Rattle.link_base.specs.declared.rows.form.Layout.{Layout}
 use Rattle.link_base.specs.declared.rows.form.Layout.TheVariants as layouts
 use Rattle.link_base.specs.declared.rows.form.Form.{Form}
@@ -91,11 +92,12 @@ single_value (forms.Numbers n) s a = absurd cc
 single_value (forms.Addresses size) s a = absurd cc
 single_value (forms.List flagged) s a = absurd cc
 single_value (forms.Struct layout) s a = struct_value layout
+single_value (forms.Bytes looks.Peer) s a = refl
 single_value form s a = refl
 
 -- ---- sizes
 
--- how many bytes entries with these fields spell, without elements
+-- how many bytes entries with these fields spell, without elements; of a peer, how many at least
 abbrev pub size_in : Fields → ℕ
 size_in (fields.Number form w most order) = bytes_in w
 size_in fields.Signed = 4
@@ -105,6 +107,7 @@ size_in fields.Protocol = 2
 size_in (fields.Address form n) = n
 size_in fields.BridgeId = 8
 size_in (fields.Passed form (Some n)) = n
+size_in fields.Peer = 16
 size_in fields.Limits = 48
 size_in own = 0
 
@@ -113,6 +116,7 @@ abbrev pub is_sized : Fields → Bool
 is_sized fields.FlagOrBool = false
 is_sized (fields.Address form n) = nat_le n 16
 is_sized (fields.Passed form None) = false
+is_sized fields.Peer = false
 is_sized fields.Unknown = false
 is_sized own = true
 
@@ -135,6 +139,7 @@ pub tied : (form : Form) (names : List (ℕ × List ℕ)) → size_in (row_field
 tied (forms.Number w orders.Little roles.Enum) names = refl
 tied (forms.Number w orders.Little role) names = refl
 tied (forms.Number w orders.Big role) names = refl
+tied (forms.Bytes looks.Peer) names = refl
 tied (forms.Struct layouts.BridgeId) names = refl
 tied (forms.Struct layout) names = refl
 tied form names = refl

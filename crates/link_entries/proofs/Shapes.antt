@@ -49,6 +49,7 @@ raw_payload : (c : Class) (p q : List ℕ) → meant c p ≡ Raw q → length q 
 raw_payload classes.Optional p q h = absurd (no_flag (flag_in p) q h)
 raw_payload (classes.Octets e) p q h = let same : take (size_of e) p ≡ q = cc in omega (arith, ap length same, length-take (size_of e) p)
 raw_payload classes.Bytes p q h = let same : p ≡ q = cc in omega (arith, ap length same)
+raw_payload (classes.Headed n) p q h = let same : p ≡ q = cc in omega (arith, ap length same)
 raw_payload (classes.Many n) p q h = let same : p ≡ q = cc in omega (arith, ap length same)
 raw_payload (classes.Named n listed) p q h = absurd (no_name n (number p) listed q (is_listed listed (number p)) h)
 raw_payload c p q h = absurd cc

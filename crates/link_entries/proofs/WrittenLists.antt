@@ -1,5 +1,5 @@
 -- What entries spell, taken apart; and lists of whole attributes.
-use Rattle.std.proofs.Common.{◌≡◌, ℕ, ◌+◌, ◌<◌, ◌≤◌, ◌&&◌, Bool, true, false, cond, List, [], ◌∷◌, ◌++◌, length, take, drop, Option, Result, Ok, Err, refl, sym, ap}
+use Rattle.std.proofs.Common.{◌≡◌, ℕ, ◌+◌, ◌<◌, ◌≤◌, ◌&&◌, Bool, true, false, cond, List, [], ◌∷◌, ◌++◌, length, take, drop, Option, None, Result, Ok, Err, refl, sym, ap}
 use Rattle.std.specs.Prelude.{nat_le}
 use Rattle.std.proofs.lemmas.Bool.{leb-true}
 use Rattle.link_base.specs.Frame.{frame_bytes, max_payload}
@@ -12,7 +12,7 @@ use Rattle.link_entries.specs.declared.fields.Fields.{Fields}
 use Rattle.link_entries.specs.declared.fields.Fields.TheVariants as fields
 use Rattle.link_entries.specs.declared.misfit.Misfit.{Misfit}
 use Rattle.link_entries.specs.declared.misfit.Misfit.TheVariants.{TooLong, BadForm, BadOctets}
-use Rattle.link_entries.specs.Payload.{has_form, only_if, has_size, passed, content_of, payload_of}
+use Rattle.link_entries.specs.Payload.{has_form, only_if, has_size, passed, headed, content_of, payload_of}
 use Rattle.link_entries.specs.Spelled.{Spelling, alone, before, framed, fitted, element_content}
 use Rattle.link_entries.proofs.RowForms.{is_list}
 
@@ -73,6 +73,16 @@ passed_held size e octets p h =
     let fit = if_held (has_size size e && nat_le (e.offset + e.length) (length octets)) BadOctets (only_if (nat_le e.length 65531) TooLong (take e.length (drop e.offset octets))) p h in
     let tests = both_true (has_size size e) (nat_le (e.offset + e.length) (length octets)) fit.0 in
     record { sized = tests.0; within = leb-true (e.offset + e.length) (length octets) tests.1; is = (only_held (nat_le e.length 65531) TooLong (take e.length (drop e.offset octets)) p fit.1).1 }
+
+-- those that have a header
+pub record WasHeaded (e : Entry) (octets p : List ℕ) : Type 0 where
+  pub least : 16 ≤ e.length
+  pub all : WasPassed None e octets p
+
+pub headed_held : (e : Entry) (octets p : List ℕ) → headed e octets ≡ Ok p → WasHeaded e octets p
+headed_held e octets p h =
+    let right = if_held (nat_le 16 e.length) BadOctets (passed None e octets) p h in
+    record { least = leb-true 16 e.length right.0; all = passed_held None e octets p right.1 }
 
 -- ---- spellings
 

@@ -1,9 +1,10 @@
 -- The payloads that entries spell have lengths that their class accepts.
-use Rattle.std.proofs.Common.{◌≡◌, ℕ, ◌+◌, Bool, true, false, cond, List, [], ◌++◌, length, take, drop, Some, None, Result, Ok, Err, refl, sym, ap, ◌∙◌, arith}
+use Rattle.std.proofs.Common.{◌≡◌, ℕ, ◌+◌, ◌≤◌, Bool, true, false, cond, List, [], ◌++◌, length, take, drop, Some, None, Result, Ok, Err, refl, sym, ap, ◌∙◌, arith}
 use Rattle.std.specs.Prelude.{reverse}
 use Rattle.std.proofs.lemmas.Bool.{eqb-true, leb-true, le-ltb}
 use Rattle.std.proofs.lemmas.List.{length-append, length-take, length-drop}
 use Rattle.link_base.specs.declared.wire.fault.Cause.TheVariants.{TooShort}
+use Rattle.link_base.specs.declared.rows.form.Look.TheVariants as looks
 use Rattle.link_base.specs.declared.rows.form.Form.{Form}
 use Rattle.link_base.specs.declared.rows.form.Form.TheVariants as forms
 use Rattle.link_base.specs.Number.{bytes_of}
@@ -25,7 +26,7 @@ use Rattle.link_entries.specs.Fields.{struct_fields, row_fields}
 use Rattle.link_entries.specs.Payload.{passed, content_of, payload_of, pair_of, rewritten}
 use Rattle.link_entries.proofs.RowForms.{is_value, size_in, is_sized, struct_sized, tied}
 use Rattle.link_entries.proofs.FlagBytes.{flag_few}
-use Rattle.link_entries.proofs.WrittenLists.{same_these, if_held, only_held, content_ok, passed_held}
+use Rattle.link_entries.proofs.WrittenLists.{same_these, if_held, only_held, content_ok, passed_held, headed_held}
 
 pub exactly_size : (n : ℕ) (e : Entry) (octets p : List ℕ) → passed (Some n) e octets ≡ Ok p → length p ≡ n
 exactly_size n e octets p h =
@@ -58,6 +59,7 @@ module _ (e : Entry) (octets p : List ℕ) (held : length e.octets ≡ 16) where
   content_size (fields.Passed code (Some n)) a h = exactly_size n e octets p h
   content_size fields.Limits a h = limits_size (passed (Some 48) e octets) p h (exactly_size 48 e octets)
   content_size (fields.Passed code None) a h = absurd cc
+  content_size fields.Peer a h = absurd cc
   content_size fields.FlagOrBool a h = absurd cc
   content_size fields.Unknown a h = absurd cc
   content_size own a h = ap length (sym (same_these [] p h))
@@ -68,6 +70,10 @@ module _ (e : Entry) (octets p : List ℕ) (held : length e.octets ≡ 16) where
   -- of every form
   pub size_back : (form : Form) (names : List (ℕ × List ℕ)) → is_value (row_fields form) ≡ true → payload_of (row_fields form) e octets ≡ Ok p → length_cause (extent (class_by form names)) (length p) ≡ None
   size_back forms.FlagOrBool names a h = within_most 1 (length p) (flag_few e.length e.number p (content_ok fields.FlagOrBool e octets p h))
+  size_back (forms.Bytes looks.Peer) names a h =
+      let was = headed_held e octets p (content_ok fields.Peer e octets p h) in
+      let size : 16 ≤ length p = omega (arith, ap length was.all.is, length-take e.length (drop e.offset octets), length-drop e.offset octets, was.all.within, was.least) in
+      ap (λ b. cond b (Some (TooShort 16 (length p))) None) (le-ltb (length p) 16 size)
   size_back (forms.Bytes look) names a h = ap (λ b. cond b (Some (TooShort 0 (length p))) None) (le-ltb (length p) 0 (omega arith))
   size_back (forms.Struct layout) names a h = at_size (layout_extent layout) (length p) (written_size (struct_fields layout) (struct_sized layout).0 h ∙ tied (forms.Struct layout) names)
   size_back form names a h = at_size (extent (class_by form names)) (length p) (written_size (row_fields form) refl h ∙ tied form names)

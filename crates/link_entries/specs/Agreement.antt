@@ -34,6 +34,7 @@ SameContent fields.Protocol octets e list r = r.number ≡ e.number
 SameContent (fields.Address form size) octets e list r = take size r.octets ≡ take size e.octets
 SameContent fields.BridgeId octets e list r = (r.number ≡ e.number) × (take 6 r.octets ≡ take 6 e.octets)
 SameContent (fields.Passed form size) octets e list r = referred r list ≡ referred e octets
+SameContent fields.Peer octets e list r = referred r list ≡ referred e octets
 SameContent fields.Limits octets e list r = referred r list ≡ written (meant classes.Limits (referred e octets))
 SameContent (fields.Numbers a) octets e list r = Unit {0}
 SameContent (fields.Addresses size) octets e list r = Unit {0}

@@ -18,7 +18,7 @@ use Rattle.link_base.specs.Number.{bound}
 use Rattle.link_base.specs.Class.{size_of}
 use Rattle.link_base.specs.Forms.{bytes_in, width_in, layout_extent}
 use Rattle.link_base.specs.Table.{Table, form_at, nested_flag}
-use Rattle.link_entries.specs.Forms.{form_bool, form_unsigned, form_named, form_flags, form_masked, form_mac, form_ipv4, form_ipv6, form_vlan_info, form_qos_mapping, form_berr_counter, form_bittiming, form_bytes, form_text, form_held}
+use Rattle.link_entries.specs.Forms.{form_bool, form_unsigned, form_named, form_flags, form_masked, form_mac, form_ipv4, form_ipv6, form_vlan_info, form_qos_mapping, form_berr_counter, form_bittiming, form_bytes, form_text, form_held, form_peer}
 use Rattle.link_entries.specs.declared.fields.Fields.{Fields}
 use Rattle.link_entries.specs.declared.fields.Fields.TheVariants as fields
 
@@ -37,6 +37,12 @@ abbrev pub look_form : Look → ℕ
 look_form looks.Address = form_bytes
 look_form looks.Text = form_text
 look_form looks.Held = form_held
+look_form looks.Peer = form_peer
+
+-- for bytes that are shown as this
+abbrev pub look_fields : Look → Fields
+look_fields looks.Peer = fields.Peer
+look_fields look = fields.Passed (look_form look) None
 
 -- an IP address of this size
 abbrev pub ip_address : ℕ → Fields
@@ -67,7 +73,7 @@ row_fields forms.Protocol = fields.Protocol
 row_fields forms.Mac = fields.Address form_mac 6
 row_fields forms.Ipv4 = fields.Address form_ipv4 4
 row_fields forms.Ipv6 = fields.Address form_ipv6 16
-row_fields (forms.Bytes look) = fields.Passed (look_form look) None
+row_fields (forms.Bytes look) = look_fields look
 row_fields (forms.Struct layout) = struct_fields layout
 row_fields (forms.Numbers a) = fields.Numbers a
 row_fields forms.Limits = fields.Limits

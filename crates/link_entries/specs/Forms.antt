@@ -78,3 +78,7 @@ form_text = 20
 -- a list of another set
 abbrev pub form_held : ℕ
 form_held = 21
+
+-- a header of 16 bytes, then a list of attributes of a link
+abbrev pub form_peer : ℕ
+form_peer = 22

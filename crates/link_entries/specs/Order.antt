@@ -30,6 +30,7 @@ has_octets (fields.Address form size) e octets = e.length == size
 has_octets fields.BridgeId e octets = e.length == 8
 has_octets fields.FlagOrBool e octets = nat_le e.length 1
 has_octets (fields.Passed form size) e octets = is_passed size e octets
+has_octets fields.Peer e octets = nat_le 16 e.length && is_passed None e octets
 has_octets fields.Limits e octets = is_passed (Some 48) e octets
 has_octets fields.Unknown e octets = is_passed None e octets
 has_octets own e octets = true
@@ -37,6 +38,7 @@ has_octets own e octets = true
 -- whether the bytes that an entry refers to fit in an attribute
 abbrev pub is_short : Fields → Entry → Bool
 is_short (fields.Passed form size) e = nat_le e.length max_payload
+is_short fields.Peer e = nat_le e.length max_payload
 is_short fields.Limits e = nat_le e.length max_payload
 is_short fields.Unknown e = nat_le e.length max_payload
 is_short own e = true

@@ -8,7 +8,7 @@ use Rattle.link_base.specs.Frame.{kind_limit, max_payload}
 use Rattle.link_base.specs.Class as classes
 use Rattle.link_base.specs.Class.{meant, written}
 use Rattle.link_entries.specs.declared.entry.Entry.{Entry}
-use Rattle.link_entries.specs.Forms.{form_empty, form_bool, form_signed, form_named, form_bridge_id, form_bittiming_const, form_list, form_unknown}
+use Rattle.link_entries.specs.Forms.{form_empty, form_bool, form_signed, form_named, form_bridge_id, form_peer, form_bittiming_const, form_list, form_unknown}
 use Rattle.link_entries.specs.declared.fields.Fields.{Fields}
 use Rattle.link_entries.specs.declared.fields.Fields.TheVariants as fields
 use Rattle.link_entries.specs.declared.misfit.Misfit.{Misfit}
@@ -28,6 +28,7 @@ form_in fields.Protocol = form_named
 form_in (fields.Address form size) = form
 form_in fields.BridgeId = form_bridge_id
 form_in (fields.Passed form size) = form
+form_in fields.Peer = form_peer
 form_in fields.Limits = form_bittiming_const
 form_in (fields.Numbers a) = form_list
 form_in (fields.Addresses size) = form_list
@@ -60,6 +61,10 @@ passed size e octets =
     if has_size size e && nat_le (e.offset + e.length) (length octets)
     then only_if (nat_le e.length max_payload) TooLong (take e.length (drop e.offset octets))
     else Err BadOctets
+
+-- the bytes that an entry refers to, if they have a header
+abbrev pub headed : Entry → List ℕ → Result (List ℕ) Misfit
+headed e octets = if nat_le 16 e.length then passed None e octets else Err BadOctets
 
 -- the limits of a CAN controller, as a rewriting writes them
 abbrev pub rewritten : Result (List ℕ) Misfit → Result (List ℕ) Misfit
@@ -94,6 +99,7 @@ content_of fields.Protocol e octets = only_if ((e.number == 0x8100) || (e.number
 content_of (fields.Address form size) e octets = only_if (e.length == size) BadOctets (take size e.octets)
 content_of fields.BridgeId e octets = if nat_lt e.number (2 ^ 16) then only_if (e.length == 8) BadOctets (reverse (bytes_of 2 e.number) ++ take 6 e.octets) else Err BadNumber
 content_of (fields.Passed form size) e octets = passed size e octets
+content_of fields.Peer e octets = headed e octets
 content_of fields.Limits e octets = rewritten (passed (Some 48) e octets)
 content_of (fields.Numbers a) e octets = Ok []
 content_of (fields.Addresses size) e octets = Ok []

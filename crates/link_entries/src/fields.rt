@@ -1,7 +1,7 @@
 //! Which fields of an entry make the payload of its attribute.
 
 ghost use Rattle.std.specs.Prelude.{◌≡◌, option_map};
-ghost use Rattle.link_entries.specs.Fields.{any_number, number_form, array_number, role_form, look_form, ip_address, struct_fields, row_fields, fields_in, IsNarrow};
+ghost use Rattle.link_entries.specs.Fields.{any_number, number_form, array_number, role_form, look_form, look_fields, ip_address, struct_fields, row_fields, fields_in, IsNarrow};
 
 use crate::forms;
 use link_base::NLA_F_NESTED;
@@ -46,6 +46,8 @@ pub enum Fields {
         form: u8,
         size: Option<usize>,
     },
+    /// The bytes at `offset`: a header of 16 bytes, and a list.
+    Peer,
     /// The 48 bytes at `offset`: a name, and numbers.
     Limits,
     /// The numbers that follow.
@@ -124,6 +126,19 @@ pub(crate) fn look_form(look: Look) -> u8
         Look::Address => forms::BYTES,
         Look::Text => forms::TEXT,
         Look::Held => forms::HELD,
+        Look::Peer => forms::PEER,
+    }
+}
+
+/// Returns the fields of bytes that are shown as this.
+#[inline(always)]
+fn look_fields(look: Look) -> Fields
+    ensures value { result ≡ look_fields look }
+    ensures narrow { IsNarrow result }
+{
+    match look {
+        Look::Peer => Fields::Peer,
+        _ => passed(look_form(look), None),
     }
 }
 
@@ -213,7 +228,7 @@ pub fn row_fields(form: Form) -> Fields
         Form::Mac => address(forms::MAC, 6),
         Form::Ipv4 => address(forms::IPV4, 4),
         Form::Ipv6 => address(forms::IPV6, 16),
-        Form::Bytes(look) => passed(look_form(look), None),
+        Form::Bytes(look) => look_fields(look),
         Form::Struct(layout) => struct_fields(layout),
         Form::Numbers(of) => Fields::Numbers { of },
         Form::Limits => Fields::Limits,

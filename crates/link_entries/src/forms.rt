@@ -62,3 +62,6 @@ pub const TEXT: u8 = 20;
 
 /// A list of attributes of another set, at `offset`.
 pub const HELD: u8 = 21;
+
+/// A header of 16 bytes (`struct ifinfomsg`), then a list of attributes of a link, at `offset`.
+pub const PEER: u8 = 22;

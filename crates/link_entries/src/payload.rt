@@ -7,7 +7,7 @@ ghost use Rattle.link_base.specs.Class.{Limits, meant, written};
 ghost use Rattle.link_base.specs.Frame.{max_payload};
 ghost use Rattle.link_base.specs.Forms.{bytes_in as width_of};
 ghost use Rattle.link_entries.specs.Fields.{IsNarrow};
-ghost use Rattle.link_entries.specs.Payload.{has_form, form_in, only_if, has_size, passed, rewritten, is_i32, holds_flag, content_of, payload_of, slice_told};
+ghost use Rattle.link_entries.specs.Payload.{has_form, form_in, only_if, has_size, passed, headed, rewritten, is_i32, holds_flag, content_of, payload_of, slice_told};
 ghost use Rattle.link_entries.specs.Stored.{padded, sized, StoresAt, StoresPayload};
 
 use crate::entry::Entry;
@@ -16,6 +16,7 @@ use crate::forms;
 use crate::misfit::Misfit;
 use crate::name::written_name;
 use crate::storing::{store, store_padding};
+use link_base::classes::peer::PEER_HEADER;
 use link_base::rows::form::{Order, Width};
 use link_base::{MAX_PAYLOAD, NLA_TYPE_MASK, VlanProtocol};
 
@@ -72,6 +73,7 @@ pub(crate) fn form_in(fields: Fields) -> u8
         Fields::Signed => forms::SIGNED,
         Fields::Protocol => forms::NAMED,
         Fields::BridgeId => forms::BRIDGE_ID,
+        Fields::Peer => forms::PEER,
         Fields::Limits => forms::BITTIMING_CONST,
         Fields::Numbers { .. } | Fields::Addresses { .. } | Fields::List { .. } => forms::LIST,
         Fields::Unknown => forms::UNKNOWN,
@@ -113,6 +115,7 @@ fn put_content(
         Fields::Address { size, .. } => put_address(entry, size, room),
         Fields::BridgeId => put_bridge_id(entry, room),
         Fields::Passed { size, .. } => put_passed(size, entry, octets, room),
+        Fields::Peer => put_peer(entry, octets, room),
         Fields::Limits => put_limits(entry, octets, room),
         Fields::Unknown => put_unknown(of_kind, entry, octets, room),
     }
@@ -430,6 +433,23 @@ fn put_passed(
     ensures short { IfOk result (λ n. n ≤ max_payload) }
 {
     Ok(put_bytes(passed(size, entry, octets)?, room))
+}
+
+/// Stores the header and the list that an entry refers to.
+///
+/// # Errors
+///
+/// `BadOctets` if they are fewer than 16 bytes; otherwise as for `passed`.
+#[inline(always)]
+fn put_peer(entry: &Entry, octets: &[u8], room: &mut [u8]) -> Result<usize, Misfit>
+    ensures size { result ≡ sized (headed entry.now octets.now) }
+    ensures stored { StoresPayload (headed entry.now octets.now) room.old room.new }
+    ensures short { IfOk result (λ n. n ≤ max_payload) }
+{
+    if (entry.length as usize) < PEER_HEADER {
+        return Err(Misfit::BadOctets);
+    }
+    put_passed(None, entry, octets, room)
 }
 
 /// Stores the limits of a CAN controller that an entry refers to, as a rewriting writes them.

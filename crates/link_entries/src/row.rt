@@ -86,6 +86,7 @@ fn width_in(own: Fields) -> usize
         | Fields::Numbers { .. }
         | Fields::Addresses { .. }
         | Fields::List { .. }
+        | Fields::Peer
         | Fields::Unknown => 0,
     }
 }

@@ -77,6 +77,7 @@ module _ {K : Type 0} {d : ℕ} where
   content_sound label (contents.Bytes looks.Address p) l f = number_or_address_sound (counted_in label.quantity p.now) p.now
   content_sound label (contents.Bytes looks.Text p) l f = text_sound (without_nul p.now)
   content_sound label (contents.Bytes looks.Held p) l f = opaque_sound p.now
+  content_sound label (contents.Bytes looks.Peer p) l f = opaque_sound p.now
   content_sound label (contents.Addresses list size) l f = opaque_sound list.now
   content_sound label (contents.List list flagged) l f = opaque_sound list.now
   content_sound label (contents.Other p) l f = opaque_sound p.now

@@ -156,6 +156,7 @@ content_json label (contents.Ipv6 a) = string (ip6_text (sixteen_octets a))
 content_json label (contents.Bytes looks.Address p) = number_or_address (counted_in label.quantity p.now) p.now
 content_json label (contents.Bytes looks.Text p) = text_json (without_nul p.now)
 content_json label (contents.Bytes looks.Held p) = opaque_json p.now
+content_json label (contents.Bytes looks.Peer p) = opaque_json p.now
 content_json label (contents.Struct layout p) = struct_json layout label.fields label.names p.now
 content_json label (contents.Numbers a p) = numbers_json label.names a (numbers_of (size_in a) p.now)
 content_json label (contents.Limits name numbers) = limits_json name.now numbers.now

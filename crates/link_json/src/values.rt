@@ -58,7 +58,7 @@ pub(crate) fn write_content(
             bytes,
         } => sheet.text(without_nul(bytes)),
         Content::Bytes {
-            look: Look::Held,
+            look: Look::Held | Look::Peer,
             bytes,
         } => sheet.opaque(bytes),
         Content::Struct { layout, bytes } => {

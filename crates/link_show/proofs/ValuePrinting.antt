@@ -325,6 +325,7 @@ content_is_text label (contents.Ipv6 a) l = ip6_is_text (sixteen_octets a)
 content_is_text label (contents.Bytes looks.Address p) l = number_or_address_text label.quantity (counted_in label.quantity p.now) p.now
 content_is_text label (contents.Bytes looks.Text p) l = quoted_text (without_nul p.now)
 content_is_text label (contents.Bytes looks.Held p) l = opaque_is_text (length p.now)
+content_is_text label (contents.Bytes looks.Peer p) l = opaque_is_text (length p.now)
 content_is_text label (contents.Struct layout p) l = struct_is_text layout label.fields label.names p.now (fields_named label.fields l.1.1) l.1.0
 content_is_text label (contents.Numbers a p) l = numbers_are_text label.names label.quantity a _ l.1.0
 content_is_text label (contents.Limits name numbers) l = limits_is_text name.now numbers.now

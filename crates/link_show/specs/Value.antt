@@ -72,6 +72,7 @@ content_text label (contents.Ipv6 a) = ip6_text (sixteen_octets a)
 content_text label (contents.Bytes looks.Address p) = number_or_address label.quantity (counted_in label.quantity p.now) p.now
 content_text label (contents.Bytes looks.Text p) = quoted (without_nul p.now)
 content_text label (contents.Bytes looks.Held p) = opaque_text (length p.now)
+content_text label (contents.Bytes looks.Peer p) = opaque_text (length p.now)
 content_text label (contents.Struct layout p) = struct_text layout label.fields label.names p.now
 content_text label (contents.Numbers a p) = numbers_text label.names label.quantity a (numbers_of (size_in a) p.now)
 content_text label (contents.Limits name numbers) = limits_text name.now numbers.now

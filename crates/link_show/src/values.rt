@@ -124,7 +124,7 @@ pub fn write_content<W: Sink>(
             bytes,
         } => write_quoted(writer, without_nul(bytes)),
         Content::Bytes {
-            look: Look::Held,
+            look: Look::Held | Look::Peer,
             bytes,
         } => write_opaque_size(writer, bytes.len()),
         Content::Struct { layout, bytes } => {

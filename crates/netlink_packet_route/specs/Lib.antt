@@ -38,6 +38,7 @@ pub use Rattle.link_base.specs.Name
 pub use Rattle.link_base.specs.IpAddress
 pub use Rattle.link_base.specs.Named
 pub use Rattle.link_base.specs.Protocol
+pub use Rattle.link_base.specs.Peer
 pub use Rattle.link_base.specs.Texts
 pub use Rattle.link_bond.specs.Bond
 pub use Rattle.link_bond.specs.BondPort

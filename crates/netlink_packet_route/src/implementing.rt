@@ -19,6 +19,7 @@ pub use link_base::{
 // The classes of payloads, and the traits of enums, sets of flags and structs.
 pub use link_base::classes::coded::{CodedFlags, Counters};
 pub use link_base::classes::flag_or_bool::flag_is_on;
+pub use link_base::classes::peer::{PEER_HEADER, Peer};
 pub use link_base::classes::shown::{Held, Shown, Text};
 pub use link_base::names::flag_laws::{self, FlagSet, KnownBits};
 pub use link_base::names::named_laws;

@@ -214,7 +214,8 @@ enum nlroute_form {
     NLROUTE_FORM_UNKNOWN = 19,         /* length bytes at offset: the payload of an attribute whose type is not known;
                                           flags */
     NLROUTE_FORM_TEXT = 20,            /* length bytes at offset: a text; a NUL at its end is part of it */
-    NLROUTE_FORM_HELD = 21             /* length bytes at offset: a list of attributes of another set */
+    NLROUTE_FORM_HELD = 21,            /* length bytes at offset: a list of attributes of another set */
+    NLROUTE_FORM_PEER = 22             /* length bytes at offset: 16 of a struct ifinfomsg, then attributes of a link */
 };
 
 /*

@@ -7,6 +7,7 @@ use Rattle.link_base.specs.declared.rows.form.Order.TheVariants as orders
 use Rattle.link_base.specs.declared.rows.form.Role.TheVariants as roles
 use Rattle.link_base.specs.declared.rows.form.Form.{Form}
 use Rattle.link_base.specs.declared.rows.form.Form.TheVariants as forms
+use Rattle.link_base.specs.declared.rows.form.Look.TheVariants as looks
 use Rattle.link_base.specs.Number.{IsBytes, number}
 use Rattle.link_base.specs.Name.{before_nul}
 use Rattle.link_base.specs.Class as classes
@@ -79,6 +80,7 @@ module _ (e : Entry) (list p s : List ℕ) (bytes : IsBytes p) (x : Content) whe
   borrows_back (forms.Addresses n) names plain ok payload shows front h = absurd cc
   borrows_back (forms.List flagged) names plain ok payload shows front h = absurd cc
   borrows_back (forms.Numbers w) names plain ok payload shows front h = absurd cc
+  borrows_back (forms.Bytes looks.Peer) names plain ok payload shows front h = value_back (row_fields (forms.Bytes looks.Peer)) (class_by (forms.Bytes looks.Peer) names) refl refl ok payload shows h
   borrows_back form names plain ok payload shows front h = value_back (row_fields form) (class_by form names) refl refl ok payload shows h
 
 -- the first 48 bytes of a payload of limits, as an entry refers to them

@@ -6,6 +6,7 @@ use Rattle.link_base.specs.declared.rows.form.Width.{Width}
 use Rattle.link_base.specs.declared.rows.form.Width.TheVariants as widths
 use Rattle.link_base.specs.declared.rows.form.Layout.{Layout}
 use Rattle.link_base.specs.declared.rows.form.Layout.TheVariants as layouts
+use Rattle.link_base.specs.declared.rows.form.Look.TheVariants as looks
 use Rattle.link_base.specs.declared.rows.form.Form.{Form}
 use Rattle.link_base.specs.declared.rows.form.Form.TheVariants as forms
 use Rattle.link_base.specs.Number.{bytes_of}
@@ -34,7 +35,7 @@ use Rattle.link_entries.specs.Stored.{with_at, padded, sized, StoresAt, StoresPa
 use Rattle.link_entries.proofs.RowForms.{is_value, struct_value}
 use Rattle.link_entries.proofs.FlagBytes.{flag_few}
 use Rattle.link_entries.proofs.StoredBytes.{sized_ok}
-use Rattle.link_entries.proofs.WrittenLists.{same_these, if_held, only_held, content_ok, passed_held}
+use Rattle.link_entries.proofs.WrittenLists.{same_these, if_held, only_held, content_ok, passed_held, headed_held}
 use Rattle.link_entries.proofs.WrittenSizes.{exactly_size, size_back}
 use Rattle.nlroute_ffi.specs.ValueText.{is_passed, shown_bytes, Shows, fields_for, has_elements, HasSize}
 
@@ -50,6 +51,7 @@ unknown_ok e octets p h = (if_held (nat_lt e.kind kind_limit && (e.flags % kind_
 -- they are within those passed in
 within_held : (own : Fields) (e : Entry) (octets p : List ℕ) → is_passed own ≡ true → payload_of own e octets ≡ Ok p → e.offset + e.length ≤ length octets
 within_held (fields.Passed form size) e octets p holds h = (passed_held size e octets p (content_ok (fields.Passed form size) e octets p h)).within
+within_held fields.Peer e octets p holds h = (headed_held e octets p (content_ok fields.Peer e octets p h)).all.within
 within_held fields.Limits e octets p holds h =
     let was = rewritten_ok (passed (Some 48) e octets) p (content_ok fields.Limits e octets p h) in
     (passed_held (Some 48) e octets was.0 was.1).within
@@ -139,6 +141,7 @@ struct_no_limits layout = refl
 -- all other payloads are shown as they are spelled
 shown_same : (own : Fields) (e : Entry) (octets p : List ℕ) → is_limits own ≡ false → payload_of own e octets ≡ Ok p → shown_bytes own e octets p ≡ p
 shown_same (fields.Passed form size) e octets p plain h = sym (passed_held size e octets p (content_ok (fields.Passed form size) e octets p h)).is
+shown_same fields.Peer e octets p plain h = sym (headed_held e octets p (content_ok fields.Peer e octets p h)).all.is
 shown_same fields.Limits e octets p plain h = absurd cc
 shown_same fields.Unknown e octets p plain h = sym (passed_held None e octets p (unknown_ok e octets p h)).is
 shown_same own e octets p plain h = refl
@@ -153,6 +156,7 @@ value_of (forms.Numbers w) h = absurd cc
 value_of (forms.Addresses n) h = absurd cc
 value_of (forms.List flagged) h = absurd cc
 value_of (forms.Struct layout) h = struct_value layout
+value_of (forms.Bytes looks.Peer) h = refl
 value_of form h = refl
 
 pub single_of : (form : Form) → has_elements form ≡ false → is_single form ≡ true
@@ -176,6 +180,7 @@ module _ (e : Entry) (octets s : List ℕ) (held : length e.octets ≡ 16) where
       let same : s ≡ q = at ∙ sym (passed_held (Some 48) e octets q was).is in
       at_size (AtLeast 48) (length s) (ap length same ∙ exactly_size 48 e octets q was)
   size_of_form (forms.Struct layout) plain h = size_of_value (forms.Struct layout) plain (struct_no_limits layout) h
+  size_of_form (forms.Bytes looks.Peer) plain h = size_of_value (forms.Bytes looks.Peer) plain refl h
   size_of_form form plain h = size_of_value form plain refl h
 
   pub shown_size : (label : Option Label) → Shows (fields_for label) e octets s → HasSize label (length s)

@@ -71,6 +71,7 @@ entry_payload family e octets = payload_by (own_label family e) e octets
 -- whether entries with these fields refer to bytes
 abbrev pub is_passed : Fields → Bool
 is_passed (fields.Passed form size) = true
+is_passed fields.Peer = true
 is_passed fields.Limits = true
 is_passed fields.Unknown = true
 is_passed own = false

@@ -221,7 +221,7 @@ fn is_passed(fields: Fields) -> bool
     ensures { result ≡ is_passed fields }
 {
     match fields {
-        Fields::Passed { .. } | Fields::Limits | Fields::Unknown => true,
+        Fields::Passed { .. } | Fields::Peer | Fields::Limits | Fields::Unknown => true,
         _ => false,
     }
 }

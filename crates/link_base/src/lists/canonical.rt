@@ -7,7 +7,7 @@ ghost use Rattle.std.specs.Prelude.{◌≡◌, ◌≢◌, ◌↔◌, ◌⊎◌, 
 ghost use Rattle.std.specs.Prelude.{IsTrue, MatchOption, EachIndex, true};
 ghost use Rattle.link_base.specs.Wire.{SplitsWhole};
 ghost use Rattle.link_base.specs.Name.{IsCutText, IsNameField};
-ghost use Rattle.link_base.specs.Class.{Bytes, Many, Limits, Optional};
+ghost use Rattle.link_base.specs.Class.{Bytes, Headed, Many, Limits, Optional};
 ghost use Rattle.link_base.specs.Payloads.{class_by, is_fixed};
 ghost use Rattle.link_base.specs.Table.{One, Nested, Addresses, AreAddresses, nested_flag};
 ghost use Rattle.link_base.specs.Table.{Canonical, FirstNotCanonical};
@@ -128,6 +128,14 @@ pub fn is_bytes(buffer: &NlaBuffer<'_>) -> bool
     ensures { IsTrue result ↔ IsCanonicalAs (One Bytes) buffer.now }
 {
     has_no_flag(buffer)
+}
+
+/// Checks whether an attribute is canonical as a peer: a header of 16 bytes, and a list of any length.
+#[inline]
+pub(crate) fn is_peer(buffer: &NlaBuffer<'_>) -> bool
+    ensures { IsTrue result ↔ IsCanonicalAs (One (Headed 16)) buffer.now }
+{
+    has_no_flag(buffer) && buffer.value().len() >= 16
 }
 
 /// Checks whether an attribute is canonical as an array of numbers of `width` bytes each. `width` must not be 0.

@@ -108,7 +108,7 @@ pub enum Role {
     Flags,
 }
 
-/// What bytes of any length are shown as.
+/// What bytes are shown as.
 #[derive(Clone, Copy, Debug, PartialEq, Eq)]
 pub enum Look {
     /// An address: bytes in hexadecimal.
@@ -117,6 +117,8 @@ pub enum Look {
     Text,
     /// A list of attributes of another set, which is read by itself. It may be malformed.
     Held,
+    /// A header of 16 bytes (`struct ifinfomsg`), then a list of attributes of a link, which may be malformed.
+    Peer,
 }
 
 /// A fixed-layout struct of the kernel's headers: which it is, if it has a form of its own in C.

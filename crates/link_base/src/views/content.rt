@@ -42,7 +42,7 @@ pub enum Content<'a> {
     Ipv4(Ipv4Addr),
     /// An IPv6 address.
     Ipv6(Ipv6Addr),
-    /// Bytes of any length.
+    /// Bytes of any length; of a peer, 16 or more.
     Bytes {
         look: Look,
         bytes: &'a [u8],

@@ -21,7 +21,7 @@ use std::net::{Ipv4Addr, Ipv6Addr};
 /// Returns the content of a payload of this form, whose length must be one that the form accepts. It borrows the payload,
 /// and copies at most 16 bytes.
 #[inline(always)]
-#[tactic(auto, using(crate::proofs::ContentBy::number_says))]
+#[tactic(auto, using(crate::proofs::ContentBy::number_says, crate::proofs::ContentBy::bytes_say))]
 pub fn content_by<'a>(form: Form, payload: &'a [u8]) -> Content<'a>
     requires { length_cause (extent (class_by form [])) (length payload.now) ≡ None }
     ensures content { BorrowsBy form payload.now result }
