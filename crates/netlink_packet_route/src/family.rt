@@ -225,24 +225,35 @@ macro_rules! of_number {
 /// The first attribute set with the holder `$of $key`.
 macro_rules! of_holder {
     ($of:ident $key:tt
-        $($variant:ident $name:tt $attributes:ident $number:tt [$($holder:ident $(($($held:tt)*))?),*])*) => {
-        $(if $(is_holder!($of $key $holder ($($($held)*)?)))||* { Some(Family::$variant) } else)* { None }
-    };
+        $($variant:ident $name:tt $attributes:ident $number:tt [$($holder:ident $(($($held:tt)*))?),*])*) => {{
+        $($(if_holder!($variant $of $key $holder ($($($held)*)?));)*)*
+        None
+    }};
 }
 
-/// Whether a holder, in two parts, is another one.
-macro_rules! is_holder {
-    (InfoKind ($kind:ident) InfoKind ($text:tt)) => { $kind == $text.as_slice() };
-    (PortKind ($kind:ident) PortKind ($text:tt)) => { $kind == $text.as_slice() };
-    (BridgeAttribute ($kind:ident) BridgeAttribute ($other:tt)) => { $kind == $other };
-    (NestedBridgeAttribute ($kind:ident) NestedBridgeAttribute ($other:tt)) => { $kind == $other };
-    (Inet6Attribute ($kind:ident) Inet6Attribute ($other:tt)) => { $kind == $other };
-    (Within ($set:ident, $kind:ident) Within (Family::$family:ident, $other:tt)) => {
-        $set == Family::$family && $kind == $other
+/// Returns an attribute set if a holder, in two parts, is this one of it. No code compares holders of different kinds.
+macro_rules! if_holder {
+    ($set:ident InfoKind ($kind:ident) InfoKind ($text:tt)) => {
+        if $kind == $text.as_slice() { return Some(Family::$set); }
     };
-    (LinkMessage () LinkMessage ()) => { true };
-    (ReplyMessage () ReplyMessage ()) => { true };
-    ($($other:tt)*) => { false };
+    ($set:ident PortKind ($kind:ident) PortKind ($text:tt)) => {
+        if $kind == $text.as_slice() { return Some(Family::$set); }
+    };
+    ($set:ident BridgeAttribute ($kind:ident) BridgeAttribute ($other:tt)) => {
+        if $kind == $other { return Some(Family::$set); }
+    };
+    ($set:ident NestedBridgeAttribute ($kind:ident) NestedBridgeAttribute ($other:tt)) => {
+        if $kind == $other { return Some(Family::$set); }
+    };
+    ($set:ident Inet6Attribute ($kind:ident) Inet6Attribute ($other:tt)) => {
+        if $kind == $other { return Some(Family::$set); }
+    };
+    ($set:ident Within ($within:ident, $kind:ident) Within (Family::$family:ident, $other:tt)) => {
+        if $within == Family::$family && $kind == $other { return Some(Family::$set); }
+    };
+    ($set:ident LinkMessage () LinkMessage ()) => { return Some(Family::$set); };
+    ($set:ident ReplyMessage () ReplyMessage ()) => { return Some(Family::$set); };
+    ($($other:tt)*) => {};
 }
 
 impl Family {
