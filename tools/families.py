@@ -51,7 +51,7 @@ def text_below_root(path):
 
 def families(text_of):
     """The rows of the list: for each attribute set what a pattern of LISTS can name, `holders`, the attributes that hold
-    its lists, `kinds`, and whether debug forms of messages have its lists."""
+    its lists, with "" for a message, `kinds`, and whether debug forms of messages have its lists."""
     keys = ("variant", "name", "attributes", "number", "NAME", "holders", "kinds", "in_messages", "table", "whose", "more")
     table_of = dict(TABLE.findall(text_of(DEFINED) or ""))
     text = text_of(LIST) or ""
@@ -59,7 +59,7 @@ def families(text_of):
     found = []
     for *it, holders in ROW.findall(text):
         held = HOLDER.findall(holders)
-        attributes = list(dict.fromkeys(HOLDERS.get(how, what) for how, _, what in held if how in HOLDERS or what))
+        attributes = list(dict.fromkeys(HOLDERS.get(how, what) for how, _, what in held))
         kinds = [kind for _, kind, _ in held if kind]
         # (what `nlshow` opens in an IFLA_PROTINFO is a NestedBridgeAttribute)
         in_messages = bool(kinds) or any(how == "BridgeAttribute" and what != "IFLA_PROTINFO" for how, _, what in held)
@@ -100,7 +100,7 @@ def disagreements(text_of):
 def constants(rows):
     """The constants of enum nlroute_family."""
     for row in rows:
-        holder = "".join(row["holders"][:1])
+        holder = row["holders"][0]
         what = row["whose"] if holder in row["whose"] else f"{holder} of {row['whose']}"
         more = f"{what}: {row['more']}".removesuffix(": ").replace("`", "")
         yield f"    NLROUTE_{row['NAME']} = {row['number']}{',' * (row is not rows[-1])} /* {more} */\n"

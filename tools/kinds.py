@@ -34,7 +34,7 @@ STRUCTS = {
     "BridgeId": "BRIDGE_ID", "VlanInfo": "VLAN_INFO", "BooleanOptions": "MASKED", "BitTiming": "BITTIMING",
     "Clock": "UNSIGNED", "CtrlMode": "MASKED", "BerrCounter": "BERR_COUNTER",
 }  # fmt: skip
-KERNEL = "#include <linux/if_link.h>\n#include <linux/if_bridge.h>\n#include <linux/can/netlink.h>\n#include <linux/devlink.h>\n"
+KERNEL = "#include <linux/if_link.h>\n#include <linux/if_bridge.h>\n#include <linux/can/netlink.h>\n#include <linux/devlink.h>\n#include <linux/veth.h>\n"
 TOP = """\
 /*
  * The attribute types that the library knows, by the names of the kernel's headers with NLROUTE_ before them, each with the

@@ -245,13 +245,14 @@ A *family* is an attribute set. What holds the list, and the kind of device, sel
 |---|---|---|---|---|
 """
 BELOW_FAMILIES = """
-In `IFLA_LINKINFO`, `IFLA_INFO_KIND` has the kind, or for a port `IFLA_INFO_SLAVE_KIND`, that of its master. The list of
-`link` follows `struct ifinfomsg`, and that of `reply` is the attributes `NLMSGERR_ATTR_*`. `AF_INET`, `AF_INET6` and
-`AF_MCTP` are in `IFLA_AF_SPEC`; of an AF_INET6 message, `IFLA_PROTINFO` is a list of `inet6`. `proto_bridge`
-knows attribute type 45 only, as upstream does; for others, use `bridge_port`. `tools/made.py` writes this page.
+`IFLA_INFO_KIND` has the kind, or for a port `IFLA_INFO_SLAVE_KIND`, that of its master. The list of `link` follows
+`struct ifinfomsg`, in a message or a peer, and that of `reply` is the attributes `NLMSGERR_ATTR_*`. `AF_INET`,
+`AF_INET6` and `AF_MCTP` are in `IFLA_AF_SPEC`; of an AF_INET6 message, `IFLA_PROTINFO` is a list of `inet6`.
+`proto_bridge` knows attribute type 45 only, as upstream does; for others, use `bridge_port`. `tools/made.py` writes
+this page.
 
 These kinds have no attributes of their own: `dummy`, `ifb`, `lowpan`, `netdevsim`, `nlmon`, `pfcp`, `team`, `vcan`,
-`virt_wifi`, `vsockmon` and `wireguard`. Linux sends no `IFLA_INFO_DATA` for most of them.
+`virt_wifi`, `vsockmon` and `wireguard`. For most, Linux sends no `IFLA_INFO_DATA`.
 """
 
 
@@ -262,7 +263,7 @@ def one_of(names):
 def page_of_families(tree):
     """The page with a row for each attribute set."""
     rows = [
-        f"| `{it['name']}` | {it['whose']} | {one_of(it['holders'])} | {one_of(it['kinds'])} | `{it['attributes']}` |\n"
+        f"| `{it['name']}` | {it['whose']} | {one_of(filter(None, it['holders']))} | {one_of(it['kinds'])} | `{it['attributes']}` |\n"
         for it in families.families(tree.text_or_none)
     ]
     return FAMILIES + "".join(rows) + BELOW_FAMILIES

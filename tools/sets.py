@@ -295,13 +295,8 @@ def sample(it):
     if kind == "Peer":
         # (the interface index is the number of the type)
         header, held = struct.pack("<BxHiII", 0, 0, it.number, 0, 0), struct.pack("<HH", 4, 16383)
-        zeros = ",".join(f'"{name}":{{"number":0,"names":[]}}' for name in ("flags", "change"))
-        shown = '{"name":"16383","value":{"type":16383,"flags":{"number":0,"names":[]},"hex":""}}'
-        family = '"family":{"number":0,"name":"AF_UNSPEC"},"type":{"number":0,"name":null}'
-        return (
-            header + held, f"ifindex {it.number}\n    type 16383 (empty)", f"Peer {{ header: {[*header]}, attributes: {[*held]} }}",
-            f'{{{family},"index":{it.number},{zeros},"attrs":[{shown}]}}',
-        )  # fmt: skip
+        debug = f"Peer {{ header: {[*header]}, attributes: {[*held]} }}"
+        return header + held, f"({len(header + held)} bytes, not decoded)", debug, f'{{"hex":"{(header + held).hex()}"}}'
     if it.its_class in ("[u8; 6]", "Vec<u8>"):
         payload = octets(6 if kind[0] == "[" else 5)
         return payload, payload.hex(":"), str([*payload]), f'"{payload.hex(":")}"'

@@ -290,7 +290,7 @@ COMMENTED = """\
             Hsr   "hsr"   InfoHsr  1  [InfoKind (b"hsr"), InfoKind (b"prp"), Within (Family::Vlan, IFLA_VLAN)]
             Port  "port"  InfoPort 2  [PortKind (b"dsa")]
             Vlan  "vlan"  InfoVlan 3  [BridgeAttribute (IFLA_VLAN)]
-            All   "all"   AllInfos 4  [LinkMessage]
+            All   "all"   AllInfos 4  [LinkMessage, Within (Family::Hsr, IFLA_PEER)]
             Part  "part"  Part     5  [Within (Family::All, IFLA_PART), Inet6Attribute (IFLA_VLAN)]
     /// `hsr`: attributes of HSR devices, [`InfoHsr`](crate::link::InfoHsr).
     /// `port`: attributes of ports, [`InfoPort`](crate::link::InfoPort).
@@ -359,7 +359,7 @@ MADE = [
     (repeated(lambda it: it[1]), {path: it[1] for path, it in REPEATING.items()}),
     ([(it["holders"], it["kinds"], it["in_messages"]) for it in families.families({families.LIST: COMMENTED}.get)][1:],
      [(["IFLA_INFO_DATA", "IFLA_VLAN"], ["hsr", "prp"], True), (["IFLA_INFO_SLAVE_DATA"], ["dsa"], True), (["IFLA_VLAN"], [], True),
-      ([], [], False), (["IFLA_PART", "IFLA_VLAN"], [], False)]),
+      (["", "IFLA_PEER"], [], False), (["IFLA_PART", "IFLA_VLAN"], [], False)]),
     (repeated(lambda it: it[0].replace("They cover", "Of")),
      f"README.md: 0 places are as {families.WRITTEN[3][1]}, and one has to be"),
     (repeated(lambda it: it[0] * (1 + it[0].startswith(".B"))),

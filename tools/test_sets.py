@@ -93,11 +93,9 @@ class Sets(unittest.TestCase):
             (("Shown<Held>", "hsr"), "held", "Raw x.items", bytes.fromhex("0400ff3f"), "\n    type 16383 (empty)",
              "[4, 0, 255, 63]", '[{"name":"16383","value":{"type":16383,"flags":{"number":0,"names":[]},"hex":""}}]'),
             ("Peer", "peer", "Raw (peer_octets x)", bytes.fromhex("00000000 07000000 00000000 00000000 0400ff3f"),
-             "ifindex 7\n    type 16383 (empty)",
+             "(20 bytes, not decoded)",
              "Peer { header: [0, 0, 0, 0, 7, 0, 0, 0, 0, 0, 0, 0, 0, 0, 0, 0], attributes: [4, 0, 255, 63] }",
-             '{"family":{"number":0,"name":"AF_UNSPEC"},"type":{"number":0,"name":null},"index":7,'
-             '"flags":{"number":0,"names":[]},"change":{"number":0,"names":[]},'
-             '"attrs":[{"name":"16383","value":{"type":16383,"flags":{"number":0,"names":[]},"hex":""}}]}'),
+             '{"hex":"000000000700000000000000000000000400ff3f"}'),
             (("CodedFlags<CanState>", "4"), "(u32_flags can_state_names)", "Number 4 x", bytes(4), "0", "0", '{"number":0,"names":[]}'),
             (("Counters<CanState>", "4"), "(u32_counters can_state_names)", "Raw (octets_of 4 x.items)", b"", "(empty)", "[]", "{}"),
             (("Counters<CanState>", "i32"), "(i32_counters can_state_names)", "Raw (octets_by 4 (cast_unsigned w32) x.items)",

@@ -9,3 +9,4 @@ pub mod MacvlanAddress
 pub mod Macvlan
 pub mod NetkitNames
 pub mod Netkit
+pub mod Veth

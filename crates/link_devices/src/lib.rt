@@ -6,6 +6,7 @@ mod macvlan;
 mod macvlan_address;
 mod netkit;
 mod tun;
+mod veth;
 mod vrf;
 mod vrf_port;
 
@@ -14,5 +15,6 @@ pub use macvlan::InfoMacVlan;
 pub use macvlan_address::MacVlanAddress;
 pub use netkit::InfoNetkit;
 pub use tun::InfoTun;
+pub use veth::InfoVeth;
 pub use vrf::InfoVrf;
 pub use vrf_port::InfoVrfPort;

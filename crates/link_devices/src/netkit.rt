@@ -3,6 +3,7 @@
 ghost use Rattle.link_devices.specs.Netkit.{netkit_table, netkit_means};
 ghost use Rattle.link_devices.specs.NetkitNames.{netkit_mode_names, netkit_policy_names, netkit_scrub_names};
 
+use link_base::classes::peer::Peer;
 use link_base::rows::by_rows::{self, AttributeRows, RowVisitor};
 use link_base::rows::label::{KindLabel, Name};
 use link_base::{
@@ -17,8 +18,8 @@ use std::alloc::{AllocError, Global};
 /// not reported.
 #[derive(Debug, PartialEq, Eq, Drop)]
 pub enum InfoNetkit {
-    /// The peer: a `struct ifinfomsg` and its attributes, which are not decoded (`IFLA_NETKIT_PEER_INFO`, write-only).
-    PeerInfo(Vec<u8>),
+    /// The other device of the pair: its header, and its attributes (`IFLA_NETKIT_PEER_INFO`, write-only).
+    PeerInfo(Peer),
     /// Whether the device is the primary one of the pair (`IFLA_NETKIT_PRIMARY`, `u8`, read-only).
     Primary(bool),
     /// What happens to packets without a BPF program: 0 forwards them, 2 drops them (`IFLA_NETKIT_POLICY`, `enum
@@ -115,7 +116,7 @@ macro_rules! rows {
     ($call:ident($($argument:tt)*)) => {
         link_base::by_rows! { $call($($argument)*)
             "IFLA_NETKIT_";
-            IFLA_NETKIT_PEER_INFO = 1, PeerInfo: Vec<u8>;
+            IFLA_NETKIT_PEER_INFO = 1, PeerInfo: Peer;
             IFLA_NETKIT_PRIMARY = 2, Primary: bool;
             IFLA_NETKIT_POLICY = 3, Policy: Coded<NetkitPolicy>;
             IFLA_NETKIT_PEER_POLICY = 4, PeerPolicy: Coded<NetkitPolicy>;

@@ -34,7 +34,8 @@ all_families =
     sets.Tun ∷
     sets.IpVlan ∷
     sets.MacVlan ∷
-    sets.Netkit ∷ []
+    sets.Netkit ∷
+    sets.Veth ∷ []
 
 abbrev family_at : List Family → ℕ → Option Family
 family_at [] n = None

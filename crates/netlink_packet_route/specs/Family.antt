@@ -4,7 +4,7 @@ use Rattle.link_base.specs.Table.{Table}
 use Rattle.netlink_packet_route.specs.declared.family.Family.{Family}
 use Rattle.netlink_packet_route.specs.declared.family.Holder.{Holder}
 use Rattle.netlink_packet_route.specs.declared.family.Holder.TheVariants as holders
-use Rattle.netlink_packet_route.specs.declared.family.Family.TheVariants.{AfSpecBridge, Bond, BondPort, Bridge, BridgePort, Vlan, Can, Dsa, Hsr, ProtoBridge, Vxlan, Link, AfSpec, Inet, Inet6, Mctp, Reply, Geneve, Vrf, VrfPort, Tun, IpVlan, MacVlan, Netkit}
+use Rattle.netlink_packet_route.specs.declared.family.Family.TheVariants.{AfSpecBridge, Bond, BondPort, Bridge, BridgePort, Vlan, Can, Dsa, Hsr, ProtoBridge, Vxlan, Link, AfSpec, Inet, Inet6, Mctp, Reply, Geneve, Vrf, VrfPort, Tun, IpVlan, MacVlan, Netkit, Veth}
 use Rattle.link_bridge.specs.AfSpecBridge.{af_spec_bridge_table}
 use Rattle.link_bond.specs.Bond.{bond_table}
 use Rattle.link_bond.specs.BondPort.{bond_port_table}
@@ -29,6 +29,7 @@ use Rattle.link_devices.specs.Tun.{tun_table}
 use Rattle.link_devices.specs.Ipvlan.{ipvlan_table}
 use Rattle.link_devices.specs.Macvlan.{macvlan_table}
 use Rattle.link_devices.specs.Netkit.{netkit_table}
+use Rattle.link_devices.specs.Veth.{veth_table}
 
 -- what holds the list of an attribute set
 pub data Holding : Type 0 where
@@ -72,7 +73,7 @@ family_row Dsa = row (codes "dsa") 7 (InfoKind (codes "dsa") ∷ []) dsa_table
 family_row Hsr = row (codes "hsr") 8 (InfoKind (codes "hsr") ∷ []) hsr_table
 family_row ProtoBridge = row (codes "proto_bridge") 9 (BridgeAttribute 12 ∷ []) proto_info_table
 family_row Vxlan = row (codes "vxlan") 10 (InfoKind (codes "vxlan") ∷ []) vxlan_table
-family_row Link = row (codes "link") 11 (LinkMessage ∷ []) link_table
+family_row Link = row (codes "link") 11 (LinkMessage ∷ Within Veth 1 ∷ Within Netkit 1 ∷ []) link_table
 family_row AfSpec = row (codes "af_spec") 12 (Within Link 26 ∷ []) af_spec_table
 family_row Inet = row (codes "inet") 13 (Within AfSpec 2 ∷ []) inet_table
 family_row Inet6 = row (codes "inet6") 14 (Within AfSpec 10 ∷ Inet6Attribute 12 ∷ []) inet6_table
@@ -85,6 +86,7 @@ family_row Tun = row (codes "tun") 20 (InfoKind (codes "tun") ∷ []) tun_table
 family_row IpVlan = row (codes "ipvlan") 21 (InfoKind (codes "ipvlan") ∷ InfoKind (codes "ipvtap") ∷ []) ipvlan_table
 family_row MacVlan = row (codes "macvlan") 22 (InfoKind (codes "macvlan") ∷ InfoKind (codes "macvtap") ∷ []) macvlan_table
 family_row Netkit = row (codes "netkit") 23 (InfoKind (codes "netkit") ∷ []) netkit_table
+family_row Veth = row (codes "veth") 24 (InfoKind (codes "veth") ∷ InfoKind (codes "vxcan") ∷ []) veth_table
 
 abbrev pub family_name : Family → List ℕ
 family_name family = (family_row family).name

@@ -72,6 +72,7 @@ pub use Rattle.link_devices.specs.MacvlanAddress
 pub use Rattle.link_devices.specs.Macvlan
 pub use Rattle.link_devices.specs.NetkitNames
 pub use Rattle.link_devices.specs.Netkit
+pub use Rattle.link_devices.specs.Veth
 pub use Rattle.link_common.specs.LinkNames
 pub use Rattle.link_common.specs.InetNames
 pub use Rattle.link_common.specs.Places

@@ -57,6 +57,8 @@ pub enum Family {
     MacVlan,
     /// `netkit`: attributes of NETKIT devices, [`InfoNetkit`](crate::link::InfoNetkit).
     Netkit,
+    /// `veth`: attributes of VETH and VXCAN devices, [`InfoVeth`](crate::link::InfoVeth).
+    Veth,
 }
 
 /// What holds the list of an attribute set (`include/uapi/linux/if_link.h`).
@@ -94,6 +96,10 @@ const AF_INET6: u16 = 10;
 
 const AF_MCTP: u16 = 45;
 
+const VETH_INFO_PEER: u16 = 1;
+
+const IFLA_NETKIT_PEER_INFO: u16 = 1;
+
 /// The list of attribute sets. `families!([then] more)` calls the macro `then` with `more`, and after it a row of five
 /// parts for each attribute set: its variant of `Family`, its name, its enum of attributes in `link`, its number in C,
 /// and its holders in brackets.
@@ -116,7 +122,7 @@ macro_rules! families {
             Hsr           "hsr"             InfoHsr              8  [InfoKind (b"hsr")]
             ProtoBridge   "proto_bridge"    LinkProtoInfoBridge  9  [BridgeAttribute (IFLA_PROTINFO)]
             Vxlan         "vxlan"           InfoVxlan            10 [InfoKind (b"vxlan")]
-            Link          "link"            LinkAttribute        11 [LinkMessage]
+            Link          "link"            LinkAttribute        11 [LinkMessage, Within (Family::Veth, VETH_INFO_PEER), Within (Family::Netkit, IFLA_NETKIT_PEER_INFO)]
             AfSpec        "af_spec"         AfSpecUnspec         12 [Within (Family::Link, IFLA_AF_SPEC)]
             Inet          "inet"            AfSpecInet           13 [Within (Family::AfSpec, AF_INET)]
             Inet6         "inet6"           AfSpecInet6          14 [Within (Family::AfSpec, AF_INET6), Inet6Attribute (IFLA_PROTINFO)]
@@ -129,6 +135,7 @@ macro_rules! families {
             IpVlan        "ipvlan"          InfoIpVlan           21 [InfoKind (b"ipvlan"), InfoKind (b"ipvtap")]
             MacVlan       "macvlan"         InfoMacVlan          22 [InfoKind (b"macvlan"), InfoKind (b"macvtap")]
             Netkit        "netkit"          InfoNetkit           23 [InfoKind (b"netkit")]
+            Veth          "veth"            InfoVeth             24 [InfoKind (b"veth"), InfoKind (b"vxcan")]
         }
     };
 }

@@ -4,6 +4,7 @@
 pub use crate::rewriting::rewrite_as;
 pub use crate::rewriting_streaming::rewrite_streaming_as;
 pub use crate::rewriting_to_slice::rewrite_to_slice_as;
+pub use link_base::classes::peer::Peer;
 pub use link_base::lists::laws;
 pub use link_base::{
     Attribute, Cause, DecodeError, DecodeFault, DefaultNla, Emitable, FrameTable, ListError,
@@ -32,7 +33,7 @@ pub use link_common::{
     ReplyAttribute, XdpAttached, XdpFlags,
 };
 pub use link_devices::{
-    InfoIpVlan, InfoMacVlan, InfoNetkit, InfoTun, InfoVrf, InfoVrfPort, MacVlanAddress,
+    InfoIpVlan, InfoMacVlan, InfoNetkit, InfoTun, InfoVeth, InfoVrf, InfoVrfPort, MacVlanAddress,
 };
 pub use link_tunnels::{InfoGeneve, InfoVxlan, VxlanHeader, VxlanPortRange};
 pub use link_vlan_can::{

@@ -67,6 +67,7 @@ static const char *const sets[] = {
     [NLROUTE_IPVLAN] = "ipvlan",
     [NLROUTE_MACVLAN] = "macvlan",
     [NLROUTE_NETKIT] = "netkit",
+    [NLROUTE_VETH] = "veth",
 };
 
 /* Types of attribute sets, by their names. */

@@ -91,7 +91,8 @@ enum nlroute_family {
     NLROUTE_TUN = 20, /* IFLA_INFO_DATA of TUN and TAP devices */
     NLROUTE_IPVLAN = 21, /* IFLA_INFO_DATA of IPVLAN and IPVTAP devices */
     NLROUTE_MACVLAN = 22, /* IFLA_INFO_DATA of MACVLAN and MACVTAP devices */
-    NLROUTE_NETKIT = 23 /* IFLA_INFO_DATA of NETKIT devices */
+    NLROUTE_NETKIT = 23, /* IFLA_INFO_DATA of NETKIT devices */
+    NLROUTE_VETH = 24 /* IFLA_INFO_DATA of VETH and VXCAN devices */
 };
 
 /*

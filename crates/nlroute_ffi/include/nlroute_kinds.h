@@ -528,7 +528,7 @@ enum {
 
 /* Attributes of NLROUTE_NETKIT. */
 enum {
-    NLROUTE_IFLA_NETKIT_PEER_INFO = 1, /* BYTES, write-only */
+    NLROUTE_IFLA_NETKIT_PEER_INFO = 1, /* PEER, write-only */
     NLROUTE_IFLA_NETKIT_PRIMARY = 2, /* BOOL, read-only */
     NLROUTE_IFLA_NETKIT_POLICY = 3, /* NAMED */
     NLROUTE_IFLA_NETKIT_PEER_POLICY = 4, /* NAMED */
@@ -537,6 +537,11 @@ enum {
     NLROUTE_IFLA_NETKIT_PEER_SCRUB = 7, /* NAMED */
     NLROUTE_IFLA_NETKIT_HEADROOM = 8, /* UNSIGNED */
     NLROUTE_IFLA_NETKIT_TAILROOM = 9 /* UNSIGNED */
+};
+
+/* Attributes of NLROUTE_VETH. */
+enum {
+    NLROUTE_VETH_INFO_PEER = 1 /* PEER, write-only */
 };
 
 /* Places of the array link_stats. */

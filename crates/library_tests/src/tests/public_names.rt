@@ -12,10 +12,11 @@ use netlink_packet_route::link::{
     CanBitTiming, CanBitTimingConst, CanClock, CanCtrlMode, CanCtrlModeExt, CanCtrlModeFlags,
     CanTdc, Cause, ChurnState, DecodeError, DecodeFault, DefaultNla, FrameTable, HsrProtocol,
     InfoBond, InfoBondPort, InfoBridge, InfoBridgePort, InfoCan, InfoDsa, InfoGeneve, InfoHsr,
-    InfoIpVlan, InfoMacVlan, InfoNetkit, InfoTun, InfoVlan, InfoVrf, InfoVrfPort, InfoVxlan,
-    LacpState, LinkAttribute, LinkProtoInfoBridge, ListError, MacVlanAddress, MiiStatus, NlaBuffer,
-    NlasIterator, ReplyAttribute, TryClone, VecAfSpecBridge, VecLinkProtoInfoBridge, VlanFlags,
-    VlanProtocol, VlanQosMapping, VxlanHeader, VxlanPortRange, WriteError,
+    InfoIpVlan, InfoMacVlan, InfoNetkit, InfoTun, InfoVeth, InfoVlan, InfoVrf, InfoVrfPort,
+    InfoVxlan, LacpState, LinkAttribute, LinkProtoInfoBridge, ListError, MacVlanAddress, MiiStatus,
+    NlaBuffer, NlasIterator, Peer, ReplyAttribute, TryClone, VecAfSpecBridge,
+    VecLinkProtoInfoBridge, VlanFlags, VlanProtocol, VlanQosMapping, VxlanHeader, VxlanPortRange,
+    WriteError,
 };
 use netlink_packet_route::{Family, RewriteError};
 use std::alloc::AllocError;
@@ -287,12 +288,19 @@ fn macvlan_address(value: &MacVlanAddress) {
 
 fn netkit(value: &InfoNetkit) {
     match value {
-        InfoNetkit::PeerInfo(it) => is::<Vec<u8>>(it),
+        InfoNetkit::PeerInfo(it) => is::<Peer>(it),
         InfoNetkit::Primary(it) => is::<bool>(it),
         InfoNetkit::Policy(it) | InfoNetkit::PeerPolicy(it) => is::<u32>(it),
         InfoNetkit::Mode(it) | InfoNetkit::Scrub(it) | InfoNetkit::PeerScrub(it) => is::<u32>(it),
         InfoNetkit::Headroom(it) | InfoNetkit::Tailroom(it) => is::<u16>(it),
         InfoNetkit::Other(it) => is::<DefaultNla>(it),
+    }
+}
+
+fn veth(value: &InfoVeth) {
+    match value {
+        InfoVeth::Peer(it) => is::<Peer>(it),
+        InfoVeth::Other(it) => is::<DefaultNla>(it),
     }
 }
 
@@ -387,6 +395,12 @@ fn port_range(range: &VxlanPortRange) {
 fn header(bits: &VxlanHeader) {
     let VxlanHeader { vx_flags, vx_vni } = bits;
     is::<[&u32; 2]>(&[vx_flags, vx_vni]);
+}
+
+fn peer(other_end: &Peer) {
+    let Peer { header, attributes } = other_end;
+    is::<[u8; 16]>(header);
+    is::<Vec<u8>>(attributes);
 }
 
 fn bit_timing(timing: &CanBitTiming) {
@@ -593,6 +607,7 @@ fn attributes() {
     is_attribute::<ReplyAttribute>();
     is_attribute::<InfoGeneve>();
     is_attribute::<InfoNetkit>();
+    is_attribute::<InfoVeth>();
     is_attribute::<MacVlanAddress>();
     is_attribute::<InfoMacVlan>();
     is_attribute::<InfoIpVlan>();
@@ -738,7 +753,8 @@ fn families(family: Family) {
         | Family::Tun
         | Family::IpVlan
         | Family::MacVlan
-        | Family::Netkit => {}
+        | Family::Netkit
+        | Family::Veth => {}
     }
 }
 

@@ -74,3 +74,6 @@ returns-in-MacVlan-clause-answer c = rw c.in-MacVlan.is c.rewrite_as-in-MacVlan.
 
 pub returns-in-Netkit-clause-answer : goal.returns-in-Netkit-clause-answer
 returns-in-Netkit-clause-answer c = rw c.in-Netkit.is c.rewrite_as-in-Netkit.ensures.answer
+
+pub returns-in-Veth-clause-answer : goal.returns-in-Veth-clause-answer
+returns-in-Veth-clause-answer c = rw c.in-Veth.is c.rewrite_as-in-Veth.ensures.answer
