@@ -27,6 +27,7 @@ HEADERS = {
     "BRIDGE_QUERIER_": "if_bridge.h",
     "IFLA_CAN_": "can/netlink.h",
     "NLMSGERR_": "netlink.h",
+    "VETH_": "veth.h",
     "DEVLINK_": "devlink.h",
     "DPLL_": "dpll.h",
 }

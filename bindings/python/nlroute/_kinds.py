@@ -42,6 +42,7 @@ class Family(Texts):
     IPVLAN = 21, "ipvlan"
     MACVLAN = 22, "macvlan"
     NETKIT = 23, "netkit"
+    VETH = 24, "veth"
 
 
 class Place(IntEnum):
@@ -1016,6 +1017,7 @@ IFLA_NETKIT_SCRUB: Key[NetkitScrub] = Key("IFLA_NETKIT_SCRUB")
 IFLA_NETKIT_PEER_SCRUB: Key[NetkitScrub] = Key("IFLA_NETKIT_PEER_SCRUB")
 IFLA_NETKIT_HEADROOM: Key[int] = Key("IFLA_NETKIT_HEADROOM")
 IFLA_NETKIT_TAILROOM: Key[int] = Key("IFLA_NETKIT_TAILROOM")
+VETH_INFO_PEER: Key[bytes] = Key("VETH_INFO_PEER")
 
 SETS: dict[Family, tuple[Row, ...]] = {
     Family.AF_SPEC_BRIDGE: (
@@ -1457,7 +1459,7 @@ SETS: dict[Family, tuple[Row, ...]] = {
         Row("IFLA_MACVLAN_BC_CUTOFF", 9, 4),
     ),
     Family.NETKIT: (
-        Row("IFLA_NETKIT_PEER_INFO", 1, 17),
+        Row("IFLA_NETKIT_PEER_INFO", 1, 22),
         Row("IFLA_NETKIT_PRIMARY", 2, 2),
         Row("IFLA_NETKIT_POLICY", 3, 5, NetkitPolicy),
         Row("IFLA_NETKIT_PEER_POLICY", 4, 5, NetkitPolicy),
@@ -1466,6 +1468,9 @@ SETS: dict[Family, tuple[Row, ...]] = {
         Row("IFLA_NETKIT_PEER_SCRUB", 7, 5, NetkitScrub),
         Row("IFLA_NETKIT_HEADROOM", 8, 3),
         Row("IFLA_NETKIT_TAILROOM", 9, 3),
+    ),
+    Family.VETH: (
+        Row("VETH_INFO_PEER", 1, 22),
     ),
 }
 
@@ -1567,5 +1572,5 @@ __all__ = [
     "IFLA_MACVLAN_MACADDR", "IFLA_MACVLAN_MACADDR_DATA", "IFLA_MACVLAN_MACADDR_COUNT", "IFLA_MACVLAN_BC_QUEUE_LEN",
     "IFLA_MACVLAN_BC_QUEUE_LEN_USED", "IFLA_MACVLAN_BC_CUTOFF", "IFLA_NETKIT_PEER_INFO", "IFLA_NETKIT_PRIMARY",
     "IFLA_NETKIT_POLICY", "IFLA_NETKIT_PEER_POLICY", "IFLA_NETKIT_MODE", "IFLA_NETKIT_SCRUB", "IFLA_NETKIT_PEER_SCRUB",
-    "IFLA_NETKIT_HEADROOM", "IFLA_NETKIT_TAILROOM",
+    "IFLA_NETKIT_HEADROOM", "IFLA_NETKIT_TAILROOM", "VETH_INFO_PEER",
 ]  # fmt: skip

@@ -942,7 +942,7 @@ attributes! {
     /// Holds an attribute of [`Netkit`], as a variant for its type.
     NetkitAttribute of Netkit;
     /// Holds [`IFLA_NETKIT_PEER_INFO`].
-    PeerInfo(Vec<u8>) = 1;
+    PeerInfo(Peer) = 1;
     /// Holds [`IFLA_NETKIT_PRIMARY`].
     Primary(bool) = 2;
     /// Holds [`IFLA_NETKIT_POLICY`].
@@ -959,4 +959,11 @@ attributes! {
     Headroom(u16) = 8;
     /// Holds [`IFLA_NETKIT_TAILROOM`].
     Tailroom(u16) = 9;
+}
+
+attributes! {
+    /// Holds an attribute of [`Veth`], as a variant for its type.
+    VethAttribute of Veth;
+    /// Holds [`VETH_INFO_PEER`].
+    Peer(Peer) = 1;
 }

@@ -117,6 +117,8 @@ families! {
     Macvlan = 22, "macvlan";
     /// Names `IFLA_INFO_DATA` of NETKIT devices.
     Netkit = 23, "netkit";
+    /// Names `IFLA_INFO_DATA` of VETH and VXCAN devices.
+    Veth = 24, "veth";
 }
 
 named! {
@@ -1532,7 +1534,7 @@ scope! {
 }
 
 /// Selects `IFLA_NETKIT_PEER_INFO` of [`Netkit`] (`include/uapi/linux/if_link.h`).
-pub const IFLA_NETKIT_PEER_INFO: Key<Netkit, Vec<u8>> = Key::new(1, "IFLA_NETKIT_PEER_INFO");
+pub const IFLA_NETKIT_PEER_INFO: Key<Netkit, Peer> = Key::new(1, "IFLA_NETKIT_PEER_INFO");
 /// Selects `IFLA_NETKIT_PRIMARY` of [`Netkit`] (`include/uapi/linux/if_link.h`).
 pub const IFLA_NETKIT_PRIMARY: Key<Netkit, bool> = Key::new(2, "IFLA_NETKIT_PRIMARY");
 /// Selects `IFLA_NETKIT_POLICY` of [`Netkit`] (`include/uapi/linux/if_link.h`).
@@ -1549,6 +1551,14 @@ pub const IFLA_NETKIT_PEER_SCRUB: Key<Netkit, NetkitScrub> = Key::new(7, "IFLA_N
 pub const IFLA_NETKIT_HEADROOM: Key<Netkit, u16> = Key::new(8, "IFLA_NETKIT_HEADROOM");
 /// Selects `IFLA_NETKIT_TAILROOM` of [`Netkit`] (`include/uapi/linux/if_link.h`).
 pub const IFLA_NETKIT_TAILROOM: Key<Netkit, u16> = Key::new(9, "IFLA_NETKIT_TAILROOM");
+
+scope! {
+    /// Represents the attribute set [`Family::Veth`] in types.
+    Veth;
+}
+
+/// Selects `VETH_INFO_PEER` of [`Veth`] (`include/uapi/linux/veth.h`).
+pub const VETH_INFO_PEER: Key<Veth, Peer> = Key::new(1, "VETH_INFO_PEER");
 
 /// Has the places of the array [`IFLA_STATS`]: indices of its `Vec`.
 pub mod link_stats {
@@ -2242,4 +2252,5 @@ pub(crate) fn visit_keys(visitor: &mut impl crate::tests::Visitor) {
     visitor.attribute("IFLA_NETKIT_PEER_SCRUB", IFLA_NETKIT_PEER_SCRUB);
     visitor.attribute("IFLA_NETKIT_HEADROOM", IFLA_NETKIT_HEADROOM);
     visitor.attribute("IFLA_NETKIT_TAILROOM", IFLA_NETKIT_TAILROOM);
+    visitor.attribute("VETH_INFO_PEER", VETH_INFO_PEER);
 }
