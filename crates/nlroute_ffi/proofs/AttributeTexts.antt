@@ -9,6 +9,7 @@ use Rattle.link_base.specs.declared.views.content.Content.{Content}
 use Rattle.link_base.specs.declared.views.content.Content.TheVariants as contents
 use Rattle.link_base.specs.declared.wire.fault.Cause.{Cause}
 use Rattle.link_base.specs.declared.rows.form.ArrayOf.{ArrayOf}
+use Rattle.link_base.specs.declared.rows.form.Look.TheVariants as looks
 use Rattle.link_base.specs.declared.rows.form.Form.{Form}
 use Rattle.link_base.specs.declared.rows.form.Form.TheVariants as forms
 use Rattle.link_base.specs.declared.wire.buffer.NlaBuffer.{NlaBuffer}
@@ -94,6 +95,7 @@ no_words label (contents.Numbers w p) h = refl
 no_words label (contents.Addresses p size) h = refl
 no_words label (contents.List p flagged) h = refl
 no_words label (contents.Struct layout p) h = let no = value_no_list _ (struct_value layout) in absurd cc
+no_words label (contents.Bytes looks.Peer p) h = absurd cc
 no_words label x h = absurd cc
 
 module _ (table : Table) (formed : is_table table ≡ true) (b : NlaBuffer) (n : ℕ) (e : Entry) (list : List ℕ) (at : StandsAt e list (payload_of_frame b)) (bytes : IsBytes list) where
