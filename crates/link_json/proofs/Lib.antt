@@ -12,6 +12,5 @@ pub mod Keys
 pub mod PlaceKeys
 pub mod Sound
 pub mod SoundLists
-pub mod SoundLinks
 pub mod Lines
 pub mod Places

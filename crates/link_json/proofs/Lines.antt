@@ -21,8 +21,7 @@ use Rattle.link_json.specs.Message.{message_error, message_fields, errno_json, S
 use Rattle.link_json.specs.Other.{place_document, fault_document, check_document, ShowsListDocument, ShowsCheck, IsCanonical, IsNot}
 use Rattle.link_json.proofs.Keys.{are_among, are_distinct, distinct_members}
 use Rattle.link_json.proofs.Sound.{IsSound, AreSound, EachSound, above, first_sound, others_sound, no_fields, field_sound, fields_both, object_sound, no_items, one_sound, each_both, array_sound, string_sound, boolean_sound, number_sound, signed_sound, name_sound, text_sound, named_sound, flags_sound, at_sound, error_sound}
-use Rattle.link_json.proofs.SoundLists.{shown_sound, family_sound}
-use Rattle.link_json.proofs.SoundLinks.{link_sound}
+use Rattle.link_json.proofs.SoundLists.{shown_sound, family_sound, link_sound}
 use Rattle.link_json.proofs.Unbroken.{text_unbroken}
 
 -- ---- lines

@@ -98,6 +98,9 @@ module _ {K : Type 0} {d : ℕ} where
   pub deeper_sound : {n : ℕ} {j : Json} → d ≤ n → IsSound K d j → IsSound K n j
   deeper_sound more h = record { numbers = h.numbers; unique = h.unique; shallow = omega (arith, h.shallow, more) }
 
+  pub deeper_each : {n : ℕ} {js : List Json} → d ≤ n → EachSound K d js → EachSound K n js
+  deeper_each more h = record { numbers = h.numbers; unique = h.unique; shallow = omega (arith, h.shallow, more) }
+
   pub either_sound : (b : Bool) (x y : Json) → IsSound K d x → IsSound K d y → IsSound K d (if b then x else y)
   either_sound true x y h g = h
   either_sound false x y h g = g

@@ -1,9 +1,8 @@
 -- The elements for lists are sound.
-use Rattle.std.proofs.Common.{◌≡◌, ℕ, zero, suc, ◌+◌, ◌==◌, ◌≤◌, Bool, true, false, List, [], ◌∷◌, map, length, Option, Some, None, refl, sym, subst, arith, codes, if◌then◌else◌}
+use Rattle.std.proofs.Common.{◌≡◌, ℕ, zero, suc, ◌==◌, ◌≤◌, Bool, true, false, List, [], ◌∷◌, ◌++◌, map, length, Option, Some, None, refl, sym, subst, arith, codes, if◌then◌else◌}
 use Rattle.std.specs.List.{flat_map}
 use Rattle.json.specs.Json.{Json, string}
 use Rattle.link_base.specs.declared.wire.buffer.NlaBuffer.{NlaBuffer}
-use Rattle.link_base.specs.declared.wire.fault.Cause.{Cause}
 use Rattle.link_base.specs.declared.views.content.Content.{Content}
 use Rattle.link_base.specs.declared.views.content.Content.TheVariants as contents
 use Rattle.link_base.specs.declared.rows.form.Look.TheVariants as looks
@@ -11,7 +10,6 @@ use Rattle.std.proofs.lemmas.Bool.{and_parts}
 use Rattle.link_base.specs.Class.{is_on}
 use Rattle.link_base.specs.Fields.{FieldRow}
 use Rattle.link_base.specs.WellFormed.{are_fields}
-use Rattle.link_base.specs.Frame.{kind_of}
 use Rattle.link_base.specs.Number.{number}
 use Rattle.link_base.specs.Buffer.{kind_field_of, payload_of}
 use Rattle.link_base.specs.Labels.{name_in}
@@ -19,25 +17,32 @@ use Rattle.link_base.specs.Layout.{octets_of}
 use Rattle.link_base.specs.Protocol.{vlan_protocols, protocol_number}
 use Rattle.link_base.specs.Named.{text_of}
 use Rattle.link_base.specs.Table.{Label}
-use Rattle.link_base.specs.Borrowed.{elements_at, HasContent}
+use Rattle.link_base.specs.Borrowed.{HasContent}
 use Rattle.netlink_packet_route.specs.declared.family.Family.{Family}
-use Rattle.netlink_packet_route.specs.declared.opening.Context.{Context}
+use Rattle.netlink_packet_route.specs.declared.family.Family.TheVariants.{Link}
 use Rattle.netlink_packet_route.specs.Family.{table_of}
 use Rattle.netlink_packet_route.specs.Opening.{without_nul}
+use Rattle.link_messages.specs.declared.header.LinkHeader.{LinkHeader}
+use Rattle.link_messages.specs.Finding.{Stretch}
+use Rattle.link_messages.specs.Held.{may_hold, header_before, context_of}
+use Rattle.link_messages.specs.Shown.{EachShown, Holder, holder_at, rows_in, label_for}
 use Rattle.link_messages.specs.Walk.{Item}
+use Rattle.link_messages.proofs.Holds.{shows_hold}
+use Rattle.link_messages.proofs.Listing.{all_any, each_hold}
 use Rattle.link_show.specs.Held.{is_state, state_names}
-use Rattle.link_show.specs.List.{EachShown, ShowsEach, label_for, ip_text}
+use Rattle.link_show.specs.List.{ip_text}
+use Rattle.link_show.specs.MessageNames.{device_flags}
 use Rattle.link_show.specs.Structs.{pair_fields, masked_fields}
 use Rattle.link_show.specs.Value.{counted_in}
-use Rattle.link_show.proofs.HeldPrinting.{family_has_texts}
-use Rattle.link_show.proofs.Listing.{all_any, each_hold}
-use Rattle.link_show.proofs.ValuePrinting.{IsLabelText, label_is_text, elements_text}
-use Rattle.link_json.specs.Doc.{array_of, error_json}
-use Rattle.link_json.specs.Value.{number_or_address, content_json, unit_of, labelled_json, unnamed_json}
-use Rattle.link_json.specs.List.{ShowsAddresses, ShowsFlat, ShowsPlain, shows_leaf, ShowsHolder, Shower, ShowsSingle, ShowsInner, ShowsInners, ShowsKnown, ShowsItem, Decodes, Fails, shows_none, ShowsSet, ShowsList, state_json, if_sized, fault_json, end_json}
+use Rattle.link_show.proofs.HeldPrinting.{rows_text}
+use Rattle.link_show.proofs.ValuePrinting.{IsLabelText}
+use Rattle.link_json.specs.Doc.{Field, array_of, error_json}
+use Rattle.link_json.specs.Value.{header_fields, whole_link, number_or_address, content_json, unit_of, labelled_json, unnamed_json}
+use Rattle.link_json.specs.Link.{ShowsLink}
+use Rattle.link_json.specs.List.{ShowsAddresses, ShowsFlat, ShowsPlain, shows_leaf, held_json, holder_json, elements, ShowsList, state_json, if_sized, fault_json}
 use Rattle.link_json.proofs.Keys.{are_distinct}
-use Rattle.link_json.proofs.PlaceKeys.{IsKeyed, keyed, family_has_keys, elements_have_keys, numbers_few}
-use Rattle.link_json.proofs.Sound.{IsSound, EachSound, above, no_fields, field_sound, object_sound, no_items, item_sound, one_sound, each_both, array_sound, deeper_sound, string_sound, boolean_sound, number_sound, signed_sound, opaque_sound, text_sound, named_sound, flags_sound, array_of_numbers, object_of_fields, struct_sound, limits_sound, element_sound, raw_sound, error_sound, role_sound}
+use Rattle.link_json.proofs.PlaceKeys.{IsKeyed, have_keys, keyed, family_has_keys, elements_have_keys, numbers_few}
+use Rattle.link_json.proofs.Sound.{IsSound, AreSound, EachSound, above, no_fields, field_sound, fields_both, object_sound, no_items, item_sound, one_sound, each_both, array_sound, deeper_sound, deeper_each, string_sound, boolean_sound, number_sound, signed_sound, opaque_sound, text_sound, named_sound, flags_sound, array_of_numbers, object_of_fields, struct_sound, limits_sound, element_sound, raw_sound, error_sound, role_sound}
 
 -- ---- values
 
@@ -83,26 +88,9 @@ module _ {K : Type 0} {d : ℕ} where
   content_sound label (contents.Other p) l f = opaque_sound p.now
   content_sound label content l f = string_sound _
 
--- ---- lists
-
-pub shown_sound : {K : Type 0} {d : ℕ} {X : Type 0} (shows : X → List Json → Bool → Type 0) → ((x : X) (js : List Json) (well : Bool) → shows x js well → EachSound K d js)
-    → (xs : List X) (js : List Json) (whole : Bool) → EachShown shows xs js whole → EachSound K d js
-shown_sound {K} {d} shows one xs js whole s =
-    each_hold (λ x. Unit {0}) shows (λ js whole. EachSound K d js) no_items (λ a b v w h k. each_both a b h k) (λ x js well t h. one x js well h) xs js whole (all_any xs) s
+-- ---- lists of addresses
 
 module _ {K : Type 0} {d : ℕ} where
-  end_sound : (base : ℕ) (fault : Option (ℕ × Cause)) → EachSound K (above 2 d) (end_json base fault)
-  end_sound base None = no_items
-  end_sound base (Some fault) = item_sound _ [] (fault_sound (base + fault.0) _) no_items
-
-  -- the elements for a list of bytes, if those for each attribute are so
-  pub list_sound : (shows : Item → List Json → Bool → Type 0) (base : ℕ) (list : List ℕ) → ((x : Item) (js : List Json) (well : Bool) → shows x js well → EachSound K (above 2 d) js)
-      → (js : List Json) (whole : Bool) → ShowsEach shows (end_json base) list js whole → EachSound K (above 2 d) js
-  list_sound shows base list one js whole s =
-      subst (EachSound K (above 2 d)) (sym s.joined) (each_both s.front (end_json base s.fault) (shown_sound shows one s.items s.front s.well s.each) (end_sound base s.fault))
-
-  -- ---- lists of addresses
-
   sized_sound : (p : List ℕ) (b : Bool) → EachSound K d (if b then string (ip_text p) ∷ [] else [])
   sized_sound p true = item_sound _ [] (string_sound _) no_items
   sized_sound p false = no_items
@@ -135,70 +123,94 @@ module _ {K : Type 0} {d : ℕ} where
 -- ---- attributes that hold lists
 
 module _ {K : Type 0} {d : ℕ} where
-  held_sound : (label : Option Label) (shows : List Json → Bool → Type 0) (j : Json) (well : Bool) → ((js : List Json) → shows js well → EachSound K d js) → ShowsHolder label shows j well → IsSound K (above 2 d) j
-  held_sound label shows j well each (js, shown, e) = subst (IsSound K (above 2 d)) (sym e) (element_sound _ _ None (string_sound _) (array_sound js (each js shown)))
+  header_sound : (h : LinkHeader) → AreSound K (above 2 d) (header_fields h)
+  header_sound h =
+      field_sound (named_sound h.family _) (field_sound (named_sound h.kind _) (field_sound (signed_sound h.index) (field_sound (flags_sound device_flags h.flags) (field_sound (flags_sound device_flags h.change) no_fields))))
 
--- what is shown for lists is sound
-abbrev AreShown : Type 0 → ℕ → Shower → Type 0
-AreShown K d shows = (context : Context) (base : ℕ) (family : Family) (list : List ℕ) (js : List Json) (well : Bool) → shows context base family list js well → EachSound K d js
+module _ {K : Type 0} {d : ℕ} where
+  pub whole_sound : (h : LinkHeader) (js : List Json) → EachSound K (suc d) js → IsSound K (above 3 d) (whole_link h js)
+  whole_sound h js each =
+      let attrs : List Field = (codes "attrs", array_of js) ∷ [] in
+      object_sound (header_fields h ++ attrs) refl (fields_both (header_fields h) attrs (header_sound h) (field_sound (array_sound js each) no_fields))
 
--- attributes whose lists are sound at most d deep
-module _ {K : Type 0} {d : ℕ} (least : 2 ≤ d) (n : ℕ) (shows : Shower) (held : AreShown K d shows) where
-  single_sound : (context : Context) (at : ℕ) (family : Family) (k : Option ℕ) (label : Option Label) (b : NlaBuffer) (content : Content) (j : Json) (well : Bool) → IsLabelText label → IsKeyed label content
-      → ShowsSingle n shows context at family k label b content j well → IsSound K (above 2 d) j
-  single_sound context at family k label b content j well l f (None, answer, (shown, e)) =
-      let flat : IsSound K (above 4 0) j = leaf_sound (is_state context family k b) label b content j l f shown in
-      deeper_sound (omega (arith, least)) flat
-  single_sound context at family k label b content j well l f (Some set, answer, shown) =
-      held_sound label (shows context (at + 4) set (payload_of b)) j well (λ js s. held context (at + 4) set (payload_of b) js well s) shown
+  -- an attribute that holds a list
+  value_sound : (header : Option LinkHeader) (js : List Json) → EachSound K d js → IsSound K (above 3 d) (held_json header js)
+  value_sound None js each = deeper_sound (omega arith) (array_sound js each)
+  value_sound (Some h) js each = whole_sound h js (deeper_each (omega arith) each)
 
-  inner_sound : (context : Context) (base : ℕ) (family : Family) (k : ℕ) (x : Item) (js : List Json) (well : Bool) → ShowsInner n shows context base family k x js well → EachSound K (above 2 d) js
-  inner_sound context base family k x js well (j, (content, has, shown), e) =
-      let table = elements_at (table_of family) k in
-      let l = label_is_text table (kind_of (kind_field_of x.1)) (elements_text (table_of family) k (family_has_texts family)) in
-      let f = keyed table x.1 content (elements_have_keys (table_of family) k (family_has_keys family)) has in
-      one_sound j js e (single_sound context (base + x.0) family (Some k) (label_for table x.1) x.1 content j well l f shown)
+  holder_sound : (h : Holder) (js : List Json) → EachSound K d js → IsSound K (above 4 d) (holder_json h js)
+  holder_sound h js each = element_sound _ _ None (string_sound _) (value_sound h.header js each)
 
-  inners_sound : (context : Context) (base : ℕ) (family : Family) (k : ℕ) (list : List ℕ) (js : List Json) (well : Bool) → ShowsInners n shows context base family k list js well → EachSound K (above 2 d) js
-  inners_sound context base family k list js well (inner, is, items, walk, each) = shown_sound _ (inner_sound inner base family k) items js well each
+  -- one that is no peer
+  plain_sound_holder : (h : Holder) (js : List Json) → h.header ≡ None → EachSound K d js → IsSound K (above 2 d) (holder_json h js)
+  plain_sound_holder h js none each = element_sound _ _ None (string_sound _) (subst (λ o. IsSound K (suc d) (held_json o js)) (sym none) (array_sound js each))
 
-  known_sound : (context : Context) (at : ℕ) (family : Family) (b : NlaBuffer) (content : Content) (j : Json) (well : Bool) → HasContent (table_of family) b content
-      → ShowsKnown n shows context at family b content j well → IsSound K (above 4 d) j
-  known_sound context at family b (contents.List list flagged) j well has shown =
-      let k = kind_of (kind_field_of b) in
-      held_sound (label_for (table_of family) b) (ShowsInners n shows context (at + 4) family k list.now) j well (λ js s. inners_sound context (at + 4) family k list.now js well s) shown
-  known_sound context at family b content j well has shown =
-      let l = label_is_text (table_of family) (kind_of (kind_field_of b)) (family_has_texts family) in
-      let f = keyed (table_of family) b content (family_has_keys family) has in
-      deeper_sound (omega arith) (single_sound context at family None (label_for (table_of family) b) b content j well l f shown)
-
-  item_shown : (context : Context) (base : ℕ) (family : Family) (x : Item) (js : List Json) (well : Bool) → ShowsItem n shows context base family x js well → EachSound K (above 4 d) js
-  item_shown context base family x js well (Decodes j (content, has, shown) e) = one_sound j js e (known_sound context (base + x.0) family x.1 content j well has shown)
-  item_shown context base family x js well (Fails fault gives e w) = one_sound _ js e (fault_sound (base + x.0) _)
+inner_header : (k : ℕ) (content : Content) (p : List ℕ) → may_hold (Some k) content ≡ true → header_before content p ≡ None
+inner_header k (contents.Bytes looks.Peer q) p may = absurd cc
+inner_header k content p may = refl
 
 -- ---- lists
 
--- how deep the elements of a list nest, if n levels of lists are opened
-abbrev pub deepest : ℕ → ℕ → ℕ
-deepest zero d = above 6 d
-deepest (suc n) d = above 4 (deepest n d)
+rows_have_keys : (family : Family) (k : Option ℕ) → have_keys (rows_in family k) ≡ true
+rows_have_keys family None = family_has_keys family
+rows_have_keys family (Some k) = elements_have_keys (table_of family) k (family_has_keys family)
 
-least_deep : (n d : ℕ) → 6 + d ≤ deepest n d
-least_deep zero d = omega arith
-least_deep (suc n) d = omega (arith, least_deep n d)
+-- how deep attributes of a list nest, and elements of its nested lists, if n levels of lists are opened
+abbrev pub deep : ℕ → Option ℕ → ℕ → ℕ
+deep d None zero = above 6 d
+deep d None (suc n) = above 4 (deep d None n)
+deep d (Some k) zero = above 4 d
+deep d (Some k) (suc n) = above 2 (deep d None n)
 
-module _ {K : Type 0} where
-  none_shown : (d : ℕ) → AreShown K d shows_none
-  none_shown d context base family list js well s = absurd s
+least_deep : (d : ℕ) (k : Option ℕ) (n : ℕ) → above 4 d ≤ deep d k n
+least_deep d None zero = omega arith
+least_deep d None (suc n) = omega (arith, least_deep d None n)
+least_deep d (Some k) zero = omega arith
+least_deep d (Some k) (suc n) = omega (arith, least_deep d None n)
 
-  set_sound : (n d : ℕ) → AreShown K (deepest n d) (ShowsSet n)
-  set_sound zero d context base family list js well s =
-      list_sound {d = above 4 d} (ShowsItem zero shows_none context base family) base list (item_shown {d = above 2 d} (omega arith) zero shows_none (none_shown (above 2 d)) context base family) js well s
-  set_sound (suc n) d context base family list js well s =
-      list_sound {d = above 2 (deepest n d)} (ShowsItem (suc n) (ShowsSet n) context base family) base list
-      (item_shown {d = deepest n d} (omega (arith, least_deep n d)) (suc n) (ShowsSet n) (set_sound n d) context base family) js well s
+nested_deep : (d k n : ℕ) → above 2 (deep d (Some k) n) ≤ deep d None n
+nested_deep d k zero = omega arith
+nested_deep d k (suc n) = omega arith
+
+module _ {K : Type 0} (d : ℕ) where
+  error_shown : (n at : ℕ) (text : List ℕ) → EachSound K (deep d None n) (fault_json at text ∷ [])
+  error_shown n at text =
+      let flat : IsSound K (above 4 d) (fault_json at text) = fault_sound at text in
+      one_sound _ _ refl (deeper_sound (least_deep d None n) flat)
+
+  leaf_shown : (n : ℕ) (state : Bool) (family : Family) (k : Option ℕ) (b : NlaBuffer) (content : Content) (js : List Json) → HasContent (rows_in family k) b content
+      → ((j : Json) × shows_leaf state (label_for (rows_in family k) b) b content j × (js ≡ j ∷ [])) → EachSound K (deep d k n) js
+  leaf_shown n state family k b content js has (j, shown, e) =
+      let f = keyed (rows_in family k) b content (rows_have_keys family k) has in
+      let flat : IsSound K (above 4 d) j = leaf_sound state (label_for (rows_in family k) b) b content j (rows_text family k b) f shown in
+      one_sound j js e (deeper_sound (least_deep d k n) flat)
+
+  opened_shown : (n at : ℕ) (family : Family) (k : Option ℕ) (set : Family) (b : NlaBuffer) (content : Content) (inner js : List Json) → may_hold k content ≡ true → EachSound K (deep d None n) inner
+      → js ≡ holder_json (holder_at family k (Some set) at b content) inner ∷ [] → EachSound K (deep d k (suc n)) js
+  opened_shown n at family None set b content inner js may held e = one_sound _ js e (holder_sound (holder_at family None (Some set) at b content) inner held)
+  opened_shown n at family (Some k) set b content inner js may held e =
+      one_sound _ js e (plain_sound_holder (holder_at family (Some k) (Some set) at b content) inner (inner_header k content (payload_of b) may) held)
+
+  nested_shown : (n k : ℕ) (h : Holder) (inner js : List Json) → h.header ≡ None → EachSound K (deep d (Some k) n) inner → js ≡ holder_json h inner ∷ [] → EachSound K (deep d None n) js
+  nested_shown n k h inner js none held e = one_sound _ js e (deeper_sound (nested_deep d k n) (plain_sound_holder h inner none held))
 
 module _ {K : Type 0} {d : ℕ} where
   -- the elements for a list, which opens six levels
   pub family_sound : (address_family : ℕ) (family : Family) (base : ℕ) (list : List ℕ) (js : List Json) (whole : Bool) → ShowsList address_family family base list js whole → EachSound K (above 30 d) js
-  family_sound address_family family base list js whole s = set_sound 6 d _ base family list js whole s
+  family_sound address_family family base list js whole s =
+      shows_hold elements (λ k n js. EachSound K (deep d k n) js) (λ k n. no_items) (λ k n. each_both)
+      (λ n level family at fault. error_shown d n at _)
+      (λ n context level family k b content js has shown. leaf_shown d n (is_state context family k b) family k b content js has shown)
+      (λ n level at family k set b content inner whole js well may held around. opened_shown d n at family k set b content inner js may held around.0)
+      (λ n level at family k b list flagged inner whole js well held around. nested_shown d n k (holder_at family None None at b (contents.List list flagged)) inner js refl held around.0)
+      6 (context_of address_family) 0 family (base, list) js whole s
+
+  pub link_sound : (h : LinkHeader) (list : Stretch) (j : Json) (well : Bool) → ShowsLink h list j well → IsSound K (above 32 d) j
+  link_sound h list j well (js, shown, e) = subst (IsSound K (above 32 d)) (sym e) (whole_sound {d = above 29 d} h js (family_sound h.family Link list.0 list.1 js well shown))
+
+-- ---- several items
+
+pub shown_sound : {K : Type 0} {d : ℕ} {X : Type 0} (shows : X → List Json → Bool → Type 0) → ((x : X) (js : List Json) (well : Bool) → shows x js well → EachSound K d js)
+    → (xs : List X) (js : List Json) (whole : Bool) → EachShown shows xs js whole → EachSound K d js
+shown_sound {K} {d} shows one xs js whole s =
+    each_hold (λ x. Unit {0}) shows (λ js whole. EachSound K d js) no_items (λ a b v w h k. each_both a b h k) (λ x js well t h. one x js well h) xs js whole (all_any xs) s

@@ -18,7 +18,3 @@ pub fields_both : (a b : List Field) → fields_tokens (a ++ b) ≡ fields_token
 fields_both [] b = refl
 fields_both (x ∷ a) b =
     ap (λ t. key x.0 ∷ (json_tokens x.1 ++ t)) (fields_both a b) ∙ ap (λ t. key x.0 ∷ t) (sym (append_assoc (json_tokens x.1) (fields_tokens a) (fields_tokens b)))
-
-pub each_both : (a b : List Json) → each_tokens (a ++ b) ≡ each_tokens a ++ each_tokens b
-each_both [] b = refl
-each_both (j ∷ a) b = ap (λ t. json_tokens j ++ t) (each_both a b) ∙ sym (append_assoc (json_tokens j) (each_tokens a) (each_tokens b))

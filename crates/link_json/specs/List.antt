@@ -1,5 +1,6 @@
 -- The JSON of lists of attributes: an element for each, in order.
-use Rattle.std.specs.Prelude.{◌≡◌, ℕ, zero, suc, ◌+◌, ◌==◌, Bool, true, false, List, [], ◌∷◌, ◌++◌, length, Option, Some, None, Err, codes, if◌then◌else◌}
+use Rattle.std.proofs.Common.{◌≡◌, ℕ, ◌==◌, Bool, true, false, List, [], ◌∷◌, ◌++◌, length, Option, Some, None, codes, if◌then◌else◌, refl, sym, ap, ◌∙◌, append_assoc}
+use Rattle.std.proofs.lemmas.List.{append-nil}
 use Rattle.std.specs.List.{flat_map}
 use Rattle.json.specs.Token.{Token}
 use Rattle.json.specs.Token as token
@@ -7,38 +8,30 @@ use Rattle.json.specs.Json.{Json, string}
 use Rattle.json.specs.Tree.{json_tokens}
 use Rattle.link_base.specs.declared.wire.buffer.NlaBuffer.{NlaBuffer}
 use Rattle.link_base.specs.declared.wire.fault.Cause.{Cause}
-use Rattle.link_base.specs.declared.wire.fault.DecodeFault.{DecodeFault}
 use Rattle.link_base.specs.declared.views.content.Content.{Content}
 use Rattle.link_base.specs.declared.views.content.Content.TheVariants as contents
-use Rattle.link_base.specs.Frame.{kind_of}
 use Rattle.link_base.specs.Number.{number}
 use Rattle.link_base.specs.Buffer.{kind_field_of, payload_of}
-use Rattle.link_base.specs.Table.{Label, Gives}
-use Rattle.link_base.specs.Borrowed.{elements_at, HasContent}
+use Rattle.link_base.specs.Table.{Label}
 use Rattle.netlink_packet_route.specs.declared.family.Family.{Family}
-use Rattle.netlink_packet_route.specs.declared.opening.Context.{Context}
 use Rattle.netlink_packet_route.specs.Family.{table_of}
-use Rattle.netlink_packet_route.specs.Opening.{holding_at, IsOpened}
+use Rattle.link_messages.specs.declared.header.LinkHeader.{LinkHeader}
+use Rattle.link_messages.specs.Held.{levels, context_of}
+use Rattle.link_messages.specs.Shown.{Holder, Display, Shows, rows_in, label_for}
 use Rattle.link_messages.specs.Walk.{Item, Walk}
-use Rattle.link_show.specs.Fault.{cause_words, fault_text}
-use Rattle.link_messages.specs.Held.{Answers, IsContextIn, levels, context_of}
+use Rattle.link_show.specs.Fault.{fault_text}
 use Rattle.link_show.specs.Held.{is_state, state_names}
-use Rattle.link_show.specs.List.{EachShown, ShowsEach, label_for, ip_text}
+use Rattle.link_show.specs.List.{ip_text}
 use Rattle.link_show.specs.Printable.{IsText}
-use Rattle.link_json.specs.Doc.{object_of, array_of, each_tokens, element_json, error_json}
+use Rattle.link_json.specs.Doc.{object_of, array_of, fields_tokens, each_tokens, element_json, error_json}
 use Rattle.link_json.specs.Names.{short_name}
-use Rattle.link_json.specs.Value.{content_json, enum_json, labelled_json, unnamed_json}
+use Rattle.link_json.specs.Value.{content_json, enum_json, labelled_json, unnamed_json, header_fields, whole_link}
 
 -- ---- errors
 
 -- an error in the place of an attribute
 abbrev pub fault_json : ℕ → List ℕ → Json
 fault_json at text = object_of ((codes "error", error_json (Some at) text) ∷ [])
-
--- what ends a list: nothing, or the error of a header
-abbrev pub end_json : ℕ → Option (ℕ × Cause) → List Json
-end_json base None = []
-end_json base (Some fault) = fault_json (base + fault.0) (cause_words false fault.1) ∷ []
 
 -- ---- lists of addresses
 
@@ -78,73 +71,28 @@ abbrev pub holder_name : Option Label → List ℕ
 holder_name None = codes "protinfo"
 holder_name (Some label) = short_name label.prefix label.name
 
-abbrev pub holder_json : Option Label → Json → Json
-holder_json label value = element_json (string (holder_name label)) value []
+-- the value of one: the array of what is in the list; in a peer, a link with that
+abbrev pub held_json : Option LinkHeader → List Json → Json
+held_json None js = array_of js
+held_json (Some header) js = whole_link header js
 
--- one whose list is shown so
-abbrev pub ShowsHolder : Option Label → (List Json → Bool → Type 0) → Json → Bool → Type 0
-ShowsHolder label shows j well = (js : List Json) × shows js well × (j ≡ holder_json label (array_of js))
-
--- what is shown for a list of a set: the context, the offset and the bytes, the elements, and whether none is an error
-abbrev pub Shower : Type 1
-Shower = Context → ℕ → Family → List ℕ → List Json → Bool → Type 0
-
--- the attribute b, which starts at offset `at`, by the set that reads it
-abbrev pub ShowsAnswered : Shower → Context → ℕ → Family → Option ℕ → Option Label → NlaBuffer → Content → Option Family → Json → Bool → Type 0
-ShowsAnswered shows context at family list label b content None j well = shows_leaf (is_state context family list b) label b content j × (well ≡ true)
-ShowsAnswered shows context at family list label b content (Some set) j well = ShowsHolder label (shows context (at + 4) set (payload_of b)) j well
-
--- an attribute of a set that is no nested list, or an element of one; `list` is the type of that
-abbrev pub ShowsSingle : ℕ → Shower → Context → ℕ → Family → Option ℕ → Option Label → NlaBuffer → Content → Json → Bool → Type 0
-ShowsSingle n shows context at family list label b content j well =
-    (answer : Option Family) × Answers n (IsOpened (holding_at context family list (kind_field_of b))) content answer
-    × ShowsAnswered shows context at family list label b content answer j well
-
--- an element of a nested list of type k, which starts at offset `base`
-abbrev pub ShowsInner : ℕ → Shower → Context → ℕ → Family → ℕ → Item → List Json → Bool → Type 0
-ShowsInner n shows context base family k x js well =
-    (j : Json) × ((content : Content) × HasContent (elements_at (table_of family) k) x.1 content
-    × ShowsSingle n shows context (base + x.0) family (Some k) (label_for (elements_at (table_of family) k) x.1) x.1 content j well) × (js ≡ j ∷ [])
-
--- all of them
-abbrev pub ShowsInners : ℕ → Shower → Context → ℕ → Family → ℕ → List ℕ → List Json → Bool → Type 0
-ShowsInners n shows context base family k list js well =
-    (inner : Context) × IsContextIn context list inner × (items : List Item) × Walk list items None × EachShown (ShowsInner n shows inner base family k) items js well
-
--- the attribute b of a set, which starts at offset `at`
-abbrev pub ShowsKnown : ℕ → Shower → Context → ℕ → Family → NlaBuffer → Content → Json → Bool → Type 0
-ShowsKnown n shows context at family b (contents.List list flagged) j well =
-    ShowsHolder (label_for (table_of family) b) (ShowsInners n shows context (at + 4) family (kind_of (kind_field_of b)) list.now) j well
-ShowsKnown n shows context at family b content j well = ShowsSingle n shows context at family None (label_for (table_of family) b) b content j well
-
-abbrev pub ShowsDecoded : ℕ → Shower → Context → ℕ → Family → NlaBuffer → Json → Bool → Type 0
-ShowsDecoded n shows context at family b j well =
-    (content : Content) × HasContent (table_of family) b content × ShowsKnown n shows context at family b content j well
+abbrev pub holder_json : Holder → List Json → Json
+holder_json h js = element_json (string (holder_name h.label)) (held_json h.header js) []
 
 -- ---- lists
 
--- an attribute, if the list starts at offset `base`, or its error
-pub data ShowsItem (n : ℕ) (shows : Shower) (context : Context) (base : ℕ) (family : Family) (x : Item) (js : List Json) (well : Bool) : Type 0 where
-  Decodes : (j : Json) → ShowsDecoded n shows context (base + x.0) family x.1 j well → js ≡ j ∷ [] → ShowsItem n shows context base family x js well
-  Fails : (fault : DecodeFault) → Gives (table_of family) (kind_field_of x.1) (payload_of x.1) (Err fault) → js ≡ fault_json (base + x.0) (fault_text (table_of family) fault) ∷ [] → well ≡ false
-      → ShowsItem n shows context base family x js well
-
-abbrev pub shows_none : Shower
-shows_none context base family list js well = ⊥
-
--- the elements for a list of a set; the lists that its attributes hold are their values, through n levels
-abbrev pub ShowsSet : ℕ → Shower
-ShowsSet zero context base family = ShowsEach (ShowsItem zero shows_none context base family) (end_json base)
-ShowsSet (suc n) context base family = ShowsEach (ShowsItem (suc n) (ShowsSet n) context base family) (end_json base)
-
--- the elements for a list that is opened where n levels may be
-abbrev pub shows_in : ℕ → Shower
-shows_in zero = shows_none
-shows_in (suc n) = ShowsSet n
+-- an element for each attribute, and for each error in the place of its attribute
+abbrev pub elements : Display Json
+elements = record {
+  omits = λ context family kind. false;
+  error = λ level family at fault. fault_json at (fault_text (table_of family) fault) ∷ [];
+  leaf = λ context level family k b content js. (j : Json) × shows_leaf (is_state context family k b) (label_for (rows_in family k) b) b content j × (js ≡ j ∷ []);
+  around = λ level h inner whole js well. (js ≡ holder_json h inner ∷ []) × (well ≡ whole);
+}
 
 -- the elements for a list in a message of this address family; 0 if it is in none
 abbrev pub ShowsList : ℕ → Family → ℕ → List ℕ → List Json → Bool → Type 0
-ShowsList address_family family base = ShowsSet levels (context_of address_family) base family
+ShowsList address_family family base list = Shows elements levels (context_of address_family) 0 family (base, list)
 
 -- the array of a list
 abbrev pub ShowsArray : (List Json → Bool → Type 0) → Json → Bool → Type 0
@@ -161,8 +109,16 @@ HasText (Some label) = IsText label.name
 abbrev pub Adds : List Token → List Token → List Json → Type 0
 Adds old new js = new ≡ old ++ each_tokens js
 
-abbrev pub Writes : (List Json → Bool → Type 0) → List Token → List Token → Bool → Type 0
-Writes shows old new well = (js : List Json) × shows js well × Adds old new js
+pub adds_none : (old : List Token) → Adds old old []
+adds_none old = sym (append-nil old)
+
+each_both : (a b : List Json) → each_tokens (a ++ b) ≡ each_tokens a ++ each_tokens b
+each_both [] b = refl
+each_both (j ∷ a) b = ap (λ t. json_tokens j ++ t) (each_both a b) ∙ sym (append_assoc (json_tokens j) (each_tokens a) (each_tokens b))
+
+pub adds_more : (old mid new : List Token) (a b : List Json) → Adds old mid a → Adds mid new b → Adds old new (a ++ b)
+adds_more old mid new a b first written =
+    written ∙ ap (λ t. t ++ each_tokens b) first ∙ append_assoc old (each_tokens a) (each_tokens b) ∙ ap (λ t. old ++ t) (sym (each_both a b))
 
 abbrev pub WritesAddresses : ℕ → List ℕ → List Token → List Token → Type 0
 WritesAddresses size list old new = (js : List Json) × ShowsAddresses size list js × Adds old new js
@@ -176,8 +132,13 @@ abbrev pub WritesOne : (Json → Type 0) → List Token → List Token → Type 
 WritesOne shows old new = (j : Json) × shows j × (new ≡ old ++ json_tokens j)
 
 -- what is before the elements of a list that an attribute holds, and what is after them
-abbrev pub holder_front : Option Label → List Token
-holder_front label = token.begin_object ∷ token.key (codes "name") ∷ token.string (holder_name label) ∷ token.key (codes "value") ∷ token.begin_array ∷ []
+abbrev pub held_front : Option LinkHeader → List Token
+held_front None = token.begin_array ∷ []
+held_front (Some header) = token.begin_object ∷ (fields_tokens (header_fields header) ++ token.key (codes "attrs") ∷ token.begin_array ∷ [])
 
-abbrev pub holder_back : List Token
-holder_back = token.end_array ∷ token.end_object ∷ []
+abbrev pub holder_front : Holder → List Token
+holder_front h = token.begin_object ∷ token.key (codes "name") ∷ token.string (holder_name h.label) ∷ token.key (codes "value") ∷ held_front h.header
+
+abbrev pub holder_back : Option LinkHeader → List Token
+holder_back None = token.end_array ∷ token.end_object ∷ []
+holder_back (Some header) = token.end_array ∷ token.end_object ∷ token.end_object ∷ []

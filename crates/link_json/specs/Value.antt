@@ -1,5 +1,5 @@
 -- The JSON of values, by the form of their content.
-use Rattle.std.specs.Prelude.{ℕ, ◌+◌, ◌-◌, true, List, [], ◌∷◌, map, Option, Some, None, codes, if◌then◌else◌}
+use Rattle.std.specs.Prelude.{ℕ, ◌+◌, ◌-◌, true, List, [], ◌∷◌, ◌++◌, map, Option, Some, None, codes, if◌then◌else◌}
 use Rattle.std.specs.Fmt.{decimal}
 use Rattle.std.specs.Int.{w32, cast_signed}
 use Rattle.std.specs.Str.{is_utf8}
@@ -33,10 +33,12 @@ use Rattle.link_base.specs.Layout.{numbers_of, octets_of}
 use Rattle.link_base.specs.Protocol.{vlan_protocols, protocol_number}
 use Rattle.link_base.specs.Named.{text_of}
 use Rattle.netlink_packet_route.specs.Opening.{without_nul}
+use Rattle.link_messages.specs.declared.header.LinkHeader.{LinkHeader}
 use Rattle.link_show.specs.Text.{joined}
 use Rattle.link_show.specs.Octets.{byte_text, ip6_text}
 use Rattle.link_show.specs.Value.{counted_in}
 use Rattle.link_show.specs.Flags.{set_names}
+use Rattle.link_show.specs.MessageNames.{address_families, device_types, device_flags}
 use Rattle.link_show.specs.List.{type_flags}
 use Rattle.link_show.specs.Structs.{field_in, has_fields, bridge_id_text, pair_fields, masked_fields}
 use Rattle.link_base.specs.Table.{Label}
@@ -192,3 +194,17 @@ raw_json f p = object_of ((codes "type", number_json (kind_of f)) ∷ (codes "fl
 -- an attribute whose type has no name
 abbrev pub unnamed_json : ℕ → List ℕ → Json
 unnamed_json f p = element_json (string (decimal (kind_of f))) (raw_json f p) []
+
+-- ---- links
+
+abbrev pub header_fields : LinkHeader → List Field
+header_fields h =
+    (codes "family", enum_json address_families h.family) ∷
+    (codes "type", enum_json device_types h.kind) ∷
+    (codes "index", signed_json h.index) ∷
+    (codes "flags", flags_json device_flags h.flags) ∷
+    (codes "change", flags_json device_flags h.change) ∷ []
+
+-- a link: its `struct ifinfomsg`, and its attributes
+abbrev pub whole_link : LinkHeader → List Json → Json
+whole_link h js = object_of (header_fields h ++ (codes "attrs", array_of js) ∷ [])

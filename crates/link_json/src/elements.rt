@@ -5,38 +5,62 @@ ghost use Rattle.json.specs.Token.{string};
 ghost use Rattle.json.specs.Tree.{json_tokens};
 ghost use Rattle.link_base.specs.Buffer.{payload_of};
 ghost use Rattle.link_base.specs.Labels.{label_in, label_of};
+ghost use Rattle.link_messages.specs.Shown.{holder_of};
 ghost use Rattle.link_show.specs.Printable.{IsText};
 ghost use Rattle.link_json.specs.Doc.{each_tokens};
-ghost use Rattle.link_json.specs.List.{ShowsFlat, ShowsPlain, HasText, holder_name, holder_front, holder_back, shows_leaf, state_json, if_sized};
+ghost use Rattle.link_json.specs.List.{ShowsFlat, ShowsPlain, HasText, holder_name, held_front, holder_front, holder_back, shows_leaf, state_json, if_sized};
 ghost use Rattle.link_json.specs.List.{WritesOne, WritesAddresses};
 
+use crate::links::write_link_header;
 use crate::numbers::write_enum;
 use crate::sheet::Sheet;
 use crate::values::{write_content, write_unit, write_unnamed};
 use link_base::rows::label::KindLabel;
 use link_base::views::content::{Content, Known};
 use link_base::{NamedNumber, NlaBuffer};
+use link_messages::{HeldList, LinkHeader};
 use netlink_packet_route::link::BridgePortState;
 use std::alloc::AllocError;
 
-/// Begins an attribute that holds a list: writes its name, and begins the array that is its value.
-pub(crate) fn begin_holder(sheet: &mut Sheet, label: &Option<KindLabel>) -> Result<(), AllocError>
-    requires { HasText (label_in label.now) }
-    ensures { OnOk result (sheet.new ≡ sheet.old ++ holder_front (label_in label.now)) }
+/// Begins an attribute that holds a list: writes its name, and begins its value.
+pub(crate) fn begin_holder(sheet: &mut Sheet, held: &HeldList<'_>) -> Result<(), AllocError>
+    requires { HasText (holder_of held.now).label }
+    ensures { OnOk result (sheet.new ≡ sheet.old ++ holder_front (holder_of held.now)) }
 {
     sheet.begin_object()?;
     sheet.key("name")?;
-    write_holder_name(sheet, label)?;
+    write_holder_name(sheet, held.label)?;
     sheet.key("value")?;
-    sheet.begin_array()
+    begin_held(sheet, held.header)
+}
+
+/// Begins the array of a list, in a peer behind its header.
+fn begin_held(sheet: &mut Sheet, header: Option<LinkHeader>) -> Result<(), AllocError>
+    ensures { OnOk result (sheet.new ≡ sheet.old ++ held_front header) }
+{
+    match header {
+        Some(header) => {
+            sheet.begin_object()?;
+            write_link_header(sheet, &header)?;
+            sheet.key("attrs")?;
+            sheet.begin_array()
+        }
+        None => sheet.begin_array(),
+    }
 }
 
 /// Ends an attribute that holds a list.
-pub(crate) fn end_holder(sheet: &mut Sheet) -> Result<(), AllocError>
-    ensures { OnOk result (sheet.new ≡ sheet.old ++ holder_back) }
+pub(crate) fn end_holder(sheet: &mut Sheet, header: Option<LinkHeader>) -> Result<(), AllocError>
+    ensures { OnOk result (sheet.new ≡ sheet.old ++ holder_back header) }
 {
     sheet.end_array()?;
-    sheet.end_object()
+    match header {
+        Some(_) => {
+            sheet.end_object()?;
+            sheet.end_object()
+        }
+        None => sheet.end_object(),
+    }
 }
 
 /// Writes the name of an attribute that holds a list. One without a row is an `IFLA_PROTINFO`.

@@ -3,7 +3,8 @@
 ghost use Rattle.std.specs.Prelude.{◌≡◌, ◌++◌, OnOk, IfOk};
 ghost use Rattle.link_messages.specs.Finding.{stretch_of};
 ghost use Rattle.link_json.specs.Doc.{fields_tokens};
-ghost use Rattle.link_json.specs.Link.{ShowsLink, header_fields};
+ghost use Rattle.link_json.specs.Value.{header_fields};
+ghost use Rattle.link_json.specs.Link.{ShowsLink};
 ghost use Rattle.link_json.specs.List.{WritesValue};
 
 use crate::lists::write_array;
@@ -31,7 +32,7 @@ pub(crate) fn write_link(
 }
 
 /// Writes the fields of a `struct ifinfomsg` as members.
-fn write_link_header(sheet: &mut Sheet, header: &LinkHeader) -> Result<(), AllocError>
+pub(crate) fn write_link_header(sheet: &mut Sheet, header: &LinkHeader) -> Result<(), AllocError>
     ensures { OnOk result (sheet.new ≡ sheet.old ++ fields_tokens (header_fields header.now)) }
 {
     sheet.key("family")?;

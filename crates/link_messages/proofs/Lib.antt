@@ -1,3 +1,5 @@
 pub mod Messages
 pub mod Walking
 pub mod Listing
+pub mod Visited
+pub mod Holds

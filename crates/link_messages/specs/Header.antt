@@ -12,24 +12,22 @@ use Rattle.link_messages.specs.Link.{IsLinkType}
 abbrev pub IsAnyLinkType : ℕ → Type 0
 IsAnyLinkType kind = IsLinkType kind ⊎ (kind ≡ 18)
 
--- the fields of the header with which these bytes start
-pub record IsLinkHeader (body : List ℕ) (header : LinkHeader) : Type 0 where
-  -- `ifi_family`, and a byte that is not used
-  pub family : header.family ≡ slice_index body 0
-  -- `ifi_type`
-  pub kind : header.kind ≡ number_at 2 2 body
-  -- `ifi_index`
-  pub index : header.index ≡ integer (take 4 (drop 4 body))
-  -- `ifi_flags`
-  pub flags : header.flags ≡ number_at 4 8 body
-  -- `ifi_change`
-  pub change : header.change ≡ number_at 4 12 body
+-- the header with which these bytes start: `ifi_family`, and a byte that is not used; `ifi_type`; `ifi_index`; `ifi_flags`; and
+-- `ifi_change`
+abbrev pub header_in : List ℕ → LinkHeader
+header_in body = record {
+  family = slice_index body 0;
+  kind = number_at 2 2 body;
+  index = integer (take 4 (drop 4 body));
+  flags = number_at 4 8 body;
+  change = number_at 4 12 body;
+}
 
 -- the message m is about a link, and has this header
 pub record HasLinkHeader (m : Packet) (header : LinkHeader) : Type 0 where
   pub kind : IsAnyLinkType m.kind
   pub size : 16 ≤ length m.payload
-  pub is : IsLinkHeader m.payload header
+  pub is : header ≡ header_in m.payload
 
 -- why the message m at offset `at` has no such header
 abbrev pub HasNoLinkHeader : ℕ → Packet → MessageError → Type 0

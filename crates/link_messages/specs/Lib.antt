@@ -6,5 +6,7 @@ pub mod Header
 pub mod BeforeFault
 pub mod Acknowledgement
 pub mod Held
+pub mod Within
+pub mod Shown
 pub mod Lists
 pub mod Same

@@ -5,11 +5,12 @@ ghost use Rattle.netlink_packet_route.specs.Class.{integer};
 ghost use Rattle.link_messages.specs.Message.{packet_of};
 ghost use Rattle.link_messages.specs.Finding.{stretch_of};
 ghost use Rattle.link_messages.specs.Link.{IsLinkType, attributes_of};
-ghost use Rattle.link_messages.specs.Header.{IsAnyLinkType, IsLinkHeader, HasLinkHeader, HasNoLinkHeader};
+ghost use Rattle.link_messages.specs.Header.{IsAnyLinkType, header_in, HasLinkHeader, HasNoLinkHeader};
 
 use crate::buffer_parts::{Message, Payload};
 use crate::message::MessageError;
 use crate::message_types::{RTM_DELLINK, RTM_GETLINK, RTM_NEWLINK, RTM_SETLINK};
+use link_base::classes::peer::PEER_HEADER;
 use link_base::{u16_at, u32_at};
 
 /// The fields of a `struct ifinfomsg` (`include/uapi/linux/rtnetlink.h`).
@@ -54,6 +55,16 @@ pub fn link_header<'a>(message: &Message<'a>) -> Result<(LinkHeader, Payload<'a>
     Ok((header_of(body), Payload { at: at + 32, bytes }))
 }
 
+/// Splits the payload of a peer (`VETH_INFO_PEER`, `include/uapi/linux/veth.h`) into its `struct ifinfomsg` and the list of
+/// attributes that follows it. `payload` must have at least 16 bytes.
+pub fn peer_parts(payload: &[u8]) -> (LinkHeader, &[u8])
+    requires { 16 ≤ length payload.now }
+    ensures header { result.0 ≡ header_in payload.now }
+    ensures list { result.1.now ≡ drop 16 payload.now }
+{
+    (header_of(payload), &payload[PEER_HEADER..])
+}
+
 /// Checks whether messages of type `kind` have a `struct ifinfomsg`.
 fn is_any_link_type(kind: u16) -> bool
     ensures { IsTrue result ↔ IsAnyLinkType kind }
@@ -71,7 +82,7 @@ fn is_link_type(kind: u16) -> bool
 /// Parses the `struct ifinfomsg` with which `body` starts.
 fn header_of(body: &[u8]) -> LinkHeader
     requires { 16 ≤ length body.now }
-    ensures { IsLinkHeader body.now result }
+    ensures { result ≡ header_in body.now }
 {
     LinkHeader {
         family: body[0],

@@ -11,6 +11,8 @@
 //!   attributes.
 //! - [`read_lists`] returns the lists of such a message that a `Family` parses, and [`lists_of`] those from any list on. Each is
 //!   a [`Part`]: a `Family`, and the bytes that it parses.
+//! - [`visit_list`] calls a [`ListVisitor`] for the attributes of a list, and of the lists in it, to write them in a form of
+//!   yours. `read_lists` is one such call.
 //! - [`last_before_fault`] looks up one attribute of a list, up to the first malformed header.
 //! - [`message_types`] has the types of messages, such as RTM_NEWLINK, and [`laws`] theorems about these types.
 //!
@@ -27,15 +29,19 @@ mod header;
 mod held;
 pub mod laws;
 pub mod link_types;
+mod list_visitor;
 mod lists;
 mod message;
 pub mod message_types;
+mod visiting;
 
 pub use acknowledgement::{Acknowledgement, read_acknowledgement};
 pub use before_fault::last_before_fault;
 pub use buffer_parts::{Message, Part, Payload};
-pub use header::{LinkHeader, link_header};
+pub use header::{LinkHeader, link_header, peer_parts};
 pub use held::{MOST_LEVELS, opened_at};
+pub use list_visitor::{HeldList, ListVisitor};
 pub use lists::{ListsError, lists_of, read_lists};
 pub use message::{MessageError, any_message, next_message};
 pub use netlink_packet_route::without_nul;
+pub use visiting::visit_list;

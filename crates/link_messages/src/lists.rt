@@ -1,25 +1,22 @@
 //! The lists of a message: that of its attributes, and those of other sets that attributes hold.
 
-ghost use Rattle.std.specs.Prelude.{◌≡◌, ◌+◌, ◌<◌, ◌^◌, length, map, IfOk, OnOk, MatchResult};
-ghost use Rattle.link_base.specs.Buffer.{payload_of};
-ghost use Rattle.link_base.specs.Viewed.{set_in, buffer_in, set_of, bytes_in};
-ghost use Rattle.netlink_packet_route.specs.Views.{family_in};
+ghost use Rattle.std.specs.Prelude.{◌≡◌, map, IfOk, MatchResult};
 ghost use Rattle.link_messages.specs.Message.{packet_of};
 ghost use Rattle.link_messages.specs.Finding.{stretch_of};
 ghost use Rattle.link_messages.specs.Link.{part_of};
 ghost use Rattle.link_messages.specs.Held.{context_of, levels};
-ghost use Rattle.link_messages.specs.Lists.{HasLists, ListsHeld, ListsDecoded, ListsInners, ListsSingle, lists_in, Adds};
-ghost use Rattle.link_messages.specs.Lists.{ListsMessage, ListsFail};
+ghost use Rattle.link_messages.specs.Within.{IsWithin, within_part};
+ghost use Rattle.link_messages.specs.Lists.{Listed, held_list, lists_only, HasLists, ListsMessage, ListsFail, Appends, appends_none, appends_both};
 
 use crate::buffer_parts::{Message, Part, Payload};
 use crate::header::link_header;
-use crate::held::{MOST_LEVELS, opened_at};
+use crate::held::MOST_LEVELS;
+use crate::list_visitor::{HeldList, ListVisitor};
 use crate::message::MessageError;
-use link_base::NlaBuffer;
-use link_base::views::content::Content;
-use link_base::views::view::{Value, View};
-use link_base::views::view_all::ViewAll;
-use netlink_packet_route::{Context, Family, FamilyElements, FamilySet};
+use crate::visiting::visit_list;
+use link_base::views::content::Known;
+use link_base::{DecodeFault, NlaBuffer};
+use netlink_packet_route::{Context, Family};
 use std::alloc::{AllocError, Global};
 use thiserror::Error;
 
@@ -84,145 +81,104 @@ fn lists_below<'a>(
 {
     let context = Context::of_message(address_family);
     let mut lists = Vec::new(alloc);
-    push_list(&mut lists, MOST_LEVELS, &context, family, list)?;
-    Ok(lists)
-}
-
-/// Appends a list of a set, and behind it those that its attributes hold, through `depth` levels.
-#[cycle(walk)]
-fn push_list<'a>(
-    lists: &mut Vec<Part<'a>>,
-    depth: usize,
-    context: &Context<'_>,
-    family: Family,
-    list: Payload<'a>,
-) -> Result<(), AllocError>
-    ensures { OnOk result (Adds (HasLists depth context.now family (stretch_of list.entry)) lists.old.items lists.new.items) }
-{
     lists.push(Part {
         family,
         payload: list,
     })?;
-    push_held(lists, depth, context, family, list)
+    let visitor = PartVisitor { whole: list };
+    visit_list(&visitor, &mut lists, MOST_LEVELS, &context, 0, family, list)?;
+    Ok(lists)
 }
 
-/// Appends the lists that the attributes of a list hold.
-#[cycle(walk)]
-fn push_held<'a>(
-    lists: &mut Vec<Part<'a>>,
-    depth: usize,
-    context: &Context<'_>,
-    family: Family,
-    list: Payload<'a>,
-) -> Result<(), AllocError>
-    ensures { OnOk result (Adds (ListsHeld depth (lists_in depth) context.now family (stretch_of list.entry))
-        lists.old.items lists.new.items) }
-{
-    let mut items = ViewAll::new(list.bytes, FamilySet { family });
-    'attributes: loop {
-        let at = list.at + items.offset();
-        let Some(item) = items.next() else {
-            return Ok(());
-        };
-        match item {
-            Ok(value) => {
-                push_decoded(lists, depth, context, &value, at)?;
+/// Collects the lists that the attributes of a list hold.
+#[derive(Clone, Copy)]
+struct PartVisitor<'a> {
+    whole: Payload<'a>,
+}
+
+impl<'a> ListVisitor<Vec<Part<'a>>> for PartVisitor<'a> {
+    type Error = AllocError;
+
+    ghost Piece = { Listed };
+
+    ghost display = { λ v. lists_only };
+
+    ghost adds = { λ old new lists. Appends old.items new.items lists };
+
+    ghost begins = { λ v level h old new. Appends old.items new.items (held_list h.set h.list) };
+
+    ghost reaches = { λ v list. IsWithin (stretch_of v.whole) list };
+
+    fn omits(&self, _context: &Context<'_>, _family: Family, _kind: u16) -> bool {
+        false
+    }
+
+    fn error(
+        &self,
+        _writer: &mut Vec<Part<'a>>,
+        _level: u8,
+        _family: Family,
+        _at: usize,
+        _fault: DecodeFault,
+    ) -> Result<(), AllocError> {
+        Ok(())
+    }
+
+    fn leaf(
+        &self,
+        _writer: &mut Vec<Part<'a>>,
+        _context: &Context<'_>,
+        _level: u8,
+        _family: Family,
+        _list: Option<u16>,
+        _known: &Known<'_>,
+        _buffer: NlaBuffer<'_>,
+    ) -> Result<(), AllocError> {
+        Ok(())
+    }
+
+    fn begin(
+        &self,
+        writer: &mut Vec<Part<'a>>,
+        _level: u8,
+        held: &HeldList<'_>,
+    ) -> Result<(), AllocError> {
+        match held.set {
+            Some(family) => {
+                let payload = part_in(self.whole, held.list);
+                writer.push(Part { family, payload })?;
+                Ok(())
             }
-            Err(_) => {}
+            None => Ok(()),
         }
     }
-}
 
-/// Appends the lists in an attribute that decodes and starts at offset `at`.
-#[cycle(walk)]
-fn push_decoded<'a>(
-    lists: &mut Vec<Part<'a>>,
-    depth: usize,
-    context: &Context<'_>,
-    value: &Value<'a, FamilySet>,
-    at: usize,
-) -> Result<(), AllocError>
-    requires { at + 4 + length (payload_of (buffer_in value.now)) < 2 ^ 64 }
-    ensures { OnOk result (Adds (ListsDecoded depth (lists_in depth) context.now at (family_in (set_in value.now))
-        (buffer_in value.now)) lists.old.items lists.new.items) }
-{
-    let set = value.set();
-    let buffer = value.buffer();
-    let content = value.content();
-    match content {
-        Content::List { list, .. } => {
-            let nest = FamilyElements {
-                family: set.family,
-                list: value.kind(),
-            };
-            let elements = View::of_checked(list, nest);
-            push_inners(lists, depth, context, elements, at + 4)
-        }
-        _ => push_single(lists, depth, context, set.family, None, content, buffer, at),
+    fn end(
+        &self,
+        _writer: &mut Vec<Part<'a>>,
+        _level: u8,
+        _held: &HeldList<'_>,
+        whole: bool,
+    ) -> Result<bool, AllocError> {
+        Ok(whole)
     }
+
+    ghost none = { λ a. appends_none a.items };
+
+    ghost both = { λ a b c. appends_both a.items b.items c.items };
+
+    ghost part = { λ v. within_part (stretch_of v.whole) };
 }
 
-/// Appends the lists in the elements of a nested list, which starts at offset `at`.
-#[cycle(walk)]
-fn push_inners<'a>(
-    lists: &mut Vec<Part<'a>>,
-    depth: usize,
-    context: &Context<'_>,
-    elements: View<'a, FamilyElements>,
-    at: usize,
-) -> Result<(), AllocError>
-    requires { at + length (bytes_in elements) < 2 ^ 64 }
-    ensures { OnOk result (Adds (ListsInners depth (lists_in depth) context.now at (set_of elements.entry).family
-        (set_of elements.entry).list (bytes_in elements.entry)) lists.old.items lists.new.items) }
+/// Returns the bytes of a list as a part of the whole in which it is.
+fn part_in<'a>(whole: Payload<'a>, list: Payload<'_>) -> Payload<'a>
+    requires { IsWithin (stretch_of whole) (stretch_of list) }
+    ensures { stretch_of result ≡ stretch_of list.entry }
 {
-    let set = elements.set();
-    let size = elements.bytes().len();
-    let inner = context.of_elements(&elements);
-    let mut rest = elements;
-    'elements: loop {
-        let place = at + (size - rest.bytes().len());
-        let Some(element) = rest.next() else {
-            return Ok(());
-        };
-        let content = element.content();
-        let buffer = element.buffer();
-        push_single(
-            lists,
-            depth,
-            &inner,
-            set.family,
-            Some(set.list),
-            content,
-            buffer,
-            place,
-        )?;
-    }
-}
-
-/// Appends the list in an attribute that is no nested list and starts at offset `at`, if a set reads it so, and behind it
-/// those in that. `list` is the type of the nested list that has the attribute, or `None`.
-#[cycle(walk)]
-fn push_single<'a>(
-    lists: &mut Vec<Part<'a>>,
-    depth: usize,
-    context: &Context<'_>,
-    family: Family,
-    list: Option<u16>,
-    content: Content<'_>,
-    buffer: NlaBuffer<'a>,
-    at: usize,
-) -> Result<(), AllocError>
-    requires { at + 4 + length (payload_of buffer) < 2 ^ 64 }
-    ensures { OnOk result (Adds (ListsSingle depth (lists_in depth) context.now at family list buffer.entry content.entry)
-        lists.old.items lists.new.items) }
-{
-    let f = buffer.raw_kind();
-    match opened_at(depth, context, family, list, f, content) {
-        Some(set) => {
-            let bytes = buffer.value();
-            let held = Payload { at: at + 4, bytes };
-            push_list(lists, depth - 1, context, set, held)
-        }
-        None => Ok(()),
+    let start = list.at - whole.at;
+    let end = start + list.bytes.len();
+    Payload {
+        at: list.at,
+        bytes: &whole.bytes[start..end],
     }
 }

@@ -6,17 +6,21 @@ use Rattle.std.proofs.lemmas.Grind.{flat_map-append}
 use Rattle.link_base.specs.declared.wire.buffer.NlaBuffer.{NlaBuffer}
 use Rattle.link_base.specs.declared.views.content.Content.{Content}
 use Rattle.link_base.specs.declared.views.content.Content.TheVariants as contents
-use Rattle.link_base.specs.declared.wire.fault.Cause.{Cause}
 use Rattle.link_base.specs.Frame.{kind_of}
 use Rattle.link_base.specs.Buffer.{kind_field_of, payload_of}
+use Rattle.link_base.specs.Labels as Labels
 use Rattle.link_base.specs.Table.{Label, Table}
 use Rattle.link_base.proofs.Written.{all_append}
 use Rattle.link_messages.specs.Walk.{Item}
-use Rattle.link_show.specs.List.{indented, error_line, EachShown, type_flags, flags_after, head_text, has_text, attribute_text, label_for, ip_text, address_in, addresses_in, ShowsAddresses, ShowsFlat, end_line, ShowsVerdict, Unasked, IsCanonical, IsNot}
+use Rattle.link_messages.specs.declared.header.LinkHeader.{LinkHeader}
+use Rattle.link_show.specs.Flags.{flags_text}
+use Rattle.link_show.specs.HeaderText.{named_or, unless_zero, header_parts, peer_text}
+use Rattle.link_show.specs.MessageNames.{address_families, device_types, device_flags}
+use Rattle.link_show.specs.List.{indented, error_line, EachShown, type_flags, flags_after, head_text, has_text, attribute_text, label_for, ip_text, address_in, addresses_in, ShowsAddresses, ShowsFlat, ShowsVerdict, Unasked, IsCanonical, IsNot}
 use Rattle.link_show.specs.Printable.{IsText, AreTexts, has_texts}
 use Rattle.link_show.proofs.Listing.{all_any, each_hold}
-use Rattle.link_show.proofs.Printing.{text, none, and, either, list_text_text, decimal_text, hex_bytes, ipv4_is_text, ip6_is_text}
-use Rattle.link_show.proofs.ValuePrinting.{IsLabelText, choose, each_name, flags_is_text, label_is_text, value_is_text, cause_is_text}
+use Rattle.link_show.proofs.Printing.{text, none, and, either, list_text_text, decimal_text, signed_text, hex_bytes, ipv4_is_text, ip6_is_text}
+use Rattle.link_show.proofs.ValuePrinting.{EachName, OnText, IsLabelText, choose, each_name, name_found, flags_is_text, field_is_text, label_is_text, value_is_text}
 
 -- ---- lines
 
@@ -110,13 +114,32 @@ module _ (indent : List ℕ) (spaces : IsText indent) where
       subst AreTexts (sym is) (indented_texts indent spaces (and (attribute_is_text label f (contents.Addresses list size) l) address))
   flat_texts label f content out l (more, e, is) = subst AreTexts (sym is) (indented_texts indent spaces (and (attribute_is_text label f content l) (alone more e)))
 
-  -- ---- lists
-
-  pub end_texts : (base : ℕ) (fault : Option (ℕ × Cause)) → AreTexts (end_line indent base fault)
-  end_texts base None = no_texts
-  end_texts base (Some fault) = error_texts indent (base + fault.0) spaces (cause_is_text false fault.1)
-
   pub verdict_texts : (check : Bool) (base : ℕ) (table : Table) (list out : List ℕ) (well : Bool) → ShowsVerdict check indent base table list out well → AreTexts out
   verdict_texts check base table list out well (Unasked e is w) = subst AreTexts (sym is) no_texts
   verdict_texts check base table list out well (IsCanonical e c is w) = subst AreTexts (sym is) (indented_texts indent {t = codes "canonical"} spaces (text refl))
   verdict_texts check base table list out well (IsNot e at first is w) = subst AreTexts (sym is) (indented_texts indent spaces (and {s = codes "not canonical at "} (text refl) (decimal_text (base + at))))
+
+-- ---- the header of a link
+
+named_or_text : (word : List ℕ) (found : Option (List ℕ)) (n : ℕ) → IsText word → OnText found → IsText (named_or word found n)
+named_or_text word None n w h = and w (decimal_text n)
+named_or_text word (Some name) n w h = h
+
+pub names_for : (names : List (ℕ × List ℕ)) (word : List ℕ) (n : ℕ) → EachName names → IsText word → IsText (named_or word (Labels.name_in names n) n)
+names_for names word n h w = named_or_text word (Labels.name_in names n) n w (name_found names h n)
+
+unless_text : (n : ℕ) (name t : List ℕ) → IsText name → IsText t → IsText (unless_zero n name t)
+unless_text n name t h k = either (n == 0) none (and {s = codes " "} (text refl) (field_is_text name h k))
+
+device_text : (bits : ℕ) → IsText (flags_text device_flags 4 bits)
+device_text bits = flags_is_text device_flags 4 bits (each_name device_flags refl)
+
+pub parts_text : (h : LinkHeader) → IsText (header_parts h)
+parts_text h =
+    and (unless_text h.family (codes "family") _ (text refl) (names_for address_families [] h.family (each_name address_families refl) none))
+    (and (unless_text h.kind (codes "type") _ (text refl) (names_for device_types [] h.kind (each_name device_types refl) none))
+    (and (unless_text h.flags (codes "flags") _ (text refl) (device_text h.flags)) (unless_text h.change (codes "change") _ (text refl) (device_text h.change))))
+
+pub peer_is_text : (header : Option LinkHeader) → IsText (peer_text header)
+peer_is_text None = none
+peer_is_text (Some h) = and {s = codes " ifindex "} (text refl) (and (signed_text h.index) (parts_text h))

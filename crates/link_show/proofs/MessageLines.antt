@@ -13,7 +13,8 @@ use Rattle.link_messages.proofs.Messages.{stand_more}
 use Rattle.link_show.specs.Structs.{field}
 use Rattle.link_show.specs.Errno.{errno_names}
 use Rattle.link_show.specs.List.{Writes}
-use Rattle.link_show.specs.Message.{unless_zero, errno_name, result_line, error_number_line, message_line, ShowsBody, ShowsMessage, ShowsBuffer}
+use Rattle.link_show.specs.HeaderText.{unless_zero}
+use Rattle.link_show.specs.Message.{errno_name, result_line, error_number_line, message_line, ShowsBody, ShowsMessage, ShowsBuffer}
 use Rattle.link_show.proofs.Listing.{and_true, Added, ShownTo, shown_more}
 
 pub if_ok : {X E : Type 0} (P Q : X → Type 0) (r : Result X E) → ((x : X) → P x → Q x) → IfOk r P → IfOk r Q

@@ -1,7 +1,6 @@
 -- The lines of messages are printable.
 use Rattle.std.proofs.Common.{◌≡◌, ℕ, suc, ℤ, pos, negsuc, ◌==◌, Bool, true, List, [], ◌++◌, Option, Some, None, unsigned_abs, refl, sym, subst, codes}
 use Rattle.std.specs.Fmt.{signed_decimal}
-use Rattle.link_base.specs.Labels as Labels
 use Rattle.link_base.specs.Number.{IsBytes}
 use Rattle.link_base.specs.WellFormed.{are_names}
 use Rattle.netlink_packet_route.specs.declared.family.Family.TheVariants as families
@@ -13,17 +12,16 @@ use Rattle.link_messages.specs.declared.message.MessageError.{MessageError}
 use Rattle.link_messages.specs.declared.message.MessageError.TheVariants as errors
 use Rattle.link_messages.specs.declared.header.LinkHeader.{LinkHeader}
 use Rattle.link_messages.specs.declared.acknowledgement.Acknowledgement.{Acknowledgement}
-use Rattle.link_show.specs.Flags.{flags_text}
 use Rattle.link_show.specs.Fault.{byte_word}
 use Rattle.link_show.specs.Errno.{errno_names}
-use Rattle.link_show.specs.MessageNames.{message_types, common_flags, new_flags, get_flags, delete_flags, error_flags, flags_of, address_families, device_types, device_flags}
+use Rattle.link_show.specs.MessageNames.{message_types, common_flags, new_flags, get_flags, delete_flags, error_flags, flags_of}
 use Rattle.link_show.specs.declared.line_options.LineOptions.{LineOptions}
 use Rattle.link_messages.specs.Held.{context_of, levels}
-use Rattle.link_show.specs.Message.{two, reason_text, offset_of, message_error_line, named_or, message_line, unless_zero, name_part, header_parts, link_line, ShowsLink, number_after, error_number_line, errno_name, result_line, has_result, outcome_line, ShowsReply, ShowsBody, About, Reply, General, NoLink, NoReply, Other, ShowsMessage, zeros_line, ShowsEnd, Ended, Done, Zeros, Broken, ShowsMessages}
+use Rattle.link_show.specs.Message.{two, reason_text, offset_of, message_error_line, message_line, name_part, link_line, ShowsLink, number_after, error_number_line, errno_name, result_line, has_result, outcome_line, ShowsReply, ShowsBody, About, Reply, General, NoLink, NoReply, Other, ShowsMessage, zeros_line, ShowsEnd, Ended, Done, Zeros, Broken, ShowsMessages}
 use Rattle.link_show.specs.Printable.{IsText, AreTexts}
 use Rattle.link_show.proofs.Printing.{text, none, and, either, decimal_text, signed_text, quoted_text}
 use Rattle.link_show.proofs.ValuePrinting.{EachName, OnText, choose, each_name, name_found, flags_is_text, field_is_text, bytes_is_text}
-use Rattle.link_show.proofs.LinePrinting.{no_texts, and_texts, line_end, line_and, line_texts, indented_texts, error_texts, either_texts, all_texts}
+use Rattle.link_show.proofs.LinePrinting.{no_texts, and_texts, line_end, line_and, line_texts, indented_texts, error_texts, either_texts, all_texts, names_for, parts_text}
 use Rattle.link_show.proofs.HeldPrinting.{set_texts}
 
 -- ---- errors
@@ -42,13 +40,6 @@ unfolding message_error_line
 message_error_texts indent error h = error_texts indent (offset_of error) h (reason_is_text error)
 
 -- ---- the header of a message
-
-named_or_text : (word : List ℕ) (found : Option (List ℕ)) (n : ℕ) → IsText word → OnText found → IsText (named_or word found n)
-named_or_text word None n w h = and w (decimal_text n)
-named_or_text word (Some name) n w h = h
-
-names_for : (names : List (ℕ × List ℕ)) (word : List ℕ) (n : ℕ) → EachName names → IsText word → IsText (named_or word (Labels.name_in names n) n)
-names_for names word n h w = named_or_text word (Labels.name_in names n) n w (name_found names h n)
 
 -- the names of the flags of every type
 flags_of_text : (kind : ℕ) → EachName (flags_of kind)
@@ -76,21 +67,9 @@ message_line_texts m =
 
 -- ---- the line of a link
 
-unless_text : (n : ℕ) (name t : List ℕ) → IsText name → IsText t → IsText (unless_zero n name t)
-unless_text n name t h k = either (n == 0) none (and {s = codes " "} (text refl) (field_is_text name h k))
-
 name_text : (name : Option (List ℕ)) → IsText (name_part name)
 name_text None = none
 name_text (Some name) = and {s = codes " "} (text refl) (field_is_text (codes "name") (text refl) (quoted_text name))
-
-device_text : (bits : ℕ) → IsText (flags_text device_flags 4 bits)
-device_text bits = flags_is_text device_flags 4 bits (each_name device_flags refl)
-
-parts_text : (h : LinkHeader) → IsText (header_parts h)
-parts_text h =
-    and (unless_text h.family (codes "family") _ (text refl) (names_for address_families [] h.family (each_name address_families refl) none))
-    (and (unless_text h.kind (codes "type") _ (text refl) (names_for device_types [] h.kind (each_name device_types refl) none))
-    (and (unless_text h.flags (codes "flags") _ (text refl) (device_text h.flags)) (unless_text h.change (codes "change") _ (text refl) (device_text h.change))))
 
 link_line_texts : (h : LinkHeader) (name : Option (List ℕ)) → AreTexts (link_line h name)
 unfolding link_line

@@ -1,30 +1,27 @@
 -- The lines of lists whose attributes hold lists of other sets.
-use Rattle.std.specs.Prelude.{◌≡◌, ℕ, zero, suc, ◌+◌, Bool, true, false, not, ◌==◌, ◌&&◌, List, [], ◌∷◌, ◌++◌, length, Option, Some, None, Err, codes, if◌then◌else◌}
+use Rattle.std.specs.Prelude.{◌≡◌, ℕ, ◌+◌, ◌*◌, Bool, true, false, not, ◌==◌, ◌&&◌, List, [], ◌∷◌, ◌++◌, length, replicate, Option, Some, None, codes, if◌then◌else◌}
 use Rattle.std.specs.List.{list_all}
 use Rattle.link_base.specs.declared.wire.buffer.NlaBuffer.{NlaBuffer}
 use Rattle.link_base.specs.declared.views.content.Content.{Content}
-use Rattle.link_base.specs.declared.views.content.Content.TheVariants as contents
-use Rattle.link_base.specs.declared.wire.fault.DecodeFault.{DecodeFault}
 use Rattle.link_base.specs.Frame.{kind_of}
 use Rattle.link_base.specs.Buffer.{kind_field_of, payload_of}
 use Rattle.link_base.specs.Class.{is_listed}
 use Rattle.link_base.specs.Number.{number}
-use Rattle.link_base.specs.Table.{Label, Gives, label_at}
-use Rattle.link_base.specs.Borrowed.{elements_at, HasContent}
+use Rattle.link_base.specs.Table.{Label, label_at}
 use Rattle.netlink_packet_route.specs.declared.family.Family.{Family}
 use Rattle.netlink_packet_route.specs.declared.family.Family.TheVariants.{Link, BridgePort}
 use Rattle.netlink_packet_route.specs.declared.opening.Context.{Context}
 use Rattle.netlink_packet_route.specs.Family.{Holding, Within, family_name, family_number, holders_of, table_of}
-use Rattle.netlink_packet_route.specs.Opening.{holding_at, IsOpened}
-use Rattle.link_messages.specs.Held.{Answers, IsContextIn, levels}
-use Rattle.link_messages.specs.Walk.{Item, Walk}
+use Rattle.link_messages.specs.Finding.{Stretch}
+use Rattle.link_messages.specs.Held.{levels}
+use Rattle.link_messages.specs.Shown.{Holder, Display, Shows, rows_in}
 use Rattle.link_show.specs.declared.line_options.LineOptions.{LineOptions}
 use Rattle.link_show.specs.Sink.{Output, Gains}
-use Rattle.link_show.specs.Indents.{deeper}
 use Rattle.link_show.specs.Fault.{fault_text}
 use Rattle.link_show.specs.Flags.{enum_text}
 use Rattle.link_show.specs.Structs.{field}
-use Rattle.link_show.specs.List.{indented, error_line, EachShown, label_for, ShowsFlat, end_line, ShowsEach, ShowsVerdict}
+use Rattle.link_show.specs.HeaderText.{peer_text}
+use Rattle.link_show.specs.List.{indented, error_line, label_for, ShowsFlat, ShowsVerdict}
 
 -- ---- a held list
 
@@ -39,9 +36,9 @@ abbrev pub is_selected : Family → Family → Bool
 is_selected family set = list_all (selects family) (holders_of set)
 
 -- the name of the set in parentheses, if the attribute alone does not select it
-abbrev pub set_text : Bool → Option Family → List ℕ
-set_text selected None = []
-set_text selected (Some family) = if selected then codes " (" ++ (family_name family ++ codes ")") else []
+abbrev pub set_text : Family → Option Family → List ℕ
+set_text family None = []
+set_text family (Some set) = if is_selected family set then codes " (" ++ (family_name set ++ codes ")") else []
 
 -- the name of an attribute that holds a list; one without a row is an IFLA_PROTINFO
 abbrev pub holder_text : Option Label → List ℕ
@@ -52,12 +49,9 @@ abbrev pub empty_mark : List ℕ → List ℕ
 empty_mark [] = codes " (empty)"
 empty_mark (b ∷ list) = []
 
--- what is above the lines of a list, after the name of the attribute that holds it
-abbrev pub titled : List ℕ → Bool → Option Family → List ℕ → List ℕ
-titled name selected answer list = name ++ (set_text selected answer ++ empty_mark list)
-
-abbrev pub title_text : Option Label → Bool → Option Family → List ℕ → List ℕ
-title_text label = titled (holder_text label)
+-- what is above the lines of a list that an attribute holds
+abbrev pub title_text : Holder → List ℕ
+title_text h = holder_text h.label ++ (set_text h.family h.set ++ (peer_text h.header ++ empty_mark h.list.1))
 
 -- ---- IFLA_PROTINFO
 
@@ -87,53 +81,7 @@ shows_leaf false indent label b content out = ShowsFlat indent label (kind_field
 abbrev pub WritesLeaf : Bool → List ℕ → Option Label → NlaBuffer → Content → Output → Output → Type 0
 WritesLeaf state indent label b content old new = (out : List ℕ) × shows_leaf state indent label b content out × Gains old new out
 
--- ---- what is shown of a list
-
--- a title, and the lines of a list below it
-abbrev pub ShowsBelow : (List ℕ → Bool → Type 0) → List ℕ → List ℕ → List ℕ → Bool → Type 0
-ShowsBelow shows indent title out well = (lines : List ℕ) × shows lines well × (out ≡ indented indent title ++ lines)
-
--- ---- attributes
-
--- what is shown for a list of a set: the context, the indent, the offset and the bytes, the lines, and whether none is an error
-abbrev pub Shower : Type 1
-Shower = Context → List ℕ → ℕ → Family → List ℕ → List ℕ → Bool → Type 0
-
--- the lines of the attribute b, which starts at offset `at`, by the set that reads it
-abbrev pub ShowsAnswered : Shower → Context → List ℕ → ℕ → Family → Option ℕ → Option Label → NlaBuffer → Content → Option Family → List ℕ → Bool → Type 0
-ShowsAnswered shows context indent at family list label b content None out well = shows_leaf (is_state context family list b) indent label b content out × (well ≡ true)
-ShowsAnswered shows context indent at family list label b content (Some set) out well =
-    ShowsBelow (shows context (deeper indent) (at + 4) set (payload_of b)) indent (title_text label (is_selected family set) (Some set) (payload_of b)) out well
-
--- the lines of an attribute of a set that is no nested list, or of an element of one; `list` is the type of that
-abbrev pub ShowsSingle : ℕ → Shower → Context → List ℕ → ℕ → Family → Option ℕ → Option Label → NlaBuffer → Content → List ℕ → Bool → Type 0
-ShowsSingle n shows context indent at family list label b content out well =
-    (answer : Option Family) × Answers n (IsOpened (holding_at context family list (kind_field_of b))) content answer
-    × ShowsAnswered shows context indent at family list label b content answer out well
-
--- the lines of an element of a nested list of type k, which starts at offset `base`
-abbrev pub ShowsInner : ℕ → Shower → Context → List ℕ → ℕ → Family → ℕ → Item → List ℕ → Bool → Type 0
-ShowsInner n shows context indent base family k x out well =
-    (content : Content) × HasContent (elements_at (table_of family) k) x.1 content
-    × ShowsSingle n shows context indent (base + x.0) family (Some k) (label_for (elements_at (table_of family) k) x.1) x.1 content out well
-
--- those of all
-abbrev pub ShowsInners : ℕ → Shower → Context → List ℕ → ℕ → Family → ℕ → List ℕ → List ℕ → Bool → Type 0
-ShowsInners n shows context indent base family k list out well =
-    (inner : Context) × IsContextIn context list inner × (items : List Item) × Walk list items None × EachShown (ShowsInner n shows inner indent base family k) items out well
-
--- the lines of the attribute b of a set, which starts at offset `at`
-abbrev pub ShowsKnown : ℕ → Shower → Context → List ℕ → ℕ → Family → NlaBuffer → Content → List ℕ → Bool → Type 0
-ShowsKnown n shows context indent at family b (contents.List list flagged) out well =
-    ShowsBelow (ShowsInners n shows context (deeper indent) (at + 4) family (kind_of (kind_field_of b)) list.now)
-    indent (title_text (label_for (table_of family) b) false None list.now) out well
-ShowsKnown n shows context indent at family b content out well = ShowsSingle n shows context indent at family None (label_for (table_of family) b) b content out well
-
-abbrev pub ShowsDecoded : ℕ → Shower → Context → List ℕ → ℕ → Family → NlaBuffer → List ℕ → Bool → Type 0
-ShowsDecoded n shows context indent at family b out well =
-    (content : Content) × HasContent (table_of family) b content × ShowsKnown n shows context indent at family b content out well
-
--- ---- lists
+-- ---- attributes that are left out
 
 -- the types of the attributes of a message that are shown if only the most important are: IFLA_ADDRESS (1), IFLA_MTU (4),
 -- IFLA_LINK (5), IFLA_MASTER (10), IFLA_OPERSTATE (16), IFLA_LINKINFO (18); in messages of AF_BRIDGE (7) also IFLA_PROTINFO (12)
@@ -148,46 +96,42 @@ abbrev pub is_left_out : LineOptions → Context → Family → ℕ → Bool
 is_left_out o x Link kind = o.brief && not (is_listed (brief_types x.address_family) kind)
 is_left_out o x family kind = false
 
--- the lines of an attribute that decodes, if it is not left out
-abbrev pub shows_unless : Bool → (List ℕ → Bool → Type 0) → List ℕ → Bool → Type 0
-shows_unless true shows out well = (out ≡ []) × (well ≡ true)
-shows_unless false shows out well = shows out well
+-- ---- lists
 
--- the lines of an attribute, if the list starts at offset `base`: those of its value, or its error
-pub data ShowsAny (o : LineOptions) (n : ℕ) (shows : Shower) (context : Context) (indent : List ℕ) (base : ℕ) (family : Family) (x : Item) (out : List ℕ) (well : Bool) : Type 0 where
-  Decodes : shows_unless (is_left_out o context family (kind_of (kind_field_of x.1))) (ShowsDecoded n shows context indent (base + x.0) family x.1) out well → ShowsAny o n shows context indent base family x out well
-  Fails : (fault : DecodeFault) → Gives (table_of family) (kind_field_of x.1) (payload_of x.1) (Err fault) → out ≡ error_line indent (base + x.0) (fault_text (table_of family) fault) → well ≡ false
-      → ShowsAny o n shows context indent base family x out well
+-- the indent of the lines of attributes that are in this many lists
+abbrev pub indent_in : List ℕ → ℕ → List ℕ
+indent_in indent level = indent ++ replicate (2 * level) 32
 
-abbrev pub shows_none : Shower
-shows_none context indent base family list out well = ⊥
+-- whether a list that another set reads is canonical, if `check` asks
+abbrev pub ShowsJudgement : Bool → List ℕ → Option Family → Stretch → List ℕ → Bool → Type 0
+ShowsJudgement check indent None list out well = (out ≡ []) × (well ≡ true)
+ShowsJudgement check indent (Some set) list out well = ShowsVerdict check indent list.0 (table_of set) list.1 out well
 
--- the lines of a list, shown so, and, if `check` asks, whether it is canonical
-pub record ShowsJudged (check : Bool) (shows : List ℕ → Bool → Type 0) (indent : List ℕ) (base : ℕ) (family : Family) (list out : List ℕ) (well : Bool) : Type 0 where
-  pub lines : List ℕ
-  pub whole : Bool
-  pub shown : shows lines whole
-  pub verdict : List ℕ
-  pub sound : Bool
-  pub judged : ShowsVerdict check indent base (table_of family) list verdict sound
-  pub joined : out ≡ lines ++ verdict
-  pub all : well ≡ (whole && sound)
+-- a title, and below it what is shown of the list, and whether that is canonical
+abbrev pub ShowsAround : LineOptions → List ℕ → ℕ → Holder → List ℕ → Bool → List ℕ → Bool → Type 0
+ShowsAround o indent level h inner whole out well =
+    (verdict : List ℕ) × (sound : Bool) × ShowsJudgement o.check (indent_in indent (level + 1)) h.set h.list verdict sound
+    × (out ≡ indented (indent_in indent level) (title_text h) ++ (inner ++ verdict)) × (well ≡ (whole && sound))
 
-abbrev pub judged_by : LineOptions → Shower → Shower
-judged_by o shows context indent base family list = ShowsJudged o.check (shows context indent base family list) indent base family list
+-- lines that start with an indent, and those below others with two spaces more
+abbrev pub line_display : LineOptions → List ℕ → Display ℕ
+line_display o indent = record {
+  omits = is_left_out o;
+  error = λ level family at fault. error_line (indent_in indent level) at (fault_text (table_of family) fault);
+  leaf = λ context level family k b content out. shows_leaf (is_state context family k b) (indent_in indent level) (label_for (rows_in family k) b) b content out;
+  around = ShowsAround o indent;
+}
+
+-- what is shown for a list of a set: the context, the indent, the offset and the bytes, the lines, and whether none is an error
+abbrev pub LineShower : Type 1
+LineShower = Context → List ℕ → ℕ → Family → List ℕ → List ℕ → Bool → Type 0
 
 -- the lines of a list of a set; those of the lists that its attributes hold are below them, through n levels
-abbrev pub ShowsSet : LineOptions → ℕ → Shower
-ShowsSet o zero context indent base family = ShowsEach (ShowsAny o zero shows_none context indent base family) (end_line indent base)
-ShowsSet o (suc n) context indent base family = ShowsEach (ShowsAny o (suc n) (judged_by o (ShowsSet o n)) context indent base family) (end_line indent base)
-
--- the lines of a list that is opened where n levels may be
-abbrev pub shows_in : LineOptions → ℕ → Shower
-shows_in o zero = shows_none
-shows_in o (suc n) = judged_by o (ShowsSet o n)
-
--- ---- a list that is checked
+abbrev pub ShowsSet : LineOptions → ℕ → LineShower
+ShowsSet o n context indent base family list = Shows (line_display o indent) n context 0 family (base, list)
 
 -- the lines of a list, and, if the options ask, whether it and the lists in it are canonical
-abbrev pub ShowsChecked : LineOptions → Shower
-ShowsChecked o = judged_by o (ShowsSet o levels)
+abbrev pub ShowsChecked : LineOptions → LineShower
+ShowsChecked o context indent base family list out well =
+    (lines : List ℕ) × (whole : Bool) × ShowsSet o levels context indent base family list lines whole
+    × (verdict : List ℕ) × (sound : Bool) × ShowsVerdict o.check indent base (table_of family) list verdict sound × (out ≡ lines ++ verdict) × (well ≡ (whole && sound))

@@ -10,6 +10,7 @@ pub mod Value
 pub mod Fault
 pub mod List
 pub mod Indents
+pub mod HeaderText
 pub mod Held
 pub mod Errno
 pub mod MessageNames

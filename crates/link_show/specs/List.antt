@@ -1,7 +1,7 @@
 -- The lines of attributes, and of lists.
-use Rattle.std.specs.Prelude.{◌≡◌, ℕ, ◌+◌, ◌-◌, ◌==◌, Bool, true, false, ◌&&◌, List, [], ◌∷◌, ◌++◌, length, Option, Some, None, codes, if◌then◌else◌}
+use Rattle.std.specs.Prelude.{◌≡◌, ℕ, ◌+◌, ◌-◌, ◌==◌, Bool, true, false, List, [], ◌∷◌, ◌++◌, length, Option, Some, None, codes, if◌then◌else◌}
 use Rattle.std.specs.Fmt.{decimal}
-use Rattle.std.specs.List.{flat_map, list_all, AllZip}
+use Rattle.std.specs.List.{flat_map}
 use Rattle.link_show.specs.Sink.{Output, Gains}
 use Rattle.std.specs.Net.Text.{ipv4_text}
 use Rattle.link_base.specs.declared.wire.buffer.NlaBuffer.{NlaBuffer}
@@ -10,14 +10,14 @@ use Rattle.link_base.specs.declared.views.content.Content.TheVariants as content
 use Rattle.link_base.specs.declared.wire.fault.Cause.{Cause}
 use Rattle.link_base.specs.Frame.{kind_of}
 use Rattle.link_base.specs.Buffer.{kind_field_of, payload_of}
-use Rattle.link_base.specs.Table.{Label, Table, Canonical, FirstNotCanonical, label_at}
+use Rattle.link_base.specs.Table.{Label, Table, Canonical, FirstNotCanonical}
 use Rattle.link_base.specs.Borrowed.{HasContent}
 use Rattle.link_messages.specs.Walk.{Item, Walk}
+pub use Rattle.link_messages.specs.Shown.{EachShown, label_for}
 use Rattle.link_show.specs.Text.{list_text}
 use Rattle.link_show.specs.Flags.{flags_text}
 use Rattle.link_show.specs.Octets.{hex_text, ip6_text}
 use Rattle.link_show.specs.Value.{value_text}
-use Rattle.link_show.specs.Fault.{cause_words}
 
 -- ---- lines
 
@@ -28,13 +28,6 @@ indented indent text = indent ++ (text ++ 10 ∷ [])
 -- the line of an error at this offset
 abbrev pub error_line : List ℕ → ℕ → List ℕ → List ℕ
 error_line indent at text = indented indent (codes "error at " ++ (decimal at ++ (codes ": " ++ text)))
-
--- the outputs for several items, in order, and whether all of them are well
-pub record EachShown {X Y : Type 0} (shows : X → List Y → Bool → Type 0) (xs : List X) (out : List Y) (whole : Bool) : Type 0 where
-  pub answers : List (List Y × Bool)
-  pub each : AllZip (λ x answer. shows x answer.0 answer.1) xs answers
-  pub joined : out ≡ flat_map (λ answer. answer.0) answers
-  pub all : whole ≡ list_all (λ answer. answer.1) answers
 
 -- ---- an attribute
 
@@ -61,10 +54,6 @@ has_text content = true
 -- an attribute in one line: its name, and its content, if that has a text
 unfoldable pub attribute_text : Option Label → ℕ → Content → List ℕ
 attribute_text label f content = head_text label f ++ (if has_text content then codes " " ++ value_text label content else [])
-
--- what is known of its type
-abbrev pub label_for : Table → NlaBuffer → Option Label
-label_for table b = label_at table (kind_of (kind_field_of b))
 
 -- the attribute b in one line was written
 abbrev pub WritesAttribute : Table → NlaBuffer → Output → Output → Type 0
@@ -108,27 +97,6 @@ ShowsMore content more = more ≡ []
 -- the line of an attribute that is no nested list
 abbrev pub ShowsFlat : List ℕ → Option Label → ℕ → Content → List ℕ → Type 0
 ShowsFlat indent label f content out = (more : List ℕ) × ShowsMore content more × (out ≡ indented indent (attribute_text label f content ++ more))
-
--- what ends a list: nothing, or the error of a header
-abbrev pub end_line : List ℕ → ℕ → Option (ℕ × Cause) → List ℕ
-end_line indent base None = []
-end_line indent base (Some fault) = error_line indent (base + fault.0) (cause_words false fault.1)
-
-abbrev pub is_well : Option (ℕ × Cause) → Bool
-is_well None = true
-is_well (Some fault) = false
-
--- the outputs for a list: those for its attributes, each shown so, in order, and one for the error of a header; and whether
--- none is an error
-pub record ShowsEach {Y : Type 0} (shows : Item → List Y → Bool → Type 0) (ending : Option (ℕ × Cause) → List Y) (list : List ℕ) (out : List Y) (whole : Bool) : Type 0 where
-  pub items : List Item
-  pub fault : Option (ℕ × Cause)
-  pub walk : Walk list items fault
-  pub front : List Y
-  pub well : Bool
-  pub each : EachShown shows items front well
-  pub joined : out ≡ front ++ ending fault
-  pub all : whole ≡ (well && is_well fault)
 
 -- what a call writes, and what it returns with it
 abbrev pub Writes : (List ℕ → Bool → Type 0) → Output → Output → Bool → Type 0

@@ -21,12 +21,13 @@ use Rattle.link_show.specs.declared.line_options.LineOptions.{LineOptions}
 use Rattle.link_show.specs.Flags.{flags_text}
 use Rattle.link_show.specs.Quoted.{quoted}
 use Rattle.link_show.specs.Structs.{field}
+use Rattle.link_show.specs.HeaderText.{named_or, header_parts}
 use Rattle.link_show.specs.Fault.{byte_word, bytes_text}
 use Rattle.link_show.specs.List.{indented, error_line, EachShown}
 use Rattle.link_messages.specs.Held.{context_of, levels}
 use Rattle.link_show.specs.Held.{ShowsSet}
 use Rattle.link_show.specs.Errno.{errno_names}
-use Rattle.link_show.specs.MessageNames.{message_types, flags_of, address_families, device_types, device_flags}
+use Rattle.link_show.specs.MessageNames.{message_types, flags_of}
 
 -- two spaces, before the lines of a message
 abbrev pub two : List ℕ
@@ -58,11 +59,6 @@ message_error_line indent error = error_line indent (offset_of error) (reason_te
 
 -- ---- the header of a message
 
--- the name of a number, or the number after a word
-abbrev pub named_or : List ℕ → Option (List ℕ) → ℕ → List ℕ
-named_or word None n = word ++ decimal n
-named_or word (Some name) n = name
-
 -- the first line of a message
 unfoldable pub message_line : Message → List ℕ
 message_line m =
@@ -73,20 +69,9 @@ message_line m =
 
 -- ---- the line of a link
 
--- a field after a space, unless the number is 0
-abbrev pub unless_zero : ℕ → List ℕ → List ℕ → List ℕ
-unless_zero n name text = if n == 0 then [] else codes " " ++ field name text
-
 abbrev pub name_part : Option (List ℕ) → List ℕ
 name_part None = []
 name_part (Some name) = codes " " ++ field (codes "name") (quoted name)
-
-abbrev pub header_parts : LinkHeader → List ℕ
-header_parts h =
-    unless_zero h.family (codes "family") (named_or [] (name_in address_families h.family) h.family)
-    ++ (unless_zero h.kind (codes "type") (named_or [] (name_in device_types h.kind) h.kind)
-    ++ (unless_zero h.flags (codes "flags") (flags_text device_flags 4 h.flags)
-    ++ unless_zero h.change (codes "change") (flags_text device_flags 4 h.change)))
 
 unfoldable pub link_line : LinkHeader → Option (List ℕ) → List ℕ
 link_line h name = indented two (codes "ifindex " ++ (signed_decimal h.index ++ (name_part name ++ header_parts h)))

@@ -5,12 +5,12 @@ ghost use Rattle.link_show.specs.List.{Writes};
 ghost use Rattle.link_messages.specs.Held.{context_of};
 ghost use Rattle.link_show.specs.Held.{ShowsChecked};
 
-use crate::held::write_judged;
-use crate::indent::Indent;
+use crate::held::write_set;
 use crate::line_options::LineOptions;
 use crate::sink::Sink;
-use link_messages::{MOST_LEVELS, Payload};
-use netlink_packet_route::{Context, Family};
+use crate::verdicts::write_verdict;
+use link_messages::Payload;
+use netlink_packet_route::Family;
 
 /// Writes the lines of a list of a `Family`, and, if the options ask, a line that says whether it is canonical. There is a line
 /// for each attribute, below a list the lines of that, and a line for each error, in order. A malformed attribute hides no
@@ -31,14 +31,10 @@ pub fn write_family_list<W: Sink>(
     ensures { IfOk result (Writes (ShowsChecked options (context_of 0) indent.now list.entry.at family list.entry.bytes.now)
         (W.output writer.old) (W.output writer.new)) }
 {
-    let context = Context::of_message(0);
-    write_judged(
-        writer,
-        options,
-        MOST_LEVELS,
-        &context,
-        Indent::Text(indent, 0),
-        family,
-        list,
-    )
+    let whole = write_set(writer, options, 0, indent, 0, family, list)?;
+    if !options.check {
+        return Ok(whole);
+    }
+    let canonical = write_verdict(writer, family, indent, list)?;
+    Ok(whole & canonical)
 }

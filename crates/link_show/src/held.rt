@@ -1,125 +1,158 @@
 //! Lists of attributes that hold lists of other sets.
 
-ghost use Rattle.std.specs.Prelude.{◌≡◌, ◌+◌, ◌<◌, ◌^◌, ◌∷◌, [], ◌++◌, length, IsTrue, IfOk, OnOk};
+ghost use Rattle.std.specs.Prelude.{◌≡◌, ◌<◌, ◌≤◌, ◌∷◌, [], ◌++◌, ⊤, ℕ, refl, length, replicate, IsTrue, IfOk, OnOk};
 ghost use Rattle.std.specs.List.{list_all};
 ghost use Rattle.link_base.specs.Buffer.{payload_of};
 ghost use Rattle.link_base.specs.Labels.{label_in};
-ghost use Rattle.link_base.specs.Viewed.{set_in, buffer_in, kind_in, set_of, bytes_in};
 ghost use Rattle.netlink_packet_route.specs.Family.{holding_of};
-ghost use Rattle.netlink_packet_route.specs.Views.{family_in};
+ghost use Rattle.link_messages.specs.Held.{context_of, levels};
+ghost use Rattle.link_messages.specs.Shown.{holder_of};
 ghost use Rattle.link_show.specs.Sink.{Gains};
 ghost use Rattle.link_show.specs.Indents.{indent_text};
+ghost use Rattle.link_show.specs.HeaderText.{peer_text};
 ghost use Rattle.link_show.specs.List.{indented, Writes};
-ghost use Rattle.link_show.specs.Held.{selects, is_selected, set_text, holder_text, empty_mark, titled, is_state, state_line, WritesLeaf};
-ghost use Rattle.link_show.specs.Held.{ShowsSingle, ShowsInners, ShowsDecoded, is_left_out, shows_unless, ShowsSet, shows_in, judged_by};
+ghost use Rattle.link_show.specs.Held.{selects, is_selected, set_text, holder_text, empty_mark, title_text, is_state, state_line, WritesLeaf};
+ghost use Rattle.link_show.specs.Held.{is_left_out, indent_in, line_display, ShowsSet};
 
 use crate::flags::write_enum;
-use crate::indent::{Indent, below, write_indent};
+use crate::indent::{Indent, write_indent};
 use crate::line_options::LineOptions;
+use crate::links::write_header_fields;
 use crate::lists::{write_error, write_flat};
 use crate::pieces::{Piece, put_pieces};
 use crate::sink::Sink;
 use crate::verdicts::write_judgement;
 use link_base::rows::label::KindLabel;
-use link_base::views::content::{Content, Known};
-use link_base::views::view::{Value, View};
-use link_base::views::view_all::ViewAll;
-use link_base::{NamedNumber, NlaBuffer};
+use link_base::views::content::Known;
+use link_base::{DecodeFault, NamedNumber, NlaBuffer};
 use link_messages::link_types::{
     AF_BRIDGE, IFLA_ADDRESS, IFLA_AF_SPEC, IFLA_LINK, IFLA_LINKINFO, IFLA_MASTER, IFLA_MTU,
     IFLA_OPERSTATE, IFLA_PROTINFO,
 };
-use link_messages::{Payload, opened_at};
+use link_messages::{HeldList, LinkHeader, ListVisitor, MOST_LEVELS, Payload, visit_list};
 use netlink_packet_route::link::BridgePortState;
-use netlink_packet_route::{Context, Family, FamilyElements, FamilySet, Holder};
+use netlink_packet_route::{Context, Family, FamilySet, Holder};
 
-/// Writes the lines of a list of a `Family`: a line for each attribute, below a nested list one for each of its elements,
-/// below an attribute whose list another set reads the lines of that list, through `depth` levels, and one for each error,
-/// in order. A malformed attribute hides no other; a malformed header ends its list. Lines start with `indent`, those below
-/// others with two spaces more; offsets of errors count from the offset of `list`. Returns whether no line is an error.
+/// Writes the lines of a list of a `Family`, in a message of this address family: a line for each attribute, below a list that
+/// it holds the lines of that, and one for each error, in order. A malformed attribute hides no other; a malformed header ends
+/// its list. Lines start with `text` and at most two spaces, those below others with two spaces more; offsets of errors count
+/// from the offset of `list`. Returns whether no line is an error, and all held lists that are checked are canonical.
 ///
 /// # Errors
 ///
 /// That of the writer.
-#[cycle(walk)]
 pub(crate) fn write_set<W: Sink>(
     writer: &mut W,
     options: LineOptions,
-    depth: usize,
-    context: &Context<'_>,
-    indent: Indent<'_>,
+    address_family: u8,
+    text: &str,
+    spaces: u8,
     family: Family,
     list: Payload<'_>,
 ) -> Result<bool, W::Error>
-    ensures { IfOk result (Writes (ShowsSet options depth context.now (indent_text indent.entry) list.entry.at family list.entry.bytes.now)
-        (W.output writer.old) (W.output writer.new)) }
+    requires { spaces ≤ 2 }
+    ensures { IfOk result (Writes (ShowsSet options levels (context_of address_family) (text.now ++ replicate spaces 32)
+        list.entry.at family list.entry.bytes.now) (W.output writer.old) (W.output writer.new)) }
 {
-    let mut whole = true;
-    let mut items = ViewAll::new(list.bytes, FamilySet { family });
-    'attributes: loop {
-        let at = list.at + items.offset();
-        let Some(item) = items.next() else {
+    let context = Context::of_message(address_family);
+    let visitor = LineVisitor {
+        options,
+        text,
+        spaces,
+    };
+    visit_list(&visitor, writer, MOST_LEVELS, &context, 0, family, list)
+}
+
+/// Writes the lines of attributes, which start with `text` and `spaces` spaces, and two more for each list around them.
+#[derive(Clone, Copy)]
+struct LineVisitor<'a> {
+    options: LineOptions,
+    text: &'a str,
+    spaces: u8,
+    ghost few: { spaces ≤ 2 },
+}
+
+impl<'a> LineVisitor<'a> {
+    /// Returns the indent of the lines of attributes that are in `level` lists.
+    fn indent(&self, level: u8) -> Indent<'a>
+        requires { level < 64 }
+        ensures { indent_text result ≡ indent_in (self.now.text.now ++ replicate self.now.spaces 32) level }
+    {
+        Indent::Text(self.text, self.spaces + 2 * level)
+    }
+}
+
+impl<W: Sink> ListVisitor<W> for LineVisitor<'_> {
+    type Error = W::Error;
+
+    ghost Piece = { ℕ };
+
+    ghost display = { λ v. line_display v.options (v.text.now ++ replicate v.spaces 32) };
+
+    ghost adds = { λ old new out. Gains (W.output old) (W.output new) out };
+
+    ghost begins = { λ v level h old new. Gains (W.output old) (W.output new)
+        (indented (indent_in (v.text.now ++ replicate v.spaces 32) level) (title_text h)) };
+
+    ghost reaches = { λ v list. ⊤ };
+
+    fn omits(&self, context: &Context<'_>, family: Family, kind: u16) -> bool {
+        is_left_out(self.options, context, family, kind)
+    }
+
+    fn error(
+        &self,
+        writer: &mut W,
+        level: u8,
+        family: Family,
+        at: usize,
+        fault: DecodeFault,
+    ) -> Result<(), W::Error> {
+        write_error(writer, FamilySet { family }, self.indent(level), at, fault)
+    }
+
+    fn leaf(
+        &self,
+        writer: &mut W,
+        context: &Context<'_>,
+        level: u8,
+        family: Family,
+        list: Option<u16>,
+        known: &Known<'_>,
+        buffer: NlaBuffer<'_>,
+    ) -> Result<(), W::Error> {
+        let state = is_state(context, family, list, buffer);
+        write_leaf(writer, state, self.indent(level), known, buffer)
+    }
+
+    fn begin(&self, writer: &mut W, level: u8, held: &HeldList<'_>) -> Result<(), W::Error> {
+        write_title(writer, self.indent(level), held)
+    }
+
+    fn end(
+        &self,
+        writer: &mut W,
+        level: u8,
+        held: &HeldList<'_>,
+        whole: bool,
+    ) -> Result<bool, W::Error> {
+        if !self.options.check {
             return Ok(whole);
-        };
-        match item {
-            Ok(value) => {
-                let well = write_shown(writer, options, depth, context, indent, &value, at)?;
-                whole = whole & well;
+        }
+        match held.set {
+            Some(set) => {
+                let canonical = write_judgement(writer, set, self.indent(level + 1), held.list)?;
+                Ok(whole & canonical)
             }
-            Err(error) => {
-                write_error(writer, FamilySet { family }, indent, at, error.fault)?;
-                whole = false;
-            }
+            None => Ok(whole),
         }
     }
-}
 
-/// Writes the lines of a list of a `Family`, as `write_set`, and, if the options ask, whether it is canonical.
-///
-/// # Errors
-///
-/// That of the writer.
-#[cycle(walk)]
-pub(crate) fn write_judged<W: Sink>(
-    writer: &mut W,
-    options: LineOptions,
-    depth: usize,
-    context: &Context<'_>,
-    indent: Indent<'_>,
-    family: Family,
-    list: Payload<'_>,
-) -> Result<bool, W::Error>
-    ensures { IfOk result (Writes (judged_by options (ShowsSet options depth) context.now (indent_text indent.entry) list.entry.at
-        family list.entry.bytes.now) (W.output writer.old) (W.output writer.new)) }
-{
-    let whole = write_set(writer, options, depth, context, indent, family, list)?;
-    if !options.check {
-        return Ok(whole);
-    }
-    let canonical = write_judgement(writer, family, indent, list)?;
-    Ok(whole & canonical)
-}
+    ghost none = { λ a. W.none a };
 
-/// Writes the lines of an attribute that decodes and starts at offset `at`, if the options do not leave it out.
-#[cycle(walk)]
-fn write_shown<W: Sink>(
-    writer: &mut W,
-    options: LineOptions,
-    depth: usize,
-    context: &Context<'_>,
-    indent: Indent<'_>,
-    value: &Value<'_, FamilySet>,
-    at: usize,
-) -> Result<bool, W::Error>
-    requires { at + 4 + length (payload_of (buffer_in value.now)) < 2 ^ 64 }
-    ensures { IfOk result (Writes (shows_unless (is_left_out options context.now (family_in (set_in value.now)) (kind_in value.now))
-        (ShowsDecoded depth (shows_in options depth) context.now (indent_text indent.entry) at
-        (family_in (set_in value.now)) (buffer_in value.now))) (W.output writer.old) (W.output writer.new)) }
-{
-    if is_left_out(options, context, value.set().family, value.kind()) {
-        return Ok(true);
-    }
-    write_decoded(writer, options, depth, context, indent, value, at)
+    ghost both = { λ a b c s t first last. W.both a b c s t (s ++ t) first last refl };
+
+    ghost part = { λ v list inner reached within. tt };
 }
 
 /// Checks whether the options leave out the attributes of a type.
@@ -136,65 +169,21 @@ fn is_left_out(options: LineOptions, context: &Context<'_>, family: Family, kind
     }
 }
 
-/// Writes the lines of an attribute that decodes and starts at offset `at`.
-#[cycle(walk)]
-fn write_decoded<W: Sink>(
-    writer: &mut W,
-    options: LineOptions,
-    depth: usize,
-    context: &Context<'_>,
-    indent: Indent<'_>,
-    value: &Value<'_, FamilySet>,
-    at: usize,
-) -> Result<bool, W::Error>
-    requires { at + 4 + length (payload_of (buffer_in value.now)) < 2 ^ 64 }
-    ensures { IfOk result (Writes (ShowsDecoded depth (shows_in options depth) context.now (indent_text indent.entry) at
-        (family_in (set_in value.now)) (buffer_in value.now)) (W.output writer.old) (W.output writer.new)) }
-{
-    let known = value.known();
-    let set = value.set();
-    let buffer = value.buffer();
-    match known.content {
-        Content::List { list, .. } => {
-            let name = holder_name(&known.label);
-            write_title(writer, indent, name, false, None, list)?;
-            let nest = FamilyElements {
-                family: set.family,
-                list: value.kind(),
-            };
-            let elements = View::of_checked(list, nest);
-            write_inners(
-                writer,
-                options,
-                depth,
-                context,
-                below(&indent),
-                elements,
-                at + 4,
-            )
-        }
-        _ => write_single(
-            writer, options, depth, context, indent, set.family, None, &known, buffer, at,
-        ),
-    }
-}
-
-/// Writes the name of an attribute that holds a list, above the lines of that.
+/// Writes the line above those of a list: the name of the attribute that holds it, and its set or its header, if they are
+/// shown.
 fn write_title<W: Sink>(
     writer: &mut W,
     indent: Indent<'_>,
-    name: &str,
-    selected: bool,
-    set: Option<Family>,
-    list: &[u8],
+    held: &HeldList<'_>,
 ) -> Result<(), W::Error>
     ensures { OnOk result (Gains (W.output writer.old) (W.output writer.new)
-        (indented (indent_text indent.entry) (titled name.now selected set list.now))) }
+        (indented (indent_text indent.entry) (title_text (holder_of held.now)))) }
 {
     write_indent(writer, indent)?;
-    writer.put(name.as_bytes())?;
-    write_set_name(writer, selected, set)?;
-    writer.put(title_end(list).as_bytes())
+    writer.put(holder_name(held.label).as_bytes())?;
+    write_set_name(writer, held.family, held.set)?;
+    write_peer(writer, held.header)?;
+    writer.put(title_end(held.list.bytes).as_bytes())
 }
 
 /// Returns the name of an attribute that holds a list.
@@ -214,20 +203,20 @@ fn title_end(list: &[u8]) -> &'static str
     if list.is_empty() { " (empty)\n" } else { "\n" }
 }
 
-/// Writes the name of a set in parentheses, if the attribute alone does not select it.
+/// Writes the name of a set in parentheses, if the attribute of `family` alone does not select it.
 fn write_set_name<W: Sink>(
     writer: &mut W,
-    selected: bool,
+    family: Family,
     set: Option<Family>,
 ) -> Result<(), W::Error>
-    ensures { OnOk result (Gains (W.output writer.old) (W.output writer.new) (set_text selected set)) }
+    ensures { OnOk result (Gains (W.output writer.old) (W.output writer.new) (set_text family set)) }
 {
     match set {
-        Some(family) => {
-            if !selected {
+        Some(set) => {
+            if !is_selected(family, set) {
                 return Ok(());
             }
-            let name = family.name();
+            let name = set.name();
             put_pieces(
                 writer,
                 &[Piece::Text(" ("), Piece::Text(name), Piece::Text(")")],
@@ -237,96 +226,17 @@ fn write_set_name<W: Sink>(
     }
 }
 
-/// Writes the lines of the elements of a nested list, which starts at offset `at`.
-#[cycle(walk)]
-fn write_inners<W: Sink>(
-    writer: &mut W,
-    options: LineOptions,
-    depth: usize,
-    context: &Context<'_>,
-    indent: Indent<'_>,
-    elements: View<'_, FamilyElements>,
-    at: usize,
-) -> Result<bool, W::Error>
-    requires { at + length (bytes_in elements) < 2 ^ 64 }
-    ensures { IfOk result (Writes (ShowsInners depth (shows_in options depth) context.now (indent_text indent.entry) at
-        (set_of elements.entry).family (set_of elements.entry).list (bytes_in elements.entry))
-        (W.output writer.old) (W.output writer.new)) }
+/// Writes the header of a peer, if there is one: its index, and the other fields that are not zero.
+fn write_peer<W: Sink>(writer: &mut W, header: Option<LinkHeader>) -> Result<(), W::Error>
+    ensures { OnOk result (Gains (W.output writer.old) (W.output writer.new) (peer_text header)) }
 {
-    let set = elements.set();
-    let size = elements.bytes().len();
-    let inner = context.of_elements(&elements);
-    let mut whole = true;
-    let mut rest = elements;
-    'elements: loop {
-        let place = at + (size - rest.bytes().len());
-        let Some(element) = rest.next() else {
-            return Ok(whole);
-        };
-        let known = element.known();
-        let well = write_single(
-            writer,
-            options,
-            depth,
-            &inner,
-            indent,
-            set.family,
-            Some(set.list),
-            &known,
-            element.buffer(),
-            place,
-        )?;
-        whole = whole & well;
-    }
-}
-
-/// Writes the lines of an attribute that is no nested list, and starts at offset `at`. `list` is the type of the nested list
-/// that has it, or `None`.
-#[cycle(walk)]
-fn write_single<W: Sink>(
-    writer: &mut W,
-    options: LineOptions,
-    depth: usize,
-    context: &Context<'_>,
-    indent: Indent<'_>,
-    family: Family,
-    list: Option<u16>,
-    known: &Known<'_>,
-    buffer: NlaBuffer<'_>,
-    at: usize,
-) -> Result<bool, W::Error>
-    requires { at + 4 + length (payload_of buffer) < 2 ^ 64 }
-    ensures { IfOk result (Writes (ShowsSingle depth (shows_in options depth) context.now (indent_text indent.entry) at family list
-        (label_in known.now.label) buffer.entry known.now.content) (W.output writer.old) (W.output writer.new)) }
-{
-    let f = buffer.raw_kind();
-    match opened_at(depth, context, family, list, f, known.content) {
-        Some(set) => {
-            let bytes = buffer.value();
-            let selected = is_selected(family, set);
-            let name = holder_name(&known.label);
-            write_title(writer, indent, name, selected, Some(set), bytes)?;
-            let held = Payload { at: at + 4, bytes };
-            write_judged(
-                writer,
-                options,
-                depth - 1,
-                context,
-                below(&indent),
-                set,
-                held,
-            )
+    match header {
+        Some(header) => {
+            let index = header.index;
+            put_pieces(writer, &[Piece::Text(" ifindex "), Piece::Signed(index)])?;
+            write_header_fields(writer, &header)
         }
-        None => {
-            write_leaf(
-                writer,
-                is_state(context, family, list, buffer),
-                indent,
-                known,
-                buffer,
-            )?;
-            Ok(true)
-        }
+        None => Ok(()),
     }
 }
 

@@ -10,11 +10,11 @@ ghost use Rattle.link_messages.specs.Finding.{stretch_of};
 ghost use Rattle.link_show.specs.Flags.{flags_text};
 ghost use Rattle.link_show.specs.List.{Writes};
 ghost use Rattle.link_show.specs.MessageNames.{device_flags};
-ghost use Rattle.link_show.specs.Message.{ShowsLink, IsLinkName, link_line, name_part, unless_zero, named_or};
+ghost use Rattle.link_show.specs.HeaderText.{unless_zero, named_or, header_parts};
+ghost use Rattle.link_show.specs.Message.{ShowsLink, IsLinkName, link_line, name_part};
 
 use crate::flags::write_flags;
 use crate::held::write_set;
-use crate::indent::Indent;
 use crate::line_options::LineOptions;
 use crate::message_names::{ADDRESS_FAMILIES, DEVICE_FLAGS, DEVICE_TYPES};
 use crate::pieces::{Piece, put_pieces};
@@ -23,8 +23,8 @@ use crate::sink::Sink;
 use link_base::rows::form::Width;
 use link_base::rows::label::{Name, name_of};
 use link_messages::link_types::IFLA_IFNAME;
-use link_messages::{LinkHeader, MOST_LEVELS, Payload, last_before_fault};
-use netlink_packet_route::{Context, Family, without_nul};
+use link_messages::{LinkHeader, Payload, last_before_fault};
+use netlink_packet_route::{Family, without_nul};
 
 /// Writes the lines of a message about a link, below its first line: the fields of its `struct ifinfomsg` and its name, and
 /// its attributes, as [`write_family_list`](crate::write_family_list) writes lists. If the options ask, the lists of the kinds
@@ -44,16 +44,7 @@ pub fn write_link<W: Sink>(
         (W.output writer.old) (W.output writer.new)) }
 {
     write_link_line(writer, header, link_name(list))?;
-    let context = Context::of_message(header.family);
-    write_set(
-        writer,
-        options,
-        MOST_LEVELS,
-        &context,
-        Indent::Text("", 2),
-        Family::Link,
-        list,
-    )
+    write_set(writer, options, header.family, "", 2, Family::Link, list)
 }
 
 /// Returns the text of the last `IFLA_IFNAME` before the first malformed header of a list.
@@ -82,11 +73,21 @@ fn write_link_line<W: Sink>(
 {
     write_index(writer, header)?;
     write_name(writer, name)?;
+    write_header_fields(writer, header)?;
+    writer.put(b"\n")
+}
+
+/// Writes the fields of a `struct ifinfomsg` that are not zero, without the index.
+pub(crate) fn write_header_fields<W: Sink>(
+    writer: &mut W,
+    header: &LinkHeader,
+) -> Result<(), W::Error>
+    ensures { OnOk result (Gains (W.output writer.old) (W.output writer.new) (header_parts header.now)) }
+{
     write_named_field(writer, "family", ADDRESS_FAMILIES, header.family.into())?;
     write_named_field(writer, "type", DEVICE_TYPES, header.kind.into())?;
     write_device_flags(writer, "flags", header.flags.into())?;
-    write_device_flags(writer, "change", header.change.into())?;
-    writer.put(b"\n")
+    write_device_flags(writer, "change", header.change.into())
 }
 
 fn write_index<W: Sink>(writer: &mut W, header: &LinkHeader) -> Result<(), W::Error>

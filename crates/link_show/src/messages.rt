@@ -9,7 +9,8 @@ ghost use Rattle.link_messages.specs.Message.{NextOfAny};
 ghost use Rattle.link_show.specs.declared.line_options.LineOptions.{LineOptions};
 ghost use Rattle.link_show.specs.List.{Writes};
 ghost use Rattle.link_show.specs.MessageNames.{message_types};
-ghost use Rattle.link_show.specs.Message.{ShowsMessages, ShowsEnd, ShowsMessage, ShowsBody, message_line, named_or};
+ghost use Rattle.link_show.specs.Message.{ShowsMessages, ShowsEnd, ShowsMessage, ShowsBody, message_line};
+ghost use Rattle.link_show.specs.HeaderText.{named_or};
 ghost use Rattle.link_show.specs.Message.{IsGeneral, AreZerosAfter, zeros_line};
 
 use crate::faults::bytes_of;

@@ -9,13 +9,12 @@ ghost use Rattle.link_show.specs.Message.{ShowsReply, errno_name, result_line, e
 
 use crate::errno::ERRNOS;
 use crate::held::write_set;
-use crate::indent::Indent;
 use crate::line_options::LineOptions;
 use crate::pieces::{Piece, put_pieces};
 use crate::sink::Sink;
 use link_base::rows::label::name_of;
-use link_messages::{Acknowledgement, MOST_LEVELS};
-use netlink_packet_route::{Context, Family};
+use link_messages::Acknowledgement;
+use netlink_packet_route::Family;
 
 /// Writes the lines of an NLMSG_ERROR, below its first line: `ack`, or the error by its name and number; and its attributes,
 /// as [`write_family_list`](crate::write_family_list) writes a list of the set `reply`, but never whether it is canonical.
@@ -32,16 +31,7 @@ pub fn write_acknowledgement<W: Sink>(
     ensures { IfOk result (Writes (ShowsReply options reply.now) (W.output writer.old) (W.output writer.new)) }
 {
     write_outcome(writer, reply)?;
-    let context = Context::of_message(0);
-    write_set(
-        writer,
-        options,
-        MOST_LEVELS,
-        &context,
-        Indent::Text("", 2),
-        Family::Reply,
-        reply.list,
-    )
+    write_set(writer, options, 0, "", 2, Family::Reply, reply.list)
 }
 
 /// Writes the line of the result of a request, or of a dump that failed.

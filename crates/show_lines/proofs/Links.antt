@@ -32,8 +32,7 @@ own_first : (family : Family) (list : Stretch) (held lists : List Listed) → li
 own_first family list held lists e = e ∙ ap (λ t. (family, list) ∷ t) (sym (ap (drop 1) e))
 
 pub holder_first : (n : ℕ) (context : Context) (family : Family) (list : Stretch) (lists : List Listed) → HasLists n context family list lists → lists ≡ (family, list) ∷ drop 1 lists
-holder_first zero context family list lists (held, h, e) = own_first family list held lists e
-holder_first (suc n) context family list lists (held, h, e) = own_first family list held lists e
+holder_first n context family list lists (held, whole, h, e) = own_first family list held lists e
 
 drop-map : (parts : List Part) → drop 1 (map part_of parts) ≡ map part_of (drop 1 parts)
 drop-map [] = refl

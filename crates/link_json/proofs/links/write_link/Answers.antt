@@ -1,7 +1,7 @@
 use Rattle.std.proofs.Common.{◌≡◌, ◌++◌, ◌∷◌, [], refl, subst, codes}
 use Rattle.json.specs.Tree.{json_tokens}
 use Rattle.link_json.specs.Doc.{array_of}
-use Rattle.link_json.specs.Link.{header_fields, whole_link}
+use Rattle.link_json.specs.Value.{header_fields, whole_link}
 use Rattle.link_json.proofs.Objects.{object_written, fields_then, field_only}
 use Rattle.link_json.proofs.links.write_link.Goals as goal
 

@@ -1,9 +1,8 @@
-use Rattle.std.proofs.Common.{◌++◌, refl, subst}
-use Rattle.std.specs.Prelude.{IfOk}
+use Rattle.std.proofs.Common.{◌++◌, refl}
 use Rattle.std.specs.Option.{option_copied}
 use Rattle.netlink_packet_route.specs.declared.family.Family.TheVariants.{Link}
 use Rattle.link_show.specs.List.{Writes}
-use Rattle.link_messages.specs.Held.{levels}
+use Rattle.link_messages.specs.Held.{context_of, levels}
 use Rattle.link_show.specs.Held.{ShowsSet}
 use Rattle.link_show.specs.Message.{two, ShowsLink, link_line}
 use Rattle.link_show.specs.Gained.{gains_more}
@@ -19,6 +18,5 @@ returns g c =
     let old = output c.args.writer.now in
     let mid = output c.write_link_line.new.writer in
     let new = output c.write_set.new.writer in
-    let shown = subst (λ x. IfOk c.write_set.result (Writes (ShowsSet c.args.options levels x two list.at Link list.bytes.now) mid new)) c.of_message-context.ensures c.write_set.ensures in
-    if_ok (Writes (ShowsSet c.args.options levels _ two list.at Link list.bytes.now) mid new) (Writes (ShowsLink c.args.options h (list.at, list.bytes.now)) old new) c.write_set.result
-    (λ well (lines, is, written). (link_line h name ++ lines, (name, c.link_name.ensures, lines, is, refl), gains_more old mid new (link_line h name) lines c.in_ok-write_link_line.ensures written)) shown
+    if_ok (Writes (ShowsSet c.args.options levels (context_of h.family) two list.at Link list.bytes.now) mid new) (Writes (ShowsLink c.args.options h (list.at, list.bytes.now)) old new) c.write_set.result
+    (λ well (lines, is, written). (link_line h name ++ lines, (name, c.link_name.ensures, lines, is, refl), gains_more old mid new (link_line h name) lines c.in_ok-write_link_line.ensures written)) c.write_set.ensures

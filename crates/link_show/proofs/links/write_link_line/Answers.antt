@@ -7,8 +7,5 @@ pub returns : goal.returns
 unfolding link_line
 returns g c =
     then_all _ _ _ _ _ _ _ c.in_ok-write_index.ensures
-    (then_all _ _ _ _ _ _ _ c.in_ok-write_name.ensures
-    (then_all _ _ _ _ _ _ _ c.in_ok-write_named_field.ensures
-    (then_all _ _ _ _ _ _ _ c.in_ok-write_named_field-2.ensures
-    (then_all _ _ _ _ _ _ _ c.in_ok-write_device_flags.ensures (then_all _ _ _ _ _ _ _ c.in_ok-write_device_flags-2.ensures c.put.ensures refl) refl) refl) refl) refl)
-    (grind (arith, append_assoc, c.into.ensures, c.into-2.ensures, c.into-3.ensures, c.into-4.ensures))
+    (then_all _ _ _ _ _ _ _ c.in_ok-write_name.ensures (then_all _ _ _ _ _ _ _ c.in_ok-write_header_fields.ensures c.put.ensures refl) refl)
+    (grind (arith, append_assoc))

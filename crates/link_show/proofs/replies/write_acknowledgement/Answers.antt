@@ -1,8 +1,7 @@
-use Rattle.std.proofs.Common.{◌++◌, refl, subst}
-use Rattle.std.specs.Prelude.{IfOk}
+use Rattle.std.proofs.Common.{◌++◌, refl}
 use Rattle.netlink_packet_route.specs.declared.family.Family.TheVariants.{Reply}
 use Rattle.link_show.specs.List.{Writes}
-use Rattle.link_messages.specs.Held.{levels}
+use Rattle.link_messages.specs.Held.{context_of, levels}
 use Rattle.link_show.specs.Held.{ShowsSet}
 use Rattle.link_show.specs.Message.{two, ShowsReply, outcome_line}
 use Rattle.link_show.specs.Gained.{gains_more}
@@ -16,6 +15,5 @@ returns g c =
     let old = output c.args.writer.now in
     let mid = output c.write_outcome.new.writer in
     let new = output c.write_set.new.writer in
-    let shown = subst (λ x. IfOk c.write_set.result (Writes (ShowsSet c.args.options levels x two a.list.at Reply a.list.bytes.now) mid new)) c.of_message-context.ensures c.write_set.ensures in
-    if_ok (Writes (ShowsSet c.args.options levels _ two a.list.at Reply a.list.bytes.now) mid new) (Writes (ShowsReply c.args.options a) old new) c.write_set.result
-    (λ well (lines, is, written). (outcome_line a ++ lines, (lines, is, refl), gains_more old mid new (outcome_line a) lines c.in_ok-write_outcome.ensures written)) shown
+    if_ok (Writes (ShowsSet c.args.options levels (context_of 0) two a.list.at Reply a.list.bytes.now) mid new) (Writes (ShowsReply c.args.options a) old new) c.write_set.result
+    (λ well (lines, is, written). (outcome_line a ++ lines, (lines, is, refl), gains_more old mid new (outcome_line a) lines c.in_ok-write_outcome.ensures written)) c.write_set.ensures
