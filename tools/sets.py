@@ -295,8 +295,13 @@ def sample(it):
     if kind == "Peer":
         # (the interface index is the number of the type)
         header, held = struct.pack("<BxHiII", 0, 0, it.number, 0, 0), struct.pack("<HH", 4, 16383)
-        debug = f"Peer {{ header: {[*header]}, attributes: {[*held]} }}"
-        return header + held, f"({len(header + held)} bytes, not decoded)", debug, f'{{"hex":"{(header + held).hex()}"}}'
+        zeros = ",".join(f'"{name}":{{"number":0,"names":[]}}' for name in ("flags", "change"))
+        shown = '{"name":"16383","value":{"type":16383,"flags":{"number":0,"names":[]},"hex":""}}'
+        family = '"family":{"number":0,"name":"AF_UNSPEC"},"type":{"number":0,"name":null}'
+        return (
+            header + held, f"ifindex {it.number}\n    type 16383 (empty)", f"Peer {{ header: {[*header]}, attributes: {[*held]} }}",
+            f'{{{family},"index":{it.number},{zeros},"attrs":[{shown}]}}',
+        )  # fmt: skip
     if it.its_class in ("[u8; 6]", "Vec<u8>"):
         payload = octets(6 if kind[0] == "[" else 5)
         return payload, payload.hex(":"), str([*payload]), f'"{payload.hex(":")}"'
@@ -334,9 +339,10 @@ def run(it):
     left = ", ".join(row.name for row in it.rows if not sample(row))
     for row in filter(sample, it.rows):
         payload, plain, debug, value = sample(row)
-        if row.its_class == "Shown<Held>" and row.size:
+        held, above = ("link", 20) if row.its_class == "Peer" else (row.size, 4)
+        if row.its_class in ("Shown<Held>", "Peer") and held:
             # (behind the list: the offset of this one, and the attribute in it)
-            parts["held"] += f"{row.size} at {len(parts['out']) // 2 + 4}\n  Other(DefaultNla {{ kind: 16383, value: [] }})\n"
+            parts["held"] += f"{held} at {len(parts['out']) // 2 + above}\n  Other(DefaultNla {{ kind: 16383, value: [] }})\n"
         parts["out"] += (struct.pack("<HH", 4 + len(payload), row.number) + payload).hex() + "00" * (-len(payload) % 4)
         parts["attr"] += f"attr {row.number} len {len(payload)}\n"
         parts["plain"] += f"  {row.name} {plain}".replace(" \n", "\n").rstrip() + "\n"

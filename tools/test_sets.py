@@ -93,9 +93,11 @@ class Sets(unittest.TestCase):
             (("Shown<Held>", "hsr"), "held", "Raw x.items", bytes.fromhex("0400ff3f"), "\n    type 16383 (empty)",
              "[4, 0, 255, 63]", '[{"name":"16383","value":{"type":16383,"flags":{"number":0,"names":[]},"hex":""}}]'),
             ("Peer", "peer", "Raw (peer_octets x)", bytes.fromhex("00000000 07000000 00000000 00000000 0400ff3f"),
-             "(20 bytes, not decoded)",
+             "ifindex 7\n    type 16383 (empty)",
              "Peer { header: [0, 0, 0, 0, 7, 0, 0, 0, 0, 0, 0, 0, 0, 0, 0, 0], attributes: [4, 0, 255, 63] }",
-             '{"hex":"000000000700000000000000000000000400ff3f"}'),
+             '{"family":{"number":0,"name":"AF_UNSPEC"},"type":{"number":0,"name":null},"index":7,'
+             '"flags":{"number":0,"names":[]},"change":{"number":0,"names":[]},'
+             '"attrs":[{"name":"16383","value":{"type":16383,"flags":{"number":0,"names":[]},"hex":""}}]}'),
             (("CodedFlags<CanState>", "4"), "(u32_flags can_state_names)", "Number 4 x", bytes(4), "0", "0", '{"number":0,"names":[]}'),
             (("Counters<CanState>", "4"), "(u32_counters can_state_names)", "Raw (octets_of 4 x.items)", b"", "(empty)", "[]", "{}"),
             (("Counters<CanState>", "i32"), "(i32_counters can_state_names)", "Raw (octets_by 4 (cast_unsigned w32) x.items)",
@@ -170,6 +172,9 @@ part_leaf (infos.Other other) = default_means other
         made = written("sets/some.tsv", text)["runs/sets/some"]
         lines = "  IFLA_SOME_ONE\n    type 16383 (empty)\n  IFLA_SOME_TWO (5 bytes, not decoded)\n\n"
         self.assertIn(f"> some 08000700 0400ff3f 09000800 08192a3b 4c000000\n{lines}", made)
+        self.assertIn("\nhsr at 4\n", made)
+        made = written("sets/some.tsv", f"{HEAD}7\tIFLA_SOME_ONE\tOne x\tbool\n8\tIFLA_SOME_TWO\tTwo x\tPeer\n")["runs/sets/some"]
+        self.assertIn("\nlink at 28\n  Other(DefaultNla { kind: 16383, value: [] })\n", made)
 
     def test_names_of_definitions(self):
         head = HEAD.replace("IFLA_SOME_", "IFLA_SOME_ other")
