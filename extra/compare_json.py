@@ -273,16 +273,21 @@ def check_message(document, keys, at, message):
     need(keys[:5] == [*HEADER] and tuple(number_of(document[it]) for it in HEADER) == header, "header:", document)
     kind, size, more = header[1], len(message) - 16, keys[5:]
     if kind in LINKS and size >= 16:
-        fields, link = struct.unpack_from("<BxHiII", message, 16), document["link"]
-        need(more == ["link"] and [*link] == [*OF_LINK, "attrs"], "link:", keys)
-        need(tuple(number_of(link[it]) for it in OF_LINK) == fields, "ifinfomsg:", link)
-        check_elements(link["attrs"], message[32:], at + 32)
+        need(more == ["link"], "link:", keys)
+        check_link(document["link"], message[16:], at + 16)
     elif kind == DONE or kind == ERROR and size >= 20:
         check_reply(document, more, at, kind, header[2], message[16:])
     elif kind == ERROR or kind in LINKS and not (kind == GETLINK and size):
         need(more == ["error"] and document["error"]["at"] == at, "error:", document)
     else:
         need(not more, "members:", keys)
+
+
+def check_link(link, data, at):
+    """Checks the object of a link, or of a peer, against a struct ifinfomsg at an offset, and the attributes behind it."""
+    need([*link] == [*OF_LINK, "attrs"], "members:", link)
+    need(tuple(number_of(link[it]) for it in OF_LINK) == struct.unpack_from("<BxHiII", data), "ifinfomsg:", link)
+    check_elements(link["attrs"], data[16:], at + 16)
 
 
 def behind_request(payload):
@@ -326,6 +331,8 @@ def check_value(name, value, kind, flags, payload, base):
         need(raw == (kind, flags, payload.hex()), "not decoded:", value)
     elif isinstance(value, dict) and [*value] == ["hex"]:
         need(value["hex"] in (payload.hex(), payload.removesuffix(b"\0").hex()), "bytes:", value, payload.hex())
+    elif isinstance(value, dict) and "attrs" in value:
+        check_link(value, payload, base)
     elif isinstance(value, dict) and name in COUNTERS:
         check_numbers([*value.values()], payload)
     elif isinstance(value, bool) or isinstance(value, (str, dict)):

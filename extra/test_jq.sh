@@ -46,6 +46,9 @@ END
 o '[{"name":"linkinfo","value":[{"name":"kind","value":"bond"},{"name":"data","value":[{"name":"miimon","value":0,"unit":"ms"}]}]}]' <<'END'
 {"linkinfo":{"kind":"bond","data":{"miimon":0}}}
 END
+o '[{"name":"peer","value":{"index":0,"attrs":[{"name":"ifname","value":"x1"},{"error":{"at":8,"text":"nla_len 3 is below 4"}}]}}]' <<'END'
+{"peer":{"index":0,"attrs":{"ifname":"x1"}}}
+END
 o '[{"name":"id","value":1},{"name":"flush","value":false},{"name":"id","value":2}]' <<'END'
 {"id":2,"flush":false}
 END
