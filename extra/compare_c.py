@@ -74,7 +74,7 @@ def without_lists(wanted, found):
         if at and at <= len(found) and lengths[at - 1] and kept[-1] == found[at - 1] and line.startswith(f"{lengths[at - 1][1]}  "):
             continue
         length = lengths[at] if at < len(found) else None
-        is_opened = length and re.fullmatch(rf"{length[1]}{re.escape(length[2])}( \(\w+\))?( \(empty\))?", line)
+        is_opened = length and re.fullmatch(rf"{length[1]}{re.escape(length[2])}( ifindex .*?)?( \(\w+\))?( \(empty\))?", line)
         kept.append(found[at] if is_opened else line)
     return kept
 

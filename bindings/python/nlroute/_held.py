@@ -15,15 +15,17 @@ WITHIN = {
     "AF_INET6": Family.INET6,
     "AF_MCTP": Family.MCTP,
 }
+AF_BRIDGE = 7
 # What `ip` sends as IFLA_INFO_KIND for a port, and what that says of its data.
 PORTS = {"bond_slave": "bond", "bridge_slave": "bridge"}
 
 
 class Kinds(NamedTuple):
-    """The last kinds in an IFLA_LINKINFO."""
+    """The last kinds in an IFLA_LINKINFO, and the address family of the header above."""
 
     device: str | None = None
     port: str | None = None
+    address_family: int = 0
 
 
 def kinds_of(texts: Iterable[tuple[str, str]]) -> Kinds:
@@ -36,7 +38,8 @@ def kinds_of(texts: Iterable[tuple[str, str]]) -> Kinds:
 def set_of(table: Table, name: str, kinds: Kinds) -> Family | None:
     """Returns the set that reads the list in an attribute of a table, or None."""
     if table.title != "IFLA_LINKINFO":
-        return WITHIN.get(name)
+        is_bridge = name == "IFLA_AF_SPEC" and kinds.address_family == AF_BRIDGE
+        return Family.AF_SPEC_BRIDGE if is_bridge else WITHIN.get(name)
     if name == "IFLA_INFO_DATA" and kinds.device is not None:
         return from_info_kind(kinds.device)
     if name == "IFLA_INFO_SLAVE_DATA" and kinds.port is not None:

@@ -1,11 +1,12 @@
 """The lines that `nlshow` prints of a list, also of one that is malformed."""
 from __future__ import annotations
 
+import struct
 import sys
-from collections.abc import Iterator
+from collections.abc import Iterator, Mapping
 
 from ._errors import Fault
-from ._held import Kinds, kinds_of, set_of
+from ._held import AF_BRIDGE, Kinds, kinds_of, set_of
 from ._kinds import Family, Form
 from ._library import is_canonical
 from ._read import groups, is_array, line, payload, title
@@ -14,6 +15,16 @@ from ._tables import TABLES, Table
 from ._types import Text
 
 HEADER = 4  # bytes of struct nlattr
+LINK_HEADER = "=BxHiII"  # struct ifinfomsg: family, type, index, flags, change
+LINK_SIZE = 16  # bytes of struct ifinfomsg
+MOST_LEVELS = 6  # of lists that are opened below a list
+# Names in a header (`linux/socket.h`, `if_arp.h`, `if.h`), without ARPHRD_ and IFF_.
+ADDRESS_FAMILIES = {AF_BRIDGE: "AF_BRIDGE"}
+DEVICE_TYPES = {1: "ETHER", 280: "CAN", 772: "LOOPBACK", 65534: "NONE"}
+DEVICE_FLAGS = (
+    "UP BROADCAST DEBUG LOOPBACK POINTOPOINT NOTRAILERS RUNNING NOARP PROMISC ALLMULTI MASTER SLAVE MULTICAST PORTSEL "
+    "AUTOMEDIA DYNAMIC LOWER_UP DORMANT ECHO"
+).split()
 
 
 def pieces(data: bytes) -> Iterator[tuple[int, bytes, int]]:
@@ -41,8 +52,9 @@ def check(family: Family, data: bytes) -> list[str]:
     return ["canonical" if at is None else f"not canonical at {at}"]
 
 
-def set_lines(table: Table, data: bytes, start: int) -> Iterator[str]:
-    """Yields the lines of a list that begins at an offset."""
+def set_lines(table: Table, data: bytes, start: int, address_family: int = 0, levels: int = MOST_LEVELS) -> Iterator[str]:
+    """Yields the lines of a list that begins at an offset, below a header with an address family. So many levels of lists
+    are opened below it."""
     for at, piece, _ in pieces(data):
         try:
             found = list(groups(table.family, piece))
@@ -50,14 +62,19 @@ def set_lines(table: Table, data: bytes, start: int) -> Iterator[str]:
             yield f"error at {start + at}: {str(fault).partition(': ')[2]}"
             continue
         for raw, elements in found:
-            yield from attribute_lines(table, raw, elements, piece, start + at)
+            yield from attribute_lines(table, raw, elements, piece, start + at, address_family, levels)
 
 
-def attribute_lines(table: Table, raw: bytes, elements: list[bytes], data: bytes, start: int) -> Iterator[str]:
+def attribute_lines(
+    table: Table, raw: bytes, elements: list[bytes], data: bytes, start: int, address_family: int, levels: int
+) -> Iterator[str]:
     """Yields the lines of an attribute: its record, those of its elements, and its bytes, which begin at an offset."""
     it = record(raw, 0)
     if it.form == Form.HELD:
-        yield from held_lines(table, table.name(it.kind), raw, data, start, Kinds())
+        yield from held_lines(table, table.name(it.kind), raw, data, start, Kinds(address_family=address_family), levels)
+        return
+    if it.form == Form.PEER and levels:
+        yield from peer_lines(table.name(it.kind), payload(it, data), start + it.offset, levels)
         return
     yield title(table, raw, elements, data)
     if is_array(table, raw):
@@ -67,7 +84,7 @@ def attribute_lines(table: Table, raw: bytes, elements: list[bytes], data: bytes
     for element in elements:
         inner = record(element, 0)
         if below and inner.form == Form.HELD:
-            lines = held_lines(below, below.name(inner.inner), element, data, start, kinds)
+            lines = held_lines(below, below.name(inner.inner), element, data, start, kinds, levels)
             yield from (f"  {words}" for words in lines)
         else:
             yield f"  {line(table.family, element, '', data)}"
@@ -79,14 +96,39 @@ def kinds_in(table: Table, elements: list[bytes], data: bytes) -> Kinds:
     return kinds_of((table.name(it.inner), str(Text(payload(it, data)))) for it in records if it.form == Form.TEXT)
 
 
-def held_lines(table: Table, name: str, raw: bytes, data: bytes, start: int, kinds: Kinds) -> Iterator[str]:
+def held_lines(table: Table, name: str, raw: bytes, data: bytes, start: int, kinds: Kinds, levels: int) -> Iterator[str]:
     """Yields the lines of an attribute that holds a list of another set."""
     family = set_of(table, name, kinds)
-    if family is None:
+    if family is None or not levels:
         yield line(table.family, raw, name, data)
         return
     it = record(raw, 0)
     content = payload(it, data)
-    words = f"{name} ({family})" if table.list_row else name
+    is_selected = table.list_row or family is Family.AF_SPEC_BRIDGE
+    words = f"{name} ({family})" if is_selected else name
     yield words if content else f"{words} (empty)"
-    yield from (f"  {below}" for below in set_lines(TABLES[family], content, start + it.offset))
+    below = set_lines(TABLES[family], content, start + it.offset, kinds.address_family, levels - 1)
+    yield from (f"  {it}" for it in below)
+
+
+def peer_lines(name: str, data: bytes, start: int, levels: int) -> Iterator[str]:
+    """Yields the lines of the other end of a link, whose bytes begin at an offset: a header, and a list of attributes."""
+    family, kind, index, flags, change = struct.unpack(LINK_HEADER, data[:LINK_SIZE])
+    words = f"{name} ifindex {index}"
+    words += named(" family ", ADDRESS_FAMILIES, family) + named(" type ", DEVICE_TYPES, kind)
+    words += flagged(" flags ", flags) + flagged(" change ", change)
+    yield words if data[LINK_SIZE:] else f"{words} (empty)"
+    below = set_lines(TABLES[Family.LINK], data[LINK_SIZE:], start + LINK_SIZE, family, levels - 1)
+    yield from (f"  {it}" for it in below)
+
+
+def named(before: str, names: Mapping[int, str], number: int) -> str:
+    """Returns a number other than 0 by its name."""
+    return before + names.get(number, str(number)) if number else ""
+
+
+def flagged(before: str, bits: int) -> str:
+    """Returns flags by their names, unless there are none."""
+    names = [name for at, name in enumerate(DEVICE_FLAGS) if bits >> at & 1]
+    rest = bits >> len(DEVICE_FLAGS) << len(DEVICE_FLAGS)
+    return before + "|".join(names + [f"{rest:#x}"] * bool(rest)) if bits else ""

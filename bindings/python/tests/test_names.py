@@ -46,10 +46,10 @@ def header():
 
 
 def held_names():
-    """Returns the names of the attributes that hold a list of another set."""
+    """Returns the names of the attributes that hold a list of another set, or a peer."""
     tables = list(_tables.TABLES.values())
     tables += [below for table in tables for below in table.below.values()]
-    return {row.name for table in tables for row in table.by_kind.values() if row.form == _kinds.Form.HELD}
+    return {row.name for table in tables for row in table.by_kind.values() if row.form in (_kinds.Form.HELD, _kinds.Form.PEER)}
 
 
 def opens(line, names):

@@ -30,7 +30,7 @@ fn expected(case: &Case) -> Result<&[String], &str> {
 fn is_opened(value: &Value<'_>, case: &Case) -> bool {
     let name = value.name();
     let mut lines = case.lines.iter().filter(|line| line.split_whitespace().next() == Some(name.as_str()));
-    let is_held = matches!(value.content(), Content::Held(_));
+    let is_held = matches!(value.content(), Content::Held(_) | Content::Peer(_));
     is_held && lines.any(|line| !line.ends_with(" not decoded)")) || value.elements().any(|it| is_opened(&it, case))
 }
 
