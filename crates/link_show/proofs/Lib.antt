@@ -5,6 +5,7 @@ pub mod Segments
 pub mod FlagWords
 pub mod Arrays
 pub mod Numbered
+pub mod Ticks
 pub mod Places
 pub mod StructFields
 pub mod ValueTexts

@@ -1,11 +1,12 @@
 -- Arrays of numbers by the names of their places, from a place on.
-use Rattle.std.proofs.Common.{◌≡◌, ◌≢◌, ℕ, ◌+◌, ◌-◌, ◌*◌, ◌<◌, ◌≤◌, List, [], ◌∷◌, ◌++◌, ap, ◌∙◌, arith, codes}
+use Rattle.std.proofs.Common.{◌≡◌, ◌≢◌, ℕ, ◌+◌, ◌-◌, ◌*◌, ◌<◌, ◌≤◌, List, [], ◌∷◌, ◌++◌, drop, length, slice_index_or, ap, ◌∙◌, arith, codes}
 use Rattle.std.specs.Fmt.{decimal}
 use Rattle.std.proofs.lemmas.Bool.{cond-true, cond-false, eq-eqb, ne_eqb}
-use Rattle.std.proofs.lemmas.List.{append-nil}
+use Rattle.std.proofs.lemmas.List.{append-nil, at_drop_more}
 use Rattle.link_base.specs.declared.rows.form.ArrayOf.{ArrayOf}
 use Rattle.link_base.specs.Forms.{size_in}
-use Rattle.link_base.specs.Labels.{name_in}
+use Rattle.link_base.specs.declared.rows.label.Name.{Name}
+use Rattle.link_base.specs.Labels.{names_in, name_in}
 use Rattle.link_base.specs.Layout.{number_at, numbers_at}
 use Rattle.link_show.specs.Text.{after}
 use Rattle.link_show.specs.Number.{item_text}
@@ -32,6 +33,12 @@ module _ (names : List (ℕ × List ℕ)) (a : ArrayOf) (n i zeros : ℕ) (p : L
   place_none h =
       let none : n - i ≡ 0 = omega (arith, h) in
       ap (λ m. counter_words names a i zeros (numbers_at (size_in a) m (i * size_in a) p)) none
+
+-- a name of a lower place than those that are looked up
+pub name_lower : (xs : List Name) (i place k : ℕ) (d : Name) → i < length xs → (slice_index_or xs i d).number < place → place ≤ k
+    → name_in (names_in (drop i xs)) k ≡ name_in (names_in (drop (i + 1) xs)) k
+name_lower xs i place k d lt low le =
+    at_drop_more (λ ys. name_in (names_in ys) k) xs i d lt ∙ cond-false _ _ _ (ne_eqb _ k (λ e. omega (arith, low, le, e)))
 
 -- no zeros
 pub zeros_none : (separator : List ℕ) (zeros : ℕ) → zeros ≡ 0 → after separator (codes " ") (zeros_word zeros) ≡ []

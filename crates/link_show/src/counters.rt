@@ -1,6 +1,6 @@
 //! Arrays of numbers whose places have names, such as counters of packets and of errors.
 
-ghost use Rattle.std.specs.Prelude.{◌≤◌, ◌+◌, ◌*◌, ◌++◌, length, codes, OnOk};
+ghost use Rattle.std.specs.Prelude.{◌≡◌, ℕ, ◌≤◌, ◌+◌, ◌*◌, ◌++◌, length, codes, OnOk};
 ghost use Rattle.std.specs.Option.{option_map};
 ghost use Rattle.link_base.specs.Forms.{size_in};
 ghost use Rattle.link_base.specs.Labels.{names_in, name_in};
@@ -11,7 +11,7 @@ ghost use Rattle.link_show.specs.Text.{after, joined};
 ghost use Rattle.link_show.specs.Counters.{place_text, zeros_word, counter_words, counters_text, numbers_text};
 
 use crate::numbers::{number_at, write_array, write_item};
-use crate::pieces::{Piece, put_pieces};
+use crate::pieces::{Piece, put_number, put_pieces, put_separator};
 use crate::sink::Sink;
 use link_base::rows::form::ArrayOf;
 use link_base::rows::label::{Name, Quantity, name_of};
@@ -67,16 +67,31 @@ fn write_words<W: Sink>(
 {
     let mut separator = b"".as_slice();
     let mut zeros = 0;
+    let mut left = names;
     for i in 0..count {
         let number = number_at(of.width(), i, bytes);
         if number == 0 {
             zeros += 1;
         } else {
-            write_counter(writer, separator, names, of, i, bytes)?;
+            left = names_from(left, i as u64);
+            write_counter(writer, separator, left, of, i, bytes)?;
             separator = b" ".as_slice();
         }
     }
     write_zeros(writer, separator, zeros)
+}
+
+/// Returns the names without those at the front of places before this one. Names are mostly in order, so the next that is
+/// looked up is then the first.
+fn names_from(names: &[Name], place: u64) -> &[Name]
+    ensures { (k : ℕ) → place ≤ k → name_in (names_in result.now) k ≡ name_in (names_in names.now) k }
+{
+    for i in 0..names.len() {
+        if names[i].number >= place {
+            return &names[i..];
+        }
+    }
+    &[]
 }
 
 /// Writes a separator, and the number of a place after the name of that.
@@ -93,7 +108,7 @@ fn write_counter<W: Sink>(
         (separator.now ++ (place_text (name_in (names_in names.now) place) place
         ++ item_text of (number_at (size_in of) (place * size_in of) bytes.now)))) }
 {
-    writer.put(separator)?;
+    put_separator(writer, separator)?;
     write_place(writer, name_of(names, place as u64), place as u64)?;
     write_item(writer, of, place, bytes)
 }
@@ -104,7 +119,10 @@ fn write_place<W: Sink>(writer: &mut W, name: Option<&str>, place: u64) -> Resul
         (place_text (option_map (λ text. text.now) name.entry) place)) }
 {
     match name {
-        Some(name) => put_pieces(writer, &[Piece::Text(name), Piece::Text(" ")]),
+        Some(name) => {
+            writer.put(name.as_bytes())?;
+            writer.put(b" ")
+        }
         None => put_pieces(
             writer,
             &[Piece::Text("["), Piece::Number(place), Piece::Text("] ")],
@@ -120,13 +138,8 @@ fn write_zeros<W: Sink>(writer: &mut W, separator: &[u8], zeros: u64) -> Result<
     if zeros == 0 {
         return Ok(());
     }
-    writer.put(separator)?;
-    put_pieces(
-        writer,
-        &[
-            Piece::Text("("),
-            Piece::Number(zeros),
-            Piece::Text(" zero)"),
-        ],
-    )
+    put_separator(writer, separator)?;
+    writer.put(b"(")?;
+    put_number(writer, zeros)?;
+    writer.put(b" zero)")
 }

@@ -1,14 +1,16 @@
 //! Numbers of enums, and sets of flags, by their names.
 
 ghost use Rattle.std.specs.Prelude.{◌≡◌, OnOk, codes};
+ghost use Rattle.std.specs.Fmt.{decimal};
 ghost use Rattle.link_show.specs.Sink.{Gains};
+ghost use Rattle.link_show.specs.Number.{beside};
 ghost use Rattle.link_base.specs.Forms.{bytes_in};
 ghost use Rattle.link_base.specs.Labels.{names_in};
 ghost use Rattle.link_show.specs.Text.{after, joined};
 ghost use Rattle.link_show.specs.Flags.{enum_text, flags_text, flag_words, last_word, unnamed};
 
 use crate::octets::write_after;
-use crate::pieces::{Piece, put_number, put_pieces};
+use crate::pieces::{put_hex, put_number, put_separator};
 use crate::sink::Sink;
 use link_base::rows::form::Width;
 use link_base::rows::label::{Name, name_of};
@@ -24,17 +26,19 @@ pub fn write_enum<W: Sink>(writer: &mut W, names: &[Name], number: u64) -> Resul
         (enum_text (names_in names.now) number)) }
 {
     match name_of(names, number) {
-        Some(name) => put_pieces(
-            writer,
-            &[
-                Piece::Text(name),
-                Piece::Text(" ("),
-                Piece::Number(number),
-                Piece::Text(")"),
-            ],
-        ),
+        Some(name) => write_named(writer, name, number),
         None => put_number(writer, number),
     }
+}
+
+/// Writes a name, and its number in parentheses.
+fn write_named<W: Sink>(writer: &mut W, name: &str, number: u64) -> Result<(), W::Error>
+    ensures { OnOk result (Gains (W.output writer.old) (W.output writer.new) (beside name.now (decimal number))) }
+{
+    writer.put(name.as_bytes())?;
+    writer.put(b" (")?;
+    put_number(writer, number)?;
+    writer.put(b")")
 }
 
 /// Writes a set of flags of this width: the names of the bits that are set, lowest bit first, joined by vertical bars,
@@ -103,6 +107,7 @@ fn write_last<W: Sink>(writer: &mut W, separator: &[u8], left: u64) -> Result<()
     if left == 0 {
         return Ok(());
     }
-    writer.put(separator)?;
-    put_pieces(writer, &[Piece::Text("0x"), Piece::Hex(left)])
+    put_separator(writer, separator)?;
+    writer.put(b"0x")?;
+    put_hex(writer, left)
 }

@@ -30,8 +30,21 @@ pub(crate) fn below<'a>(outer: &'a Indent<'a>) -> Indent<'a>
     Indent::Below(outer)
 }
 
-/// Writes an indent.
+/// Writes an indent. That of most lines is a few spaces.
+#[inline(always)]
 pub(crate) fn write_indent<W: Sink>(writer: &mut W, indent: Indent<'_>) -> Result<(), W::Error>
+    ensures { OnOk result (Gains (W.output writer.old) (W.output writer.new) (indent_text indent.entry)) }
+{
+    if let Indent::Text(text, spaces) = indent
+        && text.is_empty()
+    {
+        return write_spaces(writer, spaces);
+    }
+    write_parts(writer, indent)
+}
+
+/// Writes an indent that may have a text, or be longer than 255 spaces.
+fn write_parts<W: Sink>(writer: &mut W, indent: Indent<'_>) -> Result<(), W::Error>
     ensures { OnOk result (Gains (W.output writer.old) (W.output writer.new) (indent_text indent.entry)) }
 {
     match indent {
@@ -40,8 +53,8 @@ pub(crate) fn write_indent<W: Sink>(writer: &mut W, indent: Indent<'_>) -> Resul
             write_spaces(writer, spaces)
         }
         Indent::Below(outer) => {
-            write_indent(writer, *outer)?;
-            writer.put(b"  ")
+            write_parts(writer, *outer)?;
+            write_spaces(writer, 2)
         }
     }
 }
@@ -56,8 +69,15 @@ fn write_text<W: Sink>(writer: &mut W, text: &str) -> Result<(), W::Error>
     writer.put(text.as_bytes())
 }
 
+#[inline(always)]
 fn write_spaces<W: Sink>(writer: &mut W, count: u8) -> Result<(), W::Error>
     ensures { OnOk result (Gains (W.output writer.old) (W.output writer.new) (replicate count 32)) }
 {
-    writer.put(&SPACES[..count as usize])
+    match count {
+        2 => writer.put(b"  "),
+        4 => writer.put(b"    "),
+        6 => writer.put(b"      "),
+        8 => writer.put(b"        "),
+        _ => writer.put(&SPACES[..count as usize]),
+    }
 }

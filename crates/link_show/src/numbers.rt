@@ -9,7 +9,7 @@ ghost use Rattle.link_show.specs.Text.{joined};
 ghost use Rattle.link_base.specs.Forms.{bytes_in, size_in};
 ghost use Rattle.link_base.specs.Layout.{number_at, numbers_at, numbers_of};
 
-use crate::pieces::{Piece, put_number, put_pieces};
+use crate::pieces::{put_hex, put_number, put_separator, put_signed};
 use crate::sink::Sink;
 use link_base::FixedSize;
 use link_base::rows::form::{ArrayOf, Order, Width};
@@ -31,19 +31,16 @@ pub fn write_number<W: Sink>(
     match quantity {
         Quantity::Number => put_number(writer, number),
         Quantity::ClockTicks => write_ticks(writer, number),
-        Quantity::InterfaceIndex => put_pieces(
-            writer,
-            &[Piece::Text("ifindex "), Piece::Number(number)],
-        ),
-        Quantity::Mask => put_pieces(
-            writer,
-            &[
-                Piece::Number(number),
-                Piece::Text(" (0x"),
-                Piece::Hex(number),
-                Piece::Text(")"),
-            ],
-        ),
+        Quantity::InterfaceIndex => {
+            writer.put(b"ifindex ")?;
+            put_number(writer, number)
+        }
+        Quantity::Mask => {
+            put_number(writer, number)?;
+            writer.put(b" (0x")?;
+            put_hex(writer, number)?;
+            writer.put(b")")
+        }
         _ => {
             put_number(writer, number)?;
             writer.put(unit_of(quantity).as_bytes())
@@ -99,7 +96,7 @@ fn write_numbers<W: Sink>(
 {
     let mut separator = b"".as_slice();
     for i in 0..count {
-        writer.put(separator)?;
+        put_separator(writer, separator)?;
         write_item(writer, of, i, bytes)?;
         separator = b" ".as_slice();
     }
@@ -118,7 +115,7 @@ pub(crate) fn write_item<W: Sink>(
         (item_text of (number_at (size_in of) (index * size_in of) bytes.now))) }
 {
     match of {
-        ArrayOf::I32 => put_pieces(writer, &[Piece::Signed(signed_at(index, bytes))]),
+        ArrayOf::I32 => put_signed(writer, signed_at(index, bytes)),
         _ => put_number(writer, number_at(of.width(), index, bytes)),
     }
 }
@@ -145,19 +142,10 @@ pub fn number_at(width: Width, index: usize, bytes: &[u8]) -> u64
 fn write_ticks<W: Sink>(writer: &mut W, ticks: u64) -> Result<(), W::Error>
     ensures { OnOk result (Gains (W.output writer.old) (W.output writer.new) (number_text ClockTicks ticks)) }
 {
-    let seconds = ticks / 100;
-    let tenths = ticks / 10 % 10;
-    let hundredths = ticks % 10;
-    put_pieces(
-        writer,
-        &[
-            Piece::Number(ticks),
-            Piece::Text(" ("),
-            Piece::Number(seconds),
-            Piece::Text("."),
-            Piece::Number(tenths),
-            Piece::Number(hundredths),
-            Piece::Text(" s)"),
-        ],
-    )
+    let tenths = b'0' + (ticks / 10 % 10) as u8;
+    let hundredths = b'0' + (ticks % 10) as u8;
+    put_number(writer, ticks)?;
+    writer.put(b" (")?;
+    put_number(writer, ticks / 100)?;
+    writer.put(&[b'.', tenths, hundredths, b' ', b's', b')'])
 }

@@ -4,7 +4,7 @@ ghost use Rattle.std.specs.Prelude.{◌++◌, ◌≤◌, drop, codes, OnOk};
 ghost use Rattle.link_show.specs.Sink.{Gains};
 ghost use Rattle.link_show.specs.Octets.{byte_text, hex_text, address_text};
 
-use crate::pieces::hex_digit;
+use crate::pieces::{hex_digit, put_separator};
 use crate::sink::Sink;
 
 /// Writes a hardware address of any length, such as `02:00:00:00:00:01`; `(empty)` if it has no bytes.
@@ -27,12 +27,15 @@ pub fn write_address<W: Sink>(writer: &mut W, address: &[u8]) -> Result<(), W::E
 }
 
 /// Writes a byte after a colon, which is left out if `skipped` is 1.
+#[inline(always)]
 fn write_byte_after<W: Sink>(writer: &mut W, skipped: usize, byte: u8) -> Result<(), W::Error>
     requires { skipped ≤ 1 }
     ensures { OnOk result (Gains (W.output writer.old) (W.output writer.new) (drop skipped (codes ":") ++ byte_text byte)) }
 {
-    let text = [b':', hex_digit(byte / 16), hex_digit(byte % 16)];
-    writer.put(&text[skipped..])
+    if skipped == 1 {
+        return write_byte(writer, byte);
+    }
+    writer.put(&[b':', hex_digit(byte / 16), hex_digit(byte % 16)])
 }
 
 /// Writes bytes in hexadecimal, two digits each.
@@ -63,6 +66,6 @@ pub(crate) fn write_after<W: Sink>(
 ) -> Result<(), W::Error>
     ensures { OnOk result (Gains (W.output writer.old) (W.output writer.new) (separator.now ++ text.now)) }
 {
-    writer.put(separator)?;
+    put_separator(writer, separator)?;
     writer.put(text)
 }

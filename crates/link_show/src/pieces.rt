@@ -1,7 +1,7 @@
 //! Texts in pieces: words and numbers.
 
 ghost use Rattle.std.specs.Prelude.{◌≡◌, ◌<◌, ◌≤◌, false, length, drop, OnOk};
-ghost use Rattle.std.specs.Fmt.{decimal, digit_glyph};
+ghost use Rattle.std.specs.Fmt.{decimal, digit_glyph, signed_decimal};
 ghost use Rattle.link_show.specs.Sink.{Gains};
 ghost use Rattle.link_show.specs.Text.{hex};
 ghost use Rattle.link_show.specs.Pieces.{piece_text, pieces_text};
@@ -40,20 +40,54 @@ fn put_piece<W: Sink>(writer: &mut W, piece: Piece<'_>) -> Result<(), W::Error>
     match piece {
         Piece::Text(text) => writer.put(text.as_bytes()),
         Piece::Number(number) => put_number(writer, number),
-        Piece::Signed(number) => writer.put(Buffer::new().format(number).as_bytes()),
+        Piece::Signed(number) => put_signed(writer, number),
         Piece::Hex(number) => put_hex(writer, number),
     }
 }
 
-/// Writes a number in decimal.
+/// Writes a number in decimal. Most have one digit.
+#[inline(always)]
 pub(crate) fn put_number<W: Sink>(writer: &mut W, number: u64) -> Result<(), W::Error>
+    ensures { OnOk result (Gains (W.output writer.old) (W.output writer.new) (decimal number)) }
+{
+    if number < 10 {
+        return writer.put(&[b'0' + number as u8]);
+    }
+    put_digits(writer, number)
+}
+
+#[inline(never)]
+fn put_digits<W: Sink>(writer: &mut W, number: u64) -> Result<(), W::Error>
     ensures { OnOk result (Gains (W.output writer.old) (W.output writer.new) (decimal number)) }
 {
     writer.put(Buffer::new().format(number).as_bytes())
 }
 
+/// Writes a number that may be negative, in decimal.
+#[inline]
+pub(crate) fn put_signed<W: Sink>(writer: &mut W, number: i32) -> Result<(), W::Error>
+    ensures { OnOk result (Gains (W.output writer.old) (W.output writer.new) (signed_decimal number)) }
+{
+    if number >= 0 {
+        return put_number(writer, number as u64);
+    }
+    writer.put(Buffer::new().format(number).as_bytes())
+}
+
+/// Writes a separator, which is mostly empty or one byte.
+#[inline(always)]
+pub(crate) fn put_separator<W: Sink>(writer: &mut W, separator: &[u8]) -> Result<(), W::Error>
+    ensures { OnOk result (Gains (W.output writer.old) (W.output writer.new) separator.now) }
+{
+    match separator {
+        [] => Ok(()),
+        [byte] => writer.put(&[*byte]),
+        _ => writer.put(separator),
+    }
+}
+
 /// Writes a number in hexadecimal.
-fn put_hex<W: Sink>(writer: &mut W, number: u64) -> Result<(), W::Error>
+pub(crate) fn put_hex<W: Sink>(writer: &mut W, number: u64) -> Result<(), W::Error>
     ensures { OnOk result (Gains (W.output writer.old) (W.output writer.new) (hex number)) }
 {
     let mut digits = [0; 64];

@@ -12,6 +12,7 @@ ghost use Rattle.link_show.specs.Structs.{struct_text, bridge_id_text, limits_te
 use crate::flags::{write_enum, write_flags};
 use crate::numbers::write_number;
 use crate::octets::{write_address, write_hex};
+use crate::pieces::put_separator;
 use crate::quoted::write_quoted;
 use crate::sink::Sink;
 use link_base::rows::fields::Field;
@@ -87,7 +88,7 @@ pub(crate) fn write_fields<W: Sink>(
     }
     let mut separator = b"".as_slice();
     for field in fields {
-        writer.put(separator)?;
+        put_separator(writer, separator)?;
         write_field(writer, field, start, names, bytes)?;
         separator = b" ".as_slice();
     }

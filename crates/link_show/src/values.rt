@@ -17,7 +17,7 @@ use crate::flags::write_flags;
 use crate::ip::{write_ipv4, write_ipv6};
 use crate::numbers::{number_at, write_number};
 use crate::octets::{write_address, write_hex};
-use crate::pieces::{Piece, put_pieces};
+use crate::pieces::{Piece, put_pieces, put_signed};
 use crate::quoted::write_quoted;
 use crate::sink::Sink;
 use crate::structs::{
@@ -98,7 +98,7 @@ pub fn write_content<W: Sink>(
             role,
             ..
         } => write_role(writer, label.names, label.quantity, role, width, number),
-        Content::Signed(number) => put_pieces(writer, &[Piece::Signed(number)]),
+        Content::Signed(number) => put_signed(writer, number),
         Content::LowFlags(bits) => { write_flags(writer, label.names, Width::One, bits.into()) }
         Content::MaskedFlags { flags, mask } => {
             let bytes = bytes_of_two(flags, mask);

@@ -1,8 +1,10 @@
 use Rattle.std.proofs.Common.{◌≡◌, ◌++◌, ◌+◌, ◌*◌, ◌∙◌, refl, ap, sym, subst, codes, arith}
 use Rattle.link_base.specs.Forms.{bytes_in, size_in}
-use Rattle.link_base.specs.Labels.{names_in}
+use Rattle.link_base.specs.Labels.{names_in, name_in}
 use Rattle.link_base.specs.Layout.{number_at, numbers_at}
-use Rattle.link_show.specs.Counters.{counter_words}
+use Rattle.link_show.specs.Counters.{place_text, counter_words}
+use Rattle.link_show.specs.Number.{item_text}
+use Rattle.link_show.specs.Sink.{Gains}
 use Rattle.link_show.specs.Gained.{then_all}
 use Rattle.link_show.specs.Text.{after, joined}
 use Rattle.link_show.proofs.Places.{words_at, place_more, place_zero, place_none}
@@ -31,15 +33,19 @@ loop-i-preserved g c =
             (same_rest old (output c.loop-i.writer) whole _ _ c.loop-i.invariant.0
             (ap (after c.loop-i.separator.now (codes " ")) (place_zero names a n i zeros p number c.loop-i-test.true read w.if-number-eq0.true))))),
         omega (arith, w.zeros-is, c.loop-i.invariant.1),
+        λ k le. ap (λ s. name_in (names_in s.now) k) w.left-is ∙ c.loop-i.invariant.2 k (omega (arith, le)),
       )
       | else-number-eq0+in_ok-write_counter w ↦ (
         subst (λ k. WritesFront old (output k) whole (after c.if-number-eq0.separator.now (codes " ") (words_at names a n (i + 1) c.if-number-eq0.zeros p))) (sym w.writer-is)
             (subst (λ z. WritesFront old (output w.write_counter.new.writer) whole (after c.if-number-eq0.separator.now (codes " ") (words_at names a n (i + 1) z p))) (sym w.zeros-is)
             (next_written old (output c.loop-i.writer) (output w.write_counter.new.writer) whole c.loop-i.separator.now c.if-number-eq0.separator.now (codes " ") _ _ _ c.loop-i.invariant.0
             (place_more names a n i zeros p (number_at (size_in a) (i * size_in a) p) c.loop-i-test.true refl (λ none. w.if-number-eq0.false (read ∙ none)))
-            w.in_ok-write_counter.ensures
+            (subst (λ name. Gains (output c.loop-i.writer) (output w.write_counter.new.writer)
+            (c.loop-i.separator.now ++ (place_text name i ++ item_text a (number_at (size_in a) (i * size_in a) p))))
+            (w.names_from-left.ensures i (omega arith) ∙ c.loop-i.invariant.2 i (omega arith)) w.in_ok-write_counter.ensures)
             (ap (λ b. b.now) w.separator-is ∙ w.as_slice-separator-else-number-eq0.ensures))),
         omega (arith, w.zeros-is, c.loop-i.invariant.1),
+        λ k le. ap (λ s. name_in (names_in s.now) k) w.left-is ∙ w.names_from-left.ensures k (omega (arith, le)) ∙ c.loop-i.invariant.2 k (omega (arith, le)),
       )
     ]
 

@@ -15,4 +15,4 @@ pub loop-field-preserved : goal.loop-field-preserved
 loop-field-preserved g c =
     next_written _ _ _ _ _ _ (codes " ") _ _ _ c.loop-field.invariant
     (at_drop_more (λ ys. map (field_text c.args.start (names_in c.args.names.now) c.args.bytes.now) (field_rows ys)) c.args.fields.now c.loop-field.field-index _ c.loop-field-test.true)
-    (gains_more _ _ _ _ _ c.in_ok-put.ensures c.in_ok-write_field.ensures) c.as_slice-separator-in-loop-field.ensures
+    (gains_more _ _ _ _ _ c.in_ok-put_separator.ensures c.in_ok-write_field.ensures) c.as_slice-separator-in-loop-field.ensures
