@@ -2,7 +2,7 @@
 use Rattle.std.proofs.Common.{take, drop, ◌≡◌, ℕ, zero, suc, ◌+◌, ◌-◌, ◌≤◌, min, List, [], ◌∷◌, ◌++◌, length, Result, Ok, Err, OnOk, refl, sym, ap, subst, ◌∙◌, arith, length-append, inl, inr}
 use Rattle.std.proofs.lemmas.Bool.{cases_lt}
 use Rattle.std.proofs.KnownBytes.{Appends-nil, Appends-trans}
-use Rattle.link_show.specs.Sink.{Output, Whole, Front, Gains, overlaid, Counts, greatest}
+use Rattle.link_show.specs.Sink.{Output, Whole, Through, Front, Gains, overlaid, Counts, greatest}
 
 -- no text changes nothing
 pub overlaid_nothing : (n : ℕ) (a : List ℕ) → overlaid n [] a ≡ a
@@ -51,10 +51,19 @@ overlaid_counted n m s t a short e =
 -- one text after another
 pub gains_more : (old mid new : Output) (s t : List ℕ) → Gains old mid s → Gains mid new t → Gains old new (s ++ t)
 gains_more (Whole a) (Whole b) (Whole c) s t p q = Appends-trans a b c s t p q
+gains_more (Whole a) (Whole b) (Through k c) s t p q = absurd q
 gains_more (Whole a) (Whole b) (Front c n) s t p q = absurd q
+gains_more (Whole a) (Through i b) c s t p q = absurd p
 gains_more (Whole a) (Front b m) c s t p q = absurd p
+gains_more (Through i a) (Whole b) c s t p q = absurd p
+gains_more (Through i a) (Through j b) (Whole c) s t p q = absurd q
+gains_more (Through i a) (Through j b) (Through k c) s t p q = (q.0 ∙ p.0, Appends-trans a b c s t p.1 q.1)
+gains_more (Through i a) (Through j b) (Front c n) s t p q = absurd q
+gains_more (Through i a) (Front b m) c s t p q = absurd p
 gains_more (Front a n) (Whole b) c s t p q = absurd p
+gains_more (Front a n) (Through i b) c s t p q = absurd p
 gains_more (Front a n) (Front b m) (Whole c) s t p q = absurd q
+gains_more (Front a n) (Front b m) (Through k c) s t p q = absurd q
 gains_more (Front a n) (Front b m) (Front c k) s t p q =
     λ short.
     let first = p short in
@@ -76,6 +85,7 @@ then_all (Err x) old mid new s t text p q e = q
 -- nothing was written
 pub gains_nothing : (w : Output) → Gains w w []
 gains_nothing (Whole a) = Appends-nil a
+gains_nothing (Through i a) = (refl, Appends-nil a)
 gains_nothing (Front a n) = λ short. (refl, sym (overlaid_nothing n a.now), omega arith)
 
 -- the parts that a copy leaves in a buffer

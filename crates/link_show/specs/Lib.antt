@@ -17,4 +17,5 @@ pub mod MessageNames
 pub mod Message
 pub mod Pieces
 pub mod Sink
+pub mod Page
 pub mod Gained

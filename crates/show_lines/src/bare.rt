@@ -12,7 +12,7 @@ ghost use Rattle.show_lines.specs.Progress.{WritesMessages};
 use crate::arguments::{Format, Options};
 use crate::messages::push_messages;
 use crate::running::Stop;
-use link_show::{LineOptions, write_messages};
+use link_show::{LineOptions, print_messages};
 use std::alloc::Global;
 use std::io::Write;
 
@@ -43,7 +43,7 @@ fn write_plain<W: Write>(lines: LineOptions, bytes: &[u8], writer: &mut W) -> Re
         (Whole (W.contents writer.old)) (Whole (W.contents writer.new))) }
     ensures stopped { OnStop result (Keeps (W.contents writer.old) (W.contents writer.new)) }
 {
-    match write_messages(writer, bytes, lines) {
+    match print_messages(writer, bytes, lines) {
         Ok(well) => Ok(well),
         Err(_) => Err(Stop::Writer),
     }

@@ -12,7 +12,7 @@ use crate::asking::Asked;
 use crate::repeating::write_repeated;
 use crate::running::Stop;
 use link_messages::Payload;
-use link_show::{LineOptions, write_family_list, write_messages, write_verdict};
+use link_show::{LineOptions, print_messages, write_family_list, write_verdict};
 use std::io;
 use std::io::{ErrorKind, Write};
 
@@ -61,7 +61,7 @@ fn write_asked<W: Write>(
         (Whole (W.contents writer.old)) (Whole (W.contents writer.new))) }
 {
     match asked {
-        Asked::Messages => write_messages(writer, bytes, lines),
+        Asked::Messages => print_messages(writer, bytes, lines),
         Asked::Attributes(family) => {
             write_family_list(writer, family, lines, "  ", Payload { at: 0, bytes })
         }

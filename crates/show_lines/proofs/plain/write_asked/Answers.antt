@@ -1,7 +1,7 @@
 use Rattle.show_lines.proofs.plain.write_asked.Goals as goal
 
 pub returns-in-Messages : goal.returns-in-Messages
-returns-in-Messages g c = rw c.in-Messages.is c.write_messages.ensures
+returns-in-Messages g c = rw c.in-Messages.is c.print_messages.ensures
 
 pub returns-in-Attributes : goal.returns-in-Attributes
 returns-in-Attributes g c = rw c.in-Attributes.is c.write_family_list.ensures
