@@ -99,7 +99,7 @@ pub fn number_form(of: ArrayOf) -> Form
 
 /// Returns the fields of a number of an array.
 #[inline(always)]
-pub(crate) fn array_number(of: ArrayOf) -> Fields
+pub fn array_number(of: ArrayOf) -> Fields
     ensures { result ≡ array_number of }
 {
     row_fields(number_form(of))
@@ -144,7 +144,7 @@ fn look_fields(look: Look) -> Fields
 
 /// Returns the fields of an IP address of `size` bytes.
 #[inline(always)]
-pub(crate) fn ip_address(size: usize) -> Fields
+pub fn ip_address(size: usize) -> Fields
     ensures { result ≡ ip_address size }
 {
     let form = if size == 4 { forms::IPV4 } else { forms::IPV6 };
@@ -185,7 +185,7 @@ fn passed(form: u8, size: Option<usize>) -> Fields
 
 /// Returns the fields for attributes of a type with this label; for an unknown type, if there is none.
 #[inline(always)]
-pub(crate) fn fields_in(label: Option<KindLabel>) -> Fields
+pub fn fields_in(label: Option<KindLabel>) -> Fields
     ensures { result ≡ fields_in (option_map (λ x. x.form) label) }
 {
     match label {

@@ -21,8 +21,8 @@ mod name;
 pub mod octets;
 pub mod payload;
 mod row;
-mod spelling;
-mod storing;
+pub mod spelling;
+pub mod storing;
 mod writing;
 
 pub use counting::count;

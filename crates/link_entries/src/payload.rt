@@ -348,7 +348,7 @@ fn front(octets: &[u8; 16], length: usize) -> &[u8]
 /// Stores bytes as a payload, with its padding. Returns their number.
 #[tactic(auto, using(crate::proofs::StoredBytes::stored_padded))]
 #[inline(always)]
-fn put_bytes(bytes: &[u8], room: &mut [u8]) -> usize
+pub fn put_bytes(bytes: &[u8], room: &mut [u8]) -> usize
     requires { length bytes.now ≤ max_payload }
     ensures size { result ≡ length bytes.now }
     ensures stored { StoresAt 4 (padded bytes.now) room.old room.new }
@@ -396,7 +396,7 @@ fn has_size(size: Option<usize>, entry: &Entry) -> bool
 /// # Errors
 ///
 /// `BadOctets` if they are not `size`, or not within `octets`; `TooLong` if they do not fit in an attribute.
-fn passed<'a>(size: Option<usize>, entry: &Entry, octets: &'a [u8]) -> Result<&'a [u8], Misfit>
+pub fn passed<'a>(size: Option<usize>, entry: &Entry, octets: &'a [u8]) -> Result<&'a [u8], Misfit>
     ensures value { slice_told result ≡ passed size entry.now octets.now }
     ensures short { IfOk result (λ p. length p.now ≤ max_payload) }
     ensures size { IfOk result (λ p. IfSome size (λ n. length p.now ≡ n)) }

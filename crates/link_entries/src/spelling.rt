@@ -219,7 +219,7 @@ fn spell_element<F: Attribute>(
 ///
 /// `BadForm` if the entry has not the form of the array's numbers, `BadNumber` if they are too narrow.
 #[inline(always)]
-fn spell_number(of: ArrayOf, entry: &Entry, room: &mut [u8]) -> Result<usize, Misfit>
+pub fn spell_number(of: ArrayOf, entry: &Entry, room: &mut [u8]) -> Result<usize, Misfit>
     ensures size { result ≡ sized (payload_of (array_number of) entry.now []) }
     ensures stored { StoresBytes (payload_of (array_number of) entry.now []) room.old room.new }
 {
@@ -306,7 +306,7 @@ fn fields_of<F: Attribute>(list: Option<u16>, kind: u16) -> Fields
 
 /// Returns the `nla_type` of an attribute or an element of type `kind`, as two bytes of a number.
 #[inline(always)]
-fn field_of(own: Fields, kind: u16, entry: &Entry) -> u16
+pub fn field_of(own: Fields, kind: u16, entry: &Entry) -> u16
     ensures { result ≡ field_of own kind entry.now % 65536 }
 {
     match own {

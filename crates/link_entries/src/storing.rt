@@ -6,7 +6,7 @@ ghost use Rattle.link_entries.specs.Stored.{StoresAt, header};
 
 /// Stores bytes at an offset, if there is room for all of them.
 #[inline(always)]
-pub(crate) fn store(room: &mut [u8], at: usize, bytes: &[u8])
+pub fn store(room: &mut [u8], at: usize, bytes: &[u8])
     requires { at + length bytes.now < 2 ^ 64 }
     ensures { StoresAt at bytes.now room.old room.new }
 {
@@ -18,7 +18,7 @@ pub(crate) fn store(room: &mut [u8], at: usize, bytes: &[u8])
 
 /// Stores the zeros after a payload of `size` bytes that starts at an offset.
 #[inline(always)]
-pub(crate) fn store_padding(room: &mut [u8], at: usize, size: usize)
+pub fn store_padding(room: &mut [u8], at: usize, size: usize)
     requires { at + size + 3 < 2 ^ 64 }
     ensures { StoresAt (at + size) (replicate (pad (4 + size) - (4 + size)) 0) room.old room.new }
 {
@@ -32,7 +32,7 @@ pub(crate) fn store_padding(room: &mut [u8], at: usize, size: usize)
 
 /// Stores the header of an attribute whose payload has `size` bytes. Returns the length of the attribute.
 #[inline(always)]
-pub(crate) fn store_header(room: &mut [u8], kind_field: u16, size: usize) -> usize
+pub fn store_header(room: &mut [u8], kind_field: u16, size: usize) -> usize
     requires { size ≤ max_payload }
     ensures length { result ≡ pad (4 + size) }
     ensures stored { StoresAt 0 (header kind_field size) room.old room.new }
