@@ -1,4 +1,4 @@
-pub mod Ipvlan
+pub mod Ipoib
 pub mod Printing
 pub mod Reading
 pub mod Writing

@@ -5,7 +5,7 @@
 mod building;
 mod changing;
 mod faults;
-mod ipvlan;
+mod ipoib;
 mod normalising;
 mod printing;
 mod reading;
@@ -14,7 +14,7 @@ mod reading;
 pub use reading::{forward_delay, last_forward_delay, monitoring};
 
 // Read the lists of an attribute set of your own.
-pub use ipvlan::{InfoIpvlan, ipvlan_mode};
+pub use ipoib::{InfoIpoib, ipoib_mode};
 
 // Find the first error of a list.
 pub use faults::{first_fault, read_front};

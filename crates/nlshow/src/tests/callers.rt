@@ -7,8 +7,8 @@ use netlink_packet_route::link::{
     read_list, rewrite_as, rewrite_streaming_as, rewrite_to_slice_as,
 };
 use uses::{
-    BufferError, InfoIpvlan, bond_request, bridge_request, canonical, first_fault, forward_delay,
-    ipvlan_mode, last_forward_delay, monitoring, normalised, print_list, read_front, vlan_request,
+    BufferError, InfoIpoib, bond_request, bridge_request, canonical, first_fault, forward_delay,
+    ipoib_mode, last_forward_delay, monitoring, normalised, print_list, read_front, vlan_request,
     with_attribute, with_vlan_id, write_into,
 };
 
@@ -27,9 +27,9 @@ const BRIDGE: [u8; 24] = [
     8, 0, 1, 0, 0xDC, 5, 0, 0, 5, 0, 7, 0, 1, 0, 0, 0, 8, 0, 5, 0, 1, 0, 0, 0,
 ];
 
-/// The mode `IPVLAN_MODE_L3S` of an ipvlan device (`IFLA_IPVLAN_MODE`), and the flag `IPVLAN_F_PRIVATE`
-/// (`IFLA_IPVLAN_FLAGS`).
-const IPVLAN: [u8; 16] = [6, 0, 1, 0, 2, 0, 0, 0, 6, 0, 2, 0, 1, 0, 0, 0];
+/// The partition key 0x8001 of an IPoIB device (`IFLA_IPOIB_PKEY`), and the mode `IPOIB_MODE_CONNECTED`
+/// (`IFLA_IPOIB_MODE`).
+const IPOIB: [u8; 16] = [6, 0, 1, 0, 1, 0x80, 0, 0, 6, 0, 2, 0, 1, 0, 0, 0];
 
 #[test]
 fn reading(rt: HostRuntime) {
@@ -74,15 +74,15 @@ fn reading(rt: HostRuntime) {
 #[test]
 fn own_set(rt: HostRuntime) {
     let alloc = rt.alloc();
-    assert!(rt; matches!(ipvlan_mode(&IPVLAN), Ok(Some(2))));
-    assert!(rt; matches!(ipvlan_mode(&IPVLAN[8..]), Ok(None)));
+    assert!(rt; matches!(ipoib_mode(&IPOIB), Ok(Some(1))));
+    assert!(rt; matches!(ipoib_mode(&IPOIB[..8]), Ok(None)));
     let short = DecodeFault::Value {
         kind: 2,
         cause: Cause::WrongLength { want: 2, got: 1 },
     };
     let bad = [6, 0, 1, 0, 2, 0, 0, 0, 5, 0, 2, 0, 1];
     assert!(rt;
-        ipvlan_mode(&bad).err()
+        ipoib_mode(&bad).err()
             == Some(ListFault {
                 at: 8,
                 fault: short
@@ -90,31 +90,31 @@ fn own_set(rt: HostRuntime) {
     );
     assert!(rt;
         matches!(
-            read_list(alloc, &IPVLAN),
-            Ok(values) if matches!(values.as_slice(), [InfoIpvlan::Mode(2), InfoIpvlan::Flags(1)])
+            read_list(alloc, &IPOIB),
+            Ok(values) if matches!(values.as_slice(), [InfoIpoib::Pkey(0x8001), InfoIpoib::Mode(1)])
         )
     );
     // The padding at the end is missing in the first input, and not in the output.
-    let list = &IPVLAN[..14];
+    let list = &IPOIB[..14];
     assert!(rt;
-        matches!(rewrite_as::<InfoIpvlan>(alloc, list), Ok(out) if out.as_slice() == IPVLAN.as_slice())
+        matches!(rewrite_as::<InfoIpoib>(alloc, list), Ok(out) if out.as_slice() == IPOIB.as_slice())
     );
     let mut buffer = [0xFF; 16];
     assert!(rt;
         matches!(
-            rewrite_streaming_as::<InfoIpvlan>(alloc, list, &mut buffer),
+            rewrite_streaming_as::<InfoIpoib>(alloc, list, &mut buffer),
             Ok(16)
         )
     );
-    assert!(rt; buffer == IPVLAN);
+    assert!(rt; buffer == IPOIB);
     buffer = [0xFF; 16];
     assert!(rt;
         matches!(
-            rewrite_to_slice_as::<InfoIpvlan>(alloc, list, &mut buffer),
+            rewrite_to_slice_as::<InfoIpoib>(alloc, list, &mut buffer),
             Ok(Some(16))
         )
     );
-    assert!(rt; buffer == IPVLAN);
+    assert!(rt; buffer == IPOIB);
 }
 
 #[test]

@@ -1,5 +1,5 @@
 use Rattle.std.proofs.Common.{rules}
-use Rattle.uses.proofs.ipvlan.ipvlan_mode.Goals as goal
+use Rattle.uses.proofs.ipoib.ipoib_mode.Goals as goal
 
 pub returns-in-Some-clause-mode : goal.returns-in-Some-clause-mode
 returns-in-Some-clause-mode c = search rules

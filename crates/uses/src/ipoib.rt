@@ -1,10 +1,10 @@
-//! An attribute set that the library does not have: ipvlan device attributes (`IFLA_INFO_DATA` of a link whose
-//! `IFLA_INFO_KIND` is `ipvlan`). All calls that take the enum of the attributes as a type accept it.
+//! An attribute set that the library does not have: IPoIB device attributes (`IFLA_INFO_DATA` of a link whose
+//! `IFLA_INFO_KIND` is `ipoib`). All calls that take the enum of the attributes as a type accept it.
 
 ghost use Rattle.std.specs.Prelude.{IfOk, IfErr};
 ghost use Rattle.netlink_packet_route.specs.Table.{Gives};
 ghost use Rattle.netlink_packet_route.specs.Wire.{FirstFault};
-ghost use Rattle.uses.specs.Ipvlan.{ipvlan_table, ipvlan_means};
+ghost use Rattle.uses.specs.Ipoib.{ipoib_table, ipoib_means};
 ghost use Rattle.uses.specs.Reading.{IsLastNumber};
 
 use netlink_packet_route::implementing::by_rows::{self, AttributeRows, RowVisitor};
@@ -16,41 +16,44 @@ use netlink_packet_route::link::ListFault;
 use netlink_packet_route::views::view_list;
 use std::alloc::{AllocError, Global};
 
-/// An ipvlan device attribute (`IFLA_IPVLAN_*`, `include/uapi/linux/if_link.h`).
+/// An IPoIB device attribute (`IFLA_IPOIB_*`, `include/uapi/linux/if_link.h`).
 #[derive(Debug, PartialEq, Eq, Drop)]
-pub enum InfoIpvlan {
-    /// Mode: `IPVLAN_MODE_L2` is 0, `IPVLAN_MODE_L3` 1, `IPVLAN_MODE_L3S` 2 (`IFLA_IPVLAN_MODE`, `u16`).
+pub enum InfoIpoib {
+    /// Partition key (`IFLA_IPOIB_PKEY`, `u16`).
+    Pkey(u16),
+    /// Mode: `IPOIB_MODE_DATAGRAM` is 0, `IPOIB_MODE_CONNECTED` 1 (`IFLA_IPOIB_MODE`, `u16`).
     Mode(u16),
-    /// Flags: `IPVLAN_F_PRIVATE` is 1, `IPVLAN_F_VEPA` 2 (`IFLA_IPVLAN_FLAGS`, `u16`).
-    Flags(u16),
+    /// Whether user space controls the multicast groups: 0 or 1 (`IFLA_IPOIB_UMCAST`, `u16`).
+    Umcast(u16),
     /// An attribute of any other type.
     Other(DefaultNla),
 }
 
-/// The attribute types (`IFLA_IPVLAN_*`), the variant of each, and the class of its payload.
+/// The attribute types (`IFLA_IPOIB_*`), the variant of each, and the class of its payload.
 macro_rules! rows {
     ($call:ident($($argument:tt)*)) => {
         link_base::by_rows! { $call($($argument)*)
-            "IFLA_IPVLAN_";
-            IFLA_IPVLAN_MODE = 1, Mode: u16;
-            IFLA_IPVLAN_FLAGS = 2, Flags: u16 as Mask;
+            "IFLA_IPOIB_";
+            IFLA_IPOIB_PKEY = 1, Pkey: u16 as Mask;
+            IFLA_IPOIB_MODE = 2, Mode: u16;
+            IFLA_IPOIB_UMCAST = 3, Umcast: u16;
         }
     };
 }
 
-impl TryClone for InfoIpvlan {
+impl TryClone for InfoIpoib {
     fn try_clone(&self, alloc: Global) -> Result<Self, AllocError> {
         rows!(clone(self, alloc))
     }
 }
 
-impl Meaning for InfoIpvlan {
-    ghost table = { ipvlan_table };
+impl Meaning for InfoIpoib {
+    ghost table = { ipoib_table };
 
-    ghost means = { ipvlan_means };
+    ghost means = { ipoib_means };
 }
 
-impl Nla for InfoIpvlan {
+impl Nla for InfoIpoib {
     fn kind(&self) -> u16 {
         rows!(kind(self))
     }
@@ -64,7 +67,7 @@ impl Nla for InfoIpvlan {
     }
 }
 
-impl Parseable for InfoIpvlan {
+impl Parseable for InfoIpoib {
     fn parse_payload<P: Place<Self>>(
         alloc: Global,
         buffer: &NlaBuffer<'_>,
@@ -74,18 +77,18 @@ impl Parseable for InfoIpvlan {
     }
 }
 
-impl AttributeRows for InfoIpvlan {
+impl AttributeRows for InfoIpoib {
     #[inline(always)]
     fn visit_row<V: RowVisitor<Self>>(kind: u16, visitor: V) -> V::Output {
         rows!(visit(kind, visitor))
     }
 }
 
-impl Attribute for InfoIpvlan {
+impl Attribute for InfoIpoib {
     ghost use Rattle.std.specs.Prelude.{refl};
     ghost use Rattle.link_base.proofs.TableLaws.{lawful};
     ghost use Rattle.netlink_packet_route.specs.Equality.{of_cases, thorough_fields};
-    ghost use Rattle.uses.specs.contracts.ipvlan.InfoIpvlan.{enum};
+    ghost use Rattle.uses.specs.contracts.ipoib.InfoIpoib.{enum};
 
     fn check(buffer: &NlaBuffer<'_>) -> Result<(), DecodeFault> {
         by_rows::check::<Self>(buffer)
@@ -100,27 +103,27 @@ impl Attribute for InfoIpvlan {
         by_rows::canonical::<Self>(buffer)
     }
 
-    ghost lawful = { lawful ipvlan_table };
+    ghost lawful = { lawful ipoib_table };
 
     ghost well_formed = { refl };
 
     ghost thorough = { of_cases enum _ _ (Prim.search (thorough_fields)) };
 }
 
-const IFLA_IPVLAN_MODE: u16 = 1;
+const IFLA_IPOIB_MODE: u16 = 2;
 
-/// Returns the mode of an ipvlan device, as in [`InfoIpvlan::Mode`], or `None` if the list has none. If the mode occurs
+/// Returns the mode of an IPoIB device, as in [`InfoIpoib::Mode`], or `None` if the list has none. If the mode occurs
 /// more than once, this is the last, the one that Linux takes. Does not allocate.
 ///
 /// # Errors
 ///
 /// The first error in the list, with the byte offset of its attribute.
-pub fn ipvlan_mode(bytes: &[u8]) -> Result<Option<u16>, ListFault>
-    ensures mode { IfOk result (IsLastNumber ipvlan_table bytes.now 1) }
-    ensures fault { IfErr result (λ error. FirstFault (Gives ipvlan_table) bytes.now error.at error.fault) }
+pub fn ipoib_mode(bytes: &[u8]) -> Result<Option<u16>, ListFault>
+    ensures mode { IfOk result (IsLastNumber ipoib_table bytes.now 2) }
+    ensures fault { IfErr result (λ error. FirstFault (Gives ipoib_table) bytes.now error.at error.fault) }
 {
-    let view = view_list::<InfoIpvlan>(bytes)?;
-    match view.find(IFLA_IPVLAN_MODE) {
+    let view = view_list::<InfoIpoib>(bytes)?;
+    match view.find(IFLA_IPOIB_MODE) {
         Some(mode) => Ok(mode.as_u16()),
         None => Ok(None),
     }
