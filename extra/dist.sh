@@ -139,7 +139,7 @@ cd "$room/$name/licences"
 licences >"$room/list"
 mv "$room/list" CRATES
 cd "$top/bindings/rust"
-cp -R --parents Cargo.toml LICENSE README.md build.rs src examples/bridge.rs examples/links.rs "$room/$name/rust"
+cp -R --parents Cargo.toml LICENSE README.md build.rs src examples/bridge.rs examples/links.rs examples/typed.rs "$room/$name/rust"
 install -D -m 644 -t "$room/$name/rust/include" "$top/crates/nlroute_ffi/include/nlroute_kinds.h"
 cd "$top/bindings/python"
 cp -R --parents LICENSE README.md backend.py pyproject.toml nlroute/*.py nlroute/py.typed "$room/$name/python"
