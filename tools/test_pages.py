@@ -71,7 +71,7 @@ src/lib.rt   len_of: IsPair, IsPairPair, NAME.rt, ./made/by_rt.rt
 ```
 """
 CALLING = "# Calling\n\n## What *is* a `Pair`?\n\n## What is a pair\n\n[Back](../README.md), [down](../crates/pairs).\n"
-LEFT = 1830 - len(CALLING.split())
+LEFT = 1850 - len(CALLING.split())
 CLAIMS = """\
 # Claims
 
@@ -239,7 +239,7 @@ CASES = [
     *(("README.md", "The other names", it, f"23: '{it}' has no mark `<!-- count: NAME -->` after the number")
       for it in ("8 tests", "275 mutants", "1 must-fail edit")),
     ("docs/rattle.md", CALLING, CALLING + LEFT * "word "),
-    ("docs/rattle.md", CALLING, CALLING + (LEFT + 1) * "word ", "docs/rattle.md:1: the page has 1,831 words, and its budget is 1,830"),
+    ("docs/rattle.md", CALLING, CALLING + (LEFT + 1) * "word ", "docs/rattle.md:1: the page has 1,851 words, and its budget is 1,850"),
     ("docs/rattle.md", CALLING, CALLING + LEFT * "word " + "\n\n```text\nword\n```\n\n<!-- word -->\n"),
     ("extra/README.md", "", "word " * 601, "extra/README.md:1: the page has 601 words, and its budget is 600"),
     ("docs/NEW.md", "", "# New\n", "docs/NEW.md:1: the page has no budget in tools/pages.py"),

@@ -1,0 +1,12 @@
+pub mod Readers
+pub mod Rows
+pub mod Spellings
+pub mod StoredValues
+pub mod Following
+pub mod Steps
+pub mod HeadBytes
+pub mod Requests
+pub mod Packets
+pub mod Messages
+pub mod Attributes
+pub mod Plain

@@ -1,0 +1,129 @@
+-- A request, from what its values spell.
+use borrow.Rule.Slice.PartMut.{put_mid}
+use Rattle.std.proofs.Common.{◌≡◌, ℕ, ◌+◌, ◌-◌, ◌<◌, ◌≤◌, ◌^◌, Bool, true, false, List, ◌++◌, length, take, drop, Option, Some, None, Result, Ok, Err, cond, bit_or, refl, sym, ap, ap₂, subst, ◌∙◌, arith, length-append}
+use Rattle.std.specs.Prelude.{nat_lt}
+use Rattle.std.proofs.lemmas.Bool.{lt-ltb, le-ltb, ltb-true}
+use Rattle.std.proofs.lemmas.List.{append-nil}
+use Rattle.link_base.specs.Number.{bytes_of}
+use Rattle.link_base.specs.Answers.{capped}
+use Rattle.link_messages.specs.Message.{packet_bytes}
+use Rattle.link_entries.specs.declared.entry.Entry.{Entry}
+use Rattle.link_entries.specs.Stored.{StoresAt}
+use Rattle.link_entries.proofs.StoredBytes.{stored_then, stored_part}
+use Rattle.link_requests.specs.declared.head.Head.{Head}
+use Rattle.link_requests.specs.declared.misfit.ValueMisfit.{ValueMisfit}
+use Rattle.link_requests.specs.declared.misfit.ValueMisfitAt.{ValueMisfitAt}
+use Rattle.link_requests.specs.declared.misfit.RequestError.{RequestError}
+use Rattle.link_requests.specs.declared.misfit.RequestError.TheVariants.{Value, TooLarge}
+use Rattle.link_requests.specs.Spelling.{Spelling, Spells}
+use Rattle.link_requests.specs.Request.{head_error, link_head, packet_with, attributes_of, fitting, checked, request_of, sized, Stores}
+use Rattle.link_requests.proofs.StoredValues.{spells_ok, spells_err}
+
+-- ---- the message
+
+-- the bytes of `struct nlmsghdr` in a message of n bytes
+abbrev pub message_head : Head → ℕ → List ℕ
+message_head head n = bytes_of 4 n ++ (bytes_of 2 head.kind ++ (bytes_of 2 (bit_or head.flags 1) ++ (bytes_of 4 head.sequence ++ bytes_of 4 head.port)))
+
+module _ (head : Head) (s : List ℕ) where
+  pub message_length : 16 + length (link_head head ++ s) ≡ 32 + length s
+  message_length = let sixteen : length (link_head head) ≡ 16 = refl in omega (arith, length-append (link_head head) s, sixteen)
+
+  pub message_same : (n : ℕ) → n ≡ 32 + length s → (message_head head n ++ link_head head) ++ s ≡ packet_bytes (packet_with head s)
+  message_same n is = ap₂ (λ k t. (message_head head k ++ link_head head) ++ t) (is ∙ sym message_length) (sym (append-nil s))
+
+  pub packet_length : length (packet_bytes (packet_with head s)) ≡ 32 + length s
+  packet_length =
+      let sixteen : length (message_head head 0) ≡ 16 = refl in
+      let other : length (link_head head) ≡ 16 = refl in
+      let same : length (packet_bytes (packet_with head s)) ≡ length ((message_head head (32 + length s) ++ link_head head) ++ s) = ap length (sym (message_same (32 + length s) refl)) in
+      let whole : length (message_head head (32 + length s)) ≡ 16 = refl in
+      omega (arith, same, whole, other, length-append (message_head head (32 + length s) ++ link_head head) s, length-append (message_head head (32 + length s)) (link_head head))
+
+-- ---- the request
+
+module _ (head : Head) (octets : List ℕ) (es : List Entry) where
+  abbrev spelling : Spelling
+  spelling = attributes_of head octets es
+
+  pub request_by : (s : Spelling) → head_error head ≡ None → spelling ≡ s → request_of head octets es ≡ fitting head s
+  request_by s none is = ap₂ (λ o t. checked o (fitting head t)) none is
+
+  -- its length
+  pub measured_fits : (s : List ℕ) (n : ℕ) → head_error head ≡ None → spelling ≡ Ok s → n ≡ capped (length s) → n ≤ 4294967263 → Ok (32 + n) ≡ sized (request_of head octets es)
+  measured_fits s n none is count low =
+      let small : 32 + length s < 2 ^ 32 = omega (arith, count, low) in
+      let fits = ap (λ b. cond b (Ok (packet_bytes (packet_with head s))) (Err TooLarge)) (lt-ltb (32 + length s) (2 ^ 32) small) in
+      let same : 32 + n ≡ length (packet_bytes (packet_with head s)) = omega (arith, count, low, packet_length head s) in
+      ap Ok same ∙ ap sized (sym (request_by (Ok s) none is ∙ fits))
+
+  pub measured_large : (s : List ℕ) (n : ℕ) → head_error head ≡ None → spelling ≡ Ok s → n ≡ capped (length s) → 4294967263 < n → Err TooLarge ≡ sized (request_of head octets es)
+  measured_large s n none is count high =
+      let large : 2 ^ 32 ≤ 32 + length s = omega (arith, count, high) in
+      let fits = ap (λ b. cond b (Ok (packet_bytes (packet_with head s))) (Err TooLarge)) (le-ltb (32 + length s) (2 ^ 32) large) in
+      ap sized (sym (request_by (Ok s) none is ∙ fits))
+
+  pub measured_bad : (first : ValueMisfitAt) → head_error head ≡ None → spelling ≡ Err (first.index, first.misfit) → Err (Value first) ≡ sized (request_of head octets es)
+  measured_bad first none is = ap sized (sym (request_by (Err (first.index, first.misfit)) none is))
+
+  -- what a length says of it
+  pub record IsWritten (n : ℕ) : Type 0 where
+    pub head_taken : head_error head ≡ None
+    pub attributes : List ℕ
+    pub spelled : spelling ≡ Ok attributes
+    pub short : 32 + length attributes < 2 ^ 32
+    pub size : n ≡ 32 + length attributes
+    pub is : request_of head octets es ≡ Ok (packet_bytes (packet_with head attributes))
+
+  by_fit : (n : ℕ) (s : List ℕ) → head_error head ≡ None → spelling ≡ Ok s → (b : Bool) → nat_lt (32 + length s) (2 ^ 32) ≡ b → request_of head octets es ≡ cond b (Ok (packet_bytes (packet_with head s))) (Err TooLarge) → Ok n ≡ sized (request_of head octets es) → IsWritten n
+  by_fit n s taken is true small request h =
+      let one : Ok n ≡ Ok (length (packet_bytes (packet_with head s))) = h ∙ ap sized request in
+      let same : n ≡ length (packet_bytes (packet_with head s)) = cc in
+      record { head_taken = taken; attributes = s; spelled = is; short = ltb-true (32 + length s) (2 ^ 32) small; size = same ∙ packet_length head s; is = request }
+  by_fit n s taken is false small request h = let one : Ok n ≡ Err TooLarge = h ∙ ap sized request in absurd cc
+
+  by_spelling : (n : ℕ) (s : Spelling) → spelling ≡ s → head_error head ≡ None → Ok n ≡ sized (request_of head octets es) → IsWritten n
+  by_spelling n (Ok s) is none h = by_fit n s none is (nat_lt (32 + length s) (2 ^ 32)) refl (request_by (Ok s) none is) h
+  by_spelling n (Err e) is none h = let one : Ok n ≡ sized (fitting head (Err e)) = h ∙ ap sized (request_by (Err e) none is) in absurd cc
+
+  by_head : (n : ℕ) (o : Option RequestError) → head_error head ≡ o → Ok n ≡ sized (request_of head octets es) → IsWritten n
+  by_head n None is h = by_spelling n spelling refl is h
+  by_head n (Some error) is h = let one : Ok n ≡ Err error = h ∙ ap (λ o. sized (checked o (fitting head spelling))) is in absurd cc
+
+  pub is_written : (n : ℕ) → Ok n ≡ sized (request_of head octets es) → IsWritten n
+  is_written n h = by_head n (head_error head) refl h
+
+  -- it was stored
+  pub stored_request : (n : ℕ) (out one two sub new : List ℕ) → IsWritten n → n ≤ length out → StoresAt 0 (message_head head n) out one → StoresAt 16 (link_head head) one two
+      → (m : ℕ) → Spells spelling (take (length two - 32) (drop 32 two)) sub (Ok m) → new ≡ put_mid 32 (length two - 32) two sub → Stores (request_of head octets es) out new (Ok (Some n))
+  stored_request n out one two sub new w room a b m put is =
+      let s = w.attributes in
+      let heads = stored_then 0 (message_head head n) (link_head head) out one two a b in
+      let (t, same, count, placed) = spells_ok spelling (take (length two - 32) (drop 32 two)) sub m put in
+      let equal : t ≡ s = let both : Ok t ≡ Ok s = sym same ∙ w.spelled in cc in
+      let sixteen : length (message_head head n) ≡ 16 = refl in
+      let other : length (link_head head) ≡ 16 = refl in
+      let long : 32 ≤ length two = omega (arith, w.size, room, heads.same) in
+      let part = stored_part 32 32 s two sub new (omega (arith, long)) (subst (λ u. StoresAt 0 u (take (length two - 32) (drop 32 two)) sub) equal placed) is in
+      let all = stored_then 0 (message_head head n ++ link_head head) s out two new heads part in
+      let text = packet_bytes (packet_with head s) in
+      let size = packet_length head s in
+      let front : 0 + length text ≡ length text = omega arith in
+      let whole = subst (λ u. StoresAt 0 u out new) (message_same head s n w.size) all in
+      subst (λ r. Stores r out new (Ok (Some n))) (sym w.is) (w.size ∙ sym size, omega (arith, w.size, size, room), whole.stored (omega (arith, w.size, size, room)) ∙ ap (λ k. text ++ drop k out) front)
+
+  -- it was not stored: the buffer is too small
+  pub no_room : (n : ℕ) (out : List ℕ) → IsWritten n → length out < n → Stores (request_of head octets es) out out (Ok None)
+  no_room n out w small = subst (λ r. Stores r out out (Ok None)) (sym w.is) (omega (arith, small, w.size, packet_length head w.attributes), refl)
+
+  different : (s : List ℕ) (e : ℕ × ValueMisfit) → Ok s ≡ Err e → ⊥
+  different s e wrong = absurd cc
+
+  -- an error that there is not
+  pub no_error : (n : ℕ) (x y : List ℕ) (first : ValueMisfitAt) → {P : Type 0} → IsWritten n → Spells spelling x y (Err first) → P
+  no_error n x y first w h = absurd (different w.attributes (first.index, first.misfit) (sym w.spelled ∙ (spells_err spelling x y first h).0))
+
+-- a request that cannot be written
+pub not_written : (r : Result (List ℕ) RequestError) (error : RequestError) (out : List ℕ) → Err error ≡ sized r → Stores r out out (Err error)
+not_written (Ok s) error out h = absurd cc
+not_written (Err e) error out h = (cc, refl)

@@ -1,0 +1,27 @@
+//! Requests about links (`include/uapi/linux/rtnetlink.h`): whole messages, written from a head and an array of values. Nothing
+//! is allocated.
+//!
+//! - [`Head`] has the fields of the headers `struct nlmsghdr` and `struct ifinfomsg`.
+//! - Values are [`Entry`](link_entries::Entry)s of the set `link`, in the order of the message. The elements of a list follow
+//!   it, one deeper. A value of form [`HELD`](link_entries::forms::HELD) whose offset is [`INLINE`] is followed by the values of
+//!   its list, one deeper too; another set reads them, which [`opened`](netlink_packet_route::opened) tells.
+//! - [`write_request`] writes the message, and [`measure`] returns its length. [`laws`] has theorems about it.
+#![tactic(auto)]
+
+mod context;
+mod head;
+pub mod laws;
+mod level;
+mod misfit;
+mod names;
+#[cfg(test)]
+mod tests;
+mod text;
+mod value;
+mod values;
+mod writing;
+
+pub use head::Head;
+pub use misfit::{RequestError, ValueMisfit, ValueMisfitAt};
+pub use text::INLINE;
+pub use writing::{measure, write_request};
