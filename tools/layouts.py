@@ -5,7 +5,7 @@ of each field.
 usage: tools/layouts.py
 
 A struct of the sources with `#[repr(C)]` names in its comment the struct of C that it is, as `struct nlroute_fault`. Its
-fields, in order, give the layout of C by the rules of C. The C compiler compares this with the struct of nlroute.h, or of
+fields, in order, give the layout of C by the rules of C. A comment that ends with "`type` in C." names a field in C. The C compiler compares this with the struct of nlroute.h, or of
 the kernel's headers. No contract says anything of it: in the logic, a struct has names and no offsets.
 
 The last line is 'N passed, M failed', counted in structs, their sizes, fields and numbers of fields, and the status 0 only
@@ -20,7 +20,7 @@ ROOT = os.path.dirname(os.path.dirname(os.path.realpath(__file__)))
 SOURCES = ["crates/link_entries/src", "crates/nlroute_ffi/src"]
 HEADERS = '#include <stddef.h>\n#include "nlroute.h"\n#include <linux/can/netlink.h>\n'
 STRUCT = re.compile(r"((?:^///[^\n]*\n)+)(?:^#\[[^\n]*\n)*?^#\[repr\(C\)\]\n(?:^#\[[^\n]*\n)*^pub struct (\w+) \{\n([^}]*)^\}", re.MULTILINE)
-FIELD = re.compile(r"^    pub (\w+): (?:\[u(\d+); (\d+)\]|u(\d+)),$", re.MULTILINE)
+FIELD = re.compile(r"^    (?:///[^\n]*, `(\w+)` in C\.\n    )?pub (\w+): (?:\[u(\d+); (\d+)\]|[ui](\d+)),$", re.MULTILINE)
 
 
 def structs(text):
@@ -28,10 +28,10 @@ def structs(text):
     for comment, name, body in STRUCT.findall(text):
         named = re.search(r"`struct (\w+)`", comment)
         fields, end, widest = [], 0, 1
-        for field, of, count, width in FIELD.findall(body):
+        for in_c, field, of, count, width in FIELD.findall(body):
             size = int(of or width) // 8
             start = -(-end // size) * size
-            fields.append((field, start, size * int(count or 1)))
+            fields.append((in_c or field, start, size * int(count or 1)))
             end, widest = start + fields[-1][2], max(widest, size)
         if len(fields) != len(re.findall(r"^    pub \w+:", body, re.MULTILINE)):
             raise ValueError(f"{name} has a field that is neither a number nor an array of numbers")

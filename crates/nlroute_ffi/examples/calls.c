@@ -539,6 +539,105 @@ static void texts_of_faults(void) {
     check(nlroute_fault_text(FAMILIES, &fault, text, sizeof text) == NLROUTE_NO_FAMILY, "-5 of the text of an error");
 }
 
+/*
+ * An RTM_NEWLINK from port 7 with the sequence number 5: the link 9 of the type ARPHRD_ETHER is up, and changed so. It has
+ * an IFLA_MTU of two bytes, which is malformed, and an IFLA_LINKINFO of a bond in mode 802.3ad. Then an NLMSG_DONE without
+ * padding, of 18 bytes.
+ */
+static const uint8_t dump[] = {64, 0, 0, 0, 16, 0, 2, 0, 5, 0,  0, 0, 7,  0, 0, 0, 0, 0, 1, 0, 9,   0,   0,   0,   1,  0, 0, 0,
+                               1,  0, 0, 0, 6,  0, 4, 0, 1, 2,  0, 0, 24, 0, 18, 0, 8, 0, 1, 0, 'b', 'o', 'n', 'd', 12, 0, 2, 0,
+                               5,  0, 1, 0, 4,  0, 0, 0, 18, 0, 0, 0, 3,  0, 0, 0, 5, 0, 0, 0, 7,   0,   0,   0,   0,  0};
+
+static void messages(void) {
+    struct nlroute_message link, done, none;
+    memset(&none, 0xFF, sizeof none);
+    check(sizeof link == 56 && sizeof(struct nlroute_range) == 16, "the structs have no padding");
+    memory_is_out = true;
+    ptrdiff_t first = nlroute_message(dump, sizeof dump, 0, &link), second = nlroute_message(dump, sizeof dump, 64, &done);
+    memory_is_out = false;
+    check(!first && link.list == 32 && link.length == 32 && link.next == 64 && link.len == 64, "a message, and the next");
+    check(link.type == 16 && link.flags == 2 && link.sequence == 5 && link.port == 7, "its struct nlmsghdr");
+    bool is_first = link.is_link == 1 && link.index == 9 && link.link_type == 1 && link.address_family == 0;
+    check(is_first && link.link_flags == 1 && link.change == 1, "its struct ifinfomsg");
+    check(!second && done.list == 80 && done.length == 2 && done.next == 82 && done.type == 3, "an NLMSG_DONE");
+    check(done.is_link == 0 && done.index == 0 && done.link_flags == 0, "it is not about a link");
+    check(nlroute_message(dump, sizeof dump, 82, &none) == NLROUTE_ABSENT, "-6 at the end");
+    check(nlroute_message(dump, sizeof dump, SIZE_MAX, &none) == NLROUTE_ABSENT, "-6 after the end");
+    check(nlroute_message(dump, 63, 0, &none) == NLROUTE_HAS_FAULT, "-1 of a message that is cut off");
+    check(are_lent(&none, sizeof none), "no message was stored");
+}
+
+static void errors_of_messages(void) {
+    const uint8_t short_link[] = {20, 0, 0, 0, 16, 0, 0, 0, 0, 0, 0, 0, 0, 0, 0, 0, 0, 0, 1, 0};
+    const uint8_t small[] = {15, 0, 0, 0, 2, 0, 0, 0, 0, 0, 0, 0, 0, 0, 0, 0};
+    const struct {
+        const uint8_t *bytes;
+        size_t len;
+        uint32_t place, cause;
+        uint64_t first, second;
+        const char *text;
+    } rows[] = {
+        {dump, 15, NLROUTE_MESSAGE_HEADER, NLROUTE_SHORT_FRAME, 15, 0, "error at 0: 15 bytes left, too few for a message header"},
+        {small, 16, NLROUTE_MESSAGE_HEADER, NLROUTE_SMALL_LENGTH, 15, 0, "error at 0: nlmsg_len 15 is below 16"},
+        {dump, 63, NLROUTE_MESSAGE_HEADER, NLROUTE_OVERRUN, 64, 63, "error at 0: nlmsg_len 64 exceeds the 63 bytes left"},
+        {short_link, 20, NLROUTE_LINK_HEADER, NLROUTE_TOO_SHORT, 32, 20, "error at 0: 20 bytes, too few for a link message"},
+    };
+    struct nlroute_fault fault;
+    char text[NLROUTE_TEXT_ROOM];
+    for (size_t i = 0; i < sizeof rows / sizeof rows[0]; i++) {
+        memset(text, 0xFF, sizeof text);
+        memory_is_out = true;
+        ptrdiff_t found = nlroute_message_fault(rows[i].bytes, rows[i].len, 0, &fault);
+        ptrdiff_t answer = nlroute_fault_text(NLROUTE_LINK, &fault, text, sizeof text);
+        memory_is_out = false;
+        bool is_so = !found && fault.at == 0 && fault.place == rows[i].place && fault.cause == rows[i].cause;
+        check(is_so && fault.first == rows[i].first && fault.second == rows[i].second, "the error of a message");
+        check_text(answer, text, sizeof text, rows[i].text);
+    }
+    fault.first = 36;
+    check(nlroute_fault_text(NLROUTE_LINK, &fault, text, sizeof text) == NLROUTE_BAD_FORM, "-7 of the error of a message");
+    memset(&fault, 0xFF, sizeof fault);
+    bool has_none = nlroute_message_fault(dump, sizeof dump, 0, &fault) == NLROUTE_ABSENT;
+    check(has_none && nlroute_message_fault(dump, sizeof dump, 82, &fault) == NLROUTE_ABSENT, "-6 without an error");
+    check(are_lent(&fault, sizeof fault), "no error was stored");
+}
+
+static void held_lists(void) {
+    const uint8_t *list = dump + 32;
+    struct nlroute_range held, none;
+    memset(&none, 0xFF, sizeof none);
+    memory_is_out = true;
+    ptrdiff_t found = nlroute_held(list, 32, 0, NLROUTE_BOND, &held);
+    memory_is_out = false;
+    check(!found && held.offset == 24 && held.length == 8, "the data of a bond");
+    check(nlroute_held(list, 32, 0, NLROUTE_VLAN, &none) == NLROUTE_ABSENT, "-6 of a VLAN");
+    check(nlroute_held(list, 32, 0, NLROUTE_LINK, &none) == NLROUTE_ABSENT, "the list itself is not in its attributes");
+    check(nlroute_held(list, 32, 0, FAMILIES, &none) == NLROUTE_NO_FAMILY, "-5 of a list");
+    check(are_lent(&none, sizeof none), "no list was stored");
+
+    const uint8_t *good = list + 8;
+    struct nlroute_value v[3];
+    check(nlroute_values(NLROUTE_LINK, good, 24, v, 3) == 3, "an IFLA_LINKINFO, the kind, and the data");
+    memory_is_out = true;
+    ptrdiff_t opened = nlroute_opens(NLROUTE_LINK, 0, v + 2, good, 24);
+    memory_is_out = false;
+    check(opened == NLROUTE_BOND, "the set of the data");
+    check(nlroute_opens(NLROUTE_LINK, 0, v + 1, good, 24) == NLROUTE_ABSENT, "-6 of the kind");
+    check(nlroute_opens(NLROUTE_LINK, 0, v, good, 24) == NLROUTE_ABSENT, "-6 of a nested list");
+    check(nlroute_opens(NLROUTE_LINK, 0, v + 2, good, 12) == NLROUTE_ABSENT, "-6 of another list");
+    check(nlroute_opens(FAMILIES, 0, v + 2, good, 24) == NLROUTE_NO_FAMILY, "-5 of a value");
+
+    struct nlroute_value spec = value(26, NLROUTE_FORM_HELD, 0, 0), info = value(12, NLROUTE_FORM_UNKNOWN, 0, 0);
+    check(nlroute_opens(NLROUTE_LINK, 0, &spec, good, 0) == NLROUTE_AF_SPEC, "an IFLA_AF_SPEC");
+    check(nlroute_opens(NLROUTE_LINK, 7, &spec, good, 0) == NLROUTE_AF_SPEC_BRIDGE, "that of a bridge");
+    check(nlroute_opens(NLROUTE_LINK, 7, &info, good, 0) == NLROUTE_ABSENT, "-6 of an IFLA_PROTINFO without NLA_F_NESTED");
+    info.flags = 0x8000;
+    check(nlroute_opens(NLROUTE_LINK, 7, &info, good, 0) == NLROUTE_BRIDGE_PORT, "one with NLA_F_NESTED");
+    check(nlroute_opens(NLROUTE_LINK, 10, &info, good, 0) == NLROUTE_INET6, "one of IPv6");
+    info.form = NLROUTE_FORM_BYTES;
+    check(nlroute_opens(NLROUTE_LINK, 10, &info, good, 0) == NLROUTE_ABSENT, "-6 of bytes");
+}
+
 /* A payload of one byte where four are required, and a truncated header after it. */
 static void room_first(void) {
     const uint8_t short_value[10] = {5, 0, 1, 0, 42, 0, 0, 0, 3, 0};
@@ -615,6 +714,9 @@ int main(void) {
     names();
     texts();
     texts_of_faults();
+    messages();
+    errors_of_messages();
+    held_lists();
     value_by_value();
     room_first();
     faults();

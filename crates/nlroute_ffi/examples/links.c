@@ -9,87 +9,68 @@
 #include <linux/if_link.h>
 #include <linux/rtnetlink.h>
 #include <stdio.h>
-#include <string.h>
 #include <sys/socket.h>
 #include <unistd.h>
 
-enum { PLACES = 128, ROOM = 1 << 16 };
+enum { PLACES = 1024, ROOM = 1 << 16 };
 
-/* The attributes of a link that this program looks at; those that the link does not have are NULL. */
-struct link {
-    const struct rtattr *name, *kind, *data, *port_kind, *port_data;
-};
+/* Prints the first error of a list. */
+static void print_fault(uint32_t family, const uint8_t *list, size_t len) {
+    struct nlroute_fault fault;
+    char text[NLROUTE_TEXT_ROOM];
+    if (nlroute_first_fault(family, list, len, &fault)) return;
+    nlroute_fault_text(family, &fault, text, sizeof text);
+    printf("    %s\n", text);
+}
+
+/* Reads the values of a list, at most PLACES. Prints the error of a list that is malformed. */
+static ptrdiff_t read_list(uint32_t family, const uint8_t *list, size_t len, struct nlroute_value *values) {
+    ptrdiff_t count = nlroute_values(family, list, len, values, PLACES);
+    if (count == NLROUTE_HAS_FAULT) print_fault(family, list, len);
+    return count == NLROUTE_NO_ROOM ? PLACES : count;
+}
 
 /* Prints the values of a list, a line each; elements of a list are indented below it. */
-static void print_list(uint32_t family, const uint8_t *bytes, size_t len) {
-    struct nlroute_value values[PLACES];
+static void print_list(uint32_t family, const uint8_t *list, size_t len) {
+    static struct nlroute_value values[PLACES];
     char name[NLROUTE_TEXT_ROOM], text[NLROUTE_TEXT_ROOM];
-    ptrdiff_t count = nlroute_values(family, bytes, len, values, PLACES);
-    struct nlroute_fault fault;
-    if (count == NLROUTE_HAS_FAULT && !nlroute_first_fault(family, bytes, len, &fault)) {
-        nlroute_fault_text(family, &fault, text, sizeof text);
-        printf("    %s\n", text);
-    } else if (count < 0 && count != NLROUTE_NO_ROOM) {
-        printf("    %s\n", nlroute_refusal_text(count));
-    }
-    /* with too few places, they have the first values */
-    ptrdiff_t stored = count;
-    if (count == NLROUTE_NO_ROOM) stored = PLACES;
-    for (ptrdiff_t i = 0; i < stored; i++) {
+    ptrdiff_t count = read_list(family, list, len, values);
+    nlroute_family_name(family, name, sizeof name);
+    printf("  %s\n", name);
+    for (ptrdiff_t i = 0; i < count; i++) {
         nlroute_kind_name(family, &values[i], name, sizeof name);
-        nlroute_text(family, &values[i], bytes, len, text, sizeof text);
+        nlroute_text(family, &values[i], list, len, text, sizeof text);
         printf("    %*s%s%s%s\n", 2 * values[i].depth, "", name, *text ? " " : "", text);
     }
-    if (count == NLROUTE_NO_ROOM) printf("    ..\n");
 }
 
-/* Prints a list, if there is one, and a family for its kind, which `family_of` finds. */
-static void print_data(const struct rtattr *kind, ptrdiff_t (*family_of)(const char *, size_t), const struct rtattr *data) {
-    char name[NLROUTE_TEXT_ROOM];
-    if (!kind || !data) return;
-    const char *text = (const char *)RTA_DATA(kind);
-    ptrdiff_t family = family_of(text, strnlen(text, RTA_PAYLOAD(kind)));
-    if (family < 0) return;
-    nlroute_family_name((uint32_t)family, name, sizeof name);
-    printf("  %s\n", name);
-    print_list((uint32_t)family, (const uint8_t *)RTA_DATA(data), RTA_PAYLOAD(data));
-}
-
-/* Looks at the attributes of a message, or of its IFLA_LINKINFO. */
-static void look_at(struct link *link, const struct rtattr *attr, int len, bool is_info) {
-    for (; RTA_OK(attr, len); attr = RTA_NEXT(attr, len)) {
-        unsigned type = attr->rta_type & NLA_TYPE_MASK;
-        if (!is_info && type == IFLA_IFNAME) link->name = attr;
-        if (!is_info && type == IFLA_LINKINFO)
-            look_at(link, (const struct rtattr *)RTA_DATA(attr), (int)RTA_PAYLOAD(attr), true);
-        if (is_info && type == IFLA_INFO_KIND) link->kind = attr;
-        if (is_info && type == IFLA_INFO_DATA) link->data = attr;
-        if (is_info && type == IFLA_INFO_SLAVE_KIND) link->port_kind = attr;
-        if (is_info && type == IFLA_INFO_SLAVE_DATA) link->port_data = attr;
+/* Prints the name of a link, and the lists of its kind: those in its IFLA_LINKINFO. */
+static void print_link(const uint8_t *list, const struct nlroute_message *message) {
+    static struct nlroute_value values[PLACES];
+    ptrdiff_t count = read_list(NLROUTE_LINK, list, message->length, values);
+    struct nlroute_value name = {0};
+    for (ptrdiff_t i = 0; i < count; i++)
+        if (values[i].kind == IFLA_IFNAME) name = values[i];
+    printf("%d: %.*s\n", message->index, (int)name.length, (const char *)list + name.offset);
+    for (ptrdiff_t i = 0; i < count; i++) {
+        ptrdiff_t family = nlroute_opens(NLROUTE_LINK, message->address_family, &values[i], list, message->length);
+        if (values[i].kind == IFLA_LINKINFO && family >= 0)
+            print_list((uint32_t)family, list + values[i].offset, values[i].length);
     }
-}
-
-static void print_link(const struct nlmsghdr *message) {
-    struct link link = {0};
-    const struct ifinfomsg *header = (const struct ifinfomsg *)NLMSG_DATA(message);
-    look_at(&link, IFLA_RTA(header), (int)IFLA_PAYLOAD(message), false);
-    printf("%d: %s\n", header->ifi_index, link.name ? (const char *)RTA_DATA(link.name) : "?");
-    print_data(link.kind, nlroute_from_info_kind, link.data);
-    print_data(link.port_kind, nlroute_from_port_kind, link.port_data);
 }
 
 /* Prints the links of the messages in a buffer. Returns whether more messages follow. */
-static bool print_links(const uint8_t *buffer, ssize_t len) {
-    const struct nlmsghdr *message = (const struct nlmsghdr *)buffer;
-    for (; NLMSG_OK(message, len); message = NLMSG_NEXT(message, len)) {
-        if (message->nlmsg_type == NLMSG_DONE || message->nlmsg_type == NLMSG_ERROR) return false;
-        if (message->nlmsg_type == RTM_NEWLINK) print_link(message);
+static bool print_links(const uint8_t *buffer, size_t len) {
+    struct nlroute_message message;
+    for (size_t at = 0; !nlroute_message(buffer, len, at, &message); at = message.next) {
+        if (message.type == NLMSG_DONE || message.type == NLMSG_ERROR) return false;
+        if (message.type == RTM_NEWLINK) print_link(buffer + message.list, &message);
     }
     return true;
 }
 
 int main(void) {
-    static _Alignas(struct nlmsghdr) uint8_t buffer[ROOM];
+    static uint8_t buffer[ROOM];
     struct {
         struct nlmsghdr header;
         struct ifinfomsg link;
@@ -100,7 +81,7 @@ int main(void) {
     do {
         len = recv(netlink, buffer, sizeof buffer, 0);
         if (len < 0) return perror("netlink"), 1;
-    } while (print_links(buffer, len));
+    } while (print_links(buffer, (size_t)len));
     close(netlink);
     return 0;
 }

@@ -44,6 +44,18 @@ static void print_list(FILE *to, uint32_t family, const uint8_t *list, size_t le
     }
 }
 
+/* Prints the attributes of the bonds in a buffer of messages, a line each. */
+static void print_bonds(FILE *to, const uint8_t *bytes, size_t len) {
+    struct nlroute_message message;
+    struct nlroute_range bond;
+    for (size_t at = 0; nlroute_message(bytes, len, at, &message) == 0; at = message.next) {
+        const uint8_t *list = bytes + message.list;
+        if (message.type == RTM_NEWLINK
+            && nlroute_held(list, message.length, message.address_family, NLROUTE_BOND, &bond) == 0)
+            print_list(to, NLROUTE_BOND, list + bond.offset, bond.length);
+    }
+}
+
 /* Says in a text what is wrong with a list. Returns whether anything is. */
 static bool explain(uint32_t family, const uint8_t *list, size_t len, char *text, size_t room) {
     struct nlroute_fault fault;
@@ -143,6 +155,17 @@ int main(void) {
     fclose(to);
     check(!strcmp(printed, "IFLA_BOND_MODE 802.3ad (4)\nIFLA_BOND_ARP_IP_TARGET\n  [0] 10.0.0.1\n  [1] 10.0.0.2\n"),
           "a bond is printed");
+    free(printed);
+
+    /* an RTM_NEWLINK of a bond in mode 802.3ad, and an NLMSG_DONE */
+    const uint8_t dump[] = {56, 0, 0, 0, 16, 0, 2,  0, 1,  0, 0, 0, 0, 0, 0, 0, 0,   0,   1,   0,   9,  0, 0, 0, 0, 0,
+                            0,  0, 0, 0, 0,  0, 24, 0, 18, 0, 8, 0, 1, 0, 'b', 'o', 'n', 'd', 12, 0, 2, 0, 5, 0, 1, 0,
+                            4,  0, 0, 0, 20, 0, 0,  0, 3,  0, 2, 0, 1, 0, 0, 0, 0,   0,   0,   0,   0,  0, 0, 0};
+    to = open_memstream(&printed, &size);
+    if (!to) return perror("open_memstream"), 1;
+    print_bonds(to, dump, sizeof dump);
+    fclose(to);
+    check(!strcmp(printed, "IFLA_BOND_MODE 802.3ad (4)\n"), "the bonds of a dump are printed");
     free(printed);
 
     check(explain(NLROUTE_BOND, bond, 27, text, sizeof text), "a list that is cut off is explained");

@@ -1,8 +1,8 @@
 /*
- * Parses, prints, checks, re-encodes and writes lists of netlink link attributes.
+ * Parses, prints, checks, re-encodes and writes lists of netlink link attributes, and finds them in messages.
  *
- * A list is the payload of an IFLA_INFO_DATA, IFLA_INFO_SLAVE_DATA, IFLA_AF_SPEC or IFLA_PROTINFO attribute. Numbers in
- * lists are little-endian, whatever the byte order of the machine. Return values and outputs are proved to be as
+ * A list is the attributes of a message about a link, or the payload of an IFLA_INFO_DATA, IFLA_INFO_SLAVE_DATA,
+ * IFLA_AF_SPEC or IFLA_PROTINFO attribute. Numbers in lists are little-endian, whatever the byte order of the machine. Return values and outputs are proved to be as
  * described below, for every input; the contracts are in crates/nlroute_ffi/src/lib.rt of the sources. Tested only are
  * what is marked "not proved", the inline functions, and that a function does not allocate.
  *
@@ -13,7 +13,7 @@
  * - No pointer is NULL, even for a length of 0. Each is aligned for its type and points to at least as many elements as
  *   the length that goes with it. Input memory must be initialized; output memory need not be, since no function reads
  *   what it has not written (not proved).
- * - The outputs (out, text, values, value, fault, status, at, the struct that a call stores) overlap neither each other
+ * - The outputs (out, text, values, value, fault, status, *at, the struct that a call stores) overlap neither each other
  *   nor an input. During a call, no other thread writes to the inputs, or reads or writes the outputs.
  * - No buffer is larger than PTRDIFF_MAX bytes.
  * - No function is called from a signal handler, or in the child after a fork() of a multithreaded process.
@@ -104,14 +104,14 @@ enum nlroute_family {
  */
 enum nlroute_refusal {
     NLROUTE_HAS_FAULT = -1, /* the input is not a list of this attribute set; nlroute_first_fault() has the first
-                               error */
+                               error. Of a message: it is malformed; nlroute_message_fault() has the error */
     NLROUTE_TOO_LONG = -2,  /* an otherwise valid attribute would have a payload of more than 65531 bytes */
     NLROUTE_NO_MEMORY = -3, /* an allocation failed (not proved: that this is the only reason for the code); returned by
                                nlroute_rewrite(), nlroute_rewrite_streaming() and nlroute_report() only */
     NLROUTE_NO_ROOM = -4,   /* the output buffer is too small; each function specifies the size that it needs */
     NLROUTE_NO_FAMILY = -5, /* family is not one of the numbers above */
     NLROUTE_ABSENT = -6,    /* the list does not have what was looked up, or has no error; a number or a bit has no
-                               name; a struct has no such field */
+                               name; a struct has no such field; there is no further message; no set reads a value */
     NLROUTE_BAD_FORM = -7,  /* the value has another form than was expected, or than its attribute type; the struct has
                                numbers that the library never stores */
     NLROUTE_BAD_NUMBER = -8,  /* the attribute cannot hold the number */
@@ -605,32 +605,36 @@ ptrdiff_t nlroute_code_text(ptrdiff_t code, char *text, size_t room);
 NLROUTE_MUST_USE
 bool nlroute_is_canonical(uint32_t family, const uint8_t *bytes, size_t len);
 
-/* The part of a list that is malformed. */
+/* The part of a list, or of a message, that is malformed. */
 enum nlroute_place {
-    NLROUTE_FRAME = 0,          /* the TLV framing of an attribute of the list: its header or its length */
-    NLROUTE_PAYLOAD = 1,        /* the payload of an attribute */
-    NLROUTE_ELEMENT_FRAME = 2,  /* the TLV framing of an element of an attribute's nested list or address list */
-    NLROUTE_ELEMENT_PAYLOAD = 3 /* the payload of an element of a nested list */
+    NLROUTE_FRAME = 0,           /* the TLV framing of an attribute of the list: its header or its length */
+    NLROUTE_PAYLOAD = 1,         /* the payload of an attribute */
+    NLROUTE_ELEMENT_FRAME = 2,   /* the TLV framing of an element of an attribute's nested list or address list */
+    NLROUTE_ELEMENT_PAYLOAD = 3, /* the payload of an element of a nested list */
+    NLROUTE_MESSAGE_HEADER = 6,  /* the struct nlmsghdr of a message */
+    NLROUTE_LINK_HEADER = 7      /* the struct ifinfomsg of a message about a link */
 };
 
 /* In parentheses: the first and the second number, in bytes. */
 enum nlroute_cause {
-    NLROUTE_SHORT_FRAME = 1,   /* fewer than the four bytes of a header are left (bytes left; 0) */
-    NLROUTE_SMALL_LENGTH = 2,  /* nla_len is less than four (nla_len; 0) */
-    NLROUTE_OVERRUN = 3,       /* nla_len is greater than the number of bytes left (nla_len; bytes left) */
+    NLROUTE_SHORT_FRAME = 1,   /* fewer bytes are left than a header has: four, or 16 of a message (bytes left; 0) */
+    NLROUTE_SMALL_LENGTH = 2,  /* nla_len or nlmsg_len is less than that (this length; 0) */
+    NLROUTE_OVERRUN = 3,       /* nla_len or nlmsg_len is greater than the number of bytes left (this length; bytes
+                                  left) */
     NLROUTE_WRONG_LENGTH = 4,  /* the payload's length is wrong (the correct length or, for an array of numbers, the
                                   size of one element, which must divide the length; the payload's length) */
-    NLROUTE_TOO_SHORT = 5,     /* the payload is too short (the minimum length; the payload's length) */
+    NLROUTE_TOO_SHORT = 5,     /* the payload is too short (the minimum length; the payload's length); of a message, with
+                                  its header (32; nlmsg_len) */
     NLROUTE_ADDRESS_LENGTH = 6 /* an address has neither 4 nor 16 bytes (its length; 0); no list of these sets has it */
 };
 
-/* The first error of a list. */
+/* The first error of a list, or the error of a message. */
 struct nlroute_fault {
-    uint64_t at;     /* byte offset, in the list, of the attribute that has the error */
+    uint64_t at;     /* byte offset, in the list, of the attribute that has the error; of a message, in the buffer */
     uint64_t first;  /* the cause's first number */
     uint64_t second; /* the cause's second number, or 0 */
     uint32_t place;  /* the part that is malformed: an nlroute_place */
-    uint32_t kind;   /* attribute type (nla_type) without flags; 0 for NLROUTE_FRAME */
+    uint32_t kind;   /* attribute type (nla_type) without flags; 0 for NLROUTE_FRAME and messages */
     uint32_t inner;  /* type of the list element without flags; 0 unless NLROUTE_ELEMENT_PAYLOAD */
     uint32_t cause;  /* an nlroute_cause */
 }; /* 40 bytes, without padding */
@@ -644,14 +648,97 @@ NLROUTE_MUST_USE
 ptrdiff_t nlroute_first_fault(uint32_t family, const uint8_t *bytes, size_t len, struct nlroute_fault *fault);
 
 /*
- * Stores the text of an error, as nlshow prints it: "error at 8: IFLA_BR_HELLO_TIME has 3 bytes, expected 4". Stored
- * and returned as described under "Texts" above. Does not allocate.
+ * Stores the text of an error, as nlshow prints it: "error at 8: IFLA_BR_HELLO_TIME has 3 bytes, expected 4", or of a
+ * message "error at 0: nlmsg_len 8 is below 16". Stored and returned as described under "Texts" above. Does not allocate.
  *
  * Returns NLROUTE_BAD_FORM if and only if place is not one of enum nlroute_place, cause not one of enum nlroute_cause,
- * or kind or inner greater than 65535, or likewise first, for NLROUTE_SMALL_LENGTH and NLROUTE_OVERRUN; never for a
- * struct that nlroute_first_fault() stored.
+ * or kind or inner greater than 65535, or likewise first, for NLROUTE_SMALL_LENGTH and NLROUTE_OVERRUN. For places of
+ * messages, if and only if place and cause, and first for NLROUTE_TOO_SHORT, are none of those that
+ * nlroute_message_fault() stores, or first is greater than 2^32 - 1 for the same two. Never for a struct that
+ * nlroute_first_fault() or nlroute_message_fault() stored.
  */
 ptrdiff_t nlroute_fault_text(uint32_t family, const struct nlroute_fault *fault, char *text, size_t room);
+
+/*
+ * Messages: those of a buffer, such as recvmsg() fills, and the lists in one about a link. These functions do not
+ * allocate. Numbers in messages are read as little-endian.
+ */
+
+/* A message. The fields from index to address_family are those of its struct ifinfomsg; they are 0 if it has none. */
+struct nlroute_message {
+    uint64_t list;      /* where its attributes start in the buffer, in bytes; of a message without a struct ifinfomsg,
+                           where its payload starts */
+    uint64_t length;    /* length of the attributes, or of the payload, in bytes */
+    uint64_t next;      /* where the next message starts in the buffer */
+    uint32_t len;       /* nlmsg_len */
+    uint32_t sequence;  /* nlmsg_seq */
+    uint32_t port;      /* nlmsg_pid */
+    uint16_t type;      /* nlmsg_type */
+    uint16_t flags;     /* nlmsg_flags */
+    int32_t index;      /* ifi_index */
+    uint32_t link_flags;
+    uint32_t change;    /* ifi_change */
+    uint16_t link_type; /* ifi_type */
+    uint8_t address_family; /* ifi_family */
+    uint8_t is_link;    /* 1 if it has a struct ifinfomsg: RTM_NEWLINK, RTM_DELLINK, RTM_GETLINK, RTM_SETLINK; else 0 */
+}; /* 56 bytes, without padding */
+
+/*
+ * Stores the message at offset `at` of a buffer in *message, and returns 0. Start at 0, and go on at message->next. An
+ * NLMSG_DONE or NLMSG_ERROR is a message like others. The attributes are not checked: nlroute_first_fault() finds an error
+ * in them, and its offset plus message->list is the offset in the buffer.
+ *
+ * On error *message is unchanged. Returns
+ * - NLROUTE_ABSENT if and only if `at` is len or greater;
+ * - NLROUTE_HAS_FAULT if and only if the message is malformed: its nlmsg_len, or it is one of the four types above, but
+ *   shorter than the two headers. nlroute_message_fault() says why. After the second, go on at `at` plus nlmsg_len,
+ *   rounded up to a multiple of four.
+ */
+NLROUTE_MUST_USE
+ptrdiff_t nlroute_message(const uint8_t *bytes, size_t len, size_t at, struct nlroute_message *message);
+
+/*
+ * Stores in *fault why nlroute_message() returns NLROUTE_HAS_FAULT, and returns 0. at is that of the message.
+ *
+ * Returns NLROUTE_ABSENT if and only if nlroute_message() does not return NLROUTE_HAS_FAULT; *fault is then unchanged.
+ */
+NLROUTE_MUST_USE
+ptrdiff_t nlroute_message_fault(const uint8_t *bytes, size_t len, size_t at, struct nlroute_fault *fault);
+
+/* Bytes of an input. */
+struct nlroute_range {
+    uint64_t offset; /* in bytes */
+    uint64_t length; /* in bytes */
+}; /* 16 bytes, without padding */
+
+/*
+ * Finds a list in the attributes of a message: the last that nlroute_family `family` reads, of the lists that these
+ * attributes hold, and those in these lists. For NLROUTE_BOND, that is IFLA_INFO_DATA in an IFLA_LINKINFO with the
+ * IFLA_INFO_KIND "bond". The input is message->length bytes from message->list on, and address_family that of the message.
+ * Stores where the list is in the input in *held, and returns 0.
+ *
+ * Linux takes the last attribute of a type, and so does this call, except that an attribute that does not decode, or whose
+ * set is another one, does not count. The list itself is not checked.
+ *
+ * Returns NLROUTE_ABSENT if and only if there is no such list; *held is then unchanged.
+ */
+NLROUTE_MUST_USE
+ptrdiff_t nlroute_held(const uint8_t *list, size_t len, uint8_t address_family, uint32_t family,
+                       struct nlroute_range *held);
+
+/*
+ * Returns which of enum nlroute_family reads the list in a value: one of NLROUTE_FORM_HELD, NLROUTE_FORM_PEER (from its
+ * byte 16 on) or NLROUTE_FORM_UNKNOWN. `family` is the set of the list that has the value, and the input is this list.
+ * address_family is that of the message or, in the list of an NLROUTE_FORM_PEER, the first byte of that value. For a list in
+ * an IFLA_LINKINFO, the kinds next to it tell the set. So all lists of a message can be visited, from NLROUTE_LINK on.
+ *
+ * Of the value, kind, inner, form, depth, flags and, for an element, offset matter.
+ *
+ * Returns NLROUTE_ABSENT if and only if no set reads the value.
+ */
+NLROUTE_MUST_USE
+ptrdiff_t nlroute_opens(uint32_t family, uint8_t address_family, const struct nlroute_value *value, const uint8_t *list,
+                        size_t len);
 
 /*
  * Writes the output of the program `nlroute FAMILY` to out, a buffer of room bytes, and its exit status to *status. The

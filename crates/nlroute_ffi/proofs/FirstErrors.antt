@@ -20,7 +20,7 @@ use Rattle.nlroute_ffi.specs.declared.fault.FirstError.{FirstError}
 use Rattle.nlroute_ffi.specs.declared.refusal.Refusal.{Refusal}
 use Rattle.nlroute_ffi.specs.declared.refusal.Refusal.TheVariants.{BadForm}
 use Rattle.nlroute_ffi.specs.Error.{ErrorAnswers}
-use Rattle.nlroute_ffi.specs.ErrorText.{CauseFits, CauseOccurs, IsListFault, FaultOccurs, fault_of, ErrorTextAnswers}
+use Rattle.nlroute_ffi.specs.ErrorText.{CauseFits, CauseOccurs, IsListFault, FaultOccurs, fault_of, ErrorTextBy, ErrorTextAnswers}
 use Rattle.nlroute_ffi.proofs.ErrorTexts.{error_found}
 
 -- ---- causes
@@ -132,5 +132,6 @@ stored_found table s e n bytes (zero_is, (at, fault, first, numbers)) =
 pub stored_told : (family other : Family) (s : List ℕ) (e : FirstError) (n : ℕ) (old new : List ℕ) (r : Result ℕ Refusal) → IsBytes s → ErrorAnswers s e (table_of family) (Ok n) → ErrorTextAnswers e old new other r → r ≡ Err BadForm → ⊥
 stored_told family other s e n old new r bytes h told is =
     let (at, fault, first, place, found) = stored_found (table_of family) s e n bytes h in
-    let none : fault_of e ≡ None = subst (ErrorTextAnswers e old new other) is told in
-    absurd cc
+    let bad : ErrorTextBy (Some fault) e old new other (Err BadForm) =
+    subst (ErrorTextBy (Some fault) e old new other) is (subst (λ o. ErrorTextBy o e old new other r) found told) in
+    absurd bad

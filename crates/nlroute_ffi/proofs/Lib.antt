@@ -11,3 +11,9 @@ pub mod CutTexts
 pub mod OwnLabels
 pub mod FieldsThere
 pub mod FieldTexts
+pub mod Around
+pub mod Openings
+pub mod MessageTexts
+pub mod OneMessage
+pub mod OpenedValues
+pub mod OpenedElements

@@ -1,5 +1,5 @@
 -- The texts of errors.
-use Rattle.std.specs.Prelude.{◌≡◌, ℕ, ◌<◌, ◌==◌, ◌&&◌, List, ◌++◌, Option, Some, None, option_map, Result, Ok, Err, codes, nat_lt, if◌then◌else◌}
+use Rattle.std.specs.Prelude.{◌≡◌, ℕ, ◌<◌, ◌^◌, ◌==◌, ◌&&◌, List, ◌++◌, Option, Some, None, option_map, Result, Ok, Err, codes, nat_lt, if◌then◌else◌}
 use Rattle.std.specs.Fmt.{decimal}
 use Rattle.netlink_packet_route.specs.declared.link.Cause.{Cause}
 use Rattle.netlink_packet_route.specs.declared.link.Cause.TheVariants as causes
@@ -8,11 +8,14 @@ use Rattle.netlink_packet_route.specs.declared.link.DecodeFault.TheVariants as f
 use Rattle.netlink_packet_route.specs.declared.family.Family.{Family}
 use Rattle.netlink_packet_route.specs.Table.{Table}
 use Rattle.netlink_packet_route.specs.Family.{table_of}
+use Rattle.link_messages.specs.declared.message.MessageError.{MessageError}
+use Rattle.link_messages.specs.declared.message.MessageError.TheVariants as messages
 use Rattle.link_show.specs.Fault.{fault_text}
+use Rattle.link_show.specs.Message.{offset_of, reason_text}
 use Rattle.nlroute_ffi.specs.declared.fault.FirstError.{FirstError}
 use Rattle.nlroute_ffi.specs.declared.refusal.Refusal.{Refusal}
 use Rattle.nlroute_ffi.specs.declared.refusal.Refusal.TheVariants.{BadForm}
-use Rattle.nlroute_ffi.specs.Numbers.{short_frame, small_length, overrun, wrong_length, too_short, address_length, frame, payload, element_frame, element_payload}
+use Rattle.nlroute_ffi.specs.Numbers.{short_frame, small_length, overrun, wrong_length, too_short, address_length, frame, payload, element_frame, element_payload, message_header, link_header}
 use Rattle.nlroute_ffi.specs.Buffers.{StoresText}
 
 -- a number as an `nla_len`, which is a `u16`
@@ -77,8 +80,43 @@ FaultOccurs fault = InList CauseOccurs fault
 abbrev pub error_text : Table → ℕ → DecodeFault → List ℕ
 error_text table at fault = codes "error at " ++ (decimal at ++ (codes ": " ++ fault_text table fault))
 
--- the buffer has the text of the error; or the struct has none
+-- ---- messages
+
+-- a number as an `nlmsg_len`, which is a `u32`
+abbrev pub packet_length_of : ℕ → Option ℕ
+packet_length_of n = if nat_lt n (2 ^ 32) then Some n else None
+
+-- the error at an offset in the header of a message, with this cause and its numbers
+abbrev pub header_error : ℕ → ℕ → ℕ → ℕ → Option MessageError
+header_error at cause first second =
+    if cause == short_frame then Some (messages.ShortHeader at first)
+    else (if cause == small_length then option_map (λ n. messages.SmallLength at n) (packet_length_of first)
+    else (if cause == overrun then option_map (λ n. messages.Overrun at n second) (packet_length_of first)
+    else None))
+
+-- the error of a message in a struct; none, if its numbers are not those of one
+abbrev pub message_error_of : FirstError → Option MessageError
+message_error_of e =
+    if e.place == message_header then header_error e.at e.cause e.first e.second
+    else (if (e.place == link_header) && ((e.cause == too_short) && (e.first == 32)) then Some (messages.ShortLink e.at e.second)
+    else None)
+
+abbrev pub message_error_text : MessageError → List ℕ
+message_error_text error = codes "error at " ++ (decimal (offset_of error) ++ (codes ": " ++ reason_text error))
+
+-- ---- both
+
+-- the buffer has the text of the error of a message; or the struct has none
+abbrev pub MessageTextAnswers : FirstError → List ℕ → List ℕ → Result ℕ Refusal → Type 0
+MessageTextAnswers e old new (Ok n) = (error : MessageError) × (message_error_of e ≡ Some error) × StoresText (message_error_text error) old new n
+MessageTextAnswers e old new (Err BadForm) = message_error_of e ≡ None
+MessageTextAnswers e old new (Err refusal) = ⊥
+
+-- the buffer has the text of the error in a list; or the struct has none, and what is known of a message's
+abbrev pub ErrorTextBy : Option DecodeFault → FirstError → List ℕ → List ℕ → Family → Result ℕ Refusal → Type 0
+ErrorTextBy (Some fault) e old new family (Ok n) = StoresText (error_text (table_of family) e.at fault) old new n
+ErrorTextBy (Some fault) e old new family (Err refusal) = ⊥
+ErrorTextBy None e old new family result = MessageTextAnswers e old new result
+
 abbrev pub ErrorTextAnswers : FirstError → List ℕ → List ℕ → Family → Result ℕ Refusal → Type 0
-ErrorTextAnswers e old new family (Ok n) = (fault : DecodeFault) × (fault_of e ≡ Some fault) × StoresText (error_text (table_of family) e.at fault) old new n
-ErrorTextAnswers e old new family (Err BadForm) = fault_of e ≡ None
-ErrorTextAnswers e old new family (Err refusal) = ⊥
+ErrorTextAnswers e old new family result = ErrorTextBy (fault_of e) e old new family result

@@ -10,3 +10,7 @@ pub mod ValueText
 pub mod StructFields
 pub mod Writing
 pub mod Shown
+pub mod Messages
+pub mod Opens
+pub mod Held
+pub mod Search

@@ -49,7 +49,7 @@ cause_numbers (WrongLength want got) = wrong_length ∷ want ∷ got ∷ []
 cause_numbers (TooShort want got) = too_short ∷ want ∷ got ∷ []
 cause_numbers (AddressLength got) = address_length ∷ got ∷ 0 ∷ []
 
--- the parts that may be malformed, as `enum nlroute_place` of the header numbers them; in a list, the last two never are
+-- the parts that may be malformed, as `enum nlroute_place` of the header numbers them; in a list, those from 4 on never are
 abbrev pub frame : ℕ
 frame = 0
 
@@ -67,6 +67,16 @@ bare_payload = 4
 
 abbrev pub text : ℕ
 text = 5
+
+-- of a message: `struct nlmsghdr`; `struct ifinfomsg` behind it; `struct nlmsgerr`
+abbrev pub message_header : ℕ
+message_header = 6
+
+abbrev pub link_header : ℕ
+link_header = 7
+
+abbrev pub reply_header : ℕ
+reply_header = 8
 
 -- a decode error: the offset of its attribute, the part that is malformed, the type of the attribute, the type of the
 -- element in its list (each 0 if there is none), and the cause

@@ -25,15 +25,15 @@ const BARE_PAYLOAD: u32 = 4;
 const TEXT: u32 = 5;
 
 // The causes: `enum nlroute_cause` of the header.
-const SHORT_FRAME: u32 = 1;
+pub(crate) const SHORT_FRAME: u32 = 1;
 
-const SMALL_LENGTH: u32 = 2;
+pub(crate) const SMALL_LENGTH: u32 = 2;
 
-const OVERRUN: u32 = 3;
+pub(crate) const OVERRUN: u32 = 3;
 
 const WRONG_LENGTH: u32 = 4;
 
-const TOO_SHORT: u32 = 5;
+pub(crate) const TOO_SHORT: u32 = 5;
 
 const ADDRESS_LENGTH: u32 = 6;
 

@@ -1,4 +1,5 @@
-//! Theorems about texts. The functions have empty bodies; each states its theorem as its contract.
+//! Theorems about texts, and about messages and the lists in them. The functions have empty bodies; each states its theorem as
+//! its contract.
 
 ghost use Rattle.std.specs.Prelude.{◌≡◌, ◌≢◌, ◌<◌, ◌^◌, ℕ, Bool, List, ◌∷◌, true, length, slice_get, Option, Some, Result, Ok, Err};
 ghost use Rattle.std.specs.Fmt.{decimal};
@@ -33,7 +34,12 @@ ghost use Rattle.netlink_packet_route.specs.declared.link.DecodeFault.{DecodeFau
 ghost use Rattle.nlroute_ffi.specs.declared.fault.FirstError.{FirstError};
 ghost use Rattle.nlroute_ffi.specs.Numbers.{fault_numbers};
 ghost use Rattle.nlroute_ffi.specs.Error.{error_numbers, ErrorAnswers};
-ghost use Rattle.nlroute_ffi.specs.ErrorText.{IsListFault, FaultOccurs, fault_of, ErrorTextAnswers};
+ghost use Rattle.nlroute_ffi.specs.ErrorText.{IsListFault, FaultOccurs, fault_of, message_error_of, ErrorTextAnswers};
+ghost use Rattle.nlroute_ffi.specs.declared.message.FoundMessage.{FoundMessage};
+ghost use Rattle.netlink_packet_route.specs.declared.opening.Context.{Context};
+ghost use Rattle.nlroute_ffi.specs.Opens.{HeadOpens, TailOpens};
+ghost use Rattle.nlroute_ffi.specs.Messages.{ReadsMessage, MessageErrorAnswers};
+ghost use Rattle.link_messages.specs.declared.message.MessageError.{MessageError};
 ghost use Rattle.nlroute_ffi.specs.Names.{label_for, number_name, bit_names_by, flag_name};
 ghost use Rattle.nlroute_ffi.specs.Timing.{shown_fields};
 ghost use Rattle.nlroute_ffi.specs.ValueText.{own_label, entry_payload, IsEntryText, TextAnswers};
@@ -76,6 +82,32 @@ pub fn first_errors()
         → (at : ℕ) × (fault : DecodeFault) × FirstFault (Gives table) s at fault × (e.at ≡ at) × (fault_of e ≡ Some fault) }
     ensures told { (family other : Family) (s : List ℕ) (e : FirstError) (n : ℕ) (old new : List ℕ) (result : Result ℕ Refusal)
         → IsBytes s → ErrorAnswers s e (table_of family) (Ok n) → ErrorTextAnswers e old new other result
+        → result ≢ Err Refusal.BadForm }
+{}
+
+/// States that the set that `nlroute_opens` returns for an entry of a list is the one that reads the list in its attribute, or in
+/// its element of a nested list, in a walk through the message.
+pub fn opened_values()
+    ensures attributes { (context : Context) (family : Family) (list : List ℕ) (es : List Entry)
+        → (flat : Flat (table_of family) list es) → AllZip (HeadOpens context family list) flat.items flat.groups }
+    ensures elements { (context : Context) (family : Family) (list : List ℕ) (es : List Entry)
+        → (flat : Flat (table_of family) list es) → AllZip (TailOpens context family list) flat.items flat.groups }
+{}
+
+/// States that `nlroute_message_fault` finds an error if and only if `nlroute_message` returns -1: what is at an offset of a
+/// buffer is not both well-formed and malformed.
+pub fn one_message()
+    ensures { (at : ℕ) (r : List ℕ) (found : Option FoundMessage) (e : MessageError) → ReadsMessage at r (Ok found)
+        → ReadsMessage at r (Err e) → ⊥ }
+{}
+
+/// States that the struct in which `nlroute_message_fault` stored why a message is malformed has this error, and that
+/// `nlroute_fault_text` does not return -7 for this struct.
+pub fn errors_of_messages()
+    ensures stored { (at : ℕ) (r : List ℕ) (x : FirstError) (n : ℕ) → IsBytes r → MessageErrorAnswers at r x (Ok n)
+        → (e : MessageError) × ReadsMessage at r (Err e) × (message_error_of x ≡ Some e) }
+    ensures told { (at : ℕ) (r : List ℕ) (x : FirstError) (n : ℕ) (family : Family) (old new : List ℕ) (result : Result ℕ Refusal)
+        → IsBytes r → MessageErrorAnswers at r x (Ok n) → ErrorTextAnswers x old new family result
         → result ≢ Err Refusal.BadForm }
 {}
 

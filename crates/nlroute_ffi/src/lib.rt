@@ -18,10 +18,14 @@
 mod buffers;
 mod error_text;
 mod fault;
+mod held;
 pub mod laws;
 mod lists;
 mod lookup;
+mod message;
+mod message_error;
 mod names;
+mod opens;
 mod refusal;
 mod report;
 mod struct_fields;
@@ -48,15 +52,21 @@ ghost use Rattle.nlroute_ffi.specs.ValueText.{TextAnswers};
 ghost use Rattle.nlroute_ffi.specs.StructFields.{FieldAnswers};
 ghost use Rattle.nlroute_ffi.specs.ErrorText.{ErrorTextAnswers};
 ghost use Rattle.nlroute_ffi.specs.Writing.{WriteAnswers, MeasureAnswers};
+ghost use Rattle.nlroute_ffi.specs.Messages.{MessageAnswers, MessageErrorAnswers};
+ghost use Rattle.nlroute_ffi.specs.Held.{HeldAnswers};
+ghost use Rattle.nlroute_ffi.specs.Opens.{OpensAnswers};
 
 use crate::buffers::refuse;
 use crate::error_text::store_error_text;
 use crate::fault::{FirstError, store_error};
+use crate::held::{ByteRange, store_held};
 use crate::lists::{count, rewrite, rewrite_each};
 use crate::lookup::{
     family_of, from_info_kind, from_port_kind, kind_of, number_of, store_family_name, store_row,
 };
+use crate::message::{FoundMessage, store_message, store_message_error};
 use crate::names::{store_flag_name, store_kind_name, store_number_name};
+use crate::opens::opens;
 use crate::refusal::{Refusal, answer_of, store_code_text};
 use crate::report::report_into;
 use crate::struct_fields::{StructField, store_field};
@@ -505,6 +515,70 @@ pub extern "C" fn nlroute_first_fault(family: u32, bytes: &[u8], error: &mut Fir
     ensures unchanged { result <ℤ pos 0 → error.new ≡ error.old }
 {
     answer_by!(family, store_error(family, bytes, error))
+}
+
+/// Stores the message at offset `at` of a buffer of netlink messages in `message`, and returns 0. The next one is at its
+/// `next`.
+///
+/// # Errors
+///
+/// -6 at the end of the buffer, -1 if the message is malformed, or too short for one about a link.
+#[unsafe(no_mangle)]
+pub extern "C" fn nlroute_message(bytes: &[u8], at: usize, message: &mut FoundMessage) -> isize
+    ensures answer { AnswersWith (MessageAnswers at (drop at bytes.now) message.new) result }
+    ensures unchanged { result <ℤ pos 0 → message.new ≡ message.old }
+{
+    answer_of(store_message(bytes, at, message))
+}
+
+/// Stores in `error` why the message at offset `at` of a buffer is malformed, and returns 0.
+///
+/// # Errors
+///
+/// -6 if it is not malformed, or at the end of the buffer.
+#[unsafe(no_mangle)]
+pub extern "C" fn nlroute_message_fault(bytes: &[u8], at: usize, error: &mut FirstError) -> isize
+    ensures answer { AnswersWith (MessageErrorAnswers at (drop at bytes.now) error.new) result }
+    ensures unchanged { result <ℤ pos 0 → error.new ≡ error.old }
+{
+    answer_of(store_message_error(bytes, at, error))
+}
+
+/// Stores in `held` where the last list of the attribute set is, of those that the attributes of a message hold, and those in
+/// these, and returns 0. `list` has the attributes, and `address_family` is the `ifi_family` of the message.
+///
+/// # Errors
+///
+/// -6 if there is no such list.
+#[unsafe(no_mangle)]
+pub extern "C" fn nlroute_held(
+    list: &[u8],
+    address_family: u8,
+    family: u32,
+    held: &mut ByteRange,
+) -> isize
+    ensures answer { AnswersBy family (HeldAnswers address_family list.now held.new) result }
+    ensures unchanged { result <ℤ pos 0 → held.new ≡ held.old }
+{
+    answer_by!(family, store_held(family, address_family, list, held))
+}
+
+/// Returns the number of the attribute set that reads the list in `value`, a value of the list of `family` in `list`, in a
+/// message of this `ifi_family`.
+///
+/// # Errors
+///
+/// -6 if there is none.
+#[unsafe(no_mangle)]
+pub extern "C" fn nlroute_opens(
+    family: u32,
+    address_family: u8,
+    value: &Entry,
+    list: &[u8],
+) -> isize
+    ensures { AnswersBy family (OpensAnswers address_family value.now list.now) result }
+{
+    answer_by!(family, opens(family, address_family, value, list))
 }
 
 /// Writes the output of the program `nlroute FAMILY` for the input `text` to the start of `out`, and its exit status (0

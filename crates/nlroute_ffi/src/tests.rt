@@ -2,6 +2,7 @@
 
 mod asking;
 mod fields;
+mod messages;
 mod writing;
 
 use crate::fault::FirstError;
