@@ -2,16 +2,18 @@
 
 use crate::kinds::{refusal, refusal_text};
 use crate::sys::{self, RawFault};
-use crate::Family;
+use crate::{Family, MessageFault};
 use std::fmt;
 
-/// Reports why a list cannot be read or written. Both other errors convert to it, so `?` serves in a function that does
-/// both.
+/// Reports why a list or a message cannot be read, or a list not be written. The other errors convert to it, so `?` serves
+/// in a function that does several of these.
 #[derive(Clone, Debug, PartialEq, Eq)]
 #[non_exhaustive]
 pub enum Error {
     /// Reports a list that is malformed.
     Read(Fault),
+    /// Reports a message that is malformed.
+    Message(MessageFault),
     /// Reports a value that cannot be written.
     Write(WriteError),
 }
@@ -50,16 +52,16 @@ pub enum Place {
     },
 }
 
-/// Tells what is wrong. All numbers are in bytes.
+/// Tells what is wrong. All numbers are in bytes. Of a [`MessageFault`], `nla_len` is `nlmsg_len`.
 #[derive(Clone, Copy, Debug, PartialEq, Eq, Hash)]
 #[non_exhaustive]
 pub enum Cause {
-    /// Tells that fewer than the four bytes of a header are left.
+    /// Tells that fewer bytes are left than a header has: four, or 16 of a message.
     ShortFrame {
         /// Holds how many are left.
         left: u64,
     },
-    /// Tells that `nla_len` is less than four.
+    /// Tells that `nla_len` is less than that.
     SmallLength {
         /// Holds that `nla_len`.
         nla_len: u64,
@@ -112,8 +114,14 @@ impl Fault {
 
     /// Returns what is wrong with it.
     pub fn cause(&self) -> Cause {
-        let RawFault { first, second, .. } = self.raw;
-        match self.raw.cause {
+        Cause::of(&self.raw)
+    }
+}
+
+impl Cause {
+    pub(crate) fn of(raw: &RawFault) -> Self {
+        let RawFault { first, second, .. } = *raw;
+        match raw.cause {
             1 => Cause::ShortFrame { left: first },
             2 => Cause::SmallLength { nla_len: first },
             3 => Cause::Overrun { nla_len: first, left: second },
@@ -210,6 +218,7 @@ impl fmt::Display for Error {
     fn fmt(&self, f: &mut fmt::Formatter<'_>) -> fmt::Result {
         match self {
             Error::Read(fault) => fault.fmt(f),
+            Error::Message(fault) => fault.fmt(f),
             Error::Write(error) => error.fmt(f),
         }
     }
@@ -222,6 +231,12 @@ impl std::error::Error for Error {}
 impl From<Fault> for Error {
     fn from(fault: Fault) -> Self {
         Error::Read(fault)
+    }
+}
+
+impl From<MessageFault> for Error {
+    fn from(fault: MessageFault) -> Self {
+        Error::Message(fault)
     }
 }
 

@@ -1,4 +1,5 @@
-//! Reads, prints and writes lists of netlink link attributes, such as the payload of `IFLA_INFO_DATA`.
+//! Reads, prints and writes lists of netlink link attributes, such as the payload of `IFLA_INFO_DATA`, and reads messages
+//! about links.
 //!
 //! The work is done by the C library nlroute, whose parsers and writers are proved to meet their contracts. This crate
 //! adds types: a [`Key`] knows its attribute set and the type of its values, so a wrong one does not compile.
@@ -39,6 +40,19 @@
 //!     }
 //! }
 //! # Ok::<(), nlroute::Fault>(())
+//! ```
+//!
+//! To read messages, [`messages`] iterates over those of a buffer. [`Message::held`] finds the list of a set in one:
+//!
+//! ```
+//! # use nlroute::*;
+//! # let bytes = [];
+//! for message in messages(&bytes) {
+//!     if let Some(bond) = message?.held::<Bond>()? {
+//!         print!("{bond}");
+//!     }
+//! }
+//! # Ok::<(), nlroute::Error>(())
 //! ```
 //!
 //! # What does not compile
@@ -85,6 +99,7 @@ mod field;
 mod kinds;
 mod list;
 mod macros;
+mod message;
 mod scope;
 #[allow(unsafe_code)]
 mod sys;
@@ -98,6 +113,7 @@ pub use error::{Cause, Code, Error, Fault, ParseMacError, ParseNameError, Place,
 pub use field::Field;
 pub use kinds::*;
 pub use list::{find, find_in, List, Nested};
+pub use message::{messages, Message, MessageFault, Messages};
 pub use scope::{Any, Key, Scope, Set, Typed};
 pub use types::{
     BerrCounter, BridgeId, CanBitTiming, CanBitTimingConst, Held, Mac, Masked, Peer, QosMapping, Text, VlanInfo,

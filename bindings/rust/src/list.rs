@@ -198,6 +198,11 @@ impl<S> List<'_, S> {
         Iter { family: self.family, values: &self.values, bytes: &self.bytes }
     }
 
+    /// Returns the values as the library stored them.
+    pub(crate) fn raw(&self) -> &[Raw] {
+        &self.values
+    }
+
     /// Copies the bytes that the list borrows, if it does. So the list can outlive them.
     pub fn into_owned(self) -> List<'static, S> {
         let bytes = Cow::Owned(self.bytes.into_owned());

@@ -41,7 +41,7 @@ macro_rules! families {
                 Family::from_number($crate::sys::from_port_kind(kind)?)
             }
 
-            fn from_number(number: u32) -> Option<Family> {
+            pub(crate) fn from_number(number: u32) -> Option<Family> {
                 Family::ALL.into_iter().find(|&family| family as u32 == number)
             }
         }

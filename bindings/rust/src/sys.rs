@@ -5,8 +5,8 @@
 //! - *Inputs.* A slice or a reference is aligned, initialized, not null even if it is empty, and at most `isize::MAX`
 //!   bytes long. The borrow keeps other threads from writing to it during the call.
 //! - *Outputs.* An output is a local variable or the spare capacity of a new `Vec`, so nothing else refers to it.
-//! - *Values.* The fields of [`Raw`], [`RawField`] and [`RawFault`] are integers, so any bytes are a value. The library checks form,
-//!   offset and length of each value that it is passed.
+//! - *Values.* The fields of [`Raw`], [`RawField`], [`RawFault`], [`RawMessage`] and [`RawRange`] are integers, so any bytes
+//!   are a value. The library checks form, offset and length of each value that it is passed.
 //! - *Lifetimes.* The library keeps no pointer.
 
 use crate::kinds::refusal;
@@ -45,6 +45,34 @@ pub struct RawFault {
     pub cause: u32,
 }
 
+/// `struct nlroute_message`.
+#[repr(C)]
+#[derive(Clone, Copy, Debug, Default)]
+pub struct RawMessage {
+    pub list: u64,
+    pub length: u64,
+    pub next: u64,
+    pub len: u32,
+    pub sequence: u32,
+    pub port: u32,
+    pub kind: u16,
+    pub flags: u16,
+    pub index: i32,
+    pub link_flags: u32,
+    pub change: u32,
+    pub link_type: u16,
+    pub address_family: u8,
+    pub is_link: u8,
+}
+
+/// `struct nlroute_range`.
+#[repr(C)]
+#[derive(Clone, Copy, Debug, Default)]
+pub struct RawRange {
+    pub offset: u64,
+    pub length: u64,
+}
+
 /// `struct nlroute_field`.
 #[repr(C)]
 #[derive(Clone, Copy, Debug, Default)]
@@ -60,6 +88,8 @@ pub struct RawField {
 // The structs have no padding. Those of linux/can/netlink.h have u32 and char fields only.
 const _: () = assert!(size_of::<Raw>() == 48 && align_of::<Raw>() == align_of::<u64>());
 const _: () = assert!(size_of::<RawFault>() == 40 && align_of::<RawFault>() == align_of::<u64>());
+const _: () = assert!(size_of::<RawMessage>() == 56 && align_of::<RawMessage>() == align_of::<u64>());
+const _: () = assert!(size_of::<RawRange>() == 16 && align_of::<RawRange>() == align_of::<u64>());
 const _: () = assert!(size_of::<RawField>() == 72 && align_of::<RawField>() == align_of::<u64>());
 const _: () = assert!(size_of::<CanBitTiming>() == 32 && size_of::<CanBitTimingConst>() == 48);
 
@@ -86,6 +116,10 @@ extern "C" {
         len: usize,
         field: *mut RawField,
     ) -> isize;
+    fn nlroute_message(bytes: *const u8, len: usize, at: usize, message: *mut RawMessage) -> isize;
+    fn nlroute_message_fault(bytes: *const u8, len: usize, at: usize, fault: *mut RawFault) -> isize;
+    fn nlroute_held(list: *const u8, len: usize, address_family: u8, family: u32, held: *mut RawRange) -> isize;
+    fn nlroute_opens(family: u32, address_family: u8, value: *const Raw, list: *const u8, len: usize) -> isize;
     fn nlroute_from_info_kind(kind: *const c_char, len: usize) -> isize;
     fn nlroute_from_port_kind(kind: *const c_char, len: usize) -> isize;
     fn nlroute_kind_name(family: u32, value: *const Raw, text: *mut c_char, room: usize) -> isize;
@@ -180,6 +214,41 @@ fn first_fault(family: u32, bytes: &[u8]) -> RawFault {
     let code = unsafe { nlroute_first_fault(family, bytes.as_ptr(), bytes.len(), &mut fault) };
     debug_assert_eq!(code, 0, "the list has no error");
     fault
+}
+
+/// Returns the message at an offset of a buffer, or `None` at its end.
+pub fn message(bytes: &[u8], at: usize) -> Result<Option<RawMessage>, RawFault> {
+    let mut message = RawMessage::default();
+    // SAFETY: the input is a slice; the output is a local variable.
+    match unsafe { nlroute_message(bytes.as_ptr(), bytes.len(), at, &mut message) } {
+        0 => Ok(Some(message)),
+        refusal::ABSENT => Ok(None),
+        _ => Err(message_fault(bytes, at)),
+    }
+}
+
+/// Returns the error of a message that is malformed.
+#[cold]
+fn message_fault(bytes: &[u8], at: usize) -> RawFault {
+    let mut fault = RawFault::default();
+    // SAFETY: the input is a slice; the output is a local variable.
+    let code = unsafe { nlroute_message_fault(bytes.as_ptr(), bytes.len(), at, &mut fault) };
+    debug_assert_eq!(code, 0, "the message has no error");
+    fault
+}
+
+/// Returns the offset and the length of the last list of a set in the attributes of a message, or `None`.
+pub fn held(list: &[u8], address_family: u8, family: u32) -> Option<(usize, usize)> {
+    let mut held = RawRange::default();
+    // SAFETY: the input is a slice; the output is a local variable.
+    let code = unsafe { nlroute_held(list.as_ptr(), list.len(), address_family, family, &mut held) };
+    (code == 0).then_some((held.offset as usize, held.length as usize))
+}
+
+/// Returns the number of the attribute set that reads the list in a value, or `None`.
+pub fn opens(family: u32, address_family: u8, value: &Raw, list: &[u8]) -> Option<u32> {
+    // SAFETY: the inputs are a reference and a slice.
+    u32::try_from(unsafe { nlroute_opens(family, address_family, value, list.as_ptr(), list.len()) }).ok()
 }
 
 /// Returns the struct that a value refers to.
