@@ -1,6 +1,6 @@
-"""Lists of netlink link attributes, by libnlroute: the payload of IFLA_INFO_DATA and the like.
+"""Lists of netlink link attributes, by libnlroute: the payload of IFLA_INFO_DATA and the like, and messages about links.
 
-`read` parses a list, and `List` makes one. The constants have the kernel's names, and know the types of their values.
+`read` parses a list, and `List` makes one. `messages` yields the messages of a buffer, `Message.held` a list in one. The constants have the kernel's names, and know the types of their values.
 
 >>> from nlroute import *
 >>> bridge = read(Family.BRIDGE, bytes.fromhex("08000100dc050000 0a001400 0180c2000000 0000"))
@@ -22,11 +22,12 @@ Traceback (most recent call last):
 nlroute.Fault: error at 8: IFLA_BR_HELLO_TIME has 3 bytes, expected 4
 """
 from . import _kinds
-from ._errors import Error, Fault, WriteError
+from ._errors import Error, Fault, MessageFault, WriteError
 from ._kinds import *
 from ._kinds import VERSION as _VERSION
 from ._library import build, from_info_kind, from_port_kind
 from ._list import List, read, text
+from ._message import Message, messages
 from ._types import (
     Attribute,
     BerrCounter,
@@ -46,8 +47,8 @@ from ._types import (
 )
 
 __all__ = [
-    "Error", "Fault", "WriteError", "build", "from_info_kind", "from_port_kind", "List", "read", "text", "Attribute",
-    "BerrCounter", "BridgeId", "CanBitTiming", "CanBitTimingConst", "Content", "Flags", "Key", "Mac", "Masked",
+    "Error", "Fault", "MessageFault", "WriteError", "build", "from_info_kind", "from_port_kind", "List", "read", "text",
+    "Message", "messages", "Attribute", "BerrCounter", "BridgeId", "CanBitTiming", "CanBitTimingConst", "Content", "Flags", "Key", "Mac", "Masked",
     "Named", "QosMapping", "Text", "Unknown", "VlanInfo",
 ]  # fmt: skip
 __all__ += _kinds.__all__

@@ -7,7 +7,7 @@ from ._kinds import Cause, Code, Place
 
 
 class Error(ValueError):
-    """A list cannot be read or written."""
+    """A list or a message cannot be read, or a list not be written."""
 
 
 class Fault(Error):
@@ -35,6 +35,29 @@ class Fault(Error):
     def __reduce__(self) -> tuple[Any, ...]:
         fields = self.at, self.place, self.cause, self.kind, self.inner, self.numbers
         return type(self), (str(self), *fields)
+
+
+class MessageFault(Error):
+    """A message is malformed. The text is that of `nlshow`.
+
+    >>> import nlroute
+    >>> try:
+    ...     next(nlroute.messages(bytes.fromhex("08000000 10000000 00000000 00000000")))
+    ... except nlroute.MessageFault as fault:
+    ...     print(fault, fault.at, fault.cause.name, fault.numbers, sep=", ")
+    error at 0: nlmsg_len 8 is below 16, 0, SMALL_LENGTH, (8, 0)
+    """
+
+    at: int  # offset of the message in the buffer, in bytes
+    cause: Cause
+    numbers: tuple[int, int]  # those of the cause, in bytes
+
+    def __init__(self, text: str, at: int, cause: Cause, numbers: tuple[int, int]):
+        super().__init__(text)
+        self.at, self.cause, self.numbers = at, cause, numbers
+
+    def __reduce__(self) -> tuple[Any, ...]:
+        return type(self), (str(self), self.at, self.cause, self.numbers)
 
 
 class WriteError(Error):

@@ -51,6 +51,8 @@ class Place(IntEnum):
     PAYLOAD = 1
     ELEMENT_FRAME = 2
     ELEMENT_PAYLOAD = 3
+    MESSAGE_HEADER = 6
+    LINK_HEADER = 7
 
 
 class Cause(IntEnum):

@@ -10,12 +10,13 @@ import os
 from collections.abc import Callable, Iterator
 from typing import Any
 
-from ._errors import Error, Fault, WriteError
+from ._errors import Error, Fault, MessageFault, WriteError
 from ._kinds import VERSION, Cause, Code, Family, Place
-from ._records import FAULT, FIELD, VALUE, FieldRecord, buffer
+from ._records import FAULT, FIELD, MESSAGE, RANGE, VALUE, FieldRecord, MessageRecord, buffer
 
 SONAME = f"libnlroute.so.{VERSION >> 16}.{VERSION >> 8 & 255}"
 FAMILY, BYTES, SIZE, OUT = ctypes.c_uint32, ctypes.c_char_p, ctypes.c_size_t, ctypes.c_void_p
+BYTE = ctypes.c_uint8
 SIGNATURES: dict[str, list[Any]] = {
     "nlroute_values": [FAMILY, BYTES, SIZE, OUT, SIZE],
     "nlroute_first_fault": [FAMILY, BYTES, SIZE, OUT],
@@ -25,6 +26,10 @@ SIGNATURES: dict[str, list[Any]] = {
     "nlroute_field": [FAMILY, BYTES, SIZE, BYTES, SIZE, OUT],
     "nlroute_write": [FAMILY, BYTES, SIZE, BYTES, SIZE, OUT, SIZE],
     "nlroute_measure": [FAMILY, BYTES, SIZE, BYTES, SIZE, OUT],
+    "nlroute_message": [BYTES, SIZE, SIZE, OUT],
+    "nlroute_message_fault": [BYTES, SIZE, SIZE, OUT],
+    "nlroute_held": [BYTES, SIZE, BYTE, FAMILY, OUT],
+    "nlroute_opens": [FAMILY, BYTE, BYTES, BYTES, SIZE],
     "nlroute_from_info_kind": [BYTES, SIZE],
     "nlroute_from_port_kind": [BYTES, SIZE],
 }
@@ -94,6 +99,46 @@ def fault(family: Family, data: bytes) -> Fault:
     at, first, second, place, kind, inner, cause = FAULT.unpack(raw)
     words = text_of(LIBRARY.nlroute_fault_text, family, raw)
     return Fault(words, at, Place(place), Cause(cause), kind, inner, (first, second))
+
+
+def message(data: bytes, at: int) -> MessageRecord | None:
+    """Returns the message at an offset of a buffer, or None at its end. Raises MessageFault."""
+    out = buffer(MESSAGE.size)
+    code = LIBRARY.nlroute_message(data, len(data), at, out)
+    if code == Code.ABSENT:
+        return None
+    if code:
+        raise message_fault(data, at) if code == Code.HAS_FAULT else unexpected(code)
+    return MessageRecord._make(MESSAGE.unpack(ctypes.string_at(out, MESSAGE.size)))
+
+
+def message_fault(data: bytes, at: int) -> MessageFault:
+    """Returns the error of a malformed message."""
+    out = buffer(FAULT.size)
+    code = LIBRARY.nlroute_message_fault(data, len(data), at, out)
+    if code:
+        raise unexpected(code)
+    raw = ctypes.string_at(out, FAULT.size)
+    at, first, second, _, _, _, cause = FAULT.unpack(raw)
+    return MessageFault(text_of(LIBRARY.nlroute_fault_text, Family.LINK, raw), at, Cause(cause), (first, second))
+
+
+def held(data: bytes, address_family: int, family: Family) -> tuple[int, int] | None:
+    """Returns the offset and the length of the last list of a set in the attributes of a message, or None."""
+    out = buffer(RANGE.size)
+    code = LIBRARY.nlroute_held(data, len(data), address_family, family, out)
+    if code == Code.ABSENT:
+        return None
+    if code:
+        raise unexpected(code)
+    offset, length = RANGE.unpack(ctypes.string_at(out, RANGE.size))
+    return offset, length
+
+
+def opens(family: Family, address_family: int, raw: bytes, data: bytes) -> Family | None:
+    """Returns the set that reads the list in a record of a list, or None."""
+    number = LIBRARY.nlroute_opens(family, address_family, raw, data, len(data))
+    return None if number == Code.ABSENT else Family(number)
 
 
 def is_canonical(family: Family, data: bytes) -> bool:

@@ -5,11 +5,10 @@ from ipaddress import IPv4Address, IPv6Address
 from typing import Any
 
 from ._errors import Fault
-from ._held import Kinds, kinds_of, set_of
 from ._kinds import Form
-from ._library import kind_name, value_text
+from ._library import kind_name, opens, value_text
 from ._read import content, groups, is_array, payload, struct_fields_of
-from ._records import Record, record
+from ._records import IFINFOMSG, PEER_HEADER, Record, record
 from ._tables import TABLES, Table
 from ._types import Flags, Mac, Named, Row, Text
 
@@ -22,18 +21,22 @@ REPEATED = {
 }
 
 
-def to_dict(table: Table, data: bytes) -> dict[str, Any]:
-    """Returns the values of a list by name. Raises Fault."""
+# The fields of a struct ifinfomsg, by the names of `Message`.
+HEADER = "address_family", "link_type", "index", "link_flags", "change"
+
+
+def to_dict(table: Table, data: bytes, address_family: int = 0) -> dict[str, Any]:
+    """Returns the values of a list by name, in a message of this address family. Raises Fault."""
     found: dict[str, Any] = {}
     for raw, elements in groups(table.family, data):
         it = record(raw, 0)
         row = table.by_kind.get(it.kind)
         if it.form != Form.LIST or row is None:
-            value = plain(table, row, raw, data, Kinds())
+            value = plain(table, row, raw, data, address_family)
         elif row.item:
             value = array(table, row.item, raw, elements, data)
         else:
-            value = inner(table.below[it.kind], elements, data)
+            value = inner(table.below[it.kind], elements, data, address_family)
         put(found, table, table.name(it.kind), value)
     return found
 
@@ -46,14 +49,12 @@ def put(found: dict[str, Any], table: Table, name: str, value: Any) -> None:
         found[name] = value
 
 
-def inner(table: Table, elements: list[bytes], data: bytes) -> dict[str, Any]:
+def inner(table: Table, elements: list[bytes], data: bytes, address_family: int) -> dict[str, Any]:
     """Returns the elements of a nested list by name."""
     found: dict[str, Any] = {}
-    records = [record(raw, 0) for raw in elements]
-    texts = ((table.name(it.inner), str(Text(payload(it, data)))) for it in records if it.form == Form.TEXT)
-    kinds = kinds_of(texts)
-    for raw, it in zip(elements, records):
-        put(found, table, table.name(it.inner), plain(table, table.by_kind.get(it.inner), raw, data, kinds))
+    for raw in elements:
+        kind = record(raw, 0).inner
+        put(found, table, table.name(kind), plain(table, table.by_kind.get(kind), raw, data, address_family))
     return found
 
 
@@ -66,23 +67,31 @@ def array(table: Table, row: Row, raw: bytes, elements: list[bytes], data: bytes
     return dict(zip((name.strip("[]") for name in names), values))
 
 
-def plain(table: Table, row: Row | None, raw: bytes, data: bytes, kinds: Kinds) -> Any:
+def plain(table: Table, row: Row | None, raw: bytes, data: bytes, address_family: int) -> Any:
     """Returns a value that is not a nested list. Raises nothing: a list of another set that is malformed is hex."""
     it = record(raw, 0)
-    if it.form == Form.HELD and row:
-        return held(table, row.name, payload(it, data), kinds)
+    if it.form in (Form.HELD, Form.PEER, Form.UNKNOWN):
+        found = held(table, raw, it, data, address_family)
+        if found is not None:
+            return found
     if it.form == Form.BYTES:
         return octets(table, raw, it, data)
     return value_of(content(row, it, data))
 
 
-def held(table: Table, name: str, data: bytes, kinds: Kinds) -> Any:
-    """Returns a list of another set, or hex digits if no set reads it."""
-    family = set_of(table, name, kinds)
+def held(table: Table, raw: bytes, it: Record, data: bytes, address_family: int) -> dict[str, Any] | None:
+    """Returns a list of another set, or None if no set reads it or it is malformed."""
+    family = opens(table.family, address_family, raw, data)
+    if family is None:
+        return None
+    found = payload(it, data)
     try:
-        return data.hex() if family is None else to_dict(TABLES[family], data)
+        if it.form != Form.PEER:
+            return to_dict(TABLES[family], found, address_family)
+        header = dict(zip(HEADER, IFINFOMSG.unpack_from(found)))
+        return header | {"attributes": to_dict(TABLES[family], found[PEER_HEADER:], header["address_family"])}
     except Fault:
-        return data.hex()
+        return None
 
 
 def octets(table: Table, raw: bytes, it: Record, data: bytes) -> Any:

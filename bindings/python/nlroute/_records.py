@@ -32,12 +32,36 @@ class FieldRecord(NamedTuple):
     octets: bytes
 
 
+class MessageRecord(NamedTuple):
+    """The fields of `struct nlroute_message`."""
+
+    list: int
+    length: int
+    next: int
+    len: int
+    sequence: int
+    port: int
+    type: int
+    flags: int
+    link_index: int
+    link_flags: int
+    change: int
+    link_type: int
+    address_family: int
+    is_link: int
+
+
 VALUE = struct.Struct("=HHHBBIIQQ16s")
 FIELD = struct.Struct("=32sQQII16s")
 # The same, but kind, inner, flags, form and depth as one number, and only the field `number` besides.
 HEAD = struct.Struct("=Q8xQ24x")
 FAULT = struct.Struct("=QQQIIII")
-assert VALUE.size == HEAD.size == 48 and FIELD.size == 72 and FAULT.size == 40
+MESSAGE = struct.Struct("=QQQIIIHHiIIHBB")
+RANGE = struct.Struct("=QQ")
+assert VALUE.size == HEAD.size == 48 and FIELD.size == 72 and FAULT.size == 40 and MESSAGE.size == 56
+# The struct ifinfomsg that is before the attributes of NLROUTE_FORM_PEER.
+IFINFOMSG = struct.Struct("=BxHiII")
+PEER_HEADER = IFINFOMSG.size
 
 
 def record(raw: bytes | memoryview, index: int) -> Record:

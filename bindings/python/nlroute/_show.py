@@ -1,25 +1,20 @@
 """The lines that `nlshow` prints of a list, also of one that is malformed."""
 from __future__ import annotations
 
-import struct
 import sys
 from collections.abc import Iterator, Mapping
 
 from ._errors import Fault
-from ._held import AF_BRIDGE, Kinds, kinds_of, set_of
 from ._kinds import Family, Form
-from ._library import is_canonical
+from ._library import is_canonical, opens
 from ._read import groups, is_array, line, payload, title
-from ._records import record
+from ._records import IFINFOMSG, PEER_HEADER, record
 from ._tables import TABLES, Table
-from ._types import Text
 
 HEADER = 4  # bytes of struct nlattr
-LINK_HEADER = "=BxHiII"  # struct ifinfomsg: family, type, index, flags, change
-LINK_SIZE = 16  # bytes of struct ifinfomsg
 MOST_LEVELS = 6  # of lists that are opened below a list
 # Names in a header (`linux/socket.h`, `if_arp.h`, `if.h`), without ARPHRD_ and IFF_.
-ADDRESS_FAMILIES = {AF_BRIDGE: "AF_BRIDGE"}
+ADDRESS_FAMILIES = {7: "AF_BRIDGE"}
 DEVICE_TYPES = {1: "ETHER", 280: "CAN", 772: "LOOPBACK", 65534: "NONE"}
 DEVICE_FLAGS = (
     "UP BROADCAST DEBUG LOOPBACK POINTOPOINT NOTRAILERS RUNNING NOARP PROMISC ALLMULTI MASTER SLAVE MULTICAST PORTSEL "
@@ -71,7 +66,7 @@ def attribute_lines(
     """Yields the lines of an attribute: its record, those of its elements, and its bytes, which begin at an offset."""
     it = record(raw, 0)
     if it.form == Form.HELD:
-        yield from held_lines(table, table.name(it.kind), raw, data, start, Kinds(address_family=address_family), levels)
+        yield from held_lines(table, table.name(it.kind), raw, data, start, address_family, levels)
         return
     if it.form == Form.PEER and levels:
         yield from peer_lines(table.name(it.kind), payload(it, data), start + it.offset, levels)
@@ -80,25 +75,20 @@ def attribute_lines(
     if is_array(table, raw):
         return
     below = table.below.get(it.kind)
-    kinds = kinds_in(below, elements, data) if below else Kinds()
     for element in elements:
         inner = record(element, 0)
         if below and inner.form == Form.HELD:
-            lines = held_lines(below, below.name(inner.inner), element, data, start, kinds, levels)
+            lines = held_lines(below, below.name(inner.inner), element, data, start, address_family, levels)
             yield from (f"  {words}" for words in lines)
         else:
             yield f"  {line(table.family, element, '', data)}"
 
 
-def kinds_in(table: Table, elements: list[bytes], data: bytes) -> Kinds:
-    """Returns the kinds among the elements of an IFLA_LINKINFO."""
-    records = (record(raw, 0) for raw in elements)
-    return kinds_of((table.name(it.inner), str(Text(payload(it, data)))) for it in records if it.form == Form.TEXT)
-
-
-def held_lines(table: Table, name: str, raw: bytes, data: bytes, start: int, kinds: Kinds, levels: int) -> Iterator[str]:
+def held_lines(
+    table: Table, name: str, raw: bytes, data: bytes, start: int, address_family: int, levels: int
+) -> Iterator[str]:
     """Yields the lines of an attribute that holds a list of another set."""
-    family = set_of(table, name, kinds)
+    family = opens(table.family, address_family, raw, data)
     if family is None or not levels:
         yield line(table.family, raw, name, data)
         return
@@ -107,18 +97,18 @@ def held_lines(table: Table, name: str, raw: bytes, data: bytes, start: int, kin
     is_selected = table.list_row or family is Family.AF_SPEC_BRIDGE
     words = f"{name} ({family})" if is_selected else name
     yield words if content else f"{words} (empty)"
-    below = set_lines(TABLES[family], content, start + it.offset, kinds.address_family, levels - 1)
+    below = set_lines(TABLES[family], content, start + it.offset, address_family, levels - 1)
     yield from (f"  {it}" for it in below)
 
 
 def peer_lines(name: str, data: bytes, start: int, levels: int) -> Iterator[str]:
     """Yields the lines of the other end of a link, whose bytes begin at an offset: a header, and a list of attributes."""
-    family, kind, index, flags, change = struct.unpack(LINK_HEADER, data[:LINK_SIZE])
+    family, kind, index, flags, change = IFINFOMSG.unpack_from(data)
     words = f"{name} ifindex {index}"
     words += named(" family ", ADDRESS_FAMILIES, family) + named(" type ", DEVICE_TYPES, kind)
     words += flagged(" flags ", flags) + flagged(" change ", change)
-    yield words if data[LINK_SIZE:] else f"{words} (empty)"
-    below = set_lines(TABLES[Family.LINK], data[LINK_SIZE:], start + LINK_SIZE, family, levels - 1)
+    yield words if data[PEER_HEADER:] else f"{words} (empty)"
+    below = set_lines(TABLES[Family.LINK], data[PEER_HEADER:], start + PEER_HEADER, family, levels - 1)
     yield from (f"  {it}" for it in below)
 
 

@@ -31,7 +31,7 @@ class Example(unittest.TestCase):
             if not data:
                 continue
             count += 1
-            links.messages = lambda data=bytes.fromhex(digits): [data]
+            links.buffers = lambda data=bytes.fromhex(digits): [data]
             printed = io.StringIO()
             with contextlib.redirect_stdout(printed):
                 links.main()
