@@ -17,8 +17,8 @@ import subprocess
 import sys
 
 ROOT = os.path.dirname(os.path.dirname(os.path.realpath(__file__)))
-SOURCES = ["crates/link_entries/src", "crates/nlroute_ffi/src"]
-HEADERS = '#include <stddef.h>\n#include "nlroute.h"\n#include <linux/can/netlink.h>\n'
+SOURCES = ["crates/link_entries/src", "crates/link_requests/src", "crates/nlroute_ffi/src"]
+HEADERS = '#include <stddef.h>\n#include "nlroute_requests.h"\n#include <linux/can/netlink.h>\n'
 STRUCT = re.compile(r"((?:^///[^\n]*\n)+)(?:^#\[[^\n]*\n)*?^#\[repr\(C\)\]\n(?:^#\[[^\n]*\n)*^pub struct (\w+) \{\n([^}]*)^\}", re.MULTILINE)
 FIELD = re.compile(r"^    (?:///[^\n]*, `(\w+)` in C\.\n    )?pub (\w+): (?:\[u(\d+); (\d+)\]|[ui](\d+)),$", re.MULTILINE)
 

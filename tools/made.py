@@ -11,7 +11,7 @@ below proofs/, are left out. The crates are in the order of crates.txt.
 families.md has a row for each attribute set of `families!`, in its order, and the words of its comment in `Family`. The
 other lists of attribute sets, such as the constants of nlroute.h, are parts of files: tools/families.py has their places.
 
-nlroute.3 is the man page of nlroute.h: the declarations, and the comment above each as paragraphs. A comment without
+nlroute.3 is the man page of nlroute.h and nlroute_requests.h: the declarations, and the comment above each as paragraphs. A comment without
 declarations begins a section, whose name is its first words. What is only for the preprocessor is left out, and of two
 definitions of a macro the one for C++. An inline function has no body there. The example is that of docs/c.md.
 
@@ -88,8 +88,9 @@ def map_of(tree, ill):
 # ---- docs/nlroute.3
 
 NLROUTE_H = "crates/nlroute_ffi/include/nlroute.h"
+REQUESTS_H = "crates/nlroute_ffi/include/nlroute_requests.h"
 FRONT = """\
-.\\" tools/made.py writes this page from nlroute.h.
+.\\" tools/made.py writes this page from nlroute.h and nlroute_requests.h.
 .TH NLROUTE 3 "" "nlroute {version}" "Library Functions Manual"
 .\\" Names are not hyphenated.
 .nh
@@ -99,6 +100,7 @@ nlroute \\- parse, print, write and check lists of netlink link attributes
 .nf
 .B #include <nlroute.h>
 .B #include <nlroute_kinds.h>
+.B #include <nlroute_requests.h>
 .PP
 .B cc main.c $(pkg\\-config \\-\\-cflags \\-\\-libs nlroute)
 .fi
@@ -148,7 +150,15 @@ def manual(tree):
     version = re.search(r"#define NLROUTE_VERSION 0x(\w\w)(\w\w)(\w\w)u", text)
     parts = [FRONT.format(version=".".join(str(int(it, 16)) for it in version.groups()))]
     first, *others = PART.finditer(text)
-    parts += [*paragraphs(first["said"]), ".SH VERSION, SETS AND ERRORS\n"]
+    parts += [*paragraphs(first["said"]), ".SH VERSION, SETS AND ERRORS\n", *declarations(others)]
+    first, *others = PART.finditer(tree.text(REQUESTS_H))
+    parts += [".SH REQUESTS\n", *paragraphs(first["said"]), *declarations(others)]
+    return "".join([*parts, ".SH EXAMPLES\n.nf\n", escaped(example(tree)), "\n.fi\n", BACK])
+
+
+def declarations(others):
+    """The parts of a man page of these comments of a header, and of what follows each."""
+    parts = []
     for part in others:
         code, said = declared(part["code"]), [*paragraphs(part["said"])]
         if "#if" in part["code"] and not re.search(r"^#define NLROUTE_NO", code, re.MULTILINE):
@@ -161,7 +171,7 @@ def manual(tree):
             title = re.match(r"[^.,]*", re.sub(r"\s+", " ", part["said"].replace("*", " ")).strip())[0]
             parts.append(f".SH {escaped(title.upper().replace('NLROUTE_WRITE()', 'nlroute_write'))}\n")
         parts += said
-    return "".join([*parts, ".SH EXAMPLES\n.nf\n", escaped(example(tree)), "\n.fi\n", BACK])
+    return parts
 
 
 def example(tree):

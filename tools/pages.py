@@ -56,10 +56,10 @@ ROOT = os.path.dirname(os.path.dirname(os.path.realpath(__file__)))
 PAGES = re.compile(r"(README|CONTRIBUTING|CHANGELOG)\.md|docs/(proofs/)?[^/]+\.md|(bench|tools|extra|crates/[^/]+)/README\.md")
 # The most words that a page may have. Any other README.md below the top has SMALL_BUDGET, and CHANGELOG.md has none.
 BUDGETS = {
-    "README.md": 1220, "CONTRIBUTING.md": 2045, "bench/README.md": 580, "docs/families.md": 470, "docs/c.md": 1170, "docs/ARCHITECTURE.md": 1635,
+    "README.md": 1220, "CONTRIBUTING.md": 2045, "bench/README.md": 580, "docs/families.md": 470, "docs/c.md": 1340, "docs/ARCHITECTURE.md": 1635,
     "docs/MAP.md": 85, "docs/json.md": 1175,
-    "docs/messages.md": 760, "docs/programs.md": 2245, "docs/python.md": 985, "docs/rattle.md": 1850,
-    "docs/rust.md": 1015, "docs/proofs/ASSURANCE.md": 1190, "docs/proofs/CLAIMS.md": 3300,
+    "docs/messages.md": 760, "docs/programs.md": 2245, "docs/python.md": 1090, "docs/rattle.md": 1850,
+    "docs/rust.md": 1130, "docs/proofs/ASSURANCE.md": 1190, "docs/proofs/CLAIMS.md": 3300,
     "docs/DECISIONS.md": 5000, "docs/DIFFERENCES.md": 2140, "docs/proofs/MODEL.md": 3805,
 }  # fmt: skip
 SMALL_BUDGET = 600
@@ -227,8 +227,8 @@ class Tree:
 
     @functools.cached_property
     def functions(self):
-        """The names of functions and macros, and of what nlroute.h declares."""
-        declared = [re.findall(r"\bnlroute_\w+", text) for text in self.of(r".*/nlroute\.h")]
+        """The names of functions and macros, and of what the headers declare."""
+        declared = [re.findall(r"\bnlroute_\w+", text) for text in self.of(r".*/nlroute(_requests)?\.h")]
         return {name for found in [*map(FN.findall, self.sources.values()), *declared] for name in found}
 
     @functools.cached_property

@@ -28,6 +28,7 @@ from ._kinds import VERSION as _VERSION
 from ._library import build, from_info_kind, from_port_kind
 from ._list import List, read, text
 from ._message import Message, messages
+from ._request import Request
 from ._types import (
     Attribute,
     BerrCounter,
@@ -49,7 +50,7 @@ from ._types import (
 __all__ = [
     "Error", "Fault", "MessageFault", "WriteError", "build", "from_info_kind", "from_port_kind", "List", "read", "text",
     "Message", "messages", "Attribute", "BerrCounter", "BridgeId", "CanBitTiming", "CanBitTimingConst", "Content", "Flags", "Key", "Mac", "Masked",
-    "Named", "QosMapping", "Text", "Unknown", "VlanInfo",
+    "Named", "QosMapping", "Request", "Text", "Unknown", "VlanInfo",
 ]  # fmt: skip
 __all__ += _kinds.__all__
 

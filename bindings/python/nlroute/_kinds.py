@@ -104,6 +104,10 @@ class Code(Named):
     BAD_NUMBER = -8, "the attribute cannot hold the number"
     BAD_ELEMENT = -9, "an element does not follow its list"
     BAD_OCTETS = -10, "the bytes of the value are not in the input, or have a wrong length"
+    BAD_TYPE = -11, "the message is not a request about links"
+    NO_INDEX = -12, "the index of the link is 0 or negative"
+    BAD_NAME = -13, "Linux does not take the name or kind"
+    NO_SET = -14, "no attribute set reads the list of these values"
 
 
 class BridgeFlags(Named):

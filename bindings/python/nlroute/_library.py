@@ -30,6 +30,7 @@ SIGNATURES: dict[str, list[Any]] = {
     "nlroute_message_fault": [BYTES, SIZE, SIZE, OUT],
     "nlroute_held": [BYTES, SIZE, BYTE, FAMILY, OUT],
     "nlroute_opens": [FAMILY, BYTE, BYTES, BYTES, SIZE],
+    "nlroute_request": [BYTES, BYTES, SIZE, BYTES, SIZE, OUT, SIZE, OUT],
     "nlroute_from_info_kind": [BYTES, SIZE],
     "nlroute_from_port_kind": [BYTES, SIZE],
 }
@@ -199,6 +200,23 @@ def write(family: Family, records: bytes, octets: bytes, owners: list[tuple[int,
         raise unexpected(length)
     index, name = owners[at.value]
     raise WriteError(name, index, Code(code))
+
+
+def request(head: bytes, records: bytes, octets: bytes, owners: list[tuple[int, str]]) -> bytes:
+    """Returns the request of these records, whose `owners` are as for write(). Raises WriteError."""
+    count, at = len(records) // VALUE.size, ctypes.c_size_t()
+    room = 32 + 24 * count + len(octets)
+    while True:
+        out = buffer(room)
+        size = LIBRARY.nlroute_request(head, records, count, octets, len(octets), out, room, ctypes.byref(at))
+        if size >= 0:
+            return ctypes.string_at(out, size)
+        if size != Code.NO_ROOM:
+            break
+        room = at.value
+    field = {Code.BAD_TYPE: "nlmsg_type", Code.NO_INDEX: "ifi_index"}.get(Code(size), "nlmsg_len")
+    index, name = owners[at.value] if at.value < count else (0, field)
+    raise WriteError(name, index, Code(size))
 
 
 def from_info_kind(kind: str) -> Family | None:

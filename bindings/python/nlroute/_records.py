@@ -53,12 +53,13 @@ class MessageRecord(NamedTuple):
 
 VALUE = struct.Struct("=HHHBBIIQQ16s")
 FIELD = struct.Struct("=32sQQII16s")
+REQUEST = struct.Struct("=HHIIBBHiII")  # struct nlroute_head
 # The same, but kind, inner, flags, form and depth as one number, and only the field `number` besides.
 HEAD = struct.Struct("=Q8xQ24x")
 FAULT = struct.Struct("=QQQIIII")
 MESSAGE = struct.Struct("=QQQIIIHHiIIHBB")
 RANGE = struct.Struct("=QQ")
-assert VALUE.size == HEAD.size == 48 and FIELD.size == 72 and FAULT.size == 40 and MESSAGE.size == 56
+assert VALUE.size == HEAD.size == 48 and REQUEST.size == 28 and FIELD.size == 72 and FAULT.size == 40 and MESSAGE.size == 56
 # The struct ifinfomsg that is before the attributes of NLROUTE_FORM_PEER.
 IFINFOMSG = struct.Struct("=BxHiII")
 PEER_HEADER = IFINFOMSG.size

@@ -177,6 +177,14 @@ pub enum Code {
     BadElement,
     /// Tells that bytes of a value are missing. The types of this crate exclude it.
     BadOctets,
+    /// Tells that a [`Request`](crate::Request) has no type of requests about links.
+    BadType,
+    /// Tells that a request changes or deletes a link, and its index is 0 or more than 2^31 - 1.
+    NoIndex,
+    /// Tells that Linux does not take the name or kind.
+    BadName,
+    /// Tells that the request has no place for options of this attribute set.
+    NoSet,
     /// Holds another error code of the C library: -3 if an allocation failed.
     Other(isize),
 }
@@ -190,6 +198,10 @@ impl From<isize> for Code {
             refusal::BAD_NUMBER => Code::BadNumber,
             refusal::BAD_ELEMENT => Code::BadElement,
             refusal::BAD_OCTETS => Code::BadOctets,
+            refusal::BAD_TYPE => Code::BadType,
+            refusal::NO_INDEX => Code::NoIndex,
+            refusal::BAD_NAME => Code::BadName,
+            refusal::NO_SET => Code::NoSet,
             other => Code::Other(other),
         }
     }
@@ -203,6 +215,10 @@ impl fmt::Display for Code {
             Code::BadNumber => refusal::BAD_NUMBER,
             Code::BadElement => refusal::BAD_ELEMENT,
             Code::BadOctets => refusal::BAD_OCTETS,
+            Code::BadType => refusal::BAD_TYPE,
+            Code::NoIndex => refusal::NO_INDEX,
+            Code::BadName => refusal::BAD_NAME,
+            Code::NoSet => refusal::NO_SET,
             Code::Other(code) => code,
         }))
     }

@@ -44,6 +44,10 @@ pub(crate) mod refusal {
     pub const BAD_NUMBER: isize = -8;
     pub const BAD_ELEMENT: isize = -9;
     pub const BAD_OCTETS: isize = -10;
+    pub const BAD_TYPE: isize = -11;
+    pub const NO_INDEX: isize = -12;
+    pub const BAD_NAME: isize = -13;
+    pub const NO_SET: isize = -14;
 }
 
 /// The types of elements that are all alike.
@@ -64,6 +68,10 @@ pub(crate) fn refusal_text(code: isize) -> &'static str {
         refusal::BAD_NUMBER => "the attribute cannot hold the number",
         refusal::BAD_ELEMENT => "an element does not follow its list",
         refusal::BAD_OCTETS => "the bytes of the value are not in the input, or have a wrong length",
+        refusal::BAD_TYPE => "the message is not a request about links",
+        refusal::NO_INDEX => "the index of the link is 0 or negative",
+        refusal::BAD_NAME => "Linux does not take the name or kind",
+        refusal::NO_SET => "no attribute set reads the list of these values",
         _ => "unknown error",
     }
 }

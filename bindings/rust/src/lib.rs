@@ -100,6 +100,7 @@ mod kinds;
 mod list;
 mod macros;
 mod message;
+mod request;
 mod scope;
 #[allow(unsafe_code)]
 mod sys;
@@ -114,6 +115,7 @@ pub use field::Field;
 pub use kinds::*;
 pub use list::{find, find_in, List, Nested};
 pub use message::{messages, Message, MessageFault, Messages};
+pub use request::Request;
 pub use scope::{Any, Key, Scope, Set, Typed};
 pub use types::{
     BerrCounter, BridgeId, CanBitTiming, CanBitTimingConst, Held, Mac, Masked, Peer, QosMapping, Text, VlanInfo,

@@ -209,6 +209,11 @@ impl<S> List<'_, S> {
         List { family: self.family, values: self.values, bytes, of: PhantomData }
     }
 
+    /// Returns the values, and the bytes that they refer to.
+    pub(crate) fn parts(&self) -> (&[Raw], &[u8]) {
+        (&self.values, &self.bytes)
+    }
+
     fn write(&self) -> Result<Vec<u8>, WriteError> {
         sys::write(self.family as u32, &self.values, &self.bytes).map_err(|(at, code)| {
             let before = self.values.iter().take(at + 1);

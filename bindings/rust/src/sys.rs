@@ -5,8 +5,8 @@
 //! - *Inputs.* A slice or a reference is aligned, initialized, not null even if it is empty, and at most `isize::MAX`
 //!   bytes long. The borrow keeps other threads from writing to it during the call.
 //! - *Outputs.* An output is a local variable or the spare capacity of a new `Vec`, so nothing else refers to it.
-//! - *Values.* The fields of [`Raw`], [`RawField`], [`RawFault`], [`RawMessage`] and [`RawRange`] are integers, so any bytes
-//!   are a value. The library checks form, offset and length of each value that it is passed.
+//! - *Values.* The fields of [`Raw`], [`RawHead`], [`RawField`], [`RawFault`], [`RawMessage`] and [`RawRange`] are integers,
+//!   so any bytes are a value. The library checks form, offset and length of each value that it is passed.
 //! - *Lifetimes.* The library keeps no pointer.
 
 use crate::kinds::refusal;
@@ -18,7 +18,7 @@ use std::os::raw::c_char;
 
 /// `struct nlroute_value`.
 #[repr(C)]
-#[derive(Clone, Copy, Debug, Default)]
+#[derive(Clone, Copy, Debug, Default, PartialEq, Eq)]
 pub struct Raw {
     pub kind: u16,
     pub inner: u16,
@@ -30,6 +30,22 @@ pub struct Raw {
     pub number: u64,
     pub offset: u64,
     pub octets: [u8; 16],
+}
+
+/// `struct nlroute_head`.
+#[repr(C)]
+#[derive(Clone, Copy, Debug, Default, PartialEq, Eq)]
+pub struct RawHead {
+    pub kind: u16,
+    pub flags: u16,
+    pub sequence: u32,
+    pub port: u32,
+    pub address_family: u8,
+    pub unused: u8,
+    pub link_type: u16,
+    pub index: i32,
+    pub link_flags: u32,
+    pub change: u32,
 }
 
 /// `struct nlroute_fault`.
@@ -87,6 +103,7 @@ pub struct RawField {
 
 // The structs have no padding. Those of linux/can/netlink.h have u32 and char fields only.
 const _: () = assert!(size_of::<Raw>() == 48 && align_of::<Raw>() == align_of::<u64>());
+const _: () = assert!(size_of::<RawHead>() == 28 && align_of::<RawHead>() == align_of::<u32>());
 const _: () = assert!(size_of::<RawFault>() == 40 && align_of::<RawFault>() == align_of::<u64>());
 const _: () = assert!(size_of::<RawMessage>() == 56 && align_of::<RawMessage>() == align_of::<u64>());
 const _: () = assert!(size_of::<RawRange>() == 16 && align_of::<RawRange>() == align_of::<u64>());
@@ -146,6 +163,16 @@ extern "C" {
         count: usize,
         octets: *const u8,
         len: usize,
+        at: *mut usize,
+    ) -> isize;
+    fn nlroute_request(
+        head: *const RawHead,
+        values: *const Raw,
+        count: usize,
+        octets: *const u8,
+        len: usize,
+        out: *mut u8,
+        room: usize,
         at: *mut usize,
     ) -> isize;
 }
@@ -323,6 +350,26 @@ fn first_refused(family: u32, values: &[Raw], octets: &[u8]) -> usize {
         nlroute_measure(family, values, count, octets.as_ptr(), octets.len(), &mut at)
     };
     at
+}
+
+/// Returns the bytes of a request, or the index of the value that cannot be written, and the error code.
+pub fn request(head: &RawHead, values: &[Raw], octets: &[u8]) -> Result<Vec<u8>, (usize, isize)> {
+    let mut out: Vec<u8> = Vec::new();
+    out.try_reserve_exact(bound(values).saturating_add(32)).map_err(|_| (values.len(), refusal::NO_MEMORY))?;
+    let (room, mut at) = (out.capacity().min(isize::MAX as usize), 0);
+    // SAFETY: the inputs are a reference and slices; the outputs are spare capacity for `room` bytes and a local variable.
+    let code = unsafe {
+        let (values, count) = (values.as_ptr(), values.len());
+        nlroute_request(head, values, count, octets.as_ptr(), octets.len(), out.as_mut_ptr(), room, &mut at)
+    };
+    match usize::try_from(code) {
+        Ok(length) => {
+            // SAFETY: the library has written the first `length` bytes, which are at most `room`.
+            unsafe { out.set_len(length) };
+            Ok(out)
+        }
+        Err(_) => Err((at, code)),
+    }
 }
 
 /// Returns the text of an error.

@@ -56,13 +56,26 @@ prints() {
 cat >"$room/headers.c" <<'END'
 #include "nlroute.h"
 #include "nlroute_kinds.h"
+#include "nlroute_requests.h"
 
 ptrdiff_t measured(size_t *at);
+ptrdiff_t requested(uint8_t *out, size_t room, size_t *at);
 
 ptrdiff_t measured(size_t *at)
 {
     struct nlroute_value value = nlroute_flags(NLROUTE_IFLA_VLAN_FLAGS, 2, 2);
     return value.mask == value.second ? nlroute_measure(NLROUTE_VLAN, &value, 1, NLROUTE_NO_OCTETS, at) : -1;
+}
+
+ptrdiff_t requested(uint8_t *out, size_t room, size_t *at)
+{
+    const struct nlroute_head head = nlroute_up(nlroute_change(3), true);
+    const struct nlroute_value values[] = {
+        nlroute_name("lan0"),
+        NLROUTE_PORT_DATA("bond"),
+        nlroute_below(2, nlroute_number(NLROUTE_IFLA_BOND_SLAVE_PRIO, 1)),
+    };
+    return nlroute_request(&head, NLROUTE_VALUES(values), NLROUTE_NO_OCTETS, out, room, at);
 }
 END
 for it in c99 c11; do
@@ -75,6 +88,8 @@ compile calls -Wl,--wrap=malloc,--wrap=realloc
 counted "$room/calls"
 compile tasks
 counted $watch "$room/tasks"
+compile requests
+counted $watch "$room/requests"
 compile bridge
 prints bridge "a request is printed" <<'END'
 08000300 62723000 30001200 0a000100 62726964 67650000 20000200 08000100 bc020000 08000200 64000000 0a001400 0180c200 00040000

@@ -22,7 +22,8 @@
  * to be freed. What a function allocates with malloc() and realloc(), it frees before it returns (not proved). Different
  * threads may call the functions at the same time.
  *
- * nlroute_kinds.h has the attribute types by the kernel's names. Both headers are C99, and C++11 or later.
+ * nlroute_kinds.h has the attribute types by the kernel's names, and nlroute_requests.h writes requests. The headers are
+ * C99, and C++11 or later.
  *
  * Compile with pkg-config, once the library is installed:
  * cc main.c $(pkg-config --cflags --libs nlroute)
@@ -100,6 +101,7 @@ enum nlroute_family {
  * - nlroute_rewrite_streaming() may have changed the start of out;
  * - nlroute_values() has stored the first values if it returns NLROUTE_NO_ROOM;
  * - nlroute_measure() has stored an index in *at, unless it returns NLROUTE_NO_ROOM or NLROUTE_NO_FAMILY;
+ * - nlroute_request() has stored an index or a length in *at;
  * - the functions for texts store the empty text.
  */
 enum nlroute_refusal {
@@ -116,7 +118,12 @@ enum nlroute_refusal {
                                numbers that the library never stores */
     NLROUTE_BAD_NUMBER = -8,  /* the attribute cannot hold the number */
     NLROUTE_BAD_ELEMENT = -9, /* an element does not follow a list of its attribute type; the type has no elements */
-    NLROUTE_BAD_OCTETS = -10  /* the bytes of the value are outside the input, or not as many as its form has */
+    NLROUTE_BAD_OCTETS = -10, /* the bytes of the value are outside the input, or not as many as its form has */
+    NLROUTE_BAD_TYPE = -11,   /* this and the codes below are those of nlroute_requests.h only: the type of the head is
+                                 not that of a request about links */
+    NLROUTE_NO_INDEX = -12,   /* the request changes or deletes a link, and its index is 0 or negative */
+    NLROUTE_BAD_NAME = -13,   /* a name that Linux rejects, or a kind that it rejects or cuts */
+    NLROUTE_NO_SET = -14      /* values follow a list that no attribute set reads */
 };
 
 /* Returns the meaning of an error code in words. */
@@ -133,6 +140,10 @@ static inline const char *nlroute_refusal_text(ptrdiff_t code)
     case NLROUTE_BAD_NUMBER: return "the attribute cannot hold the number";
     case NLROUTE_BAD_ELEMENT: return "an element does not follow its list";
     case NLROUTE_BAD_OCTETS: return "the bytes of the value are not in the input, or have a wrong length";
+    case NLROUTE_BAD_TYPE: return "the message is not a request about links";
+    case NLROUTE_NO_INDEX: return "the index of the link is 0 or negative";
+    case NLROUTE_BAD_NAME: return "Linux does not take the name or kind";
+    case NLROUTE_NO_SET: return "no attribute set reads the list of these values";
     default: return code < 0 ? "unknown error" : "no error";
     }
 }

@@ -17,3 +17,4 @@ pub mod MessageTexts
 pub mod OneMessage
 pub mod OpenedValues
 pub mod OpenedElements
+pub mod Requested

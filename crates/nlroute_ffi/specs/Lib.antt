@@ -9,6 +9,7 @@ pub mod ErrorText
 pub mod ValueText
 pub mod StructFields
 pub mod Writing
+pub mod Requests
 pub mod Shown
 pub mod Messages
 pub mod Opens

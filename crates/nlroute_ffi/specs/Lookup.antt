@@ -9,7 +9,7 @@ use Rattle.link_entries.specs.declared.entry.Entry.{Entry}
 use Rattle.link_entries.specs.declared.row.Row.{Row}
 use Rattle.link_entries.specs.Rows.{row_of_type}
 use Rattle.nlroute_ffi.specs.declared.refusal.Refusal.{Refusal}
-use Rattle.nlroute_ffi.specs.declared.refusal.Refusal.TheVariants.{Fault, TooLong, Memory, NoRoom, NoFamily, Absent, BadForm, BadNumber, BadElement, BadOctets}
+use Rattle.nlroute_ffi.specs.declared.refusal.Refusal.TheVariants.{Fault, TooLong, Memory, NoRoom, NoFamily, Absent, BadForm, BadNumber, BadElement, BadOctets, BadType, NoIndex, BadName, NoSet}
 use Rattle.nlroute_ffi.specs.Numbers.{code_of}
 use Rattle.nlroute_ffi.specs.Buffers.{Stores}
 use Rattle.nlroute_ffi.specs.Names.{label_for}
@@ -87,6 +87,10 @@ refusal_words BadForm = codes "the value has another form"
 refusal_words BadNumber = codes "the attribute cannot hold the number"
 refusal_words BadElement = codes "an element does not follow its list"
 refusal_words BadOctets = codes "the bytes of the value are not in the input, or have a wrong length"
+refusal_words BadType = codes "the message is not a request about links"
+refusal_words NoIndex = codes "the index of the link is 0 or negative"
+refusal_words BadName = codes "Linux does not take the name or kind"
+refusal_words NoSet = codes "no attribute set reads the list of these values"
 
 -- the text of a code: of an error, another one, or of a result that is no error
 abbrev pub IsCodeText : ℤ → List ℕ → Type 0

@@ -28,6 +28,7 @@ mod names;
 mod opens;
 mod refusal;
 mod report;
+mod requests;
 mod struct_fields;
 #[cfg(test)]
 mod tests;
@@ -55,6 +56,7 @@ ghost use Rattle.nlroute_ffi.specs.Writing.{WriteAnswers, MeasureAnswers};
 ghost use Rattle.nlroute_ffi.specs.Messages.{MessageAnswers, MessageErrorAnswers};
 ghost use Rattle.nlroute_ffi.specs.Held.{HeldAnswers};
 ghost use Rattle.nlroute_ffi.specs.Opens.{OpensAnswers};
+ghost use Rattle.nlroute_ffi.specs.Requests.{RequestAnswers};
 
 use crate::buffers::refuse;
 use crate::error_text::store_error_text;
@@ -69,12 +71,14 @@ use crate::names::{store_flag_name, store_kind_name, store_number_name};
 use crate::opens::opens;
 use crate::refusal::{Refusal, answer_of, store_code_text};
 use crate::report::report_into;
+use crate::requests::store_request;
 use crate::struct_fields::{StructField, store_field};
 use crate::timing::{BitTiming, TimingLimits, bit_timing, timing_limits};
 use crate::value_text::store_value_text;
 use crate::values::{count_places, find_element, find_value, store_values};
 use crate::writing::{measure_values, write_values};
 use link_entries::{Entry, Row};
+use link_requests::Head;
 use netlink_packet_route::{Family, FamilyElements, FamilySet, is_canonical};
 use std::alloc::Global;
 
@@ -314,6 +318,30 @@ pub extern "C" fn nlroute_measure(
     ensures unchanged { result ≡ negsuc 4 → at.new ≡ at.old }
 {
     answer_by!(family, measure_values(family, values, octets, at))
+}
+
+/// Writes a request about a link to the start of `out`: the message with this head, and the attributes of the set `link` that
+/// `values` spell; a value may refer to bytes in `octets`. Returns `n`, the number of bytes written; `out[n..]` and `at` are
+/// unchanged.
+///
+/// # Errors
+///
+/// Of the head, -11 if it is of another type, -12 if the link that it changes or deletes has an index of 0 or less. Then, of
+/// the first value that cannot be written, as for `nlroute_write`; after -8, -13 if it is a name that Linux rejects, and -14 if
+/// no set reads the list whose values follow. Then -2 if the message is longer than 2^32 - 1 bytes. `at` is the index of the
+/// value; of the head and the message, the number of values. -4 if `out` is too small; `at` is then the length of the message.
+#[unsafe(no_mangle)]
+pub extern "C" fn nlroute_request(
+    head: &Head,
+    values: &[Entry],
+    octets: &[u8],
+    out: &mut [u8],
+    at: &mut usize,
+) -> isize
+    ensures answer { AnswersWith (RequestAnswers head.now values.now octets.now out.old out.new at.old at.new) result }
+    ensures unchanged { result <ℤ pos 0 → out.new ≡ out.old }
+{
+    answer_of(store_request(head, values, octets, out, at))
 }
 
 /// Stores the name of the attribute type of `value`, such as `IFLA_BR_FORWARD_DELAY`, or `type 99` if the type has no row;

@@ -34,6 +34,14 @@ pub enum Refusal {
     BadElement = -9,
     /// The octets of the value are not within those that were passed, or not as many as its form has.
     BadOctets = -10,
+    /// The head is not that of a request about links.
+    BadType = -11,
+    /// The request changes or deletes a link, and its index is 0 or negative.
+    NoIndex = -12,
+    /// A name or a kind that Linux rejects or cuts.
+    BadName = -13,
+    /// Values follow a list that no attribute set reads.
+    NoSet = -14,
 }
 
 /// Returns the `Refusal` for an error of re-encoding a list.
@@ -87,6 +95,10 @@ fn refusal_with(code: isize) -> Option<Refusal>
         -8 => Some(Refusal::BadNumber),
         -9 => Some(Refusal::BadElement),
         -10 => Some(Refusal::BadOctets),
+        -11 => Some(Refusal::BadType),
+        -12 => Some(Refusal::NoIndex),
+        -13 => Some(Refusal::BadName),
+        -14 => Some(Refusal::NoSet),
         _ => None,
     }
 }
@@ -106,6 +118,10 @@ fn refusal_words(refusal: Refusal) -> &'static str
         Refusal::BadNumber => "the attribute cannot hold the number",
         Refusal::BadElement => "an element does not follow its list",
         Refusal::BadOctets => "the bytes of the value are not in the input, or have a wrong length",
+        Refusal::BadType => "the message is not a request about links",
+        Refusal::NoIndex => "the index of the link is 0 or negative",
+        Refusal::BadName => "Linux does not take the name or kind",
+        Refusal::NoSet => "no attribute set reads the list of these values",
     }
 }
 

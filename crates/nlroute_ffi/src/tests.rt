@@ -3,6 +3,7 @@
 mod asking;
 mod fields;
 mod messages;
+mod requests;
 mod writing;
 
 use crate::fault::FirstError;
