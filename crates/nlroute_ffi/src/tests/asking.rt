@@ -82,13 +82,14 @@ fn numbers_by_their_names(rt: HostRuntime) {
 #[test]
 fn texts_of_codes(rt: HostRuntime) {
     let rows = [
-        (-11, "unknown error"),
+        (-15, "unknown error"),
+        (-13, "Linux does not take the name or kind"),
         (-4, "the buffer is too small"),
         (-1, "the list is malformed"),
         (0, "no error"),
     ];
     for (code, wanted) in rows {
-        let mut out = [0xFF; 32];
+        let mut out = [0xFF; 40];
         assert!(rt; holds_text(nlroute_code_text(code, &mut out), &out, wanted),);
     }
 }
