@@ -4,7 +4,8 @@ import os
 import unittest
 
 from nlroute import *
-from nlroute import _library, _request
+from nlroute import _library, _records, _request
+from nlroute._kinds import Form
 
 HERE = os.path.dirname(os.path.abspath(__file__))
 B, P = Family.BRIDGE, Family.BRIDGE_PORT
@@ -271,10 +272,38 @@ class Requests(unittest.TestCase):
         with self.assertRaises(TypeError):
             bytes(Request.change("eth0"))
 
-    def test_short(self):
-        options = List(Family.BOND, {"IFLA_BOND_MODE": "802.3ad", "IFLA_BOND_MIIMON": 100})
-        request = Request.create("bond0").options(options)
-        self.assertEqual(len(bytes(request)), 76)
+    def test_lengths(self):
+        """An attribute has at most 65,531 bytes. Of a nested list, whose length is a multiple of four, it is 65,528."""
+
+        def properties(size):
+            return {"IFLA_ALT_IFNAME": bytes(size)}
+
+        self.assertEqual(len(bytes(change().set("IFLA_IFALIAS", b"x" * 65531))), 32 + 65536)
+        self.assertEqual(len(bytes(change().set("IFLA_PROP_LIST", properties(65524)))), 32 + 4 + 65528)
+        for request, name, code in (
+            (change().set("IFLA_IFALIAS", b"x" * 65532), "IFLA_IFALIAS", Code.TOO_LONG),
+            (change().set("IFLA_PROP_LIST", properties(65525)), "IFLA_PROP_LIST", Code.TOO_LONG),
+            (change().set("IFLA_PROP_LIST", properties(65525)).named(""), "IFLA_PROP_LIST", Code.TOO_LONG),
+            (change().set("IFLA_PROP_LIST", properties(65532)).named(""), "IFLA_ALT_IFNAME", Code.TOO_LONG),
+        ):
+            with self.assertRaises(WriteError) as caught:
+                bytes(request)
+            self.assertEqual((caught.exception.name, caught.exception.index, caught.exception.code), (name, 0, code))
+
+    def test_a_message_that_is_too_large(self):
+        """It would have more than 2^32 - 1 bytes: 65,600 values that refer to the same bytes."""
+        head, count, at = Request.change(1)._head(), 65600, ctypes.c_size_t()
+        value = _records.VALUE.pack(20, 0, 0, Form.TEXT, 0, 0, 65531, 0, 0, b"")
+        arguments = head, value * count, count, bytes(65531), 65531, ctypes.create_string_buffer(1), 1, ctypes.byref(at)
+        self.assertEqual((_library.LIBRARY.nlroute_request(*arguments), at.value), (Code.TOO_LONG, count))
+
+    def test_written(self):
+        """What is repeated, or empty, is written."""
+        self.assertEqual(bytes(change())[32:], b"")
+        self.assertEqual(bytes(change().set("IFLA_PROP_LIST", {}))[32:].hex(), "04003480")
+        self.assertEqual(bytes(change().mtu(1).mtu(2))[32:].hex(), "08000400010000000800040002000000")
+        vlan = List(Family.VLAN, {"IFLA_VLAN_ID": 5})
+        self.assertEqual(len(bytes(change().options(vlan).options(vlan))), 32 + 2 * 24)
 
 
 if __name__ == "__main__":
