@@ -111,6 +111,7 @@ fn requests_that_cannot_be_written(rt: HostRuntime) {
     ];
     for (answer, index, place, value) in rows {
         let (mut values, mut out, mut at) = (VALUES, [0xFF; 80], 9);
+        assert!(rt; place < values.len());
         values[place] = value;
         let is_so = nlroute_request(&head(), &values, &[], &mut out, &mut at) == answer;
         holds(&rt, is_so && at == index && out == [0xFF; 80], 11, answer);
