@@ -5,8 +5,9 @@ of each field.
 usage: tools/layouts.py
 
 A struct of the sources with `#[repr(C)]` names in its comment the struct of C that it is, as `struct nlroute_fault`. Its
-fields, in order, give the layout of C by the rules of C. A comment that ends with "`type` in C." names a field in C. The C compiler compares this with the struct of nlroute.h, or of
-the kernel's headers. No contract says anything of it: in the logic, a struct has names and no offsets.
+fields, in order, give the layout of C by the rules of C. A comment that ends with "`type` in C." names a field in C. The C
+compiler compares this with the struct of nlroute.h, of nlroute_requests.h, or of the kernel's headers. No contract says
+anything of it: in the logic, a struct has names and no offsets.
 
 The last line is 'N passed, M failed', counted in structs, their sizes, fields and numbers of fields, and the status 0 only
 if all passed.
@@ -55,7 +56,7 @@ def asserted(claim):
 
 
 def differences(text, folder):
-    """What differs, for each struct, each field of it and their number, or None. The folder has nlroute.h."""
+    """What differs, for each struct, each field of it and their number, or None. The folder has the headers."""
     found = [*structs(text)]
     for struct, name, *_ in found:
         yield None if struct else f"{name}: its comment names no struct of C"

@@ -26,7 +26,8 @@ SOURCE = """\
 #[derive(Clone, Copy)]
 #[repr(C)]
 pub struct Place {
-    pub type: u16,
+    /// What it is a place of, `type` in C.
+    pub of: u16,
     pub at: u32,
     /// Its name.
     pub name: [u8; 3],
@@ -41,7 +42,7 @@ class Layouts(unittest.TestCase):
         source = SOURCE.replace(old, new) if old else SOURCE
         self.assertNotEqual(bool(old), source == SOURCE)
         with tempfile.TemporaryDirectory(prefix="layouts-test-") as folder:
-            with open(f"{folder}/nlroute.h", "w", encoding="utf-8") as file:
+            with open(f"{folder}/nlroute_requests.h", "w", encoding="utf-8") as file:
                 file.write(header)
             found = [*layouts.differences(source, folder)]
         return len(found), [it.partition(":")[0] for it in found if it]
