@@ -49,8 +49,8 @@ from ._types import (
 
 __all__ = [
     "Error", "Fault", "MessageFault", "WriteError", "build", "from_info_kind", "from_port_kind", "List", "read", "text",
-    "Message", "messages", "Attribute", "BerrCounter", "BridgeId", "CanBitTiming", "CanBitTimingConst", "Content", "Flags", "Key", "Mac", "Masked",
-    "Named", "QosMapping", "Request", "Text", "Unknown", "VlanInfo",
+    "Message", "messages", "Request", "Attribute", "BerrCounter", "BridgeId", "CanBitTiming", "CanBitTimingConst",
+    "Content", "Flags", "Key", "Mac", "Masked", "Named", "QosMapping", "Text", "Unknown", "VlanInfo",
 ]  # fmt: skip
 __all__ += _kinds.__all__
 

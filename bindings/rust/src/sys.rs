@@ -5,8 +5,8 @@
 //! - *Inputs.* A slice or a reference is aligned, initialized, not null even if it is empty, and at most `isize::MAX`
 //!   bytes long. The borrow keeps other threads from writing to it during the call.
 //! - *Outputs.* An output is a local variable or the spare capacity of a new `Vec`, so nothing else refers to it.
-//! - *Values.* The fields of [`Raw`], [`RawHead`], [`RawField`], [`RawFault`], [`RawMessage`] and [`RawRange`] are integers,
-//!   so any bytes are a value. The library checks form, offset and length of each value that it is passed.
+//! - *Values.* The fields of [`Raw`], [`RawHead`], [`RawField`], [`RawFault`], [`RawMessage`] and [`RawRange`] are integers, so
+//!   any bytes are a value. The library checks form, offset and length of each value that it is passed.
 //! - *Lifetimes.* The library keeps no pointer.
 
 use crate::kinds::refusal;
