@@ -1,4 +1,5 @@
 pub mod Ipoib
 pub mod Printing
 pub mod Reading
+pub mod Requests
 pub mod Writing

@@ -1,5 +1,5 @@
-//! Examples of using `netlink_packet_route`: short functions to start from. To find the lists in a message, see
-//! `link_messages`.
+//! Examples of using `netlink_packet_route` and `link_requests`: short functions to start from. To find the lists in a
+//! message, see `link_messages`.
 #![tactic(auto)]
 
 mod building;
@@ -9,6 +9,7 @@ mod ipoib;
 mod normalising;
 mod printing;
 mod reading;
+mod requests;
 
 // Look up values in a list.
 pub use reading::{forward_delay, last_forward_delay, monitoring};
@@ -26,6 +27,9 @@ pub use printing::print_list;
 pub use building::{
     BufferError, bond_request, bridge_request, error_equality, vlan_request, write_into,
 };
+
+// Write a whole message to send.
+pub use requests::{bond_message, delete_link, join};
 
 // Change one attribute of a list.
 pub use changing::{ChangeError, with_attribute, with_vlan_id};

@@ -7,9 +7,9 @@ use netlink_packet_route::link::{
     read_list, rewrite_as, rewrite_streaming_as, rewrite_to_slice_as,
 };
 use uses::{
-    BufferError, InfoIpoib, bond_request, bridge_request, canonical, first_fault, forward_delay,
-    ipoib_mode, last_forward_delay, monitoring, normalised, print_list, read_front, vlan_request,
-    with_attribute, with_vlan_id, write_into,
+    BufferError, InfoIpoib, bond_message, bond_request, bridge_request, canonical, delete_link,
+    first_fault, forward_delay, ipoib_mode, join, last_forward_delay, monitoring, normalised,
+    print_list, read_front, vlan_request, with_attribute, with_vlan_id, write_into,
 };
 
 /// `ip link add bond0 type bond mode 802.3ad miimon 100`
@@ -30,6 +30,25 @@ const BRIDGE: [u8; 24] = [
 /// The partition key 0x8001 of an IPoIB device (`IFLA_IPOIB_PKEY`), and the mode `IPOIB_MODE_CONNECTED`
 /// (`IFLA_IPOIB_MODE`).
 const IPOIB: [u8; 16] = [6, 0, 1, 0, 1, 0x80, 0, 0, 6, 0, 2, 0, 1, 0, 0, 0];
+
+/// `ip link add bond0 type bond mode 802.3ad miimon 100`, the whole message, with sequence number 0.
+const BOND_MESSAGE: [u8; 76] = [
+    76, 0, 0, 0, 16, 0, 5, 6, 0, 0, 0, 0, 0, 0, 0, 0, 0, 0, 0, 0, 0, 0, 0, 0, 0, 0, 0, 0, 0, 0, 0,
+    0, 10, 0, 3, 0, b'b', b'o', b'n', b'd', b'0', 0, 0, 0, 32, 0, 18, 0, 8, 0, 1, 0, b'b', b'o',
+    b'n', b'd', 20, 0, 2, 0, 5, 0, 1, 0, 4, 0, 0, 0, 8, 0, 3, 0, 100, 0, 0, 0,
+];
+
+/// `ip link set va master br0`, where the links have the indexes 3 and 4, with sequence number 0.
+const JOIN: [u8; 40] = [
+    40, 0, 0, 0, 16, 0, 5, 0, 0, 0, 0, 0, 0, 0, 0, 0, 0, 0, 0, 0, 3, 0, 0, 0, 0, 0, 0, 0, 0, 0, 0,
+    0, 8, 0, 10, 0, 4, 0, 0, 0,
+];
+
+/// `ip link del va`, where the link has the index 3, with sequence number 0.
+const DELETE: [u8; 32] = [
+    32, 0, 0, 0, 17, 0, 5, 0, 0, 0, 0, 0, 0, 0, 0, 0, 0, 0, 0, 0, 3, 0, 0, 0, 0, 0, 0, 0, 0, 0, 0,
+    0,
+];
 
 #[test]
 fn reading(rt: HostRuntime) {
@@ -138,6 +157,23 @@ fn building(rt: HostRuntime) {
     );
     assert!(rt; matches!(write_into(&[InfoVlan::Id(5)], &mut buffer), Ok(8)));
     assert!(rt; buffer[..8] == VLAN[8..16]);
+}
+
+#[test]
+fn requests(rt: HostRuntime) {
+    let mut out = [0xFF; 80];
+    assert!(rt; matches!(bond_message(&mut out[..75]), Ok(None)));
+    assert!(rt; matches!(join(3, 4, &mut out[..39]), Ok(None)));
+    assert!(rt; matches!(delete_link(3, &mut out[..31]), Ok(None)));
+    assert!(rt; join(0, 4, &mut out).is_err());
+    assert!(rt; delete_link(-1, &mut out).is_err());
+    assert!(rt; out == [0xFF; 80]);
+    assert!(rt; matches!(delete_link(3, &mut out), Ok(Some(32))));
+    assert!(rt; out[..32] == DELETE[..] && out[32..] == [0xFF; 48][..]);
+    assert!(rt; matches!(join(3, 4, &mut out), Ok(Some(40))));
+    assert!(rt; out[..40] == JOIN[..] && out[40..] == [0xFF; 40][..]);
+    assert!(rt; matches!(bond_message(&mut out), Ok(Some(76))));
+    assert!(rt; out[..76] == BOND_MESSAGE[..] && out[76..] == [0xFF; 4][..]);
 }
 
 #[test]
