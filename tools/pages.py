@@ -56,7 +56,7 @@ ROOT = os.path.dirname(os.path.dirname(os.path.realpath(__file__)))
 PAGES = re.compile(r"(README|CONTRIBUTING|CHANGELOG)\.md|docs/(proofs/)?[^/]+\.md|(bench|tools|extra|crates/[^/]+)/README\.md")
 # The most words that a page may have. Any other README.md below the top has SMALL_BUDGET, and CHANGELOG.md has none.
 BUDGETS = {
-    "README.md": 1220, "CONTRIBUTING.md": 2045, "bench/README.md": 580, "docs/families.md": 470, "docs/c.md": 1340, "docs/ARCHITECTURE.md": 1635,
+    "README.md": 1220, "CONTRIBUTING.md": 2045, "bench/README.md": 580, "docs/families.md": 470, "docs/c.md": 1490, "docs/ARCHITECTURE.md": 1635,
     "docs/MAP.md": 85, "docs/json.md": 1175,
     "docs/messages.md": 760, "docs/programs.md": 2245, "docs/python.md": 1090, "docs/rattle.md": 1850,
     "docs/rust.md": 1130, "docs/proofs/ASSURANCE.md": 1190, "docs/proofs/CLAIMS.md": 3300,
