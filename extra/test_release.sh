@@ -92,7 +92,7 @@ licences() {
 
 # The program of docs/c.md, with the shared and with the static library.
 c_program() {
-    awk '/^```c$/ { on = 1; next } /^```$/ { on = 0 } on' docs/c.md >"$room/main.c"
+    awk '/^```c$/ { on = 1; next } /^```$/ && on { exit } on' docs/c.md >"$room/main.c"
     cd "$room"
     # shellcheck disable=SC2046
     cc main.c $(flags)
